@@ -1,0 +1,67 @@
+ghost use Rattle.std.specs.Prelude.{◌≡◌};
+ghost use Rattle.dsql_driver.specs.Fits.{fits_of};
+
+use crate::call::{DriverCall, Input};
+use dsql_value::{Columns, Txt, Values};
+
+/// What a driver answers to one call. `Skip` is Go's `driver.ErrSkip`, `Bad` its `driver.ErrBadConn`,
+/// `End` the `io.EOF` of Rows' Next, `Invalid` a Validator's no, and `Fail` any other error with its
+/// text. `Memory` is want of memory in the driver itself.
+#[derive(Clone, Debug, Drop)]
+pub enum DriverAnswer {
+    Done,
+    Prepared { handle: u32, inputs: i32 },
+    Result { last: i64, affected: i64 },
+    Cursor { rows: u32, columns: Columns },
+    Row(Values),
+    End,
+    Invalid,
+    Skip,
+    Bad,
+    Fail(Txt),
+    Memory,
+}
+
+/// Whether this answer may be given to this call at all: the table of shapes.
+pub fn fits(call: &DriverCall, answer: &DriverAnswer) -> bool
+    ensures { result ≡ fits_of call.now answer.now }
+{
+    match answer {
+        DriverAnswer::Memory => true,
+        DriverAnswer::Bad | DriverAnswer::Fail(_) => !matches!(call, DriverCall::Valid),
+        DriverAnswer::Done => is_done_when_well(call),
+        DriverAnswer::Invalid => matches!(call, DriverCall::Valid),
+        DriverAnswer::Prepared { handle: _, inputs } => {
+            matches!(call, DriverCall::Prepare(_)) && *inputs >= -1
+        }
+        DriverAnswer::Result { .. } => matches!(call, DriverCall::Exec(_, _)),
+        DriverAnswer::Cursor { .. } => matches!(call, DriverCall::Query(_, _)),
+        DriverAnswer::Row(_) | DriverAnswer::End => matches!(call, DriverCall::Next(_)),
+        DriverAnswer::Skip => matches!(
+            call,
+            DriverCall::Exec(Input::Text(_), _) | DriverCall::Query(Input::Text(_), _)
+        ),
+    }
+}
+
+/// Whether the call is one that Done answers.
+fn is_done_when_well(call: &DriverCall) -> bool
+    ensures { result ≡ fits_of call.now DriverAnswer.Done }
+{
+    match call {
+        DriverCall::Connect
+        | DriverCall::Reset
+        | DriverCall::Valid
+        | DriverCall::Ping
+        | DriverCall::CloseStmt(_)
+        | DriverCall::CloseRows(_)
+        | DriverCall::Begin { .. }
+        | DriverCall::Commit
+        | DriverCall::Rollback
+        | DriverCall::Shut => true,
+        DriverCall::Prepare(_)
+        | DriverCall::Exec(_, _)
+        | DriverCall::Query(_, _)
+        | DriverCall::Next(_) => false,
+    }
+}

@@ -1,0 +1,11 @@
+//! What the layer asks of the outside: a database's driver, the streams that a script comes from and
+//! a report goes to, the clock and the gate. After Go's package `database/sql/driver`.
+#![tactic(auto)]
+
+mod answer;
+mod call;
+mod caps;
+
+pub use answer::{DriverAnswer, fits};
+pub use call::{DriverCall, Input, Level};
+pub use caps::Caps;

@@ -1,0 +1,6 @@
+//! The journal of one connection: who held it when, and what its driver was asked and answered.
+#![tactic(auto)]
+
+mod entry;
+
+pub use entry::{Entry, Owner, Permit};

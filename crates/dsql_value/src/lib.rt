@@ -1,0 +1,13 @@
+//! Values that go to a driver and come back from it, as Go's `database/sql/driver` has them in its
+//! type `Value`, with the text, byte and list types that every other crate names.
+#![tactic(auto)]
+
+mod items;
+mod memory;
+mod text;
+mod value;
+
+pub use items::Items;
+pub use memory::Memory;
+pub use text::{Bin, Txt};
+pub use value::{Columns, Param, Params, Value, Values};

@@ -1,0 +1,93 @@
+ghost use Rattle.std.specs.Prelude.{◌≡◌, List, ℕ, string_bytes, IfOk};
+
+use crate::memory::Memory;
+use std::alloc::Global;
+use std::marker::Model;
+
+/// A text in UTF-8, as Go's `string` holds one. Contracts see it as the list of its bytes.
+#[derive(Clone, Debug, Drop)]
+pub struct Txt {
+    text: String,
+}
+
+impl Model for Txt {
+    ghost Value = { List ℕ };
+
+    ghost view = { λ t. string_bytes t.text };
+}
+
+impl Txt {
+    /// The text of a string. It takes no memory.
+    pub fn new(text: String) -> Txt
+        ensures { result ≡ string_bytes text }
+    {
+        Txt { text }
+    }
+
+    /// A copy of a text.
+    pub fn copy_of(alloc: Global, text: &str) -> Result<Txt, Memory>
+        ensures { IfOk result (λ t. t ≡ text.now) }
+    {
+        let text = String::from_str(alloc, text)?;
+        Ok(Txt { text })
+    }
+
+    /// Another copy of this text.
+    pub fn copy(&self) -> Result<Txt, Memory>
+        ensures { IfOk result (λ t. t ≡ self.now) }
+    {
+        let text = self.text.clone()?;
+        Ok(Txt { text })
+    }
+
+    /// The text itself.
+    pub fn as_str(&self) -> &str
+        ensures { result.now ≡ self.now }
+    {
+        self.text.as_str()
+    }
+
+    /// The string of the text. It takes no memory.
+    pub fn into_string(self) -> String
+        ensures { string_bytes result ≡ self }
+    {
+        let Txt { text } = self;
+        text
+    }
+}
+
+/// Bytes that may be no text, as Go's `[]byte` holds them. Contracts see them as a list.
+#[derive(Clone, Debug, Drop)]
+pub struct Bin {
+    bytes: Vec<u8>,
+}
+
+impl Model for Bin {
+    ghost Value = { List ℕ };
+
+    ghost view = { λ b. b.bytes.items };
+}
+
+impl Bin {
+    /// The bytes of a vector. It takes no memory.
+    pub fn new(bytes: Vec<u8>) -> Bin
+        ensures { result ≡ bytes.items }
+    {
+        Bin { bytes }
+    }
+
+    /// The bytes themselves.
+    pub fn as_slice(&self) -> &[u8]
+        ensures { result.now ≡ self.now }
+    {
+        &self.bytes
+    }
+
+    /// The vector of the bytes. It takes no memory.
+    pub fn into_vec(self) -> Vec<u8>
+        ensures { result.items ≡ self }
+    {
+        let Bin { bytes } = self;
+        bytes
+    }
+}
