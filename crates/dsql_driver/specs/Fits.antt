@@ -1,7 +1,7 @@
 -- Which answers fit which call: the table of shapes. Memory fits every call.
-use Rattle.std.specs.Prelude.{Bool, true, false, ◌||◌, ℤ, negsuc, int_le}
+use Rattle.std.specs.Prelude.{Bool, true, false, ◌||◌, negsuc, int_le}
 use Rattle.dsql_driver.specs.declared.call.DriverCall.{DriverCall}
-use Rattle.dsql_driver.specs.declared.call.DriverCall.TheVariants.{Connect, Reset, Valid, Ping, Prepare, CloseStmt, Exec, Query, Next, CloseRows, Begin, Commit, Rollback, Shut}
+use Rattle.dsql_driver.specs.declared.call.DriverCall.TheVariants.{Valid, Prepare, Exec, Query, Next}
 use Rattle.dsql_driver.specs.declared.answer.DriverAnswer.{DriverAnswer}
 use Rattle.dsql_driver.specs.declared.answer.DriverAnswer.TheVariants.{Done, Prepared, Result, Cursor, Row, End, Invalid, Skip, Bad, Fail, Memory}
 use Rattle.dsql_driver.specs.declared.call.Input.TheVariants.{Text, Handle}
@@ -67,3 +67,8 @@ fits_of call Memory = true
 fits_of call Bad = may_fail call
 fits_of call (Fail text) = may_fail call
 fits_of call answer = is_success call answer
+
+-- an answer that the wire counts as a fault
+abbrev pub is_fault : DriverAnswer → Bool
+is_fault Invalid = true
+is_fault answer = is_failure answer

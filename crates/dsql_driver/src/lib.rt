@@ -5,7 +5,13 @@
 mod answer;
 mod call;
 mod caps;
+mod clock;
+mod stream;
+mod wire;
 
 pub use answer::{DriverAnswer, fits};
 pub use call::{DriverCall, Input, Level};
 pub use caps::Caps;
+pub use clock::{Clock, Gate};
+pub use stream::{Failed, Sink, Source};
+pub use wire::{Answered, Fleet, Planned, Refused, Wire};

@@ -1,0 +1,24 @@
+-- Counts of faults, and what a read takes.
+use Rattle.std.specs.Prelude.{ℕ, ◌≡◌, ◌<◌, ◌≤◌, Bool, ◌||◌, nat_lt, nat_le, IsTrue, List, [], length, take, drop, Option, Some, None}
+
+-- the last value of a count, at which it stands still
+abbrev pub last_count : ℕ
+last_count = 18446744073709551615
+
+-- The count rose. One that stands at its last value counts as risen.
+abbrev pub has_risen : ℕ → ℕ → Bool
+has_risen before after = nat_lt before after || nat_le last_count after
+
+abbrev pub HasRisen : ℕ → ℕ → Type 0
+HasRisen before after = IsTrue (has_risen before after)
+
+-- the first n bytes that were left are in the buffer's front, and the rest is left; none of a buffer that isn't empty is the end
+pub record TakesFront (n : ℕ) (before : List ℕ) (after : Option (List ℕ)) (buf : List ℕ) : Type 0 where
+  pub enough : n ≤ length before
+  pub front : take n buf ≡ take n before
+  pub rest : after ≡ Some (drop n before)
+  pub end : 0 < length buf → n ≡ 0 → before ≡ []
+
+abbrev pub Takes : ℕ → Option (List ℕ) → Option (List ℕ) → List ℕ → Type 0
+Takes n None after buf = after ≡ None
+Takes n (Some before) after buf = TakesFront n before after buf
