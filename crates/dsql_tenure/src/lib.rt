@@ -2,5 +2,6 @@
 #![tactic(auto)]
 
 mod entry;
+pub mod laws;
 
 pub use entry::{Entry, Owner, Permit};
