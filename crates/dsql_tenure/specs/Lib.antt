@@ -7,3 +7,8 @@ pub mod HandlesAndCursors
 pub mod WholeJournal
 pub mod Journal
 pub mod Facts
+pub mod Steps
+pub mod Samples
+pub mod Accepted
+pub mod RefusedShapes
+pub mod RefusedUses

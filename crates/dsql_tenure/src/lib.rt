@@ -3,5 +3,6 @@
 
 mod entry;
 pub mod laws;
+pub mod worked;
 
 pub use entry::{Entry, Owner, Permit};
