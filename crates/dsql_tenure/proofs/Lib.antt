@@ -1,0 +1,7 @@
+pub mod Tests
+pub mod Sentences
+pub mod Beginnings
+pub mod Tenures
+pub mod Wholes
+pub mod Numbers
+pub mod Examples

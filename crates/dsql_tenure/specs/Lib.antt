@@ -1,1 +1,14 @@
 pub mod Permits
+pub mod Kinds
+pub mod Readers
+pub mod Tenure
+pub mod Transaction
+pub mod HandlesAndCursors
+pub mod WholeJournal
+pub mod Journal
+pub mod Facts
+pub mod Steps
+pub mod Samples
+pub mod Accepted
+pub mod RefusedShapes
+pub mod RefusedUses

@@ -2,5 +2,7 @@
 #![tactic(auto)]
 
 mod entry;
+pub mod laws;
+pub mod worked;
 
 pub use entry::{Entry, Owner, Permit};

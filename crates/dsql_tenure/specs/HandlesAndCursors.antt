@@ -1,0 +1,96 @@
+-- Handles and cursors, and the answers that fit at their place, sentence by sentence.
+use Rattle.std.specs.Prelude.{Bool, true, ◌&&◌, ◌||◌, not, ◌==◌, List, length}
+use Rattle.std.specs.List.{list_all}
+use Rattle.dsql_tenure.specs.declared.entry.Entry.{Entry}
+use Rattle.dsql_driver.specs.declared.answer.DriverAnswer.{DriverAnswer}
+use Rattle.dsql_driver.specs.declared.answer.DriverAnswer.TheVariants.{Row}
+use Rattle.dsql_driver.specs.Fits.{fits_of, is_memory}
+use Rattle.dsql_tenure.specs.Kinds.{◌⇒◌, if_any, is_next, is_close_stmt, handle_of, cursor_of, given_handle, given_cursor, is_call, is_house}
+use Rattle.dsql_tenure.specs.Readers.{is_empty, LiveHandle, LiveCursor, handles_named, cursors_named}
+
+-- the test of each live handle that the call names
+abbrev pub each_handle : List Entry → Entry → (LiveHandle → Bool) → Bool
+each_handle before e test = if_any (handle_of e.call) (λ h. list_all test (handles_named h before))
+
+-- the test of each live cursor that the call names
+abbrev pub each_cursor : List Entry → Entry → (LiveCursor → Bool) → Bool
+each_cursor before e test = if_any (cursor_of e.call) (λ r. list_all test (cursors_named r before))
+
+-- Exec, Query and CloseStmt of h stand only where h is live;
+abbrev pub has_live_handle : List Entry → Entry → Bool
+has_live_handle before e = if_any (handle_of e.call) (λ h. not (is_empty (handles_named h before)))
+
+-- Next and CloseRows of r only where r is live.
+abbrev pub has_live_cursor : List Entry → Entry → Bool
+has_live_cursor before e = if_any (cursor_of e.call) (λ r. not (is_empty (cursors_named r before)))
+
+-- No Next of r follows a Next of r answered End, Fail or Bad.
+abbrev pub fetches_before_the_end : List Entry → Entry → Bool
+fetches_before_the_end before e = is_next e.call ⇒ each_cursor before e (λ c. not c.over)
+
+-- Each of them has the transaction number of the Prepare or Query that gave h ..
+abbrev pub has_transaction_of_handle : List Entry → Entry → Bool
+has_transaction_of_handle before e = each_handle before e (λ h. h.tx == e.tx)
+
+-- .. or r.
+abbrev pub has_transaction_of_cursor : List Entry → Entry → Bool
+has_transaction_of_cursor before e = each_cursor before e (λ c. c.tx == e.tx)
+
+-- A cursor is used in the tenure of its Query alone.
+abbrev pub uses_cursor_in_its_tenure : List Entry → Entry → Bool
+uses_cursor_in_its_tenure before e = each_cursor before e (λ c. c.tenure == e.tenure)
+
+-- A handle prepared in a Tx or Pin tenure is used in that tenure alone.
+abbrev pub uses_handle_in_its_tenure : List Entry → Entry → Bool
+uses_handle_in_its_tenure before e = each_handle before e (λ h. not (is_call h.owner) ⇒ h.tenure == e.tenure)
+
+-- One prepared in a Call tenure is used in Call tenures and closed in Call and House tenures.
+abbrev pub uses_handle_in_call_tenures : List Entry → Entry → Bool
+uses_handle_in_call_tenures before e =
+    each_handle before e (λ h. is_call h.owner ⇒ is_call e.owner || is_house e.owner && is_close_stmt e.call)
+
+-- An answer fits at its place where it isn't Memory, ..
+abbrev pub is_heard : Entry → Bool
+is_heard e = not (is_memory e.answer)
+
+-- .. the table of shapes has it for its call, ..
+abbrev pub is_fitting : Entry → Bool
+is_fitting e = fits_of e.call e.answer
+
+-- .. a handle ..
+abbrev pub gives_new_handle : List Entry → Entry → Bool
+gives_new_handle before e = if_any (given_handle e.answer) (λ h. is_empty (handles_named h before))
+
+-- .. or cursor that it gives isn't live there, ..
+abbrev pub gives_new_cursor : List Entry → Entry → Bool
+gives_new_cursor before e = if_any (given_cursor e.answer) (λ r. is_empty (cursors_named r before))
+
+-- the values of a Row are as many as the cursor's columns
+abbrev pub is_as_wide : DriverAnswer → LiveCursor → Bool
+is_as_wide (Row values) c = c.columns == length values
+is_as_wide _ c = true
+
+-- .. and a Row has as many values as its cursor has columns.
+abbrev pub has_width_of_cursor : List Entry → Entry → Bool
+has_width_of_cursor before e = each_cursor before e (is_as_wide e.answer)
+
+-- an answer fits at its place
+abbrev pub fits_at_its_place : List Entry → Entry → Bool
+fits_at_its_place before e =
+    is_heard e
+    && is_fitting e
+    && gives_new_handle before e
+    && gives_new_cursor before e
+    && has_width_of_cursor before e
+
+-- all that is said of handles and cursors
+abbrev pub keeps_handles_and_cursors : List Entry → Entry → Bool
+keeps_handles_and_cursors before e =
+    has_live_handle before e
+    && has_live_cursor before e
+    && fetches_before_the_end before e
+    && has_transaction_of_handle before e
+    && has_transaction_of_cursor before e
+    && uses_cursor_in_its_tenure before e
+    && uses_handle_in_its_tenure before e
+    && uses_handle_in_call_tenures before e

@@ -1,0 +1,66 @@
+-- A transaction's entries, sentence by sentence, as conditions on its next entry e, whose transaction isn't 0.
+use Rattle.std.specs.Prelude.{Bool, ◌&&◌, ◌||◌, not, ◌==◌, List}
+use Rattle.std.specs.List.{list_any, list_all}
+use Rattle.dsql_tenure.specs.declared.entry.Entry.{Entry}
+use Rattle.dsql_driver.specs.Fits.{is_done}
+use Rattle.dsql_tenure.specs.Kinds.{◌⇒◌, if_any, is_number, is_close_stmt, is_begin, is_ending, is_work, handle_of, given_handle, is_pin, is_tx_number}
+use Rattle.dsql_tenure.specs.Readers.{is_empty, of_transaction, cursors, went_bad}
+
+-- what the journal has of e's transaction before e, newest first
+abbrev pub earlier : List Entry → Entry → List Entry
+earlier before e = of_transaction e.tx before
+
+-- The entries with transaction n, n not 0, stand in one tenure, ..
+abbrev pub stands_in_one_tenure : List Entry → Entry → Bool
+stands_in_one_tenure before e = list_all (λ x. x.tenure == e.tenure) (earlier before e)
+
+-- .. owned by Tx(n) or by a pin.
+abbrev pub has_owner_of_transaction : Entry → Bool
+has_owner_of_transaction e = is_tx_number e.tx e.owner || is_pin e.owner
+
+-- The first is Begin answered Done, sent by call n, ..
+abbrev pub starts_with_begin : List Entry → Entry → Bool
+starts_with_begin before e = is_empty (earlier before e) ⇒ is_begin e.call && is_done e.answer && e.call_no == e.tx
+
+-- .. and no other is Begin.
+abbrev pub begins_once : List Entry → Entry → Bool
+begins_once before e = is_begin e.call ⇒ is_empty (earlier before e)
+
+-- Then come Prepare, Exec, Query, Next, CloseRows and CloseStmt; then a Commit or Rollback.
+abbrev pub is_transaction_call : List Entry → Entry → Bool
+is_transaction_call before e = is_empty (earlier before e) || is_begin e.call || is_work e.call || is_ending e.call
+
+-- the transaction has its Commit or Rollback
+abbrev pub has_end : List Entry → Entry → Bool
+has_end before e = list_any (λ x. is_ending x.call) (earlier before e)
+
+-- At most one Commit or Rollback;
+abbrev pub ends_once : List Entry → Entry → Bool
+ends_once before e = has_end before e ⇒ not (is_ending e.call)
+
+-- after it only CloseStmt ..
+abbrev pub closes_after_end : List Entry → Entry → Bool
+closes_after_end before e = has_end before e ⇒ is_close_stmt e.call
+
+-- .. of handles that transaction n prepared.
+abbrev pub closes_what_it_prepared : List Entry → Entry → Bool
+closes_what_it_prepared before e =
+    has_end before e ⇒ if_any (handle_of e.call) (λ h. list_any (λ x. is_number (given_handle x.answer) h) (earlier before e))
+
+-- At the Commit or Rollback no cursor of n is live, unless a Bad answer stands before in the journal.
+abbrev pub ends_without_cursors : List Entry → Entry → Bool
+ends_without_cursors before e = is_ending e.call ⇒ went_bad before || list_all (λ c. not (c.tx == e.tx)) (cursors before)
+
+-- all that is said of a transaction
+abbrev pub keeps_transaction : List Entry → Entry → Bool
+keeps_transaction before e =
+    e.tx == 0
+    || stands_in_one_tenure before e
+    && has_owner_of_transaction e
+    && starts_with_begin before e
+    && begins_once before e
+    && is_transaction_call before e
+    && ends_once before e
+    && closes_after_end before e
+    && closes_what_it_prepared before e
+    && ends_without_cursors before e

@@ -1,0 +1,15 @@
+//! Worked journals, as examples of the definitions.
+
+ghost use Rattle.dsql_tenure.specs.Accepted.{WholeSamples};
+ghost use Rattle.dsql_tenure.specs.RefusedShapes.{RefusedInTenure, RefusedInTransaction};
+ghost use Rattle.dsql_tenure.specs.RefusedUses.{RefusedInHandles, RefusedInWhole};
+
+/// Worked journals are whole, and damaged ones are refused, each at the entry and by the sentence that
+/// it breaks.
+pub fn worked_journals()
+    ensures whole { WholeSamples }
+    ensures tenure { RefusedInTenure }
+    ensures transaction { RefusedInTransaction }
+    ensures handles { RefusedInHandles }
+    ensures order { RefusedInWhole }
+{}
