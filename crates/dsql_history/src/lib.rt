@@ -2,7 +2,10 @@
 #![tactic(auto)]
 
 mod event;
+mod record;
 mod reply;
+pub mod worked;
 
 pub use event::{CloseCause, Event, Move, Op};
-pub use reply::Reply;
+pub use record::{CallRecord, Place};
+pub use reply::{Reply, SKIPPED};

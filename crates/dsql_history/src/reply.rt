@@ -1,5 +1,8 @@
 use dsql_value::Txt;
 
+/// The text of Go's `driver.ErrSkip`.
+pub const SKIPPED: &str = "driver: skip fast-path; continue as if unimplemented";
+
 /// What a call is answered.
 #[derive(Clone, Debug, Drop)]
 pub enum Reply {
@@ -9,4 +12,6 @@ pub enum Reply {
     Driver(Txt),
     /// The connection was bad, after so many tries: Go's `driver.ErrBadConn`.
     BadConn(u32),
+    /// As many connections are open as may be at all.
+    TooMany,
 }

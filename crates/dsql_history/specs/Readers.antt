@@ -1,0 +1,5 @@
+pub mod Lists
+pub mod Course
+pub mod Sets
+pub mod Calls
+pub mod Journals

@@ -1,0 +1,92 @@
+-- The calls of a history.
+use Rattle.std.specs.Prelude.{ℕ, ◌==◌, Bool, cond, List, [], ◌∷◌, ◌++◌, length, slice_set, slice_index_or, Option, Some, None, unwrap_or, codes}
+use Rattle.std.specs.List.{list_any}
+use Rattle.dsql_driver.specs.declared.call.DriverCall.{DriverCall}
+use Rattle.dsql_driver.specs.declared.call.DriverCall.TheVariants.{Reset, Exec}
+use Rattle.dsql_driver.specs.declared.answer.DriverAnswer.{DriverAnswer}
+use Rattle.dsql_driver.specs.declared.answer.DriverAnswer.TheVariants as answers
+use Rattle.dsql_tenure.specs.Readers.{has}
+use Rattle.dsql_history.specs.declared.event.Event.{Event}
+use Rattle.dsql_history.specs.declared.event.Event.TheVariants.{Entered, Heard, Pool, Replied}
+use Rattle.dsql_history.specs.declared.event.Move.TheVariants.{OpenStart, Lend, Fell}
+use Rattle.dsql_history.specs.declared.event.Op.{Op}
+use Rattle.dsql_history.specs.declared.event.Op.TheVariants as ops
+use Rattle.dsql_history.specs.declared.record.CallRecord.{CallRecord}
+use Rattle.dsql_history.specs.declared.reply.Reply.{Reply}
+use Rattle.dsql_history.specs.declared.reply.Reply.TheVariants.{Result, Driver, BadConn}
+use Rattle.dsql_history.specs.Readers.Lists.{without}
+
+-- the text of an operation's statement
+abbrev pub statement : Op → List ℕ
+statement (ops.Exec text) = text
+
+-- the reply that a deciding answer gives; a Skip decides nothing
+abbrev pub reply_to : DriverAnswer → Option Reply
+reply_to (answers.Result last affected) = Some (Result last affected)
+reply_to (answers.Fail text) = Some (Driver text)
+reply_to answers.Bad = Some (BadConn 1)
+reply_to _ = None
+
+-- An Exec's answer decides, and a Reset answered Bad. A Reset answered Fail is passed over, and a test decides nothing.
+abbrev pub decision : DriverCall → DriverAnswer → Option Reply → Option Reply
+decision (Exec input params) answer earlier = reply_to answer
+decision Reset answers.Bad earlier = Some (BadConn 1)
+decision _ answer earlier = earlier
+
+-- what a refused Connect, just heard, decides for the call to which it falls
+abbrev pub refusal : List Event → Option Reply
+refusal (Heard e ∷ before) = reply_to e.answer
+refusal _ = None
+
+-- there is no call 0
+abbrev pub nobody : CallRecord
+nobody = record { client = 0; home = 0; text = []; decided = None }
+
+abbrev pub with_record : ℕ → (CallRecord → CallRecord) → List CallRecord → List CallRecord
+with_record n change calls = slice_set calls n (change (slice_index_or calls n nobody))
+
+-- each call, by its number
+abbrev pub calls : List Event → List CallRecord
+calls [] = nobody ∷ []
+calls (Entered client n op ∷ before) = calls before ++ record { client = client; home = 0; text = statement op; decided = None } ∷ []
+calls (Pool (OpenStart c n) ∷ before) = with_record n (λ r. record r { home = c }) (calls before)
+calls (Pool (Lend c tenure owner n) ∷ before) = with_record n (λ r. record r { home = c }) (calls before)
+calls (Pool (Fell c n) ∷ before) = with_record n (λ r. record r { decided = refusal before }) (calls before)
+calls (Heard e ∷ before) =
+    cond (e.call_no == 0) (calls before) (with_record e.call_no (λ r. record r { decided = decision e.call e.answer r.decided }) (calls before))
+calls (Replied n reply ∷ before) = with_record n (λ r. record r { decided = None }) (calls before)
+calls (_ ∷ before) = calls before
+
+abbrev pub call_record : List Event → ℕ → CallRecord
+call_record before n = slice_index_or (calls before) n nobody
+
+-- the number that the next call gets
+abbrev pub next_call : List Event → ℕ
+next_call before = length (calls before)
+
+-- the connection that was lent or is opened for the call, 0 for none yet
+abbrev pub home : List Event → ℕ → ℕ
+home before n = (call_record before n).home
+
+-- the calls that have no reply yet, in the order in which they were entered
+abbrev pub unfinished : List Event → List ℕ
+unfinished [] = []
+unfinished (Entered client n op ∷ before) = unfinished before ++ n ∷ []
+unfinished (Replied n reply ∷ before) = without n (unfinished before)
+unfinished (_ ∷ before) = unfinished before
+
+abbrev pub is_unfinished : List Event → ℕ → Bool
+is_unfinished before n = has n (unfinished before)
+
+-- the client has an unfinished call
+abbrev pub is_busy : ℕ → List Event → Bool
+is_busy client before = list_any (λ n. (call_record before n).client == client) (unfinished before)
+
+-- the text of Go's driver.ErrSkip
+abbrev pub skipped : List ℕ
+skipped = codes "driver: skip fast-path; continue as if unimplemented"
+
+-- What the call is to be replied. Until the prepared path is there, a call that no answer decided, since its fast path was skipped or
+-- its driver has none, replies that it was skipped.
+abbrev pub reply_due : List Event → ℕ → Reply
+reply_due before n = unwrap_or (call_record before n).decided (Driver skipped)
