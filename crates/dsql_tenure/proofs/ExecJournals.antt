@@ -18,7 +18,7 @@ use Rattle.dsql_tenure.specs.Journal.{may_follow, is_journal_prefix, is_whole, I
 use Rattle.dsql_tenure.specs.Facts.{KeepsWholeJournal, FitsAtItsPlace, MayShut}
 use Rattle.dsql_tenure.specs.Entries.{connect_entry, call_entry, shut_entry}
 use Rattle.dsql_tenure.specs.ExecJournals.{Plain, Good}
-use Rattle.dsql_tenure.proofs.Tests.{join2, so_if}
+use Rattle.dsql_tenure.proofs.Conjunctions.{join2, so_if}
 use Rattle.dsql_tenure.proofs.Sentences.{of-MayFollow}
 use Rattle.dsql_tenure.proofs.Tenures.{of_tenure-new, MayFollow-shut, IsWhole-shut}
 
@@ -36,6 +36,11 @@ of_tenure-with t e J same = grind (arith, nat_tests, same)
 
 pub of_tenure-without : (t : ℕ) (e : Entry) (J : List Entry) → e.tenure ≢ t → of_tenure t (e ∷ J) ≡ of_tenure t J
 of_tenure-without t e J other = grind (arith, nat_tests, other)
+
+pub of_tenure-only : (t : ℕ) (e : Entry) (J : List Entry) → IsJournalPrefix J → last_tenure J < t → e.tenure ≡ t → of_tenure t (e ∷ J) ≡ e ∷ []
+of_tenure-only t e J beginning above same =
+    let new : of_tenure t J ≡ [] = of_tenure-new t J beginning above in
+    rw (of_tenure-with t e J same) (rw new refl)
 
 pub went_bad-with : (e : Entry) (J : List Entry) → went_bad (e ∷ J) ≡ is_bad e.answer || went_bad J
 went_bad-with e J = refl

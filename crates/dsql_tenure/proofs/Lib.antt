@@ -1,4 +1,4 @@
-pub mod Tests
+pub mod Conjunctions
 pub mod Sentences
 pub mod Beginnings
 pub mod Tenures

@@ -13,7 +13,7 @@ ghost use Rattle.dsql_tenure.specs.Readers.{is_empty, of_tenure, last_tenure, ha
 ghost use Rattle.dsql_tenure.specs.Entries.{shut_entry};
 ghost use Rattle.dsql_tenure.specs.Tenure.{is_whole_tenure};
 
-/// The test of an entry is true exactly where each sentence holds of it.
+/// The test of an entry is true exactly where each rule holds of it.
 pub fn sentences_are_the_test()
     ensures { (before : List Entry) (e : Entry) → IsTrue (may_follow before e) ↔ MayFollow before e }
 {}
