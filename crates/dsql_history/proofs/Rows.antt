@@ -25,7 +25,6 @@ other_number n m h = grind (arith, nat_tests)
 pub same_or_not : (n m : ℕ) → (n ≡ m) ⊎ (n ≢ m)
 same_or_not n m = grind (arith, nat_tests)
 
-
 -- no number stands in the list twice
 abbrev pub is_once : List ℕ → Bool
 is_once [] = true
@@ -54,10 +53,10 @@ read_push (x ∷ xs) a zero d = inr (λ e. absurd (omega arith), refl)
 read_push (x ∷ xs) a (suc j) d = grind (arith, read_push xs a j d)
 
 -- a row beyond the end is the one that stands for none
-pub within : {A : Type 0} (xs : List A) (i : ℕ) (d : A) → (i < length xs) ⊎ ((length xs ≤ i) × (get_or xs i d ≡ d))
-within [] i d = inr (omega arith, refl)
-within (x ∷ xs) zero d = inl (omega arith)
-within (x ∷ xs) (suc i) d = grind (arith, within xs i d)
+pub within_rows : {A : Type 0} (xs : List A) (i : ℕ) (d : A) → (i < length xs) ⊎ ((length xs ≤ i) × (get_or xs i d ≡ d))
+within_rows [] i d = inr (omega arith, refl)
+within_rows (x ∷ xs) zero d = inl (omega arith)
+within_rows (x ∷ xs) (suc i) d = grind (arith, within_rows xs i d)
 
 pub once-without : (y : ℕ) (xs : List ℕ) → is_once xs ≡ true → is_once (without y xs) ≡ true
 once-without y [] h = refl

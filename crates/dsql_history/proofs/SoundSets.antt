@@ -15,7 +15,7 @@ use Rattle.dsql_history.specs.declared.record.Place.TheVariants.{Nowhere, Openin
 use Rattle.dsql_history.specs.Readers.Sets.{places, place, idle, is_idle, all_lends, lends, all_uses, uses, one_more}
 use Rattle.dsql_history.specs.Rules.Moves.{moves_from, numbers_lending}
 use Rattle.dsql_history.specs.Legal.{Allowed, Lawful}
-use Rattle.dsql_history.proofs.Rows.{both, is_once, has-without, has_push, read_set, read_push, within, once-without, once_push, length-without, length_push}
+use Rattle.dsql_history.proofs.Rows.{both, is_once, has-without, has_push, read_set, read_push, within_rows, once-without, once_push, length-without, length_push}
 
 -- what holds of the sets of each lawful history
 pub record SoundSets (H : List Event) : Type 0 where
@@ -51,7 +51,7 @@ start_count (suc c) = refl
 
 sound_open : (H : List Event) (c n : ℕ) → SoundSets H → moves_from H (OpenStart c n) ≡ true → SoundSets (Pool (OpenStart c n) ∷ H)
 sound_open H c n s m = record {
-  idle_ones = λ d. grind (arith, nat_tests, read_push (places H) (Opening n) d Nowhere, s.idle_ones d, within (places H) d Nowhere);
+  idle_ones = λ d. grind (arith, nat_tests, read_push (places H) (Opening n) d Nowhere, s.idle_ones d, within_rows (places H) d Nowhere);
   once = s.once;
   no_zero = grind (arith, nat_tests, read_push (places H) (Opening n) 0 Nowhere, s.no_zero, s.some_row);
   some_row = grind (arith, common_steps, s.some_row);
@@ -65,7 +65,7 @@ sound_open H c n s m = record {
 
 sound_lend : (H : List Event) (c t : ℕ) (o : Owner) (n : ℕ) → SoundSets H → moves_from H (Lend c t o n) ≡ true → SoundSets (Pool (Lend c t o n) ∷ H)
 sound_lend H c t o n s m = record {
-  idle_ones = λ d. grind (arith, nat_tests, read_set (places H) c (Lent t o) d Nowhere, has-without d c (idle H), s.idle_ones d, within (places H) c Nowhere);
+  idle_ones = λ d. grind (arith, nat_tests, read_set (places H) c (Lent t o) d Nowhere, has-without d c (idle H), s.idle_ones d, within_rows (places H) c Nowhere);
   once = once-without c (idle H) s.once;
   no_zero = grind (arith, nat_tests, read_set (places H) c (Lent t o) 0 Nowhere, s.no_zero);
   some_row = grind (arith, common_steps, s.some_row);
@@ -79,7 +79,7 @@ sound_lend H c t o n s m = record {
 
 sound_back : (H : List Event) (c : ℕ) → SoundSets H → moves_from H (Back c) ≡ true → SoundSets (Pool (Back c) ∷ H)
 sound_back H c s m = record {
-  idle_ones = λ d. grind (arith, nat_tests, read_set (places H) c Idle d Nowhere, has_push d c (idle H), s.idle_ones d, within (places H) c Nowhere);
+  idle_ones = λ d. grind (arith, nat_tests, read_set (places H) c Idle d Nowhere, has_push d c (idle H), s.idle_ones d, within_rows (places H) c Nowhere);
   once = once_push c (idle H) s.once (grind (arith, nat_tests, s.idle_ones c));
   no_zero = grind (arith, nat_tests, read_set (places H) c Idle 0 Nowhere, s.no_zero);
   some_row = grind (arith, common_steps, s.some_row);
@@ -93,7 +93,7 @@ sound_back H c s m = record {
 
 sound_close : (H : List Event) (c : ℕ) (k : CloseCause) → SoundSets H → moves_from H (CloseStart c k) ≡ true → SoundSets (Pool (CloseStart c k) ∷ H)
 sound_close H c k s m = record {
-  idle_ones = λ d. grind (arith, nat_tests, read_set (places H) c Closing d Nowhere, has-without d c (idle H), s.idle_ones d, within (places H) c Nowhere);
+  idle_ones = λ d. grind (arith, nat_tests, read_set (places H) c Closing d Nowhere, has-without d c (idle H), s.idle_ones d, within_rows (places H) c Nowhere);
   once = once-without c (idle H) s.once;
   no_zero = grind (arith, nat_tests, read_set (places H) c Closing 0 Nowhere, s.no_zero);
   some_row = grind (arith, common_steps, s.some_row);
