@@ -1,3 +1,4 @@
 pub mod Rows
 pub mod SoundSets
 pub mod SoundCalls
+pub mod Lines
