@@ -206,10 +206,10 @@ serves_on c t n J can reset text q a s due fit =
     by_reset Reset h d = only (of_tenure t J) (due_reset can reset text (of_tenure t J) d)
     by_reset _ h d = absurd cc
 
-abbrev entry_with : ℕ → ℕ → Owner → ℕ → ℕ → DriverCall → DriverAnswer → Entry
+abbrev pub entry_with : ℕ → ℕ → Owner → ℕ → ℕ → DriverCall → DriverAnswer → Entry
 entry_with c t o k x q a = record { conn = c; tenure = t; owner = o; call_no = k; tx = x; call = q; answer = a }
 
-same_parts : (c d t u k m x y : ℕ) (o p : Owner) (q : DriverCall) (a : DriverAnswer) → c ≡ d → t ≡ u → o ≡ p → k ≡ m → x ≡ y → entry_with c t o k x q a ≡ entry_with d u p m y q a
+pub same_parts : (c d t u k m x y : ℕ) (o p : Owner) (q : DriverCall) (a : DriverAnswer) → c ≡ d → t ≡ u → o ≡ p → k ≡ m → x ≡ y → entry_with c t o k x q a ≡ entry_with d u p m y q a
 same_parts c d t u k m x y o p q a conn tenure owner number tx = cc
 
 -- an entry is known by its parts
