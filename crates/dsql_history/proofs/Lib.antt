@@ -3,3 +3,4 @@ pub mod SoundSets
 pub mod SoundCalls
 pub mod Lines
 pub mod Standing
+pub mod SoundJournals

@@ -120,7 +120,7 @@ serves_first c t n J beginning plain good above =
       reset = rw new (λ h. absurd cc);
     }
 
-call_owner : (o : Owner) (n : ℕ) → same_owner o (Call n) ≡ true → o ≡ Call n
+pub call_owner : (o : Owner) (n : ℕ) → same_owner o (Call n) ≡ true → o ≡ Call n
 call_owner (Call m) n h = ap Call (grind (arith, nat_tests, h))
 call_owner (Tx m) n h = absurd cc
 call_owner (Pin m) n h = absurd cc

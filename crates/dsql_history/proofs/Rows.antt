@@ -1,5 +1,5 @@
 -- On rows and lists of numbers: what stands at a place after a write, and what is in a list after an edit.
-use Rattle.std.proofs.Common.{◌≡◌, ◌≢◌, ℕ, zero, suc, ◌<◌, ◌≤◌, ◌+◌, Bool, true, false, not, ◌&&◌, ◌||◌, ◌==◌, List, [], ◌∷◌, ◌++◌, length, get_or, set, refl, arith, ◌⊎◌, inl, inr}
+use Rattle.std.proofs.Common.{◌≡◌, ◌≢◌, ℕ, zero, suc, ◌<◌, ◌≤◌, ◌+◌, Bool, true, false, not, ◌&&◌, ◌||◌, ◌==◌, List, [], ◌∷◌, ◌++◌, length, get_or, set, refl, arith, ◌⊎◌, inl, inr, subst, sym}
 use Rattle.std.proofs.lemmas.Grind.{common_steps}
 use Rattle.std.proofs.lemmas.Bool.Decides.{nat_tests}
 use Rattle.dsql_tenure.specs.Readers.{has}
@@ -72,3 +72,20 @@ length-without y (x ∷ xs) = grind (arith, nat_tests, common_steps, length-with
 
 pub length_push : {A : Type 0} (xs : List A) (y : A) → length (xs ++ y ∷ []) ≡ length xs + 1
 length_push xs y = grind (arith, common_steps)
+
+-- a row after a write at it, and another one
+pub row_at : {A : Type 0} (xs : List A) (i : ℕ) (a d : A) → i < length xs → get_or (set xs i a) i d ≡ a
+row_at xs i a d h = grind (arith, read_set xs i a i d)
+
+pub row_off : {A : Type 0} (xs : List A) (i : ℕ) (a : A) (j : ℕ) (d : A) → j ≢ i → get_or (set xs i a) j d ≡ get_or xs j d
+row_off xs i a j d h = grind (arith, read_set xs i a j d)
+
+pub row_new : {A : Type 0} (xs : List A) (a : A) (i : ℕ) (d : A) → i ≡ length xs → get_or (xs ++ a ∷ []) i d ≡ a
+row_new xs a i d h = grind (arith, read_push xs a i d)
+
+pub row_old : {A : Type 0} (xs : List A) (a : A) (i : ℕ) (d : A) → i ≢ length xs → get_or (xs ++ a ∷ []) i d ≡ get_or xs i d
+row_old xs a i d h = grind (arith, read_push xs a i d)
+
+-- what holds of one number and of each other one holds of each
+pub by_number : (c d : ℕ) (P : ℕ → Type 0) → P c → (d ≢ c → P d) → P d
+by_number c d P here there = elim (same_or_not d c) [ inl e ↦ subst P (sym e) here | inr n ↦ there n ]

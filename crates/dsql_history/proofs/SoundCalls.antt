@@ -73,6 +73,7 @@ pub record Opened (H : List Event) (c n : ℕ) : Type 0 where
 pub record LendFacts (H : List Event) (c t : ℕ) (o : Owner) (n : ℕ) : Type 0 where
   pub owner : is_call o ≡ true
   pub number : n ≡ number_of o
+  pub tenure : t ≡ next_tenure H c
   pub from : ((place H c ≡ Idle) × Asked H n) ⊎ Opened H c n
 
 -- A connection that is lent as it was opened just now goes to the call of its opening.
@@ -88,18 +89,18 @@ opened_for (Heard x ∷ H) c t o n m p j f =
 opened_for [] c t o n m p j f = absurd cc
 opened_for (_ ∷ H) c t o n m p j f = absurd cc
 
-lend_from : (H : List Event) (c t : ℕ) (o : Owner) (n : ℕ) (q : Place) → place H c ≡ q → (is_idle q || is_opening q) ≡ true → n ≡ number_of o
+lend_from : (H : List Event) (c t : ℕ) (o : Owner) (n : ℕ) (q : Place) → place H c ≡ q → (is_idle q || is_opening q) ≡ true → n ≡ number_of o → t ≡ next_tenure H c
     → cond (is_idle q) (takes_latest H c o n) true ≡ true → cond (is_opening q) (was_just_opened c H) true ≡ true → follows H (Pool (Lend c t o n)) ≡ true → LendFacts H c t o n
-lend_from H c t o n Idle p from number asks heard f =
+lend_from H c t o n Idle p from number tenure asks heard f =
     let a = both (may_ask H n && is_call o) (last (idle H) == c) asks in
     let b = both (may_ask H n) (is_call o) a.0 in
-    record { owner = b.1; number = number; from = inl (p, asked H n b.0) }
-lend_from H c t o n (Opening m) p from number asks heard f =
+    record { owner = b.1; number = number; tenure = tenure; from = inl (p, asked H n b.0) }
+lend_from H c t o n (Opening m) p from number tenure asks heard f =
     let a = opened_for H c t o n m p heard f in
-    record { owner = a.1; number = number; from = inr (record { for_it = p ∙ ap Opening a.0; heard = heard }) }
-lend_from H c t o n Nowhere p from number asks heard f = absurd cc
-lend_from H c t o n (Lent u k) p from number asks heard f = absurd cc
-lend_from H c t o n Closing p from number asks heard f = absurd cc
+    record { owner = a.1; number = number; tenure = tenure; from = inr (record { for_it = p ∙ ap Opening a.0; heard = heard }) }
+lend_from H c t o n Nowhere p from number tenure asks heard f = absurd cc
+lend_from H c t o n (Lent u k) p from number tenure asks heard f = absurd cc
+lend_from H c t o n Closing p from number tenure asks heard f = absurd cc
 
 pub lend_facts : (H : List Event) (c t : ℕ) (o : Owner) (n : ℕ) → Allowed H (Pool (Lend c t o n)) → LendFacts H c t o n
 unfolding Allowed
@@ -107,7 +108,7 @@ lend_facts H c t o n a =
     let s = both (moves_from H (Lend c t o n)) (numbers_lending H (Lend c t o n)) a.sets in
     let k = both (t == next_tenure H c) (n == number_of o) s.1 in
     let r = both (follows H (Pool (Lend c t o n))) (leaves_when_heard H (Pool (Lend c t o n))) a.order in
-    lend_from H c t o n (place H c) refl s.0 (same_number n (number_of o) k.1) a.asking r.1 r.0
+    lend_from H c t o n (place H c) refl s.0 (same_number n (number_of o) k.1) (same_number t (next_tenure H c) k.0) a.asking r.1 r.0
 
 pub record OpenFacts (H : List Event) (c n : ℕ) : Type 0 where
   pub new : c ≡ length (places H)
