@@ -1,15 +1,23 @@
 -- What was heard of each connection in each lawful history, by induction: a lemma for each kind of event.
-use Rattle.std.proofs.Common.{◌≡◌, ◌≢◌, ℕ, zero, suc, ◌<◌, ◌≤◌, ◌+◌, ◌==◌, ◌⊎◌, inl, inr, Bool, true, false, not, ◌&&◌, ◌||◌, cond, List, [], ◌∷◌, ◌++◌, length, get_or, set, length-set, refl, sym, ap, ◌∙◌}
+use Rattle.std.proofs.Common.{◌≡◌, ◌≢◌, ℕ, zero, suc, ◌<◌, ◌≤◌, ◌+◌, ◌==◌, ◌⊎◌, inl, inr, Bool, true, false, not, ◌&&◌, ◌||◌, cond, List, [], ◌∷◌, ◌++◌, length, get_or, set, length-set, refl, sym, ap, subst, is_some, ◌∙◌}
 use native.Mathlib.Omega.{arith}
 use Rattle.std.proofs.lemmas.Grind.{common_steps}
 use Rattle.std.proofs.lemmas.Bool.Decides.{nat_tests}
-use Rattle.dsql_driver.specs.Fits.{is_done}
+use Rattle.dsql_driver.specs.Fits.{fits_of, is_memory, is_done, is_failure}
+use Rattle.dsql_driver.specs.declared.call.DriverCall.TheVariants.{Connect, Shut}
+use Rattle.dsql_driver.specs.declared.answer.DriverAnswer.{DriverAnswer}
+use Rattle.dsql_driver.specs.declared.answer.DriverAnswer.TheVariants.{Done, Bad, Fail, Memory}
 use Rattle.dsql_tenure.specs.declared.entry.Entry.{Entry}
 use Rattle.dsql_tenure.specs.declared.entry.Owner.{Owner}
 use Rattle.dsql_tenure.specs.declared.entry.Owner.TheVariants.{Call, Tx, Pin, House}
 use Rattle.dsql_tenure.specs.Kinds.{is_call, is_connect, is_shut, is_house, same_owner}
-use Rattle.dsql_tenure.specs.Journal.{may_follow, IsJournalPrefix}
-use Rattle.dsql_tenure.proofs.ExecJournals.{IsJournalPrefix-with}
+use Rattle.dsql_tenure.specs.Readers.{last_tenure, went_bad}
+use Rattle.dsql_tenure.specs.Tenure.{is_whole_tenure}
+use Rattle.dsql_tenure.specs.Journal.{may_follow, is_whole, IsJournalPrefix, IsWhole}
+use Rattle.dsql_tenure.specs.Entries.{call_entry, connect_entry, shut_entry}
+use Rattle.dsql_tenure.proofs.Beginnings.{may_follow-whole}
+use Rattle.dsql_tenure.proofs.Tenures.{of_tenure-new}
+use Rattle.dsql_tenure.proofs.ExecJournals.{IsJournalPrefix-with, is_whole_tenure-plain, may_follow-connect, is_whole-refused, may_follow-shut, is_whole-shut}
 use Rattle.dsql_history.specs.declared.event.Event.{Event}
 use Rattle.dsql_history.specs.declared.event.Event.TheVariants.{Run, Entered, Heard, Pool, Replied, Ended}
 use Rattle.dsql_history.specs.declared.event.Op.{Op}
@@ -22,17 +30,18 @@ use Rattle.dsql_history.specs.declared.reply.Reply.{Reply}
 use Rattle.dsql_history.specs.Readers.Course.{caps, has_ended}
 use Rattle.dsql_history.specs.Readers.Sets.{places, place, idle, is_opening, is_closing, is_lent, is_idle, number_of, all_lends, lends, all_uses, uses, next_tenure}
 use Rattle.dsql_history.specs.Readers.Calls.{call_record}
-use Rattle.dsql_history.specs.Readers.Journals.{journal}
+use Rattle.dsql_history.specs.Readers.Journals.{journal, heard_in, ends_invalid}
 use Rattle.dsql_history.specs.Rules.Order.{follows, follows_answer, lends_to, falls_to, goes, leaves_when_heard, was_just_heard, was_just_opened}
 use Rattle.dsql_history.specs.Rules.Moves.{moves_from, numbers_lending, hears_in}
 use Rattle.dsql_history.specs.Rules.Causes.{returns_from}
-use Rattle.dsql_history.specs.Rules.Line.{sends_from, is_reset_due}
-use Rattle.dsql_history.specs.Legal.{Allowed, Lawful}
+use Rattle.dsql_history.specs.Rules.Line.{sends_from, is_reset_due, due, is_due}
+use Rattle.dsql_history.specs.Rules.Settled.{is_placed}
+use Rattle.dsql_history.specs.Legal.{Allowed, Lawful, has_left, KeepsJournals}
 use Rattle.dsql_history.proofs.Rows.{both, not_true, same_number, same_to_itself, other_number, by_number, row_at, row_off, row_new, row_old, read_set, within_rows, length_push}
 use Rattle.dsql_history.proofs.SoundSets.{SoundSets, sound_sets, moves_of}
 use Rattle.dsql_history.proofs.SoundCalls.{LendFacts, lend_facts, Opened, OpenFacts, open_facts, Asked, owner_of}
-use Rattle.dsql_history.proofs.Lines.{call_owner}
-use Rattle.dsql_history.proofs.Standing.{Stands, Opens, Rests, Leaves, Works, stands_on, works_first, rests_opened, rests_again, leaves_idle, leaves_lent, opens_heard, works_heard}
+use Rattle.dsql_history.proofs.Lines.{Serves, call_owner, call_entry_of, due_while, may_follow-due}
+use Rattle.dsql_history.proofs.Standing.{Stands, Opens, Rests, Leaves, Works, stands_on, works_first, rests_opened, rests_again, leaves_idle, leaves_lent, opens_heard, works_heard, good_when}
 
 -- what was heard of connection c fits where it stands
 abbrev pub StandsIn : List Event → ℕ → Type 0
@@ -358,3 +367,141 @@ journals_event H Ended z s a = journals_same H Ended s (follows_of H Ended a) (�
 pub sound_journals : (H : List Event) → Lawful H → SoundJournals H
 sound_journals [] l = journals_start
 sound_journals (e ∷ before) l = journals_event before e (sound_sets before l.0) (sound_journals before l.0) l.1
+
+-- What follows for each lawful history, in the words of its readers.
+
+stands_at : (H : List Event) (c : ℕ) (p : Place) → Lawful H → place H c ≡ p → Stands c (lends H c) (uses H c) (was_just_heard c H) (was_just_opened c H) (journal H c) p
+stands_at H c p l is = let s = sound_journals H l in rw is at (s.stands c)
+
+-- nothing was heard yet in the tenure of a lending
+pub fresh_lending : (H : List Event) (c t n : ℕ) → Lawful (Pool (Lend c t (Call n) n) ∷ H) → heard_in (Pool (Lend c t (Call n) n) ∷ H) c t ≡ []
+fresh_lending H c t n l =
+    let s = sound_journals H l.0 in
+    let a = lend_facts H c t (Call n) n l.1 in
+    let r = rests_from H c n s a.from in
+    of_tenure-new t (journal H c) (s.beginnings c) (omega (arith, r.below, a.tenure))
+
+-- a connection that is being opened was never lent
+pub lends_when_opening : (H : List Event) (c n : ℕ) → Lawful H → place H c ≡ Opening n → (lends H c ≡ 0) × (uses H c ≡ 0)
+lends_when_opening H c n l is = let s = stands_at H c (Opening n) l is in (s.unlent, s.unused)
+
+owned_tenure : (c l u : ℕ) (heard opened : Bool) (J : List Entry) (t : ℕ) (o : Owner) → Stands c l u heard opened J (Lent t o) → t ≡ l + 1
+owned_tenure c l u heard opened J t (Call n) s = s.tenure
+owned_tenure c l u heard opened J t (Tx n) s = absurd s
+owned_tenure c l u heard opened J t (Pin n) s = absurd s
+owned_tenure c l u heard opened J t House s = absurd s
+
+-- a connection that is lent has the tenure of its last lending
+pub lent_tenure : (H : List Event) (c t : ℕ) (o : Owner) → Lawful H → place H c ≡ Lent t o → t ≡ lends H c + 1
+lent_tenure H c t o l is = owned_tenure c (lends H c) (uses H c) (was_just_heard c H) (was_just_opened c H) (journal H c) t o (stands_at H c (Lent t o) l is)
+
+-- a connection that is lent can be given back at any time
+pub whole_when_lent : (H : List Event) (c t n : ℕ) → Lawful H → place H c ≡ Lent t (Call n) → is_whole_tenure t (journal H c) ≡ true
+whole_when_lent H c t n l is =
+    let s = stands_at H c (Lent t (Call n)) l is in
+    let v = s.serves in
+    is_whole_tenure-plain c t (journal H c) v.plain
+
+-- as long as something is due, no answer of the connection was bad, and no test of it failed
+pub good_while_due : (H : List Event) (c t n : ℕ) → Lawful H → place H c ≡ Lent t (Call n) → is_some (due H c t n) ≡ true → (went_bad (journal H c) ≡ false) × (ends_invalid (journal H c) ≡ false)
+good_while_due H c t n l is some =
+    let s = stands_at H c (Lent t (Call n)) l is in
+    let v = s.serves in
+    good_when c t n (journal H c) v (v.good (due_while (caps H) (is_reset_due H c) (call_record H n).text (heard_in H c t) some))
+
+-- what is due may follow, whatever it is answered
+pub follows_due : (H : List Event) (e : Entry) (t n : ℕ) → Lawful H → place H e.conn ≡ Lent t (Call n) → is_due (due H e.conn t n) e.call ≡ true → e.tenure ≡ t → e.owner ≡ Call n → e.call_no ≡ n
+    → e.tx ≡ 0 → fits_of e.call e.answer ≡ true → is_memory e.answer ≡ false → may_follow (journal H e.conn) e ≡ true
+follows_due H e t n l is due tenure owner number tx fit heard =
+    let s = stands_at H e.conn (Lent t (Call n)) l is in
+    let all = sound_journals H l in
+    let same : e ≡ call_entry e.conn t n e.call e.answer = call_entry_of e.conn t n e refl tenure owner number tx in
+    let may = may_follow-due e.conn t n (journal H e.conn) (caps H) (is_reset_due H e.conn) (call_record H n).text e.call e.answer (all.beginnings e.conn) s.serves due fit heard in
+    subst (λ (x : Entry). may_follow (journal H e.conn) x ≡ true) (sym same) may
+
+-- where nothing has to come as the very next event, no Connect or Shut was heard just now
+unheard : (H : List Event) (c : ℕ) → is_placed H ≡ true → is_opening (place H c) || is_closing (place H c) ≡ true → was_just_heard c H ≡ false
+unheard (Heard x ∷ H) c p q =
+    is_false (x.conn == c) (λ same.
+    let is : x.conn ≡ c = same_number x.conn c same in
+    let r : is_opening (place H x.conn) || is_closing (place H x.conn) ≡ true = rw is q in
+    absurd (cc))
+unheard [] c p q = refl
+unheard (_ ∷ H) c p q = refl
+
+unheard_opening : (H : List Event) (c n : ℕ) → Lawful H → is_placed H ≡ true → place H c ≡ Opening n → journal H c ≡ []
+unheard_opening H c n l placed is =
+    let s = stands_at H c (Opening n) l is in
+    s.fresh (unheard H c placed (rw is refl))
+
+-- the Connect of a connection that is being opened may follow
+pub follows_connect : (H : List Event) (c n : ℕ) (answer : DriverAnswer) → Lawful H → is_placed H ≡ true → place H c ≡ Opening n → fits_of Connect answer ≡ true → is_memory answer ≡ false
+    → may_follow (journal H c) (connect_entry c answer) ≡ true
+follows_connect H c n answer l placed is fit heard = rw (unheard_opening H c n l placed is) (may_follow-connect c answer fit heard)
+
+refused_fails : (answer : DriverAnswer) → fits_of Connect answer ≡ true → is_memory answer ≡ false → is_done answer ≡ false → is_failure answer ≡ true
+refused_fails Bad fit heard refused = refl
+refused_fails (Fail text) fit heard refused = refl
+refused_fails Done fit heard refused = absurd cc
+refused_fails Memory fit heard refused = absurd cc
+refused_fails _ fit heard refused = absurd cc
+
+-- and where it was refused the journal is whole
+pub whole_refused : (H : List Event) (c n : ℕ) (answer : DriverAnswer) → Lawful H → is_placed H ≡ true → place H c ≡ Opening n → fits_of Connect answer ≡ true → is_memory answer ≡ false
+    → is_done answer ≡ false → is_whole (journal (Heard (connect_entry c answer) ∷ H) c) ≡ true
+whole_refused H c n answer l placed is fit heard refused =
+    rw (same_to_itself c, unheard_opening H c n l placed is) (is_whole-refused c answer (refused_fails answer fit heard refused))
+
+unshut : (H : List Event) (c : ℕ) → Lawful H → is_placed H ≡ true → place H c ≡ Closing → Leaves c (lends H c) (journal H c)
+unshut H c l placed is = let s = stands_at H c Closing l is in s (unheard H c placed (rw is refl))
+
+-- the Shut of a connection that is being closed may follow
+pub follows_shut : (H : List Event) (c : ℕ) (answer : DriverAnswer) → Lawful H → is_placed H ≡ true → place H c ≡ Closing → fits_of Shut answer ≡ true → is_memory answer ≡ false
+    → may_follow (journal H c) (shut_entry c (next_tenure H c) answer) ≡ true
+follows_shut H c answer l placed is fit heard =
+    let all = sound_journals H l in
+    let s = unshut H c l placed is in
+    may_follow-shut c (next_tenure H c) answer (journal H c) (all.beginnings c) s.plain (omega (arith, s.below)) fit heard
+
+-- and the journal is whole then
+pub whole_shut : (H : List Event) (c : ℕ) (answer : DriverAnswer) → Lawful H → is_placed H ≡ true → place H c ≡ Closing → fits_of Shut answer ≡ true → is_memory answer ≡ false
+    → is_whole (journal (Heard (shut_entry c (next_tenure H c) answer) ∷ H) c) ≡ true
+whole_shut H c answer l placed is fit heard =
+    let all = sound_journals H l in
+    let s = unshut H c l placed is in
+    rw (same_to_itself c) (is_whole-shut c (next_tenure H c) answer (journal H c) (all.beginnings c) s.plain (omega (arith, s.below)) fit heard)
+
+whole_heard : (e : Entry) (J : List Entry) (b : Bool) → IsWhole J → (b ≡ true → may_follow J e ≡ true) → IsWhole (cond b (e ∷ J) J)
+whole_heard e J false whole may = whole
+whole_heard e J true whole may =
+    let never : may_follow J e ≡ false = may_follow-whole J e whole in
+    let now : may_follow J e ≡ true = may refl in
+    absurd (cc)
+
+gone_facts : (H : List Event) (c : ℕ) → Allowed H (Pool (Gone c)) → IsWhole (journal H c)
+unfolding Allowed
+gone_facts H c a = a.journals
+
+fell_facts : (H : List Event) (c n : ℕ) → Allowed H (Pool (Fell c n)) → IsWhole (journal H c)
+unfolding Allowed
+fell_facts H c n a = a.journals
+
+left_here : (H : List Event) (d c : ℕ) (earlier : Bool) → (d == c) || earlier ≡ true → IsWhole (journal H d) → (earlier ≡ true → IsWhole (journal H c)) → IsWhole (journal H c)
+left_here H d c true h here before = before refl
+left_here H d c false h here before = let is : d ≡ c = grind (arith, nat_tests, h) in rw (← is) here
+
+-- the journal of a connection that left the four sets is whole, and stays so
+wholes : (H : List Event) → Lawful H → (c : ℕ) → has_left H c ≡ true → IsWhole (journal H c)
+wholes [] l c h = absurd cc
+wholes (Heard e ∷ H) l c h =
+    let a = heard_facts H e l.1 in
+    whole_heard e (journal H c) (e.conn == c) (wholes H l.0 c h) (λ same. rw (← same_number e.conn c same) a.may)
+wholes (Pool (Gone d) ∷ H) l c h = left_here H d c (has_left H c) h (gone_facts H d l.1) (wholes H l.0 c)
+wholes (Pool (Fell d n) ∷ H) l c h = left_here H d c (has_left H c) h (fell_facts H d n l.1) (wholes H l.0 c)
+wholes (Pool _ ∷ H) l c h = wholes H l.0 c h
+wholes (_ ∷ H) l c h = wholes H l.0 c h
+
+-- the journals of a lawful history are those of a legal one
+pub keeps_journals_of : (H : List Event) → Lawful H → KeepsJournals H
+keeps_journals_of H l =
+    let s = sound_journals H l in record { beginnings = s.beginnings; wholes = wholes H l }
