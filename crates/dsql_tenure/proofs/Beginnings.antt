@@ -8,7 +8,7 @@ use Rattle.dsql_tenure.specs.Kinds.{is_shut, is_connect}
 use Rattle.dsql_tenure.specs.Readers.{was_shut, was_refused}
 use Rattle.dsql_tenure.specs.Journal.{may_follow, is_journal_prefix, is_finished, IsJournalPrefix, IsWhole}
 use Rattle.dsql_tenure.specs.Facts.{MayFollow}
-use Rattle.dsql_tenure.proofs.Tests.{parts2, join2}
+use Rattle.dsql_tenure.proofs.Conjunctions.{parts2, join2}
 use Rattle.dsql_tenure.proofs.Sentences.{MayFollow-of, of-MayFollow}
 
 pub IsJournalPrefix-end : (later before : List Entry) → IsJournalPrefix (later ++ before) → IsJournalPrefix before

@@ -1,7 +1,8 @@
-pub mod Tests
+pub mod Conjunctions
 pub mod Sentences
 pub mod Beginnings
 pub mod Tenures
 pub mod Wholes
 pub mod Numbers
 pub mod Examples
+pub mod ExecJournals

@@ -12,7 +12,7 @@ use Rattle.dsql_tenure.specs.Kinds.{if_any, given_handle, given_cursor}
 use Rattle.dsql_tenure.specs.Readers.{is_empty, LiveHandle, LiveCursor, handles, handles_after, handles_named, cursors, cursors_after, cursors_named, changed, after_next}
 use Rattle.dsql_tenure.specs.Journal.{may_follow, is_journal_prefix, IsJournalPrefix}
 use Rattle.dsql_tenure.specs.Facts.{MayFollow}
-use Rattle.dsql_tenure.proofs.Tests.{parts2}
+use Rattle.dsql_tenure.proofs.Conjunctions.{parts2}
 use Rattle.dsql_tenure.proofs.Sentences.{MayFollow-of}
 
 -- how many pass the test

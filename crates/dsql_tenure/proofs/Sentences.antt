@@ -1,4 +1,4 @@
--- The test of an entry is true exactly where each sentence is a fact.
+-- The test of an entry is true exactly where each rule is a fact.
 use Rattle.std.proofs.Common.{◌≡◌, ◌≢◌, Bool, true, false, ◌==◌, ◌||◌, List, refl, eqb→eq}
 use native.Mathlib.Omega.{arith}
 use Rattle.std.proofs.lemmas.Bool.Decides.{nat_tests}
@@ -12,7 +12,7 @@ use Rattle.dsql_tenure.specs.HandlesAndCursors.{fetches_before_the_end, fits_at_
 use Rattle.dsql_tenure.specs.WholeJournal.{connects_first, follows_no_refusal, follows_no_shut, follows_whole_tenure, has_one_connection, has_rising_tenure, keeps_whole_journal, shuts_after_invalid, starts_with_tenure_one, stays_in_bad_tenure, tidies_nothing_bad}
 use Rattle.dsql_tenure.specs.Journal.{may_follow}
 use Rattle.dsql_tenure.specs.Facts.{KeepsCallBody, KeepsBody, KeepsTenure, KeepsTransaction, KeepsHandlesAndCursors, FitsAtItsPlace, KeepsWholeJournal, MayFollow}
-use Rattle.dsql_tenure.proofs.Tests.{if_so, so_if, join5, parts5, parts8, parts9, parts10}
+use Rattle.dsql_tenure.proofs.Conjunctions.{if_so, so_if, join5, parts5, parts8, parts9, parts10}
 
 KeepsCallBody-of : (before : List Entry) (e : Entry) → keeps_call_body before e ≡ true → KeepsCallBody before e
 KeepsCallBody-of before e h =

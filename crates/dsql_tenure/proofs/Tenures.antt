@@ -12,8 +12,8 @@ use Rattle.dsql_driver.specs.Fits.{fits_of, is_memory}
 use Rattle.dsql_tenure.specs.Readers.{of_tenure, last_tenure, is_empty, went_bad, went_invalid, bad_tenure, handles_named, cursors_named}
 use Rattle.dsql_tenure.specs.Journal.{may_follow, is_journal_prefix, IsJournalPrefix, IsWhole}
 use Rattle.dsql_tenure.specs.Facts.{MayFollow, MayShut}
-use Rattle.dsql_tenure.specs.Steps.{shut_entry}
-use Rattle.dsql_tenure.proofs.Tests.{parts2, join2}
+use Rattle.dsql_tenure.specs.Entries.{shut_entry}
+use Rattle.dsql_tenure.proofs.Conjunctions.{parts2, join2}
 use Rattle.dsql_tenure.proofs.Sentences.{MayFollow-of}
 use Rattle.dsql_tenure.proofs.Beginnings.{IsJournalPrefix-longer}
 

@@ -13,7 +13,7 @@ use Rattle.dsql_tenure.specs.Readers.{is_empty, has, of_tenure, last_tenure, Liv
 use Rattle.dsql_tenure.specs.Tenure.{has_ended_transactions, has_closed_cursors, has_closed_handles, is_whole_tenure}
 use Rattle.dsql_tenure.specs.Journal.{may_follow, is_journal_prefix, IsJournalPrefix}
 use Rattle.dsql_tenure.specs.Facts.{MayFollow}
-use Rattle.dsql_tenure.proofs.Tests.{parts2, join2, if_so}
+use Rattle.dsql_tenure.proofs.Conjunctions.{parts2, join2, if_so}
 use Rattle.dsql_tenure.proofs.Sentences.{MayFollow-of}
 use Rattle.dsql_tenure.proofs.Tenures.{of_tenure-new}
 

@@ -1,4 +1,4 @@
--- The sentences as facts: a record for each definition, a field for each sentence. What an engine owes at an entry, and has of each one.
+-- The rules as facts: a record for each set of them, a field for each rule. Who adds an entry to a journal owes them, and who reads it has them.
 use Rattle.std.specs.Prelude.{◌≢◌, ℕ, ◌<◌, IsTrue, IsFalse, List}
 use Rattle.dsql_tenure.specs.declared.entry.Entry.{Entry}
 use Rattle.dsql_tenure.specs.declared.entry.Owner.{Owner}
@@ -87,7 +87,7 @@ pub record KeepsWholeJournal (before : List Entry) (e : Entry) : Type 0 where
   pub in_bad_tenure : IsTrue (whole.stays_in_bad_tenure before e)
   pub shut_when_invalid : IsTrue (whole.shuts_after_invalid before e)
 
--- the entry may come next, definition by definition
+-- the entry may come next
 pub record MayFollow (before : List Entry) (e : Entry) : Type 0 where
   pub whole_journal : KeepsWholeJournal before e
   pub tenure : KeepsTenure before e

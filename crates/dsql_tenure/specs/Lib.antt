@@ -7,8 +7,9 @@ pub mod HandlesAndCursors
 pub mod WholeJournal
 pub mod Journal
 pub mod Facts
-pub mod Steps
+pub mod Entries
 pub mod Samples
 pub mod Accepted
 pub mod RefusedShapes
 pub mod RefusedUses
+pub mod ExecJournals

@@ -1,4 +1,4 @@
--- Damaged journals: each has an entry that is refused, with a sentence that it breaks.
+-- Damaged journals: each has an entry that is refused, with a rule that it breaks.
 use Rattle.std.specs.Prelude.{[], ◌∷◌}
 use Rattle.dsql_tenure.specs.declared.entry.Owner.TheVariants.{Call, Tx, Pin, House}
 use Rattle.dsql_driver.specs.declared.call.DriverCall.TheVariants.{Reset, Valid, Ping, CloseStmt, Next, Commit, Rollback}

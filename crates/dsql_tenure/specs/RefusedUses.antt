@@ -1,4 +1,4 @@
--- Damaged journals, of handles, cursors and answers, and of the order of tenures: each has an entry that is refused, with a sentence that it breaks.
+-- Damaged journals, of handles, cursors and answers, and of the order of tenures: each has an entry that is refused, with a rule that it breaks.
 use Rattle.std.specs.Prelude.{negsuc, List, [], ◌∷◌}
 use Rattle.dsql_tenure.specs.declared.entry.Entry.{Entry}
 use Rattle.dsql_tenure.specs.declared.entry.Owner.TheVariants.{Pin}

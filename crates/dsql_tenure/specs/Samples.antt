@@ -75,9 +75,9 @@ in_pin call_no tx call answer = heard 2 (Pin 1) call_no tx call answer
 abbrev pub after : List Entry → List Entry
 after entries = reverse (house 1 Connect Done ∷ entries)
 
--- what stands before is a beginning of a whole journal; with the entry it is none, since this sentence is broken
+-- what stands before is a beginning of a whole journal; with the entry it is none, since this rule is broken
 abbrev pub Refuses : List Entry → Entry → (List Entry → Entry → Bool) → Type 0
-Refuses before e sentence = (is_journal_prefix before ≡ true) × (may_follow before e ≡ false) × (sentence before e ≡ false)
+Refuses before e rule = (is_journal_prefix before ≡ true) × (may_follow before e ≡ false) × (rule before e ≡ false)
 
 -- what stands before is a beginning of a whole journal, and with the entry it is one too
 abbrev pub Accepts : List Entry → Entry → Type 0

@@ -1,4 +1,4 @@
--- A whole journal, sentence by sentence, as conditions on its next entry.
+-- The order of a whole journal: one condition for each rule, asked of the entry e that comes next, over what stands before it.
 use Rattle.std.specs.Prelude.{Bool, ◌&&◌, ◌||◌, not, ◌==◌, nat_lt, nat_le, List, if◌then◌else◌}
 use Rattle.std.specs.List.{list_all}
 use Rattle.dsql_tenure.specs.declared.entry.Entry.{Entry}
@@ -6,45 +6,45 @@ use Rattle.dsql_tenure.specs.Kinds.{◌⇒◌, if_any, is_connect, is_reset, is_
 use Rattle.dsql_tenure.specs.Readers.{is_empty, last_tenure, bad_tenure, went_bad, went_invalid, was_refused, was_shut}
 use Rattle.dsql_tenure.specs.Tenure.{is_whole_tenure}
 
--- It is the journal of one connection.
+-- All entries are of the same connection.
 abbrev pub has_one_connection : List Entry → Entry → Bool
 has_one_connection before e = list_all (λ x. x.conn == e.conn) before
 
--- Either one Connect answered Bad or Fail; ..
+-- A Connect answered Bad or Fail is all that there is.
 abbrev pub follows_no_refusal : List Entry → Bool
 follows_no_refusal before = not (was_refused before)
 
--- .. or Connect answered Done, then whole tenures: the last one is whole where another begins.
+-- A tenure is whole before another one begins.
 abbrev pub follows_whole_tenure : List Entry → Entry → Bool
 follows_whole_tenure before e =
     nat_lt (last_tenure before) e.tenure ⇒ is_whole_tenure (last_tenure before) before
 
--- Connect stands only first, ..
+-- Connect is the first entry, and only the first.
 abbrev pub connects_first : List Entry → Entry → Bool
 connects_first before e = if is_empty before then is_connect e.call else not (is_connect e.call)
 
--- .. Shut only last.
+-- Nothing comes after Shut.
 abbrev pub follows_no_shut : List Entry → Bool
 follows_no_shut before = not (was_shut before)
 
--- Tenure numbers rise, ..
+-- Tenures are numbered upward.
 abbrev pub has_rising_tenure : List Entry → Entry → Bool
 has_rising_tenure before e = nat_le (last_tenure before) e.tenure
 
--- .. the first is 1.
+-- The first tenure has number 1.
 abbrev pub starts_with_tenure_one : List Entry → Entry → Bool
 starts_with_tenure_one before e = is_empty before ⇒ e.tenure == 1
 
--- After the first Bad answer there is no Reset, Valid, CloseStmt or CloseRows, ..
+-- After a Bad answer the connection isn't tidied or tested: no Reset, Valid, CloseStmt or CloseRows.
 abbrev pub tidies_nothing_bad : List Entry → Entry → Bool
 tidies_nothing_bad before e =
     went_bad before ⇒ not (is_reset e.call || is_valid e.call || is_close_stmt e.call || is_close_rows e.call)
 
--- .. and no later tenure but Shut's.
+-- After a Bad answer no further tenure begins but that of Shut.
 abbrev pub stays_in_bad_tenure : List Entry → Entry → Bool
 stays_in_bad_tenure before e = if_any (bad_tenure before) (λ n. e.tenure == n || is_shut e.call)
 
--- After a Valid answered Invalid only Shut follows.
+-- After a Valid answered Invalid there is only Shut.
 abbrev pub shuts_after_invalid : List Entry → Entry → Bool
 shuts_after_invalid before e = went_invalid before ⇒ is_shut e.call
 

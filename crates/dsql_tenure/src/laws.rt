@@ -10,10 +10,10 @@ ghost use Rattle.dsql_tenure.specs.declared.entry.Entry.{Entry};
 ghost use Rattle.dsql_tenure.specs.Facts.{MayFollow, MayShut};
 ghost use Rattle.dsql_tenure.specs.Journal.{may_follow, is_finished, IsJournalPrefix, IsWhole};
 ghost use Rattle.dsql_tenure.specs.Readers.{is_empty, of_tenure, last_tenure, handles_named, cursors_named};
-ghost use Rattle.dsql_tenure.specs.Steps.{shut_entry};
+ghost use Rattle.dsql_tenure.specs.Entries.{shut_entry};
 ghost use Rattle.dsql_tenure.specs.Tenure.{is_whole_tenure};
 
-/// The test of an entry is true exactly where each sentence holds of it.
+/// The test of an entry is true exactly where each rule holds of it.
 pub fn sentences_are_the_test()
     ensures { (before : List Entry) (e : Entry) → IsTrue (may_follow before e) ↔ MayFollow before e }
 {}

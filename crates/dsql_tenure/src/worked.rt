@@ -4,8 +4,8 @@ ghost use Rattle.dsql_tenure.specs.Accepted.{WholeSamples};
 ghost use Rattle.dsql_tenure.specs.RefusedShapes.{RefusedInTenure, RefusedInTransaction};
 ghost use Rattle.dsql_tenure.specs.RefusedUses.{RefusedInHandles, RefusedInWhole};
 
-/// Worked journals are whole, and damaged ones are refused, each at the entry and by the sentence that
-/// it breaks.
+/// Worked journals are whole, and damaged ones are refused, each at the entry that breaks a rule, and by
+/// that rule.
 pub fn worked_journals()
     ensures whole { WholeSamples }
     ensures tenure { RefusedInTenure }
