@@ -1,5 +1,5 @@
 -- The driver call that is to be heard next on a connection, and the layer's own call that comes first.
-use Rattle.std.specs.Prelude.{ℕ, List, [], Option, Some, None, option_map, find}
+use Rattle.std.specs.Prelude.{ℕ, List, Option, Some, None, option_map}
 use Rattle.dsql_driver.specs.declared.call.DriverCall.{DriverCall}
 use Rattle.dsql_driver.specs.declared.call.DriverCall.TheVariants.{Connect, Shut}
 use Rattle.dsql_tenure.specs.declared.entry.Entry.{Entry}

@@ -1,10 +1,9 @@
 -- The events of one step, in their order. A history is newest first, so the last event of a step stands leftmost.
-use Rattle.std.specs.Prelude.{ℕ, ◌==◌, nat_lt, Bool, true, false, cond, List, [], ◌∷◌, Option, Some, None, find}
+use Rattle.std.specs.Prelude.{ℕ, ◌==◌, nat_lt, cond, List, [], ◌∷◌, Option, Some, None, find}
 use Rattle.dsql_driver.specs.declared.call.DriverCall.{DriverCall}
 use Rattle.dsql_driver.specs.Fits.{is_done}
 use Rattle.dsql_tenure.specs.declared.entry.Entry.{Entry}
 use Rattle.dsql_tenure.specs.declared.entry.Owner.TheVariants.{Call}
-use Rattle.dsql_tenure.specs.Readers.{is_empty}
 use Rattle.dsql_history.specs.declared.event.Event.{Event}
 use Rattle.dsql_history.specs.declared.event.Event.TheVariants.{Entered, Heard, Pool, Replied, Ended}
 use Rattle.dsql_history.specs.declared.event.Move.TheVariants.{OpenStart, Lend, Back, CloseStart, Gone, Fell}
@@ -22,7 +21,7 @@ use Rattle.dsql_history.specs.Rules.Limit.{room}
 use Rattle.dsql_history.specs.Rules.Line.{due}
 
 -- the latest idle connection is lent to the call; else one begins to be opened, where one more may be; else the call is refused
-abbrev pub after_ask : List Event → ℕ → List Event → List Event
+abbrev pub after_ask : List Event → ℕ → List ℕ → List Event
 after_ask past n (c ∷ others) = Pool (Lend (last (c ∷ others)) (next_tenure past (last (c ∷ others))) (Call n) n) ∷ past
 after_ask past n [] = cond (nat_lt (open_count past) room) (Pool (OpenStart (next_number past) n) ∷ past) (Replied n TooMany ∷ past)
 

@@ -1,11 +1,10 @@
 -- What each step answers.
-use Rattle.std.specs.Prelude.{ℕ, ◌≡◌, nat_lt, Bool, true, false, MatchBool, List, [], ◌∷◌, Option, Some, None}
+use Rattle.std.specs.Prelude.{ℕ, ◌≡◌, nat_lt, Bool, true, false, List, [], ◌∷◌, Option, Some, None}
 use Rattle.dsql_tenure.specs.declared.entry.Entry.{Entry}
-use Rattle.dsql_tenure.specs.declared.entry.Permit.{Permit}
 use Rattle.dsql_tenure.specs.declared.entry.Owner.TheVariants.{Call}
 use Rattle.dsql_driver.specs.declared.call.DriverCall.{DriverCall}
 use Rattle.dsql_history.specs.declared.event.Event.{Event}
-use Rattle.dsql_history.specs.declared.event.Event.TheVariants.{Entered, Heard}
+use Rattle.dsql_history.specs.declared.event.Event.TheVariants.{Heard}
 use Rattle.dsql_history.specs.declared.event.Op.{Op}
 use Rattle.dsql_history.specs.declared.record.Place.{Place}
 use Rattle.dsql_history.specs.declared.record.Place.TheVariants.{Opening, Lent}
@@ -18,7 +17,7 @@ use Rattle.dsql_engine.specs.declared.next.Next.{Next}
 use Rattle.dsql_engine.specs.declared.next.Next.TheVariants.{Send, Blocked, Reply, Quiet}
 use Rattle.dsql_engine.specs.declared.next.Why.TheVariants as why
 use Rattle.dsql_engine.specs.Awaited.{awaited, chore_due}
-use Rattle.dsql_engine.specs.Groups.{after_wake, told}
+use Rattle.dsql_engine.specs.Groups.{told}
 
 -- it sends what connection c awaits
 abbrev pub SendsOn : ℕ → List Event → Next → Type 0

@@ -34,7 +34,7 @@ impl Model for Engine {
 impl Engine {
     ghost use Rattle.dsql_engine.specs.Awaited.{awaited, chore_due, permit_of};
     ghost use Rattle.dsql_engine.specs.Groups.{after_enter, after_heard, after_wake, after_end, call_of, most_events};
-    ghost use Rattle.dsql_engine.specs.Steps.{SendsAfter, NextAfterEnter, NextAfterHeard, NextAfterWake, IsChore};
+    ghost use Rattle.dsql_engine.specs.Steps.{NextAfterEnter, NextAfterHeard, NextAfterWake, IsChore};
 
     /// An engine whose run has begun, over a driver that can do this.
     pub fn new(alloc: Global, version: u8, caps: Caps) -> Result<Engine, NoRoom>
