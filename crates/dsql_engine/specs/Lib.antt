@@ -1,3 +1,4 @@
+pub mod Desk
 pub mod Awaited
 pub mod Groups
 pub mod Steps

@@ -2,8 +2,10 @@
 //! history of all that happened, which is legal after every call.
 #![tactic(auto)]
 
+mod desk;
 mod engine;
 mod next;
+mod room;
 
 pub use engine::Engine;
 pub use next::{Next, NoRoom, Why};
