@@ -20,15 +20,6 @@ use Rattle.dsql_history.specs.Rules.Causes.{cause}
 use Rattle.dsql_history.specs.Rules.Limit.{room}
 use Rattle.dsql_history.specs.Rules.Line.{due}
 
--- the latest idle connection is lent to the call; else one begins to be opened, where one more may be; else the call is refused
-abbrev pub after_ask : List Event → ℕ → List ℕ → List Event
-after_ask past n (c ∷ others) = Pool (Lend (last (c ∷ others)) (next_tenure past (last (c ∷ others))) (Call n) n) ∷ past
-after_ask past n [] = cond (nat_lt (open_count past) room) (Pool (OpenStart (next_number past) n) ∷ past) (Replied n TooMany ∷ past)
-
--- a call enters and asks
-abbrev pub after_enter : List Event → ℕ → Op → List Event
-after_enter past client op = after_ask (Entered client (next_call past) op ∷ past) (next_call past) (idle past)
-
 -- a lent connection is given back, or closes
 abbrev pub leaving : ℕ → Option CloseCause → Event
 leaving c None = Pool (Back c)
@@ -43,9 +34,27 @@ abbrev pub after_body : ℕ → ℕ → List Event → Option DriverCall → Lis
 after_body c n past (Some call) = past
 after_body c n past None = told n (leaving c (cause past c) ∷ past)
 
+-- connection c is lent to call n
+abbrev pub lent_to : List Event → ℕ → ℕ → List Event
+lent_to past c n = Pool (Lend c (next_tenure past c) (Call n) n) ∷ past
+
+-- a connection that was just lent to call n, in this tenure, is used
+abbrev pub after_lending : ℕ → ℕ → ℕ → List Event → List Event
+after_lending c tenure n past = after_body c n past (due past c tenure n)
+
+-- the latest idle connection is lent to the call; else one begins to be opened, where one more may be; else the call is refused
+abbrev pub after_ask : List Event → ℕ → List ℕ → List Event
+after_ask past n (c ∷ others) =
+    after_lending (last (c ∷ others)) (next_tenure past (last (c ∷ others))) n (lent_to past (last (c ∷ others)) n)
+after_ask past n [] = cond (nat_lt (open_count past) room) (Pool (OpenStart (next_number past) n) ∷ past) (Replied n TooMany ∷ past)
+
+-- a call enters and asks
+abbrev pub after_enter : List Event → ℕ → Op → List Event
+after_enter past client op = after_ask (Entered client (next_call past) op ∷ past) (next_call past) (idle past)
+
 abbrev pub after_answer : Place → Entry → List Event → List Event
 after_answer (Opening n) e past =
-    cond (is_done e.answer) (Pool (Lend e.conn (next_tenure past e.conn) (Call n) n) ∷ past) (Pool (Fell e.conn n) ∷ past)
+    cond (is_done e.answer) (lent_to past e.conn n) (Pool (Fell e.conn n) ∷ past)
 after_answer (Lent tenure (Call n)) e past = after_body e.conn n past (due past e.conn tenure n)
 after_answer Closing e past = Pool (Gone e.conn) ∷ past
 after_answer _ e past = past
@@ -60,10 +69,10 @@ call_of past client = find (λ n. (call_record past n).client == client) (unfini
 
 abbrev pub after_wake_at : Place → ℕ → List Event → List Event
 after_wake_at (Opening m) n past = past
-after_wake_at (Lent tenure owner) n past = past
+after_wake_at (Lent tenure owner) n past = after_lending (home past n) tenure n past
 after_wake_at _ n past = told n past
 
--- a call that waited looks at its connection: it replies where that was refused
+-- a call that waited looks at its connection: it uses one that was lent to it, and replies where it was refused
 abbrev pub after_wake : List Event → ℕ → List Event
 after_wake past n = after_wake_at (place past (home past n)) n past
 

@@ -1,3 +1,4 @@
+pub mod Told
 pub mod Desk
 pub mod Awaited
 pub mod Groups

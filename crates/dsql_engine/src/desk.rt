@@ -7,7 +7,7 @@ ghost use Rattle.dsql_history.specs.declared.reply.Reply.{Reply};
 ghost use Rattle.dsql_tenure.specs.declared.entry.Owner.TheVariants.{Call};
 ghost use Rattle.dsql_engine.specs.Desk.{past, Stands};
 
-use crate::room::{count_up, move_to, note, put, set_decided, set_home, take_out, tell};
+use crate::room::{count_up, move_to, note, put, set_decided, set_home, take_out, tell_entry};
 use dsql_driver::{Caps, DriverAnswer};
 use dsql_history::{CallRecord, CloseCause, Event, Move, Op, Place, Reply};
 use dsql_tenure::{Entry, Owner};
@@ -102,10 +102,7 @@ impl Desk {
         ensures event { past self.new ≡ Event.Heard entry ∷ past self.old }
     {
         self.paid -= 1;
-        let n = entry.call_no;
-        if n != 0 {
-            tell(&mut self.calls, n, &entry.call, copy);
-        }
+        tell_entry(&mut self.calls, &entry, copy);
         note(&mut self.history, Event::Heard(entry));
     }
 

@@ -3,9 +3,11 @@ ghost use Rattle.std.specs.Prelude.{◌≡◌, ◌+◌, ◌<◌, ◌≤◌, ◌^
 ghost use Rattle.dsql_history.specs.Readers.Lists.{without};
 ghost use Rattle.dsql_history.specs.Readers.Sets.{one_more};
 ghost use Rattle.dsql_history.specs.Readers.Calls.{with_record, decision, reply_to};
+ghost use Rattle.dsql_engine.specs.Told.{told_entry};
 
 use dsql_driver::{DriverAnswer, DriverCall};
 use dsql_history::{CallRecord, Event, Place, Reply};
+use dsql_tenure::Entry;
 
 /// Adds an element where there is room.
 pub fn put<T: Drop>(v: &mut Vec<T>, x: T)
@@ -112,4 +114,16 @@ pub fn tell(calls: &mut Vec<CallRecord>, n: u32, call: &DriverCall, answer: Driv
         }
         _ => {}
     }
+}
+
+/// Tells the call of an entry what it was answered; the copy is of the entry's answer.
+pub fn tell_entry(calls: &mut Vec<CallRecord>, entry: &Entry, copy: DriverAnswer)
+    ensures items { calls.new.items ≡ told_entry entry.now.call_no entry.now.call copy calls.old.items }
+    ensures len { vec_len calls.new ≡ vec_len calls.old }
+    ensures capacity { vec_capacity calls.new ≡ vec_capacity calls.old }
+{
+    if entry.call_no == 0 {
+        return;
+    }
+    tell(calls, entry.call_no, &entry.call, copy);
 }
