@@ -1,5 +1,5 @@
 -- What a call is replied, and when.
-use Rattle.std.specs.Prelude.{ℕ, ◌==◌, nat_le, Bool, true, false, not, ◌&&◌, List, bytes_eq}
+use Rattle.std.specs.Prelude.{ℕ, ◌==◌, nat_le, Bool, true, false, not, ◌&&◌, ◌||◌, List, bytes_eq}
 use Rattle.std.specs.Ordering.{int_eq}
 use Rattle.dsql_tenure.specs.Readers.{is_empty}
 use Rattle.dsql_history.specs.declared.event.Event.{Event}
@@ -26,13 +26,13 @@ abbrev pub is_told : List Event → ℕ → Reply → Bool
 is_told before n reply = not (home before n == 0) && same_reply (reply_due before n) reply
 
 -- it asked in vain: none is idle, and as many are open as may be at all
-abbrev pub is_told_too_many : List Event → ℕ → Bool
-is_told_too_many before n = (home before n == 0) && is_empty (idle before) && nat_le room (open_count before)
+abbrev pub is_told_too_many : List Event → ℕ → Reply → Bool
+is_told_too_many before n TooMany = (home before n == 0) && is_empty (idle before) && nat_le room (open_count before)
+is_told_too_many before n _ = false
 
 -- the reply has its cause
 abbrev pub has_cause : List Event → ℕ → Reply → Bool
-has_cause before n TooMany = is_told_too_many before n
-has_cause before n reply = is_told before n reply
+has_cause before n reply = is_told before n reply || is_told_too_many before n reply
 
 abbrev pub keeps_replies : List Event → Event → Bool
 keeps_replies before (Replied n reply) = has_let_go before n && has_cause before n reply

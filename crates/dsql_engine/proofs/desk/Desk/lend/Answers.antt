@@ -1,0 +1,19 @@
+use Rattle.std.proofs.Common.{arith, ◌≡◌, ◌≤◌, ◌<◌, ◌+◌, ℕ, List, length, slice_index_or}
+use Rattle.dsql_history.specs.Readers.Sets.{lends, uses, all_lends, all_uses}
+use Rattle.dsql_history.proofs.SoundSets.{sound_sets}
+use Rattle.dsql_engine.specs.Desk.{past, Stands, lawful_of}
+use Rattle.dsql_engine.proofs.desk.Desk.lend.Goals as goal
+
+pub count_up-requires : goal.count_up-requires
+unfolding Stands
+count_up-requires c =
+    let s = sound_sets (past c.args.self.now) (lawful_of _ c.requires.stands) in
+    let few : lends (past c.args.self.now) c.args.c ≤ length (past c.args.self.now) = s.few_lends c.args.c in
+    rw c.requires.stands.lends (omega (arith, few, c.requires.few))
+
+pub count_up-requires-2 : goal.count_up-requires-2
+unfolding Stands
+count_up-requires-2 c =
+    let s = sound_sets (past c.args.self.now) (lawful_of _ c.requires.stands) in
+    let few : uses (past c.args.self.now) c.args.c ≤ length (past c.args.self.now) = s.few_uses c.args.c in
+    rw c.requires.stands.uses (omega (arith, few, c.requires.few))

@@ -1,0 +1,50 @@
+-- The tables of the present, each against what the history tells.
+use Rattle.std.specs.Prelude.{ℕ, ◌≡◌, ◌+◌, ◌≤◌, ◌<◌, true, List, ◌∷◌, length, reverse, vec_len, vec_capacity}
+use Rattle.dsql_history.specs.declared.event.Event.{Event}
+use Rattle.dsql_history.specs.declared.record.Place.{Place}
+use Rattle.dsql_history.specs.declared.record.CallRecord.{CallRecord}
+use Rattle.dsql_history.specs.Readers.Course as course
+use Rattle.dsql_history.specs.Readers.Sets as sets
+use Rattle.dsql_history.specs.Readers.Calls as told
+use Rattle.dsql_history.specs.Legal.{Lawful, Calm}
+use Rattle.dsql_history.specs.Rules.Settled.{Settled}
+use Rattle.dsql_engine.specs.declared.desk.Desk.{Desk}
+
+-- the events so far, the newest first
+abbrev pub past : Desk → List Event
+past d = reverse d.history.items
+
+-- each table has room for as many events as were paid for
+pub record HasRoom (d : Desk) : Type 0 where
+  pub history : vec_len d.history + d.paid ≤ vec_capacity d.history
+  pub places : vec_len d.places + d.paid ≤ vec_capacity d.places
+  pub lends : vec_len d.lends + d.paid ≤ vec_capacity d.lends
+  pub uses : vec_len d.uses + d.paid ≤ vec_capacity d.uses
+  pub idle : vec_len d.idle + d.paid ≤ vec_capacity d.idle
+  pub calls : vec_len d.calls + d.paid ≤ vec_capacity d.calls
+  pub unfinished : vec_len d.unfinished + d.paid ≤ vec_capacity d.unfinished
+
+pub record Tables (d : Desk) : Type 0 where
+  pub lawful : Lawful (past d)
+  pub calm : Calm (past d)
+  pub caps : d.caps ≡ course.caps (past d)
+  pub ended : d.ended ≡ course.has_ended (past d)
+  pub places : d.places.items ≡ sets.places (past d)
+  pub lends : d.lends.items ≡ sets.all_lends (past d)
+  pub uses : d.uses.items ≡ sets.all_uses (past d)
+  pub idle : d.idle.items ≡ sets.idle (past d)
+  pub calls : d.calls.items ≡ told.calls (past d)
+  pub unfinished : d.unfinished.items ≡ told.unfinished (past d)
+  pub room : HasRoom d
+
+-- what a step carries from one event to the next, and doesn't look into
+unfoldable pub Stands : Desk → Type 0
+Stands d = Tables d
+
+pub lawful_of : (d : Desk) → Stands d → Lawful (past d)
+unfolding Stands
+lawful_of d s = s.lawful
+
+pub calm_of : (d : Desk) → Stands d → Calm (past d)
+unfolding Stands
+calm_of d s = s.calm

@@ -1,0 +1,90 @@
+-- The events of one step, in their order. A history is newest first, so the last event of a step stands leftmost.
+use Rattle.std.specs.Prelude.{ℕ, ◌==◌, nat_lt, cond, List, [], ◌∷◌, Option, Some, None, find}
+use Rattle.dsql_driver.specs.declared.call.DriverCall.{DriverCall}
+use Rattle.dsql_driver.specs.Fits.{is_done}
+use Rattle.dsql_tenure.specs.declared.entry.Entry.{Entry}
+use Rattle.dsql_tenure.specs.declared.entry.Owner.TheVariants.{Call}
+use Rattle.dsql_history.specs.declared.event.Event.{Event}
+use Rattle.dsql_history.specs.declared.event.Event.TheVariants.{Entered, Heard, Pool, Replied, Ended}
+use Rattle.dsql_history.specs.declared.event.Move.TheVariants.{OpenStart, Lend, Back, CloseStart, Gone, Fell}
+use Rattle.dsql_history.specs.declared.event.Op.{Op}
+use Rattle.dsql_history.specs.declared.event.CloseCause.{CloseCause}
+use Rattle.dsql_history.specs.declared.event.CloseCause.TheVariants.{DbClosed}
+use Rattle.dsql_history.specs.declared.record.Place.{Place}
+use Rattle.dsql_history.specs.declared.record.Place.TheVariants.{Opening, Lent, Closing}
+use Rattle.dsql_history.specs.declared.reply.Reply.TheVariants.{TooMany}
+use Rattle.dsql_history.specs.Readers.Lists.{last}
+use Rattle.dsql_history.specs.Readers.Sets.{place, idle, next_number, next_tenure, open_count}
+use Rattle.dsql_history.specs.Readers.Calls.{call_record, home, next_call, unfinished, reply_due}
+use Rattle.dsql_history.specs.Rules.Causes.{cause}
+use Rattle.dsql_history.specs.Rules.Limit.{room}
+use Rattle.dsql_history.specs.Rules.Line.{due}
+
+-- a lent connection is given back, or closes
+abbrev pub leaving : ℕ → Option CloseCause → Event
+leaving c None = Pool (Back c)
+leaving c (Some why) = Pool (CloseStart c why)
+
+-- the call replies what it is due
+abbrev pub told : ℕ → List Event → List Event
+told n past = Replied n (reply_due past n) ∷ past
+
+-- where nothing is due any more, the connection leaves and the call replies
+abbrev pub after_body : ℕ → ℕ → List Event → Option DriverCall → List Event
+after_body c n past (Some call) = past
+after_body c n past None = told n (leaving c (cause past c) ∷ past)
+
+-- connection c is lent to call n
+abbrev pub lent_to : List Event → ℕ → ℕ → List Event
+lent_to past c n = Pool (Lend c (next_tenure past c) (Call n) n) ∷ past
+
+-- a connection that was just lent to call n, in this tenure, is used
+abbrev pub after_lending : ℕ → ℕ → ℕ → List Event → List Event
+after_lending c tenure n past = after_body c n past (due past c tenure n)
+
+-- the latest idle connection is lent to the call; else one begins to be opened, where one more may be; else the call is refused
+abbrev pub after_ask : List Event → ℕ → List ℕ → List Event
+after_ask past n (c ∷ others) =
+    after_lending (last (c ∷ others)) (next_tenure past (last (c ∷ others))) n (lent_to past (last (c ∷ others)) n)
+after_ask past n [] = cond (nat_lt (open_count past) room) (Pool (OpenStart (next_number past) n) ∷ past) (Replied n TooMany ∷ past)
+
+-- a call enters and asks
+abbrev pub after_enter : List Event → ℕ → Op → List Event
+after_enter past client op = after_ask (Entered client (next_call past) op ∷ past) (next_call past) (idle past)
+
+abbrev pub after_answer : Place → Entry → List Event → List Event
+after_answer (Opening n) e past =
+    cond (is_done e.answer) (lent_to past e.conn n) (Pool (Fell e.conn n) ∷ past)
+after_answer (Lent tenure (Call n)) e past = after_body e.conn n past (due past e.conn tenure n)
+after_answer Closing e past = Pool (Gone e.conn) ∷ past
+after_answer _ e past = past
+
+-- a driver's answer is heard
+abbrev pub after_heard : List Event → Entry → List Event
+after_heard past e = after_answer (place past e.conn) e (Heard e ∷ past)
+
+-- the unfinished call of a client
+abbrev pub call_of : List Event → ℕ → Option ℕ
+call_of past client = find (λ n. (call_record past n).client == client) (unfinished past)
+
+abbrev pub after_wake_at : Place → ℕ → List Event → List Event
+after_wake_at (Opening m) n past = past
+after_wake_at (Lent tenure owner) n past = after_lending (home past n) tenure n past
+after_wake_at _ n past = told n past
+
+-- a call that waited looks at its connection: it uses one that was lent to it, and replies where it was refused
+abbrev pub after_wake : List Event → ℕ → List Event
+after_wake past n = after_wake_at (place past (home past n)) n past
+
+-- the idle connections begin to close, in this order
+abbrev pub closings : List ℕ → List Event → List Event
+closings [] past = past
+closings (c ∷ cs) past = closings cs (Pool (CloseStart c DbClosed) ∷ past)
+
+-- the run ends
+abbrev pub after_end : List Event → List Event
+after_end past = closings (idle past) (Ended ∷ past)
+
+-- a run stops at so many events
+abbrev pub most_events : ℕ
+most_events = 4000000

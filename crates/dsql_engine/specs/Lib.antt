@@ -1,0 +1,5 @@
+pub mod Told
+pub mod Desk
+pub mod Awaited
+pub mod Groups
+pub mod Steps

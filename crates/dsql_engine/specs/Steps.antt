@@ -1,0 +1,63 @@
+-- What each step answers.
+use Rattle.std.specs.Prelude.{ℕ, ◌≡◌, nat_lt, Bool, true, false, List, [], ◌∷◌, Option, Some, None}
+use Rattle.dsql_tenure.specs.declared.entry.Entry.{Entry}
+use Rattle.dsql_tenure.specs.declared.entry.Owner.TheVariants.{Call}
+use Rattle.dsql_driver.specs.declared.call.DriverCall.{DriverCall}
+use Rattle.dsql_history.specs.declared.event.Event.{Event}
+use Rattle.dsql_history.specs.declared.event.Event.TheVariants.{Entered, Heard}
+use Rattle.dsql_history.specs.declared.event.Op.{Op}
+use Rattle.dsql_history.specs.declared.record.Place.{Place}
+use Rattle.dsql_history.specs.declared.record.Place.TheVariants.{Opening, Lent}
+use Rattle.dsql_history.specs.Readers.Lists.{last}
+use Rattle.dsql_history.specs.Readers.Sets.{place, idle, open_count, next_tenure}
+use Rattle.dsql_history.specs.Readers.Calls.{home, next_call}
+use Rattle.dsql_history.specs.Rules.Limit.{room}
+use Rattle.dsql_history.specs.Rules.Line.{due}
+use Rattle.dsql_engine.specs.declared.next.Next.{Next}
+use Rattle.dsql_engine.specs.declared.next.Next.TheVariants.{Send, Blocked, Reply, Quiet}
+use Rattle.dsql_engine.specs.declared.next.Why.TheVariants as why
+use Rattle.dsql_engine.specs.Awaited.{awaited, chore_due}
+use Rattle.dsql_engine.specs.Groups.{after_lending, lent_to, told}
+
+-- it sends what connection c awaits
+abbrev pub SendsOn : ℕ → List Event → Next → Type 0
+SendsOn c now (Send permit) = awaited now c ≡ Some permit
+SendsOn c now _ = ⊥
+
+abbrev pub NextOfBody : ℕ → ℕ → Option DriverCall → Next → List Event → Type 0
+NextOfBody c n (Some call) next now = SendsOn c now next
+NextOfBody c n None next now = next ≡ Reply n
+
+-- it uses the connection that was lent, is blocked while one is opened, or is refused
+abbrev pub NextAfterAsk : List Event → ℕ → List ℕ → Bool → Next → List Event → Type 0
+NextAfterAsk past n (c ∷ others) may_open next now =
+    NextOfBody (last (c ∷ others)) n (due (lent_to past (last (c ∷ others)) n) (last (c ∷ others)) (next_tenure past (last (c ∷ others))) n) next now
+NextAfterAsk past n [] true next now = next ≡ Blocked why.Opening
+NextAfterAsk past n [] false next now = next ≡ Reply n
+
+abbrev pub NextAfterEnter : List Event → ℕ → Op → Next → List Event → Type 0
+NextAfterEnter past client op next now =
+    NextAfterAsk (Entered client (next_call past) op ∷ past) (next_call past) (idle past) (nat_lt (open_count past) room) next now
+
+-- a call's answer leads to its next driver call or to its reply; the layer's own calls lead to nothing by themselves
+abbrev pub NextAfterAnswer : Place → Entry → List Event → Next → List Event → Type 0
+NextAfterAnswer (Lent tenure (Call n)) e heard next now = NextOfBody e.conn n (due heard e.conn tenure n) next now
+NextAfterAnswer _ e heard next now = next ≡ Quiet
+
+abbrev pub NextAfterHeard : List Event → Entry → Next → List Event → Type 0
+NextAfterHeard past e next now = NextAfterAnswer (place past e.conn) e (Heard e ∷ past) next now
+
+abbrev pub NextOfWake : Place → ℕ → ℕ → List Event → Next → List Event → Type 0
+NextOfWake (Opening m) c n past next now = (now ≡ past) × (next ≡ Blocked why.Opening)
+NextOfWake (Lent tenure owner) c n past next now = (now ≡ after_lending c tenure n past) × NextOfBody c n (due past c tenure n) next now
+NextOfWake _ c n past next now = (now ≡ told n past) × (next ≡ Reply n)
+
+-- what becomes of call n as it is woken
+abbrev pub NextAfterWake : List Event → Option ℕ → Next → List Event → Type 0
+NextAfterWake past (Some n) next now = NextOfWake (place past (home past n)) (home past n) n past next now
+NextAfterWake past None next now = ⊥
+
+-- the layer's own call that comes first, which its connection awaits, or none
+abbrev pub IsChore : List Event → Next → Type 0
+IsChore past (Send permit) = (chore_due past ≡ Some permit) × (awaited past permit.conn ≡ Some permit)
+IsChore past next = (next ≡ Quiet) × (chore_due past ≡ None)

@@ -1,0 +1,198 @@
+ghost use Rattle.std.specs.Prelude.{◌≡◌, ◌+◌, ◌^◌, ◌<◌, ◌≤◌, ◌∷◌, ◌++◌, [], length, vec_len, vec_capacity};
+ghost use Rattle.dsql_history.specs.Legal.{Allowed};
+ghost use Rattle.dsql_history.specs.Rules.Settled.{Settled};
+ghost use Rattle.dsql_history.specs.Readers.Calls.{statement, refusal, reply_due, skipped};
+ghost use Rattle.dsql_history.specs.declared.event.Move.{Move};
+ghost use Rattle.dsql_history.specs.declared.reply.Reply.{Reply};
+ghost use Rattle.dsql_tenure.specs.declared.entry.Owner.TheVariants.{Call};
+ghost use Rattle.dsql_engine.specs.Desk.{past, Stands};
+
+use crate::room::{count_up, move_to, note, put, set_decided, set_home, take_out, tell_entry};
+use dsql_driver::{Caps, DriverAnswer};
+use dsql_history::{CallRecord, CloseCause, Event, Move, Op, Place, Reply};
+use dsql_tenure::{Entry, Owner};
+use dsql_value::Txt;
+
+/// What is kept of the present, beside the history.
+#[derive(Drop)]
+pub struct Desk {
+    pub history: Vec<Event>,
+    pub caps: Caps,
+    pub ended: bool,
+    /// The place of each connection, by its number.
+    pub places: Vec<Place>,
+    /// How often each connection was lent, and how often to an owner other than the layer itself.
+    pub lends: Vec<u32>,
+    pub uses: Vec<u32>,
+    /// The idle connections, the longest idle first.
+    pub idle: Vec<u32>,
+    /// Each call, by its number, and those without a reply.
+    pub calls: Vec<CallRecord>,
+    pub unfinished: Vec<u32>,
+    /// For how many more events there is memory.
+    pub paid: usize,
+}
+
+#[tactic(auto, unfolding(crate::specs::Desk::Stands, dsql_history::specs::Legal::Allowed))]
+/// The event methods: each adds its event to the history and changes the tables.
+impl Desk {
+    /// A client's call enters.
+    pub fn enter(&mut self, n: u32, client: u8, op: Op, text: Txt)
+        requires stands { Stands self.old }
+        requires paid { 0 < self.old.paid }
+        requires allowed { Allowed (past self.old) (Event.Entered client n op) }
+        requires settled { Settled (past self.old) }
+        requires text { text ≡ statement op }
+        ensures stands { Stands self.new }
+        ensures paid { self.new.paid + 1 ≡ self.old.paid }
+        ensures event { past self.new ≡ Event.Entered client n op ∷ past self.old }
+    {
+        self.paid -= 1;
+        note(&mut self.history, Event::Entered { client, n, op });
+        put(&mut self.calls, CallRecord { client, home: 0, text, decided: None });
+        put(&mut self.unfinished, n);
+    }
+
+    /// A connection begins to be opened, for a call.
+    pub fn start_opening(&mut self, c: u32, n: u32)
+        requires stands { Stands self.old }
+        requires paid { 0 < self.old.paid }
+        requires allowed { Allowed (past self.old) (Event.Pool (Move.OpenStart c n)) }
+        ensures stands { Stands self.new }
+        ensures paid { self.new.paid + 1 ≡ self.old.paid }
+        ensures event { past self.new ≡ Event.Pool (Move.OpenStart c n) ∷ past self.old }
+    {
+        self.paid -= 1;
+        note(&mut self.history, Event::Pool(Move::OpenStart { conn: c, call: n }));
+        put(&mut self.places, Place::Opening(n));
+        put(&mut self.lends, 0);
+        put(&mut self.uses, 0);
+        set_home(&mut self.calls, n, c);
+    }
+
+    /// A connection is lent to a call on the database.
+    pub fn lend(&mut self, c: u32, tenure: u32, n: u32)
+        requires stands { Stands self.old }
+        requires paid { 0 < self.old.paid }
+        requires few { length (past self.old) < 5000000 }
+        requires allowed { Allowed (past self.old) (Event.Pool (Move.Lend c tenure (Call n) n)) }
+        ensures stands { Stands self.new }
+        ensures paid { self.new.paid + 1 ≡ self.old.paid }
+        ensures event { past self.new ≡ Event.Pool (Move.Lend c tenure (Call n) n) ∷ past self.old }
+    {
+        self.paid -= 1;
+        let owner = Owner::Call(n);
+        count_up(&mut self.lends, c);
+        count_up(&mut self.uses, c);
+        note(&mut self.history, Event::Pool(Move::Lend { conn: c, tenure, owner, call: n }));
+        move_to(&mut self.places, c, Place::Lent(tenure, owner));
+        take_out(&mut self.idle, c);
+        set_home(&mut self.calls, n, c);
+    }
+
+    /// A driver answered; the copy is of its answer.
+    pub fn hear(&mut self, entry: Entry, copy: DriverAnswer)
+        requires stands { Stands self.old }
+        requires paid { 0 < self.old.paid }
+        requires allowed { Allowed (past self.old) (Event.Heard entry) }
+        requires settled { Settled (past self.old) }
+        requires same { copy ≡ entry.answer }
+        ensures stands { Stands self.new }
+        ensures paid { self.new.paid + 1 ≡ self.old.paid }
+        ensures event { past self.new ≡ Event.Heard entry ∷ past self.old }
+    {
+        self.paid -= 1;
+        tell_entry(&mut self.calls, &entry, copy);
+        note(&mut self.history, Event::Heard(entry));
+    }
+
+    /// A connection is given back.
+    pub fn back(&mut self, c: u32)
+        requires stands { Stands self.old }
+        requires paid { 0 < self.old.paid }
+        requires allowed { Allowed (past self.old) (Event.Pool (Move.Back c)) }
+        ensures stands { Stands self.new }
+        ensures paid { self.new.paid + 1 ≡ self.old.paid }
+        ensures event { past self.new ≡ Event.Pool (Move.Back c) ∷ past self.old }
+    {
+        self.paid -= 1;
+        note(&mut self.history, Event::Pool(Move::Back { conn: c }));
+        move_to(&mut self.places, c, Place::Idle);
+        put(&mut self.idle, c);
+    }
+
+    /// A connection begins to be closed.
+    pub fn start_closing(&mut self, c: u32, cause: CloseCause)
+        requires stands { Stands self.old }
+        requires paid { 0 < self.old.paid }
+        requires allowed { Allowed (past self.old) (Event.Pool (Move.CloseStart c cause)) }
+        ensures stands { Stands self.new }
+        ensures paid { self.new.paid + 1 ≡ self.old.paid }
+        ensures event { past self.new ≡ Event.Pool (Move.CloseStart c cause) ∷ past self.old }
+    {
+        self.paid -= 1;
+        note(&mut self.history, Event::Pool(Move::CloseStart { conn: c, cause }));
+        move_to(&mut self.places, c, Place::Closing);
+        take_out(&mut self.idle, c);
+    }
+
+    /// A connection that was shut is gone.
+    pub fn gone(&mut self, c: u32)
+        requires stands { Stands self.old }
+        requires paid { 0 < self.old.paid }
+        requires allowed { Allowed (past self.old) (Event.Pool (Move.Gone c)) }
+        ensures stands { Stands self.new }
+        ensures paid { self.new.paid + 1 ≡ self.old.paid }
+        ensures event { past self.new ≡ Event.Pool (Move.Gone c) ∷ past self.old }
+    {
+        self.paid -= 1;
+        note(&mut self.history, Event::Pool(Move::Gone { conn: c }));
+        move_to(&mut self.places, c, Place::Nowhere);
+    }
+
+    /// A Connect was refused, and what that decides falls to a call.
+    pub fn fall(&mut self, c: u32, n: u32, reply: Option<Reply>)
+        requires stands { Stands self.old }
+        requires paid { 0 < self.old.paid }
+        requires allowed { Allowed (past self.old) (Event.Pool (Move.Fell c n)) }
+        requires reply { reply ≡ refusal (past self.old) }
+        ensures stands { Stands self.new }
+        ensures paid { self.new.paid + 1 ≡ self.old.paid }
+        ensures event { past self.new ≡ Event.Pool (Move.Fell c n) ∷ past self.old }
+    {
+        self.paid -= 1;
+        note(&mut self.history, Event::Pool(Move::Fell { conn: c, call: n }));
+        move_to(&mut self.places, c, Place::Nowhere);
+        set_decided(&mut self.calls, n, reply);
+    }
+
+    /// A call is told its reply.
+    pub fn reply(&mut self, n: u32, reply: Reply)
+        requires stands { Stands self.old }
+        requires paid { 0 < self.old.paid }
+        requires allowed { Allowed (past self.old) (Event.Replied n reply) }
+        ensures stands { Stands self.new }
+        ensures paid { self.new.paid + 1 ≡ self.old.paid }
+        ensures event { past self.new ≡ Event.Replied n reply ∷ past self.old }
+    {
+        self.paid -= 1;
+        note(&mut self.history, Event::Replied { n, reply });
+        set_decided(&mut self.calls, n, None);
+        take_out(&mut self.unfinished, n);
+    }
+
+    /// The run ends.
+    pub fn end(&mut self)
+        requires stands { Stands self.old }
+        requires paid { 0 < self.old.paid }
+        requires allowed { Allowed (past self.old) Event.Ended }
+        requires settled { Settled (past self.old) }
+        ensures stands { Stands self.new }
+        ensures paid { self.new.paid + 1 ≡ self.old.paid }
+        ensures event { past self.new ≡ Event.Ended ∷ past self.old }
+    {
+        self.paid -= 1;
+        note(&mut self.history, Event::Ended);
+        self.ended = true;
+    }
+}

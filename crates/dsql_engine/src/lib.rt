@@ -1,0 +1,11 @@
+//! The layer's core: it takes calls, driver answers and the run's end one at a time, and keeps the
+//! history of all that happened, which is legal after every call.
+#![tactic(auto)]
+
+mod desk;
+mod engine;
+mod next;
+mod room;
+
+pub use engine::Engine;
+pub use next::{Next, NoRoom, Why};

@@ -1,0 +1,34 @@
+use dsql_tenure::Permit;
+use std::alloc::AllocError;
+use thiserror::Error;
+
+/// Why a call can't move.
+#[derive(Clone, Copy, Debug, PartialEq, Eq)]
+pub enum Why {
+    /// Its connection is being opened.
+    Opening,
+}
+
+/// What comes after one step.
+#[derive(Debug, Drop)]
+pub enum Next {
+    /// This driver call is to be made, and its answer brought back.
+    Send(Permit),
+    /// The call can't move.
+    Blocked(Why),
+    /// The call of this number has its reply.
+    Reply(u32),
+    /// There is nothing to do.
+    Quiet,
+}
+
+/// There was no memory for a step. Nothing changed.
+#[derive(Clone, Copy, Debug, PartialEq, Eq, Error)]
+#[error("out of memory")]
+pub struct NoRoom;
+
+impl From<AllocError> for NoRoom {
+    fn from(_e: AllocError) -> NoRoom {
+        NoRoom
+    }
+}

@@ -1,0 +1,129 @@
+//! Writes that were paid for before, or that take no memory: they can't fail.
+ghost use Rattle.std.specs.Prelude.{◌≡◌, ◌+◌, ◌<◌, ◌≤◌, ◌^◌, ◌∷◌, ◌++◌, [], None, reverse, slice_set, slice_index_or, vec_len, vec_capacity};
+ghost use Rattle.dsql_history.specs.Readers.Lists.{without};
+ghost use Rattle.dsql_history.specs.Readers.Sets.{one_more};
+ghost use Rattle.dsql_history.specs.Readers.Calls.{with_record, decision, reply_to};
+ghost use Rattle.dsql_engine.specs.Told.{told_entry};
+
+use dsql_driver::{DriverAnswer, DriverCall};
+use dsql_history::{CallRecord, Event, Place, Reply};
+use dsql_tenure::Entry;
+
+/// Adds an element where there is room.
+pub fn put<T: Drop>(v: &mut Vec<T>, x: T)
+    requires { vec_len v.old < vec_capacity v.old }
+    ensures items { v.new.items ≡ v.old.items ++ x ∷ [] }
+    ensures len { vec_len v.new ≡ vec_len v.old + 1 }
+    ensures capacity { vec_capacity v.new ≡ vec_capacity v.old }
+{
+    v.push_reserved(x);
+}
+
+/// Adds an event to a history.
+pub fn note(v: &mut Vec<Event>, e: Event)
+    requires { vec_len v.old < vec_capacity v.old }
+    ensures past { reverse v.new.items ≡ e ∷ reverse v.old.items }
+    ensures len { vec_len v.new ≡ vec_len v.old + 1 }
+    ensures capacity { vec_capacity v.new ≡ vec_capacity v.old }
+{
+    put(v, e);
+}
+
+/// Takes a number out of a list.
+pub fn take_out(v: &mut Vec<u32>, x: u32)
+    ensures items { v.new.items ≡ without x v.old.items }
+    ensures len { vec_len v.new ≤ vec_len v.old }
+    ensures capacity { vec_capacity v.new ≡ vec_capacity v.old }
+{
+    v.retain(|y| *y != x);
+}
+
+/// Moves a connection to a place.
+pub fn move_to(places: &mut Vec<Place>, c: u32, place: Place)
+    ensures items { places.new.items ≡ slice_set places.old.items c place }
+    ensures len { vec_len places.new ≡ vec_len places.old }
+    ensures capacity { vec_capacity places.new ≡ vec_capacity places.old }
+{
+    let c = c as usize;
+    if c < places.len() {
+        places[c] = place;
+    }
+}
+
+/// Counts one more for a connection.
+pub fn count_up(counts: &mut Vec<u32>, c: u32)
+    requires { slice_index_or counts.old.items c 0 + 1 < 2 ^ 32 }
+    ensures items { counts.new.items ≡ one_more c counts.old.items }
+    ensures len { vec_len counts.new ≡ vec_len counts.old }
+    ensures capacity { vec_capacity counts.new ≡ vec_capacity counts.old }
+{
+    let c = c as usize;
+    if c < counts.len() {
+        counts[c] += 1;
+    }
+}
+
+/// Says which connection a call has.
+pub fn set_home(calls: &mut Vec<CallRecord>, n: u32, c: u32)
+    ensures items { calls.new.items ≡ with_record n (λ r. record r { home = c }) calls.old.items }
+    ensures len { vec_len calls.new ≡ vec_len calls.old }
+    ensures capacity { vec_capacity calls.new ≡ vec_capacity calls.old }
+{
+    let n = n as usize;
+    if n < calls.len() {
+        calls[n].home = c;
+    }
+}
+
+/// Says what a call is to be replied.
+pub fn set_decided(calls: &mut Vec<CallRecord>, n: u32, reply: Option<Reply>)
+    ensures items { calls.new.items ≡ with_record n (λ r. record r { decided = reply }) calls.old.items }
+    ensures len { vec_len calls.new ≡ vec_len calls.old }
+    ensures capacity { vec_capacity calls.new ≡ vec_capacity calls.old }
+{
+    let n = n as usize;
+    if n < calls.len() {
+        calls[n].decided = reply;
+    }
+}
+
+/// The reply that a deciding answer gives.
+pub fn reply_of(answer: DriverAnswer) -> Option<Reply>
+    ensures { result ≡ reply_to answer }
+{
+    match answer {
+        DriverAnswer::Result { last, affected } => Some(Reply::Result { last, affected }),
+        DriverAnswer::Fail(text) => Some(Reply::Driver(text)),
+        DriverAnswer::Bad => Some(Reply::BadConn(1)),
+        _ => None,
+    }
+}
+
+/// Tells a call what one of its driver calls was answered.
+pub fn tell(calls: &mut Vec<CallRecord>, n: u32, call: &DriverCall, answer: DriverAnswer)
+    ensures items { calls.new.items ≡ with_record n (λ r. record r { decided = decision call.now answer r.decided }) calls.old.items }
+    ensures len { vec_len calls.new ≡ vec_len calls.old }
+    ensures capacity { vec_capacity calls.new ≡ vec_capacity calls.old }
+{
+    match call {
+        DriverCall::Exec(_, _) => set_decided(calls, n, reply_of(answer)),
+        DriverCall::Reset => {
+            if let DriverAnswer::Bad = answer {
+                set_decided(calls, n, Some(Reply::BadConn(1)));
+            }
+        }
+        _ => {}
+    }
+}
+
+/// Tells the call of an entry what it was answered; the copy is of the entry's answer.
+pub fn tell_entry(calls: &mut Vec<CallRecord>, entry: &Entry, copy: DriverAnswer)
+    ensures items { calls.new.items ≡ told_entry entry.now.call_no entry.now.call copy calls.old.items }
+    ensures len { vec_len calls.new ≡ vec_len calls.old }
+    ensures capacity { vec_capacity calls.new ≡ vec_capacity calls.old }
+{
+    if entry.call_no == 0 {
+        return;
+    }
+    tell(calls, entry.call_no, &entry.call, copy);
+}
