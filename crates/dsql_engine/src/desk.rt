@@ -1,13 +1,13 @@
 ghost use Rattle.std.specs.Prelude.{◌≡◌, ◌+◌, ◌^◌, ◌<◌, ◌≤◌, ◌∷◌, ◌++◌, [], length, vec_len, vec_capacity};
 ghost use Rattle.dsql_history.specs.Legal.{Allowed};
 ghost use Rattle.dsql_history.specs.Rules.Settled.{Settled};
-ghost use Rattle.dsql_history.specs.Readers.Calls.{statement, refusal, reply_due, skipped};
+ghost use Rattle.dsql_history.specs.Readers.Calls.{statement, refusal, reply_due, skipped as skipped_text};
 ghost use Rattle.dsql_history.specs.declared.event.Move.{Move};
 ghost use Rattle.dsql_history.specs.declared.reply.Reply.{Reply};
 ghost use Rattle.dsql_tenure.specs.declared.entry.Owner.TheVariants.{Call};
 ghost use Rattle.dsql_engine.specs.Desk.{past, Stands};
 
-use crate::room::{count_up, move_to, note, put, set_decided, set_home, take_out, tell_entry};
+use crate::room::{count_up, move_to, note, put, set_decided, set_home, take_out, take_reply, tell_entry};
 use dsql_driver::{Caps, DriverAnswer};
 use dsql_history::{CallRecord, CloseCause, Event, Move, Op, Place, Reply};
 use dsql_tenure::{Entry, Owner};
@@ -106,6 +106,21 @@ impl Desk {
         note(&mut self.history, Event::Heard(entry));
     }
 
+    /// A driver answered the layer itself.
+    pub fn hear_house(&mut self, entry: Entry)
+        requires stands { Stands self.old }
+        requires paid { 0 < self.old.paid }
+        requires allowed { Allowed (past self.old) (Event.Heard entry) }
+        requires settled { Settled (past self.old) }
+        requires house { entry.call_no ≡ 0 }
+        ensures stands { Stands self.new }
+        ensures paid { self.new.paid + 1 ≡ self.old.paid }
+        ensures event { past self.new ≡ Event.Heard entry ∷ past self.old }
+    {
+        self.paid -= 1;
+        note(&mut self.history, Event::Heard(entry));
+    }
+
     /// A connection is given back.
     pub fn back(&mut self, c: u32)
         requires stands { Stands self.old }
@@ -166,18 +181,35 @@ impl Desk {
         set_decided(&mut self.calls, n, reply);
     }
 
-    /// A call is told its reply.
-    pub fn reply(&mut self, n: u32, reply: Reply)
+    /// A call is told the reply that it is due.
+    pub fn tell(&mut self, n: u32, skipped: Txt)
         requires stands { Stands self.old }
         requires paid { 0 < self.old.paid }
-        requires allowed { Allowed (past self.old) (Event.Replied n reply) }
+        requires allowed { Allowed (past self.old) (Event.Replied n (reply_due (past self.old) n)) }
+        requires skipped { skipped ≡ skipped_text }
         ensures stands { Stands self.new }
         ensures paid { self.new.paid + 1 ≡ self.old.paid }
-        ensures event { past self.new ≡ Event.Replied n reply ∷ past self.old }
+        ensures event { past self.new ≡ Event.Replied n (reply_due (past self.old) n) ∷ past self.old }
     {
         self.paid -= 1;
+        let reply = take_reply(&mut self.calls, n, skipped);
         note(&mut self.history, Event::Replied { n, reply });
+        take_out(&mut self.unfinished, n);
+    }
+
+    /// A call is refused, since too many connections are open.
+    pub fn refuse(&mut self, n: u32)
+        requires stands { Stands self.old }
+        requires paid { 0 < self.old.paid }
+        requires allowed { Allowed (past self.old) (Event.Replied n Reply.TooMany) }
+        ensures stands { Stands self.new }
+        ensures paid { self.new.paid + 1 ≡ self.old.paid }
+        ensures event { past self.new ≡ Event.Replied n Reply.TooMany ∷ past self.old }
+    {
+        self.paid -= 1;
         set_decided(&mut self.calls, n, None);
+        let reply = Reply::TooMany;
+        note(&mut self.history, Event::Replied { n, reply });
         take_out(&mut self.unfinished, n);
     }
 

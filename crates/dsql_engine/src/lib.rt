@@ -5,7 +5,9 @@
 mod desk;
 mod engine;
 mod next;
+mod queries;
 mod room;
+mod steps;
 
 pub use engine::Engine;
 pub use next::{Next, NoRoom, Why};

@@ -1,13 +1,15 @@
 //! Writes that were paid for before, or that take no memory: they can't fail.
-ghost use Rattle.std.specs.Prelude.{◌≡◌, ◌+◌, ◌<◌, ◌≤◌, ◌^◌, ◌∷◌, ◌++◌, [], None, reverse, slice_set, slice_index_or, vec_len, vec_capacity};
+ghost use Rattle.std.specs.Prelude.{◌≡◌, ◌+◌, ◌<◌, ◌≤◌, ◌^◌, ◌∷◌, ◌++◌, [], None, unwrap_or, reverse, slice_set, slice_index_or, vec_len, vec_capacity};
 ghost use Rattle.dsql_history.specs.Readers.Lists.{without};
 ghost use Rattle.dsql_history.specs.Readers.Sets.{one_more};
-ghost use Rattle.dsql_history.specs.Readers.Calls.{with_record, decision, reply_to};
+ghost use Rattle.dsql_history.specs.Readers.Calls.{with_record, decision, reply_to, nobody};
+ghost use Rattle.dsql_history.specs.declared.reply.Reply.TheVariants.{Driver};
 ghost use Rattle.dsql_engine.specs.Told.{told_entry};
 
 use dsql_driver::{DriverAnswer, DriverCall};
 use dsql_history::{CallRecord, Event, Place, Reply};
 use dsql_tenure::Entry;
+use dsql_value::Txt;
 
 /// Adds an element where there is room.
 pub fn put<T: Drop>(v: &mut Vec<T>, x: T)
@@ -126,4 +128,22 @@ pub fn tell_entry(calls: &mut Vec<CallRecord>, entry: &Entry, copy: DriverAnswer
         return;
     }
     tell(calls, entry.call_no, &entry.call, copy);
+}
+
+/// Takes the reply that a call is due out of its record: what was decided, or that the fast path was
+/// skipped.
+pub fn take_reply(calls: &mut Vec<CallRecord>, n: u32, skipped: Txt) -> Reply
+    ensures reply { result ≡ unwrap_or (slice_index_or calls.old.items n nobody).decided (Driver skipped) }
+    ensures items { calls.new.items ≡ with_record n (λ r. record r { decided = None }) calls.old.items }
+    ensures len { vec_len calls.new ≡ vec_len calls.old }
+    ensures capacity { vec_capacity calls.new ≡ vec_capacity calls.old }
+{
+    let n = n as usize;
+    if n < calls.len() {
+        match calls[n].decided.take() {
+            Some(reply) => return reply,
+            None => return Reply::Driver(skipped),
+        }
+    }
+    Reply::Driver(skipped)
 }

@@ -1,0 +1,115 @@
+-- What every step needs: the order of events, what is used, and who is under way.
+use Rattle.std.proofs.Common.{◌≡◌, ◌≢◌, ℕ, zero, suc, ◌<◌, ◌≤◌, ◌+◌, ◌==◌, ◌⊎◌, inl, inr, Bool, true, false, not, ◌&&◌, ◌||◌, cond, nat_lt, nat_le, List, [], ◌∷◌, ◌++◌, length, get_or, set, refl, arith, Option, Some, None, is_some, is_none, ap, sym, subst, ◌∙◌}
+use Rattle.std.proofs.lemmas.Grind.{common_steps}
+use Rattle.std.proofs.lemmas.Bool.Decides.{nat_tests}
+use Rattle.std.specs.List.{list_all, list_any}
+use Rattle.dsql_tenure.specs.declared.entry.Entry.{Entry}
+use Rattle.dsql_tenure.specs.declared.entry.Owner.{Owner}
+use Rattle.dsql_tenure.specs.declared.entry.Owner.TheVariants.{Call, Tx, Pin, House}
+use Rattle.dsql_tenure.specs.Kinds.{is_call}
+use Rattle.dsql_tenure.specs.Readers.{has, is_empty}
+use Rattle.dsql_history.specs.declared.event.Event.{Event}
+use Rattle.dsql_history.specs.declared.event.Event.TheVariants.{Run, Entered, Heard, Pool, Replied, Ended}
+use Rattle.dsql_history.specs.declared.event.Move.{Move}
+use Rattle.dsql_history.specs.declared.event.Move.TheVariants.{OpenStart, Lend, Back, CloseStart, Gone, Fell}
+use Rattle.dsql_history.specs.declared.event.CloseCause.{CloseCause}
+use Rattle.dsql_history.specs.declared.record.Place.{Place}
+use Rattle.dsql_history.specs.declared.record.Place.TheVariants.{Nowhere, Opening, Idle, Lent, Closing}
+use Rattle.dsql_history.specs.declared.record.CallRecord.{CallRecord}
+use Rattle.dsql_history.specs.declared.reply.Reply.{Reply}
+use Rattle.dsql_history.specs.Readers.Lists.{without, last, first}
+use Rattle.dsql_history.specs.Readers.Course.{has_ended}
+use Rattle.dsql_history.specs.Readers.Sets.{places, place, idle, is_open, is_opening, is_closing, is_idle, is_lent, is_for, number_of, next_tenure, next_number, open_count}
+use Rattle.dsql_history.specs.Readers.Journals.{journal, ends_invalid}
+use Rattle.dsql_history.specs.Readers.Calls.{calls, call_record, home, unfinished, is_unfinished, nobody, with_record, reply_due, next_call, is_busy}
+use Rattle.dsql_history.specs.Rules.Settled.{Settled, is_placed, is_in_use, uses_what_is_lent, is_under_way, goes_on, keeps_idle_limit, is_empty_when_closed}
+use Rattle.dsql_history.specs.Legal.{Allowed, KeepsEach, Lawful}
+use Rattle.dsql_history.proofs.Rows.{both, not_true, same_number, same_to_itself, other_number, same_or_not, is_once, has-without, has_push, read_set, read_push, within_rows, length-without, length_push, row_at, row_off, row_new, row_old}
+use Rattle.dsql_history.proofs.SoundSets.{SoundSets, sound_sets}
+use Rattle.dsql_history.proofs.SoundCalls.{SoundCalls, sound_calls, owner_of}
+use Rattle.dsql_history.proofs.SoundJournals.{whole_when_lent, lent_tenure, good_while_due, follows_due, fresh_lending, lends_when_opening, follows_connect, whole_refused, follows_shut, whole_shut, keeps_journals_of}
+use Rattle.dsql_history.specs.Rules.Course.{begins_with_run, is_run}
+use Rattle.dsql_history.specs.Rules.Order.{follows, follows_answer}
+use Rattle.dsql_history.specs.Rules.Replies.{same_reply}
+use Rattle.dsql_history.specs.declared.reply.Reply.TheVariants as replies
+use Rattle.std.specs.Prelude.{bytes_eq, ℤ}
+use Rattle.std.specs.Ordering.{int_eq}
+
+-- a history that has begun
+pub not_first : (H : List Event) (e : Event) → is_empty H ≡ false → is_run e ≡ false → begins_with_run H e ≡ true
+not_first [] e h r = absurd cc
+not_first (x ∷ H) e h r = rw r refl
+
+nowhere_first : (c : ℕ) → place [] c ≡ Nowhere
+nowhere_first zero = refl
+nowhere_first (suc c) = refl
+
+-- a history in which a connection stands somewhere has begun
+pub begun : (H : List Event) (c : ℕ) (p : Place) → place H c ≡ p → is_open p ≡ true → is_empty H ≡ false
+begun [] c p is o = absurd (cc (ap is_open (sym (nowhere_first c) ∙ is)))
+begun (x ∷ H) c p is o = refl
+
+at_rest : (p : Place) (e : Entry) (next : Event) → not (is_opening p || is_closing p) ≡ true → follows_answer p e next ≡ true
+at_rest Nowhere e next h = refl
+at_rest (Opening n) e next h = absurd cc
+at_rest Idle e next h = refl
+at_rest (Lent t o) e next h = refl
+at_rest Closing e next h = absurd cc
+
+-- at a free moment anything may follow
+pub follows_placed : (H : List Event) (next : Event) → is_placed H ≡ true → follows H next ≡ true
+follows_placed [] next h = refl
+follows_placed (Heard e ∷ H) next h = at_rest (place H e.conn) e next h
+follows_placed (Run v k ∷ H) next h = refl
+follows_placed (Entered k n op ∷ H) next h = refl
+follows_placed (Pool m ∷ H) next h = refl
+follows_placed (Replied n r ∷ H) next h = refl
+follows_placed (Ended ∷ H) next h = refl
+
+-- what all of a list pass, and back
+pub each_of : (p : ℕ → Bool) (ns : List ℕ) → list_all p ns ≡ true → (n : ℕ) → has n ns ≡ true → p n ≡ true
+each_of p [] h n m = absurd cc
+each_of p (x ∷ ns) h n m = grind (arith, nat_tests, each_of p ns)
+
+pub all_of : (p : ℕ → Bool) (ns : List ℕ) → ((n : ℕ) → has n ns ≡ true → p n ≡ true) → list_all p ns ≡ true
+all_of p [] h = refl
+all_of p (x ∷ ns) h =
+    let hx : p x ≡ true = h x (rw (same_to_itself x) refl) in
+    let hs : list_all p ns ≡ true = all_of p ns (λ n m. h n (grind (arith, nat_tests, m))) in
+    rw (hx, hs) refl
+
+pub all_places : (p : Place → Bool) (ps : List Place) → ((c : ℕ) → p (get_or ps c Nowhere) ≡ true) → list_all p ps ≡ true
+all_places p [] h = refl
+all_places p (x ∷ ps) h =
+    let hx : p x ≡ true = h 0 in
+    let hs : list_all p ps ≡ true = all_places p ps (λ c. h (suc c)) in
+    rw (hx, hs) refl
+
+in_use_at : (H : List Event) (c : ℕ) (p : Place) → Lawful H → place H c ≡ p → is_in_use H p ≡ true
+in_use_at H c Nowhere l is = refl
+in_use_at H c (Opening n) l is = let s = sound_calls H l in s.unfinished_ones c n (rw is (same_to_itself n))
+in_use_at H c Idle l is = refl
+in_use_at H c (Lent t o) l is = let s = sound_calls H l in s.unfinished_ones c (number_of o) (rw is (same_to_itself (number_of o)))
+in_use_at H c Closing l is = refl
+
+-- whatever is lent or opened in a lawful history is used by an unfinished call
+pub used_of : (H : List Event) → Lawful H → uses_what_is_lent H ≡ true
+used_of H l = all_places (is_in_use H) (places H) (λ c. in_use_at H c (place H c) l refl)
+
+-- each unfinished call is under way
+pub way_of : (H : List Event) → Settled H → (n : ℕ) → is_unfinished H n ≡ true → is_under_way H n ≡ true
+way_of H s n h = each_of (is_under_way H) (unfinished H) s.under_way n h
+
+pub bytes_same : (xs : List ℕ) → bytes_eq xs xs ≡ true
+bytes_same [] = refl
+bytes_same (x ∷ xs) = rw (same_to_itself x) (bytes_same xs)
+
+pub ints_same : (z : ℤ) → int_eq z z ≡ true
+ints_same z = grind (arith, common_steps)
+
+-- a reply is like itself
+pub reply_same : (r : Reply) → same_reply r r ≡ true
+reply_same (replies.Result l a) = rw (ints_same l, ints_same a) refl
+reply_same (replies.Driver t) = bytes_same t
+reply_same (replies.BadConn n) = same_to_itself n
+reply_same replies.TooMany = refl

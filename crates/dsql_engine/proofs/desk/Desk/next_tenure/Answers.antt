@@ -1,0 +1,12 @@
+use Rattle.std.proofs.Common.{arith, ◌≡◌, ◌≤◌, ◌+◌, length}
+use Rattle.std.proofs.lemmas.Grind.{common_steps}
+use Rattle.dsql_history.specs.Readers.Sets.{lends}
+use Rattle.dsql_history.proofs.SoundSets.{sound_sets}
+use Rattle.dsql_engine.specs.Desk.{past, Stands, lawful_of}
+use Rattle.dsql_engine.proofs.desk.Desk.next_tenure.Goals as goal
+
+pub overflow_add-result : goal.overflow_add-result
+unfolding Stands
+overflow_add-result c =
+    let s = sound_sets (past c.args.self.now) (lawful_of _ c.requires.stands) in
+    grind (arith, common_steps, s.few_lends c.args.c, c.requires.stands.lends, c.requires.few)

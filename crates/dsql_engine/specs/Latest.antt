@@ -1,0 +1,7 @@
+-- The last of a list, if it has one.
+use Rattle.std.specs.Prelude.{ℕ, List, [], ◌∷◌, Option, Some, None}
+use Rattle.dsql_history.specs.Readers.Lists.{last}
+
+abbrev pub latest : List ℕ → Option ℕ
+latest [] = None
+latest (c ∷ others) = Some (last (c ∷ others))

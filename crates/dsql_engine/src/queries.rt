@@ -1,0 +1,266 @@
+//! Questions to the tables, each answered in a reader's word.
+ghost use Rattle.std.specs.Prelude.{◌≡◌, ◌+◌, ◌^◌, ◌<◌, ◌≤◌, ◌∷◌, [], Some, None, Option, List, length, nat_lt, slice_index_or, IfOk, OnOk, OnErr, position};
+ghost use Rattle.dsql_history.specs.Readers.Course.{caps, has_ended};
+ghost use Rattle.dsql_history.specs.Readers.Sets.{place, places, idle, open_count, next_number, next_tenure, uses};
+ghost use Rattle.dsql_history.specs.Readers.Calls.{call_record, home, next_call, is_busy, unfinished};
+ghost use Rattle.dsql_history.specs.Rules.Limit.{room};
+ghost use Rattle.dsql_history.specs.Rules.Line.{is_reset_due, line_after, body_of, test_of, after_call};
+ghost use Rattle.dsql_history.specs.Rules.House.{shut_due, connect_due};
+ghost use Rattle.dsql_history.specs.Rules.Causes.{cause_when};
+ghost use Rattle.dsql_driver.specs.Fits.{is_invalid};
+ghost use Rattle.dsql_tenure.specs.Kinds.{is_bad};
+ghost use Rattle.dsql_engine.specs.Desk.{past, Stands};
+ghost use Rattle.dsql_engine.specs.Groups.{call_of};
+ghost use Rattle.dsql_engine.specs.Latest.{latest};
+
+use crate::desk::Desk;
+use dsql_driver::{Caps, DriverAnswer, DriverCall, Input};
+use dsql_history::{CloseCause, Place};
+use dsql_value::{Items, Memory, Txt};
+use std::alloc::Global;
+
+#[tactic(auto, unfolding(crate::specs::Desk::Stands))]
+impl Desk {
+    /// Whether the client has an unfinished call.
+    pub fn is_busy(&self, client: u8) -> bool
+        requires { Stands self.now }
+        ensures { result ≡ is_busy client (past self.now) }
+    {
+        self.unfinished
+            .iter()
+            .any(|n| client_of(&self.calls, *n) == client)
+    }
+
+    /// The unfinished call of a client.
+    pub fn call_of(&self, client: u8) -> Option<u32>
+        requires { Stands self.now }
+        ensures { result ≡ call_of (past self.now) client }
+    {
+        self.unfinished
+            .iter()
+            .copied()
+            .find(|n| client_of(&self.calls, *n) == client)
+    }
+
+    /// The number that the next call gets.
+    pub fn next_call(&self) -> u32
+        requires stands { Stands self.now }
+        requires few { length (past self.now) < 5000000 }
+        ensures { result ≡ next_call (past self.now) }
+    {
+        self.calls.len() as u32
+    }
+
+    /// The number that the next connection gets.
+    pub fn next_number(&self) -> u32
+        requires stands { Stands self.now }
+        requires few { length (past self.now) < 5000000 }
+        ensures { result ≡ next_number (past self.now) }
+    {
+        self.places.len() as u32
+    }
+
+    /// The number of a connection's next tenure.
+    pub fn next_tenure(&self, c: u32) -> u32
+        requires stands { Stands self.now }
+        requires few { length (past self.now) < 5000000 }
+        ensures { result ≡ next_tenure (past self.now) c }
+    {
+        count_of(&self.lends, c) + 2
+    }
+
+    /// Whether a call that uses the connection has to reset it first.
+    pub fn is_reset_due(&self, c: u32) -> bool
+        requires { Stands self.now }
+        ensures { result ≡ is_reset_due (past self.now) c }
+    {
+        self.caps.resetter && count_of(&self.uses, c) >= 2
+    }
+
+    /// The connection that came back last.
+    pub fn latest(&self) -> Option<u32>
+        requires { Stands self.now }
+        ensures { result ≡ latest (idle (past self.now)) }
+    {
+        self.idle.last().copied()
+    }
+
+    /// Whether one more connection may be opened.
+    pub fn may_open(&self) -> bool
+        requires { Stands self.now }
+        ensures { result ≡ nat_lt (open_count (past self.now)) room }
+    {
+        self.places.iter().filter(|p| is_open(**p)).count() < 1000
+    }
+
+    /// Where a connection stands.
+    pub fn place(&self, c: u32) -> Place
+        requires { Stands self.now }
+        ensures { result ≡ place (past self.now) c }
+    {
+        match self.places.get(c as usize) {
+            Some(place) => *place,
+            None => Place::Nowhere,
+        }
+    }
+
+    /// The connection of a call, 0 for none.
+    pub fn home(&self, n: u32) -> u32
+        requires { Stands self.now }
+        ensures { result ≡ home (past self.now) n }
+    {
+        match self.calls.get(n as usize) {
+            Some(call) => call.home,
+            None => 0,
+        }
+    }
+
+    /// A copy of the text of a call's statement.
+    pub fn statement(&self, alloc: Global, n: u32) -> Result<Txt, Memory>
+        requires { Stands self.now }
+        ensures { IfOk result (λ t. t ≡ (call_record (past self.now) n).text) }
+    {
+        match self.calls.get(n as usize) {
+            Some(call) => call.text.copy(),
+            None => Txt::copy_of(alloc, ""),
+        }
+    }
+
+    /// The first connection that is to be shut.
+    pub fn shut_due(&self) -> Option<usize>
+        requires { Stands self.now }
+        ensures { result ≡ shut_due (past self.now) }
+    {
+        self.places.iter().position(|p| is_closing(*p))
+    }
+
+    /// The first connection that is to be connected.
+    pub fn connect_due(&self) -> Option<usize>
+        requires { Stands self.now }
+        ensures { result ≡ connect_due (past self.now) }
+    {
+        self.places.iter().position(|p| is_opening(*p))
+    }
+
+    /// Why a connection closes that is given back, if it does.
+    pub fn cause(&self, bad: bool, invalid: bool) -> Option<CloseCause>
+        requires { Stands self.now }
+        ensures { result ≡ cause_when bad invalid (has_ended (past self.now)) (length (idle (past self.now))) }
+    {
+        if bad {
+            return Some(CloseCause::Bad);
+        }
+        if invalid {
+            return Some(CloseCause::Invalid);
+        }
+        if self.ended {
+            return Some(CloseCause::DbClosed);
+        }
+        if self.idle.len() < 2 {
+            None
+        } else {
+            Some(CloseCause::IdleFull)
+        }
+    }
+}
+
+ghost use Rattle.std.specs.Prelude.{ℕ};
+ghost use Rattle.dsql_history.specs.Readers.Calls.{nobody};
+ghost use Rattle.dsql_history.specs.Readers.Sets.{is_open as is_open_place, is_closing as is_closing_place, is_opening as is_opening_place};
+ghost use Rattle.dsql_history.specs.declared.record.CallRecord.{CallRecord};
+
+use dsql_history::CallRecord;
+
+fn client_of(calls: &Vec<CallRecord>, n: u32) -> u8
+    ensures { result ≡ (slice_index_or calls.now.items n nobody).client }
+{
+    match calls.get(n as usize) {
+        Some(call) => call.client,
+        None => 0,
+    }
+}
+
+fn count_of(counts: &Vec<u32>, c: u32) -> u32
+    ensures { result ≡ slice_index_or counts.now.items c 0 }
+{
+    match counts.get(c as usize) {
+        Some(count) => *count,
+        None => 0,
+    }
+}
+
+fn is_open(place: Place) -> bool
+    ensures { result ≡ is_open_place place }
+{
+    !matches!(place, Place::Nowhere)
+}
+
+fn is_closing(place: Place) -> bool
+    ensures { result ≡ is_closing_place place }
+{
+    matches!(place, Place::Closing)
+}
+
+fn is_opening(place: Place) -> bool
+    ensures { result ≡ is_opening_place place }
+{
+    matches!(place, Place::Opening(_))
+}
+
+/// The test of a connection, where the driver has one.
+fn test_of(caps: Caps) -> Option<DriverCall>
+    ensures { result ≡ test_of caps }
+{
+    if caps.validator {
+        Some(DriverCall::Valid)
+    } else {
+        None
+    }
+}
+
+/// The statement where the driver has the fast path, else the test.
+pub fn body_of(alloc: Global, caps: Caps, text: Txt) -> Option<DriverCall>
+    ensures { result ≡ body_of caps text }
+{
+    if caps.fast_exec {
+        let params = Items::none(alloc);
+        return Some(DriverCall::Exec(Input::Text(text), params));
+    }
+    test_of(caps)
+}
+
+/// What a call sends first on a connection that was lent to it.
+pub fn first_call(alloc: Global, caps: Caps, reset_due: bool, text: Txt) -> Option<DriverCall>
+    ensures { result ≡ line_after caps reset_due text [] }
+{
+    if reset_due {
+        return Some(DriverCall::Reset);
+    }
+    body_of(alloc, caps, text)
+}
+
+/// What comes after a driver call and its answer.
+pub fn next_after(alloc: Global, caps: Caps, text: Txt, call: &DriverCall, answer: &DriverAnswer) -> Option<DriverCall>
+    ensures { result ≡ after_call caps text call.now answer.now }
+{
+    if is_bad_answer(answer) {
+        return None;
+    }
+    match call {
+        DriverCall::Reset => body_of(alloc, caps, text),
+        DriverCall::Exec(_, _) => test_of(caps),
+        _ => None,
+    }
+}
+
+pub fn is_bad_answer(answer: &DriverAnswer) -> bool
+    ensures { result ≡ is_bad answer.now }
+{
+    matches!(answer, DriverAnswer::Bad)
+}
+
+pub fn is_invalid_answer(answer: &DriverAnswer) -> bool
+    ensures { result ≡ is_invalid answer.now }
+{
+    matches!(answer, DriverAnswer::Invalid)
+}
