@@ -1,5 +1,5 @@
 -- What is heard in the tenure of an exec: how far its line has come, and what may come next.
-use Rattle.std.proofs.Common.{◌≡◌, ◌≢◌, ℕ, ◌<◌, ◌≤◌, ◌+◌, ◌==◌, ◌⊎◌, inl, inr, Bool, true, false, not, ◌&&◌, ◌||◌, cond, List, [], ◌∷◌, Option, Some, None, refl, sym, ap, ◌∙◌, subst, is_some}
+use Rattle.std.proofs.Common.{◌≡◌, ℕ, ◌<◌, ◌≤◌, Bool, true, false, ◌&&◌, ◌||◌, List, [], ◌∷◌, Option, Some, None, refl, ap, ◌∙◌, is_some}
 use Rattle.std.specs.List.{list_all, list_any}
 use native.Mathlib.Omega.{arith}
 use Rattle.std.proofs.lemmas.Bool.Decides.{nat_tests}
@@ -7,20 +7,19 @@ use Rattle.dsql_driver.specs.Fits.{fits_of, is_memory, is_invalid}
 use Rattle.dsql_driver.specs.declared.caps.Caps.{Caps}
 use Rattle.dsql_driver.specs.declared.call.DriverCall.{DriverCall}
 use Rattle.dsql_driver.specs.declared.call.DriverCall.TheVariants.{Reset, Valid, Exec}
-use Rattle.dsql_driver.specs.declared.call.Input.TheVariants.{Text, Handle}
+use Rattle.dsql_driver.specs.declared.call.Input.TheVariants.{Text}
 use Rattle.dsql_driver.specs.declared.answer.DriverAnswer.{DriverAnswer}
 use Rattle.dsql_driver.specs.declared.answer.DriverAnswer.TheVariants.{Bad, Invalid}
 use Rattle.dsql_tenure.specs.declared.entry.Entry.{Entry}
 use Rattle.dsql_tenure.specs.declared.entry.Owner.{Owner}
 use Rattle.dsql_tenure.specs.declared.entry.Owner.TheVariants.{Call, Tx, Pin, House}
 use Rattle.dsql_tenure.specs.Kinds.{is_reset, is_valid, is_bad, same_owner}
-use Rattle.dsql_tenure.specs.Readers.{is_empty, of_tenure, last_tenure, went_bad, went_invalid}
+use Rattle.dsql_tenure.specs.Readers.{is_empty, of_tenure, last_tenure, went_invalid}
 use Rattle.dsql_tenure.specs.Journal.{may_follow, IsJournalPrefix}
-use Rattle.dsql_tenure.specs.Facts.{MayFollow}
 use Rattle.dsql_tenure.specs.Entries.{call_entry}
 use Rattle.dsql_tenure.specs.ExecJournals.{Plain, Good}
 use Rattle.dsql_tenure.proofs.Tenures.{of_tenure-new}
-use Rattle.dsql_tenure.proofs.ExecJournals.{Good-with, Plain-reset, Plain-exec, Plain-valid, of_tenure-with, may_follow-reset, may_follow-exec_first, may_follow-exec_after_reset, may_follow-valid, is_whole_tenure-plain}
+use Rattle.dsql_tenure.proofs.ExecJournals.{Good-with, Plain-reset, Plain-exec, Plain-valid, of_tenure-with, may_follow-reset, may_follow-exec_first, may_follow-exec_after_reset, may_follow-valid}
 use Rattle.dsql_history.specs.Readers.Journals.{ends_invalid}
 use Rattle.dsql_history.specs.Rules.Line.{line_after, is_due, after_call, body_of, test_of}
 

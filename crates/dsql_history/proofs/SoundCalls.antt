@@ -13,25 +13,23 @@ use Rattle.dsql_history.specs.declared.event.Event.TheVariants.{Run, Entered, He
 use Rattle.dsql_history.specs.declared.event.Op.{Op}
 use Rattle.dsql_history.specs.declared.event.Move.{Move}
 use Rattle.dsql_history.specs.declared.event.Move.TheVariants.{OpenStart, Lend, Back, CloseStart, Gone, Fell}
-use Rattle.dsql_history.specs.declared.event.CloseCause.{CloseCause}
 use Rattle.dsql_history.specs.declared.record.Place.{Place}
 use Rattle.dsql_history.specs.declared.record.Place.TheVariants.{Nowhere, Opening, Idle, Lent, Closing}
 use Rattle.dsql_history.specs.declared.record.CallRecord.{CallRecord}
 use Rattle.dsql_history.specs.declared.reply.Reply.{Reply}
-use Rattle.dsql_history.specs.Readers.Lists.{without, last}
+use Rattle.dsql_history.specs.Readers.Lists.{last}
 use Rattle.dsql_history.specs.Readers.Course.{has_ended}
 use Rattle.dsql_history.specs.Readers.Sets.{places, place, idle, is_idle, is_opening, is_for, number_of, next_number, next_tenure}
 use Rattle.dsql_history.specs.Readers.Calls.{calls, home, unfinished, is_unfinished, next_call, nobody, with_record, statement, is_busy, decision, refusal}
 use Rattle.dsql_history.specs.Rules.House.{is_quiet, has_no_chore}
 use Rattle.dsql_history.specs.Rules.Moves.{moves_from, numbers_lending}
-use Rattle.dsql_history.specs.Rules.Asking.{keeps_asking, may_ask, takes_latest, opens_for_itself}
+use Rattle.dsql_history.specs.Rules.Asking.{may_ask, takes_latest}
 use Rattle.dsql_history.specs.Rules.Order.{follows, leaves_when_heard, was_just_opened}
 use Rattle.dsql_history.specs.Rules.Replies.{has_let_go, has_cause}
-use Rattle.dsql_history.specs.Rules.Numbers.{keeps_numbers}
 use Rattle.dsql_history.specs.Rules.Course.{begins_with_run, ends_once}
 use Rattle.dsql_history.specs.Legal.{Allowed, Lawful}
 use Rattle.dsql_history.proofs.Rows.{both, not_true, same_number, is_once, has-without, has_push, read_set, read_push, within_rows, once-without, once_push, length-without, length_push}
-use Rattle.dsql_history.proofs.SoundSets.{SoundSets, sound_sets, moves_of}
+use Rattle.dsql_history.proofs.SoundSets.{SoundSets, sound_sets}
 
 -- what holds of the calls of each lawful history
 pub record SoundCalls (H : List Event) : Type 0 where
@@ -53,7 +51,7 @@ owner_of (Tx n) h = absurd cc
 owner_of (Pin n) h = absurd cc
 owner_of House h = absurd cc
 
--- what the connection of a move that a call asks for was before
+-- what holds of a call that may ask for a connection
 pub record Asked (H : List Event) (n : ℕ) : Type 0 where
   pub under_way : is_unfinished H n ≡ true
   pub homeless : home H n ≡ 0
@@ -65,11 +63,12 @@ asked H n h =
     let b = both (is_unfinished H n) (home H n == 0) a.0 in
     record { under_way = b.0; homeless = same_number (home H n) 0 b.1; not_ended = not_true (has_ended H) a.1 }
 
--- The connection of a lending was idle, and the call asked for it; or it was opened for the call just now.
+-- the connection was opened for the call just now
 pub record Opened (H : List Event) (c n : ℕ) : Type 0 where
   pub for_it : place H c ≡ Opening n
   pub heard : was_just_opened c H ≡ true
 
+-- The owner of a lending is a call. Its connection was idle, and the call asked for it; or it was opened for the call just now.
 pub record LendFacts (H : List Event) (c t : ℕ) (o : Owner) (n : ℕ) : Type 0 where
   pub owner : is_call o ≡ true
   pub number : n ≡ number_of o
@@ -110,6 +109,7 @@ lend_facts H c t o n a =
     let r = both (follows H (Pool (Lend c t o n))) (leaves_when_heard H (Pool (Lend c t o n))) a.order in
     lend_from H c t o n (place H c) refl s.0 (same_number n (number_of o) k.1) (same_number t (next_tenure H c) k.0) a.asking r.1 r.0
 
+-- An opening has the next number, is for a call that asks, and comes only where none is idle.
 pub record OpenFacts (H : List Event) (c n : ℕ) : Type 0 where
   pub new : c ≡ length (places H)
   pub asks : Asked H n

@@ -1,7 +1,6 @@
 -- What was heard of each connection in each lawful history, by induction: a lemma for each kind of event.
-use Rattle.std.proofs.Common.{◌≡◌, ◌≢◌, ℕ, zero, suc, ◌<◌, ◌≤◌, ◌+◌, ◌==◌, ◌⊎◌, inl, inr, Bool, true, false, not, ◌&&◌, ◌||◌, cond, List, [], ◌∷◌, ◌++◌, length, get_or, set, length-set, refl, sym, ap, subst, is_some, ◌∙◌}
+use Rattle.std.proofs.Common.{◌≡◌, ◌≢◌, ℕ, zero, suc, ◌<◌, ◌≤◌, ◌+◌, ◌==◌, ◌⊎◌, inl, inr, Bool, true, false, not, ◌&&◌, ◌||◌, cond, List, [], ◌∷◌, length, get_or, set, length-set, refl, sym, ap, subst, is_some, ◌∙◌}
 use native.Mathlib.Omega.{arith}
-use Rattle.std.proofs.lemmas.Grind.{common_steps}
 use Rattle.std.proofs.lemmas.Bool.Decides.{nat_tests}
 use Rattle.dsql_driver.specs.Fits.{fits_of, is_memory, is_done, is_failure}
 use Rattle.dsql_driver.specs.declared.call.DriverCall.TheVariants.{Connect, Shut}
@@ -11,7 +10,7 @@ use Rattle.dsql_tenure.specs.declared.entry.Entry.{Entry}
 use Rattle.dsql_tenure.specs.declared.entry.Owner.{Owner}
 use Rattle.dsql_tenure.specs.declared.entry.Owner.TheVariants.{Call, Tx, Pin, House}
 use Rattle.dsql_tenure.specs.Kinds.{is_call, is_connect, is_shut, is_house, same_owner}
-use Rattle.dsql_tenure.specs.Readers.{last_tenure, went_bad}
+use Rattle.dsql_tenure.specs.Readers.{went_bad}
 use Rattle.dsql_tenure.specs.Tenure.{is_whole_tenure}
 use Rattle.dsql_tenure.specs.Journal.{may_follow, is_whole, IsJournalPrefix, IsWhole}
 use Rattle.dsql_tenure.specs.Entries.{call_entry, connect_entry, shut_entry}
@@ -20,13 +19,11 @@ use Rattle.dsql_tenure.proofs.Tenures.{of_tenure-new}
 use Rattle.dsql_tenure.proofs.ExecJournals.{IsJournalPrefix-with, is_whole_tenure-plain, may_follow-connect, is_whole-refused, may_follow-shut, is_whole-shut}
 use Rattle.dsql_history.specs.declared.event.Event.{Event}
 use Rattle.dsql_history.specs.declared.event.Event.TheVariants.{Run, Entered, Heard, Pool, Replied, Ended}
-use Rattle.dsql_history.specs.declared.event.Op.{Op}
 use Rattle.dsql_history.specs.declared.event.Move.{Move}
 use Rattle.dsql_history.specs.declared.event.Move.TheVariants.{OpenStart, Lend, Back, CloseStart, Gone, Fell}
 use Rattle.dsql_history.specs.declared.event.CloseCause.{CloseCause}
 use Rattle.dsql_history.specs.declared.record.Place.{Place}
 use Rattle.dsql_history.specs.declared.record.Place.TheVariants.{Nowhere, Opening, Idle, Lent, Closing}
-use Rattle.dsql_history.specs.declared.reply.Reply.{Reply}
 use Rattle.dsql_history.specs.Readers.Course.{caps, has_ended}
 use Rattle.dsql_history.specs.Readers.Sets.{places, place, idle, is_opening, is_closing, is_lent, is_idle, number_of, all_lends, lends, all_uses, uses, next_tenure}
 use Rattle.dsql_history.specs.Readers.Calls.{call_record}
@@ -37,11 +34,11 @@ use Rattle.dsql_history.specs.Rules.Causes.{returns_from}
 use Rattle.dsql_history.specs.Rules.Line.{sends_from, is_reset_due, due, is_due}
 use Rattle.dsql_history.specs.Rules.Settled.{is_placed}
 use Rattle.dsql_history.specs.Legal.{Allowed, Lawful, has_left, KeepsJournals}
-use Rattle.dsql_history.proofs.Rows.{both, not_true, same_number, same_to_itself, other_number, by_number, row_at, row_off, row_new, row_old, read_set, within_rows, length_push}
-use Rattle.dsql_history.proofs.SoundSets.{SoundSets, sound_sets, moves_of}
+use Rattle.dsql_history.proofs.Rows.{both, same_number, same_to_itself, other_number, by_number, row_at, row_off, row_new, row_old, read_set, within_rows, length_push}
+use Rattle.dsql_history.proofs.SoundSets.{SoundSets, sound_sets}
 use Rattle.dsql_history.proofs.SoundCalls.{LendFacts, lend_facts, Opened, OpenFacts, open_facts, Asked, owner_of}
-use Rattle.dsql_history.proofs.Lines.{Serves, call_owner, call_entry_of, due_while, may_follow-due}
-use Rattle.dsql_history.proofs.Standing.{Stands, Opens, Rests, Leaves, Works, stands_on, works_first, rests_opened, rests_again, leaves_idle, leaves_lent, opens_heard, works_heard, good_when}
+use Rattle.dsql_history.proofs.Lines.{call_owner, call_entry_of, due_while, may_follow-due}
+use Rattle.dsql_history.proofs.Standing.{Stands, Rests, Leaves, stands_on, works_first, rests_opened, rests_again, leaves_idle, leaves_lent, opens_heard, works_heard, good_now}
 
 -- what was heard of connection c fits where it stands
 abbrev pub StandsIn : List Event → ℕ → Type 0
@@ -153,7 +150,7 @@ stands_open H c n z s a f d =
 -- a connection to be lent is at rest, as is one that was opened just now
 rests_from : (H : List Event) (c n : ℕ) → SoundJournals H → ((place H c ≡ Idle) × Asked H n) ⊎ Opened H c n → Rests c (lends H c) (journal H c)
 rests_from H c n s (inl w) = rw w.0 at (s.stands c)
-rests_from H c n s (inr w) = rests_opened c (lends H c) (uses H c) n (was_just_heard c H) (journal H c) (rw (w.for_it, w.heard) at (s.stands c))
+rests_from H c n s (inr w) = rests_opened c (lends H c) (uses H c) (was_just_heard c H) (journal H c) (rw (w.for_it, w.heard) at (s.stands c))
 
 row_from : (H : List Event) (c n : ℕ) → ((place H c ≡ Idle) × Asked H n) ⊎ Opened H c n → c < length (places H)
 row_from H c n (inl w) = row_of H c (somewhere (place H c) Idle w.0 (λ e. cc))
@@ -180,7 +177,7 @@ stands_lend H c t o n z s a f d =
     refl
     (row_off (places H) c (Lent t o) d Nowhere not))
 
--- what an allowed Back or CloseStart says of its cause
+-- a connection that is given back is kept
 back_kept : (H : List Event) (c : ℕ) → Allowed H (Pool (Back c)) → returns_from H (place H c) c ≡ true
 unfolding Allowed
 back_kept H c a = a.causes
@@ -249,7 +246,7 @@ stands_fell H c n s a d =
     (rw (row_out (places H) c) tt)
     (λ not. untouched H (Pool (Fell c n)) d s a.follows (other_number c d (λ e. not (sym e))) refl refl refl (row_off (places H) c Nowhere d Nowhere not))
 
--- What an allowed answer says of its entry.
+-- what an allowed answer finds
 pub record HeardFacts (H : List Event) (e : Entry) : Type 0 where
   pub fits : hears_in H (place H e.conn) e ≡ true
   pub sends : sends_from H (place H e.conn) e ≡ true
@@ -331,13 +328,13 @@ journals_move H (Fell c n) z s a = journals_moved H (Fell c n) s (same_rows (pla
 hears_somewhere : (H : List Event) (q : Place) (e : Entry) → hears_in H q e ≡ true → q ≢ Nowhere
 hears_somewhere H q e h is = let k = rw is at h in cc
 
-prefix_heard : (e : Entry) (J : List Entry) (b : Bool) (c : ℕ) → IsJournalPrefix J → (b ≡ true → may_follow J e ≡ true) → IsJournalPrefix (cond b (e ∷ J) J)
-prefix_heard e J true c beginning may = IsJournalPrefix-with e J beginning (may refl)
-prefix_heard e J false c beginning may = beginning
+prefix_heard : (e : Entry) (J : List Entry) (b : Bool) → IsJournalPrefix J → (b ≡ true → may_follow J e ≡ true) → IsJournalPrefix (cond b (e ∷ J) J)
+prefix_heard e J true beginning may = IsJournalPrefix-with e J beginning (may refl)
+prefix_heard e J false beginning may = beginning
 
 journals_heard : (H : List Event) (e : Entry) → SoundJournals H → HeardFacts H e → SoundJournals (Heard e ∷ H)
 journals_heard H e s a = record {
-  beginnings = λ d. prefix_heard e (journal H d) (e.conn == d) d (s.beginnings d) (λ h. rw (← same_number e.conn d h) a.may);
+  beginnings = λ d. prefix_heard e (journal H d) (e.conn == d) (s.beginnings d) (λ h. rw (← same_number e.conn d h) a.may);
   unborn = λ d h.
       let row : e.conn < length (places H) = row_of H e.conn (hears_somewhere H (place H e.conn) e a.fits) in
       let off : (e.conn == d) ≡ false = other_number e.conn d (λ k. absurd (omega arith)) in
@@ -407,7 +404,7 @@ pub good_while_due : (H : List Event) (c t n : ℕ) → Lawful H → place H c �
 good_while_due H c t n l is some =
     let s = stands_at H c (Lent t (Call n)) l is in
     let v = s.serves in
-    good_when c t n (journal H c) v (v.good (due_while (caps H) (is_reset_due H c) (call_record H n).text (heard_in H c t) some))
+    good_now (journal H c) (v.good (due_while (caps H) (is_reset_due H c) (call_record H n).text (heard_in H c t) some))
 
 -- what is due may follow, whatever it is answered
 pub follows_due : (H : List Event) (e : Entry) (t n : ℕ) → Lawful H → place H e.conn ≡ Lent t (Call n) → is_due (due H e.conn t n) e.call ≡ true → e.tenure ≡ t → e.owner ≡ Call n → e.call_no ≡ n

@@ -1,17 +1,17 @@
 -- What was heard of a connection, by where it stands: facts of one connection alone.
-use Rattle.std.proofs.Common.{◌≡◌, ◌≢◌, ℕ, ◌<◌, ◌≤◌, ◌+◌, ◌==◌, ◌⊎◌, inl, inr, Bool, true, false, not, ◌&&◌, ◌||◌, cond, List, [], ◌∷◌, Option, Some, None, refl, sym, ap, ◌∙◌, subst, is_some}
+use Rattle.std.proofs.Common.{◌≡◌, ℕ, ◌≤◌, ◌+◌, ◌==◌, Bool, true, false, not, ◌&&◌, ◌||◌, List, [], ◌∷◌, refl, sym, ◌∙◌, subst}
 use native.Mathlib.Omega.{arith}
 use Rattle.std.proofs.lemmas.Bool.Decides.{nat_tests}
-use Rattle.dsql_driver.specs.Fits.{fits_of, is_memory, is_done, is_failure}
+use Rattle.dsql_driver.specs.Fits.{is_done}
 use Rattle.dsql_driver.specs.declared.caps.Caps.{Caps}
 use Rattle.dsql_driver.specs.declared.call.DriverCall.{DriverCall}
-use Rattle.dsql_driver.specs.declared.call.DriverCall.TheVariants.{Connect, Reset, Valid, Exec, Shut}
+use Rattle.dsql_driver.specs.declared.call.DriverCall.TheVariants.{Connect, Reset, Valid}
 use Rattle.dsql_driver.specs.declared.answer.DriverAnswer.{DriverAnswer}
 use Rattle.dsql_driver.specs.declared.answer.DriverAnswer.TheVariants.{Done}
 use Rattle.dsql_tenure.specs.declared.entry.Entry.{Entry}
 use Rattle.dsql_tenure.specs.declared.entry.Owner.{Owner}
 use Rattle.dsql_tenure.specs.declared.entry.Owner.TheVariants.{Call, Tx, Pin, House}
-use Rattle.dsql_tenure.specs.Kinds.{◌⇒◌, is_connect, is_shut, is_house, same_owner, is_reset, is_valid}
+use Rattle.dsql_tenure.specs.Kinds.{◌⇒◌, is_connect, is_house, is_reset, is_valid}
 use Rattle.dsql_tenure.specs.Readers.{of_tenure, last_tenure, went_bad, went_invalid}
 use Rattle.dsql_tenure.specs.Journal.{may_follow, IsJournalPrefix}
 use Rattle.dsql_tenure.specs.Facts.{MayFollow}
@@ -22,10 +22,10 @@ use Rattle.dsql_tenure.proofs.ExecJournals.{Plain-connect, Good-connect}
 use Rattle.dsql_history.specs.declared.record.Place.{Place}
 use Rattle.dsql_history.specs.declared.record.Place.TheVariants.{Nowhere, Opening, Idle, Lent, Closing}
 use Rattle.dsql_history.specs.Readers.Journals.{ends_invalid}
-use Rattle.dsql_history.specs.Readers.Sets.{is_opening, is_closing, number_of}
+use Rattle.dsql_history.specs.Readers.Sets.{is_opening, is_closing}
 use Rattle.dsql_history.specs.Rules.Causes.{cause_when, is_kept}
 use Rattle.dsql_history.specs.Rules.Line.{line_after, is_due}
-use Rattle.dsql_history.proofs.Rows.{both, same_number, not_true}
+use Rattle.dsql_history.proofs.Rows.{same_number}
 use Rattle.dsql_history.proofs.Lines.{Serves, serves_first, serves_on, sent_of, is_sent, call_entry_of, entry_with, same_parts}
 
 -- Below l is how often the connection c was lent, u how often to another owner than the House, J its journal, heard whether something
@@ -78,8 +78,8 @@ stands_on c l u heard opened J Closing s h = λ k. s (h refl)
 pub works_first : (c l t n : ℕ) (J : List Entry) → IsJournalPrefix J → Rests c l J → t ≡ l + 2 → Works c (l + 1) t n J
 works_first c l t n J beginning s is = record { tenure = omega arith; serves = serves_first c t n J beginning s.plain s.good (omega (arith, s.below)) }
 
-pub rests_opened : (c l u n : ℕ) (heard : Bool) (J : List Entry) → Opens c l u heard true J → Rests c l J
-rests_opened c l u n heard J s =
+pub rests_opened : (c l u : ℕ) (heard : Bool) (J : List Entry) → Opens c l u heard true J → Rests c l J
+rests_opened c l u heard J s =
     let is : J ≡ connect_entry c Done ∷ [] = s.done refl in
     record {
       plain = rw is (Plain-connect c);
@@ -139,8 +139,8 @@ opens_heard c l u opened J e s may conn connect tenure owner number =
       unused = s.unused;
       fresh = λ h. absurd cc;
       done = λ h.
-      let it : e ≡ connect_entry c Done = is ∙ whole_parts e.call Connect e.answer Done c (connect_only e.call connect) (done_only e.answer h) in
-      rw (none, it) refl;
+          let it : e ≡ connect_entry c Done = is ∙ whole_parts e.call Connect e.answer Done c (connect_only e.call connect) (done_only e.answer h) in
+          rw (none, it) refl;
     }
 
 call_tx : (q : DriverCall) (x : ℕ) → is_sent q ≡ true → (is_reset q || is_valid q) ⇒ (x == 0) ≡ true → (not (is_reset q || is_valid q) ≡ true → x ≡ 0) → x ≡ 0
@@ -154,14 +154,14 @@ pub works_heard : (c l t n : ℕ) (J : List Entry) (e : Entry) (can : Caps) (res
 works_heard c l t n J e can reset text s may conn tenure owner number due =
     let m : MayFollow J e = MayFollow-of J e may in
     let tx : e.tx ≡ 0 =
-        call_tx e.call e.tx (sent_of (line_after can reset text (of_tenure t J)) e.call due) m.tenure.tests
-        (λ body. let b = rw owner at (m.tenure.in_body body) in same_number e.tx 0 b.no_transaction) in
+    call_tx e.call e.tx (sent_of (line_after can reset text (of_tenure t J)) e.call due) m.tenure.tests
+    (λ body. let b = rw owner at (m.tenure.in_body body) in same_number e.tx 0 b.no_transaction) in
     let is : e ≡ call_entry c t n e.call e.answer = call_entry_of c t n e conn tenure owner number tx in
     record { tenure = s.tenure; serves = subst (λ (x : Entry). Serves c t n (x ∷ J)) (sym is) (serves_on c t n J can reset text e.call e.answer s.serves due m.answer.fitting) }
 
--- what stands where nothing is due any more
-pub good_when : (c t n : ℕ) (J : List Entry) → Serves c t n J → Good J → (went_bad J ≡ false) × (ends_invalid J ≡ false)
-good_when c t n J s good = (good.not_bad, ends_well J good.not_invalid)
+-- where all is Good nothing was answered Bad, and no test failed just now
+pub good_now : (J : List Entry) → Good J → (went_bad J ≡ false) × (ends_invalid J ≡ false)
+good_now J good = (good.not_bad, ends_well J good.not_invalid)
   where
     ends_well : (L : List Entry) → went_invalid L ≡ false → ends_invalid L ≡ false
     ends_well [] h = refl

@@ -1,15 +1,63 @@
 //! What holds of every lawful history: each law is the contract of a function that does nothing. A
 //! history is read newest first.
 
-ghost use Rattle.std.specs.Prelude.{◌≡◌, ◌<◌, ◌≤◌, ◌+◌, ℕ, List, ◌∷◌, length};
-ghost use Rattle.dsql_tenure.specs.Readers.{has};
+ghost use Rattle.std.specs.Prelude.{◌≡◌, ◌<◌, ◌≤◌, ◌+◌, ℕ, true, false, List, [], ◌∷◌, length, is_some};
+ghost use Rattle.dsql_driver.specs.Fits.{fits_of, is_memory};
+ghost use Rattle.dsql_driver.specs.declared.answer.DriverAnswer.{DriverAnswer};
+ghost use Rattle.dsql_driver.specs.declared.call.DriverCall.TheVariants.{Connect, Shut};
+ghost use Rattle.dsql_tenure.specs.declared.entry.Entry.{Entry};
+ghost use Rattle.dsql_tenure.specs.declared.entry.Owner.{Owner};
+ghost use Rattle.dsql_tenure.specs.declared.entry.Owner.TheVariants.{Call};
+ghost use Rattle.dsql_tenure.specs.Entries.{connect_entry, shut_entry};
+ghost use Rattle.dsql_tenure.specs.Journal.{may_follow};
+ghost use Rattle.dsql_tenure.specs.Kinds.{is_call};
+ghost use Rattle.dsql_tenure.specs.Readers.{has, went_bad};
+ghost use Rattle.dsql_tenure.specs.Tenure.{is_whole_tenure};
 ghost use Rattle.dsql_history.specs.declared.event.Event.{Event};
-ghost use Rattle.dsql_history.specs.declared.record.Place.TheVariants.{Nowhere};
-ghost use Rattle.dsql_history.specs.Readers.Sets.{place, idle, is_idle};
-ghost use Rattle.dsql_history.specs.Legal.{Lawful};
+ghost use Rattle.dsql_history.specs.declared.event.Event.TheVariants.{Heard};
+ghost use Rattle.dsql_history.specs.declared.record.Place.TheVariants.{Nowhere, Opening, Lent, Closing};
+ghost use Rattle.dsql_history.specs.Legal.{Lawful, KeepsJournals};
+ghost use Rattle.dsql_history.specs.Readers.Calls.{calls, home, is_unfinished};
+ghost use Rattle.dsql_history.specs.Readers.Course.{has_ended};
+ghost use Rattle.dsql_history.specs.Readers.Journals.{journal, ends_invalid};
+ghost use Rattle.dsql_history.specs.Readers.Sets.{places, place, idle, is_idle, is_for, lends, next_tenure};
+ghost use Rattle.dsql_history.specs.Rules.Line.{due, is_due};
+ghost use Rattle.dsql_history.specs.Rules.Settled.{is_placed};
 
-/// The idle list has just the connections whose place is idle, and connection 0 is nowhere.
+/// The idle list has just the connections whose place is idle. Connection 0 is nowhere.
 pub fn sets_of_lawful_histories()
     ensures idle { (history : List Event) (c : ℕ) → Lawful history → has c (idle history) ≡ is_idle (place history c) }
     ensures none { (history : List Event) → Lawful history → place history 0 ≡ Nowhere }
+    ensures few { (history : List Event) → Lawful history → length (places history) ≤ length history + 1 }
+{}
+
+/// A connection is lent to calls alone, and opened for them: to one that has no reply yet and that no
+/// other connection is lent to or opened for. After the run ended none is.
+pub fn calls_of_lawful_histories()
+    ensures owner { (history : List Event) (c t : ℕ) (owner : Owner) → Lawful history → place history c ≡ Lent t owner → is_call owner ≡ true }
+    ensures one { (history : List Event) (c n : ℕ) → Lawful history → is_for n (place history c) ≡ true → home history n ≡ c }
+    ensures unfinished { (history : List Event) (c n : ℕ) → Lawful history → is_for n (place history c) ≡ true → is_unfinished history n ≡ true }
+    ensures number { (history : List Event) (n : ℕ) → Lawful history → is_unfinished history n ≡ true → (0 < n) × (n < length (calls history)) }
+    ensures ended { (history : List Event) (c n : ℕ) → Lawful history → has_ended history ≡ true → is_for n (place history c) ≡ false }
+{}
+
+/// Each connection's journal is a beginning of a whole one, and whole once the connection is gone.
+pub fn journals_of_lawful_histories()
+    ensures { (history : List Event) → Lawful history → KeepsJournals history }
+{}
+
+/// A lent connection has the tenure of its last lending, and can be given back at any time. As long as
+/// a driver call is due on it, none was answered Bad and no test of it failed.
+pub fn tenures_of_lawful_histories()
+    ensures tenure { (history : List Event) (c t : ℕ) (owner : Owner) → Lawful history → place history c ≡ Lent t owner → t ≡ lends history c + 1 }
+    ensures whole { (history : List Event) (c t n : ℕ) → Lawful history → place history c ≡ Lent t (Call n) → is_whole_tenure t (journal history c) ≡ true }
+    ensures good { (history : List Event) (c t n : ℕ) → Lawful history → place history c ≡ Lent t (Call n) → is_some (due history c t n) ≡ true → (went_bad (journal history c) ≡ false) × (ends_invalid (journal history c) ≡ false) }
+{}
+
+/// Whatever a driver answers to the call that is due, to a Connect or to a Shut, if only it fits the
+/// call, the journal goes on as it may.
+pub fn every_answer_may_follow()
+    ensures due { (history : List Event) (e : Entry) (t n : ℕ) → Lawful history → place history e.conn ≡ Lent t (Call n) → is_due (due history e.conn t n) e.call ≡ true → e.tenure ≡ t → e.owner ≡ Call n → e.call_no ≡ n → e.tx ≡ 0 → fits_of e.call e.answer ≡ true → is_memory e.answer ≡ false → may_follow (journal history e.conn) e ≡ true }
+    ensures connect { (history : List Event) (c n : ℕ) (answer : DriverAnswer) → Lawful history → is_placed history ≡ true → place history c ≡ Opening n → fits_of Connect answer ≡ true → is_memory answer ≡ false → may_follow (journal history c) (connect_entry c answer) ≡ true }
+    ensures shut { (history : List Event) (c : ℕ) (answer : DriverAnswer) → Lawful history → is_placed history ≡ true → place history c ≡ Closing → fits_of Shut answer ≡ true → is_memory answer ≡ false → may_follow (journal history c) (shut_entry c (next_tenure history c) answer) ≡ true }
 {}

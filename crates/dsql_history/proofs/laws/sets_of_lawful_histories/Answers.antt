@@ -6,3 +6,6 @@ returns-clause-idle c = λ H d l. let s = sound_sets H l in s.idle_ones d
 
 pub returns-clause-none : goal.returns-clause-none
 returns-clause-none c = λ H l. let s = sound_sets H l in s.no_zero
+
+pub returns-clause-few : goal.returns-clause-few
+returns-clause-few c = λ H l. let s = sound_sets H l in s.few_places
