@@ -1,3 +1,6 @@
 pub mod Counts
 pub mod Basics
 pub mod Leaving
+pub mod Moving
+pub mod Shutting
+pub mod Connecting

@@ -1,3 +1,4 @@
+pub mod Freshly
 pub mod Latest
 pub mod Told
 pub mod Desk

@@ -7,7 +7,7 @@ ghost use Rattle.dsql_history.specs.Rules.Limit.{room};
 ghost use Rattle.dsql_history.specs.Rules.Line.{is_reset_due, line_after, body_of, test_of, after_call};
 ghost use Rattle.dsql_history.specs.Rules.House.{shut_due, connect_due};
 ghost use Rattle.dsql_history.specs.Rules.Causes.{cause_when};
-ghost use Rattle.dsql_driver.specs.Fits.{is_invalid};
+ghost use Rattle.dsql_driver.specs.Fits.{is_invalid, is_done};
 ghost use Rattle.dsql_tenure.specs.Kinds.{is_bad};
 ghost use Rattle.dsql_engine.specs.Desk.{past, Stands};
 ghost use Rattle.dsql_engine.specs.Groups.{call_of};
@@ -75,6 +75,14 @@ impl Desk {
         ensures { result ≡ is_reset_due (past self.now) c }
     {
         self.caps.resetter && count_of(&self.uses, c) >= 2
+    }
+
+    /// What the driver can do.
+    pub fn caps(&self) -> Caps
+        requires { Stands self.now }
+        ensures { result ≡ caps (past self.now) }
+    {
+        self.caps
     }
 
     /// The connection that came back last.
@@ -257,6 +265,12 @@ pub fn is_bad_answer(answer: &DriverAnswer) -> bool
     ensures { result ≡ is_bad answer.now }
 {
     matches!(answer, DriverAnswer::Bad)
+}
+
+pub fn is_done_answer(answer: &DriverAnswer) -> bool
+    ensures { result ≡ is_done answer.now }
+{
+    matches!(answer, DriverAnswer::Done)
 }
 
 pub fn is_invalid_answer(answer: &DriverAnswer) -> bool

@@ -1,28 +1,35 @@
 //! Whole steps: compositions of event methods, each of which leaves the history settled.
-ghost use Rattle.std.specs.Prelude.{◌≡◌, ◌+◌, ◌<◌, ◌≤◌, ◌∷◌, [], Some, None, true, false, length};
-ghost use Rattle.dsql_driver.specs.Fits.{fits_of, is_memory, is_invalid};
-ghost use Rattle.dsql_tenure.specs.Readers.{went_bad};
+ghost use Rattle.std.specs.Prelude.{◌≡◌, ◌+◌, ◌<◌, ◌≤◌, ◌∷◌, [], Some, None, true, false, length, nat_lt, option_map};
+ghost use Rattle.dsql_driver.specs.Fits.{fits_of, is_memory, is_invalid, is_done};
+ghost use Rattle.dsql_tenure.specs.Readers.{went_bad, is_empty};
 ghost use Rattle.dsql_tenure.specs.declared.entry.Owner.TheVariants.{Call};
 ghost use Rattle.dsql_history.specs.Legal.{Lawful};
 ghost use Rattle.dsql_history.specs.Readers.Course.{caps, has_ended};
-ghost use Rattle.dsql_history.specs.Readers.Sets.{place, idle};
+ghost use Rattle.dsql_history.specs.Readers.Sets.{place, idle, open_count, next_tenure};
 ghost use Rattle.dsql_history.specs.Readers.Journals.{journal, ends_invalid};
 ghost use Rattle.dsql_history.specs.Readers.Calls.{statement, skipped as skipped_text, next_call, is_busy, call_record, home, is_unfinished};
 ghost use Rattle.dsql_history.specs.Rules.House.{is_quiet};
 ghost use Rattle.dsql_history.specs.Rules.Line.{due};
+ghost use Rattle.dsql_history.specs.Rules.Limit.{room};
 ghost use Rattle.dsql_history.specs.Rules.Causes.{cause};
 ghost use Rattle.dsql_history.specs.Rules.Settled.{Settled};
+ghost use Rattle.dsql_history.specs.declared.event.Event.{Event};
+ghost use Rattle.dsql_history.specs.declared.event.Event.TheVariants.{Heard};
+ghost use Rattle.dsql_history.specs.declared.event.Move.{Move};
 ghost use Rattle.dsql_history.specs.declared.record.Place.TheVariants.{Opening, Lent, Closing};
 ghost use Rattle.dsql_engine.specs.Desk.{past, Stands};
 ghost use Rattle.dsql_engine.specs.Awaited.{awaited, connect_permit, shut_permit, call_permit, permit_of};
-ghost use Rattle.dsql_engine.specs.Groups.{after_enter, after_answer, after_body, after_lending, closings, leaving, told};
-ghost use Rattle.dsql_engine.specs.Steps.{NextAfterEnter, NextOfBody};
+ghost use Rattle.dsql_engine.specs.Latest.{latest};
+ghost use Rattle.dsql_engine.specs.Freshly.{Freshly};
+ghost use Rattle.dsql_engine.specs.Groups.{after_enter, after_ask, after_heard, after_answer, after_lending, lent_to, closings, leaving, told};
+ghost use Rattle.dsql_engine.specs.Steps.{NextAfterEnter, NextAfterAsk, NextAfterHeard, NextAfterAnswer, NextOfBody};
 
 use crate::desk::Desk;
 use crate::next::{Next, Why};
-use crate::queries::{first_call, is_bad_answer, is_invalid_answer, next_after};
+use crate::queries::{first_call, is_bad_answer, is_done_answer, is_invalid_answer, next_after};
+use crate::room::reply_of;
 use dsql_driver::{DriverAnswer, DriverCall};
-use dsql_history::{CloseCause, Op};
+use dsql_history::{Op, Place};
 use dsql_tenure::{Entry, Owner, Permit};
 use dsql_value::Txt;
 use std::alloc::Global;
@@ -79,4 +86,221 @@ impl Desk {
             Some(cause) => self.start_closing(c, cause),
         }
     }
+}
+
+impl Desk {
+    /// A client's call enters and asks for a connection.
+    pub fn enter_and_ask(&mut self, alloc: Global, client: u8, op: Op, texts: Texts, skipped: Txt) -> Next
+        requires stands { Stands self.old }
+        requires settled { Settled (past self.old) }
+        requires begun { is_empty (past self.old) ≡ false }
+        requires free { is_busy client (past self.old) ≡ false }
+        requires running { has_ended (past self.old) ≡ false }
+        requires few { length (past self.old) < 4000000 }
+        requires text { texts.kept ≡ statement op }
+        requires spare { texts.sent ≡ statement op }
+        requires skipped { skipped ≡ skipped_text }
+        requires paid { 4 ≤ self.old.paid }
+        ensures stands { Stands self.new }
+        ensures settled { Settled (past self.new) }
+        ensures group { past self.new ≡ after_enter (past self.old) client op }
+        ensures next { NextAfterEnter (past self.old) client op result (past self.new) }
+    {
+        let n = self.next_call();
+        self.enter(n, client, op, texts.kept);
+        match self.latest() {
+            Some(c) => self.lend_idle(alloc, c, n, texts.sent, skipped),
+            None => self.open_or_refuse(n),
+        }
+    }
+
+    /// The idle connection that came back last is lent to a call that has just entered.
+    fn lend_idle(&mut self, alloc: Global, c: u32, n: u32, text: Txt, skipped: Txt) -> Next
+        requires stands { Stands self.old }
+        requires settled { Freshly (past self.old) n }
+        requires running { has_ended (past self.old) ≡ false }
+        requires latest { latest (idle (past self.old)) ≡ Some c }
+        requires few { length (past self.old) < 4000001 }
+        requires text { text ≡ (call_record (past self.old) n).text }
+        requires skipped { skipped ≡ skipped_text }
+        requires paid { 3 ≤ self.old.paid }
+        ensures stands { Stands self.new }
+        ensures settled { Settled (past self.new) }
+        ensures group { past self.new ≡ after_lending c (next_tenure (past self.old) c) n (lent_to (past self.old) c n) }
+        ensures next { NextOfBody c n (due (lent_to (past self.old) c n) c (next_tenure (past self.old) c) n) result (past self.new) }
+    {
+        let tenure = self.next_tenure(c);
+        self.lend(c, tenure, n);
+        let next = first_call(alloc, self.caps(), self.is_reset_due(c), text);
+        self.use_lent(c, tenure, n, next, false, false, skipped)
+    }
+
+    /// A connection begins to be opened for a call that has just entered, where one more may be; else the
+    /// call is refused.
+    fn open_or_refuse(&mut self, n: u32) -> Next
+        requires stands { Stands self.old }
+        requires settled { Freshly (past self.old) n }
+        requires running { has_ended (past self.old) ≡ false }
+        requires none { idle (past self.old) ≡ [] }
+        requires few { length (past self.old) < 4000001 }
+        requires paid { 3 ≤ self.old.paid }
+        ensures stands { Stands self.new }
+        ensures settled { Settled (past self.new) }
+        ensures group { past self.new ≡ after_ask (past self.old) n [] }
+        ensures next { NextAfterAsk (past self.old) n [] (nat_lt (open_count (past self.old)) room) result (past self.new) }
+    {
+        if self.may_open() {
+            let c = self.next_number();
+            self.start_opening(c, n);
+            Next::Blocked(Why::Opening)
+        } else {
+            self.refuse(n);
+            Next::Reply(n)
+        }
+    }
+
+    /// A driver's answer is heard; the copy is of that answer, and the text of its call's statement.
+    pub fn hear_answer(&mut self, alloc: Global, entry: Entry, copy: DriverAnswer, text: Txt, skipped: Txt) -> Next
+        requires stands { Stands self.old }
+        requires settled { Settled (past self.old) }
+        requires awaited { awaited (past self.old) entry.conn ≡ Some (permit_of entry) }
+        requires fitting { fits_of entry.call entry.answer ≡ true }
+        requires heard { is_memory entry.answer ≡ false }
+        requires same { copy ≡ entry.answer }
+        requires few { length (past self.old) < 4000000 }
+        requires text { text ≡ (call_record (past self.old) entry.call_no).text }
+        requires skipped { skipped ≡ skipped_text }
+        requires paid { 4 ≤ self.old.paid }
+        ensures stands { Stands self.new }
+        ensures settled { Settled (past self.new) }
+        ensures group { past self.new ≡ after_heard (past self.old) entry }
+        ensures next { NextAfterHeard (past self.old) entry result (past self.new) }
+    {
+        match self.place(entry.conn) {
+            Place::Opening(n) => self.hear_connect(n, entry, copy),
+            Place::Lent(tenure, Owner::Call(n)) => self.hear_call(alloc, tenure, n, entry, copy, text, skipped),
+            Place::Closing => self.hear_shut(entry),
+            _ => unreachable!(),
+        }
+    }
+
+    /// The answer to a Connect.
+    fn hear_connect(&mut self, n: u32, entry: Entry, copy: DriverAnswer) -> Next
+        requires stands { Stands self.old }
+        requires settled { Settled (past self.old) }
+        requires opening { place (past self.old) entry.conn ≡ Opening n }
+        requires permit { permit_of entry ≡ connect_permit entry.conn }
+        requires fitting { fits_of entry.call entry.answer ≡ true }
+        requires heard { is_memory entry.answer ≡ false }
+        requires same { copy ≡ entry.answer }
+        requires few { length (past self.old) < 4000000 }
+        requires paid { 4 ≤ self.old.paid }
+        ensures stands { Stands self.new }
+        ensures settled { Settled (past self.new) }
+        ensures group { past self.new ≡ after_answer (Opening n) entry (Heard entry ∷ past self.old) }
+        ensures next { result ≡ Next.Quiet }
+    {
+        if is_done_answer(&entry.answer) {
+            self.connected(n, entry)
+        } else {
+            self.refused(n, entry, copy)
+        }
+    }
+
+    /// An opened connection goes to the call that it was opened for.
+    fn connected(&mut self, n: u32, entry: Entry) -> Next
+        requires stands { Stands self.old }
+        requires settled { Settled (past self.old) }
+        requires opening { place (past self.old) entry.conn ≡ Opening n }
+        requires permit { permit_of entry ≡ connect_permit entry.conn }
+        requires fitting { fits_of entry.call entry.answer ≡ true }
+        requires heard { is_memory entry.answer ≡ false }
+        requires done { is_done entry.answer ≡ true }
+        requires few { length (past self.old) < 4000000 }
+        requires paid { 4 ≤ self.old.paid }
+        ensures stands { Stands self.new }
+        ensures settled { Settled (past self.new) }
+        ensures group { past self.new ≡ lent_to (Heard entry ∷ past self.old) entry.conn n }
+        ensures next { result ≡ Next.Quiet }
+    {
+        let c = entry.conn;
+        self.hear_house(entry);
+        let tenure = self.next_tenure(c);
+        self.lend(c, tenure, n);
+        Next::Quiet
+    }
+
+    /// A refused Connect falls to the call that it was for.
+    fn refused(&mut self, n: u32, entry: Entry, copy: DriverAnswer) -> Next
+        requires stands { Stands self.old }
+        requires settled { Settled (past self.old) }
+        requires opening { place (past self.old) entry.conn ≡ Opening n }
+        requires permit { permit_of entry ≡ connect_permit entry.conn }
+        requires fitting { fits_of entry.call entry.answer ≡ true }
+        requires heard { is_memory entry.answer ≡ false }
+        requires same { copy ≡ entry.answer }
+        requires done { is_done entry.answer ≡ false }
+        requires paid { 4 ≤ self.old.paid }
+        ensures stands { Stands self.new }
+        ensures settled { Settled (past self.new) }
+        ensures group { past self.new ≡ Event.Pool (Move.Fell entry.conn n) ∷ Heard entry ∷ past self.old }
+        ensures next { result ≡ Next.Quiet }
+    {
+        let c = entry.conn;
+        self.hear_house(entry);
+        self.fall(c, n, reply_of(copy));
+        Next::Quiet
+    }
+
+    /// The answer to a Shut.
+    fn hear_shut(&mut self, entry: Entry) -> Next
+        requires stands { Stands self.old }
+        requires settled { Settled (past self.old) }
+        requires closing { place (past self.old) entry.conn ≡ Closing }
+        requires permit { permit_of entry ≡ shut_permit entry.conn (next_tenure (past self.old) entry.conn) }
+        requires fitting { fits_of entry.call entry.answer ≡ true }
+        requires heard { is_memory entry.answer ≡ false }
+        requires paid { 4 ≤ self.old.paid }
+        ensures stands { Stands self.new }
+        ensures settled { Settled (past self.new) }
+        ensures group { past self.new ≡ after_answer Closing entry (Heard entry ∷ past self.old) }
+        ensures next { result ≡ Next.Quiet }
+    {
+        let c = entry.conn;
+        self.hear_house(entry);
+        self.gone(c);
+        Next::Quiet
+    }
+
+    /// The answer to a driver call of a client's call.
+    fn hear_call(&mut self, alloc: Global, tenure: u32, n: u32, entry: Entry, copy: DriverAnswer, text: Txt, skipped: Txt) -> Next
+        requires stands { Stands self.old }
+        requires settled { Settled (past self.old) }
+        requires lent { place (past self.old) entry.conn ≡ Lent tenure (Call n) }
+        requires awaited { option_map (call_permit entry.conn tenure n) (due (past self.old) entry.conn tenure n) ≡ Some (permit_of entry) }
+        requires fitting { fits_of entry.call entry.answer ≡ true }
+        requires heard { is_memory entry.answer ≡ false }
+        requires same { copy ≡ entry.answer }
+        requires text { text ≡ (call_record (past self.old) n).text }
+        requires skipped { skipped ≡ skipped_text }
+        requires paid { 4 ≤ self.old.paid }
+        ensures stands { Stands self.new }
+        ensures settled { Settled (past self.new) }
+        ensures group { past self.new ≡ after_answer (Lent tenure (Call n)) entry (Heard entry ∷ past self.old) }
+        ensures next { NextAfterAnswer (Lent tenure (Call n)) entry (Heard entry ∷ past self.old) result (past self.new) }
+    {
+        let c = entry.conn;
+        let next = next_after(alloc, self.caps(), text, &entry.call, &entry.answer);
+        let bad = is_bad_answer(&entry.answer);
+        let invalid = is_invalid_answer(&entry.answer);
+        self.hear(entry, copy);
+        self.use_lent(c, tenure, n, next, bad, invalid, skipped)
+    }
+}
+
+/// Two copies of a statement's text: one that is kept, and one that is sent.
+#[derive(Drop)]
+pub struct Texts {
+    pub kept: Txt,
+    pub sent: Txt,
 }

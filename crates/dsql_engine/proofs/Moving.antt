@@ -1,0 +1,88 @@
+-- How calls stay under way while a connection moves.
+use Rattle.std.proofs.Common.{◌≡◌, ◌≢◌, ℕ, zero, suc, ◌<◌, ◌≤◌, ◌+◌, ◌==◌, ◌⊎◌, inl, inr, Bool, true, false, not, ◌&&◌, ◌||◌, cond, nat_lt, nat_le, List, [], ◌∷◌, ◌++◌, length, get_or, set, refl, arith, Option, Some, None, is_some, is_none, ap, sym, subst, ◌∙◌}
+use Rattle.std.proofs.lemmas.Grind.{common_steps}
+use Rattle.std.proofs.lemmas.Bool.Decides.{nat_tests}
+use Rattle.std.specs.List.{list_all, list_any}
+use Rattle.dsql_tenure.specs.declared.entry.Entry.{Entry}
+use Rattle.dsql_tenure.specs.declared.entry.Owner.{Owner}
+use Rattle.dsql_tenure.specs.declared.entry.Owner.TheVariants.{Call, Tx, Pin, House}
+use Rattle.dsql_tenure.specs.Kinds.{is_call}
+use Rattle.dsql_tenure.specs.Readers.{has, is_empty}
+use Rattle.dsql_history.specs.declared.event.Event.{Event}
+use Rattle.dsql_history.specs.declared.event.Event.TheVariants.{Run, Entered, Heard, Pool, Replied, Ended}
+use Rattle.dsql_history.specs.declared.event.Move.{Move}
+use Rattle.dsql_history.specs.declared.event.Move.TheVariants.{OpenStart, Lend, Back, CloseStart, Gone, Fell}
+use Rattle.dsql_history.specs.declared.event.CloseCause.{CloseCause}
+use Rattle.dsql_history.specs.declared.record.Place.{Place}
+use Rattle.dsql_history.specs.declared.record.Place.TheVariants.{Nowhere, Opening, Idle, Lent, Closing}
+use Rattle.dsql_history.specs.declared.record.CallRecord.{CallRecord}
+use Rattle.dsql_history.specs.declared.reply.Reply.{Reply}
+use Rattle.dsql_history.specs.Readers.Lists.{without, last, first}
+use Rattle.dsql_history.specs.Readers.Course.{has_ended}
+use Rattle.dsql_history.specs.Readers.Sets.{places, place, idle, is_open, is_opening, is_closing, is_idle, is_lent, is_for, number_of, next_tenure, next_number, open_count}
+use Rattle.dsql_history.specs.Readers.Journals.{journal, ends_invalid}
+use Rattle.dsql_history.specs.Readers.Calls.{calls, call_record, home, unfinished, is_unfinished, nobody, with_record, reply_due, next_call, is_busy}
+use Rattle.dsql_history.specs.Rules.Settled.{Settled, is_placed, is_in_use, uses_what_is_lent, is_under_way, goes_on, keeps_idle_limit, is_empty_when_closed}
+use Rattle.dsql_history.specs.Legal.{Allowed, KeepsEach, Lawful}
+use Rattle.dsql_history.proofs.Rows.{both, not_true, same_number, same_to_itself, other_number, same_or_not, is_once, has-without, has_push, read_set, read_push, within_rows, length-without, length_push, row_at, row_off, row_new, row_old}
+use Rattle.dsql_history.proofs.SoundSets.{SoundSets, sound_sets}
+use Rattle.dsql_history.proofs.SoundCalls.{SoundCalls, sound_calls, owner_of}
+use Rattle.dsql_history.proofs.SoundJournals.{whole_when_lent, lent_tenure, good_while_due, follows_due, fresh_lending, lends_when_opening, follows_connect, whole_refused, follows_shut, whole_shut, keeps_journals_of}
+use Rattle.dsql_history.specs.Rules.Line.{due}
+use Rattle.dsql_engine.proofs.Basics.{all_of, used_of, way_of}
+
+-- a call whose record and whose connection's place are as before is under way as before
+pub way_by : (H G : List Event) (m : ℕ) → call_record G m ≡ call_record H m → place G (home H m) ≡ place H (home H m) → is_under_way H m ≡ true → is_under_way G m ≡ true
+way_by H G m same stays w =
+    let P : CallRecord → Type 0 = λ r. (not (r.home == 0) && (is_for m (place G r.home) || not (is_open (place G r.home)) && is_some r.decided)) ≡ true in
+    subst P (sym same) (rw stays w)
+
+not_there : (b z : Bool) → (not z && (false || false && b)) ≡ true → ⊥
+not_there b true h = absurd cc
+not_there b false h = absurd cc
+
+-- the connection of a call that is under way isn't an open one that is for nobody or for another call
+pub not_at : (H : List Event) (c m : ℕ) (p : Place) → place H c ≡ p → is_open p ≡ true → is_for m p ≡ false → is_under_way H m ≡ true → home H m ≢ c
+not_at H c m p is there other w at = absurd (not_there (is_some (call_record H m).decided) (c == 0) (rw (at, is, there, other) at w))
+
+-- a call that has its connection is under way
+pub way_with : (G : List Event) (c m : ℕ) → home G m ≡ c → c ≢ 0 → is_for m (place G c) ≡ true → is_under_way G m ≡ true
+way_with G c m at some for = rw (at, other_number c 0 some, for) refl
+
+-- no connection has the number 0
+pub some_number : (H : List Event) (c : ℕ) (p : Place) → Lawful H → place H c ≡ p → is_open p ≡ true → c ≢ 0
+some_number H c p l is there z =
+    let q = sound_sets H l in
+    absurd (cc (ap is_open (sym q.no_zero ∙ ap (λ (d : ℕ). place H d) (sym z) ∙ is), there))
+
+row_when : (H : List Event) (c : ℕ) (p : Place) → (c < length (places H)) ⊎ ((length (places H) ≤ c) × (get_or (places H) c Nowhere ≡ Nowhere)) → place H c ≡ p → is_open p ≡ true → c < length (places H)
+row_when H c p (inl l) is there = l
+row_when H c p (inr b) is there = absurd (cc (ap is_open (sym b.1 ∙ is), there))
+
+-- it has a row
+pub row_of : (H : List Event) (c : ℕ) (p : Place) → place H c ≡ p → is_open p ≡ true → c < length (places H)
+row_of H c p is there = row_when H c p (within_rows (places H) c Nowhere) is there
+
+pub closed_or : (b : Bool) (ns : List ℕ) → (b ≡ true → ns ≡ []) → (not b || is_empty ns) ≡ true
+closed_or false ns h = refl
+closed_or true ns h = rw (h refl) refl
+
+pub few_of : (H : List Event) → keeps_idle_limit H ≡ true → length (idle H) ≤ 2
+few_of H f = grind (arith, nat_tests, f)
+
+none_when : (b : Bool) (ns : List ℕ) → (not b || is_empty ns) ≡ true → b ≡ true → ns ≡ []
+none_when b [] h e = refl
+none_when b (x ∷ ns) h e = absurd (grind (arith, nat_tests))
+
+pub none_idle : (H : List Event) → is_empty_when_closed H ≡ true → has_ended H ≡ true → idle H ≡ []
+none_idle H n e = none_when (has_ended H) (idle H) n e
+
+pub without_none : (c : ℕ) (ns : List ℕ) → ns ≡ [] → without c ns ≡ []
+without_none c ns h = rw h refl
+
+-- a connection is taken out of the idle ones, if it was among them
+pub few_without : (H : List Event) (c : ℕ) → keeps_idle_limit H ≡ true → nat_le (length (without c (idle H))) 2 ≡ true
+few_without H c f = grind (arith, nat_tests, few_of H f, length-without c (idle H))
+
+pub none_without : (H : List Event) (c : ℕ) → is_empty_when_closed H ≡ true → (not (has_ended H) || is_empty (without c (idle H))) ≡ true
+none_without H c n = closed_or (has_ended H) (without c (idle H)) (λ e. without_none c (idle H) (none_idle H n e))

@@ -1,0 +1,45 @@
+use Rattle.std.proofs.Common.{◌≡◌, ◌∷◌, ap, sym, subst, true, false, List, ◌∙◌}
+use Rattle.dsql_driver.specs.declared.call.DriverCall.TheVariants.{Connect}
+use Rattle.dsql_driver.specs.Fits.{fits_of, is_memory, is_done}
+use Rattle.dsql_tenure.specs.declared.entry.Entry.{Entry}
+use Rattle.dsql_tenure.specs.declared.entry.Permit.{Permit}
+use Rattle.dsql_tenure.specs.Permits.{entry_of}
+use Rattle.dsql_tenure.specs.Entries.{connect_entry}
+use Rattle.dsql_tenure.specs.declared.entry.Owner.TheVariants.{Call}
+use Rattle.dsql_history.specs.declared.event.Event.{Event}
+use Rattle.dsql_history.specs.declared.event.Event.TheVariants.{Heard, Pool}
+use Rattle.dsql_history.specs.declared.event.Move.TheVariants.{Lend, Fell}
+use Rattle.dsql_history.specs.Readers.Sets.{next_tenure}
+use Rattle.dsql_history.specs.Rules.Settled.{Settled}
+use Rattle.dsql_history.specs.Legal.{Allowed, Lawful}
+use Rattle.dsql_engine.specs.Desk.{past, lawful_of}
+use Rattle.dsql_engine.proofs.Connecting.{may_hear_connect, may_lend_opened, may_fall, settled_lend_opened, settled_fallen}
+use Rattle.dsql_engine.proofs.desk.Desk.refused.Goals as goal
+
+pub hear_house-requires-clause-allowed : goal.hear_house-requires-clause-allowed
+hear_house-requires-clause-allowed c =
+    let H = past c.args.self.now in
+    let e = c.args.entry in
+    let same : e ≡ connect_entry e.conn e.answer = ap (λ (p : Permit). entry_of p e.answer) c.requires.permit in
+    let fit : fits_of Connect e.answer ≡ true = rw (ap (λ (p : Permit). p.call) c.requires.permit) at c.requires.fitting in
+    subst (λ (x : Entry). Allowed H (Heard x)) (sym same) (may_hear_connect H e.conn c.args.n e.answer (lawful_of _ c.requires.stands) c.requires.settled c.requires.opening fit c.requires.heard)
+
+pub fall-requires-clause-allowed : goal.fall-requires-clause-allowed
+fall-requires-clause-allowed c =
+    let H = past c.args.self.now in
+    let e = c.args.entry in
+    let same : e ≡ connect_entry e.conn e.answer = ap (λ (p : Permit). entry_of p e.answer) c.requires.permit in
+    let fit : fits_of Connect e.answer ≡ true = rw (ap (λ (p : Permit). p.call) c.requires.permit) at c.requires.fitting in
+    rw c.hear_house.ensures.event
+    (subst (λ (x : Entry). Allowed (Heard x ∷ H) (Pool (Fell e.conn c.args.n))) (sym same) (may_fall H e.conn c.args.n e.answer (lawful_of _ c.requires.stands) c.requires.settled c.requires.opening fit c.requires.heard c.requires.done))
+
+pub returns-clause-settled : goal.returns-clause-settled
+returns-clause-settled c =
+    let H = past c.args.self.now in
+    let e = c.args.entry in
+    let same : e ≡ connect_entry e.conn e.answer = ap (λ (p : Permit). entry_of p e.answer) c.requires.permit in
+    let fit : fits_of Connect e.answer ≡ true = rw (ap (λ (p : Permit). p.call) c.requires.permit) at c.requires.fitting in
+    let l = rw (c.fall.ensures.event, c.hear_house.ensures.event) at (lawful_of _ c.fall.ensures.stands) in
+    let m : Lawful (Pool (Fell e.conn c.args.n) ∷ Heard (connect_entry e.conn e.answer) ∷ H) = subst (λ (x : Entry). Lawful (Pool (Fell e.conn c.args.n) ∷ Heard x ∷ H)) same l in
+    rw (c.fall.ensures.event, c.hear_house.ensures.event)
+    (subst (λ (x : Entry). Settled (Pool (Fell e.conn c.args.n) ∷ Heard x ∷ H)) (sym same) (settled_fallen H e.conn c.args.n e.answer (lawful_of _ c.requires.stands) c.requires.settled c.requires.opening fit c.requires.heard c.requires.done m))
