@@ -4,3 +4,5 @@ pub mod Leaving
 pub mod Moving
 pub mod Shutting
 pub mod Connecting
+pub mod Hearing
+pub mod Asking

@@ -1,0 +1,182 @@
+-- The answer to a driver call of a client's call.
+use Rattle.std.proofs.Common.{◌≡◌, ◌≢◌, ℕ, zero, suc, ◌<◌, ◌≤◌, ◌+◌, ◌==◌, ◌⊎◌, inl, inr, Bool, true, false, not, ◌&&◌, ◌||◌, cond, nat_lt, nat_le, List, [], ◌∷◌, ◌++◌, length, get_or, set, refl, arith, Option, Some, None, is_some, is_none, ap, sym, subst, ◌∙◌}
+use Rattle.std.proofs.lemmas.Grind.{common_steps}
+use Rattle.std.proofs.lemmas.Bool.Decides.{nat_tests}
+use Rattle.std.specs.List.{list_all, list_any}
+use Rattle.dsql_tenure.specs.declared.entry.Entry.{Entry}
+use Rattle.dsql_tenure.specs.declared.entry.Owner.{Owner}
+use Rattle.dsql_tenure.specs.declared.entry.Owner.TheVariants.{Call, Tx, Pin, House}
+use Rattle.dsql_tenure.specs.Kinds.{is_call}
+use Rattle.dsql_tenure.specs.Readers.{has, is_empty}
+use Rattle.dsql_history.specs.declared.event.Event.{Event}
+use Rattle.dsql_history.specs.declared.event.Event.TheVariants.{Run, Entered, Heard, Pool, Replied, Ended}
+use Rattle.dsql_history.specs.declared.event.Move.{Move}
+use Rattle.dsql_history.specs.declared.event.Move.TheVariants.{OpenStart, Lend, Back, CloseStart, Gone, Fell}
+use Rattle.dsql_history.specs.declared.event.CloseCause.{CloseCause}
+use Rattle.dsql_history.specs.declared.record.Place.{Place}
+use Rattle.dsql_history.specs.declared.record.Place.TheVariants.{Nowhere, Opening, Idle, Lent, Closing}
+use Rattle.dsql_history.specs.declared.record.CallRecord.{CallRecord}
+use Rattle.dsql_history.specs.declared.reply.Reply.{Reply}
+use Rattle.dsql_history.specs.Readers.Lists.{without, last, first}
+use Rattle.dsql_history.specs.Readers.Course.{has_ended}
+use Rattle.dsql_history.specs.Readers.Sets.{places, place, idle, is_open, is_opening, is_closing, is_idle, is_lent, is_for, number_of, next_tenure, next_number, open_count}
+use Rattle.dsql_history.specs.Readers.Journals.{journal, ends_invalid}
+use Rattle.dsql_history.specs.Readers.Calls.{calls, call_record, home, unfinished, is_unfinished, nobody, with_record, reply_due, next_call, is_busy}
+use Rattle.dsql_history.specs.Rules.Settled.{Settled, is_placed, is_in_use, uses_what_is_lent, is_under_way, goes_on, keeps_idle_limit, is_empty_when_closed}
+use Rattle.dsql_history.specs.Legal.{Allowed, KeepsEach, Lawful}
+use Rattle.dsql_history.proofs.Rows.{both, not_true, same_number, same_to_itself, other_number, same_or_not, is_once, has-without, has_push, read_set, read_push, within_rows, length-without, length_push, row_at, row_off, row_new, row_old}
+use Rattle.dsql_history.proofs.SoundSets.{SoundSets, sound_sets}
+use Rattle.dsql_history.proofs.SoundCalls.{SoundCalls, sound_calls, owner_of}
+use Rattle.dsql_history.proofs.SoundJournals.{whole_when_lent, lent_tenure, good_while_due, follows_due, fresh_lending, lends_when_opening, follows_connect, whole_refused, follows_shut, whole_shut, keeps_journals_of}
+use Rattle.dsql_history.specs.Rules.Line.{due}
+use Rattle.std.specs.Prelude.{option_map}
+use Rattle.dsql_driver.specs.declared.caps.Caps.{Caps}
+use Rattle.dsql_driver.specs.declared.call.DriverCall.{DriverCall}
+use Rattle.dsql_driver.specs.declared.call.DriverCall.TheVariants.{Reset, Valid, Exec, Connect, Shut}
+use Rattle.dsql_driver.specs.declared.call.Input.TheVariants.{Text, Handle}
+use Rattle.dsql_driver.specs.declared.answer.DriverAnswer.{DriverAnswer}
+use Rattle.dsql_driver.specs.declared.answer.DriverAnswer.TheVariants.{Bad}
+use Rattle.dsql_driver.specs.Fits.{fits_of, is_memory, is_invalid}
+use Rattle.dsql_tenure.specs.declared.entry.Permit.{Permit}
+use Rattle.dsql_tenure.specs.Permits.{entry_of}
+use Rattle.dsql_tenure.specs.Entries.{call_entry}
+use Rattle.dsql_tenure.specs.Kinds.{is_connect, is_shut, is_bad}
+use Rattle.dsql_tenure.specs.Readers.{went_bad}
+use Rattle.dsql_history.specs.Readers.Course.{caps}
+use Rattle.dsql_history.specs.Readers.Journals.{heard_in}
+use Rattle.dsql_history.specs.Readers.Calls.{decision}
+use Rattle.dsql_history.specs.Rules.Line.{due, is_due, line_after, after_call, body_of, test_of}
+use Rattle.dsql_history.proofs.Lines.{is_sent, sent_of, some_of}
+use Rattle.dsql_history.proofs.SoundJournals.{sound_journals}
+use Rattle.dsql_history.proofs.Standing.{good_now}
+use Rattle.dsql_engine.specs.Awaited.{call_permit, permit_of}
+use Rattle.dsql_engine.proofs.Basics.{not_first, begun, follows_placed, all_of, used_of, way_of, bytes_same}
+use Rattle.dsql_engine.proofs.Moving.{way_by, way_with, not_at, row_of, some_number}
+
+-- what is due is due to itself
+abbrev own_of : Option DriverCall → Bool
+own_of None = true
+own_of (Some q) = is_due (Some q) q
+
+own_cond : (b : Bool) (d e : Option DriverCall) → own_of d ≡ true → own_of e ≡ true → own_of (cond b d e) ≡ true
+own_cond true d e h k = h
+own_cond false d e h k = k
+
+own_test : (can : Caps) → own_of (test_of can) ≡ true
+own_test can = own_cond can.validator (Some Valid) None refl refl
+
+own_body : (can : Caps) (text : List ℕ) → own_of (body_of can text) ≡ true
+own_body can text = own_cond can.fast_exec (Some (Exec (Text text) [])) (test_of can) (bytes_same text) (own_test can)
+
+own_after : (can : Caps) (text : List ℕ) (q : DriverCall) (a : DriverAnswer) → own_of (after_call can text q a) ≡ true
+own_after can text q Bad = refl
+own_after can text Reset a = own_body can text
+own_after can text (Exec input params) a = own_test can
+own_after can text q a = refl
+
+own_line : (can : Caps) (reset : Bool) (text : List ℕ) (L : List Entry) → own_of (line_after can reset text L) ≡ true
+own_line can reset text [] = own_cond reset (Some Reset) (body_of can text) refl (own_body can text)
+own_line can reset text (e ∷ L) = own_after can text e.call e.answer
+
+due_is : (d : Option DriverCall) (q : DriverCall) → d ≡ Some q → own_of d ≡ true → is_due d q ≡ true
+due_is d q is own = subst (λ (x : Option DriverCall). own_of x ≡ true → is_due x q ≡ true) (sym is) (λ h. h) own
+
+-- the permit that a call awaits is what is due
+pub record Awaits (d : Option DriverCall) (c t n : ℕ) (p : Permit) : Type 0 where
+  pub call : d ≡ Some p.call
+  pub parts : p ≡ call_permit c t n p.call
+
+pub awaits : (c t n : ℕ) (d : Option DriverCall) (p : Permit) → option_map (call_permit c t n) d ≡ Some p → Awaits d c t n p
+awaits c t n None p h = absurd cc
+awaits c t n (Some q) p h =
+    let e : call_permit c t n q ≡ p = cc in
+    let same : q ≡ p.call = ap (λ (k : Permit). k.call) e in
+    record { call = ap (λ (x : DriverCall). Some x) same; parts = sym e ∙ ap (λ (x : DriverCall). call_permit c t n x) same }
+
+pub due_of : (H : List Event) (c t n : ℕ) (q : DriverCall) → due H c t n ≡ Some q → is_due (due H c t n) q ≡ true
+due_of H c t n q is = due_is (due H c t n) q is (own_line (caps H) _ (call_record H n).text (heard_in H c t))
+
+not_house : (q : DriverCall) → is_sent q ≡ true → not (is_connect q || is_shut q) ≡ true
+not_house Connect h = absurd cc
+not_house Shut h = absurd cc
+not_house _ h = refl
+
+pub may_hear_call : (H : List Event) (c t n : ℕ) (q : DriverCall) (a : DriverAnswer) → Lawful H → Settled H → place H c ≡ Lent t (Call n) → is_due (due H c t n) q ≡ true → fits_of q a ≡ true
+    → is_memory a ≡ false → Allowed H (Heard (call_entry c t n q a))
+unfolding Allowed
+may_hear_call H c t n q a l s is due fit heard =
+    let e : Entry = call_entry c t n q a in
+    record {
+      course = rw (not_first H (Heard e) (begun H c (Lent t (Call n)) is refl) refl) refl;
+      numbers = refl;
+      sets = rw (is, not_house q (sent_of _ q due), same_to_itself t, same_to_itself n) refl;
+      limit = refl;
+      asking = refl;
+      order = rw (follows_placed H (Heard e) s.placed) refl;
+      causes = refl;
+      line = rw is due;
+      journals = follows_due H e t n l is due refl refl refl refl fit heard;
+      replies = refl;
+    }
+
+-- an entry changes the record of its own call alone
+record_off : (b : Bool) (cs : List CallRecord) (n m : ℕ) (f : CallRecord → CallRecord) → m ≢ n → get_or (cond b cs (with_record n f cs)) m nobody ≡ get_or cs m nobody
+record_off true cs n m f off = refl
+record_off false cs n m f off = row_off cs n (f (get_or cs n nobody)) m nobody off
+
+record_at : (b : Bool) (cs : List CallRecord) (n : ℕ) (f : CallRecord → CallRecord) → n < length cs → ((r : CallRecord) → (f r).text ≡ r.text) → (get_or (cond b cs (with_record n f cs)) n nobody).text ≡ (get_or cs n nobody).text
+record_at true cs n f there same = refl
+record_at false cs n f there same = ap (λ (r : CallRecord). r.text) (row_at cs n (f (get_or cs n nobody)) nobody there) ∙ same (get_or cs n nobody)
+
+lent_within : (H : List Event) (c t n : ℕ) → Lawful H → place H c ≡ Lent t (Call n) → (0 < n) × (n < length (calls H))
+lent_within H c t n l is = let q = sound_calls H l in q.within n (q.unfinished_ones c n (rw is (same_to_itself n)))
+
+pub settled_heard : (H : List Event) (c t n : ℕ) (q : DriverCall) (a : DriverAnswer) → Lawful H → Settled H → place H c ≡ Lent t (Call n) → Lawful (Heard (call_entry c t n q a) ∷ H)
+    → Settled (Heard (call_entry c t n q a) ∷ H)
+settled_heard H c t n q a l s is lawful =
+    let G : List Event = Heard (call_entry c t n q a) ∷ H in
+    let k = sound_calls G lawful in
+    let mine : is_for n (place G c) ≡ true = rw is (same_to_itself n) in
+    record {
+      placed = rw is refl;
+      used = used_of G lawful;
+      under_way = all_of (is_under_way G) (unfinished G)
+          (λ m h.
+          elim (same_or_not m n) [
+            inl e ↦ subst (λ (j : ℕ). is_under_way G j ≡ true) (sym e) (way_with G c n (k.at_home c n mine) (some_number H c (Lent t (Call n)) l is refl) mine)
+          | inr off ↦ way_by H G m (record_off (n == 0) (calls H) n m (λ r. record r { decided = decision q a r.decided }) off) refl (way_of H s m h)
+          ]);
+      few = s.few;
+      none = s.none;
+    }
+
+-- what is due after it
+pub due_heard : (H : List Event) (c t n : ℕ) (q : DriverCall) (a : DriverAnswer) → Lawful H → place H c ≡ Lent t (Call n)
+    → due (Heard (call_entry c t n q a) ∷ H) c t n ≡ after_call (caps H) (call_record H n).text q a
+due_heard H c t n q a l is =
+    let w = lent_within H c t n l is in
+    let text : (call_record (Heard (call_entry c t n q a) ∷ H) n).text ≡ (call_record H n).text =
+        record_at (n == 0) (calls H) n (λ r. record r { decided = decision q a r.decided }) w.1 (λ r. refl) in
+    rw (same_to_itself c, same_to_itself t, text) refl
+
+or_false : (b : Bool) → b ≡ (b || false)
+or_false true = refl
+or_false false = refl
+
+-- whether the connection is bad after it, and whether its test failed
+pub bad_heard : (H : List Event) (c t n : ℕ) (q : DriverCall) (a : DriverAnswer) → Lawful H → place H c ≡ Lent t (Call n) → is_due (due H c t n) q ≡ true
+    → is_bad a ≡ went_bad (journal (Heard (call_entry c t n q a) ∷ H) c)
+bad_heard H c t n q a l is due =
+    let g = good_while_due H c t n l is (some_of _ q due) in
+    rw (same_to_itself c, g.0) (or_false (is_bad a))
+
+pub invalid_heard : (H : List Event) (c t n : ℕ) (q : DriverCall) (a : DriverAnswer) → is_invalid a ≡ ends_invalid (journal (Heard (call_entry c t n q a) ∷ H) c)
+invalid_heard H c t n q a = rw (same_to_itself c) refl
+
+-- a connection on which nothing was heard since it was lent is good
+pub good_when_fresh : (H : List Event) (c t n : ℕ) → Lawful H → place H c ≡ Lent t (Call n) → heard_in H c t ≡ [] → (went_bad (journal H c) ≡ false) × (ends_invalid (journal H c) ≡ false)
+good_when_fresh H c t n l is none =
+    let q = sound_journals H l in
+    let s = rw is at (q.stands c) in
+    let v = s.serves in
+    good_now (journal H c) (v.good (rw none refl))

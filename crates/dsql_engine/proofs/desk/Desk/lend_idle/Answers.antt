@@ -1,0 +1,70 @@
+use Rattle.std.proofs.Common.{◌≡◌, ◌∷◌, ◌<◌, ap, sym, subst, true, false, List, [], ◌∙◌, Some, None, refl, nat_lt, arith}
+use Rattle.dsql_tenure.specs.Readers.{went_bad}
+use Rattle.dsql_tenure.specs.declared.entry.Owner.TheVariants.{Call}
+use Rattle.dsql_history.specs.declared.event.Event.{Event}
+use Rattle.dsql_history.specs.declared.event.Event.TheVariants.{Entered, Heard, Pool, Replied}
+use Rattle.dsql_history.specs.declared.event.Move.TheVariants.{Lend, OpenStart}
+use Rattle.dsql_history.specs.declared.record.Place.TheVariants.{Idle, Lent}
+use Rattle.dsql_history.specs.Readers.Course.{caps, has_ended}
+use Rattle.dsql_history.specs.Readers.Sets.{place, idle, next_tenure, next_number, open_count}
+use Rattle.dsql_history.specs.Readers.Journals.{journal, ends_invalid, heard_in}
+use Rattle.dsql_history.specs.Readers.Calls.{call_record, next_call}
+use Rattle.dsql_history.specs.Rules.Limit.{room}
+use Rattle.dsql_history.specs.Rules.Line.{due, line_after, is_reset_due}
+use Rattle.dsql_history.specs.Rules.Settled.{Settled}
+use Rattle.dsql_history.specs.Legal.{Allowed, Lawful}
+use Rattle.dsql_history.proofs.SoundJournals.{fresh_lending}
+use Rattle.dsql_engine.specs.Groups.{lent_to}
+use Rattle.dsql_engine.specs.Desk.{past, lawful_of}
+use Rattle.dsql_engine.proofs.Hearing.{good_when_fresh}
+use Rattle.dsql_engine.proofs.Asking.{may_enter, freshly, text_entered, idle_latest, may_lend_idle, lent_now, settled_lend_idle, due_fresh, may_open_new, settled_open_new, may_refuse, settled_refused}
+use Rattle.dsql_engine.proofs.desk.Desk.lend_idle.Goals as goal
+
+pub lend-requires-clause-allowed : goal.lend-requires-clause-allowed
+lend-requires-clause-allowed c =
+    let H = past c.args.self.now in
+    let l : Lawful H = lawful_of _ c.requires.stands in
+    let k = idle_latest H c.args.c l c.requires.latest in
+    rw c.next_tenure-tenure.ensures (may_lend_idle H c.args.c c.args.n c.requires.settled k.0 k.1 c.requires.running)
+
+pub use_lent-requires-clause-settled : goal.use_lent-requires-clause-settled
+use_lent-requires-clause-settled c =
+    let H = past c.args.self.now in
+    let l : Lawful H = lawful_of _ c.requires.stands in
+    let k = idle_latest H c.args.c l c.requires.latest in
+    let m : Lawful (lent_to H c.args.c c.args.n) = rw (c.lend.ensures.event, c.next_tenure-tenure.ensures) at (lawful_of _ c.lend.ensures.stands) in
+    rw (c.lend.ensures.event, c.next_tenure-tenure.ensures) (settled_lend_idle H c.args.c c.args.n l c.requires.settled k.0 m)
+
+pub use_lent-requires-clause-lent : goal.use_lent-requires-clause-lent
+use_lent-requires-clause-lent c =
+    let H = past c.args.self.now in
+    let l : Lawful H = lawful_of _ c.requires.stands in
+    let k = idle_latest H c.args.c l c.requires.latest in
+    rw (c.lend.ensures.event, c.next_tenure-tenure.ensures) (lent_now H c.args.c c.args.n Idle k.0 refl)
+
+pub use_lent-requires-clause-due : goal.use_lent-requires-clause-due
+use_lent-requires-clause-due c =
+    let H = past c.args.self.now in
+    let l : Lawful H = lawful_of _ c.requires.stands in
+    let m : Lawful (lent_to H c.args.c c.args.n) = rw (c.lend.ensures.event, c.next_tenure-tenure.ensures) at (lawful_of _ c.lend.ensures.stands) in
+    let f = c.requires.settled in
+    let d = due_fresh H c.args.c c.args.n l f.entered m in
+    c.first_call-next.ensures ∙ rw (c.caps.ensures, c.is_reset_due.ensures, c.lend.ensures.event, c.next_tenure-tenure.ensures, c.requires.text) (sym d)
+
+pub use_lent-requires-clause-bad : goal.use_lent-requires-clause-bad
+use_lent-requires-clause-bad c = λ none.
+    let H = past c.args.self.now in
+    let l : Lawful H = lawful_of _ c.requires.stands in
+    let k = idle_latest H c.args.c l c.requires.latest in
+    let m : Lawful (lent_to H c.args.c c.args.n) = rw (c.lend.ensures.event, c.next_tenure-tenure.ensures) at (lawful_of _ c.lend.ensures.stands) in
+    let g = good_when_fresh (lent_to H c.args.c c.args.n) c.args.c (next_tenure H c.args.c) c.args.n m (lent_now H c.args.c c.args.n Idle k.0 refl) (fresh_lending H c.args.c (next_tenure H c.args.c) c.args.n m) in
+    rw c.lend.ensures.event (sym g.0)
+
+pub use_lent-requires-clause-invalid : goal.use_lent-requires-clause-invalid
+use_lent-requires-clause-invalid c = λ none.
+    let H = past c.args.self.now in
+    let l : Lawful H = lawful_of _ c.requires.stands in
+    let k = idle_latest H c.args.c l c.requires.latest in
+    let m : Lawful (lent_to H c.args.c c.args.n) = rw (c.lend.ensures.event, c.next_tenure-tenure.ensures) at (lawful_of _ c.lend.ensures.stands) in
+    let g = good_when_fresh (lent_to H c.args.c c.args.n) c.args.c (next_tenure H c.args.c) c.args.n m (lent_now H c.args.c c.args.n Idle k.0 refl) (fresh_lending H c.args.c (next_tenure H c.args.c) c.args.n m) in
+    rw c.lend.ensures.event (sym g.1)
