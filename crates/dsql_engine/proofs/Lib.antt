@@ -6,3 +6,5 @@ pub mod Shutting
 pub mod Connecting
 pub mod Hearing
 pub mod Asking
+pub mod Waking
+pub mod Ending

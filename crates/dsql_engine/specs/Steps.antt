@@ -10,6 +10,7 @@ use Rattle.dsql_history.specs.declared.record.Place.{Place}
 use Rattle.dsql_history.specs.declared.record.Place.TheVariants.{Opening, Lent}
 use Rattle.dsql_history.specs.Readers.Lists.{last}
 use Rattle.dsql_history.specs.Readers.Sets.{place, idle, open_count, next_tenure}
+use Rattle.dsql_history.specs.Readers.Journals.{heard_in}
 use Rattle.dsql_history.specs.Readers.Calls.{home, next_call}
 use Rattle.dsql_history.specs.Rules.Limit.{room}
 use Rattle.dsql_history.specs.Rules.Line.{due}
@@ -61,3 +62,13 @@ NextAfterWake past None next now = ⊥
 abbrev pub IsChore : List Event → Next → Type 0
 IsChore past (Send permit) = (chore_due past ≡ Some permit) × (awaited past permit.conn ≡ Some permit)
 IsChore past next = (next ≡ Quiet) × (chore_due past ≡ None)
+
+-- a call whose connection was lent to it, and on which nothing was heard since
+abbrev pub IsParkedAt : Place → ℕ → List Event → Type 0
+IsParkedAt (Lent tenure owner) c past = heard_in past c tenure ≡ []
+IsParkedAt _ c past = Unit {0}
+
+-- no driver call of this unfinished call is under way
+abbrev pub IsParked : List Event → Option ℕ → Type 0
+IsParked past (Some n) = IsParkedAt (place past (home past n)) (home past n) past
+IsParked past None = ⊥

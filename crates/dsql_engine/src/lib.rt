@@ -7,6 +7,7 @@ mod engine;
 mod next;
 mod queries;
 mod room;
+mod start;
 mod steps;
 
 pub use engine::Engine;

@@ -1,5 +1,6 @@
 use dsql_tenure::Permit;
-use std::alloc::AllocError;
+use dsql_value::Memory;
+use std::alloc::{AllocError, AllocFailed};
 use thiserror::Error;
 
 /// Why a call can't move.
@@ -29,6 +30,18 @@ pub struct NoRoom;
 
 impl From<AllocError> for NoRoom {
     fn from(_e: AllocError) -> NoRoom {
+        NoRoom
+    }
+}
+
+impl<T: Drop> From<AllocFailed<T>> for NoRoom {
+    fn from(_e: AllocFailed<T>) -> NoRoom {
+        NoRoom
+    }
+}
+
+impl From<Memory> for NoRoom {
+    fn from(_e: Memory) -> NoRoom {
         NoRoom
     }
 }

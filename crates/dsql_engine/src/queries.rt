@@ -11,7 +11,7 @@ ghost use Rattle.dsql_driver.specs.Fits.{is_invalid, is_done};
 ghost use Rattle.dsql_tenure.specs.Kinds.{is_bad};
 ghost use Rattle.dsql_engine.specs.Desk.{past, Stands};
 ghost use Rattle.dsql_engine.specs.Groups.{call_of};
-ghost use Rattle.dsql_engine.specs.Latest.{latest};
+ghost use Rattle.dsql_engine.specs.Latest.{latest, oldest};
 
 use crate::desk::Desk;
 use dsql_driver::{Caps, DriverAnswer, DriverCall, Input};
@@ -91,6 +91,23 @@ impl Desk {
         ensures { result ≡ latest (idle (past self.now)) }
     {
         self.idle.last().copied()
+    }
+
+    /// The connection that has been idle longest.
+    pub fn longest_idle(&self) -> Option<u32>
+        requires { Stands self.now }
+        ensures { result ≡ oldest (idle (past self.now)) }
+    {
+        self.idle.first().copied()
+    }
+
+    /// How many connections are idle.
+    pub fn idle_len(&self) -> usize
+        requires { Stands self.now }
+        ensures count { result ≡ length (idle (past self.now)) }
+        ensures small { result < 2 ^ 63 }
+    {
+        self.idle.len()
     }
 
     /// Whether one more connection may be opened.

@@ -5,8 +5,8 @@ ghost use Rattle.dsql_tenure.specs.Readers.{went_bad, is_empty};
 ghost use Rattle.dsql_tenure.specs.declared.entry.Owner.TheVariants.{Call};
 ghost use Rattle.dsql_history.specs.Legal.{Lawful};
 ghost use Rattle.dsql_history.specs.Readers.Course.{caps, has_ended};
-ghost use Rattle.dsql_history.specs.Readers.Sets.{place, idle, open_count, next_tenure};
-ghost use Rattle.dsql_history.specs.Readers.Journals.{journal, ends_invalid};
+ghost use Rattle.dsql_history.specs.Readers.Sets.{place, idle, open_count, next_tenure, is_for};
+ghost use Rattle.dsql_history.specs.Readers.Journals.{journal, ends_invalid, heard_in};
 ghost use Rattle.dsql_history.specs.Readers.Calls.{statement, skipped as skipped_text, next_call, is_busy, call_record, home, is_unfinished};
 ghost use Rattle.dsql_history.specs.Rules.House.{is_quiet};
 ghost use Rattle.dsql_history.specs.Rules.Line.{due};
@@ -21,15 +21,15 @@ ghost use Rattle.dsql_engine.specs.Desk.{past, Stands};
 ghost use Rattle.dsql_engine.specs.Awaited.{awaited, connect_permit, shut_permit, call_permit, permit_of};
 ghost use Rattle.dsql_engine.specs.Latest.{latest};
 ghost use Rattle.dsql_engine.specs.Freshly.{Freshly};
-ghost use Rattle.dsql_engine.specs.Groups.{after_enter, after_ask, after_heard, after_answer, after_lending, lent_to, closings, leaving, told};
-ghost use Rattle.dsql_engine.specs.Steps.{NextAfterEnter, NextAfterAsk, NextAfterHeard, NextAfterAnswer, NextOfBody};
+ghost use Rattle.dsql_engine.specs.Groups.{after_enter, after_ask, after_heard, after_answer, after_lending, after_end, lent_to, leaving, told};
+ghost use Rattle.dsql_engine.specs.Steps.{NextAfterEnter, NextAfterAsk, NextAfterHeard, NextAfterAnswer, NextOfBody, NextOfWake, IsParkedAt};
 
 use crate::desk::Desk;
 use crate::next::{Next, Why};
 use crate::queries::{first_call, is_bad_answer, is_done_answer, is_invalid_answer, next_after};
 use crate::room::reply_of;
 use dsql_driver::{DriverAnswer, DriverCall};
-use dsql_history::{Op, Place};
+use dsql_history::{CloseCause, Op, Place};
 use dsql_tenure::{Entry, Owner, Permit};
 use dsql_value::Txt;
 use std::alloc::Global;
@@ -303,4 +303,85 @@ impl Desk {
 pub struct Texts {
     pub kept: Txt,
     pub sent: Txt,
+}
+
+impl Desk {
+    /// An unfinished call looks at its connection: it uses one that was lent to it, on which nothing was
+    /// heard yet, and replies where its connection was refused.
+    pub fn wake_call(&mut self, alloc: Global, n: u32, text: Txt, skipped: Txt) -> Next
+        requires stands { Stands self.old }
+        requires settled { Settled (past self.old) }
+        requires begun { is_empty (past self.old) ≡ false }
+        requires unfinished { is_unfinished (past self.old) n ≡ true }
+        requires parked { IsParkedAt (place (past self.old) (home (past self.old) n)) (home (past self.old) n) (past self.old) }
+        requires text { text ≡ (call_record (past self.old) n).text }
+        requires skipped { skipped ≡ skipped_text }
+        requires paid { 4 ≤ self.old.paid }
+        ensures stands { Stands self.new }
+        ensures settled { Settled (past self.new) }
+        ensures next { NextOfWake (place (past self.old) (home (past self.old) n)) (home (past self.old) n) n (past self.old) result (past self.new) }
+    {
+        let c = self.home(n);
+        match self.place(c) {
+            Place::Opening(_) => Next::Blocked(Why::Opening),
+            Place::Lent(tenure, _) => self.wake_lent(alloc, c, tenure, n, text, skipped),
+            Place::Nowhere => self.wake_fallen(n, skipped),
+            Place::Idle => self.wake_fallen(n, skipped),
+            Place::Closing => self.wake_fallen(n, skipped),
+        }
+    }
+
+    /// A call whose connection was refused replies.
+    fn wake_fallen(&mut self, n: u32, skipped: Txt) -> Next
+        requires stands { Stands self.old }
+        requires settled { Settled (past self.old) }
+        requires begun { is_empty (past self.old) ≡ false }
+        requires unfinished { is_unfinished (past self.old) n ≡ true }
+        requires free { is_for n (place (past self.old) (home (past self.old) n)) ≡ false }
+        requires skipped { skipped ≡ skipped_text }
+        requires paid { 4 ≤ self.old.paid }
+        ensures stands { Stands self.new }
+        ensures settled { Settled (past self.new) }
+        ensures group { past self.new ≡ told n (past self.old) }
+        ensures next { result ≡ Next.Reply n }
+    {
+        self.tell(n, skipped);
+        Next::Reply(n)
+    }
+
+    /// A call uses the connection that was lent to it, on which nothing was heard yet.
+    fn wake_lent(&mut self, alloc: Global, c: u32, tenure: u32, n: u32, text: Txt, skipped: Txt) -> Next
+        requires stands { Stands self.old }
+        requires settled { Settled (past self.old) }
+        requires lent { place (past self.old) c ≡ Lent tenure (Call n) }
+        requires fresh { heard_in (past self.old) c tenure ≡ [] }
+        requires text { text ≡ (call_record (past self.old) n).text }
+        requires skipped { skipped ≡ skipped_text }
+        requires paid { 4 ≤ self.old.paid }
+        ensures stands { Stands self.new }
+        ensures settled { Settled (past self.new) }
+        ensures group { past self.new ≡ after_lending c tenure n (past self.old) }
+        ensures next { NextOfBody c n (due (past self.old) c tenure n) result (past self.new) }
+    {
+        let next = first_call(alloc, self.caps(), self.is_reset_due(c), text);
+        self.use_lent(c, tenure, n, next, false, false, skipped)
+    }
+
+    /// The run ends, and the idle connections begin to close, the longest idle first.
+    pub fn end_run(&mut self)
+        requires stands { Stands self.old }
+        requires settled { Settled (past self.old) }
+        requires begun { is_empty (past self.old) ≡ false }
+        requires quiet { is_quiet (past self.old) ≡ true }
+        requires running { has_ended (past self.old) ≡ false }
+        requires paid { length (idle (past self.old)) + 1 ≤ self.old.paid }
+        ensures stands { Stands self.new }
+        ensures settled { Settled (past self.new) }
+        ensures group { past self.new ≡ after_end (past self.old) }
+    {
+        self.end();
+        while let Some(c) = self.longest_idle() {
+            self.start_closing(c, CloseCause::DbClosed);
+        }
+    }
 }

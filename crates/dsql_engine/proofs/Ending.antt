@@ -1,0 +1,134 @@
+-- The run ends.
+use Rattle.std.proofs.Common.{◌≡◌, ◌≢◌, ℕ, zero, suc, ◌<◌, ◌≤◌, ◌+◌, ◌==◌, ◌⊎◌, inl, inr, Bool, true, false, not, ◌&&◌, ◌||◌, cond, nat_lt, nat_le, List, [], ◌∷◌, ◌++◌, length, get_or, set, refl, arith, Option, Some, None, is_some, is_none, ap, sym, subst, ◌∙◌}
+use Rattle.std.proofs.lemmas.Grind.{common_steps}
+use Rattle.std.proofs.lemmas.Bool.Decides.{nat_tests}
+use Rattle.std.specs.List.{list_all, list_any}
+use Rattle.dsql_tenure.specs.declared.entry.Entry.{Entry}
+use Rattle.dsql_tenure.specs.declared.entry.Owner.{Owner}
+use Rattle.dsql_tenure.specs.declared.entry.Owner.TheVariants.{Call, Tx, Pin, House}
+use Rattle.dsql_tenure.specs.Kinds.{is_call}
+use Rattle.dsql_tenure.specs.Readers.{has, is_empty}
+use Rattle.dsql_history.specs.declared.event.Event.{Event}
+use Rattle.dsql_history.specs.declared.event.Event.TheVariants.{Run, Entered, Heard, Pool, Replied, Ended}
+use Rattle.dsql_history.specs.declared.event.Move.{Move}
+use Rattle.dsql_history.specs.declared.event.Move.TheVariants.{OpenStart, Lend, Back, CloseStart, Gone, Fell}
+use Rattle.dsql_history.specs.declared.event.CloseCause.{CloseCause}
+use Rattle.dsql_history.specs.declared.record.Place.{Place}
+use Rattle.dsql_history.specs.declared.record.Place.TheVariants.{Nowhere, Opening, Idle, Lent, Closing}
+use Rattle.dsql_history.specs.declared.record.CallRecord.{CallRecord}
+use Rattle.dsql_history.specs.declared.reply.Reply.{Reply}
+use Rattle.dsql_history.specs.Readers.Lists.{without, last, first}
+use Rattle.dsql_history.specs.Readers.Course.{has_ended}
+use Rattle.dsql_history.specs.Readers.Sets.{places, place, idle, is_open, is_opening, is_closing, is_idle, is_lent, is_for, number_of, next_tenure, next_number, open_count}
+use Rattle.dsql_history.specs.Readers.Journals.{journal, ends_invalid}
+use Rattle.dsql_history.specs.Readers.Calls.{calls, call_record, home, unfinished, is_unfinished, nobody, with_record, reply_due, next_call, is_busy}
+use Rattle.dsql_history.specs.Rules.Settled.{Settled, is_placed, is_in_use, uses_what_is_lent, is_under_way, goes_on, keeps_idle_limit, is_empty_when_closed}
+use Rattle.dsql_history.specs.Legal.{Allowed, KeepsEach, Lawful}
+use Rattle.dsql_history.proofs.Rows.{both, not_true, same_number, same_to_itself, other_number, same_or_not, is_once, has-without, has_push, read_set, read_push, within_rows, length-without, length_push, row_at, row_off, row_new, row_old}
+use Rattle.dsql_history.proofs.SoundSets.{SoundSets, sound_sets}
+use Rattle.dsql_history.proofs.SoundCalls.{SoundCalls, sound_calls, owner_of}
+use Rattle.dsql_history.proofs.SoundJournals.{whole_when_lent, lent_tenure, good_while_due, follows_due, fresh_lending, lends_when_opening, follows_connect, whole_refused, follows_shut, whole_shut, keeps_journals_of}
+use Rattle.dsql_history.specs.Rules.Line.{due}
+use Rattle.dsql_history.specs.declared.event.CloseCause.TheVariants.{DbClosed}
+use Rattle.dsql_history.specs.Rules.Causes.{is_at_end}
+use Rattle.dsql_history.specs.Rules.Order.{follows}
+use Rattle.dsql_history.specs.Rules.House.{is_quiet, has_no_chore}
+use Rattle.dsql_engine.specs.Groups.{closings}
+use Rattle.dsql_engine.specs.Latest.{oldest}
+use Rattle.dsql_engine.proofs.Basics.{not_first, begun, follows_placed, all_of, used_of, way_of}
+use Rattle.dsql_engine.proofs.Moving.{closed_or}
+
+pub may_end : (H : List Event) → Settled H → is_empty H ≡ false → is_quiet H ≡ true → has_ended H ≡ false → Allowed H Ended
+unfolding Allowed
+may_end H s b quiet running = record {
+  course = rw (not_first H Ended b refl, running, quiet) refl;
+  numbers = refl;
+  sets = refl;
+  limit = refl;
+  asking = refl;
+  order = rw (follows_placed H Ended s.placed) refl;
+  causes = refl;
+  line = refl;
+  journals = refl;
+  replies = refl;
+}
+
+-- while the idle connections begin to close
+pub record Winding (H : List Event) : Type 0 where
+  pub at_end : is_at_end H ≡ true
+  pub begun : is_empty H ≡ false
+  pub placed : is_placed H ≡ true
+  pub done : unfinished H ≡ []
+
+empty_is : (ns : List ℕ) → is_empty ns ≡ true → ns ≡ []
+empty_is [] h = refl
+empty_is (n ∷ ns) h = absurd cc
+
+pub winding_first : (H : List Event) → is_quiet H ≡ true → Winding (Ended ∷ H)
+winding_first H quiet =
+    let q = both (is_empty (unfinished H)) (has_no_chore H) quiet in
+    record { at_end = refl; begun = refl; placed = refl; done = empty_is (unfinished H) q.0 }
+
+pub winding_next : (H : List Event) (c : ℕ) → Winding H → Winding (Pool (CloseStart c DbClosed) ∷ H)
+winding_next H c w = record { at_end = w.at_end; begun = refl; placed = refl; done = w.done }
+
+oldest_of : (ns : List ℕ) (c : ℕ) → oldest ns ≡ Some c → (first ns ≡ c) × (has c ns ≡ true)
+oldest_of [] c h = absurd cc
+oldest_of (x ∷ ns) c h = let e : x ≡ c = cc in (e, rw (e, same_to_itself c) refl)
+
+idle_is : (p : Place) → is_idle p ≡ true → p ≡ Idle
+idle_is Idle h = refl
+idle_is Nowhere h = absurd cc
+idle_is (Opening n) h = absurd cc
+idle_is (Lent t o) h = absurd cc
+idle_is Closing h = absurd cc
+
+pub may_wind : (H : List Event) (c : ℕ) → Lawful H → Winding H → oldest (idle H) ≡ Some c → Allowed H (Pool (CloseStart c DbClosed))
+unfolding Allowed
+may_wind H c l w old =
+    let q = sound_sets H l in
+    let k = oldest_of (idle H) c old in
+    let is : place H c ≡ Idle = idle_is (place H c) (sym (q.idle_ones c) ∙ k.1) in
+    record {
+      course = rw (not_first H (Pool (CloseStart c DbClosed)) w.begun refl) refl;
+      numbers = refl;
+      sets = rw is refl;
+      limit = refl;
+      asking = refl;
+      order = rw (follows_placed H (Pool (CloseStart c DbClosed)) w.placed, is) refl;
+      causes = rw (is, w.at_end, k.0, same_to_itself c) refl;
+      line = rw is refl;
+      journals = rw is refl;
+      replies = refl;
+    }
+
+pub settled_ended : (H : List Event) → Lawful H → Winding H → idle H ≡ [] → Settled H
+settled_ended H l w none = record {
+  placed = w.placed;
+  used = used_of H l;
+  under_way = rw w.done refl;
+  few = rw none refl;
+  none = closed_or (has_ended H) (idle H) (λ e. none);
+}
+
+without_other : (c : ℕ) (ns : List ℕ) → has c ns ≡ false → without c ns ≡ ns
+without_other c [] h = refl
+without_other c (x ∷ ns) h = grind (arith, nat_tests, without_other c ns)
+
+-- closing the longest idle one leaves the others to close
+pub winds : (H : List Event) (c : ℕ) → Lawful H → oldest (idle H) ≡ Some c
+    → (closings (idle (Pool (CloseStart c DbClosed) ∷ H)) (Pool (CloseStart c DbClosed) ∷ H) ≡ closings (idle H) H) × (length (idle (Pool (CloseStart c DbClosed) ∷ H)) + 1 ≡ length (idle H))
+winds H c l old = let q = sound_sets H l in go (idle H) old q.once
+  where
+    go : (ns : List ℕ) → oldest ns ≡ Some c → is_once ns ≡ true
+        → (closings (without c ns) (Pool (CloseStart c DbClosed) ∷ H) ≡ closings ns H) × (length (without c ns) + 1 ≡ length ns)
+    go [] old once = absurd cc
+    go (x ∷ ns) old once =
+        let e : x ≡ c = cc in
+        let o = both (not (has x ns)) (is_once ns) once in
+        let k : without c (x ∷ ns) ≡ ns = rw (e, same_to_itself c) (without_other c ns (rw e at (not_true (has x ns) o.0))) in
+        rw (k, e) (refl, grind (arith, common_steps))
+
+pub none_oldest : (ns : List ℕ) → oldest ns ≡ None → ns ≡ []
+none_oldest [] h = refl
+none_oldest (x ∷ ns) h = absurd cc

@@ -1,0 +1,69 @@
+//! Memory: a desk whose run begins, and room for more events.
+ghost use Rattle.std.specs.Prelude.{◌≡◌, ◌∷◌, [], IfOk, OnOk};
+ghost use Rattle.dsql_history.specs.Rules.Settled.{Settled};
+ghost use Rattle.dsql_history.specs.declared.event.Event.TheVariants.{Run};
+ghost use Rattle.dsql_engine.specs.Desk.{past, Stands};
+
+use crate::desk::Desk;
+use crate::next::NoRoom;
+use dsql_driver::Caps;
+use dsql_history::{CallRecord, Event, Place};
+use dsql_value::Txt;
+use std::alloc::Global;
+
+#[tactic(auto, unfolding(crate::specs::Desk::Stands, dsql_history::specs::Legal::Allowed))]
+impl Desk {
+    /// The desk of a run that begins.
+    pub fn start(alloc: Global, version: u8, caps: Caps) -> Result<Desk, NoRoom>
+        ensures stands { IfOk result (λ d. Stands d) }
+        ensures past { IfOk result (λ d. past d ≡ Run version caps ∷ []) }
+        ensures settled { IfOk result (λ d. Settled (past d)) }
+    {
+        let mut history = Vec::new(alloc);
+        history.push(Event::Run { version, caps })?;
+        let mut places = Vec::new(alloc);
+        places.push(Place::Nowhere)?;
+        let mut lends = Vec::new(alloc);
+        lends.push(0)?;
+        let mut uses = Vec::new(alloc);
+        uses.push(0)?;
+        let mut calls = Vec::new(alloc);
+        let text = Txt::copy_of(alloc, "")?;
+        calls.push(CallRecord {
+            client: 0,
+            home: 0,
+            text,
+            decided: None,
+        })?;
+        Ok(Desk {
+            history,
+            caps,
+            ended: false,
+            places,
+            lends,
+            uses,
+            idle: Vec::new(alloc),
+            calls,
+            unfinished: Vec::new(alloc),
+            paid: 0,
+        })
+    }
+
+    /// Takes the memory for some events.
+    pub fn pay(&mut self, events: usize) -> Result<(), NoRoom>
+        requires { Stands self.old }
+        ensures stands { Stands self.new }
+        ensures past { past self.new ≡ past self.old }
+        ensures paid { OnOk result (self.new.paid ≡ events) }
+    {
+        self.history.reserve(events)?;
+        self.places.reserve(events)?;
+        self.lends.reserve(events)?;
+        self.uses.reserve(events)?;
+        self.idle.reserve(events)?;
+        self.calls.reserve(events)?;
+        self.unfinished.reserve(events)?;
+        self.paid = events;
+        Ok(())
+    }
+}
