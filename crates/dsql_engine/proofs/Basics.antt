@@ -1,33 +1,21 @@
 -- What every step needs: the order of events, what is used, and who is under way.
-use Rattle.std.proofs.Common.{◌≡◌, ◌≢◌, ℕ, zero, suc, ◌<◌, ◌≤◌, ◌+◌, ◌==◌, ◌⊎◌, inl, inr, Bool, true, false, not, ◌&&◌, ◌||◌, cond, nat_lt, nat_le, List, [], ◌∷◌, ◌++◌, length, get_or, set, refl, arith, Option, Some, None, is_some, is_none, ap, sym, subst, ◌∙◌}
+use Rattle.std.proofs.Common.{◌≡◌, ℕ, zero, suc, Bool, true, false, not, ◌||◌, List, [], ◌∷◌, get_or, refl, arith, ap, sym, ◌∙◌}
 use Rattle.std.proofs.lemmas.Grind.{common_steps}
 use Rattle.std.proofs.lemmas.Bool.Decides.{nat_tests}
-use Rattle.std.specs.List.{list_all, list_any}
+use Rattle.std.specs.List.{list_all}
 use Rattle.dsql_tenure.specs.declared.entry.Entry.{Entry}
-use Rattle.dsql_tenure.specs.declared.entry.Owner.{Owner}
-use Rattle.dsql_tenure.specs.declared.entry.Owner.TheVariants.{Call, Tx, Pin, House}
-use Rattle.dsql_tenure.specs.Kinds.{is_call}
 use Rattle.dsql_tenure.specs.Readers.{has, is_empty}
 use Rattle.dsql_history.specs.declared.event.Event.{Event}
 use Rattle.dsql_history.specs.declared.event.Event.TheVariants.{Run, Entered, Heard, Pool, Replied, Ended}
-use Rattle.dsql_history.specs.declared.event.Move.{Move}
-use Rattle.dsql_history.specs.declared.event.Move.TheVariants.{OpenStart, Lend, Back, CloseStart, Gone, Fell}
-use Rattle.dsql_history.specs.declared.event.CloseCause.{CloseCause}
 use Rattle.dsql_history.specs.declared.record.Place.{Place}
 use Rattle.dsql_history.specs.declared.record.Place.TheVariants.{Nowhere, Opening, Idle, Lent, Closing}
-use Rattle.dsql_history.specs.declared.record.CallRecord.{CallRecord}
 use Rattle.dsql_history.specs.declared.reply.Reply.{Reply}
-use Rattle.dsql_history.specs.Readers.Lists.{without, last, first}
-use Rattle.dsql_history.specs.Readers.Course.{has_ended}
-use Rattle.dsql_history.specs.Readers.Sets.{places, place, idle, is_open, is_opening, is_closing, is_idle, is_lent, is_for, number_of, next_tenure, next_number, open_count}
-use Rattle.dsql_history.specs.Readers.Journals.{journal, ends_invalid}
-use Rattle.dsql_history.specs.Readers.Calls.{calls, call_record, home, unfinished, is_unfinished, nobody, with_record, reply_due, next_call, is_busy}
-use Rattle.dsql_history.specs.Rules.Settled.{Settled, is_placed, is_in_use, uses_what_is_lent, is_under_way, goes_on, keeps_idle_limit, is_empty_when_closed}
-use Rattle.dsql_history.specs.Legal.{Allowed, KeepsEach, Lawful}
-use Rattle.dsql_history.proofs.Rows.{both, not_true, same_number, same_to_itself, other_number, same_or_not, is_once, has-without, has_push, read_set, read_push, within_rows, length-without, length_push, row_at, row_off, row_new, row_old}
-use Rattle.dsql_history.proofs.SoundSets.{SoundSets, sound_sets}
-use Rattle.dsql_history.proofs.SoundCalls.{SoundCalls, sound_calls, owner_of}
-use Rattle.dsql_history.proofs.SoundJournals.{whole_when_lent, lent_tenure, good_while_due, follows_due, fresh_lending, lends_when_opening, follows_connect, whole_refused, follows_shut, whole_shut, keeps_journals_of}
+use Rattle.dsql_history.specs.Readers.Sets.{places, place, is_open, is_opening, is_closing, number_of}
+use Rattle.dsql_history.specs.Readers.Calls.{unfinished, is_unfinished}
+use Rattle.dsql_history.specs.Rules.Settled.{Settled, is_placed, is_in_use, uses_what_is_lent, is_under_way}
+use Rattle.dsql_history.specs.Legal.{Lawful}
+use Rattle.dsql_history.proofs.Rows.{same_to_itself}
+use Rattle.dsql_history.proofs.SoundCalls.{sound_calls}
 use Rattle.dsql_history.specs.Rules.Course.{begins_with_run, is_run}
 use Rattle.dsql_history.specs.Rules.Order.{follows, follows_answer}
 use Rattle.dsql_history.specs.Rules.Replies.{same_reply}

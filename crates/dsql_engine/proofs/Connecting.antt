@@ -1,34 +1,19 @@
 -- The answer to a Connect.
-use Rattle.std.proofs.Common.{◌≡◌, ◌≢◌, ℕ, zero, suc, ◌<◌, ◌≤◌, ◌+◌, ◌==◌, ◌⊎◌, inl, inr, Bool, true, false, not, ◌&&◌, ◌||◌, cond, nat_lt, nat_le, List, [], ◌∷◌, ◌++◌, length, get_or, set, refl, arith, Option, Some, None, is_some, is_none, ap, sym, subst, ◌∙◌}
-use Rattle.std.proofs.lemmas.Grind.{common_steps}
-use Rattle.std.proofs.lemmas.Bool.Decides.{nat_tests}
-use Rattle.std.specs.List.{list_all, list_any}
+use Rattle.std.proofs.Common.{◌≡◌, ◌≢◌, ℕ, inl, inr, true, false, List, ◌∷◌, get_or, refl, is_some, ap, sym, subst, ◌∙◌}
 use Rattle.dsql_tenure.specs.declared.entry.Entry.{Entry}
-use Rattle.dsql_tenure.specs.declared.entry.Owner.{Owner}
-use Rattle.dsql_tenure.specs.declared.entry.Owner.TheVariants.{Call, Tx, Pin, House}
-use Rattle.dsql_tenure.specs.Kinds.{is_call}
-use Rattle.dsql_tenure.specs.Readers.{has, is_empty}
+use Rattle.dsql_tenure.specs.declared.entry.Owner.TheVariants.{Call}
 use Rattle.dsql_history.specs.declared.event.Event.{Event}
-use Rattle.dsql_history.specs.declared.event.Event.TheVariants.{Run, Entered, Heard, Pool, Replied, Ended}
-use Rattle.dsql_history.specs.declared.event.Move.{Move}
-use Rattle.dsql_history.specs.declared.event.Move.TheVariants.{OpenStart, Lend, Back, CloseStart, Gone, Fell}
-use Rattle.dsql_history.specs.declared.event.CloseCause.{CloseCause}
-use Rattle.dsql_history.specs.declared.record.Place.{Place}
-use Rattle.dsql_history.specs.declared.record.Place.TheVariants.{Nowhere, Opening, Idle, Lent, Closing}
+use Rattle.dsql_history.specs.declared.event.Event.TheVariants.{Heard, Pool}
+use Rattle.dsql_history.specs.declared.event.Move.TheVariants.{Lend, Fell}
+use Rattle.dsql_history.specs.declared.record.Place.TheVariants.{Nowhere, Opening, Lent}
 use Rattle.dsql_history.specs.declared.record.CallRecord.{CallRecord}
-use Rattle.dsql_history.specs.declared.reply.Reply.{Reply}
-use Rattle.dsql_history.specs.Readers.Lists.{without, last, first}
-use Rattle.dsql_history.specs.Readers.Course.{has_ended}
-use Rattle.dsql_history.specs.Readers.Sets.{places, place, idle, is_open, is_opening, is_closing, is_idle, is_lent, is_for, number_of, next_tenure, next_number, open_count}
-use Rattle.dsql_history.specs.Readers.Journals.{journal, ends_invalid}
-use Rattle.dsql_history.specs.Readers.Calls.{calls, call_record, home, unfinished, is_unfinished, nobody, with_record, reply_due, next_call, is_busy}
-use Rattle.dsql_history.specs.Rules.Settled.{Settled, is_placed, is_in_use, uses_what_is_lent, is_under_way, goes_on, keeps_idle_limit, is_empty_when_closed}
-use Rattle.dsql_history.specs.Legal.{Allowed, KeepsEach, Lawful}
-use Rattle.dsql_history.proofs.Rows.{both, not_true, same_number, same_to_itself, other_number, same_or_not, is_once, has-without, has_push, read_set, read_push, within_rows, length-without, length_push, row_at, row_off, row_new, row_old}
-use Rattle.dsql_history.proofs.SoundSets.{SoundSets, sound_sets}
-use Rattle.dsql_history.proofs.SoundCalls.{SoundCalls, sound_calls, owner_of}
-use Rattle.dsql_history.proofs.SoundJournals.{whole_when_lent, lent_tenure, good_while_due, follows_due, fresh_lending, lends_when_opening, follows_connect, whole_refused, follows_shut, whole_shut, keeps_journals_of}
-use Rattle.dsql_history.specs.Rules.Line.{due}
+use Rattle.dsql_history.specs.Readers.Sets.{places, place, is_for, next_tenure}
+use Rattle.dsql_history.specs.Readers.Calls.{calls, call_record, home, unfinished, is_unfinished, nobody}
+use Rattle.dsql_history.specs.Rules.Settled.{Settled, is_under_way}
+use Rattle.dsql_history.specs.Legal.{Allowed, Lawful}
+use Rattle.dsql_history.proofs.Rows.{same_to_itself, other_number, same_or_not, row_at, row_off}
+use Rattle.dsql_history.proofs.SoundCalls.{sound_calls}
+use Rattle.dsql_history.proofs.SoundJournals.{follows_connect, whole_refused}
 use Rattle.dsql_driver.specs.declared.call.DriverCall.TheVariants.{Connect}
 use Rattle.dsql_driver.specs.declared.answer.DriverAnswer.{DriverAnswer}
 use Rattle.dsql_driver.specs.declared.answer.DriverAnswer.TheVariants.{Bad, Fail, Memory, Done}
@@ -107,8 +92,8 @@ settled_lend_opened H c n answer l s is lawful =
       under_way = all_of (is_under_way G) (unfinished G)
           (λ m h.
           elim (same_or_not m n) [
-            inl e ↦ subst (λ (k : ℕ). is_under_way G k ≡ true) (sym e) (way_with G c n (q.at_home c n mine) (some_number H c (Opening n) l is refl) mine)
-          | inr off ↦ way_by H G m (row_off (calls H) n (record (get_or (calls H) n nobody) { home = c }) m nobody off)
+            | inl e ↦ subst (λ (k : ℕ). is_under_way G k ≡ true) (sym e) (way_with G c n (q.at_home c n mine) (some_number H c (Opening n) l is refl) mine)
+            | inr off ↦ way_by H G m (row_off (calls H) n (record (get_or (calls H) n nobody) { home = c }) m nobody off)
                 (row_off (places H) c (Lent (next_tenure H c) (Call n)) (home H m) Nowhere (apart H c n m s is off h)) (way_of H s m h)
           ]);
       few = few_without H c s.few;
@@ -143,8 +128,8 @@ settled_fallen H c n answer l s is fit heard refused lawful =
       under_way = all_of (is_under_way G) (unfinished G)
           (λ m h.
           elim (same_or_not m n) [
-            inl e ↦ subst (λ (k : ℕ). is_under_way G k ≡ true) (sym e) (fallen_way G c n at (some_number H c (Opening n) l is refl) here decided)
-          | inr off ↦ way_by H G m (row_off (calls H) n (record (get_or (calls H) n nobody) { decided = reply_to answer }) m nobody off)
+            | inl e ↦ subst (λ (k : ℕ). is_under_way G k ≡ true) (sym e) (fallen_way G c n at (some_number H c (Opening n) l is refl) here decided)
+            | inr off ↦ way_by H G m (row_off (calls H) n (record (get_or (calls H) n nobody) { decided = reply_to answer }) m nobody off)
                 (row_off (places H) c Nowhere (home H m) Nowhere (apart H c n m s is off h)) (way_of H s m h)
           ]);
       few = s.few;

@@ -1,44 +1,29 @@
 -- The answer to a driver call of a client's call.
-use Rattle.std.proofs.Common.{◌≡◌, ◌≢◌, ℕ, zero, suc, ◌<◌, ◌≤◌, ◌+◌, ◌==◌, ◌⊎◌, inl, inr, Bool, true, false, not, ◌&&◌, ◌||◌, cond, nat_lt, nat_le, List, [], ◌∷◌, ◌++◌, length, get_or, set, refl, arith, Option, Some, None, is_some, is_none, ap, sym, subst, ◌∙◌}
-use Rattle.std.proofs.lemmas.Grind.{common_steps}
-use Rattle.std.proofs.lemmas.Bool.Decides.{nat_tests}
-use Rattle.std.specs.List.{list_all, list_any}
+use Rattle.std.proofs.Common.{◌≡◌, ◌≢◌, ℕ, ◌<◌, ◌==◌, inl, inr, Bool, true, false, not, ◌||◌, cond, List, [], ◌∷◌, length, get_or, refl, Option, Some, None, ap, sym, subst, ◌∙◌}
 use Rattle.dsql_tenure.specs.declared.entry.Entry.{Entry}
-use Rattle.dsql_tenure.specs.declared.entry.Owner.{Owner}
-use Rattle.dsql_tenure.specs.declared.entry.Owner.TheVariants.{Call, Tx, Pin, House}
-use Rattle.dsql_tenure.specs.Kinds.{is_call}
-use Rattle.dsql_tenure.specs.Readers.{has, is_empty}
+use Rattle.dsql_tenure.specs.declared.entry.Owner.TheVariants.{Call}
 use Rattle.dsql_history.specs.declared.event.Event.{Event}
-use Rattle.dsql_history.specs.declared.event.Event.TheVariants.{Run, Entered, Heard, Pool, Replied, Ended}
-use Rattle.dsql_history.specs.declared.event.Move.{Move}
-use Rattle.dsql_history.specs.declared.event.Move.TheVariants.{OpenStart, Lend, Back, CloseStart, Gone, Fell}
-use Rattle.dsql_history.specs.declared.event.CloseCause.{CloseCause}
-use Rattle.dsql_history.specs.declared.record.Place.{Place}
-use Rattle.dsql_history.specs.declared.record.Place.TheVariants.{Nowhere, Opening, Idle, Lent, Closing}
+use Rattle.dsql_history.specs.declared.event.Event.TheVariants.{Heard}
+use Rattle.dsql_history.specs.declared.record.Place.TheVariants.{Lent}
 use Rattle.dsql_history.specs.declared.record.CallRecord.{CallRecord}
-use Rattle.dsql_history.specs.declared.reply.Reply.{Reply}
-use Rattle.dsql_history.specs.Readers.Lists.{without, last, first}
-use Rattle.dsql_history.specs.Readers.Course.{has_ended}
-use Rattle.dsql_history.specs.Readers.Sets.{places, place, idle, is_open, is_opening, is_closing, is_idle, is_lent, is_for, number_of, next_tenure, next_number, open_count}
+use Rattle.dsql_history.specs.Readers.Sets.{place, is_for}
 use Rattle.dsql_history.specs.Readers.Journals.{journal, ends_invalid}
-use Rattle.dsql_history.specs.Readers.Calls.{calls, call_record, home, unfinished, is_unfinished, nobody, with_record, reply_due, next_call, is_busy}
-use Rattle.dsql_history.specs.Rules.Settled.{Settled, is_placed, is_in_use, uses_what_is_lent, is_under_way, goes_on, keeps_idle_limit, is_empty_when_closed}
-use Rattle.dsql_history.specs.Legal.{Allowed, KeepsEach, Lawful}
-use Rattle.dsql_history.proofs.Rows.{both, not_true, same_number, same_to_itself, other_number, same_or_not, is_once, has-without, has_push, read_set, read_push, within_rows, length-without, length_push, row_at, row_off, row_new, row_old}
-use Rattle.dsql_history.proofs.SoundSets.{SoundSets, sound_sets}
-use Rattle.dsql_history.proofs.SoundCalls.{SoundCalls, sound_calls, owner_of}
-use Rattle.dsql_history.proofs.SoundJournals.{whole_when_lent, lent_tenure, good_while_due, follows_due, fresh_lending, lends_when_opening, follows_connect, whole_refused, follows_shut, whole_shut, keeps_journals_of}
+use Rattle.dsql_history.specs.Readers.Calls.{calls, call_record, unfinished, nobody, with_record}
+use Rattle.dsql_history.specs.Rules.Settled.{Settled, is_under_way}
+use Rattle.dsql_history.specs.Legal.{Allowed, Lawful}
+use Rattle.dsql_history.proofs.Rows.{same_to_itself, same_or_not, row_at, row_off}
+use Rattle.dsql_history.proofs.SoundCalls.{sound_calls}
+use Rattle.dsql_history.proofs.SoundJournals.{good_while_due, follows_due}
 use Rattle.dsql_history.specs.Rules.Line.{due}
 use Rattle.std.specs.Prelude.{option_map}
 use Rattle.dsql_driver.specs.declared.caps.Caps.{Caps}
 use Rattle.dsql_driver.specs.declared.call.DriverCall.{DriverCall}
 use Rattle.dsql_driver.specs.declared.call.DriverCall.TheVariants.{Reset, Valid, Exec, Connect, Shut}
-use Rattle.dsql_driver.specs.declared.call.Input.TheVariants.{Text, Handle}
+use Rattle.dsql_driver.specs.declared.call.Input.TheVariants.{Text}
 use Rattle.dsql_driver.specs.declared.answer.DriverAnswer.{DriverAnswer}
 use Rattle.dsql_driver.specs.declared.answer.DriverAnswer.TheVariants.{Bad}
 use Rattle.dsql_driver.specs.Fits.{fits_of, is_memory, is_invalid}
 use Rattle.dsql_tenure.specs.declared.entry.Permit.{Permit}
-use Rattle.dsql_tenure.specs.Permits.{entry_of}
 use Rattle.dsql_tenure.specs.Entries.{call_entry}
 use Rattle.dsql_tenure.specs.Kinds.{is_connect, is_shut, is_bad}
 use Rattle.dsql_tenure.specs.Readers.{went_bad}
@@ -49,9 +34,9 @@ use Rattle.dsql_history.specs.Rules.Line.{due, is_due, line_after, after_call, b
 use Rattle.dsql_history.proofs.Lines.{is_sent, sent_of, some_of}
 use Rattle.dsql_history.proofs.SoundJournals.{sound_journals}
 use Rattle.dsql_history.proofs.Standing.{good_now}
-use Rattle.dsql_engine.specs.Awaited.{call_permit, permit_of}
+use Rattle.dsql_engine.specs.Awaited.{call_permit}
 use Rattle.dsql_engine.proofs.Basics.{not_first, begun, follows_placed, all_of, used_of, way_of, bytes_same}
-use Rattle.dsql_engine.proofs.Moving.{way_by, way_with, not_at, row_of, some_number}
+use Rattle.dsql_engine.proofs.Moving.{way_by, way_with, some_number}
 
 -- what is due is due to itself
 abbrev own_of : Option DriverCall → Bool
@@ -143,8 +128,8 @@ settled_heard H c t n q a l s is lawful =
       under_way = all_of (is_under_way G) (unfinished G)
           (λ m h.
           elim (same_or_not m n) [
-            inl e ↦ subst (λ (j : ℕ). is_under_way G j ≡ true) (sym e) (way_with G c n (k.at_home c n mine) (some_number H c (Lent t (Call n)) l is refl) mine)
-          | inr off ↦ way_by H G m (record_off (n == 0) (calls H) n m (λ r. record r { decided = decision q a r.decided }) off) refl (way_of H s m h)
+            | inl e ↦ subst (λ (j : ℕ). is_under_way G j ≡ true) (sym e) (way_with G c n (k.at_home c n mine) (some_number H c (Lent t (Call n)) l is refl) mine)
+            | inr off ↦ way_by H G m (record_off (n == 0) (calls H) n m (λ r. record r { decided = decision q a r.decided }) off) refl (way_of H s m h)
           ]);
       few = s.few;
       none = s.none;
@@ -156,7 +141,7 @@ pub due_heard : (H : List Event) (c t n : ℕ) (q : DriverCall) (a : DriverAnswe
 due_heard H c t n q a l is =
     let w = lent_within H c t n l is in
     let text : (call_record (Heard (call_entry c t n q a) ∷ H) n).text ≡ (call_record H n).text =
-        record_at (n == 0) (calls H) n (λ r. record r { decided = decision q a r.decided }) w.1 (λ r. refl) in
+    record_at (n == 0) (calls H) n (λ r. record r { decided = decision q a r.decided }) w.1 (λ r. refl) in
     rw (same_to_itself c, same_to_itself t, text) refl
 
 or_false : (b : Bool) → b ≡ (b || false)

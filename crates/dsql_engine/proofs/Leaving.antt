@@ -1,40 +1,33 @@
 -- A connection on which nothing is due any more leaves, and its call replies.
-use Rattle.std.proofs.Common.{◌≡◌, ◌≢◌, ℕ, zero, suc, ◌<◌, ◌≤◌, ◌+◌, ◌==◌, ◌⊎◌, inl, inr, Bool, true, false, not, ◌&&◌, ◌||◌, cond, nat_lt, nat_le, List, [], ◌∷◌, ◌++◌, length, get_or, set, refl, arith, Option, Some, None, is_some, is_none, ap, sym, subst, ◌∙◌}
-use Rattle.std.proofs.lemmas.Grind.{common_steps}
+use Rattle.std.proofs.Common.{◌≡◌, ◌≢◌, ℕ, ◌<◌, ◌≤◌, ◌==◌, Bool, true, false, not, ◌&&◌, ◌||◌, List, [], ◌∷◌, length, get_or, refl, arith, Option, Some, None, is_some, ap, sym, subst, ◌∙◌}
 use Rattle.std.proofs.lemmas.Bool.Decides.{nat_tests}
-use Rattle.std.specs.List.{list_all, list_any}
-use Rattle.dsql_tenure.specs.declared.entry.Entry.{Entry}
 use Rattle.dsql_tenure.specs.declared.entry.Owner.{Owner}
-use Rattle.dsql_tenure.specs.declared.entry.Owner.TheVariants.{Call, Tx, Pin, House}
-use Rattle.dsql_tenure.specs.Kinds.{is_call}
+use Rattle.dsql_tenure.specs.declared.entry.Owner.TheVariants.{Call}
 use Rattle.dsql_tenure.specs.Readers.{has, is_empty}
 use Rattle.dsql_history.specs.declared.event.Event.{Event}
-use Rattle.dsql_history.specs.declared.event.Event.TheVariants.{Run, Entered, Heard, Pool, Replied, Ended}
-use Rattle.dsql_history.specs.declared.event.Move.{Move}
-use Rattle.dsql_history.specs.declared.event.Move.TheVariants.{OpenStart, Lend, Back, CloseStart, Gone, Fell}
+use Rattle.dsql_history.specs.declared.event.Event.TheVariants.{Pool, Replied}
+use Rattle.dsql_history.specs.declared.event.Move.TheVariants.{Back, CloseStart}
 use Rattle.dsql_history.specs.declared.event.CloseCause.{CloseCause}
-use Rattle.dsql_history.specs.declared.record.Place.{Place}
-use Rattle.dsql_history.specs.declared.record.Place.TheVariants.{Nowhere, Opening, Idle, Lent, Closing}
+use Rattle.dsql_history.specs.declared.record.Place.TheVariants.{Nowhere, Idle, Lent, Closing}
 use Rattle.dsql_history.specs.declared.record.CallRecord.{CallRecord}
 use Rattle.dsql_history.specs.declared.reply.Reply.{Reply}
-use Rattle.dsql_history.specs.Readers.Lists.{without, last, first}
+use Rattle.dsql_history.specs.Readers.Lists.{without}
 use Rattle.dsql_history.specs.Readers.Course.{has_ended}
-use Rattle.dsql_history.specs.Readers.Sets.{places, place, idle, is_open, is_opening, is_closing, is_idle, is_lent, is_for, number_of, next_tenure, next_number, open_count}
+use Rattle.dsql_history.specs.Readers.Sets.{places, place, idle, is_open, is_for}
 use Rattle.dsql_history.specs.Readers.Journals.{journal, ends_invalid}
-use Rattle.dsql_history.specs.Readers.Calls.{calls, call_record, home, unfinished, is_unfinished, nobody, with_record, reply_due, next_call, is_busy}
-use Rattle.dsql_history.specs.Rules.Settled.{Settled, is_placed, is_in_use, uses_what_is_lent, is_under_way, goes_on, keeps_idle_limit, is_empty_when_closed}
-use Rattle.dsql_history.specs.Legal.{Allowed, KeepsEach, Lawful}
-use Rattle.dsql_history.proofs.Rows.{both, not_true, same_number, same_to_itself, other_number, same_or_not, is_once, has-without, has_push, read_set, read_push, within_rows, length-without, length_push, row_at, row_off, row_new, row_old}
-use Rattle.dsql_history.proofs.SoundSets.{SoundSets, sound_sets}
-use Rattle.dsql_history.proofs.SoundCalls.{SoundCalls, sound_calls, owner_of}
-use Rattle.dsql_history.proofs.SoundJournals.{whole_when_lent, lent_tenure, good_while_due, follows_due, fresh_lending, lends_when_opening, follows_connect, whole_refused, follows_shut, whole_shut, keeps_journals_of}
+use Rattle.dsql_history.specs.Readers.Calls.{calls, call_record, home, unfinished, is_unfinished, nobody, reply_due}
+use Rattle.dsql_history.specs.Rules.Settled.{Settled, is_placed, is_under_way}
+use Rattle.dsql_history.specs.Legal.{Allowed, Lawful}
+use Rattle.dsql_history.proofs.Rows.{same_to_itself, other_number, has-without, within_rows, length-without, length_push, row_at, row_off}
+use Rattle.dsql_history.proofs.SoundSets.{sound_sets}
+use Rattle.dsql_history.proofs.SoundCalls.{sound_calls}
+use Rattle.dsql_history.proofs.SoundJournals.{whole_when_lent}
 use Rattle.dsql_history.specs.Rules.Line.{due}
 use Rattle.dsql_tenure.specs.Readers.{went_bad}
 use Rattle.dsql_history.specs.declared.event.CloseCause.TheVariants.{Bad, Invalid, IdleFull, DbClosed}
-use Rattle.dsql_history.specs.Rules.Causes.{cause, cause_when, is_cause, idle_limit}
-use Rattle.dsql_history.specs.Rules.Replies.{has_let_go}
+use Rattle.dsql_history.specs.Rules.Causes.{cause, cause_when, is_cause}
 use Rattle.dsql_engine.specs.Groups.{leaving}
-use Rattle.dsql_engine.proofs.Basics.{not_first, begun, follows_placed, each_of, all_of, used_of, way_of, reply_same}
+use Rattle.dsql_engine.proofs.Basics.{not_first, begun, follows_placed, all_of, used_of, way_of, reply_same}
 
 -- it may be given back
 pub may_back : (H : List Event) (c t n : ℕ) → Lawful H → Settled H → place H c ≡ Lent t (Call n) → due H c t n ≡ None → cause H c ≡ None → Allowed H (Pool (Back c))
@@ -185,7 +178,7 @@ elsewhere H G c t n m l s is f off u at =
 way_told : (H G : List Event) (c t n : ℕ) (r : Reply) (m : ℕ) → Lawful H → Settled H → place H c ≡ Lent t (Call n) → Left H c n G → m ≢ n → is_unfinished H m ≡ true → is_under_way (Replied n r ∷ G) m ≡ true
 way_told H G c t n r m l s is f off u =
     let same : call_record (Replied n r ∷ G) m ≡ call_record H m =
-        row_off (calls G) n (record (get_or (calls G) n nobody) { decided = None }) m nobody off ∙ ap (λ (cs : List CallRecord). get_or cs m nobody) f.same_calls in
+    row_off (calls G) n (record (get_or (calls G) n nobody) { decided = None }) m nobody off ∙ ap (λ (cs : List CallRecord). get_or cs m nobody) f.same_calls in
     let stays : place G (home H m) ≡ place H (home H m) = f.others (home H m) (elsewhere H G c t n m l s is f off u) in
     let P : CallRecord → Type 0 = λ w. (not (w.home == 0) && (is_for m (place G w.home) || not (is_open (place G w.home)) && is_some w.decided)) ≡ true in
     subst P (sym same) (rw stays (way_of H s m u))

@@ -8,3 +8,5 @@ pub mod Hearing
 pub mod Asking
 pub mod Waking
 pub mod Ending
+pub mod Legality
+pub mod Chores

@@ -1,39 +1,27 @@
 -- A call that waited looks at its connection.
-use Rattle.std.proofs.Common.{◌≡◌, ◌≢◌, ℕ, zero, suc, ◌<◌, ◌≤◌, ◌+◌, ◌==◌, ◌⊎◌, inl, inr, Bool, true, false, not, ◌&&◌, ◌||◌, cond, nat_lt, nat_le, List, [], ◌∷◌, ◌++◌, length, get_or, set, refl, arith, Option, Some, None, is_some, is_none, ap, sym, subst, ◌∙◌}
-use Rattle.std.proofs.lemmas.Grind.{common_steps}
+use Rattle.std.proofs.Common.{◌≡◌, ◌≢◌, ℕ, ◌==◌, ◌⊎◌, inl, inr, Bool, true, false, not, ◌&&◌, ◌||◌, List, [], ◌∷◌, get_or, refl, arith, Some, None, is_some, ap, sym, ◌∙◌}
 use Rattle.std.proofs.lemmas.Bool.Decides.{nat_tests}
-use Rattle.std.specs.List.{list_all, list_any}
-use Rattle.dsql_tenure.specs.declared.entry.Entry.{Entry}
 use Rattle.dsql_tenure.specs.declared.entry.Owner.{Owner}
-use Rattle.dsql_tenure.specs.declared.entry.Owner.TheVariants.{Call, Tx, Pin, House}
-use Rattle.dsql_tenure.specs.Kinds.{is_call}
+use Rattle.dsql_tenure.specs.declared.entry.Owner.TheVariants.{Call}
 use Rattle.dsql_tenure.specs.Readers.{has, is_empty}
 use Rattle.dsql_history.specs.declared.event.Event.{Event}
-use Rattle.dsql_history.specs.declared.event.Event.TheVariants.{Run, Entered, Heard, Pool, Replied, Ended}
-use Rattle.dsql_history.specs.declared.event.Move.{Move}
-use Rattle.dsql_history.specs.declared.event.Move.TheVariants.{OpenStart, Lend, Back, CloseStart, Gone, Fell}
-use Rattle.dsql_history.specs.declared.event.CloseCause.{CloseCause}
+use Rattle.dsql_history.specs.declared.event.Event.TheVariants.{Replied}
 use Rattle.dsql_history.specs.declared.record.Place.{Place}
 use Rattle.dsql_history.specs.declared.record.Place.TheVariants.{Nowhere, Opening, Idle, Lent, Closing}
-use Rattle.dsql_history.specs.declared.record.CallRecord.{CallRecord}
 use Rattle.dsql_history.specs.declared.reply.Reply.{Reply}
-use Rattle.dsql_history.specs.Readers.Lists.{without, last, first}
-use Rattle.dsql_history.specs.Readers.Course.{has_ended}
-use Rattle.dsql_history.specs.Readers.Sets.{places, place, idle, is_open, is_opening, is_closing, is_idle, is_lent, is_for, number_of, next_tenure, next_number, open_count}
-use Rattle.dsql_history.specs.Readers.Journals.{journal, ends_invalid}
-use Rattle.dsql_history.specs.Readers.Calls.{calls, call_record, home, unfinished, is_unfinished, nobody, with_record, reply_due, next_call, is_busy}
-use Rattle.dsql_history.specs.Rules.Settled.{Settled, is_placed, is_in_use, uses_what_is_lent, is_under_way, goes_on, keeps_idle_limit, is_empty_when_closed}
-use Rattle.dsql_history.specs.Legal.{Allowed, KeepsEach, Lawful}
-use Rattle.dsql_history.proofs.Rows.{both, not_true, same_number, same_to_itself, other_number, same_or_not, is_once, has-without, has_push, read_set, read_push, within_rows, length-without, length_push, row_at, row_off, row_new, row_old}
-use Rattle.dsql_history.proofs.SoundSets.{SoundSets, sound_sets}
-use Rattle.dsql_history.proofs.SoundCalls.{SoundCalls, sound_calls, owner_of}
-use Rattle.dsql_history.proofs.SoundJournals.{whole_when_lent, lent_tenure, good_while_due, follows_due, fresh_lending, lends_when_opening, follows_connect, whole_refused, follows_shut, whole_shut, keeps_journals_of}
+use Rattle.dsql_history.specs.Readers.Lists.{without}
+use Rattle.dsql_history.specs.Readers.Sets.{place, is_open, is_opening, is_lent, is_for, number_of}
+use Rattle.dsql_history.specs.Readers.Calls.{calls, call_record, home, unfinished, is_unfinished, nobody, reply_due}
+use Rattle.dsql_history.specs.Rules.Settled.{Settled, is_under_way}
+use Rattle.dsql_history.specs.Legal.{Allowed, Lawful}
+use Rattle.dsql_history.proofs.Rows.{same_number, same_to_itself, has-without, row_off}
+use Rattle.dsql_history.proofs.SoundCalls.{sound_calls, owner_of}
 use Rattle.dsql_history.specs.Rules.Line.{due}
 use Rattle.std.specs.Prelude.{find}
 use Rattle.dsql_history.specs.Readers.Journals.{heard_in}
 use Rattle.dsql_history.specs.Readers.Course.{caps}
 use Rattle.dsql_history.specs.Rules.Line.{due, line_after, is_reset_due}
-use Rattle.dsql_engine.proofs.Basics.{not_first, begun, follows_placed, all_of, used_of, way_of, reply_same}
+use Rattle.dsql_engine.proofs.Basics.{not_first, follows_placed, all_of, used_of, way_of, reply_same}
 use Rattle.dsql_engine.proofs.Moving.{way_by}
 
 -- what is said of an unfinished call under way
@@ -108,8 +96,10 @@ settled_told_fallen H n r s lawful =
 -- what is found is in the list
 pub found_in : (p : ℕ → Bool) (ns : List ℕ) (n : ℕ) → find p ns ≡ Some n → has n ns ≡ true
 found_in p [] n h = absurd cc
-found_in p (x ∷ ns) n h = found_when (p x) refl h
+found_in p (x ∷ ns) n h = found_when p x ns n (p x) refl (found_in p ns n) h
   where
-    found_when : (b : Bool) → p x ≡ b → find p (x ∷ ns) ≡ Some n → has n (x ∷ ns) ≡ true
-    found_when true e h = let k : x ≡ n = cc (rw e at h) in rw (k, same_to_itself n) refl
-    found_when false e h = grind (arith, nat_tests, found_in p ns n (rw e at h))
+    found_when : (p : ℕ → Bool) (x : ℕ) (ns : List ℕ) (n : ℕ) (b : Bool) → p x ≡ b → (find p ns ≡ Some n → has n ns ≡ true) → find p (x ∷ ns) ≡ Some n → has n (x ∷ ns) ≡ true
+    found_when p x ns n true e k h =
+        let f : Some x ≡ Some n = rw e at h in
+        let g : x ≡ n = cc in rw (g, same_to_itself n) refl
+    found_when p x ns n false e k h = let f : find p ns ≡ Some n = rw e at h in grind (arith, nat_tests, k f)

@@ -1,13 +1,10 @@
 -- The tables of the present, each against what the history tells.
-use Rattle.std.specs.Prelude.{ℕ, ◌≡◌, ◌+◌, ◌≤◌, ◌<◌, true, List, ◌∷◌, length, reverse, vec_len, vec_capacity}
+use Rattle.std.specs.Prelude.{◌≡◌, ◌+◌, ◌≤◌, List, reverse, vec_len, vec_capacity}
 use Rattle.dsql_history.specs.declared.event.Event.{Event}
-use Rattle.dsql_history.specs.declared.record.Place.{Place}
-use Rattle.dsql_history.specs.declared.record.CallRecord.{CallRecord}
 use Rattle.dsql_history.specs.Readers.Course as course
 use Rattle.dsql_history.specs.Readers.Sets as sets
 use Rattle.dsql_history.specs.Readers.Calls as told
 use Rattle.dsql_history.specs.Legal.{Lawful, Calm}
-use Rattle.dsql_history.specs.Rules.Settled.{Settled}
 use Rattle.dsql_engine.specs.declared.desk.Desk.{Desk}
 
 -- the events so far, the newest first

@@ -7,7 +7,9 @@ ghost use Rattle.dsql_history.specs.declared.reply.Reply.{Reply};
 ghost use Rattle.dsql_tenure.specs.declared.entry.Owner.TheVariants.{Call};
 ghost use Rattle.dsql_engine.specs.Desk.{past, Stands};
 
-use crate::room::{count_up, move_to, note, put, set_decided, set_home, take_out, take_reply, tell_entry};
+use crate::room::{
+    count_up, move_to, note, put, set_decided, set_home, take_out, take_reply, tell_entry,
+};
 use dsql_driver::{Caps, DriverAnswer};
 use dsql_history::{CallRecord, CloseCause, Event, Move, Op, Place, Reply};
 use dsql_tenure::{Entry, Owner};
@@ -49,7 +51,15 @@ impl Desk {
     {
         self.paid -= 1;
         note(&mut self.history, Event::Entered { client, n, op });
-        put(&mut self.calls, CallRecord { client, home: 0, text, decided: None });
+        put(
+            &mut self.calls,
+            CallRecord {
+                client,
+                home: 0,
+                text,
+                decided: None,
+            },
+        );
         put(&mut self.unfinished, n);
     }
 
@@ -63,7 +73,10 @@ impl Desk {
         ensures event { past self.new ≡ Event.Pool (Move.OpenStart c n) ∷ past self.old }
     {
         self.paid -= 1;
-        note(&mut self.history, Event::Pool(Move::OpenStart { conn: c, call: n }));
+        note(
+            &mut self.history,
+            Event::Pool(Move::OpenStart { conn: c, call: n }),
+        );
         put(&mut self.places, Place::Opening(n));
         put(&mut self.lends, 0);
         put(&mut self.uses, 0);
@@ -84,7 +97,15 @@ impl Desk {
         let owner = Owner::Call(n);
         count_up(&mut self.lends, c);
         count_up(&mut self.uses, c);
-        note(&mut self.history, Event::Pool(Move::Lend { conn: c, tenure, owner, call: n }));
+        note(
+            &mut self.history,
+            Event::Pool(Move::Lend {
+                conn: c,
+                tenure,
+                owner,
+                call: n,
+            }),
+        );
         move_to(&mut self.places, c, Place::Lent(tenure, owner));
         take_out(&mut self.idle, c);
         set_home(&mut self.calls, n, c);
@@ -146,7 +167,10 @@ impl Desk {
         ensures event { past self.new ≡ Event.Pool (Move.CloseStart c cause) ∷ past self.old }
     {
         self.paid -= 1;
-        note(&mut self.history, Event::Pool(Move::CloseStart { conn: c, cause }));
+        note(
+            &mut self.history,
+            Event::Pool(Move::CloseStart { conn: c, cause }),
+        );
         move_to(&mut self.places, c, Place::Closing);
         take_out(&mut self.idle, c);
     }
@@ -176,7 +200,10 @@ impl Desk {
         ensures event { past self.new ≡ Event.Pool (Move.Fell c n) ∷ past self.old }
     {
         self.paid -= 1;
-        note(&mut self.history, Event::Pool(Move::Fell { conn: c, call: n }));
+        note(
+            &mut self.history,
+            Event::Pool(Move::Fell { conn: c, call: n }),
+        );
         move_to(&mut self.places, c, Place::Nowhere);
         set_decided(&mut self.calls, n, reply);
     }

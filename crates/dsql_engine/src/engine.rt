@@ -1,4 +1,4 @@
-ghost use Rattle.std.specs.Prelude.{◌≡◌, ◌<◌, ◌≤◌, ◌∷◌, [], ℕ, true, false, length, reverse, Some, IfOk, OnErr, IsTrue, ◌↔◌, IsSome};
+ghost use Rattle.std.specs.Prelude.{◌≡◌, ◌<◌, ◌≤◌, ◌∷◌, [], ℕ, true, false, length, reverse, Some, IfOk, OnErr, IsTrue, ◌↔◌};
 ghost use Rattle.dsql_driver.specs.Fits.{fits_of, is_memory};
 ghost use Rattle.dsql_history.specs.Legal.{Legal};
 ghost use Rattle.dsql_history.specs.Readers.Course.{has_ended};
@@ -6,35 +6,43 @@ ghost use Rattle.dsql_history.specs.Readers.Calls.{is_busy};
 ghost use Rattle.dsql_history.specs.Rules.House.{is_quiet};
 ghost use Rattle.dsql_history.specs.declared.event.Event.TheVariants.{Run};
 
+use crate::desk::Desk;
 use crate::next::{Next, NoRoom};
+use crate::steps::Texts;
 use dsql_driver::{Caps, DriverAnswer};
-use dsql_history::{Event, Op};
+use dsql_history::{Event, Op, SKIPPED};
 use dsql_tenure::Entry;
+use dsql_value::Txt;
 use std::alloc::Global;
 use std::marker::Model;
 
 /// A run of the layer. Contracts see it as its history, the newest event first.
 #[derive(Drop)]
 pub struct Engine {
-    events: Vec<Event>,
+    alloc: Global,
+    desk: Desk,
 }
 
 impl Model for Engine {
-    ghost use Rattle.std.specs.Prelude.{◌≡◌, List, reverse};
+    ghost use Rattle.std.specs.Prelude.{◌≡◌, List, false};
+    ghost use Rattle.dsql_tenure.specs.Readers.{is_empty};
     ghost use Rattle.dsql_history.specs.declared.event.Event.{Event};
-    ghost use Rattle.dsql_history.specs.Legal.{Legal};
+    ghost use Rattle.dsql_history.specs.Rules.Settled.{Settled};
 
     ghost Value = { List Event };
 
-    ghost view = { λ e. reverse e.events.items };
+    ghost use Rattle.dsql_engine.specs.Desk.{past, Stands};
 
-    ghost invariant = { λ e. Legal (reverse e.events.items) };
+    ghost view = { λ e. past e.desk };
+
+    ghost invariant = { λ e. Stands e.desk × Settled (past e.desk) × (is_empty (past e.desk) ≡ false) };
 }
 
+#[tactic(auto, using(crate::proofs::Legality::legal_of))]
 impl Engine {
     ghost use Rattle.dsql_engine.specs.Awaited.{awaited, chore_due, permit_of};
-    ghost use Rattle.dsql_engine.specs.Groups.{after_enter, after_heard, after_wake, after_end, call_of, most_events};
-    ghost use Rattle.dsql_engine.specs.Steps.{NextAfterEnter, NextAfterHeard, NextAfterWake, IsChore};
+    ghost use Rattle.dsql_engine.specs.Groups.{after_enter, after_heard, after_end, call_of, most_events};
+    ghost use Rattle.dsql_engine.specs.Steps.{NextAfterEnter, NextAfterHeard, NextAfterWake, IsChore, IsParked};
 
     /// An engine whose run has begun, over a driver that can do this.
     pub fn new(alloc: Global, version: u8, caps: Caps) -> Result<Engine, NoRoom>
@@ -42,7 +50,8 @@ impl Engine {
         ensures begun { IfOk result (λ e. e ≡ Run version caps ∷ []) }
         ensures legal { IfOk result (λ e. Legal e) }
     {
-        Err(NoRoom)
+        let desk = Desk::start(alloc, version, caps)?;
+        Ok(Engine { alloc, desk })
     }
 
     /// A client's call enters and asks for a connection.
@@ -55,8 +64,14 @@ impl Engine {
         ensures err { OnErr result (self.new ≡ self.old) }
         ensures legal { Legal self.new }
     {
-        let _ = &self.events;
-        Err(NoRoom)
+        let alloc = self.alloc;
+        let Op::Exec { text } = &op;
+        let kept = text.copy()?;
+        let sent = text.copy()?;
+        let skipped = Txt::copy_of(alloc, SKIPPED)?;
+        self.desk.pay(4)?;
+        let texts = Texts { kept, sent };
+        Ok(self.desk.enter_and_ask(alloc, client, op, texts, skipped))
     }
 
     /// A driver's answer is heard; the copy is of that answer.
@@ -71,27 +86,44 @@ impl Engine {
         ensures err { OnErr result (self.new ≡ self.old) }
         ensures legal { Legal self.new }
     {
-        let _ = &self.events;
-        Err(NoRoom)
+        let text = self.desk.statement(self.alloc, entry.call_no)?;
+        let skipped = Txt::copy_of(self.alloc, SKIPPED)?;
+        self.desk.pay(4)?;
+        Ok(
+            self.desk
+                .hear_answer(self.alloc, entry, copy, text, skipped),
+        )
     }
 
     /// A client's unfinished call looks at its connection again.
     pub fn wake(&mut self, client: u8) -> Result<Next, NoRoom>
-        requires parked { IsSome (call_of self.old client) }
+        requires parked { IsParked self.old (call_of self.old client) }
         requires room { length self.old < most_events }
         ensures woken { IfOk result (λ next. NextAfterWake self.old (call_of self.old client) next self.new) }
         ensures err { OnErr result (self.new ≡ self.old) }
         ensures legal { Legal self.new }
     {
-        let _ = &self.events;
-        Err(NoRoom)
+        let Some(n) = self.desk.call_of(client) else {
+            unreachable!();
+        };
+        let text = self.desk.statement(self.alloc, n)?;
+        let skipped = Txt::copy_of(self.alloc, SKIPPED)?;
+        self.desk.pay(4)?;
+        Ok(self.desk.wake_call(self.alloc, n, text, skipped))
     }
 
     /// The layer's own driver call that comes first, if there is one.
     pub fn chore(&self) -> Result<Next, NoRoom>
+        requires room { length self.now < most_events }
         ensures first { IfOk result (λ next. IsChore self.now next) }
     {
-        Err(NoRoom)
+        if let Some(c) = self.desk.shut_due() {
+            return Ok(Next::Send(self.desk.shut_permit(c)));
+        }
+        match self.desk.connect_due() {
+            Some(c) => Ok(Next::Send(self.desk.connect_permit(c))),
+            None => Ok(Next::Quiet),
+        }
     }
 
     /// The run ends, which closes the database.
@@ -102,15 +134,17 @@ impl Engine {
         ensures err { OnErr result (self.new ≡ self.old) }
         ensures legal { Legal self.new }
     {
-        let _ = &self.events;
-        Err(NoRoom)
+        let idle = self.desk.idle_len();
+        self.desk.pay(idle + 1)?;
+        self.desk.end_run();
+        Ok(())
     }
 
     /// Whether the history has as many events as a run may have.
     pub fn is_full(&self) -> bool
         ensures { IsTrue result ↔ (most_events ≤ length self.now) }
     {
-        self.events.len() >= 4_000_000
+        self.desk.history.len() >= 4_000_000
     }
 
     /// All that happened, oldest first.
@@ -118,6 +152,6 @@ impl Engine {
         ensures events { reverse result.now ≡ self.now }
         ensures legal { Legal self.now }
     {
-        &self.events
+        &self.desk.history
     }
 }

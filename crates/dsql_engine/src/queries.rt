@@ -11,11 +11,13 @@ ghost use Rattle.dsql_driver.specs.Fits.{is_invalid, is_done};
 ghost use Rattle.dsql_tenure.specs.Kinds.{is_bad};
 ghost use Rattle.dsql_engine.specs.Desk.{past, Stands};
 ghost use Rattle.dsql_engine.specs.Groups.{call_of};
+ghost use Rattle.dsql_engine.specs.Awaited.{shut_permit, connect_permit};
 ghost use Rattle.dsql_engine.specs.Latest.{latest, oldest};
 
 use crate::desk::Desk;
 use dsql_driver::{Caps, DriverAnswer, DriverCall, Input};
 use dsql_history::{CloseCause, Place};
+use dsql_tenure::{Owner, Permit};
 use dsql_value::{Items, Memory, Txt};
 use std::alloc::Global;
 
@@ -167,6 +169,41 @@ impl Desk {
         self.places.iter().position(|p| is_opening(*p))
     }
 
+    /// Leave to shut a connection.
+    pub fn shut_permit(&self, c: usize) -> Permit
+        requires stands { Stands self.now }
+        requires few { length (past self.now) < 5000000 }
+        requires due { shut_due (past self.now) ≡ Some c }
+        ensures { result ≡ shut_permit c (next_tenure (past self.now) c) }
+    {
+        let conn = c as u32;
+        Permit {
+            conn,
+            tenure: self.next_tenure(conn),
+            owner: Owner::House,
+            call_no: 0,
+            tx: 0,
+            call: DriverCall::Shut,
+        }
+    }
+
+    /// Leave to connect a connection.
+    pub fn connect_permit(&self, c: usize) -> Permit
+        requires stands { Stands self.now }
+        requires few { length (past self.now) < 5000000 }
+        requires due { connect_due (past self.now) ≡ Some c }
+        ensures { result ≡ connect_permit c }
+    {
+        Permit {
+            conn: c as u32,
+            tenure: 1,
+            owner: Owner::House,
+            call_no: 0,
+            tx: 0,
+            call: DriverCall::Connect,
+        }
+    }
+
     /// Why a connection closes that is given back, if it does.
     pub fn cause(&self, bad: bool, invalid: bool) -> Option<CloseCause>
         requires { Stands self.now }
@@ -265,7 +302,13 @@ pub fn first_call(alloc: Global, caps: Caps, reset_due: bool, text: Txt) -> Opti
 }
 
 /// What comes after a driver call and its answer.
-pub fn next_after(alloc: Global, caps: Caps, text: Txt, call: &DriverCall, answer: &DriverAnswer) -> Option<DriverCall>
+pub fn next_after(
+    alloc: Global,
+    caps: Caps,
+    text: Txt,
+    call: &DriverCall,
+    answer: &DriverAnswer,
+) -> Option<DriverCall>
     ensures { result ≡ after_call caps text call.now answer.now }
 {
     if is_bad_answer(answer) {

@@ -37,7 +37,16 @@ use std::alloc::Global;
 impl Desk {
     /// Uses the connection that is lent to a call: what is due is sent, and where nothing is, the
     /// connection leaves and the call replies.
-    pub fn use_lent(&mut self, c: u32, tenure: u32, n: u32, next: Option<DriverCall>, bad: bool, invalid: bool, skipped: Txt) -> Next
+    pub fn use_lent(
+        &mut self,
+        c: u32,
+        tenure: u32,
+        n: u32,
+        next: Option<DriverCall>,
+        bad: bool,
+        invalid: bool,
+        skipped: Txt,
+    ) -> Next
         requires stands { Stands self.old }
         requires settled { Settled (past self.old) }
         requires lent { place (past self.old) c ≡ Lent tenure (Call n) }
@@ -90,7 +99,14 @@ impl Desk {
 
 impl Desk {
     /// A client's call enters and asks for a connection.
-    pub fn enter_and_ask(&mut self, alloc: Global, client: u8, op: Op, texts: Texts, skipped: Txt) -> Next
+    pub fn enter_and_ask(
+        &mut self,
+        alloc: Global,
+        client: u8,
+        op: Op,
+        texts: Texts,
+        skipped: Txt,
+    ) -> Next
         requires stands { Stands self.old }
         requires settled { Settled (past self.old) }
         requires begun { is_empty (past self.old) ≡ false }
@@ -160,7 +176,14 @@ impl Desk {
     }
 
     /// A driver's answer is heard; the copy is of that answer, and the text of its call's statement.
-    pub fn hear_answer(&mut self, alloc: Global, entry: Entry, copy: DriverAnswer, text: Txt, skipped: Txt) -> Next
+    pub fn hear_answer(
+        &mut self,
+        alloc: Global,
+        entry: Entry,
+        copy: DriverAnswer,
+        text: Txt,
+        skipped: Txt,
+    ) -> Next
         requires stands { Stands self.old }
         requires settled { Settled (past self.old) }
         requires awaited { awaited (past self.old) entry.conn ≡ Some (permit_of entry) }
@@ -178,7 +201,9 @@ impl Desk {
     {
         match self.place(entry.conn) {
             Place::Opening(n) => self.hear_connect(n, entry, copy),
-            Place::Lent(tenure, Owner::Call(n)) => self.hear_call(alloc, tenure, n, entry, copy, text, skipped),
+            Place::Lent(tenure, Owner::Call(n)) => self.hear_call(
+                alloc, tenure, n, entry, copy, text, skipped,
+            ),
             Place::Closing => self.hear_shut(entry),
             _ => unreachable!(),
         }
@@ -273,7 +298,16 @@ impl Desk {
     }
 
     /// The answer to a driver call of a client's call.
-    fn hear_call(&mut self, alloc: Global, tenure: u32, n: u32, entry: Entry, copy: DriverAnswer, text: Txt, skipped: Txt) -> Next
+    fn hear_call(
+        &mut self,
+        alloc: Global,
+        tenure: u32,
+        n: u32,
+        entry: Entry,
+        copy: DriverAnswer,
+        text: Txt,
+        skipped: Txt,
+    ) -> Next
         requires stands { Stands self.old }
         requires settled { Settled (past self.old) }
         requires lent { place (past self.old) entry.conn ≡ Lent tenure (Call n) }
@@ -350,7 +384,15 @@ impl Desk {
     }
 
     /// A call uses the connection that was lent to it, on which nothing was heard yet.
-    fn wake_lent(&mut self, alloc: Global, c: u32, tenure: u32, n: u32, text: Txt, skipped: Txt) -> Next
+    fn wake_lent(
+        &mut self,
+        alloc: Global,
+        c: u32,
+        tenure: u32,
+        n: u32,
+        text: Txt,
+        skipped: Txt,
+    ) -> Next
         requires stands { Stands self.old }
         requires settled { Settled (past self.old) }
         requires lent { place (past self.old) c ≡ Lent tenure (Call n) }

@@ -1,19 +1,18 @@
-use Rattle.std.proofs.Common.{◌≡◌, ◌∷◌, ap, sym, subst, true, false, List, ◌∙◌}
+use Rattle.std.proofs.Common.{◌≡◌, ◌∷◌, ap, sym, subst, true}
 use Rattle.dsql_driver.specs.declared.call.DriverCall.TheVariants.{Connect}
-use Rattle.dsql_driver.specs.Fits.{fits_of, is_memory, is_done}
+use Rattle.dsql_driver.specs.Fits.{fits_of}
 use Rattle.dsql_tenure.specs.declared.entry.Entry.{Entry}
 use Rattle.dsql_tenure.specs.declared.entry.Permit.{Permit}
 use Rattle.dsql_tenure.specs.Permits.{entry_of}
 use Rattle.dsql_tenure.specs.Entries.{connect_entry}
 use Rattle.dsql_tenure.specs.declared.entry.Owner.TheVariants.{Call}
-use Rattle.dsql_history.specs.declared.event.Event.{Event}
 use Rattle.dsql_history.specs.declared.event.Event.TheVariants.{Heard, Pool}
-use Rattle.dsql_history.specs.declared.event.Move.TheVariants.{Lend, Fell}
+use Rattle.dsql_history.specs.declared.event.Move.TheVariants.{Lend}
 use Rattle.dsql_history.specs.Readers.Sets.{next_tenure}
 use Rattle.dsql_history.specs.Rules.Settled.{Settled}
 use Rattle.dsql_history.specs.Legal.{Allowed, Lawful}
 use Rattle.dsql_engine.specs.Desk.{past, lawful_of}
-use Rattle.dsql_engine.proofs.Connecting.{may_hear_connect, may_lend_opened, may_fall, settled_lend_opened, settled_fallen}
+use Rattle.dsql_engine.proofs.Connecting.{may_hear_connect, may_lend_opened, settled_lend_opened}
 use Rattle.dsql_engine.specs.Groups.{lent_to}
 use Rattle.dsql_engine.proofs.desk.Desk.connected.Goals as goal
 

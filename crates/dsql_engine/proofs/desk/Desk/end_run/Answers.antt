@@ -1,12 +1,7 @@
-use Rattle.std.proofs.Common.{◌≡◌, ◌≤◌, ◌+◌, ◌∷◌, sym, ◌∙◌, ap, arith, length, Some, None, refl}
-use Rattle.std.proofs.lemmas.Grind.{common_steps}
-use Rattle.dsql_history.specs.declared.event.Event.TheVariants.{Pool}
-use Rattle.dsql_history.specs.declared.event.Move.TheVariants.{CloseStart}
-use Rattle.dsql_history.specs.declared.event.CloseCause.TheVariants.{DbClosed}
+use Rattle.std.proofs.Common.{sym, ◌∙◌, arith, refl}
 use Rattle.dsql_history.specs.Readers.Sets.{idle}
-use Rattle.dsql_engine.specs.Latest.{oldest}
 use Rattle.dsql_engine.specs.Desk.{past, lawful_of}
-use Rattle.dsql_engine.proofs.Ending.{Winding, may_end, winding_first, winding_next, may_wind, settled_ended, winds, none_oldest}
+use Rattle.dsql_engine.proofs.Ending.{may_end, winding_first, winding_next, may_wind, settled_ended, winds, none_oldest}
 use Rattle.dsql_engine.proofs.desk.Desk.end_run.Goals as goal
 
 pub end-requires-clause-allowed : goal.end-requires-clause-allowed

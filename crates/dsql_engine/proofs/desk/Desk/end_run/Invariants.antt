@@ -1,4 +1,4 @@
-use Rattle.std.proofs.Common.{◌≡◌, ◌≤◌, length, true, false}
+use Rattle.std.proofs.Common.{◌≡◌, ◌≤◌, length}
 use Rattle.dsql_history.specs.Readers.Sets.{idle}
 use Rattle.dsql_engine.specs.Desk.{past, Stands}
 use Rattle.dsql_engine.specs.Groups.{closings, after_end}

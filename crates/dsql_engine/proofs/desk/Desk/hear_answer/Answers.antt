@@ -1,4 +1,4 @@
-use Rattle.std.proofs.Common.{◌≡◌, ap, sym, ◌∙◌, ℕ, Some}
+use Rattle.std.proofs.Common.{◌≡◌, ap, sym, ◌∙◌, ℕ}
 use Rattle.dsql_tenure.specs.declared.entry.Owner.{Owner}
 use Rattle.dsql_tenure.specs.declared.entry.Owner.TheVariants.{Call}
 use Rattle.dsql_tenure.specs.declared.entry.Permit.{Permit}

@@ -1,22 +1,18 @@
-use Rattle.std.proofs.Common.{◌≡◌, ◌∷◌, ap, sym, subst, true, false, List, ◌∙◌, Some, refl}
-use Rattle.dsql_driver.specs.declared.call.DriverCall.{DriverCall}
-use Rattle.dsql_driver.specs.Fits.{fits_of, is_memory}
+use Rattle.std.proofs.Common.{◌≡◌, ◌∷◌, ap, sym, subst, ◌∙◌, refl}
 use Rattle.dsql_tenure.specs.Kinds.{is_bad}
 use Rattle.dsql_tenure.specs.Readers.{went_bad}
 use Rattle.dsql_tenure.specs.declared.entry.Entry.{Entry}
 use Rattle.dsql_tenure.specs.declared.entry.Permit.{Permit}
 use Rattle.dsql_tenure.specs.Permits.{entry_of}
 use Rattle.dsql_tenure.specs.Entries.{call_entry}
-use Rattle.dsql_history.specs.declared.event.Event.{Event}
 use Rattle.dsql_history.specs.declared.event.Event.TheVariants.{Heard}
 use Rattle.dsql_history.specs.Readers.Course.{caps}
 use Rattle.dsql_history.specs.Readers.Journals.{journal}
 use Rattle.dsql_history.specs.Readers.Calls.{call_record}
-use Rattle.dsql_history.specs.Rules.Line.{due, is_due, after_call}
+use Rattle.dsql_history.specs.Rules.Line.{due, after_call}
 use Rattle.dsql_history.specs.Rules.Settled.{Settled}
 use Rattle.dsql_history.specs.Legal.{Allowed, Lawful}
 use Rattle.dsql_engine.specs.Awaited.{permit_of}
-use Rattle.dsql_engine.specs.Groups.{after_body}
 use Rattle.dsql_engine.specs.Desk.{past, lawful_of}
 use Rattle.dsql_engine.proofs.Hearing.{Awaits, awaits, due_of, may_hear_call, settled_heard, due_heard, bad_heard}
 use Rattle.dsql_engine.proofs.desk.Desk.hear_call.Goals as goal
@@ -55,7 +51,7 @@ use_lent-requires-clause-due c =
     let same : e ≡ call_entry e.conn t n e.call e.answer = ap (λ (p : Permit). entry_of p e.answer) w.parts in
     let l : Lawful H = lawful_of _ c.requires.stands in
     let d : after_call (caps H) (call_record H n).text e.call e.answer ≡ due (Heard e ∷ H) e.conn t n =
-        subst (λ (x : Entry). after_call (caps H) (call_record H n).text e.call e.answer ≡ due (Heard x ∷ H) e.conn t n) (sym same) (sym (due_heard H e.conn t n e.call e.answer l c.requires.lent)) in
+    subst (λ (x : Entry). after_call (caps H) (call_record H n).text e.call e.answer ≡ due (Heard x ∷ H) e.conn t n) (sym same) (sym (due_heard H e.conn t n e.call e.answer l c.requires.lent)) in
     rw c.hear.ensures.event (c.next_after-next.ensures ∙ rw (c.caps.ensures, c.requires.text) d)
 
 pub use_lent-requires-clause-bad : goal.use_lent-requires-clause-bad
@@ -68,7 +64,7 @@ use_lent-requires-clause-bad c = λ none.
     let same : e ≡ call_entry e.conn t n e.call e.answer = ap (λ (p : Permit). entry_of p e.answer) w.parts in
     let l : Lawful H = lawful_of _ c.requires.stands in
     let b : is_bad e.answer ≡ went_bad (journal (Heard e ∷ H) e.conn) =
-        subst (λ (x : Entry). is_bad e.answer ≡ went_bad (journal (Heard x ∷ H) e.conn)) (sym same) (bad_heard H e.conn t n e.call e.answer l c.requires.lent (due_of H e.conn t n e.call w.call)) in
+    subst (λ (x : Entry). is_bad e.answer ≡ went_bad (journal (Heard x ∷ H) e.conn)) (sym same) (bad_heard H e.conn t n e.call e.answer l c.requires.lent (due_of H e.conn t n e.call w.call)) in
     rw c.hear.ensures.event (c.is_bad_answer-bad.ensures ∙ b)
 
 pub returns-clause-group : goal.returns-clause-group

@@ -1,6 +1,6 @@
 use Rattle.dsql_engine.specs.Desk.{past, lawful_of}
 use Rattle.dsql_engine.proofs.Leaving.{may_back, may_close, cause_is}
-use Rattle.std.proofs.Common.{Some, None, ap, ◌∙◌, sym}
+use Rattle.std.proofs.Common.{◌∙◌}
 use Rattle.dsql_engine.proofs.desk.Desk.leave.Goals as goal
 
 pub back-requires-clause-allowed : goal.back-requires-clause-allowed

@@ -1,5 +1,5 @@
-use Rattle.std.proofs.Common.{arith, ◌≡◌, ◌≤◌, ◌<◌, ◌+◌, ℕ, List, length, slice_index_or}
-use Rattle.dsql_history.specs.Readers.Sets.{lends, uses, all_lends, all_uses}
+use Rattle.std.proofs.Common.{arith, ◌≤◌, length}
+use Rattle.dsql_history.specs.Readers.Sets.{lends, uses}
 use Rattle.dsql_history.proofs.SoundSets.{sound_sets}
 use Rattle.dsql_engine.specs.Desk.{past, Stands, lawful_of}
 use Rattle.dsql_engine.proofs.desk.Desk.lend.Goals as goal

@@ -1,6 +1,5 @@
-use Rattle.std.proofs.Common.{sym, ◌∙◌, refl, ◌∷◌, None}
+use Rattle.std.proofs.Common.{refl, ◌∷◌}
 use Rattle.dsql_history.specs.Rules.Causes.{cause}
-use Rattle.dsql_history.specs.declared.event.Event.TheVariants.{Replied}
 use Rattle.dsql_engine.specs.Desk.{past, lawful_of}
 use Rattle.dsql_engine.specs.Groups.{leaving}
 use Rattle.dsql_engine.proofs.Leaving.{may_tell, left_by, placed_by, settled_told}

@@ -1,4 +1,3 @@
-use Rattle.std.proofs.Common.{◌∷◌}
 use Rattle.dsql_engine.specs.Desk.{past, lawful_of}
 use Rattle.dsql_engine.proofs.Waking.{may_tell_fallen, settled_told_fallen}
 use Rattle.dsql_engine.proofs.desk.Desk.wake_fallen.Goals as goal
