@@ -12,7 +12,7 @@ mod values;
 
 use dsql_history::Event;
 use dsql_value::{Memory, Txt};
-use events::event_json;
+use events::event_text;
 pub use laws::worked_lines;
 use std::alloc::Global;
 
@@ -36,7 +36,7 @@ use std::alloc::Global;
 pub fn event_line(alloc: Global, event: &Event) -> Result<Txt, Memory>
     ensures { IfOk result (λ t. t ≡ line_of event.now) }
 {
-    let mut line = event_json(alloc, event)?.to_string(alloc)?;
+    let mut line = event_text(alloc, event)?;
     line.push('\n')?;
     Ok(Txt::new(line))
 }

@@ -77,18 +77,12 @@ pub(super) fn answer_json(alloc: Global, answer: &DriverAnswer) -> Result<Value,
     match answer {
         DriverAnswer::Done => worded(alloc, "done", []),
         DriverAnswer::Prepared { handle, inputs } => {
-            worded(
-                alloc,
-                "prepared",
-                [Value::from(*handle), Value::from(*inputs)],
-            )
+            let parts = [Value::from(*handle), Value::from(*inputs)];
+            worded(alloc, "prepared", parts)
         }
         DriverAnswer::Result { last, affected } => {
-            worded(
-                alloc,
-                "result",
-                [Value::from(*last), Value::from(*affected)],
-            )
+            let parts = [Value::from(*last), Value::from(*affected)];
+            worded(alloc, "result", parts)
         }
         DriverAnswer::Cursor { rows, columns } => {
             let columns = texts_json(alloc, columns.as_slice())?;

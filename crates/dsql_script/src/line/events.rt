@@ -2,6 +2,7 @@
 ghost use Rattle.std.specs.Prelude.{◌≡◌, ◌++◌, map, string_bytes, IfOk, OnOk};
 ghost use Rattle.serde_json.specs.Data.{string};
 ghost use Rattle.serde_json.specs.View.{view};
+ghost use Rattle.serde_json.specs.Written.{compact_text};
 ghost use Rattle.dsql_script.specs.LineValues.{texts_data};
 ghost use Rattle.dsql_script.specs.Lines.{owner_word, cause_word, name_if, caps_names, entered_data, move_data, entry_data, reply_data, json_of};
 
@@ -75,11 +76,8 @@ fn entered_json(alloc: Global, client: u8, n: u32, op: &Op) -> Result<Value, Mem
             let words = Value::try_from_str(alloc, "exec db")?;
             let text = text_json(alloc, text)?;
             let array = Value::Array(vec![in alloc; text]?);
-            worded(
-                alloc,
-                "enter",
-                [Value::from(client), Value::from(n), words, array],
-            )
+            let parts = [Value::from(client), Value::from(n), words, array];
+            worded(alloc, "enter", parts)
         }
     }
 }
@@ -99,11 +97,8 @@ fn move_json(alloc: Global, step: Move) -> Result<Value, Memory>
             call: _,
         } => {
             let owner = owner_json(alloc, owner)?;
-            worded(
-                alloc,
-                "lend",
-                [Value::from(conn), Value::from(tenure), owner],
-            )
+            let parts = [Value::from(conn), Value::from(tenure), owner];
+            worded(alloc, "lend", parts)
         }
         Move::Back { conn } => worded(alloc, "back", [Value::from(conn)]),
         Move::CloseStart { conn, cause } => {
@@ -128,11 +123,8 @@ fn entry_json(alloc: Global, entry: &Entry) -> Result<Value, Memory>
     let tx = Value::from(entry.tx);
     let call = call_json(alloc, &entry.call)?;
     let answer = answer_json(alloc, &entry.answer)?;
-    worded(
-        alloc,
-        "heard",
-        [conn, tenure, owner, call_no, tx, call, answer],
-    )
+    let parts = [conn, tenure, owner, call_no, tx, call, answer];
+    worded(alloc, "heard", parts)
 }
 
 /// A reply: `ok` and what it gives, or `err`, the error's code, its numbers and its text.
@@ -142,11 +134,8 @@ fn reply_json(alloc: Global, reply: &Reply) -> Result<Value, Memory>
     match reply {
         Reply::Result { last, affected } => {
             let kind = Value::try_from_str(alloc, "result")?;
-            worded(
-                alloc,
-                "ok",
-                [kind, Value::from(*last), Value::from(*affected)],
-            )
+            let parts = [kind, Value::from(*last), Value::from(*affected)];
+            worded(alloc, "ok", parts)
         }
         Reply::Driver(text) => {
             let code = Value::try_from_str(alloc, "driver")?;
@@ -161,7 +150,7 @@ fn reply_json(alloc: Global, reply: &Reply) -> Result<Value, Memory>
 }
 
 /// An event as a JSON array that begins with its word.
-pub(super) fn event_json(alloc: Global, event: &Event) -> Result<Value, Memory>
+fn event_json(alloc: Global, event: &Event) -> Result<Value, Memory>
     ensures { IfOk result (λ v. view v ≡ json_of event.now) }
 {
     match event {
@@ -178,4 +167,12 @@ pub(super) fn event_json(alloc: Global, event: &Event) -> Result<Value, Memory>
         }
         Event::Ended => worded(alloc, "ended", []),
     }
+}
+
+/// The text of that array, without spaces.
+pub(super) fn event_text(alloc: Global, event: &Event) -> Result<String, Memory>
+    ensures { IfOk result (λ s. string_bytes s ≡ compact_text (json_of event.now)) }
+{
+    let array = event_json(alloc, event)?;
+    Ok(array.to_string(alloc)?)
 }
