@@ -26,6 +26,7 @@ abbrev pub input_data : Input → Data
 input_data (Text text) = string text
 input_data (Handle handle) = natural handle
 
+-- its word, and what it is made with
 abbrev pub call_data : DriverCall → Data
 call_data Connect = worded (codes "connect") []
 call_data Reset = worded (codes "reset") []
@@ -42,7 +43,7 @@ call_data Commit = worded (codes "commit") []
 call_data Rollback = worded (codes "rollback") []
 call_data Shut = worded (codes "shut") []
 
--- Memory never stands in a report, and has a form for completeness alone
+-- its word, and what it gives; Memory never stands in a report, and has a form for completeness alone
 abbrev pub answer_data : DriverAnswer → Data
 answer_data Done = worded (codes "done") []
 answer_data (Prepared handle inputs) = worded (codes "prepared") (natural handle ∷ integer inputs ∷ [])

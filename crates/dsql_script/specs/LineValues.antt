@@ -8,16 +8,19 @@ use Rattle.dsql_value.specs.declared.value.Value.{Value}
 use Rattle.dsql_value.specs.declared.value.Value.TheVariants.{Nil, Int, Bool, Bytes, Text, Time}
 use Rattle.dsql_value.specs.declared.value.Param.{Param}
 
+-- a JSON array
 abbrev pub list_data : List Data → Data
 list_data ds = array (items_of ds)
 
--- a word, and what goes with it
+-- an array that begins with a word
 abbrev pub worded : List ℕ → List Data → Data
 worded word parts = list_data (string word ∷ parts)
 
+-- an unsigned number of a program
 abbrev pub natural : ℕ → Data
 natural n = number (unsigned n)
 
+-- a signed one
 abbrev pub integer : ℤ → Data
 integer z = number (of_integer z)
 

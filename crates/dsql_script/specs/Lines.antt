@@ -19,6 +19,7 @@ use Rattle.dsql_history.specs.declared.event.Event.TheVariants.{Run, Entered, He
 use Rattle.dsql_script.specs.LineValues.{worded, natural, integer, texts_data}
 use Rattle.dsql_script.specs.LineCalls.{call_data, answer_data}
 
+-- who holds a connection, and by which number
 abbrev pub owner_word : Owner → List ℕ
 owner_word (Call n) = codes "call:" ++ decimal n
 owner_word (Tx n) = codes "tx:" ++ decimal n
@@ -36,16 +37,17 @@ abbrev pub name_if : Bool → List ℕ → List (List ℕ)
 name_if true name = name ∷ []
 name_if false name = []
 
--- what a driver can do, by the names of it
+-- the names of what a driver can do, always in this order
 abbrev pub caps_names : Caps → List (List ℕ)
 caps_names c =
     name_if c.fast_exec (codes "fast_exec") ++ name_if c.fast_query (codes "fast_query") ++ name_if c.begin_options (codes "begin_options")
     ++ name_if c.named (codes "named") ++ name_if c.pinger (codes "pinger") ++ name_if c.resetter (codes "resetter") ++ name_if c.validator (codes "validator")
 
--- with the words of the script's line after the client, and its array
+-- a call has the words of its line in the script, without the client, and then the line's array
 abbrev pub entered_data : ℕ → ℕ → Op → Data
 entered_data client n (Exec text) = worded (codes "enter") (natural client ∷ natural n ∷ string (codes "exec db") ∷ texts_data (text ∷ []) ∷ [])
 
+-- the call for which a connection is lent isn't shown: its owner's number says it
 abbrev pub move_data : Move → Data
 move_data (OpenStart conn call) = worded (codes "open") (natural conn ∷ natural call ∷ [])
 move_data (Lend conn tenure owner call) = worded (codes "lend") (natural conn ∷ natural tenure ∷ string (owner_word owner) ∷ [])
@@ -57,12 +59,13 @@ move_data (Fell conn call) = worded (codes "fell") (natural conn ∷ natural cal
 abbrev pub entry_data : Entry → Data
 entry_data e = worded (codes "heard") (natural e.conn ∷ natural e.tenure ∷ string (owner_word e.owner) ∷ natural e.call_no ∷ natural e.tx ∷ call_data e.call ∷ answer_data e.answer ∷ [])
 
--- an error has its code, what it shows, and the text that a program prints
+-- an error has its code, the numbers that it shows, and its text
 abbrev pub reply_data : Reply → Data
 reply_data (Result last affected) = worded (codes "ok") (string (codes "result") ∷ integer last ∷ integer affected ∷ [])
 reply_data (Driver text) = worded (codes "err") (string (codes "driver") ∷ string text ∷ [])
 reply_data (BadConn tries) = worded (codes "err") (string (codes "bad_conn") ∷ natural tries ∷ string (codes "driver: bad connection") ∷ [])
 
+-- the array of an event, which begins with its word
 abbrev pub json_of : Event → Data
 json_of (Run version caps) = worded (codes "run") (natural version ∷ texts_data (caps_names caps) ∷ [])
 json_of (Entered client n op) = entered_data client n op

@@ -82,7 +82,7 @@ fn entered_json(alloc: Global, client: u8, n: u32, op: &Op) -> Result<Value, Mem
     }
 }
 
-/// A connection's move. The call of a lending isn't shown, since its owner says it.
+/// A connection's move. The call of a lending isn't shown, since its owner's number says it.
 fn move_json(alloc: Global, step: Move) -> Result<Value, Memory>
     ensures { IfOk result (λ v. view v ≡ move_data step) }
 {
@@ -112,7 +112,7 @@ fn move_json(alloc: Global, step: Move) -> Result<Value, Memory>
     }
 }
 
-/// What a driver was asked and answered, with whom it was asked for.
+/// What a driver was asked and answered, and for whom it was asked.
 fn entry_json(alloc: Global, entry: &Entry) -> Result<Value, Memory>
     ensures { IfOk result (λ v. view v ≡ entry_data entry.now) }
 {
