@@ -7,7 +7,7 @@ use Rattle.dsql_tenure.specs.declared.entry.Owner.{Owner}
 use Rattle.dsql_tenure.specs.declared.entry.Owner.TheVariants.{Call, Tx, Pin, House}
 use Rattle.dsql_tenure.specs.declared.entry.Entry.{Entry}
 use Rattle.dsql_history.specs.declared.reply.Reply.{Reply}
-use Rattle.dsql_history.specs.declared.reply.Reply.TheVariants.{Result, Driver, BadConn}
+use Rattle.dsql_history.specs.declared.reply.Reply.TheVariants.{Result, Driver, BadConn, TooMany}
 use Rattle.dsql_history.specs.declared.event.Op.{Op}
 use Rattle.dsql_history.specs.declared.event.Op.TheVariants.{Exec}
 use Rattle.dsql_history.specs.declared.event.CloseCause.{CloseCause}
@@ -59,11 +59,12 @@ move_data (Fell conn call) = worded (codes "fell") (natural conn ∷ natural cal
 abbrev pub entry_data : Entry → Data
 entry_data e = worded (codes "heard") (natural e.conn ∷ natural e.tenure ∷ string (owner_word e.owner) ∷ natural e.call_no ∷ natural e.tx ∷ call_data e.call ∷ answer_data e.answer ∷ [])
 
--- an error has its code, the numbers that it shows, and its text
+-- an error has its code, the numbers that it shows, and its text; no more than 1000 connections may be open
 abbrev pub reply_data : Reply → Data
 reply_data (Result last affected) = worded (codes "ok") (string (codes "result") ∷ integer last ∷ integer affected ∷ [])
 reply_data (Driver text) = worded (codes "err") (string (codes "driver") ∷ string text ∷ [])
 reply_data (BadConn tries) = worded (codes "err") (string (codes "bad_conn") ∷ natural tries ∷ string (codes "driver: bad connection") ∷ [])
+reply_data TooMany = worded (codes "err") (string (codes "too_many") ∷ natural 1000 ∷ string (codes "sql: too many open connections") ∷ [])
 
 -- the array of an event, which begins with its word
 abbrev pub json_of : Event → Data

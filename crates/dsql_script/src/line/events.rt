@@ -16,6 +16,9 @@ use dsql_value::Memory;
 use serde_json::Value;
 use std::alloc::Global;
 
+/// How many connections may be open at all.
+const MOST_OPEN: u32 = 1000;
+
 /// Who holds a connection, and by which number.
 fn owner_json(alloc: Global, owner: Owner) -> Result<Value, Memory>
     ensures { IfOk result (λ v. view v ≡ string (owner_word owner)) }
@@ -145,6 +148,11 @@ fn reply_json(alloc: Global, reply: &Reply) -> Result<Value, Memory>
             let code = Value::try_from_str(alloc, "bad_conn")?;
             let text = Value::try_from_str(alloc, "driver: bad connection")?;
             worded(alloc, "err", [code, Value::from(*tries), text])
+        }
+        Reply::TooMany => {
+            let code = Value::try_from_str(alloc, "too_many")?;
+            let text = Value::try_from_str(alloc, "sql: too many open connections")?;
+            worded(alloc, "err", [code, Value::from(MOST_OPEN), text])
         }
     }
 }

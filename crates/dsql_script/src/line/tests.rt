@@ -107,5 +107,11 @@ fn shows_failures(rt: HostRuntime) -> Result<(), Fail> {
         reply: Reply::BadConn(3),
     };
     let want = r#"["reply",5,["err","bad_conn",3,"driver: bad connection"]]"#;
-    assert_line(&rt, alloc, &bad, want)
+    assert_line(&rt, alloc, &bad, want)?;
+    let many = Event::Replied {
+        n: 6,
+        reply: Reply::TooMany,
+    };
+    let want = r#"["reply",6,["err","too_many",1000,"sql: too many open connections"]]"#;
+    assert_line(&rt, alloc, &many, want)
 }
