@@ -27,6 +27,11 @@ fn assert_line(rt: &impl Abort, alloc: Global, event: &Event, want: &str) -> Res
     Ok(())
 }
 
+/// That the line of a reply to call 5 is this array and a line feed.
+fn assert_reply(rt: &impl Abort, alloc: Global, reply: Reply, want: &str) -> Result<(), Fail> {
+    assert_line(rt, alloc, &Event::Replied { n: 5, reply }, want)
+}
+
 #[test]
 fn shows_each_form_of_value(rt: HostRuntime) -> Result<(), Fail> {
     let alloc = rt.alloc();
@@ -81,37 +86,30 @@ fn escapes_texts(rt: HostRuntime) -> Result<(), Fail> {
 }
 
 #[test]
-fn shows_failures(rt: HostRuntime) -> Result<(), Fail> {
+fn shows_a_failed_call(rt: HostRuntime) -> Result<(), Fail> {
     let alloc = rt.alloc();
-    let begin = DriverCall::Begin {
+    let call = DriverCall::Begin {
         level: Level::RepeatableRead,
         read_only: true,
     };
-    let failed = heard(begin, DriverAnswer::Fail(Txt::copy_of(alloc, "down")?));
+    let answer = DriverAnswer::Fail(Txt::copy_of(alloc, "down")?);
     let want = r#"["heard",1,4,"tx:2",3,2,["begin","repeatable_read",true],["fail","down"]]"#;
-    assert_line(&rt, alloc, &failed, want)?;
+    assert_line(&rt, alloc, &heard(call, answer), want)
+}
+
+#[test]
+fn shows_a_fault_that_falls_to_no_call(rt: HostRuntime) -> Result<(), Fail> {
     let fell = Event::Pool(Move::Fell { conn: 3, call: 0 });
-    assert_line(&rt, alloc, &fell, r#"["fell",3,0]"#)?;
-    let driver = Event::Replied {
-        n: 3,
-        reply: Reply::Driver(Txt::copy_of(alloc, "down")?),
-    };
-    assert_line(
-        &rt,
-        alloc,
-        &driver,
-        r#"["reply",3,["err","driver","down"]]"#,
-    )?;
-    let bad = Event::Replied {
-        n: 5,
-        reply: Reply::BadConn(3),
-    };
+    assert_line(&rt, rt.alloc(), &fell, r#"["fell",3,0]"#)
+}
+
+#[test]
+fn shows_error_replies(rt: HostRuntime) -> Result<(), Fail> {
+    let alloc = rt.alloc();
+    let driver = Reply::Driver(Txt::copy_of(alloc, "down")?);
+    assert_reply(&rt, alloc, driver, r#"["reply",5,["err","driver","down"]]"#)?;
     let want = r#"["reply",5,["err","bad_conn",3,"driver: bad connection"]]"#;
-    assert_line(&rt, alloc, &bad, want)?;
-    let many = Event::Replied {
-        n: 6,
-        reply: Reply::TooMany,
-    };
-    let want = r#"["reply",6,["err","too_many",1000,"sql: too many open connections"]]"#;
-    assert_line(&rt, alloc, &many, want)
+    assert_reply(&rt, alloc, Reply::BadConn(3), want)?;
+    let want = r#"["reply",5,["err","too_many",1000,"sql: too many open connections"]]"#;
+    assert_reply(&rt, alloc, Reply::TooMany, want)
 }
