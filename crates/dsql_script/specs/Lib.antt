@@ -1,0 +1,4 @@
+pub mod LineValues
+pub mod LineCalls
+pub mod Lines
+pub mod WorkedLines

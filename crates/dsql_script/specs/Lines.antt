@@ -1,0 +1,84 @@
+-- The line that an event has in a report: a compact JSON array and a line feed.
+use Rattle.std.specs.Prelude.{ℕ, List, [], ◌∷◌, ◌++◌, Bool, true, false, codes, decimal}
+use Rattle.serde_json.specs.Data.{Data, string}
+use Rattle.serde_json.specs.Written.{compact_text}
+use Rattle.dsql_driver.specs.declared.caps.Caps.{Caps}
+use Rattle.dsql_tenure.specs.declared.entry.Owner.{Owner}
+use Rattle.dsql_tenure.specs.declared.entry.Owner.TheVariants.{Call, Tx, Pin, House}
+use Rattle.dsql_tenure.specs.declared.entry.Entry.{Entry}
+use Rattle.dsql_history.specs.declared.reply.Reply.{Reply}
+use Rattle.dsql_history.specs.declared.reply.Reply.TheVariants.{Result, Driver, BadConn, TooMany}
+use Rattle.dsql_history.specs.declared.event.Op.{Op}
+use Rattle.dsql_history.specs.declared.event.Op.TheVariants.{Exec}
+use Rattle.dsql_history.specs.declared.event.CloseCause.{CloseCause}
+use Rattle.dsql_history.specs.declared.event.CloseCause.TheVariants.{Bad, Invalid, IdleFull, DbClosed}
+use Rattle.dsql_history.specs.declared.event.Move.{Move}
+use Rattle.dsql_history.specs.declared.event.Move.TheVariants.{OpenStart, Lend, Back, CloseStart, Gone, Fell}
+use Rattle.dsql_history.specs.declared.event.Event.{Event}
+use Rattle.dsql_history.specs.declared.event.Event.TheVariants.{Run, Entered, Heard, Pool, Replied, Ended}
+use Rattle.dsql_script.specs.LineValues.{worded, natural, integer, texts_data}
+use Rattle.dsql_script.specs.LineCalls.{call_data, answer_data}
+
+-- who holds a connection, and by which number
+abbrev pub owner_word : Owner → List ℕ
+owner_word (Call n) = codes "call:" ++ decimal n
+owner_word (Tx n) = codes "tx:" ++ decimal n
+owner_word (Pin n) = codes "pin:" ++ decimal n
+owner_word House = codes "house"
+
+abbrev pub cause_word : CloseCause → List ℕ
+cause_word Bad = codes "bad"
+cause_word Invalid = codes "invalid"
+cause_word IdleFull = codes "idle_full"
+cause_word DbClosed = codes "db_closed"
+
+-- a name, where it is to be given
+abbrev pub name_if : Bool → List ℕ → List (List ℕ)
+name_if true name = name ∷ []
+name_if false name = []
+
+-- the names of what a driver can do, always in this order
+abbrev pub caps_names : Caps → List (List ℕ)
+caps_names c =
+    name_if c.fast_exec (codes "fast_exec") ++ name_if c.fast_query (codes "fast_query") ++ name_if c.begin_options (codes "begin_options")
+    ++ name_if c.named (codes "named") ++ name_if c.pinger (codes "pinger") ++ name_if c.resetter (codes "resetter") ++ name_if c.validator (codes "validator")
+
+-- a call has the words of its line in the script, without the client, and then the line's array
+abbrev pub entered_data : ℕ → ℕ → Op → Data
+entered_data client n (Exec text) = worded (codes "enter") (natural client ∷ natural n ∷ string (codes "exec db") ∷ texts_data (text ∷ []) ∷ [])
+
+-- the call for which a connection is lent isn't shown: its owner's number says it
+abbrev pub move_data : Move → Data
+move_data (OpenStart conn call) = worded (codes "open") (natural conn ∷ natural call ∷ [])
+move_data (Lend conn tenure owner call) = worded (codes "lend") (natural conn ∷ natural tenure ∷ string (owner_word owner) ∷ [])
+move_data (Back conn) = worded (codes "back") (natural conn ∷ [])
+move_data (CloseStart conn cause) = worded (codes "close") (natural conn ∷ string (cause_word cause) ∷ [])
+move_data (Gone conn) = worded (codes "gone") (natural conn ∷ [])
+move_data (Fell conn call) = worded (codes "fell") (natural conn ∷ natural call ∷ [])
+
+abbrev pub entry_data : Entry → Data
+entry_data e = worded (codes "heard") (natural e.conn ∷ natural e.tenure ∷ string (owner_word e.owner) ∷ natural e.call_no ∷ natural e.tx ∷ call_data e.call ∷ answer_data e.answer ∷ [])
+
+-- an error has its code, the numbers that it shows, and its text; no more than 1000 connections may be open
+abbrev pub reply_data : Reply → Data
+reply_data (Result last affected) = worded (codes "ok") (string (codes "result") ∷ integer last ∷ integer affected ∷ [])
+reply_data (Driver text) = worded (codes "err") (string (codes "driver") ∷ string text ∷ [])
+reply_data (BadConn tries) = worded (codes "err") (string (codes "bad_conn") ∷ natural tries ∷ string (codes "driver: bad connection") ∷ [])
+reply_data TooMany = worded (codes "err") (string (codes "too_many") ∷ natural 1000 ∷ string (codes "sql: too many open connections") ∷ [])
+
+-- the array of an event, which begins with its word
+abbrev pub json_of : Event → Data
+json_of (Run version caps) = worded (codes "run") (natural version ∷ texts_data (caps_names caps) ∷ [])
+json_of (Entered client n op) = entered_data client n op
+json_of (Heard entry) = entry_data entry
+json_of (Pool move) = move_data move
+json_of (Replied n reply) = worded (codes "reply") (natural n ∷ reply_data reply ∷ [])
+json_of Ended = worded (codes "ended") []
+
+abbrev pub line_of : Event → List ℕ
+line_of e = compact_text (json_of e) ++ 10 ∷ []
+
+-- the text of a report, whose events come newest first
+abbrev pub text_of : List Event → List ℕ
+text_of [] = []
+text_of (e ∷ before) = text_of before ++ line_of e

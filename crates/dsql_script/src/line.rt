@@ -1,0 +1,42 @@
+//! Events as the lines of a report.
+ghost use Rattle.std.specs.Prelude.{◌≡◌, IfOk};
+ghost use Rattle.dsql_script.specs.Lines.{line_of};
+
+mod calls;
+mod events;
+mod laws;
+mod parts;
+#[cfg(test)]
+mod tests;
+mod values;
+
+use dsql_history::Event;
+use dsql_value::{Memory, Txt};
+use events::event_text;
+pub use laws::worked_lines;
+use std::alloc::Global;
+
+/// The line of an event in a report: a JSON array without spaces, in UTF-8, and a line feed.
+///
+/// | event | line |
+/// |---|---|
+/// | `Run` | `["run",VERSION,[NAMES]]`, the names of what the driver can do |
+/// | `Entered` | `["enter",CLIENT,N,"WORDS",ARRAY]`, the words and the array of the script's line |
+/// | `Heard` | `["heard",CONN,TENURE,OWNER,N,TX,CALL,ANSWER]`, N and TX 0 where there is none |
+/// | `Pool` | `["open",CONN,N]`, `["fell",CONN,N]` |
+/// | | `["lend",CONN,TENURE,OWNER]`, `["back",CONN]` |
+/// | | `["close",CONN,CAUSE]`, `["gone",CONN]` |
+/// | `Replied` | `["reply",N,REPLY]` |
+/// | `Ended` | `["ended"]` |
+///
+/// An owner is `"call:N"`, `"tx:N"`, `"pin:N"` or `"house"`. Driver calls, answers and replies are
+/// arrays that begin with a word. A value is `null`, a number, `true`, `false`, a string,
+/// `{"bytes":"00ff"}` with lower-case hexadecimal digits, or `{"time":N}` in nanoseconds since 1970,
+/// and a parameter with a name is `{"name":NAME,"value":VALUE}`. Want of memory is the only error.
+pub fn event_line(alloc: Global, event: &Event) -> Result<Txt, Memory>
+    ensures { IfOk result (λ t. t ≡ line_of event.now) }
+{
+    let mut line = event_text(alloc, event)?;
+    line.push('\n')?;
+    Ok(Txt::new(line))
+}

@@ -1,0 +1,115 @@
+use crate::line::event_line;
+use dsql_driver::{DriverAnswer, DriverCall, Input, Level};
+use dsql_history::{Event, Move, Reply};
+use dsql_tenure::{Entry, Owner};
+use dsql_value::{Bin, Items, Param, Txt, Value};
+use std::alloc::Global;
+use std::process::Abort;
+use std::test::Fail;
+
+/// What connection 1 was asked in transaction 2, and what it answered.
+fn heard(call: DriverCall, answer: DriverAnswer) -> Event {
+    Event::Heard(Entry {
+        conn: 1,
+        tenure: 4,
+        owner: Owner::Tx(2),
+        call_no: 3,
+        tx: 2,
+        call,
+        answer,
+    })
+}
+
+/// That the event's line is this array and a line feed.
+fn assert_line(rt: &impl Abort, alloc: Global, event: &Event, want: &str) -> Result<(), Fail> {
+    let line = event_line(alloc, event)?;
+    assert_eq!(rt; line.as_str().strip_suffix('\n'), Some(want));
+    Ok(())
+}
+
+/// That the line of a reply to call 5 is this array and a line feed.
+fn assert_reply(rt: &impl Abort, alloc: Global, reply: Reply, want: &str) -> Result<(), Fail> {
+    assert_line(rt, alloc, &Event::Replied { n: 5, reply }, want)
+}
+
+#[test]
+fn shows_each_form_of_value(rt: HostRuntime) -> Result<(), Fail> {
+    let alloc = rt.alloc();
+    let values = vec![in alloc;
+        Value::Nil,
+        Value::Int(-5),
+        Value::Bool(true),
+        Value::Bytes(Bin::new(vec![in alloc; 0, 255, 171]?)),
+        Value::Text(Txt::copy_of(alloc, "ann")?),
+        Value::Time(-1),
+    ]?;
+    let event = heard(DriverCall::Next(7), DriverAnswer::Row(Items::new(values)));
+    let want =
+        r#"["heard",1,4,"tx:2",3,2,["next",7],["row",[null,-5,true,{"bytes":"00ffab"},"ann",{"time":-1}]]]"#;
+    assert_line(&rt, alloc, &event, want)
+}
+
+#[test]
+fn shows_a_parameter_with_its_name(rt: HostRuntime) -> Result<(), Fail> {
+    let alloc = rt.alloc();
+    let params = vec![in alloc;
+        Param {
+            name: None,
+            value: Value::Int(1)
+        },
+        Param {
+            name: Some(Txt::copy_of(alloc, "x")?),
+            value: Value::Time(9)
+        },
+    ]?;
+    let call = DriverCall::Query(Input::Handle(5), Items::new(params));
+    let columns = vec![in alloc; Txt::copy_of(alloc, "key")?, Txt::copy_of(alloc, "value")?]?;
+    let answer = DriverAnswer::Cursor {
+        rows: 6,
+        columns: Items::new(columns),
+    };
+    let want =
+        r#"["heard",1,4,"tx:2",3,2,["query",5,[1,{"name":"x","value":{"time":9}}]],["cursor",6,["key","value"]]]"#;
+    assert_line(&rt, alloc, &heard(call, answer), want)
+}
+
+#[test]
+fn escapes_texts(rt: HostRuntime) -> Result<(), Fail> {
+    let alloc = rt.alloc();
+    let call = DriverCall::Prepare(Txt::copy_of(alloc, "a \"b\" \\ \n \u{1} é")?);
+    let answer = DriverAnswer::Prepared {
+        handle: 8,
+        inputs: -1,
+    };
+    let want = r#"["heard",1,4,"tx:2",3,2,["prepare","a \"b\" \\ \n \u0001 é"],["prepared",8,-1]]"#;
+    assert_line(&rt, alloc, &heard(call, answer), want)
+}
+
+#[test]
+fn shows_a_failed_call(rt: HostRuntime) -> Result<(), Fail> {
+    let alloc = rt.alloc();
+    let call = DriverCall::Begin {
+        level: Level::RepeatableRead,
+        read_only: true,
+    };
+    let answer = DriverAnswer::Fail(Txt::copy_of(alloc, "down")?);
+    let want = r#"["heard",1,4,"tx:2",3,2,["begin","repeatable_read",true],["fail","down"]]"#;
+    assert_line(&rt, alloc, &heard(call, answer), want)
+}
+
+#[test]
+fn shows_a_fault_that_falls_to_no_call(rt: HostRuntime) -> Result<(), Fail> {
+    let fell = Event::Pool(Move::Fell { conn: 3, call: 0 });
+    assert_line(&rt, rt.alloc(), &fell, r#"["fell",3,0]"#)
+}
+
+#[test]
+fn shows_error_replies(rt: HostRuntime) -> Result<(), Fail> {
+    let alloc = rt.alloc();
+    let driver = Reply::Driver(Txt::copy_of(alloc, "down")?);
+    assert_reply(&rt, alloc, driver, r#"["reply",5,["err","driver","down"]]"#)?;
+    let want = r#"["reply",5,["err","bad_conn",3,"driver: bad connection"]]"#;
+    assert_reply(&rt, alloc, Reply::BadConn(3), want)?;
+    let want = r#"["reply",5,["err","too_many",1000,"sql: too many open connections"]]"#;
+    assert_reply(&rt, alloc, Reply::TooMany, want)
+}
