@@ -1,0 +1,3 @@
+pub mod ScriptArrays
+pub mod ScriptClients
+pub mod ScriptTexts
