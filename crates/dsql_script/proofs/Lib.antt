@@ -1,3 +1,5 @@
 pub mod ScriptArrays
 pub mod ScriptClients
+pub mod ScriptForms
 pub mod ScriptTexts
+pub mod ScriptOnLiterals

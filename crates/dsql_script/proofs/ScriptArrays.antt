@@ -1,22 +1,19 @@
 -- Where the array of a line begins, from where ` [` first stands in it.
-use Rattle.std.proofs.Common.{◌≡◌, ◌≢◌, ℕ, zero, suc, ◌<◌, ◌≤◌, ◌+◌, List, [], ◌∷◌, ◌++◌, Bool, true, false, cond, length, take, drop, codes, Some, None, refl, sym, ap, inl, inr, arith, rules}
+use Rattle.std.proofs.Common.{◌≡◌, ℕ, zero, suc, ◌<◌, ◌≤◌, List, [], ◌∷◌, ◌++◌, true, false, length, take, drop, codes, Some, None, refl, ap, inl, inr, arith}
 use Rattle.std.specs.Str.Pattern.{LacksTextAt}
 use Rattle.std.proofs.lemmas.Bool.{cases_Bool}
 use Rattle.std.proofs.lemmas.Bool.Decides.{Decides-eqb}
 use Rattle.std.proofs.lemmas.Slice.Eq.{starts_is}
-use Rattle.serde_json.specs.Data.{Data}
-use Rattle.serde_json.specs.View.{items_of}
-use Rattle.dsql_script.specs.ScriptLines.{only_item}
-use Rattle.dsql_script.specs.ScriptWords.{begins_array, before_array, array_of}
+use Rattle.dsql_script.specs.ScriptWords.{begins_with, before_array, array_of}
 
 abbrev pub opening : List ℕ
 opening = codes " ["
 
-begins : (text rest : List ℕ) → text ≡ opening ++ rest → begins_array text ≡ true
-begins text rest e = (starts_is Decides-eqb text opening (begins_array text) refl).1 rest e
+begins : (text rest : List ℕ) → text ≡ opening ++ rest → begins_with text opening ≡ true
+begins text rest e = (starts_is Decides-eqb text opening (begins_with text opening) refl).1 rest e
 
-lacks : (text : List ℕ) → LacksTextAt opening text 0 → begins_array text ≡ false
-lacks text h = elim (cases_Bool (begins_array text)) [ inl e ↦ absurd (h (drop 2 text) ((starts_is Decides-eqb text opening (begins_array text) refl).0 e)) | inr e ↦ e ]
+lacks : (text : List ℕ) → LacksTextAt opening text 0 → begins_with text opening ≡ false
+lacks text h = elim (cases_Bool (begins_with text opening)) [ inl e ↦ absurd (h (drop 2 text) ((starts_is Decides-eqb text opening (begins_with text opening) refl).0 e)) | inr e ↦ e ]
 
 pub before_array-at : (text : List ℕ) (i : ℕ) (rest : List ℕ) → ((k : ℕ) → k < i → LacksTextAt opening text k) → drop i text ≡ opening ++ rest → before_array text ≡ take i text
 before_array-at [] zero rest free e = refl
@@ -41,9 +38,3 @@ pub array_of_none : (text : List ℕ) → ((k : ℕ) → k ≤ length text → L
 array_of_none [] free = refl
 array_of_none (b ∷ text) free =
     rw (lacks (b ∷ text) (free 0 (omega arith))) (array_of_none text (λ k h. free (suc k) (omega arith)))
-
--- an array of more things than one has no only one
-pub only_item_many : (ds : List Data) → 1 < length ds → only_item (items_of ds) ≡ None
-only_item_many [] many = absurd (omega arith)
-only_item_many (d ∷ []) many = absurd (omega arith)
-only_item_many (d ∷ e ∷ ds) many = refl

@@ -1,36 +1,42 @@
 -- What the words of a line name, from what std says of them.
-use Rattle.std.proofs.Common.{◌≡◌, ◌≢◌, ℕ, ◌<◌, ◌≤◌, ◌^◌, List, [], ◌∷◌, Bool, true, false, ◌&&◌, not, cond, length, get_or, ltb, leb, Option, Some, None, Result, Ok, Err, refl, ap, sym, ◌∙◌, inl, inr, arith}
+use Rattle.std.proofs.Common.{◌≡◌, ◌≢◌, ℕ, ◌<◌, ◌≤◌, List, [], ◌∷◌, Bool, true, false, ◌&&◌, ◌||◌, not, cond, length, get_or, eqb, leb, Option, Some, None, Result, Ok, Err, refl, ap, sym, ◌∙◌, inl, inr, arith}
 use Rattle.std.specs.Str.{all_ascii_digits}
 use Rattle.std.specs.Str.Parse.{ParsesUnsigned, digits_value}
-use Rattle.std.specs.Result.{OkIff}
-use Rattle.std.proofs.lemmas.Bool.{ne_eqb, and_parts, and_right, lt-leb, lt-ltb, le-leb, cases_Bool, cases_lt}
+use Rattle.std.proofs.lemmas.Bool.{ne_eqb, and_parts, and_right, lt-leb, ltb-true, lt-ltb, le-leb, cases_Bool, cases_lt}
 use Rattle.std.proofs.lemmas.Result.{OkIff-at_ok, OkIff-at_err}
-use Rattle.std.proofs.lemmas.Bool.Decides.{nat_tests}
 use Rattle.std.proofs.lemmas.Str.Parse.{IsNumeralModel, numerals_by_value, tells_all_ascii_digits, parse_plain}
-use Rattle.dsql_script.specs.ScriptWords.{is_number, client_number, client_of, is_token}
+use Rattle.dsql_script.specs.ScriptWords.{begins_with, is_number, client_number, client_of, is_token}
+
+or_true : (b : Bool) → (b || true) ≡ true
+or_true true = refl
+or_true false = refl
+
+begins_not : (byte : ℕ) (word : List ℕ) → ((rest : List ℕ) → word ≢ byte ∷ rest) → begins_with word (byte ∷ []) ≡ false
+begins_not byte [] other = refl
+begins_not byte (first ∷ rest) other = rw (ne_eqb byte first (λ e. other rest (ap (λ b. b ∷ rest) (sym e)))) refl
 
 -- a word that doesn't begin with `c` names no client
 pub client_of_without : (word : List ℕ) → ((rest : List ℕ) → word ≢ 99 ∷ rest) → client_of word ≡ None
-client_of_without [] other = refl
-client_of_without (byte ∷ digits) other = rw (ne_eqb byte 99 (λ e. other digits (ap (λ b. b ∷ digits) e))) refl
+client_of_without word other = rw (begins_not 99 word other) refl
 
 -- a word that doesn't begin with `@` names no token
 pub is_token_without : (word : List ℕ) → ((rest : List ℕ) → word ≢ 64 ∷ rest) → is_token word ≡ false
-is_token_without [] other = refl
-is_token_without (byte ∷ name) other = rw (ne_eqb byte 64 (λ e. other name (ap (λ b. b ∷ name) e))) refl
+is_token_without word other = rw (begins_not 64 word other) refl
 
 -- digits that don't begin with `0` are a number
 number_from_digits : (digits : List ℕ) → get_or digits 0 0 ≢ 48 → all_ascii_digits digits ≡ true → 0 < length digits → is_number digits ≡ true
-number_from_digits [] other all some = absurd (omega arith)
-number_from_digits (first ∷ rest) other all some = rw (all, ne_eqb first 48 other) (grind (arith, nat_tests))
+number_from_digits digits zero all some =
+    let other = begins_not 48 digits (λ rest e. zero (ap (λ ds. get_or ds 0 0) e)) in
+    rw (all, lt-ltb 0 (length digits) some, other) (or_true (eqb (length digits) 1))
 
 digits_of_number : (digits : List ℕ) → is_number digits ≡ true → (all_ascii_digits digits ≡ true) × (0 < length digits)
-digits_of_number [] is = cc
-digits_of_number (first ∷ rest) is = ((and_parts _ _ is).0, omega arith)
+digits_of_number digits is =
+    let parts = and_parts _ _ (and_parts _ _ is).0 in
+    (parts.0, ltb-true 0 (length digits) parts.1)
 
 -- what is made of a number that was read
 abbrev pub client_up_to : ℕ → Option ℕ
-client_up_to n = cond (ltb 0 n && leb n 64) (Some n) None
+client_up_to n = cond (leb 1 n && leb n 64) (Some n) None
 
 numbered : (digits : List ℕ) → is_number digits ≡ true → client_number digits ≡ client_up_to (digits_value 10 digits)
 numbered digits is = rw is refl
@@ -38,11 +44,11 @@ numbered digits is = rw is refl
 unnumbered : (digits : List ℕ) → is_number digits ≡ false → client_number digits ≡ None
 unnumbered digits is = rw is refl
 
-pub client_up_to_within : (n : ℕ) → 0 < n → n ≤ 64 → client_up_to n ≡ Some n
-client_up_to_within n some few = rw (lt-ltb 0 n some, le-leb n 64 few) refl
+pub client_up_to_within : (n : ℕ) → 1 ≤ n → n ≤ 64 → client_up_to n ≡ Some n
+client_up_to_within n some few = rw (le-leb 1 n some, le-leb n 64 few) refl
 
 too_large : (n : ℕ) → 64 < n → client_up_to n ≡ None
-too_large n large = rw (lt-leb n 64 large, and_right (ltb 0 n) false refl) refl
+too_large n large = rw (lt-leb n 64 large, and_right (leb 1 n) false refl) refl
 
 own : IsNumeralModel (λ ds. all_ascii_digits ds ≡ true) (digits_value 10)
 own = numerals_by_value _ tells_all_ascii_digits

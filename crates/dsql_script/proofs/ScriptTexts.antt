@@ -1,5 +1,5 @@
 -- Whether the bytes of a line are text, and its carriage return.
-use Rattle.std.proofs.Common.{◌≡◌, ◌≢◌, ℕ, suc, ◌-◌, ◌<◌, ◌≤◌, List, [], ◌∷◌, ◌++◌, Bool, true, false, eqb, length, length-append, take, drop, get_or, Option, Some, None, unwrap_or, Err, refl, sym, ap, ◌∙◌, inl, inr, arith, Bor}
+use Rattle.std.proofs.Common.{◌≡◌, ◌≢◌, ℕ, suc, ◌-◌, ◌≤◌, List, [], ◌∷◌, ◌++◌, false, eqb, length, length-append, take, get_or, Option, Some, None, unwrap_or, Err, refl, sym, ap, ◌∙◌, inl, inr, arith, Bor}
 use Rattle.std.specs.Option.{MatchOption}
 use Rattle.std.specs.Str.{IsUtf8, is_utf8}
 use Rattle.std.specs.Str.Lines.{strip_carriage_return}

@@ -5,11 +5,15 @@ use thiserror::Error;
 /// What a script may hold only so many of.
 #[derive(Clone, Copy, Debug, PartialEq, Eq)]
 pub enum What {
-    /// Lines: 10,000 in one script.
+    /// Lines, of which one script may have 10,000.
     Lines,
 }
 
 impl fmt::Display for What {
+    ghost use Rattle.std.specs.Prelude.{Some, codes};
+
+    ghost output = { λ _. Some (codes "lines") };
+
     fn fmt<W: fmt::Write>(&self, f: &mut fmt::Formatter<W>) -> fmt::Result {
         match self {
             What::Lines => write!(f, "lines"),
@@ -17,30 +21,31 @@ impl fmt::Display for What {
     }
 }
 
-/// Why a line of a script is refused. Where several faults are in one line, the earliest of this
-/// list's order in which the line is read is told: too many lines, the line's length, its encoding,
-/// its first words, its other words, its array as JSON, what the array holds, and what it names.
+/// Why a line of a script is refused. A line with several faults is told the first one in this order:
+/// too many lines, too long, not UTF-8, no such word, the shape of its words, not JSON, the shape of
+/// what its array holds, unknown label. Want of memory may come in place of any of them that takes some.
 #[derive(Clone, Copy, Debug, PartialEq, Eq, Error)]
 pub enum LineFault {
-    /// It has more than 4,096 bytes, its carriage return among them.
+    /// It has more than 4,096 bytes before its line feed, a carriage return among them.
     #[error("line too long")]
     TooLong,
     /// Its bytes aren't UTF-8.
     #[error("not UTF-8")]
     NotUtf8,
-    /// Its first words begin no form.
+    /// Its first words begin no form of a line.
     #[error("no such word")]
     NoSuchWord,
     /// Its array isn't read as JSON.
     #[error("not JSON")]
     BadJson,
-    /// Its words are too few, too many or badly spelled, or the array isn't the one that its form wants.
+    /// The number or the spelling of its words is wrong, it lacks its array, or the array doesn't hold
+    /// what the form wants.
     #[error("wrong shape")]
     BadShape,
-    /// It names what no earlier line makes.
+    /// It names a label or a token that no earlier line makes.
     #[error("unknown label")]
     UnknownLabel,
-    /// There are too many of something.
+    /// It is one more than there may be.
     #[error("too many {0}")]
     TooMany(What),
     /// There was no memory.

@@ -6,5 +6,5 @@ mod reader;
 mod script;
 
 pub use fault::{LineFault, What};
-pub use reader::Reader;
+pub use reader::{Reader, worked_script_lines};
 pub use script::ScriptLine;

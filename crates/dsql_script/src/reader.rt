@@ -1,15 +1,19 @@
-ghost use Rattle.std.specs.Prelude.{◌≡◌, ◌≢◌, ◌+◌, ◌≤◌, ℕ, Ok, Err, IfOk, IfErr, OnOk, OnErr, List, length};
+ghost use Rattle.std.specs.Prelude.{◌≡◌, ◌≢◌, ◌+◌, ◌≤◌, ℕ, Ok, Err, IfOk, IfErr, OnOk, OnErr};
 ghost use Rattle.std.specs.Str.Lines.{strip_carriage_return};
-ghost use Rattle.dsql_script.specs.ScriptLines.{read_of, line_of, text_of, form_of};
+ghost use Rattle.dsql_script.specs.ScriptLines.{IsReading, read_of, line_of, text_of, most_lines};
 
 mod array;
 mod exec;
+#[cfg(test)]
+mod tests;
 mod words;
+mod worked;
 
 use crate::fault::{LineFault, What};
 use crate::script::ScriptLine;
 use std::alloc::Global;
 use std::marker::Model;
+pub use worked::worked_script_lines;
 
 /// How many lines a script may have.
 const MAX_LINES: u16 = 10_000;
@@ -17,7 +21,14 @@ const MAX_LINES: u16 = 10_000;
 /// How many bytes a line may have before its line feed.
 const MAX_BYTES: usize = 4_096;
 
-/// A reader of scripts, line by line. Contracts see the number of lines that it has read.
+/// A reader of scripts, line by line. Contracts see the number of lines that it has read, which
+/// counts skipped ones and no refused one.
+///
+/// The words of a line are parted by exactly one space. Where it holds a space followed by `[`, a JSON
+/// array begins at the first such `[` and runs to the line's end. The lines are `cN exec T [@K]` and an
+/// array of one text: client N, from 1 to 64 without a leading zero, executes the text on T, which is
+/// `db` or a label, under the token K, if one is named. A label or a token's name is a lower-case
+/// letter and at most 31 of `a` to `z`, `0` to `9` and `_`, and isn't `db`. No line makes one yet.
 #[derive(Debug, Drop)]
 pub struct Reader {
     lines: u16,
@@ -28,7 +39,7 @@ impl Model for Reader {
 
     ghost view = { λ r. r.lines };
 
-    ghost invariant = { λ r. r.lines ≤ 10000 };
+    ghost invariant = { λ r. r.lines ≤ most_lines };
 }
 
 impl Reader {
@@ -39,7 +50,8 @@ impl Reader {
         Reader { lines: 0 }
     }
 
-    /// Reads the next line, which comes without its line feed. After a refusal the reader is as before.
+    /// Reads the next line, which comes without its line feed; one carriage return at its end is
+    /// dropped. After a refusal the reader is as before.
     pub fn read_line(&mut self, alloc: Global, line: &[u8]) -> Result<ScriptLine, LineFault>
         ensures ok { IfOk result (λ s. read_of self.old line.now ≡ Ok s) }
         ensures err { IfErr result (λ f. f ≢ LineFault.Memory → read_of self.old line.now ≡ Err f) }
@@ -55,9 +67,18 @@ impl Reader {
     }
 }
 
+impl Default for Reader {
+    ghost use Rattle.std.specs.Prelude.{◌≡◌};
+
+    ghost is_default = { λ r. r ≡ 0 };
+
+    fn default() -> Reader {
+        Reader::new()
+    }
+}
+
 fn read_bytes(alloc: Global, line: &[u8]) -> Result<ScriptLine, LineFault>
-    ensures ok { IfOk result (λ s. line_of line.now ≡ Ok s) }
-    ensures err { IfErr result (λ f. f ≢ LineFault.Memory → line_of line.now ≡ Err f) }
+    ensures { IsReading result (line_of line.now) }
 {
     if line.len() > MAX_BYTES {
         return Err(LineFault::TooLong);
@@ -76,8 +97,7 @@ fn without_return(line: &str) -> &str
 }
 
 fn read_text(alloc: Global, text: &str) -> Result<ScriptLine, LineFault>
-    ensures ok { IfOk result (λ s. text_of text.now ≡ Ok s) }
-    ensures err { IfErr result (λ f. f ≢ LineFault.Memory → text_of text.now ≡ Err f) }
+    ensures { IsReading result (text_of text.now) }
 {
     if text.is_empty() || text.starts_with('#') {
         return Ok(ScriptLine::Skip);

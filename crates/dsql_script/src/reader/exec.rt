@@ -1,6 +1,6 @@
-ghost use Rattle.std.specs.Prelude.{◌≡◌, ◌≢◌, ℕ, Ok, Err, IfOk, IfErr, List, map};
+ghost use Rattle.std.specs.Prelude.{◌≡◌, map};
 ghost use Rattle.std.specs.Option.{option_copied};
-ghost use Rattle.dsql_script.specs.ScriptLines.{form_of, exec_of, names_of};
+ghost use Rattle.dsql_script.specs.ScriptLines.{IsReading, form_of, exec_of, names_known};
 
 use crate::fault::LineFault;
 use crate::reader::{array, words};
@@ -14,9 +14,8 @@ pub fn read_form(
     words: &[&str],
     array: Option<&str>,
 ) -> Result<ScriptLine, LineFault>
-    ensures ok { IfOk result (λ s. form_of (map (λ w. w.now) words.now) (option_copied array.entry) ≡ Ok s) }
-    ensures err { IfErr result (λ f. f ≢ LineFault.Memory
-        → form_of (map (λ w. w.now) words.now) (option_copied array.entry) ≡ Err f) }
+    ensures { IsReading result
+        (form_of (map (λ w. w.now) words.now) (option_copied array.entry)) }
 {
     let [client, verb, rest @ ..] = words else {
         return Err(LineFault::NoSuchWord);
@@ -35,11 +34,10 @@ fn read_exec(
     words: &[&str],
     array: Option<&str>,
 ) -> Result<ScriptLine, LineFault>
-    ensures ok { IfOk result (λ s. exec_of client (names_of (map (λ w. w.now) words.now)) (option_copied array.entry) ≡ Ok s) }
-    ensures err { IfErr result (λ f. f ≢ LineFault.Memory
-        → exec_of client (names_of (map (λ w. w.now) words.now)) (option_copied array.entry) ≡ Err f) }
+    ensures { IsReading result
+        (exec_of client (names_known (map (λ w. w.now) words.now)) (option_copied array.entry)) }
 {
-    let is_known = names(words).ok_or(LineFault::BadShape)?;
+    let is_known = names_known(words).ok_or(LineFault::BadShape)?;
     let array = array.ok_or(LineFault::BadShape)?;
     let value = array::read_array(alloc, array)?;
     let text = array::text_alone(value).ok_or(LineFault::BadShape)?;
@@ -53,14 +51,12 @@ fn read_exec(
 }
 
 /// Whether the words after `exec` name the database alone, if they have the right shape.
-fn names(words: &[&str]) -> Option<bool>
-    ensures { result ≡ names_of (map (λ w. w.now) words.now) }
+fn names_known(words: &[&str]) -> Option<bool>
+    ensures { result ≡ names_known (map (λ w. w.now) words.now) }
 {
     match words {
-        [target] if words::is_target_word(target) => Some(words::is_database_word(target)),
-        [target, token] if words::is_target_word(target) && words::is_token_word(token) => {
-            Some(false)
-        }
+        [target] if words::is_target(target) => Some(words::is_database(target)),
+        [target, token] if words::is_target(target) && words::is_token(token) => { Some(false) }
         _ => None,
     }
 }

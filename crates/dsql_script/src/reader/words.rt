@@ -1,7 +1,7 @@
 ghost use Rattle.std.specs.Prelude.{◌≡◌, ◌==◌, IfOk, List, map};
 ghost use Rattle.std.specs.Option.{option_copied};
 ghost use Rattle.std.specs.List.{slice_split, list_all};
-ghost use Rattle.dsql_script.specs.ScriptWords.{before_array, array_of, client_of, client_number, is_name, is_target, is_token, is_database, is_name_byte};
+ghost use Rattle.dsql_script.specs.ScriptWords.{space, before_array, array_of, client_of, client_number, is_name, is_target, is_token, is_database, is_name_byte};
 
 use std::alloc::{AllocError, Global};
 
@@ -25,7 +25,7 @@ pub fn split_array(text: &str) -> (&str, Option<&str>)
 /// The words that single spaces part.
 pub fn split_words<'a>(alloc: Global, text: &'a str) -> Result<Vec<&'a str>, AllocError>
     ensures { IfOk result (λ words. map (λ w. w.now) words.items
-        ≡ slice_split (λ byte. byte == 32) text.now) }
+        ≡ slice_split (λ byte. byte == space) text.now) }
 {
     text.split(' ').collect(alloc)
 }
@@ -56,7 +56,7 @@ fn client_from(digits: &str) -> Option<u8>
 }
 
 /// Whether a word is the name of a label or a token.
-pub fn is_name_word(word: &str) -> bool
+pub fn is_name(word: &str) -> bool
     ensures { result ≡ is_name word.now }
 {
     match word.as_bytes() {
@@ -64,7 +64,7 @@ pub fn is_name_word(word: &str) -> bool
             first.is_ascii_lowercase()
                 && rest.len() <= MAX_NAME_REST
                 && are_name_bytes(rest)
-                && word != "db"
+                && !is_database(word)
         }
         [] => false,
     }
@@ -73,35 +73,35 @@ pub fn is_name_word(word: &str) -> bool
 fn are_name_bytes(bytes: &[u8]) -> bool
     ensures { result ≡ list_all is_name_byte bytes.now }
 {
-    bytes.iter().all(|byte| is_name_part(*byte))
+    bytes.iter().all(|byte| is_name_byte(*byte))
 }
 
-fn is_name_part(byte: u8) -> bool
+fn is_name_byte(byte: u8) -> bool
     ensures { result ≡ is_name_byte byte }
 {
     byte.is_ascii_lowercase() || byte.is_ascii_digit() || byte == b'_'
 }
 
 /// Whether a word is the database's.
-pub fn is_database_word(word: &str) -> bool
+pub fn is_database(word: &str) -> bool
     ensures { result ≡ is_database word.now }
 {
     word == "db"
 }
 
 /// Whether a word says what a call is made on.
-pub fn is_target_word(word: &str) -> bool
+pub fn is_target(word: &str) -> bool
     ensures { result ≡ is_target word.now }
 {
-    is_database_word(word) || is_name_word(word)
+    is_database(word) || is_name(word)
 }
 
 /// Whether a word names a token.
-pub fn is_token_word(word: &str) -> bool
+pub fn is_token(word: &str) -> bool
     ensures { result ≡ is_token word.now }
 {
     match word.strip_prefix('@') {
-        Some(name) => is_name_word(name),
+        Some(name) => is_name(name),
         None => false,
     }
 }

@@ -4,7 +4,7 @@ use Rattle.serde_json.specs.Find.{as_array, as_str}
 use Rattle.serde_json.specs.View.{view, items_view}
 use Rattle.serde_json.specs.declared.value.Value.{the_lemmas}
 use Rattle.dsql_script.specs.ScriptLines.{only_item}
-use Rattle.dsql_script.proofs.ScriptArrays.{only_item_many}
+use Rattle.dsql_script.proofs.ScriptForms.{only_item_many}
 use Rattle.dsql_script.proofs.reader.array.text_alone.Goals as goal
 
 pub returns-then-len-gt1 : goal.returns-then-len-gt1

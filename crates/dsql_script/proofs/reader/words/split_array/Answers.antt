@@ -1,5 +1,4 @@
-use Rattle.std.proofs.Common.{◌≡◌, ℕ, ◌+◌, suc, sym, refl, arith, ap, ◌∙◌, drop, Some, add-one, take}
-use Rattle.dsql_script.specs.ScriptWords.{array_of}
+use Rattle.std.proofs.Common.{sym, refl, arith, add-one}
 use Rattle.dsql_script.proofs.ScriptArrays.{before_array-at, array_of-at, before_array_none, array_of_none}
 use Rattle.dsql_script.proofs.reader.words.split_array.Goals as goal
 

@@ -1,7 +1,7 @@
 use Rattle.std.proofs.Common.{sym, lit<}
 use Rattle.std.proofs.lemmas.Str.{encode_ascii}
 use Rattle.dsql_script.proofs.ScriptClients.{is_token_without}
-use Rattle.dsql_script.proofs.reader.words.is_token_word.Goals as goal
+use Rattle.dsql_script.proofs.reader.words.is_token.Goals as goal
 
 pub returns-in-None : goal.returns-in-None
 returns-in-None c =
