@@ -27,31 +27,36 @@ only_item (item d (item e more)) = None
 abbrev pub only_text : Data → Option (List ℕ)
 only_text d = option_and_then as_str (option_and_then only_item (as_array d))
 
--- Nothing makes a label or a token yet, so a line that names one (`known` is false) names what isn't there.
+-- the words after `exec`: what it is made on, and a token or none
+abbrev pub has_exec_shape : List (List ℕ) → Bool
+has_exec_shape (target ∷ []) = is_target target
+has_exec_shape (target ∷ token ∷ []) = is_target target && is_token token
+has_exec_shape _ = false
+
+-- these words name the database alone
+abbrev pub names_database : List (List ℕ) → Bool
+names_database (target ∷ []) = is_database target
+names_database _ = false
+
+-- No line makes a label or a token yet, so one that is named beside the database or in its place isn't there.
 abbrev pub exec_of_text : ℕ → Bool → Option (List ℕ) → Reading
-exec_of_text client known None = Err BadShape
+exec_of_text client names_db None = Err BadShape
 exec_of_text client false (Some text) = Err UnknownLabel
 exec_of_text client true (Some text) = Ok (Client client (Exec text))
 
 abbrev pub exec_of_array : ℕ → Bool → Option Data → Reading
-exec_of_array client known None = Err BadJson
-exec_of_array client known (Some d) = exec_of_text client known (only_text d)
+exec_of_array client names_db None = Err BadJson
+exec_of_array client names_db (Some d) = exec_of_text client names_db (only_text d)
 
--- what the words after `exec` name, if they have its shape: the database alone, or a label or a token too
-abbrev pub names_known : List (List ℕ) → Option Bool
-names_known (target ∷ []) = if is_target target then Some (is_database target) else None
-names_known (target ∷ token ∷ []) = if is_target target && is_token token then Some false else None
-names_known _ = None
+-- an exec by the words after it and its array
+abbrev pub exec_of : ℕ → List (List ℕ) → Option (List ℕ) → Reading
+exec_of client words None = Err BadShape
+exec_of client words (Some array) = if has_exec_shape words then exec_of_array client (names_database words) (read array) else Err BadShape
 
--- `exec T [@K]` and an array: the words' shape comes before what the array holds
-abbrev pub exec_of : ℕ → Option Bool → Option (List ℕ) → Reading
-exec_of client (Some known) (Some array) = exec_of_array client known (read array)
-exec_of client _ _ = Err BadShape
-
--- a client's call by its first word and those that follow it
+-- a client's call by its first word and those after it
 abbrev pub call_of : Option ℕ → List ℕ → List (List ℕ) → Option (List ℕ) → Reading
 call_of None verb words array = Err NoSuchWord
-call_of (Some client) verb words array = if bytes_eq verb (codes "exec") then exec_of client (names_known words) array else Err NoSuchWord
+call_of (Some client) verb words array = if bytes_eq verb (codes "exec") then exec_of client words array else Err NoSuchWord
 
 -- a line by its words and its array
 abbrev pub form_of : List (List ℕ) → Option (List ℕ) → Reading

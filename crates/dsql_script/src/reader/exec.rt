@@ -1,6 +1,7 @@
 ghost use Rattle.std.specs.Prelude.{◌≡◌, map};
 ghost use Rattle.std.specs.Option.{option_copied};
-ghost use Rattle.dsql_script.specs.ScriptLines.{IsReading, form_of, exec_of, names_known};
+ghost use Rattle.dsql_script.specs.ScriptWords.{client_of};
+ghost use Rattle.dsql_script.specs.ScriptLines.{IsReading, form_of, call_of, exec_of, has_exec_shape, names_database};
 
 use crate::fault::LineFault;
 use crate::reader::{array, words};
@@ -8,7 +9,7 @@ use crate::script::ScriptLine;
 use dsql_history::Op;
 use std::alloc::Global;
 
-/// Reads a line of these words, of which there is one at least.
+/// Reads a line by its words and its array.
 pub fn read_form(
     alloc: Global,
     words: &[&str],
@@ -17,12 +18,26 @@ pub fn read_form(
     ensures { IsReading result
         (form_of (map (λ w. w.now) words.now) (option_copied array.entry)) }
 {
-    let [client, verb, rest @ ..] = words else {
-        return Err(LineFault::NoSuchWord);
-    };
+    match words {
+        [client, verb, rest @ ..] => read_call(alloc, client, verb, rest, array),
+        _ => Err(LineFault::NoSuchWord),
+    }
+}
+
+/// Reads a client's call by its first word and those after it.
+fn read_call(
+    alloc: Global,
+    client: &str,
+    verb: &str,
+    words: &[&str],
+    array: Option<&str>,
+) -> Result<ScriptLine, LineFault>
+    ensures { IsReading result (call_of (client_of client.now) verb.now
+        (map (λ w. w.now) words.now) (option_copied array.entry)) }
+{
     let client = words::client(client).ok_or(LineFault::NoSuchWord)?;
-    match *verb {
-        "exec" => read_exec(alloc, client, rest, array),
+    match verb {
+        "exec" => read_exec(alloc, client, words, array),
         _ => Err(LineFault::NoSuchWord),
     }
 }
@@ -35,13 +50,15 @@ fn read_exec(
     array: Option<&str>,
 ) -> Result<ScriptLine, LineFault>
     ensures { IsReading result
-        (exec_of client (names_known (map (λ w. w.now) words.now)) (option_copied array.entry)) }
+        (exec_of client (map (λ w. w.now) words.now) (option_copied array.entry)) }
 {
-    let is_known = names_known(words).ok_or(LineFault::BadShape)?;
+    if !has_exec_shape(words) {
+        return Err(LineFault::BadShape);
+    }
     let array = array.ok_or(LineFault::BadShape)?;
     let value = array::read_array(alloc, array)?;
     let text = array::text_alone(value).ok_or(LineFault::BadShape)?;
-    if !is_known {
+    if !names_database(words) {
         return Err(LineFault::UnknownLabel);
     }
     Ok(ScriptLine::Client {
@@ -50,13 +67,23 @@ fn read_exec(
     })
 }
 
-/// Whether the words after `exec` name the database alone, if they have the right shape.
-fn names_known(words: &[&str]) -> Option<bool>
-    ensures { result ≡ names_known (map (λ w. w.now) words.now) }
+/// Whether the words after `exec` are what it is made on, and a token or none.
+fn has_exec_shape(words: &[&str]) -> bool
+    ensures { result ≡ has_exec_shape (map (λ w. w.now) words.now) }
 {
     match words {
-        [target] if words::is_target(target) => Some(words::is_database(target)),
-        [target, token] if words::is_target(target) && words::is_token(token) => { Some(false) }
-        _ => None,
+        [target] => words::is_target(target),
+        [target, token] => words::is_target(target) && words::is_token(token),
+        _ => false,
+    }
+}
+
+/// Whether these words name the database alone.
+fn names_database(words: &[&str]) -> bool
+    ensures { result ≡ names_database (map (λ w. w.now) words.now) }
+{
+    match words {
+        [target] => words::is_database(target),
+        _ => false,
     }
 }
