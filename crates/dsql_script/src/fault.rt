@@ -21,9 +21,9 @@ impl fmt::Display for What {
     }
 }
 
-/// Why a line of a script is refused. A line with several faults is told the first one in this order:
-/// too many lines, too long, not UTF-8, no such word, the shape of its words, not JSON, the shape of
-/// what its array holds, unknown label. Want of memory may come in place of any of them that takes some.
+/// Why a line of a script is refused. Where a line has several faults, the first of these is told:
+/// too many lines, too long, not UTF-8, no such word, the shape of its words, not JSON, the shape
+/// of what its array holds, unknown label. Want of memory may come in place of any other answer.
 #[derive(Clone, Copy, Debug, PartialEq, Eq, Error)]
 pub enum LineFault {
     /// It has more than 4,096 bytes before its line feed, a carriage return among them.
@@ -38,8 +38,8 @@ pub enum LineFault {
     /// Its array isn't read as JSON.
     #[error("not JSON")]
     BadJson,
-    /// The number or the spelling of its words is wrong, it lacks its array, or the array doesn't hold
-    /// what the form wants.
+    /// The number or the spelling of its words is wrong, it lacks its array, or the array doesn't
+    /// hold what the form wants.
     #[error("wrong shape")]
     BadShape,
     /// It names a label or a token that no earlier line makes.

@@ -24,11 +24,12 @@ const MAX_BYTES: usize = 4_096;
 /// A reader of scripts, line by line. Contracts see the number of lines that it has read, which
 /// counts skipped ones and no refused one.
 ///
-/// The words of a line are parted by exactly one space. Where it holds a space followed by `[`, a JSON
-/// array begins at the first such `[` and runs to the line's end. The lines are `cN exec T [@K]` and an
-/// array of one text: client N, from 1 to 64 without a leading zero, executes the text on T, which is
-/// `db` or a label, under the token K, if one is named. A label or a token's name is a lower-case
-/// letter and at most 31 of `a` to `z`, `0` to `9` and `_`, and isn't `db`. No line makes one yet.
+/// The words of a line are parted by exactly one space. Where a line holds a space followed by `[`,
+/// a JSON array begins at the first such `[` and runs to the line's end. A line that isn't skipped
+/// is `cN exec T [@K]` and an array of one text: client N, from 1 to 64 without a leading zero,
+/// executes the text on T, which is `db` or a label, under the token K, if one is named. The name
+/// of a label or a token is a lower-case letter and at most 31 of `a` to `z`, `0` to `9` and `_`,
+/// and isn't `db`. No line makes a label or a token yet.
 #[derive(Debug, Drop)]
 pub struct Reader {
     lines: u16,
