@@ -1,2 +1,7 @@
 mod Floats
 pub mod Texts
+pub mod ScriptArrays
+pub mod ScriptClients
+pub mod ScriptForms
+pub mod ScriptTexts
+pub mod ScriptOnLiterals

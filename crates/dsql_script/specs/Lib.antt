@@ -2,3 +2,5 @@ pub mod LineValues
 pub mod LineCalls
 pub mod Lines
 pub mod WorkedLines
+pub mod ScriptWords
+pub mod ScriptLines

@@ -1,6 +1,12 @@
-//! The lines of a report: each event as a line of JSON.
+//! The text that goes in and out: the lines of a script, and the lines of a report.
 #![tactic(auto)]
 
+mod fault;
 mod line;
+mod reader;
+mod script;
 
+pub use fault::{LineFault, What};
 pub use line::{event_line, worked_lines};
+pub use reader::{Reader, worked_script_lines};
+pub use script::ScriptLine;

@@ -1,0 +1,7 @@
+use Rattle.std.proofs.Common.{refl}
+use Rattle.dsql_script.proofs.ScriptOnLiterals.{script_on_literals}
+use Rattle.dsql_script.proofs.reader.worked.worked_script_lines.Goals as goal
+
+pub returns : goal.returns
+unfolding script_on_literals
+returns c = record { exec = refl; last_client = refl; comment = refl; empty = refl; too_many = refl; too_long = refl; not_utf8 = refl; client_too_large = refl; leading_zero = refl; no_array = refl; words_first = refl; not_json = refl; two_things = refl; label = refl; token = refl }

@@ -1,0 +1,89 @@
+ghost use Rattle.std.specs.Prelude.{◌≡◌, map};
+ghost use Rattle.std.specs.Option.{option_copied};
+ghost use Rattle.dsql_script.specs.ScriptWords.{client_of};
+ghost use Rattle.dsql_script.specs.ScriptLines.{IsReading, form_of, call_of, exec_of, has_exec_shape, names_database};
+
+use crate::fault::LineFault;
+use crate::reader::{array, words};
+use crate::script::ScriptLine;
+use dsql_history::Op;
+use std::alloc::Global;
+
+/// Reads a line by its words and its array.
+pub fn read_form(
+    alloc: Global,
+    words: &[&str],
+    array: Option<&str>,
+) -> Result<ScriptLine, LineFault>
+    ensures { IsReading result
+        (form_of (map (λ w. w.now) words.now) (option_copied array.entry)) }
+{
+    match words {
+        [client, verb, rest @ ..] => read_call(alloc, client, verb, rest, array),
+        _ => Err(LineFault::NoSuchWord),
+    }
+}
+
+/// Reads a client's call by its first word and those after it.
+fn read_call(
+    alloc: Global,
+    client: &str,
+    verb: &str,
+    words: &[&str],
+    array: Option<&str>,
+) -> Result<ScriptLine, LineFault>
+    ensures { IsReading result (call_of (client_of client.now) verb.now
+        (map (λ w. w.now) words.now) (option_copied array.entry)) }
+{
+    let client = words::client(client).ok_or(LineFault::NoSuchWord)?;
+    match verb {
+        "exec" => read_exec(alloc, client, words, array),
+        _ => Err(LineFault::NoSuchWord),
+    }
+}
+
+/// Reads an exec by the words after it.
+fn read_exec(
+    alloc: Global,
+    client: u8,
+    words: &[&str],
+    array: Option<&str>,
+) -> Result<ScriptLine, LineFault>
+    ensures { IsReading result
+        (exec_of client (map (λ w. w.now) words.now) (option_copied array.entry)) }
+{
+    if !has_exec_shape(words) {
+        return Err(LineFault::BadShape);
+    }
+    let array = array.ok_or(LineFault::BadShape)?;
+    let value = array::read_array(alloc, array)?;
+    let text = array::text_alone(value).ok_or(LineFault::BadShape)?;
+    if !names_database(words) {
+        return Err(LineFault::UnknownLabel);
+    }
+    Ok(ScriptLine::Client {
+        client,
+        op: Op::Exec { text },
+    })
+}
+
+/// Whether the words after `exec` are what it is made on, and a token or none.
+fn has_exec_shape(words: &[&str]) -> bool
+    ensures { result ≡ has_exec_shape (map (λ w. w.now) words.now) }
+{
+    match words {
+        [target] => words::is_target(target),
+        [target, token] => words::is_target(target) && words::is_token(token),
+        _ => false,
+    }
+}
+
+/// Whether these words name the database alone.
+fn names_database(words: &[&str]) -> bool
+    ensures { result ≡ names_database (map (λ w. w.now) words.now) }
+{
+    match words {
+        [target] => words::is_database(target),
+        _ => false,
+    }
+}
