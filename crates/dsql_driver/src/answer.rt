@@ -3,11 +3,12 @@ ghost use Rattle.dsql_driver.specs.Fits.{fits_of};
 
 use crate::call::{DriverCall, Input};
 use dsql_value::{Columns, Txt, Values};
+use std::alloc::AllocError;
 
 /// What a driver answers to one call. `Skip` is Go's `driver.ErrSkip`, `Bad` its `driver.ErrBadConn`,
 /// `End` the `io.EOF` of Rows' Next, `Invalid` a Validator's no, and `Fail` any other error with its
 /// text. `Memory` is want of memory in the driver itself.
-#[derive(Clone, Debug, Drop)]
+#[derive(Debug, Drop)]
 pub enum DriverAnswer {
     Done,
     Prepared { handle: u32, inputs: i32 },
@@ -20,6 +21,35 @@ pub enum DriverAnswer {
     Bad,
     Fail(Txt),
     Memory,
+}
+
+impl Clone for DriverAnswer {
+    ghost is_clone = { λ x y. y ≡ x };
+
+    fn clone(&self) -> Result<DriverAnswer, AllocError> {
+        Ok(match self {
+            DriverAnswer::Done => DriverAnswer::Done,
+            DriverAnswer::Prepared { handle, inputs } => DriverAnswer::Prepared {
+                handle: *handle,
+                inputs: *inputs,
+            },
+            DriverAnswer::Result { last, affected } => DriverAnswer::Result {
+                last: *last,
+                affected: *affected,
+            },
+            DriverAnswer::Cursor { rows, columns } => DriverAnswer::Cursor {
+                rows: *rows,
+                columns: columns.clone()?,
+            },
+            DriverAnswer::Row(values) => DriverAnswer::Row(values.clone()?),
+            DriverAnswer::End => DriverAnswer::End,
+            DriverAnswer::Invalid => DriverAnswer::Invalid,
+            DriverAnswer::Skip => DriverAnswer::Skip,
+            DriverAnswer::Bad => DriverAnswer::Bad,
+            DriverAnswer::Fail(text) => DriverAnswer::Fail(text.clone()?),
+            DriverAnswer::Memory => DriverAnswer::Memory,
+        })
+    }
 }
 
 /// Whether this answer may be given to this call at all: the table of shapes.

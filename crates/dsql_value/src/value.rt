@@ -1,8 +1,11 @@
+ghost use Rattle.std.specs.Prelude.{◌≡◌};
+
 use crate::items::Items;
 use crate::text::{Bin, Txt};
+use std::alloc::AllocError;
 
 /// What a driver takes and gives, as Go's `driver.Value`. `Time` counts nanoseconds since 1970.
-#[derive(Clone, Debug, Drop)]
+#[derive(Debug, Drop)]
 pub enum Value {
     Nil,
     Int(i64),
@@ -12,11 +15,39 @@ pub enum Value {
     Time(i64),
 }
 
+impl Clone for Value {
+    ghost is_clone = { λ x y. y ≡ x };
+
+    fn clone(&self) -> Result<Value, AllocError> {
+        Ok(match self {
+            Value::Nil => Value::Nil,
+            Value::Int(number) => Value::Int(*number),
+            Value::Bool(truth) => Value::Bool(*truth),
+            Value::Bytes(bytes) => Value::Bytes(bytes.clone()?),
+            Value::Text(text) => Value::Text(text.clone()?),
+            Value::Time(moment) => Value::Time(*moment),
+        })
+    }
+}
+
 /// A value for a statement's input, with its name if it has one, as Go's `driver.NamedValue`.
-#[derive(Clone, Debug, Drop)]
+#[derive(Debug, Drop)]
 pub struct Param {
     pub name: Option<Txt>,
     pub value: Value,
+}
+
+impl Clone for Param {
+    ghost is_clone = { λ x y. y ≡ x };
+
+    fn clone(&self) -> Result<Param, AllocError> {
+        let name = match &self.name {
+            Some(name) => Some(name.clone()?),
+            None => None,
+        };
+        let value = self.value.clone()?;
+        Ok(Param { name, value })
+    }
 }
 
 /// The parameters of one driver call, in order.
