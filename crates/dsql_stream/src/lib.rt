@@ -1,0 +1,7 @@
+//! Lines out of a source, whole pieces into a sink, and the adapters to the streams and the clock of
+//! the process.
+#![tactic(auto)]
+
+mod lines;
+
+pub use lines::{LONGEST, LineReader, ReadFault};
