@@ -1,3 +1,4 @@
 pub mod Windows
 pub mod FirstLines
 pub mod HandingOut
+pub mod Fronts

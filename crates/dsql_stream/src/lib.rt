@@ -3,5 +3,7 @@
 #![tactic(auto)]
 
 mod lines;
+mod pieces;
 
 pub use lines::{LONGEST, LineReader, ReadFault};
+pub use pieces::{Cut, write_whole};
