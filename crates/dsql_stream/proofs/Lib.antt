@@ -2,3 +2,4 @@ pub mod Windows
 pub mod FirstLines
 pub mod HandingOut
 pub mod Fronts
+pub mod AllLines

@@ -185,3 +185,99 @@ impl LineReader {
         Ok(self.pop())
     }
 }
+
+#[cfg(test)]
+mod tests {
+    use super::*;
+    use dsql_driver::SliceSource;
+    use std::test::Fail;
+
+    /// What a reader hands out up to the end or a fault, with a bar behind each line.
+    fn lines_of<S: Source>(
+        reader: &mut LineReader,
+        source: &mut S,
+        alloc: Global,
+    ) -> Result<(Vec<u8>, bool), Fail> {
+        let mut lines = Vec::new(alloc);
+        let mut line = Vec::new(alloc);
+        for _ in 0..9 {
+            match reader.next_line(source, &mut line) {
+                Ok(true) => {
+                    lines.extend_from_slice(&line)?;
+                    lines.push(b'|')?;
+                }
+                Ok(false) => return Ok((lines, true)),
+                Err(ReadFault::Failed) => return Ok((lines, false)),
+                Err(fault) => return Err(fault)?,
+            }
+        }
+        Err("no end")?
+    }
+
+    #[test]
+    fn lines_are_the_same_wherever_the_source_cuts_them(rt: HostRuntime) -> Result<(), Fail> {
+        let scripts = [
+            ("", ""),
+            ("\n", "|"),
+            ("\n\n", "||"),
+            ("ab", "ab|"),
+            ("ab\nc\n", "ab|c|"),
+            ("ab\n\n\r\nc", "ab||\r|c|"),
+        ];
+        for (script, want) in scripts {
+            for piece in 1..=10 {
+                let mut source = SliceSource::new(script.as_bytes(), piece, &[]);
+                let mut reader = LineReader::new(rt.alloc())?;
+                let (lines, ended) = lines_of(&mut reader, &mut source, rt.alloc())?;
+                assert_eq!(rt; lines.as_slice(), want.as_bytes(), "{script:?} by {piece}");
+                assert!(rt; ended, "{script:?} by {piece}");
+                let mut more = SliceSource::new(b"more", piece, &[]);
+                let (lines, ended) = lines_of(&mut reader, &mut more, rt.alloc())?;
+                assert_eq!(rt; lines.as_slice(), b"".as_slice());
+                assert!(rt; ended);
+            }
+        }
+        Ok(())
+    }
+
+    #[test]
+    fn a_failed_read_drops_the_unfinished_line_alone(rt: HostRuntime) -> Result<(), Fail> {
+        let faults = [
+            (1, "", "ab|c|d|"),
+            (2, "", "b|c|d|"),
+            (3, "", "|c|d|"),
+            (4, "ab|", "c|d|"),
+            (5, "ab|", "|d|"),
+            (6, "ab|c|", "d|"),
+            (7, "ab|c|", ""),
+        ];
+        for (k, before, after) in faults {
+            let failing = [k];
+            let mut source = SliceSource::new(b"ab\nc\nd", 1, &failing);
+            let mut reader = LineReader::new(rt.alloc())?;
+            let (lines, ended) = lines_of(&mut reader, &mut source, rt.alloc())?;
+            assert_eq!(rt; lines.as_slice(), before.as_bytes(), "read {k} fails");
+            assert!(rt; !ended, "read {k} fails");
+            let (lines, ended) = lines_of(&mut reader, &mut source, rt.alloc())?;
+            assert_eq!(rt; lines.as_slice(), after.as_bytes(), "after read {k}");
+            assert!(rt; ended, "after read {k}");
+        }
+        Ok(())
+    }
+
+    #[test]
+    fn a_line_that_is_too_long_is_cut(rt: HostRuntime) -> Result<(), Fail> {
+        for (len, want, next) in [(4095, 4095, 1), (4096, 4096, 1), (4097, 4097, 0), (5000, 4097, 903)] {
+            let mut script = vec![in rt.alloc(); b'x'; len]?;
+            script.extend_from_slice(b"\ny")?;
+            let mut source = SliceSource::new(&script, 1000, &[]);
+            let mut reader = LineReader::new(rt.alloc())?;
+            let mut line = Vec::new(rt.alloc());
+            assert_eq!(rt; reader.next_line(&mut source, &mut line), Ok(true));
+            assert_eq!(rt; line.len(), want, "of {len} bytes");
+            assert_eq!(rt; reader.next_line(&mut source, &mut line), Ok(true));
+            assert_eq!(rt; line.len(), next, "behind {len} bytes");
+        }
+        Ok(())
+    }
+}
