@@ -1,3 +1,4 @@
 pub mod Fits
+pub mod Memory
 pub mod Streams
 pub mod Wires

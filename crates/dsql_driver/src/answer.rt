@@ -3,11 +3,12 @@ ghost use Rattle.dsql_driver.specs.Fits.{fits_of};
 
 use crate::call::{DriverCall, Input};
 use dsql_value::{Columns, Txt, Values};
+use std::alloc::AllocError;
 
 /// What a driver answers to one call. `Skip` is Go's `driver.ErrSkip`, `Bad` its `driver.ErrBadConn`,
 /// `End` the `io.EOF` of Rows' Next, `Invalid` a Validator's no, and `Fail` any other error with its
 /// text. `Memory` is want of memory in the driver itself.
-#[derive(Clone, Debug, Drop)]
+#[derive(Debug, Drop)]
 pub enum DriverAnswer {
     Done,
     Prepared { handle: u32, inputs: i32 },
@@ -20,6 +21,35 @@ pub enum DriverAnswer {
     Bad,
     Fail(Txt),
     Memory,
+}
+
+impl Clone for DriverAnswer {
+    ghost is_clone = { λ x y. y ≡ x };
+
+    fn clone(&self) -> Result<DriverAnswer, AllocError> {
+        Ok(match self {
+            DriverAnswer::Done => DriverAnswer::Done,
+            DriverAnswer::Prepared { handle, inputs } => DriverAnswer::Prepared {
+                handle: *handle,
+                inputs: *inputs,
+            },
+            DriverAnswer::Result { last, affected } => DriverAnswer::Result {
+                last: *last,
+                affected: *affected,
+            },
+            DriverAnswer::Cursor { rows, columns } => DriverAnswer::Cursor {
+                rows: *rows,
+                columns: columns.clone()?,
+            },
+            DriverAnswer::Row(values) => DriverAnswer::Row(values.clone()?),
+            DriverAnswer::End => DriverAnswer::End,
+            DriverAnswer::Invalid => DriverAnswer::Invalid,
+            DriverAnswer::Skip => DriverAnswer::Skip,
+            DriverAnswer::Bad => DriverAnswer::Bad,
+            DriverAnswer::Fail(text) => DriverAnswer::Fail(text.clone()?),
+            DriverAnswer::Memory => DriverAnswer::Memory,
+        })
+    }
 }
 
 /// Whether this answer may be given to this call at all: the table of shapes.
@@ -63,5 +93,34 @@ fn is_done_when_well(call: &DriverCall) -> bool
         | DriverCall::Exec(_, _)
         | DriverCall::Query(_, _)
         | DriverCall::Next(_) => false,
+    }
+}
+
+#[cfg(test)]
+mod tests {
+    use super::*;
+    use dsql_value::Items;
+
+    #[test]
+    fn answers_fit_by_the_table(rt: HostRuntime) {
+        let prepared = DriverAnswer::Prepared {
+            handle: 1,
+            inputs: -1,
+        };
+        let exec = DriverCall::Exec(Input::Handle(1), Items::none(rt.alloc()));
+        for (call, answer, want) in [
+            (DriverCall::Ping, DriverAnswer::Done, true),
+            (DriverCall::Ping, DriverAnswer::Bad, true),
+            (DriverCall::Ping, DriverAnswer::Invalid, false),
+            (DriverCall::Valid, DriverAnswer::Invalid, true),
+            (DriverCall::Valid, DriverAnswer::Bad, false),
+            (DriverCall::Valid, DriverAnswer::Memory, true),
+            (DriverCall::Next(1), DriverAnswer::End, true),
+            (DriverCall::Next(1), DriverAnswer::Done, false),
+            (DriverCall::Connect, prepared, false),
+            (exec, DriverAnswer::Skip, false),
+        ] {
+            assert_eq!(rt; fits(&call, &answer), want, "{answer:?} to {call:?}");
+        }
     }
 }

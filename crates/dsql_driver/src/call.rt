@@ -1,10 +1,24 @@
+ghost use Rattle.std.specs.Prelude.{◌≡◌};
+
 use dsql_value::{Params, Txt};
+use std::alloc::AllocError;
 
 /// What a statement is run from: its text, or the handle that a Prepare gave for it.
-#[derive(Clone, Debug, Drop)]
+#[derive(Debug, Drop)]
 pub enum Input {
     Text(Txt),
     Handle(u32),
+}
+
+impl Clone for Input {
+    ghost is_clone = { λ x y. y ≡ x };
+
+    fn clone(&self) -> Result<Input, AllocError> {
+        Ok(match self {
+            Input::Text(text) => Input::Text(text.clone()?),
+            Input::Handle(handle) => Input::Handle(*handle),
+        })
+    }
 }
 
 /// How far apart transactions are kept, as Go's `sql.IsolationLevel`.
@@ -24,7 +38,7 @@ pub enum Level {
 /// Connect, `SessionResetter`'s ResetSession, `Validator`'s IsValid, `Pinger`'s Ping, `ConnPrepareContext`,
 /// `Stmt`'s Close, the two `ExecerContext` and `StmtExecContext`, the two `QueryerContext` and
 /// `StmtQueryContext`, `Rows`' Next and Close, `ConnBeginTx`, `Tx`'s Commit and Rollback, and `Conn`'s Close.
-#[derive(Clone, Debug, Drop)]
+#[derive(Debug, Drop)]
 pub enum DriverCall {
     Connect,
     Reset,
@@ -40,4 +54,30 @@ pub enum DriverCall {
     Commit,
     Rollback,
     Shut,
+}
+
+impl Clone for DriverCall {
+    ghost is_clone = { λ x y. y ≡ x };
+
+    fn clone(&self) -> Result<DriverCall, AllocError> {
+        Ok(match self {
+            DriverCall::Connect => DriverCall::Connect,
+            DriverCall::Reset => DriverCall::Reset,
+            DriverCall::Valid => DriverCall::Valid,
+            DriverCall::Ping => DriverCall::Ping,
+            DriverCall::Prepare(text) => DriverCall::Prepare(text.clone()?),
+            DriverCall::CloseStmt(handle) => DriverCall::CloseStmt(*handle),
+            DriverCall::Exec(input, params) => DriverCall::Exec(input.clone()?, params.clone()?),
+            DriverCall::Query(input, params) => DriverCall::Query(input.clone()?, params.clone()?),
+            DriverCall::Next(rows) => DriverCall::Next(*rows),
+            DriverCall::CloseRows(rows) => DriverCall::CloseRows(*rows),
+            DriverCall::Begin { level, read_only } => DriverCall::Begin {
+                level: *level,
+                read_only: *read_only,
+            },
+            DriverCall::Commit => DriverCall::Commit,
+            DriverCall::Rollback => DriverCall::Rollback,
+            DriverCall::Shut => DriverCall::Shut,
+        })
+    }
 }

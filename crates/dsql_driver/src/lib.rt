@@ -6,6 +6,7 @@ mod answer;
 mod call;
 mod caps;
 mod clock;
+mod memory;
 mod stream;
 mod wire;
 
@@ -13,5 +14,6 @@ pub use answer::{DriverAnswer, fits};
 pub use call::{DriverCall, Input, Level};
 pub use caps::Caps;
 pub use clock::{Clock, Gate};
+pub use memory::{ListClock, OpenGate, SliceSource, VecSink};
 pub use stream::{Failed, Sink, Source};
 pub use wire::{Answered, Fleet, Planned, Refused, Wire};

@@ -1,11 +1,12 @@
 ghost use Rattle.std.specs.Prelude.{◌≡◌, List, []};
+ghost use Rattle.std.specs.List.{AllZip};
 
-use std::alloc::Global;
+use std::alloc::{AllocError, Global};
 use std::marker::Model;
 
 /// A list of things, which contracts see as just that. It is made from a vector and gives it back
 /// without taking memory.
-#[derive(Clone, Debug, Drop)]
+#[derive(Debug, Drop)]
 pub struct Items<T> {
     items: Vec<T>,
 }
@@ -46,5 +47,14 @@ impl<T> Items<T> {
     {
         let Items { items } = self;
         items
+    }
+}
+
+impl<T: Clone> Clone for Items<T> {
+    ghost is_clone = { λ x y. AllZip T.is_clone x y };
+
+    fn clone(&self) -> Result<Items<T>, AllocError> {
+        let items = self.items.clone()?;
+        Ok(Items { items })
     }
 }

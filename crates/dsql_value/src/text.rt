@@ -1,11 +1,11 @@
 ghost use Rattle.std.specs.Prelude.{◌≡◌, List, ℕ, string_bytes, IfOk};
 
 use crate::memory::Memory;
-use std::alloc::Global;
+use std::alloc::{AllocError, Global};
 use std::marker::Model;
 
 /// A text in UTF-8, as Go's `string` holds one. Contracts see it as the list of its bytes.
-#[derive(Clone, Debug, Drop)]
+#[derive(Debug, Drop)]
 pub struct Txt {
     text: String,
 }
@@ -36,8 +36,8 @@ impl Txt {
     pub fn copy(&self) -> Result<Txt, Memory>
         ensures { IfOk result (λ t. t ≡ self.now) }
     {
-        let text = self.text.clone()?;
-        Ok(Txt { text })
+        let copy = self.clone()?;
+        Ok(copy)
     }
 
     /// The text itself.
@@ -56,8 +56,17 @@ impl Txt {
     }
 }
 
+impl Clone for Txt {
+    ghost is_clone = { λ x y. y ≡ x };
+
+    fn clone(&self) -> Result<Txt, AllocError> {
+        let text = self.text.clone()?;
+        Ok(Txt { text })
+    }
+}
+
 /// Bytes that may be no text, as Go's `[]byte` holds them. Contracts see them as a list.
-#[derive(Clone, Debug, Drop)]
+#[derive(Debug, Drop)]
 pub struct Bin {
     bytes: Vec<u8>,
 }
@@ -89,5 +98,14 @@ impl Bin {
     {
         let Bin { bytes } = self;
         bytes
+    }
+}
+
+impl Clone for Bin {
+    ghost is_clone = { λ x y. y ≡ x };
+
+    fn clone(&self) -> Result<Bin, AllocError> {
+        let bytes = self.bytes.clone()?;
+        Ok(Bin { bytes })
     }
 }

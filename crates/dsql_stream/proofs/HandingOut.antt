@@ -1,0 +1,53 @@
+-- What was taken off the front of the bytes ahead is a line, at each end of the reading.
+use Rattle.std.proofs.Common.{◌≡◌, ◌≢◌, ℕ, ◌+◌, ◌<◌, ◌≤◌, ◌==◌, Bool, true, false, not, List, [], ◌∷◌, ◌++◌, Option, Some, None, length, take, drop, refl, ap, sym, ◌∙◌, arith, length-append, append-nil, ne_eqb}
+use Rattle.std.proofs.lemmas.List.{take_at, drop_at}
+use Rattle.dsql_stream.specs.Buffered.{Buffered}
+use Rattle.dsql_stream.specs.Lines.{ahead, first_line, after_line, TakesOff, HandsOut, HandsOutLine}
+use Rattle.dsql_stream.proofs.FirstLines.{Feedless, first_line-feed, after_line-feed, first_line-feedless, after_line-feedless, first_line_longer}
+
+-- a line that a line feed ended
+pub hands_out_ended : (line : List ℕ) (before mid after : Option (List ℕ)) → Feedless line → length line ≤ 4096
+    → TakesOff line before mid → TakesOff (10 ∷ []) mid after → HandsOut true before after line
+hands_out_ended line before mid None feedless short front feed = let none : before ≡ None = cc in rw none refl
+hands_out_ended line before mid (Some rest) feedless short front feed =
+    let bytes : before ≡ Some (line ++ 10 ∷ rest) = cc in
+    rw bytes (record {
+        there = λ none. absurd (omega (arith, ap length none, length-append line (10 ∷ rest)));
+        whole = λ _. (sym (first_line-feed line rest feedless), ap Some (sym (after_line-feed line rest feedless)));
+        cut = λ long. absurd (omega (arith, long, ap length (first_line-feed line rest feedless)));
+    })
+
+-- a line of all bytes that were left
+last_line : (line : List ℕ) → Feedless line → length line ≤ 4096 → line ≢ [] → HandsOutLine line (Some []) line
+last_line line feedless short there = record {
+    there = there;
+    whole = λ _. (sym (first_line-feedless line feedless), ap Some (sym (after_line-feedless line feedless)));
+    cut = λ long. absurd (omega (arith, long, ap length (first_line-feedless line feedless)));
+}
+
+at_end : (line : List ℕ) → Feedless line → length line ≤ 4096 → HandsOut (not (length line == 0)) (Some line) (Some []) line
+at_end [] _ _ = (refl, refl)
+at_end (byte ∷ more) feedless short = rw (ne_eqb (length (byte ∷ more)) 0 (λ none. omega (arith, none))) (last_line (byte ∷ more) feedless short (λ none. cc))
+
+-- the last line, or none
+pub hands_out_last : (line : List ℕ) (reader : Buffered) (left before mid : Option (List ℕ)) → Feedless line → length line ≤ 4096
+    → reader ≡ record { pending = []; ended = true } → TakesOff line before mid → TakesOff [] mid (ahead reader left)
+    → HandsOut (not (length line == 0)) before (ahead reader left) line
+hands_out_last line reader None before mid feedless short ended front none = let unknown : before ≡ None = cc in rw unknown refl
+hands_out_last line reader (Some bytes) before mid feedless short ended front none =
+    let end : ahead reader (Some bytes) ≡ Some [] = rw ended refl in
+    let left : mid ≡ Some [] = rw end at none in
+    let all : before ≡ Some line = front ∙ rw left (ap Some (append-nil line)) in
+    rw (all, end) (at_end line feedless short)
+
+-- a line that is too long
+pub hands_out_cut : (line : List ℕ) (before after : Option (List ℕ)) → Feedless line → length line ≡ 4097 → TakesOff line before after
+    → HandsOut true before after line
+hands_out_cut line before None feedless long front = let none : before ≡ None = front in rw none refl
+hands_out_cut line before (Some rest) feedless long front =
+    let bytes : before ≡ Some (line ++ rest) = front in
+    rw bytes (record {
+        there = λ none. absurd (omega (arith, ap length none, length-append line rest));
+        whole = λ short. absurd (omega (arith, short, first_line_longer line rest feedless));
+        cut = λ _. (sym (take_at line rest 4097 long), ap Some (sym (drop_at line rest 4097 long)));
+    })

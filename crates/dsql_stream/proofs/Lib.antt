@@ -1,0 +1,5 @@
+pub mod Windows
+pub mod FirstLines
+pub mod HandingOut
+pub mod Fronts
+pub mod AllLines

@@ -1,0 +1,286 @@
+//! The trusted edge: what reads, writes and tells the time in the process, as the streams and the clock
+//! of a run. Their contracts say nothing of what came or went.
+
+ghost use Rattle.std.specs.Prelude.{◌≡◌, ◌≤◌, ℕ, None, IfOk, length};
+
+use dsql_driver::{Clock, Failed, Sink, Source};
+use std::io::{self, Read, Write};
+use std::marker::Model;
+use std::rt;
+use std::time::Instant;
+
+/// A source over a reader, as standard input is one. Contracts see how often it failed.
+#[derive(Drop)]
+pub struct StdSource<R> {
+    reader: R,
+    faults: u64,
+}
+
+impl<R> Model for StdSource<R> {
+    ghost Value = { ℕ };
+
+    ghost view = { λ s. s.faults };
+}
+
+impl<R: Read> StdSource<R> {
+    /// A source that hasn't failed.
+    pub fn new(reader: R) -> StdSource<R>
+        ensures { result ≡ 0 }
+    {
+        StdSource { reader, faults: 0 }
+    }
+}
+
+impl<R: Read> Source for StdSource<R> {
+    ghost left = { λ _. None };
+
+    ghost faults = { λ s. s };
+
+    fn read(&mut self, buf: &mut [u8]) -> Result<usize, Failed> {
+        match self.reader.read(buf) {
+            Ok(n) => Ok(n),
+            Err(_) => {
+                self.faults = self.faults.saturating_add(1);
+                Err(Failed)
+            }
+        }
+    }
+}
+
+/// A sink over a writer, as standard output and standard error are. It flushes after each write.
+/// Contracts see how often it failed.
+#[derive(Drop)]
+pub struct StdSink<W> {
+    writer: W,
+    faults: u64,
+}
+
+impl<W> Model for StdSink<W> {
+    ghost Value = { ℕ };
+
+    ghost view = { λ s. s.faults };
+}
+
+impl<W: Write> StdSink<W> {
+    /// A sink that hasn't failed.
+    pub fn new(writer: W) -> StdSink<W>
+        ensures { result ≡ 0 }
+    {
+        StdSink { writer, faults: 0 }
+    }
+}
+
+/// Writes a front part of the piece, and lets nothing wait in the writer.
+fn write_through<W: Write>(writer: &mut W, piece: &[u8]) -> io::Result<usize>
+    ensures { IfOk result (λ n. n ≤ length piece.now) }
+{
+    let n = writer.write(piece)?;
+    writer.flush()?;
+    Ok(n)
+}
+
+impl<W: Write> Sink for StdSink<W> {
+    ghost written = { λ _. None };
+
+    ghost faults = { λ s. s };
+
+    fn write(&mut self, piece: &[u8]) -> Result<usize, Failed> {
+        match write_through(&mut self.writer, piece) {
+            Ok(n) if n > 0 || piece.is_empty() => Ok(n),
+            _ => {
+                self.faults = self.faults.saturating_add(1);
+                Err(Failed)
+            }
+        }
+    }
+}
+
+/// The system's clock, counted in nanoseconds since this one was made. Contracts see its last moment.
+#[derive(Drop)]
+pub struct StdClock<C> {
+    clock: C,
+    start: Option<Instant>,
+    last: u64,
+}
+
+impl<C> Model for StdClock<C> {
+    ghost Value = { ℕ };
+
+    ghost view = { λ c. c.last };
+}
+
+impl<C: rt::Clock> StdClock<C> {
+    /// A clock that begins at 0. Where the system's fails now, it begins at the first moment that it gets.
+    pub fn new(clock: C) -> StdClock<C>
+        ensures { result ≡ 0 }
+    {
+        let start = Instant::now(&clock).ok();
+        StdClock {
+            clock,
+            start,
+            last: 0,
+        }
+    }
+}
+
+impl<C: rt::Clock> Clock for StdClock<C> {
+    /// The present moment, or the last one where the system's clock fails or went back.
+    fn now(&mut self) -> u64
+        ensures moment { result ≡ self.new }
+        ensures forward { self.old ≤ self.new }
+    {
+        if let Ok(present) = Instant::now(&self.clock) {
+            let start = self.start.unwrap_or(present);
+            self.start = Some(start);
+            let passed = present.duration_since(start).as_nanos();
+            self.last = self.last.max(u64::try_from(passed).unwrap_or(u64::MAX));
+        }
+        self.last
+    }
+}
+
+#[cfg(test)]
+mod tests {
+    use super::*;
+    use std::cell::Cell;
+    use std::io::ErrorKind;
+    use std::test::Fail;
+    use std::time::Duration;
+
+    fn broken() -> io::Error {
+        io::Error::from(ErrorKind::Other)
+    }
+
+    /// Fails at each second read, and gives an `x` at the others.
+    #[derive(Drop)]
+    struct Stutter {
+        reads: u8,
+    }
+
+    impl Read for Stutter {
+        fn read(&mut self, buf: &mut [u8]) -> io::Result<usize> {
+            self.reads = self.reads.wrapping_add(1);
+            match buf.first_mut() {
+                Some(first) if self.reads % 2 == 1 => *first = b'x',
+                _ => return Err(broken()),
+            }
+            Ok(1)
+        }
+    }
+
+    fn read_once<S: Source>(source: &mut S, buf: &mut [u8]) -> Result<usize, Failed> {
+        source.read(buf)
+    }
+
+    #[test]
+    fn a_failed_read_is_a_fault(rt: HostRuntime) {
+        let mut source = StdSource::new(Stutter { reads: 0 });
+        let mut buf = [0; 2];
+        assert_eq!(rt; read_once(&mut source, &mut buf), Ok(1));
+        assert_eq!(rt; buf[0], b'x');
+        assert_eq!(rt; source.faults, 0);
+        assert_eq!(rt; read_once(&mut source, &mut buf), Err(Failed));
+        assert_eq!(rt; source.faults, 1);
+        assert_eq!(rt; read_once(&mut source, &mut buf), Ok(1));
+        assert_eq!(rt; source.faults, 1);
+    }
+
+    /// Takes two bytes at a write, and fails at a `!`.
+    #[derive(Drop)]
+    struct Pipe<'a> {
+        waiting: usize,
+        through: &'a Cell<usize>,
+        is_full: bool,
+    }
+
+    impl Write for Pipe<'_> {
+        fn write(&mut self, buf: &[u8]) -> io::Result<usize> {
+            if buf.first() == Some(&b'!') {
+                return Err(broken());
+            }
+            let n = if self.is_full { 0 } else { buf.len().min(2) };
+            self.waiting = n;
+            Ok(n)
+        }
+
+        fn flush(&mut self) -> io::Result<()> {
+            self.through.set(self.through.get().saturating_add(self.waiting));
+            Ok(())
+        }
+    }
+
+    fn write_once<K: Sink>(sink: &mut K, piece: &[u8]) -> Result<usize, Failed> {
+        sink.write(piece)
+    }
+
+    #[test]
+    fn a_write_goes_through_or_is_a_fault(rt: HostRuntime) {
+        let through = Cell::new(0);
+        let mut sink = StdSink::new(Pipe {
+            waiting: 0,
+            through: &through,
+            is_full: false,
+        });
+        assert_eq!(rt; write_once(&mut sink, b"abc"), Ok(2));
+        assert_eq!(rt; through.get(), 2);
+        assert_eq!(rt; write_once(&mut sink, b""), Ok(0));
+        assert_eq!(rt; sink.faults, 0);
+        assert_eq!(rt; write_once(&mut sink, b"!"), Err(Failed));
+        assert_eq!(rt; sink.faults, 1);
+        let mut full = StdSink::new(Pipe {
+            waiting: 0,
+            through: &through,
+            is_full: true,
+        });
+        assert_eq!(rt; write_once(&mut full, b"abc"), Err(Failed));
+        assert_eq!(rt; full.faults, 1);
+    }
+
+    /// Stands at a number of nanoseconds, or fails at 0.
+    #[derive(Drop)]
+    struct Dial<'a> {
+        nanos: &'a Cell<u64>,
+    }
+
+    impl rt::Clock for Dial<'_> {
+        fn monotonic(&self) -> io::Result<Duration> {
+            match self.nanos.get() {
+                0 => Err(broken()),
+                nanos => Ok(Duration::from_nanos(nanos)),
+            }
+        }
+
+        fn since_1970(&self) -> io::Result<Duration> {
+            Err(broken())
+        }
+    }
+
+    fn moment<C: Clock>(clock: &mut C) -> u64 {
+        clock.now()
+    }
+
+    #[test]
+    fn a_clock_that_fails_stays_at_its_last_moment(rt: HostRuntime) {
+        for (start, moments) in [(10, [0, 5, 5, 5, 2000]), (0, [0, 0, 0, 0, 1995])] {
+            let nanos = Cell::new(start);
+            let mut clock = StdClock::new(Dial { nanos: &nanos });
+            for (stand, want) in [0, 15, 0, 12, 2010].into_iter().zip(moments) {
+                nanos.set(stand);
+                assert_eq!(rt; moment(&mut clock), want, "at {stand} from {start}");
+            }
+        }
+        let mut clock = StdClock::new(&rt);
+        let early = moment(&mut clock);
+        assert!(rt; early <= moment(&mut clock));
+    }
+
+    #[test]
+    fn the_streams_of_the_process_fit(rt: HostRuntime) -> Result<(), Fail> {
+        let _input = StdSource::new(rt.stdin());
+        let mut output = StdSink::new(rt.stdout());
+        let mut notes = StdSink::new(rt.stderr());
+        assert_eq!(rt; write_once(&mut output, b""), Ok(0));
+        assert_eq!(rt; write_once(&mut notes, b""), Ok(0));
+        Ok(())
+    }
+}

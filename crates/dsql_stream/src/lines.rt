@@ -1,0 +1,283 @@
+ghost use Rattle.std.specs.Prelude.{◌≡◌, ◌≢◌, ◌<◌, ◌≤◌, ◌+◌, ℕ, [], ◌∷◌, ◌↔◌, All, IsTrue, IfOk, OnOk, OnErr, IfSome, IfNone, MatchOption, is_some, option_to_list, vec_len};
+ghost use Rattle.dsql_driver.specs.Streams.{HasRisen};
+ghost use Rattle.dsql_stream.specs.Lines.{ahead, HandsOut, SawTheEnd, TakesOff};
+
+use dsql_driver::{Failed, Source};
+use dsql_value::Memory;
+use std::alloc::{AllocError, Global};
+use std::marker::Model;
+use thiserror::Error;
+
+/// The most bytes that a line may have.
+pub const LONGEST: usize = 4096;
+
+/// How many bytes are read at once.
+const ROOM: usize = 4096;
+
+/// Why no line came.
+#[derive(Clone, Copy, Debug, PartialEq, Eq, Error)]
+pub enum ReadFault {
+    /// The source failed.
+    #[error("the read failed")]
+    Failed,
+    /// There was no memory for the line.
+    #[error("out of memory")]
+    Memory,
+}
+
+impl From<Failed> for ReadFault {
+    ghost use Rattle.dsql_stream.specs.declared.lines.ReadFault.TheVariants.{Failed as TheFailed};
+    ghost from_gives = { λ _ fault. fault ≡ TheFailed };
+
+    fn from(_failed: Failed) -> ReadFault {
+        ReadFault::Failed
+    }
+}
+
+impl From<AllocError> for ReadFault {
+    ghost use Rattle.dsql_stream.specs.declared.lines.ReadFault.TheVariants.{Memory as WantOfMemory};
+    ghost from_gives = { λ _ fault. fault ≡ WantOfMemory };
+
+    fn from(_e: AllocError) -> ReadFault {
+        ReadFault::Memory
+    }
+}
+
+/// Takes lines out of a source. It reads ahead, so a source belongs to one reader.
+#[derive(Drop)]
+pub struct LineReader {
+    buffer: Vec<u8>,
+    start: usize,
+    end: usize,
+    ended: bool,
+}
+
+impl Model for LineReader {
+    ghost use Rattle.std.specs.Prelude.{◌≡◌, ◌≤◌, true, length, take, drop};
+    ghost use Rattle.dsql_stream.specs.Buffered.{Buffered};
+
+    ghost Value = { Buffered };
+
+    ghost view = { λ r. record { pending = drop r.start (take r.end r.buffer.items); ended = r.ended } };
+
+    ghost invariant = { λ r. (r.start ≤ r.end) × (r.end ≤ length r.buffer.items) × (length r.buffer.items ≡ 4096) × (r.ended ≡ true → r.start ≡ r.end) };
+}
+
+impl LineReader {
+    ghost use Rattle.dsql_stream.specs.declared.lines.ReadFault.{ReadFault};
+    ghost use Rattle.std.specs.Prelude.{true, false};
+
+    /// A reader that has read nothing.
+    pub fn new(alloc: Global) -> Result<LineReader, Memory>
+        ensures { IfOk result (λ reader. reader ≡ record { pending = []; ended = false }) }
+    {
+        Ok(LineReader {
+            buffer: vec![in alloc; 0; ROOM]?,
+            start: 0,
+            end: 0,
+            ended: false,
+        })
+    }
+
+    /// Hands the next line out, without its line feed. False: there is none, since the source is at its
+    /// end. The last line may lack its line feed.
+    ///
+    /// A line of more than `LONGEST` bytes is cut behind its first `LONGEST + 1`. After a fault what was
+    /// read of the line is in `line`, and is dropped. Want of memory comes before anything is read. Once
+    /// the end was seen the source is read no more.
+    pub fn next_line<S: Source>(&mut self, source: &mut S, line: &mut Vec<u8>) -> Result<bool, ReadFault>
+        ensures handed_out { IfOk result (λ there. HandsOut there (ahead self.old (S.left source.old)) (ahead self.new (S.left source.new)) line.new.items) }
+        ensures end { result ≡ Ok false → (self.new ≡ record { pending = []; ended = true }) × (line.new.items ≡ []) }
+
+        // After a fault nothing is pending, and what was read of the line was the front of what was ahead.
+        ensures failed { result ≡ Err ReadFault.Failed → (self.new ≡ record { pending = []; ended = false }) × TakesOff line.new.items (ahead self.old (S.left source.old)) (ahead self.new (S.left source.new)) }
+        ensures caused { result ≡ Err ReadFault.Failed → HasRisen (S.faults source.old) (S.faults source.new) }
+        ensures memory { result ≡ Err ReadFault.Memory → (self.new ≡ self.old) × (source.new ≡ source.old) × (line.new.items ≡ []) }
+
+        // At each result.
+        ensures short { vec_len line.new ≤ LONGEST + 1 }
+        ensures feedless { All (λ byte. byte ≢ 10) line.new.items }
+        ensures counted { S.faults source.old ≤ S.faults source.new }
+        ensures telling { is_some (S.left source.new) ≡ is_some (S.left source.old) }
+        ensures after_end { self.old.ended ≡ true → source.new ≡ source.old }
+        ensures sees { SawTheEnd self.old (S.left source.old) → SawTheEnd self.new (S.left source.new) }
+    {
+        line.clear();
+        line.reserve(LONGEST + 1)?;
+        while line.len() <= LONGEST {
+            match self.take_byte(source)? {
+                Some(b'\n') => return Ok(true),
+                Some(byte) => line.push_reserved(byte),
+                None => return Ok(!line.is_empty()),
+            }
+        }
+        Ok(true)
+    }
+
+    /// Reads once.
+    fn fill<S: Source>(&mut self, source: &mut S) -> Result<(), Failed>
+        requires { self.old ≡ record { pending = []; ended = false } }
+        ensures ok { OnOk result (TakesOff [] (ahead self.old (S.left source.old)) (ahead self.new (S.left source.new))) }
+        ensures empty { OnOk result (self.new.pending ≡ [] → self.new.ended ≡ true) }
+        ensures sees { OnOk result (SawTheEnd self.new (S.left source.new)) }
+        ensures err { OnErr result (self.new ≡ self.old) }
+        ensures failed { OnErr result (S.left source.new ≡ S.left source.old) }
+        ensures counted { S.faults source.old ≤ S.faults source.new }
+        ensures caused { OnErr result (HasRisen (S.faults source.old) (S.faults source.new)) }
+    {
+        self.start = 0;
+        self.end = 0;
+        let n = source.read(&mut self.buffer)?;
+        self.end = n;
+        self.ended = n == 0;
+        Ok(())
+    }
+
+    /// Whether nothing is pending.
+    fn is_empty(&self) -> bool
+        ensures { IsTrue result ↔ (self.now.pending ≡ []) }
+    {
+        self.start == self.end
+    }
+
+    /// Reads once where nothing is pending, unless the end was seen.
+    fn make_ready<S: Source>(&mut self, source: &mut S) -> Result<(), Failed>
+        ensures same { TakesOff [] (ahead self.old (S.left source.old)) (ahead self.new (S.left source.new)) }
+        ensures ok { OnOk result (self.new.pending ≡ [] → self.new.ended ≡ true) }
+        ensures err { OnErr result (self.new ≡ record { pending = []; ended = false }) }
+        ensures counted { S.faults source.old ≤ S.faults source.new }
+        ensures caused { OnErr result (HasRisen (S.faults source.old) (S.faults source.new)) }
+        ensures after_end { self.old.ended ≡ true → (source.new ≡ source.old) × (self.new.ended ≡ true) }
+        ensures sees { SawTheEnd self.old (S.left source.old) → SawTheEnd self.new (S.left source.new) }
+    {
+        if self.ended || !self.is_empty() {
+            return Ok(());
+        }
+        self.fill(source)
+    }
+
+    /// Takes the first pending byte, if there is one.
+    fn pop(&mut self) -> Option<u8>
+        ensures byte { MatchOption result (self.old.pending ≡ []) (λ byte. self.old.pending ≡ byte ∷ self.new.pending) }
+        ensures none { IfNone result (self.new ≡ self.old) }
+        ensures ended { self.new.ended ≡ self.old.ended }
+    {
+        if self.start == self.end {
+            return None;
+        }
+        let byte = self.buffer[self.start];
+        self.start += 1;
+        Some(byte)
+    }
+
+    /// The next byte, if there is one.
+    fn take_byte<S: Source>(&mut self, source: &mut S) -> Result<Option<u8>, Failed>
+        ensures byte { IfOk result (λ byte. TakesOff (option_to_list byte) (ahead self.old (S.left source.old)) (ahead self.new (S.left source.new))) }
+        ensures none { result ≡ Ok None → self.new ≡ record { pending = []; ended = true } }
+        ensures same { OnErr result (TakesOff [] (ahead self.old (S.left source.old)) (ahead self.new (S.left source.new))) }
+        ensures err { OnErr result (self.new ≡ record { pending = []; ended = false }) }
+        ensures counted { S.faults source.old ≤ S.faults source.new }
+        ensures caused { OnErr result (HasRisen (S.faults source.old) (S.faults source.new)) }
+        ensures after_end { self.old.ended ≡ true → (source.new ≡ source.old) × (self.new.ended ≡ true) }
+        ensures sees { SawTheEnd self.old (S.left source.old) → SawTheEnd self.new (S.left source.new) }
+    {
+        self.make_ready(source)?;
+        Ok(self.pop())
+    }
+}
+
+#[cfg(test)]
+mod tests {
+    use super::*;
+    use dsql_driver::SliceSource;
+    use std::test::Fail;
+
+    /// What a reader hands out up to the end or a fault, with a bar behind each line.
+    fn lines_of<S: Source>(
+        reader: &mut LineReader,
+        source: &mut S,
+        alloc: Global,
+    ) -> Result<(Vec<u8>, bool), Fail> {
+        let mut lines = Vec::new(alloc);
+        let mut line = Vec::new(alloc);
+        for _ in 0..9 {
+            match reader.next_line(source, &mut line) {
+                Ok(true) => {
+                    lines.extend_from_slice(&line)?;
+                    lines.push(b'|')?;
+                }
+                Ok(false) => return Ok((lines, true)),
+                Err(ReadFault::Failed) => return Ok((lines, false)),
+                Err(fault) => return Err(fault)?,
+            }
+        }
+        Err("no end")?
+    }
+
+    #[test]
+    fn lines_are_the_same_wherever_the_source_cuts_them(rt: HostRuntime) -> Result<(), Fail> {
+        let scripts = [
+            ("", ""),
+            ("\n", "|"),
+            ("\n\n", "||"),
+            ("ab", "ab|"),
+            ("ab\nc\n", "ab|c|"),
+            ("ab\n\n\r\nc", "ab||\r|c|"),
+        ];
+        for (script, want) in scripts {
+            for piece in 1..=10 {
+                let mut source = SliceSource::new(script.as_bytes(), piece, &[]);
+                let mut reader = LineReader::new(rt.alloc())?;
+                let (lines, ended) = lines_of(&mut reader, &mut source, rt.alloc())?;
+                assert_eq!(rt; lines.as_slice(), want.as_bytes(), "{script:?} by {piece}");
+                assert!(rt; ended, "{script:?} by {piece}");
+                let mut more = SliceSource::new(b"more", piece, &[]);
+                let (lines, ended) = lines_of(&mut reader, &mut more, rt.alloc())?;
+                assert_eq!(rt; lines.as_slice(), b"".as_slice());
+                assert!(rt; ended);
+            }
+        }
+        Ok(())
+    }
+
+    #[test]
+    fn a_failed_read_drops_the_unfinished_line_alone(rt: HostRuntime) -> Result<(), Fail> {
+        let faults = [
+            (1, "", "ab|c|d|"),
+            (2, "", "b|c|d|"),
+            (3, "", "|c|d|"),
+            (4, "ab|", "c|d|"),
+            (5, "ab|", "|d|"),
+            (6, "ab|c|", "d|"),
+            (7, "ab|c|", ""),
+        ];
+        for (k, before, after) in faults {
+            let failing = [k];
+            let mut source = SliceSource::new(b"ab\nc\nd", 1, &failing);
+            let mut reader = LineReader::new(rt.alloc())?;
+            let (lines, ended) = lines_of(&mut reader, &mut source, rt.alloc())?;
+            assert_eq!(rt; lines.as_slice(), before.as_bytes(), "read {k} fails");
+            assert!(rt; !ended, "read {k} fails");
+            let (lines, ended) = lines_of(&mut reader, &mut source, rt.alloc())?;
+            assert_eq!(rt; lines.as_slice(), after.as_bytes(), "after read {k}");
+            assert!(rt; ended, "after read {k}");
+        }
+        Ok(())
+    }
+
+    #[test]
+    fn a_line_that_is_too_long_is_cut(rt: HostRuntime) -> Result<(), Fail> {
+        for (len, want, next) in [(4095, 4095, 1), (4096, 4096, 1), (4097, 4097, 0), (5000, 4097, 903)] {
+            let mut script = vec![in rt.alloc(); b'x'; len]?;
+            script.extend_from_slice(b"\ny")?;
+            let mut source = SliceSource::new(&script, 1000, &[]);
+            let mut reader = LineReader::new(rt.alloc())?;
+            let mut line = Vec::new(rt.alloc());
+            assert_eq!(rt; reader.next_line(&mut source, &mut line), Ok(true));
+            assert_eq!(rt; line.len(), want, "of {len} bytes");
+            assert_eq!(rt; reader.next_line(&mut source, &mut line), Ok(true));
+            assert_eq!(rt; line.len(), next, "behind {len} bytes");
+        }
+        Ok(())
+    }
+}

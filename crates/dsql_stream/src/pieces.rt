@@ -1,0 +1,69 @@
+ghost use Rattle.std.specs.Prelude.{◌≡◌, ◌<◌, ◌≤◌, ◌++◌, [], OnOk, IfErr, length, take, option_map};
+ghost use Rattle.dsql_driver.specs.Streams.{HasRisen};
+
+use dsql_driver::{Failed, Sink};
+use thiserror::Error;
+
+/// The sink failed in the middle of a piece.
+#[derive(Clone, Copy, Debug, PartialEq, Eq, Error)]
+#[error("the write failed behind {written} bytes")]
+pub struct Cut {
+    /// How many bytes of the piece were written.
+    pub written: usize,
+}
+
+/// Writes the whole piece, in as many writes as the sink needs. Of an empty piece nothing is written.
+pub fn write_whole<K: Sink>(sink: &mut K, piece: &[u8]) -> Result<(), Cut>
+    ensures ok { OnOk result (K.written sink.new ≡ option_map (λ w. w ++ piece.now) (K.written sink.old)) }
+    ensures empty { piece.now ≡ [] → (result ≡ Ok tt) × (sink.new ≡ sink.old) }
+
+    // What was written before a fault stays.
+    ensures cut { IfErr result (λ cut. cut.written < length piece.now) }
+    ensures front { IfErr result (λ cut. K.written sink.new ≡ option_map (λ w. w ++ take cut.written piece.now) (K.written sink.old)) }
+    ensures caused { IfErr result (λ _. HasRisen (K.faults sink.old) (K.faults sink.new)) }
+
+    ensures counted { K.faults sink.old ≤ K.faults sink.new }
+{
+    let mut written = 0;
+    while written < piece.len() {
+        match sink.write(&piece[written..]) {
+            Ok(n) => written += n,
+            Err(Failed) => return Err(Cut { written }),
+        }
+    }
+    Ok(())
+}
+
+#[cfg(test)]
+mod tests {
+    use super::*;
+    use dsql_driver::VecSink;
+    use std::test::Fail;
+
+    #[test]
+    fn a_piece_is_written_up_to_the_write_that_fails(rt: HostRuntime) -> Result<(), Fail> {
+        let faults = [
+            (1, Err(Cut { written: 0 }), ""),
+            (2, Err(Cut { written: 1 }), "a"),
+            (3, Err(Cut { written: 2 }), "ab"),
+            (4, Ok(()), "abc"),
+        ];
+        for (k, want, bytes) in faults {
+            let mut sink = VecSink::new(rt.alloc(), 1, vec![in rt.alloc(); k]?);
+            assert_eq!(rt; write_whole(&mut sink, b""), Ok(()));
+            assert_eq!(rt; write_whole(&mut sink, b"abc"), want, "write {k} fails");
+            assert_eq!(rt; sink.bytes(), bytes.as_bytes(), "write {k} fails");
+        }
+        Ok(())
+    }
+
+    #[test]
+    fn pieces_follow_one_another(rt: HostRuntime) {
+        for most in 1..=4 {
+            let mut sink = VecSink::new(rt.alloc(), most, Vec::new(rt.alloc()));
+            assert_eq!(rt; write_whole(&mut sink, b"abc"), Ok(()));
+            assert_eq!(rt; write_whole(&mut sink, b"de"), Ok(()));
+            assert_eq!(rt; sink.bytes(), b"abcde".as_slice(), "by {most}");
+        }
+    }
+}
