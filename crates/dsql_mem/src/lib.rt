@@ -4,9 +4,12 @@
 
 mod copies;
 mod number;
+mod roll;
 mod session;
 mod statement;
 mod store;
+mod wire;
 
 pub use session::Session;
 pub use store::Store;
+pub use wire::MemWire;
