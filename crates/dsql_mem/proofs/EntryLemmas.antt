@@ -1,0 +1,29 @@
+-- The entries of a map with texts for its keys, after an insertion.
+use Rattle.std.proofs.Common.{◌≡◌, ℕ, List, [], ◌∷◌, map, ap, refl, ◌∙◌, Bool, cond, Some, String, string_bytes}
+use Rattle.std.specs.BTreeMap.{insert_entry}
+use Rattle.std.specs.Cmp.Lexicographic.{slice_cmp}
+use Rattle.std.specs.Map.{lookup}
+use Rattle.std.specs.Ordering.{nat_cmp, match_ordering}
+use Rattle.std.specs.String.{string_cmp}
+use Rattle.std.specs.declared.cmp.Ordering.{Ordering}
+use Rattle.std.specs.declared.cmp.Ordering.TheVariants.{Less, Equal, Greater}
+
+-- an entry, its key read as bytes
+abbrev pub entry_of : {Y X : Type 0} → String Y × X → List ℕ × X
+entry_of e = (string_bytes e.0, e.1)
+
+map-match_ordering : {A B : Type 0} (f : A → B) (o : Ordering) (xs ys zs : List A) → map f (match_ordering o xs ys zs) ≡ match_ordering o (map f xs) (map f ys) (map f zs)
+map-match_ordering f Less xs ys zs = refl
+map-match_ordering f Equal xs ys zs = refl
+map-match_ordering f Greater xs ys zs = refl
+
+pub map-insert_entry : {Y X : Type 0} (key : String Y) (value : X) (es : List (String Y × X)) → map entry_of (insert_entry string_cmp es key value) ≡ insert_entry (slice_cmp nat_cmp) (map entry_of es) (string_bytes key) value
+map-insert_entry key value [] = refl
+map-insert_entry key value (e ∷ es) =
+    map-match_ordering entry_of (string_cmp key e.0) ((key, value) ∷ e ∷ es) ((e.0, value) ∷ es) (e ∷ insert_entry string_cmp es key value)
+    ∙ ap (λ rest. match_ordering (string_cmp key e.0) ((string_bytes key, value) ∷ entry_of e ∷ map entry_of es) ((string_bytes e.0, value) ∷ map entry_of es) (entry_of e ∷ rest)) (map-insert_entry key value es)
+
+-- what a test finds among the entries, it finds by the keys' bytes
+pub lookup-entry_of : {Y X : Type 0} (test : List ℕ → Bool) (es : List (String Y × X)) → lookup (λ (k : String Y). test (string_bytes k)) es ≡ lookup test (map entry_of es)
+lookup-entry_of test [] = refl
+lookup-entry_of test (e ∷ es) = ap (λ found. cond (test (string_bytes e.0)) (Some e.1) found) (lookup-entry_of test es)

@@ -1,0 +1,26 @@
+-- What a store holds.
+use Rattle.std.specs.Prelude.{ℕ, List, Option}
+use Rattle.std.specs.Option.{option_map_or}
+use Rattle.std.specs.BTreeMap.{insert_entry}
+use Rattle.std.specs.Cmp.Lexicographic.{slice_cmp}
+use Rattle.std.specs.Map.{lookup}
+use Rattle.std.specs.Ordering.{is_eq, nat_cmp}
+use Rattle.dsql_value.specs.declared.value.Value.{Value}
+use Rattle.dsql_value.specs.declared.value.Value.TheVariants.{Int, Text}
+use Rattle.dsql_mem.specs.Number.{number_of}
+
+-- texts with their values, in the byte order of the texts
+abbrev pub Entries : Type 0
+Entries = List (List ℕ × Value)
+
+-- the entries once the key has this value
+abbrev pub with_value : List ℕ → Value → Entries → Entries
+with_value key value entries = insert_entry (slice_cmp nat_cmp) entries key value
+
+-- the value that the key has
+abbrev pub value_at : List ℕ → Entries → Option Value
+value_at key entries = lookup (λ k. is_eq (slice_cmp nat_cmp key k)) entries
+
+-- the value that a word is: the number that it spells, or else its text
+abbrev pub value_of : List ℕ → Value
+value_of word = option_map_or (λ z. Int z) (number_of word) (Text word)

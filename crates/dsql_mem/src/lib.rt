@@ -1,0 +1,15 @@
+//! A database driver in memory, for runs with no database: a store maps texts to values, and each
+//! statement is a few words.
+#![tactic(auto)]
+
+mod copies;
+mod number;
+mod roll;
+mod session;
+mod statement;
+mod store;
+mod wire;
+
+pub use session::Session;
+pub use store::Store;
+pub use wire::MemWire;

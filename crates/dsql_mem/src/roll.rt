@@ -1,0 +1,64 @@
+ghost use Rattle.std.specs.Prelude.{◌≡◌, ◌∷◌, [], ◌++◌, length, min};
+ghost use Rattle.dsql_mem.specs.Roll.{retired_of};
+
+use dsql_driver::{DriverAnswer, DriverCall};
+
+/// A call that a wire heard, with its answer.
+pub(crate) type Told = (DriverCall, DriverAnswer);
+
+/// The wires that were retired, the newest first. Each brings the room for its own entry.
+pub(crate) enum Roll {
+    Empty,
+    Wire {
+        number: u32,
+        heard: Vec<Told>,
+        before: Box<Roll>,
+    },
+}
+
+impl Roll {
+    /// Enters a wire, in the room that it brought.
+    pub(crate) fn enter(self, number: u32, heard: Vec<Told>, room: Box<Roll>) -> Roll
+        ensures { retired_of result ≡ retired_of self ++ (number, heard.items) ∷ [] }
+    {
+        let mut before = room;
+        *before = self;
+        Roll::Wire {
+            number,
+            heard,
+            before,
+        }
+    }
+
+    /// How many wires were entered.
+    pub(crate) fn count(&self) -> usize
+        ensures { result ≡ min (length (retired_of self.now)) usize.MAX }
+    {
+        let mut count: usize = 0;
+        let mut at = self;
+        while let Roll::Wire { before, .. } = at {
+            count = count.saturating_add(1);
+            at = before;
+        }
+        count
+    }
+}
+
+impl Drop for Roll {
+    // A loop, since a long roll would take as many calls as it has wires.
+    fn drop(mut self) {
+        loop {
+            match self {
+                Roll::Empty => return,
+                Roll::Wire {
+                    number: _,
+                    heard,
+                    before,
+                } => {
+                    drop(heard);
+                    self = Box::into_inner(before);
+                }
+            }
+        }
+    }
+}
