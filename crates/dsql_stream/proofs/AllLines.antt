@@ -1,5 +1,5 @@
 -- The lines of bytes, the first at a time.
-use Rattle.std.proofs.Common.{◌≡◌, ◌≢◌, ℕ, ◌+◌, ◌<◌, ◌≤◌, ◌↔◌, false, List, [], ◌∷◌, Option, Some, All, length, take, refl, ap, sym, ◌∙◌, arith, inl, inr, ne_eqb, not}
+use Rattle.std.proofs.Common.{◌≡◌, ◌≢◌, ℕ, ◌+◌, ◌<◌, ◌≤◌, ◌↔◌, false, List, [], ◌∷◌, Option, Some, All, length, refl, ap, ◌∙◌, arith, inl, inr, ne_eqb, not}
 use Rattle.std.specs.List.{position_or_len, slice_split}
 use Rattle.std.proofs.Math.Nat.{eq-or-lt_of_le}
 use Rattle.std.proofs.lemmas.Bool.{cases_lt}
@@ -44,12 +44,14 @@ length-cut unread line after out long =
     ap length (out.cut long).0 ∙ length-take-le 4097 unread (omega (arith, long, first_line_shorter unread))
 
 pub cut_where_long : (unread line : List ℕ) (after : Option (List ℕ)) → HandsOutLine unread after line → (4096 < length line) ↔ (4096 < length (first_line unread))
-cut_where_long unread line after out =
-    (λ long. elim (cases_lt 4096 (length (first_line unread))) [ inl first ↦ first | inr short ↦ absurd (omega (arith, long, short, ap length (out.whole short).0)) ]
-        , λ long. omega (arith, length-cut unread line after out long))
+cut_where_long unread line after out = (
+  λ long. elim (cases_lt 4096 (length (first_line unread))) [ inl first ↦ first | inr short ↦ absurd (omega (arith, long, short, ap length (out.whole short).0)) ],
+  λ long. omega (arith, length-cut unread line after out long),
+)
 
 pub uncut_first : (unread rest line : List ℕ) → HandsOutLine unread (Some rest) line → length line ≤ 4096 → all_lines unread ≡ line ∷ all_lines rest
 uncut_first unread rest line out short =
     elim (cases_lt 4096 (length (first_line unread))) [
-        inl long ↦ absurd (omega (arith, short, length-cut unread line (Some rest) out long))
-        | inr first ↦ let rest_is : rest ≡ after_line unread = same_Some _ _ (out.whole first).1 in rw ((out.whole first).0, rest_is) (all_lines-first unread out.there) ]
+      | inl long ↦ absurd (omega (arith, short, length-cut unread line (Some rest) out long))
+      | inr first ↦ let rest_is : rest ≡ after_line unread = same_Some _ _ (out.whole first).1 in rw ((out.whole first).0, rest_is) (all_lines-first unread out.there)
+    ]

@@ -1,5 +1,5 @@
 -- The first line of bytes whose front has no line feed.
-use Rattle.std.proofs.Common.{◌≡◌, ◌≢◌, ℕ, ◌+◌, ◌≤◌, List, [], ◌∷◌, ◌++◌, All, length, refl, ap, sym, ◌∙◌, arith, length-append, append_assoc, ne_eqb, eq-eqb, add-zero}
+use Rattle.std.proofs.Common.{◌≡◌, ◌≢◌, ℕ, ◌+◌, ◌≤◌, List, [], ◌∷◌, ◌++◌, All, length, refl, ◌∙◌, arith, length-append, append_assoc, ne_eqb, eq-eqb, add-zero}
 use Rattle.std.proofs.lemmas.List.{length-take-le, take_at, take_all, drop_at, drop_all}
 use Rattle.std.proofs.lemmas.List.Sums.{position_or_len_is, prefix_len-le-length}
 use Rattle.std.proofs.lemmas.List.Folds.{prefix_len-append}

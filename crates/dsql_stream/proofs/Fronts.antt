@@ -1,5 +1,5 @@
 -- What is written of a piece, one write on.
-use Rattle.std.proofs.Common.{◌≡◌, ℕ, ◌+◌, ◌-◌, ◌≤◌, List, ◌++◌, Option, Some, None, option_map, length, take, drop, ap, sym, ◌∙◌, append_assoc, length-take-le, refl}
+use Rattle.std.proofs.Common.{◌≡◌, ℕ, ◌+◌, ◌-◌, ◌≤◌, List, ◌++◌, Option, Some, None, option_map, length, take, drop, ◌∙◌, append_assoc, length-take-le, refl}
 use Rattle.std.proofs.lemmas.List.{take-append-drop, take_rest}
 use Rattle.std.proofs.Math.Seq.{take-append-add}
 

@@ -1,8 +1,8 @@
 -- What was taken off the front of the bytes ahead is a line, at each end of the reading.
-use Rattle.std.proofs.Common.{◌≡◌, ◌≢◌, ℕ, ◌+◌, ◌<◌, ◌≤◌, ◌==◌, Bool, true, false, not, List, [], ◌∷◌, ◌++◌, Option, Some, None, length, take, drop, refl, ap, sym, ◌∙◌, arith, length-append, append-nil, ne_eqb}
+use Rattle.std.proofs.Common.{◌≡◌, ◌≢◌, ℕ, ◌≤◌, ◌==◌, true, not, List, [], ◌∷◌, ◌++◌, Option, Some, None, length, refl, ap, sym, ◌∙◌, arith, length-append, append-nil, ne_eqb}
 use Rattle.std.proofs.lemmas.List.{take_at, drop_at}
 use Rattle.dsql_stream.specs.Buffered.{Buffered}
-use Rattle.dsql_stream.specs.Lines.{ahead, first_line, after_line, TakesOff, HandsOut, HandsOutLine}
+use Rattle.dsql_stream.specs.Lines.{ahead, TakesOff, HandsOut, HandsOutLine}
 use Rattle.dsql_stream.proofs.FirstLines.{Feedless, first_line-feed, after_line-feed, first_line-feedless, after_line-feedless, first_line_longer}
 
 -- a line that a line feed ended
@@ -12,17 +12,17 @@ hands_out_ended line before mid None feedless short front feed = let none : befo
 hands_out_ended line before mid (Some rest) feedless short front feed =
     let bytes : before ≡ Some (line ++ 10 ∷ rest) = cc in
     rw bytes (record {
-        there = λ none. absurd (omega (arith, ap length none, length-append line (10 ∷ rest)));
-        whole = λ _. (sym (first_line-feed line rest feedless), ap Some (sym (after_line-feed line rest feedless)));
-        cut = λ long. absurd (omega (arith, long, ap length (first_line-feed line rest feedless)));
+      there = λ none. absurd (omega (arith, ap length none, length-append line (10 ∷ rest)));
+      whole = λ _. (sym (first_line-feed line rest feedless), ap Some (sym (after_line-feed line rest feedless)));
+      cut = λ long. absurd (omega (arith, long, ap length (first_line-feed line rest feedless)));
     })
 
 -- a line of all bytes that were left
 last_line : (line : List ℕ) → Feedless line → length line ≤ 4096 → line ≢ [] → HandsOutLine line (Some []) line
 last_line line feedless short there = record {
-    there = there;
-    whole = λ _. (sym (first_line-feedless line feedless), ap Some (sym (after_line-feedless line feedless)));
-    cut = λ long. absurd (omega (arith, long, ap length (first_line-feedless line feedless)));
+  there = there;
+  whole = λ _. (sym (first_line-feedless line feedless), ap Some (sym (after_line-feedless line feedless)));
+  cut = λ long. absurd (omega (arith, long, ap length (first_line-feedless line feedless)));
 }
 
 at_end : (line : List ℕ) → Feedless line → length line ≤ 4096 → HandsOut (not (length line == 0)) (Some line) (Some []) line
@@ -47,7 +47,7 @@ hands_out_cut line before None feedless long front = let none : before ≡ None 
 hands_out_cut line before (Some rest) feedless long front =
     let bytes : before ≡ Some (line ++ rest) = front in
     rw bytes (record {
-        there = λ none. absurd (omega (arith, ap length none, length-append line rest));
-        whole = λ short. absurd (omega (arith, short, first_line_longer line rest feedless));
-        cut = λ _. (sym (take_at line rest 4097 long), ap Some (sym (drop_at line rest 4097 long)));
+      there = λ none. absurd (omega (arith, ap length none, length-append line rest));
+      whole = λ short. absurd (omega (arith, short, first_line_longer line rest feedless));
+      cut = λ _. (sym (take_at line rest 4097 long), ap Some (sym (drop_at line rest 4097 long)));
     })

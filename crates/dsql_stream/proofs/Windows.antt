@@ -1,6 +1,6 @@
 -- The items of a list from one place to another, as a reader's pending bytes stand in its buffer.
-use Rattle.std.proofs.Common.{◌≡◌, ℕ, ◌<◌, ◌≤◌, List, [], ◌∷◌, length, get_or, take, drop, ap, arith, length-drop, length-take-le, rules}
-use Rattle.std.proofs.lemmas.List.{drop_all, drop_more, get_or-take}
+use Rattle.std.proofs.Common.{◌≡◌, ℕ, ◌≤◌, List, [], length, take, drop, ap, arith, length-drop, length-take-le}
+use Rattle.std.proofs.lemmas.List.{drop_all}
 
 -- no item stands between a place and itself
 pub window_nil : (start end : ℕ) (items : List ℕ) → start ≡ end → end ≤ length items → drop start (take end items) ≡ []

@@ -204,7 +204,8 @@ mod tests {
         }
 
         fn flush(&mut self) -> io::Result<()> {
-            self.through.set(self.through.get().saturating_add(self.waiting));
+            self.through
+                .set(self.through.get().saturating_add(self.waiting));
             Ok(())
         }
     }

@@ -27,6 +27,7 @@ pub enum ReadFault {
 
 impl From<Failed> for ReadFault {
     ghost use Rattle.dsql_stream.specs.declared.lines.ReadFault.TheVariants.{Failed as TheFailed};
+
     ghost from_gives = { λ _ fault. fault ≡ TheFailed };
 
     fn from(_failed: Failed) -> ReadFault {
@@ -36,6 +37,7 @@ impl From<Failed> for ReadFault {
 
 impl From<AllocError> for ReadFault {
     ghost use Rattle.dsql_stream.specs.declared.lines.ReadFault.TheVariants.{Memory as WantOfMemory};
+
     ghost from_gives = { λ _ fault. fault ≡ WantOfMemory };
 
     fn from(_e: AllocError) -> ReadFault {
@@ -85,7 +87,11 @@ impl LineReader {
     /// A line of more than `LONGEST` bytes is cut behind its first `LONGEST + 1`. After a fault what was
     /// read of the line is in `line`, and is dropped. Want of memory comes before anything is read. Once
     /// the end was seen the source is read no more.
-    pub fn next_line<S: Source>(&mut self, source: &mut S, line: &mut Vec<u8>) -> Result<bool, ReadFault>
+    pub fn next_line<S: Source>(
+        &mut self,
+        source: &mut S,
+        line: &mut Vec<u8>,
+    ) -> Result<bool, ReadFault>
         ensures handed_out { IfOk result (λ there. HandsOut there (ahead self.old (S.left source.old)) (ahead self.new (S.left source.new)) line.new.items) }
         ensures end { result ≡ Ok false → (self.new ≡ record { pending = []; ended = true }) × (line.new.items ≡ []) }
 
@@ -267,7 +273,12 @@ mod tests {
 
     #[test]
     fn a_line_that_is_too_long_is_cut(rt: HostRuntime) -> Result<(), Fail> {
-        for (len, want, next) in [(4095, 4095, 1), (4096, 4096, 1), (4097, 4097, 0), (5000, 4097, 903)] {
+        for (len, want, next) in [
+            (4095, 4095, 1),
+            (4096, 4096, 1),
+            (4097, 4097, 0),
+            (5000, 4097, 903),
+        ] {
             let mut script = vec![in rt.alloc(); b'x'; len]?;
             script.extend_from_slice(b"\ny")?;
             let mut source = SliceSource::new(&script, 1000, &[]);

@@ -1,4 +1,4 @@
-use Rattle.std.proofs.Common.{◌≡◌, [], ap, sym, ◌∙◌, drop, take, eq-eqb, eqb-true}
+use Rattle.std.proofs.Common.{◌≡◌, ap, sym, ◌∙◌, drop, take, eq-eqb, eqb-true}
 use Rattle.dsql_stream.specs.Buffered.{Buffered}
 use Rattle.dsql_stream.proofs.Windows.{window_nil, window_ends}
 use Rattle.dsql_stream.proofs.lines.LineReader.is_empty.Goals as goal
