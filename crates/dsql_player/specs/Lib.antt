@@ -1,0 +1,4 @@
+pub mod Told
+pub mod Entered
+pub mod Turns
+pub mod WiresFit
