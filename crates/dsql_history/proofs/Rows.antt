@@ -1,0 +1,74 @@
+-- On rows and lists of numbers: what stands at a place after a write, and what is in a list after an edit.
+use Rattle.std.proofs.Common.{◌≡◌, ◌≢◌, ℕ, zero, suc, ◌<◌, ◌≤◌, ◌+◌, Bool, true, false, not, ◌&&◌, ◌||◌, ◌==◌, List, [], ◌∷◌, ◌++◌, length, get_or, set, refl, arith, ◌⊎◌, inl, inr}
+use Rattle.std.proofs.lemmas.Grind.{common_steps}
+use Rattle.std.proofs.lemmas.Bool.Decides.{nat_tests}
+use Rattle.dsql_tenure.specs.Readers.{has}
+use Rattle.dsql_history.specs.Readers.Lists.{without}
+
+pub both : (a b : Bool) → (a && b) ≡ true → (a ≡ true) × (b ≡ true)
+both true b h = (refl, h)
+both false b h = absurd cc
+
+pub not_true : (b : Bool) → not b ≡ true → b ≡ false
+not_true true h = absurd cc
+not_true false h = refl
+
+pub same_number : (n m : ℕ) → (n == m) ≡ true → n ≡ m
+same_number n m h = grind (arith, nat_tests)
+
+pub same_to_itself : (n : ℕ) → (n == n) ≡ true
+same_to_itself n = grind (arith, nat_tests)
+
+pub other_number : (n m : ℕ) → n ≢ m → (n == m) ≡ false
+other_number n m h = grind (arith, nat_tests)
+
+pub same_or_not : (n m : ℕ) → (n ≡ m) ⊎ (n ≢ m)
+same_or_not n m = grind (arith, nat_tests)
+
+-- no number stands in the list twice
+abbrev pub is_once : List ℕ → Bool
+is_once [] = true
+is_once (n ∷ ns) = not (has n ns) && is_once ns
+
+pub has-without : (x y : ℕ) (xs : List ℕ) → has x (without y xs) ≡ (not (x == y) && has x xs)
+has-without x y [] = grind (arith, nat_tests)
+has-without x y (z ∷ xs) = grind (arith, nat_tests, has-without x y xs)
+
+pub has_push : (x y : ℕ) (xs : List ℕ) → has x (xs ++ y ∷ []) ≡ (has x xs || (y == x))
+has_push x y [] = grind (arith, nat_tests)
+has_push x y (z ∷ xs) = grind (arith, nat_tests, has_push x y xs)
+
+-- what stands at j after a write at i
+pub read_set : {A : Type 0} (xs : List A) (i : ℕ) (a : A) (j : ℕ) (d : A) → ((j ≡ i) × (i < length xs) × (get_or (set xs i a) j d ≡ a)) ⊎ ((j ≡ i → length xs ≤ i) × (get_or (set xs i a) j d ≡ get_or xs j d))
+read_set [] i a j d = inr (λ e. omega arith, refl)
+read_set (x ∷ xs) zero a zero d = inl (refl, omega arith, refl)
+read_set (x ∷ xs) zero a (suc j) d = inr (λ e. absurd (omega arith), refl)
+read_set (x ∷ xs) (suc i) a zero d = inr (λ e. absurd (omega arith), refl)
+read_set (x ∷ xs) (suc i) a (suc j) d = grind (arith, read_set xs i a j d)
+
+pub read_push : {A : Type 0} (xs : List A) (a : A) (j : ℕ) (d : A) → ((j ≡ length xs) × (get_or (xs ++ a ∷ []) j d ≡ a)) ⊎ ((j ≢ length xs) × (get_or (xs ++ a ∷ []) j d ≡ get_or xs j d))
+read_push [] a zero d = inl (refl, refl)
+read_push [] a (suc j) d = inr (λ e. absurd (omega arith), refl)
+read_push (x ∷ xs) a zero d = inr (λ e. absurd (omega arith), refl)
+read_push (x ∷ xs) a (suc j) d = grind (arith, read_push xs a j d)
+
+-- a row beyond the end is the one that stands for none
+pub within_rows : {A : Type 0} (xs : List A) (i : ℕ) (d : A) → (i < length xs) ⊎ ((length xs ≤ i) × (get_or xs i d ≡ d))
+within_rows [] i d = inr (omega arith, refl)
+within_rows (x ∷ xs) zero d = inl (omega arith)
+within_rows (x ∷ xs) (suc i) d = grind (arith, within_rows xs i d)
+
+pub once-without : (y : ℕ) (xs : List ℕ) → is_once xs ≡ true → is_once (without y xs) ≡ true
+once-without y [] h = refl
+once-without y (x ∷ xs) h = grind (arith, nat_tests, once-without y xs, has-without x y xs)
+
+pub once_push : (y : ℕ) (xs : List ℕ) → is_once xs ≡ true → has y xs ≡ false → is_once (xs ++ y ∷ []) ≡ true
+once_push y [] h n = refl
+once_push y (x ∷ xs) h n = grind (arith, nat_tests, once_push y xs, has_push x y xs)
+
+pub length-without : (y : ℕ) (xs : List ℕ) → length (without y xs) ≤ length xs
+length-without y [] = omega arith
+length-without y (x ∷ xs) = grind (arith, nat_tests, common_steps, length-without y xs)
+
+pub length_push : {A : Type 0} (xs : List A) (y : A) → length (xs ++ y ∷ []) ≡ length xs + 1
+length_push xs y = grind (arith, common_steps)

@@ -1,0 +1,168 @@
+-- What was heard of a connection, by where it stands: facts of one connection alone.
+use Rattle.std.proofs.Common.{◌≡◌, ◌≢◌, ℕ, ◌<◌, ◌≤◌, ◌+◌, ◌==◌, ◌⊎◌, inl, inr, Bool, true, false, not, ◌&&◌, ◌||◌, cond, List, [], ◌∷◌, Option, Some, None, refl, sym, ap, ◌∙◌, subst, is_some}
+use native.Mathlib.Omega.{arith}
+use Rattle.std.proofs.lemmas.Bool.Decides.{nat_tests}
+use Rattle.dsql_driver.specs.Fits.{fits_of, is_memory, is_done, is_failure}
+use Rattle.dsql_driver.specs.declared.caps.Caps.{Caps}
+use Rattle.dsql_driver.specs.declared.call.DriverCall.{DriverCall}
+use Rattle.dsql_driver.specs.declared.call.DriverCall.TheVariants.{Connect, Reset, Valid, Exec, Shut}
+use Rattle.dsql_driver.specs.declared.answer.DriverAnswer.{DriverAnswer}
+use Rattle.dsql_driver.specs.declared.answer.DriverAnswer.TheVariants.{Done}
+use Rattle.dsql_tenure.specs.declared.entry.Entry.{Entry}
+use Rattle.dsql_tenure.specs.declared.entry.Owner.{Owner}
+use Rattle.dsql_tenure.specs.declared.entry.Owner.TheVariants.{Call, Tx, Pin, House}
+use Rattle.dsql_tenure.specs.Kinds.{◌⇒◌, is_connect, is_shut, is_house, same_owner, is_reset, is_valid}
+use Rattle.dsql_tenure.specs.Readers.{of_tenure, last_tenure, went_bad, went_invalid}
+use Rattle.dsql_tenure.specs.Journal.{may_follow, IsJournalPrefix}
+use Rattle.dsql_tenure.specs.Facts.{MayFollow}
+use Rattle.dsql_tenure.specs.Entries.{call_entry, connect_entry}
+use Rattle.dsql_tenure.specs.ExecJournals.{Plain, Good}
+use Rattle.dsql_tenure.proofs.Sentences.{MayFollow-of}
+use Rattle.dsql_tenure.proofs.ExecJournals.{Plain-connect, Good-connect}
+use Rattle.dsql_history.specs.declared.record.Place.{Place}
+use Rattle.dsql_history.specs.declared.record.Place.TheVariants.{Nowhere, Opening, Idle, Lent, Closing}
+use Rattle.dsql_history.specs.Readers.Journals.{ends_invalid}
+use Rattle.dsql_history.specs.Readers.Sets.{is_opening, is_closing, number_of}
+use Rattle.dsql_history.specs.Rules.Causes.{cause_when, is_kept}
+use Rattle.dsql_history.specs.Rules.Line.{line_after, is_due}
+use Rattle.dsql_history.proofs.Rows.{both, same_number, not_true}
+use Rattle.dsql_history.proofs.Lines.{Serves, serves_first, serves_on, sent_of, is_sent, call_entry_of, entry_with, same_parts}
+
+-- Below l is how often the connection c was lent, u how often to another owner than the House, J its journal, heard whether something
+-- was heard of it just now, and opened whether its Connect was answered Done just now.
+
+-- it is being opened: nothing was heard but its Connect just now
+pub record Opens (c l u : ℕ) (heard opened : Bool) (J : List Entry) : Type 0 where
+  pub unlent : l ≡ 0
+  pub unused : u ≡ 0
+  pub fresh : heard ≡ false → J ≡ []
+  pub done : opened ≡ true → J ≡ connect_entry c Done ∷ []
+
+-- it is idle
+pub record Rests (c l : ℕ) (J : List Entry) : Type 0 where
+  pub plain : Plain c J
+  pub good : Good J
+  pub below : last_tenure J ≤ l + 1
+
+-- it is being closed, and was not shut yet
+pub record Leaves (c l : ℕ) (J : List Entry) : Type 0 where
+  pub plain : Plain c J
+  pub below : last_tenure J ≤ l + 1
+
+-- it is lent to call n in tenure t
+pub record Works (c l t n : ℕ) (J : List Entry) : Type 0 where
+  pub tenure : t ≡ l + 1
+  pub serves : Serves c t n J
+
+abbrev pub Stands : ℕ → ℕ → ℕ → Bool → Bool → List Entry → Place → Type 0
+Stands c l u heard opened J Nowhere = Unit {0}
+Stands c l u heard opened J (Opening n) = Opens c l u heard opened J
+Stands c l u heard opened J Idle = Rests c l J
+Stands c l u heard opened J (Lent t (Call n)) = Works c l t n J
+Stands c l u heard opened J (Lent t o) = ⊥
+Stands c l u heard opened J Closing = heard ≡ false → Leaves c l J
+
+-- where nothing was heard of it just now, and where it was no Connect or Shut that was heard, it stands as before
+pub stands_on : (c l u : ℕ) (heard opened : Bool) (J : List Entry) (p : Place) → Stands c l u heard opened J p → (is_opening p || is_closing p ≡ true → heard ≡ false)
+    → Stands c l u false false J p
+stands_on c l u heard opened J Nowhere s h = s
+stands_on c l u heard opened J (Opening n) s h = record { unlent = s.unlent; unused = s.unused; fresh = λ k. s.fresh (h refl); done = λ k. absurd cc }
+stands_on c l u heard opened J Idle s h = s
+stands_on c l u heard opened J (Lent t (Call n)) s h = s
+stands_on c l u heard opened J (Lent t (Tx n)) s h = s
+stands_on c l u heard opened J (Lent t (Pin n)) s h = s
+stands_on c l u heard opened J (Lent t House) s h = s
+stands_on c l u heard opened J Closing s h = λ k. s (h refl)
+
+-- a connection that is lent out of idle, or as it was opened
+pub works_first : (c l t n : ℕ) (J : List Entry) → IsJournalPrefix J → Rests c l J → t ≡ l + 2 → Works c (l + 1) t n J
+works_first c l t n J beginning s is = record { tenure = omega arith; serves = serves_first c t n J beginning s.plain s.good (omega (arith, s.below)) }
+
+pub rests_opened : (c l u n : ℕ) (heard : Bool) (J : List Entry) → Opens c l u heard true J → Rests c l J
+rests_opened c l u n heard J s =
+    let is : J ≡ connect_entry c Done ∷ [] = s.done refl in
+    record {
+      plain = rw is (Plain-connect c);
+      good = rw is (Good-connect c);
+      below = rw is (omega arith);
+    }
+
+kept_well : (bad invalid closed : Bool) (n : ℕ) → is_kept (cause_when bad invalid closed n) ≡ true → (bad ≡ false) × (invalid ≡ false)
+kept_well true invalid closed n h = absurd cc
+kept_well false true closed n h = absurd cc
+kept_well false false closed n h = (refl, refl)
+
+-- a connection that is given back and kept
+pub rests_again : (c l t n : ℕ) (J : List Entry) (closed : Bool) (idle : ℕ) → Works c l t n J → is_kept (cause_when (went_bad J) (ends_invalid J) closed idle) ≡ true → Rests c l J
+rests_again c l t n J closed idle s kept =
+    let k = kept_well (went_bad J) (ends_invalid J) closed idle kept in
+    let v = s.serves in
+    record { plain = v.plain; good = record { not_bad = k.0; not_invalid = v.tested k.1 }; below = omega (arith, v.rising, s.tenure) }
+
+-- a connection that closes out of idle or lent
+pub leaves_idle : (c l : ℕ) (J : List Entry) → Rests c l J → Leaves c l J
+leaves_idle c l J s = record { plain = s.plain; below = s.below }
+
+pub leaves_lent : (c l t n : ℕ) (J : List Entry) → Works c l t n J → Leaves c l J
+leaves_lent c l t n J s = let v = s.serves in record { plain = v.plain; below = omega (arith, v.rising, s.tenure) }
+
+connect_only : (q : DriverCall) → is_connect q ≡ true → q ≡ Connect
+connect_only Connect h = refl
+connect_only _ h = absurd cc
+
+house_only : (o : Owner) → is_house o ≡ true → o ≡ House
+house_only House h = refl
+house_only (Call n) h = absurd cc
+house_only (Tx n) h = absurd cc
+house_only (Pin n) h = absurd cc
+
+done_only : (a : DriverAnswer) → is_done a ≡ true → a ≡ Done
+done_only Done h = refl
+done_only _ h = absurd cc
+
+house_tx : (e : Entry) → is_house e.owner ⇒ ((e.call_no == 0) && (e.tx == 0)) ≡ true → is_house e.owner ≡ true → e.tx ≡ 0
+house_tx e h k = grind (arith, nat_tests)
+
+whole_parts : (q r : DriverCall) (a b : DriverAnswer) (c : ℕ) → q ≡ r → a ≡ b → entry_with c 1 House 0 0 q a ≡ entry_with c 1 House 0 0 r b
+whole_parts q r a b c call answer = cc
+
+-- the Connect of a connection that is being opened was heard
+pub opens_heard : (c l u : ℕ) (opened : Bool) (J : List Entry) (e : Entry) → Opens c l u false opened J → may_follow J e ≡ true → e.conn ≡ c → is_connect e.call ≡ true
+    → e.tenure ≡ 1 → is_house e.owner ≡ true → e.call_no ≡ 0 → Opens c l u true (is_done e.answer) (e ∷ J)
+opens_heard c l u opened J e s may conn connect tenure owner number =
+    let none : J ≡ [] = s.fresh refl in
+    let m : MayFollow J e = MayFollow-of J e may in
+    let tx : e.tx ≡ 0 = house_tx e m.tenure.house_numbers owner in
+    let is : e ≡ entry_with c 1 House 0 0 e.call e.answer = same_parts e.conn c e.tenure 1 e.call_no 0 e.tx 0 e.owner House e.call e.answer conn tenure (house_only e.owner owner) number tx in
+    record {
+      unlent = s.unlent;
+      unused = s.unused;
+      fresh = λ h. absurd cc;
+      done = λ h.
+      let it : e ≡ connect_entry c Done = is ∙ whole_parts e.call Connect e.answer Done c (connect_only e.call connect) (done_only e.answer h) in
+      rw (none, it) refl;
+    }
+
+call_tx : (q : DriverCall) (x : ℕ) → is_sent q ≡ true → (is_reset q || is_valid q) ⇒ (x == 0) ≡ true → (not (is_reset q || is_valid q) ≡ true → x ≡ 0) → x ≡ 0
+call_tx Reset x sent h k = same_number x 0 h
+call_tx Valid x sent h k = same_number x 0 h
+call_tx _ x sent h k = k refl
+
+-- an exec's next driver call was heard
+pub works_heard : (c l t n : ℕ) (J : List Entry) (e : Entry) (can : Caps) (reset : Bool) (text : List ℕ) → Works c l t n J → may_follow J e ≡ true → e.conn ≡ c
+    → e.tenure ≡ t → e.owner ≡ Call n → e.call_no ≡ n → is_due (line_after can reset text (of_tenure t J)) e.call ≡ true → Works c l t n (e ∷ J)
+works_heard c l t n J e can reset text s may conn tenure owner number due =
+    let m : MayFollow J e = MayFollow-of J e may in
+    let tx : e.tx ≡ 0 =
+        call_tx e.call e.tx (sent_of (line_after can reset text (of_tenure t J)) e.call due) m.tenure.tests
+        (λ body. let b = rw owner at (m.tenure.in_body body) in same_number e.tx 0 b.no_transaction) in
+    let is : e ≡ call_entry c t n e.call e.answer = call_entry_of c t n e conn tenure owner number tx in
+    record { tenure = s.tenure; serves = subst (λ (x : Entry). Serves c t n (x ∷ J)) (sym is) (serves_on c t n J can reset text e.call e.answer s.serves due m.answer.fitting) }
+
+-- what stands where nothing is due any more
+pub good_when : (c t n : ℕ) (J : List Entry) → Serves c t n J → Good J → (went_bad J ≡ false) × (ends_invalid J ≡ false)
+good_when c t n J s good = (good.not_bad, ends_well J good.not_invalid)
+  where
+    ends_well : (L : List Entry) → went_invalid L ≡ false → ends_invalid L ≡ false
+    ends_well [] h = refl
+    ends_well (e ∷ L) h = grind (arith, h)
