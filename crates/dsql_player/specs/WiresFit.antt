@@ -1,12 +1,13 @@
 -- Which connections have a wire, and what each wire has heard.
-use Rattle.std.specs.Prelude.{ℕ, ◌≡◌, Bool, true, List, slice_index_or, Option, Some, None, is_some, IfSome}
-use Rattle.dsql_driver.specs.Wires.{Told, told_after}
+use Rattle.std.specs.Prelude.{ℕ, ◌≡◌, Bool, true, false, List, slice_index_or, Option, Some, None, is_some, IfSome, MatchBool}
+use Rattle.dsql_driver.specs.Wires.{Told, told_after, newly_told}
 use Rattle.dsql_driver.specs.declared.call.DriverCall.{DriverCall}
 use Rattle.dsql_driver.specs.declared.answer.DriverAnswer.{DriverAnswer}
+use Rattle.dsql_driver.specs.declared.answer.DriverAnswer.TheVariants.{Done}
 use Rattle.dsql_tenure.specs.declared.entry.Entry.{Entry}
 use Rattle.dsql_history.specs.declared.event.Event.{Event}
 use Rattle.dsql_history.specs.declared.record.Place.{Place}
-use Rattle.dsql_history.specs.declared.record.Place.TheVariants.{Nowhere, Opening, Idle, Lent, Closing}
+use Rattle.dsql_history.specs.declared.record.Place.TheVariants.{Idle, Lent, Closing}
 use Rattle.dsql_history.specs.Readers.Sets.{place}
 use Rattle.dsql_history.specs.Readers.Journals.{journal}
 use Rattle.dsql_player.specs.Told.{told_of}
@@ -15,28 +16,34 @@ use Rattle.dsql_player.specs.Told.{told_of}
 abbrev pub slot : {W : Type 0} → List (Option W) → ℕ → Option W
 slot slots c = slice_index_or slots c None
 
--- a wire that tells has heard just this journal, and it tells where all do
-pub record HasHeard (telling : Bool) (heard : Option (List Told)) (journal : List Entry) : Type 0 where
-  pub exactly : IfSome heard (λ told. told ≡ told_of journal)
+-- a connection that is idle, lent or closing has a wire
+abbrev pub has_wire : Place → Bool
+has_wire Idle = true
+has_wire (Lent tenure owner) = true
+has_wire Closing = true
+has_wire _ = false
+
+-- a wire that tells has heard just these, and it tells where all do
+pub record HasHeard (telling : Bool) (heard : Option (List Told)) (calls : List Told) : Type 0 where
+  pub exactly : IfSome heard (λ told. told ≡ calls)
   pub tells : telling ≡ true → is_some heard ≡ true
 
--- there is a wire, and it has heard this journal
-abbrev pub HoldsWire : {W : Type 0} → (W → Option (List Told)) → Bool → List Entry → Option W → Type 0
-HoldsWire heard telling journal None = ⊥
-HoldsWire heard telling journal (Some wire) = HasHeard telling (heard wire) journal
-
--- an open connection has its wire, and no other has one
-abbrev pub FitsAt : {W : Type 0} → (W → Option (List Told)) → Bool → Place → List Entry → Option W → Type 0
-FitsAt heard telling Idle journal wire = HoldsWire heard telling journal wire
-FitsAt heard telling (Lent tenure owner) journal wire = HoldsWire heard telling journal wire
-FitsAt heard telling Closing journal wire = HoldsWire heard telling journal wire
-FitsAt heard telling _ journal wire = wire ≡ None
+-- there is a wire, and it has heard just these
+abbrev pub HoldsWire : {W : Type 0} → (W → Option (List Told)) → Bool → List Told → Option W → Type 0
+HoldsWire heard telling calls None = ⊥
+HoldsWire heard telling calls (Some wire) = HasHeard telling (heard wire) calls
 
 -- Each connection that is idle, lent or closing has its wire, which has heard the connection's journal. No other has one.
 abbrev pub WiresFit : {W : Type 0} → (W → Option (List Told)) → Bool → List Event → List (Option W) → Type 0
-WiresFit heard telling past slots = (c : ℕ) → FitsAt heard telling (place past c) (journal past c) (slot slots c)
+WiresFit heard telling past slots =
+    (c : ℕ) → MatchBool (has_wire (place past c)) (HoldsWire heard telling (told_of (journal past c)) (slot slots c)) (slot slots c ≡ None)
 
 -- the wire in a slot hears one more call
 abbrev pub HearsCall : {W : Type 0} → (W → Option (List Told)) → DriverCall → DriverAnswer → Option W → Option W → Type 0
 HearsCall heard call answer (Some before) (Some after) = heard after ≡ told_after call answer (heard before)
 HearsCall heard call answer _ _ = ⊥
+
+-- where the Connect was answered Done there is a new wire, and else none
+abbrev pub OpensWire : {W : Type 0} → (W → Option (List Told)) → Bool → DriverAnswer → Option W → Type 0
+OpensWire heard telling Done wire = HoldsWire heard telling newly_told wire
+OpensWire heard telling _ wire = wire ≡ None
