@@ -35,7 +35,7 @@ pub record CarriesChore (old new : List Event) : Type 0 where
 
 -- the layer's first own call is carried out, where there was one
 abbrev pub CarriesFirst : Bool → List Event → List Event → Type 0
-CarriesFirst true old new = CarriesChore old new × (has_no_chore old ≡ false)
+CarriesFirst true old new = CarriesChore old new × (has_no_chore old ≡ false) × (length old < most_events)
 CarriesFirst false old new = (new ≡ old) × (has_no_chore old ≡ true)
 
 -- the call that is carried out

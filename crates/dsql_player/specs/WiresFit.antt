@@ -33,10 +33,13 @@ abbrev pub HoldsWire : {W : Type 0} → (W → Option (List Told)) → Bool → 
 HoldsWire heard telling calls None = ⊥
 HoldsWire heard telling calls (Some wire) = HasHeard telling (heard wire) calls
 
+-- What the slot of a connection holds: its wire, which has heard the connection's journal, or nothing.
+abbrev pub FitsAt : {W : Type 0} → (W → Option (List Told)) → Bool → Place → List Entry → Option W → Type 0
+FitsAt heard telling place journal wire = MatchBool (has_wire place) (HoldsWire heard telling (told_of journal) wire) (wire ≡ None)
+
 -- Each connection that is idle, lent or closing has its wire, which has heard the connection's journal. No other has one.
 abbrev pub WiresFit : {W : Type 0} → (W → Option (List Told)) → Bool → List Event → List (Option W) → Type 0
-WiresFit heard telling past slots =
-    (c : ℕ) → MatchBool (has_wire (place past c)) (HoldsWire heard telling (told_of (journal past c)) (slot slots c)) (slot slots c ≡ None)
+WiresFit heard telling past slots = (c : ℕ) → FitsAt heard telling (place past c) (journal past c) (slot slots c)
 
 -- the wire in a slot hears one more call
 abbrev pub HearsCall : {W : Type 0} → (W → Option (List Told)) → DriverCall → DriverAnswer → Option W → Option W → Type 0

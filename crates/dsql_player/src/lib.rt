@@ -2,9 +2,10 @@
 #![tactic(auto)]
 
 mod asking;
+mod chores;
 mod halt;
 mod wires;
 
-pub use asking::{ask, check_room, hear};
+pub use chores::{carry_chores, carry_first_chore};
 pub use halt::Halt;
 pub use wires::{Wires, retire_all};
