@@ -4,3 +4,6 @@ pub mod Wiring
 pub mod Telling
 pub mod Shutting
 pub mod Opening
+pub mod Sending
+pub mod Waking
+pub mod Places

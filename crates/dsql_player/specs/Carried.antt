@@ -11,7 +11,7 @@ use Rattle.dsql_engine.specs.declared.next.Next.{Next}
 use Rattle.dsql_engine.specs.declared.next.Next.TheVariants.{Send, Blocked, Reply, Quiet}
 use Rattle.dsql_engine.specs.Awaited.{awaited}
 use Rattle.dsql_engine.specs.Groups.{most_events}
-use Rattle.dsql_player.specs.Told.{with_gone}
+use Rattle.dsql_player.specs.Told.{gone_told, with_gone}
 use Rattle.dsql_player.specs.Entered.{entered_calls}
 use Rattle.dsql_player.specs.Turns.{Turns}
 
@@ -74,3 +74,13 @@ waiting _ = 0
 -- how much a run may still do
 abbrev pub work_left : List Event → Next → ℕ
 work_left past next = 2 * (most_events - length past) + waiting next
+
+abbrev pub ComesNearer : List Event → Next → List Event → Next → Type 0
+ComesNearer old before new after = work_left new after < work_left old before
+
+-- one step of the call that is under way
+pub record Steps (old : List Event) (client : ℕ) (before : Next) (new : List Event) (after : Next) : Type 0 where
+  pub on : GoesOn old new
+  pub told : gone_told new ≡ gone_told old
+  pub next : ComesNext new client after
+  pub nearer : ComesNearer old before new after

@@ -50,3 +50,7 @@ HearsCall heard call answer _ _ = ⊥
 abbrev pub OpensWire : {W : Type 0} → (W → Option (List Told)) → Bool → DriverAnswer → Option W → Type 0
 OpensWire heard telling Done wire = HoldsWire heard telling newly_told wire
 OpensWire heard telling _ wire = wire ≡ None
+
+-- wires that fit the old history fit the new one afterwards, whether all tell or not
+abbrev pub KeepsFit : {W : Type 0} → (W → Option (List Told)) → List Event → List Event → List (Option W) → List (Option W) → Type 0
+KeepsFit heard old new before after = (telling : Bool) → WiresFit heard telling old before → WiresFit heard telling new after

@@ -4,8 +4,9 @@
 mod asking;
 mod chores;
 mod halt;
+mod line;
 mod wires;
 
-pub use chores::{carry_chores, carry_first_chore};
+pub use line::carry_call;
 pub use halt::Halt;
 pub use wires::{Wires, retire_all};
