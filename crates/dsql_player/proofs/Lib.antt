@@ -7,3 +7,5 @@ pub mod Opening
 pub mod Sending
 pub mod Waking
 pub mod Places
+pub mod Entering
+pub mod Ending

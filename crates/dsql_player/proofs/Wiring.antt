@@ -16,6 +16,7 @@ use Rattle.dsql_history.specs.Readers.Sets.{place, places}
 use Rattle.dsql_history.specs.Readers.Journals.{journal}
 use Rattle.dsql_history.proofs.Rows.{same_to_itself, other_number, same_or_not}
 use Rattle.dsql_player.specs.Told.{told_of}
+use Rattle.dsql_player.specs.Carried.{KeepsPlaces}
 use Rattle.dsql_player.specs.WiresFit.{slot, has_wire, HasHeard, HoldsWire, FitsAt, WiresFit, HearsCall, KeepsFit}
 
 -- what a wire tells after a call that was heard
@@ -112,3 +113,9 @@ untold_fit heard telling false j w f = f
 -- wires that fit where all tell fit where it is open who tells
 pub untold_fits : {W : Type 0} (heard : W → Option (List Told)) (telling : Bool) (past : List Event) (ws : List (Option W)) → WiresFit heard telling past ws → WiresFit heard false past ws
 untold_fits heard telling past ws fit = λ c. untold_fit heard telling (has_wire (place past c)) (journal past c) (slot ws c) (fit c)
+
+-- wires stay fitting where the same connections have wires and as much was heard of each
+pub same_fits : {W : Type 0} (heard : W → Option (List Told)) (telling : Bool) (past now : List Event) (ws : List (Option W)) → KeepsPlaces past now → WiresFit heard telling past ws
+    → WiresFit heard telling now ws
+same_fits heard telling past now ws k fit =
+    λ c. same_fit heard telling (place past c) (place now c) (journal past c) (journal now c) (slot ws c) (slot ws c) (k.wired c) (k.journals c) refl (fit c)

@@ -1,11 +1,14 @@
 -- What the parts of carrying a line out change, and what stays.
-use Rattle.std.specs.Prelude.{ℕ, ◌≡◌, ◌<◌, ◌==◌, ◌+◌, ◌-◌, ◌*◌, Bool, true, false, List, [], ◌∷◌, length, Option, Some, is_some}
+use Rattle.std.specs.Prelude.{ℕ, ◌≡◌, ◌<◌, ◌==◌, ◌+◌, ◌-◌, ◌*◌, Bool, true, false, List, [], ◌∷◌, ◌++◌, ◌⊎◌, length, Option, Some, is_some}
 use Rattle.dsql_driver.specs.Wires.{RetiredWire}
 use Rattle.dsql_tenure.specs.declared.entry.Permit.{Permit}
 use Rattle.dsql_history.specs.declared.event.Event.{Event}
+use Rattle.dsql_history.specs.declared.event.Op.{Op}
 use Rattle.dsql_history.specs.Readers.Lists.{first}
 use Rattle.dsql_history.specs.Readers.Course.{has_ended}
 use Rattle.dsql_history.specs.Readers.Calls.{call_record, unfinished}
+use Rattle.dsql_history.specs.Readers.Sets.{place}
+use Rattle.dsql_history.specs.Readers.Journals.{journal}
 use Rattle.dsql_history.specs.Rules.House.{has_no_chore}
 use Rattle.dsql_engine.specs.declared.next.Next.{Next}
 use Rattle.dsql_engine.specs.declared.next.Next.TheVariants.{Send, Blocked, Reply, Quiet}
@@ -14,6 +17,7 @@ use Rattle.dsql_engine.specs.Groups.{most_events}
 use Rattle.dsql_player.specs.Told.{gone_told, with_gone}
 use Rattle.dsql_player.specs.Entered.{entered_calls}
 use Rattle.dsql_player.specs.Turns.{Turns}
+use Rattle.dsql_player.specs.WiresFit.{has_wire}
 
 -- the run goes on, and no call is entered
 pub record GoesOn (old new : List Event) : Type 0 where
@@ -84,3 +88,29 @@ pub record Steps (old : List Event) (client : ℕ) (before : Next) (new : List E
   pub told : gone_told new ≡ gone_told old
   pub next : ComesNext new client after
   pub nearer : ComesNearer old before new after
+
+-- the same connections have wires, and as much was heard of each
+pub record KeepsPlaces (old new : List Event) : Type 0 where
+  pub wired : (c : ℕ) → has_wire (place new c) ≡ has_wire (place old c)
+  pub journals : (c : ℕ) → journal new c ≡ journal old c
+  pub told : gone_told new ≡ gone_told old
+
+-- a client's call enters
+pub record Enters (old : List Event) (client : ℕ) (op : Op) (first : Next) (new : List Event) : Type 0 where
+  pub turns : Turns old → Turns new
+  pub entered : entered_calls new ≡ entered_calls old ++ (client, op) ∷ []
+  pub ended : has_ended new ≡ has_ended old
+  pub places : KeepsPlaces old new
+  pub next : ComesNext new client first
+
+-- the run ends
+pub record Ends (old new : List Event) : Type 0 where
+  pub turns : Turns old → Turns new
+  pub entered : entered_calls new ≡ entered_calls old
+  pub ended : has_ended new ≡ true
+  pub places : KeepsPlaces old new
+  pub calls : unfinished new ≡ unfinished old
+
+-- the call has entered, or not
+abbrev pub EntersAtMost : ℕ × Op → List Event → List Event → Type 0
+EntersAtMost call old new = (entered_calls new ≡ entered_calls old) ⊎ (entered_calls new ≡ entered_calls old ++ call ∷ [])

@@ -1,4 +1,4 @@
-ghost use Rattle.std.specs.Prelude.{◌≡◌, ◌<◌, ◌≤◌, ◌++◌, ◌⊎◌, ℕ, [], ◌∷◌, true, false, length, Option, IfOk, IfErr, OnOk, OnErr, IsErrOf, is_some};
+ghost use Rattle.std.specs.Prelude.{◌≡◌, ◌<◌, ◌≤◌, ◌++◌, ℕ, List, [], ◌∷◌, true, false, length, Option, None, IfOk, IfErr, OnOk, OnErr, IsErrOf, is_some};
 ghost use Rattle.dsql_driver.specs.Wires.{RetiredWire};
 ghost use Rattle.dsql_history.specs.Legal.{Legal};
 ghost use Rattle.dsql_history.specs.Readers.Course.{has_ended};
@@ -8,8 +8,8 @@ ghost use Rattle.dsql_engine.specs.Groups.{most_events};
 ghost use Rattle.dsql_player.specs.Told.{with_gone};
 ghost use Rattle.dsql_player.specs.Entered.{entered_calls};
 ghost use Rattle.dsql_player.specs.Turns.{Turns};
-ghost use Rattle.dsql_player.specs.Carried.{GoesOn, Retires, Steps, ComesNext, ComesNearer, is_reply};
-ghost use Rattle.dsql_player.specs.WiresFit.{WiresFit, KeepsFit};
+ghost use Rattle.dsql_player.specs.Carried.{GoesOn, Retires, Steps, Enters, Ends, EntersAtMost, ComesNext, ComesNearer, is_reply};
+ghost use Rattle.dsql_player.specs.WiresFit.{slot, WiresFit, KeepsFit};
 
 use crate::asking::{ask, check_room};
 use crate::chores::{carry_chores, carry_first_chore};
@@ -19,8 +19,86 @@ use dsql_driver::{Fleet, Wire};
 use dsql_engine::{Engine, Next};
 use dsql_history::Op;
 
+/// Carries a client's line out: its call enters, and then again and again the layer's own calls come
+/// first and the client's call after them, until the call has its reply and all is quiet.
+pub fn carry_line<F: Fleet>(engine: &mut Engine, wires: &mut Wires<F::Wire>, fleet: &mut F, client: u8, op: Op) -> Result<(), Halt>
+    requires quiet { is_quiet engine.old ≡ true }
+    requires running { has_ended engine.old ≡ false }
+    requires wires { WiresFit F.Wire.heard (is_some (F.retired fleet.old)) engine.old wires.old }
+
+    ensures quiet { OnOk result (is_quiet engine.new ≡ true) }
+    ensures running { OnOk result (has_ended engine.new ≡ false) }
+    ensures entered { OnOk result (entered_calls engine.new ≡ entered_calls engine.old ++ (client, op) ∷ []) }
+    ensures gone { OnOk result ((r : Option (List RetiredWire)) → F.retired fleet.old ≡ with_gone r engine.old → F.retired fleet.new ≡ with_gone r engine.new) }
+    ensures wires { OnOk result (WiresFit F.Wire.heard (is_some (F.retired fleet.new)) engine.new wires.new) }
+    ensures telling { OnOk result (is_some (F.retired fleet.new) ≡ is_some (F.retired fleet.old)) }
+
+    // A run that has to stop has kept its turns, and its call has entered or not.
+    ensures turns { Turns engine.old → Turns engine.new }
+    ensures stopped { OnErr result (EntersAtMost (client, op) engine.old engine.new) }
+    ensures full { IsErrOf result Halt.Full → most_events ≤ length engine.new }
+
+    ensures ability { F.ability fleet.new ≡ F.ability fleet.old }
+    ensures preferred { F.preferred fleet.new ≡ F.preferred fleet.old }
+    ensures legal { Legal engine.new }
+{
+    let next = enter(engine, client, op)?;
+    carry_call(engine, wires, fleet, client, next)?;
+    carry_chores(engine, wires, fleet)
+}
+
+/// Carries the end of a script out: the run ends, and every connection is shut and its wire retired.
+pub fn carry_end<F: Fleet>(engine: &mut Engine, wires: &mut Wires<F::Wire>, fleet: &mut F) -> Result<(), Halt>
+    requires quiet { is_quiet engine.old ≡ true }
+    requires running { has_ended engine.old ≡ false }
+    requires wires { WiresFit F.Wire.heard (is_some (F.retired fleet.old)) engine.old wires.old }
+
+    ensures quiet { OnOk result (is_quiet engine.new ≡ true) }
+    ensures ended { OnOk result (has_ended engine.new ≡ true) }
+    ensures gone { OnOk result ((r : Option (List RetiredWire)) → F.retired fleet.old ≡ with_gone r engine.old → F.retired fleet.new ≡ with_gone r engine.new) }
+    ensures empty { OnOk result ((c : ℕ) → slot wires.new c ≡ None) }
+    ensures telling { OnOk result (is_some (F.retired fleet.new) ≡ is_some (F.retired fleet.old)) }
+
+    ensures turns { Turns engine.old → Turns engine.new }
+    ensures entered { entered_calls engine.new ≡ entered_calls engine.old }
+    ensures full { IsErrOf result Halt.Full → most_events ≤ length engine.new }
+
+    ensures ability { F.ability fleet.new ≡ F.ability fleet.old }
+    ensures preferred { F.preferred fleet.new ≡ F.preferred fleet.old }
+    ensures legal { Legal engine.new }
+{
+    end(engine)?;
+    carry_chores(engine, wires, fleet)
+}
+
+/// A client's call enters.
+fn enter(engine: &mut Engine, client: u8, op: Op) -> Result<Next, Halt>
+    requires quiet { is_quiet engine.old ≡ true }
+    requires running { has_ended engine.old ≡ false }
+    ensures enters { IfOk result (λ next. Enters engine.old client op next engine.new) }
+    ensures err { OnErr result (engine.new ≡ engine.old) }
+    ensures full { IsErrOf result Halt.Full → most_events ≤ length engine.new }
+    ensures legal { Legal engine.new }
+{
+    check_room(engine)?;
+    Ok(engine.enter(client, op)?)
+}
+
+/// The run ends.
+fn end(engine: &mut Engine) -> Result<(), Halt>
+    requires quiet { is_quiet engine.old ≡ true }
+    requires running { has_ended engine.old ≡ false }
+    ensures ends { OnOk result (Ends engine.old engine.new) }
+    ensures err { OnErr result (engine.new ≡ engine.old) }
+    ensures full { IsErrOf result Halt.Full → most_events ≤ length engine.new }
+    ensures legal { Legal engine.new }
+{
+    check_room(engine)?;
+    Ok(engine.end()?)
+}
+
 /// Carries a call that was entered out, until it has its reply.
-pub fn carry_call<F: Fleet>(engine: &mut Engine, wires: &mut Wires<F::Wire>, fleet: &mut F, client: u8, first: Next) -> Result<(), Halt>
+fn carry_call<F: Fleet>(engine: &mut Engine, wires: &mut Wires<F::Wire>, fleet: &mut F, client: u8, first: Next) -> Result<(), Halt>
     requires legal { Legal engine.old }
     requires next { ComesNext engine.old client first }
     requires wires { WiresFit F.Wire.heard (is_some (F.retired fleet.old)) engine.old wires.old }
