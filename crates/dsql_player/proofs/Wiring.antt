@@ -1,5 +1,5 @@
 -- Wires that fit a history fit the next one too.
-use Rattle.std.proofs.Common.{◌≡◌, ◌≢◌, ◌==◌, ◌⊎◌, inl, inr, ℕ, ◌<◌, ◌≤◌, Bool, true, false, cond, List, [], ◌∷◌, ◌++◌, length, Option, Some, None, refl, sym, ◌∙◌, ap, subst, get_or, set, arith}
+use Rattle.std.proofs.Common.{◌≡◌, ◌≢◌, ◌==◌, ◌⊎◌, inl, inr, ℕ, ◌<◌, ◌≤◌, Bool, true, false, cond, List, [], ◌∷◌, ◌++◌, length, Option, Some, None, refl, sym, ◌∙◌, ap, subst, get_or, set, zero, suc, arith}
 use Rattle.std.specs.Prelude.{option_map, is_some, IfSome, IsSome, MatchBool}
 use Rattle.std.proofs.lemmas.List.{get_or-set_other}
 use Rattle.dsql_driver.specs.Wires.{Told, told_after}
@@ -119,3 +119,12 @@ pub same_fits : {W : Type 0} (heard : W → Option (List Told)) (telling : Bool)
     → WiresFit heard telling now ws
 same_fits heard telling past now ws k fit =
     λ c. same_fit heard telling (place past c) (place now c) (journal past c) (journal now c) (slot ws c) (slot ws c) (k.wired c) (k.journals c) refl (fit c)
+
+new_place : (past : List Event) (c : ℕ) → places past ≡ Nowhere ∷ [] → has_wire (place past c) ≡ false
+new_place past zero is = rw is refl
+new_place past (suc c) is = rw is refl
+
+-- no wires fit where no connection was opened
+pub fresh_fits : {W : Type 0} (heard : W → Option (List Told)) (telling : Bool) (past : List Event) (ws : List (Option W)) → places past ≡ Nowhere ∷ [] → ws ≡ []
+    → WiresFit heard telling past ws
+fresh_fits heard telling past ws is none = λ c. rw (new_place past c is, none) refl

@@ -14,7 +14,7 @@ use Rattle.dsql_engine.specs.declared.next.Next.{Next}
 use Rattle.dsql_engine.specs.declared.next.Next.TheVariants.{Send, Blocked, Reply, Quiet}
 use Rattle.dsql_engine.specs.Awaited.{awaited}
 use Rattle.dsql_engine.specs.Groups.{most_events}
-use Rattle.dsql_player.specs.Told.{gone_told, with_gone}
+use Rattle.dsql_player.specs.Told.{gone_told, TellsGone}
 use Rattle.dsql_player.specs.Entered.{entered_calls}
 use Rattle.dsql_player.specs.Turns.{Turns}
 use Rattle.dsql_player.specs.WiresFit.{has_wire}
@@ -28,7 +28,7 @@ pub record GoesOn (old new : List Event) : Type 0 where
 
 -- the fleet is given back what is gone
 pub record Retires (before after : Option (List RetiredWire)) (old new : List Event) : Type 0 where
-  pub gone : (r : Option (List RetiredWire)) → before ≡ with_gone r old → after ≡ with_gone r new
+  pub gone : TellsGone before after old new
   pub telling : is_some after ≡ is_some before
 
 -- one of the layer's own calls is carried out

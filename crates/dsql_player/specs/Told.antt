@@ -1,5 +1,5 @@
 -- What was heard of each connection, as its wire tells it, and what the fleet was given back.
-use Rattle.std.specs.Prelude.{ℕ, List, [], ◌∷◌, ◌++◌, length, Option, Some, None, option_map}
+use Rattle.std.specs.Prelude.{ℕ, ◌≡◌, List, [], ◌∷◌, ◌++◌, length, Option, Some, None, option_map}
 use Rattle.dsql_driver.specs.Wires.{Told, RetiredWire, retired_after}
 use Rattle.dsql_tenure.specs.declared.entry.Entry.{Entry}
 use Rattle.dsql_history.specs.declared.event.Event.{Event}
@@ -21,6 +21,10 @@ gone_told (_ ∷ before) = gone_told before
 -- what the fleet tells, where it told r as the history began
 abbrev pub with_gone : Option (List RetiredWire) → List Event → Option (List RetiredWire)
 with_gone r past = option_map (λ rs. rs ++ gone_told past) r
+
+-- a fleet that told what was gone in the old history tells what is gone in the new one
+abbrev pub TellsGone : Option (List RetiredWire) → Option (List RetiredWire) → List Event → List Event → Type 0
+TellsGone before after old new = (r : Option (List RetiredWire)) → before ≡ with_gone r old → after ≡ with_gone r new
 
 -- what the fleet tells once the wire of a slot, if it has one, was given back
 abbrev pub retired_slot : {W : Type 0} → (W → Option (List Told)) → ℕ → Option W → Option (List RetiredWire) → Option (List RetiredWire)

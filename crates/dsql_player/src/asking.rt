@@ -15,11 +15,12 @@ use dsql_engine::{Engine, Next};
 use dsql_tenure::Permit;
 
 /// Whether a step may still append events.
-pub fn check_room(engine: &Engine) -> Result<(), Halt>
+pub(crate) fn check_room(engine: &Engine) -> Result<(), Halt>
     ensures ok { OnOk result (length engine.now < most_events) }
     ensures full { OnErr result (most_events ≤ length engine.now) }
     ensures legal { Legal engine.now }
 {
+    // It vouches that the history is legal.
     let _history = engine.history();
     if engine.is_full() {
         return Err(Halt::Full);
@@ -28,7 +29,7 @@ pub fn check_room(engine: &Engine) -> Result<(), Halt>
 }
 
 /// Brings a driver's answer to the engine.
-pub fn hear(engine: &mut Engine, permit: Permit, answered: Answered) -> Result<Next, Halt>
+pub(crate) fn hear(engine: &mut Engine, permit: Permit, answered: Answered) -> Result<Next, Halt>
     requires legal { Legal engine.old }
     requires room { length engine.old < most_events }
     requires awaited { awaited engine.old permit.conn ≡ Some permit }
@@ -56,7 +57,7 @@ fn is_memory(answer: &DriverAnswer) -> bool
 }
 
 /// Makes a driver call on the wire of its connection, and brings the answer to the engine.
-pub fn ask<W: Wire>(engine: &mut Engine, wires: &mut Wires<W>, permit: Permit) -> Result<Next, Halt>
+pub(crate) fn ask<W: Wire>(engine: &mut Engine, wires: &mut Wires<W>, permit: Permit) -> Result<Next, Halt>
     requires legal { Legal engine.old }
     requires room { length engine.old < most_events }
     requires awaited { awaited engine.old permit.conn ≡ Some permit }

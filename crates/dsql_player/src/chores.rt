@@ -18,7 +18,7 @@ use dsql_engine::{Engine, Next};
 use dsql_tenure::Permit;
 
 /// Carries the layer's own calls out until none is left.
-pub fn carry_chores<F: Fleet>(engine: &mut Engine, wires: &mut Wires<F::Wire>, fleet: &mut F) -> Result<(), Halt>
+pub(crate) fn carry_chores<F: Fleet>(engine: &mut Engine, wires: &mut Wires<F::Wire>, fleet: &mut F) -> Result<(), Halt>
     requires legal { Legal engine.old }
     requires wires { WiresFit F.Wire.heard (is_some (F.retired fleet.old)) engine.old wires.old }
     ensures none { OnOk result (has_no_chore engine.new ≡ true) }
@@ -36,7 +36,7 @@ pub fn carry_chores<F: Fleet>(engine: &mut Engine, wires: &mut Wires<F::Wire>, f
 }
 
 /// Carries the layer's first own call out, and says whether there was one.
-pub fn carry_first_chore<F: Fleet>(engine: &mut Engine, wires: &mut Wires<F::Wire>, fleet: &mut F) -> Result<bool, Halt>
+pub(crate) fn carry_first_chore<F: Fleet>(engine: &mut Engine, wires: &mut Wires<F::Wire>, fleet: &mut F) -> Result<bool, Halt>
     requires legal { Legal engine.old }
     requires wires { WiresFit F.Wire.heard (is_some (F.retired fleet.old)) engine.old wires.old }
     ensures first { IfOk result (λ carried. CarriesFirst carried engine.old engine.new) }

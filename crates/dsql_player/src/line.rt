@@ -1,11 +1,10 @@
 ghost use Rattle.std.specs.Prelude.{◌≡◌, ◌<◌, ◌≤◌, ◌++◌, ℕ, List, [], ◌∷◌, true, false, length, Option, None, IfOk, IfErr, OnOk, OnErr, IsErrOf, is_some};
-ghost use Rattle.dsql_driver.specs.Wires.{RetiredWire};
 ghost use Rattle.dsql_history.specs.Legal.{Legal};
 ghost use Rattle.dsql_history.specs.Readers.Course.{has_ended};
 ghost use Rattle.dsql_history.specs.Readers.Calls.{unfinished};
 ghost use Rattle.dsql_history.specs.Rules.House.{is_quiet, has_no_chore};
 ghost use Rattle.dsql_engine.specs.Groups.{most_events};
-ghost use Rattle.dsql_player.specs.Told.{with_gone};
+ghost use Rattle.dsql_player.specs.Told.{TellsGone};
 ghost use Rattle.dsql_player.specs.Entered.{entered_calls};
 ghost use Rattle.dsql_player.specs.Turns.{Turns};
 ghost use Rattle.dsql_player.specs.Carried.{GoesOn, Retires, Steps, Enters, Ends, EntersAtMost, ComesNext, ComesNearer, is_reply};
@@ -29,7 +28,7 @@ pub fn carry_line<F: Fleet>(engine: &mut Engine, wires: &mut Wires<F::Wire>, fle
     ensures quiet { OnOk result (is_quiet engine.new ≡ true) }
     ensures running { OnOk result (has_ended engine.new ≡ false) }
     ensures entered { OnOk result (entered_calls engine.new ≡ entered_calls engine.old ++ (client, op) ∷ []) }
-    ensures gone { OnOk result ((r : Option (List RetiredWire)) → F.retired fleet.old ≡ with_gone r engine.old → F.retired fleet.new ≡ with_gone r engine.new) }
+    ensures gone { OnOk result (TellsGone (F.retired fleet.old) (F.retired fleet.new) engine.old engine.new) }
     ensures wires { OnOk result (WiresFit F.Wire.heard (is_some (F.retired fleet.new)) engine.new wires.new) }
     ensures telling { OnOk result (is_some (F.retired fleet.new) ≡ is_some (F.retired fleet.old)) }
 
@@ -55,7 +54,8 @@ pub fn carry_end<F: Fleet>(engine: &mut Engine, wires: &mut Wires<F::Wire>, flee
 
     ensures quiet { OnOk result (is_quiet engine.new ≡ true) }
     ensures ended { OnOk result (has_ended engine.new ≡ true) }
-    ensures gone { OnOk result ((r : Option (List RetiredWire)) → F.retired fleet.old ≡ with_gone r engine.old → F.retired fleet.new ≡ with_gone r engine.new) }
+    ensures gone { OnOk result (TellsGone (F.retired fleet.old) (F.retired fleet.new) engine.old engine.new) }
+    ensures wires { OnOk result (WiresFit F.Wire.heard (is_some (F.retired fleet.new)) engine.new wires.new) }
     ensures empty { OnOk result ((c : ℕ) → slot wires.new c ≡ None) }
     ensures telling { OnOk result (is_some (F.retired fleet.new) ≡ is_some (F.retired fleet.old)) }
 

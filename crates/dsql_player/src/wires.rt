@@ -1,7 +1,9 @@
-ghost use Rattle.std.specs.Prelude.{◌≡◌, ◌≢◌, ◌<◌, ℕ, true, List, [], length, reverse, slice_set, Option, Some, None, OnOk, IsSome};
+ghost use Rattle.std.specs.Prelude.{◌≡◌, ◌≢◌, ◌<◌, ℕ, true, Bool, List, [], ◌∷◌, length, reverse, slice_set, Option, Some, None, OnOk, IsSome};
 ghost use Rattle.dsql_driver.specs.Fits.{fits_of};
+ghost use Rattle.dsql_driver.specs.declared.caps.Caps.{Caps};
+ghost use Rattle.dsql_history.specs.declared.event.Event.TheVariants.{Run};
 ghost use Rattle.dsql_player.specs.Told.{retired_from, retired_slot};
-ghost use Rattle.dsql_player.specs.WiresFit.{slot, HearsCall};
+ghost use Rattle.dsql_player.specs.WiresFit.{slot, WiresFit, HearsCall};
 
 use dsql_driver::{Answered, DriverCall, Fleet, Wire};
 use std::alloc::{AllocError, Global};
@@ -24,17 +26,8 @@ impl<W> Model for Wires<W> {
 }
 
 impl<W> Wires<W> {
-    /// No wires. It takes no memory.
-    pub fn new(alloc: Global) -> Wires<W>
-        ensures { result ≡ [] }
-    {
-        Wires {
-            slots: Vec::new(alloc),
-        }
-    }
-
     /// Makes an empty slot for this connection, where it has none.
-    pub fn make_room(&mut self, number: u32) -> Result<(), AllocError>
+    pub(crate) fn make_room(&mut self, number: u32) -> Result<(), AllocError>
         ensures room { OnOk result (number < length self.new) }
         ensures same { (c : ℕ) → slot self.new c ≡ slot self.old c }
     {
@@ -46,7 +39,7 @@ impl<W> Wires<W> {
     }
 
     /// Puts the wire of this connection into its slot.
-    pub fn put(&mut self, number: u32, wire: W)
+    pub(crate) fn put(&mut self, number: u32, wire: W)
         requires room { number < length self.old }
         requires empty { slot self.old number ≡ None }
         ensures { self.new ≡ slice_set self.old number (Some wire) }
@@ -57,8 +50,22 @@ impl<W> Wires<W> {
         }
     }
 
+    /// Lets a table go whose wires are all gone.
+    pub fn destroy(self)
+        requires { (c : ℕ) → slot self c ≡ None }
+    {
+        let Wires { mut slots } = self;
+        while let Some(slot) = slots.pop() {
+            match slot {
+                None => {}
+                Some(_) => unreachable!(),
+            }
+        }
+        slots.destroy_empty();
+    }
+
     /// Takes the wire of this connection out of its slot.
-    pub fn take(&mut self, number: u32) -> W
+    pub(crate) fn take(&mut self, number: u32) -> W
         requires { IsSome (slot self.old number) }
         ensures wire { slot self.old number ≡ Some result }
         ensures after { self.new ≡ slice_set self.old number None }
@@ -68,8 +75,18 @@ impl<W> Wires<W> {
 }
 
 impl<W: Wire> Wires<W> {
+    /// No wires, which fits a run that has just begun. It takes no memory.
+    pub fn new(alloc: Global) -> Wires<W>
+        ensures empty { result ≡ [] }
+        ensures fitting { (telling : Bool) (version : ℕ) (caps : Caps) → WiresFit W.heard telling (Run version caps ∷ []) result }
+    {
+        Wires {
+            slots: Vec::new(alloc),
+        }
+    }
+
     /// Makes one driver call on the wire of this connection.
-    pub fn call(&mut self, number: u32, call: &DriverCall) -> Answered
+    pub(crate) fn call(&mut self, number: u32, call: &DriverCall) -> Answered
         requires { IsSome (slot self.old number) }
         ensures copied { result.copy ≡ result.answer }
         ensures fitting { fits_of call.now result.answer ≡ true }
