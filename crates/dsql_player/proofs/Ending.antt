@@ -1,0 +1,141 @@
+-- The run ends, and its idle connections begin to close.
+use Rattle.std.proofs.Common.{◌≡◌, ◌≢◌, ◌==◌, ◌⊎◌, inl, inr, ℕ, ◌<◌, ◌≤◌, Bool, true, false, not, ◌&&◌, ◌||◌, List, [], ◌∷◌, ◌++◌, length, Option, Some, None, refl, sym, ◌∙◌, ap, subst, get_or, set, arith}
+use Rattle.std.specs.Prelude.{is_none, MatchBool, Result, Ok, Err, OnOk}
+use Rattle.std.proofs.lemmas.Bool.Decides.{nat_tests}
+use Rattle.std.proofs.lemmas.List.{get_or-set_same}
+use Rattle.dsql_driver.specs.Wires.{Told}
+use Rattle.dsql_tenure.specs.declared.entry.Owner.{Owner}
+use Rattle.dsql_tenure.specs.declared.entry.Entry.{Entry}
+use Rattle.dsql_tenure.specs.Readers.{has, is_empty}
+use Rattle.dsql_history.specs.declared.event.Event.{Event}
+use Rattle.dsql_history.specs.declared.event.Event.TheVariants.{Pool, Ended}
+use Rattle.dsql_history.specs.declared.event.Move.TheVariants.{CloseStart}
+use Rattle.dsql_history.specs.declared.event.CloseCause.TheVariants.{DbClosed}
+use Rattle.dsql_history.specs.declared.record.Place.{Place}
+use Rattle.dsql_history.specs.declared.record.Place.TheVariants.{Nowhere, Opening, Idle, Lent, Closing}
+use Rattle.dsql_history.specs.Readers.Course.{has_ended}
+use Rattle.dsql_history.specs.Readers.Sets.{place, places, idle, is_idle, is_closing, is_for, number_of}
+use Rattle.dsql_history.specs.Readers.Calls.{unfinished}
+use Rattle.dsql_history.specs.Readers.Journals.{journal}
+use Rattle.dsql_history.specs.Rules.House.{is_quiet, has_no_chore, shut_due, connect_due}
+use Rattle.dsql_history.specs.Rules.Settled.{is_empty_when_closed}
+use Rattle.dsql_history.specs.Legal.{Legal, Lawful}
+use Rattle.dsql_history.proofs.Rows.{both, within_rows, same_or_not, same_to_itself, same_number}
+use Rattle.dsql_history.proofs.SoundSets.{sound_sets}
+use Rattle.dsql_history.proofs.SoundCalls.{sound_calls}
+use Rattle.dsql_engine.specs.Groups.{after_end, closings}
+use Rattle.dsql_player.specs.Told.{told_of, gone_told}
+use Rattle.dsql_player.specs.Turns.{Turns, keeps_turns}
+use Rattle.dsql_player.specs.Entered.{entered_calls}
+use Rattle.dsql_player.specs.Carried.{KeepsPlaces, Ends}
+use Rattle.dsql_player.specs.WiresFit.{slot, has_wire, HoldsWire, FitsAt, WiresFit}
+use Rattle.dsql_player.proofs.Wiring.{place_elsewhere}
+use Rattle.dsql_player.proofs.Places.{none_at}
+
+closings_turns : (cs : List ℕ) (past : List Event) → Turns past → Turns (closings cs past)
+closings_turns [] past h = h
+closings_turns (c ∷ cs) past h = closings_turns cs (Pool (CloseStart c DbClosed) ∷ past) (h, refl)
+
+closings_entered : (cs : List ℕ) (past : List Event) → entered_calls (closings cs past) ≡ entered_calls past
+closings_entered [] past = refl
+closings_entered (c ∷ cs) past = closings_entered cs (Pool (CloseStart c DbClosed) ∷ past)
+
+closings_ended : (cs : List ℕ) (past : List Event) → has_ended (closings cs past) ≡ has_ended past
+closings_ended [] past = refl
+closings_ended (c ∷ cs) past = closings_ended cs (Pool (CloseStart c DbClosed) ∷ past)
+
+closings_calls : (cs : List ℕ) (past : List Event) → unfinished (closings cs past) ≡ unfinished past
+closings_calls [] past = refl
+closings_calls (c ∷ cs) past = closings_calls cs (Pool (CloseStart c DbClosed) ∷ past)
+
+closings_told : (cs : List ℕ) (past : List Event) → gone_told (closings cs past) ≡ gone_told past
+closings_told [] past = refl
+closings_told (c ∷ cs) past = closings_told cs (Pool (CloseStart c DbClosed) ∷ past)
+
+closings_journal : (cs : List ℕ) (past : List Event) (d : ℕ) → journal (closings cs past) d ≡ journal past d
+closings_journal [] past d = refl
+closings_journal (c ∷ cs) past d = closings_journal cs (Pool (CloseStart c DbClosed) ∷ past) d
+
+within : (past : List Event) (c : ℕ) → has_wire (place past c) ≡ true → c < length (places past)
+within past c has =
+    elim (within_rows (places past) c Nowhere) [
+      inl h ↦ h
+    | inr h ↦ let k : false ≡ true = sym (ap has_wire h.1) ∙ has in absurd cc
+    ]
+
+closing_wired : (past : List Event) (c d : ℕ) → has_wire (place past c) ≡ true → has_wire (place (Pool (CloseStart c DbClosed) ∷ past) d) ≡ has_wire (place past d)
+closing_wired past c d has =
+    elim (same_or_not d c) [
+      inl e ↦ subst (λ (k : ℕ). has_wire (get_or (set (places past) c Closing) k Nowhere) ≡ has_wire (place past k)) (sym e)
+        (ap has_wire (get_or-set_same (places past) c Closing Nowhere (within past c has)) ∙ sym has)
+    | inr n ↦ ap has_wire (place_elsewhere (places past) c Closing d n)
+    ]
+
+closings_wired : (cs : List ℕ) (past : List Event) → ((c : ℕ) → has c cs ≡ true → has_wire (place past c) ≡ true) → (d : ℕ) → has_wire (place (closings cs past) d) ≡ has_wire (place past d)
+closings_wired [] past all d = refl
+closings_wired (c ∷ cs) past all d =
+    let head : has_wire (place past c) ≡ true = all c (rw same_to_itself refl) in
+    let rest : (k : ℕ) → has k cs ≡ true → has_wire (place (Pool (CloseStart c DbClosed) ∷ past) k) ≡ true = λ k h. closing_wired past c k head ∙ all k (grind (arith, h)) in
+    closings_wired cs (Pool (CloseStart c DbClosed) ∷ past) rest d ∙ closing_wired past c d head
+
+idle_wired : (q : Place) → is_idle q ≡ true → has_wire q ≡ true
+idle_wired Idle h = refl
+idle_wired Nowhere h = absurd cc
+idle_wired (Opening n) h = absurd cc
+idle_wired (Lent t o) h = absurd cc
+idle_wired Closing h = absurd cc
+
+-- The run ended.
+pub ends : (past now : List Event) → is_quiet past ≡ true → Lawful past → now ≡ after_end past → Ends past now
+ends past now quiet l is =
+    let z = sound_sets past l in
+    let H : List Event = Ended ∷ past in
+    let wired : (c : ℕ) → has c (idle past) ≡ true → has_wire (place H c) ≡ true = λ c h. idle_wired (place past c) (sym (z.idle_ones c) ∙ h) in
+    subst (λ (k : List Event). Ends past k) (sym is)
+    (record {
+      turns = λ h. closings_turns (idle past) H (h, quiet);
+      entered = closings_entered (idle past) H;
+      ended = closings_ended (idle past) H;
+      places = record {
+        wired = closings_wired (idle past) H wired;
+        journals = closings_journal (idle past) H;
+        told = closings_told (idle past) H;
+      };
+      calls = closings_calls (idle past) H;
+    })
+
+none_idle : (past : List Event) → has_ended past ≡ true → is_empty_when_closed past ≡ true → is_empty (idle past) ≡ true
+none_idle past ended closed = rw ended at closed
+
+has_none : (ns : List ℕ) (c : ℕ) → is_empty ns ≡ true → has c ns ≡ false
+has_none [] c h = refl
+has_none (n ∷ ns) c h = absurd cc
+
+unwired_at : (q : Place) → is_idle q ≡ false → ((n : ℕ) → is_for n q ≡ false) → is_closing q ≡ false → has_wire q ≡ false
+unwired_at Nowhere i f c = refl
+unwired_at (Opening n) i f c = refl
+unwired_at Idle i f c = absurd cc
+unwired_at (Lent t o) i f c =
+    let k : true ≡ false = sym (same_to_itself (number_of o)) ∙ f (number_of o) in
+    absurd cc
+unwired_at Closing i f c = absurd cc
+
+-- After the end, once the layer has no call of its own, no connection has a wire.
+pub unwired : (past : List Event) → Legal past → has_ended past ≡ true → has_no_chore past ≡ true → (c : ℕ) → has_wire (place past c) ≡ false
+unwired past legal ended free c =
+    let z = sound_sets past legal.lawful in
+    let s = sound_calls past legal.lawful in
+    let b = both (is_none (shut_due past)) (is_none (connect_due past)) free in
+    unwired_at (place past c)
+    (sym (z.idle_ones c) ∙ has_none (idle past) c (none_idle past ended legal.settled.none))
+    (s.ended_none ended c)
+    (none_at is_closing (places past) c refl b.0)
+
+pub bare : {W : Type 0} (heard : W → Option (List Told)) (telling : Bool) (past : List Event) (ws : List (Option W)) (c : ℕ) → has_wire (place past c) ≡ false → WiresFit heard telling past ws
+    → slot ws c ≡ None
+bare heard telling past ws c no_wire fit =
+    subst (λ (b : Bool). MatchBool b (HoldsWire heard telling (told_of (journal past c)) (slot ws c)) (slot ws c ≡ None)) no_wire (fit c)
+
+pub on_ok2 : {X E : Type 0} (r : Result X E) (P Q R : Type 0) → (P → Q → R) → OnOk r P → OnOk r Q → OnOk r R
+on_ok2 (Ok x) P Q R f p q = f p q
+on_ok2 (Err e) P Q R f p q = tt

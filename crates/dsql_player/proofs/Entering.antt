@@ -1,0 +1,222 @@
+-- A client's call enters and asks for a connection.
+use Rattle.std.proofs.Common.{◌≡◌, ◌≢◌, ◌==◌, ◌⊎◌, inl, inr, ℕ, ◌<◌, ◌≤◌, Bool, true, false, not, ◌&&◌, ◌||◌, cond, List, [], ◌∷◌, ◌++◌, length, Option, Some, None, refl, sym, ◌∙◌, ap, subst, get_or, set, arith}
+use Rattle.std.specs.Prelude.{position, is_none, nat_lt}
+use Rattle.std.proofs.lemmas.Bool.Decides.{nat_tests}
+use Rattle.std.proofs.lemmas.List.{get_or-set_same}
+use Rattle.dsql_tenure.specs.declared.entry.Owner.TheVariants.{Call}
+use Rattle.dsql_tenure.specs.declared.entry.Permit.{Permit}
+use Rattle.dsql_tenure.specs.Readers.{is_empty}
+use Rattle.dsql_history.specs.declared.event.Event.{Event}
+use Rattle.dsql_history.specs.declared.event.Event.TheVariants.{Entered, Pool, Replied}
+use Rattle.dsql_history.specs.declared.event.Move.{Move}
+use Rattle.dsql_history.specs.declared.event.Move.TheVariants.{OpenStart, Lend}
+use Rattle.dsql_history.specs.declared.event.Op.{Op}
+use Rattle.dsql_history.specs.declared.record.Place.{Place}
+use Rattle.dsql_history.specs.declared.record.Place.TheVariants.{Nowhere, Opening, Idle, Lent, Closing}
+use Rattle.dsql_history.specs.declared.record.CallRecord.{CallRecord}
+use Rattle.dsql_history.specs.declared.reply.Reply.TheVariants.{TooMany}
+use Rattle.dsql_history.specs.Readers.Lists.{first, last}
+use Rattle.dsql_history.specs.Readers.Course.{has_ended}
+use Rattle.dsql_history.specs.Readers.Sets.{place, places, idle, next_number, next_tenure, open_count, is_idle, is_opening, is_closing}
+use Rattle.dsql_history.specs.Readers.Calls.{calls, call_record, unfinished, is_busy, next_call, nobody, statement}
+use Rattle.dsql_history.specs.Rules.House.{is_quiet, has_no_chore, shut_due, connect_due}
+use Rattle.dsql_history.specs.Rules.Limit.{room}
+use Rattle.dsql_history.specs.Rules.Line.{due}
+use Rattle.dsql_history.specs.Legal.{Allowed, Lawful}
+use Rattle.dsql_history.proofs.Rows.{both, within_rows, read_push, same_or_not}
+use Rattle.dsql_history.proofs.SoundSets.{moves_of}
+use Rattle.dsql_history.proofs.SoundCalls.{sound_calls}
+use Rattle.dsql_engine.specs.declared.next.Next.{Next}
+use Rattle.dsql_engine.specs.declared.next.Next.TheVariants.{Send, Blocked, Reply, Quiet}
+use Rattle.dsql_engine.specs.declared.next.Why.TheVariants as whys
+use Rattle.dsql_engine.specs.Awaited.{awaited, awaited_at}
+use Rattle.dsql_engine.specs.Groups.{after_enter, after_ask}
+use Rattle.dsql_engine.specs.Steps.{SendsOn, NextAfterAsk, NextAfterEnter}
+use Rattle.dsql_player.specs.Turns.{Turns, keeps_turns}
+use Rattle.dsql_player.specs.Entered.{entered_calls}
+use Rattle.dsql_player.specs.Carried.{KeepsPlaces, Enters, IsUnderWay, Sends, ComesNext, the_call}
+use Rattle.dsql_player.specs.WiresFit.{has_wire}
+use Rattle.dsql_player.proofs.Going.{client_move}
+use Rattle.dsql_player.proofs.Wiring.{place_elsewhere}
+use Rattle.dsql_player.proofs.Places.{none_at, none-set, none_at_places}
+use Rattle.dsql_player.proofs.Sending.{IsCall, call_lent, without_one}
+
+empty_list : (ns : List ℕ) → is_empty ns ≡ true → ns ≡ []
+empty_list [] h = refl
+empty_list (n ∷ ns) h = absurd cc
+
+-- what it is that all is quiet
+pub record IsStill (past : List Event) : Type 0 where
+  pub none : unfinished past ≡ []
+  pub free : has_no_chore past ≡ true
+
+pub still : (past : List Event) → is_quiet past ≡ true → IsStill past
+still past quiet =
+    let b = both (is_empty (unfinished past)) (has_no_chore past) quiet in
+    record { none = empty_list (unfinished past) b.0; free = b.1 }
+
+pub quiet_of : (past : List Event) → unfinished past ≡ [] → has_no_chore past ≡ true → is_quiet past ≡ true
+quiet_of past none free = rw (none, free) refl
+
+entered_turn : (past : List Event) (client n : ℕ) (op : Op) → is_quiet past ≡ true → has_ended past ≡ false → keeps_turns past (Entered client n op) ≡ true
+entered_turn past client n op quiet running = rw (quiet, running) refl
+
+-- the call that has just entered is the only one
+entered_alone : (past : List Event) (client : ℕ) (op : Op) (n : ℕ) → unfinished past ≡ [] → unfinished (Entered client n op ∷ past) ≡ n ∷ []
+entered_alone past client op n none = ap (λ ns. ns ++ n ∷ []) none
+
+some_number : (n : ℕ) → 0 < n → (n == 0) ≡ false
+some_number n h = grind (arith, nat_tests)
+
+pushed : (cs : List CallRecord) (r : CallRecord) → get_or (cs ++ r ∷ []) (length cs) nobody ≡ r
+pushed cs r =
+    elim (read_push cs r (length cs) nobody) [
+      inl h ↦ h.1
+    | inr h ↦ absurd (h.0 refl)
+    ]
+
+entered_by : (past : List Event) (client : ℕ) (op : Op) → (call_record (Entered client (next_call past) op ∷ past) (next_call past)).client ≡ client
+entered_by past client op = ap (λ r. r.client) (pushed (calls past) (record { client = client; home = 0; text = statement op; decided = None }))
+
+-- the call that has entered is under way over a move
+under_way : (past : List Event) (client : ℕ) (op : Op) (move : Move) → Lawful past → unfinished past ≡ [] → IsUnderWay (Pool move ∷ Entered client (next_call past) op ∷ past) client
+under_way past client op move l none =
+    let n = next_call past in
+    let H : List Event = Entered client n op ∷ past in
+    let u : unfinished (Pool move ∷ H) ≡ n ∷ [] = entered_alone past client op n none in
+    let is : the_call (Pool move ∷ H) ≡ n = ap first u in
+    let number : (n == 0) ≡ false = some_number n (sound_calls past l).some_call in
+    record {
+      alone = u ∙ ap (λ k. k ∷ []) (sym is);
+      numbered = ap (λ k. k == 0) is ∙ number;
+      made_by = ap (λ k. (call_record (Pool move ∷ H) k).client) is ∙ (client_move H move n ∙ entered_by past client op);
+    }
+
+-- a lent connection was idle
+was_idle : (past : List Event) (c t n : ℕ) → has_no_chore past ≡ true → Allowed past (Pool (Lend c t (Call n) n)) → place past c ≡ Idle
+was_idle past c t n free a = idle_of (place past c) (moves_of past (Lend c t (Call n) n) a) (none_at_places past c free)
+  where
+    idle_of : (q : Place) → (is_idle q || is_opening q) ≡ true → is_opening q ≡ false → q ≡ Idle
+    idle_of Idle h o = refl
+    idle_of Nowhere h o = absurd cc
+    idle_of (Opening m) h o = absurd cc
+    idle_of (Lent u k) h o = absurd cc
+    idle_of Closing h o = absurd cc
+
+within : (past : List Event) (c : ℕ) → place past c ≡ Idle → c < length (places past)
+within past c at =
+    elim (within_rows (places past) c Nowhere) [
+      inl h ↦ h
+    | inr h ↦ let k : Nowhere ≡ Idle = sym h.1 ∙ at in absurd cc
+    ]
+
+lent_place : (past : List Event) (c t n : ℕ) → place past c ≡ Idle → get_or (set (places past) c (Lent t (Call n))) c Nowhere ≡ Lent t (Call n)
+lent_place past c t n at = get_or-set_same (places past) c (Lent t (Call n)) Nowhere (within past c at)
+
+lent_wired : (past : List Event) (c t n : ℕ) → place past c ≡ Idle → (d : ℕ) → has_wire (get_or (set (places past) c (Lent t (Call n))) d Nowhere) ≡ has_wire (place past d)
+lent_wired past c t n at d =
+    elim (same_or_not d c) [
+      inl e ↦ subst (λ (k : ℕ). has_wire (get_or (set (places past) c (Lent t (Call n))) k Nowhere) ≡ has_wire (place past k)) (sym e)
+        (ap has_wire (lent_place past c t n at) ∙ ap has_wire (sym at))
+    | inr m ↦ ap has_wire (place_elsewhere (places past) c (Lent t (Call n)) d m)
+    ]
+
+lent_free : (past : List Event) (c t n : ℕ) → has_no_chore past ≡ true → place past c ≡ Idle
+    → (is_none (position is_closing (set (places past) c (Lent t (Call n)))) && is_none (position is_opening (set (places past) c (Lent t (Call n))))) ≡ true
+lent_free past c t n free at =
+    let shut = none-set is_closing (places past) c (Lent t (Call n)) (sym (ap is_closing at)) in
+    let connect = none-set is_opening (places past) c (Lent t (Call n)) (sym (ap is_opening at)) in
+    rw (shut, connect) free
+
+sends_first : (past : List Event) (client : ℕ) (op : Op) (c t : ℕ) (next : Next) → Lawful past → unfinished past ≡ [] → has_no_chore past ≡ true → place past c ≡ Idle
+    → SendsOn c (Pool (Lend c t (Call (next_call past)) (next_call past)) ∷ Entered client (next_call past) op ∷ past) next
+    → ComesNext (Pool (Lend c t (Call (next_call past)) (next_call past)) ∷ Entered client (next_call past) op ∷ past) client next
+sends_first past client op c t (Send p) l none free at sends =
+    let n = next_call past in
+    let now : List Event = Pool (Lend c t (Call n) n) ∷ Entered client n op ∷ past in
+    let w : IsCall c p (Lent t (Call n)) = call_lent c t n p (due now c t n) (subst (λ (k : Place). awaited_at now c k ≡ Some p) (lent_place past c t n at) sends) in
+    let conn : p.conn ≡ c = ap (λ (k : Permit). k.conn) w.is in
+    let number : n ≡ p.call_no = cc (w.lent) in
+    let u : IsUnderWay now client = under_way past client op (Lend c t (Call n) n) l none in
+    record {
+      under_way = u;
+      free = lent_free past c t n free at;
+      due = subst (λ (k : ℕ). awaited now k ≡ Some p) (sym conn) sends;
+      number = sym number ∙ sym (ap first (entered_alone past client op n none));
+    }
+sends_first past client op c t (Blocked why) l none free at sends = absurd sends
+sends_first past client op c t (Reply n) l none free at sends = absurd sends
+sends_first past client op c t Quiet l none free at sends = absurd sends
+
+begin_wired : (past : List Event) (n d : ℕ) → has_wire (get_or (places past ++ Opening n ∷ []) d Nowhere) ≡ has_wire (place past d)
+begin_wired past n d =
+    elim (read_push (places past) (Opening n) d Nowhere) [
+      inl h ↦ elim (within_rows (places past) d Nowhere) [
+        inl lt ↦ absurd (omega (arith, h.0))
+      | inr out ↦ ap has_wire h.1 ∙ sym (ap has_wire out.1)
+      ]
+    | inr h ↦ ap has_wire h.1
+    ]
+
+lend_enters : (past : List Event) (client : ℕ) (op : Op) (c t : ℕ) (next : Next) → is_quiet past ≡ true → has_ended past ≡ false → Lawful past
+    → Lawful (Pool (Lend c t (Call (next_call past)) (next_call past)) ∷ Entered client (next_call past) op ∷ past)
+    → SendsOn c (Pool (Lend c t (Call (next_call past)) (next_call past)) ∷ Entered client (next_call past) op ∷ past) next
+    → Enters past client op next (Pool (Lend c t (Call (next_call past)) (next_call past)) ∷ Entered client (next_call past) op ∷ past)
+lend_enters past client op c t next quiet running l k sends =
+    let n = next_call past in
+    let s = still past quiet in
+    let at : place past c ≡ Idle = was_idle (Entered client n op ∷ past) c t n s.free k.1 in
+    record {
+      turns = λ h. ((h, entered_turn past client n op quiet running), refl);
+      entered = refl;
+      ended = refl;
+      places = record { wired = lent_wired past c t n at; journals = λ d. refl; told = refl };
+      next = sends_first past client op c t next l s.none s.free at sends;
+    }
+
+-- a connection begins to be opened for the call, or it is refused
+begin_enters : (past : List Event) (client : ℕ) (op : Op) (c : ℕ) → is_quiet past ≡ true → has_ended past ≡ false → Lawful past
+    → Enters past client op (Blocked whys.Opening) (Pool (OpenStart c (next_call past)) ∷ Entered client (next_call past) op ∷ past)
+begin_enters past client op c quiet running l =
+    let n = next_call past in
+    let s = still past quiet in
+    record {
+      turns = λ h. ((h, entered_turn past client n op quiet running), refl);
+      entered = refl;
+      ended = refl;
+      places = record { wired = begin_wired past n; journals = λ d. refl; told = refl };
+      next = under_way past client op (OpenStart c n) l s.none;
+    }
+
+refused_enters : (past : List Event) (client : ℕ) (op : Op) → is_quiet past ≡ true → has_ended past ≡ false
+    → Enters past client op (Reply (next_call past)) (Replied (next_call past) TooMany ∷ Entered client (next_call past) op ∷ past)
+refused_enters past client op quiet running =
+    let n = next_call past in
+    let s = still past quiet in
+    record {
+      turns = λ h. ((h, entered_turn past client n op quiet running), refl);
+      entered = refl;
+      ended = refl;
+      places = record { wired = λ d. refl; journals = λ d. refl; told = refl };
+      next = without_one (unfinished (Entered client n op ∷ past)) n (entered_alone past client op n s.none);
+    }
+
+ask_enters : (past : List Event) (client : ℕ) (op : Op) (idles : List ℕ) (may : Bool) (next : Next) (now : List Event) → is_quiet past ≡ true → has_ended past ≡ false → Lawful past
+    → nat_lt (open_count past) room ≡ may → now ≡ after_ask (Entered client (next_call past) op ∷ past) (next_call past) idles → NextAfterAsk (next_call past) idles may next now → Lawful now
+    → Enters past client op next now
+ask_enters past client op (c ∷ others) may next now quiet running l room is n k =
+    let H : List Event = Entered client (next_call past) op ∷ past in
+    let lent : List Event = Pool (Lend (last (c ∷ others)) (next_tenure H (last (c ∷ others))) (Call (next_call past)) (next_call past)) ∷ H in
+    subst (λ (x : List Event). Enters past client op next x) (sym is)
+    (lend_enters past client op (last (c ∷ others)) (next_tenure H (last (c ∷ others))) next quiet running l (subst Lawful is k) (subst (λ (x : List Event). SendsOn (last (c ∷ others)) x next) is n))
+ask_enters past client op [] true next now quiet running l room is n k = rw (is, room, n) (begin_enters past client op (length (places past)) quiet running l)
+ask_enters past client op [] false next now quiet running l room is n k = rw (is, room, n) (refused_enters past client op quiet running)
+
+-- A client's call entered.
+pub enters : (past : List Event) (client : ℕ) (op : Op) (next : Next) (now : List Event) → is_quiet past ≡ true → has_ended past ≡ false → Lawful past → now ≡ after_enter past client op
+    → NextAfterEnter past client op next now → Lawful now → Enters past client op next now
+enters past client op next now quiet running l is n k = ask_enters past client op (idle past) (nat_lt (open_count past) room) next now quiet running l refl is n k
+
+-- where all is quiet no client has an unfinished call
+pub free_client : (past : List Event) (client : ℕ) → is_quiet past ≡ true → is_busy client past ≡ false
+free_client past client quiet = rw (still past quiet).none refl

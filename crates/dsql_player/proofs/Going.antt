@@ -1,0 +1,72 @@
+-- A run goes on over each event that enters no call and doesn't end it.
+use Rattle.std.proofs.Common.{◌≡◌, ◌==◌, None, ℕ, ◌+◌, ◌<◌, Bool, true, false, List, [], ◌∷◌, length, refl, arith, ◌∙◌, sym, get_or, cond}
+use Rattle.dsql_tenure.specs.declared.entry.Entry.{Entry}
+use Rattle.dsql_history.specs.declared.event.Event.{Event}
+use Rattle.dsql_history.specs.declared.event.Event.TheVariants.{Heard, Pool, Replied}
+use Rattle.dsql_history.specs.declared.event.Move.{Move}
+use Rattle.dsql_history.specs.declared.event.Move.TheVariants.{OpenStart, Lend, Back, CloseStart, Gone, Fell}
+use Rattle.dsql_history.specs.declared.record.CallRecord.{CallRecord}
+use Rattle.dsql_history.specs.declared.reply.Reply.{Reply}
+use Rattle.dsql_history.specs.Readers.Calls.{calls, call_record, nobody, with_record, refusal, decision}
+use Rattle.dsql_history.proofs.Rows.{read_set}
+use Rattle.dsql_player.specs.Turns.{keeps_turns}
+use Rattle.dsql_player.specs.Carried.{GoesOn}
+
+-- a change that lets the client be
+same_client : (cs : List CallRecord) (n m : ℕ) (f : CallRecord → CallRecord) → ((r : CallRecord) → (f r).client ≡ r.client)
+    → (get_or (with_record n f cs) m nobody).client ≡ (get_or cs m nobody).client
+same_client cs n m f k = grind (arith, read_set cs n (f (get_or cs n nobody)) m nobody, k (get_or cs n nobody))
+
+pub client_move : (past : List Event) (move : Move) (n : ℕ) → (call_record (Pool move ∷ past) n).client ≡ (call_record past n).client
+client_move past (OpenStart c m) n = same_client (calls past) m n (λ r. record r { home = c }) (λ r. refl)
+client_move past (Lend c t o m) n = same_client (calls past) m n (λ r. record r { home = c }) (λ r. refl)
+client_move past (Back c) n = refl
+client_move past (CloseStart c k) n = refl
+client_move past (Gone c) n = refl
+client_move past (Fell c m) n = same_client (calls past) m n (λ r. record r { decided = refusal past }) (λ r. refl)
+
+client_cond : (past : List Event) (e : Entry) (n : ℕ) (b : Bool)
+    → (get_or (cond b (calls past) (with_record e.call_no (λ r. record r { decided = decision e.call e.answer r.decided }) (calls past))) n nobody).client ≡ (call_record past n).client
+client_cond past e n true = refl
+client_cond past e n false = same_client (calls past) e.call_no n (λ r. record r { decided = decision e.call e.answer r.decided }) (λ r. refl)
+
+pub client_heard : (past : List Event) (e : Entry) (n : ℕ) → (call_record (Heard e ∷ past) n).client ≡ (call_record past n).client
+client_heard past e n = client_cond past e n (e.call_no == 0)
+
+pub client_replied : (past : List Event) (m : ℕ) (reply : Reply) (n : ℕ) → (call_record (Replied m reply ∷ past) n).client ≡ (call_record past n).client
+client_replied past m reply n = same_client (calls past) m n (λ r. record r { decided = None }) (λ r. refl)
+
+pub on_still : (past : List Event) → GoesOn past past
+on_still past = record { turns = λ h. h; entered = refl; ended = refl; clients = λ n. refl }
+
+pub on_then : (old mid new : List Event) → GoesOn old mid → GoesOn mid new → GoesOn old new
+on_then old mid new f g = record {
+  turns = λ h. g.turns (f.turns h);
+  entered = g.entered ∙ f.entered;
+  ended = g.ended ∙ f.ended;
+  clients = λ n. g.clients n ∙ f.clients n;
+}
+
+pub on_move : (old now : List Event) (move : Move) → GoesOn old now → GoesOn old (Pool move ∷ now)
+on_move old now move g = record {
+  turns = λ h. (g.turns h, refl);
+  entered = g.entered;
+  ended = g.ended;
+  clients = λ n. client_move now move n ∙ g.clients n;
+}
+
+pub on_heard : (old now : List Event) (e : Entry) → GoesOn old now → keeps_turns now (Heard e) ≡ true → GoesOn old (Heard e ∷ now)
+on_heard old now e g k = record {
+  turns = λ h. (g.turns h, k);
+  entered = g.entered;
+  ended = g.ended;
+  clients = λ n. client_heard now e n ∙ g.clients n;
+}
+
+pub on_replied : (old now : List Event) (m : ℕ) (reply : Reply) → GoesOn old now → GoesOn old (Replied m reply ∷ now)
+on_replied old now m reply g = record {
+  turns = λ h. (g.turns h, refl);
+  entered = g.entered;
+  ended = g.ended;
+  clients = λ n. client_replied now m reply n ∙ g.clients n;
+}

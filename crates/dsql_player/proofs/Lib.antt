@@ -1,0 +1,11 @@
+pub mod Going
+pub mod Awaiting
+pub mod Wiring
+pub mod Telling
+pub mod Shutting
+pub mod Opening
+pub mod Sending
+pub mod Waking
+pub mod Places
+pub mod Entering
+pub mod Ending

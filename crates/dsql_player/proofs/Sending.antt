@@ -1,0 +1,225 @@
+-- A call's driver call was answered, and what the call does next.
+use Rattle.std.proofs.Common.{◌≡◌, ◌≢◌, ◌==◌, ◌⊎◌, inl, inr, ℕ, ◌<◌, ◌≤◌, ◌+◌, Bool, true, false, not, ◌&&◌, cond, List, [], ◌∷◌, length, Option, Some, None, refl, sym, ◌∙◌, ap, subst, get_or, set, arith}
+use Rattle.std.specs.Prelude.{option_map, nat_le}
+use Rattle.std.specs.List.{list_all}
+use Rattle.std.proofs.lemmas.List.{get_or-set_same}
+use Rattle.std.proofs.lemmas.Bool.Decides.{nat_tests}
+use Rattle.dsql_driver.specs.Wires.{Told}
+use Rattle.dsql_driver.specs.Fits.{is_memory}
+use Rattle.dsql_driver.specs.declared.call.DriverCall.{DriverCall}
+use Rattle.dsql_driver.specs.declared.answer.DriverAnswer.{DriverAnswer}
+use Rattle.dsql_tenure.specs.declared.entry.Entry.{Entry}
+use Rattle.dsql_tenure.specs.declared.entry.Owner.TheVariants.{Call, Tx, Pin, House}
+use Rattle.dsql_tenure.specs.declared.entry.Permit.{Permit}
+use Rattle.dsql_tenure.specs.Permits.{entry_of}
+use Rattle.dsql_history.specs.declared.event.Event.{Event}
+use Rattle.dsql_history.specs.declared.event.Event.TheVariants.{Heard, Pool}
+use Rattle.dsql_history.specs.declared.event.Move.TheVariants.{Back, CloseStart}
+use Rattle.dsql_history.specs.declared.event.CloseCause.{CloseCause}
+use Rattle.dsql_history.specs.declared.record.Place.{Place}
+use Rattle.dsql_history.specs.declared.record.Place.TheVariants.{Nowhere, Opening, Idle, Lent, Closing}
+use Rattle.dsql_history.specs.Readers.Lists.{without}
+use Rattle.dsql_history.specs.Readers.Sets.{place, places, next_tenure}
+use Rattle.dsql_history.specs.Readers.Calls.{call_record, unfinished, reply_due}
+use Rattle.dsql_history.specs.Rules.Causes.{cause}
+use Rattle.dsql_history.specs.Rules.House.{has_no_chore}
+use Rattle.dsql_history.specs.Rules.Line.{due}
+use Rattle.dsql_history.specs.Readers.Journals.{journal}
+use Rattle.dsql_history.proofs.Rows.{same_to_itself, within_rows}
+use Rattle.dsql_engine.specs.declared.next.Next.{Next}
+use Rattle.dsql_engine.specs.declared.next.Next.TheVariants.{Send, Blocked, Reply, Quiet}
+use Rattle.dsql_engine.specs.Awaited.{awaited, awaited_at, connect_permit, shut_permit, call_permit}
+use Rattle.dsql_engine.specs.Groups.{after_heard, after_answer, after_body, leaving, told, most_events}
+use Rattle.dsql_engine.specs.Steps.{SendsOn, NextOfBody, NextAfterAnswer, NextAfterHeard}
+use Rattle.dsql_player.specs.Told.{gone_told}
+use Rattle.dsql_player.specs.Turns.{keeps_turns, comes_first}
+use Rattle.dsql_player.specs.Carried.{GoesOn, Steps, IsUnderWay, Sends, ComesNext, ComesNearer, the_call}
+use Rattle.dsql_player.specs.WiresFit.{slot, has_wire, HearsCall, KeepsFit}
+use Rattle.dsql_player.specs.Asked.{Asks}
+use Rattle.dsql_player.proofs.Going.{on_still, on_heard, on_move, on_replied, client_heard}
+use Rattle.dsql_player.proofs.Wiring.{fit_heard, place_elsewhere}
+
+-- the connection is lent to the call that the permit is of
+pub record IsCall (c : ℕ) (p : Permit) (q : Place) : Type 0 where
+  pub tenure : ℕ
+  pub call : DriverCall
+  pub lent : q ≡ Lent tenure (Call p.call_no)
+  pub is : p ≡ call_permit c tenure p.call_no call
+
+pub call_lent : (c t n : ℕ) (p : Permit) (call : Option DriverCall) → option_map (call_permit c t n) call ≡ Some p → IsCall c p (Lent t (Call n))
+call_lent c t n p (Some call) h =
+    let e : call_permit c t n call ≡ p = cc in
+    record {
+      tenure = t;
+      call = call;
+      lent = ap (λ (q : Permit). Lent t (Call q.call_no)) e;
+      is = sym e ∙ ap (λ (q : Permit). call_permit c t q.call_no call) e;
+    }
+call_lent c t n p None h = absurd cc
+
+-- where a call's driver call is awaited
+pub call_where : (past : List Event) (c : ℕ) (p : Permit) (q : Place) → awaited_at past c q ≡ Some p → (p.call_no == 0) ≡ false → IsCall c p q
+call_where past c p (Lent t (Call n)) h some = call_lent c t n p (due past c t n) h
+call_where past c p (Opening n) h some =
+    let e : connect_permit c ≡ p = cc in
+    let k : true ≡ false = ap (λ (q : Permit). q.call_no == 0) e ∙ some in
+    absurd cc
+call_where past c p Closing h some =
+    let e : shut_permit c (next_tenure past c) ≡ p = cc in
+    let k : true ≡ false = ap (λ (q : Permit). q.call_no == 0) e ∙ some in
+    absurd cc
+call_where past c p (Lent t (Tx n)) h some = absurd cc
+call_where past c p (Lent t (Pin n)) h some = absurd cc
+call_where past c p (Lent t House) h some = absurd cc
+call_where past c p Nowhere h some = absurd cc
+call_where past c p Idle h some = absurd cc
+
+le_self : (n : ℕ) → nat_le n n ≡ true
+le_self n = grind (arith, nat_tests)
+
+alone_first : (ns : List ℕ) (n : ℕ) (f : ℕ → ℕ) → ns ≡ n ∷ [] → list_all (λ m. nat_le (f n) (f m)) ns ≡ true
+alone_first ns n f is = rw is (rw le_self refl)
+
+some_number : (past : List Event) (client : ℕ) (p : Permit) → Sends past client p → (p.call_no == 0) ≡ false
+some_number past client p s = ap (λ n. n == 0) s.number ∙ s.under_way.numbered
+
+turn_when : (past : List Event) (p : Permit) (answer : DriverAnswer) → (p.call_no == 0) ≡ false → (has_no_chore past && comes_first past p.call_no) ≡ true
+    → keeps_turns past (Heard (entry_of p answer)) ≡ true
+turn_when past p answer some first = rw some first
+
+-- the driver call of the only call comes in its turn
+pub call_turn : (past : List Event) (client : ℕ) (p : Permit) (answer : DriverAnswer) → Sends past client p → keeps_turns past (Heard (entry_of p answer)) ≡ true
+call_turn past client p answer s =
+    let first : comes_first past p.call_no ≡ true =
+        subst (λ n. comes_first past n ≡ true) (sym s.number) (alone_first (unfinished past) (the_call past) (λ m. (call_record past m).client) s.under_way.alone) in
+    turn_when past p answer (some_number past client p s) (rw (s.free, first) refl)
+
+-- the call sends what comes next
+again : (past : List Event) (client : ℕ) (p : Permit) (answer : DriverAnswer) (t : ℕ) (next : Next) → Sends past client p → place past p.conn ≡ Lent t (Call p.call_no)
+    → SendsOn p.conn (Heard (entry_of p answer) ∷ past) next → length past < most_events → Steps past client (Send p) (Heard (entry_of p answer) ∷ past) next
+again past client p answer t (Send q) s at sends room =
+    let e : Entry = entry_of p answer in
+    let now : List Event = Heard e ∷ past in
+    let w : IsCall p.conn q (Lent t (Call p.call_no)) =
+        call_lent p.conn t p.call_no q (due now p.conn t p.call_no) (subst (λ (k : Place). awaited_at now p.conn k ≡ Some q) at sends) in
+    let conn : q.conn ≡ p.conn = ap (λ (k : Permit). k.conn) w.is in
+    let number : p.call_no ≡ q.call_no = cc (w.lent) in
+    record {
+      on = on_heard past past e (on_still past) (call_turn past client p answer s);
+      told = refl;
+      next = record {
+        under_way = record {
+          alone = s.under_way.alone;
+          numbered = s.under_way.numbered;
+          made_by = client_heard past e (the_call past) ∙ s.under_way.made_by;
+        };
+        free = s.free;
+        due = subst (λ (c : ℕ). awaited now c ≡ Some q) (sym conn) sends;
+        number = sym number ∙ s.number;
+      };
+      nearer = omega (arith, room);
+    }
+again past client p answer t (Blocked why) s at sends room = absurd sends
+again past client p answer t (Reply n) s at sends room = absurd sends
+again past client p answer t Quiet s at sends room = absurd sends
+
+leaving_calls : (c : ℕ) (why : Option CloseCause) (past : List Event) → unfinished (leaving c why ∷ past) ≡ unfinished past
+leaving_calls c None past = refl
+leaving_calls c (Some why) past = refl
+
+leaving_told : (c : ℕ) (why : Option CloseCause) (past : List Event) → gone_told (leaving c why ∷ past) ≡ gone_told past
+leaving_told c None past = refl
+leaving_told c (Some why) past = refl
+
+leaving_on : (c : ℕ) (why : Option CloseCause) (old now : List Event) → GoesOn old now → GoesOn old (leaving c why ∷ now)
+leaving_on c None old now g = on_move old now (Back c) g
+leaving_on c (Some why) old now g = on_move old now (CloseStart c why) g
+
+pub without_one : (ns : List ℕ) (n : ℕ) → ns ≡ n ∷ [] → without n ns ≡ []
+without_one ns n is = rw is (rw same_to_itself refl)
+
+-- the call has its reply
+finished : (past : List Event) (client : ℕ) (p : Permit) (answer : DriverAnswer) (why : Option CloseCause) → Sends past client p → length past < most_events
+    → Steps past client (Send p) (told p.call_no (leaving p.conn why ∷ Heard (entry_of p answer) ∷ past)) (Reply p.call_no)
+finished past client p answer why s room =
+    let e : Entry = entry_of p answer in
+    let now : List Event = leaving p.conn why ∷ Heard e ∷ past in
+    let calls : unfinished now ≡ p.call_no ∷ [] =
+        leaving_calls p.conn why (Heard e ∷ past) ∙ (s.under_way.alone ∙ ap (λ n. n ∷ []) (sym s.number)) in
+    record {
+      on = on_replied past now p.call_no (reply_due now p.call_no)
+        (leaving_on p.conn why past (Heard e ∷ past) (on_heard past past e (on_still past) (call_turn past client p answer s)));
+      told = leaving_told p.conn why (Heard e ∷ past);
+      next = without_one (unfinished now) p.call_no calls;
+      nearer = omega (arith, room);
+    }
+
+body_steps : (past : List Event) (client : ℕ) (p : Permit) (answer : DriverAnswer) (t : ℕ) (then_due : Option DriverCall) (next : Next) (now : List Event) → Sends past client p
+    → place past p.conn ≡ Lent t (Call p.call_no) → now ≡ after_body p.conn p.call_no (Heard (entry_of p answer) ∷ past) then_due → NextOfBody p.conn p.call_no then_due next now
+    → length past < most_events → Steps past client (Send p) now next
+body_steps past client p answer t (Some call) next now s at is n room =
+    subst (λ (k : List Event). Steps past client (Send p) k next) (sym is)
+    (again past client p answer t next s at (subst (λ (k : List Event). SendsOn p.conn k next) is n) room)
+body_steps past client p answer t None next now s at is n room =
+    rw (is, n) (finished past client p answer (cause (Heard (entry_of p answer) ∷ past) p.conn) s room)
+
+-- One driver call of the call that is under way was answered.
+pub sent_steps : (past : List Event) (client : ℕ) (p : Permit) (answer : DriverAnswer) (next : Next) (now : List Event) → Sends past client p → now ≡ after_heard past (entry_of p answer)
+    → NextAfterHeard past (entry_of p answer) next now → length past < most_events → Steps past client (Send p) now next
+sent_steps past client p answer next now s is n room =
+    let e : Entry = entry_of p answer in
+    let w : IsCall p.conn p (place past p.conn) = call_where past p.conn p (place past p.conn) s.due (some_number past client p s) in
+    body_steps past client p answer w.tenure (due (Heard e ∷ past) p.conn w.tenure p.call_no) next now s w.lent
+    (is ∙ ap (λ q. after_answer q e (Heard e ∷ past)) w.lent)
+    (subst (λ (q : Place). NextAfterAnswer q e (Heard e ∷ past) next now) w.lent n)
+    room
+
+leaving_place : (c : ℕ) (why : Option CloseCause) (past : List Event) (d : ℕ) → d ≢ c → place (leaving c why ∷ past) d ≡ place past d
+leaving_place c None past d n = place_elsewhere (places past) c Idle d n
+leaving_place c (Some why) past d n = place_elsewhere (places past) c Closing d n
+
+leaving_here : (c : ℕ) (why : Option CloseCause) (past : List Event) → c < length (places past) → has_wire (place (leaving c why ∷ past) c) ≡ true
+leaving_here c None past lt = ap has_wire (get_or-set_same (places past) c Idle Nowhere lt)
+leaving_here c (Some why) past lt = ap has_wire (get_or-set_same (places past) c Closing Nowhere lt)
+
+leaving_journal : (c : ℕ) (why : Option CloseCause) (past : List Event) (d : ℕ) → journal (leaving c why ∷ past) d ≡ journal past d
+leaving_journal c None past d = refl
+leaving_journal c (Some why) past d = refl
+
+within_lent : (past : List Event) (c t n : ℕ) → place past c ≡ Lent t (Call n) → c < length (places past)
+within_lent past c t n at =
+    elim (within_rows (places past) c Nowhere) [
+      inl h ↦ h
+    | inr h ↦ let k : Nowhere ≡ Lent t (Call n) = sym h.1 ∙ at in absurd cc
+    ]
+
+body_fits : {W : Type 0} (heard : W → Option (List Told)) (past : List Event) (e : Entry) (t n : ℕ) (then_due : Option DriverCall) (before after : List (Option W))
+    → place past e.conn ≡ Lent t (Call n) → is_memory e.answer ≡ false → ((c : ℕ) → c ≢ e.conn → slot after c ≡ slot before c)
+    → HearsCall heard e.call e.answer (slot before e.conn) (slot after e.conn) → KeepsFit heard past (after_body e.conn n (Heard e ∷ past) then_due) before after
+body_fits heard past e t n (Some call) before after at answered others hears =
+    fit_heard heard past (Heard e ∷ past) e before after (ap has_wire at) (ap has_wire at) (λ c m. refl) (λ c. refl) answered others hears
+body_fits heard past e t n None before after at answered others hears =
+    let why = cause (Heard e ∷ past) e.conn in
+    fit_heard heard past (told n (leaving e.conn why ∷ Heard e ∷ past)) e before after
+    (ap has_wire at)
+    (leaving_here e.conn why (Heard e ∷ past) (within_lent past e.conn t n at))
+    (leaving_place e.conn why (Heard e ∷ past))
+    (leaving_journal e.conn why (Heard e ∷ past))
+    answered
+    others
+    hears
+
+-- the connection of the call that is under way has its wire
+pub sent_wired : (past : List Event) (client : ℕ) (p : Permit) → Sends past client p → has_wire (place past p.conn) ≡ true
+sent_wired past client p s =
+    let w : IsCall p.conn p (place past p.conn) = call_where past p.conn p (place past p.conn) s.due (some_number past client p s) in
+    ap has_wire w.lent
+
+pub sent_fits : {W : Type 0} (heard : W → Option (List Told)) (past : List Event) (client : ℕ) (p : Permit) (next : Next) (now : List Event) (before after : List (Option W)) → Sends past client p
+    → Asks heard p next past now before after → KeepsFit heard past now before after
+sent_fits heard past client p next now before after s a =
+    let e : Entry = entry_of p a.answer in
+    let w : IsCall p.conn p (place past p.conn) = call_where past p.conn p (place past p.conn) s.due (some_number past client p s) in
+    let is : now ≡ after_body p.conn p.call_no (Heard e ∷ past) (due (Heard e ∷ past) p.conn w.tenure p.call_no) = a.group ∙ ap (λ q. after_answer q e (Heard e ∷ past)) w.lent in
+    subst (λ (k : List Event). KeepsFit heard past k before after) (sym is)
+    (body_fits heard past e w.tenure p.call_no (due (Heard e ∷ past) p.conn w.tenure p.call_no) before after w.lent a.no_want a.others a.told)

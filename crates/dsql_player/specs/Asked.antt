@@ -1,0 +1,21 @@
+-- A driver call on a wire, and its answer heard.
+use Rattle.std.specs.Prelude.{ℕ, ◌≡◌, ◌≢◌, false, List, Option}
+use Rattle.dsql_driver.specs.Wires.{Told}
+use Rattle.dsql_driver.specs.Fits.{is_memory}
+use Rattle.dsql_driver.specs.declared.answer.DriverAnswer.{DriverAnswer}
+use Rattle.dsql_tenure.specs.declared.entry.Permit.{Permit}
+use Rattle.dsql_tenure.specs.Permits.{entry_of}
+use Rattle.dsql_history.specs.declared.event.Event.{Event}
+use Rattle.dsql_engine.specs.declared.next.Next.{Next}
+use Rattle.dsql_engine.specs.Groups.{after_heard}
+use Rattle.dsql_engine.specs.Steps.{NextAfterHeard}
+use Rattle.dsql_player.specs.WiresFit.{slot, HearsCall}
+
+-- some answer was heard, by the engine as by the wire
+pub record Asks {W : Type 0} (heard : W → Option (List Told)) (permit : Permit) (next : Next) (old new : List Event) (before after : List (Option W)) : Type 0 where
+  pub answer : DriverAnswer
+  pub no_want : is_memory answer ≡ false
+  pub group : new ≡ after_heard old (entry_of permit answer)
+  pub then_next : NextAfterHeard old (entry_of permit answer) next new
+  pub others : (c : ℕ) → c ≢ permit.conn → slot after c ≡ slot before c
+  pub told : HearsCall heard permit.call answer (slot before permit.conn) (slot after permit.conn)

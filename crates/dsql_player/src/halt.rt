@@ -1,0 +1,42 @@
+use dsql_engine::NoRoom;
+use dsql_value::Memory;
+use std::alloc::AllocError;
+use thiserror::Error;
+
+ghost use Rattle.std.specs.Prelude.{◌≡◌};
+ghost use Rattle.dsql_player.specs.declared.halt.Halt.TheVariants as halts;
+
+/// Why a run stops before its end.
+#[derive(Clone, Copy, Debug, PartialEq, Eq, Error)]
+pub enum Halt {
+    /// There was no memory: in the engine, in the driver or for the table of wires.
+    #[error("out of memory")]
+    Memory,
+    /// The run has as many events as a run may have.
+    #[error("too many events")]
+    Full,
+}
+
+impl From<NoRoom> for Halt {
+    ghost from_gives = { λ _ e. e ≡ halts.Memory };
+
+    fn from(_e: NoRoom) -> Halt {
+        Halt::Memory
+    }
+}
+
+impl From<Memory> for Halt {
+    ghost from_gives = { λ _ e. e ≡ halts.Memory };
+
+    fn from(_e: Memory) -> Halt {
+        Halt::Memory
+    }
+}
+
+impl From<AllocError> for Halt {
+    ghost from_gives = { λ _ e. e ≡ halts.Memory };
+
+    fn from(_e: AllocError) -> Halt {
+        Halt::Memory
+    }
+}
