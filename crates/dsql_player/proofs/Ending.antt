@@ -59,16 +59,16 @@ closings_journal (c ∷ cs) past d = closings_journal cs (Pool (CloseStart c DbC
 within : (past : List Event) (c : ℕ) → has_wire (place past c) ≡ true → c < length (places past)
 within past c has =
     elim (within_rows (places past) c Nowhere) [
-      inl h ↦ h
-    | inr h ↦ let k : false ≡ true = sym (ap has_wire h.1) ∙ has in absurd cc
+      | inl h ↦ h
+      | inr h ↦ let k : false ≡ true = sym (ap has_wire h.1) ∙ has in absurd cc
     ]
 
 closing_wired : (past : List Event) (c d : ℕ) → has_wire (place past c) ≡ true → has_wire (place (Pool (CloseStart c DbClosed) ∷ past) d) ≡ has_wire (place past d)
 closing_wired past c d has =
     elim (same_or_not d c) [
-      inl e ↦ subst (λ (k : ℕ). has_wire (get_or (set (places past) c Closing) k Nowhere) ≡ has_wire (place past k)) (sym e)
-        (ap has_wire (get_or-set_same (places past) c Closing Nowhere (within past c has)) ∙ sym has)
-    | inr n ↦ ap has_wire (place_elsewhere (places past) c Closing d n)
+      | inl e ↦ subst (λ (k : ℕ). has_wire (get_or (set (places past) c Closing) k Nowhere) ≡ has_wire (place past k)) (sym e)
+          (ap has_wire (get_or-set_same (places past) c Closing Nowhere (within past c has)) ∙ sym has)
+      | inr n ↦ ap has_wire (place_elsewhere (places past) c Closing d n)
     ]
 
 closings_wired : (cs : List ℕ) (past : List Event) → ((c : ℕ) → has c cs ≡ true → has_wire (place past c) ≡ true) → (d : ℕ) → has_wire (place (closings cs past) d) ≡ has_wire (place past d)

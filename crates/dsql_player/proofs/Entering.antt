@@ -71,8 +71,8 @@ some_number n h = grind (arith, nat_tests)
 pushed : (cs : List CallRecord) (r : CallRecord) → get_or (cs ++ r ∷ []) (length cs) nobody ≡ r
 pushed cs r =
     elim (read_push cs r (length cs) nobody) [
-      inl h ↦ h.1
-    | inr h ↦ absurd (h.0 refl)
+      | inl h ↦ h.1
+      | inr h ↦ absurd (h.0 refl)
     ]
 
 entered_by : (past : List Event) (client : ℕ) (op : Op) → (call_record (Entered client (next_call past) op ∷ past) (next_call past)).client ≡ client
@@ -106,8 +106,8 @@ was_idle past c t n free a = idle_of (place past c) (moves_of past (Lend c t (Ca
 within : (past : List Event) (c : ℕ) → place past c ≡ Idle → c < length (places past)
 within past c at =
     elim (within_rows (places past) c Nowhere) [
-      inl h ↦ h
-    | inr h ↦ let k : Nowhere ≡ Idle = sym h.1 ∙ at in absurd cc
+      | inl h ↦ h
+      | inr h ↦ let k : Nowhere ≡ Idle = sym h.1 ∙ at in absurd cc
     ]
 
 lent_place : (past : List Event) (c t n : ℕ) → place past c ≡ Idle → get_or (set (places past) c (Lent t (Call n))) c Nowhere ≡ Lent t (Call n)
@@ -116,9 +116,9 @@ lent_place past c t n at = get_or-set_same (places past) c (Lent t (Call n)) Now
 lent_wired : (past : List Event) (c t n : ℕ) → place past c ≡ Idle → (d : ℕ) → has_wire (get_or (set (places past) c (Lent t (Call n))) d Nowhere) ≡ has_wire (place past d)
 lent_wired past c t n at d =
     elim (same_or_not d c) [
-      inl e ↦ subst (λ (k : ℕ). has_wire (get_or (set (places past) c (Lent t (Call n))) k Nowhere) ≡ has_wire (place past k)) (sym e)
-        (ap has_wire (lent_place past c t n at) ∙ ap has_wire (sym at))
-    | inr m ↦ ap has_wire (place_elsewhere (places past) c (Lent t (Call n)) d m)
+      | inl e ↦ subst (λ (k : ℕ). has_wire (get_or (set (places past) c (Lent t (Call n))) k Nowhere) ≡ has_wire (place past k)) (sym e)
+          (ap has_wire (lent_place past c t n at) ∙ ap has_wire (sym at))
+      | inr m ↦ ap has_wire (place_elsewhere (places past) c (Lent t (Call n)) d m)
     ]
 
 lent_free : (past : List Event) (c t n : ℕ) → has_no_chore past ≡ true → place past c ≡ Idle
@@ -151,11 +151,11 @@ sends_first past client op c t Quiet l none free at sends = absurd sends
 begin_wired : (past : List Event) (n d : ℕ) → has_wire (get_or (places past ++ Opening n ∷ []) d Nowhere) ≡ has_wire (place past d)
 begin_wired past n d =
     elim (read_push (places past) (Opening n) d Nowhere) [
-      inl h ↦ elim (within_rows (places past) d Nowhere) [
-        inl lt ↦ absurd (omega (arith, h.0))
-      | inr out ↦ ap has_wire h.1 ∙ sym (ap has_wire out.1)
+      | inl h ↦ elim (within_rows (places past) d Nowhere) [
+        | inl lt ↦ absurd (omega (arith, h.0))
+        | inr out ↦ ap has_wire h.1 ∙ sym (ap has_wire out.1)
       ]
-    | inr h ↦ ap has_wire h.1
+      | inr h ↦ ap has_wire h.1
     ]
 
 lend_enters : (past : List Event) (client : ℕ) (op : Op) (c t : ℕ) (next : Next) → is_quiet past ≡ true → has_ended past ≡ false → Lawful past

@@ -95,8 +95,8 @@ none_before past c answer n b l =
 pub within_places : (past : List Event) (c n : ℕ) → place past c ≡ Opening n → c < length (places past)
 within_places past c n at =
     elim (within_rows (places past) c Nowhere) [
-      inl h ↦ h
-    | inr h ↦ let k : Nowhere ≡ Opening n = sym h.1 ∙ at in absurd cc
+      | inl h ↦ h
+      | inr h ↦ let k : Nowhere ≡ Opening n = sym h.1 ∙ at in absurd cc
     ]
 
 lent_here : {W : Type 0} (heard : W → Option (List Told)) (telling : Bool) (past : List Event) (c t n : ℕ) (wire : Option W) → journal past c ≡ [] → c < length (places past)

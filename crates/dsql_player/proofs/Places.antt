@@ -20,8 +20,8 @@ pub none_at : (test : Place → Bool) (ps : List Place) (c : ℕ) → test Nowhe
 none_at test ps c nowhere none =
     let short : length ps ≤ position_or_len test ps = none_short (position_or_len test ps) (length ps) none in
     elim (within_rows ps c Nowhere) [
-      inl lt ↦ fails_before_first test ps c Nowhere (omega arith)
-    | inr out ↦ rw out.1 nowhere
+      | inl lt ↦ fails_before_first test ps c Nowhere (omega arith)
+      | inr out ↦ rw out.1 nowhere
     ]
 
 -- a write that changes no test

@@ -126,6 +126,6 @@ pub wakes_fit : {W : Type 0} (heard : W → Option (List Told)) (past : List Eve
     → KeepsFit heard past now ws ws
 wakes_fit heard past client why next now ws w =
     elim w.same [
-      inl e ↦ subst (λ (k : List Event). KeepsFit heard past k ws ws) (sym e) (λ telling fit. fit)
-    | inr e ↦ subst (λ (k : List Event). KeepsFit heard past k ws ws) (sym e) (λ telling fit. fit)
+      | inl e ↦ subst (λ (k : List Event). KeepsFit heard past k ws ws) (sym e) (λ telling fit. fit)
+      | inr e ↦ subst (λ (k : List Event). KeepsFit heard past k ws ws) (sym e) (λ telling fit. fit)
     ]

@@ -31,7 +31,7 @@ returns-clause-gone g c =
     let e : Entry = entry_of p a.answer in
     let at : place past p.conn ≡ Closing = chore_closes past p c.requires.due c.requires.awaited c.requires.shuts in
     let told : HasHeard (is_some (g.F.Fleet.retired c.args.fleet.now)) (g.F.Wire.Wire.heard c.take.result) (told_of (e ∷ journal past p.conn)) =
-        shut_holds g.F.Wire.Wire.heard _ past e c.args.wires.now c.ask.new.wires c.take.result c.requires.wires at a.no_want a.told c.take.ensures.wire in
+    shut_holds g.F.Wire.Wire.heard _ past e c.args.wires.now c.ask.new.wires c.take.result c.requires.wires at a.no_want a.told c.take.ensures.wire in
     rw (c.retire.ensures.retired, shut_group past e c.ask.new.engine a.group at)
     (retires_one p.conn _ (told_of (e ∷ journal past p.conn)) _ past _ told (shut_tells past e))
 
