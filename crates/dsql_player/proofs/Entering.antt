@@ -1,5 +1,5 @@
 -- A client's call enters and asks for a connection.
-use Rattle.std.proofs.Common.{◌≡◌, ◌≢◌, ◌==◌, ◌⊎◌, inl, inr, ℕ, ◌<◌, ◌≤◌, Bool, true, false, not, ◌&&◌, ◌||◌, cond, List, [], ◌∷◌, ◌++◌, length, Option, Some, None, refl, sym, ◌∙◌, ap, subst, get_or, set, arith}
+use Rattle.std.proofs.Common.{◌≡◌, ◌==◌, inl, inr, ℕ, ◌<◌, Bool, true, false, ◌&&◌, ◌||◌, List, [], ◌∷◌, ◌++◌, length, Some, None, refl, sym, ◌∙◌, ap, subst, get_or, set, arith}
 use Rattle.std.specs.Prelude.{position, is_none, nat_lt}
 use Rattle.std.proofs.lemmas.Bool.Decides.{nat_tests}
 use Rattle.std.proofs.lemmas.List.{get_or-set_same}
@@ -17,9 +17,9 @@ use Rattle.dsql_history.specs.declared.record.CallRecord.{CallRecord}
 use Rattle.dsql_history.specs.declared.reply.Reply.TheVariants.{TooMany}
 use Rattle.dsql_history.specs.Readers.Lists.{first, last}
 use Rattle.dsql_history.specs.Readers.Course.{has_ended}
-use Rattle.dsql_history.specs.Readers.Sets.{place, places, idle, next_number, next_tenure, open_count, is_idle, is_opening, is_closing}
+use Rattle.dsql_history.specs.Readers.Sets.{place, places, idle, next_tenure, open_count, is_idle, is_opening, is_closing}
 use Rattle.dsql_history.specs.Readers.Calls.{calls, call_record, unfinished, is_busy, next_call, nobody, statement}
-use Rattle.dsql_history.specs.Rules.House.{is_quiet, has_no_chore, shut_due, connect_due}
+use Rattle.dsql_history.specs.Rules.House.{is_quiet, has_no_chore}
 use Rattle.dsql_history.specs.Rules.Limit.{room}
 use Rattle.dsql_history.specs.Rules.Line.{due}
 use Rattle.dsql_history.specs.Legal.{Allowed, Lawful}
@@ -32,13 +32,12 @@ use Rattle.dsql_engine.specs.declared.next.Why.TheVariants as whys
 use Rattle.dsql_engine.specs.Awaited.{awaited, awaited_at}
 use Rattle.dsql_engine.specs.Groups.{after_enter, after_ask}
 use Rattle.dsql_engine.specs.Steps.{SendsOn, NextAfterAsk, NextAfterEnter}
-use Rattle.dsql_player.specs.Turns.{Turns, keeps_turns}
-use Rattle.dsql_player.specs.Entered.{entered_calls}
-use Rattle.dsql_player.specs.Carried.{KeepsPlaces, Enters, IsUnderWay, Sends, ComesNext, the_call}
+use Rattle.dsql_player.specs.Turns.{keeps_turns}
+use Rattle.dsql_player.specs.Carried.{Enters, IsUnderWay, ComesNext, the_call}
 use Rattle.dsql_player.specs.WiresFit.{has_wire}
 use Rattle.dsql_player.proofs.Going.{client_move}
 use Rattle.dsql_player.proofs.Wiring.{place_elsewhere}
-use Rattle.dsql_player.proofs.Places.{none_at, none-set, none_at_places}
+use Rattle.dsql_player.proofs.Places.{none-set, none_at_places}
 use Rattle.dsql_player.proofs.Sending.{IsCall, call_lent, without_one}
 
 empty_list : (ns : List ℕ) → is_empty ns ≡ true → ns ≡ []

@@ -1,5 +1,5 @@
 -- A call's driver call was answered, and what the call does next.
-use Rattle.std.proofs.Common.{◌≡◌, ◌≢◌, ◌==◌, ◌⊎◌, inl, inr, ℕ, ◌<◌, ◌≤◌, ◌+◌, Bool, true, false, not, ◌&&◌, cond, List, [], ◌∷◌, length, Option, Some, None, refl, sym, ◌∙◌, ap, subst, get_or, set, arith}
+use Rattle.std.proofs.Common.{◌≡◌, ◌≢◌, ◌==◌, inl, inr, ℕ, ◌<◌, true, false, ◌&&◌, List, [], ◌∷◌, length, Option, Some, None, refl, sym, ◌∙◌, ap, subst, arith}
 use Rattle.std.specs.Prelude.{option_map, nat_le}
 use Rattle.std.specs.List.{list_all}
 use Rattle.std.proofs.lemmas.List.{get_or-set_same}
@@ -13,7 +13,7 @@ use Rattle.dsql_tenure.specs.declared.entry.Owner.TheVariants.{Call, Tx, Pin, Ho
 use Rattle.dsql_tenure.specs.declared.entry.Permit.{Permit}
 use Rattle.dsql_tenure.specs.Permits.{entry_of}
 use Rattle.dsql_history.specs.declared.event.Event.{Event}
-use Rattle.dsql_history.specs.declared.event.Event.TheVariants.{Heard, Pool}
+use Rattle.dsql_history.specs.declared.event.Event.TheVariants.{Heard}
 use Rattle.dsql_history.specs.declared.event.Move.TheVariants.{Back, CloseStart}
 use Rattle.dsql_history.specs.declared.event.CloseCause.{CloseCause}
 use Rattle.dsql_history.specs.declared.record.Place.{Place}
@@ -33,7 +33,7 @@ use Rattle.dsql_engine.specs.Groups.{after_heard, after_answer, after_body, leav
 use Rattle.dsql_engine.specs.Steps.{SendsOn, NextOfBody, NextAfterAnswer, NextAfterHeard}
 use Rattle.dsql_player.specs.Told.{gone_told}
 use Rattle.dsql_player.specs.Turns.{keeps_turns, comes_first}
-use Rattle.dsql_player.specs.Carried.{GoesOn, Steps, IsUnderWay, Sends, ComesNext, ComesNearer, the_call}
+use Rattle.dsql_player.specs.Carried.{GoesOn, Steps, Sends, the_call}
 use Rattle.dsql_player.specs.WiresFit.{slot, has_wire, HearsCall, KeepsFit}
 use Rattle.dsql_player.specs.Asked.{Asks}
 use Rattle.dsql_player.proofs.Going.{on_still, on_heard, on_move, on_replied, client_heard}

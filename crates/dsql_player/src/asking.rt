@@ -1,5 +1,5 @@
-ghost use Rattle.std.specs.Prelude.{◌≡◌, ◌≢◌, ◌<◌, ◌≤◌, ℕ, true, false, length, Option, Some, None, IfOk, IfErr, OnOk, OnErr, IsSome, is_some};
-ghost use Rattle.dsql_driver.specs.Fits.{fits_of, is_memory, is_done};
+ghost use Rattle.std.specs.Prelude.{◌≡◌, ◌<◌, ◌≤◌, true, false, length, Some, IfOk, IfErr, OnOk, OnErr, IsSome};
+ghost use Rattle.dsql_driver.specs.Fits.{fits_of, is_memory};
 ghost use Rattle.dsql_tenure.specs.Permits.{entry_of};
 ghost use Rattle.dsql_history.specs.Legal.{Legal};
 ghost use Rattle.dsql_engine.specs.Awaited.{awaited};

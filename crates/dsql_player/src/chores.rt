@@ -1,7 +1,7 @@
-ghost use Rattle.std.specs.Prelude.{◌≡◌, ◌≢◌, ◌<◌, ◌≤◌, ℕ, true, false, length, Option, Some, None, IfOk, IfErr, OnOk, OnErr, IsErrOf, is_some, is_none};
-ghost use Rattle.dsql_driver.specs.Fits.{fits_of, is_memory, is_done};
+ghost use Rattle.std.specs.Prelude.{◌≡◌, ◌≢◌, ◌<◌, ◌≤◌, ℕ, true, false, length, Some, None, IfOk, IfErr, OnOk, OnErr, IsErrOf, is_some};
+ghost use Rattle.dsql_driver.specs.Fits.{fits_of, is_done};
 ghost use Rattle.dsql_driver.specs.declared.call.DriverCall.TheVariants.{Connect, Shut};
-ghost use Rattle.dsql_tenure.specs.Kinds.{is_shut, is_connect};
+ghost use Rattle.dsql_tenure.specs.Kinds.{is_shut};
 ghost use Rattle.dsql_history.specs.Legal.{Legal};
 ghost use Rattle.dsql_history.specs.Readers.Calls.{unfinished};
 ghost use Rattle.dsql_history.specs.Rules.House.{has_no_chore};

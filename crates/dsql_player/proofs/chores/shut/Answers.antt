@@ -1,14 +1,11 @@
-use Rattle.std.proofs.Common.{◌≡◌, ◌∷◌, sym, subst, is_some}
+use Rattle.std.proofs.Common.{◌≡◌, ◌∷◌, is_some}
 use Rattle.dsql_tenure.specs.declared.entry.Entry.{Entry}
 use Rattle.dsql_tenure.specs.Permits.{entry_of}
-use Rattle.dsql_history.specs.declared.event.Event.TheVariants.{Heard, Pool}
-use Rattle.dsql_history.specs.declared.event.Move.TheVariants.{Gone}
 use Rattle.dsql_history.specs.declared.record.Place.TheVariants.{Closing}
 use Rattle.dsql_history.specs.Readers.Sets.{place}
 use Rattle.dsql_history.specs.Readers.Journals.{journal}
 use Rattle.dsql_player.specs.Told.{told_of}
-use Rattle.dsql_player.specs.Carried.{Retires}
-use Rattle.dsql_player.specs.WiresFit.{HasHeard, WiresFit}
+use Rattle.dsql_player.specs.WiresFit.{HasHeard}
 use Rattle.dsql_player.proofs.Awaiting.{chore_turn, chore_closes}
 use Rattle.dsql_player.proofs.Shutting.{shut_group, shut_carries, shut_tells, shut_fits, shut_holds}
 use Rattle.dsql_player.proofs.Telling.{retires_one}

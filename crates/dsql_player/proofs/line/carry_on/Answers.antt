@@ -1,10 +1,8 @@
-use Rattle.std.proofs.Common.{◌≡◌, sym}
 use Rattle.std.proofs.lemmas.Result.{IfOk-weaker}
-use Rattle.dsql_player.specs.Carried.{Steps, Sends, IsUnderWay}
-use Rattle.dsql_player.specs.WiresFit.{KeepsFit}
+use Rattle.dsql_player.specs.Carried.{Sends, IsUnderWay}
 use Rattle.dsql_player.proofs.Sending.{sent_steps, sent_fits, sent_wired}
 use Rattle.dsql_player.proofs.Wiring.{wired}
-use Rattle.dsql_player.proofs.Waking.{Wakes, woken, wakes_fit}
+use Rattle.dsql_player.proofs.Waking.{woken, wakes_fit}
 use Rattle.dsql_player.proofs.line.carry_on.Goals as goal
 
 pub ask-requires-clause-wire : goal.ask-requires-clause-wire
