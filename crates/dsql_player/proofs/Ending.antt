@@ -1,11 +1,8 @@
 -- The run ends, and its idle connections begin to close.
-use Rattle.std.proofs.Common.{◌≡◌, ◌≢◌, ◌==◌, ◌⊎◌, inl, inr, ℕ, ◌<◌, ◌≤◌, Bool, true, false, not, ◌&&◌, ◌||◌, List, [], ◌∷◌, ◌++◌, length, Option, Some, None, refl, sym, ◌∙◌, ap, subst, get_or, set, arith}
+use Rattle.std.proofs.Common.{◌≡◌, inl, inr, ℕ, ◌<◌, Bool, true, false, List, [], ◌∷◌, length, Option, None, refl, sym, ◌∙◌, ap, subst, get_or, set, arith}
 use Rattle.std.specs.Prelude.{is_none, MatchBool, Result, Ok, Err, OnOk}
-use Rattle.std.proofs.lemmas.Bool.Decides.{nat_tests}
 use Rattle.std.proofs.lemmas.List.{get_or-set_same}
 use Rattle.dsql_driver.specs.Wires.{Told}
-use Rattle.dsql_tenure.specs.declared.entry.Owner.{Owner}
-use Rattle.dsql_tenure.specs.declared.entry.Entry.{Entry}
 use Rattle.dsql_tenure.specs.Readers.{has, is_empty}
 use Rattle.dsql_history.specs.declared.event.Event.{Event}
 use Rattle.dsql_history.specs.declared.event.Event.TheVariants.{Pool, Ended}
@@ -20,15 +17,15 @@ use Rattle.dsql_history.specs.Readers.Journals.{journal}
 use Rattle.dsql_history.specs.Rules.House.{is_quiet, has_no_chore, shut_due, connect_due}
 use Rattle.dsql_history.specs.Rules.Settled.{is_empty_when_closed}
 use Rattle.dsql_history.specs.Legal.{Legal, Lawful}
-use Rattle.dsql_history.proofs.Rows.{both, within_rows, same_or_not, same_to_itself, same_number}
+use Rattle.dsql_history.proofs.Rows.{both, within_rows, same_or_not, same_to_itself}
 use Rattle.dsql_history.proofs.SoundSets.{sound_sets}
 use Rattle.dsql_history.proofs.SoundCalls.{sound_calls}
 use Rattle.dsql_engine.specs.Groups.{after_end, closings}
 use Rattle.dsql_player.specs.Told.{told_of, gone_told}
-use Rattle.dsql_player.specs.Turns.{Turns, keeps_turns}
+use Rattle.dsql_player.specs.Turns.{Turns}
 use Rattle.dsql_player.specs.Entered.{entered_calls}
-use Rattle.dsql_player.specs.Carried.{KeepsPlaces, Ends}
-use Rattle.dsql_player.specs.WiresFit.{slot, has_wire, HoldsWire, FitsAt, WiresFit}
+use Rattle.dsql_player.specs.Carried.{Ends}
+use Rattle.dsql_player.specs.WiresFit.{slot, has_wire, HoldsWire, WiresFit}
 use Rattle.dsql_player.proofs.Wiring.{place_elsewhere}
 use Rattle.dsql_player.proofs.Places.{none_at}
 
@@ -59,16 +56,16 @@ closings_journal (c ∷ cs) past d = closings_journal cs (Pool (CloseStart c DbC
 within : (past : List Event) (c : ℕ) → has_wire (place past c) ≡ true → c < length (places past)
 within past c has =
     elim (within_rows (places past) c Nowhere) [
-      inl h ↦ h
-    | inr h ↦ let k : false ≡ true = sym (ap has_wire h.1) ∙ has in absurd cc
+      | inl h ↦ h
+      | inr h ↦ let k : false ≡ true = sym (ap has_wire h.1) ∙ has in absurd cc
     ]
 
 closing_wired : (past : List Event) (c d : ℕ) → has_wire (place past c) ≡ true → has_wire (place (Pool (CloseStart c DbClosed) ∷ past) d) ≡ has_wire (place past d)
 closing_wired past c d has =
     elim (same_or_not d c) [
-      inl e ↦ subst (λ (k : ℕ). has_wire (get_or (set (places past) c Closing) k Nowhere) ≡ has_wire (place past k)) (sym e)
-        (ap has_wire (get_or-set_same (places past) c Closing Nowhere (within past c has)) ∙ sym has)
-    | inr n ↦ ap has_wire (place_elsewhere (places past) c Closing d n)
+      | inl e ↦ subst (λ (k : ℕ). has_wire (get_or (set (places past) c Closing) k Nowhere) ≡ has_wire (place past k)) (sym e)
+          (ap has_wire (get_or-set_same (places past) c Closing Nowhere (within past c has)) ∙ sym has)
+      | inr n ↦ ap has_wire (place_elsewhere (places past) c Closing d n)
     ]
 
 closings_wired : (cs : List ℕ) (past : List Event) → ((c : ℕ) → has c cs ≡ true → has_wire (place past c) ≡ true) → (d : ℕ) → has_wire (place (closings cs past) d) ≡ has_wire (place past d)

@@ -1,5 +1,5 @@
 -- A client's call enters and asks for a connection.
-use Rattle.std.proofs.Common.{◌≡◌, ◌≢◌, ◌==◌, ◌⊎◌, inl, inr, ℕ, ◌<◌, ◌≤◌, Bool, true, false, not, ◌&&◌, ◌||◌, cond, List, [], ◌∷◌, ◌++◌, length, Option, Some, None, refl, sym, ◌∙◌, ap, subst, get_or, set, arith}
+use Rattle.std.proofs.Common.{◌≡◌, ◌==◌, inl, inr, ℕ, ◌<◌, Bool, true, false, ◌&&◌, ◌||◌, List, [], ◌∷◌, ◌++◌, length, Some, None, refl, sym, ◌∙◌, ap, subst, get_or, set, arith}
 use Rattle.std.specs.Prelude.{position, is_none, nat_lt}
 use Rattle.std.proofs.lemmas.Bool.Decides.{nat_tests}
 use Rattle.std.proofs.lemmas.List.{get_or-set_same}
@@ -17,9 +17,9 @@ use Rattle.dsql_history.specs.declared.record.CallRecord.{CallRecord}
 use Rattle.dsql_history.specs.declared.reply.Reply.TheVariants.{TooMany}
 use Rattle.dsql_history.specs.Readers.Lists.{first, last}
 use Rattle.dsql_history.specs.Readers.Course.{has_ended}
-use Rattle.dsql_history.specs.Readers.Sets.{place, places, idle, next_number, next_tenure, open_count, is_idle, is_opening, is_closing}
+use Rattle.dsql_history.specs.Readers.Sets.{place, places, idle, next_tenure, open_count, is_idle, is_opening, is_closing}
 use Rattle.dsql_history.specs.Readers.Calls.{calls, call_record, unfinished, is_busy, next_call, nobody, statement}
-use Rattle.dsql_history.specs.Rules.House.{is_quiet, has_no_chore, shut_due, connect_due}
+use Rattle.dsql_history.specs.Rules.House.{is_quiet, has_no_chore}
 use Rattle.dsql_history.specs.Rules.Limit.{room}
 use Rattle.dsql_history.specs.Rules.Line.{due}
 use Rattle.dsql_history.specs.Legal.{Allowed, Lawful}
@@ -32,13 +32,12 @@ use Rattle.dsql_engine.specs.declared.next.Why.TheVariants as whys
 use Rattle.dsql_engine.specs.Awaited.{awaited, awaited_at}
 use Rattle.dsql_engine.specs.Groups.{after_enter, after_ask}
 use Rattle.dsql_engine.specs.Steps.{SendsOn, NextAfterAsk, NextAfterEnter}
-use Rattle.dsql_player.specs.Turns.{Turns, keeps_turns}
-use Rattle.dsql_player.specs.Entered.{entered_calls}
-use Rattle.dsql_player.specs.Carried.{KeepsPlaces, Enters, IsUnderWay, Sends, ComesNext, the_call}
+use Rattle.dsql_player.specs.Turns.{keeps_turns}
+use Rattle.dsql_player.specs.Carried.{Enters, IsUnderWay, ComesNext, the_call}
 use Rattle.dsql_player.specs.WiresFit.{has_wire}
 use Rattle.dsql_player.proofs.Going.{client_move}
 use Rattle.dsql_player.proofs.Wiring.{place_elsewhere}
-use Rattle.dsql_player.proofs.Places.{none_at, none-set, none_at_places}
+use Rattle.dsql_player.proofs.Places.{none-set, none_at_places}
 use Rattle.dsql_player.proofs.Sending.{IsCall, call_lent, without_one}
 
 empty_list : (ns : List ℕ) → is_empty ns ≡ true → ns ≡ []
@@ -71,8 +70,8 @@ some_number n h = grind (arith, nat_tests)
 pushed : (cs : List CallRecord) (r : CallRecord) → get_or (cs ++ r ∷ []) (length cs) nobody ≡ r
 pushed cs r =
     elim (read_push cs r (length cs) nobody) [
-      inl h ↦ h.1
-    | inr h ↦ absurd (h.0 refl)
+      | inl h ↦ h.1
+      | inr h ↦ absurd (h.0 refl)
     ]
 
 entered_by : (past : List Event) (client : ℕ) (op : Op) → (call_record (Entered client (next_call past) op ∷ past) (next_call past)).client ≡ client
@@ -106,8 +105,8 @@ was_idle past c t n free a = idle_of (place past c) (moves_of past (Lend c t (Ca
 within : (past : List Event) (c : ℕ) → place past c ≡ Idle → c < length (places past)
 within past c at =
     elim (within_rows (places past) c Nowhere) [
-      inl h ↦ h
-    | inr h ↦ let k : Nowhere ≡ Idle = sym h.1 ∙ at in absurd cc
+      | inl h ↦ h
+      | inr h ↦ let k : Nowhere ≡ Idle = sym h.1 ∙ at in absurd cc
     ]
 
 lent_place : (past : List Event) (c t n : ℕ) → place past c ≡ Idle → get_or (set (places past) c (Lent t (Call n))) c Nowhere ≡ Lent t (Call n)
@@ -116,9 +115,9 @@ lent_place past c t n at = get_or-set_same (places past) c (Lent t (Call n)) Now
 lent_wired : (past : List Event) (c t n : ℕ) → place past c ≡ Idle → (d : ℕ) → has_wire (get_or (set (places past) c (Lent t (Call n))) d Nowhere) ≡ has_wire (place past d)
 lent_wired past c t n at d =
     elim (same_or_not d c) [
-      inl e ↦ subst (λ (k : ℕ). has_wire (get_or (set (places past) c (Lent t (Call n))) k Nowhere) ≡ has_wire (place past k)) (sym e)
-        (ap has_wire (lent_place past c t n at) ∙ ap has_wire (sym at))
-    | inr m ↦ ap has_wire (place_elsewhere (places past) c (Lent t (Call n)) d m)
+      | inl e ↦ subst (λ (k : ℕ). has_wire (get_or (set (places past) c (Lent t (Call n))) k Nowhere) ≡ has_wire (place past k)) (sym e)
+          (ap has_wire (lent_place past c t n at) ∙ ap has_wire (sym at))
+      | inr m ↦ ap has_wire (place_elsewhere (places past) c (Lent t (Call n)) d m)
     ]
 
 lent_free : (past : List Event) (c t n : ℕ) → has_no_chore past ≡ true → place past c ≡ Idle
@@ -151,11 +150,11 @@ sends_first past client op c t Quiet l none free at sends = absurd sends
 begin_wired : (past : List Event) (n d : ℕ) → has_wire (get_or (places past ++ Opening n ∷ []) d Nowhere) ≡ has_wire (place past d)
 begin_wired past n d =
     elim (read_push (places past) (Opening n) d Nowhere) [
-      inl h ↦ elim (within_rows (places past) d Nowhere) [
-        inl lt ↦ absurd (omega (arith, h.0))
-      | inr out ↦ ap has_wire h.1 ∙ sym (ap has_wire out.1)
+      | inl h ↦ elim (within_rows (places past) d Nowhere) [
+        | inl lt ↦ absurd (omega (arith, h.0))
+        | inr out ↦ ap has_wire h.1 ∙ sym (ap has_wire out.1)
       ]
-    | inr h ↦ ap has_wire h.1
+      | inr h ↦ ap has_wire h.1
     ]
 
 lend_enters : (past : List Event) (client : ℕ) (op : Op) (c t : ℕ) (next : Next) → is_quiet past ≡ true → has_ended past ≡ false → Lawful past

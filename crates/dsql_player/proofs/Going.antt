@@ -1,5 +1,5 @@
 -- A run goes on over each event that enters no call and doesn't end it.
-use Rattle.std.proofs.Common.{◌≡◌, ◌==◌, None, ℕ, ◌+◌, ◌<◌, Bool, true, false, List, [], ◌∷◌, length, refl, arith, ◌∙◌, sym, get_or, cond}
+use Rattle.std.proofs.Common.{◌≡◌, ◌==◌, None, ℕ, Bool, true, false, List, ◌∷◌, refl, arith, ◌∙◌, get_or, cond}
 use Rattle.dsql_tenure.specs.declared.entry.Entry.{Entry}
 use Rattle.dsql_history.specs.declared.event.Event.{Event}
 use Rattle.dsql_history.specs.declared.event.Event.TheVariants.{Heard, Pool, Replied}

@@ -1,5 +1,5 @@
 -- A connection is opened and lent, or its Connect is refused.
-use Rattle.std.proofs.Common.{◌≡◌, ◌≢◌, ◌==◌, ◌⊎◌, inl, inr, ℕ, ◌<◌, ◌≤◌, Bool, true, false, cond, List, [], ◌∷◌, ◌++◌, length, Option, Some, None, refl, sym, ◌∙◌, ap, subst, get_or, set, arith}
+use Rattle.std.proofs.Common.{◌≡◌, ◌≢◌, inl, inr, ℕ, ◌<◌, Bool, true, false, cond, List, [], ◌∷◌, length, Option, Some, None, refl, sym, ◌∙◌, ap, subst, get_or, set, arith}
 use Rattle.std.proofs.lemmas.List.{get_or-set_same}
 use Rattle.dsql_driver.specs.Wires.{Told}
 use Rattle.dsql_driver.specs.Fits.{is_done}
@@ -18,13 +18,13 @@ use Rattle.dsql_history.specs.declared.event.Event.TheVariants.{Heard, Pool}
 use Rattle.dsql_history.specs.declared.event.Move.TheVariants.{Lend, Fell}
 use Rattle.dsql_history.specs.declared.record.Place.{Place}
 use Rattle.dsql_history.specs.declared.record.Place.TheVariants.{Nowhere, Opening, Lent}
-use Rattle.dsql_history.specs.Readers.Sets.{place, places, next_tenure, is_opening}
+use Rattle.dsql_history.specs.Readers.Sets.{place, places, next_tenure}
 use Rattle.dsql_history.specs.Readers.Journals.{journal}
 use Rattle.dsql_history.specs.Legal.{Allowed, Lawful}
 use Rattle.dsql_history.proofs.Rows.{within_rows}
 use Rattle.dsql_engine.specs.Groups.{after_heard, after_answer}
 use Rattle.dsql_engine.specs.Awaited.{chore_due}
-use Rattle.dsql_player.specs.Told.{told_of, gone_told}
+use Rattle.dsql_player.specs.Told.{gone_told}
 use Rattle.dsql_player.specs.Turns.{keeps_turns}
 use Rattle.dsql_player.specs.Carried.{CarriesChore}
 use Rattle.dsql_player.specs.WiresFit.{slot, FitsAt, WiresFit, OpensWire}
@@ -95,8 +95,8 @@ none_before past c answer n b l =
 pub within_places : (past : List Event) (c n : ℕ) → place past c ≡ Opening n → c < length (places past)
 within_places past c n at =
     elim (within_rows (places past) c Nowhere) [
-      inl h ↦ h
-    | inr h ↦ let k : Nowhere ≡ Opening n = sym h.1 ∙ at in absurd cc
+      | inl h ↦ h
+      | inr h ↦ let k : Nowhere ≡ Opening n = sym h.1 ∙ at in absurd cc
     ]
 
 lent_here : {W : Type 0} (heard : W → Option (List Told)) (telling : Bool) (past : List Event) (c t n : ℕ) (wire : Option W) → journal past c ≡ [] → c < length (places past)

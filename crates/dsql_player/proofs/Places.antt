@@ -1,5 +1,5 @@
 -- Where no chore is due, no connection is being opened or closed.
-use Rattle.std.proofs.Common.{◌≡◌, ◌⊎◌, inl, inr, ℕ, ◌<◌, ◌≤◌, Bool, true, false, ◌&&◌, List, length, Option, Some, None, refl, sym, ◌∙◌, ap, get_or, set, length-set, cond, arith}
+use Rattle.std.proofs.Common.{◌≡◌, inl, inr, ℕ, ◌≤◌, Bool, true, false, List, length, Some, None, refl, get_or, set, length-set, cond, arith}
 use Rattle.std.specs.Prelude.{position, is_none, nat_lt}
 use Rattle.std.specs.List.{position_or_len}
 use Rattle.std.proofs.lemmas.Bool.Decides.{nat_tests}
@@ -8,7 +8,7 @@ use Rattle.std.proofs.lemmas.List.Folds.{position_or_len-set}
 use Rattle.dsql_history.specs.declared.event.Event.{Event}
 use Rattle.dsql_history.specs.declared.record.Place.{Place}
 use Rattle.dsql_history.specs.declared.record.Place.TheVariants.{Nowhere}
-use Rattle.dsql_history.specs.Readers.Sets.{place, places, is_opening, is_closing}
+use Rattle.dsql_history.specs.Readers.Sets.{place, places, is_opening}
 use Rattle.dsql_history.specs.Rules.House.{has_no_chore, shut_due, connect_due}
 use Rattle.dsql_history.proofs.Rows.{both, within_rows}
 
@@ -20,8 +20,8 @@ pub none_at : (test : Place → Bool) (ps : List Place) (c : ℕ) → test Nowhe
 none_at test ps c nowhere none =
     let short : length ps ≤ position_or_len test ps = none_short (position_or_len test ps) (length ps) none in
     elim (within_rows ps c Nowhere) [
-      inl lt ↦ fails_before_first test ps c Nowhere (omega arith)
-    | inr out ↦ rw out.1 nowhere
+      | inl lt ↦ fails_before_first test ps c Nowhere (omega arith)
+      | inr out ↦ rw out.1 nowhere
     ]
 
 -- a write that changes no test

@@ -1,5 +1,5 @@
 -- A call's driver call was answered, and what the call does next.
-use Rattle.std.proofs.Common.{◌≡◌, ◌≢◌, ◌==◌, ◌⊎◌, inl, inr, ℕ, ◌<◌, ◌≤◌, ◌+◌, Bool, true, false, not, ◌&&◌, cond, List, [], ◌∷◌, length, Option, Some, None, refl, sym, ◌∙◌, ap, subst, get_or, set, arith}
+use Rattle.std.proofs.Common.{◌≡◌, ◌≢◌, ◌==◌, inl, inr, ℕ, ◌<◌, true, false, ◌&&◌, List, [], ◌∷◌, length, Option, Some, None, refl, sym, ◌∙◌, ap, subst, arith}
 use Rattle.std.specs.Prelude.{option_map, nat_le}
 use Rattle.std.specs.List.{list_all}
 use Rattle.std.proofs.lemmas.List.{get_or-set_same}
@@ -13,7 +13,7 @@ use Rattle.dsql_tenure.specs.declared.entry.Owner.TheVariants.{Call, Tx, Pin, Ho
 use Rattle.dsql_tenure.specs.declared.entry.Permit.{Permit}
 use Rattle.dsql_tenure.specs.Permits.{entry_of}
 use Rattle.dsql_history.specs.declared.event.Event.{Event}
-use Rattle.dsql_history.specs.declared.event.Event.TheVariants.{Heard, Pool}
+use Rattle.dsql_history.specs.declared.event.Event.TheVariants.{Heard}
 use Rattle.dsql_history.specs.declared.event.Move.TheVariants.{Back, CloseStart}
 use Rattle.dsql_history.specs.declared.event.CloseCause.{CloseCause}
 use Rattle.dsql_history.specs.declared.record.Place.{Place}
@@ -33,7 +33,7 @@ use Rattle.dsql_engine.specs.Groups.{after_heard, after_answer, after_body, leav
 use Rattle.dsql_engine.specs.Steps.{SendsOn, NextOfBody, NextAfterAnswer, NextAfterHeard}
 use Rattle.dsql_player.specs.Told.{gone_told}
 use Rattle.dsql_player.specs.Turns.{keeps_turns, comes_first}
-use Rattle.dsql_player.specs.Carried.{GoesOn, Steps, IsUnderWay, Sends, ComesNext, ComesNearer, the_call}
+use Rattle.dsql_player.specs.Carried.{GoesOn, Steps, Sends, the_call}
 use Rattle.dsql_player.specs.WiresFit.{slot, has_wire, HearsCall, KeepsFit}
 use Rattle.dsql_player.specs.Asked.{Asks}
 use Rattle.dsql_player.proofs.Going.{on_still, on_heard, on_move, on_replied, client_heard}
@@ -91,7 +91,7 @@ turn_when past p answer some first = rw some first
 pub call_turn : (past : List Event) (client : ℕ) (p : Permit) (answer : DriverAnswer) → Sends past client p → keeps_turns past (Heard (entry_of p answer)) ≡ true
 call_turn past client p answer s =
     let first : comes_first past p.call_no ≡ true =
-        subst (λ n. comes_first past n ≡ true) (sym s.number) (alone_first (unfinished past) (the_call past) (λ m. (call_record past m).client) s.under_way.alone) in
+    subst (λ n. comes_first past n ≡ true) (sym s.number) (alone_first (unfinished past) (the_call past) (λ m. (call_record past m).client) s.under_way.alone) in
     turn_when past p answer (some_number past client p s) (rw (s.free, first) refl)
 
 -- the call sends what comes next
@@ -101,7 +101,7 @@ again past client p answer t (Send q) s at sends room =
     let e : Entry = entry_of p answer in
     let now : List Event = Heard e ∷ past in
     let w : IsCall p.conn q (Lent t (Call p.call_no)) =
-        call_lent p.conn t p.call_no q (due now p.conn t p.call_no) (subst (λ (k : Place). awaited_at now p.conn k ≡ Some q) at sends) in
+    call_lent p.conn t p.call_no q (due now p.conn t p.call_no) (subst (λ (k : Place). awaited_at now p.conn k ≡ Some q) at sends) in
     let conn : q.conn ≡ p.conn = ap (λ (k : Permit). k.conn) w.is in
     let number : p.call_no ≡ q.call_no = cc (w.lent) in
     record {
@@ -145,10 +145,10 @@ finished past client p answer why s room =
     let e : Entry = entry_of p answer in
     let now : List Event = leaving p.conn why ∷ Heard e ∷ past in
     let calls : unfinished now ≡ p.call_no ∷ [] =
-        leaving_calls p.conn why (Heard e ∷ past) ∙ (s.under_way.alone ∙ ap (λ n. n ∷ []) (sym s.number)) in
+    leaving_calls p.conn why (Heard e ∷ past) ∙ (s.under_way.alone ∙ ap (λ n. n ∷ []) (sym s.number)) in
     record {
       on = on_replied past now p.call_no (reply_due now p.call_no)
-        (leaving_on p.conn why past (Heard e ∷ past) (on_heard past past e (on_still past) (call_turn past client p answer s)));
+          (leaving_on p.conn why past (Heard e ∷ past) (on_heard past past e (on_still past) (call_turn past client p answer s)));
       told = leaving_told p.conn why (Heard e ∷ past);
       next = without_one (unfinished now) p.call_no calls;
       nearer = omega (arith, room);
@@ -189,8 +189,8 @@ leaving_journal c (Some why) past d = refl
 within_lent : (past : List Event) (c t n : ℕ) → place past c ≡ Lent t (Call n) → c < length (places past)
 within_lent past c t n at =
     elim (within_rows (places past) c Nowhere) [
-      inl h ↦ h
-    | inr h ↦ let k : Nowhere ≡ Lent t (Call n) = sym h.1 ∙ at in absurd cc
+      | inl h ↦ h
+      | inr h ↦ let k : Nowhere ≡ Lent t (Call n) = sym h.1 ∙ at in absurd cc
     ]
 
 body_fits : {W : Type 0} (heard : W → Option (List Told)) (past : List Event) (e : Entry) (t n : ℕ) (then_due : Option DriverCall) (before after : List (Option W))

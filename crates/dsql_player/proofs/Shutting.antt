@@ -1,5 +1,5 @@
 -- A connection is shut and gone, and its wire goes back.
-use Rattle.std.proofs.Common.{◌≡◌, ◌≢◌, ◌==◌, ◌⊎◌, inl, inr, ℕ, ◌<◌, ◌≤◌, Bool, true, false, List, [], ◌∷◌, ◌++◌, length, Option, Some, None, refl, sym, ◌∙◌, ap, subst, get_or, set, zero, suc, arith}
+use Rattle.std.proofs.Common.{◌≡◌, ◌≢◌, ℕ, Bool, true, false, List, [], ◌∷◌, ◌++◌, Option, Some, None, refl, sym, ◌∙◌, ap, subst, get_or, set, zero, suc, arith}
 use Rattle.dsql_driver.specs.Wires.{Told}
 use Rattle.dsql_driver.specs.Fits.{is_memory}
 use Rattle.dsql_tenure.specs.declared.entry.Entry.{Entry}
@@ -10,7 +10,6 @@ use Rattle.dsql_history.specs.declared.record.Place.{Place}
 use Rattle.dsql_history.specs.declared.record.Place.TheVariants.{Nowhere, Closing}
 use Rattle.dsql_history.specs.Readers.Sets.{place, places}
 use Rattle.dsql_history.specs.Readers.Journals.{journal}
-use Rattle.dsql_history.proofs.Rows.{read_set}
 use Rattle.dsql_engine.specs.Groups.{after_heard, after_answer}
 use Rattle.dsql_player.specs.Told.{told_of, gone_told}
 use Rattle.dsql_player.specs.Turns.{keeps_turns}

@@ -1,9 +1,9 @@
 -- What the fleet tells of the wires that it was given back.
-use Rattle.std.proofs.Common.{◌≡◌, ℕ, Bool, true, false, List, [], ◌∷◌, ◌++◌, Option, Some, None, refl, sym, ◌∙◌, ap, subst, append_assoc}
+use Rattle.std.proofs.Common.{◌≡◌, ℕ, true, false, List, [], ◌∷◌, ◌++◌, Option, Some, None, refl, sym, ◌∙◌, ap, append_assoc}
 use Rattle.std.specs.Prelude.{option_map, is_some}
 use Rattle.dsql_driver.specs.Wires.{Told, RetiredWire, retired_after}
 use Rattle.dsql_history.specs.declared.event.Event.{Event}
-use Rattle.dsql_player.specs.Told.{gone_told, with_gone}
+use Rattle.dsql_player.specs.Told.{gone_told}
 use Rattle.dsql_player.specs.Carried.{Retires}
 use Rattle.dsql_player.specs.WiresFit.{HasHeard}
 

@@ -1,31 +1,27 @@
 -- A call that waited looks at its connection again.
-use Rattle.std.proofs.Common.{◌≡◌, ◌≢◌, ◌==◌, ◌⊎◌, inl, inr, ℕ, zero, suc, ◌<◌, ◌≤◌, ◌+◌, Bool, true, false, not, ◌&&◌, ◌||◌, cond, List, [], ◌∷◌, length, Option, Some, None, refl, sym, ◌∙◌, ap, subst, get_or, set, arith}
-use Rattle.std.specs.Prelude.{option_map, find, position, is_none, is_some}
+use Rattle.std.proofs.Common.{◌≡◌, ◌==◌, ◌⊎◌, inl, inr, ℕ, ◌<◌, Bool, true, false, not, ◌&&◌, ◌||◌, List, [], ◌∷◌, length, Option, Some, refl, sym, ◌∙◌, ap, subst, arith}
+use Rattle.std.specs.Prelude.{find, is_some}
 use Rattle.std.specs.List.{list_all}
-use Rattle.std.proofs.lemmas.Bool.Decides.{nat_tests}
 use Rattle.dsql_driver.specs.Wires.{Told}
-use Rattle.dsql_driver.specs.declared.call.DriverCall.{DriverCall}
 use Rattle.dsql_tenure.specs.declared.entry.Owner.{Owner}
 use Rattle.dsql_tenure.specs.declared.entry.Owner.TheVariants.{Call, Tx, Pin, House}
 use Rattle.dsql_tenure.specs.declared.entry.Permit.{Permit}
 use Rattle.dsql_history.specs.declared.event.Event.{Event}
 use Rattle.dsql_history.specs.declared.record.Place.{Place}
 use Rattle.dsql_history.specs.declared.record.Place.TheVariants.{Nowhere, Opening, Idle, Lent, Closing}
-use Rattle.dsql_history.specs.Readers.Sets.{place, places, is_opening, is_for, is_open}
+use Rattle.dsql_history.specs.Readers.Sets.{place, is_opening, is_for, is_open}
 use Rattle.dsql_history.specs.Readers.Calls.{call_record, home, unfinished, reply_due}
-use Rattle.dsql_history.specs.Rules.House.{has_no_chore, shut_due, connect_due}
+use Rattle.dsql_history.specs.Rules.House.{has_no_chore}
 use Rattle.dsql_history.specs.Rules.Line.{due}
 use Rattle.dsql_history.specs.Rules.Settled.{goes_on, is_under_way}
 use Rattle.dsql_history.proofs.Rows.{both, same_number, same_to_itself}
 use Rattle.dsql_engine.specs.declared.next.Next.{Next}
 use Rattle.dsql_engine.specs.declared.next.Next.TheVariants.{Send, Blocked, Reply, Quiet}
 use Rattle.dsql_engine.specs.declared.next.Why.{Why}
-use Rattle.dsql_engine.specs.declared.next.Why.TheVariants as whys
-use Rattle.dsql_engine.specs.Awaited.{awaited, awaited_at, call_permit}
+use Rattle.dsql_engine.specs.Awaited.{awaited, awaited_at}
 use Rattle.dsql_engine.specs.Groups.{call_of, told, most_events}
 use Rattle.dsql_engine.specs.Steps.{SendsOn, NextOfWake, NextAfterWake}
-use Rattle.dsql_player.specs.Told.{gone_told}
-use Rattle.dsql_player.specs.Carried.{GoesOn, Steps, IsUnderWay, Sends, ComesNext, ComesNearer, the_call}
+use Rattle.dsql_player.specs.Carried.{Steps, IsUnderWay, the_call}
 use Rattle.dsql_player.specs.WiresFit.{KeepsFit}
 use Rattle.dsql_player.proofs.Places.{none_at_places}
 use Rattle.dsql_player.proofs.Going.{on_still, on_replied}
@@ -126,6 +122,6 @@ pub wakes_fit : {W : Type 0} (heard : W → Option (List Told)) (past : List Eve
     → KeepsFit heard past now ws ws
 wakes_fit heard past client why next now ws w =
     elim w.same [
-      inl e ↦ subst (λ (k : List Event). KeepsFit heard past k ws ws) (sym e) (λ telling fit. fit)
-    | inr e ↦ subst (λ (k : List Event). KeepsFit heard past k ws ws) (sym e) (λ telling fit. fit)
+      | inl e ↦ subst (λ (k : List Event). KeepsFit heard past k ws ws) (sym e) (λ telling fit. fit)
+      | inr e ↦ subst (λ (k : List Event). KeepsFit heard past k ws ws) (sym e) (λ telling fit. fit)
     ]

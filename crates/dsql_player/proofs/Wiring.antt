@@ -1,6 +1,6 @@
 -- Wires that fit a history fit the next one too.
-use Rattle.std.proofs.Common.{◌≡◌, ◌≢◌, ◌==◌, ◌⊎◌, inl, inr, ℕ, ◌<◌, ◌≤◌, Bool, true, false, cond, List, [], ◌∷◌, ◌++◌, length, Option, Some, None, refl, sym, ◌∙◌, ap, subst, get_or, set, zero, suc, arith}
-use Rattle.std.specs.Prelude.{option_map, is_some, IfSome, IsSome, MatchBool}
+use Rattle.std.proofs.Common.{◌≡◌, ◌≢◌, inl, inr, ℕ, Bool, true, false, List, [], ◌∷◌, ◌++◌, Option, Some, None, refl, sym, ◌∙◌, ap, subst, get_or, set, zero, suc}
+use Rattle.std.specs.Prelude.{option_map, IsSome, MatchBool}
 use Rattle.std.proofs.lemmas.List.{get_or-set_other}
 use Rattle.dsql_driver.specs.Wires.{Told, told_after}
 use Rattle.dsql_driver.specs.Fits.{is_memory}
@@ -63,8 +63,8 @@ pub fit_but_one : {W : Type 0} (heard : W → Option (List Told)) (telling : Boo
     → WiresFit heard telling past before → FitsAt heard telling (place now d) (journal now d) (slot after d) → WiresFit heard telling now after
 fit_but_one heard telling past now before after d places journals slots fit here =
     λ c. elim (same_or_not c d) [
-      inl e ↦ subst (λ (k : ℕ). FitsAt heard telling (place now k) (journal now k) (slot after k)) (sym e) here
-    | inr n ↦ same_fit heard telling (place past c) (place now c) (journal past c) (journal now c) (slot before c) (slot after c) (ap has_wire (places c n)) (journals c n) (slots c n) (fit c)
+      | inl e ↦ subst (λ (k : ℕ). FitsAt heard telling (place now k) (journal now k) (slot after k)) (sym e) here
+      | inr n ↦ same_fit heard telling (place past c) (place now c) (journal past c) (journal now c) (slot before c) (slot after c) (ap has_wire (places c n)) (journals c n) (slots c n) (fit c)
     ]
 
 -- a connection with a wire holds it

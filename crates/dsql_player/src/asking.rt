@@ -1,5 +1,5 @@
-ghost use Rattle.std.specs.Prelude.{◌≡◌, ◌≢◌, ◌<◌, ◌≤◌, ℕ, true, false, length, Option, Some, None, IfOk, IfErr, OnOk, OnErr, IsSome, is_some};
-ghost use Rattle.dsql_driver.specs.Fits.{fits_of, is_memory, is_done};
+ghost use Rattle.std.specs.Prelude.{◌≡◌, ◌<◌, ◌≤◌, true, false, length, Some, IfOk, IfErr, OnOk, OnErr, IsSome};
+ghost use Rattle.dsql_driver.specs.Fits.{fits_of, is_memory};
 ghost use Rattle.dsql_tenure.specs.Permits.{entry_of};
 ghost use Rattle.dsql_history.specs.Legal.{Legal};
 ghost use Rattle.dsql_engine.specs.Awaited.{awaited};
@@ -36,8 +36,10 @@ pub(crate) fn hear(engine: &mut Engine, permit: Permit, answered: Answered) -> R
     requires fitting { fits_of permit.call answered.answer ≡ true }
     requires copied { answered.copy ≡ answered.answer }
     ensures heard { OnOk result (is_memory answered.answer ≡ false) }
-    ensures group { OnOk result (engine.new ≡ after_heard engine.old (entry_of permit answered.answer)) }
-    ensures next { IfOk result (λ next. NextAfterHeard engine.old (entry_of permit answered.answer) next engine.new) }
+    ensures group { OnOk result
+        (engine.new ≡ after_heard engine.old (entry_of permit answered.answer)) }
+    ensures next { IfOk result
+        (λ next. NextAfterHeard engine.old (entry_of permit answered.answer) next engine.new) }
     ensures err { OnErr result (engine.new ≡ engine.old) }
     ensures memory { IfErr result (λ halt. halt ≡ Halt.Memory) }
     ensures legal { Legal engine.new }
@@ -57,12 +59,17 @@ fn is_memory(answer: &DriverAnswer) -> bool
 }
 
 /// Makes a driver call on the wire of its connection, and brings the answer to the engine.
-pub(crate) fn ask<W: Wire>(engine: &mut Engine, wires: &mut Wires<W>, permit: Permit) -> Result<Next, Halt>
+pub(crate) fn ask<W: Wire>(
+    engine: &mut Engine,
+    wires: &mut Wires<W>,
+    permit: Permit,
+) -> Result<Next, Halt>
     requires legal { Legal engine.old }
     requires room { length engine.old < most_events }
     requires awaited { awaited engine.old permit.conn ≡ Some permit }
     requires wire { IsSome (slot wires.old permit.conn) }
-    ensures asked { IfOk result (λ next. Asks W.heard permit next engine.old engine.new wires.old wires.new) }
+    ensures asked { IfOk result
+        (λ next. Asks W.heard permit next engine.old engine.new wires.old wires.new) }
     ensures err { OnErr result (engine.new ≡ engine.old) }
     ensures memory { IfErr result (λ halt. halt ≡ Halt.Memory) }
     ensures legal { Legal engine.new }

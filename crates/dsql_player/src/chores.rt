@@ -1,7 +1,7 @@
-ghost use Rattle.std.specs.Prelude.{◌≡◌, ◌≢◌, ◌<◌, ◌≤◌, ℕ, true, false, length, Option, Some, None, IfOk, IfErr, OnOk, OnErr, IsErrOf, is_some, is_none};
-ghost use Rattle.dsql_driver.specs.Fits.{fits_of, is_memory, is_done};
+ghost use Rattle.std.specs.Prelude.{◌≡◌, ◌≢◌, ◌<◌, ◌≤◌, ℕ, true, false, length, Some, None, IfOk, IfErr, OnOk, OnErr, IsErrOf, is_some};
+ghost use Rattle.dsql_driver.specs.Fits.{fits_of, is_done};
 ghost use Rattle.dsql_driver.specs.declared.call.DriverCall.TheVariants.{Connect, Shut};
-ghost use Rattle.dsql_tenure.specs.Kinds.{is_shut, is_connect};
+ghost use Rattle.dsql_tenure.specs.Kinds.{is_shut};
 ghost use Rattle.dsql_history.specs.Legal.{Legal};
 ghost use Rattle.dsql_history.specs.Readers.Calls.{unfinished};
 ghost use Rattle.dsql_history.specs.Rules.House.{has_no_chore};
@@ -18,13 +18,19 @@ use dsql_engine::{Engine, Next};
 use dsql_tenure::Permit;
 
 /// Carries the layer's own calls out until none is left.
-pub(crate) fn carry_chores<F: Fleet>(engine: &mut Engine, wires: &mut Wires<F::Wire>, fleet: &mut F) -> Result<(), Halt>
+pub(crate) fn carry_chores<F: Fleet>(
+    engine: &mut Engine,
+    wires: &mut Wires<F::Wire>,
+    fleet: &mut F,
+) -> Result<(), Halt>
     requires legal { Legal engine.old }
     requires wires { WiresFit F.Wire.heard (is_some (F.retired fleet.old)) engine.old wires.old }
     ensures none { OnOk result (has_no_chore engine.new ≡ true) }
     ensures calls { OnOk result (unfinished engine.new ≡ unfinished engine.old) }
-    ensures gone { OnOk result (Retires (F.retired fleet.old) (F.retired fleet.new) engine.old engine.new) }
-    ensures wires { OnOk result (WiresFit F.Wire.heard (is_some (F.retired fleet.new)) engine.new wires.new) }
+    ensures gone { OnOk result
+        (Retires (F.retired fleet.old) (F.retired fleet.new) engine.old engine.new) }
+    ensures wires { OnOk result
+        (WiresFit F.Wire.heard (is_some (F.retired fleet.new)) engine.new wires.new) }
     ensures on { GoesOn engine.old engine.new }
     ensures full { IsErrOf result Halt.Full → most_events ≤ length engine.new }
     ensures ability { F.ability fleet.new ≡ F.ability fleet.old }
@@ -36,12 +42,18 @@ pub(crate) fn carry_chores<F: Fleet>(engine: &mut Engine, wires: &mut Wires<F::W
 }
 
 /// Carries the layer's first own call out, and says whether there was one.
-pub(crate) fn carry_first_chore<F: Fleet>(engine: &mut Engine, wires: &mut Wires<F::Wire>, fleet: &mut F) -> Result<bool, Halt>
+pub(crate) fn carry_first_chore<F: Fleet>(
+    engine: &mut Engine,
+    wires: &mut Wires<F::Wire>,
+    fleet: &mut F,
+) -> Result<bool, Halt>
     requires legal { Legal engine.old }
     requires wires { WiresFit F.Wire.heard (is_some (F.retired fleet.old)) engine.old wires.old }
     ensures first { IfOk result (λ carried. CarriesFirst carried engine.old engine.new) }
-    ensures gone { OnOk result (Retires (F.retired fleet.old) (F.retired fleet.new) engine.old engine.new) }
-    ensures wires { OnOk result (WiresFit F.Wire.heard (is_some (F.retired fleet.new)) engine.new wires.new) }
+    ensures gone { OnOk result
+        (Retires (F.retired fleet.old) (F.retired fleet.new) engine.old engine.new) }
+    ensures wires { OnOk result
+        (WiresFit F.Wire.heard (is_some (F.retired fleet.new)) engine.new wires.new) }
     ensures err { OnErr result (engine.new ≡ engine.old) }
     ensures full { IsErrOf result Halt.Full → most_events ≤ length engine.new }
     ensures ability { F.ability fleet.new ≡ F.ability fleet.old }
@@ -59,15 +71,22 @@ pub(crate) fn carry_first_chore<F: Fleet>(engine: &mut Engine, wires: &mut Wires
 }
 
 /// Carries one of the layer's own calls out: it opens a connection or shuts one.
-fn carry_chore<F: Fleet>(engine: &mut Engine, wires: &mut Wires<F::Wire>, fleet: &mut F, permit: Permit) -> Result<(), Halt>
+fn carry_chore<F: Fleet>(
+    engine: &mut Engine,
+    wires: &mut Wires<F::Wire>,
+    fleet: &mut F,
+    permit: Permit,
+) -> Result<(), Halt>
     requires legal { Legal engine.old }
     requires room { length engine.old < most_events }
     requires due { chore_due engine.old ≡ Some permit }
     requires awaited { awaited engine.old permit.conn ≡ Some permit }
     requires wires { WiresFit F.Wire.heard (is_some (F.retired fleet.old)) engine.old wires.old }
     ensures carried { OnOk result (CarriesChore engine.old engine.new) }
-    ensures gone { OnOk result (Retires (F.retired fleet.old) (F.retired fleet.new) engine.old engine.new) }
-    ensures wires { OnOk result (WiresFit F.Wire.heard (is_some (F.retired fleet.new)) engine.new wires.new) }
+    ensures gone { OnOk result
+        (Retires (F.retired fleet.old) (F.retired fleet.new) engine.old engine.new) }
+    ensures wires { OnOk result
+        (WiresFit F.Wire.heard (is_some (F.retired fleet.new)) engine.new wires.new) }
     ensures err { OnErr result (engine.new ≡ engine.old) }
     ensures memory { IfErr result (λ halt. halt ≡ Halt.Memory) }
     ensures ability { F.ability fleet.new ≡ F.ability fleet.old }
@@ -81,7 +100,12 @@ fn carry_chore<F: Fleet>(engine: &mut Engine, wires: &mut Wires<F::Wire>, fleet:
 }
 
 /// Shuts a connection, and gives its wire back.
-fn shut<F: Fleet>(engine: &mut Engine, wires: &mut Wires<F::Wire>, fleet: &mut F, permit: Permit) -> Result<(), Halt>
+fn shut<F: Fleet>(
+    engine: &mut Engine,
+    wires: &mut Wires<F::Wire>,
+    fleet: &mut F,
+    permit: Permit,
+) -> Result<(), Halt>
     requires legal { Legal engine.old }
     requires room { length engine.old < most_events }
     requires due { chore_due engine.old ≡ Some permit }
@@ -89,8 +113,10 @@ fn shut<F: Fleet>(engine: &mut Engine, wires: &mut Wires<F::Wire>, fleet: &mut F
     requires shuts { is_shut permit.call ≡ true }
     requires wires { WiresFit F.Wire.heard (is_some (F.retired fleet.old)) engine.old wires.old }
     ensures carried { OnOk result (CarriesChore engine.old engine.new) }
-    ensures gone { OnOk result (Retires (F.retired fleet.old) (F.retired fleet.new) engine.old engine.new) }
-    ensures wires { OnOk result (WiresFit F.Wire.heard (is_some (F.retired fleet.new)) engine.new wires.new) }
+    ensures gone { OnOk result
+        (Retires (F.retired fleet.old) (F.retired fleet.new) engine.old engine.new) }
+    ensures wires { OnOk result
+        (WiresFit F.Wire.heard (is_some (F.retired fleet.new)) engine.new wires.new) }
     ensures err { OnErr result (engine.new ≡ engine.old) }
     ensures memory { IfErr result (λ halt. halt ≡ Halt.Memory) }
     ensures ability { F.ability fleet.new ≡ F.ability fleet.old }
@@ -104,7 +130,12 @@ fn shut<F: Fleet>(engine: &mut Engine, wires: &mut Wires<F::Wire>, fleet: &mut F
 }
 
 /// Opens a connection.
-fn open<F: Fleet>(engine: &mut Engine, wires: &mut Wires<F::Wire>, fleet: &mut F, permit: Permit) -> Result<(), Halt>
+fn open<F: Fleet>(
+    engine: &mut Engine,
+    wires: &mut Wires<F::Wire>,
+    fleet: &mut F,
+    permit: Permit,
+) -> Result<(), Halt>
     requires legal { Legal engine.old }
     requires room { length engine.old < most_events }
     requires due { chore_due engine.old ≡ Some permit }
@@ -112,8 +143,10 @@ fn open<F: Fleet>(engine: &mut Engine, wires: &mut Wires<F::Wire>, fleet: &mut F
     requires connects { is_shut permit.call ≡ false }
     requires wires { WiresFit F.Wire.heard (is_some (F.retired fleet.old)) engine.old wires.old }
     ensures carried { OnOk result (CarriesChore engine.old engine.new) }
-    ensures gone { OnOk result (Retires (F.retired fleet.old) (F.retired fleet.new) engine.old engine.new) }
-    ensures wires { OnOk result (WiresFit F.Wire.heard (is_some (F.retired fleet.new)) engine.new wires.new) }
+    ensures gone { OnOk result
+        (Retires (F.retired fleet.old) (F.retired fleet.new) engine.old engine.new) }
+    ensures wires { OnOk result
+        (WiresFit F.Wire.heard (is_some (F.retired fleet.new)) engine.new wires.new) }
     ensures err { OnErr result (engine.new ≡ engine.old) }
     ensures memory { IfErr result (λ halt. halt ≡ Halt.Memory) }
     ensures ability { F.ability fleet.new ≡ F.ability fleet.old }
@@ -126,12 +159,17 @@ fn open<F: Fleet>(engine: &mut Engine, wires: &mut Wires<F::Wire>, fleet: &mut F
 }
 
 /// Connects a new wire, and puts it into its slot. A refusal is an answer too.
-fn connect<F: Fleet>(wires: &mut Wires<F::Wire>, fleet: &mut F, number: u32) -> Result<Answered, Halt>
+fn connect<F: Fleet>(
+    wires: &mut Wires<F::Wire>,
+    fleet: &mut F,
+    number: u32,
+) -> Result<Answered, Halt>
     requires empty { slot wires.old number ≡ None }
     ensures copied { IfOk result (λ a. a.copy ≡ a.answer) }
     ensures fitting { IfOk result (λ a. fits_of Connect a.answer ≡ true) }
     ensures others { OnOk result ((c : ℕ) → c ≢ number → slot wires.new c ≡ slot wires.old c) }
-    ensures wire { IfOk result (λ a. OpensWire F.Wire.heard (is_some (F.retired fleet.old)) a.answer (slot wires.new number)) }
+    ensures wire { IfOk result
+        (λ a. OpensWire F.Wire.heard (is_some (F.retired fleet.old)) a.answer (slot wires.new number)) }
     ensures memory { IfErr result (λ halt. halt ≡ Halt.Memory) }
     ensures retired { F.retired fleet.new ≡ F.retired fleet.old }
     ensures ability { F.ability fleet.new ≡ F.ability fleet.old }

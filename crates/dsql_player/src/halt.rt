@@ -1,10 +1,10 @@
+ghost use Rattle.std.specs.Prelude.{◌≡◌};
+ghost use Rattle.dsql_player.specs.declared.halt.Halt.TheVariants as halts;
+
 use dsql_engine::NoRoom;
 use dsql_value::Memory;
 use std::alloc::AllocError;
 use thiserror::Error;
-
-ghost use Rattle.std.specs.Prelude.{◌≡◌};
-ghost use Rattle.dsql_player.specs.declared.halt.Halt.TheVariants as halts;
 
 /// Why a run stops before its end.
 #[derive(Clone, Copy, Debug, PartialEq, Eq, Error)]

@@ -7,6 +7,6 @@ mod halt;
 mod line;
 mod wires;
 
-pub use line::{carry_end, carry_line};
 pub use halt::Halt;
+pub use line::{carry_end, carry_line};
 pub use wires::{Wires, retire_all};

@@ -1,4 +1,4 @@
-ghost use Rattle.std.specs.Prelude.{◌≡◌, ◌<◌, ◌≤◌, ◌++◌, ℕ, List, [], ◌∷◌, true, false, length, Option, None, IfOk, IfErr, OnOk, OnErr, IsErrOf, is_some};
+ghost use Rattle.std.specs.Prelude.{◌≡◌, ◌<◌, ◌≤◌, ◌++◌, ℕ, [], ◌∷◌, true, false, length, None, IfOk, OnOk, OnErr, IsErrOf, is_some};
 ghost use Rattle.dsql_history.specs.Legal.{Legal};
 ghost use Rattle.dsql_history.specs.Readers.Course.{has_ended};
 ghost use Rattle.dsql_history.specs.Readers.Calls.{unfinished};
@@ -18,18 +18,29 @@ use dsql_driver::{Fleet, Wire};
 use dsql_engine::{Engine, Next};
 use dsql_history::Op;
 
-/// Carries a client's line out: its call enters, and then again and again the layer's own calls come
-/// first and the client's call after them, until the call has its reply and all is quiet.
-pub fn carry_line<F: Fleet>(engine: &mut Engine, wires: &mut Wires<F::Wire>, fleet: &mut F, client: u8, op: Op) -> Result<(), Halt>
+/// Carries a client's line out: its call enters, and then again and again the layer's own calls
+/// come first and the client's call after them, until the call has its reply and all is quiet.
+///
+/// After an `Err` the run can't go on: its wires are given back by `retire_all`.
+pub fn carry_line<F: Fleet>(
+    engine: &mut Engine,
+    wires: &mut Wires<F::Wire>,
+    fleet: &mut F,
+    client: u8,
+    op: Op,
+) -> Result<(), Halt>
     requires quiet { is_quiet engine.old ≡ true }
     requires running { has_ended engine.old ≡ false }
     requires wires { WiresFit F.Wire.heard (is_some (F.retired fleet.old)) engine.old wires.old }
 
     ensures quiet { OnOk result (is_quiet engine.new ≡ true) }
     ensures running { OnOk result (has_ended engine.new ≡ false) }
-    ensures entered { OnOk result (entered_calls engine.new ≡ entered_calls engine.old ++ (client, op) ∷ []) }
-    ensures gone { OnOk result (TellsGone (F.retired fleet.old) (F.retired fleet.new) engine.old engine.new) }
-    ensures wires { OnOk result (WiresFit F.Wire.heard (is_some (F.retired fleet.new)) engine.new wires.new) }
+    ensures entered { OnOk result
+        (entered_calls engine.new ≡ entered_calls engine.old ++ (client, op) ∷ []) }
+    ensures gone { OnOk result
+        (TellsGone (F.retired fleet.old) (F.retired fleet.new) engine.old engine.new) }
+    ensures wires { OnOk result
+        (WiresFit F.Wire.heard (is_some (F.retired fleet.new)) engine.new wires.new) }
     ensures telling { OnOk result (is_some (F.retired fleet.new) ≡ is_some (F.retired fleet.old)) }
 
     // A run that has to stop has kept its turns, and its call has entered or not.
@@ -46,16 +57,25 @@ pub fn carry_line<F: Fleet>(engine: &mut Engine, wires: &mut Wires<F::Wire>, fle
     carry_chores(engine, wires, fleet)
 }
 
-/// Carries the end of a script out: the run ends, and every connection is shut and its wire retired.
-pub fn carry_end<F: Fleet>(engine: &mut Engine, wires: &mut Wires<F::Wire>, fleet: &mut F) -> Result<(), Halt>
+/// Carries the end of a script out: the run ends, and every connection is shut and its wire
+/// retired, so that the table of wires may be destroyed.
+///
+/// After an `Err` the wires that are left are given back by `retire_all`.
+pub fn carry_end<F: Fleet>(
+    engine: &mut Engine,
+    wires: &mut Wires<F::Wire>,
+    fleet: &mut F,
+) -> Result<(), Halt>
     requires quiet { is_quiet engine.old ≡ true }
     requires running { has_ended engine.old ≡ false }
     requires wires { WiresFit F.Wire.heard (is_some (F.retired fleet.old)) engine.old wires.old }
 
     ensures quiet { OnOk result (is_quiet engine.new ≡ true) }
     ensures ended { OnOk result (has_ended engine.new ≡ true) }
-    ensures gone { OnOk result (TellsGone (F.retired fleet.old) (F.retired fleet.new) engine.old engine.new) }
-    ensures wires { OnOk result (WiresFit F.Wire.heard (is_some (F.retired fleet.new)) engine.new wires.new) }
+    ensures gone { OnOk result
+        (TellsGone (F.retired fleet.old) (F.retired fleet.new) engine.old engine.new) }
+    ensures wires { OnOk result
+        (WiresFit F.Wire.heard (is_some (F.retired fleet.new)) engine.new wires.new) }
     ensures empty { OnOk result ((c : ℕ) → slot wires.new c ≡ None) }
     ensures telling { OnOk result (is_some (F.retired fleet.new) ≡ is_some (F.retired fleet.old)) }
 
@@ -98,13 +118,21 @@ fn end(engine: &mut Engine) -> Result<(), Halt>
 }
 
 /// Carries a call that was entered out, until it has its reply.
-fn carry_call<F: Fleet>(engine: &mut Engine, wires: &mut Wires<F::Wire>, fleet: &mut F, client: u8, first: Next) -> Result<(), Halt>
+fn carry_call<F: Fleet>(
+    engine: &mut Engine,
+    wires: &mut Wires<F::Wire>,
+    fleet: &mut F,
+    client: u8,
+    first: Next,
+) -> Result<(), Halt>
     requires legal { Legal engine.old }
     requires next { ComesNext engine.old client first }
     requires wires { WiresFit F.Wire.heard (is_some (F.retired fleet.old)) engine.old wires.old }
     ensures replied { OnOk result (unfinished engine.new ≡ []) }
-    ensures gone { OnOk result (Retires (F.retired fleet.old) (F.retired fleet.new) engine.old engine.new) }
-    ensures wires { OnOk result (WiresFit F.Wire.heard (is_some (F.retired fleet.new)) engine.new wires.new) }
+    ensures gone { OnOk result
+        (Retires (F.retired fleet.old) (F.retired fleet.new) engine.old engine.new) }
+    ensures wires { OnOk result
+        (WiresFit F.Wire.heard (is_some (F.retired fleet.new)) engine.new wires.new) }
     ensures on { GoesOn engine.old engine.new }
     ensures full { IsErrOf result Halt.Full → most_events ≤ length engine.new }
     ensures ability { F.ability fleet.new ≡ F.ability fleet.old }
@@ -127,15 +155,23 @@ fn is_reply(next: &Next) -> bool
 
 /// Carries the layer's first own call out, or else what the client's call does next, and says what
 /// that call does after it.
-fn take_turn<F: Fleet>(engine: &mut Engine, wires: &mut Wires<F::Wire>, fleet: &mut F, client: u8, next: Next) -> Result<Next, Halt>
+fn take_turn<F: Fleet>(
+    engine: &mut Engine,
+    wires: &mut Wires<F::Wire>,
+    fleet: &mut F,
+    client: u8,
+    next: Next,
+) -> Result<Next, Halt>
     requires legal { Legal engine.old }
     requires next { ComesNext engine.old client next }
     requires unreplied { is_reply next ≡ false }
     requires wires { WiresFit F.Wire.heard (is_some (F.retired fleet.old)) engine.old wires.old }
     ensures next { IfOk result (ComesNext engine.new client) }
     ensures nearer { IfOk result (ComesNearer engine.old next engine.new) }
-    ensures gone { OnOk result (Retires (F.retired fleet.old) (F.retired fleet.new) engine.old engine.new) }
-    ensures wires { OnOk result (WiresFit F.Wire.heard (is_some (F.retired fleet.new)) engine.new wires.new) }
+    ensures gone { OnOk result
+        (Retires (F.retired fleet.old) (F.retired fleet.new) engine.old engine.new) }
+    ensures wires { OnOk result
+        (WiresFit F.Wire.heard (is_some (F.retired fleet.new)) engine.new wires.new) }
     ensures on { GoesOn engine.old engine.new }
     ensures full { IsErrOf result Halt.Full → most_events ≤ length engine.new }
     ensures ability { F.ability fleet.new ≡ F.ability fleet.old }
@@ -149,7 +185,12 @@ fn take_turn<F: Fleet>(engine: &mut Engine, wires: &mut Wires<F::Wire>, fleet: &
 }
 
 /// Carries what a client's call does next out, where the layer has no call of its own to make.
-fn carry_on<W: Wire>(engine: &mut Engine, wires: &mut Wires<W>, client: u8, next: Next) -> Result<Next, Halt>
+fn carry_on<W: Wire>(
+    engine: &mut Engine,
+    wires: &mut Wires<W>,
+    client: u8,
+    next: Next,
+) -> Result<Next, Halt>
     requires legal { Legal engine.old }
     requires free { has_no_chore engine.old ≡ true }
     requires next { ComesNext engine.old client next }

@@ -78,7 +78,8 @@ impl<W: Wire> Wires<W> {
     /// No wires, which fits a run that has just begun. It takes no memory.
     pub fn new(alloc: Global) -> Wires<W>
         ensures empty { result ≡ [] }
-        ensures fitting { (telling : Bool) (version : ℕ) (caps : Caps) → WiresFit W.heard telling (Run version caps ∷ []) result }
+        ensures fitting { (telling : Bool) (version : ℕ) (caps : Caps)
+            → WiresFit W.heard telling (Run version caps ∷ []) result }
     {
         Wires {
             slots: Vec::new(alloc),
@@ -91,7 +92,8 @@ impl<W: Wire> Wires<W> {
         ensures copied { result.copy ≡ result.answer }
         ensures fitting { fits_of call.now result.answer ≡ true }
         ensures others { (c : ℕ) → c ≢ number → slot self.new c ≡ slot self.old c }
-        ensures told { HearsCall W.heard call.now result.answer (slot self.old number) (slot self.new number) }
+        ensures told { HearsCall W.heard call.now result.answer
+            (slot self.old number) (slot self.new number) }
     {
         match &mut self.slots[number as usize] {
             Some(wire) => wire.call(call),
@@ -102,7 +104,8 @@ impl<W: Wire> Wires<W> {
 
 /// Gives every wire that is left back to the fleet, the largest number first.
 pub fn retire_all<F: Fleet>(wires: Wires<F::Wire>, fleet: &mut F)
-    ensures retired { F.retired fleet.new ≡ retired_from F.Wire.heard (reverse wires) (F.retired fleet.old) }
+    ensures retired { F.retired fleet.new
+        ≡ retired_from F.Wire.heard (reverse wires) (F.retired fleet.old) }
     ensures ability { F.ability fleet.new ≡ F.ability fleet.old }
     ensures preferred { F.preferred fleet.new ≡ F.preferred fleet.old }
 {
@@ -115,7 +118,8 @@ pub fn retire_all<F: Fleet>(wires: Wires<F::Wire>, fleet: &mut F)
 
 /// Gives the wire of this connection back, if there is one.
 fn retire_slot<F: Fleet>(slot: Option<F::Wire>, number: u32, fleet: &mut F)
-    ensures retired { F.retired fleet.new ≡ retired_slot F.Wire.heard number slot (F.retired fleet.old) }
+    ensures retired { F.retired fleet.new
+        ≡ retired_slot F.Wire.heard number slot (F.retired fleet.old) }
     ensures ability { F.ability fleet.new ≡ F.ability fleet.old }
     ensures preferred { F.preferred fleet.new ≡ F.preferred fleet.old }
 {

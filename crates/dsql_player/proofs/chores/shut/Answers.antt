@@ -1,14 +1,11 @@
-use Rattle.std.proofs.Common.{◌≡◌, ◌∷◌, sym, subst, is_some}
+use Rattle.std.proofs.Common.{◌≡◌, ◌∷◌, is_some}
 use Rattle.dsql_tenure.specs.declared.entry.Entry.{Entry}
 use Rattle.dsql_tenure.specs.Permits.{entry_of}
-use Rattle.dsql_history.specs.declared.event.Event.TheVariants.{Heard, Pool}
-use Rattle.dsql_history.specs.declared.event.Move.TheVariants.{Gone}
 use Rattle.dsql_history.specs.declared.record.Place.TheVariants.{Closing}
 use Rattle.dsql_history.specs.Readers.Sets.{place}
 use Rattle.dsql_history.specs.Readers.Journals.{journal}
 use Rattle.dsql_player.specs.Told.{told_of}
-use Rattle.dsql_player.specs.Carried.{Retires}
-use Rattle.dsql_player.specs.WiresFit.{HasHeard, WiresFit}
+use Rattle.dsql_player.specs.WiresFit.{HasHeard}
 use Rattle.dsql_player.proofs.Awaiting.{chore_turn, chore_closes}
 use Rattle.dsql_player.proofs.Shutting.{shut_group, shut_carries, shut_tells, shut_fits, shut_holds}
 use Rattle.dsql_player.proofs.Telling.{retires_one}
@@ -31,7 +28,7 @@ returns-clause-gone g c =
     let e : Entry = entry_of p a.answer in
     let at : place past p.conn ≡ Closing = chore_closes past p c.requires.due c.requires.awaited c.requires.shuts in
     let told : HasHeard (is_some (g.F.Fleet.retired c.args.fleet.now)) (g.F.Wire.Wire.heard c.take.result) (told_of (e ∷ journal past p.conn)) =
-        shut_holds g.F.Wire.Wire.heard _ past e c.args.wires.now c.ask.new.wires c.take.result c.requires.wires at a.no_want a.told c.take.ensures.wire in
+    shut_holds g.F.Wire.Wire.heard _ past e c.args.wires.now c.ask.new.wires c.take.result c.requires.wires at a.no_want a.told c.take.ensures.wire in
     rw (c.retire.ensures.retired, shut_group past e c.ask.new.engine a.group at)
     (retires_one p.conn _ (told_of (e ∷ journal past p.conn)) _ past _ told (shut_tells past e))
 
