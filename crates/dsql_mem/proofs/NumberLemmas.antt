@@ -1,5 +1,5 @@
 -- Words that spell numbers, from what `parse` says of them.
-use Rattle.std.proofs.Common.{◌≡◌, ◌≢◌, ℕ, ℤ, pos, negsuc, ◌<◌, ◌≤◌, ◌^◌, List, Bool, true, false, ◌&&◌, if◌then◌else◌, cond, int_le, Option, Some, None, Result, Ok, Err, FitsSigned, w64, refl, sym, ap, ◌∙◌, arith, lit<}
+use Rattle.std.proofs.Common.{◌≡◌, ◌≢◌, ℕ, ℤ, pos, negsuc, ◌≤◌, List, true, false, ◌&&◌, Some, None, Result, Ok, FitsSigned, w64, sym, ap, ◌∙◌, arith}
 use Rattle.std.specs.Fmt.{signed_decimal}
 use Rattle.std.specs.Result.{result_ok}
 use Rattle.std.specs.Str.{bytes_eq}

@@ -1,6 +1,6 @@
 -- The words of a text, from what `split_once` and `contains` say of its first space.
 use Rattle.std.proofs.Common.{◌≡◌, ◌≢◌, ℕ, ◌<◌, length, get_or, List, [], ◌∷◌, ◌++◌, Option, Some, None, true, false, eqb, refl, subst, sym, ap, ◌∙◌, ◌+◌, MatchOption, is_some, Bor, arith}
-use Rattle.std.specs.List.{slice_split, All, count_by}
+use Rattle.std.specs.List.{All, count_by}
 use Rattle.std.proofs.lemmas.Bool.{ne_eqb, and_right, cond-false}
 use Rattle.std.proofs.lemmas.List.{get_or_default}
 use Rattle.std.proofs.lemmas.List.Splits.{slice_split_none, slice_split_at, length-slice_split}

@@ -1,10 +1,10 @@
 -- What each call does to a store and a session, and how it is answered.
-use Rattle.std.specs.Prelude.{ℕ, ℤ, pos, nat_lt, Bool, List, length, Option, Some, None, codes, if◌then◌else◌}
+use Rattle.std.specs.Prelude.{pos, nat_lt, length, Option, Some, None, codes, if◌then◌else◌}
 use Rattle.dsql_driver.specs.declared.answer.DriverAnswer.{DriverAnswer}
 use Rattle.dsql_driver.specs.declared.answer.DriverAnswer.TheVariants.{Done, Result, Skip, Fail}
 use Rattle.dsql_driver.specs.declared.call.DriverCall.{DriverCall}
-use Rattle.dsql_driver.specs.declared.call.DriverCall.TheVariants.{Connect, Reset, Valid, Ping, Prepare, CloseStmt, Exec, Query, Next, CloseRows, Begin, Commit, Rollback, Shut}
-use Rattle.dsql_driver.specs.declared.call.Input.TheVariants.{Text, Handle}
+use Rattle.dsql_driver.specs.declared.call.DriverCall.TheVariants.{Connect, Reset, Valid, Ping, Prepare, Exec, Query, Begin, Commit, Rollback, Shut}
+use Rattle.dsql_driver.specs.declared.call.Input.TheVariants.{Text}
 use Rattle.dsql_mem.specs.Entries.{Entries, with_value, value_of}
 use Rattle.dsql_mem.specs.Statement.{Statement, Set, statement_of, has_inputs}
 use Rattle.dsql_mem.specs.declared.session.Session.{Session}

@@ -1,5 +1,5 @@
 -- What a roll of retired wires holds.
-use Rattle.std.specs.Prelude.{ℕ, List, [], ◌∷◌, ◌++◌}
+use Rattle.std.specs.Prelude.{List, [], ◌∷◌, ◌++◌}
 use Rattle.dsql_driver.specs.Wires.{RetiredWire}
 use Rattle.dsql_mem.specs.declared.roll.Roll.{Roll, Empty, Wire'}
 

@@ -1,8 +1,8 @@
 -- What wires and fleets in memory are.
-use Rattle.std.specs.Prelude.{ℕ, Bool, true, false, List, [], ◌∷◌, ◌++◌, Option, unwrap_or, if◌then◌else◌}
+use Rattle.std.specs.Prelude.{ℕ, true, false, List, [], ◌∷◌, ◌++◌, Option, unwrap_or, if◌then◌else◌}
 use Rattle.dsql_driver.specs.Fits.{is_fault}
 use Rattle.dsql_driver.specs.Memory.{one_more}
-use Rattle.dsql_driver.specs.Wires.{Told, LiveCursor, RetiredWire}
+use Rattle.dsql_driver.specs.Wires.{Told, LiveCursor, RetiredWire, newly_told}
 use Rattle.dsql_driver.specs.declared.answer.DriverAnswer.{DriverAnswer}
 use Rattle.dsql_driver.specs.declared.caps.Caps.{Caps}
 use Rattle.dsql_driver.specs.declared.call.DriverCall.{DriverCall}
@@ -16,6 +16,10 @@ pub record WireState : Type 0 where
   pub session : Session
   pub heard : List Told
   pub faults : ℕ
+
+-- a wire that has heard just its Connect
+abbrev pub new_wire : WireState
+new_wire = record { store = []; session = record {}; heard = newly_told; faults = 0 }
 
 -- the handles of statements that are live in a session: none can be prepared yet
 abbrev pub handles_of : Session → List ℕ

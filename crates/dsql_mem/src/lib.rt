@@ -3,6 +3,7 @@
 #![tactic(auto)]
 
 mod copies;
+mod fleet;
 mod number;
 mod roll;
 mod session;
@@ -10,6 +11,7 @@ mod statement;
 mod store;
 mod wire;
 
+pub use fleet::MemFleet;
 pub use session::Session;
 pub use store::Store;
 pub use wire::MemWire;

@@ -1,9 +1,9 @@
 ghost use Rattle.std.specs.Prelude.{◌≡◌, ◌≤◌, [], Some, true, false, IfOk, OnOk, OnErr, IsOk, if◌then◌else◌};
 ghost use Rattle.dsql_driver.specs.Fits.{fits_of, is_fault, is_memory};
 ghost use Rattle.dsql_driver.specs.Streams.{HasRisen};
-ghost use Rattle.dsql_driver.specs.Wires.{newly_told, told_after, KeepsHandles, KeepsCursors};
+ghost use Rattle.dsql_driver.specs.Wires.{told_after, KeepsHandles, KeepsCursors};
 ghost use Rattle.dsql_mem.specs.Effect.{effect};
-ghost use Rattle.dsql_mem.specs.Wire.{after_call, faults_after, handles_of, cursors_of};
+ghost use Rattle.dsql_mem.specs.Wire.{new_wire, after_call, faults_after, handles_of, cursors_of};
 
 use crate::copies::Copies;
 use crate::roll::{Roll, Told};
@@ -35,7 +35,7 @@ impl<R: AllocGlobal + Drop> Model for MemWire<R> {
 impl<R: AllocGlobal + Drop> MemWire<R> {
     /// A wire that has heard just its Connect, with the room for a roll's entry.
     pub(crate) fn new(rt: R) -> Result<MemWire<R>, Memory>
-        ensures { IfOk result (λ wire. wire.heard ≡ newly_told) }
+        ensures { IfOk result (λ wire. wire ≡ new_wire) }
     {
         let mut heard = Vec::new(rt.alloc());
         heard.push((DriverCall::Connect, DriverAnswer::Done))?;

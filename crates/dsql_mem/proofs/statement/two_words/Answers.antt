@@ -1,5 +1,4 @@
-use Rattle.std.proofs.Common.{◌≡◌, None, sym, ap, ◌∙◌, eqb-true}
-use Rattle.dsql_mem.specs.Statement.{pair_of}
+use Rattle.std.proofs.Common.{sym, eqb-true}
 use Rattle.dsql_mem.proofs.WordLemmas.{pair_of-empty_first, pair_of-empty_second, pair_of-third}
 use Rattle.dsql_mem.proofs.statement.two_words.Goals as goal
 use Rattle.dsql_mem.proofs.statement.two_words.Goals.{then-is_empty-via-then-is_empty, then-is_empty-via-else-is_empty+then-is_empty-2, then-is_empty-via-else-is_empty+else-is_empty-2+then-is_some}
