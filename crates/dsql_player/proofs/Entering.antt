@@ -1,8 +1,9 @@
 -- A client's call enters and asks for a connection.
-use Rattle.std.proofs.Common.{◌≡◌, ◌==◌, inl, inr, ℕ, ◌<◌, Bool, true, false, ◌&&◌, ◌||◌, List, [], ◌∷◌, ◌++◌, length, Some, None, refl, sym, ◌∙◌, ap, subst, get_or, set, arith}
+use Rattle.std.proofs.Common.{◌≡◌, ◌==◌, inl, inr, ℕ, ◌<◌, Bool, true, false, ◌&&◌, ◌||◌, List, [], ◌∷◌, ◌++◌, length, Option, Some, None, refl, sym, ◌∙◌, ap, subst, get_or, set, arith}
 use Rattle.std.specs.Prelude.{position, is_none, nat_lt}
 use Rattle.std.proofs.lemmas.Bool.Decides.{nat_tests}
 use Rattle.std.proofs.lemmas.List.{get_or-set_same}
+use Rattle.dsql_driver.specs.declared.call.DriverCall.{DriverCall}
 use Rattle.dsql_tenure.specs.declared.entry.Owner.TheVariants.{Call}
 use Rattle.dsql_tenure.specs.declared.entry.Permit.{Permit}
 use Rattle.dsql_tenure.specs.Readers.{is_empty}
@@ -18,27 +19,31 @@ use Rattle.dsql_history.specs.declared.reply.Reply.TheVariants.{TooMany}
 use Rattle.dsql_history.specs.Readers.Lists.{first, last}
 use Rattle.dsql_history.specs.Readers.Course.{has_ended}
 use Rattle.dsql_history.specs.Readers.Sets.{place, places, idle, next_tenure, open_count, is_idle, is_opening, is_closing}
-use Rattle.dsql_history.specs.Readers.Calls.{calls, call_record, unfinished, is_busy, next_call, nobody, statement}
+use Rattle.dsql_history.specs.Readers.Calls.{calls, call_record, unfinished, is_busy, home, next_call, reply_due, nobody, statement}
 use Rattle.dsql_history.specs.Rules.House.{is_quiet, has_no_chore}
+use Rattle.dsql_history.specs.Rules.Causes.{cause}
 use Rattle.dsql_history.specs.Rules.Limit.{room}
 use Rattle.dsql_history.specs.Rules.Line.{due}
 use Rattle.dsql_history.specs.Legal.{Allowed, Lawful}
-use Rattle.dsql_history.proofs.Rows.{both, within_rows, read_push, same_or_not}
+use Rattle.dsql_history.proofs.Rows.{both, within_rows, read_push, length_push, same_or_not}
 use Rattle.dsql_history.proofs.SoundSets.{moves_of}
 use Rattle.dsql_history.proofs.SoundCalls.{sound_calls}
 use Rattle.dsql_engine.specs.declared.next.Next.{Next}
 use Rattle.dsql_engine.specs.declared.next.Next.TheVariants.{Send, Blocked, Reply, Quiet}
 use Rattle.dsql_engine.specs.declared.next.Why.TheVariants as whys
 use Rattle.dsql_engine.specs.Awaited.{awaited, awaited_at}
-use Rattle.dsql_engine.specs.Groups.{after_enter, after_ask}
-use Rattle.dsql_engine.specs.Steps.{SendsOn, NextAfterAsk, NextAfterEnter}
-use Rattle.dsql_player.specs.Turns.{keeps_turns}
-use Rattle.dsql_player.specs.Carried.{Enters, IsUnderWay, ComesNext, the_call}
+use Rattle.dsql_engine.specs.Groups.{after_enter, after_ask, after_body, lent_to, leaving, told}
+use Rattle.dsql_engine.specs.Steps.{SendsOn, NextOfBody, NextAfterAsk, NextAfterEnter, IsParked, IsParkedAt}
+use Rattle.dsql_player.specs.Turns.{Turns, keeps_turns}
+use Rattle.dsql_player.specs.Entered.{entered_calls}
+use Rattle.dsql_player.specs.Carried.{GoesOn, KeepsPlaces, Enters, IsUnderWay, ComesNext, the_call}
 use Rattle.dsql_player.specs.WiresFit.{has_wire}
-use Rattle.dsql_player.proofs.Going.{client_move}
+use Rattle.dsql_player.proofs.Going.{client_move, on_still, on_replied}
 use Rattle.dsql_player.proofs.Wiring.{place_elsewhere}
 use Rattle.dsql_player.proofs.Places.{none-set, none_at_places}
-use Rattle.dsql_player.proofs.Sending.{IsCall, call_lent, without_one}
+use Rattle.dsql_player.proofs.Sending.{IsCall, call_lent, without_one, leaving_calls, leaving_on}
+use Rattle.dsql_player.proofs.Waking.{still_places, left_places}
+use Rattle.dsql_player.proofs.Parking.{home_at}
 
 empty_list : (ns : List ℕ) → is_empty ns ≡ true → ns ≡ []
 empty_list [] h = refl
@@ -147,6 +152,70 @@ sends_first past client op c t (Blocked why) l none free at sends = absurd sends
 sends_first past client op c t (Reply n) l none free at sends = absurd sends
 sends_first past client op c t Quiet l none free at sends = absurd sends
 
+-- what a call's entering brings about, before it is told what comes next
+record Begins (past : List Event) (client : ℕ) (op : Op) (now : List Event) : Type 0 where
+  turns : Turns past → Turns now
+  entered : entered_calls now ≡ entered_calls past ++ (client, op) ∷ []
+  ended : has_ended now ≡ has_ended past
+  places : KeepsPlaces past now
+
+begins_then : (past mid now : List Event) (client : ℕ) (op : Op) (next : Next) → Begins past client op mid → GoesOn mid now → KeepsPlaces mid now → ComesNext now client next → Enters past client op next now
+begins_then past mid now client op next b g k n = record {
+  turns = λ h. g.turns (b.turns h);
+  entered = g.entered ∙ b.entered;
+  ended = g.ended ∙ b.ended;
+  places = record {
+    wired = λ c. k.wired c ∙ b.places.wired c;
+    journals = λ c. k.journals c ∙ b.places.journals c;
+    told = k.told ∙ b.places.told;
+  };
+  next = n;
+}
+
+begins_over : (past : List Event) (client : ℕ) (op : Op) (move : Move) → is_quiet past ≡ true → has_ended past ≡ false
+    → KeepsPlaces past (Pool move ∷ Entered client (next_call past) op ∷ past) → Begins past client op (Pool move ∷ Entered client (next_call past) op ∷ past)
+begins_over past client op move quiet running places = record {
+  turns = λ h. ((h, entered_turn past client (next_call past) op quiet running), refl);
+  entered = refl;
+  ended = refl;
+  places = places;
+}
+
+-- The latest idle connection is lent to the call, and used.
+lend_enters : (past : List Event) (client : ℕ) (op : Op) (c : ℕ) (then_due : Option DriverCall) (next : Next) (now : List Event) → is_quiet past ≡ true → has_ended past ≡ false → Lawful past
+    → now ≡ after_body c (next_call past) (lent_to (Entered client (next_call past) op ∷ past) c (next_call past)) then_due → NextOfBody c (next_call past) then_due next now → Lawful now
+    → Enters past client op next now
+lend_enters past client op c (Some call) next now quiet running l is n k =
+    let m = next_call past in
+    let t = next_tenure past c in
+    let H : List Event = Entered client m op ∷ past in
+    let lent : List Event = lent_to H c m in
+    let lawful : Lawful lent = subst Lawful is k in
+    let s = still past quiet in
+    let at : place past c ≡ Idle = was_idle H c t m s.free lawful.1 in
+    let places : KeepsPlaces past lent = record { wired = lent_wired past c t m at; journals = λ d. refl; told = refl } in
+    subst (λ (x : List Event). Enters past client op next x) (sym is)
+    (begins_then past lent lent client op next (begins_over past client op (Lend c t (Call m) m) quiet running places) (on_still lent) (still_places lent)
+    (sends_first past client op c t next l s.none s.free at (subst (λ (x : List Event). SendsOn c x next) is n)))
+lend_enters past client op c None next now quiet running l is n k =
+    let m = next_call past in
+    let t = next_tenure past c in
+    let H : List Event = Entered client m op ∷ past in
+    let lent : List Event = lent_to H c m in
+    let why = cause lent c in
+    let lawful : Lawful (told m (leaving c why ∷ lent)) = subst Lawful is k in
+    let s = still past quiet in
+    let at : place past c ≡ Idle = was_idle H c t m s.free lawful.0.0.1 in
+    let places : KeepsPlaces past lent = record { wired = lent_wired past c t m at; journals = λ d. refl; told = refl } in
+    let none : unfinished (told m (leaving c why ∷ lent)) ≡ [] =
+    without_one (unfinished (leaving c why ∷ lent)) m (leaving_calls c why lent ∙ entered_alone past client op m s.none) in
+    rw (is, n)
+    (begins_then past lent (told m (leaving c why ∷ lent)) client op (Reply m)
+    (begins_over past client op (Lend c t (Call m) m) quiet running places)
+    (on_replied lent (leaving c why ∷ lent) m (reply_due (leaving c why ∷ lent) m) (leaving_on c why lent lent (on_still lent)))
+    (left_places lent c t m m why (lent_place past c t m at))
+    none)
+
 begin_wired : (past : List Event) (n d : ℕ) → has_wire (get_or (places past ++ Opening n ∷ []) d Nowhere) ≡ has_wire (place past d)
 begin_wired past n d =
     elim (read_push (places past) (Opening n) d Nowhere) [
@@ -157,36 +226,41 @@ begin_wired past n d =
       | inr h ↦ ap has_wire h.1
     ]
 
-lend_enters : (past : List Event) (client : ℕ) (op : Op) (c t : ℕ) (next : Next) → is_quiet past ≡ true → has_ended past ≡ false → Lawful past
-    → Lawful (Pool (Lend c t (Call (next_call past)) (next_call past)) ∷ Entered client (next_call past) op ∷ past)
-    → SendsOn c (Pool (Lend c t (Call (next_call past)) (next_call past)) ∷ Entered client (next_call past) op ∷ past) next
-    → Enters past client op next (Pool (Lend c t (Call (next_call past)) (next_call past)) ∷ Entered client (next_call past) op ∷ past)
-lend_enters past client op c t next quiet running l k sends =
-    let n = next_call past in
-    let s = still past quiet in
-    let at : place past c ≡ Idle = was_idle (Entered client n op ∷ past) c t n s.free k.1 in
-    record {
-      turns = λ h. ((h, entered_turn past client n op quiet running), refl);
-      entered = refl;
-      ended = refl;
-      places = record { wired = lent_wired past c t n at; journals = λ d. refl; told = refl };
-      next = sends_first past client op c t next l s.none s.free at sends;
-    }
+opening_place : (ps : List Place) (n : ℕ) → get_or (ps ++ Opening n ∷ []) (length ps) Nowhere ≡ Opening n
+opening_place ps n =
+    elim (read_push ps (Opening n) (length ps) Nowhere) [
+      | inl h ↦ h.1
+      | inr h ↦ absurd (h.0 refl)
+    ]
 
--- a connection begins to be opened for the call, or it is refused
-begin_enters : (past : List Event) (client : ℕ) (op : Op) (c : ℕ) → is_quiet past ≡ true → has_ended past ≡ false → Lawful past
-    → Enters past client op (Blocked whys.Opening) (Pool (OpenStart c (next_call past)) ∷ Entered client (next_call past) op ∷ past)
-begin_enters past client op c quiet running l =
+-- the call waits while its connection is being opened
+opening_parked : (past : List Event) (client : ℕ) (op : Op) (k : ℕ) → k ≡ next_call past
+    → IsParked (Pool (OpenStart (length (places past)) (next_call past)) ∷ Entered client (next_call past) op ∷ past) (Some k)
+opening_parked past client op k is =
     let n = next_call past in
-    let s = still past quiet in
-    record {
-      turns = λ h. ((h, entered_turn past client n op quiet running), refl);
-      entered = refl;
-      ended = refl;
-      places = record { wired = begin_wired past n; journals = λ d. refl; told = refl };
-      next = under_way past client op (OpenStart c n) l s.none;
-    }
+    let c = length (places past) in
+    let H : List Event = Entered client n op ∷ past in
+    let now : List Event = Pool (OpenStart c n) ∷ H in
+    let lt : n < length (calls H) = omega (arith, length_push (calls past) (record { client = client; home = 0; text = statement op; decided = None })) in
+    let at_home : home now k ≡ c = ap (home now) is ∙ home_at (calls H) n c lt in
+    subst (λ (d : ℕ). IsParkedAt (place now d) d now) (sym at_home) (subst (λ (q : Place). IsParkedAt q c now) (sym (opening_place (places past) n)) tt)
 
+-- A connection begins to be opened for the call.
+begin_enters : (past : List Event) (client : ℕ) (op : Op) → is_quiet past ≡ true → has_ended past ≡ false → Lawful past
+    → Enters past client op (Blocked whys.Opening) (Pool (OpenStart (length (places past)) (next_call past)) ∷ Entered client (next_call past) op ∷ past)
+begin_enters past client op quiet running l =
+    let n = next_call past in
+    let c = length (places past) in
+    let now : List Event = Pool (OpenStart c n) ∷ Entered client n op ∷ past in
+    let s = still past quiet in
+    let places : KeepsPlaces past now = record { wired = begin_wired past n; journals = λ d. refl; told = refl } in
+    begins_then past now now client op (Blocked whys.Opening) (begins_over past client op (OpenStart c n) quiet running places) (on_still now) (still_places now)
+    (record {
+      under_way = under_way past client op (OpenStart c n) l s.none;
+      parked = opening_parked past client op (the_call now) (ap first (entered_alone past client op n s.none));
+    })
+
+-- The call is refused.
 refused_enters : (past : List Event) (client : ℕ) (op : Op) → is_quiet past ≡ true → has_ended past ≡ false
     → Enters past client op (Reply (next_call past)) (Replied (next_call past) TooMany ∷ Entered client (next_call past) op ∷ past)
 refused_enters past client op quiet running =
@@ -201,14 +275,13 @@ refused_enters past client op quiet running =
     }
 
 ask_enters : (past : List Event) (client : ℕ) (op : Op) (idles : List ℕ) (may : Bool) (next : Next) (now : List Event) → is_quiet past ≡ true → has_ended past ≡ false → Lawful past
-    → nat_lt (open_count past) room ≡ may → now ≡ after_ask (Entered client (next_call past) op ∷ past) (next_call past) idles → NextAfterAsk (next_call past) idles may next now → Lawful now
-    → Enters past client op next now
+    → nat_lt (open_count past) room ≡ may → now ≡ after_ask (Entered client (next_call past) op ∷ past) (next_call past) idles
+    → NextAfterAsk (Entered client (next_call past) op ∷ past) (next_call past) idles may next now → Lawful now → Enters past client op next now
 ask_enters past client op (c ∷ others) may next now quiet running l room is n k =
     let H : List Event = Entered client (next_call past) op ∷ past in
-    let lent : List Event = Pool (Lend (last (c ∷ others)) (next_tenure H (last (c ∷ others))) (Call (next_call past)) (next_call past)) ∷ H in
-    subst (λ (x : List Event). Enters past client op next x) (sym is)
-    (lend_enters past client op (last (c ∷ others)) (next_tenure H (last (c ∷ others))) next quiet running l (subst Lawful is k) (subst (λ (x : List Event). SendsOn (last (c ∷ others)) x next) is n))
-ask_enters past client op [] true next now quiet running l room is n k = rw (is, room, n) (begin_enters past client op (length (places past)) quiet running l)
+    let lent : List Event = lent_to H (last (c ∷ others)) (next_call past) in
+    lend_enters past client op (last (c ∷ others)) (due lent (last (c ∷ others)) (next_tenure H (last (c ∷ others))) (next_call past)) next now quiet running l is n k
+ask_enters past client op [] true next now quiet running l room is n k = rw (is, room, n) (begin_enters past client op quiet running l)
 ask_enters past client op [] false next now quiet running l room is n k = rw (is, room, n) (refused_enters past client op quiet running)
 
 -- A client's call entered.

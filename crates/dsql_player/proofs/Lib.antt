@@ -9,3 +9,4 @@ pub mod Waking
 pub mod Places
 pub mod Entering
 pub mod Ending
+pub mod Parking

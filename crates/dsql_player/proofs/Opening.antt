@@ -1,6 +1,7 @@
 -- A connection is opened and lent, or its Connect is refused.
-use Rattle.std.proofs.Common.{◌≡◌, ◌≢◌, inl, inr, ℕ, ◌<◌, Bool, true, false, cond, List, [], ◌∷◌, length, Option, Some, None, refl, sym, ◌∙◌, ap, subst, get_or, set, arith}
+use Rattle.std.proofs.Common.{◌==◌, ◌+◌, ◌⊎◌, ◌≡◌, ◌≢◌, inl, inr, ℕ, ◌<◌, Bool, true, false, cond, List, [], ◌∷◌, length, Option, Some, None, refl, sym, ◌∙◌, ap, subst, get_or, set, arith}
 use Rattle.std.proofs.lemmas.List.{get_or-set_same}
+use Rattle.std.proofs.lemmas.Bool.Decides.{nat_tests}
 use Rattle.dsql_driver.specs.Wires.{Told}
 use Rattle.dsql_driver.specs.Fits.{is_done}
 use Rattle.dsql_driver.specs.declared.answer.DriverAnswer.{DriverAnswer}
@@ -18,18 +19,21 @@ use Rattle.dsql_history.specs.declared.event.Event.TheVariants.{Heard, Pool}
 use Rattle.dsql_history.specs.declared.event.Move.TheVariants.{Lend, Fell}
 use Rattle.dsql_history.specs.declared.record.Place.{Place}
 use Rattle.dsql_history.specs.declared.record.Place.TheVariants.{Nowhere, Opening, Lent}
-use Rattle.dsql_history.specs.Readers.Sets.{place, places, next_tenure}
-use Rattle.dsql_history.specs.Readers.Journals.{journal}
+use Rattle.dsql_history.specs.Readers.Sets.{place, places, lends, next_tenure}
+use Rattle.dsql_history.specs.Readers.Journals.{journal, heard_in}
+use Rattle.dsql_history.specs.Readers.Calls.{calls, home, unfinished}
 use Rattle.dsql_history.specs.Legal.{Allowed, Lawful}
 use Rattle.dsql_history.proofs.Rows.{within_rows}
+use Rattle.dsql_engine.specs.Steps.{IsParked, IsParkedAt}
 use Rattle.dsql_engine.specs.Groups.{after_heard, after_answer}
 use Rattle.dsql_engine.specs.Awaited.{chore_due}
 use Rattle.dsql_player.specs.Told.{gone_told}
 use Rattle.dsql_player.specs.Turns.{keeps_turns}
-use Rattle.dsql_player.specs.Carried.{CarriesChore}
+use Rattle.dsql_player.specs.Carried.{GoesOn, CarriesChore}
 use Rattle.dsql_player.specs.WiresFit.{slot, FitsAt, WiresFit, OpensWire}
 use Rattle.dsql_player.proofs.Going.{on_still, on_heard, on_move}
 use Rattle.dsql_player.proofs.Awaiting.{IsConnect, chore_turn, connect_of}
+use Rattle.dsql_player.proofs.Parking.{home_heard, home_fell, home_set, parked_on}
 use Rattle.dsql_player.proofs.Wiring.{fit_but_one, place_elsewhere, journal_elsewhere, journal_here}
 use Rattle.dsql_player.proofs.Shutting.{set_default}
 
@@ -56,18 +60,6 @@ open_is past p answer w now is =
 pub open_turn : (past : List Event) (p : Permit) (answer : DriverAnswer) → IsConnect past p.conn p (place past p.conn) → chore_due past ≡ Some p
     → keeps_turns past (Heard (connect_entry p.conn answer)) ≡ true
 open_turn past p answer w due = subst (λ (x : Entry). keeps_turns past (Heard x) ≡ true) (connect_of past p answer w) (chore_turn past p answer due)
-
-pub open_carries : (past : List Event) (e : Entry) (n : ℕ) (b : Bool) → keeps_turns past (Heard e) ≡ true → CarriesChore past (opened past e n b)
-open_carries past e n true turn = record {
-  on = on_move past (Heard e ∷ past) (Lend e.conn (next_tenure past e.conn) (Call n) n) (on_heard past past e (on_still past) turn);
-  calls = refl;
-  grows = omega arith;
-}
-open_carries past e n false turn = record {
-  on = on_move past (Heard e ∷ past) (Fell e.conn n) (on_heard past past e (on_still past) turn);
-  calls = refl;
-  grows = omega arith;
-}
 
 pub open_tells : (past : List Event) (e : Entry) (n : ℕ) (b : Bool) → gone_told (opened past e n b) ≡ gone_told past
 open_tells past e n true = refl
@@ -98,6 +90,66 @@ within_places past c n at =
       | inl h ↦ h
       | inr h ↦ let k : Nowhere ≡ Opening n = sym h.1 ∙ at in absurd cc
     ]
+
+later_tenure : (lends : ℕ) → (1 == lends + 2) ≡ false
+later_tenure lends = grind (arith, nat_tests)
+
+fresh_tenure : (past : List Event) (c : ℕ) (answer : DriverAnswer) → journal past c ≡ [] → heard_in (Heard (connect_entry c answer) ∷ past) c (next_tenure past c) ≡ []
+fresh_tenure past c answer none =
+    let j : journal (Heard (connect_entry c answer) ∷ past) c ≡ connect_entry c answer ∷ [] = journal_here past (connect_entry c answer) ∙ ap (λ k. connect_entry c answer ∷ k) none in
+    rw (j, later_tenure (lends past c)) refl
+
+opened_home : (past : List Event) (e : Entry) (m n : ℕ)
+    → (home (Pool (Lend e.conn (next_tenure past e.conn) (Call m) m) ∷ Heard e ∷ past) n ≡ e.conn) ⊎ (home (Pool (Lend e.conn (next_tenure past e.conn) (Call m) m) ∷ Heard e ∷ past) n ≡ home past n)
+opened_home past e m n =
+    elim (home_set (calls (Heard e ∷ past)) m e.conn n) [
+      | inl h ↦ inl h
+      | inr h ↦ inr (h ∙ home_heard past e n)
+    ]
+
+open_parked : (past : List Event) (c m : ℕ) (answer : DriverAnswer) (b : Bool) (n : ℕ) → place past c ≡ Opening m → journal past c ≡ [] → IsParked past (Some n)
+    → IsParked (opened past (connect_entry c answer) m b) (Some n)
+open_parked past c m answer true n at none p =
+    let e : Entry = connect_entry c answer in
+    let t : ℕ = next_tenure past c in
+    let now : List Event = opened past e m true in
+    let lent : place now c ≡ Lent t (Call m) = get_or-set_same (places past) c (Lent t (Call m)) Nowhere (within_places past c m at) in
+    parked_on past now c n
+    (opened_home past e m n)
+    (place_elsewhere (places past) c (Lent t (Call m)))
+    (journal_elsewhere past e)
+    (subst (λ (q : Place). IsParkedAt q c now) (sym lent) (fresh_tenure past c answer none))
+    p
+open_parked past c m answer false n at none p =
+    let e : Entry = connect_entry c answer in
+    let now : List Event = opened past e m false in
+    parked_on past now c n
+    (inr (home_fell (Heard e ∷ past) c m n ∙ home_heard past e n))
+    (place_elsewhere (places past) c Nowhere)
+    (journal_elsewhere past e)
+    (subst (λ (q : Place). IsParkedAt q c now) (sym (set_default (places past) c Nowhere)) tt)
+    p
+
+opened_on : (past : List Event) (e : Entry) (n : ℕ) (b : Bool) → keeps_turns past (Heard e) ≡ true → GoesOn past (opened past e n b)
+opened_on past e n true turn = on_move past (Heard e ∷ past) (Lend e.conn (next_tenure past e.conn) (Call n) n) (on_heard past past e (on_still past) turn)
+opened_on past e n false turn = on_move past (Heard e ∷ past) (Fell e.conn n) (on_heard past past e (on_still past) turn)
+
+opened_calls : (past : List Event) (e : Entry) (n : ℕ) (b : Bool) → unfinished (opened past e n b) ≡ unfinished past
+opened_calls past e n true = refl
+opened_calls past e n false = refl
+
+opened_grows : (past : List Event) (e : Entry) (n : ℕ) (b : Bool) → length past < length (opened past e n b)
+opened_grows past e n true = omega arith
+opened_grows past e n false = omega arith
+
+pub open_carries : (past : List Event) (c n : ℕ) (answer : DriverAnswer) (b : Bool) → keeps_turns past (Heard (connect_entry c answer)) ≡ true → place past c ≡ Opening n → journal past c ≡ []
+    → CarriesChore past (opened past (connect_entry c answer) n b)
+open_carries past c n answer b turn at none = record {
+  on = opened_on past (connect_entry c answer) n b turn;
+  calls = opened_calls past (connect_entry c answer) n b;
+  parked = λ m p. open_parked past c n answer b m at none p;
+  grows = opened_grows past (connect_entry c answer) n b;
+}
 
 lent_here : {W : Type 0} (heard : W → Option (List Told)) (telling : Bool) (past : List Event) (c t n : ℕ) (wire : Option W) → journal past c ≡ [] → c < length (places past)
     → OpensWire heard telling Done wire

@@ -123,15 +123,15 @@ again past client p answer t (Blocked why) s at sends room = absurd sends
 again past client p answer t (Reply n) s at sends room = absurd sends
 again past client p answer t Quiet s at sends room = absurd sends
 
-leaving_calls : (c : ℕ) (why : Option CloseCause) (past : List Event) → unfinished (leaving c why ∷ past) ≡ unfinished past
+pub leaving_calls : (c : ℕ) (why : Option CloseCause) (past : List Event) → unfinished (leaving c why ∷ past) ≡ unfinished past
 leaving_calls c None past = refl
 leaving_calls c (Some why) past = refl
 
-leaving_told : (c : ℕ) (why : Option CloseCause) (past : List Event) → gone_told (leaving c why ∷ past) ≡ gone_told past
+pub leaving_told : (c : ℕ) (why : Option CloseCause) (past : List Event) → gone_told (leaving c why ∷ past) ≡ gone_told past
 leaving_told c None past = refl
 leaving_told c (Some why) past = refl
 
-leaving_on : (c : ℕ) (why : Option CloseCause) (old now : List Event) → GoesOn old now → GoesOn old (leaving c why ∷ now)
+pub leaving_on : (c : ℕ) (why : Option CloseCause) (old now : List Event) → GoesOn old now → GoesOn old (leaving c why ∷ now)
 leaving_on c None old now g = on_move old now (Back c) g
 leaving_on c (Some why) old now g = on_move old now (CloseStart c why) g
 
@@ -174,19 +174,19 @@ sent_steps past client p answer next now s is n room =
     (subst (λ (q : Place). NextAfterAnswer q e (Heard e ∷ past) next now) w.lent n)
     room
 
-leaving_place : (c : ℕ) (why : Option CloseCause) (past : List Event) (d : ℕ) → d ≢ c → place (leaving c why ∷ past) d ≡ place past d
+pub leaving_place : (c : ℕ) (why : Option CloseCause) (past : List Event) (d : ℕ) → d ≢ c → place (leaving c why ∷ past) d ≡ place past d
 leaving_place c None past d n = place_elsewhere (places past) c Idle d n
 leaving_place c (Some why) past d n = place_elsewhere (places past) c Closing d n
 
-leaving_here : (c : ℕ) (why : Option CloseCause) (past : List Event) → c < length (places past) → has_wire (place (leaving c why ∷ past) c) ≡ true
+pub leaving_here : (c : ℕ) (why : Option CloseCause) (past : List Event) → c < length (places past) → has_wire (place (leaving c why ∷ past) c) ≡ true
 leaving_here c None past lt = ap has_wire (get_or-set_same (places past) c Idle Nowhere lt)
 leaving_here c (Some why) past lt = ap has_wire (get_or-set_same (places past) c Closing Nowhere lt)
 
-leaving_journal : (c : ℕ) (why : Option CloseCause) (past : List Event) (d : ℕ) → journal (leaving c why ∷ past) d ≡ journal past d
+pub leaving_journal : (c : ℕ) (why : Option CloseCause) (past : List Event) (d : ℕ) → journal (leaving c why ∷ past) d ≡ journal past d
 leaving_journal c None past d = refl
 leaving_journal c (Some why) past d = refl
 
-within_lent : (past : List Event) (c t n : ℕ) → place past c ≡ Lent t (Call n) → c < length (places past)
+pub within_lent : (past : List Event) (c t n : ℕ) → place past c ≡ Lent t (Call n) → c < length (places past)
 within_lent past c t n at =
     elim (within_rows (places past) c Nowhere) [
       | inl h ↦ h

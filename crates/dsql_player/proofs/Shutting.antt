@@ -1,5 +1,5 @@
 -- A connection is shut and gone, and its wire goes back.
-use Rattle.std.proofs.Common.{◌≡◌, ◌≢◌, ℕ, Bool, true, false, List, [], ◌∷◌, ◌++◌, Option, Some, None, refl, sym, ◌∙◌, ap, subst, get_or, set, zero, suc, arith}
+use Rattle.std.proofs.Common.{inr, ◌≡◌, ◌≢◌, ℕ, Bool, true, false, List, [], ◌∷◌, ◌++◌, Option, Some, None, refl, sym, ◌∙◌, ap, subst, get_or, set, zero, suc, arith}
 use Rattle.dsql_driver.specs.Wires.{Told}
 use Rattle.dsql_driver.specs.Fits.{is_memory}
 use Rattle.dsql_tenure.specs.declared.entry.Entry.{Entry}
@@ -10,33 +10,46 @@ use Rattle.dsql_history.specs.declared.record.Place.{Place}
 use Rattle.dsql_history.specs.declared.record.Place.TheVariants.{Nowhere, Closing}
 use Rattle.dsql_history.specs.Readers.Sets.{place, places}
 use Rattle.dsql_history.specs.Readers.Journals.{journal}
+use Rattle.dsql_engine.specs.Steps.{IsParked, IsParkedAt}
 use Rattle.dsql_engine.specs.Groups.{after_heard, after_answer}
 use Rattle.dsql_player.specs.Told.{told_of, gone_told}
 use Rattle.dsql_player.specs.Turns.{keeps_turns}
 use Rattle.dsql_player.specs.Carried.{CarriesChore}
 use Rattle.dsql_player.specs.WiresFit.{slot, HasHeard, HoldsWire, FitsAt, WiresFit, HearsCall}
 use Rattle.dsql_player.proofs.Going.{on_still, on_heard, on_move}
+use Rattle.dsql_player.proofs.Parking.{home_heard, parked_on}
 use Rattle.dsql_player.proofs.Wiring.{holds_more, fit_but_one, place_elsewhere, slot_elsewhere, journal_elsewhere, journal_here}
 
 -- the events of a Shut that is answered
 pub shut_group : (past : List Event) (e : Entry) (now : List Event) → now ≡ after_heard past e → place past e.conn ≡ Closing → now ≡ Pool (Gone e.conn) ∷ Heard e ∷ past
 shut_group past e now is at = is ∙ ap (λ q. after_answer q e (Heard e ∷ past)) at
 
-pub shut_carries : (past : List Event) (e : Entry) → keeps_turns past (Heard e) ≡ true → CarriesChore past (Pool (Gone e.conn) ∷ Heard e ∷ past)
-shut_carries past e turn = record {
-  on = on_move past (Heard e ∷ past) (Gone e.conn) (on_heard past past e (on_still past) turn);
-  calls = refl;
-  grows = omega arith;
-}
-
-pub shut_tells : (past : List Event) (e : Entry) → gone_told (Pool (Gone e.conn) ∷ Heard e ∷ past) ≡ gone_told past ++ (e.conn, told_of (e ∷ journal past e.conn)) ∷ []
-shut_tells past e = ap (λ j. gone_told past ++ (e.conn, told_of j) ∷ []) (journal_here past e)
-
 -- what a list has at a place where it is given what it has beyond its end
 pub set_default : {A : Type 0} (xs : List A) (i : ℕ) (d : A) → get_or (set xs i d) i d ≡ d
 set_default [] i d = refl
 set_default (x ∷ xs) zero d = refl
 set_default (x ∷ xs) (suc i) d = set_default xs i d
+
+shut_parked : (past : List Event) (e : Entry) (n : ℕ) → IsParked past (Some n) → IsParked (Pool (Gone e.conn) ∷ Heard e ∷ past) (Some n)
+shut_parked past e n p =
+    let now : List Event = Pool (Gone e.conn) ∷ Heard e ∷ past in
+    parked_on past now e.conn n
+    (inr (home_heard past e n))
+    (place_elsewhere (places past) e.conn Nowhere)
+    (journal_elsewhere past e)
+    (subst (λ (q : Place). IsParkedAt q e.conn now) (sym (set_default (places past) e.conn Nowhere)) tt)
+    p
+
+pub shut_carries : (past : List Event) (e : Entry) → keeps_turns past (Heard e) ≡ true → CarriesChore past (Pool (Gone e.conn) ∷ Heard e ∷ past)
+shut_carries past e turn = record {
+  on = on_move past (Heard e ∷ past) (Gone e.conn) (on_heard past past e (on_still past) turn);
+  calls = refl;
+  parked = shut_parked past e;
+  grows = omega arith;
+}
+
+pub shut_tells : (past : List Event) (e : Entry) → gone_told (Pool (Gone e.conn) ∷ Heard e ∷ past) ≡ gone_told past ++ (e.conn, told_of (e ∷ journal past e.conn)) ∷ []
+shut_tells past e = ap (λ j. gone_told past ++ (e.conn, told_of j) ∷ []) (journal_here past e)
 
 pub shut_fits : {W : Type 0} (heard : W → Option (List Told)) (telling : Bool) (past : List Event) (e : Entry) (before mid after : List (Option W)) → WiresFit heard telling past before
     → ((c : ℕ) → c ≢ e.conn → slot mid c ≡ slot before c) → after ≡ set mid e.conn None → WiresFit heard telling (Pool (Gone e.conn) ∷ Heard e ∷ past) after

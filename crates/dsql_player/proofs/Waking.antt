@@ -1,31 +1,36 @@
 -- A call that waited looks at its connection again.
-use Rattle.std.proofs.Common.{◌≡◌, ◌==◌, ◌⊎◌, inl, inr, ℕ, ◌<◌, Bool, true, false, not, ◌&&◌, ◌||◌, List, [], ◌∷◌, length, Option, Some, refl, sym, ◌∙◌, ap, subst, arith}
+use Rattle.std.proofs.Common.{◌≡◌, ◌==◌, inl, inr, None, ℕ, ◌<◌, Bool, true, false, not, ◌&&◌, ◌||◌, List, [], ◌∷◌, length, Option, Some, refl, sym, ◌∙◌, ap, subst, arith}
 use Rattle.std.specs.Prelude.{find, is_some}
 use Rattle.std.specs.List.{list_all}
 use Rattle.dsql_driver.specs.Wires.{Told}
-use Rattle.dsql_tenure.specs.declared.entry.Owner.{Owner}
-use Rattle.dsql_tenure.specs.declared.entry.Owner.TheVariants.{Call, Tx, Pin, House}
+use Rattle.dsql_driver.specs.declared.call.DriverCall.{DriverCall}
+use Rattle.dsql_tenure.specs.declared.entry.Owner.TheVariants.{Call}
 use Rattle.dsql_tenure.specs.declared.entry.Permit.{Permit}
 use Rattle.dsql_history.specs.declared.event.Event.{Event}
 use Rattle.dsql_history.specs.declared.record.Place.{Place}
 use Rattle.dsql_history.specs.declared.record.Place.TheVariants.{Nowhere, Opening, Idle, Lent, Closing}
-use Rattle.dsql_history.specs.Readers.Sets.{place, is_opening, is_for, is_open}
+use Rattle.dsql_history.specs.Readers.Sets.{place, places, is_opening, is_for, is_open, number_of}
 use Rattle.dsql_history.specs.Readers.Calls.{call_record, home, unfinished, reply_due}
+use Rattle.dsql_history.specs.declared.event.CloseCause.{CloseCause}
+use Rattle.dsql_history.specs.Rules.Causes.{cause}
 use Rattle.dsql_history.specs.Rules.House.{has_no_chore}
 use Rattle.dsql_history.specs.Rules.Line.{due}
 use Rattle.dsql_history.specs.Rules.Settled.{goes_on, is_under_way}
-use Rattle.dsql_history.proofs.Rows.{both, same_number, same_to_itself}
+use Rattle.dsql_history.specs.Legal.{Lawful}
+use Rattle.dsql_history.proofs.Rows.{both, same_number, same_to_itself, same_or_not}
+use Rattle.dsql_history.proofs.SoundCalls.{sound_calls, owner_of}
 use Rattle.dsql_engine.specs.declared.next.Next.{Next}
 use Rattle.dsql_engine.specs.declared.next.Next.TheVariants.{Send, Blocked, Reply, Quiet}
 use Rattle.dsql_engine.specs.declared.next.Why.{Why}
 use Rattle.dsql_engine.specs.Awaited.{awaited, awaited_at}
-use Rattle.dsql_engine.specs.Groups.{call_of, told, most_events}
-use Rattle.dsql_engine.specs.Steps.{SendsOn, NextOfWake, NextAfterWake}
-use Rattle.dsql_player.specs.Carried.{Steps, IsUnderWay, the_call}
-use Rattle.dsql_player.specs.WiresFit.{KeepsFit}
+use Rattle.dsql_engine.specs.Groups.{after_body, call_of, leaving, told, most_events}
+use Rattle.dsql_engine.specs.Steps.{SendsOn, NextOfBody, NextOfWake, NextAfterWake, IsParked}
+use Rattle.dsql_player.specs.Carried.{KeepsPlaces, Steps, IsUnderWay, Waits, the_call}
+use Rattle.dsql_player.specs.WiresFit.{has_wire, KeepsFit}
 use Rattle.dsql_player.proofs.Places.{none_at_places}
 use Rattle.dsql_player.proofs.Going.{on_still, on_replied}
-use Rattle.dsql_player.proofs.Sending.{IsCall, call_lent, without_one}
+use Rattle.dsql_player.proofs.Sending.{IsCall, call_lent, without_one, leaving_calls, leaving_told, leaving_on, leaving_here, leaving_place, leaving_journal, within_lent}
+use Rattle.dsql_player.proofs.Wiring.{same_fits}
 
 -- Where the layer has no call of its own, no connection is being opened.
 chore_at : (past : List Event) (c n : ℕ) → has_no_chore past ≡ true → place past c ≡ Opening n → ⊥
@@ -59,14 +64,14 @@ home_lent past client t m u on at =
     let b = both (not (home past n == 0)) (is_for n (place past (home past n)) || (not (is_open (place past (home past n))) && is_some (call_record past n).decided)) way in
     lent_to past n t m (place past (home past n)) (is_some (call_record past n).decided) b.1 at
 
--- the call goes on with what its connection awaits
-sends_on : (past : List Event) (client c t : ℕ) (o : Owner) (why : Why) (next : Next) → IsUnderWay past client → has_no_chore past ≡ true → goes_on past ≡ true
-    → c ≡ home past (the_call past) → place past c ≡ Lent t o → SendsOn c past next → Steps past client (Blocked why) past next
-sends_on past client c t (Call m) why (Send p) u free on is at sends =
+-- the call sends what its connection awaits
+sends_on : (past : List Event) (client t m : ℕ) (why : Why) (next : Next) → IsUnderWay past client → has_no_chore past ≡ true → goes_on past ≡ true
+    → place past (home past (the_call past)) ≡ Lent t (Call m) → SendsOn (home past (the_call past)) past next → Steps past client (Blocked why) past next
+sends_on past client t m why (Send p) u free on at sends =
+    let c = home past (the_call past) in
     let w : IsCall c p (Lent t (Call m)) = call_lent c t m p (due past c t m) (subst (λ (k : Place). awaited_at past c k ≡ Some p) at sends) in
     let conn : p.conn ≡ c = ap (λ (k : Permit). k.conn) w.is in
     let number : m ≡ p.call_no = cc (w.lent) in
-    let home : m ≡ the_call past = home_lent past client t m u on (ap (place past) (sym is) ∙ at) in
     record {
       on = on_still past;
       told = refl;
@@ -74,17 +79,15 @@ sends_on past client c t (Call m) why (Send p) u free on is at sends =
         under_way = u;
         free = free;
         due = subst (λ (k : ℕ). awaited past k ≡ Some p) (sym conn) sends;
-        number = sym number ∙ home;
+        number = sym number ∙ home_lent past client t m u on at;
       };
       nearer = omega arith;
     }
-sends_on past client c t (Tx m) why (Send p) u free on is at sends = absurd (cc (at, sends))
-sends_on past client c t (Pin m) why (Send p) u free on is at sends = absurd (cc (at, sends))
-sends_on past client c t House why (Send p) u free on is at sends = absurd (cc (at, sends))
-sends_on past client c t o why (Blocked w) u free on is at sends = absurd sends
-sends_on past client c t o why (Reply n) u free on is at sends = absurd sends
-sends_on past client c t o why Quiet u free on is at sends = absurd sends
+sends_on past client t m why (Blocked w) u free on at sends = absurd sends
+sends_on past client t m why (Reply n) u free on at sends = absurd sends
+sends_on past client t m why Quiet u free on at sends = absurd sends
 
+-- the call replies
 replied_steps : (past : List Event) (client n : ℕ) (why : Why) → unfinished past ≡ n ∷ [] → length past < most_events → Steps past client (Blocked why) (told n past) (Reply n)
 replied_steps past client n why alone room = record {
   on = on_replied past past n (reply_due past n) (on_still past);
@@ -93,35 +96,90 @@ replied_steps past client n why alone room = record {
   nearer = omega (arith, room);
 }
 
--- what the woken call comes to, and that the wires stay as they are
+-- the call lets its connection go, and replies
+left_steps : (past : List Event) (client n c : ℕ) (why : Why) (cause : Option CloseCause) → unfinished past ≡ n ∷ [] → length past < most_events
+    → Steps past client (Blocked why) (told n (leaving c cause ∷ past)) (Reply n)
+left_steps past client n c why cause alone room =
+    let now : List Event = leaving c cause ∷ past in
+    record {
+      on = on_replied past now n (reply_due now n) (leaving_on c cause past past (on_still past));
+      told = leaving_told c cause past;
+      next = without_one (unfinished now) n (leaving_calls c cause past ∙ alone);
+      nearer = omega (arith, room);
+    }
+
+pub left_wired : (past : List Event) (c : ℕ) (cause : Option CloseCause) (d : ℕ) → c < length (places past) → has_wire (place past c) ≡ true
+    → has_wire (place (leaving c cause ∷ past) d) ≡ has_wire (place past d)
+left_wired past c cause d lt has =
+    elim (same_or_not d c) [
+      | inl e ↦ subst (λ (k : ℕ). has_wire (place (leaving c cause ∷ past) k) ≡ has_wire (place past k)) (sym e) (leaving_here c cause past lt ∙ sym has)
+      | inr n ↦ ap has_wire (leaving_place c cause past d n)
+    ]
+
+-- what the woken call comes to, and that the wires may stay as they are
 pub record Wakes (past : List Event) (client : ℕ) (why : Why) (next : Next) (now : List Event) : Type 0 where
   pub steps : Steps past client (Blocked why) now next
-  pub same : (now ≡ past) ⊎ (now ≡ told (the_call past) past)
+  pub places : KeepsPlaces past now
 
-woken_at : (past : List Event) (client : ℕ) (why : Why) (q : Place) (next : Next) (now : List Event) → IsUnderWay past client → has_no_chore past ≡ true → goes_on past ≡ true
+pub still_places : (past : List Event) → KeepsPlaces past past
+still_places past = record { wired = λ c. refl; journals = λ c. refl; told = refl }
+
+told_places : (past : List Event) (n : ℕ) → KeepsPlaces past (told n past)
+told_places past n = record { wired = λ c. refl; journals = λ c. refl; told = refl }
+
+pub left_places : (past : List Event) (c t n m : ℕ) (cause : Option CloseCause) → place past c ≡ Lent t (Call m) → KeepsPlaces past (told n (leaving c cause ∷ past))
+left_places past c t n m cause at = record {
+  wired = λ d. left_wired past c cause d (within_lent past c t m at) (ap has_wire at);
+  journals = leaving_journal c cause past;
+  told = leaving_told c cause past;
+}
+
+-- A connection that was lent is used.
+lent_wakes : (past : List Event) (client t m : ℕ) (why : Why) (then_due : Option DriverCall) (next : Next) (now : List Event) → IsUnderWay past client → has_no_chore past ≡ true
+    → goes_on past ≡ true → place past (home past (the_call past)) ≡ Lent t (Call m) → now ≡ after_body (home past (the_call past)) (the_call past) past then_due
+    → NextOfBody (home past (the_call past)) (the_call past) then_due next now → length past < most_events → Wakes past client why next now
+lent_wakes past client t m why (Some call) next now u free on at is n room =
+    let c = home past (the_call past) in
+    let sends : SendsOn c past next = subst (λ (k : List Event). SendsOn c k next) is n in
+    subst (λ (k : List Event). Wakes past client why next k) (sym is)
+    (record { steps = sends_on past client t m why next u free on at sends; places = still_places past })
+lent_wakes past client t m why None next now u free on at is n room =
+    let c = home past (the_call past) in
+    rw (is, n)
+    (record {
+      steps = left_steps past client (the_call past) c why (cause past c) u.alone room;
+      places = left_places past c t (the_call past) m (cause past c) at;
+    })
+
+told_wakes : (past : List Event) (client : ℕ) (why : Why) (next : Next) (now : List Event) → IsUnderWay past client → now ≡ told (the_call past) past → next ≡ Reply (the_call past)
+    → length past < most_events → Wakes past client why next now
+told_wakes past client why next now u is n room =
+    rw (is, n) (record { steps = replied_steps past client (the_call past) why u.alone room; places = told_places past (the_call past) })
+
+woken_at : (past : List Event) (client : ℕ) (why : Why) (q : Place) (next : Next) (now : List Event) → IsUnderWay past client → has_no_chore past ≡ true → goes_on past ≡ true → Lawful past
     → place past (home past (the_call past)) ≡ q → NextOfWake q (home past (the_call past)) (the_call past) past next now → length past < most_events → Wakes past client why next now
-woken_at past client why (Opening m) next now u free on at w room = absurd (chore_at past (home past (the_call past)) m free at)
-woken_at past client why (Lent t o) next now u free on at w room =
-    let sends = subst (λ (k : List Event). SendsOn (home past (the_call past)) k next) w.0 w.1 in
-    record {
-      steps = subst (λ (k : List Event). Steps past client (Blocked why) k next) (sym w.0) (sends_on past client (home past (the_call past)) t o why next u free on refl at sends);
-      same = inl w.0;
-    }
-woken_at past client why Nowhere next now u free on at w room = record { steps = rw (w.0, w.1) (replied_steps past client (the_call past) why u.alone room); same = inr w.0 }
-woken_at past client why Idle next now u free on at w room = record { steps = rw (w.0, w.1) (replied_steps past client (the_call past) why u.alone room); same = inr w.0 }
-woken_at past client why Closing next now u free on at w room = record { steps = rw (w.0, w.1) (replied_steps past client (the_call past) why u.alone room); same = inr w.0 }
+woken_at past client why (Opening m) next now u free on l at w room = absurd (chore_at past (home past (the_call past)) m free at)
+woken_at past client why (Lent t o) next now u free on l at w room =
+    let c = home past (the_call past) in
+    let owner : o ≡ Call (number_of o) = owner_of o ((sound_calls past l).owners c t o at) in
+    lent_wakes past client t (number_of o) why (due past c t (the_call past)) next now u free on (at ∙ ap (Lent t) owner) w.0 w.1 room
+woken_at past client why Nowhere next now u free on l at w room = told_wakes past client why next now u w.0 w.1 room
+woken_at past client why Idle next now u free on l at w room = told_wakes past client why next now u w.0 w.1 room
+woken_at past client why Closing next now u free on l at w room = told_wakes past client why next now u w.0 w.1 room
 
 -- The call that is under way was woken.
-pub woken : (past : List Event) (client : ℕ) (why : Why) (next : Next) (now : List Event) → IsUnderWay past client → has_no_chore past ≡ true → goes_on past ≡ true
+pub woken : (past : List Event) (client : ℕ) (why : Why) (next : Next) (now : List Event) → Waits past client → has_no_chore past ≡ true → goes_on past ≡ true → Lawful past
     → NextAfterWake past (call_of past client) next now → length past < most_events → Wakes past client why next now
-woken past client why next now u free on w room =
+woken past client why next now u free on l w room =
     let n = the_call past in
-    woken_at past client why (place past (home past n)) next now u free on refl (subst (λ (k : Option ℕ). NextAfterWake past k next now) (call_found past client u) w) room
+    woken_at past client why (place past (home past n)) next now u.under_way free on l refl
+    (subst (λ (k : Option ℕ). NextAfterWake past k next now) (call_found past client u.under_way) w)
+    room
+
+-- it may be woken
+pub parked_found : (past : List Event) (client : ℕ) → Waits past client → IsParked past (call_of past client)
+parked_found past client u = subst (λ (k : Option ℕ). IsParked past k) (sym (call_found past client u.under_way)) u.parked
 
 pub wakes_fit : {W : Type 0} (heard : W → Option (List Told)) (past : List Event) (client : ℕ) (why : Why) (next : Next) (now : List Event) (ws : List (Option W)) → Wakes past client why next now
     → KeepsFit heard past now ws ws
-wakes_fit heard past client why next now ws w =
-    elim w.same [
-      | inl e ↦ subst (λ (k : List Event). KeepsFit heard past k ws ws) (sym e) (λ telling fit. fit)
-      | inr e ↦ subst (λ (k : List Event). KeepsFit heard past k ws ws) (sym e) (λ telling fit. fit)
-    ]
+wakes_fit heard past client why next now ws w = λ telling fit. same_fits heard telling past now ws w.places fit

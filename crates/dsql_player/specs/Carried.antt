@@ -14,6 +14,7 @@ use Rattle.dsql_engine.specs.declared.next.Next.{Next}
 use Rattle.dsql_engine.specs.declared.next.Next.TheVariants.{Send, Blocked, Reply, Quiet}
 use Rattle.dsql_engine.specs.Awaited.{awaited}
 use Rattle.dsql_engine.specs.Groups.{most_events}
+use Rattle.dsql_engine.specs.Steps.{IsParked}
 use Rattle.dsql_player.specs.Told.{gone_told, TellsGone}
 use Rattle.dsql_player.specs.Entered.{entered_calls}
 use Rattle.dsql_player.specs.Turns.{Turns}
@@ -35,6 +36,7 @@ pub record Retires (before after : Option (List RetiredWire)) (old new : List Ev
 pub record CarriesChore (old new : List Event) : Type 0 where
   pub on : GoesOn old new
   pub calls : unfinished new ≡ unfinished old
+  pub parked : (n : ℕ) → IsParked old (Some n) → IsParked new (Some n)
   pub grows : length old < length new
 
 -- the layer's first own call is carried out, where there was one
@@ -59,10 +61,15 @@ pub record Sends (past : List Event) (client : ℕ) (permit : Permit) : Type 0 w
   pub due : awaited past permit.conn ≡ Some permit
   pub number : permit.call_no ≡ the_call past
 
+-- the call that is under way waits for its connection
+pub record Waits (past : List Event) (client : ℕ) : Type 0 where
+  pub under_way : IsUnderWay past client
+  pub parked : IsParked past (Some (the_call past))
+
 -- What the client's call does next fits the history: it sends what its connection awaits, waits, or has its reply.
 abbrev pub ComesNext : List Event → ℕ → Next → Type 0
 ComesNext past client (Send permit) = Sends past client permit
-ComesNext past client (Blocked why) = IsUnderWay past client
+ComesNext past client (Blocked why) = Waits past client
 ComesNext past client (Reply n) = unfinished past ≡ []
 ComesNext past client Quiet = ⊥
 

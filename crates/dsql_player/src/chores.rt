@@ -60,9 +60,9 @@ pub(crate) fn carry_first_chore<F: Fleet>(
     ensures preferred { F.preferred fleet.new ≡ F.preferred fleet.old }
     ensures legal { Legal engine.new }
 {
+    check_room(engine)?;
     match engine.chore()? {
         Next::Send(permit) => {
-            check_room(engine)?;
             carry_chore(engine, wires, fleet, permit)?;
             Ok(true)
         }

@@ -17,7 +17,9 @@ returns-clause-carried g c =
     let p = c.args.permit in
     let a = c.in_ok-answered.answered.answer in
     let w = chore_opens past p c.requires.due c.requires.awaited c.requires.connects in
-    rw (open_is past p a w c.hear.new.engine c.in_ok-hear.ensures.group) (open_carries past (connect_entry p.conn a) w.number (is_done a) (open_turn past p a w c.requires.due))
+    let is : c.hear.new.engine ≡ opened past (connect_entry p.conn a) w.number (is_done a) = open_is past p a w c.hear.new.engine c.in_ok-hear.ensures.group in
+    let none = none_before past p.conn a w.number (is_done a) (rw is at c.hear.ensures.legal.lawful) in
+    rw is (open_carries past p.conn w.number a (is_done a) (open_turn past p a w c.requires.due) w.opens none)
 
 pub returns-clause-gone : goal.returns-clause-gone
 returns-clause-gone g c =

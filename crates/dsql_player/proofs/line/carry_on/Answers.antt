@@ -1,8 +1,8 @@
 use Rattle.std.proofs.lemmas.Result.{IfOk-weaker}
-use Rattle.dsql_player.specs.Carried.{Sends, IsUnderWay}
+use Rattle.dsql_player.specs.Carried.{Sends, Waits}
 use Rattle.dsql_player.proofs.Sending.{sent_steps, sent_fits, sent_wired}
 use Rattle.dsql_player.proofs.Wiring.{wired}
-use Rattle.dsql_player.proofs.Waking.{woken, wakes_fit}
+use Rattle.dsql_player.proofs.Waking.{woken, wakes_fit, parked_found}
 use Rattle.dsql_player.proofs.line.carry_on.Goals as goal
 
 pub ask-requires-clause-wire : goal.ask-requires-clause-wire
@@ -30,15 +30,21 @@ returns-in-Send-clause-wires g c =
 pub returns-in_ok-wake-in-Blocked-clause-steps : goal.returns-in_ok-wake-in-Blocked-clause-steps
 returns-in_ok-wake-in-Blocked-clause-steps g c =
     let past = c.args.engine.now in
-    let u : IsUnderWay past c.args.client = rw c.in-Blocked.is at c.requires.next in
-    let w = woken past c.args.client c.in-Blocked.field-0 c.in_ok-wake-in-Blocked.field-0 c.wake.new.self u c.requires.free c.requires.legal.settled.under_way
+    let u : Waits past c.args.client = rw c.in-Blocked.is at c.requires.next in
+    let w = woken past c.args.client c.in-Blocked.field-0 c.in_ok-wake-in-Blocked.field-0 c.wake.new.self u c.requires.free c.requires.legal.settled.under_way c.requires.legal.lawful
     c.in_ok-wake-in-Blocked.ensures.woken c.in_ok-check_room.ensures.ok in
     rw c.in-Blocked.is w.steps
 
 pub returns-in_ok-wake-in-Blocked-clause-wires : goal.returns-in_ok-wake-in-Blocked-clause-wires
 returns-in_ok-wake-in-Blocked-clause-wires g c =
     let past = c.args.engine.now in
-    let u : IsUnderWay past c.args.client = rw c.in-Blocked.is at c.requires.next in
-    let w = woken past c.args.client c.in-Blocked.field-0 c.in_ok-wake-in-Blocked.field-0 c.wake.new.self u c.requires.free c.requires.legal.settled.under_way
+    let u : Waits past c.args.client = rw c.in-Blocked.is at c.requires.next in
+    let w = woken past c.args.client c.in-Blocked.field-0 c.in_ok-wake-in-Blocked.field-0 c.wake.new.self u c.requires.free c.requires.legal.settled.under_way c.requires.legal.lawful
     c.in_ok-wake-in-Blocked.ensures.woken c.in_ok-check_room.ensures.ok in
     wakes_fit g.W.Wire.heard past c.args.client c.in-Blocked.field-0 c.in_ok-wake-in-Blocked.field-0 c.wake.new.self c.args.wires.now w
+
+pub wake-requires-clause-parked : goal.wake-requires-clause-parked
+wake-requires-clause-parked g c =
+    let past = c.args.engine.now in
+    let u : Waits past c.args.client = rw c.in-Blocked.is at c.requires.next in
+    parked_found past c.args.client u
