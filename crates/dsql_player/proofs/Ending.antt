@@ -23,11 +23,19 @@ use Rattle.dsql_history.proofs.SoundCalls.{sound_calls}
 use Rattle.dsql_engine.specs.Groups.{after_end, closings}
 use Rattle.dsql_player.specs.Told.{told_of, gone_told}
 use Rattle.dsql_player.specs.Turns.{Turns}
+use Rattle.dsql_player.specs.Extends.{Extends}
 use Rattle.dsql_player.specs.Entered.{entered_calls}
 use Rattle.dsql_player.specs.Carried.{Ends}
 use Rattle.dsql_player.specs.WiresFit.{slot, has_wire, HoldsWire, WiresFit}
+use Rattle.dsql_player.proofs.Extending.{extends_same, extends_more, extends_then}
 use Rattle.dsql_player.proofs.Wiring.{place_elsewhere}
 use Rattle.dsql_player.proofs.Places.{none_at}
+
+closings_extends : (cs : List ℕ) (past : List Event) → Extends past (closings cs past)
+closings_extends [] past = extends_same past
+closings_extends (c ∷ cs) past =
+    let mid : List Event = Pool (CloseStart c DbClosed) ∷ past in
+    extends_then past mid (closings cs mid) (extends_more past past (Pool (CloseStart c DbClosed)) (extends_same past)) (closings_extends cs mid)
 
 closings_turns : (cs : List ℕ) (past : List Event) → Turns past → Turns (closings cs past)
 closings_turns [] past h = h
@@ -90,6 +98,7 @@ ends past now quiet l is =
     let wired : (c : ℕ) → has c (idle past) ≡ true → has_wire (place H c) ≡ true = λ c h. idle_wired (place past c) (sym (z.idle_ones c) ∙ h) in
     subst (λ (k : List Event). Ends past k) (sym is)
     (record {
+      extends = extends_then past H (closings (idle past) H) (extends_more past past Ended (extends_same past)) (closings_extends (idle past) H);
       turns = λ h. closings_turns (idle past) H (h, quiet);
       entered = closings_entered (idle past) H;
       ended = closings_ended (idle past) H;

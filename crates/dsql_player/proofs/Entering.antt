@@ -35,9 +35,11 @@ use Rattle.dsql_engine.specs.Awaited.{awaited, awaited_at}
 use Rattle.dsql_engine.specs.Groups.{after_enter, after_ask, after_body, lent_to, leaving, told}
 use Rattle.dsql_engine.specs.Steps.{SendsOn, NextOfBody, NextAfterAsk, NextAfterEnter, IsParked, IsParkedAt}
 use Rattle.dsql_player.specs.Turns.{Turns, keeps_turns}
+use Rattle.dsql_player.specs.Extends.{Extends}
 use Rattle.dsql_player.specs.Entered.{entered_calls}
 use Rattle.dsql_player.specs.Carried.{GoesOn, KeepsPlaces, Enters, IsUnderWay, ComesNext, the_call}
 use Rattle.dsql_player.specs.WiresFit.{has_wire}
+use Rattle.dsql_player.proofs.Extending.{extends_then}
 use Rattle.dsql_player.proofs.Going.{client_move, on_still, on_replied}
 use Rattle.dsql_player.proofs.Wiring.{place_elsewhere}
 use Rattle.dsql_player.proofs.Places.{none-set, none_at_places}
@@ -154,6 +156,7 @@ sends_first past client op c t Quiet l none free at sends = absurd sends
 
 -- what a call's entering brings about, before it is told what comes next
 record Begins (past : List Event) (client : ℕ) (op : Op) (now : List Event) : Type 0 where
+  extends : Extends past now
   turns : Turns past → Turns now
   entered : entered_calls now ≡ entered_calls past ++ (client, op) ∷ []
   ended : has_ended now ≡ has_ended past
@@ -161,6 +164,7 @@ record Begins (past : List Event) (client : ℕ) (op : Op) (now : List Event) : 
 
 begins_then : (past mid now : List Event) (client : ℕ) (op : Op) (next : Next) → Begins past client op mid → GoesOn mid now → KeepsPlaces mid now → ComesNext now client next → Enters past client op next now
 begins_then past mid now client op next b g k n = record {
+  extends = extends_then past mid now b.extends g.extends;
   turns = λ h. g.turns (b.turns h);
   entered = g.entered ∙ b.entered;
   ended = g.ended ∙ b.ended;
@@ -175,6 +179,7 @@ begins_then past mid now client op next b g k n = record {
 begins_over : (past : List Event) (client : ℕ) (op : Op) (move : Move) → is_quiet past ≡ true → has_ended past ≡ false
     → KeepsPlaces past (Pool move ∷ Entered client (next_call past) op ∷ past) → Begins past client op (Pool move ∷ Entered client (next_call past) op ∷ past)
 begins_over past client op move quiet running places = record {
+  extends = record { added = Pool move ∷ Entered client (next_call past) op ∷ []; whole = refl };
   turns = λ h. ((h, entered_turn past client (next_call past) op quiet running), refl);
   entered = refl;
   ended = refl;
@@ -267,6 +272,7 @@ refused_enters past client op quiet running =
     let n = next_call past in
     let s = still past quiet in
     record {
+      extends = record { added = Replied n TooMany ∷ Entered client n op ∷ []; whole = refl };
       turns = λ h. ((h, entered_turn past client n op quiet running), refl);
       entered = refl;
       ended = refl;

@@ -1,5 +1,6 @@
 -- A run goes on over each event that enters no call and doesn't end it.
-use Rattle.std.proofs.Common.{◌≡◌, ◌==◌, None, ℕ, Bool, true, false, List, ◌∷◌, refl, arith, ◌∙◌, get_or, cond}
+use Rattle.std.proofs.Common.{◌≡◌, ◌==◌, None, ℕ, Bool, true, false, List, ◌∷◌, refl, sym, subst, arith, ◌∙◌, get_or, cond}
+use Rattle.std.specs.Prelude.{Result, Ok, Err, IfOk, OnErr}
 use Rattle.dsql_tenure.specs.declared.entry.Entry.{Entry}
 use Rattle.dsql_history.specs.declared.event.Event.{Event}
 use Rattle.dsql_history.specs.declared.event.Event.TheVariants.{Heard, Pool, Replied}
@@ -11,6 +12,7 @@ use Rattle.dsql_history.specs.Readers.Calls.{calls, call_record, nobody, with_re
 use Rattle.dsql_history.proofs.Rows.{read_set}
 use Rattle.dsql_player.specs.Turns.{keeps_turns}
 use Rattle.dsql_player.specs.Carried.{GoesOn}
+use Rattle.dsql_player.proofs.Extending.{extends_same, extends_more, extends_then}
 
 -- a change that lets the client be
 same_client : (cs : List CallRecord) (n m : ℕ) (f : CallRecord → CallRecord) → ((r : CallRecord) → (f r).client ≡ r.client)
@@ -37,18 +39,25 @@ pub client_replied : (past : List Event) (m : ℕ) (reply : Reply) (n : ℕ) →
 client_replied past m reply n = same_client (calls past) m n (λ r. record r { decided = None }) (λ r. refl)
 
 pub on_still : (past : List Event) → GoesOn past past
-on_still past = record { turns = λ h. h; entered = refl; ended = refl; clients = λ n. refl }
+on_still past = record { extends = extends_same past; turns = λ h. h; entered = refl; ended = refl; clients = λ n. refl }
 
 pub on_then : (old mid new : List Event) → GoesOn old mid → GoesOn mid new → GoesOn old new
 on_then old mid new f g = record {
+  extends = extends_then old mid new f.extends g.extends;
   turns = λ h. g.turns (f.turns h);
   entered = g.entered ∙ f.entered;
   ended = g.ended ∙ f.ended;
   clients = λ n. g.clients n ∙ f.clients n;
 }
 
+-- a run goes on over what is done, and over what fails and leaves the history as it was
+pub on_either : {X E : Type 0} (r : Result X E) (P : X → Type 0) (old new : List Event) → ((x : X) → P x → GoesOn old new) → IfOk r P → OnErr r (new ≡ old) → GoesOn old new
+on_either (Ok x) P old new f p same = f x p
+on_either (Err e) P old new f p same = subst (λ (k : List Event). GoesOn old k) (sym same) (on_still old)
+
 pub on_move : (old now : List Event) (move : Move) → GoesOn old now → GoesOn old (Pool move ∷ now)
 on_move old now move g = record {
+  extends = extends_more old now (Pool move) g.extends;
   turns = λ h. (g.turns h, refl);
   entered = g.entered;
   ended = g.ended;
@@ -57,6 +66,7 @@ on_move old now move g = record {
 
 pub on_heard : (old now : List Event) (e : Entry) → GoesOn old now → keeps_turns now (Heard e) ≡ true → GoesOn old (Heard e ∷ now)
 on_heard old now e g k = record {
+  extends = extends_more old now (Heard e) g.extends;
   turns = λ h. (g.turns h, k);
   entered = g.entered;
   ended = g.ended;
@@ -65,6 +75,7 @@ on_heard old now e g k = record {
 
 pub on_replied : (old now : List Event) (m : ℕ) (reply : Reply) → GoesOn old now → GoesOn old (Replied m reply ∷ now)
 on_replied old now m reply g = record {
+  extends = extends_more old now (Replied m reply) g.extends;
   turns = λ h. (g.turns h, refl);
   entered = g.entered;
   ended = g.ended;

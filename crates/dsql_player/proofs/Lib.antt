@@ -1,3 +1,4 @@
+pub mod Extending
 pub mod Going
 pub mod Awaiting
 pub mod Wiring

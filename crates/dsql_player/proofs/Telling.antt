@@ -11,6 +11,10 @@ use Rattle.dsql_player.specs.WiresFit.{HasHeard}
 pub retires_none : (before : Option (List RetiredWire)) (old new : List Event) → gone_told new ≡ gone_told old → Retires before before old new
 retires_none before old new same = record { gone = λ r h. h ∙ ap (λ gone. option_map (λ rs. rs ++ gone) r) (sym same); telling = refl }
 
+-- what was gone before is told, and then what is gone since
+pub retires_then : (before between after : Option (List RetiredWire)) (old mid new : List Event) → Retires before between old mid → Retires between after mid new → Retires before after old new
+retires_then before between after old mid new f g = record { gone = λ r h. g.gone r (f.gone r h); telling = g.telling ∙ f.telling }
+
 gone_one : (c : ℕ) (heard : Option (List Told)) (calls : List Told) (before r : Option (List RetiredWire)) (gone : List RetiredWire) → HasHeard (is_some before) heard calls
     → before ≡ option_map (λ rs. rs ++ gone) r → retired_after c heard before ≡ option_map (λ rs. rs ++ (gone ++ (c, calls) ∷ [])) r
 gone_one c heard calls None None gone h e = gives_none c heard

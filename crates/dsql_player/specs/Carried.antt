@@ -18,10 +18,12 @@ use Rattle.dsql_engine.specs.Steps.{IsParked}
 use Rattle.dsql_player.specs.Told.{gone_told, TellsGone}
 use Rattle.dsql_player.specs.Entered.{entered_calls}
 use Rattle.dsql_player.specs.Turns.{Turns}
+use Rattle.dsql_player.specs.Extends.{Extends}
 use Rattle.dsql_player.specs.WiresFit.{has_wire}
 
 -- the run goes on, and no call is entered
 pub record GoesOn (old new : List Event) : Type 0 where
+  pub extends : Extends old new
   pub turns : Turns old → Turns new
   pub entered : entered_calls new ≡ entered_calls old
   pub ended : has_ended new ≡ has_ended old
@@ -104,6 +106,7 @@ pub record KeepsPlaces (old new : List Event) : Type 0 where
 
 -- a client's call enters
 pub record Enters (old : List Event) (client : ℕ) (op : Op) (first : Next) (new : List Event) : Type 0 where
+  pub extends : Extends old new
   pub turns : Turns old → Turns new
   pub entered : entered_calls new ≡ entered_calls old ++ (client, op) ∷ []
   pub ended : has_ended new ≡ has_ended old
@@ -112,6 +115,7 @@ pub record Enters (old : List Event) (client : ℕ) (op : Op) (first : Next) (ne
 
 -- the run ends
 pub record Ends (old new : List Event) : Type 0 where
+  pub extends : Extends old new
   pub turns : Turns old → Turns new
   pub entered : entered_calls new ≡ entered_calls old
   pub ended : has_ended new ≡ true

@@ -7,6 +7,7 @@ ghost use Rattle.dsql_engine.specs.Groups.{most_events};
 ghost use Rattle.dsql_player.specs.Told.{TellsGone};
 ghost use Rattle.dsql_player.specs.Entered.{entered_calls};
 ghost use Rattle.dsql_player.specs.Turns.{Turns};
+ghost use Rattle.dsql_player.specs.Extends.{Extends};
 ghost use Rattle.dsql_player.specs.Carried.{GoesOn, Retires, Steps, Enters, Ends, EntersAtMost, ComesNext, ComesNearer, is_reply};
 ghost use Rattle.dsql_player.specs.WiresFit.{slot, WiresFit, KeepsFit};
 
@@ -43,8 +44,10 @@ pub fn carry_line<F: Fleet>(
         (WiresFit F.Wire.heard (is_some (F.retired fleet.new)) engine.new wires.new) }
     ensures telling { OnOk result (is_some (F.retired fleet.new) ≡ is_some (F.retired fleet.old)) }
 
-    // A run that has to stop has kept its turns, and its call has entered or not.
+    // A run that has to stop goes on from the old history and has kept its turns, and its call has
+    // entered or not.
     ensures turns { Turns engine.old → Turns engine.new }
+    ensures extends { Extends engine.old engine.new }
     ensures stopped { OnErr result (EntersAtMost (client, op) engine.old engine.new) }
     ensures full { IsErrOf result Halt.Full → most_events ≤ length engine.new }
 
@@ -80,6 +83,7 @@ pub fn carry_end<F: Fleet>(
     ensures telling { OnOk result (is_some (F.retired fleet.new) ≡ is_some (F.retired fleet.old)) }
 
     ensures turns { Turns engine.old → Turns engine.new }
+    ensures extends { Extends engine.old engine.new }
     ensures entered { entered_calls engine.new ≡ entered_calls engine.old }
     ensures full { IsErrOf result Halt.Full → most_events ≤ length engine.new }
 

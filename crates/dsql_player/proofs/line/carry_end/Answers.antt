@@ -1,5 +1,6 @@
 use Rattle.std.proofs.Common.{◌≡◌, ◌∙◌, true}
 use Rattle.dsql_history.specs.Readers.Course.{has_ended}
+use Rattle.dsql_player.proofs.Extending.{extends_then}
 use Rattle.dsql_player.proofs.Ending.{on_ok2, unwired, bare}
 use Rattle.dsql_player.proofs.line.carry_end.Goals as goal
 
@@ -11,3 +12,6 @@ returns-clause-empty g c =
     (λ free fit k. bare g.F.Wire.Wire.heard _ now c.carry_chores.new.wires k (unwired now c.carry_chores.ensures.legal ended free k) fit)
     c.carry_chores.ensures.none
     c.carry_chores.ensures.wires
+
+pub returns-clause-extends : goal.returns-clause-extends
+returns-clause-extends g c = extends_then c.args.engine.now c.end.new.engine c.carry_chores.new.engine c.in_ok-end.ensures.ends.extends c.carry_chores.ensures.on.extends
