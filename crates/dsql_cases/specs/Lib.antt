@@ -1,0 +1,4 @@
+pub mod Splits
+pub mod Edits
+pub mod Histories
+pub mod Damaged
