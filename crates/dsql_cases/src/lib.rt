@@ -5,3 +5,4 @@
 pub mod damaged;
 pub mod laws;
 pub mod legal;
+pub mod refused;
