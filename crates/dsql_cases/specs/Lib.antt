@@ -1,0 +1,5 @@
+pub mod Splits
+pub mod Edits
+pub mod Refusals
+pub mod Histories
+pub mod Damaged
