@@ -6,3 +6,4 @@ pub mod Roll
 pub mod Spelled
 pub mod Statement
 pub mod Wire
+pub mod Worked

@@ -10,6 +10,7 @@ mod session;
 mod statement;
 mod store;
 mod wire;
+pub mod worked;
 
 pub use fleet::MemFleet;
 pub use session::Session;
