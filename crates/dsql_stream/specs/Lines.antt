@@ -1,6 +1,7 @@
 -- The lines of bytes, and what a reader hands out of them.
-use Rattle.std.specs.Prelude.{ℕ, ◌≡◌, ◌≢◌, ◌<◌, ◌≤◌, ◌==◌, Bool, true, false, List, [], ◌∷◌, ◌++◌, length, take, drop, Option, Some, None, option_map, IfSome, if◌then◌else◌}
+use Rattle.std.specs.Prelude.{ℕ, ◌+◌, ◌≡◌, ◌≢◌, ◌<◌, ◌≤◌, ◌==◌, Bool, true, false, List, [], ◌∷◌, ◌++◌, length, take, drop, Option, Some, None, option_map, IfSome, if◌then◌else◌}
 use Rattle.std.specs.List.{before_first, after_first, slice_split}
+use Rattle.dsql_stream.specs.declared.lines.TheConstants.{LONGEST}
 use Rattle.dsql_stream.specs.Buffered.{Buffered}
 
 -- the byte ends a line
@@ -40,8 +41,8 @@ TakesOff front before after = before ≡ option_map (λ rest. front ++ rest) aft
 -- A line was handed out of these bytes: the first, or what stands before its 4,098th byte where it is longer than a line may be.
 pub record HandsOutLine (unread : List ℕ) (after : Option (List ℕ)) (line : List ℕ) : Type 0 where
   pub there : unread ≢ []
-  pub whole : length (first_line unread) ≤ 4096 → (line ≡ first_line unread) × (after ≡ Some (after_line unread))
-  pub cut : 4096 < length (first_line unread) → (line ≡ take 4097 unread) × (after ≡ Some (drop 4097 unread))
+  pub whole : length (first_line unread) ≤ LONGEST → (line ≡ first_line unread) × (after ≡ Some (after_line unread))
+  pub cut : LONGEST < length (first_line unread) → (line ≡ take (LONGEST + 1) unread) × (after ≡ Some (drop (LONGEST + 1) unread))
 
 -- a line was handed out, or there was none, where the bytes are known
 abbrev pub HandsOut : Bool → Option (List ℕ) → Option (List ℕ) → List ℕ → Type 0

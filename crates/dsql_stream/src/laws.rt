@@ -1,6 +1,7 @@
 //! What follows from the definitions of lines: each law is the contract of a function that does nothing.
 
 ghost use Rattle.std.specs.Prelude.{◌≡◌, ◌≢◌, ◌≤◌, ◌<◌, ◌↔◌, ℕ, List, [], ◌∷◌, ◌++◌, Some, Option, length};
+ghost use Rattle.dsql_stream.specs.declared.lines.TheConstants.{LONGEST};
 ghost use Rattle.dsql_stream.specs.Buffered.{Buffered};
 ghost use Rattle.dsql_stream.specs.Lines.{first_line, after_line, all_lines, ahead, SawTheEnd, HandsOutLine};
 
@@ -15,8 +16,8 @@ pub fn lines_begin_with_the_first()
 /// A line that was handed out uncut is the first of what was ahead, and the rest of the lines are ahead
 /// then. It was cut exactly where the first line is longer than a line may be.
 pub fn handed_out_in_order()
-    ensures uncut { (unread rest line : List ℕ) → HandsOutLine unread (Some rest) line → length line ≤ 4096 → all_lines unread ≡ line ∷ all_lines rest }
-    ensures cut { (unread line : List ℕ) (after : Option (List ℕ)) → HandsOutLine unread after line → (4096 < length line) ↔ (4096 < length (first_line unread)) }
+    ensures uncut { (unread rest line : List ℕ) → HandsOutLine unread (Some rest) line → length line ≤ LONGEST → all_lines unread ≡ line ∷ all_lines rest }
+    ensures cut { (unread line : List ℕ) (after : Option (List ℕ)) → HandsOutLine unread after line → (LONGEST < length line) ↔ (LONGEST < length (first_line unread)) }
 {}
 
 /// What is ahead is what is pending and then what is left, where the end that the reader saw is the

@@ -81,12 +81,14 @@ impl LineReader {
         })
     }
 
-    /// Hands the next line out, without its line feed. False: there is none, since the source is at its
-    /// end. The last line may lack its line feed.
+    /// Hands the next line out in `line`, without its line feed. False: there is none, since the source
+    /// is at its end. As with `ScanLines` of Go's package `bufio` the last line may lack its line feed, if
+    /// it isn't empty. A carriage return stays in the line.
     ///
-    /// A line of more than `LONGEST` bytes is cut behind its first `LONGEST + 1`. After a fault what was
-    /// read of the line is in `line`, and is dropped. Want of memory comes before anything is read. Once
-    /// the end was seen the source is read no more.
+    /// A line of more than `LONGEST` bytes is cut after its first `LONGEST + 1`, and the next call goes on
+    /// there. When the source fails, the bytes of the line that were read are in `line`, and no later call
+    /// hands them out. Want of memory comes before anything is read. Once the end was seen, the source is
+    /// read no more.
     pub fn next_line<S: Source>(
         &mut self,
         source: &mut S,
@@ -281,7 +283,7 @@ mod tests {
         ] {
             let mut script = vec![in rt.alloc(); b'x'; len]?;
             script.extend_from_slice(b"\ny")?;
-            let mut source = SliceSource::new(&script, 1000, &[]);
+            let mut source = SliceSource::new(&script, 9999, &[]);
             let mut reader = LineReader::new(rt.alloc())?;
             let mut line = Vec::new(rt.alloc());
             assert_eq!(rt; reader.next_line(&mut source, &mut line), Ok(true));

@@ -6,18 +6,19 @@ use thiserror::Error;
 
 /// The sink failed in the middle of a piece.
 #[derive(Clone, Copy, Debug, PartialEq, Eq, Error)]
-#[error("the write failed behind {written} bytes")]
+#[error("the write failed after {written} bytes")]
 pub struct Cut {
     /// How many bytes of the piece were written.
     pub written: usize,
 }
 
-/// Writes the whole piece, in as many writes as the sink needs. Of an empty piece nothing is written.
+/// Writes the whole piece, in as many writes as the sink needs. For an empty piece the sink isn't
+/// called. At the first write that fails it gives up, and what was written until then stays.
 pub fn write_whole<K: Sink>(sink: &mut K, piece: &[u8]) -> Result<(), Cut>
     ensures ok { OnOk result (K.written sink.new ≡ option_map (λ w. w ++ piece.now) (K.written sink.old)) }
     ensures empty { piece.now ≡ [] → (result ≡ Ok tt) × (sink.new ≡ sink.old) }
 
-    // What was written before a fault stays.
+    // A fault cuts the piece: what was written until then is a front of it.
     ensures cut { IfErr result (λ cut. cut.written < length piece.now) }
     ensures front { IfErr result (λ cut. K.written sink.new ≡ option_map (λ w. w ++ take cut.written piece.now) (K.written sink.old)) }
     ensures caused { IfErr result (λ _. HasRisen (K.faults sink.old) (K.faults sink.new)) }
