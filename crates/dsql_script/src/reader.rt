@@ -66,6 +66,13 @@ impl Reader {
         self.lines += 1;
         Ok(read)
     }
+
+    /// How many lines it has read.
+    pub fn lines(&self) -> u16
+        ensures { result ≡ self.now }
+    {
+        self.lines
+    }
 }
 
 impl Default for Reader {
