@@ -1,0 +1,11 @@
+-- What `?` answers.
+use Rattle.std.proofs.Common.{◌≡◌, ap}
+use Rattle.std.specs.Prelude.{Result, Ok, Err, IsErrAnd, OnOk}
+
+pub err_is : {T E : Type 0} (r : Result T E) (e : E) → IsErrAnd r (λ y. y ≡ e) → r ≡ Err e
+err_is (Ok x) e h = absurd h
+err_is (Err y) e h = ap Err h
+
+pub on_ok : {P : Type 0} {E : Type 0} (r : Result (Unit {0}) E) → OnOk r P → r ≡ Ok tt → P
+on_ok (Ok done) h is = h
+on_ok (Err e) h is = absurd (cc is)

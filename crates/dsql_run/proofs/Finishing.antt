@@ -1,0 +1,189 @@
+-- How a run is finished: what is told, and what is written then.
+use Rattle.std.proofs.Common.{◌≡◌, ◌≢◌, ◌⊎◌, ℕ, ◌≤◌, Bool, true, false, ◌||◌, List, [], ◌∷◌, ◌++◌, Option, Some, None, length, refl, sym, ap, subst, ◌∙◌, arith, inl, inr}
+use Rattle.std.specs.Prelude.{Result, Ok, Err}
+use Rattle.std.specs.Prelude.{nat_lt, nat_le}
+use Rattle.std.proofs.lemmas.Bool.{lt-ltb, ltb-true, le-leb, leb-true}
+use Rattle.std.proofs.lemmas.List.{append-nil}
+use Rattle.dsql_driver.specs.Streams.{HasRisen, has_risen, last_count}
+use Rattle.dsql_history.specs.declared.event.Event.{Event}
+use Rattle.dsql_history.specs.declared.event.Op.{Op}
+use Rattle.dsql_script.specs.Lines.{text_of}
+use Rattle.dsql_player.specs.Extends.{Extends}
+use Rattle.dsql_run.specs.Report.{with_text, Shows, ShowsFront}
+use Rattle.dsql_run.specs.Runs.{ran_out, Plays, Wrote, Writes, failed, wanted_memory, is_cut, later_stop, Finishes}
+use Rattle.dsql_run.specs.declared.show.ShowFault.{ShowFault}
+use Rattle.dsql_run.specs.declared.show.ShowFault.TheVariants as shows
+use Rattle.dsql_run.specs.declared.stop.Stop.{Stop}
+use Rattle.dsql_run.specs.declared.stop.Stop.TheVariants.{Read, Write, Memory, Refused, Full}
+use Rattle.dsql_run.proofs.Running.{front_of_older, front_of_shown, oldest_older, plays_first}
+
+front_all : (w now : Option (List ℕ)) (text : List ℕ) → now ≡ with_text w text → ShowsFront w text now
+front_all w now text is = record { front = text; begins = record { rest = []; parts = sym (append-nil text) }; written = is }
+
+-- what was written in any case
+front_of_wrote : (r : Result (Unit {0}) Stop) (w now : Option (List ℕ)) (n : ℕ) (past : List Event) → Wrote r w n past now → ShowsFront w (text_of past) now
+front_of_wrote (Ok done) w now n past wrote = front_of_shown w now n past wrote
+front_of_wrote (Err Read) w now n past wrote = front_of_shown w now n past wrote
+front_of_wrote (Err Write) w now n past wrote = wrote
+front_of_wrote (Err Memory) w now n past wrote = wrote
+front_of_wrote (Err (Refused number fault)) w now n past wrote = front_of_shown w now n past wrote
+front_of_wrote (Err Full) w now n past wrote = front_of_shown w now n past wrote
+
+pub shows_of_wrote : (r : Result (Unit {0}) Stop) (w now : Option (List ℕ)) (n : ℕ) (past : List Event) → failed r ≡ false → wanted_memory r ≡ false → Wrote r w n past now → Shows w n past now
+shows_of_wrote (Ok done) w now n past f m wrote = wrote
+shows_of_wrote (Err Read) w now n past f m wrote = wrote
+shows_of_wrote (Err Write) w now n past f m wrote = absurd (cc f)
+shows_of_wrote (Err Memory) w now n past f m wrote = absurd (cc m)
+shows_of_wrote (Err (Refused number fault)) w now n past f m wrote = wrote
+shows_of_wrote (Err Full) w now n past f m wrote = wrote
+
+shows_older : (w now : Option (List ℕ)) (n : ℕ) (old new : List Event) → Extends old new → n ≤ length old → Shows w n old now → Shows w n new now
+shows_older w now n old new e within shows = shows ∙ rw (oldest_older n old new e within) refl
+
+-- the history went on, and nothing was written
+pub wrote_older : (r : Result (Unit {0}) Stop) (w now : Option (List ℕ)) (n : ℕ) (old new : List Event) → Extends old new → n ≤ length old → Wrote r w n old now → Wrote r w n new now
+wrote_older (Ok done) w now n old new e within wrote = shows_older w now n old new e within wrote
+wrote_older (Err Read) w now n old new e within wrote = shows_older w now n old new e within wrote
+wrote_older (Err Write) w now n old new e within wrote = front_of_older w now old new e wrote
+wrote_older (Err Memory) w now n old new e within wrote = front_of_older w now old new e wrote
+wrote_older (Err (Refused number fault)) w now n old new e within wrote = shows_older w now n old new e within wrote
+wrote_older (Err Full) w now n old new e within wrote = shows_older w now n old new e within wrote
+
+pub uncut : (played ended : Result (Unit {0}) Stop) → (ran_out played ≡ false → ended ≡ played) → is_cut played ended ≡ false → (failed played ≡ false) × (wanted_memory played ≡ false)
+uncut (Ok done) ended kept cut = (refl, refl)
+uncut (Err Read) ended kept cut = (refl, refl)
+uncut (Err Write) ended kept cut = absurd (cc cut)
+uncut (Err Memory) ended kept cut = absurd (cc (subst (λ r. is_cut (Err Memory) r ≡ false) (kept refl) cut))
+uncut (Err (Refused number fault)) ended kept cut = (refl, refl)
+uncut (Err Full) ended kept cut = (refl, refl)
+
+full_front : (faulty : Bool) (w now : Option (List ℕ)) (past : List Event) → faulty ≡ true → ShowsFront w (text_of past) now → Writes (Err Full) faulty w past now
+full_front true w now past is front = front
+full_front false w now past is front = absurd (cc is)
+
+so_failed : (a : Bool) → (a || false) ≡ true → a ≡ true
+so_failed true h = refl
+so_failed false h = absurd (cc h)
+
+or_first : (a b : Bool) → a ≡ true → (a || b) ≡ true
+or_first true b h = refl
+or_first false b h = absurd (cc h)
+
+or_second : (a b : Bool) → b ≡ true → (a || b) ≡ true
+or_second true b h = refl
+or_second false b h = h
+
+-- nothing more is written
+pub finish_none : (played ended : Result (Unit {0}) Stop) (w now : Option (List ℕ)) (n : ℕ) (past : List Event) (risen : Bool) → (ran_out ended ≡ true → ended ≡ played) → is_cut played ended ≡ true
+    → Wrote played w n past now → Writes ended (failed played || risen) w past now
+finish_none played (Ok done) w now n past risen same cut wrote = absurd (cc (subst (λ r. is_cut r (Ok done) ≡ true) (sym (same refl)) cut))
+finish_none played (Err Read) w now n past risen same cut wrote = absurd (cc (subst (λ r. is_cut r (Err Read) ≡ true) (sym (same refl)) cut))
+finish_none played (Err Write) w now n past risen same cut wrote = front_of_wrote played w now n past wrote
+finish_none played (Err Memory) w now n past risen same cut wrote = front_of_wrote played w now n past wrote
+finish_none played (Err (Refused number fault)) w now n past risen same cut wrote = absurd (cc (subst (λ r. is_cut r (Err (Refused number fault)) ≡ true) (sym (same refl)) cut))
+finish_none played (Err Full) w now n past risen same cut wrote =
+    full_front (failed played || risen) w now past (or_first (failed played) risen (so_failed (failed played) cut)) (front_of_wrote played w now n past wrote)
+
+writes_full : (faulty : Bool) (w now : Option (List ℕ)) (past : List Event) → now ≡ with_text w (text_of past) → Writes (Err Full) faulty w past now
+writes_full true w now past is = front_all w now (text_of past) is
+writes_full false w now past is = is
+
+-- all is written
+pub finish_shown : (ended : Result (Unit {0}) Stop) (w now : Option (List ℕ)) (past : List Event) (faulty : Bool) → now ≡ with_text w (text_of past) → Writes ended faulty w past now
+finish_shown (Ok done) w now past faulty is = is
+finish_shown (Err Read) w now past faulty is = is
+finish_shown (Err Write) w now past faulty is = front_all w now (text_of past) is
+finish_shown (Err Memory) w now past faulty is = front_all w now (text_of past) is
+finish_shown (Err (Refused number fault)) w now past faulty is = is
+finish_shown (Err Full) w now past faulty is = writes_full faulty w now past is
+
+-- the last events couldn't be shown
+pub finish_cut : (ended : Result (Unit {0}) Stop) (fault : ShowFault) (w now : Option (List ℕ)) (past : List Event) (before risen : Bool) → (fault ≡ shows.Failed → risen ≡ true) → ShowsFront w (text_of past) now
+    → Writes (Err (later_stop ended fault)) (before || risen) w past now
+finish_cut ended shows.Memory w now past before risen caused front = front
+finish_cut (Ok done) shows.Failed w now past before risen caused front = front
+finish_cut (Err Read) shows.Failed w now past before risen caused front = front
+finish_cut (Err Write) shows.Failed w now past before risen caused front = front
+finish_cut (Err Memory) shows.Failed w now past before risen caused front = front
+finish_cut (Err (Refused number fault)) shows.Failed w now past before risen caused front = front
+finish_cut (Err Full) shows.Failed w now past before risen caused front = full_front (before || risen) w now past (or_second before risen (caused refl)) front
+
+pub finishes_later : (played ended : Result (Unit {0}) Stop) (fault : ShowFault) → is_cut played ended ≡ false → Finishes ended (Err (later_stop ended fault))
+finishes_later played ended shows.Memory cut = inr (inl refl)
+finishes_later played (Ok done) shows.Failed cut = inr (inr (refl, refl))
+finishes_later played (Err Read) shows.Failed cut = inr (inr (refl, refl))
+finishes_later played (Err Write) shows.Failed cut = inl refl
+finishes_later played (Err Memory) shows.Failed cut = absurd (cc (sym (or_second (failed played) true refl) ∙ cut))
+finishes_later played (Err (Refused number fault)) shows.Failed cut = inr (inr (refl, refl))
+finishes_later played (Err Full) shows.Failed cut = inl refl
+
+-- the end was carried out exactly where what is told at last isn't want of memory or of room
+pub finishes_out : (ended final : Result (Unit {0}) Stop) → Finishes ended final → ran_out final ≡ true → ran_out ended ≡ true
+finishes_out ended final (inl same) out = rw (sym same) out
+finishes_out ended final (inr (inl memory)) out = absurd (cc (subst (λ r. ran_out r ≡ true) memory out))
+finishes_out ended final (inr (inr write)) out = write.1
+
+plays_ended : (played ended : Result (Unit {0}) Stop) (bytes : Option (List ℕ)) (calls : List (ℕ × Op)) → (ran_out ended ≡ true → ended ≡ played) → Plays played bytes calls → Plays ended bytes calls
+plays_ended played (Ok done) bytes calls same plays = subst (λ r. Plays r bytes calls) (sym (same refl)) plays
+plays_ended played (Err Read) bytes calls same plays = plays_first played bytes calls plays
+plays_ended played (Err Write) bytes calls same plays = plays_first played bytes calls plays
+plays_ended played (Err Memory) bytes calls same plays = plays_first played bytes calls plays
+plays_ended played (Err (Refused number fault)) bytes calls same plays = subst (λ r. Plays r bytes calls) (sym (same refl)) plays
+plays_ended played (Err Full) bytes calls same plays = plays_first played bytes calls plays
+
+-- what a run has of its script, by what is told at last
+pub plays_finished : (played ended final : Result (Unit {0}) Stop) (bytes : Option (List ℕ)) (calls : List (ℕ × Op)) → (ran_out ended ≡ true → ended ≡ played) → Finishes ended final → Plays played bytes calls → Plays final bytes calls
+plays_finished played ended final bytes calls same (inl is) plays = rw is (plays_ended played ended bytes calls same plays)
+plays_finished played ended final bytes calls same (inr (inl memory)) plays = rw memory (plays_first played bytes calls plays)
+plays_finished played ended final bytes calls same (inr (inr write)) plays = rw write.0 (plays_first played bytes calls plays)
+
+-- only what was played to its end without fault is told as such
+pub told_done : (played ended final : Result (Unit {0}) Stop) (done : Unit {0}) → (ran_out ended ≡ true → ended ≡ played) → Finishes ended final → final ≡ Ok done → played ≡ Ok done
+told_done played ended final done same (inl is) at = let e : ended ≡ Ok done = sym is ∙ at in sym (same (rw e refl)) ∙ e
+told_done played ended final done same (inr (inl memory)) at = absurd (cc (sym memory ∙ at))
+told_done played ended final done same (inr (inr write)) at = absurd (cc (sym write.0 ∙ at))
+
+pub told_read : (played ended final : Result (Unit {0}) Stop) → (ran_out ended ≡ true → ended ≡ played) → Finishes ended final → final ≡ Err Read → played ≡ Err Read
+told_read played ended final same (inl is) at = let e : ended ≡ Err Read = sym is ∙ at in sym (same (rw e refl)) ∙ e
+told_read played ended final same (inr (inl memory)) at = absurd (cc (sym memory ∙ at))
+told_read played ended final same (inr (inr write)) at = absurd (cc (sym write.0 ∙ at))
+
+pub told_full : (ended final : Result (Unit {0}) Stop) → Finishes ended final → final ≡ Err Full → ended ≡ Err Full
+told_full ended final (inl is) at = sym is ∙ at
+told_full ended final (inr (inl memory)) at = absurd (cc (sym memory ∙ at))
+told_full ended final (inr (inr write)) at = absurd (cc (sym write.0 ∙ at))
+
+-- a fault more in a later step is one more in all
+pub writes_more : (r : Result (Unit {0}) Stop) (one all : Bool) (w now : Option (List ℕ)) (past : List Event) → (one ≡ true → all ≡ true) → Writes r one w past now → Writes r all w past now
+writes_more (Ok done) one all w now past more writes = writes
+writes_more (Err Read) one all w now past more writes = writes
+writes_more (Err Write) one all w now past more writes = writes
+writes_more (Err Memory) one all w now past more writes = writes
+writes_more (Err (Refused number fault)) one all w now past more writes = writes
+writes_more (Err Full) true all w now past more writes = full_front all w now past (more refl) writes
+writes_more (Err Full) false all w now past more writes = writes_full all w now past writes
+
+split_or : (a b : Bool) → (a || b) ≡ true → (a ≡ true) ⊎ (b ≡ true)
+split_or true b h = inl refl
+split_or false b h = inr h
+
+risen_later : (a b c : ℕ) → b ≤ c → has_risen a b ≡ true → has_risen a c ≡ true
+risen_later a b c le h = elim (split_or (nat_lt a b) (nat_le last_count b) h) [
+  | inl less ↦ or_first (nat_lt a c) (nat_le last_count c) (lt-ltb a c (omega (arith, ltb-true a b less, le)))
+  | inr last ↦ or_second (nat_lt a c) (nat_le last_count c) (le-leb last_count c (omega (arith, leb-true last_count b last, le)))
+]
+
+risen_earlier : (a b c : ℕ) → a ≤ b → has_risen b c ≡ true → has_risen a c ≡ true
+risen_earlier a b c le h = elim (split_or (nat_lt b c) (nat_le last_count c) h) [
+  | inl less ↦ or_first (nat_lt a c) (nat_le last_count c) (lt-ltb a c (omega (arith, ltb-true b c less, le)))
+  | inr last ↦ or_second (nat_lt a c) (nat_le last_count c) last
+]
+
+-- the sink failed at the lines or at the end
+pub all_risen : (r : Result (Unit {0}) Stop) (a b c : ℕ) → a ≤ b → b ≤ c → (r ≡ Err Write → HasRisen a b) → (failed r || has_risen b c) ≡ true → has_risen a c ≡ true
+all_risen (Ok done) a b c one two caused h = risen_earlier a b c one h
+all_risen (Err Read) a b c one two caused h = risen_earlier a b c one h
+all_risen (Err Write) a b c one two caused h = risen_later a b c two (caused refl)
+all_risen (Err Memory) a b c one two caused h = risen_earlier a b c one h
+all_risen (Err (Refused number fault)) a b c one two caused h = risen_earlier a b c one h
+all_risen (Err Full) a b c one two caused h = risen_earlier a b c one h

@@ -1,0 +1,21 @@
+use Rattle.std.proofs.Common.{◌≡◌, ◌∙◌, true, sym}
+use Rattle.dsql_player.specs.Entered.{entered_calls}
+use Rattle.dsql_player.proofs.Extending.{extends_then}
+use Rattle.dsql_run.proofs.Finishing.{plays_finished, wrote_older, writes_more, all_risen}
+use Rattle.dsql_run.proofs.playing.play.Goals as goal
+
+pub returns-clause-begins : goal.returns-clause-begins
+returns-clause-begins g c =
+    extends_then c.args.engine.now c.play_lines-played.new.engine c.close-ended.new.engine c.play_lines-played.ensures.extends c.close-ended.ensures.extends
+
+pub returns-clause-plays : goal.returns-clause-plays
+returns-clause-plays g c =
+    rw c.close-ended.ensures.entered
+    (plays_finished c.play_lines-played.result c.close-ended.result c.finish.result (g.S.Source.left c.args.input.now) (entered_calls c.play_lines-played.new.engine) c.close-ended.ensures.same c.finish.ensures.result c.play_lines-played.ensures.plays)
+
+pub returns-clause-writes : goal.returns-clause-writes
+returns-clause-writes g c =
+    writes_more c.finish.result _ _ (g.K.Sink.written c.args.output.now) (g.K.Sink.written c.finish.new.output) c.close-ended.new.engine
+    (all_risen c.play_lines-played.result (g.K.Sink.faults c.args.output.now) (g.K.Sink.faults c.play_lines-played.new.output) (g.K.Sink.faults c.finish.new.output) c.play_lines-played.ensures.counted c.finish.ensures.counted c.play_lines-played.ensures.write_fault)
+    (c.finish.ensures.wrote (g.K.Sink.written c.args.output.now)
+    (wrote_older c.play_lines-played.result (g.K.Sink.written c.args.output.now) (g.K.Sink.written c.play_lines-played.new.output) c.play_lines-played.new.shown c.play_lines-played.new.engine c.close-ended.new.engine c.close-ended.ensures.extends c.play_lines-played.ensures.within c.play_lines-played.ensures.wrote))

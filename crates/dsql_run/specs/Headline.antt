@@ -1,0 +1,83 @@
+-- What a run of the program has done, as one history shows it.
+use Rattle.std.specs.Prelude.{ℕ, ◌≡◌, ◌≤◌, ◌⊎◌, Bool, true, false, List, [], ◌∷◌, length, Option, None, Some, IfSome, Result, Ok, Err}
+use Rattle.dsql_driver.specs.declared.caps.Caps.{Caps}
+use Rattle.dsql_driver.specs.Streams.{HasRisen, has_risen}
+use Rattle.dsql_driver.specs.Wires.{RetiredWire}
+use Rattle.dsql_history.specs.declared.event.Event.{Event}
+use Rattle.dsql_history.specs.declared.event.Event.TheVariants.{Run}
+use Rattle.dsql_history.specs.Readers.Course.{has_ended}
+use Rattle.dsql_history.specs.Rules.House.{is_quiet}
+use Rattle.dsql_history.specs.Legal.{Legal}
+use Rattle.dsql_engine.specs.Groups.{most_events}
+use Rattle.dsql_player.specs.Entered.{entered_calls}
+use Rattle.dsql_player.specs.Extends.{Extends}
+use Rattle.dsql_player.specs.Told.{with_gone}
+use Rattle.dsql_player.specs.Turns.{Turns}
+use Rattle.dsql_script.specs.Lines.{text_of}
+use Rattle.dsql_run.specs.Notes.{Tells, usage_note}
+use Rattle.dsql_run.specs.Report.{with_text, ShowsFront}
+use Rattle.dsql_run.specs.Runs.{ran_out, Plays, Writes}
+use Rattle.dsql_run.specs.Script.{Says}
+use Rattle.dsql_run.specs.declared.stop.Stop.{Stop}
+use Rattle.dsql_run.specs.declared.stop.Stop.TheVariants.{Read, Write, Memory, Full}
+
+-- what is seen of the outside before a run and after it
+pub record Seen : Type 0 where
+  pub left : Option (List ℕ)
+  pub read_faults : ℕ
+  pub written : Option (List ℕ)
+  pub write_faults : ℕ
+  pub retired : Option (List RetiredWire)
+
+-- A run of a script: one legal history, what stopped it, what of the script it has, and what was written, read and given back.
+pub record Ran (caps : Caps) (stopped : Result Unit Stop) (before after : Seen) : Type 0 where
+  pub history : List Event
+  pub legal : Legal history
+  pub begins : Extends (Run 1 caps ∷ []) history
+  pub turns : Turns history
+  pub plays : Plays stopped before.left (entered_calls history)
+  pub ended : ran_out stopped ≡ true → has_ended history ≡ true
+  pub quiet : ran_out stopped ≡ true → is_quiet history ≡ true
+  pub read : stopped ≡ Ok tt → IfSome after.left (λ bytes. bytes ≡ [])
+  pub writes : Writes stopped (has_risen before.write_faults after.write_faults) before.written history after.written
+  pub retired : ran_out stopped ≡ true → after.retired ≡ with_gone before.retired history
+  pub read_fault : stopped ≡ Err Read → HasRisen before.read_faults after.read_faults
+  pub write_fault : stopped ≡ Err Write → HasRisen before.write_faults after.write_faults
+  pub full : stopped ≡ Err Full → most_events ≤ length history
+
+-- there was no memory before the run's first event, and nothing was done
+pub record NotBegun (stopped : Result Unit Stop) (before after : Seen) : Type 0 where
+  pub memory : stopped ≡ Err Memory
+  pub same : after ≡ before
+
+-- what was seen of the notes: what they hold, and how often they failed
+pub record SeenNotes : Type 0 where
+  pub written : Option (List ℕ)
+  pub faults : ℕ
+
+-- A script was played, and what stopped it, if anything did, was told with its status.
+pub record PlaysAndTells (caps : Caps) (before after : Seen) (notes_before notes_after : SeenNotes) (status : ℕ) : Type 0 where
+  pub stopped : Result Unit Stop
+  pub ran : Ran caps stopped before after ⊎ NotBegun stopped before after
+  pub told : Tells stopped (has_risen notes_before.faults notes_after.faults) notes_before.written notes_after.written status
+
+-- The whole of a script was played: its report is the text of one legal history, and nothing was told.
+pub record PlaysWhole (caps : Caps) (before after : Seen) (notes_before notes_after : SeenNotes) : Type 0 where
+  pub history : List Event
+  pub legal : Legal history
+  pub begins : Extends (Run 1 caps ∷ []) history
+  pub turns : Turns history
+  pub says : Says before.left (record { calls = entered_calls history; refused = None })
+  pub ended : has_ended history ≡ true
+  pub quiet : is_quiet history ≡ true
+  pub read : IfSome after.left (λ bytes. bytes ≡ [])
+  pub written : after.written ≡ with_text before.written (text_of history)
+  pub retired : after.retired ≡ with_gone before.retired history
+  pub untold : notes_after.written ≡ notes_before.written
+
+-- Words that aren't accepted are told, or the notes failed.
+pub record RefusesWords (notes_before notes_after : SeenNotes) (status : ℕ) : Type 0 where
+  pub told : status ≡ 2 → notes_after.written ≡ with_text notes_before.written usage_note
+  pub status_is : (status ≡ 2) ⊎ (status ≡ 4)
+  pub front : status ≡ 4 → ShowsFront notes_before.written usage_note notes_after.written
+  pub caused : status ≡ 4 → HasRisen notes_before.faults notes_after.faults

@@ -1,0 +1,5 @@
+pub mod Script
+pub mod Report
+pub mod Runs
+pub mod Notes
+pub mod Headline

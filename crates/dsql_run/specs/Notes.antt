@@ -1,0 +1,73 @@
+-- What is told of a run, and its status.
+use Rattle.std.specs.Prelude.{ℕ, ◌≡◌, ◌≢◌, ◌⊎◌, Bool, true, false, List, [], ◌∷◌, ◌++◌, Option, Result, Ok, Err, codes, decimal}
+use Rattle.std.specs.Str.{bytes_eq}
+use Rattle.dsql_script.specs.declared.fault.LineFault.{LineFault}
+use Rattle.dsql_script.specs.declared.fault.LineFault.TheVariants as faults
+use Rattle.dsql_run.specs.Report.{with_text, ShowsFront}
+use Rattle.dsql_run.specs.declared.show.ShowFault.{ShowFault}
+use Rattle.dsql_run.specs.declared.show.ShowFault.TheVariants as shows
+use Rattle.dsql_run.specs.declared.stop.Stop.{Stop}
+use Rattle.dsql_run.specs.declared.stop.Stop.TheVariants.{Read, Write, Memory, Refused, Full}
+
+-- the program's words ask for a script to be played
+abbrev pub is_play : List (List ℕ) → Bool
+is_play (word ∷ []) = bytes_eq word (codes "play")
+is_play _ = false
+
+abbrev pub reason_of : LineFault → List ℕ
+reason_of faults.TooLong = codes "line too long"
+reason_of faults.NotUtf8 = codes "not UTF-8"
+reason_of faults.NoSuchWord = codes "no such word"
+reason_of faults.BadJson = codes "not JSON"
+reason_of faults.BadShape = codes "wrong shape"
+reason_of faults.UnknownLabel = codes "unknown label"
+reason_of (faults.TooMany what) = codes "too many lines"
+reason_of faults.Memory = codes "out of memory"
+
+abbrev pub refusal_of : ℕ → LineFault → List ℕ
+refusal_of number fault = codes "line " ++ decimal number ++ codes ": " ++ reason_of fault
+
+abbrev pub stop_text : Stop → List ℕ
+stop_text Read = codes "read fault"
+stop_text Write = codes "write fault"
+stop_text Memory = codes "out of memory"
+stop_text (Refused number fault) = refusal_of number fault
+stop_text Full = codes "too many events"
+
+-- the line that tells what stopped a run
+abbrev pub note_of : Stop → List ℕ
+note_of stop = codes "sqlrun: " ++ stop_text stop ++ 10 ∷ []
+
+abbrev pub usage_note : List ℕ
+usage_note = codes "sqlrun: usage: sqlrun play [--summary] | race | gen N" ++ 10 ∷ []
+
+abbrev pub status_of : Stop → ℕ
+status_of Read = 3
+status_of Write = 4
+status_of Memory = 5
+status_of (Refused number fault) = 7
+status_of Full = 10
+
+-- the status where the stop couldn't be told
+abbrev pub failed_status : Stop → ShowFault → ℕ
+failed_status stop shows.Memory = 5
+failed_status Memory shows.Failed = 5
+failed_status Full shows.Failed = 10
+failed_status _ shows.Failed = 4
+
+-- The notes were written for this reason; a fault of theirs is one.
+pub record TellsInPart (stop : Stop) (risen : Bool) (w now : Option (List ℕ)) (status : ℕ) : Type 0 where
+  pub fault : ShowFault
+  pub status_is : status ≡ failed_status stop fault
+  pub caused : fault ≡ shows.Failed → risen ≡ true
+  pub front : ShowsFront w (note_of stop) now
+
+-- the stop was told with its status
+pub record TellsAll (stop : Stop) (w now : Option (List ℕ)) (status : ℕ) : Type 0 where
+  pub status_is : status ≡ status_of stop
+  pub told : now ≡ with_text w (note_of stop)
+
+-- What is told, with the status. Nothing is told of a run that came to its script's end.
+abbrev pub Tells : Result Unit Stop → Bool → Option (List ℕ) → Option (List ℕ) → ℕ → Type 0
+Tells (Ok _) risen w now status = (status ≡ 0) × (now ≡ w)
+Tells (Err stop) risen w now status = TellsAll stop w now status ⊎ TellsInPart stop risen w now status

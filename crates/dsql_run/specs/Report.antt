@@ -1,0 +1,23 @@
+-- What was written of a report.
+use Rattle.std.specs.Prelude.{ℕ, ◌≡◌, List, [], ◌∷◌, ◌++◌, take, reverse, Option, option_map}
+use Rattle.dsql_history.specs.declared.event.Event.{Event}
+use Rattle.dsql_script.specs.Lines.{text_of}
+use Rattle.dsql_run.specs.Script.{Begins}
+
+-- a sink that held w, where it tells, holds these bytes behind it
+abbrev pub with_text : Option (List ℕ) → List ℕ → Option (List ℕ)
+with_text w text = option_map (λ bytes. bytes ++ text) w
+
+-- the first events of a history, which comes newest first
+abbrev pub oldest : ℕ → List Event → List Event
+oldest n past = reverse (take n (reverse past))
+
+-- where a sink told w at first, it tells the text of the first n events behind it
+abbrev pub Shows : Option (List ℕ) → ℕ → List Event → Option (List ℕ) → Type 0
+Shows w n past now = now ≡ with_text w (text_of (oldest n past))
+
+-- a sink that held w holds a beginning of this text behind it
+pub record ShowsFront (w : Option (List ℕ)) (text : List ℕ) (now : Option (List ℕ)) : Type 0 where
+  pub front : List ℕ
+  pub begins : Begins front text
+  pub written : now ≡ with_text w front

@@ -1,0 +1,128 @@
+-- How a run ends, and what it has done then.
+use Rattle.std.specs.Prelude.{ℕ, ◌≡◌, ◌+◌, ◌⊎◌, Bool, true, false, ◌||◌, List, [], ◌∷◌, ◌++◌, Option, Some, None, IfSome, option_map, Result, Ok, Err}
+use Rattle.dsql_driver.specs.Wires.{Told}
+use Rattle.dsql_history.specs.declared.event.Event.{Event}
+use Rattle.dsql_history.specs.declared.event.Op.{Op}
+use Rattle.dsql_history.specs.Readers.Course.{has_ended}
+use Rattle.dsql_history.specs.Rules.House.{is_quiet}
+use Rattle.dsql_history.specs.Legal.{Legal}
+use Rattle.dsql_player.specs.declared.halt.Halt.{Halt}
+use Rattle.dsql_player.specs.declared.halt.Halt.TheVariants as halts
+use Rattle.dsql_player.specs.Entered.{entered_calls}
+use Rattle.dsql_player.specs.Turns.{Turns}
+use Rattle.dsql_player.specs.WiresFit.{WiresFit}
+use Rattle.dsql_stream.specs.declared.lines.ReadFault.{ReadFault}
+use Rattle.dsql_stream.specs.declared.lines.ReadFault.TheVariants.{Failed as NoRead, Memory as NoMemory}
+use Rattle.dsql_stream.specs.Lines.{all_lines, ahead}
+use Rattle.dsql_script.specs.declared.script.ScriptLine.{ScriptLine}
+use Rattle.dsql_script.specs.ScriptLines.{read_of}
+use Rattle.dsql_script.specs.Lines.{text_of}
+use Rattle.dsql_run.specs.Script.{Script, Says, SaysFirst, script_from, no_lines, refused_at, with_calls, calls_of}
+use Rattle.dsql_run.specs.Report.{with_text, Shows, ShowsFront}
+use Rattle.dsql_run.specs.declared.script.ScriptReader.{ScriptReader}
+use Rattle.dsql_run.specs.declared.show.ShowFault.{ShowFault}
+use Rattle.dsql_run.specs.declared.show.ShowFault.TheVariants as shows
+use Rattle.dsql_run.specs.declared.stop.Stop.{Stop}
+use Rattle.dsql_run.specs.declared.stop.Stop.TheVariants.{Read, Write, Memory, Refused, Full}
+
+-- what stops a run where no line can be read
+abbrev pub stop_of_read : ReadFault → Stop
+stop_of_read NoRead = Read
+stop_of_read NoMemory = Memory
+
+-- A run that was carried out to its end, whatever stopped its script, for which nothing wanted.
+abbrev pub ran_out : Result Unit Stop → Bool
+ran_out (Err Memory) = false
+ran_out (Err Full) = false
+ran_out _ = true
+
+-- what is still to come of a script, where the source tells
+abbrev pub to_come : ScriptReader → Option (List ℕ) → Option Script
+to_come reader left = option_map (script_from reader.reader) (option_map all_lines (ahead reader.lines left))
+
+-- What was to come says what the line said and then what is to come now. Where there was no line, nothing was to come.
+abbrev pub ReadsOn : Option ScriptLine → Option Script → Option Script → Type 0
+ReadsOn (Some line) before after = before ≡ option_map (with_calls (calls_of line)) after
+ReadsOn None before after = IfSome before (λ script. script ≡ no_lines)
+
+-- what stops a reader where this was to come; a refused line was the first
+abbrev pub StopsReading : Option Script → Stop → Type 0
+StopsReading before Write = ⊥
+StopsReading before Full = ⊥
+StopsReading before (Refused number fault) = IfSome before (λ script. script ≡ refused_at number fault)
+StopsReading before _ = Unit {0}
+
+-- the line is refused, or there was no memory
+abbrev pub IsRefusal : ℕ → List ℕ → Stop → Type 0
+IsRefusal before line Memory = Unit {0}
+IsRefusal before line (Refused number fault) = (number ≡ before + 1) × (read_of before line ≡ Err fault)
+IsRefusal before line _ = ⊥
+
+-- A run between two lines: nothing is left to be done, and each wire has heard its connection's journal.
+pub record Between {W : Type 0} (heard : W → Option (List Told)) (telling : Bool) (past : List Event) (slots : List (Option W)) : Type 0 where
+  pub quiet : is_quiet past ≡ true
+  pub running : has_ended past ≡ false
+  pub wires : WiresFit heard telling past slots
+  pub turns : Turns past
+  pub legal : Legal past
+
+-- a line's calls were entered, or none was
+abbrev pub EntersLine : List (ℕ × Op) → List Event → List Event → Type 0
+EntersLine calls old new = (entered_calls new ≡ entered_calls old) ⊎ (entered_calls new ≡ entered_calls old ++ calls)
+
+-- what stops a line that is carried out and shown
+abbrev pub IsPlayStop : Stop → Type 0
+IsPlayStop Read = ⊥
+IsPlayStop (Refused number fault) = ⊥
+IsPlayStop _ = Unit {0}
+
+-- What was written where so many events were shown. A fault leaves a beginning of the text.
+abbrev pub Wrote : Result Unit Stop → Option (List ℕ) → ℕ → List Event → Option (List ℕ) → Type 0
+Wrote (Err Write) w shown past now = ShowsFront w (text_of past) now
+Wrote (Err Memory) w shown past now = ShowsFront w (text_of past) now
+Wrote _ w shown past now = Shows w shown past now
+
+-- what the history has of the script: all of its calls, those before a refused line, or the first ones
+abbrev pub Plays : Result Unit Stop → Option (List ℕ) → List (ℕ × Op) → Type 0
+Plays (Ok _) bytes calls = Says bytes (record { calls = calls; refused = None })
+Plays (Err (Refused number fault)) bytes calls = Says bytes (record { calls = calls; refused = Some (number, fault) })
+Plays (Err _) bytes calls = SaysFirst bytes calls
+
+-- What was written at the end: all of the text, or a beginning of it after a fault or for want of memory.
+abbrev pub Writes : Result Unit Stop → Bool → Option (List ℕ) → List Event → Option (List ℕ) → Type 0
+Writes (Err Write) faulty w past now = ShowsFront w (text_of past) now
+Writes (Err Memory) faulty w past now = ShowsFront w (text_of past) now
+Writes (Err Full) true w past now = ShowsFront w (text_of past) now
+Writes _ _ w past now = now ≡ with_text w (text_of past)
+
+-- what stops a run that can't be carried on
+abbrev pub stop_of_halt : Halt → Stop
+stop_of_halt halts.Memory = Memory
+stop_of_halt halts.Full = Full
+
+abbrev pub stop_of_show : ShowFault → Stop
+stop_of_show shows.Failed = Write
+stop_of_show shows.Memory = Memory
+
+-- a write failed
+abbrev pub failed : Result Unit Stop → Bool
+failed (Err Write) = true
+failed _ = false
+
+abbrev pub wanted_memory : Result Unit Stop → Bool
+wanted_memory (Err Memory) = true
+wanted_memory _ = false
+
+-- nothing more is to be written
+abbrev pub is_cut : Result Unit Stop → Result Unit Stop → Bool
+is_cut played ended = failed played || wanted_memory ended
+
+-- what a run that was ended is told as where its last events couldn't be shown
+abbrev pub later_stop : Result Unit Stop → ShowFault → Stop
+later_stop ended shows.Memory = Memory
+later_stop (Err Full) shows.Failed = Full
+later_stop ended shows.Failed = Write
+
+-- The same stop, or a later one: want of memory, or a fault of the sink in place of one with which the run could be ended.
+abbrev pub Finishes : Result Unit Stop → Result Unit Stop → Type 0
+Finishes ended result = (result ≡ ended) ⊎ ((result ≡ Err Memory) ⊎ ((result ≡ Err Write) × (ran_out ended ≡ true)))

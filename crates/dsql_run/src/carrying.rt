@@ -1,0 +1,67 @@
+ghost use Rattle.std.specs.Prelude.{◌≡◌, ◌≤◌, ◌++◌, ℕ, List, Option, true, length, OnOk, OnErr, IfErr, is_some};
+ghost use Rattle.dsql_driver.specs.Streams.{HasRisen};
+ghost use Rattle.dsql_driver.specs.Wires.{RetiredWire};
+ghost use Rattle.dsql_history.specs.Legal.{Legal};
+ghost use Rattle.dsql_engine.specs.Groups.{most_events};
+ghost use Rattle.dsql_script.specs.Lines.{text_of};
+ghost use Rattle.dsql_player.specs.Entered.{entered_calls};
+ghost use Rattle.dsql_player.specs.Extends.{Extends};
+ghost use Rattle.dsql_player.specs.Told.{with_gone};
+ghost use Rattle.dsql_player.specs.Turns.{Turns};
+ghost use Rattle.dsql_run.specs.Script.{calls_of};
+ghost use Rattle.dsql_run.specs.Report.{with_text};
+ghost use Rattle.dsql_run.specs.Runs.{Between, ran_out, EntersLine, IsPlayStop, Wrote};
+
+use crate::show::show;
+use crate::stop::Stop;
+use dsql_driver::{Fleet, Sink};
+use dsql_engine::Engine;
+use dsql_player::{Halt, Wires, carry_line};
+use dsql_script::ScriptLine;
+use std::alloc::Global;
+
+/// Carries a line out. An empty line or a comment changes nothing.
+fn carry<F: Fleet>(engine: &mut Engine, wires: &mut Wires<F::Wire>, fleet: &mut F, line: ScriptLine) -> Result<(), Halt>
+    requires between { Between F.Wire.heard (is_some (F.retired fleet.old)) engine.old wires.old }
+    ensures between { OnOk result (Between F.Wire.heard (is_some (F.retired fleet.new)) engine.new wires.new) }
+    ensures entered { OnOk result (entered_calls engine.new ≡ entered_calls engine.old ++ calls_of line) }
+    ensures stopped { OnErr result (EntersLine (calls_of line) engine.old engine.new) }
+    ensures gone { OnOk result ((r : Option (List RetiredWire)) → F.retired fleet.old ≡ with_gone r engine.old → F.retired fleet.new ≡ with_gone r engine.new) }
+    ensures extends { Extends engine.old engine.new }
+    ensures turns { Turns engine.new }
+    ensures full { result ≡ Err Halt.Full → most_events ≤ length engine.new }
+    ensures ability { F.ability fleet.new ≡ F.ability fleet.old }
+    ensures preferred { F.preferred fleet.new ≡ F.preferred fleet.old }
+    ensures legal { Legal engine.new }
+{
+    match line {
+        ScriptLine::Skip => Ok(()),
+        ScriptLine::Client { client, op } => carry_line(engine, wires, fleet, client, op),
+    }
+}
+
+/// Carries a line out, and writes its events.
+pub(crate) fn play_line<K: Sink, F: Fleet>(alloc: Global, engine: &mut Engine, wires: &mut Wires<F::Wire>, shown: &mut usize, output: &mut K, fleet: &mut F, line: ScriptLine) -> Result<(), Stop>
+    requires between { Between F.Wire.heard (is_some (F.retired fleet.old)) engine.old wires.old }
+    requires shown { shown.old ≡ length engine.old }
+    ensures between { ran_out result ≡ true → Between F.Wire.heard (is_some (F.retired fleet.new)) engine.new wires.new }
+    ensures entered { OnOk result (entered_calls engine.new ≡ entered_calls engine.old ++ calls_of line) }
+    ensures stopped { OnErr result (EntersLine (calls_of line) engine.old engine.new) }
+    ensures gone { ran_out result ≡ true → (r : Option (List RetiredWire)) → F.retired fleet.old ≡ with_gone r engine.old → F.retired fleet.new ≡ with_gone r engine.new }
+    ensures shown { OnOk result (shown.new ≡ length engine.new) }
+    ensures within { shown.new ≤ length engine.new }
+    ensures wrote { (w : Option (List ℕ)) → K.written output.old ≡ with_text w (text_of engine.old) → Wrote result w shown.new engine.new (K.written output.new) }
+    ensures kinds { IfErr result IsPlayStop }
+    ensures caused { result ≡ Err Stop.Write → HasRisen (K.faults output.old) (K.faults output.new) }
+    ensures counted { K.faults output.old ≤ K.faults output.new }
+    ensures full { result ≡ Err Stop.Full → most_events ≤ length engine.new }
+    ensures extends { Extends engine.old engine.new }
+    ensures turns { Turns engine.new }
+    ensures ability { F.ability fleet.new ≡ F.ability fleet.old }
+    ensures preferred { F.preferred fleet.new ≡ F.preferred fleet.old }
+    ensures legal { Legal engine.new }
+{
+    carry(engine, wires, fleet, line)?;
+    show(alloc, engine, shown, output)?;
+    Ok(())
+}

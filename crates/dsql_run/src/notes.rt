@@ -1,0 +1,123 @@
+ghost use Rattle.std.specs.Prelude.{◌≡◌, ◌≤◌, ◌++◌, OnOk, OnErr, IfOk, string_bytes};
+ghost use Rattle.dsql_driver.specs.Streams.{HasRisen, has_risen};
+ghost use Rattle.dsql_run.specs.Report.{with_text, ShowsFront};
+ghost use Rattle.dsql_run.specs.Headline.{RefusesWords};
+ghost use Rattle.dsql_run.specs.Notes.{refusal_of, stop_text, reason_of, note_of, status_of, failed_status, Tells};
+
+use crate::show::ShowFault;
+use crate::stop::Stop;
+use dsql_driver::Sink;
+use dsql_script::LineFault;
+use dsql_stream::write_whole;
+use dsql_value::Memory;
+use itoa::Buffer;
+use std::alloc::{AllocError, Global};
+
+/// Why a line is refused, in words.
+fn reason(fault: &LineFault) -> &'static str
+    ensures { result.now ≡ reason_of fault.now }
+{
+    match fault {
+        LineFault::TooLong => "line too long",
+        LineFault::NotUtf8 => "not UTF-8",
+        LineFault::NoSuchWord => "no such word",
+        LineFault::BadJson => "not JSON",
+        LineFault::BadShape => "wrong shape",
+        LineFault::UnknownLabel => "unknown label",
+        LineFault::TooMany(_) => "too many lines",
+        LineFault::Memory => "out of memory",
+    }
+}
+
+/// What is told of a refused line.
+fn push_refusal(line: &mut String, number: u32, fault: &LineFault) -> Result<(), AllocError>
+    ensures { OnOk result (string_bytes line.new ≡ string_bytes line.old ++ refusal_of number fault.now) }
+{
+    let mut buffer = Buffer::new();
+    line.push_str("line ")?;
+    line.push_str(buffer.format(number))?;
+    line.push_str(": ")?;
+    line.push_str(reason(fault))
+}
+
+/// What is told of a stop.
+fn push_stop(line: &mut String, stop: &Stop) -> Result<(), AllocError>
+    ensures { OnOk result (string_bytes line.new ≡ string_bytes line.old ++ stop_text stop.now) }
+{
+    match stop {
+        Stop::Read => line.push_str("read fault"),
+        Stop::Write => line.push_str("write fault"),
+        Stop::Memory => line.push_str("out of memory"),
+        Stop::Refused { number, fault } => push_refusal(line, *number, fault),
+        Stop::Full => line.push_str("too many events"),
+    }
+}
+
+/// The line that tells a stop.
+fn note(alloc: Global, stop: &Stop) -> Result<String, Memory>
+    ensures { IfOk result (λ line. string_bytes line ≡ note_of stop.now) }
+{
+    let mut line = String::new(alloc);
+    line.push_str("sqlrun: ")?;
+    push_stop(&mut line, stop)?;
+    line.push('\n')?;
+    Ok(line)
+}
+
+/// Writes the line that tells a stop.
+fn write_note<E: Sink>(alloc: Global, stop: &Stop, notes: &mut E) -> Result<(), ShowFault>
+    ensures ok { OnOk result (E.written notes.new ≡ with_text (E.written notes.old) (note_of stop.now)) }
+    ensures err { OnErr result (ShowsFront (E.written notes.old) (note_of stop.now) (E.written notes.new)) }
+    ensures caused { result ≡ Err ShowFault.Failed → HasRisen (E.faults notes.old) (E.faults notes.new) }
+    ensures counted { E.faults notes.old ≤ E.faults notes.new }
+{
+    let line = note(alloc, stop)?;
+    write_whole(notes, line.as_bytes())?;
+    Ok(())
+}
+
+fn status_of(stop: &Stop) -> u8
+    ensures { result ≡ status_of stop.now }
+{
+    match stop {
+        Stop::Read => 3,
+        Stop::Write => 4,
+        Stop::Memory => 5,
+        Stop::Refused { .. } => 7,
+        Stop::Full => 10,
+    }
+}
+
+/// The status of a stop that couldn't be told.
+fn failed_status(stop: &Stop, fault: ShowFault) -> u8
+    ensures { result ≡ failed_status stop.now fault }
+{
+    match (stop, fault) {
+        (_, ShowFault::Memory) | (Stop::Memory, _) => 5,
+        (Stop::Full, ShowFault::Failed) => 10,
+        (_, ShowFault::Failed) => 4,
+    }
+}
+
+/// Tells what stopped a run, if anything did, and says its status.
+pub(crate) fn tell<E: Sink>(alloc: Global, ended: &Result<(), Stop>, notes: &mut E) -> u8
+    ensures { Tells ended.now (has_risen (E.faults notes.old) (E.faults notes.new)) (E.written notes.old) (E.written notes.new) result }
+{
+    let Err(stop) = ended else {
+        return 0;
+    };
+    match write_note(alloc, stop, notes) {
+        Ok(()) => status_of(stop),
+        Err(fault) => failed_status(stop, fault),
+    }
+}
+
+/// Tells how the program is called, and says its status.
+pub(crate) fn tell_usage<E: Sink>(notes: &mut E) -> u8
+    ensures { RefusesWords (record { written = E.written notes.old; faults = E.faults notes.old }) (record { written = E.written notes.new; faults = E.faults notes.new }) result }
+{
+    match write_whole(notes, "sqlrun: usage: sqlrun play [--summary] | race | gen N\n".as_bytes()) {
+        Ok(()) => 2,
+        Err(_) => 4,
+    }
+}

@@ -1,0 +1,173 @@
+ghost use Rattle.std.specs.Prelude.{◌≡◌, ◌≤◌, ◌||◌, ℕ, List, [], ◌∷◌, Option, true, false, length, OnOk, IfOk, IfSome, is_some};
+ghost use Rattle.dsql_driver.specs.Streams.{HasRisen, has_risen};
+ghost use Rattle.dsql_driver.specs.Wires.{RetiredWire};
+ghost use Rattle.dsql_history.specs.declared.event.Event.TheVariants.{Run};
+ghost use Rattle.dsql_history.specs.Legal.{Legal};
+ghost use Rattle.dsql_history.specs.Readers.Course.{has_ended};
+ghost use Rattle.dsql_history.specs.Rules.House.{is_quiet};
+ghost use Rattle.dsql_engine.specs.Groups.{most_events};
+ghost use Rattle.dsql_player.specs.Entered.{entered_calls};
+ghost use Rattle.dsql_player.specs.Extends.{Extends};
+ghost use Rattle.dsql_player.specs.Told.{with_gone};
+ghost use Rattle.dsql_player.specs.Turns.{Turns};
+ghost use Rattle.dsql_run.specs.Runs.{Between, ran_out, Plays, Wrote, Writes, Finishes, failed, is_cut, later_stop};
+
+use crate::carrying::play_line;
+use crate::script::ScriptReader;
+use crate::show::{ShowFault, show};
+use crate::stop::Stop;
+use dsql_driver::{Fleet, Sink, Source};
+use dsql_engine::Engine;
+use dsql_player::{Halt, Wires, carry_end, retire_all};
+use std::alloc::Global;
+
+/// Plays a script's lines one after another, each as soon as it is read, and writes what happened.
+fn play_lines<S: Source, K: Sink, F: Fleet>(alloc: Global, engine: &mut Engine, wires: &mut Wires<F::Wire>, shown: &mut usize, input: &mut S, output: &mut K, fleet: &mut F) -> Result<(), Stop>
+    requires begun { engine.old ≡ Run 1 (F.ability fleet.old) ∷ [] }
+    requires between { Between F.Wire.heard (is_some (F.retired fleet.old)) engine.old wires.old }
+    requires shown { shown.old ≡ 0 }
+    ensures between { ran_out result ≡ true → Between F.Wire.heard (is_some (F.retired fleet.new)) engine.new wires.new }
+    ensures gone { ran_out result ≡ true → F.retired fleet.new ≡ with_gone (F.retired fleet.old) engine.new }
+    ensures plays { Plays result (S.left input.old) (entered_calls engine.new) }
+    ensures end { OnOk result (IfSome (S.left input.new) (λ bytes. bytes ≡ [])) }
+    ensures within { shown.new ≤ length engine.new }
+    ensures wrote { Wrote result (K.written output.old) shown.new engine.new (K.written output.new) }
+    ensures read_fault { result ≡ Err Stop.Read → HasRisen (S.faults input.old) (S.faults input.new) }
+    ensures write_fault { result ≡ Err Stop.Write → HasRisen (K.faults output.old) (K.faults output.new) }
+    ensures counted { K.faults output.old ≤ K.faults output.new }
+    ensures full { result ≡ Err Stop.Full → most_events ≤ length engine.new }
+    ensures extends { Extends engine.old engine.new }
+    ensures turns { Turns engine.new }
+    ensures ability { F.ability fleet.new ≡ F.ability fleet.old }
+    ensures preferred { F.preferred fleet.new ≡ F.preferred fleet.old }
+    ensures legal { Legal engine.new }
+{
+    let mut script = ScriptReader::new(alloc)?;
+    show(alloc, engine, shown, output)?;
+    while let Some(line) = script.next(alloc, input)? {
+        play_line(alloc, engine, wires, shown, output, fleet, line)?;
+    }
+    Ok(())
+}
+
+/// Ends the run, which shuts every connection and retires its wire.
+fn end_run<F: Fleet>(engine: &mut Engine, wires: Wires<F::Wire>, fleet: &mut F) -> Result<(), Halt>
+    requires between { Between F.Wire.heard (is_some (F.retired fleet.old)) engine.old wires }
+    ensures quiet { OnOk result (is_quiet engine.new ≡ true) }
+    ensures ended { OnOk result (has_ended engine.new ≡ true) }
+    ensures gone { OnOk result ((r : Option (List RetiredWire)) → F.retired fleet.old ≡ with_gone r engine.old → F.retired fleet.new ≡ with_gone r engine.new) }
+    ensures entered { entered_calls engine.new ≡ entered_calls engine.old }
+    ensures full { result ≡ Err Halt.Full → most_events ≤ length engine.new }
+    ensures extends { Extends engine.old engine.new }
+    ensures turns { Turns engine.new }
+    ensures ability { F.ability fleet.new ≡ F.ability fleet.old }
+    ensures preferred { F.preferred fleet.new ≡ F.preferred fleet.old }
+    ensures legal { Legal engine.new }
+{
+    let mut wires = wires;
+    match carry_end(engine, &mut wires, fleet) {
+        Ok(()) => {
+            wires.destroy();
+            Ok(())
+        }
+        Err(halt) => {
+            retire_all(wires, fleet);
+            Err(halt)
+        }
+    }
+}
+
+/// Ends a run whose lines were played, or gives its wires back where it can't be carried on.
+fn close<F: Fleet>(engine: &mut Engine, wires: Wires<F::Wire>, fleet: &mut F, played: Result<(), Stop>) -> Result<(), Stop>
+    requires between { ran_out played ≡ true → Between F.Wire.heard (is_some (F.retired fleet.old)) engine.old wires }
+    requires full { played ≡ Err Stop.Full → most_events ≤ length engine.old }
+    requires turns { Turns engine.old }
+    requires legal { Legal engine.old }
+    ensures same { ran_out result ≡ true → result ≡ played }
+    ensures kept { ran_out played ≡ false → result ≡ played }
+    ensures quiet { ran_out result ≡ true → is_quiet engine.new ≡ true }
+    ensures ended { ran_out result ≡ true → has_ended engine.new ≡ true }
+    ensures gone { ran_out result ≡ true → (r : Option (List RetiredWire)) → F.retired fleet.old ≡ with_gone r engine.old → F.retired fleet.new ≡ with_gone r engine.new }
+    ensures entered { entered_calls engine.new ≡ entered_calls engine.old }
+    ensures full { result ≡ Err Stop.Full → most_events ≤ length engine.new }
+    ensures extends { Extends engine.old engine.new }
+    ensures turns { Turns engine.new }
+    ensures ability { F.ability fleet.new ≡ F.ability fleet.old }
+    ensures preferred { F.preferred fleet.new ≡ F.preferred fleet.old }
+    ensures legal { Legal engine.new }
+{
+    match played {
+        Err(Stop::Memory | Stop::Full) => retire_all(wires, fleet),
+        _ => end_run(engine, wires, fleet)?,
+    }
+    played
+}
+
+/// Whether nothing more is to be written: a write failed, or there was no memory.
+fn is_cut(played: &Result<(), Stop>, ended: &Result<(), Stop>) -> bool
+    ensures { result ≡ is_cut played.now ended.now }
+{
+    matches!(played, Err(Stop::Write)) || matches!(ended, Err(Stop::Memory))
+}
+
+/// What a run is told as whose last events couldn't be shown.
+fn later_stop(ended: &Result<(), Stop>, fault: ShowFault) -> Stop
+    ensures { result ≡ later_stop ended.now fault }
+{
+    match fault {
+        ShowFault::Memory => Stop::Memory,
+        ShowFault::Failed if matches!(ended, Err(Stop::Full)) => Stop::Full,
+        ShowFault::Failed => Stop::Write,
+    }
+}
+
+/// Writes what wasn't shown yet, unless a write failed before.
+fn finish<K: Sink>(alloc: Global, engine: &Engine, shown: &mut usize, output: &mut K, played: Result<(), Stop>, ended: Result<(), Stop>) -> Result<(), Stop>
+    requires within { shown.old ≤ length engine.now }
+    requires same { ran_out ended ≡ true → ended ≡ played }
+    requires kept { ran_out played ≡ false → ended ≡ played }
+    ensures wrote { (w : Option (List ℕ)) → Wrote played w shown.old engine.now (K.written output.old) → Writes result (failed played || has_risen (K.faults output.old) (K.faults output.new)) w engine.now (K.written output.new) }
+    ensures result { Finishes ended result }
+    ensures caused { result ≡ Err Stop.Write → failed played ≡ false → HasRisen (K.faults output.old) (K.faults output.new) }
+    ensures counted { K.faults output.old ≤ K.faults output.new }
+{
+    if is_cut(&played, &ended) {
+        return ended;
+    }
+    match show(alloc, engine, shown, output) {
+        Ok(()) => ended,
+        Err(fault) => Err(later_stop(&ended, fault)),
+    }
+}
+
+/// Plays a script from the source to its end, and writes its report into the sink. The run ends early
+/// at the first line that is refused, and where the source or the sink fails; its connections are shut
+/// and given back to the fleet even then.
+///
+/// # Errors
+///
+/// What stopped the script, or the sink's fault or want of memory where these came later.
+pub fn play<S: Source, K: Sink, F: Fleet>(alloc: Global, engine: &mut Engine, input: &mut S, output: &mut K, fleet: &mut F) -> Result<(), Stop>
+    requires begun { engine.old ≡ Run 1 (F.ability fleet.old) ∷ [] }
+    requires legal { Legal engine.old }
+    ensures legal { Legal engine.new }
+    ensures begins { Extends engine.old engine.new }
+    ensures plays { Plays result (S.left input.old) (entered_calls engine.new) }
+    ensures turns { Turns engine.new }
+    ensures ended { ran_out result ≡ true → has_ended engine.new ≡ true }
+    ensures quiet { ran_out result ≡ true → is_quiet engine.new ≡ true }
+    ensures read { OnOk result (IfSome (S.left input.new) (λ bytes. bytes ≡ [])) }
+    ensures writes { Writes result (has_risen (K.faults output.old) (K.faults output.new)) (K.written output.old) engine.new (K.written output.new) }
+    ensures retired { ran_out result ≡ true → F.retired fleet.new ≡ with_gone (F.retired fleet.old) engine.new }
+    ensures read_fault { result ≡ Err Stop.Read → HasRisen (S.faults input.old) (S.faults input.new) }
+    ensures write_fault { result ≡ Err Stop.Write → HasRisen (K.faults output.old) (K.faults output.new) }
+    ensures full { result ≡ Err Stop.Full → most_events ≤ length engine.new }
+    ensures ability { F.ability fleet.new ≡ F.ability fleet.old }
+    ensures preferred { F.preferred fleet.new ≡ F.preferred fleet.old }
+{
+    let mut wires = Wires::new(alloc);
+    let mut shown = 0;
+    let played = play_lines(alloc, engine, &mut wires, &mut shown, input, output, fleet);
+    let ended = close(engine, wires, fleet, played);
+    finish(alloc, engine, &mut shown, output, played, ended)
+}

@@ -1,0 +1,81 @@
+ghost use Rattle.std.specs.Prelude.{◌≡◌, ◌≢◌, true, false};
+ghost use Rattle.dsql_run.specs.Notes.{is_play};
+ghost use Rattle.dsql_run.specs.Headline.{PlaysAndTells, PlaysWhole, RefusesWords};
+
+use crate::notes::{tell, tell_usage};
+use crate::playing::play;
+use crate::stop::Stop;
+use dsql_driver::{Clock, Fleet, Gate, Sink, Source};
+use dsql_engine::Engine;
+use dsql_value::Txt;
+use std::alloc::Global;
+
+/// Whether the program's words ask for a script to be played.
+fn is_play(words: &[Txt]) -> bool
+    ensures { result ≡ is_play words.now }
+{
+    match words {
+        [word] => word.as_str() == "play",
+        _ => false,
+    }
+}
+
+/// Plays a script from its first event to its end, and tells what stopped it, if anything did.
+fn run<S: Source, K: Sink, E: Sink, F: Fleet>(alloc: Global, input: &mut S, output: &mut K, notes: &mut E, fleet: &mut F) -> u8
+    ensures { PlaysAndTells (F.ability fleet.old)
+        (record { left = S.left input.old; read_faults = S.faults input.old; written = K.written output.old; write_faults = K.faults output.old; retired = F.retired fleet.old })
+        (record { left = S.left input.new; read_faults = S.faults input.new; written = K.written output.new; write_faults = K.faults output.new; retired = F.retired fleet.new })
+        (record { written = E.written notes.old; faults = E.faults notes.old }) (record { written = E.written notes.new; faults = E.faults notes.new }) result }
+{
+    match Engine::new(alloc, 1, fleet.caps()) {
+        Ok(engine) => {
+            let mut engine = engine;
+            let stopped = play(alloc, &mut engine, input, output, fleet);
+            tell(alloc, &stopped, notes)
+        }
+        Err(_) => tell(alloc, &Err(Stop::Memory), notes),
+    }
+}
+
+/// Runs the program: `words` are what it was called with, without its name, and the answer is its exit
+/// status. The words `play` play the script that the source gives, and write the run's report to the
+/// output.
+///
+/// | status | when | what the notes get |
+/// |---|---|---|
+/// | 0 | the script was read to its end and played | nothing |
+/// | 2 | the words aren't accepted; nothing is read or written | `sqlrun: usage: sqlrun play [--summary] \| race \| gen N` |
+/// | 3 | the source failed | `sqlrun: read fault` |
+/// | 4 | the output failed, or the notes did | `sqlrun: write fault` |
+/// | 5 | there was no memory | `sqlrun: out of memory` |
+/// | 7 | the line L is refused | `sqlrun: line L: REASON` |
+/// | 10 | the run has 4,000,000 events | `sqlrun: too many events` |
+///
+/// After a read fault or a refused line the run is ended as at the script's end. After a write fault
+/// nothing more is written, and the run is still ended. Where the notes fail the status is 4, unless it
+/// was 5 or 10.
+pub fn sqlrun<S: Source, K: Sink, E: Sink, F: Fleet, C: Clock, G: Gate>(alloc: Global, words: &[Txt], input: &mut S, output: &mut K, notes: &mut E, fleet: &mut F, _clock: &mut C, _gate: &G) -> u8
+    // The report of a script that was played to its end is the text of one legal history.
+    ensures headline { is_play words.now ≡ true → result ≡ 0 → PlaysWhole (F.ability fleet.old)
+        (record { left = S.left input.old; read_faults = S.faults input.old; written = K.written output.old; write_faults = K.faults output.old; retired = F.retired fleet.old })
+        (record { left = S.left input.new; read_faults = S.faults input.new; written = K.written output.new; write_faults = K.faults output.new; retired = F.retired fleet.new })
+        (record { written = E.written notes.old; faults = E.faults notes.old }) (record { written = E.written notes.new; faults = E.faults notes.new }) }
+
+    // At each status the report is the text of one legal history, or a beginning of it.
+    ensures ran { is_play words.now ≡ true → PlaysAndTells (F.ability fleet.old)
+        (record { left = S.left input.old; read_faults = S.faults input.old; written = K.written output.old; write_faults = K.faults output.old; retired = F.retired fleet.old })
+        (record { left = S.left input.new; read_faults = S.faults input.new; written = K.written output.new; write_faults = K.faults output.new; retired = F.retired fleet.new })
+        (record { written = E.written notes.old; faults = E.faults notes.old }) (record { written = E.written notes.new; faults = E.faults notes.new }) result }
+    ensures accepted { is_play words.now ≡ true → result ≢ 2 }
+
+    // Words that aren't accepted.
+    ensures refused { is_play words.now ≡ false → RefusesWords (record { written = E.written notes.old; faults = E.faults notes.old }) (record { written = E.written notes.new; faults = E.faults notes.new }) result }
+    ensures unread { is_play words.now ≡ false → input.new ≡ input.old }
+    ensures unwritten { is_play words.now ≡ false → output.new ≡ output.old }
+    ensures unopened { is_play words.now ≡ false → fleet.new ≡ fleet.old }
+{
+    if is_play(words) {
+        return run(alloc, input, output, notes, fleet);
+    }
+    tell_usage(notes)
+}
