@@ -128,7 +128,7 @@ front_of_shown w now n past shows = record {
   begins = record {
     rest = text_of (reverse (drop n (reverse past)));
     parts = ap text_of (sym (reverse-reverse past) ∙ ap reverse (sym (take-append-drop n (reverse past))) ∙ reverse-append (take n (reverse past)) (drop n (reverse past)))
-      ∙ text_on (reverse (drop n (reverse past))) (reverse (take n (reverse past)));
+        ∙ text_on (reverse (drop n (reverse past))) (reverse (take n (reverse past)));
   };
   written = shows;
 }

@@ -21,7 +21,12 @@ use dsql_script::ScriptLine;
 use std::alloc::Global;
 
 /// Carries a line out. An empty line or a comment changes nothing.
-fn carry<F: Fleet>(engine: &mut Engine, wires: &mut Wires<F::Wire>, fleet: &mut F, line: ScriptLine) -> Result<(), Halt>
+fn carry<F: Fleet>(
+    engine: &mut Engine,
+    wires: &mut Wires<F::Wire>,
+    fleet: &mut F,
+    line: ScriptLine,
+) -> Result<(), Halt>
     requires between { Between F.Wire.heard (is_some (F.retired fleet.old)) engine.old wires.old }
     ensures between { OnOk result (Between F.Wire.heard (is_some (F.retired fleet.new)) engine.new wires.new) }
     ensures entered { OnOk result (entered_calls engine.new ≡ entered_calls engine.old ++ calls_of line) }
@@ -41,7 +46,15 @@ fn carry<F: Fleet>(engine: &mut Engine, wires: &mut Wires<F::Wire>, fleet: &mut 
 }
 
 /// Carries a line out, and writes its events.
-pub(crate) fn play_line<K: Sink, F: Fleet>(alloc: Global, engine: &mut Engine, wires: &mut Wires<F::Wire>, shown: &mut usize, output: &mut K, fleet: &mut F, line: ScriptLine) -> Result<(), Stop>
+pub(crate) fn play_line<K: Sink, F: Fleet>(
+    alloc: Global,
+    engine: &mut Engine,
+    wires: &mut Wires<F::Wire>,
+    shown: &mut usize,
+    output: &mut K,
+    fleet: &mut F,
+    line: ScriptLine,
+) -> Result<(), Stop>
     requires between { Between F.Wire.heard (is_some (F.retired fleet.old)) engine.old wires.old }
     requires shown { shown.old ≡ length engine.old }
     ensures between { ran_out result ≡ true → Between F.Wire.heard (is_some (F.retired fleet.new)) engine.new wires.new }

@@ -116,7 +116,10 @@ pub(crate) fn tell<E: Sink>(alloc: Global, ended: &Result<(), Stop>, notes: &mut
 pub(crate) fn tell_usage<E: Sink>(notes: &mut E) -> u8
     ensures { RefusesWords (record { written = E.written notes.old; faults = E.faults notes.old }) (record { written = E.written notes.new; faults = E.faults notes.new }) result }
 {
-    match write_whole(notes, "sqlrun: usage: sqlrun play [--summary] | race | gen N\n".as_bytes()) {
+    match write_whole(
+        notes,
+        "sqlrun: usage: sqlrun play [--summary] | race | gen N\n".as_bytes(),
+    ) {
         Ok(()) => 2,
         Err(_) => 4,
     }

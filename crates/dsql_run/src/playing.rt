@@ -22,7 +22,15 @@ use dsql_player::{Halt, Wires, carry_end, retire_all};
 use std::alloc::Global;
 
 /// Plays a script's lines one after another, each as soon as it is read, and writes what happened.
-fn play_lines<S: Source, K: Sink, F: Fleet>(alloc: Global, engine: &mut Engine, wires: &mut Wires<F::Wire>, shown: &mut usize, input: &mut S, output: &mut K, fleet: &mut F) -> Result<(), Stop>
+fn play_lines<S: Source, K: Sink, F: Fleet>(
+    alloc: Global,
+    engine: &mut Engine,
+    wires: &mut Wires<F::Wire>,
+    shown: &mut usize,
+    input: &mut S,
+    output: &mut K,
+    fleet: &mut F,
+) -> Result<(), Stop>
     requires begun { engine.old ≡ Run 1 (F.ability fleet.old) ∷ [] }
     requires between { Between F.Wire.heard (is_some (F.retired fleet.old)) engine.old wires.old }
     requires shown { shown.old ≡ 0 }
@@ -78,7 +86,12 @@ fn end_run<F: Fleet>(engine: &mut Engine, wires: Wires<F::Wire>, fleet: &mut F) 
 }
 
 /// Ends a run whose lines were played, or gives its wires back where it can't be carried on.
-fn close<F: Fleet>(engine: &mut Engine, wires: Wires<F::Wire>, fleet: &mut F, played: Result<(), Stop>) -> Result<(), Stop>
+fn close<F: Fleet>(
+    engine: &mut Engine,
+    wires: Wires<F::Wire>,
+    fleet: &mut F,
+    played: Result<(), Stop>,
+) -> Result<(), Stop>
     requires between { ran_out played ≡ true → Between F.Wire.heard (is_some (F.retired fleet.old)) engine.old wires }
     requires full { played ≡ Err Stop.Full → most_events ≤ length engine.old }
     requires turns { Turns engine.old }
@@ -122,7 +135,14 @@ fn later_stop(ended: &Result<(), Stop>, fault: ShowFault) -> Stop
 }
 
 /// Writes what wasn't shown yet, unless a write failed before.
-fn finish<K: Sink>(alloc: Global, engine: &Engine, shown: &mut usize, output: &mut K, played: Result<(), Stop>, ended: Result<(), Stop>) -> Result<(), Stop>
+fn finish<K: Sink>(
+    alloc: Global,
+    engine: &Engine,
+    shown: &mut usize,
+    output: &mut K,
+    played: Result<(), Stop>,
+    ended: Result<(), Stop>,
+) -> Result<(), Stop>
     requires within { shown.old ≤ length engine.now }
     requires same { ran_out ended ≡ true → ended ≡ played }
     requires kept { ran_out played ≡ false → ended ≡ played }
@@ -147,7 +167,13 @@ fn finish<K: Sink>(alloc: Global, engine: &Engine, shown: &mut usize, output: &m
 /// # Errors
 ///
 /// What stopped the script, or the sink's fault or want of memory where these came later.
-pub fn play<S: Source, K: Sink, F: Fleet>(alloc: Global, engine: &mut Engine, input: &mut S, output: &mut K, fleet: &mut F) -> Result<(), Stop>
+pub fn play<S: Source, K: Sink, F: Fleet>(
+    alloc: Global,
+    engine: &mut Engine,
+    input: &mut S,
+    output: &mut K,
+    fleet: &mut F,
+) -> Result<(), Stop>
     requires begun { engine.old ≡ Run 1 (F.ability fleet.old) ∷ [] }
     requires legal { Legal engine.old }
     ensures legal { Legal engine.new }

@@ -21,7 +21,13 @@ fn is_play(words: &[Txt]) -> bool
 }
 
 /// Plays a script from its first event to its end, and tells what stopped it, if anything did.
-fn run<S: Source, K: Sink, E: Sink, F: Fleet>(alloc: Global, input: &mut S, output: &mut K, notes: &mut E, fleet: &mut F) -> u8
+fn run<S: Source, K: Sink, E: Sink, F: Fleet>(
+    alloc: Global,
+    input: &mut S,
+    output: &mut K,
+    notes: &mut E,
+    fleet: &mut F,
+) -> u8
     ensures { PlaysAndTells (F.ability fleet.old)
         (record { left = S.left input.old; read_faults = S.faults input.old; written = K.written output.old; write_faults = K.faults output.old; retired = F.retired fleet.old })
         (record { left = S.left input.new; read_faults = S.faults input.new; written = K.written output.new; write_faults = K.faults output.new; retired = F.retired fleet.new })
@@ -54,7 +60,16 @@ fn run<S: Source, K: Sink, E: Sink, F: Fleet>(alloc: Global, input: &mut S, outp
 /// After a read fault or a refused line the run is ended as at the script's end. After a write fault
 /// nothing more is written, and the run is still ended. Where the notes fail the status is 4, unless it
 /// was 5 or 10.
-pub fn sqlrun<S: Source, K: Sink, E: Sink, F: Fleet, C: Clock, G: Gate>(alloc: Global, words: &[Txt], input: &mut S, output: &mut K, notes: &mut E, fleet: &mut F, _clock: &mut C, _gate: &G) -> u8
+pub fn sqlrun<S: Source, K: Sink, E: Sink, F: Fleet, C: Clock, G: Gate>(
+    alloc: Global,
+    words: &[Txt],
+    input: &mut S,
+    output: &mut K,
+    notes: &mut E,
+    fleet: &mut F,
+    _clock: &mut C,
+    _gate: &G,
+) -> u8
     // The report of a script that was played to its end is the text of one legal history.
     ensures headline { is_play words.now ≡ true → result ≡ 0 → PlaysWhole (F.ability fleet.old)
         (record { left = S.left input.old; read_faults = S.faults input.old; written = K.written output.old; write_faults = K.faults output.old; retired = F.retired fleet.old })

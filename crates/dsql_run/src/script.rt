@@ -37,7 +37,11 @@ impl ScriptReader {
     }
 
     /// Reads the next line, if there is one.
-    pub fn next<S: Source>(&mut self, alloc: Global, input: &mut S) -> Result<Option<ScriptLine>, Stop>
+    pub fn next<S: Source>(
+        &mut self,
+        alloc: Global,
+        input: &mut S,
+    ) -> Result<Option<ScriptLine>, Stop>
         ensures read { IfOk result (λ line. ReadsOn line (to_come self.old (S.left input.old)) (to_come self.new (S.left input.new))) }
         ensures end { result ≡ Ok None → SawTheEnd self.old.lines (S.left input.old) → IfSome (S.left input.new) (λ bytes. bytes ≡ []) }
         ensures stopped { IfErr result (StopsReading (to_come self.old (S.left input.old))) }

@@ -54,7 +54,12 @@ fn show_event<K: Sink>(alloc: Global, event: &Event, output: &mut K) -> Result<(
 
 /// Writes the lines of the events that weren't shown, and counts those that are. The events come oldest
 /// first.
-fn show_events<K: Sink>(alloc: Global, events: &[Event], shown: &mut usize, output: &mut K) -> Result<(), ShowFault>
+fn show_events<K: Sink>(
+    alloc: Global,
+    events: &[Event],
+    shown: &mut usize,
+    output: &mut K,
+) -> Result<(), ShowFault>
     requires { shown.old ≤ length events.now }
     ensures ok { OnOk result (shown.new ≡ length events.now) }
     ensures within { shown.new ≤ length events.now }
@@ -71,7 +76,12 @@ fn show_events<K: Sink>(alloc: Global, events: &[Event], shown: &mut usize, outp
 }
 
 /// Writes the lines of the engine's events that weren't shown, and counts those that are.
-pub(crate) fn show<K: Sink>(alloc: Global, engine: &Engine, shown: &mut usize, output: &mut K) -> Result<(), ShowFault>
+pub(crate) fn show<K: Sink>(
+    alloc: Global,
+    engine: &Engine,
+    shown: &mut usize,
+    output: &mut K,
+) -> Result<(), ShowFault>
     requires { shown.old ≤ length engine.now }
     ensures ok { OnOk result (shown.new ≡ length engine.now) }
     ensures within { shown.new ≤ length engine.now }

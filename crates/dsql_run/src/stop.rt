@@ -1,12 +1,12 @@
+ghost use Rattle.std.specs.Prelude.{◌≡◌};
+ghost use Rattle.dsql_run.specs.declared.stop.Stop.TheVariants as stops;
+
 use crate::show::ShowFault;
 use dsql_player::Halt;
 use dsql_script::LineFault;
 use dsql_stream::ReadFault;
 use dsql_value::Memory;
 use thiserror::Error;
-
-ghost use Rattle.std.specs.Prelude.{◌≡◌};
-ghost use Rattle.dsql_run.specs.declared.stop.Stop.TheVariants as stops;
 
 /// Why a run stops before its script's end.
 #[derive(Clone, Copy, Debug, PartialEq, Eq, Error)]

@@ -7,7 +7,8 @@ use dsql_value::Txt;
 use std::alloc::Global;
 use std::test::Fail;
 
-const BEGIN: &str = "[\"run\",1,[\"fast_exec\",\"fast_query\",\"begin_options\",\"pinger\",\"resetter\",\"validator\"]]\n";
+const BEGIN: &str =
+    "[\"run\",1,[\"fast_exec\",\"fast_query\",\"begin_options\",\"pinger\",\"resetter\",\"validator\"]]\n";
 
 const FIRST: &str = r#"["enter",1,1,"exec db",["SET a 1"]]
 ["open",1,1]
@@ -78,7 +79,13 @@ fn bytes_of(alloc: Global, bytes: &[u8]) -> Result<Vec<u8>, Fail> {
 }
 
 /// Runs the program on a script.
-fn run_with(rt: &HostRuntime, words: &[&str], script: &[u8], piece: usize, faults: &Faults) -> Result<Outcome, Fail> {
+fn run_with(
+    rt: &HostRuntime,
+    words: &[&str],
+    script: &[u8],
+    piece: usize,
+    faults: &Faults,
+) -> Result<Outcome, Fail> {
     let alloc = rt.alloc();
     let mut called = Vec::new(alloc);
     for word in words {
@@ -89,7 +96,16 @@ fn run_with(rt: &HostRuntime, words: &[&str], script: &[u8], piece: usize, fault
     let mut notes = VecSink::new(alloc, piece, copy(alloc, faults.note)?);
     let mut fleet = MemFleet::new(rt.clone()?)?;
     let mut clock = ListClock::new(Vec::new(alloc));
-    let status = sqlrun(alloc, &called, &mut input, &mut output, &mut notes, &mut fleet, &mut clock, &OpenGate);
+    let status = sqlrun(
+        alloc,
+        &called,
+        &mut input,
+        &mut output,
+        &mut notes,
+        &mut fleet,
+        &mut clock,
+        &OpenGate,
+    );
     Ok(Outcome {
         status,
         report: bytes_of(alloc, output.bytes())?,
@@ -113,14 +129,21 @@ fn scripts_give_their_reports(rt: HostRuntime) -> Result<(), Fail> {
     let rows = [
         ("", text(alloc, &[BEGIN, "[\"ended\"]\n"])?),
         (ONE, text(alloc, &[BEGIN, FIRST, END_OF_ONE])?),
-        (two.as_str(), text(alloc, &[BEGIN, FIRST, SECOND, END_OF_TWO])?),
+        (
+            two.as_str(),
+            text(alloc, &[BEGIN, FIRST, SECOND, END_OF_TWO])?,
+        ),
     ];
     for (script, report) in &rows {
         let outcome = run_with(&rt, &["play"], script.as_bytes(), 4096, &NO_FAULTS)?;
         assert_eq!(rt; outcome.status, 0, "{script}");
         assert_eq!(rt; outcome.report.as_slice(), report.as_bytes(), "{script}");
         assert_eq!(rt; outcome.notes.len(), 0, "{script}");
-        assert_eq!(rt; outcome.retired, usize::from(!script.is_empty()), "{script}");
+        assert_eq!(rt;
+            outcome.retired,
+            usize::from(!script.is_empty()),
+            "{script}"
+        );
     }
     Ok(())
 }
@@ -151,14 +174,23 @@ fn a_refused_line_ends_the_run(rt: HostRuntime) -> Result<(), Fail> {
 #[test]
 fn words_that_are_not_accepted_get_the_usage(rt: HostRuntime) -> Result<(), Fail> {
     let usage = "sqlrun: usage: sqlrun play [--summary] | race | gen N\n";
-    let words: [&[&str]; 5] = [&["play", "--"], &["gen", "0"], &["gen", "01"], &["gen", "10001"], &[]];
+    let words: [&[&str]; 5] = [
+        &["play", "--"],
+        &["gen", "0"],
+        &["gen", "01"],
+        &["gen", "10001"],
+        &[],
+    ];
     for called in words {
         let outcome = run_with(&rt, called, ONE.as_bytes(), 4096, &NO_FAULTS)?;
         assert_eq!(rt; outcome.status, 2, "{called:?}");
         assert_eq!(rt; outcome.report.len(), 0, "{called:?}");
         assert_eq!(rt; outcome.notes.as_slice(), usage.as_bytes(), "{called:?}");
     }
-    let failing = Faults { note: &[1], ..NO_FAULTS };
+    let failing = Faults {
+        note: &[1],
+        ..NO_FAULTS
+    };
     assert_eq!(rt; run_with(&rt, &[], b"", 4096, &failing)?.status, 4);
     Ok(())
 }
@@ -171,7 +203,16 @@ fn a_read_that_fails_ends_the_run(rt: HostRuntime) -> Result<(), Fail> {
     // One byte at each read: the 24th reads the end.
     for k in 1..=25 {
         let failing = [k];
-        let outcome = run_with(&rt, &["play"], ONE.as_bytes(), 1, &Faults { read: &failing, ..NO_FAULTS })?;
+        let outcome = run_with(
+            &rt,
+            &["play"],
+            ONE.as_bytes(),
+            1,
+            &Faults {
+                read: &failing,
+                ..NO_FAULTS
+            },
+        )?;
         let ended = k > 24;
         assert_eq!(rt; outcome.status, if ended { 0 } else { 3 }, "read {k}");
         let report = if k <= 23 { &none } else { &one };
@@ -189,11 +230,28 @@ fn a_write_that_fails_leaves_a_beginning(rt: HostRuntime) -> Result<(), Fail> {
     let last = u64::try_from(whole.len()).unwrap_or(0);
     for k in 1..=last {
         let failing = [k];
-        let outcome = run_with(&rt, &["play"], ONE.as_bytes(), 1, &Faults { write: &failing, ..NO_FAULTS })?;
+        let outcome = run_with(
+            &rt,
+            &["play"],
+            ONE.as_bytes(),
+            1,
+            &Faults {
+                write: &failing,
+                ..NO_FAULTS
+            },
+        )?;
         let written = usize::try_from(k).unwrap_or(0).saturating_sub(1);
         assert_eq!(rt; outcome.status, 4, "write {k}");
-        assert_eq!(rt; outcome.report.as_slice(), &whole.as_bytes()[..written], "write {k}");
-        assert_eq!(rt; outcome.notes.as_slice(), b"sqlrun: write fault\n".as_slice(), "write {k}");
+        assert_eq!(rt;
+            outcome.report.as_slice(),
+            &whole.as_bytes()[..written],
+            "write {k}"
+        );
+        assert_eq!(rt;
+            outcome.notes.as_slice(),
+            b"sqlrun: write fault\n".as_slice(),
+            "write {k}"
+        );
     }
     Ok(())
 }

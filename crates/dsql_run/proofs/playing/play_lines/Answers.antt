@@ -54,11 +54,11 @@ loop-script-preserved g c =
       between = c.in_ok-play_line.ensures.between refl;
       gone = c.in_ok-play_line.ensures.gone refl (g.F.Fleet.retired c.args.fleet.now) c.loop-script.invariant.gone;
       script = script_goes_on (option_map script_of (g.S.Source.left c.args.input.now)) (to_come c.loop-script.script (g.S.Source.left c.loop-script.input)) (to_come c.next.new.self (g.S.Source.left c.next.new.input))
-        (entered_calls c.loop-script.engine) (entered_calls c.play_line.new.engine) c.in-Some.line c.loop-script.invariant.script reads c.in_ok-play_line.ensures.entered;
+          (entered_calls c.loop-script.engine) (entered_calls c.play_line.new.engine) c.in-Some.line c.loop-script.invariant.script reads c.in_ok-play_line.ensures.entered;
       sees = c.next.ensures.sees c.loop-script.invariant.sees;
       shown = c.in_ok-play_line.ensures.shown;
       written = λ w start. all_shown w (g.K.Sink.written c.play_line.new.output) c.play_line.new.shown c.play_line.new.engine c.in_ok-play_line.ensures.shown
-        (c.in_ok-play_line.ensures.wrote w (c.loop-script.invariant.written w start));
+          (c.in_ok-play_line.ensures.wrote w (c.loop-script.invariant.written w start));
       reads = omega (arith, c.loop-script.invariant.reads, c.next.ensures.counted);
       writes = omega (arith, c.loop-script.invariant.writes, c.play_line.ensures.counted);
       extends = extends_then c.args.engine.now c.loop-script.engine c.play_line.new.engine c.loop-script.invariant.extends c.play_line.ensures.extends;
