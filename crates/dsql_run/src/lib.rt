@@ -2,6 +2,8 @@
 #![tactic(auto)]
 
 mod carrying;
+#[cfg(test)]
+mod fault_tests;
 mod notes;
 mod playing;
 mod program;
