@@ -1,5 +1,7 @@
 //! The program over memory: whole rows, and faults at each read and each write.
 
+ghost use Rattle.std.specs.Prelude.{◌<◌};
+
 use crate::sqlrun;
 use dsql_driver::{ListClock, OpenGate, SliceSource, VecSink};
 use dsql_mem::MemFleet;
@@ -85,7 +87,9 @@ fn run_with(
     script: &[u8],
     piece: usize,
     faults: &Faults,
-) -> Result<Outcome, Fail> {
+) -> Result<Outcome, Fail>
+    requires { 0 < piece }
+{
     let alloc = rt.alloc();
     let mut called = Vec::new(alloc);
     for word in words {
@@ -243,8 +247,8 @@ fn a_write_that_fails_leaves_a_beginning(rt: HostRuntime) -> Result<(), Fail> {
         let written = usize::try_from(k).unwrap_or(0).saturating_sub(1);
         assert_eq!(rt; outcome.status, 4, "write {k}");
         assert_eq!(rt;
-            outcome.report.as_slice(),
-            &whole.as_bytes()[..written],
+            Some(outcome.report.as_slice()),
+            whole.as_bytes().get(..written),
             "write {k}"
         );
         assert_eq!(rt;
