@@ -1,17 +1,16 @@
 -- A line that was taken out is the first of those to come.
-use Rattle.std.proofs.Common.{◌≡◌, ◌≢◌, ℕ, ◌+◌, ◌<◌, ◌≤◌, Bool, true, false, List, [], ◌∷◌, Option, Some, None, length, refl, sym, ap, ◌∙◌, arith, inl, inr}
-use Rattle.std.specs.Prelude.{if◌then◌else◌, nat_le, nat_lt, option_map, IfSome, Result, Ok, Err}
+use Rattle.std.proofs.Common.{◌≡◌, ℕ, ◌+◌, ◌<◌, ◌≤◌, Bool, true, false, List, Option, Some, None, length, refl, sym, ap, ◌∙◌, arith, inl, inr}
+use Rattle.std.specs.Prelude.{if◌then◌else◌, nat_le, option_map, Ok, Err}
 use Rattle.std.proofs.lemmas.Bool.{cases_lt, lt-ltb}
-use Rattle.dsql_stream.specs.Lines.{first_line, after_line, all_lines, HandsOut, HandsOutLine}
-use Rattle.dsql_stream.proofs.AllLines.{all_lines-first, uncut_first, cut_where_long}
+use Rattle.dsql_stream.specs.Lines.{first_line, all_lines, HandsOut, HandsOutLine}
+use Rattle.dsql_stream.proofs.AllLines.{all_lines-first, cut_where_long}
 use Rattle.dsql_script.specs.declared.fault.What.TheVariants.{Lines}
-use Rattle.dsql_script.specs.declared.fault.LineFault.{LineFault}
 use Rattle.dsql_script.specs.declared.fault.LineFault.TheVariants.{TooLong, TooMany}
 use Rattle.dsql_script.specs.declared.script.ScriptLine.{ScriptLine}
-use Rattle.dsql_script.specs.ScriptLines.{Reading, read_of, line_of, most_lines}
+use Rattle.dsql_script.specs.ScriptLines.{read_of, most_lines}
 use Rattle.dsql_run.specs.declared.stop.Stop.{Stop}
 use Rattle.dsql_run.specs.declared.stop.Stop.TheVariants.{Read, Write, Memory, Refused, Full}
-use Rattle.dsql_run.specs.Script.{script_from, refused_at, with_line}
+use Rattle.dsql_run.specs.Script.{script_from}
 use Rattle.dsql_run.specs.Runs.{ReadsOn, IsRefusal, StopsReading}
 
 -- what a line that is too long reads as

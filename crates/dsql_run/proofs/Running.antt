@@ -1,5 +1,5 @@
 -- What a run has of its script, from its first event to its end.
-use Rattle.std.proofs.Common.{◌≡◌, ◌⊎◌, ℕ, ◌+◌, ◌≤◌, Bool, true, false, List, [], ◌∷◌, ◌++◌, Option, Some, None, length, take, drop, refl, sym, ap, ◌∙◌, arith, inl, inr}
+use Rattle.std.proofs.Common.{◌≡◌, ◌⊎◌, ℕ, ◌≤◌, false, List, [], ◌∷◌, ◌++◌, Option, Some, None, length, take, drop, refl, sym, ap, ◌∙◌, arith, inl, inr}
 use Rattle.std.specs.Prelude.{reverse, option_map, IfSome, Result, Ok, Err}
 use Rattle.std.proofs.lemmas.List.{append_assoc, append-nil, reverse-append, reverse-reverse, length-reverse, take-append-le, take-append-drop, take_all}
 use Rattle.std.proofs.lemmas.Option.{same_Some}
@@ -11,16 +11,15 @@ use Rattle.dsql_history.specs.declared.event.Op.{Op}
 use Rattle.dsql_script.specs.declared.script.ScriptLine.{ScriptLine}
 use Rattle.dsql_script.specs.declared.fault.LineFault.{LineFault}
 use Rattle.dsql_script.specs.Lines.{text_of}
-use Rattle.dsql_stream.specs.Buffered.{Buffered}
 use Rattle.dsql_stream.specs.Lines.{all_lines, ahead}
 use Rattle.dsql_player.specs.declared.halt.Halt.{Halt}
 use Rattle.dsql_player.specs.declared.halt.Halt.TheVariants as halts
 use Rattle.dsql_player.specs.Entered.{entered_calls}
 use Rattle.dsql_player.specs.Extends.{Extends}
 use Rattle.dsql_player.specs.Told.{with_gone}
-use Rattle.dsql_run.specs.Script.{Script, script_of, script_from, no_lines, refused_at, with_calls, calls_of, Says, SaysFirst, Begins}
+use Rattle.dsql_run.specs.Script.{Script, script_of, script_from, refused_at, with_calls, calls_of, SaysFirst}
 use Rattle.dsql_run.specs.Report.{with_text, oldest, Shows, ShowsFront}
-use Rattle.dsql_run.specs.Runs.{ReadsOn, StopsReading, EntersLine, IsPlayStop, Plays, Wrote, Writes, stop_of_halt, stop_of_show}
+use Rattle.dsql_run.specs.Runs.{ReadsOn, StopsReading, IsPlayStop, Plays, Wrote, stop_of_halt, stop_of_show}
 use Rattle.dsql_run.specs.declared.show.ShowFault.{ShowFault}
 use Rattle.dsql_run.specs.declared.show.ShowFault.TheVariants as shows
 use Rattle.dsql_run.specs.declared.stop.Stop.{Stop}

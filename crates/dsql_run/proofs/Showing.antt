@@ -1,11 +1,10 @@
 -- The lines of a report one after another.
-use Rattle.std.proofs.Common.{◌≡◌, ℕ, suc, ◌+◌, ◌<◌, ◌≤◌, List, [], ◌∷◌, ◌++◌, Option, Some, None, length, take, drop, get_or, refl, sym, ap, ◌∙◌, arith}
-use Rattle.std.specs.Prelude.{reverse, option_map}
+use Rattle.std.proofs.Common.{◌≡◌, ℕ, suc, ◌<◌, List, [], ◌∷◌, ◌++◌, Option, Some, None, length, take, drop, get_or, refl, sym, ap, ◌∙◌, arith}
+use Rattle.std.specs.Prelude.{reverse}
 use Rattle.std.proofs.Math.Seq.{take-suc}
 use Rattle.std.proofs.lemmas.List.{reverse-append, reverse-reverse, append_assoc, append-nil, take-append-drop, take_all}
 use Rattle.dsql_history.specs.declared.event.Event.{Event}
 use Rattle.dsql_script.specs.Lines.{line_of, text_of}
-use Rattle.dsql_run.specs.Script.{Begins}
 use Rattle.dsql_run.specs.Report.{with_text, oldest, Shows, ShowsFront}
 
 pub with_both : (w : Option (List ℕ)) (a b : List ℕ) → with_text (with_text w a) b ≡ with_text w (a ++ b)

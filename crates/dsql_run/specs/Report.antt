@@ -1,5 +1,5 @@
 -- What was written of a report.
-use Rattle.std.specs.Prelude.{ℕ, ◌≡◌, List, [], ◌∷◌, ◌++◌, take, reverse, Option, option_map}
+use Rattle.std.specs.Prelude.{ℕ, ◌≡◌, List, ◌++◌, take, reverse, Option, option_map}
 use Rattle.dsql_history.specs.declared.event.Event.{Event}
 use Rattle.dsql_script.specs.Lines.{text_of}
 use Rattle.dsql_run.specs.Script.{Begins}

@@ -1,5 +1,5 @@
 -- How a run ends, and what it has done then.
-use Rattle.std.specs.Prelude.{ℕ, ◌≡◌, ◌+◌, ◌⊎◌, Bool, true, false, ◌||◌, List, [], ◌∷◌, ◌++◌, Option, Some, None, IfSome, option_map, Result, Ok, Err}
+use Rattle.std.specs.Prelude.{ℕ, ◌≡◌, ◌+◌, ◌⊎◌, Bool, true, false, ◌||◌, List, ◌++◌, Option, Some, None, IfSome, option_map, Result, Ok, Err}
 use Rattle.dsql_driver.specs.Wires.{Told}
 use Rattle.dsql_history.specs.declared.event.Event.{Event}
 use Rattle.dsql_history.specs.declared.event.Op.{Op}

@@ -1,5 +1,5 @@
 -- What a script says: its calls, up to the first line that is refused.
-use Rattle.std.specs.Prelude.{ℕ, ◌≡◌, ◌+◌, List, [], ◌∷◌, ◌++◌, Option, Some, None, IfSome, option_map, Result, Ok, Err}
+use Rattle.std.specs.Prelude.{ℕ, ◌≡◌, ◌+◌, List, [], ◌∷◌, ◌++◌, Option, Some, None, IfSome, Ok, Err}
 use Rattle.dsql_history.specs.declared.event.Op.{Op}
 use Rattle.dsql_script.specs.declared.fault.LineFault.{LineFault}
 use Rattle.dsql_script.specs.declared.script.ScriptLine.{ScriptLine}

@@ -57,6 +57,8 @@ struct ListFleet {
     alloc: Global,
     caps: Caps,
     plan: Plan,
+    /// How many connections it was given back.
+    retired: usize,
 }
 
 /// A connection of such a driver.
@@ -173,7 +175,9 @@ impl Fleet for ListFleet {
         }
     }
 
-    fn retire(&mut self, _number: u32, _wire: ListWire) {}
+    fn retire(&mut self, _number: u32, _wire: ListWire) {
+        self.retired = self.retired.saturating_add(1);
+    }
 }
 
 const NO_CAPS: Caps = Caps {
@@ -430,10 +434,19 @@ fn each_fault_of_a_driver_gives_its_report(rt: HostRuntime) -> Result<(), Fail> 
     ];
     for (caps, place, answer, script, report) in rows {
         let plan = Plan { place, answer };
-        let outcome = play_over(alloc, &mut ListFleet { alloc, caps, plan }, script)?;
+        let mut fleet = ListFleet {
+            alloc,
+            caps,
+            plan,
+            retired: 0,
+        };
+        let outcome = play_over(alloc, &mut fleet, script)?;
         assert_eq!(rt; outcome.status, 0, "{plan:?}");
         assert_eq!(rt; outcome.report.as_slice(), report.as_bytes(), "{plan:?}");
         assert_eq!(rt; outcome.notes.len(), 0, "{plan:?}");
+        // A connection that was refused isn't given back.
+        let opened = usize::from(place != Place::Connect);
+        assert_eq!(rt; fleet.retired, opened, "{plan:?}");
     }
     Ok(())
 }

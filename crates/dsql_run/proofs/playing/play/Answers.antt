@@ -1,4 +1,3 @@
-use Rattle.std.proofs.Common.{◌≡◌, ◌∙◌, true, sym}
 use Rattle.dsql_player.specs.Entered.{entered_calls}
 use Rattle.dsql_player.proofs.Extending.{extends_then}
 use Rattle.dsql_run.proofs.Finishing.{plays_finished, wrote_older, writes_more, all_risen}

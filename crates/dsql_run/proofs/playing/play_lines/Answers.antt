@@ -1,6 +1,5 @@
-use Rattle.std.proofs.Common.{◌≡◌, ◌≤◌, ◌∙◌, List, ℕ, Option, Some, refl, sym, arith}
+use Rattle.std.proofs.Common.{◌≡◌, ◌∙◌, Some, refl, sym, arith}
 use Rattle.std.specs.Prelude.{Ok, Err, option_map}
-use Rattle.dsql_stream.specs.Lines.{ahead}
 use Rattle.dsql_player.specs.Entered.{entered_calls}
 use Rattle.dsql_player.proofs.Extending.{extends_same, extends_then}
 use Rattle.dsql_script.specs.Lines.{text_of}

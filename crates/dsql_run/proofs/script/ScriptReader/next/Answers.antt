@@ -1,4 +1,4 @@
-use Rattle.std.proofs.Common.{◌≡◌, ◌+◌, true, List, ℕ}
+use Rattle.std.proofs.Common.{◌≡◌, ◌+◌, true}
 use Rattle.std.specs.Prelude.{Err}
 use Rattle.dsql_stream.specs.Lines.{ahead, HandsOut}
 use Rattle.dsql_run.proofs.Errors.{err_is}
