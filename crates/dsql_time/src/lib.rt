@@ -30,7 +30,12 @@ pub fn standard() -> Limits
     ensures lifetime { result.lifetime ≡ 0 }
     ensures idle_time { result.idle_time ≡ 0 }
 {
-    Limits { max_open: 0, max_idle: 2, lifetime: 0, idle_time: 0 }
+    Limits {
+        max_open: 0,
+        max_idle: 2,
+        lifetime: 0,
+        idle_time: 0,
+    }
 }
 
 /// The limits with `n` as the most open connections. An `n` of 0 or less is no limit, and one above
@@ -43,7 +48,11 @@ pub fn with_open(l: Limits, n: i64) -> Limits
     ensures idle_time { result.idle_time ≡ l.idle_time }
 {
     let max_open = count(n);
-    Limits { max_open, max_idle: idle_beside(max_open, l.max_idle), ..l }
+    Limits {
+        max_open,
+        max_idle: idle_beside(max_open, l.max_idle),
+        ..l
+    }
 }
 
 /// The limits with `n` as the most idle connections kept. An `n` of 0 or less keeps none, one above a
@@ -55,7 +64,10 @@ pub fn with_idle(l: Limits, n: i64) -> Limits
     ensures lifetime { result.lifetime ≡ l.lifetime }
     ensures idle_time { result.idle_time ≡ l.idle_time }
 {
-    Limits { max_idle: idle_beside(l.max_open, count(n)), ..l }
+    Limits {
+        max_idle: idle_beside(l.max_open, count(n)),
+        ..l
+    }
 }
 
 /// The limits with `d` nanoseconds as the longest life of a connection. A `d` of 0 or less is no limit.
@@ -66,7 +78,10 @@ pub fn with_lifetime(l: Limits, d: i64) -> Limits
     ensures lifetime { result.lifetime ≡ duration_limit d }
     ensures idle_time { result.idle_time ≡ l.idle_time }
 {
-    Limits { lifetime: duration(d), ..l }
+    Limits {
+        lifetime: duration(d),
+        ..l
+    }
 }
 
 /// The limits with `d` nanoseconds as the longest time that a connection stays idle. A `d` of 0 or less is
@@ -77,7 +92,10 @@ pub fn with_idle_time(l: Limits, d: i64) -> Limits
     ensures lifetime { result.lifetime ≡ l.lifetime }
     ensures idle_time { result.idle_time ≡ duration_limit d }
 {
-    Limits { idle_time: duration(d), ..l }
+    Limits {
+        idle_time: duration(d),
+        ..l
+    }
 }
 
 /// Whether a connection made at the moment `created` has lived longer than `limit` at the moment `now`, all
@@ -118,5 +136,78 @@ fn duration(d: i64) -> u64
 fn idle_beside(max_open: u32, max_idle: u32) -> u32
     ensures { result ≡ idle_limit max_open max_idle }
 {
-    if max_open == 0 { max_idle } else { max_idle.min(max_open) }
+    if max_open == 0 {
+        max_idle
+    } else {
+        max_idle.min(max_open)
+    }
+}
+
+#[cfg(test)]
+mod tests {
+    use super::*;
+
+    fn limits(max_open: u32, max_idle: u32, lifetime: u64, idle_time: u64) -> Limits {
+        Limits {
+            max_open,
+            max_idle,
+            lifetime,
+            idle_time,
+        }
+    }
+
+    #[test]
+    fn settings_change_the_standard_limits(rt: HostRuntime) {
+        let start = standard();
+        let lowered = with_open(start, 1);
+        for (got, want) in [
+            (start, limits(0, 2, 0, 0)),
+            (lowered, limits(1, 1, 0, 0)),
+            (with_open(lowered, 5), limits(5, 1, 0, 0)),
+            (with_open(lowered, 0), limits(0, 1, 0, 0)),
+            (with_open(start, -3), limits(0, 2, 0, 0)),
+            (
+                with_open(start, 4_294_967_296),
+                limits(4_294_967_295, 2, 0, 0),
+            ),
+            (with_idle(start, 9), limits(0, 9, 0, 0)),
+            (with_idle(lowered, 9), limits(1, 1, 0, 0)),
+            (with_idle(start, 0), limits(0, 0, 0, 0)),
+            (with_idle(start, i64::MIN), limits(0, 0, 0, 0)),
+            (with_idle(start, i64::MAX), limits(0, 4_294_967_295, 0, 0)),
+            (with_lifetime(start, 100), limits(0, 2, 100, 0)),
+            (with_lifetime(start, -1), limits(0, 2, 0, 0)),
+            (
+                with_idle_time(start, i64::MAX),
+                limits(0, 2, 0, 9_223_372_036_854_775_807),
+            ),
+            (with_idle_time(limits(0, 2, 0, 7), 0), limits(0, 2, 0, 0)),
+        ] {
+            assert_eq!(rt; got, want);
+        }
+    }
+
+    #[test]
+    fn a_connection_expires_after_its_limit_and_not_at_it(rt: HostRuntime) {
+        for (since, limit, now, want) in [
+            (0, 100, 100, false),
+            (0, 100, 101, true),
+            (101, 10, 300, true),
+            (7, 0, u64::MAX, false),
+            (u64::MAX, 1, 0, false),
+            (u64::MAX, u64::MAX, u64::MAX, false),
+            (5, 1, 3, false),
+        ] {
+            assert_eq!(rt;
+                expired(since, limit, now),
+                want,
+                "{since} and {limit} at {now}"
+            );
+            assert_eq!(rt;
+                idled(since, limit, now),
+                want,
+                "{since} and {limit} at {now}"
+            );
+        }
+    }
 }
