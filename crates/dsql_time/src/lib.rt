@@ -99,8 +99,9 @@ pub fn with_idle_time(l: Limits, d: i64) -> Limits
 }
 
 /// Whether a connection made at the moment `created` has lived longer than `limit` at the moment `now`, all
-/// in nanoseconds. One that has lived just as long hasn't expired, and with a limit of 0 none does. After
-/// Go's `DB.SetConnMaxLifetime`; `DBStats.MaxLifetimeClosed` counts the connections closed for it.
+/// in nanoseconds. One that has lived just as long hasn't expired, and with a limit of 0 none does, nor
+/// where the limit ends past the last moment. After Go's `DB.SetConnMaxLifetime`;
+/// `DBStats.MaxLifetimeClosed` counts the connections closed for it.
 pub fn expired(created: u64, limit: u64, now: u64) -> bool
     ensures { result ≡ has_expired created limit now }
 {
@@ -109,8 +110,8 @@ pub fn expired(created: u64, limit: u64, now: u64) -> bool
 
 /// Whether a connection given back at the moment `returned` has been idle for longer than `limit` at the
 /// moment `now`, all in nanoseconds. One that has been idle just as long hasn't idled out, and with a limit
-/// of 0 none does. After Go's `DB.SetConnMaxIdleTime`; `DBStats.MaxIdleTimeClosed` counts the connections
-/// closed for it.
+/// of 0 none does, nor where the limit ends past the last moment. After Go's `DB.SetConnMaxIdleTime`;
+/// `DBStats.MaxIdleTimeClosed` counts the connections closed for it.
 pub fn idled(returned: u64, limit: u64, now: u64) -> bool
     ensures { result ≡ has_idled_out returned limit now }
 {
