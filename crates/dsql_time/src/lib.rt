@@ -1,0 +1,214 @@
+//! The limits of a connection pool: how many connections may be open or idle, and how long one may live or
+//! idle. After the settings `DB.SetMaxOpenConns`, `DB.SetMaxIdleConns`, `DB.SetConnMaxLifetime` and
+//! `DB.SetConnMaxIdleTime` of Go's package `database/sql`, and the counts that `DBStats` reports of them.
+#![tactic(auto)]
+
+ghost use Rattle.std.specs.Prelude.{◌≡◌};
+ghost use Rattle.dsql_time.specs.Limits.{count_limit, duration_limit, has_expired, has_idled_out, idle_limit};
+
+pub mod laws;
+
+/// The limits that a pool keeps. Durations are in nanoseconds.
+#[derive(Clone, Copy, Debug, PartialEq, Eq)]
+pub struct Limits {
+    /// The most connections open at a time, as `DBStats.MaxOpenConnections`; 0 is no limit.
+    pub max_open: u32,
+    /// The most idle connections kept; 0 keeps none.
+    pub max_idle: u32,
+    /// How long a connection may live, counted from its making; 0 is no limit.
+    pub lifetime: u64,
+    /// How long a connection may stay idle, counted from its return; 0 is no limit.
+    pub idle_time: u64,
+}
+
+/// The limits of a pool on which nothing was set: two idle connections are kept, and nothing else is
+/// limited. After the defaults that Go's documentation gives at `DB.SetMaxIdleConns` and
+/// `DB.SetMaxOpenConns`.
+pub fn standard() -> Limits
+    ensures open { result.max_open ≡ 0 }
+    ensures idle { result.max_idle ≡ 2 }
+    ensures lifetime { result.lifetime ≡ 0 }
+    ensures idle_time { result.idle_time ≡ 0 }
+{
+    Limits {
+        max_open: 0,
+        max_idle: 2,
+        lifetime: 0,
+        idle_time: 0,
+    }
+}
+
+/// The limits with `n` as the most open connections. An `n` of 0 or less is no limit, and one above
+/// 4,294,967,295 counts as that number. An idle limit above a positive open limit comes down to it, and
+/// isn't raised again by a later, higher one. After Go's `DB.SetMaxOpenConns`.
+pub fn with_open(l: Limits, n: i64) -> Limits
+    ensures open { result.max_open ≡ count_limit n }
+    ensures idle { result.max_idle ≡ idle_limit (count_limit n) l.max_idle }
+    ensures lifetime { result.lifetime ≡ l.lifetime }
+    ensures idle_time { result.idle_time ≡ l.idle_time }
+{
+    let max_open = count(n);
+    Limits {
+        max_open,
+        max_idle: idle_beside(max_open, l.max_idle),
+        ..l
+    }
+}
+
+/// The limits with `n` as the most idle connections kept. An `n` of 0 or less keeps none, one above a
+/// positive open limit becomes that limit, and one above 4,294,967,295 counts as that number. After Go's
+/// `DB.SetMaxIdleConns`.
+pub fn with_idle(l: Limits, n: i64) -> Limits
+    ensures open { result.max_open ≡ l.max_open }
+    ensures idle { result.max_idle ≡ idle_limit l.max_open (count_limit n) }
+    ensures lifetime { result.lifetime ≡ l.lifetime }
+    ensures idle_time { result.idle_time ≡ l.idle_time }
+{
+    Limits {
+        max_idle: idle_beside(l.max_open, count(n)),
+        ..l
+    }
+}
+
+/// The limits with `d` nanoseconds as the longest life of a connection. A `d` of 0 or less is no limit.
+/// After Go's `DB.SetConnMaxLifetime`.
+pub fn with_lifetime(l: Limits, d: i64) -> Limits
+    ensures open { result.max_open ≡ l.max_open }
+    ensures idle { result.max_idle ≡ l.max_idle }
+    ensures lifetime { result.lifetime ≡ duration_limit d }
+    ensures idle_time { result.idle_time ≡ l.idle_time }
+{
+    Limits {
+        lifetime: duration(d),
+        ..l
+    }
+}
+
+/// The limits with `d` nanoseconds as the longest time that a connection stays idle. A `d` of 0 or less is
+/// no limit. After Go's `DB.SetConnMaxIdleTime`.
+pub fn with_idle_time(l: Limits, d: i64) -> Limits
+    ensures open { result.max_open ≡ l.max_open }
+    ensures idle { result.max_idle ≡ l.max_idle }
+    ensures lifetime { result.lifetime ≡ l.lifetime }
+    ensures idle_time { result.idle_time ≡ duration_limit d }
+{
+    Limits {
+        idle_time: duration(d),
+        ..l
+    }
+}
+
+/// Whether a connection made at the moment `created` has lived longer than `limit` at the moment `now`, all
+/// in nanoseconds. One that has lived just as long hasn't expired, and with a limit of 0 none does, nor
+/// where the limit ends past the last moment. After Go's `DB.SetConnMaxLifetime`;
+/// `DBStats.MaxLifetimeClosed` counts the connections closed for it.
+pub fn expired(created: u64, limit: u64, now: u64) -> bool
+    ensures { result ≡ has_expired created limit now }
+{
+    limit > 0 && created.saturating_add(limit) < now
+}
+
+/// Whether a connection given back at the moment `returned` has been idle for longer than `limit` at the
+/// moment `now`, all in nanoseconds. One that has been idle just as long hasn't idled out, and with a limit
+/// of 0 none does, nor where the limit ends past the last moment. After Go's `DB.SetConnMaxIdleTime`;
+/// `DBStats.MaxIdleTimeClosed` counts the connections closed for it.
+pub fn idled(returned: u64, limit: u64, now: u64) -> bool
+    ensures { result ≡ has_idled_out returned limit now }
+{
+    limit > 0 && returned.saturating_add(limit) < now
+}
+
+fn count(n: i64) -> u32
+    ensures { result ≡ count_limit n }
+{
+    if n <= 0 {
+        return 0;
+    }
+    u32::try_from(n).unwrap_or(u32::MAX)
+}
+
+fn duration(d: i64) -> u64
+    ensures { result ≡ duration_limit d }
+{
+    if d <= 0 { 0 } else { d as u64 }
+}
+
+// An open limit of 0 is none, and so lowers nothing.
+fn idle_beside(max_open: u32, max_idle: u32) -> u32
+    ensures { result ≡ idle_limit max_open max_idle }
+{
+    if max_open == 0 {
+        max_idle
+    } else {
+        max_idle.min(max_open)
+    }
+}
+
+#[cfg(test)]
+mod tests {
+    use super::*;
+
+    fn limits(max_open: u32, max_idle: u32, lifetime: u64, idle_time: u64) -> Limits {
+        Limits {
+            max_open,
+            max_idle,
+            lifetime,
+            idle_time,
+        }
+    }
+
+    #[test]
+    fn settings_change_the_standard_limits(rt: HostRuntime) {
+        let start = standard();
+        let lowered = with_open(start, 1);
+        for (got, want) in [
+            (start, limits(0, 2, 0, 0)),
+            (lowered, limits(1, 1, 0, 0)),
+            (with_open(lowered, 5), limits(5, 1, 0, 0)),
+            (with_open(lowered, 0), limits(0, 1, 0, 0)),
+            (with_open(start, -3), limits(0, 2, 0, 0)),
+            (
+                with_open(start, 4_294_967_296),
+                limits(4_294_967_295, 2, 0, 0),
+            ),
+            (with_idle(start, 9), limits(0, 9, 0, 0)),
+            (with_idle(lowered, 9), limits(1, 1, 0, 0)),
+            (with_idle(start, 0), limits(0, 0, 0, 0)),
+            (with_idle(start, i64::MIN), limits(0, 0, 0, 0)),
+            (with_idle(start, i64::MAX), limits(0, 4_294_967_295, 0, 0)),
+            (with_lifetime(start, 100), limits(0, 2, 100, 0)),
+            (with_lifetime(start, -1), limits(0, 2, 0, 0)),
+            (
+                with_idle_time(start, i64::MAX),
+                limits(0, 2, 0, 9_223_372_036_854_775_807),
+            ),
+            (with_idle_time(limits(0, 2, 0, 7), 0), limits(0, 2, 0, 0)),
+        ] {
+            assert_eq!(rt; got, want);
+        }
+    }
+
+    #[test]
+    fn a_connection_expires_after_its_limit_and_not_at_it(rt: HostRuntime) {
+        for (since, limit, now, want) in [
+            (0, 100, 100, false),
+            (0, 100, 101, true),
+            (101, 10, 300, true),
+            (7, 0, u64::MAX, false),
+            (u64::MAX, 1, 0, false),
+            (u64::MAX, u64::MAX, u64::MAX, false),
+            (5, 1, 3, false),
+        ] {
+            assert_eq!(rt;
+                expired(since, limit, now),
+                want,
+                "{since} and {limit} at {now}"
+            );
+            assert_eq!(rt;
+                idled(since, limit, now),
+                want,
+                "{since} and {limit} at {now}"
+            );
+        }
+    }
+}
