@@ -1,8 +1,8 @@
 -- A call that has just entered asks for a connection.
 use Rattle.std.proofs.Common.{◌≡◌, ◌≢◌, ℕ, ◌==◌, inl, inr, Bool, true, false, not, ◌&&◌, nat_lt, nat_le, List, [], ◌∷◌, ◌++◌, get_or, refl, arith, Some, None, ap, sym, subst, ◌∙◌}
 use Rattle.std.proofs.lemmas.Bool.Decides.{nat_tests}
-use Rattle.dsql_tenure.specs.declared.entry.Owner.TheVariants.{Call}
-use Rattle.dsql_tenure.specs.Readers.{has, is_empty}
+use Rattle.dsql_journal.specs.declared.entry.Owner.TheVariants.{Call}
+use Rattle.dsql_journal.specs.Readers.{has, is_empty}
 use Rattle.dsql_history.specs.declared.event.Event.{Event}
 use Rattle.dsql_history.specs.declared.event.Event.TheVariants.{Entered, Pool, Replied}
 use Rattle.dsql_history.specs.declared.event.Move.TheVariants.{OpenStart, Lend}

@@ -1,9 +1,9 @@
 -- The layer's own calls, and that a history that has begun stays so.
 use Rattle.std.proofs.Common.{◌≡◌, ℕ, ◌<◌, Bool, true, false, cond, nat_lt, List, [], ◌∷◌, length, get_or, refl, arith, Option, Some, None, sym, subst}
 use Rattle.std.proofs.lemmas.Bool.Decides.{nat_tests}
-use Rattle.dsql_tenure.specs.declared.entry.Entry.{Entry}
-use Rattle.dsql_tenure.specs.declared.entry.Owner.TheVariants.{Call}
-use Rattle.dsql_tenure.specs.Readers.{is_empty}
+use Rattle.dsql_journal.specs.declared.entry.Entry.{Entry}
+use Rattle.dsql_journal.specs.declared.entry.Owner.TheVariants.{Call}
+use Rattle.dsql_journal.specs.Readers.{is_empty}
 use Rattle.dsql_history.specs.declared.event.Event.{Event}
 use Rattle.dsql_history.specs.declared.event.Event.TheVariants.{Heard, Ended}
 use Rattle.dsql_history.specs.declared.record.Place.{Place}

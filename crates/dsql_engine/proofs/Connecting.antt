@@ -1,7 +1,7 @@
 -- The answer to a Connect.
 use Rattle.std.proofs.Common.{◌≡◌, ◌≢◌, ℕ, inl, inr, true, false, List, ◌∷◌, get_or, refl, is_some, ap, sym, subst, ◌∙◌}
-use Rattle.dsql_tenure.specs.declared.entry.Entry.{Entry}
-use Rattle.dsql_tenure.specs.declared.entry.Owner.TheVariants.{Call}
+use Rattle.dsql_journal.specs.declared.entry.Entry.{Entry}
+use Rattle.dsql_journal.specs.declared.entry.Owner.TheVariants.{Call}
 use Rattle.dsql_history.specs.declared.event.Event.{Event}
 use Rattle.dsql_history.specs.declared.event.Event.TheVariants.{Heard, Pool}
 use Rattle.dsql_history.specs.declared.event.Move.TheVariants.{Lend, Fell}
@@ -18,7 +18,7 @@ use Rattle.dsql_driver.specs.declared.call.DriverCall.TheVariants.{Connect}
 use Rattle.dsql_driver.specs.declared.answer.DriverAnswer.{DriverAnswer}
 use Rattle.dsql_driver.specs.declared.answer.DriverAnswer.TheVariants.{Bad, Fail, Memory, Done}
 use Rattle.dsql_driver.specs.Fits.{fits_of, is_memory, is_done}
-use Rattle.dsql_tenure.specs.Entries.{connect_entry}
+use Rattle.dsql_journal.specs.Entries.{connect_entry}
 use Rattle.dsql_history.specs.Readers.Calls.{reply_to}
 use Rattle.dsql_engine.specs.Groups.{lent_to}
 use Rattle.dsql_engine.proofs.Basics.{not_first, begun, follows_placed, all_of, used_of, way_of}

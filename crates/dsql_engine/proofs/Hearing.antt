@@ -1,7 +1,7 @@
 -- The answer to a driver call of a client's call.
 use Rattle.std.proofs.Common.{◌≡◌, ◌≢◌, ℕ, ◌<◌, ◌==◌, inl, inr, Bool, true, false, not, ◌||◌, cond, List, [], ◌∷◌, length, get_or, refl, Option, Some, None, ap, sym, subst, ◌∙◌}
-use Rattle.dsql_tenure.specs.declared.entry.Entry.{Entry}
-use Rattle.dsql_tenure.specs.declared.entry.Owner.TheVariants.{Call}
+use Rattle.dsql_journal.specs.declared.entry.Entry.{Entry}
+use Rattle.dsql_journal.specs.declared.entry.Owner.TheVariants.{Call}
 use Rattle.dsql_history.specs.declared.event.Event.{Event}
 use Rattle.dsql_history.specs.declared.event.Event.TheVariants.{Heard}
 use Rattle.dsql_history.specs.declared.record.Place.TheVariants.{Lent}
@@ -23,10 +23,10 @@ use Rattle.dsql_driver.specs.declared.call.Input.TheVariants.{Text}
 use Rattle.dsql_driver.specs.declared.answer.DriverAnswer.{DriverAnswer}
 use Rattle.dsql_driver.specs.declared.answer.DriverAnswer.TheVariants.{Bad}
 use Rattle.dsql_driver.specs.Fits.{fits_of, is_memory, is_invalid}
-use Rattle.dsql_tenure.specs.declared.entry.Permit.{Permit}
-use Rattle.dsql_tenure.specs.Entries.{call_entry}
-use Rattle.dsql_tenure.specs.Kinds.{is_connect, is_shut, is_bad}
-use Rattle.dsql_tenure.specs.Readers.{went_bad}
+use Rattle.dsql_journal.specs.declared.entry.Permit.{Permit}
+use Rattle.dsql_journal.specs.Entries.{call_entry}
+use Rattle.dsql_journal.specs.Kinds.{is_connect, is_shut, is_bad}
+use Rattle.dsql_journal.specs.Readers.{went_bad}
 use Rattle.dsql_history.specs.Readers.Course.{caps}
 use Rattle.dsql_history.specs.Readers.Journals.{heard_in}
 use Rattle.dsql_history.specs.Readers.Calls.{decision}

@@ -1,9 +1,9 @@
 -- A connection on which nothing is due any more leaves, and its call replies.
 use Rattle.std.proofs.Common.{◌≡◌, ◌≢◌, ℕ, ◌<◌, ◌≤◌, ◌==◌, Bool, true, false, not, ◌&&◌, ◌||◌, List, [], ◌∷◌, length, get_or, refl, arith, Option, Some, None, is_some, ap, sym, subst, ◌∙◌}
 use Rattle.std.proofs.lemmas.Bool.Decides.{nat_tests}
-use Rattle.dsql_tenure.specs.declared.entry.Owner.{Owner}
-use Rattle.dsql_tenure.specs.declared.entry.Owner.TheVariants.{Call}
-use Rattle.dsql_tenure.specs.Readers.{has, is_empty}
+use Rattle.dsql_journal.specs.declared.entry.Owner.{Owner}
+use Rattle.dsql_journal.specs.declared.entry.Owner.TheVariants.{Call}
+use Rattle.dsql_journal.specs.Readers.{has, is_empty}
 use Rattle.dsql_history.specs.declared.event.Event.{Event}
 use Rattle.dsql_history.specs.declared.event.Event.TheVariants.{Pool, Replied}
 use Rattle.dsql_history.specs.declared.event.Move.TheVariants.{Back, CloseStart}
@@ -23,7 +23,7 @@ use Rattle.dsql_history.proofs.SoundSets.{sound_sets}
 use Rattle.dsql_history.proofs.SoundCalls.{sound_calls}
 use Rattle.dsql_history.proofs.SoundJournals.{whole_when_lent}
 use Rattle.dsql_history.specs.Rules.Line.{due}
-use Rattle.dsql_tenure.specs.Readers.{went_bad}
+use Rattle.dsql_journal.specs.Readers.{went_bad}
 use Rattle.dsql_history.specs.declared.event.CloseCause.TheVariants.{Bad, Invalid, IdleFull, DbClosed}
 use Rattle.dsql_history.specs.Rules.Causes.{cause, cause_when, is_cause}
 use Rattle.dsql_engine.specs.Groups.{leaving}

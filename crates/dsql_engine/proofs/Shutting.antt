@@ -1,6 +1,6 @@
 -- The answer to a Shut.
 use Rattle.std.proofs.Common.{◌≡◌, ℕ, true, false, List, ◌∷◌, refl}
-use Rattle.dsql_tenure.specs.declared.entry.Entry.{Entry}
+use Rattle.dsql_journal.specs.declared.entry.Entry.{Entry}
 use Rattle.dsql_history.specs.declared.event.Event.{Event}
 use Rattle.dsql_history.specs.declared.event.Event.TheVariants.{Heard, Pool}
 use Rattle.dsql_history.specs.declared.event.Move.TheVariants.{Gone}
@@ -14,7 +14,7 @@ use Rattle.dsql_history.proofs.SoundJournals.{follows_shut, whole_shut}
 use Rattle.dsql_driver.specs.declared.call.DriverCall.TheVariants.{Shut}
 use Rattle.dsql_driver.specs.declared.answer.DriverAnswer.{DriverAnswer}
 use Rattle.dsql_driver.specs.Fits.{fits_of, is_memory}
-use Rattle.dsql_tenure.specs.Entries.{shut_entry}
+use Rattle.dsql_journal.specs.Entries.{shut_entry}
 use Rattle.dsql_engine.proofs.Basics.{not_first, begun, follows_placed, all_of, used_of, way_of}
 use Rattle.dsql_engine.proofs.Moving.{way_by, not_at}
 

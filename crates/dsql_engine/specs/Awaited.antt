@@ -2,9 +2,9 @@
 use Rattle.std.specs.Prelude.{ℕ, List, Option, Some, None, option_map}
 use Rattle.dsql_driver.specs.declared.call.DriverCall.{DriverCall}
 use Rattle.dsql_driver.specs.declared.call.DriverCall.TheVariants.{Connect, Shut}
-use Rattle.dsql_tenure.specs.declared.entry.Entry.{Entry}
-use Rattle.dsql_tenure.specs.declared.entry.Permit.{Permit}
-use Rattle.dsql_tenure.specs.declared.entry.Owner.TheVariants.{Call, House}
+use Rattle.dsql_journal.specs.declared.entry.Entry.{Entry}
+use Rattle.dsql_journal.specs.declared.entry.Permit.{Permit}
+use Rattle.dsql_journal.specs.declared.entry.Owner.TheVariants.{Call, House}
 use Rattle.dsql_history.specs.declared.event.Event.{Event}
 use Rattle.dsql_history.specs.declared.record.Place.{Place}
 use Rattle.dsql_history.specs.declared.record.Place.TheVariants.{Opening, Lent, Closing}

@@ -1,6 +1,6 @@
 -- What holds just after a call entered, before it asks: all is settled but for that call.
 use Rattle.std.specs.Prelude.{ℕ, ◌≡◌, ◌≢◌, true, false, List}
-use Rattle.dsql_tenure.specs.Readers.{is_empty}
+use Rattle.dsql_journal.specs.Readers.{is_empty}
 use Rattle.dsql_history.specs.declared.event.Event.{Event}
 use Rattle.dsql_history.specs.Readers.Calls.{home, is_unfinished}
 use Rattle.dsql_history.specs.Rules.Settled.{is_placed, is_under_way, keeps_idle_limit, is_empty_when_closed}

@@ -2,8 +2,8 @@
 use Rattle.std.specs.Prelude.{ℕ, ◌==◌, nat_lt, cond, List, [], ◌∷◌, Option, Some, None, find}
 use Rattle.dsql_driver.specs.declared.call.DriverCall.{DriverCall}
 use Rattle.dsql_driver.specs.Fits.{is_done}
-use Rattle.dsql_tenure.specs.declared.entry.Entry.{Entry}
-use Rattle.dsql_tenure.specs.declared.entry.Owner.TheVariants.{Call}
+use Rattle.dsql_journal.specs.declared.entry.Entry.{Entry}
+use Rattle.dsql_journal.specs.declared.entry.Owner.TheVariants.{Call}
 use Rattle.dsql_history.specs.declared.event.Event.{Event}
 use Rattle.dsql_history.specs.declared.event.Event.TheVariants.{Entered, Heard, Pool, Replied, Ended}
 use Rattle.dsql_history.specs.declared.event.Move.TheVariants.{OpenStart, Lend, Back, CloseStart, Gone, Fell}

@@ -4,7 +4,7 @@ ghost use Rattle.dsql_history.specs.Rules.Settled.{Settled};
 ghost use Rattle.dsql_history.specs.Readers.Calls.{statement, refusal, reply_due, skipped as skipped_text};
 ghost use Rattle.dsql_history.specs.declared.event.Move.{Move};
 ghost use Rattle.dsql_history.specs.declared.reply.Reply.{Reply};
-ghost use Rattle.dsql_tenure.specs.declared.entry.Owner.TheVariants.{Call};
+ghost use Rattle.dsql_journal.specs.declared.entry.Owner.TheVariants.{Call};
 ghost use Rattle.dsql_engine.specs.Desk.{past, Stands};
 
 use crate::room::{
@@ -12,7 +12,7 @@ use crate::room::{
 };
 use dsql_driver::{Caps, DriverAnswer};
 use dsql_history::{CallRecord, CloseCause, Event, Move, Op, Place, Reply};
-use dsql_tenure::{Entry, Owner};
+use dsql_journal::{Entry, Owner};
 use dsql_value::Txt;
 
 /// What is kept of the present, beside the history.

@@ -11,7 +11,7 @@ use crate::next::{Next, NoRoom};
 use crate::steps::Texts;
 use dsql_driver::{Caps, DriverAnswer};
 use dsql_history::{Event, Op, SKIPPED};
-use dsql_tenure::Entry;
+use dsql_journal::Entry;
 use dsql_value::Txt;
 use std::alloc::Global;
 use std::marker::Model;
@@ -25,7 +25,7 @@ pub struct Engine {
 
 impl Model for Engine {
     ghost use Rattle.std.specs.Prelude.{◌≡◌, List, false};
-    ghost use Rattle.dsql_tenure.specs.Readers.{is_empty};
+    ghost use Rattle.dsql_journal.specs.Readers.{is_empty};
     ghost use Rattle.dsql_history.specs.declared.event.Event.{Event};
     ghost use Rattle.dsql_history.specs.Rules.Settled.{Settled};
 

@@ -1,4 +1,4 @@
-use dsql_tenure::Permit;
+use dsql_journal::Permit;
 use dsql_value::Memory;
 use std::alloc::{AllocError, AllocFailed};
 use thiserror::Error;

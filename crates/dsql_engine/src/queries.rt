@@ -8,7 +8,7 @@ ghost use Rattle.dsql_history.specs.Rules.Line.{is_reset_due, line_after, body_o
 ghost use Rattle.dsql_history.specs.Rules.House.{shut_due, connect_due};
 ghost use Rattle.dsql_history.specs.Rules.Causes.{cause_when};
 ghost use Rattle.dsql_driver.specs.Fits.{is_invalid, is_done};
-ghost use Rattle.dsql_tenure.specs.Kinds.{is_bad};
+ghost use Rattle.dsql_journal.specs.Kinds.{is_bad};
 ghost use Rattle.dsql_engine.specs.Desk.{past, Stands};
 ghost use Rattle.dsql_engine.specs.Groups.{call_of};
 ghost use Rattle.dsql_engine.specs.Awaited.{shut_permit, connect_permit};
@@ -17,7 +17,7 @@ ghost use Rattle.dsql_engine.specs.Latest.{latest, oldest};
 use crate::desk::Desk;
 use dsql_driver::{Caps, DriverAnswer, DriverCall, Input};
 use dsql_history::{CloseCause, Place};
-use dsql_tenure::{Owner, Permit};
+use dsql_journal::{Owner, Permit};
 use dsql_value::{Items, Memory, Txt};
 use std::alloc::Global;
 

@@ -8,7 +8,7 @@ ghost use Rattle.dsql_engine.specs.Told.{told_entry};
 
 use dsql_driver::{DriverAnswer, DriverCall};
 use dsql_history::{CallRecord, Event, Place, Reply};
-use dsql_tenure::Entry;
+use dsql_journal::Entry;
 use dsql_value::Txt;
 
 /// Adds an element where there is room.

@@ -1,8 +1,8 @@
 //! Whole steps: compositions of event methods, each of which leaves the history settled.
 ghost use Rattle.std.specs.Prelude.{◌≡◌, ◌+◌, ◌<◌, ◌≤◌, ◌∷◌, [], Some, None, true, false, length, nat_lt, option_map};
 ghost use Rattle.dsql_driver.specs.Fits.{fits_of, is_memory, is_invalid, is_done};
-ghost use Rattle.dsql_tenure.specs.Readers.{went_bad, is_empty};
-ghost use Rattle.dsql_tenure.specs.declared.entry.Owner.TheVariants.{Call};
+ghost use Rattle.dsql_journal.specs.Readers.{went_bad, is_empty};
+ghost use Rattle.dsql_journal.specs.declared.entry.Owner.TheVariants.{Call};
 ghost use Rattle.dsql_history.specs.Legal.{Lawful};
 ghost use Rattle.dsql_history.specs.Readers.Course.{caps, has_ended};
 ghost use Rattle.dsql_history.specs.Readers.Sets.{place, idle, open_count, next_tenure, is_for};
@@ -30,7 +30,7 @@ use crate::queries::{first_call, is_bad_answer, is_done_answer, is_invalid_answe
 use crate::room::reply_of;
 use dsql_driver::{DriverAnswer, DriverCall};
 use dsql_history::{CloseCause, Op, Place};
-use dsql_tenure::{Entry, Owner, Permit};
+use dsql_journal::{Entry, Owner, Permit};
 use dsql_value::Txt;
 use std::alloc::Global;
 

@@ -10,16 +10,16 @@ use Rattle.dsql_driver.specs.declared.call.DriverCall.TheVariants.{Reset, Valid,
 use Rattle.dsql_driver.specs.declared.call.Input.TheVariants.{Text}
 use Rattle.dsql_driver.specs.declared.answer.DriverAnswer.{DriverAnswer}
 use Rattle.dsql_driver.specs.declared.answer.DriverAnswer.TheVariants.{Bad, Invalid}
-use Rattle.dsql_tenure.specs.declared.entry.Entry.{Entry}
-use Rattle.dsql_tenure.specs.declared.entry.Owner.{Owner}
-use Rattle.dsql_tenure.specs.declared.entry.Owner.TheVariants.{Call, Tx, Pin, House}
-use Rattle.dsql_tenure.specs.Kinds.{is_reset, is_valid, is_bad, same_owner}
-use Rattle.dsql_tenure.specs.Readers.{is_empty, of_tenure, last_tenure, went_invalid}
-use Rattle.dsql_tenure.specs.Journal.{may_follow, IsJournalPrefix}
-use Rattle.dsql_tenure.specs.Entries.{call_entry}
-use Rattle.dsql_tenure.specs.ExecJournals.{Plain, Good}
-use Rattle.dsql_tenure.proofs.Tenures.{of_tenure-new}
-use Rattle.dsql_tenure.proofs.ExecJournals.{Good-with, Plain-reset, Plain-exec, Plain-valid, of_tenure-with, may_follow-reset, may_follow-exec_first, may_follow-exec_after_reset, may_follow-valid}
+use Rattle.dsql_journal.specs.declared.entry.Entry.{Entry}
+use Rattle.dsql_journal.specs.declared.entry.Owner.{Owner}
+use Rattle.dsql_journal.specs.declared.entry.Owner.TheVariants.{Call, Tx, Pin, House}
+use Rattle.dsql_journal.specs.Kinds.{is_reset, is_valid, is_bad, same_owner}
+use Rattle.dsql_journal.specs.Readers.{is_empty, of_tenure, last_tenure, went_invalid}
+use Rattle.dsql_journal.specs.Journal.{may_follow, IsJournalPrefix}
+use Rattle.dsql_journal.specs.Entries.{call_entry}
+use Rattle.dsql_journal.specs.ExecJournals.{Plain, Good}
+use Rattle.dsql_journal.proofs.Tenures.{of_tenure-new}
+use Rattle.dsql_journal.proofs.ExecJournals.{Good-with, Plain-reset, Plain-exec, Plain-valid, of_tenure-with, may_follow-reset, may_follow-exec_first, may_follow-exec_after_reset, may_follow-valid}
 use Rattle.dsql_history.specs.Readers.Journals.{ends_invalid}
 use Rattle.dsql_history.specs.Rules.Line.{line_after, is_due, after_call, body_of, test_of}
 

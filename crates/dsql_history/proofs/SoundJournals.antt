@@ -6,17 +6,17 @@ use Rattle.dsql_driver.specs.Fits.{fits_of, is_memory, is_done, is_failure}
 use Rattle.dsql_driver.specs.declared.call.DriverCall.TheVariants.{Connect, Shut}
 use Rattle.dsql_driver.specs.declared.answer.DriverAnswer.{DriverAnswer}
 use Rattle.dsql_driver.specs.declared.answer.DriverAnswer.TheVariants.{Done, Bad, Fail, Memory}
-use Rattle.dsql_tenure.specs.declared.entry.Entry.{Entry}
-use Rattle.dsql_tenure.specs.declared.entry.Owner.{Owner}
-use Rattle.dsql_tenure.specs.declared.entry.Owner.TheVariants.{Call, Tx, Pin, House}
-use Rattle.dsql_tenure.specs.Kinds.{is_call, is_connect, is_shut, is_house, same_owner}
-use Rattle.dsql_tenure.specs.Readers.{went_bad}
-use Rattle.dsql_tenure.specs.Tenure.{is_whole_tenure}
-use Rattle.dsql_tenure.specs.Journal.{may_follow, is_whole, IsJournalPrefix, IsWhole}
-use Rattle.dsql_tenure.specs.Entries.{call_entry, connect_entry, shut_entry}
-use Rattle.dsql_tenure.proofs.Beginnings.{may_follow-whole}
-use Rattle.dsql_tenure.proofs.Tenures.{of_tenure-new}
-use Rattle.dsql_tenure.proofs.ExecJournals.{IsJournalPrefix-with, is_whole_tenure-plain, may_follow-connect, is_whole-refused, may_follow-shut, is_whole-shut}
+use Rattle.dsql_journal.specs.declared.entry.Entry.{Entry}
+use Rattle.dsql_journal.specs.declared.entry.Owner.{Owner}
+use Rattle.dsql_journal.specs.declared.entry.Owner.TheVariants.{Call, Tx, Pin, House}
+use Rattle.dsql_journal.specs.Kinds.{is_call, is_connect, is_shut, is_house, same_owner}
+use Rattle.dsql_journal.specs.Readers.{went_bad}
+use Rattle.dsql_journal.specs.Tenure.{is_whole_tenure}
+use Rattle.dsql_journal.specs.Journal.{may_follow, is_whole, IsJournalPrefix, IsWhole}
+use Rattle.dsql_journal.specs.Entries.{call_entry, connect_entry, shut_entry}
+use Rattle.dsql_journal.proofs.Beginnings.{may_follow-whole}
+use Rattle.dsql_journal.proofs.Tenures.{of_tenure-new}
+use Rattle.dsql_journal.proofs.ExecJournals.{IsJournalPrefix-with, is_whole_tenure-plain, may_follow-connect, is_whole-refused, may_follow-shut, is_whole-shut}
 use Rattle.dsql_history.specs.declared.event.Event.{Event}
 use Rattle.dsql_history.specs.declared.event.Event.TheVariants.{Run, Entered, Heard, Pool, Replied, Ended}
 use Rattle.dsql_history.specs.declared.event.Move.{Move}

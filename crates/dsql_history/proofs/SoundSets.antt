@@ -2,8 +2,8 @@
 use Rattle.std.proofs.Common.{◌≡◌, ℕ, ◌<◌, ◌≤◌, ◌+◌, true, false, List, [], ◌∷◌, length, refl, arith, zero, suc, get_or, length-set}
 use Rattle.std.proofs.lemmas.Grind.{common_steps}
 use Rattle.std.proofs.lemmas.Bool.Decides.{nat_tests}
-use Rattle.dsql_tenure.specs.declared.entry.Owner.{Owner}
-use Rattle.dsql_tenure.specs.Readers.{has}
+use Rattle.dsql_journal.specs.declared.entry.Owner.{Owner}
+use Rattle.dsql_journal.specs.Readers.{has}
 use Rattle.dsql_history.specs.declared.event.Event.{Event}
 use Rattle.dsql_history.specs.declared.event.Event.TheVariants.{Run, Entered, Heard, Pool, Replied, Ended}
 use Rattle.dsql_history.specs.declared.event.Move.{Move}

@@ -8,17 +8,17 @@ use Rattle.dsql_driver.specs.declared.call.DriverCall.{DriverCall}
 use Rattle.dsql_driver.specs.declared.call.DriverCall.TheVariants.{Connect, Reset, Valid}
 use Rattle.dsql_driver.specs.declared.answer.DriverAnswer.{DriverAnswer}
 use Rattle.dsql_driver.specs.declared.answer.DriverAnswer.TheVariants.{Done}
-use Rattle.dsql_tenure.specs.declared.entry.Entry.{Entry}
-use Rattle.dsql_tenure.specs.declared.entry.Owner.{Owner}
-use Rattle.dsql_tenure.specs.declared.entry.Owner.TheVariants.{Call, Tx, Pin, House}
-use Rattle.dsql_tenure.specs.Kinds.{◌⇒◌, is_connect, is_house, is_reset, is_valid}
-use Rattle.dsql_tenure.specs.Readers.{of_tenure, last_tenure, went_bad, went_invalid}
-use Rattle.dsql_tenure.specs.Journal.{may_follow, IsJournalPrefix}
-use Rattle.dsql_tenure.specs.Facts.{MayFollow}
-use Rattle.dsql_tenure.specs.Entries.{call_entry, connect_entry}
-use Rattle.dsql_tenure.specs.ExecJournals.{Plain, Good}
-use Rattle.dsql_tenure.proofs.Sentences.{MayFollow-of}
-use Rattle.dsql_tenure.proofs.ExecJournals.{Plain-connect, Good-connect}
+use Rattle.dsql_journal.specs.declared.entry.Entry.{Entry}
+use Rattle.dsql_journal.specs.declared.entry.Owner.{Owner}
+use Rattle.dsql_journal.specs.declared.entry.Owner.TheVariants.{Call, Tx, Pin, House}
+use Rattle.dsql_journal.specs.Kinds.{◌⇒◌, is_connect, is_house, is_reset, is_valid}
+use Rattle.dsql_journal.specs.Readers.{of_tenure, last_tenure, went_bad, went_invalid}
+use Rattle.dsql_journal.specs.Journal.{may_follow, IsJournalPrefix}
+use Rattle.dsql_journal.specs.Facts.{MayFollow}
+use Rattle.dsql_journal.specs.Entries.{call_entry, connect_entry}
+use Rattle.dsql_journal.specs.ExecJournals.{Plain, Good}
+use Rattle.dsql_journal.proofs.Sentences.{MayFollow-of}
+use Rattle.dsql_journal.proofs.ExecJournals.{Plain-connect, Good-connect}
 use Rattle.dsql_history.specs.declared.record.Place.{Place}
 use Rattle.dsql_history.specs.declared.record.Place.TheVariants.{Nowhere, Opening, Idle, Lent, Closing}
 use Rattle.dsql_history.specs.Readers.Journals.{ends_invalid}

@@ -1,6 +1,6 @@
 -- Which histories are legal. A history is read from its newest event back: `e ∷ before` is e after all of before.
 use Rattle.std.specs.Prelude.{ℕ, ◌≡◌, ◌==◌, Bool, true, false, ◌||◌, List, [], ◌∷◌}
-use Rattle.dsql_tenure.specs.Journal.{IsJournalPrefix, IsWhole}
+use Rattle.dsql_journal.specs.Journal.{IsJournalPrefix, IsWhole}
 use Rattle.dsql_history.specs.declared.event.Event.{Event}
 use Rattle.dsql_history.specs.declared.event.Event.TheVariants.{Pool}
 use Rattle.dsql_history.specs.declared.event.Move.TheVariants.{Gone, Fell}

@@ -1,6 +1,6 @@
 use crate::reply::Reply;
 use dsql_driver::Caps;
-use dsql_tenure::{Entry, Owner};
+use dsql_journal::{Entry, Owner};
 use dsql_value::Txt;
 
 /// What a client asks of the layer.

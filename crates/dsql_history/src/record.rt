@@ -1,5 +1,5 @@
 use crate::reply::Reply;
-use dsql_tenure::Owner;
+use dsql_journal::Owner;
 use dsql_value::Txt;
 
 /// Where a connection stands: in one of the four sets, or in none.

@@ -4,11 +4,11 @@ use Rattle.std.specs.Prelude.{option_map, is_none}
 use Rattle.dsql_driver.specs.declared.call.DriverCall.{DriverCall}
 use Rattle.dsql_driver.specs.declared.call.DriverCall.TheVariants.{Connect, Shut}
 use Rattle.dsql_driver.specs.declared.answer.DriverAnswer.{DriverAnswer}
-use Rattle.dsql_tenure.specs.declared.entry.Owner.TheVariants.{Call, Tx, Pin, House}
-use Rattle.dsql_tenure.specs.declared.entry.Permit.{Permit}
-use Rattle.dsql_tenure.specs.Permits.{entry_of}
-use Rattle.dsql_tenure.specs.Entries.{connect_entry}
-use Rattle.dsql_tenure.specs.Kinds.{is_connect, is_shut}
+use Rattle.dsql_journal.specs.declared.entry.Owner.TheVariants.{Call, Tx, Pin, House}
+use Rattle.dsql_journal.specs.declared.entry.Permit.{Permit}
+use Rattle.dsql_journal.specs.Permits.{entry_of}
+use Rattle.dsql_journal.specs.Entries.{connect_entry}
+use Rattle.dsql_journal.specs.Kinds.{is_connect, is_shut}
 use Rattle.dsql_history.specs.declared.event.Event.{Event}
 use Rattle.dsql_history.specs.declared.event.Event.TheVariants.{Heard}
 use Rattle.dsql_history.specs.declared.record.Place.{Place}

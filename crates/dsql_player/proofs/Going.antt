@@ -1,7 +1,7 @@
 -- A run goes on over each event that enters no call and doesn't end it.
 use Rattle.std.proofs.Common.{◌≡◌, ◌==◌, None, ℕ, Bool, true, false, List, ◌∷◌, refl, sym, subst, arith, ◌∙◌, get_or, cond}
 use Rattle.std.specs.Prelude.{Result, Ok, Err, IfOk, OnErr}
-use Rattle.dsql_tenure.specs.declared.entry.Entry.{Entry}
+use Rattle.dsql_journal.specs.declared.entry.Entry.{Entry}
 use Rattle.dsql_history.specs.declared.event.Event.{Event}
 use Rattle.dsql_history.specs.declared.event.Event.TheVariants.{Heard, Pool, Replied}
 use Rattle.dsql_history.specs.declared.event.Move.{Move}

@@ -6,14 +6,14 @@ use Rattle.dsql_driver.specs.Wires.{Told}
 use Rattle.dsql_driver.specs.Fits.{is_done}
 use Rattle.dsql_driver.specs.declared.answer.DriverAnswer.{DriverAnswer}
 use Rattle.dsql_driver.specs.declared.answer.DriverAnswer.TheVariants.{Done}
-use Rattle.dsql_tenure.specs.declared.entry.Entry.{Entry}
-use Rattle.dsql_tenure.specs.declared.entry.Owner.TheVariants.{Call}
-use Rattle.dsql_tenure.specs.declared.entry.Permit.{Permit}
-use Rattle.dsql_tenure.specs.Permits.{entry_of}
-use Rattle.dsql_tenure.specs.Entries.{connect_entry}
-use Rattle.dsql_tenure.specs.WholeJournal.{connects_first}
-use Rattle.dsql_tenure.specs.Journal.{may_follow}
-use Rattle.dsql_tenure.proofs.Sentences.{MayFollow-of}
+use Rattle.dsql_journal.specs.declared.entry.Entry.{Entry}
+use Rattle.dsql_journal.specs.declared.entry.Owner.TheVariants.{Call}
+use Rattle.dsql_journal.specs.declared.entry.Permit.{Permit}
+use Rattle.dsql_journal.specs.Permits.{entry_of}
+use Rattle.dsql_journal.specs.Entries.{connect_entry}
+use Rattle.dsql_journal.specs.WholeJournal.{connects_first}
+use Rattle.dsql_journal.specs.Journal.{may_follow}
+use Rattle.dsql_journal.proofs.Sentences.{MayFollow-of}
 use Rattle.dsql_history.specs.declared.event.Event.{Event}
 use Rattle.dsql_history.specs.declared.event.Event.TheVariants.{Heard, Pool}
 use Rattle.dsql_history.specs.declared.event.Move.TheVariants.{Lend, Fell}

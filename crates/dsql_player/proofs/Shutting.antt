@@ -2,7 +2,7 @@
 use Rattle.std.proofs.Common.{inr, ◌≡◌, ◌≢◌, ℕ, Bool, true, false, List, [], ◌∷◌, ◌++◌, Option, Some, None, refl, sym, ◌∙◌, ap, subst, get_or, set, zero, suc, arith}
 use Rattle.dsql_driver.specs.Wires.{Told}
 use Rattle.dsql_driver.specs.Fits.{is_memory}
-use Rattle.dsql_tenure.specs.declared.entry.Entry.{Entry}
+use Rattle.dsql_journal.specs.declared.entry.Entry.{Entry}
 use Rattle.dsql_history.specs.declared.event.Event.{Event}
 use Rattle.dsql_history.specs.declared.event.Event.TheVariants.{Heard, Pool}
 use Rattle.dsql_history.specs.declared.event.Move.TheVariants.{Gone}

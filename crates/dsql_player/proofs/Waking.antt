@@ -4,8 +4,8 @@ use Rattle.std.specs.Prelude.{find, is_some}
 use Rattle.std.specs.List.{list_all}
 use Rattle.dsql_driver.specs.Wires.{Told}
 use Rattle.dsql_driver.specs.declared.call.DriverCall.{DriverCall}
-use Rattle.dsql_tenure.specs.declared.entry.Owner.TheVariants.{Call}
-use Rattle.dsql_tenure.specs.declared.entry.Permit.{Permit}
+use Rattle.dsql_journal.specs.declared.entry.Owner.TheVariants.{Call}
+use Rattle.dsql_journal.specs.declared.entry.Permit.{Permit}
 use Rattle.dsql_history.specs.declared.event.Event.{Event}
 use Rattle.dsql_history.specs.declared.record.Place.{Place}
 use Rattle.dsql_history.specs.declared.record.Place.TheVariants.{Nowhere, Opening, Idle, Lent, Closing}

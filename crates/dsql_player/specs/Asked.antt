@@ -3,8 +3,8 @@ use Rattle.std.specs.Prelude.{ℕ, ◌≡◌, ◌≢◌, false, List, Option}
 use Rattle.dsql_driver.specs.Wires.{Told}
 use Rattle.dsql_driver.specs.Fits.{is_memory}
 use Rattle.dsql_driver.specs.declared.answer.DriverAnswer.{DriverAnswer}
-use Rattle.dsql_tenure.specs.declared.entry.Permit.{Permit}
-use Rattle.dsql_tenure.specs.Permits.{entry_of}
+use Rattle.dsql_journal.specs.declared.entry.Permit.{Permit}
+use Rattle.dsql_journal.specs.Permits.{entry_of}
 use Rattle.dsql_history.specs.declared.event.Event.{Event}
 use Rattle.dsql_engine.specs.declared.next.Next.{Next}
 use Rattle.dsql_engine.specs.Groups.{after_heard}

@@ -1,7 +1,7 @@
 -- What the parts of carrying a line out change, and what stays.
 use Rattle.std.specs.Prelude.{ℕ, ◌≡◌, ◌<◌, ◌==◌, ◌+◌, ◌-◌, ◌*◌, Bool, true, false, List, [], ◌∷◌, ◌++◌, ◌⊎◌, length, Option, Some, is_some}
 use Rattle.dsql_driver.specs.Wires.{RetiredWire}
-use Rattle.dsql_tenure.specs.declared.entry.Permit.{Permit}
+use Rattle.dsql_journal.specs.declared.entry.Permit.{Permit}
 use Rattle.dsql_history.specs.declared.event.Event.{Event}
 use Rattle.dsql_history.specs.declared.event.Op.{Op}
 use Rattle.dsql_history.specs.Readers.Lists.{first}

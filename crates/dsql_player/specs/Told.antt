@@ -1,7 +1,7 @@
 -- What was heard of each connection, as its wire tells it, and what the fleet was given back.
 use Rattle.std.specs.Prelude.{ℕ, ◌≡◌, List, [], ◌∷◌, ◌++◌, length, Option, Some, None, option_map}
 use Rattle.dsql_driver.specs.Wires.{Told, RetiredWire, retired_after}
-use Rattle.dsql_tenure.specs.declared.entry.Entry.{Entry}
+use Rattle.dsql_journal.specs.declared.entry.Entry.{Entry}
 use Rattle.dsql_history.specs.declared.event.Event.{Event}
 use Rattle.dsql_history.specs.declared.event.Event.TheVariants.{Pool}
 use Rattle.dsql_history.specs.declared.event.Move.TheVariants.{Gone}

@@ -1,6 +1,6 @@
 ghost use Rattle.std.specs.Prelude.{◌≡◌, ◌<◌, ◌≤◌, true, false, length, Some, IfOk, IfErr, OnOk, OnErr, IsSome};
 ghost use Rattle.dsql_driver.specs.Fits.{fits_of, is_memory};
-ghost use Rattle.dsql_tenure.specs.Permits.{entry_of};
+ghost use Rattle.dsql_journal.specs.Permits.{entry_of};
 ghost use Rattle.dsql_history.specs.Legal.{Legal};
 ghost use Rattle.dsql_engine.specs.Awaited.{awaited};
 ghost use Rattle.dsql_engine.specs.Groups.{after_heard, most_events};
@@ -12,7 +12,7 @@ use crate::halt::Halt;
 use crate::wires::Wires;
 use dsql_driver::{Answered, DriverAnswer, Wire};
 use dsql_engine::{Engine, Next};
-use dsql_tenure::Permit;
+use dsql_journal::Permit;
 
 /// Whether a step may still append events.
 pub(crate) fn check_room(engine: &Engine) -> Result<(), Halt>

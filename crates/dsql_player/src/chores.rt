@@ -1,7 +1,7 @@
 ghost use Rattle.std.specs.Prelude.{◌≡◌, ◌≢◌, ◌<◌, ◌≤◌, ℕ, true, false, length, Some, None, IfOk, IfErr, OnOk, OnErr, IsErrOf, is_some};
 ghost use Rattle.dsql_driver.specs.Fits.{fits_of, is_done};
 ghost use Rattle.dsql_driver.specs.declared.call.DriverCall.TheVariants.{Connect, Shut};
-ghost use Rattle.dsql_tenure.specs.Kinds.{is_shut};
+ghost use Rattle.dsql_journal.specs.Kinds.{is_shut};
 ghost use Rattle.dsql_history.specs.Legal.{Legal};
 ghost use Rattle.dsql_history.specs.Readers.Calls.{unfinished};
 ghost use Rattle.dsql_history.specs.Rules.House.{has_no_chore};
@@ -15,7 +15,7 @@ use crate::halt::Halt;
 use crate::wires::Wires;
 use dsql_driver::{Answered, DriverAnswer, DriverCall, Fleet, Refused};
 use dsql_engine::{Engine, Next};
-use dsql_tenure::Permit;
+use dsql_journal::Permit;
 
 /// Carries the layer's own calls out until none is left.
 pub(crate) fn carry_chores<F: Fleet>(

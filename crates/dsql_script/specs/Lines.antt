@@ -3,9 +3,9 @@ use Rattle.std.specs.Prelude.{ℕ, List, [], ◌∷◌, ◌++◌, Bool, true, fa
 use Rattle.serde_json.specs.Data.{Data, string}
 use Rattle.serde_json.specs.Written.{compact_text}
 use Rattle.dsql_driver.specs.declared.caps.Caps.{Caps}
-use Rattle.dsql_tenure.specs.declared.entry.Owner.{Owner}
-use Rattle.dsql_tenure.specs.declared.entry.Owner.TheVariants.{Call, Tx, Pin, House}
-use Rattle.dsql_tenure.specs.declared.entry.Entry.{Entry}
+use Rattle.dsql_journal.specs.declared.entry.Owner.{Owner}
+use Rattle.dsql_journal.specs.declared.entry.Owner.TheVariants.{Call, Tx, Pin, House}
+use Rattle.dsql_journal.specs.declared.entry.Entry.{Entry}
 use Rattle.dsql_history.specs.declared.reply.Reply.{Reply}
 use Rattle.dsql_history.specs.declared.reply.Reply.TheVariants.{Result, Driver, BadConn, TooMany}
 use Rattle.dsql_history.specs.declared.event.Op.{Op}

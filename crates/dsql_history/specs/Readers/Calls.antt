@@ -5,7 +5,7 @@ use Rattle.dsql_driver.specs.declared.call.DriverCall.{DriverCall}
 use Rattle.dsql_driver.specs.declared.call.DriverCall.TheVariants.{Reset, Exec}
 use Rattle.dsql_driver.specs.declared.answer.DriverAnswer.{DriverAnswer}
 use Rattle.dsql_driver.specs.declared.answer.DriverAnswer.TheVariants as answers
-use Rattle.dsql_tenure.specs.Readers.{has}
+use Rattle.dsql_journal.specs.Readers.{has}
 use Rattle.dsql_history.specs.declared.event.Event.{Event}
 use Rattle.dsql_history.specs.declared.event.Event.TheVariants.{Entered, Heard, Pool, Replied}
 use Rattle.dsql_history.specs.declared.event.Move.TheVariants.{OpenStart, Lend, Fell}

@@ -1,8 +1,8 @@
 -- What a call that asks for a connection makes.
 use Rattle.std.specs.Prelude.{ℕ, ◌==◌, Bool, true, not, ◌&&◌, cond, List}
-use Rattle.dsql_tenure.specs.declared.entry.Owner.{Owner}
-use Rattle.dsql_tenure.specs.Kinds.{is_call}
-use Rattle.dsql_tenure.specs.Readers.{is_empty}
+use Rattle.dsql_journal.specs.declared.entry.Owner.{Owner}
+use Rattle.dsql_journal.specs.Kinds.{is_call}
+use Rattle.dsql_journal.specs.Readers.{is_empty}
 use Rattle.dsql_history.specs.declared.event.Event.{Event}
 use Rattle.dsql_history.specs.declared.event.Event.TheVariants.{Pool}
 use Rattle.dsql_history.specs.declared.event.Move.TheVariants.{OpenStart, Lend}

@@ -1,6 +1,6 @@
 -- Why a connection closes, and when it becomes idle instead.
 use Rattle.std.specs.Prelude.{ℕ, ◌==◌, nat_lt, Bool, true, false, ◌&&◌, cond, List, ◌∷◌, length, Option, Some, None}
-use Rattle.dsql_tenure.specs.Readers.{went_bad}
+use Rattle.dsql_journal.specs.Readers.{went_bad}
 use Rattle.dsql_history.specs.declared.event.Event.{Event}
 use Rattle.dsql_history.specs.declared.event.Event.TheVariants.{Pool, Ended}
 use Rattle.dsql_history.specs.declared.event.Move.TheVariants.{Back, CloseStart}

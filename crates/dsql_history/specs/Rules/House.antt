@@ -1,6 +1,6 @@
 -- The layer's own calls, in their order: a Shut comes before a Connect, and the smallest connection first.
 use Rattle.std.specs.Prelude.{ℕ, Bool, List, Option, position, is_none, ◌&&◌}
-use Rattle.dsql_tenure.specs.Readers.{is_empty}
+use Rattle.dsql_journal.specs.Readers.{is_empty}
 use Rattle.dsql_history.specs.declared.event.Event.{Event}
 use Rattle.dsql_history.specs.Readers.Sets.{places, is_closing, is_opening}
 use Rattle.dsql_history.specs.Readers.Calls.{unfinished}

@@ -1,8 +1,8 @@
 -- Each connection's journal is a beginning of a whole journal. A tenure is whole where its connection leaves lent, and the journal is
 -- whole where the connection leaves the four sets.
 use Rattle.std.specs.Prelude.{ℕ, Bool, true, List}
-use Rattle.dsql_tenure.specs.Journal.{may_follow, is_whole}
-use Rattle.dsql_tenure.specs.Tenure.{is_whole_tenure}
+use Rattle.dsql_journal.specs.Journal.{may_follow, is_whole}
+use Rattle.dsql_journal.specs.Tenure.{is_whole_tenure}
 use Rattle.dsql_history.specs.declared.event.Event.{Event}
 use Rattle.dsql_history.specs.declared.event.Event.TheVariants.{Heard, Pool}
 use Rattle.dsql_history.specs.declared.event.Move.TheVariants.{Back, CloseStart, Gone, Fell}

@@ -1,8 +1,8 @@
 -- What comes as the very next event after a Connect or a Shut was answered, and nowhere else.
 use Rattle.std.specs.Prelude.{ℕ, ◌==◌, Bool, true, false, not, ◌&&◌, cond, List, ◌∷◌}
 use Rattle.dsql_driver.specs.Fits.{is_done}
-use Rattle.dsql_tenure.specs.declared.entry.Entry.{Entry}
-use Rattle.dsql_tenure.specs.Kinds.{is_call}
+use Rattle.dsql_journal.specs.declared.entry.Entry.{Entry}
+use Rattle.dsql_journal.specs.Kinds.{is_call}
 use Rattle.dsql_history.specs.declared.event.Event.{Event}
 use Rattle.dsql_history.specs.declared.event.Event.TheVariants.{Heard, Pool}
 use Rattle.dsql_history.specs.declared.event.Move.TheVariants.{Lend, Back, CloseStart, Gone, Fell}

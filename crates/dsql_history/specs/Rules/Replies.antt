@@ -1,7 +1,7 @@
 -- What a call is replied, and when.
 use Rattle.std.specs.Prelude.{ℕ, ◌==◌, nat_le, Bool, true, false, not, ◌&&◌, ◌||◌, List, bytes_eq}
 use Rattle.std.specs.Ordering.{int_eq}
-use Rattle.dsql_tenure.specs.Readers.{is_empty}
+use Rattle.dsql_journal.specs.Readers.{is_empty}
 use Rattle.dsql_history.specs.declared.event.Event.{Event}
 use Rattle.dsql_history.specs.declared.event.Event.TheVariants.{Replied}
 use Rattle.dsql_history.specs.declared.reply.Reply.{Reply}

@@ -5,7 +5,7 @@ use Rattle.dsql_driver.specs.declared.call.DriverCall.{DriverCall}
 use Rattle.dsql_driver.specs.declared.call.DriverCall.TheVariants.{Exec}
 use Rattle.dsql_driver.specs.declared.call.Input.TheVariants.{Text}
 use Rattle.dsql_driver.specs.declared.answer.DriverAnswer.{DriverAnswer}
-use Rattle.dsql_tenure.specs.declared.entry.Owner.TheVariants.{Call, House}
+use Rattle.dsql_journal.specs.declared.entry.Owner.TheVariants.{Call, House}
 use Rattle.dsql_history.specs.declared.event.Event.{Event}
 use Rattle.dsql_history.specs.declared.event.Event.TheVariants.{Run, Entered, Heard, Pool}
 use Rattle.dsql_history.specs.declared.event.Op.TheVariants as ops

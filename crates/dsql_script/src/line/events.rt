@@ -11,7 +11,7 @@ use crate::line::parts::worded;
 use crate::line::values::text_json;
 use dsql_driver::Caps;
 use dsql_history::{CloseCause, Event, Move, Op, Reply};
-use dsql_tenure::{Entry, Owner};
+use dsql_journal::{Entry, Owner};
 use dsql_value::Memory;
 use serde_json::Value;
 use std::alloc::Global;

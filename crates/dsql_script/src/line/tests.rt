@@ -1,7 +1,7 @@
 use crate::line::event_line;
 use dsql_driver::{DriverAnswer, DriverCall, Input, Level};
 use dsql_history::{Event, Move, Reply};
-use dsql_tenure::{Entry, Owner};
+use dsql_journal::{Entry, Owner};
 use dsql_value::{Bin, Items, Param, Txt, Value};
 use std::alloc::Global;
 use std::process::Abort;

@@ -1,6 +1,6 @@
 use Rattle.std.proofs.Common.{◌≡◌}
 use Rattle.dsql_driver.specs.Fits.{is_done}
-use Rattle.dsql_tenure.specs.Entries.{connect_entry}
+use Rattle.dsql_journal.specs.Entries.{connect_entry}
 use Rattle.dsql_player.proofs.Awaiting.{chore_opens}
 use Rattle.dsql_player.proofs.Opening.{opened, open_is, open_turn, open_carries, open_tells, open_fits, none_before}
 use Rattle.dsql_player.proofs.Telling.{retires_none}

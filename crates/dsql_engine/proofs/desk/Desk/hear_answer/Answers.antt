@@ -1,7 +1,7 @@
 use Rattle.std.proofs.Common.{◌≡◌, ap, sym, ◌∙◌, ℕ}
-use Rattle.dsql_tenure.specs.declared.entry.Owner.{Owner}
-use Rattle.dsql_tenure.specs.declared.entry.Owner.TheVariants.{Call}
-use Rattle.dsql_tenure.specs.declared.entry.Permit.{Permit}
+use Rattle.dsql_journal.specs.declared.entry.Owner.{Owner}
+use Rattle.dsql_journal.specs.declared.entry.Owner.TheVariants.{Call}
+use Rattle.dsql_journal.specs.declared.entry.Permit.{Permit}
 use Rattle.dsql_history.specs.declared.record.Place.TheVariants.{Lent}
 use Rattle.dsql_history.specs.Readers.Sets.{place}
 use Rattle.dsql_history.specs.Readers.Calls.{call_record}

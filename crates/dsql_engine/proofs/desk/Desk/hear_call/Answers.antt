@@ -1,10 +1,10 @@
 use Rattle.std.proofs.Common.{◌≡◌, ◌∷◌, ap, sym, subst, ◌∙◌, refl}
-use Rattle.dsql_tenure.specs.Kinds.{is_bad}
-use Rattle.dsql_tenure.specs.Readers.{went_bad}
-use Rattle.dsql_tenure.specs.declared.entry.Entry.{Entry}
-use Rattle.dsql_tenure.specs.declared.entry.Permit.{Permit}
-use Rattle.dsql_tenure.specs.Permits.{entry_of}
-use Rattle.dsql_tenure.specs.Entries.{call_entry}
+use Rattle.dsql_journal.specs.Kinds.{is_bad}
+use Rattle.dsql_journal.specs.Readers.{went_bad}
+use Rattle.dsql_journal.specs.declared.entry.Entry.{Entry}
+use Rattle.dsql_journal.specs.declared.entry.Permit.{Permit}
+use Rattle.dsql_journal.specs.Permits.{entry_of}
+use Rattle.dsql_journal.specs.Entries.{call_entry}
 use Rattle.dsql_history.specs.declared.event.Event.TheVariants.{Heard}
 use Rattle.dsql_history.specs.Readers.Course.{caps}
 use Rattle.dsql_history.specs.Readers.Journals.{journal}

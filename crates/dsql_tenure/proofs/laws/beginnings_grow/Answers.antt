@@ -1,5 +1,0 @@
-use Rattle.dsql_tenure.proofs.Beginnings.{IsJournalPrefix-cons}
-use Rattle.dsql_tenure.proofs.laws.beginnings_grow.Goals as goal
-
-pub returns : goal.returns
-returns c = IsJournalPrefix-cons
