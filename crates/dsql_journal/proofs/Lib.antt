@@ -5,4 +5,5 @@ pub mod Tenures
 pub mod Wholes
 pub mod Numbers
 pub mod Examples
+pub mod ExecLines
 pub mod ExecJournals
