@@ -2,11 +2,15 @@
 //! type `Value`, with the text, byte and list types that every other crate names.
 #![tactic(auto)]
 
+mod arg;
+mod check;
 mod items;
 mod memory;
 mod text;
 mod value;
 
+pub use arg::{Arg, ArgFault, Args, Named};
+pub use check::{check_args, driver_value};
 pub use items::Items;
 pub use memory::Memory;
 pub use text::{Bin, Txt};
