@@ -5,6 +5,7 @@
 mod arg;
 mod check;
 mod items;
+pub mod laws;
 mod memory;
 mod text;
 mod value;
