@@ -43,7 +43,7 @@ pub all_lettered : (named_ok : Bool) (list : List Named) → first_fault named_o
     → All (λ n. IfSome n.name (λ name. begins_with_letter name ≡ true)) list
 all_lettered named_ok list h =
     All-weaker (IsAccepted named_ok) (λ (n : Named). IfSome n.name (λ name. begins_with_letter name ≡ true))
-      (λ n a. name_is_lettered named_ok n.name (name_accepted named_ok n a)) list (all_accepted named_ok list h)
+    (λ n a. name_is_lettered named_ok n.name (name_accepted named_ok n a)) list (all_accepted named_ok list h)
 
 accepted_with_names : (named : Named) → IsAccepted false named → IsAccepted true named
 accepted_with_names named h =

@@ -21,7 +21,7 @@ further named_ok named rest fault accepted found = record {
   behind = found.behind;
   stands = ap (λ (l : List Named). named ∷ l) found.stands;
   accepted = All-cons (IsAccepted named_ok) named found.before accepted found.accepted;
-  refused = found.refused
+  refused = found.refused;
 }
 
 at_the_head : (named_ok : Bool) (named : Named) (rest : List Named) (fault : ArgFault) (own : Option ArgFault)
@@ -34,7 +34,7 @@ at_the_head named_ok named rest fault (Some x) own-is h found = record {
   behind = rest;
   stands = refl;
   accepted = All-nil (IsAccepted named_ok);
-  refused = own-is ∙ h
+  refused = own-is ∙ h;
 }
 at_the_head named_ok named rest fault None own-is h found = further named_ok named rest fault own-is (found h)
 

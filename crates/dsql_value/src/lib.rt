@@ -1,5 +1,6 @@
 //! Values that go to a driver and come back from it, as Go's `database/sql/driver` has them in its
-//! type `Value`, with the text, byte and list types that every other crate names.
+//! type `Value`, and the arguments of callers that become such values, with the text, byte and list
+//! types that every other crate names.
 #![tactic(auto)]
 
 mod arg;

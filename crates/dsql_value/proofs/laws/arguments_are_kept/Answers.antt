@@ -8,5 +8,5 @@ returns c = record {
   number = λ list. length-map list param_of;
   names = same_names;
   values = same_values;
-  joined = params_of-append
+  joined = params_of-append;
 }
