@@ -1,12 +1,18 @@
 //! Values that go to a driver and come back from it, as Go's `database/sql/driver` has them in its
-//! type `Value`, with the text, byte and list types that every other crate names.
+//! type `Value`, and the arguments of callers that become such values, with the text, byte and list
+//! types that every other crate names.
 #![tactic(auto)]
 
+mod arg;
+mod check;
 mod items;
+pub mod laws;
 mod memory;
 mod text;
 mod value;
 
+pub use arg::{Arg, ArgFault, Args, Named};
+pub use check::{check_args, driver_value};
 pub use items::Items;
 pub use memory::Memory;
 pub use text::{Bin, Txt};

@@ -65,6 +65,15 @@ impl Clone for Txt {
     }
 }
 
+pub(crate) fn copy_of_optional(text: &Option<Txt>) -> Result<Option<Txt>, AllocError>
+    ensures { IfOk result (λ t. t ≡ text.now) }
+{
+    match text {
+        Some(text) => Ok(Some(text.clone()?)),
+        None => Ok(None),
+    }
+}
+
 /// Bytes that may be no text, as Go's `[]byte` holds them. Contracts see them as a list.
 #[derive(Debug, Drop)]
 pub struct Bin {

@@ -1,7 +1,7 @@
 ghost use Rattle.std.specs.Prelude.{◌≡◌};
 
 use crate::items::Items;
-use crate::text::{Bin, Txt};
+use crate::text::{Bin, Txt, copy_of_optional};
 use std::alloc::AllocError;
 
 /// What a driver takes and gives, as Go's `driver.Value`. `Time` counts nanoseconds since 1970.
@@ -41,10 +41,7 @@ impl Clone for Param {
     ghost is_clone = { λ x y. y ≡ x };
 
     fn clone(&self) -> Result<Param, AllocError> {
-        let name = match &self.name {
-            Some(name) => Some(name.clone()?),
-            None => None,
-        };
+        let name = copy_of_optional(&self.name)?;
         let value = self.value.clone()?;
         Ok(Param { name, value })
     }
