@@ -4,3 +4,4 @@ pub mod SoundCalls
 pub mod Lines
 pub mod Standing
 pub mod SoundJournals
+pub mod SoundReplies

@@ -1,7 +1,8 @@
 -- The calls of each lawful history, and what they hold, by induction: a lemma for each kind of event.
-use Rattle.std.proofs.Common.{◌≡◌, ◌≢◌, ℕ, ◌<◌, ◌≤◌, ◌+◌, ◌==◌, ◌⊎◌, inl, inr, Bool, true, false, not, ◌&&◌, ◌||◌, cond, ap, List, [], ◌∷◌, length, refl, arith, zero, suc, get_or, set, length-set, None, sym, ◌∙◌}
+use Rattle.std.proofs.Common.{◌≡◌, ◌≢◌, ℕ, ◌<◌, ◌≤◌, ◌+◌, ◌==◌, ◌⊎◌, inl, inr, Bool, true, false, not, ◌&&◌, ◌||◌, cond, ap, List, [], ◌∷◌, length, refl, arith, zero, suc, get_or, set, length-set, None, is_none, sym, ◌∙◌}
 use Rattle.std.proofs.lemmas.Grind.{common_steps}
 use Rattle.std.proofs.lemmas.Bool.Decides.{nat_tests}
+use Rattle.dsql_value.specs.Arguments.{params_of}
 use Rattle.dsql_driver.specs.Fits.{is_done}
 use Rattle.dsql_journal.specs.declared.entry.Entry.{Entry}
 use Rattle.dsql_journal.specs.declared.entry.Owner.{Owner}
@@ -18,9 +19,9 @@ use Rattle.dsql_history.specs.declared.record.Place.TheVariants.{Nowhere, Openin
 use Rattle.dsql_history.specs.declared.record.CallRecord.{CallRecord}
 use Rattle.dsql_history.specs.declared.reply.Reply.{Reply}
 use Rattle.dsql_history.specs.Readers.Lists.{last}
-use Rattle.dsql_history.specs.Readers.Course.{has_ended}
+use Rattle.dsql_history.specs.Readers.Course.{caps, has_ended}
 use Rattle.dsql_history.specs.Readers.Sets.{places, place, idle, is_idle, is_opening, is_for, number_of, next_number, next_tenure}
-use Rattle.dsql_history.specs.Readers.Calls.{calls, home, unfinished, is_unfinished, next_call, nobody, with_record, statement, is_busy, decision, refusal}
+use Rattle.dsql_history.specs.Readers.Calls.{calls, home, unfinished, is_unfinished, next_call, nobody, with_record, call_record, has_not_asked, statement, arguments, refused_at_entry, is_busy, decision, refusal}
 use Rattle.dsql_history.specs.Rules.House.{is_quiet, has_no_chore}
 use Rattle.dsql_history.specs.Rules.Moves.{moves_from, numbers_lending}
 use Rattle.dsql_history.specs.Rules.Asking.{may_ask, takes_latest}
@@ -55,13 +56,15 @@ owner_of House h = absurd cc
 pub record Asked (H : List Event) (n : ℕ) : Type 0 where
   pub under_way : is_unfinished H n ≡ true
   pub homeless : home H n ≡ 0
+  pub undecided : is_none (call_record H n).decided ≡ true
   pub not_ended : has_ended H ≡ false
 
 pub asked : (H : List Event) (n : ℕ) → may_ask H n ≡ true → Asked H n
 asked H n h =
-    let a = both (is_unfinished H n && (home H n == 0)) (not (has_ended H)) h in
-    let b = both (is_unfinished H n) (home H n == 0) a.0 in
-    record { under_way = b.0; homeless = same_number (home H n) 0 b.1; not_ended = not_true (has_ended H) a.1 }
+    let a = both (is_unfinished H n && has_not_asked H n) (not (has_ended H)) h in
+    let b = both (is_unfinished H n) (has_not_asked H n) a.0 in
+    let k = both (home H n == 0) (is_none (call_record H n).decided) b.1 in
+    record { under_way = b.0; homeless = same_number (home H n) 0 k.0; undecided = k.1; not_ended = not_true (has_ended H) a.1 }
 
 -- the connection was opened for the call just now
 pub record Opened (H : List Event) (c n : ℕ) : Type 0 where
@@ -231,7 +234,7 @@ calls_same H e s p u end home_is len = record {
 }
 
 entered_home : (H : List Event) (k n : ℕ) (op : Op) (m : ℕ) → home (Entered k n op ∷ H) m ≡ home H m
-entered_home H k n op m = grind (arith, read_push (calls H) (record { client = k; home = 0; text = statement op; decided = None }) m nobody, within_rows (calls H) m nobody)
+entered_home H k n op m = grind (arith, read_push (calls H) (record { client = k; home = 0; text = statement op; params = params_of (arguments op); decided = refused_at_entry (caps H) op }) m nobody, within_rows (calls H) m nobody)
 
 calls_entered : (H : List Event) (k n : ℕ) (op : Op) → SoundCalls H → n ≡ length (calls H) → SoundCalls (Entered k n op ∷ H)
 calls_entered H k n op s new = record {
@@ -259,8 +262,8 @@ heard_length cs false n f = length-with_record n f cs
 calls_heard : (H : List Event) (e : Entry) → SoundCalls H → SoundCalls (Heard e ∷ H)
 calls_heard H e s =
     calls_same H (Heard e) s refl refl refl
-    (λ m. heard_home (calls H) (e.call_no == 0) e.call_no (λ r. record r { decided = decision e.call e.answer r.decided }) m (λ r. refl))
-    (heard_length (calls H) (e.call_no == 0) e.call_no (λ r. record r { decided = decision e.call e.answer r.decided }))
+    (λ m. heard_home (calls H) (e.call_no == 0) e.call_no (λ r. record r { decided = decision (length r.params) e.call e.answer r.decided }) m (λ r. refl))
+    (heard_length (calls H) (e.call_no == 0) e.call_no (λ r. record r { decided = decision (length r.params) e.call e.answer r.decided }))
 
 replied_home : (H : List Event) (n : ℕ) (reply : Reply) (m : ℕ) → home (Replied n reply ∷ H) m ≡ home H m
 replied_home H n reply m = same_home (calls H) n m (λ r. record r { decided = None }) (λ r. refl)
@@ -321,13 +324,13 @@ calls_start = record {
   ended_none = λ h. absurd cc;
 }
 
-entered_facts : (H : List Event) (k n : ℕ) (op : Op) → Allowed H (Entered k n op) → n ≡ length (calls H)
+pub entered_facts : (H : List Event) (k n : ℕ) (op : Op) → Allowed H (Entered k n op) → n ≡ length (calls H)
 unfolding Allowed
 entered_facts H k n op a =
     let h = both (n == next_call H) (not (is_busy k H)) a.numbers in
     same_number n (next_call H) h.0
 
-replied_facts : (H : List Event) (n : ℕ) (reply : Reply) → Allowed H (Replied n reply) → is_for n (place H (home H n)) ≡ false
+pub replied_facts : (H : List Event) (n : ℕ) (reply : Reply) → Allowed H (Replied n reply) → is_for n (place H (home H n)) ≡ false
 unfolding Allowed
 replied_facts H n reply a =
     let h = both (has_let_go H n) (has_cause H n reply) a.replies in

@@ -31,6 +31,7 @@ use Rattle.dsql_history.specs.Readers.Journals.{journal, heard_in, ends_invalid}
 use Rattle.dsql_history.specs.Rules.Order.{follows, follows_answer, lends_to, falls_to, goes, leaves_when_heard, was_just_heard, was_just_opened}
 use Rattle.dsql_history.specs.Rules.Moves.{moves_from, numbers_lending, hears_in}
 use Rattle.dsql_history.specs.Rules.Causes.{returns_from}
+use Rattle.dsql_history.specs.Rules.Line as line
 use Rattle.dsql_history.specs.Rules.Line.{sends_from, is_reset_due, due, is_due}
 use Rattle.dsql_history.specs.Rules.Settled.{is_placed}
 use Rattle.dsql_history.specs.Legal.{Allowed, Lawful, has_left, KeepsJournals}
@@ -177,22 +178,23 @@ stands_lend H c t o n z s a f d =
     refl
     (row_off (places H) c (Lent t o) d Nowhere not))
 
--- a connection that is given back is kept
-back_kept : (H : List Event) (c : ℕ) → Allowed H (Pool (Back c)) → returns_from H (place H c) c ≡ true
+-- a connection that is given back is kept, and its call has nothing more to send
+back_kept : (H : List Event) (c : ℕ) → Allowed H (Pool (Back c)) → (returns_from H (place H c) c ≡ true) × (line.leaves_from H (place H c) c ≡ true)
 unfolding Allowed
-back_kept H c a = a.causes
+back_kept H c a = (a.causes, a.line)
 
 -- a connection that is given back is one that was lent
 rests_back : (H : List Event) (c : ℕ) (q : Place) → StandsIn H c → place H c ≡ q → is_lent q || is_opening q ≡ true → not (is_opening q) ≡ true → returns_from H q c ≡ true
-    → Rests c (lends H c) (journal H c)
-rests_back H c (Lent t (Call n)) s p moves when kept = rests_again c (lends H c) t n (journal H c) (has_ended H) (length (idle H)) (rw p at s) kept
-rests_back H c (Lent t (Tx n)) s p moves when kept = absurd (rw p at s)
-rests_back H c (Lent t (Pin n)) s p moves when kept = absurd (rw p at s)
-rests_back H c (Lent t House) s p moves when kept = absurd (rw p at s)
-rests_back H c (Opening n) s p moves when kept = absurd cc
-rests_back H c Nowhere s p moves when kept = absurd cc
-rests_back H c Idle s p moves when kept = absurd cc
-rests_back H c Closing s p moves when kept = absurd cc
+    → line.leaves_from H q c ≡ true → Rests c (lends H c) (journal H c)
+rests_back H c (Lent t (Call n)) s p moves when kept over =
+    rests_again c (lends H c) t n (journal H c) (has_ended H) (length (idle H)) (caps H) (is_reset_due H c) (call_record H n).text (call_record H n).params (rw p at s) kept over
+rests_back H c (Lent t (Tx n)) s p moves when kept over = absurd (rw p at s)
+rests_back H c (Lent t (Pin n)) s p moves when kept over = absurd (rw p at s)
+rests_back H c (Lent t House) s p moves when kept over = absurd (rw p at s)
+rests_back H c (Opening n) s p moves when kept over = absurd cc
+rests_back H c Nowhere s p moves when kept over = absurd cc
+rests_back H c Idle s p moves when kept over = absurd cc
+rests_back H c Closing s p moves when kept over = absurd cc
 
 -- a connection that is to be closed was idle or lent
 leaves_from : (H : List Event) (c : ℕ) (q : Place) → StandsIn H c → place H c ≡ q → is_idle q || is_lent q || is_opening q ≡ true → not (is_opening q) ≡ true
@@ -218,10 +220,10 @@ row_closing H c q p moves = row_of H c (λ e. go q (sym p ∙ e) moves)
     go : (r : Place) → r ≡ Nowhere → is_idle r || is_lent r || is_opening r ≡ true → ⊥
     go r e h = let k = rw e at h in cc
 
-stands_back : (H : List Event) (c : ℕ) → SoundJournals H → MoveFacts H (Back c) → returns_from H (place H c) c ≡ true → (d : ℕ) → StandsIn (Pool (Back c) ∷ H) d
+stands_back : (H : List Event) (c : ℕ) → SoundJournals H → MoveFacts H (Back c) → (returns_from H (place H c) c ≡ true) × (line.leaves_from H (place H c) c ≡ true) → (d : ℕ) → StandsIn (Pool (Back c) ∷ H) d
 stands_back H c s a kept d =
     by_number c d (StandsIn (Pool (Back c) ∷ H))
-    (rw (row_at (places H) c Idle Nowhere (row_lent H c (place H c) refl a.moves)) (rests_back H c (place H c) (s.stands c) refl a.moves a.when kept))
+    (rw (row_at (places H) c Idle Nowhere (row_lent H c (place H c) refl a.moves)) (rests_back H c (place H c) (s.stands c) refl a.moves a.when kept.0 kept.1))
     (λ not. untouched H (Pool (Back c)) d s a.follows refl refl refl refl (row_off (places H) c Idle d Nowhere not))
 
 stands_close : (H : List Event) (c : ℕ) (k : CloseCause) → SoundJournals H → MoveFacts H (CloseStart c k) → (d : ℕ) → StandsIn (Pool (CloseStart c k) ∷ H) d
@@ -273,7 +275,7 @@ heard_at H e (Lent t (Call n)) s p fits sends may quiet =
     let a = both (not (is_connect e.call || is_shut e.call) && (e.tenure == t) && same_owner e.owner (Call n)) (e.call_no == n) fits in
     let b = both (not (is_connect e.call || is_shut e.call) && (e.tenure == t)) (same_owner e.owner (Call n)) a.0 in
     let k = both (not (is_connect e.call || is_shut e.call)) (e.tenure == t) b.0 in
-    works_heard e.conn (lends H e.conn) t n (journal H e.conn) e (caps H) (is_reset_due H e.conn) (call_record H n).text (rw p at s) may refl
+    works_heard e.conn (lends H e.conn) t n (journal H e.conn) e (caps H) (is_reset_due H e.conn) (call_record H n).text (call_record H n).params (rw p at s) may refl
     (same_number e.tenure t k.1) (call_owner e.owner n b.1) (same_number e.call_no n a.1) sends
 heard_at H e (Lent t (Tx n)) s p fits sends may quiet = absurd (rw p at s)
 heard_at H e (Lent t (Pin n)) s p fits sends may quiet = absurd (rw p at s)
@@ -404,16 +406,15 @@ pub good_while_due : (H : List Event) (c t n : ℕ) → Lawful H → place H c �
 good_while_due H c t n l is some =
     let s = stands_at H c (Lent t (Call n)) l is in
     let v = s.serves in
-    good_now (journal H c) (v.good (due_while (caps H) (is_reset_due H c) (call_record H n).text (heard_in H c t) some))
+    good_now (journal H c) (v.good (due_while (caps H) (is_reset_due H c) (call_record H n).text (call_record H n).params (heard_in H c t) some))
 
 -- what is due may follow, whatever it is answered
 pub follows_due : (H : List Event) (e : Entry) (t n : ℕ) → Lawful H → place H e.conn ≡ Lent t (Call n) → is_due (due H e.conn t n) e.call ≡ true → e.tenure ≡ t → e.owner ≡ Call n → e.call_no ≡ n
     → e.tx ≡ 0 → fits_of e.call e.answer ≡ true → is_memory e.answer ≡ false → may_follow (journal H e.conn) e ≡ true
 follows_due H e t n l is due tenure owner number tx fit heard =
     let s = stands_at H e.conn (Lent t (Call n)) l is in
-    let all = sound_journals H l in
     let same : e ≡ call_entry e.conn t n e.call e.answer = call_entry_of e.conn t n e refl tenure owner number tx in
-    let may = may_follow-due e.conn t n (journal H e.conn) (caps H) (is_reset_due H e.conn) (call_record H n).text e.call e.answer (all.beginnings e.conn) s.serves due fit heard in
+    let may = may_follow-due e.conn t n (journal H e.conn) (caps H) (is_reset_due H e.conn) (call_record H n).text (call_record H n).params e.call e.answer s.serves due fit heard in
     subst (λ (x : Entry). may_follow (journal H e.conn) x ≡ true) (sym same) may
 
 -- where nothing has to come as the very next event, no Connect or Shut was heard just now

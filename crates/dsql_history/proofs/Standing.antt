@@ -1,7 +1,8 @@
 -- What was heard of a connection, by where it stands: facts of one connection alone.
-use Rattle.std.proofs.Common.{◌≡◌, ℕ, ◌≤◌, ◌+◌, ◌==◌, Bool, true, false, not, ◌&&◌, ◌||◌, List, [], ◌∷◌, refl, sym, ◌∙◌, subst}
+use Rattle.std.proofs.Common.{◌≡◌, ℕ, ◌≤◌, ◌+◌, ◌==◌, Bool, true, false, not, ◌&&◌, ◌||◌, List, [], ◌∷◌, is_none, refl, sym, ◌∙◌, subst}
 use native.Mathlib.Omega.{arith}
 use Rattle.std.proofs.lemmas.Bool.Decides.{nat_tests}
+use Rattle.dsql_value.specs.declared.value.Param.{Param}
 use Rattle.dsql_driver.specs.Fits.{is_done}
 use Rattle.dsql_driver.specs.declared.caps.Caps.{Caps}
 use Rattle.dsql_driver.specs.declared.call.DriverCall.{DriverCall}
@@ -12,13 +13,14 @@ use Rattle.dsql_journal.specs.declared.entry.Entry.{Entry}
 use Rattle.dsql_journal.specs.declared.entry.Owner.{Owner}
 use Rattle.dsql_journal.specs.declared.entry.Owner.TheVariants.{Call, Tx, Pin, House}
 use Rattle.dsql_journal.specs.Kinds.{◌⇒◌, is_connect, is_house, is_reset, is_valid}
-use Rattle.dsql_journal.specs.Readers.{of_tenure, last_tenure, went_bad, went_invalid}
+use Rattle.dsql_journal.specs.Readers.{of_tenure, last_tenure, handles, went_bad, went_invalid}
 use Rattle.dsql_journal.specs.Journal.{may_follow, IsJournalPrefix}
 use Rattle.dsql_journal.specs.Facts.{MayFollow}
 use Rattle.dsql_journal.specs.Entries.{call_entry, connect_entry}
 use Rattle.dsql_journal.specs.ExecJournals.{Plain, Good}
 use Rattle.dsql_journal.proofs.Sentences.{MayFollow-of}
-use Rattle.dsql_journal.proofs.ExecJournals.{Plain-connect, Good-connect}
+use Rattle.dsql_journal.proofs.ExecLines.{is_sent}
+use Rattle.dsql_journal.proofs.ExecJournals.{Plain-connect, Good-connect, went_bad-in}
 use Rattle.dsql_history.specs.declared.record.Place.{Place}
 use Rattle.dsql_history.specs.declared.record.Place.TheVariants.{Nowhere, Opening, Idle, Lent, Closing}
 use Rattle.dsql_history.specs.Readers.Journals.{ends_invalid}
@@ -26,7 +28,7 @@ use Rattle.dsql_history.specs.Readers.Sets.{is_opening, is_closing}
 use Rattle.dsql_history.specs.Rules.Causes.{cause_when, is_kept}
 use Rattle.dsql_history.specs.Rules.Line.{line_after, is_due}
 use Rattle.dsql_history.proofs.Rows.{same_number}
-use Rattle.dsql_history.proofs.Lines.{Serves, serves_first, serves_on, sent_of, is_sent, call_entry_of, entry_with, same_parts}
+use Rattle.dsql_history.proofs.Lines.{Serves, serves_first, serves_on, sent_of, ends_bad, none_left, call_entry_of, entry_with, same_parts}
 
 -- Below l is how often the connection c was lent, u how often to another owner than the House, J its journal, heard whether something
 -- was heard of it just now, and opened whether its Connect was answered Done just now.
@@ -42,6 +44,7 @@ pub record Opens (c l u : ℕ) (heard opened : Bool) (J : List Entry) : Type 0 w
 pub record Rests (c l : ℕ) (J : List Entry) : Type 0 where
   pub plain : Plain c J
   pub good : Good J
+  pub none : handles J ≡ []
   pub below : last_tenure J ≤ l + 1
 
 -- it is being closed, and was not shut yet
@@ -76,7 +79,7 @@ stands_on c l u heard opened J Closing s h = λ k. s (h refl)
 
 -- a connection that is lent out of idle, or as it was opened
 pub works_first : (c l t n : ℕ) (J : List Entry) → IsJournalPrefix J → Rests c l J → t ≡ l + 2 → Works c (l + 1) t n J
-works_first c l t n J beginning s is = record { tenure = omega arith; serves = serves_first c t n J beginning s.plain s.good (omega (arith, s.below)) }
+works_first c l t n J beginning s is = record { tenure = omega arith; serves = serves_first c t n J beginning s.plain s.good s.none (omega (arith, s.below)) }
 
 pub rests_opened : (c l u : ℕ) (heard : Bool) (J : List Entry) → Opens c l u heard true J → Rests c l J
 rests_opened c l u heard J s =
@@ -84,6 +87,7 @@ rests_opened c l u heard J s =
     record {
       plain = rw is (Plain-connect c);
       good = rw is (Good-connect c);
+      none = rw is refl;
       below = rw is (omega arith);
     }
 
@@ -92,12 +96,26 @@ kept_well true invalid closed n h = absurd cc
 kept_well false true closed n h = absurd cc
 kept_well false false closed n h = (refl, refl)
 
+-- the last answer of a tenure is one of its connection
+not_bad_in : (t : ℕ) (J : List Entry) → went_bad J ≡ false → ends_bad (of_tenure t J) ≡ false
+not_bad_in t J good = by_list (of_tenure t J) (went_bad-in t J good)
+  where
+    by_list : (L : List Entry) → went_bad L ≡ false → ends_bad L ≡ false
+    by_list [] h = refl
+    by_list (e ∷ L) h = grind (arith, h)
+
 -- a connection that is given back and kept
-pub rests_again : (c l t n : ℕ) (J : List Entry) (closed : Bool) (idle : ℕ) → Works c l t n J → is_kept (cause_when (went_bad J) (ends_invalid J) closed idle) ≡ true → Rests c l J
-rests_again c l t n J closed idle s kept =
+pub rests_again : (c l t n : ℕ) (J : List Entry) (closed : Bool) (idle : ℕ) (can : Caps) (reset : Bool) (text : List ℕ) (params : List Param) → Works c l t n J
+    → is_kept (cause_when (went_bad J) (ends_invalid J) closed idle) ≡ true → is_none (line_after can reset text params (of_tenure t J)) ≡ true → Rests c l J
+rests_again c l t n J closed idle can reset text params s kept over =
     let k = kept_well (went_bad J) (ends_invalid J) closed idle kept in
     let v = s.serves in
-    record { plain = v.plain; good = record { not_bad = k.0; not_invalid = v.tested k.1 }; below = omega (arith, v.rising, s.tenure) }
+    record {
+      plain = v.plain;
+      good = record { not_bad = k.0; not_invalid = v.tested k.1 };
+      none = v.live ∙ none_left t n can reset text params (of_tenure t J) v.so_far over (not_bad_in t J k.0);
+      below = omega (arith, v.rising, s.tenure);
+    }
 
 -- a connection that closes out of idle or lent
 pub leaves_idle : (c l : ℕ) (J : List Entry) → Rests c l J → Leaves c l J
@@ -149,15 +167,15 @@ call_tx Valid x sent h k = same_number x 0 h
 call_tx _ x sent h k = k refl
 
 -- an exec's next driver call was heard
-pub works_heard : (c l t n : ℕ) (J : List Entry) (e : Entry) (can : Caps) (reset : Bool) (text : List ℕ) → Works c l t n J → may_follow J e ≡ true → e.conn ≡ c
-    → e.tenure ≡ t → e.owner ≡ Call n → e.call_no ≡ n → is_due (line_after can reset text (of_tenure t J)) e.call ≡ true → Works c l t n (e ∷ J)
-works_heard c l t n J e can reset text s may conn tenure owner number due =
+pub works_heard : (c l t n : ℕ) (J : List Entry) (e : Entry) (can : Caps) (reset : Bool) (text : List ℕ) (params : List Param) → Works c l t n J → may_follow J e ≡ true → e.conn ≡ c
+    → e.tenure ≡ t → e.owner ≡ Call n → e.call_no ≡ n → is_due (line_after can reset text params (of_tenure t J)) e.call ≡ true → Works c l t n (e ∷ J)
+works_heard c l t n J e can reset text params s may conn tenure owner number due =
     let m : MayFollow J e = MayFollow-of J e may in
     let tx : e.tx ≡ 0 =
-    call_tx e.call e.tx (sent_of (line_after can reset text (of_tenure t J)) e.call due) m.tenure.tests
+    call_tx e.call e.tx (sent_of (line_after can reset text params (of_tenure t J)) e.call due) m.tenure.tests
     (λ body. let b = rw owner at (m.tenure.in_body body) in same_number e.tx 0 b.no_transaction) in
     let is : e ≡ call_entry c t n e.call e.answer = call_entry_of c t n e conn tenure owner number tx in
-    record { tenure = s.tenure; serves = subst (λ (x : Entry). Serves c t n (x ∷ J)) (sym is) (serves_on c t n J can reset text e.call e.answer s.serves due m.answer.fitting) }
+    record { tenure = s.tenure; serves = subst (λ (x : Entry). Serves c t n (x ∷ J)) (sym is) (serves_on c t n J can reset text params e.call e.answer s.serves due m.answer.fitting) }
 
 -- where all is Good nothing was answered Bad, and no test failed just now
 pub good_now : (J : List Entry) → Good J → (went_bad J ≡ false) × (ends_invalid J ≡ false)

@@ -1,13 +1,13 @@
 use crate::reply::Reply;
 use dsql_driver::Caps;
 use dsql_journal::{Entry, Owner};
-use dsql_value::Txt;
+use dsql_value::{Args, Txt};
 
 /// What a client asks of the layer.
 #[derive(Clone, Debug, Drop)]
 pub enum Op {
-    /// `DB.ExecContext` of a text without arguments.
-    Exec { text: Txt },
+    /// `DB.ExecContext` of a text with arguments.
+    Exec { text: Txt, args: Args },
 }
 
 /// Why a connection is closed.

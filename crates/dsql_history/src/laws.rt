@@ -1,7 +1,7 @@
 //! What holds of every lawful history: each law is the contract of a function that does nothing. A
 //! history is read newest first.
 
-ghost use Rattle.std.specs.Prelude.{◌≡◌, ◌<◌, ◌≤◌, ◌+◌, ℕ, true, false, List, [], ◌∷◌, length, is_some};
+ghost use Rattle.std.specs.Prelude.{◌≡◌, ◌<◌, ◌≤◌, ◌+◌, ℕ, true, false, List, [], ◌∷◌, length, is_none, is_some};
 ghost use Rattle.dsql_driver.specs.Fits.{fits_of, is_memory};
 ghost use Rattle.dsql_driver.specs.declared.answer.DriverAnswer.{DriverAnswer};
 ghost use Rattle.dsql_driver.specs.declared.call.DriverCall.TheVariants.{Connect, Shut};
@@ -17,7 +17,7 @@ ghost use Rattle.dsql_history.specs.declared.event.Event.{Event};
 ghost use Rattle.dsql_history.specs.declared.event.Event.TheVariants.{Heard};
 ghost use Rattle.dsql_history.specs.declared.record.Place.TheVariants.{Nowhere, Opening, Lent, Closing};
 ghost use Rattle.dsql_history.specs.Legal.{Lawful, KeepsJournals};
-ghost use Rattle.dsql_history.specs.Readers.Calls.{calls, home, is_unfinished};
+ghost use Rattle.dsql_history.specs.Readers.Calls.{calls, home, is_unfinished, reply_due};
 ghost use Rattle.dsql_history.specs.Readers.Course.{has_ended};
 ghost use Rattle.dsql_history.specs.Readers.Journals.{journal, ends_invalid};
 ghost use Rattle.dsql_history.specs.Readers.Sets.{places, place, idle, is_idle, is_for, lends, next_tenure};
@@ -52,6 +52,11 @@ pub fn tenures_of_lawful_histories()
     ensures tenure { (history : List Event) (c t : ℕ) (owner : Owner) → Lawful history → place history c ≡ Lent t owner → t ≡ lends history c + 1 }
     ensures whole { (history : List Event) (c t n : ℕ) → Lawful history → place history c ≡ Lent t (Call n) → is_whole_tenure t (journal history c) ≡ true }
     ensures good { (history : List Event) (c t n : ℕ) → Lawful history → place history c ≡ Lent t (Call n) → is_some (due history c t n) ≡ true → (went_bad (journal history c) ≡ false) × (ends_invalid (journal history c) ≡ false) }
+{}
+
+/// Where a call has nothing more to send on the connection that is lent to it, its reply is settled.
+pub fn replies_of_lawful_histories()
+    ensures { (history : List Event) (c t n : ℕ) → Lawful history → place history c ≡ Lent t (Call n) → is_none (due history c t n) ≡ true → is_some (reply_due history n) ≡ true }
 {}
 
 /// Whatever a driver answers to the call that is due, to a Connect or to a Shut, if only it fits the

@@ -1,6 +1,6 @@
 use crate::reply::Reply;
 use dsql_journal::Owner;
-use dsql_value::Txt;
+use dsql_value::{Params, Txt};
 
 /// Where a connection stands: in one of the four sets, or in none.
 #[derive(Clone, Copy, Debug, PartialEq, Eq)]
@@ -26,6 +26,8 @@ pub struct CallRecord {
     pub home: u32,
     /// The text of its statement.
     pub text: Txt,
-    /// The reply that its deciding answer gives, where that was heard.
+    /// The parameters that its arguments become.
+    pub params: Params,
+    /// The reply that is settled: by its arguments, where they are refused, else by its deciding answer.
     pub decided: Option<Reply>,
 }

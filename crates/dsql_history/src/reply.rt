@@ -1,8 +1,5 @@
 use dsql_value::Txt;
 
-/// The text of Go's `driver.ErrSkip`.
-pub const SKIPPED: &str = "driver: skip fast-path; continue as if unimplemented";
-
 /// What a call is answered.
 #[derive(Clone, Debug, Drop)]
 pub enum Reply {
@@ -12,6 +9,14 @@ pub enum Reply {
     Driver(Txt),
     /// The connection was bad, after so many tries: Go's `driver.ErrBadConn`.
     BadConn(u32),
+    /// The statement has another number of inputs than there were arguments.
+    NumArgs { want: u32, got: u32 },
+    /// An argument is a number that a driver can't take, since its highest bit is set.
+    HighBit(u64),
+    /// An argument has this name, and the driver takes no names.
+    NamedRefused(Txt),
+    /// An argument has this name, which doesn't begin with a letter.
+    BadName(Txt),
     /// As many connections are open as may be at all.
     TooMany,
 }

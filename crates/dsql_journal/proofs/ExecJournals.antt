@@ -23,7 +23,7 @@ use Rattle.dsql_journal.specs.ExecJournals.{Plain, Good}
 use Rattle.dsql_journal.proofs.Conjunctions.{join2, so_if}
 use Rattle.dsql_journal.proofs.Sentences.{of-MayFollow}
 use Rattle.dsql_journal.proofs.Tenures.{of_tenure-new, MayFollow-shut, IsWhole-shut}
-use Rattle.dsql_journal.proofs.ExecLines.{Step, Start, WasReset, WasSkipped, WasPrepared, WasRun, WasDone, WasTested, WasDropped, step, goes, level, is_going, is_before_end, OneHandle, own_handle, gave, Live, SoFar}
+use Rattle.dsql_journal.proofs.ExecLines.{Step, Start, WasReset, WasSkipped, WasPrepared, WasRun, WasDone, WasTested, WasDropped, IsOther, step, goes, level, is_going, is_before_end, OneHandle, own_handle, gave, Live, SoFar, is_sent}
 
 -- A beginning with what may follow it is one.
 pub IsJournalPrefix-with : (e : Entry) (J : List Entry) → IsJournalPrefix J → may_follow J e ≡ true → IsJournalPrefix (e ∷ J)
@@ -70,15 +70,7 @@ handles-own c t n (Prepare text) (Prepared handle inputs) live all = all
 handles-own c t n (CloseStmt handle) answer live all = own_more live handle all
 handles-own c t n _ answer live all = all
 
--- an exec's calls open no cursor, begin nothing, and are neither Connect nor Shut
-abbrev pub is_sent : DriverCall → Bool
-is_sent Reset = true
-is_sent Valid = true
-is_sent (Exec input params) = true
-is_sent (Prepare text) = true
-is_sent (CloseStmt handle) = true
-is_sent _ = false
-
+-- An exec's calls open no cursor and begin nothing, and are neither Connect nor Shut.
 pub Plain-sent : (c t n : ℕ) (call : DriverCall) (answer : DriverAnswer) (J : List Entry) → Plain c J → is_sent call ≡ true → Plain c (call_entry c t n call answer ∷ J)
 Plain-sent c t n Reset answer J plain sent =
     record { one = goes_on c J plain.one; opened = refl; not_refused = plain.not_refused; not_shut = plain.not_shut; call_handles = plain.call_handles; no_cursors = plain.no_cursors; none_begun = plain.none_begun }
@@ -211,7 +203,7 @@ any-both too test (x ∷ xs) h =
     rw (neither (test x) (list_any test xs) (too x) h) rest
 
 -- in a tenure of a Good journal nothing was answered Bad
-went_bad-in : (t : ℕ) (J : List Entry) → went_bad J ≡ false → went_bad (of_tenure t J) ≡ false
+pub went_bad-in : (t : ℕ) (J : List Entry) → went_bad J ≡ false → went_bad (of_tenure t J) ≡ false
 went_bad-in t J good = any-filter (λ x. is_bad x.answer) (λ x. x.tenure == t) J good
 
 no_bad_reset : (t : ℕ) (J : List Entry) → went_bad J ≡ false → not (list_any (λ x. is_reset x.call && is_bad x.answer) (of_tenure t J)) ≡ true
@@ -271,6 +263,7 @@ may_follow-reset c t n answer J s fitting heard =
 going_on : (s : Step) (q : DriverCall) → goes s q ≡ true → is_going s ≡ true
 going_on WasTested q h = absurd cc
 going_on WasDropped q h = absurd cc
+going_on IsOther q h = absurd cc
 going_on _ q h = refl
 
 no_valid : (c t n : ℕ) (q : DriverCall) (J : List Entry) → Sends c t n q J → not (list_any (λ x. is_valid x.call) (of_tenure t J)) ≡ true

@@ -20,7 +20,7 @@ use Rattle.dsql_journal.specs.Tenure.{place}
 use Rattle.dsql_journal.specs.Entries.{call_entry}
 
 -- How far an exec has come in its tenure: nothing was heard; its Reset was; its text was skipped; its Prepare gave this handle; that handle was run;
--- only a test can come; the test was heard; nothing more can come.
+-- only a test can come; the test was heard; it was answered Bad; it is no exec.
 pub data Step : Type 0 where
   Start : Step
   WasReset : Step
@@ -30,6 +30,7 @@ pub data Step : Type 0 where
   WasDone : Step
   WasTested : Step
   WasDropped : Step
+  IsOther : Step
 
 abbrev pub step_after : DriverCall → DriverAnswer → Step
 step_after call Bad = WasDropped
@@ -41,7 +42,7 @@ step_after (Prepare text) answer = WasDone
 step_after (Exec (Handle handle) params) answer = WasRun handle
 step_after (CloseStmt handle) answer = WasDone
 step_after Valid answer = WasTested
-step_after _ answer = WasDropped
+step_after _ answer = IsOther
 
 abbrev pub step : List Entry → Step
 step [] = Start
@@ -75,12 +76,14 @@ abbrev pub is_before_end : Step → Bool
 is_before_end WasDone = false
 is_before_end WasTested = false
 is_before_end WasDropped = false
+is_before_end IsOther = false
 is_before_end _ = true
 
 -- nothing was tested or dropped
 abbrev pub is_going : Step → Bool
 is_going WasTested = false
 is_going WasDropped = false
+is_going IsOther = false
 is_going _ = true
 
 abbrev pub own_handle : ℕ → ℕ → ℕ → ℤ → LiveHandle
@@ -96,6 +99,7 @@ abbrev pub Live : ℕ → ℕ → Step → List LiveHandle → Type 0
 Live t n (WasPrepared handle) live = OneHandle t n handle live
 Live t n (WasRun handle) live = OneHandle t n handle live
 Live t n WasDropped live = Unit {0}
+Live t n IsOther live = ⊥
 Live t n _ live = live ≡ []
 
 -- what was given by the Prepare, where there was one
@@ -269,6 +273,28 @@ tested : (c t n : ℕ) (s : Step) (a : DriverAnswer) (L : List Entry) → SoFar 
 tested c t n WasDone a L so g = so_far-with c t n WasDone WasTested Valid a L so (omega arith) refl refl refl (λ h. absurd cc) (λ h. absurd cc) tt so.live (λ h. absurd cc)
 tested c t n _ a L so g = absurd cc
 
+-- what an exec sends
+abbrev pub is_sent : DriverCall → Bool
+is_sent Reset = true
+is_sent Valid = true
+is_sent (Exec input params) = true
+is_sent (Prepare text) = true
+is_sent (CloseStmt handle) = true
+is_sent _ = false
+
+sent_when : (s : Step) (q : DriverCall) → goes s q ≡ true → is_sent q ≡ true
+sent_when Start Reset h = refl
+sent_when Start (Exec (Text text) params) h = refl
+sent_when Start (Prepare text) h = refl
+sent_when WasReset (Exec (Text text) params) h = refl
+sent_when WasReset (Prepare text) h = refl
+sent_when WasSkipped (Prepare text) h = refl
+sent_when (WasPrepared handle) (Exec (Handle other) params) h = refl
+sent_when (WasPrepared handle) (CloseStmt other) h = refl
+sent_when (WasRun handle) (CloseStmt other) h = refl
+sent_when WasDone Valid h = refl
+sent_when _ _ h = absurd cc
+
 -- What an exec sends next is known where what it sent before is.
 pub so_far-next : (c t n : ℕ) (s : Step) (q : DriverCall) (a : DriverAnswer) (L : List Entry) → SoFar t n s L → goes s q ≡ true → SoFar t n (step_after q a) (call_entry c t n q a ∷ L)
 so_far-next c t n s q Bad L so g = dropped c t n s q Bad L so g
@@ -280,4 +306,4 @@ so_far-next c t n s (Prepare text) a L so g = ungiven c t n s text a L so g refl
 so_far-next c t n s (Exec (Handle handle) params) a L so g = run_handle c t n handle s params a L so g
 so_far-next c t n s (CloseStmt handle) a L so g = close_handle c t n handle s a L so g
 so_far-next c t n s Valid a L so g = tested c t n s a L so g
-so_far-next c t n s q a L so g = dropped c t n s q a L so g
+so_far-next c t n s q a L so g = let k = sent_when s q g in absurd cc

@@ -1,8 +1,13 @@
 -- The calls of a history.
-use Rattle.std.specs.Prelude.{ℕ, ◌==◌, Bool, cond, List, [], ◌∷◌, ◌++◌, length, slice_set, slice_index_or, Option, Some, None, unwrap_or, codes}
+use Rattle.std.specs.Prelude.{ℕ, ◌==◌, ◌&&◌, Bool, cond, List, [], ◌∷◌, ◌++◌, length, slice_set, slice_index_or, Option, Some, None, is_none}
 use Rattle.std.specs.List.{list_any}
+use Rattle.dsql_value.specs.declared.arg.Named.{Named}
+use Rattle.dsql_value.specs.declared.arg.ArgFault.{ArgFault}
+use Rattle.dsql_value.specs.declared.arg.ArgFault.TheVariants as faults
+use Rattle.dsql_value.specs.Arguments.{params_of, first_fault, count_fault}
+use Rattle.dsql_driver.specs.declared.caps.Caps.{Caps}
 use Rattle.dsql_driver.specs.declared.call.DriverCall.{DriverCall}
-use Rattle.dsql_driver.specs.declared.call.DriverCall.TheVariants.{Reset, Exec}
+use Rattle.dsql_driver.specs.declared.call.DriverCall.TheVariants.{Reset, Prepare, Exec}
 use Rattle.dsql_driver.specs.declared.answer.DriverAnswer.{DriverAnswer}
 use Rattle.dsql_driver.specs.declared.answer.DriverAnswer.TheVariants as answers
 use Rattle.dsql_journal.specs.Readers.{has}
@@ -13,12 +18,33 @@ use Rattle.dsql_history.specs.declared.event.Op.{Op}
 use Rattle.dsql_history.specs.declared.event.Op.TheVariants as ops
 use Rattle.dsql_history.specs.declared.record.CallRecord.{CallRecord}
 use Rattle.dsql_history.specs.declared.reply.Reply.{Reply}
-use Rattle.dsql_history.specs.declared.reply.Reply.TheVariants.{Result, Driver, BadConn}
+use Rattle.dsql_history.specs.declared.reply.Reply.TheVariants.{Result, Driver, BadConn, NumArgs, HighBit, NamedRefused, BadName}
 use Rattle.dsql_history.specs.Readers.Lists.{without}
+use Rattle.dsql_history.specs.Readers.Course.{caps}
 
 -- the text of an operation's statement
 abbrev pub statement : Op → List ℕ
-statement (ops.Exec text) = text
+statement (ops.Exec text args) = text
+
+-- its arguments
+abbrev pub arguments : Op → List Named
+arguments (ops.Exec text args) = args
+
+-- the reply that a refusal of arguments gives
+abbrev pub refused_with : ArgFault → Option Reply
+refused_with (faults.HighBit number) = Some (HighBit number)
+refused_with (faults.NumArgs want got) = Some (NumArgs want got)
+refused_with (faults.NamedRefused name) = Some (NamedRefused name)
+refused_with (faults.BadName name) = Some (BadName name)
+refused_with faults.Memory = None
+
+abbrev pub told_of : Option ArgFault → Option Reply
+told_of None = None
+told_of (Some fault) = refused_with fault
+
+-- The reply of a call whose arguments are refused as it enters: by the first that is refused, for its name or its value.
+abbrev pub refused_at_entry : Caps → Op → Option Reply
+refused_at_entry can op = told_of (first_fault can.named (arguments op))
 
 -- the reply that a deciding answer gives; a Skip decides nothing
 abbrev pub reply_to : DriverAnswer → Option Reply
@@ -27,11 +53,14 @@ reply_to (answers.Fail text) = Some (Driver text)
 reply_to answers.Bad = Some (BadConn 1)
 reply_to _ = None
 
--- An Exec's answer decides, and a Reset answered Bad. A Reset answered Fail is passed over, and a test decides nothing.
-abbrev pub decision : DriverCall → DriverAnswer → Option Reply → Option Reply
-decision (Exec input params) answer earlier = reply_to answer
-decision Reset answers.Bad earlier = Some (BadConn 1)
-decision _ answer earlier = earlier
+-- What is decided for a call with so many parameters. An Exec's answer decides, and so does a Prepare that failed, or that tells of another number of
+-- inputs, and a Reset answered Bad. A Reset answered Fail is passed over, and neither a CloseStmt nor a test decides anything.
+abbrev pub decision : ℕ → DriverCall → DriverAnswer → Option Reply → Option Reply
+decision count (Exec input params) answer earlier = reply_to answer
+decision count (Prepare text) (answers.Prepared handle inputs) earlier = told_of (count_fault inputs count)
+decision count (Prepare text) answer earlier = reply_to answer
+decision count Reset answers.Bad earlier = Some (BadConn 1)
+decision count _ answer earlier = earlier
 
 -- what a refused Connect, just heard, decides for the call to which it falls
 abbrev pub refusal : List Event → Option Reply
@@ -40,7 +69,7 @@ refusal _ = None
 
 -- there is no call 0
 abbrev pub nobody : CallRecord
-nobody = record { client = 0; home = 0; text = []; decided = None }
+nobody = record { client = 0; home = 0; text = []; params = []; decided = None }
 
 abbrev pub with_record : ℕ → (CallRecord → CallRecord) → List CallRecord → List CallRecord
 with_record n change calls = slice_set calls n (change (slice_index_or calls n nobody))
@@ -48,12 +77,14 @@ with_record n change calls = slice_set calls n (change (slice_index_or calls n n
 -- each call, by its number
 abbrev pub calls : List Event → List CallRecord
 calls [] = nobody ∷ []
-calls (Entered client n op ∷ before) = calls before ++ record { client = client; home = 0; text = statement op; decided = None } ∷ []
+calls (Entered client n op ∷ before) =
+    calls before
+    ++ record { client = client; home = 0; text = statement op; params = params_of (arguments op); decided = refused_at_entry (caps before) op } ∷ []
 calls (Pool (OpenStart c n) ∷ before) = with_record n (λ r. record r { home = c }) (calls before)
 calls (Pool (Lend c tenure owner n) ∷ before) = with_record n (λ r. record r { home = c }) (calls before)
 calls (Pool (Fell c n) ∷ before) = with_record n (λ r. record r { decided = refusal before }) (calls before)
 calls (Heard e ∷ before) =
-    cond (e.call_no == 0) (calls before) (with_record e.call_no (λ r. record r { decided = decision e.call e.answer r.decided }) (calls before))
+    cond (e.call_no == 0) (calls before) (with_record e.call_no (λ r. record r { decided = decision (length r.params) e.call e.answer r.decided }) (calls before))
 calls (Replied n reply ∷ before) = with_record n (λ r. record r { decided = None }) (calls before)
 calls (_ ∷ before) = calls before
 
@@ -82,11 +113,10 @@ is_unfinished before n = has n (unfinished before)
 abbrev pub is_busy : ℕ → List Event → Bool
 is_busy client before = list_any (λ n. (call_record before n).client == client) (unfinished before)
 
--- the text of Go's driver.ErrSkip
-abbrev pub skipped : List ℕ
-skipped = codes "driver: skip fast-path; continue as if unimplemented"
+-- it has neither asked for a connection nor been refused
+abbrev pub has_not_asked : List Event → ℕ → Bool
+has_not_asked before n = (home before n == 0) && is_none (call_record before n).decided
 
--- What the call is to be replied. Until the prepared path is there, a call that no answer decided, since its fast path was skipped or
--- its driver has none, replies that it was skipped.
-abbrev pub reply_due : List Event → ℕ → Reply
-reply_due before n = unwrap_or (call_record before n).decided (Driver skipped)
+-- what the call is to be replied, where that is settled
+abbrev pub reply_due : List Event → ℕ → Option Reply
+reply_due before n = (call_record before n).decided

@@ -9,11 +9,11 @@ use Rattle.dsql_history.specs.declared.event.Move.TheVariants.{OpenStart, Lend}
 use Rattle.dsql_history.specs.Readers.Lists.{last}
 use Rattle.dsql_history.specs.Readers.Course.{has_ended}
 use Rattle.dsql_history.specs.Readers.Sets.{place, is_idle, idle}
-use Rattle.dsql_history.specs.Readers.Calls.{home, is_unfinished}
+use Rattle.dsql_history.specs.Readers.Calls.{has_not_asked, is_unfinished}
 
--- the call is under way and hasn't asked before, and the database isn't closed. Until retries come a call has one try
+-- the call is under way, hasn't asked before and isn't refused, and the database isn't closed. Until retries come a call has one try
 abbrev pub may_ask : List Event → ℕ → Bool
-may_ask before n = is_unfinished before n && (home before n == 0) && not (has_ended before)
+may_ask before n = is_unfinished before n && has_not_asked before n && not (has_ended before)
 
 -- a lending out of idle is of the connection that came back last
 abbrev pub takes_latest : List Event → ℕ → Owner → ℕ → Bool

@@ -1,19 +1,23 @@
 -- What a call is replied, and when.
-use Rattle.std.specs.Prelude.{ℕ, ◌==◌, nat_le, Bool, true, false, not, ◌&&◌, ◌||◌, List, bytes_eq}
+use Rattle.std.specs.Prelude.{ℕ, ◌==◌, nat_le, Bool, true, false, not, ◌&&◌, ◌||◌, List, Option, Some, None, bytes_eq}
 use Rattle.std.specs.Ordering.{int_eq}
 use Rattle.dsql_journal.specs.Readers.{is_empty}
 use Rattle.dsql_history.specs.declared.event.Event.{Event}
 use Rattle.dsql_history.specs.declared.event.Event.TheVariants.{Replied}
 use Rattle.dsql_history.specs.declared.reply.Reply.{Reply}
-use Rattle.dsql_history.specs.declared.reply.Reply.TheVariants.{Result, Driver, BadConn, TooMany}
+use Rattle.dsql_history.specs.declared.reply.Reply.TheVariants.{Result, Driver, BadConn, NumArgs, HighBit, NamedRefused, BadName, TooMany}
 use Rattle.dsql_history.specs.Readers.Sets.{place, idle, is_for, open_count}
-use Rattle.dsql_history.specs.Readers.Calls.{home, reply_due}
+use Rattle.dsql_history.specs.Readers.Calls.{home, has_not_asked, reply_due}
 use Rattle.dsql_history.specs.Rules.Limit.{room}
 
 abbrev pub same_reply : Reply → Reply → Bool
 same_reply (Result last affected) (Result other count) = int_eq last other && int_eq affected count
 same_reply (Driver text) (Driver other) = bytes_eq text other
 same_reply (BadConn tries) (BadConn number) = tries == number
+same_reply (NumArgs want got) (NumArgs number count) = (want == number) && (got == count)
+same_reply (HighBit number) (HighBit other) = number == other
+same_reply (NamedRefused name) (NamedRefused other) = bytes_eq name other
+same_reply (BadName name) (BadName other) = bytes_eq name other
 same_reply TooMany TooMany = true
 same_reply _ _ = false
 
@@ -21,13 +25,18 @@ same_reply _ _ = false
 abbrev pub has_let_go : List Event → ℕ → Bool
 has_let_go before n = not (is_for n (place before (home before n)))
 
--- it asked for a connection, and replies what the deciding answer gives
+-- the reply is the one that is settled
+abbrev pub is_settled_as : Option Reply → Reply → Bool
+is_settled_as None reply = false
+is_settled_as (Some due) reply = same_reply due reply
+
+-- it replies what its arguments give, where they are refused, or else its deciding answer
 abbrev pub is_told : List Event → ℕ → Reply → Bool
-is_told before n reply = not (home before n == 0) && same_reply (reply_due before n) reply
+is_told before n reply = is_settled_as (reply_due before n) reply
 
 -- it asked in vain: none is idle, and as many are open as may be at all
 abbrev pub is_told_too_many : List Event → ℕ → Reply → Bool
-is_told_too_many before n TooMany = (home before n == 0) && is_empty (idle before) && nat_le room (open_count before)
+is_told_too_many before n TooMany = has_not_asked before n && is_empty (idle before) && nat_le room (open_count before)
 is_told_too_many before n _ = false
 
 -- the reply has its cause

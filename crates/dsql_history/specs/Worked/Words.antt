@@ -1,5 +1,6 @@
 -- Words for worked histories.
 use Rattle.std.specs.Prelude.{ℕ, true, false, List, []}
+use Rattle.dsql_value.specs.declared.arg.Named.{Named}
 use Rattle.dsql_driver.specs.declared.caps.Caps.{Caps}
 use Rattle.dsql_driver.specs.declared.call.DriverCall.{DriverCall}
 use Rattle.dsql_driver.specs.declared.call.DriverCall.TheVariants.{Exec}
@@ -19,9 +20,12 @@ all_caps = record { fast_exec = true; fast_query = true; begin_options = true; n
 abbrev pub run : Event
 run = Run 1 all_caps
 
--- client k enters call n, an exec of the text
+-- client k enters call n, an exec of the text, without arguments and with these
 abbrev pub enter : ℕ → ℕ → List ℕ → Event
-enter k n text = Entered k n (ops.Exec text)
+enter k n text = Entered k n (ops.Exec text [])
+
+abbrev pub enter_with : ℕ → ℕ → List ℕ → List Named → Event
+enter_with k n text args = Entered k n (ops.Exec text args)
 
 abbrev pub open_start : ℕ → ℕ → Event
 open_start c n = Pool (OpenStart c n)
