@@ -23,13 +23,16 @@ use Rattle.dsql_history.specs.Rules.Line.{due}
 use Rattle.dsql_history.specs.declared.event.Op.{Op}
 use Rattle.dsql_history.specs.declared.reply.Reply.TheVariants as replies
 use Rattle.dsql_history.specs.Readers.Course.{caps}
-use Rattle.dsql_history.specs.Readers.Calls.{statement}
+use Rattle.dsql_value.specs.Arguments.{first_fault, params_of}
+use Rattle.dsql_history.specs.declared.reply.Reply.{Reply}
+use Rattle.dsql_history.specs.Readers.Calls.{statement, arguments, params_at_entry, refused_at_entry, reply_due}
+use Rattle.dsql_engine.specs.Statements.{statement_of}
 use Rattle.dsql_history.specs.Rules.Limit.{room}
 use Rattle.dsql_history.specs.Rules.Line.{due, line_after, is_reset_due}
 use Rattle.dsql_engine.specs.Freshly.{Freshly}
 use Rattle.dsql_engine.specs.Latest.{latest}
 use Rattle.dsql_engine.specs.Groups.{lent_to}
-use Rattle.dsql_engine.proofs.Basics.{not_first, follows_placed, all_of, used_of, way_of}
+use Rattle.dsql_engine.proofs.Basics.{may_reply, not_first, follows_placed, all_of, used_of, way_of}
 use Rattle.dsql_engine.proofs.Moving.{way_by, way_with, not_at, row_of, some_number, few_without, none_without}
 
 pub may_enter : (H : List Event) (client n : ℕ) (op : Op) → Settled H → is_empty H ≡ false → n ≡ next_call H → is_busy client H ≡ false → Allowed H (Entered client n op)
@@ -50,10 +53,14 @@ may_enter H client n op s b e free = record {
 earlier_ones : (ns : List ℕ) (m n : ℕ) → m ≢ n → has m (ns ++ n ∷ []) ≡ true → has m ns ≡ true
 earlier_ones ns m n off h = grind (arith, nat_tests, has_push m n ns)
 
+-- the record of a call that enters
+abbrev entered_record : List Event → ℕ → Op → CallRecord
+entered_record H client op = record { client = client; home = 0; text = statement op; params = params_at_entry (caps H) op; decided = refused_at_entry (caps H) op }
+
 pub freshly : (H : List Event) (client n : ℕ) (op : Op) → Settled H → n ≡ next_call H → Freshly (Entered client n op ∷ H) n
 freshly H client n op s e =
     let G : List Event = Entered client n op ∷ H in
-    let new : CallRecord = record { client = client; home = 0; text = statement op; decided = None } in
+    let new : CallRecord = entered_record H client op in
     record {
       begun = refl;
       placed = refl;
@@ -64,8 +71,21 @@ freshly H client n op s e =
       none = s.none;
     }
 
-pub text_entered : (H : List Event) (client n : ℕ) (op : Op) → n ≡ next_call H → (call_record (Entered client n op ∷ H) n).text ≡ statement op
-text_entered H client n op e = ap (λ (r : CallRecord). r.text) (row_new (calls H) (record { client = client; home = 0; text = statement op; decided = None }) n nobody e)
+-- what is settled as it enters
+pub reply_entered : (H : List Event) (client n : ℕ) (op : Op) → n ≡ next_call H → reply_due (Entered client n op ∷ H) n ≡ refused_at_entry (caps H) op
+reply_entered H client n op e = ap (λ (r : CallRecord). r.decided) (row_new (calls H) (entered_record H client op) n nobody e)
+
+pub statement_entered : (H : List Event) (client n : ℕ) (op : Op) → n ≡ next_call H → first_fault (caps H).named (arguments op) ≡ None
+    → statement_of (call_record (Entered client n op ∷ H) n) ≡ record { text = statement op; params = params_of (arguments op) }
+statement_entered H client n op e accepted =
+    ap (λ (r : CallRecord). statement_of r) (row_new (calls H) (entered_record H client op) n nobody e) ∙ rw accepted refl
+
+-- a call whose arguments are refused may reply so
+pub may_tell_entered : (H : List Event) (client n : ℕ) (op : Op) (r : Reply) → Lawful (Entered client n op ∷ H) → Freshly (Entered client n op ∷ H) n → reply_due (Entered client n op ∷ H) n ≡ Some r
+    → Allowed (Entered client n op ∷ H) (Replied n r)
+may_tell_entered H client n op r l f due =
+    let z = sound_sets (Entered client n op ∷ H) l in
+    may_reply (Entered client n op ∷ H) n r refl refl f.entered (rw (f.homeless, z.no_zero) refl) due
 
 last_in : (x : ℕ) (ns : List ℕ) → has (last (x ∷ ns)) (x ∷ ns) ≡ true
 last_in x [] = rw (same_to_itself x) refl
@@ -89,16 +109,16 @@ idle_latest H c l h =
     let q = sound_sets H l in
     let k = latest_of (idle H) c h in (idle_is (place H c) (sym (q.idle_ones c) ∙ k.1), k.0)
 
-pub may_lend_idle : (H : List Event) (c n : ℕ) → Freshly H n → place H c ≡ Idle → last (idle H) ≡ c → has_ended H ≡ false → Allowed H (Pool (Lend c (next_tenure H c) (Call n) n))
+pub may_lend_idle : (H : List Event) (c n : ℕ) → Freshly H n → reply_due H n ≡ None → place H c ≡ Idle → last (idle H) ≡ c → has_ended H ≡ false → Allowed H (Pool (Lend c (next_tenure H c) (Call n) n))
 unfolding Allowed
-may_lend_idle H c n f is at running =
+may_lend_idle H c n f undecided is at running =
     let e : Event = Pool (Lend c (next_tenure H c) (Call n) n) in
     record {
       course = rw (not_first H e f.begun refl) refl;
       numbers = refl;
       sets = rw (is, same_to_itself (next_tenure H c), same_to_itself n) refl;
       limit = refl;
-      asking = rw (is, f.entered, f.homeless, running, at, same_to_itself c) refl;
+      asking = rw (is, f.entered, f.homeless, undecided, running, at, same_to_itself c) refl;
       order = rw (follows_placed H e f.placed, is) refl;
       causes = refl;
       line = refl;
@@ -130,23 +150,24 @@ settled_lend_idle H c n l f is lawful =
 
 -- what is due on a connection that was just lent
 pub due_fresh : (H : List Event) (c n : ℕ) → Lawful H → is_unfinished H n ≡ true → Lawful (lent_to H c n)
-    → due (lent_to H c n) c (next_tenure H c) n ≡ line_after (caps H) (is_reset_due (lent_to H c n) c) (call_record H n).text []
+    → due (lent_to H c n) c (next_tenure H c) n ≡ line_after (caps H) (is_reset_due (lent_to H c n) c) (call_record H n).text (call_record H n).params []
 due_fresh H c n l u lawful =
     let q = sound_calls H l in
     let w = q.within n u in
     let text : (call_record (lent_to H c n) n).text ≡ (call_record H n).text = ap (λ (r : CallRecord). r.text) (row_at (calls H) n (record (get_or (calls H) n nobody) { home = c }) nobody w.1) in
-    rw (fresh_lending H c (next_tenure H c) n lawful, text) refl
+    let params : (call_record (lent_to H c n) n).params ≡ (call_record H n).params = ap (λ (r : CallRecord). r.params) (row_at (calls H) n (record (get_or (calls H) n nobody) { home = c }) nobody w.1) in
+    rw (fresh_lending H c (next_tenure H c) n lawful, text, params) refl
 
-pub may_open_new : (H : List Event) (n : ℕ) → Freshly H n → idle H ≡ [] → has_ended H ≡ false → nat_lt (open_count H) room ≡ true → Allowed H (Pool (OpenStart (next_number H) n))
+pub may_open_new : (H : List Event) (n : ℕ) → Freshly H n → reply_due H n ≡ None → idle H ≡ [] → has_ended H ≡ false → nat_lt (open_count H) room ≡ true → Allowed H (Pool (OpenStart (next_number H) n))
 unfolding Allowed
-may_open_new H n f none running more =
+may_open_new H n f undecided none running more =
     let e : Event = Pool (OpenStart (next_number H) n) in
     record {
       course = rw (not_first H e f.begun refl) refl;
       numbers = refl;
       sets = rw (same_to_itself (next_number H)) refl;
       limit = more;
-      asking = rw (f.entered, f.homeless, running, none) refl;
+      asking = rw (f.entered, f.homeless, undecided, running, none) refl;
       order = rw (follows_placed H e f.placed) refl;
       causes = refl;
       line = refl;
@@ -180,9 +201,9 @@ settled_open_new H n l f lawful =
 above : (a b : ℕ) → nat_lt a b ≡ false → nat_le b a ≡ true
 above a b h = grind (arith, nat_tests)
 
-pub may_refuse : (H : List Event) (n : ℕ) → Lawful H → Freshly H n → idle H ≡ [] → nat_lt (open_count H) room ≡ false → Allowed H (Replied n replies.TooMany)
+pub may_refuse : (H : List Event) (n : ℕ) → Lawful H → Freshly H n → reply_due H n ≡ None → idle H ≡ [] → nat_lt (open_count H) room ≡ false → Allowed H (Replied n replies.TooMany)
 unfolding Allowed
-may_refuse H n l f none full =
+may_refuse H n l f undecided none full =
     let z = sound_sets H l in
     let e : Event = Replied n replies.TooMany in
     record {
@@ -195,7 +216,7 @@ may_refuse H n l f none full =
       causes = refl;
       line = refl;
       journals = refl;
-      replies = rw (f.homeless, z.no_zero, none, above (open_count H) room full) refl;
+      replies = rw (f.homeless, z.no_zero, undecided, none, above (open_count H) room full) refl;
     }
 
 others_unfinished : (n m : ℕ) (ns : List ℕ) → has m (without n ns) ≡ true → (m ≢ n) × (has m ns ≡ true)
@@ -205,9 +226,9 @@ others_unfinished n m ns h = other_when n m (has m ns) (sym (has-without m n ns)
     other_when n m false h = absurd (grind (arith, nat_tests))
     other_when n m true h = (λ e. grind (arith, nat_tests), refl)
 
-pub settled_refused : (H : List Event) (n : ℕ) → Freshly H n → Lawful (Replied n replies.TooMany ∷ H) → Settled (Replied n replies.TooMany ∷ H)
-settled_refused H n f lawful =
-    let G : List Event = Replied n replies.TooMany ∷ H in
+pub settled_refused : (H : List Event) (n : ℕ) (r : Reply) → Freshly H n → Lawful (Replied n r ∷ H) → Settled (Replied n r ∷ H)
+settled_refused H n r f lawful =
+    let G : List Event = Replied n r ∷ H in
     record {
       placed = refl;
       used = used_of G lawful;

@@ -1,5 +1,5 @@
 -- What every step needs: the order of events, what is used, and who is under way.
-use Rattle.std.proofs.Common.{◌≡◌, ℕ, zero, suc, Bool, true, false, not, ◌||◌, List, [], ◌∷◌, get_or, refl, arith, ap, sym, ◌∙◌}
+use Rattle.std.proofs.Common.{◌≡◌, ℕ, zero, suc, Bool, true, false, not, ◌||◌, List, [], ◌∷◌, Option, Some, None, is_some, get_or, refl, arith, ap, sym, ◌∙◌}
 use Rattle.std.proofs.lemmas.Grind.{common_steps}
 use Rattle.std.proofs.lemmas.Bool.Decides.{nat_tests}
 use Rattle.std.specs.List.{list_all}
@@ -13,7 +13,14 @@ use Rattle.dsql_history.specs.declared.reply.Reply.{Reply}
 use Rattle.dsql_history.specs.Readers.Sets.{places, place, is_open, is_opening, is_closing, number_of}
 use Rattle.dsql_history.specs.Readers.Calls.{unfinished, is_unfinished}
 use Rattle.dsql_history.specs.Rules.Settled.{Settled, is_placed, is_in_use, uses_what_is_lent, is_under_way}
-use Rattle.dsql_history.specs.Legal.{Lawful}
+use Rattle.dsql_history.specs.Legal.{Allowed, Lawful}
+use Rattle.dsql_value.specs.declared.value.Value.{Value}
+use Rattle.dsql_value.specs.declared.value.Value.TheVariants as values
+use Rattle.dsql_value.specs.declared.value.Param.{Param}
+use Rattle.dsql_history.specs.Same.{same_truth, same_value, same_name, same_params}
+use Rattle.dsql_history.specs.Readers.Sets.{is_for}
+use Rattle.dsql_history.specs.Readers.Calls.{home, reply_due}
+use Rattle.dsql_engine.specs.Groups.{told, told_as}
 use Rattle.dsql_history.proofs.Rows.{same_to_itself}
 use Rattle.dsql_history.proofs.SoundCalls.{sound_calls}
 use Rattle.dsql_history.specs.Rules.Course.{begins_with_run, is_run}
@@ -100,4 +107,57 @@ pub reply_same : (r : Reply) → same_reply r r ≡ true
 reply_same (replies.Result l a) = rw (ints_same l, ints_same a) refl
 reply_same (replies.Driver t) = bytes_same t
 reply_same (replies.BadConn n) = same_to_itself n
+reply_same (replies.NumArgs want got) = rw (same_to_itself want, same_to_itself got) refl
+reply_same (replies.HighBit n) = same_to_itself n
+reply_same (replies.NamedRefused name) = bytes_same name
+reply_same (replies.BadName name) = bytes_same name
 reply_same replies.TooMany = refl
+
+truth_same : (b : Bool) → same_truth b b ≡ true
+truth_same true = refl
+truth_same false = refl
+
+value_same : (v : Value) → same_value v v ≡ true
+value_same values.Nil = refl
+value_same (values.Int n) = ints_same n
+value_same (values.Bool b) = truth_same b
+value_same (values.Bytes bytes) = bytes_same bytes
+value_same (values.Text text) = bytes_same text
+value_same (values.Time n) = ints_same n
+
+name_same : (name : Option (List ℕ)) → same_name name name ≡ true
+name_same None = refl
+name_same (Some name) = bytes_same name
+
+pub params_same : (ps : List Param) → same_params ps ps ≡ true
+params_same [] = refl
+params_same (p ∷ ps) = rw (name_same p.name, value_same p.value) (params_same ps)
+
+-- the call may reply what is settled, where it has let its connection go
+pub may_reply : (H : List Event) (n : ℕ) (r : Reply) → is_empty H ≡ false → is_placed H ≡ true → is_unfinished H n ≡ true → is_for n (place H (home H n)) ≡ false → reply_due H n ≡ Some r
+    → Allowed H (Replied n r)
+unfolding Allowed
+may_reply H n r b placed u free due = record {
+  course = rw (not_first H (Replied n r) b refl) refl;
+  numbers = u;
+  sets = refl;
+  limit = refl;
+  asking = refl;
+  order = rw (follows_placed H (Replied n r) placed) refl;
+  causes = refl;
+  line = refl;
+  journals = refl;
+  replies = rw (free, due, reply_same r) refl;
+}
+
+-- what holds once any reply was told holds once the settled one was
+pub when_told : (G : List Event) (n : ℕ) → is_some (reply_due G n) ≡ true → Lawful (told n G) → ((r : Reply) → Lawful (Replied n r ∷ G) → Settled (Replied n r ∷ G)) → Settled (told n G)
+when_told G n some l k = by_due (reply_due G n) some l
+  where
+    by_due : (d : Option Reply) → is_some d ≡ true → Lawful (told_as n d G) → Settled (told_as n d G)
+    by_due None h m = absurd cc
+    by_due (Some r) h m = k r m
+
+pub begun_told : (n : ℕ) (d : Option Reply) (G : List Event) → is_empty G ≡ false → is_empty (told_as n d G) ≡ false
+begun_told n None G h = h
+begun_told n (Some r) G h = refl

@@ -1,14 +1,17 @@
 -- The layer's own calls, and that a history that has begun stays so.
+use Rattle.dsql_engine.proofs.Basics.{begun_told}
 use Rattle.std.proofs.Common.{◌≡◌, ℕ, ◌<◌, Bool, true, false, cond, nat_lt, List, [], ◌∷◌, length, get_or, refl, arith, Option, Some, None, sym, subst}
 use Rattle.std.proofs.lemmas.Bool.Decides.{nat_tests}
 use Rattle.dsql_journal.specs.declared.entry.Entry.{Entry}
 use Rattle.dsql_journal.specs.declared.entry.Owner.TheVariants.{Call}
 use Rattle.dsql_journal.specs.Readers.{is_empty}
 use Rattle.dsql_history.specs.declared.event.Event.{Event}
-use Rattle.dsql_history.specs.declared.event.Event.TheVariants.{Heard, Ended}
+use Rattle.dsql_history.specs.declared.event.Event.TheVariants.{Heard, Pool, Replied, Ended}
+use Rattle.dsql_history.specs.declared.event.Move.TheVariants.{OpenStart}
+use Rattle.dsql_history.specs.declared.reply.Reply.TheVariants.{TooMany}
 use Rattle.dsql_history.specs.declared.record.Place.{Place}
 use Rattle.dsql_history.specs.declared.record.Place.TheVariants.{Nowhere, Opening, Idle, Lent, Closing}
-use Rattle.dsql_history.specs.Readers.Sets.{places, place, idle, is_opening, is_closing, next_tenure}
+use Rattle.dsql_history.specs.Readers.Sets.{places, place, idle, is_opening, is_closing, next_number, next_tenure}
 use Rattle.dsql_history.specs.Rules.Line.{due}
 use Rattle.std.specs.Prelude.{position}
 use Rattle.std.specs.List.{position_or_len}
@@ -18,7 +21,13 @@ use Rattle.dsql_driver.specs.Fits.{is_done}
 use Rattle.dsql_history.specs.Rules.House.{shut_due, connect_due}
 use Rattle.dsql_history.specs.Rules.Line.{due}
 use Rattle.dsql_engine.specs.Awaited.{awaited, awaited_at, chore_due, shut_permit, connect_permit}
-use Rattle.dsql_engine.specs.Groups.{after_heard, after_answer, after_body, after_end, closings}
+use Rattle.dsql_history.specs.declared.reply.Reply.{Reply}
+use Rattle.dsql_history.specs.Readers.Lists.{last}
+use Rattle.dsql_history.specs.Readers.Sets.{open_count}
+use Rattle.dsql_history.specs.Readers.Calls.{reply_due}
+use Rattle.dsql_history.specs.Rules.Causes.{cause}
+use Rattle.dsql_history.specs.Rules.Limit.{room}
+use Rattle.dsql_engine.specs.Groups.{after_heard, after_answer, after_ask, after_body, after_end, after_entry, closings, leaving, lent_to}
 
 found_when : (b : Bool) (k n c : ℕ) → nat_lt k n ≡ b → cond b (Some k) None ≡ Some c → (k ≡ c) × (k < n)
 found_when true k n c e h = (cc, grind (arith, nat_tests))
@@ -55,7 +64,7 @@ chore_connect H c n h =
     (rw (n, h) refl, opening_waits H c (place H c) f.0)
 
 begun_body : (c n : ℕ) (G : List Event) (d : Option DriverCall) → is_empty G ≡ false → is_empty (after_body c n G d) ≡ false
-begun_body c n G None h = refl
+begun_body c n G None h = begun_told n (reply_due (leaving c (cause G c) ∷ G) n) (leaving c (cause G c) ∷ G) refl
 begun_body c n G (Some q) h = h
 
 begun_cond : (b : Bool) (G K : List Event) → is_empty G ≡ false → is_empty K ≡ false → is_empty (cond b G K) ≡ false
@@ -72,6 +81,16 @@ begun_answer Nowhere e G h = h
 
 pub begun_heard : (H : List Event) (e : Entry) → is_empty (after_heard H e) ≡ false
 begun_heard H e = begun_answer (place H e.conn) e (Heard e ∷ H) refl
+
+begun_ask : (G : List Event) (n : ℕ) (idle : List ℕ) → is_empty G ≡ false → is_empty (after_ask G n idle) ≡ false
+begun_ask G n [] h = begun_cond (nat_lt (open_count G) room) (Pool (OpenStart (next_number G) n) ∷ G) (Replied n TooMany ∷ G) refl refl
+begun_ask G n (c ∷ others) h =
+    let d = last (c ∷ others) in
+    begun_body d n (lent_to G d n) (due (lent_to G d n) d (next_tenure G d) n) refl
+
+pub begun_entry : (r : Option Reply) (G : List Event) (n : ℕ) (idle : List ℕ) → is_empty G ≡ false → is_empty (after_entry r G n idle) ≡ false
+begun_entry None G n idle h = begun_ask G n idle h
+begun_entry (Some reply) G n idle h = refl
 
 begun_closings : (cs : List ℕ) (H : List Event) → is_empty H ≡ false → is_empty (closings cs H) ≡ false
 begun_closings [] H h = h

@@ -20,6 +20,7 @@ use Rattle.dsql_history.specs.Rules.Settled.{Settled, is_placed, is_under_way}
 use Rattle.dsql_history.specs.Legal.{Allowed, Lawful}
 use Rattle.dsql_history.proofs.Rows.{same_to_itself, other_number, has-without, within_rows, length-without, length_push, row_at, row_off}
 use Rattle.dsql_history.proofs.SoundSets.{sound_sets}
+use Rattle.dsql_history.proofs.SoundReplies.{settled_when_done}
 use Rattle.dsql_history.proofs.SoundCalls.{sound_calls}
 use Rattle.dsql_history.proofs.SoundJournals.{whole_when_lent}
 use Rattle.dsql_history.specs.Rules.Line.{due}
@@ -27,7 +28,7 @@ use Rattle.dsql_journal.specs.Readers.{went_bad}
 use Rattle.dsql_history.specs.declared.event.CloseCause.TheVariants.{Bad, Invalid, IdleFull, DbClosed}
 use Rattle.dsql_history.specs.Rules.Causes.{cause, cause_when, is_cause}
 use Rattle.dsql_engine.specs.Groups.{leaving}
-use Rattle.dsql_engine.proofs.Basics.{not_first, begun, follows_placed, all_of, used_of, way_of, reply_same}
+use Rattle.dsql_engine.proofs.Basics.{may_reply, not_first, begun, follows_placed, all_of, used_of, way_of, reply_same}
 
 -- it may be given back
 pub may_back : (H : List Event) (c t n : ℕ) → Lawful H → Settled H → place H c ≡ Lent t (Call n) → due H c t n ≡ None → cause H c ≡ None → Allowed H (Pool (Back c))
@@ -140,25 +141,18 @@ home_at H c t n l is = let q = sound_calls H l in q.at_home c n (rw is (same_to_
 not_zero : (H : List Event) (c t : ℕ) (o : Owner) → Lawful H → place H c ≡ Lent t o → c ≢ 0
 not_zero H c t o l is z = let q = sound_sets H l in absurd (cc (subst (λ (d : ℕ). place H d ≡ Lent t o) z is, q.no_zero))
 
--- the call may reply what it is due
-pub may_tell : (H G : List Event) (c t n : ℕ) → Lawful H → place H c ≡ Lent t (Call n) → Left H c n G → is_empty G ≡ false → is_placed G ≡ true → Allowed G (Replied n (reply_due G n))
-unfolding Allowed
-may_tell H G c t n l is f b placed =
+-- the call may reply what is settled
+pub may_tell : (H G : List Event) (c t n : ℕ) (r : Reply) → Lawful H → place H c ≡ Lent t (Call n) → Left H c n G → is_empty G ≡ false → is_placed G ≡ true → reply_due G n ≡ Some r → Allowed G (Replied n r)
+may_tell H G c t n r l is f b placed due =
     let q = sound_calls H l in
     let u : is_unfinished H n ≡ true = q.unfinished_ones c n (rw is (same_to_itself n)) in
     let hg : home G n ≡ c = ap (λ (cs : List CallRecord). (get_or cs n nobody).home) f.same_calls ∙ home_at H c t n l is in
-    record {
-      course = rw (not_first G (Replied n (reply_due G n)) b refl) refl;
-      numbers = rw f.same_unfinished u;
-      sets = refl;
-      limit = refl;
-      asking = refl;
-      order = rw (follows_placed G (Replied n (reply_due G n)) placed) refl;
-      causes = refl;
-      line = refl;
-      journals = refl;
-      replies = rw (hg, f.free n, other_number c 0 (not_zero H c t (Call n) l is), reply_same (reply_due G n)) refl;
-    }
+    may_reply G n r b placed (rw f.same_unfinished u) (rw (hg, f.free n) refl) due
+
+-- and it is settled, since its call has nothing more to send
+pub settled_left : (H G : List Event) (c t n : ℕ) → Lawful H → place H c ≡ Lent t (Call n) → Left H c n G → due H c t n ≡ None → is_some (reply_due G n) ≡ true
+settled_left H G c t n l is f none =
+    subst (λ (cs : List CallRecord). is_some (get_or cs n nobody).decided ≡ true) (sym f.same_calls) (settled_when_done H c t n l is (rw none refl))
 
 pub placed_by : (H : List Event) (c : ℕ) (k : Option CloseCause) → (is_placed (leaving c k ∷ H) ≡ true) × (is_empty (leaving c k ∷ H) ≡ false)
 placed_by H c None = (refl, refl)

@@ -21,7 +21,7 @@ use Rattle.std.specs.Prelude.{find}
 use Rattle.dsql_history.specs.Readers.Journals.{heard_in}
 use Rattle.dsql_history.specs.Readers.Course.{caps}
 use Rattle.dsql_history.specs.Rules.Line.{due, line_after, is_reset_due}
-use Rattle.dsql_engine.proofs.Basics.{not_first, follows_placed, all_of, used_of, way_of, reply_same}
+use Rattle.dsql_engine.proofs.Basics.{may_reply, not_first, follows_placed, all_of, used_of, way_of, reply_same}
 use Rattle.dsql_engine.proofs.Moving.{way_by}
 
 -- what is said of an unfinished call under way
@@ -44,7 +44,7 @@ woken_owner H n t o l s u is =
     number_when (inl f) = same_number (number_of o) n (rw is at f)
     number_when (inr g) = absurd (cc (rw is at g.0))
 
-pub due_parked : (H : List Event) (c t n : ℕ) → heard_in H c t ≡ [] → due H c t n ≡ line_after (caps H) (is_reset_due H c) (call_record H n).text []
+pub due_parked : (H : List Event) (c t n : ℕ) → heard_in H c t ≡ [] → due H c t n ≡ line_after (caps H) (is_reset_due H c) (call_record H n).text (call_record H n).params []
 due_parked H c t n none = rw none refl
 
 -- the place of a connection that is for nobody
@@ -55,22 +55,17 @@ for_nobody Idle n o l = refl
 for_nobody (Lent t k) n o l = absurd cc
 for_nobody Closing n o l = refl
 
-pub may_tell_fallen : (H : List Event) (n : ℕ) → Settled H → is_empty H ≡ false → is_unfinished H n ≡ true → is_for n (place H (home H n)) ≡ false → Allowed H (Replied n (reply_due H n))
-unfolding Allowed
-may_tell_fallen H n s b u free =
+pub may_tell_fallen : (H : List Event) (n : ℕ) (r : Reply) → Settled H → is_empty H ≡ false → is_unfinished H n ≡ true → is_for n (place H (home H n)) ≡ false → reply_due H n ≡ Some r → Allowed H (Replied n r)
+may_tell_fallen H n r s b u free due = may_reply H n r b s.placed u free due
+
+-- what a refused Connect gave is settled
+pub settled_fallen : (H : List Event) (n : ℕ) → Settled H → is_unfinished H n ≡ true → is_for n (place H (home H n)) ≡ false → is_some (reply_due H n) ≡ true
+settled_fallen H n s u free =
     let w = way_parts (home H n == 0) (is_for n (place H (home H n))) (is_open (place H (home H n))) (is_some (call_record H n).decided) (way_of H s n u) in
-    record {
-      course = rw (not_first H (Replied n (reply_due H n)) b refl) refl;
-      numbers = u;
-      sets = refl;
-      limit = refl;
-      asking = refl;
-      order = rw (follows_placed H (Replied n (reply_due H n)) s.placed) refl;
-      causes = refl;
-      line = refl;
-      journals = refl;
-      replies = rw (free, w.0, reply_same (reply_due H n)) refl;
-    }
+    elim w.1 [ inl f ↦ never f | inr g ↦ g.1 ]
+  where
+    never : is_for n (place H (home H n)) ≡ true → is_some (reply_due H n) ≡ true
+    never f = absurd (cc (free))
 
 others_unfinished : (n m : ℕ) (ns : List ℕ) → has m (without n ns) ≡ true → (m ≢ n) × (has m ns ≡ true)
 others_unfinished n m ns h = other_when n m (has m ns) (sym (has-without m n ns) ∙ h)

@@ -12,10 +12,12 @@ use Rattle.dsql_history.specs.declared.event.CloseCause.{CloseCause}
 use Rattle.dsql_history.specs.declared.event.CloseCause.TheVariants.{DbClosed}
 use Rattle.dsql_history.specs.declared.record.Place.{Place}
 use Rattle.dsql_history.specs.declared.record.Place.TheVariants.{Opening, Lent, Closing}
+use Rattle.dsql_history.specs.declared.reply.Reply.{Reply}
 use Rattle.dsql_history.specs.declared.reply.Reply.TheVariants.{TooMany}
+use Rattle.dsql_history.specs.Readers.Course.{caps}
 use Rattle.dsql_history.specs.Readers.Lists.{last}
 use Rattle.dsql_history.specs.Readers.Sets.{place, idle, next_number, next_tenure, open_count}
-use Rattle.dsql_history.specs.Readers.Calls.{call_record, home, next_call, unfinished, reply_due}
+use Rattle.dsql_history.specs.Readers.Calls.{call_record, home, next_call, unfinished, reply_due, refused_at_entry}
 use Rattle.dsql_history.specs.Rules.Causes.{cause}
 use Rattle.dsql_history.specs.Rules.Limit.{room}
 use Rattle.dsql_history.specs.Rules.Line.{due}
@@ -25,9 +27,13 @@ abbrev pub leaving : ℕ → Option CloseCause → Event
 leaving c None = Pool (Back c)
 leaving c (Some why) = Pool (CloseStart c why)
 
--- the call replies what it is due
+-- the call replies what is settled
+abbrev pub told_as : ℕ → Option Reply → List Event → List Event
+told_as n (Some reply) past = Replied n reply ∷ past
+told_as n None past = past
+
 abbrev pub told : ℕ → List Event → List Event
-told n past = Replied n (reply_due past n) ∷ past
+told n past = told_as n (reply_due past n) past
 
 -- where nothing is due any more, the connection leaves and the call replies
 abbrev pub after_body : ℕ → ℕ → List Event → Option DriverCall → List Event
@@ -48,9 +54,14 @@ after_ask past n (c ∷ others) =
     after_lending (last (c ∷ others)) (next_tenure past (last (c ∷ others))) n (lent_to past (last (c ∷ others)) n)
 after_ask past n [] = cond (nat_lt (open_count past) room) (Pool (OpenStart (next_number past) n) ∷ past) (Replied n TooMany ∷ past)
 
--- a call enters and asks
+-- a call that entered replies where its arguments are refused, else it asks
+abbrev pub after_entry : Option Reply → List Event → ℕ → List ℕ → List Event
+after_entry (Some reply) entered n idle = Replied n reply ∷ entered
+after_entry None entered n idle = after_ask entered n idle
+
+-- a call enters
 abbrev pub after_enter : List Event → ℕ → Op → List Event
-after_enter past client op = after_ask (Entered client (next_call past) op ∷ past) (next_call past) (idle past)
+after_enter past client op = after_entry (refused_at_entry (caps past) op) (Entered client (next_call past) op ∷ past) (next_call past) (idle past)
 
 abbrev pub after_answer : Place → Entry → List Event → List Event
 after_answer (Opening n) e past =

@@ -6,12 +6,14 @@ use Rattle.dsql_driver.specs.declared.call.DriverCall.{DriverCall}
 use Rattle.dsql_history.specs.declared.event.Event.{Event}
 use Rattle.dsql_history.specs.declared.event.Event.TheVariants.{Entered, Heard}
 use Rattle.dsql_history.specs.declared.event.Op.{Op}
+use Rattle.dsql_history.specs.declared.reply.Reply as replies
 use Rattle.dsql_history.specs.declared.record.Place.{Place}
 use Rattle.dsql_history.specs.declared.record.Place.TheVariants.{Opening, Lent}
 use Rattle.dsql_history.specs.Readers.Lists.{last}
 use Rattle.dsql_history.specs.Readers.Sets.{place, idle, open_count, next_tenure}
 use Rattle.dsql_history.specs.Readers.Journals.{heard_in}
-use Rattle.dsql_history.specs.Readers.Calls.{home, next_call}
+use Rattle.dsql_history.specs.Readers.Calls.{home, next_call, refused_at_entry}
+use Rattle.dsql_history.specs.Readers.Course.{caps}
 use Rattle.dsql_history.specs.Rules.Limit.{room}
 use Rattle.dsql_history.specs.Rules.Line.{due}
 use Rattle.dsql_engine.specs.declared.next.Next.{Next}
@@ -36,9 +38,14 @@ NextAfterAsk past n (c ∷ others) may_open next now =
 NextAfterAsk past n [] true next now = next ≡ Blocked why.Opening
 NextAfterAsk past n [] false next now = next ≡ Reply n
 
+-- where its arguments are refused it replies
+abbrev pub NextAfterEntry : Option replies.Reply → List Event → ℕ → List ℕ → Bool → Next → List Event → Type 0
+NextAfterEntry (Some reply) entered n idle may_open next now = next ≡ Reply n
+NextAfterEntry None entered n idle may_open next now = NextAfterAsk entered n idle may_open next now
+
 abbrev pub NextAfterEnter : List Event → ℕ → Op → Next → List Event → Type 0
 NextAfterEnter past client op next now =
-    NextAfterAsk (Entered client (next_call past) op ∷ past) (next_call past) (idle past) (nat_lt (open_count past) room) next now
+    NextAfterEntry (refused_at_entry (caps past) op) (Entered client (next_call past) op ∷ past) (next_call past) (idle past) (nat_lt (open_count past) room) next now
 
 -- a call's answer leads to its next driver call or to its reply; the layer's own calls lead to nothing by themselves
 abbrev pub NextAfterAnswer : Place → Entry → List Event → Next → List Event → Type 0

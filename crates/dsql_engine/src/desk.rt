@@ -1,19 +1,21 @@
-ghost use Rattle.std.specs.Prelude.{◌≡◌, ◌+◌, ◌^◌, ◌<◌, ◌≤◌, ◌∷◌, ◌++◌, [], length, vec_len, vec_capacity};
+ghost use Rattle.std.specs.Prelude.{◌≡◌, ◌+◌, ◌^◌, ◌<◌, ◌≤◌, ◌∷◌, ◌++◌, [], Some, true, is_some, length, vec_len, vec_capacity};
 ghost use Rattle.dsql_history.specs.Legal.{Allowed};
 ghost use Rattle.dsql_history.specs.Rules.Settled.{Settled};
-ghost use Rattle.dsql_history.specs.Readers.Calls.{statement, refusal, reply_due, skipped as skipped_text};
+ghost use Rattle.dsql_history.specs.Readers.Calls.{statement as text_of, params_at_entry, refused_at_entry, refusal, reply_due};
+ghost use Rattle.dsql_history.specs.Readers.Course.{caps};
+ghost use Rattle.dsql_engine.specs.Groups.{told};
 ghost use Rattle.dsql_history.specs.declared.event.Move.{Move};
 ghost use Rattle.dsql_history.specs.declared.reply.Reply.{Reply};
 ghost use Rattle.dsql_journal.specs.declared.entry.Owner.TheVariants.{Call};
 ghost use Rattle.dsql_engine.specs.Desk.{past, Stands};
 
+use crate::statement::Statement;
 use crate::room::{
     count_up, move_to, note, put, set_decided, set_home, take_out, take_reply, tell_entry,
 };
 use dsql_driver::{Caps, DriverAnswer};
 use dsql_history::{CallRecord, CloseCause, Event, Move, Op, Place, Reply};
 use dsql_journal::{Entry, Owner};
-use dsql_value::Txt;
 
 /// What is kept of the present, beside the history.
 #[derive(Drop)]
@@ -38,13 +40,22 @@ pub struct Desk {
 #[tactic(auto, unfolding(crate::specs::Desk::Stands, dsql_history::specs::Legal::Allowed))]
 /// The event methods: each adds its event to the history and changes the tables.
 impl Desk {
-    /// A client's call enters.
-    pub fn enter(&mut self, n: u32, client: u8, op: Op, text: Txt)
+    /// A client's call enters, with its statement, and with its reply where its arguments are refused.
+    pub fn enter(
+        &mut self,
+        n: u32,
+        client: u8,
+        op: Op,
+        statement: Statement,
+        decided: Option<Reply>,
+    )
         requires stands { Stands self.old }
         requires paid { 0 < self.old.paid }
         requires allowed { Allowed (past self.old) (Event.Entered client n op) }
         requires settled { Settled (past self.old) }
-        requires text { text ≡ statement op }
+        requires text { statement.text ≡ text_of op }
+        requires params { statement.params ≡ params_at_entry (caps (past self.old)) op }
+        requires decided { decided ≡ refused_at_entry (caps (past self.old)) op }
         ensures stands { Stands self.new }
         ensures paid { self.new.paid + 1 ≡ self.old.paid }
         ensures event { past self.new ≡ Event.Entered client n op ∷ past self.old }
@@ -56,8 +67,9 @@ impl Desk {
             CallRecord {
                 client,
                 home: 0,
-                text,
-                decided: None,
+                text: statement.text,
+                params: statement.params,
+                decided,
             },
         );
         put(&mut self.unfinished, n);
@@ -208,18 +220,18 @@ impl Desk {
         set_decided(&mut self.calls, n, reply);
     }
 
-    /// A call is told the reply that it is due.
-    pub fn tell(&mut self, n: u32, skipped: Txt)
+    /// A call is told the reply that is settled.
+    pub fn tell(&mut self, n: u32)
         requires stands { Stands self.old }
         requires paid { 0 < self.old.paid }
-        requires allowed { Allowed (past self.old) (Event.Replied n (reply_due (past self.old) n)) }
-        requires skipped { skipped ≡ skipped_text }
+        requires settled { is_some (reply_due (past self.old) n) ≡ true }
+        requires allowed { (reply : Reply) → reply_due (past self.old) n ≡ Some reply → Allowed (past self.old) (Event.Replied n reply) }
         ensures stands { Stands self.new }
         ensures paid { self.new.paid + 1 ≡ self.old.paid }
-        ensures event { past self.new ≡ Event.Replied n (reply_due (past self.old) n) ∷ past self.old }
+        ensures event { past self.new ≡ told n (past self.old) }
     {
         self.paid -= 1;
-        let reply = take_reply(&mut self.calls, n, skipped);
+        let reply = take_reply(&mut self.calls, n);
         note(&mut self.history, Event::Replied { n, reply });
         take_out(&mut self.unfinished, n);
     }

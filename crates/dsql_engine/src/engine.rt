@@ -8,11 +8,10 @@ ghost use Rattle.dsql_history.specs.declared.event.Event.TheVariants.{Run};
 
 use crate::desk::Desk;
 use crate::next::{Next, NoRoom};
-use crate::steps::Texts;
+use crate::statement::enter_with;
 use dsql_driver::{Caps, DriverAnswer};
-use dsql_history::{Event, Op, SKIPPED};
+use dsql_history::{Event, Op};
 use dsql_journal::Entry;
-use dsql_value::Txt;
 use std::alloc::Global;
 use std::marker::Model;
 
@@ -64,14 +63,10 @@ impl Engine {
         ensures err { OnErr result (self.new ≡ self.old) }
         ensures legal { Legal self.new }
     {
-        let alloc = self.alloc;
-        let Op::Exec { text } = &op;
-        let kept = text.copy()?;
-        let sent = text.copy()?;
-        let skipped = Txt::copy_of(alloc, SKIPPED)?;
+        let named_ok = self.desk.caps().named;
+        let entering = enter_with(self.alloc, named_ok, &op)?;
         self.desk.pay(4)?;
-        let texts = Texts { kept, sent };
-        Ok(self.desk.enter_and_ask(alloc, client, op, texts, skipped))
+        Ok(self.desk.enter_call(client, op, entering))
     }
 
     /// A driver's answer is heard; the copy is of that answer.
@@ -86,13 +81,9 @@ impl Engine {
         ensures err { OnErr result (self.new ≡ self.old) }
         ensures legal { Legal self.new }
     {
-        let text = self.desk.statement(self.alloc, entry.call_no)?;
-        let skipped = Txt::copy_of(self.alloc, SKIPPED)?;
+        let statement = self.desk.statement(self.alloc, entry.call_no)?;
         self.desk.pay(4)?;
-        Ok(
-            self.desk
-                .hear_answer(self.alloc, entry, copy, text, skipped),
-        )
+        Ok(self.desk.hear_answer(entry, copy, statement))
     }
 
     /// A client's unfinished call looks at its connection again.
@@ -106,10 +97,9 @@ impl Engine {
         let Some(n) = self.desk.call_of(client) else {
             unreachable!();
         };
-        let text = self.desk.statement(self.alloc, n)?;
-        let skipped = Txt::copy_of(self.alloc, SKIPPED)?;
+        let statement = self.desk.statement(self.alloc, n)?;
         self.desk.pay(4)?;
-        Ok(self.desk.wake_call(self.alloc, n, text, skipped))
+        Ok(self.desk.wake_call(n, statement))
     }
 
     /// The layer's own driver call that comes first, if there is one.

@@ -8,6 +8,7 @@ mod next;
 mod queries;
 mod room;
 mod start;
+mod statement;
 mod steps;
 
 pub use engine::Engine;

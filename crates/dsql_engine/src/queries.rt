@@ -1,10 +1,12 @@
 //! Questions to the tables, each answered in a reader's word.
-ghost use Rattle.std.specs.Prelude.{◌≡◌, ◌+◌, ◌^◌, ◌<◌, ◌≤◌, ◌∷◌, [], Some, None, Option, List, length, nat_lt, slice_index_or, IfOk, OnOk, OnErr, position};
+ghost use Rattle.std.specs.Prelude.{◌≡◌, ◌+◌, ◌^◌, ◌<◌, ◌≤◌, ◌∷◌, [], Some, None, Option, List, length, nat_lt, slice_index_or, IfOk, OnOk, OnErr, position, is_none};
+ghost use Rattle.dsql_value.specs.Arguments.{count_fault};
+ghost use Rattle.dsql_engine.specs.Statements.{statement_of};
 ghost use Rattle.dsql_history.specs.Readers.Course.{caps, has_ended};
 ghost use Rattle.dsql_history.specs.Readers.Sets.{place, places, idle, open_count, next_number, next_tenure, uses};
 ghost use Rattle.dsql_history.specs.Readers.Calls.{call_record, home, next_call, is_busy, unfinished};
 ghost use Rattle.dsql_history.specs.Rules.Limit.{room};
-ghost use Rattle.dsql_history.specs.Rules.Line.{is_reset_due, line_after, body_of, test_of, after_call};
+ghost use Rattle.dsql_history.specs.Rules.Line.{is_reset_due, line_after, body_of, run_of, test_of, after_call};
 ghost use Rattle.dsql_history.specs.Rules.House.{shut_due, connect_due};
 ghost use Rattle.dsql_history.specs.Rules.Causes.{cause_when};
 ghost use Rattle.dsql_driver.specs.Fits.{is_invalid, is_done};
@@ -15,10 +17,11 @@ ghost use Rattle.dsql_engine.specs.Awaited.{shut_permit, connect_permit};
 ghost use Rattle.dsql_engine.specs.Latest.{latest, oldest};
 
 use crate::desk::Desk;
+use crate::statement::{Statement, statement_of as copy_of_statement};
 use dsql_driver::{Caps, DriverAnswer, DriverCall, Input};
 use dsql_history::{CloseCause, Place};
 use dsql_journal::{Owner, Permit};
-use dsql_value::{Items, Memory, Txt};
+use dsql_value::{Items, Memory, Params, Txt};
 use std::alloc::Global;
 
 #[tactic(auto, unfolding(crate::specs::Desk::Stands))]
@@ -142,14 +145,18 @@ impl Desk {
         }
     }
 
-    /// A copy of the text of a call's statement.
-    pub fn statement(&self, alloc: Global, n: u32) -> Result<Txt, Memory>
+    /// A copy of a call's statement.
+    pub fn statement(&self, alloc: Global, n: u32) -> Result<Statement, Memory>
         requires { Stands self.now }
-        ensures { IfOk result (λ t. t ≡ (call_record (past self.now) n).text) }
+        ensures { IfOk result (λ s. s ≡ statement_of (call_record (past self.now) n)) }
     {
         match self.calls.get(n as usize) {
-            Some(call) => call.text.copy(),
-            None => Txt::copy_of(alloc, ""),
+            Some(call) => copy_of_statement(call),
+            None => {
+                let text = Txt::copy_of(alloc, "")?;
+                let params = Items::none(alloc);
+                Ok(Statement { text, params })
+            }
         }
     }
 
@@ -280,43 +287,74 @@ fn test_of(caps: Caps) -> Option<DriverCall>
     }
 }
 
-/// The statement where the driver has the fast path, else the test.
-pub fn body_of(alloc: Global, caps: Caps, text: Txt) -> Option<DriverCall>
-    ensures { result ≡ body_of caps text }
+/// The statement: its text is run where the driver has the fast path, else it is prepared.
+pub fn body_of(caps: Caps, statement: Statement) -> DriverCall
+    ensures { result ≡ body_of caps statement.text statement.params }
 {
     if caps.fast_exec {
-        let params = Items::none(alloc);
-        return Some(DriverCall::Exec(Input::Text(text), params));
+        DriverCall::Exec(Input::Text(statement.text), statement.params)
+    } else {
+        DriverCall::Prepare(statement.text)
     }
-    test_of(caps)
+}
+
+/// The run of a handle that wants so many inputs, or its close where there is another number of parameters.
+pub fn run_of(handle: u32, inputs: i32, params: Params) -> DriverCall
+    ensures { result ≡ run_of handle inputs params }
+{
+    if takes(inputs, params.as_slice().len()) {
+        DriverCall::Exec(Input::Handle(handle), params)
+    } else {
+        DriverCall::CloseStmt(handle)
+    }
+}
+
+/// Whether a handle with so many inputs takes so many parameters.
+fn takes(inputs: i32, count: usize) -> bool
+    ensures { result ≡ is_none (count_fault inputs count) }
+{
+    match u32::try_from(inputs) {
+        Ok(want) => want as usize == count,
+        Err(_) => true,
+    }
 }
 
 /// What a call sends first on a connection that was lent to it.
-pub fn first_call(alloc: Global, caps: Caps, reset_due: bool, text: Txt) -> Option<DriverCall>
-    ensures { result ≡ line_after caps reset_due text [] }
+pub fn first_call(caps: Caps, reset_due: bool, statement: Statement) -> Option<DriverCall>
+    ensures { result ≡ line_after caps reset_due statement.text statement.params [] }
 {
     if reset_due {
         return Some(DriverCall::Reset);
     }
-    body_of(alloc, caps, text)
+    Some(body_of(caps, statement))
 }
 
 /// What comes after a driver call and its answer.
 pub fn next_after(
-    alloc: Global,
     caps: Caps,
-    text: Txt,
+    statement: Statement,
     call: &DriverCall,
     answer: &DriverAnswer,
 ) -> Option<DriverCall>
-    ensures { result ≡ after_call caps text call.now answer.now }
+    ensures { result ≡ after_call caps statement.text statement.params call.now answer.now }
 {
     if is_bad_answer(answer) {
         return None;
     }
     match call {
-        DriverCall::Reset => body_of(alloc, caps, text),
-        DriverCall::Exec(_, _) => test_of(caps),
+        DriverCall::Reset => Some(body_of(caps, statement)),
+        DriverCall::Exec(Input::Text(_), _) => match answer {
+            DriverAnswer::Skip => Some(DriverCall::Prepare(statement.text)),
+            _ => test_of(caps),
+        },
+        DriverCall::Exec(Input::Handle(handle), _) => Some(DriverCall::CloseStmt(*handle)),
+        DriverCall::Prepare(_) => match answer {
+            DriverAnswer::Prepared { handle, inputs } => {
+                Some(run_of(*handle, *inputs, statement.params))
+            }
+            _ => test_of(caps),
+        },
+        DriverCall::CloseStmt(_) => test_of(caps),
         _ => None,
     }
 }

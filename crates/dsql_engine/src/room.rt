@@ -1,15 +1,15 @@
 //! Writes that were paid for before, or that take no memory: they can't fail.
-ghost use Rattle.std.specs.Prelude.{◌≡◌, ◌+◌, ◌<◌, ◌≤◌, ◌^◌, ◌∷◌, ◌++◌, [], None, unwrap_or, reverse, slice_set, slice_index_or, vec_len, vec_capacity};
+ghost use Rattle.std.specs.Prelude.{◌≡◌, ◌+◌, ◌<◌, ◌≤◌, ◌^◌, ◌∷◌, ◌++◌, [], ℕ, Some, None, true, is_some, length, List, reverse, slice_set, slice_index_or, vec_len, vec_capacity};
 ghost use Rattle.dsql_history.specs.Readers.Lists.{without};
 ghost use Rattle.dsql_history.specs.Readers.Sets.{one_more};
-ghost use Rattle.dsql_history.specs.Readers.Calls.{with_record, decision, reply_to, nobody};
-ghost use Rattle.dsql_history.specs.declared.reply.Reply.TheVariants.{Driver};
+ghost use Rattle.dsql_history.specs.Readers.Calls.{with_record, decision, reply_to, told_of, nobody};
+ghost use Rattle.dsql_value.specs.Arguments.{count_fault};
+ghost use Rattle.dsql_driver.specs.declared.call.DriverCall.TheVariants.{Prepare};
 ghost use Rattle.dsql_engine.specs.Told.{told_entry};
 
 use dsql_driver::{DriverAnswer, DriverCall};
 use dsql_history::{CallRecord, Event, Place, Reply};
 use dsql_journal::Entry;
-use dsql_value::Txt;
 
 /// Adds an element where there is room.
 pub fn put<T: Drop>(v: &mut Vec<T>, x: T)
@@ -101,20 +101,60 @@ pub fn reply_of(answer: DriverAnswer) -> Option<Reply>
     }
 }
 
+/// What a number of inputs decides, where there are so many parameters.
+pub fn count_reply(inputs: i32, count: usize) -> Option<Reply>
+    ensures { result ≡ told_of (count_fault inputs count) }
+{
+    let Ok(want) = u32::try_from(inputs) else {
+        return None;
+    };
+    if want as usize == count {
+        return None;
+    }
+    let got = u32::try_from(count).unwrap_or(u32::MAX);
+    Some(Reply::NumArgs { want, got })
+}
+
+/// How many parameters a call has.
+fn count_of_params(calls: &Vec<CallRecord>, n: u32) -> usize
+    ensures { result ≡ length (slice_index_or calls.now.items n nobody).params }
+{
+    match calls.get(n as usize) {
+        Some(call) => call.params.as_slice().len(),
+        None => 0,
+    }
+}
+
 /// Tells a call what one of its driver calls was answered.
 pub fn tell(calls: &mut Vec<CallRecord>, n: u32, call: &DriverCall, answer: DriverAnswer)
-    ensures items { calls.new.items ≡ with_record n (λ r. record r { decided = decision call.now answer r.decided }) calls.old.items }
+    ensures items { calls.new.items ≡ with_record n (λ r. record r { decided = decision (length r.params) call.now answer r.decided }) calls.old.items }
     ensures len { vec_len calls.new ≡ vec_len calls.old }
     ensures capacity { vec_capacity calls.new ≡ vec_capacity calls.old }
 {
     match call {
         DriverCall::Exec(_, _) => set_decided(calls, n, reply_of(answer)),
+        DriverCall::Prepare(_) => tell_prepare(calls, n, answer),
         DriverCall::Reset => {
             if let DriverAnswer::Bad = answer {
                 set_decided(calls, n, Some(Reply::BadConn(1)));
             }
         }
         _ => {}
+    }
+}
+
+/// Tells a call what its Prepare was answered.
+fn tell_prepare(calls: &mut Vec<CallRecord>, n: u32, answer: DriverAnswer)
+    ensures items { (text : List ℕ) → calls.new.items ≡ with_record n (λ r. record r { decided = decision (length r.params) (Prepare text) answer r.decided }) calls.old.items }
+    ensures len { vec_len calls.new ≡ vec_len calls.old }
+    ensures capacity { vec_capacity calls.new ≡ vec_capacity calls.old }
+{
+    match answer {
+        DriverAnswer::Prepared { inputs, .. } => {
+            let count = count_of_params(calls, n);
+            set_decided(calls, n, count_reply(inputs, count));
+        }
+        _ => set_decided(calls, n, reply_of(answer)),
     }
 }
 
@@ -130,20 +170,19 @@ pub fn tell_entry(calls: &mut Vec<CallRecord>, entry: &Entry, copy: DriverAnswer
     tell(calls, entry.call_no, &entry.call, copy);
 }
 
-/// Takes the reply that a call is due out of its record: what was decided, or that the fast path was
-/// skipped.
-pub fn take_reply(calls: &mut Vec<CallRecord>, n: u32, skipped: Txt) -> Reply
-    ensures reply { result ≡ unwrap_or (slice_index_or calls.old.items n nobody).decided (Driver skipped) }
+/// Takes the reply that is settled out of a call's record.
+pub fn take_reply(calls: &mut Vec<CallRecord>, n: u32) -> Reply
+    requires settled { is_some (slice_index_or calls.old.items n nobody).decided ≡ true }
+    ensures reply { (slice_index_or calls.old.items n nobody).decided ≡ Some result }
     ensures items { calls.new.items ≡ with_record n (λ r. record r { decided = None }) calls.old.items }
     ensures len { vec_len calls.new ≡ vec_len calls.old }
     ensures capacity { vec_capacity calls.new ≡ vec_capacity calls.old }
 {
     let n = n as usize;
     if n < calls.len() {
-        match calls[n].decided.take() {
-            Some(reply) => return reply,
-            None => return Reply::Driver(skipped),
+        if let Some(reply) = calls[n].decided.take() {
+            return reply;
         }
     }
-    Reply::Driver(skipped)
+    unreachable!()
 }

@@ -8,7 +8,7 @@ use crate::desk::Desk;
 use crate::next::NoRoom;
 use dsql_driver::Caps;
 use dsql_history::{CallRecord, Event, Place};
-use dsql_value::Txt;
+use dsql_value::{Items, Txt};
 use std::alloc::Global;
 
 #[tactic(auto, unfolding(crate::specs::Desk::Stands, dsql_history::specs::Legal::Allowed))]
@@ -33,6 +33,7 @@ impl Desk {
             client: 0,
             home: 0,
             text,
+            params: Items::none(alloc),
             decided: None,
         })?;
         Ok(Desk {

@@ -7,7 +7,7 @@ ghost use Rattle.dsql_history.specs.Legal.{Lawful};
 ghost use Rattle.dsql_history.specs.Readers.Course.{caps, has_ended};
 ghost use Rattle.dsql_history.specs.Readers.Sets.{place, idle, open_count, next_tenure, is_for};
 ghost use Rattle.dsql_history.specs.Readers.Journals.{journal, ends_invalid, heard_in};
-ghost use Rattle.dsql_history.specs.Readers.Calls.{statement, skipped as skipped_text, next_call, is_busy, call_record, home, is_unfinished};
+ghost use Rattle.dsql_history.specs.Readers.Calls.{statement as text_of, arguments, told_of, reply_due, next_call, is_busy, call_record, home, is_unfinished};
 ghost use Rattle.dsql_history.specs.Rules.House.{is_quiet};
 ghost use Rattle.dsql_history.specs.Rules.Line.{due};
 ghost use Rattle.dsql_history.specs.Rules.Limit.{room};
@@ -20,6 +20,8 @@ ghost use Rattle.dsql_history.specs.declared.record.Place.TheVariants.{Opening, 
 ghost use Rattle.dsql_engine.specs.Desk.{past, Stands};
 ghost use Rattle.dsql_engine.specs.Awaited.{awaited, connect_permit, shut_permit, call_permit, permit_of};
 ghost use Rattle.dsql_engine.specs.Latest.{latest};
+ghost use Rattle.dsql_engine.specs.Statements.{statement_of, Enters};
+ghost use Rattle.dsql_value.specs.Arguments.{first_fault, params_of};
 ghost use Rattle.dsql_engine.specs.Freshly.{Freshly};
 ghost use Rattle.dsql_engine.specs.Groups.{after_enter, after_ask, after_heard, after_answer, after_lending, after_end, lent_to, leaving, told};
 ghost use Rattle.dsql_engine.specs.Steps.{NextAfterEnter, NextAfterAsk, NextAfterHeard, NextAfterAnswer, NextOfBody, NextOfWake, IsParkedAt};
@@ -28,11 +30,10 @@ use crate::desk::Desk;
 use crate::next::{Next, Why};
 use crate::queries::{first_call, is_bad_answer, is_done_answer, is_invalid_answer, next_after};
 use crate::room::reply_of;
+use crate::statement::{Entering, Statement};
 use dsql_driver::{DriverAnswer, DriverCall};
-use dsql_history::{CloseCause, Op, Place};
+use dsql_history::{CloseCause, Op, Place, Reply};
 use dsql_journal::{Entry, Owner, Permit};
-use dsql_value::Txt;
-use std::alloc::Global;
 
 impl Desk {
     /// Uses the connection that is lent to a call: what is due is sent, and where nothing is, the
@@ -45,7 +46,6 @@ impl Desk {
         next: Option<DriverCall>,
         bad: bool,
         invalid: bool,
-        skipped: Txt,
     ) -> Next
         requires stands { Stands self.old }
         requires settled { Settled (past self.old) }
@@ -53,7 +53,6 @@ impl Desk {
         requires due { next ≡ due (past self.old) c tenure n }
         requires bad { next ≡ None → bad ≡ went_bad (journal (past self.old) c) }
         requires invalid { next ≡ None → invalid ≡ ends_invalid (journal (past self.old) c) }
-        requires skipped { skipped ≡ skipped_text }
         requires paid { 2 ≤ self.old.paid }
         ensures stands { Stands self.new }
         ensures settled { Settled (past self.new) }
@@ -71,7 +70,7 @@ impl Desk {
             }),
             None => {
                 self.leave(c, tenure, n, bad, invalid);
-                self.tell(n, skipped);
+                self.tell(n);
                 Next::Reply(n)
             }
         }
@@ -98,24 +97,42 @@ impl Desk {
 }
 
 impl Desk {
-    /// A client's call enters and asks for a connection.
-    pub fn enter_and_ask(
-        &mut self,
-        alloc: Global,
-        client: u8,
-        op: Op,
-        texts: Texts,
-        skipped: Txt,
-    ) -> Next
+    /// A client's call enters.
+    pub fn enter_call(&mut self, client: u8, op: Op, entering: Entering) -> Next
         requires stands { Stands self.old }
         requires settled { Settled (past self.old) }
         requires begun { is_empty (past self.old) ≡ false }
         requires free { is_busy client (past self.old) ≡ false }
         requires running { has_ended (past self.old) ≡ false }
         requires few { length (past self.old) < 4000000 }
-        requires text { texts.kept ≡ statement op }
-        requires spare { texts.sent ≡ statement op }
-        requires skipped { skipped ≡ skipped_text }
+        requires enters { Enters (caps (past self.old)).named op entering }
+        requires paid { 4 ≤ self.old.paid }
+        ensures stands { Stands self.new }
+        ensures settled { Settled (past self.new) }
+        ensures begun { is_empty (past self.new) ≡ false }
+        ensures group { past self.new ≡ after_enter (past self.old) client op }
+        ensures next { NextAfterEnter (past self.old) client op result (past self.new) }
+    {
+        match entering {
+            Entering::Asking { kept, sent } => self.enter_and_ask(client, op, kept, sent),
+            Entering::Refused { statement, reply } => {
+                self.enter_refused(client, op, statement, reply)
+            }
+        }
+    }
+
+    /// A client's call enters and asks for a connection. Its statement comes twice: it is kept, and sent.
+    fn enter_and_ask(&mut self, client: u8, op: Op, kept: Statement, sent: Statement) -> Next
+        requires stands { Stands self.old }
+        requires settled { Settled (past self.old) }
+        requires begun { is_empty (past self.old) ≡ false }
+        requires free { is_busy client (past self.old) ≡ false }
+        requires running { has_ended (past self.old) ≡ false }
+        requires few { length (past self.old) < 4000000 }
+        requires accepted { first_fault (caps (past self.old)).named (arguments op) ≡ None }
+        requires text { kept.text ≡ text_of op }
+        requires params { kept.params ≡ params_of (arguments op) }
+        requires copy { sent ≡ kept }
         requires paid { 4 ≤ self.old.paid }
         ensures stands { Stands self.new }
         ensures settled { Settled (past self.new) }
@@ -123,22 +140,44 @@ impl Desk {
         ensures next { NextAfterEnter (past self.old) client op result (past self.new) }
     {
         let n = self.next_call();
-        self.enter(n, client, op, texts.kept);
+        self.enter(n, client, op, kept, None);
         match self.latest() {
-            Some(c) => self.lend_idle(alloc, c, n, texts.sent, skipped),
+            Some(c) => self.lend_idle(c, n, sent),
             None => self.open_or_refuse(n),
         }
     }
 
+    /// A client's call enters, and replies that an argument is refused.
+    fn enter_refused(&mut self, client: u8, op: Op, statement: Statement, reply: Reply) -> Next
+        requires stands { Stands self.old }
+        requires settled { Settled (past self.old) }
+        requires begun { is_empty (past self.old) ≡ false }
+        requires free { is_busy client (past self.old) ≡ false }
+        requires few { length (past self.old) < 4000000 }
+        requires refused { told_of (first_fault (caps (past self.old)).named (arguments op)) ≡ Some reply }
+        requires text { statement.text ≡ text_of op }
+        requires params { statement.params ≡ [] }
+        requires paid { 4 ≤ self.old.paid }
+        ensures stands { Stands self.new }
+        ensures settled { Settled (past self.new) }
+        ensures group { past self.new ≡ after_enter (past self.old) client op }
+        ensures next { NextAfterEnter (past self.old) client op result (past self.new) }
+    {
+        let n = self.next_call();
+        self.enter(n, client, op, statement, Some(reply));
+        self.tell(n);
+        Next::Reply(n)
+    }
+
     /// The idle connection that came back last is lent to a call that has just entered.
-    fn lend_idle(&mut self, alloc: Global, c: u32, n: u32, text: Txt, skipped: Txt) -> Next
+    fn lend_idle(&mut self, c: u32, n: u32, statement: Statement) -> Next
         requires stands { Stands self.old }
         requires settled { Freshly (past self.old) n }
+        requires undecided { reply_due (past self.old) n ≡ None }
         requires running { has_ended (past self.old) ≡ false }
         requires latest { latest (idle (past self.old)) ≡ Some c }
         requires few { length (past self.old) < 4000001 }
-        requires text { text ≡ (call_record (past self.old) n).text }
-        requires skipped { skipped ≡ skipped_text }
+        requires statement { statement ≡ statement_of (call_record (past self.old) n) }
         requires paid { 3 ≤ self.old.paid }
         ensures stands { Stands self.new }
         ensures settled { Settled (past self.new) }
@@ -147,8 +186,8 @@ impl Desk {
     {
         let tenure = self.next_tenure(c);
         self.lend(c, tenure, n);
-        let next = first_call(alloc, self.caps(), self.is_reset_due(c), text);
-        self.use_lent(c, tenure, n, next, false, false, skipped)
+        let next = first_call(self.caps(), self.is_reset_due(c), statement);
+        self.use_lent(c, tenure, n, next, false, false)
     }
 
     /// A connection begins to be opened for a call that has just entered, where one more may be; else the
@@ -156,6 +195,7 @@ impl Desk {
     fn open_or_refuse(&mut self, n: u32) -> Next
         requires stands { Stands self.old }
         requires settled { Freshly (past self.old) n }
+        requires undecided { reply_due (past self.old) n ≡ None }
         requires running { has_ended (past self.old) ≡ false }
         requires none { idle (past self.old) ≡ [] }
         requires few { length (past self.old) < 4000001 }
@@ -178,11 +218,9 @@ impl Desk {
     /// A driver's answer is heard; the copy is of that answer, and the text of its call's statement.
     pub fn hear_answer(
         &mut self,
-        alloc: Global,
         entry: Entry,
         copy: DriverAnswer,
-        text: Txt,
-        skipped: Txt,
+        statement: Statement,
     ) -> Next
         requires stands { Stands self.old }
         requires settled { Settled (past self.old) }
@@ -191,8 +229,7 @@ impl Desk {
         requires heard { is_memory entry.answer ≡ false }
         requires same { copy ≡ entry.answer }
         requires few { length (past self.old) < 4000000 }
-        requires text { text ≡ (call_record (past self.old) entry.call_no).text }
-        requires skipped { skipped ≡ skipped_text }
+        requires statement { statement ≡ statement_of (call_record (past self.old) entry.call_no) }
         requires paid { 4 ≤ self.old.paid }
         ensures stands { Stands self.new }
         ensures settled { Settled (past self.new) }
@@ -201,9 +238,7 @@ impl Desk {
     {
         match self.place(entry.conn) {
             Place::Opening(n) => self.hear_connect(n, entry, copy),
-            Place::Lent(tenure, Owner::Call(n)) => self.hear_call(
-                alloc, tenure, n, entry, copy, text, skipped,
-            ),
+            Place::Lent(tenure, Owner::Call(n)) => self.hear_call(tenure, n, entry, copy, statement),
             Place::Closing => self.hear_shut(entry),
             _ => unreachable!(),
         }
@@ -300,13 +335,11 @@ impl Desk {
     /// The answer to a driver call of a client's call.
     fn hear_call(
         &mut self,
-        alloc: Global,
         tenure: u32,
         n: u32,
         entry: Entry,
         copy: DriverAnswer,
-        text: Txt,
-        skipped: Txt,
+        statement: Statement,
     ) -> Next
         requires stands { Stands self.old }
         requires settled { Settled (past self.old) }
@@ -315,8 +348,7 @@ impl Desk {
         requires fitting { fits_of entry.call entry.answer ≡ true }
         requires heard { is_memory entry.answer ≡ false }
         requires same { copy ≡ entry.answer }
-        requires text { text ≡ (call_record (past self.old) n).text }
-        requires skipped { skipped ≡ skipped_text }
+        requires statement { statement ≡ statement_of (call_record (past self.old) n) }
         requires paid { 4 ≤ self.old.paid }
         ensures stands { Stands self.new }
         ensures settled { Settled (past self.new) }
@@ -324,32 +356,24 @@ impl Desk {
         ensures next { NextAfterAnswer (Lent tenure (Call n)) entry (Heard entry ∷ past self.old) result (past self.new) }
     {
         let c = entry.conn;
-        let next = next_after(alloc, self.caps(), text, &entry.call, &entry.answer);
+        let next = next_after(self.caps(), statement, &entry.call, &entry.answer);
         let bad = is_bad_answer(&entry.answer);
         let invalid = is_invalid_answer(&entry.answer);
         self.hear(entry, copy);
-        self.use_lent(c, tenure, n, next, bad, invalid, skipped)
+        self.use_lent(c, tenure, n, next, bad, invalid)
     }
-}
-
-/// Two copies of a statement's text: one that is kept, and one that is sent.
-#[derive(Drop)]
-pub struct Texts {
-    pub kept: Txt,
-    pub sent: Txt,
 }
 
 impl Desk {
     /// An unfinished call looks at its connection: it uses one that was lent to it, on which nothing was
     /// heard yet, and replies where its connection was refused.
-    pub fn wake_call(&mut self, alloc: Global, n: u32, text: Txt, skipped: Txt) -> Next
+    pub fn wake_call(&mut self, n: u32, statement: Statement) -> Next
         requires stands { Stands self.old }
         requires settled { Settled (past self.old) }
         requires begun { is_empty (past self.old) ≡ false }
         requires unfinished { is_unfinished (past self.old) n ≡ true }
         requires parked { IsParkedAt (place (past self.old) (home (past self.old) n)) (home (past self.old) n) (past self.old) }
-        requires text { text ≡ (call_record (past self.old) n).text }
-        requires skipped { skipped ≡ skipped_text }
+        requires statement { statement ≡ statement_of (call_record (past self.old) n) }
         requires paid { 4 ≤ self.old.paid }
         ensures stands { Stands self.new }
         ensures settled { Settled (past self.new) }
@@ -358,55 +382,51 @@ impl Desk {
         let c = self.home(n);
         match self.place(c) {
             Place::Opening(_) => Next::Blocked(Why::Opening),
-            Place::Lent(tenure, _) => self.wake_lent(alloc, c, tenure, n, text, skipped),
-            Place::Nowhere => self.wake_fallen(n, skipped),
-            Place::Idle => self.wake_fallen(n, skipped),
-            Place::Closing => self.wake_fallen(n, skipped),
+            Place::Lent(tenure, _) => self.wake_lent(c, tenure, n, statement),
+            Place::Nowhere => self.wake_fallen(n),
+            Place::Idle => self.wake_fallen(n),
+            Place::Closing => self.wake_fallen(n),
         }
     }
 
     /// A call whose connection was refused replies.
-    fn wake_fallen(&mut self, n: u32, skipped: Txt) -> Next
+    fn wake_fallen(&mut self, n: u32) -> Next
         requires stands { Stands self.old }
         requires settled { Settled (past self.old) }
         requires begun { is_empty (past self.old) ≡ false }
         requires unfinished { is_unfinished (past self.old) n ≡ true }
         requires free { is_for n (place (past self.old) (home (past self.old) n)) ≡ false }
-        requires skipped { skipped ≡ skipped_text }
         requires paid { 4 ≤ self.old.paid }
         ensures stands { Stands self.new }
         ensures settled { Settled (past self.new) }
         ensures group { past self.new ≡ told n (past self.old) }
         ensures next { result ≡ Next.Reply n }
     {
-        self.tell(n, skipped);
+        self.tell(n);
         Next::Reply(n)
     }
 
     /// A call uses the connection that was lent to it, on which nothing was heard yet.
     fn wake_lent(
         &mut self,
-        alloc: Global,
         c: u32,
         tenure: u32,
         n: u32,
-        text: Txt,
-        skipped: Txt,
+        statement: Statement,
     ) -> Next
         requires stands { Stands self.old }
         requires settled { Settled (past self.old) }
         requires lent { place (past self.old) c ≡ Lent tenure (Call n) }
         requires fresh { heard_in (past self.old) c tenure ≡ [] }
-        requires text { text ≡ (call_record (past self.old) n).text }
-        requires skipped { skipped ≡ skipped_text }
+        requires statement { statement ≡ statement_of (call_record (past self.old) n) }
         requires paid { 4 ≤ self.old.paid }
         ensures stands { Stands self.new }
         ensures settled { Settled (past self.new) }
         ensures group { past self.new ≡ after_lending c tenure n (past self.old) }
         ensures next { NextOfBody c n (due (past self.old) c tenure n) result (past self.new) }
     {
-        let next = first_call(alloc, self.caps(), self.is_reset_due(c), text);
-        self.use_lent(c, tenure, n, next, false, false, skipped)
+        let next = first_call(self.caps(), self.is_reset_due(c), statement);
+        self.use_lent(c, tenure, n, next, false, false)
     }
 
     /// The run ends, and the idle connections begin to close, the longest idle first.

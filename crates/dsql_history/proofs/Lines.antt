@@ -1,5 +1,5 @@
 -- What is heard in the tenure of an exec: how far its line has come, and what may come next.
-use Rattle.std.proofs.Common.{◌≡◌, ℕ, ℤ, ◌<◌, ◌≤◌, Bool, true, false, cond, ◌&&◌, ◌||◌, List, [], ◌∷◌, length, Option, Some, None, is_none, refl, sym, ap, ◌∙◌, is_some}
+use Rattle.std.proofs.Common.{◌≡◌, ℕ, ℤ, ◌<◌, ◌≤◌, Bool, true, false, cond, ◌&&◌, ◌||◌, List, [], ◌∷◌, length, Option, Some, None, is_none, refl, ap, is_some}
 use Rattle.std.specs.List.{list_all}
 use native.Mathlib.Omega.{arith}
 use Rattle.std.proofs.lemmas.Bool.Decides.{nat_tests}
@@ -21,7 +21,7 @@ use Rattle.dsql_journal.specs.Journal.{may_follow, IsJournalPrefix}
 use Rattle.dsql_journal.specs.Entries.{call_entry}
 use Rattle.dsql_journal.specs.ExecJournals.{Plain, Good}
 use Rattle.dsql_journal.proofs.Tenures.{of_tenure-new}
-use Rattle.dsql_journal.proofs.ExecLines.{Step, Start, WasReset, WasSkipped, WasPrepared, WasRun, WasDone, WasTested, WasDropped, IsOther, step, step_after, goes, Live, SoFar, so_far-start, so_far-next, is_sent}
+use Rattle.dsql_journal.proofs.ExecLines.{Start, WasReset, WasSkipped, WasPrepared, WasRun, WasDone, step, step_after, goes, Live, SoFar, so_far-start, so_far-next, is_sent}
 use Rattle.dsql_journal.proofs.ExecJournals.{Good-with, Plain-sent, Sends, of_tenure-with, may_follow-sent}
 use Rattle.dsql_history.specs.Readers.Journals.{ends_invalid}
 use Rattle.dsql_history.specs.Rules.Line.{line_after, is_due, after_call, body_of, run_of, test_of}

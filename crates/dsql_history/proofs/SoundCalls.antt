@@ -2,7 +2,6 @@
 use Rattle.std.proofs.Common.{◌≡◌, ◌≢◌, ℕ, ◌<◌, ◌≤◌, ◌+◌, ◌==◌, ◌⊎◌, inl, inr, Bool, true, false, not, ◌&&◌, ◌||◌, cond, ap, List, [], ◌∷◌, length, refl, arith, zero, suc, get_or, set, length-set, None, is_none, sym, ◌∙◌}
 use Rattle.std.proofs.lemmas.Grind.{common_steps}
 use Rattle.std.proofs.lemmas.Bool.Decides.{nat_tests}
-use Rattle.dsql_value.specs.Arguments.{params_of}
 use Rattle.dsql_driver.specs.Fits.{is_done}
 use Rattle.dsql_journal.specs.declared.entry.Entry.{Entry}
 use Rattle.dsql_journal.specs.declared.entry.Owner.{Owner}
@@ -21,7 +20,7 @@ use Rattle.dsql_history.specs.declared.reply.Reply.{Reply}
 use Rattle.dsql_history.specs.Readers.Lists.{last}
 use Rattle.dsql_history.specs.Readers.Course.{caps, has_ended}
 use Rattle.dsql_history.specs.Readers.Sets.{places, place, idle, is_idle, is_opening, is_for, number_of, next_number, next_tenure}
-use Rattle.dsql_history.specs.Readers.Calls.{calls, home, unfinished, is_unfinished, next_call, nobody, with_record, call_record, has_not_asked, statement, arguments, refused_at_entry, is_busy, decision, refusal}
+use Rattle.dsql_history.specs.Readers.Calls.{calls, home, unfinished, is_unfinished, next_call, nobody, with_record, call_record, has_not_asked, statement, params_at_entry, refused_at_entry, is_busy, decision, refusal}
 use Rattle.dsql_history.specs.Rules.House.{is_quiet, has_no_chore}
 use Rattle.dsql_history.specs.Rules.Moves.{moves_from, numbers_lending}
 use Rattle.dsql_history.specs.Rules.Asking.{may_ask, takes_latest}
@@ -234,7 +233,7 @@ calls_same H e s p u end home_is len = record {
 }
 
 entered_home : (H : List Event) (k n : ℕ) (op : Op) (m : ℕ) → home (Entered k n op ∷ H) m ≡ home H m
-entered_home H k n op m = grind (arith, read_push (calls H) (record { client = k; home = 0; text = statement op; params = params_of (arguments op); decided = refused_at_entry (caps H) op }) m nobody, within_rows (calls H) m nobody)
+entered_home H k n op m = grind (arith, read_push (calls H) (record { client = k; home = 0; text = statement op; params = params_at_entry (caps H) op; decided = refused_at_entry (caps H) op }) m nobody, within_rows (calls H) m nobody)
 
 calls_entered : (H : List Event) (k n : ℕ) (op : Op) → SoundCalls H → n ≡ length (calls H) → SoundCalls (Entered k n op ∷ H)
 calls_entered H k n op s new = record {

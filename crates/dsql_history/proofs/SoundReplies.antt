@@ -1,20 +1,19 @@
 -- What each lawful history settles of its calls: where a call has nothing more to send on the connection that is lent to it, its reply is settled.
 use Rattle.std.proofs.Common.{◌≡◌, ◌≢◌, ℕ, ℤ, pos, negsuc, zero, suc, ◌<◌, ◌≤◌, ◌==◌, min, ◌⊎◌, inl, inr, Bool, true, false, not, ◌&&◌, ◌||◌, cond, List, [], ◌∷◌, length, get_or, set, Option, Some, None, is_none, is_some, refl, sym, ap, ◌∙◌, subst}
 use native.Mathlib.Omega.{arith}
-use Rattle.std.proofs.lemmas.Bool.Decides.{nat_tests}
 use Rattle.dsql_value.specs.declared.value.Param.{Param}
 use Rattle.dsql_value.specs.declared.arg.ArgFault.TheVariants.{NumArgs}
-use Rattle.dsql_value.specs.Arguments.{params_of, count_fault, largest_count}
+use Rattle.dsql_value.specs.Arguments.{count_fault, largest_count}
 use Rattle.dsql_driver.specs.Fits.{fits_of, is_memory, is_done}
 use Rattle.dsql_driver.specs.declared.caps.Caps.{Caps}
 use Rattle.dsql_driver.specs.declared.call.DriverCall.{DriverCall}
 use Rattle.dsql_driver.specs.declared.call.DriverCall.TheVariants.{Reset, Valid, Prepare, Exec, CloseStmt}
 use Rattle.dsql_driver.specs.declared.call.Input.TheVariants.{Text, Handle}
 use Rattle.dsql_driver.specs.declared.answer.DriverAnswer.{DriverAnswer}
-use Rattle.dsql_driver.specs.declared.answer.DriverAnswer.TheVariants.{Prepared, Result, Skip, Bad, Fail, Memory}
+use Rattle.dsql_driver.specs.declared.answer.DriverAnswer.TheVariants.{Prepared, Result, Skip, Bad, Fail}
 use Rattle.dsql_journal.specs.declared.entry.Entry.{Entry}
 use Rattle.dsql_journal.specs.declared.entry.Owner.{Owner}
-use Rattle.dsql_journal.specs.declared.entry.Owner.TheVariants.{Call, Tx, Pin, House}
+use Rattle.dsql_journal.specs.declared.entry.Owner.TheVariants.{Call}
 use Rattle.dsql_journal.specs.Kinds.{is_connect, is_shut, is_house, same_owner}
 use Rattle.dsql_journal.specs.Readers.{of_tenure}
 use Rattle.dsql_journal.specs.Facts.{MayFollow}
@@ -32,16 +31,15 @@ use Rattle.dsql_history.specs.declared.reply.Reply.{Reply}
 use Rattle.dsql_history.specs.Readers.Course.{caps}
 use Rattle.dsql_history.specs.Readers.Sets.{places, place, is_for, number_of, is_opening, next_tenure}
 use Rattle.dsql_history.specs.Readers.Journals.{journal, heard_in}
-use Rattle.dsql_history.specs.Readers.Calls.{calls, home, call_record, nobody, with_record, statement, arguments, refused_at_entry, decision, refusal, reply_to, told_of, reply_due}
-use Rattle.dsql_history.specs.Rules.Line.{due, is_due, line_after, after_call, body_of, run_of, test_of, is_reset_due, sends_from}
+use Rattle.dsql_history.specs.Readers.Calls.{calls, home, call_record, nobody, with_record, statement, params_at_entry, refused_at_entry, decision, refusal, told_of, reply_due}
+use Rattle.dsql_history.specs.Rules.Line.{due, is_due, line_after, after_call, body_of, is_reset_due}
 use Rattle.dsql_history.specs.Rules.Moves.{hears_in}
-use Rattle.dsql_history.specs.Rules.Order.{follows, follows_answer, leaves_when_heard, was_just_refused}
+use Rattle.dsql_history.specs.Rules.Order.{follows, follows_answer, was_just_refused}
 use Rattle.dsql_history.specs.Legal.{Allowed, Lawful}
 use Rattle.dsql_history.proofs.Rows.{both, same_number, same_to_itself, other_number, row_at, read_set, read_push, within_rows, same_or_not, row_old, not_true}
 use Rattle.dsql_history.proofs.Lines.{sent_of}
-use Rattle.dsql_history.proofs.SoundSets.{SoundSets, sound_sets}
-use Rattle.dsql_history.proofs.SoundCalls.{SoundCalls, sound_calls, LendFacts, lend_facts, OpenFacts, open_facts, owner_of, entered_facts, replied_facts}
-use Rattle.dsql_history.proofs.SoundJournals.{HeardFacts, heard_facts, MoveFacts, move_facts, fresh_lending}
+use Rattle.dsql_history.proofs.SoundCalls.{SoundCalls, sound_calls, LendFacts, lend_facts, owner_of, entered_facts, replied_facts}
+use Rattle.dsql_history.proofs.SoundJournals.{HeardFacts, heard_facts, move_facts, fresh_lending}
 
 -- an exec with so many parameters still comes to an answer that decides
 abbrev pub awaits_after : DriverCall → DriverAnswer → ℕ → Bool
@@ -335,7 +333,7 @@ settles_entered : (H : List Event) (k m : ℕ) (op : Op) (c t n : ℕ) → Sound
 settles_entered H k m op c t n s all new is =
     let within = s.within n (s.unfinished_ones c n (lent_for H c t n is)) in
     settles_still H (Entered k m op) c t n all is
-    (row_old (calls H) (record { client = k; home = 0; text = statement op; params = params_of (arguments op); decided = refused_at_entry (caps H) op }) n nobody (λ same. absurd (omega (arith, within.1, same))))
+    (row_old (calls H) (record { client = k; home = 0; text = statement op; params = params_at_entry (caps H) op; decided = refused_at_entry (caps H) op }) n nobody (λ same. absurd (omega (arith, within.1, same))))
     refl
 
 settles_replied : (H : List Event) (m : ℕ) (reply : Reply) (c t n : ℕ) → SoundCalls H → AllSettle H → is_for m (place H (home H m)) ≡ false → place H c ≡ Lent t (Call n) → Settles (Replied m reply ∷ H) c t n

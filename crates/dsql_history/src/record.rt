@@ -26,7 +26,7 @@ pub struct CallRecord {
     pub home: u32,
     /// The text of its statement.
     pub text: Txt,
-    /// The parameters that its arguments become.
+    /// The parameters that its arguments become, if none is refused.
     pub params: Params,
     /// The reply that is settled: by its arguments, where they are refused, else by its deciding answer.
     pub decided: Option<Reply>,

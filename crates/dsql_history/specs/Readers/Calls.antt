@@ -4,6 +4,7 @@ use Rattle.std.specs.List.{list_any}
 use Rattle.dsql_value.specs.declared.arg.Named.{Named}
 use Rattle.dsql_value.specs.declared.arg.ArgFault.{ArgFault}
 use Rattle.dsql_value.specs.declared.arg.ArgFault.TheVariants as faults
+use Rattle.dsql_value.specs.declared.value.Param.{Param}
 use Rattle.dsql_value.specs.Arguments.{params_of, first_fault, count_fault}
 use Rattle.dsql_driver.specs.declared.caps.Caps.{Caps}
 use Rattle.dsql_driver.specs.declared.call.DriverCall.{DriverCall}
@@ -46,6 +47,14 @@ told_of (Some fault) = refused_with fault
 abbrev pub refused_at_entry : Caps → Op → Option Reply
 refused_at_entry can op = told_of (first_fault can.named (arguments op))
 
+-- the parameters that arguments become, where none is refused
+abbrev pub accepted : Option ArgFault → List Named → List Param
+accepted None args = params_of args
+accepted (Some fault) args = []
+
+abbrev pub params_at_entry : Caps → Op → List Param
+params_at_entry can op = accepted (first_fault can.named (arguments op)) (arguments op)
+
 -- the reply that a deciding answer gives; a Skip decides nothing
 abbrev pub reply_to : DriverAnswer → Option Reply
 reply_to (answers.Result last affected) = Some (Result last affected)
@@ -79,7 +88,7 @@ abbrev pub calls : List Event → List CallRecord
 calls [] = nobody ∷ []
 calls (Entered client n op ∷ before) =
     calls before
-    ++ record { client = client; home = 0; text = statement op; params = params_of (arguments op); decided = refused_at_entry (caps before) op } ∷ []
+    ++ record { client = client; home = 0; text = statement op; params = params_at_entry (caps before) op; decided = refused_at_entry (caps before) op } ∷ []
 calls (Pool (OpenStart c n) ∷ before) = with_record n (λ r. record r { home = c }) (calls before)
 calls (Pool (Lend c tenure owner n) ∷ before) = with_record n (λ r. record r { home = c }) (calls before)
 calls (Pool (Fell c n) ∷ before) = with_record n (λ r. record r { decided = refusal before }) (calls before)

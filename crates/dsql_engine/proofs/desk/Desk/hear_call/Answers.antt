@@ -50,9 +50,9 @@ use_lent-requires-clause-due c =
     let w : Awaits (due H e.conn t n) e.conn t n (permit_of e) = awaits e.conn t n (due H e.conn t n) (permit_of e) c.requires.awaited in
     let same : e ≡ call_entry e.conn t n e.call e.answer = ap (λ (p : Permit). entry_of p e.answer) w.parts in
     let l : Lawful H = lawful_of _ c.requires.stands in
-    let d : after_call (caps H) (call_record H n).text e.call e.answer ≡ due (Heard e ∷ H) e.conn t n =
-    subst (λ (x : Entry). after_call (caps H) (call_record H n).text e.call e.answer ≡ due (Heard x ∷ H) e.conn t n) (sym same) (sym (due_heard H e.conn t n e.call e.answer l c.requires.lent)) in
-    rw c.hear.ensures.event (c.next_after-next.ensures ∙ rw (c.caps.ensures, c.requires.text) d)
+    let d : after_call (caps H) (call_record H n).text (call_record H n).params e.call e.answer ≡ due (Heard e ∷ H) e.conn t n =
+    subst (λ (x : Entry). after_call (caps H) (call_record H n).text (call_record H n).params e.call e.answer ≡ due (Heard x ∷ H) e.conn t n) (sym same) (sym (due_heard H e.conn t n e.call e.answer l c.requires.lent)) in
+    rw c.hear.ensures.event (c.next_after-next.ensures ∙ rw (c.caps.ensures, c.requires.statement) d)
 
 pub use_lent-requires-clause-bad : goal.use_lent-requires-clause-bad
 use_lent-requires-clause-bad c = λ none.

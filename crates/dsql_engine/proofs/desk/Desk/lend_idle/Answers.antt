@@ -14,7 +14,7 @@ lend-requires-clause-allowed c =
     let H = past c.args.self.now in
     let l : Lawful H = lawful_of _ c.requires.stands in
     let k = idle_latest H c.args.c l c.requires.latest in
-    rw c.next_tenure-tenure.ensures (may_lend_idle H c.args.c c.args.n c.requires.settled k.0 k.1 c.requires.running)
+    rw c.next_tenure-tenure.ensures (may_lend_idle H c.args.c c.args.n c.requires.settled c.requires.undecided k.0 k.1 c.requires.running)
 
 pub use_lent-requires-clause-settled : goal.use_lent-requires-clause-settled
 use_lent-requires-clause-settled c =
@@ -38,7 +38,7 @@ use_lent-requires-clause-due c =
     let m : Lawful (lent_to H c.args.c c.args.n) = rw (c.lend.ensures.event, c.next_tenure-tenure.ensures) at (lawful_of _ c.lend.ensures.stands) in
     let f = c.requires.settled in
     let d = due_fresh H c.args.c c.args.n l f.entered m in
-    c.first_call-next.ensures ∙ rw (c.caps.ensures, c.is_reset_due.ensures, c.lend.ensures.event, c.next_tenure-tenure.ensures, c.requires.text) (sym d)
+    c.first_call-next.ensures ∙ rw (c.caps.ensures, c.is_reset_due.ensures, c.lend.ensures.event, c.next_tenure-tenure.ensures, c.requires.statement) (sym d)
 
 pub use_lent-requires-clause-bad : goal.use_lent-requires-clause-bad
 use_lent-requires-clause-bad c = λ none.

@@ -11,12 +11,12 @@ use Rattle.dsql_engine.proofs.desk.Desk.open_or_refuse.Goals as goal
 pub start_opening-requires-clause-allowed : goal.start_opening-requires-clause-allowed
 start_opening-requires-clause-allowed c =
     let H = past c.args.self.now in
-    rw c.next_number-c.ensures (may_open_new H c.args.n c.requires.settled c.requires.none c.requires.running (sym c.may_open.ensures ∙ c.if-may_open.true))
+    rw c.next_number-c.ensures (may_open_new H c.args.n c.requires.settled c.requires.undecided c.requires.none c.requires.running (sym c.may_open.ensures ∙ c.if-may_open.true))
 
 pub refuse-requires-clause-allowed : goal.refuse-requires-clause-allowed
 refuse-requires-clause-allowed c =
     let H = past c.args.self.now in
-    may_refuse H c.args.n (lawful_of _ c.requires.stands) c.requires.settled c.requires.none (sym c.may_open.ensures ∙ c.if-may_open.false)
+    may_refuse H c.args.n (lawful_of _ c.requires.stands) c.requires.settled c.requires.undecided c.requires.none (sym c.may_open.ensures ∙ c.if-may_open.false)
 
 pub returns-then-may_open-clause-settled : goal.returns-then-may_open-clause-settled
 returns-then-may_open-clause-settled c =
@@ -28,4 +28,4 @@ pub returns-else-may_open-clause-settled : goal.returns-else-may_open-clause-set
 returns-else-may_open-clause-settled c =
     let H = past c.args.self.now in
     let m : Lawful (Replied c.args.n replies.TooMany ∷ H) = rw c.refuse.ensures.event at (lawful_of _ c.refuse.ensures.stands) in
-    rw c.refuse.ensures.event (settled_refused H c.args.n c.requires.settled m)
+    rw c.refuse.ensures.event (settled_refused H c.args.n replies.TooMany c.requires.settled m)
