@@ -20,7 +20,7 @@ use Rattle.dsql_value.specs.declared.value.Param.{Param}
 use Rattle.dsql_history.specs.Same.{same_truth, same_value, same_name, same_params}
 use Rattle.dsql_history.specs.Readers.Sets.{is_for}
 use Rattle.dsql_history.specs.Readers.Calls.{home, reply_due}
-use Rattle.dsql_engine.specs.Groups.{told, told_as}
+use Rattle.dsql_engine.specs.Groups.{told, reply_as}
 use Rattle.dsql_history.proofs.Rows.{same_to_itself}
 use Rattle.dsql_history.proofs.SoundCalls.{sound_calls}
 use Rattle.dsql_history.specs.Rules.Course.{begins_with_run, is_run}
@@ -152,12 +152,4 @@ may_reply H n r b placed u free due = record {
 
 -- what holds once any reply was told holds once the settled one was
 pub when_told : (G : List Event) (n : ℕ) → is_some (reply_due G n) ≡ true → Lawful (told n G) → ((r : Reply) → Lawful (Replied n r ∷ G) → Settled (Replied n r ∷ G)) → Settled (told n G)
-when_told G n some l k = by_due (reply_due G n) some l
-  where
-    by_due : (d : Option Reply) → is_some d ≡ true → Lawful (told_as n d G) → Settled (told_as n d G)
-    by_due None h m = absurd cc
-    by_due (Some r) h m = k r m
-
-pub begun_told : (n : ℕ) (d : Option Reply) (G : List Event) → is_empty G ≡ false → is_empty (told_as n d G) ≡ false
-begun_told n None G h = h
-begun_told n (Some r) G h = refl
+when_told G n some l k = k (reply_as (reply_due G n)) l

@@ -1,5 +1,4 @@
 -- The layer's own calls, and that a history that has begun stays so.
-use Rattle.dsql_engine.proofs.Basics.{begun_told}
 use Rattle.std.proofs.Common.{◌≡◌, ℕ, ◌<◌, Bool, true, false, cond, nat_lt, List, [], ◌∷◌, length, get_or, refl, arith, Option, Some, None, sym, subst}
 use Rattle.std.proofs.lemmas.Bool.Decides.{nat_tests}
 use Rattle.dsql_journal.specs.declared.entry.Entry.{Entry}
@@ -64,7 +63,7 @@ chore_connect H c n h =
     (rw (n, h) refl, opening_waits H c (place H c) f.0)
 
 begun_body : (c n : ℕ) (G : List Event) (d : Option DriverCall) → is_empty G ≡ false → is_empty (after_body c n G d) ≡ false
-begun_body c n G None h = begun_told n (reply_due (leaving c (cause G c) ∷ G) n) (leaving c (cause G c) ∷ G) refl
+begun_body c n G None h = refl
 begun_body c n G (Some q) h = h
 
 begun_cond : (b : Bool) (G K : List Event) → is_empty G ≡ false → is_empty K ≡ false → is_empty (cond b G K) ≡ false

@@ -27,13 +27,13 @@ abbrev pub leaving : ℕ → Option CloseCause → Event
 leaving c None = Pool (Back c)
 leaving c (Some why) = Pool (CloseStart c why)
 
--- the call replies what is settled
-abbrev pub told_as : ℕ → Option Reply → List Event → List Event
-told_as n (Some reply) past = Replied n reply ∷ past
-told_as n None past = past
+-- what a call replies: what is settled, or else that it asked in vain
+abbrev pub reply_as : Option Reply → Reply
+reply_as (Some reply) = reply
+reply_as None = TooMany
 
 abbrev pub told : ℕ → List Event → List Event
-told n past = told_as n (reply_due past n) past
+told n past = Replied n (reply_as (reply_due past n)) ∷ past
 
 -- where nothing is due any more, the connection leaves and the call replies
 abbrev pub after_body : ℕ → ℕ → List Event → Option DriverCall → List Event

@@ -15,11 +15,12 @@ use Rattle.dsql_history.specs.declared.event.Op.{Op}
 use Rattle.dsql_history.specs.declared.record.Place.{Place}
 use Rattle.dsql_history.specs.declared.record.Place.TheVariants.{Nowhere, Opening, Idle, Lent, Closing}
 use Rattle.dsql_history.specs.declared.record.CallRecord.{CallRecord}
+use Rattle.dsql_history.specs.declared.reply.Reply as replies
 use Rattle.dsql_history.specs.declared.reply.Reply.TheVariants.{TooMany}
 use Rattle.dsql_history.specs.Readers.Lists.{first, last}
-use Rattle.dsql_history.specs.Readers.Course.{has_ended}
+use Rattle.dsql_history.specs.Readers.Course.{caps, has_ended}
 use Rattle.dsql_history.specs.Readers.Sets.{place, places, idle, next_tenure, open_count, is_idle, is_opening, is_closing}
-use Rattle.dsql_history.specs.Readers.Calls.{calls, call_record, unfinished, is_busy, home, next_call, reply_due, nobody, statement}
+use Rattle.dsql_history.specs.Readers.Calls.{calls, call_record, unfinished, is_busy, home, next_call, reply_due, nobody, statement, params_at_entry, refused_at_entry}
 use Rattle.dsql_history.specs.Rules.House.{is_quiet, has_no_chore}
 use Rattle.dsql_history.specs.Rules.Causes.{cause}
 use Rattle.dsql_history.specs.Rules.Limit.{room}
@@ -32,8 +33,8 @@ use Rattle.dsql_engine.specs.declared.next.Next.{Next}
 use Rattle.dsql_engine.specs.declared.next.Next.TheVariants.{Send, Blocked, Reply, Quiet}
 use Rattle.dsql_engine.specs.declared.next.Why.TheVariants as whys
 use Rattle.dsql_engine.specs.Awaited.{awaited, awaited_at}
-use Rattle.dsql_engine.specs.Groups.{after_enter, after_ask, after_body, lent_to, leaving, told}
-use Rattle.dsql_engine.specs.Steps.{SendsOn, NextOfBody, NextAfterAsk, NextAfterEnter, IsParked, IsParkedAt}
+use Rattle.dsql_engine.specs.Groups.{reply_as, after_enter, after_entry, after_ask, after_body, lent_to, leaving, told}
+use Rattle.dsql_engine.specs.Steps.{SendsOn, NextOfBody, NextAfterAsk, NextAfterEntry, NextAfterEnter, IsParked, IsParkedAt}
 use Rattle.dsql_player.specs.Turns.{Turns, keeps_turns}
 use Rattle.dsql_player.specs.Extends.{Extends}
 use Rattle.dsql_player.specs.Entered.{entered_calls}
@@ -82,7 +83,7 @@ pushed cs r =
     ]
 
 entered_by : (past : List Event) (client : ℕ) (op : Op) → (call_record (Entered client (next_call past) op ∷ past) (next_call past)).client ≡ client
-entered_by past client op = ap (λ r. r.client) (pushed (calls past) (record { client = client; home = 0; text = statement op; decided = None }))
+entered_by past client op = ap (λ r. r.client) (pushed (calls past) (record { client = client; home = 0; text = statement op; params = params_at_entry (caps past) op; decided = refused_at_entry (caps past) op }))
 
 -- the call that has entered is under way over a move
 under_way : (past : List Event) (client : ℕ) (op : Op) (move : Move) → Lawful past → unfinished past ≡ [] → IsUnderWay (Pool move ∷ Entered client (next_call past) op ∷ past) client
@@ -217,7 +218,7 @@ lend_enters past client op c None next now quiet running l is n k =
     rw (is, n)
     (begins_then past lent (told m (leaving c why ∷ lent)) client op (Reply m)
     (begins_over past client op (Lend c t (Call m) m) quiet running places)
-    (on_replied lent (leaving c why ∷ lent) m (reply_due (leaving c why ∷ lent) m) (leaving_on c why lent lent (on_still lent)))
+    (on_replied lent (leaving c why ∷ lent) m (reply_as (reply_due (leaving c why ∷ lent) m)) (leaving_on c why lent lent (on_still lent)))
     (left_places lent c t m m why (lent_place past c t m at))
     none)
 
@@ -246,7 +247,7 @@ opening_parked past client op k is =
     let c = length (places past) in
     let H : List Event = Entered client n op ∷ past in
     let now : List Event = Pool (OpenStart c n) ∷ H in
-    let lt : n < length (calls H) = omega (arith, length_push (calls past) (record { client = client; home = 0; text = statement op; decided = None })) in
+    let lt : n < length (calls H) = omega (arith, length_push (calls past) (record { client = client; home = 0; text = statement op; params = params_at_entry (caps past) op; decided = refused_at_entry (caps past) op })) in
     let at_home : home now k ≡ c = ap (home now) is ∙ home_at (calls H) n c lt in
     subst (λ (d : ℕ). IsParkedAt (place now d) d now) (sym at_home) (subst (λ (q : Place). IsParkedAt q c now) (sym (opening_place (places past) n)) tt)
 
@@ -266,13 +267,13 @@ begin_enters past client op quiet running l =
     })
 
 -- The call is refused.
-refused_enters : (past : List Event) (client : ℕ) (op : Op) → is_quiet past ≡ true → has_ended past ≡ false
-    → Enters past client op (Reply (next_call past)) (Replied (next_call past) TooMany ∷ Entered client (next_call past) op ∷ past)
-refused_enters past client op quiet running =
+refused_enters : (past : List Event) (client : ℕ) (op : Op) (reply : replies.Reply) → is_quiet past ≡ true → has_ended past ≡ false
+    → Enters past client op (Reply (next_call past)) (Replied (next_call past) reply ∷ Entered client (next_call past) op ∷ past)
+refused_enters past client op reply quiet running =
     let n = next_call past in
     let s = still past quiet in
     record {
-      extends = record { added = Replied n TooMany ∷ Entered client n op ∷ []; whole = refl };
+      extends = record { added = Replied n reply ∷ Entered client n op ∷ []; whole = refl };
       turns = λ h. ((h, entered_turn past client n op quiet running), refl);
       entered = refl;
       ended = refl;
@@ -288,12 +289,18 @@ ask_enters past client op (c ∷ others) may next now quiet running l room is n 
     let lent : List Event = lent_to H (last (c ∷ others)) (next_call past) in
     lend_enters past client op (last (c ∷ others)) (due lent (last (c ∷ others)) (next_tenure H (last (c ∷ others))) (next_call past)) next now quiet running l is n k
 ask_enters past client op [] true next now quiet running l room is n k = rw (is, room, n) (begin_enters past client op quiet running l)
-ask_enters past client op [] false next now quiet running l room is n k = rw (is, room, n) (refused_enters past client op quiet running)
+ask_enters past client op [] false next now quiet running l room is n k = rw (is, room, n) (refused_enters past client op TooMany quiet running)
+
+entry_enters : (past : List Event) (client : ℕ) (op : Op) (reply : Option replies.Reply) (next : Next) (now : List Event) → is_quiet past ≡ true → has_ended past ≡ false → Lawful past
+    → now ≡ after_entry reply (Entered client (next_call past) op ∷ past) (next_call past) (idle past)
+    → NextAfterEntry reply (Entered client (next_call past) op ∷ past) (next_call past) (idle past) (nat_lt (open_count past) room) next now → Lawful now → Enters past client op next now
+entry_enters past client op None next now quiet running l is n k = ask_enters past client op (idle past) (nat_lt (open_count past) room) next now quiet running l refl is n k
+entry_enters past client op (Some reply) next now quiet running l is n k = rw (is, n) (refused_enters past client op reply quiet running)
 
 -- A client's call entered.
 pub enters : (past : List Event) (client : ℕ) (op : Op) (next : Next) (now : List Event) → is_quiet past ≡ true → has_ended past ≡ false → Lawful past → now ≡ after_enter past client op
     → NextAfterEnter past client op next now → Lawful now → Enters past client op next now
-enters past client op next now quiet running l is n k = ask_enters past client op (idle past) (nat_lt (open_count past) room) next now quiet running l refl is n k
+enters past client op next now quiet running l is n k = entry_enters past client op (refused_at_entry (caps past) op) next now quiet running l is n k
 
 -- where all is quiet no client has an unfinished call
 pub free_client : (past : List Event) (client : ℕ) → is_quiet past ≡ true → is_busy client past ≡ false

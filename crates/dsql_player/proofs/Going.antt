@@ -1,5 +1,5 @@
 -- A run goes on over each event that enters no call and doesn't end it.
-use Rattle.std.proofs.Common.{◌≡◌, ◌==◌, None, ℕ, Bool, true, false, List, ◌∷◌, refl, sym, subst, arith, ◌∙◌, get_or, cond}
+use Rattle.std.proofs.Common.{◌≡◌, ◌==◌, None, ℕ, Bool, true, false, List, ◌∷◌, length, refl, sym, subst, arith, ◌∙◌, get_or, cond}
 use Rattle.std.specs.Prelude.{Result, Ok, Err, IfOk, OnErr}
 use Rattle.dsql_journal.specs.declared.entry.Entry.{Entry}
 use Rattle.dsql_history.specs.declared.event.Event.{Event}
@@ -28,9 +28,9 @@ client_move past (Gone c) n = refl
 client_move past (Fell c m) n = same_client (calls past) m n (λ r. record r { decided = refusal past }) (λ r. refl)
 
 client_cond : (past : List Event) (e : Entry) (n : ℕ) (b : Bool)
-    → (get_or (cond b (calls past) (with_record e.call_no (λ r. record r { decided = decision e.call e.answer r.decided }) (calls past))) n nobody).client ≡ (call_record past n).client
+    → (get_or (cond b (calls past) (with_record e.call_no (λ r. record r { decided = decision (length r.params) e.call e.answer r.decided }) (calls past))) n nobody).client ≡ (call_record past n).client
 client_cond past e n true = refl
-client_cond past e n false = same_client (calls past) e.call_no n (λ r. record r { decided = decision e.call e.answer r.decided }) (λ r. refl)
+client_cond past e n false = same_client (calls past) e.call_no n (λ r. record r { decided = decision (length r.params) e.call e.answer r.decided }) (λ r. refl)
 
 pub client_heard : (past : List Event) (e : Entry) (n : ℕ) → (call_record (Heard e ∷ past) n).client ≡ (call_record past n).client
 client_heard past e n = client_cond past e n (e.call_no == 0)

@@ -29,7 +29,7 @@ use Rattle.dsql_history.proofs.Rows.{same_to_itself, within_rows}
 use Rattle.dsql_engine.specs.declared.next.Next.{Next}
 use Rattle.dsql_engine.specs.declared.next.Next.TheVariants.{Send, Blocked, Reply, Quiet}
 use Rattle.dsql_engine.specs.Awaited.{awaited, awaited_at, connect_permit, shut_permit, call_permit}
-use Rattle.dsql_engine.specs.Groups.{after_heard, after_answer, after_body, leaving, told, most_events}
+use Rattle.dsql_engine.specs.Groups.{reply_as, after_heard, after_answer, after_body, leaving, told, most_events}
 use Rattle.dsql_engine.specs.Steps.{SendsOn, NextOfBody, NextAfterAnswer, NextAfterHeard}
 use Rattle.dsql_player.specs.Told.{gone_told}
 use Rattle.dsql_player.specs.Turns.{keeps_turns, comes_first}
@@ -147,7 +147,7 @@ finished past client p answer why s room =
     let calls : unfinished now ≡ p.call_no ∷ [] =
     leaving_calls p.conn why (Heard e ∷ past) ∙ (s.under_way.alone ∙ ap (λ n. n ∷ []) (sym s.number)) in
     record {
-      on = on_replied past now p.call_no (reply_due now p.call_no)
+      on = on_replied past now p.call_no (reply_as (reply_due now p.call_no))
           (leaving_on p.conn why past (Heard e ∷ past) (on_heard past past e (on_still past) (call_turn past client p answer s)));
       told = leaving_told p.conn why (Heard e ∷ past);
       next = without_one (unfinished now) p.call_no calls;

@@ -23,7 +23,7 @@ use Rattle.dsql_engine.specs.declared.next.Next.{Next}
 use Rattle.dsql_engine.specs.declared.next.Next.TheVariants.{Send, Blocked, Reply, Quiet}
 use Rattle.dsql_engine.specs.declared.next.Why.{Why}
 use Rattle.dsql_engine.specs.Awaited.{awaited, awaited_at}
-use Rattle.dsql_engine.specs.Groups.{after_body, call_of, leaving, told, most_events}
+use Rattle.dsql_engine.specs.Groups.{reply_as, after_body, call_of, leaving, told, most_events}
 use Rattle.dsql_engine.specs.Steps.{SendsOn, NextOfBody, NextOfWake, NextAfterWake, IsParked}
 use Rattle.dsql_player.specs.Carried.{KeepsPlaces, Steps, IsUnderWay, Waits, the_call}
 use Rattle.dsql_player.specs.WiresFit.{has_wire, KeepsFit}
@@ -90,7 +90,7 @@ sends_on past client t m why Quiet u free on at sends = absurd sends
 -- the call replies
 replied_steps : (past : List Event) (client n : ℕ) (why : Why) → unfinished past ≡ n ∷ [] → length past < most_events → Steps past client (Blocked why) (told n past) (Reply n)
 replied_steps past client n why alone room = record {
-  on = on_replied past past n (reply_due past n) (on_still past);
+  on = on_replied past past n (reply_as (reply_due past n)) (on_still past);
   told = refl;
   next = without_one (unfinished past) n alone;
   nearer = omega (arith, room);
@@ -102,7 +102,7 @@ left_steps : (past : List Event) (client n c : ℕ) (why : Why) (cause : Option 
 left_steps past client n c why cause alone room =
     let now : List Event = leaving c cause ∷ past in
     record {
-      on = on_replied past now n (reply_due now n) (leaving_on c cause past past (on_still past));
+      on = on_replied past now n (reply_as (reply_due now n)) (leaving_on c cause past past (on_still past));
       told = leaving_told c cause past;
       next = without_one (unfinished now) n (leaving_calls c cause past ∙ alone);
       nearer = omega (arith, room);
