@@ -6,7 +6,6 @@ use Rattle.dsql_history.specs.declared.event.Event.{Event}
 use Rattle.dsql_history.specs.declared.event.Event.TheVariants.{Replied, Ended}
 use Rattle.dsql_history.specs.declared.event.CloseCause.TheVariants as causes
 use Rattle.dsql_history.specs.declared.reply.Reply.TheVariants.{Result, Driver, BadConn, TooMany}
-use Rattle.dsql_history.specs.Readers.Calls.{skipped}
 use Rattle.dsql_history.specs.Worked.Words.{run, enter, open_start, lend, back, close, fell, house, heard, exec}
 use Rattle.dsql_history.specs.Worked.OneExec.{one_exec}
 use Rattle.dsql_cases.specs.Edits.{left_out, changed, put_in_after, swapped, cut_after}
@@ -257,10 +256,6 @@ replies_well_after_bad = changed 8 (Replied 1 (Result (pos 0) (pos 1))) goes_bad
 -- another fault than the driver's
 abbrev pub replies_another_fault : List Event
 replies_another_fault = changed 9 (Replied 1 (Driver (codes "on"))) fails
-
--- skipped though it wasn't
-abbrev pub replies_skipped : List Event
-replies_skipped = changed 9 (Replied 1 (Driver skipped)) one_exec
 
 -- more tries than there were
 abbrev pub replies_more_tries : List Event

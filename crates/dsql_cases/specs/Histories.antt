@@ -3,11 +3,9 @@ use Rattle.std.specs.Prelude.{ℕ, List, [], ◌∷◌, ◌++◌, pos, codes, ta
 use Rattle.dsql_driver.specs.declared.call.DriverCall.TheVariants.{Connect, Reset, Valid, Shut}
 use Rattle.dsql_driver.specs.declared.answer.DriverAnswer.TheVariants as answers
 use Rattle.dsql_history.specs.declared.event.Event.{Event}
-use Rattle.dsql_history.specs.declared.event.Event.TheVariants.{Run, Replied, Ended}
+use Rattle.dsql_history.specs.declared.event.Event.TheVariants.{Replied, Ended}
 use Rattle.dsql_history.specs.declared.event.CloseCause.TheVariants as causes
 use Rattle.dsql_history.specs.declared.reply.Reply.TheVariants.{Result, Driver, BadConn}
-use Rattle.dsql_history.specs.Readers.Course.{no_caps}
-use Rattle.dsql_history.specs.Readers.Calls.{skipped}
 use Rattle.dsql_history.specs.Worked.Words.{run, enter, open_start, lend, back, close, gone, fell, house, heard, exec}
 
 -- the text of a statement, and of a driver's fault
@@ -132,24 +130,6 @@ fails =
     ∷ gone 1
     ∷ []
 
--- the driver skips the statement, and the call replies so
-abbrev pub skips : List Event
-skips =
-    run
-    ∷ enter 1 1 text
-    ∷ open_start 1 1
-    ∷ house 1 1 Connect answers.Done
-    ∷ lend 1 2 1
-    ∷ heard 1 2 1 (exec text) answers.Skip
-    ∷ heard 1 2 1 Valid answers.Done
-    ∷ back 1
-    ∷ Replied 1 (Driver skipped)
-    ∷ Ended
-    ∷ close 1 causes.DbClosed
-    ∷ house 1 3 Shut answers.Done
-    ∷ gone 1
-    ∷ []
-
 -- the driver says that the connection is bad: it isn't tested, and closes at once
 abbrev pub goes_bad : List Event
 goes_bad =
@@ -240,20 +220,4 @@ resets_a_bad_one =
     ∷ house 1 4 Shut answers.Done
     ∷ gone 1
     ∷ Ended
-    ∷ []
-
--- a driver without the fast path, a test or a reset is asked nothing, and the call replies that it was skipped
-abbrev pub of_a_plain_driver : List Event
-of_a_plain_driver =
-    Run 1 no_caps
-    ∷ enter 1 1 text
-    ∷ open_start 1 1
-    ∷ house 1 1 Connect answers.Done
-    ∷ lend 1 2 1
-    ∷ back 1
-    ∷ Replied 1 (Driver skipped)
-    ∷ Ended
-    ∷ close 1 causes.DbClosed
-    ∷ house 1 3 Shut answers.Done
-    ∷ gone 1
     ∷ []

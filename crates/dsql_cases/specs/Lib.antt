@@ -3,3 +3,4 @@ pub mod Edits
 pub mod Refusals
 pub mod Histories
 pub mod Damaged
+pub mod Prepared

@@ -3,7 +3,7 @@
 
 ghost use Rattle.std.specs.Prelude.{◌≡◌, false, reverse};
 ghost use Rattle.dsql_history.specs.Computed.{is_legal};
-ghost use Rattle.dsql_cases.specs.Damaged.{begins_without_run, runs_twice, ends_before_the_reply, ends_twice, skips_a_call, enters_while_busy, enters_before_the_idle_close, enters_after_the_end, leaves_a_call, connects_unopened, skips_a_connection, lends_unconnected, lends_to_another, leaves_a_connected_one, lends_with_another_tenure, hears_in_another_tenure, hears_for_another_call, lends_a_lent_one, shuts_a_lent_one, lends_after_the_reply, opens_beside_an_idle_one, opens_twice, leaves_out_exec, gives_back_untested, sends_another_text, sends_twice, tests_first, tests_a_bad_one, leaves_out_reset, resets_a_new_one, hears_what_is_no_result, hears_a_failed_test, keeps_a_bad_one, keeps_an_invalid_one, keeps_one_too_many, closes_a_good_one, closes_bad_as_invalid, closes_invalid_as_bad, closes_at_the_end_as_full, closes_before_the_end, closes_the_newest_first, goes_unshut, shuts_an_idle_one, stays_when_shut, stays_idle_at_the_end, falls_when_connected, lends_when_refused, leaves_a_refusal, replies_unasked, replies_while_lent, replies_after_the_shut, replies_twice, replies_to_no_call, leaves_out_the_reply, replies_another_count, replies_another_id, replies_well_after_fail, replies_well_after_bad, replies_another_fault, replies_skipped, replies_more_tries, replies_too_many};
+ghost use Rattle.dsql_cases.specs.Damaged.{begins_without_run, runs_twice, ends_before_the_reply, ends_twice, skips_a_call, enters_while_busy, enters_before_the_idle_close, enters_after_the_end, leaves_a_call, connects_unopened, skips_a_connection, lends_unconnected, lends_to_another, leaves_a_connected_one, lends_with_another_tenure, hears_in_another_tenure, hears_for_another_call, lends_a_lent_one, shuts_a_lent_one, lends_after_the_reply, opens_beside_an_idle_one, opens_twice, leaves_out_exec, gives_back_untested, sends_another_text, sends_twice, tests_first, tests_a_bad_one, leaves_out_reset, resets_a_new_one, hears_what_is_no_result, hears_a_failed_test, keeps_a_bad_one, keeps_an_invalid_one, keeps_one_too_many, closes_a_good_one, closes_bad_as_invalid, closes_invalid_as_bad, closes_at_the_end_as_full, closes_before_the_end, closes_the_newest_first, goes_unshut, shuts_an_idle_one, stays_when_shut, stays_idle_at_the_end, falls_when_connected, lends_when_refused, leaves_a_refusal, replies_unasked, replies_while_lent, replies_after_the_shut, replies_twice, replies_to_no_call, leaves_out_the_reply, replies_another_count, replies_another_id, replies_well_after_fail, replies_well_after_bad, replies_another_fault, replies_more_tries, replies_too_many};
 
 /// Histories damaged in their course: the first event, the end, and the numbers of calls.
 pub fn damaged_courses()
@@ -82,7 +82,6 @@ pub fn damaged_replies()
     ensures replies_well_after_fail { is_legal (reverse replies_well_after_fail) ≡ false }
     ensures replies_well_after_bad { is_legal (reverse replies_well_after_bad) ≡ false }
     ensures replies_another_fault { is_legal (reverse replies_another_fault) ≡ false }
-    ensures replies_skipped { is_legal (reverse replies_skipped) ≡ false }
     ensures replies_more_tries { is_legal (reverse replies_more_tries) ≡ false }
     ensures replies_too_many { is_legal (reverse replies_too_many) ≡ false }
 {}

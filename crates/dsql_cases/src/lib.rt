@@ -5,4 +5,5 @@
 pub mod damaged;
 pub mod laws;
 pub mod legal;
+pub mod prepared;
 pub mod refused;
