@@ -1,4 +1,5 @@
 pub mod LineValues
+pub mod LineArgs
 pub mod LineCalls
 pub mod Lines
 pub mod WorkedLines

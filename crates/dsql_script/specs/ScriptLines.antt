@@ -42,7 +42,7 @@ names_database _ = false
 abbrev pub exec_of_text : ℕ → Bool → Option (List ℕ) → Reading
 exec_of_text client names_db None = Err BadShape
 exec_of_text client false (Some text) = Err UnknownLabel
-exec_of_text client true (Some text) = Ok (Client client (Exec text))
+exec_of_text client true (Some text) = Ok (Client client (Exec text []))
 
 abbrev pub exec_of_array : ℕ → Bool → Option Data → Reading
 exec_of_array client names_db None = Err BadJson

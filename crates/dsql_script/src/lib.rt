@@ -7,6 +7,6 @@ mod reader;
 mod script;
 
 pub use fault::{LineFault, What};
-pub use line::{event_line, worked_lines};
+pub use line::{event_line, worked_argument_lines, worked_lines};
 pub use reader::{Reader, worked_script_lines};
 pub use script::ScriptLine;

@@ -7,6 +7,7 @@ use crate::fault::LineFault;
 use crate::reader::{array, words};
 use crate::script::ScriptLine;
 use dsql_history::Op;
+use dsql_value::Items;
 use std::alloc::Global;
 
 /// Reads a line by its words and its array.
@@ -63,7 +64,10 @@ fn read_exec(
     }
     Ok(ScriptLine::Client {
         client,
-        op: Op::Exec { text },
+        op: Op::Exec {
+            text,
+            args: Items::none(alloc),
+        },
     })
 }
 

@@ -8,9 +8,9 @@ ghost use Rattle.dsql_script.specs.ScriptLines.{read_of};
 /// Lines of scripts, each with what is read of it.
 pub fn worked_script_lines()
     ensures exec { read_of 0 (codes "c1 exec db [\"SET a 1\"]")
-        ≡ Ok (Client 1 (Exec (codes "SET a 1"))) }
+        ≡ Ok (Client 1 (Exec (codes "SET a 1") [])) }
     ensures last_client { read_of 9999 (codes "c64 exec db [ \"\" ]\r")
-        ≡ Ok (Client 64 (Exec (codes ""))) }
+        ≡ Ok (Client 64 (Exec (codes "") [])) }
     ensures comment { read_of 7 (codes "#c1 exec") ≡ Ok Skip }
     ensures empty { read_of 7 (codes "\r") ≡ Ok Skip }
     ensures too_many { read_of 10000 (codes "# one more") ≡ Err (TooMany Lines) }
