@@ -1,6 +1,7 @@
 //! The text that goes in and out: the lines of a script, and the lines of a report.
 #![tactic(auto)]
 
+mod caps;
 mod fault;
 mod line;
 mod reader;

@@ -4,8 +4,9 @@ ghost use Rattle.serde_json.specs.Data.{string};
 ghost use Rattle.serde_json.specs.View.{view};
 ghost use Rattle.serde_json.specs.Written.{compact_text};
 ghost use Rattle.dsql_script.specs.LineValues.{texts_data, worded as worded_data};
-ghost use Rattle.dsql_script.specs.Lines.{owner_word, cause_word, name_if, caps_names, entered_data, move_data, entry_data, num_args_text, reply_data, json_of};
+ghost use Rattle.dsql_script.specs.Lines.{owner_word, cause_word, caps_names, entered_data, move_data, entry_data, num_args_text, reply_data, json_of};
 
+use crate::caps::caps_names;
 use crate::line::args::exec_json;
 use crate::line::calls::{answer_json, call_json};
 use crate::line::parts::worded;
@@ -45,30 +46,15 @@ fn word_of(cause: CloseCause) -> &'static str
     }
 }
 
-/// Adds a name at the end if it is wanted.
-fn push_if(alloc: Global, names: &mut Vec<Value>, wanted: bool, name: &str) -> Result<(), Memory>
-    ensures { OnOk result
-        (map view names.new.items ≡ map view names.old.items ++ map string (name_if wanted name.now)) }
-{
-    if wanted {
-        names.push(Value::try_from_str(alloc, name)?)?;
-    }
-    Ok(())
-}
-
 /// The names of what a driver can do, in a fixed order.
 fn caps_json(alloc: Global, caps: &Caps) -> Result<Value, Memory>
     ensures { IfOk result (λ v. view v ≡ texts_data (caps_names caps.now)) }
 {
-    let mut names = Vec::new(alloc);
-    push_if(alloc, &mut names, caps.fast_exec, "fast_exec")?;
-    push_if(alloc, &mut names, caps.fast_query, "fast_query")?;
-    push_if(alloc, &mut names, caps.begin_options, "begin_options")?;
-    push_if(alloc, &mut names, caps.named, "named")?;
-    push_if(alloc, &mut names, caps.pinger, "pinger")?;
-    push_if(alloc, &mut names, caps.resetter, "resetter")?;
-    push_if(alloc, &mut names, caps.validator, "validator")?;
-    Ok(Value::Array(names))
+    let mut list = Vec::new(alloc);
+    for name in caps_names(alloc, caps)? {
+        list.push(Value::try_from_str(alloc, name)?)?;
+    }
+    Ok(Value::Array(list))
 }
 
 /// A client's call: who made it, its number, and the words and the array of the line that asked for it.
