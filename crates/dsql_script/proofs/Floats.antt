@@ -1,10 +1,16 @@
 -- A line has no float in it, so that its text is known byte for byte.
-use Rattle.std.proofs.Common.{◌≡◌, ℕ, ℤ, pos, negsuc, List, [], ◌∷◌, Option, Some, None, false, refl}
+use Rattle.std.proofs.Common.{◌≡◌, ℕ, ℤ, pos, negsuc, List, [], ◌∷◌, map, Option, Some, None, false, refl, inl, inr}
+use Rattle.std.specs.Prelude.{nat_lt}
+use Rattle.std.proofs.lemmas.Bool.{cases_Bool}
 use Rattle.serde_json.specs.Data.{Data}
 use Rattle.serde_json.specs.Written.{has_float}
 use Rattle.dsql_value.specs.declared.value.Value.{Value}
 use Rattle.dsql_value.specs.declared.value.Value.TheVariants as value
 use Rattle.dsql_value.specs.declared.value.Param.{Param}
+use Rattle.dsql_value.specs.declared.arg.Arg.{Arg}
+use Rattle.dsql_value.specs.declared.arg.Arg.TheVariants as arg
+use Rattle.dsql_value.specs.declared.arg.Named.{Named}
+use Rattle.dsql_value.specs.Arguments.{largest_int}
 use Rattle.dsql_driver.specs.declared.call.Input.{Input}
 use Rattle.dsql_driver.specs.declared.call.Input.TheVariants as input
 use Rattle.dsql_driver.specs.declared.call.DriverCall.{DriverCall}
@@ -20,7 +26,8 @@ use Rattle.dsql_history.specs.declared.event.Move.{Move}
 use Rattle.dsql_history.specs.declared.event.Move.TheVariants as move
 use Rattle.dsql_history.specs.declared.event.Event.{Event}
 use Rattle.dsql_history.specs.declared.event.Event.TheVariants as event
-use Rattle.dsql_script.specs.LineValues.{integer, value_data, named_data, params_data, values_data, texts_data}
+use Rattle.dsql_script.specs.LineArgs.{arg_data, named_arg_data, argument_data}
+use Rattle.dsql_script.specs.LineValues.{list_data, integer, value_data, named_data, params_data, values_data, texts_data}
 use Rattle.dsql_script.specs.LineCalls.{input_data, call_data, answer_data}
 use Rattle.dsql_script.specs.Lines.{entered_data, move_data, entry_data, reply_data, json_of}
 
@@ -71,8 +78,39 @@ answer-no_float _ = refl
 entry-no_float : (e : Entry) → has_float (entry_data e) ≡ false
 entry-no_float e = simp (call-no_float, answer-no_float)
 
+arg-no_float : (a : Arg) → has_float (arg_data a) ≡ false
+arg-no_float (arg.I8 n) = simp integer-no_float
+arg-no_float (arg.I16 n) = simp integer-no_float
+arg-no_float (arg.I32 n) = simp integer-no_float
+arg-no_float (arg.I64 n) = integer-no_float n
+arg-no_float (arg.U64 n) = elim (cases_Bool (nat_lt largest_int n)) [ inl large ↦ rw large refl | inr small ↦ rw small refl ]
+arg-no_float (arg.Time n) = simp integer-no_float
+arg-no_float (arg.NullText None) = refl
+arg-no_float (arg.NullText (Some text)) = refl
+arg-no_float (arg.NullI64 None) = refl
+arg-no_float (arg.NullI64 (Some n)) = simp integer-no_float
+arg-no_float (arg.NullI32 None) = refl
+arg-no_float (arg.NullI32 (Some n)) = simp integer-no_float
+arg-no_float (arg.NullI16 None) = refl
+arg-no_float (arg.NullI16 (Some n)) = simp integer-no_float
+arg-no_float (arg.NullU8 None) = refl
+arg-no_float (arg.NullU8 (Some n)) = refl
+arg-no_float (arg.NullBool None) = refl
+arg-no_float (arg.NullBool (Some b)) = refl
+arg-no_float (arg.NullTime None) = refl
+arg-no_float (arg.NullTime (Some n)) = simp integer-no_float
+arg-no_float _ = refl
+
+named_arg-no_float : (name : Option (List ℕ)) (d : Data) → has_float d ≡ false → has_float (named_arg_data name d) ≡ false
+named_arg-no_float None d h = h
+named_arg-no_float (Some name) d h = rw h
+
+args-no_float : (args : List Named) → has_float (list_data (map argument_data args)) ≡ false
+args-no_float [] = refl
+args-no_float (a ∷ args) = rw (named_arg-no_float a.name (arg_data a.arg) (arg-no_float a.arg)) (args-no_float args)
+
 entered-no_float : (client n : ℕ) (o : Op) → has_float (entered_data client n o) ≡ false
-entered-no_float client n (op.Exec text) = refl
+entered-no_float client n (op.Exec text args) = rw (args-no_float args) refl
 
 move-no_float : (m : Move) → has_float (move_data m) ≡ false
 move-no_float (move.Back conn) = refl

@@ -1,7 +1,10 @@
+pub mod Members
 mod Floats
+pub mod Words
 pub mod Texts
 pub mod ScriptArrays
 pub mod ScriptClients
-pub mod ScriptForms
+pub mod ScriptCaps
 pub mod ScriptTexts
+pub mod ScriptForms
 pub mod ScriptOnLiterals

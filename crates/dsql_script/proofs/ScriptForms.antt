@@ -1,18 +1,22 @@
--- Lines that have too much or too little.
-use Rattle.std.proofs.Common.{◌≡◌, ℕ, ◌<◌, List, [], ◌∷◌, length, Option, None, Err, refl, arith}
-use Rattle.serde_json.specs.Data.{Data}
-use Rattle.serde_json.specs.View.{items_of}
-use Rattle.dsql_script.specs.declared.fault.LineFault.TheVariants.{NoSuchWord}
-use Rattle.dsql_script.specs.ScriptLines.{only_item, form_of}
+-- Lines that aren't of the version or of the capabilities.
+use Rattle.std.proofs.Common.{◌≡◌, ◌≢◌, ℕ, ◌≤◌, ◌-◌, List, [], ◌∷◌, false, map, length, get_or, take, drop, Option, codes, refl, inl, inr, ap, arith, Bor}
+use Rattle.std.specs.Str.{bytes_eq}
+use Rattle.std.proofs.lemmas.Bool.{cases_Bool}
+use Rattle.std.proofs.lemmas.List.{take_all}
+use Rattle.std.proofs.lemmas.Slice.Eq.{bytes_eq-Decides}
+use Rattle.dsql_script.specs.declared.script.Head.{Head}
+use Rattle.dsql_script.specs.ScriptLines.{form_of, client_line}
 
--- an array of more things than one has no only one
-pub only_item_many : (ds : List Data) → 1 < length ds → only_item (items_of ds) ≡ None
-only_item_many [] many = absurd (omega arith)
-only_item_many (d ∷ []) many = absurd (omega arith)
-only_item_many (d ∷ e ∷ ds) many = refl
+pub other_word : (a b : List ℕ) → a ≢ b → bytes_eq a b ≡ false
+other_word a b other = elim (cases_Bool (bytes_eq a b)) [ inl is ↦ absurd (other ((bytes_eq-Decides a b).0 is)) | inr is ↦ is ]
 
--- too few words begin no form
-pub form_of_short : (words : List (List ℕ)) (array : Option (List ℕ)) → length words < 2 → form_of words array ≡ Err NoSuchWord
-form_of_short [] array few = refl
-form_of_short (client ∷ []) array few = refl
-form_of_short (client ∷ verb ∷ words) array few = absurd (omega arith)
+abbrev pub texts : List (Bor (List ℕ)) → List (List ℕ)
+texts words = map (λ w. w.now) words
+
+pub form_of_client : (head : Head) (words : List (Bor (List ℕ))) (array : Option (List ℕ)) (d : Bor (List ℕ)) → 1 ≤ length words
+    → (get_or words 0 d).now ≢ codes "version" → (get_or words 0 d).now ≢ codes "caps"
+    → form_of head (texts words) array ≡ client_line (get_or words 0 d).now (texts (take (length words - 1) (drop 1 words))) array
+form_of_client head [] array d some version caps = absurd (omega arith)
+form_of_client head (first ∷ words) array d some version caps =
+    let all : take (length (first ∷ words) - 1) words ≡ words = take_all _ words (omega arith) in
+    rw (all, other_word first.now (codes "version") version, other_word first.now (codes "caps") caps) refl

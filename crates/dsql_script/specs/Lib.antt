@@ -1,6 +1,10 @@
+pub mod Faults
 pub mod LineValues
+pub mod LineArgs
 pub mod LineCalls
 pub mod Lines
 pub mod WorkedLines
 pub mod ScriptWords
+pub mod ScriptArgs
+pub mod ScriptHead
 pub mod ScriptLines

@@ -24,14 +24,18 @@ natural n = number (unsigned n)
 abbrev pub integer : ℤ → Data
 integer z = number (of_integer z)
 
+-- an object of one member
+abbrev pub under : List ℕ → Data → Data
+under name d = object (member name d no_members)
+
 -- bytes as pairs of hexadecimal digits, and a time as its number of nanoseconds, each under its name
 abbrev pub value_data : Value → Data
 value_data Nil = null
 value_data (Int n) = integer n
 value_data (Bool b) = boolean b
-value_data (Bytes bytes) = object (member (codes "bytes") (string (encode_lower bytes)) no_members)
+value_data (Bytes bytes) = under (codes "bytes") (string (encode_lower bytes))
 value_data (Text text) = string text
-value_data (Time n) = object (member (codes "time") (integer n) no_members)
+value_data (Time n) = under (codes "time") (integer n)
 
 -- a value with its name, where it has one
 abbrev pub named_data : Option (List ℕ) → Data → Data

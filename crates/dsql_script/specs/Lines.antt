@@ -7,7 +7,7 @@ use Rattle.dsql_journal.specs.declared.entry.Owner.{Owner}
 use Rattle.dsql_journal.specs.declared.entry.Owner.TheVariants.{Call, Tx, Pin, House}
 use Rattle.dsql_journal.specs.declared.entry.Entry.{Entry}
 use Rattle.dsql_history.specs.declared.reply.Reply.{Reply}
-use Rattle.dsql_history.specs.declared.reply.Reply.TheVariants.{Result, Driver, BadConn, TooMany}
+use Rattle.dsql_history.specs.declared.reply.Reply.TheVariants.{Result, Driver, BadConn, NumArgs, HighBit, NamedRefused, BadName, TooMany}
 use Rattle.dsql_history.specs.declared.event.Op.{Op}
 use Rattle.dsql_history.specs.declared.event.Op.TheVariants.{Exec}
 use Rattle.dsql_history.specs.declared.event.CloseCause.{CloseCause}
@@ -17,6 +17,7 @@ use Rattle.dsql_history.specs.declared.event.Move.TheVariants.{OpenStart, Lend, 
 use Rattle.dsql_history.specs.declared.event.Event.{Event}
 use Rattle.dsql_history.specs.declared.event.Event.TheVariants.{Run, Entered, Heard, Pool, Replied, Ended}
 use Rattle.dsql_script.specs.LineValues.{worded, natural, integer, texts_data}
+use Rattle.dsql_script.specs.LineArgs.{exec_data}
 use Rattle.dsql_script.specs.LineCalls.{call_data, answer_data}
 
 -- who holds a connection, and by which number
@@ -45,7 +46,7 @@ caps_names c =
 
 -- a call has the words of its line in the script, without the client, and then the line's array
 abbrev pub entered_data : ℕ → ℕ → Op → Data
-entered_data client n (Exec text) = worded (codes "enter") (natural client ∷ natural n ∷ string (codes "exec db") ∷ texts_data (text ∷ []) ∷ [])
+entered_data client n (Exec text args) = worded (codes "enter") (natural client ∷ natural n ∷ string (codes "exec db") ∷ exec_data text args ∷ [])
 
 -- the call for which a connection is lent isn't shown: its owner's number says it
 abbrev pub move_data : Move → Data
@@ -59,11 +60,19 @@ move_data (Fell conn call) = worded (codes "fell") (natural conn ∷ natural cal
 abbrev pub entry_data : Entry → Data
 entry_data e = worded (codes "heard") (natural e.conn ∷ natural e.tenure ∷ string (owner_word e.owner) ∷ natural e.call_no ∷ natural e.tx ∷ call_data e.call ∷ answer_data e.answer ∷ [])
 
--- an error has its code, the numbers that it shows, and its text; no more than 1000 connections may be open
+-- how many arguments a statement has inputs for, and how many there were
+abbrev pub num_args_text : ℕ → ℕ → List ℕ
+num_args_text want got = codes "sql: expected " ++ (decimal want ++ (codes " arguments, got " ++ decimal got))
+
+-- an error has its code, the numbers or the name that it shows, and its text; no more than 1000 connections may be open
 abbrev pub reply_data : Reply → Data
 reply_data (Result last affected) = worded (codes "ok") (string (codes "result") ∷ integer last ∷ integer affected ∷ [])
 reply_data (Driver text) = worded (codes "err") (string (codes "driver") ∷ string text ∷ [])
 reply_data (BadConn tries) = worded (codes "err") (string (codes "bad_conn") ∷ natural tries ∷ string (codes "driver: bad connection") ∷ [])
+reply_data (NumArgs want got) = worded (codes "err") (string (codes "num_args") ∷ natural want ∷ natural got ∷ string (num_args_text want got) ∷ [])
+reply_data (HighBit n) = worded (codes "err") (string (codes "high_bit") ∷ natural n ∷ string (codes "sql: unsigned value has its high bit set") ∷ [])
+reply_data (NamedRefused name) = worded (codes "err") (string (codes "named") ∷ string name ∷ string (codes "sql: driver does not support the use of Named Parameters") ∷ [])
+reply_data (BadName name) = worded (codes "err") (string (codes "bad_name") ∷ string name ∷ string (codes "sql: name does not begin with a letter") ∷ [])
 reply_data TooMany = worded (codes "err") (string (codes "too_many") ∷ natural 1000 ∷ string (codes "sql: too many open connections") ∷ [])
 
 -- the array of an event, which begins with its word

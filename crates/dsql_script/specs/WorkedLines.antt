@@ -1,5 +1,10 @@
--- The report of the worked history of one exec.
+-- The report of the worked history of one exec, and lines of calls and replies.
 use Rattle.std.specs.Prelude.{ℕ, List, ◌++◌, codes}
+use Rattle.dsql_value.specs.declared.arg.Named.{Named}
+use Rattle.dsql_history.specs.declared.reply.Reply.{Reply}
+use Rattle.dsql_history.specs.declared.event.Op.TheVariants.{Exec}
+use Rattle.dsql_history.specs.declared.event.Event.TheVariants.{Entered, Replied}
+use Rattle.dsql_script.specs.Lines.{line_of}
 
 -- its bytes, a line for each event
 abbrev pub one_exec_report : List ℕ
@@ -17,3 +22,11 @@ one_exec_report =
     ++ codes "[\"close\",1,\"db_closed\"]\n"
     ++ codes "[\"heard\",1,3,\"house\",0,0,[\"shut\"],[\"done\"]]\n"
     ++ codes "[\"gone\",1]\n"
+
+-- the line of client 1's call 3, an exec of `SET a ?` with these arguments
+abbrev pub exec_line : List Named → List ℕ
+exec_line args = line_of (Entered 1 3 (Exec (codes "SET a ?") args))
+
+-- the line of a reply to that call
+abbrev pub reply_line : Reply → List ℕ
+reply_line reply = line_of (Replied 3 reply)

@@ -1,12 +1,13 @@
 //! The text that goes in and out: the lines of a script, and the lines of a report.
 #![tactic(auto)]
 
+mod caps;
 mod fault;
 mod line;
 mod reader;
 mod script;
 
 pub use fault::{LineFault, What};
-pub use line::{event_line, worked_lines};
+pub use line::{event_line, worked_argument_lines, worked_lines};
 pub use reader::{Reader, worked_script_lines};
 pub use script::ScriptLine;

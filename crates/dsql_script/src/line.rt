@@ -2,6 +2,7 @@
 ghost use Rattle.std.specs.Prelude.{◌≡◌, IfOk};
 ghost use Rattle.dsql_script.specs.Lines.{line_of};
 
+mod args;
 mod calls;
 mod events;
 mod laws;
@@ -13,7 +14,7 @@ mod values;
 use dsql_history::Event;
 use dsql_value::{Memory, Txt};
 use events::event_text;
-pub use laws::worked_lines;
+pub use laws::{worked_argument_lines, worked_lines};
 use std::alloc::Global;
 
 /// The line of an event in a report: a JSON array without spaces, in UTF-8, and a line feed.
@@ -32,7 +33,10 @@ use std::alloc::Global;
 /// An owner is `"call:N"`, `"tx:N"`, `"pin:N"` or `"house"`. Driver calls, answers and replies are
 /// arrays that begin with a word. A value is `null`, a number, `true`, `false`, a string,
 /// `{"bytes":"00ff"}` with lower-case hexadecimal digits, or `{"time":N}` in nanoseconds since 1970,
-/// and a parameter with a name is `{"name":NAME,"value":VALUE}`. Want of memory is the only error.
+/// and a parameter with a name is `{"name":NAME,"value":VALUE}`. The array of a call is its text and
+/// then its arguments, each spelled as in a script, its keys in the order of their bytes: an argument
+/// with a name is `{"arg":ARG,"name":NAME}`. An unsigned number of 64 bits is `{"u64":N}` while it is
+/// at most 9,223,372,036,854,775,807, and a plain number above. Want of memory is the only error.
 pub fn event_line(alloc: Global, event: &Event) -> Result<Txt, Memory>
     ensures { IfOk result (λ t. t ≡ line_of event.now) }
 {

@@ -1,16 +1,21 @@
-ghost use Rattle.std.specs.Prelude.{◌≡◌, ◌≢◌, ◌+◌, ◌≤◌, ℕ, Ok, Err, IfOk, IfErr, OnOk, OnErr};
+ghost use Rattle.std.specs.Prelude.{◌≡◌, ◌≢◌, ◌≤◌, map, Ok, Err, IfOk, IfErr, OnErr};
+ghost use Rattle.std.specs.Option.{option_copied};
 ghost use Rattle.std.specs.Str.Lines.{strip_carriage_return};
-ghost use Rattle.dsql_script.specs.ScriptLines.{IsReading, read_of, line_of, text_of, most_lines};
+ghost use Rattle.dsql_script.specs.ScriptHead.{Progress, progress, unread, after};
+ghost use Rattle.dsql_script.specs.ScriptLines.{IsReading, read_of, line_of, text_of, form_of, most_lines};
 
+mod args;
 mod array;
 mod exec;
+mod forms;
+mod head;
 #[cfg(test)]
 mod tests;
 mod words;
 mod worked;
 
 use crate::fault::{LineFault, What};
-use crate::script::ScriptLine;
+use crate::script::{Head, ScriptLine};
 use std::alloc::Global;
 use std::marker::Model;
 pub use worked::worked_script_lines;
@@ -22,23 +27,37 @@ const MAX_LINES: u16 = 10_000;
 const MAX_BYTES: usize = 4_096;
 
 /// A reader of scripts, line by line. Contracts see the number of lines that it has read, which
-/// counts skipped ones and no refused one.
+/// counts skipped ones and no refused one, and whether a version line or a caps line may still come.
 ///
 /// The words of a line are parted by exactly one space. Where a line holds a space followed by `[`,
-/// a JSON array begins at the first such `[` and runs to the line's end. A line that isn't skipped
-/// is `cN exec T [@K]` and an array of one text: client N, from 1 to 64 without a leading zero,
-/// executes the text on T, which is `db` or a label, under the token K, if one is named. The name
-/// of a label or a token is a lower-case letter and at most 31 of `a` to `z`, `0` to `9` and `_`,
-/// and isn't `db`. No line makes a label or a token yet.
+/// a JSON array begins at the first such `[` and runs to the line's end. Before all lines that aren't
+/// skipped may stand `version 1`, and before all of clients `caps` with the names of what the driver
+/// can do, each once and in the order of a report. Any other line that isn't skipped is
+/// `cN exec T [@K]` and an array of a text and at most 32 arguments: client N, from 1 to 64 without
+/// a leading zero, executes the text on T, which is `db` or a label, under the token K, if one is
+/// named. The name of a label or a token is a lower-case letter and at most 31 of `a` to `z`, `0` to
+/// `9` and `_`, and isn't `db`. No line makes a label or a token yet.
+///
+/// | argument | as JSON |
+/// |---|---|
+/// | `Nil`, `Bool`, `Text` | `null`, `true` or `false`, a string |
+/// | `I64`, `U64` | a whole number that fits an `i64`, one above that fits a `u64` |
+/// | `I8`, `I16`, `I32`, `U8`, `U16`, `U32`, `U64` | `{"i8":N}` and so on, N in the type's range |
+/// | `Bytes` | `{"bytes":"00ff"}`, lower-case hexadecimal digits in pairs |
+/// | `Time` | `{"time":N}`, nanoseconds since 1970 |
+/// | `NullText` and its like | `{"null_text":V}`, and `null_i64`, `null_i32`, `null_i16`, `null_u8`, |
+/// | | `null_bool`, `null_time`; V is `null` or what the form holds |
+/// | with a name | `{"name":"x","arg":A}`, A an argument without a name |
 #[derive(Debug, Drop)]
 pub struct Reader {
     lines: u16,
+    head: Head,
 }
 
 impl Model for Reader {
-    ghost Value = { ℕ };
+    ghost Value = { Progress };
 
-    ghost view = { λ r. r.lines };
+    ghost view = { λ r. progress r.lines r.head };
 
     ghost invariant = { λ r. r.lines ≤ most_lines };
 }
@@ -46,9 +65,12 @@ impl Model for Reader {
 impl Reader {
     /// A reader that has read no line.
     pub fn new() -> Reader
-        ensures { result ≡ 0 }
+        ensures { result ≡ unread }
     {
-        Reader { lines: 0 }
+        Reader {
+            lines: 0,
+            head: Head::First,
+        }
     }
 
     /// Reads the next line, which comes without its line feed; one carriage return at its end is
@@ -56,20 +78,21 @@ impl Reader {
     pub fn read_line(&mut self, alloc: Global, line: &[u8]) -> Result<ScriptLine, LineFault>
         ensures ok { IfOk result (λ s. read_of self.old line.now ≡ Ok s) }
         ensures err { IfErr result (λ f. f ≢ LineFault.Memory → read_of self.old line.now ≡ Err f) }
-        ensures counted { OnOk result (self.new ≡ self.old + 1) }
+        ensures counted { IfOk result (λ s. self.new ≡ after self.old s) }
         ensures unchanged { OnErr result (self.new ≡ self.old) }
     {
         if self.lines >= MAX_LINES {
             return Err(LineFault::TooMany(What::Lines));
         }
-        let read = read_bytes(alloc, line)?;
+        let read = read_bytes(alloc, self.head, line)?;
         self.lines += 1;
+        self.head = self.head.after(&read);
         Ok(read)
     }
 
     /// How many lines it has read.
     pub fn lines(&self) -> u16
-        ensures { result ≡ self.now }
+        ensures { result ≡ self.now.lines }
     {
         self.lines
     }
@@ -77,16 +100,17 @@ impl Reader {
 
 impl Default for Reader {
     ghost use Rattle.std.specs.Prelude.{◌≡◌};
+    ghost use Rattle.dsql_script.specs.ScriptHead.{unread};
 
-    ghost is_default = { λ r. r ≡ 0 };
+    ghost is_default = { λ r. r ≡ unread };
 
     fn default() -> Reader {
         Reader::new()
     }
 }
 
-fn read_bytes(alloc: Global, line: &[u8]) -> Result<ScriptLine, LineFault>
-    ensures { IsReading result (line_of line.now) }
+fn read_bytes(alloc: Global, head: Head, line: &[u8]) -> Result<ScriptLine, LineFault>
+    ensures { IsReading result (line_of head line.now) }
 {
     if line.len() > MAX_BYTES {
         return Err(LineFault::TooLong);
@@ -94,7 +118,7 @@ fn read_bytes(alloc: Global, line: &[u8]) -> Result<ScriptLine, LineFault>
     let Ok(text) = str::from_utf8(line) else {
         return Err(LineFault::NotUtf8);
     };
-    read_text(alloc, without_return(text))
+    read_text(alloc, head, without_return(text))
 }
 
 /// The line without the one carriage return at its end.
@@ -104,13 +128,33 @@ fn without_return(line: &str) -> &str
     line.strip_suffix('\r').unwrap_or(line)
 }
 
-fn read_text(alloc: Global, text: &str) -> Result<ScriptLine, LineFault>
-    ensures { IsReading result (text_of text.now) }
+fn read_text(alloc: Global, head: Head, text: &str) -> Result<ScriptLine, LineFault>
+    ensures { IsReading result (text_of head text.now) }
 {
     if text.is_empty() || text.starts_with('#') {
         return Ok(ScriptLine::Skip);
     }
     let (before, array) = words::split_array(text);
     let words = words::split_words(alloc, before)?;
-    exec::read_form(alloc, &words, array)
+    read_form(alloc, head, &words, array)
+}
+
+/// Reads a line by its words and its array.
+fn read_form(
+    alloc: Global,
+    head: Head,
+    words: &[&str],
+    array: Option<&str>,
+) -> Result<ScriptLine, LineFault>
+    ensures { IsReading result
+        (form_of head (map (λ w. w.now) words.now) (option_copied array.entry)) }
+{
+    let [first, rest @ ..] = words else {
+        return Err(LineFault::NoSuchWord);
+    };
+    match *first {
+        "version" => head::read_version(head, rest, array),
+        "caps" => head::read_caps(alloc, head, rest, array),
+        client => exec::read_client(alloc, client, rest, array),
+    }
 }

@@ -1,3 +1,4 @@
+use dsql_driver::Caps;
 use dsql_history::Op;
 
 /// What one line of a script says.
@@ -5,7 +6,39 @@ use dsql_history::Op;
 pub enum ScriptLine {
     /// Nothing, since it is empty or begins with `#`.
     Skip,
-    /// A client, numbered from 1 to 64, makes a call. The line is `cN exec db ["TEXT"]`, which is
-    /// Go's `DB.ExecContext` of that text.
+    /// The version that the script is for, which is 1. The line is `version 1`.
+    Version(u8),
+    /// The driver can do just this. The line is `caps` and the names of what it can do, each once and
+    /// in the order of a report.
+    UseCaps(Caps),
+    /// A client, numbered from 1 to 64, makes a call. The line is `cN exec db ["TEXT",ARGS]`, which is
+    /// Go's `DB.ExecContext` of that text with these arguments.
     Client { client: u8, op: Op },
+}
+
+/// Which of the lines that stand before those of clients may still come.
+#[derive(Clone, Copy, Debug, PartialEq, Eq)]
+pub enum Head {
+    /// A version line or a caps line, since there were none but skipped lines.
+    First,
+    /// A caps line, since the version line was the last that wasn't skipped.
+    AfterVersion,
+    /// Neither.
+    Begun,
+}
+
+impl Head {
+    ghost use Rattle.std.specs.Prelude.{◌≡◌};
+    ghost use Rattle.dsql_script.specs.ScriptHead.{head_after};
+
+    /// Which of them may still come behind such a line.
+    pub fn after(self, line: &ScriptLine) -> Head
+        ensures { result ≡ head_after self line.now }
+    {
+        match line {
+            ScriptLine::Skip => self,
+            ScriptLine::Version(_) => Head::AfterVersion,
+            ScriptLine::UseCaps(_) | ScriptLine::Client { .. } => Head::Begun,
+        }
+    }
 }

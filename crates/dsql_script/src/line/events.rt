@@ -1,11 +1,13 @@
 //! Events as JSON.
-ghost use Rattle.std.specs.Prelude.{◌≡◌, ◌++◌, map, string_bytes, IfOk, OnOk};
+ghost use Rattle.std.specs.Prelude.{◌≡◌, [], ◌∷◌, ◌++◌, map, codes, string_bytes, IfOk, OnOk};
 ghost use Rattle.serde_json.specs.Data.{string};
 ghost use Rattle.serde_json.specs.View.{view};
 ghost use Rattle.serde_json.specs.Written.{compact_text};
-ghost use Rattle.dsql_script.specs.LineValues.{texts_data};
-ghost use Rattle.dsql_script.specs.Lines.{owner_word, cause_word, name_if, caps_names, entered_data, move_data, entry_data, reply_data, json_of};
+ghost use Rattle.dsql_script.specs.LineValues.{texts_data, worded as worded_data};
+ghost use Rattle.dsql_script.specs.Lines.{owner_word, cause_word, caps_names, entered_data, move_data, entry_data, num_args_text, reply_data, json_of};
 
+use crate::caps::caps_names;
+use crate::line::args::exec_json;
 use crate::line::calls::{answer_json, call_json};
 use crate::line::parts::worded;
 use crate::line::values::text_json;
@@ -14,7 +16,7 @@ use dsql_history::{CloseCause, Event, Move, Op, Reply};
 use dsql_journal::{Entry, Owner};
 use dsql_value::Memory;
 use serde_json::Value;
-use std::alloc::Global;
+use std::alloc::{AllocError, Global};
 
 /// How many connections may be open at all.
 const MOST_OPEN: u32 = 1000;
@@ -44,30 +46,15 @@ fn word_of(cause: CloseCause) -> &'static str
     }
 }
 
-/// Adds a name at the end if it is wanted.
-fn push_if(alloc: Global, names: &mut Vec<Value>, wanted: bool, name: &str) -> Result<(), Memory>
-    ensures { OnOk result
-        (map view names.new.items ≡ map view names.old.items ++ map string (name_if wanted name.now)) }
-{
-    if wanted {
-        names.push(Value::try_from_str(alloc, name)?)?;
-    }
-    Ok(())
-}
-
 /// The names of what a driver can do, in a fixed order.
 fn caps_json(alloc: Global, caps: &Caps) -> Result<Value, Memory>
     ensures { IfOk result (λ v. view v ≡ texts_data (caps_names caps.now)) }
 {
-    let mut names = Vec::new(alloc);
-    push_if(alloc, &mut names, caps.fast_exec, "fast_exec")?;
-    push_if(alloc, &mut names, caps.fast_query, "fast_query")?;
-    push_if(alloc, &mut names, caps.begin_options, "begin_options")?;
-    push_if(alloc, &mut names, caps.named, "named")?;
-    push_if(alloc, &mut names, caps.pinger, "pinger")?;
-    push_if(alloc, &mut names, caps.resetter, "resetter")?;
-    push_if(alloc, &mut names, caps.validator, "validator")?;
-    Ok(Value::Array(names))
+    let mut list = Vec::new(alloc);
+    for name in caps_names(alloc, caps)? {
+        list.push(Value::try_from_str(alloc, name)?)?;
+    }
+    Ok(Value::Array(list))
 }
 
 /// A client's call: who made it, its number, and the words and the array of the line that asked for it.
@@ -75,10 +62,9 @@ fn entered_json(alloc: Global, client: u8, n: u32, op: &Op) -> Result<Value, Mem
     ensures { IfOk result (λ v. view v ≡ entered_data client n op.now) }
 {
     match op {
-        Op::Exec { text } => {
+        Op::Exec { text, args } => {
             let words = Value::try_from_str(alloc, "exec db")?;
-            let text = text_json(alloc, text)?;
-            let array = Value::Array(vec![in alloc; text]?);
+            let array = exec_json(alloc, text, args.as_slice())?;
             let parts = [Value::from(client), Value::from(n), words, array];
             worded(alloc, "enter", parts)
         }
@@ -130,7 +116,24 @@ fn entry_json(alloc: Global, entry: &Entry) -> Result<Value, Memory>
     worded(alloc, "heard", parts)
 }
 
-/// A reply: `ok` and what it gives, or `err`, the error's code, its numbers and its text.
+/// An error by its code, the one thing that it shows, and its text.
+fn error_json(alloc: Global, code: &str, shown: Value, text: &str) -> Result<Value, Memory>
+    ensures { IfOk result (λ v. view v
+        ≡ worded_data (codes "err") (string code.now ∷ view shown ∷ string text.now ∷ [])) }
+{
+    let code = Value::try_from_str(alloc, code)?;
+    let text = Value::try_from_str(alloc, text)?;
+    worded(alloc, "err", [code, shown, text])
+}
+
+/// What is wrong with a number of arguments.
+fn num_args_text(alloc: Global, want: u32, got: u32) -> Result<String, AllocError>
+    ensures { IfOk result (λ s. string_bytes s ≡ num_args_text want got) }
+{
+    format!(in alloc; "sql: expected {want} arguments, got {got}")
+}
+
+/// A reply: `ok` and what it gives, or `err`, the error's code, its numbers or its name, and its text.
 fn reply_json(alloc: Global, reply: &Reply) -> Result<Value, Memory>
     ensures { IfOk result (λ v. view v ≡ reply_data reply.now) }
 {
@@ -145,14 +148,35 @@ fn reply_json(alloc: Global, reply: &Reply) -> Result<Value, Memory>
             worded(alloc, "err", [code, text_json(alloc, text)?])
         }
         Reply::BadConn(tries) => {
-            let code = Value::try_from_str(alloc, "bad_conn")?;
-            let text = Value::try_from_str(alloc, "driver: bad connection")?;
-            worded(alloc, "err", [code, Value::from(*tries), text])
+            let text = "driver: bad connection";
+            error_json(alloc, "bad_conn", Value::from(*tries), text)
+        }
+        Reply::NumArgs { want, got } => {
+            let code = Value::try_from_str(alloc, "num_args")?;
+            let text = num_args_text(alloc, *want, *got)?;
+            let parts = [
+                code,
+                Value::from(*want),
+                Value::from(*got),
+                Value::from(text),
+            ];
+            worded(alloc, "err", parts)
+        }
+        Reply::HighBit(number) => {
+            let text = "sql: unsigned value has its high bit set";
+            error_json(alloc, "high_bit", Value::from(*number), text)
+        }
+        Reply::NamedRefused(name) => {
+            let text = "sql: driver does not support the use of Named Parameters";
+            error_json(alloc, "named", text_json(alloc, name)?, text)
+        }
+        Reply::BadName(name) => {
+            let text = "sql: name does not begin with a letter";
+            error_json(alloc, "bad_name", text_json(alloc, name)?, text)
         }
         Reply::TooMany => {
-            let code = Value::try_from_str(alloc, "too_many")?;
-            let text = Value::try_from_str(alloc, "sql: too many open connections")?;
-            worded(alloc, "err", [code, Value::from(MOST_OPEN), text])
+            let text = "sql: too many open connections";
+            error_json(alloc, "too_many", Value::from(MOST_OPEN), text)
         }
     }
 }

@@ -1,8 +1,8 @@
 use crate::line::event_line;
 use dsql_driver::{DriverAnswer, DriverCall, Input, Level};
-use dsql_history::{Event, Move, Reply};
+use dsql_history::{Event, Move, Op, Reply};
 use dsql_journal::{Entry, Owner};
-use dsql_value::{Bin, Items, Param, Txt, Value};
+use dsql_value::{Arg, Bin, Items, Named, Param, Txt, Value};
 use std::alloc::Global;
 use std::process::Abort;
 use std::test::Fail;
@@ -73,6 +73,64 @@ fn shows_a_parameter_with_its_name(rt: HostRuntime) -> Result<(), Fail> {
     assert_line(&rt, alloc, &heard(call, answer), want)
 }
 
+/// That an argument with this name, if one is given, is spelled like this.
+fn assert_argument(
+    rt: &impl Abort,
+    alloc: Global,
+    name: Option<Txt>,
+    arg: Arg,
+    want: &str,
+) -> Result<(), Fail> {
+    let args = Items::new(vec![in alloc; Named { name, arg }]?);
+    let text = Txt::copy_of(alloc, "a")?;
+    let op = Op::Exec { text, args };
+    let event = Event::Entered {
+        client: 2,
+        n: 7,
+        op,
+    };
+    let line = format!(in alloc; r#"["enter",2,7,"exec db",["a",{want}]]"#)?;
+    assert_line(rt, alloc, &event, line.as_str())
+}
+
+#[test]
+fn shows_each_form_of_argument(rt: HostRuntime) -> Result<(), Fail> {
+    let alloc = rt.alloc();
+    let bytes = Bin::new(vec![in alloc; 0, 255, 171]?);
+    let null_text = Arg::NullText(Some(Txt::copy_of(alloc, "ann")?));
+    let forms = vec![in alloc;
+        (Arg::Nil, "null"),
+        (Arg::I8(-128), r#"{"i8":-128}"#),
+        (Arg::I16(5), r#"{"i16":5}"#),
+        (Arg::I32(5), r#"{"i32":5}"#),
+        (Arg::I64(-5), "-5"),
+        (Arg::U8(255), r#"{"u8":255}"#),
+        (Arg::U16(5), r#"{"u16":5}"#),
+        (Arg::U32(5), r#"{"u32":5}"#),
+        (
+            Arg::U64(9_223_372_036_854_775_807),
+            r#"{"u64":9223372036854775807}"#
+        ),
+        (Arg::U64(9_223_372_036_854_775_808), "9223372036854775808"),
+        (Arg::Bool(true), "true"),
+        (Arg::Text(Txt::copy_of(alloc, "ann")?), r#""ann""#),
+        (Arg::Bytes(bytes), r#"{"bytes":"00ffab"}"#),
+        (Arg::Time(-1), r#"{"time":-1}"#),
+        (null_text, r#"{"null_text":"ann"}"#),
+        (Arg::NullI64(None), r#"{"null_i64":null}"#),
+        (Arg::NullI32(Some(5)), r#"{"null_i32":5}"#),
+        (Arg::NullI16(Some(5)), r#"{"null_i16":5}"#),
+        (Arg::NullU8(Some(5)), r#"{"null_u8":5}"#),
+        (Arg::NullBool(Some(false)), r#"{"null_bool":false}"#),
+        (Arg::NullTime(Some(9)), r#"{"null_time":9}"#),
+    ]?;
+    for (arg, want) in forms {
+        assert_argument(&rt, alloc, None, arg, want)?;
+    }
+    let name = Some(Txt::copy_of(alloc, "x")?);
+    assert_argument(&rt, alloc, name, Arg::I64(1), r#"{"arg":1,"name":"x"}"#)
+}
+
 #[test]
 fn escapes_texts(rt: HostRuntime) -> Result<(), Fail> {
     let alloc = rt.alloc();
@@ -111,5 +169,7 @@ fn shows_error_replies(rt: HostRuntime) -> Result<(), Fail> {
     let want = r#"["reply",5,["err","bad_conn",3,"driver: bad connection"]]"#;
     assert_reply(&rt, alloc, Reply::BadConn(3), want)?;
     let want = r#"["reply",5,["err","too_many",1000,"sql: too many open connections"]]"#;
-    assert_reply(&rt, alloc, Reply::TooMany, want)
+    assert_reply(&rt, alloc, Reply::TooMany, want)?;
+    let want = r#"["reply",5,["err","num_args",1,2,"sql: expected 1 arguments, got 2"]]"#;
+    assert_reply(&rt, alloc, Reply::NumArgs { want: 1, got: 2 }, want)
 }

@@ -1,26 +1,30 @@
 ghost use Rattle.std.specs.Prelude.{◌≡◌, map};
 ghost use Rattle.std.specs.Option.{option_copied};
 ghost use Rattle.dsql_script.specs.ScriptWords.{client_of};
-ghost use Rattle.dsql_script.specs.ScriptLines.{IsReading, form_of, call_of, exec_of, has_exec_shape, names_database};
+ghost use Rattle.dsql_script.specs.ScriptLines.{IsReading, client_line, call_of, exec_of, has_exec_shape, names_database};
 
-use crate::fault::LineFault;
-use crate::reader::{array, words};
+use crate::fault::{LineFault, What};
+use crate::reader::{args, array, words};
 use crate::script::ScriptLine;
 use dsql_history::Op;
 use std::alloc::Global;
 
-/// Reads a line by its words and its array.
-pub fn read_form(
+/// How many arguments a call may have.
+const MAX_ARGS: usize = 32;
+
+/// Reads a client's line by its first word, those after it and its array.
+pub fn read_client(
     alloc: Global,
+    client: &str,
     words: &[&str],
     array: Option<&str>,
 ) -> Result<ScriptLine, LineFault>
-    ensures { IsReading result
-        (form_of (map (λ w. w.now) words.now) (option_copied array.entry)) }
+    ensures { IsReading result (client_line client.now
+        (map (λ w. w.now) words.now) (option_copied array.entry)) }
 {
     match words {
-        [client, verb, rest @ ..] => read_call(alloc, client, verb, rest, array),
-        _ => Err(LineFault::NoSuchWord),
+        [verb, rest @ ..] => read_call(alloc, client, verb, rest, array),
+        [] => Err(LineFault::NoSuchWord),
     }
 }
 
@@ -57,13 +61,16 @@ fn read_exec(
     }
     let array = array.ok_or(LineFault::BadShape)?;
     let value = array::read_array(alloc, array)?;
-    let text = array::text_alone(value).ok_or(LineFault::BadShape)?;
+    let (text, args) = args::read_call(alloc, &value)?;
+    if args.as_slice().len() > MAX_ARGS {
+        return Err(LineFault::TooMany(What::Args));
+    }
     if !names_database(words) {
         return Err(LineFault::UnknownLabel);
     }
     Ok(ScriptLine::Client {
         client,
-        op: Op::Exec { text },
+        op: Op::Exec { text, args },
     })
 }
 

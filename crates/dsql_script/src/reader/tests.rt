@@ -51,8 +51,9 @@ fn takes_execs(rt: HostRuntime) -> Result<(), Fail> {
         match reader.read_line(rt.alloc(), line.as_bytes())? {
             ScriptLine::Client {
                 client,
-                op: Op::Exec { text },
+                op: Op::Exec { text, args },
             } => {
+                assert_eq!(rt; args.as_slice().len(), 0, "{line}");
                 assert_eq!(rt; client, want_client, "{line}");
                 assert_eq!(rt; text.as_str(), want, "{line}");
             }

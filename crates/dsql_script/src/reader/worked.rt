@@ -1,27 +1,52 @@
-ghost use Rattle.std.specs.Prelude.{◌≡◌, ◌∷◌, ◌++◌, [], codes, replicate, Ok, Err};
+ghost use Rattle.std.specs.Prelude.{◌≡◌, ◌∷◌, ◌++◌, [], pos, negsuc, false, true, codes, replicate, Ok, Err};
+ghost use Rattle.dsql_value.specs.declared.arg.Arg.TheVariants as arg;
+ghost use Rattle.dsql_value.specs.WorkedArguments.{plain, named_one};
 ghost use Rattle.dsql_history.specs.declared.event.Op.TheVariants.{Exec};
-ghost use Rattle.dsql_script.specs.declared.fault.What.TheVariants.{Lines};
+ghost use Rattle.dsql_script.specs.declared.fault.What.TheVariants.{Lines, Args};
 ghost use Rattle.dsql_script.specs.declared.fault.LineFault.TheVariants.{TooLong, NotUtf8, NoSuchWord, BadJson, BadShape, UnknownLabel, TooMany};
-ghost use Rattle.dsql_script.specs.declared.script.ScriptLine.TheVariants.{Skip, Client};
+ghost use Rattle.dsql_script.specs.declared.script.ScriptLine.TheVariants.{Skip, Version, UseCaps, Client};
+ghost use Rattle.dsql_script.specs.declared.script.Head.TheVariants.{First, AfterVersion, Begun};
+ghost use Rattle.dsql_script.specs.ScriptHead.{unread, progress, caps_among};
 ghost use Rattle.dsql_script.specs.ScriptLines.{read_of};
 
 /// Lines of scripts, each with what is read of it.
 pub fn worked_script_lines()
-    ensures exec { read_of 0 (codes "c1 exec db [\"SET a 1\"]")
-        ≡ Ok (Client 1 (Exec (codes "SET a 1"))) }
-    ensures last_client { read_of 9999 (codes "c64 exec db [ \"\" ]\r")
-        ≡ Ok (Client 64 (Exec (codes ""))) }
-    ensures comment { read_of 7 (codes "#c1 exec") ≡ Ok Skip }
-    ensures empty { read_of 7 (codes "\r") ≡ Ok Skip }
-    ensures too_many { read_of 10000 (codes "# one more") ≡ Err (TooMany Lines) }
-    ensures too_long { read_of 0 (replicate 4097 97) ≡ Err TooLong }
-    ensures not_utf8 { read_of 0 (codes "# " ++ 255 ∷ []) ≡ Err NotUtf8 }
-    ensures client_too_large { read_of 0 (codes "c65 exec db [\"a\"]") ≡ Err NoSuchWord }
-    ensures leading_zero { read_of 0 (codes "c01 exec db [\"a\"]") ≡ Err NoSuchWord }
-    ensures no_array { read_of 0 (codes "c1 exec db") ≡ Err BadShape }
-    ensures words_first { read_of 0 (codes "c1 exec Db [") ≡ Err BadShape }
-    ensures not_json { read_of 0 (codes "c1 exec x [") ≡ Err BadJson }
-    ensures two_things { read_of 0 (codes "c1 exec x [\"a\",1]") ≡ Err BadShape }
-    ensures label { read_of 0 (codes "c1 exec x [\"a\"]") ≡ Err UnknownLabel }
-    ensures token { read_of 0 (codes "c1 exec db @k [\"a\"]") ≡ Err UnknownLabel }
+    ensures exec { read_of unread (codes "c1 exec db [\"SET a 1\"]")
+        ≡ Ok (Client 1 (Exec (codes "SET a 1") [])) }
+    ensures last_client { read_of (progress 9999 Begun) (codes "c64 exec db [ \"\" ]\r")
+        ≡ Ok (Client 64 (Exec (codes "") [])) }
+    ensures comment { read_of (progress 7 First) (codes "#c1 exec") ≡ Ok Skip }
+    ensures empty { read_of (progress 7 First) (codes "\r") ≡ Ok Skip }
+    ensures too_many { read_of (progress 10000 Begun) (codes "# one more") ≡ Err (TooMany Lines) }
+    ensures too_long { read_of unread (replicate 4097 97) ≡ Err TooLong }
+    ensures not_utf8 { read_of unread (codes "# " ++ 255 ∷ []) ≡ Err NotUtf8 }
+    ensures client_too_large { read_of unread (codes "c65 exec db [\"a\"]") ≡ Err NoSuchWord }
+    ensures leading_zero { read_of unread (codes "c01 exec db [\"a\"]") ≡ Err NoSuchWord }
+    ensures no_array { read_of unread (codes "c1 exec db") ≡ Err BadShape }
+    ensures words_first { read_of unread (codes "c1 exec Db [") ≡ Err BadShape }
+    ensures not_json { read_of unread (codes "c1 exec x [") ≡ Err BadJson }
+    ensures no_text { read_of unread (codes "c1 exec x [1]") ≡ Err BadShape }
+    ensures arguments { read_of unread (codes "c1 exec db [\"a\",null,-1,{\"u64\":5},{\"bytes\":\"00ff\"}]")
+        ≡ Ok (Client 1 (Exec (codes "a") (plain arg.Nil ∷ plain (arg.I64 (negsuc 0)) ∷ plain (arg.U64 5)
+        ∷ plain (arg.Bytes (0 ∷ 255 ∷ [])) ∷ []))) }
+    ensures named_argument { read_of unread (codes "c1 exec db [\"a\",{\"name\":\"x\",\"arg\":1}]")
+        ≡ Ok (Client 1 (Exec (codes "a") (named_one (codes "x") ∷ []))) }
+    ensures largest { read_of unread (codes "c1 exec db [\"a\",9223372036854775807,9223372036854775808]")
+        ≡ Ok (Client 1 (Exec (codes "a") (plain (arg.I64 (pos 9223372036854775807)) ∷ plain (arg.U64 9223372036854775808) ∷ []))) }
+    ensures out_of_range { read_of unread (codes "c1 exec x [\"a\",{\"i8\":128}]") ≡ Err BadShape }
+    ensures upper_case { read_of unread (codes "c1 exec x [\"a\",{\"bytes\":\"00FF\"}]") ≡ Err BadShape }
+    ensures fraction { read_of unread (codes "c1 exec x [\"a\",1.5]") ≡ Err BadShape }
+    ensures no_such_form { read_of unread (codes "c1 exec x [\"a\",{\"i64\":1}]") ≡ Err BadShape }
+    ensures too_many_arguments { read_of unread (codes "c1 exec x [\"a\",0,0,0,0,0,0,0,0,0,0,0,0,0,0,0,0,0,0,0,0,0,0,0,0,0,0,0,0,0,0,0,0,0]")
+        ≡ Err (TooMany Args) }
+    ensures version { read_of unread (codes "version 1") ≡ Ok (Version 1) }
+    ensures later_version { read_of unread (codes "version 3") ≡ Err BadShape }
+    ensures second_version { read_of (progress 1 AfterVersion) (codes "version 3") ≡ Err NoSuchWord }
+    ensures no_caps { read_of (progress 1 AfterVersion) (codes "caps") ≡ Ok (UseCaps (caps_among [])) }
+    ensures some_caps { read_of unread (codes "caps begin_options named")
+        ≡ Ok (UseCaps (record { fast_exec = false; fast_query = false; begin_options = true; named = true; pinger = false; resetter = false; validator = false })) }
+    ensures caps_out_of_order { read_of unread (codes "caps named begin_options") ≡ Err BadShape }
+    ensures caps_twice { read_of (progress 1 Begun) (codes "caps named named") ≡ Err NoSuchWord }
+    ensures label { read_of unread (codes "c1 exec x [\"a\"]") ≡ Err UnknownLabel }
+    ensures token { read_of unread (codes "c1 exec db @k [\"a\"]") ≡ Err UnknownLabel }
 {}

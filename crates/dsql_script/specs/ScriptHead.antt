@@ -1,0 +1,58 @@
+-- How far a script has been read, and its lines of the version and of the capabilities.
+use Rattle.std.specs.Prelude.{ℕ, ◌+◌, Bool, false, List, [], ◌∷◌, codes, if◌then◌else◌, Option, Some, None}
+use Rattle.std.specs.List.{list_any}
+use Rattle.std.specs.Str.{bytes_eq}
+use Rattle.std.specs.Cmp.Lexicographic.{pointwise}
+use Rattle.dsql_driver.specs.declared.caps.Caps.{Caps}
+use Rattle.dsql_script.specs.declared.script.Head.{Head}
+use Rattle.dsql_script.specs.declared.script.Head.TheVariants.{First, AfterVersion, Begun}
+use Rattle.dsql_script.specs.declared.script.ScriptLine.{ScriptLine}
+use Rattle.dsql_script.specs.declared.script.ScriptLine.TheVariants.{Skip, Version, UseCaps, Client}
+use Rattle.dsql_script.specs.Lines.{caps_names}
+
+-- how many lines were read, and whether a version line or a caps line may still stand
+pub record Progress : Type 0 where
+  pub lines : ℕ
+  pub head : Head
+
+abbrev pub progress : ℕ → Head → Progress
+progress lines head = record { lines = lines; head = head }
+
+-- before the first line
+abbrev pub unread : Progress
+unread = progress 0 First
+
+-- a version line stands before all but skipped lines, and a caps line there or behind the version line
+abbrev pub head_after : Head → ScriptLine → Head
+head_after head Skip = head
+head_after head (Version version) = AfterVersion
+head_after head (UseCaps caps) = Begun
+head_after head (Client client op) = Begun
+
+-- behind one more line that was read
+abbrev pub after : Progress → ScriptLine → Progress
+after before line = progress (before.lines + 1) (head_after before.head line)
+
+-- the word behind `version`
+abbrev pub is_version : List (List ℕ) → Bool
+is_version (word ∷ []) = bytes_eq word (codes "1")
+is_version _ = false
+
+abbrev pub has_word : List (List ℕ) → List ℕ → Bool
+has_word words name = list_any (λ word. bytes_eq word name) words
+
+-- the capabilities whose names stand among these words
+abbrev pub caps_among : List (List ℕ) → Caps
+caps_among words = record {
+  fast_exec = has_word words (codes "fast_exec");
+  fast_query = has_word words (codes "fast_query");
+  begin_options = has_word words (codes "begin_options");
+  named = has_word words (codes "named");
+  pinger = has_word words (codes "pinger");
+  resetter = has_word words (codes "resetter");
+  validator = has_word words (codes "validator");
+}
+
+-- the capabilities whose names these words are, each once and in the order of a report
+abbrev pub caps_of : List (List ℕ) → Option Caps
+caps_of words = let caps = caps_among words in if pointwise bytes_eq (caps_names caps) words then Some caps else None
