@@ -74,7 +74,7 @@ pub loop-script-preserved : goal.loop-script-preserved
 loop-script-preserved g c =
     let reads : ReadsOn (Some c.in-Some.line) (to_come c.loop-script.script (g.S.Source.left c.loop-script.input)) (to_come c.next.new.self (g.S.Source.left c.next.new.input)) = rw c.in-Some.is at c.in_ok-line.ensures.read in
     let taken : c.next.new.self.lines.ended ≡ false → TakesLine c.loop-script.script.reader c.next.new.self.line.items c.in-Some.line (ahead c.loop-script.script.lines (g.S.Source.left c.loop-script.input)) (ahead c.next.new.self.lines (g.S.Source.left c.next.new.input)) =
-        rw c.in-Some.is at c.in_ok-line.ensures.taken in
+    rw c.in-Some.is at c.in_ok-line.ensures.taken in
     let numbered : c.next.new.self.reader ≡ c.loop-script.script.reader + 1 = rw c.in-Some.is at c.in_ok-line.ensures.numbered in
     record {
       between = c.in_ok-play_line.ensures.between refl;
