@@ -123,19 +123,19 @@ finishes_out ended final (inl same) out = rw (sym same) out
 finishes_out ended final (inr (inl memory)) out = absurd (cc (subst (λ r. ran_out r ≡ true) memory out))
 finishes_out ended final (inr (inr write)) out = write.1
 
-plays_ended : (played ended : Result (Unit {0}) Stop) (bytes : Option (List ℕ)) (calls : List (ℕ × Op)) → (ran_out ended ≡ true → ended ≡ played) → Plays played bytes calls → Plays ended bytes calls
-plays_ended played (Ok done) bytes calls same plays = subst (λ r. Plays r bytes calls) (sym (same refl)) plays
-plays_ended played (Err Read) bytes calls same plays = plays_first played bytes calls plays
-plays_ended played (Err Write) bytes calls same plays = plays_first played bytes calls plays
-plays_ended played (Err Memory) bytes calls same plays = plays_first played bytes calls plays
-plays_ended played (Err (Refused number fault)) bytes calls same plays = subst (λ r. Plays r bytes calls) (sym (same refl)) plays
-plays_ended played (Err Full) bytes calls same plays = plays_first played bytes calls plays
+plays_ended : (played ended : Result (Unit {0}) Stop) (bytes rest : Option (List ℕ)) (calls : List (ℕ × Op)) → (ran_out ended ≡ true → ended ≡ played) → Plays played bytes rest calls → Plays ended bytes rest calls
+plays_ended played (Ok done) bytes rest calls same plays = subst (λ r. Plays r bytes rest calls) (sym (same refl)) plays
+plays_ended played (Err Read) bytes rest calls same plays = subst (λ r. Plays r bytes rest calls) (sym (same refl)) plays
+plays_ended played (Err Write) bytes rest calls same plays = plays_first played bytes rest calls plays
+plays_ended played (Err Memory) bytes rest calls same plays = plays_first played bytes rest calls plays
+plays_ended played (Err (Refused number fault)) bytes rest calls same plays = subst (λ r. Plays r bytes rest calls) (sym (same refl)) plays
+plays_ended played (Err Full) bytes rest calls same plays = plays_first played bytes rest calls plays
 
 -- what a run has of its script, by what is told at last
-pub plays_finished : (played ended final : Result (Unit {0}) Stop) (bytes : Option (List ℕ)) (calls : List (ℕ × Op)) → (ran_out ended ≡ true → ended ≡ played) → Finishes ended final → Plays played bytes calls → Plays final bytes calls
-plays_finished played ended final bytes calls same (inl is) plays = rw is (plays_ended played ended bytes calls same plays)
-plays_finished played ended final bytes calls same (inr (inl memory)) plays = rw memory (plays_first played bytes calls plays)
-plays_finished played ended final bytes calls same (inr (inr write)) plays = rw write.0 (plays_first played bytes calls plays)
+pub plays_finished : (played ended final : Result (Unit {0}) Stop) (bytes rest : Option (List ℕ)) (calls : List (ℕ × Op)) → (ran_out ended ≡ true → ended ≡ played) → Finishes ended final → Plays played bytes rest calls → Plays final bytes rest calls
+plays_finished played ended final bytes rest calls same (inl is) plays = rw is (plays_ended played ended bytes rest calls same plays)
+plays_finished played ended final bytes rest calls same (inr (inl memory)) plays = rw memory (plays_first played bytes rest calls plays)
+plays_finished played ended final bytes rest calls same (inr (inr write)) plays = rw write.0 (plays_first played bytes rest calls plays)
 
 -- only what was played to its end without fault is told as such
 pub told_done : (played ended final : Result (Unit {0}) Stop) (done : Unit {0}) → (ran_out ended ≡ true → ended ≡ played) → Finishes ended final → final ≡ Ok done → played ≡ Ok done

@@ -1,6 +1,9 @@
 pub mod Errors
 pub mod Reading
+pub mod WholeLines
 pub mod Showing
 pub mod Running
 pub mod Finishing
+pub mod Cutting
+pub mod Emptied
 pub mod Telling

@@ -1,11 +1,12 @@
 -- The lines of a report one after another.
-use Rattle.std.proofs.Common.{◌≡◌, ℕ, suc, ◌<◌, List, [], ◌∷◌, ◌++◌, Option, Some, None, length, take, drop, get_or, refl, sym, ap, ◌∙◌, arith}
+use Rattle.std.proofs.Common.{◌≡◌, ℕ, suc, ◌+◌, ◌<◌, ◌≤◌, List, [], ◌∷◌, ◌++◌, Option, Some, None, length, take, drop, get_or, refl, sym, ap, ◌∙◌, arith, length-append}
 use Rattle.std.specs.Prelude.{reverse}
 use Rattle.std.proofs.Math.Seq.{take-suc}
-use Rattle.std.proofs.lemmas.List.{reverse-append, reverse-reverse, append_assoc, append-nil, take-append-drop, take_all}
+use Rattle.std.proofs.lemmas.List.{reverse-append, reverse-reverse, append_assoc, append-nil, take-append-drop, take-take, take_all}
 use Rattle.dsql_history.specs.declared.event.Event.{Event}
 use Rattle.dsql_script.specs.Lines.{line_of, text_of}
-use Rattle.dsql_run.specs.Report.{with_text, oldest, Shows, ShowsFront}
+use Rattle.dsql_run.specs.Report.{with_text, oldest, Shows, StopsBetween}
+use Rattle.dsql_run.specs.Script.{Begins}
 
 pub with_both : (w : Option (List ℕ)) (a b : List ℕ) → with_text (with_text w a) b ≡ with_text w (a ++ b)
 with_both None a b = refl
@@ -42,13 +43,33 @@ text_parts n events d within =
 regroup : (a front rest b : List ℕ) → (a ++ (front ++ rest)) ++ b ≡ (a ++ front) ++ (rest ++ b)
 regroup a front rest b = rw (append_assoc a (front ++ rest) b, append_assoc front rest b, append_assoc a front (rest ++ b)) refl
 
-pub shows_front : (w now next : Option (List ℕ)) (events : List Event) (n : ℕ) (d : Event) → n < length events → Shows w n (reverse events) now → ShowsFront now (line_of (get_or events n d)) next
-    → ShowsFront w (text_of (reverse events)) next
-shows_front w now next events n d within shows f = record {
-  front = text_of (oldest n (reverse events)) ++ f.front;
-  begins = record {
-    rest = f.begins.rest ++ text_of (reverse (drop (suc n) events));
-    parts = text_parts n events d within ∙ rw f.begins.parts (regroup (text_of (oldest n (reverse events))) f.front f.begins.rest (text_of (reverse (drop (suc n) events))));
-  };
-  written = f.written ∙ rw shows (with_both w (text_of (oldest n (reverse events))) f.front);
+-- the text of the first events is a beginning of that of more
+text_of_fewer : (m n : ℕ) (events : List Event) → m ≤ n → Begins (text_of (oldest m (reverse events))) (text_of (oldest n (reverse events)))
+text_of_fewer m n events fewer = record {
+  rest = text_of (reverse (drop m (take n events)));
+  parts = ap text_of (oldest_of n events ∙ ap reverse (sym (take-append-drop m (take n events))) ∙ reverse-append (take m (take n events)) (drop m (take n events)))
+      ∙ text_on (reverse (drop m (take n events))) (reverse (take m (take n events)))
+      ∙ ap (λ es. text_of (reverse es) ++ text_of (reverse (drop m (take n events)))) (take-take m n events fewer)
+      ∙ ap (λ es. text_of es ++ text_of (reverse (drop m (take n events)))) (sym (oldest_of m events));
 }
+
+begins_on : (a b more : List ℕ) → Begins a b → Begins a (b ++ more)
+begins_on a b more begins = record { rest = begins.rest ++ more; parts = rw begins.parts (append_assoc a begins.rest more) }
+
+-- the sink stopped at the next event's line
+pub shows_stop : (w now next : Option (List ℕ)) (events : List Event) (m n : ℕ) (d : Event) → m ≤ n → n < length events → Shows w n (reverse events) now → StopsBetween now [] (line_of (get_or events n d)) next
+    → StopsBetween w (text_of (oldest m (reverse events))) (text_of (reverse events)) next
+shows_stop w now next events m n d fewer within shows f =
+    let all = text_parts n events d within in
+    let shown = text_of (oldest n (reverse events)) in
+    let line = line_of (get_or events n d) in
+    record {
+      front = shown ++ f.front;
+      holds = begins_on _ shown f.front (text_of_fewer m n events fewer);
+      short = omega (arith, f.short, ap length all, length-append (shown ++ line) (text_of (reverse (drop (suc n) events))), length-append shown line, length-append shown f.front);
+      begins = record {
+        rest = f.begins.rest ++ text_of (reverse (drop (suc n) events));
+        parts = all ∙ rw f.begins.parts (regroup shown f.front f.begins.rest (text_of (reverse (drop (suc n) events))));
+      };
+      written = f.written ∙ rw shows (with_both w shown f.front);
+    }

@@ -6,6 +6,7 @@ use Rattle.dsql_driver.specs.Wires.{RetiredWire}
 use Rattle.dsql_history.specs.declared.event.Event.{Event}
 use Rattle.dsql_history.specs.declared.event.Event.TheVariants.{Run}
 use Rattle.dsql_history.specs.Readers.Course.{has_ended}
+use Rattle.dsql_history.specs.Readers.Sets.{open_count}
 use Rattle.dsql_history.specs.Rules.House.{is_quiet}
 use Rattle.dsql_history.specs.Legal.{Legal}
 use Rattle.dsql_engine.specs.Groups.{most_events}
@@ -16,7 +17,7 @@ use Rattle.dsql_player.specs.Turns.{Turns}
 use Rattle.dsql_script.specs.Lines.{text_of}
 use Rattle.dsql_run.specs.Notes.{Tells, usage_note}
 use Rattle.dsql_run.specs.Report.{with_text, ShowsFront}
-use Rattle.dsql_run.specs.Runs.{ran_out, Plays, Writes}
+use Rattle.dsql_run.specs.Runs.{ran_out, Plays, Writes, CutShort}
 use Rattle.dsql_run.specs.Script.{Says}
 use Rattle.dsql_run.specs.declared.stop.Stop.{Stop}
 use Rattle.dsql_run.specs.declared.stop.Stop.TheVariants.{Read, Write, Memory, Full}
@@ -35,11 +36,13 @@ pub record Ran (caps : Caps) (stopped : Result Unit Stop) (before after : Seen) 
   pub legal : Legal history
   pub begins : Extends (Run 1 caps ∷ []) history
   pub turns : Turns history
-  pub plays : Plays stopped before.left (entered_calls history)
+  pub plays : Plays stopped before.left after.left (entered_calls history)
   pub ended : ran_out stopped ≡ true → has_ended history ≡ true
   pub quiet : ran_out stopped ≡ true → is_quiet history ≡ true
   pub read : stopped ≡ Ok tt → IfSome after.left (λ bytes. bytes ≡ [])
   pub writes : Writes stopped (has_risen before.write_faults after.write_faults) before.written history after.written
+  pub cut : stopped ≡ Err Write → CutShort before.left after.left (has_risen before.read_faults after.read_faults) before.written history after.written
+  pub empty : ran_out stopped ≡ true → open_count history ≡ 0
   pub retired : ran_out stopped ≡ true → after.retired ≡ with_gone before.retired history
   pub read_fault : stopped ≡ Err Read → HasRisen before.read_faults after.read_faults
   pub write_fault : stopped ≡ Err Write → HasRisen before.write_faults after.write_faults
@@ -70,6 +73,7 @@ pub record PlaysWhole (caps : Caps) (before after : Seen) (notes_before notes_af
   pub says : Says before.left (record { calls = entered_calls history; refused = None })
   pub ended : has_ended history ≡ true
   pub quiet : is_quiet history ≡ true
+  pub empty : open_count history ≡ 0
   pub read : IfSome after.left (λ bytes. bytes ≡ [])
   pub written : after.written ≡ with_text before.written (text_of history)
   pub retired : after.retired ≡ with_gone before.retired history

@@ -1,5 +1,6 @@
 -- What is told of a run, and its status.
-use Rattle.std.specs.Prelude.{ℕ, ◌≡◌, ◌⊎◌, Bool, true, false, List, [], ◌∷◌, ◌++◌, Option, Result, Ok, Err, codes, decimal}
+use Rattle.std.specs.Prelude.{ℕ, ◌≡◌, ◌==◌, ◌⊎◌, Bool, true, false, List, [], ◌∷◌, ◌++◌, Option, Result, Ok, Err, codes, decimal}
+use Rattle.std.specs.List.{list_any}
 use Rattle.std.specs.Str.{bytes_eq}
 use Rattle.dsql_script.specs.declared.fault.LineFault.{LineFault}
 use Rattle.dsql_script.specs.declared.fault.LineFault.TheVariants as faults
@@ -47,6 +48,10 @@ status_of Write = 4
 status_of Memory = 5
 status_of (Refused number fault) = 7
 status_of Full = 10
+
+-- the statuses that there are
+abbrev pub is_status : ℕ → Bool
+is_status status = list_any (λ known. known == status) (0 ∷ 2 ∷ 3 ∷ 4 ∷ 5 ∷ 7 ∷ 10 ∷ [])
 
 -- the status where the stop couldn't be told
 abbrev pub failed_status : Stop → ShowFault → ℕ

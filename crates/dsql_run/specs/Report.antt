@@ -1,5 +1,5 @@
 -- What was written of a report.
-use Rattle.std.specs.Prelude.{ℕ, ◌≡◌, List, ◌++◌, take, reverse, Option, option_map}
+use Rattle.std.specs.Prelude.{ℕ, ◌≡◌, ◌<◌, List, ◌++◌, length, take, reverse, Option, option_map}
 use Rattle.dsql_history.specs.declared.event.Event.{Event}
 use Rattle.dsql_script.specs.Lines.{text_of}
 use Rattle.dsql_run.specs.Script.{Begins}
@@ -20,4 +20,12 @@ Shows w n past now = now ≡ with_text w (text_of (oldest n past))
 pub record ShowsFront (w : Option (List ℕ)) (text : List ℕ) (now : Option (List ℕ)) : Type 0 where
   pub front : List ℕ
   pub begins : Begins front text
+  pub written : now ≡ with_text w front
+
+-- A sink that held w stopped behind it between two texts: it holds all of the first, and more or none, but not all of the second.
+pub record StopsBetween (w : Option (List ℕ)) (least text : List ℕ) (now : Option (List ℕ)) : Type 0 where
+  pub front : List ℕ
+  pub holds : Begins least front
+  pub begins : Begins front text
+  pub short : length front < length text
   pub written : now ≡ with_text w front

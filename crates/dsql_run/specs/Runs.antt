@@ -1,5 +1,5 @@
 -- How a run ends, and what it has done then.
-use Rattle.std.specs.Prelude.{ℕ, ◌≡◌, ◌+◌, ◌⊎◌, Bool, true, false, ◌||◌, List, ◌++◌, Option, Some, None, IfSome, option_map, Result, Ok, Err}
+use Rattle.std.specs.Prelude.{ℕ, ◌≡◌, ◌≢◌, ◌+◌, ◌⊎◌, Bool, true, false, ◌||◌, All, List, [], ◌∷◌, ◌++◌, Option, Some, None, IfSome, option_map, Result, Ok, Err}
 use Rattle.dsql_driver.specs.Wires.{Told}
 use Rattle.dsql_history.specs.declared.event.Event.{Event}
 use Rattle.dsql_history.specs.declared.event.Op.{Op}
@@ -9,16 +9,17 @@ use Rattle.dsql_history.specs.Legal.{Legal}
 use Rattle.dsql_player.specs.declared.halt.Halt.{Halt}
 use Rattle.dsql_player.specs.declared.halt.Halt.TheVariants as halts
 use Rattle.dsql_player.specs.Entered.{entered_calls}
+use Rattle.dsql_player.specs.Extends.{Extends}
 use Rattle.dsql_player.specs.Turns.{Turns}
 use Rattle.dsql_player.specs.WiresFit.{WiresFit}
 use Rattle.dsql_stream.specs.declared.lines.ReadFault.{ReadFault}
 use Rattle.dsql_stream.specs.declared.lines.ReadFault.TheVariants.{Failed as NoRead, Memory as NoMemory}
-use Rattle.dsql_stream.specs.Lines.{all_lines, ahead}
+use Rattle.dsql_stream.specs.Lines.{all_lines, ended_lines, ahead, TakesOff}
 use Rattle.dsql_script.specs.declared.script.ScriptLine.{ScriptLine}
 use Rattle.dsql_script.specs.ScriptLines.{read_of}
 use Rattle.dsql_script.specs.Lines.{text_of}
 use Rattle.dsql_run.specs.Script.{Script, Says, SaysFirst, script_from, no_lines, refused_at, with_calls, calls_of}
-use Rattle.dsql_run.specs.Report.{with_text, Shows, ShowsFront}
+use Rattle.dsql_run.specs.Report.{with_text, Shows, ShowsFront, StopsBetween}
 use Rattle.dsql_run.specs.declared.script.ScriptReader.{ScriptReader}
 use Rattle.dsql_run.specs.declared.show.ShowFault.{ShowFault}
 use Rattle.dsql_run.specs.declared.show.ShowFault.TheVariants as shows
@@ -44,6 +45,18 @@ to_come reader left = option_map (script_from reader.reader) (option_map all_lin
 abbrev pub ReadsOn : Option ScriptLine → Option Script → Option Script → Type 0
 ReadsOn (Some line) before after = before ≡ option_map (with_calls (calls_of line)) after
 ReadsOn None before after = IfSome before (λ script. script ≡ no_lines)
+
+-- A line was taken out with its line feed, where so many were read before it, and says this.
+pub record TakesLine (before : ℕ) (line : List ℕ) (says : ScriptLine) (old new : Option (List ℕ)) : Type 0 where
+  pub feedless : All (λ byte. byte ≢ 10) line
+  pub taken : TakesOff (line ++ 10 ∷ []) old new
+  pub is : read_of before line ≡ Ok says
+
+-- The source failed, and what had been taken out of an unfinished line is dropped. The source's end hadn't been seen.
+pub record DropsUnfinished (ended : Bool) (line : List ℕ) (old left : Option (List ℕ)) : Type 0 where
+  pub running : ended ≡ false
+  pub feedless : All (λ byte. byte ≢ 10) line
+  pub taken : TakesOff line old left
 
 -- what stops a reader where this was to come; a refused line was the first
 abbrev pub StopsReading : Option Script → Stop → Type 0
@@ -82,11 +95,57 @@ Wrote (Err Write) w shown past now = ShowsFront w (text_of past) now
 Wrote (Err Memory) w shown past now = ShowsFront w (text_of past) now
 Wrote _ w shown past now = Shows w shown past now
 
--- what the history has of the script: all of its calls, those before a refused line, or the first ones
-abbrev pub Plays : Result Unit Stop → Option (List ℕ) → List (ℕ × Op) → Type 0
-Plays (Ok _) bytes calls = Says bytes (record { calls = calls; refused = None })
-Plays (Err (Refused number fault)) bytes calls = Says bytes (record { calls = calls; refused = Some (number, fault) })
-Plays (Err _) bytes calls = SaysFirst bytes calls
+-- These bytes were read, and what is left is what stands behind them. The calls are those of the lines that were read whole; none of these is refused.
+pub record ReadsUpTo (bytes : List ℕ) (after : Option (List ℕ)) (calls : List (ℕ × Op)) : Type 0 where
+  pub read : List ℕ
+  pub rest : List ℕ
+  pub left : after ≡ Some rest
+  pub parts : bytes ≡ read ++ rest
+  pub says : script_from 0 (ended_lines read) ≡ record { calls = calls; refused = None }
+
+-- The history has of the script, by what was left of the source before and after: all of its calls, those before a refused line, those of the lines that were read whole, or the first ones.
+abbrev pub Plays : Result Unit Stop → Option (List ℕ) → Option (List ℕ) → List (ℕ × Op) → Type 0
+Plays (Ok _) before after calls = Says before (record { calls = calls; refused = None })
+Plays (Err (Refused number fault)) before after calls = Says before (record { calls = calls; refused = Some (number, fault) })
+Plays (Err Read) before after calls = IfSome before (λ bytes. ReadsUpTo bytes after calls)
+Plays (Err _) before after calls = SaysFirst before calls
+
+-- the lines of a script came to an end: at its end, at a refused line, or at a fault of the source
+abbrev pub IsLinesEnd : Result Unit Stop → Type 0
+IsLinesEnd (Err Write) = ⊥
+IsLinesEnd (Err Memory) = ⊥
+IsLinesEnd (Err Full) = ⊥
+IsLinesEnd _ = Unit {0}
+
+-- one history goes on from another, in which all was quiet and the run hadn't ended
+pub record GoesOnFromRest (rest past : List Event) : Type 0 where
+  pub quiet : is_quiet rest ≡ true
+  pub running : has_ended rest ≡ false
+  pub goes_on : Extends rest past
+
+-- The sink failed as a line's events were written: all before the line was written, and not all of the line. Before the first line this is said of the run's first event.
+pub record CutAtLine (w : Option (List ℕ)) (past : List Event) (now : Option (List ℕ)) : Type 0 where
+  pub before : List Event
+  pub rest : GoesOnFromRest before past
+  pub line : ScriptLine
+  pub entered : entered_calls past ≡ entered_calls before ++ calls_of line
+  pub written : StopsBetween w (text_of before) (text_of past) now
+
+-- The sink failed as the end of the run was written: all before it was written, and not all of it. The lines had come to an end, as what was played of them says.
+pub record CutAtEnd (before after : Option (List ℕ)) (source_failed : Bool) (w : Option (List ℕ)) (rest past : List Event) (now : Option (List ℕ)) : Type 0 where
+  pub played : Result Unit Stop
+  pub over : IsLinesEnd played
+  pub plays : Plays played before after (entered_calls past)
+  pub read : played ≡ Ok tt → IfSome after (λ bytes. bytes ≡ [])
+  pub caused : played ≡ Err Read → source_failed ≡ true
+  pub written : StopsBetween w (text_of rest) (text_of past) now
+
+-- The sink failed at a line or at the end of the run. Its rest is the history as the last line had been carried out; no call entered after it.
+pub record CutShort (before after : Option (List ℕ)) (source_failed : Bool) (w : Option (List ℕ)) (past : List Event) (now : Option (List ℕ)) : Type 0 where
+  pub rest : List Event
+  pub lines : GoesOnFromRest rest past
+  pub entered : entered_calls past ≡ entered_calls rest
+  pub cut : CutAtLine w rest now ⊎ CutAtEnd before after source_failed w rest past now
 
 -- What was written at the end: all of the text, or a beginning of it after a fault or for want of memory.
 abbrev pub Writes : Result Unit Stop → Bool → Option (List ℕ) → List Event → Option (List ℕ) → Type 0

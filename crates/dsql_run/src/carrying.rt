@@ -10,7 +10,7 @@ ghost use Rattle.dsql_player.specs.Told.{with_gone};
 ghost use Rattle.dsql_player.specs.Turns.{Turns};
 ghost use Rattle.dsql_run.specs.Script.{calls_of};
 ghost use Rattle.dsql_run.specs.Report.{with_text};
-ghost use Rattle.dsql_run.specs.Runs.{Between, ran_out, EntersLine, IsPlayStop, Wrote};
+ghost use Rattle.dsql_run.specs.Runs.{Between, ran_out, EntersLine, IsPlayStop, Wrote, CutAtLine};
 
 use crate::show::show;
 use crate::stop::Stop;
@@ -64,6 +64,7 @@ pub(crate) fn play_line<K: Sink, F: Fleet>(
     ensures shown { OnOk result (shown.new ≡ length engine.new) }
     ensures within { shown.new ≤ length engine.new }
     ensures wrote { (w : Option (List ℕ)) → K.written output.old ≡ with_text w (text_of engine.old) → Wrote result w shown.new engine.new (K.written output.new) }
+    ensures cut { (w : Option (List ℕ)) → K.written output.old ≡ with_text w (text_of engine.old) → result ≡ Err Stop.Write → CutAtLine w engine.new (K.written output.new) }
     ensures kinds { IfErr result IsPlayStop }
     ensures caused { result ≡ Err Stop.Write → HasRisen (K.faults output.old) (K.faults output.new) }
     ensures counted { K.faults output.old ≤ K.faults output.new }

@@ -1,120 +1,119 @@
-//! The program over a driver whose answers are listed: one report for each call at which it fails.
+//! The program over a driver whose answers are listed: a whole report for each answer at each call.
 
 ghost use Rattle.std.specs.Prelude.{◌≡◌, [], None, Some, true, IfOk};
 ghost use Rattle.dsql_driver.specs.Fits.{fits_of};
 ghost use Rattle.dsql_driver.specs.Wires.{KeepsHandles, KeepsCursors};
 
+mod reports;
+
 use crate::sqlrun;
+use Listed::{Bad, Boom, Done, Invalid, Ran, Skip};
 use dsql_driver::{
     Answered, Caps, DriverAnswer, DriverCall, Fleet, Input, ListClock, OpenGate, Planned, Refused,
     SliceSource, VecSink, Wire,
 };
 use dsql_value::{Memory, Txt};
 use std::alloc::Global;
+use std::process::Abort;
 use std::test::Fail;
 
-/// A call that may get the answer of a plan.
-#[derive(Clone, Copy, Debug, PartialEq, Eq)]
-enum Place {
-    Connect,
-    Reset,
-    Exec,
-    Valid,
-    Shut,
-}
-
-/// The answer that a call gets in place of a good one.
+/// What a driver answers.
 #[derive(Clone, Copy, Debug, PartialEq, Eq)]
 enum Listed {
-    Nothing,
-    Fail,
-    Bad,
-    Invalid,
+    Done,
+    /// A result: one entry was affected.
+    Ran,
     Skip,
+    Invalid,
+    Bad,
+    /// A failure with the text `boom`.
+    Boom,
 }
 
-/// The answer that each call at one place gets.
-#[derive(Clone, Copy, Debug)]
-struct Plan {
-    place: Place,
-    answer: Listed,
-}
-
-impl Plan {
-    /// What it has for a call.
-    fn at(&self, place: Place) -> Listed {
-        if place == self.place {
-            self.answer
-        } else {
-            Listed::Nothing
-        }
-    }
-}
-
-/// A driver that answers by a plan. It knows no calls but those of an exec.
+/// A driver that answers by lists, one for each connection: first its Connect, then its calls in order.
+/// Where nothing that fits is listed, it answers that there is no memory.
 #[derive(Drop)]
-struct ListFleet {
+struct ListFleet<'a> {
     alloc: Global,
     caps: Caps,
-    plan: Plan,
+    answers: &'a [&'a [Listed]],
     /// How many connections it was given back.
     retired: usize,
+    /// How many answers of these were still listed.
+    unheard: usize,
 }
 
-/// A connection of such a driver.
+/// A connection of such a driver, with the answers that are still listed.
 #[derive(Drop)]
-struct ListWire {
+struct ListWire<'a> {
     alloc: Global,
-    plan: Plan,
+    answers: &'a [Listed],
 }
 
-impl ListWire {
-    fn answer(&self, call: &DriverCall) -> Result<DriverAnswer, Memory>
-        ensures fitting { IfOk result (λ answer. fits_of call.now answer ≡ true) }
-        ensures handles { IfOk result (λ answer. KeepsHandles call.now answer [] []) }
-        ensures cursors { IfOk result (λ answer. KeepsCursors call.now answer [] []) }
-    {
-        Ok(match call {
-            DriverCall::Reset => match self.plan.at(Place::Reset) {
-                Listed::Fail => DriverAnswer::Fail(Txt::copy_of(self.alloc, "boom")?),
-                Listed::Bad => DriverAnswer::Bad,
-                _ => DriverAnswer::Done,
-            },
-            DriverCall::Exec(Input::Text(_), _) => match self.plan.at(Place::Exec) {
-                Listed::Fail => DriverAnswer::Fail(Txt::copy_of(self.alloc, "boom")?),
-                Listed::Bad => DriverAnswer::Bad,
-                Listed::Skip => DriverAnswer::Skip,
-                _ => DriverAnswer::Result {
-                    last: 0,
-                    affected: 1,
-                },
-            },
-            DriverCall::Valid => match self.plan.at(Place::Valid) {
-                Listed::Invalid => DriverAnswer::Invalid,
-                _ => DriverAnswer::Done,
-            },
-            DriverCall::Shut => match self.plan.at(Place::Shut) {
-                Listed::Fail => DriverAnswer::Fail(Txt::copy_of(self.alloc, "boom")?),
-                Listed::Bad => DriverAnswer::Bad,
-                _ => DriverAnswer::Done,
-            },
+fn boom(alloc: Global) -> Result<Txt, Memory> {
+    Txt::copy_of(alloc, "boom")
+}
+
+/// The answer to a call of an exec. Other calls aren't known.
+fn answer_of(alloc: Global, call: &DriverCall, listed: Listed) -> Result<DriverAnswer, Memory>
+    ensures fitting { IfOk result (λ answer. fits_of call.now answer ≡ true) }
+    ensures handles { IfOk result (λ answer. KeepsHandles call.now answer [] []) }
+    ensures cursors { IfOk result (λ answer. KeepsCursors call.now answer [] []) }
+{
+    Ok(match call {
+        DriverCall::Reset | DriverCall::Shut => match listed {
+            Listed::Done => DriverAnswer::Done,
+            Listed::Bad => DriverAnswer::Bad,
+            Listed::Boom => DriverAnswer::Fail(boom(alloc)?),
             _ => DriverAnswer::Memory,
-        })
+        },
+        DriverCall::Exec(Input::Text(_), _) => match listed {
+            Listed::Ran => DriverAnswer::Result {
+                last: 0,
+                affected: 1,
+            },
+            Listed::Skip => DriverAnswer::Skip,
+            Listed::Bad => DriverAnswer::Bad,
+            Listed::Boom => DriverAnswer::Fail(boom(alloc)?),
+            _ => DriverAnswer::Memory,
+        },
+        DriverCall::Valid => match listed {
+            Listed::Done => DriverAnswer::Done,
+            Listed::Invalid => DriverAnswer::Invalid,
+            _ => DriverAnswer::Memory,
+        },
+        _ => DriverAnswer::Memory,
+    })
+}
+
+impl<'a> ListWire<'a> {
+    /// Takes the next answer off the list.
+    fn next(&mut self) -> Option<Listed> {
+        match self.answers.split_first() {
+            Some((first, rest)) => {
+                self.answers = rest;
+                Some(*first)
+            }
+            None => None,
+        }
     }
 
-    fn answer_twice(&self, call: &DriverCall) -> Result<Answered, Memory>
+    fn answer_twice(&mut self, call: &DriverCall) -> Result<Answered, Memory>
         ensures copied { IfOk result (λ answered. answered.copy ≡ answered.answer) }
         ensures fitting { IfOk result (λ answered. fits_of call.now answered.answer ≡ true) }
         ensures handles { IfOk result (λ answered. KeepsHandles call.now answered.answer [] []) }
         ensures cursors { IfOk result (λ answered. KeepsCursors call.now answered.answer [] []) }
     {
-        let answer = self.answer(call)?;
+        let Some(listed) = self.next() else {
+            return Err(Memory);
+        };
+        let answer = answer_of(self.alloc, call, listed)?;
         let copy = answer.clone()?;
         Ok(Answered { answer, copy })
     }
 }
 
-impl Wire for ListWire {
+impl<'a> Wire for ListWire<'a> {
     ghost heard = { λ _. None };
 
     ghost faults = { λ _. 18446744073709551615 };
@@ -138,8 +137,29 @@ impl Wire for ListWire {
     }
 }
 
-impl Fleet for ListFleet {
-    type Wire = ListWire;
+impl<'a> ListFleet<'a> {
+    /// A driver that can do this and answers so.
+    fn new(alloc: Global, caps: Caps, answers: &'a [&'a [Listed]]) -> ListFleet<'a> {
+        ListFleet {
+            alloc,
+            caps,
+            answers,
+            retired: 0,
+            unheard: 0,
+        }
+    }
+
+    /// The answers of the connection of this number. Connections are numbered from 1.
+    fn listed_for(&self, number: u32) -> &'a [Listed] {
+        match (number as usize).checked_sub(1) {
+            Some(place) => self.answers.get(place).copied().unwrap_or(&[]),
+            None => &[],
+        }
+    }
+}
+
+impl<'a> Fleet for ListFleet<'a> {
+    type Wire = ListWire<'a>;
 
     ghost ability = { λ f. f.caps };
 
@@ -161,22 +181,25 @@ impl Fleet for ListFleet {
         Ok(())
     }
 
-    fn connect(&mut self, _number: u32) -> Result<ListWire, Refused> {
-        match self.plan.at(Place::Connect) {
-            Listed::Fail => match Txt::copy_of(self.alloc, "boom") {
+    fn connect(&mut self, number: u32) -> Result<ListWire<'a>, Refused> {
+        let mut wire = ListWire {
+            alloc: self.alloc,
+            answers: self.listed_for(number),
+        };
+        match wire.next() {
+            Some(Listed::Done) => Ok(wire),
+            Some(Listed::Bad) => Err(Refused::Bad),
+            Some(Listed::Boom) => match boom(self.alloc) {
                 Ok(text) => Err(Refused::Fail(text)),
                 Err(Memory) => Err(Refused::Memory),
             },
-            Listed::Bad => Err(Refused::Bad),
-            _ => Ok(ListWire {
-                alloc: self.alloc,
-                plan: self.plan,
-            }),
+            _ => Err(Refused::Memory),
         }
     }
 
-    fn retire(&mut self, _number: u32, _wire: ListWire) {
+    fn retire(&mut self, _number: u32, wire: ListWire<'a>) {
         self.retired = self.retired.saturating_add(1);
+        self.unheard = self.unheard.saturating_add(wire.answers.len());
     }
 }
 
@@ -190,186 +213,20 @@ const NO_CAPS: Caps = Caps {
     validator: false,
 };
 
-const EXEC_CAPS: Caps = Caps {
+const FAST_CAPS: Caps = Caps {
     fast_exec: true,
+    ..NO_CAPS
+};
+
+const EXEC_CAPS: Caps = Caps {
     resetter: true,
     validator: true,
-    ..NO_CAPS
+    ..FAST_CAPS
 };
 
 const ONE: &str = "c1 exec db [\"SET a 1\"]\n";
 
 const TWO: &str = "c1 exec db [\"SET a 1\"]\nc1 exec db [\"SET a 2\"]\n";
-
-const CONNECT_FAILS: &str = r#"["run",1,["fast_exec","resetter","validator"]]
-["enter",1,1,"exec db",["SET a 1"]]
-["open",1,1]
-["heard",1,1,"house",0,0,["connect"],["fail","boom"]]
-["fell",1,1]
-["reply",1,["err","driver","boom"]]
-["ended"]
-"#;
-
-const CONNECT_IS_BAD: &str = r#"["run",1,["fast_exec","resetter","validator"]]
-["enter",1,1,"exec db",["SET a 1"]]
-["open",1,1]
-["heard",1,1,"house",0,0,["connect"],["bad"]]
-["fell",1,1]
-["reply",1,["err","bad_conn",1,"driver: bad connection"]]
-["ended"]
-"#;
-
-// A statement that fails says nothing against its connection.
-const EXEC_FAILS: &str = r#"["run",1,["fast_exec","resetter","validator"]]
-["enter",1,1,"exec db",["SET a 1"]]
-["open",1,1]
-["heard",1,1,"house",0,0,["connect"],["done"]]
-["lend",1,2,"call:1"]
-["heard",1,2,"call:1",1,0,["exec","SET a 1",[]],["fail","boom"]]
-["heard",1,2,"call:1",1,0,["valid"],["done"]]
-["back",1]
-["reply",1,["err","driver","boom"]]
-["ended"]
-["close",1,"db_closed"]
-["heard",1,3,"house",0,0,["shut"],["done"]]
-["gone",1]
-"#;
-
-// A connection that is known to be bad isn't tested.
-const EXEC_IS_BAD: &str = r#"["run",1,["fast_exec","resetter","validator"]]
-["enter",1,1,"exec db",["SET a 1"]]
-["open",1,1]
-["heard",1,1,"house",0,0,["connect"],["done"]]
-["lend",1,2,"call:1"]
-["heard",1,2,"call:1",1,0,["exec","SET a 1",[]],["bad"]]
-["close",1,"bad"]
-["reply",1,["err","bad_conn",1,"driver: bad connection"]]
-["heard",1,3,"house",0,0,["shut"],["done"]]
-["gone",1]
-["ended"]
-"#;
-
-const EXEC_IS_SKIPPED: &str = r#"["run",1,["fast_exec","resetter","validator"]]
-["enter",1,1,"exec db",["SET a 1"]]
-["open",1,1]
-["heard",1,1,"house",0,0,["connect"],["done"]]
-["lend",1,2,"call:1"]
-["heard",1,2,"call:1",1,0,["exec","SET a 1",[]],["skip"]]
-["heard",1,2,"call:1",1,0,["valid"],["done"]]
-["back",1]
-["reply",1,["err","driver","driver: skip fast-path; continue as if unimplemented"]]
-["ended"]
-["close",1,"db_closed"]
-["heard",1,3,"house",0,0,["shut"],["done"]]
-["gone",1]
-"#;
-
-// The statement was carried out, and its reply stays.
-const TEST_IS_FAILED: &str = r#"["run",1,["fast_exec","resetter","validator"]]
-["enter",1,1,"exec db",["SET a 1"]]
-["open",1,1]
-["heard",1,1,"house",0,0,["connect"],["done"]]
-["lend",1,2,"call:1"]
-["heard",1,2,"call:1",1,0,["exec","SET a 1",[]],["result",0,1]]
-["heard",1,2,"call:1",1,0,["valid"],["invalid"]]
-["close",1,"invalid"]
-["reply",1,["ok","result",0,1]]
-["heard",1,3,"house",0,0,["shut"],["done"]]
-["gone",1]
-["ended"]
-"#;
-
-// A Reset that fails is passed over.
-const RESET_FAILS: &str = r#"["run",1,["fast_exec","resetter","validator"]]
-["enter",1,1,"exec db",["SET a 1"]]
-["open",1,1]
-["heard",1,1,"house",0,0,["connect"],["done"]]
-["lend",1,2,"call:1"]
-["heard",1,2,"call:1",1,0,["exec","SET a 1",[]],["result",0,1]]
-["heard",1,2,"call:1",1,0,["valid"],["done"]]
-["back",1]
-["reply",1,["ok","result",0,1]]
-["enter",1,2,"exec db",["SET a 2"]]
-["lend",1,3,"call:2"]
-["heard",1,3,"call:2",2,0,["reset"],["fail","boom"]]
-["heard",1,3,"call:2",2,0,["exec","SET a 2",[]],["result",0,1]]
-["heard",1,3,"call:2",2,0,["valid"],["done"]]
-["back",1]
-["reply",2,["ok","result",0,1]]
-["ended"]
-["close",1,"db_closed"]
-["heard",1,4,"house",0,0,["shut"],["done"]]
-["gone",1]
-"#;
-
-// After a Reset that is answered as bad the statement isn't sent.
-const RESET_IS_BAD: &str = r#"["run",1,["fast_exec","resetter","validator"]]
-["enter",1,1,"exec db",["SET a 1"]]
-["open",1,1]
-["heard",1,1,"house",0,0,["connect"],["done"]]
-["lend",1,2,"call:1"]
-["heard",1,2,"call:1",1,0,["exec","SET a 1",[]],["result",0,1]]
-["heard",1,2,"call:1",1,0,["valid"],["done"]]
-["back",1]
-["reply",1,["ok","result",0,1]]
-["enter",1,2,"exec db",["SET a 2"]]
-["lend",1,3,"call:2"]
-["heard",1,3,"call:2",2,0,["reset"],["bad"]]
-["close",1,"bad"]
-["reply",2,["err","bad_conn",1,"driver: bad connection"]]
-["heard",1,4,"house",0,0,["shut"],["done"]]
-["gone",1]
-["ended"]
-"#;
-
-// A connection is gone whatever its Shut is answered.
-const SHUT_FAILS: &str = r#"["run",1,["fast_exec","resetter","validator"]]
-["enter",1,1,"exec db",["SET a 1"]]
-["open",1,1]
-["heard",1,1,"house",0,0,["connect"],["done"]]
-["lend",1,2,"call:1"]
-["heard",1,2,"call:1",1,0,["exec","SET a 1",[]],["result",0,1]]
-["heard",1,2,"call:1",1,0,["valid"],["done"]]
-["back",1]
-["reply",1,["ok","result",0,1]]
-["ended"]
-["close",1,"db_closed"]
-["heard",1,3,"house",0,0,["shut"],["fail","boom"]]
-["gone",1]
-"#;
-
-const SHUT_IS_BAD: &str = r#"["run",1,["fast_exec","resetter","validator"]]
-["enter",1,1,"exec db",["SET a 1"]]
-["open",1,1]
-["heard",1,1,"house",0,0,["connect"],["done"]]
-["lend",1,2,"call:1"]
-["heard",1,2,"call:1",1,0,["exec","SET a 1",[]],["result",0,1]]
-["heard",1,2,"call:1",1,0,["valid"],["done"]]
-["back",1]
-["reply",1,["ok","result",0,1]]
-["ended"]
-["close",1,"db_closed"]
-["heard",1,3,"house",0,0,["shut"],["bad"]]
-["gone",1]
-"#;
-
-// A driver without the fast path, a test or a reset is asked nothing.
-const DRIVER_IS_PLAIN: &str = r#"["run",1,[]]
-["enter",1,1,"exec db",["SET a 1"]]
-["open",1,1]
-["heard",1,1,"house",0,0,["connect"],["done"]]
-["lend",1,2,"call:1"]
-["back",1]
-["reply",1,["err","driver","driver: skip fast-path; continue as if unimplemented"]]
-["enter",1,2,"exec db",["SET a 2"]]
-["lend",1,3,"call:2"]
-["back",1]
-["reply",2,["err","driver","driver: skip fast-path; continue as if unimplemented"]]
-["ended"]
-["close",1,"db_closed"]
-["heard",1,4,"house",0,0,["shut"],["done"]]
-["gone",1]
-"#;
 
 /// What a run gave.
 #[derive(Drop)]
@@ -410,43 +267,146 @@ fn play_over(alloc: Global, fleet: &mut ListFleet, script: &str) -> Result<Outco
     })
 }
 
+/// Plays a script over a driver, and looks whether it gives this report, hears all that is listed, and
+/// gets back each connection that it opened.
+fn expect_report<'a>(
+    rt: &impl Abort,
+    alloc: Global,
+    caps: Caps,
+    answers: &'a [&'a [Listed]],
+    script: &str,
+    report: &str,
+) -> Result<(), Fail> {
+    let mut fleet = ListFleet::new(alloc, caps, answers);
+    let outcome = play_over(alloc, &mut fleet, script)?;
+    assert_eq!(rt; outcome.status, 0, "{answers:?}");
+    assert_eq!(rt; outcome.report.as_slice(), report.as_bytes(), "{answers:?}");
+    assert_eq!(rt; outcome.notes.len(), 0, "{answers:?}");
+    let mut opened = 0_usize;
+    for listed in answers {
+        if listed.first() == Some(&Listed::Done) {
+            opened = opened.saturating_add(1);
+        }
+    }
+    assert_eq!(rt; fleet.retired, opened, "{answers:?}");
+    assert_eq!(rt; fleet.unheard, 0, "{answers:?}");
+    Ok(())
+}
+
 #[test]
-fn each_fault_of_a_driver_gives_its_report(rt: HostRuntime) -> Result<(), Fail> {
-    let alloc = rt.alloc();
-    let rows = [
-        (EXEC_CAPS, Place::Connect, Listed::Fail, ONE, CONNECT_FAILS),
-        (EXEC_CAPS, Place::Connect, Listed::Bad, ONE, CONNECT_IS_BAD),
-        (EXEC_CAPS, Place::Exec, Listed::Fail, ONE, EXEC_FAILS),
-        (EXEC_CAPS, Place::Exec, Listed::Bad, ONE, EXEC_IS_BAD),
-        (EXEC_CAPS, Place::Exec, Listed::Skip, ONE, EXEC_IS_SKIPPED),
+fn each_answer_in_one_exec_gives_its_report(rt: HostRuntime) -> Result<(), Fail> {
+    let rows: [(&[&[Listed]], &str); 10] = [
+        (&[&[Boom]], reports::CONNECT_FAILS),
+        (&[&[Bad]], reports::CONNECT_IS_BAD),
+        (&[&[Done, Boom, Done, Done]], reports::EXEC_FAILS),
+        (&[&[Done, Bad, Done]], reports::EXEC_IS_BAD),
+        (&[&[Done, Skip, Done, Done]], reports::EXEC_IS_SKIPPED),
+        (&[&[Done, Ran, Invalid, Done]], reports::TEST_IS_FAILED),
+        (&[&[Done, Ran, Done, Boom]], reports::SHUT_FAILS),
+        (&[&[Done, Ran, Done, Bad]], reports::SHUT_IS_BAD),
         (
-            EXEC_CAPS,
-            Place::Valid,
-            Listed::Invalid,
-            ONE,
-            TEST_IS_FAILED,
+            &[&[Done, Boom, Invalid, Done]],
+            reports::EXEC_FAILS_AND_TEST_IS_FAILED,
         ),
-        (EXEC_CAPS, Place::Reset, Listed::Fail, TWO, RESET_FAILS),
-        (EXEC_CAPS, Place::Reset, Listed::Bad, TWO, RESET_IS_BAD),
-        (EXEC_CAPS, Place::Shut, Listed::Fail, ONE, SHUT_FAILS),
-        (EXEC_CAPS, Place::Shut, Listed::Bad, ONE, SHUT_IS_BAD),
-        (NO_CAPS, Place::Exec, Listed::Nothing, TWO, DRIVER_IS_PLAIN),
+        (&[&[Done, Bad, Boom]], reports::EXEC_IS_BAD_AND_SHUT_FAILS),
     ];
-    for (caps, place, answer, script, report) in rows {
-        let plan = Plan { place, answer };
-        let mut fleet = ListFleet {
-            alloc,
-            caps,
-            plan,
-            retired: 0,
-        };
-        let outcome = play_over(alloc, &mut fleet, script)?;
-        assert_eq!(rt; outcome.status, 0, "{plan:?}");
-        assert_eq!(rt; outcome.report.as_slice(), report.as_bytes(), "{plan:?}");
-        assert_eq!(rt; outcome.notes.len(), 0, "{plan:?}");
-        // A connection that was refused isn't given back.
-        let opened = usize::from(place != Place::Connect);
-        assert_eq!(rt; fleet.retired, opened, "{plan:?}");
+    for (answers, report) in rows {
+        expect_report(&rt, rt.alloc(), EXEC_CAPS, answers, ONE, report)?;
+    }
+    Ok(())
+}
+
+#[test]
+fn each_answer_on_a_used_connection_gives_its_report(rt: HostRuntime) -> Result<(), Fail> {
+    let rows: [(&[&[Listed]], &str); 5] = [
+        (
+            &[&[Done, Ran, Done, Done, Ran, Done, Done]],
+            reports::ALL_IS_WELL,
+        ),
+        (
+            &[&[Done, Ran, Done, Boom, Ran, Done, Done]],
+            reports::RESET_FAILS,
+        ),
+        (&[&[Done, Ran, Done, Bad, Done]], reports::RESET_IS_BAD),
+        (
+            &[&[Done, Ran, Done, Boom, Bad, Done]],
+            reports::RESET_FAILS_AND_EXEC_IS_BAD,
+        ),
+        (
+            &[&[Done, Ran, Done, Bad, Bad]],
+            reports::RESET_IS_BAD_AND_SHUT_IS_BAD,
+        ),
+    ];
+    for (answers, report) in rows {
+        expect_report(&rt, rt.alloc(), EXEC_CAPS, answers, TWO, report)?;
+    }
+    Ok(())
+}
+
+#[test]
+fn after_a_lost_connection_another_is_opened(rt: HostRuntime) -> Result<(), Fail> {
+    let rows: [(&[&[Listed]], &str); 5] = [
+        (
+            &[&[Bad], &[Done, Ran, Done, Done]],
+            reports::CONNECT_IS_BAD_THEN_ALL_IS_WELL,
+        ),
+        (&[&[Boom], &[Bad]], reports::CONNECT_FAILS_THEN_IS_BAD),
+        (
+            &[&[Done, Bad, Done], &[Done, Ran, Done, Done]],
+            reports::EXEC_IS_BAD_THEN_ALL_IS_WELL,
+        ),
+        (
+            &[&[Done, Bad, Done], &[Done, Boom, Done, Done]],
+            reports::EXEC_IS_BAD_THEN_FAILS,
+        ),
+        (
+            &[&[Done, Ran, Invalid, Done], &[Done, Skip, Done, Done]],
+            reports::TEST_IS_FAILED_THEN_EXEC_IS_SKIPPED,
+        ),
+    ];
+    for (answers, report) in rows {
+        expect_report(&rt, rt.alloc(), EXEC_CAPS, answers, TWO, report)?;
+    }
+    Ok(())
+}
+
+#[test]
+fn a_driver_is_asked_only_for_what_it_can_do(rt: HostRuntime) -> Result<(), Fail> {
+    expect_report(
+        &rt,
+        rt.alloc(),
+        NO_CAPS,
+        &[&[Done, Done]],
+        TWO,
+        reports::DRIVER_IS_PLAIN,
+    )?;
+    expect_report(
+        &rt,
+        rt.alloc(),
+        FAST_CAPS,
+        &[&[Done, Ran, Ran, Done]],
+        TWO,
+        reports::NEITHER_TESTED_NOR_RESET,
+    )
+}
+
+// Nothing is said of such a report but that it is a beginning.
+#[test]
+fn a_driver_without_memory_stops_the_run(rt: HostRuntime) -> Result<(), Fail> {
+    let answers = [Done, Ran, Done, Done, Ran, Done, Done];
+    let report = reports::ALL_IS_WELL.as_bytes();
+    for heard in 0..answers.len() {
+        let listed = [&answers[..heard]];
+        let mut fleet = ListFleet::new(rt.alloc(), EXEC_CAPS, &listed);
+        let outcome = play_over(rt.alloc(), &mut fleet, TWO)?;
+        assert_eq!(rt; outcome.status, 5, "after {heard}");
+        assert_eq!(rt;
+            outcome.notes.as_slice(),
+            b"sqlrun: out of memory\n".as_slice(),
+            "after {heard}"
+        );
+        assert!(rt; report.starts_with(&outcome.report), "after {heard}");
+        assert_eq!(rt; fleet.retired, usize::from(heard > 0), "after {heard}");
     }
     Ok(())
 }

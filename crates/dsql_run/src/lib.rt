@@ -4,6 +4,7 @@
 mod carrying;
 #[cfg(test)]
 mod fault_tests;
+mod laws;
 mod notes;
 mod playing;
 mod program;
@@ -13,6 +14,7 @@ mod stop;
 #[cfg(test)]
 mod tests;
 
+pub use laws::{a_status_tells_what_stopped, lines_read_whole_come_first};
 pub use playing::play;
 pub use program::sqlrun;
 pub use stop::Stop;

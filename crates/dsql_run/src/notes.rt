@@ -101,7 +101,8 @@ fn failed_status(stop: &Stop, fault: ShowFault) -> u8
 
 /// Tells what stopped a run, if anything did, and says its status.
 pub(crate) fn tell<E: Sink>(alloc: Global, ended: &Result<(), Stop>, notes: &mut E) -> u8
-    ensures { Tells ended.now (has_risen (E.faults notes.old) (E.faults notes.new)) (E.written notes.old) (E.written notes.new) result }
+    ensures told { Tells ended.now (has_risen (E.faults notes.old) (E.faults notes.new)) (E.written notes.old) (E.written notes.new) result }
+    ensures silent { OnOk ended.now (notes.new ≡ notes.old) }
 {
     let Err(stop) = ended else {
         return 0;

@@ -4,13 +4,16 @@ ghost use Rattle.dsql_driver.specs.Wires.{RetiredWire};
 ghost use Rattle.dsql_history.specs.declared.event.Event.TheVariants.{Run};
 ghost use Rattle.dsql_history.specs.Legal.{Legal};
 ghost use Rattle.dsql_history.specs.Readers.Course.{has_ended};
+ghost use Rattle.dsql_history.specs.Readers.Sets.{open_count};
 ghost use Rattle.dsql_history.specs.Rules.House.{is_quiet};
 ghost use Rattle.dsql_engine.specs.Groups.{most_events};
+ghost use Rattle.dsql_script.specs.Lines.{text_of};
 ghost use Rattle.dsql_player.specs.Entered.{entered_calls};
 ghost use Rattle.dsql_player.specs.Extends.{Extends};
 ghost use Rattle.dsql_player.specs.Told.{with_gone};
 ghost use Rattle.dsql_player.specs.Turns.{Turns};
-ghost use Rattle.dsql_run.specs.Runs.{Between, ran_out, Plays, Wrote, Writes, Finishes, failed, is_cut, later_stop};
+ghost use Rattle.dsql_run.specs.Report.{oldest, Shows, StopsBetween};
+ghost use Rattle.dsql_run.specs.Runs.{Between, ran_out, Plays, IsLinesEnd, CutAtLine, CutShort, Wrote, Writes, Finishes, failed, is_cut, later_stop};
 
 use crate::carrying::play_line;
 use crate::script::ScriptReader;
@@ -36,9 +39,11 @@ fn play_lines<S: Source, K: Sink, F: Fleet>(
     requires shown { shown.old ≡ 0 }
     ensures between { ran_out result ≡ true → Between F.Wire.heard (is_some (F.retired fleet.new)) engine.new wires.new }
     ensures gone { ran_out result ≡ true → F.retired fleet.new ≡ with_gone (F.retired fleet.old) engine.new }
-    ensures plays { Plays result (S.left input.old) (entered_calls engine.new) }
+    ensures plays { Plays result (S.left input.old) (S.left input.new) (entered_calls engine.new) }
+    ensures cut { result ≡ Err Stop.Write → CutAtLine (K.written output.old) engine.new (K.written output.new) }
     ensures end { OnOk result (IfSome (S.left input.new) (λ bytes. bytes ≡ [])) }
     ensures within { shown.new ≤ length engine.new }
+    ensures shown { IsLinesEnd result → shown.new ≡ length engine.new }
     ensures wrote { Wrote result (K.written output.old) shown.new engine.new (K.written output.new) }
     ensures read_fault { result ≡ Err Stop.Read → HasRisen (S.faults input.old) (S.faults input.new) }
     ensures write_fault { result ≡ Err Stop.Write → HasRisen (K.faults output.old) (K.faults output.new) }
@@ -63,6 +68,7 @@ fn end_run<F: Fleet>(engine: &mut Engine, wires: Wires<F::Wire>, fleet: &mut F) 
     requires between { Between F.Wire.heard (is_some (F.retired fleet.old)) engine.old wires }
     ensures quiet { OnOk result (is_quiet engine.new ≡ true) }
     ensures ended { OnOk result (has_ended engine.new ≡ true) }
+    ensures empty { OnOk result (open_count engine.new ≡ 0) }
     ensures gone { OnOk result ((r : Option (List RetiredWire)) → F.retired fleet.old ≡ with_gone r engine.old → F.retired fleet.new ≡ with_gone r engine.new) }
     ensures entered { entered_calls engine.new ≡ entered_calls engine.old }
     ensures full { result ≡ Err Halt.Full → most_events ≤ length engine.new }
@@ -100,6 +106,7 @@ fn close<F: Fleet>(
     ensures kept { ran_out played ≡ false → result ≡ played }
     ensures quiet { ran_out result ≡ true → is_quiet engine.new ≡ true }
     ensures ended { ran_out result ≡ true → has_ended engine.new ≡ true }
+    ensures empty { ran_out result ≡ true → open_count engine.new ≡ 0 }
     ensures gone { ran_out result ≡ true → (r : Option (List RetiredWire)) → F.retired fleet.old ≡ with_gone r engine.old → F.retired fleet.new ≡ with_gone r engine.new }
     ensures entered { entered_calls engine.new ≡ entered_calls engine.old }
     ensures full { result ≡ Err Stop.Full → most_events ≤ length engine.new }
@@ -147,6 +154,8 @@ fn finish<K: Sink>(
     requires same { ran_out ended ≡ true → ended ≡ played }
     requires kept { ran_out played ≡ false → ended ≡ played }
     ensures wrote { (w : Option (List ℕ)) → Wrote played w shown.old engine.now (K.written output.old) → Writes result (failed played || has_risen (K.faults output.old) (K.faults output.new)) w engine.now (K.written output.new) }
+    ensures stops { (w : Option (List ℕ)) → Shows w shown.old engine.now (K.written output.old) → failed played ≡ false → result ≡ Err Stop.Write → StopsBetween w (text_of (oldest shown.old engine.now)) (text_of engine.now) (K.written output.new) }
+    ensures unwritten { failed played ≡ true → output.new ≡ output.old }
     ensures result { Finishes ended result }
     ensures caused { result ≡ Err Stop.Write → failed played ≡ false → HasRisen (K.faults output.old) (K.faults output.new) }
     ensures counted { K.faults output.old ≤ K.faults output.new }
@@ -178,12 +187,14 @@ pub fn play<S: Source, K: Sink, F: Fleet>(
     requires legal { Legal engine.old }
     ensures legal { Legal engine.new }
     ensures begins { Extends engine.old engine.new }
-    ensures plays { Plays result (S.left input.old) (entered_calls engine.new) }
+    ensures plays { Plays result (S.left input.old) (S.left input.new) (entered_calls engine.new) }
     ensures turns { Turns engine.new }
     ensures ended { ran_out result ≡ true → has_ended engine.new ≡ true }
     ensures quiet { ran_out result ≡ true → is_quiet engine.new ≡ true }
     ensures read { OnOk result (IfSome (S.left input.new) (λ bytes. bytes ≡ [])) }
     ensures writes { Writes result (has_risen (K.faults output.old) (K.faults output.new)) (K.written output.old) engine.new (K.written output.new) }
+    ensures cut { result ≡ Err Stop.Write → CutShort (S.left input.old) (S.left input.new) (has_risen (S.faults input.old) (S.faults input.new)) (K.written output.old) engine.new (K.written output.new) }
+    ensures empty { ran_out result ≡ true → open_count engine.new ≡ 0 }
     ensures retired { ran_out result ≡ true → F.retired fleet.new ≡ with_gone (F.retired fleet.old) engine.new }
     ensures read_fault { result ≡ Err Stop.Read → HasRisen (S.faults input.old) (S.faults input.new) }
     ensures write_fault { result ≡ Err Stop.Write → HasRisen (K.faults output.old) (K.faults output.new) }

@@ -1,5 +1,6 @@
-ghost use Rattle.std.specs.Prelude.{◌≡◌, ◌≢◌, true, false};
-ghost use Rattle.dsql_run.specs.Notes.{is_play};
+ghost use Rattle.std.specs.Prelude.{◌≡◌, ◌≢◌, ◌⊎◌, true, false};
+ghost use Rattle.dsql_driver.specs.Streams.{HasRisen};
+ghost use Rattle.dsql_run.specs.Notes.{is_play, is_status};
 ghost use Rattle.dsql_run.specs.Headline.{PlaysAndTells, PlaysWhole, RefusesWords};
 
 use crate::notes::{tell, tell_usage};
@@ -28,10 +29,13 @@ fn run<S: Source, K: Sink, E: Sink, F: Fleet>(
     notes: &mut E,
     fleet: &mut F,
 ) -> u8
-    ensures { PlaysAndTells (F.ability fleet.old)
+    ensures ran { PlaysAndTells (F.ability fleet.old)
         (record { left = S.left input.old; read_faults = S.faults input.old; written = K.written output.old; write_faults = K.faults output.old; retired = F.retired fleet.old })
         (record { left = S.left input.new; read_faults = S.faults input.new; written = K.written output.new; write_faults = K.faults output.new; retired = F.retired fleet.new })
         (record { written = E.written notes.old; faults = E.faults notes.old }) (record { written = E.written notes.new; faults = E.faults notes.new }) result }
+    ensures silent { result ≡ 0 → notes.new ≡ notes.old }
+    ensures ability { F.ability fleet.new ≡ F.ability fleet.old }
+    ensures preferred { F.preferred fleet.new ≡ F.preferred fleet.old }
 {
     match Engine::new(alloc, 1, fleet.caps()) {
         Ok(engine) => {
@@ -82,6 +86,14 @@ pub fn sqlrun<S: Source, K: Sink, E: Sink, F: Fleet, C: Clock, G: Gate>(
         (record { left = S.left input.new; read_faults = S.faults input.new; written = K.written output.new; write_faults = K.faults output.new; retired = F.retired fleet.new })
         (record { written = E.written notes.old; faults = E.faults notes.old }) (record { written = E.written notes.new; faults = E.faults notes.new }) result }
     ensures accepted { is_play words.now ≡ true → result ≢ 2 }
+
+    // What a status says of the streams, whatever they tell.
+    ensures known { is_status result ≡ true }
+    ensures silent { is_play words.now ≡ true → result ≡ 0 → notes.new ≡ notes.old }
+    ensures read_fault { is_play words.now ≡ true → result ≡ 3 → HasRisen (S.faults input.old) (S.faults input.new) }
+    ensures write_fault { is_play words.now ≡ true → result ≡ 4 → HasRisen (K.faults output.old) (K.faults output.new) ⊎ HasRisen (E.faults notes.old) (E.faults notes.new) }
+    ensures ability { F.ability fleet.new ≡ F.ability fleet.old }
+    ensures preferred { F.preferred fleet.new ≡ F.preferred fleet.old }
 
     // Words that aren't accepted.
     ensures refused { is_play words.now ≡ false → RefusesWords (record { written = E.written notes.old; faults = E.faults notes.old }) (record { written = E.written notes.new; faults = E.faults notes.new }) result }

@@ -1,8 +1,8 @@
-ghost use Rattle.std.specs.Prelude.{◌≡◌, ◌≢◌, ◌+◌, ◌≤◌, ℕ, false, [], None, IfOk, IfErr, OnOk, OnErr, IfSome, is_some};
+ghost use Rattle.std.specs.Prelude.{◌≡◌, ◌≢◌, ◌+◌, ◌≤◌, ℕ, true, false, [], None, IfOk, IfErr, OnOk, OnErr, IfSome, is_some};
 ghost use Rattle.dsql_driver.specs.Streams.{HasRisen};
 ghost use Rattle.dsql_stream.specs.Lines.{ahead, SawTheEnd};
 ghost use Rattle.dsql_script.specs.ScriptLines.{read_of};
-ghost use Rattle.dsql_run.specs.Runs.{to_come, ReadsOn, StopsReading, IsRefusal};
+ghost use Rattle.dsql_run.specs.Runs.{to_come, ReadsOn, TakesLine, DropsUnfinished, StopsReading, IsRefusal};
 ghost use Rattle.dsql_run.specs.declared.stop.Stop.TheVariants.{Read};
 
 use crate::stop::Stop;
@@ -43,6 +43,9 @@ impl ScriptReader {
         input: &mut S,
     ) -> Result<Option<ScriptLine>, Stop>
         ensures read { IfOk result (λ line. ReadsOn line (to_come self.old (S.left input.old)) (to_come self.new (S.left input.new))) }
+        ensures taken { IfOk result (λ line. IfSome line (λ says. self.new.lines.ended ≡ false → TakesLine self.old.reader self.new.line.items says (ahead self.old.lines (S.left input.old)) (ahead self.new.lines (S.left input.new)))) }
+        ensures dropped { result ≡ Err Read → DropsUnfinished self.old.lines.ended self.new.line.items (ahead self.old.lines (S.left input.old)) (S.left input.new) }
+        ensures ended { self.old.lines.ended ≡ true → self.new.lines.ended ≡ true }
         ensures end { result ≡ Ok None → SawTheEnd self.old.lines (S.left input.old) → IfSome (S.left input.new) (λ bytes. bytes ≡ []) }
         ensures stopped { IfErr result (StopsReading (to_come self.old (S.left input.old))) }
         ensures numbered { IfOk result (λ line. IfSome line (λ _. self.new.reader ≡ self.old.reader + 1)) }

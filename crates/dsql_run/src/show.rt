@@ -1,7 +1,7 @@
-ghost use Rattle.std.specs.Prelude.{◌≡◌, ◌≢◌, ◌≤◌, ◌++◌, ℕ, List, Option, OnOk, OnErr, IfErr, length, reverse};
+ghost use Rattle.std.specs.Prelude.{◌≡◌, ◌≢◌, ◌≤◌, ◌++◌, ℕ, List, [], Option, OnOk, OnErr, IfErr, length, reverse};
 ghost use Rattle.dsql_driver.specs.Streams.{HasRisen};
 ghost use Rattle.dsql_script.specs.Lines.{line_of, text_of};
-ghost use Rattle.dsql_run.specs.Report.{with_text, oldest, Shows, ShowsFront};
+ghost use Rattle.dsql_run.specs.Report.{with_text, oldest, Shows, StopsBetween};
 ghost use Rattle.dsql_run.specs.declared.show.ShowFault.TheVariants as faults;
 
 use dsql_driver::Sink;
@@ -43,7 +43,7 @@ impl From<Memory> for ShowFault {
 /// Writes the line of an event.
 fn show_event<K: Sink>(alloc: Global, event: &Event, output: &mut K) -> Result<(), ShowFault>
     ensures ok { OnOk result (K.written output.new ≡ with_text (K.written output.old) (line_of event.now)) }
-    ensures err { OnErr result (ShowsFront (K.written output.old) (line_of event.now) (K.written output.new)) }
+    ensures err { OnErr result (StopsBetween (K.written output.old) [] (line_of event.now) (K.written output.new)) }
     ensures caused { result ≡ Err ShowFault.Failed → HasRisen (K.faults output.old) (K.faults output.new) }
     ensures counted { K.faults output.old ≤ K.faults output.new }
 {
@@ -64,7 +64,7 @@ fn show_events<K: Sink>(
     ensures ok { OnOk result (shown.new ≡ length events.now) }
     ensures within { shown.new ≤ length events.now }
     ensures shows { OnOk result ((w : Option (List ℕ)) → Shows w shown.old (reverse events.now) (K.written output.old) → K.written output.new ≡ with_text w (text_of (reverse events.now))) }
-    ensures front { OnErr result ((w : Option (List ℕ)) → Shows w shown.old (reverse events.now) (K.written output.old) → ShowsFront w (text_of (reverse events.now)) (K.written output.new)) }
+    ensures stops { OnErr result ((w : Option (List ℕ)) → Shows w shown.old (reverse events.now) (K.written output.old) → StopsBetween w (text_of (oldest shown.old (reverse events.now))) (text_of (reverse events.now)) (K.written output.new)) }
     ensures caused { result ≡ Err ShowFault.Failed → HasRisen (K.faults output.old) (K.faults output.new) }
     ensures counted { K.faults output.old ≤ K.faults output.new }
 {
@@ -86,7 +86,7 @@ pub(crate) fn show<K: Sink>(
     ensures ok { OnOk result (shown.new ≡ length engine.now) }
     ensures within { shown.new ≤ length engine.now }
     ensures shows { OnOk result ((w : Option (List ℕ)) → Shows w shown.old engine.now (K.written output.old) → K.written output.new ≡ with_text w (text_of engine.now)) }
-    ensures front { OnErr result ((w : Option (List ℕ)) → Shows w shown.old engine.now (K.written output.old) → ShowsFront w (text_of engine.now) (K.written output.new)) }
+    ensures stops { OnErr result ((w : Option (List ℕ)) → Shows w shown.old engine.now (K.written output.old) → StopsBetween w (text_of (oldest shown.old engine.now)) (text_of engine.now) (K.written output.new)) }
     ensures caused { result ≡ Err ShowFault.Failed → HasRisen (K.faults output.old) (K.faults output.new) }
     ensures counted { K.faults output.old ≤ K.faults output.new }
 {

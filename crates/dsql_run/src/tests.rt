@@ -139,7 +139,7 @@ fn scripts_give_their_reports(rt: HostRuntime) -> Result<(), Fail> {
         ),
     ];
     for (script, report) in &rows {
-        let outcome = run_with(&rt, &["play"], script.as_bytes(), 4096, &NO_FAULTS)?;
+        let outcome = run_with(&rt, PLAY, script.as_bytes(), 4096, &NO_FAULTS)?;
         assert_eq!(rt; outcome.status, 0, "{script}");
         assert_eq!(rt; outcome.report.as_slice(), report.as_bytes(), "{script}");
         assert_eq!(rt; outcome.notes.len(), 0, "{script}");
@@ -152,25 +152,96 @@ fn scripts_give_their_reports(rt: HostRuntime) -> Result<(), Fail> {
     Ok(())
 }
 
+/// The words that play a script.
+const PLAY: &[&str] = &["play"];
+
+/// A text, and behind it bytes that come many times each.
+fn filled(alloc: Global, head: &str, runs: &[(u8, usize)]) -> Result<Vec<u8>, Fail> {
+    let mut script = bytes_of(alloc, head.as_bytes())?;
+    for (byte, times) in runs {
+        for _ in 0..*times {
+            script.push(*byte)?;
+        }
+    }
+    Ok(script)
+}
+
 #[test]
 fn a_refused_line_ends_the_run(rt: HostRuntime) -> Result<(), Fail> {
     let alloc = rt.alloc();
-    let mut long = text(alloc, &[ONE])?;
-    for _ in 0..4097 {
-        long.push('x')?;
-    }
-    let cut = text(alloc, &[ONE, "c1 exec db [\"SET a"])?;
-    let rows = [
-        (cut, "sqlrun: line 2: not JSON\n"),
-        (long, "sqlrun: line 2: line too long\n"),
-    ];
     let report = text(alloc, &[BEGIN, FIRST, END_OF_ONE])?;
-    for (script, note) in &rows {
-        let outcome = run_with(&rt, &["play"], script.as_bytes(), 4096, &NO_FAULTS)?;
-        assert_eq!(rt; outcome.status, 7, "{note}");
-        assert_eq!(rt; outcome.report.as_slice(), report.as_bytes(), "{note}");
-        assert_eq!(rt; outcome.notes.as_slice(), note.as_bytes());
-        assert_eq!(rt; outcome.retired, 1, "{note}");
+    let cut = text(alloc, &[ONE, "c1 exec db [\"SET a"])?;
+    let long = filled(alloc, ONE, &[(b'x', 4097), (b'\n', 1)])?;
+    let rows: [(&[u8], &str); 2] = [
+        (cut.as_bytes(), "sqlrun: line 2: not JSON\n"),
+        (&long, "sqlrun: line 2: line too long\n"),
+    ];
+    for (script, note) in rows {
+        for piece in [1, 100, 4096] {
+            let outcome = run_with(&rt, PLAY, script, piece, &NO_FAULTS)?;
+            assert_eq!(rt; outcome.status, 7, "{note} by {piece}");
+            assert_eq!(rt;
+                outcome.report.as_slice(),
+                report.as_bytes(),
+                "{note} by {piece}"
+            );
+            assert_eq!(rt; outcome.notes.as_slice(), note.as_bytes());
+            assert_eq!(rt; outcome.retired, 1, "{note} by {piece}");
+        }
+    }
+    Ok(())
+}
+
+#[test]
+fn hostile_lines_are_refused_by_their_first_fault(rt: HostRuntime) -> Result<(), Fail> {
+    let rows: [(&str, &[(u8, usize)], &str); 12] = [
+        ("#", &[(b'x', 4095)], ""),
+        ("#", &[(b'x', 4096)], "sqlrun: line 1: line too long\n"),
+        ("", &[(0xff, 1)], "sqlrun: line 1: not UTF-8\n"),
+        ("", &[(0xff, 4097)], "sqlrun: line 1: line too long\n"),
+        (
+            "c1 exec db ",
+            &[(b'[', 128), (b']', 128)],
+            "sqlrun: line 1: not JSON\n",
+        ),
+        (
+            "c1 exec db ",
+            &[(b'[', 127), (b']', 127)],
+            "sqlrun: line 1: wrong shape\n",
+        ),
+        ("c1 exec x1 [1]", &[], "sqlrun: line 1: wrong shape\n"),
+        ("c1 exec x1 [\"x\"]", &[], "sqlrun: line 1: unknown label\n"),
+        ("c65 stats", &[], "sqlrun: line 1: no such word\n"),
+        ("", &[(b'\n', 10_000)], ""),
+        (
+            "",
+            &[(b'\n', 10_001)],
+            "sqlrun: line 10001: too many lines\n",
+        ),
+        (
+            "",
+            &[(b'\n', 10_000), (0xff, 4097)],
+            "sqlrun: line 10001: too many lines\n",
+        ),
+    ];
+    let report = text(rt.alloc(), &[BEGIN, "[\"ended\"]\n"])?;
+    for (head, runs, note) in rows {
+        let script = filled(rt.alloc(), head, runs)?;
+        for piece in [1, 4096] {
+            let outcome = run_with(&rt, PLAY, &script, piece, &NO_FAULTS)?;
+            assert_eq!(rt;
+                outcome.notes.as_slice(),
+                note.as_bytes(),
+                "{head} {runs:?}"
+            );
+            let status = if note.is_empty() { 0 } else { 7 };
+            assert_eq!(rt; outcome.status, status, "{head} {runs:?}");
+            assert_eq!(rt;
+                outcome.report.as_slice(),
+                report.as_bytes(),
+                "{head} {runs:?}"
+            );
+        }
     }
     Ok(())
 }
@@ -199,63 +270,174 @@ fn words_that_are_not_accepted_get_the_usage(rt: HostRuntime) -> Result<(), Fail
     Ok(())
 }
 
+/// How many lines end among the first bytes of a script.
+fn ended_among(script: &[u8], taken: usize) -> usize {
+    let mut ended = 0_usize;
+    for byte in script.iter().take(taken) {
+        if *byte == b'\n' {
+            ended = ended.saturating_add(1);
+        }
+    }
+    ended
+}
+
 #[test]
-fn a_read_that_fails_ends_the_run(rt: HostRuntime) -> Result<(), Fail> {
+fn a_read_that_fails_ends_the_run_behind_whole_lines(rt: HostRuntime) -> Result<(), Fail> {
     let alloc = rt.alloc();
-    let none = text(alloc, &[BEGIN, "[\"ended\"]\n"])?;
-    let one = text(alloc, &[BEGIN, FIRST, END_OF_ONE])?;
-    // One byte at each read: the 24th reads the end.
-    for k in 1..=25 {
-        let failing = [k];
-        let outcome = run_with(
-            &rt,
-            &["play"],
-            ONE.as_bytes(),
-            1,
-            &Faults {
-                read: &failing,
-                ..NO_FAULTS
-            },
-        )?;
-        let ended = k > 24;
-        assert_eq!(rt; outcome.status, if ended { 0 } else { 3 }, "read {k}");
-        let report = if k <= 23 { &none } else { &one };
-        assert_eq!(rt; outcome.report.as_slice(), report.as_bytes(), "read {k}");
-        let note = if ended { "" } else { "sqlrun: read fault\n" };
-        assert_eq!(rt; outcome.notes.as_slice(), note.as_bytes(), "read {k}");
+    let two = text(alloc, &[ONE, "c1 exec db [\"SET a 2\"]\n"])?;
+    let unfinished = text(alloc, &[ONE, "c1 exec db [\"SET a 2\"]"])?;
+    let reports = [
+        text(alloc, &[BEGIN, "[\"ended\"]\n"])?,
+        text(alloc, &[BEGIN, FIRST, END_OF_ONE])?,
+        text(alloc, &[BEGIN, FIRST, SECOND, END_OF_TWO])?,
+    ];
+    let [none, one, both] = &reports;
+    for (script, lines) in [(ONE, 1), (two.as_str(), 2), (unfinished.as_str(), 2)] {
+        for piece in [1, 7, 4096] {
+            let mut taken = 0_usize;
+            let mut over = false;
+            for k in 1..=50 {
+                let faults = Faults {
+                    read: &[k],
+                    ..NO_FAULTS
+                };
+                let outcome = run_with(&rt, PLAY, script.as_bytes(), piece, &faults)?;
+                let whole = if over {
+                    lines
+                } else {
+                    ended_among(script.as_bytes(), taken)
+                };
+                let report = match whole {
+                    0 => none,
+                    1 => one,
+                    _ => both,
+                };
+                assert_eq!(rt;
+                    outcome.status,
+                    if over { 0 } else { 3 },
+                    "read {k} by {piece}"
+                );
+                assert_eq!(rt;
+                    outcome.report.as_slice(),
+                    report.as_bytes(),
+                    "read {k} by {piece}"
+                );
+                let note = if over { "" } else { "sqlrun: read fault\n" };
+                assert_eq!(rt;
+                    outcome.notes.as_slice(),
+                    note.as_bytes(),
+                    "read {k} by {piece}"
+                );
+                assert_eq!(rt;
+                    outcome.retired,
+                    usize::from(whole > 0),
+                    "read {k} by {piece}"
+                );
+                over = taken >= script.len();
+                taken = taken.saturating_add(piece);
+            }
+        }
     }
     Ok(())
+}
+
+/// The first lines of a report, so many.
+fn first_lines(report: &[u8], count: u64) -> &[u8] {
+    let mut ended = 0_u64;
+    for (place, byte) in report.iter().enumerate() {
+        if ended == count {
+            return &report[..place];
+        }
+        if *byte == b'\n' {
+            ended = ended.saturating_add(1);
+        }
+    }
+    report
+}
+
+/// The first bytes of a report, so many.
+fn first_bytes(report: &[u8], count: u64) -> &[u8] {
+    let count = usize::try_from(count).unwrap_or(report.len());
+    report.get(..count).unwrap_or(report)
 }
 
 #[test]
 fn a_write_that_fails_leaves_a_beginning(rt: HostRuntime) -> Result<(), Fail> {
     let alloc = rt.alloc();
-    let whole = text(alloc, &[BEGIN, FIRST, END_OF_ONE])?;
-    let last = u64::try_from(whole.len()).unwrap_or(0);
-    for k in 1..=last {
-        let failing = [k];
-        let outcome = run_with(
-            &rt,
-            &["play"],
-            ONE.as_bytes(),
-            1,
-            &Faults {
-                write: &failing,
+    let report = text(alloc, &[BEGIN, FIRST, END_OF_ONE])?;
+    let cut = text(alloc, &[ONE, "c1 exec db [\"SET a"])?;
+    let rows: [(&str, usize, &[u64], u8); 6] = [
+        (ONE, 1, &[], 0),
+        (ONE, 4096, &[], 0),
+        (ONE, 1, &[24], 3),
+        (ONE, 4096, &[2], 3),
+        (cut.as_str(), 1, &[], 7),
+        (cut.as_str(), 4096, &[], 7),
+    ];
+    for (script, piece, read, status) in rows {
+        for k in 1..=446 {
+            let faults = Faults {
+                read,
+                write: &[k],
                 ..NO_FAULTS
-            },
-        )?;
-        let written = usize::try_from(k).unwrap_or(0).saturating_sub(1);
-        assert_eq!(rt; outcome.status, 4, "write {k}");
-        assert_eq!(rt;
-            Some(outcome.report.as_slice()),
-            whole.as_bytes().get(..written),
-            "write {k}"
-        );
-        assert_eq!(rt;
-            outcome.notes.as_slice(),
-            b"sqlrun: write fault\n".as_slice(),
-            "write {k}"
-        );
+            };
+            let outcome = run_with(&rt, PLAY, script.as_bytes(), piece, &faults)?;
+            let front = if piece == 1 {
+                first_bytes(report.as_bytes(), k - 1)
+            } else {
+                first_lines(report.as_bytes(), k - 1)
+            };
+            let whole = front.len() == report.len();
+            assert_eq!(rt; outcome.report.as_slice(), front, "write {k} by {piece}");
+            assert_eq!(rt;
+                outcome.status,
+                if whole { status } else { 4 },
+                "write {k} by {piece}"
+            );
+            if !whole {
+                assert_eq!(rt;
+                    outcome.notes.as_slice(),
+                    b"sqlrun: write fault\n".as_slice()
+                );
+            }
+            assert_eq!(rt;
+                outcome.retired,
+                usize::from(front.len() >= BEGIN.len()),
+                "write {k}"
+            );
+        }
+    }
+    Ok(())
+}
+
+#[test]
+fn a_note_that_fails_makes_the_status_4(rt: HostRuntime) -> Result<(), Fail> {
+    let alloc = rt.alloc();
+    let report = text(alloc, &[BEGIN, FIRST, END_OF_ONE])?;
+    let cut = text(alloc, &[ONE, "c1 exec db [\"SET a"])?;
+    let rows: [(&str, &[u64], &str); 2] = [
+        (cut.as_str(), &[], "sqlrun: line 2: not JSON\n"),
+        (ONE, &[24], "sqlrun: read fault\n"),
+    ];
+    for (script, read, note) in rows {
+        for k in 1..=19 {
+            let faults = Faults {
+                read,
+                note: &[k],
+                ..NO_FAULTS
+            };
+            let outcome = run_with(&rt, PLAY, script.as_bytes(), 1, &faults)?;
+            assert_eq!(rt; outcome.status, 4, "write {k} of {note}");
+            assert_eq!(rt;
+                outcome.report.as_slice(),
+                report.as_bytes(),
+                "write {k} of {note}"
+            );
+            assert_eq!(rt;
+                outcome.notes.as_slice(),
+                first_bytes(note.as_bytes(), k - 1)
+            );
+        }
     }
     Ok(())
 }

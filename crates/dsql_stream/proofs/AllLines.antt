@@ -1,5 +1,5 @@
 -- The lines of bytes, the first at a time.
-use Rattle.std.proofs.Common.{◌≡◌, ◌≢◌, ℕ, ◌+◌, ◌<◌, ◌≤◌, ◌↔◌, false, List, [], ◌∷◌, Option, Some, All, length, refl, ap, ◌∙◌, arith, inl, inr, ne_eqb, not}
+use Rattle.std.proofs.Common.{◌≡◌, ◌≢◌, ℕ, ◌+◌, ◌<◌, ◌≤◌, ◌↔◌, false, List, [], ◌∷◌, Option, Some, All, length, drop, refl, sym, ap, ◌∙◌, arith, inl, inr, ne_eqb, not, length-drop}
 use Rattle.std.specs.List.{position_or_len, slice_split}
 use Rattle.std.proofs.Math.Nat.{eq-or-lt_of_le}
 use Rattle.std.proofs.lemmas.Bool.{cases_lt}
@@ -54,4 +54,14 @@ uncut_first unread rest line out short =
     elim (cases_lt 4096 (length (first_line unread))) [
       | inl long ↦ absurd (omega (arith, short, length-cut unread line (Some rest) out long))
       | inr first ↦ let rest_is : rest ≡ after_line unread = same_Some _ _ (out.whole first).1 in rw ((out.whole first).0, rest_is) (all_lines-first unread out.there)
+    ]
+
+-- a line that is handed out takes something off
+pub takes_a_byte : (unread rest line : List ℕ) → HandsOutLine unread (Some rest) line → length rest < length unread
+takes_a_byte unread rest line out =
+    let all : 0 ≤ length unread = omega arith in
+    let some : 0 < length unread = elim (eq-or-lt_of_le all) [ inl none ↦ absurd (out.there (nil_from_length unread (sym none))) | inr more ↦ more ] in
+    elim (cases_lt 4096 (length (first_line unread))) [
+      | inl long ↦ let is : rest ≡ drop 4097 unread = same_Some _ _ (out.cut long).1 in omega (arith, some, ap length is, length-drop 4097 unread)
+      | inr short ↦ let is : rest ≡ after_line unread = same_Some _ _ (out.whole (omega (arith, short))).1 in omega (arith, some, ap length is, length-drop (position_or_len is_line_feed unread + 1) unread)
     ]

@@ -3,3 +3,4 @@ pub mod FirstLines
 pub mod HandingOut
 pub mod Fronts
 pub mod AllLines
+pub mod EndedLines

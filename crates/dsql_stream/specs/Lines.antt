@@ -26,6 +26,16 @@ lines_of_parts (part ∷ next ∷ more) = part ∷ lines_of_parts (next ∷ more
 abbrev pub all_lines : List ℕ → List (List ℕ)
 all_lines bytes = lines_of_parts (slice_split is_line_feed bytes)
 
+-- the lines that parts between line feeds end: the last part has no line feed
+abbrev pub ended_of_parts : List (List ℕ) → List (List ℕ)
+ended_of_parts [] = []
+ended_of_parts (part ∷ []) = []
+ended_of_parts (part ∷ next ∷ more) = part ∷ ended_of_parts (next ∷ more)
+
+-- the lines that have their line feed, each without it
+abbrev pub ended_lines : List ℕ → List (List ℕ)
+ended_lines bytes = ended_of_parts (slice_split is_line_feed bytes)
+
 -- What a reader has still to hand out, where the source tells what is left. After the end it reads no more.
 abbrev pub ahead : Buffered → Option (List ℕ) → Option (List ℕ)
 ahead reader left = option_map (λ bytes. if reader.ended then reader.pending else reader.pending ++ bytes) left

@@ -3,7 +3,7 @@
 ghost use Rattle.std.specs.Prelude.{◌≡◌, ◌≢◌, ◌≤◌, ◌<◌, ◌↔◌, ℕ, List, [], ◌∷◌, ◌++◌, Some, Option, length};
 ghost use Rattle.dsql_stream.specs.declared.lines.TheConstants.{LONGEST};
 ghost use Rattle.dsql_stream.specs.Buffered.{Buffered};
-ghost use Rattle.dsql_stream.specs.Lines.{first_line, after_line, all_lines, ahead, SawTheEnd, HandsOutLine};
+ghost use Rattle.dsql_stream.specs.Lines.{first_line, after_line, all_lines, ended_lines, ahead, SawTheEnd, HandsOutLine};
 
 /// No bytes have no line. Any others have their first line and then the lines of what stands behind it.
 pub fn lines_begin_with_the_first()
@@ -18,6 +18,20 @@ pub fn lines_begin_with_the_first()
 pub fn handed_out_in_order()
     ensures uncut { (unread rest line : List ℕ) → HandsOutLine unread (Some rest) line → length line ≤ LONGEST → all_lines unread ≡ line ∷ all_lines rest }
     ensures cut { (unread line : List ℕ) (after : Option (List ℕ)) → HandsOutLine unread after line → (LONGEST < length line) ↔ (LONGEST < length (first_line unread)) }
+{}
+
+/// A line that is handed out takes at least one byte off what was ahead.
+pub fn each_line_takes_a_byte()
+    ensures { (unread rest line : List ℕ) → HandsOutLine unread (Some rest) line → length rest < length unread }
+{}
+
+/// The lines of a front of the bytes that have their line feed are the first lines of all bytes. Behind
+/// the last line feed stands the beginning of a line.
+pub fn ended_lines_come_first()
+    ensures none { ended_lines [] ≡ [] }
+    ensures unfinished { ended_lines (97 ∷ 10 ∷ 98 ∷ []) ≡ (97 ∷ []) ∷ [] }
+    ensures finished { ended_lines (97 ∷ 10 ∷ 10 ∷ []) ≡ (97 ∷ []) ∷ [] ∷ [] }
+    ensures first { (front rest : List ℕ) → (more : List (List ℕ)) × (all_lines (front ++ rest) ≡ ended_lines front ++ more) }
 {}
 
 /// What is ahead is what is pending and then what is left, where the end that the reader saw is the

@@ -1,4 +1,4 @@
-ghost use Rattle.std.specs.Prelude.{◌≡◌, ◌≢◌, ◌<◌, ◌≤◌, ◌+◌, ℕ, [], ◌∷◌, ◌↔◌, All, IsTrue, IfOk, OnOk, OnErr, IfSome, IfNone, MatchOption, is_some, option_to_list, vec_len};
+ghost use Rattle.std.specs.Prelude.{◌≡◌, ◌≢◌, ◌<◌, ◌≤◌, ◌+◌, ◌++◌, ℕ, [], ◌∷◌, ◌↔◌, All, IsTrue, IfOk, OnOk, OnErr, IfSome, IfNone, MatchOption, is_some, option_to_list, vec_len};
 ghost use Rattle.dsql_driver.specs.Streams.{HasRisen};
 ghost use Rattle.dsql_stream.specs.Lines.{ahead, HandsOut, SawTheEnd, TakesOff};
 
@@ -97,6 +97,9 @@ impl LineReader {
         ensures handed_out { IfOk result (λ there. HandsOut there (ahead self.old (S.left source.old)) (ahead self.new (S.left source.new)) line.new.items) }
         ensures end { result ≡ Ok false → (self.new ≡ record { pending = []; ended = true }) × (line.new.items ≡ []) }
 
+        // A line that isn't cut lacks its line feed only where the source's end was seen.
+        ensures fed { result ≡ Ok true → vec_len line.new ≤ LONGEST → self.new.ended ≡ false → TakesOff (line.new.items ++ 10 ∷ []) (ahead self.old (S.left source.old)) (ahead self.new (S.left source.new)) }
+
         // After a fault nothing is pending, and what was read of the line was the front of what was ahead.
         ensures failed { result ≡ Err ReadFault.Failed → (self.new ≡ record { pending = []; ended = false }) × TakesOff line.new.items (ahead self.old (S.left source.old)) (ahead self.new (S.left source.new)) }
         ensures caused { result ≡ Err ReadFault.Failed → HasRisen (S.faults source.old) (S.faults source.new) }
@@ -107,7 +110,7 @@ impl LineReader {
         ensures feedless { All (λ byte. byte ≢ 10) line.new.items }
         ensures counted { S.faults source.old ≤ S.faults source.new }
         ensures telling { is_some (S.left source.new) ≡ is_some (S.left source.old) }
-        ensures after_end { self.old.ended ≡ true → source.new ≡ source.old }
+        ensures after_end { self.old.ended ≡ true → (source.new ≡ source.old) × (self.new.ended ≡ true) }
         ensures sees { SawTheEnd self.old (S.left source.old) → SawTheEnd self.new (S.left source.new) }
     {
         line.clear();

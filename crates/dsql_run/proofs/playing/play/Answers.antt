@@ -1,5 +1,9 @@
+use Rattle.std.proofs.Common.{ap}
+use Rattle.dsql_driver.specs.Streams.{has_risen}
 use Rattle.dsql_player.specs.Entered.{entered_calls}
 use Rattle.dsql_player.proofs.Extending.{extends_then}
+use Rattle.dsql_run.proofs.Errors.{on_ok}
+use Rattle.dsql_run.proofs.Cutting.{shown_before_end, cut_short}
 use Rattle.dsql_run.proofs.Finishing.{plays_finished, wrote_older, writes_more, all_risen}
 use Rattle.dsql_run.proofs.playing.play.Goals as goal
 
@@ -10,7 +14,7 @@ returns-clause-begins g c =
 pub returns-clause-plays : goal.returns-clause-plays
 returns-clause-plays g c =
     rw c.close-ended.ensures.entered
-    (plays_finished c.play_lines-played.result c.close-ended.result c.finish.result (g.S.Source.left c.args.input.now) (entered_calls c.play_lines-played.new.engine) c.close-ended.ensures.same c.finish.ensures.result c.play_lines-played.ensures.plays)
+    (plays_finished c.play_lines-played.result c.close-ended.result c.finish.result (g.S.Source.left c.args.input.now) (g.S.Source.left c.play_lines-played.new.input) (entered_calls c.play_lines-played.new.engine) c.close-ended.ensures.same c.finish.ensures.result c.play_lines-played.ensures.plays)
 
 pub returns-clause-writes : goal.returns-clause-writes
 returns-clause-writes g c =
@@ -18,3 +22,23 @@ returns-clause-writes g c =
     (all_risen c.play_lines-played.result (g.K.Sink.faults c.args.output.now) (g.K.Sink.faults c.play_lines-played.new.output) (g.K.Sink.faults c.finish.new.output) c.play_lines-played.ensures.counted c.finish.ensures.counted c.play_lines-played.ensures.write_fault)
     (c.finish.ensures.wrote (g.K.Sink.written c.args.output.now)
     (wrote_older c.play_lines-played.result (g.K.Sink.written c.args.output.now) (g.K.Sink.written c.play_lines-played.new.output) c.play_lines-played.new.shown c.play_lines-played.new.engine c.close-ended.new.engine c.close-ended.ensures.extends c.play_lines-played.ensures.within c.play_lines-played.ensures.wrote))
+
+pub returns-clause-cut : goal.returns-clause-cut
+returns-clause-cut g c =
+    λ is. cut_short c.play_lines-played.result c.close-ended.result c.finish.result (g.S.Source.left c.args.input.now) (g.S.Source.left c.play_lines-played.new.input)
+    (has_risen (g.S.Source.faults c.args.input.now) (g.S.Source.faults c.play_lines-played.new.input)) (g.K.Sink.written c.args.output.now) (g.K.Sink.written c.play_lines-played.new.output) (g.K.Sink.written c.finish.new.output)
+    c.play_lines-played.new.shown c.play_lines-played.new.engine c.close-ended.new.engine c.close-ended.ensures.same c.finish.ensures.result is
+    (record {
+      quiet = λ ran. (c.play_lines-played.ensures.between ran).quiet;
+      running = λ ran. (c.play_lines-played.ensures.between ran).running;
+      plays = c.play_lines-played.ensures.plays;
+      read = on_ok c.play_lines-played.result c.play_lines-played.ensures.end;
+      caused = c.play_lines-played.ensures.read_fault;
+      cut = c.play_lines-played.ensures.cut;
+      shown = c.play_lines-played.ensures.shown;
+    })
+    c.close-ended.ensures.extends c.close-ended.ensures.entered (λ failed. ap g.K.Sink.written (c.finish.ensures.unwritten failed))
+    (λ unfailed. c.finish.ensures.stops (g.K.Sink.written c.args.output.now)
+    (shown_before_end c.play_lines-played.result c.close-ended.result c.finish.result (g.K.Sink.written c.args.output.now) (g.K.Sink.written c.play_lines-played.new.output) c.play_lines-played.new.shown c.play_lines-played.new.engine
+    c.close-ended.new.engine c.close-ended.ensures.same c.finish.ensures.result is unfailed c.close-ended.ensures.extends c.play_lines-played.ensures.within c.play_lines-played.ensures.wrote)
+    unfailed is)

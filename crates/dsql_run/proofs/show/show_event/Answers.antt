@@ -1,4 +1,4 @@
-use Rattle.std.proofs.Common.{◌≡◌, sym, ◌∙◌, take, drop}
+use Rattle.std.proofs.Common.{◌≡◌, length, ap, sym, ◌∙◌, take, drop, refl, arith, length-take-le}
 use Rattle.std.specs.Prelude.{Err}
 use Rattle.std.proofs.lemmas.List.{take-append-drop}
 use Rattle.dsql_script.specs.Lines.{line_of}
@@ -13,6 +13,8 @@ returns-in_err-write_whole-clause-err g c =
     rw is
     (record {
       front = take c.in_err-write_whole.field-0.0.written c.as_bytes.result.now;
+      holds = record { rest = take c.in_err-write_whole.field-0.0.written c.as_bytes.result.now; parts = refl };
+      short = omega (arith, ap length text, c.in_err-write_whole.ensures.cut, length-take-le c.in_err-write_whole.field-0.0.written c.as_bytes.result.now (omega (arith, c.in_err-write_whole.ensures.cut)));
       begins = record {
         rest = drop c.in_err-write_whole.field-0.0.written c.as_bytes.result.now;
         parts = sym text ∙ sym (take-append-drop c.in_err-write_whole.field-0.0.written c.as_bytes.result.now);
