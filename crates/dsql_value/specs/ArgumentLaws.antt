@@ -1,5 +1,5 @@
 -- What the refusals of arguments, and the parameters that they become, mean.
-use Rattle.std.specs.Prelude.{◌≡◌, ◌↔◌, ℕ, ℤ, pos, negsuc, ◌<◌, ◌≤◌, ◌^◌, Bool, true, false, List, ◌∷◌, ◌++◌, length, map, All, Option, Some, None, IfSome}
+use Rattle.std.specs.Prelude.{◌≡◌, ◌↔◌, ℕ, ℤ, pos, negsuc, ◌<◌, ◌≤◌, ◌^◌, Bool, true, false, List, ◌∷◌, ◌++◌, length, map, All, Some, None, IfSome}
 use Rattle.dsql_value.specs.declared.arg.Arg.{Arg}
 use Rattle.dsql_value.specs.declared.arg.Arg.TheVariants as args
 use Rattle.dsql_value.specs.declared.arg.Named.{Named}
