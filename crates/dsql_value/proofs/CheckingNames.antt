@@ -4,9 +4,8 @@ use Rattle.std.specs.Prelude.{Option, Some, None, All, IfSome, if◌then◌else�
 use Rattle.std.specs.Option.{option_or}
 use Rattle.std.proofs.lemmas.List.Elements.{All-weaker}
 use Rattle.dsql_value.specs.declared.arg.Named.{Named}
-use Rattle.dsql_value.specs.declared.arg.ArgFault.{ArgFault}
 use Rattle.dsql_value.specs.declared.arg.ArgFault.TheVariants as faults
-use Rattle.dsql_value.specs.Arguments.{begins_with_letter, name_fault, value_fault, arg_fault, first_fault}
+use Rattle.dsql_value.specs.Arguments.{begins_with_letter, name_fault, value_fault, first_fault}
 use Rattle.dsql_value.specs.ArgumentLaws.{IsAccepted}
 use Rattle.dsql_value.proofs.Refusing.{option_or-none, all_accepted, none_refused}
 

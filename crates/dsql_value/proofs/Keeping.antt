@@ -1,8 +1,6 @@
 -- The parameters of arguments have their names and values.
 use Rattle.std.proofs.Common.{◌≡◌, List, [], ◌∷◌, ◌++◌, map, ap, refl}
-use Rattle.std.specs.Prelude.{Option}
 use Rattle.dsql_value.specs.declared.arg.Named.{Named}
-use Rattle.dsql_value.specs.declared.value.Value.{Value}
 use Rattle.dsql_value.specs.declared.value.Param.{Param}
 use Rattle.dsql_value.specs.Arguments.{arg_of, param_of, params_of}
 

@@ -1,5 +1,5 @@
 -- What the refusals of arguments, and the parameters that they become, mean.
-use Rattle.std.specs.Prelude.{◌≡◌, ◌↔◌, ℕ, ℤ, pos, negsuc, ◌<◌, ◌≤◌, ◌^◌, Bool, true, false, List, ◌∷◌, ◌++◌, length, map, All, Option, Some, None, IfSome}
+use Rattle.std.specs.Prelude.{◌≡◌, ◌↔◌, ℕ, ℤ, pos, negsuc, ◌<◌, ◌≤◌, ◌^◌, Bool, true, false, List, ◌∷◌, ◌++◌, length, map, All, Some, None, IfSome}
 use Rattle.dsql_value.specs.declared.arg.Arg.{Arg}
 use Rattle.dsql_value.specs.declared.arg.Arg.TheVariants as args
 use Rattle.dsql_value.specs.declared.arg.Named.{Named}
@@ -40,7 +40,7 @@ pub record CountsLast : Type 0 where
 -- only an unsigned number of 64 bits is refused for its value, and just where its highest bit is set
 pub record RefusesHighBits : Type 0 where
   pub highest : (number : ℕ) → value_fault (args.U64 number) ≡ Some (faults.HighBit number) ↔ (2 ^ 63 ≤ number)
-  pub others : (number : ℕ) → value_fault (args.U64 number) ≡ None ↔ (number < 2 ^ 63)
+  pub lower : (number : ℕ) → value_fault (args.U64 number) ≡ None ↔ (number < 2 ^ 63)
   pub alone : (arg : Arg) (fault : ArgFault) → value_fault arg ≡ Some fault → (number : ℕ) × (arg ≡ args.U64 number)
 
 -- no name goes to a driver that takes none, each name that goes begins with a letter, and a driver that takes names

@@ -1,5 +1,5 @@
 -- What a driver gets for the arguments of a call, and which arguments are refused.
-use Rattle.std.specs.Prelude.{◌≡◌, ℕ, ℤ, pos, negsuc, ◌==◌, nat_lt, min, Bool, true, false, not, if◌then◌else◌, List, [], ◌∷◌, length, map, Option, Some, None, ◌⊎◌}
+use Rattle.std.specs.Prelude.{◌≡◌, ℕ, ℤ, pos, negsuc, ◌==◌, nat_lt, min, Bool, false, not, if◌then◌else◌, List, [], ◌∷◌, length, map, Option, Some, None, ◌⊎◌}
 use Rattle.std.specs.Option.{option_or, option_map_or}
 use Rattle.std.specs.Char.{is_ascii_alphabetic}
 use Rattle.dsql_value.specs.declared.arg.Arg.{Arg}

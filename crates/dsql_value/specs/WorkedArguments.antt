@@ -1,5 +1,5 @@
 -- Worked arguments: their values, and what refuses them.
-use Rattle.std.specs.Prelude.{◌≡◌, ℕ, ℤ, pos, negsuc, Bool, true, false, List, [], ◌∷◌, Option, Some, None, codes}
+use Rattle.std.specs.Prelude.{◌≡◌, ℕ, pos, negsuc, true, false, List, [], ◌∷◌, Some, None, codes}
 use Rattle.dsql_value.specs.declared.arg.Arg.{Arg}
 use Rattle.dsql_value.specs.declared.arg.Arg.TheVariants as args
 use Rattle.dsql_value.specs.declared.arg.Named.{Named}

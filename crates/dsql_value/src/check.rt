@@ -41,8 +41,8 @@ pub fn driver_value(arg: &Arg) -> Result<Value, ArgFault>
 
 /// The parameters of a driver call for the arguments `list`, in order. `want` is how many inputs the
 /// statement has, or -1 where the driver doesn't know, as Go's `driver.Stmt.NumInput`; `named_ok` is whether
-/// the driver takes names, as one with Go's `driver.NamedValueChecker` may. Each argument is looked at in
-/// order, its name and then its number, and how many there are comes last. The arguments stay as they are.
+/// the driver takes names, as Go's `driver.NamedValue` has them. Each argument is looked at in order, its
+/// name and then its value, and how many there are comes last. The arguments stay as they are.
 pub fn check_args(
     alloc: Global,
     want: i32,
@@ -109,6 +109,7 @@ fn check_count(want: i32, got: usize) -> Result<(), ArgFault>
     ensures accepted { OnOk result (count_fault want got ≡ None) }
     ensures refused { IfErr result (λ fault. count_fault want got ≡ Some fault) }
 {
+    // Any number suits -1.
     let Ok(want) = u32::try_from(want) else {
         return Ok(());
     };

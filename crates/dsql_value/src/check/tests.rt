@@ -1,6 +1,7 @@
 use super::*;
 use crate::arg::Args;
 use crate::text::Bin;
+use std::process::Abort;
 use std::test::Fail;
 
 /// Unsigned numbers as arguments, some with names.
@@ -25,54 +26,70 @@ fn told(alloc: Global, checked: Result<Params, ArgFault>) -> Result<String, Fail
     })
 }
 
-#[test]
-fn each_form_of_an_argument_has_its_value(rt: HostRuntime) -> Result<(), Fail> {
-    let alloc = rt.alloc();
-    let ann = Txt::copy_of(alloc, "Ann")?;
-    let bytes = Bin::new(vec![in alloc; 0, 255]?);
-    let table = vec![in alloc;
-        (Arg::Nil, Value::Nil),
-        (Arg::I8(i8::MIN), Value::Int(-128)),
-        (Arg::I8(i8::MAX), Value::Int(127)),
-        (Arg::I16(i16::MIN), Value::Int(-32_768)),
-        (Arg::I16(i16::MAX), Value::Int(32_767)),
-        (Arg::I32(i32::MIN), Value::Int(-2_147_483_648)),
-        (Arg::I32(i32::MAX), Value::Int(2_147_483_647)),
-        (Arg::I64(i64::MIN), Value::Int(-9_223_372_036_854_775_808)),
-        (Arg::I64(i64::MAX), Value::Int(9_223_372_036_854_775_807)),
-        (Arg::U8(u8::MAX), Value::Int(255)),
-        (Arg::U16(u16::MAX), Value::Int(65_535)),
-        (Arg::U32(u32::MAX), Value::Int(4_294_967_295)),
-        (Arg::U64(0), Value::Int(0)),
-        (Arg::U64(9_223_372_036_854_775_807), Value::Int(i64::MAX)),
-        (Arg::Bool(true), Value::Bool(true)),
-        (Arg::Text(ann.copy()?), Value::Text(ann.copy()?)),
-        (Arg::Bytes(bytes.clone()?), Value::Bytes(bytes)),
-        (Arg::Time(-1), Value::Time(-1)),
-        (Arg::NullText(Some(ann.copy()?)), Value::Text(ann)),
-        (Arg::NullText(None), Value::Nil),
-        (Arg::NullI64(Some(i64::MIN)), Value::Int(i64::MIN)),
-        (Arg::NullI64(None), Value::Nil),
-        (Arg::NullI32(Some(-7)), Value::Int(-7)),
-        (Arg::NullI32(None), Value::Nil),
-        (Arg::NullI16(Some(-7)), Value::Int(-7)),
-        (Arg::NullI16(None), Value::Nil),
-        (Arg::NullU8(Some(255)), Value::Int(255)),
-        (Arg::NullU8(None), Value::Nil),
-        (Arg::NullBool(Some(false)), Value::Bool(false)),
-        (Arg::NullBool(None), Value::Nil),
-        (Arg::NullTime(Some(7)), Value::Time(7)),
-        (Arg::NullTime(None), Value::Nil),
-    ]?;
-    for (arg, want) in table {
-        let value = driver_value(&arg)?;
-        assert_eq!(rt;
-            format!(in alloc; "{value:?}")?,
-            format!(in alloc; "{want:?}")?,
-            "of {arg:?}"
-        );
+/// Each argument has the value that stands beside it.
+fn have_values(rt: &(impl Abort + AllocGlobal), rows: &[(Arg, &str)]) -> Result<(), Fail> {
+    for (arg, want) in rows {
+        let value = driver_value(arg)?;
+        let text = format!(in rt.alloc(); "{value:?}")?;
+        assert_eq!(rt; text.as_str(), *want);
     }
     Ok(())
+}
+
+fn integers() -> [(Arg, &'static str); 13] {
+    [
+        (Arg::I8(i8::MIN), "Int(-128)"),
+        (Arg::I8(i8::MAX), "Int(127)"),
+        (Arg::I16(i16::MIN), "Int(-32768)"),
+        (Arg::I16(i16::MAX), "Int(32767)"),
+        (Arg::I32(i32::MIN), "Int(-2147483648)"),
+        (Arg::I32(i32::MAX), "Int(2147483647)"),
+        (Arg::I64(i64::MIN), "Int(-9223372036854775808)"),
+        (Arg::I64(i64::MAX), "Int(9223372036854775807)"),
+        (Arg::U8(u8::MAX), "Int(255)"),
+        (Arg::U16(u16::MAX), "Int(65535)"),
+        (Arg::U32(u32::MAX), "Int(4294967295)"),
+        (Arg::U64(u64::MIN), "Int(0)"),
+        (
+            Arg::U64(9_223_372_036_854_775_807),
+            "Int(9223372036854775807)",
+        ),
+    ]
+}
+
+fn null_forms() -> [(Arg, &'static str); 13] {
+    [
+        (Arg::NullText(None), "Nil"),
+        (Arg::NullI64(Some(i64::MIN)), "Int(-9223372036854775808)"),
+        (Arg::NullI64(None), "Nil"),
+        (Arg::NullI32(Some(i32::MIN)), "Int(-2147483648)"),
+        (Arg::NullI32(None), "Nil"),
+        (Arg::NullI16(Some(i16::MIN)), "Int(-32768)"),
+        (Arg::NullI16(None), "Nil"),
+        (Arg::NullU8(Some(u8::MAX)), "Int(255)"),
+        (Arg::NullU8(None), "Nil"),
+        (Arg::NullBool(Some(false)), "Bool(false)"),
+        (Arg::NullBool(None), "Nil"),
+        (Arg::NullTime(Some(i64::MAX)), "Time(9223372036854775807)"),
+        (Arg::NullTime(None), "Nil"),
+    ]
+}
+
+#[test]
+fn each_form_of_an_argument_has_its_value(rt: HostRuntime) -> Result<(), Fail> {
+    let ann = Txt::copy_of(rt.alloc(), "Ann")?;
+    let bytes = Bin::new(vec![in rt.alloc(); 0, 255]?);
+    have_values(&rt, &integers())?;
+    have_values(&rt, &null_forms())?;
+    let others = [
+        (Arg::Nil, "Nil"),
+        (Arg::Bool(true), "Bool(true)"),
+        (Arg::Text(ann.copy()?), "Text(Txt { text: \"Ann\" })"),
+        (Arg::Bytes(bytes), "Bytes(Bin { bytes: [0, 255] })"),
+        (Arg::Time(-1), "Time(-1)"),
+        (Arg::NullText(Some(ann)), "Text(Txt { text: \"Ann\" })"),
+    ];
+    have_values(&rt, &others)
 }
 
 #[test]
