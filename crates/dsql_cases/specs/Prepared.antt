@@ -1,5 +1,5 @@
 -- Legal histories of execs on the prepared path and of refused arguments, and histories that are legal but for one place, each oldest first.
-use Rattle.std.specs.Prelude.{ℕ, List, [], ◌∷◌, ◌++◌, Option, Some, None, pos, negsuc, codes}
+use Rattle.std.specs.Prelude.{ℕ, List, [], ◌∷◌, ◌++◌, Some, None, pos, negsuc, codes}
 use Rattle.dsql_value.specs.declared.arg.Arg.TheVariants as args
 use Rattle.dsql_value.specs.declared.arg.Named.{Named}
 use Rattle.dsql_value.specs.declared.value.Param.{Param}

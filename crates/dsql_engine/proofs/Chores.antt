@@ -23,10 +23,8 @@ use Rattle.dsql_engine.specs.Awaited.{awaited, awaited_at, chore_due, shut_permi
 use Rattle.dsql_history.specs.declared.reply.Reply.{Reply}
 use Rattle.dsql_history.specs.Readers.Lists.{last}
 use Rattle.dsql_history.specs.Readers.Sets.{open_count}
-use Rattle.dsql_history.specs.Readers.Calls.{reply_due}
-use Rattle.dsql_history.specs.Rules.Causes.{cause}
 use Rattle.dsql_history.specs.Rules.Limit.{room}
-use Rattle.dsql_engine.specs.Groups.{after_heard, after_answer, after_ask, after_body, after_end, after_entry, closings, leaving, lent_to}
+use Rattle.dsql_engine.specs.Groups.{after_heard, after_answer, after_ask, after_body, after_end, after_entry, closings, lent_to}
 
 found_when : (b : Bool) (k n c : ℕ) → nat_lt k n ≡ b → cond b (Some k) None ≡ Some c → (k ≡ c) × (k < n)
 found_when true k n c e h = (cc, grind (arith, nat_tests))

@@ -28,7 +28,7 @@ use Rattle.dsql_journal.specs.Readers.{went_bad}
 use Rattle.dsql_history.specs.declared.event.CloseCause.TheVariants.{Bad, Invalid, IdleFull, DbClosed}
 use Rattle.dsql_history.specs.Rules.Causes.{cause, cause_when, is_cause}
 use Rattle.dsql_engine.specs.Groups.{leaving}
-use Rattle.dsql_engine.proofs.Basics.{may_reply, not_first, begun, follows_placed, all_of, used_of, way_of, reply_same}
+use Rattle.dsql_engine.proofs.Basics.{may_reply, not_first, begun, follows_placed, all_of, used_of, way_of}
 
 -- it may be given back
 pub may_back : (H : List Event) (c t n : ℕ) → Lawful H → Settled H → place H c ≡ Lent t (Call n) → due H c t n ≡ None → cause H c ≡ None → Allowed H (Pool (Back c))

@@ -21,7 +21,7 @@ use Rattle.std.specs.Prelude.{find}
 use Rattle.dsql_history.specs.Readers.Journals.{heard_in}
 use Rattle.dsql_history.specs.Readers.Course.{caps}
 use Rattle.dsql_history.specs.Rules.Line.{due, line_after, is_reset_due}
-use Rattle.dsql_engine.proofs.Basics.{may_reply, not_first, follows_placed, all_of, used_of, way_of, reply_same}
+use Rattle.dsql_engine.proofs.Basics.{may_reply, all_of, used_of, way_of}
 use Rattle.dsql_engine.proofs.Moving.{way_by}
 
 -- what is said of an unfinished call under way

@@ -1,5 +1,5 @@
 -- The statement of a call, and a call that enters.
-use Rattle.std.specs.Prelude.{◌≡◌, Bool, [], Option, Some, None}
+use Rattle.std.specs.Prelude.{◌≡◌, Bool, [], Some, None}
 use Rattle.dsql_value.specs.Arguments.{params_of, first_fault}
 use Rattle.dsql_history.specs.declared.event.Op.{Op}
 use Rattle.dsql_history.specs.declared.record.CallRecord.{CallRecord}

@@ -9,10 +9,10 @@ ghost use Rattle.dsql_history.specs.declared.reply.Reply.{Reply};
 ghost use Rattle.dsql_journal.specs.declared.entry.Owner.TheVariants.{Call};
 ghost use Rattle.dsql_engine.specs.Desk.{past, Stands};
 
-use crate::statement::Statement;
 use crate::room::{
     count_up, move_to, note, put, set_decided, set_home, take_out, take_reply, tell_entry,
 };
+use crate::statement::Statement;
 use dsql_driver::{Caps, DriverAnswer};
 use dsql_history::{CallRecord, CloseCause, Event, Move, Op, Place, Reply};
 use dsql_journal::{Entry, Owner};

@@ -216,12 +216,7 @@ impl Desk {
     }
 
     /// A driver's answer is heard; the copy is of that answer, and the text of its call's statement.
-    pub fn hear_answer(
-        &mut self,
-        entry: Entry,
-        copy: DriverAnswer,
-        statement: Statement,
-    ) -> Next
+    pub fn hear_answer(&mut self, entry: Entry, copy: DriverAnswer, statement: Statement) -> Next
         requires stands { Stands self.old }
         requires settled { Settled (past self.old) }
         requires awaited { awaited (past self.old) entry.conn ≡ Some (permit_of entry) }
@@ -238,7 +233,9 @@ impl Desk {
     {
         match self.place(entry.conn) {
             Place::Opening(n) => self.hear_connect(n, entry, copy),
-            Place::Lent(tenure, Owner::Call(n)) => self.hear_call(tenure, n, entry, copy, statement),
+            Place::Lent(tenure, Owner::Call(n)) => self.hear_call(
+                tenure, n, entry, copy, statement,
+            ),
             Place::Closing => self.hear_shut(entry),
             _ => unreachable!(),
         }
@@ -407,13 +404,7 @@ impl Desk {
     }
 
     /// A call uses the connection that was lent to it, on which nothing was heard yet.
-    fn wake_lent(
-        &mut self,
-        c: u32,
-        tenure: u32,
-        n: u32,
-        statement: Statement,
-    ) -> Next
+    fn wake_lent(&mut self, c: u32, tenure: u32, n: u32, statement: Statement) -> Next
         requires stands { Stands self.old }
         requires settled { Settled (past self.old) }
         requires lent { place (past self.old) c ≡ Lent tenure (Call n) }

@@ -273,8 +273,8 @@ tenure_of _ = 0
 placed : (ps : List Place) (d c t n : ℕ) (p : Place) → (p ≡ Lent t (Call n) → ⊥) → get_or (set ps d p) c Nowhere ≡ Lent t (Call n) → (d ≢ c) × (get_or ps c Nowhere ≡ Lent t (Call n))
 placed ps d c t n p not h =
     elim (read_set ps d p c Nowhere) [
-      inl w ↦ absurd (not (sym w.2 ∙ h))
-    | inr w ↦ by_same (same_or_not c d) w
+      | inl w ↦ absurd (not (sym w.2 ∙ h))
+      | inr w ↦ by_same (same_or_not c d) w
     ]
   where
     by_same : (c ≡ d) ⊎ (c ≢ d) → (c ≡ d → length ps ≤ d) × (get_or (set ps d p) c Nowhere ≡ get_or ps c Nowhere) → (d ≢ c) × (get_or ps c Nowhere ≡ Lent t (Call n))
@@ -288,8 +288,8 @@ placed ps d c t n p not h =
 settles_open : (H : List Event) (d m c t n : ℕ) → AllSettle H → place (Pool (OpenStart d m) ∷ H) c ≡ Lent t (Call n) → Settles (Pool (OpenStart d m) ∷ H) c t n
 settles_open H d m c t n all is =
     elim (read_push (places H) (Opening m) c Nowhere) [
-      inl w ↦ absurd (never (sym w.1 ∙ is))
-    | inr w ↦ (let r = same_record (calls H) m d n in settles_as H (Pool (OpenStart d m)) c t n r.0 r.1 refl (all c t n (sym w.1 ∙ is)))
+      | inl w ↦ absurd (never (sym w.1 ∙ is))
+      | inr w ↦ (let r = same_record (calls H) m d n in settles_as H (Pool (OpenStart d m)) c t n r.0 r.1 refl (all c t n (sym w.1 ∙ is)))
     ]
   where
     never : Opening m ≡ Lent t (Call n) → ⊥
@@ -298,8 +298,8 @@ settles_open H d m c t n all is =
 settles_lend : (H : List Event) (d u : ℕ) (o : Owner) (m c t n : ℕ) → Lawful (Pool (Lend d u o m) ∷ H) → AllSettle H → place (Pool (Lend d u o m) ∷ H) c ≡ Lent t (Call n) → Settles (Pool (Lend d u o m) ∷ H) c t n
 settles_lend H d u o m c t n l all is =
     elim (read_set (places H) d (Lent u o) c Nowhere) [
-      inl w ↦ here w.0 (sym w.2 ∙ is) (lend_facts H d u o m l.1)
-    | inr w ↦ (let r = same_record (calls H) m d n in settles_as H (Pool (Lend d u o m)) c t n r.0 r.1 refl (all c t n (sym w.1 ∙ is)))
+      | inl w ↦ here w.0 (sym w.2 ∙ is) (lend_facts H d u o m l.1)
+      | inr w ↦ (let r = same_record (calls H) m d n in settles_as H (Pool (Lend d u o m)) c t n r.0 r.1 refl (all c t n (sym w.1 ∙ is)))
     ]
   where
     fresh : (k : ℕ) (p : Owner) → Lawful (Pool (Lend d u p k) ∷ H) → p ≡ Call k → heard_in H d u ≡ []
@@ -341,9 +341,9 @@ settles_replied H m reply c t n s all gone is =
     let it = lent_for H c t n is in
     let home_is = s.at_home c n it in
     let apart : n ≢ m = λ k.
-        let here : is_for n (place H (home H n)) ≡ true = rw home_is it in
-        let none : is_for n (place H (home H n)) ≡ false = rw k gone in
-        absurd (cc) in
+    let here : is_for n (place H (home H n)) ≡ true = rw home_is it in
+    let none : is_for n (place H (home H n)) ≡ false = rw k gone in
+    absurd (cc) in
     settles_still H (Replied m reply) c t n all is (other_record (calls H) m n (λ r. record r { decided = None }) apart) refl
 
 settles_heard : (H : List Event) (e : Entry) (c t n : ℕ) → SoundCalls H → AllSettle H → HeardFacts H e → place H c ≡ Lent t (Call n) → Settles (Heard e ∷ H) c t n

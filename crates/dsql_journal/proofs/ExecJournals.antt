@@ -9,10 +9,10 @@ use Rattle.dsql_driver.specs.declared.call.DriverCall.TheVariants.{Connect, Rese
 use Rattle.dsql_driver.specs.declared.call.Input.TheVariants.{Text, Handle}
 use Rattle.dsql_driver.specs.declared.answer.DriverAnswer.{DriverAnswer}
 use Rattle.dsql_driver.specs.declared.answer.DriverAnswer.TheVariants.{Done, Prepared, Bad, Fail, Memory}
-use Rattle.dsql_driver.specs.Fits.{fits_of, is_memory, is_failure, is_invalid, is_skip}
+use Rattle.dsql_driver.specs.Fits.{fits_of, is_memory, is_failure, is_invalid}
 use Rattle.dsql_journal.specs.declared.entry.Entry.{Entry}
 use Rattle.dsql_journal.specs.declared.entry.Owner.TheVariants.{Call}
-use Rattle.dsql_journal.specs.Kinds.{◌⇒◌, if_any, is_bad, is_call, is_connect, is_prepare, is_reset, is_valid, is_ping, is_next, is_number, runs_text, same_owner, cursor_of, handle_of, given_handle, given_cursor}
+use Rattle.dsql_journal.specs.Kinds.{◌⇒◌, if_any, is_bad, is_call, is_connect, is_prepare, is_reset, is_valid, is_ping, is_next, is_number, same_owner, cursor_of, given_handle, given_cursor}
 use Rattle.dsql_journal.specs.Readers.{LiveHandle, is_empty, of_tenure, last_tenure, handles, handles_after, handles_named, cursors, begun, begins, went_bad, went_invalid, bad_tenure}
 use Rattle.dsql_journal.specs.Tenure.{is_body, place, is_whole_tenure, has_ended_transactions, has_closed_cursors, has_closed_handles, closes_own_handle, follows_skip, runs_own_handle}
 use Rattle.dsql_journal.specs.HandlesAndCursors.{has_live_handle, has_transaction_of_handle, uses_handle_in_its_tenure, uses_handle_in_call_tenures}
@@ -23,7 +23,7 @@ use Rattle.dsql_journal.specs.ExecJournals.{Plain, Good}
 use Rattle.dsql_journal.proofs.Conjunctions.{join2, so_if}
 use Rattle.dsql_journal.proofs.Sentences.{of-MayFollow}
 use Rattle.dsql_journal.proofs.Tenures.{of_tenure-new, MayFollow-shut, IsWhole-shut}
-use Rattle.dsql_journal.proofs.ExecLines.{Step, Start, WasReset, WasSkipped, WasPrepared, WasRun, WasDone, WasTested, WasDropped, IsOther, step, goes, level, is_going, is_before_end, OneHandle, own_handle, gave, Live, SoFar, is_sent}
+use Rattle.dsql_journal.proofs.ExecLines.{Step, Start, WasReset, WasSkipped, WasPrepared, WasRun, WasTested, WasDropped, IsOther, step, goes, level, is_going, is_before_end, OneHandle, own_handle, gave, Live, SoFar, is_sent}
 
 -- A beginning with what may follow it is one.
 pub IsJournalPrefix-with : (e : Entry) (J : List Entry) → IsJournalPrefix J → may_follow J e ≡ true → IsJournalPrefix (e ∷ J)

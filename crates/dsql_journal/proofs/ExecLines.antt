@@ -1,7 +1,7 @@
 -- The tenure of an exec on the database, read newest first: how far it has come, and what is known of it there.
-use Rattle.std.proofs.Common.{◌≡◌, ◌≢◌, ℕ, ◌<◌, ◌≤◌, Bool, true, false, cond, not, ◌==◌, ◌&&◌, ◌||◌, List, [], ◌∷◌, Option, None, Some, refl, nat_le, nat_lt}
+use Rattle.std.proofs.Common.{◌≡◌, ℕ, ◌≤◌, Bool, true, false, ◌==◌, ◌&&◌, ◌||◌, List, [], ◌∷◌, None, refl, nat_le}
 use Rattle.std.specs.Prelude.{ℤ}
-use Rattle.std.specs.List.{list_all, list_any, filter}
+use Rattle.std.specs.List.{list_all, list_any}
 use native.Mathlib.Omega.{arith}
 use Rattle.std.proofs.lemmas.Bool.Decides.{nat_tests}
 use Rattle.dsql_driver.specs.declared.call.DriverCall.{DriverCall}
@@ -12,7 +12,6 @@ use Rattle.dsql_driver.specs.declared.answer.DriverAnswer.TheVariants.{Prepared,
 use Rattle.dsql_driver.specs.Fits.{is_skip}
 use Rattle.dsql_value.specs.declared.value.Param.{Param}
 use Rattle.dsql_journal.specs.declared.entry.Entry.{Entry}
-use Rattle.dsql_journal.specs.declared.entry.Owner.{Owner}
 use Rattle.dsql_journal.specs.declared.entry.Owner.TheVariants.{Call}
 use Rattle.dsql_journal.specs.Kinds.{◌⇒◌, is_number, is_ping, is_prepare, is_valid, runs_text, given_handle}
 use Rattle.dsql_journal.specs.Readers.{LiveHandle, handles, handles_after}

@@ -1,5 +1,5 @@
 -- A history goes on from itself, over each event, and over one history from another.
-use Rattle.std.proofs.Common.{◌≡◌, List, [], ◌∷◌, ◌++◌, refl, sym, ◌∙◌, ap, append_assoc}
+use Rattle.std.proofs.Common.{List, [], ◌∷◌, ◌++◌, refl, sym, ◌∙◌, ap, append_assoc}
 use Rattle.dsql_history.specs.declared.event.Event.{Event}
 use Rattle.dsql_player.specs.Extends.{Extends}
 

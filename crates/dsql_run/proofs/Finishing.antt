@@ -123,7 +123,7 @@ finishes_out ended final (inl same) out = rw (sym same) out
 finishes_out ended final (inr (inl memory)) out = absurd (cc (subst (λ r. ran_out r ≡ true) memory out))
 finishes_out ended final (inr (inr write)) out = write.1
 
-plays_ended : (played ended : Result (Unit {0}) Stop) (bytes rest : Option (List ℕ)) (calls : List (ℕ × Op)) → (ran_out ended ≡ true → ended ≡ played) → Plays played bytes rest calls → Plays ended bytes rest calls
+plays_ended : (played ended : Result (Unit {0}) Stop) (bytes rest : Option (List ℕ)) (calls : Said) → (ran_out ended ≡ true → ended ≡ played) → Plays played bytes rest calls → Plays ended bytes rest calls
 plays_ended played (Ok done) bytes rest calls same plays = subst (λ r. Plays r bytes rest calls) (sym (same refl)) plays
 plays_ended played (Err Read) bytes rest calls same plays = subst (λ r. Plays r bytes rest calls) (sym (same refl)) plays
 plays_ended played (Err Write) bytes rest calls same plays = plays_first played bytes rest calls plays
@@ -132,7 +132,7 @@ plays_ended played (Err (Refused number fault)) bytes rest calls same plays = su
 plays_ended played (Err Full) bytes rest calls same plays = plays_first played bytes rest calls plays
 
 -- what a run has of its script, by what is told at last
-pub plays_finished : (played ended final : Result (Unit {0}) Stop) (bytes rest : Option (List ℕ)) (calls : List (ℕ × Op)) → (ran_out ended ≡ true → ended ≡ played) → Finishes ended final → Plays played bytes rest calls → Plays final bytes rest calls
+pub plays_finished : (played ended final : Result (Unit {0}) Stop) (bytes rest : Option (List ℕ)) (calls : Said) → (ran_out ended ≡ true → ended ≡ played) → Finishes ended final → Plays played bytes rest calls → Plays final bytes rest calls
 plays_finished played ended final bytes rest calls same (inl is) plays = rw is (plays_ended played ended bytes rest calls same plays)
 plays_finished played ended final bytes rest calls same (inr (inl memory)) plays = rw memory (plays_first played bytes rest calls plays)
 plays_finished played ended final bytes rest calls same (inr (inr write)) plays = rw write.0 (plays_first played bytes rest calls plays)

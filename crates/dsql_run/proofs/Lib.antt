@@ -1,3 +1,6 @@
+pub mod Saying
+pub mod Body
+pub mod Heading
 pub mod Errors
 pub mod Reading
 pub mod WholeLines

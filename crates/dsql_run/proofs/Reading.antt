@@ -7,6 +7,7 @@ use Rattle.dsql_stream.proofs.AllLines.{all_lines-first, cut_where_long}
 use Rattle.dsql_script.specs.declared.fault.What.TheVariants.{Lines}
 use Rattle.dsql_script.specs.declared.fault.LineFault.TheVariants.{TooLong, TooMany}
 use Rattle.dsql_script.specs.declared.script.ScriptLine.{ScriptLine}
+use Rattle.dsql_script.specs.ScriptHead.{Progress, after as after_line}
 use Rattle.dsql_script.specs.ScriptLines.{read_of, most_lines}
 use Rattle.dsql_run.specs.declared.stop.Stop.{Stop}
 use Rattle.dsql_run.specs.declared.stop.Stop.TheVariants.{Read, Write, Memory, Refused, Full}
@@ -14,31 +15,31 @@ use Rattle.dsql_run.specs.Script.{script_from}
 use Rattle.dsql_run.specs.Runs.{ReadsOn, IsRefusal, StopsReading}
 
 -- what a line that is too long reads as
-read_long : (n : ℕ) (line : List ℕ) → 4096 < length line → read_of n line ≡ (if nat_le most_lines n then Err (TooMany Lines) else Err TooLong)
+read_long : (n : Progress) (line : List ℕ) → 4096 < length line → read_of n line ≡ (if nat_le most_lines n.lines then Err (TooMany Lines) else Err TooLong)
 read_long n line long = rw (lt-ltb 4096 (length line) long) refl
 
-refused_long : (n : ℕ) (b : Bool) (s : ScriptLine) → (if b then Err (TooMany Lines) else Err TooLong) ≡ Ok s → ⊥
-refused_long n true s h = cc h
-refused_long n false s h = cc h
+refused_long : (b : Bool) (s : ScriptLine) → (if b then Err (TooMany Lines) else Err TooLong) ≡ Ok s → ⊥
+refused_long true s h = cc h
+refused_long false s h = cc h
 
 -- a line that is taken is short enough
-taken_short : (n : ℕ) (line : List ℕ) (s : ScriptLine) → read_of n line ≡ Ok s → length line ≤ 4096
+taken_short : (n : Progress) (line : List ℕ) (s : ScriptLine) → read_of n line ≡ Ok s → length line ≤ 4096
 taken_short n line s read =
     elim (cases_lt 4096 (length line)) [
-      | inl long ↦ absurd (refused_long n (nat_le most_lines n) s (sym (read_long n line long) ∙ read))
+      | inl long ↦ absurd (refused_long (nat_le most_lines n.lines) s (sym (read_long n line long) ∙ read))
       | inr short ↦ omega (arith, short)
     ]
 
 -- a line that was cut reads as the whole one
-reads_as_first : (n : ℕ) (unread line : List ℕ) (after : Option (List ℕ)) → HandsOutLine unread after line → read_of n (first_line unread) ≡ read_of n line
+reads_as_first : (n : Progress) (unread line : List ℕ) (after : Option (List ℕ)) → HandsOutLine unread after line → read_of n (first_line unread) ≡ read_of n line
 reads_as_first n unread line after out =
     elim (cases_lt 4096 (length (first_line unread))) [
       | inl long ↦ read_long n (first_line unread) long ∙ sym (read_long n line ((cut_where_long unread line after out).1 long))
       | inr short ↦ ap (read_of n) (sym (out.whole (omega (arith, short))).0)
     ]
 
-pub reads_on : (n : ℕ) (there : Bool) (before after : Option (List ℕ)) (line : List ℕ) (s : ScriptLine) → there ≡ true → HandsOut there before after line → read_of n line ≡ Ok s
-    → ReadsOn (Some s) (option_map (script_from n) (option_map all_lines before)) (option_map (script_from (n + 1)) (option_map all_lines after))
+pub reads_on : (n : Progress) (there : Bool) (before after : Option (List ℕ)) (line : List ℕ) (s : ScriptLine) → there ≡ true → HandsOut there before after line → read_of n line ≡ Ok s
+    → ReadsOn (Some s) (option_map (script_from n) (option_map all_lines before)) (option_map (script_from (after_line n s)) (option_map all_lines after))
 reads_on n false before after line s is out read = absurd (cc is)
 reads_on n true None after line s is out read = rw out refl
 reads_on n true (Some unread) after line s is out read =
@@ -46,7 +47,7 @@ reads_on n true (Some unread) after line s is out read =
     let first : length (first_line unread) ≤ 4096 = elim (cases_lt 4096 (length (first_line unread))) [ inl long ↦ absurd (omega (arith, short, (cut_where_long unread line after out).1 long)) | inr short ↦ omega (arith, short) ] in
     rw ((out.whole first).1, all_lines-first unread out.there, reads_as_first n unread line after out, read) refl
 
-pub stops_reading : (n : ℕ) (there : Bool) (before after : Option (List ℕ)) (line : List ℕ) (stop : Stop) → there ≡ true → HandsOut there before after line → IsRefusal n line stop
+pub stops_reading : (n : Progress) (there : Bool) (before after : Option (List ℕ)) (line : List ℕ) (stop : Stop) → there ≡ true → HandsOut there before after line → IsRefusal n line stop
     → StopsReading (option_map (script_from n) (option_map all_lines before)) stop
 stops_reading n false before after line stop is out refusal = absurd (cc is)
 stops_reading n true None after line Read is out refusal = tt

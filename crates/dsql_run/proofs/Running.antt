@@ -1,6 +1,6 @@
 -- What a run has of its script, from its first event to its end.
-use Rattle.std.proofs.Common.{◌≡◌, ◌⊎◌, ℕ, ◌≤◌, true, false, List, [], ◌∷◌, ◌++◌, Option, Some, None, length, take, drop, refl, sym, ap, ◌∙◌, arith, inl, inr}
-use Rattle.std.specs.Prelude.{reverse, option_map, IfSome, Result, Ok, Err}
+use Rattle.std.proofs.Common.{◌≡◌, ◌⊎◌, ℕ, ◌≤◌, true, false, List, [], ◌∷◌, ◌++◌, Option, Some, None, length, take, drop, refl, sym, ap, subst, ◌∙◌, arith, inl, inr}
+use Rattle.std.specs.Prelude.{reverse, option_map, IfSome, IfOk, IfErr, Result, Ok, Err}
 use Rattle.std.proofs.lemmas.List.{append_assoc, append-nil, reverse-append, reverse-reverse, length-reverse, take-append-le, take-append-drop, take_all}
 use Rattle.std.proofs.lemmas.Option.{same_Some}
 use Rattle.dsql_driver.specs.declared.caps.Caps.{Caps}
@@ -18,9 +18,14 @@ use Rattle.dsql_player.specs.declared.halt.Halt.TheVariants as halts
 use Rattle.dsql_player.specs.Entered.{entered_calls}
 use Rattle.dsql_player.specs.Extends.{Extends}
 use Rattle.dsql_player.specs.Told.{with_gone}
-use Rattle.dsql_run.specs.Script.{Script, script_of, script_from, refused_at, with_calls, calls_of, SaysFirst}
+use Rattle.dsql_script.specs.ScriptHead.{unread, after}
+use Rattle.dsql_stream.specs.Lines.{SawTheEnd}
+use Rattle.dsql_run.specs.Script.{Script, Said, nothing, said_of, then, script_of, script_from, whole, refused_at, with_said, SaysFirst}
+use Rattle.dsql_run.specs.Reading.{HasRead, ReadTo, is_body}
+use Rattle.dsql_run.specs.declared.script.ScriptReader.{ScriptReader}
+use Rattle.dsql_run.proofs.Saying.{then-nothing, then-then, with_both, with_nothing, body_says}
 use Rattle.dsql_run.specs.Report.{with_text, oldest, Shows, ShowsFront, StopsBetween}
-use Rattle.dsql_run.specs.Runs.{ReadsOn, ReadsUpTo, StopsReading, IsPlayStop, Plays, CutAtLine, Wrote, stop_of_halt, stop_of_show}
+use Rattle.dsql_run.specs.Runs.{saying, to_come, TakesLine, DropsUnfinished, ReadsOn, ReadsUpTo, StopsReading, IsPlayStop, Plays, CutAtLine, Wrote, stop_of_halt, stop_of_show}
 use Rattle.dsql_run.specs.declared.show.ShowFault.{ShowFault}
 use Rattle.dsql_run.specs.declared.show.ShowFault.TheVariants as shows
 use Rattle.dsql_run.specs.declared.stop.Stop.{Stop}
@@ -28,7 +33,7 @@ use Rattle.dsql_run.specs.declared.stop.Stop.TheVariants.{Read, Write, Memory, R
 use Rattle.dsql_history.specs.Readers.Course.{has_ended}
 use Rattle.dsql_history.specs.Rules.House.{is_quiet}
 use Rattle.dsql_run.proofs.Showing.{text_on}
-use Rattle.dsql_run.proofs.WholeLines.{first_of_read}
+use Rattle.dsql_run.proofs.WholeLines.{first_of_read, nothing_read_ahead, reads_line, reads_up_to}
 
 pub no_text : (w : Option (List ℕ)) → with_text w [] ≡ w
 no_text None = refl
@@ -38,73 +43,124 @@ pub none_gone : (r : Option (List RetiredWire)) (caps : Caps) → with_gone r (R
 none_gone None caps = refl
 none_gone (Some rs) caps = ap Some (append-nil rs)
 
--- all of a script is to come at first
-pub script_begins : (left : Option (List ℕ)) (caps : Caps)
-    → option_map script_of left ≡ option_map (with_calls (entered_calls (Run 1 caps ∷ []))) (option_map (script_from 0) (option_map all_lines (ahead (record { pending = []; ended = false }) left)))
-script_begins None caps = refl
-script_begins (Some bytes) caps = refl
-
-both_calls : (a b : List (ℕ × Op)) (s : Script) → with_calls a (with_calls b s) ≡ with_calls (a ++ b) s
-both_calls a b s = ap (λ cs. record { calls = cs; refused = s.refused }) (sym (append_assoc a b s.calls))
-
--- a line was carried out
-pub script_goes_on : (whole before after : Option Script) (calls now : List (ℕ × Op)) (line : ScriptLine)
-    → whole ≡ option_map (with_calls calls) before → ReadsOn (Some line) before after → now ≡ calls ++ calls_of line → whole ≡ option_map (with_calls now) after
-script_goes_on whole before None calls now line is reads entered = is ∙ rw reads refl
-script_goes_on whole before (Some s) calls now line is reads entered = is ∙ rw (reads, entered) (ap Some (both_calls calls (calls_of line) s))
+-- a line was taken out
+script_goes_on : (all before rest : Option Script) (says : Said) (line : ScriptLine) → all ≡ option_map (with_said says) before → ReadsOn (Some line) before rest → all ≡ option_map (with_said (then says (said_of line))) rest
+script_goes_on all before None says line is reads = is ∙ rw reads refl
+script_goes_on all before (Some s) says line is reads = is ∙ rw reads (ap Some (with_both says (said_of line) s))
 
 -- the script's end was read
-pub script_ends : (left rest : Option (List ℕ)) (before after : Option Script) (calls : List (ℕ × Op)) (done : Unit {0})
-    → option_map script_of left ≡ option_map (with_calls calls) before → ReadsOn None before after → Plays (Ok done) left rest calls
-script_ends None rest before after calls done is reads = tt
-script_ends (Some bytes) rest None after calls done is reads = absurd (cc is)
-script_ends (Some bytes) rest (Some s) after calls done is reads = same_Some _ _ is ∙ rw reads (ap (λ cs. record { calls = cs; refused = None }) (append-nil calls))
+script_ends : (left rest : Option (List ℕ)) (before : Option Script) (says : Said) → option_map script_of left ≡ option_map (with_said says) before → IfSome before (λ s. s ≡ whole nothing) → Plays (Ok tt) left rest says
+script_ends None rest before says is reads = tt
+script_ends (Some bytes) rest None says is reads = absurd (cc is)
+script_ends (Some bytes) rest (Some s) says is reads = same_Some _ _ is ∙ rw reads (ap whole (then-nothing says))
 
-first_calls : (left : Option (List ℕ)) (before : Option Script) (calls : List (ℕ × Op)) → option_map script_of left ≡ option_map (with_calls calls) before → SaysFirst left calls
-first_calls None before calls is = tt
-first_calls (Some bytes) None calls is = absurd (cc is)
-first_calls (Some bytes) (Some s) calls is = record { rest = s.calls; parts = ap (λ t. t.calls) (same_Some _ _ is) }
+first_said : (left : Option (List ℕ)) (before : Option Script) (says : Said) → option_map script_of left ≡ option_map (with_said says) before → SaysFirst left says
+first_said None before says is = tt
+first_said (Some bytes) None says is = absurd (cc is)
+first_said (Some bytes) (Some s) says is = record { rest = s.says; parts = ap (λ t. t.says) (same_Some _ _ is) }
 
-refused_calls : (left rest : Option (List ℕ)) (before : Option Script) (calls : List (ℕ × Op)) (number : ℕ) (fault : LineFault)
-    → option_map script_of left ≡ option_map (with_calls calls) before → IfSome before (λ s. s ≡ refused_at number fault) → Plays (Err (Refused number fault)) left rest calls
-refused_calls None rest before calls number fault is at = tt
-refused_calls (Some bytes) rest None calls number fault is at = absurd (cc is)
-refused_calls (Some bytes) rest (Some s) calls number fault is at = same_Some _ _ is ∙ rw at (ap (λ cs. record { calls = cs; refused = Some (number, fault) }) (append-nil calls))
+refused_said : (left rest : Option (List ℕ)) (before : Option Script) (says : Said) (number : ℕ) (fault : LineFault)
+    → option_map script_of left ≡ option_map (with_said says) before → IfSome before (λ s. s ≡ refused_at number fault) → Plays (Err (Refused number fault)) left rest says
+refused_said None rest before says number fault is at = tt
+refused_said (Some bytes) rest None says number fault is at = absurd (cc is)
+refused_said (Some bytes) rest (Some s) says number fault is at = same_Some _ _ is ∙ rw at (ap (λ said. record { says = said; refused = Some (number, fault) }) (then-nothing says))
 
 -- no line could be read
-pub script_stops : (left rest : Option (List ℕ)) (before : Option Script) (calls : List (ℕ × Op)) (stop : Stop)
-    → option_map script_of left ≡ option_map (with_calls calls) before → StopsReading before stop → (stop ≡ Read → IfSome left (λ bytes. ReadsUpTo bytes rest calls)) → Plays (Err stop) left rest calls
-script_stops left rest before calls Read is stops read = read refl
-script_stops left rest before calls Write is stops read = absurd stops
-script_stops left rest before calls Memory is stops read = first_calls left before calls is
-script_stops left rest before calls (Refused number fault) is stops read = refused_calls left rest before calls number fault is stops
-script_stops left rest before calls Full is stops read = absurd stops
+script_stops : (left rest : Option (List ℕ)) (before : Option Script) (says : Said) (stop : Stop)
+    → option_map script_of left ≡ option_map (with_said says) before → StopsReading before stop → (stop ≡ Read → IfSome left (λ bytes. ReadsUpTo bytes rest says)) → Plays (Err stop) left rest says
+script_stops left rest before says Read is stops read = read refl
+script_stops left rest before says Write is stops read = absurd stops
+script_stops left rest before says Memory is stops read = first_said left before says is
+script_stops left rest before says (Refused number fault) is stops read = refused_said left rest before says number fault is stops
+script_stops left rest before says Full is stops read = absurd stops
 
-first_of_stopped : (left : Option (List ℕ)) (before after : Option Script) (calls now : List (ℕ × Op)) (line : ScriptLine)
-    → option_map script_of left ≡ option_map (with_calls calls) before → ReadsOn (Some line) before after → (now ≡ calls) ⊎ (now ≡ calls ++ calls_of line) → SaysFirst left now
-first_of_stopped left before after calls now line is reads (inl none) = rw none (first_calls left before calls is)
-first_of_stopped left before after calls now line is reads (inr all) = first_calls left after now (script_goes_on (option_map script_of left) before after calls now line is reads all)
+-- What a reader says that took a line out, or stopped.
+pub read_a_line : (before : Option (List ℕ)) (old new : ScriptReader) (left rest : Option (List ℕ)) (says : Said) (line : ScriptLine) → HasRead before old left says
+    → ReadsOn (Some line) (to_come old left) (to_come new rest) → (new.lines.ended ≡ false → TakesLine old.reader new.line.items line (ahead old.lines left) (ahead new.lines rest)) → (old.lines.ended ≡ true → new.lines.ended ≡ true)
+    → new.reader ≡ after old.reader line → SawTheEnd new.lines rest → HasRead before new rest (then says (said_of line))
+read_a_line before old new left rest says line h reads taken stays placed sees = record {
+  script = script_goes_on (option_map script_of before) (to_come old left) (to_come new rest) says line h.script reads;
+  lines = reads_line old.lines.ended new.lines.ended before (ahead old.lines left) (ahead new.lines rest) new.line.items old.reader new.reader line says stays h.lines taken placed;
+  sees = sees;
+}
 
--- a line couldn't be carried out or shown
-pub line_stops : (left rest : Option (List ℕ)) (before after : Option Script) (calls now : List (ℕ × Op)) (line : ScriptLine) (stop : Stop)
-    → option_map script_of left ≡ option_map (with_calls calls) before → ReadsOn (Some line) before after → (now ≡ calls) ⊎ (now ≡ calls ++ calls_of line) → IsPlayStop stop → Plays (Err stop) left rest now
-line_stops left rest before after calls now line Read is reads entered kind = absurd kind
-line_stops left rest before after calls now line Write is reads entered kind = first_of_stopped left before after calls now line is reads entered
-line_stops left rest before after calls now line Memory is reads entered kind = first_of_stopped left before after calls now line is reads entered
-line_stops left rest before after calls now line (Refused number fault) is reads entered kind = absurd kind
-line_stops left rest before after calls now line Full is reads entered kind = first_of_stopped left before after calls now line is reads entered
+pub read_the_end : (before : Option (List ℕ)) (old new : ScriptReader) (left rest : Option (List ℕ)) (says : Said) → HasRead before old left says
+    → ReadsOn None (to_come old left) (to_come new rest) → IfSome rest (λ bytes. bytes ≡ []) → Plays (Ok tt) before rest says × IfSome rest (λ bytes. bytes ≡ [])
+read_the_end before old new left rest says h reads none = (script_ends before rest (to_come old left) says h.script reads, none)
+
+pub read_no_line : (before : Option (List ℕ)) (old new : ScriptReader) (left rest : Option (List ℕ)) (says : Said) (stop : Stop) → HasRead before old left says → StopsReading (to_come old left) stop
+    → (stop ≡ Read → DropsUnfinished old.lines.ended new.line.items (ahead old.lines left) rest) → Plays (Err stop) before rest says
+read_no_line before old new left rest says stop h stops dropped =
+    script_stops before rest (to_come old left) says stop h.script stops
+    (λ read. reads_up_to old.lines.ended before (ahead old.lines left) rest new.line.items old.reader says h.lines (dropped read))
+
+-- what a reader says, whatever it came to
+pub reads_to : (result : Result (Option ScriptLine) Stop) (before : Option (List ℕ)) (old new : ScriptReader) (left rest : Option (List ℕ)) (says : Said) → HasRead before old left says
+    → IfOk result (λ line. ReadsOn line (to_come old left) (to_come new rest)) → IfOk result (λ line. IfSome line (λ it. new.lines.ended ≡ false → TakesLine old.reader new.line.items it (ahead old.lines left) (ahead new.lines rest)))
+    → (old.lines.ended ≡ true → new.lines.ended ≡ true) → IfOk result (λ line. IfSome line (λ it. new.reader ≡ after old.reader it)) → (result ≡ Ok None → SawTheEnd old.lines left → IfSome rest (λ bytes. bytes ≡ []))
+    → (SawTheEnd old.lines left → SawTheEnd new.lines rest) → IfErr result (StopsReading (to_come old left)) → (result ≡ Err Read → DropsUnfinished old.lines.ended new.line.items (ahead old.lines left) rest) → ReadTo result before new rest says
+reads_to (Ok (Some line)) before old new left rest says h reads taken stays placed end sees stops dropped = read_a_line before old new left rest says line h reads taken stays placed (sees h.sees)
+reads_to (Ok None) before old new left rest says h reads taken stays placed end sees stops dropped = read_the_end before old new left rest says h reads (end refl h.sees)
+reads_to (Err stop) before old new left rest says h reads taken stays placed end sees stops dropped = read_no_line before old new left rest says stop h stops (λ is. dropped (ap Err is))
+
+-- a reader that has read nothing
+pub read_nothing : (left : Option (List ℕ)) (reader : ScriptReader) → reader.lines ≡ record { pending = []; ended = false } → reader.reader ≡ unread → HasRead left reader left nothing
+read_nothing left reader lines none = record {
+  script = rw (lines, none) (begins left);
+  lines = rw (lines, none) (nothing_read_ahead left);
+  sees = λ h. absurd (cc (rw lines at h));
+}
+  where
+    begins : (l : Option (List ℕ)) → option_map script_of l ≡ option_map (with_said nothing) (option_map (script_from unread) (option_map all_lines (ahead (record { pending = []; ended = false }) l)))
+    begins None = refl
+    begins (Some bytes) = ap Some (sym (with_nothing (script_of bytes)))
+
+-- a line was read and couldn't be carried out or shown: its calls were entered, or weren't
+first_of_line : (left : Option (List ℕ)) (before : Option Script) (says : Said) (line : ScriptLine) → option_map script_of left ≡ option_map (with_said (then says (said_of line))) before → SaysFirst left says
+first_of_line None before says line is = tt
+first_of_line (Some bytes) None says line is = absurd (cc is)
+first_of_line (Some bytes) (Some s) says line is = record { rest = then (said_of line) s.says; parts = ap (λ t. t.says) (same_Some _ _ is) ∙ then-then says (said_of line) s.says }
+
+pub line_stops : (before : Option (List ℕ)) (reader : ScriptReader) (left rest : Option (List ℕ)) (asked : Option Caps) (calls now : List (ℕ × Op)) (line : ScriptLine) (stop : Stop) → is_body line ≡ true
+    → HasRead before reader left (then (saying asked calls) (said_of line)) → (now ≡ calls) ⊎ (now ≡ calls ++ (said_of line).calls) → IsPlayStop stop → Plays (Err stop) before rest (saying asked now)
+line_stops before reader left rest asked calls now line stop body h entered kind = by_kind stop kind
+  where
+    first : SaysFirst before (saying asked now)
+    first =
+        elim entered [
+          | inl none ↦ rw none (first_of_line before (to_come reader left) (saying asked calls) line h.script)
+          | inr all ↦ rw (all, ← body_says asked calls line body) (first_said before (to_come reader left) (then (saying asked calls) (said_of line)) h.script)
+        ]
+
+    by_kind : (s : Stop) → IsPlayStop s → Plays (Err s) before rest (saying asked now)
+    by_kind Read k = absurd k
+    by_kind Write k = first
+    by_kind Memory k = first
+    by_kind (Refused number fault) k = absurd k
+    by_kind Full k = first
+
+-- a line was carried out
+pub carried_out : (before : Option (List ℕ)) (reader : ScriptReader) (left : Option (List ℕ)) (asked : Option Caps) (calls now : List (ℕ × Op)) (line : ScriptLine) → is_body line ≡ true
+    → HasRead before reader left (then (saying asked calls) (said_of line)) → now ≡ calls ++ (said_of line).calls → HasRead before reader left (saying asked now)
+carried_out before reader left asked calls now line body h entered = subst (λ s. HasRead before reader left s) (body_says asked calls line body ∙ ap (saying asked) (sym entered)) h
 
 -- what a run has of its script whatever became of its report
-pub plays_first : (r : Result (Unit {0}) Stop) (left rest : Option (List ℕ)) (calls : List (ℕ × Op)) → Plays r left rest calls → SaysFirst left calls
-plays_first (Ok done) None rest calls plays = tt
-plays_first (Ok done) (Some bytes) rest calls plays = record { rest = []; parts = rw plays (sym (append-nil calls)) }
-plays_first (Err Read) None rest calls plays = tt
-plays_first (Err Read) (Some bytes) rest calls plays = first_of_read bytes rest calls plays
-plays_first (Err Write) left rest calls plays = plays
-plays_first (Err Memory) left rest calls plays = plays
-plays_first (Err Full) left rest calls plays = plays
-plays_first (Err (Refused number fault)) None rest calls plays = tt
-plays_first (Err (Refused number fault)) (Some bytes) rest calls plays = record { rest = []; parts = rw plays (sym (append-nil calls)) }
+pub plays_first : (r : Result (Unit {0}) Stop) (left rest : Option (List ℕ)) (says : Said) → Plays r left rest says → SaysFirst left says
+plays_first (Ok done) None rest says plays = tt
+plays_first (Ok done) (Some bytes) rest says plays = record { rest = nothing; parts = rw plays (sym (then-nothing says)) }
+plays_first (Err Read) None rest says plays = tt
+plays_first (Err Read) (Some bytes) rest says plays = first_of_read bytes rest says plays
+plays_first (Err Write) left rest says plays = plays
+plays_first (Err Memory) left rest says plays = plays
+plays_first (Err Full) left rest says plays = plays
+plays_first (Err (Refused number fault)) None rest says plays = tt
+plays_first (Err (Refused number fault)) (Some bytes) rest says plays = record { rest = nothing; parts = rw plays (sym (then-nothing says)) }
+
+-- What a reader says that was about to be played, where nothing was.
+pub read_first : (first : Result (Option ScriptLine) Stop) (before : Option (List ℕ)) (reader : ScriptReader) (left : Option (List ℕ)) (says : Said) → ReadTo first before reader left says → SaysFirst before says
+read_first (Ok None) before reader left says read = plays_first (Ok tt) before left says read.0
+read_first (Ok (Some line)) before reader left says read = first_of_line before (to_come reader left) says line read.script
+read_first (Err stop) before reader left says read = plays_first (Err stop) before left says read
 
 -- the first events of a history that goes on
 pub oldest_older : (n : ℕ) (old new : List Event) → Extends old new → n ≤ length old → oldest n new ≡ oldest n old
@@ -156,15 +212,12 @@ pub wrote_all : (w now : Option (List ℕ)) (n : ℕ) (past : List Event) (done 
 wrote_all w now n past done all is = is ∙ rw (all, oldest_all past) refl
 
 -- before the first line
-pub first_none : (stop : Stop) (left rest : Option (List ℕ)) (caps : Caps) → IsPlayStop stop → Plays (Err stop) left rest (entered_calls (Run 1 caps ∷ []))
-first_none Read left rest caps kind = absurd kind
-first_none Write None rest caps kind = tt
-first_none Write (Some bytes) rest caps kind = record { rest = (script_of bytes).calls; parts = refl }
-first_none Memory None rest caps kind = tt
-first_none Memory (Some bytes) rest caps kind = record { rest = (script_of bytes).calls; parts = refl }
-first_none (Refused number fault) left rest caps kind = absurd kind
-first_none Full None rest caps kind = tt
-first_none Full (Some bytes) rest caps kind = record { rest = (script_of bytes).calls; parts = refl }
+pub first_none : (stop : Stop) (first : Result (Option ScriptLine) Stop) (before : Option (List ℕ)) (reader : ScriptReader) (left rest : Option (List ℕ)) (says : Said) → IsPlayStop stop → ReadTo first before reader left says → Plays (Err stop) before rest says
+first_none Read first before reader left rest says kind read = absurd kind
+first_none Write first before reader left rest says kind read = read_first first before reader left says read
+first_none Memory first before reader left rest says kind read = read_first first before reader left says read
+first_none (Refused number fault) first before reader left rest says kind read = absurd kind
+first_none Full first before reader left rest says kind read = read_first first before reader left says read
 
 pub show_stops : (f : ShowFault) → IsPlayStop (stop_of_show f)
 show_stops shows.Failed = tt
@@ -195,7 +248,7 @@ stops_after_older w now n old new e all stop =
     rw same at stop
 
 -- the sink failed as the events of a line were written
-pub line_cut : (w now : Option (List ℕ)) (n : ℕ) (old new : List Event) (line : ScriptLine) → is_quiet old ≡ true → has_ended old ≡ false → Extends old new → n ≡ length old → entered_calls new ≡ entered_calls old ++ calls_of line
+pub line_cut : (w now : Option (List ℕ)) (n : ℕ) (old new : List Event) (line : ScriptLine) → is_quiet old ≡ true → has_ended old ≡ false → Extends old new → n ≡ length old → entered_calls new ≡ entered_calls old ++ (said_of line).calls
     → StopsBetween w (text_of (oldest n new)) (text_of new) now → CutAtLine w new now
 line_cut w now n old new line quiet running e all entered stop = record {
   before = old;

@@ -33,14 +33,16 @@ told_of_none (Ok done) risen w now told = (refl, told.1)
 told_of_none (Err stop) risen w now (inl all) = absurd (no_stop stop (sym all.status_is))
 told_of_none (Err stop) risen w now (inr part) = absurd (no_cut stop part.fault (sym part.status_is))
 
-whole_of_ran : (caps : Caps) (stopped : Result (Unit {0}) Stop) (before after : Seen) (one two : SeenNotes) → stopped ≡ Ok tt → two.written ≡ one.written → Ran caps stopped before after → PlaysWhole caps before after one two
-whole_of_ran caps (Err stop) before after one two is untold r = absurd (cc is)
-whole_of_ran caps (Ok done) before after one two is untold r = record {
+whole_of_ran : (stopped : Result (Unit {0}) Stop) (before after : Seen) (one two : SeenNotes) → stopped ≡ Ok tt → two.written ≡ one.written → Ran stopped before after → PlaysWhole before after one two
+whole_of_ran (Err stop) before after one two is untold r = absurd (cc is)
+whole_of_ran (Ok done) before after one two is untold r = record {
   history = r.history;
+  asked = r.asked;
   legal = r.legal;
   begins = r.begins;
   turns = r.turns;
   says = r.plays;
+  prefers = r.prefers;
   ended = r.ended refl;
   quiet = r.quiet refl;
   empty = r.empty refl;
@@ -50,16 +52,16 @@ whole_of_ran caps (Ok done) before after one two is untold r = record {
   untold = untold;
 }
 
-whole_of : (caps : Caps) (stopped : Result (Unit {0}) Stop) (before after : Seen) (one two : SeenNotes) → stopped ≡ Ok tt → two.written ≡ one.written → Ran caps stopped before after ⊎ NotBegun stopped before after
-    → PlaysWhole caps before after one two
-whole_of caps stopped before after one two is untold (inl r) = whole_of_ran caps stopped before after one two is untold r
-whole_of caps stopped before after one two is untold (inr n) = absurd (cc (sym is ∙ n.memory))
+whole_of : (stopped : Result (Unit {0}) Stop) (before after : Seen) (one two : SeenNotes) → stopped ≡ Ok tt → two.written ≡ one.written → Ran stopped before after ⊎ NotBegun stopped before after
+    → PlaysWhole before after one two
+whole_of stopped before after one two is untold (inl r) = whole_of_ran stopped before after one two is untold r
+whole_of stopped before after one two is untold (inr n) = absurd (cc (sym is ∙ n.memory))
 
 -- status 0 tells that the whole script was played
-pub whole_at_zero : (caps : Caps) (before after : Seen) (one two : SeenNotes) (status : ℕ) → status ≡ 0 → PlaysAndTells caps before after one two status → PlaysWhole caps before after one two
-whole_at_zero caps before after one two status is p =
+pub whole_at_zero : (before after : Seen) (one two : SeenNotes) (status : ℕ) → status ≡ 0 → PlaysAndTells before after one two status → PlaysWhole before after one two
+whole_at_zero before after one two status is p =
     let none = told_of_none p.stopped (has_risen one.faults two.faults) one.written two.written (subst (λ s. Tells p.stopped (has_risen one.faults two.faults) one.written two.written s) is p.told) in
-    whole_of caps p.stopped before after one two none.0 none.1 p.ran
+    whole_of p.stopped before after one two none.0 none.1 p.ran
 
 two_of_none : (stop : Stop) → status_of stop ≡ 2 → ⊥
 two_of_none Read is = cc is
@@ -82,8 +84,8 @@ two_is_no_status (Err stop) risen w now status is (inl all) = two_of_none stop (
 two_is_no_status (Err stop) risen w now status is (inr part) = two_of_no_cut stop part.fault (sym part.status_is ∙ is)
 
 -- no script's status is that of words
-pub not_two : (caps : Caps) (before after : Seen) (one two : SeenNotes) (status : ℕ) → PlaysAndTells caps before after one two status → status ≢ 2
-not_two caps before after one two status p is = two_is_no_status p.stopped (has_risen one.faults two.faults) one.written two.written status is p.told
+pub not_two : (before after : Seen) (one two : SeenNotes) (status : ℕ) → PlaysAndTells before after one two status → status ≢ 2
+not_two before after one two status p is = two_is_no_status p.stopped (has_risen one.faults two.faults) one.written two.written status is p.told
 
 -- nothing is done to the notes where the status is 0
 pub silent_at_zero : {P : Type 0} (stopped : Result (Unit {0}) Stop) (risen : Bool) (w now : Option (List ℕ)) (status : ℕ) → status ≡ 0 → Tells stopped risen w now status → OnOk stopped P → P
@@ -110,8 +112,8 @@ told_is_known (Err stop) risen w now status (inl all) = rw all.status_is (status
 told_is_known (Err stop) risen w now status (inr part) = rw part.status_is (failed_status_is_known stop part.fault)
 
 -- a run has one of the statuses
-pub known_of_run : (caps : Caps) (before after : Seen) (one two : SeenNotes) (status : ℕ) → PlaysAndTells caps before after one two status → is_status status ≡ true
-known_of_run caps before after one two status p = told_is_known p.stopped (has_risen one.faults two.faults) one.written two.written status p.told
+pub known_of_run : (before after : Seen) (one two : SeenNotes) (status : ℕ) → PlaysAndTells before after one two status → is_status status ≡ true
+known_of_run before after one two status p = told_is_known p.stopped (has_risen one.faults two.faults) one.written two.written status p.told
 
 pub known_of_words : (one two : SeenNotes) (status : ℕ) → RefusesWords one two status → is_status status ≡ true
 known_of_words one two status r = elim r.status_is [ inl done ↦ rw done refl | inr cut ↦ rw cut refl ]
@@ -139,8 +141,8 @@ stopped_at_three (Err stop) risen w now status is (inl all) =
 stopped_at_three (Err stop) risen w now status is (inr part) = absurd (three_of_no_cut stop part.fault (sym part.status_is ∙ is))
 
 -- status 3 comes of a fault of the source
-pub read_fault_at_three : (caps : Caps) (before after : Seen) (one two : SeenNotes) (status : ℕ) → status ≡ 3 → PlaysAndTells caps before after one two status → HasRisen before.read_faults after.read_faults
-read_fault_at_three caps before after one two status is p =
+pub read_fault_at_three : (before after : Seen) (one two : SeenNotes) (status : ℕ) → status ≡ 3 → PlaysAndTells before after one two status → HasRisen before.read_faults after.read_faults
+read_fault_at_three before after one two status is p =
     let at : p.stopped ≡ Err Read = (stopped_at_three p.stopped (has_risen one.faults two.faults) one.written two.written status is p.told).0 in
     elim p.ran [ inl r ↦ r.read_fault at | inr n ↦ absurd (cc (sym at ∙ n.memory)) ]
 
@@ -161,9 +163,9 @@ stopped_at_four (Err stop) risen w now status is (inl all) = inl (ap Err (write_
 stopped_at_four (Err stop) risen w now status is (inr part) = inr (part.caused (failed_at_four stop part.fault (sym part.status_is ∙ is)))
 
 -- status 4 comes of a fault of the output, or of the notes
-pub write_fault_at_four : (caps : Caps) (before after : Seen) (one two : SeenNotes) (status : ℕ) → status ≡ 4 → PlaysAndTells caps before after one two status
+pub write_fault_at_four : (before after : Seen) (one two : SeenNotes) (status : ℕ) → status ≡ 4 → PlaysAndTells before after one two status
     → HasRisen before.write_faults after.write_faults ⊎ HasRisen one.faults two.faults
-write_fault_at_four caps before after one two status is p =
+write_fault_at_four before after one two status is p =
     elim (stopped_at_four p.stopped (has_risen one.faults two.faults) one.written two.written status is p.told) [
       | inl at ↦ inl (elim p.ran [ inl r ↦ r.write_fault at | inr n ↦ absurd (cc (sym at ∙ n.memory)) ])
       | inr notes ↦ inr notes

@@ -17,8 +17,9 @@ use Rattle.dsql_player.specs.Turns.{Turns}
 use Rattle.dsql_script.specs.Lines.{text_of}
 use Rattle.dsql_run.specs.Notes.{Tells, usage_note}
 use Rattle.dsql_run.specs.Report.{with_text, ShowsFront}
-use Rattle.dsql_run.specs.Runs.{ran_out, Plays, Writes, CutShort}
-use Rattle.dsql_run.specs.Script.{Says}
+use Rattle.dsql_run.specs.Runs.{ran_out, saying, Plays, Writes, CutShort}
+use Rattle.dsql_run.specs.Script.{Says, whole}
+use Rattle.dsql_run.specs.Reading.{Prefers}
 use Rattle.dsql_run.specs.declared.stop.Stop.{Stop}
 use Rattle.dsql_run.specs.declared.stop.Stop.TheVariants.{Read, Write, Memory, Full}
 
@@ -29,29 +30,34 @@ pub record Seen : Type 0 where
   pub written : Option (List ℕ)
   pub write_faults : ℕ
   pub retired : Option (List RetiredWire)
+  pub ability : Caps
+  pub preferred : Option Caps
 
--- A run of a script: one legal history, what stopped it, what of the script it has, and what was written, read and given back.
-pub record Ran (caps : Caps) (stopped : Result Unit Stop) (before after : Seen) : Type 0 where
+-- A run of a script: one legal history, what stopped it, what of the script it has, and what was asked for, written, read and given back.
+pub record Ran (stopped : Result Unit Stop) (before after : Seen) : Type 0 where
   pub history : List Event
+  pub asked : Option Caps
   pub legal : Legal history
-  pub begins : Extends (Run 1 caps ∷ []) history
+  pub begins : Extends (Run 1 after.ability ∷ []) history
   pub turns : Turns history
-  pub plays : Plays stopped before.left after.left (entered_calls history)
+  pub plays : Plays stopped before.left after.left (saying asked (entered_calls history))
+  pub prefers : Prefers asked before.preferred after.preferred before.ability after.ability
   pub ended : ran_out stopped ≡ true → has_ended history ≡ true
   pub quiet : ran_out stopped ≡ true → is_quiet history ≡ true
   pub read : stopped ≡ Ok tt → IfSome after.left (λ bytes. bytes ≡ [])
   pub writes : Writes stopped (has_risen before.write_faults after.write_faults) before.written history after.written
-  pub cut : stopped ≡ Err Write → CutShort before.left after.left (has_risen before.read_faults after.read_faults) before.written history after.written
+  pub cut : stopped ≡ Err Write → CutShort before.left after.left asked (has_risen before.read_faults after.read_faults) before.written history after.written
   pub empty : ran_out stopped ≡ true → open_count history ≡ 0
   pub retired : ran_out stopped ≡ true → after.retired ≡ with_gone before.retired history
   pub read_fault : stopped ≡ Err Read → HasRisen before.read_faults after.read_faults
   pub write_fault : stopped ≡ Err Write → HasRisen before.write_faults after.write_faults
   pub full : stopped ≡ Err Full → most_events ≤ length history
 
--- there was no memory before the run's first event, and nothing was done
+-- There was no memory for the run's first event: nothing was written, and no connection was opened.
 pub record NotBegun (stopped : Result Unit Stop) (before after : Seen) : Type 0 where
   pub memory : stopped ≡ Err Memory
-  pub same : after ≡ before
+  pub unwritten : after.written ≡ before.written
+  pub unopened : after.retired ≡ before.retired
 
 -- what was seen of the notes: what they hold, and how often they failed
 pub record SeenNotes : Type 0 where
@@ -59,18 +65,20 @@ pub record SeenNotes : Type 0 where
   pub faults : ℕ
 
 -- A script was played, and what stopped it, if anything did, was told with its status.
-pub record PlaysAndTells (caps : Caps) (before after : Seen) (notes_before notes_after : SeenNotes) (status : ℕ) : Type 0 where
+pub record PlaysAndTells (before after : Seen) (notes_before notes_after : SeenNotes) (status : ℕ) : Type 0 where
   pub stopped : Result Unit Stop
-  pub ran : Ran caps stopped before after ⊎ NotBegun stopped before after
+  pub ran : Ran stopped before after ⊎ NotBegun stopped before after
   pub told : Tells stopped (has_risen notes_before.faults notes_after.faults) notes_before.written notes_after.written status
 
 -- The whole of a script was played: its report is the text of one legal history, and nothing was told.
-pub record PlaysWhole (caps : Caps) (before after : Seen) (notes_before notes_after : SeenNotes) : Type 0 where
+pub record PlaysWhole (before after : Seen) (notes_before notes_after : SeenNotes) : Type 0 where
   pub history : List Event
+  pub asked : Option Caps
   pub legal : Legal history
-  pub begins : Extends (Run 1 caps ∷ []) history
+  pub begins : Extends (Run 1 after.ability ∷ []) history
   pub turns : Turns history
-  pub says : Says before.left (record { calls = entered_calls history; refused = None })
+  pub says : Says before.left (whole (saying asked (entered_calls history)))
+  pub prefers : Prefers asked before.preferred after.preferred before.ability after.ability
   pub ended : has_ended history ≡ true
   pub quiet : is_quiet history ≡ true
   pub empty : open_count history ≡ 0

@@ -3,3 +3,4 @@ pub mod Report
 pub mod Runs
 pub mod Notes
 pub mod Headline
+pub mod Reading

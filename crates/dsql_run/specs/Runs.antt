@@ -1,5 +1,6 @@
 -- How a run ends, and what it has done then.
 use Rattle.std.specs.Prelude.{ℕ, ◌≡◌, ◌≢◌, ◌+◌, ◌⊎◌, Bool, true, false, ◌||◌, All, List, [], ◌∷◌, ◌++◌, Option, Some, None, IfSome, option_map, Result, Ok, Err}
+use Rattle.dsql_driver.specs.declared.caps.Caps.{Caps}
 use Rattle.dsql_driver.specs.Wires.{Told}
 use Rattle.dsql_history.specs.declared.event.Event.{Event}
 use Rattle.dsql_history.specs.declared.event.Op.{Op}
@@ -16,9 +17,10 @@ use Rattle.dsql_stream.specs.declared.lines.ReadFault.{ReadFault}
 use Rattle.dsql_stream.specs.declared.lines.ReadFault.TheVariants.{Failed as NoRead, Memory as NoMemory}
 use Rattle.dsql_stream.specs.Lines.{all_lines, ended_lines, ahead, TakesOff}
 use Rattle.dsql_script.specs.declared.script.ScriptLine.{ScriptLine}
+use Rattle.dsql_script.specs.ScriptHead.{Progress, unread}
 use Rattle.dsql_script.specs.ScriptLines.{read_of}
 use Rattle.dsql_script.specs.Lines.{text_of}
-use Rattle.dsql_run.specs.Script.{Script, Says, SaysFirst, script_from, no_lines, refused_at, with_calls, calls_of}
+use Rattle.dsql_run.specs.Script.{Script, Said, nothing, then, Says, SaysFirst, script_of, script_from, whole, refused_at, with_said, said_of}
 use Rattle.dsql_run.specs.Report.{with_text, Shows, ShowsFront, StopsBetween}
 use Rattle.dsql_run.specs.declared.script.ScriptReader.{ScriptReader}
 use Rattle.dsql_run.specs.declared.show.ShowFault.{ShowFault}
@@ -43,11 +45,11 @@ to_come reader left = option_map (script_from reader.reader) (option_map all_lin
 
 -- What was to come says what the line said and then what is to come now. Where there was no line, nothing was to come.
 abbrev pub ReadsOn : Option ScriptLine → Option Script → Option Script → Type 0
-ReadsOn (Some line) before after = before ≡ option_map (with_calls (calls_of line)) after
-ReadsOn None before after = IfSome before (λ script. script ≡ no_lines)
+ReadsOn (Some line) before after = before ≡ option_map (with_said (said_of line)) after
+ReadsOn None before after = IfSome before (λ script. script ≡ whole nothing)
 
--- A line was taken out with its line feed, where so many were read before it, and says this.
-pub record TakesLine (before : ℕ) (line : List ℕ) (says : ScriptLine) (old new : Option (List ℕ)) : Type 0 where
+-- A line was taken out with its line feed, where the script was read so far before it, and says this.
+pub record TakesLine (before : Progress) (line : List ℕ) (says : ScriptLine) (old new : Option (List ℕ)) : Type 0 where
   pub feedless : All (λ byte. byte ≢ 10) line
   pub taken : TakesOff (line ++ 10 ∷ []) old new
   pub is : read_of before line ≡ Ok says
@@ -66,9 +68,9 @@ StopsReading before (Refused number fault) = IfSome before (λ script. script �
 StopsReading before _ = Unit {0}
 
 -- the line is refused, or there was no memory
-abbrev pub IsRefusal : ℕ → List ℕ → Stop → Type 0
+abbrev pub IsRefusal : Progress → List ℕ → Stop → Type 0
 IsRefusal before line Memory = Unit {0}
-IsRefusal before line (Refused number fault) = (number ≡ before + 1) × (read_of before line ≡ Err fault)
+IsRefusal before line (Refused number fault) = (number ≡ before.lines + 1) × (read_of before line ≡ Err fault)
 IsRefusal before line _ = ⊥
 
 -- A run between two lines: nothing is left to be done, and each wire has heard its connection's journal.
@@ -95,20 +97,24 @@ Wrote (Err Write) w shown past now = ShowsFront w (text_of past) now
 Wrote (Err Memory) w shown past now = ShowsFront w (text_of past) now
 Wrote _ w shown past now = Shows w shown past now
 
--- These bytes were read, and what is left is what stands behind them. The calls are those of the lines that were read whole; none of these is refused.
-pub record ReadsUpTo (bytes : List ℕ) (after : Option (List ℕ)) (calls : List (ℕ × Op)) : Type 0 where
+-- These bytes were read, and what is left is what stands behind them. The lines that were read whole say this; none of them is refused.
+pub record ReadsUpTo (bytes : List ℕ) (after : Option (List ℕ)) (says : Said) : Type 0 where
   pub read : List ℕ
   pub rest : List ℕ
   pub left : after ≡ Some rest
   pub parts : bytes ≡ read ++ rest
-  pub says : script_from 0 (ended_lines read) ≡ record { calls = calls; refused = None }
+  pub lines : script_from unread (ended_lines read) ≡ whole says
 
--- The history has of the script, by what was left of the source before and after: all of its calls, those before a refused line, those of the lines that were read whole, or the first ones.
-abbrev pub Plays : Result Unit Stop → Option (List ℕ) → Option (List ℕ) → List (ℕ × Op) → Type 0
-Plays (Ok _) before after calls = Says before (record { calls = calls; refused = None })
-Plays (Err (Refused number fault)) before after calls = Says before (record { calls = calls; refused = Some (number, fault) })
-Plays (Err Read) before after calls = IfSome before (λ bytes. ReadsUpTo bytes after calls)
-Plays (Err _) before after calls = SaysFirst before calls
+-- The run has of the script, by what was left of the source before and after: all that its lines say, what those before a refused line say, what those say that were read whole, or what the first ones say.
+abbrev pub Plays : Result Unit Stop → Option (List ℕ) → Option (List ℕ) → Said → Type 0
+Plays (Ok _) before after says = Says before (whole says)
+Plays (Err (Refused number fault)) before after says = Says before (record { says = says; refused = Some (number, fault) })
+Plays (Err Read) before after says = IfSome before (λ bytes. ReadsUpTo bytes after says)
+Plays (Err _) before after says = SaysFirst before says
+
+-- what a script asks for and calls, where these calls were entered
+abbrev pub saying : Option Caps → List (ℕ × Op) → Said
+saying asked calls = record { caps = asked; calls = calls }
 
 -- the lines of a script came to an end: at its end, at a refused line, or at a fault of the source
 abbrev pub IsLinesEnd : Result Unit Stop → Type 0
@@ -128,24 +134,24 @@ pub record CutAtLine (w : Option (List ℕ)) (past : List Event) (now : Option (
   pub before : List Event
   pub rest : GoesOnFromRest before past
   pub line : ScriptLine
-  pub entered : entered_calls past ≡ entered_calls before ++ calls_of line
+  pub entered : entered_calls past ≡ entered_calls before ++ (said_of line).calls
   pub written : StopsBetween w (text_of before) (text_of past) now
 
 -- The sink failed as the end of the run was written: all before it was written, and not all of it. The lines had come to an end, as what was played of them says.
-pub record CutAtEnd (before after : Option (List ℕ)) (source_failed : Bool) (w : Option (List ℕ)) (rest past : List Event) (now : Option (List ℕ)) : Type 0 where
+pub record CutAtEnd (before after : Option (List ℕ)) (asked : Option Caps) (source_failed : Bool) (w : Option (List ℕ)) (rest past : List Event) (now : Option (List ℕ)) : Type 0 where
   pub played : Result Unit Stop
   pub over : IsLinesEnd played
-  pub plays : Plays played before after (entered_calls past)
+  pub plays : Plays played before after (saying asked (entered_calls past))
   pub read : played ≡ Ok tt → IfSome after (λ bytes. bytes ≡ [])
   pub caused : played ≡ Err Read → source_failed ≡ true
   pub written : StopsBetween w (text_of rest) (text_of past) now
 
 -- The sink failed at a line or at the end of the run. Its rest is the history as the last line had been carried out; no call entered after it.
-pub record CutShort (before after : Option (List ℕ)) (source_failed : Bool) (w : Option (List ℕ)) (past : List Event) (now : Option (List ℕ)) : Type 0 where
+pub record CutShort (before after : Option (List ℕ)) (asked : Option Caps) (source_failed : Bool) (w : Option (List ℕ)) (past : List Event) (now : Option (List ℕ)) : Type 0 where
   pub rest : List Event
   pub lines : GoesOnFromRest rest past
   pub entered : entered_calls past ≡ entered_calls rest
-  pub cut : CutAtLine w rest now ⊎ CutAtEnd before after source_failed w rest past now
+  pub cut : CutAtLine w rest now ⊎ CutAtEnd before after asked source_failed w rest past now
 
 -- What was written at the end: all of the text, or a beginning of it after a fault or for want of memory.
 abbrev pub Writes : Result Unit Stop → Bool → Option (List ℕ) → List Event → Option (List ℕ) → Type 0

@@ -8,8 +8,9 @@ ghost use Rattle.dsql_player.specs.Entered.{entered_calls};
 ghost use Rattle.dsql_player.specs.Extends.{Extends};
 ghost use Rattle.dsql_player.specs.Told.{with_gone};
 ghost use Rattle.dsql_player.specs.Turns.{Turns};
-ghost use Rattle.dsql_run.specs.Script.{calls_of};
+ghost use Rattle.dsql_run.specs.Script.{said_of};
 ghost use Rattle.dsql_run.specs.Report.{with_text};
+ghost use Rattle.dsql_run.specs.Reading.{is_body};
 ghost use Rattle.dsql_run.specs.Runs.{Between, ran_out, EntersLine, IsPlayStop, Wrote, CutAtLine};
 
 use crate::show::show;
@@ -20,17 +21,18 @@ use dsql_player::{Halt, Wires, carry_line};
 use dsql_script::ScriptLine;
 use std::alloc::Global;
 
-/// Carries a line out. An empty line or a comment changes nothing.
+/// Carries a line out that may stand behind a client's first one. A skipped line changes nothing.
 fn carry<F: Fleet>(
     engine: &mut Engine,
     wires: &mut Wires<F::Wire>,
     fleet: &mut F,
     line: ScriptLine,
 ) -> Result<(), Halt>
+    requires body { is_body line ≡ true }
     requires between { Between F.Wire.heard (is_some (F.retired fleet.old)) engine.old wires.old }
     ensures between { OnOk result (Between F.Wire.heard (is_some (F.retired fleet.new)) engine.new wires.new) }
-    ensures entered { OnOk result (entered_calls engine.new ≡ entered_calls engine.old ++ calls_of line) }
-    ensures stopped { OnErr result (EntersLine (calls_of line) engine.old engine.new) }
+    ensures entered { OnOk result (entered_calls engine.new ≡ entered_calls engine.old ++ (said_of line).calls) }
+    ensures stopped { OnErr result (EntersLine (said_of line).calls engine.old engine.new) }
     ensures gone { OnOk result ((r : Option (List RetiredWire)) → F.retired fleet.old ≡ with_gone r engine.old → F.retired fleet.new ≡ with_gone r engine.new) }
     ensures extends { Extends engine.old engine.new }
     ensures turns { Turns engine.new }
@@ -41,6 +43,7 @@ fn carry<F: Fleet>(
 {
     match line {
         ScriptLine::Skip => Ok(()),
+        ScriptLine::Version(_) | ScriptLine::UseCaps(_) => unreachable!(),
         ScriptLine::Client { client, op } => carry_line(engine, wires, fleet, client, op),
     }
 }
@@ -55,11 +58,12 @@ pub(crate) fn play_line<K: Sink, F: Fleet>(
     fleet: &mut F,
     line: ScriptLine,
 ) -> Result<(), Stop>
+    requires body { is_body line ≡ true }
     requires between { Between F.Wire.heard (is_some (F.retired fleet.old)) engine.old wires.old }
     requires shown { shown.old ≡ length engine.old }
     ensures between { ran_out result ≡ true → Between F.Wire.heard (is_some (F.retired fleet.new)) engine.new wires.new }
-    ensures entered { OnOk result (entered_calls engine.new ≡ entered_calls engine.old ++ calls_of line) }
-    ensures stopped { OnErr result (EntersLine (calls_of line) engine.old engine.new) }
+    ensures entered { OnOk result (entered_calls engine.new ≡ entered_calls engine.old ++ (said_of line).calls) }
+    ensures stopped { OnErr result (EntersLine (said_of line).calls engine.old engine.new) }
     ensures gone { ran_out result ≡ true → (r : Option (List RetiredWire)) → F.retired fleet.old ≡ with_gone r engine.old → F.retired fleet.new ≡ with_gone r engine.new }
     ensures shown { OnOk result (shown.new ≡ length engine.new) }
     ensures within { shown.new ≤ length engine.new }

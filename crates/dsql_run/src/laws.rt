@@ -1,18 +1,17 @@
 //! What follows from the definitions of runs: each law is the contract of a function that does nothing.
 
 ghost use Rattle.std.specs.Prelude.{◌≡◌, ◌⊎◌, ℕ, List, Option, Bool, true, Result, Ok, Err};
-ghost use Rattle.dsql_history.specs.declared.event.Op.{Op};
 ghost use Rattle.dsql_script.specs.declared.fault.LineFault.{LineFault};
-ghost use Rattle.dsql_run.specs.Script.{script_of, Begins};
+ghost use Rattle.dsql_run.specs.Script.{Said, script_of, BeginsSaying};
 ghost use Rattle.dsql_run.specs.Report.{with_text};
 ghost use Rattle.dsql_run.specs.Runs.{ReadsUpTo};
 ghost use Rattle.dsql_run.specs.Notes.{note_of, Tells};
 ghost use Rattle.dsql_run.specs.declared.stop.Stop.{Stop as Stopped};
 ghost use Rattle.dsql_run.specs.declared.stop.Stop.TheVariants.{Read, Write, Refused, Full};
 
-/// The calls of the lines that were read whole are the script's first calls.
+/// What the lines say that were read whole, the script says first.
 pub fn lines_read_whole_come_first()
-    ensures { (bytes : List ℕ) (after : Option (List ℕ)) (calls : List (ℕ × Op)) → ReadsUpTo bytes after calls → Begins calls (script_of bytes).calls }
+    ensures { (bytes : List ℕ) (after : Option (List ℕ)) (says : Said) → ReadsUpTo bytes after says → BeginsSaying says (script_of bytes).says }
 {}
 
 /// What stopped a run shows in its status, and in what the notes got.

@@ -1,4 +1,5 @@
-ghost use Rattle.std.specs.Prelude.{◌≡◌, ◌≤◌, ◌||◌, ℕ, List, [], ◌∷◌, Option, true, false, length, OnOk, IfOk, IfSome, is_some};
+ghost use Rattle.std.specs.Prelude.{◌≡◌, ◌≤◌, ◌||◌, ◌⊎◌, ℕ, Bool, List, [], ◌∷◌, Option, true, false, length, OnOk, IfOk, IfErr, IfSome, is_some};
+ghost use Rattle.dsql_driver.specs.declared.caps.Caps.{Caps};
 ghost use Rattle.dsql_driver.specs.Streams.{HasRisen, has_risen};
 ghost use Rattle.dsql_driver.specs.Wires.{RetiredWire};
 ghost use Rattle.dsql_history.specs.declared.event.Event.TheVariants.{Run};
@@ -13,7 +14,11 @@ ghost use Rattle.dsql_player.specs.Extends.{Extends};
 ghost use Rattle.dsql_player.specs.Told.{with_gone};
 ghost use Rattle.dsql_player.specs.Turns.{Turns};
 ghost use Rattle.dsql_run.specs.Report.{oldest, Shows, StopsBetween};
-ghost use Rattle.dsql_run.specs.Runs.{Between, ran_out, Plays, IsLinesEnd, CutAtLine, CutShort, Wrote, Writes, Finishes, failed, is_cut, later_stop};
+ghost use Rattle.dsql_script.specs.declared.script.Head.{Head};
+ghost use Rattle.dsql_run.specs.Runs.{Between, ran_out, saying, Plays, IsLinesEnd, CutAtLine, CutShort, Wrote, Writes, Finishes, failed, is_cut, later_stop};
+ghost use Rattle.dsql_run.specs.Script.{nothing};
+ghost use Rattle.dsql_run.specs.Reading.{HasRead, ReadTo, ReadsHead, IsBodyLine, IsReadStop};
+ghost use Rattle.dsql_run.specs.Headline.{Ran, NotBegun};
 
 use crate::carrying::play_line;
 use crate::script::ScriptReader;
@@ -22,14 +27,45 @@ use crate::stop::Stop;
 use dsql_driver::{Fleet, Sink, Source};
 use dsql_engine::Engine;
 use dsql_player::{Halt, Wires, carry_end, retire_all};
+use dsql_script::ScriptLine;
 use std::alloc::Global;
 
-/// Plays a script's lines one after another, each as soon as it is read, and writes what happened.
+/// Reads a script's first lines up to the first one of a client, which is handed out, if there is one, and
+/// asks the fleet for what a caps line among them names.
+fn read_head<S: Source, F: Fleet>(
+    alloc: Global,
+    script: &mut ScriptReader,
+    input: &mut S,
+    fleet: &mut F,
+) -> Result<Option<ScriptLine>, Stop>
+    ensures reads { (before : Option (List ℕ)) → HasRead before script.old (S.left input.old) nothing → ReadsHead before result script.new (S.left input.new) (F.preferred fleet.old) (F.preferred fleet.new) (F.ability fleet.old) (F.ability fleet.new) }
+    ensures body { IfOk result IsBodyLine }
+    ensures begun { IfOk result (λ line. IfSome line (λ _. script.new.reader.head ≡ Head.Begun)) }
+    ensures few { IfOk result (λ line. IfSome line (λ _. script.new.reader.lines ≤ 10000)) }
+    ensures failed { result ≡ Err Stop.Read → HasRisen (S.faults input.old) (S.faults input.new) }
+    ensures readable { IfErr result IsReadStop }
+    ensures counted { S.faults input.old ≤ S.faults input.new }
+    ensures retired { F.retired fleet.new ≡ F.retired fleet.old }
+{
+    while let Some(line) = script.next(alloc, input)? {
+        match line {
+            ScriptLine::Skip | ScriptLine::Version(_) => {}
+            ScriptLine::UseCaps(caps) => fleet.prefer(caps),
+            ScriptLine::Client { client, op } => return Ok(Some(ScriptLine::Client { client, op })),
+        }
+    }
+    Ok(None)
+}
+
+/// Plays a script's lines one after another from the first one of a client, each as soon as it is read,
+/// and writes what happened.
 fn play_lines<S: Source, K: Sink, F: Fleet>(
     alloc: Global,
     engine: &mut Engine,
     wires: &mut Wires<F::Wire>,
     shown: &mut usize,
+    script: &mut ScriptReader,
+    first: Result<Option<ScriptLine>, Stop>,
     input: &mut S,
     output: &mut K,
     fleet: &mut F,
@@ -37,17 +73,22 @@ fn play_lines<S: Source, K: Sink, F: Fleet>(
     requires begun { engine.old ≡ Run 1 (F.ability fleet.old) ∷ [] }
     requires between { Between F.Wire.heard (is_some (F.retired fleet.old)) engine.old wires.old }
     requires shown { shown.old ≡ 0 }
+    requires body { IfOk first IsBodyLine }
+    requires headed { IfOk first (λ line. IfSome line (λ _. script.old.reader.head ≡ Head.Begun)) }
+    requires few { IfOk first (λ line. IfSome line (λ _. script.old.reader.lines ≤ 10000)) }
+    requires readable { IfErr first IsReadStop }
     ensures between { ran_out result ≡ true → Between F.Wire.heard (is_some (F.retired fleet.new)) engine.new wires.new }
     ensures gone { ran_out result ≡ true → F.retired fleet.new ≡ with_gone (F.retired fleet.old) engine.new }
-    ensures plays { Plays result (S.left input.old) (S.left input.new) (entered_calls engine.new) }
+    ensures plays { (before : Option (List ℕ)) (asked : Option Caps) → ReadTo first before script.old (S.left input.old) (saying asked []) → Plays result before (S.left input.new) (saying asked (entered_calls engine.new)) }
     ensures cut { result ≡ Err Stop.Write → CutAtLine (K.written output.old) engine.new (K.written output.new) }
-    ensures end { OnOk result (IfSome (S.left input.new) (λ bytes. bytes ≡ [])) }
+    ensures end { OnOk result ((before : Option (List ℕ)) (asked : Option Caps) → ReadTo first before script.old (S.left input.old) (saying asked []) → IfSome (S.left input.new) (λ bytes. bytes ≡ [])) }
     ensures within { shown.new ≤ length engine.new }
     ensures shown { IsLinesEnd result → shown.new ≡ length engine.new }
     ensures wrote { Wrote result (K.written output.old) shown.new engine.new (K.written output.new) }
-    ensures read_fault { result ≡ Err Stop.Read → HasRisen (S.faults input.old) (S.faults input.new) }
+    ensures read_fault { result ≡ Err Stop.Read → first ≡ Err Stop.Read ⊎ HasRisen (S.faults input.old) (S.faults input.new) }
     ensures write_fault { result ≡ Err Stop.Write → HasRisen (K.faults output.old) (K.faults output.new) }
     ensures counted { K.faults output.old ≤ K.faults output.new }
+    ensures read_on { S.faults input.old ≤ S.faults input.new }
     ensures full { result ≡ Err Stop.Full → most_events ≤ length engine.new }
     ensures extends { Extends engine.old engine.new }
     ensures turns { Turns engine.new }
@@ -55,10 +96,11 @@ fn play_lines<S: Source, K: Sink, F: Fleet>(
     ensures preferred { F.preferred fleet.new ≡ F.preferred fleet.old }
     ensures legal { Legal engine.new }
 {
-    let mut script = ScriptReader::new(alloc)?;
     show(alloc, engine, shown, output)?;
-    while let Some(line) = script.next(alloc, input)? {
+    let mut next = first?;
+    while let Some(line) = next {
         play_line(alloc, engine, wires, shown, output, fleet, line)?;
+        next = script.next(alloc, input)?;
     }
     Ok(())
 }
@@ -169,34 +211,35 @@ fn finish<K: Sink>(
     }
 }
 
-/// Plays a script from the source to its end, and writes its report into the sink. The run ends early
-/// at the first line that is refused, and where the source or the sink fails; its connections are shut
-/// and given back to the fleet even then.
-///
-/// # Errors
-///
-/// What stopped the script, or the sink's fault or want of memory where these came later.
-pub fn play<S: Source, K: Sink, F: Fleet>(
+/// Plays a script from its first line of a client on, and writes the report into the sink.
+fn play_from<S: Source, K: Sink, F: Fleet>(
     alloc: Global,
     engine: &mut Engine,
+    script: &mut ScriptReader,
+    first: Result<Option<ScriptLine>, Stop>,
     input: &mut S,
     output: &mut K,
     fleet: &mut F,
 ) -> Result<(), Stop>
     requires begun { engine.old ≡ Run 1 (F.ability fleet.old) ∷ [] }
     requires legal { Legal engine.old }
+    requires body { IfOk first IsBodyLine }
+    requires headed { IfOk first (λ line. IfSome line (λ _. script.old.reader.head ≡ Head.Begun)) }
+    requires few { IfOk first (λ line. IfSome line (λ _. script.old.reader.lines ≤ 10000)) }
+    requires readable { IfErr first IsReadStop }
     ensures legal { Legal engine.new }
     ensures begins { Extends engine.old engine.new }
-    ensures plays { Plays result (S.left input.old) (S.left input.new) (entered_calls engine.new) }
+    ensures plays { (before : Option (List ℕ)) (asked : Option Caps) → ReadTo first before script.old (S.left input.old) (saying asked []) → Plays result before (S.left input.new) (saying asked (entered_calls engine.new)) }
     ensures turns { Turns engine.new }
     ensures ended { ran_out result ≡ true → has_ended engine.new ≡ true }
     ensures quiet { ran_out result ≡ true → is_quiet engine.new ≡ true }
-    ensures read { OnOk result (IfSome (S.left input.new) (λ bytes. bytes ≡ [])) }
+    ensures read { OnOk result ((before : Option (List ℕ)) (asked : Option Caps) → ReadTo first before script.old (S.left input.old) (saying asked []) → IfSome (S.left input.new) (λ bytes. bytes ≡ [])) }
     ensures writes { Writes result (has_risen (K.faults output.old) (K.faults output.new)) (K.written output.old) engine.new (K.written output.new) }
-    ensures cut { result ≡ Err Stop.Write → CutShort (S.left input.old) (S.left input.new) (has_risen (S.faults input.old) (S.faults input.new)) (K.written output.old) engine.new (K.written output.new) }
+    ensures cut { result ≡ Err Stop.Write → (before : Option (List ℕ)) (asked : Option Caps) (failed : Bool) → ReadTo first before script.old (S.left input.old) (saying asked []) → (first ≡ Err Stop.Read → failed ≡ true) → (HasRisen (S.faults input.old) (S.faults input.new) → failed ≡ true) → CutShort before (S.left input.new) asked failed (K.written output.old) engine.new (K.written output.new) }
     ensures empty { ran_out result ≡ true → open_count engine.new ≡ 0 }
     ensures retired { ran_out result ≡ true → F.retired fleet.new ≡ with_gone (F.retired fleet.old) engine.new }
-    ensures read_fault { result ≡ Err Stop.Read → HasRisen (S.faults input.old) (S.faults input.new) }
+    ensures read_fault { result ≡ Err Stop.Read → first ≡ Err Stop.Read ⊎ HasRisen (S.faults input.old) (S.faults input.new) }
+    ensures read_on { S.faults input.old ≤ S.faults input.new }
     ensures write_fault { result ≡ Err Stop.Write → HasRisen (K.faults output.old) (K.faults output.new) }
     ensures full { result ≡ Err Stop.Full → most_events ≤ length engine.new }
     ensures ability { F.ability fleet.new ≡ F.ability fleet.old }
@@ -204,7 +247,41 @@ pub fn play<S: Source, K: Sink, F: Fleet>(
 {
     let mut wires = Wires::new(alloc);
     let mut shown = 0;
-    let played = play_lines(alloc, engine, &mut wires, &mut shown, input, output, fleet);
+    let played = play_lines(
+        alloc, engine, &mut wires, &mut shown, script, first, input, output, fleet,
+    );
     let ended = close(engine, wires, fleet, played);
     finish(alloc, engine, &mut shown, output, played, ended)
+}
+
+/// Plays a script from the source to its end, and writes its report into the sink. The run begins at the
+/// first line of a client, or at the script's end, with what the fleet can do then. It ends early at the
+/// first line that is refused, and where the source or the sink fails; its connections are shut and given
+/// back to the fleet even then.
+///
+/// # Errors
+///
+/// What stopped the script, or the sink's fault or want of memory where these came later.
+pub fn play<S: Source, K: Sink, F: Fleet>(
+    alloc: Global,
+    input: &mut S,
+    output: &mut K,
+    fleet: &mut F,
+) -> Result<(), Stop>
+    ensures ran { Ran result
+        (record { left = S.left input.old; read_faults = S.faults input.old; written = K.written output.old; write_faults = K.faults output.old; retired = F.retired fleet.old; ability = F.ability fleet.old; preferred = F.preferred fleet.old })
+        (record { left = S.left input.new; read_faults = S.faults input.new; written = K.written output.new; write_faults = K.faults output.new; retired = F.retired fleet.new; ability = F.ability fleet.new; preferred = F.preferred fleet.new })
+        ⊎ NotBegun result
+        (record { left = S.left input.old; read_faults = S.faults input.old; written = K.written output.old; write_faults = K.faults output.old; retired = F.retired fleet.old; ability = F.ability fleet.old; preferred = F.preferred fleet.old })
+        (record { left = S.left input.new; read_faults = S.faults input.new; written = K.written output.new; write_faults = K.faults output.new; retired = F.retired fleet.new; ability = F.ability fleet.new; preferred = F.preferred fleet.new }) }
+{
+    let mut script = ScriptReader::new(alloc)?;
+    let first = read_head(alloc, &mut script, input, fleet);
+    let Ok(engine) = Engine::new(alloc, 1, fleet.caps()) else {
+        return Err(Stop::Memory);
+    };
+    let mut engine = engine;
+    play_from(
+        alloc, &mut engine, &mut script, first, input, output, fleet,
+    )
 }

@@ -5,9 +5,7 @@ ghost use Rattle.dsql_run.specs.Headline.{PlaysAndTells, PlaysWhole, RefusesWord
 
 use crate::notes::{tell, tell_usage};
 use crate::playing::play;
-use crate::stop::Stop;
 use dsql_driver::{Clock, Fleet, Gate, Sink, Source};
-use dsql_engine::Engine;
 use dsql_value::Txt;
 use std::alloc::Global;
 
@@ -29,22 +27,14 @@ fn run<S: Source, K: Sink, E: Sink, F: Fleet>(
     notes: &mut E,
     fleet: &mut F,
 ) -> u8
-    ensures ran { PlaysAndTells (F.ability fleet.old)
-        (record { left = S.left input.old; read_faults = S.faults input.old; written = K.written output.old; write_faults = K.faults output.old; retired = F.retired fleet.old })
-        (record { left = S.left input.new; read_faults = S.faults input.new; written = K.written output.new; write_faults = K.faults output.new; retired = F.retired fleet.new })
+    ensures ran { PlaysAndTells
+        (record { left = S.left input.old; read_faults = S.faults input.old; written = K.written output.old; write_faults = K.faults output.old; retired = F.retired fleet.old; ability = F.ability fleet.old; preferred = F.preferred fleet.old })
+        (record { left = S.left input.new; read_faults = S.faults input.new; written = K.written output.new; write_faults = K.faults output.new; retired = F.retired fleet.new; ability = F.ability fleet.new; preferred = F.preferred fleet.new })
         (record { written = E.written notes.old; faults = E.faults notes.old }) (record { written = E.written notes.new; faults = E.faults notes.new }) result }
     ensures silent { result ≡ 0 → notes.new ≡ notes.old }
-    ensures ability { F.ability fleet.new ≡ F.ability fleet.old }
-    ensures preferred { F.preferred fleet.new ≡ F.preferred fleet.old }
 {
-    match Engine::new(alloc, 1, fleet.caps()) {
-        Ok(engine) => {
-            let mut engine = engine;
-            let stopped = play(alloc, &mut engine, input, output, fleet);
-            tell(alloc, &stopped, notes)
-        }
-        Err(_) => tell(alloc, &Err(Stop::Memory), notes),
-    }
+    let stopped = play(alloc, input, output, fleet);
+    tell(alloc, &stopped, notes)
 }
 
 /// Runs the program: `words` are what it was called with, without its name, and the answer is its exit
@@ -75,15 +65,15 @@ pub fn sqlrun<S: Source, K: Sink, E: Sink, F: Fleet, C: Clock, G: Gate>(
     _gate: &G,
 ) -> u8
     // The report of a script that was played to its end is the text of one legal history.
-    ensures headline { is_play words.now ≡ true → result ≡ 0 → PlaysWhole (F.ability fleet.old)
-        (record { left = S.left input.old; read_faults = S.faults input.old; written = K.written output.old; write_faults = K.faults output.old; retired = F.retired fleet.old })
-        (record { left = S.left input.new; read_faults = S.faults input.new; written = K.written output.new; write_faults = K.faults output.new; retired = F.retired fleet.new })
+    ensures headline { is_play words.now ≡ true → result ≡ 0 → PlaysWhole
+        (record { left = S.left input.old; read_faults = S.faults input.old; written = K.written output.old; write_faults = K.faults output.old; retired = F.retired fleet.old; ability = F.ability fleet.old; preferred = F.preferred fleet.old })
+        (record { left = S.left input.new; read_faults = S.faults input.new; written = K.written output.new; write_faults = K.faults output.new; retired = F.retired fleet.new; ability = F.ability fleet.new; preferred = F.preferred fleet.new })
         (record { written = E.written notes.old; faults = E.faults notes.old }) (record { written = E.written notes.new; faults = E.faults notes.new }) }
 
     // At each status the report is the text of one legal history, or a beginning of it.
-    ensures ran { is_play words.now ≡ true → PlaysAndTells (F.ability fleet.old)
-        (record { left = S.left input.old; read_faults = S.faults input.old; written = K.written output.old; write_faults = K.faults output.old; retired = F.retired fleet.old })
-        (record { left = S.left input.new; read_faults = S.faults input.new; written = K.written output.new; write_faults = K.faults output.new; retired = F.retired fleet.new })
+    ensures ran { is_play words.now ≡ true → PlaysAndTells
+        (record { left = S.left input.old; read_faults = S.faults input.old; written = K.written output.old; write_faults = K.faults output.old; retired = F.retired fleet.old; ability = F.ability fleet.old; preferred = F.preferred fleet.old })
+        (record { left = S.left input.new; read_faults = S.faults input.new; written = K.written output.new; write_faults = K.faults output.new; retired = F.retired fleet.new; ability = F.ability fleet.new; preferred = F.preferred fleet.new })
         (record { written = E.written notes.old; faults = E.faults notes.old }) (record { written = E.written notes.new; faults = E.faults notes.new }) result }
     ensures accepted { is_play words.now ≡ true → result ≢ 2 }
 
@@ -92,8 +82,6 @@ pub fn sqlrun<S: Source, K: Sink, E: Sink, F: Fleet, C: Clock, G: Gate>(
     ensures silent { is_play words.now ≡ true → result ≡ 0 → notes.new ≡ notes.old }
     ensures read_fault { is_play words.now ≡ true → result ≡ 3 → HasRisen (S.faults input.old) (S.faults input.new) }
     ensures write_fault { is_play words.now ≡ true → result ≡ 4 → HasRisen (K.faults output.old) (K.faults output.new) ⊎ HasRisen (E.faults notes.old) (E.faults notes.new) }
-    ensures ability { F.ability fleet.new ≡ F.ability fleet.old }
-    ensures preferred { F.preferred fleet.new ≡ F.preferred fleet.old }
 
     // Words that aren't accepted.
     ensures refused { is_play words.now ≡ false → RefusesWords (record { written = E.written notes.old; faults = E.faults notes.old }) (record { written = E.written notes.new; faults = E.faults notes.new }) result }

@@ -1,7 +1,11 @@
-ghost use Rattle.std.specs.Prelude.{◌≡◌, ◌≢◌, ◌+◌, ◌≤◌, ℕ, true, false, [], None, IfOk, IfErr, OnOk, OnErr, IfSome, is_some};
+ghost use Rattle.std.specs.Prelude.{◌≡◌, ◌≢◌, ◌+◌, ◌≤◌, ℕ, List, Option, true, false, [], None, IfOk, IfErr, OnOk, OnErr, IfSome, is_some};
 ghost use Rattle.dsql_driver.specs.Streams.{HasRisen};
 ghost use Rattle.dsql_stream.specs.Lines.{ahead, SawTheEnd};
+ghost use Rattle.dsql_script.specs.ScriptHead.{unread, after};
 ghost use Rattle.dsql_script.specs.ScriptLines.{read_of};
+ghost use Rattle.dsql_script.specs.declared.script.Head.{Head};
+ghost use Rattle.dsql_run.specs.Script.{Said, nothing};
+ghost use Rattle.dsql_run.specs.Reading.{HasRead, ReadTo, IsBodyLine, is_client, IsReadStop, NoLine};
 ghost use Rattle.dsql_run.specs.Runs.{to_come, ReadsOn, TakesLine, DropsUnfinished, StopsReading, IsRefusal};
 ghost use Rattle.dsql_run.specs.declared.stop.Stop.TheVariants.{Read};
 
@@ -27,7 +31,8 @@ impl ScriptReader {
     /// A reader that has read nothing.
     pub fn new(alloc: Global) -> Result<ScriptReader, Memory>
         ensures lines { IfOk result (λ r. r.lines ≡ record { pending = []; ended = false }) }
-        ensures reader { IfOk result (λ r. r.reader ≡ 0) }
+        ensures reader { IfOk result (λ r. r.reader ≡ unread) }
+        ensures first { (left : Option (List ℕ)) → IfOk result (λ r. HasRead left r left nothing) }
     {
         Ok(ScriptReader {
             lines: LineReader::new(alloc)?,
@@ -36,8 +41,28 @@ impl ScriptReader {
         })
     }
 
-    /// Reads the next line, if there is one.
+    /// Reads the next line, if there is one. Behind the first line of a client come such lines and
+    /// skipped ones alone.
     pub fn next<S: Source>(
+        &mut self,
+        alloc: Global,
+        input: &mut S,
+    ) -> Result<Option<ScriptLine>, Stop>
+        ensures reads { (before : Option (List ℕ)) (says : Said) → HasRead before self.old (S.left input.old) says → ReadTo result before self.new (S.left input.new) says }
+        ensures body { self.old.reader.head ≡ Head.Begun → IfOk result IsBodyLine }
+        ensures begun { self.old.reader.head ≡ Head.Begun → self.new.reader.head ≡ Head.Begun }
+        ensures headed { IfOk result (λ line. IfSome line (λ says. is_client says ≡ true → self.new.reader.head ≡ Head.Begun)) }
+        ensures numbered { IfOk result (λ line. IfSome line (λ _. self.new.reader.lines ≡ self.old.reader.lines + 1)) }
+        ensures few { IfOk result (λ line. IfSome line (λ _. self.new.reader.lines ≤ 10000)) }
+        ensures failed { result ≡ Err Read → HasRisen (S.faults input.old) (S.faults input.new) }
+        ensures readable { IfErr result IsReadStop }
+        ensures counted { S.faults input.old ≤ S.faults input.new }
+    {
+        self.take_line(alloc, input)
+    }
+
+    /// Takes the next line out of the source and reads it, if there is one.
+    fn take_line<S: Source>(
         &mut self,
         alloc: Global,
         input: &mut S,
@@ -48,8 +73,10 @@ impl ScriptReader {
         ensures ended { self.old.lines.ended ≡ true → self.new.lines.ended ≡ true }
         ensures end { result ≡ Ok None → SawTheEnd self.old.lines (S.left input.old) → IfSome (S.left input.new) (λ bytes. bytes ≡ []) }
         ensures stopped { IfErr result (StopsReading (to_come self.old (S.left input.old))) }
-        ensures numbered { IfOk result (λ line. IfSome line (λ _. self.new.reader ≡ self.old.reader + 1)) }
-        ensures few { IfOk result (λ line. IfSome line (λ _. self.new.reader ≤ 10000)) }
+        ensures placed { IfOk result (λ line. IfSome line (λ says. self.new.reader ≡ after self.old.reader says)) }
+        ensures is { IfOk result (λ line. IfSome line (λ says. read_of self.old.reader self.new.line.items ≡ Ok says)) }
+        ensures stays { NoLine result self.old.reader self.new.reader }
+        ensures few { IfOk result (λ line. IfSome line (λ _. self.new.reader.lines ≤ 10000)) }
         ensures failed { result ≡ Err Read → HasRisen (S.faults input.old) (S.faults input.new) }
         ensures counted { S.faults input.old ≤ S.faults input.new }
         ensures telling { is_some (S.left input.new) ≡ is_some (S.left input.old) }
@@ -65,7 +92,8 @@ impl ScriptReader {
 /// Reads a line, or says which line is refused.
 fn read_line(reader: &mut Reader, alloc: Global, line: &[u8]) -> Result<ScriptLine, Stop>
     ensures ok { IfOk result (λ s. read_of reader.old line.now ≡ Ok s) }
-    ensures counted { OnOk result (reader.new ≡ reader.old + 1) }
+    ensures counted { IfOk result (λ s. reader.new ≡ after reader.old s) }
+    ensures same { IfErr result (λ _. reader.new ≡ reader.old) }
     ensures refused { IfErr result (IsRefusal reader.old line.now) }
 {
     let number = u32::from(reader.lines()) + 1;

@@ -1,4 +1,4 @@
-use Rattle.std.proofs.Common.{◌≡◌, false, subst}
+use Rattle.std.proofs.Common.{false, subst}
 use Rattle.dsql_player.specs.Carried.{GoesOn, CarriesFirst}
 use Rattle.dsql_player.proofs.Going.{on_either}
 use Rattle.dsql_player.proofs.line.take_turn.Goals as goal

@@ -1,26 +1,26 @@
-use Rattle.std.proofs.Common.{◌≡◌, ◌+◌, true}
-use Rattle.std.specs.Prelude.{Err}
-use Rattle.dsql_stream.specs.Lines.{ahead, HandsOut}
-use Rattle.dsql_run.proofs.Errors.{err_is}
-use Rattle.dsql_run.proofs.Reading.{reads_on, stops_reading}
+use Rattle.std.proofs.Common.{◌≡◌, Option, Some, None, refl}
+use Rattle.std.specs.Prelude.{Result, Ok, Err, IfOk, IfSome}
+use Rattle.dsql_run.specs.Runs.{to_come}
+use Rattle.dsql_run.proofs.Running.{reads_to}
+use Rattle.dsql_run.proofs.Body.{body_of_read, begun_of_read, headed_of_read, counted_of_read, readable_stops}
 use Rattle.dsql_run.proofs.script.ScriptReader.next.Goals as goal
 
-pub returns-in_err-read_line-clause-stopped : goal.returns-in_err-read_line-clause-stopped
-returns-in_err-read_line-clause-stopped g c =
-    let is : c.from_residual-in_err-read_line.result ≡ Err c.in_err-read_line.field-0.0 = err_is c.from_residual-in_err-read_line.result c.in_err-read_line.field-0.0 c.from_residual-in_err-read_line.ensures.1 in
-    let there : c.in_ok-next_line.field-0 ≡ true = c.if-branch.true in
-    let bytes : c.deref.result.now ≡ c.next_line.new.line.items = c.deref.ensures.value in
-    let out : HandsOut c.in_ok-next_line.field-0 (ahead c.args.self.now.lines (g.S.Source.left c.args.input.now)) (ahead c.next_line.new.self (g.S.Source.left c.next_line.new.source)) c.deref.result.now = rw bytes c.in_ok-next_line.ensures.handed_out in
-    rw is
-    (stops_reading c.args.self.now.reader c.in_ok-next_line.field-0 (ahead c.args.self.now.lines (g.S.Source.left c.args.input.now)) (ahead c.next_line.new.self (g.S.Source.left c.next_line.new.source))
-    c.deref.result.now c.in_err-read_line.field-0.0 there out c.in_err-read_line.ensures.refused)
+pub returns-clause-reads : goal.returns-clause-reads
+returns-clause-reads g c = λ before says h.
+    reads_to c.take_line.result before c.args.self.now c.take_line.new.self (g.S.Source.left c.args.input.now) (g.S.Source.left c.take_line.new.input) says h c.take_line.ensures.read c.take_line.ensures.taken
+    c.take_line.ensures.ended c.take_line.ensures.placed c.take_line.ensures.end c.take_line.ensures.sees c.take_line.ensures.stopped c.take_line.ensures.dropped
 
-pub returns-then-branch-clause-read : goal.returns-then-branch-clause-read
-returns-then-branch-clause-read g c =
-    let counted : c.read_line.new.reader ≡ c.args.self.now.reader + 1 = c.in_ok-read_line.ensures.counted in
-    let there : c.in_ok-next_line.field-0 ≡ true = c.if-branch.true in
-    let bytes : c.deref.result.now ≡ c.next_line.new.line.items = c.deref.ensures.value in
-    let out : HandsOut c.in_ok-next_line.field-0 (ahead c.args.self.now.lines (g.S.Source.left c.args.input.now)) (ahead c.next_line.new.self (g.S.Source.left c.next_line.new.source)) c.deref.result.now = rw bytes c.in_ok-next_line.ensures.handed_out in
-    rw counted
-    (reads_on c.args.self.now.reader c.in_ok-next_line.field-0 (ahead c.args.self.now.lines (g.S.Source.left c.args.input.now)) (ahead c.next_line.new.self (g.S.Source.left c.next_line.new.source))
-    c.deref.result.now c.in_ok-read_line.field-0 there out c.in_ok-read_line.ensures.ok)
+pub returns-clause-body : goal.returns-clause-body
+returns-clause-body g c = λ begun. body_of_read c.take_line.result c.args.self.now.reader c.take_line.new.self.line.items begun c.take_line.ensures.is
+
+pub returns-clause-begun : goal.returns-clause-begun
+returns-clause-begun g c = λ begun. begun_of_read c.take_line.result c.args.self.now.reader c.take_line.new.self.reader c.take_line.new.self.line.items begun c.take_line.ensures.is c.take_line.ensures.placed c.take_line.ensures.stays
+
+pub returns-clause-headed : goal.returns-clause-headed
+returns-clause-headed g c = headed_of_read c.take_line.result c.args.self.now.reader c.take_line.new.self.reader c.take_line.ensures.placed
+
+pub returns-clause-numbered : goal.returns-clause-numbered
+returns-clause-numbered g c = counted_of_read c.take_line.result c.args.self.now.reader c.take_line.new.self.reader c.take_line.ensures.placed
+
+pub returns-clause-readable : goal.returns-clause-readable
+returns-clause-readable g c = readable_stops c.take_line.result (to_come c.args.self.now (g.S.Source.left c.args.input.now)) c.take_line.ensures.stopped

@@ -1,0 +1,115 @@
+-- Behind the first line of a client a script has lines of clients and skipped lines alone.
+use Rattle.std.proofs.Common.{◌≡◌, ℕ, ◌+◌, Bool, true, false, List, [], ◌∷◌, length, Option, Some, None, refl, subst}
+use Rattle.std.specs.Prelude.{if◌then◌else◌, ◌==◌, ◌||◌, nat_lt, nat_le, codes, Result, Ok, Err, IfOk, IfErr, IfSome}
+use Rattle.std.specs.Str.{bytes_eq, is_utf8}
+use Rattle.std.specs.Str.Lines.{strip_carriage_return}
+use Rattle.serde_json.specs.Data.{Data}
+use Rattle.serde_json.specs.Read.{read}
+use Rattle.dsql_value.specs.declared.arg.Named.{Named}
+use Rattle.dsql_history.specs.declared.event.Op.{Op}
+use Rattle.dsql_history.specs.declared.event.Op.TheVariants.{Exec}
+use Rattle.dsql_script.specs.declared.fault.What.TheVariants.{Lines, Args}
+use Rattle.dsql_script.specs.declared.fault.LineFault.TheVariants.{TooLong, NotUtf8, NoSuchWord, BadShape, TooMany}
+use Rattle.dsql_script.specs.declared.script.Head.{Head}
+use Rattle.dsql_script.specs.declared.script.Head.TheVariants.{Begun}
+use Rattle.dsql_script.specs.declared.script.ScriptLine.{ScriptLine}
+use Rattle.dsql_script.specs.declared.script.ScriptLine.TheVariants.{Skip, Version, UseCaps, Client}
+use Rattle.dsql_script.specs.ScriptArgs as args
+use Rattle.dsql_script.specs.ScriptWords.{begins_with, words_of, array_of, client_of}
+use Rattle.dsql_script.specs.ScriptHead.{Progress, progress, after, head_after}
+use Rattle.dsql_script.specs.ScriptLines.{Reading, has_exec_shape, names_database, exec_on, exec_of_call, exec_of_array, exec_of, call_of, client_line, version_line, caps_line, form_of, is_skipped, text_of, line_of, read_of, most_bytes, most_lines}
+use Rattle.dsql_run.specs.Script.{Script}
+use Rattle.dsql_run.specs.Runs.{StopsReading}
+use Rattle.dsql_run.specs.Reading.{is_body, is_client, IsBodyLine, IsReadStop, NoLine}
+use Rattle.dsql_run.specs.declared.stop.Stop.{Stop}
+use Rattle.dsql_run.specs.declared.stop.Stop.TheVariants.{Read, Write, Memory, Refused, Full}
+
+-- what is read, if anything, is a line of the body
+abbrev pub Body : Reading → Type 0
+Body (Ok line) = is_body line ≡ true
+Body (Err fault) = Unit {0}
+
+either : (b : Bool) (x y : Reading) → Body x → Body y → Body (if b then x else y)
+either true x y h k = h
+either false x y h k = k
+
+body_exec_on : (client : ℕ) (b : Bool) (op : Op) → Body (exec_on client b op)
+body_exec_on client true op = refl
+body_exec_on client false op = tt
+
+body_exec_of_call : (client : ℕ) (b : Bool) (call : Option (List ℕ × List Named)) → Body (exec_of_call client b call)
+body_exec_of_call client b None = tt
+body_exec_of_call client b (Some (text, list)) = either _ _ _ tt (body_exec_on client b (Exec text list))
+
+body_exec_of_array : (client : ℕ) (b : Bool) (data : Option Data) → Body (exec_of_array client b data)
+body_exec_of_array client b None = tt
+body_exec_of_array client b (Some d) = body_exec_of_call client b _
+
+body_exec_of : (client : ℕ) (words : List (List ℕ)) (array : Option (List ℕ)) → Body (exec_of client words array)
+body_exec_of client words None = tt
+body_exec_of client words (Some array) = either _ _ _ (body_exec_of_array client (names_database words) (read array)) tt
+
+body_call_of : (client : Option ℕ) (verb : List ℕ) (words : List (List ℕ)) (array : Option (List ℕ)) → Body (call_of client verb words array)
+body_call_of None verb words array = tt
+body_call_of (Some client) verb words array = either _ _ _ (body_exec_of client words array) tt
+
+body_client_line : (client : List ℕ) (words : List (List ℕ)) (array : Option (List ℕ)) → Body (client_line client words array)
+body_client_line client [] array = tt
+body_client_line client (verb ∷ words) array = body_call_of (client_of client) verb words array
+
+body_form_of : (words : List (List ℕ)) (array : Option (List ℕ)) → Body (form_of Begun words array)
+body_form_of [] array = tt
+body_form_of (first ∷ words) array = either _ _ _ tt (either _ _ _ tt (body_client_line first words array))
+
+body_line : (line : List ℕ) → Body (line_of Begun line)
+body_line line = either _ _ _ tt (either _ _ _ (either _ _ _ refl (body_form_of (words_of (strip_carriage_return line)) (array_of (strip_carriage_return line)))) tt)
+
+body_read : (lines : ℕ) (head : Head) (line : List ℕ) → head ≡ Begun → Body (read_of (progress lines head) line)
+body_read lines head line is = rw is (either _ _ _ tt (body_line line))
+
+pub body_lines : (place : Progress) (line : List ℕ) (says : ScriptLine) → place.head ≡ Begun → read_of place line ≡ Ok says → is_body says ≡ true
+body_lines place line says is reads = subst Body reads (body_read place.lines place.head line is)
+
+-- and stays so
+pub stays_begun : (place now : Progress) (says : ScriptLine) → place.head ≡ Begun → is_body says ≡ true → now ≡ after place says → now.head ≡ Begun
+stays_begun place now Skip is body placed = rw placed is
+stays_begun place now (Client client op) is body placed = rw placed refl
+stays_begun place now (Version version) is body placed = absurd cc
+stays_begun place now (UseCaps caps) is body placed = absurd cc
+
+pub begun_by : (place now : Progress) (says : ScriptLine) → is_client says ≡ true → now ≡ after place says → now.head ≡ Begun
+begun_by place now (Client client op) is placed = rw placed refl
+begun_by place now _ is placed = absurd cc
+
+-- The same, of what a reader came to.
+
+pub body_of_read : (result : Result (Option ScriptLine) Stop) (place : Progress) (line : List ℕ) → place.head ≡ Begun → IfOk result (λ one. IfSome one (λ says. read_of place line ≡ Ok says)) → IfOk result IsBodyLine
+body_of_read (Ok (Some says)) place line begun is = body_lines place line says begun is
+body_of_read (Ok None) place line begun is = tt
+body_of_read (Err stop) place line begun is = tt
+
+pub begun_of_read : (result : Result (Option ScriptLine) Stop) (place now : Progress) (line : List ℕ) → place.head ≡ Begun → IfOk result (λ one. IfSome one (λ says. read_of place line ≡ Ok says))
+    → IfOk result (λ one. IfSome one (λ says. now ≡ after place says)) → NoLine result place now → now.head ≡ Begun
+begun_of_read (Ok (Some says)) place now line begun is placed stays = stays_begun place now says begun (body_lines place line says begun is) placed
+begun_of_read (Ok None) place now line begun is placed stays = rw stays begun
+begun_of_read (Err stop) place now line begun is placed stays = rw stays begun
+
+pub headed_of_read : (result : Result (Option ScriptLine) Stop) (place now : Progress) → IfOk result (λ one. IfSome one (λ says. now ≡ after place says))
+    → IfOk result (λ one. IfSome one (λ says. is_client says ≡ true → now.head ≡ Begun))
+headed_of_read (Ok (Some says)) place now placed = λ client. begun_by place now says client placed
+headed_of_read (Ok None) place now placed = tt
+headed_of_read (Err stop) place now placed = tt
+
+pub counted_of_read : (result : Result (Option ScriptLine) Stop) (place now : Progress) → IfOk result (λ one. IfSome one (λ says. now ≡ after place says))
+    → IfOk result (λ one. IfSome one (λ says. now.lines ≡ place.lines + 1))
+counted_of_read (Ok (Some says)) place now placed = rw placed refl
+counted_of_read (Ok None) place now placed = tt
+counted_of_read (Err stop) place now placed = tt
+
+pub readable_stops : (result : Result (Option ScriptLine) Stop) (before : Option Script) → IfErr result (StopsReading before) → IfErr result IsReadStop
+readable_stops (Ok one) before stops = tt
+readable_stops (Err Read) before stops = tt
+readable_stops (Err Write) before stops = stops
+readable_stops (Err Memory) before stops = tt
+readable_stops (Err (Refused number fault)) before stops = tt
+readable_stops (Err Full) before stops = stops

@@ -1,0 +1,43 @@
+-- A script's first lines, up to the first one of a client.
+use Rattle.std.proofs.Common.{◌≡◌, ℕ, true, List, [], ◌∷◌, Option, Some, None, refl, sym, ap, subst, ◌∙◌}
+use Rattle.std.specs.Prelude.{Result, Ok, Err, IfOk, IfSome}
+use Rattle.dsql_driver.specs.declared.caps.Caps.{Caps}
+use Rattle.dsql_history.specs.declared.event.Op.{Op}
+use Rattle.dsql_script.specs.declared.script.ScriptLine.{ScriptLine}
+use Rattle.dsql_script.specs.declared.script.ScriptLine.TheVariants.{Skip, Version, UseCaps, Client}
+use Rattle.dsql_run.specs.Script.{Said, nothing, said_of, then, later}
+use Rattle.dsql_run.specs.Runs.{saying}
+use Rattle.dsql_run.specs.Reading.{HasRead, ReadTo, ReadsHead, Prefers}
+use Rattle.dsql_run.specs.declared.script.ScriptReader.{ScriptReader}
+use Rattle.dsql_run.specs.declared.stop.Stop.{Stop}
+
+-- What the first lines came to so far, and what the fleet was asked for.
+pub record HeadSoFar (before : Option (List ℕ)) (reader : ScriptReader) (left : Option (List ℕ)) (preferred_before preferred_after : Option Caps) (ability_before ability_after : Caps) : Type 0 where
+  pub asked : Option Caps
+  pub reads : HasRead before reader left (saying asked [])
+  pub prefers : Prefers asked preferred_before preferred_after ability_before ability_after
+
+pub head_begins : (before : Option (List ℕ)) (reader : ScriptReader) (left : Option (List ℕ)) (preferred : Option Caps) (ability : Caps) → HasRead before reader left nothing → HeadSoFar before reader left preferred preferred ability ability
+head_begins before reader left preferred ability h = record { asked = None; reads = h; prefers = record { preferred = refl; same = λ none. refl } }
+
+-- a line that asks for nothing, and one that asks
+pub head_skips : (before : Option (List ℕ)) (old new : ScriptReader) (left rest : Option (List ℕ)) (line : ScriptLine) (p q : Option Caps) (a b : Caps) → said_of line ≡ nothing
+    → ((says : Said) → HasRead before old left says → ReadTo (Ok (Some line)) before new rest says) → HeadSoFar before old left p q a b → HeadSoFar before new rest p q a b
+head_skips before old new left rest line p q a b none reads h = record {
+  asked = h.asked;
+  reads = subst (λ s. HasRead before new rest (then (saying h.asked []) s)) none (reads (saying h.asked []) h.reads);
+  prefers = h.prefers;
+}
+
+pub head_asks : (before : Option (List ℕ)) (old new : ScriptReader) (left rest : Option (List ℕ)) (caps : Caps) (p q r : Option Caps) (a b c : Caps) → r ≡ Some caps
+    → ((says : Said) → HasRead before old left says → ReadTo (Ok (Some (UseCaps caps))) before new rest says) → HeadSoFar before old left p q a b → HeadSoFar before new rest p r a c
+head_asks before old new left rest caps p q r a b c is reads h = record {
+  asked = Some caps;
+  reads = reads (saying h.asked []) h.reads;
+  prefers = record { preferred = is; same = λ none. absurd (cc none) };
+}
+
+-- what came then
+pub head_ends : (result : Result (Option ScriptLine) Stop) (before : Option (List ℕ)) (old new : ScriptReader) (left rest : Option (List ℕ)) (p q : Option Caps) (a b : Caps)
+    → ((says : Said) → HasRead before old left says → ReadTo result before new rest says) → HeadSoFar before old left p q a b → ReadsHead before result new rest p q a b
+head_ends result before old new left rest p q a b reads h = record { asked = h.asked; reads = reads (saying h.asked []) h.reads; prefers = h.prefers }
