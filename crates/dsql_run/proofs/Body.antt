@@ -39,19 +39,21 @@ body_exec_on client false op = tt
 
 body_exec_of_call : (client : ℕ) (b : Bool) (call : Option (List ℕ × List Named)) → Body (exec_of_call client b call)
 body_exec_of_call client b None = tt
-body_exec_of_call client b (Some (text, list)) = either _ _ _ tt (body_exec_on client b (Exec text list))
+body_exec_of_call client b (Some (text, list)) =
+    either (nat_lt args.most_args (length list)) (Err (TooMany Args)) (exec_on client b (Exec text list)) tt (body_exec_on client b (Exec text list))
 
-body_exec_of_array : (client : ℕ) (b : Bool) (data : Option Data) → Body (exec_of_array client b data)
+body_exec_of_array : (client : ℕ) (b : Bool) (found : Option Data) → Body (exec_of_array client b found)
 body_exec_of_array client b None = tt
-body_exec_of_array client b (Some d) = body_exec_of_call client b _
+body_exec_of_array client b (Some d) = body_exec_of_call client b (args.call_of_data d)
 
 body_exec_of : (client : ℕ) (words : List (List ℕ)) (array : Option (List ℕ)) → Body (exec_of client words array)
 body_exec_of client words None = tt
-body_exec_of client words (Some array) = either _ _ _ (body_exec_of_array client (names_database words) (read array)) tt
+body_exec_of client words (Some array) =
+    either (has_exec_shape words) (exec_of_array client (names_database words) (read array)) (Err BadShape) (body_exec_of_array client (names_database words) (read array)) tt
 
 body_call_of : (client : Option ℕ) (verb : List ℕ) (words : List (List ℕ)) (array : Option (List ℕ)) → Body (call_of client verb words array)
 body_call_of None verb words array = tt
-body_call_of (Some client) verb words array = either _ _ _ (body_exec_of client words array) tt
+body_call_of (Some client) verb words array = either (bytes_eq verb (codes "exec")) (exec_of client words array) (Err NoSuchWord) (body_exec_of client words array) tt
 
 body_client_line : (client : List ℕ) (words : List (List ℕ)) (array : Option (List ℕ)) → Body (client_line client words array)
 body_client_line client [] array = tt
@@ -59,13 +61,20 @@ body_client_line client (verb ∷ words) array = body_call_of (client_of client)
 
 body_form_of : (words : List (List ℕ)) (array : Option (List ℕ)) → Body (form_of Begun words array)
 body_form_of [] array = tt
-body_form_of (first ∷ words) array = either _ _ _ tt (either _ _ _ tt (body_client_line first words array))
+body_form_of (first ∷ words) array =
+    either (bytes_eq first (codes "version")) (version_line Begun words array) (if bytes_eq first (codes "caps") then caps_line Begun words array else client_line first words array) tt
+    (either (bytes_eq first (codes "caps")) (caps_line Begun words array) (client_line first words array) tt (body_client_line first words array))
+
+body_text : (text : List ℕ) → Body (text_of Begun text)
+body_text text = either (is_skipped text) (Ok Skip) (form_of Begun (words_of text) (array_of text)) refl (body_form_of (words_of text) (array_of text))
 
 body_line : (line : List ℕ) → Body (line_of Begun line)
-body_line line = either _ _ _ tt (either _ _ _ (either _ _ _ refl (body_form_of (words_of (strip_carriage_return line)) (array_of (strip_carriage_return line)))) tt)
+body_line line =
+    either (nat_lt most_bytes (length line)) (Err TooLong) (if is_utf8 line then text_of Begun (strip_carriage_return line) else Err NotUtf8) tt
+    (either (is_utf8 line) (text_of Begun (strip_carriage_return line)) (Err NotUtf8) (body_text (strip_carriage_return line)) tt)
 
 body_read : (lines : ℕ) (head : Head) (line : List ℕ) → head ≡ Begun → Body (read_of (progress lines head) line)
-body_read lines head line is = rw is (either _ _ _ tt (body_line line))
+body_read lines head line is = rw is (either (nat_le most_lines lines) (Err (TooMany Lines)) (line_of Begun line) tt (body_line line))
 
 pub body_lines : (place : Progress) (line : List ℕ) (says : ScriptLine) → place.head ≡ Begun → read_of place line ≡ Ok says → is_body says ≡ true
 body_lines place line says is reads = subst Body reads (body_read place.lines place.head line is)

@@ -10,6 +10,7 @@ use Rattle.dsql_history.specs.declared.event.Op.{Op}
 use Rattle.dsql_script.specs.Lines.{text_of}
 use Rattle.dsql_player.specs.Extends.{Extends}
 use Rattle.dsql_run.specs.Report.{with_text, Shows, ShowsFront}
+use Rattle.dsql_run.specs.Script.{Said}
 use Rattle.dsql_run.specs.Runs.{ran_out, Plays, Wrote, Writes, failed, wanted_memory, is_cut, later_stop, Finishes}
 use Rattle.dsql_run.specs.declared.show.ShowFault.{ShowFault}
 use Rattle.dsql_run.specs.declared.show.ShowFault.TheVariants as shows
@@ -167,13 +168,13 @@ split_or : (a b : Bool) → (a || b) ≡ true → (a ≡ true) ⊎ (b ≡ true)
 split_or true b h = inl refl
 split_or false b h = inr h
 
-risen_later : (a b c : ℕ) → b ≤ c → has_risen a b ≡ true → has_risen a c ≡ true
+pub risen_later : (a b c : ℕ) → b ≤ c → has_risen a b ≡ true → has_risen a c ≡ true
 risen_later a b c le h = elim (split_or (nat_lt a b) (nat_le last_count b) h) [
   | inl less ↦ or_first (nat_lt a c) (nat_le last_count c) (lt-ltb a c (omega (arith, ltb-true a b less, le)))
   | inr last ↦ or_second (nat_lt a c) (nat_le last_count c) (le-leb last_count c (omega (arith, leb-true last_count b last, le)))
 ]
 
-risen_earlier : (a b c : ℕ) → a ≤ b → has_risen b c ≡ true → has_risen a c ≡ true
+pub risen_earlier : (a b c : ℕ) → a ≤ b → has_risen b c ≡ true → has_risen a c ≡ true
 risen_earlier a b c le h = elim (split_or (nat_lt b c) (nat_le last_count c) h) [
   | inl less ↦ or_first (nat_lt a c) (nat_le last_count c) (lt-ltb a c (omega (arith, ltb-true b c less, le)))
   | inr last ↦ or_second (nat_lt a c) (nat_le last_count c) last

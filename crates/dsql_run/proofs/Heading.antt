@@ -1,13 +1,15 @@
 -- A script's first lines, up to the first one of a client.
-use Rattle.std.proofs.Common.{◌≡◌, ℕ, true, List, [], ◌∷◌, Option, Some, None, refl, sym, ap, subst, ◌∙◌}
+use Rattle.std.proofs.Common.{◌≡◌, ℕ, ◌+◌, ◌-◌, ◌<◌, ◌≤◌, arith, true, List, [], ◌∷◌, Option, Some, None, refl, sym, ap, subst, ◌∙◌}
 use Rattle.std.specs.Prelude.{Result, Ok, Err, IfOk, IfSome}
 use Rattle.dsql_driver.specs.declared.caps.Caps.{Caps}
 use Rattle.dsql_history.specs.declared.event.Op.{Op}
 use Rattle.dsql_script.specs.declared.script.ScriptLine.{ScriptLine}
 use Rattle.dsql_script.specs.declared.script.ScriptLine.TheVariants.{Skip, Version, UseCaps, Client}
+use Rattle.dsql_script.specs.declared.script.Head.TheVariants.{Begun}
+use Rattle.dsql_script.specs.ScriptHead.{Progress}
 use Rattle.dsql_run.specs.Script.{Said, nothing, said_of, then, later}
-use Rattle.dsql_run.specs.Runs.{saying}
-use Rattle.dsql_run.specs.Reading.{HasRead, ReadTo, ReadsHead, Prefers}
+use Rattle.dsql_run.specs.Runs.{saying, Plays}
+use Rattle.dsql_run.specs.Reading.{HasRead, ReadTo, ReadsHead, Prefers, NoLine}
 use Rattle.dsql_run.specs.declared.script.ScriptReader.{ScriptReader}
 use Rattle.dsql_run.specs.declared.stop.Stop.{Stop}
 
@@ -41,3 +43,32 @@ head_asks before old new left rest caps p q r a b c is reads h = record {
 pub head_ends : (result : Result (Option ScriptLine) Stop) (before : Option (List ℕ)) (old new : ScriptReader) (left rest : Option (List ℕ)) (p q : Option Caps) (a b : Caps)
     → ((says : Said) → HasRead before old left says → ReadTo result before new rest says) → HeadSoFar before old left p q a b → ReadsHead before result new rest p q a b
 head_ends result before old new left rest p q a b reads h = record { asked = h.asked; reads = reads (saying h.asked []) h.reads; prefers = h.prefers }
+
+-- one for a line
+abbrev pub one_if : Option ScriptLine → ℕ
+one_if None = 0
+one_if (Some line) = 1
+
+-- each turn reads a line more, or comes to the end
+pub fewer : (next : Option ScriptLine) (old new : Progress) → IfSome next (λ _. new.lines ≡ old.lines + 1) → IfSome next (λ _. new.lines ≤ 10000) → NoLine (Ok next) old new
+    → (10001 - new.lines) + one_if next < (10001 - old.lines) + 1
+fewer None old new counted few stays = omega (arith, ap (λ (p : Progress). p.lines) stays)
+fewer (Some line) old new counted few stays = omega (arith, counted, few)
+
+-- what was about to be played, with what came of it
+pub read_of_first : (first : Result (Option ScriptLine) Stop) (next : Option ScriptLine) (before : Option (List ℕ)) (reader : ScriptReader) (left : Option (List ℕ)) (says : Said) → first ≡ Ok next → ReadTo first before reader left says → ReadTo (Ok next) before reader left says
+read_of_first first next before reader left says is read = rw is at read
+
+-- where there is no line the script was at its end
+pub ends_at : (next : Option ScriptLine) (before : Option (List ℕ)) (reader : ScriptReader) (left : Option (List ℕ)) (says : Said) → ((line : ScriptLine) → next ≡ Some line → ⊥) → ReadTo (Ok next) before reader left says
+    → Plays (Ok tt) before left says × IfSome left (λ bytes. bytes ≡ [])
+ends_at None before reader left says none read = read
+ends_at (Some line) before reader left says none read = absurd (none line refl)
+
+pub some_of : (next : Option ScriptLine) (line : ScriptLine) (before : Option (List ℕ)) (reader : ScriptReader) (left : Option (List ℕ)) (says : Said) → next ≡ Some line → ReadTo (Ok next) before reader left says
+    → HasRead before reader left (then says (said_of line))
+some_of next line before reader left says is read = rw is at read
+
+pub always_headed : (next : Option ScriptLine) (place : Progress) → place.head ≡ Begun → IfSome next (λ _. place.head ≡ Begun)
+always_headed None place is = tt
+always_headed (Some line) place is = is

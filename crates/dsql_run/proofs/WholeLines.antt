@@ -10,7 +10,7 @@ use Rattle.dsql_script.specs.ScriptHead.{Progress, unread, after}
 use Rattle.dsql_script.specs.ScriptLines.{Reading, read_of}
 use Rattle.dsql_run.specs.Script.{Script, Said, nothing, said_of, then, script_of, script_from, whole, with_line, with_said, BeginsSaying}
 use Rattle.dsql_run.specs.Runs.{ReadsUpTo, TakesLine, DropsUnfinished}
-use Rattle.dsql_run.specs.Reading.{with_feeds, AllFeedless, after_lines, LinesRead, ReadSoFar}
+use Rattle.dsql_run.specs.Reading.{with_feeds, AllFeedless, after_lines, after_reading, LinesRead, ReadSoFar}
 use Rattle.dsql_run.proofs.Saying.{then-nothing, with_both, with_nothing}
 
 with_feeds-append : (lines : List (List ℕ)) (line : List ℕ) → with_feeds (lines ++ line ∷ []) ≡ with_feeds lines ++ (line ++ 10 ∷ [])
@@ -52,7 +52,11 @@ script_from-append p (line ∷ lines) more says is =
     let first = first_taken (p.lines + 1) (read_of p line) (λ next. script_from (after p next) lines) says is in
     let next = after p first.line in
     let rest = script_from-append next lines more (script_from next lines).says first.others in
-    rw (first.is, rest) (with_both (said_of first.line) (script_from next lines).says (script_from (after_lines next lines) more) ∙ rw first.all refl)
+    ap (λ reading. with_line (p.lines + 1) reading (λ one. script_from (after p one) (lines ++ more))) first.is
+    ∙ (ap (with_said (said_of first.line)) rest
+    ∙ (with_both (said_of first.line) (script_from next lines).says (script_from (after_lines next lines) more)
+    ∙ (ap (λ said. with_said said (script_from (after_lines next lines) more)) first.all
+    ∙ ap (λ reading. with_said says (script_from (after_reading p reading (λ one. after_lines one lines)) more)) (sym first.is))))
 
 nothing_read : (before : Option (List ℕ)) → ReadSoFar false before before unread nothing
 nothing_read None = tt

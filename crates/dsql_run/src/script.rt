@@ -56,6 +56,7 @@ impl ScriptReader {
         ensures few { IfOk result (λ line. IfSome line (λ _. self.new.reader.lines ≤ 10000)) }
         ensures failed { result ≡ Err Read → HasRisen (S.faults input.old) (S.faults input.new) }
         ensures readable { IfErr result IsReadStop }
+        ensures stays { NoLine result self.old.reader self.new.reader }
         ensures counted { S.faults input.old ≤ S.faults input.new }
     {
         self.take_line(alloc, input)

@@ -1,5 +1,5 @@
-use Rattle.std.proofs.Common.{◌≡◌, ◌≤◌, ◌-◌, ℕ, List, [], Option, Some, length}
-use Rattle.std.specs.Prelude.{is_some, Ok, IfOk, IfSome}
+use Rattle.std.proofs.Common.{◌≡◌, ◌≤◌, ◌-◌, ◌+◌, ◌⊎◌, ℕ, List, [], Option, Some, length}
+use Rattle.std.specs.Prelude.{is_some, Ok, IfSome}
 use Rattle.dsql_driver.specs.declared.caps.Caps.{Caps}
 use Rattle.dsql_script.specs.Lines.{text_of}
 use Rattle.dsql_script.specs.declared.script.Head.{Head}
@@ -9,14 +9,26 @@ use Rattle.dsql_player.specs.Told.{with_gone}
 use Rattle.dsql_run.specs.Report.{with_text}
 use Rattle.dsql_run.specs.Runs.{Between, saying}
 use Rattle.dsql_run.specs.Reading.{ReadTo, IsBodyLine}
+use Rattle.dsql_run.proofs.Heading.{one_if}
 use Rattle.dsql_run.proofs.playing.play_lines.Given as goal
 
 abbrev pub decreases-loop-next : goal.decreases-loop-next
-decreases-loop-next g l = 10000 - l.script.reader.lines
+decreases-loop-next g l = (10001 - l.script.reader.lines) + one_if l.next
 
 abbrev pub invariant-loop-next : goal.invariant-loop-next
 invariant-loop-next g l = record {
   between : Between g.F.Wire.Wire.heard (is_some (g.F.Fleet.retired l.fleet)) l.engine l.wires;
+  gone : g.F.Fleet.retired l.fleet ≡ with_gone (g.F.Fleet.retired l.initial.fleet) l.engine;
   reads_so : (before : Option (List ℕ)) (asked : Option Caps) → ReadTo (Ok l.initial.next) before l.initial.script (g.S.Source.left l.initial.input) (saying asked [])
       → ReadTo (Ok l.next) before l.script (g.S.Source.left l.input) (saying asked (entered_calls l.engine));
+  body : IsBodyLine l.next;
+  headed : IfSome l.next (λ _. l.script.reader.head ≡ Head.Begun);
+  few : IfSome l.next (λ _. l.script.reader.lines ≤ 10000);
+  shown : l.shown ≡ length l.engine;
+  written : (w : Option (List ℕ)) → g.K.Sink.written l.initial.output ≡ with_text w (text_of l.initial.engine) → g.K.Sink.written l.output ≡ with_text w (text_of l.engine);
+  reads : g.S.Source.faults l.initial.input ≤ g.S.Source.faults l.input;
+  writes : g.K.Sink.faults l.initial.output ≤ g.K.Sink.faults l.output;
+  extends : Extends l.initial.engine l.engine;
+  ability : g.F.Fleet.ability l.fleet ≡ g.F.Fleet.ability l.initial.fleet;
+  preferred : g.F.Fleet.preferred l.fleet ≡ g.F.Fleet.preferred l.initial.fleet;
 }

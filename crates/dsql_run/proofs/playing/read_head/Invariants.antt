@@ -4,11 +4,11 @@ use Rattle.dsql_run.specs.Reading.{HasRead}
 use Rattle.dsql_run.proofs.Heading.{HeadSoFar}
 use Rattle.dsql_run.proofs.playing.read_head.Given as goal
 
-abbrev pub decreases-loop : goal.decreases-loop
-decreases-loop g l = 10000 - l.script.reader.lines
+abbrev pub decreases-loop-line : goal.decreases-loop-line
+decreases-loop-line g l = 10000 - l.script.reader.lines
 
-abbrev pub invariant-loop : goal.invariant-loop
-invariant-loop g l = record {
+abbrev pub invariant-loop-line : goal.invariant-loop-line
+invariant-loop-line g l = record {
   head : (before : Option (List ℕ)) → HasRead before l.initial.script (g.S.Source.left l.initial.input) nothing
       → HeadSoFar before l.script (g.S.Source.left l.input) (g.F.Fleet.preferred l.initial.fleet) (g.F.Fleet.preferred l.fleet) (g.F.Fleet.ability l.initial.fleet) (g.F.Fleet.ability l.fleet);
   reads : g.S.Source.faults l.initial.input ≤ g.S.Source.faults l.input;

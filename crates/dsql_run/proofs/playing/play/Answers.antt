@@ -1,0 +1,44 @@
+use Rattle.std.proofs.Common.{◌≡◌, ◌∙◌, [], ◌∷◌, refl, ap, sym, inl, inr, subst}
+use Rattle.dsql_driver.specs.Streams.{has_risen}
+use Rattle.dsql_history.specs.declared.event.Event.TheVariants.{Run}
+use Rattle.dsql_player.specs.Extends.{Extends}
+use Rattle.dsql_player.specs.Told.{with_gone}
+use Rattle.dsql_run.specs.Script.{nothing}
+use Rattle.dsql_run.specs.Reading.{HasRead, ReadsHead}
+use Rattle.dsql_run.proofs.Errors.{on_ok}
+use Rattle.dsql_run.proofs.Finishing.{risen_later, risen_earlier}
+use Rattle.dsql_run.proofs.playing.play.Goals as goal
+
+pub returns : goal.returns
+returns g c =
+    let left = g.S.Source.left c.args.input.now in
+    let read : HasRead left c.in_ok-script.script left nothing = c.in_ok-script.ensures.first left in
+    let head : ReadsHead left c.read_head-first.result c.read_head-first.new.script (g.S.Source.left c.read_head-first.new.input) (g.F.Fleet.preferred c.args.fleet.now) (g.F.Fleet.preferred c.read_head-first.new.fleet)
+        (g.F.Fleet.ability c.args.fleet.now) (g.F.Fleet.ability c.read_head-first.new.fleet) = c.read_head-first.ensures.reads left read in
+    let begun : c.in-Ok.engine ≡ Run 1 (g.F.Fleet.ability c.play_from.new.fleet) ∷ [] = c.in-Ok.ensures.begun ∙ ap (λ caps. Run 1 caps ∷ []) (c.caps.ensures ∙ sym c.play_from.ensures.ability) in
+    record {
+      ran = inl (record {
+        history = c.play_from.new.engine;
+        asked = head.asked;
+        legal = c.play_from.ensures.legal;
+        begins = subst (λ h. Extends h c.play_from.new.engine) begun c.play_from.ensures.begins;
+        turns = c.play_from.ensures.turns;
+        plays = c.play_from.ensures.plays left head.asked head.reads;
+        prefers = record { preferred = c.play_from.ensures.preferred ∙ head.prefers.preferred; same = λ none. c.play_from.ensures.ability ∙ head.prefers.same none };
+        ended = c.play_from.ensures.ended;
+        quiet = c.play_from.ensures.quiet;
+        read = λ done. on_ok c.play_from.result c.play_from.ensures.read done left head.asked head.reads;
+        writes = c.play_from.ensures.writes;
+        cut = λ is. c.play_from.ensures.cut is left head.asked (has_risen (g.S.Source.faults c.args.input.now) (g.S.Source.faults c.play_from.new.input)) head.reads
+            (λ failed. risen_later (g.S.Source.faults c.args.input.now) (g.S.Source.faults c.read_head-first.new.input) (g.S.Source.faults c.play_from.new.input) c.play_from.ensures.read_on (c.read_head-first.ensures.failed failed))
+            (λ risen. risen_earlier (g.S.Source.faults c.args.input.now) (g.S.Source.faults c.read_head-first.new.input) (g.S.Source.faults c.play_from.new.input) c.read_head-first.ensures.counted risen);
+        empty = c.play_from.ensures.empty;
+        retired = λ ran. c.play_from.ensures.retired ran ∙ ap (λ r. with_gone r c.play_from.new.engine) c.read_head-first.ensures.retired;
+        read_fault = λ is. elim (c.play_from.ensures.read_fault is) [
+            | inl failed ↦ risen_later (g.S.Source.faults c.args.input.now) (g.S.Source.faults c.read_head-first.new.input) (g.S.Source.faults c.play_from.new.input) c.play_from.ensures.read_on (c.read_head-first.ensures.failed failed)
+            | inr risen ↦ risen_earlier (g.S.Source.faults c.args.input.now) (g.S.Source.faults c.read_head-first.new.input) (g.S.Source.faults c.play_from.new.input) c.read_head-first.ensures.counted risen
+          ];
+        write_fault = c.play_from.ensures.write_fault;
+        full = c.play_from.ensures.full;
+      });
+    }

@@ -1,0 +1,46 @@
+use Rattle.std.proofs.Common.{◌≡◌, ap, inl, inr, Option, refl}
+use Rattle.std.specs.Prelude.{Ok, Err}
+use Rattle.dsql_player.specs.Entered.{entered_calls}
+use Rattle.dsql_player.proofs.Extending.{extends_then}
+use Rattle.dsql_run.specs.Runs.{saying}
+use Rattle.dsql_run.proofs.Errors.{on_ok}
+use Rattle.dsql_run.proofs.Cutting.{shown_before_end, cut_short}
+use Rattle.dsql_run.proofs.Finishing.{plays_finished, wrote_older, writes_more, all_risen}
+use Rattle.dsql_run.proofs.playing.play_from.Goals as goal
+
+pub returns-clause-begins : goal.returns-clause-begins
+returns-clause-begins g c =
+    extends_then c.args.engine.now c.play_lines-played.new.engine c.close-ended.new.engine c.play_lines-played.ensures.extends c.close-ended.ensures.extends
+
+pub returns-clause-plays : goal.returns-clause-plays
+returns-clause-plays g c = λ before asked read.
+    rw c.close-ended.ensures.entered
+    (plays_finished c.play_lines-played.result c.close-ended.result c.finish.result before (g.S.Source.left c.play_lines-played.new.input) (saying asked (entered_calls c.play_lines-played.new.engine)) c.close-ended.ensures.same c.finish.ensures.result
+    (c.play_lines-played.ensures.plays before asked read))
+
+pub returns-clause-writes : goal.returns-clause-writes
+returns-clause-writes g c =
+    writes_more c.finish.result _ _ (g.K.Sink.written c.args.output.now) (g.K.Sink.written c.finish.new.output) c.close-ended.new.engine
+    (all_risen c.play_lines-played.result (g.K.Sink.faults c.args.output.now) (g.K.Sink.faults c.play_lines-played.new.output) (g.K.Sink.faults c.finish.new.output) c.play_lines-played.ensures.counted c.finish.ensures.counted c.play_lines-played.ensures.write_fault)
+    (c.finish.ensures.wrote (g.K.Sink.written c.args.output.now)
+    (wrote_older c.play_lines-played.result (g.K.Sink.written c.args.output.now) (g.K.Sink.written c.play_lines-played.new.output) c.play_lines-played.new.shown c.play_lines-played.new.engine c.close-ended.new.engine c.close-ended.ensures.extends c.play_lines-played.ensures.within c.play_lines-played.ensures.wrote))
+
+pub returns-clause-cut : goal.returns-clause-cut
+returns-clause-cut g c =
+    λ is before asked failed read first_failed risen_failed. cut_short c.play_lines-played.result c.close-ended.result c.finish.result before (g.S.Source.left c.play_lines-played.new.input) asked
+    failed (g.K.Sink.written c.args.output.now) (g.K.Sink.written c.play_lines-played.new.output) (g.K.Sink.written c.finish.new.output)
+    c.play_lines-played.new.shown c.play_lines-played.new.engine c.close-ended.new.engine c.close-ended.ensures.same c.finish.ensures.result is
+    (record {
+      quiet = λ ran. (c.play_lines-played.ensures.between ran).quiet;
+      running = λ ran. (c.play_lines-played.ensures.between ran).running;
+      plays = c.play_lines-played.ensures.plays before asked read;
+      read = λ done. on_ok c.play_lines-played.result c.play_lines-played.ensures.end done before asked read;
+      caused = λ fault. elim (c.play_lines-played.ensures.read_fault fault) [ inl first ↦ first_failed first | inr risen ↦ risen_failed risen ];
+      cut = c.play_lines-played.ensures.cut;
+      shown = c.play_lines-played.ensures.shown;
+    })
+    c.close-ended.ensures.extends c.close-ended.ensures.entered (λ unwritten. ap g.K.Sink.written (c.finish.ensures.unwritten unwritten))
+    (λ unfailed. c.finish.ensures.stops (g.K.Sink.written c.args.output.now)
+    (shown_before_end c.play_lines-played.result c.close-ended.result c.finish.result (g.K.Sink.written c.args.output.now) (g.K.Sink.written c.play_lines-played.new.output) c.play_lines-played.new.shown c.play_lines-played.new.engine
+    c.close-ended.new.engine c.close-ended.ensures.same c.finish.ensures.result is unfailed c.close-ended.ensures.extends c.play_lines-played.ensures.within c.play_lines-played.ensures.wrote)
+    unfailed is)
