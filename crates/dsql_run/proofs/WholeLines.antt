@@ -1,6 +1,6 @@
 -- The lines that were read whole, as a run goes on.
 use Rattle.std.proofs.Common.{◌≡◌, ℕ, ◌+◌, Bool, true, false, List, [], ◌∷◌, ◌++◌, Option, Some, None, length, refl, sym, ap, ◌∙◌, arith, add-zero, zero-add, length-append, append_assoc}
-use Rattle.std.specs.Prelude.{option_map, IfSome, Result, Ok, Err}
+use Rattle.std.specs.Prelude.{IfSome, Ok, Err}
 use Rattle.std.proofs.lemmas.List.{append-nil}
 use Rattle.std.proofs.lemmas.Option.{same_Some}
 use Rattle.dsql_history.specs.declared.event.Op.{Op}
@@ -9,7 +9,7 @@ use Rattle.dsql_stream.proofs.FirstLines.{Feedless}
 use Rattle.dsql_stream.proofs.EndedLines.{ended_lines-feed, ended_lines-feedless, first_of_ended}
 use Rattle.dsql_script.specs.declared.script.ScriptLine.{ScriptLine}
 use Rattle.dsql_script.specs.ScriptLines.{Reading, read_of}
-use Rattle.dsql_run.specs.Script.{Script, script_of, script_from, with_line, with_calls, calls_of, no_lines, Begins}
+use Rattle.dsql_run.specs.Script.{Script, script_of, script_from, with_line, with_calls, calls_of, Begins}
 use Rattle.dsql_run.specs.Runs.{ReadsUpTo, TakesLine, DropsUnfinished}
 
 -- lines with their line feeds, one after another
