@@ -1,6 +1,6 @@
 -- Where a run was cut whose sink failed.
 use Rattle.std.proofs.Common.{◌≡◌, ◌⊎◌, ℕ, ◌≤◌, Bool, true, false, List, [], Option, length, refl, sym, subst, ◌∙◌, inl, inr}
-use Rattle.std.specs.Prelude.{Result, Ok, Err, OnOk, IfSome}
+use Rattle.std.specs.Prelude.{Result, Ok, Err, IfSome}
 use Rattle.dsql_history.specs.declared.event.Event.{Event}
 use Rattle.dsql_history.specs.Readers.Course.{has_ended}
 use Rattle.dsql_history.specs.Rules.House.{is_quiet}

@@ -1,6 +1,6 @@
 -- After the run's end no connection is left.
-use Rattle.std.proofs.Common.{◌≡◌, ℕ, Bool, true, false, suc, List, [], ◌∷◌, Option, Some, None, get_or, refl, sym, subst, ◌∙◌}
-use Rattle.std.specs.Prelude.{◌&&◌, is_none, count_by, MatchBool, position}
+use Rattle.std.proofs.Common.{◌≡◌, ℕ, Bool, true, false, suc, List, [], ◌∷◌, Option, Some, None, get_or, refl}
+use Rattle.std.specs.Prelude.{◌&&◌, is_none, count_by}
 use Rattle.dsql_driver.specs.Wires.{Told}
 use Rattle.dsql_journal.specs.declared.entry.Entry.{Entry}
 use Rattle.dsql_journal.specs.Readers.{is_empty}
@@ -11,7 +11,7 @@ use Rattle.dsql_history.specs.Readers.Sets.{places, place, is_open, is_opening, 
 use Rattle.dsql_history.specs.Readers.Journals.{journal}
 use Rattle.dsql_history.specs.Readers.Calls.{unfinished}
 use Rattle.dsql_history.specs.Rules.House.{is_quiet, has_no_chore, shut_due, connect_due}
-use Rattle.dsql_player.specs.WiresFit.{slot, has_wire, HoldsWire, FitsAt, WiresFit}
+use Rattle.dsql_player.specs.WiresFit.{slot, FitsAt, WiresFit}
 use Rattle.dsql_player.proofs.Places.{none_at}
 
 second_of : (a b : Bool) → (a && b) ≡ true → b ≡ true
