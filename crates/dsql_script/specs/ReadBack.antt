@@ -1,5 +1,5 @@
 -- What a report says of a call, or of the capabilities, is in a script what it was made of.
-use Rattle.std.specs.Prelude.{◌≡◌, ℕ, ◌<◌, ◌^◌, List, FitsSigned, All, Option, Some, None}
+use Rattle.std.specs.Prelude.{◌≡◌, ℕ, ◌<◌, ◌^◌, List, FitsSigned, All, Some}
 use Rattle.std.specs.Int.{w8, w16, w32, w64}
 use Rattle.hex.specs.Hex.{IsBytes}
 use Rattle.dsql_value.specs.declared.arg.Arg.{Arg}
