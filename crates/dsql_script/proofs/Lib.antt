@@ -8,3 +8,7 @@ pub mod ScriptCaps
 pub mod ScriptTexts
 pub mod ScriptForms
 pub mod ScriptOnLiterals
+pub mod ReadNumbers
+pub mod ReadBytes
+pub mod ReadBack
+pub mod ReadCaps

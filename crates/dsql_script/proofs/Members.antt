@@ -1,5 +1,5 @@
 -- Objects of one member, of two, and of any other number.
-use Rattle.std.proofs.Common.{◌≡◌, ◌≢◌, ◌-◌, List, [], ◌∷◌, length, Option, Some, None, option_map, arith, refl}
+use Rattle.std.proofs.Common.{◌≡◌, ◌≢◌, ◌-◌, List, [], ◌∷◌, length, Some, None, option_map, arith, refl}
 use Rattle.std.specs.Prelude.{slice_get, string_bytes, String}
 use Rattle.std.specs.declared.alloc.Global.{Global}
 use Rattle.serde_json.specs.Data.{member, no_members}

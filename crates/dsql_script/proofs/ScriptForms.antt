@@ -1,5 +1,5 @@
 -- Lines that aren't of the version or of the capabilities.
-use Rattle.std.proofs.Common.{◌≡◌, ◌≢◌, ℕ, ◌≤◌, ◌-◌, List, [], ◌∷◌, false, map, length, get_or, take, drop, Option, codes, refl, inl, inr, ap, arith, Bor}
+use Rattle.std.proofs.Common.{◌≡◌, ◌≢◌, ℕ, ◌≤◌, ◌-◌, List, [], ◌∷◌, false, map, length, get_or, take, drop, Option, codes, refl, inl, inr, arith, Bor}
 use Rattle.std.specs.Str.{bytes_eq}
 use Rattle.std.proofs.lemmas.Bool.{cases_Bool}
 use Rattle.std.proofs.lemmas.List.{take_all}

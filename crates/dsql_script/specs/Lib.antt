@@ -8,3 +8,4 @@ pub mod ScriptWords
 pub mod ScriptArgs
 pub mod ScriptHead
 pub mod ScriptLines
+pub mod ReadBack

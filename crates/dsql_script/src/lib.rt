@@ -3,6 +3,7 @@
 
 mod caps;
 mod fault;
+pub mod laws;
 mod line;
 mod reader;
 mod script;

@@ -1,5 +1,7 @@
 use super::*;
+use dsql_driver::Caps;
 use dsql_history::Op;
+use std::process::Abort;
 use std::test::Fail;
 
 /// A reader after which one more line may come.
@@ -57,8 +59,203 @@ fn takes_execs(rt: HostRuntime) -> Result<(), Fail> {
                 assert_eq!(rt; client, want_client, "{line}");
                 assert_eq!(rt; text.as_str(), want, "{line}");
             }
-            ScriptLine::Skip => assert!(rt; false, "{line}"),
+            _other => assert!(rt; false, "{line}"),
         }
+    }
+    Ok(())
+}
+
+/// That an exec whose array holds this behind its text has these arguments, as `Debug` shows them.
+fn assert_arguments(rt: &impl Abort, alloc: Global, json: &str, want: &str) -> Result<(), Fail> {
+    let line = format!(in alloc; "c1 exec db [\"a\",{json}]")?;
+    match Reader::new().read_line(alloc, line.as_bytes())? {
+        ScriptLine::Client {
+            client: _client,
+            op: Op::Exec { text: _text, args },
+        } => {
+            let shown = format!(in alloc; "{:?}", args.as_slice())?;
+            assert_eq!(rt; shown.as_str(), want, "{json}");
+        }
+        _other => assert!(rt; false, "{json}"),
+    }
+    Ok(())
+}
+
+/// That an exec whose array holds this behind its text is refused for this fault.
+fn assert_refused(
+    rt: &impl Abort,
+    alloc: Global,
+    json: &str,
+    fault: LineFault,
+) -> Result<(), Fail> {
+    let line = format!(in alloc; "c1 exec x [\"a\",{json}]")?;
+    let told = Reader::new().read_line(alloc, line.as_bytes()).err();
+    assert_eq!(rt; told, Some(fault), "{json}");
+    Ok(())
+}
+
+/// So many numbers, parted by commas.
+fn numbers(alloc: Global, many: usize) -> Result<String, Fail> {
+    let mut json = String::from_str(alloc, "0")?;
+    for _ in 1..many {
+        json.push_str(",0")?;
+    }
+    Ok(json)
+}
+
+#[test]
+fn takes_each_form_of_argument(rt: HostRuntime) -> Result<(), Fail> {
+    let forms: [(&str, &str); 25] = [
+        ("null", "Nil"),
+        ("true", "Bool(true)"),
+        ("\"b\"", "Text(Txt { text: \"b\" })"),
+        ("9223372036854775807", "I64(9223372036854775807)"),
+        ("-9223372036854775808", "I64(-9223372036854775808)"),
+        ("9223372036854775808", "U64(9223372036854775808)"),
+        ("18446744073709551615", "U64(18446744073709551615)"),
+        ("{\"i8\":-128}", "I8(-128)"),
+        ("{\"i16\":32767}", "I16(32767)"),
+        ("{\"i32\":-2147483648}", "I32(-2147483648)"),
+        ("{\"u8\":255}", "U8(255)"),
+        ("{\"u16\":65535}", "U16(65535)"),
+        ("{\"u32\":4294967295}", "U32(4294967295)"),
+        ("{\"u64\":0}", "U64(0)"),
+        (
+            "{\"u64\":18446744073709551615}",
+            "U64(18446744073709551615)",
+        ),
+        ("{\"bytes\":\"00ff\"}", "Bytes(Bin { bytes: [0, 255] })"),
+        ("{\"time\":-1}", "Time(-1)"),
+        (
+            "{\"null_text\":\"b\"}",
+            "NullText(Some(Txt { text: \"b\" }))",
+        ),
+        ("{\"null_text\":null}", "NullText(None)"),
+        ("{\"null_i64\":5}", "NullI64(Some(5))"),
+        ("{\"null_i32\":null}", "NullI32(None)"),
+        ("{\"null_i16\":5}", "NullI16(Some(5))"),
+        ("{\"null_u8\":255}", "NullU8(Some(255))"),
+        ("{\"null_bool\":false}", "NullBool(Some(false))"),
+        ("{\"null_time\":9}", "NullTime(Some(9))"),
+    ];
+    for (json, form) in forms {
+        let want = format!(in rt.alloc(); "[Named {{ name: None, arg: {form} }}]")?;
+        assert_arguments(&rt, rt.alloc(), json, want.as_str())?;
+    }
+    let want =
+        "[Named { name: Some(Txt { text: \"x\" }), arg: U8(1) }, Named { name: None, arg: Nil }]";
+    assert_arguments(
+        &rt,
+        rt.alloc(),
+        "{\"name\":\"x\",\"arg\":{\"u8\":1}},null",
+        want,
+    )
+}
+
+#[test]
+fn refuses_other_arguments(rt: HostRuntime) -> Result<(), Fail> {
+    let alloc = rt.alloc();
+    let others: [&str; 32] = [
+        "1.5",
+        "1e2",
+        "-0",
+        "18446744073709551616",
+        "-9223372036854775809",
+        "[]",
+        "{}",
+        "{\"i8\":128}",
+        "{\"i8\":-129}",
+        "{\"i8\":1.0}",
+        "{\"i8\":null}",
+        "{\"i8\":1,\"u8\":1}",
+        "{\"I8\":1}",
+        "{\"i64\":1}",
+        "{\"u8\":-1}",
+        "{\"u32\":4294967296}",
+        "{\"u64\":-1}",
+        "{\"time\":9223372036854775808}",
+        "{\"bytes\":\"00FF\"}",
+        "{\"bytes\":\"000\"}",
+        "{\"bytes\":\"0g\"}",
+        "{\"bytes\":0}",
+        "{\"null_text\":0}",
+        "{\"null_u8\":256}",
+        "{\"null_bool\":0}",
+        "{\"null\":null}",
+        "{\"name\":\"x\"}",
+        "{\"arg\":1}",
+        "{\"name\":1,\"arg\":1}",
+        "{\"name\":\"x\",\"arg\":[]}",
+        "{\"name\":\"x\",\"arg\":{\"name\":\"y\",\"arg\":1}}",
+        "{\"name\":\"x\",\"arg\":1,\"u8\":1}",
+    ];
+    for json in others {
+        assert_refused(&rt, alloc, json, LineFault::BadShape)?;
+    }
+    assert_refused(&rt, alloc, "1e400", LineFault::BadJson)?;
+    let many = numbers(alloc, 33)?;
+    assert_refused(&rt, alloc, many.as_str(), LineFault::TooMany(What::Args))?;
+    let bad = format!(in alloc; "{many},1.5")?;
+    assert_refused(&rt, alloc, bad.as_str(), LineFault::BadShape)?;
+    assert_refused(
+        &rt,
+        alloc,
+        numbers(alloc, 32)?.as_str(),
+        LineFault::UnknownLabel,
+    )
+}
+
+#[test]
+fn takes_version_and_caps_before_clients(rt: HostRuntime) -> Result<(), Fail> {
+    let alloc = rt.alloc();
+    let exec = "c1 exec db [\"x\"]";
+    let all = "caps fast_exec fast_query begin_options named pinger resetter validator";
+    let lines: [(&str, &str, Option<LineFault>); 20] = [
+        ("# c", "version 1", None),
+        ("# c", "version 3", Some(LineFault::BadShape)),
+        ("# c", "version", Some(LineFault::BadShape)),
+        ("# c", "version 01", Some(LineFault::BadShape)),
+        ("# c", "version 1 1", Some(LineFault::BadShape)),
+        ("# c", "version 1 [", Some(LineFault::BadShape)),
+        ("version 1", "version 1", Some(LineFault::NoSuchWord)),
+        ("caps", "version 1", Some(LineFault::NoSuchWord)),
+        (exec, "version 3", Some(LineFault::NoSuchWord)),
+        ("# c", "caps", None),
+        ("# c", all, None),
+        ("version 1", "caps named", None),
+        ("# c", "caps named named", Some(LineFault::BadShape)),
+        ("# c", "caps named fast_exec", Some(LineFault::BadShape)),
+        ("# c", "caps Named", Some(LineFault::BadShape)),
+        ("# c", "caps ", Some(LineFault::BadShape)),
+        ("# c", "caps []", Some(LineFault::BadShape)),
+        ("caps named", "caps", Some(LineFault::NoSuchWord)),
+        (exec, "caps x", Some(LineFault::NoSuchWord)),
+        (exec, "start", Some(LineFault::NoSuchWord)),
+    ];
+    for (before, line, fault) in lines {
+        let mut reader = Reader::new();
+        reader.read_line(alloc, before.as_bytes())?;
+        let told = reader.read_line(alloc, line.as_bytes()).err();
+        assert_eq!(rt; told, fault, "{line}");
+    }
+    Ok(())
+}
+
+#[test]
+fn caps_are_those_that_are_named(rt: HostRuntime) -> Result<(), Fail> {
+    let mut reader = Reader::new();
+    let want = Caps {
+        fast_exec: false,
+        fast_query: false,
+        begin_options: true,
+        named: true,
+        pinger: false,
+        resetter: false,
+        validator: false,
+    };
+    match reader.read_line(rt.alloc(), b"caps begin_options named")? {
+        ScriptLine::UseCaps(caps) => assert_eq!(rt; caps, want),
+        _other => assert!(rt; false),
     }
     Ok(())
 }
@@ -75,7 +272,7 @@ fn skips_empty_lines_and_comments(rt: HostRuntime) -> Result<(), Fail> {
 
 #[test]
 fn refuses_each_with_its_fault(rt: HostRuntime) -> Result<(), Fail> {
-    let lines: [(&str, LineFault); 46] = [
+    let lines: [(&str, LineFault); 45] = [
         ("[", LineFault::NoSuchWord),
         ("[\"a\"]", LineFault::NoSuchWord),
         (" [\"a\"]", LineFault::NoSuchWord),
@@ -122,7 +319,6 @@ fn refuses_each_with_its_fault(rt: HostRuntime) -> Result<(), Fail> {
         ("c1 exec db []", LineFault::BadShape),
         ("c1 exec db [1]", LineFault::BadShape),
         ("c1 exec db [[\"a\"]]", LineFault::BadShape),
-        ("c1 exec x [\"a\",1]", LineFault::BadShape),
         ("c1 exec db @k [\"a\"]", LineFault::UnknownLabel),
         (
             "c1 exec abcdefghijklmnopqrstuvwxyz_01234 [\"a\"]",
@@ -176,7 +372,7 @@ fn counts_what_it_takes_alone(rt: HostRuntime) -> Result<(), Fail> {
 
 #[test]
 fn faults_say_what_they_are(rt: HostRuntime) -> Result<(), Fail> {
-    let faults: [(LineFault, &str); 8] = [
+    let faults: [(LineFault, &str); 9] = [
         (LineFault::TooLong, "line too long"),
         (LineFault::NotUtf8, "not UTF-8"),
         (LineFault::NoSuchWord, "no such word"),
@@ -184,6 +380,7 @@ fn faults_say_what_they_are(rt: HostRuntime) -> Result<(), Fail> {
         (LineFault::BadShape, "wrong shape"),
         (LineFault::UnknownLabel, "unknown label"),
         (LineFault::TooMany(What::Lines), "too many lines"),
+        (LineFault::TooMany(What::Args), "too many arguments"),
         (LineFault::Memory, "out of memory"),
     ];
     for (fault, text) in faults {

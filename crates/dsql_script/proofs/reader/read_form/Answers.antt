@@ -1,4 +1,3 @@
-use Rattle.std.proofs.Common.{[]}
 use Rattle.std.specs.Option.{option_copied}
 use Rattle.dsql_script.proofs.ScriptForms.{form_of_client}
 use Rattle.dsql_script.proofs.reader.read_form.Goals as goal

@@ -1,4 +1,4 @@
-use Rattle.std.proofs.Common.{refl, sym, ◌∙◌}
+use Rattle.std.proofs.Common.{sym, ◌∙◌}
 use Rattle.dsql_script.proofs.Members.{Entry, two_members, named_of_members_other}
 use Rattle.dsql_script.proofs.reader.args.read_members.Goals as goal
 

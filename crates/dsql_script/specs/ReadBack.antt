@@ -1,0 +1,39 @@
+-- What a report says of a call, or of the capabilities, is in a script what it was made of.
+use Rattle.std.specs.Prelude.{◌≡◌, ℕ, ◌<◌, ◌^◌, List, FitsSigned, All, Some}
+use Rattle.std.specs.Int.{w8, w16, w32, w64}
+use Rattle.hex.specs.Hex.{IsBytes}
+use Rattle.dsql_value.specs.declared.arg.Arg.{Arg}
+use Rattle.dsql_value.specs.declared.arg.Arg.TheVariants.{I8, I16, I32, I64, U8, U16, U32, U64, Bytes, Time, NullI64, NullI32, NullI16, NullU8, NullTime}
+use Rattle.dsql_value.specs.declared.arg.Named.{Named}
+use Rattle.dsql_driver.specs.declared.caps.Caps.{Caps}
+use Rattle.dsql_script.specs.LineArgs.{arg_data, argument_data, exec_data}
+use Rattle.dsql_script.specs.Lines.{caps_names}
+use Rattle.dsql_script.specs.ScriptArgs.{arg_of_data, named_of_data, call_of_data}
+use Rattle.dsql_script.specs.ScriptHead.{caps_of}
+
+-- the argument's numbers are numbers of its type
+abbrev pub IsInRange : Arg → Type 0
+IsInRange (I8 n) = FitsSigned w8 n
+IsInRange (I16 n) = FitsSigned w16 n
+IsInRange (I32 n) = FitsSigned w32 n
+IsInRange (I64 n) = FitsSigned w64 n
+IsInRange (U8 n) = n < 2 ^ 8
+IsInRange (U16 n) = n < 2 ^ 16
+IsInRange (U32 n) = n < 2 ^ 32
+IsInRange (U64 n) = n < 2 ^ 64
+IsInRange (Bytes bytes) = IsBytes bytes
+IsInRange (Time n) = FitsSigned w64 n
+IsInRange (NullI64 (Some n)) = FitsSigned w64 n
+IsInRange (NullI32 (Some n)) = FitsSigned w32 n
+IsInRange (NullI16 (Some n)) = FitsSigned w16 n
+IsInRange (NullU8 (Some n)) = n < 2 ^ 8
+IsInRange (NullTime (Some n)) = FitsSigned w64 n
+IsInRange _ = Unit {0}
+
+pub record ReadsArgumentsBack : Type 0 where
+  pub argument : (arg : Arg) → IsInRange arg → arg_of_data (arg_data arg) ≡ Some arg
+  pub named : (named : Named) → IsInRange named.arg → named_of_data (argument_data named) ≡ Some named
+  pub call : (text : List ℕ) (args : List Named) → All (λ named. IsInRange named.arg) args → call_of_data (exec_data text args) ≡ Some (text, args)
+
+abbrev pub ReadsCapsBack : Type 0
+ReadsCapsBack = (caps : Caps) → caps_of (caps_names caps) ≡ Some caps
