@@ -1,7 +1,7 @@
 -- Each worked call is judged by computing.
 use Rattle.std.proofs.Common.{refl}
 use Rattle.std.specs.Fmt.{digits}
-use Rattle.dsql_mem.specs.Worked.{WorkedNumbers, WorkedCalls}
+use Rattle.dsql_mem.specs.Worked.{WorkedNumbers}
 
 pub worked_numbers : WorkedNumbers
 unfolding digits
@@ -13,16 +13,4 @@ worked_numbers = record {
   largest = refl;
   too_large = refl;
   smallest = refl;
-}
-
-pub worked_calls : WorkedCalls
-unfolding digits
-worked_calls = record {
-  before_b = refl;
-  at_b = refl;
-  result = refl;
-  input_for_value = refl;
-  input_for_key = refl;
-  double_space = refl;
-  other_verb = refl;
 }

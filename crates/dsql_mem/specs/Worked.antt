@@ -1,12 +1,7 @@
 -- What a SET comes to, and worked calls.
 use Rattle.std.specs.Prelude.{◌≡◌, ℕ, pos, negsuc, List, [], ◌∷◌, Some, None, codes, if◌then◌else◌}
 use Rattle.std.specs.Str.{bytes_eq}
-use Rattle.dsql_driver.specs.declared.answer.DriverAnswer.TheVariants.{Skip}
-use Rattle.dsql_driver.specs.declared.call.DriverCall.TheVariants.{Exec}
-use Rattle.dsql_driver.specs.declared.call.Input.TheVariants as input
 use Rattle.dsql_value.specs.declared.value.Value.{Value}
-use Rattle.dsql_value.specs.declared.value.Value.TheVariants.{Int, Text}
-use Rattle.dsql_mem.specs.Effect.{Effect, effect, one_affected, no_such_statement}
 use Rattle.dsql_mem.specs.Entries.{Entries, with_value, value_at}
 use Rattle.dsql_mem.specs.Number.{number_of}
 
@@ -24,16 +19,3 @@ pub record WorkedNumbers : Type 0 where
   pub largest : number_of (codes "9223372036854775807") ≡ Some (pos 9223372036854775807)
   pub too_large : number_of (codes "9223372036854775808") ≡ None
   pub smallest : number_of (codes "-9223372036854775808") ≡ Some (negsuc 9223372036854775807)
-
--- the effect of a text without parameters on a store where b is 7
-abbrev pub executes : List ℕ → Effect
-executes text = effect ((codes "b", Int (pos 7)) ∷ []) (record {}) (Exec (input.Text text) [])
-
-pub record WorkedCalls : Type 0 where
-  pub before_b : (executes (codes "SET a 1")).store ≡ (codes "a", Int (pos 1)) ∷ (codes "b", Int (pos 7)) ∷ []
-  pub at_b : (executes (codes "SET b Ann")).store ≡ (codes "b", Text (codes "Ann")) ∷ []
-  pub result : (executes (codes "SET a 1")).answer ≡ one_affected
-  pub input_for_value : (executes (codes "SET a ?")).answer ≡ Skip
-  pub input_for_key : (executes (codes "SET ? 1")).answer ≡ Skip
-  pub double_space : (executes (codes "SET a  1")).answer ≡ no_such_statement
-  pub other_verb : (executes (codes "GET a")).answer ≡ no_such_statement
