@@ -54,9 +54,9 @@ list_any-reverse p (x ∷ xs) =
     ∙ list_any-append p (reverse xs) (x ∷ [])
     ∙ or_comm (list_any p (reverse xs)) (p x || false)
     ∙ step (p x) (list_any p (reverse xs)) (list_any p xs) (list_any-reverse p xs) where
-  step : (b c d : Bool) → c ≡ d → ((b || false) || c) ≡ (b || d)
-  step true c d e = refl
-  step false c d e = e
+      step : (b c d : Bool) → c ≡ d → ((b || false) || c) ≡ (b || d)
+      step true c d e = refl
+      step false c d e = e
 
 above-all : (n : ℕ) (xs : List Prepared) → are_within n xs ≡ true → has_number (n + 1) (map handle_of xs) ≡ false
 above-all n [] h = refl

@@ -127,11 +127,10 @@ Kept = SessionState × DriverAnswer
 abbrev pub prepared : SessionState → List ℕ → Option Statement → Kept
 prepared session text None = (session, no_such_statement)
 prepared session text (Some statement) = let handle = session.last_handle + 1 in
-    if nat_lt session.last_handle largest_handle then
-      (
-        record { statements = session.statements ++ (record { handle = handle; text = text }) ∷ []; last_handle = handle },
-        Prepared handle (pos (inputs_of statement)),
-      )
+    if nat_lt session.last_handle largest_handle then (
+      record { statements = session.statements ++ (record { handle = handle; text = text }) ∷ []; last_handle = handle },
+      Prepared handle (pos (inputs_of statement)),
+    )
     else (session, numbers_spent)
 
 -- a handle is closed

@@ -102,3 +102,6 @@ fn query_prepared(alloc: Global, text: &str) -> Result<Copies, Memory>
         _ => Copies::of_failure(alloc, NO_SUCH_STATEMENT),
     }
 }
+
+#[cfg(test)]
+mod tests;

@@ -103,3 +103,75 @@ impl<R: AllocGlobal + Wait + Clone + Drop + Send> Fleet for MemFleet<R> {
         self.retired = before.enter(number, heard, room);
     }
 }
+
+#[cfg(test)]
+mod tests {
+    use super::*;
+    use dsql_driver::{DriverAnswer, DriverCall, Input, Wire};
+    use dsql_value::{Items, Txt};
+    use std::alloc::Global;
+    use std::test::Fail;
+
+    /// Executes a text on a wire, and adds the answer to the report.
+    fn exec<W: Wire>(
+        wire: &mut W,
+        text: &str,
+        report: &mut String,
+        alloc: Global,
+    ) -> Result<(), Memory> {
+        let text = Txt::copy_of(alloc, text)?;
+        let call = DriverCall::Exec(Input::Text(text), Items::none(alloc));
+        let answered = wire.call(&call);
+        let line = match &answered.answer {
+            DriverAnswer::Fail(text) => format!(in alloc; "{} ", text.as_str())?,
+            answer => format!(in alloc; "{answer:?} ")?,
+        };
+        report.push_str(line.as_str())?;
+        Ok(())
+    }
+
+    /// Two wires at work, in turn.
+    fn take_turns<W: Wire>(first: &mut W, second: &mut W, alloc: Global) -> Result<String, Memory> {
+        let mut report = String::new(alloc);
+        exec(first, "SET a 9223372036854775807", &mut report, alloc)?;
+        exec(second, "ADD a 1", &mut report, alloc)?;
+        exec(second, "DEL a", &mut report, alloc)?;
+        exec(first, "DEL a", &mut report, alloc)?;
+        Ok(report)
+    }
+
+    /// Opens two wires, sets them to work and takes them back.
+    fn work<F: Fleet>(fleet: &mut F, alloc: Global) -> Result<String, Refused> {
+        let mut first = fleet.connect(1)?;
+        let mut second = match fleet.connect(2) {
+            Ok(second) => second,
+            Err(refused) => {
+                fleet.retire(1, first);
+                return Err(refused);
+            }
+        };
+        let report = take_turns(&mut first, &mut second, alloc);
+        fleet.retire(2, second);
+        fleet.retire(1, first);
+        report.map_err(|_| Refused::Memory)
+    }
+
+    #[test]
+    fn two_wires_share_one_store(rt: HostRuntime) -> Result<(), Fail> {
+        let mut fleet = MemFleet::new(rt.clone()?)?;
+        assert!(rt; fleet.caps().fast_exec && !fleet.caps().named);
+        fleet.prefer(Caps {
+            pinger: false,
+            ..DEFAULT_CAPS
+        });
+        assert!(rt; !fleet.caps().pinger);
+        fleet.plan(1, 2, Planned::Bad)?;
+        let report = work(&mut fleet, rt.alloc())?;
+        let one = "Result { last: 0, affected: 1 }";
+        let none = "Result { last: 0, affected: 0 }";
+        let want = format!(in rt.alloc(); "{one} mem: out of range {one} {none} ")?;
+        assert_eq!(rt; report.as_str(), want.as_str());
+        assert_eq!(rt; fleet.retired_count(), 2);
+        Ok(())
+    }
+}
