@@ -1,8 +1,8 @@
 -- The entries of a map with texts for its keys, after an insertion.
-use Rattle.std.proofs.Common.{◌≡◌, ℕ, List, [], ◌∷◌, map, ap, refl, ◌∙◌, Bool, cond, Some, String, string_bytes}
+use Rattle.std.proofs.Common.{◌≡◌, ℕ, List, [], ◌∷◌, map, ap, refl, ◌∙◌, Bool, true, false, cond, Some, String, string_bytes}
 use Rattle.std.specs.BTreeMap.{insert_entry}
 use Rattle.std.specs.Cmp.Lexicographic.{slice_cmp}
-use Rattle.std.specs.Map.{lookup}
+use Rattle.std.specs.Map.{lookup, remove_entry}
 use Rattle.std.specs.Ordering.{nat_cmp, match_ordering}
 use Rattle.std.specs.String.{string_cmp}
 use Rattle.std.specs.declared.cmp.Ordering.{Ordering}
@@ -22,6 +22,17 @@ map-insert_entry key value [] = refl
 map-insert_entry key value (e ∷ es) =
     map-match_ordering entry_of (string_cmp key e.0) ((key, value) ∷ e ∷ es) ((e.0, value) ∷ es) (e ∷ insert_entry string_cmp es key value)
     ∙ ap (λ rest. match_ordering (string_cmp key e.0) ((string_bytes key, value) ∷ entry_of e ∷ map entry_of es) ((string_bytes e.0, value) ∷ map entry_of es) (entry_of e ∷ rest)) (map-insert_entry key value es)
+
+map-cond : {A B : Type 0} (f : A → B) (b : Bool) (xs ys : List A) → map f (cond b xs ys) ≡ cond b (map f xs) (map f ys)
+map-cond f true xs ys = refl
+map-cond f false xs ys = refl
+
+-- an entry goes that a test finds by the bytes of its key
+pub map-remove_entry : {Y X : Type 0} (test : List ℕ → Bool) (es : List (String Y × X)) → map entry_of (remove_entry (λ (k : String Y). test (string_bytes k)) es) ≡ remove_entry test (map entry_of es)
+map-remove_entry test [] = refl
+map-remove_entry test (e ∷ es) =
+    map-cond entry_of (test (string_bytes e.0)) es (e ∷ remove_entry (λ k. test (string_bytes k)) es)
+    ∙ ap (λ rest. cond (test (string_bytes e.0)) (map entry_of es) (entry_of e ∷ rest)) (map-remove_entry test es)
 
 -- what a test finds among the entries, it finds by the keys' bytes
 pub lookup-entry_of : {Y X : Type 0} (test : List ℕ → Bool) (es : List (String Y × X)) → lookup (λ (k : String Y). test (string_bytes k)) es ≡ lookup test (map entry_of es)

@@ -1,7 +1,7 @@
 -- Each worked call is judged by computing.
 use Rattle.std.proofs.Common.{refl}
 use Rattle.std.specs.Fmt.{digits}
-use Rattle.dsql_mem.specs.Worked.{WorkedNumbers, WorkedCalls}
+use Rattle.dsql_mem.specs.Worked.{WorkedNumbers, WorkedTexts, WorkedHandles}
 
 pub worked_numbers : WorkedNumbers
 unfolding digits
@@ -15,14 +15,36 @@ worked_numbers = record {
   smallest = refl;
 }
 
-pub worked_calls : WorkedCalls
+pub worked_texts : WorkedTexts
 unfolding digits
-worked_calls = record {
-  before_b = refl;
-  at_b = refl;
-  result = refl;
+worked_texts = record {
+  set_before_b = refl;
+  set_at_b = refl;
+  added = refl;
+  added_to_none = refl;
+  added_to_text = refl;
+  text_added = refl;
+  sum_too_large = refl;
+  deleted = refl;
+  deleted_is_not_there = refl;
+  deleted_none = refl;
   input_for_value = refl;
   input_for_key = refl;
+  input_of_query = refl;
+  query = refl;
+  list = refl;
   double_space = refl;
+  third_word = refl;
   other_verb = refl;
+}
+
+pub worked_handles : WorkedHandles
+unfolding digits
+worked_handles = record {
+  by_order = refl;
+  closed = refl;
+  grows = refl;
+  wrong_way = refl;
+  passed_on = refl;
+  spent = refl;
 }

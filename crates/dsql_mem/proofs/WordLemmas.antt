@@ -1,10 +1,10 @@
 -- The words of a text, from what `split_once` and `contains` say of its first space.
-use Rattle.std.proofs.Common.{◌≡◌, ◌≢◌, ℕ, ◌<◌, length, get_or, List, [], ◌∷◌, ◌++◌, Option, Some, None, true, false, eqb, refl, subst, sym, ap, ◌∙◌, ◌+◌, MatchOption, is_some, Bor, arith}
+use Rattle.std.proofs.Common.{◌≡◌, ◌≢◌, ℕ, ◌<◌, length, get_or, List, [], ◌∷◌, ◌++◌, Option, Some, None, false, eqb, refl, subst, sym, ap, ◌∙◌, ◌+◌, MatchOption, Bor, arith}
 use Rattle.std.specs.List.{All, count_by}
-use Rattle.std.proofs.lemmas.Bool.{ne_eqb, and_right, cond-false}
+use Rattle.std.proofs.lemmas.Bool.{ne_eqb}
 use Rattle.std.proofs.lemmas.List.{get_or_default}
 use Rattle.std.proofs.lemmas.List.Splits.{slice_split_none, slice_split_at, length-slice_split}
-use Rattle.dsql_mem.specs.Statement.{words_of, is_word, pair_of}
+use Rattle.dsql_mem.specs.Statement.{words_of, statement_of_parts}
 
 -- a text with no space in it
 pub record HasNoSpace (bs : List ℕ) : Type 0 where
@@ -29,29 +29,13 @@ pub words_of-parts : (bs : List ℕ) (r : Option (Bor (List ℕ) × Bor (List �
 words_of-parts bs None h = words_of-alone bs (record { none = h })
 words_of-parts bs (Some x) h = words_of-first bs x.0.now x.1.now h.0 (record { none = h.1 })
 
--- the list of a text's words isn't empty
-pub words_of-some : (bs : List ℕ) (parts : List (List ℕ)) → words_of bs ≡ parts → 0 < length parts
-words_of-some bs parts e =
+-- three parts behind a verb, and more, are no statement
+pub statement_of_parts-many : (verb first second : List ℕ) (parts : List (List ℕ)) → 0 < length parts → statement_of_parts (verb ∷ first ∷ second ∷ parts) ≡ None
+statement_of_parts-many verb first second [] n = absurd (omega arith)
+statement_of_parts-many verb first second (third ∷ parts) n = refl
+
+-- a text has a part at least
+pub words_of-some : (bs : List ℕ) → 0 < length (words_of bs)
+words_of-some bs =
     let n : length (words_of bs) ≡ count_by (λ b. eqb b 32) bs + 1 = length-slice_split (λ b. eqb b 32) bs in
-    let m : length (words_of bs) ≡ length parts = ap length e in
-    omega (arith, m, n)
-
--- an empty first word is no word
-pub pair_of-empty_first : (first : List ℕ) (parts : List (List ℕ)) → length first ≡ 0 → pair_of (first ∷ parts) ≡ None
-pair_of-empty_first first [] h = refl
-pair_of-empty_first [] (second ∷ []) h = refl
-pair_of-empty_first (b ∷ first) (second ∷ []) h = absurd (omega arith)
-pair_of-empty_first first (second ∷ third ∷ parts) h = refl
-
--- nor is an empty second one
-pub pair_of-empty_second : (first second : List ℕ) → length second ≡ 0 → pair_of (first ∷ words_of second) ≡ None
-pair_of-empty_second first [] h = cond-false _ (Some (first, [])) None (and_right (is_word first) (is_word []) refl)
-pair_of-empty_second first (b ∷ second) h = absurd (omega arith)
-
--- three words are no pair
-pub pair_of-third : (first second : List ℕ) (r : Option (Bor (List ℕ) × Bor (List ℕ))) → is_some r ≡ true → MatchOption r (words_of second ≡ second ∷ []) (λ x. words_of second ≡ x.0.now ∷ words_of x.1.now) → pair_of (first ∷ words_of second) ≡ None
-pair_of-third first second None s h = cc
-pair_of-third first second (Some x) s h = rw h (more (words_of x.1.now) (words_of-some x.1.now _ refl)) where
-  more : (parts : List (List ℕ)) → 0 < length parts → pair_of (first ∷ x.0.now ∷ parts) ≡ None
-  more [] n = absurd (omega arith)
-  more (third ∷ parts) n = refl
+    omega (arith, n)

@@ -3,7 +3,7 @@ use Rattle.std.specs.Prelude.{ℕ, List, Option}
 use Rattle.std.specs.Option.{option_map_or}
 use Rattle.std.specs.BTreeMap.{insert_entry}
 use Rattle.std.specs.Cmp.Lexicographic.{slice_cmp}
-use Rattle.std.specs.Map.{lookup}
+use Rattle.std.specs.Map.{lookup, remove_entry}
 use Rattle.std.specs.Ordering.{is_eq, nat_cmp}
 use Rattle.dsql_value.specs.declared.value.Value.{Value}
 use Rattle.dsql_value.specs.declared.value.Value.TheVariants.{Int, Text}
@@ -16,6 +16,10 @@ Entries = List (List ℕ × Value)
 -- the entries once the key has this value
 abbrev pub with_value : List ℕ → Value → Entries → Entries
 with_value key value entries = insert_entry (slice_cmp nat_cmp) entries key value
+
+-- the entries once the key isn't there
+abbrev pub without_key : List ℕ → Entries → Entries
+without_key key entries = remove_entry (λ k. is_eq (slice_cmp nat_cmp key k)) entries
 
 -- the value that the key has
 abbrev pub value_at : List ℕ → Entries → Option Value

@@ -1,8 +1,10 @@
 pub mod Copies
 pub mod Effect
 pub mod Entries
+pub mod Filled
 pub mod Number
 pub mod Roll
+pub mod Session
 pub mod Spelled
 pub mod Statement
 pub mod Wire

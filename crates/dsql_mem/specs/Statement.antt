@@ -1,11 +1,16 @@
 -- The statements of this driver: a few words, with a single space between each two.
-use Rattle.std.specs.Prelude.{ℕ, ◌==◌, nat_lt, Bool, ◌&&◌, ◌||◌, List, [], ◌∷◌, length, Option, Some, None, option_map, codes, if◌then◌else◌}
+use Rattle.std.specs.Prelude.{ℕ, ◌==◌, nat_lt, Bool, true, false, ◌&&◌, List, [], ◌∷◌, length, count_by, Option, Some, None, codes, if◌then◌else◌}
 use Rattle.std.specs.List.{slice_split}
 use Rattle.std.specs.Str.{bytes_eq}
 
--- a statement: a key gets a value
+-- A statement: a key gets a value, a key's number grows by one, a key goes, a key's value is asked for, and so are the keys
+-- with a prefix.
 pub data Statement : Type 0 where
   Set : (key value : List ℕ) → Statement
+  Add : (key value : List ℕ) → Statement
+  Del : (key : List ℕ) → Statement
+  Get : (key : List ℕ) → Statement
+  ListKeys : (prefix : List ℕ) → Statement
 
 -- the parts of a text between its spaces
 abbrev pub words_of : List ℕ → List (List ℕ)
@@ -15,20 +20,25 @@ words_of text = slice_split (λ b. b == 32) text
 abbrev pub is_word : List ℕ → Bool
 is_word part = nat_lt 0 (length part)
 
--- the two words that the parts are
-abbrev pub pair_of : List (List ℕ) → Option (List ℕ × List ℕ)
-pair_of (first ∷ second ∷ []) = if is_word first && is_word second then Some (first, second) else None
-pair_of _ = None
+-- the statement that a verb is with one word
+abbrev pub with_one_word : List ℕ → List ℕ → Option Statement
+with_one_word verb word =
+    if bytes_eq verb (codes "DEL") then Some (Del word)
+    else (if bytes_eq verb (codes "GET") then Some (Get word)
+    else (if bytes_eq verb (codes "LIST") then Some (ListKeys word) else None))
 
--- the two words that a text is
-abbrev pub two_words_of : List ℕ → Option (List ℕ × List ℕ)
-two_words_of text = pair_of (words_of text)
+-- the statement that a verb is with two words
+abbrev pub with_two_words : List ℕ → List ℕ → List ℕ → Option Statement
+with_two_words verb key value =
+    if bytes_eq verb (codes "SET") then Some (Set key value)
+    else (if bytes_eq verb (codes "ADD") then Some (Add key value) else None)
 
 -- the statement that the parts are
 abbrev pub statement_of_parts : List (List ℕ) → Option Statement
-statement_of_parts [] = None
-statement_of_parts (verb ∷ parts) =
-    if bytes_eq verb (codes "SET") then option_map (λ words. Set words.0 words.1) (pair_of parts) else None
+statement_of_parts (verb ∷ word ∷ []) = if is_word word then with_one_word verb word else None
+statement_of_parts (verb ∷ key ∷ value ∷ []) =
+    if is_word key && is_word value then with_two_words verb key value else None
+statement_of_parts _ = None
 
 -- the statement that a text is
 abbrev pub statement_of : List ℕ → Option Statement
@@ -38,6 +48,20 @@ statement_of text = statement_of_parts (words_of text)
 abbrev pub is_input : List ℕ → Bool
 is_input word = bytes_eq word (codes "?")
 
--- the statement has inputs
-abbrev pub has_inputs : Statement → Bool
-has_inputs (Set key value) = is_input key || is_input value
+-- the words behind a statement's verb
+abbrev pub words_in : Statement → List (List ℕ)
+words_in (Set key value) = key ∷ value ∷ []
+words_in (Add key value) = key ∷ value ∷ []
+words_in (Del key) = key ∷ []
+words_in (Get key) = key ∷ []
+words_in (ListKeys prefix) = prefix ∷ []
+
+-- how many inputs a statement has
+abbrev pub inputs_of : Statement → ℕ
+inputs_of statement = count_by is_input (words_in statement)
+
+-- the statement asks, and so it is for Query; the others are for Exec
+abbrev pub is_query : Statement → Bool
+is_query (Get key) = true
+is_query (ListKeys prefix) = true
+is_query _ = false

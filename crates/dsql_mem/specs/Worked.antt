@@ -1,14 +1,18 @@
--- What a SET comes to, and worked calls.
+-- What a SET and a DEL come to, and worked calls.
 use Rattle.std.specs.Prelude.{◌≡◌, ℕ, pos, negsuc, List, [], ◌∷◌, Some, None, codes, if◌then◌else◌}
 use Rattle.std.specs.Str.{bytes_eq}
-use Rattle.dsql_driver.specs.declared.answer.DriverAnswer.TheVariants.{Skip}
-use Rattle.dsql_driver.specs.declared.call.DriverCall.TheVariants.{Exec}
+use Rattle.dsql_driver.specs.declared.answer.DriverAnswer.{DriverAnswer}
+use Rattle.dsql_driver.specs.declared.answer.DriverAnswer.TheVariants.{Done, Prepared, Skip}
+use Rattle.dsql_driver.specs.declared.call.DriverCall.{DriverCall}
+use Rattle.dsql_driver.specs.declared.call.DriverCall.TheVariants.{Prepare, CloseStmt, Exec, Query}
 use Rattle.dsql_driver.specs.declared.call.Input.TheVariants as input
+use Rattle.dsql_value.specs.declared.value.Param.{Param}
 use Rattle.dsql_value.specs.declared.value.Value.{Value}
-use Rattle.dsql_value.specs.declared.value.Value.TheVariants.{Int, Text}
-use Rattle.dsql_mem.specs.Effect.{Effect, effect, one_affected, no_such_statement}
-use Rattle.dsql_mem.specs.Entries.{Entries, with_value, value_at}
+use Rattle.dsql_value.specs.declared.value.Value.TheVariants.{Nil, Int, Text}
+use Rattle.dsql_mem.specs.Effect.{Effect, effect, only_answered, affected, no_such_handle, no_such_statement, not_a_command, not_a_query, wrong_arguments, key_is_not_text, not_a_number, out_of_range, numbers_spent}
+use Rattle.dsql_mem.specs.Entries.{Entries, with_value, without_key, value_at}
 use Rattle.dsql_mem.specs.Number.{number_of}
+use Rattle.dsql_mem.specs.Session.{SessionState, new_session}
 
 -- once a key has a value, each other key has what it had
 abbrev pub SetsOneKey : Type 0
@@ -25,15 +29,93 @@ pub record WorkedNumbers : Type 0 where
   pub too_large : number_of (codes "9223372036854775808") ≡ None
   pub smallest : number_of (codes "-9223372036854775808") ≡ Some (negsuc 9223372036854775807)
 
--- the effect of a text without parameters on a store where b is 7
-abbrev pub executes : List ℕ → Effect
-executes text = effect ((codes "b", Int (pos 7)) ∷ []) (record {}) (Exec (input.Text text) [])
+-- a map with a number, the largest number and a text
+abbrev pub sample : Entries
+sample = (codes "b", Int (pos 7)) ∷ (codes "m", Int (pos 9223372036854775807)) ∷ (codes "t", Text (codes "Ann")) ∷ []
 
-pub record WorkedCalls : Type 0 where
-  pub before_b : (executes (codes "SET a 1")).store ≡ (codes "a", Int (pos 1)) ∷ (codes "b", Int (pos 7)) ∷ []
-  pub at_b : (executes (codes "SET b Ann")).store ≡ (codes "b", Text (codes "Ann")) ∷ []
-  pub result : (executes (codes "SET a 1")).answer ≡ one_affected
-  pub input_for_value : (executes (codes "SET a ?")).answer ≡ Skip
-  pub input_for_key : (executes (codes "SET ? 1")).answer ≡ Skip
-  pub double_space : (executes (codes "SET a  1")).answer ≡ no_such_statement
-  pub other_verb : (executes (codes "GET a")).answer ≡ no_such_statement
+-- the effect of a text without parameters
+abbrev pub executes : List ℕ → Effect
+executes text = effect sample new_session (Exec (input.Text text) [])
+
+-- an answer after which all is as it was
+abbrev pub only : DriverAnswer → Effect
+only answer = only_answered sample new_session answer
+
+-- a command that affected so many entries, and the map afterwards
+abbrev pub done : ℕ → Entries → Effect
+done n store = only_answered store new_session (affected n)
+
+pub record WorkedTexts : Type 0 where
+  pub set_before_b : executes (codes "SET a 1") ≡ done 1 ((codes "a", Int (pos 1)) ∷ sample)
+  pub set_at_b : (executes (codes "SET b Ann")).store ≡ with_value (codes "b") (Text (codes "Ann")) sample
+  pub added : (executes (codes "ADD b -2")).store ≡ with_value (codes "b") (Int (pos 5)) sample
+  pub added_to_none : executes (codes "ADD a 3") ≡ done 1 ((codes "a", Int (pos 3)) ∷ sample)
+  pub added_to_text : executes (codes "ADD t 1") ≡ only not_a_number
+  pub text_added : executes (codes "ADD b x") ≡ only not_a_number
+  pub sum_too_large : executes (codes "ADD m 1") ≡ only out_of_range
+  pub deleted : (executes (codes "DEL b")).answer ≡ affected 1
+  pub deleted_is_not_there : value_at (codes "b") (executes (codes "DEL b")).store ≡ None
+  pub deleted_none : executes (codes "DEL a") ≡ done 0 sample
+  pub input_for_value : executes (codes "SET a ?") ≡ only Skip
+  pub input_for_key : executes (codes "DEL ?") ≡ only Skip
+  pub input_of_query : executes (codes "GET ?") ≡ only Skip
+  pub query : executes (codes "GET b") ≡ only not_a_command
+  pub list : executes (codes "LIST b") ≡ only not_a_command
+  pub double_space : executes (codes "SET a  1") ≡ only no_such_statement
+  pub third_word : executes (codes "DEL a b") ≡ only no_such_statement
+  pub other_verb : executes (codes "PUT a 1") ≡ only no_such_statement
+
+-- what calls are answered, one after the other, on an empty map and in a new session
+abbrev pub answers_from : Entries → SessionState → List DriverCall → List DriverAnswer
+answers_from store session [] = []
+answers_from store session (call ∷ calls) = let after = effect store session call in
+    after.answer ∷ answers_from after.store after.session calls
+
+-- a handle is executed with values; names would be passed over
+abbrev pub exec : ℕ → List Param → DriverCall
+exec handle params = Exec (input.Handle handle) params
+
+-- a parameter without a name, and one with a name
+abbrev pub unnamed : Value → Param
+unnamed value = record { name = None; value = value }
+
+abbrev pub named : List ℕ → Value → Param
+named name value = record { name = Some name; value = value }
+
+pub record WorkedHandles : Type 0 where
+  -- the parameters are taken in order
+  pub by_order :
+      answers_from [] new_session
+      (Prepare (codes "SET ? ?") ∷ exec 1 (unnamed (Text (codes "a")) ∷ unnamed (Int (pos 5)) ∷ [])
+      ∷ exec 1 (unnamed (Int (pos 5)) ∷ unnamed (Text (codes "a")) ∷ [])
+      ∷ exec 1 (named (codes "value") (Text (codes "b")) ∷ named (codes "key") Nil ∷ []) ∷ [])
+      ≡ Prepared 1 (pos 2) ∷ affected 1 ∷ key_is_not_text ∷ affected 1 ∷ []
+  -- a handle is over once it is closed, and its number isn't given again
+  pub closed :
+      answers_from [] new_session
+      (exec 1 [] ∷ Prepare (codes "DEL a") ∷ exec 1 [] ∷ CloseStmt 1 ∷ exec 1 [] ∷ CloseStmt 1
+      ∷ Prepare (codes "DEL a") ∷ [])
+      ≡ no_such_handle ∷ Prepared 1 (pos 0) ∷ affected 0 ∷ Done ∷ no_such_handle ∷ no_such_handle
+      ∷ Prepared 2 (pos 0) ∷ []
+  -- a value grows by an input
+  pub grows :
+      answers_from [] new_session
+      (Prepare (codes "ADD a ?") ∷ exec 1 (unnamed (Int (pos 2)) ∷ []) ∷ exec 1 (unnamed (Int (negsuc 4)) ∷ [])
+      ∷ exec 1 (unnamed (Text (codes "2")) ∷ []) ∷ exec 1 (unnamed Nil ∷ []) ∷ exec 1 [] ∷ [])
+      ≡ Prepared 1 (pos 1) ∷ affected 1 ∷ affected 1 ∷ not_a_number ∷ not_a_number ∷ wrong_arguments ∷ []
+  -- a query isn't executed, nor a command asked
+  pub wrong_way :
+      answers_from [] new_session
+      (Prepare (codes "GET ?") ∷ exec 1 [] ∷ Prepare (codes "SET a 1") ∷ Query (input.Handle 2) []
+      ∷ Query (input.Text (codes "SET a 1")) [] ∷ [])
+      ≡ Prepared 1 (pos 1) ∷ not_a_command ∷ Prepared 2 (pos 0) ∷ not_a_query ∷ not_a_query ∷ []
+  -- a text with parameters is passed on, whatever it is
+  pub passed_on :
+      answers_from [] new_session
+      (Exec (input.Text (codes "SET a 1")) (unnamed Nil ∷ []) ∷ Exec (input.Text []) (unnamed Nil ∷ []) ∷ [])
+      ≡ Skip ∷ Skip ∷ []
+  -- the numbers of handles are spent
+  pub spent :
+      answers_from [] (record { statements = []; last_handle = 4294967294 })
+      (Prepare (codes "DEL a") ∷ Prepare (codes "DEL a") ∷ Prepare (codes "DEL") ∷ [])
+      ≡ Prepared 4294967295 (pos 0) ∷ numbers_spent ∷ no_such_statement ∷ []

@@ -2,7 +2,12 @@
 //! statement is a few words.
 #![tactic(auto)]
 
+mod apply;
+mod connection;
 mod copies;
+mod execute;
+mod failures;
+mod filled;
 mod fleet;
 mod number;
 mod roll;

@@ -1,11 +1,15 @@
-ghost use Rattle.std.specs.Prelude.{◌≡◌, [], ◌∷◌, MatchOption, option_map};
-ghost use Rattle.dsql_mem.specs.Statement.{words_of, two_words_of, statement_of, is_input, has_inputs};
+ghost use Rattle.std.specs.Prelude.{◌≡◌, ◌&&◌, [], ◌∷◌, MatchOption, option_map, None, if◌then◌else◌};
+ghost use Rattle.dsql_mem.specs.Statement.{words_of, is_word, with_one_word, with_two_words, statement_of, is_input, inputs_of, is_query};
 ghost use Rattle.dsql_mem.specs.Spelled.{spelled};
 
 /// A statement, with its words as they stand in its text.
 #[derive(Clone, Copy)]
 pub(crate) enum Statement<'a> {
     Set { key: &'a str, value: &'a str },
+    Add { key: &'a str, value: &'a str },
+    Del { key: &'a str },
+    Get { key: &'a str },
+    ListKeys { prefix: &'a str },
 }
 
 impl<'a> Statement<'a> {
@@ -14,20 +18,62 @@ impl<'a> Statement<'a> {
         ensures { option_map spelled result ≡ statement_of text.now }
     {
         let (verb, rest) = split_word(text)?;
-        if verb != "SET" {
-            return None;
+        match split_word(rest) {
+            None => Statement::of_word(verb, rest),
+            Some((key, rest)) => match split_word(rest) {
+                None => Statement::of_words(verb, key, rest),
+                Some(_) => None,
+            },
         }
-        let (key, value) = two_words(rest)?;
-        Some(Statement::Set { key, value })
     }
 
-    /// Whether some of its words stand for inputs.
-    pub(crate) fn has_inputs(&self) -> bool
-        ensures { result ≡ has_inputs (spelled self.now) }
+    /// The statement that a verb is with one part behind it.
+    fn of_word(verb: &str, word: &'a str) -> Option<Statement<'a>>
+        ensures { option_map spelled result ≡ (if is_word word.now then with_one_word verb.now word.now else None) }
+    {
+        if word.is_empty() {
+            return None;
+        }
+        match verb {
+            "DEL" => Some(Statement::Del { key: word }),
+            "GET" => Some(Statement::Get { key: word }),
+            "LIST" => Some(Statement::ListKeys { prefix: word }),
+            _ => None,
+        }
+    }
+
+    /// The statement that a verb is with two parts behind it.
+    fn of_words(verb: &str, key: &'a str, value: &'a str) -> Option<Statement<'a>>
+        ensures { option_map spelled result ≡ (if is_word key.now && is_word value.now then with_two_words verb.now key.now value.now else None) }
+    {
+        if key.is_empty() || value.is_empty() {
+            return None;
+        }
+        match verb {
+            "SET" => Some(Statement::Set { key, value }),
+            "ADD" => Some(Statement::Add { key, value }),
+            _ => None,
+        }
+    }
+
+    /// How many of its words stand for inputs.
+    pub(crate) fn inputs(&self) -> u8
+        ensures { result ≡ inputs_of (spelled self.now) }
     {
         match self {
-            Statement::Set { key, value } => is_input(key) || is_input(value),
+            Statement::Set { key, value } | Statement::Add { key, value } => {
+                u8::from(is_input(key)) + u8::from(is_input(value))
+            }
+            Statement::Del { key } | Statement::Get { key } => u8::from(is_input(key)),
+            Statement::ListKeys { prefix } => u8::from(is_input(prefix)),
         }
+    }
+
+    /// Whether it is for Query; the others are for Exec.
+    pub(crate) fn is_query(&self) -> bool
+        ensures { result ≡ is_query (spelled self.now) }
+    {
+        matches!(self, Statement::Get { .. } | Statement::ListKeys { .. })
     }
 }
 
@@ -38,19 +84,8 @@ fn split_word(text: &str) -> Option<(&str, &str)>
     text.split_once(' ')
 }
 
-/// The two words of a text that is just that.
-fn two_words(text: &str) -> Option<(&str, &str)>
-    ensures { option_map (λ words. (words.0.now, words.1.now)) result ≡ two_words_of text.now }
-{
-    let (first, second) = split_word(text)?;
-    if first.is_empty() || second.is_empty() || split_word(second).is_some() {
-        return None;
-    }
-    Some((first, second))
-}
-
 /// Whether the word stands for an input.
-fn is_input(word: &str) -> bool
+pub(crate) fn is_input(word: &str) -> bool
     ensures { result ≡ is_input word.now }
 {
     word == "?"

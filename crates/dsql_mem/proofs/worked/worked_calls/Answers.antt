@@ -1,6 +1,7 @@
-use Rattle.dsql_mem.proofs.Examples.{worked_numbers, worked_calls}
+use Rattle.dsql_mem.proofs.Examples.{worked_numbers, worked_texts, worked_handles}
 use Rattle.dsql_mem.proofs.SetLaw.{sets_one_key}
 use Rattle.dsql_mem.proofs.worked.worked_calls.Goals as goal
 
 pub returns : goal.returns
-returns c = record { set = sets_one_key; numbers = worked_numbers; calls = worked_calls }
+returns c =
+    record { set = sets_one_key; numbers = worked_numbers; texts = worked_texts; handles = worked_handles }

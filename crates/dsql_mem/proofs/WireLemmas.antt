@@ -1,0 +1,63 @@
+-- What a wire is after a call that it carried out on some map, or for which memory was wanting.
+use Rattle.std.proofs.Common.{◌≡◌, ◌⊎◌, ℕ, List, [], ◌∷◌, ◌++◌, Bool, true, false, refl, sym, ap, ◌∙◌, inl, inr}
+use Rattle.std.proofs.lemmas.Bool.{false≢true}
+use Rattle.dsql_driver.specs.Fits.{fits_of, is_memory}
+use Rattle.dsql_driver.specs.Wires.{Told, KeepsHandles, KeepsCursors}
+use Rattle.dsql_driver.specs.declared.answer.DriverAnswer.{DriverAnswer}
+use Rattle.dsql_driver.specs.declared.answer.DriverAnswer.TheVariants.{Done, Prepared, Result, Cursor, Row, End, Invalid, Skip, Bad, Fail, Memory}
+use Rattle.dsql_driver.specs.declared.call.DriverCall.{DriverCall}
+use Rattle.dsql_mem.specs.Effect.{effect}
+use Rattle.dsql_mem.specs.Entries.{Entries}
+use Rattle.dsql_mem.specs.Session.{SessionState, IsReadyFor, handles_of, cursors_of}
+use Rattle.dsql_mem.specs.Wire.{WireState, CarriesOut, after_call, faults_after}
+use Rattle.dsql_mem.proofs.EffectLemmas.{IsLawful, effect-IsLawful}
+
+-- a wire that took a call's answer and noted it is the wire after the call
+pub changed_by_parts : (store : Entries) (call noted : DriverCall) (before : WireState) (session : SessionState) (heard : List Told) (faults : ℕ) (answer note : DriverAnswer) → session ≡ (effect store before.session call).session → answer ≡ (effect store before.session call).answer → note ≡ (effect store before.session call).answer → noted ≡ call → heard ≡ before.heard ++ (noted, note) ∷ [] → faults ≡ faults_after before.faults answer → record { session = session; heard = heard; faults = faults } ≡ after_call store before call
+changed_by_parts store call noted before session heard faults answer note s a n c h f = rw (h, f, s, a, n, c) refl
+
+-- Memory, or another answer
+memory-or_not : (answer : DriverAnswer) → (answer ≡ Memory) ⊎ (is_memory answer ≡ false)
+memory-or_not Memory = inl refl
+memory-or_not Done = inr refl
+memory-or_not (Prepared handle inputs) = inr refl
+memory-or_not (Result last affected) = inr refl
+memory-or_not (Cursor rows columns) = inr refl
+memory-or_not (Row values) = inr refl
+memory-or_not End = inr refl
+memory-or_not Invalid = inr refl
+memory-or_not Skip = inr refl
+memory-or_not Bad = inr refl
+memory-or_not (Fail text) = inr refl
+
+-- a wire's answer and what it was before and afterwards
+pub record IsHeard (store : Entries) (call : DriverCall) (answer : DriverAnswer) (before after : WireState) : Type 0 where
+  pub carried_out : is_memory answer ≡ false → CarriesOut store call answer before after
+  pub ready : is_memory answer ≡ false → IsReadyFor call before.session
+  pub stays : is_memory answer ≡ true → after ≡ before
+
+pub heard-fits : (store : Entries) (call : DriverCall) (answer : DriverAnswer) (before after : WireState) → IsHeard store call answer before after → fits_of call answer ≡ true
+heard-fits store call answer before after h = elim (memory-or_not answer) [
+  | inl e ↦ ap (fits_of call) e
+  | inr other ↦
+      let law = effect-IsLawful store before.session call (h.ready other) in
+      ap (fits_of call) (h.carried_out other).answered ∙ law.fits
+]
+
+pub heard-handles : (store : Entries) (call : DriverCall) (answer : DriverAnswer) (before after : WireState) → IsHeard store call answer before after → KeepsHandles call answer (handles_of before.session) (handles_of after.session)
+heard-handles store call answer before after h = elim (memory-or_not answer) [
+  | inl e ↦
+      let stays : after ≡ before = h.stays (ap is_memory e) in
+      rw e (ap (λ (w : WireState). handles_of w.session) stays)
+  | inr other ↦
+      let law = effect-IsLawful store before.session call (h.ready other) in
+      rw ((h.carried_out other).answered, (h.carried_out other).changed) law.handles
+]
+
+pub heard-cursors : (store : Entries) (call : DriverCall) (answer : DriverAnswer) (before after : WireState) → IsHeard store call answer before after → KeepsCursors call answer (cursors_of before.session) (cursors_of after.session)
+heard-cursors store call answer before after h = elim (memory-or_not answer) [
+  | inl e ↦ rw e refl
+  | inr other ↦
+      let law = effect-IsLawful store before.session call (h.ready other) in
+      rw (h.carried_out other).answered law.cursors
+]

@@ -1,0 +1,145 @@
+use super::*;
+use dsql_value::{Items, Param, Txt, Value};
+use std::test::Fail;
+
+const ONE: &str = "Result { last: 0, affected: 1 }";
+
+/// The answer to a call as it is printed, of a Fail its text alone.
+fn answer(
+    store: &mut Store,
+    session: &mut Session,
+    alloc: Global,
+    call: &DriverCall,
+) -> Result<String, Memory> {
+    let answered = store.apply(alloc, session, call);
+    match &answered.answer {
+        DriverAnswer::Fail(text) => Ok(String::from_str(alloc, text.as_str())?),
+        answer => Ok(format!(in alloc; "{answer:?}")?),
+    }
+}
+
+fn exec_text(alloc: Global, text: &str) -> Result<DriverCall, Memory> {
+    let text = Txt::copy_of(alloc, text)?;
+    Ok(DriverCall::Exec(Input::Text(text), Items::none(alloc)))
+}
+
+fn prepare(alloc: Global, text: &str) -> Result<DriverCall, Memory> {
+    Ok(DriverCall::Prepare(Txt::copy_of(alloc, text)?))
+}
+
+fn text(alloc: Global, text: &str) -> Result<Value, Memory> {
+    Ok(Value::Text(Txt::copy_of(alloc, text)?))
+}
+
+fn exec(alloc: Global, handle: u32, values: Vec<Value>) -> Result<DriverCall, Memory> {
+    let mut params = Vec::new(alloc);
+    for value in values {
+        params.push(Param { name: None, value })?;
+    }
+    Ok(DriverCall::Exec(Input::Handle(handle), Items::new(params)))
+}
+
+#[test]
+fn texts_are_answered_by_the_table(rt: HostRuntime) -> Result<(), Fail> {
+    let alloc = rt.alloc();
+    let unknown = "mem: no such statement";
+    let mut store = Store::new(alloc);
+    let mut session = Session::new(alloc);
+    for (text, want) in [
+        ("SET a 1", ONE),
+        ("SET b -5", ONE),
+        ("SET c 9223372036854775807", ONE),
+        ("SET d 9223372036854775808", ONE),
+        ("SET e -0", ONE),
+        ("SET f 007", ONE),
+        ("SET g Ann", ONE),
+        ("ADD a 3", ONE),
+        ("ADD h -4", ONE),
+        ("ADD c 1", "mem: out of range"),
+        ("ADD g 1", "mem: not a number"),
+        ("ADD a Ann", "mem: not a number"),
+        ("SET i 1", ONE),
+        ("DEL i", ONE),
+        ("DEL i", "Result { last: 0, affected: 0 }"),
+        ("GET a", "mem: not a command"),
+        ("LIST a", "mem: not a command"),
+        ("SET a ?", "Skip"),
+        ("GET ?", "Skip"),
+        ("SET a", unknown),
+        ("SET a ", unknown),
+        ("SET  1", unknown),
+        ("SET a 1 2", unknown),
+        ("DEL ", unknown),
+        (" DEL a", unknown),
+        ("del a", unknown),
+        ("", unknown),
+    ] {
+        let call = exec_text(alloc, text)?;
+        let got = answer(&mut store, &mut session, alloc, &call)?;
+        assert_eq!(rt; got.as_str(), want, "at {text:?}");
+    }
+    for (key, want) in [
+        ("a", "Some(Int(4))"),
+        ("b", "Some(Int(-5))"),
+        ("c", "Some(Int(9223372036854775807))"),
+        ("d", "Some(Text(Txt { text: \"9223372036854775808\" }))"),
+        ("e", "Some(Text(Txt { text: \"-0\" }))"),
+        ("f", "Some(Text(Txt { text: \"007\" }))"),
+        ("g", "Some(Text(Txt { text: \"Ann\" }))"),
+        ("h", "Some(Int(-4))"),
+        ("i", "None"),
+    ] {
+        let found = store.get(key);
+        assert_eq!(rt;
+            format!(in alloc; "{found:?}")?.as_str(),
+            want,
+            "at {key:?}"
+        );
+    }
+    Ok(())
+}
+
+#[test]
+fn handles_are_answered_by_the_table(rt: HostRuntime) -> Result<(), Fail> {
+    let alloc = rt.alloc();
+    let mut store = Store::new(alloc);
+    let mut session = Session::new(alloc);
+    let a = text(alloc, "a")?;
+    let again = text(alloc, "a")?;
+    for (call, want) in [
+        (prepare(alloc, "SET a")?, "mem: no such statement"),
+        (exec(alloc, 1, Vec::new(alloc))?, "mem: no such handle"),
+        (
+            prepare(alloc, "SET ? ?")?,
+            "Prepared { handle: 1, inputs: 2 }",
+        ),
+        (exec(alloc, 1, vec![in alloc; a, Value::Bool(true)]?)?, ONE),
+        (
+            exec(alloc, 1, vec![in alloc; Value::Int(5), again]?)?,
+            "mem: key is not text",
+        ),
+        (exec(alloc, 1, Vec::new(alloc))?, "mem: arguments"),
+        (
+            prepare(alloc, "GET ?")?,
+            "Prepared { handle: 2, inputs: 1 }",
+        ),
+        (exec(alloc, 2, Vec::new(alloc))?, "mem: not a command"),
+        (DriverCall::CloseStmt(1), "Done"),
+        (DriverCall::CloseStmt(1), "mem: no such handle"),
+        (
+            DriverCall::Query(
+                Input::Text(Txt::copy_of(alloc, "DEL a")?),
+                Items::none(alloc),
+            ),
+            "mem: not a query",
+        ),
+        (DriverCall::Commit, "mem: no transaction"),
+        (DriverCall::Next(1), "mem: no such handle"),
+    ] {
+        let got = answer(&mut store, &mut session, alloc, &call)?;
+        assert_eq!(rt; got.as_str(), want, "at {call:?}");
+    }
+    let found = store.get("a");
+    assert!(rt; matches!(found, Some(Value::Bool(true))));
+    Ok(())
+}

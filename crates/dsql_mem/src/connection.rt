@@ -1,0 +1,112 @@
+ghost use Rattle.std.specs.Prelude.{◌≡◌, ◌≤◌, true, false, IfOk, OnOk, OnErr};
+ghost use Rattle.dsql_driver.specs.Fits.{is_memory};
+ghost use Rattle.dsql_mem.specs.Effect.{effect};
+ghost use Rattle.dsql_mem.specs.Session.{IsReadyFor};
+ghost use Rattle.dsql_mem.specs.Wire.{new_wire, after_call, faults_after, CarriesOut};
+
+use crate::copies::Copies;
+use crate::roll::{Roll, Told};
+use crate::session::Session;
+use crate::store::Store;
+use dsql_driver::{Answered, DriverAnswer, DriverCall};
+use dsql_value::Memory;
+use std::alloc::Global;
+use std::marker::Model;
+
+/// What a wire has for itself: its session, what it heard, its count of faults, and the room for its entry
+/// on a roll.
+#[derive(Drop)]
+pub(crate) struct Connection {
+    session: Session,
+    heard: Vec<Told>,
+    faults: u64,
+    room: Box<Roll>,
+}
+
+impl Model for Connection {
+    ghost use Rattle.dsql_mem.specs.Wire.{WireState};
+
+    ghost Value = { WireState };
+
+    ghost view = { λ c. record { session = c.session; heard = c.heard.items; faults = c.faults } };
+}
+
+impl Connection {
+    /// A connection that has heard just its Connect.
+    pub(crate) fn new(alloc: Global) -> Result<Connection, Memory>
+        ensures { IfOk result (λ connection. connection ≡ new_wire) }
+    {
+        let mut heard = Vec::new(alloc);
+        heard.push((DriverCall::Connect, DriverAnswer::Done))?;
+        let room = Box::new(alloc, Roll::Empty)?;
+        Ok(Connection {
+            session: Session::new(alloc),
+            heard,
+            faults: 0,
+            room,
+        })
+    }
+
+    /// Carries out a call on a store, and answers Memory where memory is wanting.
+    pub(crate) fn answer(&mut self, alloc: Global, store: &mut Store, call: &DriverCall) -> Answered
+        ensures copied { result.copy ≡ result.answer }
+        ensures carried_out { is_memory result.answer ≡ false → CarriesOut store.old call.now result.answer self.old self.new }
+        ensures ready { is_memory result.answer ≡ false → IsReadyFor call.now self.old.session }
+        ensures stays { is_memory result.answer ≡ true → self.new ≡ self.old }
+        ensures counted { self.old.faults ≤ self.new.faults }
+    {
+        match self.hear(alloc, store, call) {
+            Ok(answered) => answered,
+            Err(Memory) => Answered {
+                answer: DriverAnswer::Memory,
+                copy: DriverAnswer::Memory,
+            },
+        }
+    }
+
+    /// Carries out a call on a store and notes it. All the room for both is taken first.
+    fn hear(
+        &mut self,
+        alloc: Global,
+        store: &mut Store,
+        call: &DriverCall,
+    ) -> Result<Answered, Memory>
+        ensures answer { IfOk result (λ answered. answered.answer ≡ (effect store.old self.old.session call.now).answer) }
+        ensures copied { IfOk result (λ answered. answered.copy ≡ answered.answer) }
+        ensures ok { OnOk result (self.new ≡ after_call store.old self.old call.now) }
+        ensures ready { OnOk result (IsReadyFor call.now self.old.session) }
+        ensures err { OnErr result (self.new ≡ self.old) }
+        ensures counted { self.old.faults ≤ self.new.faults }
+    {
+        self.heard.reserve(1)?;
+        let noted = call.clone()?;
+        let Copies { answer, copy, note } = store.step(alloc, &mut self.session, call)?;
+        self.faults = faults_after(self.faults, &answer);
+        self.heard.push_reserved((noted, note));
+        Ok(Answered { answer, copy })
+    }
+
+    /// What it heard, and its room on a roll.
+    pub(crate) fn into_parts(self) -> (Vec<Told>, Box<Roll>)
+        ensures { result.0.items ≡ self.heard }
+    {
+        let Connection { heard, room, .. } = self;
+        (heard, room)
+    }
+}
+
+/// A count of faults after an answer. At its last value it stands still.
+fn faults_after(faults: u64, answer: &DriverAnswer) -> u64
+    ensures count { result ≡ faults_after faults answer.now }
+    ensures counted { faults ≤ result }
+{
+    let is_fault = matches!(
+        answer,
+        DriverAnswer::Invalid | DriverAnswer::Bad | DriverAnswer::Fail(_)
+    );
+    if is_fault {
+        faults.saturating_add(1)
+    } else {
+        faults
+    }
+}
