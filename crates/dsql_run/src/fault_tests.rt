@@ -1,13 +1,16 @@
 //! The program over a driver whose answers are listed: a whole report for each answer at each call.
 
-ghost use Rattle.std.specs.Prelude.{◌≡◌, [], None, Some, true, IfOk};
+ghost use Rattle.std.specs.Prelude.{◌≡◌, [], ℕ, List, None, Some, true, IfOk, IfErr};
+ghost use Rattle.dsql_driver.specs.declared.answer.DriverAnswer.{DriverAnswer};
+ghost use Rattle.dsql_driver.specs.declared.call.DriverCall.TheVariants.{Prepare};
+ghost use Rattle.dsql_run.specs.Listed.{live_of};
 ghost use Rattle.dsql_driver.specs.Fits.{fits_of};
 ghost use Rattle.dsql_driver.specs.Wires.{KeepsHandles, KeepsCursors};
 
 mod reports;
 
 use crate::sqlrun;
-use Listed::{Bad, Boom, Done, Invalid, Ran, Skip};
+use Listed::{Bad, Boom, Done, Gave, Invalid, Ran, Skip};
 use dsql_driver::{
     Answered, Caps, DriverAnswer, DriverCall, Fleet, Input, ListClock, OpenGate, Planned, Refused,
     SliceSource, VecSink, Wire,
@@ -24,6 +27,8 @@ enum Listed {
     /// A result: one entry was affected.
     Ran,
     Skip,
+    /// A handle for a statement with so many inputs.
+    Gave(u8),
     Invalid,
     Bad,
     /// A failure with the text `boom`.
@@ -31,7 +36,7 @@ enum Listed {
 }
 
 /// A driver that answers by lists, one for each connection: first its Connect, then its calls in order.
-/// Where nothing that fits is listed, it answers that there is no memory.
+/// Where nothing that fits is listed, it answers that there is no memory. A connection gives one handle.
 #[derive(Drop)]
 struct ListFleet<'a> {
     alloc: Global,
@@ -48,6 +53,17 @@ struct ListFleet<'a> {
 struct ListWire<'a> {
     alloc: Global,
     answers: &'a [Listed],
+    /// It gave its handle, whose number is 1.
+    prepared: bool,
+}
+
+fn no_memory() -> Answered
+    ensures { result ≡ record { answer = DriverAnswer.Memory; copy = DriverAnswer.Memory } }
+{
+    Answered {
+        answer: DriverAnswer::Memory,
+        copy: DriverAnswer::Memory,
+    }
 }
 
 fn boom(alloc: Global) -> Result<Txt, Memory> {
@@ -57,11 +73,11 @@ fn boom(alloc: Global) -> Result<Txt, Memory> {
 /// The answer to a call of an exec. Other calls aren't known.
 fn answer_of(alloc: Global, call: &DriverCall, listed: Listed) -> Result<DriverAnswer, Memory>
     ensures fitting { IfOk result (λ answer. fits_of call.now answer ≡ true) }
-    ensures handles { IfOk result (λ answer. KeepsHandles call.now answer [] []) }
+    ensures handles { (live : List ℕ) → IfOk result (λ answer. KeepsHandles call.now answer live live) }
     ensures cursors { IfOk result (λ answer. KeepsCursors call.now answer [] []) }
 {
     Ok(match call {
-        DriverCall::Reset | DriverCall::Shut => match listed {
+        DriverCall::Reset | DriverCall::CloseStmt(_) | DriverCall::Shut => match listed {
             Listed::Done => DriverAnswer::Done,
             Listed::Bad => DriverAnswer::Bad,
             Listed::Boom => DriverAnswer::Fail(boom(alloc)?),
@@ -77,6 +93,20 @@ fn answer_of(alloc: Global, call: &DriverCall, listed: Listed) -> Result<DriverA
             Listed::Boom => DriverAnswer::Fail(boom(alloc)?),
             _ => DriverAnswer::Memory,
         },
+        DriverCall::Exec(Input::Handle(_), _) => match listed {
+            Listed::Ran => DriverAnswer::Result {
+                last: 0,
+                affected: 1,
+            },
+            Listed::Bad => DriverAnswer::Bad,
+            Listed::Boom => DriverAnswer::Fail(boom(alloc)?),
+            _ => DriverAnswer::Memory,
+        },
+        DriverCall::Prepare(_) => match listed {
+            Listed::Bad => DriverAnswer::Bad,
+            Listed::Boom => DriverAnswer::Fail(boom(alloc)?),
+            _ => DriverAnswer::Memory,
+        },
         DriverCall::Valid => match listed {
             Listed::Done => DriverAnswer::Done,
             Listed::Invalid => DriverAnswer::Invalid,
@@ -88,7 +118,9 @@ fn answer_of(alloc: Global, call: &DriverCall, listed: Listed) -> Result<DriverA
 
 impl<'a> ListWire<'a> {
     /// Takes the next answer off the list.
-    fn next(&mut self) -> Option<Listed> {
+    fn next(&mut self) -> Option<Listed>
+        ensures { self.new.prepared ≡ self.old.prepared }
+    {
         match self.answers.split_first() {
             Some((first, rest)) => {
                 self.answers = rest;
@@ -98,15 +130,39 @@ impl<'a> ListWire<'a> {
         }
     }
 
+    /// Gives the handle, if it wasn't given yet.
+    fn give(&mut self, inputs: u8) -> Answered
+        ensures copied { result.copy ≡ result.answer }
+        ensures fitting { (text : List ℕ) → fits_of (Prepare text) result.answer ≡ true }
+        ensures handles { (text : List ℕ) → KeepsHandles (Prepare text) result.answer (live_of self.old.prepared) (live_of self.new.prepared) }
+        ensures cursors { (text : List ℕ) → KeepsCursors (Prepare text) result.answer [] [] }
+    {
+        if self.prepared {
+            return no_memory();
+        }
+        self.prepared = true;
+        let inputs = i32::from(inputs);
+        Answered {
+            answer: DriverAnswer::Prepared { handle: 1, inputs },
+            copy: DriverAnswer::Prepared { handle: 1, inputs },
+        }
+    }
+
     fn answer_twice(&mut self, call: &DriverCall) -> Result<Answered, Memory>
         ensures copied { IfOk result (λ answered. answered.copy ≡ answered.answer) }
         ensures fitting { IfOk result (λ answered. fits_of call.now answered.answer ≡ true) }
-        ensures handles { IfOk result (λ answered. KeepsHandles call.now answered.answer [] []) }
+        ensures handles { IfOk result (λ answered. KeepsHandles call.now answered.answer (live_of self.old.prepared) (live_of self.new.prepared)) }
         ensures cursors { IfOk result (λ answered. KeepsCursors call.now answered.answer [] []) }
+        ensures same { IfErr result (λ _. self.new.prepared ≡ self.old.prepared) }
     {
         let Some(listed) = self.next() else {
             return Err(Memory);
         };
+        if let DriverCall::Prepare(_) = call {
+            if let Listed::Gave(inputs) = listed {
+                return Ok(self.give(inputs));
+            }
+        }
         let answer = answer_of(self.alloc, call, listed)?;
         let copy = answer.clone()?;
         Ok(Answered { answer, copy })
@@ -118,17 +174,14 @@ impl<'a> Wire for ListWire<'a> {
 
     ghost faults = { λ _. 18446744073709551615 };
 
-    ghost handles = { λ _. [] };
+    ghost handles = { λ w. live_of w.prepared };
 
     ghost cursors = { λ _. [] };
 
     fn call(&mut self, call: &DriverCall) -> Answered {
         match self.answer_twice(call) {
             Ok(answered) => answered,
-            Err(Memory) => Answered {
-                answer: DriverAnswer::Memory,
-                copy: DriverAnswer::Memory,
-            },
+            Err(Memory) => no_memory(),
         }
     }
 
@@ -185,6 +238,7 @@ impl<'a> Fleet for ListFleet<'a> {
         let mut wire = ListWire {
             alloc: self.alloc,
             answers: self.listed_for(number),
+            prepared: false,
         };
         match wire.next() {
             Some(Listed::Done) => Ok(wire),
@@ -227,6 +281,8 @@ const EXEC_CAPS: Caps = Caps {
 const ONE: &str = "c1 exec db [\"SET a 1\"]\n";
 
 const TWO: &str = "c1 exec db [\"SET a 1\"]\nc1 exec db [\"SET a 2\"]\n";
+
+const WITH_ARGUMENT: &str = "c1 exec db [\"SET a ?\",1]\n";
 
 /// What a run gave.
 #[derive(Drop)]
@@ -295,12 +351,11 @@ fn expect_report<'a>(
 
 #[test]
 fn each_answer_in_one_exec_gives_its_report(rt: HostRuntime) -> Result<(), Fail> {
-    let rows: [(&[&[Listed]], &str); 10] = [
+    let rows: [(&[&[Listed]], &str); 9] = [
         (&[&[Boom]], reports::CONNECT_FAILS),
         (&[&[Bad]], reports::CONNECT_IS_BAD),
         (&[&[Done, Boom, Done, Done]], reports::EXEC_FAILS),
         (&[&[Done, Bad, Done]], reports::EXEC_IS_BAD),
-        (&[&[Done, Skip, Done, Done]], reports::EXEC_IS_SKIPPED),
         (&[&[Done, Ran, Invalid, Done]], reports::TEST_IS_FAILED),
         (&[&[Done, Ran, Done, Boom]], reports::SHUT_FAILS),
         (&[&[Done, Ran, Done, Bad]], reports::SHUT_IS_BAD),
@@ -360,12 +415,45 @@ fn after_a_lost_connection_another_is_opened(rt: HostRuntime) -> Result<(), Fail
             reports::EXEC_IS_BAD_THEN_FAILS,
         ),
         (
-            &[&[Done, Ran, Invalid, Done], &[Done, Skip, Done, Done]],
-            reports::TEST_IS_FAILED_THEN_EXEC_IS_SKIPPED,
+            &[&[Done, Ran, Invalid, Done], &[Done, Boom, Done, Done]],
+            reports::TEST_IS_FAILED_THEN_EXEC_FAILS,
         ),
     ];
     for (answers, report) in rows {
         expect_report(&rt, rt.alloc(), EXEC_CAPS, answers, TWO, report)?;
+    }
+    Ok(())
+}
+
+#[test]
+fn each_answer_on_the_prepared_path_gives_its_report(rt: HostRuntime) -> Result<(), Fail> {
+    let rows: [(&[&[Listed]], &str); 8] = [
+        (
+            &[&[Done, Skip, Gave(1), Ran, Done, Done, Done]],
+            reports::EXEC_IS_PREPARED,
+        ),
+        (
+            &[&[Done, Skip, Gave(2), Done, Done, Done]],
+            reports::ARGUMENTS_ARE_TOO_FEW,
+        ),
+        (
+            &[&[Done, Skip, Gave(2), Bad, Done]],
+            reports::CLOSE_IS_BAD_AND_ARGUMENTS_ARE_TOO_FEW,
+        ),
+        (&[&[Done, Skip, Boom, Done, Done]], reports::PREPARE_FAILS),
+        (&[&[Done, Skip, Bad, Done]], reports::PREPARE_IS_BAD),
+        (
+            &[&[Done, Skip, Gave(1), Boom, Boom, Done, Done]],
+            reports::RUN_AND_CLOSE_FAIL,
+        ),
+        (&[&[Done, Skip, Gave(1), Bad, Done]], reports::RUN_IS_BAD),
+        (
+            &[&[Done, Skip, Gave(1), Ran, Bad, Done]],
+            reports::CLOSE_IS_BAD,
+        ),
+    ];
+    for (answers, report) in rows {
+        expect_report(&rt, rt.alloc(), EXEC_CAPS, answers, WITH_ARGUMENT, report)?;
     }
     Ok(())
 }
@@ -376,8 +464,8 @@ fn a_driver_is_asked_only_for_what_it_can_do(rt: HostRuntime) -> Result<(), Fail
         &rt,
         rt.alloc(),
         NO_CAPS,
-        &[&[Done, Done]],
-        TWO,
+        &[&[Done, Gave(1), Ran, Done, Done]],
+        WITH_ARGUMENT,
         reports::DRIVER_IS_PLAIN,
     )?;
     expect_report(

@@ -281,7 +281,5 @@ pub fn play<S: Source, K: Sink, F: Fleet>(
         return Err(Stop::Memory);
     };
     let mut engine = engine;
-    play_from(
-        alloc, &mut engine, &mut script, first, input, output, fleet,
-    )
+    play_from(alloc, &mut engine, &mut script, first, input, output, fleet)
 }

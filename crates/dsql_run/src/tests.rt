@@ -7,6 +7,7 @@ use dsql_driver::{ListClock, OpenGate, SliceSource, VecSink};
 use dsql_mem::MemFleet;
 use dsql_value::Txt;
 use std::alloc::Global;
+use std::sync::Wait;
 use std::test::Fail;
 
 const BEGIN: &str =
@@ -81,8 +82,8 @@ fn bytes_of(alloc: Global, bytes: &[u8]) -> Result<Vec<u8>, Fail> {
 }
 
 /// Runs the program on a script.
-fn run_with(
-    rt: &HostRuntime,
+fn run_with<R: AllocGlobal + Wait + Clone + Drop + Send>(
+    rt: &R,
     words: &[&str],
     script: &[u8],
     piece: usize,

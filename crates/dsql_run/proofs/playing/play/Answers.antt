@@ -14,7 +14,7 @@ returns g c =
     let left = g.S.Source.left c.args.input.now in
     let read : HasRead left c.in_ok-script.script left nothing = c.in_ok-script.ensures.first left in
     let head : ReadsHead left c.read_head-first.result c.read_head-first.new.script (g.S.Source.left c.read_head-first.new.input) (g.F.Fleet.preferred c.args.fleet.now) (g.F.Fleet.preferred c.read_head-first.new.fleet)
-        (g.F.Fleet.ability c.args.fleet.now) (g.F.Fleet.ability c.read_head-first.new.fleet) = c.read_head-first.ensures.reads left read in
+    (g.F.Fleet.ability c.args.fleet.now) (g.F.Fleet.ability c.read_head-first.new.fleet) = c.read_head-first.ensures.reads left read in
     let begun : c.in-Ok.engine ≡ Run 1 (g.F.Fleet.ability c.play_from.new.fleet) ∷ [] = c.in-Ok.ensures.begun ∙ ap (λ caps. Run 1 caps ∷ []) (c.caps.ensures ∙ sym c.play_from.ensures.ability) in
     record {
       ran = inl (record {
@@ -35,9 +35,9 @@ returns g c =
         empty = c.play_from.ensures.empty;
         retired = λ ran. c.play_from.ensures.retired ran ∙ ap (λ r. with_gone r c.play_from.new.engine) c.read_head-first.ensures.retired;
         read_fault = λ is. elim (c.play_from.ensures.read_fault is) [
-            | inl failed ↦ risen_later (g.S.Source.faults c.args.input.now) (g.S.Source.faults c.read_head-first.new.input) (g.S.Source.faults c.play_from.new.input) c.play_from.ensures.read_on (c.read_head-first.ensures.failed failed)
-            | inr risen ↦ risen_earlier (g.S.Source.faults c.args.input.now) (g.S.Source.faults c.read_head-first.new.input) (g.S.Source.faults c.play_from.new.input) c.read_head-first.ensures.counted risen
-          ];
+          | inl failed ↦ risen_later (g.S.Source.faults c.args.input.now) (g.S.Source.faults c.read_head-first.new.input) (g.S.Source.faults c.play_from.new.input) c.play_from.ensures.read_on (c.read_head-first.ensures.failed failed)
+          | inr risen ↦ risen_earlier (g.S.Source.faults c.args.input.now) (g.S.Source.faults c.read_head-first.new.input) (g.S.Source.faults c.play_from.new.input) c.read_head-first.ensures.counted risen
+        ];
         write_fault = c.play_from.ensures.write_fault;
         full = c.play_from.ensures.full;
       });

@@ -39,7 +39,7 @@ returns-in_err-play_line-clause-plays g c = λ before asked read.
     let is : c.from_residual-in_err-play_line.result ≡ Err c.in_err-play_line.field-0.0 = err_is c.from_residual-in_err-play_line.result c.in_err-play_line.field-0.0 c.from_residual-in_err-play_line.ensures.1 in
     let body : is_body c.in-Some.line ≡ true = rw c.in-Some.is at c.loop-next.invariant.body in
     let had = some_of c.loop-next.next c.in-Some.line before c.loop-next.script (g.S.Source.left c.loop-next.input) (saying asked (entered_calls c.loop-next.engine)) c.in-Some.is
-        (c.loop-next.invariant.reads_so before asked (read_of_first c.args.first c.in_ok-next.next before c.args.script.now (g.S.Source.left c.args.input.now) (saying asked []) c.in_ok-next.was read)) in
+    (c.loop-next.invariant.reads_so before asked (read_of_first c.args.first c.in_ok-next.next before c.args.script.now (g.S.Source.left c.args.input.now) (saying asked []) c.in_ok-next.was read)) in
     rw is
     (line_stops before c.loop-next.script (g.S.Source.left c.loop-next.input) (g.S.Source.left c.loop-next.input) asked (entered_calls c.loop-next.engine) (entered_calls c.play_line.new.engine) c.in-Some.line c.in_err-play_line.field-0.0
     body had c.in_err-play_line.ensures.stopped c.in_err-play_line.ensures.kinds)
