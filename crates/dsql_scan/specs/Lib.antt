@@ -1,0 +1,5 @@
+pub mod Numbers
+pub mod Truths
+pub mod Table
+pub mod Answers
+pub mod Rows
