@@ -18,13 +18,17 @@ use Rattle.dsql_scan.specs.Truths.{spelled_truth, number_truth, truth_word}
 abbrev pub Scan : Type 0
 Scan = Result Cell ScanFault
 
+-- bytes as a text
+abbrev pub decoded : List ℕ → Scan
+decoded bytes = if is_utf8 bytes then Ok (cells.Text bytes) else Err faults.NotUtf8
+
 -- the column `text`
 abbrev pub text_of : Value → Scan
 text_of Nil = Err (faults.FromNull dests.Text)
 text_of (Int n) = Ok (cells.Text (signed_decimal n))
 text_of (Bool b) = Ok (cells.Text (truth_word b))
 text_of (Text text) = Ok (cells.Text text)
-text_of (Bytes bytes) = if is_utf8 bytes then Ok (cells.Text bytes) else Err faults.NotUtf8
+text_of (Bytes bytes) = decoded bytes
 text_of (Time t) = Err (faults.Unsupported kinds.Time dests.Text)
 
 -- the column `bytes`

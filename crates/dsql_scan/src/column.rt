@@ -1,13 +1,15 @@
 ghost use Rattle.std.specs.Prelude.{◌≡◌, ◌<◌, ◌^◌, false, Ok, Err, IfOk, MatchResult};
 ghost use Rattle.std.specs.Fmt.{signed_decimal};
-ghost use Rattle.dsql_scan.specs.Table.{scan_of, text_of, bytes_of, truth_of, truth_cell, signed_of, unsigned_of, time_of, any_of, takes_null, is_nil};
+ghost use Rattle.dsql_scan.specs.Table.{scan_of, decoded, text_of, bytes_of, truth_of, truth_cell, signed_of, unsigned_of, time_of, any_of, takes_null, is_nil};
 ghost use Rattle.dsql_scan.specs.Answers.{IsScan, may_take_memory};
 
 use crate::cell::Cell;
 use crate::dest::{Dest, Kind};
 use crate::fault::ScanFault;
-use crate::number::{signed_cell, signed_text, unsigned_cell_of_int, unsigned_text};
-use crate::truth::{number_truth, spelled_truth, truth_word};
+use crate::number::{
+    signed_bytes, signed_cell, signed_text, unsigned_bytes, unsigned_cell_of_int, unsigned_text,
+};
+use crate::truth::{number_truth, truth_in_bytes, truth_in_text, truth_word};
 use dsql_value::{Bin, Memory, Txt, Value};
 use itoa::Buffer;
 use std::alloc::Global;
@@ -74,15 +76,22 @@ fn scan_text(alloc: Global, value: &Value) -> Result<Cell, ScanFault>
         Value::Nil => Err(ScanFault::FromNull(Dest::Text)),
         Value::Int(number) => text_cell(decimal(alloc, *number)),
         Value::Bool(truth) => text_cell(Txt::copy_of(alloc, truth_word(*truth))),
-        Value::Bytes(bytes) => match str::from_utf8(bytes.as_slice()) {
-            Ok(text) => text_cell(Txt::copy_of(alloc, text)),
-            Err(_) => Err(ScanFault::NotUtf8),
-        },
+        Value::Bytes(bytes) => decoded(alloc, bytes.as_slice()),
         Value::Text(text) => text_cell(text.copy()),
         Value::Time(_) => Err(ScanFault::Unsupported {
             from: Kind::Time,
             dest: Dest::Text,
         }),
+    }
+}
+
+/// Bytes as a text.
+fn decoded(alloc: Global, bytes: &[u8]) -> Result<Cell, ScanFault>
+    ensures { IsScan result (decoded bytes.now) }
+{
+    match str::from_utf8(bytes) {
+        Ok(text) => text_cell(Txt::copy_of(alloc, text)),
+        Err(_) => Err(ScanFault::NotUtf8),
     }
 }
 
@@ -134,11 +143,8 @@ fn scan_truth(value: &Value) -> Result<Cell, ScanFault>
         Value::Nil => Err(ScanFault::FromNull(Dest::Bool)),
         Value::Int(number) => truth_cell(number_truth(*number)),
         Value::Bool(truth) => Ok(Cell::Bool(*truth)),
-        Value::Bytes(bytes) => match str::from_utf8(bytes.as_slice()) {
-            Ok(text) => truth_cell(spelled_truth(text)),
-            Err(_) => Err(ScanFault::NotABool),
-        },
-        Value::Text(text) => truth_cell(spelled_truth(text.as_str())),
+        Value::Bytes(bytes) => truth_cell(truth_in_bytes(bytes.as_slice())),
+        Value::Text(text) => truth_cell(truth_in_text(text.as_str())),
         Value::Time(_) => Err(ScanFault::NotABool),
     }
 }
@@ -150,10 +156,7 @@ fn scan_signed(value: &Value, dest: Dest, greatest: u64) -> Result<Cell, ScanFau
     match value {
         Value::Nil => Err(ScanFault::FromNull(dest)),
         Value::Int(number) => signed_cell(*number, greatest),
-        Value::Bytes(bytes) => match str::from_utf8(bytes.as_slice()) {
-            Ok(text) => signed_text(text, greatest),
-            Err(_) => Err(ScanFault::NotANumber),
-        },
+        Value::Bytes(bytes) => signed_bytes(bytes.as_slice(), greatest),
         Value::Text(text) => signed_text(text.as_str(), greatest),
         Value::Bool(_) | Value::Time(_) => Err(ScanFault::NotANumber),
     }
@@ -165,10 +168,7 @@ fn scan_unsigned(value: &Value, dest: Dest, greatest: u64) -> Result<Cell, ScanF
     match value {
         Value::Nil => Err(ScanFault::FromNull(dest)),
         Value::Int(number) => unsigned_cell_of_int(*number, greatest),
-        Value::Bytes(bytes) => match str::from_utf8(bytes.as_slice()) {
-            Ok(text) => unsigned_text(text, greatest),
-            Err(_) => Err(ScanFault::NotANumber),
-        },
+        Value::Bytes(bytes) => unsigned_bytes(bytes.as_slice(), greatest),
         Value::Text(text) => unsigned_text(text.as_str(), greatest),
         Value::Bool(_) | Value::Time(_) => Err(ScanFault::NotANumber),
     }

@@ -78,6 +78,17 @@ pub(crate) fn signed_text(text: &str, greatest: u64) -> Result<Cell, ScanFault>
     }
 }
 
+/// The number that bytes spell as a text, as a cell of a signed width.
+pub(crate) fn signed_bytes(bytes: &[u8], greatest: u64) -> Result<Cell, ScanFault>
+    requires { greatest < 2 ^ 63 }
+    ensures { result ≡ signed_cell_of greatest (signed_number bytes.now) }
+{
+    match str::from_utf8(bytes) {
+        Ok(text) => signed_text(text, greatest),
+        Err(_) => Err(ScanFault::NotANumber),
+    }
+}
+
 /// The number that a text spells, as a cell of an unsigned width: digits without a sign.
 pub(crate) fn unsigned_text(text: &str, greatest: u64) -> Result<Cell, ScanFault>
     ensures { result ≡ unsigned_cell_of greatest (plain_number text.now) }
@@ -88,5 +99,15 @@ pub(crate) fn unsigned_text(text: &str, greatest: u64) -> Result<Cell, ScanFault
     match text.parse() {
         Ok(number) => unsigned_cell(number, greatest),
         Err(_) => Err(ScanFault::OutOfRange),
+    }
+}
+
+/// The number that bytes spell as a text, as a cell of an unsigned width.
+pub(crate) fn unsigned_bytes(bytes: &[u8], greatest: u64) -> Result<Cell, ScanFault>
+    ensures { result ≡ unsigned_cell_of greatest (plain_number bytes.now) }
+{
+    match str::from_utf8(bytes) {
+        Ok(text) => unsigned_text(text, greatest),
+        Err(_) => Err(ScanFault::NotANumber),
     }
 }

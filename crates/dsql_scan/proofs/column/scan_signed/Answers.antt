@@ -1,7 +1,0 @@
-use Rattle.std.proofs.Common.{rules, sym, ap, ◌∙◌, ◌≡◌}
-use Rattle.dsql_scan.specs.Table.{signed_cell_of}
-use Rattle.dsql_scan.proofs.Utf8.{signed_number-not}
-use Rattle.dsql_scan.proofs.column.scan_signed.Goals as goal
-
-pub returns-in-Err : goal.returns-in-Err
-returns-in-Err c = sym (ap (signed_cell_of c.args.greatest) (signed_number-not c.as_slice.result.now c.in-Err.ensures.cases.0))
