@@ -1,4 +1,5 @@
 pub mod Digits
 pub mod Spelling
 pub mod Memory
+pub mod RowLemmas
 pub mod Utf8
