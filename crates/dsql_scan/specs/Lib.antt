@@ -3,3 +3,5 @@ pub mod Truths
 pub mod Table
 pub mod Answers
 pub mod Rows
+pub mod Laws
+pub mod Worked

@@ -6,6 +6,7 @@ mod cell;
 mod column;
 mod dest;
 mod fault;
+pub mod laws;
 mod number;
 mod row;
 mod truth;
