@@ -53,13 +53,13 @@ plain-spelled : (text : List ℕ) (n : ℕ) → plain_number text ≡ Some n →
 plain-spelled text n h =
     elim (cases_Bool (are_digits text)) [
       | inl digits ↦
-        let same : Some (decimal_value text) ≡ Some n = sym (plain_number-digits text digits) ∙ h in
-        let value : decimal_value text ≡ n = cc in
-        subst (Spells text) value (Spells-are_digits text digits)
+          let same : Some (decimal_value text) ≡ Some n = sym (plain_number-digits text digits) ∙ h in
+          let value : decimal_value text ≡ n = cc in
+          subst (Spells text) value (Spells-are_digits text digits)
       | inr other ↦
-        let none : plain_number text ≡ None = cond-false (are_digits text) (Some (decimal_value text)) None other in
-        let absent : None ≡ Some n = sym none ∙ h in
-        cc
+          let none : plain_number text ≡ None = cond-false (are_digits text) (Some (decimal_value text)) None other in
+          let absent : None ≡ Some n = sym none ∙ h in
+          cc
     ]
 
 plain-read : (text : List ℕ) (n : ℕ) → Spells text n → plain_number text ≡ Some n
@@ -94,20 +94,20 @@ signed-spelled text z h =
     let spelled = plain-spelled (without_sign text) read.0 read.1 in
     elim (cases_Bool (has_minus text)) [
       | inl minus ↦
-        let signed : has_plus text || has_minus text ≡ true = or_right (has_plus text) (has_minus text) minus in
-        let split : text ≡ 45 ∷ without_sign text = first_and_rest text 45 (omega arith) (eqb-true (get_or text 0 0) 45 minus) ∙ ap (λ rest. 45 ∷ rest) (sym (after_sign text signed)) in
-        let value : z ≡ neg_ℤ (pos read.0) = sym read.2 ∙ ap (λ m. with_sign m read.0) minus in
-        record { digits = without_sign text; number = read.0; spelled = spelled; signed = inr (inr (split, value)) }
+          let signed : has_plus text || has_minus text ≡ true = or_right (has_plus text) (has_minus text) minus in
+          let split : text ≡ 45 ∷ without_sign text = first_and_rest text 45 (omega arith) (eqb-true (get_or text 0 0) 45 minus) ∙ ap (λ rest. 45 ∷ rest) (sym (after_sign text signed)) in
+          let value : z ≡ neg_ℤ (pos read.0) = sym read.2 ∙ ap (λ m. with_sign m read.0) minus in
+          record { digits = without_sign text; number = read.0; spelled = spelled; signed = inr (inr (split, value)) }
       | inr none ↦
-        let value : z ≡ pos read.0 = sym read.2 ∙ ap (λ m. with_sign m read.0) none in
-        elim (cases_Bool (has_plus text)) [
-          | inl plus ↦
-            let signed : has_plus text || has_minus text ≡ true = or_left (has_plus text) (has_minus text) plus in
-            let split : text ≡ 43 ∷ without_sign text = first_and_rest text 43 (omega arith) (eqb-true (get_or text 0 0) 43 plus) ∙ ap (λ rest. 43 ∷ rest) (sym (after_sign text signed)) in
-            record { digits = without_sign text; number = read.0; spelled = spelled; signed = inr (inl (split, value)) }
-          | inr bare ↦
-            record { digits = without_sign text; number = read.0; spelled = spelled; signed = inl (sym (without_sign-bare text bare none), value) }
-        ]
+          let value : z ≡ pos read.0 = sym read.2 ∙ ap (λ m. with_sign m read.0) none in
+          elim (cases_Bool (has_plus text)) [
+            | inl plus ↦
+                let signed : has_plus text || has_minus text ≡ true = or_left (has_plus text) (has_minus text) plus in
+                let split : text ≡ 43 ∷ without_sign text = first_and_rest text 43 (omega arith) (eqb-true (get_or text 0 0) 43 plus) ∙ ap (λ rest. 43 ∷ rest) (sym (after_sign text signed)) in
+                record { digits = without_sign text; number = read.0; spelled = spelled; signed = inr (inl (split, value)) }
+            | inr bare ↦
+                record { digits = without_sign text; number = read.0; spelled = spelled; signed = inl (sym (without_sign-bare text bare none), value) }
+          ]
     ]
 
 -- digits don't begin with a sign

@@ -32,9 +32,10 @@ pub enum ScanFault {
 #[derive(Clone, Copy, Debug, PartialEq, Eq, Error)]
 pub enum RowFault {
     /// There are `want` values, and `got` destinations.
-    #[error("{want} values for {got} destinations")]
+    #[error("expected {want} destinations, not {got}")]
     DestCount { want: u32, got: u32 },
-    /// The value at the place `index`, counted from 0, isn't scanned for this fault, and all before it are.
+    /// The value at the place `index`, counted from 0, is the first that isn't scanned, for this fault, which
+    /// isn't `Memory`.
     #[error("column {index}: {fault}")]
     At { index: u32, fault: ScanFault },
     /// There was no memory.
