@@ -14,8 +14,29 @@ use dsql_value::{Bin, Memory, Txt, Value};
 use itoa::Buffer;
 use std::alloc::Global;
 
-/// What a driver's value becomes in a destination, by the scan table. It takes memory for a cell with a text
-/// or bytes in it, and for no other. After Go's `Rows.Scan`.
+/// What a driver's value becomes in a destination, or why it doesn't, by this table; `specs/Table.antt` has it
+/// as the definition `scan_of`. After Go's `Rows.Scan`.
+///
+/// | from  | text            | bytes       | bool         | signed      | unsigned    | time        | any    |
+/// |-------|-----------------|-------------|--------------|-------------|-------------|-------------|--------|
+/// | Nil   | FromNull        | null        | FromNull     | FromNull    | FromNull    | FromNull    | null   |
+/// | Int   | decimal text    | its bytes   | 0, 1         | the number  | the number  | Unsupported | itself |
+/// | Bool  | `true`, `false` | its bytes   | itself       | NotANumber  | NotANumber  | Unsupported | itself |
+/// | Text  | itself          | its bytes   | its spelling | its number  | its number  | Unsupported | itself |
+/// | Bytes | itself          | itself      | as its text  | as its text | as its text | Unsupported | itself |
+/// | Time  | Unsupported     | Unsupported | NotABool     | NotANumber  | NotANumber  | itself      | itself |
+///
+/// - True is spelled `1 t T TRUE true True`, and false `0 f F FALSE false False`. Any other text, and any number
+///   but 0 and 1, is `NotABool`.
+/// - A number is spelled by ASCII digits, one or more, after a `+`, a `-` or no sign for a signed destination
+///   and without a sign for an unsigned one. Any other text is `NotANumber`, and so is a number below zero for an
+///   unsigned destination. A number that the width doesn't hold is `OutOfRange`, however long its text is.
+/// - Bytes that aren't UTF-8 are `NotUtf8` for a text, and spell neither a number nor a truth.
+/// - A Null destination takes nil as null, and anything else as the destination inside it does, whose name the
+///   fault has.
+///
+/// It takes memory for a cell with a text or bytes in it and for no other, so only such a cell may be refused
+/// as `Memory`.
 pub fn scan(alloc: Global, value: &Value, dest: Dest) -> Result<Cell, ScanFault>
     ensures answer { IsScan result (scan_of value.now dest) }
     ensures without_memory { may_take_memory dest ≡ false → result ≡ scan_of value.now dest }
