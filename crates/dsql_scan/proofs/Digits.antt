@@ -1,8 +1,8 @@
 -- Digits and their number, in the library's words for `parse` and for printed numbers.
-use Rattle.std.proofs.Common.{◌≡◌, ℕ, ◌+◌, ◌-◌, ◌*◌, ◌^◌, ◌<◌, List, [], ◌∷◌, length, true, ◌&&◌, nat_lt, refl, rules, arith}
+use Rattle.std.proofs.Common.{◌≡◌, ℕ, List, length, true, nat_lt, refl, rules}
 use Rattle.std.specs.Char.{is_ascii_digit}
 use Rattle.std.specs.List.{list_all}
-use Rattle.std.specs.Str.Parse.{IsNumeral, AllDigits, digits_value}
+use Rattle.std.specs.Str.Parse.{IsNumeral, digits_value}
 use Rattle.std.proofs.lemmas.Bool.{and_parts, ltb-true}
 use Rattle.std.proofs.lemmas.Str.Parse.{IsDigitsTest, IsNumeralModel, WeighsDigits, numerals_by_weight}
 use Rattle.dsql_scan.specs.Numbers.{decimal_value, are_digits}

@@ -1,11 +1,10 @@
 -- The cells of a row, one column after another.
-use Rattle.std.proofs.Common.{◌≡◌, ◌≢◌, ℕ, ◌+◌, ◌<◌, suc, List, [], ◌∷◌, ◌++◌, drop, length, get_or, append_assoc, append-nil, Result, Ok, Err, refl, sym, ap, ◌∙◌, arith, add-one, drop-cons}
+use Rattle.std.proofs.Common.{◌≡◌, ℕ, ◌+◌, ◌<◌, suc, List, [], ◌∷◌, ◌++◌, drop, length, get_or, append_assoc, append-nil, Ok, Err, refl, sym, ap, ◌∙◌, arith, add-one, drop-cons}
 use Rattle.std.proofs.lemmas.List.{drop_all, length_push}
 use Rattle.dsql_value.specs.declared.value.Value.{Value}
 use Rattle.dsql_scan.specs.declared.cell.Cell.{Cell}
 use Rattle.dsql_scan.specs.declared.dest.Dest.{Dest}
 use Rattle.dsql_scan.specs.declared.fault.ScanFault.{ScanFault}
-use Rattle.dsql_scan.specs.declared.fault.RowFault.{RowFault}
 use Rattle.dsql_scan.specs.declared.fault.RowFault.TheVariants.{At}
 use Rattle.dsql_scan.specs.Table.{scan_of}
 use Rattle.dsql_scan.specs.Rows.{RowScan, answers_of, cells_of, with_cell, in_32_bits}

@@ -1,7 +1,6 @@
 -- What `parse` reads in a text of digits, with a sign or without.
-use Rattle.std.proofs.Common.{◌≡◌, ℕ, ℤ, pos, negsuc, ◌^◌, ◌<◌, ◌≤◌, Bool, true, false, List, length, get_or, eqb, cond, Some, Result, Ok, Err, FitsSigned, w64, refl, sym, ap, ◌∙◌, subst, inl, inr, arith}
+use Rattle.std.proofs.Common.{◌≡◌, ℕ, ℤ, pos, negsuc, ◌^◌, ◌<◌, ◌≤◌, true, List, length, get_or, eqb, Some, Result, Ok, Err, FitsSigned, w64, refl, sym, ap, ◌∙◌, subst, inl, inr, arith}
 use Rattle.std.specs.Option.{option_map}
-use Rattle.std.specs.Result.{OkIff}
 use Rattle.std.specs.Str.Parse.{IsNumeral, ParsesSigned, ParsesUnsigned, without_leading_sign, signed_digits_value, digits_value}
 use Rattle.std.proofs.lemmas.Bool.{cases_Bool, leb-true, cond-false, cases_lt}
 use Rattle.std.proofs.lemmas.Bool.Decides.{nat_tests}
@@ -9,7 +8,7 @@ use Rattle.std.proofs.lemmas.Result.{OkIff-at_ok, OkIff-at_err}
 use Rattle.std.proofs.lemmas.Str.Parse.{parse_digits}
 use Rattle.dsql_scan.specs.declared.fault.ScanFault.TheVariants as faults
 use Rattle.dsql_scan.specs.Numbers.{decimal_value, are_digits, without_sign, with_sign, has_minus, plain_number, signed_number, fits_signed}
-use Rattle.dsql_scan.specs.Table.{signed_cell, signed_cell_of, unsigned_cell, unsigned_cell_of}
+use Rattle.dsql_scan.specs.Table.{signed_cell_of, unsigned_cell, unsigned_cell_of}
 use Rattle.dsql_scan.proofs.Digits.{numerals, only_digits, IsNumeral-digits, decimal_value-digits}
 
 pub plain_number-digits : (text : List ℕ) → are_digits text ≡ true → plain_number text ≡ Some (decimal_value text)

@@ -1,17 +1,15 @@
 -- Which texts spell numbers, and that decimal texts do.
-use Rattle.std.proofs.Common.{◌≡◌, ◌≢◌, ◌↔◌, ℕ, ◌+◌, ◌-◌, ◌*◌, ◌^◌, ◌<◌, ◌≤◌, ℤ, pos, negsuc, neg_ℤ, suc, Bool, true, false, ◌&&◌, ◌||◌, leb, List, [], ◌∷◌, ◌++◌, length, get_or, drop, eqb, ltb, cond, FitsSigned, w64, Option, Some, None, Ok, refl, sym, ap, ◌∙◌, subst, inl, inr, arith, add-one}
+use Rattle.std.proofs.Common.{◌≡◌, ℕ, ◌+◌, ◌-◌, ◌*◌, ◌^◌, ◌<◌, ℤ, pos, negsuc, neg_ℤ, suc, Bool, true, false, ◌||◌, leb, List, [], ◌∷◌, ◌++◌, length, get_or, drop, eqb, FitsSigned, w64, Option, Some, None, refl, sym, ap, ◌∙◌, subst, inl, inr, arith, add-one}
 use Rattle.std.proofs.Math.Nat.{pow-suc, mul_assoc}
 use Rattle.std.specs.Char.{IsAsciiDigit, is_ascii_digit}
 use Rattle.std.specs.Fmt.{decimal, signed_decimal}
-use Rattle.std.specs.List.{All, list_all}
+use Rattle.std.specs.List.{list_all}
 use Rattle.std.specs.Option.{option_map}
 use Rattle.std.proofs.lemmas.Bool.{cases_Bool, cond-true, cond-false, and_parts, lt-ltb, leb-true, le-leb, eqb-true, ne_eqb}
-use Rattle.std.proofs.lemmas.Bool.Decides.{nat_tests}
 use Rattle.std.proofs.lemmas.Fmt.{digits_decimal, digits_value-decimal, decimal_nonempty}
 use Rattle.std.proofs.lemmas.List.{length_push}
 use Rattle.std.proofs.lemmas.List.Sums.{AllPass-from_list_all, list_all-from_AllPass}
-use Rattle.std.proofs.lemmas.Str.Parse.{not_in_digits}
-use Rattle.dsql_scan.specs.Numbers.{decimal_value, are_digits, plain_number, signed_number, without_sign, with_sign, has_plus, has_minus, fits_signed}
+use Rattle.dsql_scan.specs.Numbers.{decimal_value, are_digits, plain_number, signed_number, without_sign, with_sign, has_plus, has_minus}
 use Rattle.dsql_scan.specs.Table.{signed_cell_of}
 use Rattle.dsql_scan.specs.Laws.{IsDecimal, Spells, SpellsSigned, OnlyDigitsSpell, DecimalsAreReadBack}
 use Rattle.dsql_scan.proofs.Digits.{numerals, only_digits, IsNumeral-digits}

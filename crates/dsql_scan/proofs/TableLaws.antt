@@ -1,6 +1,5 @@
 -- What holds of the table, column by column.
-use Rattle.std.proofs.Common.{◌≡◌, ◌≢◌, ◌+◌, ◌<◌, ℕ, ℤ, pos, negsuc, suc, zero, Bool, true, false, ◌&&◌, cond, if◌then◌else◌, nat_le, ◌==◌, List, [], ◌∷◌, length, map, Option, Some, None, Result, Ok, Err, refl, ap, ◌∙◌, arith, add-zero, zero-add}
-use Rattle.std.specs.List.{slice_get}
+use Rattle.std.proofs.Common.{◌≡◌, ◌+◌, ℕ, ℤ, pos, negsuc, suc, zero, Bool, true, false, ◌&&◌, cond, if◌then◌else◌, nat_le, ◌==◌, List, [], ◌∷◌, length, map, Option, Some, None, Ok, Err, refl, ap, ◌∙◌, arith, add-zero, zero-add}
 use Rattle.std.specs.Str.{is_utf8}
 use Rattle.std.proofs.lemmas.Bool.{cond-true, cond-false, eq-eqb, ne_eqb}
 use Rattle.dsql_value.specs.declared.value.Value.{Value}
@@ -16,8 +15,8 @@ use Rattle.dsql_scan.specs.declared.fault.RowFault.TheVariants.{At, DestCount}
 use Rattle.dsql_scan.specs.Numbers.{plain_number, signed_number, fits_signed}
 use Rattle.dsql_scan.specs.Truths.{spelled_truth, number_truth}
 use Rattle.dsql_scan.specs.Table.{Scan, scan_of, column_of, takes_null, is_nil, text_of, bytes_of, truth_of, truth_cell, signed_of, signed_cell, signed_cell_of, unsigned_of, unsigned_cell, unsigned_cell_of, unsigned_cell_of_int, time_of, any_of}
-use Rattle.dsql_scan.specs.Rows.{answers_of, cells_of, row_of, with_cell, in_32_bits}
-use Rattle.dsql_scan.specs.Laws.{BytesSpellNothing, OnlyTextsSpell, NullsTakeNil, inner_of, MemoryIsNoAnswer, IsFirstFault, RowsAreAnswered}
+use Rattle.dsql_scan.specs.Rows.{answers_of, cells_of, with_cell, in_32_bits}
+use Rattle.dsql_scan.specs.Laws.{OnlyTextsSpell, NullsTakeNil, inner_of, MemoryIsNoAnswer, IsFirstFault, RowsAreAnswered}
 use Rattle.dsql_scan.proofs.Utf8.{plain_number-not, signed_number-not, spelled_truth-not}
 
 pub only_texts_spell : OnlyTextsSpell

@@ -1,16 +1,16 @@
 -- Bytes that are no text spell neither a number nor a truth.
-use Rattle.std.proofs.Common.{◌≡◌, ◌≢◌, ℕ, ◌<◌, ◌≤◌, suc, zero, Bool, true, false, ◌&&◌, ◌||◌, List, [], ◌∷◌, drop, get_or, length, eqb, cond, Option, Some, None, Ok, refl, sym, ap, ◌∙◌, subst, inl, inr, arith, rules}
+use Rattle.std.proofs.Common.{◌≡◌, ℕ, ◌<◌, suc, zero, true, false, ◌||◌, List, [], ◌∷◌, eqb, cond, Some, None, Ok, refl, sym, ap, subst, inl, inr, arith}
 use lib.Utf8.{encode}
-use Rattle.std.specs.List.{list_all, list_any}
+use Rattle.std.specs.List.{list_all}
 use Rattle.std.specs.Option.{option_map}
 use Rattle.std.specs.Str.{IsUtf8, IsAscii, is_utf8, bytes_eq, chars}
-use Rattle.std.proofs.lemmas.Bool.{cases_Bool, and_parts, cond-false, false_from_ne_true, eqb-true}
+use Rattle.std.proofs.lemmas.Bool.{cases_Bool, and_parts, false_from_ne_true}
 use Rattle.std.proofs.lemmas.Bool.Decides.{nat_tests}
 use Rattle.std.proofs.lemmas.Fmt.{IsAscii-from_digits}
 use Rattle.std.proofs.lemmas.Slice.Eq.{bytes_eq-Decides}
 use Rattle.std.proofs.lemmas.Str.{IsUtf8-from_ascii, IsUtf8-from_is_utf8, is_utf8-from_IsUtf8}
 use Rattle.dsql_scan.specs.declared.cell.Cell.TheVariants as cells
-use Rattle.dsql_scan.specs.Numbers.{decimal_value, are_digits, without_sign, with_sign, has_plus, has_minus, plain_number, signed_number}
+use Rattle.dsql_scan.specs.Numbers.{decimal_value, are_digits, without_sign, with_sign, has_minus, plain_number, signed_number}
 use Rattle.dsql_scan.specs.Table.{decoded}
 use Rattle.dsql_scan.specs.Truths.{true_spellings, false_spellings, is_among, spelled_truth}
 use Rattle.dsql_scan.proofs.Digits.{IsNumeral-digits}

@@ -1,4 +1,4 @@
-use Rattle.std.proofs.Common.{◌≡◌, true, w64, to_z, of_z, rules, sym, ap, ◌∙◌, arith}
+use Rattle.std.proofs.Common.{◌≡◌, true, w64, to_z, of_z, rules, sym, ap, ◌∙◌}
 use Rattle.dsql_scan.specs.Numbers.{are_digits, without_sign}
 use Rattle.dsql_scan.specs.Table.{signed_cell, signed_cell_of}
 use Rattle.dsql_scan.proofs.Spelling.{signed_number-read, signed-refused}
