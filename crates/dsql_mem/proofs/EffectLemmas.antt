@@ -1,5 +1,5 @@
 -- What calls are answered: each answer suits its call, and tells of the session's handles as it should.
-use Rattle.std.proofs.Common.{◌≡◌, ℕ, ℤ, ◌+ℤ◌, ◌==◌, List, [], ◌∷◌, Bool, true, false, cond, ◌||◌, Option, Some, None, length, nat_lt, refl, sym, ap, ◌∙◌, inl, inr}
+use Rattle.std.proofs.Common.{◌≡◌, ℕ, ◌+ℤ◌, ◌==◌, List, [], Bool, true, false, cond, ◌||◌, Option, Some, None, length, nat_lt, refl, inl, inr}
 use Rattle.std.specs.Option.{option_map_or}
 use Rattle.dsql_driver.specs.Fits.{fits_of, is_memory, is_result, is_failure}
 use Rattle.dsql_driver.specs.Wires.{KeepsHandles, KeepsCursors}
@@ -12,7 +12,7 @@ use Rattle.dsql_driver.specs.declared.call.Input.TheVariants as input
 use Rattle.dsql_value.specs.declared.value.Param.{Param}
 use Rattle.dsql_value.specs.declared.value.Value.{Value}
 use Rattle.dsql_value.specs.declared.value.Value.TheVariants as value
-use Rattle.dsql_mem.specs.Effect.{Effect, Written, Kept, effect, executed, executed_text, executed_prepared, carried_out, added, deleted, summed, set_to, number_in, prepared, closed, queried, queried_text, in_store, in_session, only_answered}
+use Rattle.dsql_mem.specs.Effect.{Effect, Written, effect, executed, executed_text, executed_prepared, carried_out, added, deleted, summed, set_to, number_in, prepared, closed, queried, queried_text, in_session}
 use Rattle.dsql_mem.specs.Entries.{Entries, value_at}
 use Rattle.dsql_mem.specs.Filled.{key_for, value_for, left_after}
 use Rattle.dsql_mem.specs.Number.{fits_i64}

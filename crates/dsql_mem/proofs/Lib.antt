@@ -1,3 +1,4 @@
+pub mod DelLaw
 pub mod EffectLemmas
 pub mod EntryLemmas
 pub mod Examples

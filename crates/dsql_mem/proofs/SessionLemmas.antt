@@ -1,6 +1,6 @@
 -- The statements of a session, as handles are given and closed.
-use Rattle.std.proofs.Common.{◌≡◌, ℕ, ◌+◌, ◌≤◌, List, [], ◌∷◌, ◌++◌, map, reverse, Bool, true, false, cond, not, ◌&&◌, ◌||◌, eqb, leb, ap, sym, subst, refl, ◌∙◌, arith}
-use Rattle.std.specs.List.{filter, list_any, list_all}
+use Rattle.std.proofs.Common.{◌≡◌, ℕ, ◌+◌, ◌≤◌, List, [], ◌∷◌, ◌++◌, map, reverse, Bool, true, false, cond, ◌&&◌, ◌||◌, eqb, leb, ap, sym, subst, refl, ◌∙◌, arith}
+use Rattle.std.specs.List.{filter, list_any}
 use Rattle.std.proofs.Math.Bool.{or_comm}
 use Rattle.std.proofs.lemmas.Bool.{and_parts, leb-true, le-leb, ne_eqb}
 use Rattle.std.proofs.lemmas.List.{map-append, reverse-append, append-nil}

@@ -1,6 +1,5 @@
 -- What a wire is after a call that it carried out on some map, or for which memory was wanting.
-use Rattle.std.proofs.Common.{◌≡◌, ◌⊎◌, ℕ, List, [], ◌∷◌, ◌++◌, Bool, true, false, refl, sym, ap, ◌∙◌, inl, inr}
-use Rattle.std.proofs.lemmas.Bool.{false≢true}
+use Rattle.std.proofs.Common.{◌≡◌, ◌⊎◌, ℕ, List, [], ◌∷◌, ◌++◌, true, false, refl, ap, ◌∙◌, inl, inr}
 use Rattle.dsql_driver.specs.Fits.{fits_of, is_memory}
 use Rattle.dsql_driver.specs.Wires.{Told, KeepsHandles, KeepsCursors}
 use Rattle.dsql_driver.specs.declared.answer.DriverAnswer.{DriverAnswer}
@@ -10,7 +9,7 @@ use Rattle.dsql_mem.specs.Effect.{effect}
 use Rattle.dsql_mem.specs.Entries.{Entries}
 use Rattle.dsql_mem.specs.Session.{SessionState, IsReadyFor, handles_of, cursors_of}
 use Rattle.dsql_mem.specs.Wire.{WireState, CarriesOut, after_call, faults_after}
-use Rattle.dsql_mem.proofs.EffectLemmas.{IsLawful, effect-IsLawful}
+use Rattle.dsql_mem.proofs.EffectLemmas.{effect-IsLawful}
 
 -- a wire that took a call's answer and noted it is the wire after the call
 pub changed_by_parts : (store : Entries) (call noted : DriverCall) (before : WireState) (session : SessionState) (heard : List Told) (faults : ℕ) (answer note : DriverAnswer) → session ≡ (effect store before.session call).session → answer ≡ (effect store before.session call).answer → note ≡ (effect store before.session call).answer → noted ≡ call → heard ≡ before.heard ++ (noted, note) ∷ [] → faults ≡ faults_after before.faults answer → record { session = session; heard = heard; faults = faults } ≡ after_call store before call

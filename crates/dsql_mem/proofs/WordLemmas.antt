@@ -1,5 +1,5 @@
 -- The words of a text, from what `split_once` and `contains` say of its first space.
-use Rattle.std.proofs.Common.{◌≡◌, ◌≢◌, ℕ, ◌<◌, length, get_or, List, [], ◌∷◌, ◌++◌, Option, Some, None, false, eqb, refl, subst, sym, ap, ◌∙◌, ◌+◌, MatchOption, Bor, arith}
+use Rattle.std.proofs.Common.{◌≡◌, ◌≢◌, ℕ, ◌<◌, length, get_or, List, [], ◌∷◌, ◌++◌, Option, Some, None, false, eqb, refl, subst, sym, ◌∙◌, ◌+◌, MatchOption, Bor, arith}
 use Rattle.std.specs.List.{All, count_by}
 use Rattle.std.proofs.lemmas.Bool.{ne_eqb}
 use Rattle.std.proofs.lemmas.List.{get_or_default}

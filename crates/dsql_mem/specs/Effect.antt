@@ -13,7 +13,7 @@ use Rattle.dsql_mem.specs.Entries.{Entries, with_value, without_key, value_at}
 use Rattle.dsql_mem.specs.Filled.{left_after, key_for, value_for}
 use Rattle.dsql_mem.specs.Number.{fits_i64}
 use Rattle.dsql_mem.specs.Session.{SessionState, largest_handle, is_live, text_of, without_handle}
-use Rattle.dsql_mem.specs.Statement.{Statement, Set, Add, Del, Get, ListKeys, statement_of, inputs_of, is_query}
+use Rattle.dsql_mem.specs.Statement.{Statement, Set, Add, Del, statement_of, inputs_of, is_query}
 
 -- the map and the session after a call, and its answer
 pub record Effect : Type 0 where

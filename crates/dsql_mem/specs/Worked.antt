@@ -1,5 +1,9 @@
 -- What a SET and a DEL come to, and worked calls.
 use Rattle.std.specs.Prelude.{◌≡◌, ℕ, pos, negsuc, List, [], ◌∷◌, Some, None, codes, if◌then◌else◌}
+use Rattle.std.specs.Cmp.Lexicographic.{slice_cmp}
+use Rattle.std.specs.List.Sorted.{IsStrictlySortedBy}
+use Rattle.std.specs.Map.{keys_of}
+use Rattle.std.specs.Ordering.{nat_cmp}
 use Rattle.std.specs.Str.{bytes_eq}
 use Rattle.dsql_driver.specs.declared.answer.DriverAnswer.{DriverAnswer}
 use Rattle.dsql_driver.specs.declared.answer.DriverAnswer.TheVariants.{Done, Prepared, Skip}
@@ -18,6 +22,11 @@ use Rattle.dsql_mem.specs.Session.{SessionState, new_session}
 abbrev pub SetsOneKey : Type 0
 SetsOneKey = (key : List ℕ) (value : Value) (store : Entries) (other : List ℕ) →
     value_at other (with_value key value store) ≡ (if bytes_eq other key then Some value else value_at other store)
+
+-- once a key is taken out of a map, whose keys ascend, it isn't there, and each other key has what it had
+abbrev pub DeletesOneKey : Type 0
+DeletesOneKey = (key : List ℕ) (store : Entries) (other : List ℕ) → IsStrictlySortedBy (slice_cmp nat_cmp) (keys_of store) →
+    value_at other (without_key key store) ≡ (if bytes_eq key other then None else value_at other store)
 
 -- numbers by their spelling
 pub record WorkedNumbers : Type 0 where

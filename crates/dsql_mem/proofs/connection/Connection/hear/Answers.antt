@@ -1,5 +1,4 @@
 use Rattle.std.proofs.Common.{◌≡◌, [], ◌∷◌, ◌++◌, sym, ap, ◌∙◌, rules}
-use Rattle.dsql_driver.specs.declared.answer.DriverAnswer.{DriverAnswer}
 use Rattle.dsql_mem.specs.Effect.{effect}
 use Rattle.dsql_mem.specs.Wire.{after_call, faults_after}
 use Rattle.dsql_mem.specs.declared.copies.Copies.{Copies}
