@@ -1,6 +1,6 @@
 -- Behind the first line of a client a script has lines of clients and skipped lines alone.
 use Rattle.std.proofs.Common.{◌≡◌, ℕ, ◌+◌, Bool, true, false, List, [], ◌∷◌, length, Option, Some, None, refl, subst}
-use Rattle.std.specs.Prelude.{if◌then◌else◌, ◌==◌, ◌||◌, nat_lt, nat_le, codes, Result, Ok, Err, IfOk, IfErr, IfSome}
+use Rattle.std.specs.Prelude.{if◌then◌else◌, nat_lt, nat_le, codes, Result, Ok, Err, IfOk, IfErr, IfSome}
 use Rattle.std.specs.Str.{bytes_eq, is_utf8}
 use Rattle.std.specs.Str.Lines.{strip_carriage_return}
 use Rattle.serde_json.specs.Data.{Data}
@@ -15,8 +15,8 @@ use Rattle.dsql_script.specs.declared.script.Head.TheVariants.{Begun}
 use Rattle.dsql_script.specs.declared.script.ScriptLine.{ScriptLine}
 use Rattle.dsql_script.specs.declared.script.ScriptLine.TheVariants.{Skip, Version, UseCaps, Client}
 use Rattle.dsql_script.specs.ScriptArgs as args
-use Rattle.dsql_script.specs.ScriptWords.{begins_with, words_of, array_of, client_of}
-use Rattle.dsql_script.specs.ScriptHead.{Progress, progress, after, head_after}
+use Rattle.dsql_script.specs.ScriptWords.{words_of, array_of, client_of}
+use Rattle.dsql_script.specs.ScriptHead.{Progress, progress, after}
 use Rattle.dsql_script.specs.ScriptLines.{Reading, has_exec_shape, names_database, exec_on, exec_of_call, exec_of_array, exec_of, call_of, client_line, version_line, caps_line, form_of, is_skipped, text_of, line_of, read_of, most_bytes, most_lines}
 use Rattle.dsql_run.specs.Script.{Script}
 use Rattle.dsql_run.specs.Runs.{StopsReading}

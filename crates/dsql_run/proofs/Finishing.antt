@@ -6,7 +6,6 @@ use Rattle.std.proofs.lemmas.Bool.{lt-ltb, ltb-true, le-leb, leb-true}
 use Rattle.std.proofs.lemmas.List.{append-nil}
 use Rattle.dsql_driver.specs.Streams.{HasRisen, has_risen, last_count}
 use Rattle.dsql_history.specs.declared.event.Event.{Event}
-use Rattle.dsql_history.specs.declared.event.Op.{Op}
 use Rattle.dsql_script.specs.Lines.{text_of}
 use Rattle.dsql_player.specs.Extends.{Extends}
 use Rattle.dsql_run.specs.Report.{with_text, Shows, ShowsFront}

@@ -1,13 +1,12 @@
 -- A script's first lines, up to the first one of a client.
-use Rattle.std.proofs.Common.{◌≡◌, ℕ, ◌+◌, ◌-◌, ◌<◌, ◌≤◌, arith, true, List, [], ◌∷◌, Option, Some, None, refl, sym, ap, subst, ◌∙◌}
-use Rattle.std.specs.Prelude.{Result, Ok, Err, IfOk, IfSome}
+use Rattle.std.proofs.Common.{◌≡◌, ℕ, ◌+◌, ◌-◌, ◌<◌, ◌≤◌, arith, List, [], Option, Some, None, refl, ap, subst}
+use Rattle.std.specs.Prelude.{Result, Ok, IfSome}
 use Rattle.dsql_driver.specs.declared.caps.Caps.{Caps}
-use Rattle.dsql_history.specs.declared.event.Op.{Op}
 use Rattle.dsql_script.specs.declared.script.ScriptLine.{ScriptLine}
-use Rattle.dsql_script.specs.declared.script.ScriptLine.TheVariants.{Skip, Version, UseCaps, Client}
+use Rattle.dsql_script.specs.declared.script.ScriptLine.TheVariants.{UseCaps}
 use Rattle.dsql_script.specs.declared.script.Head.TheVariants.{Begun}
 use Rattle.dsql_script.specs.ScriptHead.{Progress}
-use Rattle.dsql_run.specs.Script.{Said, nothing, said_of, then, later}
+use Rattle.dsql_run.specs.Script.{Said, nothing, said_of, then}
 use Rattle.dsql_run.specs.Runs.{saying, Plays}
 use Rattle.dsql_run.specs.Reading.{HasRead, ReadTo, ReadsHead, Prefers, NoLine}
 use Rattle.dsql_run.specs.declared.script.ScriptReader.{ScriptReader}

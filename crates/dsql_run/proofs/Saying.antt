@@ -1,12 +1,12 @@
 -- What lines say, one after another.
-use Rattle.std.proofs.Common.{◌≡◌, true, List, [], ◌∷◌, ◌++◌, Option, Some, None, refl, sym, ap, ◌∙◌, append_assoc}
+use Rattle.std.proofs.Common.{◌≡◌, true, List, [], ◌++◌, Option, Some, None, refl, sym, ap, append_assoc}
 use Rattle.std.proofs.lemmas.List.{append-nil}
 use Rattle.dsql_driver.specs.declared.caps.Caps.{Caps}
 use Rattle.dsql_history.specs.declared.event.Op.{Op}
 use Rattle.std.specs.Prelude.{ℕ}
 use Rattle.dsql_script.specs.declared.script.ScriptLine.{ScriptLine}
 use Rattle.dsql_script.specs.declared.script.ScriptLine.TheVariants.{Skip, Version, UseCaps, Client}
-use Rattle.dsql_run.specs.Script.{Script, Said, nothing, said_of, later, then, whole, with_said}
+use Rattle.dsql_run.specs.Script.{Script, Said, nothing, said_of, later, then, with_said}
 use Rattle.dsql_run.specs.Runs.{saying}
 use Rattle.dsql_run.specs.Reading.{is_body}
 

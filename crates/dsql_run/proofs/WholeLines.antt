@@ -1,6 +1,6 @@
 -- The lines that were read whole, as a run goes on.
-use Rattle.std.proofs.Common.{◌≡◌, ℕ, ◌+◌, Bool, true, false, List, [], ◌∷◌, ◌++◌, Option, Some, None, length, refl, sym, ap, ◌∙◌, append_assoc}
-use Rattle.std.specs.Prelude.{option_map, IfSome, Result, Ok, Err}
+use Rattle.std.proofs.Common.{◌≡◌, ℕ, ◌+◌, Bool, true, false, List, [], ◌∷◌, ◌++◌, Option, Some, None, refl, sym, ap, ◌∙◌, append_assoc}
+use Rattle.std.specs.Prelude.{IfSome, Ok, Err}
 use Rattle.std.proofs.lemmas.Option.{same_Some}
 use Rattle.dsql_stream.specs.Lines.{ended_lines, all_lines, ahead, TakesOff}
 use Rattle.dsql_stream.proofs.FirstLines.{Feedless}

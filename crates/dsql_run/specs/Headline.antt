@@ -1,5 +1,5 @@
 -- What a run of the program has done, as one history shows it.
-use Rattle.std.specs.Prelude.{ℕ, ◌≡◌, ◌≤◌, ◌⊎◌, true, List, [], ◌∷◌, length, Option, None, IfSome, Result, Ok, Err}
+use Rattle.std.specs.Prelude.{ℕ, ◌≡◌, ◌≤◌, ◌⊎◌, true, List, [], ◌∷◌, length, Option, IfSome, Result, Ok, Err}
 use Rattle.dsql_driver.specs.declared.caps.Caps.{Caps}
 use Rattle.dsql_driver.specs.Streams.{HasRisen, has_risen}
 use Rattle.dsql_driver.specs.Wires.{RetiredWire}

@@ -2,6 +2,7 @@
 use Rattle.std.specs.Prelude.{ℕ, ◌≡◌, ◌==◌, ◌⊎◌, Bool, true, false, List, [], ◌∷◌, ◌++◌, Option, Result, Ok, Err, codes, decimal}
 use Rattle.std.specs.List.{list_any}
 use Rattle.std.specs.Str.{bytes_eq}
+use Rattle.dsql_script.specs.declared.fault.What.TheVariants.{Lines, Args}
 use Rattle.dsql_script.specs.declared.fault.LineFault.{LineFault}
 use Rattle.dsql_script.specs.declared.fault.LineFault.TheVariants as faults
 use Rattle.dsql_run.specs.Report.{with_text, ShowsFront}
@@ -22,7 +23,8 @@ reason_of faults.NoSuchWord = codes "no such word"
 reason_of faults.BadJson = codes "not JSON"
 reason_of faults.BadShape = codes "wrong shape"
 reason_of faults.UnknownLabel = codes "unknown label"
-reason_of (faults.TooMany what) = codes "too many lines"
+reason_of (faults.TooMany Lines) = codes "too many lines"
+reason_of (faults.TooMany Args) = codes "too many arguments"
 reason_of faults.Memory = codes "out of memory"
 
 abbrev pub refusal_of : ℕ → LineFault → List ℕ

@@ -1,14 +1,12 @@
 -- How far a script has been read.
 use Rattle.std.specs.Prelude.{ℕ, ◌≡◌, ◌≢◌, Bool, true, false, All, List, [], ◌∷◌, ◌++◌, Option, Some, None, IfSome, option_map, Result, Ok, Err}
 use Rattle.dsql_driver.specs.declared.caps.Caps.{Caps}
-use Rattle.dsql_history.specs.declared.event.Op.{Op}
 use Rattle.dsql_stream.specs.Lines.{ahead, SawTheEnd}
-use Rattle.dsql_script.specs.declared.script.Head.TheVariants.{Begun}
 use Rattle.dsql_script.specs.declared.script.ScriptLine.{ScriptLine}
 use Rattle.dsql_script.specs.declared.script.ScriptLine.TheVariants.{Skip, Client}
 use Rattle.dsql_script.specs.ScriptHead.{Progress, unread, after}
 use Rattle.dsql_script.specs.ScriptLines.{Reading, read_of}
-use Rattle.dsql_run.specs.Script.{Script, Said, nothing, then, script_of, script_from, whole, with_said, said_of, later}
+use Rattle.dsql_run.specs.Script.{Said, then, script_of, script_from, whole, with_said, said_of, later}
 use Rattle.dsql_run.specs.Runs.{to_come, Plays, saying}
 use Rattle.dsql_run.specs.declared.script.ScriptReader.{ScriptReader}
 use Rattle.dsql_run.specs.declared.stop.Stop.{Stop}

@@ -20,7 +20,7 @@ use Rattle.dsql_script.specs.declared.script.ScriptLine.{ScriptLine}
 use Rattle.dsql_script.specs.ScriptHead.{Progress, unread}
 use Rattle.dsql_script.specs.ScriptLines.{read_of}
 use Rattle.dsql_script.specs.Lines.{text_of}
-use Rattle.dsql_run.specs.Script.{Script, Said, nothing, then, Says, SaysFirst, script_of, script_from, whole, refused_at, with_said, said_of}
+use Rattle.dsql_run.specs.Script.{Script, Said, nothing, Says, SaysFirst, script_from, whole, refused_at, with_said, said_of}
 use Rattle.dsql_run.specs.Report.{with_text, Shows, ShowsFront, StopsBetween}
 use Rattle.dsql_run.specs.declared.script.ScriptReader.{ScriptReader}
 use Rattle.dsql_run.specs.declared.show.ShowFault.{ShowFault}

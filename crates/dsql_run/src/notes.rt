@@ -7,7 +7,7 @@ ghost use Rattle.dsql_run.specs.Notes.{refusal_of, stop_text, reason_of, note_of
 use crate::show::ShowFault;
 use crate::stop::Stop;
 use dsql_driver::Sink;
-use dsql_script::LineFault;
+use dsql_script::{LineFault, What};
 use dsql_stream::write_whole;
 use dsql_value::Memory;
 use itoa::Buffer;
@@ -24,7 +24,8 @@ fn reason(fault: &LineFault) -> &'static str
         LineFault::BadJson => "not JSON",
         LineFault::BadShape => "wrong shape",
         LineFault::UnknownLabel => "unknown label",
-        LineFault::TooMany(_) => "too many lines",
+        LineFault::TooMany(What::Lines) => "too many lines",
+        LineFault::TooMany(What::Args) => "too many arguments",
         LineFault::Memory => "out of memory",
     }
 }

@@ -153,6 +153,10 @@ fn scripts_give_their_reports(rt: HostRuntime) -> Result<(), Fail> {
     Ok(())
 }
 
+/// A call with 33 arguments, on a label that nothing made.
+const MANY: &str =
+    "c1 exec x1 [\"x\",1,2,3,4,5,6,7,8,9,10,11,12,13,14,15,16,17,18,19,20,21,22,23,24,25,26,27,28,29,30,31,32,33]";
+
 /// The words that play a script.
 const PLAY: &[&str] = &["play"];
 
@@ -195,7 +199,7 @@ fn a_refused_line_ends_the_run(rt: HostRuntime) -> Result<(), Fail> {
 
 #[test]
 fn hostile_lines_are_refused_by_their_first_fault(rt: HostRuntime) -> Result<(), Fail> {
-    let rows: [(&str, &[(u8, usize)], &str); 12] = [
+    let rows: [(&str, &[(u8, usize)], &str); 13] = [
         ("#", &[(b'x', 4095)], ""),
         ("#", &[(b'x', 4096)], "sqlrun: line 1: line too long\n"),
         ("", &[(0xff, 1)], "sqlrun: line 1: not UTF-8\n"),
@@ -213,6 +217,7 @@ fn hostile_lines_are_refused_by_their_first_fault(rt: HostRuntime) -> Result<(),
         ("c1 exec x1 [1]", &[], "sqlrun: line 1: wrong shape\n"),
         ("c1 exec x1 [\"x\"]", &[], "sqlrun: line 1: unknown label\n"),
         ("c65 stats", &[], "sqlrun: line 1: no such word\n"),
+        (MANY, &[], "sqlrun: line 1: too many arguments\n"),
         ("", &[(b'\n', 10_000)], ""),
         (
             "",

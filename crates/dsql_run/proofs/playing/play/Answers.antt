@@ -1,4 +1,4 @@
-use Rattle.std.proofs.Common.{◌≡◌, ◌∙◌, [], ◌∷◌, refl, ap, sym, inl, inr, subst}
+use Rattle.std.proofs.Common.{◌≡◌, ◌∙◌, [], ◌∷◌, ap, sym, inl, inr, subst}
 use Rattle.dsql_driver.specs.Streams.{has_risen}
 use Rattle.dsql_history.specs.declared.event.Event.TheVariants.{Run}
 use Rattle.dsql_player.specs.Extends.{Extends}

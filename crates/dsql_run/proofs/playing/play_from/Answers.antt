@@ -1,5 +1,4 @@
-use Rattle.std.proofs.Common.{◌≡◌, ap, inl, inr, Option, refl}
-use Rattle.std.specs.Prelude.{Ok, Err}
+use Rattle.std.proofs.Common.{ap, inl, inr}
 use Rattle.dsql_player.specs.Entered.{entered_calls}
 use Rattle.dsql_player.proofs.Extending.{extends_then}
 use Rattle.dsql_run.specs.Runs.{saying}

@@ -1,14 +1,14 @@
-use Rattle.std.proofs.Common.{◌≡◌, ◌+◌, ◌∙◌, Some, None, Option, [], true, refl, ap, sym, arith, subst}
-use Rattle.std.specs.Prelude.{Ok, Err, IfSome}
+use Rattle.std.proofs.Common.{◌≡◌, ◌∙◌, [], true, refl, sym, arith}
+use Rattle.std.specs.Prelude.{Ok, Err}
 use Rattle.dsql_player.specs.Entered.{entered_calls}
-use Rattle.dsql_player.proofs.Extending.{extends_same, extends_then}
+use Rattle.dsql_player.proofs.Extending.{extends_then}
 use Rattle.dsql_script.specs.Lines.{text_of}
 use Rattle.dsql_run.specs.Report.{with_text}
-use Rattle.dsql_run.specs.Reading.{is_body, IsBodyLine}
+use Rattle.dsql_run.specs.Reading.{is_body}
 use Rattle.dsql_run.specs.Runs.{saying, stop_of_show}
 use Rattle.dsql_run.proofs.Errors.{err_is}
 use Rattle.dsql_run.proofs.Heading.{fewer, read_of_first, some_of, always_headed}
-use Rattle.dsql_run.proofs.Running.{no_text, none_gone, line_stops, carried_out, first_none, show_stops, wrote_at_rest, wrote_cut, begun_cut, all_shown}
+use Rattle.dsql_run.proofs.Running.{no_text, line_stops, carried_out, first_none, show_stops, wrote_at_rest, wrote_cut, begun_cut, all_shown}
 use Rattle.dsql_run.proofs.playing.play_lines.Goals as goal
 
 pub returns-in_err-show-clause-plays : goal.returns-in_err-show-clause-plays

@@ -1,5 +1,3 @@
-use Rattle.std.proofs.Common.{◌≡◌, Option, Some, None, refl}
-use Rattle.std.specs.Prelude.{Result, Ok, Err, IfOk, IfSome}
 use Rattle.dsql_run.specs.Runs.{to_come}
 use Rattle.dsql_run.proofs.Running.{reads_to}
 use Rattle.dsql_run.proofs.Body.{body_of_read, begun_of_read, headed_of_read, counted_of_read, readable_stops}

@@ -1,4 +1,4 @@
-use Rattle.std.proofs.Common.{◌≡◌, ◌+◌, true}
+use Rattle.std.proofs.Common.{◌≡◌, true}
 use Rattle.std.specs.Prelude.{Err}
 use Rattle.dsql_stream.specs.Lines.{ahead, HandsOut}
 use Rattle.dsql_script.specs.ScriptHead.{after}
