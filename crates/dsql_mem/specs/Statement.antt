@@ -3,8 +3,8 @@ use Rattle.std.specs.Prelude.{ℕ, ◌==◌, nat_lt, Bool, true, false, ◌&&◌
 use Rattle.std.specs.List.{slice_split}
 use Rattle.std.specs.Str.{bytes_eq}
 
--- A statement: a key gets a value, a key's number grows by one, a key goes, a key's value is asked for, and so are the keys
--- with a prefix.
+-- A statement: a key gets a value, a key's number grows by a value, a key goes, a key's value is asked for, and so are the
+-- keys with a prefix.
 pub data Statement : Type 0 where
   Set : (key value : List ℕ) → Statement
   Add : (key value : List ℕ) → Statement

@@ -107,10 +107,11 @@ impl<R: AllocGlobal + Wait + Clone + Drop + Send> Fleet for MemFleet<R> {
 #[cfg(test)]
 mod tests {
     use super::*;
-    use dsql_driver::{DriverAnswer, DriverCall, Input, Wire};
+    use dsql_driver::{Answered, DriverAnswer, DriverCall, Input, Wire};
     use dsql_value::{Items, Txt};
     use std::alloc::Global;
     use std::test::Fail;
+    use std::thread;
 
     /// Executes a text on a wire, and adds the answer to the report.
     fn exec<W: Wire>(
@@ -172,6 +173,23 @@ mod tests {
         let want = format!(in rt.alloc(); "{one} mem: out of range {one} {none} ")?;
         assert_eq!(rt; report.as_str(), want.as_str());
         assert_eq!(rt; fleet.retired_count(), 2);
+        Ok(())
+    }
+
+    /// Makes one call on a wire, and gives back the wire and the answer.
+    fn visit<W: Wire>(mut wire: W, call: DriverCall) -> (W, Answered) {
+        let answered = wire.call(&call);
+        (wire, answered)
+    }
+
+    #[test]
+    fn a_wire_works_in_a_thread(rt: HostRuntime) -> Result<(), Fail> {
+        let mut fleet = MemFleet::new(rt.clone()?)?;
+        let wire = fleet.connect(1)?;
+        let child = thread::spawn(&rt, move || visit(wire, DriverCall::Commit))?;
+        let (wire, answered) = child.join(&rt);
+        fleet.retire(1, wire);
+        assert!(rt; matches!(answered.answer, DriverAnswer::Fail(_)));
         Ok(())
     }
 }
