@@ -1,0 +1,11 @@
+//! The judge of a connection's journal: it hears the entries one at a time, and accepts exactly those
+//! that keep the journal a beginning of a whole one.
+#![tactic(auto)]
+
+mod asked;
+mod fault;
+mod kinds;
+mod past;
+
+pub use fault::{JudgeFault, Phase};
+pub use dsql_journal::{Entry, Owner, Permit};
