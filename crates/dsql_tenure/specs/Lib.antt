@@ -1,1 +1,5 @@
 pub mod Asked
+pub mod SoFar
+pub mod Open
+pub mod Tables
+pub mod MayBeAsked

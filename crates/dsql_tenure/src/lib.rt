@@ -6,6 +6,8 @@ mod asked;
 mod fault;
 mod kinds;
 mod past;
+mod so_far;
+mod tables;
 
 pub use fault::{JudgeFault, Phase};
 pub use dsql_journal::{Entry, Owner, Permit};
