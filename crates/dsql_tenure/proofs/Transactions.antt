@@ -42,9 +42,9 @@ pub done-no_failure : (a : DriverAnswer) → is_done a ≡ true → is_failure a
 done-no_failure Done h = refl
 done-no_failure _ h = grind (arith, h)
 
-never-both : (a b : Bool) → a ≡ true → a ≡ false → ⊥
-never-both true b h k = grind (arith, k)
-never-both false b h k = grind (arith, h)
+pub never-both : (a : Bool) → a ≡ true → a ≡ false → ⊥
+never-both true h k = grind (arith, k)
+never-both false h k = grind (arith, h)
 
 begun_outside : (o : Owner) (before : List Entry) (e : Entry) → KeepsBody o before e → (is_house o ⇒ is_connect e.call || is_close_stmt e.call || is_shut e.call) ≡ true
     → is_begin e.call ≡ true → is_done e.answer ≡ true → e.tx ≡ 0 → ⊥
@@ -64,7 +64,7 @@ begun_outside (Pin n) before e k house is done zero_tx =
 begun_outside House before e k house is done zero_tx =
     let only : OnlyBegins e.call = begin-only e.call is in
     let kind : (is_connect e.call || is_close_stmt e.call || is_shut e.call) ≡ true = house in
-    never-both (is_connect e.call || is_close_stmt e.call || is_shut e.call) true kind only.house
+    never-both (is_connect e.call || is_close_stmt e.call || is_shut e.call) kind only.house
 
 -- what is begun has a number
 pub begins-number : (before : List Entry) (e : Entry) → MayFollow before e → begins e ≡ true → e.tx ≢ 0
@@ -110,7 +110,7 @@ of_transaction-begun n (e ∷ before) h some =
         let is_n : e.tx ≡ n = eqb→eq e.tx n (grind (arith, nat_tests, same)) in
         let first : is_empty (of_transaction e.tx before) ≡ true = rw is_n h in
         let yea : begins e ≡ true = begins_if_first before e m (λ z. some (sym is_n ∙ z)) first in
-        absurd (never-both (begins e) true yea nay)
+        absurd (never-both (begins e) yea nay)
     go : (b c : Bool) → (e.tx == n) ≡ b → begins e ≡ c → MayFollow before e → is_empty (of_transaction n before) ≡ not (has n (begun before))
         → is_empty (cond b (e ∷ of_transaction n before) (of_transaction n before)) ≡ not (has n (cond c (e.tx ∷ begun before) (begun before)))
     go true true same is m h = rw same refl
@@ -148,7 +148,7 @@ has-open n (e ∷ before) h =
         ≡ (has n (cond b (e.tx ∷ begun before) (begun before)) && not (has n (cond c (e.tx ∷ ended before) (ended before))))
     go true true is ends m h =
         let only : OnlyBegins e.call = begin-only e.call (parts2 (is_begin e.call) (is_done e.answer) is).0 in
-        absurd (never-both (is_ending e.call) true ends only.ending)
+        absurd (never-both (is_ending e.call) ends only.ending)
     go true false is ends m h = begun_here (e.tx == n) (has n (open_in before)) (has n (begun before)) (has n (ended before)) (fresh is m) h
     go false true is ends m h =
         has-filter n e.tx (open_in before) ∙ ended_here (e.tx == n) (n == e.tx) (has n (open_in before)) (has n (begun before)) (has n (ended before)) (grind (arith, nat_tests)) h
