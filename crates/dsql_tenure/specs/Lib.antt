@@ -2,4 +2,5 @@ pub mod Asked
 pub mod SoFar
 pub mod Open
 pub mod Tables
+pub mod Parts
 pub mod MayBeAsked

@@ -6,6 +6,7 @@ mod asked;
 mod fault;
 mod kinds;
 mod past;
+mod rules;
 mod so_far;
 mod tables;
 
