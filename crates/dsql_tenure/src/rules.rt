@@ -1,7 +1,7 @@
 //! The rules of a journal, each by the tables: what is asked of the entry that comes next, whatever it
 //! was answered.
 ghost use Rattle.std.specs.Prelude.{◌≡◌, ◌<◌, ◌≤◌, ◌&&◌, ◌||◌, ◌==◌, not, nat_lt, Bool, true, IsTrue};
-ghost use Rattle.std.specs.List.{list_all};
+ghost use Rattle.std.specs.List.{list_all, list_any};
 ghost use Rattle.dsql_journal.specs.HandlesAndCursors.{keeps_handles_and_cursors};
 ghost use Rattle.dsql_journal.specs.Kinds as kind;
 ghost use Rattle.dsql_journal.specs.Readers as told;
@@ -10,6 +10,7 @@ ghost use Rattle.dsql_journal.specs.Tenure as tenure;
 ghost use Rattle.dsql_journal.specs.Transaction as transaction;
 ghost use Rattle.dsql_journal.specs.WholeJournal as whole;
 ghost use Rattle.dsql_tenure.specs.Asked.{entry_like};
+ghost use Rattle.dsql_tenure.specs.Parts as part;
 
 use crate::asked::{Asked, Outcome};
 use crate::kinds::{
@@ -139,6 +140,110 @@ impl Tables {
             None => true,
         }
     }
+}
+
+/// Handles and cursors.
+#[tactic(auto, unfolding(crate::specs::Tables::Stands))]
+impl Tables {
+    ghost use Rattle.dsql_tenure.specs.Tables.{past, Stands};
+    ghost use Rattle.dsql_tenure.specs.Parts.{keeps_handle, keeps_cursor};
+
+    /// All that is said of handles and cursors.
+    pub fn keeps_handles_and_cursors(&self, asked: &Asked<'_>) -> bool
+        requires { Stands self.now }
+        ensures { result ≡ keeps_handles_and_cursors (past self.now) (entry_like asked.now) }
+    {
+        self.keeps_handle(asked) && self.keeps_cursor(asked)
+    }
+
+    fn keeps_handle(&self, asked: &Asked<'_>) -> bool
+        requires { Stands self.now }
+        ensures { result ≡ keeps_handle (past self.now) (entry_like asked.now) }
+    {
+        match handle_of(asked.call) {
+            Some(n) => serves_handle(&self.handles, n, asked),
+            None => true,
+        }
+    }
+
+    fn keeps_cursor(&self, asked: &Asked<'_>) -> bool
+        requires { Stands self.now }
+        ensures { result ≡ keeps_cursor (past self.now) (entry_like asked.now) }
+    {
+        match cursor_of(asked.call) {
+            Some(n) => serves_cursor(&self.cursors, n, asked),
+            None => true,
+        }
+    }
+}
+
+impl Handle {
+    ghost use Rattle.dsql_tenure.specs.Parts as part;
+
+    /// It may be used there.
+    fn serves(&self, asked: &Asked<'_>) -> bool
+        ensures { result ≡ part.serves_handle self.now (entry_like asked.now) }
+    {
+        self.tx == asked.tx
+            && if is_call(self.owner) {
+                is_call(asked.owner) || is_house(asked.owner) && is_close_stmt(asked.call)
+            } else {
+                self.tenure == asked.tenure
+            }
+    }
+}
+
+impl Cursor {
+    ghost use Rattle.dsql_tenure.specs.Parts as part;
+
+    /// It may be used there.
+    fn serves(&self, asked: &Asked<'_>) -> bool
+        ensures { result ≡ part.serves_cursor self.now (entry_like asked.now) }
+    {
+        (!is_next(asked.call) || !self.over)
+            && self.tx == asked.tx
+            && self.tenure == asked.tenure
+    }
+}
+
+/// The handle of that number is live and may be used there.
+fn serves_handle(handles: &[Handle], n: u32, asked: &Asked<'_>) -> bool
+    ensures { result ≡ (list_any (λ h. h.number == n) handles.now && list_all (λ h. not (h.number == n) || part.serves_handle h (entry_like asked.now)) handles.now) }
+{
+    has_handle(handles, n) && each_handle_serves(handles, n, asked)
+}
+
+/// The handle of that number is live.
+pub fn has_handle(handles: &[Handle], n: u32) -> bool
+    ensures { result ≡ list_any (λ h. h.number == n) handles.now }
+{
+    handles.iter().any(|h| h.number == n)
+}
+
+fn each_handle_serves(handles: &[Handle], n: u32, asked: &Asked<'_>) -> bool
+    ensures { result ≡ list_all (λ h. not (h.number == n) || part.serves_handle h (entry_like asked.now)) handles.now }
+{
+    handles.iter().all(|h| h.number != n || h.serves(asked))
+}
+
+/// The cursor of that number is live and may be used there.
+fn serves_cursor(cursors: &[Cursor], n: u32, asked: &Asked<'_>) -> bool
+    ensures { result ≡ (list_any (λ c. c.number == n) cursors.now && list_all (λ c. not (c.number == n) || part.serves_cursor c (entry_like asked.now)) cursors.now) }
+{
+    has_cursor(cursors, n) && each_cursor_serves(cursors, n, asked)
+}
+
+/// The cursor of that number is live.
+pub fn has_cursor(cursors: &[Cursor], n: u32) -> bool
+    ensures { result ≡ list_any (λ c. c.number == n) cursors.now }
+{
+    cursors.iter().any(|c| c.number == n)
+}
+
+fn each_cursor_serves(cursors: &[Cursor], n: u32, asked: &Asked<'_>) -> bool
+    ensures { result ≡ list_all (λ c. not (c.number == n) || part.serves_cursor c (entry_like asked.now)) cursors.now }
+{
+    cursors.iter().all(|c| c.number != n || c.serves(asked))
 }
 
 /// A Reset, Valid, CloseStmt or CloseRows.
