@@ -3,4 +3,5 @@ pub mod SoFar
 pub mod Open
 pub mod Tables
 pub mod Parts
+pub mod TenureParts
 pub mod MayBeAsked
