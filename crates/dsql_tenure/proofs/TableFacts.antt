@@ -4,7 +4,7 @@ use Rattle.std.specs.List.{list_all, list_any}
 use native.Mathlib.Omega.{arith}
 use Rattle.std.proofs.lemmas.Bool.Decides.{nat_tests}
 use Rattle.dsql_journal.specs.declared.entry.Entry.{Entry}
-use Rattle.dsql_journal.specs.Kinds.{◌⇒◌, is_call}
+use Rattle.dsql_journal.specs.Kinds.{◌⇒◌, if_any, is_call, is_close_stmt, handle_of}
 use Rattle.dsql_journal.specs.Readers.{LiveHandle, LiveCursor, is_empty, handles, cursors, has, begun, of_tenure, last_tenure, went_bad}
 use Rattle.dsql_journal.specs.Tenure.{has_ended_transactions, has_closed_cursors, has_closed_handles}
 use Rattle.dsql_journal.proofs.Tenures.{of_tenure-new}
@@ -12,6 +12,7 @@ use Rattle.dsql_tenure.specs.declared.tables.Handle.{Handle}
 use Rattle.dsql_tenure.specs.declared.tables.Cursor.{Cursor}
 use Rattle.dsql_tenure.specs.declared.tables.Tables.{Tables}
 use Rattle.dsql_tenure.specs.Open.{open_in}
+use Rattle.dsql_tenure.specs.TenureParts.{closes_own}
 use Rattle.dsql_tenure.specs.Tables.{past, kept_handle, kept_cursor, Keeps, Stands, keeps_of}
 use Rattle.dsql_tenure.proofs.Lists.{list_all-map, list_all-same}
 use Rattle.dsql_tenure.proofs.Groups.{bad_tenure-some}
@@ -49,3 +50,11 @@ module _ (t : Tables) (s : Stands t) where
   pub ended_new : (n : ℕ) → last_tenure (past t) < n → has_ended_transactions n (past t) ≡ true
   ended_new n above =
       ap (λ (xs : List Entry). list_all (λ m. has m (Rattle.dsql_journal.specs.Readers.ended (past t))) (begun xs)) (of_tenure-new n (past t) (keeps_of t s).prefix above)
+
+  pub closes_own_by : (e : Entry) (n : ℕ) → is_close_stmt e.call ≡ true → handle_of e.call ≡ Some n
+      → list_all (λ h. not (h.number == n) || (h.tenure == e.tenure)) t.handles.items ≡ closes_own (past t) e
+  closes_own_by e n closes names =
+      ap (λ (hs : List Handle). list_all (λ h. not (h.number == n) || (h.tenure == e.tenure)) hs) (keeps_of t s).handles
+      ∙ list_all-map (λ (h : Handle). not (h.number == n) || (h.tenure == e.tenure)) kept_handle (handles (past t))
+      ∙ sym (ap (λ b. b ⇒ if_any (handle_of e.call) (λ m. list_all (λ h. not (h.number == m) || (h.tenure == e.tenure)) (handles (past t)))) closes
+          ∙ ap (λ o. if_any o (λ m. list_all (λ h. not (h.number == m) || (h.tenure == e.tenure)) (handles (past t)))) names)

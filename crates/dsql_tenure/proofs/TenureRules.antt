@@ -129,15 +129,16 @@ module _ (before : List Entry) (e : Entry) where
     course-is = ap (λ b. tenure.tests_without_transaction e && tenure.follows_no_bad_reset before e && b) (if_same (is_body e) _ _ (λ is. keeps_body-is e.owner))
 
     -- the rules of a tenure in groups
-    pub keeps_tenure-groups : keeps_tenure before e ≡ (part.keeps_shape (so_far earlier) e && tenure.is_whole_at_valid before e && part.keeps_course (so_far earlier) before e)
+    pub keeps_tenure-groups : keeps_tenure before e ≡ (part.keeps_shape (so_far earlier) e && part.keeps_rest (so_far earlier) before e)
     keeps_tenure-groups =
         all_ten (tenure.has_one_owner before e && tenure.is_alone_of_house before e && tenure.is_house_call e && tenure.has_house_numbers e && tenure.resets_first before e && tenure.has_no_valid_before before e)
         (tenure.is_whole_at_valid before e) (tenure.tests_without_transaction e) (tenure.follows_no_bad_reset before e) (is_body e ⇒ tenure.keeps_body e.owner before e)
         (part.keeps_shape (so_far earlier) e) (part.keeps_course (so_far earlier) before e) shape-is course-is
       where
-        all_ten : (a w t b k x y : Bool) → a ≡ x → (t && b && k) ≡ y → (a && w && t && b && k) ≡ (x && w && y)
-        all_ten a w t b k x y p q = rw p (go (x && w))
+        all_ten : (a w t b k x y : Bool) → a ≡ x → (t && b && k) ≡ y → (a && w && t && b && k) ≡ (x && (w && y))
+        all_ten a w t b k x y p q = rw p (go x w)
           where
-            go : (m : Bool) → (m && t && b && k) ≡ (m && y)
-            go true = q
-            go false = refl
+            go : (m n : Bool) → (m && n && t && b && k) ≡ (m && (n && y))
+            go true true = q
+            go true false = refl
+            go false n = refl

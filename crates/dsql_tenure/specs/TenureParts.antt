@@ -6,7 +6,7 @@ use Rattle.dsql_journal.specs.declared.entry.Owner.{Owner}
 use Rattle.dsql_journal.specs.declared.entry.Owner.TheVariants.{Call, Tx, Pin, House}
 use Rattle.dsql_journal.specs.Kinds.{◌⇒◌, if_any, is_connect, is_reset, is_valid, is_ping, is_prepare, is_next, is_close_stmt, is_shut, is_work, is_bad, runs_handle, handle_of, is_house, same_owner}
 use Rattle.dsql_journal.specs.Readers.{handles}
-use Rattle.dsql_journal.specs.Tenure.{place, is_body, is_refused_begin, is_pin_body, is_outside_transactions, closes_rows_first}
+use Rattle.dsql_journal.specs.Tenure.{place, is_body, is_refused_begin, is_pin_body, is_outside_transactions, closes_rows_first, is_whole_at_valid}
 use Rattle.dsql_tenure.specs.declared.so_far.Prepared.{Prepared}
 use Rattle.dsql_tenure.specs.declared.so_far.Prepared.TheVariants.{Nothing, Handle, Otherwise}
 use Rattle.dsql_tenure.specs.declared.so_far.SoFar.{SoFar}
@@ -36,12 +36,17 @@ allows Nothing n = true
 allows (Handle h) n = h == n
 allows Otherwise n = false
 
--- it prepares or runs a handle only after a skip, runs its own handle, and sends nothing more after a Bad
+-- it prepares or runs a handle only after a skip
+abbrev pub follows_skip : SoFar → Entry → Bool
+follows_skip s e = is_prepare e.call || runs_handle e.call ⇒ not s.ran
+
+-- it runs its own handle
+abbrev pub runs_own : SoFar → Entry → Bool
+runs_own s e = runs_handle e.call ⇒ if_any (handle_of e.call) (allows s.prepared)
+
+-- both, and it sends nothing more after a Bad
 abbrev pub runs_well : SoFar → Entry → Bool
-runs_well s e =
-    (is_prepare e.call || runs_handle e.call ⇒ not s.ran)
-    && (runs_handle e.call ⇒ if_any (handle_of e.call) (allows s.prepared))
-    && not s.bad
+runs_well s e = follows_skip s e && runs_own s e && not s.bad
 
 -- the live handle that it closes was prepared in this tenure
 abbrev pub closes_own : List Entry → Entry → Bool
@@ -66,3 +71,7 @@ keeps_body s House before e = true
 -- tests in no transaction, nothing after a Reset answered Bad, and the body
 abbrev pub keeps_course : SoFar → List Entry → Entry → Bool
 keeps_course s before e = (is_reset e.call || is_valid e.call ⇒ e.tx == 0) && not s.fell && (is_body e ⇒ keeps_body s e.owner before e)
+
+-- it is whole at its Valid, and the rest
+abbrev pub keeps_rest : SoFar → List Entry → Entry → Bool
+keeps_rest s before e = is_whole_at_valid before e && keeps_course s before e

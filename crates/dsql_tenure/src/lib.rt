@@ -9,6 +9,7 @@ mod past;
 mod rules;
 mod so_far;
 mod tables;
+mod tenure;
 
 pub use fault::{JudgeFault, Phase};
 pub use dsql_journal::{Entry, Owner, Permit};

@@ -54,7 +54,7 @@ impl Tables {
         n != self.tenure || self.unended.as_slice().is_empty()
     }
 
-    fn has_closed_cursors(&self, n: u32) -> bool
+    pub fn has_closed_cursors(&self, n: u32) -> bool
         requires { Stands self.now }
         ensures { result ≡ tenure.has_closed_cursors n (past self.now) }
     {
