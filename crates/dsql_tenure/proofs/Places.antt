@@ -116,7 +116,7 @@ later_or_last P last n above same ge = go (nat_lt last n) refl
     go true is = above is
     go false is = same (grind (arith, nat_tests, is, ge))
 
-whole_ended : (n : ℕ) (journal : List Entry) → is_whole_tenure n journal ≡ true → has_ended_transactions n journal ≡ true
+pub whole_ended : (n : ℕ) (journal : List Entry) → is_whole_tenure n journal ≡ true → has_ended_transactions n journal ≡ true
 whole_ended n journal h = (parts2 (has_ended_transactions n journal) (went_bad journal || has_closed_cursors n journal && has_closed_handles n journal) h).0
 
 empty_is : (ns : List ℕ) → is_empty ns ≡ true → ns ≡ []

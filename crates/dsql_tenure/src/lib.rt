@@ -10,6 +10,7 @@ mod rules;
 mod so_far;
 mod tables;
 mod tenure;
+mod transaction;
 
 pub use fault::{JudgeFault, Phase};
 pub use dsql_journal::{Entry, Owner, Permit};
