@@ -2,6 +2,7 @@
 //! that keep the journal a beginning of a whole one.
 #![tactic(auto)]
 
+mod accepts;
 mod asked;
 mod fault;
 mod kinds;
