@@ -6,3 +6,4 @@ pub mod Tables
 pub mod Parts
 pub mod TenureParts
 pub mod MayBeAsked
+pub mod Heard

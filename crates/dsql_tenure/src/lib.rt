@@ -5,6 +5,7 @@
 mod accepts;
 mod asked;
 mod fault;
+mod heard;
 mod kinds;
 mod past;
 mod rules;
