@@ -90,7 +90,7 @@ begins_if_first before e m some first =
     if_so (is_empty (of_transaction e.tx before)) (is_begin e.call && is_done e.answer && (e.call_no == e.tx)) (m.transaction some).begin_first first in
     (parts2 (is_begin e.call && is_done e.answer) (e.call_no == e.tx) start).0
 
-first_if_begins : (before : List Entry) (e : Entry) → MayFollow before e → begins e ≡ true → is_empty (of_transaction e.tx before) ≡ true
+pub first_if_begins : (before : List Entry) (e : Entry) → MayFollow before e → begins e ≡ true → is_empty (of_transaction e.tx before) ≡ true
 first_if_begins before e m is =
     if_so (is_begin e.call) (is_empty (of_transaction e.tx before)) (m.transaction (begins-number before e m is)).begin_once (parts2 (is_begin e.call) (is_done e.answer) is).0
 

@@ -7,3 +7,6 @@ pub mod Parts
 pub mod TenureParts
 pub mod MayBeAsked
 pub mod Heard
+pub mod Flags
+pub mod Sent
+pub mod Judged

@@ -1,19 +1,24 @@
 //! What may come next, by the tables.
-ghost use Rattle.std.specs.Prelude.{◌≡◌, ◌&&◌, ◌||◌, ◌==◌, not, length};
+ghost use Rattle.std.specs.Prelude.{◌≡◌, ◌&&◌, ◌||◌, ◌==◌, not, length, Some};
 ghost use Rattle.std.specs.List.{list_all};
 ghost use Rattle.dsql_driver.specs.Fits.{is_memory};
 ghost use Rattle.dsql_journal.specs.HandlesAndCursors as handles;
 ghost use Rattle.dsql_journal.specs.Journal.{may_follow};
 ghost use Rattle.dsql_journal.specs.Kinds.{is_ending, is_connect, is_shut};
-ghost use Rattle.dsql_tenure.specs.Asked.{entry_like};
+ghost use Rattle.dsql_journal.specs.Permits.{entry_of};
+ghost use Rattle.dsql_journal.specs.Readers.{last_owner};
+ghost use Rattle.dsql_tenure.specs.Asked.{answer_like, entry_like};
+ghost use Rattle.dsql_tenure.specs.Beginnings.{phase, can_grow};
 ghost use Rattle.dsql_tenure.specs.MayBeAsked as may;
+ghost use Rattle.dsql_tenure.specs.Sent.{may_send};
 
-use crate::asked::Asked;
-use crate::kinds::{cursor_of, given_cursor, given_handle};
+use crate::asked::{Asked, Outcome};
+use crate::fault::Phase;
+use crate::kinds::{cursor_of, given_cursor, given_handle, is_begin, is_house, is_valid};
 use crate::rules::{has_cursor, has_handle};
 use crate::tables::{Cursor, Tables};
 use dsql_driver::{DriverAnswer, fits};
-use dsql_journal::Entry;
+use dsql_journal::{Entry, Owner, Permit};
 
 #[tactic(auto, unfolding(crate::specs::Tables::Stands))]
 impl Tables {
@@ -41,6 +46,78 @@ impl Tables {
             return false;
         }
         self.keeps_tenure(asked) && self.keeps_transaction(asked)
+    }
+
+    /// Each fitting answer to the permit's call may come next. A failure stands for all answers that give
+    /// nothing, and a Valid has no failure. A Begin makes its transaction only where it is answered Done.
+    pub fn may_send(&self, permit: &Permit) -> bool
+        requires { Stands self.now }
+        ensures { result ≡ may_send self.now.conn (past self.now) permit.now }
+    {
+        if permit.conn != self.conn {
+            return false;
+        }
+        if is_valid(&permit.call) {
+            return self.may_be_answered(permit, permit.tx, Outcome::Done);
+        }
+        if is_begin(&permit.call) {
+            return self.may_be_answered(permit, permit.tx, Outcome::Done)
+                && self.may_be_answered(permit, 0, Outcome::Failed);
+        }
+        self.may_be_answered(permit, permit.tx, Outcome::Failed)
+    }
+
+    /// It may come next with this transaction and outcome, if the answer fits at its place.
+    fn may_be_answered(&self, permit: &Permit, tx: u32, outcome: Outcome) -> bool
+        requires stands { Stands self.now }
+        requires conn { permit.now.conn ≡ self.now.conn }
+        ensures { result ≡ may.may_be_asked (past self.now) (record (entry_of permit.now (answer_like outcome)) { tx = tx }) }
+    {
+        self.may_be_asked(&Asked {
+            conn: permit.conn,
+            tenure: permit.tenure,
+            owner: permit.owner,
+            call_no: permit.call_no,
+            tx,
+            call: &permit.call,
+            outcome,
+        })
+    }
+
+    /// Where the journal stands.
+    pub fn phase(&self) -> Phase
+        requires { Stands self.now }
+        ensures { result ≡ phase (past self.now) }
+    {
+        let Some(owner) = self.so_far.owner else {
+            return Phase::Before;
+        };
+        if self.shut {
+            Phase::After
+        } else if self.can_grow(owner) {
+            Phase::Inside
+        } else {
+            Phase::Between
+        }
+    }
+
+    /// The last tenure can have a further entry.
+    fn can_grow(&self, owner: Owner) -> bool
+        requires stands { Stands self.now }
+        requires owner { last_owner (past self.now) ≡ Some owner }
+        ensures { result ≡ can_grow (past self.now) }
+    {
+        if self.so_far.tested || self.so_far.fell {
+            return false;
+        }
+        if !self.went_bad() {
+            return !is_house(owner);
+        }
+        match owner {
+            Owner::Tx(n) => self.is_open(n),
+            Owner::Pin(_) => true,
+            Owner::Call(_) | Owner::House => false,
+        }
     }
 
     /// The answer fits at its place.

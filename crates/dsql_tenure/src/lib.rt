@@ -5,7 +5,9 @@
 mod accepts;
 mod asked;
 mod fault;
+mod hear;
 mod heard;
+mod judge;
 mod kinds;
 mod past;
 mod rules;
@@ -14,5 +16,6 @@ mod tables;
 mod tenure;
 mod transaction;
 
+pub use judge::Judge;
 pub use fault::{JudgeFault, Phase};
 pub use dsql_journal::{Entry, Owner, Permit};

@@ -23,7 +23,7 @@ impl Tables {
     ghost use Rattle.dsql_tenure.specs.SoFar.{so_far};
 
     /// What is kept of the last tenure, or of one that is to come.
-    fn so_far_of(&self, n: u32) -> SoFar
+    pub fn so_far_of(&self, n: u32) -> SoFar
         requires stands { Stands self.now }
         requires last { last_tenure (past self.now) ≤ n }
         ensures { result ≡ so_far (of_tenure n (past self.now)) }
