@@ -1,5 +1,5 @@
 //! What may come next, by the tables.
-ghost use Rattle.std.specs.Prelude.{◌≡◌, ◌&&◌, ◌||◌, ◌==◌, not, length, Some};
+ghost use Rattle.std.specs.Prelude.{◌≡◌, ◌&&◌, ◌||◌, ◌==◌, not, length, Some, ◌∷◌};
 ghost use Rattle.std.specs.List.{list_all};
 ghost use Rattle.dsql_driver.specs.Fits.{is_memory};
 ghost use Rattle.dsql_journal.specs.HandlesAndCursors as handles;
@@ -8,7 +8,7 @@ ghost use Rattle.dsql_journal.specs.Kinds.{is_ending, is_connect, is_shut};
 ghost use Rattle.dsql_journal.specs.Permits.{entry_of};
 ghost use Rattle.dsql_journal.specs.Readers.{last_owner};
 ghost use Rattle.dsql_tenure.specs.Asked.{answer_like, entry_like};
-ghost use Rattle.dsql_tenure.specs.Beginnings.{phase, can_grow};
+ghost use Rattle.dsql_tenure.specs.Beginnings.{phase, can_grow, is_beginning_of};
 ghost use Rattle.dsql_tenure.specs.MayBeAsked as may;
 ghost use Rattle.dsql_tenure.specs.Sent.{may_send};
 
@@ -24,8 +24,16 @@ use dsql_journal::{Entry, Owner, Permit};
 impl Tables {
     ghost use Rattle.dsql_tenure.specs.Tables.{past, Stands};
 
+    /// With this entry the journal is a beginning of a whole journal of the connection.
+    pub fn accepts(&self, entry: &Entry) -> bool
+        requires { Stands self.now }
+        ensures { result ≡ is_beginning_of self.now.conn (entry.now ∷ past self.now) }
+    {
+        entry.conn == self.conn && self.may_follow(entry)
+    }
+
     /// The entry may come next.
-    pub fn may_follow(&self, entry: &Entry) -> bool
+    fn may_follow(&self, entry: &Entry) -> bool
         requires stands { Stands self.now }
         requires conn { entry.now.conn ≡ self.now.conn }
         ensures { result ≡ may_follow (past self.now) entry.now }

@@ -1,9 +1,9 @@
 //! Hearing an entry, and room for it.
 ghost use Rattle.std.specs.Prelude.{◌≡◌, ℕ, ◌+◌, ◌^◌, ◌<◌, ◌≤◌, ◌∷◌, ◌&&◌, ◌||◌, ◌==◌, true, false, length, nat_eq, Option, OnOk, OnErr, if◌then◌else◌};
 ghost use Rattle.dsql_driver.specs.Fits as fit;
-ghost use Rattle.dsql_journal.specs.Journal.{may_follow};
 ghost use Rattle.dsql_journal.specs.Kinds as kind;
 ghost use Rattle.dsql_journal.specs.Readers.{last_tenure, handles, cursors, begun, begins as begins_entry};
+ghost use Rattle.dsql_tenure.specs.Beginnings.{is_beginning_of};
 ghost use Rattle.dsql_tenure.specs.Flags.{bad_with};
 ghost use Rattle.indexmap.specs.IndexSet.{contains, spare, index_set_len};
 
@@ -21,8 +21,7 @@ impl Tables {
     /// One entry more, which may follow.
     pub fn hear(&mut self, entry: &Entry)
         requires stands { Stands self.old }
-        requires conn { entry.now.conn ≡ self.old.conn }
-        requires follows { may_follow (past self.old) entry.now ≡ true }
+        requires follows { is_beginning_of self.old.conn (entry.now ∷ past self.old) ≡ true }
         requires room { 0 < self.old.room }
         ensures stands { Stands self.new }
         ensures past { past self.new ≡ entry.now ∷ past self.old }

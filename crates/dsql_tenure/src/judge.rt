@@ -51,7 +51,7 @@ impl Judge {
         ensures spare { self.old.spare ≤ self.new.spare + 1 }
         ensures beginning { IsBeginningOf self.new.conn self.new.journal }
     {
-        if entry.conn != self.tables.conn || !self.tables.may_follow(entry) {
+        if !self.tables.accepts(entry) {
             return Err(JudgeFault::Stray {
                 phase: self.tables.phase(),
                 tenure: self.tables.tenure,

@@ -13,20 +13,20 @@ use Rattle.dsql_tenure.specs.Flags.{bad_with}
 use Rattle.dsql_tenure.specs.Heard as heard
 use Rattle.dsql_tenure.specs.Open.{open_in, open_after}
 use Rattle.dsql_tenure.specs.Tables.{past, Stands, keeps_of}
-use Rattle.dsql_tenure.proofs.Given.{eqb-refl}
+use Rattle.dsql_tenure.proofs.Standing.{stands-follows}
 use Rattle.dsql_tenure.proofs.Hearing.{kept_handles, kept_cursors, first_bad, so_far_with, has_begun, count_begun, begins_new}
 use Rattle.dsql_tenure.proofs.tables.Tables.hear.Goals as goal
 
 pub so_far_of-requires-clause-last : goal.so_far_of-requires-clause-last
 so_far_of-requires-clause-last c =
-    let m : MayFollow (past c.args.self.now) c.args.entry.now = MayFollow-of (past c.args.self.now) c.args.entry.now c.requires.follows in
+    let m : MayFollow (past c.args.self.now) c.args.entry.now = MayFollow-of (past c.args.self.now) c.args.entry.now (stands-follows c.args.self.now c.requires.stands c.args.entry.now c.requires.follows).1 in
     grind (arith, nat_tests, m.whole_journal.rising)
 
 pub hear_begun-requires-clause-new : goal.hear_begun-requires-clause-new
 hear_begun-requires-clause-new c =
     λ is.
     (keeps_of c.args.self.now c.requires.stands).begun c.args.entry.now.tx
-    ∙ begins_new c.args.entry.now (past c.args.self.now) (keeps_of c.args.self.now c.requires.stands).prefix c.requires.follows is
+    ∙ begins_new c.args.entry.now (past c.args.self.now) (keeps_of c.args.self.now c.requires.stands).prefix (stands-follows c.args.self.now c.requires.stands c.args.entry.now c.requires.follows).1 is
 
 pub returns-clause-stands : goal.returns-clause-stands
 unfolding Stands
@@ -36,9 +36,10 @@ returns-clause-stands c =
     let k = keeps_of t c.requires.stands in
     let j = past t in
     let longer = c.then-past.ensures in
+    let follows = stands-follows t c.requires.stands e c.requires.follows in
     rw longer (record {
-      prefix = join2 (may_follow j e) (is_journal_prefix j) c.requires.follows k.prefix;
-      one = join2 (e.conn == t.conn) (list_all (λ x. x.conn == t.conn) j) (rw c.requires.conn (eqb-refl t.conn)) k.one;
+      prefix = join2 (may_follow j e) (is_journal_prefix j) follows.1 k.prefix;
+      one = join2 (e.conn == t.conn) (list_all (λ x. x.conn == t.conn) j) follows.0 k.one;
       tenure = refl;
       so_far = c.then-so_far.ensures (told.of_tenure e.tenure j) c.so_far_of.ensures ∙ so_far_with e j;
       refused = rw (c.was_refused.ensures, k.refused) refl;
