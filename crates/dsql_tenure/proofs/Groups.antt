@@ -28,6 +28,7 @@ ordered true b c d e f g h i j one = go b c d e f g (h && i && j) (last b c d e 
         end : (p : Bool) → (p && h && i && j) ≡ (p && (h && i && j))
         end true = refl
         end false = refl
+
     go : (b c d e f g r : Bool) → (b && c && d && e && f && g && h && i && j) ≡ ((b && c && d && e && f && g) && r)
         → (b && c && d && e && f && g && h && i && j) ≡ (((b && e) && (d && g) && (f && c)) && r)
     go false c d e f g r k = refl

@@ -39,6 +39,7 @@ over_is rows a (c ∷ cs) over = rw (over_is rows a cs over) (ap (λ x. x ∷ ma
     last : (b : Bool) → (b || true) ≡ true
     last true = refl
     last false = refl
+
     go : (b : Bool) → (c.number == rows) ≡ b → cond b (record (kept_cursor c) { over = true }) (kept_cursor c) ≡ kept_cursor (cond b (after_next a c) c)
     go true is = rw (over, last c.over) refl
     go false is = refl
@@ -50,6 +51,7 @@ same_is rows a (c ∷ cs) over = rw (← same_is rows a cs over) (ap (λ x. x �
     last : (b : Bool) → (b || false) ≡ b
     last true = refl
     last false = refl
+
     go : (b : Bool) → kept_cursor c ≡ kept_cursor (cond b (after_next a c) c)
     go true = rw (over, last c.over) refl
     go false = refl

@@ -55,6 +55,7 @@ list_all-so p q so (x ∷ xs) h = go (p x) refl h (list_all-so p q so xs)
     both : (a b : Bool) → a ≡ true → b ≡ true → (a && b) ≡ true
     both true b h k = k
     both false b h k = h
+
     go : (b : Bool) → p x ≡ b → (b && list_all p xs) ≡ true → (list_all p xs ≡ true → list_all q xs ≡ true) → (q x && list_all q xs) ≡ true
     go true is h more = both (q x) (list_all q xs) (so x is) (more h)
     go false is h more = grind (arith, h)
@@ -95,9 +96,11 @@ list_any-so p q so (x ∷ xs) h = go (p x) refl h (list_any-so p q so xs)
     either : (a b : Bool) → b ≡ true → (a || b) ≡ true
     either true b h = refl
     either false b h = h
+
     first : (a b : Bool) → a ≡ true → (a || b) ≡ true
     first true b h = refl
     first false b h = grind (arith, h)
+
     go : (b : Bool) → p x ≡ b → (b || list_any p xs) ≡ true → (list_any p xs ≡ true → list_any q xs ≡ true) → (q x || list_any q xs) ≡ true
     go true is h more = first (q x) (list_any q xs) (so x is)
     go false is h more = either (q x) (list_any q xs) (more h)

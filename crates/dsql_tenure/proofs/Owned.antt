@@ -38,6 +38,7 @@ of_one_owner n (e ∷ before) h last =
         let same : e.owner ≡ w = cc in
         ap (λ (o : Owner). list_all (λ x. same_owner x.owner o) (e ∷ of_tenure e.tenure before)) (sym same)
         ∙ join2 (same_owner e.owner e.owner) (list_all (λ x. same_owner x.owner e.owner) (of_tenure e.tenure before)) (same_owner-refl e.owner) h
+
     go : (b : Bool) → nat_lt e.tenure n ≡ b → MayFollow before e → OneOwner (of_tenure n (e ∷ before))
     go true above m =
         let later : e.tenure < n = grind (arith, nat_tests, above) in
@@ -62,12 +63,15 @@ found p gave q journal so (x ∷ xs) given is =
         either : (a b : Bool) → b ≡ true → (a || b) ≡ true
         either true b h = refl
         either false b h = h
+
         first : (a b : Bool) → a ≡ true → (a || b) ≡ true
         first true b h = refl
         first false b h = grind (arith, h)
+
         pick : (b : Bool) → gave x e ≡ b → (b || list_any (gave x) es) ≡ true → (list_any (gave x) es ≡ true → list_any q es ≡ true) → (q e || list_any q es) ≡ true
         pick true is h more = first (q e) (list_any q es) (so x e here is)
         pick false is h more = either (q e) (list_any q es) (more h)
+
     go : (b : Bool) → p x ≡ b → (b || list_any p xs) ≡ true → list_any (gave x) journal ≡ true → (list_any p xs ≡ true → list_any q journal ≡ true) → list_any q journal ≡ true
     go true here h gives more = one journal here gives
     go false here h gives more = more h
@@ -94,6 +98,7 @@ new_number n t a live gave new = go (given_handle a) gave new
     either : (a b : Bool) → a ≡ true → (a || b) ≡ true
     either true b h = refl
     either false b h = grind (arith, h)
+
     go : (o : Option ℕ) → is_number o n ≡ true → if_any o (λ h. is_empty (filter (λ x. x.number == h) live)) ≡ true → list_all (of_here n t) live ≡ true
     go None gave new = grind (arith, gave)
     go (Some m) gave new =
@@ -121,6 +126,7 @@ given-here n (e ∷ before) h gave =
   where
     never : false ≡ true → list_all (of_here n e.tenure) (handles before) ≡ true
     never h = grind (arith, h)
+
     by_entry : (b : Bool) → is_number (given_handle e.answer) n ≡ b → (b || list_any (λ x. is_number (given_handle x.answer) n) (of_tenure e.tenure before)) ≡ true → MayFollow before e
         → (list_any (λ x. is_number (given_handle x.answer) n) (of_tenure e.tenure before) ≡ true → list_all (of_here n e.tenure) (handles before) ≡ true)
         → list_all (of_here n e.tenure) (handles before) ≡ true
@@ -203,6 +209,7 @@ own_cursor before e s = go (cursor_of e.call) s.cursor s.cursor_tenure
         pick true true x y k = (eqb→eq c.number n (grind (arith, nat_tests, x)), eqb→eq c.tenure e.tenure (grind (arith, nat_tests, y)))
         pick true false x y k = grind (arith, k)
         pick false b x y k = grind (arith, k)
+
     go : (o : Option ℕ) → if_any o (λ n. list_any (λ c. c.number == n) (cursors before)) ≡ true → if_any o (λ n. list_all (λ c. not (c.number == n) || (c.tenure == e.tenure)) (cursors before)) ≡ true
         → if_any o (λ r. list_any (λ x. is_number (given_cursor x.answer) r) (of_tenure e.tenure before)) ≡ true
     go None live here = refl

@@ -41,11 +41,13 @@ begun-of_tenure t (e ∷ before) = go (e.tenure == t) (begins e) refl (list_all-
   where
     head : (b : Bool) → (b || has e.tx (begun before)) ≡ true → has e.tx (e.tx ∷ begun before) ≡ true
     head b h = rw (eqb-refl e.tx) refl
+
     here : list_all (λ m. has m (begun (e ∷ before))) (begun (of_tenure t before)) ≡ true → (c : Bool) → begins e ≡ c
         → list_all (λ m. has m (cond c (e.tx ∷ begun before) (begun before))) (begun (of_tenure t before)) ≡ true
         → list_all (λ m. has m (cond c (e.tx ∷ begun before) (begun before))) (cond c (e.tx ∷ begun (of_tenure t before)) (begun (of_tenure t before))) ≡ true
     here k true is h = join2 (has e.tx (e.tx ∷ begun before)) _ (head true refl) h
     here k false is h = h
+
     go : (b c : Bool) → begins e ≡ c → list_all (λ m. has m (begun (e ∷ before))) (begun (of_tenure t before)) ≡ true
         → list_all (λ m. has m (begun (e ∷ before))) (begun (cond b (e ∷ of_tenure t before) (of_tenure t before))) ≡ true
     go true c is h = here h (begins e) refl h
@@ -63,6 +65,7 @@ begun-in n t (e ∷ before) h = go (e.tenure == t) (begins e) (e.tx == n) refl r
         or_then true h = refl
         or_then false h = h
     later false h = h
+
     go : (a b c : Bool) → (e.tenure == t) ≡ a → begins e ≡ b → (e.tx == n) ≡ c → has n (begun (cond a (e ∷ of_tenure t before) (of_tenure t before))) ≡ true
         → (has n (begun (of_tenure t before)) ≡ true → list_any (λ x. x.tenure == t) (of_transaction n before) ≡ true)
         → list_any (λ x. x.tenure == t) (cond c (e ∷ of_transaction n before) (of_transaction n before)) ≡ true
@@ -95,6 +98,7 @@ module _ (journal : List Entry) (h : IsJournalPrefix journal) where
           either true k = refl
           either false k = k
       ends (n ∷ ns) is none m so = grind (arith, none)
+
       go : (ns : List ℕ) → open_in journal ≡ ns → list_all (λ m. has m (begun (of_tenure (last_tenure journal) journal))) ns ≡ true
           → has_ended_transactions (last_tenure journal) journal ≡ is_empty ns
       go [] is all = list_all-so (λ m. has m (begun journal)) (λ m. has m (ended journal)) (ends [] is refl) (begun (of_tenure (last_tenure journal) journal)) (begun-of_tenure (last_tenure journal) journal)
@@ -142,6 +146,7 @@ open-in_last (e ∷ before) h =
     first true c = rw (eqb-refl e.tx) refl
     first false true = refl
     first false false = refl
+
     more : (b c : Bool) → list_all (λ n. has n (begun (of_tenure e.tenure before))) (open_in before) ≡ true
         → list_all (λ n. has n (cond b (e.tx ∷ begun (of_tenure e.tenure before)) (begun (of_tenure e.tenure before)))) (cond b (e.tx ∷ open_in before) (cond c (filter (λ k. not (k == e.tx)) (open_in before)) (open_in before))) ≡ true
     more true c h =
@@ -173,6 +178,7 @@ one_tenure n t (e ∷ before) h some k =
             → (list_any (λ y. y.tenure == b) xs ≡ true → a ≡ b) → a ≡ b
         pick true is same k more = grind (arith, nat_tests, is, same)
         pick false is same k more = more k
+
     go : (b : Bool) → (e.tx == n) ≡ b → MayFollow before e → list_any (λ x. x.tenure == t) (cond b (e ∷ of_transaction n before) (of_transaction n before)) ≡ true
         → (list_any (λ x. x.tenure == t) (of_transaction n before) ≡ true → list_all (λ x. x.tenure == t) (of_transaction n before) ≡ true)
         → list_all (λ x. x.tenure == t) (cond b (e ∷ of_transaction n before) (of_transaction n before)) ≡ true

@@ -41,6 +41,7 @@ rows_first true a b x none h = last b x (drop_first a x (none refl) h)
     drop_first : (a x : Bool) → a ≡ false → (a || x) ≡ true → x ≡ true
     drop_first true x none h = grind (arith, none)
     drop_first false x none h = h
+
     last : (b x : Bool) → x ≡ true → (b || x) ≡ true
     last true x h = refl
     last false x h = h
@@ -92,18 +93,18 @@ follows_alike before e a b s m fits =
         in_body = λ is. body_alike e.owner before e a b s (m.tenure.in_body is);
       };
       transaction = λ some.
-      let t = m.transaction some in
-      record {
-        one_tenure = t.one_tenure;
-        owner = t.owner;
-        begin_first = rw (sym (s.begins some)) t.begin_first;
-        begin_once = t.begin_once;
-        kind = t.kind;
-        end_once = t.end_once;
-        close_after_end = t.close_after_end;
-        own_close = t.own_close;
-        no_cursors = t.no_cursors;
-      };
+          let t = m.transaction some in
+          record {
+            one_tenure = t.one_tenure;
+            owner = t.owner;
+            begin_first = rw (sym (s.begins some)) t.begin_first;
+            begin_once = t.begin_once;
+            kind = t.kind;
+            end_once = t.end_once;
+            close_after_end = t.close_after_end;
+            own_close = t.own_close;
+            no_cursors = t.no_cursors;
+          };
       handles = record {
         live_handle = m.handles.live_handle;
         live_cursor = m.handles.live_cursor;
@@ -218,7 +219,7 @@ module _ (c : ℕ) (before : List Entry) (h : IsJournalPrefix before) (one : lis
       where
         go : (v b : Bool) → is_valid p.call ≡ v → is_begin p.call ≡ b
             → ((a : DriverAnswer) → fits_at_its_place before (cond b (cond (is_done a) (entry_of p a) (record (entry_of p a) { tx = 0 })) (entry_of p a)) ≡ true
-                → is_beginning_of c (cond b (cond (is_done a) (entry_of p a) (record (entry_of p a) { tx = 0 })) (entry_of p a) ∷ before) ≡ true)
+            → is_beginning_of c (cond b (cond (is_done a) (entry_of p a) (record (entry_of p a) { tx = 0 })) (entry_of p a) ∷ before) ≡ true)
             → ((p.conn == c) && cond v (may_be_asked before (entry_of p Done)) (cond b (may_be_asked before (entry_of p Done) && may_be_asked before (record (entry_of p (Fail [])) { tx = 0 })) (may_be_asked before (entry_of p (Fail []))))) ≡ true
         go true true valid begins every = let v = valid-fits p.call valid in grind (arith, v.2, begins)
         go true false valid begins every =

@@ -63,9 +63,11 @@ module _ {X : Type 0} (named a b c : X → Bool) (xs : List X) where
       ≡ (not (is_empty (filter named xs)) && list_all a (filter named xs) && list_all b (filter named xs) && list_all c (filter named xs))
   named-three =
       rw (is_empty-filter named xs, all_named a, all_named b, all_named c)
-      (rw (list_all-same (λ x. not (named x) || (a x && b x && c x)) (λ x. ((not (named x) || a x) && (not (named x) || b x)) && (not (named x) || c x)) three xs,
-      list_all-and (λ x. (not (named x) || a x) && (not (named x) || b x)) (λ x. not (named x) || c x) xs,
-      list_all-and (λ x. not (named x) || a x) (λ x. not (named x) || b x) xs)
+      (rw (
+        list_all-same (λ x. not (named x) || (a x && b x && c x)) (λ x. ((not (named x) || a x) && (not (named x) || b x)) && (not (named x) || c x)) three xs,
+        list_all-and (λ x. (not (named x) || a x) && (not (named x) || b x)) (λ x. not (named x) || c x) xs,
+        list_all-and (λ x. not (named x) || a x) (λ x. not (named x) || b x) xs,
+      )
       (go (list_any named xs) (list_all (λ x. not (named x) || a x) xs) (list_all (λ x. not (named x) || b x) xs) (list_all (λ x. not (named x) || c x) xs)))
     where
       go : (p q r s : Bool) → (p && ((q && r) && s)) ≡ (not (not p) && q && r && s)
@@ -82,9 +84,9 @@ module _ (t : Tables) (s : Stands t) (e : Entry) where
   pub handle_served : (n : ℕ)
       → (list_any (λ h. h.number == n) t.handles.items && list_all (λ h. not (h.number == n) || serves_handle h e) t.handles.items)
       ≡ (not (is_empty (filter (λ h. h.number == n) (handles (past t))))
-          && list_all (λ h. h.tx == e.tx) (filter (λ h. h.number == n) (handles (past t)))
-          && list_all (λ h. not (is_call h.owner) ⇒ h.tenure == e.tenure) (filter (λ h. h.number == n) (handles (past t)))
-          && list_all (λ h. is_call h.owner ⇒ is_call e.owner || is_house e.owner && is_close_stmt e.call) (filter (λ h. h.number == n) (handles (past t))))
+      && list_all (λ h. h.tx == e.tx) (filter (λ h. h.number == n) (handles (past t)))
+      && list_all (λ h. not (is_call h.owner) ⇒ h.tenure == e.tenure) (filter (λ h. h.number == n) (handles (past t)))
+      && list_all (λ h. is_call h.owner ⇒ is_call e.owner || is_house e.owner && is_close_stmt e.call) (filter (λ h. h.number == n) (handles (past t))))
   handle_served n =
       ap (λ (hs : List Handle). list_any (λ h. h.number == n) hs && list_all (λ h. not (h.number == n) || serves_handle h e) hs) (keeps_of t s).handles
       ∙ rw (list_any-map (λ (h : Handle). h.number == n) kept_handle (handles (past t)), list_all-map (λ (h : Handle). not (h.number == n) || serves_handle h e) kept_handle (handles (past t))) refl
@@ -104,9 +106,9 @@ module _ (t : Tables) (s : Stands t) (e : Entry) where
   pub cursor_served : (n : ℕ)
       → (list_any (λ c. c.number == n) t.cursors.items && list_all (λ c. not (c.number == n) || serves_cursor c e) t.cursors.items)
       ≡ (not (is_empty (filter (λ c. c.number == n) (cursors (past t))))
-          && (is_next e.call ⇒ list_all (λ c. not c.over) (filter (λ c. c.number == n) (cursors (past t))))
-          && list_all (λ c. c.tx == e.tx) (filter (λ c. c.number == n) (cursors (past t)))
-          && list_all (λ c. c.tenure == e.tenure) (filter (λ c. c.number == n) (cursors (past t))))
+      && (is_next e.call ⇒ list_all (λ c. not c.over) (filter (λ c. c.number == n) (cursors (past t))))
+      && list_all (λ c. c.tx == e.tx) (filter (λ c. c.number == n) (cursors (past t)))
+      && list_all (λ c. c.tenure == e.tenure) (filter (λ c. c.number == n) (cursors (past t))))
   cursor_served n =
       ap (λ (cs : List Cursor). list_any (λ c. c.number == n) cs && list_all (λ c. not (c.number == n) || serves_cursor c e) cs) (keeps_of t s).cursors
       ∙ rw (list_any-map (λ (c : Cursor). c.number == n) kept_cursor (cursors (past t)), list_all-map (λ (c : Cursor). not (c.number == n) || serves_cursor c e) kept_cursor (cursors (past t))) refl

@@ -56,6 +56,7 @@ one_owner (e ∷ earlier) o one =
     pick : (a b : Bool) → (a && b) ≡ true → b ≡ true
     pick true b h = h
     pick false b h = grind (arith, h)
+
     go : (b : Bool) → same_owner e.owner o ≡ b → (same_owner e.owner e.owner && list_all (λ x. same_owner x.owner e.owner) earlier) ≡ true
         → b ≡ (b && list_all (λ x. same_owner x.owner o) earlier)
     go true is h =
@@ -137,10 +138,13 @@ in_order q (e ∷ earlier) some =
     swap false true false = refl
     swap false false true = refl
     swap false false false = refl
+
     as_places : (x : DriverCall) → (nat_lt (place x) (place q) || is_next x && is_next q) ≡ after_place (place x) (place q)
     as_places x = rw (next-place x, next-place q) refl
+
     as_place : (n : ℕ) → (nat_lt n (place q) || is_next q && (n == 4)) ≡ after_place n (place q)
     as_place n = rw (next-place q) (swap (nat_lt n (place q)) (place q == 4) (n == 4))
+
     step : (b : Bool) → is_body e ≡ b
         → list_all (λ x. nat_lt (place x.call) (place q) || is_next x.call && is_next q) (filter is_body earlier) ≡ (nat_lt (last_place earlier) (place q) || is_next q && (last_place earlier == 4))
         → list_all (λ x. nat_lt (place x.call) (place q) || is_next x.call && is_next q) (cond b (e ∷ filter is_body earlier) (filter is_body earlier))
@@ -209,9 +213,11 @@ pinged-worked (e ∷ earlier) h = go (is_ping e.call) refl h (pinged-worked earl
     either : (a b : Bool) → b ≡ true → (a || b) ≡ true
     either true b h = refl
     either false b h = h
+
     first : (a b : Bool) → a ≡ true → (a || b) ≡ true
     first true b h = refl
     first false b h = grind (arith, h)
+
     go : (a : Bool) → is_ping e.call ≡ a → (a || list_any (λ x. is_ping x.call) earlier) ≡ true → (list_any (λ x. is_ping x.call) earlier ≡ true → list_any is_body earlier ≡ true)
         → (is_body e || list_any is_body earlier) ≡ true
     go true is h more = first (is_body e) (list_any is_body earlier) (ping-place e.call is).1

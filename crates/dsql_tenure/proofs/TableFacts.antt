@@ -57,7 +57,7 @@ module _ (t : Tables) (s : Stands t) where
       ap (λ (hs : List Handle). list_all (λ h. not (h.number == n) || (h.tenure == e.tenure)) hs) (keeps_of t s).handles
       ∙ list_all-map (λ (h : Handle). not (h.number == n) || (h.tenure == e.tenure)) kept_handle (handles (past t))
       ∙ sym (ap (λ b. b ⇒ if_any (handle_of e.call) (λ m. list_all (λ h. not (h.number == m) || (h.tenure == e.tenure)) (handles (past t)))) closes
-          ∙ ap (λ o. if_any o (λ m. list_all (λ h. not (h.number == m) || (h.tenure == e.tenure)) (handles (past t)))) names)
+      ∙ ap (λ o. if_any o (λ m. list_all (λ h. not (h.number == m) || (h.tenure == e.tenure)) (handles (past t)))) names)
 
   pub no_cursor_of : (n : ℕ) → list_all (λ c. not (c.tx == n)) t.cursors.items ≡ list_all (λ c. not (c.tx == n)) (cursors (past t))
   no_cursor_of n =

@@ -41,6 +41,7 @@ module _ (before : List Entry) (e : Entry) where
     where
       order : Bool
       order = list_all (λ x. nat_lt (place x.call) (place e.call) || is_next x.call && is_next e.call) (filter is_body earlier)
+
       go : (p q r w : Bool) → q ≡ nat_lt 0 (place e.call) → is_empty (filter is_body earlier) ≡ not w → (r ≡ true → w ≡ true)
           → (nat_lt 0 (place e.call) ≡ true → list_all (λ x. nat_lt (place x.call) (place e.call) || is_next x.call && is_next e.call) (filter is_body earlier) ≡ (nat_lt (last_place earlier) (place e.call) || is_next e.call && (last_place earlier == 4)))
           → ((p || q) && (p || r ⇒ is_empty (filter is_body earlier)) && list_all (λ x. nat_lt (place x.call) (place e.call) || is_next x.call && is_next e.call) (filter is_body earlier))
@@ -113,6 +114,7 @@ module _ (before : List Entry) (e : Entry) where
         five true true false n1 n2 r v = refl
         five true false c1 n1 n2 r v = refl
         five false w c1 n1 n2 r v = refl
+
         go : (hs x : Bool) → (x && (hs ⇒ w) && (hs ⇒ c1) && (hs ⇒ n1 && n2) && (reset ⇒ w) && v) ≡ (x && (hs ⇒ w && c1 && n1 && n2) && (reset ⇒ w) && v)
         go true x = five x w c1 n1 n2 (reset ⇒ w) v
         go false true = refl

@@ -108,7 +108,7 @@ module _ (before : List Entry) (e : Entry) (h : IsJournalPrefix before) (r : Ris
   -- it begins
   begin_case : is_begin e.call ≡ true
       → (rule.stands_in_one_tenure before e && rule.has_owner_of_transaction e && rule.starts_with_begin before e && rule.begins_once before e && rule.is_transaction_call before e
-          && rule.ends_once before e && rule.closes_after_end before e && rule.closes_what_it_prepared before e && rule.ends_without_cursors before e)
+      && rule.ends_once before e && rule.closes_after_end before e && rule.closes_what_it_prepared before e && rule.ends_without_cursors before e)
       ≡ (rule.has_owner_of_transaction e && begins_anew before e)
   begin_case is =
       let only : OnlyBegins e.call = begin-only e.call is in
@@ -116,10 +116,10 @@ module _ (before : List Entry) (e : Entry) (h : IsJournalPrefix before) (r : Ris
     where
       go : (xs : List Entry) (b : Bool) → is_empty xs ≡ not b → OnlyBegins e.call
           → (list_all (λ x. x.tenure == e.tenure) xs && rule.has_owner_of_transaction e && (is_empty xs ⇒ is_begin e.call && is_done e.answer && (e.call_no == e.tx)) && (is_begin e.call ⇒ is_empty xs)
-              && (is_empty xs || is_begin e.call || is_work e.call || is_ending e.call)
-              && (list_any (λ x. is_ending x.call) xs ⇒ not (is_ending e.call)) && (list_any (λ x. is_ending x.call) xs ⇒ is_close_stmt e.call)
-              && (list_any (λ x. is_ending x.call) xs ⇒ if_any (handle_of e.call) (λ n. list_any (λ x. is_number (given_handle x.answer) n) xs))
-              && rule.ends_without_cursors before e)
+          && (is_empty xs || is_begin e.call || is_work e.call || is_ending e.call)
+          && (list_any (λ x. is_ending x.call) xs ⇒ not (is_ending e.call)) && (list_any (λ x. is_ending x.call) xs ⇒ is_close_stmt e.call)
+          && (list_any (λ x. is_ending x.call) xs ⇒ if_any (handle_of e.call) (λ n. list_any (λ x. is_number (given_handle x.answer) n) xs))
+          && rule.ends_without_cursors before e)
           ≡ (rule.has_owner_of_transaction e && (is_done e.answer && (e.call_no == e.tx) && not b))
       go [] true none only = grind (arith, none)
       go [] false none only = rw (is, only.ending) (fresh (rule.has_owner_of_transaction e) (is_done e.answer) (e.call_no == e.tx))
@@ -168,12 +168,14 @@ module _ (before : List Entry) (e : Entry) (h : IsJournalPrefix before) (r : Ris
       where
         by_name : (f : ℕ → Bool) → if_any (handle_of e.call) f ≡ true → f n ≡ true
         by_name f k = rw names at k
+
         all_tested : list_all (tested n e) (handles before) ≡ true
         all_tested =
             list_all-and (λ x. not (x.number == n) || (x.tx == e.tx)) (λ x. (not (x.number == n) || (not (is_call x.owner) ⇒ x.tenure == e.tenure)) && of_no_call x) (handles before)
             ∙ join2 _ _ (by_name (λ m. list_all (λ x. not (x.number == m) || (x.tx == e.tx)) (handles before)) s.handle_tx)
             (list_all-and (λ x. not (x.number == n) || (not (is_call x.owner) ⇒ x.tenure == e.tenure)) of_no_call (handles before)
             ∙ join2 _ _ (by_name (λ m. list_all (λ x. not (x.number == m) || (not (is_call x.owner) ⇒ x.tenure == e.tenure)) (handles before)) s.handle_tenure) (handles-no_call before h))
+
         place : (x : LiveHandle) → (x.number == n) ≡ true → tested n e x ≡ true → (x.tx ≡ e.tx) × (x.tenure ≡ e.tenure)
         place x is k =
             let p = parts2 (not (x.number == n) || (x.tx == e.tx)) ((not (x.number == n) || (not (is_call x.owner) ⇒ x.tenure == e.tenure)) && of_no_call x) k in
@@ -185,7 +187,7 @@ module _ (before : List Entry) (e : Entry) (h : IsJournalPrefix before) (r : Ris
     -- it closes a handle
     close_case : is_close_stmt e.call ≡ true
         → (rule.stands_in_one_tenure before e && rule.has_owner_of_transaction e && rule.starts_with_begin before e && rule.begins_once before e && rule.is_transaction_call before e
-            && rule.ends_once before e && rule.closes_after_end before e && rule.closes_what_it_prepared before e && rule.ends_without_cursors before e)
+        && rule.ends_once before e && rule.closes_after_end before e && rule.closes_what_it_prepared before e && rule.ends_without_cursors before e)
         ≡ rule.has_owner_of_transaction e
     close_case is =
         let only : OnlyCloses e.call = close-only e.call is in
@@ -203,16 +205,18 @@ module _ (before : List Entry) (e : Entry) (h : IsJournalPrefix before) (r : Ris
         first_two true true c k = refl
         first_two true false c k = k
         first_two false b c k = k
+
         outer_two : (a b c : Bool) → (a && (b && c)) ≡ true → (a && c) ≡ true
         outer_two true true c k = k
         outer_two true false c k = grind (arith, k)
         outer_two false b c k = k
+
         go : (xs : List Entry) (n : ℕ) → handle_of e.call ≡ Some n → list_all (λ x. x.tenure == e.tenure) xs ≡ true → list_any (λ x. is_number (given_handle x.answer) n) xs ≡ true → OnlyCloses e.call
             → (list_all (λ x. x.tenure == e.tenure) xs && rule.has_owner_of_transaction e && (is_empty xs ⇒ is_begin e.call && is_done e.answer && (e.call_no == e.tx)) && (is_begin e.call ⇒ is_empty xs)
-                && (is_empty xs || is_begin e.call || is_work e.call || is_ending e.call)
-                && (list_any (λ x. is_ending x.call) xs ⇒ not (is_ending e.call)) && (list_any (λ x. is_ending x.call) xs ⇒ is_close_stmt e.call)
-                && (list_any (λ x. is_ending x.call) xs ⇒ if_any (handle_of e.call) (λ m. list_any (λ x. is_number (given_handle x.answer) m) xs))
-                && rule.ends_without_cursors before e)
+            && (is_empty xs || is_begin e.call || is_work e.call || is_ending e.call)
+            && (list_any (λ x. is_ending x.call) xs ⇒ not (is_ending e.call)) && (list_any (λ x. is_ending x.call) xs ⇒ is_close_stmt e.call)
+            && (list_any (λ x. is_ending x.call) xs ⇒ if_any (handle_of e.call) (λ m. list_any (λ x. is_number (given_handle x.answer) m) xs))
+            && rule.ends_without_cursors before e)
             ≡ rule.has_owner_of_transaction e
         go [] n names all gave only = grind (arith, gave)
         go (x ∷ xs) n names all gave only =
@@ -226,7 +230,7 @@ module _ (before : List Entry) (e : Entry) (h : IsJournalPrefix before) (r : Ris
   -- it works in it or ends it, or is of no kind that a transaction has
   other_case : is_begin e.call ≡ false → is_close_stmt e.call ≡ false
       → (rule.stands_in_one_tenure before e && rule.has_owner_of_transaction e && rule.starts_with_begin before e && rule.begins_once before e && rule.is_transaction_call before e
-          && rule.ends_once before e && rule.closes_after_end before e && rule.closes_what_it_prepared before e && rule.ends_without_cursors before e)
+      && rule.ends_once before e && rule.closes_after_end before e && rule.closes_what_it_prepared before e && rule.ends_without_cursors before e)
       ≡ (rule.has_owner_of_transaction e && goes_on_open before e)
   other_case no_begin no_close =
       let known : has e.tx (open_in before) ≡ (not (is_empty (of_transaction e.tx before)) && not (list_any (λ x. is_ending x.call) (of_transaction e.tx before))) =
@@ -239,12 +243,13 @@ module _ (before : List Entry) (e : Entry) (h : IsJournalPrefix before) (r : Ris
       both true false k d = ap not d
       both false true k d = refl
       both false false k d = grind (arith, k)
+
       go : (xs : List Entry) (b : Bool) → b ≡ (not (is_empty xs) && not (list_any (λ x. is_ending x.call) xs)) → (b ≡ true → list_all (λ x. x.tenure == e.tenure) xs ≡ true)
           → (list_all (λ x. x.tenure == e.tenure) xs && rule.has_owner_of_transaction e && (is_empty xs ⇒ is_begin e.call && is_done e.answer && (e.call_no == e.tx)) && (is_begin e.call ⇒ is_empty xs)
-              && (is_empty xs || is_begin e.call || is_work e.call || is_ending e.call)
-              && (list_any (λ x. is_ending x.call) xs ⇒ not (is_ending e.call)) && (list_any (λ x. is_ending x.call) xs ⇒ is_close_stmt e.call)
-              && (list_any (λ x. is_ending x.call) xs ⇒ if_any (handle_of e.call) (λ m. list_any (λ x. is_number (given_handle x.answer) m) xs))
-              && rule.ends_without_cursors before e)
+          && (is_empty xs || is_begin e.call || is_work e.call || is_ending e.call)
+          && (list_any (λ x. is_ending x.call) xs ⇒ not (is_ending e.call)) && (list_any (λ x. is_ending x.call) xs ⇒ is_close_stmt e.call)
+          && (list_any (λ x. is_ending x.call) xs ⇒ if_any (handle_of e.call) (λ m. list_any (λ x. is_number (given_handle x.answer) m) xs))
+          && rule.ends_without_cursors before e)
           ≡ (rule.has_owner_of_transaction e && ((is_work e.call || is_ending e.call) && b && rule.ends_without_cursors before e))
       go [] b is here = rw (no_begin, is) (nothing (rule.has_owner_of_transaction e) (is_work e.call || is_ending e.call) _ _)
         where
@@ -260,6 +265,7 @@ module _ (before : List Entry) (e : Entry) (h : IsJournalPrefix before) (r : Ris
           live true true false j is = refl
           live true false k j is = refl
           live false o k j is = grind (arith, is)
+
           over : (a o k m p j : Bool) → (a && o && true && true && k && m && false && p && j) ≡ (o && (k && false && j))
           over true true true true p j = refl
           over true true true false p j = refl
@@ -268,12 +274,13 @@ module _ (before : List Entry) (e : Entry) (h : IsJournalPrefix before) (r : Ris
           over false true true m p j = refl
           over false true false m p j = refl
           over false false k m p j = refl
+
           open_or_not : (d b : Bool) → b ≡ (true && not d) → (b ≡ true → list_all (λ y. y.tenure == e.tenure) (x ∷ xs) ≡ true)
               → (list_all (λ y. y.tenure == e.tenure) (x ∷ xs) && rule.has_owner_of_transaction e && true && true
-                  && (is_work e.call || is_ending e.call)
-                  && (d ⇒ not (is_ending e.call)) && (d ⇒ false)
-                  && (d ⇒ if_any (handle_of e.call) (λ m. list_any (λ y. is_number (given_handle y.answer) m) (x ∷ xs)))
-                  && rule.ends_without_cursors before e)
+              && (is_work e.call || is_ending e.call)
+              && (d ⇒ not (is_ending e.call)) && (d ⇒ false)
+              && (d ⇒ if_any (handle_of e.call) (λ m. list_any (λ y. is_number (given_handle y.answer) m) (x ∷ xs)))
+              && rule.ends_without_cursors before e)
               ≡ (rule.has_owner_of_transaction e && ((is_work e.call || is_ending e.call) && b && rule.ends_without_cursors before e))
           open_or_not true b is here = rw is (over (list_all (λ y. y.tenure == e.tenure) (x ∷ xs)) (rule.has_owner_of_transaction e) (is_work e.call || is_ending e.call) (not (is_ending e.call)) _ (rule.ends_without_cursors before e))
           open_or_not false b is here = rw is (live (list_all (λ y. y.tenure == e.tenure) (x ∷ xs)) (rule.has_owner_of_transaction e) (is_work e.call || is_ending e.call) (rule.ends_without_cursors before e) (here is))
@@ -286,9 +293,10 @@ module _ (before : List Entry) (e : Entry) (h : IsJournalPrefix before) (r : Ris
       last : (o : Bool) → o ≡ (o && true)
       last true = refl
       last false = refl
+
       go : (a b : Bool) → is_begin e.call ≡ a → is_close_stmt e.call ≡ b
           → (rule.stands_in_one_tenure before e && rule.has_owner_of_transaction e && rule.starts_with_begin before e && rule.begins_once before e && rule.is_transaction_call before e
-              && rule.ends_once before e && rule.closes_after_end before e && rule.closes_what_it_prepared before e && rule.ends_without_cursors before e)
+          && rule.ends_once before e && rule.closes_after_end before e && rule.closes_what_it_prepared before e && rule.ends_without_cursors before e)
           ≡ (rule.has_owner_of_transaction e && cond a (begins_anew before e) (b || goes_on_open before e))
       go true b is closes = begin_case is
       go false true is closes = close_case s closes ∙ last (rule.has_owner_of_transaction e)

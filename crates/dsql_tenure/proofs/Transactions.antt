@@ -104,6 +104,7 @@ of_transaction-begun n (e ∷ before) h some =
   where
     empty_list : Entry → List Entry → Bool
     empty_list x xs = is_empty (x ∷ xs)
+
     old : (a : Bool) → is_empty (of_transaction n before) ≡ not a → begins e ≡ false → (e.tx == n) ≡ true → MayFollow before e → a ≡ true
     old true h nay same m = refl
     old false h nay same m =
@@ -111,6 +112,7 @@ of_transaction-begun n (e ∷ before) h some =
         let first : is_empty (of_transaction e.tx before) ≡ true = rw is_n h in
         let yea : begins e ≡ true = begins_if_first before e m (λ z. some (sym is_n ∙ z)) first in
         absurd (never-both (begins e) yea nay)
+
     go : (b c : Bool) → (e.tx == n) ≡ b → begins e ≡ c → MayFollow before e → is_empty (of_transaction n before) ≡ not (has n (begun before))
         → is_empty (cond b (e ∷ of_transaction n before) (of_transaction n before)) ≡ not (has n (cond c (e.tx ∷ begun before) (begun before)))
     go true true same is m h = rw same refl
@@ -135,14 +137,17 @@ has-open n (e ∷ before) h =
         nothing_in : (xs : List Entry) → is_empty xs ≡ true → list_any (λ x. is_ending x.call) xs ≡ false
         nothing_in [] h = refl
         nothing_in (x ∷ xs) h = grind (arith, h)
+
     begun_here : (b x y z : Bool) → (b ≡ true → z ≡ false) → x ≡ (y && not z) → (b || x) ≡ ((b || y) && not z)
     begun_here true x y z new h = grind (arith, new refl)
     begun_here false x y z new h = h
+
     ended_here : (b c x y z : Bool) → b ≡ c → x ≡ (y && not z) → (not c && x) ≡ (y && not (b || z))
     ended_here true true x y z same h = grind (arith)
     ended_here false false x y z same h = h
     ended_here true false x y z same h = grind (arith, same)
     ended_here false true x y z same h = grind (arith, same)
+
     go : (b c : Bool) → begins e ≡ b → is_ending e.call ≡ c → MayFollow before e → has n (open_in before) ≡ (has n (begun before) && not (has n (ended before)))
         → has n (cond b (e.tx ∷ open_in before) (cond c (filter (λ k. not (k == e.tx)) (open_in before)) (open_in before)))
         ≡ (has n (cond b (e.tx ∷ begun before) (begun before)) && not (has n (cond c (e.tx ∷ ended before) (ended before))))

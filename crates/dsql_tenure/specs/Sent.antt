@@ -11,5 +11,5 @@ abbrev pub may_send : ℕ → List Entry → Permit → Bool
 may_send conn journal permit =
     (permit.conn == conn)
     && (if is_valid permit.call then may_be_asked journal (entry_of permit Done)
-        else if is_begin permit.call then (may_be_asked journal (entry_of permit Done) && may_be_asked journal (record (entry_of permit (Fail [])) { tx = 0 }))
-        else may_be_asked journal (entry_of permit (Fail [])))
+    else if is_begin permit.call then (may_be_asked journal (entry_of permit Done) && may_be_asked journal (record (entry_of permit (Fail [])) { tx = 0 }))
+    else may_be_asked journal (entry_of permit (Fail [])))

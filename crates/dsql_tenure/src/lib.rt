@@ -16,6 +16,9 @@ mod tables;
 mod tenure;
 mod transaction;
 
-pub use judge::Judge;
-pub use fault::{JudgeFault, Phase};
 pub use dsql_journal::{Entry, Owner, Permit};
+pub use fault::{JudgeFault, Phase};
+pub use judge::Judge;
+
+#[cfg(test)]
+mod tests;

@@ -200,9 +200,7 @@ impl Cursor {
     fn serves(&self, asked: &Asked<'_>) -> bool
         ensures { result ≡ part.serves_cursor self.now (entry_like asked.now) }
     {
-        (!is_next(asked.call) || !self.over)
-            && self.tx == asked.tx
-            && self.tenure == asked.tenure
+        (!is_next(asked.call) || !self.over) && self.tx == asked.tx && self.tenure == asked.tenure
     }
 }
 
@@ -267,7 +265,5 @@ fn no_cursor_of_tenure(cursors: &[Cursor], n: u32) -> bool
 fn only_call_handles_of_tenure(handles: &[Handle], n: u32) -> bool
     ensures { result ≡ list_all (λ h. not (h.tenure == n) || kind.is_call h.owner) handles.now }
 {
-    handles
-        .iter()
-        .all(|h| h.tenure != n || is_call(h.owner))
+    handles.iter().all(|h| h.tenure != n || is_call(h.owner))
 }

@@ -141,10 +141,7 @@ impl SoFar {
         ensures { result ≡ part.keeps_house self.now (entry_like asked.now) }
     {
         !is_house(asked.owner)
-            || self.owner.is_none()
-                && is_house_call(asked)
-                && asked.call_no == 0
-                && asked.tx == 0
+            || self.owner.is_none() && is_house_call(asked) && asked.call_no == 0 && asked.tx == 0
     }
 
     /// The owner, the House, a Reset at the head, and nothing after a Valid.
@@ -215,9 +212,7 @@ impl Prepared {
 fn is_of_tenure(handles: &[Handle], n: u32, tenure: u32) -> bool
     ensures { result ≡ list_all (λ h. not (h.number == n) || (h.tenure == tenure)) handles.now }
 {
-    handles
-        .iter()
-        .all(|h| h.number != n || h.tenure == tenure)
+    handles.iter().all(|h| h.number != n || h.tenure == tenure)
 }
 
 /// A Connect, CloseStmt or Shut.
@@ -231,9 +226,7 @@ fn is_house_call(asked: &Asked<'_>) -> bool
 fn is_refused_begin(asked: &Asked<'_>) -> bool
     ensures { result ≡ rule.is_refused_begin (entry_like asked.now) }
 {
-    is_begin(asked.call)
-        && matches!(asked.outcome, Outcome::Bad | Outcome::Failed)
-        && asked.tx == 0
+    is_begin(asked.call) && matches!(asked.outcome, Outcome::Bad | Outcome::Failed) && asked.tx == 0
 }
 
 /// On a pinned connection, outside transactions, there are pings, work and refused Begins.
