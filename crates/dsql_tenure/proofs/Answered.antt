@@ -1,7 +1,6 @@
 -- Answers at their place, and what of an answer the order of calls depends on.
-use Rattle.std.proofs.Common.{◌≡◌, ℕ, Bool, true, false, not, ◌&&◌, ◌||◌, ◌==◌, Option, None, Some, List, [], ◌∷◌, map, length, refl, sym, ◌∙◌, ap}
+use Rattle.std.proofs.Common.{◌≡◌, ℕ, Bool, true, false, not, ◌&&◌, ◌||◌, ◌==◌, Some, List, [], ◌∷◌, refl, sym, ◌∙◌, ap}
 use Rattle.std.specs.List.{filter, list_all, list_any}
-use native.Mathlib.Omega.{arith}
 use Rattle.dsql_driver.specs.declared.answer.DriverAnswer.{DriverAnswer}
 use Rattle.dsql_driver.specs.declared.answer.DriverAnswer.TheVariants.{Done, Prepared, Result, Cursor, Row, End, Invalid, Skip, Bad, Fail, Memory}
 use Rattle.dsql_journal.specs.declared.entry.Entry.{Entry}
@@ -17,7 +16,7 @@ use Rattle.dsql_tenure.specs.declared.tables.Cursor as kept
 use Rattle.dsql_tenure.specs.declared.tables.Tables.{Tables}
 use Rattle.dsql_tenure.specs.Asked.{answer_like, outcome_of}
 use Rattle.dsql_tenure.specs.MayBeAsked.{may_be_asked, is_as_wide}
-use Rattle.dsql_tenure.specs.Tables.{past, kept_handle, kept_cursor, Keeps, Stands, keeps_of}
+use Rattle.dsql_tenure.specs.Tables.{past, kept_handle, kept_cursor, Stands, keeps_of}
 use Rattle.dsql_tenure.proofs.Lists.{list_all-map, list_any-map, list_all-filter, list_all-same, is_empty-filter}
 
 -- the entry with an answer that differs in its contents alone

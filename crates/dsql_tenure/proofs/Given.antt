@@ -1,5 +1,5 @@
 -- Each live handle or cursor was given by an entry of its own tenure and transaction.
-use Rattle.std.proofs.Common.{◌≡◌, ℕ, Bool, true, false, cond, not, ◌&&◌, ◌||◌, ◌==◌, List, [], ◌∷◌, length, refl, sym, eq-eqb}
+use Rattle.std.proofs.Common.{◌≡◌, ℕ, Bool, true, false, cond, not, ◌&&◌, ◌||◌, ◌==◌, List, [], ◌∷◌, length, refl}
 use Rattle.std.specs.List.{filter, list_any, list_all}
 use native.Mathlib.Omega.{arith}
 use Rattle.std.proofs.lemmas.Bool.Decides.{nat_tests}
@@ -11,9 +11,9 @@ use Rattle.dsql_journal.specs.declared.entry.Entry.{Entry}
 use Rattle.dsql_journal.specs.declared.entry.Owner.{Owner}
 use Rattle.dsql_journal.specs.declared.entry.Owner.TheVariants.{Call, Tx, Pin, House}
 use Rattle.dsql_journal.specs.Kinds.{is_number, given_handle, given_cursor, same_owner}
-use Rattle.dsql_journal.specs.Readers.{LiveHandle, LiveCursor, handles, handles_after, cursors, cursors_after, changed, after_next, of_tenure, of_transaction}
+use Rattle.dsql_journal.specs.Readers.{LiveHandle, LiveCursor, handles, handles_after, cursors, cursors_after, changed, after_next}
 use Rattle.dsql_journal.proofs.Conjunctions.{parts2, join2}
-use Rattle.dsql_tenure.proofs.Lists.{list_all-so, list_any-so}
+use Rattle.dsql_tenure.proofs.Lists.{list_all-so}
 
 pub same_owner-refl : (o : Owner) → same_owner o o ≡ true
 same_owner-refl (Call n) = grind (arith, nat_tests)

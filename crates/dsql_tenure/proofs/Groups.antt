@@ -1,14 +1,13 @@
 -- The rules in groups are all of them.
-use Rattle.std.proofs.Common.{◌≡◌, ℕ, Bool, true, false, cond, not, ◌&&◌, ◌||◌, ◌==◌, Option, None, Some, List, [], ◌∷◌, refl, sym, ◌∙◌, ap, is_some}
-use Rattle.std.specs.List.{list_all, list_any}
+use Rattle.std.proofs.Common.{◌≡◌, Bool, true, false, cond, ◌&&◌, ◌||◌, ◌==◌, None, Some, List, [], ◌∷◌, refl, sym, ◌∙◌, is_some}
+use Rattle.std.specs.List.{list_all}
 use native.Mathlib.Omega.{arith}
-use Rattle.std.proofs.lemmas.Bool.Decides.{nat_tests}
 use Rattle.dsql_journal.specs.declared.entry.Entry.{Entry}
 use Rattle.dsql_journal.specs.Kinds.{is_bad}
 use Rattle.dsql_journal.specs.Readers.{went_bad, bad_tenure}
 use Rattle.dsql_journal.specs.WholeJournal as whole
 use Rattle.dsql_journal.specs.WholeJournal.{keeps_whole_journal}
-use Rattle.dsql_tenure.specs.Parts.{goes_on, begins_well, rises, keeps_order, keeps_bad}
+use Rattle.dsql_tenure.specs.Parts.{keeps_order, keeps_bad}
 
 pub and-then : (x y r : Bool) → r ≡ (x && y) → x ≡ true → y ≡ r
 and-then true y r h is = sym h

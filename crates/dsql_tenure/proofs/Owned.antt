@@ -1,5 +1,5 @@
 -- In a beginning of a whole journal: owners of tenures, and which tenure gave what is live.
-use Rattle.std.proofs.Common.{◌≡◌, ◌≢◌, ℕ, ◌<◌, ◌≤◌, Bool, true, false, cond, not, ◌&&◌, ◌||◌, ◌==◌, nat_lt, nat_le, Option, None, Some, List, [], ◌∷◌, refl, sym, ◌∙◌, ap, subst, eqb→eq}
+use Rattle.std.proofs.Common.{◌≡◌, ℕ, ◌<◌, ◌≤◌, Bool, true, false, not, ◌&&◌, ◌||◌, ◌==◌, nat_lt, Option, None, Some, List, [], ◌∷◌, refl, sym, ◌∙◌, ap, subst, eqb→eq}
 use Rattle.std.specs.List.{filter, list_all, list_any}
 use native.Mathlib.Omega.{arith}
 use Rattle.std.proofs.lemmas.Bool.Decides.{nat_tests}
@@ -9,14 +9,13 @@ use Rattle.dsql_driver.specs.declared.answer.DriverAnswer.{DriverAnswer}
 use Rattle.dsql_driver.specs.declared.answer.DriverAnswer.TheVariants.{Prepared}
 use Rattle.dsql_journal.specs.declared.entry.Entry.{Entry}
 use Rattle.dsql_journal.specs.declared.entry.Owner.{Owner}
-use Rattle.dsql_journal.specs.declared.entry.Owner.TheVariants.{Call, Tx, Pin, House}
-use Rattle.dsql_journal.specs.Kinds.{◌⇒◌, if_any, is_number, is_call, is_prepare, given_handle, given_cursor, handle_of, cursor_of, is_close_stmt, same_owner}
-use Rattle.dsql_journal.specs.Readers.{LiveHandle, LiveCursor, is_empty, of_tenure, of_transaction, last_tenure, last_owner, handles, handles_after, cursors}
+use Rattle.dsql_journal.specs.Kinds.{◌⇒◌, if_any, is_number, is_call, given_handle, given_cursor, handle_of, cursor_of, same_owner}
+use Rattle.dsql_journal.specs.Readers.{LiveHandle, LiveCursor, is_empty, of_tenure, last_tenure, handles, handles_after, cursors}
 use Rattle.dsql_journal.specs.HandlesAndCursors.{keeps_handles_and_cursors}
 use Rattle.dsql_journal.specs.Tenure as tenure
 use Rattle.dsql_journal.specs.Journal.{may_follow, is_journal_prefix, IsJournalPrefix}
-use Rattle.dsql_journal.specs.Facts.{KeepsBody, MayFollow}
-use Rattle.dsql_journal.proofs.Conjunctions.{parts2, parts8, join2, if_so}
+use Rattle.dsql_journal.specs.Facts.{MayFollow}
+use Rattle.dsql_journal.proofs.Conjunctions.{parts2, parts8, join2}
 use Rattle.dsql_journal.proofs.Sentences.{MayFollow-of}
 use Rattle.dsql_journal.proofs.Tenures.{of_tenure-new}
 use Rattle.dsql_tenure.proofs.Lists.{is_empty-filter, list_all-none, list_all-so, list_all-filter, list_any-both}

@@ -1,21 +1,20 @@
 -- Where a transaction's entries stand, in a beginning of a whole journal.
-use Rattle.std.proofs.Common.{◌≡◌, ◌≢◌, ℕ, ◌<◌, Bool, true, false, cond, not, ◌&&◌, ◌||◌, ◌==◌, nat_lt, List, [], ◌∷◌, refl, sym, ◌∙◌, ap, eqb→eq}
+use Rattle.std.proofs.Common.{◌≡◌, ◌≢◌, ℕ, Bool, true, false, cond, not, ◌&&◌, ◌||◌, ◌==◌, nat_lt, List, [], ◌∷◌, refl, sym, ◌∙◌, ap, eqb→eq}
 use Rattle.std.specs.List.{filter, list_any, list_all}
 use native.Mathlib.Omega.{arith}
 use Rattle.std.proofs.lemmas.Bool.Decides.{nat_tests}
 use Rattle.dsql_journal.specs.declared.entry.Entry.{Entry}
-use Rattle.dsql_journal.specs.Kinds.{◌⇒◌, is_ending}
+use Rattle.dsql_journal.specs.Kinds.{is_ending}
 use Rattle.dsql_journal.specs.Readers.{is_empty, has, of_tenure, of_transaction, last_tenure, begins, begun, ended, went_bad}
 use Rattle.dsql_journal.specs.Tenure.{has_ended_transactions, has_closed_cursors, has_closed_handles, is_whole_tenure}
 use Rattle.dsql_journal.specs.Journal.{may_follow, is_journal_prefix, IsJournalPrefix}
 use Rattle.dsql_journal.specs.Facts.{MayFollow}
 use Rattle.dsql_journal.proofs.Conjunctions.{parts2, join2, if_so}
 use Rattle.dsql_journal.proofs.Sentences.{MayFollow-of}
-use Rattle.dsql_journal.proofs.Tenures.{of_tenure-new}
 use Rattle.dsql_tenure.specs.Open.{open_in, open_after}
 use Rattle.dsql_tenure.proofs.Lists.{list_all-so}
 use Rattle.dsql_tenure.proofs.Given.{list_all-kept, eqb-refl}
-use Rattle.dsql_tenure.proofs.Transactions.{has-open, never-both}
+use Rattle.dsql_tenure.proofs.Transactions.{has-open}
 
 pub has-all : (f : ℕ → Bool) (n : ℕ) (ns : List ℕ) → list_all f ns ≡ true → has n ns ≡ true → f n ≡ true
 has-all f n [] h k = grind (arith, k)

@@ -1,6 +1,6 @@
 -- One answer stands for all that fit a permit's call at its place.
-use Rattle.std.proofs.Common.{◌≡◌, ◌≢◌, ℕ, Bool, true, false, cond, not, ◌&&◌, ◌||◌, ◌==◌, Option, None, Some, List, [], ◌∷◌, refl, sym, ◌∙◌, ap, IsTrue, ◌↔◌}
-use Rattle.std.specs.List.{filter, list_all, list_any}
+use Rattle.std.proofs.Common.{◌≡◌, ◌≢◌, ℕ, Bool, true, false, cond, not, ◌&&◌, ◌||◌, ◌==◌, Option, None, Some, List, [], ◌∷◌, refl, sym, ◌∙◌}
+use Rattle.std.specs.List.{filter, list_all}
 use native.Mathlib.Omega.{arith}
 use Rattle.dsql_driver.specs.declared.call.DriverCall.{DriverCall}
 use Rattle.dsql_driver.specs.declared.call.DriverCall.TheVariants.{Valid, Begin}
@@ -12,16 +12,16 @@ use Rattle.dsql_journal.specs.declared.entry.Owner.{Owner}
 use Rattle.dsql_journal.specs.declared.entry.Owner.TheVariants.{Call, Tx, Pin, House}
 use Rattle.dsql_journal.specs.declared.entry.Permit.{Permit}
 use Rattle.dsql_journal.specs.Kinds.{◌⇒◌, if_any, is_bad, is_begin, is_valid, is_close_stmt, cursor_of}
-use Rattle.dsql_journal.specs.Readers.{LiveCursor, is_empty, cursors, of_transaction}
+use Rattle.dsql_journal.specs.Readers.{LiveCursor, cursors}
 use Rattle.dsql_journal.specs.Tenure as tenure
 use Rattle.dsql_journal.specs.HandlesAndCursors.{fits_at_its_place, is_heard, is_fitting, gives_new_handle, gives_new_cursor, is_as_wide, has_width_of_cursor}
-use Rattle.dsql_journal.specs.Journal.{may_follow, is_journal_prefix, IsJournalPrefix}
+use Rattle.dsql_journal.specs.Journal.{may_follow, IsJournalPrefix}
 use Rattle.dsql_journal.specs.Facts.{KeepsBody, FitsAtItsPlace, MayFollow}
 use Rattle.dsql_journal.specs.Permits.{entry_of}
 use Rattle.dsql_journal.proofs.Conjunctions.{parts2, parts5, join2}
 use Rattle.dsql_journal.proofs.Sentences.{MayFollow-of, of-MayFollow}
-use Rattle.dsql_tenure.specs.Beginnings.{is_beginning_of, IsBeginningOf}
-use Rattle.dsql_tenure.specs.Judged.{Judged, MaySend, answered}
+use Rattle.dsql_tenure.specs.Beginnings.{is_beginning_of}
+use Rattle.dsql_tenure.specs.Judged.{answered}
 use Rattle.dsql_tenure.specs.MayBeAsked.{may_be_asked}
 use Rattle.dsql_tenure.specs.Sent.{may_send}
 use Rattle.dsql_tenure.proofs.Standing.{beginning-more}

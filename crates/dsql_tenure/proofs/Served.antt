@@ -1,5 +1,5 @@
 -- What is asked of the live handle or cursor that a call names, by the tables.
-use Rattle.std.proofs.Common.{◌≡◌, ℕ, Bool, true, false, cond, not, ◌&&◌, ◌||◌, ◌==◌, List, [], ◌∷◌, map, refl, sym, ◌∙◌, ap}
+use Rattle.std.proofs.Common.{◌≡◌, ℕ, Bool, true, false, cond, not, ◌&&◌, ◌||◌, ◌==◌, List, [], ◌∷◌, refl, ◌∙◌, ap}
 use Rattle.std.specs.List.{filter, list_all, list_any}
 use Rattle.dsql_journal.specs.declared.entry.Entry.{Entry}
 use Rattle.dsql_journal.specs.Kinds.{◌⇒◌, is_call, is_house, is_close_stmt, is_next}
@@ -9,7 +9,7 @@ use Rattle.dsql_tenure.specs.declared.tables.Handle.{Handle}
 use Rattle.dsql_tenure.specs.declared.tables.Cursor.{Cursor}
 use Rattle.dsql_tenure.specs.declared.tables.Tables.{Tables}
 use Rattle.dsql_tenure.specs.Parts.{keeps_handle, keeps_cursor, serves_handle, serves_cursor}
-use Rattle.dsql_tenure.specs.Tables.{past, kept_handle, kept_cursor, Keeps, Stands, keeps_of}
+use Rattle.dsql_tenure.specs.Tables.{past, kept_handle, kept_cursor, Stands, keeps_of}
 use Rattle.dsql_tenure.proofs.Lists.{list_all-map, list_any-map, list_all-same, list_all-and, list_all-filter, is_empty-filter}
 
 grouped : (a b c d e f g h : Bool) → (a && b && c && d && e && f && g && h) ≡ ((a && d && g && h) && (b && c && e && f))

@@ -1,5 +1,5 @@
 -- What is kept of a tenure decides the rules of its entries.
-use Rattle.std.proofs.Common.{◌≡◌, ◌≢◌, ℕ, ◌<◌, ◌≤◌, Bool, true, false, cond, not, ◌&&◌, ◌||◌, ◌==◌, nat_lt, max, Option, None, Some, List, [], ◌∷◌, refl, sym, ◌∙◌, ap, eqb→eq, is_none}
+use Rattle.std.proofs.Common.{◌≡◌, ℕ, Bool, true, false, cond, not, ◌&&◌, ◌||◌, ◌==◌, nat_lt, max, Option, None, Some, List, [], ◌∷◌, refl, sym, ◌∙◌, ap, eqb→eq, is_none}
 use Rattle.std.specs.List.{filter, list_all, list_any}
 use native.Mathlib.Omega.{arith}
 use Rattle.std.proofs.lemmas.Bool.Decides.{nat_tests}
@@ -10,16 +10,15 @@ use Rattle.dsql_driver.specs.Fits.{is_skip}
 use Rattle.dsql_journal.specs.declared.entry.Entry.{Entry}
 use Rattle.dsql_journal.specs.declared.entry.Owner.{Owner}
 use Rattle.dsql_journal.specs.declared.entry.Owner.TheVariants.{Call, Tx, Pin, House}
-use Rattle.dsql_journal.specs.Kinds.{◌⇒◌, if_any, is_number, is_connect, is_reset, is_valid, is_ping, is_prepare, runs_text, runs_handle, is_next, is_close_stmt, is_shut, handle_of, given_handle, is_house, same_owner}
-use Rattle.dsql_journal.specs.Readers.{is_empty, last_owner, went_bad}
-use Rattle.dsql_journal.specs.Tenure.{place, is_body, is_call_body}
+use Rattle.dsql_journal.specs.Kinds.{◌⇒◌, is_number, is_reset, is_valid, is_ping, is_prepare, runs_text, is_next, given_handle, same_owner}
+use Rattle.dsql_journal.specs.Readers.{is_empty, last_owner}
+use Rattle.dsql_journal.specs.Tenure.{place, is_body}
 use Rattle.dsql_tenure.specs.declared.so_far.Prepared.{Prepared}
 use Rattle.dsql_tenure.specs.declared.so_far.Prepared.TheVariants.{Nothing, Otherwise}
 use Rattle.dsql_tenure.specs.declared.so_far.Prepared.TheVariants as was
-use Rattle.dsql_tenure.specs.SoFar.{so_far, last_place, prepared, prepared_with}
+use Rattle.dsql_tenure.specs.SoFar.{last_place, prepared, prepared_with}
 use Rattle.dsql_tenure.specs.TenureParts.{has_owner, allows}
-use Rattle.dsql_tenure.specs.TenureParts as part
-use Rattle.dsql_tenure.proofs.Lists.{is_empty-filter, list_all-none, list_all-same}
+use Rattle.dsql_tenure.proofs.Lists.{list_all-none, list_all-same}
 
 pub same_owner-is : (a b : Owner) → same_owner a b ≡ true → a ≡ b
 same_owner-is (Call n) (Call m) h = ap (λ k. Call k) (eqb→eq n m (grind (arith, nat_tests, h)))

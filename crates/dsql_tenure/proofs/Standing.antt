@@ -1,15 +1,13 @@
 -- Where a journal stands, by the tables.
-use Rattle.std.proofs.Common.{◌≡◌, ◌≢◌, ℕ, Bool, true, false, cond, not, ◌&&◌, ◌||◌, ◌==◌, Option, None, Some, List, [], ◌∷◌, refl, sym, ◌∙◌, ap, eqb→eq, IsTrue}
+use Rattle.std.proofs.Common.{◌≡◌, ℕ, Bool, true, false, not, ◌&&◌, ◌||◌, ◌==◌, Some, List, [], ◌∷◌, refl, sym, ◌∙◌, ap}
 use Rattle.std.specs.List.{list_all, list_any}
 use native.Mathlib.Omega.{arith}
-use Rattle.std.proofs.lemmas.Bool.Decides.{nat_tests}
 use Rattle.dsql_driver.specs.Fits.{is_failure}
 use Rattle.dsql_journal.specs.declared.entry.Entry.{Entry}
-use Rattle.dsql_journal.specs.declared.entry.Owner.{Owner}
-use Rattle.dsql_journal.specs.declared.entry.Owner.TheVariants.{Call, Tx, Pin, House}
-use Rattle.dsql_journal.specs.Kinds.{is_valid, is_reset, is_bad, is_shut, is_connect, is_house}
-use Rattle.dsql_journal.specs.Readers.{has, of_tenure, last_tenure, last_owner, went_bad, was_shut, was_refused, begun, ended}
-use Rattle.dsql_journal.specs.Journal.{may_follow, is_journal_prefix, is_finished, is_whole, IsJournalPrefix}
+use Rattle.dsql_journal.specs.declared.entry.Owner.TheVariants.{Tx}
+use Rattle.dsql_journal.specs.Kinds.{is_valid, is_reset, is_bad, is_shut, is_connect}
+use Rattle.dsql_journal.specs.Readers.{has, of_tenure, last_tenure, last_owner, went_bad, was_shut, was_refused}
+use Rattle.dsql_journal.specs.Journal.{may_follow, is_journal_prefix, is_whole, IsJournalPrefix}
 use Rattle.dsql_journal.specs.Facts.{MayFollow}
 use Rattle.dsql_journal.proofs.Conjunctions.{parts2, join2}
 use Rattle.dsql_journal.proofs.Sentences.{MayFollow-of}
@@ -17,7 +15,7 @@ use Rattle.dsql_tenure.specs.declared.fault.Phase.TheVariants.{After}
 use Rattle.dsql_tenure.specs.declared.tables.Tables.{Tables}
 use Rattle.dsql_tenure.specs.Beginnings.{is_beginning_of, IsBeginningOf, can_grow, phase}
 use Rattle.dsql_tenure.specs.Open.{open_in}
-use Rattle.dsql_tenure.specs.Tables.{past, Keeps, Stands, keeps_of}
+use Rattle.dsql_tenure.specs.Tables.{past, Stands, keeps_of}
 use Rattle.dsql_tenure.proofs.Transactions.{has-open}
 
 not_true : (b : Bool) → not b ≡ true → b ≡ false

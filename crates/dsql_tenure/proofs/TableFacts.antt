@@ -1,6 +1,6 @@
 -- What the tables tell of the journal.
-use Rattle.std.proofs.Common.{◌≡◌, ◌≢◌, ℕ, ◌<◌, ◌≤◌, Bool, true, false, not, ◌&&◌, ◌||◌, ◌==◌, Option, None, Some, List, [], ◌∷◌, map, length, refl, sym, ◌∙◌, ap, is_some, vec_len}
-use Rattle.std.specs.List.{list_all, list_any}
+use Rattle.std.proofs.Common.{◌≡◌, ℕ, ◌<◌, Bool, true, false, not, ◌||◌, ◌==◌, Option, Some, List, [], ◌∷◌, length, refl, sym, ◌∙◌, ap, is_some}
+use Rattle.std.specs.List.{list_all}
 use native.Mathlib.Omega.{arith}
 use Rattle.std.proofs.lemmas.Bool.Decides.{nat_tests}
 use Rattle.dsql_journal.specs.declared.entry.Entry.{Entry}
@@ -11,9 +11,8 @@ use Rattle.dsql_journal.proofs.Tenures.{of_tenure-new}
 use Rattle.dsql_tenure.specs.declared.tables.Handle.{Handle}
 use Rattle.dsql_tenure.specs.declared.tables.Cursor.{Cursor}
 use Rattle.dsql_tenure.specs.declared.tables.Tables.{Tables}
-use Rattle.dsql_tenure.specs.Open.{open_in}
 use Rattle.dsql_tenure.specs.TenureParts.{closes_own}
-use Rattle.dsql_tenure.specs.Tables.{past, kept_handle, kept_cursor, Keeps, Stands, keeps_of}
+use Rattle.dsql_tenure.specs.Tables.{past, kept_handle, kept_cursor, Stands, keeps_of}
 use Rattle.dsql_tenure.proofs.Lists.{list_all-map, list_all-same}
 use Rattle.dsql_tenure.proofs.Groups.{bad_tenure-some}
 use Rattle.dsql_tenure.proofs.Places.{has_ended-last}

@@ -1,25 +1,19 @@
 -- The rules of a tenure, by what is kept of it and of what is live.
-use Rattle.std.proofs.Common.{◌≡◌, ◌≢◌, ℕ, ◌<◌, ◌≤◌, Bool, true, false, cond, not, ◌&&◌, ◌||◌, ◌==◌, nat_lt, Option, None, Some, List, [], ◌∷◌, refl, sym, ◌∙◌, ap, is_none}
+use Rattle.std.proofs.Common.{◌≡◌, ℕ, ◌≤◌, Bool, true, false, cond, not, ◌&&◌, ◌||◌, ◌==◌, nat_lt, Option, None, Some, List, [], ◌∷◌, refl, sym, ap, is_none}
 use Rattle.std.specs.List.{filter, list_all, list_any}
-use native.Mathlib.Omega.{arith}
-use Rattle.std.proofs.lemmas.Bool.Decides.{nat_tests}
-use Rattle.dsql_driver.specs.Fits.{is_skip}
 use Rattle.dsql_journal.specs.declared.entry.Entry.{Entry}
 use Rattle.dsql_journal.specs.declared.entry.Owner.{Owner}
 use Rattle.dsql_journal.specs.declared.entry.Owner.TheVariants.{Call, Tx, Pin, House}
-use Rattle.dsql_driver.specs.declared.call.DriverCall.{DriverCall}
-use Rattle.dsql_driver.specs.declared.call.DriverCall.TheVariants.{CloseStmt}
-use Rattle.dsql_journal.specs.Kinds.{◌⇒◌, if_any, is_number, is_connect, is_reset, is_valid, is_ping, is_prepare, runs_text, runs_handle, is_next, is_close_stmt, is_shut, handle_of, given_handle, is_house, is_bad}
+use Rattle.dsql_journal.specs.Kinds.{◌⇒◌, if_any, is_number, is_connect, is_reset, is_ping, is_prepare, runs_handle, is_next, is_close_stmt, is_shut, handle_of, given_handle, is_house}
 use Rattle.dsql_journal.specs.Readers.{is_empty, of_tenure, last_tenure, last_owner, handles, went_bad}
 use Rattle.dsql_journal.specs.Tenure.{place, is_body, keeps_tenure, has_closed_cursors}
 use Rattle.dsql_journal.specs.Tenure as tenure
 use Rattle.dsql_journal.specs.Journal.{IsJournalPrefix}
-use Rattle.dsql_journal.specs.HandlesAndCursors.{keeps_handles_and_cursors}
-use Rattle.dsql_tenure.specs.SoFar.{so_far, last_place, prepared}
+use Rattle.dsql_tenure.specs.SoFar.{so_far, last_place}
 use Rattle.dsql_tenure.specs.TenureParts as part
 use Rattle.dsql_tenure.proofs.Lists.{is_empty-filter}
-use Rattle.dsql_tenure.proofs.SoFarRules.{OneOwner, is_none-owner, one_owner, in_order, prepared-allows, ran-none, pinged-worked}
-use Rattle.dsql_tenure.proofs.Owned.{of_one_owner, Served, served, closes_own-is, own_cursor}
+use Rattle.dsql_tenure.proofs.SoFarRules.{is_none-owner, one_owner, in_order, prepared-allows, ran-none, pinged-worked}
+use Rattle.dsql_tenure.proofs.Owned.{of_one_owner, Served, closes_own-is, own_cursor}
 
 if_same : (a b c : Bool) → (a ≡ true → b ≡ c) → (a ⇒ b) ≡ (a ⇒ c)
 if_same true b c h = h refl

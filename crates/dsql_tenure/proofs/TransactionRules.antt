@@ -1,6 +1,6 @@
 -- The rules of a transaction, by which are begun and open and by what is live.
-use Rattle.std.proofs.Common.{◌≡◌, ◌≢◌, ℕ, ◌<◌, ◌≤◌, Bool, true, false, cond, not, ◌&&◌, ◌||◌, ◌==◌, nat_lt, nat_le, Option, None, Some, List, [], ◌∷◌, refl, sym, ◌∙◌, ap, eqb→eq}
-use Rattle.std.specs.List.{filter, list_all, list_any}
+use Rattle.std.proofs.Common.{◌≡◌, ◌≢◌, ℕ, Bool, true, false, cond, not, ◌&&◌, ◌||◌, ◌==◌, nat_lt, nat_le, Some, List, [], ◌∷◌, refl, sym, ◌∙◌, ap, eqb→eq}
+use Rattle.std.specs.List.{list_all, list_any}
 use native.Mathlib.Omega.{arith}
 use Rattle.std.proofs.lemmas.Bool.Decides.{nat_tests}
 use Rattle.dsql_driver.specs.declared.call.DriverCall.{DriverCall}
@@ -12,8 +12,8 @@ use Rattle.dsql_journal.specs.declared.entry.Entry.{Entry}
 use Rattle.dsql_journal.specs.declared.entry.Owner.{Owner}
 use Rattle.dsql_journal.specs.declared.entry.Owner.TheVariants.{Call, Tx, Pin, House}
 use Rattle.dsql_journal.specs.Kinds.{◌⇒◌, if_any, is_number, is_call, is_reset, is_valid, is_begin, is_ending, is_close_stmt, is_work, given_handle, handle_of, same_owner}
-use Rattle.dsql_journal.specs.Readers.{LiveHandle, is_empty, has, of_tenure, of_transaction, last_tenure, handles, handles_after, begun, ended}
-use Rattle.dsql_journal.specs.Tenure.{is_whole_tenure, is_body}
+use Rattle.dsql_journal.specs.Readers.{LiveHandle, is_empty, has, of_transaction, last_tenure, handles, handles_after, begun, ended}
+use Rattle.dsql_journal.specs.Tenure.{is_whole_tenure}
 use Rattle.dsql_journal.specs.Transaction as rule
 use Rattle.dsql_journal.specs.WholeJournal as whole
 use Rattle.dsql_journal.specs.WholeJournal.{keeps_whole_journal}
@@ -22,7 +22,7 @@ use Rattle.dsql_journal.specs.Facts.{KeepsBody, MayFollow}
 use Rattle.dsql_journal.proofs.Conjunctions.{parts2, parts10, join2, if_so}
 use Rattle.dsql_journal.proofs.Sentences.{MayFollow-of}
 use Rattle.dsql_tenure.specs.Open.{open_in, begins_anew, goes_on_open, keeps_number}
-use Rattle.dsql_tenure.proofs.Lists.{list_all-so, list_all-and, list_any-both, list_any-so}
+use Rattle.dsql_tenure.proofs.Lists.{list_all-and, list_any-both, list_any-so}
 use Rattle.dsql_tenure.proofs.Given.{gave_handle, handles-given, list_all-kept, list_any-filter}
 use Rattle.dsql_tenure.proofs.Transactions.{OnlyBegins, begin-only, has-ended, has-open, of_transaction-begun}
 use Rattle.dsql_tenure.proofs.Places.{open-last, one_tenure, has_ended-last, whole_ended, later_or_last}

@@ -1,6 +1,6 @@
 -- Transactions in a beginning of a whole journal: which are begun, ended and open, and in which tenure they stand.
-use Rattle.std.proofs.Common.{◌≡◌, ◌≢◌, ℕ, ◌<◌, Bool, true, false, cond, not, ◌&&◌, ◌||◌, ◌==◌, nat_lt, List, [], ◌∷◌, refl, sym, ◌∙◌, ap, subst, eqb→eq}
-use Rattle.std.specs.List.{filter, list_any, list_all}
+use Rattle.std.proofs.Common.{◌≡◌, ◌≢◌, ℕ, Bool, true, false, cond, not, ◌&&◌, ◌||◌, ◌==◌, nat_lt, List, [], ◌∷◌, refl, sym, ◌∙◌, eqb→eq}
+use Rattle.std.specs.List.{filter, list_any}
 use native.Mathlib.Omega.{arith}
 use Rattle.std.proofs.lemmas.Bool.Decides.{nat_tests}
 use Rattle.dsql_driver.specs.declared.call.DriverCall.{DriverCall}
@@ -12,18 +12,15 @@ use Rattle.dsql_journal.specs.declared.entry.Entry.{Entry}
 use Rattle.dsql_journal.specs.declared.entry.Owner.{Owner}
 use Rattle.dsql_journal.specs.declared.entry.Owner.TheVariants.{Call, Tx, Pin, House}
 use Rattle.dsql_journal.specs.Kinds.{◌⇒◌, is_begin, is_ping, is_work, is_connect, is_close_stmt, is_shut, is_ending, is_reset, is_valid, is_house}
-use Rattle.dsql_journal.specs.Readers.{is_empty, has, of_tenure, of_transaction, last_tenure, begins, begun, ended}
+use Rattle.dsql_journal.specs.Readers.{is_empty, has, of_transaction, begins, begun, ended}
 use Rattle.dsql_journal.specs.Tenure.{place, is_refused_begin, has_ended_transactions, body, is_body, is_whole_tenure}
 use Rattle.dsql_journal.specs.Tenure as tenure
-use Rattle.dsql_journal.specs.Transaction as transaction
 use Rattle.dsql_journal.specs.Journal.{may_follow, is_journal_prefix, IsJournalPrefix}
 use Rattle.dsql_journal.specs.Facts.{KeepsBody, MayFollow}
-use Rattle.dsql_journal.proofs.Conjunctions.{parts2, join2, if_so}
+use Rattle.dsql_journal.proofs.Conjunctions.{parts2, if_so}
 use Rattle.dsql_journal.proofs.Sentences.{MayFollow-of}
-use Rattle.dsql_journal.proofs.Tenures.{of_tenure-new}
-use Rattle.dsql_tenure.specs.Open.{open_in, open_after}
-use Rattle.dsql_tenure.proofs.Lists.{list_all-so, has-filter}
-use Rattle.dsql_tenure.proofs.Given.{list_all-kept}
+use Rattle.dsql_tenure.specs.Open.{open_in}
+use Rattle.dsql_tenure.proofs.Lists.{has-filter}
 
 -- what a Begin isn't
 pub record OnlyBegins (q : DriverCall) : Type 0 where

@@ -1,5 +1,5 @@
 -- What an entry changes in what is kept of live handles and cursors.
-use Rattle.std.specs.Prelude.{ℕ, Bool, true, false, not, ◌==◌, Option, Some, None, List, [], ◌∷◌, length, map, if◌then◌else◌}
+use Rattle.std.specs.Prelude.{ℕ, true, false, not, ◌==◌, Option, Some, None, List, ◌∷◌, length, map, if◌then◌else◌}
 use Rattle.std.specs.List.{filter}
 use Rattle.dsql_driver.specs.declared.call.DriverCall.{DriverCall}
 use Rattle.dsql_driver.specs.declared.call.DriverCall.TheVariants.{Prepare, CloseStmt, Query, Next, CloseRows}

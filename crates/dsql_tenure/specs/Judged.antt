@@ -1,5 +1,5 @@
 -- What contracts see of a judge, and what it answers.
-use Rattle.std.specs.Prelude.{◌≡◌, ℕ, ◌+◌, ◌==◌, Bool, false, true, IsTrue, List, ◌∷◌, length, if◌then◌else◌}
+use Rattle.std.specs.Prelude.{◌≡◌, ℕ, ◌+◌, false, IsTrue, List, ◌∷◌, length, if◌then◌else◌}
 use Rattle.dsql_driver.specs.declared.answer.DriverAnswer.{DriverAnswer}
 use Rattle.dsql_driver.specs.Fits.{is_done}
 use Rattle.dsql_journal.specs.declared.entry.Entry.{Entry}

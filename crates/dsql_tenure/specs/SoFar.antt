@@ -1,10 +1,10 @@
 -- What the entries of a tenure tell of it, the newest first.
-use Rattle.std.specs.Prelude.{ℕ, Bool, true, false, ◌&&◌, ◌||◌, not, ◌==◌, max, Option, Some, None, List, [], ◌∷◌, if◌then◌else◌}
-use Rattle.std.specs.List.{filter, list_any}
+use Rattle.std.specs.Prelude.{ℕ, ◌&&◌, not, ◌==◌, max, Option, Some, None, List, [], ◌∷◌, if◌then◌else◌}
+use Rattle.std.specs.List.{list_any}
 use Rattle.dsql_driver.specs.Fits.{is_skip}
 use Rattle.dsql_journal.specs.declared.entry.Entry.{Entry}
 use Rattle.dsql_journal.specs.Kinds.{is_bad, is_reset, is_valid, is_ping, is_prepare, runs_text, given_handle}
-use Rattle.dsql_journal.specs.Readers.{is_empty, last_owner, went_bad}
+use Rattle.dsql_journal.specs.Readers.{last_owner, went_bad}
 use Rattle.dsql_journal.specs.Tenure.{is_body, place, is_refused_begin}
 use Rattle.dsql_tenure.specs.declared.so_far.Prepared.{Prepared}
 use Rattle.dsql_tenure.specs.declared.so_far.Prepared.TheVariants.{Nothing, Handle, Otherwise}

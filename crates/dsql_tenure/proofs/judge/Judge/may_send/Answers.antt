@@ -1,4 +1,4 @@
-use Rattle.std.proofs.Common.{◌≡◌, true, ◌↔◌, IsTrue, ◌∙◌, ap, sym, subst}
+use Rattle.std.proofs.Common.{◌↔◌, IsTrue, ◌∙◌, sym, subst}
 use Rattle.dsql_tenure.specs.Judged.{Judged, MaySend}
 use Rattle.dsql_tenure.specs.Tables.{past, keeps_of}
 use Rattle.dsql_tenure.proofs.Sending.{all_may, may_all}

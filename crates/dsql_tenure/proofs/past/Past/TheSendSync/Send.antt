@@ -1,5 +1,4 @@
 -- A journal for proofs owns nothing, so it may go to another thread.
-use denote.RattleType.{RattleType}
 use denote.Param.Send.{IsSend, owning_send, sendable}
 use Rattle.dsql_tenure.specs.contracts.past.Past.{the_row, the_type}
 

@@ -1,4 +1,4 @@
-use Rattle.std.proofs.Common.{◌≡◌, ◌==◌, true, false, ◌∙◌, sym}
+use Rattle.std.proofs.Common.{◌≡◌, ◌==◌, true, false, ◌∙◌}
 use native.Mathlib.Omega.{arith}
 use Rattle.std.proofs.lemmas.Bool.Decides.{nat_tests}
 use Rattle.dsql_journal.specs.Journal.{may_follow as may_come}

@@ -1,4 +1,4 @@
-use Rattle.std.proofs.Common.{◌≡◌, true, Some, ◌∙◌, ap, sym}
+use Rattle.std.proofs.Common.{◌≡◌, true, Some, ◌∙◌, ap}
 use native.Mathlib.Omega.{arith}
 use Rattle.dsql_journal.specs.declared.entry.Owner.{Owner}
 use Rattle.dsql_journal.specs.Readers.{went_bad as bad_in}

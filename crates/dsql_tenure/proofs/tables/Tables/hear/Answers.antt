@@ -1,7 +1,6 @@
-use Rattle.std.proofs.Common.{◌≡◌, ℕ, ◌≤◌, ◌==◌, ◌||◌, Bool, true, false, List, Option, nat_eq, nat_le, cond, refl, ap, sym, ◌∙◌, arith, map}
+use Rattle.std.proofs.Common.{ℕ, ◌==◌, List, Option, refl, ap, ◌∙◌, arith}
 use Rattle.std.proofs.lemmas.Bool.Decides.{nat_tests}
 use Rattle.std.specs.List.{list_all}
-use Rattle.dsql_journal.specs.declared.entry.Entry.{Entry}
 use Rattle.dsql_journal.specs.Readers as told
 use Rattle.dsql_journal.specs.Journal.{may_follow, is_journal_prefix}
 use Rattle.dsql_journal.specs.Facts.{MayFollow}
@@ -11,7 +10,7 @@ use Rattle.dsql_tenure.specs.declared.tables.Handle.{Handle}
 use Rattle.dsql_tenure.specs.declared.tables.Cursor.{Cursor}
 use Rattle.dsql_tenure.specs.Flags.{bad_with}
 use Rattle.dsql_tenure.specs.Heard as heard
-use Rattle.dsql_tenure.specs.Open.{open_in, open_after}
+use Rattle.dsql_tenure.specs.Open.{open_after}
 use Rattle.dsql_tenure.specs.Tables.{past, Stands, keeps_of}
 use Rattle.dsql_tenure.proofs.Standing.{stands-follows}
 use Rattle.dsql_tenure.proofs.Hearing.{kept_handles, kept_cursors, first_bad, so_far_with, has_begun, count_begun, begins_new}

@@ -1,6 +1,5 @@
-use Rattle.std.proofs.Common.{refl, ◌==◌, ◌&&◌, ◌||◌, not, List, ◌∙◌, ap, sym}
+use Rattle.std.proofs.Common.{refl, ◌==◌, ◌&&◌, ◌||◌, not, List, ◌∙◌, ap}
 use Rattle.std.specs.List.{list_all, list_any}
-use Rattle.dsql_journal.specs.Kinds.{handle_of}
 use Rattle.dsql_tenure.specs.declared.tables.Handle.{Handle}
 use Rattle.dsql_tenure.specs.Asked.{entry_like}
 use Rattle.dsql_tenure.specs.Parts.{serves_handle}

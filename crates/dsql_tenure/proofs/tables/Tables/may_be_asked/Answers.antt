@@ -1,11 +1,10 @@
-use Rattle.std.proofs.Common.{◌≡◌, ◌≤◌, Bool, true, false, not, ◌&&◌, nat_lt, ◌∙◌, ap, sym, refl}
+use Rattle.std.proofs.Common.{◌≡◌, Bool, true, false, ◌&&◌, ◌∙◌, sym, refl}
 use native.Mathlib.Omega.{arith}
 use Rattle.std.proofs.lemmas.Bool.Decides.{nat_tests}
 use Rattle.dsql_journal.specs.WholeJournal.{keeps_whole_journal}
 use Rattle.dsql_journal.specs.HandlesAndCursors.{keeps_handles_and_cursors}
 use Rattle.dsql_journal.specs.Tenure.{keeps_tenure}
 use Rattle.dsql_journal.specs.Transaction.{keeps_transaction}
-use Rattle.dsql_journal.specs.Readers.{last_tenure}
 use Rattle.dsql_tenure.specs.Asked.{entry_like}
 use Rattle.dsql_tenure.specs.Tables.{past}
 use Rattle.dsql_tenure.proofs.TransactionRules.{Rises, rises}
