@@ -1,31 +1,28 @@
 -- A beginning in which something was answered Bad has a whole end: the Rollbacks of what is open, and Shut.
-use Rattle.std.proofs.Common.{◌≡◌, ◌≢◌, ℕ, zero, suc, ◌+◌, ◌<◌, ◌≤◌, Bool, true, false, cond, not, ◌&&◌, ◌||◌, ◌==◌, nat_lt, nat_le, Option, None, Some, List, [], ◌∷◌, ◌++◌, length, append_assoc, refl, sym, ◌∙◌, ap, subst, eqb→eq, IsTrue}
-use Rattle.std.specs.List.{filter, list_all, list_any}
+use Rattle.std.proofs.Common.{◌≡◌, ◌≢◌, ℕ, Bool, true, false, cond, not, ◌&&◌, ◌||◌, ◌==◌, nat_lt, List, [], ◌∷◌, refl, sym, ◌∙◌, subst, eqb→eq}
+use Rattle.std.specs.List.{list_all, list_any}
 use native.Mathlib.Omega.{arith}
 use Rattle.std.proofs.lemmas.Bool.Decides.{nat_tests}
-use Rattle.dsql_driver.specs.declared.call.DriverCall.TheVariants.{Rollback, Shut}
+use Rattle.dsql_driver.specs.declared.call.DriverCall.TheVariants.{Rollback}
 use Rattle.dsql_driver.specs.declared.answer.DriverAnswer.TheVariants.{Done}
 use Rattle.dsql_driver.specs.Fits.{is_failure}
 use Rattle.dsql_journal.specs.declared.entry.Entry.{Entry}
 use Rattle.dsql_journal.specs.declared.entry.Owner.{Owner}
 use Rattle.dsql_journal.specs.declared.entry.Owner.TheVariants.{Call, Tx, Pin, House}
-use Rattle.dsql_journal.specs.Entries.{shut_entry}
-use Rattle.dsql_journal.specs.Kinds.{◌⇒◌, is_valid, is_reset, is_begin, is_ending, is_shut, is_house, is_pin, is_tx_number, same_owner}
-use Rattle.dsql_journal.specs.Readers.{is_empty, has, of_tenure, of_transaction, last_tenure, begun, ended, went_bad, was_shut, was_refused}
-use Rattle.dsql_journal.specs.Tenure.{is_whole_tenure, has_ended_transactions, has_closed_cursors, has_closed_handles, is_body, is_refused_begin, body}
-use Rattle.dsql_journal.specs.Journal.{may_follow, is_journal_prefix, IsJournalPrefix, IsWhole}
-use Rattle.dsql_journal.specs.Facts.{KeepsBody, MayFollow, MayShut}
-use Rattle.dsql_journal.proofs.Conjunctions.{parts2, join2, if_so}
-use Rattle.dsql_journal.proofs.Beginnings.{IsJournalPrefix-longer}
-use Rattle.dsql_journal.proofs.Tenures.{IsWhole-shut}
+use Rattle.dsql_journal.specs.Kinds.{◌⇒◌, is_valid, is_reset, is_begin, is_ending, is_house, is_pin, is_tx_number, same_owner}
+use Rattle.dsql_journal.specs.Readers.{is_empty, has, of_tenure, of_transaction, begun, ended, went_bad, was_shut, was_refused}
+use Rattle.dsql_journal.specs.Tenure.{is_whole_tenure, is_body, is_refused_begin, body}
+use Rattle.dsql_journal.specs.Journal.{may_follow, is_journal_prefix, IsJournalPrefix}
+use Rattle.dsql_journal.specs.Facts.{KeepsBody, MayFollow}
+use Rattle.dsql_journal.proofs.Conjunctions.{parts2, join2}
 use Rattle.dsql_tenure.specs.Open.{open_in}
-use Rattle.dsql_tenure.proofs.Lists.{list_all-so, list_any-so, is_empty-filter}
+use Rattle.dsql_tenure.proofs.Lists.{list_any-so, is_empty-filter}
 use Rattle.dsql_tenure.proofs.Given.{eqb-refl, list_all-kept, list_any-filter, same_owner-refl}
 use Rattle.dsql_tenure.proofs.SoFarRules.{same_owner-is}
-use Rattle.dsql_tenure.proofs.Transactions.{OnlyBegins, begin-only, has-open, has-ended, of_transaction-begun, begins-number}
+use Rattle.dsql_tenure.proofs.Transactions.{OnlyBegins, begin-only, has-open, has-ended, of_transaction-begun}
 use Rattle.dsql_tenure.proofs.Places.{begun-in, has-all, open-in_last, open-last, has_ended-last, whole_ended}
-use Rattle.dsql_tenure.proofs.WholeAtOnce.{mayfollow, empty_is}
-use Rattle.dsql_tenure.proofs.Rollbacks.{none_valid, none_fell, not_invalid, bad_last, tests_outside, open_owner, pick}
+use Rattle.dsql_tenure.proofs.WholeAtOnce.{mayfollow}
+use Rattle.dsql_tenure.proofs.Rollbacks.{none_valid, none_fell, not_invalid, bad_last, tests_outside, open_owner}
 
 both_false : (a b : Bool) → (a || b) ≡ false → (a ≡ false) × (b ≡ false)
 both_false true b h = grind (arith, h)
@@ -50,8 +47,10 @@ unrefused t n (e ∷ before) h own some =
         one true b z k more = grind (arith, z)
         one false true z k more = more
         one false false z k more = grind (arith, k)
+
     kept : list_all (λ x. is_body x || (x.tx == 0)) (of_tenure e.tenure before) ≡ true
     kept = list_all-kept (λ x. is_body x || (x.tx == 0)) (λ x. x.tenure == e.tenure) before (tests_outside before (parts2 (may_follow before e) (is_journal_prefix before) h).1)
+
     -- an entry of the body
     in_body : (w r : Bool) → list_any is_body (of_tenure e.tenure before) ≡ w → list_any is_refused_begin (of_tenure e.tenure before) ≡ r
         → ((not w && is_refused_begin e) || (not (n == 0) && (e.tx == n) && not r)) ≡ true
@@ -62,11 +61,13 @@ unrefused t n (e ∷ before) h own some =
       where
         refused_zero : is_refused_begin e ≡ true → (e.tx == 0) ≡ true
         refused_zero is = (parts2 (is_begin e.call && is_failure e.answer) (e.tx == 0) is).1
+
         numbered : (m z : Bool) (r : Bool) → (e.tx == 0) ≡ z → (not (n == 0) && (e.tx == n) && not r) ≡ true → (z ≡ false) × (r ≡ false)
         numbered m z r is k =
             let a = parts2 (not (n == 0) && (e.tx == n)) (not r) k in
             let b = parts2 (not (n == 0)) (e.tx == n) a.0 in
             (grind (arith, nat_tests, is, b.0, b.1), grind (arith, a.1))
+
         cases : (f : Bool) → is_refused_begin e ≡ f → (w : Bool) → list_any is_body (of_tenure e.tenure before) ≡ w → (z : Bool) → (e.tx == 0) ≡ z → (r : Bool)
             → ((not w && f) || (not (n == 0) && (e.tx == n) && not r)) ≡ true → (not z || list_any (λ x. not (x.tx == 0)) (of_tenure e.tenure before)) ≡ true → (f || r) ≡ false
         cases true fis true worked z zis r k some =
@@ -79,6 +80,7 @@ unrefused t n (e ∷ before) h own some =
             grind (arith, zis, zero_too, none, some)
         cases false fis true worked z zis r k some = (numbered true z r zis k).1
         cases false fis false worked z zis r k some = (numbered true z r zis k).1
+
     go : (b : Bool) → (e.tenure == t) ≡ b → list_all (λ x. same_owner x.owner (Tx n)) (cond b (e ∷ of_tenure t before) (of_tenure t before)) ≡ true
         → list_any (λ x. not (x.tx == 0)) (cond b (e ∷ of_tenure t before) (of_tenure t before)) ≡ true
         → (list_all (λ x. same_owner x.owner (Tx n)) (of_tenure t before) ≡ true → list_any (λ x. not (x.tx == 0)) (of_tenure t before) ≡ true → list_any is_refused_begin (of_tenure t before) ≡ false)
@@ -87,8 +89,8 @@ unrefused t n (e ∷ before) h own some =
     go true at own some more =
         let same : e.tenure ≡ t = eqb→eq e.tenure t (grind (arith, nat_tests, at)) in
         subst (λ (k : ℕ). list_all (λ x. same_owner x.owner (Tx n)) (e ∷ of_tenure k before) ≡ true → list_any (λ x. not (x.tx == 0)) (e ∷ of_tenure k before) ≡ true
-            → (list_all (λ x. same_owner x.owner (Tx n)) (of_tenure k before) ≡ true → list_any (λ x. not (x.tx == 0)) (of_tenure k before) ≡ true → list_any is_refused_begin (of_tenure k before) ≡ false)
-            → list_any is_refused_begin (e ∷ of_tenure k before) ≡ false) same here own some more
+        → (list_all (λ x. same_owner x.owner (Tx n)) (of_tenure k before) ≡ true → list_any (λ x. not (x.tx == 0)) (of_tenure k before) ≡ true → list_any is_refused_begin (of_tenure k before) ≡ false)
+        → list_any is_refused_begin (e ∷ of_tenure k before) ≡ false) same here own some more
       where
         here : list_all (λ x. same_owner x.owner (Tx n)) (e ∷ of_tenure e.tenure before) ≡ true → list_any (λ x. not (x.tx == 0)) (e ∷ of_tenure e.tenure before) ≡ true
             → (list_all (λ x. same_owner x.owner (Tx n)) (of_tenure e.tenure before) ≡ true → list_any (λ x. not (x.tx == 0)) (of_tenure e.tenure before) ≡ true → list_any is_refused_begin (of_tenure e.tenure before) ≡ false)
@@ -113,9 +115,11 @@ unrefused t n (e ∷ before) h own some =
                 non_body : (b c : Bool) → not b ≡ false → (b ⇒ c) ≡ true → c ≡ true
                 non_body true c x k = k
                 non_body false c x k = grind (arith, x)
+
                 never : (b : Bool) → is_begin e.call ≡ b → (b && is_failure e.answer && (e.tx == 0)) ≡ false
                 never true is_b = let only : OnlyBegins e.call = begin-only e.call is_b in grind (arith, only.in_body, is)
                 never false is_b = refl
+
                 first : (a b : Bool) → a ≡ false → b ≡ false → (a || b) ≡ false
                 first true b x y = x
                 first false b x y = y
@@ -131,6 +135,7 @@ open_partly before e h m is = go (is_whole_tenure e.tenure (e ∷ before)) refl
     some_number : (ns : List ℕ) → has m ns ≡ true → is_empty ns ≡ true → true ≡ false
     some_number [] k z = sym k
     some_number (n ∷ ns) k z = sym z
+
     go : (b : Bool) → is_whole_tenure e.tenure (e ∷ before) ≡ b → b ≡ false
     go true whole = some_number (open_in (e ∷ before)) is (sym (has_ended-last (e ∷ before) h) ∙ whole_ended e.tenure (e ∷ before) whole)
     go false whole = refl
@@ -183,6 +188,7 @@ module _ (before : List Entry) (e : Entry) (h : IsJournalPrefix (e ∷ before)) 
       first : (a : Bool) → (a || false) ≡ true → a ≡ true
       first true k = refl
       first false k = k
+
       numbered : (x z k : Bool) → z ≡ false → k ≡ true → ((x && false) || (not z && k && not false)) ≡ true
       numbered x z k zf kt = rw (zf, kt) (last x)
         where

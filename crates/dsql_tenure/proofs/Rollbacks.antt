@@ -1,35 +1,26 @@
 -- In a beginning in which something was answered Bad, the open transactions can be ended, and then it can be shut.
-use Rattle.std.proofs.Common.{◌≡◌, ◌≢◌, ℕ, zero, suc, ◌+◌, ◌<◌, ◌≤◌, Bool, true, false, cond, not, ◌&&◌, ◌||◌, ◌==◌, nat_lt, nat_le, Option, None, Some, List, [], ◌∷◌, ◌++◌, length, append_assoc, refl, sym, ◌∙◌, ap, subst, eqb→eq, IsTrue}
-use Rattle.std.specs.List.{filter, list_all, list_any}
+use Rattle.std.proofs.Common.{◌≡◌, ◌≢◌, ℕ, Bool, true, false, cond, not, ◌&&◌, ◌||◌, ◌==◌, None, Some, List, [], ◌∷◌, refl, sym, ◌∙◌, ap, eqb→eq}
+use Rattle.std.specs.List.{list_all, list_any}
 use native.Mathlib.Omega.{arith}
 use Rattle.std.proofs.lemmas.Bool.Decides.{nat_tests}
 use Rattle.dsql_driver.specs.declared.call.DriverCall.{DriverCall}
-use Rattle.dsql_driver.specs.declared.call.DriverCall.TheVariants.{Valid, Exec, Query, Rollback, Shut}
+use Rattle.dsql_driver.specs.declared.call.DriverCall.TheVariants.{Valid, Exec, Query}
 use Rattle.dsql_driver.specs.declared.call.Input.TheVariants.{Text, Handle}
 use Rattle.dsql_driver.specs.declared.answer.DriverAnswer.{DriverAnswer}
-use Rattle.dsql_driver.specs.declared.answer.DriverAnswer.TheVariants.{Done, Invalid}
+use Rattle.dsql_driver.specs.declared.answer.DriverAnswer.TheVariants.{Invalid}
 use Rattle.dsql_driver.specs.Fits.{fits_of, is_invalid}
 use Rattle.dsql_journal.specs.declared.entry.Entry.{Entry}
-use Rattle.dsql_journal.specs.declared.entry.Owner.{Owner}
-use Rattle.dsql_journal.specs.declared.entry.Owner.TheVariants.{Call, Tx, Pin, House}
-use Rattle.dsql_journal.specs.Entries.{shut_entry}
-use Rattle.dsql_journal.specs.Kinds.{◌⇒◌, if_any, is_valid, is_reset, is_bad, is_begin, is_ending, is_shut, is_house, is_pin, is_tx_number, same_owner}
-use Rattle.dsql_journal.specs.Readers.{is_empty, has, of_tenure, of_transaction, last_tenure, last_owner, begins, begun, ended, went_bad, bad_tenure, went_invalid, was_shut, was_refused}
-use Rattle.dsql_journal.specs.Tenure.{is_whole_tenure, has_ended_transactions, has_closed_cursors, has_closed_handles, is_body, is_refused_begin, body}
-use Rattle.dsql_journal.specs.Tenure as tenure
-use Rattle.dsql_journal.specs.Journal.{may_follow, is_journal_prefix, IsJournalPrefix, IsWhole}
-use Rattle.dsql_journal.specs.Facts.{KeepsBody, MayFollow, MayShut}
+use Rattle.dsql_journal.specs.Kinds.{◌⇒◌, is_valid, is_reset, is_bad, is_shut, is_pin, is_tx_number, same_owner}
+use Rattle.dsql_journal.specs.Readers.{has, of_tenure, last_tenure, begun, went_bad, bad_tenure, went_invalid, was_shut}
+use Rattle.dsql_journal.specs.Tenure.{is_whole_tenure, is_body}
+use Rattle.dsql_journal.specs.Journal.{may_follow, is_journal_prefix, IsJournalPrefix}
 use Rattle.dsql_journal.proofs.Conjunctions.{parts2, join2, if_so}
-use Rattle.dsql_journal.proofs.Beginnings.{IsJournalPrefix-longer}
-use Rattle.dsql_journal.proofs.Tenures.{IsWhole-shut}
 use Rattle.dsql_tenure.specs.Open.{open_in}
-use Rattle.dsql_tenure.proofs.Lists.{list_all-so, list_any-so, list_all-and, list_any-both, list_all-filter, is_empty-filter}
+use Rattle.dsql_tenure.proofs.Lists.{list_all-and, list_any-both, list_all-filter}
 use Rattle.dsql_tenure.proofs.Given.{eqb-refl, list_any-filter, same_owner-refl}
 use Rattle.dsql_tenure.proofs.SoFarRules.{same_owner-is}
-use Rattle.dsql_tenure.proofs.Transactions.{has-open, has-ended, of_transaction-begun}
-use Rattle.dsql_tenure.proofs.Places.{begun-in, has-all, open-in_last, open-last, has_ended-last, whole_ended}
-use Rattle.dsql_tenure.proofs.Owned.{of_one_owner}
-use Rattle.dsql_tenure.proofs.WholeAtOnce.{mayfollow, whole-valid, whole-fell, empty_is}
+use Rattle.dsql_tenure.proofs.Places.{begun-in, has-all, open-in_last}
+use Rattle.dsql_tenure.proofs.WholeAtOnce.{mayfollow, whole-valid, whole-fell}
 
 not_true : (b : Bool) → not b ≡ true → b ≡ false
 not_true true h = sym h
@@ -73,6 +64,7 @@ not_invalid before e h partly open_still = go (is_invalid e.answer) (went_invali
     shut_now : (s : Bool) → s ≡ true → (s || was_shut before) ≡ false → true ≡ false
     shut_now true is k = k
     shut_now false is k = sym is
+
     go : (a b : Bool) → is_invalid e.answer ≡ a → went_invalid before ≡ b → (a || b) ≡ false
     go true b is was =
         let fits : fits_of e.call Invalid ≡ true = ap (λ x. fits_of e.call x) (sym (invalid-is e.answer is)) ∙ (mayfollow before e h).answer.fitting in
@@ -156,6 +148,7 @@ open_owner before e h m is some =
     here =
         sym (list_any-filter (λ x. x.tenure == e.tenure) (λ x. x.tx == m) (e ∷ before))
         ∙ begun-in m e.tenure (e ∷ before) (has-all (λ n. has n (begun (of_tenure e.tenure (e ∷ before)))) m (open_in (e ∷ before)) (open-in_last (e ∷ before) h) is)
+
     ruled : list_all (λ x. ((x.tx == 0) || (is_tx_number x.tx x.owner || is_pin x.owner)) && (not (x.tenure == e.tenure) || same_owner x.owner e.owner)) (e ∷ before) ≡ true
     ruled =
         list_all-and (λ x. (x.tx == 0) || (is_tx_number x.tx x.owner || is_pin x.owner)) (λ x. not (x.tenure == e.tenure) || same_owner x.owner e.owner) (e ∷ before)

@@ -1,16 +1,16 @@
 -- What makes a tenure whole at once, in a beginning of a whole journal.
-use Rattle.std.proofs.Common.{◌≡◌, ◌≢◌, ℕ, ◌<◌, ◌≤◌, Bool, true, false, cond, not, ◌&&◌, ◌||◌, ◌==◌, nat_lt, nat_le, Option, None, Some, List, [], ◌∷◌, length, refl, sym, ◌∙◌, ap, subst, eqb→eq}
-use Rattle.std.specs.List.{filter, list_all, list_any}
+use Rattle.std.proofs.Common.{◌≡◌, ℕ, Bool, true, false, not, ◌&&◌, ◌||◌, ◌==◌, List, [], ◌∷◌, refl, sym, ◌∙◌, eqb→eq}
+use Rattle.std.specs.List.{list_all, list_any}
 use native.Mathlib.Omega.{arith}
 use Rattle.std.proofs.lemmas.Bool.Decides.{nat_tests}
 use Rattle.dsql_driver.specs.declared.call.DriverCall.{DriverCall}
 use Rattle.dsql_driver.specs.declared.call.DriverCall.TheVariants.{Connect, Reset, Valid, CloseStmt, Shut}
 use Rattle.dsql_driver.specs.declared.answer.DriverAnswer.{DriverAnswer}
 use Rattle.dsql_journal.specs.declared.entry.Entry.{Entry}
-use Rattle.dsql_journal.specs.Kinds.{◌⇒◌, if_any, is_valid, is_reset, is_bad, is_begin, is_ending, is_connect, is_close_stmt, is_shut, is_house, is_call, is_number, given_cursor, given_handle, same_owner}
-use Rattle.dsql_journal.specs.Readers.{LiveHandle, LiveCursor, is_empty, has, of_tenure, last_tenure, handles, handles_after, cursors, cursors_after, begins, begun, ended, went_bad, bad_tenure, went_invalid, was_shut}
+use Rattle.dsql_journal.specs.Kinds.{◌⇒◌, is_valid, is_reset, is_bad, is_begin, is_connect, is_close_stmt, is_shut, is_house, is_call, is_number, given_cursor, given_handle, same_owner}
+use Rattle.dsql_journal.specs.Readers.{LiveHandle, LiveCursor, is_empty, of_tenure, handles, handles_after, cursors, cursors_after, went_bad}
 use Rattle.dsql_journal.specs.Tenure.{is_whole_tenure, has_ended_transactions, has_closed_cursors, has_closed_handles}
-use Rattle.dsql_driver.specs.Fits.{is_done, is_invalid, fits_of}
+use Rattle.dsql_driver.specs.Fits.{is_done}
 use Rattle.dsql_journal.specs.Journal.{may_follow, is_journal_prefix, IsJournalPrefix}
 use Rattle.dsql_journal.specs.Facts.{MayFollow}
 use Rattle.dsql_journal.proofs.Conjunctions.{parts2, join2, if_so}

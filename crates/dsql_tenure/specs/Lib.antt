@@ -10,3 +10,4 @@ pub mod Heard
 pub mod Flags
 pub mod Sent
 pub mod Judged
+pub mod Ends

@@ -9,6 +9,7 @@ mod hear;
 mod heard;
 mod judge;
 mod kinds;
+pub mod laws;
 mod past;
 mod rules;
 mod so_far;
