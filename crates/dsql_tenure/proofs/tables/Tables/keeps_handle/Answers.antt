@@ -1,0 +1,16 @@
+use Rattle.std.proofs.Common.{refl, ◌==◌, ◌&&◌, ◌||◌, not, List, ◌∙◌, ap}
+use Rattle.std.specs.List.{list_all, list_any}
+use Rattle.dsql_tenure.specs.declared.tables.Handle.{Handle}
+use Rattle.dsql_tenure.specs.Asked.{entry_like}
+use Rattle.dsql_tenure.specs.Parts.{serves_handle}
+use Rattle.dsql_tenure.proofs.Served.{handle_served}
+use Rattle.dsql_tenure.proofs.tables.Tables.keeps_handle.Goals as goal
+
+pub returns-in-Some : goal.returns-in-Some
+returns-in-Some c =
+    let t = c.args.self.now in
+    let e = entry_like c.args.asked.now in
+    c.serves_handle.ensures
+    ∙ ap (λ (hs : List Handle). list_any (λ h. h.number == c.in-Some.n) hs && list_all (λ h. not (h.number == c.in-Some.n) || serves_handle h e) hs) c.deref.ensures.value
+    ∙ handle_served t c.requires e c.in-Some.n
+    ∙ rw (← c.in-Some.ensures) refl

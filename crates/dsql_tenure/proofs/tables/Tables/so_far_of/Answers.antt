@@ -1,0 +1,16 @@
+use Rattle.std.proofs.Common.{◌<◌, List, ◌∙◌, ap, sym}
+use native.Mathlib.Omega.{arith}
+use Rattle.std.proofs.lemmas.Bool.Decides.{nat_tests}
+use Rattle.dsql_journal.specs.declared.entry.Entry.{Entry}
+use Rattle.dsql_journal.specs.Readers.{last_tenure}
+use Rattle.dsql_journal.proofs.Tenures.{of_tenure-new}
+use Rattle.dsql_tenure.specs.SoFar.{so_far}
+use Rattle.dsql_tenure.specs.Tables.{past, keeps_of}
+use Rattle.dsql_tenure.proofs.tables.Tables.so_far_of.Goals as goal
+
+pub returns-else-n-self : goal.returns-else-n-self
+returns-else-n-self c =
+    let t = c.args.self.now in
+    let last = (keeps_of t c.requires.stands).tenure in
+    let above : last_tenure (past t) < c.args.n = grind (arith, nat_tests, last, c.requires.last, c.if-n-self.false) in
+    c.nothing.ensures ∙ ap (λ (xs : List Entry). so_far xs) (sym (of_tenure-new c.args.n (past t) (keeps_of t c.requires.stands).prefix above))

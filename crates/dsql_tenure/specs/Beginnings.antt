@@ -1,0 +1,39 @@
+-- The journals of one connection: their beginnings, and where they stand.
+use Rattle.std.specs.Prelude.{ℕ, Bool, true, false, ◌&&◌, not, ◌==◌, IsTrue, List, [], ◌∷◌, if◌then◌else◌}
+use Rattle.std.specs.List.{list_all, list_any}
+use Rattle.dsql_journal.specs.declared.entry.Entry.{Entry}
+use Rattle.dsql_journal.specs.declared.entry.Owner.{Owner}
+use Rattle.dsql_journal.specs.declared.entry.Owner.TheVariants.{Call, Tx, Pin, House}
+use Rattle.dsql_journal.specs.Kinds.{is_reset, is_valid, is_shut, is_bad, is_house}
+use Rattle.dsql_journal.specs.Readers.{has, of_tenure, begun, ended, went_bad}
+use Rattle.dsql_journal.specs.Journal.{is_journal_prefix}
+use Rattle.dsql_tenure.specs.declared.fault.Phase.{Phase}
+use Rattle.dsql_tenure.specs.declared.fault.Phase.TheVariants.{Before, Between, Inside, After}
+
+-- it is a beginning of a whole journal of connection c
+abbrev pub is_beginning_of : ℕ → List Entry → Bool
+is_beginning_of c journal = is_journal_prefix journal && list_all (λ x. x.conn == c) journal
+
+abbrev pub IsBeginningOf : ℕ → List Entry → Type 0
+IsBeginningOf c journal = IsTrue (is_beginning_of c journal)
+
+-- after a Bad answer a tenure of this owner can have a further entry: what ends its transaction, or a pinned connection's own
+abbrev pub can_grow_when_bad : Owner → List Entry → Bool
+can_grow_when_bad (Tx n) journal = has n (begun journal) && not (has n (ended journal))
+can_grow_when_bad (Pin n) journal = true
+can_grow_when_bad (Call n) journal = false
+can_grow_when_bad House journal = false
+
+-- the last tenure can have a further entry
+abbrev pub can_grow : List Entry → Bool
+can_grow [] = false
+can_grow (e ∷ before) =
+    let journal : List Entry = e ∷ before in
+    not (list_any (λ x. is_valid x.call) (of_tenure e.tenure journal))
+    && not (list_any (λ x. is_reset x.call && is_bad x.answer) (of_tenure e.tenure journal))
+    && (if went_bad journal then can_grow_when_bad e.owner journal else not (is_house e.owner))
+
+-- no Connect was heard yet, Shut was heard, the last tenure can grow, or none can
+abbrev pub phase : List Entry → Phase
+phase [] = Before
+phase (e ∷ before) = if is_shut e.call then After else if can_grow (e ∷ before) then Inside else Between

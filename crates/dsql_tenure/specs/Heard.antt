@@ -1,0 +1,58 @@
+-- What an entry changes in what is kept of live handles and cursors.
+use Rattle.std.specs.Prelude.{ℕ, true, false, not, ◌==◌, Option, Some, None, List, ◌∷◌, length, map, if◌then◌else◌}
+use Rattle.std.specs.List.{filter}
+use Rattle.dsql_driver.specs.declared.call.DriverCall.{DriverCall}
+use Rattle.dsql_driver.specs.declared.call.DriverCall.TheVariants.{Prepare, CloseStmt, Query, Next, CloseRows}
+use Rattle.dsql_driver.specs.declared.answer.DriverAnswer.{DriverAnswer}
+use Rattle.dsql_driver.specs.declared.answer.DriverAnswer.TheVariants.{Prepared, Cursor}
+use Rattle.dsql_journal.specs.declared.entry.Entry.{Entry}
+use Rattle.dsql_journal.specs.Kinds.{is_over}
+use Rattle.dsql_tenure.specs.declared.tables.Handle.{Handle}
+use Rattle.dsql_tenure.specs.declared.tables.Cursor as kept
+
+-- the handle that a Prepare was answered
+abbrev pub prepared_by : DriverCall → DriverAnswer → Option ℕ
+prepared_by (Prepare text) (Prepared handle inputs) = Some handle
+prepared_by _ _ = None
+
+-- the handle that is closed
+abbrev pub closed_by : DriverCall → Option ℕ
+closed_by (CloseStmt handle) = Some handle
+closed_by _ = None
+
+-- the cursor that a Query was answered
+abbrev pub opened_by : DriverCall → DriverAnswer → Option ℕ
+opened_by (Query input params) (Cursor rows columns) = Some rows
+opened_by _ _ = None
+
+-- the number of columns that an answer has
+abbrev pub columns_of : DriverAnswer → ℕ
+columns_of (Cursor rows columns) = length columns
+columns_of _ = 0
+
+-- the cursor whose rows are closed
+abbrev pub freed_by : DriverCall → Option ℕ
+freed_by (CloseRows rows) = Some rows
+freed_by _ = None
+
+-- the cursor whose rows are over
+abbrev pub finished_by : DriverCall → DriverAnswer → Option ℕ
+finished_by (Next rows) answer = if is_over answer then Some rows else None
+finished_by _ _ = None
+
+-- with a handle that is given, and without one that is closed
+abbrev pub handles_with : Option ℕ → Option ℕ → Entry → List Handle → List Handle
+handles_with (Some n) closed e hs = record { number = n; tenure = e.tenure; owner = e.owner; tx = e.tx } ∷ hs
+handles_with None (Some n) e hs = filter (λ h. not (h.number == n)) hs
+handles_with None None e hs = hs
+
+-- a cursor, over if it has that number
+abbrev pub over_if : ℕ → kept.Cursor → kept.Cursor
+over_if n c = if c.number == n then record c { over = true } else c
+
+-- with a cursor that is given, without one that is closed, and with the rows of one over
+abbrev pub cursors_with : Option ℕ → Option ℕ → Option ℕ → Entry → List kept.Cursor → List kept.Cursor
+cursors_with (Some n) freed finished e cs = record { number = n; tenure = e.tenure; tx = e.tx; columns = columns_of e.answer; over = false } ∷ cs
+cursors_with None (Some n) finished e cs = filter (λ c. not (c.number == n)) cs
+cursors_with None None (Some n) e cs = map (over_if n) cs
+cursors_with None None None e cs = cs

@@ -1,0 +1,13 @@
+pub mod Beginnings
+pub mod Asked
+pub mod SoFar
+pub mod Open
+pub mod Tables
+pub mod Parts
+pub mod TenureParts
+pub mod MayBeAsked
+pub mod Heard
+pub mod Flags
+pub mod Sent
+pub mod Judged
+pub mod Ends

@@ -1,0 +1,44 @@
+-- What the entries of a tenure tell of it, the newest first.
+use Rattle.std.specs.Prelude.{ℕ, ◌&&◌, not, ◌==◌, max, Option, Some, None, List, [], ◌∷◌, if◌then◌else◌}
+use Rattle.std.specs.List.{list_any}
+use Rattle.dsql_driver.specs.Fits.{is_skip}
+use Rattle.dsql_journal.specs.declared.entry.Entry.{Entry}
+use Rattle.dsql_journal.specs.Kinds.{is_bad, is_reset, is_valid, is_ping, is_prepare, runs_text, given_handle}
+use Rattle.dsql_journal.specs.Readers.{last_owner, went_bad}
+use Rattle.dsql_journal.specs.Tenure.{is_body, place, is_refused_begin}
+use Rattle.dsql_tenure.specs.declared.so_far.Prepared.{Prepared}
+use Rattle.dsql_tenure.specs.declared.so_far.Prepared.TheVariants.{Nothing, Handle, Otherwise}
+use Rattle.dsql_tenure.specs.declared.so_far.SoFar.{SoFar}
+
+-- the highest place that an entry has
+abbrev pub last_place : List Entry → ℕ
+last_place [] = 0
+last_place (e ∷ earlier) = max (place e.call) (last_place earlier)
+
+-- with one Prepare more, which gave this
+abbrev pub prepared_with : Option ℕ → Prepared → Prepared
+prepared_with (Some h) Nothing = Handle h
+prepared_with (Some h) (Handle k) = if h == k then Handle k else Otherwise
+prepared_with (Some h) Otherwise = Otherwise
+prepared_with None others = Otherwise
+
+-- the handles that its Prepares gave
+abbrev pub prepared : List Entry → Prepared
+prepared [] = Nothing
+prepared (e ∷ earlier) = if is_prepare e.call then prepared_with (given_handle e.answer) (prepared earlier) else prepared earlier
+
+-- all that is kept of it
+abbrev pub so_far : List Entry → SoFar
+so_far earlier =
+    record {
+      owner = last_owner earlier;
+      tested = list_any (λ x. is_valid x.call) earlier;
+      fell = list_any (λ x. is_reset x.call && is_bad x.answer) earlier;
+      bad = went_bad earlier;
+      pinged = list_any (λ x. is_ping x.call) earlier;
+      worked = list_any is_body earlier;
+      place = last_place earlier;
+      ran = list_any (λ x. runs_text x.call && not (is_skip x.answer)) earlier;
+      prepared = prepared earlier;
+      refused = list_any is_refused_begin earlier;
+    }

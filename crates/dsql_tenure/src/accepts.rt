@@ -1,0 +1,203 @@
+//! What may come next, by the tables.
+ghost use Rattle.std.specs.Prelude.{◌≡◌, ◌&&◌, ◌||◌, ◌==◌, not, length, Some, ◌∷◌};
+ghost use Rattle.std.specs.List.{list_all};
+ghost use Rattle.dsql_driver.specs.Fits.{is_memory};
+ghost use Rattle.dsql_journal.specs.HandlesAndCursors as handles;
+ghost use Rattle.dsql_journal.specs.Journal.{may_follow};
+ghost use Rattle.dsql_journal.specs.Kinds.{is_ending, is_connect, is_shut};
+ghost use Rattle.dsql_journal.specs.Permits.{entry_of};
+ghost use Rattle.dsql_journal.specs.Readers.{last_owner};
+ghost use Rattle.dsql_tenure.specs.Asked.{answer_like, entry_like};
+ghost use Rattle.dsql_tenure.specs.Beginnings.{phase, can_grow, is_beginning_of};
+ghost use Rattle.dsql_tenure.specs.MayBeAsked as may;
+ghost use Rattle.dsql_tenure.specs.Sent.{may_send};
+
+use crate::asked::{Asked, Outcome};
+use crate::fault::Phase;
+use crate::kinds::{cursor_of, given_cursor, given_handle, is_begin, is_house, is_valid};
+use crate::rules::{has_cursor, has_handle};
+use crate::tables::{Cursor, Tables};
+use dsql_driver::{DriverAnswer, fits};
+use dsql_journal::{Entry, Owner, Permit};
+
+#[tactic(auto, unfolding(crate::specs::Tables::Stands))]
+impl Tables {
+    ghost use Rattle.dsql_tenure.specs.Tables.{past, Stands};
+
+    /// With this entry the journal is a beginning of a whole journal of the connection.
+    pub fn accepts(&self, entry: &Entry) -> bool
+        requires { Stands self.now }
+        ensures { result ≡ is_beginning_of self.now.conn (entry.now ∷ past self.now) }
+    {
+        entry.conn == self.conn && self.may_follow(entry)
+    }
+
+    /// The entry may come next.
+    fn may_follow(&self, entry: &Entry) -> bool
+        requires stands { Stands self.now }
+        requires conn { entry.now.conn ≡ self.now.conn }
+        ensures { result ≡ may_follow (past self.now) entry.now }
+    {
+        self.may_be_asked(&Asked::of(entry)) && self.fits_at_its_place(entry)
+    }
+
+    /// All that is asked of an entry beside that its answer fits.
+    pub fn may_be_asked(&self, asked: &Asked<'_>) -> bool
+        requires stands { Stands self.now }
+        requires conn { asked.now.conn ≡ self.now.conn }
+        ensures { result ≡ may.may_be_asked (past self.now) (entry_like asked.now) }
+    {
+        if !self.keeps_whole_journal(asked) {
+            return false;
+        }
+        if !self.keeps_handles_and_cursors(asked) {
+            return false;
+        }
+        self.keeps_tenure(asked) && self.keeps_transaction(asked)
+    }
+
+    /// Each fitting answer to the permit's call may come next. A failure stands for all answers that give
+    /// nothing, and a Valid has no failure. A Begin makes its transaction only where it is answered Done.
+    pub fn may_send(&self, permit: &Permit) -> bool
+        requires { Stands self.now }
+        ensures { result ≡ may_send self.now.conn (past self.now) permit.now }
+    {
+        if permit.conn != self.conn {
+            return false;
+        }
+        if is_valid(&permit.call) {
+            return self.may_be_answered(permit, permit.tx, Outcome::Done);
+        }
+        if is_begin(&permit.call) {
+            return self.may_be_answered(permit, permit.tx, Outcome::Done)
+                && self.may_be_answered(permit, 0, Outcome::Failed);
+        }
+        self.may_be_answered(permit, permit.tx, Outcome::Failed)
+    }
+
+    /// It may come next with this transaction and outcome, if the answer fits at its place.
+    fn may_be_answered(&self, permit: &Permit, tx: u32, outcome: Outcome) -> bool
+        requires stands { Stands self.now }
+        requires conn { permit.now.conn ≡ self.now.conn }
+        ensures { result ≡ may.may_be_asked (past self.now) (record (entry_of permit.now (answer_like outcome)) { tx = tx }) }
+    {
+        self.may_be_asked(&Asked {
+            conn: permit.conn,
+            tenure: permit.tenure,
+            owner: permit.owner,
+            call_no: permit.call_no,
+            tx,
+            call: &permit.call,
+            outcome,
+        })
+    }
+
+    /// Where the journal stands.
+    pub fn phase(&self) -> Phase
+        requires { Stands self.now }
+        ensures { result ≡ phase (past self.now) }
+    {
+        let Some(owner) = self.so_far.owner else {
+            return Phase::Before;
+        };
+        if self.shut {
+            Phase::After
+        } else if self.can_grow(owner) {
+            Phase::Inside
+        } else {
+            Phase::Between
+        }
+    }
+
+    /// The last tenure can have a further entry.
+    fn can_grow(&self, owner: Owner) -> bool
+        requires stands { Stands self.now }
+        requires owner { last_owner (past self.now) ≡ Some owner }
+        ensures { result ≡ can_grow (past self.now) }
+    {
+        if self.so_far.tested || self.so_far.fell {
+            return false;
+        }
+        if !self.went_bad() {
+            return !is_house(owner);
+        }
+        match owner {
+            Owner::Tx(n) => self.is_open(n),
+            Owner::Pin(_) => true,
+            Owner::Call(_) | Owner::House => false,
+        }
+    }
+
+    /// The answer fits at its place.
+    fn fits_at_its_place(&self, entry: &Entry) -> bool
+        requires { Stands self.now }
+        ensures { result ≡ handles.fits_at_its_place (past self.now) entry.now }
+    {
+        is_answer(entry) && self.gives_new(entry) && self.has_width_of_cursor(entry)
+    }
+
+    /// A handle or cursor that it gives isn't live already.
+    fn gives_new(&self, entry: &Entry) -> bool
+        requires { Stands self.now }
+        ensures { result ≡ may.gives_new (past self.now) entry.now }
+    {
+        self.gives_new_handle(entry) && self.gives_new_cursor(entry)
+    }
+
+    fn gives_new_handle(&self, entry: &Entry) -> bool
+        requires { Stands self.now }
+        ensures { result ≡ handles.gives_new_handle (past self.now) entry.now }
+    {
+        match given_handle(&entry.answer) {
+            Some(n) => !has_handle(&self.handles, n),
+            None => true,
+        }
+    }
+
+    fn gives_new_cursor(&self, entry: &Entry) -> bool
+        requires { Stands self.now }
+        ensures { result ≡ handles.gives_new_cursor (past self.now) entry.now }
+    {
+        match given_cursor(&entry.answer) {
+            Some(n) => !has_cursor(&self.cursors, n),
+            None => true,
+        }
+    }
+
+    /// A Row has as many values as its cursor has columns.
+    fn has_width_of_cursor(&self, entry: &Entry) -> bool
+        requires { Stands self.now }
+        ensures { result ≡ handles.has_width_of_cursor (past self.now) entry.now }
+    {
+        match cursor_of(&entry.call) {
+            Some(n) => is_as_wide(&self.cursors, n, &entry.answer),
+            None => true,
+        }
+    }
+}
+
+/// The table of shapes has this answer for its call, and it isn't want of memory.
+fn is_answer(entry: &Entry) -> bool
+    ensures { result ≡ may.is_answer entry.now }
+{
+    !matches!(entry.answer, DriverAnswer::Memory) && fits(&entry.call, &entry.answer)
+}
+
+/// Each live cursor of that number has as many columns as the answer has values, if it is a Row.
+fn is_as_wide(cursors: &[Cursor], n: u32, answer: &DriverAnswer) -> bool
+    ensures { result ≡ list_all (λ c. not (c.number == n) || may.is_as_wide answer.now c) cursors.now }
+{
+    match answer {
+        DriverAnswer::Row(values) => has_columns(cursors, n, values.as_slice().len()),
+        _ => true,
+    }
+}
+
+/// Each live cursor of that number has so many columns.
+fn has_columns(cursors: &[Cursor], n: u32, columns: usize) -> bool
+    ensures { result ≡ list_all (λ c. not (c.number == n) || (c.columns == columns)) cursors.now }
+{
+    cursors
+        .iter()
+        .all(|c| c.number != n || c.columns == columns)
+}

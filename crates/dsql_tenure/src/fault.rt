@@ -1,0 +1,22 @@
+use thiserror::Error;
+
+/// Where a journal stands: no Connect was heard yet, no tenure can have a further entry, the last one
+/// can, or Shut was heard.
+#[derive(Clone, Copy, Debug, PartialEq, Eq)]
+pub enum Phase {
+    Before,
+    Between,
+    Inside,
+    After,
+}
+
+/// Why an entry wasn't taken. Nothing changed.
+#[derive(Clone, Copy, Debug, PartialEq, Eq, Error)]
+pub enum JudgeFault {
+    /// No whole journal goes on like this. The phase and the last tenure's number, 0 where there is none,
+    /// say where the journal stood.
+    #[error("a stray entry behind tenure {tenure}")]
+    Stray { phase: Phase, tenure: u32 },
+    #[error("out of memory")]
+    Memory,
+}

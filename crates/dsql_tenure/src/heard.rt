@@ -1,0 +1,200 @@
+//! What one entry more changes in the tables.
+ghost use Rattle.std.specs.Prelude.{◌≡◌, ◌+◌, ◌<◌, ◌≤◌, ◌∷◌, ◌&&◌, not, ◌==◌, vec_len, vec_capacity, map, filter};
+ghost use Rattle.dsql_journal.specs.Readers.{begins};
+ghost use Rattle.dsql_tenure.specs.Heard as heard;
+ghost use Rattle.dsql_tenure.specs.Open.{open_after};
+
+use crate::kinds::{is_begin, is_done, is_ending, is_over};
+use crate::tables::{Cursor, Handle};
+use dsql_driver::{DriverAnswer, DriverCall};
+use dsql_journal::Entry;
+
+/// The handle that a Prepare was answered.
+fn prepared_by(entry: &Entry) -> Option<u32>
+    ensures { result ≡ heard.prepared_by entry.now.call entry.now.answer }
+{
+    match (&entry.call, &entry.answer) {
+        (DriverCall::Prepare(_), DriverAnswer::Prepared { handle, .. }) => Some(*handle),
+        _ => None,
+    }
+}
+
+/// The handle that is closed.
+fn closed_by(entry: &Entry) -> Option<u32>
+    ensures { result ≡ heard.closed_by entry.now.call }
+{
+    match &entry.call {
+        DriverCall::CloseStmt(handle) => Some(*handle),
+        _ => None,
+    }
+}
+
+/// The cursor that a Query was answered.
+fn opened_by(entry: &Entry) -> Option<u32>
+    ensures { result ≡ heard.opened_by entry.now.call entry.now.answer }
+{
+    match (&entry.call, &entry.answer) {
+        (DriverCall::Query(_, _), DriverAnswer::Cursor { rows, .. }) => Some(*rows),
+        _ => None,
+    }
+}
+
+/// The number of columns that an answer has.
+fn columns_of(answer: &DriverAnswer) -> usize
+    ensures { result ≡ heard.columns_of answer.now }
+{
+    match answer {
+        DriverAnswer::Cursor { columns, .. } => columns.as_slice().len(),
+        _ => 0,
+    }
+}
+
+/// The cursor whose rows are closed.
+fn freed_by(entry: &Entry) -> Option<u32>
+    ensures { result ≡ heard.freed_by entry.now.call }
+{
+    match &entry.call {
+        DriverCall::CloseRows(rows) => Some(*rows),
+        _ => None,
+    }
+}
+
+/// The cursor whose rows are over.
+fn finished_by(entry: &Entry) -> Option<u32>
+    ensures { result ≡ heard.finished_by entry.now.call entry.now.answer }
+{
+    match &entry.call {
+        DriverCall::Next(rows) if is_over(&entry.answer) => Some(*rows),
+        _ => None,
+    }
+}
+
+/// A handle that was given is live, and one that was closed isn't.
+pub fn hear_handles(handles: &mut Vec<Handle>, entry: &Entry)
+    requires { vec_len handles.old < vec_capacity handles.old }
+    ensures items { handles.new.items ≡ heard.handles_with (heard.prepared_by entry.now.call entry.now.answer) (heard.closed_by entry.now.call) entry.now handles.old.items }
+    ensures len { vec_len handles.new ≤ vec_len handles.old + 1 }
+    ensures capacity { vec_capacity handles.new ≡ vec_capacity handles.old }
+{
+    match (prepared_by(entry), closed_by(entry)) {
+        (Some(number), _) => put_first(
+            handles,
+            Handle {
+                number,
+                tenure: entry.tenure,
+                owner: entry.owner,
+                tx: entry.tx,
+            },
+        ),
+        (None, Some(number)) => drop_handle(handles, number),
+        (None, None) => {}
+    }
+}
+
+fn drop_handle(handles: &mut Vec<Handle>, n: u32)
+    ensures items { handles.new.items ≡ filter (λ h. not (h.number == n)) handles.old.items }
+    ensures len { vec_len handles.new ≤ vec_len handles.old }
+    ensures capacity { vec_capacity handles.new ≡ vec_capacity handles.old }
+{
+    handles.retain(|h| h.number != n);
+}
+
+/// A cursor that was given is live, one that was closed isn't, and one with no further row is over.
+pub fn hear_cursors(cursors: &mut Vec<Cursor>, entry: &Entry)
+    requires { vec_len cursors.old < vec_capacity cursors.old }
+    ensures items { cursors.new.items ≡ heard.cursors_with (heard.opened_by entry.now.call entry.now.answer) (heard.freed_by entry.now.call) (heard.finished_by entry.now.call entry.now.answer) entry.now cursors.old.items }
+    ensures len { vec_len cursors.new ≤ vec_len cursors.old + 1 }
+    ensures capacity { vec_capacity cursors.new ≡ vec_capacity cursors.old }
+{
+    match (opened_by(entry), freed_by(entry), finished_by(entry)) {
+        (Some(number), _, _) => put_first(
+            cursors,
+            Cursor {
+                number,
+                tenure: entry.tenure,
+                tx: entry.tx,
+                columns: columns_of(&entry.answer),
+                over: false,
+            },
+        ),
+        (None, Some(number), _) => drop_cursor(cursors, number),
+        (None, None, Some(number)) => end_cursor(cursors, number),
+        (None, None, None) => {}
+    }
+}
+
+fn drop_cursor(cursors: &mut Vec<Cursor>, n: u32)
+    ensures items { cursors.new.items ≡ filter (λ c. not (c.number == n)) cursors.old.items }
+    ensures len { vec_len cursors.new ≤ vec_len cursors.old }
+    ensures capacity { vec_capacity cursors.new ≡ vec_capacity cursors.old }
+{
+    cursors.retain(|c| c.number != n);
+}
+
+impl Cursor {
+    /// The same, over if it has that number.
+    fn over_if(self, n: u32) -> Cursor
+        ensures { result ≡ heard.over_if n self }
+    {
+        if self.number == n {
+            Cursor { over: true, ..self }
+        } else {
+            self
+        }
+    }
+}
+
+fn end_cursor(cursors: &mut Vec<Cursor>, n: u32)
+    ensures items { cursors.new.items ≡ map (heard.over_if n) cursors.old.items }
+    ensures len { vec_len cursors.new ≡ vec_len cursors.old }
+    ensures capacity { vec_capacity cursors.new ≡ vec_capacity cursors.old }
+{
+    end_each(cursors.as_mut_slice(), n);
+}
+
+fn end_each(cursors: &mut [Cursor], n: u32)
+    ensures { cursors.new ≡ map (heard.over_if n) cursors.old }
+{
+    for c in cursors.iter_mut() {
+        *c = c.over_if(n);
+    }
+}
+
+/// A transaction that was begun is open, and one with its Commit or Rollback isn't.
+pub fn hear_open(numbers: &mut Vec<u32>, entry: &Entry)
+    requires { vec_len numbers.old < vec_capacity numbers.old }
+    ensures items { numbers.new.items ≡ open_after entry.now numbers.old.items }
+    ensures len { vec_len numbers.new ≤ vec_len numbers.old + 1 }
+    ensures capacity { vec_capacity numbers.new ≡ vec_capacity numbers.old }
+{
+    if begins(entry) {
+        put_first(numbers, entry.tx);
+    } else if is_ending(&entry.call) {
+        drop_number(numbers, entry.tx);
+    }
+}
+
+/// A Begin answered Done.
+pub fn begins(entry: &Entry) -> bool
+    ensures { result ≡ begins entry.now }
+{
+    is_begin(&entry.call) && is_done(&entry.answer)
+}
+
+fn drop_number(numbers: &mut Vec<u32>, n: u32)
+    ensures items { numbers.new.items ≡ filter (λ m. not (m == n)) numbers.old.items }
+    ensures len { vec_len numbers.new ≤ vec_len numbers.old }
+    ensures capacity { vec_capacity numbers.new ≡ vec_capacity numbers.old }
+{
+    numbers.retain(|m| *m != n);
+}
+
+/// Puts an element first, where there is room.
+fn put_first<T: Drop>(v: &mut Vec<T>, x: T)
+    requires { vec_len v.old < vec_capacity v.old }
+    ensures items { v.new.items ≡ x ∷ v.old.items }
+    ensures len { vec_len v.new ≡ vec_len v.old + 1 }
+    ensures capacity { vec_capacity v.new ≡ vec_capacity v.old }
+{
+    let _ = v.insert(0, x);
+}

@@ -1,0 +1,97 @@
+ghost use Rattle.std.specs.Prelude.{◌≡◌, ◌+◌, ◌≤◌, ◌∷◌, ◌↔◌, [], IsTrue, OnOk, OnErr, IfErr};
+ghost use Rattle.dsql_journal.specs.Journal.{is_whole};
+ghost use Rattle.dsql_tenure.specs.Beginnings.{IsBeginningOf};
+
+use crate::fault::{JudgeFault, Phase};
+use crate::tables::Tables;
+use dsql_journal::{Entry, Permit};
+use dsql_value::Memory;
+use std::alloc::Global;
+use std::marker::Model;
+
+/// The judge of one connection's journal. Contracts see its connection, the journal so far, the newest
+/// entry first, and for how many entries it has memory.
+#[derive(Drop)]
+pub struct Judge {
+    tables: Tables,
+}
+
+impl Model for Judge {
+    ghost use Rattle.dsql_tenure.specs.Judged.{Judged};
+
+    ghost Value = { Judged };
+
+    ghost use Rattle.dsql_tenure.specs.Tables.{past, Stands};
+
+    ghost view = { λ j. record { conn = j.tables.conn; journal = past j.tables; spare = j.tables.room } };
+
+    ghost invariant = { λ j. Stands j.tables };
+}
+
+impl Judge {
+    ghost use Rattle.dsql_tenure.specs.Judged.{Refuses, MaySend, kept};
+
+    /// The judge of a connection that nothing was heard of yet. It takes no memory.
+    pub fn new(alloc: Global, conn: u32) -> Judge
+        ensures conn { result.conn ≡ conn }
+        ensures journal { result.journal ≡ [] }
+    {
+        Judge {
+            tables: Tables::new(alloc, conn),
+        }
+    }
+
+    /// Hears the entry that comes next, if the journal stays a beginning of a whole one. Otherwise nothing
+    /// changes.
+    pub fn next(&mut self, entry: &Entry) -> Result<(), JudgeFault>
+        ensures ok { OnOk result (self.new.journal ≡ entry.now ∷ self.old.journal) }
+        ensures refused { IfErr result (Refuses self.old entry.now) }
+        ensures err { OnErr result (self.new.journal ≡ self.old.journal) }
+        ensures conn { self.new.conn ≡ self.old.conn }
+        ensures spare { self.old.spare ≤ self.new.spare + 1 }
+        ensures beginning { IsBeginningOf self.new.conn self.new.journal }
+    {
+        if !self.tables.accepts(entry) {
+            return Err(JudgeFault::Stray {
+                phase: self.tables.phase(),
+                tenure: self.tables.tenure,
+            });
+        }
+        if let Err(Memory) = self.tables.reserve(1) {
+            return Err(JudgeFault::Memory);
+        }
+        self.tables.hear(entry);
+        Ok(())
+    }
+
+    /// Each answer that fits the permit's call at its place would be accepted.
+    pub fn may_send(&self, permit: &Permit) -> bool
+        ensures { IsTrue result ↔ MaySend self.now permit.now }
+    {
+        self.tables.may_send(permit)
+    }
+
+    /// The journal is whole.
+    pub fn may_stop(&self) -> bool
+        ensures { result ≡ is_whole self.now.journal }
+    {
+        self.tables.refused || self.tables.shut
+    }
+
+    /// Takes memory for so many entries more. The room that it has is enough where it answers Ok.
+    pub fn reserve(&mut self, calls: u32) -> Result<(), Memory>
+        ensures ok { OnOk result (calls ≤ self.new.spare) }
+        ensures journal { self.new.journal ≡ self.old.journal }
+        ensures conn { self.new.conn ≡ self.old.conn }
+        ensures spare { self.old.spare ≤ self.new.spare }
+    {
+        self.tables.reserve(calls)
+    }
+
+    /// How many handles and cursors are live, and how many transactions were begun.
+    pub fn held(&self) -> u64
+        ensures { result ≡ kept self.now.journal }
+    {
+        self.tables.held()
+    }
+}

@@ -1,0 +1,25 @@
+//! The judge of a connection's journal: it hears the entries one at a time, and accepts exactly those
+//! that keep the journal a beginning of a whole one.
+#![tactic(auto)]
+
+mod accepts;
+mod asked;
+mod fault;
+mod hear;
+mod heard;
+mod judge;
+mod kinds;
+pub mod laws;
+mod past;
+mod rules;
+mod so_far;
+mod tables;
+mod tenure;
+mod transaction;
+
+pub use dsql_journal::{Entry, Owner, Permit};
+pub use fault::{JudgeFault, Phase};
+pub use judge::Judge;
+
+#[cfg(test)]
+mod tests;

@@ -1,0 +1,269 @@
+//! The rules of a journal, each by the tables: what is asked of the entry that comes next, whatever it
+//! was answered.
+ghost use Rattle.std.specs.Prelude.{◌≡◌, ◌<◌, ◌≤◌, ◌&&◌, ◌||◌, ◌==◌, not, nat_lt, Bool, true, IsTrue};
+ghost use Rattle.std.specs.List.{list_all, list_any};
+ghost use Rattle.dsql_journal.specs.HandlesAndCursors.{keeps_handles_and_cursors};
+ghost use Rattle.dsql_journal.specs.Kinds as kind;
+ghost use Rattle.dsql_journal.specs.Readers as told;
+ghost use Rattle.dsql_journal.specs.Readers.{last_tenure};
+ghost use Rattle.dsql_journal.specs.Tenure as tenure;
+ghost use Rattle.dsql_journal.specs.Transaction as transaction;
+ghost use Rattle.dsql_journal.specs.WholeJournal as whole;
+ghost use Rattle.dsql_tenure.specs.Asked.{entry_like};
+ghost use Rattle.dsql_tenure.specs.Parts as part;
+
+use crate::asked::{Asked, Outcome};
+use crate::kinds::{
+    cursor_of, handle_of, is_begin, is_call, is_close_rows, is_close_stmt, is_connect, is_ending,
+    is_house, is_next, is_ping, is_prepare, is_reset, is_shut, is_valid, is_work, owns_transaction,
+    place, runs_handle, same_owner,
+};
+use crate::so_far::{Prepared, SoFar};
+use crate::tables::{Cursor, Handle, Tables};
+use dsql_journal::Owner;
+
+/// The order of a whole journal.
+#[tactic(auto, unfolding(crate::specs::Tables::Stands))]
+impl Tables {
+    ghost use Rattle.dsql_tenure.specs.Tables.{past, Stands};
+    ghost use Rattle.dsql_tenure.specs.Parts.{keeps_order, goes_on, begins_well, rises, keeps_bad};
+
+    /// Whether something was answered Bad.
+    pub fn went_bad(&self) -> bool
+        requires { Stands self.now }
+        ensures { result ≡ told.went_bad (past self.now) }
+    {
+        self.bad_tenure.is_some()
+    }
+
+    /// The tenure could end here.
+    pub fn is_whole_tenure(&self, n: u32) -> bool
+        requires stands { Stands self.now }
+        requires last { last_tenure (past self.now) ≤ n }
+        ensures { result ≡ tenure.is_whole_tenure n (past self.now) }
+    {
+        self.has_ended_transactions(n)
+            && (self.went_bad() || self.has_closed_cursors(n) && self.has_closed_handles(n))
+    }
+
+    fn has_ended_transactions(&self, n: u32) -> bool
+        requires stands { Stands self.now }
+        requires last { last_tenure (past self.now) ≤ n }
+        ensures { result ≡ tenure.has_ended_transactions n (past self.now) }
+    {
+        n != self.tenure || self.unended.as_slice().is_empty()
+    }
+
+    pub fn has_closed_cursors(&self, n: u32) -> bool
+        requires { Stands self.now }
+        ensures { result ≡ tenure.has_closed_cursors n (past self.now) }
+    {
+        no_cursor_of_tenure(&self.cursors, n)
+    }
+
+    fn has_closed_handles(&self, n: u32) -> bool
+        requires { Stands self.now }
+        ensures { result ≡ tenure.has_closed_handles n (past self.now) }
+    {
+        only_call_handles_of_tenure(&self.handles, n)
+    }
+
+    /// All that is said of the order of a whole journal.
+    pub fn keeps_whole_journal(&self, asked: &Asked<'_>) -> bool
+        requires stands { Stands self.now }
+        requires conn { asked.now.conn ≡ self.now.conn }
+        ensures { result ≡ whole.keeps_whole_journal (past self.now) (entry_like asked.now) }
+    {
+        self.keeps_order(asked) && self.keeps_bad(asked)
+    }
+
+    fn keeps_order(&self, asked: &Asked<'_>) -> bool
+        requires { Stands self.now }
+        ensures { result ≡ keeps_order (past self.now) (entry_like asked.now) }
+    {
+        self.goes_on() && self.begins_well(asked) && self.rises(asked)
+    }
+
+    /// There is something left to be heard.
+    fn goes_on(&self) -> bool
+        requires { Stands self.now }
+        ensures { result ≡ goes_on (past self.now) }
+    {
+        !self.refused && !self.shut
+    }
+
+    /// Connect is the first entry, in tenure 1, and only the first.
+    fn begins_well(&self, asked: &Asked<'_>) -> bool
+        requires { Stands self.now }
+        ensures { result ≡ begins_well (past self.now) (entry_like asked.now) }
+    {
+        if self.so_far.owner.is_none() {
+            is_connect(asked.call) && asked.tenure == 1
+        } else {
+            !is_connect(asked.call)
+        }
+    }
+
+    /// Tenures are numbered upward, and the last one is whole before another begins.
+    fn rises(&self, asked: &Asked<'_>) -> bool
+        requires { Stands self.now }
+        ensures { result ≡ rises (past self.now) (entry_like asked.now) }
+    {
+        self.tenure == asked.tenure
+            || self.tenure < asked.tenure && self.is_whole_tenure(self.tenure)
+    }
+
+    /// After a Bad answer nothing is tidied, and no tenure begins but that of Shut; after a Valid answered
+    /// Invalid there is only Shut.
+    fn keeps_bad(&self, asked: &Asked<'_>) -> bool
+        requires { Stands self.now }
+        ensures { result ≡ keeps_bad (past self.now) (entry_like asked.now) }
+    {
+        self.tidies_nothing_bad(asked)
+            && self.stays_in_bad_tenure(asked)
+            && (!self.invalid || is_shut(asked.call))
+    }
+
+    fn tidies_nothing_bad(&self, asked: &Asked<'_>) -> bool
+        requires { Stands self.now }
+        ensures { result ≡ whole.tidies_nothing_bad (past self.now) (entry_like asked.now) }
+    {
+        !self.went_bad() || !tidies(asked)
+    }
+
+    fn stays_in_bad_tenure(&self, asked: &Asked<'_>) -> bool
+        requires { Stands self.now }
+        ensures { result ≡ whole.stays_in_bad_tenure (past self.now) (entry_like asked.now) }
+    {
+        match self.bad_tenure {
+            Some(n) => asked.tenure == n || is_shut(asked.call),
+            None => true,
+        }
+    }
+}
+
+/// Handles and cursors.
+#[tactic(auto, unfolding(crate::specs::Tables::Stands))]
+impl Tables {
+    ghost use Rattle.dsql_tenure.specs.Tables.{past, Stands};
+    ghost use Rattle.dsql_tenure.specs.Parts.{keeps_handle, keeps_cursor};
+
+    /// All that is said of handles and cursors.
+    pub fn keeps_handles_and_cursors(&self, asked: &Asked<'_>) -> bool
+        requires { Stands self.now }
+        ensures { result ≡ keeps_handles_and_cursors (past self.now) (entry_like asked.now) }
+    {
+        self.keeps_handle(asked) && self.keeps_cursor(asked)
+    }
+
+    fn keeps_handle(&self, asked: &Asked<'_>) -> bool
+        requires { Stands self.now }
+        ensures { result ≡ keeps_handle (past self.now) (entry_like asked.now) }
+    {
+        match handle_of(asked.call) {
+            Some(n) => serves_handle(&self.handles, n, asked),
+            None => true,
+        }
+    }
+
+    fn keeps_cursor(&self, asked: &Asked<'_>) -> bool
+        requires { Stands self.now }
+        ensures { result ≡ keeps_cursor (past self.now) (entry_like asked.now) }
+    {
+        match cursor_of(asked.call) {
+            Some(n) => serves_cursor(&self.cursors, n, asked),
+            None => true,
+        }
+    }
+}
+
+impl Handle {
+    ghost use Rattle.dsql_tenure.specs.Parts as part;
+
+    /// It may be used there.
+    fn serves(&self, asked: &Asked<'_>) -> bool
+        ensures { result ≡ part.serves_handle self.now (entry_like asked.now) }
+    {
+        self.tx == asked.tx
+            && if is_call(self.owner) {
+                is_call(asked.owner) || is_house(asked.owner) && is_close_stmt(asked.call)
+            } else {
+                self.tenure == asked.tenure
+            }
+    }
+}
+
+impl Cursor {
+    ghost use Rattle.dsql_tenure.specs.Parts as part;
+
+    /// It may be used there.
+    fn serves(&self, asked: &Asked<'_>) -> bool
+        ensures { result ≡ part.serves_cursor self.now (entry_like asked.now) }
+    {
+        (!is_next(asked.call) || !self.over) && self.tx == asked.tx && self.tenure == asked.tenure
+    }
+}
+
+/// The handle of that number is live and may be used there.
+fn serves_handle(handles: &[Handle], n: u32, asked: &Asked<'_>) -> bool
+    ensures { result ≡ (list_any (λ h. h.number == n) handles.now && list_all (λ h. not (h.number == n) || part.serves_handle h (entry_like asked.now)) handles.now) }
+{
+    has_handle(handles, n) && each_handle_serves(handles, n, asked)
+}
+
+/// The handle of that number is live.
+pub fn has_handle(handles: &[Handle], n: u32) -> bool
+    ensures { result ≡ list_any (λ h. h.number == n) handles.now }
+{
+    handles.iter().any(|h| h.number == n)
+}
+
+fn each_handle_serves(handles: &[Handle], n: u32, asked: &Asked<'_>) -> bool
+    ensures { result ≡ list_all (λ h. not (h.number == n) || part.serves_handle h (entry_like asked.now)) handles.now }
+{
+    handles.iter().all(|h| h.number != n || h.serves(asked))
+}
+
+/// The cursor of that number is live and may be used there.
+fn serves_cursor(cursors: &[Cursor], n: u32, asked: &Asked<'_>) -> bool
+    ensures { result ≡ (list_any (λ c. c.number == n) cursors.now && list_all (λ c. not (c.number == n) || part.serves_cursor c (entry_like asked.now)) cursors.now) }
+{
+    has_cursor(cursors, n) && each_cursor_serves(cursors, n, asked)
+}
+
+/// The cursor of that number is live.
+pub fn has_cursor(cursors: &[Cursor], n: u32) -> bool
+    ensures { result ≡ list_any (λ c. c.number == n) cursors.now }
+{
+    cursors.iter().any(|c| c.number == n)
+}
+
+fn each_cursor_serves(cursors: &[Cursor], n: u32, asked: &Asked<'_>) -> bool
+    ensures { result ≡ list_all (λ c. not (c.number == n) || part.serves_cursor c (entry_like asked.now)) cursors.now }
+{
+    cursors.iter().all(|c| c.number != n || c.serves(asked))
+}
+
+/// A Reset, Valid, CloseStmt or CloseRows.
+fn tidies(asked: &Asked<'_>) -> bool
+    ensures { result ≡ (kind.is_reset asked.now.call.now || kind.is_valid asked.now.call.now || kind.is_close_stmt asked.now.call.now || kind.is_close_rows asked.now.call.now) }
+{
+    is_reset(asked.call)
+        || is_valid(asked.call)
+        || is_close_stmt(asked.call)
+        || is_close_rows(asked.call)
+}
+
+/// No cursor of that tenure is live.
+fn no_cursor_of_tenure(cursors: &[Cursor], n: u32) -> bool
+    ensures { result ≡ list_all (λ c. not (c.tenure == n)) cursors.now }
+{
+    cursors.iter().all(|c| c.tenure != n)
+}
+
+/// Of that tenure no handle is live but those that calls on the database prepared.
+fn only_call_handles_of_tenure(handles: &[Handle], n: u32) -> bool
+    ensures { result ≡ list_all (λ h. not (h.tenure == n) || kind.is_call h.owner) handles.now }
+{
+    handles.iter().all(|h| h.tenure != n || is_call(h.owner))
+}

@@ -1,0 +1,137 @@
+//! What is kept of the tenure under way.
+ghost use Rattle.std.specs.Prelude.{◌≡◌, ◌<◌, ◌&&◌, ◌||◌, not, List, [], ◌∷◌};
+ghost use Rattle.dsql_driver.specs.Fits as fit;
+ghost use Rattle.dsql_journal.specs.declared.entry.Entry.{Entry};
+ghost use Rattle.dsql_journal.specs.Kinds as kind;
+ghost use Rattle.dsql_journal.specs.Tenure as tenure;
+
+use crate::kinds::{
+    given_handle, is_bad, is_begin, is_failure, is_ping, is_prepare, is_reset, is_skip, is_valid,
+    place, runs_text,
+};
+use dsql_journal::{Entry, Owner};
+
+/// The handles that the Prepares of a tenure gave.
+#[derive(Clone, Copy)]
+pub enum Prepared {
+    /// Nothing was prepared.
+    Nothing,
+    /// Each gave this one.
+    Handle(u32),
+    /// One gave none, or they gave different ones.
+    Otherwise,
+}
+
+/// What is kept of the entries of one tenure.
+#[derive(Clone, Copy)]
+pub struct SoFar {
+    /// Its owner, where it has an entry.
+    pub owner: Option<Owner>,
+    /// It has a Valid.
+    pub tested: bool,
+    /// A Reset was answered Bad.
+    pub fell: bool,
+    /// Something was answered Bad.
+    pub bad: bool,
+    pub pinged: bool,
+    /// It has an entry beside Reset and Valid.
+    pub worked: bool,
+    /// The last place, in the order in which a call on the database works, that was taken.
+    pub place: u8,
+    /// A text was run, and the driver didn't skip it.
+    pub ran: bool,
+    pub prepared: Prepared,
+    /// A Begin was refused outside transactions.
+    pub refused: bool,
+}
+
+impl SoFar {
+    ghost use Rattle.std.specs.Prelude.{max, if◌then◌else◌};
+    ghost use Rattle.dsql_journal.specs.Kinds.{is_prepare, given_handle};
+    ghost use Rattle.dsql_tenure.specs.SoFar.{so_far, prepared_with};
+
+    /// Of a tenure that has no entry.
+    pub fn nothing() -> SoFar
+        ensures { result ≡ so_far [] }
+    {
+        SoFar {
+            owner: None,
+            tested: false,
+            fell: false,
+            bad: false,
+            pinged: false,
+            worked: false,
+            place: 0,
+            ran: false,
+            prepared: Prepared::Nothing,
+            refused: false,
+        }
+    }
+
+    /// The last place with one entry more.
+    fn place_with(&self, entry: &Entry) -> u8
+        ensures { result ≡ max (tenure.place entry.now.call) self.now.place }
+    {
+        place(&entry.call).max(self.place)
+    }
+
+    /// What was prepared with one entry more.
+    fn prepared_with(&self, entry: &Entry) -> Prepared
+        ensures { result ≡ (if is_prepare entry.now.call then prepared_with (given_handle entry.now.answer) self.now.prepared else self.now.prepared) }
+    {
+        if !is_prepare(&entry.call) {
+            return self.prepared;
+        }
+        match (given_handle(&entry.answer), self.prepared) {
+            (Some(handle), Prepared::Nothing) => Prepared::Handle(handle),
+            (Some(handle), Prepared::Handle(other)) if handle == other => Prepared::Handle(other),
+            _ => Prepared::Otherwise,
+        }
+    }
+
+    /// With one entry more.
+    pub fn then(self, entry: &Entry) -> SoFar
+        ensures { (earlier : List Entry) → self ≡ so_far earlier → result ≡ so_far (entry.now ∷ earlier) }
+    {
+        SoFar {
+            owner: Some(entry.owner),
+            tested: is_valid(&entry.call) | self.tested,
+            fell: falls(entry) | self.fell,
+            bad: is_bad(&entry.answer) | self.bad,
+            pinged: is_ping(&entry.call) | self.pinged,
+            worked: is_body(entry) | self.worked,
+            place: self.place_with(entry),
+            ran: ran(entry) | self.ran,
+            prepared: self.prepared_with(entry),
+            refused: is_refused_begin(entry) | self.refused,
+        }
+    }
+}
+
+/// A Reset answered Bad.
+fn falls(entry: &Entry) -> bool
+    ensures { result ≡ (kind.is_reset entry.now.call && kind.is_bad entry.now.answer) }
+{
+    is_reset(&entry.call) && is_bad(&entry.answer)
+}
+
+/// An entry beside Reset and Valid.
+fn is_body(entry: &Entry) -> bool
+    ensures { result ≡ tenure.is_body entry.now }
+{
+    !(is_reset(&entry.call) || is_valid(&entry.call))
+}
+
+/// A run of a text that the driver didn't skip.
+fn ran(entry: &Entry) -> bool
+    ensures { result ≡ (kind.runs_text entry.now.call && not (fit.is_skip entry.now.answer)) }
+{
+    runs_text(&entry.call) && !is_skip(&entry.answer)
+}
+
+/// A Begin answered Bad or Fail outside transactions.
+fn is_refused_begin(entry: &Entry) -> bool
+    ensures { result ≡ tenure.is_refused_begin entry.now }
+{
+    is_begin(&entry.call) && is_failure(&entry.answer) && entry.tx == 0
+}

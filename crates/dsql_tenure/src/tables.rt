@@ -1,0 +1,83 @@
+//! What a judge keeps of the journal so far.
+ghost use Rattle.std.specs.Prelude.{◌≡◌, ◌+◌, ◌<◌, ◌≤◌, ◌∷◌, [], OnOk, OnErr};
+
+use crate::past::Past;
+use crate::so_far::SoFar;
+use dsql_journal::Owner;
+use dsql_value::Memory;
+use indexmap::IndexSet;
+use std::alloc::Global;
+
+/// A live handle: by which Prepare it was given.
+#[derive(Clone, Copy)]
+pub struct Handle {
+    pub number: u32,
+    pub tenure: u32,
+    pub owner: Owner,
+    pub tx: u32,
+}
+
+/// A live cursor: by which Query it was given, how many columns it has, and whether its rows are over.
+#[derive(Clone, Copy)]
+pub struct Cursor {
+    pub number: u32,
+    pub tenure: u32,
+    pub tx: u32,
+    pub columns: usize,
+    pub over: bool,
+}
+
+/// What is kept of a journal. No entry of it is: the work of one more grows with what is live.
+#[derive(Drop)]
+pub struct Tables {
+    /// The journal itself, for proofs alone.
+    pub past: Past,
+    pub conn: u32,
+    /// The number of the last tenure, and what is kept of it.
+    pub tenure: u32,
+    pub so_far: SoFar,
+    /// The Connect was answered Bad or Fail.
+    pub refused: bool,
+    pub shut: bool,
+    /// The tenure of the first Bad answer.
+    pub bad_tenure: Option<u32>,
+    /// A Valid was answered Invalid.
+    pub invalid: bool,
+    /// Live handles and cursors, the newest first.
+    pub handles: Vec<Handle>,
+    pub cursors: Vec<Cursor>,
+    /// The transactions without a Commit or Rollback, the newest first.
+    pub unended: Vec<u32>,
+    /// All transactions that were begun.
+    pub begun: IndexSet<u32>,
+    /// For how many more entries there is memory.
+    pub room: u32,
+}
+
+#[tactic(auto, unfolding(crate::specs::Tables::Stands))]
+impl Tables {
+    ghost use Rattle.dsql_tenure.specs.Tables.{past, Stands};
+
+    /// Nothing was heard yet.
+    pub fn new(alloc: Global, conn: u32) -> Tables
+        ensures stands { Stands result }
+        ensures past { past result ≡ [] }
+        ensures conn { result.conn ≡ conn }
+    {
+        Tables {
+            past: Past::new(),
+            conn,
+            tenure: 0,
+            so_far: SoFar::nothing(),
+            refused: false,
+            shut: false,
+            bad_tenure: None,
+            invalid: false,
+            handles: Vec::new(alloc),
+            cursors: Vec::new(alloc),
+            unended: Vec::new(alloc),
+            begun: IndexSet::new(alloc),
+            room: 0,
+        }
+    }
+}

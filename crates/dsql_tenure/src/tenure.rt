@@ -1,0 +1,237 @@
+//! The shape of a tenure, by the tables: what is asked of the entry that comes next.
+ghost use Rattle.std.specs.Prelude.{◌≡◌, ◌<◌, ◌≤◌, ◌&&◌, ◌||◌, ◌==◌, not, nat_lt, true};
+ghost use Rattle.std.specs.List.{list_all};
+ghost use Rattle.dsql_journal.specs.HandlesAndCursors.{keeps_handles_and_cursors as keeps_uses};
+ghost use Rattle.dsql_journal.specs.Kinds as kind;
+ghost use Rattle.dsql_journal.specs.Readers.{last_tenure, of_tenure};
+ghost use Rattle.dsql_journal.specs.Tenure as rule;
+ghost use Rattle.dsql_tenure.specs.Asked.{entry_like};
+ghost use Rattle.dsql_tenure.specs.TenureParts as part;
+
+use crate::asked::{Asked, Outcome};
+use crate::kinds::{
+    handle_of, is_begin, is_close_stmt, is_connect, is_house, is_next, is_ping, is_prepare,
+    is_reset, is_shut, is_valid, is_work, place, runs_handle, same_owner,
+};
+use crate::so_far::{Prepared, SoFar};
+use crate::tables::{Handle, Tables};
+use dsql_journal::Owner;
+
+#[tactic(auto, unfolding(crate::specs::Tables::Stands))]
+impl Tables {
+    ghost use Rattle.dsql_tenure.specs.Tables.{past, Stands};
+    ghost use Rattle.dsql_tenure.specs.SoFar.{so_far};
+
+    /// What is kept of the last tenure, or of one that is to come.
+    pub fn so_far_of(&self, n: u32) -> SoFar
+        requires stands { Stands self.now }
+        requires last { last_tenure (past self.now) ≤ n }
+        ensures { result ≡ so_far (of_tenure n (past self.now)) }
+    {
+        if n == self.tenure {
+            self.so_far
+        } else {
+            SoFar::nothing()
+        }
+    }
+
+    /// All that is said of a tenure.
+    pub fn keeps_tenure(&self, asked: &Asked<'_>) -> bool
+        requires stands { Stands self.now }
+        requires last { last_tenure (past self.now) ≤ asked.now.tenure }
+        requires uses { keeps_uses (past self.now) (entry_like asked.now) ≡ true }
+        ensures { result ≡ rule.keeps_tenure (past self.now) (entry_like asked.now) }
+    {
+        let so_far = self.so_far_of(asked.tenure);
+        so_far.keeps_shape(asked) && self.keeps_rest(&so_far, asked)
+    }
+
+    /// The tenure is whole at its Valid, and the rest of its entries keep their rules.
+    fn keeps_rest(&self, so_far: &SoFar, asked: &Asked<'_>) -> bool
+        requires stands { Stands self.now }
+        requires last { last_tenure (past self.now) ≤ asked.now.tenure }
+        ensures { result ≡ part.keeps_rest so_far.now (past self.now) (entry_like asked.now) }
+    {
+        self.is_whole_at_valid(asked) && self.keeps_course(so_far, asked)
+    }
+
+    fn is_whole_at_valid(&self, asked: &Asked<'_>) -> bool
+        requires stands { Stands self.now }
+        requires last { last_tenure (past self.now) ≤ asked.now.tenure }
+        ensures { result ≡ rule.is_whole_at_valid (past self.now) (entry_like asked.now) }
+    {
+        !is_valid(asked.call) || self.is_whole_tenure(asked.tenure)
+    }
+
+    /// Tests stand in no transaction, a Reset answered Bad is the last, and the body keeps its rules.
+    fn keeps_course(&self, so_far: &SoFar, asked: &Asked<'_>) -> bool
+        requires { Stands self.now }
+        ensures { result ≡ part.keeps_course so_far.now (past self.now) (entry_like asked.now) }
+    {
+        if so_far.fell {
+            return false;
+        }
+        if is_reset(asked.call) || is_valid(asked.call) {
+            asked.tx == 0
+        } else {
+            self.keeps_body(so_far, asked)
+        }
+    }
+
+    fn keeps_body(&self, so_far: &SoFar, asked: &Asked<'_>) -> bool
+        requires { Stands self.now }
+        ensures { result ≡ part.keeps_body so_far.now asked.now.owner (past self.now) (entry_like asked.now) }
+    {
+        match asked.owner {
+            Owner::Call(_) => self.keeps_call(so_far, asked),
+            Owner::Tx(n) => so_far.keeps_tx(n, asked),
+            Owner::Pin(_) => is_pin_body(asked),
+            Owner::House => true,
+        }
+    }
+
+    fn keeps_call(&self, so_far: &SoFar, asked: &Asked<'_>) -> bool
+        requires { Stands self.now }
+        ensures { result ≡ part.keeps_call so_far.now (past self.now) (entry_like asked.now) }
+    {
+        so_far.goes_in_order(asked)
+            && self.closes_own(asked)
+            && so_far.runs_well(asked)
+            && self.closes_rows_first(asked)
+            && asked.tx == 0
+    }
+
+    /// The handle that it closes was prepared in this tenure.
+    fn closes_own(&self, asked: &Asked<'_>) -> bool
+        requires { Stands self.now }
+        ensures { result ≡ part.closes_own (past self.now) (entry_like asked.now) }
+    {
+        if !is_close_stmt(asked.call) {
+            return true;
+        }
+        match handle_of(asked.call) {
+            Some(n) => is_of_tenure(&self.handles, n, asked.tenure),
+            None => true,
+        }
+    }
+
+    fn closes_rows_first(&self, asked: &Asked<'_>) -> bool
+        requires { Stands self.now }
+        ensures { result ≡ rule.closes_rows_first (past self.now) (entry_like asked.now) }
+    {
+        !is_close_stmt(asked.call)
+            || matches!(asked.outcome, Outcome::Bad)
+            || self.has_closed_cursors(asked.tenure)
+    }
+}
+
+impl SoFar {
+    /// The owner is its own, if it has one.
+    fn has_owner(&self, owner: Owner) -> bool
+        ensures { result ≡ part.has_owner self.now.owner owner }
+    {
+        match self.owner {
+            Some(own) => same_owner(own, owner),
+            None => true,
+        }
+    }
+
+    /// The House sends a single entry, for no call and in no transaction.
+    fn keeps_house(&self, asked: &Asked<'_>) -> bool
+        ensures { result ≡ part.keeps_house self.now (entry_like asked.now) }
+    {
+        !is_house(asked.owner)
+            || self.owner.is_none() && is_house_call(asked) && asked.call_no == 0 && asked.tx == 0
+    }
+
+    /// The owner, the House, a Reset at the head, and nothing after a Valid.
+    fn keeps_shape(&self, asked: &Asked<'_>) -> bool
+        ensures { result ≡ part.keeps_shape self.now (entry_like asked.now) }
+    {
+        self.has_owner(asked.owner)
+            && self.keeps_house(asked)
+            && (!is_reset(asked.call) || self.owner.is_none())
+            && !self.tested
+    }
+
+    /// A call on the database pings, or works in its order.
+    fn goes_in_order(&self, asked: &Asked<'_>) -> bool
+        ensures { result ≡ part.goes_in_order self.now (entry_like asked.now) }
+    {
+        if is_ping(asked.call) {
+            return !self.worked;
+        }
+        let place = place(asked.call);
+        0 < place && !self.pinged && (self.place < place || is_next(asked.call) && self.place == 4)
+    }
+
+    /// It prepares or runs a handle only after a skip, runs its own handle, and sends nothing after a Bad.
+    fn runs_well(&self, asked: &Asked<'_>) -> bool
+        ensures { result ≡ part.runs_well self.now (entry_like asked.now) }
+    {
+        self.follows_skip(asked) && self.runs_own(asked) && !self.bad
+    }
+
+    fn follows_skip(&self, asked: &Asked<'_>) -> bool
+        ensures { result ≡ part.follows_skip self.now (entry_like asked.now) }
+    {
+        !self.ran || !(is_prepare(asked.call) || runs_handle(asked.call))
+    }
+
+    fn runs_own(&self, asked: &Asked<'_>) -> bool
+        ensures { result ≡ part.runs_own self.now (entry_like asked.now) }
+    {
+        match (runs_handle(asked.call), handle_of(asked.call)) {
+            (true, Some(n)) => self.prepared.allows(n),
+            _ => true,
+        }
+    }
+
+    /// The tenure of transaction n has one refused Begin and nothing else, or only entries of transaction n.
+    fn keeps_tx(&self, n: u32, asked: &Asked<'_>) -> bool
+        ensures { result ≡ part.keeps_tx self.now n (entry_like asked.now) }
+    {
+        !self.worked && is_refused_begin(asked) || n != 0 && asked.tx == n && !self.refused
+    }
+}
+
+impl Prepared {
+    /// The handle may be run.
+    fn allows(self, n: u32) -> bool
+        ensures { result ≡ part.allows self n }
+    {
+        match self {
+            Prepared::Nothing => true,
+            Prepared::Handle(handle) => handle == n,
+            Prepared::Otherwise => false,
+        }
+    }
+}
+
+/// Each live handle of that number is of that tenure.
+fn is_of_tenure(handles: &[Handle], n: u32, tenure: u32) -> bool
+    ensures { result ≡ list_all (λ h. not (h.number == n) || (h.tenure == tenure)) handles.now }
+{
+    handles.iter().all(|h| h.number != n || h.tenure == tenure)
+}
+
+/// A Connect, CloseStmt or Shut.
+fn is_house_call(asked: &Asked<'_>) -> bool
+    ensures { result ≡ (kind.is_connect asked.now.call.now || kind.is_close_stmt asked.now.call.now || kind.is_shut asked.now.call.now) }
+{
+    is_connect(asked.call) || is_close_stmt(asked.call) || is_shut(asked.call)
+}
+
+/// A Begin answered Bad or Fail outside transactions.
+fn is_refused_begin(asked: &Asked<'_>) -> bool
+    ensures { result ≡ rule.is_refused_begin (entry_like asked.now) }
+{
+    is_begin(asked.call) && matches!(asked.outcome, Outcome::Bad | Outcome::Failed) && asked.tx == 0
+}
+
+/// On a pinned connection, outside transactions, there are pings, work and refused Begins.
+fn is_pin_body(asked: &Asked<'_>) -> bool
+    ensures { result ≡ rule.is_pin_body (entry_like asked.now) }
+{
+    asked.tx != 0 || is_ping(asked.call) || is_work(asked.call) || is_refused_begin(asked)
+}

@@ -1,0 +1,105 @@
+//! Transactions, by the tables: what is asked of the entry that comes next.
+ghost use Rattle.std.specs.Prelude.{◌≡◌, ◌≢◌, ◌<◌, ◌≤◌, ◌&&◌, ◌||◌, ◌==◌, not, true};
+ghost use Rattle.std.specs.List.{list_all};
+ghost use Rattle.dsql_journal.specs.HandlesAndCursors.{keeps_handles_and_cursors as keeps_uses};
+ghost use Rattle.dsql_journal.specs.Readers.{has, begun, cursors};
+ghost use Rattle.dsql_journal.specs.Transaction as rule;
+ghost use Rattle.dsql_journal.specs.WholeJournal.{keeps_whole_journal as keeps_whole};
+ghost use Rattle.dsql_tenure.specs.Asked.{entry_like};
+ghost use Rattle.dsql_tenure.specs.Open.{open_in, begins_anew, goes_on_open, keeps_number};
+
+use crate::asked::{Asked, Outcome};
+use crate::kinds::{is_begin, is_close_stmt, is_ending, is_work, owns_transaction};
+use crate::tables::{Cursor, Tables};
+
+#[tactic(auto, unfolding(crate::specs::Tables::Stands))]
+impl Tables {
+    ghost use Rattle.dsql_tenure.specs.Tables.{past, Stands};
+
+    /// All that is said of a transaction.
+    pub fn keeps_transaction(&self, asked: &Asked<'_>) -> bool
+        requires stands { Stands self.now }
+        requires whole { keeps_whole (past self.now) (entry_like asked.now) ≡ true }
+        requires uses { keeps_uses (past self.now) (entry_like asked.now) ≡ true }
+        ensures { result ≡ rule.keeps_transaction (past self.now) (entry_like asked.now) }
+    {
+        if asked.tx == 0 {
+            return true;
+        }
+        owns_transaction(asked.owner, asked.tx) && self.keeps_number(asked)
+    }
+
+    /// A Begin makes a new transaction; a live handle of it may be closed at any time; all else is done while
+    /// it is open.
+    fn keeps_number(&self, asked: &Asked<'_>) -> bool
+        requires { Stands self.now }
+        ensures { result ≡ keeps_number (past self.now) (entry_like asked.now) }
+    {
+        if is_begin(asked.call) {
+            self.begins_anew(asked)
+        } else {
+            is_close_stmt(asked.call) || self.goes_on_open(asked)
+        }
+    }
+
+    fn begins_anew(&self, asked: &Asked<'_>) -> bool
+        requires { Stands self.now }
+        ensures { result ≡ begins_anew (past self.now) (entry_like asked.now) }
+    {
+        matches!(asked.outcome, Outcome::Done)
+            && asked.call_no == asked.tx
+            && !self.has_begun(asked.tx)
+    }
+
+    fn has_begun(&self, n: u32) -> bool
+        requires { Stands self.now }
+        ensures { result ≡ has n (begun (past self.now)) }
+    {
+        self.begun.contains(&n)
+    }
+
+    fn goes_on_open(&self, asked: &Asked<'_>) -> bool
+        requires { Stands self.now }
+        ensures { result ≡ goes_on_open (past self.now) (entry_like asked.now) }
+    {
+        (is_work(asked.call) || is_ending(asked.call))
+            && self.is_open(asked.tx)
+            && self.ends_without_cursors(asked)
+    }
+
+    /// The transaction has no Commit or Rollback.
+    pub fn is_open(&self, n: u32) -> bool
+        requires { Stands self.now }
+        ensures { result ≡ has n (open_in (past self.now)) }
+    {
+        has_number(&self.unended, n)
+    }
+
+    fn ends_without_cursors(&self, asked: &Asked<'_>) -> bool
+        requires { Stands self.now }
+        ensures { result ≡ rule.ends_without_cursors (past self.now) (entry_like asked.now) }
+    {
+        !is_ending(asked.call) || self.went_bad() || self.has_no_cursor_of(asked.tx)
+    }
+
+    fn has_no_cursor_of(&self, n: u32) -> bool
+        requires { Stands self.now }
+        ensures { result ≡ list_all (λ c. not (c.tx == n)) (cursors (past self.now)) }
+    {
+        no_cursor_of_transaction(&self.cursors, n)
+    }
+}
+
+/// The number is in the list.
+fn has_number(numbers: &[u32], n: u32) -> bool
+    ensures { result ≡ has n numbers.now }
+{
+    numbers.iter().any(|m| *m == n)
+}
+
+/// No cursor of that transaction is live.
+fn no_cursor_of_transaction(cursors: &[Cursor], n: u32) -> bool
+    ensures { result ≡ list_all (λ c. not (c.tx == n)) cursors.now }
+{
+    cursors.iter().all(|c| c.tx != n)
+}
