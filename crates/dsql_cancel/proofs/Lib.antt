@@ -1,0 +1,4 @@
+mod Order
+mod Places
+mod Kept
+mod Search
