@@ -25,7 +25,6 @@ module _ {K X : Type 0} (R : K → K → Ordering) (g : K × X → X) where
   sorted_map [] = refl
   sorted_map (e ∷ es) = ap (λ b. b && is_sorted R (map (λ x. (x.0, g x)) es)) (below_map e.0 es) ∙ ap (λ b. below_all R e.0 es && b) (sorted_map es)
 
-
 first_late : (now : ℕ) (e : Name × Token) (es : Named) → running_out now (e ∷ es) ≡ [] → (runs_out now e.1 ≡ false) × (running_out now es ≡ [])
 first_late now e es h =
     elim (runs_out now e.1) as (λ b. map (λ (x : Name × Token). x.0) (cond b (e ∷ filter (λ x. runs_out now x.1) es) (filter (λ x. runs_out now x.1) es)) ≡ [] → (b ≡ false) × (running_out now es ≡ [])) [

@@ -2,3 +2,4 @@ mod Order
 mod Places
 mod Kept
 mod Search
+mod Meaning

@@ -34,7 +34,7 @@ pub runs_at : (name : Name) (es : Named) → is_sorted byte_order es ≡ true �
 runs_at name es s i at d = ap (λ o. option_map_or runs o false) (token_at name es s i at d)
 
 pub cause_at : (name : Name) (es : Named) → is_sorted byte_order es ≡ true → (i : ℕ) → IsAt es name i → (d : Name × Token) → cause_of name es ≡ Ok (get_or es i d).1.cause
-cause_at name es s i at d = ap (λ o. ok_or (option_map (λ (t : Token). t.cause) o) (record { })) (token_at name es s i at d)
+cause_at name es s i at d = ap (λ o. ok_or (option_map (λ (t : Token). t.cause) o) (record {})) (token_at name es s i at d)
 
 pub canceled_at : (name : Name) (es : Named) → is_sorted byte_order es ≡ true → (i : ℕ) → IsAt es name i → (d : Name × Token) → set es i ((get_or es i d).0, stopped Canceled (get_or es i d).1) ≡ canceled name es
 canceled_at name es s i at d = set_at byte_order_total (stopped Canceled) name es i s at.in_range at.same d
@@ -45,8 +45,8 @@ no_token_in_gap name es i gap = find_gap byte_order_total name es i gap.parted.0
 pub not_made_in_gap : (name : Name) (es : Named) (i : ℕ) → IsGapFor es name i → was_made name es ≡ false
 not_made_in_gap name es i gap = ap is_some (no_token_in_gap name es i gap)
 
-pub no_cause_in_gap : (name : Name) (es : Named) (i : ℕ) → IsGapFor es name i → cause_of name es ≡ Err (record { })
-no_cause_in_gap name es i gap = ap (λ o. ok_or (option_map (λ (t : Token). t.cause) o) (record { })) (no_token_in_gap name es i gap)
+pub no_cause_in_gap : (name : Name) (es : Named) (i : ℕ) → IsGapFor es name i → cause_of name es ≡ Err (record {})
+no_cause_in_gap name es i gap = ap (λ o. ok_or (option_map (λ (t : Token). t.cause) o) (record {})) (no_token_in_gap name es i gap)
 
 pub with_token_in_gap : (name : Name) (t : Token) (es : Named) (i : ℕ) → IsGapFor es name i → insert es i (name, t) ≡ with_token name t es
 with_token_in_gap name t es i gap = insert_gap byte_order_total name t es i gap.in_range gap.parted.0 gap.parted.1

@@ -58,7 +58,7 @@ running_out now tokens = map (λ e. e.0) (filter (λ e. one.runs_out now e.1) to
 
 -- why the token of that name is cancelled, if it is
 abbrev pub cause_of : Name → Named → Result (Option Cause) Unknown
-cause_of name tokens = ok_or (option_map (λ token. token.cause) (token_of name tokens)) (record { })
+cause_of name tokens = ok_or (option_map (λ token. token.cause) (token_of name tokens)) (record {})
 
 -- each name stands once, in byte order, and no token runs whose deadline has passed
 pub record IsKept (tokens : Named) (now : ℕ) : Type 0 where
