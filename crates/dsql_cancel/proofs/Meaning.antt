@@ -1,13 +1,13 @@
 -- What the map answers after a change.
-use Rattle.std.proofs.Common.{◌≡◌, ◌≢◌, ℕ, Bool, true, false, ◌&&◌, cond, List, [], ◌∷◌, map, filter, Option, Some, None, Ok, Result, refl, sym, ap, subst, ◌∙◌, arith}
+use Rattle.std.proofs.Common.{◌≡◌, ◌≢◌, ℕ, Bool, true, false, cond, [], ◌∷◌, map, filter, Option, Some, None, Ok, Result, refl, sym, ap, ◌∙◌}
 use Rattle.std.specs.declared.cmp.Ordering.{Ordering}
 use Rattle.std.specs.declared.cmp.Ordering.TheVariants.{Less, Equal, Greater}
 use Rattle.std.specs.Ordering.{is_eq, is_lt, eq_by_cmp}
 use Rattle.std.specs.Option.{option_map, ok_or}
 use Rattle.std.specs.Cmp.{IsTotalOrder, tied_itself}
 use Rattle.std.specs.Cmp.Lexicographic.{nat_list_cmp_total}
-use Rattle.std.specs.FinMap.{IsAntisymmetric, slice_cmp-IsAntisymmetric, nat_cmp-IsAntisymmetric}
-use Rattle.std.specs.FinMap.Entries.{find, put, find-put, is_sorted, below_all}
+use Rattle.std.specs.FinMap.{slice_cmp-IsAntisymmetric, nat_cmp-IsAntisymmetric}
+use Rattle.std.specs.FinMap.Entries.{find-put, is_sorted, below_all}
 use Rattle.std.specs.List.{AllByRecursion}
 use Rattle.std.specs.List.Sorted.{IsStrictlySortedBy}
 use Rattle.dsql_cancel.specs.declared.token.Token.{Token}
@@ -15,7 +15,7 @@ use Rattle.dsql_cancel.specs.declared.fault.Unknown.{Unknown}
 use Rattle.dsql_cancel.specs.declared.token.Cause.{Cause}
 use Rattle.dsql_cancel.specs.declared.token.Cause.TheVariants.{Canceled, Deadline}
 use Rattle.dsql_cancel.specs.Token as one
-use Rattle.dsql_cancel.specs.Registry.{Name, Named, byte_order, token_of, with_token, canceled, at_moment, running_out, cause_of}
+use Rattle.dsql_cancel.specs.Registry.{Name, Named, byte_order, token_of, canceled, at_moment, running_out}
 use Rattle.dsql_cancel.specs.Laws.{ChangesOneName, FirstCauseStays, ToldOnce}
 use Rattle.dsql_cancel.proofs.Order.{left, right}
 use Rattle.dsql_cancel.proofs.Kept.{none_late_all, at_moment_late}

@@ -1,12 +1,12 @@
 -- What stands at the place that a search finds, and what an edit there makes of the list.
-use Rattle.std.proofs.Common.{◌≡◌, ℕ, zero, suc, ◌+◌, ◌<◌, ◌≤◌, Bool, true, false, ◌&&◌, cond, List, [], ◌∷◌, map, length, get_or, set, Option, Some, None, refl, sym, ap, ◌∙◌, arith}
+use Rattle.std.proofs.Common.{◌≡◌, ℕ, zero, suc, ◌<◌, ◌≤◌, true, cond, List, [], ◌∷◌, map, length, get_or, set, Some, None, refl, sym, ap, ◌∙◌, arith}
 use Rattle.std.specs.declared.cmp.Ordering.{Ordering}
 use Rattle.std.specs.declared.cmp.Ordering.TheVariants.{Less, Equal, Greater}
 use Rattle.std.specs.Ordering.{is_lt, is_eq, eq_by_cmp}
 use Rattle.std.specs.Cmp.{IsTotalOrder}
 use Rattle.std.specs.List.{insert, HoldsAt, AllWithin}
 use Rattle.std.specs.FinMap.Entries.{below_all, is_sorted, find, put, by_order}
-use Rattle.dsql_cancel.proofs.Order.{from_less, from_equal, from_greater, less_tied, first_below, rest_sorted, below_at, left, right}
+use Rattle.dsql_cancel.proofs.Order.{from_less, from_equal, from_greater, less_tied, first_below, rest_sorted, below_at, right}
 
 module _ {K X : Type 0} {R : K → K → Ordering} (o : IsTotalOrder R) where
   -- a key below one that equals q is below q

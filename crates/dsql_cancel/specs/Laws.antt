@@ -1,11 +1,11 @@
 -- What the map of tokens and its changes mean, as laws.
-use Rattle.std.specs.Prelude.{◌≡◌, ◌≢◌, ℕ, ◌≤◌, true, false, IsTrue, List, [], Some, Ok}
+use Rattle.std.specs.Prelude.{◌≡◌, ◌≢◌, ℕ, IsTrue, [], Some, Ok}
 use Rattle.std.specs.Option.{option_map}
 use Rattle.std.specs.FinMap.{is_sorted}
 use Rattle.std.specs.List.Sorted.{IsStrictlySortedBy}
 use Rattle.dsql_cancel.specs.declared.token.Token.{Token}
 use Rattle.dsql_cancel.specs.declared.token.Cause.{Cause}
-use Rattle.dsql_cancel.specs.declared.token.Cause.TheVariants.{Canceled, Deadline}
+use Rattle.dsql_cancel.specs.declared.token.Cause.TheVariants.{Canceled}
 use Rattle.dsql_cancel.specs.Token as one
 use Rattle.dsql_cancel.specs.Registry.{Name, Named, byte_order, token_of, with_token, canceled, at_moment, running_out, cause_of}
 

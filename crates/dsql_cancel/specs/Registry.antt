@@ -1,5 +1,5 @@
 -- Tokens by their names, and what becomes of them.
-use Rattle.std.specs.Prelude.{◌≡◌, ◌≢◌, ℕ, Bool, true, false, IsTrue, List, [], ◌∷◌, map, filter, Option, Some, None, Result, Ok, Err, is_some, if◌then◌else◌}
+use Rattle.std.specs.Prelude.{◌≡◌, ◌≢◌, ℕ, Bool, true, false, IsTrue, List, [], map, filter, Option, Result, is_some, if◌then◌else◌}
 use Rattle.std.specs.declared.cmp.Ordering.{Ordering}
 use Rattle.std.specs.Ordering.{nat_cmp, eq_by_cmp}
 use Rattle.std.specs.Cmp.Lexicographic.{slice_cmp}
@@ -7,7 +7,7 @@ use Rattle.std.specs.Option.{option_map_or, option_map, ok_or}
 use Rattle.std.specs.FinMap.{find, put, is_sorted}
 use Rattle.dsql_cancel.specs.declared.token.Token.{Token}
 use Rattle.dsql_cancel.specs.declared.token.Cause.{Cause}
-use Rattle.dsql_cancel.specs.declared.token.Cause.TheVariants.{Canceled, Deadline}
+use Rattle.dsql_cancel.specs.declared.token.Cause.TheVariants.{Canceled}
 use Rattle.dsql_cancel.specs.declared.fault.TokenFault.{TokenFault}
 use Rattle.dsql_cancel.specs.declared.fault.TokenFault.TheVariants.{NoToken, TokenExists, Memory}
 use Rattle.dsql_cancel.specs.declared.fault.Unknown.{Unknown}

@@ -2,7 +2,7 @@
 use Rattle.std.specs.Prelude.{ℕ, Bool, false, ◌&&◌, nat_le, Option, Some, None, is_none, unwrap_or, if◌then◌else◌}
 use Rattle.dsql_cancel.specs.declared.token.Token.{Token}
 use Rattle.dsql_cancel.specs.declared.token.Cause.{Cause}
-use Rattle.dsql_cancel.specs.declared.token.Cause.TheVariants.{Canceled, Deadline}
+use Rattle.dsql_cancel.specs.declared.token.Cause.TheVariants.{Deadline}
 
 -- a token that has no deadline, and isn't cancelled
 abbrev pub endless : Token

@@ -1,7 +1,7 @@
 -- What waiting means, as laws.
-use Rattle.std.specs.Prelude.{◌≡◌, ◌≢◌, ℕ, ◌+◌, ◌<◌, ◌≤◌, true, false, List, [], ◌∷◌, ◌++◌, Some, None}
+use Rattle.std.specs.Prelude.{◌≡◌, ◌≢◌, ℕ, ◌+◌, ◌<◌, ◌≤◌, false, List, [], ◌∷◌, ◌++◌, Some, None}
 use Rattle.dsql_wait.specs.declared.request.Request.{Request}
-use Rattle.dsql_wait.specs.Requests.{waits, is_of, oldest, younger, without_call, without_token}
+use Rattle.dsql_wait.specs.Requests.{waits, oldest, younger, without_call, without_token}
 
 -- who came first is served first, whoever comes later
 pub record ServedInOrder : Type 0 where

@@ -1,4 +1,4 @@
-use Rattle.std.proofs.Common.{◌≡◌, ◌∙◌, arith}
+use Rattle.std.proofs.Common.{◌∙◌}
 use Rattle.dsql_cancel.proofs.Search.{made_at, not_made_in_gap, with_token_in_gap, on_ok}
 use Rattle.dsql_cancel.proofs.table.add.Goals as goal
 use Rattle.dsql_cancel.proofs.table.add.Goals.{in-Ok-insert, in-Err-insert}

@@ -1,4 +1,4 @@
-use Rattle.std.proofs.Common.{◌≡◌, ◌∙◌, sym, arith}
+use Rattle.std.proofs.Common.{◌∙◌, sym}
 use Rattle.dsql_cancel.proofs.Search.{made_at, runs_at, canceled_at, not_made_in_gap}
 use Rattle.dsql_cancel.proofs.table.cancel_in.Goals as goal
 

@@ -1,4 +1,4 @@
-use Rattle.std.proofs.Common.{◌≡◌, true, false, ◌∙◌, sym, get_or, arith}
+use Rattle.std.proofs.Common.{◌≡◌, true, false, get_or, arith}
 use Rattle.dsql_cancel.specs.Token.{runs_out}
 use Rattle.dsql_cancel.proofs.Search.{running_then, running_else, some_runs_out, on_err}
 use Rattle.dsql_cancel.proofs.table.names_running_out.Goals as goal

@@ -1,4 +1,4 @@
-use Rattle.std.proofs.Common.{◌≡◌, ◌∙◌, Ok, Err, sym, ap}
+use Rattle.std.proofs.Common.{◌∙◌, sym, ap}
 use Rattle.dsql_cancel.specs.Registry.{Registry, cause_of}
 use Rattle.dsql_cancel.proofs.Search.{cause_at, no_cause_in_gap}
 use Rattle.dsql_cancel.proofs.tokens.Tokens.cause.Goals as goal
