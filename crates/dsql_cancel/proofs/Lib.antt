@@ -1,0 +1,5 @@
+mod Order
+mod Places
+mod Kept
+mod Search
+mod Meaning

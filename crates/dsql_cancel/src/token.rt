@@ -1,0 +1,83 @@
+ghost use Rattle.std.specs.Prelude.{◌≡◌};
+ghost use Rattle.dsql_cancel.specs.Token as token;
+
+/// Why a token is cancelled, as Go's `context.Canceled` and `context.DeadlineExceeded`.
+#[derive(Clone, Copy, Debug, PartialEq, Eq)]
+pub enum Cause {
+    Canceled,
+    Deadline,
+}
+
+/// What a token is at a moment: its deadline in nanoseconds, if it has one, and why it is cancelled, if it
+/// is.
+#[derive(Clone, Copy, Debug)]
+pub struct Token {
+    pub deadline: Option<u64>,
+    pub cause: Option<Cause>,
+}
+
+impl Token {
+    /// A token without a deadline.
+    pub fn endless() -> Token
+        ensures { result ≡ token.endless }
+    {
+        Token {
+            deadline: None,
+            cause: None,
+        }
+    }
+
+    /// A token that is made with a deadline.
+    pub fn timed(at: u64, now: u64) -> Token
+        ensures { result ≡ token.timed at now }
+    {
+        let cause = if at <= now {
+            Some(Cause::Deadline)
+        } else {
+            None
+        };
+        Token {
+            deadline: Some(at),
+            cause,
+        }
+    }
+
+    /// The token isn't cancelled.
+    pub fn runs(&self) -> bool
+        ensures { result ≡ token.runs self.now }
+    {
+        self.cause.is_none()
+    }
+
+    /// The token is cancelled at this moment, by its deadline.
+    pub fn runs_out(&self, now: u64) -> bool
+        ensures { result ≡ token.runs_out now self.now }
+    {
+        match self.deadline {
+            Some(at) => self.runs() && at <= now,
+            None => false,
+        }
+    }
+
+    /// The token, cancelled. A first cause stays.
+    pub fn stopped(self, why: Cause) -> Token
+        ensures { result ≡ token.stopped why self }
+    {
+        let cause = self.cause.unwrap_or(why);
+        Token {
+            deadline: self.deadline,
+            cause: Some(cause),
+        }
+    }
+
+    /// The token as it is from this moment on.
+    pub fn at_moment(self, now: u64) -> Token
+        ensures { result ≡ token.at_moment now self }
+    {
+        if self.runs_out(now) {
+            self.stopped(Cause::Deadline)
+        } else {
+            self
+        }
+    }
+}

@@ -1,0 +1,36 @@
+-- Requests that wait, the oldest first.
+use Rattle.std.specs.Prelude.{ℕ, Bool, false, not, ◌==◌, List, [], ◌∷◌, filter, Option, Some, None}
+use Rattle.std.specs.List.{list_any}
+use Rattle.std.specs.Option.{option_map_or}
+use Rattle.std.specs.Str.{bytes_eq}
+use Rattle.dsql_wait.specs.declared.request.Request.{Request}
+
+-- the requests that wait, and for how many calls there is memory
+pub record Line : Type 0 where
+  pub requests : List Request
+  pub spare : ℕ
+
+-- a request of that call waits
+abbrev pub waits : ℕ → List Request → Bool
+waits call requests = list_any (λ r. r.call == call) requests
+
+-- the request has a token of that name
+abbrev pub is_of : List ℕ → Request → Bool
+is_of token request = option_map_or (λ own. bytes_eq own token) request.token false
+
+abbrev pub oldest : List Request → Option Request
+oldest [] = None
+oldest (r ∷ rs) = Some r
+
+-- all but the oldest
+abbrev pub younger : List Request → List Request
+younger [] = []
+younger (r ∷ rs) = rs
+
+-- all but that call's
+abbrev pub without_call : ℕ → List Request → List Request
+without_call call requests = filter (λ r. not (r.call == call)) requests
+
+-- all but those with a token of that name
+abbrev pub without_token : List ℕ → List Request → List Request
+without_token token requests = filter (λ r. not (is_of token r)) requests

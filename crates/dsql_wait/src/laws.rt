@@ -1,0 +1,26 @@
+//! Laws of waiting, and worked lines: each law is the contract of a function that does nothing.
+
+ghost use Rattle.dsql_wait.specs.Laws.{ServedInOrder, LeavesTheOrder, LeavesOthers, RoomLasts};
+ghost use Rattle.dsql_wait.specs.Worked.{WorkedLines};
+
+/// Requests are served in the order in which they joined.
+pub fn served_in_order()
+    ensures { ServedInOrder }
+{}
+
+/// Whoever leaves, the others wait in the same order, and those without a token wait on when a token's
+/// requests leave.
+pub fn the_order_stays()
+    ensures call { LeavesTheOrder }
+    ensures token { LeavesOthers }
+{}
+
+/// Room for some calls is enough for each of them, in whatever order they come.
+pub fn room_lasts()
+    ensures { RoomLasts }
+{}
+
+/// Worked lines: who is served, who waits, and who is left.
+pub fn worked_lines()
+    ensures { WorkedLines }
+{}

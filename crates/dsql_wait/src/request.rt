@@ -1,0 +1,28 @@
+ghost use Rattle.std.specs.Prelude.{◌≡◌};
+ghost use Rattle.dsql_wait.specs.Requests.{is_of};
+
+use dsql_journal::Owner;
+use dsql_value::Txt;
+
+/// A call that wants a connection: for whom, whether this is its last try, the name of its token if it has
+/// one, and the moment at which it asked, in nanoseconds.
+#[derive(Debug, Drop)]
+pub struct Request {
+    pub call: u32,
+    pub owner: Owner,
+    pub last: bool,
+    pub token: Option<Txt>,
+    pub asked: u64,
+}
+
+impl Request {
+    /// It has a token of that name.
+    pub(crate) fn is_of(&self, token: &Txt) -> bool
+        ensures { result ≡ is_of token.now self.now }
+    {
+        match &self.token {
+            Some(own) => own.as_str() == token.as_str(),
+            None => false,
+        }
+    }
+}

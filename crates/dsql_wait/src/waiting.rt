@@ -1,0 +1,104 @@
+ghost use Rattle.std.specs.Prelude.{◌≡◌, ◌+◌, ◌≤◌, [], ◌∷◌, ◌++◌, length, min, false, OnOk, OnErr};
+ghost use Rattle.std.specs.List.{count_by};
+
+use crate::request::Request;
+use dsql_value::{Memory, Txt};
+use std::alloc::Global;
+use std::collections::VecDeque;
+use std::marker::Model;
+
+/// The requests that wait. Contracts see them as a list, the oldest first, and for how many calls there is
+/// memory.
+#[derive(Drop)]
+pub struct Waiting {
+    queue: VecDeque<Request>,
+}
+
+impl Model for Waiting {
+    ghost use Rattle.std.specs.Prelude.{◌-◌};
+    ghost use Rattle.std.specs.VecDeque.{deque_len, deque_capacity};
+    ghost use Rattle.dsql_wait.specs.Requests.{Line};
+
+    ghost Value = { Line };
+
+    ghost view = { λ w. record { requests = w.queue.items; spare = deque_capacity w.queue - deque_len w.queue } };
+}
+
+impl Waiting {
+    ghost use Rattle.dsql_wait.specs.Requests.{waits, is_of, oldest, younger, without_call, without_token};
+
+    /// Nobody waits. It takes no memory.
+    pub fn new(alloc: Global) -> Waiting
+        ensures { result.requests ≡ [] }
+    {
+        Waiting {
+            queue: VecDeque::new(alloc),
+        }
+    }
+
+    /// Puts a request last.
+    pub fn join(&mut self, request: Request) -> Result<(), Memory>
+        requires { waits request.call self.old.requests ≡ false }
+        ensures ok { OnOk result (self.new.requests ≡ self.old.requests ++ request ∷ []) }
+        ensures full { OnErr result (self.old.spare ≡ 0) }
+        ensures err { OnErr result (self.new.requests ≡ self.old.requests) }
+        ensures spare { self.old.spare ≤ self.new.spare + 1 }
+    {
+        self.queue.push_back(request)?;
+        Ok(())
+    }
+
+    /// Takes the oldest request out, if there is one. It takes no memory, nor does anything below but
+    /// `reserve`.
+    pub fn serve_oldest(&mut self) -> Option<Request>
+        ensures served { result ≡ oldest self.old.requests }
+        ensures others { self.new.requests ≡ younger self.old.requests }
+        ensures spare { self.old.spare ≤ self.new.spare }
+    {
+        self.queue.pop_front()
+    }
+
+    /// Takes a call's request out, and says whether it was there.
+    pub fn leave(&mut self, call: u32) -> bool
+        ensures was_there { result ≡ waits call self.old.requests }
+        ensures others { self.new.requests ≡ without_call call self.old.requests }
+        ensures spare { self.old.spare ≤ self.new.spare }
+    {
+        let was_there = self.queue.iter().any(|request| request.call == call);
+        self.queue.retain(|request| request.call != call);
+        was_there
+    }
+
+    /// Takes all requests with a token of that name out, and says how many there were; 4,294,967,295 stands
+    /// for more too.
+    pub fn leave_all_of(&mut self, token: &Txt) -> u32
+        ensures left { result ≡ min (count_by (is_of token.now) self.old.requests) 4294967295 }
+        ensures others { self.new.requests ≡ without_token token.now self.old.requests }
+        ensures spare { self.old.spare ≤ self.new.spare }
+    {
+        let left = self
+            .queue
+            .iter()
+            .filter(|request| request.is_of(token))
+            .count();
+        self.queue.retain(|request| !request.is_of(token));
+        u32::try_from(left).unwrap_or(u32::MAX)
+    }
+
+    /// Takes memory for so many calls more.
+    pub fn reserve(&mut self, calls: u32) -> Result<(), Memory>
+        ensures ok { OnOk result (calls ≤ self.new.spare) }
+        ensures requests { self.new.requests ≡ self.old.requests }
+        ensures spare { self.old.spare ≤ self.new.spare }
+    {
+        self.queue.reserve(calls as usize)?;
+        Ok(())
+    }
+
+    /// How many requests wait.
+    pub fn held(&self) -> u64
+        ensures { result ≡ length self.now.requests }
+    {
+        self.queue.len() as u64
+    }
+}
