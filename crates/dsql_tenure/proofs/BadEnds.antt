@@ -24,7 +24,7 @@ use Rattle.dsql_tenure.proofs.Places.{begun-in, has-all, open-in_last, open-last
 use Rattle.dsql_tenure.proofs.WholeAtOnce.{mayfollow}
 use Rattle.dsql_tenure.proofs.Rollbacks.{none_valid, none_fell, not_invalid, bad_last, tests_outside, open_owner}
 
-both_false : (a b : Bool) → (a || b) ≡ false → (a ≡ false) × (b ≡ false)
+pub both_false : (a b : Bool) → (a || b) ≡ false → (a ≡ false) × (b ≡ false)
 both_false true b h = grind (arith, h)
 both_false false b h = (refl, h)
 

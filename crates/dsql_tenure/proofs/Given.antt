@@ -48,7 +48,7 @@ list_all-kept f g (x ∷ xs) h = go (g x) (parts2 (f x) (list_all f xs) h) (list
     go true p more = join2 (f x) (list_all f (filter g xs)) p.0 more
     go false p more = more
 
-list_all-changed : (f : LiveCursor → Bool) (rows : ℕ) (change : LiveCursor → LiveCursor) → ((c : LiveCursor) → f c ≡ true → f (change c) ≡ true)
+pub list_all-changed : (f : LiveCursor → Bool) (rows : ℕ) (change : LiveCursor → LiveCursor) → ((c : LiveCursor) → f c ≡ true → f (change c) ≡ true)
     → (cs : List LiveCursor) → list_all f cs ≡ true → list_all f (changed rows change cs) ≡ true
 list_all-changed f rows change keep [] h = refl
 list_all-changed f rows change keep (c ∷ cs) h =
