@@ -1,19 +1,19 @@
 -- A call on the database whose tenure isn't whole has a cursor to close.
-use Rattle.std.proofs.Common.{◌≡◌, ◌≢◌, ℕ, ◌≤◌, Bool, true, false, cond, not, ◌&&◌, ◌||◌, ◌==◌, nat_lt, List, [], ◌∷◌, length, refl, sym, ◌∙◌, subst, eqb→eq}
+use Rattle.std.proofs.Common.{◌≡◌, ◌≢◌, ℕ, ◌≤◌, Bool, true, false, not, ◌&&◌, ◌||◌, ◌==◌, nat_lt, List, [], ◌∷◌, refl, sym, ◌∙◌, subst, eqb→eq}
 use Rattle.std.specs.List.{filter, list_all, list_any}
 use native.Mathlib.Omega.{arith}
 use Rattle.std.proofs.lemmas.Bool.Decides.{nat_tests}
 use Rattle.dsql_driver.specs.declared.call.DriverCall.{DriverCall}
-use Rattle.dsql_driver.specs.declared.call.DriverCall.TheVariants.{Connect, Reset, Valid, Ping, Prepare, CloseStmt, Exec, Query, Next, CloseRows, Begin, Commit, Rollback, Shut}
+use Rattle.dsql_driver.specs.declared.call.DriverCall.TheVariants.{Ping, CloseStmt, Exec, Query, CloseRows}
 use Rattle.dsql_driver.specs.declared.call.Input.TheVariants.{Text, Handle}
 use Rattle.dsql_driver.specs.declared.answer.DriverAnswer.{DriverAnswer}
 use Rattle.dsql_driver.specs.declared.answer.DriverAnswer.TheVariants.{Bad}
 use Rattle.dsql_journal.specs.declared.entry.Entry.{Entry}
 use Rattle.dsql_journal.specs.declared.entry.Owner.{Owner}
 use Rattle.dsql_journal.specs.declared.entry.Owner.TheVariants.{Call}
-use Rattle.dsql_journal.specs.Kinds.{◌⇒◌, if_any, is_number, is_reset, is_valid, is_ping, is_next, is_bad, is_call, is_pin, is_tx_number, cursor_of, given_handle, given_cursor, same_owner}
-use Rattle.dsql_journal.specs.Readers.{LiveHandle, LiveCursor, is_empty, has, of_tenure, handles, cursors, cursors_after, cursors_named, went_bad}
-use Rattle.dsql_journal.specs.HandlesAndCursors.{has_live_cursor, is_as_wide}
+use Rattle.dsql_journal.specs.Kinds.{◌⇒◌, is_number, is_reset, is_valid, is_ping, is_next, is_bad, is_call, is_pin, is_tx_number, given_handle, given_cursor, same_owner}
+use Rattle.dsql_journal.specs.Readers.{LiveHandle, LiveCursor, is_empty, has, of_tenure, handles, cursors, cursors_named, went_bad}
+use Rattle.dsql_journal.specs.HandlesAndCursors.{is_as_wide}
 use Rattle.dsql_journal.specs.Tenure.{is_whole_tenure, has_ended_transactions, has_closed_cursors, has_closed_handles, is_body, place}
 use Rattle.dsql_journal.specs.Journal.{may_follow, is_journal_prefix, IsJournalPrefix}
 use Rattle.dsql_journal.specs.Facts.{KeepsBody, KeepsCallBody, MayFollow}
@@ -26,13 +26,13 @@ use Rattle.dsql_tenure.proofs.Given.{gave_handle, gave_cursor, handles-given, cu
 use Rattle.dsql_tenure.proofs.SoFarRules.{same_owner-is, pinged-worked, next-place}
 use Rattle.dsql_tenure.proofs.Transactions.{has-open}
 use Rattle.dsql_tenure.proofs.Places.{has_ended-last}
-use Rattle.dsql_tenure.proofs.WholeAtOnce.{mayfollow, whole-valid, no_cursors, empty_is}
-use Rattle.dsql_tenure.proofs.Rollbacks.{pick, open_owner, owned}
+use Rattle.dsql_tenure.proofs.WholeAtOnce.{mayfollow, whole-valid, empty_is}
+use Rattle.dsql_tenure.proofs.Rollbacks.{open_owner, owned}
 use Rattle.dsql_tenure.proofs.BadEnds.{both_false, same_owners}
 use Rattle.dsql_tenure.proofs.RollsBack.{zero-unbegun}
 use Rattle.dsql_tenure.proofs.Partly.{Partly, spoiled, spoiled_end}
-use Rattle.dsql_tenure.proofs.Owned.{Served, own_cursor}
-use Rattle.dsql_tenure.proofs.Members.{pick_in, clash, none-kept, all-any, only-one}
+use Rattle.dsql_tenure.proofs.Owned.{own_cursor}
+use Rattle.dsql_tenure.proofs.Members.{pick, pick_in, clash, none-kept, all-any, only-one}
 use Rattle.dsql_tenure.proofs.Openers.{runs, runs-body, opened, one_cursor, closed-one, call_body}
 
 -- an open transaction has a number

@@ -24,9 +24,13 @@ pick_in C p (x ∷ xs) h so = go (p x) refl h (λ some. pick_in C p xs some (λ 
     go true is k more = so x is (λ q z. first (q x) (list_any q xs) z)
     go false is k more = more k
 
+-- what follows from each that passes
+pub pick : {X : Type 0} (C : Type 0) (p : X → Bool) (xs : List X) → list_any p xs ≡ true → ((x : X) → p x ≡ true → C) → C
+pick C p xs h so = pick_in C p xs h (λ x is here. so x is)
+
 -- two tests that nothing passes both
 pub clash : {X : Type 0} (p q : X → Bool) (xs : List X) → ((x : X) → p x ≡ true → q x ≡ true → ⊥) → list_any p xs ≡ true → list_all q xs ≡ true → ⊥
-clash p q xs never some all = pick_in ⊥ (λ x. p x && q x) xs (list_any-both p q xs some all) (λ x k here. let r = parts2 (p x) (q x) k in never x r.0 r.1)
+clash p q xs never some all = pick ⊥ (λ x. p x && q x) xs (list_any-both p q xs some all) (λ x k. let r = parts2 (p x) (q x) k in never x r.0 r.1)
 
 -- what none passes, none of a part does
 pub none-kept : {X : Type 0} (p keep : X → Bool) (xs : List X) → list_any p xs ≡ false → list_any p (filter keep xs) ≡ false

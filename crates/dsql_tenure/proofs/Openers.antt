@@ -1,5 +1,5 @@
 -- Which entries open cursors; a call on the database has one open at most.
-use Rattle.std.proofs.Common.{◌≡◌, ℕ, Bool, true, false, cond, not, ◌&&◌, ◌||◌, ◌==◌, nat_lt, Option, None, Some, List, [], ◌∷◌, length, refl, sym, ◌∙◌, eqb→eq, is_some}
+use Rattle.std.proofs.Common.{◌≡◌, ℕ, Bool, true, false, cond, not, ◌&&◌, ◌||◌, ◌==◌, nat_lt, Option, None, Some, List, [], ◌∷◌, refl, sym, ◌∙◌, eqb→eq, is_some}
 use Rattle.std.specs.List.{filter, list_all, list_any}
 use native.Mathlib.Omega.{arith}
 use Rattle.std.proofs.lemmas.Bool.Decides.{nat_tests}
@@ -17,7 +17,7 @@ use Rattle.dsql_journal.specs.Readers.{LiveCursor, of_tenure, cursors, cursors_a
 use Rattle.dsql_journal.specs.Tenure.{is_body, place}
 use Rattle.dsql_journal.specs.Journal.{may_follow, is_journal_prefix, IsJournalPrefix}
 use Rattle.dsql_journal.specs.Facts.{KeepsBody, KeepsCallBody}
-use Rattle.dsql_journal.proofs.Conjunctions.{parts2, join2, if_so}
+use Rattle.dsql_journal.proofs.Conjunctions.{parts2, join2}
 use Rattle.dsql_journal.proofs.Beginnings.{answers_fit}
 use Rattle.dsql_tenure.proofs.Lists.{list_all-and, list_any-both, list_any-so}
 use Rattle.dsql_tenure.proofs.Given.{gave_cursor, cursors-given, list_all-kept, list_any-filter}

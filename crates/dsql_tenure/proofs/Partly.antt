@@ -1,5 +1,5 @@
 -- A tenure that isn't whole can have a further entry, answered Bad, and then the beginning has a whole end.
-use Rattle.std.proofs.Common.{◌≡◌, ℕ, Bool, true, false, not, ◌&&◌, ◌||◌, ◌==◌, nat_lt, None, List, [], ◌∷◌, refl, sym, ◌∙◌}
+use Rattle.std.proofs.Common.{◌≡◌, ℕ, Bool, true, false, ◌==◌, nat_lt, None, List, ◌∷◌, refl, sym, ◌∙◌}
 use Rattle.std.specs.List.{list_all}
 use native.Mathlib.Omega.{arith}
 use Rattle.std.proofs.lemmas.Bool.Decides.{nat_tests}
@@ -12,7 +12,7 @@ use Rattle.dsql_journal.specs.Readers.{bad_tenure, went_bad, was_refused, was_sh
 use Rattle.dsql_journal.specs.HandlesAndCursors.{has_width_of_cursor}
 use Rattle.dsql_journal.specs.Tenure.{is_whole_tenure}
 use Rattle.dsql_journal.specs.Journal.{IsJournalPrefix}
-use Rattle.dsql_journal.specs.Facts.{KeepsBody, KeepsTenure, KeepsTransaction, KeepsHandlesAndCursors, KeepsWholeJournal, FitsAtItsPlace, MayFollow}
+use Rattle.dsql_journal.specs.Facts.{KeepsBody, KeepsTenure, KeepsTransaction, KeepsHandlesAndCursors, KeepsWholeJournal, MayFollow}
 use Rattle.dsql_journal.proofs.Conjunctions.{join2}
 use Rattle.dsql_journal.proofs.Beginnings.{IsJournalPrefix-longer}
 use Rattle.dsql_tenure.specs.Ends.{HasWholeEnd}

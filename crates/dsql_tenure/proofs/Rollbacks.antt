@@ -18,6 +18,7 @@ use Rattle.dsql_journal.proofs.Conjunctions.{parts2, join2, if_so}
 use Rattle.dsql_tenure.specs.Open.{open_in}
 use Rattle.dsql_tenure.proofs.Lists.{list_all-and, list_any-both, list_all-filter}
 use Rattle.dsql_tenure.proofs.Given.{eqb-refl, list_any-filter, same_owner-refl}
+use Rattle.dsql_tenure.proofs.Members.{pick}
 use Rattle.dsql_tenure.proofs.SoFarRules.{same_owner-is}
 use Rattle.dsql_tenure.proofs.Places.{begun-in, has-all, open-in_last}
 use Rattle.dsql_tenure.proofs.WholeAtOnce.{mayfollow, whole-valid, whole-fell}
@@ -112,14 +113,6 @@ tests_outside (e ∷ before) h =
     go : (b : Bool) → (b ⇒ e.tx == 0) ≡ true → (not b || (e.tx == 0)) ≡ true
     go true k = k
     go false k = refl
-
-pub pick : {X : Type 0} (C : Type 0) (p : X → Bool) (xs : List X) → list_any p xs ≡ true → ((x : X) → p x ≡ true → C) → C
-pick C p [] h so = grind (arith, h)
-pick C p (x ∷ xs) h so = go (p x) refl h (pick C p xs)
-  where
-    go : (b : Bool) → p x ≡ b → (b || list_any p xs) ≡ true → (list_any p xs ≡ true → ((y : _) → p y ≡ true → C) → C) → C
-    go true is k more = so x is
-    go false is k more = more k so
 
 zero_not : (n m : ℕ) → (n == m) ≡ true → m ≢ 0 → (n == 0) ≡ false
 zero_not n m is some = go (n == 0) refl

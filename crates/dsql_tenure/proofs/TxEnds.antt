@@ -1,5 +1,5 @@
 -- A transaction's own tenure that isn't whole can work on in it, or close a statement after its end.
-use Rattle.std.proofs.Common.{◌≡◌, ◌≢◌, ℕ, Bool, true, false, not, ◌&&◌, ◌||◌, ◌==◌, List, [], ◌∷◌, refl, sym, ◌∙◌, ap, subst, eqb→eq}
+use Rattle.std.proofs.Common.{◌≡◌, ◌≢◌, ℕ, Bool, true, false, not, ◌&&◌, ◌||◌, ◌==◌, List, [], ◌∷◌, refl, sym, ◌∙◌, subst, eqb→eq}
 use Rattle.std.specs.List.{list_all, list_any}
 use native.Mathlib.Omega.{arith}
 use Rattle.std.proofs.lemmas.Bool.Decides.{nat_tests}
@@ -11,7 +11,7 @@ use Rattle.dsql_journal.specs.declared.entry.Owner.{Owner}
 use Rattle.dsql_journal.specs.declared.entry.Owner.TheVariants.{Tx}
 use Rattle.dsql_journal.specs.Kinds.{◌⇒◌, if_any, is_number, is_begin, is_ending, is_work, is_close_stmt, is_call, is_house, is_pin, is_tx_number, handle_of, given_handle, same_owner}
 use Rattle.dsql_journal.specs.Readers.{LiveHandle, LiveCursor, is_empty, has, of_tenure, of_transaction, handles, handles_named, cursors, begun, ended}
-use Rattle.dsql_journal.specs.Tenure.{is_whole_tenure, has_ended_transactions, has_closed_cursors, has_closed_handles, body, is_refused_begin}
+use Rattle.dsql_journal.specs.Tenure.{is_whole_tenure, has_ended_transactions, has_closed_cursors, has_closed_handles, body}
 use Rattle.dsql_journal.specs.Facts.{KeepsBody, KeepsTransaction}
 use Rattle.dsql_journal.proofs.Conjunctions.{parts2, join2}
 use Rattle.dsql_journal.proofs.Numbers.{handles_named-one}

@@ -8,12 +8,12 @@ use Rattle.dsql_driver.specs.declared.call.DriverCall.TheVariants.{Prepare, Exec
 use Rattle.dsql_driver.specs.declared.call.Input.TheVariants.{Text, Handle}
 use Rattle.dsql_driver.specs.declared.answer.DriverAnswer.{DriverAnswer}
 use Rattle.dsql_driver.specs.declared.answer.DriverAnswer.TheVariants.{Prepared, Cursor}
-use Rattle.dsql_driver.specs.Fits.{fits_of, is_memory, is_failure}
+use Rattle.dsql_driver.specs.Fits.{fits_of, is_memory}
 use Rattle.dsql_journal.specs.declared.entry.Entry.{Entry}
 use Rattle.dsql_journal.specs.declared.entry.Owner.{Owner}
 use Rattle.dsql_journal.specs.declared.entry.Owner.TheVariants.{Call, Tx, Pin, House}
 use Rattle.dsql_journal.specs.Kinds.{◌⇒◌, is_number, is_bad, is_reset, is_valid, is_begin, is_ending, is_close_stmt, is_work, given_handle, given_cursor, same_owner}
-use Rattle.dsql_journal.specs.Readers.{LiveHandle, LiveCursor, is_empty, has, of_tenure, of_transaction, handles, cursors, cursors_after, ended, went_bad}
+use Rattle.dsql_journal.specs.Readers.{LiveHandle, LiveCursor, is_empty, has, of_transaction, handles, cursors, cursors_after, ended, went_bad}
 use Rattle.dsql_journal.specs.Tenure.{is_body, is_refused_begin, body, earlier}
 use Rattle.dsql_journal.specs.Journal.{may_follow, is_journal_prefix, IsJournalPrefix}
 use Rattle.dsql_journal.specs.Facts.{KeepsBody}
@@ -24,7 +24,7 @@ use Rattle.dsql_tenure.proofs.Given.{gave_handle, gave_cursor, handles-given, cu
 use Rattle.dsql_tenure.proofs.SoFarRules.{same_owner-is}
 use Rattle.dsql_tenure.proofs.Transactions.{OnlyBegins, begin-only, has-ended}
 use Rattle.dsql_tenure.proofs.WholeAtOnce.{mayfollow}
-use Rattle.dsql_tenure.proofs.Rollbacks.{pick}
+use Rattle.dsql_tenure.proofs.Members.{pick}
 use Rattle.dsql_tenure.proofs.BadEnds.{both_false, same_owners}
 use Rattle.dsql_tenure.proofs.Openers.{runs, cursor-runs, number-some}
 

@@ -1,240 +1,267 @@
 use crate::{Entry, Judge, JudgeFault, Owner, Permit, Phase};
+use Line::{ByCall, House, InPin, InTx};
+use Sent::{
+    Begin, CloseRows, CloseStmt, Commit, Exec, Ping, Prepare, Query, Reset, Rollback, Run, Shut,
+    Valid,
+};
+use Told::{Bad, Done, Opens, Prepares, Ran, Skip};
+use Want::{Stray, Taken, Whole};
 use dsql_driver::{DriverAnswer, DriverCall, Input, Level};
 use dsql_value::{Items, Memory, Txt};
 use std::alloc::Global;
 use std::test::Fail;
 
-fn exec(alloc: Global) -> Result<DriverCall, Memory> {
-    let text = Txt::copy_of(alloc, "SET a 1")?;
-    Ok(DriverCall::Exec(Input::Text(text), Items::none(alloc)))
+/// What a line sends, with the handle that it runs or closes or the cursor that it closes.
+#[derive(Clone, Copy)]
+enum Sent {
+    Reset,
+    Valid,
+    Ping,
+    Exec,
+    Query,
+    Prepare,
+    Run(u32),
+    CloseRows(u32),
+    CloseStmt(u32),
+    Begin,
+    Commit,
+    Rollback,
+    Shut,
 }
 
-fn query(alloc: Global) -> Result<DriverCall, Memory> {
+/// What it is answered, with the handle or the cursor that it is given.
+#[derive(Clone, Copy)]
+enum Told {
+    Done,
+    Skip,
+    Bad,
+    Ran,
+    Prepares(u32),
+    Opens(u32),
+}
+
+/// A line of the journal of connection 1.
+#[derive(Clone, Copy)]
+enum Line {
+    /// By its tenure.
+    House(u32, Sent, Told),
+    /// By its call's number and its tenure.
+    ByCall(u32, u32, Sent, Told),
+    /// Of transaction 1 in its own tenure 2.
+    InTx(Sent, Told),
+    /// Of pinned connection 1 in tenure 2, by its call's number and its transaction.
+    InPin(u32, u32, Sent, Told),
+}
+
+/// What comes of a line: it is taken, with it the journal is whole, or it is a stray.
+#[derive(Clone, Copy)]
+enum Want {
+    Taken,
+    Whole,
+    Stray(Phase, u32),
+}
+
+/// What is shown, lines after a Connect answered Done, the one that comes next, and what comes of that.
+const JOURNALS: [(&str, &[Line], Line, Want); 15] = [
+    (
+        "a whole tenure can be shut",
+        &[ByCall(1, 2, Exec, Ran)],
+        House(3, Shut, Done),
+        Whole,
+    ),
+    (
+        "an open transaction keeps its tenure",
+        &[InTx(Begin, Done)],
+        ByCall(2, 3, Exec, Ran),
+        Stray(Phase::Inside, 2),
+    ),
+    (
+        "a transaction can be rolled back",
+        &[InTx(Begin, Done)],
+        InTx(Rollback, Done),
+        Taken,
+    ),
+    (
+        "and only once",
+        &[InTx(Begin, Done), InTx(Rollback, Done)],
+        InTx(Rollback, Done),
+        Stray(Phase::Inside, 2),
+    ),
+    (
+        "a call's handle stays for later calls",
+        &[ByCall(1, 2, Prepare, Prepares(1))],
+        ByCall(2, 3, Run(1), Ran),
+        Taken,
+    ),
+    (
+        "a transaction's handle is closed in its tenure",
+        &[
+            InTx(Begin, Done),
+            InTx(Prepare, Prepares(1)),
+            InTx(Commit, Done),
+        ],
+        House(3, Shut, Done),
+        Stray(Phase::Inside, 2),
+    ),
+    (
+        "nothing is closed after a Bad answer",
+        &[
+            ByCall(1, 2, Prepare, Prepares(1)),
+            ByCall(2, 3, Run(1), Bad),
+        ],
+        ByCall(2, 3, CloseStmt(1), Done),
+        Stray(Phase::Between, 3),
+    ),
+    (
+        "it can be shut after a Bad answer",
+        &[ByCall(1, 2, Exec, Bad)],
+        House(3, Shut, Done),
+        Whole,
+    ),
+    (
+        "nothing follows Shut",
+        &[House(2, Shut, Done)],
+        ByCall(2, 3, Ping, Done),
+        Stray(Phase::After, 2),
+    ),
+    (
+        "the House closes a call's statement",
+        &[ByCall(1, 2, Prepare, Prepares(1))],
+        House(3, CloseStmt(1), Done),
+        Taken,
+    ),
+    (
+        "and sends nothing more in that tenure",
+        &[
+            ByCall(1, 2, Prepare, Prepares(1)),
+            House(3, CloseStmt(1), Done),
+        ],
+        House(3, Shut, Done),
+        Stray(Phase::Between, 3),
+    ),
+    (
+        "a call prepares after a skip",
+        &[
+            ByCall(1, 2, Reset, Done),
+            ByCall(1, 2, Exec, Skip),
+            ByCall(1, 2, Prepare, Prepares(1)),
+            ByCall(1, 2, Run(1), Ran),
+        ],
+        ByCall(1, 2, Valid, Done),
+        Taken,
+    ),
+    (
+        "and not after a result",
+        &[ByCall(1, 2, Exec, Ran)],
+        ByCall(1, 2, Prepare, Prepares(1)),
+        Stray(Phase::Inside, 2),
+    ),
+    (
+        "a pinned connection commits no live cursor",
+        &[InPin(2, 2, Begin, Done), InPin(3, 2, Query, Opens(7))],
+        InPin(4, 2, Commit, Done),
+        Stray(Phase::Inside, 2),
+    ),
+    (
+        "and commits once that is closed",
+        &[
+            InPin(2, 2, Begin, Done),
+            InPin(3, 2, Query, Opens(7)),
+            InPin(3, 2, CloseRows(7), Done),
+        ],
+        InPin(4, 2, Commit, Done),
+        Taken,
+    ),
+];
+
+fn driver_call(alloc: Global, sent: Sent) -> Result<DriverCall, Memory> {
     let text = Txt::copy_of(alloc, "LIST a")?;
-    Ok(DriverCall::Query(Input::Text(text), Items::none(alloc)))
+    let none = Items::none(alloc);
+    Ok(match sent {
+        Reset => DriverCall::Reset,
+        Valid => DriverCall::Valid,
+        Ping => DriverCall::Ping,
+        Exec => DriverCall::Exec(Input::Text(text), none),
+        Query => DriverCall::Query(Input::Text(text), none),
+        Prepare => DriverCall::Prepare(text),
+        Run(handle) => DriverCall::Exec(Input::Handle(handle), none),
+        CloseRows(rows) => DriverCall::CloseRows(rows),
+        CloseStmt(handle) => DriverCall::CloseStmt(handle),
+        Begin => DriverCall::Begin {
+            level: Level::Default,
+            read_only: false,
+        },
+        Commit => DriverCall::Commit,
+        Rollback => DriverCall::Rollback,
+        Shut => DriverCall::Shut,
+    })
 }
 
-fn exec_handle(alloc: Global, handle: u32) -> DriverCall {
-    DriverCall::Exec(Input::Handle(handle), Items::none(alloc))
-}
-
-fn prepare(alloc: Global) -> Result<DriverCall, Memory> {
-    let text = Txt::copy_of(alloc, "SET a ?")?;
-    Ok(DriverCall::Prepare(text))
-}
-
-fn begin() -> DriverCall {
-    DriverCall::Begin {
-        level: Level::Default,
-        read_only: false,
+fn driver_answer(alloc: Global, told: Told) -> DriverAnswer {
+    match told {
+        Done => DriverAnswer::Done,
+        Skip => DriverAnswer::Skip,
+        Bad => DriverAnswer::Bad,
+        Ran => DriverAnswer::Result {
+            last: 0,
+            affected: 1,
+        },
+        Prepares(handle) => DriverAnswer::Prepared { handle, inputs: 1 },
+        Opens(rows) => DriverAnswer::Cursor {
+            rows,
+            columns: Items::none(alloc),
+        },
     }
 }
 
-fn result() -> DriverAnswer {
-    DriverAnswer::Result {
-        last: 0,
-        affected: 1,
-    }
-}
-
-fn gives_handle(handle: u32) -> DriverAnswer {
-    DriverAnswer::Prepared { handle, inputs: 1 }
-}
-
-fn gives_cursor(alloc: Global, rows: u32) -> DriverAnswer {
-    DriverAnswer::Cursor {
-        rows,
-        columns: Items::none(alloc),
-    }
-}
-
-fn house(tenure: u32, call: DriverCall, answer: DriverAnswer) -> Entry {
-    Entry {
+fn entry(alloc: Global, line: Line) -> Result<Entry, Memory> {
+    let (tenure, owner, call_no, tx, sent, told) = match line {
+        House(tenure, sent, told) => (tenure, Owner::House, 0, 0, sent, told),
+        ByCall(n, tenure, sent, told) => (tenure, Owner::Call(n), n, 0, sent, told),
+        InTx(sent, told) => (2, Owner::Tx(1), 1, 1, sent, told),
+        InPin(n, tx, sent, told) => (2, Owner::Pin(1), n, tx, sent, told),
+    };
+    Ok(Entry {
         conn: 1,
         tenure,
+        owner,
+        call_no,
+        tx,
+        call: driver_call(alloc, sent)?,
+        answer: driver_answer(alloc, told),
+    })
+}
+
+/// The judge of connection 1 after a Connect answered Done and these lines.
+fn judge_after(alloc: Global, lines: &[Line]) -> Result<Judge, Fail> {
+    let mut judge = Judge::new(alloc, 1);
+    judge.next(&Entry {
+        conn: 1,
+        tenure: 1,
         owner: Owner::House,
         call_no: 0,
         tx: 0,
-        call,
-        answer,
-    }
-}
-
-fn by_call(n: u32, tenure: u32, call: DriverCall, answer: DriverAnswer) -> Entry {
-    Entry {
-        conn: 1,
-        tenure,
-        owner: Owner::Call(n),
-        call_no: n,
-        tx: 0,
-        call,
-        answer,
-    }
-}
-
-/// An entry of transaction 1 in its own tenure 2.
-fn in_tx(call: DriverCall, answer: DriverAnswer) -> Entry {
-    Entry {
-        conn: 1,
-        tenure: 2,
-        owner: Owner::Tx(1),
-        call_no: 1,
-        tx: 1,
-        call,
-        answer,
-    }
-}
-
-/// An entry of pinned connection 1 in tenure 2.
-fn in_pin(call_no: u32, tx: u32, call: DriverCall, answer: DriverAnswer) -> Entry {
-    Entry {
-        conn: 1,
-        tenure: 2,
-        owner: Owner::Pin(1),
-        call_no,
-        tx,
-        call,
-        answer,
-    }
-}
-
-/// The judge of connection 1 after a Connect answered Done and these entries.
-fn judge_after(alloc: Global, entries: &[Entry]) -> Result<Judge, JudgeFault> {
-    let mut judge = Judge::new(alloc, 1);
-    judge.next(&house(1, DriverCall::Connect, DriverAnswer::Done))?;
-    for entry in entries {
-        judge.next(entry)?;
+        call: DriverCall::Connect,
+        answer: DriverAnswer::Done,
+    })?;
+    for line in lines {
+        judge.next(&entry(alloc, *line)?)?;
     }
     Ok(judge)
 }
 
-fn stray(phase: Phase, tenure: u32) -> Result<(), JudgeFault> {
-    Err(JudgeFault::Stray { phase, tenure })
-}
-
 #[test]
-fn shut_follows_a_whole_tenure(rt: HostRuntime) -> Result<(), Fail> {
-    let alloc = rt.alloc();
-    let mut judge = judge_after(alloc, &[by_call(1, 2, exec(alloc)?, result())])?;
-    assert!(rt; !judge.may_stop());
-    let shut = house(3, DriverCall::Shut, DriverAnswer::Done);
-    assert_eq!(rt; judge.next(&shut), Ok(()));
-    assert!(rt; judge.may_stop());
-    Ok(())
-}
-
-#[test]
-fn shut_follows_a_bad_answer(rt: HostRuntime) -> Result<(), Fail> {
-    let alloc = rt.alloc();
-    let mut judge = judge_after(alloc, &[by_call(1, 2, exec(alloc)?, DriverAnswer::Bad)])?;
-    let shut = house(3, DriverCall::Shut, DriverAnswer::Done);
-    assert_eq!(rt; judge.next(&shut), Ok(()));
-    Ok(())
-}
-
-#[test]
-fn nothing_follows_shut(rt: HostRuntime) -> Result<(), Fail> {
-    let shut = house(2, DriverCall::Shut, DriverAnswer::Done);
-    let mut judge = judge_after(rt.alloc(), &[shut])?;
-    let ping = by_call(2, 3, DriverCall::Ping, DriverAnswer::Done);
-    assert_eq!(rt; judge.next(&ping), stray(Phase::After, 2));
-    Ok(())
-}
-
-#[test]
-fn a_transaction_keeps_its_tenure(rt: HostRuntime) -> Result<(), Fail> {
-    let alloc = rt.alloc();
-    let mut judge = judge_after(alloc, &[in_tx(begin(), DriverAnswer::Done)])?;
-    let other = by_call(2, 3, exec(alloc)?, result());
-    assert_eq!(rt; judge.next(&other), stray(Phase::Inside, 2));
-    Ok(())
-}
-
-#[test]
-fn a_transaction_ends_once(rt: HostRuntime) -> Result<(), Fail> {
-    let mut judge = judge_after(rt.alloc(), &[in_tx(begin(), DriverAnswer::Done)])?;
-    let rollback = in_tx(DriverCall::Rollback, DriverAnswer::Done);
-    assert_eq!(rt; judge.next(&rollback), Ok(()));
-    assert_eq!(rt; judge.next(&rollback), stray(Phase::Inside, 2));
-    Ok(())
-}
-
-#[test]
-fn a_transaction_closes_its_handles(rt: HostRuntime) -> Result<(), Fail> {
-    let alloc = rt.alloc();
-    let mut judge = judge_after(alloc, &[in_tx(begin(), DriverAnswer::Done)])?;
-    judge.next(&in_tx(prepare(alloc)?, gives_handle(1)))?;
-    judge.next(&in_tx(DriverCall::Commit, DriverAnswer::Done))?;
-    let shut = house(3, DriverCall::Shut, DriverAnswer::Done);
-    assert_eq!(rt; judge.next(&shut), stray(Phase::Inside, 2));
-    Ok(())
-}
-
-#[test]
-fn handles_of_calls_stay(rt: HostRuntime) -> Result<(), Fail> {
-    let alloc = rt.alloc();
-    let prepared = [by_call(1, 2, prepare(alloc)?, gives_handle(1))];
-    let mut judge = judge_after(alloc, &prepared)?;
-    assert_eq!(rt;
-        judge.next(&by_call(2, 3, exec_handle(alloc, 1), DriverAnswer::Bad)),
-        Ok(())
-    );
-    let close = by_call(2, 3, DriverCall::CloseStmt(1), DriverAnswer::Done);
-    assert_eq!(rt; judge.next(&close), stray(Phase::Between, 3));
-    Ok(())
-}
-
-/// Call 1 runs a text that is skipped, prepares it and runs the handle; the House closes the statement.
-fn skipped_and_prepared(alloc: Global) -> Result<[Entry; 6], Memory> {
-    let text = exec(alloc)?;
-    let statement = prepare(alloc)?;
-    Ok([
-        by_call(1, 2, DriverCall::Reset, DriverAnswer::Done),
-        by_call(1, 2, text, DriverAnswer::Skip),
-        by_call(1, 2, statement, gives_handle(1)),
-        by_call(1, 2, exec_handle(alloc, 1), result()),
-        by_call(1, 2, DriverCall::Valid, DriverAnswer::Done),
-        house(3, DriverCall::CloseStmt(1), DriverAnswer::Done),
-    ])
-}
-
-#[test]
-fn the_house_sends_one_call(rt: HostRuntime) -> Result<(), Fail> {
-    let alloc = rt.alloc();
-    let mut judge = judge_after(alloc, &skipped_and_prepared(alloc)?)?;
-    let more = house(3, DriverCall::Shut, DriverAnswer::Done);
-    assert_eq!(rt; judge.next(&more), stray(Phase::Between, 3));
-    Ok(())
-}
-
-#[test]
-fn a_call_prepares_only_after_a_skip(rt: HostRuntime) -> Result<(), Fail> {
-    let alloc = rt.alloc();
-    let mut judge = judge_after(alloc, &[by_call(1, 2, exec(alloc)?, result())])?;
-    let prepares = by_call(1, 2, prepare(alloc)?, gives_handle(1));
-    assert_eq!(rt; judge.next(&prepares), stray(Phase::Inside, 2));
-    Ok(())
-}
-
-/// A pinned connection is pinged, begins transaction 2 and queries in it.
-fn pinned_query(alloc: Global) -> Result<[Entry; 3], Memory> {
-    let text = query(alloc)?;
-    Ok([
-        in_pin(1, 0, DriverCall::Ping, DriverAnswer::Done),
-        in_pin(2, 2, begin(), DriverAnswer::Done),
-        in_pin(3, 2, text, gives_cursor(alloc, 7)),
-    ])
-}
-
-#[test]
-fn a_pin_commits_without_cursors(rt: HostRuntime) -> Result<(), Fail> {
-    let alloc = rt.alloc();
-    let mut judge = judge_after(alloc, &pinned_query(alloc)?)?;
-    assert_eq!(rt; judge.held(), 2);
-    let commit = in_pin(4, 2, DriverCall::Commit, DriverAnswer::Done);
-    assert_eq!(rt; judge.next(&commit), stray(Phase::Inside, 2));
-    judge.next(&in_pin(4, 2, DriverCall::CloseRows(7), DriverAnswer::Done))?;
-    assert_eq!(rt; judge.next(&commit), Ok(()));
+fn journals_are_taken_line_by_line(rt: HostRuntime) -> Result<(), Fail> {
+    for (shows, lines, last, want) in JOURNALS {
+        let mut judge = judge_after(rt.alloc(), lines)?;
+        let expected = match want {
+            Taken => (Ok(()), false),
+            Whole => (Ok(()), true),
+            Stray(phase, tenure) => (Err(JudgeFault::Stray { phase, tenure }), judge.may_stop()),
+        };
+        let heard = judge.next(&entry(rt.alloc(), last)?);
+        assert_eq!(rt; (heard, judge.may_stop()), expected, "{shows}");
+    }
     Ok(())
 }
 
@@ -244,15 +271,15 @@ fn a_permit_is_judged_before_it_is_sent(rt: HostRuntime) -> Result<(), Fail> {
     let permit = Permit {
         conn: 1,
         tenure: 2,
-        owner: Owner::Tx(1),
-        call_no: 1,
-        tx: 1,
-        call: begin(),
+        owner: Owner::Pin(1),
+        call_no: 2,
+        tx: 2,
+        call: driver_call(alloc, Begin)?,
     };
-    let mut judge = judge_after(alloc, &[])?;
+    let mut judge = judge_after(alloc, &[InPin(1, 0, Ping, Done)])?;
     assert!(rt; judge.may_send(&permit));
     judge.reserve(1)?;
-    judge.next(&in_tx(begin(), DriverAnswer::Done))?;
-    assert!(rt; !judge.may_send(&permit));
+    judge.next(&permit.answered(DriverAnswer::Done))?;
+    assert_eq!(rt; judge.held(), 1);
     Ok(())
 }
