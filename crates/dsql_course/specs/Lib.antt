@@ -1,0 +1,5 @@
+pub mod Steps
+pub mod Made
+pub mod Line
+pub mod Given
+pub mod Worked
