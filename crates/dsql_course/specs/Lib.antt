@@ -2,4 +2,5 @@ pub mod Steps
 pub mod Made
 pub mod Line
 pub mod Given
+pub mod Meant
 pub mod Worked

@@ -6,6 +6,8 @@ mod call;
 mod course;
 pub mod laws;
 mod line;
+mod made;
+mod step;
 
 pub use call::{Due, Got};
 pub use course::Course;
