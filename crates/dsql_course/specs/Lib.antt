@@ -3,4 +3,5 @@ pub mod Made
 pub mod Line
 pub mod Given
 pub mod Meant
+pub mod Laws
 pub mod Worked
