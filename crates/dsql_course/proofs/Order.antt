@@ -1,8 +1,8 @@
 -- The calls of a line in the order of their steps.
-use Rattle.std.proofs.Common.{◌≡◌, ◌≢◌, ℕ, ◌<◌, Bool, true, false, not, ◌&&◌, cond, List, [], ◌∷◌, map, refl, sym, ap, ◌∙◌, subst, Option, Some, None, lit<, arith, rules}
-use Rattle.std.specs.Prelude.{ℤ, All, AllPairs}
+use Rattle.std.proofs.Common.{◌≡◌, ◌≢◌, ℕ, ◌<◌, Bool, true, false, cond, List, [], ◌∷◌, map, refl, sym, ap, subst, Option, Some, None, lit<, arith, rules}
+use Rattle.std.specs.Prelude.{ℤ, All}
 use Rattle.std.specs.Option.{option_map}
-use Rattle.std.proofs.lemmas.List.Elements.{All-nil, All-cons, All-head, All-weaker}
+use Rattle.std.proofs.lemmas.List.Elements.{All-nil, All-cons, All-weaker}
 use Rattle.std.proofs.lemmas.List.Kept.{AllPairs-cons}
 use Rattle.dsql_driver.specs.declared.caps.Caps.{Caps}
 use Rattle.dsql_course.specs.declared.course.Course.{Course}
@@ -14,7 +14,7 @@ use Rattle.dsql_course.specs.Steps.{Step, RunText, PrepareText, RunHandle, Fetch
 use Rattle.dsql_course.specs.Made.{Exchange, went_bad}
 use Rattle.dsql_course.specs.Line.{Found, Turn, exchange, when, run_with, or_then, wanted, first_wanted, steps_left, behind_call, comes_next, may_get, IsLine}
 use Rattle.dsql_course.specs.Laws.{StepsOnce}
-use Rattle.dsql_course.proofs.Turns.{Newest, newest}
+use Rattle.dsql_course.proofs.Turns.{newest}
 
 -- the place of a step among all
 abbrev pub place : Step → ℕ
@@ -55,23 +55,23 @@ in_order (course.Run reads one live) = search rules
 in_order course.Ping = search rules
 in_order course.Begin = search rules
 
-same_step-place : (s t : Step) → same_step s t ≡ true → place s ≡ place t
-same_step-place RunText RunText h = refl
-same_step-place PrepareText PrepareText h = refl
-same_step-place RunHandle RunHandle h = refl
-same_step-place FetchRow FetchRow h = refl
-same_step-place CloseCursor CloseCursor h = refl
-same_step-place CloseHandle CloseHandle h = refl
-same_step-place PingIt PingIt h = refl
-same_step-place BeginIt BeginIt h = refl
-same_step-place UndoIt UndoIt h = refl
-same_step-place _ _ h = cc
+pub same_step-sound : (s t : Step) → same_step s t ≡ true → s ≡ t
+same_step-sound RunText RunText h = refl
+same_step-sound PrepareText PrepareText h = refl
+same_step-sound RunHandle RunHandle h = refl
+same_step-sound FetchRow FetchRow h = refl
+same_step-sound CloseCursor CloseCursor h = refl
+same_step-sound CloseHandle CloseHandle h = refl
+same_step-sound PingIt PingIt h = refl
+same_step-sound BeginIt BeginIt h = refl
+same_step-sound UndoIt UndoIt h = refl
+same_step-sound _ _ h = cc
 
 pub all_behind : (s : Step) (all : List Step) → InOrder all → AllBehind (place s) (behind s all)
 all_behind s [] h = tt
 all_behind s (step ∷ later) h =
     elim (same_step s step) as (λ b. same_step s step ≡ b → AllBehind (place s) (cond b later (behind s later))) [
-      | true ↦ λ same. subst (λ (n : ℕ). AllBehind n later) (sym (same_step-place s step same)) h.0
+      | true ↦ λ same. subst (λ (t : Step). AllBehind (place t) later) (sym (same_step-sound s step same)) h.0
       | false ↦ λ other. all_behind s later h.1
     ] refl
 
@@ -151,9 +151,9 @@ before_next c can args turn (last ∷ earlier) line =
     let before = newest c can args last earlier h.line in
     let small = answers_place c last.call last.answer before.answers in
     let lt : call_place last.call < call_place turn.call =
-      subst (λ (due : Due). call_place last.call < call_place due) (sym h.next) (next_behind c can args turn.found (exchange last) (map exchange earlier) small) in
+    subst (λ (due : Due). call_place last.call < call_place due) (sym h.next) (next_behind c can args turn.found (exchange last) (map exchange earlier) small) in
     All-cons (λ (t : Turn). call_place t.call < call_place turn.call) last earlier lt
-        (All-weaker (λ (t : Turn). call_place t.call < call_place last.call) (λ (t : Turn). call_place t.call < call_place turn.call) (λ t less. omega arith) earlier (before_next c can args last earlier h.line))
+    (All-weaker (λ (t : Turn). call_place t.call < call_place last.call) (λ (t : Turn). call_place t.call < call_place turn.call) (λ t less. omega arith) earlier (before_next c can args last earlier h.line))
 
 apart : (one other : Due) → call_place other < call_place one → step_of one ≢ step_of other
 apart one other lt same = let places : call_place one ≡ call_place other = ap place_of same in omega arith

@@ -1,6 +1,5 @@
 -- Lines, and the exchanges that they give.
-use Rattle.std.proofs.Common.{◌≡◌, ℕ, Bool, true, false, ◌&&◌, ◌||◌, cond, eqb, List, [], ◌∷◌, map, refl, sym, ap, ◌∙◌, subst}
-use Rattle.std.specs.Prelude.{All}
+use Rattle.std.proofs.Common.{◌≡◌, ℕ, Bool, true, false, ◌&&◌, ◌||◌, List, [], ◌∷◌, map, refl, sym, ap, ◌∙◌, subst}
 use Rattle.std.specs.List.{list_any}
 use Rattle.std.proofs.lemmas.Bool.{and_parts, and_from, or_cases, or_left, or_right, eqb-true, eq-eqb, cond-true}
 use Rattle.std.proofs.lemmas.List.Elements.{All-nil, All-cons, All-head, All-tail}
@@ -85,11 +84,12 @@ with_turn : (c : Course) (can : Caps) (args : ℕ) (found known : Found) (x : Ex
 with_turn c can args found known x earlier least same answers before =
     let turn : Turn = record { found = known; call = x.0; answer = x.1 } in
     let next = same_call-sound x.0 (comes_next c can args known earlier) same in
-    let again : x.0 ≡ comes_next c can args known (map exchange before.0) = subst (λ (made : List Exchange). x.0 ≡ comes_next c can args known made) (sym before.3) next in
-    (turn ∷ before.0,
-        one_more c can args turn before.0 (record { line = before.1; next = again; answers = answers }),
-        All-cons (λ (t : Turn). IsWithin t.found found) turn before.0 least before.2,
-        ap (λ (made : List Exchange). x ∷ made) before.3)
+    let again : x.0 ≡ comes_next c can args known (map exchange before.0) = subst (λ (made : List Exchange). x.0 ≡ comes_next c can args known made) (sym before.3) next in (
+      turn ∷ before.0,
+      one_more c can args turn before.0 (record { line = before.1; next = again; answers = answers }),
+      All-cons (λ (t : Turn). IsWithin t.found found) turn before.0 least before.2,
+      ap (λ (made : List Exchange). x ∷ made) before.3,
+    )
 
 or_false : (b : Bool) → (b || false) ≡ true → b ≡ true
 or_false true h = refl
@@ -109,18 +109,19 @@ line_of c can args found (x ∷ earlier) h =
     elim (or_cases (test nothing) (test stop || (test bad || (test found || false))) first.1) [
       | inl same ↦ goes nothing (record { stopped = λ e. refl; bad = λ e. refl }) same
       | inr others ↦ elim (or_cases (test stop) (test bad || (test found || false)) others) [
-          | inl same ↦ goes stop (record { stopped = λ e. e; bad = λ e. refl }) same
-          | inr more ↦ elim (or_cases (test bad) (test found || false) more) [
-              | inl same ↦ goes bad (record { stopped = λ e. refl; bad = λ e. e }) same
-              | inr last ↦ goes found (record { stopped = λ e. e; bad = λ e. e }) (or_false (test found) last)
-            ]
+        | inl same ↦ goes stop (record { stopped = λ e. e; bad = λ e. refl }) same
+        | inr more ↦ elim (or_cases (test bad) (test found || false) more) [
+          | inl same ↦ goes bad (record { stopped = λ e. refl; bad = λ e. e }) same
+          | inr last ↦ goes found (record { stopped = λ e. e; bad = λ e. e }) (or_false (test found) last)
         ]
+      ]
     ]
 
 pub lines_give : LinesGive
-lines_give c can args found made =
-    (line_of c can args found made,
-        λ (turns, line, within, is). subst (λ (xs : List Exchange). is_given c can args found xs ≡ true) is (given_by c can args found turns line within))
+lines_give c can args found made = (
+  line_of c can args found made,
+  λ (turns, line, within, is). subst (λ (xs : List Exchange). is_given c can args found xs ≡ true) is (given_by c can args found turns line within),
+)
 
 due_at : (c : Course) (can : Caps) (args : ℕ) (found : Found) (turns : List Turn) → IsLine c can args turns → AreWithin turns found → due_of c can args found (map exchange turns) ≡ comes_next c can args found (map exchange turns)
 due_at c can args found turns line within = cond-true (is_given c can args found (map exchange turns)) _ _ (given_by c can args found turns line within)

@@ -1,6 +1,6 @@
 -- The lines of a course: which of its steps are taken, given what came before, and whole lines of them.
-use Rattle.std.specs.Prelude.{◌≡◌, ℕ, ℤ, Bool, true, false, ◌==◌, ◌&&◌, ◌||◌, not, negsuc, int_le, if◌then◌else◌, Option, Some, None, is_none, is_some, option_map, List, [], ◌∷◌, map, IsTrue}
-use Rattle.std.specs.List.{list_any, list_all}
+use Rattle.std.specs.Prelude.{ℕ, ℤ, Bool, true, false, ◌==◌, ◌&&◌, ◌||◌, not, negsuc, int_le, if◌then◌else◌, Option, Some, None, is_none, option_map, List, [], ◌∷◌, map, IsTrue}
+use Rattle.std.specs.List.{list_any}
 use Rattle.dsql_value.specs.Arguments.{count_fault}
 use Rattle.dsql_driver.specs.declared.caps.Caps.{Caps}
 use Rattle.dsql_course.specs.declared.course.Course.{Course}

@@ -1,6 +1,5 @@
 -- The steps of each course, in the order in which they are taken.
-use Rattle.std.specs.Prelude.{ℕ, ℤ, Bool, true, false, not, ◌||◌, if◌then◌else◌, List, [], ◌∷◌, ◌++◌, Option}
-use Rattle.dsql_driver.specs.declared.caps.Caps.{Caps}
+use Rattle.std.specs.Prelude.{Bool, true, false, if◌then◌else◌, List, [], ◌∷◌, Option}
 use Rattle.dsql_course.specs.declared.course.Course.{Course}
 use Rattle.dsql_course.specs.declared.course.Course.TheVariants as course
 use Rattle.dsql_course.specs.declared.call.Due.{Due}

@@ -1,11 +1,10 @@
 -- Worked lines: what comes next, call after call.
-use Rattle.std.specs.Prelude.{◌≡◌, ℕ, pos, negsuc, true, false, List, [], ◌∷◌, Some, None}
+use Rattle.std.specs.Prelude.{◌≡◌, pos, negsuc, true, false, List, [], ◌∷◌, Some, None}
 use Rattle.dsql_driver.specs.declared.caps.Caps.{Caps}
 use Rattle.dsql_course.specs.declared.course.Course.{Course}
 use Rattle.dsql_course.specs.declared.course.Course.TheVariants as course
 use Rattle.dsql_course.specs.declared.call.Due.{Due}
 use Rattle.dsql_course.specs.declared.call.Due.TheVariants as call
-use Rattle.dsql_course.specs.declared.call.Got.{Got}
 use Rattle.dsql_course.specs.declared.call.Got.TheVariants as got
 use Rattle.dsql_course.specs.Made.{Exchange}
 use Rattle.dsql_course.specs.Line.{Found}

@@ -1,5 +1,5 @@
 //! What follows from the definitions: each law is the contract of a function that does nothing.
-ghost use Rattle.dsql_course.specs.Laws.{LinesGive, DueMakesLines, StepsOnce};
+ghost use Rattle.dsql_course.specs.Laws.{LinesGive, DueMakesLines, StepsOnce, ClosesWhatItOpened};
 ghost use Rattle.dsql_course.specs.Worked.{WorkedLines};
 
 /// Calls with their answers are given exactly where a line of the course has them, at whose turns no more
@@ -19,6 +19,13 @@ pub fn what_is_due_call_after_call_is_a_line()
 #[tactic(auto, using(crate::proofs::Order::steps_once))]
 pub fn a_line_takes_each_step_once()
     ensures { StepsOnce }
+{}
+
+/// A line that is over on a good connection has closed each cursor of which it reads one row, and each
+/// handle that is for its call alone.
+#[tactic(auto, using(crate::proofs::Closed::closes_what_it_opened))]
+pub fn what_was_opened_is_closed()
+    ensures { ClosesWhatItOpened }
 {}
 
 /// Worked lines, call after call.

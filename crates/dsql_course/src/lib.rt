@@ -12,3 +12,6 @@ mod step;
 pub use call::{Due, Got};
 pub use course::Course;
 pub use line::{comes_next, due};
+
+#[cfg(test)]
+mod tests;

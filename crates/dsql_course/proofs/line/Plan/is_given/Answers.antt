@@ -1,6 +1,5 @@
-use Rattle.std.proofs.Common.{◌≡◌, ◌∙◌, sym, take, reverse, get_or}
+use Rattle.std.proofs.Common.{◌∙◌, sym}
 use Rattle.dsql_course.proofs.Beginnings.{no_line_with, no_line_answers}
-use Rattle.dsql_course.specs.Given.{is_given, may_have_come}
 use Rattle.dsql_course.proofs.line.Plan.is_given.Goals as goal
 use Rattle.dsql_course.proofs.line.Plan.is_given.Goals.{then-not-may_have_come-via-then-not-may_have_come, then-not-may_have_come-via-else-not-may_have_come+then-not-may_get}
 
