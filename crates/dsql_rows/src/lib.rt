@@ -4,9 +4,13 @@
 
 mod end;
 mod fault;
+pub mod laws;
 mod rows;
 mod table;
 
 pub use end::{RowsEnd, RowsOver};
 pub use fault::{RowsClosed, RowsFault};
 pub use table::RowsTable;
+
+#[cfg(test)]
+mod tests;
