@@ -1,15 +1,11 @@
 -- Laws of ends, of scans and of numbers.
-use Rattle.std.proofs.Common.{◌≡◌, ◌≢◌, ℕ, Bool, true, false, cond, eqb, List, [], ◌∷◌, ◌++◌, Option, Some, None, refl, sym, ap, ◌∙◌, subst}
+use Rattle.std.proofs.Common.{◌≡◌, ◌≢◌, ℕ, Bool, true, false, cond, eqb, List, [], ◌∷◌, ◌++◌, Option, Some, None, refl, sym, ap, ◌∙◌}
 use Rattle.std.specs.Prelude.{is_some, is_none, fold}
 use Rattle.std.specs.Option.{option_map}
 use Rattle.std.proofs.lemmas.Bool.{eqb-true, eq-eqb, ne_eqb, cond-true}
-use Rattle.dsql_value.specs.declared.value.Value.{Value}
-use Rattle.dsql_scan.specs.declared.dest.Dest.{Dest}
 use Rattle.dsql_rows.specs.declared.end.RowsEnd.{RowsEnd}
-use Rattle.dsql_rows.specs.declared.fault.RowsFault.TheVariants as fault
 use Rattle.dsql_rows.specs.declared.rows.Rows.{Rows}
-use Rattle.dsql_rows.specs.Ends.{over_of}
-use Rattle.dsql_rows.specs.OpenRows.{fresh, is_live, shown, ended_by, scan_of, answer_of, scan_answer, rows_of, was_made, changed}
+use Rattle.dsql_rows.specs.OpenRows.{fresh, is_live, ended_by, scan_of, answer_of, rows_of, was_made, changed}
 use Rattle.dsql_rows.specs.Laws.{FirstEndStays, ScanReadsTheNewest, ChangesOneNumber}
 
 -- rows that were ended once are as they are

@@ -1,5 +1,5 @@
 -- What the table of rows promises, as laws.
-use Rattle.std.specs.Prelude.{◌≡◌, ◌≢◌, ℕ, true, false, List, [], ◌∷◌, ◌++◌, Some, None, Err, fold}
+use Rattle.std.specs.Prelude.{◌≡◌, ◌≢◌, ℕ, true, false, List, [], ◌∷◌, ◌++◌, Some, Err, fold}
 use Rattle.std.specs.Option.{option_map}
 use Rattle.dsql_value.specs.declared.value.Value.{Value}
 use Rattle.dsql_scan.specs.declared.dest.Dest.{Dest}

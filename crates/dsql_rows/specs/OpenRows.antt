@@ -4,7 +4,6 @@ use Rattle.std.specs.Map.{lookup}
 use Rattle.dsql_value.specs.declared.value.Value.{Value}
 use Rattle.dsql_scan.specs.declared.cell.Cell.{Cell}
 use Rattle.dsql_scan.specs.declared.dest.Dest.{Dest}
-use Rattle.dsql_scan.specs.declared.fault.RowFault.{RowFault}
 use Rattle.dsql_scan.specs.Rows.{row_of, RowScan}
 use Rattle.dsql_rows.specs.declared.end.RowsEnd.{RowsEnd}
 use Rattle.dsql_rows.specs.declared.fault.RowsClosed.{RowsClosed}

@@ -1,5 +1,5 @@
 -- A new number goes last.
-use Rattle.std.proofs.Common.{◌≡◌, ℕ, List, ◌∷◌, [], ◌++◌, ap, sym, ◌∙◌, subst, eqb}
+use Rattle.std.proofs.Common.{ℕ, List, ◌∷◌, [], ◌++◌, ap, ◌∙◌, eqb}
 use Rattle.indexmap.proofs.CallerLemmas.{insert_entry-new}
 use Rattle.dsql_rows.specs.declared.rows.Rows.{Rows}
 use Rattle.dsql_rows.specs.OpenRows.{OpenRows, fresh, was_made}

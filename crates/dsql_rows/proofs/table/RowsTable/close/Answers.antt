@@ -1,5 +1,5 @@
 -- The rows of that number, ended where they stand.
-use Rattle.std.proofs.Common.{◌≡◌, ℕ, List, ap, sym, ◌∙◌}
+use Rattle.std.proofs.Common.{ℕ, List, ap, sym, ◌∙◌}
 use Rattle.dsql_rows.specs.declared.rows.Rows.{Rows}
 use Rattle.dsql_rows.specs.OpenRows.{OpenRows, changed, ended_by}
 use Rattle.dsql_rows.proofs.Changes.{with_rows, with_rows-changed}

@@ -4,7 +4,6 @@ use Rattle.std.specs.Prelude.{IfSome}
 use Rattle.std.proofs.lemmas.Result.{on_ok_weaker, on_err_weaker, IfErr-weaker}
 use Rattle.std.proofs.lemmas.Map.Steps.{set_value_same}
 use Rattle.dsql_rows.specs.declared.rows.Rows.{Rows}
-use Rattle.dsql_rows.specs.declared.fault.RowsClosed.{RowsClosed}
 use Rattle.dsql_rows.specs.OpenRows.{OpenRows, rows_of, changed, shown, IsClosedBy}
 use Rattle.dsql_rows.proofs.Changes.{with_rows, with_rows-changed}
 use Rattle.dsql_rows.proofs.table.RowsTable.row.Goals as goal
