@@ -1,0 +1,73 @@
+-- What courses promise, as laws.
+use Rattle.std.specs.Prelude.{◌≡◌, ◌≢◌, ℕ, ℤ, true, false, ◌↔◌, None, List, [], ◌∷◌, map, All, AllPairs, Contains}
+use Rattle.dsql_driver.specs.declared.caps.Caps.{Caps}
+use Rattle.dsql_course.specs.declared.course.Course.{Course}
+use Rattle.dsql_course.specs.declared.course.Course.TheVariants as course
+use Rattle.dsql_course.specs.declared.call.Due.{Due}
+use Rattle.dsql_course.specs.declared.call.Due.TheVariants as call
+use Rattle.dsql_course.specs.declared.call.Got.TheVariants as got
+use Rattle.dsql_course.specs.Steps.{step_of}
+use Rattle.dsql_course.specs.Made.{Exchange, went_bad, own_cursor, reads_one}
+use Rattle.dsql_course.specs.Line.{Found, Turn, exchange, comes_next, may_get, IsLine}
+use Rattle.dsql_course.specs.Given.{is_given, due_of}
+
+-- no more was known then than is known now
+pub record IsWithin (then now : Found) : Type 0 where
+  pub stopped : now.stopped ≡ false → then.stopped ≡ false
+  pub bad : now.bad ≡ false → then.bad ≡ false
+
+-- at none of these turns more was known than is known now
+abbrev pub AreWithin : List Turn → Found → Type 0
+AreWithin turns now = All (λ turn. IsWithin turn.found now) turns
+
+-- a line that gives these exchanges
+abbrev pub HasLine : Course → Caps → ℕ → Found → List Exchange → Type 0
+HasLine c can args found made = (turns : List Turn) × IsLine c can args turns × AreWithin turns found × (map exchange turns ≡ made)
+
+-- exchanges are given exactly where a line gives them
+abbrev pub LinesGive : Type 0
+LinesGive = (c : Course) (can : Caps) (args : ℕ) (found : Found) (made : List Exchange) → (is_given c can args found made ≡ true) ↔ HasLine c can args found made
+
+-- what is known only grows
+abbrev pub Rises : List Turn → Type 0
+Rises [] = Unit {0}
+Rises (turn ∷ earlier) = AreWithin earlier turn.found × Rises earlier
+
+-- each call was due then, and has an answer that it may have; so none is Over, which may have none
+abbrev pub AskedInTurn : Course → Caps → ℕ → List Turn → Type 0
+AskedInTurn c can args [] = Unit {0}
+AskedInTurn c can args (turn ∷ earlier) =
+    AskedInTurn c can args earlier
+    × (turn.call ≡ due_of c can args turn.found (map exchange earlier))
+    × (may_get c turn.call turn.answer ≡ true)
+
+-- who makes each time the call that is due makes a line, and there is no other line
+abbrev pub DueMakesLines : Type 0
+DueMakesLines = (c : Course) (can : Caps) (args : ℕ) (turns : List Turn) → Rises turns → IsLine c can args turns ↔ AskedInTurn c can args turns
+
+-- no two calls of a line are the same step
+abbrev pub StepsOnce : Type 0
+StepsOnce = (c : Course) (can : Caps) (args : ℕ) (turns : List Turn) → IsLine c can args turns → AllPairs (λ turn earlier. step_of turn.call ≢ step_of earlier.call) turns
+
+-- a line that is over on a good connection
+pub record EndsWell (c : Course) (can : Caps) (args : ℕ) (found : Found) (turns : List Turn) : Type 0 where
+  pub line : IsLine c can args turns
+  pub answers : went_bad (map exchange turns) ≡ false
+  pub connection : found.bad ≡ false
+  pub over : comes_next c can args found (map exchange turns) ≡ call.Over
+
+-- the handle is for this call alone: no rows live on over it
+abbrev pub KeepsNoHandle : Course → List Turn → Type 0
+KeepsNoHandle course.Exec turns = Unit {0}
+KeepsNoHandle course.One turns = Unit {0}
+KeepsNoHandle course.Query turns = own_cursor (map exchange turns) ≡ None
+KeepsNoHandle c turns = ⊥
+
+-- the call is in the line
+abbrev pub Calls : List Turn → Due → Type 0
+Calls turns due = Contains (map (λ turn. turn.call) turns) due
+
+-- what a line has opened for itself it has closed when it is over
+pub record ClosesWhatItOpened : Type 0 where
+  pub cursors : (c : Course) (can : Caps) (args : ℕ) (found : Found) (turns : List Turn) → EndsWell c can args found turns → reads_one c ≡ true → All (λ turn. (rows : ℕ) → turn.answer ≡ got.Cursor rows → Calls turns (call.CloseRows rows)) turns
+  pub handles : (c : Course) (can : Caps) (args : ℕ) (found : Found) (turns : List Turn) → EndsWell c can args found turns → KeepsNoHandle c turns → All (λ turn. (handle : ℕ) (inputs : ℤ) → turn.answer ≡ got.Prepared handle inputs → Calls turns (call.CloseStmt handle)) turns

@@ -1,0 +1,232 @@
+ghost use Rattle.std.specs.Prelude.{◌≡◌, ◌&&◌, ◌||◌, not, is_none, map, reverse};
+ghost use Rattle.dsql_value.specs.Arguments.{count_fault};
+ghost use Rattle.dsql_course.specs.Given.{may_have_come as may_have_come_of, is_given as is_given_of, due_of};
+ghost use Rattle.dsql_course.specs.Line.{comes_next as next_of, first_wanted as first_wanted_of, steps_left as steps_left_of, wanted as wanted_of, run_with, lets_handle_go as lets_handle_go_of, may_get as may_get_of, same_call as same_call_of};
+ghost use Rattle.dsql_course.specs.Made.{was_skipped as was_skipped_of, has_fast_way as has_fast_way_of, live_handle as live_handle_of, own_handle as own_handle_of, or_else};
+ghost use Rattle.dsql_course.specs.Meant.{meant, known};
+
+use crate::call::{Due, Got};
+use crate::course::Course;
+use crate::made;
+use crate::step::{self, Step};
+use dsql_driver::Caps;
+
+/// The driver call that comes next in one try of a call with so many arguments, after those that a line of
+/// its course has. The newest is the last of `made`.
+pub fn comes_next(
+    course: &Course,
+    caps: Caps,
+    args: u32,
+    stopped: bool,
+    bad: bool,
+    made: &[(Due, Got)],
+) -> Due
+    ensures { result ≡ next_of course.now caps args (record { stopped = stopped; bad = bad }) (reverse made.now) }
+{
+    let plan = Plan {
+        course: *course,
+        caps,
+        args,
+    };
+    plan.comes_next(Found { stopped, bad }, made)
+}
+
+/// The same after any calls: nothing is due after those that no line gives.
+pub fn due(
+    course: &Course,
+    caps: Caps,
+    args: u32,
+    stopped: bool,
+    bad: bool,
+    made: &[(Due, Got)],
+) -> Due
+    ensures { result ≡ due_of course.now caps args (record { stopped = stopped; bad = bad }) (reverse made.now) }
+{
+    let plan = Plan {
+        course: *course,
+        caps,
+        args,
+    };
+    let found = Found { stopped, bad };
+    if plan.is_given(found, made) {
+        plan.comes_next(found, made)
+    } else {
+        Due::Over
+    }
+}
+
+/// What is known as a call is made: it is stopped, and its connection is known to be bad.
+#[derive(Clone, Copy)]
+struct Found {
+    stopped: bool,
+    bad: bool,
+}
+
+/// What stays the same through one try of a call.
+#[derive(Clone, Copy)]
+struct Plan {
+    course: Course,
+    caps: Caps,
+    args: u32,
+}
+
+impl Plan {
+    /// The driver call that comes next.
+    fn comes_next(&self, found: Found, made: &[(Due, Got)]) -> Due
+        ensures { result ≡ next_of self.now.course self.now.caps self.now.args (known found) (reverse made.now) }
+    {
+        if made::went_bad(made) {
+            Due::Over
+        } else {
+            self.first_wanted(found, made, steps_left(self.course, made))
+        }
+    }
+
+    /// The call of the first of these steps that is to be taken.
+    fn first_wanted(&self, found: Found, made: &[(Due, Got)], steps: &[Step]) -> Due
+        ensures { result
+            ≡ first_wanted_of
+            self.now.course self.now.caps self.now.args (known found) (reverse made.now) (map meant steps.now) }
+    {
+        for step in steps {
+            if let Some(call) = self.wanted(found, made, *step) {
+                return call;
+            }
+        }
+        Due::Over
+    }
+
+    /// The driver call that a step is where it is to be taken.
+    fn wanted(&self, found: Found, made: &[(Due, Got)], step: Step) -> Option<Due>
+        ensures { result
+            ≡ wanted_of self.now.course self.now.caps self.now.args (known found) (reverse made.now) (meant step) }
+    {
+        let going_on = !found.stopped;
+        match step {
+            Step::RunText => (self.has_fast_way() && going_on).then_some(Due::Text),
+            Step::PrepareText => (self.needs_handle(made) && going_on).then_some(Due::Prepare),
+            Step::RunHandle if going_on => self.run_of_handle(made),
+            Step::FetchRow if going_on && self.course.reads_one() => made::own_cursor(made).map(
+                Due::Next,
+            ),
+            Step::CloseCursor if !found.bad && self.course.reads_one() => {
+                made::own_cursor(made).map(Due::CloseRows)
+            }
+            Step::CloseHandle if !found.bad && self.lets_handle_go(found, made) => {
+                made::own_handle(made).map(|(handle, _)| Due::CloseStmt(handle))
+            }
+            Step::PingIt => (self.caps.pinger && going_on).then_some(Due::Ping),
+            Step::BeginIt => going_on.then_some(Due::Begin),
+            Step::UndoIt => (found.stopped && made::was_done(made)).then_some(Due::Rollback),
+            _ => None,
+        }
+    }
+
+    fn has_fast_way(&self) -> bool
+        ensures { result ≡ has_fast_way_of self.now.course self.now.caps }
+    {
+        self.course.has_fast_way(self.caps)
+    }
+
+    /// It is prepared: no handle is at hand, and the text isn't run at once.
+    fn needs_handle(&self, made: &[(Due, Got)]) -> bool
+        ensures { result
+            ≡ (is_none (live_handle_of self.now.course)
+            && (not (has_fast_way_of self.now.course self.now.caps) || was_skipped_of (reverse made.now))) }
+    {
+        self.course.live_handle().is_none() && (!self.has_fast_way() || made::was_skipped(made))
+    }
+
+    /// The run of the handle, if there is one that takes so many arguments.
+    fn run_of_handle(&self, made: &[(Due, Got)]) -> Option<Due>
+        ensures { result ≡ run_with self.now.args (or_else (own_handle_of (reverse made.now)) (live_handle_of self.now.course)) }
+    {
+        let (handle, inputs) = made::own_handle(made).or(self.course.live_handle())?;
+        takes(inputs, self.args).then_some(Due::Handle(handle))
+    }
+
+    /// Its own handle is closed.
+    fn lets_handle_go(&self, found: Found, made: &[(Due, Got)]) -> bool
+        ensures { result ≡ lets_handle_go_of self.now.course (known found) (reverse made.now) }
+    {
+        match self.course {
+            Course::Exec | Course::One => true,
+            // The handle lives on under the rows that are handed out.
+            Course::Query => made::own_cursor(made).is_none(),
+            course => found.stopped && !made::was_decided(course, made),
+        }
+    }
+
+    /// A line gives these calls with their answers.
+    fn is_given(&self, found: Found, made: &[(Due, Got)]) -> bool
+        ensures { result ≡ is_given_of self.now.course self.now.caps self.now.args (known found) (reverse made.now) }
+    {
+        for (i, (call, got)) in made.iter().enumerate() {
+            if !self.may_have_come(found, *call, &made[..i]) || !may_get(self.course, *call, *got) {
+                return false;
+            }
+        }
+        true
+    }
+
+    /// The call may have come next, with what may have been known then.
+    fn may_have_come(&self, found: Found, call: Due, earlier: &[(Due, Got)]) -> bool
+        ensures { result
+            ≡ may_have_come_of self.now.course self.now.caps self.now.args (known found) call (reverse earlier.now) }
+    {
+        let comes = |known: Found| same_call(call, self.comes_next(known, earlier));
+        comes(Found {
+            stopped: false,
+            bad: false,
+        }) || comes(Found {
+            bad: false,
+            ..found
+        }) || comes(Found {
+            stopped: false,
+            ..found
+        }) || comes(found)
+    }
+}
+
+/// The steps behind the last one that was taken.
+fn steps_left(course: Course, made: &[(Due, Got)]) -> &'static [Step]
+    ensures { map meant result.now ≡ steps_left_of course (reverse made.now) }
+{
+    let all = step::steps(course);
+    match made.last() {
+        Some((newest, _)) => step::behind_call(*newest, all),
+        None => all,
+    }
+}
+
+/// A handle with so many inputs takes so many arguments; one with -1 takes any number.
+fn takes(inputs: i32, args: u32) -> bool
+    ensures { result ≡ is_none (count_fault inputs args) }
+{
+    u32::try_from(inputs).is_ok_and(|inputs| inputs == args) || inputs < 0
+}
+
+fn same_call(one: Due, other: Due) -> bool
+    ensures { result ≡ same_call_of one other }
+{
+    one == other
+}
+
+/// The answer is one that the call may have.
+fn may_get(course: Course, call: Due, got: Got) -> bool
+    ensures { result ≡ may_get_of course call got }
+{
+    match (call, got) {
+        (Due::Over, _) => false,
+        (_, Got::Bad | Got::Fail) | (Due::Text, Got::Skip) => true,
+        (Due::Text | Due::Handle(_), Got::Result) => !course.reads_rows(),
+        (Due::Text | Due::Handle(_), Got::Cursor(_)) => course.reads_rows(),
+        (Due::Prepare, Got::Prepared { inputs, .. }) => inputs >= -1,
+        (Due::Next(_), Got::Row | Got::End) => true,
+        (
+            Due::CloseRows(_) | Due::CloseStmt(_) | Due::Ping | Due::Begin | Due::Rollback,
+            Got::Done,
+        ) => true,
+        _ => false,
+    }
+}

@@ -1,0 +1,88 @@
+-- Rows that were made, by their numbers.
+use Rattle.std.specs.Prelude.{◌≡◌, ◌≢◌, ℕ, Bool, true, false, ◌==◌, if◌then◌else◌, List, [], ◌∷◌, Option, Some, None, is_none, is_some, Result, Ok, Err, MatchResult}
+use Rattle.std.specs.Map.{lookup}
+use Rattle.dsql_value.specs.declared.value.Value.{Value}
+use Rattle.dsql_scan.specs.declared.cell.Cell.{Cell}
+use Rattle.dsql_scan.specs.declared.dest.Dest.{Dest}
+use Rattle.dsql_scan.specs.Rows.{row_of, RowScan}
+use Rattle.dsql_rows.specs.declared.end.RowsEnd.{RowsEnd}
+use Rattle.dsql_rows.specs.declared.fault.RowsClosed.{RowsClosed}
+use Rattle.dsql_rows.specs.declared.fault.RowsFault.{RowsFault}
+use Rattle.dsql_rows.specs.declared.fault.RowsFault.TheVariants as fault
+use Rattle.dsql_rows.specs.declared.rows.Rows.{Rows}
+use Rattle.dsql_rows.specs.Ends.{over_of, is_fault}
+
+-- rows as they were made
+abbrev pub fresh : ℕ → List (List ℕ) → Rows
+fresh cursor columns = record { cursor = cursor; columns = columns; current = None; ended = None }
+
+-- nothing has ended them
+abbrev pub is_live : Rows → Bool
+is_live rows = is_none rows.ended
+
+-- with these values as the current row
+abbrev pub shown : List Value → Rows → Rows
+shown values rows = record rows { current = Some values }
+
+-- ended by this, if nothing has ended them before
+abbrev pub ended_by : RowsEnd → Rows → Rows
+ended_by by rows = if is_live rows then record rows { ended = Some by } else rows
+
+-- what ended them, if that is an error
+abbrev pub told : Option RowsEnd → Option RowsEnd
+told None = None
+told (Some end) = if is_fault end then Some end else None
+
+abbrev pub told_by : Rows → Option RowsEnd
+told_by rows = told rows.ended
+
+-- they were ended, by what this says
+abbrev pub IsClosedBy : Rows → RowsClosed → Type 0
+IsClosedBy rows closed = (end : RowsEnd) × (rows.ended ≡ Some end) × (closed.by ≡ over_of end)
+
+abbrev pub Scanned : Type 0
+Scanned = Result (List Cell) RowsFault
+
+abbrev pub scan_answer : RowScan → Scanned
+scan_answer (Ok cells) = Ok cells
+scan_answer (Err why) = Err (fault.Scan why)
+
+-- what a current row becomes
+abbrev pub current_in : List Dest → Option (List Value) → Scanned
+current_in dests None = Err fault.NoNextYet
+current_in dests (Some values) = scan_answer (row_of values dests)
+
+-- what a scan answers: ended rows are looked at first
+abbrev pub answer_of : List Dest → Option RowsEnd → Option (List Value) → Scanned
+answer_of dests (Some end) current = Err (fault.RowsClosed (over_of end))
+answer_of dests None current = current_in dests current
+
+abbrev pub scan_of : Rows → List Dest → Scanned
+scan_of rows dests = answer_of dests rows.ended rows.current
+
+-- they are live, and have a current row
+abbrev pub is_readable : Rows → Bool
+is_readable rows = if is_live rows then is_some rows.current else false
+
+-- a result is that answer, or there was no memory to scan a current row
+abbrev pub IsScan : Scanned → Rows → List Dest → Type 0
+IsScan result rows dests =
+    MatchResult result (λ cells. scan_of rows dests ≡ Ok cells)
+    (λ why. (why ≢ fault.Memory → scan_of rows dests ≡ Err why) × (why ≡ fault.Memory → is_readable rows ≡ true))
+
+-- the rows by their numbers, in the order in which they were made, and for how many calls there is memory
+pub record OpenRows : Type 0 where
+  pub rows : List (ℕ × Rows)
+  pub spare : ℕ
+
+-- the rows of that number
+abbrev pub rows_of : ℕ → List (ℕ × Rows) → Option Rows
+rows_of n rows = lookup (λ k. n == k) rows
+
+abbrev pub was_made : ℕ → List (ℕ × Rows) → Bool
+was_made n rows = is_some (rows_of n rows)
+
+-- the same with the rows of that number changed
+abbrev pub changed : (Rows → Rows) → ℕ → List (ℕ × Rows) → List (ℕ × Rows)
+changed change n [] = []
+changed change n (e ∷ later) = if n == e.0 then (e.0, change e.1) ∷ later else e ∷ changed change n later

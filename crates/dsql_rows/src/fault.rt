@@ -1,0 +1,27 @@
+use crate::end::RowsOver;
+use dsql_scan::RowFault;
+use thiserror::Error;
+
+/// The rows were ended before, by this.
+#[derive(Clone, Copy, Debug, PartialEq, Eq, Error)]
+#[error("sql: Rows are closed")]
+pub struct RowsClosed {
+    pub by: RowsOver,
+}
+
+/// Why rows don't scan their current row, as the error of Go's `Rows.Scan` says.
+#[derive(Clone, Copy, Debug, PartialEq, Eq, Error)]
+pub enum RowsFault {
+    /// They were ended before, by this.
+    #[error("sql: Rows are closed")]
+    RowsClosed(RowsOver),
+    /// There is no current row yet.
+    #[error("sql: Scan called without calling Next")]
+    NoNextYet,
+    /// The current row doesn't go into these destinations, for this fault, which isn't `Memory`.
+    #[error("sql: Scan error: {0}")]
+    Scan(RowFault),
+    /// There was no memory.
+    #[error("out of memory")]
+    Memory,
+}
