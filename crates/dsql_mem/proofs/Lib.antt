@@ -1,3 +1,4 @@
+pub mod CursorLemmas
 pub mod DelLaw
 pub mod EffectLemmas
 pub mod EntryLemmas

@@ -2,18 +2,24 @@
 use Rattle.std.specs.Prelude.{ℕ, ◌+◌, ℤ, pos, ◌+ℤ◌, ◌==◌, nat_lt, List, [], ◌∷◌, ◌++◌, length, Option, Some, None, is_some, codes, if◌then◌else◌}
 use Rattle.std.specs.Option.{option_map_or}
 use Rattle.dsql_driver.specs.declared.answer.DriverAnswer.{DriverAnswer}
-use Rattle.dsql_driver.specs.declared.answer.DriverAnswer.TheVariants.{Done, Prepared, Result, Skip, Fail}
+use Rattle.dsql_driver.specs.declared.answer.DriverAnswer.TheVariants.{Done, Prepared, Result, Cursor, Row, End, Skip, Fail}
 use Rattle.dsql_driver.specs.declared.call.DriverCall.{DriverCall}
-use Rattle.dsql_driver.specs.declared.call.DriverCall.TheVariants.{Connect, Reset, Valid, Ping, Prepare, CloseStmt, Exec, Query, Begin, Commit, Rollback, Shut}
+use Rattle.dsql_driver.specs.declared.call.DriverCall.TheVariants.{Connect, Reset, Valid, Ping, Prepare, CloseStmt, Exec, Query, Next, CloseRows, Begin, Commit, Rollback, Shut}
+use Rattle.dsql_driver.specs.declared.call.Input.{Input}
 use Rattle.dsql_driver.specs.declared.call.Input.TheVariants as input
 use Rattle.dsql_value.specs.declared.value.Param.{Param}
 use Rattle.dsql_value.specs.declared.value.Value.{Value}
 use Rattle.dsql_value.specs.declared.value.Value.TheVariants.{Int}
-use Rattle.dsql_mem.specs.Entries.{Entries, with_value, without_key, value_at}
+use Rattle.dsql_mem.specs.Cursor.{columns_of, next_row, with_advanced}
+use Rattle.dsql_mem.specs.Entries.{Entries, with_value, without_key, value_at, entry_at, listed}
 use Rattle.dsql_mem.specs.Filled.{left_after, key_for, value_for}
 use Rattle.dsql_mem.specs.Number.{fits_i64}
-use Rattle.dsql_mem.specs.Session.{SessionState, largest_handle, is_live, text_of, without_handle}
-use Rattle.dsql_mem.specs.Statement.{Statement, Set, Add, Del, statement_of, inputs_of, is_query}
+use Rattle.dsql_mem.specs.Session.{SessionState, largest_number, is_live, text_of, cursor_of, is_open, without_handle, without_cursor}
+use Rattle.dsql_mem.specs.Statement.{Statement, Set, Add, Del, Get, ListKeys, statement_of, inputs_of, is_query}
+use Rattle.dsql_mem.specs.declared.cursor.Shape.{Shape}
+use Rattle.dsql_mem.specs.declared.cursor.Shape.TheVariants as shape
+use Rattle.dsql_mem.specs.declared.query.Found.{Found}
+use Rattle.dsql_mem.specs.declared.query.Found.TheVariants.{Rows, Refused}
 
 -- the map and the session after a call, and its answer
 pub record Effect : Type 0 where
@@ -109,15 +115,36 @@ executed_text store None = (store, no_such_statement)
 executed_text store (Some statement) =
     if nat_lt 0 (inputs_of statement) then (store, Skip) else executed store statement []
 
--- the answer to a query of a statement: none can be asked yet
-abbrev pub queried : Option Statement → DriverAnswer
-queried None = no_such_statement
-queried (Some statement) = if is_query statement then no_such_statement else not_a_query
+-- what a query finds with as many parameters as it has inputs
+abbrev pub found : Entries → Statement → List Param → Found
+found store (Get key) params =
+    option_map_or (λ k. Rows shape.Values (entry_at k store)) (key_for key params) (Refused key_is_not_text)
+found store (ListKeys prefix) params =
+    option_map_or (λ p. Rows shape.Entries (listed p store)) (key_for prefix params) (Refused key_is_not_text)
+found store _ params = Refused not_a_query
 
--- the answer to a query of a text that came without parameters
-abbrev pub queried_text : Option Statement → DriverAnswer
-queried_text None = no_such_statement
-queried_text (Some statement) = if nat_lt 0 (inputs_of statement) then Skip else queried (Some statement)
+-- what a statement finds that is asked
+abbrev pub queried : Entries → Statement → List Param → Found
+queried store statement params =
+    if is_query statement then (if length params == inputs_of statement then found store statement params else Refused wrong_arguments)
+    else Refused not_a_query
+
+-- what a text finds that was prepared
+abbrev pub queried_prepared : Entries → Option Statement → List Param → Found
+queried_prepared store None params = Refused no_such_statement
+queried_prepared store (Some statement) params = queried store statement params
+
+-- what a text finds that came without parameters; one with inputs has to be prepared first
+abbrev pub queried_text : Entries → Option Statement → Found
+queried_text store None = Refused no_such_statement
+queried_text store (Some statement) = if nat_lt 0 (inputs_of statement) then Refused Skip else queried store statement []
+
+-- what a query finds in a session
+abbrev pub asked : Entries → SessionState → Input → List Param → Found
+asked store session (input.Text text) params =
+    if nat_lt 0 (length params) then Refused Skip else queried_text store (statement_of text)
+asked store session (input.Handle handle) params =
+    option_map_or (λ text. queried_prepared store (statement_of text) params) (text_of handle session) (Refused no_such_handle)
 
 -- a session after a call, and the answer
 abbrev pub Kept : Type 0
@@ -127,8 +154,8 @@ Kept = SessionState × DriverAnswer
 abbrev pub prepared : SessionState → List ℕ → Option Statement → Kept
 prepared session text None = (session, no_such_statement)
 prepared session text (Some statement) = let handle = session.last_handle + 1 in
-    if nat_lt session.last_handle largest_handle then (
-      record { statements = session.statements ++ (record { handle = handle; text = text }) ∷ []; last_handle = handle },
+    if nat_lt session.last_handle largest_number then (
+      record session { statements = session.statements ++ (record { handle = handle; text = text }) ∷ []; last_handle = handle },
       Prepared handle (pos (inputs_of statement)),
     )
     else (session, numbers_spent)
@@ -137,6 +164,38 @@ prepared session text (Some statement) = let handle = session.last_handle + 1 in
 abbrev pub closed : SessionState → ℕ → Kept
 closed session handle =
     if is_live handle session then (record session { statements = without_handle handle session.statements }, Done)
+    else (session, no_such_handle)
+
+-- a query's rows get the next cursor
+abbrev pub opened : SessionState → Shape → Entries → Kept
+opened session shape entries = let rows = session.last_cursor + 1 in
+    if nat_lt session.last_cursor largest_number then (
+      record session {
+        cursors = session.cursors ++ (record { number = rows; shape = shape; left = entries }) ∷ [];
+        last_cursor = rows;
+      },
+      Cursor rows (columns_of shape),
+    )
+    else (session, numbers_spent)
+
+-- what a query found is shown by a cursor, or its refusal answered
+abbrev pub shown : SessionState → Found → Kept
+shown session (Rows shape entries) = opened session shape entries
+shown session (Refused answer) = (session, answer)
+
+-- a row is given, or none is left
+abbrev pub given : SessionState → ℕ → Option (List Value) → Kept
+given session rows None = (session, End)
+given session rows (Some row) = (record session { cursors = with_advanced rows session.cursors }, Row row)
+
+-- a cursor's next row is taken
+abbrev pub next_taken : SessionState → ℕ → Kept
+next_taken session rows = option_map_or (λ c. given session rows (next_row c)) (cursor_of rows session) (session, no_such_handle)
+
+-- a cursor is closed
+abbrev pub rows_closed : SessionState → ℕ → Kept
+rows_closed session rows =
+    if is_open rows session then (record session { cursors = without_cursor rows session.cursors }, Done)
     else (session, no_such_handle)
 
 -- nothing changes
@@ -163,11 +222,9 @@ effect store session (Exec (input.Text text) params) =
     in_store session (if nat_lt 0 (length params) then (store, Skip) else executed_text store (statement_of text))
 effect store session (Exec (input.Handle handle) params) =
     in_store session (option_map_or (λ text. executed_prepared store (statement_of text) params) (text_of handle session) (store, no_such_handle))
-effect store session (Query (input.Text text) params) =
-    only_answered store session (if nat_lt 0 (length params) then Skip else queried_text (statement_of text))
-effect store session (Query (input.Handle handle) params) =
-    only_answered store session (option_map_or (λ text. queried (statement_of text)) (text_of handle session) no_such_handle)
+effect store session (Query input params) = in_session store (shown session (asked store session input params))
+effect store session (Next rows) = in_session store (next_taken session rows)
+effect store session (CloseRows rows) = in_session store (rows_closed session rows)
 effect store session (Begin level read_only) = only_answered store session no_such_statement
 effect store session Commit = only_answered store session no_transaction
 effect store session Rollback = only_answered store session no_transaction
-effect store session _ = only_answered store session no_such_handle

@@ -1,5 +1,6 @@
 -- What a store holds.
-use Rattle.std.specs.Prelude.{ℕ, List, Option}
+use Rattle.std.specs.Prelude.{ℕ, nat_eq, List, [], ◌∷◌, filter, Option}
+use Rattle.std.specs.List.{starts_with}
 use Rattle.std.specs.Option.{option_map_or}
 use Rattle.std.specs.BTreeMap.{insert_entry}
 use Rattle.std.specs.Cmp.Lexicographic.{slice_cmp}
@@ -24,6 +25,14 @@ without_key key entries = remove_entry (λ k. is_eq (slice_cmp nat_cmp key k)) e
 -- the value that the key has
 abbrev pub value_at : List ℕ → Entries → Option Value
 value_at key entries = lookup (λ k. is_eq (slice_cmp nat_cmp key k)) entries
+
+-- the entry of a key, if it has one
+abbrev pub entry_at : List ℕ → Entries → Entries
+entry_at key entries = option_map_or (λ value. (key, value) ∷ []) (value_at key entries) []
+
+-- the entries whose keys begin with the prefix
+abbrev pub listed : List ℕ → Entries → Entries
+listed prefix entries = filter (λ entry. starts_with nat_eq entry.0 prefix) entries
 
 -- the value that a word is: the number that it spells, or else its text
 abbrev pub value_of : List ℕ → Value

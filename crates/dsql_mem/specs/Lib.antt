@@ -1,4 +1,5 @@
 pub mod Copies
+pub mod Cursor
 pub mod Effect
 pub mod Entries
 pub mod Filled

@@ -6,9 +6,9 @@ use Rattle.std.specs.Map.{keys_of}
 use Rattle.std.specs.Ordering.{nat_cmp}
 use Rattle.std.specs.Str.{bytes_eq}
 use Rattle.dsql_driver.specs.declared.answer.DriverAnswer.{DriverAnswer}
-use Rattle.dsql_driver.specs.declared.answer.DriverAnswer.TheVariants.{Done, Prepared, Skip}
+use Rattle.dsql_driver.specs.declared.answer.DriverAnswer.TheVariants.{Done, Prepared, Cursor, Row, End, Skip}
 use Rattle.dsql_driver.specs.declared.call.DriverCall.{DriverCall}
-use Rattle.dsql_driver.specs.declared.call.DriverCall.TheVariants.{Prepare, CloseStmt, Exec, Query}
+use Rattle.dsql_driver.specs.declared.call.DriverCall.TheVariants.{Prepare, CloseStmt, Exec, Query, Next, CloseRows}
 use Rattle.dsql_driver.specs.declared.call.Input.TheVariants as input
 use Rattle.dsql_value.specs.declared.value.Param.{Param}
 use Rattle.dsql_value.specs.declared.value.Value.{Value}
@@ -91,6 +91,47 @@ unnamed value = record { name = None; value = value }
 abbrev pub named : List ℕ → Value → Param
 named name value = record { name = Some name; value = value }
 
+-- what a wire is asked without parameters
+abbrev pub ask : List ℕ → DriverCall
+ask text = Query (input.Text text) []
+
+-- the answers to queries
+pub record WorkedQueries : Type 0 where
+  -- a key that is there has one row, and one that isn't has none
+  pub get :
+      answers_from sample new_session (ask (codes "GET b") ∷ Next 1 ∷ Next 1 ∷ Next 1 ∷ ask (codes "GET a") ∷ Next 2 ∷ [])
+      ≡ Cursor 1 (codes "value" ∷ []) ∷ Row (Int (pos 7) ∷ []) ∷ End ∷ End ∷ Cursor 2 (codes "value" ∷ []) ∷ End ∷ []
+  -- the keys with a prefix are listed in their order
+  pub list :
+      answers_from ((codes "a", Nil) ∷ (codes "ab", Int (pos 1)) ∷ (codes "abc", Int (pos 2)) ∷ (codes "b", Nil) ∷ []) new_session
+      (ask (codes "LIST ab") ∷ Next 1 ∷ Next 1 ∷ Next 1 ∷ [])
+      ≡ Cursor 1 (codes "key" ∷ codes "value" ∷ []) ∷ Row (Text (codes "ab") ∷ Int (pos 1) ∷ [])
+      ∷ Row (Text (codes "abc") ∷ Int (pos 2) ∷ []) ∷ End ∷ []
+  -- a cursor shows what was there at its query, whatever is written later, until it is closed
+  pub moment :
+      answers_from [] new_session
+      (Exec (input.Text (codes "SET a 1")) [] ∷ ask (codes "GET a") ∷ Exec (input.Text (codes "DEL a")) [] ∷ Next 1 ∷ CloseRows 1
+      ∷ Next 1 ∷ CloseRows 1 ∷ ask (codes "GET a") ∷ [])
+      ≡ affected 1 ∷ Cursor 1 (codes "value" ∷ []) ∷ affected 1 ∷ Row (Int (pos 1) ∷ []) ∷ Done ∷ no_such_handle
+      ∷ no_such_handle ∷ Cursor 2 (codes "value" ∷ []) ∷ []
+  -- a query that was prepared takes its key from a parameter
+  pub prepared :
+      answers_from sample new_session
+      (Prepare (codes "GET ?") ∷ Query (input.Handle 1) (unnamed (Text (codes "t")) ∷ []) ∷ Next 1
+      ∷ Query (input.Handle 1) (unnamed (Int (pos 1)) ∷ []) ∷ Query (input.Handle 1) [] ∷ Query (input.Handle 2) [] ∷ [])
+      ≡ Prepared 1 (pos 1) ∷ Cursor 1 (codes "value" ∷ []) ∷ Row (Text (codes "Ann") ∷ []) ∷ key_is_not_text
+      ∷ wrong_arguments ∷ no_such_handle ∷ []
+  -- what isn't asked
+  pub refused :
+      answers_from sample new_session
+      (ask (codes "DEL b") ∷ ask (codes "GET ?") ∷ ask (codes "GET") ∷ Query (input.Text (codes "GET b")) (unnamed Nil ∷ []) ∷ Next 1
+      ∷ [])
+      ≡ not_a_query ∷ Skip ∷ no_such_statement ∷ Skip ∷ no_such_handle ∷ []
+  -- the numbers of cursors are spent
+  pub spent :
+      answers_from [] (record new_session { last_cursor = 4294967294 }) (ask (codes "LIST a") ∷ ask (codes "LIST a") ∷ Next 4294967295 ∷ [])
+      ≡ Cursor 4294967295 (codes "key" ∷ codes "value" ∷ []) ∷ numbers_spent ∷ End ∷ []
+
 pub record WorkedHandles : Type 0 where
   -- the parameters are taken in order
   pub by_order :
@@ -125,6 +166,6 @@ pub record WorkedHandles : Type 0 where
       ≡ Skip ∷ Skip ∷ []
   -- the numbers of handles are spent
   pub spent :
-      answers_from [] (record { statements = []; last_handle = 4294967294 })
+      answers_from [] (record new_session { last_handle = 4294967294 })
       (Prepare (codes "DEL a") ∷ Prepare (codes "DEL a") ∷ Prepare (codes "DEL") ∷ [])
       ≡ Prepared 4294967295 (pos 0) ∷ numbers_spent ∷ no_such_statement ∷ []

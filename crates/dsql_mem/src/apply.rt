@@ -1,14 +1,12 @@
 ghost use Rattle.std.specs.Prelude.{◌≡◌, true, false, IfOk, OnOk, OnErr, if◌then◌else◌};
 ghost use Rattle.dsql_driver.specs.Fits.{is_memory};
 ghost use Rattle.dsql_mem.specs.Copies.{copies_of};
-ghost use Rattle.dsql_mem.specs.Effect.{effect, queried, queried_text};
-ghost use Rattle.dsql_mem.specs.Session.{IsReadyFor};
-ghost use Rattle.dsql_mem.specs.Statement.{statement_of};
+ghost use Rattle.dsql_mem.specs.Effect.{effect, shown};
 
 use crate::copies::Copies;
-use crate::failures::{NO_SUCH_HANDLE, NO_SUCH_STATEMENT, NO_TRANSACTION, NOT_A_QUERY};
+use crate::failures::{NO_SUCH_HANDLE, NO_SUCH_STATEMENT, NO_TRANSACTION};
+use crate::query::Found;
 use crate::session::Session;
-use crate::statement::Statement;
 use crate::store::Store;
 use dsql_driver::{Answered, DriverAnswer, DriverCall, Input};
 use dsql_value::Memory;
@@ -41,7 +39,6 @@ impl Store {
         ensures answer { IfOk result (λ copies. copies ≡ copies_of (effect self.old session.old call.now).answer) }
         ensures store { OnOk result (self.new ≡ (effect self.old session.old call.now).store) }
         ensures session { OnOk result (session.new ≡ (effect self.old session.old call.now).session) }
-        ensures ready { IsReadyFor call.now session.old }
         ensures store_stays { OnErr result (self.new ≡ self.old) }
         ensures session_stays { OnErr result (session.new ≡ session.old) }
     {
@@ -63,43 +60,27 @@ impl Store {
                 Some(text) => self.execute_prepared(alloc, text, params.as_slice()),
                 None => Copies::of_failure(alloc, NO_SUCH_HANDLE),
             },
-            DriverCall::Query(Input::Text(text), params) => {
-                if !params.as_slice().is_empty() {
-                    return Copies::of(DriverAnswer::Skip);
-                }
-                query_text(alloc, text.as_str())
+            DriverCall::Query(input, params) => {
+                let found = self.query(alloc, session, input, params.as_slice())?;
+                show(session, alloc, found)
             }
-            DriverCall::Query(Input::Handle(handle), _) => match session.text(*handle) {
-                Some(text) => query_prepared(alloc, text),
-                None => Copies::of_failure(alloc, NO_SUCH_HANDLE),
-            },
-            DriverCall::Next(_) | DriverCall::CloseRows(_) => {
-                Copies::of_failure(alloc, NO_SUCH_HANDLE)
-            }
+            DriverCall::Next(rows) => session.take_row(alloc, *rows),
+            DriverCall::CloseRows(rows) => session.close_rows(alloc, *rows),
             DriverCall::Begin { .. } => Copies::of_failure(alloc, NO_SUCH_STATEMENT),
             DriverCall::Commit | DriverCall::Rollback => Copies::of_failure(alloc, NO_TRANSACTION),
         }
     }
 }
 
-/// The answer to a query of a text that came without parameters.
-fn query_text(alloc: Global, text: &str) -> Result<Copies, Memory>
-    ensures { IfOk result (λ copies. copies ≡ copies_of (queried_text (statement_of text.now))) }
+/// Shows what a query found by a cursor, or answers why there is none.
+fn show(session: &mut Session, alloc: Global, found: Found) -> Result<Copies, Memory>
+    ensures answer { IfOk result (λ copies. copies ≡ copies_of (shown session.old found).1) }
+    ensures session { OnOk result (session.new ≡ (shown session.old found).0) }
+    ensures stays { OnErr result (session.new ≡ session.old) }
 {
-    match Statement::parse(text) {
-        Some(statement) if statement.inputs() > 0 => Copies::of(DriverAnswer::Skip),
-        Some(statement) if !statement.is_query() => Copies::of_failure(alloc, NOT_A_QUERY),
-        _ => Copies::of_failure(alloc, NO_SUCH_STATEMENT),
-    }
-}
-
-/// The answer to a query of a text that was prepared.
-fn query_prepared(alloc: Global, text: &str) -> Result<Copies, Memory>
-    ensures { IfOk result (λ copies. copies ≡ copies_of (queried (statement_of text.now))) }
-{
-    match Statement::parse(text) {
-        Some(statement) if !statement.is_query() => Copies::of_failure(alloc, NOT_A_QUERY),
-        _ => Copies::of_failure(alloc, NO_SUCH_STATEMENT),
+    match found {
+        Found::Rows { shape, entries } => session.open(alloc, shape, entries),
+        Found::Refused(answer) => Copies::of(answer),
     }
 }
 

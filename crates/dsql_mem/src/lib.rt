@@ -5,11 +5,13 @@
 mod apply;
 mod connection;
 mod copies;
+mod cursor;
 mod execute;
 mod failures;
 mod filled;
 mod fleet;
 mod number;
+mod query;
 mod roll;
 mod session;
 mod statement;

@@ -1,13 +1,15 @@
-ghost use Rattle.std.specs.Prelude.{◌≡◌, [], IfOk, OnOk, OnErr};
+ghost use Rattle.std.specs.Prelude.{◌≡◌, nat_eq, [], IfOk, OnOk, OnErr};
+ghost use Rattle.std.specs.List.{starts_with};
 ghost use Rattle.std.specs.Option.{option_copied};
 ghost use Rattle.dsql_mem.specs.Copies.{copies_of};
 ghost use Rattle.dsql_mem.specs.Effect.{set_to, added, deleted};
-ghost use Rattle.dsql_mem.specs.Entries.{value_at};
+ghost use Rattle.dsql_mem.specs.Entries.{value_at, entry_at, listed};
 
 use crate::copies::Copies;
+use crate::cursor::Entry;
 use crate::failures::{NOT_A_NUMBER, OUT_OF_RANGE};
 use dsql_driver::DriverAnswer;
-use dsql_value::{Memory, Value};
+use dsql_value::{Items, Memory, Txt, Value};
 use std::alloc::Global;
 use std::collections::BTreeMap;
 use std::marker::Model;
@@ -42,6 +44,32 @@ impl Store {
         ensures { option_copied result ≡ value_at key.now self.now }
     {
         self.values.get(key)
+    }
+
+    /// The entry of a key, if it has one.
+    pub(crate) fn entry(&self, alloc: Global, key: &str) -> Result<Items<Entry>, Memory>
+        ensures { IfOk result (λ entries. entries ≡ entry_at key.now self.now) }
+    {
+        match self.get(key) {
+            Some(value) => {
+                let entry = (Txt::copy_of(alloc, key)?, value.clone()?);
+                Ok(Items::new(vec![in alloc; entry]?))
+            }
+            None => Ok(Items::none(alloc)),
+        }
+    }
+
+    /// The entries whose keys begin with a prefix, in the byte order of the keys.
+    pub(crate) fn list(&self, alloc: Global, prefix: &str) -> Result<Items<Entry>, Memory>
+        ensures { IfOk result (λ entries. entries ≡ listed prefix.now self.now) }
+    {
+        let mut entries = Vec::new(alloc);
+        for (key, value) in &self.values {
+            if begins_with(key.as_str(), prefix) {
+                entries.push((Txt::copy_of(alloc, key.as_str())?, value.clone()?))?;
+            }
+        }
+        Ok(Items::new(entries))
     }
 
     /// Gives the key this value.
@@ -90,4 +118,11 @@ impl Store {
         self.values.remove(key);
         Ok(copies)
     }
+}
+
+/// Whether a text begins with a prefix.
+fn begins_with(text: &str, prefix: &str) -> bool
+    ensures { result ≡ starts_with nat_eq text.now prefix.now }
+{
+    text.starts_with(prefix)
 }
