@@ -1,10 +1,10 @@
 -- What calls are answered: each answer suits its call, and tells of the session's handles and cursors as it should.
-use Rattle.std.proofs.Common.{◌≡◌, ℕ, ◌+ℤ◌, ◌==◌, List, [], ◌∷◌, Bool, true, false, cond, not, ◌||◌, Option, Some, None, option_map, eqb, length, nat_lt, ap, sym, refl, ◌∙◌, inl, inr}
+use Rattle.std.proofs.Common.{◌≡◌, ℕ, ℤ, pos, ◌+ℤ◌, ◌==◌, List, [], ◌∷◌, Bool, true, false, cond, not, ◌||◌, Option, Some, None, is_some, option_map, eqb, length, nat_lt, ap, sym, refl, ◌∙◌, inl, inr}
 use Rattle.std.specs.Prelude.{⊤}
 use Rattle.std.specs.List.{slice_get}
 use Rattle.std.specs.Option.{option_map_or}
 use Rattle.std.proofs.lemmas.Option.{none-some}
-use Rattle.dsql_driver.specs.Fits.{fits_of, is_memory, is_result, is_failure, is_skip}
+use Rattle.dsql_driver.specs.Fits.{fits_of, is_memory, is_failure, is_skip}
 use Rattle.dsql_driver.specs.Wires.{LiveCursor, KeepsHandles, KeepsCursors, has_width}
 use Rattle.dsql_driver.specs.declared.answer.DriverAnswer.{DriverAnswer}
 use Rattle.dsql_driver.specs.declared.answer.DriverAnswer.TheVariants.{Done, Prepared, Result, Cursor, Row, End, Invalid, Skip, Bad, Fail, Memory}
@@ -16,7 +16,7 @@ use Rattle.dsql_value.specs.declared.value.Param.{Param}
 use Rattle.dsql_value.specs.declared.value.Value.{Value}
 use Rattle.dsql_value.specs.declared.value.Value.TheVariants as value
 use Rattle.dsql_mem.specs.Cursor.{CursorState, columns_of, row_of, next_row}
-use Rattle.dsql_mem.specs.Effect.{Effect, Written, effect, executed, executed_text, executed_prepared, carried_out, added, deleted, summed, set_to, number_in, prepared, closed, found, queried, queried_text, queried_prepared, asked, opened, given, next_taken, rows_closed, shown, in_session, no_such_handle}
+use Rattle.dsql_mem.specs.Effect.{Effect, effect, told, executed, executed_text, executed_prepared, commanded, carried_out, added, deleted, summed, number_in, prepared, closed, found, queried, queried_text, queried_prepared, asked, opened, given, next_taken, rows_closed, shown, in_session, only_answered, no_such_handle}
 use Rattle.dsql_mem.specs.Entries.{Entries, value_at, entry_at, listed}
 use Rattle.dsql_mem.specs.Filled.{key_for, value_for, left_after}
 use Rattle.dsql_mem.specs.Number.{fits_i64}
@@ -24,90 +24,21 @@ use Rattle.dsql_mem.specs.Session.{SessionState, IsSound, handles_of, cursors_of
 use Rattle.dsql_mem.specs.Statement.{Statement, Set, Add, Del, Get, ListKeys, statement_of, inputs_of, is_query}
 use Rattle.dsql_mem.specs.declared.cursor.Shape.{Shape}
 use Rattle.dsql_mem.specs.declared.cursor.Shape.TheVariants as shape
+use Rattle.dsql_mem.specs.declared.execute.Outcome.{Outcome}
+use Rattle.dsql_mem.specs.declared.execute.Outcome.TheVariants.{Write}
+use Rattle.dsql_mem.specs.declared.execute.Outcome.TheVariants as outcome
 use Rattle.dsql_mem.specs.declared.query.Found.{Found}
 use Rattle.dsql_mem.specs.declared.query.Found.TheVariants.{Rows, Refused}
 use Rattle.dsql_mem.proofs.SessionLemmas.{reverse-push, reverse-without, handle_of, live_cursor, handle_is_new, cursor_is_new, cursors-advanced, width-cursors}
 
 -- both branches have a property
-cond_both : {A : Type 0} (P : A → Type 0) (b : Bool) (x y : A) → P x → P y → P (cond b x y)
+pub cond_both : {A : Type 0} (P : A → Type 0) (b : Bool) (x y : A) → P x → P y → P (cond b x y)
 cond_both P true x y p q = p
 cond_both P false x y p q = q
 
-option_both : {A B : Type 0} (P : B → Type 0) (f : A → B) (o : Option A) (d : B) → ((a : A) → P (f a)) → P d → P (option_map_or f o d)
+pub option_both : {A B : Type 0} (P : B → Type 0) (f : A → B) (o : Option A) (d : B) → ((a : A) → P (f a)) → P d → P (option_map_or f o d)
 option_both P f None d p q = q
 option_both P f (Some a) d p q = p a
-
--- a command is answered by Result or Fail
-abbrev is_settled : DriverAnswer → Bool
-is_settled answer = is_result answer || is_failure answer
-
-abbrev Settled : Written → Type 0
-Settled written = is_settled written.1 ≡ true
-
-added-Settled : (store : Entries) (key : List ℕ) (v : Value) → Settled (added store key v)
-added-Settled store key (value.Int by) =
-    option_both Settled (λ number. summed store key (number +ℤ by)) (number_in (value_at key store)) _
-    (λ number. cond_both Settled (fits_i64 (number +ℤ by)) _ _ refl refl) refl
-added-Settled store key value.Nil = refl
-added-Settled store key (value.Bool b) = refl
-added-Settled store key (value.Bytes b) = refl
-added-Settled store key (value.Text t) = refl
-added-Settled store key (value.Time t) = refl
-
-carried_out-Settled : (store : Entries) (s : Statement) (params : List Param) → Settled (carried_out store s params)
-carried_out-Settled store (Set key v) params =
-    option_both Settled (λ k. set_to store k (value_for v (left_after key params))) (key_for key params) _ (λ k. refl) refl
-carried_out-Settled store (Add key v) params =
-    option_both Settled (λ k. added store k (value_for v (left_after key params))) (key_for key params) _
-    (λ k. added-Settled store k (value_for v (left_after key params))) refl
-carried_out-Settled store (Del key) params =
-    option_both Settled (λ k. deleted store k) (key_for key params) _ (λ k. refl) refl
-carried_out-Settled store (Get key) params = refl
-carried_out-Settled store (ListKeys prefix) params = refl
-
-executed-Settled : (store : Entries) (s : Statement) (params : List Param) → Settled (executed store s params)
-executed-Settled store s params =
-    cond_both Settled (is_query s) _ _ refl
-    (cond_both Settled (length params == inputs_of s) _ _ (carried_out-Settled store s params) refl)
-
-executed_prepared-Settled : (store : Entries) (o : Option Statement) (params : List Param) → Settled (executed_prepared store o params)
-executed_prepared-Settled store None params = refl
-executed_prepared-Settled store (Some s) params = executed-Settled store s params
-
--- the answer suits the call, whose session keeps its handles and cursors
-record Suits (call : DriverCall) (answer : DriverAnswer) : Type 0 where
-  fits : fits_of call answer ≡ true
-  answered : is_memory answer ≡ false
-  handles : (hs : List ℕ) → KeepsHandles call answer hs hs
-  cursors : (cs : List LiveCursor) → KeepsCursors call answer cs cs
-
-exec-Suits : (i : Input) (params : List Param) (answer : DriverAnswer) → is_settled answer ≡ true → Suits (Exec i params) answer
-exec-Suits (input.Text t) params (Result last n) h =
-    record { fits = refl; answered = refl; handles = λ hs. refl; cursors = λ cs. refl }
-exec-Suits (input.Handle n) params (Result last m) h =
-    record { fits = refl; answered = refl; handles = λ hs. refl; cursors = λ cs. refl }
-exec-Suits i params (Fail text) h =
-    record { fits = refl; answered = refl; handles = λ hs. refl; cursors = λ cs. refl }
-exec-Suits i params Bad h = record { fits = refl; answered = refl; handles = λ hs. refl; cursors = λ cs. refl }
-exec-Suits i params Done h = cc
-exec-Suits i params (Prepared n m) h = cc
-exec-Suits i params (Cursor n columns) h = cc
-exec-Suits i params (Row values) h = cc
-exec-Suits i params End h = cc
-exec-Suits i params Invalid h = cc
-exec-Suits i params Skip h = cc
-exec-Suits i params Memory h = cc
-
-abbrev ExecSuits : List ℕ → List Param → Written → Type 0
-ExecSuits text params written = Suits (Exec (input.Text text) params) written.1
-
-executed_text-Suits : (store : Entries) (text : List ℕ) (params : List Param) (o : Option Statement) → ExecSuits text params (executed_text store o)
-executed_text-Suits store text params None =
-    record { fits = refl; answered = refl; handles = λ hs. refl; cursors = λ cs. refl }
-executed_text-Suits store text params (Some s) =
-    cond_both (ExecSuits text params) (nat_lt 0 (inputs_of s)) _ _
-    (record { fits = refl; answered = refl; handles = λ hs. refl; cursors = λ cs. refl })
-    (exec-Suits (input.Text text) params (executed store s []).1 (executed-Settled store s []))
 
 -- the answer suits the call, and the session's handles and cursors are as it tells
 pub record IsLawful (session : SessionState) (call : DriverCall) (after : Effect) : Type 0 where
@@ -130,10 +61,99 @@ closed-IsLawful store session handle =
     (record { fits = refl; answered = refl; handles = inr (reverse-without handle_of (λ n. not (eqb n handle)) session.statements); cursors = refl })
     (record { fits = refl; answered = refl; handles = inl refl; cursors = refl })
 
--- a query is refused by a Fail, and by Skip where it came as a text
+-- an Exec or a Query is refused by a Fail, and by Skip where it came as a text
 abbrev is_refusal : Input → DriverAnswer → Bool
 is_refusal (input.Text text) answer = is_failure answer || is_skip answer
 is_refusal (input.Handle handle) answer = is_failure answer
+
+-- an Exec, or a Query
+abbrev run_of : Bool → Input → List Param → DriverCall
+run_of true i params = Exec i params
+run_of false i params = Query i params
+
+refused-IsLawful : (store : Entries) (session : SessionState) (b : Bool) (i : Input) (params : List Param) (answer : DriverAnswer) → is_refusal i answer ≡ true → IsLawful session (run_of b i params) (only_answered store session answer)
+refused-IsLawful store session true i params (Fail text) h = record { fits = refl; answered = refl; handles = refl; cursors = refl }
+refused-IsLawful store session false i params (Fail text) h = record { fits = refl; answered = refl; handles = refl; cursors = refl }
+refused-IsLawful store session true i params Bad h = record { fits = refl; answered = refl; handles = refl; cursors = refl }
+refused-IsLawful store session false i params Bad h = record { fits = refl; answered = refl; handles = refl; cursors = refl }
+refused-IsLawful store session true (input.Text t) params Skip h = record { fits = refl; answered = refl; handles = refl; cursors = refl }
+refused-IsLawful store session false (input.Text t) params Skip h = record { fits = refl; answered = refl; handles = refl; cursors = refl }
+refused-IsLawful store session b (input.Handle n) params Skip h = cc
+refused-IsLawful store session b (input.Text t) params Done h = cc
+refused-IsLawful store session b (input.Text t) params (Prepared n m) h = cc
+refused-IsLawful store session b (input.Text t) params (Result n m) h = cc
+refused-IsLawful store session b (input.Text t) params (Cursor n columns) h = cc
+refused-IsLawful store session b (input.Text t) params (Row values) h = cc
+refused-IsLawful store session b (input.Text t) params End h = cc
+refused-IsLawful store session b (input.Text t) params Invalid h = cc
+refused-IsLawful store session b (input.Text t) params Memory h = cc
+refused-IsLawful store session b (input.Handle k) params Done h = cc
+refused-IsLawful store session b (input.Handle k) params (Prepared n m) h = cc
+refused-IsLawful store session b (input.Handle k) params (Result n m) h = cc
+refused-IsLawful store session b (input.Handle k) params (Cursor n columns) h = cc
+refused-IsLawful store session b (input.Handle k) params (Row values) h = cc
+refused-IsLawful store session b (input.Handle k) params End h = cc
+refused-IsLawful store session b (input.Handle k) params Invalid h = cc
+refused-IsLawful store session b (input.Handle k) params Memory h = cc
+
+abbrev IsStopped : Input → Outcome → Type 0
+IsStopped i (Write key value count) = ⊤
+IsStopped i (outcome.Refused answer) = is_refusal i answer ≡ true
+
+fail-IsStopped : (i : Input) (text : List ℕ) → IsStopped i (outcome.Refused (Fail text))
+fail-IsStopped (input.Text t) text = refl
+fail-IsStopped (input.Handle h) text = refl
+
+added-IsStopped : (i : Input) (store : Entries) (key : List ℕ) (v : Value) → IsStopped i (added store key v)
+added-IsStopped i store key (value.Int by) =
+    option_both (IsStopped i) (λ number. summed key (number +ℤ by)) (number_in (value_at key store)) _
+    (λ number. cond_both (IsStopped i) (fits_i64 (number +ℤ by)) _ _ tt (fail-IsStopped i _)) (fail-IsStopped i _)
+added-IsStopped i store key value.Nil = fail-IsStopped i _
+added-IsStopped i store key (value.Bool b) = fail-IsStopped i _
+added-IsStopped i store key (value.Bytes b) = fail-IsStopped i _
+added-IsStopped i store key (value.Text t) = fail-IsStopped i _
+added-IsStopped i store key (value.Time t) = fail-IsStopped i _
+
+commanded-IsStopped : (i : Input) (store : Entries) (s : Statement) (params : List Param) → IsStopped i (commanded store s params)
+commanded-IsStopped i store (Set key v) params =
+    option_both (IsStopped i) (λ k. Write k (Some (value_for v (left_after key params))) (pos 1)) (key_for key params) _ (λ k. tt) (fail-IsStopped i _)
+commanded-IsStopped i store (Add key v) params =
+    option_both (IsStopped i) (λ k. added store k (value_for v (left_after key params))) (key_for key params) _
+    (λ k. added-IsStopped i store k (value_for v (left_after key params))) (fail-IsStopped i _)
+commanded-IsStopped i store (Del key) params =
+    option_both (IsStopped i) (λ k. deleted store k) (key_for key params) _ (λ k. tt) (fail-IsStopped i _)
+commanded-IsStopped i store (Get key) params = fail-IsStopped i _
+commanded-IsStopped i store (ListKeys prefix) params = fail-IsStopped i _
+
+executed-IsStopped : (i : Input) (store : Entries) (s : Statement) (params : List Param) → IsStopped i (executed store s params)
+executed-IsStopped i store s params =
+    cond_both (IsStopped i) (is_query s) _ _ (fail-IsStopped i _)
+    (cond_both (IsStopped i) (length params == inputs_of s) _ _ (commanded-IsStopped i store s params) (fail-IsStopped i _))
+
+executed_prepared-IsStopped : (i : Input) (store : Entries) (o : Option Statement) (params : List Param) → IsStopped i (executed_prepared store o params)
+executed_prepared-IsStopped i store None params = fail-IsStopped i _
+executed_prepared-IsStopped i store (Some s) params = executed-IsStopped i store s params
+
+executed_text-IsStopped : (text : List ℕ) (store : Entries) (o : Option Statement) → IsStopped (input.Text text) (executed_text store o)
+executed_text-IsStopped text store None = refl
+executed_text-IsStopped text store (Some s) =
+    cond_both (IsStopped (input.Text text)) (nat_lt 0 (inputs_of s)) _ _ refl (executed-IsStopped (input.Text text) store s [])
+
+told-IsStopped : (store : Entries) (session : SessionState) (i : Input) (params : List Param) → IsStopped i (told store session i params)
+told-IsStopped store session (input.Text text) params =
+    cond_both (IsStopped (input.Text text)) (nat_lt 0 (length params)) _ _ refl (executed_text-IsStopped text store (statement_of text))
+told-IsStopped store session (input.Handle handle) params =
+    option_both (IsStopped (input.Handle handle)) (λ text. executed_prepared store (statement_of text) params) (text_of handle session) _
+    (λ text. executed_prepared-IsStopped (input.Handle handle) store (statement_of text) params) refl
+
+exec-fits : (i : Input) (params : List Param) (last count : ℤ) → fits_of (Exec i params) (Result last count) ≡ true
+exec-fits (input.Text t) params last count = refl
+exec-fits (input.Handle h) params last count = refl
+
+carried_out-IsLawful : (store : Entries) (session : SessionState) (i : Input) (params : List Param) (o : Outcome) → IsStopped i o → IsLawful session (Exec i params) (carried_out store session o)
+carried_out-IsLawful store session i params (Write key value count) h =
+    record { fits = exec-fits i params _ _; answered = refl; handles = refl; cursors = refl }
+carried_out-IsLawful store session i params (outcome.Refused answer) h = refused-IsLawful store session true i params answer h
 
 abbrev IsRefused : Input → Found → Type 0
 IsRefused i (Rows shape entries) = ⊤
@@ -184,31 +204,9 @@ opened-IsLawful store session i params shape entries sound =
     (record { fits = query-fits i params _ _; answered = refl; handles = refl; cursors = (reverse-push live_cursor session.cursors _, cursor_is_new session sound) })
     (record { fits = refl; answered = refl; handles = refl; cursors = refl })
 
-refused-IsLawful : (store : Entries) (session : SessionState) (i : Input) (params : List Param) (answer : DriverAnswer) → is_refusal i answer ≡ true → IsLawful session (Query i params) (record { store = store; session = session; answer = answer })
-refused-IsLawful store session i params (Fail text) h = record { fits = refl; answered = refl; handles = refl; cursors = refl }
-refused-IsLawful store session i params Bad h = record { fits = refl; answered = refl; handles = refl; cursors = refl }
-refused-IsLawful store session (input.Text t) params Skip h = record { fits = refl; answered = refl; handles = refl; cursors = refl }
-refused-IsLawful store session (input.Handle n) params Skip h = cc
-refused-IsLawful store session (input.Text t) params Done h = cc
-refused-IsLawful store session (input.Text t) params (Prepared n m) h = cc
-refused-IsLawful store session (input.Text t) params (Result n m) h = cc
-refused-IsLawful store session (input.Text t) params (Cursor n columns) h = cc
-refused-IsLawful store session (input.Text t) params (Row values) h = cc
-refused-IsLawful store session (input.Text t) params End h = cc
-refused-IsLawful store session (input.Text t) params Invalid h = cc
-refused-IsLawful store session (input.Text t) params Memory h = cc
-refused-IsLawful store session (input.Handle k) params Done h = cc
-refused-IsLawful store session (input.Handle k) params (Prepared n m) h = cc
-refused-IsLawful store session (input.Handle k) params (Result n m) h = cc
-refused-IsLawful store session (input.Handle k) params (Cursor n columns) h = cc
-refused-IsLawful store session (input.Handle k) params (Row values) h = cc
-refused-IsLawful store session (input.Handle k) params End h = cc
-refused-IsLawful store session (input.Handle k) params Invalid h = cc
-refused-IsLawful store session (input.Handle k) params Memory h = cc
-
 shown-IsLawful : (store : Entries) (session : SessionState) (i : Input) (params : List Param) (f : Found) → IsRefused i f → IsSound session → IsLawful session (Query i params) (in_session store (shown session f))
 shown-IsLawful store session i params (Rows shape entries) h sound = opened-IsLawful store session i params shape entries sound
-shown-IsLawful store session i params (Refused answer) h sound = refused-IsLawful store session i params answer h
+shown-IsLawful store session i params (Refused answer) h sound = refused-IsLawful store session false i params answer h
 
 -- a row has as many values as its cursor has columns
 length-next_row : (shape : Shape) (entries : Entries) (row : List Value) → option_map (λ entry. row_of shape entry) (slice_get entries 0) ≡ Some row → length row ≡ length (columns_of shape)
@@ -243,27 +241,27 @@ rows_closed-IsLawful store session rows =
 
 pub effect-IsLawful : (store : Entries) (session : SessionState) (call : DriverCall) → IsSound session → IsLawful session call (effect store session call)
 effect-IsLawful store session Connect sound = record { fits = refl; answered = refl; handles = refl; cursors = refl }
-effect-IsLawful store session Reset sound = record { fits = refl; answered = refl; handles = refl; cursors = refl }
 effect-IsLawful store session Valid sound = record { fits = refl; answered = refl; handles = refl; cursors = refl }
 effect-IsLawful store session Ping sound = record { fits = refl; answered = refl; handles = refl; cursors = refl }
+effect-IsLawful store session Reset sound = record { fits = refl; answered = refl; handles = refl; cursors = refl }
 effect-IsLawful store session Shut sound = record { fits = refl; answered = refl; handles = refl; cursors = refl }
 effect-IsLawful store session (Prepare text) sound = prepared-IsLawful store session text (statement_of text) sound
 effect-IsLawful store session (CloseStmt handle) sound = closed-IsLawful store session handle
-effect-IsLawful store session (Exec (input.Text text) params) sound =
-    let suits : ExecSuits text params (cond (nat_lt 0 (length params)) (store, Skip) (executed_text store (statement_of text))) = cond_both (ExecSuits text params) (nat_lt 0 (length params)) _ _
-    (record { fits = refl; answered = refl; handles = λ hs. refl; cursors = λ cs. refl })
-    (executed_text-Suits store text params (statement_of text)) in
-    record { fits = suits.fits; answered = suits.answered; handles = suits.handles (handles_of session); cursors = suits.cursors (cursors_of session) }
-effect-IsLawful store session (Exec (input.Handle handle) params) sound =
-    let P : Written → Type 0 = λ written. Suits (Exec (input.Handle handle) params) written.1 in
-    let suits = option_both P (λ text. executed_prepared store (statement_of text) params) (text_of handle session) _
-    (λ text. exec-Suits (input.Handle handle) params _ (executed_prepared-Settled store (statement_of text) params))
-    (record { fits = refl; answered = refl; handles = λ hs. refl; cursors = λ cs. refl }) in
-    record { fits = suits.fits; answered = suits.answered; handles = suits.handles (handles_of session); cursors = suits.cursors (cursors_of session) }
+effect-IsLawful store session (Exec i params) sound =
+    carried_out-IsLawful store session i params (told store session i params) (told-IsStopped store session i params)
 effect-IsLawful store session (Query i params) sound =
     shown-IsLawful store session i params (asked store session i params) (asked-IsRefused store session i params) sound
 effect-IsLawful store session (Next rows) sound = next_taken-IsLawful store session rows sound
 effect-IsLawful store session (CloseRows rows) sound = rows_closed-IsLawful store session rows
-effect-IsLawful store session (Begin level read_only) sound = record { fits = refl; answered = refl; handles = refl; cursors = refl }
-effect-IsLawful store session Commit sound = record { fits = refl; answered = refl; handles = refl; cursors = refl }
-effect-IsLawful store session Rollback sound = record { fits = refl; answered = refl; handles = refl; cursors = refl }
+effect-IsLawful store session (Begin level read_only) sound =
+    cond_both (λ kept. IsLawful session (Begin level read_only) (in_session store kept)) (is_some session.undo) _ _
+    (record { fits = refl; answered = refl; handles = refl; cursors = refl })
+    (record { fits = refl; answered = refl; handles = refl; cursors = refl })
+effect-IsLawful store session Commit sound =
+    cond_both (λ kept. IsLawful session Commit (in_session store kept)) (is_some session.undo) _ _
+    (record { fits = refl; answered = refl; handles = refl; cursors = refl })
+    (record { fits = refl; answered = refl; handles = refl; cursors = refl })
+effect-IsLawful store session Rollback sound =
+    cond_both (IsLawful session Rollback) (is_some session.undo) _ _
+    (record { fits = refl; answered = refl; handles = refl; cursors = refl })
+    (record { fits = refl; answered = refl; handles = refl; cursors = refl })

@@ -10,7 +10,7 @@ use Rattle.std.proofs.lemmas.Option.{none-some}
 use Rattle.dsql_driver.specs.Wires.{LiveCursor, has_number, has_cursor, has_width}
 use Rattle.dsql_mem.specs.Cursor.{CursorState, columns_of, advanced, with_advanced}
 use Rattle.dsql_mem.specs.Entries.{Entries}
-use Rattle.dsql_mem.specs.Session.{SessionState, IsSound, are_within, are_distinct, without_handle, without_cursor, handles_of, cursors_of, cursor_of}
+use Rattle.dsql_mem.specs.Session.{SessionState, AreSound, IsSound, are_within, are_distinct, without_handle, without_cursor, handles_of, cursors_of, cursor_of}
 use Rattle.dsql_mem.specs.declared.cursor.Shape.{Shape}
 use Rattle.dsql_mem.specs.declared.session.Prepared.{Prepared}
 
@@ -142,38 +142,38 @@ abbrev number_of : CursorState → ℕ
 number_of c = c.number
 
 -- a session stays sound as handles and cursors are given, used and closed
-pub IsSound-prepared : (session : SessionState) (text : List ℕ) → IsSound session → IsSound (record session { statements = session.statements ++ (record { handle = session.last_handle + 1; text = text }) ∷ []; last_handle = session.last_handle + 1 })
-IsSound-prepared session text h = record {
-  handles = ap (are_within (session.last_handle + 1)) (map-append handle_of session.statements _)
-      ∙ within-push session.last_handle (map handle_of session.statements) h.handles;
-  cursors = h.cursors;
+pub AreSound-prepared : (last_handle : ℕ) (statements : List Prepared) (last_cursor : ℕ) (cursors : List CursorState) (text : List ℕ) → AreSound last_handle statements last_cursor cursors → AreSound (last_handle + 1) (statements ++ (record { handle = last_handle + 1; text = text }) ∷ []) last_cursor cursors
+AreSound-prepared last_handle statements last_cursor cursors text h = record {
+  handles_within = ap (are_within (last_handle + 1)) (map-append handle_of statements _)
+      ∙ within-push last_handle (map handle_of statements) h.handles_within;
+  cursors_within = h.cursors_within;
   distinct = h.distinct;
 }
 
-pub IsSound-closed : (session : SessionState) (handle : ℕ) → IsSound session → IsSound (record session { statements = without_handle handle session.statements })
-IsSound-closed session handle h = record {
-  handles = ap (are_within session.last_handle) (map-filter handle_of (λ n. not (eqb n handle)) session.statements)
-      ∙ within-filter (λ n. not (eqb n handle)) session.last_handle (map handle_of session.statements) h.handles;
-  cursors = h.cursors;
+pub AreSound-closed : (last_handle : ℕ) (statements : List Prepared) (last_cursor : ℕ) (cursors : List CursorState) (handle : ℕ) → AreSound last_handle statements last_cursor cursors → AreSound last_handle (without_handle handle statements) last_cursor cursors
+AreSound-closed last_handle statements last_cursor cursors handle h = record {
+  handles_within = ap (are_within last_handle) (map-filter handle_of (λ n. not (eqb n handle)) statements)
+      ∙ within-filter (λ n. not (eqb n handle)) last_handle (map handle_of statements) h.handles_within;
+  cursors_within = h.cursors_within;
   distinct = h.distinct;
 }
 
-pub IsSound-opened : (session : SessionState) (shape : Shape) (entries : Entries) → IsSound session → IsSound (record session { cursors = session.cursors ++ (record { number = session.last_cursor + 1; shape = shape; left = entries }) ∷ []; last_cursor = session.last_cursor + 1 })
-IsSound-opened session shape entries h = record {
-  handles = h.handles;
-  cursors = ap (are_within (session.last_cursor + 1)) (map-append number_of session.cursors _)
-      ∙ within-push session.last_cursor (map number_of session.cursors) h.cursors;
-  distinct = ap are_distinct (map-append number_of session.cursors _)
-      ∙ distinct-push (session.last_cursor + 1) (map number_of session.cursors) (above-all session.last_cursor (map number_of session.cursors) h.cursors) h.distinct;
+pub AreSound-opened : (last_handle : ℕ) (statements : List Prepared) (last_cursor : ℕ) (cursors : List CursorState) (shape : Shape) (entries : Entries) → AreSound last_handle statements last_cursor cursors → AreSound last_handle statements (last_cursor + 1) (cursors ++ (record { number = last_cursor + 1; shape = shape; left = entries }) ∷ [])
+AreSound-opened last_handle statements last_cursor cursors shape entries h = record {
+  handles_within = h.handles_within;
+  cursors_within = ap (are_within (last_cursor + 1)) (map-append number_of cursors _)
+      ∙ within-push last_cursor (map number_of cursors) h.cursors_within;
+  distinct = ap are_distinct (map-append number_of cursors _)
+      ∙ distinct-push (last_cursor + 1) (map number_of cursors) (above-all last_cursor (map number_of cursors) h.cursors_within) h.distinct;
 }
 
-pub IsSound-rows_closed : (session : SessionState) (rows : ℕ) → IsSound session → IsSound (record session { cursors = without_cursor rows session.cursors })
-IsSound-rows_closed session rows h = record {
-  handles = h.handles;
-  cursors = ap (are_within session.last_cursor) (map-filter number_of (λ n. not (eqb n rows)) session.cursors)
-      ∙ within-filter (λ n. not (eqb n rows)) session.last_cursor (map number_of session.cursors) h.cursors;
-  distinct = ap are_distinct (map-filter number_of (λ n. not (eqb n rows)) session.cursors)
-      ∙ distinct-filter (λ n. not (eqb n rows)) (map number_of session.cursors) h.distinct;
+pub AreSound-rows_closed : (last_handle : ℕ) (statements : List Prepared) (last_cursor : ℕ) (cursors : List CursorState) (rows : ℕ) → AreSound last_handle statements last_cursor cursors → AreSound last_handle statements last_cursor (without_cursor rows cursors)
+AreSound-rows_closed last_handle statements last_cursor cursors rows h = record {
+  handles_within = h.handles_within;
+  cursors_within = ap (are_within last_cursor) (map-filter number_of (λ n. not (eqb n rows)) cursors)
+      ∙ within-filter (λ n. not (eqb n rows)) last_cursor (map number_of cursors) h.cursors_within;
+  distinct = ap are_distinct (map-filter number_of (λ n. not (eqb n rows)) cursors)
+      ∙ distinct-filter (λ n. not (eqb n rows)) (map number_of cursors) h.distinct;
 }
 
 -- a cursor that gives its next row keeps what doesn't speak of the rows that are left
@@ -184,11 +184,11 @@ map-advanced f same rows (c ∷ cs) = step (eqb c.number rows) (map-advanced f s
   step true rest = ap (λ x. x ∷ map f cs) (same c)
   step false rest = ap (λ xs. f c ∷ xs) rest
 
-pub IsSound-advanced : (session : SessionState) (rows : ℕ) → IsSound session → IsSound (record session { cursors = with_advanced rows session.cursors })
-IsSound-advanced session rows h = record {
-  handles = h.handles;
-  cursors = ap (are_within session.last_cursor) (map-advanced number_of (λ c. refl) rows session.cursors) ∙ h.cursors;
-  distinct = ap are_distinct (map-advanced number_of (λ c. refl) rows session.cursors) ∙ h.distinct;
+pub AreSound-advanced : (last_handle : ℕ) (statements : List Prepared) (last_cursor : ℕ) (cursors : List CursorState) (rows : ℕ) → AreSound last_handle statements last_cursor cursors → AreSound last_handle statements last_cursor (with_advanced rows cursors)
+AreSound-advanced last_handle statements last_cursor cursors rows h = record {
+  handles_within = h.handles_within;
+  cursors_within = ap (are_within last_cursor) (map-advanced number_of (λ c. refl) rows cursors) ∙ h.cursors_within;
+  distinct = ap are_distinct (map-advanced number_of (λ c. refl) rows cursors) ∙ h.distinct;
 }
 
 abbrev pub live_cursor : CursorState → LiveCursor
@@ -200,7 +200,7 @@ cursors-advanced session rows = ap reverse (map-advanced live_cursor (λ c. refl
 pub handle_is_new : (session : SessionState) → IsSound session → has_number (session.last_handle + 1) (handles_of session) ≡ false
 handle_is_new session h =
     list_any-reverse (λ n. eqb n (session.last_handle + 1)) (map handle_of session.statements)
-    ∙ above-all session.last_handle (map handle_of session.statements) h.handles
+    ∙ above-all session.last_handle (map handle_of session.statements) h.handles_within
 
 has_cursor-numbers : (rows : ℕ) (cs : List CursorState) → has_cursor rows (map live_cursor cs) ≡ has_number rows (map number_of cs)
 has_cursor-numbers rows [] = refl
@@ -210,7 +210,7 @@ pub cursor_is_new : (session : SessionState) → IsSound session → has_cursor 
 cursor_is_new session h =
     list_any-reverse (λ (c : LiveCursor). eqb c.0 (session.last_cursor + 1)) (map live_cursor session.cursors)
     ∙ has_cursor-numbers (session.last_cursor + 1) session.cursors
-    ∙ above-all session.last_cursor (map number_of session.cursors) h.cursors
+    ∙ above-all session.last_cursor (map number_of session.cursors) h.cursors_within
 
 -- a test of one cursor's width
 abbrev passes : ℕ → ℕ → LiveCursor → Bool

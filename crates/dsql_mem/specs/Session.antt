@@ -1,21 +1,23 @@
 -- What the driver keeps for one connection.
-use Rattle.std.specs.Prelude.{◌≡◌, ℕ, ◌==◌, nat_le, Bool, true, not, ◌&&◌, List, [], ◌∷◌, length, map, reverse, filter, find, Option, option_map}
+use Rattle.std.specs.Prelude.{◌≡◌, ℕ, ◌==◌, nat_le, Bool, true, not, ◌&&◌, List, [], ◌∷◌, length, map, reverse, filter, find, Option, None, option_map}
 use Rattle.std.specs.List.{list_any, list_all}
 use Rattle.dsql_driver.specs.Wires.{LiveCursor, has_number}
 use Rattle.dsql_mem.specs.Cursor.{CursorState, columns_of}
+use Rattle.dsql_mem.specs.declared.note.Note.{Note}
 use Rattle.dsql_mem.specs.declared.session.Prepared.{Prepared}
 
 -- A session: the statements that are live with their handles, oldest first, and the last handle that was given, 0 where none
--- was. The cursors likewise.
+-- was. The cursors likewise. The notes of its open transaction, newest first, if one is open.
 pub record SessionState : Type 0 where
   pub statements : List Prepared
   pub last_handle : ℕ
   pub cursors : List CursorState
   pub last_cursor : ℕ
+  pub undo : Option (List Note)
 
 -- the session of a new connection
 abbrev pub new_session : SessionState
-new_session = record { statements = []; last_handle = 0; cursors = []; last_cursor = 0 }
+new_session = record { statements = []; last_handle = 0; cursors = []; last_cursor = 0; undo = None }
 
 -- the largest number of a handle, and of a cursor
 abbrev pub largest_number : ℕ
@@ -63,7 +65,15 @@ are_distinct [] = true
 are_distinct (n ∷ ns) = not (has_number n ns) && are_distinct ns
 
 -- No handle or cursor is live that is above the last one given, and no two cursors have the same number.
-pub record IsSound (session : SessionState) : Type 0 where
-  pub handles : are_within session.last_handle (map (λ s. s.handle) session.statements) ≡ true
-  pub cursors : are_within session.last_cursor (map (λ c. c.number) session.cursors) ≡ true
-  pub distinct : are_distinct (map (λ c. c.number) session.cursors) ≡ true
+pub record AreSound (last_handle : ℕ) (statements : List Prepared) (last_cursor : ℕ) (cursors : List CursorState) : Type 0 where
+  pub handles_within : are_within last_handle (map (λ s. s.handle) statements) ≡ true
+  pub cursors_within : are_within last_cursor (map (λ c. c.number) cursors) ≡ true
+  pub distinct : are_distinct (map (λ c. c.number) cursors) ≡ true
+
+-- a session's numbers are sound
+abbrev pub IsSound : SessionState → Type 0
+IsSound session = AreSound session.last_handle session.statements session.last_cursor session.cursors
+
+-- the session once it noted what a key was, if it is in a transaction
+abbrev pub noted : Note → SessionState → SessionState
+noted note session = record session { undo = option_map (λ notes. note ∷ notes) session.undo }

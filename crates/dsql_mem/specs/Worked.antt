@@ -1,19 +1,20 @@
 -- What a SET and a DEL come to, and worked calls.
-use Rattle.std.specs.Prelude.{◌≡◌, ℕ, pos, negsuc, List, [], ◌∷◌, Some, None, codes, if◌then◌else◌}
+use Rattle.std.specs.Prelude.{◌≡◌, ℕ, pos, negsuc, false, List, [], ◌∷◌, Some, None, codes, if◌then◌else◌}
 use Rattle.std.specs.Cmp.Lexicographic.{slice_cmp}
 use Rattle.std.specs.List.Sorted.{IsStrictlySortedBy}
 use Rattle.std.specs.Map.{keys_of}
 use Rattle.std.specs.Ordering.{nat_cmp}
 use Rattle.std.specs.Str.{bytes_eq}
 use Rattle.dsql_driver.specs.declared.answer.DriverAnswer.{DriverAnswer}
-use Rattle.dsql_driver.specs.declared.answer.DriverAnswer.TheVariants.{Done, Prepared, Cursor, Row, End, Skip}
+use Rattle.dsql_driver.specs.declared.answer.DriverAnswer.TheVariants.{Done, Prepared, Result, Cursor, Row, End, Skip}
 use Rattle.dsql_driver.specs.declared.call.DriverCall.{DriverCall}
-use Rattle.dsql_driver.specs.declared.call.DriverCall.TheVariants.{Prepare, CloseStmt, Exec, Query, Next, CloseRows}
+use Rattle.dsql_driver.specs.declared.call.DriverCall.TheVariants.{Prepare, CloseStmt, Exec, Query, Next, CloseRows, Begin, Commit, Rollback, Reset}
 use Rattle.dsql_driver.specs.declared.call.Input.TheVariants as input
+use Rattle.dsql_driver.specs.declared.call.Level.TheVariants.{Default}
 use Rattle.dsql_value.specs.declared.value.Param.{Param}
 use Rattle.dsql_value.specs.declared.value.Value.{Value}
 use Rattle.dsql_value.specs.declared.value.Value.TheVariants.{Nil, Int, Text}
-use Rattle.dsql_mem.specs.Effect.{Effect, effect, only_answered, affected, no_such_handle, no_such_statement, not_a_command, not_a_query, wrong_arguments, key_is_not_text, not_a_number, out_of_range, numbers_spent}
+use Rattle.dsql_mem.specs.Effect.{Effect, effect, only_answered, no_such_handle, no_such_statement, not_a_command, not_a_query, wrong_arguments, key_is_not_text, not_a_number, out_of_range, in_transaction, no_transaction, numbers_spent}
 use Rattle.dsql_mem.specs.Entries.{Entries, with_value, without_key, value_at}
 use Rattle.dsql_mem.specs.Number.{number_of}
 use Rattle.dsql_mem.specs.Session.{SessionState, new_session}
@@ -49,6 +50,10 @@ executes text = effect sample new_session (Exec (input.Text text) [])
 -- an answer after which all is as it was
 abbrev pub only : DriverAnswer → Effect
 only answer = only_answered sample new_session answer
+
+-- the answer to a command that was carried out: no last id, and so many entries affected
+abbrev pub affected : ℕ → DriverAnswer
+affected n = Result (pos 0) (pos n)
 
 -- a command that affected so many entries, and the map afterwards
 abbrev pub done : ℕ → Entries → Effect
@@ -131,6 +136,38 @@ pub record WorkedQueries : Type 0 where
   pub spent :
       answers_from [] (record new_session { last_cursor = 4294967294 }) (ask (codes "LIST a") ∷ ask (codes "LIST a") ∷ Next 4294967295 ∷ [])
       ≡ Cursor 4294967295 (codes "key" ∷ codes "value" ∷ []) ∷ numbers_spent ∷ End ∷ []
+
+-- what a wire is told without parameters, and a Begin
+abbrev pub tell : List ℕ → DriverCall
+tell text = Exec (input.Text text) []
+
+abbrev pub begin : DriverCall
+begin = Begin Default false
+
+-- transactions
+pub record WorkedTransactions : Type 0 where
+  -- a key that was written twice has its first value again, one that came is gone, and one that went is back
+  pub rolled_back :
+      answers_from sample new_session
+      (begin ∷ tell (codes "SET b 1") ∷ tell (codes "SET b 2") ∷ tell (codes "SET a 3") ∷ tell (codes "DEL t") ∷ Rollback
+      ∷ ask (codes "GET b") ∷ Next 1 ∷ ask (codes "GET a") ∷ Next 2 ∷ ask (codes "GET t") ∷ Next 3 ∷ [])
+      ≡ Done ∷ affected 1 ∷ affected 1 ∷ affected 1 ∷ affected 1 ∷ Done ∷ Cursor 1 (codes "value" ∷ []) ∷ Row (Int (pos 7) ∷ [])
+      ∷ Cursor 2 (codes "value" ∷ []) ∷ End ∷ Cursor 3 (codes "value" ∷ []) ∷ Row (Text (codes "Ann") ∷ []) ∷ []
+  -- what was committed stays
+  pub committed :
+      answers_from [] new_session (begin ∷ tell (codes "SET a 1") ∷ Commit ∷ Rollback ∷ ask (codes "GET a") ∷ Next 1 ∷ [])
+      ≡ Done ∷ affected 1 ∷ Done ∷ no_transaction ∷ Cursor 1 (codes "value" ∷ []) ∷ Row (Int (pos 1) ∷ []) ∷ []
+  -- a Begin fails in a transaction, and leaves it open
+  pub begun_twice :
+      answers_from [] new_session (Commit ∷ begin ∷ begin ∷ Rollback ∷ Rollback ∷ [])
+      ≡ no_transaction ∷ Done ∷ in_transaction ∷ Done ∷ no_transaction ∷ []
+  -- a Reset rolls back, and leaves handles and cursors as they are
+  pub reset :
+      answers_from [] new_session
+      (Prepare (codes "GET a") ∷ begin ∷ tell (codes "SET a 1") ∷ Query (input.Handle 1) [] ∷ Reset ∷ Commit ∷ Next 1
+      ∷ Query (input.Handle 1) [] ∷ Next 2 ∷ [])
+      ≡ Prepared 1 (pos 0) ∷ Done ∷ affected 1 ∷ Cursor 1 (codes "value" ∷ []) ∷ Done ∷ no_transaction ∷ Row (Int (pos 1) ∷ [])
+      ∷ Cursor 2 (codes "value" ∷ []) ∷ End ∷ []
 
 pub record WorkedHandles : Type 0 where
   -- the parameters are taken in order

@@ -1,14 +1,15 @@
 ghost use Rattle.std.specs.Prelude.{◌≡◌, true, false, IfOk, OnOk, OnErr, if◌then◌else◌};
 ghost use Rattle.dsql_driver.specs.Fits.{is_memory};
 ghost use Rattle.dsql_mem.specs.Copies.{copies_of};
-ghost use Rattle.dsql_mem.specs.Effect.{effect, shown};
+ghost use Rattle.dsql_mem.specs.Effect.{effect, shown, carried_out, taken_back};
 
 use crate::copies::Copies;
-use crate::failures::{NO_SUCH_HANDLE, NO_SUCH_STATEMENT, NO_TRANSACTION};
+use crate::execute::Outcome;
+use crate::failures::NO_TRANSACTION;
 use crate::query::Found;
 use crate::session::Session;
 use crate::store::Store;
-use dsql_driver::{Answered, DriverAnswer, DriverCall, Input};
+use dsql_driver::{Answered, DriverAnswer, DriverCall};
 use dsql_value::Memory;
 use std::alloc::Global;
 
@@ -43,32 +44,79 @@ impl Store {
         ensures session_stays { OnErr result (session.new ≡ session.old) }
     {
         match call {
-            DriverCall::Connect
-            | DriverCall::Reset
-            | DriverCall::Valid
-            | DriverCall::Ping
-            | DriverCall::Shut => Copies::of(DriverAnswer::Done),
+            DriverCall::Connect | DriverCall::Valid | DriverCall::Ping => {
+                Copies::of(DriverAnswer::Done)
+            }
+            DriverCall::Reset | DriverCall::Shut => self.take_back(session),
             DriverCall::Prepare(text) => session.prepare(alloc, text),
             DriverCall::CloseStmt(handle) => session.close(alloc, *handle),
-            DriverCall::Exec(Input::Text(text), params) => {
-                if !params.as_slice().is_empty() {
-                    return Copies::of(DriverAnswer::Skip);
-                }
-                self.execute_text(alloc, text.as_str())
+            DriverCall::Exec(input, params) => {
+                let outcome = self.execute(alloc, session, input, params.as_slice())?;
+                self.carry_out(session, outcome)
             }
-            DriverCall::Exec(Input::Handle(handle), params) => match session.text(*handle) {
-                Some(text) => self.execute_prepared(alloc, text, params.as_slice()),
-                None => Copies::of_failure(alloc, NO_SUCH_HANDLE),
-            },
             DriverCall::Query(input, params) => {
                 let found = self.query(alloc, session, input, params.as_slice())?;
                 show(session, alloc, found)
             }
             DriverCall::Next(rows) => session.take_row(alloc, *rows),
             DriverCall::CloseRows(rows) => session.close_rows(alloc, *rows),
-            DriverCall::Begin { .. } => Copies::of_failure(alloc, NO_SUCH_STATEMENT),
-            DriverCall::Commit | DriverCall::Rollback => Copies::of_failure(alloc, NO_TRANSACTION),
+            DriverCall::Begin { .. } => session.begin(alloc),
+            DriverCall::Commit => session.commit(alloc),
+            DriverCall::Rollback => self.roll_back(alloc, session),
         }
+    }
+
+    /// Carries out what a command came to, or answers why it can't.
+    fn carry_out(&mut self, session: &mut Session, outcome: Outcome) -> Result<Copies, Memory>
+        ensures answer { IfOk result (λ copies. copies ≡ copies_of (carried_out self.old session.old outcome).answer) }
+        ensures store { OnOk result (self.new ≡ (carried_out self.old session.old outcome).store) }
+        ensures session { OnOk result (session.new ≡ (carried_out self.old session.old outcome).session) }
+        ensures store_stays { OnErr result (self.new ≡ self.old) }
+        ensures session_stays { OnErr result (session.new ≡ session.old) }
+    {
+        match outcome {
+            Outcome::Write {
+                key,
+                value,
+                affected,
+            } => {
+                let copies = Copies::of(DriverAnswer::Result { last: 0, affected })?;
+                session.write(self, key, value)?;
+                Ok(copies)
+            }
+            Outcome::Refused(answer) => Copies::of(answer),
+        }
+    }
+
+    /// Rolls back the session's transaction, if one is open.
+    fn roll_back(&mut self, alloc: Global, session: &mut Session) -> Result<Copies, Memory>
+        ensures answer { IfOk result (λ copies. copies ≡ copies_of (effect self.old session.old DriverCall.Rollback).answer) }
+        ensures store { OnOk result (self.new ≡ (effect self.old session.old DriverCall.Rollback).store) }
+        ensures session { OnOk result (session.new ≡ (effect self.old session.old DriverCall.Rollback).session) }
+        ensures store_stays { OnErr result (self.new ≡ self.old) }
+        ensures session_stays { OnErr result (session.new ≡ session.old) }
+    {
+        if session.in_transaction() {
+            self.take_back(session)
+        } else {
+            Copies::of_failure(alloc, NO_TRANSACTION)
+        }
+    }
+
+    /// Takes back what the session wrote in its open transaction, if there is one, and ends it.
+    fn take_back(&mut self, session: &mut Session) -> Result<Copies, Memory>
+        ensures answer { IfOk result (λ copies. copies ≡ copies_of (taken_back self.old session.old).answer) }
+        ensures store { OnOk result (self.new ≡ (taken_back self.old session.old).store) }
+        ensures session { OnOk result (session.new ≡ (taken_back self.old session.old).session) }
+        ensures store_stays { OnErr result (self.new ≡ self.old) }
+        ensures session_stays { OnErr result (session.new ≡ session.old) }
+    {
+        let copies = Copies::of(DriverAnswer::Done)?;
+        if let Some(notes) = session.notes() {
+            *self = self.before(notes)?;
+        }
+        session.forget();
+        Ok(copies)
     }
 }
 

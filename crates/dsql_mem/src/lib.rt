@@ -10,6 +10,8 @@ mod execute;
 mod failures;
 mod filled;
 mod fleet;
+pub mod laws;
+mod note;
 mod number;
 mod query;
 mod roll;

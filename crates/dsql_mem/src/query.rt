@@ -22,12 +22,14 @@ pub(crate) enum Found {
     Refused(DriverAnswer),
 }
 
-/// The refusal of a query that failed, with this text.
-fn failure(alloc: Global, text: &str) -> Result<Found, Memory>
-    ensures { IfOk result (λ found. found ≡ Found.Refused (DriverAnswer.Fail text.now)) }
-{
-    let text = Txt::copy_of(alloc, text)?;
-    Ok(Found::Refused(DriverAnswer::Fail(text)))
+impl Found {
+    /// The refusal of a query that failed, with this text.
+    fn failure(alloc: Global, text: &str) -> Result<Found, Memory>
+        ensures { IfOk result (λ found. found ≡ Found.Refused (DriverAnswer.Fail text.now)) }
+    {
+        let text = Txt::copy_of(alloc, text)?;
+        Ok(Found::Refused(DriverAnswer::Fail(text)))
+    }
 }
 
 impl Store {
@@ -46,7 +48,7 @@ impl Store {
             Input::Text(text) => self.query_text(alloc, text.as_str()),
             Input::Handle(handle) => match session.text(*handle) {
                 Some(text) => self.query_prepared(alloc, text, params),
-                None => failure(alloc, NO_SUCH_HANDLE),
+                None => Found::failure(alloc, NO_SUCH_HANDLE),
             },
         }
     }
@@ -56,7 +58,7 @@ impl Store {
         ensures { IfOk result (λ found. found ≡ queried_text self.now (statement_of text.now)) }
     {
         match Statement::parse(text) {
-            None => failure(alloc, NO_SUCH_STATEMENT),
+            None => Found::failure(alloc, NO_SUCH_STATEMENT),
             Some(statement) if statement.inputs() > 0 => Ok(Found::Refused(DriverAnswer::Skip)),
             Some(statement) => self.ask(alloc, &statement, &[]),
         }
@@ -67,7 +69,7 @@ impl Store {
         ensures { IfOk result (λ found. found ≡ queried_prepared self.now (statement_of text.now) params.now) }
     {
         match Statement::parse(text) {
-            None => failure(alloc, NO_SUCH_STATEMENT),
+            None => Found::failure(alloc, NO_SUCH_STATEMENT),
             Some(statement) => self.ask(alloc, &statement, params),
         }
     }
@@ -82,10 +84,10 @@ impl Store {
         ensures { IfOk result (λ found. found ≡ queried self.now (spelled statement.now) params.now) }
     {
         if !statement.is_query() {
-            return failure(alloc, NOT_A_QUERY);
+            return Found::failure(alloc, NOT_A_QUERY);
         }
         if params.len() != usize::from(statement.inputs()) {
-            return failure(alloc, WRONG_ARGUMENTS);
+            return Found::failure(alloc, WRONG_ARGUMENTS);
         }
         self.find(alloc, statement, params)
     }
@@ -105,17 +107,17 @@ impl Store {
                     shape: Shape::Values,
                     entries: self.entry(alloc, key)?,
                 }),
-                None => failure(alloc, KEY_IS_NOT_TEXT),
+                None => Found::failure(alloc, KEY_IS_NOT_TEXT),
             },
             Statement::ListKeys { prefix } => match key_for(prefix, params) {
                 Some(prefix) => Ok(Found::Rows {
                     shape: Shape::Entries,
                     entries: self.list(alloc, prefix)?,
                 }),
-                None => failure(alloc, KEY_IS_NOT_TEXT),
+                None => Found::failure(alloc, KEY_IS_NOT_TEXT),
             },
             Statement::Set { .. } | Statement::Add { .. } | Statement::Del { .. } => {
-                failure(alloc, NOT_A_QUERY)
+                Found::failure(alloc, NOT_A_QUERY)
             }
         }
     }

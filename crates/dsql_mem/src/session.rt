@@ -6,11 +6,14 @@ ghost use Rattle.dsql_mem.specs.Session.{without_handle, without_cursor};
 use crate::copies::Copies;
 use crate::cursor::{Cursor, Entry, Shape};
 use crate::failures::{NO_SUCH_HANDLE, NO_SUCH_STATEMENT, NUMBERS_SPENT};
+use crate::note::Note;
 use crate::statement::Statement;
 use dsql_driver::DriverAnswer;
 use dsql_value::{Items, Memory, Txt};
 use std::alloc::Global;
 use std::marker::Model;
+
+mod transaction;
 
 /// A statement that was prepared, with its handle.
 #[derive(Debug, Drop)]
@@ -20,23 +23,26 @@ pub(crate) struct Prepared {
 }
 
 /// What the driver keeps for one connection: the statements that are prepared on it, by their handles, and
-/// the cursors that are open on it. Both are numbered from 1, and no number is given twice.
+/// the cursors that are open on it. Both are numbered from 1, and no number is given twice. In a transaction
+/// also what it wrote over.
 #[derive(Debug, Drop)]
 pub struct Session {
     statements: Vec<Prepared>,
     last_handle: u32,
     cursors: Vec<Cursor>,
     last_cursor: u32,
+    undo: Option<Vec<Note>>,
 }
 
 impl Model for Session {
-    ghost use Rattle.dsql_mem.specs.Session.{SessionState, IsSound};
+    ghost use Rattle.std.specs.Prelude.{option_map, reverse};
+    ghost use Rattle.dsql_mem.specs.Session.{SessionState, AreSound};
 
     ghost Value = { SessionState };
 
-    ghost view = { λ s. record { statements = s.statements.items; last_handle = s.last_handle; cursors = s.cursors.items; last_cursor = s.last_cursor } };
+    ghost view = { λ s. record { statements = s.statements.items; last_handle = s.last_handle; cursors = s.cursors.items; last_cursor = s.last_cursor; undo = option_map (λ notes. reverse notes.items) s.undo } };
 
-    ghost invariant = { λ s. IsSound (record { statements = s.statements.items; last_handle = s.last_handle; cursors = s.cursors.items; last_cursor = s.last_cursor }) };
+    ghost invariant = { λ s. AreSound s.last_handle s.statements.items s.last_cursor s.cursors.items };
 }
 
 impl Session {
@@ -56,6 +62,7 @@ impl Session {
             last_handle: 0,
             cursors: Vec::new(alloc),
             last_cursor: 0,
+            undo: None,
         }
     }
 
@@ -233,6 +240,7 @@ mod tests {
             last_handle: u32::MAX,
             cursors: Vec::new(alloc),
             last_cursor: u32::MAX,
+            undo: None,
         };
         let copies = session.prepare(alloc, &text)?;
         assert!(rt;
