@@ -16,7 +16,7 @@ use Rattle.dsql_value.specs.declared.value.Param.{Param}
 use Rattle.dsql_value.specs.declared.value.Value.{Value}
 use Rattle.dsql_value.specs.declared.value.Value.TheVariants as value
 use Rattle.dsql_mem.specs.Cursor.{CursorState, columns_of, row_of, next_row}
-use Rattle.dsql_mem.specs.Effect.{Effect, effect, told, executed, executed_text, executed_prepared, commanded, carried_out, added, deleted, summed, number_in, prepared, closed, found, queried, queried_text, queried_prepared, asked, opened, given, next_taken, rows_closed, shown, in_session, only_answered, no_such_handle}
+use Rattle.dsql_mem.specs.Effect.{Effect, effect, executed_in, executed, executed_text, executed_prepared, commanded, carried_out, added, deleted, summed, number_in, prepared, closed, found, queried, queried_text, queried_prepared, queried_in, opened, given, next_taken, rows_closed, shown, in_session, only_answered, no_such_handle}
 use Rattle.dsql_mem.specs.Entries.{Entries, value_at, entry_at, listed}
 use Rattle.dsql_mem.specs.Filled.{key_for, value_for, left_after}
 use Rattle.dsql_mem.specs.Number.{fits_i64}
@@ -96,103 +96,103 @@ refused-IsLawful store session b (input.Handle k) params End h = cc
 refused-IsLawful store session b (input.Handle k) params Invalid h = cc
 refused-IsLawful store session b (input.Handle k) params Memory h = cc
 
-abbrev IsStopped : Input → Outcome → Type 0
-IsStopped i (Write key value count) = ⊤
-IsStopped i (outcome.Refused answer) = is_refusal i answer ≡ true
+abbrev OutcomeFits : Input → Outcome → Type 0
+OutcomeFits i (Write key value count) = ⊤
+OutcomeFits i (outcome.Refused answer) = is_refusal i answer ≡ true
 
-fail-IsStopped : (i : Input) (text : List ℕ) → IsStopped i (outcome.Refused (Fail text))
-fail-IsStopped (input.Text t) text = refl
-fail-IsStopped (input.Handle h) text = refl
+fail-OutcomeFits : (i : Input) (text : List ℕ) → OutcomeFits i (outcome.Refused (Fail text))
+fail-OutcomeFits (input.Text t) text = refl
+fail-OutcomeFits (input.Handle h) text = refl
 
-added-IsStopped : (i : Input) (store : Entries) (key : List ℕ) (v : Value) → IsStopped i (added store key v)
-added-IsStopped i store key (value.Int by) =
-    option_both (IsStopped i) (λ number. summed key (number +ℤ by)) (number_in (value_at key store)) _
-    (λ number. cond_both (IsStopped i) (fits_i64 (number +ℤ by)) _ _ tt (fail-IsStopped i _)) (fail-IsStopped i _)
-added-IsStopped i store key value.Nil = fail-IsStopped i _
-added-IsStopped i store key (value.Bool b) = fail-IsStopped i _
-added-IsStopped i store key (value.Bytes b) = fail-IsStopped i _
-added-IsStopped i store key (value.Text t) = fail-IsStopped i _
-added-IsStopped i store key (value.Time t) = fail-IsStopped i _
+added-OutcomeFits : (i : Input) (store : Entries) (key : List ℕ) (v : Value) → OutcomeFits i (added store key v)
+added-OutcomeFits i store key (value.Int by) =
+    option_both (OutcomeFits i) (λ number. summed key (number +ℤ by)) (number_in (value_at key store)) _
+    (λ number. cond_both (OutcomeFits i) (fits_i64 (number +ℤ by)) _ _ tt (fail-OutcomeFits i _)) (fail-OutcomeFits i _)
+added-OutcomeFits i store key value.Nil = fail-OutcomeFits i _
+added-OutcomeFits i store key (value.Bool b) = fail-OutcomeFits i _
+added-OutcomeFits i store key (value.Bytes b) = fail-OutcomeFits i _
+added-OutcomeFits i store key (value.Text t) = fail-OutcomeFits i _
+added-OutcomeFits i store key (value.Time t) = fail-OutcomeFits i _
 
-commanded-IsStopped : (i : Input) (store : Entries) (s : Statement) (params : List Param) → IsStopped i (commanded store s params)
-commanded-IsStopped i store (Set key v) params =
-    option_both (IsStopped i) (λ k. Write k (Some (value_for v (left_after key params))) (pos 1)) (key_for key params) _ (λ k. tt) (fail-IsStopped i _)
-commanded-IsStopped i store (Add key v) params =
-    option_both (IsStopped i) (λ k. added store k (value_for v (left_after key params))) (key_for key params) _
-    (λ k. added-IsStopped i store k (value_for v (left_after key params))) (fail-IsStopped i _)
-commanded-IsStopped i store (Del key) params =
-    option_both (IsStopped i) (λ k. deleted store k) (key_for key params) _ (λ k. tt) (fail-IsStopped i _)
-commanded-IsStopped i store (Get key) params = fail-IsStopped i _
-commanded-IsStopped i store (ListKeys prefix) params = fail-IsStopped i _
+commanded-OutcomeFits : (i : Input) (store : Entries) (s : Statement) (params : List Param) → OutcomeFits i (commanded store s params)
+commanded-OutcomeFits i store (Set key v) params =
+    option_both (OutcomeFits i) (λ k. Write k (Some (value_for v (left_after key params))) (pos 1)) (key_for key params) _ (λ k. tt) (fail-OutcomeFits i _)
+commanded-OutcomeFits i store (Add key v) params =
+    option_both (OutcomeFits i) (λ k. added store k (value_for v (left_after key params))) (key_for key params) _
+    (λ k. added-OutcomeFits i store k (value_for v (left_after key params))) (fail-OutcomeFits i _)
+commanded-OutcomeFits i store (Del key) params =
+    option_both (OutcomeFits i) (λ k. deleted store k) (key_for key params) _ (λ k. tt) (fail-OutcomeFits i _)
+commanded-OutcomeFits i store (Get key) params = fail-OutcomeFits i _
+commanded-OutcomeFits i store (ListKeys prefix) params = fail-OutcomeFits i _
 
-executed-IsStopped : (i : Input) (store : Entries) (s : Statement) (params : List Param) → IsStopped i (executed store s params)
-executed-IsStopped i store s params =
-    cond_both (IsStopped i) (is_query s) _ _ (fail-IsStopped i _)
-    (cond_both (IsStopped i) (length params == inputs_of s) _ _ (commanded-IsStopped i store s params) (fail-IsStopped i _))
+executed-OutcomeFits : (i : Input) (store : Entries) (s : Statement) (params : List Param) → OutcomeFits i (executed store s params)
+executed-OutcomeFits i store s params =
+    cond_both (OutcomeFits i) (is_query s) _ _ (fail-OutcomeFits i _)
+    (cond_both (OutcomeFits i) (length params == inputs_of s) _ _ (commanded-OutcomeFits i store s params) (fail-OutcomeFits i _))
 
-executed_prepared-IsStopped : (i : Input) (store : Entries) (o : Option Statement) (params : List Param) → IsStopped i (executed_prepared store o params)
-executed_prepared-IsStopped i store None params = fail-IsStopped i _
-executed_prepared-IsStopped i store (Some s) params = executed-IsStopped i store s params
+executed_prepared-OutcomeFits : (i : Input) (store : Entries) (o : Option Statement) (params : List Param) → OutcomeFits i (executed_prepared store o params)
+executed_prepared-OutcomeFits i store None params = fail-OutcomeFits i _
+executed_prepared-OutcomeFits i store (Some s) params = executed-OutcomeFits i store s params
 
-executed_text-IsStopped : (text : List ℕ) (store : Entries) (o : Option Statement) → IsStopped (input.Text text) (executed_text store o)
-executed_text-IsStopped text store None = refl
-executed_text-IsStopped text store (Some s) =
-    cond_both (IsStopped (input.Text text)) (nat_lt 0 (inputs_of s)) _ _ refl (executed-IsStopped (input.Text text) store s [])
+executed_text-OutcomeFits : (text : List ℕ) (store : Entries) (o : Option Statement) → OutcomeFits (input.Text text) (executed_text store o)
+executed_text-OutcomeFits text store None = refl
+executed_text-OutcomeFits text store (Some s) =
+    cond_both (OutcomeFits (input.Text text)) (nat_lt 0 (inputs_of s)) _ _ refl (executed-OutcomeFits (input.Text text) store s [])
 
-told-IsStopped : (store : Entries) (session : SessionState) (i : Input) (params : List Param) → IsStopped i (told store session i params)
-told-IsStopped store session (input.Text text) params =
-    cond_both (IsStopped (input.Text text)) (nat_lt 0 (length params)) _ _ refl (executed_text-IsStopped text store (statement_of text))
-told-IsStopped store session (input.Handle handle) params =
-    option_both (IsStopped (input.Handle handle)) (λ text. executed_prepared store (statement_of text) params) (text_of handle session) _
-    (λ text. executed_prepared-IsStopped (input.Handle handle) store (statement_of text) params) refl
+executed_in-OutcomeFits : (store : Entries) (session : SessionState) (i : Input) (params : List Param) → OutcomeFits i (executed_in store session i params)
+executed_in-OutcomeFits store session (input.Text text) params =
+    cond_both (OutcomeFits (input.Text text)) (nat_lt 0 (length params)) _ _ refl (executed_text-OutcomeFits text store (statement_of text))
+executed_in-OutcomeFits store session (input.Handle handle) params =
+    option_both (OutcomeFits (input.Handle handle)) (λ text. executed_prepared store (statement_of text) params) (text_of handle session) _
+    (λ text. executed_prepared-OutcomeFits (input.Handle handle) store (statement_of text) params) refl
 
 exec-fits : (i : Input) (params : List Param) (last count : ℤ) → fits_of (Exec i params) (Result last count) ≡ true
 exec-fits (input.Text t) params last count = refl
 exec-fits (input.Handle h) params last count = refl
 
-carried_out-IsLawful : (store : Entries) (session : SessionState) (i : Input) (params : List Param) (o : Outcome) → IsStopped i o → IsLawful session (Exec i params) (carried_out store session o)
+carried_out-IsLawful : (store : Entries) (session : SessionState) (i : Input) (params : List Param) (o : Outcome) → OutcomeFits i o → IsLawful session (Exec i params) (carried_out store session o)
 carried_out-IsLawful store session i params (Write key value count) h =
     record { fits = exec-fits i params _ _; answered = refl; handles = refl; cursors = refl }
 carried_out-IsLawful store session i params (outcome.Refused answer) h = refused-IsLawful store session true i params answer h
 
-abbrev IsRefused : Input → Found → Type 0
-IsRefused i (Rows shape entries) = ⊤
-IsRefused i (Refused answer) = is_refusal i answer ≡ true
+abbrev FoundFits : Input → Found → Type 0
+FoundFits i (Rows shape entries) = ⊤
+FoundFits i (Refused answer) = is_refusal i answer ≡ true
 
-fail-IsRefused : (i : Input) (text : List ℕ) → IsRefused i (Refused (Fail text))
-fail-IsRefused (input.Text t) text = refl
-fail-IsRefused (input.Handle h) text = refl
+fail-FoundFits : (i : Input) (text : List ℕ) → FoundFits i (Refused (Fail text))
+fail-FoundFits (input.Text t) text = refl
+fail-FoundFits (input.Handle h) text = refl
 
-found-IsRefused : (i : Input) (store : Entries) (s : Statement) (params : List Param) → IsRefused i (found store s params)
-found-IsRefused i store (Get key) params =
-    option_both (IsRefused i) (λ k. Rows shape.Values (entry_at k store)) (key_for key params) _ (λ k. tt) (fail-IsRefused i _)
-found-IsRefused i store (ListKeys prefix) params =
-    option_both (IsRefused i) (λ p. Rows shape.Entries (listed p store)) (key_for prefix params) _ (λ k. tt) (fail-IsRefused i _)
-found-IsRefused i store (Set key v) params = fail-IsRefused i _
-found-IsRefused i store (Add key v) params = fail-IsRefused i _
-found-IsRefused i store (Del key) params = fail-IsRefused i _
+found-FoundFits : (i : Input) (store : Entries) (s : Statement) (params : List Param) → FoundFits i (found store s params)
+found-FoundFits i store (Get key) params =
+    option_both (FoundFits i) (λ k. Rows shape.Values (entry_at k store)) (key_for key params) _ (λ k. tt) (fail-FoundFits i _)
+found-FoundFits i store (ListKeys prefix) params =
+    option_both (FoundFits i) (λ p. Rows shape.Entries (listed p store)) (key_for prefix params) _ (λ k. tt) (fail-FoundFits i _)
+found-FoundFits i store (Set key v) params = fail-FoundFits i _
+found-FoundFits i store (Add key v) params = fail-FoundFits i _
+found-FoundFits i store (Del key) params = fail-FoundFits i _
 
-queried-IsRefused : (i : Input) (store : Entries) (s : Statement) (params : List Param) → IsRefused i (queried store s params)
-queried-IsRefused i store s params =
-    cond_both (IsRefused i) (is_query s) _ _
-    (cond_both (IsRefused i) (length params == inputs_of s) _ _ (found-IsRefused i store s params) (fail-IsRefused i _))
-    (fail-IsRefused i _)
+queried-FoundFits : (i : Input) (store : Entries) (s : Statement) (params : List Param) → FoundFits i (queried store s params)
+queried-FoundFits i store s params =
+    cond_both (FoundFits i) (is_query s) _ _
+    (cond_both (FoundFits i) (length params == inputs_of s) _ _ (found-FoundFits i store s params) (fail-FoundFits i _))
+    (fail-FoundFits i _)
 
-queried_prepared-IsRefused : (i : Input) (store : Entries) (o : Option Statement) (params : List Param) → IsRefused i (queried_prepared store o params)
-queried_prepared-IsRefused i store None params = fail-IsRefused i _
-queried_prepared-IsRefused i store (Some s) params = queried-IsRefused i store s params
+queried_prepared-FoundFits : (i : Input) (store : Entries) (o : Option Statement) (params : List Param) → FoundFits i (queried_prepared store o params)
+queried_prepared-FoundFits i store None params = fail-FoundFits i _
+queried_prepared-FoundFits i store (Some s) params = queried-FoundFits i store s params
 
-queried_text-IsRefused : (text : List ℕ) (store : Entries) (o : Option Statement) → IsRefused (input.Text text) (queried_text store o)
-queried_text-IsRefused text store None = refl
-queried_text-IsRefused text store (Some s) =
-    cond_both (IsRefused (input.Text text)) (nat_lt 0 (inputs_of s)) _ _ refl (queried-IsRefused (input.Text text) store s [])
+queried_text-FoundFits : (text : List ℕ) (store : Entries) (o : Option Statement) → FoundFits (input.Text text) (queried_text store o)
+queried_text-FoundFits text store None = refl
+queried_text-FoundFits text store (Some s) =
+    cond_both (FoundFits (input.Text text)) (nat_lt 0 (inputs_of s)) _ _ refl (queried-FoundFits (input.Text text) store s [])
 
-asked-IsRefused : (store : Entries) (session : SessionState) (i : Input) (params : List Param) → IsRefused i (asked store session i params)
-asked-IsRefused store session (input.Text text) params =
-    cond_both (IsRefused (input.Text text)) (nat_lt 0 (length params)) _ _ refl (queried_text-IsRefused text store (statement_of text))
-asked-IsRefused store session (input.Handle handle) params =
-    option_both (IsRefused (input.Handle handle)) (λ text. queried_prepared store (statement_of text) params) (text_of handle session) _
-    (λ text. queried_prepared-IsRefused (input.Handle handle) store (statement_of text) params) refl
+queried_in-FoundFits : (store : Entries) (session : SessionState) (i : Input) (params : List Param) → FoundFits i (queried_in store session i params)
+queried_in-FoundFits store session (input.Text text) params =
+    cond_both (FoundFits (input.Text text)) (nat_lt 0 (length params)) _ _ refl (queried_text-FoundFits text store (statement_of text))
+queried_in-FoundFits store session (input.Handle handle) params =
+    option_both (FoundFits (input.Handle handle)) (λ text. queried_prepared store (statement_of text) params) (text_of handle session) _
+    (λ text. queried_prepared-FoundFits (input.Handle handle) store (statement_of text) params) refl
 
 query-fits : (i : Input) (params : List Param) (rows : ℕ) (columns : List (List ℕ)) → fits_of (Query i params) (Cursor rows columns) ≡ true
 query-fits (input.Text t) params rows columns = refl
@@ -204,7 +204,7 @@ opened-IsLawful store session i params shape entries sound =
     (record { fits = query-fits i params _ _; answered = refl; handles = refl; cursors = (reverse-push live_cursor session.cursors _, cursor_is_new session sound) })
     (record { fits = refl; answered = refl; handles = refl; cursors = refl })
 
-shown-IsLawful : (store : Entries) (session : SessionState) (i : Input) (params : List Param) (f : Found) → IsRefused i f → IsSound session → IsLawful session (Query i params) (in_session store (shown session f))
+shown-IsLawful : (store : Entries) (session : SessionState) (i : Input) (params : List Param) (f : Found) → FoundFits i f → IsSound session → IsLawful session (Query i params) (in_session store (shown session f))
 shown-IsLawful store session i params (Rows shape entries) h sound = opened-IsLawful store session i params shape entries sound
 shown-IsLawful store session i params (Refused answer) h sound = refused-IsLawful store session false i params answer h
 
@@ -248,9 +248,9 @@ effect-IsLawful store session Shut sound = record { fits = refl; answered = refl
 effect-IsLawful store session (Prepare text) sound = prepared-IsLawful store session text (statement_of text) sound
 effect-IsLawful store session (CloseStmt handle) sound = closed-IsLawful store session handle
 effect-IsLawful store session (Exec i params) sound =
-    carried_out-IsLawful store session i params (told store session i params) (told-IsStopped store session i params)
+    carried_out-IsLawful store session i params (executed_in store session i params) (executed_in-OutcomeFits store session i params)
 effect-IsLawful store session (Query i params) sound =
-    shown-IsLawful store session i params (asked store session i params) (asked-IsRefused store session i params) sound
+    shown-IsLawful store session i params (queried_in store session i params) (queried_in-FoundFits store session i params) sound
 effect-IsLawful store session (Next rows) sound = next_taken-IsLawful store session rows sound
 effect-IsLawful store session (CloseRows rows) sound = rows_closed-IsLawful store session rows
 effect-IsLawful store session (Begin level read_only) sound =

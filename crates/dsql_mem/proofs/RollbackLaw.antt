@@ -11,7 +11,7 @@ use Rattle.dsql_driver.specs.declared.call.DriverCall.TheVariants.{Connect, Rese
 use Rattle.dsql_driver.specs.declared.call.Level.{Level}
 use Rattle.dsql_value.specs.declared.value.Value.{Value}
 use Rattle.dsql_mem.specs.Cursor.{next_row}
-use Rattle.dsql_mem.specs.Effect.{Effect, Kept, effect, told, carried_out, prepared, closed, asked, shown, opened, given, next_taken, rows_closed, in_session, in_transaction}
+use Rattle.dsql_mem.specs.Effect.{Effect, Kept, effect, executed_in, carried_out, prepared, closed, queried_in, shown, opened, given, next_taken, rows_closed, in_session, in_transaction}
 use Rattle.dsql_mem.specs.Entries.{Entries, AreAscending, value_at, with_state}
 use Rattle.dsql_mem.specs.Laws.{RollbackRestores, leaves_transaction, after_calls}
 use Rattle.dsql_mem.specs.Session.{SessionState, cursor_of, is_live, is_open, largest_number}
@@ -109,9 +109,9 @@ one_call store session origin Ping l h = h
 one_call store session origin (Prepare text) l h = aside store session origin (prepared session text (statement_of text)) (prepared-KeepsUndo session text (statement_of text)) h
 one_call store session origin (CloseStmt handle) l h =
     aside store session origin (closed session handle) (cond_both (KeepsUndo session) (is_live handle session) _ _ refl refl) h
-one_call store session origin (Exec i params) l h = carried_out-LeadsBack store session origin (told store session i params) h
+one_call store session origin (Exec i params) l h = carried_out-LeadsBack store session origin (executed_in store session i params) h
 one_call store session origin (Query i params) l h =
-    aside store session origin (shown session (asked store session i params)) (shown-KeepsUndo session (asked store session i params)) h
+    aside store session origin (shown session (queried_in store session i params)) (shown-KeepsUndo session (queried_in store session i params)) h
 one_call store session origin (Next rows) l h =
     aside store session origin (next_taken session rows)
     (option_both (KeepsUndo session) (λ c. given session rows (next_row c)) (cursor_of rows session) _ (λ c. given-KeepsUndo session rows (next_row c)) refl) h

@@ -112,10 +112,10 @@ executed_text store (Some statement) =
     if nat_lt 0 (inputs_of statement) then outcome.Refused Skip else executed store statement []
 
 -- what a command comes to in a session
-abbrev pub told : Entries → SessionState → Input → List Param → Outcome
-told store session (input.Text text) params =
+abbrev pub executed_in : Entries → SessionState → Input → List Param → Outcome
+executed_in store session (input.Text text) params =
     if nat_lt 0 (length params) then outcome.Refused Skip else executed_text store (statement_of text)
-told store session (input.Handle handle) params =
+executed_in store session (input.Handle handle) params =
     option_map_or (λ text. executed_prepared store (statement_of text) params) (text_of handle session) (outcome.Refused no_such_handle)
 
 -- what a query finds with as many parameters as it has inputs
@@ -126,7 +126,7 @@ found store (ListKeys prefix) params =
     option_map_or (λ p. Rows shape.Entries (listed p store)) (key_for prefix params) (Refused key_is_not_text)
 found store _ params = Refused not_a_query
 
--- what a statement finds that is asked
+-- what a statement finds that is queried_in
 abbrev pub queried : Entries → Statement → List Param → Found
 queried store statement params =
     if is_query statement then (if length params == inputs_of statement then found store statement params else Refused wrong_arguments)
@@ -143,10 +143,10 @@ queried_text store None = Refused no_such_statement
 queried_text store (Some statement) = if nat_lt 0 (inputs_of statement) then Refused Skip else queried store statement []
 
 -- what a query finds in a session
-abbrev pub asked : Entries → SessionState → Input → List Param → Found
-asked store session (input.Text text) params =
+abbrev pub queried_in : Entries → SessionState → Input → List Param → Found
+queried_in store session (input.Text text) params =
     if nat_lt 0 (length params) then Refused Skip else queried_text store (statement_of text)
-asked store session (input.Handle handle) params =
+queried_in store session (input.Handle handle) params =
     option_map_or (λ text. queried_prepared store (statement_of text) params) (text_of handle session) (Refused no_such_handle)
 
 -- a session after a call, and the answer
@@ -244,8 +244,8 @@ effect store session Reset = taken_back store session
 effect store session Shut = taken_back store session
 effect store session (Prepare text) = in_session store (prepared session text (statement_of text))
 effect store session (CloseStmt handle) = in_session store (closed session handle)
-effect store session (Exec input params) = carried_out store session (told store session input params)
-effect store session (Query input params) = in_session store (shown session (asked store session input params))
+effect store session (Exec input params) = carried_out store session (executed_in store session input params)
+effect store session (Query input params) = in_session store (shown session (queried_in store session input params))
 effect store session (Next rows) = in_session store (next_taken session rows)
 effect store session (CloseRows rows) = in_session store (rows_closed session rows)
 effect store session (Begin level read_only) = in_session store (begun session)

@@ -1,9 +1,5 @@
 -- What a SET and a DEL come to, and worked calls.
 use Rattle.std.specs.Prelude.{◌≡◌, ℕ, pos, negsuc, false, List, [], ◌∷◌, Some, None, codes, if◌then◌else◌}
-use Rattle.std.specs.Cmp.Lexicographic.{slice_cmp}
-use Rattle.std.specs.List.Sorted.{IsStrictlySortedBy}
-use Rattle.std.specs.Map.{keys_of}
-use Rattle.std.specs.Ordering.{nat_cmp}
 use Rattle.std.specs.Str.{bytes_eq}
 use Rattle.dsql_driver.specs.declared.answer.DriverAnswer.{DriverAnswer}
 use Rattle.dsql_driver.specs.declared.answer.DriverAnswer.TheVariants.{Done, Prepared, Result, Cursor, Row, End, Skip}
@@ -15,7 +11,7 @@ use Rattle.dsql_value.specs.declared.value.Param.{Param}
 use Rattle.dsql_value.specs.declared.value.Value.{Value}
 use Rattle.dsql_value.specs.declared.value.Value.TheVariants.{Nil, Int, Text}
 use Rattle.dsql_mem.specs.Effect.{Effect, effect, only_answered, no_such_handle, no_such_statement, not_a_command, not_a_query, wrong_arguments, key_is_not_text, not_a_number, out_of_range, in_transaction, no_transaction, numbers_spent}
-use Rattle.dsql_mem.specs.Entries.{Entries, with_value, without_key, value_at}
+use Rattle.dsql_mem.specs.Entries.{Entries, AreAscending, with_value, without_key, value_at}
 use Rattle.dsql_mem.specs.Number.{number_of}
 use Rattle.dsql_mem.specs.Session.{SessionState, new_session}
 
@@ -26,7 +22,7 @@ SetsOneKey = (key : List ℕ) (value : Value) (store : Entries) (other : List �
 
 -- once a key is taken out of a map, whose keys ascend, it isn't there, and each other key has what it had
 abbrev pub DeletesOneKey : Type 0
-DeletesOneKey = (key : List ℕ) (store : Entries) (other : List ℕ) → IsStrictlySortedBy (slice_cmp nat_cmp) (keys_of store) →
+DeletesOneKey = (key : List ℕ) (store : Entries) (other : List ℕ) → AreAscending store →
     value_at other (without_key key store) ≡ (if bytes_eq key other then None else value_at other store)
 
 -- numbers by their spelling

@@ -56,7 +56,7 @@ impl Store {
             }
             DriverCall::Query(input, params) => {
                 let found = self.query(alloc, session, input, params.as_slice())?;
-                show(session, alloc, found)
+                show(alloc, session, found)
             }
             DriverCall::Next(rows) => session.take_row(alloc, *rows),
             DriverCall::CloseRows(rows) => session.close_rows(alloc, *rows),
@@ -121,7 +121,7 @@ impl Store {
 }
 
 /// Shows what a query found by a cursor, or answers why there is none.
-fn show(session: &mut Session, alloc: Global, found: Found) -> Result<Copies, Memory>
+fn show(alloc: Global, session: &mut Session, found: Found) -> Result<Copies, Memory>
     ensures answer { IfOk result (λ copies. copies ≡ copies_of (shown session.old found).1) }
     ensures session { OnOk result (session.new ≡ (shown session.old found).0) }
     ensures stays { OnErr result (session.new ≡ session.old) }

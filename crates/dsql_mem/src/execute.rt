@@ -1,5 +1,5 @@
 ghost use Rattle.std.specs.Prelude.{◌≡◌, IfOk};
-ghost use Rattle.dsql_mem.specs.Effect.{commanded, executed, executed_prepared, executed_text, told};
+ghost use Rattle.dsql_mem.specs.Effect.{commanded, executed, executed_prepared, executed_text, executed_in};
 ghost use Rattle.dsql_mem.specs.Spelled.{spelled};
 ghost use Rattle.dsql_mem.specs.Statement.{statement_of};
 
@@ -45,7 +45,7 @@ impl Store {
         input: &Input,
         params: &[Param],
     ) -> Result<Outcome, Memory>
-        ensures { IfOk result (λ outcome. outcome ≡ told self.now session.now input.now params.now) }
+        ensures { IfOk result (λ outcome. outcome ≡ executed_in self.now session.now input.now params.now) }
     {
         match input {
             Input::Text(_) if !params.is_empty() => Ok(Outcome::Refused(DriverAnswer::Skip)),

@@ -1,5 +1,5 @@
 ghost use Rattle.std.specs.Prelude.{◌≡◌, IfOk};
-ghost use Rattle.dsql_mem.specs.Effect.{found, queried, queried_text, queried_prepared, asked};
+ghost use Rattle.dsql_mem.specs.Effect.{found, queried, queried_text, queried_prepared, queried_in};
 ghost use Rattle.dsql_mem.specs.Spelled.{spelled};
 ghost use Rattle.dsql_mem.specs.Statement.{statement_of};
 
@@ -41,7 +41,7 @@ impl Store {
         input: &Input,
         params: &[Param],
     ) -> Result<Found, Memory>
-        ensures { IfOk result (λ found. found ≡ asked self.now session.now input.now params.now) }
+        ensures { IfOk result (λ found. found ≡ queried_in self.now session.now input.now params.now) }
     {
         match input {
             Input::Text(_) if !params.is_empty() => Ok(Found::Refused(DriverAnswer::Skip)),

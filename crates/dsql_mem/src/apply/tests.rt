@@ -165,6 +165,21 @@ fn listed(store: &mut Store, alloc: Global, prefix: &str) -> Result<String, Memo
     Ok(report)
 }
 
+/// Executes texts on a session, and then makes a call.
+fn run(
+    store: &mut Store,
+    session: &mut Session,
+    alloc: Global,
+    texts: &[&str],
+    call: &DriverCall,
+) -> Result<String, Memory> {
+    for text in texts {
+        let exec = exec_text(alloc, text)?;
+        answer(store, session, alloc, &exec)?;
+    }
+    answer(store, session, alloc, call)
+}
+
 #[test]
 fn a_rollback_takes_back_its_own_session(rt: HostRuntime) -> Result<(), Fail> {
     let alloc = rt.alloc();
@@ -175,33 +190,26 @@ fn a_rollback_takes_back_its_own_session(rt: HostRuntime) -> Result<(), Fail> {
         level: Level::Default,
         read_only: false,
     };
-    for text in ["SET k2 7", "SET k1 1", "SET m 2"] {
-        let call = exec_text(alloc, text)?;
-        answer(&mut store, &mut first, alloc, &call)?;
-    }
-    assert_eq!(rt;
-        answer(&mut store, &mut first, alloc, &begin)?.as_str(),
-        "Done"
-    );
-    assert_eq!(rt;
-        answer(&mut store, &mut second, alloc, &begin)?.as_str(),
-        "Done"
-    );
-    let again = answer(&mut store, &mut first, alloc, &begin)?;
+    let texts = ["SET k2 7", "SET k1 1", "SET m 2"];
+    let done = run(&mut store, &mut first, alloc, &texts, &begin)?;
+    assert_eq!(rt; done.as_str(), "Done");
+    let done = run(&mut store, &mut second, alloc, &[], &begin)?;
+    assert_eq!(rt; done.as_str(), "Done");
+    let texts = ["SET k1 2", "ADD k1 1", "DEL k2", "SET k3 3"];
+    let again = run(&mut store, &mut first, alloc, &texts, &begin)?;
     assert_eq!(rt; again.as_str(), "mem: in transaction");
-    for text in ["SET k1 2", "ADD k1 1", "DEL k2", "SET k3 3"] {
-        let call = exec_text(alloc, text)?;
-        answer(&mut store, &mut first, alloc, &call)?;
-    }
-    let call = exec_text(alloc, "SET k4 4")?;
-    answer(&mut store, &mut second, alloc, &call)?;
+    run(
+        &mut store,
+        &mut second,
+        alloc,
+        &["SET k4 4"],
+        &DriverCall::Ping,
+    )?;
     assert_eq!(rt; listed(&mut store, alloc, "k")?.as_str(), "k1=3 k3=3 k4=4 ");
-    let rolled_back = answer(&mut store, &mut first, alloc, &DriverCall::Rollback)?;
-    assert_eq!(rt; rolled_back.as_str(), "Done");
+    run(&mut store, &mut first, alloc, &[], &DriverCall::Rollback)?;
     assert_eq!(rt; listed(&mut store, alloc, "k")?.as_str(), "k1=1 k2=7 k4=4 ");
-    let committed = answer(&mut store, &mut second, alloc, &DriverCall::Commit)?;
-    assert_eq!(rt; committed.as_str(), "Done");
-    let outside = answer(&mut store, &mut second, alloc, &DriverCall::Rollback)?;
+    run(&mut store, &mut second, alloc, &[], &DriverCall::Commit)?;
+    let outside = run(&mut store, &mut second, alloc, &[], &DriverCall::Rollback)?;
     assert_eq!(rt; outside.as_str(), "mem: no transaction");
     assert_eq!(rt; listed(&mut store, alloc, "k4")?.as_str(), "k4=4 ");
     Ok(())
