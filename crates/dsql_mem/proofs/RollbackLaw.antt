@@ -1,7 +1,6 @@
 -- A rollback restores what was there when the transaction began.
 use Rattle.std.proofs.Common.{◌≡◌, ℕ, List, [], ◌∷◌, Bool, true, false, cond, Option, Some, None, is_some, option_map, ap, sym, subst, refl, ◌∙◌}
 use Rattle.std.specs.List.{list_all}
-use Rattle.std.specs.Option.{option_map_or}
 use Rattle.std.specs.Str.{bytes_eq}
 use Rattle.std.proofs.lemmas.Bool.{and_parts}
 use Rattle.std.proofs.lemmas.Slice.Eq.{bytes_eq-Decides}
@@ -11,10 +10,10 @@ use Rattle.dsql_driver.specs.declared.call.DriverCall.TheVariants.{Connect, Rese
 use Rattle.dsql_driver.specs.declared.call.Level.{Level}
 use Rattle.dsql_value.specs.declared.value.Value.{Value}
 use Rattle.dsql_mem.specs.Cursor.{next_row}
-use Rattle.dsql_mem.specs.Effect.{Effect, Kept, effect, executed_in, carried_out, prepared, closed, queried_in, shown, opened, given, next_taken, rows_closed, in_session, in_transaction}
+use Rattle.dsql_mem.specs.Effect.{Kept, effect, executed_in, carried_out, prepared, closed, queried_in, shown, given, next_taken, rows_closed, in_session, in_transaction}
 use Rattle.dsql_mem.specs.Entries.{Entries, AreAscending, value_at, with_state}
 use Rattle.dsql_mem.specs.Laws.{RollbackRestores, leaves_transaction, after_calls}
-use Rattle.dsql_mem.specs.Session.{SessionState, cursor_of, is_live, is_open, largest_number}
+use Rattle.dsql_mem.specs.Session.{SessionState, cursor_of, is_live, is_open}
 use Rattle.dsql_mem.specs.Statement.{Statement, statement_of}
 use Rattle.dsql_mem.specs.Undo.{rolled_back}
 use Rattle.dsql_mem.specs.declared.execute.Outcome.{Outcome}

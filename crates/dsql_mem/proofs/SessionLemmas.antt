@@ -1,5 +1,5 @@
 -- The statements and cursors of a session, as their numbers are given and closed.
-use Rattle.std.proofs.Common.{◌≡◌, ℕ, ◌+◌, ◌≤◌, List, [], ◌∷◌, ◌++◌, map, reverse, length, Bool, true, false, cond, not, ◌&&◌, ◌||◌, Option, Some, None, eqb, leb, eq-eqb, ap, sym, refl, ◌∙◌, arith}
+use Rattle.std.proofs.Common.{◌≡◌, ℕ, ◌+◌, ◌≤◌, List, [], ◌∷◌, ◌++◌, map, reverse, length, Bool, true, false, cond, not, ◌&&◌, ◌||◌, Some, eqb, leb, eq-eqb, ap, sym, refl, ◌∙◌, arith}
 use Rattle.std.specs.List.{filter, find, list_any, list_all}
 use Rattle.std.proofs.Math.Bool.{or_comm}
 use Rattle.std.proofs.lemmas.Bool.{false≢true, eqb-true, and_parts, leb-true, le-leb, ne_eqb}
