@@ -1,8 +1,11 @@
--- What calls are answered: each answer suits its call, and tells of the session's handles as it should.
-use Rattle.std.proofs.Common.{◌≡◌, ℕ, ◌+ℤ◌, ◌==◌, List, [], Bool, true, false, cond, ◌||◌, Option, Some, None, length, nat_lt, refl, inl, inr}
+-- What calls are answered: each answer suits its call, and tells of the session's handles and cursors as it should.
+use Rattle.std.proofs.Common.{◌≡◌, ℕ, ℤ, pos, ◌+ℤ◌, ◌==◌, List, [], ◌∷◌, Bool, true, false, cond, not, ◌||◌, Option, Some, None, is_some, option_map, eqb, length, nat_lt, ap, sym, refl, ◌∙◌, inl, inr}
+use Rattle.std.specs.Prelude.{⊤}
+use Rattle.std.specs.List.{slice_get}
 use Rattle.std.specs.Option.{option_map_or}
-use Rattle.dsql_driver.specs.Fits.{fits_of, is_memory, is_result, is_failure}
-use Rattle.dsql_driver.specs.Wires.{KeepsHandles, KeepsCursors}
+use Rattle.std.proofs.lemmas.Option.{none-some}
+use Rattle.dsql_driver.specs.Fits.{fits_of, is_memory, is_failure, is_skip}
+use Rattle.dsql_driver.specs.Wires.{LiveCursor, KeepsHandles, KeepsCursors, has_width}
 use Rattle.dsql_driver.specs.declared.answer.DriverAnswer.{DriverAnswer}
 use Rattle.dsql_driver.specs.declared.answer.DriverAnswer.TheVariants.{Done, Prepared, Result, Cursor, Row, End, Invalid, Skip, Bad, Fail, Memory}
 use Rattle.dsql_driver.specs.declared.call.DriverCall.{DriverCall}
@@ -12,166 +15,253 @@ use Rattle.dsql_driver.specs.declared.call.Input.TheVariants as input
 use Rattle.dsql_value.specs.declared.value.Param.{Param}
 use Rattle.dsql_value.specs.declared.value.Value.{Value}
 use Rattle.dsql_value.specs.declared.value.Value.TheVariants as value
-use Rattle.dsql_mem.specs.Effect.{Effect, Written, effect, executed, executed_text, executed_prepared, carried_out, added, deleted, summed, set_to, number_in, prepared, closed, queried, queried_text, in_session}
-use Rattle.dsql_mem.specs.Entries.{Entries, value_at}
+use Rattle.dsql_mem.specs.Cursor.{CursorState, columns_of, row_of, next_row}
+use Rattle.dsql_mem.specs.Effect.{Effect, effect, executed_in, executed, executed_text, executed_prepared, commanded, carried_out, added, deleted, summed, number_in, prepared, closed, found, queried, queried_text, queried_prepared, queried_in, opened, given, next_taken, rows_closed, shown, in_session, only_answered, no_such_handle}
+use Rattle.dsql_mem.specs.Entries.{Entries, value_at, entry_at, listed}
 use Rattle.dsql_mem.specs.Filled.{key_for, value_for, left_after}
 use Rattle.dsql_mem.specs.Number.{fits_i64}
-use Rattle.dsql_mem.specs.Session.{SessionState, IsReadyFor, handles_of, text_of, is_live, largest_handle}
+use Rattle.dsql_mem.specs.Session.{SessionState, IsSound, handles_of, cursors_of, cursor_of, text_of, is_live, is_open, largest_number}
 use Rattle.dsql_mem.specs.Statement.{Statement, Set, Add, Del, Get, ListKeys, statement_of, inputs_of, is_query}
-use Rattle.dsql_mem.proofs.SessionLemmas.{handles-push, handles-without}
+use Rattle.dsql_mem.specs.declared.cursor.Shape.{Shape}
+use Rattle.dsql_mem.specs.declared.cursor.Shape.TheVariants as shape
+use Rattle.dsql_mem.specs.declared.execute.Outcome.{Outcome}
+use Rattle.dsql_mem.specs.declared.execute.Outcome.TheVariants.{Write}
+use Rattle.dsql_mem.specs.declared.execute.Outcome.TheVariants as outcome
+use Rattle.dsql_mem.specs.declared.query.Found.{Found}
+use Rattle.dsql_mem.specs.declared.query.Found.TheVariants.{Rows, Refused}
+use Rattle.dsql_mem.proofs.SessionLemmas.{reverse-push, reverse-without, handle_of, live_cursor, handle_is_new, cursor_is_new, cursors-advanced, width-cursors}
 
 -- both branches have a property
-cond_both : {A : Type 0} (P : A → Type 0) (b : Bool) (x y : A) → P x → P y → P (cond b x y)
+pub cond_both : {A : Type 0} (P : A → Type 0) (b : Bool) (x y : A) → P x → P y → P (cond b x y)
 cond_both P true x y p q = p
 cond_both P false x y p q = q
 
-option_both : {A B : Type 0} (P : B → Type 0) (f : A → B) (o : Option A) (d : B) → ((a : A) → P (f a)) → P d → P (option_map_or f o d)
+pub option_both : {A B : Type 0} (P : B → Type 0) (f : A → B) (o : Option A) (d : B) → ((a : A) → P (f a)) → P d → P (option_map_or f o d)
 option_both P f None d p q = q
 option_both P f (Some a) d p q = p a
 
--- a command is answered by Result or Fail
-abbrev is_settled : DriverAnswer → Bool
-is_settled answer = is_result answer || is_failure answer
-
-abbrev Settled : Written → Type 0
-Settled written = is_settled written.1 ≡ true
-
-added-Settled : (store : Entries) (key : List ℕ) (v : Value) → Settled (added store key v)
-added-Settled store key (value.Int by) =
-    option_both Settled (λ number. summed store key (number +ℤ by)) (number_in (value_at key store)) _
-    (λ number. cond_both Settled (fits_i64 (number +ℤ by)) _ _ refl refl) refl
-added-Settled store key value.Nil = refl
-added-Settled store key (value.Bool b) = refl
-added-Settled store key (value.Bytes b) = refl
-added-Settled store key (value.Text t) = refl
-added-Settled store key (value.Time t) = refl
-
-carried_out-Settled : (store : Entries) (s : Statement) (params : List Param) → Settled (carried_out store s params)
-carried_out-Settled store (Set key v) params =
-    option_both Settled (λ k. set_to store k (value_for v (left_after key params))) (key_for key params) _ (λ k. refl) refl
-carried_out-Settled store (Add key v) params =
-    option_both Settled (λ k. added store k (value_for v (left_after key params))) (key_for key params) _
-    (λ k. added-Settled store k (value_for v (left_after key params))) refl
-carried_out-Settled store (Del key) params =
-    option_both Settled (λ k. deleted store k) (key_for key params) _ (λ k. refl) refl
-carried_out-Settled store (Get key) params = refl
-carried_out-Settled store (ListKeys prefix) params = refl
-
-executed-Settled : (store : Entries) (s : Statement) (params : List Param) → Settled (executed store s params)
-executed-Settled store s params =
-    cond_both Settled (is_query s) _ _ refl
-    (cond_both Settled (length params == inputs_of s) _ _ (carried_out-Settled store s params) refl)
-
-executed_prepared-Settled : (store : Entries) (o : Option Statement) (params : List Param) → Settled (executed_prepared store o params)
-executed_prepared-Settled store None params = refl
-executed_prepared-Settled store (Some s) params = executed-Settled store s params
-
--- the answer suits the call, whose session stays as it is
-record Suits (call : DriverCall) (answer : DriverAnswer) : Type 0 where
-  fits : fits_of call answer ≡ true
-  answered : is_memory answer ≡ false
-  handles : (hs : List ℕ) → KeepsHandles call answer hs hs
-  cursors : KeepsCursors call answer [] []
-
-exec-Suits : (i : Input) (params : List Param) (answer : DriverAnswer) → is_settled answer ≡ true → Suits (Exec i params) answer
-exec-Suits (input.Text t) params (Result last n) h =
-    record { fits = refl; answered = refl; handles = λ hs. refl; cursors = refl }
-exec-Suits (input.Handle n) params (Result last m) h =
-    record { fits = refl; answered = refl; handles = λ hs. refl; cursors = refl }
-exec-Suits i params (Fail text) h =
-    record { fits = refl; answered = refl; handles = λ hs. refl; cursors = refl }
-exec-Suits i params Bad h = record { fits = refl; answered = refl; handles = λ hs. refl; cursors = refl }
-exec-Suits i params Done h = cc
-exec-Suits i params (Prepared n m) h = cc
-exec-Suits i params (Cursor n columns) h = cc
-exec-Suits i params (Row values) h = cc
-exec-Suits i params End h = cc
-exec-Suits i params Invalid h = cc
-exec-Suits i params Skip h = cc
-exec-Suits i params Memory h = cc
-
-abbrev ExecSuits : List ℕ → List Param → Written → Type 0
-ExecSuits text params written = Suits (Exec (input.Text text) params) written.1
-
-executed_text-Suits : (store : Entries) (text : List ℕ) (params : List Param) (o : Option Statement) → ExecSuits text params (executed_text store o)
-executed_text-Suits store text params None =
-    record { fits = refl; answered = refl; handles = λ hs. refl; cursors = refl }
-executed_text-Suits store text params (Some s) =
-    cond_both (ExecSuits text params) (nat_lt 0 (inputs_of s)) _ _
-    (record { fits = refl; answered = refl; handles = λ hs. refl; cursors = refl })
-    (exec-Suits (input.Text text) params (executed store s []).1 (executed-Settled store s []))
-
-queried-Suits : (i : Input) (params : List Param) (o : Option Statement) → Suits (Query i params) (queried o)
-queried-Suits i params None = record { fits = refl; answered = refl; handles = λ hs. refl; cursors = refl }
-queried-Suits i params (Some s) =
-    cond_both (Suits (Query i params)) (is_query s) _ _
-    (record { fits = refl; answered = refl; handles = λ hs. refl; cursors = refl })
-    (record { fits = refl; answered = refl; handles = λ hs. refl; cursors = refl })
-
-queried_text-Suits : (text : List ℕ) (params : List Param) (o : Option Statement) → Suits (Query (input.Text text) params) (queried_text o)
-queried_text-Suits text params None =
-    record { fits = refl; answered = refl; handles = λ hs. refl; cursors = refl }
-queried_text-Suits text params (Some s) =
-    cond_both (Suits (Query (input.Text text) params)) (nat_lt 0 (inputs_of s)) _ _
-    (record { fits = refl; answered = refl; handles = λ hs. refl; cursors = refl })
-    (queried-Suits (input.Text text) params (Some s))
-
--- the answer suits the call, and the session's handles are as it tells
+-- the answer suits the call, and the session's handles and cursors are as it tells
 pub record IsLawful (session : SessionState) (call : DriverCall) (after : Effect) : Type 0 where
   pub fits : fits_of call after.answer ≡ true
   pub answered : is_memory after.answer ≡ false
   pub handles : KeepsHandles call after.answer (handles_of session) (handles_of after.session)
-  pub cursors : KeepsCursors call after.answer [] []
+  pub cursors : KeepsCursors call after.answer (cursors_of session) (cursors_of after.session)
 
-lawful : (store : Entries) (session : SessionState) (call : DriverCall) (answer : DriverAnswer) → Suits call answer → IsLawful session call (record { store = store; session = session; answer = answer })
-lawful store session call answer s =
-    record { fits = s.fits; answered = s.answered; handles = s.handles (handles_of session); cursors = s.cursors }
-
-prepared-IsLawful : (store : Entries) (session : SessionState) (text : List ℕ) (o : Option Statement) → IsReadyFor (Prepare text) session → IsLawful session (Prepare text) (in_session store (prepared session text o))
-prepared-IsLawful store session text None ready =
+prepared-IsLawful : (store : Entries) (session : SessionState) (text : List ℕ) (o : Option Statement) → IsSound session → IsLawful session (Prepare text) (in_session store (prepared session text o))
+prepared-IsLawful store session text None sound =
     record { fits = refl; answered = refl; handles = refl; cursors = refl }
-prepared-IsLawful store session text (Some s) ready =
-    cond_both (λ kept. IsLawful session (Prepare text) (in_session store kept)) (nat_lt session.last_handle largest_handle) _ _
-    (record { fits = refl; answered = refl; handles = (handles-push session.statements _, ready); cursors = refl })
+prepared-IsLawful store session text (Some s) sound =
+    cond_both (λ kept. IsLawful session (Prepare text) (in_session store kept)) (nat_lt session.last_handle largest_number) _ _
+    (record { fits = refl; answered = refl; handles = (reverse-push handle_of session.statements _, handle_is_new session sound); cursors = refl })
     (record { fits = refl; answered = refl; handles = refl; cursors = refl })
 
 closed-IsLawful : (store : Entries) (session : SessionState) (handle : ℕ) → IsLawful session (CloseStmt handle) (in_session store (closed session handle))
 closed-IsLawful store session handle =
     cond_both (λ kept. IsLawful session (CloseStmt handle) (in_session store kept)) (is_live handle session) _ _
-    (record { fits = refl; answered = refl; handles = inr (handles-without _ session.statements); cursors = refl })
+    (record { fits = refl; answered = refl; handles = inr (reverse-without handle_of (λ n. not (eqb n handle)) session.statements); cursors = refl })
     (record { fits = refl; answered = refl; handles = inl refl; cursors = refl })
 
-pub effect-IsLawful : (store : Entries) (session : SessionState) (call : DriverCall) → IsReadyFor call session → IsLawful session call (effect store session call)
-effect-IsLawful store session Connect ready = record { fits = refl; answered = refl; handles = refl; cursors = refl }
-effect-IsLawful store session Reset ready = record { fits = refl; answered = refl; handles = refl; cursors = refl }
-effect-IsLawful store session Valid ready = record { fits = refl; answered = refl; handles = refl; cursors = refl }
-effect-IsLawful store session Ping ready = record { fits = refl; answered = refl; handles = refl; cursors = refl }
-effect-IsLawful store session Shut ready = record { fits = refl; answered = refl; handles = refl; cursors = refl }
-effect-IsLawful store session (Prepare text) ready = prepared-IsLawful store session text (statement_of text) ready
-effect-IsLawful store session (CloseStmt handle) ready = closed-IsLawful store session handle
-effect-IsLawful store session (Exec (input.Text text) params) ready =
-    let suits : ExecSuits text params (cond (nat_lt 0 (length params)) (store, Skip) (executed_text store (statement_of text))) = cond_both (ExecSuits text params) (nat_lt 0 (length params)) _ _
-    (record { fits = refl; answered = refl; handles = λ hs. refl; cursors = refl })
-    (executed_text-Suits store text params (statement_of text)) in
-    record { fits = suits.fits; answered = suits.answered; handles = suits.handles (handles_of session); cursors = suits.cursors }
-effect-IsLawful store session (Exec (input.Handle handle) params) ready =
-    let P : Written → Type 0 = λ written. Suits (Exec (input.Handle handle) params) written.1 in
-    let suits = option_both P (λ text. executed_prepared store (statement_of text) params) (text_of handle session) _
-    (λ text. exec-Suits (input.Handle handle) params _ (executed_prepared-Settled store (statement_of text) params))
-    (record { fits = refl; answered = refl; handles = λ hs. refl; cursors = refl }) in
-    record { fits = suits.fits; answered = suits.answered; handles = suits.handles (handles_of session); cursors = suits.cursors }
-effect-IsLawful store session (Query (input.Text text) params) ready =
-    lawful store session _ _
-    (cond_both (Suits (Query (input.Text text) params)) (nat_lt 0 (length params)) _ _
-    (record { fits = refl; answered = refl; handles = λ hs. refl; cursors = refl })
-    (queried_text-Suits text params (statement_of text)))
-effect-IsLawful store session (Query (input.Handle handle) params) ready =
-    lawful store session _ _
-    (option_both (Suits (Query (input.Handle handle) params)) (λ text. queried (statement_of text)) (text_of handle session) _
-    (λ text. queried-Suits (input.Handle handle) params (statement_of text))
-    (record { fits = refl; answered = refl; handles = λ hs. refl; cursors = refl }))
-effect-IsLawful store session (Begin level read_only) ready = record { fits = refl; answered = refl; handles = refl; cursors = refl }
-effect-IsLawful store session Commit ready = record { fits = refl; answered = refl; handles = refl; cursors = refl }
-effect-IsLawful store session Rollback ready = record { fits = refl; answered = refl; handles = refl; cursors = refl }
-effect-IsLawful store session (Next rows) ready = record { fits = refl; answered = refl; handles = refl; cursors = refl }
-effect-IsLawful store session (CloseRows rows) ready = record { fits = refl; answered = refl; handles = refl; cursors = inl refl }
+-- an Exec or a Query is refused by a Fail, and by Skip where it came as a text
+abbrev is_refusal : Input → DriverAnswer → Bool
+is_refusal (input.Text text) answer = is_failure answer || is_skip answer
+is_refusal (input.Handle handle) answer = is_failure answer
+
+-- an Exec, or a Query
+abbrev run_of : Bool → Input → List Param → DriverCall
+run_of true i params = Exec i params
+run_of false i params = Query i params
+
+refused-IsLawful : (store : Entries) (session : SessionState) (b : Bool) (i : Input) (params : List Param) (answer : DriverAnswer) → is_refusal i answer ≡ true → IsLawful session (run_of b i params) (only_answered store session answer)
+refused-IsLawful store session true i params (Fail text) h = record { fits = refl; answered = refl; handles = refl; cursors = refl }
+refused-IsLawful store session false i params (Fail text) h = record { fits = refl; answered = refl; handles = refl; cursors = refl }
+refused-IsLawful store session true i params Bad h = record { fits = refl; answered = refl; handles = refl; cursors = refl }
+refused-IsLawful store session false i params Bad h = record { fits = refl; answered = refl; handles = refl; cursors = refl }
+refused-IsLawful store session true (input.Text t) params Skip h = record { fits = refl; answered = refl; handles = refl; cursors = refl }
+refused-IsLawful store session false (input.Text t) params Skip h = record { fits = refl; answered = refl; handles = refl; cursors = refl }
+refused-IsLawful store session b (input.Handle n) params Skip h = cc
+refused-IsLawful store session b (input.Text t) params Done h = cc
+refused-IsLawful store session b (input.Text t) params (Prepared n m) h = cc
+refused-IsLawful store session b (input.Text t) params (Result n m) h = cc
+refused-IsLawful store session b (input.Text t) params (Cursor n columns) h = cc
+refused-IsLawful store session b (input.Text t) params (Row values) h = cc
+refused-IsLawful store session b (input.Text t) params End h = cc
+refused-IsLawful store session b (input.Text t) params Invalid h = cc
+refused-IsLawful store session b (input.Text t) params Memory h = cc
+refused-IsLawful store session b (input.Handle k) params Done h = cc
+refused-IsLawful store session b (input.Handle k) params (Prepared n m) h = cc
+refused-IsLawful store session b (input.Handle k) params (Result n m) h = cc
+refused-IsLawful store session b (input.Handle k) params (Cursor n columns) h = cc
+refused-IsLawful store session b (input.Handle k) params (Row values) h = cc
+refused-IsLawful store session b (input.Handle k) params End h = cc
+refused-IsLawful store session b (input.Handle k) params Invalid h = cc
+refused-IsLawful store session b (input.Handle k) params Memory h = cc
+
+abbrev OutcomeFits : Input → Outcome → Type 0
+OutcomeFits i (Write key value count) = ⊤
+OutcomeFits i (outcome.Refused answer) = is_refusal i answer ≡ true
+
+fail-OutcomeFits : (i : Input) (text : List ℕ) → OutcomeFits i (outcome.Refused (Fail text))
+fail-OutcomeFits (input.Text t) text = refl
+fail-OutcomeFits (input.Handle h) text = refl
+
+added-OutcomeFits : (i : Input) (store : Entries) (key : List ℕ) (v : Value) → OutcomeFits i (added store key v)
+added-OutcomeFits i store key (value.Int by) =
+    option_both (OutcomeFits i) (λ number. summed key (number +ℤ by)) (number_in (value_at key store)) _
+    (λ number. cond_both (OutcomeFits i) (fits_i64 (number +ℤ by)) _ _ tt (fail-OutcomeFits i _)) (fail-OutcomeFits i _)
+added-OutcomeFits i store key value.Nil = fail-OutcomeFits i _
+added-OutcomeFits i store key (value.Bool b) = fail-OutcomeFits i _
+added-OutcomeFits i store key (value.Bytes b) = fail-OutcomeFits i _
+added-OutcomeFits i store key (value.Text t) = fail-OutcomeFits i _
+added-OutcomeFits i store key (value.Time t) = fail-OutcomeFits i _
+
+commanded-OutcomeFits : (i : Input) (store : Entries) (s : Statement) (params : List Param) → OutcomeFits i (commanded store s params)
+commanded-OutcomeFits i store (Set key v) params =
+    option_both (OutcomeFits i) (λ k. Write k (Some (value_for v (left_after key params))) (pos 1)) (key_for key params) _ (λ k. tt) (fail-OutcomeFits i _)
+commanded-OutcomeFits i store (Add key v) params =
+    option_both (OutcomeFits i) (λ k. added store k (value_for v (left_after key params))) (key_for key params) _
+    (λ k. added-OutcomeFits i store k (value_for v (left_after key params))) (fail-OutcomeFits i _)
+commanded-OutcomeFits i store (Del key) params =
+    option_both (OutcomeFits i) (λ k. deleted store k) (key_for key params) _ (λ k. tt) (fail-OutcomeFits i _)
+commanded-OutcomeFits i store (Get key) params = fail-OutcomeFits i _
+commanded-OutcomeFits i store (ListKeys prefix) params = fail-OutcomeFits i _
+
+executed-OutcomeFits : (i : Input) (store : Entries) (s : Statement) (params : List Param) → OutcomeFits i (executed store s params)
+executed-OutcomeFits i store s params =
+    cond_both (OutcomeFits i) (is_query s) _ _ (fail-OutcomeFits i _)
+    (cond_both (OutcomeFits i) (length params == inputs_of s) _ _ (commanded-OutcomeFits i store s params) (fail-OutcomeFits i _))
+
+executed_prepared-OutcomeFits : (i : Input) (store : Entries) (o : Option Statement) (params : List Param) → OutcomeFits i (executed_prepared store o params)
+executed_prepared-OutcomeFits i store None params = fail-OutcomeFits i _
+executed_prepared-OutcomeFits i store (Some s) params = executed-OutcomeFits i store s params
+
+executed_text-OutcomeFits : (text : List ℕ) (store : Entries) (o : Option Statement) → OutcomeFits (input.Text text) (executed_text store o)
+executed_text-OutcomeFits text store None = refl
+executed_text-OutcomeFits text store (Some s) =
+    cond_both (OutcomeFits (input.Text text)) (nat_lt 0 (inputs_of s)) _ _ refl (executed-OutcomeFits (input.Text text) store s [])
+
+executed_in-OutcomeFits : (store : Entries) (session : SessionState) (i : Input) (params : List Param) → OutcomeFits i (executed_in store session i params)
+executed_in-OutcomeFits store session (input.Text text) params =
+    cond_both (OutcomeFits (input.Text text)) (nat_lt 0 (length params)) _ _ refl (executed_text-OutcomeFits text store (statement_of text))
+executed_in-OutcomeFits store session (input.Handle handle) params =
+    option_both (OutcomeFits (input.Handle handle)) (λ text. executed_prepared store (statement_of text) params) (text_of handle session) _
+    (λ text. executed_prepared-OutcomeFits (input.Handle handle) store (statement_of text) params) refl
+
+exec-fits : (i : Input) (params : List Param) (last count : ℤ) → fits_of (Exec i params) (Result last count) ≡ true
+exec-fits (input.Text t) params last count = refl
+exec-fits (input.Handle h) params last count = refl
+
+carried_out-IsLawful : (store : Entries) (session : SessionState) (i : Input) (params : List Param) (o : Outcome) → OutcomeFits i o → IsLawful session (Exec i params) (carried_out store session o)
+carried_out-IsLawful store session i params (Write key value count) h =
+    record { fits = exec-fits i params _ _; answered = refl; handles = refl; cursors = refl }
+carried_out-IsLawful store session i params (outcome.Refused answer) h = refused-IsLawful store session true i params answer h
+
+abbrev FoundFits : Input → Found → Type 0
+FoundFits i (Rows shape entries) = ⊤
+FoundFits i (Refused answer) = is_refusal i answer ≡ true
+
+fail-FoundFits : (i : Input) (text : List ℕ) → FoundFits i (Refused (Fail text))
+fail-FoundFits (input.Text t) text = refl
+fail-FoundFits (input.Handle h) text = refl
+
+found-FoundFits : (i : Input) (store : Entries) (s : Statement) (params : List Param) → FoundFits i (found store s params)
+found-FoundFits i store (Get key) params =
+    option_both (FoundFits i) (λ k. Rows shape.Values (entry_at k store)) (key_for key params) _ (λ k. tt) (fail-FoundFits i _)
+found-FoundFits i store (ListKeys prefix) params =
+    option_both (FoundFits i) (λ p. Rows shape.Entries (listed p store)) (key_for prefix params) _ (λ k. tt) (fail-FoundFits i _)
+found-FoundFits i store (Set key v) params = fail-FoundFits i _
+found-FoundFits i store (Add key v) params = fail-FoundFits i _
+found-FoundFits i store (Del key) params = fail-FoundFits i _
+
+queried-FoundFits : (i : Input) (store : Entries) (s : Statement) (params : List Param) → FoundFits i (queried store s params)
+queried-FoundFits i store s params =
+    cond_both (FoundFits i) (is_query s) _ _
+    (cond_both (FoundFits i) (length params == inputs_of s) _ _ (found-FoundFits i store s params) (fail-FoundFits i _))
+    (fail-FoundFits i _)
+
+queried_prepared-FoundFits : (i : Input) (store : Entries) (o : Option Statement) (params : List Param) → FoundFits i (queried_prepared store o params)
+queried_prepared-FoundFits i store None params = fail-FoundFits i _
+queried_prepared-FoundFits i store (Some s) params = queried-FoundFits i store s params
+
+queried_text-FoundFits : (text : List ℕ) (store : Entries) (o : Option Statement) → FoundFits (input.Text text) (queried_text store o)
+queried_text-FoundFits text store None = refl
+queried_text-FoundFits text store (Some s) =
+    cond_both (FoundFits (input.Text text)) (nat_lt 0 (inputs_of s)) _ _ refl (queried-FoundFits (input.Text text) store s [])
+
+queried_in-FoundFits : (store : Entries) (session : SessionState) (i : Input) (params : List Param) → FoundFits i (queried_in store session i params)
+queried_in-FoundFits store session (input.Text text) params =
+    cond_both (FoundFits (input.Text text)) (nat_lt 0 (length params)) _ _ refl (queried_text-FoundFits text store (statement_of text))
+queried_in-FoundFits store session (input.Handle handle) params =
+    option_both (FoundFits (input.Handle handle)) (λ text. queried_prepared store (statement_of text) params) (text_of handle session) _
+    (λ text. queried_prepared-FoundFits (input.Handle handle) store (statement_of text) params) refl
+
+query-fits : (i : Input) (params : List Param) (rows : ℕ) (columns : List (List ℕ)) → fits_of (Query i params) (Cursor rows columns) ≡ true
+query-fits (input.Text t) params rows columns = refl
+query-fits (input.Handle h) params rows columns = refl
+
+opened-IsLawful : (store : Entries) (session : SessionState) (i : Input) (params : List Param) (shape : Shape) (entries : Entries) → IsSound session → IsLawful session (Query i params) (in_session store (opened session shape entries))
+opened-IsLawful store session i params shape entries sound =
+    cond_both (λ kept. IsLawful session (Query i params) (in_session store kept)) (nat_lt session.last_cursor largest_number) _ _
+    (record { fits = query-fits i params _ _; answered = refl; handles = refl; cursors = (reverse-push live_cursor session.cursors _, cursor_is_new session sound) })
+    (record { fits = refl; answered = refl; handles = refl; cursors = refl })
+
+shown-IsLawful : (store : Entries) (session : SessionState) (i : Input) (params : List Param) (f : Found) → FoundFits i f → IsSound session → IsLawful session (Query i params) (in_session store (shown session f))
+shown-IsLawful store session i params (Rows shape entries) h sound = opened-IsLawful store session i params shape entries sound
+shown-IsLawful store session i params (Refused answer) h sound = refused-IsLawful store session false i params answer h
+
+-- a row has as many values as its cursor has columns
+length-next_row : (shape : Shape) (entries : Entries) (row : List Value) → option_map (λ entry. row_of shape entry) (slice_get entries 0) ≡ Some row → length row ≡ length (columns_of shape)
+length-next_row shape.Values [] row h = absurd (none-some row h)
+length-next_row shape.Entries [] row h = absurd (none-some row h)
+length-next_row shape.Values (e ∷ entries) row h = let is : row ≡ e.1 ∷ [] = cc in ap length is
+length-next_row shape.Entries (e ∷ entries) row h = let is : row ≡ value.Text e.0 ∷ e.1 ∷ [] = cc in ap length is
+
+given-IsLawful : (store : Entries) (session : SessionState) (rows : ℕ) (c : CursorState) (row : Option (List Value)) → row ≡ next_row c → cursor_of rows session ≡ Some c → IsSound session → IsLawful session (Next rows) (in_session store (given session rows row))
+given-IsLawful store session rows c None is here sound = record { fits = refl; answered = refl; handles = refl; cursors = refl }
+given-IsLawful store session rows c (Some row) is here sound = record {
+  fits = refl;
+  answered = refl;
+  handles = refl;
+  cursors = (
+    cursors-advanced session rows,
+    ap (λ n. has_width rows n (cursors_of session)) (length-next_row c.shape c.left row (sym is)) ∙ width-cursors session rows c here sound,
+  );
+}
+
+next_taken-IsLawful : (store : Entries) (session : SessionState) (rows : ℕ) → IsSound session → IsLawful session (Next rows) (in_session store (next_taken session rows))
+next_taken-IsLawful store session rows sound = step (cursor_of rows session) refl where
+  step : (o : Option CursorState) → cursor_of rows session ≡ o → IsLawful session (Next rows) (in_session store (option_map_or (λ c. given session rows (next_row c)) o (session, no_such_handle)))
+  step None here = record { fits = refl; answered = refl; handles = refl; cursors = refl }
+  step (Some c) here = given-IsLawful store session rows c (next_row c) refl here sound
+
+rows_closed-IsLawful : (store : Entries) (session : SessionState) (rows : ℕ) → IsLawful session (CloseRows rows) (in_session store (rows_closed session rows))
+rows_closed-IsLawful store session rows =
+    cond_both (λ kept. IsLawful session (CloseRows rows) (in_session store kept)) (is_open rows session) _ _
+    (record { fits = refl; answered = refl; handles = refl; cursors = inr (reverse-without live_cursor (λ (c : LiveCursor). not (eqb c.0 rows)) session.cursors) })
+    (record { fits = refl; answered = refl; handles = refl; cursors = inl refl })
+
+pub effect-IsLawful : (store : Entries) (session : SessionState) (call : DriverCall) → IsSound session → IsLawful session call (effect store session call)
+effect-IsLawful store session Connect sound = record { fits = refl; answered = refl; handles = refl; cursors = refl }
+effect-IsLawful store session Valid sound = record { fits = refl; answered = refl; handles = refl; cursors = refl }
+effect-IsLawful store session Ping sound = record { fits = refl; answered = refl; handles = refl; cursors = refl }
+effect-IsLawful store session Reset sound = record { fits = refl; answered = refl; handles = refl; cursors = refl }
+effect-IsLawful store session Shut sound = record { fits = refl; answered = refl; handles = refl; cursors = refl }
+effect-IsLawful store session (Prepare text) sound = prepared-IsLawful store session text (statement_of text) sound
+effect-IsLawful store session (CloseStmt handle) sound = closed-IsLawful store session handle
+effect-IsLawful store session (Exec i params) sound =
+    carried_out-IsLawful store session i params (executed_in store session i params) (executed_in-OutcomeFits store session i params)
+effect-IsLawful store session (Query i params) sound =
+    shown-IsLawful store session i params (queried_in store session i params) (queried_in-FoundFits store session i params) sound
+effect-IsLawful store session (Next rows) sound = next_taken-IsLawful store session rows sound
+effect-IsLawful store session (CloseRows rows) sound = rows_closed-IsLawful store session rows
+effect-IsLawful store session (Begin level read_only) sound =
+    cond_both (λ kept. IsLawful session (Begin level read_only) (in_session store kept)) (is_some session.undo) _ _
+    (record { fits = refl; answered = refl; handles = refl; cursors = refl })
+    (record { fits = refl; answered = refl; handles = refl; cursors = refl })
+effect-IsLawful store session Commit sound =
+    cond_both (λ kept. IsLawful session Commit (in_session store kept)) (is_some session.undo) _ _
+    (record { fits = refl; answered = refl; handles = refl; cursors = refl })
+    (record { fits = refl; answered = refl; handles = refl; cursors = refl })
+effect-IsLawful store session Rollback sound =
+    cond_both (IsLawful session Rollback) (is_some session.undo) _ _
+    (record { fits = refl; answered = refl; handles = refl; cursors = refl })
+    (record { fits = refl; answered = refl; handles = refl; cursors = refl })

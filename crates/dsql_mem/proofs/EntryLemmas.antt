@@ -2,7 +2,9 @@
 use Rattle.std.proofs.Common.{◌≡◌, ℕ, List, [], ◌∷◌, map, ap, refl, ◌∙◌, Bool, true, false, cond, Some, String, string_bytes}
 use Rattle.std.specs.BTreeMap.{insert_entry}
 use Rattle.std.specs.Cmp.Lexicographic.{slice_cmp}
-use Rattle.std.specs.Map.{lookup, remove_entry}
+use Rattle.std.specs.List.{AllZip, AllByRecursion}
+use Rattle.std.specs.List.Sorted.{IsStrictlySortedBy}
+use Rattle.std.specs.Map.{keys_of, lookup, remove_entry}
 use Rattle.std.specs.Ordering.{nat_cmp, match_ordering}
 use Rattle.std.specs.String.{string_cmp}
 use Rattle.std.specs.declared.cmp.Ordering.{Ordering}
@@ -38,3 +40,23 @@ map-remove_entry test (e ∷ es) =
 pub lookup-entry_of : {Y X : Type 0} (test : List ℕ → Bool) (es : List (String Y × X)) → lookup (λ (k : String Y). test (string_bytes k)) es ≡ lookup test (map entry_of es)
 lookup-entry_of test [] = refl
 lookup-entry_of test (e ∷ es) = ap (λ found. cond (test (string_bytes e.0)) (Some e.1) found) (lookup-entry_of test es)
+
+-- a clone of the entries has the same keys and values
+pub map-clone : {Y X : Type 0} (es cs : List (String Y × X)) → AllZip (λ (p q : String Y × X). (string_bytes q.0 ≡ string_bytes p.0) × (q.1 ≡ p.1)) es cs → map entry_of cs ≡ map entry_of es
+map-clone [] [] h = refl
+map-clone [] (c ∷ cs) h = absurd h
+map-clone (e ∷ es) [] h = absurd h
+map-clone (e ∷ es) (c ∷ cs) h =
+    ap (λ key. (key, c.1) ∷ map entry_of cs) h.0.0
+    ∙ ap (λ value. (string_bytes e.0, value) ∷ map entry_of cs) h.0.1
+    ∙ ap (λ rest. entry_of e ∷ rest) (map-clone es cs h.1)
+
+first_below : {Y X : Type 0} (k : String Y) (es : List (String Y × X)) → AllByRecursion (λ (y : String Y). string_cmp k y ≡ Less) (keys_of es) → AllByRecursion (λ (y : List ℕ). slice_cmp nat_cmp (string_bytes k) y ≡ Less) (keys_of (map entry_of es))
+first_below k [] h = tt
+first_below k (e ∷ es) h = (h.0, first_below k es h.1)
+
+-- the bytes of keys that ascend ascend
+pub ascending-bytes : {Y X : Type 0} (es : List (String Y × X)) → IsStrictlySortedBy string_cmp (keys_of es) → IsStrictlySortedBy (slice_cmp nat_cmp) (keys_of (map entry_of es))
+unfolding IsStrictlySortedBy
+ascending-bytes [] h = tt
+ascending-bytes (e ∷ es) h = (first_below e.0 es h.0, ascending-bytes es h.1)

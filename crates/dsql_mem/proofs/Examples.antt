@@ -1,7 +1,7 @@
 -- Each worked call is judged by computing.
 use Rattle.std.proofs.Common.{refl}
 use Rattle.std.specs.Fmt.{digits}
-use Rattle.dsql_mem.specs.Worked.{WorkedNumbers, WorkedTexts, WorkedHandles}
+use Rattle.dsql_mem.specs.Worked.{WorkedNumbers, WorkedTexts, WorkedHandles, WorkedQueries, WorkedTransactions}
 
 pub worked_numbers : WorkedNumbers
 unfolding digits
@@ -47,4 +47,24 @@ worked_handles = record {
   wrong_way = refl;
   passed_on = refl;
   spent = refl;
+}
+
+pub worked_queries : WorkedQueries
+unfolding digits
+worked_queries = record {
+  get = refl;
+  list = refl;
+  moment = refl;
+  prepared = refl;
+  refused = refl;
+  spent = refl;
+}
+
+pub worked_transactions : WorkedTransactions
+unfolding digits
+worked_transactions = record {
+  rolled_back = refl;
+  committed = refl;
+  begun_twice = refl;
+  reset = refl;
 }

@@ -7,7 +7,7 @@ use Rattle.dsql_driver.specs.declared.answer.DriverAnswer.TheVariants.{Done, Pre
 use Rattle.dsql_driver.specs.declared.call.DriverCall.{DriverCall}
 use Rattle.dsql_mem.specs.Effect.{effect}
 use Rattle.dsql_mem.specs.Entries.{Entries}
-use Rattle.dsql_mem.specs.Session.{SessionState, IsReadyFor, handles_of, cursors_of}
+use Rattle.dsql_mem.specs.Session.{SessionState, IsSound, handles_of, cursors_of}
 use Rattle.dsql_mem.specs.Wire.{WireState, CarriesOut, after_call, faults_after}
 use Rattle.dsql_mem.proofs.EffectLemmas.{effect-IsLawful}
 
@@ -32,14 +32,14 @@ memory-or_not (Fail text) = inr refl
 -- a wire's answer and what it was before and afterwards
 pub record IsHeard (store : Entries) (call : DriverCall) (answer : DriverAnswer) (before after : WireState) : Type 0 where
   pub carried_out : is_memory answer ≡ false → CarriesOut store call answer before after
-  pub ready : is_memory answer ≡ false → IsReadyFor call before.session
+  pub sound : IsSound before.session
   pub stays : is_memory answer ≡ true → after ≡ before
 
 pub heard-fits : (store : Entries) (call : DriverCall) (answer : DriverAnswer) (before after : WireState) → IsHeard store call answer before after → fits_of call answer ≡ true
 heard-fits store call answer before after h = elim (memory-or_not answer) [
   | inl e ↦ ap (fits_of call) e
   | inr other ↦
-      let law = effect-IsLawful store before.session call (h.ready other) in
+      let law = effect-IsLawful store before.session call h.sound in
       ap (fits_of call) (h.carried_out other).answered ∙ law.fits
 ]
 
@@ -49,14 +49,16 @@ heard-handles store call answer before after h = elim (memory-or_not answer) [
       let stays : after ≡ before = h.stays (ap is_memory e) in
       rw e (ap (λ (w : WireState). handles_of w.session) stays)
   | inr other ↦
-      let law = effect-IsLawful store before.session call (h.ready other) in
+      let law = effect-IsLawful store before.session call h.sound in
       rw ((h.carried_out other).answered, (h.carried_out other).changed) law.handles
 ]
 
 pub heard-cursors : (store : Entries) (call : DriverCall) (answer : DriverAnswer) (before after : WireState) → IsHeard store call answer before after → KeepsCursors call answer (cursors_of before.session) (cursors_of after.session)
 heard-cursors store call answer before after h = elim (memory-or_not answer) [
-  | inl e ↦ rw e refl
+  | inl e ↦
+      let stays : after ≡ before = h.stays (ap is_memory e) in
+      rw e (ap (λ (w : WireState). cursors_of w.session) stays)
   | inr other ↦
-      let law = effect-IsLawful store before.session call (h.ready other) in
-      rw (h.carried_out other).answered law.cursors
+      let law = effect-IsLawful store before.session call h.sound in
+      rw ((h.carried_out other).answered, (h.carried_out other).changed) law.cursors
 ]

@@ -1,20 +1,17 @@
 -- What a SET and a DEL come to, and worked calls.
-use Rattle.std.specs.Prelude.{◌≡◌, ℕ, pos, negsuc, List, [], ◌∷◌, Some, None, codes, if◌then◌else◌}
-use Rattle.std.specs.Cmp.Lexicographic.{slice_cmp}
-use Rattle.std.specs.List.Sorted.{IsStrictlySortedBy}
-use Rattle.std.specs.Map.{keys_of}
-use Rattle.std.specs.Ordering.{nat_cmp}
+use Rattle.std.specs.Prelude.{◌≡◌, ℕ, pos, negsuc, false, List, [], ◌∷◌, Some, None, codes, if◌then◌else◌}
 use Rattle.std.specs.Str.{bytes_eq}
 use Rattle.dsql_driver.specs.declared.answer.DriverAnswer.{DriverAnswer}
-use Rattle.dsql_driver.specs.declared.answer.DriverAnswer.TheVariants.{Done, Prepared, Skip}
+use Rattle.dsql_driver.specs.declared.answer.DriverAnswer.TheVariants.{Done, Prepared, Result, Cursor, Row, End, Skip}
 use Rattle.dsql_driver.specs.declared.call.DriverCall.{DriverCall}
-use Rattle.dsql_driver.specs.declared.call.DriverCall.TheVariants.{Prepare, CloseStmt, Exec, Query}
+use Rattle.dsql_driver.specs.declared.call.DriverCall.TheVariants.{Prepare, CloseStmt, Exec, Query, Next, CloseRows, Begin, Commit, Rollback, Reset}
 use Rattle.dsql_driver.specs.declared.call.Input.TheVariants as input
+use Rattle.dsql_driver.specs.declared.call.Level.TheVariants.{Default}
 use Rattle.dsql_value.specs.declared.value.Param.{Param}
 use Rattle.dsql_value.specs.declared.value.Value.{Value}
 use Rattle.dsql_value.specs.declared.value.Value.TheVariants.{Nil, Int, Text}
-use Rattle.dsql_mem.specs.Effect.{Effect, effect, only_answered, affected, no_such_handle, no_such_statement, not_a_command, not_a_query, wrong_arguments, key_is_not_text, not_a_number, out_of_range, numbers_spent}
-use Rattle.dsql_mem.specs.Entries.{Entries, with_value, without_key, value_at}
+use Rattle.dsql_mem.specs.Effect.{Effect, effect, only_answered, no_such_handle, no_such_statement, not_a_command, not_a_query, wrong_arguments, key_is_not_text, not_a_number, out_of_range, in_transaction, no_transaction, numbers_spent}
+use Rattle.dsql_mem.specs.Entries.{Entries, AreAscending, with_value, without_key, value_at}
 use Rattle.dsql_mem.specs.Number.{number_of}
 use Rattle.dsql_mem.specs.Session.{SessionState, new_session}
 
@@ -25,7 +22,7 @@ SetsOneKey = (key : List ℕ) (value : Value) (store : Entries) (other : List �
 
 -- once a key is taken out of a map, whose keys ascend, it isn't there, and each other key has what it had
 abbrev pub DeletesOneKey : Type 0
-DeletesOneKey = (key : List ℕ) (store : Entries) (other : List ℕ) → IsStrictlySortedBy (slice_cmp nat_cmp) (keys_of store) →
+DeletesOneKey = (key : List ℕ) (store : Entries) (other : List ℕ) → AreAscending store →
     value_at other (without_key key store) ≡ (if bytes_eq key other then None else value_at other store)
 
 -- numbers by their spelling
@@ -49,6 +46,10 @@ executes text = effect sample new_session (Exec (input.Text text) [])
 -- an answer after which all is as it was
 abbrev pub only : DriverAnswer → Effect
 only answer = only_answered sample new_session answer
+
+-- the answer to a command that was carried out: no last id, and so many entries affected
+abbrev pub affected : ℕ → DriverAnswer
+affected n = Result (pos 0) (pos n)
 
 -- a command that affected so many entries, and the map afterwards
 abbrev pub done : ℕ → Entries → Effect
@@ -91,6 +92,79 @@ unnamed value = record { name = None; value = value }
 abbrev pub named : List ℕ → Value → Param
 named name value = record { name = Some name; value = value }
 
+-- what a wire is asked without parameters
+abbrev pub ask : List ℕ → DriverCall
+ask text = Query (input.Text text) []
+
+-- the answers to queries
+pub record WorkedQueries : Type 0 where
+  -- a key that is there has one row, and one that isn't has none
+  pub get :
+      answers_from sample new_session (ask (codes "GET b") ∷ Next 1 ∷ Next 1 ∷ Next 1 ∷ ask (codes "GET a") ∷ Next 2 ∷ [])
+      ≡ Cursor 1 (codes "value" ∷ []) ∷ Row (Int (pos 7) ∷ []) ∷ End ∷ End ∷ Cursor 2 (codes "value" ∷ []) ∷ End ∷ []
+  -- the keys with a prefix are listed in their order
+  pub list :
+      answers_from ((codes "a", Nil) ∷ (codes "ab", Int (pos 1)) ∷ (codes "abc", Int (pos 2)) ∷ (codes "b", Nil) ∷ []) new_session
+      (ask (codes "LIST ab") ∷ Next 1 ∷ Next 1 ∷ Next 1 ∷ [])
+      ≡ Cursor 1 (codes "key" ∷ codes "value" ∷ []) ∷ Row (Text (codes "ab") ∷ Int (pos 1) ∷ [])
+      ∷ Row (Text (codes "abc") ∷ Int (pos 2) ∷ []) ∷ End ∷ []
+  -- a cursor shows what was there at its query, whatever is written later, until it is closed
+  pub moment :
+      answers_from [] new_session
+      (Exec (input.Text (codes "SET a 1")) [] ∷ ask (codes "GET a") ∷ Exec (input.Text (codes "DEL a")) [] ∷ Next 1 ∷ CloseRows 1
+      ∷ Next 1 ∷ CloseRows 1 ∷ ask (codes "GET a") ∷ [])
+      ≡ affected 1 ∷ Cursor 1 (codes "value" ∷ []) ∷ affected 1 ∷ Row (Int (pos 1) ∷ []) ∷ Done ∷ no_such_handle
+      ∷ no_such_handle ∷ Cursor 2 (codes "value" ∷ []) ∷ []
+  -- a query that was prepared takes its key from a parameter
+  pub prepared :
+      answers_from sample new_session
+      (Prepare (codes "GET ?") ∷ Query (input.Handle 1) (unnamed (Text (codes "t")) ∷ []) ∷ Next 1
+      ∷ Query (input.Handle 1) (unnamed (Int (pos 1)) ∷ []) ∷ Query (input.Handle 1) [] ∷ Query (input.Handle 2) [] ∷ [])
+      ≡ Prepared 1 (pos 1) ∷ Cursor 1 (codes "value" ∷ []) ∷ Row (Text (codes "Ann") ∷ []) ∷ key_is_not_text
+      ∷ wrong_arguments ∷ no_such_handle ∷ []
+  -- what isn't asked
+  pub refused :
+      answers_from sample new_session
+      (ask (codes "DEL b") ∷ ask (codes "GET ?") ∷ ask (codes "GET") ∷ Query (input.Text (codes "GET b")) (unnamed Nil ∷ []) ∷ Next 1
+      ∷ [])
+      ≡ not_a_query ∷ Skip ∷ no_such_statement ∷ Skip ∷ no_such_handle ∷ []
+  -- the numbers of cursors are spent
+  pub spent :
+      answers_from [] (record new_session { last_cursor = 4294967294 }) (ask (codes "LIST a") ∷ ask (codes "LIST a") ∷ Next 4294967295 ∷ [])
+      ≡ Cursor 4294967295 (codes "key" ∷ codes "value" ∷ []) ∷ numbers_spent ∷ End ∷ []
+
+-- what a wire is told without parameters, and a Begin
+abbrev pub tell : List ℕ → DriverCall
+tell text = Exec (input.Text text) []
+
+abbrev pub begin : DriverCall
+begin = Begin Default false
+
+-- transactions
+pub record WorkedTransactions : Type 0 where
+  -- a key that was written twice has its first value again, one that came is gone, and one that went is back
+  pub rolled_back :
+      answers_from sample new_session
+      (begin ∷ tell (codes "SET b 1") ∷ tell (codes "SET b 2") ∷ tell (codes "SET a 3") ∷ tell (codes "DEL t") ∷ Rollback
+      ∷ ask (codes "GET b") ∷ Next 1 ∷ ask (codes "GET a") ∷ Next 2 ∷ ask (codes "GET t") ∷ Next 3 ∷ [])
+      ≡ Done ∷ affected 1 ∷ affected 1 ∷ affected 1 ∷ affected 1 ∷ Done ∷ Cursor 1 (codes "value" ∷ []) ∷ Row (Int (pos 7) ∷ [])
+      ∷ Cursor 2 (codes "value" ∷ []) ∷ End ∷ Cursor 3 (codes "value" ∷ []) ∷ Row (Text (codes "Ann") ∷ []) ∷ []
+  -- what was committed stays
+  pub committed :
+      answers_from [] new_session (begin ∷ tell (codes "SET a 1") ∷ Commit ∷ Rollback ∷ ask (codes "GET a") ∷ Next 1 ∷ [])
+      ≡ Done ∷ affected 1 ∷ Done ∷ no_transaction ∷ Cursor 1 (codes "value" ∷ []) ∷ Row (Int (pos 1) ∷ []) ∷ []
+  -- a Begin fails in a transaction, and leaves it open
+  pub begun_twice :
+      answers_from [] new_session (Commit ∷ begin ∷ begin ∷ Rollback ∷ Rollback ∷ [])
+      ≡ no_transaction ∷ Done ∷ in_transaction ∷ Done ∷ no_transaction ∷ []
+  -- a Reset rolls back, and leaves handles and cursors as they are
+  pub reset :
+      answers_from [] new_session
+      (Prepare (codes "GET a") ∷ begin ∷ tell (codes "SET a 1") ∷ Query (input.Handle 1) [] ∷ Reset ∷ Commit ∷ Next 1
+      ∷ Query (input.Handle 1) [] ∷ Next 2 ∷ [])
+      ≡ Prepared 1 (pos 0) ∷ Done ∷ affected 1 ∷ Cursor 1 (codes "value" ∷ []) ∷ Done ∷ no_transaction ∷ Row (Int (pos 1) ∷ [])
+      ∷ Cursor 2 (codes "value" ∷ []) ∷ End ∷ []
+
 pub record WorkedHandles : Type 0 where
   -- the parameters are taken in order
   pub by_order :
@@ -125,6 +199,6 @@ pub record WorkedHandles : Type 0 where
       ≡ Skip ∷ Skip ∷ []
   -- the numbers of handles are spent
   pub spent :
-      answers_from [] (record { statements = []; last_handle = 4294967294 })
+      answers_from [] (record new_session { last_handle = 4294967294 })
       (Prepare (codes "DEL a") ∷ Prepare (codes "DEL a") ∷ Prepare (codes "DEL") ∷ [])
       ≡ Prepared 4294967295 (pos 0) ∷ numbers_spent ∷ no_such_statement ∷ []

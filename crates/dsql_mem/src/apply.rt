@@ -1,16 +1,15 @@
 ghost use Rattle.std.specs.Prelude.{◌≡◌, true, false, IfOk, OnOk, OnErr, if◌then◌else◌};
 ghost use Rattle.dsql_driver.specs.Fits.{is_memory};
 ghost use Rattle.dsql_mem.specs.Copies.{copies_of};
-ghost use Rattle.dsql_mem.specs.Effect.{effect, queried, queried_text};
-ghost use Rattle.dsql_mem.specs.Session.{IsReadyFor};
-ghost use Rattle.dsql_mem.specs.Statement.{statement_of};
+ghost use Rattle.dsql_mem.specs.Effect.{effect, shown, carried_out, taken_back};
 
 use crate::copies::Copies;
-use crate::failures::{NO_SUCH_HANDLE, NO_SUCH_STATEMENT, NO_TRANSACTION, NOT_A_QUERY};
+use crate::execute::Outcome;
+use crate::failures::NO_TRANSACTION;
+use crate::query::Found;
 use crate::session::Session;
-use crate::statement::Statement;
 use crate::store::Store;
-use dsql_driver::{Answered, DriverAnswer, DriverCall, Input};
+use dsql_driver::{Answered, DriverAnswer, DriverCall};
 use dsql_value::Memory;
 use std::alloc::Global;
 
@@ -41,65 +40,95 @@ impl Store {
         ensures answer { IfOk result (λ copies. copies ≡ copies_of (effect self.old session.old call.now).answer) }
         ensures store { OnOk result (self.new ≡ (effect self.old session.old call.now).store) }
         ensures session { OnOk result (session.new ≡ (effect self.old session.old call.now).session) }
-        ensures ready { IsReadyFor call.now session.old }
         ensures store_stays { OnErr result (self.new ≡ self.old) }
         ensures session_stays { OnErr result (session.new ≡ session.old) }
     {
         match call {
-            DriverCall::Connect
-            | DriverCall::Reset
-            | DriverCall::Valid
-            | DriverCall::Ping
-            | DriverCall::Shut => Copies::of(DriverAnswer::Done),
+            DriverCall::Connect | DriverCall::Valid | DriverCall::Ping => {
+                Copies::of(DriverAnswer::Done)
+            }
+            DriverCall::Reset | DriverCall::Shut => self.take_back(session),
             DriverCall::Prepare(text) => session.prepare(alloc, text),
             DriverCall::CloseStmt(handle) => session.close(alloc, *handle),
-            DriverCall::Exec(Input::Text(text), params) => {
-                if !params.as_slice().is_empty() {
-                    return Copies::of(DriverAnswer::Skip);
-                }
-                self.execute_text(alloc, text.as_str())
+            DriverCall::Exec(input, params) => {
+                let outcome = self.execute(alloc, session, input, params.as_slice())?;
+                self.carry_out(session, outcome)
             }
-            DriverCall::Exec(Input::Handle(handle), params) => match session.text(*handle) {
-                Some(text) => self.execute_prepared(alloc, text, params.as_slice()),
-                None => Copies::of_failure(alloc, NO_SUCH_HANDLE),
-            },
-            DriverCall::Query(Input::Text(text), params) => {
-                if !params.as_slice().is_empty() {
-                    return Copies::of(DriverAnswer::Skip);
-                }
-                query_text(alloc, text.as_str())
+            DriverCall::Query(input, params) => {
+                let found = self.query(alloc, session, input, params.as_slice())?;
+                show(alloc, session, found)
             }
-            DriverCall::Query(Input::Handle(handle), _) => match session.text(*handle) {
-                Some(text) => query_prepared(alloc, text),
-                None => Copies::of_failure(alloc, NO_SUCH_HANDLE),
-            },
-            DriverCall::Next(_) | DriverCall::CloseRows(_) => {
-                Copies::of_failure(alloc, NO_SUCH_HANDLE)
-            }
-            DriverCall::Begin { .. } => Copies::of_failure(alloc, NO_SUCH_STATEMENT),
-            DriverCall::Commit | DriverCall::Rollback => Copies::of_failure(alloc, NO_TRANSACTION),
+            DriverCall::Next(rows) => session.take_row(alloc, *rows),
+            DriverCall::CloseRows(rows) => session.close_rows(alloc, *rows),
+            DriverCall::Begin { .. } => session.begin(alloc),
+            DriverCall::Commit => session.commit(alloc),
+            DriverCall::Rollback => self.roll_back(alloc, session),
         }
     }
-}
 
-/// The answer to a query of a text that came without parameters.
-fn query_text(alloc: Global, text: &str) -> Result<Copies, Memory>
-    ensures { IfOk result (λ copies. copies ≡ copies_of (queried_text (statement_of text.now))) }
-{
-    match Statement::parse(text) {
-        Some(statement) if statement.inputs() > 0 => Copies::of(DriverAnswer::Skip),
-        Some(statement) if !statement.is_query() => Copies::of_failure(alloc, NOT_A_QUERY),
-        _ => Copies::of_failure(alloc, NO_SUCH_STATEMENT),
+    /// Carries out what a command came to, or answers why it can't.
+    fn carry_out(&mut self, session: &mut Session, outcome: Outcome) -> Result<Copies, Memory>
+        ensures answer { IfOk result (λ copies. copies ≡ copies_of (carried_out self.old session.old outcome).answer) }
+        ensures store { OnOk result (self.new ≡ (carried_out self.old session.old outcome).store) }
+        ensures session { OnOk result (session.new ≡ (carried_out self.old session.old outcome).session) }
+        ensures store_stays { OnErr result (self.new ≡ self.old) }
+        ensures session_stays { OnErr result (session.new ≡ session.old) }
+    {
+        match outcome {
+            Outcome::Write {
+                key,
+                value,
+                affected,
+            } => {
+                let copies = Copies::of(DriverAnswer::Result { last: 0, affected })?;
+                session.write(self, key, value)?;
+                Ok(copies)
+            }
+            Outcome::Refused(answer) => Copies::of(answer),
+        }
+    }
+
+    /// Rolls back the session's transaction, if one is open.
+    fn roll_back(&mut self, alloc: Global, session: &mut Session) -> Result<Copies, Memory>
+        ensures answer { IfOk result (λ copies. copies ≡ copies_of (effect self.old session.old DriverCall.Rollback).answer) }
+        ensures store { OnOk result (self.new ≡ (effect self.old session.old DriverCall.Rollback).store) }
+        ensures session { OnOk result (session.new ≡ (effect self.old session.old DriverCall.Rollback).session) }
+        ensures store_stays { OnErr result (self.new ≡ self.old) }
+        ensures session_stays { OnErr result (session.new ≡ session.old) }
+    {
+        if session.in_transaction() {
+            self.take_back(session)
+        } else {
+            Copies::of_failure(alloc, NO_TRANSACTION)
+        }
+    }
+
+    /// Takes back what the session wrote in its open transaction, if there is one, and ends it.
+    fn take_back(&mut self, session: &mut Session) -> Result<Copies, Memory>
+        ensures answer { IfOk result (λ copies. copies ≡ copies_of (taken_back self.old session.old).answer) }
+        ensures store { OnOk result (self.new ≡ (taken_back self.old session.old).store) }
+        ensures session { OnOk result (session.new ≡ (taken_back self.old session.old).session) }
+        ensures store_stays { OnErr result (self.new ≡ self.old) }
+        ensures session_stays { OnErr result (session.new ≡ session.old) }
+    {
+        let copies = Copies::of(DriverAnswer::Done)?;
+        if let Some(notes) = session.notes() {
+            *self = self.before(notes)?;
+        }
+        session.forget();
+        Ok(copies)
     }
 }
 
-/// The answer to a query of a text that was prepared.
-fn query_prepared(alloc: Global, text: &str) -> Result<Copies, Memory>
-    ensures { IfOk result (λ copies. copies ≡ copies_of (queried (statement_of text.now))) }
+/// Shows what a query found by a cursor, or answers why there is none.
+fn show(alloc: Global, session: &mut Session, found: Found) -> Result<Copies, Memory>
+    ensures answer { IfOk result (λ copies. copies ≡ copies_of (shown session.old found).1) }
+    ensures session { OnOk result (session.new ≡ (shown session.old found).0) }
+    ensures stays { OnErr result (session.new ≡ session.old) }
 {
-    match Statement::parse(text) {
-        Some(statement) if !statement.is_query() => Copies::of_failure(alloc, NOT_A_QUERY),
-        _ => Copies::of_failure(alloc, NO_SUCH_STATEMENT),
+    match found {
+        Found::Rows { shape, entries } => session.open(alloc, shape, entries),
+        Found::Refused(answer) => Copies::of(answer),
     }
 }
 

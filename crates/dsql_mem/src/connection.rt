@@ -1,7 +1,7 @@
 ghost use Rattle.std.specs.Prelude.{◌≡◌, ◌≤◌, true, false, IfOk, OnOk, OnErr};
 ghost use Rattle.dsql_driver.specs.Fits.{is_memory};
 ghost use Rattle.dsql_mem.specs.Effect.{effect};
-ghost use Rattle.dsql_mem.specs.Session.{IsReadyFor};
+ghost use Rattle.dsql_mem.specs.Session.{IsSound};
 ghost use Rattle.dsql_mem.specs.Wire.{new_wire, after_call, faults_after, CarriesOut};
 
 use crate::copies::Copies;
@@ -47,14 +47,22 @@ impl Connection {
         })
     }
 
+    /// The numbers of its session are in order, as its callers learn by this.
+    fn vouch(&self)
+        ensures { IsSound self.now.session }
+    {
+        self.session.vouch();
+    }
+
     /// Carries out a call on a store, and answers Memory where memory is wanting.
     pub(crate) fn answer(&mut self, alloc: Global, store: &mut Store, call: &DriverCall) -> Answered
         ensures copied { result.copy ≡ result.answer }
         ensures carried_out { is_memory result.answer ≡ false → CarriesOut store.old call.now result.answer self.old self.new }
-        ensures ready { is_memory result.answer ≡ false → IsReadyFor call.now self.old.session }
+        ensures sound { IsSound self.old.session }
         ensures stays { is_memory result.answer ≡ true → self.new ≡ self.old }
         ensures counted { self.old.faults ≤ self.new.faults }
     {
+        self.vouch();
         match self.hear(alloc, store, call) {
             Ok(answered) => answered,
             Err(Memory) => Answered {
@@ -74,7 +82,6 @@ impl Connection {
         ensures answer { IfOk result (λ answered. answered.answer ≡ (effect store.old self.old.session call.now).answer) }
         ensures copied { IfOk result (λ answered. answered.copy ≡ answered.answer) }
         ensures ok { OnOk result (self.new ≡ after_call store.old self.old call.now) }
-        ensures ready { OnOk result (IsReadyFor call.now self.old.session) }
         ensures err { OnErr result (self.new ≡ self.old) }
         ensures counted { self.old.faults ≤ self.new.faults }
     {

@@ -1,101 +1,140 @@
-ghost use Rattle.std.specs.Prelude.{◌≡◌, IfOk, OnOk, OnErr};
-ghost use Rattle.dsql_mem.specs.Copies.{copies_of};
-ghost use Rattle.dsql_mem.specs.Effect.{carried_out, executed, executed_prepared, executed_text};
+ghost use Rattle.std.specs.Prelude.{◌≡◌, IfOk};
+ghost use Rattle.dsql_mem.specs.Effect.{commanded, executed, executed_prepared, executed_text, executed_in};
 ghost use Rattle.dsql_mem.specs.Spelled.{spelled};
 ghost use Rattle.dsql_mem.specs.Statement.{statement_of};
 
-use crate::copies::Copies;
-use crate::failures::{KEY_IS_NOT_TEXT, NO_SUCH_STATEMENT, NOT_A_COMMAND, WRONG_ARGUMENTS};
+use crate::failures::{
+    KEY_IS_NOT_TEXT, NO_SUCH_HANDLE, NO_SUCH_STATEMENT, NOT_A_COMMAND, WRONG_ARGUMENTS,
+};
 use crate::filled::{key_for, left_after, value_for};
+use crate::session::Session;
 use crate::statement::Statement;
 use crate::store::Store;
-use dsql_driver::DriverAnswer;
-use dsql_value::{Memory, Param};
+use dsql_driver::{DriverAnswer, Input};
+use dsql_value::{Memory, Param, Txt, Value};
 use std::alloc::Global;
 
-impl Store {
-    /// Executes a text that came without parameters. One with inputs has to be prepared first.
-    pub(crate) fn execute_text(&mut self, alloc: Global, text: &str) -> Result<Copies, Memory>
-        ensures answer { IfOk result (λ copies. copies ≡ copies_of (executed_text self.old (statement_of text.now)).1) }
-        ensures store { OnOk result (self.new ≡ (executed_text self.old (statement_of text.now)).0) }
-        ensures stays { OnErr result (self.new ≡ self.old) }
+/// What a command comes to: a write, or an answer that says why there is none.
+#[derive(Debug, Drop)]
+pub(crate) enum Outcome {
+    /// The key gets the value, or goes where there is none. So many entries are affected.
+    Write {
+        key: Txt,
+        value: Option<Value>,
+        affected: i64,
+    },
+    Refused(DriverAnswer),
+}
+
+impl Outcome {
+    /// The refusal of a command that failed, with this text.
+    pub(crate) fn failure(alloc: Global, text: &str) -> Result<Outcome, Memory>
+        ensures { IfOk result (λ outcome. outcome ≡ Outcome.Refused (DriverAnswer.Fail text.now)) }
     {
-        match Statement::parse(text) {
-            None => Copies::of_failure(alloc, NO_SUCH_STATEMENT),
-            Some(statement) if statement.inputs() > 0 => Copies::of(DriverAnswer::Skip),
-            Some(statement) => self.execute(alloc, &statement, &[]),
+        let text = Txt::copy_of(alloc, text)?;
+        Ok(Outcome::Refused(DriverAnswer::Fail(text)))
+    }
+}
+
+impl Store {
+    /// What a command comes to in a session.
+    pub(crate) fn execute(
+        &self,
+        alloc: Global,
+        session: &Session,
+        input: &Input,
+        params: &[Param],
+    ) -> Result<Outcome, Memory>
+        ensures { IfOk result (λ outcome. outcome ≡ executed_in self.now session.now input.now params.now) }
+    {
+        match input {
+            Input::Text(_) if !params.is_empty() => Ok(Outcome::Refused(DriverAnswer::Skip)),
+            Input::Text(text) => self.execute_text(alloc, text.as_str()),
+            Input::Handle(handle) => match session.text(*handle) {
+                Some(text) => self.execute_prepared(alloc, text, params),
+                None => Outcome::failure(alloc, NO_SUCH_HANDLE),
+            },
         }
     }
 
-    /// Executes a text that was prepared.
-    pub(crate) fn execute_prepared(
-        &mut self,
+    /// What a text comes to that came without parameters. One with inputs has to be prepared first.
+    fn execute_text(&self, alloc: Global, text: &str) -> Result<Outcome, Memory>
+        ensures { IfOk result (λ outcome. outcome ≡ executed_text self.now (statement_of text.now)) }
+    {
+        match Statement::parse(text) {
+            None => Outcome::failure(alloc, NO_SUCH_STATEMENT),
+            Some(statement) if statement.inputs() > 0 => Ok(Outcome::Refused(DriverAnswer::Skip)),
+            Some(statement) => self.command(alloc, &statement, &[]),
+        }
+    }
+
+    /// What a text comes to that was prepared.
+    fn execute_prepared(
+        &self,
         alloc: Global,
         text: &str,
         params: &[Param],
-    ) -> Result<Copies, Memory>
-        ensures answer { IfOk result (λ copies. copies ≡ copies_of (executed_prepared self.old (statement_of text.now) params.now).1) }
-        ensures store { OnOk result (self.new ≡ (executed_prepared self.old (statement_of text.now) params.now).0) }
-        ensures stays { OnErr result (self.new ≡ self.old) }
+    ) -> Result<Outcome, Memory>
+        ensures { IfOk result (λ outcome. outcome ≡ executed_prepared self.now (statement_of text.now) params.now) }
     {
         match Statement::parse(text) {
-            None => Copies::of_failure(alloc, NO_SUCH_STATEMENT),
-            Some(statement) => self.execute(alloc, &statement, params),
+            None => Outcome::failure(alloc, NO_SUCH_STATEMENT),
+            Some(statement) => self.command(alloc, &statement, params),
         }
     }
 
-    /// Executes a statement, if it is a command and has as many inputs as there are parameters.
-    fn execute(
-        &mut self,
+    /// What a statement comes to, if it is a command and has as many inputs as there are parameters.
+    fn command(
+        &self,
         alloc: Global,
         statement: &Statement<'_>,
         params: &[Param],
-    ) -> Result<Copies, Memory>
-        ensures answer { IfOk result (λ copies. copies ≡ copies_of (executed self.old (spelled statement.now) params.now).1) }
-        ensures store { OnOk result (self.new ≡ (executed self.old (spelled statement.now) params.now).0) }
-        ensures stays { OnErr result (self.new ≡ self.old) }
+    ) -> Result<Outcome, Memory>
+        ensures { IfOk result (λ outcome. outcome ≡ executed self.now (spelled statement.now) params.now) }
     {
         if statement.is_query() {
-            return Copies::of_failure(alloc, NOT_A_COMMAND);
+            return Outcome::failure(alloc, NOT_A_COMMAND);
         }
         if params.len() != usize::from(statement.inputs()) {
-            return Copies::of_failure(alloc, WRONG_ARGUMENTS);
+            return Outcome::failure(alloc, WRONG_ARGUMENTS);
         }
-        self.carry_out(alloc, statement, params)
+        self.outcome_of(alloc, statement, params)
     }
 
-    /// Carries out a command with as many parameters as it has inputs.
-    fn carry_out(
-        &mut self,
+    /// What a command comes to with as many parameters as it has inputs.
+    fn outcome_of(
+        &self,
         alloc: Global,
         statement: &Statement<'_>,
         params: &[Param],
-    ) -> Result<Copies, Memory>
-        ensures answer { IfOk result (λ copies. copies ≡ copies_of (carried_out self.old (spelled statement.now) params.now).1) }
-        ensures store { OnOk result (self.new ≡ (carried_out self.old (spelled statement.now) params.now).0) }
-        ensures stays { OnErr result (self.new ≡ self.old) }
+    ) -> Result<Outcome, Memory>
+        ensures { IfOk result (λ outcome. outcome ≡ commanded self.now (spelled statement.now) params.now) }
     {
         match statement {
             Statement::Set { key, value } => {
                 let Some(name) = key_for(key, params) else {
-                    return Copies::of_failure(alloc, KEY_IS_NOT_TEXT);
+                    return Outcome::failure(alloc, KEY_IS_NOT_TEXT);
                 };
                 let value = value_for(alloc, value, left_after(key, params))?;
-                self.set(alloc, name, value)
+                Ok(Outcome::Write {
+                    key: Txt::copy_of(alloc, name)?,
+                    value: Some(value),
+                    affected: 1,
+                })
             }
             Statement::Add { key, value } => {
                 let Some(name) = key_for(key, params) else {
-                    return Copies::of_failure(alloc, KEY_IS_NOT_TEXT);
+                    return Outcome::failure(alloc, KEY_IS_NOT_TEXT);
                 };
                 let value = value_for(alloc, value, left_after(key, params))?;
                 self.add(alloc, name, &value)
             }
             Statement::Del { key } => match key_for(key, params) {
-                Some(name) => self.delete(name),
-                None => Copies::of_failure(alloc, KEY_IS_NOT_TEXT),
+                Some(name) => self.delete(alloc, name),
+                None => Outcome::failure(alloc, KEY_IS_NOT_TEXT),
             },
             Statement::Get { .. } | Statement::ListKeys { .. } => {
-                Copies::of_failure(alloc, NOT_A_COMMAND)
+                Outcome::failure(alloc, NOT_A_COMMAND)
             }
         }
     }

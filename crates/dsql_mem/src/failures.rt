@@ -16,6 +16,8 @@ pub(crate) const NOT_A_NUMBER: &str = "mem: not a number";
 
 pub(crate) const OUT_OF_RANGE: &str = "mem: out of range";
 
+pub(crate) const IN_TRANSACTION: &str = "mem: in transaction";
+
 pub(crate) const NO_TRANSACTION: &str = "mem: no transaction";
 
 pub(crate) const NUMBERS_SPENT: &str = "mem: numbers spent";

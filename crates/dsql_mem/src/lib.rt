@@ -5,11 +5,15 @@
 mod apply;
 mod connection;
 mod copies;
+mod cursor;
 mod execute;
 mod failures;
 mod filled;
 mod fleet;
+pub mod laws;
+mod note;
 mod number;
+mod query;
 mod roll;
 mod session;
 mod statement;

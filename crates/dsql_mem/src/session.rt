@@ -1,13 +1,19 @@
-ghost use Rattle.std.specs.Prelude.{◌≡◌};
-ghost use Rattle.dsql_mem.specs.Session.{without_handle};
+ghost use Rattle.std.specs.Prelude.{◌≡◌, ◌==◌};
+ghost use Rattle.std.specs.List.{position};
+ghost use Rattle.dsql_mem.specs.Cursor.{with_advanced};
+ghost use Rattle.dsql_mem.specs.Session.{without_handle, without_cursor};
 
 use crate::copies::Copies;
+use crate::cursor::{Cursor, Entry, Shape};
 use crate::failures::{NO_SUCH_HANDLE, NO_SUCH_STATEMENT, NUMBERS_SPENT};
+use crate::note::Note;
 use crate::statement::Statement;
 use dsql_driver::DriverAnswer;
-use dsql_value::{Memory, Txt};
+use dsql_value::{Items, Memory, Txt};
 use std::alloc::Global;
 use std::marker::Model;
+
+mod transaction;
 
 /// A statement that was prepared, with its handle.
 #[derive(Debug, Drop)]
@@ -16,31 +22,35 @@ pub(crate) struct Prepared {
     text: Txt,
 }
 
-/// What the driver keeps for one connection: the statements that are prepared on it, by handles that are
-/// numbered from 1. No number is given twice.
+/// What the driver keeps for one connection: the statements that are prepared on it, by their handles, and
+/// the cursors that are open on it. Both are numbered from 1, and no number is given twice. In a transaction
+/// also what it wrote over.
 #[derive(Debug, Drop)]
 pub struct Session {
     statements: Vec<Prepared>,
     last_handle: u32,
+    cursors: Vec<Cursor>,
+    last_cursor: u32,
+    undo: Option<Vec<Note>>,
 }
 
 impl Model for Session {
-    ghost use Rattle.std.specs.Prelude.{◌≡◌, true};
-    ghost use Rattle.dsql_mem.specs.Session.{SessionState, are_within};
+    ghost use Rattle.std.specs.Prelude.{option_map, reverse};
+    ghost use Rattle.dsql_mem.specs.Session.{SessionState, AreSound};
 
     ghost Value = { SessionState };
 
-    ghost view = { λ s. record { statements = s.statements.items; last_handle = s.last_handle } };
+    ghost view = { λ s. record { statements = s.statements.items; last_handle = s.last_handle; cursors = s.cursors.items; last_cursor = s.last_cursor; undo = option_map (λ notes. reverse notes.items) s.undo } };
 
-    ghost invariant = { λ s. are_within s.last_handle s.statements.items ≡ true };
+    ghost invariant = { λ s. AreSound s.last_handle s.statements.items s.last_cursor s.cursors.items };
 }
 
 impl Session {
-    ghost use Rattle.std.specs.Prelude.{◌+◌, false, IfOk, OnOk, OnErr, option_map};
+    ghost use Rattle.std.specs.Prelude.{IfOk, OnOk, OnErr, option_map};
+    ghost use Rattle.std.specs.Option.{option_copied};
     ghost use Rattle.dsql_mem.specs.Copies.{copies_of};
-    ghost use Rattle.dsql_mem.specs.Effect.{prepared, closed};
-    ghost use Rattle.dsql_driver.specs.Wires.{has_number};
-    ghost use Rattle.dsql_mem.specs.Session.{new_session, is_live, text_of, handles_of};
+    ghost use Rattle.dsql_mem.specs.Effect.{prepared, closed, opened, next_taken, rows_closed};
+    ghost use Rattle.dsql_mem.specs.Session.{IsSound, new_session, is_live, is_open, text_of, cursor_of};
     ghost use Rattle.dsql_mem.specs.Statement.{statement_of};
 
     /// The session of a new connection.
@@ -50,7 +60,17 @@ impl Session {
         Session {
             statements: Vec::new(alloc),
             last_handle: 0,
+            cursors: Vec::new(alloc),
+            last_cursor: 0,
+            undo: None,
         }
+    }
+
+    /// Its numbers are in order, as its callers learn by this.
+    pub(crate) fn vouch(&self)
+        ensures { IsSound self.now }
+    {
+        let _last = self.last_handle;
     }
 
     /// The text of the statement with this handle, if the handle is live.
@@ -68,11 +88,24 @@ impl Session {
         self.statements.iter().any(|s| s.handle == handle)
     }
 
+    /// The cursor of this number, if it is live.
+    fn cursor(&self, rows: u32) -> Option<&Cursor>
+        ensures { option_copied result ≡ cursor_of rows self.now }
+    {
+        self.cursors.iter().find(|c| c.number() == rows)
+    }
+
+    /// Whether the cursor is live.
+    fn is_open(&self, rows: u32) -> bool
+        ensures { result ≡ is_open rows self.now }
+    {
+        self.cursors.iter().any(|c| c.number() == rows)
+    }
+
     /// Prepares a text: gives it the next handle.
     pub(crate) fn prepare(&mut self, alloc: Global, text: &Txt) -> Result<Copies, Memory>
         ensures answer { IfOk result (λ copies. copies ≡ copies_of (prepared self.old text.now (statement_of text.now)).1) }
         ensures session { OnOk result (self.new ≡ (prepared self.old text.now (statement_of text.now)).0) }
-        ensures free { has_number (self.old.last_handle + 1) (handles_of self.old) ≡ false }
         ensures stays { OnErr result (self.new ≡ self.old) }
     {
         let last = self.last_handle;
@@ -106,6 +139,84 @@ impl Session {
         take_out(&mut self.statements, handle);
         Ok(copies)
     }
+
+    /// Opens a cursor: gives it the next number.
+    pub(crate) fn open(
+        &mut self,
+        alloc: Global,
+        shape: Shape,
+        entries: Items<Entry>,
+    ) -> Result<Copies, Memory>
+        ensures answer { IfOk result (λ copies. copies ≡ copies_of (opened self.old shape entries).1) }
+        ensures session { OnOk result (self.new ≡ (opened self.old shape entries).0) }
+        ensures stays { OnErr result (self.new ≡ self.old) }
+    {
+        let last = self.last_cursor;
+        if last == u32::MAX {
+            return Copies::of_failure(alloc, NUMBERS_SPENT);
+        }
+        let rows = last + 1;
+        let columns = shape.columns(alloc)?;
+        let copies = Copies::of(DriverAnswer::Cursor { rows, columns })?;
+        self.cursors.push(Cursor::new(rows, shape, entries))?;
+        self.last_cursor = rows;
+        Ok(copies)
+    }
+
+    /// Takes a cursor's next row.
+    pub(crate) fn take_row(&mut self, alloc: Global, rows: u32) -> Result<Copies, Memory>
+        ensures answer { IfOk result (λ copies. copies ≡ copies_of (next_taken self.old rows).1) }
+        ensures session { OnOk result (self.new ≡ (next_taken self.old rows).0) }
+        ensures stays { OnErr result (self.new ≡ self.old) }
+    {
+        let Some(cursor) = self.cursor(rows) else {
+            return Copies::of_failure(alloc, NO_SUCH_HANDLE);
+        };
+        let Some(row) = cursor.next_row(alloc)? else {
+            return Copies::of(DriverAnswer::End);
+        };
+        let copies = Copies::of(DriverAnswer::Row(row))?;
+        advance(&mut self.cursors, rows);
+        Ok(copies)
+    }
+
+    /// Closes a cursor.
+    pub(crate) fn close_rows(&mut self, alloc: Global, rows: u32) -> Result<Copies, Memory>
+        ensures answer { IfOk result (λ copies. copies ≡ copies_of (rows_closed self.old rows).1) }
+        ensures session { OnOk result (self.new ≡ (rows_closed self.old rows).0) }
+        ensures stays { OnErr result (self.new ≡ self.old) }
+    {
+        if !self.is_open(rows) {
+            return Copies::of_failure(alloc, NO_SUCH_HANDLE);
+        }
+        let copies = Copies::of(DriverAnswer::Done)?;
+        take_out_cursor(&mut self.cursors, rows);
+        Ok(copies)
+    }
+}
+
+/// Where a cursor stands.
+fn place_of(cursors: &[Cursor], rows: u32) -> Option<usize>
+    ensures { result ≡ position (λ c. c.number == rows) cursors.now }
+{
+    cursors.iter().position(|c| c.number() == rows)
+}
+
+/// Goes on behind the next row of a cursor.
+fn advance(cursors: &mut Vec<Cursor>, rows: u32)
+    ensures { cursors.new.items ≡ with_advanced rows cursors.old.items }
+{
+    if let Some(at) = place_of(cursors, rows) {
+        let cursor = &mut cursors[at];
+        cursor.advance();
+    }
+}
+
+/// Takes a cursor out.
+fn take_out_cursor(cursors: &mut Vec<Cursor>, rows: u32)
+    ensures { cursors.new.items ≡ without_cursor rows cursors.old.items }
+{
+    cursors.retain(|c| c.number() != rows);
 }
 
 /// Takes a handle's statement out.
@@ -127,6 +238,9 @@ mod tests {
         let mut session = Session {
             statements: Vec::new(alloc),
             last_handle: u32::MAX,
+            cursors: Vec::new(alloc),
+            last_cursor: u32::MAX,
+            undo: None,
         };
         let copies = session.prepare(alloc, &text)?;
         assert!(rt;

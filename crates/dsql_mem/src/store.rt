@@ -1,13 +1,15 @@
-ghost use Rattle.std.specs.Prelude.{◌≡◌, [], IfOk, OnOk, OnErr};
+ghost use Rattle.std.specs.Prelude.{◌≡◌, nat_eq, [], reverse, IfOk, OnOk, OnErr};
+ghost use Rattle.std.specs.List.{starts_with};
 ghost use Rattle.std.specs.Option.{option_copied};
-ghost use Rattle.dsql_mem.specs.Copies.{copies_of};
-ghost use Rattle.dsql_mem.specs.Effect.{set_to, added, deleted};
-ghost use Rattle.dsql_mem.specs.Entries.{value_at};
+ghost use Rattle.dsql_mem.specs.Effect.{added, deleted};
+ghost use Rattle.dsql_mem.specs.Entries.{value_at, entry_at, listed, with_value, without_key, with_state, AreAscending};
+ghost use Rattle.dsql_mem.specs.Undo.{rolled_back};
 
-use crate::copies::Copies;
+use crate::cursor::Entry;
+use crate::execute::Outcome;
 use crate::failures::{NOT_A_NUMBER, OUT_OF_RANGE};
-use dsql_driver::DriverAnswer;
-use dsql_value::{Memory, Value};
+use crate::note::Note;
+use dsql_value::{Items, Memory, Txt, Value};
 use std::alloc::Global;
 use std::collections::BTreeMap;
 use std::marker::Model;
@@ -37,6 +39,13 @@ impl Store {
         }
     }
 
+    /// Its keys ascend, as its callers learn by this.
+    pub fn vouch(&self)
+        ensures { AreAscending self.now }
+    {
+        let _count = self.values.len();
+    }
+
     /// The value of a key, if it has one.
     pub fn get(&self, key: &str) -> Option<&Value>
         ensures { option_copied result ≡ value_at key.now self.now }
@@ -44,50 +53,134 @@ impl Store {
         self.values.get(key)
     }
 
-    /// Gives the key this value.
-    pub(crate) fn set(&mut self, alloc: Global, key: &str, value: Value) -> Result<Copies, Memory>
-        ensures answer { IfOk result (λ copies. copies ≡ copies_of (set_to self.old key.now value).1) }
-        ensures store { OnOk result (self.new ≡ (set_to self.old key.now value).0) }
-        ensures stays { OnErr result (self.new ≡ self.old) }
+    /// The entry of a key, if it has one.
+    pub(crate) fn entry(&self, alloc: Global, key: &str) -> Result<Items<Entry>, Memory>
+        ensures { IfOk result (λ entries. entries ≡ entry_at key.now self.now) }
     {
-        let copies = Copies::of(DriverAnswer::Result {
-            last: 0,
-            affected: 1,
-        })?;
-        let key = String::from_str(alloc, key)?;
-        self.values.insert(key, value)?;
-        Ok(copies)
+        match self.get(key) {
+            Some(value) => {
+                let entry = (Txt::copy_of(alloc, key)?, value.clone()?);
+                Ok(Items::new(vec![in alloc; entry]?))
+            }
+            None => Ok(Items::none(alloc)),
+        }
     }
 
-    /// Adds a number to the key's, which is 0 where the key isn't there.
-    pub(crate) fn add(&mut self, alloc: Global, key: &str, value: &Value) -> Result<Copies, Memory>
-        ensures answer { IfOk result (λ copies. copies ≡ copies_of (added self.old key.now value.now).1) }
-        ensures store { OnOk result (self.new ≡ (added self.old key.now value.now).0) }
-        ensures stays { OnErr result (self.new ≡ self.old) }
+    /// The entries whose keys begin with a prefix, in the byte order of the keys.
+    pub(crate) fn list(&self, alloc: Global, prefix: &str) -> Result<Items<Entry>, Memory>
+        ensures { IfOk result (λ entries. entries ≡ listed prefix.now self.now) }
+    {
+        let mut entries = Vec::new(alloc);
+        for (key, value) in &self.values {
+            if begins_with(key.as_str(), prefix) {
+                entries.push((Txt::copy_of(alloc, key.as_str())?, value.clone()?))?;
+            }
+        }
+        Ok(Items::new(entries))
+    }
+
+    /// What comes of adding a number to a key's, which is 0 where the key isn't there.
+    pub(crate) fn add(&self, alloc: Global, key: &str, value: &Value) -> Result<Outcome, Memory>
+        ensures { IfOk result (λ outcome. outcome ≡ added self.now key.now value.now) }
     {
         let Value::Int(by) = value else {
-            return Copies::of_failure(alloc, NOT_A_NUMBER);
+            return Outcome::failure(alloc, NOT_A_NUMBER);
         };
         let number = match self.get(key) {
             None => 0,
             Some(Value::Int(number)) => *number,
-            Some(_) => return Copies::of_failure(alloc, NOT_A_NUMBER),
+            Some(_) => return Outcome::failure(alloc, NOT_A_NUMBER),
         };
         match number.checked_add(*by) {
-            Some(sum) => self.set(alloc, key, Value::Int(sum)),
-            None => Copies::of_failure(alloc, OUT_OF_RANGE),
+            Some(sum) => Ok(Outcome::Write {
+                key: Txt::copy_of(alloc, key)?,
+                value: Some(Value::Int(sum)),
+                affected: 1,
+            }),
+            None => Outcome::failure(alloc, OUT_OF_RANGE),
         }
     }
 
-    /// Takes the key out.
-    pub(crate) fn delete(&mut self, key: &str) -> Result<Copies, Memory>
-        ensures answer { IfOk result (λ copies. copies ≡ copies_of (deleted self.old key.now).1) }
-        ensures store { OnOk result (self.new ≡ (deleted self.old key.now).0) }
-        ensures stays { OnErr result (self.new ≡ self.old) }
+    /// What comes of taking a key out.
+    pub(crate) fn delete(&self, alloc: Global, key: &str) -> Result<Outcome, Memory>
+        ensures { IfOk result (λ outcome. outcome ≡ deleted self.now key.now) }
     {
         let affected = if self.get(key).is_some() { 1 } else { 0 };
-        let copies = Copies::of(DriverAnswer::Result { last: 0, affected })?;
-        self.values.remove(key);
-        Ok(copies)
+        Ok(Outcome::Write {
+            key: Txt::copy_of(alloc, key)?,
+            value: None,
+            affected,
+        })
     }
+
+    /// A copy of the value of a key, if it has one.
+    pub(crate) fn value(&self, key: &str) -> Result<Option<Value>, Memory>
+        ensures { IfOk result (λ value. value ≡ value_at key.now self.now) }
+    {
+        match self.get(key) {
+            Some(value) => Ok(Some(value.clone()?)),
+            None => Ok(None),
+        }
+    }
+
+    /// Gives the key this value, or takes it out where there is none.
+    pub(crate) fn write(&mut self, key: Txt, value: Option<Value>) -> Result<(), Memory>
+        ensures ok { OnOk result (self.new ≡ with_state key value self.old) }
+        ensures err { OnErr result (self.new ≡ self.old) }
+    {
+        match value {
+            Some(value) => self.set(key, value),
+            None => {
+                self.remove(key.as_str());
+                Ok(())
+            }
+        }
+    }
+
+    /// Gives the key this value.
+    fn set(&mut self, key: Txt, value: Value) -> Result<(), Memory>
+        ensures ok { OnOk result (self.new ≡ with_value key value self.old) }
+        ensures err { OnErr result (self.new ≡ self.old) }
+    {
+        self.values.insert(key.into_string(), value)?;
+        Ok(())
+    }
+
+    /// Takes the key out.
+    fn remove(&mut self, key: &str)
+        ensures { self.new ≡ without_key key.now self.old }
+    {
+        self.values.remove(key);
+    }
+
+    /// The store as it was before the writes that were noted, the oldest note first. This is a new one,
+    /// so that this one stays as it is where memory is wanting.
+    pub(crate) fn before(&self, notes: &[Note]) -> Result<Store, Memory>
+        ensures { IfOk result (λ store. store ≡ rolled_back (reverse notes.now) self.now) }
+    {
+        let mut restored = self.copy()?;
+        let mut left = notes;
+        while let Some((newest, older)) = left.split_last() {
+            let key = newest.key.copy()?;
+            let value = newest.value.clone()?;
+            restored.write(key, value)?;
+            left = older;
+        }
+        Ok(restored)
+    }
+
+    /// Another store with the same values.
+    fn copy(&self) -> Result<Store, Memory>
+        ensures { IfOk result (λ store. store ≡ self.now) }
+    {
+        let values = self.values.clone()?;
+        Ok(Store { values })
+    }
+}
+
+/// Whether a text begins with a prefix.
+fn begins_with(text: &str, prefix: &str) -> bool
+    ensures { result ≡ starts_with nat_eq text.now prefix.now }
+{
+    text.starts_with(prefix)
 }

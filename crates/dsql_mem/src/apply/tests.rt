@@ -1,4 +1,5 @@
 use super::*;
+use dsql_driver::{Input, Level};
 use dsql_value::{Items, Param, Txt, Value};
 use std::test::Fail;
 
@@ -21,6 +22,11 @@ fn answer(
 fn exec_text(alloc: Global, text: &str) -> Result<DriverCall, Memory> {
     let text = Txt::copy_of(alloc, text)?;
     Ok(DriverCall::Exec(Input::Text(text), Items::none(alloc)))
+}
+
+fn query_text(alloc: Global, text: &str) -> Result<DriverCall, Memory> {
+    let text = Txt::copy_of(alloc, text)?;
+    Ok(DriverCall::Query(Input::Text(text), Items::none(alloc)))
 }
 
 fn prepare(alloc: Global, text: &str) -> Result<DriverCall, Memory> {
@@ -126,13 +132,7 @@ fn handles_are_answered_by_the_table(rt: HostRuntime) -> Result<(), Fail> {
         (exec(alloc, 2, Vec::new(alloc))?, "mem: not a command"),
         (DriverCall::CloseStmt(1), "Done"),
         (DriverCall::CloseStmt(1), "mem: no such handle"),
-        (
-            DriverCall::Query(
-                Input::Text(Txt::copy_of(alloc, "DEL a")?),
-                Items::none(alloc),
-            ),
-            "mem: not a query",
-        ),
+        (query_text(alloc, "DEL a")?, "mem: not a query"),
         (DriverCall::Commit, "mem: no transaction"),
         (DriverCall::Next(1), "mem: no such handle"),
     ] {
@@ -141,5 +141,76 @@ fn handles_are_answered_by_the_table(rt: HostRuntime) -> Result<(), Fail> {
     }
     let found = store.get("a");
     assert!(rt; matches!(found, Some(Value::Bool(true))));
+    Ok(())
+}
+
+/// The keys and numbers that a list shows, on a session of its own.
+fn listed(store: &mut Store, alloc: Global, prefix: &str) -> Result<String, Memory> {
+    let mut session = Session::new(alloc);
+    let mut report = String::new(alloc);
+    let list = format!(in alloc; "LIST {prefix}")?;
+    let query = query_text(alloc, list.as_str())?;
+    answer(store, &mut session, alloc, &query)?;
+    for _ in 0..100 {
+        let answered = store.apply(alloc, &mut session, &DriverCall::Next(1));
+        let DriverAnswer::Row(row) = &answered.answer else {
+            return Ok(report);
+        };
+        let [Value::Text(key), Value::Int(number)] = row.as_slice() else {
+            return Ok(report);
+        };
+        let line = format!(in alloc; "{}={number} ", key.as_str())?;
+        report.push_str(line.as_str())?;
+    }
+    Ok(report)
+}
+
+/// Executes texts on a session, and then makes a call.
+fn run(
+    store: &mut Store,
+    session: &mut Session,
+    alloc: Global,
+    texts: &[&str],
+    call: &DriverCall,
+) -> Result<String, Memory> {
+    for text in texts {
+        let exec = exec_text(alloc, text)?;
+        answer(store, session, alloc, &exec)?;
+    }
+    answer(store, session, alloc, call)
+}
+
+#[test]
+fn a_rollback_takes_back_its_own_session(rt: HostRuntime) -> Result<(), Fail> {
+    let alloc = rt.alloc();
+    let mut store = Store::new(alloc);
+    let mut first = Session::new(alloc);
+    let mut second = Session::new(alloc);
+    let begin = DriverCall::Begin {
+        level: Level::Default,
+        read_only: false,
+    };
+    let texts = ["SET k2 7", "SET k1 1", "SET m 2"];
+    let done = run(&mut store, &mut first, alloc, &texts, &begin)?;
+    assert_eq!(rt; done.as_str(), "Done");
+    let done = run(&mut store, &mut second, alloc, &[], &begin)?;
+    assert_eq!(rt; done.as_str(), "Done");
+    let texts = ["SET k1 2", "ADD k1 1", "DEL k2", "SET k3 3"];
+    let again = run(&mut store, &mut first, alloc, &texts, &begin)?;
+    assert_eq!(rt; again.as_str(), "mem: in transaction");
+    run(
+        &mut store,
+        &mut second,
+        alloc,
+        &["SET k4 4"],
+        &DriverCall::Ping,
+    )?;
+    assert_eq!(rt; listed(&mut store, alloc, "k")?.as_str(), "k1=3 k3=3 k4=4 ");
+    run(&mut store, &mut first, alloc, &[], &DriverCall::Rollback)?;
+    assert_eq!(rt; listed(&mut store, alloc, "k")?.as_str(), "k1=1 k2=7 k4=4 ");
+    run(&mut store, &mut second, alloc, &[], &DriverCall::Commit)?;
+    let outside = run(&mut store, &mut second, alloc, &[], &DriverCall::Rollback)?;
+    assert_eq!(rt; outside.as_str(), "mem: no transaction");
+    assert_eq!(rt; listed(&mut store, alloc, "k4")?.as_str(), "k4=4 ");
     Ok(())
 }

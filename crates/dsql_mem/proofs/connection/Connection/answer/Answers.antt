@@ -6,5 +6,5 @@ use Rattle.dsql_mem.proofs.connection.Connection.answer.Goals as goal
 
 pub returns-in-Ok-clause-stays : goal.returns-in-Ok-clause-stays
 returns-in-Ok-clause-stays c = λ memory.
-    let law = effect-IsLawful c.args.store.now c.args.self.now.session c.args.call.now c.in-Ok.ensures.ready in
+    let law = effect-IsLawful c.args.store.now c.args.self.now.session c.args.call.now c.vouch.ensures in
     absurd (false≢true (sym law.answered ∙ sym (ap is_memory c.in-Ok.ensures.answer) ∙ memory))

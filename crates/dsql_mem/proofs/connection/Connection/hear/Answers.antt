@@ -1,9 +1,14 @@
 use Rattle.std.proofs.Common.{◌≡◌, [], ◌∷◌, ◌++◌, sym, ap, ◌∙◌, rules}
 use Rattle.dsql_mem.specs.Effect.{effect}
-use Rattle.dsql_mem.specs.Wire.{after_call, faults_after}
+use Rattle.dsql_mem.specs.Wire.{WireState, after_call, faults_after}
 use Rattle.dsql_mem.specs.declared.copies.Copies.{Copies}
 use Rattle.dsql_mem.proofs.WireLemmas.{changed_by_parts}
 use Rattle.dsql_mem.proofs.connection.Connection.hear.Goals as goal
+
+pub returns-clause-answer : goal.returns-clause-answer
+returns-clause-answer c =
+    ap (λ (k : Copies). k.answer) c.in_ok-answer.ensures.answer
+    ∙ ap (λ (w : WireState). (effect c.args.store.now w.session c.args.call.now).answer) c.self.view_is
 
 pub returns-clause-ok : goal.returns-clause-ok
 returns-clause-ok c =

@@ -1,0 +1,37 @@
+-- What holds of transactions and of lists, whatever is called.
+use Rattle.std.specs.Prelude.{◌≡◌, ℕ, nat_eq, Bool, true, false, List, [], ◌∷◌, None, is_some, if◌then◌else◌}
+use Rattle.std.specs.List.{list_all, starts_with}
+use Rattle.dsql_driver.specs.declared.call.DriverCall.{DriverCall}
+use Rattle.dsql_driver.specs.declared.call.DriverCall.TheVariants.{Reset, Begin, Commit, Rollback, Shut}
+use Rattle.dsql_driver.specs.declared.call.Level.{Level}
+use Rattle.dsql_mem.specs.Effect.{effect}
+use Rattle.dsql_mem.specs.Entries.{Entries, AreAscending, value_at, listed}
+use Rattle.dsql_mem.specs.Session.{SessionState}
+
+-- the call neither begins a transaction nor ends one
+abbrev pub leaves_transaction : DriverCall → Bool
+leaves_transaction Reset = false
+leaves_transaction (Begin level read_only) = false
+leaves_transaction Commit = false
+leaves_transaction Rollback = false
+leaves_transaction Shut = false
+leaves_transaction _ = true
+
+-- the map and a session after calls of that session alone, one after the other
+abbrev pub after_calls : Entries → SessionState → List DriverCall → Entries × SessionState
+after_calls store session [] = (store, session)
+after_calls store session (call ∷ calls) =
+    let after = effect store session call in after_calls after.store after.session calls
+
+-- A Rollback restores at each key what was there at the Begin, whatever the session has called since, if no other one wrote.
+abbrev pub RollbackRestores : Type 0
+RollbackRestores = (store : Entries) (session : SessionState) (level : Level) (read_only : Bool) (calls : List DriverCall) (key : List ℕ) → AreAscending store → is_some session.undo ≡ false → list_all leaves_transaction calls ≡ true →
+    let begun = effect store session (Begin level read_only) in
+    let done = after_calls begun.store begun.session calls in
+    value_at key (effect done.0 done.1 Rollback).store ≡ value_at key store
+
+-- A list has just the keys that begin with the prefix, with their values, and they ascend: so each stands there once.
+pub record ListsPrefix : Type 0 where
+  pub values : (prefix : List ℕ) (store : Entries) (key : List ℕ) →
+      value_at key (listed prefix store) ≡ (if starts_with nat_eq key prefix then value_at key store else None)
+  pub ascending : (prefix : List ℕ) (store : Entries) → AreAscending store → AreAscending (listed prefix store)
