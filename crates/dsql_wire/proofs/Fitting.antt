@@ -1,11 +1,10 @@
 -- An answer that a wire gives fits at its place in the journal that agrees with it.
-use Rattle.std.proofs.Common.{◌≡◌, ℕ, Bool, true, false, not, ◌&&◌, ◌||◌, ◌==◌, Option, Some, None, List, [], ◌∷◌, length, refl, sym, ◌∙◌, ap}
-use Rattle.std.specs.List.{filter, list_all}
+use Rattle.std.proofs.Common.{◌≡◌, ℕ, true, false, not, Option, Some, None, List, [], ◌∷◌, length, refl, ◌∙◌, ap}
+use Rattle.std.specs.List.{list_all}
 use Rattle.dsql_driver.specs.declared.call.DriverCall.{DriverCall}
-use Rattle.dsql_driver.specs.declared.call.DriverCall.TheVariants.{Prepare, CloseStmt, Exec, Query, Next, CloseRows}
-use Rattle.dsql_driver.specs.declared.call.Input.TheVariants.{Text, Handle}
+use Rattle.dsql_driver.specs.declared.call.DriverCall.TheVariants.{Next, CloseRows}
 use Rattle.dsql_driver.specs.declared.answer.DriverAnswer.{DriverAnswer}
-use Rattle.dsql_driver.specs.declared.answer.DriverAnswer.TheVariants.{Done, Prepared, Result, Cursor, Row, End, Invalid, Skip, Bad, Fail, Memory}
+use Rattle.dsql_driver.specs.declared.answer.DriverAnswer.TheVariants.{Prepared, Cursor, Row}
 use Rattle.dsql_driver.specs.Fits.{fits_of, is_memory}
 use Rattle.dsql_driver.specs.Wires as wires
 use Rattle.dsql_driver.specs.Wires.{Told, KeepsHandles, KeepsCursors}

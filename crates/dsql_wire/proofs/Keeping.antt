@@ -1,14 +1,14 @@
 -- A wire and its journal agree after one call more.
-use Rattle.std.proofs.Common.{◌≡◌, ℕ, Bool, true, false, cond, not, ◌&&◌, ◌||◌, ◌==◌, ◌++◌, Option, Some, None, List, [], ◌∷◌, length, inl, inr, refl, sym, ◌∙◌, ap}
+use Rattle.std.proofs.Common.{◌≡◌, ℕ, Bool, true, false, cond, not, ◌&&◌, ◌||◌, ◌==◌, ◌++◌, Option, Some, None, List, [], ◌∷◌, length, inl, inr, refl, ◌∙◌, ap}
 use Rattle.std.specs.Prelude.{option_map, IfSome}
-use Rattle.std.specs.List.{filter, list_any, list_all}
+use Rattle.std.specs.List.{filter}
 use Rattle.std.proofs.lemmas.Bool.Decides.{nat_tests}
 use Rattle.std.proofs.lemmas.Map.Views.{any-filter_same}
 use native.Mathlib.Omega.{arith}
 use Rattle.dsql_driver.specs.declared.call.DriverCall.{DriverCall}
-use Rattle.dsql_driver.specs.declared.call.DriverCall.TheVariants.{Prepare, CloseStmt, Exec, Query, Next, CloseRows}
+use Rattle.dsql_driver.specs.declared.call.DriverCall.TheVariants.{Prepare, CloseStmt, Query, Next, CloseRows}
 use Rattle.dsql_driver.specs.declared.answer.DriverAnswer.{DriverAnswer}
-use Rattle.dsql_driver.specs.declared.answer.DriverAnswer.TheVariants.{Done, Prepared, Result, Cursor, Row, End, Invalid, Skip, Bad, Fail, Memory}
+use Rattle.dsql_driver.specs.declared.answer.DriverAnswer.TheVariants.{Prepared, Cursor, Row, Memory}
 use Rattle.dsql_driver.specs.Fits.{is_memory}
 use Rattle.dsql_driver.specs.Wires as wires
 use Rattle.dsql_driver.specs.Wires.{Told, has_number, told_after, KeepsHandles, KeepsCursors}
@@ -22,7 +22,6 @@ use Rattle.dsql_journal.specs.declared.entry.Permit.{Permit}
 use Rattle.dsql_wire.proofs.Answered.{Makes, makes}
 use Rattle.dsql_wire.specs.Told.{told_of}
 use Rattle.dsql_wire.specs.Journaled.{Agrees, has_handles, has_cursor, has_cursors}
-use Rattle.dsql_wire.proofs.Lists.{differs}
 
 same_number : (n : ℕ) → (n == n) ≡ true
 same_number n = grind (arith, nat_tests)

@@ -22,7 +22,7 @@ use Rattle.dsql_journal.specs.Facts.{MayFollow}
 use Rattle.dsql_journal.specs.Journal.{may_follow}
 use Rattle.dsql_journal.specs.HandlesAndCursors.{fits_at_its_place}
 use Rattle.dsql_journal.specs.Permits.{entry_of}
-use Rattle.dsql_journal.proofs.Conjunctions.{parts2, parts5, join2, join5}
+use Rattle.dsql_journal.proofs.Conjunctions.{parts2, parts5, join2}
 use Rattle.dsql_journal.proofs.Sentences.{MayFollow-of}
 use Rattle.dsql_tenure.specs.Beginnings.{is_beginning_of, IsBeginningOf}
 use Rattle.dsql_tenure.specs.Judged.{Judged, MaySend, answered}

@@ -1,9 +1,8 @@
 //! Journaled wires over a driver that counts.
-ghost use Rattle.std.specs.Prelude.{◌≡◌, [], None, Some};
-ghost use Rattle.dsql_driver.specs.declared.answer.DriverAnswer.TheVariants.{Done, Memory as NoMemory};
+ghost use Rattle.std.specs.Prelude.{[], None, Some};
 
-use crate::{JournaledWire, Opened, Retired, WireFault, connect};
-use dsql_driver::{Answered, Caps, DriverAnswer, DriverCall, Fleet, Level, Planned, Refused, Wire};
+use crate::{Heard, JournaledWire, Opened, Retired, WireFault, connect};
+use dsql_driver::{Answered, Caps, DriverAnswer, DriverCall, Fleet, Planned, Refused, Wire};
 use dsql_journal::{Owner, Permit};
 use dsql_value::Memory;
 use std::test::Fail;
@@ -146,12 +145,11 @@ fn a_wire_notes_what_it_hears(rt: HostRuntime) -> Result<(), Fail> {
     assert!(rt; wire.plan(3, Planned::Bad).is_ok());
     assert!(rt; wire.perform(by_house(1, 3, DriverCall::Shut)).is_ok());
     assert_eq!(rt; wire.journal().len(), 3);
-    let retired = wire.retire();
     let Retired {
         number,
         journal,
         wire,
-    } = retired;
+    } = wire.retire();
     assert_eq!(rt; number, 1);
     assert!(rt;
         matches!(journal.as_slice().last(), Some(entry) if matches!(entry.call, DriverCall::Shut))
@@ -197,20 +195,33 @@ fn want_of_memory_in_the_driver_is_not_noted(rt: HostRuntime) -> Result<(), Fail
     Ok(())
 }
 
+/// What was heard of a connection, whose wire is let go.
+fn heard_of(opened: Opened<CountingWire>) -> Heard {
+    let Opened { wire, heard } = opened;
+    match wire {
+        Some(wire) => {
+            let Retired {
+                number: _,
+                journal: _,
+                wire: _,
+            } = wire.retire();
+        }
+        None => {}
+    }
+    heard
+}
+
 #[test]
 fn only_a_connect_opens(rt: HostRuntime) -> Result<(), Fail> {
     let mut fleet = CountingFleet::new(true);
-    let stray = connect(rt.alloc(), &mut fleet, by_house(1, 1, DriverCall::Shut));
+    let shut = by_house(1, 1, DriverCall::Shut);
+    let stray = connect(rt.alloc(), &mut fleet, shut).map(heard_of);
     assert!(rt;
         matches!(&stray, Err(WireFault::Stray(permit)) if matches!(permit.call, DriverCall::Shut))
     );
     assert_eq!(rt; fleet.connects, 0);
     let permit = by_house(1, 1, DriverCall::Connect);
-    let Opened { wire, heard } = connect(rt.alloc(), &mut fleet, permit)?;
-    match wire {
-        Some(_) => unreachable!(),
-        None => {}
-    }
+    let heard = heard_of(connect(rt.alloc(), &mut fleet, permit)?);
     assert!(rt; matches!(heard.into_entry().answer, DriverAnswer::Bad));
     assert_eq!(rt; fleet.connects, 1);
     Ok(())

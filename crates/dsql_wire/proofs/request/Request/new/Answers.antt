@@ -1,7 +1,5 @@
-use Rattle.std.proofs.Common.{◌≡◌, true, false, sym, ◌∙◌, subst}
+use Rattle.std.proofs.Common.{◌≡◌, true, false, ◌∙◌}
 use native.Mathlib.Omega.{arith}
-use Rattle.dsql_tenure.specs.Judged.{Judged, MaySend}
-use Rattle.dsql_wire.specs.Journaled.{MayBeSent}
 use Rattle.dsql_wire.proofs.Opens.{may_begin, no_begin}
 use Rattle.dsql_wire.proofs.request.Request.new.Goals as goal
 

@@ -1,5 +1,4 @@
-use Rattle.std.proofs.Common.{◌≡◌, ◌∷◌, [], true, refl, sym, ◌∙◌, ap, subst}
-use Rattle.dsql_driver.specs.declared.answer.DriverAnswer.{DriverAnswer}
+use Rattle.std.proofs.Common.{◌≡◌, ◌∷◌, [], refl, ◌∙◌, ap}
 use Rattle.dsql_driver.specs.declared.answer.DriverAnswer.TheVariants.{Done}
 use Rattle.dsql_journal.specs.declared.entry.Permit.{Permit}
 use Rattle.dsql_tenure.specs.Judged.{answered}

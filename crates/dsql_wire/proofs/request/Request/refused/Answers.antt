@@ -1,9 +1,6 @@
-use Rattle.std.proofs.Common.{◌≡◌, Some, refl, sym, ◌∙◌, ap}
-use Rattle.dsql_driver.specs.declared.answer.DriverAnswer.{DriverAnswer}
-use Rattle.dsql_journal.specs.declared.entry.Entry.{Entry}
+use Rattle.std.proofs.Common.{Some, sym, ◌∙◌, ap}
 use Rattle.dsql_journal.specs.declared.entry.Permit.{Permit}
 use Rattle.dsql_tenure.specs.Judged.{answered}
-use Rattle.dsql_wire.specs.Opening.{refusal}
 use Rattle.dsql_wire.proofs.Answered.{makes, by_its_own}
 use Rattle.dsql_wire.proofs.Opens.{fits_refused}
 use Rattle.dsql_wire.proofs.request.Request.refused.Goals as goal

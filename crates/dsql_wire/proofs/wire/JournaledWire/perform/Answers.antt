@@ -3,8 +3,6 @@ use native.Mathlib.Omega.{arith}
 use Rattle.dsql_driver.specs.Fits.{is_memory, is_fault}
 use Rattle.dsql_driver.specs.Streams.{HasRisen}
 use Rattle.dsql_driver.specs.Wires.{told_after}
-use Rattle.dsql_driver.specs.declared.answer.DriverAnswer.{DriverAnswer}
-use Rattle.dsql_journal.specs.declared.entry.Entry.{Entry}
 use Rattle.dsql_journal.specs.HandlesAndCursors.{fits_at_its_place}
 use Rattle.dsql_tenure.specs.Beginnings.{IsBeginningOf}
 use Rattle.dsql_tenure.specs.Judged.{answered}
