@@ -5,6 +5,7 @@ use crate::{Heard, JournaledWire, Opened, Retired, WireFault, connect};
 use dsql_driver::{Answered, Caps, DriverAnswer, DriverCall, Fleet, Planned, Refused, Wire};
 use dsql_journal::{Owner, Permit};
 use dsql_value::Memory;
+use std::alloc::Global;
 use std::test::Fail;
 
 /// A wire that counts its calls. It knows Ping and Shut, and has no memory for other calls.
@@ -126,11 +127,69 @@ fn by_call(conn: u32, call_no: u32, call: DriverCall) -> Permit {
     }
 }
 
-/// Connection 1 of a fleet that doesn't refuse.
-fn open(rt: &HostRuntime) -> Result<JournaledWire<CountingWire>, Fail> {
+/// What became of a permit.
+#[derive(Clone, Copy, Debug, PartialEq, Eq)]
+enum Outcome {
+    Done,
+    Refused,
+    /// The permit of this connection was handed back, and the driver wasn't called.
+    Stray(u32),
+    Memory,
+}
+
+fn outcome_of(performed: Result<Heard, WireFault>) -> Outcome {
+    match performed {
+        Ok(heard) => match heard.into_entry().answer {
+            DriverAnswer::Done => Outcome::Done,
+            _ => Outcome::Refused,
+        },
+        Err(WireFault::Stray(permit)) => Outcome::Stray(permit.conn),
+        Err(WireFault::Memory(_)) => Outcome::Memory,
+    }
+}
+
+/// What a wire left: its connection's number, how many entries, and how many calls the driver heard.
+#[derive(Clone, Copy, Debug, PartialEq, Eq)]
+struct Left {
+    number: u32,
+    entries: usize,
+    calls: u32,
+}
+
+fn close(wire: JournaledWire<CountingWire>) -> Left {
+    let Retired {
+        number,
+        journal,
+        wire,
+    } = wire.retire();
+    Left {
+        number,
+        entries: journal.len(),
+        calls: wire.calls,
+    }
+}
+
+/// Asks for connection 1, and lets it go.
+fn ask(fleet: &mut CountingFleet, alloc: Global, permit: Permit) -> Outcome {
+    match connect(alloc, fleet, permit) {
+        Ok(Opened { wire, heard }) => {
+            match wire {
+                Some(wire) => {
+                    let _left = close(wire);
+                }
+                None => {}
+            }
+            outcome_of(Ok(heard))
+        }
+        Err(fault) => outcome_of(Err(fault)),
+    }
+}
+
+/// Connection 1.
+fn open(alloc: Global) -> Result<JournaledWire<CountingWire>, Fail> {
     let mut fleet = CountingFleet::new(false);
     let permit = by_house(1, 1, DriverCall::Connect);
-    let Opened { wire, heard: _ } = connect(rt.alloc(), &mut fleet, permit)?;
+    let Opened { wire, heard: _ } = connect(alloc, &mut fleet, permit)?;
     match wire {
         Some(wire) => Ok(wire),
         None => Err(Fail::new("it was refused")),
@@ -139,90 +198,72 @@ fn open(rt: &HostRuntime) -> Result<JournaledWire<CountingWire>, Fail> {
 
 #[test]
 fn a_wire_notes_what_it_hears(rt: HostRuntime) -> Result<(), Fail> {
-    let mut wire = open(&rt)?;
-    let heard = wire.perform(by_call(1, 1, DriverCall::Ping));
-    assert!(rt; matches!(&heard, Ok(heard) if matches!(heard.entry().answer, DriverAnswer::Done)));
-    assert!(rt; wire.plan(3, Planned::Bad).is_ok());
-    assert!(rt; wire.perform(by_house(1, 3, DriverCall::Shut)).is_ok());
-    assert_eq!(rt; wire.journal().len(), 3);
-    let Retired {
-        number,
-        journal,
-        wire,
-    } = wire.retire();
-    assert_eq!(rt; number, 1);
-    assert!(rt;
-        matches!(journal.as_slice().last(), Some(entry) if matches!(entry.call, DriverCall::Shut))
+    let mut wire = open(rt.alloc())?;
+    let ping = outcome_of(wire.perform(by_call(1, 1, DriverCall::Ping)));
+    let planned = wire.plan(3, Planned::Bad);
+    let shut = outcome_of(wire.perform(by_house(1, 3, DriverCall::Shut)));
+    let last = matches!(wire.journal().last(), Some(entry) if entry.tenure == 3);
+    let left = close(wire);
+    assert_eq!(rt; ping, Outcome::Done);
+    assert_eq!(rt; planned, Ok(()));
+    assert_eq!(rt; shut, Outcome::Done);
+    assert!(rt; last);
+    assert_eq!(rt;
+        left,
+        Left {
+            number: 1,
+            entries: 3,
+            calls: 2
+        }
     );
-    assert_eq!(rt; wire.calls, 2);
     Ok(())
 }
 
 #[test]
 fn a_stray_permit_does_not_reach_the_driver(rt: HostRuntime) -> Result<(), Fail> {
-    let mut wire = open(&rt)?;
-    let after_valid = by_call(1, 1, DriverCall::Commit);
-    let stray = wire.perform(after_valid);
-    assert!(rt;
-        matches!(&stray, Err(WireFault::Stray(permit)) if matches!(permit.call, DriverCall::Commit))
+    let mut wire = open(rt.alloc())?;
+    let stray = outcome_of(wire.perform(by_call(1, 1, DriverCall::Commit)));
+    let other = outcome_of(wire.perform(by_call(2, 1, DriverCall::Ping)));
+    let left = close(wire);
+    assert_eq!(rt; stray, Outcome::Stray(1));
+    assert_eq!(rt; other, Outcome::Stray(2));
+    assert_eq!(rt;
+        left,
+        Left {
+            number: 1,
+            entries: 1,
+            calls: 0
+        }
     );
-    let other = wire.perform(by_call(2, 1, DriverCall::Ping));
-    assert!(rt; matches!(&other, Err(WireFault::Stray(permit)) if permit.conn == 2));
-    let Retired {
-        number: _,
-        journal,
-        wire,
-    } = wire.retire();
-    assert_eq!(rt; journal.len(), 1);
-    assert_eq!(rt; wire.calls, 0);
     Ok(())
 }
 
 #[test]
 fn want_of_memory_in_the_driver_is_not_noted(rt: HostRuntime) -> Result<(), Fail> {
-    let mut wire = open(&rt)?;
-    let wanting = wire.perform(by_call(1, 1, DriverCall::Reset));
-    assert!(rt;
-        matches!(&wanting, Err(WireFault::Memory(permit)) if matches!(permit.call, DriverCall::Reset))
-    );
-    let Retired {
-        number: _,
-        journal,
-        wire,
-    } = wire.retire();
-    assert_eq!(rt; journal.len(), 1);
-    assert_eq!(rt; wire.calls, 1);
-    Ok(())
-}
-
-/// What was heard of a connection, whose wire is let go.
-fn heard_of(opened: Opened<CountingWire>) -> Heard {
-    let Opened { wire, heard } = opened;
-    match wire {
-        Some(wire) => {
-            let Retired {
-                number: _,
-                journal: _,
-                wire: _,
-            } = wire.retire();
+    let mut wire = open(rt.alloc())?;
+    let wanting = outcome_of(wire.perform(by_call(1, 1, DriverCall::Reset)));
+    let left = close(wire);
+    assert_eq!(rt; wanting, Outcome::Memory);
+    assert_eq!(rt;
+        left,
+        Left {
+            number: 1,
+            entries: 1,
+            calls: 1
         }
-        None => {}
-    }
-    heard
+    );
+    Ok(())
 }
 
 #[test]
-fn only_a_connect_opens(rt: HostRuntime) -> Result<(), Fail> {
+fn only_a_connect_opens(rt: HostRuntime) {
     let mut fleet = CountingFleet::new(true);
     let shut = by_house(1, 1, DriverCall::Shut);
-    let stray = connect(rt.alloc(), &mut fleet, shut).map(heard_of);
-    assert!(rt;
-        matches!(&stray, Err(WireFault::Stray(permit)) if matches!(permit.call, DriverCall::Shut))
-    );
+    let stray = ask(&mut fleet, rt.alloc(), shut);
+    assert_eq!(rt; stray, Outcome::Stray(1));
     assert_eq!(rt; fleet.connects, 0);
     let permit = by_house(1, 1, DriverCall::Connect);
-    let heard = heard_of(connect(rt.alloc(), &mut fleet, permit)?);
-    assert!(rt; matches!(heard.into_entry().answer, DriverAnswer::Bad));
+    let refused = ask(&mut fleet, rt.alloc(), permit);
+    assert_eq!(rt; refused, Outcome::Refused);
     assert_eq!(rt; fleet.connects, 1);
-    Ok(())
 }
