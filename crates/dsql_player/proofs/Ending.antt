@@ -21,11 +21,12 @@ use Rattle.dsql_history.proofs.Rows.{both, within_rows, same_or_not, same_to_its
 use Rattle.dsql_history.proofs.SoundSets.{sound_sets}
 use Rattle.dsql_history.proofs.SoundCalls.{sound_calls}
 use Rattle.dsql_engine.specs.Groups.{after_end, closings}
-use Rattle.dsql_player.specs.Told.{told_of, gone_told}
+use Rattle.dsql_player.specs.Told.{gone_told}
 use Rattle.dsql_player.specs.Turns.{Turns}
 use Rattle.dsql_player.specs.Extends.{Extends}
 use Rattle.dsql_player.specs.Entered.{entered_calls}
 use Rattle.dsql_player.specs.Carried.{Ends}
+use Rattle.dsql_wire.specs.Journaled.{Journaled}
 use Rattle.dsql_player.specs.WiresFit.{slot, has_wire, HoldsWire, WiresFit}
 use Rattle.dsql_player.proofs.Extending.{extends_same, extends_more, extends_then}
 use Rattle.dsql_player.proofs.Wiring.{place_elsewhere}
@@ -137,10 +138,10 @@ unwired past legal ended free c =
     (s.ended_none ended c)
     (none_at is_closing (places past) c refl b.0)
 
-pub bare : {W : Type 0} (heard : W → Option (List Told)) (telling : Bool) (past : List Event) (ws : List (Option W)) (c : ℕ) → has_wire (place past c) ≡ false → WiresFit heard telling past ws
+pub bare : {W : Type 0} (heard : W → Option (List Told)) (telling : Bool) (past : List Event) (ws : List (Option (Journaled W))) (c : ℕ) → has_wire (place past c) ≡ false → WiresFit heard telling past ws
     → slot ws c ≡ None
 bare heard telling past ws c no_wire fit =
-    subst (λ (b : Bool). MatchBool b (HoldsWire heard telling (told_of (journal past c)) (slot ws c)) (slot ws c ≡ None)) no_wire (fit c)
+    subst (λ (b : Bool). MatchBool b (HoldsWire heard telling c (journal past c) (slot ws c)) (slot ws c ≡ None)) no_wire (fit c)
 
 pub on_ok2 : {X E : Type 0} (r : Result X E) (P Q R : Type 0) → (P → Q → R) → OnOk r P → OnOk r Q → OnOk r R
 on_ok2 (Ok x) P Q R f p q = f p q

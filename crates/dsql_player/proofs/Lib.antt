@@ -11,3 +11,5 @@ pub mod Places
 pub mod Entering
 pub mod Ending
 pub mod Parking
+pub mod Permitting
+pub mod Answering

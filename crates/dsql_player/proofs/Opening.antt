@@ -5,7 +5,6 @@ use Rattle.std.proofs.lemmas.Bool.Decides.{nat_tests}
 use Rattle.dsql_driver.specs.Wires.{Told}
 use Rattle.dsql_driver.specs.Fits.{is_done}
 use Rattle.dsql_driver.specs.declared.answer.DriverAnswer.{DriverAnswer}
-use Rattle.dsql_driver.specs.declared.answer.DriverAnswer.TheVariants.{Done}
 use Rattle.dsql_journal.specs.declared.entry.Entry.{Entry}
 use Rattle.dsql_journal.specs.declared.entry.Owner.TheVariants.{Call}
 use Rattle.dsql_journal.specs.declared.entry.Permit.{Permit}
@@ -30,7 +29,9 @@ use Rattle.dsql_engine.specs.Awaited.{chore_due}
 use Rattle.dsql_player.specs.Told.{gone_told}
 use Rattle.dsql_player.specs.Turns.{keeps_turns}
 use Rattle.dsql_player.specs.Carried.{GoesOn, CarriesChore}
-use Rattle.dsql_player.specs.WiresFit.{slot, FitsAt, WiresFit, OpensWire}
+use Rattle.dsql_player.specs.WiresFit.{slot, HoldsWire, FitsAt, WiresFit, OpensWire}
+use Rattle.dsql_wire.specs.Journaled.{Journaled}
+use Rattle.std.specs.Prelude.{MatchBool}
 use Rattle.dsql_player.proofs.Going.{on_still, on_heard, on_move}
 use Rattle.dsql_player.proofs.Awaiting.{IsConnect, chore_turn, connect_of}
 use Rattle.dsql_player.proofs.Parking.{home_heard, home_fell, home_set, parked_on}
@@ -151,31 +152,31 @@ open_carries past c n answer b turn at none = record {
   grows = opened_grows past (connect_entry c answer) n b;
 }
 
-lent_here : {W : Type 0} (heard : W → Option (List Told)) (telling : Bool) (past : List Event) (c t n : ℕ) (wire : Option W) → journal past c ≡ [] → c < length (places past)
-    → OpensWire heard telling Done wire
-    → FitsAt heard telling (get_or (set (places past) c (Lent t (Call n))) c Nowhere) (journal (Heard (connect_entry c Done) ∷ past) c) wire
-lent_here heard telling past c t n wire none lt opens =
+lent_here : {W : Type 0} (heard : W → Option (List Told)) (telling : Bool) (past : List Event) (c t n : ℕ) (answer : DriverAnswer) (wire : Option (Journaled W)) → journal past c ≡ [] → c < length (places past)
+    → HoldsWire heard telling c (connect_entry c answer ∷ []) wire
+    → FitsAt heard telling c (get_or (set (places past) c (Lent t (Call n))) c Nowhere) (journal (Heard (connect_entry c answer) ∷ past) c) wire
+lent_here heard telling past c t n answer wire none lt opens =
     let at : get_or (set (places past) c (Lent t (Call n))) c Nowhere ≡ Lent t (Call n) = get_or-set_same (places past) c (Lent t (Call n)) Nowhere lt in
-    let j : journal (Heard (connect_entry c Done) ∷ past) c ≡ connect_entry c Done ∷ [] = journal_here past (connect_entry c Done) ∙ ap (λ k. connect_entry c Done ∷ k) none in
+    let j : journal (Heard (connect_entry c answer) ∷ past) c ≡ connect_entry c answer ∷ [] = journal_here past (connect_entry c answer) ∙ ap (λ k. connect_entry c answer ∷ k) none in
     rw (at, j) opens
 
-fallen_here : {W : Type 0} (heard : W → Option (List Told)) (telling : Bool) (ps : List Place) (c : ℕ) (J : List Entry) (wire : Option W) → wire ≡ None
-    → FitsAt heard telling (get_or (set ps c Nowhere) c Nowhere) J wire
-fallen_here heard telling ps c J wire none = subst (λ (q : Place). FitsAt heard telling q J wire) (sym (set_default ps c Nowhere)) none
+fallen_here : {W : Type 0} (heard : W → Option (List Told)) (telling : Bool) (ps : List Place) (c : ℕ) (J : List Entry) (wire : Option (Journaled W)) → wire ≡ None
+    → FitsAt heard telling c (get_or (set ps c Nowhere) c Nowhere) J wire
+fallen_here heard telling ps c J wire none = subst (λ (q : Place). FitsAt heard telling c q J wire) (sym (set_default ps c Nowhere)) none
 
 -- The wires fit once the Connect was answered.
-pub open_fits : {W : Type 0} (heard : W → Option (List Told)) (telling : Bool) (past : List Event) (c n : ℕ) (answer : DriverAnswer) (before after : List (Option W))
+opened_fits : {W : Type 0} (heard : W → Option (List Told)) (telling : Bool) (past : List Event) (c n : ℕ) (answer : DriverAnswer) (b : Bool) (before after : List (Option (Journaled W)))
     → WiresFit heard telling past before → place past c ≡ Opening n → journal past c ≡ [] → ((d : ℕ) → d ≢ c → slot after d ≡ slot before d)
-    → OpensWire heard telling answer (slot after c) → WiresFit heard telling (opened past (connect_entry c answer) n (is_done answer)) after
-open_fits heard telling past c n Done before after fit at none others opens =
-    let e : Entry = connect_entry c Done in
+    → MatchBool b (HoldsWire heard telling c (connect_entry c answer ∷ []) (slot after c)) (slot after c ≡ None) → WiresFit heard telling (opened past (connect_entry c answer) n b) after
+opened_fits heard telling past c n answer true before after fit at none others opens =
+    let e : Entry = connect_entry c answer in
     fit_but_one heard telling past (opened past e n true) before after c
     (place_elsewhere (places past) c (Lent (next_tenure past c) (Call n)))
     (journal_elsewhere past e)
     others
     fit
-    (lent_here heard telling past c (next_tenure past c) n (slot after c) none (within_places past c n at) opens)
-open_fits heard telling past c n answer before after fit at none others opens =
+    (lent_here heard telling past c (next_tenure past c) n answer (slot after c) none (within_places past c n at) opens)
+opened_fits heard telling past c n answer false before after fit at none others opens =
     let e : Entry = connect_entry c answer in
     fit_but_one heard telling past (opened past e n false) before after c
     (place_elsewhere (places past) c Nowhere)
@@ -183,3 +184,8 @@ open_fits heard telling past c n answer before after fit at none others opens =
     others
     fit
     (fallen_here heard telling (places past) c (journal (Heard e ∷ past) c) (slot after c) opens)
+
+pub open_fits : {W : Type 0} (heard : W → Option (List Told)) (telling : Bool) (past : List Event) (c n : ℕ) (answer : DriverAnswer) (before after : List (Option (Journaled W)))
+    → WiresFit heard telling past before → place past c ≡ Opening n → journal past c ≡ [] → ((d : ℕ) → d ≢ c → slot after d ≡ slot before d)
+    → OpensWire heard telling (connect_entry c answer) (slot after c) → WiresFit heard telling (opened past (connect_entry c answer) n (is_done answer)) after
+open_fits heard telling past c n answer before after fit at none others opens = opened_fits heard telling past c n answer (is_done answer) before after fit at none others opens

@@ -5,7 +5,6 @@ use Rattle.std.specs.List.{list_all}
 use Rattle.std.proofs.lemmas.List.{get_or-set_same}
 use Rattle.std.proofs.lemmas.Bool.Decides.{nat_tests}
 use Rattle.dsql_driver.specs.Wires.{Told}
-use Rattle.dsql_driver.specs.Fits.{is_memory}
 use Rattle.dsql_driver.specs.declared.call.DriverCall.{DriverCall}
 use Rattle.dsql_driver.specs.declared.answer.DriverAnswer.{DriverAnswer}
 use Rattle.dsql_journal.specs.declared.entry.Entry.{Entry}
@@ -34,7 +33,8 @@ use Rattle.dsql_engine.specs.Steps.{SendsOn, NextOfBody, NextAfterAnswer, NextAf
 use Rattle.dsql_player.specs.Told.{gone_told}
 use Rattle.dsql_player.specs.Turns.{keeps_turns, comes_first}
 use Rattle.dsql_player.specs.Carried.{GoesOn, Steps, Sends, the_call}
-use Rattle.dsql_player.specs.WiresFit.{slot, has_wire, HearsCall, KeepsFit}
+use Rattle.dsql_wire.specs.Journaled.{Journaled}
+use Rattle.dsql_player.specs.WiresFit.{slot, has_wire, HearsEntry, KeepsFit}
 use Rattle.dsql_player.specs.Asked.{Asks}
 use Rattle.dsql_player.proofs.Going.{on_still, on_heard, on_move, on_replied, client_heard}
 use Rattle.dsql_player.proofs.Wiring.{fit_heard, place_elsewhere}
@@ -193,19 +193,18 @@ within_lent past c t n at =
       | inr h ↦ let k : Nowhere ≡ Lent t (Call n) = sym h.1 ∙ at in absurd cc
     ]
 
-body_fits : {W : Type 0} (heard : W → Option (List Told)) (past : List Event) (e : Entry) (t n : ℕ) (then_due : Option DriverCall) (before after : List (Option W))
-    → place past e.conn ≡ Lent t (Call n) → is_memory e.answer ≡ false → ((c : ℕ) → c ≢ e.conn → slot after c ≡ slot before c)
-    → HearsCall heard e.call e.answer (slot before e.conn) (slot after e.conn) → KeepsFit heard past (after_body e.conn n (Heard e ∷ past) then_due) before after
-body_fits heard past e t n (Some call) before after at answered others hears =
-    fit_heard heard past (Heard e ∷ past) e before after (ap has_wire at) (ap has_wire at) (λ c m. refl) (λ c. refl) answered others hears
-body_fits heard past e t n None before after at answered others hears =
+body_fits : {W : Type 0} (heard : W → Option (List Told)) (past : List Event) (e : Entry) (t n : ℕ) (then_due : Option DriverCall) (before after : List (Option (Journaled W)))
+    → place past e.conn ≡ Lent t (Call n) → ((c : ℕ) → c ≢ e.conn → slot after c ≡ slot before c)
+    → HearsEntry heard e (slot before e.conn) (slot after e.conn) → KeepsFit heard past (after_body e.conn n (Heard e ∷ past) then_due) before after
+body_fits heard past e t n (Some call) before after at others hears =
+    fit_heard heard past (Heard e ∷ past) e before after (ap has_wire at) (ap has_wire at) (λ c m. refl) (λ c. refl) others hears
+body_fits heard past e t n None before after at others hears =
     let why = cause (Heard e ∷ past) e.conn in
     fit_heard heard past (told n (leaving e.conn why ∷ Heard e ∷ past)) e before after
     (ap has_wire at)
     (leaving_here e.conn why (Heard e ∷ past) (within_lent past e.conn t n at))
     (leaving_place e.conn why (Heard e ∷ past))
     (leaving_journal e.conn why (Heard e ∷ past))
-    answered
     others
     hears
 
@@ -215,11 +214,11 @@ sent_wired past client p s =
     let w : IsCall p.conn p (place past p.conn) = call_where past p.conn p (place past p.conn) s.due (some_number past client p s) in
     ap has_wire w.lent
 
-pub sent_fits : {W : Type 0} (heard : W → Option (List Told)) (past : List Event) (client : ℕ) (p : Permit) (next : Next) (now : List Event) (before after : List (Option W)) → Sends past client p
+pub sent_fits : {W : Type 0} (heard : W → Option (List Told)) (past : List Event) (client : ℕ) (p : Permit) (next : Next) (now : List Event) (before after : List (Option (Journaled W))) → Sends past client p
     → Asks heard p next past now before after → KeepsFit heard past now before after
 sent_fits heard past client p next now before after s a =
     let e : Entry = entry_of p a.answer in
     let w : IsCall p.conn p (place past p.conn) = call_where past p.conn p (place past p.conn) s.due (some_number past client p s) in
     let is : now ≡ after_body p.conn p.call_no (Heard e ∷ past) (due (Heard e ∷ past) p.conn w.tenure p.call_no) = a.group ∙ ap (λ q. after_answer q e (Heard e ∷ past)) w.lent in
     subst (λ (k : List Event). KeepsFit heard past k before after) (sym is)
-    (body_fits heard past e w.tenure p.call_no (due (Heard e ∷ past) p.conn w.tenure p.call_no) before after w.lent a.no_want a.others a.told)
+    (body_fits heard past e w.tenure p.call_no (due (Heard e ∷ past) p.conn w.tenure p.call_no) before after w.lent a.others a.noted)

@@ -1,11 +1,15 @@
 -- What the fleet tells of the wires that it was given back.
-use Rattle.std.proofs.Common.{◌≡◌, ℕ, true, false, List, [], ◌∷◌, ◌++◌, Option, Some, None, refl, sym, ◌∙◌, ap, append_assoc}
-use Rattle.std.specs.Prelude.{option_map, is_some}
+use Rattle.std.proofs.Common.{◌≡◌, ℕ, Bool, true, false, List, [], ◌∷◌, ◌++◌, Option, Some, None, refl, sym, ◌∙◌, ap, append_assoc}
+use Rattle.std.specs.Prelude.{option_map, is_some, IfSome}
 use Rattle.dsql_driver.specs.Wires.{Told, RetiredWire, retired_after}
 use Rattle.dsql_history.specs.declared.event.Event.{Event}
 use Rattle.dsql_player.specs.Told.{gone_told}
 use Rattle.dsql_player.specs.Carried.{Retires}
-use Rattle.dsql_player.specs.WiresFit.{HasHeard}
+
+-- a wire that tells has heard just these, and it tells where all do
+pub record HasHeard (telling : Bool) (heard : Option (List Told)) (calls : List Told) : Type 0 where
+  pub exactly : IfSome heard (λ told. told ≡ calls)
+  pub tells : telling ≡ true → is_some heard ≡ true
 
 -- nothing is gone
 pub retires_none : (before : Option (List RetiredWire)) (old new : List Event) → gone_told new ≡ gone_told old → Retires before before old new

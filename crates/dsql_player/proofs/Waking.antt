@@ -30,6 +30,7 @@ use Rattle.dsql_player.specs.WiresFit.{has_wire, KeepsFit}
 use Rattle.dsql_player.proofs.Places.{none_at_places}
 use Rattle.dsql_player.proofs.Going.{on_still, on_replied}
 use Rattle.dsql_player.proofs.Sending.{IsCall, call_lent, without_one, leaving_calls, leaving_told, leaving_on, leaving_here, leaving_place, leaving_journal, within_lent}
+use Rattle.dsql_wire.specs.Journaled.{Journaled}
 use Rattle.dsql_player.proofs.Wiring.{same_fits}
 
 -- Where the layer has no call of its own, no connection is being opened.
@@ -180,6 +181,6 @@ woken past client why next now u free on l w room =
 pub parked_found : (past : List Event) (client : ℕ) → Waits past client → IsParked past (call_of past client)
 parked_found past client u = subst (λ (k : Option ℕ). IsParked past k) (sym (call_found past client u.under_way)) u.parked
 
-pub wakes_fit : {W : Type 0} (heard : W → Option (List Told)) (past : List Event) (client : ℕ) (why : Why) (next : Next) (now : List Event) (ws : List (Option W)) → Wakes past client why next now
+pub wakes_fit : {W : Type 0} (heard : W → Option (List Told)) (past : List Event) (client : ℕ) (why : Why) (next : Next) (now : List Event) (ws : List (Option (Journaled W))) → Wakes past client why next now
     → KeepsFit heard past now ws ws
 wakes_fit heard past client why next now ws w = λ telling fit. same_fits heard telling past now ws w.places fit

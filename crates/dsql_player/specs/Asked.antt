@@ -9,13 +9,14 @@ use Rattle.dsql_history.specs.declared.event.Event.{Event}
 use Rattle.dsql_engine.specs.declared.next.Next.{Next}
 use Rattle.dsql_engine.specs.Groups.{after_heard}
 use Rattle.dsql_engine.specs.Steps.{NextAfterHeard}
-use Rattle.dsql_player.specs.WiresFit.{slot, HearsCall}
+use Rattle.dsql_wire.specs.Journaled.{Journaled}
+use Rattle.dsql_player.specs.WiresFit.{slot, HearsEntry}
 
 -- some answer was heard, by the engine as by the wire
-pub record Asks {W : Type 0} (heard : W → Option (List Told)) (permit : Permit) (next : Next) (old new : List Event) (before after : List (Option W)) : Type 0 where
+pub record Asks {W : Type 0} (heard : W → Option (List Told)) (permit : Permit) (next : Next) (old new : List Event) (before after : List (Option (Journaled W))) : Type 0 where
   pub answer : DriverAnswer
   pub no_want : is_memory answer ≡ false
   pub group : new ≡ after_heard old (entry_of permit answer)
   pub then_next : NextAfterHeard old (entry_of permit answer) next new
   pub others : (c : ℕ) → c ≢ permit.conn → slot after c ≡ slot before c
-  pub told : HearsCall heard permit.call answer (slot before permit.conn) (slot after permit.conn)
+  pub noted : HearsEntry heard (entry_of permit answer) (slot before permit.conn) (slot after permit.conn)

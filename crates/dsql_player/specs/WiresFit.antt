@@ -1,16 +1,14 @@
 -- Which connections have a wire, and what each wire has heard.
-use Rattle.std.specs.Prelude.{ℕ, ◌≡◌, Bool, true, false, List, slice_index_or, Option, Some, None, is_some, IfSome, MatchBool}
-use Rattle.dsql_driver.specs.Wires.{Told, told_after, newly_told}
-use Rattle.dsql_driver.specs.declared.call.DriverCall.{DriverCall}
-use Rattle.dsql_driver.specs.declared.answer.DriverAnswer.{DriverAnswer}
-use Rattle.dsql_driver.specs.declared.answer.DriverAnswer.TheVariants.{Done}
+use Rattle.std.specs.Prelude.{ℕ, ◌≡◌, Bool, true, false, List, [], ◌∷◌, slice_index_or, Option, Some, None, is_some, MatchBool}
+use Rattle.dsql_driver.specs.Fits.{is_done}
+use Rattle.dsql_driver.specs.Wires.{Told, told_after}
 use Rattle.dsql_journal.specs.declared.entry.Entry.{Entry}
 use Rattle.dsql_history.specs.declared.event.Event.{Event}
 use Rattle.dsql_history.specs.declared.record.Place.{Place}
 use Rattle.dsql_history.specs.declared.record.Place.TheVariants.{Idle, Lent, Closing}
 use Rattle.dsql_history.specs.Readers.Sets.{place}
 use Rattle.dsql_history.specs.Readers.Journals.{journal}
-use Rattle.dsql_player.specs.Told.{told_of}
+use Rattle.dsql_wire.specs.Journaled.{Journaled}
 
 -- the wire of connection c, if it has one
 abbrev pub slot : {W : Type 0} → List (Option W) → ℕ → Option W
@@ -23,34 +21,40 @@ has_wire (Lent tenure owner) = true
 has_wire Closing = true
 has_wire _ = false
 
--- a wire that tells has heard just these, and it tells where all do
-pub record HasHeard (telling : Bool) (heard : Option (List Told)) (calls : List Told) : Type 0 where
-  pub exactly : IfSome heard (λ told. told ≡ calls)
-  pub tells : telling ≡ true → is_some heard ≡ true
+-- a wire of connection c with just this journal, which tells where all do; what it tells is its journal then
+pub record IsWireOf {W : Type 0} (heard : W → Option (List Told)) (telling : Bool) (c : ℕ) (entries : List Entry) (wire : Journaled W) : Type 0 where
+  pub conn : wire.conn ≡ c
+  pub journal : wire.journal ≡ entries
+  pub tells : telling ≡ true → is_some (heard wire.wire) ≡ true
 
--- there is a wire, and it has heard just these
-abbrev pub HoldsWire : {W : Type 0} → (W → Option (List Told)) → Bool → List Told → Option W → Type 0
-HoldsWire heard telling calls None = ⊥
-HoldsWire heard telling calls (Some wire) = HasHeard telling (heard wire) calls
+-- there is a wire, and it is one of connection c with just this journal
+abbrev pub HoldsWire : {W : Type 0} → (W → Option (List Told)) → Bool → ℕ → List Entry → Option (Journaled W) → Type 0
+HoldsWire heard telling c entries None = ⊥
+HoldsWire heard telling c entries (Some wire) = IsWireOf heard telling c entries wire
 
--- What the slot of a connection holds: its wire, which has heard the connection's journal, or nothing.
-abbrev pub FitsAt : {W : Type 0} → (W → Option (List Told)) → Bool → Place → List Entry → Option W → Type 0
-FitsAt heard telling place journal wire = MatchBool (has_wire place) (HoldsWire heard telling (told_of journal) wire) (wire ≡ None)
+-- What the slot of connection c holds: its wire with its journal, or nothing.
+abbrev pub FitsAt : {W : Type 0} → (W → Option (List Told)) → Bool → ℕ → Place → List Entry → Option (Journaled W) → Type 0
+FitsAt heard telling c place entries wire = MatchBool (has_wire place) (HoldsWire heard telling c entries wire) (wire ≡ None)
 
--- Each connection that is idle, lent or closing has its wire, which has heard the connection's journal. No other has one.
-abbrev pub WiresFit : {W : Type 0} → (W → Option (List Told)) → Bool → List Event → List (Option W) → Type 0
-WiresFit heard telling past slots = (c : ℕ) → FitsAt heard telling (place past c) (journal past c) (slot slots c)
+-- Each connection that is idle, lent or closing has its wire, whose journal is the connection's. No other has one.
+abbrev pub WiresFit : {W : Type 0} → (W → Option (List Told)) → Bool → List Event → List (Option (Journaled W)) → Type 0
+WiresFit heard telling past slots = (c : ℕ) → FitsAt heard telling c (place past c) (journal past c) (slot slots c)
 
--- the wire in a slot hears one more call
-abbrev pub HearsCall : {W : Type 0} → (W → Option (List Told)) → DriverCall → DriverAnswer → Option W → Option W → Type 0
-HearsCall heard call answer (Some before) (Some after) = heard after ≡ told_after call answer (heard before)
-HearsCall heard call answer _ _ = ⊥
+-- a wire hears one entry more
+pub record Hears {W : Type 0} (heard : W → Option (List Told)) (e : Entry) (before after : Journaled W) : Type 0 where
+  pub conn : after.conn ≡ before.conn
+  pub journal : after.journal ≡ e ∷ before.journal
+  pub told : heard after.wire ≡ told_after e.call e.answer (heard before.wire)
 
--- where the Connect was answered Done there is a new wire, and else none
-abbrev pub OpensWire : {W : Type 0} → (W → Option (List Told)) → Bool → DriverAnswer → Option W → Type 0
-OpensWire heard telling Done wire = HoldsWire heard telling newly_told wire
-OpensWire heard telling _ wire = wire ≡ None
+-- the wire in a slot hears one entry more
+abbrev pub HearsEntry : {W : Type 0} → (W → Option (List Told)) → Entry → Option (Journaled W) → Option (Journaled W) → Type 0
+HearsEntry heard e (Some before) (Some after) = Hears heard e before after
+HearsEntry heard e _ _ = ⊥
+
+-- where the Connect was answered Done there is a new wire, whose journal is that entry, and else none
+abbrev pub OpensWire : {W : Type 0} → (W → Option (List Told)) → Bool → Entry → Option (Journaled W) → Type 0
+OpensWire heard telling e wire = MatchBool (is_done e.answer) (HoldsWire heard telling e.conn (e ∷ []) wire) (wire ≡ None)
 
 -- wires that fit the old history fit the new one afterwards, whether all tell or not
-abbrev pub KeepsFit : {W : Type 0} → (W → Option (List Told)) → List Event → List Event → List (Option W) → List (Option W) → Type 0
+abbrev pub KeepsFit : {W : Type 0} → (W → Option (List Told)) → List Event → List Event → List (Option (Journaled W)) → List (Option (Journaled W)) → Type 0
 KeepsFit heard old new before after = (telling : Bool) → WiresFit heard telling old before → WiresFit heard telling new after

@@ -1,18 +1,19 @@
-ghost use Rattle.std.specs.Prelude.{◌≡◌, ◌<◌, ◌≤◌, true, false, length, Some, IfOk, IfErr, OnOk, OnErr, IsSome};
+ghost use Rattle.std.specs.Prelude.{◌≡◌, ◌<◌, ◌≤◌, true, false, length, Some, IfOk, IfErr, OnOk, OnErr};
 ghost use Rattle.dsql_driver.specs.Fits.{fits_of, is_memory};
-ghost use Rattle.dsql_journal.specs.Permits.{entry_of};
 ghost use Rattle.dsql_history.specs.Legal.{Legal};
-ghost use Rattle.dsql_engine.specs.Awaited.{awaited};
+ghost use Rattle.dsql_history.specs.Readers.Journals.{journal};
+ghost use Rattle.dsql_engine.specs.Awaited.{awaited, permit_of};
 ghost use Rattle.dsql_engine.specs.Groups.{after_heard, most_events};
 ghost use Rattle.dsql_engine.specs.Steps.{NextAfterHeard};
 ghost use Rattle.dsql_player.specs.Asked.{Asks};
-ghost use Rattle.dsql_player.specs.WiresFit.{slot};
+ghost use Rattle.dsql_player.specs.WiresFit.{slot, HoldsWire};
 
 use crate::halt::Halt;
 use crate::wires::Wires;
-use dsql_driver::{Answered, DriverAnswer, Wire};
+use dsql_driver::Wire;
 use dsql_engine::{Engine, Next};
 use dsql_journal::Permit;
+use dsql_wire::Heard;
 
 /// Whether a step may still append events.
 pub(crate) fn check_room(engine: &Engine) -> Result<(), Halt>
@@ -28,34 +29,22 @@ pub(crate) fn check_room(engine: &Engine) -> Result<(), Halt>
     Ok(())
 }
 
-/// Brings a driver's answer to the engine.
-pub(crate) fn hear(engine: &mut Engine, permit: Permit, answered: Answered) -> Result<Next, Halt>
+/// Brings what was heard of a connection to the engine.
+pub(crate) fn hear(engine: &mut Engine, heard: Heard) -> Result<Next, Halt>
     requires legal { Legal engine.old }
     requires room { length engine.old < most_events }
-    requires awaited { awaited engine.old permit.conn ≡ Some permit }
-    requires fitting { fits_of permit.call answered.answer ≡ true }
-    requires copied { answered.copy ≡ answered.answer }
-    ensures heard { OnOk result (is_memory answered.answer ≡ false) }
-    ensures group { OnOk result
-        (engine.new ≡ after_heard engine.old (entry_of permit answered.answer)) }
-    ensures next { IfOk result
-        (λ next. NextAfterHeard engine.old (entry_of permit answered.answer) next engine.new) }
+    requires awaited { awaited engine.old heard.conn ≡ Some (permit_of heard) }
+    requires fitting { fits_of heard.call heard.answer ≡ true }
+    requires no_want { is_memory heard.answer ≡ false }
+    ensures group { OnOk result (engine.new ≡ after_heard engine.old heard) }
+    ensures next { IfOk result (λ next. NextAfterHeard engine.old heard next engine.new) }
     ensures err { OnErr result (engine.new ≡ engine.old) }
     ensures memory { IfErr result (λ halt. halt ≡ Halt.Memory) }
     ensures legal { Legal engine.new }
 {
-    let Answered { answer, copy } = answered;
-    if is_memory(&answer) {
-        return Err(Halt::Memory);
-    }
-    Ok(engine.heard(permit.answered(answer), copy)?)
-}
-
-/// Whether the driver had no memory.
-fn is_memory(answer: &DriverAnswer) -> bool
-    ensures { result ≡ is_memory answer.now }
-{
-    matches!(answer, DriverAnswer::Memory)
+    let entry = heard.into_entry();
+    let copy = entry.answer.clone()?;
+    Ok(engine.heard(entry, copy)?)
 }
 
 /// Makes a driver call on the wire of its connection, and brings the answer to the engine.
@@ -67,13 +56,14 @@ pub(crate) fn ask<W: Wire>(
     requires legal { Legal engine.old }
     requires room { length engine.old < most_events }
     requires awaited { awaited engine.old permit.conn ≡ Some permit }
-    requires wire { IsSome (slot wires.old permit.conn) }
+    requires wire { HoldsWire W.heard false permit.conn (journal engine.old permit.conn)
+        (slot wires.old permit.conn) }
     ensures asked { IfOk result
         (λ next. Asks W.heard permit next engine.old engine.new wires.old wires.new) }
     ensures err { OnErr result (engine.new ≡ engine.old) }
     ensures memory { IfErr result (λ halt. halt ≡ Halt.Memory) }
     ensures legal { Legal engine.new }
 {
-    let answered = wires.call(permit.conn, &permit.call);
-    hear(engine, permit, answered)
+    let heard = wires.perform(permit)?;
+    hear(engine, heard)
 }

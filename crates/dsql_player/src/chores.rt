@@ -1,21 +1,24 @@
 ghost use Rattle.std.specs.Prelude.{◌≡◌, ◌≢◌, ◌<◌, ◌≤◌, ℕ, true, false, length, Some, None, IfOk, IfErr, OnOk, OnErr, IsErrOf, is_some};
-ghost use Rattle.dsql_driver.specs.Fits.{fits_of, is_done};
-ghost use Rattle.dsql_driver.specs.declared.call.DriverCall.TheVariants.{Connect, Shut};
+ghost use Rattle.dsql_driver.specs.Fits.{fits_of, is_memory};
 ghost use Rattle.dsql_journal.specs.Kinds.{is_shut};
 ghost use Rattle.dsql_history.specs.Legal.{Legal};
 ghost use Rattle.dsql_history.specs.Readers.Calls.{unfinished};
 ghost use Rattle.dsql_history.specs.Rules.House.{has_no_chore};
 ghost use Rattle.dsql_engine.specs.Awaited.{awaited, chore_due};
 ghost use Rattle.dsql_engine.specs.Groups.{most_events};
+ghost use Rattle.dsql_tenure.specs.Judged.{answered};
+ghost use Rattle.dsql_wire.specs.Opening.{opens};
 ghost use Rattle.dsql_player.specs.Carried.{GoesOn, Retires, CarriesChore, CarriesFirst};
 ghost use Rattle.dsql_player.specs.WiresFit.{slot, WiresFit, OpensWire};
 
 use crate::asking::{ask, check_room, hear};
 use crate::halt::Halt;
 use crate::wires::Wires;
-use dsql_driver::{Answered, DriverAnswer, DriverCall, Fleet, Refused};
+use dsql_driver::{DriverCall, Fleet};
 use dsql_engine::{Engine, Next};
 use dsql_journal::Permit;
+use dsql_wire::{Heard, Opened, Retired, WireFault, connect};
+use std::alloc::Global;
 
 /// Carries the layer's own calls out until none is left.
 pub(crate) fn carry_chores<F: Fleet>(
@@ -125,7 +128,12 @@ fn shut<F: Fleet>(
 {
     let number = permit.conn;
     ask(engine, wires, permit)?;
-    fleet.retire(number, wires.take(number));
+    let Retired {
+        number,
+        journal: _,
+        wire,
+    } = wires.take(number).retire();
+    fleet.retire(number, wire);
     Ok(())
 }
 
@@ -153,60 +161,57 @@ fn open<F: Fleet>(
     ensures preferred { F.preferred fleet.new ≡ F.preferred fleet.old }
     ensures legal { Legal engine.new }
 {
-    let answered = connect(wires, fleet, permit.conn)?;
-    hear(engine, permit, answered)?;
+    let heard = connect_wire(wires, fleet, permit)?;
+    hear(engine, heard)?;
     Ok(())
 }
 
-/// Connects a new wire, and puts it into its slot. A refusal is an answer too.
-fn connect<F: Fleet>(
+/// Connects a new wire, and puts it into its slot, if the driver doesn't refuse.
+fn connect_wire<F: Fleet>(
     wires: &mut Wires<F::Wire>,
     fleet: &mut F,
-    number: u32,
-) -> Result<Answered, Halt>
-    requires empty { slot wires.old number ≡ None }
-    ensures copied { IfOk result (λ a. a.copy ≡ a.answer) }
-    ensures fitting { IfOk result (λ a. fits_of Connect a.answer ≡ true) }
-    ensures others { OnOk result ((c : ℕ) → c ≢ number → slot wires.new c ≡ slot wires.old c) }
+    permit: Permit,
+) -> Result<Heard, Halt>
+    requires empty { slot wires.old permit.conn ≡ None }
+    requires opens { opens permit ≡ true }
+    ensures entry { IfOk result (λ heard. heard ≡ answered permit heard.answer) }
+    ensures fits { IfOk result (λ heard. fits_of heard.call heard.answer ≡ true) }
+    ensures no_want { IfOk result (λ heard. is_memory heard.answer ≡ false) }
+    ensures others { OnOk result ((c : ℕ) → c ≢ permit.conn → slot wires.new c ≡ slot wires.old c) }
     ensures wire { IfOk result
-        (λ a. OpensWire F.Wire.heard (is_some (F.retired fleet.old)) a.answer (slot wires.new number)) }
+        (λ heard. OpensWire F.Wire.heard (is_some (F.retired fleet.old)) heard (slot wires.new permit.conn)) }
     ensures memory { IfErr result (λ halt. halt ≡ Halt.Memory) }
     ensures retired { F.retired fleet.new ≡ F.retired fleet.old }
     ensures ability { F.ability fleet.new ≡ F.ability fleet.old }
     ensures preferred { F.preferred fleet.new ≡ F.preferred fleet.old }
 {
+    let number = permit.conn;
     wires.make_room(number)?;
-    match fleet.connect(number) {
-        Ok(wire) => {
-            wires.put(number, wire);
-            Ok(Answered {
-                answer: DriverAnswer::Done,
-                copy: DriverAnswer::Done,
-            })
-        }
-        Err(refused) => refusal(refused),
-    }
+    let Opened { wire, heard } = open_wire(wires.alloc(), fleet, permit)?;
+    wires.put_any(number, wire);
+    Ok(heard)
 }
 
-/// The answer that a refusal is, twice.
-fn refusal(refused: Refused) -> Result<Answered, Halt>
-    ensures copied { IfOk result (λ a. a.copy ≡ a.answer) }
-    ensures fitting { IfOk result (λ a. fits_of Connect a.answer ≡ true) }
-    ensures refused { IfOk result (λ a. is_done a.answer ≡ false) }
+/// Asks the fleet for a connection by a permit that may open one.
+fn open_wire<F: Fleet>(
+    alloc: Global,
+    fleet: &mut F,
+    permit: Permit,
+) -> Result<Opened<F::Wire>, Halt>
+    requires { opens permit ≡ true }
+    ensures entry { IfOk result (λ opened. opened.heard ≡ answered permit opened.heard.answer) }
+    ensures fits { IfOk result (λ opened. fits_of opened.heard.call opened.heard.answer ≡ true) }
+    ensures no_want { IfOk result (λ opened. is_memory opened.heard.answer ≡ false) }
+    ensures wire { IfOk result
+        (λ opened. OpensWire F.Wire.heard (is_some (F.retired fleet.old)) opened.heard opened.wire) }
     ensures memory { IfErr result (λ halt. halt ≡ Halt.Memory) }
+    ensures retired { F.retired fleet.new ≡ F.retired fleet.old }
+    ensures ability { F.ability fleet.new ≡ F.ability fleet.old }
+    ensures preferred { F.preferred fleet.new ≡ F.preferred fleet.old }
 {
-    match refused {
-        Refused::Bad => Ok(Answered {
-            answer: DriverAnswer::Bad,
-            copy: DriverAnswer::Bad,
-        }),
-        Refused::Fail(text) => {
-            let copy = text.copy()?;
-            Ok(Answered {
-                answer: DriverAnswer::Fail(text),
-                copy: DriverAnswer::Fail(copy),
-            })
-        }
-        Refused::Memory => Err(Halt::Memory),
+    match connect(alloc, fleet, permit) {
+        Ok(opened) => Ok(opened),
+        Err(WireFault::Memory(_)) => Err(Halt::Memory),
+        Err(WireFault::Stray(_)) => unreachable!(),
     }
 }

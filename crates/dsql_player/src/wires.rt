@@ -1,31 +1,55 @@
-ghost use Rattle.std.specs.Prelude.{◌≡◌, ◌≢◌, ◌<◌, ℕ, true, Bool, List, [], ◌∷◌, length, reverse, slice_set, Option, Some, None, OnOk, IsSome};
-ghost use Rattle.dsql_driver.specs.Fits.{fits_of};
+ghost use Rattle.std.specs.Prelude.{◌≡◌, ◌≢◌, ◌<◌, ℕ, true, false, Bool, List, [], ◌∷◌, length, reverse, slice_set, Option, Some, None, IfOk, IfErr, OnOk, IsSome, IsSomeAnd};
+ghost use Rattle.dsql_driver.specs.Fits.{fits_of, is_memory};
 ghost use Rattle.dsql_driver.specs.declared.caps.Caps.{Caps};
 ghost use Rattle.dsql_history.specs.declared.event.Event.TheVariants.{Run};
+ghost use Rattle.dsql_tenure.specs.Judged.{answered};
+ghost use Rattle.dsql_wire.specs.Journaled.{MayBeSent};
 ghost use Rattle.dsql_player.specs.Told.{retired_from, retired_slot};
-ghost use Rattle.dsql_player.specs.WiresFit.{slot, WiresFit, HearsCall};
+ghost use Rattle.dsql_player.specs.WiresFit.{slot, WiresFit, Hears, HearsEntry};
 
-use dsql_driver::{Answered, DriverCall, Fleet, Wire};
+use crate::halt::Halt;
+use dsql_driver::{Fleet, Wire};
+use dsql_journal::Permit;
+use dsql_wire::{Heard, JournaledWire, Retired, WireFault};
 use std::alloc::{AllocError, Global};
 use std::marker::Model;
 
-/// The wires of a run's connections, by the connections' numbers. A wire is never dropped: it is
-/// retired. Contracts see the list of the slots.
-pub struct Wires<W> {
-    slots: Vec<Option<W>>,
+/// The wires of a run's connections with their journals, by the connections' numbers. A wire is never
+/// dropped: it is retired. Contracts see the list of the slots.
+pub struct Wires<W: Wire> {
+    alloc: Global,
+    slots: Vec<Option<JournaledWire<W>>>,
 }
 
-impl<W> Model for Wires<W> {
+impl<W: Wire> Model for Wires<W> {
     ghost use Rattle.std.specs.Prelude.{List, Option, ◌≤◌, ◌^◌, vec_len};
+    ghost use Rattle.dsql_wire.specs.Journaled.{Journaled};
 
-    ghost Value = { List (Option W) };
+    ghost Value = { List (Option (Journaled W)) };
 
     ghost view = { λ w. w.slots.items };
 
     ghost invariant = { λ w. vec_len w.slots ≤ 2 ^ 32 };
 }
 
-impl<W> Wires<W> {
+impl<W: Wire> Wires<W> {
+    /// No wires, which fits a run that has just begun. It takes no memory.
+    pub fn new(alloc: Global) -> Wires<W>
+        ensures empty { result ≡ [] }
+        ensures fitting { (telling : Bool) (version : ℕ) (caps : Caps)
+            → WiresFit W.heard telling (Run version caps ∷ []) result }
+    {
+        Wires {
+            alloc,
+            slots: Vec::new(alloc),
+        }
+    }
+
+    /// The allocator.
+    pub(crate) fn alloc(&self) -> Global {
+        self.alloc
+    }
+
     /// Makes an empty slot for this connection, where it has none.
     pub(crate) fn make_room(&mut self, number: u32) -> Result<(), AllocError>
         ensures room { OnOk result (number < length self.new) }
@@ -39,7 +63,7 @@ impl<W> Wires<W> {
     }
 
     /// Puts the wire of this connection into its slot.
-    pub(crate) fn put(&mut self, number: u32, wire: W)
+    pub(crate) fn put(&mut self, number: u32, wire: JournaledWire<W>)
         requires room { number < length self.old }
         requires empty { slot self.old number ≡ None }
         ensures { self.new ≡ slice_set self.old number (Some wire) }
@@ -50,11 +74,27 @@ impl<W> Wires<W> {
         }
     }
 
+    /// The same, if there is a wire.
+    pub(crate) fn put_any(&mut self, number: u32, wire: Option<JournaledWire<W>>)
+        requires room { number < length self.old }
+        requires empty { slot self.old number ≡ None }
+        ensures here { slot self.new number ≡ wire }
+        ensures others { (c : ℕ) → c ≢ number → slot self.new c ≡ slot self.old c }
+    {
+        match wire {
+            Some(wire) => self.put(number, wire),
+            None => {}
+        }
+    }
+
     /// Lets a table go whose wires are all gone.
     pub fn destroy(self)
         requires { (c : ℕ) → slot self c ≡ None }
     {
-        let Wires { mut slots } = self;
+        let Wires {
+            mut slots,
+            alloc: _,
+        } = self;
         while let Some(slot) = slots.pop() {
             match slot {
                 None => {}
@@ -65,40 +105,45 @@ impl<W> Wires<W> {
     }
 
     /// Takes the wire of this connection out of its slot.
-    pub(crate) fn take(&mut self, number: u32) -> W
+    pub(crate) fn take(&mut self, number: u32) -> JournaledWire<W>
         requires { IsSome (slot self.old number) }
         ensures wire { slot self.old number ≡ Some result }
         ensures after { self.new ≡ slice_set self.old number None }
     {
         self.slots[number as usize].take().unwrap()
     }
-}
 
-impl<W: Wire> Wires<W> {
-    /// No wires, which fits a run that has just begun. It takes no memory.
-    pub fn new(alloc: Global) -> Wires<W>
-        ensures empty { result ≡ [] }
-        ensures fitting { (telling : Bool) (version : ℕ) (caps : Caps)
-            → WiresFit W.heard telling (Run version caps ∷ []) result }
+    /// Makes one driver call on the wire of its connection, whose journal lets it be sent.
+    pub(crate) fn perform(&mut self, permit: Permit) -> Result<Heard, Halt>
+        requires { IsSomeAnd (slot self.old permit.conn) (λ w. MayBeSent w.conn w.journal permit) }
+        ensures entry { IfOk result (λ heard. heard ≡ answered permit heard.answer) }
+        ensures fits { IfOk result (λ heard. fits_of heard.call heard.answer ≡ true) }
+        ensures no_want { IfOk result (λ heard. is_memory heard.answer ≡ false) }
+        ensures others { (c : ℕ) → c ≢ permit.conn → slot self.new c ≡ slot self.old c }
+        ensures noted { IfOk result
+            (λ heard. HearsEntry W.heard heard (slot self.old permit.conn) (slot self.new permit.conn)) }
+        ensures memory { IfErr result (λ halt. halt ≡ Halt.Memory) }
     {
-        Wires {
-            slots: Vec::new(alloc),
-        }
-    }
-
-    /// Makes one driver call on the wire of this connection.
-    pub(crate) fn call(&mut self, number: u32, call: &DriverCall) -> Answered
-        requires { IsSome (slot self.old number) }
-        ensures copied { result.copy ≡ result.answer }
-        ensures fitting { fits_of call.now result.answer ≡ true }
-        ensures others { (c : ℕ) → c ≢ number → slot self.new c ≡ slot self.old c }
-        ensures told { HearsCall W.heard call.now result.answer
-            (slot self.old number) (slot self.new number) }
-    {
-        match &mut self.slots[number as usize] {
-            Some(wire) => wire.call(call),
+        match &mut self.slots[permit.conn as usize] {
+            Some(wire) => perform_on(wire, permit),
             None => unreachable!(),
         }
+    }
+}
+
+/// Makes one driver call on a wire whose journal lets it be sent.
+fn perform_on<W: Wire>(wire: &mut JournaledWire<W>, permit: Permit) -> Result<Heard, Halt>
+    requires { MayBeSent wire.old.conn wire.old.journal permit }
+    ensures entry { IfOk result (λ heard. heard ≡ answered permit heard.answer) }
+    ensures fits { IfOk result (λ heard. fits_of heard.call heard.answer ≡ true) }
+    ensures no_want { IfOk result (λ heard. is_memory heard.answer ≡ false) }
+    ensures noted { IfOk result (λ heard. Hears W.heard heard wire.old wire.new) }
+    ensures memory { IfErr result (λ halt. halt ≡ Halt.Memory) }
+{
+    match wire.perform(permit) {
+        Ok(heard) => Ok(heard),
+        Err(WireFault::Memory(_)) => Err(Halt::Memory),
+        Err(WireFault::Stray(_)) => unreachable!(),
     }
 }
 
@@ -109,7 +154,10 @@ pub fn retire_all<F: Fleet>(wires: Wires<F::Wire>, fleet: &mut F)
     ensures ability { F.ability fleet.new ≡ F.ability fleet.old }
     ensures preferred { F.preferred fleet.new ≡ F.preferred fleet.old }
 {
-    let Wires { mut slots } = wires;
+    let Wires {
+        mut slots,
+        alloc: _,
+    } = wires;
     while let Some(slot) = slots.pop() {
         retire_slot(slot, slots.len() as u32, fleet);
     }
@@ -117,14 +165,21 @@ pub fn retire_all<F: Fleet>(wires: Wires<F::Wire>, fleet: &mut F)
 }
 
 /// Gives the wire of this connection back, if there is one.
-fn retire_slot<F: Fleet>(slot: Option<F::Wire>, number: u32, fleet: &mut F)
+fn retire_slot<F: Fleet>(slot: Option<JournaledWire<F::Wire>>, number: u32, fleet: &mut F)
     ensures retired { F.retired fleet.new
         ≡ retired_slot F.Wire.heard number slot (F.retired fleet.old) }
     ensures ability { F.ability fleet.new ≡ F.ability fleet.old }
     ensures preferred { F.preferred fleet.new ≡ F.preferred fleet.old }
 {
     match slot {
-        Some(wire) => fleet.retire(number, wire),
+        Some(wire) => {
+            let Retired {
+                number: _,
+                journal: _,
+                wire,
+            } = wire.retire();
+            fleet.retire(number, wire);
+        }
         None => {}
     }
 }

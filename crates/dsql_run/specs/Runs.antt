@@ -13,6 +13,7 @@ use Rattle.dsql_player.specs.Entered.{entered_calls}
 use Rattle.dsql_player.specs.Extends.{Extends}
 use Rattle.dsql_player.specs.Turns.{Turns}
 use Rattle.dsql_player.specs.WiresFit.{WiresFit}
+use Rattle.dsql_wire.specs.Journaled.{Journaled}
 use Rattle.dsql_stream.specs.declared.lines.ReadFault.{ReadFault}
 use Rattle.dsql_stream.specs.declared.lines.ReadFault.TheVariants.{Failed as NoRead, Memory as NoMemory}
 use Rattle.dsql_stream.specs.Lines.{all_lines, ended_lines, ahead, TakesOff}
@@ -74,7 +75,7 @@ IsRefusal before line (Refused number fault) = (number ≡ before.lines + 1) × 
 IsRefusal before line _ = ⊥
 
 -- A run between two lines: nothing is left to be done, and each wire has heard its connection's journal.
-pub record Between {W : Type 0} (heard : W → Option (List Told)) (telling : Bool) (past : List Event) (slots : List (Option W)) : Type 0 where
+pub record Between {W : Type 0} (heard : W → Option (List Told)) (telling : Bool) (past : List Event) (slots : List (Option (Journaled W))) : Type 0 where
   pub quiet : is_quiet past ≡ true
   pub running : has_ended past ≡ false
   pub wires : WiresFit heard telling past slots

@@ -1,23 +1,40 @@
-use Rattle.std.proofs.Common.{◌≡◌}
+use Rattle.std.proofs.Common.{◌≡◌, ◌∙◌, true, refl, sym, ap, subst, is_some}
 use Rattle.dsql_driver.specs.Fits.{is_done}
+use Rattle.dsql_journal.specs.declared.entry.Entry.{Entry}
+use Rattle.dsql_journal.specs.declared.entry.Permit.{Permit}
+use Rattle.dsql_journal.specs.Permits.{entry_of}
 use Rattle.dsql_journal.specs.Entries.{connect_entry}
-use Rattle.dsql_player.proofs.Awaiting.{chore_opens}
+use Rattle.dsql_engine.specs.Groups.{after_heard}
+use Rattle.dsql_wire.specs.Opening.{opens}
+use Rattle.dsql_player.specs.WiresFit.{slot, OpensWire}
+use Rattle.dsql_player.proofs.Awaiting.{chore_opens, connect_of}
 use Rattle.dsql_player.proofs.Opening.{opened, open_is, open_turn, open_carries, open_tells, open_fits, none_before}
+use Rattle.dsql_player.proofs.Permitting.{heard_entry, heard_awaited}
 use Rattle.dsql_player.proofs.Telling.{retires_none}
 use Rattle.dsql_player.proofs.chores.open.Goals as goal
 
-pub connect-requires-clause-empty : goal.connect-requires-clause-empty
-connect-requires-clause-empty g c =
+pub connect_wire-requires-clause-empty : goal.connect_wire-requires-clause-empty
+connect_wire-requires-clause-empty g c =
     let w = chore_opens c.args.engine.now c.args.permit c.requires.due c.requires.awaited c.requires.connects in
     λ κs h. rw w.opens at (c.requires.wires c.args.permit.conn)
+
+pub connect_wire-requires-clause-opens : goal.connect_wire-requires-clause-opens
+connect_wire-requires-clause-opens g c =
+    let w = chore_opens c.args.engine.now c.args.permit c.requires.due c.requires.awaited c.requires.connects in
+    λ κs h. subst (λ (p : Permit). opens p ≡ true) (sym w.is) refl
+
+pub hear-requires-clause-awaited : goal.hear-requires-clause-awaited
+hear-requires-clause-awaited g c = heard_awaited c.args.engine.now c.args.permit c.in_ok-heard.heard c.requires.awaited c.in_ok-heard.ensures.entry
 
 pub returns-clause-carried : goal.returns-clause-carried
 returns-clause-carried g c =
     let past = c.args.engine.now in
     let p = c.args.permit in
-    let a = c.in_ok-answered.answered.answer in
+    let e = c.in_ok-heard.heard in
+    let a = e.answer in
     let w = chore_opens past p c.requires.due c.requires.awaited c.requires.connects in
-    let is : c.hear.new.engine ≡ opened past (connect_entry p.conn a) w.number (is_done a) = open_is past p a w c.hear.new.engine c.in_ok-hear.ensures.group in
+    let group : c.hear.new.engine ≡ after_heard past (entry_of p a) = c.in_ok-hear.ensures.group ∙ ap (after_heard past) (heard_entry past p e c.requires.awaited c.in_ok-heard.ensures.entry) in
+    let is : c.hear.new.engine ≡ opened past (connect_entry p.conn a) w.number (is_done a) = open_is past p a w c.hear.new.engine group in
     let none = none_before past p.conn a w.number (is_done a) (rw is at c.hear.ensures.legal.lawful) in
     rw is (open_carries past p.conn w.number a (is_done a) (open_turn past p a w c.requires.due) w.opens none)
 
@@ -25,18 +42,25 @@ pub returns-clause-gone : goal.returns-clause-gone
 returns-clause-gone g c =
     let past = c.args.engine.now in
     let p = c.args.permit in
-    let a = c.in_ok-answered.answered.answer in
+    let e = c.in_ok-heard.heard in
+    let a = e.answer in
     let w = chore_opens past p c.requires.due c.requires.awaited c.requires.connects in
-    rw (c.connect.ensures.retired, open_is past p a w c.hear.new.engine c.in_ok-hear.ensures.group)
+    let group : c.hear.new.engine ≡ after_heard past (entry_of p a) = c.in_ok-hear.ensures.group ∙ ap (after_heard past) (heard_entry past p e c.requires.awaited c.in_ok-heard.ensures.entry) in
+    rw (c.connect_wire.ensures.retired, open_is past p a w c.hear.new.engine group)
     (retires_none _ past _ (open_tells past (connect_entry p.conn a) w.number (is_done a)))
 
 pub returns-clause-wires : goal.returns-clause-wires
 returns-clause-wires g c =
     let past = c.args.engine.now in
     let p = c.args.permit in
-    let a = c.in_ok-answered.answered.answer in
+    let e = c.in_ok-heard.heard in
+    let a = e.answer in
     let w = chore_opens past p c.requires.due c.requires.awaited c.requires.connects in
-    let is : c.hear.new.engine ≡ opened past (connect_entry p.conn a) w.number (is_done a) = open_is past p a w c.hear.new.engine c.in_ok-hear.ensures.group in
+    let heard = heard_entry past p e c.requires.awaited c.in_ok-heard.ensures.entry in
+    let group : c.hear.new.engine ≡ after_heard past (entry_of p a) = c.in_ok-hear.ensures.group ∙ ap (after_heard past) heard in
+    let is : c.hear.new.engine ≡ opened past (connect_entry p.conn a) w.number (is_done a) = open_is past p a w c.hear.new.engine group in
     let none = none_before past p.conn a w.number (is_done a) (rw is at c.hear.ensures.legal.lawful) in
-    rw (c.connect.ensures.retired, is)
-    (open_fits g.F.Wire.Wire.heard _ past p.conn w.number a c.args.wires.now c.connect.new.wires c.requires.wires w.opens none c.in_ok-answered.ensures.others c.in_ok-answered.ensures.wire)
+    let opens_it : OpensWire g.F.Wire.Wire.heard (is_some (g.F.Fleet.retired c.args.fleet.now)) (connect_entry p.conn a) (slot c.connect_wire.new.wires p.conn) =
+    subst (λ (x : Entry). OpensWire g.F.Wire.Wire.heard (is_some (g.F.Fleet.retired c.args.fleet.now)) x (slot c.connect_wire.new.wires p.conn)) (heard ∙ connect_of past p a w) c.in_ok-heard.ensures.wire in
+    rw (c.connect_wire.ensures.retired, is)
+    (open_fits g.F.Wire.Wire.heard _ past p.conn w.number a c.args.wires.now c.connect_wire.new.wires c.requires.wires w.opens none c.in_ok-heard.ensures.others opens_it)

@@ -1,15 +1,23 @@
-use Rattle.std.proofs.Common.{◌≡◌, ◌∷◌, is_some}
+use Rattle.std.proofs.Common.{◌≡◌, ◌∷◌, ◌∙◌, ap, is_some}
 use Rattle.dsql_journal.specs.declared.entry.Entry.{Entry}
 use Rattle.dsql_journal.specs.Permits.{entry_of}
 use Rattle.dsql_history.specs.declared.record.Place.TheVariants.{Closing}
 use Rattle.dsql_history.specs.Readers.Sets.{place}
 use Rattle.dsql_history.specs.Readers.Journals.{journal}
-use Rattle.dsql_player.specs.Told.{told_of}
-use Rattle.dsql_player.specs.WiresFit.{HasHeard}
+use Rattle.dsql_wire.specs.Told.{told_of}
+use Rattle.dsql_player.specs.WiresFit.{has_wire, IsWireOf}
 use Rattle.dsql_player.proofs.Awaiting.{chore_turn, chore_closes}
-use Rattle.dsql_player.proofs.Shutting.{shut_group, shut_carries, shut_tells, shut_fits, shut_holds}
-use Rattle.dsql_player.proofs.Telling.{retires_one}
+use Rattle.dsql_player.proofs.Shutting.{shut_group, shut_carries, shut_tells, shut_fits, shut_holds, shut_heard}
+use Rattle.dsql_player.proofs.Telling.{HasHeard, retires_one}
+use Rattle.dsql_player.proofs.Wiring.{wired}
 use Rattle.dsql_player.proofs.chores.shut.Goals as goal
+
+pub ask-requires-clause-wire : goal.ask-requires-clause-wire
+ask-requires-clause-wire g c =
+    let past = c.args.engine.now in
+    let p = c.args.permit in
+    let at : place past p.conn ≡ Closing = chore_closes past p c.requires.due c.requires.awaited c.requires.shuts in
+    wired g.F.Wire.Wire.heard _ past c.args.wires.now p.conn (ap has_wire at) c.requires.wires
 
 pub returns-clause-carried : goal.returns-clause-carried
 returns-clause-carried g c =
@@ -27,9 +35,11 @@ returns-clause-gone g c =
     let a = c.in_ok-ask.ensures.asked in
     let e : Entry = entry_of p a.answer in
     let at : place past p.conn ≡ Closing = chore_closes past p c.requires.due c.requires.awaited c.requires.shuts in
-    let told : HasHeard (is_some (g.F.Fleet.retired c.args.fleet.now)) (g.F.Wire.Wire.heard c.take.result) (told_of (e ∷ journal past p.conn)) =
-    shut_holds g.F.Wire.Wire.heard _ past e c.args.wires.now c.ask.new.wires c.take.result c.requires.wires at a.no_want a.told c.take.ensures.wire in
-    rw (c.retire.ensures.retired, shut_group past e c.ask.new.engine a.group at)
+    let w : IsWireOf g.F.Wire.Wire.heard (is_some (g.F.Fleet.retired c.args.fleet.now)) p.conn (e ∷ journal past p.conn) c.take.result =
+    shut_holds g.F.Wire.Wire.heard _ past e c.args.wires.now c.ask.new.wires c.take.result c.requires.wires at a.noted c.take.ensures.wire in
+    let told : HasHeard (is_some (g.F.Fleet.retired c.args.fleet.now)) (g.F.Wire.Wire.heard c.take.result.wire) (told_of (e ∷ journal past p.conn)) =
+    shut_heard g.F.Wire.Wire.heard _ p.conn (e ∷ journal past p.conn) c.take.result w c.retire-number.ensures.heard in
+    rw (c.retire.ensures.retired, c.retire-number.ensures.number, c.retire-number.ensures.wire, w.conn, shut_group past e c.ask.new.engine a.group at)
     (retires_one p.conn _ (told_of (e ∷ journal past p.conn)) _ past _ told (shut_tells past e))
 
 pub returns-clause-wires : goal.returns-clause-wires

@@ -1,0 +1,27 @@
+use Rattle.std.proofs.Common.{◌≡◌, List, Option, Some, sym, subst, set}
+use Rattle.std.specs.Prelude.{IsSomeAnd}
+use Rattle.std.proofs.lemmas.Result.{IfOk-weaker}
+use Rattle.dsql_wire.specs.Journaled.{Journaled, MayBeSent}
+use Rattle.dsql_player.specs.WiresFit.{slot, HearsEntry}
+use Rattle.dsql_player.proofs.Answering.{wire_here, heard_here}
+use Rattle.dsql_player.proofs.wires.Wires.perform.Goals as goal
+
+pub perform_on-requires : goal.perform_on-requires
+perform_on-requires g c =
+    let p = c.args.permit in
+    let ws = c.self.inside.slots.items in
+    let may = λ (w : Journaled g.row.W.Denot). MayBeSent w.conn w.journal p in
+    let some : IsSomeAnd (slot ws p.conn) may = subst (λ (xs : List (Option (Journaled g.row.W.Denot))). IsSomeAnd (slot xs p.conn) may) (sym c.self.view_is) c.requires in
+    subst (λ (o : Option (Journaled g.row.W.Denot)). IsSomeAnd o may) (wire_here ws p.conn c.index_mut.result.now may c.in-Some.wire some c.index_mut.ensures.value c.in-Some.is) some
+
+pub returns-clause-noted : goal.returns-clause-noted
+returns-clause-noted g c =
+    let p = c.args.permit in
+    let ws = c.self.inside.slots.items in
+    let may = λ (w : Journaled g.row.W.Denot). MayBeSent w.conn w.journal p in
+    let some : IsSomeAnd (slot ws p.conn) may = subst (λ (xs : List (Option (Journaled g.row.W.Denot))). IsSomeAnd (slot xs p.conn) may) (sym c.self.view_is) c.requires in
+    let here : slot ws p.conn ≡ Some c.in-Some.wire = wire_here ws p.conn c.index_mut.result.now may c.in-Some.wire some c.index_mut.ensures.value c.in-Some.is in
+    IfOk-weaker c.perform_on.result _ _
+    (λ heard noted. subst (λ (xs : List (Option (Journaled g.row.W.Denot))). HearsEntry g.W.Wire.heard heard (slot xs p.conn) (slot (set ws p.conn (Some c.perform_on.new.wire)) p.conn)) c.self.view_is
+        (heard_here g.W.Wire.heard heard ws p.conn c.in-Some.wire c.perform_on.new.wire here noted))
+    c.perform_on.ensures.noted

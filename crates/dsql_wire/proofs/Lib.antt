@@ -1,0 +1,5 @@
+pub mod Answered
+pub mod Lists
+pub mod Fitting
+pub mod Keeping
+pub mod Opens

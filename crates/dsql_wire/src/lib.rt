@@ -1,0 +1,21 @@
+//! A driver's wire with its journal: a driver call is made only with leave of the journal's judge, and
+//! makes exactly one entry.
+#![tactic(auto)]
+
+mod fault;
+mod heard;
+mod journal;
+pub mod laws;
+mod opening;
+mod permit;
+mod request;
+mod wire;
+
+pub use fault::WireFault;
+pub use heard::Heard;
+pub use opening::connect;
+pub use request::Opened;
+pub use wire::{JournaledWire, Retired};
+
+#[cfg(test)]
+mod tests;

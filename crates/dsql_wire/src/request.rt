@@ -1,0 +1,125 @@
+ghost use Rattle.std.specs.Prelude.{◌≡◌, ◌∷◌, [], Some, None, true, IsSomeAnd, IfOk, IfErr, IfSome, OnOk, IsErrOf};
+ghost use Rattle.dsql_driver.specs.Wires.{newly_told};
+ghost use Rattle.dsql_journal.specs.HandlesAndCursors.{fits_at_its_place};
+ghost use Rattle.dsql_tenure.specs.Judged.{answered as entry_of};
+ghost use Rattle.dsql_wire.specs.Journaled.{MayBeSent, permit_of};
+ghost use Rattle.dsql_wire.specs.Opening.{refusal as refusal_of};
+
+use crate::fault::WireFault;
+use crate::heard::Heard;
+use crate::journal::JudgedJournal;
+use crate::permit::answered;
+use crate::wire::JournaledWire;
+use dsql_driver::{DriverAnswer, Refused, Wire};
+use dsql_journal::Permit;
+use std::alloc::Global;
+use std::marker::Model;
+
+/// A connection that was asked for, with what was heard of it. Where the driver refused there is no wire.
+pub struct Opened<W: Wire> {
+    pub wire: Option<JournaledWire<W>>,
+    pub heard: Heard,
+}
+
+/// A connection that may be asked for: its permit, twice, and its journal with room for the first entry.
+/// Contracts see the permit.
+#[derive(Drop)]
+pub(crate) struct Request {
+    permit: Permit,
+    noted: Permit,
+    journal: JudgedJournal,
+}
+
+impl Model for Request {
+    ghost use Rattle.dsql_journal.specs.declared.entry.Permit.{Permit};
+    ghost use Rattle.dsql_wire.specs.Opening.{IsReady};
+
+    ghost Value = { Permit };
+
+    ghost view = { λ r. r.permit };
+
+    ghost invariant = { λ r. IsReady r.permit r.noted r.journal };
+}
+
+impl Request {
+    /// Takes all the memory for the connection's first entry, with leave of its judge.
+    pub(crate) fn new(alloc: Global, permit: Permit) -> Result<Request, WireFault>
+        ensures permit { IfOk result (λ request. request ≡ permit) }
+        ensures ok { OnOk result (MayBeSent permit.conn [] permit) }
+        ensures handed_back { IfErr result (λ fault. permit_of fault ≡ permit) }
+        ensures stray { IsErrOf result (WireFault.Stray permit) → ¬ MayBeSent permit.conn [] permit }
+        ensures memory { IsErrOf result (WireFault.Memory permit) → MayBeSent permit.conn [] permit }
+    {
+        let mut journal = JudgedJournal::new(alloc, permit.conn);
+        if !journal.may_send(&permit) {
+            return Err(WireFault::Stray(permit));
+        }
+        match journal.make_room(&permit) {
+            Ok(noted) => Ok(Request {
+                permit,
+                noted,
+                journal,
+            }),
+            Err(_) => Err(WireFault::Memory(permit)),
+        }
+    }
+
+    /// The connection's number.
+    pub(crate) fn number(&self) -> u32
+        ensures { result ≡ self.now.conn }
+    {
+        self.permit.conn
+    }
+
+    /// It was opened with this wire.
+    pub(crate) fn opened<W: Wire>(self, wire: W) -> Opened<W>
+        requires told { IfSome (W.heard wire) (λ told. told ≡ newly_told) }
+        requires handles { W.handles wire ≡ [] }
+        requires cursors { W.cursors wire ≡ [] }
+        ensures entry { result.heard ≡ entry_of self DriverAnswer.Done }
+        ensures fits { fits_at_its_place [] result.heard ≡ true }
+        ensures wire { IsSomeAnd result.wire (λ w. w.wire ≡ wire) }
+        ensures conn { IfSome result.wire (λ w. w.conn ≡ self.conn) }
+        ensures noted { IfSome result.wire (λ w. w.journal ≡ result.heard ∷ []) }
+    {
+        let Request {
+            permit,
+            noted,
+            mut journal,
+        } = self;
+        journal.note(answered(noted, DriverAnswer::Done));
+        Opened {
+            wire: Some(JournaledWire::of(wire, journal)),
+            heard: Heard::new(answered(permit, DriverAnswer::Done)),
+        }
+    }
+
+    /// The driver refused. Want of memory is no answer.
+    pub(crate) fn refused<W: Wire>(self, refused: Refused) -> Result<Opened<W>, WireFault>
+        ensures none { IfOk result (λ opened. opened.wire ≡ None) }
+        ensures answer { IfOk result (λ opened. refusal_of refused ≡ Some opened.heard.answer) }
+        ensures entry { IfOk result (λ opened. opened.heard ≡ entry_of self opened.heard.answer) }
+        ensures fits { IfOk result (λ opened. fits_at_its_place [] opened.heard ≡ true) }
+        ensures memory { IfErr result (λ fault. fault ≡ WireFault.Memory self) }
+    {
+        let Request { permit, .. } = self;
+        match refusal(refused) {
+            Some(answer) => Ok(Opened {
+                wire: None,
+                heard: Heard::new(answered(permit, answer)),
+            }),
+            None => Err(WireFault::Memory(permit)),
+        }
+    }
+}
+
+/// The answer that a refusal is.
+fn refusal(refused: Refused) -> Option<DriverAnswer>
+    ensures { result ≡ refusal_of refused }
+{
+    match refused {
+        Refused::Bad => Some(DriverAnswer::Bad),
+        Refused::Fail(text) => Some(DriverAnswer::Fail(text)),
+        Refused::Memory => None,
+    }
+}
