@@ -1,5 +1,5 @@
 -- What is awaited may be sent on the wire of its connection.
-use Rattle.std.proofs.Common.{◌≡◌, ◌==◌, ℕ, Bool, true, false, cond, not, ◌&&◌, List, [], ◌∷◌, Option, Some, None, refl, sym, ◌∙◌, ap, subst}
+use Rattle.std.proofs.Common.{◌≡◌, ◌==◌, ℕ, Bool, true, false, cond, not, List, [], ◌∷◌, Option, Some, None, refl, sym, ◌∙◌, ap, subst}
 use Rattle.std.specs.Prelude.{option_map, IsSomeAnd}
 use Rattle.std.specs.List.{list_all}
 use Rattle.dsql_driver.specs.Fits.{fits_of, is_done, is_memory}
@@ -10,7 +10,7 @@ use Rattle.dsql_journal.specs.declared.entry.Entry.{Entry}
 use Rattle.dsql_journal.specs.declared.entry.Owner.TheVariants.{Call, Tx, Pin, House}
 use Rattle.dsql_journal.specs.declared.entry.Permit.{Permit}
 use Rattle.dsql_journal.specs.Permits.{entry_of}
-use Rattle.dsql_journal.specs.Entries.{connect_entry, shut_entry, call_entry}
+use Rattle.dsql_journal.specs.Entries.{call_entry}
 use Rattle.dsql_journal.specs.Kinds.{is_begin}
 use Rattle.dsql_journal.specs.Journal.{may_follow}
 use Rattle.dsql_journal.specs.HandlesAndCursors.{fits_at_its_place, is_heard, is_fitting, gives_new_handle, gives_new_cursor, has_width_of_cursor}

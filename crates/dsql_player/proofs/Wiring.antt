@@ -1,5 +1,5 @@
 -- Wires that fit a history fit the next one too.
-use Rattle.std.proofs.Common.{◌≡◌, ◌≢◌, inl, inr, ℕ, Bool, true, false, List, [], ◌∷◌, ◌++◌, Option, Some, None, refl, sym, ◌∙◌, ap, subst, get_or, set, zero, suc}
+use Rattle.std.proofs.Common.{◌≡◌, ◌≢◌, inl, inr, ℕ, Bool, true, false, List, [], ◌∷◌, Option, Some, None, refl, sym, ◌∙◌, ap, subst, get_or, set, zero, suc}
 use Rattle.std.specs.Prelude.{is_some, IsSome, MatchBool}
 use Rattle.std.proofs.lemmas.List.{get_or-set_other}
 use Rattle.dsql_driver.specs.Wires.{Told, told_after}

@@ -1,4 +1,4 @@
-use Rattle.std.proofs.Common.{◌≡◌, ◌∙◌, sym, ap, Err}
+use Rattle.std.proofs.Common.{ap, Err}
 use Rattle.dsql_wire.proofs.Opens.{only_connects}
 use Rattle.dsql_player.proofs.Permitting.{stray_of}
 use Rattle.dsql_player.proofs.chores.open_wire.Goals as goal

@@ -1,4 +1,4 @@
-use Rattle.std.proofs.Common.{◌≡◌, ◌∙◌, List, [], Option, Some, None, length, ap}
+use Rattle.std.proofs.Common.{◌≡◌, ◌∙◌, [], Some, None, length, ap}
 use Rattle.std.proofs.Math.Seq.{get_or-append_seam}
 use Rattle.dsql_player.specs.WiresFit.{slot}
 use Rattle.dsql_player.proofs.wires.Wires.destroy.Goals as goal
