@@ -7,4 +7,3 @@ pub mod laws;
 pub mod legal;
 pub mod prepared;
 pub mod refused;
-pub mod rows;

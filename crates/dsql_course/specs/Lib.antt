@@ -5,4 +5,3 @@ pub mod Given
 pub mod Meant
 pub mod Laws
 pub mod Worked
-pub mod Summary

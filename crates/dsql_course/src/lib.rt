@@ -6,14 +6,12 @@ mod call;
 mod course;
 pub mod laws;
 mod line;
-mod past;
-mod progress;
+mod made;
 mod step;
 
 pub use call::{Due, Got};
 pub use course::Course;
 pub use line::{comes_next, due};
-pub use progress::Progress;
 
 #[cfg(test)]
 mod tests;

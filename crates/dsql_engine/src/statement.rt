@@ -1,20 +1,17 @@
-ghost use Rattle.std.specs.Prelude.{◌≡◌, [], Some, None, IfOk};
-ghost use Rattle.dsql_history.specs.Readers.Calls.{refused_with, statement as text_of, arguments, destinations};
-ghost use Rattle.dsql_history.specs.Rules.Line.{reads_row};
+ghost use Rattle.std.specs.Prelude.{◌≡◌, Some, IfOk};
+ghost use Rattle.dsql_history.specs.Readers.Calls.{refused_with};
 ghost use Rattle.dsql_engine.specs.Statements.{statement_of, Enters};
 
 use crate::next::NoRoom;
 use dsql_history::{CallRecord, Op, Reply};
-use dsql_scan::Dests;
-use dsql_value::{ArgFault, Args, Items, Memory, Params, Txt, check_args};
+use dsql_value::{ArgFault, Items, Memory, Params, Txt, check_args};
 use std::alloc::Global;
 
-/// What a call runs: a text with its parameters. It reads a row of what that gives, or executes it.
+/// What a call runs: a text with its parameters.
 #[derive(Drop)]
 pub struct Statement {
     pub text: Txt,
     pub params: Params,
-    pub reads: bool,
 }
 
 impl Statement {
@@ -24,29 +21,17 @@ impl Statement {
     {
         let text = self.text.copy()?;
         let params = self.params.clone()?;
-        Ok(Statement {
-            text,
-            params,
-            reads: self.reads,
-        })
+        Ok(Statement { text, params })
     }
 }
 
-/// A call that enters, with the memory that it takes, and the destinations of a row that it reads.
+/// A call that enters, with the memory that it takes.
 #[derive(Drop)]
 pub enum Entering {
     /// Its arguments are accepted. Its statement comes twice: it is kept, and sent.
-    Asking {
-        dests: Option<Dests>,
-        kept: Statement,
-        sent: Statement,
-    },
+    Asking { kept: Statement, sent: Statement },
     /// An argument is refused, and it replies so.
-    Refused {
-        dests: Option<Dests>,
-        statement: Statement,
-        reply: Reply,
-    },
+    Refused { statement: Statement, reply: Reply },
 }
 
 /// A copy of a call's statement.
@@ -55,75 +40,27 @@ pub fn statement_of(call: &CallRecord) -> Result<Statement, Memory>
 {
     let text = call.text.copy()?;
     let params = call.params.clone()?;
-    let reads = call.dests.is_some();
-    Ok(Statement {
-        text,
-        params,
-        reads,
-    })
+    Ok(Statement { text, params })
 }
 
 /// A call that enters, over a driver that takes names or doesn't.
 pub fn enter_with(alloc: Global, named_ok: bool, op: &Op) -> Result<Entering, NoRoom>
     ensures { IfOk result (λ e. Enters named_ok op.now e) }
 {
-    let text = text_of(op).copy()?;
-    let dests = dests_of(op)?;
-    let reads = dests.is_some();
-    match check_args(alloc, -1, named_ok, args_of(op).as_slice()) {
+    let Op::Exec { text, args } = op;
+    let text = text.copy()?;
+    match check_args(alloc, -1, named_ok, args.as_slice()) {
         Ok(params) => {
-            let kept = Statement {
-                text,
-                params,
-                reads,
-            };
+            let kept = Statement { text, params };
             let sent = kept.copy()?;
-            Ok(Entering::Asking { dests, kept, sent })
+            Ok(Entering::Asking { kept, sent })
         }
         Err(fault) => {
             let params = Items::none(alloc);
-            let statement = Statement {
-                text,
-                params,
-                reads,
-            };
+            let statement = Statement { text, params };
             let reply = refusal(fault)?;
-            Ok(Entering::Refused {
-                dests,
-                statement,
-                reply,
-            })
+            Ok(Entering::Refused { statement, reply })
         }
-    }
-}
-
-/// The text of an operation's statement.
-fn text_of(op: &Op) -> &Txt
-    ensures { result.now ≡ text_of op.now }
-{
-    match op {
-        Op::Exec { text, .. } => text,
-        Op::One { text, .. } => text,
-    }
-}
-
-/// Its arguments.
-fn args_of(op: &Op) -> &Args
-    ensures { result.now ≡ arguments op.now }
-{
-    match op {
-        Op::Exec { args, .. } => args,
-        Op::One { args, .. } => args,
-    }
-}
-
-/// A copy of the destinations of the one row that it reads, if it reads one.
-fn dests_of(op: &Op) -> Result<Option<Dests>, Memory>
-    ensures { IfOk result (λ dests. dests ≡ destinations op.now) }
-{
-    match op {
-        Op::Exec { .. } => Ok(None),
-        Op::One { dests, .. } => Ok(Some(dests.clone()?)),
     }
 }
 

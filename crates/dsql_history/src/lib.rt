@@ -9,4 +9,4 @@ pub mod worked;
 
 pub use event::{CloseCause, Event, Move, Op};
 pub use record::{CallRecord, Place};
-pub use reply::{FaultWord, Reply};
+pub use reply::Reply;
