@@ -4,3 +4,4 @@ pub mod Refusals
 pub mod Histories
 pub mod Damaged
 pub mod Prepared
+pub mod Rows

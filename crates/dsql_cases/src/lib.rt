@@ -7,3 +7,4 @@ pub mod laws;
 pub mod legal;
 pub mod prepared;
 pub mod refused;
+pub mod rows;

@@ -36,10 +36,15 @@ no_line c can args found made i d lt h =
     sym (subst (λ (xs : List Exchange). is_given c can args found xs ≡ false) (around made i d lt) (not_given c can args found (get_or made i d) (reverse (drop (i + 1) made)) (reverse (take i made)) h))
 
 -- one that can't have come
-pub no_line_with : (c : Course) (can : Caps) (args : ℕ) (found : Found) (made : List Exchange) (i : ℕ) (d : Exchange) → i < length made → may_have_come c can args found (get_or made i d).0 (reverse (take i made)) ≡ false → false ≡ is_given c can args found (reverse made)
+no_line_with : (c : Course) (can : Caps) (args : ℕ) (found : Found) (made : List Exchange) (i : ℕ) (d : Exchange) → i < length made → may_have_come c can args found (get_or made i d).0 (reverse (take i made)) ≡ false → false ≡ is_given c can args found (reverse made)
 no_line_with c can args found made i d lt h =
     no_line c can args found made i d lt (ap (λ (b : Bool). b && may_get c (get_or made i d).0 (get_or made i d).1) h)
 
 -- one with an answer that it can't have
 pub no_line_answers : (c : Course) (can : Caps) (args : ℕ) (found : Found) (made : List Exchange) (i : ℕ) (d : Exchange) → i < length made → may_get c (get_or made i d).0 (get_or made i d).1 ≡ false → false ≡ is_given c can args found (reverse made)
 no_line_answers c can args found made i d lt h = no_line c can args found made i d lt (and_false (may_have_come c can args found (get_or made i d).0 (reverse (take i made))) h)
+
+-- the same where the beginning is known by another name
+pub no_line_at : (c : Course) (can : Caps) (args : ℕ) (found : Found) (made : List Exchange) (i : ℕ) (d : Exchange) (earlier : List Exchange) → i < length made → earlier ≡ reverse (take i made) → may_have_come c can args found (get_or made i d).0 earlier ≡ false → false ≡ is_given c can args found (reverse made)
+no_line_at c can args found made i d earlier lt is h =
+    no_line_with c can args found made i d lt (subst (λ (xs : List Exchange). may_have_come c can args found (get_or made i d).0 xs ≡ false) is h)

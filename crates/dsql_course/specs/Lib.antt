@@ -5,3 +5,4 @@ pub mod Given
 pub mod Meant
 pub mod Laws
 pub mod Worked
+pub mod Summary

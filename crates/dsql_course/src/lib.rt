@@ -6,12 +6,14 @@ mod call;
 mod course;
 pub mod laws;
 mod line;
-mod made;
+mod past;
+mod progress;
 mod step;
 
 pub use call::{Due, Got};
 pub use course::Course;
 pub use line::{comes_next, due};
+pub use progress::Progress;
 
 #[cfg(test)]
 mod tests;

@@ -7,7 +7,7 @@ ghost use Rattle.dsql_course.specs.Meant.{meant, known};
 
 use crate::call::{Due, Got};
 use crate::course::Course;
-use crate::made;
+use crate::progress::Progress;
 use crate::step::{self, Step};
 use dsql_driver::Caps;
 
@@ -26,9 +26,9 @@ pub fn comes_next(
     let plan = Plan {
         course: *course,
         caps,
-        args,
+        args: args as usize,
     };
-    plan.comes_next(Found { stopped, bad }, made)
+    plan.comes_next(Found { stopped, bad }, &Progress::of(made))
 }
 
 /// The same after any calls: nothing is due after those that no line gives.
@@ -45,11 +45,11 @@ pub fn due(
     let plan = Plan {
         course: *course,
         caps,
-        args,
+        args: args as usize,
     };
     let found = Found { stopped, bad };
     if plan.is_given(found, made) {
-        plan.comes_next(found, made)
+        plan.comes_next(found, &Progress::of(made))
     } else {
         Due::Over
     }
@@ -57,25 +57,25 @@ pub fn due(
 
 /// What is known as a call is made: it is stopped, and its connection is known to be bad.
 #[derive(Clone, Copy)]
-struct Found {
-    stopped: bool,
-    bad: bool,
+pub(crate) struct Found {
+    pub(crate) stopped: bool,
+    pub(crate) bad: bool,
 }
 
 /// What stays the same through one try of a call.
 #[derive(Clone, Copy)]
-struct Plan {
-    course: Course,
-    caps: Caps,
-    args: u32,
+pub(crate) struct Plan {
+    pub(crate) course: Course,
+    pub(crate) caps: Caps,
+    pub(crate) args: usize,
 }
 
 impl Plan {
     /// The driver call that comes next.
-    fn comes_next(&self, found: Found, made: &[(Due, Got)]) -> Due
-        ensures { result ≡ next_of self.now.course self.now.caps self.now.args (known found) (reverse made.now) }
+    pub(crate) fn comes_next(&self, found: Found, made: &Progress) -> Due
+        ensures { result ≡ next_of self.now.course self.now.caps self.now.args (known found) made.now }
     {
-        if made::went_bad(made) {
+        if made.went_bad() {
             Due::Over
         } else {
             self.first_wanted(found, made, steps_left(self.course, made))
@@ -83,10 +83,10 @@ impl Plan {
     }
 
     /// The call of the first of these steps that is to be taken.
-    fn first_wanted(&self, found: Found, made: &[(Due, Got)], steps: &[Step]) -> Due
+    fn first_wanted(&self, found: Found, made: &Progress, steps: &[Step]) -> Due
         ensures { result
             ≡ first_wanted_of
-            self.now.course self.now.caps self.now.args (known found) (reverse made.now) (map meant steps.now) }
+            self.now.course self.now.caps self.now.args (known found) made.now (map meant steps.now) }
     {
         for step in steps {
             if let Some(call) = self.wanted(found, made, *step) {
@@ -97,27 +97,27 @@ impl Plan {
     }
 
     /// The driver call that a step is where it is to be taken.
-    fn wanted(&self, found: Found, made: &[(Due, Got)], step: Step) -> Option<Due>
+    fn wanted(&self, found: Found, made: &Progress, step: Step) -> Option<Due>
         ensures { result
-            ≡ wanted_of self.now.course self.now.caps self.now.args (known found) (reverse made.now) (meant step) }
+            ≡ wanted_of self.now.course self.now.caps self.now.args (known found) made.now (meant step) }
     {
         let going_on = !found.stopped;
         match step {
             Step::RunText => (self.has_fast_way() && going_on).then_some(Due::Text),
             Step::PrepareText => (self.needs_handle(made) && going_on).then_some(Due::Prepare),
             Step::RunHandle if going_on => self.run_of_handle(made),
-            Step::FetchRow if going_on && self.course.reads_one() => made::own_cursor(made).map(
+            Step::FetchRow if going_on && self.course.reads_one() => made.own_cursor().map(
                 Due::Next,
             ),
             Step::CloseCursor if !found.bad && self.course.reads_one() => {
-                made::own_cursor(made).map(Due::CloseRows)
+                made.own_cursor().map(Due::CloseRows)
             }
             Step::CloseHandle if !found.bad && self.lets_handle_go(found, made) => {
-                made::own_handle(made).map(|(handle, _)| Due::CloseStmt(handle))
+                made.own_handle().map(|(handle, _)| Due::CloseStmt(handle))
             }
             Step::PingIt => (self.caps.pinger && going_on).then_some(Due::Ping),
             Step::BeginIt => going_on.then_some(Due::Begin),
-            Step::UndoIt => (found.stopped && made::was_done(made)).then_some(Due::Rollback),
+            Step::UndoIt => (found.stopped && made.was_done()).then_some(Due::Rollback),
             _ => None,
         }
     }
@@ -129,31 +129,31 @@ impl Plan {
     }
 
     /// It is prepared: no handle is at hand, and the text isn't run at once.
-    fn needs_handle(&self, made: &[(Due, Got)]) -> bool
+    fn needs_handle(&self, made: &Progress) -> bool
         ensures { result
             ≡ (is_none (live_handle_of self.now.course)
-            && (not (has_fast_way_of self.now.course self.now.caps) || was_skipped_of (reverse made.now))) }
+            && (not (has_fast_way_of self.now.course self.now.caps) || was_skipped_of made.now)) }
     {
-        self.course.live_handle().is_none() && (!self.has_fast_way() || made::was_skipped(made))
+        self.course.live_handle().is_none() && (!self.has_fast_way() || made.was_skipped())
     }
 
     /// The run of the handle, if there is one that takes so many arguments.
-    fn run_of_handle(&self, made: &[(Due, Got)]) -> Option<Due>
-        ensures { result ≡ run_with self.now.args (or_else (own_handle_of (reverse made.now)) (live_handle_of self.now.course)) }
+    fn run_of_handle(&self, made: &Progress) -> Option<Due>
+        ensures { result ≡ run_with self.now.args (or_else (own_handle_of made.now) (live_handle_of self.now.course)) }
     {
-        let (handle, inputs) = made::own_handle(made).or(self.course.live_handle())?;
+        let (handle, inputs) = made.own_handle().or(self.course.live_handle())?;
         takes(inputs, self.args).then_some(Due::Handle(handle))
     }
 
     /// Its own handle is closed.
-    fn lets_handle_go(&self, found: Found, made: &[(Due, Got)]) -> bool
-        ensures { result ≡ lets_handle_go_of self.now.course (known found) (reverse made.now) }
+    fn lets_handle_go(&self, found: Found, made: &Progress) -> bool
+        ensures { result ≡ lets_handle_go_of self.now.course (known found) made.now }
     {
         match self.course {
             Course::Exec | Course::One => true,
             // The handle lives on under the rows that are handed out.
-            Course::Query => made::own_cursor(made).is_none(),
-            course => found.stopped && !made::was_decided(course, made),
+            Course::Query => made.own_cursor().is_none(),
+            course => found.stopped && !made.was_decided(course),
         }
     }
 
@@ -161,18 +161,20 @@ impl Plan {
     fn is_given(&self, found: Found, made: &[(Due, Got)]) -> bool
         ensures { result ≡ is_given_of self.now.course self.now.caps self.now.args (known found) (reverse made.now) }
     {
-        for (i, (call, got)) in made.iter().enumerate() {
-            if !self.may_have_come(found, *call, &made[..i]) || !may_get(self.course, *call, *got) {
+        let mut earlier = Progress::new();
+        for (call, got) in made {
+            if !self.may_have_come(found, *call, &earlier) || !may_get(self.course, *call, *got) {
                 return false;
             }
+            earlier = earlier.with(*call, *got);
         }
         true
     }
 
     /// The call may have come next, with what may have been known then.
-    fn may_have_come(&self, found: Found, call: Due, earlier: &[(Due, Got)]) -> bool
+    fn may_have_come(&self, found: Found, call: Due, earlier: &Progress) -> bool
         ensures { result
-            ≡ may_have_come_of self.now.course self.now.caps self.now.args (known found) call (reverse earlier.now) }
+            ≡ may_have_come_of self.now.course self.now.caps self.now.args (known found) call earlier.now }
     {
         let comes = |known: Found| same_call(call, self.comes_next(known, earlier));
         comes(Found {
@@ -189,21 +191,21 @@ impl Plan {
 }
 
 /// The steps behind the last one that was taken.
-fn steps_left(course: Course, made: &[(Due, Got)]) -> &'static [Step]
-    ensures { map meant result.now ≡ steps_left_of course (reverse made.now) }
+fn steps_left(course: Course, made: &Progress) -> &'static [Step]
+    ensures { map meant result.now ≡ steps_left_of course made.now }
 {
     let all = step::steps(course);
     match made.last() {
-        Some((newest, _)) => step::behind_call(*newest, all),
+        Some(newest) => step::behind_call(newest, all),
         None => all,
     }
 }
 
 /// A handle with so many inputs takes so many arguments; one with -1 takes any number.
-fn takes(inputs: i32, args: u32) -> bool
+fn takes(inputs: i32, args: usize) -> bool
     ensures { result ≡ is_none (count_fault inputs args) }
 {
-    u32::try_from(inputs).is_ok_and(|inputs| inputs == args) || inputs < 0
+    u32::try_from(inputs).is_ok_and(|inputs| inputs as usize == args) || inputs < 0
 }
 
 fn same_call(one: Due, other: Due) -> bool

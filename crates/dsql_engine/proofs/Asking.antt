@@ -1,5 +1,5 @@
 -- A call that has just entered asks for a connection.
-use Rattle.std.proofs.Common.{◌≡◌, ◌≢◌, ℕ, ◌==◌, inl, inr, Bool, true, false, not, ◌&&◌, nat_lt, nat_le, List, [], ◌∷◌, ◌++◌, get_or, refl, arith, Some, None, ap, sym, subst, ◌∙◌}
+use Rattle.std.proofs.Common.{◌≡◌, ◌≢◌, ℕ, ◌==◌, inl, inr, Bool, true, false, not, ◌&&◌, nat_lt, nat_le, List, [], ◌∷◌, ◌++◌, cond, get_or, refl, arith, Some, None, ap, sym, subst, ◌∙◌}
 use Rattle.std.proofs.lemmas.Bool.Decides.{nat_tests}
 use Rattle.dsql_journal.specs.declared.entry.Owner.TheVariants.{Call}
 use Rattle.dsql_journal.specs.Readers.{has, is_empty}
@@ -18,8 +18,7 @@ use Rattle.dsql_history.specs.Legal.{Allowed, Lawful}
 use Rattle.dsql_history.proofs.Rows.{same_to_itself, same_or_not, has-without, has_push, row_at, row_off, row_new, row_old}
 use Rattle.dsql_history.proofs.SoundSets.{sound_sets}
 use Rattle.dsql_history.proofs.SoundCalls.{sound_calls}
-use Rattle.dsql_history.proofs.SoundJournals.{fresh_lending}
-use Rattle.dsql_history.specs.Rules.Line.{due}
+use Rattle.dsql_history.proofs.JournalLaws.{fresh_lending}
 use Rattle.dsql_history.specs.declared.event.Op.{Op}
 use Rattle.dsql_history.specs.declared.reply.Reply.TheVariants as replies
 use Rattle.dsql_history.specs.Readers.Course.{caps}
@@ -28,7 +27,13 @@ use Rattle.dsql_history.specs.declared.reply.Reply.{Reply}
 use Rattle.dsql_history.specs.Readers.Calls.{statement, arguments, params_at_entry, refused_at_entry, reply_due}
 use Rattle.dsql_engine.specs.Statements.{statement_of}
 use Rattle.dsql_history.specs.Rules.Limit.{room}
-use Rattle.dsql_history.specs.Rules.Line.{due, line_after, is_reset_due}
+use Rattle.dsql_driver.specs.declared.call.DriverCall.TheVariants.{Reset}
+use Rattle.dsql_history.specs.Readers.Calls.{destinations}
+use Rattle.dsql_history.specs.Readers.Journals.{heard_in}
+use Rattle.dsql_history.specs.Rules.Line.{Asked, due, line_after, body_after, asked_by, reads_row, is_reset_due}
+use Rattle.dsql_engine.specs.Made.{made}
+use Rattle.dsql_engine.proofs.Exchanged.{made_lent}
+use Rattle.dsql_engine.proofs.Keeping.{line_first}
 use Rattle.dsql_engine.specs.Freshly.{Freshly}
 use Rattle.dsql_engine.specs.Latest.{latest}
 use Rattle.dsql_engine.specs.Groups.{lent_to}
@@ -55,7 +60,7 @@ earlier_ones ns m n off h = grind (arith, nat_tests, has_push m n ns)
 
 -- the record of a call that enters
 abbrev entered_record : List Event → ℕ → Op → CallRecord
-entered_record H client op = record { client = client; home = 0; text = statement op; params = params_at_entry (caps H) op; decided = refused_at_entry (caps H) op }
+entered_record H client op = record { client = client; home = 0; text = statement op; params = params_at_entry (caps H) op; dests = destinations op; decided = refused_at_entry (caps H) op }
 
 pub freshly : (H : List Event) (client n : ℕ) (op : Op) → Settled H → n ≡ next_call H → Freshly (Entered client n op ∷ H) n
 freshly H client n op s e =
@@ -76,7 +81,7 @@ pub reply_entered : (H : List Event) (client n : ℕ) (op : Op) → n ≡ next_c
 reply_entered H client n op e = ap (λ (r : CallRecord). r.decided) (row_new (calls H) (entered_record H client op) n nobody e)
 
 pub statement_entered : (H : List Event) (client n : ℕ) (op : Op) → n ≡ next_call H → first_fault (caps H).named (arguments op) ≡ None
-    → statement_of (call_record (Entered client n op ∷ H) n) ≡ record { text = statement op; params = params_of (arguments op) }
+    → statement_of (call_record (Entered client n op ∷ H) n) ≡ record { text = statement op; params = params_of (arguments op); reads = reads_row (destinations op) }
 statement_entered H client n op e accepted =
     ap (λ (r : CallRecord). statement_of r) (row_new (calls H) (entered_record H client op) n nobody e) ∙ rw accepted refl
 
@@ -150,13 +155,17 @@ settled_lend_idle H c n l f is lawful =
 
 -- what is due on a connection that was just lent
 pub due_fresh : (H : List Event) (c n : ℕ) → Lawful H → is_unfinished H n ≡ true → Lawful (lent_to H c n)
-    → due (lent_to H c n) c (next_tenure H c) n ≡ line_after (caps H) (is_reset_due (lent_to H c n) c) (call_record H n).text (call_record H n).params []
-due_fresh H c n l u lawful =
+    → place (lent_to H c n) c ≡ Lent (next_tenure H c) (Call n)
+    → due (lent_to H c n) c (next_tenure H c) n ≡ cond (is_reset_due (lent_to H c n) c) (Some Reset) (body_after (caps H) (asked_by (call_record H n)) (made (lent_to H c n) c))
+due_fresh H c n l u lawful is =
     let q = sound_calls H l in
     let w = q.within n u in
-    let text : (call_record (lent_to H c n) n).text ≡ (call_record H n).text = ap (λ (r : CallRecord). r.text) (row_at (calls H) n (record (get_or (calls H) n nobody) { home = c }) nobody w.1) in
-    let params : (call_record (lent_to H c n) n).params ≡ (call_record H n).params = ap (λ (r : CallRecord). r.params) (row_at (calls H) n (record (get_or (calls H) n nobody) { home = c }) nobody w.1) in
-    rw (fresh_lending H c (next_tenure H c) n lawful, text, params) refl
+    let same : asked_by (call_record (lent_to H c n) n) ≡ asked_by (call_record H n) =
+    ap (λ (r : CallRecord). asked_by r) (row_at (calls H) n (record (get_or (calls H) n nobody) { home = c }) nobody w.1) in
+    let G : List Event = lent_to H c n in
+    let t : ℕ = next_tenure H c in
+    ap (λ (a : Asked). line_after (caps H) (is_reset_due G c) a (heard_in G c t)) same
+    ∙ line_first (caps H) (is_reset_due G c) (asked_by (call_record H n)) (heard_in G c t) (made G c) (fresh_lending H c t n lawful) (made_lent G lawful c t n is)
 
 pub may_open_new : (H : List Event) (n : ℕ) → Freshly H n → reply_due H n ≡ None → idle H ≡ [] → has_ended H ≡ false → nat_lt (open_count H) room ≡ true → Allowed H (Pool (OpenStart (next_number H) n))
 unfolding Allowed

@@ -17,15 +17,22 @@ use Rattle.dsql_history.specs.Legal.{Allowed, Lawful}
 use Rattle.dsql_value.specs.declared.value.Value.{Value}
 use Rattle.dsql_value.specs.declared.value.Value.TheVariants as values
 use Rattle.dsql_value.specs.declared.value.Param.{Param}
-use Rattle.dsql_history.specs.Same.{same_truth, same_value, same_name, same_params}
+use Rattle.dsql_history.specs.Same.{same_truth, same_value, same_name, same_params, same_cell, same_cells}
+use Rattle.dsql_scan.specs.declared.cell.Cell.{Cell}
+use Rattle.dsql_scan.specs.declared.cell.Cell.TheVariants as cells
+use Rattle.dsql_history.specs.declared.reply.FaultWord.{FaultWord}
+use Rattle.dsql_history.specs.declared.reply.FaultWord.TheVariants as words
 use Rattle.dsql_history.specs.Readers.Sets.{is_for}
 use Rattle.dsql_history.specs.Readers.Calls.{home, reply_due}
 use Rattle.dsql_engine.specs.Groups.{told, reply_as}
-use Rattle.dsql_history.proofs.Rows.{same_to_itself}
+use Rattle.dsql_driver.specs.Fits.{fits_of, is_memory}
+use Rattle.dsql_journal.specs.HandlesAndCursors.{fits_at_its_place, is_heard, is_fitting, gives_new_handle, gives_new_cursor, has_width_of_cursor}
+use Rattle.dsql_journal.proofs.Conjunctions.{parts5}
+use Rattle.dsql_history.proofs.Rows.{same_to_itself, not_true}
 use Rattle.dsql_history.proofs.SoundCalls.{sound_calls}
 use Rattle.dsql_history.specs.Rules.Course.{begins_with_run, is_run}
 use Rattle.dsql_history.specs.Rules.Order.{follows, follows_answer}
-use Rattle.dsql_history.specs.Rules.Replies.{same_reply}
+use Rattle.dsql_history.specs.Rules.Replies.{same_reply, same_word}
 use Rattle.dsql_history.specs.declared.reply.Reply.TheVariants as replies
 use Rattle.std.specs.Prelude.{bytes_eq, ℤ}
 use Rattle.std.specs.Ordering.{int_eq}
@@ -102,20 +109,45 @@ bytes_same (x ∷ xs) = rw (same_to_itself x) (bytes_same xs)
 pub ints_same : (z : ℤ) → int_eq z z ≡ true
 ints_same z = grind (arith, common_steps)
 
+truth_same : (b : Bool) → same_truth b b ≡ true
+truth_same true = refl
+truth_same false = refl
+
+cell_same : (cell : Cell) → same_cell cell cell ≡ true
+cell_same cells.Null = refl
+cell_same (cells.Text text) = bytes_same text
+cell_same (cells.Bytes bytes) = bytes_same bytes
+cell_same (cells.Bool truth) = truth_same truth
+cell_same (cells.Int n) = ints_same n
+cell_same (cells.Uint n) = same_to_itself n
+cell_same (cells.Time n) = ints_same n
+
+cells_same : (row : List Cell) → same_cells row row ≡ true
+cells_same [] = refl
+cells_same (cell ∷ row) = rw (cell_same cell) (cells_same row)
+
+word_same : (fault : FaultWord) → same_word fault fault ≡ true
+word_same words.FromNull = refl
+word_same words.NotANumber = refl
+word_same words.OutOfRange = refl
+word_same words.NotABool = refl
+word_same words.NotUtf8 = refl
+word_same words.Unsupported = refl
+
 -- a reply is like itself
 pub reply_same : (r : Reply) → same_reply r r ≡ true
 reply_same (replies.Result l a) = rw (ints_same l, ints_same a) refl
+reply_same (replies.Cells cells) = cells_same cells
 reply_same (replies.Driver t) = bytes_same t
 reply_same (replies.BadConn n) = same_to_itself n
 reply_same (replies.NumArgs want got) = rw (same_to_itself want, same_to_itself got) refl
 reply_same (replies.HighBit n) = same_to_itself n
 reply_same (replies.NamedRefused name) = bytes_same name
 reply_same (replies.BadName name) = bytes_same name
+reply_same replies.NoRows = refl
+reply_same (replies.DestCount want got) = rw (same_to_itself want, same_to_itself got) refl
+reply_same (replies.Scan column fault) = rw (same_to_itself column) (word_same fault)
 reply_same replies.TooMany = refl
-
-truth_same : (b : Bool) → same_truth b b ≡ true
-truth_same true = refl
-truth_same false = refl
 
 value_same : (v : Value) → same_value v v ≡ true
 value_same values.Nil = refl
@@ -153,3 +185,10 @@ may_reply H n r b placed u free due = record {
 -- what holds once any reply was told holds once the settled one was
 pub when_told : (G : List Event) (n : ℕ) → is_some (reply_due G n) ≡ true → Lawful (told n G) → ((r : Reply) → Lawful (Replied n r ∷ G) → Settled (Replied n r ∷ G)) → Settled (told n G)
 when_told G n some l k = k (reply_as (reply_due G n)) l
+
+-- an answer that fits at its place fits its call, and was heard
+pub fitting_of : (J : List Entry) (e : Entry) → fits_at_its_place J e ≡ true → fits_of e.call e.answer ≡ true
+fitting_of J e h = let p = parts5 (is_heard e) (is_fitting e) (gives_new_handle J e) (gives_new_cursor J e) (has_width_of_cursor J e) h in p.1
+
+pub heard_of : (J : List Entry) (e : Entry) → fits_at_its_place J e ≡ true → is_memory e.answer ≡ false
+heard_of J e h = let p = parts5 (is_heard e) (is_fitting e) (gives_new_handle J e) (gives_new_cursor J e) (has_width_of_cursor J e) h in not_true (is_memory e.answer) p.0

@@ -13,7 +13,7 @@ use Rattle.dsql_history.specs.Rules.Settled.{Settled, is_under_way}
 use Rattle.dsql_history.specs.Legal.{Allowed, Lawful}
 use Rattle.dsql_history.proofs.Rows.{same_to_itself, other_number, same_or_not, row_at, row_off}
 use Rattle.dsql_history.proofs.SoundCalls.{sound_calls}
-use Rattle.dsql_history.proofs.SoundJournals.{follows_connect, whole_refused}
+use Rattle.dsql_history.proofs.JournalLaws.{follows_connect, whole_refused}
 use Rattle.dsql_driver.specs.declared.call.DriverCall.TheVariants.{Connect}
 use Rattle.dsql_driver.specs.declared.answer.DriverAnswer.{DriverAnswer}
 use Rattle.dsql_driver.specs.declared.answer.DriverAnswer.TheVariants.{Bad, Fail, Memory, Done}

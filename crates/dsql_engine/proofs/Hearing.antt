@@ -1,5 +1,5 @@
 -- The answer to a driver call of a client's call.
-use Rattle.std.proofs.Common.{◌≡◌, ◌≢◌, ℕ, ◌<◌, ◌==◌, inl, inr, Bool, true, false, not, ◌||◌, cond, List, [], ◌∷◌, length, get_or, refl, Option, Some, None, ap, sym, subst, ◌∙◌}
+use Rattle.std.proofs.Common.{◌≡◌, ◌≢◌, ℕ, ◌<◌, ◌==◌, inl, inr, Bool, true, false, not, ◌||◌, ◌&&◌, cond, List, [], ◌∷◌, length, get_or, refl, Option, Some, None, ap, sym, subst, ◌∙◌}
 use Rattle.dsql_journal.specs.declared.entry.Entry.{Entry}
 use Rattle.dsql_journal.specs.declared.entry.Owner.TheVariants.{Call}
 use Rattle.dsql_history.specs.declared.event.Event.{Event}
@@ -13,29 +13,40 @@ use Rattle.dsql_history.specs.Rules.Settled.{Settled, is_under_way}
 use Rattle.dsql_history.specs.Legal.{Allowed, Lawful}
 use Rattle.dsql_history.proofs.Rows.{same_to_itself, same_or_not, row_at, row_off}
 use Rattle.dsql_history.proofs.SoundCalls.{sound_calls}
-use Rattle.dsql_history.proofs.SoundJournals.{good_while_due, follows_due}
-use Rattle.dsql_history.specs.Rules.Line.{due}
+use Rattle.dsql_history.proofs.JournalLaws.{good_while_due, follows_due}
 use Rattle.std.specs.Prelude.{ℤ, is_none, option_map}
 use Rattle.dsql_value.specs.declared.value.Param.{Param}
 use Rattle.dsql_value.specs.Arguments.{count_fault}
 use Rattle.dsql_driver.specs.declared.caps.Caps.{Caps}
 use Rattle.dsql_driver.specs.declared.call.DriverCall.{DriverCall}
-use Rattle.dsql_driver.specs.declared.call.DriverCall.TheVariants.{Reset, Valid, Prepare, Exec, CloseStmt, Connect, Shut}
+use Rattle.dsql_driver.specs.declared.call.DriverCall.TheVariants.{Reset, Valid, Prepare, Exec, Query, Next, CloseRows, CloseStmt, Connect, Shut}
+use Rattle.dsql_driver.specs.declared.call.Input.{Input}
 use Rattle.dsql_driver.specs.declared.call.Input.TheVariants.{Text, Handle}
 use Rattle.dsql_driver.specs.declared.answer.DriverAnswer.{DriverAnswer}
 use Rattle.dsql_driver.specs.declared.answer.DriverAnswer.TheVariants.{Prepared, Skip, Bad}
 use Rattle.dsql_driver.specs.Fits.{fits_of, is_memory, is_invalid}
 use Rattle.dsql_journal.specs.declared.entry.Permit.{Permit}
 use Rattle.dsql_journal.specs.Entries.{call_entry}
-use Rattle.dsql_journal.specs.Kinds.{is_connect, is_shut, is_bad}
+use Rattle.dsql_journal.specs.Kinds.{is_connect, is_shut, is_bad, is_valid}
 use Rattle.dsql_journal.specs.Readers.{went_bad}
 use Rattle.dsql_history.specs.Readers.Course.{caps}
 use Rattle.dsql_history.specs.Readers.Journals.{heard_in}
 use Rattle.dsql_history.specs.Readers.Calls.{decision}
-use Rattle.dsql_history.specs.Rules.Line.{due, is_due, line_after, after_call, body_of, run_of, test_of}
+use Rattle.dsql_course.specs.declared.call.Due.{Due}
+use Rattle.dsql_course.specs.declared.call.Due.TheVariants as due
+use Rattle.dsql_course.specs.Made.{Exchange}
+use Rattle.dsql_course.specs.Line.{comes_next}
+use Rattle.dsql_journal.specs.HandlesAndCursors.{fits_at_its_place}
+use Rattle.dsql_history.specs.Readers.Exchanges.{exchanges}
+use Rattle.dsql_history.specs.Rules.Line as line
+use Rattle.dsql_history.specs.Rules.Line.{Asked, asked_by, is_due, line_after, body_after, sent_as, course_of, going_on, test_of}
+use Rattle.dsql_history.proofs.SoundLines.{asked_heard, heard_here}
+use Rattle.dsql_engine.specs.Made.{made}
+use Rattle.dsql_engine.proofs.Exchanged.{made_lent}
+use Rattle.dsql_engine.proofs.Keeping.{line_later}
 use Rattle.dsql_history.proofs.Lines.{sent_of, some_of}
-use Rattle.dsql_journal.proofs.ExecLines.{is_sent}
-use Rattle.dsql_history.proofs.SoundJournals.{sound_journals}
+use Rattle.dsql_history.proofs.CallLines.{is_sent}
+use Rattle.dsql_history.proofs.SoundLines.{sound_journals}
 use Rattle.dsql_history.proofs.Standing.{good_now}
 use Rattle.dsql_engine.specs.Awaited.{call_permit}
 use Rattle.dsql_engine.proofs.Basics.{not_first, begun, follows_placed, all_of, used_of, way_of, bytes_same, params_same}
@@ -46,45 +57,39 @@ abbrev own_of : Option DriverCall → Bool
 own_of None = true
 own_of (Some q) = is_due (Some q) q
 
-own_cond : (b : Bool) (d e : Option DriverCall) → own_of d ≡ true → own_of e ≡ true → own_of (cond b d e) ≡ true
-own_cond true d e h k = h
-own_cond false d e h k = k
-
 own_test : (can : Caps) → own_of (test_of can) ≡ true
-own_test can = own_cond can.validator (Some Valid) None refl refl
-
-own_body : (can : Caps) (text : List ℕ) (params : List Param) → own_of (Some (body_of can text params)) ≡ true
-own_body can text params = by_can can.fast_exec
+own_test can = by_can can.validator
   where
-    by_can : (b : Bool) → own_of (Some (cond b (Exec (Text text) params) (Prepare text))) ≡ true
-    by_can true = rw (bytes_same text) (params_same params)
-    by_can false = bytes_same text
+    by_can : (b : Bool) → own_of (cond b (Some Valid) None) ≡ true
+    by_can true = refl
+    by_can false = refl
 
-own_run : (handle : ℕ) (inputs : ℤ) (params : List Param) → own_of (Some (run_of handle inputs params)) ≡ true
-own_run handle inputs params = by_count (is_none (count_fault inputs (length params)))
+own_run : (params : List Param) (b : Bool) (input : Input) → own_of (Some (cond b (Query input params) (Exec input params))) ≡ true
+own_run params true (Text text) = rw (bytes_same text) (params_same params)
+own_run params true (Handle handle) = rw (same_to_itself handle) (params_same params)
+own_run params false (Text text) = rw (bytes_same text) (params_same params)
+own_run params false (Handle handle) = rw (same_to_itself handle) (params_same params)
+
+own_sent : (can : Caps) (asked : Asked) (d : Due) → own_of (sent_as can asked d) ≡ true
+own_sent can asked due.Text = own_run asked.params asked.reads (Text asked.text)
+own_sent can asked due.Prepare = bytes_same asked.text
+own_sent can asked (due.Handle handle) = own_run asked.params asked.reads (Handle handle)
+own_sent can asked (due.Next rows) = same_to_itself rows
+own_sent can asked (due.CloseRows rows) = same_to_itself rows
+own_sent can asked (due.CloseStmt handle) = same_to_itself handle
+own_sent can asked _ = own_test can
+
+own_body : (can : Caps) (asked : Asked) (made : List Exchange) → own_of (body_after can asked made) ≡ true
+own_body can asked made = own_sent can asked (comes_next (course_of asked) can (length asked.params) going_on made)
+
+own_line : (can : Caps) (reset : Bool) (asked : Asked) (L : List Entry) → own_of (line_after can reset asked L) ≡ true
+own_line can true asked [] = refl
+own_line can false asked [] = own_body can asked []
+own_line can reset asked (e ∷ L) = by_end (is_bad e.answer || is_valid e.call)
   where
-    by_count : (b : Bool) → own_of (Some (cond b (Exec (Handle handle) params) (CloseStmt handle))) ≡ true
-    by_count true = rw (same_to_itself handle) (params_same params)
-    by_count false = same_to_itself handle
-
-own_first : (can : Caps) (reset : Bool) (text : List ℕ) (params : List Param) → own_of (Some (cond reset Reset (body_of can text params))) ≡ true
-own_first can true text params = refl
-own_first can false text params = own_body can text params
-
-own_after : (can : Caps) (text : List ℕ) (params : List Param) (q : DriverCall) (a : DriverAnswer) → own_of (after_call can text params q a) ≡ true
-own_after can text params q Bad = refl
-own_after can text params Reset a = own_body can text params
-own_after can text params (Exec (Text t) ps) Skip = bytes_same text
-own_after can text params (Exec (Text t) ps) a = own_test can
-own_after can text params (Prepare t) (Prepared handle inputs) = own_run handle inputs params
-own_after can text params (Prepare t) a = own_test can
-own_after can text params (Exec (Handle handle) ps) a = same_to_itself handle
-own_after can text params (CloseStmt handle) a = own_test can
-own_after can text params q a = refl
-
-own_line : (can : Caps) (reset : Bool) (text : List ℕ) (params : List Param) (L : List Entry) → own_of (line_after can reset text params L) ≡ true
-own_line can reset text params [] = own_first can reset text params
-own_line can reset text params (e ∷ L) = own_after can text params e.call e.answer
+    by_end : (b : Bool) → own_of (cond b None (body_after can asked (exchanges (e ∷ L)))) ≡ true
+    by_end true = refl
+    by_end false = own_body can asked (exchanges (e ∷ L))
 
 due_is : (d : Option DriverCall) (q : DriverCall) → d ≡ Some q → own_of d ≡ true → is_due d q ≡ true
 due_is d q is own = subst (λ (x : Option DriverCall). own_of x ≡ true → is_due x q ≡ true) (sym is) (λ h. h) own
@@ -101,18 +106,18 @@ awaits c t n (Some q) p h =
     let same : q ≡ p.call = ap (λ (k : Permit). k.call) e in
     record { call = ap (λ (x : DriverCall). Some x) same; parts = sym e ∙ ap (λ (x : DriverCall). call_permit c t n x) same }
 
-pub due_of : (H : List Event) (c t n : ℕ) (q : DriverCall) → due H c t n ≡ Some q → is_due (due H c t n) q ≡ true
-due_of H c t n q is = due_is (due H c t n) q is (own_line (caps H) _ (call_record H n).text (call_record H n).params (heard_in H c t))
+pub due_of : (H : List Event) (c t n : ℕ) (q : DriverCall) → line.due H c t n ≡ Some q → is_due (line.due H c t n) q ≡ true
+due_of H c t n q is = due_is (line.due H c t n) q is (own_line (caps H) _ (asked_by (call_record H n)) (heard_in H c t))
 
 not_house : (q : DriverCall) → is_sent q ≡ true → not (is_connect q || is_shut q) ≡ true
 not_house Connect h = absurd cc
 not_house Shut h = absurd cc
 not_house _ h = refl
 
-pub may_hear_call : (H : List Event) (c t n : ℕ) (q : DriverCall) (a : DriverAnswer) → Lawful H → Settled H → place H c ≡ Lent t (Call n) → is_due (due H c t n) q ≡ true → fits_of q a ≡ true
-    → is_memory a ≡ false → Allowed H (Heard (call_entry c t n q a))
+pub may_hear_call : (H : List Event) (c t n : ℕ) (q : DriverCall) (a : DriverAnswer) → Lawful H → Settled H → place H c ≡ Lent t (Call n) → is_due (line.due H c t n) q ≡ true
+    → fits_at_its_place (journal H c) (call_entry c t n q a) ≡ true → Allowed H (Heard (call_entry c t n q a))
 unfolding Allowed
-may_hear_call H c t n q a l s is due fit heard =
+may_hear_call H c t n q a l s is due fits =
     let e : Entry = call_entry c t n q a in
     record {
       course = rw (not_first H (Heard e) (begun H c (Lent t (Call n)) is refl) refl) refl;
@@ -123,7 +128,7 @@ may_hear_call H c t n q a l s is due fit heard =
       order = rw (follows_placed H (Heard e) s.placed) refl;
       causes = refl;
       line = rw is due;
-      journals = follows_due H e t n l is due refl refl refl refl fit heard;
+      journals = follows_due H e t n l is due refl refl refl refl fits;
       replies = refl;
     }
 
@@ -136,7 +141,7 @@ record_at : {X : Type 0} (g : CallRecord → X) (b : Bool) (cs : List CallRecord
 record_at g true cs n f there same = refl
 record_at g false cs n f there same = ap g (row_at cs n (f (get_or cs n nobody)) nobody there) ∙ same (get_or cs n nobody)
 
-lent_within : (H : List Event) (c t n : ℕ) → Lawful H → place H c ≡ Lent t (Call n) → (0 < n) × (n < length (calls H))
+pub lent_within : (H : List Event) (c t n : ℕ) → Lawful H → place H c ≡ Lent t (Call n) → (0 < n) × (n < length (calls H))
 lent_within H c t n l is = let q = sound_calls H l in q.within n (q.unfinished_ones c n (rw is (same_to_itself n)))
 
 pub settled_heard : (H : List Event) (c t n : ℕ) (q : DriverCall) (a : DriverAnswer) → Lawful H → Settled H → place H c ≡ Lent t (Call n) → Lawful (Heard (call_entry c t n q a) ∷ H)
@@ -152,29 +157,30 @@ settled_heard H c t n q a l s is lawful =
           (λ m h.
           elim (same_or_not m n) [
             | inl e ↦ subst (λ (j : ℕ). is_under_way G j ≡ true) (sym e) (way_with G c n (k.at_home c n mine) (some_number H c (Lent t (Call n)) l is refl) mine)
-            | inr off ↦ way_by H G m (record_off (n == 0) (calls H) n m (λ r. record r { decided = decision (length r.params) q a r.decided }) off) refl (way_of H s m h)
+            | inr off ↦ way_by H G m (record_off (n == 0) (calls H) n m (λ r. record r { decided = decision (length r.params) r.dests q a r.decided }) off) refl (way_of H s m h)
           ]);
       few = s.few;
       none = s.none;
     }
 
 -- what is due after it
-pub due_heard : (H : List Event) (c t n : ℕ) (q : DriverCall) (a : DriverAnswer) → Lawful H → place H c ≡ Lent t (Call n)
-    → due (Heard (call_entry c t n q a) ∷ H) c t n ≡ after_call (caps H) (call_record H n).text (call_record H n).params q a
-due_heard H c t n q a l is =
-    let w = lent_within H c t n l is in
-    let text : (call_record (Heard (call_entry c t n q a) ∷ H) n).text ≡ (call_record H n).text =
-    record_at (λ r. r.text) (n == 0) (calls H) n (λ r. record r { decided = decision (length r.params) q a r.decided }) w.1 (λ r. refl) in
-    let params : (call_record (Heard (call_entry c t n q a) ∷ H) n).params ≡ (call_record H n).params =
-    record_at (λ r. r.params) (n == 0) (calls H) n (λ r. record r { decided = decision (length r.params) q a r.decided }) w.1 (λ r. refl) in
-    rw (same_to_itself c, same_to_itself t, text, params) refl
+pub due_heard : (H : List Event) (c t n : ℕ) (q : DriverCall) (a : DriverAnswer) → place H c ≡ Lent t (Call n) → Lawful (Heard (call_entry c t n q a) ∷ H)
+    → line.due (Heard (call_entry c t n q a) ∷ H) c t n
+    ≡ cond (is_bad a || is_valid q) None (body_after (caps H) (asked_by (call_record H n)) (made (Heard (call_entry c t n q a) ∷ H) c))
+due_heard H c t n q a is lawful =
+    let G : List Event = Heard (call_entry c t n q a) ∷ H in
+    let more : heard_in G c t ≡ call_entry c t n q a ∷ heard_in H c t = heard_here H (call_entry c t n q a) c t refl refl in
+    let kept : made G c ≡ exchanges (heard_in G c t) = made_lent G lawful c t n is in
+    let K : List Entry = heard_in H c t in
+    ap (λ (x : Asked). line_after (caps H) (line.is_reset_due G c) x (heard_in G c t)) (asked_heard H (call_entry c t n q a) n)
+    ∙ line_later (caps H) (line.is_reset_due G c) (asked_by (call_record H n)) (heard_in G c t) K (call_entry c t n q a) (made G c) more kept
 
 or_false : (b : Bool) → b ≡ (b || false)
 or_false true = refl
 or_false false = refl
 
 -- whether the connection is bad after it, and whether its test failed
-pub bad_heard : (H : List Event) (c t n : ℕ) (q : DriverCall) (a : DriverAnswer) → Lawful H → place H c ≡ Lent t (Call n) → is_due (due H c t n) q ≡ true
+pub bad_heard : (H : List Event) (c t n : ℕ) (q : DriverCall) (a : DriverAnswer) → Lawful H → place H c ≡ Lent t (Call n) → is_due (line.due H c t n) q ≡ true
     → is_bad a ≡ went_bad (journal (Heard (call_entry c t n q a) ∷ H) c)
 bad_heard H c t n q a l is due =
     let g = good_while_due H c t n l is (some_of _ q due) in

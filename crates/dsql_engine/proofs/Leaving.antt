@@ -22,7 +22,7 @@ use Rattle.dsql_history.proofs.Rows.{same_to_itself, other_number, has-without, 
 use Rattle.dsql_history.proofs.SoundSets.{sound_sets}
 use Rattle.dsql_history.proofs.SoundReplies.{settled_when_done}
 use Rattle.dsql_history.proofs.SoundCalls.{sound_calls}
-use Rattle.dsql_history.proofs.SoundJournals.{whole_when_lent}
+use Rattle.dsql_history.proofs.JournalLaws.{whole_when_done}
 use Rattle.dsql_history.specs.Rules.Line.{due}
 use Rattle.dsql_journal.specs.Readers.{went_bad}
 use Rattle.dsql_history.specs.declared.event.CloseCause.TheVariants.{Bad, Invalid, IdleFull, DbClosed}
@@ -42,7 +42,7 @@ may_back H c t n l s is none kept = record {
   order = rw (follows_placed H (Pool (Back c)) s.placed, is) refl;
   causes = rw (is, kept) refl;
   line = rw (is, none) refl;
-  journals = rw is (whole_when_lent H c t n l is);
+  journals = rw is (whole_when_done H c t n l is (rw none refl));
   replies = refl;
 }
 
@@ -69,7 +69,7 @@ may_close H c t n why l s is none for = record {
   order = rw (follows_placed H (Pool (CloseStart c why)) s.placed, is) refl;
   causes = rw (is, for) (cause_same why);
   line = rw (is, none) refl;
-  journals = rw is (whole_when_lent H c t n l is);
+  journals = rw is (whole_when_done H c t n l is (rw none refl));
   replies = refl;
 }
 

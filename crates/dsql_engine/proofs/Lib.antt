@@ -1,7 +1,10 @@
+pub mod Closing
 pub mod Counts
 pub mod Basics
 pub mod Leaving
 pub mod Moving
+pub mod Exchanged
+pub mod Keeping
 pub mod Shutting
 pub mod Connecting
 pub mod Hearing

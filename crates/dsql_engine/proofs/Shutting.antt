@@ -10,7 +10,7 @@ use Rattle.dsql_history.specs.Readers.Calls.{home, unfinished}
 use Rattle.dsql_history.specs.Rules.Settled.{Settled, is_under_way}
 use Rattle.dsql_history.specs.Legal.{Allowed, Lawful}
 use Rattle.dsql_history.proofs.Rows.{same_to_itself, row_off}
-use Rattle.dsql_history.proofs.SoundJournals.{follows_shut, whole_shut}
+use Rattle.dsql_history.proofs.JournalLaws.{follows_shut, whole_shut}
 use Rattle.dsql_driver.specs.declared.call.DriverCall.TheVariants.{Shut}
 use Rattle.dsql_driver.specs.declared.answer.DriverAnswer.{DriverAnswer}
 use Rattle.dsql_driver.specs.Fits.{fits_of, is_memory}

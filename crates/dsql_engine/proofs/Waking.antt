@@ -1,5 +1,5 @@
 -- A call that waited looks at its connection.
-use Rattle.std.proofs.Common.{◌≡◌, ◌≢◌, ℕ, ◌==◌, ◌⊎◌, inl, inr, Bool, true, false, not, ◌&&◌, ◌||◌, List, [], ◌∷◌, get_or, refl, arith, Some, None, is_some, ap, sym, ◌∙◌}
+use Rattle.std.proofs.Common.{◌≡◌, ◌≢◌, ℕ, ◌==◌, ◌⊎◌, inl, inr, Bool, true, false, not, ◌&&◌, ◌||◌, List, [], ◌∷◌, cond, get_or, refl, arith, Some, None, is_some, ap, sym, ◌∙◌}
 use Rattle.std.proofs.lemmas.Bool.Decides.{nat_tests}
 use Rattle.dsql_journal.specs.declared.entry.Owner.{Owner}
 use Rattle.dsql_journal.specs.declared.entry.Owner.TheVariants.{Call}
@@ -20,7 +20,11 @@ use Rattle.dsql_history.specs.Rules.Line.{due}
 use Rattle.std.specs.Prelude.{find}
 use Rattle.dsql_history.specs.Readers.Journals.{heard_in}
 use Rattle.dsql_history.specs.Readers.Course.{caps}
-use Rattle.dsql_history.specs.Rules.Line.{due, line_after, is_reset_due}
+use Rattle.dsql_driver.specs.declared.call.DriverCall.TheVariants.{Reset}
+use Rattle.dsql_history.specs.Rules.Line.{due, body_after, asked_by, is_reset_due}
+use Rattle.dsql_engine.specs.Made.{made}
+use Rattle.dsql_engine.proofs.Exchanged.{made_lent}
+use Rattle.dsql_engine.proofs.Keeping.{line_first}
 use Rattle.dsql_engine.proofs.Basics.{may_reply, all_of, used_of, way_of}
 use Rattle.dsql_engine.proofs.Moving.{way_by}
 
@@ -44,8 +48,9 @@ woken_owner H n t o l s u is =
     number_when (inl f) = same_number (number_of o) n (rw is at f)
     number_when (inr g) = absurd (cc (rw is at g.0))
 
-pub due_parked : (H : List Event) (c t n : ℕ) → heard_in H c t ≡ [] → due H c t n ≡ line_after (caps H) (is_reset_due H c) (call_record H n).text (call_record H n).params []
-due_parked H c t n none = rw none refl
+pub due_parked : (H : List Event) (c t n : ℕ) → Lawful H → place H c ≡ Lent t (Call n) → heard_in H c t ≡ []
+    → due H c t n ≡ cond (is_reset_due H c) (Some Reset) (body_after (caps H) (asked_by (call_record H n)) (made H c))
+due_parked H c t n l is none = line_first (caps H) (is_reset_due H c) (asked_by (call_record H n)) (heard_in H c t) (made H c) none (made_lent H l c t n is)
 
 -- the place of a connection that is for nobody
 pub for_nobody : (p : Place) (n : ℕ) → is_opening p ≡ false → is_lent p ≡ false → is_for n p ≡ false

@@ -1,5 +1,6 @@
 pub mod Freshly
 pub mod Latest
+pub mod Made
 pub mod Told
 pub mod Statements
 pub mod Desk

@@ -1,7 +1,8 @@
-ghost use Rattle.std.specs.Prelude.{◌≡◌, ◌+◌, ◌^◌, ◌<◌, ◌≤◌, ◌∷◌, ◌++◌, [], Some, true, is_some, length, vec_len, vec_capacity};
+ghost use Rattle.std.specs.Prelude.{◌≡◌, ℕ, ◌+◌, ◌^◌, ◌<◌, ◌≤◌, ◌∷◌, ◌++◌, [], Some, true, is_some, length, vec_len, vec_capacity};
 ghost use Rattle.dsql_history.specs.Legal.{Allowed};
 ghost use Rattle.dsql_history.specs.Rules.Settled.{Settled};
-ghost use Rattle.dsql_history.specs.Readers.Calls.{statement as text_of, params_at_entry, refused_at_entry, refusal, reply_due};
+ghost use Rattle.dsql_history.specs.Readers.Calls.{statement as text_of, params_at_entry, refused_at_entry, destinations, row_decision, call_record, refusal, reply_due};
+ghost use Rattle.dsql_driver.specs.declared.call.DriverCall.TheVariants.{Next};
 ghost use Rattle.dsql_history.specs.Readers.Course.{caps};
 ghost use Rattle.dsql_engine.specs.Groups.{told};
 ghost use Rattle.dsql_history.specs.declared.event.Move.{Move};
@@ -10,12 +11,14 @@ ghost use Rattle.dsql_journal.specs.declared.entry.Owner.TheVariants.{Call};
 ghost use Rattle.dsql_engine.specs.Desk.{past, Stands};
 
 use crate::room::{
-    count_up, move_to, note, put, set_decided, set_home, take_out, take_reply, tell_entry,
+    begin_made, count_up, move_to, note, note_exchange, put, set_decided, set_home, take_out, take_reply, tell_entry,
 };
 use crate::statement::Statement;
+use dsql_course::Progress;
 use dsql_driver::{Caps, DriverAnswer};
 use dsql_history::{CallRecord, CloseCause, Event, Move, Op, Place, Reply};
 use dsql_journal::{Entry, Owner};
+use dsql_scan::Dests;
 
 /// What is kept of the present, beside the history.
 #[derive(Drop)]
@@ -28,6 +31,8 @@ pub struct Desk {
     /// How often each connection was lent, and how often to an owner other than the layer itself.
     pub lends: Vec<u32>,
     pub uses: Vec<u32>,
+    /// What was exchanged on each connection since it was lent.
+    pub made: Vec<Progress>,
     /// The idle connections, the longest idle first.
     pub idle: Vec<u32>,
     /// Each call, by its number, and those without a reply.
@@ -40,13 +45,15 @@ pub struct Desk {
 #[tactic(auto, unfolding(crate::specs::Desk::Stands, dsql_history::specs::Legal::Allowed))]
 /// The event methods: each adds its event to the history and changes the tables.
 impl Desk {
-    /// A client's call enters, with its statement, and with its reply where its arguments are refused.
+    /// A client's call enters, with its statement, with the destinations of a row that it reads, and with
+    /// its reply where its arguments are refused.
     pub fn enter(
         &mut self,
         n: u32,
         client: u8,
         op: Op,
         statement: Statement,
+        dests: Option<Dests>,
         decided: Option<Reply>,
     )
         requires stands { Stands self.old }
@@ -55,6 +62,7 @@ impl Desk {
         requires settled { Settled (past self.old) }
         requires text { statement.text ≡ text_of op }
         requires params { statement.params ≡ params_at_entry (caps (past self.old)) op }
+        requires dests { dests ≡ destinations op }
         requires decided { decided ≡ refused_at_entry (caps (past self.old)) op }
         ensures stands { Stands self.new }
         ensures paid { self.new.paid + 1 ≡ self.old.paid }
@@ -69,6 +77,7 @@ impl Desk {
                 home: 0,
                 text: statement.text,
                 params: statement.params,
+                dests,
                 decided,
             },
         );
@@ -92,6 +101,7 @@ impl Desk {
         put(&mut self.places, Place::Opening(n));
         put(&mut self.lends, 0);
         put(&mut self.uses, 0);
+        put(&mut self.made, Progress::new());
         set_home(&mut self.calls, n, c);
     }
 
@@ -109,6 +119,7 @@ impl Desk {
         let owner = Owner::Call(n);
         count_up(&mut self.lends, c);
         count_up(&mut self.uses, c);
+        begin_made(&mut self.made, c);
         note(
             &mut self.history,
             Event::Pool(Move::Lend {
@@ -123,19 +134,22 @@ impl Desk {
         set_home(&mut self.calls, n, c);
     }
 
-    /// A driver answered; the copy is of its answer.
-    pub fn hear(&mut self, entry: Entry, copy: DriverAnswer)
+    /// A driver answered a call; the copy is of its answer, and the row is what that decides, if it is one.
+    pub fn hear(&mut self, entry: Entry, copy: DriverAnswer, row: Option<Reply>)
         requires stands { Stands self.old }
         requires paid { 0 < self.old.paid }
         requires allowed { Allowed (past self.old) (Event.Heard entry) }
         requires settled { Settled (past self.old) }
         requires same { copy ≡ entry.answer }
+        requires row { (rows : ℕ) → entry.call ≡ Next rows → row ≡ row_decision (call_record (past self.old) entry.call_no).dests entry.answer }
+        requires call { 0 < entry.call_no }
         ensures stands { Stands self.new }
         ensures paid { self.new.paid + 1 ≡ self.old.paid }
         ensures event { past self.new ≡ Event.Heard entry ∷ past self.old }
     {
         self.paid -= 1;
-        tell_entry(&mut self.calls, &entry, copy);
+        tell_entry(&mut self.calls, &entry, copy, row);
+        note_exchange(&mut self.made, &entry);
         note(&mut self.history, Event::Heard(entry));
     }
 

@@ -1,5 +1,6 @@
 ghost use Rattle.std.specs.Prelude.{◌≡◌, ◌<◌, ◌≤◌, ◌∷◌, [], ℕ, true, false, length, reverse, Some, IfOk, OnErr, IsTrue, ◌↔◌};
-ghost use Rattle.dsql_driver.specs.Fits.{fits_of, is_memory};
+ghost use Rattle.dsql_journal.specs.HandlesAndCursors.{fits_at_its_place};
+ghost use Rattle.dsql_history.specs.Readers.Journals.{journal};
 ghost use Rattle.dsql_history.specs.Legal.{Legal};
 ghost use Rattle.dsql_history.specs.Readers.Course.{has_ended};
 ghost use Rattle.dsql_history.specs.Readers.Calls.{is_busy};
@@ -69,11 +70,10 @@ impl Engine {
         Ok(self.desk.enter_call(client, op, entering))
     }
 
-    /// A driver's answer is heard; the copy is of that answer.
+    /// A driver's answer is heard; the copy is of that answer, which fits at its place in the journal.
     pub fn heard(&mut self, entry: Entry, copy: DriverAnswer) -> Result<Next, NoRoom>
         requires awaited { awaited self.old entry.conn ≡ Some (permit_of entry) }
-        requires fitting { fits_of entry.call entry.answer ≡ true }
-        requires heard { is_memory entry.answer ≡ false }
+        requires fits { fits_at_its_place (journal self.old entry.conn) entry ≡ true }
         requires same { copy ≡ entry.answer }
         requires room { length self.old < most_events }
         ensures group { IfOk result (λ next. self.new ≡ after_heard self.old entry) }
@@ -82,8 +82,9 @@ impl Engine {
         ensures legal { Legal self.new }
     {
         let statement = self.desk.statement(self.alloc, entry.call_no)?;
+        let row = self.desk.row_decided(self.alloc, &entry)?;
         self.desk.pay(4)?;
-        Ok(self.desk.hear_answer(entry, copy, statement))
+        Ok(self.desk.hear_answer(entry, copy, statement, row))
     }
 
     /// A client's unfinished call looks at its connection again.

@@ -1,16 +1,19 @@
 //! Questions to the tables, each answered in a reader's word.
-ghost use Rattle.std.specs.Prelude.{◌≡◌, ◌+◌, ◌^◌, ◌<◌, ◌≤◌, ◌∷◌, [], Some, None, Option, List, length, nat_lt, slice_index_or, IfOk, OnOk, OnErr, position, is_none};
-ghost use Rattle.dsql_value.specs.Arguments.{count_fault};
+ghost use Rattle.std.specs.Prelude.{◌≡◌, ◌||◌, ◌+◌, ◌^◌, ◌<◌, ◌≤◌, ◌∷◌, [], Some, None, Option, List, length, nat_lt, slice_index_or, IfOk, OnOk, OnErr, position, cond, ℕ};
 ghost use Rattle.dsql_engine.specs.Statements.{statement_of};
 ghost use Rattle.dsql_history.specs.Readers.Course.{caps, has_ended};
 ghost use Rattle.dsql_history.specs.Readers.Sets.{place, places, idle, open_count, next_number, next_tenure, uses};
-ghost use Rattle.dsql_history.specs.Readers.Calls.{call_record, home, next_call, is_busy, unfinished};
+ghost use Rattle.dsql_history.specs.Readers.Calls.{call_record, home, next_call, is_busy, unfinished, row_decision, told_row, word_of};
 ghost use Rattle.dsql_history.specs.Rules.Limit.{room};
-ghost use Rattle.dsql_history.specs.Rules.Line.{is_reset_due, line_after, body_of, run_of, test_of, after_call};
+ghost use Rattle.dsql_history.specs.Rules.Line.{is_reset_due, body_after, course_of, sent_as, test_of};
+ghost use Rattle.dsql_engine.specs.Made.{made};
+ghost use Rattle.dsql_engine.specs.Statements.{asked_of};
+ghost use Rattle.dsql_driver.specs.declared.call.DriverCall.TheVariants.{Reset, Next, Exec, Query};
+ghost use Rattle.dsql_scan.specs.Rows.{row_of};
 ghost use Rattle.dsql_history.specs.Rules.House.{shut_due, connect_due};
 ghost use Rattle.dsql_history.specs.Rules.Causes.{cause_when};
 ghost use Rattle.dsql_driver.specs.Fits.{is_invalid, is_done};
-ghost use Rattle.dsql_journal.specs.Kinds.{is_bad};
+ghost use Rattle.dsql_journal.specs.Kinds.{is_bad, is_valid};
 ghost use Rattle.dsql_engine.specs.Desk.{past, Stands};
 ghost use Rattle.dsql_engine.specs.Groups.{call_of};
 ghost use Rattle.dsql_engine.specs.Awaited.{shut_permit, connect_permit};
@@ -18,10 +21,13 @@ ghost use Rattle.dsql_engine.specs.Latest.{latest, oldest};
 
 use crate::desk::Desk;
 use crate::statement::{Statement, statement_of as copy_of_statement};
+use crate::next::NoRoom;
+use dsql_course::{Course, Due, Progress};
 use dsql_driver::{Caps, DriverAnswer, DriverCall, Input};
-use dsql_history::{CloseCause, Place};
-use dsql_journal::{Owner, Permit};
-use dsql_value::{Items, Memory, Params, Txt};
+use dsql_history::{CloseCause, FaultWord, Place, Reply};
+use dsql_journal::{Entry, Owner, Permit};
+use dsql_scan::{Dest, Dests, RowFault, ScanFault, scan_row};
+use dsql_value::{Items, Memory, Params, Txt, Value};
 use std::alloc::Global;
 
 #[tactic(auto, unfolding(crate::specs::Desk::Stands))]
@@ -155,8 +161,61 @@ impl Desk {
             None => {
                 let text = Txt::copy_of(alloc, "")?;
                 let params = Items::none(alloc);
-                Ok(Statement { text, params })
+                Ok(Statement {
+                    text,
+                    params,
+                    reads: false,
+                })
             }
+        }
+    }
+
+    /// What a call sends next on the connection that is lent to it, after its Reset, if that is due.
+    pub fn next_call_on(&self, c: u32, statement: Statement) -> Option<DriverCall>
+        requires { Stands self.now }
+        ensures { result ≡ body_after (caps (past self.now)) (asked_of statement) (made (past self.now) c) }
+    {
+        match self.made.get(c as usize) {
+            Some(made) => body_after(self.caps, statement, made),
+            None => body_after(self.caps, statement, &Progress::new()),
+        }
+    }
+
+    /// What a call sends first on the connection that is lent to it.
+    pub fn first_call_on(&self, c: u32, statement: Statement) -> Option<DriverCall>
+        requires { Stands self.now }
+        ensures { result ≡ cond (is_reset_due (past self.now) c) (Some Reset) (body_after (caps (past self.now)) (asked_of statement) (made (past self.now) c)) }
+    {
+        if self.is_reset_due(c) {
+            return Some(DriverCall::Reset);
+        }
+        self.next_call_on(c, statement)
+    }
+
+    /// What the answer to a Next decides for the call of an entry.
+    pub fn row_decided(&self, alloc: Global, entry: &Entry) -> Result<Option<Reply>, NoRoom>
+        requires { Stands self.now }
+        ensures { IfOk result (λ row. (rows : ℕ) → entry.now.call ≡ Next rows → row ≡ row_decision (call_record (past self.now) entry.now.call_no).dests entry.now.answer) }
+    {
+        match &entry.call {
+            DriverCall::Next(_) => self.fetch_decided(alloc, entry.call_no, &entry.answer),
+            _ => Ok(None),
+        }
+    }
+
+    /// What the answer to a fetch decides for a call.
+    fn fetch_decided(
+        &self,
+        alloc: Global,
+        n: u32,
+        answer: &DriverAnswer,
+    ) -> Result<Option<Reply>, NoRoom>
+        requires { Stands self.now }
+        ensures { IfOk result (λ row. row ≡ row_decision (call_record (past self.now) n).dests answer.now) }
+    {
+        match self.calls.get(n as usize) {
+            Some(call) => row_decision(alloc, &call.dests, answer),
+            None => row_decision(alloc, &None, answer),
         }
     }
 
@@ -287,76 +346,122 @@ fn test_of(caps: Caps) -> Option<DriverCall>
     }
 }
 
-/// The statement: its text is run where the driver has the fast path, else it is prepared.
-pub fn body_of(caps: Caps, statement: Statement) -> DriverCall
-    ensures { result ≡ body_of caps statement.text statement.params }
+/// The course of a call that runs a statement.
+fn course_of(statement: &Statement) -> Course
+    ensures { result ≡ course_of (asked_of statement.now) }
 {
-    if caps.fast_exec {
-        DriverCall::Exec(Input::Text(statement.text), statement.params)
+    if statement.reads {
+        Course::One
     } else {
-        DriverCall::Prepare(statement.text)
+        Course::Exec
     }
 }
 
-/// The run of a handle that wants so many inputs, or its close where there is another number of parameters.
-pub fn run_of(handle: u32, inputs: i32, params: Params) -> DriverCall
-    ensures { result ≡ run_of handle inputs params }
+/// The run of a text or a handle.
+fn run_of(reads: bool, input: Input, params: Params) -> DriverCall
+    ensures { result ≡ cond reads (Query input params) (Exec input params) }
 {
-    if takes(inputs, params.as_slice().len()) {
-        DriverCall::Exec(Input::Handle(handle), params)
+    if reads {
+        DriverCall::Query(input, params)
     } else {
-        DriverCall::CloseStmt(handle)
+        DriverCall::Exec(input, params)
     }
 }
 
-/// Whether a handle with so many inputs takes so many parameters.
-fn takes(inputs: i32, count: usize) -> bool
-    ensures { result ≡ is_none (count_fault inputs count) }
+/// The driver call that a call of a statement's course is. At the end of the course the connection is tested.
+fn sent_as(caps: Caps, statement: Statement, due: Due) -> Option<DriverCall>
+    ensures { result ≡ sent_as caps (asked_of statement) due }
 {
-    match u32::try_from(inputs) {
-        Ok(want) => want as usize == count,
-        Err(_) => true,
+    let Statement {
+        text,
+        params,
+        reads,
+    } = statement;
+    match due {
+        Due::Text => Some(run_of(reads, Input::Text(text), params)),
+        Due::Prepare => Some(DriverCall::Prepare(text)),
+        Due::Handle(handle) => Some(run_of(reads, Input::Handle(handle), params)),
+        Due::Next(rows) => Some(DriverCall::Next(rows)),
+        Due::CloseRows(rows) => Some(DriverCall::CloseRows(rows)),
+        Due::CloseStmt(handle) => Some(DriverCall::CloseStmt(handle)),
+        _ => test_of(caps),
     }
 }
 
-/// What a call sends first on a connection that was lent to it.
-pub fn first_call(caps: Caps, reset_due: bool, statement: Statement) -> Option<DriverCall>
-    ensures { result ≡ line_after caps reset_due statement.text statement.params [] }
+/// What the course of a statement sends next.
+fn body_after(caps: Caps, statement: Statement, made: &Progress) -> Option<DriverCall>
+    ensures { result ≡ body_after caps (asked_of statement) made.now }
 {
-    if reset_due {
-        return Some(DriverCall::Reset);
-    }
-    Some(body_of(caps, statement))
+    let count = statement.params.as_slice().len();
+    let due = made.next(course_of(&statement), caps, count, false, false);
+    sent_as(caps, statement, due)
 }
 
-/// What comes after a driver call and its answer.
-pub fn next_after(
-    caps: Caps,
-    statement: Statement,
-    call: &DriverCall,
+/// The word of a fault of scanning, if it isn't want of memory.
+fn word_of(fault: ScanFault) -> Option<FaultWord>
+    ensures { result ≡ word_of fault }
+{
+    match fault {
+        ScanFault::FromNull(_) => Some(FaultWord::FromNull),
+        ScanFault::NotANumber => Some(FaultWord::NotANumber),
+        ScanFault::OutOfRange => Some(FaultWord::OutOfRange),
+        ScanFault::NotABool => Some(FaultWord::NotABool),
+        ScanFault::NotUtf8 => Some(FaultWord::NotUtf8),
+        ScanFault::Unsupported { .. } => Some(FaultWord::Unsupported),
+        ScanFault::Memory => None,
+    }
+}
+
+/// What a fetched row decides for a call with these destinations.
+fn row_decision(
+    alloc: Global,
+    dests: &Option<Dests>,
     answer: &DriverAnswer,
-) -> Option<DriverCall>
-    ensures { result ≡ after_call caps statement.text statement.params call.now answer.now }
+) -> Result<Option<Reply>, NoRoom>
+    ensures { IfOk result (λ row. row ≡ row_decision dests.now answer.now) }
 {
-    if is_bad_answer(answer) {
-        return None;
-    }
-    match call {
-        DriverCall::Reset => Some(body_of(caps, statement)),
-        DriverCall::Exec(Input::Text(_), _) => match answer {
-            DriverAnswer::Skip => Some(DriverCall::Prepare(statement.text)),
-            _ => test_of(caps),
+    match answer {
+        DriverAnswer::Row(values) => match dests {
+            Some(dests) => row_reply(alloc, values.as_slice(), dests.as_slice()),
+            None => Ok(None),
         },
-        DriverCall::Exec(Input::Handle(handle), _) => Some(DriverCall::CloseStmt(*handle)),
-        DriverCall::Prepare(_) => match answer {
-            DriverAnswer::Prepared { handle, inputs } => {
-                Some(run_of(*handle, *inputs, statement.params))
-            }
-            _ => test_of(caps),
-        },
-        DriverCall::CloseStmt(_) => test_of(caps),
-        _ => None,
+        DriverAnswer::End => Ok(Some(Reply::NoRows)),
+        DriverAnswer::Fail(text) => Ok(Some(Reply::Driver(text.copy()?))),
+        DriverAnswer::Bad => Ok(Some(Reply::BadConn(1))),
+        DriverAnswer::Result { last, affected } => Ok(Some(Reply::Result {
+            last: *last,
+            affected: *affected,
+        })),
+        _ => Ok(None),
     }
+}
+
+/// What the values of a row decide for a call with these destinations.
+fn row_reply(alloc: Global, values: &[Value], dests: &[Dest]) -> Result<Option<Reply>, NoRoom>
+    ensures { IfOk result (λ reply. reply ≡ told_row (row_of values.now dests.now)) }
+{
+    match scan_row(alloc, values, dests) {
+        Ok(cells) => Ok(Some(Reply::Cells(cells))),
+        Err(RowFault::DestCount { want, got }) => Ok(Some(Reply::DestCount { want, got })),
+        Err(RowFault::At { index, fault }) => Ok(word_of(fault).map(|fault| Reply::Scan {
+            column: index,
+            fault,
+        })),
+        Err(RowFault::Memory) => Err(NoRoom),
+    }
+}
+
+pub fn is_valid_call(call: &DriverCall) -> bool
+    ensures { result ≡ is_valid call.now }
+{
+    matches!(call, DriverCall::Valid)
+}
+
+/// Whether nothing comes after this entry in its call.
+pub fn ends_line(entry: &Entry) -> bool
+    ensures { result ≡ (is_bad entry.now.answer || is_valid entry.now.call) }
+{
+    is_bad_answer(&entry.answer) || is_valid_call(&entry.call)
 }
 
 pub fn is_bad_answer(answer: &DriverAnswer) -> bool

@@ -2,12 +2,14 @@
 ghost use Rattle.std.specs.Prelude.{◌≡◌, ◌+◌, ◌<◌, ◌≤◌, ◌^◌, ◌∷◌, ◌++◌, [], ℕ, Some, None, true, is_some, length, List, reverse, slice_set, slice_index_or, vec_len, vec_capacity};
 ghost use Rattle.dsql_history.specs.Readers.Lists.{without};
 ghost use Rattle.dsql_history.specs.Readers.Sets.{one_more};
-ghost use Rattle.dsql_history.specs.Readers.Calls.{with_record, decision, reply_to, told_of, nobody};
+ghost use Rattle.dsql_history.specs.Readers.Calls.{with_record, decision, closing_decision, row_decision, reply_to, told_of, nobody};
+ghost use Rattle.dsql_history.specs.Readers.Exchanges.{step_of, got_of, with_exchange};
 ghost use Rattle.dsql_value.specs.Arguments.{count_fault};
-ghost use Rattle.dsql_driver.specs.declared.call.DriverCall.TheVariants.{Prepare};
-ghost use Rattle.dsql_engine.specs.Told.{told_entry};
+ghost use Rattle.dsql_driver.specs.declared.call.DriverCall.TheVariants.{Prepare, Next, CloseRows};
+ghost use Rattle.dsql_engine.specs.Told.{told_entry, are_cells};
 
-use dsql_driver::{DriverAnswer, DriverCall};
+use dsql_course::{Due, Got, Progress};
+use dsql_driver::{DriverAnswer, DriverCall, Input};
 use dsql_history::{CallRecord, Event, Place, Reply};
 use dsql_journal::Entry;
 
@@ -125,14 +127,24 @@ fn count_of_params(calls: &Vec<CallRecord>, n: u32) -> usize
     }
 }
 
-/// Tells a call what one of its driver calls was answered.
-pub fn tell(calls: &mut Vec<CallRecord>, n: u32, call: &DriverCall, answer: DriverAnswer)
-    ensures items { calls.new.items ≡ with_record n (λ r. record r { decided = decision (length r.params) call.now answer r.decided }) calls.old.items }
+/// Tells a call what one of its driver calls was answered, and what a row that it fetched decides.
+pub fn tell(
+    calls: &mut Vec<CallRecord>,
+    n: u32,
+    call: &DriverCall,
+    answer: DriverAnswer,
+    row: Option<Reply>,
+)
+    requires row { (rows : ℕ) → call.now ≡ Next rows → row ≡ row_decision (slice_index_or calls.old.items n nobody).dests answer }
+    ensures items { calls.new.items ≡ with_record n (λ r. record r { decided = decision (length r.params) r.dests call.now answer r.decided }) calls.old.items }
     ensures len { vec_len calls.new ≡ vec_len calls.old }
     ensures capacity { vec_capacity calls.new ≡ vec_capacity calls.old }
 {
     match call {
         DriverCall::Exec(_, _) => set_decided(calls, n, reply_of(answer)),
+        DriverCall::Query(_, _) => set_decided(calls, n, reply_of(answer)),
+        DriverCall::Next(_) => set_decided(calls, n, row),
+        DriverCall::CloseRows(_) => tell_closing(calls, n, answer),
         DriverCall::Prepare(_) => tell_prepare(calls, n, answer),
         DriverCall::Reset => {
             if let DriverAnswer::Bad = answer {
@@ -143,9 +155,36 @@ pub fn tell(calls: &mut Vec<CallRecord>, n: u32, call: &DriverCall, answer: Driv
     }
 }
 
+/// Tells a call what its CloseRows was answered: where that failed, it is told in place of the row.
+#[tactic(auto, using(crate::proofs::Closing::closing_other, crate::proofs::Closing::closing_failed, crate::proofs::Closing::closing_bad, crate::proofs::Closing::closing_well))]
+fn tell_closing(calls: &mut Vec<CallRecord>, n: u32, answer: DriverAnswer)
+    ensures items { (rows : ℕ) → calls.new.items ≡ with_record n (λ r. record r { decided = decision (length r.params) r.dests (CloseRows rows) answer r.decided }) calls.old.items }
+    ensures len { vec_len calls.new ≡ vec_len calls.old }
+    ensures capacity { vec_capacity calls.new ≡ vec_capacity calls.old }
+{
+    if !has_cells(calls, n) {
+        return;
+    }
+    match answer {
+        DriverAnswer::Fail(text) => set_decided(calls, n, Some(Reply::Driver(text))),
+        DriverAnswer::Bad => set_decided(calls, n, Some(Reply::BadConn(1))),
+        _ => {}
+    }
+}
+
+/// Whether a call is to reply a row.
+fn has_cells(calls: &Vec<CallRecord>, n: u32) -> bool
+    ensures { result ≡ are_cells (slice_index_or calls.now.items n nobody).decided }
+{
+    match calls.get(n as usize) {
+        Some(call) => matches!(&call.decided, Some(Reply::Cells(_))),
+        None => false,
+    }
+}
+
 /// Tells a call what its Prepare was answered.
 fn tell_prepare(calls: &mut Vec<CallRecord>, n: u32, answer: DriverAnswer)
-    ensures items { (text : List ℕ) → calls.new.items ≡ with_record n (λ r. record r { decided = decision (length r.params) (Prepare text) answer r.decided }) calls.old.items }
+    ensures items { (text : List ℕ) → calls.new.items ≡ with_record n (λ r. record r { decided = decision (length r.params) r.dests (Prepare text) answer r.decided }) calls.old.items }
     ensures len { vec_len calls.new ≡ vec_len calls.old }
     ensures capacity { vec_capacity calls.new ≡ vec_capacity calls.old }
 {
@@ -158,8 +197,15 @@ fn tell_prepare(calls: &mut Vec<CallRecord>, n: u32, answer: DriverAnswer)
     }
 }
 
-/// Tells the call of an entry what it was answered; the copy is of the entry's answer.
-pub fn tell_entry(calls: &mut Vec<CallRecord>, entry: &Entry, copy: DriverAnswer)
+/// Tells the call of an entry what it was answered, and what a row that it fetched decides; the copy is of
+/// the entry's answer.
+pub fn tell_entry(
+    calls: &mut Vec<CallRecord>,
+    entry: &Entry,
+    copy: DriverAnswer,
+    row: Option<Reply>,
+)
+    requires row { (rows : ℕ) → entry.now.call ≡ Next rows → row ≡ row_decision (slice_index_or calls.old.items entry.now.call_no nobody).dests copy }
     ensures items { calls.new.items ≡ told_entry entry.now.call_no entry.now.call copy calls.old.items }
     ensures len { vec_len calls.new ≡ vec_len calls.old }
     ensures capacity { vec_capacity calls.new ≡ vec_capacity calls.old }
@@ -167,7 +213,7 @@ pub fn tell_entry(calls: &mut Vec<CallRecord>, entry: &Entry, copy: DriverAnswer
     if entry.call_no == 0 {
         return;
     }
-    tell(calls, entry.call_no, &entry.call, copy);
+    tell(calls, entry.call_no, &entry.call, copy, row);
 }
 
 /// Takes the reply that is settled out of a call's record.
@@ -185,4 +231,67 @@ pub fn take_reply(calls: &mut Vec<CallRecord>, n: u32) -> Reply
         }
     }
     unreachable!()
+}
+
+/// Nothing was exchanged yet on a connection that is lent.
+pub fn begin_made(made: &mut Vec<Progress>, c: u32)
+    ensures items { made.new.items ≡ slice_set made.old.items c [] }
+    ensures len { vec_len made.new ≡ vec_len made.old }
+    ensures capacity { vec_capacity made.new ≡ vec_capacity made.old }
+{
+    let c = c as usize;
+    if c < made.len() {
+        made[c] = Progress::new();
+    }
+}
+
+/// Adds what was exchanged on a connection with its call.
+pub fn note_exchange(made: &mut Vec<Progress>, entry: &Entry)
+    ensures items { made.new.items ≡ slice_set made.old.items entry.now.conn (with_exchange (step_of entry.now.call) entry.now.answer (slice_index_or made.old.items entry.now.conn [])) }
+    ensures len { vec_len made.new ≡ vec_len made.old }
+    ensures capacity { vec_capacity made.new ≡ vec_capacity made.old }
+{
+    let c = entry.conn as usize;
+    if c < made.len() {
+        if let Some(step) = step_of(&entry.call) {
+            made[c] = made[c].with(step, got_of(&entry.answer));
+        }
+    }
+}
+
+/// The call of a course that a driver call is.
+fn step_of(call: &DriverCall) -> Option<Due>
+    ensures { result ≡ step_of call.now }
+{
+    match call {
+        DriverCall::Exec(Input::Text(_), _) => Some(Due::Text),
+        DriverCall::Exec(Input::Handle(handle), _) => Some(Due::Handle(*handle)),
+        DriverCall::Query(Input::Text(_), _) => Some(Due::Text),
+        DriverCall::Query(Input::Handle(handle), _) => Some(Due::Handle(*handle)),
+        DriverCall::Prepare(_) => Some(Due::Prepare),
+        DriverCall::Next(rows) => Some(Due::Next(*rows)),
+        DriverCall::CloseRows(rows) => Some(Due::CloseRows(*rows)),
+        DriverCall::CloseStmt(handle) => Some(Due::CloseStmt(*handle)),
+        _ => None,
+    }
+}
+
+/// An answer as far as later calls depend on it.
+fn got_of(answer: &DriverAnswer) -> Got
+    ensures { result ≡ got_of answer.now }
+{
+    match answer {
+        DriverAnswer::Done => Got::Done,
+        DriverAnswer::Prepared { handle, inputs } => Got::Prepared {
+            handle: *handle,
+            inputs: *inputs,
+        },
+        DriverAnswer::Result { .. } => Got::Result,
+        DriverAnswer::Cursor { rows, .. } => Got::Cursor(*rows),
+        DriverAnswer::Row(_) => Got::Row,
+        DriverAnswer::End => Got::End,
+        DriverAnswer::Skip => Got::Skip,
+        DriverAnswer::Bad => Got::Bad,
+        _ => Got::Fail,
+    }
 }

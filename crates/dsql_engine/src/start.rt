@@ -6,6 +6,7 @@ ghost use Rattle.dsql_engine.specs.Desk.{past, Stands};
 
 use crate::desk::Desk;
 use crate::next::NoRoom;
+use dsql_course::Progress;
 use dsql_driver::Caps;
 use dsql_history::{CallRecord, Event, Place};
 use dsql_value::{Items, Txt};
@@ -27,6 +28,8 @@ impl Desk {
         lends.push(0)?;
         let mut uses = Vec::new(alloc);
         uses.push(0)?;
+        let mut made = Vec::new(alloc);
+        made.push(Progress::new())?;
         let mut calls = Vec::new(alloc);
         let text = Txt::copy_of(alloc, "")?;
         calls.push(CallRecord {
@@ -34,6 +37,7 @@ impl Desk {
             home: 0,
             text,
             params: Items::none(alloc),
+            dests: None,
             decided: None,
         })?;
         Ok(Desk {
@@ -43,6 +47,7 @@ impl Desk {
             places,
             lends,
             uses,
+            made,
             idle: Vec::new(alloc),
             calls,
             unfinished: Vec::new(alloc),
@@ -61,6 +66,7 @@ impl Desk {
         self.places.reserve(events)?;
         self.lends.reserve(events)?;
         self.uses.reserve(events)?;
+        self.made.reserve(events)?;
         self.idle.reserve(events)?;
         self.calls.reserve(events)?;
         self.unfinished.reserve(events)?;

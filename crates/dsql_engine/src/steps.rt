@@ -1,5 +1,5 @@
 //! Whole steps: compositions of event methods, each of which leaves the history settled.
-ghost use Rattle.std.specs.Prelude.{◌≡◌, ◌+◌, ◌<◌, ◌≤◌, ◌∷◌, [], Some, None, true, false, length, nat_lt, option_map};
+ghost use Rattle.std.specs.Prelude.{◌≡◌, ℕ, cond, ◌+◌, ◌<◌, ◌≤◌, ◌∷◌, [], Some, None, true, false, length, nat_lt, option_map};
 ghost use Rattle.dsql_driver.specs.Fits.{fits_of, is_memory, is_invalid, is_done};
 ghost use Rattle.dsql_journal.specs.Readers.{went_bad, is_empty};
 ghost use Rattle.dsql_journal.specs.declared.entry.Owner.TheVariants.{Call};
@@ -7,9 +7,11 @@ ghost use Rattle.dsql_history.specs.Legal.{Lawful};
 ghost use Rattle.dsql_history.specs.Readers.Course.{caps, has_ended};
 ghost use Rattle.dsql_history.specs.Readers.Sets.{place, idle, open_count, next_tenure, is_for};
 ghost use Rattle.dsql_history.specs.Readers.Journals.{journal, ends_invalid, heard_in};
-ghost use Rattle.dsql_history.specs.Readers.Calls.{statement as text_of, arguments, told_of, reply_due, next_call, is_busy, call_record, home, is_unfinished};
+ghost use Rattle.dsql_driver.specs.declared.call.DriverCall.TheVariants as calls;
+ghost use Rattle.dsql_journal.specs.HandlesAndCursors.{fits_at_its_place};
+ghost use Rattle.dsql_history.specs.Readers.Calls.{statement as text_of, arguments, destinations, row_decision, told_of, reply_due, next_call, is_busy, call_record, home, is_unfinished};
 ghost use Rattle.dsql_history.specs.Rules.House.{is_quiet};
-ghost use Rattle.dsql_history.specs.Rules.Line.{due};
+ghost use Rattle.dsql_history.specs.Rules.Line.{due, reads_row, body_after};
 ghost use Rattle.dsql_history.specs.Rules.Limit.{room};
 ghost use Rattle.dsql_history.specs.Rules.Causes.{cause};
 ghost use Rattle.dsql_history.specs.Rules.Settled.{Settled};
@@ -20,7 +22,8 @@ ghost use Rattle.dsql_history.specs.declared.record.Place.TheVariants.{Opening, 
 ghost use Rattle.dsql_engine.specs.Desk.{past, Stands};
 ghost use Rattle.dsql_engine.specs.Awaited.{awaited, connect_permit, shut_permit, call_permit, permit_of};
 ghost use Rattle.dsql_engine.specs.Latest.{latest};
-ghost use Rattle.dsql_engine.specs.Statements.{statement_of, Enters};
+ghost use Rattle.dsql_engine.specs.Statements.{statement_of, asked_of, Enters};
+ghost use Rattle.dsql_engine.specs.Made.{made};
 ghost use Rattle.dsql_value.specs.Arguments.{first_fault, params_of};
 ghost use Rattle.dsql_engine.specs.Freshly.{Freshly};
 ghost use Rattle.dsql_engine.specs.Groups.{after_enter, after_ask, after_heard, after_answer, after_lending, after_end, lent_to, leaving, told};
@@ -28,12 +31,13 @@ ghost use Rattle.dsql_engine.specs.Steps.{NextAfterEnter, NextAfterAsk, NextAfte
 
 use crate::desk::Desk;
 use crate::next::{Next, Why};
-use crate::queries::{first_call, is_bad_answer, is_done_answer, is_invalid_answer, next_after};
+use crate::queries::{is_bad_answer, is_done_answer, is_invalid_answer, ends_line};
 use crate::room::reply_of;
 use crate::statement::{Entering, Statement};
 use dsql_driver::{DriverAnswer, DriverCall};
 use dsql_history::{CloseCause, Op, Place, Reply};
 use dsql_journal::{Entry, Owner, Permit};
+use dsql_scan::Dests;
 
 impl Desk {
     /// Uses the connection that is lent to a call: what is due is sent, and where nothing is, the
@@ -114,15 +118,26 @@ impl Desk {
         ensures next { NextAfterEnter (past self.old) client op result (past self.new) }
     {
         match entering {
-            Entering::Asking { kept, sent } => self.enter_and_ask(client, op, kept, sent),
-            Entering::Refused { statement, reply } => {
-                self.enter_refused(client, op, statement, reply)
+            Entering::Asking { dests, kept, sent } => {
+                self.enter_and_ask(client, op, dests, kept, sent)
             }
+            Entering::Refused {
+                dests,
+                statement,
+                reply,
+            } => self.enter_refused(client, op, dests, statement, reply),
         }
     }
 
     /// A client's call enters and asks for a connection. Its statement comes twice: it is kept, and sent.
-    fn enter_and_ask(&mut self, client: u8, op: Op, kept: Statement, sent: Statement) -> Next
+    fn enter_and_ask(
+        &mut self,
+        client: u8,
+        op: Op,
+        dests: Option<Dests>,
+        kept: Statement,
+        sent: Statement,
+    ) -> Next
         requires stands { Stands self.old }
         requires settled { Settled (past self.old) }
         requires begun { is_empty (past self.old) ≡ false }
@@ -132,6 +147,8 @@ impl Desk {
         requires accepted { first_fault (caps (past self.old)).named (arguments op) ≡ None }
         requires text { kept.text ≡ text_of op }
         requires params { kept.params ≡ params_of (arguments op) }
+        requires dests { dests ≡ destinations op }
+        requires reads { kept.reads ≡ reads_row (destinations op) }
         requires copy { sent ≡ kept }
         requires paid { 4 ≤ self.old.paid }
         ensures stands { Stands self.new }
@@ -140,7 +157,7 @@ impl Desk {
         ensures next { NextAfterEnter (past self.old) client op result (past self.new) }
     {
         let n = self.next_call();
-        self.enter(n, client, op, kept, None);
+        self.enter(n, client, op, kept, dests, None);
         match self.latest() {
             Some(c) => self.lend_idle(c, n, sent),
             None => self.open_or_refuse(n),
@@ -148,7 +165,14 @@ impl Desk {
     }
 
     /// A client's call enters, and replies that an argument is refused.
-    fn enter_refused(&mut self, client: u8, op: Op, statement: Statement, reply: Reply) -> Next
+    fn enter_refused(
+        &mut self,
+        client: u8,
+        op: Op,
+        dests: Option<Dests>,
+        statement: Statement,
+        reply: Reply,
+    ) -> Next
         requires stands { Stands self.old }
         requires settled { Settled (past self.old) }
         requires begun { is_empty (past self.old) ≡ false }
@@ -157,6 +181,7 @@ impl Desk {
         requires refused { told_of (first_fault (caps (past self.old)).named (arguments op)) ≡ Some reply }
         requires text { statement.text ≡ text_of op }
         requires params { statement.params ≡ [] }
+        requires dests { dests ≡ destinations op }
         requires paid { 4 ≤ self.old.paid }
         ensures stands { Stands self.new }
         ensures settled { Settled (past self.new) }
@@ -164,7 +189,7 @@ impl Desk {
         ensures next { NextAfterEnter (past self.old) client op result (past self.new) }
     {
         let n = self.next_call();
-        self.enter(n, client, op, statement, Some(reply));
+        self.enter(n, client, op, statement, dests, Some(reply));
         self.tell(n);
         Next::Reply(n)
     }
@@ -186,7 +211,7 @@ impl Desk {
     {
         let tenure = self.next_tenure(c);
         self.lend(c, tenure, n);
-        let next = first_call(self.caps(), self.is_reset_due(c), statement);
+        let next = self.first_call_on(c, statement);
         self.use_lent(c, tenure, n, next, false, false)
     }
 
@@ -215,13 +240,21 @@ impl Desk {
         }
     }
 
-    /// A driver's answer is heard; the copy is of that answer, and the text of its call's statement.
-    pub fn hear_answer(&mut self, entry: Entry, copy: DriverAnswer, statement: Statement) -> Next
+    /// A driver's answer is heard; the copy is of that answer, the statement is its call's, and the row is what
+    /// a fetch decides.
+    #[tactic(auto, using(crate::proofs::Basics::fitting_of, crate::proofs::Basics::heard_of))]
+    pub fn hear_answer(
+        &mut self,
+        entry: Entry,
+        copy: DriverAnswer,
+        statement: Statement,
+        row: Option<Reply>,
+    ) -> Next
         requires stands { Stands self.old }
         requires settled { Settled (past self.old) }
         requires awaited { awaited (past self.old) entry.conn ≡ Some (permit_of entry) }
-        requires fitting { fits_of entry.call entry.answer ≡ true }
-        requires heard { is_memory entry.answer ≡ false }
+        requires fits { fits_at_its_place (journal (past self.old) entry.conn) entry ≡ true }
+        requires row { (rows : ℕ) → entry.call ≡ calls.Next rows → row ≡ row_decision (call_record (past self.old) entry.call_no).dests entry.answer }
         requires same { copy ≡ entry.answer }
         requires few { length (past self.old) < 4000000 }
         requires statement { statement ≡ statement_of (call_record (past self.old) entry.call_no) }
@@ -234,7 +267,7 @@ impl Desk {
         match self.place(entry.conn) {
             Place::Opening(n) => self.hear_connect(n, entry, copy),
             Place::Lent(tenure, Owner::Call(n)) => self.hear_call(
-                tenure, n, entry, copy, statement,
+                tenure, n, entry, copy, statement, row,
             ),
             Place::Closing => self.hear_shut(entry),
             _ => unreachable!(),
@@ -337,13 +370,14 @@ impl Desk {
         entry: Entry,
         copy: DriverAnswer,
         statement: Statement,
+        row: Option<Reply>,
     ) -> Next
         requires stands { Stands self.old }
         requires settled { Settled (past self.old) }
         requires lent { place (past self.old) entry.conn ≡ Lent tenure (Call n) }
         requires awaited { option_map (call_permit entry.conn tenure n) (due (past self.old) entry.conn tenure n) ≡ Some (permit_of entry) }
-        requires fitting { fits_of entry.call entry.answer ≡ true }
-        requires heard { is_memory entry.answer ≡ false }
+        requires fits { fits_at_its_place (journal (past self.old) entry.conn) entry ≡ true }
+        requires row { (rows : ℕ) → entry.call ≡ calls.Next rows → row ≡ row_decision (call_record (past self.old) n).dests entry.answer }
         requires same { copy ≡ entry.answer }
         requires statement { statement ≡ statement_of (call_record (past self.old) n) }
         requires paid { 4 ≤ self.old.paid }
@@ -353,11 +387,26 @@ impl Desk {
         ensures next { NextAfterAnswer (Lent tenure (Call n)) entry (Heard entry ∷ past self.old) result (past self.new) }
     {
         let c = entry.conn;
-        let next = next_after(self.caps(), statement, &entry.call, &entry.answer);
         let bad = is_bad_answer(&entry.answer);
         let invalid = is_invalid_answer(&entry.answer);
-        self.hear(entry, copy);
+        let over = ends_line(&entry);
+        self.hear(entry, copy, row);
+        let next = self.next_unless(over, c, statement);
         self.use_lent(c, tenure, n, next, bad, invalid)
+    }
+}
+
+impl Desk {
+    /// What a call sends next on its connection, unless that is over.
+    fn next_unless(&self, over: bool, c: u32, statement: Statement) -> Option<DriverCall>
+        requires { Stands self.now }
+        ensures { result ≡ cond over None (body_after (caps (past self.now)) (asked_of statement) (made (past self.now) c)) }
+    {
+        if over {
+            None
+        } else {
+            self.next_call_on(c, statement)
+        }
     }
 }
 
@@ -416,7 +465,7 @@ impl Desk {
         ensures group { past self.new ≡ after_lending c tenure n (past self.old) }
         ensures next { NextOfBody c n (due (past self.old) c tenure n) result (past self.new) }
     {
-        let next = first_call(self.caps(), self.is_reset_due(c), statement);
+        let next = self.first_call_on(c, statement);
         self.use_lent(c, tenure, n, next, false, false)
     }
 

@@ -1,7 +1,13 @@
+pub mod CallLines
+pub mod CallJournals
+pub mod MadeLines
+pub mod MadeNext
 pub mod Rows
 pub mod SoundSets
 pub mod SoundCalls
 pub mod Lines
 pub mod Standing
 pub mod SoundJournals
+pub mod SoundLines
+pub mod JournalLaws
 pub mod SoundReplies

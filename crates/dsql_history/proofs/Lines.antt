@@ -1,35 +1,39 @@
--- What is heard in the tenure of an exec: how far its line has come, and what may come next.
-use Rattle.std.proofs.Common.{◌≡◌, ℕ, ℤ, ◌<◌, ◌≤◌, Bool, true, false, cond, ◌&&◌, ◌||◌, List, [], ◌∷◌, length, Option, Some, None, is_none, refl, ap, is_some}
+-- A connection that serves a call: how far the call has come in its tenure, and what may come next.
+use Rattle.std.proofs.Common.{◌≡◌, ℕ, ◌<◌, ◌≤◌, Bool, true, false, cond, not, ◌==◌, ◌&&◌, ◌||◌, List, [], ◌∷◌, Option, Some, None, is_none, refl, ap, is_some, sym, ◌∙◌}
 use Rattle.std.specs.List.{list_all}
 use native.Mathlib.Omega.{arith}
 use Rattle.std.proofs.lemmas.Bool.Decides.{nat_tests}
-use Rattle.dsql_value.specs.declared.value.Param.{Param}
-use Rattle.dsql_value.specs.Arguments.{count_fault}
 use Rattle.dsql_driver.specs.Fits.{fits_of, is_memory, is_invalid}
 use Rattle.dsql_driver.specs.declared.caps.Caps.{Caps}
 use Rattle.dsql_driver.specs.declared.call.DriverCall.{DriverCall}
-use Rattle.dsql_driver.specs.declared.call.DriverCall.TheVariants.{Reset, Valid, Prepare, Exec, CloseStmt}
+use Rattle.dsql_driver.specs.declared.call.DriverCall.TheVariants.{Reset, Valid, Prepare, Exec, Query, Next, CloseRows, CloseStmt}
 use Rattle.dsql_driver.specs.declared.call.Input.TheVariants.{Text, Handle}
 use Rattle.dsql_driver.specs.declared.answer.DriverAnswer.{DriverAnswer}
-use Rattle.dsql_driver.specs.declared.answer.DriverAnswer.TheVariants.{Prepared, Skip, Bad, Invalid}
+use Rattle.dsql_driver.specs.declared.answer.DriverAnswer.TheVariants.{Invalid, Bad}
+use Rattle.dsql_course.specs.Made.{Exchange}
 use Rattle.dsql_journal.specs.declared.entry.Entry.{Entry}
 use Rattle.dsql_journal.specs.declared.entry.Owner.{Owner}
 use Rattle.dsql_journal.specs.declared.entry.Owner.TheVariants.{Call, Tx, Pin, House}
 use Rattle.dsql_journal.specs.Kinds.{is_valid, is_bad, same_owner}
-use Rattle.dsql_journal.specs.Readers.{LiveHandle, is_empty, of_tenure, last_tenure, handles, handles_after, went_invalid}
+use Rattle.dsql_journal.specs.Readers.{LiveHandle, LiveCursor, is_empty, of_tenure, last_tenure, handles, handles_after, cursors, cursors_after, went_invalid}
+use Rattle.dsql_journal.specs.HandlesAndCursors.{fits_at_its_place}
 use Rattle.dsql_journal.specs.Journal.{may_follow, IsJournalPrefix}
 use Rattle.dsql_journal.specs.Entries.{call_entry}
 use Rattle.dsql_journal.specs.ExecJournals.{Plain, Good}
 use Rattle.dsql_journal.proofs.Tenures.{of_tenure-new}
-use Rattle.dsql_journal.proofs.ExecLines.{Start, WasReset, WasSkipped, WasPrepared, WasRun, WasDone, step, step_after, goes, Live, SoFar, so_far-start, so_far-next, is_sent}
-use Rattle.dsql_journal.proofs.ExecJournals.{Good-with, Plain-sent, Sends, of_tenure-with, may_follow-sent}
+use Rattle.dsql_journal.proofs.ExecJournals.{Good-with, of_tenure-with}
 use Rattle.dsql_history.specs.Readers.Journals.{ends_invalid}
-use Rattle.dsql_history.specs.Rules.Line.{line_after, is_due, after_call, body_of, run_of, test_of}
+use Rattle.dsql_history.specs.Readers.Exchanges.{exchanges, step_of, with_exchange}
+use Rattle.dsql_history.specs.Rules.Line.{Asked, line_after, body_after, is_due}
+use Rattle.dsql_history.proofs.CallLines.{Step, Start, WasReset, WasSkipped, WasPrepared, HasRows, HasRead, WasRun, WasDone, WasTested, WasDropped, IsOther, step, step_after, goes, Live, Open, SoFar, so_far-start, so_far-next, is_sent}
+use Rattle.dsql_history.proofs.CallJournals.{Served, served_of, served_sent, Sends, may_follow-sent}
+use Rattle.dsql_history.proofs.MadeLines.{MadeAt, is_ended, ended_by, is_clean, clean_when_done, goes_body}
+use Rattle.dsql_history.proofs.MadeNext.{made_next, made_reset}
 
 -- the tenure sends nothing more
 abbrev pub is_over : List Entry → Bool
 is_over [] = false
-is_over (e ∷ earlier) = is_valid e.call || is_bad e.answer
+is_over (e ∷ earlier) = is_bad e.answer || is_valid e.call
 
 pub sent_of : (d : Option DriverCall) (call : DriverCall) → is_due d call ≡ true → is_sent call ≡ true
 sent_of (Some Reset) Reset h = refl
@@ -37,6 +41,10 @@ sent_of (Some Valid) Valid h = refl
 sent_of (Some (Prepare text)) (Prepare other) h = refl
 sent_of (Some (Exec (Text text) params)) (Exec (Text other) others) h = refl
 sent_of (Some (Exec (Handle handle) params)) (Exec (Handle other) others) h = refl
+sent_of (Some (Query (Text text) params)) (Query (Text other) others) h = refl
+sent_of (Some (Query (Handle handle) params)) (Query (Handle other) others) h = refl
+sent_of (Some (Next rows)) (Next other) h = refl
+sent_of (Some (CloseRows rows)) (CloseRows other) h = refl
 sent_of (Some (CloseStmt handle)) (CloseStmt other) h = refl
 sent_of _ _ h = absurd cc
 
@@ -45,102 +53,107 @@ some_of None call h = absurd cc
 some_of (Some q) call h = refl
 
 -- where something is due the tenure isn't over
-pub due_while : (can : Caps) (reset : Bool) (text : List ℕ) (params : List Param) (L : List Entry) → is_some (line_after can reset text params L) ≡ true → is_over L ≡ false
-due_while can reset text params [] h = refl
-due_while can reset text params (e ∷ earlier) h = go e.call e.answer h
+pub due_while : (can : Caps) (reset : Bool) (asked : Asked) (L : List Entry) → is_some (line_after can reset asked L) ≡ true → is_over L ≡ false
+due_while can reset asked [] h = refl
+due_while can reset asked (e ∷ earlier) h = by_end (is_bad e.answer || is_valid e.call) h
   where
-    go : (q : DriverCall) (a : DriverAnswer) → is_some (after_call can text params q a) ≡ true → is_valid q || is_bad a ≡ false
-    go q Bad h = absurd cc
-    go Valid a h = absurd cc
-    go _ _ h = refl
+    by_end : (b : Bool) → is_some (cond b None (body_after can asked (exchanges (e ∷ earlier)))) ≡ true → b ≡ false
+    by_end true k = absurd cc
+    by_end false k = refl
 
--- what is due is what an exec may send there
-goes_test : (can : Caps) (call : DriverCall) → is_due (test_of can) call ≡ true → goes WasDone call ≡ true
-goes_test can call h = by_can can.validator call h
+-- what is due behind an entry is what the course sends
+pub body_due : (can : Caps) (reset : Bool) (asked : Asked) (e : Entry) (earlier : List Entry) (call : DriverCall) → is_due (line_after can reset asked (e ∷ earlier)) call ≡ true
+    → (is_bad e.answer || is_valid e.call ≡ false) × (is_due (body_after can asked (exchanges (e ∷ earlier))) call ≡ true)
+body_due can reset asked e earlier call h = by_end (is_bad e.answer || is_valid e.call) h
   where
-    by_can : (b : Bool) (q : DriverCall) → is_due (cond b (Some Valid) None) q ≡ true → goes WasDone q ≡ true
-    by_can true Valid k = refl
-    by_can true _ k = absurd cc
-    by_can false q k = absurd cc
+    by_end : (b : Bool) → is_due (cond b None (body_after can asked (exchanges (e ∷ earlier)))) call ≡ true
+        → (b ≡ false) × (is_due (body_after can asked (exchanges (e ∷ earlier))) call ≡ true)
+    by_end true k = absurd cc
+    by_end false k = (refl, k)
 
-goes_body : (can : Caps) (text : List ℕ) (params : List Param) (call : DriverCall) → is_due (Some (body_of can text params)) call ≡ true
-    → (goes Start call ≡ true) × (goes WasReset call ≡ true)
-goes_body can text params call h = by_can can.fast_exec call h
-  where
-    by_can : (b : Bool) (q : DriverCall) → is_due (Some (cond b (Exec (Text text) params) (Prepare text))) q ≡ true → (goes Start q ≡ true) × (goes WasReset q ≡ true)
-    by_can true (Exec (Text other) others) k = (refl, refl)
-    by_can true _ k = absurd cc
-    by_can false (Prepare other) k = (refl, refl)
-    by_can false _ k = absurd cc
+first_due : (can : Caps) (reset : Bool) (asked : Asked) (call : DriverCall) → is_due (cond reset (Some Reset) (body_after can asked [])) call ≡ true → goes Start call ≡ true
+first_due can true asked Reset h = refl
+first_due can true asked _ h = absurd cc
+first_due can false asked call h = goes_body can asked Start [] call refl refl h
 
-goes_run : (handle : ℕ) (inputs : ℤ) (params : List Param) (call : DriverCall) → is_due (Some (run_of handle inputs params)) call ≡ true → goes (WasPrepared handle) call ≡ true
-goes_run handle inputs params call h = by_count (is_none (count_fault inputs (length params))) call h
-  where
-    by_count : (b : Bool) (q : DriverCall) → is_due (Some (cond b (Exec (Handle handle) params) (CloseStmt handle))) q ≡ true → goes (WasPrepared handle) q ≡ true
-    by_count true (Exec (Handle other) others) k = grind (arith, k)
-    by_count true _ k = absurd cc
-    by_count false (CloseStmt other) k = k
-    by_count false _ k = absurd cc
+-- what is due may be sent
+pub goes_due : (can : Caps) (reset : Bool) (asked : Asked) (L : List Entry) (call : DriverCall) → MadeAt can asked (step L) (exchanges L) → is_due (line_after can reset asked L) call ≡ true
+    → goes (step L) call ≡ true
+goes_due can reset asked [] call made h = first_due can reset asked call h
+goes_due can reset asked (e ∷ earlier) call made h =
+    let k = body_due can reset asked e earlier call h in
+    goes_body can asked (step (e ∷ earlier)) (exchanges (e ∷ earlier)) call (ended_by (step earlier) e.call e.answer k.0) made k.1
 
-goes_close : (handle : ℕ) (call : DriverCall) → is_due (Some (CloseStmt handle)) call ≡ true → goes (WasRun handle) call ≡ true
-goes_close handle (CloseStmt other) h = h
-goes_close handle _ h = absurd cc
+first_made : (can : Caps) (reset : Bool) (asked : Asked) (q : DriverCall) (a : DriverAnswer) → is_due (cond reset (Some Reset) (body_after can asked [])) q ≡ true
+    → (fits_of q a && not (is_memory a)) ≡ true → MadeAt can asked (step_after Start q a) (with_exchange (step_of q) a [])
+first_made can true asked Reset a h fit = made_reset can asked a
+first_made can true asked _ a h fit = absurd cc
+first_made can false asked q a h fit = made_next can asked Start q a [] refl refl h fit
 
-goes_prepare : (text : List ℕ) (call : DriverCall) → is_due (Some (Prepare text)) call ≡ true → goes WasSkipped call ≡ true
-goes_prepare text (Prepare other) h = refl
-goes_prepare text _ h = absurd cc
+-- what was exchanged once it was answered
+pub made_on : (can : Caps) (reset : Bool) (asked : Asked) (L : List Entry) (q : DriverCall) (a : DriverAnswer) → MadeAt can asked (step L) (exchanges L)
+    → is_due (line_after can reset asked L) q ≡ true → (fits_of q a && not (is_memory a)) ≡ true → MadeAt can asked (step_after (step L) q a) (with_exchange (step_of q) a (exchanges L))
+made_on can reset asked [] q a made h fit = first_made can reset asked q a h fit
+made_on can reset asked (e ∷ earlier) q a made h fit =
+    let k = body_due can reset asked e earlier q h in
+    made_next can asked (step (e ∷ earlier)) q a (exchanges (e ∷ earlier)) (ended_by (step earlier) e.call e.answer k.0) made k.1 fit
 
-goes_first : (can : Caps) (reset : Bool) (text : List ℕ) (params : List Param) (call : DriverCall) → is_due (Some (cond reset Reset (body_of can text params))) call ≡ true → goes Start call ≡ true
-goes_first can true text params Reset h = refl
-goes_first can true text params _ h = absurd cc
-goes_first can false text params call h = let k = goes_body can text params call h in k.0
-
-pub goes_due : (can : Caps) (reset : Bool) (text : List ℕ) (params : List Param) (L : List Entry) (call : DriverCall) → is_due (line_after can reset text params L) call ≡ true → goes (step L) call ≡ true
-goes_due can reset text params [] call h = goes_first can reset text params call h
-goes_due can reset text params (e ∷ earlier) call h = go e.call e.answer h
-  where
-    go : (q : DriverCall) (a : DriverAnswer) → is_due (after_call can text params q a) call ≡ true → goes (step_after q a) call ≡ true
-    go q Bad k = absurd cc
-    go Reset a k = let m = goes_body can text params call k in m.1
-    go (Exec (Text t) ps) Skip k = goes_prepare text call k
-    go (Exec (Text t) ps) a k = goes_test can call k
-    go (Prepare t) (Prepared handle inputs) k = goes_run handle inputs params call k
-    go (Prepare t) a k = goes_test can call k
-    go (Exec (Handle handle) ps) a k = goes_close handle call k
-    go (CloseStmt handle) a k = goes_test can call k
-    go q a k = absurd cc
-
--- where nothing is due any more, and nothing was answered Bad just now, no handle is left
+-- where nothing is due any more, and nothing was answered Bad just now, neither a handle nor a cursor is left
 abbrev pub ends_bad : List Entry → Bool
 ends_bad [] = false
 ends_bad (e ∷ earlier) = is_bad e.answer
 
-pub none_left : (t n : ℕ) (can : Caps) (reset : Bool) (text : List ℕ) (params : List Param) (L : List Entry) → SoFar t n (step L) L → is_none (line_after can reset text params L) ≡ true
-    → ends_bad L ≡ false → handles L ≡ []
-none_left t n can reset text params [] so none not_bad = refl
-none_left t n can reset text params (e ∷ earlier) so none not_bad = go e.call e.answer (handles (e ∷ earlier)) none not_bad so.live
-  where
-    go : (q : DriverCall) (a : DriverAnswer) (live : List LiveHandle) → is_none (after_call can text params q a) ≡ true → is_bad a ≡ false → Live t n (step_after q a) live → live ≡ []
-    go q Bad live k m is = absurd cc
-    go Reset a live k m is = absurd cc
-    go (Exec (Text text) ps) Skip live k m is = absurd cc
-    go (Exec (Text text) ps) a live k m is = is
-    go (Prepare text) (Prepared handle inputs) live k m is = absurd cc
-    go (Prepare text) a live k m is = is
-    go (Exec (Handle handle) ps) a live k m is = absurd cc
-    go (CloseStmt handle) a live k m is = is
-    go Valid a live k m is = is
-    go q a live k m is = absurd is
+pub record NoneLeft (L : List Entry) : Type 0 where
+  pub handles : handles L ≡ []
+  pub cursors : cursors L ≡ []
 
--- The connection c serves the exec of call n in tenure t.
+clean_left : (t n : ℕ) (s : Step) (L : List Entry) → is_clean s ≡ true → (s ≡ WasDropped → ⊥) → SoFar t n s L → NoneLeft L
+clean_left t n Start L c d so = record { handles = so.live; cursors = so.open_rows }
+clean_left t n WasReset L c d so = record { handles = so.live; cursors = so.open_rows }
+clean_left t n WasSkipped L c d so = record { handles = so.live; cursors = so.open_rows }
+clean_left t n WasDone L c d so = record { handles = so.live; cursors = so.open_rows }
+clean_left t n WasTested L c d so = record { handles = so.live; cursors = so.open_rows }
+clean_left t n WasDropped L c d so = absurd (d refl)
+clean_left t n IsOther L c d so = absurd so.live
+clean_left t n (WasPrepared handle) L c d so = absurd cc
+clean_left t n (HasRows own rows) L c d so = absurd cc
+clean_left t n (HasRead own rows) L c d so = absurd cc
+clean_left t n (WasRun handle) L c d so = absurd cc
+
+ended_not : (s : Step) → is_ended s ≡ false → s ≡ WasDropped → ⊥
+ended_not s h is = let k = rw is at h in cc
+
+valid_clean : (t n : ℕ) (s : Step) (q : DriverCall) (a : DriverAnswer) (L : List Entry) → is_valid q ≡ true → is_bad a ≡ false → SoFar t n (step_after s q a) L → NoneLeft L
+valid_clean t n s Valid Bad L v b so = absurd cc
+valid_clean t n s Valid a L v b so = record { handles = so.live; cursors = so.open_rows }
+valid_clean t n s q a L v b so = absurd cc
+
+pub none_left : (t n : ℕ) (can : Caps) (reset : Bool) (asked : Asked) (L : List Entry) → SoFar t n (step L) L → MadeAt can asked (step L) (exchanges L)
+    → is_none (line_after can reset asked L) ≡ true → ends_bad L ≡ false → NoneLeft L
+none_left t n can reset asked [] so made none not_bad = record { handles = refl; cursors = refl }
+none_left t n can reset asked (e ∷ earlier) so made none not_bad = by_valid (is_valid e.call) refl
+  where
+    both_not : (a b : Bool) → a ≡ false → b ≡ false → a || b ≡ false
+    both_not a b h k = grind (arith, h, k)
+
+    by_valid : (b : Bool) → is_valid e.call ≡ b → NoneLeft (e ∷ earlier)
+    by_valid true is = valid_clean t n (step earlier) e.call e.answer (e ∷ earlier) is not_bad so
+    by_valid false is =
+        let going : is_bad e.answer || is_valid e.call ≡ false = both_not (is_bad e.answer) (is_valid e.call) not_bad is in
+        let over : is_none (body_after can asked (exchanges (e ∷ earlier))) ≡ true = rw going at none in
+        clean_left t n (step (e ∷ earlier)) (e ∷ earlier) (clean_when_done can asked (step (e ∷ earlier)) (exchanges (e ∷ earlier)) made over)
+        (ended_not (step (e ∷ earlier)) (ended_by (step earlier) e.call e.answer going)) so
+
+-- The connection c serves call n in tenure t.
 pub record Serves (c t n : ℕ) (J : List Entry) : Type 0 where
-  pub plain : Plain c J
+  pub served : Served c J
   pub rising : last_tenure J ≤ t
   pub tested : ends_invalid J ≡ false → went_invalid J ≡ false
   pub good : is_over (of_tenure t J) ≡ false → Good J
   pub own : list_all (λ x. same_owner x.owner (Call n)) (of_tenure t J) ≡ true
   pub so_far : SoFar t n (step (of_tenure t J)) (of_tenure t J)
   pub live : handles J ≡ handles (of_tenure t J)
+  pub open_rows : cursors J ≡ cursors (of_tenure t J)
   pub first : of_tenure t J ≡ [] → last_tenure J < t
   pub going : is_empty (of_tenure t J) ≡ false → last_tenure J ≡ t
 
@@ -149,13 +162,14 @@ pub serves_first : (c t n : ℕ) (J : List Entry) → IsJournalPrefix J → Plai
 serves_first c t n J beginning plain good none above =
     let new : of_tenure t J ≡ [] = of_tenure-new t J beginning above in
     record {
-      plain = plain;
+      served = served_of c J plain;
       rising = omega arith;
       tested = λ h. good.not_invalid;
       good = λ h. good;
       own = rw new refl;
       so_far = rw new (so_far-start t n);
       live = rw new none;
+      open_rows = rw new plain.no_cursors;
       first = λ h. above;
       going = rw new (λ h. absurd cc);
     }
@@ -173,53 +187,56 @@ all_more : (a b : Bool) → a ≡ true → b ≡ true → a && b ≡ true
 all_more a b h k = grind (arith)
 
 -- what is known where what is due is sent
-sends : (c t n : ℕ) (J : List Entry) (can : Caps) (reset : Bool) (text : List ℕ) (params : List Param) (q : DriverCall) → Serves c t n J
-    → is_due (line_after can reset text params (of_tenure t J)) q ≡ true → Sends c t n q J
-sends c t n J can reset text params q s due =
-    let going = due_while can reset text params (of_tenure t J) (some_of (line_after can reset text params (of_tenure t J)) q due) in
+sends : (c t n : ℕ) (J : List Entry) (can : Caps) (reset : Bool) (asked : Asked) (q : DriverCall) → Serves c t n J → MadeAt can asked (step (of_tenure t J)) (exchanges (of_tenure t J))
+    → is_due (line_after can reset asked (of_tenure t J)) q ≡ true → Sends c t n q J
+sends c t n J can reset asked q s made due =
+    let going = due_while can reset asked (of_tenure t J) (some_of (line_after can reset asked (of_tenure t J)) q due) in
     record {
-      plain = s.plain;
+      served = s.served;
       good = s.good going;
       rising = s.rising;
       own = s.own;
       so_far = s.so_far;
       live = s.live;
-      next = goes_due can reset text params (of_tenure t J) q due;
+      open_rows = s.open_rows;
+      going = s.going;
+      next = goes_due can reset asked (of_tenure t J) q made due;
     }
 
--- what is due may follow
-pub may_follow-due : (c t n : ℕ) (J : List Entry) (can : Caps) (reset : Bool) (text : List ℕ) (params : List Param) (q : DriverCall) (a : DriverAnswer)
-    → Serves c t n J → is_due (line_after can reset text params (of_tenure t J)) q ≡ true
-    → fits_of q a ≡ true → is_memory a ≡ false → may_follow J (call_entry c t n q a) ≡ true
-may_follow-due c t n J can reset text params q a s due fit heard =
-    may_follow-sent c t n q a J (sends c t n J can reset text params q s due) (sent_of (line_after can reset text params (of_tenure t J)) q due) fit heard
+-- what is due may follow, for each answer that fits there
+pub may_follow-due : (c t n : ℕ) (J : List Entry) (can : Caps) (reset : Bool) (asked : Asked) (q : DriverCall) (a : DriverAnswer)
+    → Serves c t n J → MadeAt can asked (step (of_tenure t J)) (exchanges (of_tenure t J)) → is_due (line_after can reset asked (of_tenure t J)) q ≡ true
+    → fits_at_its_place J (call_entry c t n q a) ≡ true → may_follow J (call_entry c t n q a) ≡ true
+may_follow-due c t n J can reset asked q a s made due fits =
+    may_follow-sent c t n q a J (sends c t n J can reset asked q s made due) (sent_of (line_after can reset asked (of_tenure t J)) q due) fits
 
 -- only a Valid is answered Invalid
-invalid_only : (q : DriverCall) (a : DriverAnswer) → is_sent q ≡ true → fits_of q a ≡ true → is_valid q || is_bad a ≡ false → is_invalid a ≡ false
-invalid_only Reset Invalid sent fit h = absurd cc
+invalid_only : (q : DriverCall) (a : DriverAnswer) → is_sent q ≡ true → fits_of q a ≡ true → is_bad a || is_valid q ≡ false → is_invalid a ≡ false
 invalid_only (Exec (Text text) params) Invalid sent fit h = absurd cc
 invalid_only (Exec (Handle handle) params) Invalid sent fit h = absurd cc
-invalid_only (Prepare text) Invalid sent fit h = absurd cc
-invalid_only (CloseStmt handle) Invalid sent fit h = absurd cc
+invalid_only (Query (Text text) params) Invalid sent fit h = absurd cc
+invalid_only (Query (Handle handle) params) Invalid sent fit h = absurd cc
 invalid_only q Invalid sent fit h = absurd cc
 invalid_only q _ sent fit h = refl
 
 -- a connection that sent what was due serves on
-pub serves_on : (c t n : ℕ) (J : List Entry) (can : Caps) (reset : Bool) (text : List ℕ) (params : List Param) (q : DriverCall) (a : DriverAnswer)
-    → Serves c t n J → is_due (line_after can reset text params (of_tenure t J)) q ≡ true → fits_of q a ≡ true → Serves c t n (call_entry c t n q a ∷ J)
-serves_on c t n J can reset text params q a s due fit =
-    let sent : is_sent q ≡ true = sent_of (line_after can reset text params (of_tenure t J)) q due in
-    let over : is_over (of_tenure t J) ≡ false = due_while can reset text params (of_tenure t J) (some_of (line_after can reset text params (of_tenure t J)) q due) in
+pub serves_on : (c t n : ℕ) (J : List Entry) (can : Caps) (reset : Bool) (asked : Asked) (q : DriverCall) (a : DriverAnswer)
+    → Serves c t n J → MadeAt can asked (step (of_tenure t J)) (exchanges (of_tenure t J)) → is_due (line_after can reset asked (of_tenure t J)) q ≡ true → fits_of q a ≡ true
+    → Serves c t n (call_entry c t n q a ∷ J)
+serves_on c t n J can reset asked q a s made due fit =
+    let sent : is_sent q ≡ true = sent_of (line_after can reset asked (of_tenure t J)) q due in
+    let over : is_over (of_tenure t J) ≡ false = due_while can reset asked (of_tenure t J) (some_of (line_after can reset asked (of_tenure t J)) q due) in
     let good : Good J = s.good over in
     let more : of_tenure t (call_entry c t n q a ∷ J) ≡ call_entry c t n q a ∷ of_tenure t J = of_tenure-with t (call_entry c t n q a) J refl in
     record {
-      plain = Plain-sent c t n q a J s.plain sent;
+      served = served_sent c t n q a J s.served sent;
       rising = omega arith;
       tested = λ h. grind (arith, h, good.not_invalid);
       good = rw more (λ h. Good-with (call_entry c t n q a) J good (grind (arith, h)) (invalid_only q a sent fit h));
       own = rw more (all_more (same_owner (Call n) (Call n)) (list_all (λ x. same_owner x.owner (Call n)) (of_tenure t J)) (same_call n) s.own);
-      so_far = rw more (so_far-next c t n (step (of_tenure t J)) q a (of_tenure t J) s.so_far (goes_due can reset text params (of_tenure t J) q due));
+      so_far = rw more (so_far-next c t n (step (of_tenure t J)) q a (of_tenure t J) s.so_far (goes_due can reset asked (of_tenure t J) q made due));
       live = rw more (ap (handles_after (call_entry c t n q a) q a) s.live);
+      open_rows = rw more (ap (cursors_after (call_entry c t n q a) q a) s.open_rows);
       first = rw more (λ h. absurd cc);
       going = λ h. refl;
     }

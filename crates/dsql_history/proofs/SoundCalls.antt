@@ -20,7 +20,7 @@ use Rattle.dsql_history.specs.declared.reply.Reply.{Reply}
 use Rattle.dsql_history.specs.Readers.Lists.{last}
 use Rattle.dsql_history.specs.Readers.Course.{caps, has_ended}
 use Rattle.dsql_history.specs.Readers.Sets.{places, place, idle, is_idle, is_opening, is_for, number_of, next_number, next_tenure}
-use Rattle.dsql_history.specs.Readers.Calls.{calls, home, unfinished, is_unfinished, next_call, nobody, with_record, call_record, has_not_asked, statement, params_at_entry, refused_at_entry, is_busy, decision, refusal}
+use Rattle.dsql_history.specs.Readers.Calls.{calls, home, unfinished, is_unfinished, next_call, nobody, with_record, call_record, has_not_asked, statement, params_at_entry, refused_at_entry, destinations, is_busy, decision, refusal}
 use Rattle.dsql_history.specs.Rules.House.{is_quiet, has_no_chore}
 use Rattle.dsql_history.specs.Rules.Moves.{moves_from, numbers_lending}
 use Rattle.dsql_history.specs.Rules.Asking.{may_ask, takes_latest}
@@ -233,7 +233,7 @@ calls_same H e s p u end home_is len = record {
 }
 
 entered_home : (H : List Event) (k n : ℕ) (op : Op) (m : ℕ) → home (Entered k n op ∷ H) m ≡ home H m
-entered_home H k n op m = grind (arith, read_push (calls H) (record { client = k; home = 0; text = statement op; params = params_at_entry (caps H) op; decided = refused_at_entry (caps H) op }) m nobody, within_rows (calls H) m nobody)
+entered_home H k n op m = grind (arith, read_push (calls H) (record { client = k; home = 0; text = statement op; params = params_at_entry (caps H) op; dests = destinations op; decided = refused_at_entry (caps H) op }) m nobody, within_rows (calls H) m nobody)
 
 calls_entered : (H : List Event) (k n : ℕ) (op : Op) → SoundCalls H → n ≡ length (calls H) → SoundCalls (Entered k n op ∷ H)
 calls_entered H k n op s new = record {
@@ -261,8 +261,8 @@ heard_length cs false n f = length-with_record n f cs
 calls_heard : (H : List Event) (e : Entry) → SoundCalls H → SoundCalls (Heard e ∷ H)
 calls_heard H e s =
     calls_same H (Heard e) s refl refl refl
-    (λ m. heard_home (calls H) (e.call_no == 0) e.call_no (λ r. record r { decided = decision (length r.params) e.call e.answer r.decided }) m (λ r. refl))
-    (heard_length (calls H) (e.call_no == 0) e.call_no (λ r. record r { decided = decision (length r.params) e.call e.answer r.decided }))
+    (λ m. heard_home (calls H) (e.call_no == 0) e.call_no (λ r. record r { decided = decision (length r.params) r.dests e.call e.answer r.decided }) m (λ r. refl))
+    (heard_length (calls H) (e.call_no == 0) e.call_no (λ r. record r { decided = decision (length r.params) r.dests e.call e.answer r.decided }))
 
 replied_home : (H : List Event) (n : ℕ) (reply : Reply) (m : ℕ) → home (Replied n reply ∷ H) m ≡ home H m
 replied_home H n reply m = same_home (calls H) n m (λ r. record r { decided = None }) (λ r. refl)

@@ -32,13 +32,17 @@ use Rattle.dsql_history.specs.Rules.Order.{follows, follows_answer, lends_to, fa
 use Rattle.dsql_history.specs.Rules.Moves.{moves_from, numbers_lending, hears_in}
 use Rattle.dsql_history.specs.Rules.Causes.{returns_from}
 use Rattle.dsql_history.specs.Rules.Line as line
-use Rattle.dsql_history.specs.Rules.Line.{sends_from, is_reset_due, due, is_due}
+use Rattle.dsql_history.specs.Readers.Exchanges.{exchanges}
+use Rattle.dsql_history.specs.Rules.Line.{sends_from, is_reset_due, due, is_due, asked_by}
+use Rattle.dsql_history.specs.Rules.Journals.{leaves_whole}
 use Rattle.dsql_history.specs.Rules.Settled.{is_placed}
 use Rattle.dsql_history.specs.Legal.{Allowed, Lawful, has_left, KeepsJournals}
 use Rattle.dsql_history.proofs.Rows.{both, same_number, same_to_itself, other_number, by_number, row_at, row_off, row_new, row_old, read_set, within_rows, length_push}
 use Rattle.dsql_history.proofs.SoundSets.{SoundSets, sound_sets}
 use Rattle.dsql_history.proofs.SoundCalls.{LendFacts, lend_facts, Opened, OpenFacts, open_facts, Asked, owner_of}
-use Rattle.dsql_history.proofs.Lines.{call_owner, call_entry_of, due_while, may_follow-due}
+use Rattle.dsql_history.proofs.CallLines.{step}
+use Rattle.dsql_history.proofs.MadeLines.{MadeAt}
+use Rattle.dsql_history.proofs.Lines.{call_owner}
 use Rattle.dsql_history.proofs.Standing.{Stands, Rests, Leaves, stands_on, works_first, rests_opened, rests_again, leaves_idle, leaves_lent, opens_heard, works_heard, good_now}
 
 -- what was heard of connection c fits where it stands
@@ -50,6 +54,13 @@ pub record SoundJournals (H : List Event) : Type 0 where
   pub beginnings : (c : ℕ) → IsJournalPrefix (journal H c)
   pub unborn : (c : ℕ) → length (places H) ≤ c → journal H c ≡ []
   pub stands : (c : ℕ) → StandsIn H c
+
+-- what was exchanged in the tenure of call n fits how far that has come
+abbrev pub MadeIn : List Event → ℕ → ℕ → ℕ → Type 0
+MadeIn H c t n = MadeAt (caps H) (asked_by (call_record H n)) (step (heard_in H c t)) (exchanges (heard_in H c t))
+
+abbrev pub AllMade : List Event → Type 0
+AllMade H = (c t n : ℕ) → place H c ≡ Lent t (Call n) → MadeIn H c t n
 
 -- the event moves the connection as its Connect or Shut was answered
 abbrev leaves_set : ℕ → Event → Bool
@@ -149,7 +160,7 @@ stands_open H c n z s a f d =
     (row_old (places H) (Opening n) d Nowhere (λ e. not (e ∙ sym a.new))))
 
 -- a connection to be lent is at rest, as is one that was opened just now
-rests_from : (H : List Event) (c n : ℕ) → SoundJournals H → ((place H c ≡ Idle) × Asked H n) ⊎ Opened H c n → Rests c (lends H c) (journal H c)
+pub rests_from : (H : List Event) (c n : ℕ) → SoundJournals H → ((place H c ≡ Idle) × Asked H n) ⊎ Opened H c n → Rests c (lends H c) (journal H c)
 rests_from H c n s (inl w) = rw w.0 at (s.stands c)
 rests_from H c n s (inr w) = rests_opened c (lends H c) (uses H c) (was_just_heard c H) (journal H c) (rw (w.for_it, w.heard) at (s.stands c))
 
@@ -184,29 +195,29 @@ unfolding Allowed
 back_kept H c a = (a.causes, a.line)
 
 -- a connection that is given back is one that was lent
-rests_back : (H : List Event) (c : ℕ) (q : Place) → StandsIn H c → place H c ≡ q → is_lent q || is_opening q ≡ true → not (is_opening q) ≡ true → returns_from H q c ≡ true
+rests_back : (H : List Event) (c : ℕ) (q : Place) → AllMade H → StandsIn H c → place H c ≡ q → is_lent q || is_opening q ≡ true → not (is_opening q) ≡ true → returns_from H q c ≡ true
     → line.leaves_from H q c ≡ true → Rests c (lends H c) (journal H c)
-rests_back H c (Lent t (Call n)) s p moves when kept over =
-    rests_again c (lends H c) t n (journal H c) (has_ended H) (length (idle H)) (caps H) (is_reset_due H c) (call_record H n).text (call_record H n).params (rw p at s) kept over
-rests_back H c (Lent t (Tx n)) s p moves when kept over = absurd (rw p at s)
-rests_back H c (Lent t (Pin n)) s p moves when kept over = absurd (rw p at s)
-rests_back H c (Lent t House) s p moves when kept over = absurd (rw p at s)
-rests_back H c (Opening n) s p moves when kept over = absurd cc
-rests_back H c Nowhere s p moves when kept over = absurd cc
-rests_back H c Idle s p moves when kept over = absurd cc
-rests_back H c Closing s p moves when kept over = absurd cc
+rests_back H c (Lent t (Call n)) all s p moves when kept over =
+    rests_again c (lends H c) t n (journal H c) (has_ended H) (length (idle H)) (caps H) (is_reset_due H c) (asked_by (call_record H n)) (rw p at s) (all c t n p) kept over
+rests_back H c (Lent t (Tx n)) all s p moves when kept over = absurd (rw p at s)
+rests_back H c (Lent t (Pin n)) all s p moves when kept over = absurd (rw p at s)
+rests_back H c (Lent t House) all s p moves when kept over = absurd (rw p at s)
+rests_back H c (Opening n) all s p moves when kept over = absurd cc
+rests_back H c Nowhere all s p moves when kept over = absurd cc
+rests_back H c Idle all s p moves when kept over = absurd cc
+rests_back H c Closing all s p moves when kept over = absurd cc
 
 -- a connection that is to be closed was idle or lent
 leaves_from : (H : List Event) (c : ℕ) (q : Place) → StandsIn H c → place H c ≡ q → is_idle q || is_lent q || is_opening q ≡ true → not (is_opening q) ≡ true
-    → Leaves c (lends H c) (journal H c)
-leaves_from H c (Lent t (Call n)) s p moves when = leaves_lent c (lends H c) t n (journal H c) (rw p at s)
-leaves_from H c (Lent t (Tx n)) s p moves when = absurd (rw p at s)
-leaves_from H c (Lent t (Pin n)) s p moves when = absurd (rw p at s)
-leaves_from H c (Lent t House) s p moves when = absurd (rw p at s)
-leaves_from H c Idle s p moves when = leaves_idle c (lends H c) (journal H c) (rw p at s)
-leaves_from H c (Opening n) s p moves when = absurd cc
-leaves_from H c Nowhere s p moves when = absurd cc
-leaves_from H c Closing s p moves when = absurd cc
+    → leaves_whole H q c ≡ true → Leaves c (lends H c) (journal H c)
+leaves_from H c (Lent t (Call n)) s p moves when whole = leaves_lent c (lends H c) t n (journal H c) (rw p at s) whole
+leaves_from H c (Lent t (Tx n)) s p moves when whole = absurd (rw p at s)
+leaves_from H c (Lent t (Pin n)) s p moves when whole = absurd (rw p at s)
+leaves_from H c (Lent t House) s p moves when whole = absurd (rw p at s)
+leaves_from H c Idle s p moves when whole = leaves_idle c (lends H c) (journal H c) (rw p at s)
+leaves_from H c (Opening n) s p moves when whole = absurd cc
+leaves_from H c Nowhere s p moves when whole = absurd cc
+leaves_from H c Closing s p moves when whole = absurd cc
 
 row_lent : (H : List Event) (c : ℕ) (q : Place) → place H c ≡ q → is_lent q || is_opening q ≡ true → c < length (places H)
 row_lent H c q p moves = row_of H c (λ e. go q (sym p ∙ e) moves)
@@ -220,16 +231,21 @@ row_closing H c q p moves = row_of H c (λ e. go q (sym p ∙ e) moves)
     go : (r : Place) → r ≡ Nowhere → is_idle r || is_lent r || is_opening r ≡ true → ⊥
     go r e h = let k = rw e at h in cc
 
-stands_back : (H : List Event) (c : ℕ) → SoundJournals H → MoveFacts H (Back c) → (returns_from H (place H c) c ≡ true) × (line.leaves_from H (place H c) c ≡ true) → (d : ℕ) → StandsIn (Pool (Back c) ∷ H) d
-stands_back H c s a kept d =
+stands_back : (H : List Event) (c : ℕ) → AllMade H → SoundJournals H → MoveFacts H (Back c) → (returns_from H (place H c) c ≡ true) × (line.leaves_from H (place H c) c ≡ true) → (d : ℕ) → StandsIn (Pool (Back c) ∷ H) d
+stands_back H c all s a kept d =
     by_number c d (StandsIn (Pool (Back c) ∷ H))
-    (rw (row_at (places H) c Idle Nowhere (row_lent H c (place H c) refl a.moves)) (rests_back H c (place H c) (s.stands c) refl a.moves a.when kept.0 kept.1))
+    (rw (row_at (places H) c Idle Nowhere (row_lent H c (place H c) refl a.moves)) (rests_back H c (place H c) all (s.stands c) refl a.moves a.when kept.0 kept.1))
     (λ not. untouched H (Pool (Back c)) d s a.follows refl refl refl refl (row_off (places H) c Idle d Nowhere not))
 
-stands_close : (H : List Event) (c : ℕ) (k : CloseCause) → SoundJournals H → MoveFacts H (CloseStart c k) → (d : ℕ) → StandsIn (Pool (CloseStart c k) ∷ H) d
-stands_close H c k s a d =
+-- a connection closes where its tenure is whole
+close_whole : (H : List Event) (c : ℕ) (k : CloseCause) → Allowed H (Pool (CloseStart c k)) → leaves_whole H (place H c) c ≡ true
+unfolding Allowed
+close_whole H c k a = a.journals
+
+stands_close : (H : List Event) (c : ℕ) (k : CloseCause) → SoundJournals H → MoveFacts H (CloseStart c k) → leaves_whole H (place H c) c ≡ true → (d : ℕ) → StandsIn (Pool (CloseStart c k) ∷ H) d
+stands_close H c k s a whole d =
     by_number c d (StandsIn (Pool (CloseStart c k) ∷ H))
-    (rw (row_at (places H) c Closing Nowhere (row_closing H c (place H c) refl a.moves)) (λ h. leaves_from H c (place H c) (s.stands c) refl a.moves a.when))
+    (rw (row_at (places H) c Closing Nowhere (row_closing H c (place H c) refl a.moves)) (λ h. leaves_from H c (place H c) (s.stands c) refl a.moves a.when whole))
     (λ not. untouched H (Pool (CloseStart c k)) d s a.follows refl refl refl refl (row_off (places H) c Closing d Nowhere not))
 
 -- a row out of which a connection was taken, be it one or not
@@ -261,33 +277,33 @@ heard_facts H e a =
     let r = both (follows H (Heard e)) (leaves_when_heard H (Heard e)) a.order in
     record { fits = a.sets; sends = a.line; may = a.journals; follows = r.0 }
 
-heard_at : (H : List Event) (e : Entry) (q : Place) → StandsIn H e.conn → place H e.conn ≡ q → hears_in H q e ≡ true → sends_from H q e ≡ true
+heard_at : (H : List Event) (e : Entry) (q : Place) → AllMade H → StandsIn H e.conn → place H e.conn ≡ q → hears_in H q e ≡ true → sends_from H q e ≡ true
     → may_follow (journal H e.conn) e ≡ true → (is_opening q || is_closing q ≡ true → was_just_heard e.conn H ≡ false)
     → Stands e.conn (lends H e.conn) (uses H e.conn) true (is_done e.answer) (e ∷ journal H e.conn) q
-heard_at H e (Opening n) s p fits sends may quiet =
+heard_at H e (Opening n) all s p fits sends may quiet =
     let a = both (is_connect e.call && (e.tenure == 1) && is_house e.owner) (e.call_no == 0) fits in
     let b = both (is_connect e.call && (e.tenure == 1)) (is_house e.owner) a.0 in
     let k = both (is_connect e.call) (e.tenure == 1) b.0 in
     opens_heard e.conn (lends H e.conn) (uses H e.conn) (was_just_opened e.conn H) (journal H e.conn) e (rw (p, quiet refl) at s) may refl k.0
     (same_number e.tenure 1 k.1) b.1 (same_number e.call_no 0 a.1)
-heard_at H e Closing s p fits sends may quiet = λ h. absurd cc
-heard_at H e (Lent t (Call n)) s p fits sends may quiet =
+heard_at H e Closing all s p fits sends may quiet = λ h. absurd cc
+heard_at H e (Lent t (Call n)) all s p fits sends may quiet =
     let a = both (not (is_connect e.call || is_shut e.call) && (e.tenure == t) && same_owner e.owner (Call n)) (e.call_no == n) fits in
     let b = both (not (is_connect e.call || is_shut e.call) && (e.tenure == t)) (same_owner e.owner (Call n)) a.0 in
     let k = both (not (is_connect e.call || is_shut e.call)) (e.tenure == t) b.0 in
-    works_heard e.conn (lends H e.conn) t n (journal H e.conn) e (caps H) (is_reset_due H e.conn) (call_record H n).text (call_record H n).params (rw p at s) may refl
+    works_heard e.conn (lends H e.conn) t n (journal H e.conn) e (caps H) (is_reset_due H e.conn) (asked_by (call_record H n)) (rw p at s) (all e.conn t n p) may refl
     (same_number e.tenure t k.1) (call_owner e.owner n b.1) (same_number e.call_no n a.1) sends
-heard_at H e (Lent t (Tx n)) s p fits sends may quiet = absurd (rw p at s)
-heard_at H e (Lent t (Pin n)) s p fits sends may quiet = absurd (rw p at s)
-heard_at H e (Lent t House) s p fits sends may quiet = absurd (rw p at s)
-heard_at H e Idle s p fits sends may quiet = absurd cc
-heard_at H e Nowhere s p fits sends may quiet = absurd cc
+heard_at H e (Lent t (Tx n)) all s p fits sends may quiet = absurd (rw p at s)
+heard_at H e (Lent t (Pin n)) all s p fits sends may quiet = absurd (rw p at s)
+heard_at H e (Lent t House) all s p fits sends may quiet = absurd (rw p at s)
+heard_at H e Idle all s p fits sends may quiet = absurd cc
+heard_at H e Nowhere all s p fits sends may quiet = absurd cc
 
-stands_heard : (H : List Event) (e : Entry) → SoundJournals H → HeardFacts H e → (d : ℕ) → StandsIn (Heard e ∷ H) d
-stands_heard H e s a d =
+stands_heard : (H : List Event) (e : Entry) → AllMade H → SoundJournals H → HeardFacts H e → (d : ℕ) → StandsIn (Heard e ∷ H) d
+stands_heard H e all s a d =
     by_number e.conn d (StandsIn (Heard e ∷ H))
     (rw (same_to_itself e.conn)
-    (heard_at H e (place H e.conn) (s.stands e.conn) refl a.fits a.sends a.may (unpressed H (Heard e) e.conn a.follows refl)))
+    (heard_at H e (place H e.conn) all (s.stands e.conn) refl a.fits a.sends a.may (unpressed H (Heard e) e.conn a.follows refl)))
     (λ not.
     let off : (e.conn == d) ≡ false = other_number e.conn d (λ k. not (sym k)) in
     rw off (rw off at (untouched H (Heard e) d s a.follows refl refl refl (rw off refl) refl)))
@@ -315,17 +331,17 @@ journals_moved H m s rows stands = record {
 same_rows : (ps : List Place) (c : ℕ) (p : Place) → length ps ≤ length (set ps c p)
 same_rows ps c p = omega (arith, length-set ps c p)
 
-journals_move : (H : List Event) (m : Move) → SoundSets H → SoundJournals H → Allowed H (Pool m) → SoundJournals (Pool m ∷ H)
-journals_move H (OpenStart c n) z s a =
+journals_move : (H : List Event) (m : Move) → SoundSets H → AllMade H → SoundJournals H → Allowed H (Pool m) → SoundJournals (Pool m ∷ H)
+journals_move H (OpenStart c n) z all s a =
     let f = move_facts H (OpenStart c n) a in
     journals_moved H (OpenStart c n) s (omega (arith, length_push (places H) (Opening n))) (stands_open H c n z s (open_facts H c n a) f.follows)
-journals_move H (Lend c t o n) z s a =
+journals_move H (Lend c t o n) z all s a =
     let f = move_facts H (Lend c t o n) a in
     journals_moved H (Lend c t o n) s (same_rows (places H) c (Lent t o)) (stands_lend H c t o n z s (lend_facts H c t o n a) f.follows)
-journals_move H (Back c) z s a = journals_moved H (Back c) s (same_rows (places H) c Idle) (stands_back H c s (move_facts H (Back c) a) (back_kept H c a))
-journals_move H (CloseStart c k) z s a = journals_moved H (CloseStart c k) s (same_rows (places H) c Closing) (stands_close H c k s (move_facts H (CloseStart c k) a))
-journals_move H (Gone c) z s a = journals_moved H (Gone c) s (same_rows (places H) c Nowhere) (stands_gone H c s (move_facts H (Gone c) a))
-journals_move H (Fell c n) z s a = journals_moved H (Fell c n) s (same_rows (places H) c Nowhere) (stands_fell H c n s (move_facts H (Fell c n) a))
+journals_move H (Back c) z all s a = journals_moved H (Back c) s (same_rows (places H) c Idle) (stands_back H c all s (move_facts H (Back c) a) (back_kept H c a))
+journals_move H (CloseStart c k) z all s a = journals_moved H (CloseStart c k) s (same_rows (places H) c Closing) (stands_close H c k s (move_facts H (CloseStart c k) a) (close_whole H c k a))
+journals_move H (Gone c) z all s a = journals_moved H (Gone c) s (same_rows (places H) c Nowhere) (stands_gone H c s (move_facts H (Gone c) a))
+journals_move H (Fell c n) z all s a = journals_moved H (Fell c n) s (same_rows (places H) c Nowhere) (stands_fell H c n s (move_facts H (Fell c n) a))
 
 hears_somewhere : (H : List Event) (q : Place) (e : Entry) → hears_in H q e ≡ true → q ≢ Nowhere
 hears_somewhere H q e h is = let k = rw is at h in cc
@@ -334,172 +350,31 @@ prefix_heard : (e : Entry) (J : List Entry) (b : Bool) → IsJournalPrefix J →
 prefix_heard e J true beginning may = IsJournalPrefix-with e J beginning (may refl)
 prefix_heard e J false beginning may = beginning
 
-journals_heard : (H : List Event) (e : Entry) → SoundJournals H → HeardFacts H e → SoundJournals (Heard e ∷ H)
-journals_heard H e s a = record {
+journals_heard : (H : List Event) (e : Entry) → AllMade H → SoundJournals H → HeardFacts H e → SoundJournals (Heard e ∷ H)
+journals_heard H e all s a = record {
   beginnings = λ d. prefix_heard e (journal H d) (e.conn == d) (s.beginnings d) (λ h. rw (← same_number e.conn d h) a.may);
   unborn = λ d h.
       let row : e.conn < length (places H) = row_of H e.conn (hears_somewhere H (place H e.conn) e a.fits) in
       let off : (e.conn == d) ≡ false = other_number e.conn d (λ k. absurd (omega arith)) in
       rw off (s.unborn d h);
-  stands = stands_heard H e s a;
+  stands = stands_heard H e all s a;
 }
 
 start_stands : (c : ℕ) → StandsIn [] c
 start_stands zero = tt
 start_stands (suc c) = tt
 
-journals_start : SoundJournals []
+pub journals_start : SoundJournals []
 journals_start = record { beginnings = λ c. refl; unborn = λ c h. refl; stands = start_stands }
 
 follows_of : (H : List Event) (e : Event) → Allowed H e → follows H e ≡ true
 unfolding Allowed
 follows_of H e a = let r = both (follows H e) (leaves_when_heard H e) a.order in r.0
 
-journals_event : (H : List Event) (e : Event) → SoundSets H → SoundJournals H → Allowed H e → SoundJournals (e ∷ H)
-journals_event H (Pool m) z s a = journals_move H m z s a
-journals_event H (Heard e) z s a = journals_heard H e s (heard_facts H e a)
-journals_event H (Run v c) z s a = journals_same H (Run v c) s (follows_of H (Run v c) a) (λ d. refl) refl refl (λ d. refl) refl (λ d. refl) (λ d. refl)
-journals_event H (Entered k n op) z s a = journals_same H (Entered k n op) s (follows_of H (Entered k n op) a) (λ d. refl) refl refl (λ d. refl) refl (λ d. refl) (λ d. refl)
-journals_event H (Replied n r) z s a = journals_same H (Replied n r) s (follows_of H (Replied n r) a) (λ d. refl) refl refl (λ d. refl) refl (λ d. refl) (λ d. refl)
-journals_event H Ended z s a = journals_same H Ended s (follows_of H Ended a) (λ d. refl) refl refl (λ d. refl) refl (λ d. refl) (λ d. refl)
-
-pub sound_journals : (H : List Event) → Lawful H → SoundJournals H
-sound_journals [] l = journals_start
-sound_journals (e ∷ before) l = journals_event before e (sound_sets before l.0) (sound_journals before l.0) l.1
-
--- What follows for each lawful history, in the words of its readers.
-
-stands_at : (H : List Event) (c : ℕ) (p : Place) → Lawful H → place H c ≡ p → Stands c (lends H c) (uses H c) (was_just_heard c H) (was_just_opened c H) (journal H c) p
-stands_at H c p l is = let s = sound_journals H l in rw is at (s.stands c)
-
--- nothing was heard yet in the tenure of a lending
-pub fresh_lending : (H : List Event) (c t n : ℕ) → Lawful (Pool (Lend c t (Call n) n) ∷ H) → heard_in (Pool (Lend c t (Call n) n) ∷ H) c t ≡ []
-fresh_lending H c t n l =
-    let s = sound_journals H l.0 in
-    let a = lend_facts H c t (Call n) n l.1 in
-    let r = rests_from H c n s a.from in
-    of_tenure-new t (journal H c) (s.beginnings c) (omega (arith, r.below, a.tenure))
-
--- a connection that is being opened was never lent
-pub lends_when_opening : (H : List Event) (c n : ℕ) → Lawful H → place H c ≡ Opening n → (lends H c ≡ 0) × (uses H c ≡ 0)
-lends_when_opening H c n l is = let s = stands_at H c (Opening n) l is in (s.unlent, s.unused)
-
-owned_tenure : (c l u : ℕ) (heard opened : Bool) (J : List Entry) (t : ℕ) (o : Owner) → Stands c l u heard opened J (Lent t o) → t ≡ l + 1
-owned_tenure c l u heard opened J t (Call n) s = s.tenure
-owned_tenure c l u heard opened J t (Tx n) s = absurd s
-owned_tenure c l u heard opened J t (Pin n) s = absurd s
-owned_tenure c l u heard opened J t House s = absurd s
-
--- a connection that is lent has the tenure of its last lending
-pub lent_tenure : (H : List Event) (c t : ℕ) (o : Owner) → Lawful H → place H c ≡ Lent t o → t ≡ lends H c + 1
-lent_tenure H c t o l is = owned_tenure c (lends H c) (uses H c) (was_just_heard c H) (was_just_opened c H) (journal H c) t o (stands_at H c (Lent t o) l is)
-
--- a connection that is lent can be given back at any time
-pub whole_when_lent : (H : List Event) (c t n : ℕ) → Lawful H → place H c ≡ Lent t (Call n) → is_whole_tenure t (journal H c) ≡ true
-whole_when_lent H c t n l is =
-    let s = stands_at H c (Lent t (Call n)) l is in
-    let v = s.serves in
-    is_whole_tenure-plain c t (journal H c) v.plain
-
--- as long as something is due, no answer of the connection was bad, and no test of it failed
-pub good_while_due : (H : List Event) (c t n : ℕ) → Lawful H → place H c ≡ Lent t (Call n) → is_some (due H c t n) ≡ true → (went_bad (journal H c) ≡ false) × (ends_invalid (journal H c) ≡ false)
-good_while_due H c t n l is some =
-    let s = stands_at H c (Lent t (Call n)) l is in
-    let v = s.serves in
-    good_now (journal H c) (v.good (due_while (caps H) (is_reset_due H c) (call_record H n).text (call_record H n).params (heard_in H c t) some))
-
--- what is due may follow, whatever it is answered
-pub follows_due : (H : List Event) (e : Entry) (t n : ℕ) → Lawful H → place H e.conn ≡ Lent t (Call n) → is_due (due H e.conn t n) e.call ≡ true → e.tenure ≡ t → e.owner ≡ Call n → e.call_no ≡ n
-    → e.tx ≡ 0 → fits_of e.call e.answer ≡ true → is_memory e.answer ≡ false → may_follow (journal H e.conn) e ≡ true
-follows_due H e t n l is due tenure owner number tx fit heard =
-    let s = stands_at H e.conn (Lent t (Call n)) l is in
-    let same : e ≡ call_entry e.conn t n e.call e.answer = call_entry_of e.conn t n e refl tenure owner number tx in
-    let may = may_follow-due e.conn t n (journal H e.conn) (caps H) (is_reset_due H e.conn) (call_record H n).text (call_record H n).params e.call e.answer s.serves due fit heard in
-    subst (λ (x : Entry). may_follow (journal H e.conn) x ≡ true) (sym same) may
-
--- where nothing has to come as the very next event, no Connect or Shut was heard just now
-unheard : (H : List Event) (c : ℕ) → is_placed H ≡ true → is_opening (place H c) || is_closing (place H c) ≡ true → was_just_heard c H ≡ false
-unheard (Heard x ∷ H) c p q =
-    is_false (x.conn == c) (λ same.
-    let is : x.conn ≡ c = same_number x.conn c same in
-    let r : is_opening (place H x.conn) || is_closing (place H x.conn) ≡ true = rw is q in
-    absurd (cc))
-unheard [] c p q = refl
-unheard (_ ∷ H) c p q = refl
-
-unheard_opening : (H : List Event) (c n : ℕ) → Lawful H → is_placed H ≡ true → place H c ≡ Opening n → journal H c ≡ []
-unheard_opening H c n l placed is =
-    let s = stands_at H c (Opening n) l is in
-    s.fresh (unheard H c placed (rw is refl))
-
--- the Connect of a connection that is being opened may follow
-pub follows_connect : (H : List Event) (c n : ℕ) (answer : DriverAnswer) → Lawful H → is_placed H ≡ true → place H c ≡ Opening n → fits_of Connect answer ≡ true → is_memory answer ≡ false
-    → may_follow (journal H c) (connect_entry c answer) ≡ true
-follows_connect H c n answer l placed is fit heard = rw (unheard_opening H c n l placed is) (may_follow-connect c answer fit heard)
-
-refused_fails : (answer : DriverAnswer) → fits_of Connect answer ≡ true → is_memory answer ≡ false → is_done answer ≡ false → is_failure answer ≡ true
-refused_fails Bad fit heard refused = refl
-refused_fails (Fail text) fit heard refused = refl
-refused_fails Done fit heard refused = absurd cc
-refused_fails Memory fit heard refused = absurd cc
-refused_fails _ fit heard refused = absurd cc
-
--- and where it was refused the journal is whole
-pub whole_refused : (H : List Event) (c n : ℕ) (answer : DriverAnswer) → Lawful H → is_placed H ≡ true → place H c ≡ Opening n → fits_of Connect answer ≡ true → is_memory answer ≡ false
-    → is_done answer ≡ false → is_whole (journal (Heard (connect_entry c answer) ∷ H) c) ≡ true
-whole_refused H c n answer l placed is fit heard refused =
-    rw (same_to_itself c, unheard_opening H c n l placed is) (is_whole-refused c answer (refused_fails answer fit heard refused))
-
-unshut : (H : List Event) (c : ℕ) → Lawful H → is_placed H ≡ true → place H c ≡ Closing → Leaves c (lends H c) (journal H c)
-unshut H c l placed is = let s = stands_at H c Closing l is in s (unheard H c placed (rw is refl))
-
--- the Shut of a connection that is being closed may follow
-pub follows_shut : (H : List Event) (c : ℕ) (answer : DriverAnswer) → Lawful H → is_placed H ≡ true → place H c ≡ Closing → fits_of Shut answer ≡ true → is_memory answer ≡ false
-    → may_follow (journal H c) (shut_entry c (next_tenure H c) answer) ≡ true
-follows_shut H c answer l placed is fit heard =
-    let all = sound_journals H l in
-    let s = unshut H c l placed is in
-    may_follow-shut c (next_tenure H c) answer (journal H c) (all.beginnings c) s.plain (omega (arith, s.below)) fit heard
-
--- and the journal is whole then
-pub whole_shut : (H : List Event) (c : ℕ) (answer : DriverAnswer) → Lawful H → is_placed H ≡ true → place H c ≡ Closing → fits_of Shut answer ≡ true → is_memory answer ≡ false
-    → is_whole (journal (Heard (shut_entry c (next_tenure H c) answer) ∷ H) c) ≡ true
-whole_shut H c answer l placed is fit heard =
-    let all = sound_journals H l in
-    let s = unshut H c l placed is in
-    rw (same_to_itself c) (is_whole-shut c (next_tenure H c) answer (journal H c) (all.beginnings c) s.plain (omega (arith, s.below)) fit heard)
-
-whole_heard : (e : Entry) (J : List Entry) (b : Bool) → IsWhole J → (b ≡ true → may_follow J e ≡ true) → IsWhole (cond b (e ∷ J) J)
-whole_heard e J false whole may = whole
-whole_heard e J true whole may =
-    let never : may_follow J e ≡ false = may_follow-whole J e whole in
-    let now : may_follow J e ≡ true = may refl in
-    absurd (cc)
-
-gone_facts : (H : List Event) (c : ℕ) → Allowed H (Pool (Gone c)) → IsWhole (journal H c)
-unfolding Allowed
-gone_facts H c a = a.journals
-
-fell_facts : (H : List Event) (c n : ℕ) → Allowed H (Pool (Fell c n)) → IsWhole (journal H c)
-unfolding Allowed
-fell_facts H c n a = a.journals
-
-left_here : (H : List Event) (d c : ℕ) (earlier : Bool) → (d == c) || earlier ≡ true → IsWhole (journal H d) → (earlier ≡ true → IsWhole (journal H c)) → IsWhole (journal H c)
-left_here H d c true h here before = before refl
-left_here H d c false h here before = let is : d ≡ c = grind (arith, nat_tests, h) in rw (← is) here
-
--- the journal of a connection that left the four sets is whole, and stays so
-wholes : (H : List Event) → Lawful H → (c : ℕ) → has_left H c ≡ true → IsWhole (journal H c)
-wholes [] l c h = absurd cc
-wholes (Heard e ∷ H) l c h =
-    let a = heard_facts H e l.1 in
-    whole_heard e (journal H c) (e.conn == c) (wholes H l.0 c h) (λ same. rw (← same_number e.conn c same) a.may)
-wholes (Pool (Gone d) ∷ H) l c h = left_here H d c (has_left H c) h (gone_facts H d l.1) (wholes H l.0 c)
-wholes (Pool (Fell d n) ∷ H) l c h = left_here H d c (has_left H c) h (fell_facts H d n l.1) (wholes H l.0 c)
-wholes (Pool _ ∷ H) l c h = wholes H l.0 c h
-wholes (_ ∷ H) l c h = wholes H l.0 c h
-
--- the journals of a lawful history are those of a legal one
-pub keeps_journals_of : (H : List Event) → Lawful H → KeepsJournals H
-keeps_journals_of H l =
-    let s = sound_journals H l in record { beginnings = s.beginnings; wholes = wholes H l }
+pub journals_event : (H : List Event) (e : Event) → SoundSets H → AllMade H → SoundJournals H → Allowed H e → SoundJournals (e ∷ H)
+journals_event H (Pool m) z all s a = journals_move H m z all s a
+journals_event H (Heard e) z all s a = journals_heard H e all s (heard_facts H e a)
+journals_event H (Run v c) z all s a = journals_same H (Run v c) s (follows_of H (Run v c) a) (λ d. refl) refl refl (λ d. refl) refl (λ d. refl) (λ d. refl)
+journals_event H (Entered k n op) z all s a = journals_same H (Entered k n op) s (follows_of H (Entered k n op) a) (λ d. refl) refl refl (λ d. refl) refl (λ d. refl) (λ d. refl)
+journals_event H (Replied n r) z all s a = journals_same H (Replied n r) s (follows_of H (Replied n r) a) (λ d. refl) refl refl (λ d. refl) refl (λ d. refl) (λ d. refl)
+journals_event H Ended z all s a = journals_same H Ended s (follows_of H Ended a) (λ d. refl) refl refl (λ d. refl) refl (λ d. refl) (λ d. refl)

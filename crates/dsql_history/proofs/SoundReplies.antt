@@ -1,20 +1,31 @@
 -- What each lawful history settles of its calls: where a call has nothing more to send on the connection that is lent to it, its reply is settled.
-use Rattle.std.proofs.Common.{◌≡◌, ◌≢◌, ℕ, ℤ, pos, negsuc, zero, suc, ◌<◌, ◌≤◌, ◌==◌, min, ◌⊎◌, inl, inr, Bool, true, false, not, ◌&&◌, ◌||◌, cond, List, [], ◌∷◌, length, get_or, set, Option, Some, None, is_none, is_some, refl, sym, ap, ◌∙◌, subst}
+use Rattle.std.proofs.Common.{◌≡◌, ◌≢◌, ℕ, ℤ, pos, negsuc, zero, suc, ◌<◌, ◌≤◌, ◌==◌, min, ◌⊎◌, inl, inr, Bool, true, false, not, ◌&&◌, ◌||◌, cond, List, [], ◌∷◌, length, get_or, set, Option, Some, None, is_none, is_some, refl, sym, ap, ◌∙◌, ◌+◌, if◌then◌else◌, subst}
+use Rattle.std.specs.Prelude.{Ok, Err}
 use native.Mathlib.Omega.{arith}
-use Rattle.dsql_value.specs.declared.value.Param.{Param}
+use Rattle.dsql_value.specs.declared.value.Value.{Value}
 use Rattle.dsql_value.specs.declared.arg.ArgFault.TheVariants.{NumArgs}
 use Rattle.dsql_value.specs.Arguments.{count_fault, largest_count}
 use Rattle.dsql_driver.specs.Fits.{fits_of, is_memory, is_done}
 use Rattle.dsql_driver.specs.declared.caps.Caps.{Caps}
 use Rattle.dsql_driver.specs.declared.call.DriverCall.{DriverCall}
-use Rattle.dsql_driver.specs.declared.call.DriverCall.TheVariants.{Reset, Valid, Prepare, Exec, CloseStmt}
+use Rattle.dsql_driver.specs.declared.call.DriverCall.TheVariants.{Reset, Valid, Prepare, Exec, Query, Next, CloseRows, CloseStmt}
 use Rattle.dsql_driver.specs.declared.call.Input.TheVariants.{Text, Handle}
 use Rattle.dsql_driver.specs.declared.answer.DriverAnswer.{DriverAnswer}
-use Rattle.dsql_driver.specs.declared.answer.DriverAnswer.TheVariants.{Prepared, Result, Skip, Bad, Fail}
+use Rattle.dsql_driver.specs.declared.answer.DriverAnswer.TheVariants.{Prepared, Result, Cursor, Row, End, Skip, Bad, Fail}
+use Rattle.dsql_scan.specs.declared.cell.Cell.{Cell}
+use Rattle.dsql_scan.specs.declared.dest.Dest.{Dest}
+use Rattle.dsql_scan.specs.declared.fault.ScanFault.TheVariants.{Memory}
+use Rattle.dsql_scan.specs.declared.fault.RowFault.TheVariants.{DestCount}
+use Rattle.dsql_scan.specs.Table.{Scan, scan_of}
+use Rattle.dsql_scan.specs.Rows.{RowScan, row_of, cells_of, with_cell, answers_of, in_32_bits}
+use Rattle.dsql_scan.proofs.TableLaws.{memory_is_no_answer}
+use Rattle.dsql_course.specs.declared.call.Due.TheVariants as due
+use Rattle.dsql_course.specs.declared.call.Got.TheVariants as got
+use Rattle.dsql_course.specs.Made.{Exchange}
 use Rattle.dsql_journal.specs.declared.entry.Entry.{Entry}
 use Rattle.dsql_journal.specs.declared.entry.Owner.{Owner}
 use Rattle.dsql_journal.specs.declared.entry.Owner.TheVariants.{Call}
-use Rattle.dsql_journal.specs.Kinds.{is_connect, is_shut, is_house, same_owner}
+use Rattle.dsql_journal.specs.Kinds.{is_bad, is_valid, is_connect, is_shut, is_house, same_owner}
 use Rattle.dsql_journal.specs.Readers.{of_tenure}
 use Rattle.dsql_journal.specs.Facts.{MayFollow}
 use Rattle.dsql_journal.proofs.Sentences.{MayFollow-of}
@@ -28,30 +39,42 @@ use Rattle.dsql_history.specs.declared.record.Place.{Place}
 use Rattle.dsql_history.specs.declared.record.Place.TheVariants.{Nowhere, Opening, Idle, Lent, Closing}
 use Rattle.dsql_history.specs.declared.record.CallRecord.{CallRecord}
 use Rattle.dsql_history.specs.declared.reply.Reply.{Reply}
+use Rattle.dsql_history.specs.declared.reply.Reply.TheVariants.{Cells}
 use Rattle.dsql_history.specs.Readers.Course.{caps}
 use Rattle.dsql_history.specs.Readers.Sets.{places, place, is_for, number_of, is_opening, next_tenure}
 use Rattle.dsql_history.specs.Readers.Journals.{journal, heard_in}
-use Rattle.dsql_history.specs.Readers.Calls.{calls, home, call_record, nobody, with_record, statement, params_at_entry, refused_at_entry, decision, refusal, told_of, reply_due}
-use Rattle.dsql_history.specs.Rules.Line.{due, is_due, line_after, after_call, body_of, is_reset_due}
+use Rattle.dsql_history.specs.Readers.Calls.{calls, home, call_record, nobody, with_record, statement, params_at_entry, refused_at_entry, destinations, decision, row_decision, closing_decision, told_row, refusal, told_of, reply_due}
+use Rattle.dsql_history.specs.Readers.Exchanges.{exchanges, step_of, got_of, with_exchange}
+use Rattle.dsql_history.specs.Rules.Line as line
+use Rattle.dsql_history.specs.Rules.Line.{Asked, asked_by, reads_row, is_due, sent_as, body_after, line_after, is_reset_due}
 use Rattle.dsql_history.specs.Rules.Moves.{hears_in}
 use Rattle.dsql_history.specs.Rules.Order.{follows, follows_answer, was_just_refused}
 use Rattle.dsql_history.specs.Legal.{Allowed, Lawful}
 use Rattle.dsql_history.proofs.Rows.{both, same_number, same_to_itself, other_number, row_at, read_set, read_push, within_rows, same_or_not, row_old, not_true}
-use Rattle.dsql_history.proofs.Lines.{sent_of}
+use Rattle.dsql_history.proofs.CallLines.{Step, Start, WasReset, WasSkipped, WasPrepared, HasRows, HasRead, WasDone, step, step_after, goes}
+use Rattle.dsql_history.proofs.MadeLines.{MadeAt, asking, then_handle, clean_when_done, first_of_exec, first_of_one, second_of_exec, second_of_one}
+use Rattle.dsql_history.proofs.Lines.{sent_of, body_due, goes_due}
 use Rattle.dsql_history.proofs.SoundCalls.{SoundCalls, sound_calls, LendFacts, lend_facts, owner_of, entered_facts, replied_facts}
-use Rattle.dsql_history.proofs.SoundJournals.{HeardFacts, heard_facts, move_facts, fresh_lending}
+use Rattle.dsql_history.proofs.SoundJournals.{HeardFacts, heard_facts, move_facts, AllMade}
+use Rattle.dsql_history.proofs.SoundLines.{sound_made}
+use Rattle.dsql_history.proofs.JournalLaws.{fresh_lending}
 
--- an exec with so many parameters still comes to an answer that decides
+-- a call with so many parameters still comes to an answer that decides
 abbrev pub awaits_after : DriverCall → DriverAnswer → ℕ → Bool
 awaits_after call Bad count = false
 awaits_after Reset answer count = true
 awaits_after (Exec (Text text) params) Skip count = true
+awaits_after (Query (Text text) params) Skip count = true
+awaits_after (Query input params) (Cursor rows columns) count = true
 awaits_after (Prepare text) (Prepared handle inputs) count = is_none (count_fault inputs count)
 awaits_after _ answer count = false
 
 abbrev pub awaits : List Entry → ℕ → Bool
 awaits [] count = true
 awaits (e ∷ earlier) count = awaits_after e.call e.answer count
+
+impossible : false ≡ true → ⊥
+impossible h = cc
 
 or_true : (a b : Bool) → b ≡ true → a || b ≡ true
 or_true a b h = grind (arith, h)
@@ -71,100 +94,220 @@ counted (pos want) count = by_test (want == count)
     by_test true = refl
     by_test false = refl
 
+-- a row that was scanned gives a reply, whatever it becomes
+
+with_told : (cell : Cell) (row : RowScan) → is_some (told_row row) ≡ true → is_some (told_row (with_cell cell row)) ≡ true
+with_told cell (Ok cells) h = refl
+with_told cell (Err fault) h = h
+
+told_scan : (i : ℕ) (scan : Scan) (later : List Scan) → (scan ≡ Err Memory → ⊥) → is_some (told_row (cells_of (i + 1) later)) ≡ true → is_some (told_row (cells_of i (scan ∷ later))) ≡ true
+told_scan i (Ok cell) later never told = with_told cell (cells_of (i + 1) later) told
+told_scan i (Err Memory) later never told = absurd (never refl)
+told_scan i (Err fault) later never told = refl
+
+told_all : (i : ℕ) (values : List Value) (dests : List Dest) → is_some (told_row (cells_of i (answers_of values dests))) ≡ true
+told_all i [] dests = refl
+told_all i (value ∷ values) [] = refl
+told_all i (value ∷ values) (dest ∷ dests) =
+    told_scan i (scan_of value dest) (answers_of values dests) (memory_is_no_answer value dest) (told_all (i + 1) values dests)
+
+told_any : (values : List Value) (dests : List Dest) → is_some (told_row (row_of values dests)) ≡ true
+told_any values dests = by_count (length values == length dests)
+  where
+    by_count : (b : Bool)
+        → is_some (told_row (if b then cells_of 0 (answers_of values dests) else Err (DestCount (in_32_bits (length values)) (in_32_bits (length dests))))) ≡ true
+    by_count true = told_all 0 values dests
+    by_count false = refl
+
+-- a fetch decides where there are destinations
+row_decides : (dests : Option (List Dest)) (rows : ℕ) (a : DriverAnswer) → reads_row dests ≡ true → fits_of (Next rows) a ≡ true → is_memory a ≡ false → is_some (row_decision dests a) ≡ true
+row_decides None rows a reads fit heard = absurd cc
+row_decides (Some dests) rows (Row values) reads fit heard = told_any values dests
+row_decides (Some dests) rows End reads fit heard = refl
+row_decides (Some dests) rows Bad reads fit heard = refl
+row_decides (Some dests) rows (Fail why) reads fit heard = refl
+row_decides (Some dests) rows _ reads fit heard = absurd cc
+
+-- what is decided stays decided as the rows are closed
+closing_decides : (a : DriverAnswer) (d : Option Reply) → is_some d ≡ true → is_some (closing_decision a d) ≡ true
+closing_decides a None h = absurd cc
+closing_decides (Fail why) (Some (Cells cells)) h = refl
+closing_decides Bad (Some (Cells cells)) h = refl
+closing_decides a (Some reply) h = refl
+
+-- the steps at which an answer is still to decide
+abbrev pub is_awaiting : Step → Bool
+is_awaiting Start = true
+is_awaiting WasReset = true
+is_awaiting WasSkipped = true
+is_awaiting (WasPrepared handle) = true
+is_awaiting (HasRows own rows) = true
+is_awaiting _ = false
+
+awaiting_after : (s : Step) (q : DriverCall) (a : DriverAnswer) (count : ℕ) → awaits_after q a count ≡ true → is_awaiting (step_after s q a) ≡ true
+awaiting_after s q Bad count h = absurd cc
+awaiting_after s Reset a count h = refl
+awaiting_after s (Exec (Text text) params) Skip count h = refl
+awaiting_after s (Exec (Text text) params) a count h = absurd cc
+awaiting_after s (Query (Text text) params) Skip count h = refl
+awaiting_after s (Query (Text text) params) (Cursor rows columns) count h = refl
+awaiting_after s (Query (Text text) params) a count h = absurd cc
+awaiting_after s (Query (Handle handle) params) (Cursor rows columns) count h = refl
+awaiting_after s (Query (Handle handle) params) a count h = absurd cc
+awaiting_after s (Prepare text) (Prepared handle inputs) count h = refl
+awaiting_after s q a count h = absurd cc
+
+awaiting : (L : List Entry) (count : ℕ) → awaits L count ≡ true → is_awaiting (step L) ≡ true
+awaiting [] count h = refl
+awaiting (e ∷ earlier) count h = awaiting_after (step earlier) e.call e.answer count h
+
+-- where the step awaits nothing, nothing is awaited
+none_awaited : (L : List Entry) (count : ℕ) → is_awaiting (step L) ≡ false → awaits L count ≡ false
+none_awaited L count h = by_value (awaits L count) (awaiting L count)
+  where
+    by_value : (b : Bool) → (b ≡ true → is_awaiting (step L) ≡ true) → b ≡ false
+    by_value true k = let m : is_awaiting (step L) ≡ true = k refl in absurd (cc)
+    by_value false k = refl
+
+freeing_step : (s : Step) (rows : ℕ) → goes s (CloseRows rows) ≡ true → is_awaiting s ≡ false
+freeing_step (HasRead own given) rows h = refl
+freeing_step _ rows h = absurd cc
+
+testing_step : (s : Step) → goes s Valid ≡ true → is_awaiting s ≡ false
+testing_step WasDone h = refl
+testing_step _ h = absurd cc
+
+-- a handle is closed behind its run, or where it takes another number of parameters
+
+closes_other : (can : Caps) (asked : Asked) (handle h : ℕ) (b : Bool) → is_due (sent_as can asked (cond b (due.Handle handle) (due.CloseStmt handle))) (CloseStmt h) ≡ true → b ≡ false
+closes_other can asked handle h true k = by_reads asked.reads k
+  where
+    by_reads : (c : Bool) → is_due (Some (cond c (Query (Handle handle) asked.params) (Exec (Handle handle) asked.params))) (CloseStmt h) ≡ true → true ≡ false
+    by_reads true m = absurd cc
+    by_reads false m = absurd cc
+closes_other can asked handle h false k = refl
+
+abbrev inputs_in : Option (ℕ × ℤ) → ℤ
+inputs_in None = pos 0
+inputs_in (Some p) = p.1
+
+closing_after : (can : Caps) (asked : Asked) (s : Step) (q : DriverCall) (a : DriverAnswer) (made : List Exchange) (h : ℕ)
+    → MadeAt can asked (step_after s q a) (with_exchange (step_of q) a made) → goes (step_after s q a) (CloseStmt h) ≡ true
+    → is_due (body_after can asked (with_exchange (step_of q) a made)) (CloseStmt h) ≡ true → awaits_after q a (length asked.params) ≡ false
+closing_after can asked s q Bad made h m g k = refl
+closing_after can asked s Reset a made h m g k = absurd cc
+closing_after can asked s (Exec (Text text) params) Skip made h m g k = absurd cc
+closing_after can asked s (Exec (Text text) params) a made h m g k = refl
+closing_after can asked s (Query (Text text) params) Skip made h m g k = absurd cc
+closing_after can asked s (Query (Text text) params) (Cursor rows columns) made h m g k = absurd cc
+closing_after can asked s (Query (Text text) params) a made h m g k = refl
+closing_after can asked s (Query (Handle handle) params) (Cursor rows columns) made h m g k = absurd cc
+closing_after can asked s (Query (Handle handle) params) a made h m g k = refl
+closing_after can asked s (Prepare text) (Prepared handle inputs) made h m g k =
+    let is : inputs ≡ m.inputs = ap (λ o. inputs_in o) m.own in
+    rw is (closes_other can asked handle h (is_none (count_fault m.inputs (length asked.params)))
+    (rw (then_handle can asked.text asked.params asked.reads handle ((due.Prepare, got_of (Prepared handle inputs)) ∷ made) m) at k))
+closing_after can asked s q a made h m g k = refl
+
+closing_awaits : (can : Caps) (reset : Bool) (asked : Asked) (L : List Entry) (h : ℕ) → MadeAt can asked (step L) (exchanges L) → is_due (line_after can reset asked L) (CloseStmt h) ≡ true
+    → awaits L (length asked.params) ≡ false
+closing_awaits can reset asked [] h made k = let g = goes_due can reset asked [] (CloseStmt h) made k in absurd cc
+closing_awaits can reset asked (e ∷ earlier) h made k =
+    let b = body_due can reset asked e earlier (CloseStmt h) k in
+    closing_after can asked (step earlier) e.call e.answer (exchanges earlier) h made (goes_due can reset asked (e ∷ earlier) (CloseStmt h) made k) b.1
+
+-- a row is fetched only for a call that reads one
+fetching_reads : (can : Caps) (asked : Asked) (s : Step) (made : List Exchange) (rows : ℕ) → goes s (Next rows) ≡ true → MadeAt can asked s made → asked.reads ≡ true
+fetching_reads can asked (HasRows own given) made rows g m = m.reads
+fetching_reads can asked _ made rows g m = absurd cc
+
+misfit : (fit memory : Bool) → fit ≡ true → memory ≡ false → fit && not memory ≡ true
+misfit fit memory h k = grind (arith, h, k)
+
 -- after a call that is due was answered, either the reply is settled, or another answer decides
-settled_on : (can : Caps) (reset : Bool) (text : List ℕ) (params : List Param) (L : List Entry) (q : DriverCall) (a : DriverAnswer) (d : Option Reply)
-    → is_due (line_after can reset text params L) q ≡ true → fits_of q a ≡ true → is_memory a ≡ false → is_some d || awaits L (length params) ≡ true
-    → is_some (decision (length params) q a d) || awaits_after q a (length params) ≡ true
-settled_on can reset text params L Reset Bad d due fit heard before = refl
-settled_on can reset text params L Reset a d due fit heard before = or_true _ _ refl
-settled_on can reset text params L (Exec (Text t) ps) (Result last affected) d due fit heard before = refl
-settled_on can reset text params L (Exec (Text t) ps) Skip d due fit heard before = refl
-settled_on can reset text params L (Exec (Text t) ps) Bad d due fit heard before = refl
-settled_on can reset text params L (Exec (Text t) ps) (Fail why) d due fit heard before = refl
-settled_on can reset text params L (Exec (Text t) ps) _ d due fit heard before = absurd cc
-settled_on can reset text params L (Exec (Handle h) ps) (Result last affected) d due fit heard before = refl
-settled_on can reset text params L (Exec (Handle h) ps) Bad d due fit heard before = refl
-settled_on can reset text params L (Exec (Handle h) ps) (Fail why) d due fit heard before = refl
-settled_on can reset text params L (Exec (Handle h) ps) _ d due fit heard before = absurd cc
-settled_on can reset text params L (Prepare t) (Prepared handle inputs) d due fit heard before = counted inputs (length params)
-settled_on can reset text params L (Prepare t) Bad d due fit heard before = refl
-settled_on can reset text params L (Prepare t) (Fail why) d due fit heard before = refl
-settled_on can reset text params L (Prepare t) _ d due fit heard before = absurd cc
-settled_on can reset text params L (CloseStmt h) a d due fit heard before = or_some _ _ (first_only (is_some d) (awaits L (length params)) before (after_all L due))
-  where
-    by_test : (b : Bool) (x y : DriverCall) → is_due (cond b (Some Valid) None) (CloseStmt h) ≡ true → ⊥
-    by_test true x y k = cc
-    by_test false x y k = cc
-
-    by_body : (b : Bool) → is_due (Some (cond b (Exec (Text text) params) (Prepare text))) (CloseStmt h) ≡ true → ⊥
-    by_body true k = cc
-    by_body false k = cc
-
-    by_run : (b : Bool) (handle : ℕ) → is_due (Some (cond b (Exec (Handle handle) params) (CloseStmt handle))) (CloseStmt h) ≡ true → b ≡ false
-    by_run true handle k = absurd cc
-    by_run false handle k = refl
-
-    by_first : (b : Bool) → is_due (Some (cond b Reset (body_of can text params))) (CloseStmt h) ≡ true → ⊥
-    by_first true k = cc
-    by_first false k = by_body can.fast_exec k
-
-    go : (q : DriverCall) (b : DriverAnswer) → is_due (after_call can text params q b) (CloseStmt h) ≡ true → awaits_after q b (length params) ≡ false
-    go q Bad k = absurd cc
-    go Reset b k = absurd (by_body can.fast_exec k)
-    go (Exec (Text t) ps) Skip k = absurd cc
-    go (Exec (Text t) ps) b k = absurd (by_test can.validator Reset Reset k)
-    go (Prepare t) (Prepared handle inputs) k = by_run (is_none (count_fault inputs (length params))) handle k
-    go (Prepare t) b k = absurd (by_test can.validator Reset Reset k)
-    go (Exec (Handle handle) ps) b k = refl
-    go (CloseStmt handle) b k = refl
-    go _ b k = absurd cc
-
-    after_all : (K : List Entry) → is_due (line_after can reset text params K) (CloseStmt h) ≡ true → awaits K (length params) ≡ false
-    after_all [] k = absurd (by_first reset k)
-    after_all (e ∷ earlier) k = go e.call e.answer k
-settled_on can reset text params L Valid a d due fit heard before = or_some _ _ (first_only (is_some d) (awaits L (length params)) before (after_all L due))
-  where
-    by_body : (b : Bool) → is_due (Some (cond b (Exec (Text text) params) (Prepare text))) Valid ≡ true → ⊥
-    by_body true k = cc
-    by_body false k = cc
-
-    by_run : (b : Bool) (handle : ℕ) → is_due (Some (cond b (Exec (Handle handle) params) (CloseStmt handle))) Valid ≡ true → ⊥
-    by_run true handle k = cc
-    by_run false handle k = cc
-
-    by_first : (b : Bool) → is_due (Some (cond b Reset (body_of can text params))) Valid ≡ true → ⊥
-    by_first true k = cc
-    by_first false k = by_body can.fast_exec k
-
-    go : (q : DriverCall) (b : DriverAnswer) → is_due (after_call can text params q b) Valid ≡ true → awaits_after q b (length params) ≡ false
-    go q Bad k = absurd cc
-    go Reset b k = absurd (by_body can.fast_exec k)
-    go (Exec (Text t) ps) Skip k = absurd cc
-    go (Exec (Text t) ps) b k = refl
-    go (Prepare t) (Prepared handle inputs) k = absurd (by_run (is_none (count_fault inputs (length params))) handle k)
-    go (Prepare t) b k = refl
-    go (Exec (Handle handle) ps) b k = absurd cc
-    go (CloseStmt handle) b k = refl
-    go _ b k = absurd cc
-
-    after_all : (K : List Entry) → is_due (line_after can reset text params K) Valid ≡ true → awaits K (length params) ≡ false
-    after_all [] k = absurd (by_first reset k)
-    after_all (e ∷ earlier) k = go e.call e.answer k
-settled_on can reset text params L q a d due fit heard before = let k = sent_of (line_after can reset text params L) q due in absurd cc
+settled_on : (can : Caps) (reset : Bool) (r : CallRecord) (L : List Entry) (q : DriverCall) (a : DriverAnswer) → MadeAt can (asked_by r) (step L) (exchanges L)
+    → is_due (line_after can reset (asked_by r) L) q ≡ true → fits_of q a ≡ true → is_memory a ≡ false → is_some r.decided || awaits L (length r.params) ≡ true
+    → is_some (decision (length r.params) r.dests q a r.decided) || awaits_after q a (length r.params) ≡ true
+settled_on can reset r L Reset Bad made k fit heard before = refl
+settled_on can reset r L Reset a made k fit heard before = or_true _ _ refl
+settled_on can reset r L (Exec (Text t) ps) (Result last affected) made k fit heard before = refl
+settled_on can reset r L (Exec (Text t) ps) Skip made k fit heard before = refl
+settled_on can reset r L (Exec (Text t) ps) Bad made k fit heard before = refl
+settled_on can reset r L (Exec (Text t) ps) (Fail why) made k fit heard before = refl
+settled_on can reset r L (Exec (Text t) ps) _ made k fit heard before = absurd (impossible (misfit _ _ fit heard))
+settled_on can reset r L (Exec (Handle h) ps) (Result last affected) made k fit heard before = refl
+settled_on can reset r L (Exec (Handle h) ps) Bad made k fit heard before = refl
+settled_on can reset r L (Exec (Handle h) ps) (Fail why) made k fit heard before = refl
+settled_on can reset r L (Exec (Handle h) ps) _ made k fit heard before = absurd (impossible (misfit _ _ fit heard))
+settled_on can reset r L (Query (Text t) ps) (Cursor rows columns) made k fit heard before = refl
+settled_on can reset r L (Query (Text t) ps) Skip made k fit heard before = refl
+settled_on can reset r L (Query (Text t) ps) Bad made k fit heard before = refl
+settled_on can reset r L (Query (Text t) ps) (Fail why) made k fit heard before = refl
+settled_on can reset r L (Query (Text t) ps) _ made k fit heard before = absurd (impossible (misfit _ _ fit heard))
+settled_on can reset r L (Query (Handle h) ps) (Cursor rows columns) made k fit heard before = refl
+settled_on can reset r L (Query (Handle h) ps) Bad made k fit heard before = refl
+settled_on can reset r L (Query (Handle h) ps) (Fail why) made k fit heard before = refl
+settled_on can reset r L (Query (Handle h) ps) _ made k fit heard before = absurd (impossible (misfit _ _ fit heard))
+settled_on can reset r L (Prepare t) (Prepared handle inputs) made k fit heard before = counted inputs (length r.params)
+settled_on can reset r L (Prepare t) Bad made k fit heard before = refl
+settled_on can reset r L (Prepare t) (Fail why) made k fit heard before = refl
+settled_on can reset r L (Prepare t) _ made k fit heard before = absurd (impossible (misfit _ _ fit heard))
+settled_on can reset r L (Next rows) a made k fit heard before =
+    or_some _ _ (row_decides r.dests rows a (fetching_reads can (asked_by r) (step L) (exchanges L) rows (goes_due can reset (asked_by r) L (Next rows) made k) made) fit heard)
+settled_on can reset r L (CloseRows rows) a made k fit heard before =
+    or_some _ _ (closing_decides a r.decided
+    (first_only (is_some r.decided) (awaits L (length r.params)) before
+    (none_awaited L (length r.params) (freeing_step (step L) rows (goes_due can reset (asked_by r) L (CloseRows rows) made k)))))
+settled_on can reset r L (CloseStmt h) a made k fit heard before =
+    or_some _ _ (first_only (is_some r.decided) (awaits L (length r.params)) before (closing_awaits can reset (asked_by r) L h made k))
+settled_on can reset r L Valid a made k fit heard before =
+    or_some _ _ (first_only (is_some r.decided) (awaits L (length r.params)) before
+    (none_awaited L (length r.params) (testing_step (step L) (goes_due can reset (asked_by r) L Valid made k))))
+settled_on can reset r L q a made k fit heard before = let m = sent_of (line_after can reset (asked_by r) L) q k in absurd cc
 
 -- where nothing is due nothing is awaited
-nothing_awaited : (can : Caps) (reset : Bool) (text : List ℕ) (params : List Param) (L : List Entry) → is_none (line_after can reset text params L) ≡ true → awaits L (length params) ≡ false
-nothing_awaited can reset text params [] h = absurd cc
-nothing_awaited can reset text params (e ∷ earlier) h = go e.call e.answer h
+
+some_cond : (can : Caps) (asked : Asked) (b : Bool) → is_none (sent_as can asked (cond b due.Text due.Prepare)) ≡ true → ⊥
+some_cond can asked true h = cc
+some_cond can asked false h = cc
+
+some_first : (can : Caps) (asked : Asked) → is_none (body_after can asked []) ≡ true → ⊥
+some_first can asked h = by_reads asked.reads h
   where
-    go : (q : DriverCall) (b : DriverAnswer) → is_none (after_call can text params q b) ≡ true → awaits_after q b (length params) ≡ false
-    go q Bad k = refl
-    go Reset b k = absurd cc
-    go (Exec (Text t) ps) Skip k = absurd cc
-    go (Exec (Text t) ps) b k = refl
-    go (Prepare t) (Prepared handle inputs) k = absurd cc
-    go (Prepare t) b k = refl
-    go _ b k = refl
+    by_reads : (b : Bool) → is_none (body_after can (asking asked.text asked.params b) []) ≡ true → ⊥
+    by_reads true k = some_cond can (asking asked.text asked.params true) can.fast_query (rw (first_of_one can asked.text asked.params) at k)
+    by_reads false k = some_cond can (asking asked.text asked.params false) can.fast_exec (rw (first_of_exec can asked.text asked.params) at k)
+
+some_second : (can : Caps) (asked : Asked) → is_none (body_after can asked ((due.Text, got.Skip) ∷ [])) ≡ true → ⊥
+some_second can asked h = by_reads asked.reads h
+  where
+    by_reads : (b : Bool) → is_none (body_after can (asking asked.text asked.params b) ((due.Text, got.Skip) ∷ [])) ≡ true → ⊥
+    by_reads true k = let m = rw (second_of_one can asked.text asked.params) at k in cc
+    by_reads false k = let m = rw (second_of_exec can asked.text asked.params) at k in cc
+
+done_awaits : (can : Caps) (asked : Asked) (s : Step) (made : List Exchange) → MadeAt can asked s made → is_none (body_after can asked made) ≡ true → is_awaiting s ≡ false
+done_awaits can asked Start made m h = absurd (some_first can asked (rw m at h))
+done_awaits can asked WasReset made m h = absurd (some_first can asked (rw m at h))
+done_awaits can asked WasSkipped made m h = absurd (some_second can asked (rw m at h))
+done_awaits can asked (WasPrepared handle) made m h = let c = clean_when_done can asked (WasPrepared handle) made m h in absurd cc
+done_awaits can asked (HasRows own rows) made m h = let c = clean_when_done can asked (HasRows own rows) made m h in absurd cc
+done_awaits can asked _ made m h = refl
+
+ended_awaits : (q : DriverCall) (a : DriverAnswer) (count : ℕ) → is_bad a || is_valid q ≡ true → awaits_after q a count ≡ false
+ended_awaits q Bad count h = refl
+ended_awaits Valid a count h = refl
+ended_awaits q a count h = absurd cc
+
+nothing_awaited : (can : Caps) (reset : Bool) (asked : Asked) (L : List Entry) → MadeAt can asked (step L) (exchanges L) → is_none (line_after can reset asked L) ≡ true
+    → awaits L (length asked.params) ≡ false
+nothing_awaited can true asked [] made h = absurd cc
+nothing_awaited can false asked [] made h = absurd (some_first can asked h)
+nothing_awaited can reset asked (e ∷ earlier) made h = by_end (is_bad e.answer || is_valid e.call) refl h
+  where
+    by_end : (b : Bool) → is_bad e.answer || is_valid e.call ≡ b → is_none (cond b None (body_after can asked (exchanges (e ∷ earlier)))) ≡ true
+        → awaits (e ∷ earlier) (length asked.params) ≡ false
+    by_end true is k = ended_awaits e.call e.answer (length asked.params) is
+    by_end false is k = none_awaited (e ∷ earlier) (length asked.params) (done_awaits can asked (step (e ∷ earlier)) (exchanges (e ∷ earlier)) made k)
 
 -- the reply of call n is settled, or an answer on connection c in tenure t still decides
 abbrev pub Settles : List Event → ℕ → ℕ → ℕ → Type 0
@@ -245,14 +388,14 @@ other_call H e c n Idle s p hears it some apart is = cc
 heard_other : (H : List Event) (e : Entry) (n : ℕ) → e.call_no ≢ n → call_record (Heard e ∷ H) n ≡ call_record H n
 heard_other H e n apart = by_house (e.call_no == 0)
   where
-    by_house : (b : Bool) → get_or (cond b (calls H) (with_record e.call_no (λ r. record r { decided = decision (length r.params) e.call e.answer r.decided }) (calls H))) n nobody ≡ get_or (calls H) n nobody
+    by_house : (b : Bool) → get_or (cond b (calls H) (with_record e.call_no (λ r. record r { decided = decision (length r.params) r.dests e.call e.answer r.decided }) (calls H))) n nobody ≡ get_or (calls H) n nobody
     by_house true = refl
-    by_house false = other_record (calls H) e.call_no n (λ r. record r { decided = decision (length r.params) e.call e.answer r.decided }) (λ k. apart (sym k))
+    by_house false = other_record (calls H) e.call_no n (λ r. record r { decided = decision (length r.params) r.dests e.call e.answer r.decided }) (λ k. apart (sym k))
 
 heard_own : (H : List Event) (e : Entry) (n : ℕ) → e.call_no ≡ n → 0 < n → n < length (calls H)
-    → call_record (Heard e ∷ H) n ≡ record (call_record H n) { decided = decision (length (call_record H n).params) e.call e.answer (call_record H n).decided }
+    → call_record (Heard e ∷ H) n ≡ record (call_record H n) { decided = decision (length (call_record H n).params) (call_record H n).dests e.call e.answer (call_record H n).decided }
 heard_own H e n is some within =
-    rw is (rw (other_number n 0 (λ k. absurd (omega arith))) (row_at (calls H) n (record (call_record H n) { decided = decision (length (call_record H n).params) e.call e.answer (call_record H n).decided }) nobody within))
+    rw is (rw (other_number n 0 (λ k. absurd (omega arith))) (row_at (calls H) n (record (call_record H n) { decided = decision (length (call_record H n).params) (call_record H n).dests e.call e.answer (call_record H n).decided }) nobody within))
 
 -- what holds of each connection that is lent to a call
 abbrev pub AllSettle : List Event → Type 0
@@ -333,7 +476,7 @@ settles_entered : (H : List Event) (k m : ℕ) (op : Op) (c t n : ℕ) → Sound
 settles_entered H k m op c t n s all new is =
     let within = s.within n (s.unfinished_ones c n (lent_for H c t n is)) in
     settles_still H (Entered k m op) c t n all is
-    (row_old (calls H) (record { client = k; home = 0; text = statement op; params = params_at_entry (caps H) op; decided = refused_at_entry (caps H) op }) n nobody (λ same. absurd (omega (arith, within.1, same))))
+    (row_old (calls H) (record { client = k; home = 0; text = statement op; params = params_at_entry (caps H) op; dests = destinations op; decided = refused_at_entry (caps H) op }) n nobody (λ same. absurd (omega (arith, within.1, same))))
     refl
 
 settles_replied : (H : List Event) (m : ℕ) (reply : Reply) (c t n : ℕ) → SoundCalls H → AllSettle H → is_for m (place H (home H m)) ≡ false → place H c ≡ Lent t (Call n) → Settles (Replied m reply ∷ H) c t n
@@ -346,14 +489,14 @@ settles_replied H m reply c t n s all gone is =
     absurd (cc) in
     settles_still H (Replied m reply) c t n all is (other_record (calls H) m n (λ r. record r { decided = None }) apart) refl
 
-settles_heard : (H : List Event) (e : Entry) (c t n : ℕ) → SoundCalls H → AllSettle H → HeardFacts H e → place H c ≡ Lent t (Call n) → Settles (Heard e ∷ H) c t n
-settles_heard H e c t n s all a is = by_conn (same_or_not e.conn c)
+settles_heard : (H : List Event) (e : Entry) (c t n : ℕ) → SoundCalls H → AllMade H → AllSettle H → HeardFacts H e → place H c ≡ Lent t (Call n) → Settles (Heard e ∷ H) c t n
+settles_heard H e c t n s made all a is = by_conn (same_or_not e.conn c)
   where
     own : e.conn ≡ c → Settles (Heard e ∷ H) c t n
     own same =
         let m : MayFollow (journal H e.conn) e = MayFollow-of (journal H e.conn) e a.may in
         let hears : hears_in H (Lent t (Call n)) e ≡ true = rw (same, is) at a.fits in
-        let sent : is_due (due H c t n) e.call ≡ true = rw (same, is) at a.sends in
+        let sent : is_due (line.due H c t n) e.call ≡ true = rw (same, is) at a.sends in
         let x = both (not (is_connect e.call || is_shut e.call) && (e.tenure == t) && same_owner e.owner (Call n)) (e.call_no == n) hears in
         let y = both (not (is_connect e.call || is_shut e.call) && (e.tenure == t)) (same_owner e.owner (Call n)) x.0 in
         let z = both (not (is_connect e.call || is_shut e.call)) (e.tenure == t) y.0 in
@@ -361,8 +504,8 @@ settles_heard H e c t n s all a is = by_conn (same_or_not e.conn c)
         let number : e.call_no ≡ n = same_number e.call_no n x.1 in
         let tenure : e.tenure ≡ t = same_number e.tenure t z.1 in
         let heard : is_memory e.answer ≡ false = not_true (is_memory e.answer) m.answer.heard in
-        let settled = settled_on (caps H) (is_reset_due H c) (call_record H n).text (call_record H n).params (heard_in H c t) e.call e.answer (call_record H n).decided sent m.answer.fitting heard (all c t n is) in
-        settles_with H (Heard e) c t n (record (call_record H n) { decided = decision (length (call_record H n).params) e.call e.answer (call_record H n).decided }) (e ∷ heard_in H c t)
+        let settled = settled_on (caps H) (is_reset_due H c) (call_record H n) (heard_in H c t) e.call e.answer (made c t n is) sent m.answer.fitting heard (all c t n is) in
+        settles_with H (Heard e) c t n (record (call_record H n) { decided = decision (length (call_record H n).params) (call_record H n).dests e.call e.answer (call_record H n).decided }) (e ∷ heard_in H c t)
         (heard_own H e n number within.0 within.1) (heard_here H e c t same tenure) settled
 
     by_conn : (e.conn ≡ c) ⊎ (e.conn ≢ c) → Settles (Heard e ∷ H) c t n
@@ -388,7 +531,7 @@ settles_event : (H : List Event) (e : Event) → Lawful (e ∷ H) → AllSettle 
 settles_event H (Pool m) l all c t n is = settles_move H m l all c t n is
 settles_event H (Run v can) l all c t n is = settles_still H (Run v can) c t n all is refl refl
 settles_event H (Entered k m op) l all c t n is = settles_entered H k m op c t n (sound_calls H l.0) all (entered_facts H k m op l.1) is
-settles_event H (Heard e) l all c t n is = settles_heard H e c t n (sound_calls H l.0) all (heard_facts H e l.1) is
+settles_event H (Heard e) l all c t n is = settles_heard H e c t n (sound_calls H l.0) (sound_made H l.0) all (heard_facts H e l.1) is
 settles_event H (Replied m reply) l all c t n is = settles_replied H m reply c t n (sound_calls H l.0) all (replied_facts H m reply l.1) is
 settles_event H Ended l all c t n is = settles_still H Ended c t n all is refl refl
 
@@ -397,7 +540,7 @@ sound_replies [] l = start_settles
 sound_replies (e ∷ before) l = settles_event before e l (sound_replies before l.0)
 
 -- Where a call has nothing more to send on the connection that is lent to it, its reply is settled.
-pub settled_when_done : (H : List Event) (c t n : ℕ) → Lawful H → place H c ≡ Lent t (Call n) → is_none (due H c t n) ≡ true → is_some (reply_due H n) ≡ true
+pub settled_when_done : (H : List Event) (c t n : ℕ) → Lawful H → place H c ≡ Lent t (Call n) → is_none (line.due H c t n) ≡ true → is_some (reply_due H n) ≡ true
 settled_when_done H c t n l is none =
     first_only (is_some (call_record H n).decided) (awaits (heard_in H c t) (length (call_record H n).params)) (sound_replies H l c t n is)
-    (nothing_awaited (caps H) (is_reset_due H c) (call_record H n).text (call_record H n).params (heard_in H c t) none)
+    (nothing_awaited (caps H) (is_reset_due H c) (asked_by (call_record H n)) (heard_in H c t) (sound_made H l c t n is) none)

@@ -1,8 +1,8 @@
 -- What was heard of a connection, by where it stands: facts of one connection alone.
-use Rattle.std.proofs.Common.{◌≡◌, ℕ, ◌≤◌, ◌+◌, ◌==◌, Bool, true, false, not, ◌&&◌, ◌||◌, List, [], ◌∷◌, is_none, refl, sym, ◌∙◌, subst}
+use Rattle.std.proofs.Common.{◌≡◌, ℕ, ◌≤◌, ◌+◌, ◌==◌, Bool, true, false, not, ◌&&◌, ◌||◌, List, [], ◌∷◌, cond, is_none, refl, sym, ◌∙◌, subst}
+use Rattle.std.specs.List.{filter}
 use native.Mathlib.Omega.{arith}
 use Rattle.std.proofs.lemmas.Bool.Decides.{nat_tests}
-use Rattle.dsql_value.specs.declared.value.Param.{Param}
 use Rattle.dsql_driver.specs.Fits.{is_done}
 use Rattle.dsql_driver.specs.declared.caps.Caps.{Caps}
 use Rattle.dsql_driver.specs.declared.call.DriverCall.{DriverCall}
@@ -13,21 +13,25 @@ use Rattle.dsql_journal.specs.declared.entry.Entry.{Entry}
 use Rattle.dsql_journal.specs.declared.entry.Owner.{Owner}
 use Rattle.dsql_journal.specs.declared.entry.Owner.TheVariants.{Call, Tx, Pin, House}
 use Rattle.dsql_journal.specs.Kinds.{◌⇒◌, is_connect, is_house, is_reset, is_valid}
-use Rattle.dsql_journal.specs.Readers.{of_tenure, last_tenure, handles, went_bad, went_invalid}
+use Rattle.dsql_journal.specs.Readers.{is_empty, of_tenure, last_tenure, handles, cursors, begun, begins, went_bad, went_invalid}
+use Rattle.dsql_journal.specs.Tenure.{is_whole_tenure}
 use Rattle.dsql_journal.specs.Journal.{may_follow, IsJournalPrefix}
 use Rattle.dsql_journal.specs.Facts.{MayFollow}
 use Rattle.dsql_journal.specs.Entries.{call_entry, connect_entry}
 use Rattle.dsql_journal.specs.ExecJournals.{Plain, Good}
 use Rattle.dsql_journal.proofs.Sentences.{MayFollow-of}
-use Rattle.dsql_journal.proofs.ExecLines.{is_sent}
-use Rattle.dsql_journal.proofs.ExecJournals.{Plain-connect, Good-connect, went_bad-in}
+use Rattle.dsql_history.proofs.CallLines.{step, is_sent}
+use Rattle.dsql_journal.proofs.ExecJournals.{Plain-connect, Good-connect, went_bad-in, is_whole_tenure-plain}
 use Rattle.dsql_history.specs.declared.record.Place.{Place}
 use Rattle.dsql_history.specs.declared.record.Place.TheVariants.{Nowhere, Opening, Idle, Lent, Closing}
 use Rattle.dsql_history.specs.Readers.Journals.{ends_invalid}
 use Rattle.dsql_history.specs.Readers.Sets.{is_opening, is_closing}
 use Rattle.dsql_history.specs.Rules.Causes.{cause_when, is_kept}
-use Rattle.dsql_history.specs.Rules.Line.{line_after, is_due}
+use Rattle.dsql_history.specs.Readers.Exchanges.{exchanges}
+use Rattle.dsql_history.specs.Rules.Line.{Asked, line_after, is_due}
 use Rattle.dsql_history.proofs.Rows.{same_number}
+use Rattle.dsql_history.proofs.CallJournals.{Served, served_of, plain_of}
+use Rattle.dsql_history.proofs.MadeLines.{MadeAt}
 use Rattle.dsql_history.proofs.Lines.{Serves, serves_first, serves_on, sent_of, ends_bad, none_left, call_entry_of, entry_with, same_parts}
 
 -- Below l is how often the connection c was lent, u how often to another owner than the House, J its journal, heard whether something
@@ -49,7 +53,8 @@ pub record Rests (c l : ℕ) (J : List Entry) : Type 0 where
 
 -- it is being closed, and was not shut yet
 pub record Leaves (c l : ℕ) (J : List Entry) : Type 0 where
-  pub plain : Plain c J
+  pub served : Served c J
+  pub whole : is_whole_tenure (last_tenure J) J ≡ true
   pub below : last_tenure J ≤ l + 1
 
 -- it is lent to call n in tenure t
@@ -105,24 +110,63 @@ not_bad_in t J good = by_list (of_tenure t J) (went_bad-in t J good)
     by_list (e ∷ L) h = grind (arith, h)
 
 -- a connection that is given back and kept
-pub rests_again : (c l t n : ℕ) (J : List Entry) (closed : Bool) (idle : ℕ) (can : Caps) (reset : Bool) (text : List ℕ) (params : List Param) → Works c l t n J
-    → is_kept (cause_when (went_bad J) (ends_invalid J) closed idle) ≡ true → is_none (line_after can reset text params (of_tenure t J)) ≡ true → Rests c l J
-rests_again c l t n J closed idle can reset text params s kept over =
+pub rests_again : (c l t n : ℕ) (J : List Entry) (closed : Bool) (idle : ℕ) (can : Caps) (reset : Bool) (asked : Asked) → Works c l t n J
+    → MadeAt can asked (step (of_tenure t J)) (exchanges (of_tenure t J)) → is_kept (cause_when (went_bad J) (ends_invalid J) closed idle) ≡ true
+    → is_none (line_after can reset asked (of_tenure t J)) ≡ true → Rests c l J
+rests_again c l t n J closed idle can reset asked s made kept over =
     let k = kept_well (went_bad J) (ends_invalid J) closed idle kept in
     let v = s.serves in
+    let left = none_left t n can reset asked (of_tenure t J) v.so_far made over (not_bad_in t J k.0) in
     record {
-      plain = v.plain;
+      plain = plain_of c J v.served (v.open_rows ∙ left.cursors);
       good = record { not_bad = k.0; not_invalid = v.tested k.1 };
-      none = v.live ∙ none_left t n can reset text params (of_tenure t J) v.so_far over (not_bad_in t J k.0);
+      none = v.live ∙ left.handles;
       below = omega (arith, v.rising, s.tenure);
     }
 
+none_more : (b : Bool) (n : ℕ) (ns : List ℕ) → cond b (n ∷ ns) ns ≡ [] → (b ≡ false) × (ns ≡ [])
+none_more true n ns h = grind (arith, h)
+none_more false n ns h = (refl, h)
+
+none_with : (b : Bool) (e : Entry) (J : List Entry) → begins e ≡ false → begun J ≡ [] → begun (cond b (e ∷ J) J) ≡ []
+none_with true e J not_here none = rw not_here none
+none_with false e J not_here none = none
+
+none_begun : (f : Entry → Bool) (J : List Entry) → begun J ≡ [] → begun (filter f J) ≡ []
+none_begun f [] h = refl
+none_begun f (e ∷ J) h =
+    let p = none_more (begins e) e.tx (begun J) h in
+    none_with (f e) e (filter f J) p.0 (none_begun f J p.1)
+
+-- after a Bad what is live doesn't count
+whole_when_bad : (t : ℕ) (J : List Entry) → begun J ≡ [] → went_bad J ≡ true → is_whole_tenure t J ≡ true
+whole_when_bad t J none bad = rw (none_begun (λ x. x.tenure == t) J none, bad) refl
+
+-- a connection on which nothing is due any more has a whole tenure
+pub done_whole : (c t n : ℕ) (J : List Entry) (can : Caps) (reset : Bool) (asked : Asked) → Serves c t n J → MadeAt can asked (step (of_tenure t J)) (exchanges (of_tenure t J))
+    → is_none (line_after can reset asked (of_tenure t J)) ≡ true → is_whole_tenure t J ≡ true
+done_whole c t n J can reset asked v made over = by_bad (went_bad J) refl
+  where
+    by_bad : (b : Bool) → went_bad J ≡ b → is_whole_tenure t J ≡ true
+    by_bad true is = whole_when_bad t J v.served.none_begun is
+    by_bad false is =
+        let left = none_left t n can reset asked (of_tenure t J) v.so_far made over (not_bad_in t J is) in
+        is_whole_tenure-plain c t J (plain_of c J v.served (v.open_rows ∙ left.cursors))
+
 -- a connection that closes out of idle or lent
 pub leaves_idle : (c l : ℕ) (J : List Entry) → Rests c l J → Leaves c l J
-leaves_idle c l J s = record { plain = s.plain; below = s.below }
+leaves_idle c l J s = record { served = served_of c J s.plain; whole = is_whole_tenure-plain c (last_tenure J) J s.plain; below = s.below }
 
-pub leaves_lent : (c l t n : ℕ) (J : List Entry) → Works c l t n J → Leaves c l J
-leaves_lent c l t n J s = let v = s.serves in record { plain = v.plain; below = omega (arith, v.rising, s.tenure) }
+-- where nothing was heard in its tenure, the one before is whole
+last_whole : (c t n : ℕ) (J : List Entry) → Serves c t n J → is_whole_tenure t J ≡ true → is_whole_tenure (last_tenure J) J ≡ true
+last_whole c t n J v whole = by_list (of_tenure t J) v.open_rows v.going
+  where
+    by_list : (L : List Entry) → cursors J ≡ cursors L → (is_empty L ≡ false → last_tenure J ≡ t) → is_whole_tenure (last_tenure J) J ≡ true
+    by_list [] none at = is_whole_tenure-plain c (last_tenure J) J (plain_of c J v.served none)
+    by_list (e ∷ L) none at = subst (λ (m : ℕ). is_whole_tenure m J ≡ true) (sym (at refl)) whole
+
+pub leaves_lent : (c l t n : ℕ) (J : List Entry) → Works c l t n J → is_whole_tenure t J ≡ true → Leaves c l J
+leaves_lent c l t n J s whole = let v = s.serves in record { served = v.served; whole = last_whole c t n J v whole; below = omega (arith, v.rising, s.tenure) }
 
 connect_only : (q : DriverCall) → is_connect q ≡ true → q ≡ Connect
 connect_only Connect h = refl
@@ -166,16 +210,20 @@ call_tx Reset x sent h k = same_number x 0 h
 call_tx Valid x sent h k = same_number x 0 h
 call_tx _ x sent h k = k refl
 
--- an exec's next driver call was heard
-pub works_heard : (c l t n : ℕ) (J : List Entry) (e : Entry) (can : Caps) (reset : Bool) (text : List ℕ) (params : List Param) → Works c l t n J → may_follow J e ≡ true → e.conn ≡ c
-    → e.tenure ≡ t → e.owner ≡ Call n → e.call_no ≡ n → is_due (line_after can reset text params (of_tenure t J)) e.call ≡ true → Works c l t n (e ∷ J)
-works_heard c l t n J e can reset text params s may conn tenure owner number due =
+-- a call's next driver call was heard
+pub works_heard : (c l t n : ℕ) (J : List Entry) (e : Entry) (can : Caps) (reset : Bool) (asked : Asked) → Works c l t n J
+    → MadeAt can asked (step (of_tenure t J)) (exchanges (of_tenure t J)) → may_follow J e ≡ true → e.conn ≡ c → e.tenure ≡ t → e.owner ≡ Call n → e.call_no ≡ n
+    → is_due (line_after can reset asked (of_tenure t J)) e.call ≡ true → Works c l t n (e ∷ J)
+works_heard c l t n J e can reset asked s made may conn tenure owner number due =
     let m : MayFollow J e = MayFollow-of J e may in
     let tx : e.tx ≡ 0 =
-    call_tx e.call e.tx (sent_of (line_after can reset text params (of_tenure t J)) e.call due) m.tenure.tests
+    call_tx e.call e.tx (sent_of (line_after can reset asked (of_tenure t J)) e.call due) m.tenure.tests
     (λ body. let b = rw owner at (m.tenure.in_body body) in same_number e.tx 0 b.no_transaction) in
     let is : e ≡ call_entry c t n e.call e.answer = call_entry_of c t n e conn tenure owner number tx in
-    record { tenure = s.tenure; serves = subst (λ (x : Entry). Serves c t n (x ∷ J)) (sym is) (serves_on c t n J can reset text params e.call e.answer s.serves due m.answer.fitting) }
+    record {
+      tenure = s.tenure;
+      serves = subst (λ (x : Entry). Serves c t n (x ∷ J)) (sym is) (serves_on c t n J can reset asked e.call e.answer s.serves made due m.answer.fitting);
+    }
 
 -- where all is Good nothing was answered Bad, and no test failed just now
 pub good_now : (J : List Entry) → Good J → (went_bad J ≡ false) × (ends_invalid J ≡ false)

@@ -3,3 +3,4 @@ pub mod Course
 pub mod Sets
 pub mod Calls
 pub mod Journals
+pub mod Exchanges

@@ -1,6 +1,7 @@
 use crate::reply::Reply;
 use dsql_driver::Caps;
 use dsql_journal::{Entry, Owner};
+use dsql_scan::Dests;
 use dsql_value::{Args, Txt};
 
 /// What a client asks of the layer.
@@ -8,6 +9,8 @@ use dsql_value::{Args, Txt};
 pub enum Op {
     /// `DB.ExecContext` of a text with arguments.
     Exec { text: Txt, args: Args },
+    /// `DB.QueryRowContext` of a text with arguments, and `Row.Scan` into destinations.
+    One { dests: Dests, text: Txt, args: Args },
 }
 
 /// Why a connection is closed.

@@ -9,6 +9,7 @@ ghost use Rattle.dsql_journal.specs.declared.entry.Entry.{Entry};
 ghost use Rattle.dsql_journal.specs.declared.entry.Owner.{Owner};
 ghost use Rattle.dsql_journal.specs.declared.entry.Owner.TheVariants.{Call};
 ghost use Rattle.dsql_journal.specs.Entries.{connect_entry, shut_entry};
+ghost use Rattle.dsql_journal.specs.HandlesAndCursors.{fits_at_its_place};
 ghost use Rattle.dsql_journal.specs.Journal.{may_follow};
 ghost use Rattle.dsql_journal.specs.Kinds.{is_call};
 ghost use Rattle.dsql_journal.specs.Readers.{has, went_bad};
@@ -46,11 +47,11 @@ pub fn journals_of_lawful_histories()
     ensures { (history : List Event) → Lawful history → KeepsJournals history }
 {}
 
-/// A lent connection has the tenure of its last lending, and can be given back at any time. As long as
-/// a driver call is due on it, none was answered Bad and no test of it failed.
+/// A lent connection has the tenure of its last lending, and can be given back once nothing is due on it any
+/// more. As long as a driver call is due on it, none was answered Bad and no test of it failed.
 pub fn tenures_of_lawful_histories()
     ensures tenure { (history : List Event) (c t : ℕ) (owner : Owner) → Lawful history → place history c ≡ Lent t owner → t ≡ lends history c + 1 }
-    ensures whole { (history : List Event) (c t n : ℕ) → Lawful history → place history c ≡ Lent t (Call n) → is_whole_tenure t (journal history c) ≡ true }
+    ensures whole { (history : List Event) (c t n : ℕ) → Lawful history → place history c ≡ Lent t (Call n) → is_none (due history c t n) ≡ true → is_whole_tenure t (journal history c) ≡ true }
     ensures good { (history : List Event) (c t n : ℕ) → Lawful history → place history c ≡ Lent t (Call n) → is_some (due history c t n) ≡ true → (went_bad (journal history c) ≡ false) × (ends_invalid (journal history c) ≡ false) }
 {}
 
@@ -59,10 +60,10 @@ pub fn replies_of_lawful_histories()
     ensures { (history : List Event) (c t n : ℕ) → Lawful history → place history c ≡ Lent t (Call n) → is_none (due history c t n) ≡ true → is_some (reply_due history n) ≡ true }
 {}
 
-/// Whatever a driver answers to the call that is due, to a Connect or to a Shut, if only it fits the
-/// call, the journal goes on as it may.
+/// Whatever a driver answers to the call that is due, to a Connect or to a Shut, if only it fits at its
+/// place, the journal goes on as it may.
 pub fn every_answer_may_follow()
-    ensures due { (history : List Event) (e : Entry) (t n : ℕ) → Lawful history → place history e.conn ≡ Lent t (Call n) → is_due (due history e.conn t n) e.call ≡ true → e.tenure ≡ t → e.owner ≡ Call n → e.call_no ≡ n → e.tx ≡ 0 → fits_of e.call e.answer ≡ true → is_memory e.answer ≡ false → may_follow (journal history e.conn) e ≡ true }
+    ensures due { (history : List Event) (e : Entry) (t n : ℕ) → Lawful history → place history e.conn ≡ Lent t (Call n) → is_due (due history e.conn t n) e.call ≡ true → e.tenure ≡ t → e.owner ≡ Call n → e.call_no ≡ n → e.tx ≡ 0 → fits_at_its_place (journal history e.conn) e ≡ true → may_follow (journal history e.conn) e ≡ true }
     ensures connect { (history : List Event) (c n : ℕ) (answer : DriverAnswer) → Lawful history → is_placed history ≡ true → place history c ≡ Opening n → fits_of Connect answer ≡ true → is_memory answer ≡ false → may_follow (journal history c) (connect_entry c answer) ≡ true }
     ensures shut { (history : List Event) (c : ℕ) (answer : DriverAnswer) → Lawful history → is_placed history ≡ true → place history c ≡ Closing → fits_of Shut answer ≡ true → is_memory answer ≡ false → may_follow (journal history c) (shut_entry c (next_tenure history c) answer) ≡ true }
 {}

@@ -9,4 +9,4 @@ pub mod worked;
 
 pub use event::{CloseCause, Event, Move, Op};
 pub use record::{CallRecord, Place};
-pub use reply::Reply;
+pub use reply::{FaultWord, Reply};

@@ -20,7 +20,7 @@ use Rattle.dsql_history.specs.declared.reply.Reply.TheVariants.{TooMany}
 use Rattle.dsql_history.specs.Readers.Lists.{first, last}
 use Rattle.dsql_history.specs.Readers.Course.{caps, has_ended}
 use Rattle.dsql_history.specs.Readers.Sets.{place, places, idle, next_tenure, open_count, is_idle, is_opening, is_closing}
-use Rattle.dsql_history.specs.Readers.Calls.{calls, call_record, unfinished, is_busy, home, next_call, reply_due, nobody, statement, params_at_entry, refused_at_entry}
+use Rattle.dsql_history.specs.Readers.Calls.{calls, call_record, unfinished, is_busy, home, next_call, reply_due, nobody, statement, destinations, params_at_entry, refused_at_entry}
 use Rattle.dsql_history.specs.Rules.House.{is_quiet, has_no_chore}
 use Rattle.dsql_history.specs.Rules.Causes.{cause}
 use Rattle.dsql_history.specs.Rules.Limit.{room}
@@ -83,7 +83,7 @@ pushed cs r =
     ]
 
 entered_by : (past : List Event) (client : ℕ) (op : Op) → (call_record (Entered client (next_call past) op ∷ past) (next_call past)).client ≡ client
-entered_by past client op = ap (λ r. r.client) (pushed (calls past) (record { client = client; home = 0; text = statement op; params = params_at_entry (caps past) op; decided = refused_at_entry (caps past) op }))
+entered_by past client op = ap (λ r. r.client) (pushed (calls past) (record { client = client; home = 0; text = statement op; params = params_at_entry (caps past) op; dests = destinations op; decided = refused_at_entry (caps past) op }))
 
 -- the call that has entered is under way over a move
 under_way : (past : List Event) (client : ℕ) (op : Op) (move : Move) → Lawful past → unfinished past ≡ [] → IsUnderWay (Pool move ∷ Entered client (next_call past) op ∷ past) client
@@ -247,7 +247,7 @@ opening_parked past client op k is =
     let c = length (places past) in
     let H : List Event = Entered client n op ∷ past in
     let now : List Event = Pool (OpenStart c n) ∷ H in
-    let lt : n < length (calls H) = omega (arith, length_push (calls past) (record { client = client; home = 0; text = statement op; params = params_at_entry (caps past) op; decided = refused_at_entry (caps past) op })) in
+    let lt : n < length (calls H) = omega (arith, length_push (calls past) (record { client = client; home = 0; text = statement op; params = params_at_entry (caps past) op; dests = destinations op; decided = refused_at_entry (caps past) op })) in
     let at_home : home now k ≡ c = ap (home now) is ∙ home_at (calls H) n c lt in
     subst (λ (d : ℕ). IsParkedAt (place now d) d now) (sym at_home) (subst (λ (q : Place). IsParkedAt q c now) (sym (opening_place (places past) n)) tt)
 

@@ -28,9 +28,9 @@ client_move past (Gone c) n = refl
 client_move past (Fell c m) n = same_client (calls past) m n (λ r. record r { decided = refusal past }) (λ r. refl)
 
 client_cond : (past : List Event) (e : Entry) (n : ℕ) (b : Bool)
-    → (get_or (cond b (calls past) (with_record e.call_no (λ r. record r { decided = decision (length r.params) e.call e.answer r.decided }) (calls past))) n nobody).client ≡ (call_record past n).client
+    → (get_or (cond b (calls past) (with_record e.call_no (λ r. record r { decided = decision (length r.params) r.dests e.call e.answer r.decided }) (calls past))) n nobody).client ≡ (call_record past n).client
 client_cond past e n true = refl
-client_cond past e n false = same_client (calls past) e.call_no n (λ r. record r { decided = decision (length r.params) e.call e.answer r.decided }) (λ r. refl)
+client_cond past e n false = same_client (calls past) e.call_no n (λ r. record r { decided = decision (length r.params) r.dests e.call e.answer r.decided }) (λ r. refl)
 
 pub client_heard : (past : List Event) (e : Entry) (n : ℕ) → (call_record (Heard e ∷ past) n).client ≡ (call_record past n).client
 client_heard past e n = client_cond past e n (e.call_no == 0)

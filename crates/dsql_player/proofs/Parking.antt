@@ -21,9 +21,9 @@ same_home : (cs : List CallRecord) (n m : ℕ) (f : CallRecord → CallRecord) �
 same_home cs n m f k = grind (arith, read_set cs n (f (get_or cs n nobody)) m nobody, k (get_or cs n nobody))
 
 home_cond : (past : List Event) (e : Entry) (n : ℕ) (b : Bool)
-    → (get_or (cond b (calls past) (with_record e.call_no (λ r. record r { decided = decision (length r.params) e.call e.answer r.decided }) (calls past))) n nobody).home ≡ home past n
+    → (get_or (cond b (calls past) (with_record e.call_no (λ r. record r { decided = decision (length r.params) r.dests e.call e.answer r.decided }) (calls past))) n nobody).home ≡ home past n
 home_cond past e n true = refl
-home_cond past e n false = same_home (calls past) e.call_no n (λ r. record r { decided = decision (length r.params) e.call e.answer r.decided }) (λ r. refl)
+home_cond past e n false = same_home (calls past) e.call_no n (λ r. record r { decided = decision (length r.params) r.dests e.call e.answer r.decided }) (λ r. refl)
 
 pub home_heard : (past : List Event) (e : Entry) (n : ℕ) → home (Heard e ∷ past) n ≡ home past n
 home_heard past e n = home_cond past e n (e.call_no == 0)

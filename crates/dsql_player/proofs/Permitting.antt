@@ -31,7 +31,7 @@ use Rattle.dsql_history.specs.Readers.Journals.{journal}
 use Rattle.dsql_history.specs.Rules.Line.{due}
 use Rattle.dsql_history.specs.Rules.Settled.{is_placed}
 use Rattle.dsql_history.proofs.Rows.{same_to_itself}
-use Rattle.dsql_history.proofs.SoundJournals.{follows_due, follows_connect, follows_shut}
+use Rattle.dsql_history.proofs.JournalLaws.{follows_due, follows_connect, follows_shut, unheard_opening}
 use Rattle.dsql_engine.specs.Awaited.{awaited, awaited_at, permit_of, connect_permit, shut_permit, call_permit}
 use Rattle.dsql_engine.proofs.Hearing.{Awaits, awaits, due_of}
 use Rattle.dsql_player.specs.WiresFit.{HoldsWire}
@@ -78,23 +78,24 @@ one_connection (Heard e ∷ past) c = go (e.conn == c) refl (one_connection past
 one_connection (_ ∷ past) c = one_connection past c
 
 follows_at : (past : List Event) (c : ℕ) (p : Permit) (a : DriverAnswer) (q : Place) → place past c ≡ q → awaited_at past c q ≡ Some p → Lawful past → is_placed past ≡ true
-    → fits_of p.call a ≡ true → is_memory a ≡ false → may_follow (journal past c) (entry_of p a) ≡ true
-follows_at past c p a (Opening n) at h l placed fits heard =
+    → fits_of p.call a ≡ true → is_memory a ≡ false → fits_at_its_place (journal past c) (entry_of p a) ≡ true → may_follow (journal past c) (entry_of p a) ≡ true
+follows_at past c p a (Opening n) at h l placed fits heard there =
     let e : connect_permit c ≡ p = cc in
     subst (λ (k : Permit). fits_of k.call a ≡ true → may_follow (journal past c) (entry_of k a) ≡ true) e (λ f. follows_connect past c n a l placed at f heard) fits
-follows_at past c p a Closing at h l placed fits heard =
+follows_at past c p a Closing at h l placed fits heard there =
     let e : shut_permit c (next_tenure past c) ≡ p = cc in
     subst (λ (k : Permit). fits_of k.call a ≡ true → may_follow (journal past c) (entry_of k a) ≡ true) e (λ f. follows_shut past c a l placed at f heard) fits
-follows_at past c p a (Lent t (Call n)) at h l placed fits heard =
+follows_at past c p a (Lent t (Call n)) at h l placed fits heard there =
     let w : Awaits (due past c t n) c t n p = awaits c t n (due past c t n) p h in
     let same : entry_of p a ≡ call_entry c t n p.call a = ap (λ (k : Permit). entry_of k a) w.parts in
     subst (λ (x : Entry). may_follow (journal past c) x ≡ true) (sym same)
-    (follows_due past (call_entry c t n p.call a) t n l at (due_of past c t n p.call w.call) refl refl refl refl fits heard)
-follows_at past c p a (Lent t (Tx n)) at h l placed fits heard = absurd cc
-follows_at past c p a (Lent t (Pin n)) at h l placed fits heard = absurd cc
-follows_at past c p a (Lent t House) at h l placed fits heard = absurd cc
-follows_at past c p a Nowhere at h l placed fits heard = absurd cc
-follows_at past c p a Idle at h l placed fits heard = absurd cc
+    (follows_due past (call_entry c t n p.call a) t n l at (due_of past c t n p.call w.call) refl refl refl refl
+    (subst (λ (x : Entry). fits_at_its_place (journal past c) x ≡ true) same there))
+follows_at past c p a (Lent t (Tx n)) at h l placed fits heard there = absurd cc
+follows_at past c p a (Lent t (Pin n)) at h l placed fits heard there = absurd cc
+follows_at past c p a (Lent t House) at h l placed fits heard there = absurd cc
+follows_at past c p a Nowhere at h l placed fits heard there = absurd cc
+follows_at past c p a Idle at h l placed fits heard there = absurd cc
 
 not_memory : (b : Bool) → not b ≡ true → b ≡ false
 not_memory false h = refl
@@ -110,7 +111,7 @@ awaited_sent past p legal h = λ a fits.
     let there : fits_at_its_place J e ≡ true = ap (fits_at_its_place J) (sym same) ∙ fits in
     let parts = parts5 (is_heard e) (is_fitting e) (gives_new_handle J e) (gives_new_cursor J e) (has_width_of_cursor J e) there in
     let follows : may_follow J e ≡ true =
-    follows_at past p.conn p a (place past p.conn) refl h legal.lawful legal.settled.placed parts.1 (not_memory (is_memory a) parts.0) in
+    follows_at past p.conn p a (place past p.conn) refl h legal.lawful legal.settled.placed parts.1 (not_memory (is_memory a) parts.0) there in
     ap (λ (x : Entry). is_beginning_of p.conn (x ∷ J)) same
     ∙ beginning-more p.conn J e (legal.journals.beginnings p.conn) (one_connection past p.conn)
     ∙ rw (same_to_itself p.conn, follows) refl
@@ -132,3 +133,22 @@ heard_awaited past p e h is = subst (λ (x : Entry). awaited past x.conn ≡ Som
 -- a stray permit is the one that was handed back
 pub stray_of : (fault : WireFault) (q p : Permit) → fault ≡ Stray q → handed_back fault ≡ p → fault ≡ Stray p
 stray_of fault q p is back = is ∙ ap (λ (k : Permit). Stray k) (ap handed_back (sym is) ∙ back)
+
+-- what fits at its place on the wire fits in the connection's journal
+pub held_fits : {W : Type 0} (heard : W → Option (List Told)) (c : ℕ) (entries : List Entry) (e : Entry) (wire : Option (Journaled W)) → HoldsWire heard false c entries wire
+    → IsSomeAnd wire (λ w. fits_at_its_place w.journal e ≡ true) → fits_at_its_place entries e ≡ true
+held_fits heard c entries e None h fits = absurd h
+held_fits {W} heard c entries e (Some w) h fits = subst (λ (j : List Entry). fits_at_its_place j e ≡ true) h.journal fits
+
+-- so what was heard of a permit fits in the journal of its connection
+pub heard_fits : {W : Type 0} (tells : W → Option (List Told)) (past : List Event) (p : Permit) (e : Entry) (wire : Option (Journaled W)) → awaited past p.conn ≡ Some p → e ≡ answered p e.answer
+    → HoldsWire tells false p.conn (journal past p.conn) wire → IsSomeAnd wire (λ w. fits_at_its_place w.journal e ≡ true) → fits_at_its_place (journal past e.conn) e ≡ true
+heard_fits tells past p e wire h is holds fits =
+    subst (λ (c : ℕ). fits_at_its_place (journal past c) e ≡ true) (sym (ap (λ (x : Entry). x.conn) (heard_entry past p e h is))) (held_fits tells p.conn (journal past p.conn) e wire holds fits)
+
+-- and what was heard as the first of a connection fits where nothing was heard before
+pub first_fits : (past : List Event) (p : Permit) (n : ℕ) (e : Entry) → Legal past → awaited past p.conn ≡ Some p → e ≡ answered p e.answer → place past p.conn ≡ Opening n → fits_at_its_place [] e ≡ true
+    → fits_at_its_place (journal past e.conn) e ≡ true
+first_fits past p n e legal h is at fits =
+    let none : journal past p.conn ≡ [] = unheard_opening past p.conn n legal.lawful legal.settled.placed at in
+    subst (λ (c : ℕ). fits_at_its_place (journal past c) e ≡ true) (sym (ap (λ (x : Entry). x.conn) (heard_entry past p e h is))) (subst (λ (j : List Entry). fits_at_its_place j e ≡ true) (sym none) fits)

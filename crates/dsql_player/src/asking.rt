@@ -1,5 +1,5 @@
 ghost use Rattle.std.specs.Prelude.{◌≡◌, ◌<◌, ◌≤◌, true, false, length, Some, IfOk, IfErr, OnOk, OnErr};
-ghost use Rattle.dsql_driver.specs.Fits.{fits_of, is_memory};
+ghost use Rattle.dsql_journal.specs.HandlesAndCursors.{fits_at_its_place};
 ghost use Rattle.dsql_history.specs.Legal.{Legal};
 ghost use Rattle.dsql_history.specs.Readers.Journals.{journal};
 ghost use Rattle.dsql_engine.specs.Awaited.{awaited, permit_of};
@@ -34,8 +34,7 @@ pub(crate) fn hear(engine: &mut Engine, heard: Heard) -> Result<Next, Halt>
     requires legal { Legal engine.old }
     requires room { length engine.old < most_events }
     requires awaited { awaited engine.old heard.conn ≡ Some (permit_of heard) }
-    requires fitting { fits_of heard.call heard.answer ≡ true }
-    requires no_want { is_memory heard.answer ≡ false }
+    requires fits { fits_at_its_place (journal engine.old heard.conn) heard ≡ true }
     ensures group { OnOk result (engine.new ≡ after_heard engine.old heard) }
     ensures next { IfOk result (λ next. NextAfterHeard engine.old heard next engine.new) }
     ensures err { OnErr result (engine.new ≡ engine.old) }

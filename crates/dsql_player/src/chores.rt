@@ -1,5 +1,6 @@
-ghost use Rattle.std.specs.Prelude.{◌≡◌, ◌≢◌, ◌<◌, ◌≤◌, ℕ, true, false, length, Some, None, IfOk, IfErr, OnOk, OnErr, IsErrOf, is_some};
-ghost use Rattle.dsql_driver.specs.Fits.{fits_of, is_memory};
+ghost use Rattle.std.specs.Prelude.{◌≡◌, ◌≢◌, ◌<◌, ◌≤◌, ℕ, [], true, false, length, Some, None, IfOk, IfErr, OnOk, OnErr, IsErrOf, is_some};
+ghost use Rattle.dsql_driver.specs.Fits.{is_memory};
+ghost use Rattle.dsql_journal.specs.HandlesAndCursors.{fits_at_its_place};
 ghost use Rattle.dsql_journal.specs.Kinds.{is_shut};
 ghost use Rattle.dsql_history.specs.Legal.{Legal};
 ghost use Rattle.dsql_history.specs.Readers.Calls.{unfinished};
@@ -175,7 +176,7 @@ fn connect_wire<F: Fleet>(
     requires empty { slot wires.old permit.conn ≡ None }
     requires opens { opens permit ≡ true }
     ensures entry { IfOk result (λ heard. heard ≡ answered permit heard.answer) }
-    ensures fits { IfOk result (λ heard. fits_of heard.call heard.answer ≡ true) }
+    ensures fits { IfOk result (λ heard. fits_at_its_place [] heard ≡ true) }
     ensures no_want { IfOk result (λ heard. is_memory heard.answer ≡ false) }
     ensures others { OnOk result ((c : ℕ) → c ≢ permit.conn → slot wires.new c ≡ slot wires.old c) }
     ensures wire { IfOk result
@@ -200,7 +201,7 @@ fn open_wire<F: Fleet>(
 ) -> Result<Opened<F::Wire>, Halt>
     requires { opens permit ≡ true }
     ensures entry { IfOk result (λ opened. opened.heard ≡ answered permit opened.heard.answer) }
-    ensures fits { IfOk result (λ opened. fits_of opened.heard.call opened.heard.answer ≡ true) }
+    ensures fits { IfOk result (λ opened. fits_at_its_place [] opened.heard ≡ true) }
     ensures no_want { IfOk result (λ opened. is_memory opened.heard.answer ≡ false) }
     ensures wire { IfOk result
         (λ opened. OpensWire F.Wire.heard (is_some (F.retired fleet.old)) opened.heard opened.wire) }

@@ -1,5 +1,6 @@
 ghost use Rattle.std.specs.Prelude.{◌≡◌, ◌≢◌, ◌<◌, ℕ, true, false, Bool, List, [], ◌∷◌, length, reverse, slice_set, Option, Some, None, IfOk, IfErr, OnOk, IsSome, IsSomeAnd};
-ghost use Rattle.dsql_driver.specs.Fits.{fits_of, is_memory};
+ghost use Rattle.dsql_driver.specs.Fits.{is_memory};
+ghost use Rattle.dsql_journal.specs.HandlesAndCursors.{fits_at_its_place};
 ghost use Rattle.dsql_driver.specs.declared.caps.Caps.{Caps};
 ghost use Rattle.dsql_history.specs.declared.event.Event.TheVariants.{Run};
 ghost use Rattle.dsql_tenure.specs.Judged.{answered};
@@ -117,7 +118,8 @@ impl<W: Wire> Wires<W> {
     pub(crate) fn perform(&mut self, permit: Permit) -> Result<Heard, Halt>
         requires { IsSomeAnd (slot self.old permit.conn) (λ w. MayBeSent w.conn w.journal permit) }
         ensures entry { IfOk result (λ heard. heard ≡ answered permit heard.answer) }
-        ensures fits { IfOk result (λ heard. fits_of heard.call heard.answer ≡ true) }
+        ensures fits { IfOk result
+            (λ heard. IsSomeAnd (slot self.old permit.conn) (λ w. fits_at_its_place w.journal heard ≡ true)) }
         ensures no_want { IfOk result (λ heard. is_memory heard.answer ≡ false) }
         ensures others { (c : ℕ) → c ≢ permit.conn → slot self.new c ≡ slot self.old c }
         ensures noted { IfOk result
@@ -135,7 +137,7 @@ impl<W: Wire> Wires<W> {
 fn perform_on<W: Wire>(wire: &mut JournaledWire<W>, permit: Permit) -> Result<Heard, Halt>
     requires { MayBeSent wire.old.conn wire.old.journal permit }
     ensures entry { IfOk result (λ heard. heard ≡ answered permit heard.answer) }
-    ensures fits { IfOk result (λ heard. fits_of heard.call heard.answer ≡ true) }
+    ensures fits { IfOk result (λ heard. fits_at_its_place wire.old.journal heard ≡ true) }
     ensures no_want { IfOk result (λ heard. is_memory heard.answer ≡ false) }
     ensures noted { IfOk result (λ heard. Hears W.heard heard wire.old wire.new) }
     ensures memory { IfErr result (λ halt. halt ≡ Halt.Memory) }

@@ -7,17 +7,20 @@ use Rattle.serde_json.specs.Data.{Data}
 use Rattle.serde_json.specs.Read.{read}
 use Rattle.dsql_value.specs.declared.arg.Named.{Named}
 use Rattle.dsql_history.specs.declared.event.Op.{Op}
-use Rattle.dsql_history.specs.declared.event.Op.TheVariants.{Exec}
+use Rattle.dsql_scan.specs.declared.dest.Dest.{Dest}
 use Rattle.dsql_script.specs.declared.fault.What.TheVariants.{Lines, Args}
 use Rattle.dsql_script.specs.declared.fault.LineFault.TheVariants.{TooLong, NotUtf8, NoSuchWord, BadShape, TooMany}
 use Rattle.dsql_script.specs.declared.script.Head.{Head}
 use Rattle.dsql_script.specs.declared.script.Head.TheVariants.{Begun}
 use Rattle.dsql_script.specs.declared.script.ScriptLine.{ScriptLine}
 use Rattle.dsql_script.specs.declared.script.ScriptLine.TheVariants.{Skip, Version, UseCaps, Client}
+use Rattle.dsql_script.specs.declared.reader.calls.Verb.{Verb}
+use Rattle.dsql_script.specs.declared.reader.calls.Verb.TheVariants.{Exec, One}
+use Rattle.dsql_script.specs.Dests.{dests_of}
 use Rattle.dsql_script.specs.ScriptArgs as args
 use Rattle.dsql_script.specs.ScriptWords.{words_of, array_of, client_of}
 use Rattle.dsql_script.specs.ScriptHead.{Progress, progress, after}
-use Rattle.dsql_script.specs.ScriptLines.{Reading, has_exec_shape, names_database, exec_on, exec_of_call, exec_of_array, exec_of, call_of, client_line, version_line, caps_line, form_of, is_skipped, text_of, line_of, read_of, most_bytes, most_lines}
+use Rattle.dsql_script.specs.ScriptLines.{Reading, has_target, names_database, op_of, has_too_many, call_on, call_of_parts, call_of_array, statement_of, exec_of, one_into, one_of, call_of, client_line, version_line, caps_line, form_of, is_skipped, text_of, line_of, read_of, most_bytes, most_lines}
 use Rattle.dsql_run.specs.Script.{Script}
 use Rattle.dsql_run.specs.Runs.{StopsReading}
 use Rattle.dsql_run.specs.Reading.{is_body, is_client, IsBodyLine, IsReadStop, NoLine}
@@ -33,27 +36,42 @@ either : (b : Bool) (x y : Reading) → Body x → Body y → Body (if b then x 
 either true x y h k = h
 either false x y h k = k
 
-body_exec_on : (client : ℕ) (b : Bool) (op : Op) → Body (exec_on client b op)
-body_exec_on client true op = refl
-body_exec_on client false op = tt
+body_call_on : (client : ℕ) (b : Bool) (op : Op) → Body (call_on client b op)
+body_call_on client true op = refl
+body_call_on client false op = tt
 
-body_exec_of_call : (client : ℕ) (b : Bool) (call : Option (List ℕ × List Named)) → Body (exec_of_call client b call)
-body_exec_of_call client b None = tt
-body_exec_of_call client b (Some (text, list)) =
-    either (nat_lt args.most_args (length list)) (Err (TooMany Args)) (exec_on client b (Exec text list)) tt (body_exec_on client b (Exec text list))
+body_call_of_parts : (client : ℕ) (v : Verb) (b : Bool) (call : Option (List ℕ × List Named)) → Body (call_of_parts client v b call)
+body_call_of_parts client v b None = tt
+body_call_of_parts client v b (Some (text, list)) = either (has_too_many v list) (Err (TooMany Args)) (call_on client b (op_of v text list)) tt (body_call_on client b (op_of v text list))
 
-body_exec_of_array : (client : ℕ) (b : Bool) (found : Option Data) → Body (exec_of_array client b found)
-body_exec_of_array client b None = tt
-body_exec_of_array client b (Some d) = body_exec_of_call client b (args.call_of_data d)
+body_call_of_array : (client : ℕ) (v : Verb) (b : Bool) (found : Option Data) → Body (call_of_array client v b found)
+body_call_of_array client v b None = tt
+body_call_of_array client v b (Some d) = body_call_of_parts client v b (args.call_of_data d)
+
+body_statement_of : (client : ℕ) (v : Verb) (target : List ℕ) (tokens : List (List ℕ)) (array : Option (List ℕ)) → Body (statement_of client v target tokens array)
+body_statement_of client v target tokens None = tt
+body_statement_of client v target tokens (Some array) =
+    let b : Bool = names_database target tokens in
+    either (has_target target tokens) (call_of_array client v b (read array)) (Err BadShape) (body_call_of_array client v b (read array)) tt
 
 body_exec_of : (client : ℕ) (words : List (List ℕ)) (array : Option (List ℕ)) → Body (exec_of client words array)
-body_exec_of client words None = tt
-body_exec_of client words (Some array) =
-    either (has_exec_shape words) (exec_of_array client (names_database words) (read array)) (Err BadShape) (body_exec_of_array client (names_database words) (read array)) tt
+body_exec_of client [] array = tt
+body_exec_of client (target ∷ tokens) array = body_statement_of client Exec target tokens array
+
+body_one_into : (client : ℕ) (dests : Option (List Dest)) (target : List ℕ) (tokens : List (List ℕ)) (array : Option (List ℕ)) → Body (one_into client dests target tokens array)
+body_one_into client None target tokens array = tt
+body_one_into client (Some dests) target tokens array = body_statement_of client (One dests) target tokens array
+
+body_one_of : (client : ℕ) (words : List (List ℕ)) (array : Option (List ℕ)) → Body (one_of client words array)
+body_one_of client [] array = tt
+body_one_of client (target ∷ []) array = tt
+body_one_of client (target ∷ dests ∷ tokens) array = body_one_into client (dests_of dests) target tokens array
 
 body_call_of : (client : Option ℕ) (verb : List ℕ) (words : List (List ℕ)) (array : Option (List ℕ)) → Body (call_of client verb words array)
 body_call_of None verb words array = tt
-body_call_of (Some client) verb words array = either (bytes_eq verb (codes "exec")) (exec_of client words array) (Err NoSuchWord) (body_exec_of client words array) tt
+body_call_of (Some client) verb words array =
+    either (bytes_eq verb (codes "exec")) (exec_of client words array) (if bytes_eq verb (codes "one") then one_of client words array else Err NoSuchWord) (body_exec_of client words array)
+    (either (bytes_eq verb (codes "one")) (one_of client words array) (Err NoSuchWord) (body_one_of client words array) tt)
 
 body_client_line : (client : List ℕ) (words : List (List ℕ)) (array : Option (List ℕ)) → Body (client_line client words array)
 body_client_line client [] array = tt

@@ -17,6 +17,8 @@ use Rattle.dsql_driver.specs.declared.call.DriverCall.{DriverCall}
 use Rattle.dsql_driver.specs.declared.call.DriverCall.TheVariants as call
 use Rattle.dsql_driver.specs.declared.answer.DriverAnswer.{DriverAnswer}
 use Rattle.dsql_driver.specs.declared.answer.DriverAnswer.TheVariants as answer
+use Rattle.dsql_scan.specs.declared.cell.Cell.{Cell}
+use Rattle.dsql_scan.specs.declared.cell.Cell.TheVariants as cell
 use Rattle.dsql_journal.specs.declared.entry.Entry.{Entry}
 use Rattle.dsql_history.specs.declared.reply.Reply.{Reply}
 use Rattle.dsql_history.specs.declared.reply.Reply.TheVariants as reply
@@ -27,13 +29,16 @@ use Rattle.dsql_history.specs.declared.event.Move.TheVariants as move
 use Rattle.dsql_history.specs.declared.event.Event.{Event}
 use Rattle.dsql_history.specs.declared.event.Event.TheVariants as event
 use Rattle.dsql_script.specs.LineArgs.{arg_data, named_arg_data, argument_data}
-use Rattle.dsql_script.specs.LineValues.{list_data, integer, value_data, named_data, params_data, values_data, texts_data}
+use Rattle.dsql_script.specs.LineValues.{list_data, integer, u64_data, value_data, named_data, params_data, values_data, texts_data, cell_data, cells_data}
 use Rattle.dsql_script.specs.LineCalls.{input_data, call_data, answer_data}
 use Rattle.dsql_script.specs.Lines.{entered_data, move_data, entry_data, reply_data, json_of}
 
 integer-no_float : (z : ℤ) → has_float (integer z) ≡ false
 integer-no_float (pos n) = refl
 integer-no_float (negsuc n) = refl
+
+u64-no_float : (n : ℕ) → has_float (u64_data n) ≡ false
+u64-no_float n = elim (cases_Bool (nat_lt largest_int n)) [ inl large ↦ rw large refl | inr small ↦ rw small refl ]
 
 value-no_float : (v : Value) → has_float (value_data v) ≡ false
 value-no_float value.Nil = refl
@@ -83,7 +88,7 @@ arg-no_float (arg.I8 n) = simp integer-no_float
 arg-no_float (arg.I16 n) = simp integer-no_float
 arg-no_float (arg.I32 n) = simp integer-no_float
 arg-no_float (arg.I64 n) = integer-no_float n
-arg-no_float (arg.U64 n) = elim (cases_Bool (nat_lt largest_int n)) [ inl large ↦ rw large refl | inr small ↦ rw small refl ]
+arg-no_float (arg.U64 n) = u64-no_float n
 arg-no_float (arg.Time n) = simp integer-no_float
 arg-no_float (arg.NullText None) = refl
 arg-no_float (arg.NullText (Some text)) = refl
@@ -111,13 +116,28 @@ args-no_float (a ∷ args) = rw (named_arg-no_float a.name (arg_data a.arg) (arg
 
 entered-no_float : (client n : ℕ) (o : Op) → has_float (entered_data client n o) ≡ false
 entered-no_float client n (op.Exec text args) = rw (args-no_float args) refl
+entered-no_float client n (op.One dests text args) = rw (args-no_float args) refl
 
 move-no_float : (m : Move) → has_float (move_data m) ≡ false
 move-no_float (move.Back conn) = refl
 move-no_float _ = refl
 
+cell-no_float : (c : Cell) → has_float (cell_data c) ≡ false
+cell-no_float cell.Null = refl
+cell-no_float (cell.Text text) = refl
+cell-no_float (cell.Bytes bytes) = refl
+cell-no_float (cell.Bool b) = refl
+cell-no_float (cell.Int n) = integer-no_float n
+cell-no_float (cell.Uint n) = u64-no_float n
+cell-no_float (cell.Time n) = simp integer-no_float
+
+cells-no_float : (cs : List Cell) → has_float (cells_data cs) ≡ false
+cells-no_float [] = refl
+cells-no_float (c ∷ cs) = rw (cell-no_float c) (cells-no_float cs)
+
 reply-no_float : (r : Reply) → has_float (reply_data r) ≡ false
 reply-no_float (reply.Result last affected) = simp integer-no_float
+reply-no_float (reply.Cells cells) = rw (cells-no_float cells) refl
 reply-no_float _ = refl
 
 pub line-no_float : (e : Event) → has_float (json_of e) ≡ false

@@ -12,3 +12,5 @@ pub mod ReadNumbers
 pub mod ReadBytes
 pub mod ReadBack
 pub mod ReadCaps
+pub mod ReadCalls
+pub mod ScriptCalls

@@ -8,7 +8,7 @@ use Rattle.dsql_value.specs.declared.arg.Arg.{Arg}
 use Rattle.dsql_value.specs.declared.arg.Arg.TheVariants.{Nil, I8, I16, I32, I64, U8, U16, U32, U64, Bool, Text, Bytes, Time, NullText, NullI64, NullI32, NullI16, NullU8, NullBool, NullTime}
 use Rattle.dsql_value.specs.declared.arg.Named.{Named}
 use Rattle.dsql_value.specs.Arguments.{largest_int}
-use Rattle.dsql_script.specs.LineArgs.{arg_data, argument_data, exec_data}
+use Rattle.dsql_script.specs.LineArgs.{arg_data, argument_data, statement_data}
 use Rattle.dsql_script.specs.ScriptArgs.{argument, arg_of_data, named_of_data, args_of, call_of_data}
 use Rattle.dsql_script.specs.ReadBack.{IsInRange}
 use Rattle.dsql_script.proofs.ReadNumbers.{i8_between, i16_between, i32_between, is_up_to, as_i64_signed, as_i64_unsigned}
@@ -61,5 +61,5 @@ args_are_read_back (named ∷ args) fit =
     let first : IsInRange named.arg = All-head (λ (n : Named). IsInRange n.arg) named args fit in
     rw (named_is_read_back named.name named.arg first, args_are_read_back args (All-tail (λ (n : Named). IsInRange n.arg) named args fit)) refl
 
-pub call_is_read_back : (text : List ℕ) (args : List Named) → All (λ named. IsInRange named.arg) args → call_of_data (exec_data text args) ≡ Some (text, args)
+pub call_is_read_back : (text : List ℕ) (args : List Named) → All (λ named. IsInRange named.arg) args → call_of_data (statement_data text args) ≡ Some (text, args)
 call_is_read_back text args fit = rw (args_are_read_back args fit) refl

@@ -2,6 +2,7 @@ pub mod Faults
 pub mod LineValues
 pub mod LineArgs
 pub mod LineCalls
+pub mod Dests
 pub mod Lines
 pub mod WorkedLines
 pub mod ScriptWords

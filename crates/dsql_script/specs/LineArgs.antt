@@ -1,13 +1,11 @@
 -- How the arguments of a call stand in a report, which spells them as a script does.
-use Rattle.std.specs.Prelude.{ℕ, nat_lt, List, ◌∷◌, map, codes, Option, Some, None, if◌then◌else◌}
+use Rattle.std.specs.Prelude.{ℕ, List, ◌∷◌, map, codes, Option, Some, None}
 use Rattle.std.specs.Option.{option_map_or}
-use Rattle.hex.specs.Hex.{encode_lower}
 use Rattle.serde_json.specs.Data.{Data, null, boolean, string, object, member, no_members}
 use Rattle.dsql_value.specs.declared.arg.Arg.{Arg}
 use Rattle.dsql_value.specs.declared.arg.Arg.TheVariants.{Nil, I8, I16, I32, I64, U8, U16, U32, U64, Bool, Text, Bytes, Time, NullText, NullI64, NullI32, NullI16, NullU8, NullBool, NullTime}
 use Rattle.dsql_value.specs.declared.arg.Named.{Named}
-use Rattle.dsql_value.specs.Arguments.{largest_int}
-use Rattle.dsql_script.specs.LineValues.{list_data, under, natural, integer}
+use Rattle.dsql_script.specs.LineValues.{list_data, under, natural, integer, bytes_data, time_data, u64_data}
 
 -- what a Null form holds, or null where it holds nothing
 abbrev pub or_null : {A : Type 0} → (A → Data) → Option A → Data
@@ -24,11 +22,11 @@ arg_data (I64 n) = integer n
 arg_data (U8 n) = under (codes "u8") (natural n)
 arg_data (U16 n) = under (codes "u16") (natural n)
 arg_data (U32 n) = under (codes "u32") (natural n)
-arg_data (U64 n) = if nat_lt largest_int n then natural n else under (codes "u64") (natural n)
+arg_data (U64 n) = u64_data n
 arg_data (Bool b) = boolean b
 arg_data (Text text) = string text
-arg_data (Bytes bytes) = under (codes "bytes") (string (encode_lower bytes))
-arg_data (Time n) = under (codes "time") (integer n)
+arg_data (Bytes bytes) = bytes_data bytes
+arg_data (Time n) = time_data n
 arg_data (NullText text) = under (codes "null_text") (or_null string text)
 arg_data (NullI64 n) = under (codes "null_i64") (or_null integer n)
 arg_data (NullI32 n) = under (codes "null_i32") (or_null integer n)
@@ -46,5 +44,5 @@ abbrev pub argument_data : Named → Data
 argument_data named = named_arg_data named.name (arg_data named.arg)
 
 -- the array of a call: its text, and then its arguments
-abbrev pub exec_data : List ℕ → List Named → Data
-exec_data text args = list_data (string text ∷ map argument_data args)
+abbrev pub statement_data : List ℕ → List Named → Data
+statement_data text args = list_data (string text ∷ map argument_data args)

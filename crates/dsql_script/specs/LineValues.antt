@@ -1,5 +1,5 @@
--- How values, parameters and names of columns stand in a report.
-use Rattle.std.specs.Prelude.{ℕ, ℤ, List, ◌∷◌, map, codes, Option, Some, None}
+-- How values, parameters, names of columns and cells stand in a report.
+use Rattle.std.specs.Prelude.{ℕ, ℤ, nat_lt, List, ◌∷◌, map, codes, Option, Some, None, if◌then◌else◌}
 use Rattle.hex.specs.Hex.{encode_lower}
 use Rattle.serde_json.specs.Data.{Data, null, boolean, number, unsigned, string, array, object, member, no_members}
 use Rattle.serde_json.specs.Find.{of_integer}
@@ -7,6 +7,9 @@ use Rattle.serde_json.specs.View.{items_of}
 use Rattle.dsql_value.specs.declared.value.Value.{Value}
 use Rattle.dsql_value.specs.declared.value.Value.TheVariants.{Nil, Int, Bool, Bytes, Text, Time}
 use Rattle.dsql_value.specs.declared.value.Param.{Param}
+use Rattle.dsql_value.specs.Arguments.{largest_int}
+use Rattle.dsql_scan.specs.declared.cell.Cell.{Cell}
+use Rattle.dsql_scan.specs.declared.cell.Cell.TheVariants as cell
 
 -- a JSON array
 abbrev pub list_data : List Data → Data
@@ -29,13 +32,23 @@ abbrev pub under : List ℕ → Data → Data
 under name d = object (member name d no_members)
 
 -- bytes as pairs of hexadecimal digits, and a time as its number of nanoseconds, each under its name
+abbrev pub bytes_data : List ℕ → Data
+bytes_data bytes = under (codes "bytes") (string (encode_lower bytes))
+
+abbrev pub time_data : ℤ → Data
+time_data n = under (codes "time") (integer n)
+
+-- an unsigned number of 64 bits, under its name where it could be taken for a signed one
+abbrev pub u64_data : ℕ → Data
+u64_data n = if nat_lt largest_int n then natural n else under (codes "u64") (natural n)
+
 abbrev pub value_data : Value → Data
 value_data Nil = null
 value_data (Int n) = integer n
 value_data (Bool b) = boolean b
-value_data (Bytes bytes) = under (codes "bytes") (string (encode_lower bytes))
+value_data (Bytes bytes) = bytes_data bytes
 value_data (Text text) = string text
-value_data (Time n) = under (codes "time") (integer n)
+value_data (Time n) = time_data n
 
 -- a value with its name, where it has one
 abbrev pub named_data : Option (List ℕ) → Data → Data
@@ -53,3 +66,15 @@ values_data vs = list_data (map value_data vs)
 
 abbrev pub texts_data : List (List ℕ) → Data
 texts_data ts = list_data (map string ts)
+
+abbrev pub cell_data : Cell → Data
+cell_data cell.Null = null
+cell_data (cell.Text text) = string text
+cell_data (cell.Bytes bytes) = bytes_data bytes
+cell_data (cell.Bool b) = boolean b
+cell_data (cell.Int n) = integer n
+cell_data (cell.Uint n) = u64_data n
+cell_data (cell.Time n) = time_data n
+
+abbrev pub cells_data : List Cell → Data
+cells_data cs = list_data (map cell_data cs)

@@ -7,17 +7,20 @@ use Rattle.dsql_journal.specs.declared.entry.Owner.{Owner}
 use Rattle.dsql_journal.specs.declared.entry.Owner.TheVariants.{Call, Tx, Pin, House}
 use Rattle.dsql_journal.specs.declared.entry.Entry.{Entry}
 use Rattle.dsql_history.specs.declared.reply.Reply.{Reply}
-use Rattle.dsql_history.specs.declared.reply.Reply.TheVariants.{Result, Driver, BadConn, NumArgs, HighBit, NamedRefused, BadName, TooMany}
+use Rattle.dsql_history.specs.declared.reply.Reply.TheVariants.{Result, Cells, Driver, BadConn, NumArgs, HighBit, NamedRefused, BadName, NoRows, DestCount, Scan, TooMany}
+use Rattle.dsql_history.specs.declared.reply.FaultWord.{FaultWord}
+use Rattle.dsql_history.specs.declared.reply.FaultWord.TheVariants.{FromNull, NotANumber, OutOfRange, NotABool, NotUtf8, Unsupported}
 use Rattle.dsql_history.specs.declared.event.Op.{Op}
-use Rattle.dsql_history.specs.declared.event.Op.TheVariants.{Exec}
+use Rattle.dsql_history.specs.declared.event.Op.TheVariants.{Exec, One}
 use Rattle.dsql_history.specs.declared.event.CloseCause.{CloseCause}
 use Rattle.dsql_history.specs.declared.event.CloseCause.TheVariants.{Bad, Invalid, IdleFull, DbClosed}
 use Rattle.dsql_history.specs.declared.event.Move.{Move}
 use Rattle.dsql_history.specs.declared.event.Move.TheVariants.{OpenStart, Lend, Back, CloseStart, Gone, Fell}
 use Rattle.dsql_history.specs.declared.event.Event.{Event}
 use Rattle.dsql_history.specs.declared.event.Event.TheVariants.{Run, Entered, Heard, Pool, Replied, Ended}
-use Rattle.dsql_script.specs.LineValues.{worded, natural, integer, texts_data}
-use Rattle.dsql_script.specs.LineArgs.{exec_data}
+use Rattle.dsql_script.specs.LineValues.{worded, natural, integer, texts_data, cells_data}
+use Rattle.dsql_script.specs.LineArgs.{statement_data}
+use Rattle.dsql_script.specs.Dests.{dests_word}
 use Rattle.dsql_script.specs.LineCalls.{call_data, answer_data}
 
 -- who holds a connection, and by which number
@@ -44,9 +47,18 @@ caps_names c =
     name_if c.fast_exec (codes "fast_exec") ++ name_if c.fast_query (codes "fast_query") ++ name_if c.begin_options (codes "begin_options")
     ++ name_if c.named (codes "named") ++ name_if c.pinger (codes "pinger") ++ name_if c.resetter (codes "resetter") ++ name_if c.validator (codes "validator")
 
--- a call has the words of its line in the script, without the client, and then the line's array
+-- the words of a call's line in the script, without the client
+abbrev pub op_words : Op → List ℕ
+op_words (Exec text args) = codes "exec db"
+op_words (One dests text args) = codes "one db " ++ dests_word dests
+
+-- the array of its line
+abbrev pub op_data : Op → Data
+op_data (Exec text args) = statement_data text args
+op_data (One dests text args) = statement_data text args
+
 abbrev pub entered_data : ℕ → ℕ → Op → Data
-entered_data client n (Exec text args) = worded (codes "enter") (natural client ∷ natural n ∷ string (codes "exec db") ∷ exec_data text args ∷ [])
+entered_data client n op = worded (codes "enter") (natural client ∷ natural n ∷ string (op_words op) ∷ op_data op ∷ [])
 
 -- the call for which a connection is lent isn't shown: its owner's number says it
 abbrev pub move_data : Move → Data
@@ -64,15 +76,34 @@ entry_data e = worded (codes "heard") (natural e.conn ∷ natural e.tenure ∷ s
 abbrev pub num_args_text : ℕ → ℕ → List ℕ
 num_args_text want got = codes "sql: expected " ++ (decimal want ++ (codes " arguments, got " ++ decimal got))
 
+-- how many values a row has, and how many destinations there were
+abbrev pub dest_count_text : ℕ → ℕ → List ℕ
+dest_count_text want got = codes "sql: expected " ++ (decimal want ++ (codes " destination arguments in Scan, not " ++ decimal got))
+
+abbrev pub fault_word : FaultWord → List ℕ
+fault_word FromNull = codes "from_null"
+fault_word NotANumber = codes "not_a_number"
+fault_word OutOfRange = codes "out_of_range"
+fault_word NotABool = codes "not_a_bool"
+fault_word NotUtf8 = codes "not_utf8"
+fault_word Unsupported = codes "unsupported"
+
+abbrev pub scan_text : ℕ → FaultWord → List ℕ
+scan_text column fault = codes "sql: scan of column " ++ (decimal column ++ (codes ": " ++ fault_word fault))
+
 -- an error has its code, the numbers or the name that it shows, and its text; no more than 1000 connections may be open
 abbrev pub reply_data : Reply → Data
 reply_data (Result last affected) = worded (codes "ok") (string (codes "result") ∷ integer last ∷ integer affected ∷ [])
+reply_data (Cells cells) = worded (codes "ok") (string (codes "cells") ∷ cells_data cells ∷ [])
 reply_data (Driver text) = worded (codes "err") (string (codes "driver") ∷ string text ∷ [])
 reply_data (BadConn tries) = worded (codes "err") (string (codes "bad_conn") ∷ natural tries ∷ string (codes "driver: bad connection") ∷ [])
 reply_data (NumArgs want got) = worded (codes "err") (string (codes "num_args") ∷ natural want ∷ natural got ∷ string (num_args_text want got) ∷ [])
 reply_data (HighBit n) = worded (codes "err") (string (codes "high_bit") ∷ natural n ∷ string (codes "sql: unsigned value has its high bit set") ∷ [])
 reply_data (NamedRefused name) = worded (codes "err") (string (codes "named") ∷ string name ∷ string (codes "sql: driver does not support the use of Named Parameters") ∷ [])
 reply_data (BadName name) = worded (codes "err") (string (codes "bad_name") ∷ string name ∷ string (codes "sql: name does not begin with a letter") ∷ [])
+reply_data NoRows = worded (codes "err") (string (codes "no_rows") ∷ string (codes "sql: no rows in result set") ∷ [])
+reply_data (DestCount want got) = worded (codes "err") (string (codes "dest_count") ∷ natural want ∷ natural got ∷ string (dest_count_text want got) ∷ [])
+reply_data (Scan column fault) = worded (codes "err") (string (codes "scan") ∷ natural column ∷ string (fault_word fault) ∷ string (scan_text column fault) ∷ [])
 reply_data TooMany = worded (codes "err") (string (codes "too_many") ∷ natural 1000 ∷ string (codes "sql: too many open connections") ∷ [])
 
 -- the array of an event, which begins with its word

@@ -7,7 +7,8 @@ use Rattle.serde_json.specs.Read.{read}
 use Rattle.dsql_value.specs.declared.arg.Named.{Named}
 use Rattle.dsql_driver.specs.declared.caps.Caps.{Caps}
 use Rattle.dsql_history.specs.declared.event.Op.{Op}
-use Rattle.dsql_history.specs.declared.event.Op.TheVariants.{Exec}
+use Rattle.dsql_history.specs.declared.event.Op.TheVariants as op
+use Rattle.dsql_scan.specs.declared.dest.Dest.{Dest}
 use Rattle.dsql_script.specs.declared.fault.What.TheVariants.{Lines, Args}
 use Rattle.dsql_script.specs.declared.fault.LineFault.{LineFault}
 use Rattle.dsql_script.specs.declared.fault.LineFault.TheVariants.{TooLong, NotUtf8, NoSuchWord, BadJson, BadShape, UnknownLabel, TooMany, Memory}
@@ -15,6 +16,9 @@ use Rattle.dsql_script.specs.declared.script.ScriptLine.{ScriptLine}
 use Rattle.dsql_script.specs.declared.script.ScriptLine.TheVariants.{Skip, Version, UseCaps, Client}
 use Rattle.dsql_script.specs.declared.script.Head.{Head}
 use Rattle.dsql_script.specs.declared.script.Head.TheVariants.{First, Begun}
+use Rattle.dsql_script.specs.declared.reader.calls.Verb.{Verb}
+use Rattle.dsql_script.specs.declared.reader.calls.Verb.TheVariants.{Exec, One}
+use Rattle.dsql_script.specs.Dests.{dests_of}
 use Rattle.dsql_script.specs.ScriptArgs.{call_of_data, most_args}
 use Rattle.dsql_script.specs.ScriptHead.{Progress, is_version, caps_of}
 use Rattle.dsql_script.specs.ScriptWords.{begins_with, words_of, array_of, client_of, is_database, is_target, is_token}
@@ -23,40 +27,70 @@ use Rattle.dsql_script.specs.ScriptWords.{begins_with, words_of, array_of, clien
 abbrev pub Reading : Type 0
 Reading = Result ScriptLine LineFault
 
--- the words after `exec`: what it is made on, and a token or none
-abbrev pub has_exec_shape : List (List ℕ) → Bool
-has_exec_shape (target ∷ []) = is_target target
-has_exec_shape (target ∷ token ∷ []) = is_target target && is_token token
-has_exec_shape _ = false
+-- what a call is made on, and a token or none
+abbrev pub has_target : List ℕ → List (List ℕ) → Bool
+has_target target [] = is_target target
+has_target target (token ∷ []) = is_target target && is_token token
+has_target target _ = false
 
--- these words name the database alone
-abbrev pub names_database : List (List ℕ) → Bool
-names_database (target ∷ []) = is_database target
-names_database _ = false
+-- it is the database, without a token
+abbrev pub names_database : List ℕ → List (List ℕ) → Bool
+names_database target [] = is_database target
+names_database target _ = false
+
+-- what is asked of a text with arguments
+abbrev pub op_of : Verb → List ℕ → List Named → Op
+op_of Exec text args = op.Exec text args
+op_of (One dests) text args = op.One dests text args
+
+-- how many destinations there are
+abbrev pub dest_count : Verb → ℕ
+dest_count Exec = 0
+dest_count (One dests) = length dests
+
+abbrev pub has_too_many : Verb → List Named → Bool
+has_too_many verb args = nat_lt most_args (length args) || nat_lt most_args (dest_count verb)
 
 -- No line makes a label or a token yet, so one that is named beside the database or in its place isn't there.
-abbrev pub exec_on : ℕ → Bool → Op → Reading
-exec_on client true op = Ok (Client client op)
-exec_on client false op = Err UnknownLabel
+abbrev pub call_on : ℕ → Bool → Op → Reading
+call_on client true op = Ok (Client client op)
+call_on client false op = Err UnknownLabel
 
--- an exec whose array is of the right shape: how many arguments there are is looked at before what it names
-abbrev pub exec_of_call : ℕ → Bool → Option (List ℕ × List Named) → Reading
-exec_of_call client names_db None = Err BadShape
-exec_of_call client names_db (Some (text, args)) = if nat_lt most_args (length args) then Err (TooMany Args) else exec_on client names_db (Exec text args)
+-- a call whose array is of the right shape: how many arguments and destinations there are is looked at before what it names
+abbrev pub call_of_parts : ℕ → Verb → Bool → Option (List ℕ × List Named) → Reading
+call_of_parts client verb names_db None = Err BadShape
+call_of_parts client verb names_db (Some (text, args)) = if has_too_many verb args then Err (TooMany Args) else call_on client names_db (op_of verb text args)
 
-abbrev pub exec_of_array : ℕ → Bool → Option Data → Reading
-exec_of_array client names_db None = Err BadJson
-exec_of_array client names_db (Some d) = exec_of_call client names_db (call_of_data d)
+abbrev pub call_of_array : ℕ → Verb → Bool → Option Data → Reading
+call_of_array client verb names_db None = Err BadJson
+call_of_array client verb names_db (Some d) = call_of_parts client verb names_db (call_of_data d)
+
+-- a call by what it asks, what it is made on, the words after that, and its array
+abbrev pub statement_of : ℕ → Verb → List ℕ → List (List ℕ) → Option (List ℕ) → Reading
+statement_of client verb target tokens None = Err BadShape
+statement_of client verb target tokens (Some array) = if has_target target tokens then call_of_array client verb (names_database target tokens) (read array) else Err BadShape
 
 -- an exec by the words after it and its array
 abbrev pub exec_of : ℕ → List (List ℕ) → Option (List ℕ) → Reading
-exec_of client words None = Err BadShape
-exec_of client words (Some array) = if has_exec_shape words then exec_of_array client (names_database words) (read array) else Err BadShape
+exec_of client [] array = Err BadShape
+exec_of client (target ∷ tokens) array = statement_of client Exec target tokens array
+
+abbrev pub one_into : ℕ → Option (List Dest) → List ℕ → List (List ℕ) → Option (List ℕ) → Reading
+one_into client None target tokens array = Err BadShape
+one_into client (Some dests) target tokens array = statement_of client (One dests) target tokens array
+
+-- a row that is read into destinations, by the words after `one` and its array
+abbrev pub one_of : ℕ → List (List ℕ) → Option (List ℕ) → Reading
+one_of client (target ∷ dests ∷ tokens) array = one_into client (dests_of dests) target tokens array
+one_of client _ array = Err BadShape
 
 -- a client's call by its first word and those after it
 abbrev pub call_of : Option ℕ → List ℕ → List (List ℕ) → Option (List ℕ) → Reading
 call_of None verb words array = Err NoSuchWord
-call_of (Some client) verb words array = if bytes_eq verb (codes "exec") then exec_of client words array else Err NoSuchWord
+call_of (Some client) verb words array =
+    if bytes_eq verb (codes "exec") then exec_of client words array
+    else if bytes_eq verb (codes "one") then one_of client words array
+    else Err NoSuchWord
 
 -- a client's line by its first word and those after it
 abbrev pub client_line : List ℕ → List (List ℕ) → Option (List ℕ) → Reading

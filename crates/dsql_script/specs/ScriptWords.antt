@@ -21,9 +21,12 @@ abbrev pub array_of : List ℕ → Option (List ℕ)
 array_of [] = None
 array_of (byte ∷ rest) = if begins_with (byte ∷ rest) (codes " [") then Some rest else array_of rest
 
--- the words, which single spaces part
+-- what single spaces part
+abbrev pub spaced_words : List ℕ → List (List ℕ)
+spaced_words text = slice_split (λ byte. byte == space) text
+
 abbrev pub words_of : List ℕ → List (List ℕ)
-words_of text = slice_split (λ byte. byte == space) (before_array text)
+words_of text = spaced_words (before_array text)
 
 -- decimal digits without a leading zero
 abbrev pub is_number : List ℕ → Bool

@@ -1,9 +1,13 @@
 -- The report of the worked history of one exec, and lines of calls and replies.
-use Rattle.std.specs.Prelude.{ℕ, List, ◌++◌, codes}
+use Rattle.std.specs.Prelude.{ℕ, List, [], ◌++◌, codes}
 use Rattle.dsql_value.specs.declared.arg.Named.{Named}
+use Rattle.dsql_scan.specs.declared.dest.Dest.{Dest}
+use Rattle.dsql_driver.specs.declared.call.DriverCall.{DriverCall}
+use Rattle.dsql_driver.specs.declared.answer.DriverAnswer.{DriverAnswer}
 use Rattle.dsql_history.specs.declared.reply.Reply.{Reply}
-use Rattle.dsql_history.specs.declared.event.Op.TheVariants.{Exec}
+use Rattle.dsql_history.specs.declared.event.Op.TheVariants.{Exec, One}
 use Rattle.dsql_history.specs.declared.event.Event.TheVariants.{Entered, Replied}
+use Rattle.dsql_history.specs.Worked.Words.{heard}
 use Rattle.dsql_script.specs.Lines.{line_of}
 
 -- its bytes, a line for each event
@@ -27,6 +31,14 @@ one_exec_report =
 abbrev pub exec_line : List Named → List ℕ
 exec_line args = line_of (Entered 1 3 (Exec (codes "SET a ?") args))
 
--- the line of a reply to that call
+-- the line of client 1's call 2, which reads one row of `GET a` into these destinations
+abbrev pub one_line : List Dest → List ℕ
+one_line dests = line_of (Entered 1 2 (One dests (codes "GET a") []))
+
+-- the line of what a driver was asked for call 2 on connection 1 in tenure 4, and answered
+abbrev pub heard_line : DriverCall → DriverAnswer → List ℕ
+heard_line call answer = line_of (heard 1 4 2 call answer)
+
+-- the line of a reply to call 3
 abbrev pub reply_line : Reply → List ℕ
 reply_line reply = line_of (Replied 3 reply)

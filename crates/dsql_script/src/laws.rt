@@ -1,10 +1,16 @@
 //! What holds of reports and scripts together. The functions do nothing: their contracts are what is shown.
-ghost use Rattle.dsql_script.specs.ReadBack.{ReadsArgumentsBack, ReadsCapsBack};
+ghost use Rattle.dsql_script.specs.ReadBack.{ReadsArgumentsBack, ReadsCallsBack, ReadsCapsBack};
 
 /// The array that a report shows for a call is read in a script as just this call: its text and its
 /// arguments, each of the same form, with the same name and content.
 pub fn spelled_arguments_are_read_back()
     ensures { ReadsArgumentsBack }
+{}
+
+/// The words that a report shows for a call are read behind those of a client as just this call, its
+/// destinations among them, where the array behind them is read as the call's.
+pub fn spelled_calls_are_read_back()
+    ensures { ReadsCallsBack }
 {}
 
 /// The names that a report shows for what a driver can do are read in a caps line as just this.

@@ -7,6 +7,7 @@ mod calls;
 mod events;
 mod laws;
 mod parts;
+mod replies;
 #[cfg(test)]
 mod tests;
 mod values;
@@ -14,7 +15,7 @@ mod values;
 use dsql_history::Event;
 use dsql_value::{Memory, Txt};
 use events::event_text;
-pub use laws::{worked_argument_lines, worked_lines};
+pub use laws::{worked_argument_lines, worked_lines, worked_row_lines};
 use std::alloc::Global;
 
 /// The line of an event in a report: a JSON array without spaces, in UTF-8, and a line feed.
@@ -36,7 +37,8 @@ use std::alloc::Global;
 /// and a parameter with a name is `{"name":NAME,"value":VALUE}`. The array of a call is its text and
 /// then its arguments, each spelled as in a script, its keys in the order of their bytes: an argument
 /// with a name is `{"arg":ARG,"name":NAME}`. An unsigned number of 64 bits is `{"u64":N}` while it is
-/// at most 9,223,372,036,854,775,807, and a plain number above. Want of memory is the only error.
+/// at most 9,223,372,036,854,775,807, and a plain number above; so is one that was read out of a row.
+/// What was read out of a row stands else as a value does. Want of memory is the only error.
 pub fn event_line(alloc: Global, event: &Event) -> Result<Txt, Memory>
     ensures { IfOk result (λ t. t ≡ line_of event.now) }
 {

@@ -6,7 +6,7 @@ ghost use Rattle.dsql_script.specs.ScriptLines.{IsReading, read_of, line_of, tex
 
 mod args;
 mod array;
-mod exec;
+mod calls;
 mod forms;
 mod head;
 #[cfg(test)]
@@ -18,7 +18,7 @@ use crate::fault::{LineFault, What};
 use crate::script::{Head, ScriptLine};
 use std::alloc::Global;
 use std::marker::Model;
-pub use worked::worked_script_lines;
+pub use worked::{worked_one_lines, worked_script_lines};
 
 /// How many lines a script may have.
 const MAX_LINES: u16 = 10_000;
@@ -33,10 +33,13 @@ const MAX_BYTES: usize = 4_096;
 /// a JSON array begins at the first such `[` and runs to the line's end. Before all lines that aren't
 /// skipped may stand `version 1`, and before all of clients `caps` with the names of what the driver
 /// can do, each once and in the order of a report. Any other line that isn't skipped is
-/// `cN exec T [@K]` and an array of a text and at most 32 arguments: client N, from 1 to 64 without
-/// a leading zero, executes the text on T, which is `db` or a label, under the token K, if one is
-/// named. The name of a label or a token is a lower-case letter and at most 31 of `a` to `z`, `0` to
-/// `9` and `_`, and isn't `db`. No line makes a label or a token yet.
+/// `cN exec T [@K]` or `cN one T DESTS [@K]`, and an array of a text and at most 32 arguments: client
+/// N, from 1 to 64 without a leading zero, executes the text on T, which is `db` or a label, under the
+/// token K, if one is named, or reads one row of it into 1 to 32 destinations. The name of a label or
+/// a token is a lower-case letter and at most 31 of `a` to `z`, `0` to `9` and `_`, and isn't `db`. No
+/// line makes a label or a token yet. Destinations are parted by commas, and each is `text`, `bytes`,
+/// `bool`, `i8`, `i16`, `i32`, `i64`, `u8`, `u16`, `u32`, `u64`, `time` or `any`, or one that takes a
+/// nil too: `null:text`, `null:i64`, `null:i32`, `null:i16`, `null:u8`, `null:bool` or `null:time`.
 ///
 /// | argument | as JSON |
 /// |---|---|
@@ -155,6 +158,6 @@ fn read_form(
     match *first {
         "version" => head::read_version(head, rest, array),
         "caps" => head::read_caps(alloc, head, rest, array),
-        client => exec::read_client(alloc, client, rest, array),
+        client => calls::read_client(alloc, client, rest, array),
     }
 }

@@ -12,7 +12,8 @@ pub enum ScriptLine {
     /// in the order of a report.
     UseCaps(Caps),
     /// A client, numbered from 1 to 64, makes a call. The line is `cN exec db ["TEXT",ARGS]`, which is
-    /// Go's `DB.ExecContext` of that text with these arguments.
+    /// Go's `DB.ExecContext` of that text with these arguments, or `cN one db DESTS ["TEXT",ARGS]`,
+    /// which is its `DB.QueryRowContext`, and `Row.Scan` into these destinations.
     Client { client: u8, op: Op },
 }
 

@@ -1,27 +1,33 @@
--- The driver calls of an exec on the database, once a connection is lent to it: Reset where it is due, the Exec of its text where the driver has the fast
--- path, and Valid where the driver can test and the connection isn't known to be bad. Without the fast path, or where the driver skips it, the text is
--- prepared, the handle is run and closed. A handle that wants another number of inputs than there are parameters is closed without a run.
-use Rattle.std.specs.Prelude.{ℕ, ℤ, ◌==◌, nat_le, Bool, true, false, ◌&&◌, cond, List, [], ◌∷◌, length, Option, Some, None, is_none, bytes_eq}
+-- The driver calls of a call on the database, once a connection is lent to it: Reset where it is due, those of its course, and Valid where the driver can
+-- test and the connection isn't known to be bad.
+use Rattle.std.specs.Prelude.{ℕ, ◌==◌, nat_le, Bool, true, false, ◌&&◌, ◌||◌, cond, List, [], ◌∷◌, length, Option, Some, None, is_none, bytes_eq}
 use Rattle.dsql_value.specs.declared.value.Param.{Param}
-use Rattle.dsql_value.specs.Arguments.{count_fault}
 use Rattle.dsql_driver.specs.declared.caps.Caps.{Caps}
 use Rattle.dsql_driver.specs.declared.call.DriverCall.{DriverCall}
-use Rattle.dsql_driver.specs.declared.call.DriverCall.TheVariants.{Reset, Valid, Prepare, Exec, CloseStmt}
+use Rattle.dsql_driver.specs.declared.call.DriverCall.TheVariants.{Reset, Valid, Prepare, Exec, Query, Next, CloseRows, CloseStmt}
+use Rattle.dsql_driver.specs.declared.call.Input.{Input}
 use Rattle.dsql_driver.specs.declared.call.Input.TheVariants.{Text, Handle}
-use Rattle.dsql_driver.specs.declared.answer.DriverAnswer.{DriverAnswer}
-use Rattle.dsql_driver.specs.declared.answer.DriverAnswer.TheVariants.{Prepared, Skip, Bad}
+use Rattle.dsql_course.specs.declared.course.Course.{Course}
+use Rattle.dsql_course.specs.declared.course.Course.TheVariants as courses
+use Rattle.dsql_course.specs.declared.call.Due.{Due}
+use Rattle.dsql_course.specs.declared.call.Due.TheVariants as course
+use Rattle.dsql_course.specs.Made.{Exchange}
+use Rattle.dsql_course.specs.Line.{Found, comes_next}
 use Rattle.dsql_journal.specs.declared.entry.Entry.{Entry}
 use Rattle.dsql_journal.specs.declared.entry.Owner.TheVariants.{Call}
+use Rattle.dsql_journal.specs.Kinds.{is_bad, is_valid}
 use Rattle.dsql_history.specs.declared.event.Event.{Event}
 use Rattle.dsql_history.specs.declared.event.Event.TheVariants.{Heard, Pool}
 use Rattle.dsql_history.specs.declared.event.Move.TheVariants.{Back, CloseStart}
 use Rattle.dsql_history.specs.declared.record.Place.{Place}
 use Rattle.dsql_history.specs.declared.record.Place.TheVariants.{Lent}
+use Rattle.dsql_history.specs.declared.record.CallRecord.{CallRecord}
 use Rattle.dsql_history.specs.Same.{same_params}
 use Rattle.dsql_history.specs.Readers.Course.{caps}
 use Rattle.dsql_history.specs.Readers.Sets.{place, uses}
 use Rattle.dsql_history.specs.Readers.Journals.{heard_in}
 use Rattle.dsql_history.specs.Readers.Calls.{call_record}
+use Rattle.dsql_history.specs.Readers.Exchanges.{exchanges}
 
 -- the driver can reset, and an earlier tenure of the connection had an owner other than the House
 abbrev pub is_reset_due : List Event → ℕ → Bool
@@ -31,35 +37,56 @@ is_reset_due before c = (caps before).resetter && nat_le 2 (uses before c)
 abbrev pub test_of : Caps → Option DriverCall
 test_of can = cond can.validator (Some Valid) None
 
--- the statement: its text is run where the driver has the fast path, else it is prepared
-abbrev pub body_of : Caps → List ℕ → List Param → DriverCall
-body_of can text params = cond can.fast_exec (Exec (Text text) params) (Prepare text)
+-- What a call asks of the driver: a text with parameters, and whether it reads one row of what that gives.
+pub record Asked : Type 0 where
+  pub text : List ℕ
+  pub params : List Param
+  pub reads : Bool
 
--- the run of a handle that wants so many inputs, or its close where there is another number of parameters
-abbrev pub run_of : ℕ → ℤ → List Param → DriverCall
-run_of handle inputs params = cond (is_none (count_fault inputs (length params))) (Exec (Handle handle) params) (CloseStmt handle)
+-- its course
+abbrev pub course_of : Asked → Course
+course_of asked = cond asked.reads courses.One courses.Exec
 
--- what comes after a call and its answer; nothing does after a Bad
-abbrev pub after_call : Caps → List ℕ → List Param → DriverCall → DriverAnswer → Option DriverCall
-after_call can text params call Bad = None
-after_call can text params Reset answer = Some (body_of can text params)
-after_call can text params (Exec (Text _) _) Skip = Some (Prepare text)
-after_call can text params (Exec (Text _) _) answer = test_of can
-after_call can text params (Prepare _) (Prepared handle inputs) = Some (run_of handle inputs params)
-after_call can text params (Prepare _) answer = test_of can
-after_call can text params (Exec (Handle handle) _) answer = Some (CloseStmt handle)
-after_call can text params (CloseStmt handle) answer = test_of can
-after_call can text params _ answer = None
+-- the run of a text or a handle
+abbrev pub run_of : Asked → Input → DriverCall
+run_of asked input = cond asked.reads (Query input asked.params) (Exec input asked.params)
 
--- what an exec of this text with these parameters sends next, after what was heard in its tenure, newest first
-abbrev pub line_after : Caps → Bool → List ℕ → List Param → List Entry → Option DriverCall
-line_after can reset_due text params [] = Some (cond reset_due Reset (body_of can text params))
-line_after can reset_due text params (e ∷ earlier) = after_call can text params e.call e.answer
+-- no token can be cancelled yet, and on a connection that is known to be bad nothing is due
+abbrev pub going_on : Found
+going_on = record { stopped = false; bad = false }
+
+-- The driver call that is a call of its course. At the end of that the connection is tested.
+abbrev pub sent_as : Caps → Asked → Due → Option DriverCall
+sent_as can asked course.Text = Some (run_of asked (Text asked.text))
+sent_as can asked course.Prepare = Some (Prepare asked.text)
+sent_as can asked (course.Handle handle) = Some (run_of asked (Handle handle))
+sent_as can asked (course.Next rows) = Some (Next rows)
+sent_as can asked (course.CloseRows rows) = Some (CloseRows rows)
+sent_as can asked (course.CloseStmt handle) = Some (CloseStmt handle)
+sent_as can asked _ = test_of can
+
+-- what its course sends next, after these exchanges
+abbrev pub body_after : Caps → Asked → List Exchange → Option DriverCall
+body_after can asked made = sent_as can asked (comes_next (course_of asked) can (length asked.params) going_on made)
+
+-- what it sends next, after what was heard in its tenure, newest first; nothing comes after a Bad or a test
+abbrev pub line_after : Caps → Bool → Asked → List Entry → Option DriverCall
+line_after can reset_due asked [] = cond reset_due (Some Reset) (body_after can asked [])
+line_after can reset_due asked (e ∷ earlier) = cond (is_bad e.answer || is_valid e.call) None (body_after can asked (exchanges (e ∷ earlier)))
+
+-- it reads one row
+abbrev pub reads_row : {X : Type 0} → Option X → Bool
+reads_row None = false
+reads_row (Some dests) = true
+
+-- what a call asks
+abbrev pub asked_by : CallRecord → Asked
+asked_by call = record { text = call.text; params = call.params; reads = reads_row call.dests }
 
 -- what call n sends next in tenure t on connection c, if anything
 abbrev pub due : List Event → ℕ → ℕ → ℕ → Option DriverCall
 due before c t n =
-    line_after (caps before) (is_reset_due before c) (call_record before n).text (call_record before n).params (heard_in before c t)
+    line_after (caps before) (is_reset_due before c) (asked_by (call_record before n)) (heard_in before c t)
 
 -- the call is the one that is due
 abbrev pub is_due : Option DriverCall → DriverCall → Bool
@@ -68,6 +95,10 @@ is_due (Some Valid) Valid = true
 is_due (Some (Prepare text)) (Prepare other) = bytes_eq text other
 is_due (Some (Exec (Text text) params)) (Exec (Text other) others) = bytes_eq text other && same_params params others
 is_due (Some (Exec (Handle handle) params)) (Exec (Handle other) others) = (handle == other) && same_params params others
+is_due (Some (Query (Text text) params)) (Query (Text other) others) = bytes_eq text other && same_params params others
+is_due (Some (Query (Handle handle) params)) (Query (Handle other) others) = (handle == other) && same_params params others
+is_due (Some (Next rows)) (Next other) = rows == other
+is_due (Some (CloseRows rows)) (CloseRows other) = rows == other
 is_due (Some (CloseStmt handle)) (CloseStmt other) = handle == other
 is_due _ call = false
 

@@ -5,19 +5,35 @@ use Rattle.dsql_journal.specs.Readers.{is_empty}
 use Rattle.dsql_history.specs.declared.event.Event.{Event}
 use Rattle.dsql_history.specs.declared.event.Event.TheVariants.{Replied}
 use Rattle.dsql_history.specs.declared.reply.Reply.{Reply}
-use Rattle.dsql_history.specs.declared.reply.Reply.TheVariants.{Result, Driver, BadConn, NumArgs, HighBit, NamedRefused, BadName, TooMany}
+use Rattle.dsql_history.specs.declared.reply.Reply.TheVariants.{Result, Cells, Driver, BadConn, NumArgs, HighBit, NamedRefused, BadName, NoRows, DestCount, Scan, TooMany}
+use Rattle.dsql_history.specs.declared.reply.FaultWord.{FaultWord}
+use Rattle.dsql_history.specs.declared.reply.FaultWord.TheVariants.{FromNull, NotANumber, OutOfRange, NotABool, NotUtf8, Unsupported}
+use Rattle.dsql_history.specs.Same.{same_cells}
 use Rattle.dsql_history.specs.Readers.Sets.{place, idle, is_for, open_count}
 use Rattle.dsql_history.specs.Readers.Calls.{home, has_not_asked, reply_due}
 use Rattle.dsql_history.specs.Rules.Limit.{room}
 
+abbrev pub same_word : FaultWord → FaultWord → Bool
+same_word FromNull FromNull = true
+same_word NotANumber NotANumber = true
+same_word OutOfRange OutOfRange = true
+same_word NotABool NotABool = true
+same_word NotUtf8 NotUtf8 = true
+same_word Unsupported Unsupported = true
+same_word _ _ = false
+
 abbrev pub same_reply : Reply → Reply → Bool
 same_reply (Result last affected) (Result other count) = int_eq last other && int_eq affected count
+same_reply (Cells cells) (Cells others) = same_cells cells others
 same_reply (Driver text) (Driver other) = bytes_eq text other
 same_reply (BadConn tries) (BadConn number) = tries == number
 same_reply (NumArgs want got) (NumArgs number count) = (want == number) && (got == count)
 same_reply (HighBit number) (HighBit other) = number == other
 same_reply (NamedRefused name) (NamedRefused other) = bytes_eq name other
 same_reply (BadName name) (BadName other) = bytes_eq name other
+same_reply NoRows NoRows = true
+same_reply (DestCount want got) (DestCount number count) = (want == number) && (got == count)
+same_reply (Scan column fault) (Scan place word) = (column == place) && same_word fault word
 same_reply TooMany TooMany = true
 same_reply _ _ = false
 

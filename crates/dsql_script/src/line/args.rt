@@ -1,23 +1,12 @@
 //! Arguments as JSON.
 ghost use Rattle.std.specs.Prelude.{◌≡◌, IfOk};
 ghost use Rattle.serde_json.specs.View.{view};
-ghost use Rattle.dsql_script.specs.LineValues.{under as under_data};
-ghost use Rattle.dsql_script.specs.LineArgs.{arg_data, argument_data, exec_data};
+ghost use Rattle.dsql_script.specs.LineArgs.{arg_data, argument_data, statement_data};
 
-use crate::line::values::text_json;
+use crate::line::values::{bytes_json, text_json, time_json, u64_json, under};
 use dsql_value::{Arg, Memory, Named, Txt};
 use serde_json::{Value, json};
 use std::alloc::Global;
-
-/// The largest number that an `i64` holds.
-const LARGEST_INT: u64 = 9_223_372_036_854_775_807;
-
-/// An object of one member.
-fn under(alloc: Global, name: &str, value: Value) -> Result<Value, Memory>
-    ensures { IfOk result (λ v. view v ≡ under_data name.now (view value)) }
-{
-    Ok(json!(in alloc; {name: value})?)
-}
 
 /// An argument, under the name of its form where JSON has none of its own for it.
 fn arg_json(alloc: Global, arg: &Arg) -> Result<Value, Memory>
@@ -32,15 +21,11 @@ fn arg_json(alloc: Global, arg: &Arg) -> Result<Value, Memory>
         Arg::U8(n) => under(alloc, "u8", Value::from(*n)),
         Arg::U16(n) => under(alloc, "u16", Value::from(*n)),
         Arg::U32(n) => under(alloc, "u32", Value::from(*n)),
-        Arg::U64(n) if *n > LARGEST_INT => Ok(Value::from(*n)),
-        Arg::U64(n) => under(alloc, "u64", Value::from(*n)),
+        Arg::U64(n) => u64_json(alloc, *n),
         Arg::Bool(b) => Ok(Value::from(*b)),
         Arg::Text(text) => text_json(alloc, text),
-        Arg::Bytes(bytes) => {
-            let digits = hex::encode(alloc, bytes.as_slice())?;
-            under(alloc, "bytes", Value::from(digits))
-        }
-        Arg::Time(n) => under(alloc, "time", Value::from(*n)),
+        Arg::Bytes(bytes) => bytes_json(alloc, bytes),
+        Arg::Time(n) => time_json(alloc, *n),
         Arg::NullText(None) => under(alloc, "null_text", Value::Null),
         Arg::NullText(Some(text)) => under(alloc, "null_text", text_json(alloc, text)?),
         Arg::NullI64(n) => under(alloc, "null_i64", Value::from(*n)),
@@ -64,8 +49,8 @@ fn argument_json(alloc: Global, named: &Named) -> Result<Value, Memory>
 }
 
 /// The array of a call: its text, and then its arguments in order.
-pub(super) fn exec_json(alloc: Global, text: &Txt, args: &[Named]) -> Result<Value, Memory>
-    ensures { IfOk result (λ v. view v ≡ exec_data text.now args.now) }
+pub(super) fn statement_json(alloc: Global, text: &Txt, args: &[Named]) -> Result<Value, Memory>
+    ensures { IfOk result (λ v. view v ≡ statement_data text.now args.now) }
 {
     let mut list = vec![in alloc; text_json(alloc, text)?]?;
     for named in args {

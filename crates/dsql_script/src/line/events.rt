@@ -1,25 +1,23 @@
 //! Events as JSON.
-ghost use Rattle.std.specs.Prelude.{◌≡◌, [], ◌∷◌, ◌++◌, map, codes, string_bytes, IfOk, OnOk};
+ghost use Rattle.std.specs.Prelude.{◌≡◌, string_bytes, IfOk};
 ghost use Rattle.serde_json.specs.Data.{string};
 ghost use Rattle.serde_json.specs.View.{view};
 ghost use Rattle.serde_json.specs.Written.{compact_text};
-ghost use Rattle.dsql_script.specs.LineValues.{texts_data, worded as worded_data};
-ghost use Rattle.dsql_script.specs.Lines.{owner_word, cause_word, caps_names, entered_data, move_data, entry_data, num_args_text, reply_data, json_of};
+ghost use Rattle.dsql_script.specs.LineValues.{texts_data};
+ghost use Rattle.dsql_script.specs.Lines.{owner_word, cause_word, caps_names, op_words, op_data, entered_data, move_data, entry_data, json_of};
 
 use crate::caps::caps_names;
-use crate::line::args::exec_json;
+use crate::dests::dests_word;
+use crate::line::args::statement_json;
 use crate::line::calls::{answer_json, call_json};
 use crate::line::parts::worded;
-use crate::line::values::text_json;
+use crate::line::replies::reply_json;
 use dsql_driver::Caps;
-use dsql_history::{CloseCause, Event, Move, Op, Reply};
+use dsql_history::{CloseCause, Event, Move, Op};
 use dsql_journal::{Entry, Owner};
 use dsql_value::Memory;
 use serde_json::Value;
 use std::alloc::{AllocError, Global};
-
-/// How many connections may be open at all.
-const MOST_OPEN: u32 = 1000;
 
 /// Who holds a connection, and by which number.
 fn owner_json(alloc: Global, owner: Owner) -> Result<Value, Memory>
@@ -57,18 +55,45 @@ fn caps_json(alloc: Global, caps: &Caps) -> Result<Value, Memory>
     Ok(Value::Array(list))
 }
 
+/// The words of the line that asked for a call, without the client.
+fn op_words(alloc: Global, op: &Op) -> Result<String, AllocError>
+    ensures { IfOk result (λ s. string_bytes s ≡ op_words op.now) }
+{
+    match op {
+        Op::Exec { text: _, args: _ } => String::from_str(alloc, "exec db"),
+        Op::One {
+            dests,
+            text: _,
+            args: _,
+        } => {
+            let dests = dests_word(alloc, dests.as_slice())?;
+            format!(in alloc; "one db {dests}")
+        }
+    }
+}
+
+/// The array of that line.
+fn op_json(alloc: Global, op: &Op) -> Result<Value, Memory>
+    ensures { IfOk result (λ v. view v ≡ op_data op.now) }
+{
+    match op {
+        Op::Exec { text, args } => statement_json(alloc, text, args.as_slice()),
+        Op::One {
+            dests: _,
+            text,
+            args,
+        } => statement_json(alloc, text, args.as_slice()),
+    }
+}
+
 /// A client's call: who made it, its number, and the words and the array of the line that asked for it.
 fn entered_json(alloc: Global, client: u8, n: u32, op: &Op) -> Result<Value, Memory>
     ensures { IfOk result (λ v. view v ≡ entered_data client n op.now) }
 {
-    match op {
-        Op::Exec { text, args } => {
-            let words = Value::try_from_str(alloc, "exec db")?;
-            let array = exec_json(alloc, text, args.as_slice())?;
-            let parts = [Value::from(client), Value::from(n), words, array];
-            worded(alloc, "enter", parts)
-        }
-    }
+    let words = Value::from(op_words(alloc, op)?);
+    let array = op_json(alloc, op)?;
+    let parts = [Value::from(client), Value::from(n), words, array];
+    worded(alloc, "enter", parts)
 }
 
 /// A connection's move. The call of a lending isn't shown, since its owner's number says it.
@@ -114,71 +139,6 @@ fn entry_json(alloc: Global, entry: &Entry) -> Result<Value, Memory>
     let answer = answer_json(alloc, &entry.answer)?;
     let parts = [conn, tenure, owner, call_no, tx, call, answer];
     worded(alloc, "heard", parts)
-}
-
-/// An error by its code, the one thing that it shows, and its text.
-fn error_json(alloc: Global, code: &str, shown: Value, text: &str) -> Result<Value, Memory>
-    ensures { IfOk result (λ v. view v
-        ≡ worded_data (codes "err") (string code.now ∷ view shown ∷ string text.now ∷ [])) }
-{
-    let code = Value::try_from_str(alloc, code)?;
-    let text = Value::try_from_str(alloc, text)?;
-    worded(alloc, "err", [code, shown, text])
-}
-
-/// What is wrong with a number of arguments.
-fn num_args_text(alloc: Global, want: u32, got: u32) -> Result<String, AllocError>
-    ensures { IfOk result (λ s. string_bytes s ≡ num_args_text want got) }
-{
-    format!(in alloc; "sql: expected {want} arguments, got {got}")
-}
-
-/// A reply: `ok` and what it gives, or `err`, the error's code, its numbers or its name, and its text.
-fn reply_json(alloc: Global, reply: &Reply) -> Result<Value, Memory>
-    ensures { IfOk result (λ v. view v ≡ reply_data reply.now) }
-{
-    match reply {
-        Reply::Result { last, affected } => {
-            let kind = Value::try_from_str(alloc, "result")?;
-            let parts = [kind, Value::from(*last), Value::from(*affected)];
-            worded(alloc, "ok", parts)
-        }
-        Reply::Driver(text) => {
-            let code = Value::try_from_str(alloc, "driver")?;
-            worded(alloc, "err", [code, text_json(alloc, text)?])
-        }
-        Reply::BadConn(tries) => {
-            let text = "driver: bad connection";
-            error_json(alloc, "bad_conn", Value::from(*tries), text)
-        }
-        Reply::NumArgs { want, got } => {
-            let code = Value::try_from_str(alloc, "num_args")?;
-            let text = num_args_text(alloc, *want, *got)?;
-            let parts = [
-                code,
-                Value::from(*want),
-                Value::from(*got),
-                Value::from(text),
-            ];
-            worded(alloc, "err", parts)
-        }
-        Reply::HighBit(number) => {
-            let text = "sql: unsigned value has its high bit set";
-            error_json(alloc, "high_bit", Value::from(*number), text)
-        }
-        Reply::NamedRefused(name) => {
-            let text = "sql: driver does not support the use of Named Parameters";
-            error_json(alloc, "named", text_json(alloc, name)?, text)
-        }
-        Reply::BadName(name) => {
-            let text = "sql: name does not begin with a letter";
-            error_json(alloc, "bad_name", text_json(alloc, name)?, text)
-        }
-        Reply::TooMany => {
-            let text = "sql: too many open connections";
-            error_json(alloc, "too_many", Value::from(MOST_OPEN), text)
-        }
-    }
 }
 
 /// An event as a JSON array that begins with its word.

@@ -1,13 +1,20 @@
 //! What worked events are written as. The functions do nothing: their contracts are what is shown.
-ghost use Rattle.std.specs.Prelude.{◌≡◌, ◌∷◌, [], Some, None, negsuc, codes, reverse};
+ghost use Rattle.std.specs.Prelude.{◌≡◌, ◌∷◌, [], Some, None, pos, negsuc, codes, reverse};
 ghost use Rattle.dsql_value.specs.declared.arg.Arg.{Arg};
 ghost use Rattle.dsql_value.specs.declared.arg.Arg.TheVariants as arg;
 ghost use Rattle.dsql_value.specs.WorkedArguments.{plain, named_one};
+ghost use Rattle.dsql_value.specs.declared.value.Value.TheVariants as value;
+ghost use Rattle.dsql_scan.specs.declared.dest.Dest.TheVariants as dest;
+ghost use Rattle.dsql_scan.specs.declared.cell.Cell.TheVariants as cell;
+ghost use Rattle.dsql_driver.specs.declared.call.Input.TheVariants as input;
+ghost use Rattle.dsql_driver.specs.declared.call.DriverCall.TheVariants as call;
+ghost use Rattle.dsql_driver.specs.declared.answer.DriverAnswer.TheVariants as answer;
+ghost use Rattle.dsql_history.specs.declared.reply.FaultWord.TheVariants as fault;
 ghost use Rattle.dsql_history.specs.declared.reply.Reply.{Reply};
 ghost use Rattle.dsql_history.specs.declared.reply.Reply.TheVariants as reply;
 ghost use Rattle.dsql_history.specs.Worked.OneExec.{one_exec};
 ghost use Rattle.dsql_script.specs.Lines.{text_of};
-ghost use Rattle.dsql_script.specs.WorkedLines.{one_exec_report, exec_line, reply_line};
+ghost use Rattle.dsql_script.specs.WorkedLines.{one_exec_report, exec_line, one_line, heard_line, reply_line};
 
 /// The lines of a run in which one client executes one statement are its worked report, byte for byte.
 pub fn worked_lines()
@@ -31,4 +38,33 @@ pub fn worked_argument_lines()
         ≡ codes "[\"reply\",3,[\"err\",\"named\",\"x\",\"sql: driver does not support the use of Named Parameters\"]]\n" }
     ensures bad_name { reply_line (reply.BadName (codes "9x"))
         ≡ codes "[\"reply\",3,[\"err\",\"bad_name\",\"9x\",\"sql: name does not begin with a letter\"]]\n" }
+{}
+
+/// A call that reads one row names its destinations, a driver gives rows, and replies tell what became
+/// of one.
+pub fn worked_row_lines()
+    ensures one { one_line (dest.I64 ∷ [])
+        ≡ codes "[\"enter\",1,2,\"one db i64\",[\"GET a\"]]\n" }
+    ensures two { one_line (dest.Text ∷ dest.NullI16 ∷ [])
+        ≡ codes "[\"enter\",1,2,\"one db text,null:i16\",[\"GET a\"]]\n" }
+    ensures query { heard_line (call.Query (input.Text (codes "GET a")) []) (answer.Cursor 7 (codes "value" ∷ []))
+        ≡ codes "[\"heard\",1,4,\"call:2\",2,0,[\"query\",\"GET a\",[]],[\"cursor\",7,[\"value\"]]]\n" }
+    ensures handle { heard_line (call.Query (input.Handle 5) []) answer.Bad
+        ≡ codes "[\"heard\",1,4,\"call:2\",2,0,[\"query\",5,[]],[\"bad\"]]\n" }
+    ensures row { heard_line (call.Next 7) (answer.Row (value.Int (pos 5) ∷ value.Nil ∷ []))
+        ≡ codes "[\"heard\",1,4,\"call:2\",2,0,[\"next\",7],[\"row\",[5,null]]]\n" }
+    ensures end { heard_line (call.Next 7) answer.End
+        ≡ codes "[\"heard\",1,4,\"call:2\",2,0,[\"next\",7],[\"end\"]]\n" }
+    ensures close_rows { heard_line (call.CloseRows 7) answer.Done
+        ≡ codes "[\"heard\",1,4,\"call:2\",2,0,[\"close_rows\",7],[\"done\"]]\n" }
+    ensures cells { reply_line (reply.Cells (cell.Int (negsuc 4) ∷ cell.Null ∷ cell.Text (codes "b") ∷ []))
+        ≡ codes "[\"reply\",3,[\"ok\",\"cells\",[-5,null,\"b\"]]]\n" }
+    ensures unsigned { reply_line (reply.Cells (cell.Uint 5 ∷ cell.Uint 9223372036854775807 ∷ cell.Uint 9223372036854775808 ∷ []))
+        ≡ codes "[\"reply\",3,[\"ok\",\"cells\",[{\"u64\":5},{\"u64\":9223372036854775807},9223372036854775808]]]\n" }
+    ensures no_rows { reply_line reply.NoRows
+        ≡ codes "[\"reply\",3,[\"err\",\"no_rows\",\"sql: no rows in result set\"]]\n" }
+    ensures dest_count { reply_line (reply.DestCount 1 2)
+        ≡ codes "[\"reply\",3,[\"err\",\"dest_count\",1,2,\"sql: expected 1 destination arguments in Scan, not 2\"]]\n" }
+    ensures scan { reply_line (reply.Scan 0 fault.NotANumber)
+        ≡ codes "[\"reply\",3,[\"err\",\"scan\",0,\"not_a_number\",\"sql: scan of column 0: not_a_number\"]]\n" }
 {}

@@ -1,7 +1,8 @@
 use crate::line::event_line;
 use dsql_driver::{DriverAnswer, DriverCall, Input, Level};
-use dsql_history::{Event, Move, Op, Reply};
+use dsql_history::{Event, FaultWord, Move, Op, Reply};
 use dsql_journal::{Entry, Owner};
+use dsql_scan::{Cell, Dest};
 use dsql_value::{Arg, Bin, Items, Named, Param, Txt, Value};
 use std::alloc::Global;
 use std::process::Abort;
@@ -132,6 +133,64 @@ fn shows_each_form_of_argument(rt: HostRuntime) -> Result<(), Fail> {
 }
 
 #[test]
+fn shows_destinations_in_order(rt: HostRuntime) -> Result<(), Fail> {
+    let alloc = rt.alloc();
+    let dests = vec![in alloc;
+        Dest::Text,
+        Dest::Bytes,
+        Dest::Bool,
+        Dest::I8,
+        Dest::I16,
+        Dest::I32,
+        Dest::I64,
+        Dest::U8,
+        Dest::U16,
+        Dest::U32,
+        Dest::U64,
+        Dest::Time,
+        Dest::Any,
+        Dest::NullText,
+        Dest::NullI64,
+        Dest::NullI32,
+        Dest::NullI16,
+        Dest::NullU8,
+        Dest::NullBool,
+        Dest::NullTime,
+    ]?;
+    let op = Op::One {
+        dests: Items::new(dests),
+        text: Txt::copy_of(alloc, "GET a")?,
+        args: Items::none(alloc),
+    };
+    let event = Event::Entered {
+        client: 1,
+        n: 2,
+        op,
+    };
+    let want =
+        r#"["enter",1,2,"one db text,bytes,bool,i8,i16,i32,i64,u8,u16,u32,u64,time,any,null:text,null:i64,null:i32,null:i16,null:u8,null:bool,null:time",["GET a"]]"#;
+    assert_line(&rt, alloc, &event, want)
+}
+
+#[test]
+fn shows_each_form_of_cell(rt: HostRuntime) -> Result<(), Fail> {
+    let alloc = rt.alloc();
+    let cells = vec![in alloc;
+        Cell::Null,
+        Cell::Text(Txt::copy_of(alloc, "ann")?),
+        Cell::Bytes(Bin::new(vec![in alloc; 0, 255]?)),
+        Cell::Bool(true),
+        Cell::Int(-5),
+        Cell::Uint(9_223_372_036_854_775_807),
+        Cell::Uint(9_223_372_036_854_775_808),
+        Cell::Time(9),
+    ]?;
+    let want =
+        r#"["reply",5,["ok","cells",[null,"ann",{"bytes":"00ff"},true,-5,{"u64":9223372036854775807},9223372036854775808,{"time":9}]]]"#;
+    assert_reply(&rt, alloc, Reply::Cells(Items::new(cells)), want)
+}
+
+#[test]
 fn escapes_texts(rt: HostRuntime) -> Result<(), Fail> {
     let alloc = rt.alloc();
     let call = DriverCall::Prepare(Txt::copy_of(alloc, "a \"b\" \\ \n \u{1} é")?);
@@ -172,4 +231,29 @@ fn shows_error_replies(rt: HostRuntime) -> Result<(), Fail> {
     assert_reply(&rt, alloc, Reply::TooMany, want)?;
     let want = r#"["reply",5,["err","num_args",1,2,"sql: expected 1 arguments, got 2"]]"#;
     assert_reply(&rt, alloc, Reply::NumArgs { want: 1, got: 2 }, want)
+}
+
+#[test]
+fn shows_errors_of_rows(rt: HostRuntime) -> Result<(), Fail> {
+    let alloc = rt.alloc();
+    let want = r#"["reply",5,["err","no_rows","sql: no rows in result set"]]"#;
+    assert_reply(&rt, alloc, Reply::NoRows, want)?;
+    let want =
+        r#"["reply",5,["err","dest_count",1,2,"sql: expected 1 destination arguments in Scan, not 2"]]"#;
+    assert_reply(&rt, alloc, Reply::DestCount { want: 1, got: 2 }, want)?;
+    for (fault, word) in [
+        (FaultWord::FromNull, "from_null"),
+        (FaultWord::NotANumber, "not_a_number"),
+        (FaultWord::OutOfRange, "out_of_range"),
+        (FaultWord::NotABool, "not_a_bool"),
+        (FaultWord::NotUtf8, "not_utf8"),
+        (FaultWord::Unsupported, "unsupported"),
+    ] {
+        let want = format!(in alloc;
+            r#"["reply",5,["err","scan",3,"{word}","sql: scan of column 3: {word}"]]"#
+        )?;
+        let reply = Reply::Scan { column: 3, fault };
+        assert_reply(&rt, alloc, reply, want.as_str())?;
+    }
+    Ok(())
 }

@@ -1,12 +1,23 @@
-//! Values, parameters and names of columns as JSON.
+//! Values, parameters, names of columns and cells as JSON.
 ghost use Rattle.std.specs.Prelude.{◌≡◌, IfOk};
 ghost use Rattle.serde_json.specs.Data.{string};
 ghost use Rattle.serde_json.specs.View.{view};
-ghost use Rattle.dsql_script.specs.LineValues.{value_data, param_data, params_data, values_data, texts_data};
+ghost use Rattle.dsql_script.specs.LineValues.{under as under_data, bytes_data, time_data, u64_data, value_data, param_data, params_data, values_data, texts_data, cell_data, cells_data};
 
-use dsql_value::{Memory, Param, Txt, Value as DriverValue};
+use dsql_scan::Cell;
+use dsql_value::{Bin, Memory, Param, Txt, Value as DriverValue};
 use serde_json::{Value, json};
 use std::alloc::Global;
+
+/// The largest number that an `i64` holds.
+const LARGEST_INT: u64 = 9_223_372_036_854_775_807;
+
+/// An object of one member.
+pub(super) fn under(alloc: Global, name: &str, value: Value) -> Result<Value, Memory>
+    ensures { IfOk result (λ v. view v ≡ under_data name.now (view value)) }
+{
+    Ok(json!(in alloc; {name: value})?)
+}
 
 /// A text as a string.
 pub(super) fn text_json(alloc: Global, text: &Txt) -> Result<Value, Memory>
@@ -15,7 +26,32 @@ pub(super) fn text_json(alloc: Global, text: &Txt) -> Result<Value, Memory>
     Ok(Value::try_from_str(alloc, text.as_str())?)
 }
 
-/// A driver's value. Bytes and times are objects, so that they aren't taken for texts and numbers.
+/// Bytes by their digits, so that they aren't taken for a text.
+pub(super) fn bytes_json(alloc: Global, bytes: &Bin) -> Result<Value, Memory>
+    ensures { IfOk result (λ v. view v ≡ bytes_data bytes.now) }
+{
+    let digits = hex::encode(alloc, bytes.as_slice())?;
+    under(alloc, "bytes", Value::from(digits))
+}
+
+/// A time, so that it isn't taken for a number.
+pub(super) fn time_json(alloc: Global, n: i64) -> Result<Value, Memory>
+    ensures { IfOk result (λ v. view v ≡ time_data n) }
+{
+    under(alloc, "time", Value::from(n))
+}
+
+/// An unsigned number of 64 bits, so that it isn't taken for a signed one.
+pub(super) fn u64_json(alloc: Global, n: u64) -> Result<Value, Memory>
+    ensures { IfOk result (λ v. view v ≡ u64_data n) }
+{
+    if n > LARGEST_INT {
+        return Ok(Value::from(n));
+    }
+    under(alloc, "u64", Value::from(n))
+}
+
+/// A driver's value.
 pub(super) fn value_json(alloc: Global, value: &DriverValue) -> Result<Value, Memory>
     ensures { IfOk result (λ v. view v ≡ value_data value.now) }
 {
@@ -23,12 +59,9 @@ pub(super) fn value_json(alloc: Global, value: &DriverValue) -> Result<Value, Me
         DriverValue::Nil => Ok(Value::Null),
         DriverValue::Int(n) => Ok(Value::from(*n)),
         DriverValue::Bool(b) => Ok(Value::from(*b)),
-        DriverValue::Bytes(bytes) => {
-            let digits = hex::encode(alloc, bytes.as_slice())?;
-            Ok(json!(in alloc; {"bytes": digits})?)
-        }
+        DriverValue::Bytes(bytes) => bytes_json(alloc, bytes),
         DriverValue::Text(text) => text_json(alloc, text),
-        DriverValue::Time(n) => Ok(json!(in alloc; {"time": *n})?),
+        DriverValue::Time(n) => time_json(alloc, *n),
     }
 }
 
@@ -72,6 +105,32 @@ pub(super) fn texts_json(alloc: Global, texts: &[Txt]) -> Result<Value, Memory>
     let mut list = Vec::new(alloc);
     for text in texts {
         list.push(text_json(alloc, text)?)?;
+    }
+    Ok(Value::Array(list))
+}
+
+/// What a destination holds. A null is in one that took a nil.
+fn cell_json(alloc: Global, cell: &Cell) -> Result<Value, Memory>
+    ensures { IfOk result (λ v. view v ≡ cell_data cell.now) }
+{
+    match cell {
+        Cell::Null => Ok(Value::Null),
+        Cell::Text(text) => text_json(alloc, text),
+        Cell::Bytes(bytes) => bytes_json(alloc, bytes),
+        Cell::Bool(b) => Ok(Value::from(*b)),
+        Cell::Int(n) => Ok(Value::from(*n)),
+        Cell::Uint(n) => u64_json(alloc, *n),
+        Cell::Time(n) => time_json(alloc, *n),
+    }
+}
+
+/// What the destinations of a row hold, in order.
+pub(super) fn cells_json(alloc: Global, cells: &[Cell]) -> Result<Value, Memory>
+    ensures { IfOk result (λ v. view v ≡ cells_data cells.now) }
+{
+    let mut list = Vec::new(alloc);
+    for cell in cells {
+        list.push(cell_json(alloc, cell)?)?;
     }
     Ok(Value::Array(list))
 }

@@ -1,6 +1,7 @@
 use super::*;
 use dsql_driver::Caps;
 use dsql_history::Op;
+use dsql_scan::Dest;
 use std::process::Abort;
 use std::test::Fail;
 
@@ -203,6 +204,109 @@ fn refuses_other_arguments(rt: HostRuntime) -> Result<(), Fail> {
         numbers(alloc, 32)?.as_str(),
         LineFault::UnknownLabel,
     )
+}
+
+/// That the line is read as a call of client 1 that reads one row of `GET a` into these destinations.
+fn assert_one(rt: &impl Abort, alloc: Global, line: &str, want: &[Dest]) -> Result<(), Fail> {
+    match Reader::new().read_line(alloc, line.as_bytes())? {
+        ScriptLine::Client {
+            client,
+            op: Op::One { dests, text, args },
+        } => {
+            assert_eq!(rt; client, 1, "{line}");
+            assert_eq!(rt; dests.as_slice(), want, "{line}");
+            assert_eq!(rt; text.as_str(), "GET a", "{line}");
+            assert_eq!(rt; args.as_slice().len(), 1, "{line}");
+        }
+        _other => assert!(rt; false, "{line}"),
+    }
+    Ok(())
+}
+
+#[test]
+fn takes_each_destination(rt: HostRuntime) -> Result<(), Fail> {
+    let alloc = rt.alloc();
+    let plain = "c1 one db text,bytes,bool,time,any [\"GET a\",1]";
+    let want = [Dest::Text, Dest::Bytes, Dest::Bool, Dest::Time, Dest::Any];
+    assert_one(&rt, alloc, plain, &want)?;
+    let numbers = "c1 one db u64,u32,u16,u8,i64,i32,i16,i8 [\"GET a\",1]";
+    let want = [
+        Dest::U64,
+        Dest::U32,
+        Dest::U16,
+        Dest::U8,
+        Dest::I64,
+        Dest::I32,
+        Dest::I16,
+        Dest::I8,
+    ];
+    assert_one(&rt, alloc, numbers, &want)?;
+    let nulls =
+        "c1 one db null:time,null:bool,null:u8,null:i16,null:i32,null:i64,null:text [\"GET a\",1]";
+    let want = [
+        Dest::NullTime,
+        Dest::NullBool,
+        Dest::NullU8,
+        Dest::NullI16,
+        Dest::NullI32,
+        Dest::NullI64,
+        Dest::NullText,
+    ];
+    assert_one(&rt, alloc, nulls, &want)
+}
+
+/// A line of a row that goes to so many numbers, whose array is this.
+fn wide_one(alloc: Global, many: usize, array: &str) -> Result<String, Fail> {
+    let mut line = String::from_str(alloc, "c1 one x i64")?;
+    for _ in 1..many {
+        line.push_str(",i64")?;
+    }
+    line.push(' ')?;
+    line.push_str(array)?;
+    Ok(line)
+}
+
+#[test]
+fn counts_destinations_after_the_array(rt: HostRuntime) -> Result<(), Fail> {
+    let alloc = rt.alloc();
+    for (many, array, fault) in [
+        (32, "[\"x\"]", LineFault::UnknownLabel),
+        (33, "[\"x\"]", LineFault::TooMany(What::Args)),
+        (33, "[", LineFault::BadJson),
+        (33, "[1]", LineFault::BadShape),
+    ] {
+        let line = wide_one(alloc, many, array)?;
+        let told = Reader::new().read_line(alloc, line.as_bytes()).err();
+        assert_eq!(rt; told, Some(fault), "{many} {array}");
+    }
+    Ok(())
+}
+
+#[test]
+fn refuses_ones_with_their_faults(rt: HostRuntime) -> Result<(), Fail> {
+    let lines: [(&str, LineFault); 15] = [
+        ("c1 One db i64 [\"x\"]", LineFault::NoSuchWord),
+        ("c1 one", LineFault::BadShape),
+        ("c1 one db [\"x\"]", LineFault::BadShape),
+        ("c1 one db i64", LineFault::BadShape),
+        ("c1 one db i64, [\"x\"]", LineFault::BadShape),
+        ("c1 one db ,i64 [\"x\"]", LineFault::BadShape),
+        ("c1 one db i64,,i64 [\"x\"]", LineFault::BadShape),
+        ("c1 one db I64 [\"x\"]", LineFault::BadShape),
+        ("c1 one db null:any [\"x\"]", LineFault::BadShape),
+        ("c1 one db i64 i64 [\"x\"]", LineFault::BadShape),
+        ("c1 one db i64 @k @l [\"x\"]", LineFault::BadShape),
+        ("c1 one Db i64 [", LineFault::BadShape),
+        ("c1 one db i64 [", LineFault::BadJson),
+        ("c1 one x i64 [\"x\"]", LineFault::UnknownLabel),
+        ("c1 one db i64 @k [\"x\"]", LineFault::UnknownLabel),
+    ];
+    let mut reader = Reader::new();
+    for (line, fault) in lines {
+        let told = reader.read_line(rt.alloc(), line.as_bytes()).err();
+        assert_eq!(rt; told, Some(fault), "{line}");
+    }
+    Ok(())
 }
 
 #[test]

@@ -1,7 +1,8 @@
 ghost use Rattle.std.specs.Prelude.{◌≡◌, ◌∷◌, ◌++◌, [], pos, negsuc, false, true, codes, replicate, Ok, Err};
 ghost use Rattle.dsql_value.specs.declared.arg.Arg.TheVariants as arg;
 ghost use Rattle.dsql_value.specs.WorkedArguments.{plain, named_one};
-ghost use Rattle.dsql_history.specs.declared.event.Op.TheVariants.{Exec};
+ghost use Rattle.dsql_scan.specs.declared.dest.Dest.TheVariants as dest;
+ghost use Rattle.dsql_history.specs.declared.event.Op.TheVariants.{Exec, One};
 ghost use Rattle.dsql_script.specs.declared.fault.What.TheVariants.{Lines, Args};
 ghost use Rattle.dsql_script.specs.declared.fault.LineFault.TheVariants.{TooLong, NotUtf8, NoSuchWord, BadJson, BadShape, UnknownLabel, TooMany};
 ghost use Rattle.dsql_script.specs.declared.script.ScriptLine.TheVariants.{Skip, Version, UseCaps, Client};
@@ -49,4 +50,25 @@ pub fn worked_script_lines()
     ensures caps_twice { read_of (progress 1 Begun) (codes "caps named named") ≡ Err NoSuchWord }
     ensures label { read_of unread (codes "c1 exec x [\"a\"]") ≡ Err UnknownLabel }
     ensures token { read_of unread (codes "c1 exec db @k [\"a\"]") ≡ Err UnknownLabel }
+{}
+
+/// Lines that read one row, each with what is read of it.
+pub fn worked_one_lines()
+    ensures one { read_of unread (codes "c1 one db i64 [\"GET a\"]")
+        ≡ Ok (Client 1 (One (dest.I64 ∷ []) (codes "GET a") [])) }
+    ensures some { read_of unread (codes "c2 one db text,null:i16,any [\"GET a\",1]")
+        ≡ Ok (Client 2 (One (dest.Text ∷ dest.NullI16 ∷ dest.Any ∷ []) (codes "GET a") (plain (arg.I64 (pos 1)) ∷ []))) }
+    ensures no_destination { read_of unread (codes "c1 one db [\"GET a\"]") ≡ Err BadShape }
+    ensures empty_part { read_of unread (codes "c1 one db i64, [\"GET a\"]") ≡ Err BadShape }
+    ensures upper_case { read_of unread (codes "c1 one db I64 [\"GET a\"]") ≡ Err BadShape }
+    ensures other_prefix { read_of unread (codes "c1 one db null_i64 [\"GET a\"]") ≡ Err BadShape }
+    ensures no_null_form { read_of unread (codes "c1 one db null:u16 [\"GET a\"]") ≡ Err BadShape }
+    ensures words_first { read_of unread (codes "c1 one x i46 [") ≡ Err BadShape }
+    ensures no_array { read_of unread (codes "c1 one db i64") ≡ Err BadShape }
+    ensures not_json { read_of unread (codes "c1 one x i64 [") ≡ Err BadJson }
+    ensures no_text { read_of unread (codes "c1 one x i64 []") ≡ Err BadShape }
+    ensures too_many_after_json { read_of unread (codes "c1 one x i8,i8,i8,i8,i8,i8,i8,i8,i8,i8,i8,i8,i8,i8,i8,i8,i8,i8,i8,i8,i8,i8,i8,i8,i8,i8,i8,i8,i8,i8,i8,i8,i8 [") ≡ Err BadJson }
+    ensures too_many { read_of unread (codes "c1 one x i8,i8,i8,i8,i8,i8,i8,i8,i8,i8,i8,i8,i8,i8,i8,i8,i8,i8,i8,i8,i8,i8,i8,i8,i8,i8,i8,i8,i8,i8,i8,i8,i8 [\"GET a\"]") ≡ Err (TooMany Args) }
+    ensures label { read_of unread (codes "c1 one x i64 [\"GET a\"]") ≡ Err UnknownLabel }
+    ensures token { read_of unread (codes "c1 one db i64 @k [\"GET a\"]") ≡ Err UnknownLabel }
 {}

@@ -1,4 +1,4 @@
-use Rattle.dsql_history.proofs.SoundJournals.{follows_due, follows_connect, follows_shut}
+use Rattle.dsql_history.proofs.JournalLaws.{follows_due, follows_connect, follows_shut}
 use Rattle.dsql_history.proofs.laws.every_answer_may_follow.Goals as goal
 
 pub returns-clause-due : goal.returns-clause-due

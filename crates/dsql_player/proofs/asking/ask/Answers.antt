@@ -1,7 +1,7 @@
 use Rattle.dsql_history.specs.Readers.Journals.{journal}
 use Rattle.dsql_player.specs.WiresFit.{slot}
 use Rattle.dsql_player.proofs.Answering.{asked}
-use Rattle.dsql_player.proofs.Permitting.{awaited_sent, held_sent, heard_awaited}
+use Rattle.dsql_player.proofs.Permitting.{awaited_sent, held_sent, heard_awaited, heard_fits}
 use Rattle.dsql_player.proofs.asking.ask.Goals as goal
 
 pub perform-requires : goal.perform-requires
@@ -12,6 +12,11 @@ perform-requires g c =
 
 pub hear-requires-clause-awaited : goal.hear-requires-clause-awaited
 hear-requires-clause-awaited g c = heard_awaited c.args.engine.now c.args.permit c.in_ok-heard.heard c.requires.awaited c.in_ok-heard.ensures.entry
+
+pub hear-requires-clause-fits : goal.hear-requires-clause-fits
+hear-requires-clause-fits g c =
+    heard_fits g.W.Wire.heard c.args.engine.now c.args.permit c.in_ok-heard.heard (slot c.args.wires.now c.args.permit.conn) c.requires.awaited c.in_ok-heard.ensures.entry c.requires.wire
+    c.in_ok-heard.ensures.fits
 
 pub returns-clause-asked : goal.returns-clause-asked
 returns-clause-asked g c =

@@ -9,7 +9,7 @@ use Rattle.dsql_wire.specs.Opening.{opens}
 use Rattle.dsql_player.specs.WiresFit.{slot, OpensWire}
 use Rattle.dsql_player.proofs.Awaiting.{chore_opens, connect_of}
 use Rattle.dsql_player.proofs.Opening.{opened, open_is, open_turn, open_carries, open_tells, open_fits, none_before}
-use Rattle.dsql_player.proofs.Permitting.{heard_entry, heard_awaited}
+use Rattle.dsql_player.proofs.Permitting.{heard_entry, heard_awaited, first_fits}
 use Rattle.dsql_player.proofs.Telling.{retires_none}
 use Rattle.dsql_player.proofs.chores.open.Goals as goal
 
@@ -25,6 +25,13 @@ connect_wire-requires-clause-opens g c =
 
 pub hear-requires-clause-awaited : goal.hear-requires-clause-awaited
 hear-requires-clause-awaited g c = heard_awaited c.args.engine.now c.args.permit c.in_ok-heard.heard c.requires.awaited c.in_ok-heard.ensures.entry
+
+pub hear-requires-clause-fits : goal.hear-requires-clause-fits
+hear-requires-clause-fits g c =
+    let past = c.args.engine.now in
+    let p = c.args.permit in
+    let w = chore_opens past p c.requires.due c.requires.awaited c.requires.connects in
+    first_fits past p w.number c.in_ok-heard.heard c.requires.legal c.requires.awaited c.in_ok-heard.ensures.entry w.opens c.in_ok-heard.ensures.fits
 
 pub returns-clause-carried : goal.returns-clause-carried
 returns-clause-carried g c =

@@ -2,7 +2,7 @@ use Rattle.std.proofs.Common.{sym, ◌∙◌, refl}
 use Rattle.dsql_history.specs.declared.record.Place.TheVariants.{Idle}
 use Rattle.dsql_history.specs.Readers.Sets.{next_tenure}
 use Rattle.dsql_history.specs.Legal.{Lawful}
-use Rattle.dsql_history.proofs.SoundJournals.{fresh_lending}
+use Rattle.dsql_history.proofs.JournalLaws.{fresh_lending}
 use Rattle.dsql_engine.specs.Groups.{lent_to}
 use Rattle.dsql_engine.specs.Desk.{past, lawful_of}
 use Rattle.dsql_engine.proofs.Hearing.{good_when_fresh}
@@ -37,8 +37,9 @@ use_lent-requires-clause-due c =
     let l : Lawful H = lawful_of _ c.requires.stands in
     let m : Lawful (lent_to H c.args.c c.args.n) = rw (c.lend.ensures.event, c.next_tenure-tenure.ensures) at (lawful_of _ c.lend.ensures.stands) in
     let f = c.requires.settled in
-    let d = due_fresh H c.args.c c.args.n l f.entered m in
-    c.first_call-next.ensures ∙ rw (c.caps.ensures, c.is_reset_due.ensures, c.lend.ensures.event, c.next_tenure-tenure.ensures, c.requires.statement) (sym d)
+    let k = idle_latest H c.args.c l c.requires.latest in
+    let d = due_fresh H c.args.c c.args.n l f.entered m (lent_now H c.args.c c.args.n Idle k.0 refl) in
+    c.first_call_on-next.ensures ∙ rw (c.lend.ensures.event, c.next_tenure-tenure.ensures, c.requires.statement) (sym d)
 
 pub use_lent-requires-clause-bad : goal.use_lent-requires-clause-bad
 use_lent-requires-clause-bad c = λ none.

@@ -1,6 +1,7 @@
-use Rattle.std.proofs.Common.{sym}
+use Rattle.std.proofs.Common.{sym, ◌∙◌}
 use Rattle.dsql_engine.specs.Desk.{past, lawful_of}
 use Rattle.dsql_engine.proofs.Hearing.{good_when_fresh}
+use Rattle.dsql_engine.proofs.Waking.{due_parked}
 use Rattle.dsql_engine.proofs.desk.Desk.wake_lent.Goals as goal
 
 pub use_lent-requires-clause-bad : goal.use_lent-requires-clause-bad
@@ -10,3 +11,8 @@ use_lent-requires-clause-bad c = λ none.
 pub use_lent-requires-clause-invalid : goal.use_lent-requires-clause-invalid
 use_lent-requires-clause-invalid c = λ none.
     let g = good_when_fresh (past c.args.self.now) c.args.c c.args.tenure c.args.n (lawful_of _ c.requires.stands) c.requires.lent c.requires.fresh in sym g.1
+
+pub use_lent-requires-clause-due : goal.use_lent-requires-clause-due
+use_lent-requires-clause-due c =
+    let d = due_parked (past c.args.self.now) c.args.c c.args.tenure c.args.n (lawful_of _ c.requires.stands) c.requires.lent c.requires.fresh in
+    c.first_call_on-next.ensures ∙ rw c.requires.statement (sym d)

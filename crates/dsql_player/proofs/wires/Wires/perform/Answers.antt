@@ -1,4 +1,5 @@
-use Rattle.std.proofs.Common.{◌≡◌, List, Option, Some, sym, subst, set}
+use Rattle.std.proofs.Common.{◌≡◌, List, Option, Some, true, sym, subst, set}
+use Rattle.dsql_journal.specs.HandlesAndCursors.{fits_at_its_place}
 use Rattle.std.specs.Prelude.{IsSomeAnd}
 use Rattle.std.proofs.lemmas.Result.{IfOk-weaker}
 use Rattle.dsql_wire.specs.Journaled.{Journaled, MayBeSent}
@@ -25,3 +26,15 @@ returns-clause-noted g c =
     (λ heard noted. subst (λ (xs : List (Option (Journaled g.row.W.Denot))). HearsEntry g.W.Wire.heard heard (slot xs p.conn) (slot (set ws p.conn (Some c.perform_on.new.wire)) p.conn)) c.self.view_is
     (heard_here g.W.Wire.heard heard ws p.conn c.in-Some.wire c.perform_on.new.wire here noted))
     c.perform_on.ensures.noted
+
+pub returns-clause-fits : goal.returns-clause-fits
+returns-clause-fits g c =
+    let p = c.args.permit in
+    let ws = c.self.inside.slots.items in
+    let may = λ (w : Journaled g.row.W.Denot). MayBeSent w.conn w.journal p in
+    let some : IsSomeAnd (slot ws p.conn) may = subst (λ (xs : List (Option (Journaled g.row.W.Denot))). IsSomeAnd (slot xs p.conn) may) (sym c.self.view_is) c.requires in
+    let here : slot ws p.conn ≡ Some c.in-Some.wire = wire_here ws p.conn c.index_mut.result.now may c.in-Some.wire some c.index_mut.ensures.value c.in-Some.is in
+    IfOk-weaker c.perform_on.result _ _
+    (λ heard fits. subst (λ (xs : List (Option (Journaled g.row.W.Denot))). IsSomeAnd (slot xs p.conn) (λ w. fits_at_its_place w.journal heard ≡ true)) c.self.view_is
+    (subst (λ (o : Option (Journaled g.row.W.Denot)). IsSomeAnd o (λ w. fits_at_its_place w.journal heard ≡ true)) (sym here) fits))
+    c.perform_on.ensures.fits

@@ -1,0 +1,177 @@
+ghost use Rattle.std.specs.Prelude.{◌≡◌, [], ◌∷◌, reverse};
+ghost use Rattle.std.specs.List.{list_any};
+ghost use Rattle.dsql_course.specs.Made.{went_bad as went_bad_of, was_skipped as was_skipped_of, is_done, given_handle as given_handle_of, own_handle as own_handle_of, given_cursor as given_cursor_of, own_cursor as own_cursor_of, was_decided as was_decided_of};
+ghost use Rattle.dsql_course.specs.Line.{comes_next as next_of};
+ghost use Rattle.dsql_course.specs.Summary.{last_call, is_settled};
+
+use crate::call::{Due, Got};
+use crate::course::Course;
+use crate::line::{Found, Plan};
+use crate::past::{Made, Past};
+use dsql_driver::Caps;
+use std::marker::Model;
+
+/// How far a course has come: what its calls have made, as far as later ones depend on it. Contracts see
+/// the calls themselves with their answers, the newest first. It takes no memory.
+#[derive(Drop)]
+pub struct Progress {
+    past: Past,
+    last: Option<Due>,
+    handle: Option<(u32, i32)>,
+    cursor: Option<u32>,
+    skipped: bool,
+    done: bool,
+    settled: bool,
+    bad: bool,
+}
+
+impl Model for Progress {
+    ghost use Rattle.std.specs.Prelude.{List};
+    ghost use Rattle.dsql_course.specs.Made.{Exchange};
+
+    ghost Value = { List Exchange };
+
+    ghost view = { λ p. p.past.exchanges };
+
+    ghost use Rattle.dsql_course.specs.Summary.{Summary};
+
+    ghost invariant = { λ p. Summary p.past.exchanges p.last p.handle p.cursor p.skipped p.done p.settled p.bad };
+}
+
+#[tactic(auto, using(crate::proofs::Summaries::summary_with))]
+impl Progress {
+    /// No call was made yet.
+    pub fn new() -> Progress
+        ensures { result ≡ [] }
+    {
+        Progress {
+            past: Past::new(),
+            last: None,
+            handle: None,
+            cursor: None,
+            skipped: false,
+            done: false,
+            settled: false,
+            bad: false,
+        }
+    }
+
+    /// The same with one call more, and its answer.
+    pub fn with(&self, call: Due, got: Got) -> Progress
+        ensures { result ≡ (call, got) ∷ self.now }
+    {
+        Progress {
+            past: self.past.then(&Made { call, got }),
+            last: Some(call),
+            handle: given_handle(got).or(self.handle),
+            cursor: given_cursor(got).or(self.cursor),
+            skipped: matches!(got, Got::Skip) || self.skipped,
+            done: matches!(got, Got::Done) || self.done,
+            settled: settles(call, got) || self.settled,
+            bad: matches!(got, Got::Bad) || self.bad,
+        }
+    }
+
+    /// The driver call that comes next in one try of a call with so many arguments.
+    pub fn next(&self, course: Course, caps: Caps, args: usize, stopped: bool, bad: bool) -> Due
+        ensures { result ≡ next_of course caps args (record { stopped = stopped; bad = bad }) self.now }
+    {
+        let plan = Plan { course, caps, args };
+        plan.comes_next(Found { stopped, bad }, self)
+    }
+
+    /// What these calls have made, the newest last.
+    pub(crate) fn of(made: &[(Due, Got)]) -> Progress
+        ensures { result ≡ reverse made.now }
+    {
+        let mut progress = Progress::new();
+        for (call, got) in made {
+            progress = progress.with(*call, *got);
+        }
+        progress
+    }
+}
+
+/// Questions to it.
+impl Progress {
+    /// The last call.
+    pub(crate) fn last(&self) -> Option<Due>
+        ensures { result ≡ last_call self.now }
+    {
+        self.last
+    }
+
+    /// Something was answered Bad.
+    pub(crate) fn went_bad(&self) -> bool
+        ensures { result ≡ went_bad_of self.now }
+    {
+        self.bad
+    }
+
+    /// The driver passed the text on.
+    pub(crate) fn was_skipped(&self) -> bool
+        ensures { result ≡ was_skipped_of self.now }
+    {
+        self.skipped
+    }
+
+    /// Something was answered Done.
+    pub(crate) fn was_done(&self) -> bool
+        ensures { result ≡ list_any (λ x. is_done x.1) self.now }
+    {
+        self.done
+    }
+
+    /// The handle that the course has prepared itself, with its number of inputs.
+    pub(crate) fn own_handle(&self) -> Option<(u32, i32)>
+        ensures { result ≡ own_handle_of self.now }
+    {
+        self.handle
+    }
+
+    /// The cursor that its run gave.
+    pub(crate) fn own_cursor(&self) -> Option<u32>
+        ensures { result ≡ own_cursor_of self.now }
+    {
+        self.cursor
+    }
+
+    /// Some answer has settled what the call is replied.
+    #[tactic(auto, using(crate::proofs::Summaries::decided_by))]
+    pub(crate) fn was_decided(&self, course: Course) -> bool
+        ensures { result ≡ was_decided_of course self.now }
+    {
+        self.settled || self.cursor.is_some() && !course.reads_one()
+    }
+}
+
+/// The handle that an answer gives, with its number of inputs.
+fn given_handle(got: Got) -> Option<(u32, i32)>
+    ensures { result ≡ given_handle_of got }
+{
+    match got {
+        Got::Prepared { handle, inputs } => Some((handle, inputs)),
+        _ => None,
+    }
+}
+
+/// The cursor that an answer gives.
+fn given_cursor(got: Got) -> Option<u32>
+    ensures { result ≡ given_cursor_of got }
+{
+    match got {
+        Got::Cursor(rows) => Some(rows),
+        _ => None,
+    }
+}
+
+/// The answer settles what the call is replied, whatever its course.
+fn settles(call: Due, got: Got) -> bool
+    ensures { result ≡ is_settled (call, got) }
+{
+    match (call, got) {
+        (Due::Next(_), _) | (_, Got::Result) => true,
+        (Due::Text | Due::Prepare | Due::Handle(_), Got::Fail) => true,
+        _ => false,
+    }
+}

@@ -1,0 +1,127 @@
+//! The words for the destinations of a row, as reports and scripts have them.
+ghost use Rattle.std.specs.Prelude.{◌≡◌, ◌==◌, map, string_bytes, IfOk};
+ghost use Rattle.std.specs.List.{slice_split};
+ghost use Rattle.dsql_script.specs.ScriptArgs.{IsShaped};
+ghost use Rattle.dsql_script.specs.Dests.{dest_word, dests_word, number_dest, other_dest, null_dest, dest_of, dests_of_words, comma, dests_of};
+
+use crate::fault::LineFault;
+use dsql_scan::{Dest, Dests};
+use dsql_value::Items;
+use std::alloc::{AllocError, Global};
+
+/// The word for a destination.
+fn word_of(dest: Dest) -> &'static str
+    ensures { result.now ≡ dest_word dest }
+{
+    match dest {
+        Dest::Text => "text",
+        Dest::Bytes => "bytes",
+        Dest::Bool => "bool",
+        Dest::I8 => "i8",
+        Dest::I16 => "i16",
+        Dest::I32 => "i32",
+        Dest::I64 => "i64",
+        Dest::U8 => "u8",
+        Dest::U16 => "u16",
+        Dest::U32 => "u32",
+        Dest::U64 => "u64",
+        Dest::Time => "time",
+        Dest::Any => "any",
+        Dest::NullText => "null:text",
+        Dest::NullI64 => "null:i64",
+        Dest::NullI32 => "null:i32",
+        Dest::NullI16 => "null:i16",
+        Dest::NullU8 => "null:u8",
+        Dest::NullBool => "null:bool",
+        Dest::NullTime => "null:time",
+    }
+}
+
+/// The word for destinations: their words in order, parted by commas.
+pub fn dests_word(alloc: Global, dests: &[Dest]) -> Result<String, AllocError>
+    ensures { IfOk result (λ s. string_bytes s ≡ dests_word dests.now) }
+{
+    let mut words = Vec::new(alloc);
+    for dest in dests {
+        words.push(word_of(*dest))?;
+    }
+    words.join(alloc, ",")
+}
+
+/// The destinations that stand in a word, at least one.
+pub fn read_dests(alloc: Global, word: &str) -> Result<Dests, LineFault>
+    ensures { IsShaped result (dests_of word.now) }
+{
+    let words = split_words(alloc, word)?;
+    read_each(alloc, &words)
+}
+
+/// The words that commas part.
+fn split_words<'a>(alloc: Global, text: &'a str) -> Result<Vec<&'a str>, AllocError>
+    ensures { IfOk result (λ words. map (λ w. w.now) words.items
+        ≡ slice_split (λ byte. byte == comma) text.now) }
+{
+    text.split(',').collect(alloc)
+}
+
+/// The destinations that words name.
+fn read_each(alloc: Global, words: &[&str]) -> Result<Dests, LineFault>
+    ensures { IsShaped result (dests_of_words (map (λ w. w.now) words.now)) }
+{
+    let mut dests = Vec::new(alloc);
+    for word in words {
+        dests.push(dest_of(word).ok_or(LineFault::BadShape)?)?;
+    }
+    Ok(Items::new(dests))
+}
+
+/// The destination that a word names.
+fn dest_of(word: &str) -> Option<Dest>
+    ensures { result ≡ dest_of word.now }
+{
+    number_dest(word).or(other_dest(word).or(null_dest(word)))
+}
+
+fn number_dest(word: &str) -> Option<Dest>
+    ensures { result ≡ number_dest word.now }
+{
+    match word {
+        "i8" => Some(Dest::I8),
+        "i16" => Some(Dest::I16),
+        "i32" => Some(Dest::I32),
+        "i64" => Some(Dest::I64),
+        "u8" => Some(Dest::U8),
+        "u16" => Some(Dest::U16),
+        "u32" => Some(Dest::U32),
+        "u64" => Some(Dest::U64),
+        _ => None,
+    }
+}
+
+fn other_dest(word: &str) -> Option<Dest>
+    ensures { result ≡ other_dest word.now }
+{
+    match word {
+        "text" => Some(Dest::Text),
+        "bytes" => Some(Dest::Bytes),
+        "bool" => Some(Dest::Bool),
+        "time" => Some(Dest::Time),
+        "any" => Some(Dest::Any),
+        _ => None,
+    }
+}
+
+fn null_dest(word: &str) -> Option<Dest>
+    ensures { result ≡ null_dest word.now }
+{
+    match word {
+        "null:text" => Some(Dest::NullText),
+        "null:i64" => Some(Dest::NullI64),
+        "null:i32" => Some(Dest::NullI32),
+        "null:i16" => Some(Dest::NullI16),
+        "null:u8" => Some(Dest::NullU8),
+        "null:bool" => Some(Dest::NullBool),
+        "null:time" => Some(Dest::NullTime),
+        _ => None,
+    }
+}
