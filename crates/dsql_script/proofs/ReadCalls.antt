@@ -1,5 +1,5 @@
 -- The words of a call in a report are read as this call.
-use Rattle.std.proofs.Common.{◌≡◌, ℕ, zero, suc, ◌<◌, ◌≤◌, List, [], ◌∷◌, ◌++◌, Bool, true, false, ◌||◌, ◌==◌, map, length, get_or, codes, All, Option, Some, Ok, append-nil, refl, ap, ◌∙◌, arith}
+use Rattle.std.proofs.Common.{◌≡◌, ℕ, zero, suc, ◌<◌, List, [], ◌∷◌, ◌++◌, Bool, true, false, ◌||◌, ◌==◌, map, length, get_or, codes, All, Some, Ok, append-nil, refl, ap, ◌∙◌, arith}
 use Rattle.std.specs.List.{list_any, flat_map, slice_split}
 use Rattle.std.proofs.lemmas.Bool.{le-ltb}
 use Rattle.std.proofs.lemmas.List.Folds.{list_any-append}
@@ -7,14 +7,12 @@ use Rattle.std.proofs.lemmas.List.Splits.{slice_split_none, slice_split_at}
 use Rattle.serde_json.specs.Read.{read}
 use Rattle.dsql_scan.specs.declared.dest.Dest.{Dest}
 use Rattle.dsql_scan.specs.declared.dest.Dest.TheVariants.{Text}
-use Rattle.dsql_value.specs.declared.arg.Named.{Named}
 use Rattle.dsql_history.specs.declared.event.Op.{Op}
 use Rattle.dsql_history.specs.declared.event.Op.TheVariants.{Exec, One}
 use Rattle.dsql_script.specs.declared.script.ScriptLine.TheVariants.{Client}
 use Rattle.dsql_script.specs.Dests.{dest_word, dests_word, dest_of, dests_of_words, dests_of, comma}
-use Rattle.dsql_script.specs.LineArgs.{statement_data}
 use Rattle.dsql_script.specs.Lines.{op_words, op_data}
-use Rattle.dsql_script.specs.ReadBack.{MayBeGiven, MayBeAsked}
+use Rattle.dsql_script.specs.ReadBack.{MayBeAsked}
 use Rattle.dsql_script.specs.ScriptLines.{client_line}
 use Rattle.dsql_script.specs.ScriptWords.{client_of, spaced_words, space}
 use Rattle.dsql_script.proofs.ReadBack.{call_is_read_back}

@@ -7,7 +7,7 @@ use thiserror::Error;
 pub enum What {
     /// Lines, of which one script may have 10,000.
     Lines,
-    /// Arguments, of which one call may have 32, or destinations, likewise.
+    /// Arguments, of which one call may have 32, or destinations, of which it may have as many.
     Args,
 }
 
@@ -27,7 +27,8 @@ impl fmt::Display for What {
 
 /// Why a line of a script is refused. Where a line has several faults, the first of these is told:
 /// too many lines, too long, not UTF-8, no such word, the shape of its words, not JSON, the shape
-/// of what its array holds, too many arguments or destinations, unknown label. Want of memory may come in place of any other answer.
+/// of what its array holds, too many arguments or destinations, unknown label. Want of memory may
+/// come in place of any other answer.
 #[derive(Clone, Copy, Debug, PartialEq, Eq, Error)]
 pub enum LineFault {
     /// It has more than 4,096 bytes before its line feed, a carriage return among them.
