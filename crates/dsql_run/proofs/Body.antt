@@ -14,8 +14,6 @@ use Rattle.dsql_script.specs.declared.script.Head.{Head}
 use Rattle.dsql_script.specs.declared.script.Head.TheVariants.{Begun}
 use Rattle.dsql_script.specs.declared.script.ScriptLine.{ScriptLine}
 use Rattle.dsql_script.specs.declared.script.ScriptLine.TheVariants.{Skip, Version, UseCaps, Client}
-use Rattle.dsql_script.specs.declared.reader.calls.Verb.{Verb}
-use Rattle.dsql_script.specs.declared.reader.calls.Verb.TheVariants.{Exec, One}
 use Rattle.dsql_script.specs.Dests.{dests_of}
 use Rattle.dsql_script.specs.ScriptArgs as args
 use Rattle.dsql_script.specs.ScriptWords.{words_of, array_of, client_of}
@@ -40,15 +38,17 @@ body_call_on : (client : ℕ) (b : Bool) (op : Op) → Body (call_on client b op
 body_call_on client true op = refl
 body_call_on client false op = tt
 
-body_call_of_parts : (client : ℕ) (v : Verb) (b : Bool) (call : Option (List ℕ × List Named)) → Body (call_of_parts client v b call)
+-- The type of what a call asks of its text is private to the reader, so it is left to be found from here on.
+
+body_call_of_parts : (client : ℕ) (v : _) (b : Bool) (call : Option (List ℕ × List Named)) → Body (call_of_parts client v b call)
 body_call_of_parts client v b None = tt
 body_call_of_parts client v b (Some (text, list)) = either (has_too_many v list) (Err (TooMany Args)) (call_on client b (op_of v text list)) tt (body_call_on client b (op_of v text list))
 
-body_call_of_array : (client : ℕ) (v : Verb) (b : Bool) (found : Option Data) → Body (call_of_array client v b found)
+body_call_of_array : (client : ℕ) (v : _) (b : Bool) (found : Option Data) → Body (call_of_array client v b found)
 body_call_of_array client v b None = tt
 body_call_of_array client v b (Some d) = body_call_of_parts client v b (args.call_of_data d)
 
-body_statement_of : (client : ℕ) (v : Verb) (target : List ℕ) (tokens : List (List ℕ)) (array : Option (List ℕ)) → Body (statement_of client v target tokens array)
+body_statement_of : (client : ℕ) (v : _) (target : List ℕ) (tokens : List (List ℕ)) (array : Option (List ℕ)) → Body (statement_of client v target tokens array)
 body_statement_of client v target tokens None = tt
 body_statement_of client v target tokens (Some array) =
     let b : Bool = names_database target tokens in
@@ -56,11 +56,11 @@ body_statement_of client v target tokens (Some array) =
 
 body_exec_of : (client : ℕ) (words : List (List ℕ)) (array : Option (List ℕ)) → Body (exec_of client words array)
 body_exec_of client [] array = tt
-body_exec_of client (target ∷ tokens) array = body_statement_of client Exec target tokens array
+body_exec_of client (target ∷ tokens) array = search body_statement_of
 
 body_one_into : (client : ℕ) (dests : Option (List Dest)) (target : List ℕ) (tokens : List (List ℕ)) (array : Option (List ℕ)) → Body (one_into client dests target tokens array)
 body_one_into client None target tokens array = tt
-body_one_into client (Some dests) target tokens array = body_statement_of client (One dests) target tokens array
+body_one_into client (Some dests) target tokens array = search body_statement_of
 
 body_one_of : (client : ℕ) (words : List (List ℕ)) (array : Option (List ℕ)) → Body (one_of client words array)
 body_one_of client [] array = tt

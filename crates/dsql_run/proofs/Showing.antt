@@ -4,13 +4,31 @@ use Rattle.std.specs.Prelude.{reverse}
 use Rattle.std.proofs.Math.Seq.{take-suc}
 use Rattle.std.proofs.lemmas.List.{reverse-append, reverse-reverse, append_assoc, append-nil, take-append-drop, take-take, take_all}
 use Rattle.dsql_history.specs.declared.event.Event.{Event}
-use Rattle.dsql_script.specs.Lines.{line_of, text_of}
+use Rattle.serde_json.specs.Written.{compact_text}
+use Rattle.dsql_script.specs.Lines.{json_of, line_of, text_of}
 use Rattle.dsql_run.specs.Report.{with_text, oldest, Shows, StopsBetween}
 use Rattle.dsql_run.specs.Script.{Begins}
 
 pub with_both : (w : Option (List ℕ)) (a b : List ℕ) → with_text (with_text w a) b ≡ with_text w (a ++ b)
 with_both None a b = refl
 with_both (Some bytes) a b = ap Some (append_assoc bytes a b)
+
+with_nothing : (w : Option (List ℕ)) → w ≡ with_text w []
+with_nothing None = refl
+with_nothing (Some bytes) = ap Some (sym (append-nil bytes))
+
+some_before_feed : (text : List ℕ) → length {A = ℕ} [] < length (text ++ 10 ∷ [])
+some_before_feed text = omega (arith, length-append text (10 ∷ []))
+
+-- nothing of an event's line was written
+pub stops_before : (w : Option (List ℕ)) (e : Event) → StopsBetween w [] (line_of e) w
+stops_before w e = record {
+  front = [];
+  holds = record { rest = []; parts = refl };
+  begins = record { rest = line_of e; parts = refl };
+  short = some_before_feed (compact_text (json_of e));
+  written = with_nothing w;
+}
 
 -- the text of a history that goes on
 pub text_on : (added past : List Event) → text_of (added ++ past) ≡ text_of past ++ text_of added

@@ -1,21 +1,24 @@
 //! The program over a driver whose answers are listed: a whole report for each answer at each call.
 
-ghost use Rattle.std.specs.Prelude.{◌≡◌, [], ℕ, List, None, Some, true, IfOk, IfErr};
+ghost use Rattle.std.specs.Prelude.{◌≡◌, ℕ, Bool, List, None, Some, true, length, IfOk, IfErr};
+ghost use Rattle.dsql_value.specs.declared.value.Param.{Param};
 ghost use Rattle.dsql_driver.specs.declared.answer.DriverAnswer.{DriverAnswer};
-ghost use Rattle.dsql_driver.specs.declared.call.DriverCall.TheVariants.{Prepare};
-ghost use Rattle.dsql_run.specs.Listed.{live_of};
+ghost use Rattle.dsql_driver.specs.declared.call.DriverCall.TheVariants.{Prepare, Query};
+ghost use Rattle.dsql_driver.specs.declared.call.Input.{Input};
+ghost use Rattle.dsql_run.specs.Listed.{live_of, cursors_of};
 ghost use Rattle.dsql_driver.specs.Fits.{fits_of};
 ghost use Rattle.dsql_driver.specs.Wires.{KeepsHandles, KeepsCursors};
 
 mod reports;
+mod row_reports;
 
 use crate::sqlrun;
-use Listed::{Bad, Boom, Done, Gave, Invalid, Ran, Skip};
+use Listed::{Bad, Boom, Cursor, Done, End, Gave, Invalid, Ran, Row, Skip};
 use dsql_driver::{
     Answered, Caps, DriverAnswer, DriverCall, Fleet, Input, ListClock, OpenGate, Planned, Refused,
     SliceSource, VecSink, Wire,
 };
-use dsql_value::{Memory, Txt};
+use dsql_value::{Columns, Items, Memory, Txt, Value, Values};
 use std::alloc::Global;
 use std::process::Abort;
 use std::test::Fail;
@@ -29,6 +32,11 @@ enum Listed {
     Skip,
     /// A handle for a statement with so many inputs.
     Gave(u8),
+    /// A cursor with the one column `value`.
+    Cursor,
+    /// A row with the number 1.
+    Row,
+    End,
     Invalid,
     Bad,
     /// A failure with the text `boom`.
@@ -36,7 +44,8 @@ enum Listed {
 }
 
 /// A driver that answers by lists, one for each connection: first its Connect, then its calls in order.
-/// Where nothing that fits is listed, it answers that there is no memory. A connection gives one handle.
+/// Where nothing that fits is listed, it answers that there is no memory. A connection gives one handle and
+/// one cursor.
 #[derive(Drop)]
 struct ListFleet<'a> {
     alloc: Global,
@@ -55,6 +64,8 @@ struct ListWire<'a> {
     answers: &'a [Listed],
     /// It gave its handle, whose number is 1.
     prepared: bool,
+    /// It gave its cursor, whose number is 1.
+    opened: bool,
 }
 
 fn no_memory() -> Answered
@@ -70,11 +81,54 @@ fn boom(alloc: Global) -> Result<Txt, Memory> {
     Txt::copy_of(alloc, "boom")
 }
 
-/// The answer to a call of an exec. Other calls aren't known.
+fn one_column(alloc: Global) -> Result<Columns, Memory>
+    ensures { IfOk result (λ columns. length columns ≡ 1) }
+{
+    let value = Txt::copy_of(alloc, "value")?;
+    Ok(Items::new(vec![in alloc; value]?))
+}
+
+fn one_value(alloc: Global) -> Result<Values, Memory>
+    ensures { IfOk result (λ values. length values ≡ 1) }
+{
+    Ok(Items::new(vec![in alloc; Value::Int(1)]?))
+}
+
+/// The answer to a call that reads rows, but for its cursor. Other calls aren't known.
+fn row_answer_of(alloc: Global, call: &DriverCall, listed: Listed) -> Result<DriverAnswer, Memory>
+    ensures fitting { IfOk result (λ answer. fits_of call.now answer ≡ true) }
+    ensures handles { (live : List ℕ) → IfOk result (λ answer. KeepsHandles call.now answer live live) }
+    ensures cursors { (opened : Bool) → IfOk result (λ answer. KeepsCursors call.now answer (cursors_of opened) (cursors_of opened)) }
+{
+    Ok(match call {
+        DriverCall::Query(Input::Text(_), _) => match listed {
+            Listed::Skip => DriverAnswer::Skip,
+            Listed::Bad => DriverAnswer::Bad,
+            Listed::Boom => DriverAnswer::Fail(boom(alloc)?),
+            _ => DriverAnswer::Memory,
+        },
+        DriverCall::Next(_) => match listed {
+            Listed::Row => DriverAnswer::Row(one_value(alloc)?),
+            Listed::End => DriverAnswer::End,
+            Listed::Bad => DriverAnswer::Bad,
+            Listed::Boom => DriverAnswer::Fail(boom(alloc)?),
+            _ => DriverAnswer::Memory,
+        },
+        DriverCall::CloseRows(_) => match listed {
+            Listed::Done => DriverAnswer::Done,
+            Listed::Bad => DriverAnswer::Bad,
+            Listed::Boom => DriverAnswer::Fail(boom(alloc)?),
+            _ => DriverAnswer::Memory,
+        },
+        _ => DriverAnswer::Memory,
+    })
+}
+
+/// The answer to a call, but for its handle and its cursor. Calls that no exec and no one makes aren't known.
 fn answer_of(alloc: Global, call: &DriverCall, listed: Listed) -> Result<DriverAnswer, Memory>
     ensures fitting { IfOk result (λ answer. fits_of call.now answer ≡ true) }
     ensures handles { (live : List ℕ) → IfOk result (λ answer. KeepsHandles call.now answer live live) }
-    ensures cursors { IfOk result (λ answer. KeepsCursors call.now answer [] []) }
+    ensures cursors { (opened : Bool) → IfOk result (λ answer. KeepsCursors call.now answer (cursors_of opened) (cursors_of opened)) }
 {
     Ok(match call {
         DriverCall::Reset | DriverCall::CloseStmt(_) | DriverCall::Shut => match listed {
@@ -102,7 +156,7 @@ fn answer_of(alloc: Global, call: &DriverCall, listed: Listed) -> Result<DriverA
             Listed::Boom => DriverAnswer::Fail(boom(alloc)?),
             _ => DriverAnswer::Memory,
         },
-        DriverCall::Prepare(_) => match listed {
+        DriverCall::Prepare(_) | DriverCall::Query(Input::Handle(_), _) => match listed {
             Listed::Bad => DriverAnswer::Bad,
             Listed::Boom => DriverAnswer::Fail(boom(alloc)?),
             _ => DriverAnswer::Memory,
@@ -112,14 +166,15 @@ fn answer_of(alloc: Global, call: &DriverCall, listed: Listed) -> Result<DriverA
             Listed::Invalid => DriverAnswer::Invalid,
             _ => DriverAnswer::Memory,
         },
-        _ => DriverAnswer::Memory,
+        _ => return row_answer_of(alloc, call, listed),
     })
 }
 
 impl<'a> ListWire<'a> {
     /// Takes the next answer off the list.
     fn next(&mut self) -> Option<Listed>
-        ensures { self.new.prepared ≡ self.old.prepared }
+        ensures prepared { self.new.prepared ≡ self.old.prepared }
+        ensures opened { self.new.opened ≡ self.old.opened }
     {
         match self.answers.split_first() {
             Some((first, rest)) => {
@@ -135,7 +190,7 @@ impl<'a> ListWire<'a> {
         ensures copied { result.copy ≡ result.answer }
         ensures fitting { (text : List ℕ) → fits_of (Prepare text) result.answer ≡ true }
         ensures handles { (text : List ℕ) → KeepsHandles (Prepare text) result.answer (live_of self.old.prepared) (live_of self.new.prepared) }
-        ensures cursors { (text : List ℕ) → KeepsCursors (Prepare text) result.answer [] [] }
+        ensures cursors { (text : List ℕ) → KeepsCursors (Prepare text) result.answer (cursors_of self.old.opened) (cursors_of self.new.opened) }
     {
         if self.prepared {
             return no_memory();
@@ -148,12 +203,37 @@ impl<'a> ListWire<'a> {
         }
     }
 
+    /// Gives the cursor, if it wasn't given yet.
+    fn open(&mut self) -> Result<Answered, Memory>
+        ensures copied { IfOk result (λ answered. answered.copy ≡ answered.answer) }
+        ensures fitting { (input : Input) (params : List Param) → IfOk result (λ answered. fits_of (Query input params) answered.answer ≡ true) }
+        ensures handles { (input : Input) (params : List Param) → IfOk result (λ answered. KeepsHandles (Query input params) answered.answer (live_of self.old.prepared) (live_of self.new.prepared)) }
+        ensures cursors { (input : Input) (params : List Param) → IfOk result (λ answered. KeepsCursors (Query input params) answered.answer (cursors_of self.old.opened) (cursors_of self.new.opened)) }
+        ensures prepared { IfErr result (λ _. self.new.prepared ≡ self.old.prepared) }
+        ensures opened { IfErr result (λ _. self.new.opened ≡ self.old.opened) }
+    {
+        if self.opened {
+            return Err(Memory);
+        }
+        let columns = one_column(self.alloc)?;
+        let copy = columns.clone()?;
+        self.opened = true;
+        Ok(Answered {
+            answer: DriverAnswer::Cursor { rows: 1, columns },
+            copy: DriverAnswer::Cursor {
+                rows: 1,
+                columns: copy,
+            },
+        })
+    }
+
     fn answer_twice(&mut self, call: &DriverCall) -> Result<Answered, Memory>
         ensures copied { IfOk result (λ answered. answered.copy ≡ answered.answer) }
         ensures fitting { IfOk result (λ answered. fits_of call.now answered.answer ≡ true) }
         ensures handles { IfOk result (λ answered. KeepsHandles call.now answered.answer (live_of self.old.prepared) (live_of self.new.prepared)) }
-        ensures cursors { IfOk result (λ answered. KeepsCursors call.now answered.answer [] []) }
-        ensures same { IfErr result (λ _. self.new.prepared ≡ self.old.prepared) }
+        ensures cursors { IfOk result (λ answered. KeepsCursors call.now answered.answer (cursors_of self.old.opened) (cursors_of self.new.opened)) }
+        ensures prepared { IfErr result (λ _. self.new.prepared ≡ self.old.prepared) }
+        ensures opened { IfErr result (λ _. self.new.opened ≡ self.old.opened) }
     {
         let Some(listed) = self.next() else {
             return Err(Memory);
@@ -161,6 +241,11 @@ impl<'a> ListWire<'a> {
         if let DriverCall::Prepare(_) = call {
             if let Listed::Gave(inputs) = listed {
                 return Ok(self.give(inputs));
+            }
+        }
+        if let DriverCall::Query(_, _) = call {
+            if let Listed::Cursor = listed {
+                return self.open();
             }
         }
         let answer = answer_of(self.alloc, call, listed)?;
@@ -176,7 +261,7 @@ impl<'a> Wire for ListWire<'a> {
 
     ghost handles = { λ w. live_of w.prepared };
 
-    ghost cursors = { λ _. [] };
+    ghost cursors = { λ w. cursors_of w.opened };
 
     fn call(&mut self, call: &DriverCall) -> Answered {
         match self.answer_twice(call) {
@@ -239,6 +324,7 @@ impl<'a> Fleet for ListFleet<'a> {
             alloc: self.alloc,
             answers: self.listed_for(number),
             prepared: false,
+            opened: false,
         };
         match wire.next() {
             Some(Listed::Done) => Ok(wire),
@@ -278,11 +364,24 @@ const EXEC_CAPS: Caps = Caps {
     ..FAST_CAPS
 };
 
+const ROW_CAPS: Caps = Caps {
+    fast_query: true,
+    ..EXEC_CAPS
+};
+
 const ONE: &str = "c1 exec db [\"SET a 1\"]\n";
 
 const TWO: &str = "c1 exec db [\"SET a 1\"]\nc1 exec db [\"SET a 2\"]\n";
 
 const WITH_ARGUMENT: &str = "c1 exec db [\"SET a ?\",1]\n";
+
+const ONE_ROW: &str = "c1 one db i64 [\"GET a\"]\n";
+
+const TWO_DESTINATIONS: &str = "c1 one db i64,i64 [\"GET a\"]\n";
+
+const ROW_WITH_ARGUMENT: &str = "c1 one db i64 [\"GET ?\",\"a\"]\n";
+
+const ROW_THEN_EXEC: &str = "c1 one db i64 [\"GET a\"]\nc1 exec db [\"SET a 1\"]\n";
 
 /// What a run gave.
 #[derive(Drop)]
@@ -459,6 +558,135 @@ fn each_answer_on_the_prepared_path_gives_its_report(rt: HostRuntime) -> Result<
 }
 
 #[test]
+fn each_answer_in_one_row_gives_its_report(rt: HostRuntime) -> Result<(), Fail> {
+    let rows: [(&str, &[&[Listed]], &str); 14] = [
+        (
+            ONE_ROW,
+            &[&[Done, Cursor, Row, Done, Done, Done]],
+            row_reports::ROW_IS_READ,
+        ),
+        (
+            ONE_ROW,
+            &[&[Done, Boom, Done, Done]],
+            row_reports::QUERY_FAILS,
+        ),
+        (ONE_ROW, &[&[Done, Bad, Done]], row_reports::QUERY_IS_BAD),
+        (
+            ONE_ROW,
+            &[&[Done, Cursor, Boom, Done, Done, Done]],
+            row_reports::NEXT_FAILS,
+        ),
+        (
+            ONE_ROW,
+            &[&[Done, Cursor, Boom, Bad, Done]],
+            row_reports::NEXT_FAILS_AND_CLOSE_IS_BAD,
+        ),
+        (
+            ONE_ROW,
+            &[&[Done, Cursor, Bad, Done]],
+            row_reports::NEXT_IS_BAD,
+        ),
+        (
+            ONE_ROW,
+            &[&[Done, Cursor, End, Done, Done, Done]],
+            row_reports::NO_ROW,
+        ),
+        (
+            ONE_ROW,
+            &[&[Done, Cursor, End, Boom, Done, Done]],
+            row_reports::NO_ROW_AND_CLOSE_FAILS,
+        ),
+        (
+            ONE_ROW,
+            &[&[Done, Cursor, End, Bad, Done]],
+            row_reports::NO_ROW_AND_CLOSE_IS_BAD,
+        ),
+        (
+            ONE_ROW,
+            &[&[Done, Cursor, Row, Boom, Done, Done]],
+            row_reports::CLOSE_ROWS_FAILS,
+        ),
+        (
+            ONE_ROW,
+            &[&[Done, Cursor, Row, Bad, Done]],
+            row_reports::CLOSE_ROWS_IS_BAD,
+        ),
+        (
+            TWO_DESTINATIONS,
+            &[&[Done, Cursor, Row, Boom, Done, Done]],
+            row_reports::ROW_IS_TOO_NARROW_AND_CLOSE_FAILS,
+        ),
+        (
+            ONE_ROW,
+            &[&[Done, Cursor, Row, Done, Invalid, Done]],
+            row_reports::ROW_TEST_IS_FAILED,
+        ),
+        (
+            ROW_THEN_EXEC,
+            &[&[Done, Cursor, Boom, Boom, Done, Done, Ran, Done, Done]],
+            row_reports::NEXT_FAILS_THEN_ALL_IS_WELL,
+        ),
+    ];
+    for (script, answers, report) in rows {
+        expect_report(&rt, rt.alloc(), ROW_CAPS, answers, script, report)?;
+    }
+    Ok(())
+}
+
+#[test]
+fn each_answer_on_the_way_of_a_prepared_row_gives_its_report(rt: HostRuntime) -> Result<(), Fail> {
+    let rows: [(&[&[Listed]], &str); 9] = [
+        (
+            &[&[Done, Skip, Gave(1), Cursor, Row, Done, Done, Done, Done]],
+            row_reports::QUERY_IS_PREPARED,
+        ),
+        (
+            &[&[Done, Skip, Gave(1), Boom, Done, Done, Done]],
+            row_reports::HANDLE_FAILS,
+        ),
+        (
+            &[&[Done, Skip, Gave(1), Bad, Done]],
+            row_reports::HANDLE_IS_BAD,
+        ),
+        (
+            &[&[Done, Skip, Gave(1), Cursor, Boom, Boom, Boom, Done, Done]],
+            row_reports::NEXT_OF_HANDLE_FAILS,
+        ),
+        (
+            &[&[Done, Skip, Gave(1), Cursor, Bad, Done]],
+            row_reports::NEXT_OF_HANDLE_IS_BAD,
+        ),
+        (
+            &[&[Done, Skip, Gave(1), Cursor, End, Done, Done, Done, Done]],
+            row_reports::NO_ROW_OF_HANDLE,
+        ),
+        (
+            &[&[Done, Skip, Gave(1), Cursor, Row, Bad, Done]],
+            row_reports::CLOSE_ROWS_OF_HANDLE_IS_BAD,
+        ),
+        (
+            &[&[Done, Skip, Gave(1), Cursor, Row, Done, Bad, Done]],
+            row_reports::CLOSE_STMT_IS_BAD,
+        ),
+        (
+            &[&[Done, Skip, Gave(2), Done, Done, Done]],
+            row_reports::QUERY_HAS_TOO_FEW_ARGUMENTS,
+        ),
+    ];
+    for (answers, report) in rows {
+        expect_report(
+            &rt,
+            rt.alloc(),
+            ROW_CAPS,
+            answers,
+            ROW_WITH_ARGUMENT,
+            report,
+        )?;
+    }
+    Ok(())
+}
+
+#[test]
 fn a_driver_is_asked_only_for_what_it_can_do(rt: HostRuntime) -> Result<(), Fail> {
     expect_report(
         &rt,
@@ -467,6 +695,14 @@ fn a_driver_is_asked_only_for_what_it_can_do(rt: HostRuntime) -> Result<(), Fail
         &[&[Done, Gave(1), Ran, Done, Done]],
         WITH_ARGUMENT,
         reports::DRIVER_IS_PLAIN,
+    )?;
+    expect_report(
+        &rt,
+        rt.alloc(),
+        NO_CAPS,
+        &[&[Done, Gave(1), Cursor, Row, Done, Done, Done]],
+        ROW_WITH_ARGUMENT,
+        row_reports::DRIVER_IS_PLAIN,
     )?;
     expect_report(
         &rt,
@@ -481,20 +717,42 @@ fn a_driver_is_asked_only_for_what_it_can_do(rt: HostRuntime) -> Result<(), Fail
 // Nothing is said of such a report but that it is a beginning.
 #[test]
 fn a_driver_without_memory_stops_the_run(rt: HostRuntime) -> Result<(), Fail> {
-    let answers = [Done, Ran, Done, Done, Ran, Done, Done];
-    let report = reports::ALL_IS_WELL.as_bytes();
-    for heard in 0..answers.len() {
-        let listed = [&answers[..heard]];
-        let mut fleet = ListFleet::new(rt.alloc(), EXEC_CAPS, &listed);
-        let outcome = play_over(rt.alloc(), &mut fleet, TWO)?;
-        assert_eq!(rt; outcome.status, 5, "after {heard}");
-        assert_eq!(rt;
-            outcome.notes.as_slice(),
-            b"sqlrun: out of memory\n".as_slice(),
-            "after {heard}"
-        );
-        assert!(rt; report.starts_with(&outcome.report), "after {heard}");
-        assert_eq!(rt; fleet.retired, usize::from(heard > 0), "after {heard}");
+    let rows: [(Caps, &[Listed], &str, &str); 2] = [
+        (
+            EXEC_CAPS,
+            &[Done, Ran, Done, Done, Ran, Done, Done],
+            TWO,
+            reports::ALL_IS_WELL,
+        ),
+        (
+            ROW_CAPS,
+            &[Done, Skip, Gave(1), Cursor, Row, Done, Done, Done, Done],
+            ROW_WITH_ARGUMENT,
+            row_reports::QUERY_IS_PREPARED,
+        ),
+    ];
+    for (caps, answers, script, report) in rows {
+        for heard in 0..answers.len() {
+            let listed = [&answers[..heard]];
+            let mut fleet = ListFleet::new(rt.alloc(), caps, &listed);
+            let outcome = play_over(rt.alloc(), &mut fleet, script)?;
+            assert_eq!(rt; outcome.status, 5, "{script} after {heard}");
+            assert_eq!(rt;
+                outcome.notes.as_slice(),
+                b"sqlrun: out of memory\n".as_slice(),
+                "{script} after {heard}"
+            );
+            let report = report.as_bytes();
+            assert!(rt;
+                report.starts_with(&outcome.report),
+                "{script} after {heard}"
+            );
+            assert_eq!(rt;
+                fleet.retired,
+                usize::from(heard > 0),
+                "{script} after {heard}"
+            );
+        }
     }
     Ok(())
 }

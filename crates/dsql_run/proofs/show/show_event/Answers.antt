@@ -4,7 +4,13 @@ use Rattle.std.proofs.lemmas.List.{take-append-drop}
 use Rattle.dsql_script.specs.Lines.{line_of}
 use Rattle.dsql_run.specs.declared.show.ShowFault.TheVariants as faults
 use Rattle.dsql_run.proofs.Errors.{err_is}
+use Rattle.dsql_run.proofs.Showing.{stops_before}
 use Rattle.dsql_run.proofs.show.show_event.Goals as goal
+
+pub returns-in_err-line-clause-err : goal.returns-in_err-line-clause-err
+returns-in_err-line-clause-err g c =
+    let is : c.from_residual.result ≡ Err faults.Memory = err_is c.from_residual.result faults.Memory c.from_residual.ensures.1 in
+    rw is (stops_before (g.K.Sink.written c.args.output.now) c.args.event.now)
 
 pub returns-in_err-write_whole-clause-err : goal.returns-in_err-write_whole-clause-err
 returns-in_err-write_whole-clause-err g c =
