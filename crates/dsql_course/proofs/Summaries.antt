@@ -1,5 +1,5 @@
 -- What is kept of the calls of a course, with one call more, and what it decides.
-use Rattle.std.proofs.Common.{◌≡◌, ℕ, ℤ, Bool, true, false, not, ◌&&◌, ◌||◌, Option, Some, None, is_some, List, [], ◌∷◌, refl, ap}
+use Rattle.std.proofs.Common.{◌≡◌, ℕ, ℤ, Bool, not, ◌&&◌, ◌||◌, Option, Some, None, is_some, List, [], ◌∷◌, refl, ap}
 use Rattle.std.specs.List.{list_any}
 use native.Mathlib.Omega.{arith}
 use Rattle.dsql_course.specs.declared.course.Course.{Course}
@@ -7,20 +7,21 @@ use Rattle.dsql_course.specs.declared.call.Due.{Due}
 use Rattle.dsql_course.specs.declared.call.Due.TheVariants as call
 use Rattle.dsql_course.specs.declared.call.Got.{Got}
 use Rattle.dsql_course.specs.declared.call.Got.TheVariants as got
-use Rattle.dsql_course.specs.Made.{Exchange, went_bad, was_skipped, is_bad, is_skip, is_done, given_handle, given_cursor, or_else, own_handle, own_cursor, decides, was_decided, reads_one}
-use Rattle.dsql_course.specs.Summary.{Summary, last_call, is_settled}
+use Rattle.dsql_course.specs.Made.{Exchange, is_bad, is_skip, is_done, given_handle, given_cursor, or_else, own_cursor, decides, was_decided, reads_one, ends_rows}
+use Rattle.dsql_course.specs.Summary.{Summary, is_settled}
 
-pub summary_with : (made : List Exchange) (last : Option Due) (handle : Option (ℕ × ℤ)) (cursor : Option ℕ) (skipped done settled bad : Bool) (it : Due) (answer : Got)
-    → Summary made last handle cursor skipped done settled bad
+pub summary_with : (made : List Exchange) (last : Option Due) (handle : Option (ℕ × ℤ)) (cursor : Option ℕ) (skipped done settled over bad : Bool) (it : Due) (answer : Got)
+    → Summary made last handle cursor skipped done settled over bad
     → Summary ((it, answer) ∷ made) (Some it) (or_else (given_handle answer) handle) (or_else (given_cursor answer) cursor) (is_skip answer || skipped) (is_done answer || done)
-    (is_settled (it, answer) || settled) (is_bad answer || bad)
-summary_with made last handle cursor skipped done settled bad it answer s = record {
+    (is_settled (it, answer) || settled) (ends_rows (it, answer) || over) (is_bad answer || bad)
+summary_with made last handle cursor skipped done settled over bad it answer s = record {
   is_last = refl;
   is_handle = ap (λ h. or_else (given_handle answer) h) s.is_handle;
   is_cursor = ap (λ c. or_else (given_cursor answer) c) s.is_cursor;
   is_skipped = ap (λ b. is_skip answer || b) s.is_skipped;
   was_done = ap (λ b. is_done answer || b) s.was_done;
   was_settled = ap (λ b. is_settled (it, answer) || b) s.was_settled;
+  is_over = ap (λ b. ends_rows (it, answer) || b) s.is_over;
   is_bad = ap (λ b. is_bad answer || b) s.is_bad;
 }
 

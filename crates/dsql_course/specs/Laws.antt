@@ -1,13 +1,17 @@
 -- What courses promise, as laws.
-use Rattle.std.specs.Prelude.{◌≡◌, ◌≢◌, ℕ, ℤ, true, false, ◌↔◌, None, List, [], ◌∷◌, map, All, AllPairs, Contains}
+use Rattle.std.specs.Prelude.{◌≡◌, ◌≢◌, ℕ, ℤ, true, false, ◌↔◌, Bool, Some, None, List, [], ◌∷◌, map, All, AllPairs, Contains}
 use Rattle.dsql_driver.specs.declared.caps.Caps.{Caps}
 use Rattle.dsql_course.specs.declared.course.Course.{Course}
 use Rattle.dsql_course.specs.declared.course.Course.TheVariants as course
 use Rattle.dsql_course.specs.declared.call.Due.{Due}
 use Rattle.dsql_course.specs.declared.call.Due.TheVariants as call
+use Rattle.dsql_course.specs.declared.call.Got.{Got}
 use Rattle.dsql_course.specs.declared.call.Got.TheVariants as got
 use Rattle.dsql_course.specs.Steps.{step_of}
-use Rattle.dsql_course.specs.Made.{Exchange, went_bad, own_cursor, reads_one}
+use Rattle.dsql_course.specs.Made.{Exchange, went_bad, own_handle, own_cursor, reads_one, rows_are_over}
+use Rattle.dsql_course.specs.Rows.{closing_next, rows_next}
+use Rattle.dsql_course.specs.declared.course.Wish.{Wish}
+use Rattle.dsql_course.specs.declared.course.Wish.TheVariants as wish
 use Rattle.dsql_course.specs.Line.{Found, Turn, exchange, comes_next, may_get, IsLine}
 use Rattle.dsql_course.specs.Given.{is_given, due_of}
 
@@ -71,3 +75,27 @@ Calls turns due = Contains (map (λ turn. turn.call) turns) due
 pub record ClosesWhatItOpened : Type 0 where
   pub cursors : (c : Course) (can : Caps) (args : ℕ) (found : Found) (turns : List Turn) → EndsWell c can args found turns → reads_one c ≡ true → All (λ turn. (rows : ℕ) → turn.answer ≡ got.Cursor rows → Calls turns (call.CloseRows rows)) turns
   pub handles : (c : Course) (can : Caps) (args : ℕ) (found : Found) (turns : List Turn) → EndsWell c can args found turns → KeepsNoHandle c turns → All (λ turn. (handle : ℕ) (inputs : ℤ) → turn.answer ≡ got.Prepared handle inputs → Calls turns (call.CloseStmt handle)) turns
+
+-- the run of a text or a handle, or a fetch
+abbrev pub uses_rows : Due → Bool
+uses_rows call.Text = true
+uses_rows (call.Handle handle) = true
+uses_rows (call.Next rows) = true
+uses_rows _ = false
+
+-- Rows that were handed out: open ones are left alone, or fetched from; where they are over or to be closed, their cursor is closed, then the handle
+-- that their query prepared, and then nothing comes.
+pub record RowsAreClosed : Type 0 where
+  pub left : (can : Caps) (args rows : ℕ) (made : List Exchange) → rows_are_over made ≡ false → rows_next wish.Nothing can args made rows ≡ None
+  pub fetched : (can : Caps) (args rows : ℕ) (made : List Exchange) → rows_are_over made ≡ false → rows_next wish.Fetch can args made rows ≡ Some (call.Next rows)
+  pub closed : (can : Caps) (args rows : ℕ) (made : List Exchange) → rows_next wish.Close can args made rows ≡ Some (closing_next can args made)
+  pub over : (it : Wish) (can : Caps) (args rows : ℕ) (made : List Exchange) → rows_are_over made ≡ true → rows_next it can args made rows ≡ Some (closing_next can args made)
+  pub cursor : (can : Caps) (args rows : ℕ) (newest : Exchange) (earlier : List Exchange)
+      → uses_rows newest.0 ≡ true → went_bad (newest ∷ earlier) ≡ false → own_cursor (newest ∷ earlier) ≡ Some rows
+      → closing_next can args (newest ∷ earlier) ≡ call.CloseRows rows
+  pub handle : (can : Caps) (args rows handle : ℕ) (inputs : ℤ) (answer : Got) (earlier : List Exchange)
+      → went_bad ((call.CloseRows rows, answer) ∷ earlier) ≡ false → own_handle ((call.CloseRows rows, answer) ∷ earlier) ≡ Some (handle, inputs)
+      → closing_next can args ((call.CloseRows rows, answer) ∷ earlier) ≡ call.CloseStmt handle
+  pub no_handle : (can : Caps) (args rows : ℕ) (answer : Got) (earlier : List Exchange) → own_handle ((call.CloseRows rows, answer) ∷ earlier) ≡ None
+      → closing_next can args ((call.CloseRows rows, answer) ∷ earlier) ≡ call.Over
+  pub last : (can : Caps) (args handle : ℕ) (answer : Got) (earlier : List Exchange) → closing_next can args ((call.CloseStmt handle, answer) ∷ earlier) ≡ call.Over

@@ -95,3 +95,14 @@ decides c _ = false
 
 abbrev pub was_decided : Course → List Exchange → Bool
 was_decided c made = list_any (decides c) made
+
+-- after it the cursor gives no more rows: a fetch that gave none, or the close of the cursor
+abbrev pub ends_rows : Exchange → Bool
+ends_rows (call.Next rows, got.Row) = false
+ends_rows (call.Next rows, answer) = true
+ends_rows (call.CloseRows rows, answer) = true
+ends_rows _ = false
+
+-- the cursor gives no more rows
+abbrev pub rows_are_over : List Exchange → Bool
+rows_are_over made = list_any ends_rows made

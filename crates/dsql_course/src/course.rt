@@ -26,6 +26,17 @@ pub enum Course {
     Begin,
 }
 
+/// What is wanted of rows that a query handed out.
+#[derive(Clone, Copy, Debug, PartialEq, Eq)]
+pub enum Wish {
+    /// Nothing just now.
+    Nothing,
+    /// The next row: `Rows.Next`.
+    Fetch,
+    /// That they are closed: `Rows.Close`, or the end of the run.
+    Close,
+}
+
 impl Course {
     ghost use Rattle.dsql_course.specs.Made.{live_handle as live_handle_of, reads_rows as reads_rows_of, reads_one as reads_one_of, has_fast_way as has_fast_way_of};
 

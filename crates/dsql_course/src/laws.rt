@@ -1,5 +1,5 @@
 //! What follows from the definitions: each law is the contract of a function that does nothing.
-ghost use Rattle.dsql_course.specs.Laws.{LinesGive, DueMakesLines, StepsOnce, ClosesWhatItOpened};
+ghost use Rattle.dsql_course.specs.Laws.{LinesGive, DueMakesLines, StepsOnce, ClosesWhatItOpened, RowsAreClosed};
 ghost use Rattle.dsql_course.specs.Worked.{WorkedLines};
 
 /// Calls with their answers are given exactly where a line of the course has them, at whose turns no more
@@ -26,6 +26,14 @@ pub fn a_line_takes_each_step_once()
 #[tactic(auto, using(crate::proofs::Closed::closes_what_it_opened))]
 pub fn what_was_opened_is_closed()
     ensures { ClosesWhatItOpened }
+{}
+
+/// Rows that are over, or that are to be closed, have first their cursor closed and then the handle that
+/// their query prepared; after that nothing comes. Open rows are fetched from where a row is wanted, and are
+/// left alone where nothing is.
+#[tactic(auto, using(crate::proofs::Handed::rows_are_closed))]
+pub fn rows_that_are_over_are_closed()
+    ensures { RowsAreClosed }
 {}
 
 /// Worked lines, call after call.

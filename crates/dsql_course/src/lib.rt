@@ -11,7 +11,7 @@ mod progress;
 mod step;
 
 pub use call::{Due, Got};
-pub use course::Course;
+pub use course::{Course, Wish};
 pub use line::{comes_next, due};
 pub use progress::Progress;
 

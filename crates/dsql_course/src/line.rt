@@ -106,9 +106,9 @@ impl Plan {
             Step::RunText => (self.has_fast_way() && going_on).then_some(Due::Text),
             Step::PrepareText => (self.needs_handle(made) && going_on).then_some(Due::Prepare),
             Step::RunHandle if going_on => self.run_of_handle(made),
-            Step::FetchRow if going_on && self.course.reads_one() => made.own_cursor().map(
-                Due::Next,
-            ),
+            Step::FetchRow if going_on && self.course.reads_one() => made
+                .own_cursor()
+                .map(Due::Next),
             Step::CloseCursor if !found.bad && self.course.reads_one() => {
                 made.own_cursor().map(Due::CloseRows)
             }

@@ -1,11 +1,12 @@
 ghost use Rattle.std.specs.Prelude.{◌≡◌, [], ◌∷◌, reverse};
 ghost use Rattle.std.specs.List.{list_any};
-ghost use Rattle.dsql_course.specs.Made.{went_bad as went_bad_of, was_skipped as was_skipped_of, is_done, given_handle as given_handle_of, own_handle as own_handle_of, given_cursor as given_cursor_of, own_cursor as own_cursor_of, was_decided as was_decided_of};
+ghost use Rattle.dsql_course.specs.Made.{went_bad as went_bad_of, was_skipped as was_skipped_of, is_done, given_handle as given_handle_of, own_handle as own_handle_of, given_cursor as given_cursor_of, own_cursor as own_cursor_of, was_decided as was_decided_of, ends_rows as ends_rows_of, rows_are_over as rows_are_over_of};
 ghost use Rattle.dsql_course.specs.Line.{comes_next as next_of};
+ghost use Rattle.dsql_course.specs.Rows.{rows_next as rows_next_of};
 ghost use Rattle.dsql_course.specs.Summary.{last_call, is_settled};
 
 use crate::call::{Due, Got};
-use crate::course::Course;
+use crate::course::{Course, Wish};
 use crate::line::{Found, Plan};
 use crate::past::{Made, Past};
 use dsql_driver::Caps;
@@ -22,6 +23,7 @@ pub struct Progress {
     skipped: bool,
     done: bool,
     settled: bool,
+    over: bool,
     bad: bool,
 }
 
@@ -35,7 +37,7 @@ impl Model for Progress {
 
     ghost use Rattle.dsql_course.specs.Summary.{Summary};
 
-    ghost invariant = { λ p. Summary p.past.exchanges p.last p.handle p.cursor p.skipped p.done p.settled p.bad };
+    ghost invariant = { λ p. Summary p.past.exchanges p.last p.handle p.cursor p.skipped p.done p.settled p.over p.bad };
 }
 
 #[tactic(auto, using(crate::proofs::Summaries::summary_with))]
@@ -52,6 +54,7 @@ impl Progress {
             skipped: false,
             done: false,
             settled: false,
+            over: false,
             bad: false,
         }
     }
@@ -68,6 +71,7 @@ impl Progress {
             skipped: matches!(got, Got::Skip) || self.skipped,
             done: matches!(got, Got::Done) || self.done,
             settled: settles(call, got) || self.settled,
+            over: ends_rows(call, got) || self.over,
             bad: matches!(got, Got::Bad) || self.bad,
         }
     }
@@ -78,6 +82,18 @@ impl Progress {
     {
         let plan = Plan { course, caps, args };
         plan.comes_next(Found { stopped, bad }, self)
+    }
+
+    /// What comes next over rows with this cursor that were handed out, where this is wanted of them. `None`
+    /// where they stay open as they are.
+    pub fn next_over_rows(&self, wish: Wish, caps: Caps, args: usize, rows: u32) -> Option<Due>
+        ensures { result ≡ rows_next_of wish caps args self.now rows }
+    {
+        match wish {
+            Wish::Nothing if !self.over => None,
+            Wish::Fetch if !self.over => Some(Due::Next(rows)),
+            _ => Some(self.next(Course::One, caps, args, true, false)),
+        }
     }
 
     /// What these calls have made, the newest last.
@@ -130,10 +146,17 @@ impl Progress {
     }
 
     /// The cursor that its run gave.
-    pub(crate) fn own_cursor(&self) -> Option<u32>
+    pub fn own_cursor(&self) -> Option<u32>
         ensures { result ≡ own_cursor_of self.now }
     {
         self.cursor
+    }
+
+    /// That cursor gives no more rows.
+    pub fn rows_are_over(&self) -> bool
+        ensures { result ≡ rows_are_over_of self.now }
+    {
+        self.over
     }
 
     /// Some answer has settled what the call is replied.
@@ -172,6 +195,17 @@ fn settles(call: Due, got: Got) -> bool
     match (call, got) {
         (Due::Next(_), _) | (_, Got::Result) => true,
         (Due::Text | Due::Prepare | Due::Handle(_), Got::Fail) => true,
+        _ => false,
+    }
+}
+
+/// After it the cursor gives no more rows.
+fn ends_rows(call: Due, got: Got) -> bool
+    ensures { result ≡ ends_rows_of (call, got) }
+{
+    match (call, got) {
+        (Due::Next(_), Got::Row) => false,
+        (Due::Next(_) | Due::CloseRows(_), _) => true,
         _ => false,
     }
 }

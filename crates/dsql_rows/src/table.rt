@@ -1,4 +1,4 @@
-ghost use Rattle.std.specs.Prelude.{◌≡◌, ◌+◌, ◌≤◌, [], ◌∷◌, ◌++◌, length, Some, true, false, OnOk, OnErr, IfErr, IfSome};
+ghost use Rattle.std.specs.Prelude.{◌≡◌, ◌+◌, ◌≤◌, [], ◌∷◌, ◌++◌, length, map, Some, true, false, OnOk, OnErr, IfErr, IfSome};
 ghost use Rattle.std.specs.Option.{option_copied, option_map};
 
 use crate::end::RowsEnd;
@@ -29,6 +29,7 @@ impl Model for RowsTable {
 
 impl RowsTable {
     ghost use Rattle.dsql_rows.specs.OpenRows.{rows_of, was_made, fresh, is_live, changed, shown, ended_by, told_by, IsClosedBy, IsScan};
+    ghost use Rattle.dsql_rows.specs.declared.end.RowsEnd.TheVariants.{EndOfRun};
 
     /// No rows. It takes no memory.
     pub fn new(alloc: Global) -> RowsTable
@@ -55,6 +56,13 @@ impl RowsTable {
         ensures { result ≡ length self.now.rows }
     {
         self.rows.len() as u64
+    }
+
+    /// Whether rows were made under that number.
+    pub fn was_made(&self, n: u32) -> bool
+        ensures { result ≡ was_made n self.now.rows }
+    {
+        self.rows.contains_key(&n)
     }
 
     /// Makes rows over a cursor.
@@ -110,6 +118,32 @@ impl RowsTable {
             Some(rows) => rows.close(by),
             None => unreachable!(),
         }
+    }
+
+    /// The end of the run ends all rows that nothing has ended. It takes no memory.
+    pub fn close_all(&mut self)
+        ensures rows { self.new.rows ≡ map (λ it. (it.0, ended_by EndOfRun it.1)) self.old.rows }
+        ensures spare { self.new.spare ≡ self.old.spare }
+    {
+        for index in 0..self.rows.len() {
+            self.rows[index].close(RowsEnd::EndOfRun);
+        }
+    }
+
+    /// Whether nothing has ended the rows.
+    pub fn is_live(&self, n: u32) -> bool
+        requires { was_made n self.now.rows ≡ true }
+        ensures { Some result ≡ option_map is_live (rows_of n self.now.rows) }
+    {
+        self.rows(n).ended.is_none()
+    }
+
+    /// What ended the rows.
+    pub fn ended(&self, n: u32) -> Option<&RowsEnd>
+        requires { was_made n self.now.rows ≡ true }
+        ensures { Some (option_copied result) ≡ option_map (λ rows. rows.ended) (rows_of n self.now.rows) }
+    {
+        self.rows(n).ended.as_ref()
     }
 
     /// What ended the rows, where that is told as an error, as by Go's `Rows.Err`.
