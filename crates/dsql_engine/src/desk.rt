@@ -11,7 +11,8 @@ ghost use Rattle.dsql_journal.specs.declared.entry.Owner.TheVariants.{Call};
 ghost use Rattle.dsql_engine.specs.Desk.{past, Stands};
 
 use crate::room::{
-    begin_made, count_up, move_to, note, note_exchange, put, set_decided, set_home, take_out, take_reply, tell_entry,
+    begin_made, count_up, move_to, note, note_exchange, put, set_decided, set_home, take_out,
+    take_reply, tell_entry,
 };
 use crate::statement::Statement;
 use dsql_course::Progress;

@@ -20,8 +20,8 @@ ghost use Rattle.dsql_engine.specs.Awaited.{shut_permit, connect_permit};
 ghost use Rattle.dsql_engine.specs.Latest.{latest, oldest};
 
 use crate::desk::Desk;
-use crate::statement::{Statement, statement_of as copy_of_statement};
 use crate::next::NoRoom;
+use crate::statement::{Statement, statement_of as copy_of_statement};
 use dsql_course::{Course, Due, Progress};
 use dsql_driver::{Caps, DriverAnswer, DriverCall, Input};
 use dsql_history::{CloseCause, FaultWord, Place, Reply};

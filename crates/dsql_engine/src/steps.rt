@@ -31,7 +31,7 @@ ghost use Rattle.dsql_engine.specs.Steps.{NextAfterEnter, NextAfterAsk, NextAfte
 
 use crate::desk::Desk;
 use crate::next::{Next, Why};
-use crate::queries::{is_bad_answer, is_done_answer, is_invalid_answer, ends_line};
+use crate::queries::{ends_line, is_bad_answer, is_done_answer, is_invalid_answer};
 use crate::room::reply_of;
 use crate::statement::{Entering, Statement};
 use dsql_driver::{DriverAnswer, DriverCall};
