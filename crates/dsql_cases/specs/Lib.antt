@@ -5,4 +5,3 @@ pub mod Histories
 pub mod Damaged
 pub mod Prepared
 pub mod Rows
-pub mod HandedOut

@@ -4,7 +4,6 @@
 
 mod desk;
 mod engine;
-mod entering;
 mod next;
 mod queries;
 mod room;

@@ -36,7 +36,7 @@ impl ScriptReader {
     {
         Ok(ScriptReader {
             lines: LineReader::new(alloc)?,
-            reader: Reader::new(alloc),
+            reader: Reader::new(),
             line: Vec::new(alloc),
         })
     }
