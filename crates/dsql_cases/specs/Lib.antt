@@ -5,3 +5,4 @@ pub mod Histories
 pub mod Damaged
 pub mod Prepared
 pub mod Rows
+pub mod HandedOut

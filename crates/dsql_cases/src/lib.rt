@@ -3,6 +3,7 @@
 #![tactic(auto)]
 
 pub mod damaged;
+pub mod handed_out;
 pub mod laws;
 pub mod legal;
 pub mod prepared;

@@ -1,96 +1,48 @@
 -- A call that has just entered asks for a connection.
-use Rattle.std.proofs.Common.{◌≡◌, ◌≢◌, ℕ, ◌==◌, inl, inr, Bool, true, false, not, ◌&&◌, nat_lt, nat_le, List, [], ◌∷◌, ◌++◌, cond, get_or, refl, arith, Some, None, ap, sym, subst, ◌∙◌}
+use Rattle.std.proofs.Common.{◌≡◌, ◌≢◌, ℕ, ◌+◌, ◌==◌, inl, inr, Bool, true, false, not, ◌&&◌, ◌||◌, nat_lt, nat_le, cond, List, [], ◌∷◌, ◌++◌, get_or, set, zero, suc, refl, arith, Some, None, is_some, ap, sym, subst, ◌∙◌}
 use Rattle.std.proofs.lemmas.Bool.Decides.{nat_tests}
+use Rattle.dsql_driver.specs.declared.caps.Caps.{Caps}
+use Rattle.dsql_driver.specs.declared.call.DriverCall.TheVariants.{Reset}
+use Rattle.dsql_course.specs.Made.{Exchange}
+use Rattle.dsql_course.specs.declared.course.Wish.{Wish}
+use Rattle.dsql_journal.specs.declared.entry.Entry.{Entry}
 use Rattle.dsql_journal.specs.declared.entry.Owner.TheVariants.{Call}
-use Rattle.dsql_journal.specs.Readers.{has, is_empty}
+use Rattle.dsql_journal.specs.Readers.{has, went_bad}
 use Rattle.dsql_history.specs.declared.event.Event.{Event}
-use Rattle.dsql_history.specs.declared.event.Event.TheVariants.{Entered, Pool, Replied}
+use Rattle.dsql_history.specs.declared.event.Event.TheVariants.{Pool, Replied}
 use Rattle.dsql_history.specs.declared.event.Move.TheVariants.{OpenStart, Lend}
 use Rattle.dsql_history.specs.declared.record.Place.{Place}
 use Rattle.dsql_history.specs.declared.record.Place.TheVariants.{Nowhere, Opening, Idle, Lent, Closing}
 use Rattle.dsql_history.specs.declared.record.CallRecord.{CallRecord}
-use Rattle.dsql_history.specs.Readers.Lists.{without, last}
-use Rattle.dsql_history.specs.Readers.Course.{has_ended}
-use Rattle.dsql_history.specs.Readers.Sets.{places, place, idle, is_open, is_idle, is_for, next_tenure, next_number, open_count}
-use Rattle.dsql_history.specs.Readers.Calls.{calls, call_record, home, unfinished, is_unfinished, nobody, next_call, is_busy}
+use Rattle.dsql_history.specs.declared.reply.Reply.{Reply}
+use Rattle.dsql_history.specs.declared.reply.Reply.TheVariants as replies
+use Rattle.dsql_history.specs.declared.work.Work.{Work}
+use Rattle.dsql_history.specs.Readers.Lists.{last}
+use Rattle.dsql_history.specs.Readers.Course.{caps, has_ended}
+use Rattle.dsql_history.specs.Readers.Sets.{places, place, idle, is_open, is_idle, is_for, next_tenure, next_number, open_count, all_uses, uses}
+use Rattle.dsql_history.specs.Readers.Works.{work}
+use Rattle.dsql_history.specs.Readers.Unfinished.{unfinished, is_unfinished}
+use Rattle.dsql_history.specs.Readers.Calls.{calls, call_record, home, nobody, reply_due, sender, user}
+use Rattle.dsql_history.specs.Readers.Journals.{journal, heard_in, ends_invalid}
+use Rattle.dsql_history.specs.Rules.Limit.{room}
+use Rattle.dsql_history.specs.Rules.Line.{Asked, aim_of, due, line_after, body_after, asked_by, wish, wish_of, is_reset_due}
+use Rattle.dsql_history.specs.Rules.Replies.{is_done_on, has_let_go, has_cause}
 use Rattle.dsql_history.specs.Rules.Settled.{Settled, is_under_way}
 use Rattle.dsql_history.specs.Legal.{Allowed, Lawful}
-use Rattle.dsql_history.proofs.Rows.{same_to_itself, same_or_not, has-without, has_push, row_at, row_off, row_new, row_old}
+use Rattle.dsql_history.proofs.Rows.{same_to_itself, same_or_not, row_at, row_off, row_new, row_old}
 use Rattle.dsql_history.proofs.SoundSets.{sound_sets}
-use Rattle.dsql_history.proofs.SoundCalls.{sound_calls}
+use Rattle.dsql_history.proofs.SoundCalls.{sound_calls, own_sender}
+use Rattle.dsql_history.proofs.SoundLines.{sound_journals, lent_for}
+use Rattle.dsql_history.proofs.Standing.{good_now}
 use Rattle.dsql_history.proofs.JournalLaws.{fresh_lending}
-use Rattle.dsql_history.specs.declared.event.Op.{Op}
-use Rattle.dsql_history.specs.declared.reply.Reply.TheVariants as replies
-use Rattle.dsql_history.specs.Readers.Course.{caps}
-use Rattle.dsql_value.specs.Arguments.{first_fault, params_of}
-use Rattle.dsql_history.specs.declared.reply.Reply.{Reply}
-use Rattle.dsql_history.specs.Readers.Calls.{statement, arguments, params_at_entry, refused_at_entry, reply_due}
-use Rattle.dsql_engine.specs.Statements.{statement_of}
-use Rattle.dsql_history.specs.Rules.Limit.{room}
-use Rattle.dsql_driver.specs.declared.call.DriverCall.TheVariants.{Reset}
-use Rattle.dsql_history.specs.Readers.Calls.{destinations}
-use Rattle.dsql_history.specs.Readers.Journals.{heard_in}
-use Rattle.dsql_history.specs.Rules.Line.{Asked, due, line_after, body_after, asked_by, reads_row, is_reset_due}
-use Rattle.dsql_engine.specs.Made.{made}
-use Rattle.dsql_engine.proofs.Exchanged.{made_lent}
-use Rattle.dsql_engine.proofs.Keeping.{line_first}
 use Rattle.dsql_engine.specs.Freshly.{Freshly}
 use Rattle.dsql_engine.specs.Latest.{latest}
+use Rattle.dsql_engine.specs.Turns.{SettledBut, IsAlone}
+use Rattle.dsql_engine.specs.Made.{all_made, made}
 use Rattle.dsql_engine.specs.Groups.{lent_to}
-use Rattle.dsql_engine.proofs.Basics.{may_reply, not_first, follows_placed, all_of, used_of, way_of}
-use Rattle.dsql_engine.proofs.Moving.{way_by, way_with, not_at, row_of, some_number, few_without, none_without}
-
-pub may_enter : (H : List Event) (client n : ℕ) (op : Op) → Settled H → is_empty H ≡ false → n ≡ next_call H → is_busy client H ≡ false → Allowed H (Entered client n op)
-unfolding Allowed
-may_enter H client n op s b e free = record {
-  course = rw (not_first H (Entered client n op) b refl) refl;
-  numbers = rw (e, same_to_itself (next_call H), free) refl;
-  sets = refl;
-  limit = refl;
-  asking = refl;
-  order = rw (follows_placed H (Entered client n op) s.placed) refl;
-  causes = refl;
-  line = refl;
-  journals = refl;
-  replies = refl;
-}
-
-earlier_ones : (ns : List ℕ) (m n : ℕ) → m ≢ n → has m (ns ++ n ∷ []) ≡ true → has m ns ≡ true
-earlier_ones ns m n off h = grind (arith, nat_tests, has_push m n ns)
-
--- the record of a call that enters
-abbrev entered_record : List Event → ℕ → Op → CallRecord
-entered_record H client op = record { client = client; home = 0; text = statement op; params = params_at_entry (caps H) op; dests = destinations op; decided = refused_at_entry (caps H) op }
-
-pub freshly : (H : List Event) (client n : ℕ) (op : Op) → Settled H → n ≡ next_call H → Freshly (Entered client n op ∷ H) n
-freshly H client n op s e =
-    let G : List Event = Entered client n op ∷ H in
-    let new : CallRecord = entered_record H client op in
-    record {
-      begun = refl;
-      placed = refl;
-      entered = grind (arith, nat_tests, has_push n n (unfinished H));
-      homeless = ap (λ (r : CallRecord). r.home) (row_new (calls H) new n nobody e);
-      others = λ m off u. way_by H G m (row_old (calls H) new m nobody (λ z. off (z ∙ sym e))) refl (way_of H s m (earlier_ones (unfinished H) m n off u));
-      few = s.few;
-      none = s.none;
-    }
-
--- what is settled as it enters
-pub reply_entered : (H : List Event) (client n : ℕ) (op : Op) → n ≡ next_call H → reply_due (Entered client n op ∷ H) n ≡ refused_at_entry (caps H) op
-reply_entered H client n op e = ap (λ (r : CallRecord). r.decided) (row_new (calls H) (entered_record H client op) n nobody e)
-
-pub statement_entered : (H : List Event) (client n : ℕ) (op : Op) → n ≡ next_call H → first_fault (caps H).named (arguments op) ≡ None
-    → statement_of (call_record (Entered client n op ∷ H) n) ≡ record { text = statement op; params = params_of (arguments op); reads = reads_row (destinations op) }
-statement_entered H client n op e accepted =
-    ap (λ (r : CallRecord). statement_of r) (row_new (calls H) (entered_record H client op) n nobody e) ∙ rw accepted refl
-
--- a call whose arguments are refused may reply so
-pub may_tell_entered : (H : List Event) (client n : ℕ) (op : Op) (r : Reply) → Lawful (Entered client n op ∷ H) → Freshly (Entered client n op ∷ H) n → reply_due (Entered client n op ∷ H) n ≡ Some r
-    → Allowed (Entered client n op ∷ H) (Replied n r)
-may_tell_entered H client n op r l f due =
-    let z = sound_sets (Entered client n op ∷ H) l in
-    may_reply (Entered client n op ∷ H) n r refl refl f.entered (rw (f.homeless, z.no_zero) refl) due
+use Rattle.dsql_engine.proofs.Basics.{not_first, follows_placed, all_of}
+use Rattle.dsql_engine.proofs.Moving.{row_of, some_number, few_without, none_without}
+use Rattle.dsql_engine.proofs.Using.{home_decided, SameLending, user_own, used_off, used_all, used_told, way_as, way_at, way_off, ways_told}
 
 last_in : (x : ℕ) (ns : List ℕ) → has (last (x ∷ ns)) (x ∷ ns) ≡ true
 last_in x [] = rw (same_to_itself x) refl
@@ -123,7 +75,7 @@ may_lend_idle H c n f undecided is at running =
       numbers = refl;
       sets = rw (is, same_to_itself (next_tenure H c), same_to_itself n) refl;
       limit = refl;
-      asking = rw (is, f.entered, f.homeless, undecided, running, at, same_to_itself c) refl;
+      asking = rw (is, f.entered, f.asks, f.homeless, undecided, running, at, same_to_itself c) refl;
       order = rw (follows_placed H e f.placed, is) refl;
       causes = refl;
       line = refl;
@@ -134,38 +86,109 @@ may_lend_idle H c n f undecided is at running =
 pub lent_now : (H : List Event) (c n : ℕ) (p : Place) → place H c ≡ p → is_open p ≡ true → place (lent_to H c n) c ≡ Lent (next_tenure H c) (Call n)
 lent_now H c n p is there = row_at (places H) c (Lent (next_tenure H c) (Call n)) Nowhere (row_of H c p is there)
 
-pub settled_lend_idle : (H : List Event) (c n : ℕ) → Lawful H → Freshly H n → place H c ≡ Idle → Lawful (lent_to H c n) → Settled (lent_to H c n)
+-- a connection to which a call came that has none yet isn't that call's
+not_fresh : (H : List Event) (n d k : ℕ) (p : Place) → Lawful H → Freshly H n → place H d ≡ p → is_open p ≡ true → home H k ≡ d → k ≢ n
+not_fresh H n d k p l f is there at same = some_number H d p l is there (sym at ∙ (ap (home H) same ∙ f.homeless))
+
+-- a call with another home has what it had
+home_record : (H : List Event) (n c k : ℕ) → k ≢ n → get_or (set (calls H) n (record (get_or (calls H) n nobody) { home = c })) k nobody ≡ call_record H k
+home_record H n c k off = row_off (calls H) n (record (get_or (calls H) n nobody) { home = c }) k nobody off
+
+abbrev asking : CallRecord → Work → Asked
+asking r it = record { text = r.text; params = r.params; aim = aim_of it }
+
+no_home : (h : ℕ) (b : Bool) → h ≡ 0 → (not (h == 0) && b) ≡ true → ⊥
+no_home zero b none w = cc
+no_home (suc h) b none w = absurd (omega arith)
+
+-- what asks has rows of no other call to work on, so it alone uses its own connection
+uses_own : (H : List Event) (n m : ℕ) → Freshly H n → m ≢ n → is_unfinished H m ≡ true → user H m ≢ n
+uses_own H n m f off u same =
+    no_home (home H (user H m)) (is_for (user H m) (place H (home H (user H m))) || (not (is_open (place H (home H (user H m)))) && is_some (reply_due H m))) (ap (home H) same ∙ f.homeless) (f.others m off u)
+
+lending_apart : (H : List Event) (c n d t k : ℕ) → Lawful H → Freshly H n → d ≢ c → place H d ≡ Lent t (Call k) → SameLending H (lent_to H c n) t k
+lending_apart H c n d t k l f off is =
+    let q = sound_calls H l in
+    let at : home H k ≡ d = q.at_home d k (lent_for H d t k is) in
+    let other : k ≢ n = not_fresh H n d k (Lent t (Call k)) l f is refl at in
+    record {
+      unfinished = refl;
+      homes = ap (λ (r : CallRecord). r.home) (home_record H n c k other);
+      can = refl;
+      reset = ap (λ u. (caps H).resetter && nat_le 2 u) (row_off (all_uses H) c (uses H c + 1) (home H k) 0 (λ e. off (sym at ∙ e)));
+      asked = ap (λ (r : CallRecord). asking r (work H k)) (home_record H n c k other);
+      works = refl;
+      wished = ap (λ x. wish_of (has_ended H) (work H (sender H k)) x) (home_decided (calls H) n c (sender H k));
+      heard = refl;
+    }
+
+pub settled_lend_idle : (H : List Event) (c n : ℕ) → Lawful H → Freshly H n → place H c ≡ Idle → Lawful (lent_to H c n) → SettledBut (lent_to H c n) c
 settled_lend_idle H c n l f is lawful =
     let G : List Event = lent_to H c n in
     let q = sound_calls G lawful in
     let mine : is_for n (place G c) ≡ true = rw (lent_now H c n Idle is refl) (same_to_itself n) in
     record {
       placed = refl;
-      used = used_of G lawful;
+      used = used_off H G c q (λ d off. row_off (places H) c (Lent (next_tenure H c) (Call n)) d Nowhere off) (λ d off. f.used d) (λ d t k off at. lending_apart H c n d t k l f off at);
       under_way = all_of (is_under_way G) (unfinished G)
-          (λ m h.
+          (λ m u.
           elim (same_or_not m n) [
-            | inl e ↦ subst (λ (k : ℕ). is_under_way G k ≡ true) (sym e) (way_with G c n (q.at_home c n mine) (some_number H c Idle l is refl) mine)
-            | inr off ↦ way_by H G m (row_off (calls H) n (record (get_or (calls H) n nobody) { home = c }) m nobody off)
-                (row_off (places H) c (Lent (next_tenure H c) (Call n)) (home H m) Nowhere (not_at H c m Idle is refl refl (f.others m off h))) (f.others m off h)
+            | inl e ↦ subst (λ (k : ℕ). is_under_way G k ≡ true) (sym e) (way_at G c n n (user_own G n f.asks) (q.at_home c n mine) (some_number H c Idle l is refl) mine)
+            | inr off ↦
+                way_as H G m refl (ap (λ (r : CallRecord). r.home) (home_record H n c (user H m) (uses_own H n m f off u)))
+                (row_off (places H) c (Lent (next_tenure H c) (Call n)) (home H (user H m)) Nowhere (way_off H c m Idle is refl refl (f.others m off u)))
+                (ap (λ x. is_some x) (home_decided (calls H) n c m)) (f.others m off u)
           ]);
       few = few_without H c f.few;
       none = none_without H c f.none;
     }
 
+pub alone_lent : (H : List Event) (c n : ℕ) → Freshly H n → IsAlone (lent_to H c n) n
+alone_lent H c n f = λ m u is.
+    elim (same_or_not m n) [
+      | inl e ↦ own_sender (lent_to H c n) n f.entered ∙ sym e
+      | inr off ↦ absurd (uses_own H n m f off u is)
+    ]
+
 -- what is due on a connection that was just lent
-pub due_fresh : (H : List Event) (c n : ℕ) → Lawful H → is_unfinished H n ≡ true → Lawful (lent_to H c n)
-    → place (lent_to H c n) c ≡ Lent (next_tenure H c) (Call n)
-    → due (lent_to H c n) c (next_tenure H c) n ≡ cond (is_reset_due (lent_to H c n) c) (Some Reset) (body_after (caps H) (asked_by (call_record H n)) (made (lent_to H c n) c))
-due_fresh H c n l u lawful is =
+
+cleared : (xs : List (List Exchange)) (c : ℕ) → get_or (set xs c []) c [] ≡ []
+cleared [] c = refl
+cleared (x ∷ xs) zero = refl
+cleared (x ∷ xs) (suc c) = cleared xs c
+
+line_fresh : (can : Caps) (reset : Bool) (asked : Asked) (w : Wish) (L : List Entry) (m : List Exchange) → L ≡ [] → m ≡ []
+    → line_after can reset asked w L ≡ cond reset (Some Reset) (body_after can asked w m)
+line_fresh can reset asked w L m none empty = rw (none, empty) refl
+
+pub asked_lent : (H : List Event) (c n : ℕ) → Lawful H → Freshly H n → asked_by (lent_to H c n) n ≡ asked_by H n
+asked_lent H c n l f =
     let q = sound_calls H l in
-    let w = q.within n u in
-    let same : asked_by (call_record (lent_to H c n) n) ≡ asked_by (call_record H n) =
-    ap (λ (r : CallRecord). asked_by r) (row_at (calls H) n (record (get_or (calls H) n nobody) { home = c }) nobody w.1) in
+    let w = q.within n f.entered in
+    ap (λ (r : CallRecord). asking r (work H n)) (row_at (calls H) n (record (get_or (calls H) n nobody) { home = c }) nobody w.1)
+
+pub due_fresh : (H : List Event) (c n : ℕ) → Lawful H → Freshly H n → Lawful (lent_to H c n)
+    → due (lent_to H c n) c (next_tenure H c) n
+    ≡ cond (is_reset_due (lent_to H c n) c) (Some Reset) (body_after (caps (lent_to H c n)) (asked_by H n) (wish (lent_to H c n) n) (made (lent_to H c n) c))
+due_fresh H c n l f lawful =
     let G : List Event = lent_to H c n in
-    let t : ℕ = next_tenure H c in
-    ap (λ (a : Asked). line_after (caps H) (is_reset_due G c) a (heard_in G c t)) same
-    ∙ line_first (caps H) (is_reset_due G c) (asked_by (call_record H n)) (heard_in G c t) (made G c) (fresh_lending H c t n lawful) (made_lent G lawful c t n is)
+    ap (λ a. line_after (caps G) (is_reset_due G c) a (wish G n) (heard_in G c (next_tenure H c))) (asked_lent H c n l f)
+    ∙ line_fresh (caps G) (is_reset_due G c) (asked_by H n) (wish G n) (heard_in G c (next_tenure H c)) (made G c) (fresh_lending H c (next_tenure H c) n lawful) (cleared (all_made H) c)
+
+-- so it is what is sent first
+pub first_fresh : (H : List Event) (c n : ℕ) (asked : Asked) → Lawful H → Freshly H n → Lawful (lent_to H c n) → asked ≡ asked_by H n
+    → cond (is_reset_due (lent_to H c n) c) (Some Reset) (body_after (caps (lent_to H c n)) asked (wish (lent_to H c n) n) (made (lent_to H c n) c)) ≡ due (lent_to H c n) c (next_tenure H c) n
+first_fresh H c n asked l f lawful same =
+    let G : List Event = lent_to H c n in
+    ap (λ a. cond (is_reset_due G c) (Some Reset) (body_after (caps G) a (wish G n) (made G c))) same ∙ sym (due_fresh H c n l f lawful)
+
+-- a connection on which nothing was heard since it was lent is good
+pub good_fresh : (H : List Event) (c t n : ℕ) → Lawful H → place H c ≡ Lent t (Call n) → heard_in H c t ≡ [] → (went_bad (journal H c) ≡ false) × (ends_invalid (journal H c) ≡ false)
+good_fresh H c t n l is none =
+    let q = sound_journals H l in
+    let s = rw is at (q.stands c) in
+    let v = s.serves in
+    good_now (journal H c) (v.good (rw none refl))
 
 pub may_open_new : (H : List Event) (n : ℕ) → Freshly H n → reply_due H n ≡ None → idle H ≡ [] → has_ended H ≡ false → nat_lt (open_count H) room ≡ true → Allowed H (Pool (OpenStart (next_number H) n))
 unfolding Allowed
@@ -176,12 +199,34 @@ may_open_new H n f undecided none running more =
       numbers = refl;
       sets = rw (same_to_itself (next_number H)) refl;
       limit = more;
-      asking = rw (f.entered, f.homeless, undecided, running, none) refl;
+      asking = rw (f.entered, f.asks, f.homeless, undecided, running, none) refl;
       order = rw (follows_placed H e f.placed) refl;
       causes = refl;
       line = refl;
       journals = refl;
       replies = refl;
+    }
+
+one_more_use : (us : List ℕ) (d : ℕ) → get_or (us ++ 0 ∷ []) d 0 ≡ get_or us d 0
+one_more_use [] zero = refl
+one_more_use [] (suc d) = refl
+one_more_use (u ∷ us) zero = refl
+one_more_use (u ∷ us) (suc d) = one_more_use us d
+
+lending_beside : (H : List Event) (c n d t k : ℕ) → Lawful H → Freshly H n → place H d ≡ Lent t (Call k) → SameLending H (Pool (OpenStart c n) ∷ H) t k
+lending_beside H c n d t k l f is =
+    let q = sound_calls H l in
+    let at : home H k ≡ d = q.at_home d k (lent_for H d t k is) in
+    let other : k ≢ n = not_fresh H n d k (Lent t (Call k)) l f is refl at in
+    record {
+      unfinished = refl;
+      homes = ap (λ (r : CallRecord). r.home) (home_record H n c k other);
+      can = refl;
+      reset = ap (λ u. (caps H).resetter && nat_le 2 u) (one_more_use (all_uses H) (home H k));
+      asked = ap (λ (r : CallRecord). asking r (work H k)) (home_record H n c k other);
+      works = refl;
+      wished = ap (λ x. wish_of (has_ended H) (work H (sender H k)) x) (home_decided (calls H) n c (sender H k));
+      heard = refl;
     }
 
 pub settled_open_new : (H : List Event) (n : ℕ) → Lawful H → Freshly H n → Lawful (Pool (OpenStart (next_number H) n) ∷ H) → Settled (Pool (OpenStart (next_number H) n) ∷ H)
@@ -195,13 +240,14 @@ settled_open_new H n l f lawful =
     let mine : is_for n (place G c) ≡ true = rw here (same_to_itself n) in
     record {
       placed = refl;
-      used = used_of G lawful;
+      used = used_all G c (used_off H G c q (λ d off. row_old (places H) (Opening n) d Nowhere off) (λ d off. f.used d) (λ d t j off at. lending_beside H c n d t j l f at)) (rw here f.entered);
       under_way = all_of (is_under_way G) (unfinished G)
-          (λ m h.
+          (λ m u.
           elim (same_or_not m n) [
-            | inl e ↦ subst (λ (j : ℕ). is_under_way G j ≡ true) (sym e) (way_with G c n (q.at_home c n mine) (λ o. omega (arith, z.some_row)) mine)
-            | inr off ↦ way_by H G m (row_off (calls H) n (record (get_or (calls H) n nobody) { home = c }) m nobody off)
-                (row_old (places H) (Opening n) (home H m) Nowhere (λ o. omega (arith, k.homes m))) (f.others m off h)
+            | inl e ↦ subst (λ (j : ℕ). is_under_way G j ≡ true) (sym e) (way_at G c n n (user_own G n f.asks) (q.at_home c n mine) (λ o. omega (arith, z.some_row)) mine)
+            | inr off ↦
+                way_as H G m refl (ap (λ (r : CallRecord). r.home) (home_record H n c (user H m) (uses_own H n m f off u)))
+                (row_old (places H) (Opening n) (home H (user H m)) Nowhere (λ o. omega (arith, k.homes (user H m)))) (ap (λ x. is_some x) (home_decided (calls H) n c m)) (f.others m off u)
           ]);
       few = f.few;
       none = f.none;
@@ -210,10 +256,24 @@ settled_open_new H n l f lawful =
 above : (a b : ℕ) → nat_lt a b ≡ false → nat_le b a ≡ true
 above a b h = grind (arith, nat_tests)
 
+done_nowhere : (H : List Event) (m k : ℕ) (p : Place) → p ≡ Nowhere → is_done_on H m k p ≡ true
+done_nowhere H m k p h = rw h refl
+
+-- a call without a connection has let it go
+pub let_go_homeless : (H : List Event) (m : ℕ) → Lawful H → user H m ≡ m → home H m ≡ 0 → has_let_go H m ≡ true
+let_go_homeless H m l own none =
+    let z = sound_sets H l in
+    done_nowhere H m (user H m) (place H (home H (user H m))) (ap (place H) (ap (home H) own ∙ none) ∙ z.no_zero)
+
+and_both : (a b : Bool) → a ≡ true → b ≡ true → (a && b) ≡ true
+and_both a b h k = rw (h, k) refl
+
+in_vain : (H : List Event) (n : ℕ) → Freshly H n → reply_due H n ≡ None → idle H ≡ [] → nat_lt (open_count H) room ≡ false → has_cause H n replies.TooMany ≡ true
+in_vain H n f undecided none full = rw (f.asks, f.homeless, undecided, none, above (open_count H) room full) refl
+
 pub may_refuse : (H : List Event) (n : ℕ) → Lawful H → Freshly H n → reply_due H n ≡ None → idle H ≡ [] → nat_lt (open_count H) room ≡ false → Allowed H (Replied n replies.TooMany)
 unfolding Allowed
 may_refuse H n l f undecided none full =
-    let z = sound_sets H l in
     let e : Event = Replied n replies.TooMany in
     record {
       course = rw (not_first H e f.begun refl) refl;
@@ -225,26 +285,18 @@ may_refuse H n l f undecided none full =
       causes = refl;
       line = refl;
       journals = refl;
-      replies = rw (f.homeless, z.no_zero, undecided, none, above (open_count H) room full) refl;
+      replies = and_both (has_let_go H n) (has_cause H n replies.TooMany) (let_go_homeless H n l (user_own H n f.asks) f.homeless) (in_vain H n f undecided none full);
     }
 
-others_unfinished : (n m : ℕ) (ns : List ℕ) → has m (without n ns) ≡ true → (m ≢ n) × (has m ns ≡ true)
-others_unfinished n m ns h = other_when n m (has m ns) (sym (has-without m n ns) ∙ h)
-  where
-    other_when : (n m : ℕ) (b : Bool) → (not (m == n) && b) ≡ true → (m ≢ n) × (b ≡ true)
-    other_when n m false h = absurd (grind (arith, nat_tests))
-    other_when n m true h = (λ e. grind (arith, nat_tests), refl)
-
-pub settled_refused : (H : List Event) (n : ℕ) (r : Reply) → Freshly H n → Lawful (Replied n r ∷ H) → Settled (Replied n r ∷ H)
-settled_refused H n r f lawful =
-    let G : List Event = Replied n r ∷ H in
+pub settled_refused : (H : List Event) (n : ℕ) (r : Reply) → Lawful H → Freshly H n → Lawful (Replied n r ∷ H) → Settled (Replied n r ∷ H)
+settled_refused H n r l f lawful =
+    let z = sound_sets H l in
+    let q = sound_calls H l in
+    let w = q.within n f.entered in
     record {
       placed = refl;
-      used = used_of G lawful;
-      under_way = all_of (is_under_way G) (unfinished G)
-          (λ m h.
-          let o = others_unfinished n m (unfinished H) h in
-          way_by H G m (row_off (calls H) n (record (get_or (calls H) n nobody) { decided = None }) m nobody o.0) refl (f.others m o.0 o.1));
+      used = used_told H n r n 0 lawful (user_own H n f.asks) f.homeless (λ e. omega (arith, e, w.0)) (λ d off. f.used d) (rw z.no_zero refl);
+      under_way = ways_told H n r f.others;
       few = f.few;
       none = f.none;
     }

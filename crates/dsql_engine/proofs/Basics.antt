@@ -10,9 +10,9 @@ use Rattle.dsql_history.specs.declared.event.Event.TheVariants.{Run, Entered, He
 use Rattle.dsql_history.specs.declared.record.Place.{Place}
 use Rattle.dsql_history.specs.declared.record.Place.TheVariants.{Nowhere, Opening, Idle, Lent, Closing}
 use Rattle.dsql_history.specs.declared.reply.Reply.{Reply}
-use Rattle.dsql_history.specs.Readers.Sets.{places, place, is_open, is_opening, is_closing, number_of}
-use Rattle.dsql_history.specs.Readers.Calls.{unfinished, is_unfinished}
-use Rattle.dsql_history.specs.Rules.Settled.{Settled, is_placed, is_in_use, uses_what_is_lent, is_under_way}
+use Rattle.dsql_history.specs.Readers.Sets.{place, is_open, is_opening, is_closing}
+use Rattle.dsql_history.specs.Readers.Unfinished.{unfinished, is_unfinished}
+use Rattle.dsql_history.specs.Rules.Settled.{Settled, is_placed, is_under_way}
 use Rattle.dsql_history.specs.Legal.{Allowed, Lawful}
 use Rattle.dsql_value.specs.declared.value.Value.{Value}
 use Rattle.dsql_value.specs.declared.value.Value.TheVariants as values
@@ -22,17 +22,17 @@ use Rattle.dsql_scan.specs.declared.cell.Cell.{Cell}
 use Rattle.dsql_scan.specs.declared.cell.Cell.TheVariants as cells
 use Rattle.dsql_history.specs.declared.reply.FaultWord.{FaultWord}
 use Rattle.dsql_history.specs.declared.reply.FaultWord.TheVariants as words
-use Rattle.dsql_history.specs.Readers.Sets.{is_for}
-use Rattle.dsql_history.specs.Readers.Calls.{home, reply_due}
+use Rattle.dsql_history.specs.Readers.Calls.{reply_due}
+use Rattle.dsql_rows.specs.declared.end.RowsOver.{RowsOver}
+use Rattle.dsql_rows.specs.declared.end.RowsOver.TheVariants as overs
 use Rattle.dsql_engine.specs.Groups.{told, reply_as}
 use Rattle.dsql_driver.specs.Fits.{fits_of, is_memory}
 use Rattle.dsql_journal.specs.HandlesAndCursors.{fits_at_its_place, is_heard, is_fitting, gives_new_handle, gives_new_cursor, has_width_of_cursor}
 use Rattle.dsql_journal.proofs.Conjunctions.{parts5}
 use Rattle.dsql_history.proofs.Rows.{same_to_itself, not_true}
-use Rattle.dsql_history.proofs.SoundCalls.{sound_calls}
 use Rattle.dsql_history.specs.Rules.Course.{begins_with_run, is_run}
 use Rattle.dsql_history.specs.Rules.Order.{follows, follows_answer}
-use Rattle.dsql_history.specs.Rules.Replies.{same_reply, same_word}
+use Rattle.dsql_history.specs.Rules.Replies.{same_reply, same_word, same_over, same_columns, has_let_go}
 use Rattle.dsql_history.specs.declared.reply.Reply.TheVariants as replies
 use Rattle.std.specs.Prelude.{bytes_eq, ℤ}
 use Rattle.std.specs.Ordering.{int_eq}
@@ -87,17 +87,6 @@ all_places p (x ∷ ps) h =
     let hs : list_all p ps ≡ true = all_places p ps (λ c. h (suc c)) in
     rw (hx, hs) refl
 
-in_use_at : (H : List Event) (c : ℕ) (p : Place) → Lawful H → place H c ≡ p → is_in_use H p ≡ true
-in_use_at H c Nowhere l is = refl
-in_use_at H c (Opening n) l is = let s = sound_calls H l in s.unfinished_ones c n (rw is (same_to_itself n))
-in_use_at H c Idle l is = refl
-in_use_at H c (Lent t o) l is = let s = sound_calls H l in s.unfinished_ones c (number_of o) (rw is (same_to_itself (number_of o)))
-in_use_at H c Closing l is = refl
-
--- whatever is lent or opened in a lawful history is used by an unfinished call
-pub used_of : (H : List Event) → Lawful H → uses_what_is_lent H ≡ true
-used_of H l = all_places (is_in_use H) (places H) (λ c. in_use_at H c (place H c) l refl)
-
 -- each unfinished call is under way
 pub way_of : (H : List Event) → Settled H → (n : ℕ) → is_unfinished H n ≡ true → is_under_way H n ≡ true
 way_of H s n h = each_of (is_under_way H) (unfinished H) s.under_way n h
@@ -134,9 +123,23 @@ word_same words.NotABool = refl
 word_same words.NotUtf8 = refl
 word_same words.Unsupported = refl
 
+over_same : (by : RowsOver) → same_over by by ≡ true
+over_same overs.Close = refl
+over_same overs.EndOfRows = refl
+over_same overs.Failed = refl
+over_same overs.BadConn = refl
+over_same overs.EndOfRun = refl
+
+columns_same : (columns : List (List ℕ)) → same_columns columns columns ≡ true
+columns_same [] = refl
+columns_same (column ∷ columns) = rw (bytes_same column) (columns_same columns)
+
 -- a reply is like itself
 pub reply_same : (r : Reply) → same_reply r r ≡ true
 reply_same (replies.Result l a) = rw (ints_same l, ints_same a) refl
+reply_same replies.Ok = refl
+reply_same (replies.Rows columns) = columns_same columns
+reply_same (replies.Truth truth) = truth_same truth
 reply_same (replies.Cells cells) = cells_same cells
 reply_same (replies.Driver t) = bytes_same t
 reply_same (replies.BadConn n) = same_to_itself n
@@ -144,6 +147,9 @@ reply_same (replies.NumArgs want got) = rw (same_to_itself want, same_to_itself 
 reply_same (replies.HighBit n) = same_to_itself n
 reply_same (replies.NamedRefused name) = bytes_same name
 reply_same (replies.BadName name) = bytes_same name
+reply_same (replies.Absent label) = bytes_same label
+reply_same (replies.RowsClosed by) = over_same by
+reply_same replies.NoNextYet = refl
 reply_same replies.NoRows = refl
 reply_same (replies.DestCount want got) = rw (same_to_itself want, same_to_itself got) refl
 reply_same (replies.Scan column fault) = rw (same_to_itself column) (word_same fault)
@@ -166,7 +172,7 @@ params_same [] = refl
 params_same (p ∷ ps) = rw (name_same p.name, value_same p.value) (params_same ps)
 
 -- the call may reply what is settled, where it has let its connection go
-pub may_reply : (H : List Event) (n : ℕ) (r : Reply) → is_empty H ≡ false → is_placed H ≡ true → is_unfinished H n ≡ true → is_for n (place H (home H n)) ≡ false → reply_due H n ≡ Some r
+pub may_reply : (H : List Event) (n : ℕ) (r : Reply) → is_empty H ≡ false → is_placed H ≡ true → is_unfinished H n ≡ true → has_let_go H n ≡ true → reply_due H n ≡ Some r
     → Allowed H (Replied n r)
 unfolding Allowed
 may_reply H n r b placed u free due = record {

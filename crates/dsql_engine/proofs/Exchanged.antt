@@ -1,7 +1,5 @@
 -- What was exchanged on each lent connection, as the desk keeps it, is what its tenure holds.
-use Rattle.std.proofs.Common.{◌≡◌, ◌≢◌, ℕ, ◌<◌, ◌≤◌, ◌==◌, ◌⊎◌, inl, inr, Bool, true, false, not, ◌&&◌, ◌||◌, cond, List, [], ◌∷◌, ◌++◌, length, length-set, get_or, set, refl, arith, sym, ap, subst, zero, suc, ◌∙◌}
-use Rattle.std.proofs.lemmas.Bool.Decides.{nat_tests}
-use Rattle.dsql_course.specs.Made.{Exchange}
+use Rattle.std.proofs.Common.{◌≡◌, ◌≢◌, ℕ, ◌<◌, ◌≤◌, ◌==◌, ◌⊎◌, inl, inr, true, not, ◌&&◌, ◌||◌, List, [], ◌∷◌, ◌++◌, length, length-set, get_or, set, refl, arith, sym, ap, subst, zero, suc, ◌∙◌}
 use Rattle.dsql_journal.specs.declared.entry.Entry.{Entry}
 use Rattle.dsql_journal.specs.declared.entry.Owner.{Owner}
 use Rattle.dsql_journal.specs.declared.entry.Owner.TheVariants.{Call}
@@ -13,24 +11,27 @@ use Rattle.dsql_history.specs.declared.event.Move.TheVariants.{OpenStart, Lend, 
 use Rattle.dsql_history.specs.declared.record.Place.{Place}
 use Rattle.dsql_history.specs.declared.record.Place.TheVariants.{Nowhere, Opening, Idle, Lent, Closing}
 use Rattle.dsql_history.specs.Readers.Sets.{places, place, is_open}
-use Rattle.dsql_history.specs.Readers.Calls.{calls}
+use Rattle.dsql_history.specs.Readers.Calls.{sender}
 use Rattle.dsql_history.specs.Readers.Journals.{heard_in}
 use Rattle.dsql_history.specs.Readers.Exchanges.{exchanges, step_of, with_exchange}
 use Rattle.dsql_history.specs.Rules.Moves.{hears_in}
-use Rattle.dsql_history.specs.Legal.{Allowed, Lawful}
-use Rattle.dsql_history.proofs.Rows.{both, same_number, same_to_itself, other_number, read_set, read_push, same_or_not, row_at, row_off, row_old, length_push}
-use Rattle.dsql_history.proofs.SoundCalls.{sound_calls, lend_facts, owner_of}
+use Rattle.dsql_history.specs.Legal.{Lawful}
+use Rattle.dsql_history.proofs.Rows.{both, same_number, read_set, read_push, same_or_not, row_at, row_off, row_old, length_push, within_rows}
+use Rattle.dsql_history.proofs.SoundCalls.{lend_facts, owner_of}
 use Rattle.dsql_history.proofs.SoundJournals.{heard_facts}
-use Rattle.dsql_history.proofs.SoundLines.{lent_for, placed, tenure_of, heard_here, heard_off}
+use Rattle.dsql_history.proofs.SoundLines.{placed, tenure_of, heard_here, heard_off}
 use Rattle.dsql_history.proofs.JournalLaws.{fresh_lending}
 use Rattle.dsql_engine.specs.Made.{all_made, made}
-use Rattle.dsql_engine.proofs.Moving.{row_of}
+
+row_when : (H : List Event) (c : ℕ) (p : Place) → (c < length (places H)) ⊎ ((length (places H) ≤ c) × (get_or (places H) c Nowhere ≡ Nowhere)) → place H c ≡ p → is_open p ≡ true → c < length (places H)
+row_when H c p (inl l) is there = l
+row_when H c p (inr b) is there = absurd (cc (ap is_open (sym b.1 ∙ is), there))
+
+-- a connection that stands somewhere has a row
+pub row_of : (H : List Event) (c : ℕ) (p : Place) → place H c ≡ p → is_open p ≡ true → c < length (places H)
+row_of H c p is there = row_when H c p (within_rows (places H) c Nowhere) is there
 
 -- there is a row for each connection
-
-heard_rows : (b : Bool) (rows : List (List Exchange)) (c k : ℕ) (row : List Exchange) → length rows ≡ k → length (cond b rows (set rows c row)) ≡ k
-heard_rows true rows c k row h = h
-heard_rows false rows c k row h = length-set rows c row ∙ h
 
 push_rows : {A : Type 0} {B : Type 0} (xs : List A) (x : A) (ys : List B) (y : B) → length xs ≡ length ys → length (xs ++ x ∷ []) ≡ length (ys ++ y ∷ [])
 push_rows xs x ys y h = grind (arith, length_push xs x, length_push ys y, h)
@@ -43,8 +44,7 @@ made_rows (Pool (Back c) ∷ H) = made_rows H ∙ sym (length-set (places H) c I
 made_rows (Pool (CloseStart c why) ∷ H) = made_rows H ∙ sym (length-set (places H) c Closing)
 made_rows (Pool (Gone c) ∷ H) = made_rows H ∙ sym (length-set (places H) c Nowhere)
 made_rows (Pool (Fell c n) ∷ H) = made_rows H ∙ sym (length-set (places H) c Nowhere)
-made_rows (Heard e ∷ H) =
-    heard_rows (e.call_no == 0) (all_made H) e.conn (length (places H)) (with_exchange (step_of e.call) e.answer (get_or (all_made H) e.conn [])) (made_rows H)
+made_rows (Heard e ∷ H) = length-set (all_made H) e.conn (with_exchange (step_of e.call) e.answer (get_or (all_made H) e.conn [])) ∙ made_rows H
 made_rows (_ ∷ H) = made_rows H
 
 abbrev AllKept : List Event → Type 0
@@ -101,45 +101,28 @@ kept_move H (CloseStart d k) l all c t n is = kept_moved H (CloseStart d k) d c 
 kept_move H (Gone d) l all c t n is = kept_moved H (Gone d) d c t n Nowhere all (λ h. absurd cc) refl refl is
 kept_move H (Fell d k) l all c t n is = kept_moved H (Fell d k) d c t n Nowhere all (λ h. absurd cc) refl refl is
 
--- an answer on another connection leaves the row
-other_row : (b : Bool) (rows : List (List Exchange)) (d c : ℕ) (row : List Exchange) → c ≢ d → get_or (cond b rows (set rows d row)) c [] ≡ get_or rows c []
-other_row true rows d c row apart = refl
-other_row false rows d c row apart = row_off rows d row c [] apart
-
--- and one on this connection adds to it
-own_row : (b : Bool) (rows : List (List Exchange)) (c : ℕ) (row : List Exchange) → b ≡ false → c < length rows → get_or (cond b rows (set rows c row)) c [] ≡ row
-own_row true rows c row h there = absurd cc
-own_row false rows c row h there = row_at rows c row [] there
-
 kept_heard : (H : List Event) (e : Entry) (c t n : ℕ) → Lawful (Heard e ∷ H) → AllKept H → place H c ≡ Lent t (Call n) → made (Heard e ∷ H) c ≡ exchanges (heard_in (Heard e ∷ H) c t)
 kept_heard H e c t n l all is = by_conn (same_or_not e.conn c)
   where
     own : e.conn ≡ c → made (Heard e ∷ H) c ≡ exchanges (heard_in (Heard e ∷ H) c t)
     own same =
         let a = heard_facts H e l.1 in
-        let q = sound_calls H l.0 in
         let hears : hears_in H (Lent t (Call n)) e ≡ true = rw (same, is) at a.fits in
-        let x = both (not (is_connect e.call || is_shut e.call) && (e.tenure == t) && same_owner e.owner (Call n)) (e.call_no == n) hears in
+        let x = both (not (is_connect e.call || is_shut e.call) && (e.tenure == t) && same_owner e.owner (Call n)) (e.call_no == sender H n) hears in
         let y = both (not (is_connect e.call || is_shut e.call) && (e.tenure == t)) (same_owner e.owner (Call n)) x.0 in
         let z = both (not (is_connect e.call || is_shut e.call)) (e.tenure == t) y.0 in
-        let within = q.within n (q.unfinished_ones c n (lent_for H c t n is)) in
-        let number : e.call_no ≡ n = same_number e.call_no n x.1 in
-        let some : (e.call_no == 0) ≡ false = other_number e.call_no 0 (λ k. zero_not (number ∙ refl) within.0 k) in
         let there : e.conn < length (all_made H) = rw (made_rows H, same) (row_of H c (Lent t (Call n)) is refl) in
         let row : made (Heard e ∷ H) e.conn ≡ with_exchange (step_of e.call) e.answer (made H e.conn) =
-        own_row (e.call_no == 0) (all_made H) e.conn (with_exchange (step_of e.call) e.answer (made H e.conn)) some there in
+        row_at (all_made H) e.conn (with_exchange (step_of e.call) e.answer (made H e.conn)) [] there in
         let before : made H e.conn ≡ exchanges (heard_in H c t) = rw same (all c t n is) in
-        let now : exchanges (heard_in (Heard e ∷ H) c t) ≡ with_exchange (step_of e.call) e.answer (exchanges (heard_in H c t)) = ap (λ L. exchanges L) (heard_here H e c t same (same_number e.tenure t z.1)) in
+        let now : exchanges (heard_in (Heard e ∷ H) c t) ≡ with_exchange (step_of e.call) e.answer (exchanges (heard_in H c t)) =
+        ap (λ L. exchanges L) (heard_here H e c t same (same_number e.tenure t z.1)) in
         ap (λ d. made (Heard e ∷ H) d) (sym same) ∙ row ∙ ap (λ m. with_exchange (step_of e.call) e.answer m) before ∙ sym now
-      where
-        zero_not : e.call_no ≡ n → 0 < n → e.call_no ≡ 0 → ⊥
-        zero_not a b d = grind (arith, a, b, d)
 
     by_conn : (e.conn ≡ c) ⊎ (e.conn ≢ c) → made (Heard e ∷ H) c ≡ exchanges (heard_in (Heard e ∷ H) c t)
     by_conn (inl same) = own same
     by_conn (inr apart) =
-        other_row (e.call_no == 0) (all_made H) e.conn c (with_exchange (step_of e.call) e.answer (made H e.conn)) (λ k. apart (sym k)) ∙ all c t n is
-        ∙ ap (λ L. exchanges L) (sym (heard_off H e c t apart))
+        row_off (all_made H) e.conn (with_exchange (step_of e.call) e.answer (made H e.conn)) c [] (λ k. apart (sym k)) ∙ all c t n is ∙ ap (λ L. exchanges L) (sym (heard_off H e c t apart))
 
 start_kept : AllKept []
 start_kept zero t n h = absurd cc

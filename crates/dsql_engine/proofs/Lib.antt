@@ -1,6 +1,10 @@
 pub mod Closing
 pub mod Counts
 pub mod Basics
+pub mod Using
+pub mod Carried
+pub mod Turning
+pub mod Tidying
 pub mod Leaving
 pub mod Moving
 pub mod Exchanged
@@ -13,3 +17,11 @@ pub mod Waking
 pub mod Ending
 pub mod Legality
 pub mod Chores
+pub mod Workers
+pub mod House
+pub mod CloseAtEntry
+pub mod Beside
+pub mod Entered
+pub mod Grouping
+pub mod AtOnce
+pub mod AtRows

@@ -1,37 +1,17 @@
--- How calls stay under way while a connection moves.
-use Rattle.std.proofs.Common.{◌≡◌, ◌≢◌, ℕ, ◌<◌, ◌≤◌, ◌==◌, ◌⊎◌, inl, inr, Bool, true, false, not, ◌&&◌, ◌||◌, nat_le, List, [], ◌∷◌, length, get_or, refl, arith, is_some, ap, sym, subst, ◌∙◌}
+-- Where connections stand, and how many are idle.
+use Rattle.std.proofs.Common.{◌≡◌, ◌≢◌, ℕ, ◌<◌, ◌≤◌, ◌⊎◌, inl, inr, Bool, true, false, not, ◌||◌, nat_le, List, [], ◌∷◌, length, get_or, refl, arith, ap, sym, ◌∙◌}
 use Rattle.std.proofs.lemmas.Bool.Decides.{nat_tests}
 use Rattle.dsql_journal.specs.Readers.{is_empty}
 use Rattle.dsql_history.specs.declared.event.Event.{Event}
 use Rattle.dsql_history.specs.declared.record.Place.{Place}
 use Rattle.dsql_history.specs.declared.record.Place.TheVariants.{Nowhere}
-use Rattle.dsql_history.specs.declared.record.CallRecord.{CallRecord}
 use Rattle.dsql_history.specs.Readers.Lists.{without}
 use Rattle.dsql_history.specs.Readers.Course.{has_ended}
-use Rattle.dsql_history.specs.Readers.Sets.{places, place, idle, is_open, is_for}
-use Rattle.dsql_history.specs.Readers.Calls.{call_record, home}
-use Rattle.dsql_history.specs.Rules.Settled.{is_under_way, keeps_idle_limit, is_empty_when_closed}
+use Rattle.dsql_history.specs.Readers.Sets.{places, place, idle, is_open}
+use Rattle.dsql_history.specs.Rules.Settled.{keeps_idle_limit, is_empty_when_closed}
 use Rattle.dsql_history.specs.Legal.{Lawful}
-use Rattle.dsql_history.proofs.Rows.{other_number, within_rows, length-without}
+use Rattle.dsql_history.proofs.Rows.{within_rows, length-without}
 use Rattle.dsql_history.proofs.SoundSets.{sound_sets}
-
--- a call whose record and whose connection's place are as before is under way as before
-pub way_by : (H G : List Event) (m : ℕ) → call_record G m ≡ call_record H m → place G (home H m) ≡ place H (home H m) → is_under_way H m ≡ true → is_under_way G m ≡ true
-way_by H G m same stays w =
-    let P : CallRecord → Type 0 = λ r. (not (r.home == 0) && (is_for m (place G r.home) || not (is_open (place G r.home)) && is_some r.decided)) ≡ true in
-    subst P (sym same) (rw stays w)
-
-not_there : (b z : Bool) → (not z && (false || false && b)) ≡ true → ⊥
-not_there b true h = absurd cc
-not_there b false h = absurd cc
-
--- the connection of a call that is under way isn't an open one that is for nobody or for another call
-pub not_at : (H : List Event) (c m : ℕ) (p : Place) → place H c ≡ p → is_open p ≡ true → is_for m p ≡ false → is_under_way H m ≡ true → home H m ≢ c
-not_at H c m p is there other w at = absurd (not_there (is_some (call_record H m).decided) (c == 0) (rw (at, is, there, other) at w))
-
--- a call that has its connection is under way
-pub way_with : (G : List Event) (c m : ℕ) → home G m ≡ c → c ≢ 0 → is_for m (place G c) ≡ true → is_under_way G m ≡ true
-way_with G c m at some for = rw (at, other_number c 0 some, for) refl
 
 -- no connection has the number 0
 pub some_number : (H : List Event) (c : ℕ) (p : Place) → Lawful H → place H c ≡ p → is_open p ≡ true → c ≢ 0

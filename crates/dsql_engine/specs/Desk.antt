@@ -4,6 +4,9 @@ use Rattle.dsql_history.specs.declared.event.Event.{Event}
 use Rattle.dsql_history.specs.Readers.Course as course
 use Rattle.dsql_history.specs.Readers.Sets as sets
 use Rattle.dsql_history.specs.Readers.Calls as told
+use Rattle.dsql_history.specs.Readers.Unfinished as left
+use Rattle.dsql_history.specs.Readers.Works as kinds
+use Rattle.dsql_history.specs.Readers.HandedOut as given
 use Rattle.dsql_history.specs.Legal.{Lawful, Calm}
 use Rattle.dsql_engine.specs.Made as lines
 use Rattle.dsql_engine.specs.declared.desk.Desk.{Desk}
@@ -22,6 +25,8 @@ pub record HasRoom (d : Desk) : Type 0 where
   pub idle : vec_len d.idle + d.paid ≤ vec_capacity d.idle
   pub calls : vec_len d.calls + d.paid ≤ vec_capacity d.calls
   pub unfinished : vec_len d.unfinished + d.paid ≤ vec_capacity d.unfinished
+  pub works : vec_len d.works + d.paid ≤ vec_capacity d.works
+  pub rows : d.paid ≤ d.rows.spare
 
 pub record Tables (d : Desk) : Type 0 where
   pub lawful : Lawful (past d)
@@ -34,7 +39,9 @@ pub record Tables (d : Desk) : Type 0 where
   pub made : d.made.items ≡ lines.all_made (past d)
   pub idle : d.idle.items ≡ sets.idle (past d)
   pub calls : d.calls.items ≡ told.calls (past d)
-  pub unfinished : d.unfinished.items ≡ told.unfinished (past d)
+  pub unfinished : d.unfinished.items ≡ left.unfinished (past d)
+  pub works : d.works.items ≡ kinds.works (past d)
+  pub rows : d.rows.rows ≡ given.handed_out (past d)
   pub room : HasRoom d
 
 -- what a step carries from one event to the next, and doesn't look into

@@ -1,7 +1,9 @@
 pub mod Freshly
+pub mod Turns
 pub mod Latest
 pub mod Made
 pub mod Told
+pub mod Rows
 pub mod Statements
 pub mod Desk
 pub mod Awaited

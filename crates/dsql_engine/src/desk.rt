@@ -1,8 +1,15 @@
-ghost use Rattle.std.specs.Prelude.{◌≡◌, ℕ, ◌+◌, ◌^◌, ◌<◌, ◌≤◌, ◌∷◌, ◌++◌, [], Some, true, is_some, length, vec_len, vec_capacity};
+ghost use Rattle.std.specs.Prelude.{◌≡◌, ℕ, ◌+◌, ◌^◌, ◌<◌, ◌≤◌, ◌∷◌, ◌++◌, [], Some, None, List, true, is_some, length, vec_len, vec_capacity};
 ghost use Rattle.dsql_history.specs.Legal.{Allowed};
 ghost use Rattle.dsql_history.specs.Rules.Settled.{Settled};
-ghost use Rattle.dsql_history.specs.Readers.Calls.{statement as text_of, params_at_entry, refused_at_entry, destinations, row_decision, call_record, refusal, reply_due};
-ghost use Rattle.dsql_driver.specs.declared.call.DriverCall.TheVariants.{Next};
+ghost use Rattle.dsql_history.specs.Readers.Calls.{statement as text_of, params_at_entry, told_at_entry, fetch_decision, query_decision, refusal, reply_due};
+ghost use Rattle.dsql_history.specs.Readers.Works.{works, work, work_of};
+ghost use Rattle.dsql_history.specs.Readers.HandedOut.{handed_out, rows_entered};
+ghost use Rattle.dsql_history.specs.Readers.Exchanges.{step_of};
+ghost use Rattle.dsql_driver.specs.declared.call.DriverCall.TheVariants.{Next, Query};
+ghost use Rattle.dsql_driver.specs.declared.call.Input.{Input};
+ghost use Rattle.dsql_value.specs.declared.value.Param.{Param};
+ghost use Rattle.dsql_engine.specs.Statements.{closed_rows, AreMade};
+ghost use Rattle.dsql_engine.specs.Rows.{HearsRows};
 ghost use Rattle.dsql_history.specs.Readers.Course.{caps};
 ghost use Rattle.dsql_engine.specs.Groups.{told};
 ghost use Rattle.dsql_history.specs.declared.event.Move.{Move};
@@ -11,15 +18,15 @@ ghost use Rattle.dsql_journal.specs.declared.entry.Owner.TheVariants.{Call};
 ghost use Rattle.dsql_engine.specs.Desk.{past, Stands};
 
 use crate::room::{
-    begin_made, count_up, move_to, note, note_exchange, put, set_decided, set_home, take_out,
-    take_reply, tell_entry,
+    begin_made, close_rows, count_up, move_to, note, note_exchange, put, set_decided, set_home,
+    take_out, take_reply, tell_answer,
 };
 use crate::statement::Statement;
 use dsql_course::Progress;
 use dsql_driver::{Caps, DriverAnswer};
-use dsql_history::{CallRecord, CloseCause, Event, Move, Op, Place, Reply};
+use dsql_history::{CallRecord, CloseCause, Event, Move, Op, Place, Reply, Work};
 use dsql_journal::{Entry, Owner};
-use dsql_scan::Dests;
+use dsql_rows::RowsTable;
 
 /// What is kept of the present, beside the history.
 #[derive(Drop)]
@@ -39,6 +46,10 @@ pub struct Desk {
     /// Each call, by its number, and those without a reply.
     pub calls: Vec<CallRecord>,
     pub unfinished: Vec<u32>,
+    /// What each call has to do.
+    pub works: Vec<Work>,
+    /// The rows that were handed out, by the numbers of their queries.
+    pub rows: RowsTable,
     /// For how many more events there is memory.
     pub paid: usize,
 }
@@ -46,15 +57,16 @@ pub struct Desk {
 #[tactic(auto, unfolding(crate::specs::Desk::Stands, dsql_history::specs::Legal::Allowed))]
 /// The event methods: each adds its event to the history and changes the tables.
 impl Desk {
-    /// A client's call enters, with its statement, with the destinations of a row that it reads, and with
-    /// its reply where its arguments are refused.
+    /// A client's call enters, with what it has to do, its statement, the query whose rows it closes, and its
+    /// reply where it is told at once.
     pub fn enter(
         &mut self,
         n: u32,
         client: u8,
         op: Op,
+        work: Work,
         statement: Statement,
-        dests: Option<Dests>,
+        closes: Option<u32>,
         decided: Option<Reply>,
     )
         requires stands { Stands self.old }
@@ -63,8 +75,10 @@ impl Desk {
         requires settled { Settled (past self.old) }
         requires text { statement.text ≡ text_of op }
         requires params { statement.params ≡ params_at_entry (caps (past self.old)) op }
-        requires dests { dests ≡ destinations op }
-        requires decided { decided ≡ refused_at_entry (caps (past self.old)) op }
+        requires work { work ≡ work_of (works (past self.old)) op }
+        requires made { AreMade closes (handed_out (past self.old)) }
+        requires closes { closed_rows closes (handed_out (past self.old)) ≡ rows_entered (past self.old) op (handed_out (past self.old)) }
+        requires decided { decided ≡ told_at_entry (past self.old) op }
         ensures stands { Stands self.new }
         ensures paid { self.new.paid + 1 ≡ self.old.paid }
         ensures event { past self.new ≡ Event.Entered client n op ∷ past self.old }
@@ -78,11 +92,12 @@ impl Desk {
                 home: 0,
                 text: statement.text,
                 params: statement.params,
-                dests,
                 decided,
             },
         );
         put(&mut self.unfinished, n);
+        put(&mut self.works, work);
+        close_rows(&mut self.rows, closes);
     }
 
     /// A connection begins to be opened, for a call.
@@ -135,32 +150,42 @@ impl Desk {
         set_home(&mut self.calls, n, c);
     }
 
-    /// A driver answered a call; the copy is of its answer, and the row is what that decides, if it is one.
-    pub fn hear(&mut self, entry: Entry, copy: DriverAnswer, row: Option<Reply>)
+    /// A driver answered a call that a client or the layer made on a lent connection. The copy is of its
+    /// answer, and the reply is what the answer to a Query or a Next decides.
+    pub fn hear(&mut self, entry: Entry, copy: DriverAnswer, reply: Option<Reply>)
         requires stands { Stands self.old }
         requires paid { 0 < self.old.paid }
         requires allowed { Allowed (past self.old) (Event.Heard entry) }
         requires settled { Settled (past self.old) }
         requires same { copy ≡ entry.answer }
-        requires row { (rows : ℕ) → entry.call ≡ Next rows → row ≡ row_decision (call_record (past self.old) entry.call_no).dests entry.answer }
-        requires call { 0 < entry.call_no }
+        requires fetch { (rows : ℕ) → entry.call ≡ Next rows → reply ≡ fetch_decision (work (past self.old) entry.call_no) entry.answer }
+        requires query { (input : Input) (params : List Param) → entry.call ≡ Query input params → reply ≡ query_decision (work (past self.old) entry.call_no) entry.answer }
+        requires rows { HearsRows (work (past self.old) entry.call_no) entry.call_no entry.call (handed_out (past self.old)) }
         ensures stands { Stands self.new }
         ensures paid { self.new.paid + 1 ≡ self.old.paid }
         ensures event { past self.new ≡ Event.Heard entry ∷ past self.old }
     {
         self.paid -= 1;
-        tell_entry(&mut self.calls, &entry, copy, row);
         note_exchange(&mut self.made, &entry);
+        tell_answer(
+            &mut self.calls,
+            &mut self.rows,
+            &self.works,
+            &entry,
+            copy,
+            reply,
+        );
         note(&mut self.history, Event::Heard(entry));
     }
 
-    /// A driver answered the layer itself.
+    /// A driver answered the layer's Connect or Shut.
     pub fn hear_house(&mut self, entry: Entry)
         requires stands { Stands self.old }
         requires paid { 0 < self.old.paid }
         requires allowed { Allowed (past self.old) (Event.Heard entry) }
         requires settled { Settled (past self.old) }
         requires house { entry.call_no ≡ 0 }
+        requires outside { step_of entry.call ≡ None }
         ensures stands { Stands self.new }
         ensures paid { self.new.paid + 1 ≡ self.old.paid }
         ensures event { past self.new ≡ Event.Heard entry ∷ past self.old }
@@ -280,5 +305,6 @@ impl Desk {
         self.paid -= 1;
         note(&mut self.history, Event::Ended);
         self.ended = true;
+        self.rows.close_all();
     }
 }

@@ -5,11 +5,12 @@ ghost use Rattle.dsql_history.specs.Legal.{Legal};
 ghost use Rattle.dsql_history.specs.Readers.Course.{has_ended};
 ghost use Rattle.dsql_history.specs.Readers.Calls.{is_busy};
 ghost use Rattle.dsql_history.specs.Rules.House.{is_quiet};
+ghost use Rattle.dsql_history.specs.Rules.Numbers.{takes_turn};
 ghost use Rattle.dsql_history.specs.declared.event.Event.TheVariants.{Run};
 
 use crate::desk::Desk;
 use crate::next::{Next, NoRoom};
-use crate::statement::enter_with;
+use crate::queries::number_of;
 use dsql_driver::{Caps, DriverAnswer};
 use dsql_history::{Event, Op};
 use dsql_journal::Entry;
@@ -32,10 +33,11 @@ impl Model for Engine {
     ghost Value = { List Event };
 
     ghost use Rattle.dsql_engine.specs.Desk.{past, Stands};
+    ghost use Rattle.dsql_engine.specs.Turns.{TakesTurns};
 
     ghost view = { λ e. past e.desk };
 
-    ghost invariant = { λ e. Stands e.desk × Settled (past e.desk) × (is_empty (past e.desk) ≡ false) };
+    ghost invariant = { λ e. Stands e.desk × Settled (past e.desk) × (is_empty (past e.desk) ≡ false) × TakesTurns (past e.desk) };
 }
 
 #[tactic(auto, using(crate::proofs::Legality::legal_of))]
@@ -54,18 +56,19 @@ impl Engine {
         Ok(Engine { alloc, desk })
     }
 
-    /// A client's call enters and asks for a connection.
+    /// A client's call enters. One that looks at rows replies, and one that fetches from live rows or closes
+    /// them sends on their connection, which no other call uses then. Any other asks for a connection.
     pub fn enter(&mut self, client: u8, op: Op) -> Result<Next, NoRoom>
         requires free { is_busy client self.old ≡ false }
         requires running { has_ended self.old ≡ false }
+        requires turn { takes_turn self.old op ≡ true }
         requires room { length self.old < most_events }
         ensures group { IfOk result (λ next. self.new ≡ after_enter self.old client op) }
         ensures next { IfOk result (λ next. NextAfterEnter self.old client op next self.new) }
         ensures err { OnErr result (self.new ≡ self.old) }
         ensures legal { Legal self.new }
     {
-        let named_ok = self.desk.caps().named;
-        let entering = enter_with(self.alloc, named_ok, &op)?;
+        let entering = self.desk.entering(self.alloc, &op)?;
         self.desk.pay(4)?;
         Ok(self.desk.enter_call(client, op, entering))
     }
@@ -81,10 +84,10 @@ impl Engine {
         ensures err { OnErr result (self.new ≡ self.old) }
         ensures legal { Legal self.new }
     {
-        let statement = self.desk.statement(self.alloc, entry.call_no)?;
-        let row = self.desk.row_decided(self.alloc, &entry)?;
+        let statement = self.desk.statement(self.alloc, number_of(entry.owner))?;
+        let reply = self.desk.reply_decided(self.alloc, &entry)?;
         self.desk.pay(4)?;
-        Ok(self.desk.hear_answer(entry, copy, statement, row))
+        Ok(self.desk.hear_answer(entry, copy, statement, reply))
     }
 
     /// A client's unfinished call looks at its connection again.
@@ -108,6 +111,9 @@ impl Engine {
         requires room { length self.now < most_events }
         ensures first { IfOk result (λ next. IsChore self.now next) }
     {
+        if let Some(c) = self.desk.tidy_due() {
+            return Ok(Next::Send(self.desk.tidy_permit(self.alloc, c)?));
+        }
         if let Some(c) = self.desk.shut_due() {
             return Ok(Next::Send(self.desk.shut_permit(c)));
         }
@@ -125,8 +131,7 @@ impl Engine {
         ensures err { OnErr result (self.new ≡ self.old) }
         ensures legal { Legal self.new }
     {
-        let idle = self.desk.idle_len();
-        self.desk.pay(idle + 1)?;
+        self.desk.pay(3)?;
         self.desk.end_run();
         Ok(())
     }

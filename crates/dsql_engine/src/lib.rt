@@ -4,6 +4,7 @@
 
 mod desk;
 mod engine;
+mod entering;
 mod next;
 mod queries;
 mod room;

@@ -1,17 +1,26 @@
 //! Writes that were paid for before, or that take no memory: they can't fail.
-ghost use Rattle.std.specs.Prelude.{◌≡◌, ◌+◌, ◌<◌, ◌≤◌, ◌^◌, ◌∷◌, ◌++◌, [], ℕ, Some, None, true, is_some, length, List, reverse, slice_set, slice_index_or, vec_len, vec_capacity};
+ghost use Rattle.std.specs.Prelude.{◌≡◌, ◌+◌, ◌<◌, ◌≤◌, ◌^◌, ◌∷◌, ◌++◌, [], ℕ, Some, None, true, false, cond, ◌==◌, is_some, length, List, reverse, slice_set, slice_index_or, vec_len, vec_capacity};
 ghost use Rattle.dsql_history.specs.Readers.Lists.{without};
 ghost use Rattle.dsql_history.specs.Readers.Sets.{one_more};
-ghost use Rattle.dsql_history.specs.Readers.Calls.{with_record, decision, closing_decision, row_decision, reply_to, told_of, nobody};
+ghost use Rattle.dsql_history.specs.Readers.Calls.{with_record, decision, fetch_decision, query_decision, closing_decision, closed_reply, reply_to, told_of, nobody};
+ghost use Rattle.dsql_history.specs.Readers.HandedOut.{after_fetch, rows_heard};
+ghost use Rattle.dsql_history.specs.Kept.{AreLive};
+ghost use Rattle.dsql_history.specs.declared.work.Work.TheVariants.{Look};
+ghost use Rattle.dsql_rows.specs.OpenRows.{was_made, rows_of, changed};
+ghost use Rattle.dsql_engine.specs.Rows.{HearsRows, is_fetch_or_query, made_by};
+ghost use Rattle.dsql_engine.specs.Statements.{closed_rows, AreMade};
 ghost use Rattle.dsql_history.specs.Readers.Exchanges.{step_of, got_of, with_exchange};
 ghost use Rattle.dsql_value.specs.Arguments.{count_fault};
-ghost use Rattle.dsql_driver.specs.declared.call.DriverCall.TheVariants.{Prepare, Next, CloseRows};
+ghost use Rattle.dsql_driver.specs.declared.call.DriverCall.TheVariants.{Prepare, Query, Next, CloseRows};
+ghost use Rattle.dsql_driver.specs.declared.call.Input.{Input};
+ghost use Rattle.dsql_value.specs.declared.value.Param.{Param};
 ghost use Rattle.dsql_engine.specs.Told.{told_entry, are_cells};
 
 use dsql_course::{Due, Got, Progress};
 use dsql_driver::{DriverAnswer, DriverCall, Input};
-use dsql_history::{CallRecord, Event, Place, Reply};
+use dsql_history::{CallRecord, Event, Place, Reply, Work};
 use dsql_journal::Entry;
+use dsql_rows::{RowsEnd, RowsTable};
 
 /// Adds an element where there is room.
 pub fn put<T: Drop>(v: &mut Vec<T>, x: T)
@@ -127,25 +136,23 @@ fn count_of_params(calls: &Vec<CallRecord>, n: u32) -> usize
     }
 }
 
-/// Tells a call what one of its driver calls was answered, and what a row that it fetched decides.
+/// Tells a call with this work what one of its driver calls was answered, which is no Query and no Next.
 pub fn tell(
     calls: &mut Vec<CallRecord>,
     n: u32,
+    work: &Work,
     call: &DriverCall,
     answer: DriverAnswer,
-    row: Option<Reply>,
 )
-    requires row { (rows : ℕ) → call.now ≡ Next rows → row ≡ row_decision (slice_index_or calls.old.items n nobody).dests answer }
-    ensures items { calls.new.items ≡ with_record n (λ r. record r { decided = decision (length r.params) r.dests call.now answer r.decided }) calls.old.items }
+    requires other { is_fetch_or_query call.now ≡ false }
+    ensures items { calls.new.items ≡ with_record n (λ r. record r { decided = decision (length r.params) work.now call.now answer r.decided }) calls.old.items }
     ensures len { vec_len calls.new ≡ vec_len calls.old }
     ensures capacity { vec_capacity calls.new ≡ vec_capacity calls.old }
 {
     match call {
         DriverCall::Exec(_, _) => set_decided(calls, n, reply_of(answer)),
-        DriverCall::Query(_, _) => set_decided(calls, n, reply_of(answer)),
-        DriverCall::Next(_) => set_decided(calls, n, row),
-        DriverCall::CloseRows(_) => tell_closing(calls, n, answer),
-        DriverCall::Prepare(_) => tell_prepare(calls, n, answer),
+        DriverCall::CloseRows(_) => tell_closing(calls, n, work, answer),
+        DriverCall::Prepare(_) => tell_prepare(calls, n, work, answer),
         DriverCall::Reset => {
             if let DriverAnswer::Bad = answer {
                 set_decided(calls, n, Some(Reply::BadConn(1)));
@@ -155,10 +162,32 @@ pub fn tell(
     }
 }
 
-/// Tells a call what its CloseRows was answered: where that failed, it is told in place of the row.
+/// Tells a call what its CloseRows was answered.
+fn tell_closing(calls: &mut Vec<CallRecord>, n: u32, work: &Work, answer: DriverAnswer)
+    ensures items { (rows : ℕ) → calls.new.items ≡ with_record n (λ r. record r { decided = decision (length r.params) work.now (CloseRows rows) answer r.decided }) calls.old.items }
+    ensures len { vec_len calls.new ≡ vec_len calls.old }
+    ensures capacity { vec_capacity calls.new ≡ vec_capacity calls.old }
+{
+    match work {
+        Work::Close(_) => set_decided(calls, n, closed_reply(answer)),
+        _ => tell_closing_of_row(calls, n, answer),
+    }
+}
+
+/// The reply of a call that was made to close a cursor.
+fn closed_reply(answer: DriverAnswer) -> Option<Reply>
+    ensures { result ≡ closed_reply answer }
+{
+    match answer {
+        DriverAnswer::Done => Some(Reply::Ok),
+        other => reply_of(other),
+    }
+}
+
+/// Tells a call that the cursor of its row was closed: where that failed, it is told in place of the row.
 #[tactic(auto, using(crate::proofs::Closing::closing_other, crate::proofs::Closing::closing_failed, crate::proofs::Closing::closing_bad, crate::proofs::Closing::closing_well))]
-fn tell_closing(calls: &mut Vec<CallRecord>, n: u32, answer: DriverAnswer)
-    ensures items { (rows : ℕ) → calls.new.items ≡ with_record n (λ r. record r { decided = decision (length r.params) r.dests (CloseRows rows) answer r.decided }) calls.old.items }
+fn tell_closing_of_row(calls: &mut Vec<CallRecord>, n: u32, answer: DriverAnswer)
+    ensures items { calls.new.items ≡ with_record n (λ r. record r { decided = closing_decision answer r.decided }) calls.old.items }
     ensures len { vec_len calls.new ≡ vec_len calls.old }
     ensures capacity { vec_capacity calls.new ≡ vec_capacity calls.old }
 {
@@ -183,8 +212,8 @@ fn has_cells(calls: &Vec<CallRecord>, n: u32) -> bool
 }
 
 /// Tells a call what its Prepare was answered.
-fn tell_prepare(calls: &mut Vec<CallRecord>, n: u32, answer: DriverAnswer)
-    ensures items { (text : List ℕ) → calls.new.items ≡ with_record n (λ r. record r { decided = decision (length r.params) r.dests (Prepare text) answer r.decided }) calls.old.items }
+fn tell_prepare(calls: &mut Vec<CallRecord>, n: u32, work: &Work, answer: DriverAnswer)
+    ensures items { (text : List ℕ) → calls.new.items ≡ with_record n (λ r. record r { decided = decision (length r.params) work.now (Prepare text) answer r.decided }) calls.old.items }
     ensures len { vec_len calls.new ≡ vec_len calls.old }
     ensures capacity { vec_capacity calls.new ≡ vec_capacity calls.old }
 {
@@ -197,23 +226,133 @@ fn tell_prepare(calls: &mut Vec<CallRecord>, n: u32, answer: DriverAnswer)
     }
 }
 
-/// Tells the call of an entry what it was answered, and what a row that it fetched decides; the copy is of
-/// the entry's answer.
-pub fn tell_entry(
-    calls: &mut Vec<CallRecord>,
-    entry: &Entry,
-    copy: DriverAnswer,
-    row: Option<Reply>,
-)
-    requires row { (rows : ℕ) → entry.now.call ≡ Next rows → row ≡ row_decision (slice_index_or calls.old.items entry.now.call_no nobody).dests copy }
-    ensures items { calls.new.items ≡ told_entry entry.now.call_no entry.now.call copy calls.old.items }
+/// Tells the call of an entry, which is no Query and no Next, what it was answered; the copy is of the
+/// entry's answer. There is no call 0.
+pub fn tell_entry(calls: &mut Vec<CallRecord>, works: &Vec<Work>, entry: &Entry, copy: DriverAnswer)
+    requires other { is_fetch_or_query entry.now.call ≡ false }
+    ensures items { calls.new.items ≡ told_entry entry.now.call_no (slice_index_or works.now.items entry.now.call_no Look) entry.now.call copy calls.old.items }
     ensures len { vec_len calls.new ≡ vec_len calls.old }
     ensures capacity { vec_capacity calls.new ≡ vec_capacity calls.old }
 {
     if entry.call_no == 0 {
         return;
     }
-    tell(calls, entry.call_no, &entry.call, copy, row);
+    match works.get(entry.call_no as usize) {
+        Some(work) => tell(calls, entry.call_no, work, &entry.call, copy),
+        None => tell(calls, entry.call_no, &Work::Look, &entry.call, copy),
+    }
+}
+
+/// Says what a call is to be replied; there is no call 0.
+pub fn decide(calls: &mut Vec<CallRecord>, n: u32, reply: Option<Reply>)
+    ensures items { calls.new.items ≡ cond (n == 0) calls.old.items (with_record n (λ r. record r { decided = reply }) calls.old.items) }
+    ensures len { vec_len calls.new ≡ vec_len calls.old }
+    ensures capacity { vec_capacity calls.new ≡ vec_capacity calls.old }
+{
+    if n != 0 {
+        set_decided(calls, n, reply);
+    }
+}
+
+/// Ends the rows of a query, if one is named.
+pub fn close_rows(rows: &mut RowsTable, closes: Option<u32>)
+    requires { AreMade closes rows.old.rows }
+    ensures rows { rows.new.rows ≡ closed_rows closes rows.old.rows }
+    ensures spare { rows.new.spare ≡ rows.old.spare }
+{
+    if let Some(n) = closes {
+        rows.close(n, RowsEnd::Close);
+    }
+}
+
+/// Notes what the answer to a Query or a Next makes of the rows; the copy is of the entry's answer.
+pub fn note_rows(rows: &mut RowsTable, works: &Vec<Work>, entry: &Entry, copy: DriverAnswer)
+    requires rows { HearsRows (slice_index_or works.now.items entry.now.call_no Look) entry.now.call_no entry.now.call rows.old.rows }
+    requires room { 0 < rows.old.spare }
+    ensures rows { rows.new.rows ≡ rows_heard (slice_index_or works.now.items entry.now.call_no Look) entry.now.call_no entry.now.call copy rows.old.rows }
+    ensures spare { rows.old.spare ≤ rows.new.spare + 1 }
+{
+    match (works.get(entry.call_no as usize), &entry.call) {
+        (Some(Work::HandOut(_)), DriverCall::Query(_, _)) => {
+            make_rows(rows, entry.call_no, copy)
+        }
+        (Some(Work::Fetch(n)), DriverCall::Next(_)) => fetch_rows(rows, *n, copy),
+        _ => {}
+    }
+}
+
+/// Tells the call of an entry and the rows what it was answered. The copy is of the entry's answer, and the
+/// reply is what the answer to a Query or a Next decides.
+#[tactic(auto, using(crate::proofs::Beside::rows_beside))]
+pub fn tell_answer(
+    calls: &mut Vec<CallRecord>,
+    rows: &mut RowsTable,
+    works: &Vec<Work>,
+    entry: &Entry,
+    copy: DriverAnswer,
+    reply: Option<Reply>,
+)
+    requires same { copy ≡ entry.now.answer }
+    requires fetch { (rows : ℕ) → entry.now.call ≡ Next rows → reply ≡ fetch_decision (slice_index_or works.now.items entry.now.call_no Look) entry.now.answer }
+    requires query { (input : Input) (params : List Param) → entry.now.call ≡ Query input params → reply ≡ query_decision (slice_index_or works.now.items entry.now.call_no Look) entry.now.answer }
+    requires rows { HearsRows (slice_index_or works.now.items entry.now.call_no Look) entry.now.call_no entry.now.call rows.old.rows }
+    requires room { 0 < rows.old.spare }
+    ensures items { calls.new.items ≡ told_entry entry.now.call_no (slice_index_or works.now.items entry.now.call_no Look) entry.now.call entry.now.answer calls.old.items }
+    ensures len { vec_len calls.new ≡ vec_len calls.old }
+    ensures capacity { vec_capacity calls.new ≡ vec_capacity calls.old }
+    ensures rows { rows.new.rows ≡ rows_heard (slice_index_or works.now.items entry.now.call_no Look) entry.now.call_no entry.now.call entry.now.answer rows.old.rows }
+    ensures spare { rows.old.spare ≤ rows.new.spare + 1 }
+{
+    match &entry.call {
+        DriverCall::Query(_, _) | DriverCall::Next(_) => {
+            decide(calls, entry.call_no, reply);
+            note_rows(rows, works, entry, copy);
+        }
+        _ => tell_entry(calls, works, entry, copy),
+    }
+}
+
+/// Makes the rows of a query, where its answer is their cursor.
+fn make_rows(rows: &mut RowsTable, n: u32, answer: DriverAnswer)
+    requires new { was_made n rows.old.rows ≡ false }
+    requires room { 0 < rows.old.spare }
+    ensures rows { rows.new.rows ≡ made_by n answer rows.old.rows }
+    ensures spare { rows.old.spare ≤ rows.new.spare + 1 }
+{
+    if let DriverAnswer::Cursor {
+        rows: cursor,
+        columns,
+    } = answer
+    {
+        match rows.begin_rows(n, cursor, columns) {
+            Ok(()) => {}
+            Err(_) => unreachable!(),
+        }
+    }
+}
+
+/// What a fetch makes of rows: a row becomes the current one, and anything else ends them.
+fn fetch_rows(rows: &mut RowsTable, n: u32, answer: DriverAnswer)
+    requires { AreLive (rows_of n rows.old.rows) }
+    ensures rows { rows.new.rows ≡ changed (after_fetch answer) n rows.old.rows }
+    ensures spare { rows.new.spare ≡ rows.old.spare }
+{
+    match answer {
+        DriverAnswer::Row(values) => match rows.row(n, values) {
+            Ok(()) => {}
+            Err(_) => unreachable!(),
+        },
+        DriverAnswer::End => {
+            rows.close(n, RowsEnd::EndOfRows);
+        }
+        DriverAnswer::Fail(text) => {
+            rows.close(n, RowsEnd::Failed(text));
+        }
+        DriverAnswer::Bad => {
+            rows.close(n, RowsEnd::BadConn);
+        }
+        _ => {}
+    }
 }
 
 /// Takes the reply that is settled out of a call's record.

@@ -8,7 +8,8 @@ use crate::desk::Desk;
 use crate::next::NoRoom;
 use dsql_course::Progress;
 use dsql_driver::Caps;
-use dsql_history::{CallRecord, Event, Place};
+use dsql_history::{CallRecord, Event, Place, Work};
+use dsql_rows::RowsTable;
 use dsql_value::{Items, Txt};
 use std::alloc::Global;
 
@@ -37,9 +38,10 @@ impl Desk {
             home: 0,
             text,
             params: Items::none(alloc),
-            dests: None,
             decided: None,
         })?;
+        let mut works = Vec::new(alloc);
+        works.push(Work::Look)?;
         Ok(Desk {
             history,
             caps,
@@ -51,26 +53,31 @@ impl Desk {
             idle: Vec::new(alloc),
             calls,
             unfinished: Vec::new(alloc),
+            works,
+            rows: RowsTable::new(alloc),
             paid: 0,
         })
     }
 
     /// Takes the memory for some events.
-    pub fn pay(&mut self, events: usize) -> Result<(), NoRoom>
+    pub fn pay(&mut self, events: u32) -> Result<(), NoRoom>
         requires { Stands self.old }
         ensures stands { Stands self.new }
         ensures past { past self.new ≡ past self.old }
         ensures paid { OnOk result (self.new.paid ≡ events) }
     {
-        self.history.reserve(events)?;
-        self.places.reserve(events)?;
-        self.lends.reserve(events)?;
-        self.uses.reserve(events)?;
-        self.made.reserve(events)?;
-        self.idle.reserve(events)?;
-        self.calls.reserve(events)?;
-        self.unfinished.reserve(events)?;
-        self.paid = events;
+        let count = events as usize;
+        self.history.reserve(count)?;
+        self.places.reserve(count)?;
+        self.lends.reserve(count)?;
+        self.uses.reserve(count)?;
+        self.made.reserve(count)?;
+        self.idle.reserve(count)?;
+        self.calls.reserve(count)?;
+        self.unfinished.reserve(count)?;
+        self.works.reserve(count)?;
+        self.rows.reserve(events)?;
+        self.paid = count;
         Ok(())
     }
 }

@@ -1,20 +1,18 @@
 ghost use Rattle.std.specs.Prelude.{◌≡◌, [], Some, None, IfOk};
-ghost use Rattle.dsql_history.specs.Readers.Calls.{refused_with, statement as text_of, arguments, destinations};
-ghost use Rattle.dsql_history.specs.Rules.Line.{reads_row};
-ghost use Rattle.dsql_engine.specs.Statements.{statement_of, Enters};
+ghost use Rattle.dsql_history.specs.Readers.Calls.{refused_with};
+ghost use Rattle.dsql_engine.specs.Statements.{AsksFor};
 
 use crate::next::NoRoom;
-use dsql_history::{CallRecord, Op, Reply};
-use dsql_scan::Dests;
+use dsql_history::{Aim, Reply, Work};
 use dsql_value::{ArgFault, Args, Items, Memory, Params, Txt, check_args};
 use std::alloc::Global;
 
-/// What a call runs: a text with its parameters. It reads a row of what that gives, or executes it.
+/// What a call runs: a text with its parameters, and what becomes of that.
 #[derive(Drop)]
 pub struct Statement {
     pub text: Txt,
     pub params: Params,
-    pub reads: bool,
+    pub aim: Aim,
 }
 
 impl Statement {
@@ -27,103 +25,67 @@ impl Statement {
         Ok(Statement {
             text,
             params,
-            reads: self.reads,
+            aim: self.aim,
+        })
+    }
+
+    /// That of a call that has none.
+    pub fn none(alloc: Global) -> Result<Statement, Memory>
+        ensures text { IfOk result (λ s. s.text ≡ []) }
+        ensures params { IfOk result (λ s. s.params ≡ []) }
+    {
+        Ok(Statement {
+            text: Txt::copy_of(alloc, "")?,
+            params: Items::none(alloc),
+            aim: Aim::Execute,
         })
     }
 }
 
-/// A call that enters, with the memory that it takes, and the destinations of a row that it reads.
+/// What a call does as it has entered.
 #[derive(Drop)]
-pub enum Entering {
-    /// Its arguments are accepted. Its statement comes twice: it is kept, and sent.
-    Asking {
-        dests: Option<Dests>,
-        kept: Statement,
-        sent: Statement,
-    },
-    /// An argument is refused, and it replies so.
-    Refused {
-        dests: Option<Dests>,
-        statement: Statement,
-        reply: Reply,
-    },
+pub enum Then {
+    /// It asks for a connection. Its statement comes again, to be sent.
+    Ask(Statement),
+    /// It sends on the connection of the rows that this call handed out. The statement is that call's.
+    Use(u32, Statement),
+    /// It replies so.
+    Tell(Reply),
 }
 
-/// A copy of a call's statement.
-pub fn statement_of(call: &CallRecord) -> Result<Statement, Memory>
-    ensures { IfOk result (λ s. s ≡ statement_of call.now) }
-{
-    let text = call.text.copy()?;
-    let params = call.params.clone()?;
-    let reads = call.dests.is_some();
-    Ok(Statement {
-        text,
-        params,
-        reads,
-    })
+/// A call that enters, with the memory that it takes.
+#[derive(Drop)]
+pub struct Entering {
+    pub work: Work,
+    pub statement: Statement,
+    /// The query whose rows it closes as it enters.
+    pub closes: Option<u32>,
+    pub then: Then,
 }
 
-/// A call that enters, over a driver that takes names or doesn't.
-pub fn enter_with(alloc: Global, named_ok: bool, op: &Op) -> Result<Entering, NoRoom>
-    ensures { IfOk result (λ e. Enters named_ok op.now e) }
+/// The statement of a text with arguments, over a driver that takes names or doesn't, and what its call does:
+/// it asks, or replies where an argument is refused.
+pub fn asking(
+    alloc: Global,
+    named_ok: bool,
+    text: &Txt,
+    args: &Args,
+    aim: Aim,
+) -> Result<(Statement, Then), NoRoom>
+    ensures { IfOk result (λ it. AsksFor named_ok text.now args.now aim it.0 it.1) }
 {
-    let text = text_of(op).copy()?;
-    let dests = dests_of(op)?;
-    let reads = dests.is_some();
-    match check_args(alloc, -1, named_ok, args_of(op).as_slice()) {
+    let text = text.copy()?;
+    match check_args(alloc, -1, named_ok, args.as_slice()) {
         Ok(params) => {
-            let kept = Statement {
-                text,
-                params,
-                reads,
-            };
+            let kept = Statement { text, params, aim };
             let sent = kept.copy()?;
-            Ok(Entering::Asking { dests, kept, sent })
+            Ok((kept, Then::Ask(sent)))
         }
         Err(fault) => {
             let params = Items::none(alloc);
-            let statement = Statement {
-                text,
-                params,
-                reads,
-            };
             let reply = refusal(fault)?;
-            Ok(Entering::Refused {
-                dests,
-                statement,
-                reply,
-            })
+            Ok((Statement { text, params, aim }, Then::Tell(reply)))
         }
-    }
-}
-
-/// The text of an operation's statement.
-fn text_of(op: &Op) -> &Txt
-    ensures { result.now ≡ text_of op.now }
-{
-    match op {
-        Op::Exec { text, .. } => text,
-        Op::One { text, .. } => text,
-    }
-}
-
-/// Its arguments.
-fn args_of(op: &Op) -> &Args
-    ensures { result.now ≡ arguments op.now }
-{
-    match op {
-        Op::Exec { args, .. } => args,
-        Op::One { args, .. } => args,
-    }
-}
-
-/// A copy of the destinations of the one row that it reads, if it reads one.
-fn dests_of(op: &Op) -> Result<Option<Dests>, Memory>
-    ensures { IfOk result (λ dests. dests ≡ destinations op.now) }
-{
-    match op {
-        Op::Exec { .. } => Ok(None),
-        Op::One { dests, .. } => Ok(Some(dests.clone()?)),
     }
 }
 

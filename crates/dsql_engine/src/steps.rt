@@ -1,17 +1,25 @@
 //! Whole steps: compositions of event methods, each of which leaves the history settled.
-ghost use Rattle.std.specs.Prelude.{◌≡◌, ℕ, cond, ◌+◌, ◌<◌, ◌≤◌, ◌∷◌, [], Some, None, true, false, length, nat_lt, option_map};
+ghost use Rattle.std.specs.Prelude.{◌≡◌, ℕ, cond, ◌+◌, ◌<◌, ◌≤◌, ◌∷◌, [], ◌==◌, List, Some, None, is_some, true, false, length, nat_lt, option_map};
 ghost use Rattle.dsql_driver.specs.Fits.{fits_of, is_memory, is_invalid, is_done};
 ghost use Rattle.dsql_journal.specs.Readers.{went_bad, is_empty};
 ghost use Rattle.dsql_journal.specs.declared.entry.Owner.TheVariants.{Call};
 ghost use Rattle.dsql_history.specs.Legal.{Lawful};
 ghost use Rattle.dsql_history.specs.Readers.Course.{caps, has_ended};
-ghost use Rattle.dsql_history.specs.Readers.Sets.{place, idle, open_count, next_tenure, is_for};
+ghost use Rattle.dsql_history.specs.Readers.Sets.{place, idle, open_count, next_tenure, is_for, number_of};
 ghost use Rattle.dsql_history.specs.Readers.Journals.{journal, ends_invalid, heard_in};
 ghost use Rattle.dsql_driver.specs.declared.call.DriverCall.TheVariants as calls;
 ghost use Rattle.dsql_journal.specs.HandlesAndCursors.{fits_at_its_place};
-ghost use Rattle.dsql_history.specs.Readers.Calls.{statement as text_of, arguments, destinations, row_decision, told_of, reply_due, next_call, is_busy, call_record, home, is_unfinished};
+ghost use Rattle.dsql_history.specs.Readers.Calls.{statement as text_of, params_at_entry, told_at_entry, fetch_decision, query_decision, reply_due, next_call, is_busy, home, sender};
+ghost use Rattle.dsql_history.specs.Readers.Unfinished.{is_unfinished};
+ghost use Rattle.dsql_history.specs.Readers.Works.{works, work, work_of, asks};
+ghost use Rattle.dsql_history.specs.Readers.HandedOut.{handed_out, rows_entered};
+ghost use Rattle.dsql_history.specs.Rules.Numbers.{takes_turn};
+ghost use Rattle.dsql_history.specs.declared.reply.Reply.{Reply};
+ghost use Rattle.dsql_history.specs.Legal.{Allowed};
+ghost use Rattle.dsql_value.specs.declared.value.Param.{Param};
+ghost use Rattle.dsql_driver.specs.declared.call.Input.{Input};
 ghost use Rattle.dsql_history.specs.Rules.House.{is_quiet};
-ghost use Rattle.dsql_history.specs.Rules.Line.{due, reads_row, body_after};
+ghost use Rattle.dsql_history.specs.Rules.Line.{due, asked_by, wish, is_kept_by_rows, body_after};
 ghost use Rattle.dsql_history.specs.Rules.Limit.{room};
 ghost use Rattle.dsql_history.specs.Rules.Causes.{cause};
 ghost use Rattle.dsql_history.specs.Rules.Settled.{Settled};
@@ -22,26 +30,25 @@ ghost use Rattle.dsql_history.specs.declared.record.Place.TheVariants.{Opening, 
 ghost use Rattle.dsql_engine.specs.Desk.{past, Stands};
 ghost use Rattle.dsql_engine.specs.Awaited.{awaited, connect_permit, shut_permit, call_permit, permit_of};
 ghost use Rattle.dsql_engine.specs.Latest.{latest};
-ghost use Rattle.dsql_engine.specs.Statements.{statement_of, asked_of, Enters};
+ghost use Rattle.dsql_engine.specs.Statements.{statement_of, asked_of, closed_rows, AreMade, Enters, EntersAsking, EntersUsing};
 ghost use Rattle.dsql_engine.specs.Made.{made};
-ghost use Rattle.dsql_value.specs.Arguments.{first_fault, params_of};
 ghost use Rattle.dsql_engine.specs.Freshly.{Freshly};
-ghost use Rattle.dsql_engine.specs.Groups.{after_enter, after_ask, after_heard, after_answer, after_lending, after_end, lent_to, leaving, told};
-ghost use Rattle.dsql_engine.specs.Steps.{NextAfterEnter, NextAfterAsk, NextAfterHeard, NextAfterAnswer, NextOfBody, NextOfWake, IsParkedAt};
+ghost use Rattle.dsql_engine.specs.Turns.{SettledBut, IsAlone, TakesTurns};
+ghost use Rattle.dsql_engine.specs.Groups.{after_enter, after_ask, after_heard, after_answer, after_using, after_end, lent_to, leaving, told, told_by};
+ghost use Rattle.dsql_engine.specs.Steps.{NextAfterEnter, NextAfterAsk, NextAfterHeard, NextAfterAnswer, NextOfUse, NextOfTold, NextOfWake, IsParkedAt};
 
 use crate::desk::Desk;
 use crate::next::{Next, Why};
 use crate::queries::{ends_line, is_bad_answer, is_done_answer, is_invalid_answer};
 use crate::room::reply_of;
-use crate::statement::{Entering, Statement};
+use crate::statement::{Entering, Statement, Then};
 use dsql_driver::{DriverAnswer, DriverCall};
-use dsql_history::{CloseCause, Op, Place, Reply};
+use dsql_history::{CloseCause, Op, Place, Reply, Work};
 use dsql_journal::{Entry, Owner, Permit};
-use dsql_scan::Dests;
 
 impl Desk {
-    /// Uses the connection that is lent to a call: what is due is sent, and where nothing is, the
-    /// connection leaves and the call replies.
+    /// Uses the connection that is lent to call n: what is due is sent, and where nothing is, the connection
+    /// leaves, unless rows keep it, and who sent there replies.
     pub fn use_lent(
         &mut self,
         c: u32,
@@ -52,7 +59,8 @@ impl Desk {
         invalid: bool,
     ) -> Next
         requires stands { Stands self.old }
-        requires settled { Settled (past self.old) }
+        requires settled { SettledBut (past self.old) c }
+        requires alone { IsAlone (past self.old) n }
         requires lent { place (past self.old) c ≡ Lent tenure (Call n) }
         requires due { next ≡ due (past self.old) c tenure n }
         requires bad { next ≡ None → bad ≡ went_bad (journal (past self.old) c) }
@@ -60,32 +68,51 @@ impl Desk {
         requires paid { 2 ≤ self.old.paid }
         ensures stands { Stands self.new }
         ensures settled { Settled (past self.new) }
-        ensures group { past self.new ≡ after_lending c tenure n (past self.old) }
-        ensures next { NextOfBody c n (due (past self.old) c tenure n) result (past self.new) }
+        ensures group { past self.new ≡ after_using c tenure n (past self.old) }
+        ensures next { NextOfUse c tenure n (past self.old) result (past self.new) }
     {
+        let m = self.sender(n);
         match next {
             Some(call) => Next::Send(Permit {
                 conn: c,
                 tenure,
                 owner: Owner::Call(n),
-                call_no: n,
+                call_no: m,
                 tx: 0,
                 call,
             }),
+            None if self.is_kept(c, n) => self.finish(m),
             None => {
                 self.leave(c, tenure, n, bad, invalid);
-                self.tell(n);
-                Next::Reply(n)
+                self.finish(m)
             }
         }
+    }
+
+    /// Who sent on a connection replies, unless that was the layer itself.
+    fn finish(&mut self, m: u32) -> Next
+        requires stands { Stands self.old }
+        requires paid { 0 < self.old.paid }
+        requires decided { (m ≡ 0 → ⊥) → is_some (reply_due (past self.old) m) ≡ true }
+        requires allowed { (reply : Reply) → (m ≡ 0 → ⊥) → reply_due (past self.old) m ≡ Some reply → Allowed (past self.old) (Event.Replied m reply) }
+        ensures stands { Stands self.new }
+        ensures group { past self.new ≡ told_by m (past self.old) }
+        ensures next { NextOfTold (m == 0) m result }
+    {
+        if m == 0 {
+            return Next::Quiet;
+        }
+        self.tell(m);
+        Next::Reply(m)
     }
 
     /// A connection on which nothing is due any more is given back, or begins to close.
     fn leave(&mut self, c: u32, tenure: u32, n: u32, bad: bool, invalid: bool)
         requires stands { Stands self.old }
-        requires settled { Settled (past self.old) }
+        requires settled { SettledBut (past self.old) c }
         requires lent { place (past self.old) c ≡ Lent tenure (Call n) }
         requires due { due (past self.old) c tenure n ≡ None }
+        requires kept { is_kept_by_rows (past self.old) c tenure n ≡ false }
         requires bad { bad ≡ went_bad (journal (past self.old) c) }
         requires invalid { invalid ≡ ends_invalid (journal (past self.old) c) }
         requires paid { 2 ≤ self.old.paid }
@@ -108,8 +135,9 @@ impl Desk {
         requires begun { is_empty (past self.old) ≡ false }
         requires free { is_busy client (past self.old) ≡ false }
         requires running { has_ended (past self.old) ≡ false }
+        requires turn { takes_turn (past self.old) op ≡ true }
         requires few { length (past self.old) < 4000000 }
-        requires enters { Enters (caps (past self.old)).named op entering }
+        requires enters { Enters (past self.old) op entering }
         requires paid { 4 ≤ self.old.paid }
         ensures stands { Stands self.new }
         ensures settled { Settled (past self.new) }
@@ -117,25 +145,27 @@ impl Desk {
         ensures group { past self.new ≡ after_enter (past self.old) client op }
         ensures next { NextAfterEnter (past self.old) client op result (past self.new) }
     {
-        match entering {
-            Entering::Asking { dests, kept, sent } => {
-                self.enter_and_ask(client, op, dests, kept, sent)
-            }
-            Entering::Refused {
-                dests,
-                statement,
-                reply,
-            } => self.enter_refused(client, op, dests, statement, reply),
+        let Entering {
+            work,
+            statement,
+            closes,
+            then,
+        } = entering;
+        match then {
+            Then::Ask(sent) => self.enter_and_ask(client, op, work, statement, closes, sent),
+            Then::Use(k, sent) => self.enter_and_use(client, op, work, statement, closes, k, sent),
+            Then::Tell(reply) => self.enter_and_tell(client, op, work, statement, closes, reply),
         }
     }
 
-    /// A client's call enters and asks for a connection. Its statement comes twice: it is kept, and sent.
+    /// A client's call enters and asks for a connection.
     fn enter_and_ask(
         &mut self,
         client: u8,
         op: Op,
-        dests: Option<Dests>,
-        kept: Statement,
+        work: Work,
+        statement: Statement,
+        closes: Option<u32>,
         sent: Statement,
     ) -> Next
         requires stands { Stands self.old }
@@ -143,13 +173,14 @@ impl Desk {
         requires begun { is_empty (past self.old) ≡ false }
         requires free { is_busy client (past self.old) ≡ false }
         requires running { has_ended (past self.old) ≡ false }
+        requires turn { takes_turn (past self.old) op ≡ true }
         requires few { length (past self.old) < 4000000 }
-        requires accepted { first_fault (caps (past self.old)).named (arguments op) ≡ None }
-        requires text { kept.text ≡ text_of op }
-        requires params { kept.params ≡ params_of (arguments op) }
-        requires dests { dests ≡ destinations op }
-        requires reads { kept.reads ≡ reads_row (destinations op) }
-        requires copy { sent ≡ kept }
+        requires work { work ≡ work_of (works (past self.old)) op }
+        requires text { statement.text ≡ text_of op }
+        requires params { statement.params ≡ params_at_entry (caps (past self.old)) op }
+        requires made { AreMade closes (handed_out (past self.old)) }
+        requires closes { closed_rows closes (handed_out (past self.old)) ≡ rows_entered (past self.old) op (handed_out (past self.old)) }
+        requires asking { EntersAsking (past self.old) op sent }
         requires paid { 4 ≤ self.old.paid }
         ensures stands { Stands self.new }
         ensures settled { Settled (past self.new) }
@@ -157,31 +188,37 @@ impl Desk {
         ensures next { NextAfterEnter (past self.old) client op result (past self.new) }
     {
         let n = self.next_call();
-        self.enter(n, client, op, kept, dests, None);
+        self.enter(n, client, op, work, statement, closes, None);
         match self.latest() {
             Some(c) => self.lend_idle(c, n, sent),
             None => self.open_or_refuse(n),
         }
     }
 
-    /// A client's call enters, and replies that an argument is refused.
-    fn enter_refused(
+    /// A client's call enters and works on the rows of call k: it uses the connection that they keep.
+    fn enter_and_use(
         &mut self,
         client: u8,
         op: Op,
-        dests: Option<Dests>,
+        work: Work,
         statement: Statement,
-        reply: Reply,
+        closes: Option<u32>,
+        k: u32,
+        sent: Statement,
     ) -> Next
         requires stands { Stands self.old }
         requires settled { Settled (past self.old) }
         requires begun { is_empty (past self.old) ≡ false }
         requires free { is_busy client (past self.old) ≡ false }
+        requires running { has_ended (past self.old) ≡ false }
+        requires turn { takes_turn (past self.old) op ≡ true }
         requires few { length (past self.old) < 4000000 }
-        requires refused { told_of (first_fault (caps (past self.old)).named (arguments op)) ≡ Some reply }
+        requires work { work ≡ work_of (works (past self.old)) op }
         requires text { statement.text ≡ text_of op }
-        requires params { statement.params ≡ [] }
-        requires dests { dests ≡ destinations op }
+        requires params { statement.params ≡ params_at_entry (caps (past self.old)) op }
+        requires made { AreMade closes (handed_out (past self.old)) }
+        requires closes { closed_rows closes (handed_out (past self.old)) ≡ rows_entered (past self.old) op (handed_out (past self.old)) }
+        requires using { EntersUsing (past self.old) op k sent }
         requires paid { 4 ≤ self.old.paid }
         ensures stands { Stands self.new }
         ensures settled { Settled (past self.new) }
@@ -189,7 +226,48 @@ impl Desk {
         ensures next { NextAfterEnter (past self.old) client op result (past self.new) }
     {
         let n = self.next_call();
-        self.enter(n, client, op, statement, dests, Some(reply));
+        self.enter(n, client, op, work, statement, closes, None);
+        let c = self.home(k);
+        match self.place(c) {
+            Place::Lent(tenure, _) => {
+                let next = self.next_call_on(c, k, sent);
+                self.use_lent(c, tenure, k, next, false, false)
+            }
+            _ => unreachable!(),
+        }
+    }
+
+    /// A client's call enters, and is told at once.
+    fn enter_and_tell(
+        &mut self,
+        client: u8,
+        op: Op,
+        work: Work,
+        statement: Statement,
+        closes: Option<u32>,
+        reply: Reply,
+    ) -> Next
+        requires stands { Stands self.old }
+        requires settled { Settled (past self.old) }
+        requires begun { is_empty (past self.old) ≡ false }
+        requires free { is_busy client (past self.old) ≡ false }
+        requires running { has_ended (past self.old) ≡ false }
+        requires turn { takes_turn (past self.old) op ≡ true }
+        requires few { length (past self.old) < 4000000 }
+        requires work { work ≡ work_of (works (past self.old)) op }
+        requires text { statement.text ≡ text_of op }
+        requires params { statement.params ≡ params_at_entry (caps (past self.old)) op }
+        requires made { AreMade closes (handed_out (past self.old)) }
+        requires closes { closed_rows closes (handed_out (past self.old)) ≡ rows_entered (past self.old) op (handed_out (past self.old)) }
+        requires told { told_at_entry (past self.old) op ≡ Some reply }
+        requires paid { 4 ≤ self.old.paid }
+        ensures stands { Stands self.new }
+        ensures settled { Settled (past self.new) }
+        ensures group { past self.new ≡ after_enter (past self.old) client op }
+        ensures next { NextAfterEnter (past self.old) client op result (past self.new) }
+    {
+        let n = self.next_call();
+        self.enter(n, client, op, work, statement, closes, Some(reply));
         self.tell(n);
         Next::Reply(n)
     }
@@ -202,16 +280,16 @@ impl Desk {
         requires running { has_ended (past self.old) ≡ false }
         requires latest { latest (idle (past self.old)) ≡ Some c }
         requires few { length (past self.old) < 4000001 }
-        requires statement { statement ≡ statement_of (call_record (past self.old) n) }
+        requires statement { asked_of statement ≡ asked_by (past self.old) n }
         requires paid { 3 ≤ self.old.paid }
         ensures stands { Stands self.new }
         ensures settled { Settled (past self.new) }
-        ensures group { past self.new ≡ after_lending c (next_tenure (past self.old) c) n (lent_to (past self.old) c n) }
-        ensures next { NextOfBody c n (due (lent_to (past self.old) c n) c (next_tenure (past self.old) c) n) result (past self.new) }
+        ensures group { past self.new ≡ after_using c (next_tenure (past self.old) c) n (lent_to (past self.old) c n) }
+        ensures next { NextOfUse c (next_tenure (past self.old) c) n (lent_to (past self.old) c n) result (past self.new) }
     {
         let tenure = self.next_tenure(c);
         self.lend(c, tenure, n);
-        let next = self.first_call_on(c, statement);
+        let next = self.first_call_on(c, n, statement);
         self.use_lent(c, tenure, n, next, false, false)
     }
 
@@ -240,24 +318,26 @@ impl Desk {
         }
     }
 
-    /// A driver's answer is heard; the copy is of that answer, the statement is its call's, and the row is what
-    /// a fetch decides.
+    /// A driver's answer is heard; the copy is of that answer, the statement is that of the call to which the
+    /// connection is lent, and the reply is what the answer to a Query or a Next decides.
     #[tactic(auto, using(crate::proofs::Basics::fitting_of, crate::proofs::Basics::heard_of))]
     pub fn hear_answer(
         &mut self,
         entry: Entry,
         copy: DriverAnswer,
         statement: Statement,
-        row: Option<Reply>,
+        reply: Option<Reply>,
     ) -> Next
         requires stands { Stands self.old }
         requires settled { Settled (past self.old) }
+        requires turns { TakesTurns (past self.old) }
         requires awaited { awaited (past self.old) entry.conn ≡ Some (permit_of entry) }
         requires fits { fits_at_its_place (journal (past self.old) entry.conn) entry ≡ true }
-        requires row { (rows : ℕ) → entry.call ≡ calls.Next rows → row ≡ row_decision (call_record (past self.old) entry.call_no).dests entry.answer }
+        requires fetch { (rows : ℕ) → entry.call ≡ calls.Next rows → reply ≡ fetch_decision (work (past self.old) entry.call_no) entry.answer }
+        requires query { (input : Input) (params : List Param) → entry.call ≡ calls.Query input params → reply ≡ query_decision (work (past self.old) entry.call_no) entry.answer }
         requires same { copy ≡ entry.answer }
         requires few { length (past self.old) < 4000000 }
-        requires statement { statement ≡ statement_of (call_record (past self.old) entry.call_no) }
+        requires statement { statement ≡ statement_of (past self.old) (number_of entry.owner) }
         requires paid { 4 ≤ self.old.paid }
         ensures stands { Stands self.new }
         ensures settled { Settled (past self.new) }
@@ -267,7 +347,7 @@ impl Desk {
         match self.place(entry.conn) {
             Place::Opening(n) => self.hear_connect(n, entry, copy),
             Place::Lent(tenure, Owner::Call(n)) => self.hear_call(
-                tenure, n, entry, copy, statement, row,
+                tenure, n, entry, copy, statement, reply,
             ),
             Place::Closing => self.hear_shut(entry),
             _ => unreachable!(),
@@ -278,6 +358,7 @@ impl Desk {
     fn hear_connect(&mut self, n: u32, entry: Entry, copy: DriverAnswer) -> Next
         requires stands { Stands self.old }
         requires settled { Settled (past self.old) }
+        requires turns { TakesTurns (past self.old) }
         requires opening { place (past self.old) entry.conn ≡ Opening n }
         requires permit { permit_of entry ≡ connect_permit entry.conn }
         requires fitting { fits_of entry.call entry.answer ≡ true }
@@ -324,6 +405,7 @@ impl Desk {
     fn refused(&mut self, n: u32, entry: Entry, copy: DriverAnswer) -> Next
         requires stands { Stands self.old }
         requires settled { Settled (past self.old) }
+        requires turns { TakesTurns (past self.old) }
         requires opening { place (past self.old) entry.conn ≡ Opening n }
         requires permit { permit_of entry ≡ connect_permit entry.conn }
         requires fitting { fits_of entry.call entry.answer ≡ true }
@@ -370,16 +452,18 @@ impl Desk {
         entry: Entry,
         copy: DriverAnswer,
         statement: Statement,
-        row: Option<Reply>,
+        reply: Option<Reply>,
     ) -> Next
         requires stands { Stands self.old }
         requires settled { Settled (past self.old) }
+        requires turns { TakesTurns (past self.old) }
         requires lent { place (past self.old) entry.conn ≡ Lent tenure (Call n) }
-        requires awaited { option_map (call_permit entry.conn tenure n) (due (past self.old) entry.conn tenure n) ≡ Some (permit_of entry) }
+        requires awaited { option_map (call_permit entry.conn tenure n (sender (past self.old) n)) (due (past self.old) entry.conn tenure n) ≡ Some (permit_of entry) }
         requires fits { fits_at_its_place (journal (past self.old) entry.conn) entry ≡ true }
-        requires row { (rows : ℕ) → entry.call ≡ calls.Next rows → row ≡ row_decision (call_record (past self.old) n).dests entry.answer }
+        requires fetch { (rows : ℕ) → entry.call ≡ calls.Next rows → reply ≡ fetch_decision (work (past self.old) entry.call_no) entry.answer }
+        requires query { (input : Input) (params : List Param) → entry.call ≡ calls.Query input params → reply ≡ query_decision (work (past self.old) entry.call_no) entry.answer }
         requires same { copy ≡ entry.answer }
-        requires statement { statement ≡ statement_of (call_record (past self.old) n) }
+        requires statement { statement ≡ statement_of (past self.old) n }
         requires paid { 4 ≤ self.old.paid }
         ensures stands { Stands self.new }
         ensures settled { Settled (past self.new) }
@@ -390,22 +474,22 @@ impl Desk {
         let bad = is_bad_answer(&entry.answer);
         let invalid = is_invalid_answer(&entry.answer);
         let over = ends_line(&entry);
-        self.hear(entry, copy, row);
-        let next = self.next_unless(over, c, statement);
+        self.hear(entry, copy, reply);
+        let next = self.next_unless(over, c, n, statement);
         self.use_lent(c, tenure, n, next, bad, invalid)
     }
 }
 
 impl Desk {
-    /// What a call sends next on its connection, unless that is over.
-    fn next_unless(&self, over: bool, c: u32, statement: Statement) -> Option<DriverCall>
+    /// What is sent next on the connection that is lent to call n, unless that is over.
+    fn next_unless(&self, over: bool, c: u32, n: u32, statement: Statement) -> Option<DriverCall>
         requires { Stands self.now }
-        ensures { result ≡ cond over None (body_after (caps (past self.now)) (asked_of statement) (made (past self.now) c)) }
+        ensures { result ≡ cond over None (body_after (caps (past self.now)) (asked_of statement) (wish (past self.now) n) (made (past self.now) c)) }
     {
         if over {
             None
         } else {
-            self.next_call_on(c, statement)
+            self.next_call_on(c, n, statement)
         }
     }
 }
@@ -416,10 +500,12 @@ impl Desk {
     pub fn wake_call(&mut self, n: u32, statement: Statement) -> Next
         requires stands { Stands self.old }
         requires settled { Settled (past self.old) }
+        requires turns { TakesTurns (past self.old) }
         requires begun { is_empty (past self.old) ≡ false }
         requires unfinished { is_unfinished (past self.old) n ≡ true }
+        requires asks { asks (work (past self.old) n) ≡ true }
         requires parked { IsParkedAt (place (past self.old) (home (past self.old) n)) (home (past self.old) n) (past self.old) }
-        requires statement { statement ≡ statement_of (call_record (past self.old) n) }
+        requires statement { statement ≡ statement_of (past self.old) n }
         requires paid { 4 ≤ self.old.paid }
         ensures stands { Stands self.new }
         ensures settled { Settled (past self.new) }
@@ -441,6 +527,7 @@ impl Desk {
         requires settled { Settled (past self.old) }
         requires begun { is_empty (past self.old) ≡ false }
         requires unfinished { is_unfinished (past self.old) n ≡ true }
+        requires asks { asks (work (past self.old) n) ≡ true }
         requires free { is_for n (place (past self.old) (home (past self.old) n)) ≡ false }
         requires paid { 4 ≤ self.old.paid }
         ensures stands { Stands self.new }
@@ -456,16 +543,17 @@ impl Desk {
     fn wake_lent(&mut self, c: u32, tenure: u32, n: u32, statement: Statement) -> Next
         requires stands { Stands self.old }
         requires settled { Settled (past self.old) }
+        requires turns { TakesTurns (past self.old) }
         requires lent { place (past self.old) c ≡ Lent tenure (Call n) }
         requires fresh { heard_in (past self.old) c tenure ≡ [] }
-        requires statement { statement ≡ statement_of (call_record (past self.old) n) }
+        requires statement { statement ≡ statement_of (past self.old) n }
         requires paid { 4 ≤ self.old.paid }
         ensures stands { Stands self.new }
         ensures settled { Settled (past self.new) }
-        ensures group { past self.new ≡ after_lending c tenure n (past self.old) }
-        ensures next { NextOfBody c n (due (past self.old) c tenure n) result (past self.new) }
+        ensures group { past self.new ≡ after_using c tenure n (past self.old) }
+        ensures next { NextOfUse c tenure n (past self.old) result (past self.new) }
     {
-        let next = self.first_call_on(c, statement);
+        let next = self.first_call_on(c, n, statement);
         self.use_lent(c, tenure, n, next, false, false)
     }
 

@@ -1,5 +1,5 @@
--- The tenure of a call on the database that executes a text or reads one row, newest first: how far it has come, and what is known of it there.
-use Rattle.std.proofs.Common.{◌≡◌, ℕ, ◌≤◌, Bool, true, false, ◌==◌, ◌&&◌, ◌||◌, List, [], ◌∷◌, Option, None, Some, refl, nat_le, length}
+-- The tenure of a call on the database that executes a text, reads one row or hands out its rows, newest first: how far it has come, and what is known of it.
+use Rattle.std.proofs.Common.{◌≡◌, ℕ, ◌≤◌, Bool, true, false, not, ◌==◌, ◌&&◌, ◌||◌, List, [], ◌∷◌, Option, None, Some, refl, nat_le, length}
 use Rattle.std.specs.Prelude.{ℤ}
 use Rattle.std.specs.List.{list_all, list_any}
 use native.Mathlib.Omega.{arith}
@@ -16,27 +16,27 @@ use Rattle.dsql_journal.specs.declared.entry.Owner.TheVariants.{Call}
 use Rattle.dsql_journal.specs.Kinds.{◌⇒◌, is_number, is_ping, is_prepare, is_valid, is_over, runs_text, given_handle, given_cursor}
 use Rattle.dsql_journal.specs.Readers.{LiveHandle, LiveCursor, handles, handles_after, cursors, cursors_after}
 use Rattle.dsql_journal.specs.Tenure.{place}
-use Rattle.dsql_journal.specs.Entries.{call_entry}
 
--- How far a call has come in its tenure: nothing was heard; its Reset was; its text was skipped; its Prepare gave this handle; its run gave this cursor, over
--- a handle of its own or over none; a row of it was fetched; only its handle is left to be closed; only a test can come; the test was heard; it was
--- answered Bad; it is no such call.
+-- How far the tenure of a call has come: nothing was heard; its Reset was; its text was skipped; its Prepare gave this handle; its run gave this cursor, over
+-- a handle of its own or over none; it was fetched from, and is over or not; only its handle is left to be closed; only a test can come; the test was heard;
+-- it was answered Bad; it is no such call.
 pub data Step : Type 0 where
   Start : Step
   WasReset : Step
   WasSkipped : Step
   WasPrepared : ℕ → Step
   HasRows : Option ℕ → ℕ → Step
-  HasRead : Option ℕ → ℕ → Step
+  HasRead : Option ℕ → ℕ → Bool → Step
   WasRun : ℕ → Step
   WasDone : Step
   WasTested : Step
   WasDropped : Step
   IsOther : Step
 
-abbrev pub read_after : Step → Step
-read_after (HasRows own rows) = HasRead own rows
-read_after _ = IsOther
+abbrev pub read_after : Step → Bool → Step
+read_after (HasRows own rows) over = HasRead own rows over
+read_after (HasRead own rows false) over = HasRead own rows over
+read_after _ over = IsOther
 
 -- what is left once its rows are closed
 abbrev pub left_of : Option ℕ → Step
@@ -44,7 +44,8 @@ left_of None = WasDone
 left_of (Some handle) = WasRun handle
 
 abbrev pub freed_after : Step → Step
-freed_after (HasRead own rows) = left_of own
+freed_after (HasRows own rows) = left_of own
+freed_after (HasRead own rows over) = left_of own
 freed_after _ = IsOther
 
 abbrev pub step_after : Step → DriverCall → DriverAnswer → Step
@@ -60,7 +61,7 @@ step_after s (Prepare text) answer = WasDone
 step_after s (Exec (Handle handle) params) answer = WasRun handle
 step_after s (Query (Handle handle) params) (Cursor rows columns) = HasRows (Some handle) rows
 step_after s (Query (Handle handle) params) answer = WasRun handle
-step_after s (Next rows) answer = read_after s
+step_after s (Next rows) answer = read_after s (is_over answer)
 step_after s (CloseRows rows) answer = freed_after s
 step_after s (CloseStmt handle) answer = WasDone
 step_after s Valid answer = WasTested
@@ -84,7 +85,9 @@ goes (WasPrepared handle) (Exec (Handle h) params) = handle == h
 goes (WasPrepared handle) (Query (Handle h) params) = handle == h
 goes (WasPrepared handle) (CloseStmt h) = handle == h
 goes (HasRows own rows) (Next r) = rows == r
-goes (HasRead own rows) (CloseRows r) = rows == r
+goes (HasRows own rows) (CloseRows r) = rows == r
+goes (HasRead own rows over) (Next r) = not over && (rows == r)
+goes (HasRead own rows over) (CloseRows r) = rows == r
 goes (WasRun handle) (CloseStmt h) = handle == h
 goes WasDone Valid = true
 goes _ call = false
@@ -96,7 +99,7 @@ level WasReset = 0
 level WasSkipped = 1
 level (WasPrepared handle) = 2
 level (HasRows own rows) = 3
-level (HasRead own rows) = 4
+level (HasRead own rows over) = 4
 level (WasRun handle) = 5
 level _ = 6
 
@@ -126,16 +129,10 @@ pub record OneHandle (t n handle : ℕ) (live : List LiveHandle) : Type 0 where
   pub inputs : ℤ
   pub is : live ≡ own_handle t n handle inputs ∷ []
 
--- the live cursor of this number, which was opened in tenure t, and no other
-pub record OneCursor (t rows : ℕ) (live : List LiveCursor) : Type 0 where
+-- the live cursor of this number, which was opened in tenure t and is over or not, and no other
+pub record OneCursor (t rows : ℕ) (over : Bool) (live : List LiveCursor) : Type 0 where
   pub columns : ℕ
-  pub over : Bool
   pub is : live ≡ own_cursor t rows columns over ∷ []
-
--- the same, with rows to come
-pub record FreshCursor (t rows : ℕ) (live : List LiveCursor) : Type 0 where
-  pub columns : ℕ
-  pub is : live ≡ own_cursor t rows columns false ∷ []
 
 abbrev pub LiveOwn : ℕ → ℕ → Option ℕ → List LiveHandle → Type 0
 LiveOwn t n None live = live ≡ []
@@ -145,7 +142,7 @@ LiveOwn t n (Some handle) live = OneHandle t n handle live
 abbrev pub Live : ℕ → ℕ → Step → List LiveHandle → Type 0
 Live t n (WasPrepared handle) live = OneHandle t n handle live
 Live t n (HasRows own rows) live = LiveOwn t n own live
-Live t n (HasRead own rows) live = LiveOwn t n own live
+Live t n (HasRead own rows over) live = LiveOwn t n own live
 Live t n (WasRun handle) live = OneHandle t n handle live
 Live t n WasDropped live = Unit {0}
 Live t n IsOther live = ⊥
@@ -153,8 +150,8 @@ Live t n _ live = live ≡ []
 
 -- the live cursors of the tenure
 abbrev pub Open : ℕ → Step → List LiveCursor → Type 0
-Open t (HasRows own rows) live = FreshCursor t rows live
-Open t (HasRead own rows) live = OneCursor t rows live
+Open t (HasRows own rows) live = OneCursor t rows false live
+Open t (HasRead own rows over) live = OneCursor t rows over live
 Open t WasDropped live = Unit {0}
 Open t IsOther live = ⊥
 Open t _ live = live ≡ []
@@ -174,7 +171,7 @@ GaveOwn (Some handle) L = gave handle L ≡ true
 abbrev pub Given : Step → List Entry → Type 0
 Given (WasPrepared handle) L = gave handle L ≡ true
 Given (HasRows own rows) L = GaveOwn own L × (opened rows L ≡ true)
-Given (HasRead own rows) L = GaveOwn own L × (opened rows L ≡ true)
+Given (HasRead own rows over) L = GaveOwn own L × (opened rows L ≡ true)
 Given (WasRun handle) L = gave handle L ≡ true
 Given _ L = Unit {0}
 
@@ -189,11 +186,15 @@ pub record SoFar (t n : ℕ) (s : Step) (L : List Entry) : Type 0 where
   pub open_rows : Open t s (cursors L)
   pub first : s ≡ Start → L ≡ []
 
+-- a driver call that call m sends on connection c, which is lent to call n in tenure t, with its answer
+abbrev pub sent_entry : ℕ → ℕ → ℕ → ℕ → DriverCall → DriverAnswer → Entry
+sent_entry c t n m q a = record { conn = c; tenure = t; owner = Call n; call_no = m; tx = 0; call = q; answer = a }
+
 pub so_far-start : (t n : ℕ) → SoFar t n Start []
 so_far-start t n =
     record { leveled = refl; unpinged = refl; untested = λ h. refl; skipped = λ h. refl; given = tt; live = refl; open_rows = refl; first = λ h. refl }
 
-raised : (p q : ℕ) (L : List Entry) → p ≤ q → list_all (λ x. nat_le (place x.call) p) L ≡ true → list_all (λ x. nat_le (place x.call) q) L ≡ true
+pub raised : (p q : ℕ) (L : List Entry) → p ≤ q → list_all (λ x. nat_le (place x.call) p) L ≡ true → list_all (λ x. nat_le (place x.call) q) L ≡ true
 raised p q [] h all = refl
 raised p q (x ∷ L) h all = grind (arith, nat_tests, all, h, raised p q L h)
 
@@ -204,12 +205,12 @@ or_none : (a b : Bool) → a ≡ false → b ≡ false → a || b ≡ false
 or_none a b h k = grind (arith, h, k)
 
 -- what an entry has to keep, so that the tenure is known as before
-so_far-with : (c t n : ℕ) (s u : Step) (q : DriverCall) (a : DriverAnswer) (L : List Entry) → SoFar t n s L → level s ≤ level u → nat_le (place q) (level u) ≡ true
+so_far-with : (c t n m : ℕ) (s u : Step) (q : DriverCall) (a : DriverAnswer) (L : List Entry) → SoFar t n s L → level s ≤ level u → nat_le (place q) (level u) ≡ true
     → is_ping q ≡ false → is_going s ≡ true → (is_going u ≡ true → is_valid q ≡ false)
     → (is_before_end u ≡ true → (is_before_end s ≡ true) × ((runs_text q ⇒ is_skip a) ≡ true))
-    → Given u (call_entry c t n q a ∷ L) → Live t n u (handles (call_entry c t n q a ∷ L)) → Open t u (cursors (call_entry c t n q a ∷ L)) → (u ≡ Start → ⊥)
-    → SoFar t n u (call_entry c t n q a ∷ L)
-so_far-with c t n s u q a L so rises here no_ping going no_valid no_run given live rows not_first = record {
+    → Given u (sent_entry c t n m q a ∷ L) → Live t n u (handles (sent_entry c t n m q a ∷ L)) → Open t u (cursors (sent_entry c t n m q a ∷ L)) → (u ≡ Start → ⊥)
+    → SoFar t n u (sent_entry c t n m q a ∷ L)
+so_far-with c t n m s u q a L so rises here no_ping going no_valid no_run given live rows not_first = record {
   leveled = and_more (nat_le (place q) (level u)) (list_all (λ x. nat_le (place x.call) (level u)) L) here (raised (level s) (level u) L rises so.leveled);
   unpinged = or_none (is_ping q) (list_any (λ x. is_ping x.call) L) no_ping so.unpinged;
   untested = λ h. or_none (is_valid q) (list_any (λ x. is_valid x.call) L) (no_valid h) (so.untested going);
@@ -256,16 +257,18 @@ going_when (WasPrepared handle) (Exec (Handle other) params) h = (refl, refl, re
 going_when (WasPrepared handle) (Query (Handle other) params) h = (refl, refl, refl, omega arith)
 going_when (WasPrepared handle) (CloseStmt other) h = (refl, refl, refl, omega arith)
 going_when (HasRows own rows) (Next other) h = (refl, refl, refl, omega arith)
-going_when (HasRead own rows) (CloseRows other) h = (refl, refl, refl, omega arith)
+going_when (HasRows own rows) (CloseRows other) h = (refl, refl, refl, omega arith)
+going_when (HasRead own rows false) (Next other) h = (refl, refl, refl, omega arith)
+going_when (HasRead own rows over) (CloseRows other) h = (refl, refl, refl, omega arith)
 going_when (WasRun handle) (CloseStmt other) h = (refl, refl, refl, omega arith)
 going_when WasDone Valid h = (refl, refl, refl, omega arith)
 going_when _ _ h = absurd cc
 
 -- after a Bad nothing more is sent
-dropped : (c t n : ℕ) (s : Step) (q : DriverCall) (a : DriverAnswer) (L : List Entry) → SoFar t n s L → goes s q ≡ true → SoFar t n WasDropped (call_entry c t n q a ∷ L)
-dropped c t n s q a L so g =
+dropped : (c t n m : ℕ) (s : Step) (q : DriverCall) (a : DriverAnswer) (L : List Entry) → SoFar t n s L → goes s q ≡ true → SoFar t n WasDropped (sent_entry c t n m q a ∷ L)
+dropped c t n m s q a L so g =
     let k = going_when s q g in
-    so_far-with c t n s WasDropped q a L so k.3 k.2 k.1 k.0 (λ h. absurd cc) (λ h. absurd cc) tt tt tt (λ h. absurd cc)
+    so_far-with c t n m s WasDropped q a L so k.3 k.2 k.1 k.0 (λ h. absurd cc) (λ h. absurd cc) tt tt tt (λ h. absurd cc)
 
 -- A text is run first, or after the Reset: what is known then.
 record Early (t n : ℕ) (s : Step) (L : List Entry) : Type 0 where
@@ -283,29 +286,29 @@ early t n s (Query (Text text) params) L so run g = absurd cc
 early t n s q L so run g = absurd cc
 
 -- an Exec leaves handles and cursors as they are, whatever it is answered
-text_done : (c t n : ℕ) (s : Step) (text : List ℕ) (params : List Param) (a : DriverAnswer) (L : List Entry) → SoFar t n s L → goes s (Exec (Text text) params) ≡ true
-    → SoFar t n WasDone (call_entry c t n (Exec (Text text) params) a ∷ L)
-text_done c t n s text params a L so g =
+text_done : (c t n m : ℕ) (s : Step) (text : List ℕ) (params : List Param) (a : DriverAnswer) (L : List Entry) → SoFar t n s L → goes s (Exec (Text text) params) ≡ true
+    → SoFar t n WasDone (sent_entry c t n m (Exec (Text text) params) a ∷ L)
+text_done c t n m s text params a L so g =
     let k = early t n s (Exec (Text text) params) L so refl g in
-    so_far-with c t n s WasDone (Exec (Text text) params) a L so (omega (arith, k.low)) refl refl k.going (λ h. refl) (λ h. absurd cc) tt k.live k.open_rows (λ h. absurd cc)
+    so_far-with c t n m s WasDone (Exec (Text text) params) a L so (omega (arith, k.low)) refl refl k.going (λ h. refl) (λ h. absurd cc) tt k.live k.open_rows (λ h. absurd cc)
 
-text_skipped : (c t n : ℕ) (s : Step) (text : List ℕ) (params : List Param) (L : List Entry) → SoFar t n s L → goes s (Exec (Text text) params) ≡ true
-    → SoFar t n WasSkipped (call_entry c t n (Exec (Text text) params) Skip ∷ L)
-text_skipped c t n s text params L so g =
+text_skipped : (c t n m : ℕ) (s : Step) (text : List ℕ) (params : List Param) (L : List Entry) → SoFar t n s L → goes s (Exec (Text text) params) ≡ true
+    → SoFar t n WasSkipped (sent_entry c t n m (Exec (Text text) params) Skip ∷ L)
+text_skipped c t n m s text params L so g =
     let k = early t n s (Exec (Text text) params) L so refl g in
-    so_far-with c t n s WasSkipped (Exec (Text text) params) Skip L so (omega (arith, k.low)) refl refl k.going (λ h. refl) (λ h. (k.before, refl)) tt k.live k.open_rows (λ h. absurd cc)
+    so_far-with c t n m s WasSkipped (Exec (Text text) params) Skip L so (omega (arith, k.low)) refl refl k.going (λ h. refl) (λ h. (k.before, refl)) tt k.live k.open_rows (λ h. absurd cc)
 
-query_skipped : (c t n : ℕ) (s : Step) (text : List ℕ) (params : List Param) (L : List Entry) → SoFar t n s L → goes s (Query (Text text) params) ≡ true
-    → SoFar t n WasSkipped (call_entry c t n (Query (Text text) params) Skip ∷ L)
-query_skipped c t n s text params L so g =
+query_skipped : (c t n m : ℕ) (s : Step) (text : List ℕ) (params : List Param) (L : List Entry) → SoFar t n s L → goes s (Query (Text text) params) ≡ true
+    → SoFar t n WasSkipped (sent_entry c t n m (Query (Text text) params) Skip ∷ L)
+query_skipped c t n m s text params L so g =
     let k = early t n s (Query (Text text) params) L so refl g in
-    so_far-with c t n s WasSkipped (Query (Text text) params) Skip L so (omega (arith, k.low)) refl refl k.going (λ h. refl) (λ h. (k.before, refl)) tt k.live k.open_rows (λ h. absurd cc)
+    so_far-with c t n m s WasSkipped (Query (Text text) params) Skip L so (omega (arith, k.low)) refl refl k.going (λ h. refl) (λ h. (k.before, refl)) tt k.live k.open_rows (λ h. absurd cc)
 
-query_opens : (c t n : ℕ) (s : Step) (text : List ℕ) (params : List Param) (rows : ℕ) (columns : List (List ℕ)) (L : List Entry) → SoFar t n s L
-    → goes s (Query (Text text) params) ≡ true → SoFar t n (HasRows None rows) (call_entry c t n (Query (Text text) params) (Cursor rows columns) ∷ L)
-query_opens c t n s text params rows columns L so g =
+query_opens : (c t n m : ℕ) (s : Step) (text : List ℕ) (params : List Param) (rows : ℕ) (columns : List (List ℕ)) (L : List Entry) → SoFar t n s L
+    → goes s (Query (Text text) params) ≡ true → SoFar t n (HasRows None rows) (sent_entry c t n m (Query (Text text) params) (Cursor rows columns) ∷ L)
+query_opens c t n m s text params rows columns L so g =
     let k = early t n s (Query (Text text) params) L so refl g in
-    so_far-with c t n s (HasRows None rows) (Query (Text text) params) (Cursor rows columns) L so (omega (arith, k.low)) refl refl k.going (λ h. refl) (λ h. absurd cc)
+    so_far-with c t n m s (HasRows None rows) (Query (Text text) params) (Cursor rows columns) L so (omega (arith, k.low)) refl refl k.going (λ h. refl) (λ h. absurd cc)
     (tt, rw (same rows) refl) k.live (record { columns = length columns; is = rw k.open_rows refl }) (λ h. absurd cc)
 
 -- an answer that gives no cursor
@@ -315,12 +318,12 @@ unopened e (Query input params) b live k is p = is
 unopened e (Exec input params) b live k is p = is
 unopened e q b live k is p = absurd cc
 
-query_done : (c t n : ℕ) (s : Step) (text : List ℕ) (params : List Param) (a : DriverAnswer) (L : List Entry) → SoFar t n s L → goes s (Query (Text text) params) ≡ true
-    → given_cursor a ≡ None → SoFar t n WasDone (call_entry c t n (Query (Text text) params) a ∷ L)
-query_done c t n s text params a L so g none =
+query_done : (c t n m : ℕ) (s : Step) (text : List ℕ) (params : List Param) (a : DriverAnswer) (L : List Entry) → SoFar t n s L → goes s (Query (Text text) params) ≡ true
+    → given_cursor a ≡ None → SoFar t n WasDone (sent_entry c t n m (Query (Text text) params) a ∷ L)
+query_done c t n m s text params a L so g none =
     let k = early t n s (Query (Text text) params) L so refl g in
-    so_far-with c t n s WasDone (Query (Text text) params) a L so (omega (arith, k.low)) refl refl k.going (λ h. refl) (λ h. absurd cc) tt k.live
-    (unopened (call_entry c t n (Query (Text text) params) a) (Query (Text text) params) a (cursors L) none k.open_rows refl) (λ h. absurd cc)
+    so_far-with c t n m s WasDone (Query (Text text) params) a L so (omega (arith, k.low)) refl refl k.going (λ h. refl) (λ h. absurd cc) tt k.live
+    (unopened (sent_entry c t n m (Query (Text text) params) a) (Query (Text text) params) a (cursors L) none k.open_rows refl) (λ h. absurd cc)
 
 -- A text is prepared first, after the Reset, or after a skip: what is known then.
 record Unprepared (t n : ℕ) (s : Step) (L : List Entry) : Type 0 where
@@ -336,120 +339,158 @@ unprepared t n WasReset text L so g = record { going = refl; before = refl; low 
 unprepared t n WasSkipped text L so g = record { going = refl; before = refl; low = omega arith; live = so.live; open_rows = so.open_rows }
 unprepared t n _ text L so g = absurd cc
 
-one_prepared : (c t n handle : ℕ) (text : List ℕ) (inputs : ℤ) (L : List Entry) → list_all (λ x. nat_le (place x.call) 1) L ≡ true
-    → gave handle (call_entry c t n (Prepare text) (Prepared handle inputs) ∷ L) ≡ true
-one_prepared c t n handle text inputs L low = rw (same handle) (rw (none_prepared handle L low) refl)
+one_prepared : (c t n m handle : ℕ) (text : List ℕ) (inputs : ℤ) (L : List Entry) → list_all (λ x. nat_le (place x.call) 1) L ≡ true
+    → gave handle (sent_entry c t n m (Prepare text) (Prepared handle inputs) ∷ L) ≡ true
+one_prepared c t n m handle text inputs L low = rw (same handle) (rw (none_prepared handle L low) refl)
 
-gives : (c t n : ℕ) (s : Step) (text : List ℕ) (handle : ℕ) (inputs : ℤ) (L : List Entry) → SoFar t n s L → goes s (Prepare text) ≡ true
-    → SoFar t n (WasPrepared handle) (call_entry c t n (Prepare text) (Prepared handle inputs) ∷ L)
-gives c t n s text handle inputs L so g =
+gives : (c t n m : ℕ) (s : Step) (text : List ℕ) (handle : ℕ) (inputs : ℤ) (L : List Entry) → SoFar t n s L → goes s (Prepare text) ≡ true
+    → SoFar t n (WasPrepared handle) (sent_entry c t n m (Prepare text) (Prepared handle inputs) ∷ L)
+gives c t n m s text handle inputs L so g =
     let k = unprepared t n s text L so g in
-    so_far-with c t n s (WasPrepared handle) (Prepare text) (Prepared handle inputs) L so (omega (arith, k.low)) refl refl k.going (λ h. refl) (λ h. (k.before, refl))
-    (one_prepared c t n handle text inputs L (raised (level s) 1 L k.low so.leveled)) (record { inputs = inputs; is = rw k.live refl }) k.open_rows (λ h. absurd cc)
+    so_far-with c t n m s (WasPrepared handle) (Prepare text) (Prepared handle inputs) L so (omega (arith, k.low)) refl refl k.going (λ h. refl) (λ h. (k.before, refl))
+    (one_prepared c t n m handle text inputs L (raised (level s) 1 L k.low so.leveled)) (record { inputs = inputs; is = rw k.live refl }) k.open_rows (λ h. absurd cc)
 
 -- the Prepare gave nothing
 unheld : (e : Entry) (text : List ℕ) (b : DriverAnswer) (live : List LiveHandle) → given_handle b ≡ None → live ≡ [] → handles_after e (Prepare text) b live ≡ []
 unheld e text (Prepared handle inputs) live k is = absurd cc
 unheld e text _ live k is = is
 
-ungiven : (c t n : ℕ) (s : Step) (text : List ℕ) (a : DriverAnswer) (L : List Entry) → SoFar t n s L → goes s (Prepare text) ≡ true → given_handle a ≡ None
-    → SoFar t n WasDone (call_entry c t n (Prepare text) a ∷ L)
-ungiven c t n s text a L so g none =
+ungiven : (c t n m : ℕ) (s : Step) (text : List ℕ) (a : DriverAnswer) (L : List Entry) → SoFar t n s L → goes s (Prepare text) ≡ true → given_handle a ≡ None
+    → SoFar t n WasDone (sent_entry c t n m (Prepare text) a ∷ L)
+ungiven c t n m s text a L so g none =
     let k = unprepared t n s text L so g in
-    so_far-with c t n s WasDone (Prepare text) a L so (omega (arith, k.low)) refl refl k.going (λ h. refl) (λ h. absurd cc) tt
-    (unheld (call_entry c t n (Prepare text) a) text a (handles L) none k.live) k.open_rows (λ h. absurd cc)
+    so_far-with c t n m s WasDone (Prepare text) a L so (omega (arith, k.low)) refl refl k.going (λ h. refl) (λ h. absurd cc) tt
+    (unheld (sent_entry c t n m (Prepare text) a) text a (handles L) none k.live) k.open_rows (λ h. absurd cc)
 
 or_later : (all any here : Bool) → all && any ≡ true → all && (here || any) ≡ true
 or_later all any here h = grind (arith, h)
 
 -- the handle is run
-gave_on : (c t n : ℕ) (q : DriverCall) (a : DriverAnswer) (k : ℕ) (L : List Entry) → is_prepare q ≡ false → gave k L ≡ true → gave k (call_entry c t n q a ∷ L) ≡ true
-gave_on c t n q a k L not h =
+gave_on : (c t n m : ℕ) (q : DriverCall) (a : DriverAnswer) (k : ℕ) (L : List Entry) → is_prepare q ≡ false → gave k L ≡ true → gave k (sent_entry c t n m q a ∷ L) ≡ true
+gave_on c t n m q a k L not h =
     rw not (or_later (list_all (λ x. is_prepare x.call ⇒ is_number (given_handle x.answer) k) L) (list_any (λ x. is_number (given_handle x.answer) k) L) (is_number (given_handle a) k) h)
 
-run_handle : (c t n handle : ℕ) (s : Step) (params : List Param) (a : DriverAnswer) (L : List Entry) → SoFar t n s L → goes s (Exec (Handle handle) params) ≡ true
-    → SoFar t n (WasRun handle) (call_entry c t n (Exec (Handle handle) params) a ∷ L)
-run_handle c t n handle (WasPrepared given) params a L so g =
+run_handle : (c t n m handle : ℕ) (s : Step) (params : List Param) (a : DriverAnswer) (L : List Entry) → SoFar t n s L → goes s (Exec (Handle handle) params) ≡ true
+    → SoFar t n (WasRun handle) (sent_entry c t n m (Exec (Handle handle) params) a ∷ L)
+run_handle c t n m handle (WasPrepared given) params a L so g =
     let is : given ≡ handle = equal given handle g in
     let had : SoFar t n (WasPrepared handle) L = rw is at so in
-    so_far-with c t n (WasPrepared handle) (WasRun handle) (Exec (Handle handle) params) a L had (omega arith) refl refl refl (λ h. refl) (λ h. absurd cc)
-    (gave_on c t n (Exec (Handle handle) params) a handle L refl had.given) had.live had.open_rows (λ h. absurd cc)
-run_handle c t n handle _ params a L so g = absurd cc
+    so_far-with c t n m (WasPrepared handle) (WasRun handle) (Exec (Handle handle) params) a L had (omega arith) refl refl refl (λ h. refl) (λ h. absurd cc)
+    (gave_on c t n m (Exec (Handle handle) params) a handle L refl had.given) had.live had.open_rows (λ h. absurd cc)
+run_handle c t n m handle _ params a L so g = absurd cc
 
 -- a Query of the handle gave no cursor
-query_run : (c t n handle : ℕ) (s : Step) (params : List Param) (a : DriverAnswer) (L : List Entry) → SoFar t n s L → goes s (Query (Handle handle) params) ≡ true
-    → given_cursor a ≡ None → SoFar t n (WasRun handle) (call_entry c t n (Query (Handle handle) params) a ∷ L)
-query_run c t n handle (WasPrepared given) params a L so g none =
+query_run : (c t n m handle : ℕ) (s : Step) (params : List Param) (a : DriverAnswer) (L : List Entry) → SoFar t n s L → goes s (Query (Handle handle) params) ≡ true
+    → given_cursor a ≡ None → SoFar t n (WasRun handle) (sent_entry c t n m (Query (Handle handle) params) a ∷ L)
+query_run c t n m handle (WasPrepared given) params a L so g none =
     let is : given ≡ handle = equal given handle g in
     let had : SoFar t n (WasPrepared handle) L = rw is at so in
-    so_far-with c t n (WasPrepared handle) (WasRun handle) (Query (Handle handle) params) a L had (omega arith) refl refl refl (λ h. refl) (λ h. absurd cc)
-    (gave_on c t n (Query (Handle handle) params) a handle L refl had.given) had.live (unread a (cursors L) none had.open_rows) (λ h. absurd cc)
+    so_far-with c t n m (WasPrepared handle) (WasRun handle) (Query (Handle handle) params) a L had (omega arith) refl refl refl (λ h. refl) (λ h. absurd cc)
+    (gave_on c t n m (Query (Handle handle) params) a handle L refl had.given) had.live (unread a (cursors L) none had.open_rows) (λ h. absurd cc)
   where
     unread : (b : DriverAnswer) (live : List LiveCursor) → given_cursor b ≡ None → live ≡ []
-        → cursors_after (call_entry c t n (Query (Handle handle) params) a) (Query (Handle handle) params) b live ≡ []
+        → cursors_after (sent_entry c t n m (Query (Handle handle) params) a) (Query (Handle handle) params) b live ≡ []
     unread (Cursor rows columns) live k is = absurd cc
     unread _ live k is = is
-query_run c t n handle _ params a L so g none = absurd cc
+query_run c t n m handle _ params a L so g none = absurd cc
 
-handle_opens : (c t n handle : ℕ) (s : Step) (params : List Param) (rows : ℕ) (columns : List (List ℕ)) (L : List Entry) → SoFar t n s L
-    → goes s (Query (Handle handle) params) ≡ true → SoFar t n (HasRows (Some handle) rows) (call_entry c t n (Query (Handle handle) params) (Cursor rows columns) ∷ L)
-handle_opens c t n handle (WasPrepared given) params rows columns L so g =
+handle_opens : (c t n m handle : ℕ) (s : Step) (params : List Param) (rows : ℕ) (columns : List (List ℕ)) (L : List Entry) → SoFar t n s L
+    → goes s (Query (Handle handle) params) ≡ true → SoFar t n (HasRows (Some handle) rows) (sent_entry c t n m (Query (Handle handle) params) (Cursor rows columns) ∷ L)
+handle_opens c t n m handle (WasPrepared given) params rows columns L so g =
     let is : given ≡ handle = equal given handle g in
     let had : SoFar t n (WasPrepared handle) L = rw is at so in
-    so_far-with c t n (WasPrepared handle) (HasRows (Some handle) rows) (Query (Handle handle) params) (Cursor rows columns) L had (omega arith) refl refl refl (λ h. refl) (λ h. absurd cc)
-    (gave_on c t n (Query (Handle handle) params) (Cursor rows columns) handle L refl had.given, rw (same rows) refl) had.live
+    so_far-with c t n m (WasPrepared handle) (HasRows (Some handle) rows) (Query (Handle handle) params) (Cursor rows columns) L had (omega arith) refl refl refl (λ h. refl) (λ h. absurd cc)
+    (gave_on c t n m (Query (Handle handle) params) (Cursor rows columns) handle L refl had.given, rw (same rows) refl) had.live
     (record { columns = length columns; is = rw had.open_rows refl }) (λ h. absurd cc)
-handle_opens c t n handle _ params rows columns L so g = absurd cc
+handle_opens c t n m handle _ params rows columns L so g = absurd cc
 
 -- what was given stays given
-gave_own : (c t n : ℕ) (q : DriverCall) (a : DriverAnswer) (own : Option ℕ) (L : List Entry) → is_prepare q ≡ false → GaveOwn own L → GaveOwn own (call_entry c t n q a ∷ L)
-gave_own c t n q a None L not h = tt
-gave_own c t n q a (Some handle) L not h = gave_on c t n q a handle L not h
+gave_own : (c t n m : ℕ) (q : DriverCall) (a : DriverAnswer) (own : Option ℕ) (L : List Entry) → is_prepare q ≡ false → GaveOwn own L → GaveOwn own (sent_entry c t n m q a ∷ L)
+gave_own c t n m q a None L not h = tt
+gave_own c t n m q a (Some handle) L not h = gave_on c t n m q a handle L not h
 
 opened_on : (here later : Bool) → later ≡ true → here || later ≡ true
 opened_on here later h = grind (arith, h)
 
-reads : (c t n rows : ℕ) (s : Step) (a : DriverAnswer) (L : List Entry) → SoFar t n s L → goes s (Next rows) ≡ true → SoFar t n (read_after s) (call_entry c t n (Next rows) a ∷ L)
-reads c t n rows (HasRows own given) a L so g =
-    so_far-with c t n (HasRows own given) (HasRead own given) (Next rows) a L so (omega arith) refl refl refl (λ h. refl) (λ h. absurd cc)
-    (gave_own c t n (Next rows) a own L refl so.given.0, opened_on (is_number (given_cursor a) given) (opened given L) so.given.1) so.live
-    (record {
+reads : (c t n m rows : ℕ) (s : Step) (a : DriverAnswer) (L : List Entry) → SoFar t n s L → goes s (Next rows) ≡ true
+    → SoFar t n (read_after s (is_over a)) (sent_entry c t n m (Next rows) a ∷ L)
+reads c t n m rows (HasRows own given) a L so g =
+    so_far-with c t n m (HasRows own given) (HasRead own given (is_over a)) (Next rows) a L so (omega arith) refl refl refl (λ h. refl) (λ h. absurd cc)
+    (gave_own c t n m (Next rows) a own L refl so.given.0, opened_on (is_number (given_cursor a) given) (opened given L) so.given.1) so.live
+    (record { columns = so.open_rows.columns; is = rw (so.open_rows.is, g) refl }) (λ h. absurd cc)
+reads c t n m rows (HasRead own given false) a L so g =
+    so_far-with c t n m (HasRead own given false) (HasRead own given (is_over a)) (Next rows) a L so (omega arith) refl refl refl (λ h. refl) (λ h. absurd cc)
+    (gave_own c t n m (Next rows) a own L refl so.given.0, opened_on (is_number (given_cursor a) given) (opened given L) so.given.1) so.live
+    (record { columns = so.open_rows.columns; is = rw (so.open_rows.is, g) refl }) (λ h. absurd cc)
+reads c t n m rows _ a L so g = absurd cc
+
+-- What is known of the cursor that is closed, whether it was fetched from or not.
+record Closes (t n given rows : ℕ) (s : Step) (own : Option ℕ) (L : List Entry) : Type 0 where
+  columns : ℕ
+  over : Bool
+  is : cursors L ≡ own_cursor t given columns over ∷ []
+  same_rows : (given == rows) ≡ true
+  low : level s ≤ 4
+  going : is_going s ≡ true
+  gave : GaveOwn own L
+  live : LiveOwn t n own (handles L)
+
+close_rows : (c t n m given rows : ℕ) (s : Step) (own : Option ℕ) (a : DriverAnswer) (L : List Entry) → SoFar t n s L → Closes t n given rows s own L
+    → SoFar t n (left_of own) (sent_entry c t n m (CloseRows rows) a ∷ L)
+close_rows c t n m given rows s None a L so k =
+    so_far-with c t n m s WasDone (CloseRows rows) a L so (omega (arith, k.low)) refl refl k.going (λ h. refl) (λ h. absurd cc) tt k.live
+    (rw (k.is, k.same_rows) refl) (λ h. absurd cc)
+close_rows c t n m given rows s (Some handle) a L so k =
+    so_far-with c t n m s (WasRun handle) (CloseRows rows) a L so (omega (arith, k.low)) refl refl k.going (λ h. refl) (λ h. absurd cc)
+    (gave_on c t n m (CloseRows rows) a handle L refl k.gave) k.live (rw (k.is, k.same_rows) refl) (λ h. absurd cc)
+
+frees : (c t n m rows : ℕ) (s : Step) (a : DriverAnswer) (L : List Entry) → SoFar t n s L → goes s (CloseRows rows) ≡ true
+    → SoFar t n (freed_after s) (sent_entry c t n m (CloseRows rows) a ∷ L)
+frees c t n m rows (HasRows own given) a L so g =
+    close_rows c t n m given rows (HasRows own given) own a L so (record {
       columns = so.open_rows.columns;
-      over = false || is_over a;
-      is = rw (so.open_rows.is, g) refl;
-    }) (λ h. absurd cc)
-reads c t n rows _ a L so g = absurd cc
+      over = false;
+      is = so.open_rows.is;
+      same_rows = g;
+      low = omega arith;
+      going = refl;
+      gave = so.given.0;
+      live = so.live;
+    })
+frees c t n m rows (HasRead own given over) a L so g =
+    close_rows c t n m given rows (HasRead own given over) own a L so (record {
+      columns = so.open_rows.columns;
+      over = over;
+      is = so.open_rows.is;
+      same_rows = g;
+      low = omega arith;
+      going = refl;
+      gave = so.given.0;
+      live = so.live;
+    })
+frees c t n m rows _ a L so g = absurd cc
 
-frees : (c t n rows : ℕ) (s : Step) (a : DriverAnswer) (L : List Entry) → SoFar t n s L → goes s (CloseRows rows) ≡ true → SoFar t n (freed_after s) (call_entry c t n (CloseRows rows) a ∷ L)
-frees c t n rows (HasRead None given) a L so g =
-    so_far-with c t n (HasRead None given) WasDone (CloseRows rows) a L so (omega arith) refl refl refl (λ h. refl) (λ h. absurd cc) tt so.live
-    (rw (so.open_rows.is, g) refl) (λ h. absurd cc)
-frees c t n rows (HasRead (Some handle) given) a L so g =
-    so_far-with c t n (HasRead (Some handle) given) (WasRun handle) (CloseRows rows) a L so (omega arith) refl refl refl (λ h. refl) (λ h. absurd cc)
-    (gave_on c t n (CloseRows rows) a handle L refl so.given.0) so.live (rw (so.open_rows.is, g) refl) (λ h. absurd cc)
-frees c t n rows _ a L so g = absurd cc
-
-close_handle : (c t n handle : ℕ) (s : Step) (a : DriverAnswer) (L : List Entry) → SoFar t n s L → goes s (CloseStmt handle) ≡ true
-    → SoFar t n WasDone (call_entry c t n (CloseStmt handle) a ∷ L)
-close_handle c t n handle (WasPrepared given) a L so g =
+close_handle : (c t n m handle : ℕ) (s : Step) (a : DriverAnswer) (L : List Entry) → SoFar t n s L → goes s (CloseStmt handle) ≡ true
+    → SoFar t n WasDone (sent_entry c t n m (CloseStmt handle) a ∷ L)
+close_handle c t n m handle (WasPrepared given) a L so g =
     let is : given ≡ handle = equal given handle g in
     let had : SoFar t n (WasPrepared handle) L = rw is at so in
-    so_far-with c t n (WasPrepared handle) WasDone (CloseStmt handle) a L had (omega arith) refl refl refl (λ h. refl) (λ h. absurd cc) tt
+    so_far-with c t n m (WasPrepared handle) WasDone (CloseStmt handle) a L had (omega arith) refl refl refl (λ h. refl) (λ h. absurd cc) tt
     (rw had.live.is (rw (same handle) refl)) had.open_rows (λ h. absurd cc)
-close_handle c t n handle (WasRun given) a L so g =
+close_handle c t n m handle (WasRun given) a L so g =
     let is : given ≡ handle = equal given handle g in
     let had : SoFar t n (WasRun handle) L = rw is at so in
-    so_far-with c t n (WasRun handle) WasDone (CloseStmt handle) a L had (omega arith) refl refl refl (λ h. refl) (λ h. absurd cc) tt
+    so_far-with c t n m (WasRun handle) WasDone (CloseStmt handle) a L had (omega arith) refl refl refl (λ h. refl) (λ h. absurd cc) tt
     (rw had.live.is (rw (same handle) refl)) had.open_rows (λ h. absurd cc)
-close_handle c t n handle _ a L so g = absurd cc
+close_handle c t n m handle _ a L so g = absurd cc
 
-reset_heard : (c t n : ℕ) (s : Step) (a : DriverAnswer) (L : List Entry) → SoFar t n s L → goes s Reset ≡ true → SoFar t n WasReset (call_entry c t n Reset a ∷ L)
-reset_heard c t n Start a L so g = so_far-with c t n Start WasReset Reset a L so (omega arith) refl refl refl (λ h. refl) (λ h. (refl, refl)) tt so.live so.open_rows (λ h. absurd cc)
-reset_heard c t n _ a L so g = absurd cc
+reset_heard : (c t n m : ℕ) (s : Step) (a : DriverAnswer) (L : List Entry) → SoFar t n s L → goes s Reset ≡ true → SoFar t n WasReset (sent_entry c t n m Reset a ∷ L)
+reset_heard c t n m Start a L so g = so_far-with c t n m Start WasReset Reset a L so (omega arith) refl refl refl (λ h. refl) (λ h. (refl, refl)) tt so.live so.open_rows (λ h. absurd cc)
+reset_heard c t n m _ a L so g = absurd cc
 
-tested : (c t n : ℕ) (s : Step) (a : DriverAnswer) (L : List Entry) → SoFar t n s L → goes s Valid ≡ true → SoFar t n WasTested (call_entry c t n Valid a ∷ L)
-tested c t n WasDone a L so g = so_far-with c t n WasDone WasTested Valid a L so (omega arith) refl refl refl (λ h. absurd cc) (λ h. absurd cc) tt so.live so.open_rows (λ h. absurd cc)
-tested c t n _ a L so g = absurd cc
+tested : (c t n m : ℕ) (s : Step) (a : DriverAnswer) (L : List Entry) → SoFar t n s L → goes s Valid ≡ true → SoFar t n WasTested (sent_entry c t n m Valid a ∷ L)
+tested c t n m WasDone a L so g = so_far-with c t n m WasDone WasTested Valid a L so (omega arith) refl refl refl (λ h. absurd cc) (λ h. absurd cc) tt so.live so.open_rows (λ h. absurd cc)
+tested c t n m _ a L so g = absurd cc
 
 -- what such a call sends
 abbrev pub is_sent : DriverCall → Bool
@@ -478,27 +519,27 @@ sent_when WasReset q h = absurd cc
 sent_when WasSkipped q h = absurd cc
 sent_when (WasPrepared handle) q h = absurd cc
 sent_when (HasRows own rows) q h = absurd cc
-sent_when (HasRead own rows) q h = absurd cc
+sent_when (HasRead own rows over) q h = absurd cc
 sent_when (WasRun handle) q h = absurd cc
 sent_when WasDone q h = absurd cc
 sent_when s q h = absurd cc
 
 -- What such a call sends next is known where what it sent before is.
-pub so_far-next : (c t n : ℕ) (s : Step) (q : DriverCall) (a : DriverAnswer) (L : List Entry) → SoFar t n s L → goes s q ≡ true → SoFar t n (step_after s q a) (call_entry c t n q a ∷ L)
-so_far-next c t n s q Bad L so g = dropped c t n s q Bad L so g
-so_far-next c t n s Reset a L so g = reset_heard c t n s a L so g
-so_far-next c t n s (Exec (Text text) params) Skip L so g = text_skipped c t n s text params L so g
-so_far-next c t n s (Exec (Text text) params) a L so g = text_done c t n s text params a L so g
-so_far-next c t n s (Query (Text text) params) Skip L so g = query_skipped c t n s text params L so g
-so_far-next c t n s (Query (Text text) params) (Cursor rows columns) L so g = query_opens c t n s text params rows columns L so g
-so_far-next c t n s (Query (Text text) params) a L so g = query_done c t n s text params a L so g refl
-so_far-next c t n s (Prepare text) (Prepared handle inputs) L so g = gives c t n s text handle inputs L so g
-so_far-next c t n s (Prepare text) a L so g = ungiven c t n s text a L so g refl
-so_far-next c t n s (Exec (Handle handle) params) a L so g = run_handle c t n handle s params a L so g
-so_far-next c t n s (Query (Handle handle) params) (Cursor rows columns) L so g = handle_opens c t n handle s params rows columns L so g
-so_far-next c t n s (Query (Handle handle) params) a L so g = query_run c t n handle s params a L so g refl
-so_far-next c t n s (Next rows) a L so g = reads c t n rows s a L so g
-so_far-next c t n s (CloseRows rows) a L so g = frees c t n rows s a L so g
-so_far-next c t n s (CloseStmt handle) a L so g = close_handle c t n handle s a L so g
-so_far-next c t n s Valid a L so g = tested c t n s a L so g
-so_far-next c t n s q a L so g = let k = sent_when s q g in absurd cc
+pub so_far-next : (c t n m : ℕ) (s : Step) (q : DriverCall) (a : DriverAnswer) (L : List Entry) → SoFar t n s L → goes s q ≡ true → SoFar t n (step_after s q a) (sent_entry c t n m q a ∷ L)
+so_far-next c t n m s q Bad L so g = dropped c t n m s q Bad L so g
+so_far-next c t n m s Reset a L so g = reset_heard c t n m s a L so g
+so_far-next c t n m s (Exec (Text text) params) Skip L so g = text_skipped c t n m s text params L so g
+so_far-next c t n m s (Exec (Text text) params) a L so g = text_done c t n m s text params a L so g
+so_far-next c t n m s (Query (Text text) params) Skip L so g = query_skipped c t n m s text params L so g
+so_far-next c t n m s (Query (Text text) params) (Cursor rows columns) L so g = query_opens c t n m s text params rows columns L so g
+so_far-next c t n m s (Query (Text text) params) a L so g = query_done c t n m s text params a L so g refl
+so_far-next c t n m s (Prepare text) (Prepared handle inputs) L so g = gives c t n m s text handle inputs L so g
+so_far-next c t n m s (Prepare text) a L so g = ungiven c t n m s text a L so g refl
+so_far-next c t n m s (Exec (Handle handle) params) a L so g = run_handle c t n m handle s params a L so g
+so_far-next c t n m s (Query (Handle handle) params) (Cursor rows columns) L so g = handle_opens c t n m handle s params rows columns L so g
+so_far-next c t n m s (Query (Handle handle) params) a L so g = query_run c t n m handle s params a L so g refl
+so_far-next c t n m s (Next rows) a L so g = reads c t n m rows s a L so g
+so_far-next c t n m s (CloseRows rows) a L so g = frees c t n m rows s a L so g
+so_far-next c t n m s (CloseStmt handle) a L so g = close_handle c t n m handle s a L so g
+so_far-next c t n m s Valid a L so g = tested c t n m s a L so g
+so_far-next c t n m s q a L so g = let k = sent_when s q g in absurd cc

@@ -1,5 +1,5 @@
 -- What follows for the journals of each lawful history, in the words of its readers.
-use Rattle.std.proofs.Common.{◌≡◌, ◌≢◌, ℕ, zero, suc, ◌<◌, ◌≤◌, ◌+◌, ◌==◌, ◌⊎◌, inl, inr, Bool, true, false, not, ◌&&◌, ◌||◌, cond, List, [], ◌∷◌, length, get_or, set, length-set, refl, sym, ap, subst, is_some, is_none, ◌∙◌}
+use Rattle.std.proofs.Common.{◌≡◌, ℕ, ◌+◌, ◌==◌, Bool, true, false, ◌||◌, cond, List, [], ◌∷◌, refl, sym, subst, is_some, is_none}
 use native.Mathlib.Omega.{arith}
 use Rattle.std.proofs.lemmas.Bool.Decides.{nat_tests}
 use Rattle.dsql_driver.specs.Fits.{fits_of, is_memory, is_done, is_failure}
@@ -9,39 +9,32 @@ use Rattle.dsql_driver.specs.declared.answer.DriverAnswer.TheVariants.{Done, Bad
 use Rattle.dsql_journal.specs.declared.entry.Entry.{Entry}
 use Rattle.dsql_journal.specs.declared.entry.Owner.{Owner}
 use Rattle.dsql_journal.specs.declared.entry.Owner.TheVariants.{Call, Tx, Pin, House}
-use Rattle.dsql_journal.specs.Kinds.{is_call, is_connect, is_shut, is_house, same_owner}
 use Rattle.dsql_journal.specs.Readers.{went_bad}
 use Rattle.dsql_journal.specs.Tenure.{is_whole_tenure}
-use Rattle.dsql_journal.specs.Journal.{may_follow, is_whole, IsJournalPrefix, IsWhole}
-use Rattle.dsql_journal.specs.Entries.{call_entry, connect_entry, shut_entry}
+use Rattle.dsql_journal.specs.Journal.{may_follow, is_whole, IsWhole}
+use Rattle.dsql_journal.specs.Entries.{connect_entry, shut_entry}
 use Rattle.dsql_journal.proofs.Beginnings.{may_follow-whole}
 use Rattle.dsql_journal.proofs.Tenures.{of_tenure-new}
-use Rattle.dsql_journal.proofs.ExecJournals.{is_whole_tenure-plain, may_follow-connect, is_whole-refused}
+use Rattle.dsql_journal.proofs.ExecJournals.{may_follow-connect, is_whole-refused}
 use Rattle.dsql_history.specs.declared.event.Event.{Event}
-use Rattle.dsql_history.specs.declared.event.Event.TheVariants.{Run, Entered, Heard, Pool, Replied, Ended}
-use Rattle.dsql_history.specs.declared.event.Move.{Move}
-use Rattle.dsql_history.specs.declared.event.Move.TheVariants.{OpenStart, Lend, Back, CloseStart, Gone, Fell}
-use Rattle.dsql_history.specs.declared.event.CloseCause.{CloseCause}
+use Rattle.dsql_history.specs.declared.event.Event.TheVariants.{Heard, Pool}
+use Rattle.dsql_history.specs.declared.event.Move.TheVariants.{Lend, Gone, Fell}
 use Rattle.dsql_history.specs.declared.record.Place.{Place}
-use Rattle.dsql_history.specs.declared.record.Place.TheVariants.{Nowhere, Opening, Idle, Lent, Closing}
-use Rattle.dsql_history.specs.Readers.Course.{caps, has_ended}
-use Rattle.dsql_history.specs.Readers.Sets.{places, place, idle, is_opening, is_closing, is_lent, is_idle, number_of, all_lends, lends, all_uses, uses, next_tenure}
-use Rattle.dsql_history.specs.Readers.Calls.{call_record}
+use Rattle.dsql_history.specs.declared.record.Place.TheVariants.{Opening, Lent, Closing}
+use Rattle.dsql_history.specs.Readers.Course.{caps}
+use Rattle.dsql_history.specs.Readers.Sets.{place, is_opening, is_closing, lends, uses, next_tenure}
 use Rattle.dsql_history.specs.Readers.Journals.{journal, heard_in, ends_invalid}
-use Rattle.dsql_history.specs.Rules.Order.{follows, follows_answer, lends_to, falls_to, goes, leaves_when_heard, was_just_heard, was_just_opened}
-use Rattle.dsql_history.specs.Rules.Moves.{moves_from, numbers_lending, hears_in}
-use Rattle.dsql_history.specs.Rules.Causes.{returns_from}
-use Rattle.dsql_history.specs.Rules.Line as line
+use Rattle.dsql_history.specs.Rules.Order.{was_just_heard, was_just_opened}
 use Rattle.dsql_journal.specs.HandlesAndCursors.{fits_at_its_place}
-use Rattle.dsql_history.specs.Rules.Line.{is_reset_due, due, is_due, asked_by}
+use Rattle.dsql_history.specs.Rules.Line.{is_reset_due, due, is_due, asked_by, wish, is_kept_by_rows}
 use Rattle.dsql_history.specs.Rules.Settled.{is_placed}
 use Rattle.dsql_history.specs.Legal.{Allowed, Lawful, has_left, KeepsJournals}
-use Rattle.dsql_history.proofs.Rows.{both, same_number, same_to_itself, other_number, by_number, row_at, row_off, row_new, row_old, read_set, within_rows, length_push}
-use Rattle.dsql_history.proofs.SoundSets.{SoundSets, sound_sets}
-use Rattle.dsql_history.proofs.SoundCalls.{LendFacts, lend_facts, Opened, OpenFacts, open_facts, Asked, owner_of}
-use Rattle.dsql_history.proofs.CallJournals.{may_follow-shut, is_whole-shut, plain_of}
-use Rattle.dsql_history.proofs.Lines.{call_entry_of, due_while, may_follow-due, none_left}
-use Rattle.dsql_history.proofs.SoundJournals.{SoundJournals, rests_from, heard_facts}
+use Rattle.dsql_history.proofs.Rows.{same_number, same_to_itself}
+use Rattle.dsql_history.proofs.SoundCalls.{lend_facts}
+use Rattle.dsql_history.proofs.CallJournals.{may_follow-shut, is_whole-shut}
+use Rattle.dsql_history.proofs.CallLines.{sent_entry}
+use Rattle.dsql_history.proofs.Lines.{sent_entry_of, due_while, may_follow-due}
+use Rattle.dsql_history.proofs.SoundJournals.{rests_from, heard_facts}
 use Rattle.dsql_history.proofs.SoundLines.{sound_journals, sound_made}
 use Rattle.dsql_history.proofs.Standing.{Stands, Leaves, done_whole, good_now}
 
@@ -70,29 +63,30 @@ owned_tenure c l u heard opened J t House s = absurd s
 pub lent_tenure : (H : List Event) (c t : ℕ) (o : Owner) → Lawful H → place H c ≡ Lent t o → t ≡ lends H c + 1
 lent_tenure H c t o l is = owned_tenure c (lends H c) (uses H c) (was_just_heard c H) (was_just_opened c H) (journal H c) t o (stands_at H c (Lent t o) l is)
 
--- a connection on which nothing is due any more can be given back or closed
-pub whole_when_done : (H : List Event) (c t n : ℕ) → Lawful H → place H c ≡ Lent t (Call n) → is_none (due H c t n) ≡ true → is_whole_tenure t (journal H c) ≡ true
-whole_when_done H c t n l is none =
+-- a connection on which nothing is due any more, and that no rows keep, can be given back or closed
+pub whole_when_done : (H : List Event) (c t n : ℕ) → Lawful H → place H c ≡ Lent t (Call n) → is_none (due H c t n) ≡ true → is_kept_by_rows H c t n ≡ false
+    → is_whole_tenure t (journal H c) ≡ true
+whole_when_done H c t n l is none free =
     let s = stands_at H c (Lent t (Call n)) l is in
     let made = sound_made H l in
-    done_whole c t n (journal H c) (caps H) (is_reset_due H c) (asked_by (call_record H n)) s.serves (made c t n is) none
+    done_whole c t n (journal H c) (caps H) (is_reset_due H c) (asked_by H n) (wish H n) s.serves (made c t n is) none free
 
 -- as long as something is due, no answer of the connection was bad, and no test of it failed
 pub good_while_due : (H : List Event) (c t n : ℕ) → Lawful H → place H c ≡ Lent t (Call n) → is_some (due H c t n) ≡ true → (went_bad (journal H c) ≡ false) × (ends_invalid (journal H c) ≡ false)
 good_while_due H c t n l is some =
     let s = stands_at H c (Lent t (Call n)) l is in
     let v = s.serves in
-    good_now (journal H c) (v.good (due_while (caps H) (is_reset_due H c) (asked_by (call_record H n)) (heard_in H c t) some))
+    good_now (journal H c) (v.good (due_while (caps H) (is_reset_due H c) (asked_by H n) (wish H n) (heard_in H c t) some))
 
 -- what is due may follow, for each answer that fits there
-pub follows_due : (H : List Event) (e : Entry) (t n : ℕ) → Lawful H → place H e.conn ≡ Lent t (Call n) → is_due (due H e.conn t n) e.call ≡ true → e.tenure ≡ t → e.owner ≡ Call n → e.call_no ≡ n
+pub follows_due : (H : List Event) (e : Entry) (t n : ℕ) → Lawful H → place H e.conn ≡ Lent t (Call n) → is_due (due H e.conn t n) e.call ≡ true → e.tenure ≡ t → e.owner ≡ Call n
     → e.tx ≡ 0 → fits_at_its_place (journal H e.conn) e ≡ true → may_follow (journal H e.conn) e ≡ true
-follows_due H e t n l is due tenure owner number tx fits =
+follows_due H e t n l is due tenure owner tx fits =
     let s = stands_at H e.conn (Lent t (Call n)) l is in
     let made = sound_made H l in
-    let same : e ≡ call_entry e.conn t n e.call e.answer = call_entry_of e.conn t n e refl tenure owner number tx in
-    let fits_there : fits_at_its_place (journal H e.conn) (call_entry e.conn t n e.call e.answer) ≡ true = subst (λ (x : Entry). fits_at_its_place (journal H e.conn) x ≡ true) same fits in
-    let may = may_follow-due e.conn t n (journal H e.conn) (caps H) (is_reset_due H e.conn) (asked_by (call_record H n)) e.call e.answer s.serves (made e.conn t n is) due fits_there in
+    let same : e ≡ sent_entry e.conn t n e.call_no e.call e.answer = sent_entry_of e.conn t n e.call_no e refl tenure owner refl tx in
+    let fits_there : fits_at_its_place (journal H e.conn) (sent_entry e.conn t n e.call_no e.call e.answer) ≡ true = subst (λ (x : Entry). fits_at_its_place (journal H e.conn) x ≡ true) same fits in
+    let may = may_follow-due e.conn t n e.call_no (journal H e.conn) (caps H) (is_reset_due H e.conn) (asked_by H n) (wish H n) e.call e.answer s.serves (made e.conn t n is) due fits_there in
     subst (λ (x : Entry). may_follow (journal H e.conn) x ≡ true) (sym same) may
 
 is_false : (b : Bool) → (b ≡ true → ⊥) → b ≡ false

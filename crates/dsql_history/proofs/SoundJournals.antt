@@ -1,22 +1,13 @@
 -- What was heard of each connection in each lawful history, by induction: a lemma for each kind of event.
-use Rattle.std.proofs.Common.{◌≡◌, ◌≢◌, ℕ, zero, suc, ◌<◌, ◌≤◌, ◌+◌, ◌==◌, ◌⊎◌, inl, inr, Bool, true, false, not, ◌&&◌, ◌||◌, cond, List, [], ◌∷◌, length, get_or, set, length-set, refl, sym, ap, subst, is_some, ◌∙◌}
+use Rattle.std.proofs.Common.{◌≡◌, ◌≢◌, ℕ, zero, suc, ◌<◌, ◌≤◌, ◌+◌, ◌==◌, ◌⊎◌, inl, inr, Bool, true, false, not, ◌&&◌, ◌||◌, cond, List, [], ◌∷◌, length, get_or, set, length-set, refl, sym, ap, is_none, ◌∙◌}
 use native.Mathlib.Omega.{arith}
-use Rattle.std.proofs.lemmas.Bool.Decides.{nat_tests}
-use Rattle.dsql_driver.specs.Fits.{fits_of, is_memory, is_done, is_failure}
-use Rattle.dsql_driver.specs.declared.call.DriverCall.TheVariants.{Connect, Shut}
-use Rattle.dsql_driver.specs.declared.answer.DriverAnswer.{DriverAnswer}
-use Rattle.dsql_driver.specs.declared.answer.DriverAnswer.TheVariants.{Done, Bad, Fail, Memory}
+use Rattle.dsql_driver.specs.Fits.{is_done}
 use Rattle.dsql_journal.specs.declared.entry.Entry.{Entry}
 use Rattle.dsql_journal.specs.declared.entry.Owner.{Owner}
 use Rattle.dsql_journal.specs.declared.entry.Owner.TheVariants.{Call, Tx, Pin, House}
 use Rattle.dsql_journal.specs.Kinds.{is_call, is_connect, is_shut, is_house, same_owner}
-use Rattle.dsql_journal.specs.Readers.{went_bad}
-use Rattle.dsql_journal.specs.Tenure.{is_whole_tenure}
-use Rattle.dsql_journal.specs.Journal.{may_follow, is_whole, IsJournalPrefix, IsWhole}
-use Rattle.dsql_journal.specs.Entries.{call_entry, connect_entry, shut_entry}
-use Rattle.dsql_journal.proofs.Beginnings.{may_follow-whole}
-use Rattle.dsql_journal.proofs.Tenures.{of_tenure-new}
-use Rattle.dsql_journal.proofs.ExecJournals.{IsJournalPrefix-with, is_whole_tenure-plain, may_follow-connect, is_whole-refused, may_follow-shut, is_whole-shut}
+use Rattle.dsql_journal.specs.Journal.{may_follow, IsJournalPrefix}
+use Rattle.dsql_journal.proofs.ExecJournals.{IsJournalPrefix-with}
 use Rattle.dsql_history.specs.declared.event.Event.{Event}
 use Rattle.dsql_history.specs.declared.event.Event.TheVariants.{Run, Entered, Heard, Pool, Replied, Ended}
 use Rattle.dsql_history.specs.declared.event.Move.{Move}
@@ -25,25 +16,25 @@ use Rattle.dsql_history.specs.declared.event.CloseCause.{CloseCause}
 use Rattle.dsql_history.specs.declared.record.Place.{Place}
 use Rattle.dsql_history.specs.declared.record.Place.TheVariants.{Nowhere, Opening, Idle, Lent, Closing}
 use Rattle.dsql_history.specs.Readers.Course.{caps, has_ended}
-use Rattle.dsql_history.specs.Readers.Sets.{places, place, idle, is_opening, is_closing, is_lent, is_idle, number_of, all_lends, lends, all_uses, uses, next_tenure}
-use Rattle.dsql_history.specs.Readers.Calls.{call_record}
-use Rattle.dsql_history.specs.Readers.Journals.{journal, heard_in, ends_invalid}
+use Rattle.dsql_history.specs.Readers.Sets.{places, place, idle, is_opening, is_closing, is_lent, is_idle, number_of, all_lends, lends, all_uses, uses}
+use Rattle.dsql_history.specs.Readers.Works.{work}
+use Rattle.dsql_history.specs.Readers.Calls.{sender}
+use Rattle.dsql_history.specs.Readers.Journals.{journal, heard_in}
 use Rattle.dsql_history.specs.Rules.Order.{follows, follows_answer, lends_to, falls_to, goes, leaves_when_heard, was_just_heard, was_just_opened}
 use Rattle.dsql_history.specs.Rules.Moves.{moves_from, numbers_lending, hears_in}
 use Rattle.dsql_history.specs.Rules.Causes.{returns_from}
 use Rattle.dsql_history.specs.Rules.Line as line
 use Rattle.dsql_history.specs.Readers.Exchanges.{exchanges}
-use Rattle.dsql_history.specs.Rules.Line.{sends_from, is_reset_due, due, is_due, asked_by}
+use Rattle.dsql_history.specs.Rules.Line.{sends_from, is_reset_due, due, is_due, asked_by, wish, keeps_rows, aim_of, is_kept_by_rows}
 use Rattle.dsql_history.specs.Rules.Journals.{leaves_whole}
-use Rattle.dsql_history.specs.Rules.Settled.{is_placed}
-use Rattle.dsql_history.specs.Legal.{Allowed, Lawful, has_left, KeepsJournals}
-use Rattle.dsql_history.proofs.Rows.{both, same_number, same_to_itself, other_number, by_number, row_at, row_off, row_new, row_old, read_set, within_rows, length_push}
-use Rattle.dsql_history.proofs.SoundSets.{SoundSets, sound_sets}
+use Rattle.dsql_history.specs.Legal.{Allowed}
+use Rattle.dsql_history.proofs.Rows.{both, not_true, same_number, same_to_itself, other_number, by_number, row_at, row_off, row_new, row_old, read_set, within_rows, length_push}
+use Rattle.dsql_history.proofs.SoundSets.{SoundSets}
 use Rattle.dsql_history.proofs.SoundCalls.{LendFacts, lend_facts, Opened, OpenFacts, open_facts, Asked, owner_of}
 use Rattle.dsql_history.proofs.CallLines.{step}
 use Rattle.dsql_history.proofs.MadeLines.{MadeAt}
 use Rattle.dsql_history.proofs.Lines.{call_owner}
-use Rattle.dsql_history.proofs.Standing.{Stands, Rests, Leaves, stands_on, works_first, rests_opened, rests_again, leaves_idle, leaves_lent, opens_heard, works_heard, good_now}
+use Rattle.dsql_history.proofs.Standing.{Stands, Rests, Leaves, stands_on, works_first, rests_opened, rests_again, leaves_idle, leaves_lent, opens_heard, works_heard}
 
 -- what was heard of connection c fits where it stands
 abbrev pub StandsIn : List Event → ℕ → Type 0
@@ -57,7 +48,7 @@ pub record SoundJournals (H : List Event) : Type 0 where
 
 -- what was exchanged in the tenure of call n fits how far that has come
 abbrev pub MadeIn : List Event → ℕ → ℕ → ℕ → Type 0
-MadeIn H c t n = MadeAt (caps H) (asked_by (call_record H n)) (step (heard_in H c t)) (exchanges (heard_in H c t))
+MadeIn H c t n = MadeAt (caps H) (asked_by H n) (step (heard_in H c t)) (exchanges (heard_in H c t))
 
 abbrev pub AllMade : List Event → Type 0
 AllMade H = (c t n : ℕ) → place H c ≡ Lent t (Call n) → MadeIn H c t n
@@ -189,7 +180,7 @@ stands_lend H c t o n z s a f d =
     refl
     (row_off (places H) c (Lent t o) d Nowhere not))
 
--- a connection that is given back is kept, and its call has nothing more to send
+-- a connection that is given back is kept, nothing more is to be sent on it, and no rows keep it
 back_kept : (H : List Event) (c : ℕ) → Allowed H (Pool (Back c)) → (returns_from H (place H c) c ≡ true) × (line.leaves_from H (place H c) c ≡ true)
 unfolding Allowed
 back_kept H c a = (a.causes, a.line)
@@ -198,7 +189,9 @@ back_kept H c a = (a.causes, a.line)
 rests_back : (H : List Event) (c : ℕ) (q : Place) → AllMade H → StandsIn H c → place H c ≡ q → is_lent q || is_opening q ≡ true → not (is_opening q) ≡ true → returns_from H q c ≡ true
     → line.leaves_from H q c ≡ true → Rests c (lends H c) (journal H c)
 rests_back H c (Lent t (Call n)) all s p moves when kept over =
-    rests_again c (lends H c) t n (journal H c) (has_ended H) (length (idle H)) (caps H) (is_reset_due H c) (asked_by (call_record H n)) (rw p at s) (all c t n p) kept over
+    let k = both (is_none (due H c t n)) (not (is_kept_by_rows H c t n)) over in
+    rests_again c (lends H c) t n (journal H c) (has_ended H) (length (idle H)) (caps H) (is_reset_due H c) (asked_by H n) (wish H n) (rw p at s) (all c t n p) kept k.0
+    (not_true (keeps_rows (aim_of (work H n)) (wish H n) (exchanges (heard_in H c t))) k.1)
 rests_back H c (Lent t (Tx n)) all s p moves when kept over = absurd (rw p at s)
 rests_back H c (Lent t (Pin n)) all s p moves when kept over = absurd (rw p at s)
 rests_back H c (Lent t House) all s p moves when kept over = absurd (rw p at s)
@@ -288,11 +281,11 @@ heard_at H e (Opening n) all s p fits sends may quiet =
     (same_number e.tenure 1 k.1) b.1 (same_number e.call_no 0 a.1)
 heard_at H e Closing all s p fits sends may quiet = λ h. absurd cc
 heard_at H e (Lent t (Call n)) all s p fits sends may quiet =
-    let a = both (not (is_connect e.call || is_shut e.call) && (e.tenure == t) && same_owner e.owner (Call n)) (e.call_no == n) fits in
+    let a = both (not (is_connect e.call || is_shut e.call) && (e.tenure == t) && same_owner e.owner (Call n)) (e.call_no == sender H n) fits in
     let b = both (not (is_connect e.call || is_shut e.call) && (e.tenure == t)) (same_owner e.owner (Call n)) a.0 in
     let k = both (not (is_connect e.call || is_shut e.call)) (e.tenure == t) b.0 in
-    works_heard e.conn (lends H e.conn) t n (journal H e.conn) e (caps H) (is_reset_due H e.conn) (asked_by (call_record H n)) (rw p at s) (all e.conn t n p) may refl
-    (same_number e.tenure t k.1) (call_owner e.owner n b.1) (same_number e.call_no n a.1) sends
+    works_heard e.conn (lends H e.conn) t n (sender H n) (journal H e.conn) e (caps H) (is_reset_due H e.conn) (asked_by H n) (wish H n) (rw p at s) (all e.conn t n p) may refl
+    (same_number e.tenure t k.1) (call_owner e.owner n b.1) (same_number e.call_no (sender H n) a.1) sends
 heard_at H e (Lent t (Tx n)) all s p fits sends may quiet = absurd (rw p at s)
 heard_at H e (Lent t (Pin n)) all s p fits sends may quiet = absurd (rw p at s)
 heard_at H e (Lent t House) all s p fits sends may quiet = absurd (rw p at s)

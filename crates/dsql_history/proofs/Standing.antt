@@ -9,6 +9,7 @@ use Rattle.dsql_driver.specs.declared.call.DriverCall.{DriverCall}
 use Rattle.dsql_driver.specs.declared.call.DriverCall.TheVariants.{Connect, Reset, Valid}
 use Rattle.dsql_driver.specs.declared.answer.DriverAnswer.{DriverAnswer}
 use Rattle.dsql_driver.specs.declared.answer.DriverAnswer.TheVariants.{Done}
+use Rattle.dsql_course.specs.declared.course.Wish.{Wish}
 use Rattle.dsql_journal.specs.declared.entry.Entry.{Entry}
 use Rattle.dsql_journal.specs.declared.entry.Owner.{Owner}
 use Rattle.dsql_journal.specs.declared.entry.Owner.TheVariants.{Call, Tx, Pin, House}
@@ -17,10 +18,10 @@ use Rattle.dsql_journal.specs.Readers.{is_empty, of_tenure, last_tenure, handles
 use Rattle.dsql_journal.specs.Tenure.{is_whole_tenure}
 use Rattle.dsql_journal.specs.Journal.{may_follow, IsJournalPrefix}
 use Rattle.dsql_journal.specs.Facts.{MayFollow}
-use Rattle.dsql_journal.specs.Entries.{call_entry, connect_entry}
+use Rattle.dsql_journal.specs.Entries.{connect_entry}
 use Rattle.dsql_journal.specs.ExecJournals.{Plain, Good}
 use Rattle.dsql_journal.proofs.Sentences.{MayFollow-of}
-use Rattle.dsql_history.proofs.CallLines.{step, is_sent}
+use Rattle.dsql_history.proofs.CallLines.{step, sent_entry, is_sent}
 use Rattle.dsql_journal.proofs.ExecJournals.{Plain-connect, Good-connect, went_bad-in, is_whole_tenure-plain}
 use Rattle.dsql_history.specs.declared.record.Place.{Place}
 use Rattle.dsql_history.specs.declared.record.Place.TheVariants.{Nowhere, Opening, Idle, Lent, Closing}
@@ -28,11 +29,11 @@ use Rattle.dsql_history.specs.Readers.Journals.{ends_invalid}
 use Rattle.dsql_history.specs.Readers.Sets.{is_opening, is_closing}
 use Rattle.dsql_history.specs.Rules.Causes.{cause_when, is_kept}
 use Rattle.dsql_history.specs.Readers.Exchanges.{exchanges}
-use Rattle.dsql_history.specs.Rules.Line.{Asked, line_after, is_due}
+use Rattle.dsql_history.specs.Rules.Line.{Asked, line_after, is_due, keeps_rows}
 use Rattle.dsql_history.proofs.Rows.{same_number}
 use Rattle.dsql_history.proofs.CallJournals.{Served, served_of, plain_of}
 use Rattle.dsql_history.proofs.MadeLines.{MadeAt}
-use Rattle.dsql_history.proofs.Lines.{Serves, serves_first, serves_on, sent_of, ends_bad, none_left, call_entry_of, entry_with, same_parts}
+use Rattle.dsql_history.proofs.Lines.{Serves, serves_first, serves_on, sent_of, ends_bad, none_left, sent_entry_of, entry_with, same_parts}
 
 -- Below l is how often the connection c was lent, u how often to another owner than the House, J its journal, heard whether something
 -- was heard of it just now, and opened whether its Connect was answered Done just now.
@@ -109,14 +110,14 @@ not_bad_in t J good = by_list (of_tenure t J) (went_bad-in t J good)
     by_list [] h = refl
     by_list (e ∷ L) h = grind (arith, h)
 
--- a connection that is given back and kept
-pub rests_again : (c l t n : ℕ) (J : List Entry) (closed : Bool) (idle : ℕ) (can : Caps) (reset : Bool) (asked : Asked) → Works c l t n J
+-- a connection that is given back and kept, and that no rows keep
+pub rests_again : (c l t n : ℕ) (J : List Entry) (closed : Bool) (idle : ℕ) (can : Caps) (reset : Bool) (asked : Asked) (w : Wish) → Works c l t n J
     → MadeAt can asked (step (of_tenure t J)) (exchanges (of_tenure t J)) → is_kept (cause_when (went_bad J) (ends_invalid J) closed idle) ≡ true
-    → is_none (line_after can reset asked (of_tenure t J)) ≡ true → Rests c l J
-rests_again c l t n J closed idle can reset asked s made kept over =
+    → is_none (line_after can reset asked w (of_tenure t J)) ≡ true → keeps_rows asked.aim w (exchanges (of_tenure t J)) ≡ false → Rests c l J
+rests_again c l t n J closed idle can reset asked w s made kept over free =
     let k = kept_well (went_bad J) (ends_invalid J) closed idle kept in
     let v = s.serves in
-    let left = none_left t n can reset asked (of_tenure t J) v.so_far made over (not_bad_in t J k.0) in
+    let left = none_left t n can reset asked w (of_tenure t J) v.so_far made over free (not_bad_in t J k.0) in
     record {
       plain = plain_of c J v.served (v.open_rows ∙ left.cursors);
       good = record { not_bad = k.0; not_invalid = v.tested k.1 };
@@ -142,15 +143,16 @@ none_begun f (e ∷ J) h =
 whole_when_bad : (t : ℕ) (J : List Entry) → begun J ≡ [] → went_bad J ≡ true → is_whole_tenure t J ≡ true
 whole_when_bad t J none bad = rw (none_begun (λ x. x.tenure == t) J none, bad) refl
 
--- a connection on which nothing is due any more has a whole tenure
-pub done_whole : (c t n : ℕ) (J : List Entry) (can : Caps) (reset : Bool) (asked : Asked) → Serves c t n J → MadeAt can asked (step (of_tenure t J)) (exchanges (of_tenure t J))
-    → is_none (line_after can reset asked (of_tenure t J)) ≡ true → is_whole_tenure t J ≡ true
-done_whole c t n J can reset asked v made over = by_bad (went_bad J) refl
+-- a connection on which nothing is due any more, and that no rows keep, has a whole tenure
+pub done_whole : (c t n : ℕ) (J : List Entry) (can : Caps) (reset : Bool) (asked : Asked) (w : Wish) → Serves c t n J
+    → MadeAt can asked (step (of_tenure t J)) (exchanges (of_tenure t J)) → is_none (line_after can reset asked w (of_tenure t J)) ≡ true
+    → keeps_rows asked.aim w (exchanges (of_tenure t J)) ≡ false → is_whole_tenure t J ≡ true
+done_whole c t n J can reset asked w v made over free = by_bad (went_bad J) refl
   where
     by_bad : (b : Bool) → went_bad J ≡ b → is_whole_tenure t J ≡ true
     by_bad true is = whole_when_bad t J v.served.none_begun is
     by_bad false is =
-        let left = none_left t n can reset asked (of_tenure t J) v.so_far made over (not_bad_in t J is) in
+        let left = none_left t n can reset asked w (of_tenure t J) v.so_far made over free (not_bad_in t J is) in
         is_whole_tenure-plain c t J (plain_of c J v.served (v.open_rows ∙ left.cursors))
 
 -- a connection that closes out of idle or lent
@@ -210,19 +212,19 @@ call_tx Reset x sent h k = same_number x 0 h
 call_tx Valid x sent h k = same_number x 0 h
 call_tx _ x sent h k = k refl
 
--- a call's next driver call was heard
-pub works_heard : (c l t n : ℕ) (J : List Entry) (e : Entry) (can : Caps) (reset : Bool) (asked : Asked) → Works c l t n J
-    → MadeAt can asked (step (of_tenure t J)) (exchanges (of_tenure t J)) → may_follow J e ≡ true → e.conn ≡ c → e.tenure ≡ t → e.owner ≡ Call n → e.call_no ≡ n
-    → is_due (line_after can reset asked (of_tenure t J)) e.call ≡ true → Works c l t n (e ∷ J)
-works_heard c l t n J e can reset asked s made may conn tenure owner number due =
-    let m : MayFollow J e = MayFollow-of J e may in
+-- the next driver call on it was heard
+pub works_heard : (c l t n m : ℕ) (J : List Entry) (e : Entry) (can : Caps) (reset : Bool) (asked : Asked) (w : Wish) → Works c l t n J
+    → MadeAt can asked (step (of_tenure t J)) (exchanges (of_tenure t J)) → may_follow J e ≡ true → e.conn ≡ c → e.tenure ≡ t → e.owner ≡ Call n → e.call_no ≡ m
+    → is_due (line_after can reset asked w (of_tenure t J)) e.call ≡ true → Works c l t n (e ∷ J)
+works_heard c l t n m J e can reset asked w s made may conn tenure owner number due =
+    let f : MayFollow J e = MayFollow-of J e may in
     let tx : e.tx ≡ 0 =
-    call_tx e.call e.tx (sent_of (line_after can reset asked (of_tenure t J)) e.call due) m.tenure.tests
-    (λ body. let b = rw owner at (m.tenure.in_body body) in same_number e.tx 0 b.no_transaction) in
-    let is : e ≡ call_entry c t n e.call e.answer = call_entry_of c t n e conn tenure owner number tx in
+    call_tx e.call e.tx (sent_of (line_after can reset asked w (of_tenure t J)) e.call due) f.tenure.tests
+    (λ body. let b = rw owner at (f.tenure.in_body body) in same_number e.tx 0 b.no_transaction) in
+    let is : e ≡ sent_entry c t n m e.call e.answer = sent_entry_of c t n m e conn tenure owner number tx in
     record {
       tenure = s.tenure;
-      serves = subst (λ (x : Entry). Serves c t n (x ∷ J)) (sym is) (serves_on c t n J can reset asked e.call e.answer s.serves made due m.answer.fitting);
+      serves = subst (λ (x : Entry). Serves c t n (x ∷ J)) (sym is) (serves_on c t n m J can reset asked w e.call e.answer s.serves made due f.answer.fitting);
     }
 
 -- where all is Good nothing was answered Bad, and no test failed just now

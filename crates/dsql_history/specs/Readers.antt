@@ -1,6 +1,9 @@
 pub mod Lists
 pub mod Course
 pub mod Sets
+pub mod Unfinished
+pub mod Works
+pub mod HandedOut
 pub mod Calls
 pub mod Journals
 pub mod Exchanges

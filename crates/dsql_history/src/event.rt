@@ -4,13 +4,23 @@ use dsql_journal::{Entry, Owner};
 use dsql_scan::Dests;
 use dsql_value::{Args, Txt};
 
-/// What a client asks of the layer.
+/// What a client asks of the layer. Rows that a query hands out are named by its label.
 #[derive(Clone, Debug, Drop)]
 pub enum Op {
     /// `DB.ExecContext` of a text with arguments.
     Exec { text: Txt, args: Args },
+    /// `DB.QueryContext` of a text with arguments. Its rows get this label.
+    Query { label: Txt, text: Txt, args: Args },
     /// `DB.QueryRowContext` of a text with arguments, and `Row.Scan` into destinations.
     One { dests: Dests, text: Txt, args: Args },
+    /// `Rows.Next`.
+    Next { rows: Txt },
+    /// `Rows.Scan` into destinations.
+    Scan { rows: Txt, dests: Dests },
+    /// `Rows.Close`.
+    RowsClose { rows: Txt },
+    /// `Rows.Err`.
+    Err { rows: Txt },
 }
 
 /// Why a connection is closed.

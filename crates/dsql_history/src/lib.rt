@@ -5,8 +5,10 @@ mod event;
 pub mod laws;
 mod record;
 mod reply;
+mod work;
 pub mod worked;
 
 pub use event::{CloseCause, Event, Move, Op};
 pub use record::{CallRecord, Place};
 pub use reply::{FaultWord, Reply};
+pub use work::{Aim, Work};

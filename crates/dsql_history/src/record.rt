@@ -1,6 +1,5 @@
 use crate::reply::Reply;
 use dsql_journal::Owner;
-use dsql_scan::Dests;
 use dsql_value::{Params, Txt};
 
 /// Where a connection stands: in one of the four sets, or in none.
@@ -29,8 +28,6 @@ pub struct CallRecord {
     pub text: Txt,
     /// The parameters that its arguments become, if none is refused.
     pub params: Params,
-    /// Where it reads one row, the destinations of that.
-    pub dests: Option<Dests>,
-    /// The reply that is settled: by its arguments, where they are refused, else by its deciding answer.
+    /// The reply that is settled: as it enters, where it sends nothing, else by its deciding answer.
     pub decided: Option<Reply>,
 }

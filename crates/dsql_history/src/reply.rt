@@ -1,5 +1,6 @@
+use dsql_rows::RowsOver;
 use dsql_scan::Cells;
-use dsql_value::Txt;
+use dsql_value::{Columns, Txt};
 
 /// Why a value isn't scanned.
 #[derive(Clone, Copy, Debug, PartialEq, Eq)]
@@ -15,8 +16,14 @@ pub enum FaultWord {
 /// What a call is answered.
 #[derive(Clone, Debug, Drop)]
 pub enum Reply {
+    /// It was done, and there is nothing to tell.
+    Ok,
     /// An exec was carried out: Go's `sql.Result`, the last id and the number of rows affected.
     Result { last: i64, affected: i64 },
+    /// A query hands out rows with these columns.
+    Rows(Columns),
+    /// Whether there was a row to fetch.
+    Truth(bool),
     /// What the values of a row became in their destinations.
     Cells(Cells),
     /// The driver failed with this text.
@@ -31,6 +38,12 @@ pub enum Reply {
     NamedRefused(Txt),
     /// An argument has this name, which doesn't begin with a letter.
     BadName(Txt),
+    /// No call has handed out rows under this label.
+    Absent(Txt),
+    /// The rows were ended before, by this.
+    RowsClosed(RowsOver),
+    /// No row was fetched yet.
+    NoNextYet,
     /// There was no row to read: Go's `sql.ErrNoRows`.
     NoRows,
     /// A row has `want` values, and there were `got` destinations.

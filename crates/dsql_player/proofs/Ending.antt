@@ -1,6 +1,6 @@
 -- The run ends, and its idle connections begin to close.
-use Rattle.std.proofs.Common.{◌≡◌, inl, inr, ℕ, ◌<◌, Bool, true, false, List, [], ◌∷◌, length, Option, None, refl, sym, ◌∙◌, ap, subst, get_or, set, arith}
-use Rattle.std.specs.Prelude.{is_none, MatchBool, Result, Ok, Err, OnOk}
+use Rattle.std.proofs.Common.{◌≡◌, inl, inr, ℕ, ◌<◌, Bool, true, false, List, [], ◌∷◌, length, Option, None, refl, sym, ◌∙◌, ap, subst, get_or, set, arith, cond, ◌&&◌, ◌==◌}
+use Rattle.std.specs.Prelude.{filter, MatchBool, Result, Ok, Err, OnOk}
 use Rattle.std.proofs.lemmas.List.{get_or-set_same}
 use Rattle.dsql_driver.specs.Wires.{Told}
 use Rattle.dsql_journal.specs.Readers.{has, is_empty}
@@ -11,15 +11,20 @@ use Rattle.dsql_history.specs.declared.event.CloseCause.TheVariants.{DbClosed}
 use Rattle.dsql_history.specs.declared.record.Place.{Place}
 use Rattle.dsql_history.specs.declared.record.Place.TheVariants.{Nowhere, Opening, Idle, Lent, Closing}
 use Rattle.dsql_history.specs.Readers.Course.{has_ended}
-use Rattle.dsql_history.specs.Readers.Sets.{place, places, idle, is_idle, is_closing, is_for, number_of}
-use Rattle.dsql_history.specs.Readers.Calls.{unfinished}
+use Rattle.dsql_history.specs.Readers.Sets.{place, places, idle, is_idle, is_closing, number_of}
+use Rattle.dsql_journal.specs.declared.entry.Owner.{Owner}
+use Rattle.dsql_journal.specs.declared.entry.Owner.TheVariants.{Call}
+use Rattle.dsql_history.specs.Readers.Lists.{first}
+use Rattle.dsql_history.specs.Readers.Works.{work, works_on}
+use Rattle.dsql_history.specs.Readers.Calls.{sender, worker}
+use Rattle.dsql_history.specs.Readers.Unfinished.{unfinished, is_unfinished}
 use Rattle.dsql_history.specs.Readers.Journals.{journal}
-use Rattle.dsql_history.specs.Rules.House.{is_quiet, has_no_chore, shut_due, connect_due}
+use Rattle.dsql_history.specs.Rules.House.{is_quiet, has_no_chore, is_untidy}
 use Rattle.dsql_history.specs.Rules.Settled.{is_empty_when_closed}
 use Rattle.dsql_history.specs.Legal.{Legal, Lawful}
-use Rattle.dsql_history.proofs.Rows.{both, within_rows, same_or_not, same_to_itself}
+use Rattle.dsql_history.proofs.Rows.{within_rows, same_or_not, same_to_itself}
 use Rattle.dsql_history.proofs.SoundSets.{sound_sets}
-use Rattle.dsql_history.proofs.SoundCalls.{sound_calls}
+use Rattle.dsql_history.proofs.SoundCalls.{sound_calls, owner_of}
 use Rattle.dsql_engine.specs.Groups.{after_end, closings}
 use Rattle.dsql_player.specs.Told.{gone_told}
 use Rattle.dsql_player.specs.Turns.{Turns}
@@ -30,7 +35,7 @@ use Rattle.dsql_wire.specs.Journaled.{Journaled}
 use Rattle.dsql_player.specs.WiresFit.{slot, has_wire, HoldsWire, WiresFit}
 use Rattle.dsql_player.proofs.Extending.{extends_same, extends_more, extends_then}
 use Rattle.dsql_player.proofs.Wiring.{place_elsewhere}
-use Rattle.dsql_player.proofs.Places.{none_at}
+use Rattle.dsql_player.proofs.Places.{none_at, free_of}
 
 closings_extends : (cs : List ℕ) (past : List Event) → Extends past (closings cs past)
 closings_extends [] past = extends_same past
@@ -118,31 +123,48 @@ has_none : (ns : List ℕ) (c : ℕ) → is_empty ns ≡ true → has c ns ≡ f
 has_none [] c h = refl
 has_none (n ∷ ns) c h = absurd cc
 
-unwired_at : (q : Place) → is_idle q ≡ false → ((n : ℕ) → is_for n q ≡ false) → is_closing q ≡ false → has_wire q ≡ false
+unwired_at : (q : Place) → is_idle q ≡ false → ((t : ℕ) (o : Owner) → q ≡ Lent t o → ⊥) → is_closing q ≡ false → has_wire q ≡ false
 unwired_at Nowhere i f c = refl
 unwired_at (Opening n) i f c = refl
 unwired_at Idle i f c = absurd cc
-unwired_at (Lent t o) i f c =
-    let k : true ≡ false = sym (same_to_itself (number_of o)) ∙ f (number_of o) in
-    absurd cc
+unwired_at (Lent t o) i f c = absurd (f t o refl)
 unwired_at Closing i f c = absurd cc
 
--- After the end, once the layer has no call of its own, no connection has a wire.
-pub unwired : (past : List Event) → Legal past → has_ended past ≡ true → has_no_chore past ≡ true → (c : ℕ) → has_wire (place past c) ≡ false
-unwired past legal ended free c =
+-- where each call has its reply nobody sends on any connection
+nobody_sends : (past : List Event) (n : ℕ) → unfinished past ≡ [] → sender past n ≡ 0
+nobody_sends past n none =
+    let replied : is_unfinished past n ≡ false = ap (has n) none in
+    ap (λ b. cond b n (worker past n)) replied ∙ ap (λ ns. first (filter (λ m. works_on n (work past m)) ns)) none
+
+never_untidy : (ended unsent : Bool) → ended ≡ true → unsent ≡ true → (ended && unsent) ≡ false → ⊥
+never_untidy true true e u h = absurd cc
+never_untidy true false e u h = absurd cc
+never_untidy false unsent e u h = absurd cc
+
+-- so after the end each lent connection is to be tidied up
+none_lent : (past : List Event) (c t : ℕ) (o : Owner) → Legal past → has_ended past ≡ true → unfinished past ≡ [] → has_no_chore past ≡ true → place past c ≡ Lent t o → ⊥
+none_lent past c t o legal ended none free at =
+    let n = number_of o in
+    let owner : o ≡ Call n = owner_of o ((sound_calls past legal.lawful).owners c t o at) in
+    let lent : place past c ≡ Lent t (Call n) = at ∙ ap (Lent t) owner in
+    let tidy : is_untidy past (place past c) ≡ false = none_at (is_untidy past) (places past) c refl (free_of past free).tidy in
+    let its : is_untidy past (Lent t (Call n)) ≡ false = subst (λ (q : Place). is_untidy past q ≡ false) lent tidy in
+    never_untidy (has_ended past) (sender past n == 0) ended (ap (λ m. m == 0) (nobody_sends past n none)) its
+
+-- After the end, once each call has its reply and the layer has no call of its own, no connection has a wire.
+pub unwired : (past : List Event) → Legal past → has_ended past ≡ true → unfinished past ≡ [] → has_no_chore past ≡ true → (c : ℕ) → has_wire (place past c) ≡ false
+unwired past legal ended none free c =
     let z = sound_sets past legal.lawful in
-    let s = sound_calls past legal.lawful in
-    let b = both (is_none (shut_due past)) (is_none (connect_due past)) free in
     unwired_at (place past c)
     (sym (z.idle_ones c) ∙ has_none (idle past) c (none_idle past ended legal.settled.none))
-    (s.ended_none ended c)
-    (none_at is_closing (places past) c refl b.0)
+    (λ t o at. none_lent past c t o legal ended none free at)
+    (none_at is_closing (places past) c refl (free_of past free).shut)
 
 pub bare : {W : Type 0} (heard : W → Option (List Told)) (telling : Bool) (past : List Event) (ws : List (Option (Journaled W))) (c : ℕ) → has_wire (place past c) ≡ false → WiresFit heard telling past ws
     → slot ws c ≡ None
 bare heard telling past ws c no_wire fit =
     subst (λ (b : Bool). MatchBool b (HoldsWire heard telling c (journal past c) (slot ws c)) (slot ws c ≡ None)) no_wire (fit c)
 
-pub on_ok2 : {X E : Type 0} (r : Result X E) (P Q R : Type 0) → (P → Q → R) → OnOk r P → OnOk r Q → OnOk r R
-on_ok2 (Ok x) P Q R f p q = f p q
-on_ok2 (Err e) P Q R f p q = tt
+pub on_ok3 : {X E : Type 0} (r : Result X E) (P Q S R : Type 0) → (P → Q → S → R) → OnOk r P → OnOk r Q → OnOk r S → OnOk r R
+on_ok3 (Ok x) P Q S R f p q s = f p q s
+on_ok3 (Err e) P Q S R f p q s = tt

@@ -1,5 +1,5 @@
 -- A run goes on over each event that enters no call and doesn't end it.
-use Rattle.std.proofs.Common.{◌≡◌, ◌==◌, None, ℕ, Bool, true, false, List, ◌∷◌, length, refl, sym, subst, arith, ◌∙◌, get_or, cond}
+use Rattle.std.proofs.Common.{◌≡◌, ◌==◌, None, Some, ℕ, Bool, true, false, List, [], ◌∷◌, length, refl, sym, subst, arith, ap, ◌∙◌, get_or, cond}
 use Rattle.std.specs.Prelude.{Result, Ok, Err, IfOk, OnErr}
 use Rattle.dsql_journal.specs.declared.entry.Entry.{Entry}
 use Rattle.dsql_history.specs.declared.event.Event.{Event}
@@ -9,9 +9,16 @@ use Rattle.dsql_history.specs.declared.event.Move.TheVariants.{OpenStart, Lend, 
 use Rattle.dsql_history.specs.declared.record.CallRecord.{CallRecord}
 use Rattle.dsql_history.specs.declared.reply.Reply.{Reply}
 use Rattle.dsql_history.specs.Readers.Calls.{calls, call_record, nobody, with_record, refusal, decision}
-use Rattle.dsql_history.proofs.Rows.{read_set}
+use Rattle.dsql_history.specs.Readers.Works.{work}
+use Rattle.dsql_history.specs.Readers.Lists.{first as first_of}
+use Rattle.dsql_history.specs.Readers.Unfinished.{unfinished, is_unfinished}
+use Rattle.dsql_history.specs.Rules.House.{has_no_chore}
+use Rattle.dsql_history.proofs.Rows.{read_set, same_to_itself}
+use Rattle.dsql_engine.specs.declared.next.Next.{Next}
+use Rattle.dsql_engine.specs.declared.next.Next.TheVariants.{Send, Blocked, Reply as Replies, Quiet}
+use Rattle.dsql_engine.specs.Steps.{IsParked}
 use Rattle.dsql_player.specs.Turns.{keeps_turns}
-use Rattle.dsql_player.specs.Carried.{GoesOn}
+use Rattle.dsql_player.specs.Carried.{GoesOn, CarriesChore, CarriesFirst, ComesNext, is_reply, the_call}
 use Rattle.dsql_player.proofs.Extending.{extends_same, extends_more, extends_then}
 
 -- a change that lets the client be
@@ -28,9 +35,9 @@ client_move past (Gone c) n = refl
 client_move past (Fell c m) n = same_client (calls past) m n (λ r. record r { decided = refusal past }) (λ r. refl)
 
 client_cond : (past : List Event) (e : Entry) (n : ℕ) (b : Bool)
-    → (get_or (cond b (calls past) (with_record e.call_no (λ r. record r { decided = decision (length r.params) r.dests e.call e.answer r.decided }) (calls past))) n nobody).client ≡ (call_record past n).client
+    → (get_or (cond b (calls past) (with_record e.call_no (λ r. record r { decided = decision (length r.params) (work past e.call_no) e.call e.answer r.decided }) (calls past))) n nobody).client ≡ (call_record past n).client
 client_cond past e n true = refl
-client_cond past e n false = same_client (calls past) e.call_no n (λ r. record r { decided = decision (length r.params) r.dests e.call e.answer r.decided }) (λ r. refl)
+client_cond past e n false = same_client (calls past) e.call_no n (λ r. record r { decided = decision (length r.params) (work past e.call_no) e.call e.answer r.decided }) (λ r. refl)
 
 pub client_heard : (past : List Event) (e : Entry) (n : ℕ) → (call_record (Heard e ∷ past) n).client ≡ (call_record past n).client
 client_heard past e n = client_cond past e n (e.call_no == 0)
@@ -81,3 +88,33 @@ on_replied old now m reply g = record {
   ended = g.ended;
   clients = λ n. client_replied now m reply n ∙ g.clients n;
 }
+
+-- the layer's own call was carried out where there was one: a call that comes next still does
+parts_first : (past now : List Event) → CarriesChore past now → has_no_chore past ≡ false → has_no_chore past ≡ true → ⊥
+parts_first past now carried some free =
+    let k : false ≡ true = sym some ∙ free in
+    absurd cc
+
+pub chore_next : (past now : List Event) (client : ℕ) (next : Next) → CarriesFirst true past now → is_reply next ≡ false → ComesNext past client next → ComesNext now client next
+chore_next past now client (Send p) first unreplied s = absurd (parts_first past now first.0 first.1 s.free)
+chore_next past now client (Blocked why) first unreplied w =
+    let it = first.0 in
+    let u = w.under_way in
+    let n = the_call past in
+    let same : the_call now ≡ n = ap first_of it.calls in
+    let alone : unfinished now ≡ n ∷ [] = it.calls ∙ u.alone in
+    let waits : is_unfinished past n ≡ true = rw u.alone (rw same_to_itself refl) in
+    record {
+      under_way = record {
+        alone = alone ∙ ap (λ m. m ∷ []) (sym same);
+        numbered = ap (λ m. m == 0) same ∙ u.numbered;
+        made_by = ap (λ m. (call_record now m).client) same ∙ it.on.clients n ∙ u.made_by;
+      };
+      parked = subst (λ (m : ℕ). IsParked now (Some m)) (sym same) (it.parked n waits w.parked);
+    }
+chore_next past now client (Replies n) first unreplied r = absurd cc
+chore_next past now client Quiet first unreplied r = absurd r
+
+-- and where there was none, there is none
+pub free_still : (past now : List Event) → CarriesFirst false past now → has_no_chore now ≡ true
+free_still past now first = ap has_no_chore first.0 ∙ first.1

@@ -4,6 +4,7 @@ pub mod Awaiting
 pub mod Wiring
 pub mod Telling
 pub mod Shutting
+pub mod Tidying
 pub mod Opening
 pub mod Sending
 pub mod Waking

@@ -20,7 +20,8 @@ use Rattle.dsql_history.specs.declared.record.Place.{Place}
 use Rattle.dsql_history.specs.declared.record.Place.TheVariants.{Nowhere, Opening, Lent}
 use Rattle.dsql_history.specs.Readers.Sets.{place, places, lends, next_tenure}
 use Rattle.dsql_history.specs.Readers.Journals.{journal, heard_in}
-use Rattle.dsql_history.specs.Readers.Calls.{calls, home, unfinished}
+use Rattle.dsql_history.specs.Readers.Calls.{calls, home}
+use Rattle.dsql_history.specs.Readers.Unfinished.{unfinished}
 use Rattle.dsql_history.specs.Legal.{Allowed, Lawful}
 use Rattle.dsql_history.proofs.Rows.{within_rows}
 use Rattle.dsql_engine.specs.Steps.{IsParked, IsParkedAt}
@@ -115,7 +116,7 @@ open_parked past c m answer true n at none p =
     let t : ℕ = next_tenure past c in
     let now : List Event = opened past e m true in
     let lent : place now c ≡ Lent t (Call m) = get_or-set_same (places past) c (Lent t (Call m)) Nowhere (within_places past c m at) in
-    parked_on past now c n
+    parked_on past now c n refl
     (opened_home past e m n)
     (place_elsewhere (places past) c (Lent t (Call m)))
     (journal_elsewhere past e)
@@ -124,7 +125,7 @@ open_parked past c m answer true n at none p =
 open_parked past c m answer false n at none p =
     let e : Entry = connect_entry c answer in
     let now : List Event = opened past e m false in
-    parked_on past now c n
+    parked_on past now c n refl
     (inr (home_fell (Heard e ∷ past) c m n ∙ home_heard past e n))
     (place_elsewhere (places past) c Nowhere)
     (journal_elsewhere past e)
@@ -148,7 +149,7 @@ pub open_carries : (past : List Event) (c n : ℕ) (answer : DriverAnswer) (b : 
 open_carries past c n answer b turn at none = record {
   on = opened_on past (connect_entry c answer) n b turn;
   calls = opened_calls past (connect_entry c answer) n b;
-  parked = λ m p. open_parked past c n answer b m at none p;
+  parked = λ m u p. open_parked past c n answer b m at none p;
   grows = opened_grows past (connect_entry c answer) n b;
 }
 

@@ -10,7 +10,6 @@ use Rattle.dsql_journal.specs.declared.entry.Entry.{Entry}
 use Rattle.dsql_journal.specs.declared.entry.Owner.TheVariants.{Call, Tx, Pin, House}
 use Rattle.dsql_journal.specs.declared.entry.Permit.{Permit}
 use Rattle.dsql_journal.specs.Permits.{entry_of}
-use Rattle.dsql_journal.specs.Entries.{call_entry}
 use Rattle.dsql_journal.specs.Kinds.{is_begin}
 use Rattle.dsql_journal.specs.Journal.{may_follow}
 use Rattle.dsql_journal.specs.HandlesAndCursors.{fits_at_its_place, is_heard, is_fitting, gives_new_handle, gives_new_cursor, has_width_of_cursor}
@@ -28,6 +27,7 @@ use Rattle.dsql_history.specs.declared.record.Place.TheVariants.{Nowhere, Openin
 use Rattle.dsql_history.specs.Legal.{Legal, Lawful}
 use Rattle.dsql_history.specs.Readers.Sets.{place, next_tenure}
 use Rattle.dsql_history.specs.Readers.Journals.{journal}
+use Rattle.dsql_history.specs.Readers.Calls.{sender}
 use Rattle.dsql_history.specs.Rules.Line.{due}
 use Rattle.dsql_history.specs.Rules.Settled.{is_placed}
 use Rattle.dsql_history.proofs.Rows.{same_to_itself}
@@ -41,14 +41,14 @@ pub record IsPlain (c : ℕ) (p : Permit) : Type 0 where
   pub conn : p.conn ≡ c
   pub no_transaction : p.tx ≡ 0
 
-plain_call : (c t n : ℕ) (d : Option DriverCall) (p : Permit) → option_map (call_permit c t n) d ≡ Some p → IsPlain c p
-plain_call c t n None p h = absurd cc
-plain_call c t n (Some q) p h = let e : call_permit c t n q ≡ p = cc in subst (λ (k : Permit). IsPlain c k) e (record { conn = refl; no_transaction = refl })
+plain_call : (c t n m : ℕ) (d : Option DriverCall) (p : Permit) → option_map (call_permit c t n m) d ≡ Some p → IsPlain c p
+plain_call c t n m None p h = absurd cc
+plain_call c t n m (Some q) p h = let e : call_permit c t n m q ≡ p = cc in subst (λ (k : Permit). IsPlain c k) e (record { conn = refl; no_transaction = refl })
 
 plain_at : (past : List Event) (c : ℕ) (p : Permit) (q : Place) → awaited_at past c q ≡ Some p → IsPlain c p
 plain_at past c p (Opening n) h = let e : connect_permit c ≡ p = cc in subst (λ (k : Permit). IsPlain c k) e (record { conn = refl; no_transaction = refl })
 plain_at past c p Closing h = let e : shut_permit c (next_tenure past c) ≡ p = cc in subst (λ (k : Permit). IsPlain c k) e (record { conn = refl; no_transaction = refl })
-plain_at past c p (Lent t (Call n)) h = plain_call c t n (due past c t n) p h
+plain_at past c p (Lent t (Call n)) h = plain_call c t n (sender past n) (due past c t n) p h
 plain_at past c p (Lent t (Tx n)) h = absurd cc
 plain_at past c p (Lent t (Pin n)) h = absurd cc
 plain_at past c p (Lent t House) h = absurd cc
@@ -86,10 +86,11 @@ follows_at past c p a Closing at h l placed fits heard there =
     let e : shut_permit c (next_tenure past c) ≡ p = cc in
     subst (λ (k : Permit). fits_of k.call a ≡ true → may_follow (journal past c) (entry_of k a) ≡ true) e (λ f. follows_shut past c a l placed at f heard) fits
 follows_at past c p a (Lent t (Call n)) at h l placed fits heard there =
-    let w : Awaits (due past c t n) c t n p = awaits c t n (due past c t n) p h in
-    let same : entry_of p a ≡ call_entry c t n p.call a = ap (λ (k : Permit). entry_of k a) w.parts in
+    let m = sender past n in
+    let w : Awaits (due past c t n) c t n m p = awaits c t n m (due past c t n) p h in
+    let same : entry_of p a ≡ entry_of (call_permit c t n m p.call) a = ap (λ (k : Permit). entry_of k a) w.parts in
     subst (λ (x : Entry). may_follow (journal past c) x ≡ true) (sym same)
-    (follows_due past (call_entry c t n p.call a) t n l at (due_of past c t n p.call w.call) refl refl refl refl
+    (follows_due past (entry_of (call_permit c t n m p.call) a) t n l at (due_of past c t n p.call w.call) refl refl refl
     (subst (λ (x : Entry). fits_at_its_place (journal past c) x ≡ true) same there))
 follows_at past c p a (Lent t (Tx n)) at h l placed fits heard there = absurd cc
 follows_at past c p a (Lent t (Pin n)) at h l placed fits heard there = absurd cc

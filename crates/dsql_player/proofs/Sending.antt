@@ -1,6 +1,6 @@
 -- A call's driver call was answered, and what the call does next.
-use Rattle.std.proofs.Common.{◌≡◌, ◌≢◌, ◌==◌, inl, inr, ℕ, ◌<◌, true, false, ◌&&◌, List, [], ◌∷◌, length, Option, Some, None, refl, sym, ◌∙◌, ap, subst, arith}
-use Rattle.std.specs.Prelude.{option_map, nat_le}
+use Rattle.std.proofs.Common.{◌≡◌, ◌≢◌, ◌==◌, inl, inr, ℕ, ◌<◌, ◌≤◌, Bool, true, false, cond, ◌&&◌, List, [], ◌∷◌, length, Option, Some, None, refl, sym, ◌∙◌, ap, subst, arith}
+use Rattle.std.specs.Prelude.{nat_le}
 use Rattle.std.specs.List.{list_all}
 use Rattle.std.proofs.lemmas.List.{get_or-set_same}
 use Rattle.std.proofs.lemmas.Bool.Decides.{nat_tests}
@@ -19,17 +19,19 @@ use Rattle.dsql_history.specs.declared.record.Place.{Place}
 use Rattle.dsql_history.specs.declared.record.Place.TheVariants.{Nowhere, Opening, Idle, Lent, Closing}
 use Rattle.dsql_history.specs.Readers.Lists.{without}
 use Rattle.dsql_history.specs.Readers.Sets.{place, places, next_tenure}
-use Rattle.dsql_history.specs.Readers.Calls.{call_record, unfinished, reply_due}
+use Rattle.dsql_history.specs.Readers.Calls.{call_record, reply_due, sender}
+use Rattle.dsql_history.specs.Readers.Unfinished.{unfinished}
 use Rattle.dsql_history.specs.Rules.Causes.{cause}
 use Rattle.dsql_history.specs.Rules.House.{has_no_chore}
-use Rattle.dsql_history.specs.Rules.Line.{due}
+use Rattle.dsql_history.specs.Rules.Line.{due, is_kept_by_rows}
 use Rattle.dsql_history.specs.Readers.Journals.{journal}
 use Rattle.dsql_history.proofs.Rows.{same_to_itself, within_rows}
 use Rattle.dsql_engine.specs.declared.next.Next.{Next}
 use Rattle.dsql_engine.specs.declared.next.Next.TheVariants.{Send, Blocked, Reply, Quiet}
-use Rattle.dsql_engine.specs.Awaited.{awaited, awaited_at, connect_permit, shut_permit, call_permit}
-use Rattle.dsql_engine.specs.Groups.{reply_as, after_heard, after_answer, after_body, leaving, told, most_events}
-use Rattle.dsql_engine.specs.Steps.{SendsOn, NextOfBody, NextAfterAnswer, NextAfterHeard}
+use Rattle.dsql_engine.specs.Awaited.{awaited, awaited_at, connect_permit, shut_permit}
+use Rattle.dsql_engine.proofs.Hearing.{Awaits, awaits}
+use Rattle.dsql_engine.specs.Groups.{reply_as, after_heard, after_answer, after_body, leaving, left_by, told, told_by, most_events}
+use Rattle.dsql_engine.specs.Steps.{SendsOn, NextOfBody, NextOfTold, NextAfterAnswer, NextAfterHeard}
 use Rattle.dsql_player.specs.Told.{gone_told}
 use Rattle.dsql_player.specs.Turns.{keeps_turns, comes_first}
 use Rattle.dsql_player.specs.Carried.{GoesOn, Steps, Sends, the_call}
@@ -38,28 +40,27 @@ use Rattle.dsql_player.specs.WiresFit.{slot, has_wire, HearsEntry, KeepsFit}
 use Rattle.dsql_player.specs.Asked.{Asks}
 use Rattle.dsql_player.proofs.Going.{on_still, on_heard, on_move, on_replied, client_heard}
 use Rattle.dsql_player.proofs.Wiring.{fit_heard, place_elsewhere}
+use Rattle.dsql_player.proofs.Places.{free_heard}
 
--- the connection is lent to the call that the permit is of
-pub record IsCall (c : ℕ) (p : Permit) (q : Place) : Type 0 where
+-- the connection is lent to a call, and the permit is of who sends there
+pub record IsCall (past : List Event) (c : ℕ) (p : Permit) (q : Place) : Type 0 where
   pub tenure : ℕ
-  pub call : DriverCall
-  pub lent : q ≡ Lent tenure (Call p.call_no)
-  pub is : p ≡ call_permit c tenure p.call_no call
+  pub holder : ℕ
+  pub lent : q ≡ Lent tenure (Call holder)
+  pub conn : p.conn ≡ c
+  pub number : p.call_no ≡ sender past holder
 
-pub call_lent : (c t n : ℕ) (p : Permit) (call : Option DriverCall) → option_map (call_permit c t n) call ≡ Some p → IsCall c p (Lent t (Call n))
-call_lent c t n p (Some call) h =
-    let e : call_permit c t n call ≡ p = cc in
-    record {
-      tenure = t;
-      call = call;
-      lent = ap (λ (q : Permit). Lent t (Call q.call_no)) e;
-      is = sym e ∙ ap (λ (q : Permit). call_permit c t q.call_no call) e;
-    }
-call_lent c t n p None h = absurd cc
+-- what is awaited on a lent connection is of who sends there
+pub sent_by : (past : List Event) (c t n : ℕ) (p : Permit) → awaited_at past c (Lent t (Call n)) ≡ Some p → (p.conn ≡ c) × (p.call_no ≡ sender past n)
+sent_by past c t n p h =
+    let w : Awaits (due past c t n) c t n (sender past n) p = awaits c t n (sender past n) (due past c t n) p h in
+    (ap (λ (q : Permit). q.conn) w.parts, ap (λ (q : Permit). q.call_no) w.parts)
 
 -- where a call's driver call is awaited
-pub call_where : (past : List Event) (c : ℕ) (p : Permit) (q : Place) → awaited_at past c q ≡ Some p → (p.call_no == 0) ≡ false → IsCall c p q
-call_where past c p (Lent t (Call n)) h some = call_lent c t n p (due past c t n) h
+pub call_where : (past : List Event) (c : ℕ) (p : Permit) (q : Place) → awaited_at past c q ≡ Some p → (p.call_no == 0) ≡ false → IsCall past c p q
+call_where past c p (Lent t (Call n)) h some =
+    let w = sent_by past c t n p h in
+    record { tenure = t; holder = n; lent = refl; conn = w.0; number = w.1 }
 call_where past c p (Opening n) h some =
     let e : connect_permit c ≡ p = cc in
     let k : true ≡ false = ap (λ (q : Permit). q.call_no == 0) e ∙ some in
@@ -95,15 +96,13 @@ call_turn past client p answer s =
     turn_when past p answer (some_number past client p s) (rw (s.free, first) refl)
 
 -- the call sends what comes next
-again : (past : List Event) (client : ℕ) (p : Permit) (answer : DriverAnswer) (t : ℕ) (next : Next) → Sends past client p → place past p.conn ≡ Lent t (Call p.call_no)
+again : (past : List Event) (client : ℕ) (p : Permit) (answer : DriverAnswer) (t n : ℕ) (next : Next) → Sends past client p → place past p.conn ≡ Lent t (Call n) → p.call_no ≡ sender past n
     → SendsOn p.conn (Heard (entry_of p answer) ∷ past) next → length past < most_events → Steps past client (Send p) (Heard (entry_of p answer) ∷ past) next
-again past client p answer t (Send q) s at sends room =
+again past client p answer t n (Send q) s at number sends room =
     let e : Entry = entry_of p answer in
     let now : List Event = Heard e ∷ past in
-    let w : IsCall p.conn q (Lent t (Call p.call_no)) =
-    call_lent p.conn t p.call_no q (due now p.conn t p.call_no) (subst (λ (k : Place). awaited_at now p.conn k ≡ Some q) at sends) in
-    let conn : q.conn ≡ p.conn = ap (λ (k : Permit). k.conn) w.is in
-    let number : p.call_no ≡ q.call_no = cc (w.lent) in
+    let w = sent_by now p.conn t n q (subst (λ (k : Place). awaited_at now p.conn k ≡ Some q) at sends) in
+    let same : q.call_no ≡ sender past n = w.1 in
     record {
       on = on_heard past past e (on_still past) (call_turn past client p answer s);
       told = refl;
@@ -113,15 +112,15 @@ again past client p answer t (Send q) s at sends room =
           numbered = s.under_way.numbered;
           made_by = client_heard past e (the_call past) ∙ s.under_way.made_by;
         };
-        free = s.free;
-        due = subst (λ (c : ℕ). awaited now c ≡ Some q) (sym conn) sends;
-        number = sym number ∙ s.number;
+        free = free_heard past e s.free;
+        due = subst (λ (c : ℕ). awaited now c ≡ Some q) (sym w.0) sends;
+        number = same ∙ sym number ∙ s.number;
       };
       nearer = omega (arith, room);
     }
-again past client p answer t (Blocked why) s at sends room = absurd sends
-again past client p answer t (Reply n) s at sends room = absurd sends
-again past client p answer t Quiet s at sends room = absurd sends
+again past client p answer t n (Blocked why) s at number sends room = absurd sends
+again past client p answer t n (Reply m) s at number sends room = absurd sends
+again past client p answer t n Quiet s at number sends room = absurd sends
 
 pub leaving_calls : (c : ℕ) (why : Option CloseCause) (past : List Event) → unfinished (leaving c why ∷ past) ≡ unfinished past
 leaving_calls c None past = refl
@@ -135,43 +134,75 @@ pub leaving_on : (c : ℕ) (why : Option CloseCause) (old now : List Event) → 
 leaving_on c None old now g = on_move old now (Back c) g
 leaving_on c (Some why) old now g = on_move old now (CloseStart c why) g
 
+pub left_calls : (c : ℕ) (kept : Bool) (past : List Event) → unfinished (left_by c kept past) ≡ unfinished past
+left_calls c true past = refl
+left_calls c false past = leaving_calls c (cause past c) past
+
+pub left_told : (c : ℕ) (kept : Bool) (past : List Event) → gone_told (left_by c kept past) ≡ gone_told past
+left_told c true past = refl
+left_told c false past = leaving_told c (cause past c) past
+
+pub left_on : (c : ℕ) (kept : Bool) (old now : List Event) → GoesOn old now → GoesOn old (left_by c kept now)
+left_on c true old now g = g
+left_on c false old now g = leaving_on c (cause now c) old now g
+
+pub left_longer : (c : ℕ) (kept : Bool) (past : List Event) → length past ≤ length (left_by c kept past)
+left_longer c true past = omega arith
+left_longer c false past = omega arith
+
 pub without_one : (ns : List ℕ) (n : ℕ) → ns ≡ n ∷ [] → without n ns ≡ []
 without_one ns n is = rw is (rw same_to_itself refl)
 
 -- the call has its reply
-finished : (past : List Event) (client : ℕ) (p : Permit) (answer : DriverAnswer) (why : Option CloseCause) → Sends past client p → length past < most_events
-    → Steps past client (Send p) (told p.call_no (leaving p.conn why ∷ Heard (entry_of p answer) ∷ past)) (Reply p.call_no)
-finished past client p answer why s room =
+finished : (past : List Event) (client : ℕ) (p : Permit) (answer : DriverAnswer) (kept : Bool) → Sends past client p → length past < most_events
+    → Steps past client (Send p) (told p.call_no (left_by p.conn kept (Heard (entry_of p answer) ∷ past))) (Reply p.call_no)
+finished past client p answer kept s room =
     let e : Entry = entry_of p answer in
-    let now : List Event = leaving p.conn why ∷ Heard e ∷ past in
+    let now : List Event = left_by p.conn kept (Heard e ∷ past) in
     let calls : unfinished now ≡ p.call_no ∷ [] =
-    leaving_calls p.conn why (Heard e ∷ past) ∙ (s.under_way.alone ∙ ap (λ n. n ∷ []) (sym s.number)) in
+    left_calls p.conn kept (Heard e ∷ past) ∙ (s.under_way.alone ∙ ap (λ n. n ∷ []) (sym s.number)) in
     record {
       on = on_replied past now p.call_no (reply_as (reply_due now p.call_no))
-          (leaving_on p.conn why past (Heard e ∷ past) (on_heard past past e (on_still past) (call_turn past client p answer s)));
-      told = leaving_told p.conn why (Heard e ∷ past);
+          (left_on p.conn kept past (Heard e ∷ past) (on_heard past past e (on_still past) (call_turn past client p answer s)));
+      told = left_told p.conn kept (Heard e ∷ past);
       next = without_one (unfinished now) p.call_no calls;
-      nearer = omega (arith, room);
+      nearer = omega (arith, room, left_longer p.conn kept (Heard e ∷ past));
     }
 
-body_steps : (past : List Event) (client : ℕ) (p : Permit) (answer : DriverAnswer) (t : ℕ) (then_due : Option DriverCall) (next : Next) (now : List Event) → Sends past client p
-    → place past p.conn ≡ Lent t (Call p.call_no) → now ≡ after_body p.conn p.call_no (Heard (entry_of p answer) ∷ past) then_due → NextOfBody p.conn p.call_no then_due next now
-    → length past < most_events → Steps past client (Send p) now next
-body_steps past client p answer t (Some call) next now s at is n room =
+-- who sent replies, since it isn't the House
+pub told_some : (m : ℕ) (past : List Event) → (m == 0) ≡ false → told_by m past ≡ told m past
+told_some m past some = rw some refl
+
+pub next_told : (m : ℕ) (next : Next) → (m == 0) ≡ false → NextOfTold (m == 0) m next → next ≡ Reply m
+next_told m next some h = subst (λ (b : Bool). NextOfTold b m next) some h
+
+body_steps : (past : List Event) (client : ℕ) (p : Permit) (answer : DriverAnswer) (t n : ℕ) (kept : Bool) (then_due : Option DriverCall) (next : Next) (now : List Event) → Sends past client p
+    → place past p.conn ≡ Lent t (Call n) → p.call_no ≡ sender past n → now ≡ after_body p.conn p.call_no kept (Heard (entry_of p answer) ∷ past) then_due
+    → NextOfBody p.conn p.call_no then_due next now → length past < most_events → Steps past client (Send p) now next
+body_steps past client p answer t n kept (Some call) next now s at number is what room =
     subst (λ (k : List Event). Steps past client (Send p) k next) (sym is)
-    (again past client p answer t next s at (subst (λ (k : List Event). SendsOn p.conn k next) is n) room)
-body_steps past client p answer t None next now s at is n room =
-    rw (is, n) (finished past client p answer (cause (Heard (entry_of p answer) ∷ past) p.conn) s room)
+    (again past client p answer t n next s at number (subst (λ (k : List Event). SendsOn p.conn k next) is what) room)
+body_steps past client p answer t n kept None next now s at number is what room =
+    let some = some_number past client p s in
+    let left : List Event = left_by p.conn kept (Heard (entry_of p answer) ∷ past) in
+    let done : now ≡ told p.call_no left = is ∙ told_some p.call_no left some in
+    let reply : next ≡ Reply p.call_no = next_told p.call_no next some what in
+    rw (done, reply) (finished past client p answer kept s room)
 
 -- One driver call of the call that is under way was answered.
 pub sent_steps : (past : List Event) (client : ℕ) (p : Permit) (answer : DriverAnswer) (next : Next) (now : List Event) → Sends past client p → now ≡ after_heard past (entry_of p answer)
     → NextAfterHeard past (entry_of p answer) next now → length past < most_events → Steps past client (Send p) now next
 sent_steps past client p answer next now s is n room =
     let e : Entry = entry_of p answer in
-    let w : IsCall p.conn p (place past p.conn) = call_where past p.conn p (place past p.conn) s.due (some_number past client p s) in
-    body_steps past client p answer w.tenure (due (Heard e ∷ past) p.conn w.tenure p.call_no) next now s w.lent
-    (is ∙ ap (λ q. after_answer q e (Heard e ∷ past)) w.lent)
-    (subst (λ (q : Place). NextAfterAnswer q e (Heard e ∷ past) next now) w.lent n)
+    let heard : List Event = Heard e ∷ past in
+    let w : IsCall past p.conn p (place past p.conn) = call_where past p.conn p (place past p.conn) s.due (some_number past client p s) in
+    let kept = is_kept_by_rows heard p.conn w.tenure w.holder in
+    let then_due = due heard p.conn w.tenure w.holder in
+    let used : now ≡ after_body p.conn (sender past w.holder) kept heard then_due = is ∙ ap (λ q. after_answer q e heard) w.lent in
+    let what : NextOfBody p.conn (sender past w.holder) then_due next now = subst (λ (q : Place). NextAfterAnswer q e heard next now) w.lent n in
+    body_steps past client p answer w.tenure w.holder kept then_due next now s w.lent w.number
+    (used ∙ ap (λ m. after_body p.conn m kept heard then_due) (sym w.number))
+    (subst (λ (m : ℕ). NextOfBody p.conn m then_due next now) (sym w.number) what)
     room
 
 pub leaving_place : (c : ℕ) (why : Option CloseCause) (past : List Event) (d : ℕ) → d ≢ c → place (leaving c why ∷ past) d ≡ place past d
@@ -193,14 +224,15 @@ within_lent past c t n at =
       | inr h ↦ let k : Nowhere ≡ Lent t (Call n) = sym h.1 ∙ at in absurd cc
     ]
 
-body_fits : {W : Type 0} (heard : W → Option (List Told)) (past : List Event) (e : Entry) (t n : ℕ) (then_due : Option DriverCall) (before after : List (Option (Journaled W)))
+-- the wires fit as the connection leaves, or stays with the rows that keep it
+left_fits : {W : Type 0} (heard : W → Option (List Told)) (past : List Event) (e : Entry) (t n : ℕ) (kept : Bool) (before after : List (Option (Journaled W)))
     → place past e.conn ≡ Lent t (Call n) → ((c : ℕ) → c ≢ e.conn → slot after c ≡ slot before c)
-    → HearsEntry heard e (slot before e.conn) (slot after e.conn) → KeepsFit heard past (after_body e.conn n (Heard e ∷ past) then_due) before after
-body_fits heard past e t n (Some call) before after at others hears =
+    → HearsEntry heard e (slot before e.conn) (slot after e.conn) → KeepsFit heard past (left_by e.conn kept (Heard e ∷ past)) before after
+left_fits heard past e t n true before after at others hears =
     fit_heard heard past (Heard e ∷ past) e before after (ap has_wire at) (ap has_wire at) (λ c m. refl) (λ c. refl) others hears
-body_fits heard past e t n None before after at others hears =
+left_fits heard past e t n false before after at others hears =
     let why = cause (Heard e ∷ past) e.conn in
-    fit_heard heard past (told n (leaving e.conn why ∷ Heard e ∷ past)) e before after
+    fit_heard heard past (leaving e.conn why ∷ Heard e ∷ past) e before after
     (ap has_wire at)
     (leaving_here e.conn why (Heard e ∷ past) (within_lent past e.conn t n at))
     (leaving_place e.conn why (Heard e ∷ past))
@@ -208,17 +240,31 @@ body_fits heard past e t n None before after at others hears =
     others
     hears
 
+told_fits : {W : Type 0} (heard : W → Option (List Told)) (past now : List Event) (m : ℕ) (b : Bool) (before after : List (Option (Journaled W))) → KeepsFit heard past now before after
+    → KeepsFit heard past (cond b now (told m now)) before after
+told_fits heard past now m true before after f = f
+told_fits heard past now m false before after f = f
+
+pub body_fits : {W : Type 0} (heard : W → Option (List Told)) (past : List Event) (e : Entry) (t n m : ℕ) (kept : Bool) (then_due : Option DriverCall) (before after : List (Option (Journaled W)))
+    → place past e.conn ≡ Lent t (Call n) → ((c : ℕ) → c ≢ e.conn → slot after c ≡ slot before c)
+    → HearsEntry heard e (slot before e.conn) (slot after e.conn) → KeepsFit heard past (after_body e.conn m kept (Heard e ∷ past) then_due) before after
+body_fits heard past e t n m kept (Some call) before after at others hears = left_fits heard past e t n true before after at others hears
+body_fits heard past e t n m kept None before after at others hears =
+    told_fits heard past (left_by e.conn kept (Heard e ∷ past)) m (m == 0) before after (left_fits heard past e t n kept before after at others hears)
+
 -- the connection of the call that is under way has its wire
 pub sent_wired : (past : List Event) (client : ℕ) (p : Permit) → Sends past client p → has_wire (place past p.conn) ≡ true
 sent_wired past client p s =
-    let w : IsCall p.conn p (place past p.conn) = call_where past p.conn p (place past p.conn) s.due (some_number past client p s) in
+    let w : IsCall past p.conn p (place past p.conn) = call_where past p.conn p (place past p.conn) s.due (some_number past client p s) in
     ap has_wire w.lent
 
 pub sent_fits : {W : Type 0} (heard : W → Option (List Told)) (past : List Event) (client : ℕ) (p : Permit) (next : Next) (now : List Event) (before after : List (Option (Journaled W))) → Sends past client p
     → Asks heard p next past now before after → KeepsFit heard past now before after
 sent_fits heard past client p next now before after s a =
     let e : Entry = entry_of p a.answer in
-    let w : IsCall p.conn p (place past p.conn) = call_where past p.conn p (place past p.conn) s.due (some_number past client p s) in
-    let is : now ≡ after_body p.conn p.call_no (Heard e ∷ past) (due (Heard e ∷ past) p.conn w.tenure p.call_no) = a.group ∙ ap (λ q. after_answer q e (Heard e ∷ past)) w.lent in
+    let w : IsCall past p.conn p (place past p.conn) = call_where past p.conn p (place past p.conn) s.due (some_number past client p s) in
+    let kept = is_kept_by_rows (Heard e ∷ past) p.conn w.tenure w.holder in
+    let then_due = due (Heard e ∷ past) p.conn w.tenure w.holder in
+    let is : now ≡ after_body p.conn (sender past w.holder) kept (Heard e ∷ past) then_due = a.group ∙ ap (λ q. after_answer q e (Heard e ∷ past)) w.lent in
     subst (λ (k : List Event). KeepsFit heard past k before after) (sym is)
-    (body_fits heard past e w.tenure p.call_no (due (Heard e ∷ past) p.conn w.tenure p.call_no) before after w.lent a.others a.noted)
+    (body_fits heard past e w.tenure w.holder (sender past w.holder) kept then_due before after w.lent a.others a.noted)

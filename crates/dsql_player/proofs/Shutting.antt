@@ -36,7 +36,7 @@ set_default (x ∷ xs) (suc i) d = set_default xs i d
 shut_parked : (past : List Event) (e : Entry) (n : ℕ) → IsParked past (Some n) → IsParked (Pool (Gone e.conn) ∷ Heard e ∷ past) (Some n)
 shut_parked past e n p =
     let now : List Event = Pool (Gone e.conn) ∷ Heard e ∷ past in
-    parked_on past now e.conn n
+    parked_on past now e.conn n refl
     (inr (home_heard past e n))
     (place_elsewhere (places past) e.conn Nowhere)
     (journal_elsewhere past e)
@@ -47,7 +47,7 @@ pub shut_carries : (past : List Event) (e : Entry) → keeps_turns past (Heard e
 shut_carries past e turn = record {
   on = on_move past (Heard e ∷ past) (Gone e.conn) (on_heard past past e (on_still past) turn);
   calls = refl;
-  parked = shut_parked past e;
+  parked = λ n u p. shut_parked past e n p;
   grows = omega arith;
 }
 

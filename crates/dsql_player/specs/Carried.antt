@@ -6,7 +6,8 @@ use Rattle.dsql_history.specs.declared.event.Event.{Event}
 use Rattle.dsql_history.specs.declared.event.Op.{Op}
 use Rattle.dsql_history.specs.Readers.Lists.{first}
 use Rattle.dsql_history.specs.Readers.Course.{has_ended}
-use Rattle.dsql_history.specs.Readers.Calls.{call_record, unfinished}
+use Rattle.dsql_history.specs.Readers.Calls.{call_record}
+use Rattle.dsql_history.specs.Readers.Unfinished.{unfinished, is_unfinished}
 use Rattle.dsql_history.specs.Readers.Sets.{place}
 use Rattle.dsql_history.specs.Readers.Journals.{journal}
 use Rattle.dsql_history.specs.Rules.House.{has_no_chore}
@@ -38,7 +39,7 @@ pub record Retires (before after : Option (List RetiredWire)) (old new : List Ev
 pub record CarriesChore (old new : List Event) : Type 0 where
   pub on : GoesOn old new
   pub calls : unfinished new ≡ unfinished old
-  pub parked : (n : ℕ) → IsParked old (Some n) → IsParked new (Some n)
+  pub parked : (n : ℕ) → is_unfinished old n ≡ true → IsParked old (Some n) → IsParked new (Some n)
   pub grows : length old < length new
 
 -- the layer's first own call is carried out, where there was one

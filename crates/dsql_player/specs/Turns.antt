@@ -8,13 +8,15 @@ use Rattle.dsql_journal.specs.Kinds.{is_connect, is_shut}
 use Rattle.dsql_history.specs.declared.event.Event.{Event}
 use Rattle.dsql_history.specs.declared.event.Event.TheVariants.{Entered, Heard, Ended}
 use Rattle.dsql_history.specs.Readers.Course.{has_ended}
-use Rattle.dsql_history.specs.Readers.Calls.{call_record, unfinished}
+use Rattle.dsql_history.specs.Readers.Calls.{call_record}
+use Rattle.dsql_history.specs.Readers.Unfinished.{unfinished}
 use Rattle.dsql_history.specs.Rules.House.{is_quiet, has_no_chore}
+use Rattle.dsql_history.specs.Rules.Line.{is_due}
 use Rattle.dsql_engine.specs.Awaited.{chore_due}
 
--- both open a connection, or both shut one
+-- both open a connection, or both shut one, or both tidy up by the same call
 abbrev pub same_chore : DriverCall → DriverCall → Bool
-same_chore call other = (is_connect call && is_connect other) || (is_shut call && is_shut other)
+same_chore call other = (is_connect call && is_connect other) || ((is_shut call && is_shut other) || is_due (Some call) other)
 
 -- it was the layer's own call that came first
 abbrev pub is_first_chore : Option Permit → Entry → Bool

@@ -1,21 +1,22 @@
 ghost use Rattle.std.specs.Prelude.{◌≡◌, ◌≢◌, ◌<◌, ◌≤◌, ℕ, [], true, false, length, Some, None, IfOk, IfErr, OnOk, OnErr, IsErrOf, is_some};
 ghost use Rattle.dsql_driver.specs.Fits.{is_memory};
 ghost use Rattle.dsql_journal.specs.HandlesAndCursors.{fits_at_its_place};
-ghost use Rattle.dsql_journal.specs.Kinds.{is_shut};
+ghost use Rattle.dsql_journal.specs.Kinds.{is_connect, is_shut};
 ghost use Rattle.dsql_history.specs.Legal.{Legal};
-ghost use Rattle.dsql_history.specs.Readers.Calls.{unfinished};
+ghost use Rattle.dsql_history.specs.Readers.Unfinished.{unfinished};
 ghost use Rattle.dsql_history.specs.Rules.House.{has_no_chore};
 ghost use Rattle.dsql_engine.specs.Awaited.{awaited, chore_due};
 ghost use Rattle.dsql_engine.specs.Groups.{most_events};
 ghost use Rattle.dsql_tenure.specs.Judged.{answered};
 ghost use Rattle.dsql_wire.specs.Opening.{opens};
 ghost use Rattle.dsql_player.specs.Carried.{GoesOn, Retires, CarriesChore, CarriesFirst};
-ghost use Rattle.dsql_player.specs.WiresFit.{slot, WiresFit, OpensWire};
+ghost use Rattle.dsql_player.specs.WiresFit.{slot, WiresFit, OpensWire, KeepsFit};
+ghost use Rattle.dsql_player.specs.Told.{gone_told};
 
 use crate::asking::{ask, check_room, hear};
 use crate::halt::Halt;
 use crate::wires::Wires;
-use dsql_driver::{DriverCall, Fleet};
+use dsql_driver::{DriverCall, Fleet, Wire};
 use dsql_engine::{Engine, Next};
 use dsql_journal::Permit;
 use dsql_wire::{Heard, Opened, Retired, WireFault, connect};
@@ -74,7 +75,7 @@ pub(crate) fn carry_first_chore<F: Fleet>(
     }
 }
 
-/// Carries one of the layer's own calls out: it opens a connection or shuts one.
+/// Carries one of the layer's own calls out: it opens a connection, shuts one or tidies up on one.
 fn carry_chore<F: Fleet>(
     engine: &mut Engine,
     wires: &mut Wires<F::Wire>,
@@ -98,9 +99,30 @@ fn carry_chore<F: Fleet>(
     ensures legal { Legal engine.new }
 {
     match permit.call {
+        DriverCall::Connect => open(engine, wires, fleet, permit),
         DriverCall::Shut => shut(engine, wires, fleet, permit),
-        _ => open(engine, wires, fleet, permit),
+        _ => tidy(engine, wires, permit),
     }
+}
+
+/// Makes a call on a connection that rows still have, although the run has ended.
+fn tidy<W: Wire>(engine: &mut Engine, wires: &mut Wires<W>, permit: Permit) -> Result<(), Halt>
+    requires legal { Legal engine.old }
+    requires room { length engine.old < most_events }
+    requires due { chore_due engine.old ≡ Some permit }
+    requires awaited { awaited engine.old permit.conn ≡ Some permit }
+    requires no_connect { is_connect permit.call ≡ false }
+    requires no_shut { is_shut permit.call ≡ false }
+    requires wires { WiresFit W.heard false engine.old wires.old }
+    ensures carried { OnOk result (CarriesChore engine.old engine.new) }
+    ensures told { OnOk result (gone_told engine.new ≡ gone_told engine.old) }
+    ensures wires { OnOk result (KeepsFit W.heard engine.old engine.new wires.old wires.new) }
+    ensures err { OnErr result (engine.new ≡ engine.old) }
+    ensures memory { IfErr result (λ halt. halt ≡ Halt.Memory) }
+    ensures legal { Legal engine.new }
+{
+    ask(engine, wires, permit)?;
+    Ok(())
 }
 
 /// Shuts a connection, and gives its wire back.
@@ -149,7 +171,7 @@ fn open<F: Fleet>(
     requires room { length engine.old < most_events }
     requires due { chore_due engine.old ≡ Some permit }
     requires awaited { awaited engine.old permit.conn ≡ Some permit }
-    requires connects { is_shut permit.call ≡ false }
+    requires connects { is_connect permit.call ≡ true }
     requires wires { WiresFit F.Wire.heard (is_some (F.retired fleet.old)) engine.old wires.old }
     ensures carried { OnOk result (CarriesChore engine.old engine.new) }
     ensures gone { OnOk result

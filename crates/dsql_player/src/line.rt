@@ -1,7 +1,7 @@
 ghost use Rattle.std.specs.Prelude.{◌≡◌, ◌<◌, ◌≤◌, ◌++◌, ℕ, [], ◌∷◌, true, false, length, None, IfOk, OnOk, OnErr, IsErrOf, is_some};
 ghost use Rattle.dsql_history.specs.Legal.{Legal};
 ghost use Rattle.dsql_history.specs.Readers.Course.{has_ended};
-ghost use Rattle.dsql_history.specs.Readers.Calls.{unfinished};
+ghost use Rattle.dsql_history.specs.Readers.Unfinished.{unfinished};
 ghost use Rattle.dsql_history.specs.Rules.House.{is_quiet, has_no_chore};
 ghost use Rattle.dsql_engine.specs.Groups.{most_events};
 ghost use Rattle.dsql_player.specs.Told.{TellsGone};

@@ -7,8 +7,10 @@ use Rattle.serde_json.specs.Data.{Data}
 use Rattle.serde_json.specs.Read.{read}
 use Rattle.dsql_value.specs.declared.arg.Named.{Named}
 use Rattle.dsql_history.specs.declared.event.Op.{Op}
+use Rattle.dsql_history.specs.declared.event.Op.TheVariants as op
 use Rattle.dsql_scan.specs.declared.dest.Dest.{Dest}
 use Rattle.dsql_script.specs.declared.fault.What.TheVariants.{Lines, Args}
+use Rattle.dsql_script.specs.declared.fault.LineFault.{LineFault}
 use Rattle.dsql_script.specs.declared.fault.LineFault.TheVariants.{TooLong, NotUtf8, NoSuchWord, BadShape, TooMany}
 use Rattle.dsql_script.specs.declared.script.Head.{Head}
 use Rattle.dsql_script.specs.declared.script.Head.TheVariants.{Begun}
@@ -16,9 +18,9 @@ use Rattle.dsql_script.specs.declared.script.ScriptLine.{ScriptLine}
 use Rattle.dsql_script.specs.declared.script.ScriptLine.TheVariants.{Skip, Version, UseCaps, Client}
 use Rattle.dsql_script.specs.Dests.{dests_of}
 use Rattle.dsql_script.specs.ScriptArgs as args
-use Rattle.dsql_script.specs.ScriptWords.{words_of, array_of, client_of}
-use Rattle.dsql_script.specs.ScriptHead.{Progress, progress, after}
-use Rattle.dsql_script.specs.ScriptLines.{Reading, has_target, names_database, op_of, has_too_many, call_on, call_of_parts, call_of_array, statement_of, exec_of, one_into, one_of, call_of, client_line, version_line, caps_line, form_of, is_skipped, text_of, line_of, read_of, most_bytes, most_lines}
+use Rattle.dsql_script.specs.ScriptWords.{words_of, array_of, client_of, label_of}
+use Rattle.dsql_script.specs.ScriptHead.{Progress, after}
+use Rattle.dsql_script.specs.ScriptLines.{Reading, has_target, names_database, op_of, has_too_many, call_on, call_of_parts, call_of_array, statement_of, exec_of, one_into, one_of, query_as, query_of, rows_of, rows_call, scan_into, scan_of, rows_line, call_of, client_line, version_line, caps_line, form_of, is_skipped, text_of, line_of, line_fault, unless_fault, among_labels, read_of, most_bytes, most_lines}
 use Rattle.dsql_run.specs.Script.{Script}
 use Rattle.dsql_run.specs.Runs.{StopsReading}
 use Rattle.dsql_run.specs.Reading.{is_body, is_client, IsBodyLine, IsReadStop, NoLine}
@@ -67,11 +69,50 @@ body_one_of client [] array = tt
 body_one_of client (target ∷ []) array = tt
 body_one_of client (target ∷ dests ∷ tokens) array = body_one_into client (dests_of dests) target tokens array
 
+body_query_as : (client : ℕ) (label : Option (List ℕ)) (target : List ℕ) (tokens : List (List ℕ)) (array : Option (List ℕ)) → Body (query_as client label target tokens array)
+body_query_as client None target tokens array = tt
+body_query_as client (Some label) target tokens array = search body_statement_of
+
+body_query_of : (client : ℕ) (words : List (List ℕ)) (array : Option (List ℕ)) → Body (query_of client words array)
+body_query_of client [] array = tt
+body_query_of client (label ∷ []) array = tt
+body_query_of client (label ∷ target ∷ tokens) array = body_query_as client (label_of label) target tokens array
+
+body_rows_call : (client : ℕ) (asked : List ℕ → Op) (rows : Option (List ℕ)) → Body (rows_call client asked rows)
+body_rows_call client asked None = tt
+body_rows_call client asked (Some rows) = refl
+
+body_scan_into : (client : ℕ) (rows : Option (List ℕ)) (dests : Option (List Dest)) → Body (scan_into client rows dests)
+body_scan_into client None dests = tt
+body_scan_into client (Some rows) None = tt
+body_scan_into client (Some rows) (Some dests) = either (nat_lt args.most_args (length dests)) (Err (TooMany Args)) (Ok (Client client (op.Scan rows dests))) tt refl
+
+body_scan_of : (client : ℕ) (words : List (List ℕ)) (array : Option (List ℕ)) → Body (scan_of client words array)
+body_scan_of client words (Some array) = tt
+body_scan_of client [] None = tt
+body_scan_of client (rows ∷ []) None = tt
+body_scan_of client (rows ∷ dests ∷ []) None = body_scan_into client (label_of rows) (dests_of dests)
+body_scan_of client (rows ∷ dests ∷ more ∷ others) None = tt
+
+body_rows_line : (client : ℕ) (verb : List ℕ) (words : List (List ℕ)) (array : Option (List ℕ)) → Body (rows_line client verb words array)
+body_rows_line client verb words array =
+    let err = if bytes_eq verb (codes "err") then rows_call client op.Err (rows_of words array) else Err NoSuchWord in
+    let close = if bytes_eq verb (codes "rowsclose") then rows_call client op.RowsClose (rows_of words array) else err in
+    let scan = if bytes_eq verb (codes "scan") then scan_of client words array else close in
+    either (bytes_eq verb (codes "next")) (rows_call client op.Next (rows_of words array)) scan (body_rows_call client op.Next (rows_of words array))
+    (either (bytes_eq verb (codes "scan")) (scan_of client words array) close (body_scan_of client words array)
+    (either (bytes_eq verb (codes "rowsclose")) (rows_call client op.RowsClose (rows_of words array)) err (body_rows_call client op.RowsClose (rows_of words array))
+    (either (bytes_eq verb (codes "err")) (rows_call client op.Err (rows_of words array)) (Err NoSuchWord) (body_rows_call client op.Err (rows_of words array)) tt)))
+
 body_call_of : (client : Option ℕ) (verb : List ℕ) (words : List (List ℕ)) (array : Option (List ℕ)) → Body (call_of client verb words array)
 body_call_of None verb words array = tt
 body_call_of (Some client) verb words array =
-    either (bytes_eq verb (codes "exec")) (exec_of client words array) (if bytes_eq verb (codes "one") then one_of client words array else Err NoSuchWord) (body_exec_of client words array)
-    (either (bytes_eq verb (codes "one")) (one_of client words array) (Err NoSuchWord) (body_one_of client words array) tt)
+    let rows = rows_line client verb words array in
+    let one = if bytes_eq verb (codes "one") then one_of client words array else rows in
+    let query = if bytes_eq verb (codes "query") then query_of client words array else one in
+    either (bytes_eq verb (codes "exec")) (exec_of client words array) query (body_exec_of client words array)
+    (either (bytes_eq verb (codes "query")) (query_of client words array) one (body_query_of client words array)
+    (either (bytes_eq verb (codes "one")) (one_of client words array) rows (body_one_of client words array) (body_rows_line client verb words array)))
 
 body_client_line : (client : List ℕ) (words : List (List ℕ)) (array : Option (List ℕ)) → Body (client_line client words array)
 body_client_line client [] array = tt
@@ -91,11 +132,23 @@ body_line line =
     either (nat_lt most_bytes (length line)) (Err TooLong) (if is_utf8 line then text_of Begun (strip_carriage_return line) else Err NotUtf8) tt
     (either (is_utf8 line) (text_of Begun (strip_carriage_return line)) (Err NotUtf8) (body_text (strip_carriage_return line)) tt)
 
-body_read : (lines : ℕ) (head : Head) (line : List ℕ) → head ≡ Begun → Body (read_of (progress lines head) line)
-body_read lines head line is = rw is (either (nat_le most_lines lines) (Err (TooMany Lines)) (line_of Begun line) tt (body_line line))
+-- a line whose label is looked at is the same one
+body_unless_fault : (line : ScriptLine) (fault : Option LineFault) → is_body line ≡ true → Body (unless_fault line fault)
+body_unless_fault line None body = body
+body_unless_fault line (Some fault) body = tt
+
+body_among_labels : (labels : List (List ℕ)) (reading : Reading) → Body reading → Body (among_labels labels reading)
+body_among_labels labels (Ok line) body = body_unless_fault line (line_fault labels line) body
+body_among_labels labels (Err fault) body = tt
+
+body_read : (place : Progress) (line : List ℕ) → place.head ≡ Begun → Body (read_of place line)
+body_read place line is =
+    rw is
+    (either (nat_le most_lines place.lines) (Err (TooMany Lines)) (among_labels place.labels (line_of Begun line)) tt
+    (body_among_labels place.labels (line_of Begun line) (body_line line)))
 
 pub body_lines : (place : Progress) (line : List ℕ) (says : ScriptLine) → place.head ≡ Begun → read_of place line ≡ Ok says → is_body says ≡ true
-body_lines place line says is reads = subst Body reads (body_read place.lines place.head line is)
+body_lines place line says is reads = subst Body reads (body_read place line is)
 
 -- and stays so
 pub stays_begun : (place now : Progress) (says : ScriptLine) → place.head ≡ Begun → is_body says ≡ true → now ≡ after place says → now.head ≡ Begun

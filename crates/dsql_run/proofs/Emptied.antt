@@ -9,8 +9,8 @@ use Rattle.dsql_history.specs.declared.record.Place.{Place}
 use Rattle.dsql_history.specs.declared.record.Place.TheVariants.{Nowhere, Opening, Idle, Lent, Closing}
 use Rattle.dsql_history.specs.Readers.Sets.{places, place, is_open, is_opening, open_count}
 use Rattle.dsql_history.specs.Readers.Journals.{journal}
-use Rattle.dsql_history.specs.Readers.Calls.{unfinished}
-use Rattle.dsql_history.specs.Rules.House.{is_quiet, has_no_chore, shut_due, connect_due}
+use Rattle.dsql_history.specs.Readers.Unfinished.{unfinished}
+use Rattle.dsql_history.specs.Rules.House.{is_quiet, has_no_chore, tidy_due, shut_due, connect_due}
 use Rattle.dsql_wire.specs.Journaled.{Journaled}
 use Rattle.dsql_player.specs.WiresFit.{slot, FitsAt, WiresFit}
 use Rattle.dsql_player.proofs.Places.{none_at}
@@ -23,7 +23,9 @@ second_of false b h = absurd (cc h)
 none_opening : (past : List Event) → is_quiet past ≡ true → (c : ℕ) → is_opening (place past c) ≡ false
 none_opening past quiet c =
     none_at is_opening (places past) c refl
-    (second_of (is_none (shut_due past)) (is_none (connect_due past)) (second_of (is_empty (unfinished past)) (has_no_chore past) quiet))
+    (second_of (is_none (shut_due past)) (is_none (connect_due past))
+    (second_of (is_none (tidy_due past)) (is_none (shut_due past) && is_none (connect_due past))
+    (second_of (is_empty (unfinished past)) (has_no_chore past) quiet)))
 
 -- a place without a wire that isn't opening
 not_open : {W : Type 0} (heard : W → Option (List Told)) (telling : Bool) (c : ℕ) (p : Place) (entries : List Entry) (wire : Option (Journaled W)) → FitsAt heard telling c p entries wire → wire ≡ None → is_opening p ≡ false → is_open p ≡ false

@@ -24,6 +24,7 @@ fn reason(fault: &LineFault) -> &'static str
         LineFault::BadJson => "not JSON",
         LineFault::BadShape => "wrong shape",
         LineFault::UnknownLabel => "unknown label",
+        LineFault::LabelTaken => "label taken",
         LineFault::TooMany(What::Lines) => "too many lines",
         LineFault::TooMany(What::Args) => "too many arguments",
         LineFault::Memory => "out of memory",

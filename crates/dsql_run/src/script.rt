@@ -36,7 +36,7 @@ impl ScriptReader {
     {
         Ok(ScriptReader {
             lines: LineReader::new(alloc)?,
-            reader: Reader::new(),
+            reader: Reader::new(alloc),
             line: Vec::new(alloc),
         })
     }

@@ -32,6 +32,46 @@ const SECOND: &str = r#"["enter",1,2,"exec db",["SET a 2"]]
 ["reply",2,["ok","result",0,1]]
 "#;
 
+const ROWS: &str = r#"["enter",1,2,"query r db",["LIST a"]]
+["lend",1,3,"call:2"]
+["heard",1,3,"call:2",2,0,["reset"],["done"]]
+["heard",1,3,"call:2",2,0,["query","LIST a",[]],["cursor",1,["key","value"]]]
+["reply",2,["ok","rows",["key","value"]]]
+["enter",1,3,"scan r text,i64"]
+["reply",3,["err","no_next","sql: Scan called without calling Next"]]
+["enter",1,4,"next r"]
+["heard",1,3,"call:2",4,0,["next",1],["row",["a",1]]]
+["reply",4,["ok",true]]
+["enter",1,5,"scan r text,i64"]
+["reply",5,["ok","cells",["a",1]]]
+["enter",1,6,"scan r i8,any"]
+["reply",6,["err","scan",0,"not_a_number","sql: scan of column 0: not_a_number"]]
+["enter",1,7,"next r"]
+["heard",1,3,"call:2",7,0,["next",1],["end"]]
+["heard",1,3,"call:2",7,0,["close_rows",1],["done"]]
+["heard",1,3,"call:2",7,0,["valid"],["done"]]
+["back",1]
+["reply",7,["ok",false]]
+["enter",1,8,"scan r text,i64"]
+["reply",8,["err","rows_closed","end_of_rows","sql: Rows are closed"]]
+"#;
+
+const OPEN_ROWS: &str = r#"["enter",1,1,"query r db",["GET a"]]
+["open",1,1]
+["heard",1,1,"house",0,0,["connect"],["done"]]
+["lend",1,2,"call:1"]
+["heard",1,2,"call:1",1,0,["query","GET a",[]],["cursor",1,["value"]]]
+["reply",1,["ok","rows",["value"]]]
+"#;
+
+const END_OF_OPEN_ROWS: &str = r#"["ended"]
+["heard",1,2,"call:1",0,0,["close_rows",1],["done"]]
+["heard",1,2,"call:1",0,0,["valid"],["done"]]
+["close",1,"db_closed"]
+["heard",1,3,"house",0,0,["shut"],["done"]]
+["gone",1]
+"#;
+
 const END_OF_ONE: &str = r#"["ended"]
 ["close",1,"db_closed"]
 ["heard",1,3,"house",0,0,["shut"],["done"]]
@@ -45,6 +85,19 @@ const END_OF_TWO: &str = r#"["ended"]
 "#;
 
 const ONE: &str = "c1 exec db [\"SET a 1\"]\n";
+
+/// Rows are scanned before their first, at it and behind the last one.
+const READ_ROWS: &str = r#"c1 exec db ["SET a 1"]
+c1 query r db ["LIST a"]
+c1 scan r text,i64
+c1 next r
+c1 scan r text,i64
+c1 scan r i8,any
+c1 next r
+c1 scan r text,i64
+"#;
+
+const LABEL_TWICE: &str = "c1 query r db [\"GET a\"]\nc2 query r db [\"GET a\"]\n";
 
 /// What a run gave.
 #[derive(Drop)]
@@ -138,6 +191,7 @@ fn scripts_give_their_reports(rt: HostRuntime) -> Result<(), Fail> {
             two.as_str(),
             text(alloc, &[BEGIN, FIRST, SECOND, END_OF_TWO])?,
         ),
+        (READ_ROWS, text(alloc, &[BEGIN, FIRST, ROWS, END_OF_TWO])?),
     ];
     for (script, report) in &rows {
         let outcome = run_with(&rt, PLAY, script.as_bytes(), 4096, &NO_FAULTS)?;
@@ -177,11 +231,17 @@ fn a_refused_line_ends_the_run(rt: HostRuntime) -> Result<(), Fail> {
     let report = text(alloc, &[BEGIN, FIRST, END_OF_ONE])?;
     let cut = text(alloc, &[ONE, "c1 exec db [\"SET a"])?;
     let long = filled(alloc, ONE, &[(b'x', 4097), (b'\n', 1)])?;
-    let rows: [(&[u8], &str); 2] = [
-        (cut.as_bytes(), "sqlrun: line 2: not JSON\n"),
-        (&long, "sqlrun: line 2: line too long\n"),
+    let open = text(alloc, &[BEGIN, OPEN_ROWS, END_OF_OPEN_ROWS])?;
+    let rows: [(&[u8], &str, &str); 3] = [
+        (cut.as_bytes(), &report, "sqlrun: line 2: not JSON\n"),
+        (&long, &report, "sqlrun: line 2: line too long\n"),
+        (
+            LABEL_TWICE.as_bytes(),
+            &open,
+            "sqlrun: line 2: label taken\n",
+        ),
     ];
-    for (script, note) in rows {
+    for (script, report, note) in rows {
         for piece in [1, 100, 4096] {
             let outcome = run_with(&rt, PLAY, script, piece, &NO_FAULTS)?;
             assert_eq!(rt; outcome.status, 7, "{note} by {piece}");
@@ -199,7 +259,7 @@ fn a_refused_line_ends_the_run(rt: HostRuntime) -> Result<(), Fail> {
 
 #[test]
 fn hostile_lines_are_refused_by_their_first_fault(rt: HostRuntime) -> Result<(), Fail> {
-    let rows: [(&str, &[(u8, usize)], &str); 13] = [
+    let rows: [(&str, &[(u8, usize)], &str); 14] = [
         ("#", &[(b'x', 4095)], ""),
         ("#", &[(b'x', 4096)], "sqlrun: line 1: line too long\n"),
         ("", &[(0xff, 1)], "sqlrun: line 1: not UTF-8\n"),
@@ -216,6 +276,7 @@ fn hostile_lines_are_refused_by_their_first_fault(rt: HostRuntime) -> Result<(),
         ),
         ("c1 exec x1 [1]", &[], "sqlrun: line 1: wrong shape\n"),
         ("c1 exec x1 [\"x\"]", &[], "sqlrun: line 1: unknown label\n"),
+        ("c1 next r", &[], "sqlrun: line 1: unknown label\n"),
         ("c65 stats", &[], "sqlrun: line 1: no such word\n"),
         (MANY, &[], "sqlrun: line 1: too many arguments\n"),
         ("", &[(b'\n', 10_000)], ""),

@@ -116,7 +116,9 @@ args-no_float (a ∷ args) = rw (named_arg-no_float a.name (arg_data a.arg) (arg
 
 entered-no_float : (client n : ℕ) (o : Op) → has_float (entered_data client n o) ≡ false
 entered-no_float client n (op.Exec text args) = rw (args-no_float args) refl
+entered-no_float client n (op.Query label text args) = rw (args-no_float args) refl
 entered-no_float client n (op.One dests text args) = rw (args-no_float args) refl
+entered-no_float client n _ = refl
 
 move-no_float : (m : Move) → has_float (move_data m) ≡ false
 move-no_float (move.Back conn) = refl
@@ -137,6 +139,7 @@ cells-no_float (c ∷ cs) = rw (cell-no_float c) (cells-no_float cs)
 
 reply-no_float : (r : Reply) → has_float (reply_data r) ≡ false
 reply-no_float (reply.Result last affected) = simp integer-no_float
+reply-no_float (reply.Rows columns) = rw (texts-no_float columns) refl
 reply-no_float (reply.Cells cells) = rw (cells-no_float cells) refl
 reply-no_float _ = refl
 

@@ -1,6 +1,7 @@
 pub mod Members
 mod Floats
 pub mod Words
+pub mod Labels
 pub mod Texts
 pub mod ScriptArrays
 pub mod ScriptClients

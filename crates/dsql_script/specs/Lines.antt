@@ -1,17 +1,19 @@
 -- The line that an event has in a report: a compact JSON array and a line feed.
-use Rattle.std.specs.Prelude.{ℕ, List, [], ◌∷◌, ◌++◌, Bool, true, false, codes, decimal}
-use Rattle.serde_json.specs.Data.{Data, string}
+use Rattle.std.specs.Prelude.{ℕ, List, [], ◌∷◌, ◌++◌, Bool, true, false, Option, Some, None, codes, decimal}
+use Rattle.serde_json.specs.Data.{Data, boolean, string}
 use Rattle.serde_json.specs.Written.{compact_text}
 use Rattle.dsql_driver.specs.declared.caps.Caps.{Caps}
 use Rattle.dsql_journal.specs.declared.entry.Owner.{Owner}
 use Rattle.dsql_journal.specs.declared.entry.Owner.TheVariants.{Call, Tx, Pin, House}
 use Rattle.dsql_journal.specs.declared.entry.Entry.{Entry}
+use Rattle.dsql_rows.specs.declared.end.RowsOver.{RowsOver}
+use Rattle.dsql_rows.specs.declared.end.RowsOver.TheVariants.{Close, EndOfRows, Failed, BadConn, EndOfRun}
 use Rattle.dsql_history.specs.declared.reply.Reply.{Reply}
-use Rattle.dsql_history.specs.declared.reply.Reply.TheVariants.{Result, Cells, Driver, BadConn, NumArgs, HighBit, NamedRefused, BadName, NoRows, DestCount, Scan, TooMany}
+use Rattle.dsql_history.specs.declared.reply.Reply.TheVariants as reply
 use Rattle.dsql_history.specs.declared.reply.FaultWord.{FaultWord}
 use Rattle.dsql_history.specs.declared.reply.FaultWord.TheVariants.{FromNull, NotANumber, OutOfRange, NotABool, NotUtf8, Unsupported}
 use Rattle.dsql_history.specs.declared.event.Op.{Op}
-use Rattle.dsql_history.specs.declared.event.Op.TheVariants.{Exec, One}
+use Rattle.dsql_history.specs.declared.event.Op.TheVariants as op
 use Rattle.dsql_history.specs.declared.event.CloseCause.{CloseCause}
 use Rattle.dsql_history.specs.declared.event.CloseCause.TheVariants.{Bad, Invalid, IdleFull, DbClosed}
 use Rattle.dsql_history.specs.declared.event.Move.{Move}
@@ -49,16 +51,31 @@ caps_names c =
 
 -- the words of a call's line in the script, without the client
 abbrev pub op_words : Op → List ℕ
-op_words (Exec text args) = codes "exec db"
-op_words (One dests text args) = codes "one db " ++ dests_word dests
+op_words (op.Exec text args) = codes "exec db"
+op_words (op.Query label text args) = codes "query " ++ (label ++ codes " db")
+op_words (op.One dests text args) = codes "one db " ++ dests_word dests
+op_words (op.Next rows) = codes "next " ++ rows
+op_words (op.Scan rows dests) = codes "scan " ++ (rows ++ (codes " " ++ dests_word dests))
+op_words (op.RowsClose rows) = codes "rowsclose " ++ rows
+op_words (op.Err rows) = codes "err " ++ rows
 
--- the array of its line
-abbrev pub op_data : Op → Data
-op_data (Exec text args) = statement_data text args
-op_data (One dests text args) = statement_data text args
+-- the array of its line: a call that carries out no text has none
+abbrev pub op_data : Op → Option Data
+op_data (op.Exec text args) = Some (statement_data text args)
+op_data (op.Query label text args) = Some (statement_data text args)
+op_data (op.One dests text args) = Some (statement_data text args)
+op_data (op.Next rows) = None
+op_data (op.Scan rows dests) = None
+op_data (op.RowsClose rows) = None
+op_data (op.Err rows) = None
+
+-- an array, where there is one
+abbrev pub if_any : Option Data → List Data
+if_any None = []
+if_any (Some d) = d ∷ []
 
 abbrev pub entered_data : ℕ → ℕ → Op → Data
-entered_data client n op = worded (codes "enter") (natural client ∷ natural n ∷ string (op_words op) ∷ op_data op ∷ [])
+entered_data client n op = worded (codes "enter") (natural client ∷ natural n ∷ string (op_words op) ∷ if_any (op_data op))
 
 -- the call for which a connection is lent isn't shown: its owner's number says it
 abbrev pub move_data : Move → Data
@@ -91,20 +108,34 @@ fault_word Unsupported = codes "unsupported"
 abbrev pub scan_text : ℕ → FaultWord → List ℕ
 scan_text column fault = codes "sql: scan of column " ++ (decimal column ++ (codes ": " ++ fault_word fault))
 
--- an error has its code, the numbers or the name that it shows, and its text; no more than 1000 connections may be open
+-- what ended rows
+abbrev pub over_word : RowsOver → List ℕ
+over_word Close = codes "close"
+over_word EndOfRows = codes "end_of_rows"
+over_word Failed = codes "failed"
+over_word BadConn = codes "bad"
+over_word EndOfRun = codes "end"
+
+-- an error has its code, what it shows, and its text; no more than 1000 connections may be open
 abbrev pub reply_data : Reply → Data
-reply_data (Result last affected) = worded (codes "ok") (string (codes "result") ∷ integer last ∷ integer affected ∷ [])
-reply_data (Cells cells) = worded (codes "ok") (string (codes "cells") ∷ cells_data cells ∷ [])
-reply_data (Driver text) = worded (codes "err") (string (codes "driver") ∷ string text ∷ [])
-reply_data (BadConn tries) = worded (codes "err") (string (codes "bad_conn") ∷ natural tries ∷ string (codes "driver: bad connection") ∷ [])
-reply_data (NumArgs want got) = worded (codes "err") (string (codes "num_args") ∷ natural want ∷ natural got ∷ string (num_args_text want got) ∷ [])
-reply_data (HighBit n) = worded (codes "err") (string (codes "high_bit") ∷ natural n ∷ string (codes "sql: unsigned value has its high bit set") ∷ [])
-reply_data (NamedRefused name) = worded (codes "err") (string (codes "named") ∷ string name ∷ string (codes "sql: driver does not support the use of Named Parameters") ∷ [])
-reply_data (BadName name) = worded (codes "err") (string (codes "bad_name") ∷ string name ∷ string (codes "sql: name does not begin with a letter") ∷ [])
-reply_data NoRows = worded (codes "err") (string (codes "no_rows") ∷ string (codes "sql: no rows in result set") ∷ [])
-reply_data (DestCount want got) = worded (codes "err") (string (codes "dest_count") ∷ natural want ∷ natural got ∷ string (dest_count_text want got) ∷ [])
-reply_data (Scan column fault) = worded (codes "err") (string (codes "scan") ∷ natural column ∷ string (fault_word fault) ∷ string (scan_text column fault) ∷ [])
-reply_data TooMany = worded (codes "err") (string (codes "too_many") ∷ natural 1000 ∷ string (codes "sql: too many open connections") ∷ [])
+reply_data reply.Ok = worded (codes "ok") []
+reply_data (reply.Result last affected) = worded (codes "ok") (string (codes "result") ∷ integer last ∷ integer affected ∷ [])
+reply_data (reply.Rows columns) = worded (codes "ok") (string (codes "rows") ∷ texts_data columns ∷ [])
+reply_data (reply.Truth truth) = worded (codes "ok") (boolean truth ∷ [])
+reply_data (reply.Cells cells) = worded (codes "ok") (string (codes "cells") ∷ cells_data cells ∷ [])
+reply_data (reply.Driver text) = worded (codes "err") (string (codes "driver") ∷ string text ∷ [])
+reply_data (reply.BadConn tries) = worded (codes "err") (string (codes "bad_conn") ∷ natural tries ∷ string (codes "driver: bad connection") ∷ [])
+reply_data (reply.NumArgs want got) = worded (codes "err") (string (codes "num_args") ∷ natural want ∷ natural got ∷ string (num_args_text want got) ∷ [])
+reply_data (reply.HighBit n) = worded (codes "err") (string (codes "high_bit") ∷ natural n ∷ string (codes "sql: unsigned value has its high bit set") ∷ [])
+reply_data (reply.NamedRefused name) = worded (codes "err") (string (codes "named") ∷ string name ∷ string (codes "sql: driver does not support the use of Named Parameters") ∷ [])
+reply_data (reply.BadName name) = worded (codes "err") (string (codes "bad_name") ∷ string name ∷ string (codes "sql: name does not begin with a letter") ∷ [])
+reply_data (reply.Absent label) = worded (codes "err") (string (codes "absent") ∷ string label ∷ string (codes "sql: no value has this label") ∷ [])
+reply_data (reply.RowsClosed over) = worded (codes "err") (string (codes "rows_closed") ∷ string (over_word over) ∷ string (codes "sql: Rows are closed") ∷ [])
+reply_data reply.NoNextYet = worded (codes "err") (string (codes "no_next") ∷ string (codes "sql: Scan called without calling Next") ∷ [])
+reply_data reply.NoRows = worded (codes "err") (string (codes "no_rows") ∷ string (codes "sql: no rows in result set") ∷ [])
+reply_data (reply.DestCount want got) = worded (codes "err") (string (codes "dest_count") ∷ natural want ∷ natural got ∷ string (dest_count_text want got) ∷ [])
+reply_data (reply.Scan column fault) = worded (codes "err") (string (codes "scan") ∷ natural column ∷ string (fault_word fault) ∷ string (scan_text column fault) ∷ [])
+reply_data reply.TooMany = worded (codes "err") (string (codes "too_many") ∷ natural 1000 ∷ string (codes "sql: too many open connections") ∷ [])
 
 -- the array of an event, which begins with its word
 abbrev pub json_of : Event → Data

@@ -1,22 +1,31 @@
 -- How far a script has been read, and its lines of the version and of the capabilities.
-use Rattle.std.specs.Prelude.{ℕ, ◌+◌, Bool, false, List, [], ◌∷◌, codes, if◌then◌else◌, Option, Some, None}
+use Rattle.std.specs.Prelude.{ℕ, ◌+◌, ◌++◌, Bool, false, List, [], ◌∷◌, length, codes, if◌then◌else◌, Option, Some, None}
 use Rattle.std.specs.List.{list_any}
 use Rattle.std.specs.Str.{bytes_eq}
 use Rattle.std.specs.Cmp.Lexicographic.{pointwise}
 use Rattle.dsql_driver.specs.declared.caps.Caps.{Caps}
+use Rattle.dsql_history.specs.declared.event.Op.{Op}
+use Rattle.dsql_history.specs.declared.event.Op.TheVariants.{Query}
 use Rattle.dsql_script.specs.declared.script.Head.{Head}
 use Rattle.dsql_script.specs.declared.script.Head.TheVariants.{First, AfterVersion, Begun}
 use Rattle.dsql_script.specs.declared.script.ScriptLine.{ScriptLine}
 use Rattle.dsql_script.specs.declared.script.ScriptLine.TheVariants.{Skip, Version, UseCaps, Client}
 use Rattle.dsql_script.specs.Lines.{caps_names}
 
--- how many lines were read, and whether a version line or a caps line may still stand
+-- how many lines were read, whether a version line or a caps line may still stand, and the labels that these lines made,
+-- in the order of the lines
 pub record Progress : Type 0 where
   pub lines : ℕ
   pub head : Head
+  pub labels : List (List ℕ)
 
+-- where no line made a label
 abbrev pub progress : ℕ → Head → Progress
-progress lines head = record { lines = lines; head = head }
+progress lines head = record { lines = lines; head = head; labels = [] }
+
+-- behind queries alone, which made these labels
+abbrev pub progress_past : List (List ℕ) → Progress
+progress_past labels = record { lines = length labels; head = Begun; labels = labels }
 
 -- before the first line
 abbrev pub unread : Progress
@@ -29,9 +38,18 @@ head_after head (Version version) = AfterVersion
 head_after head (UseCaps caps) = Begun
 head_after head (Client client op) = Begun
 
+-- a query makes its label
+abbrev pub labels_made : Op → List (List ℕ)
+labels_made (Query label text args) = label ∷ []
+labels_made _ = []
+
+abbrev pub labels_after : List (List ℕ) → ScriptLine → List (List ℕ)
+labels_after labels (Client client op) = labels ++ labels_made op
+labels_after labels _ = labels
+
 -- behind one more line that was read
 abbrev pub after : Progress → ScriptLine → Progress
-after before line = progress (before.lines + 1) (head_after before.head line)
+after before line = record { lines = before.lines + 1; head = head_after before.head line; labels = labels_after before.labels line }
 
 -- the word behind `version`
 abbrev pub is_version : List (List ℕ) → Bool

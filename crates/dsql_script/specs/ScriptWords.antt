@@ -54,6 +54,10 @@ abbrev pub is_name : List ℕ → Bool
 is_name [] = false
 is_name (first ∷ rest) = is_ascii_lowercase first && nat_le (length rest) 31 && list_all is_name_byte rest && not (is_database (first ∷ rest))
 
+-- the label that a word is
+abbrev pub label_of : List ℕ → Option (List ℕ)
+label_of word = if is_name word then Some word else None
+
 -- what a call is made on: the database, or what a label stands for
 abbrev pub is_target : List ℕ → Bool
 is_target word = is_database word || is_name word

@@ -5,6 +5,7 @@ use Rattle.dsql_scan.specs.declared.dest.Dest.{Dest}
 use Rattle.dsql_driver.specs.declared.call.DriverCall.{DriverCall}
 use Rattle.dsql_driver.specs.declared.answer.DriverAnswer.{DriverAnswer}
 use Rattle.dsql_history.specs.declared.reply.Reply.{Reply}
+use Rattle.dsql_history.specs.declared.event.Op.{Op}
 use Rattle.dsql_history.specs.declared.event.Op.TheVariants.{Exec, One}
 use Rattle.dsql_history.specs.declared.event.Event.TheVariants.{Entered, Replied}
 use Rattle.dsql_history.specs.Worked.Words.{heard}
@@ -34,6 +35,10 @@ exec_line args = line_of (Entered 1 3 (Exec (codes "SET a ?") args))
 -- the line of client 1's call 2, which reads one row of `GET a` into these destinations
 abbrev pub one_line : List Dest → List ℕ
 one_line dests = line_of (Entered 1 2 (One dests (codes "GET a") []))
+
+-- the line of client 1's call 4
+abbrev pub entered_line : Op → List ℕ
+entered_line op = line_of (Entered 1 4 op)
 
 -- the line of what a driver was asked for call 2 on connection 1 in tenure 4, and answered
 abbrev pub heard_line : DriverCall → DriverAnswer → List ℕ

@@ -27,8 +27,8 @@ impl fmt::Display for What {
 
 /// Why a line of a script is refused. Where a line has several faults, the first of these is told:
 /// too many lines, too long, not UTF-8, no such word, the shape of its words, not JSON, the shape
-/// of what its array holds, too many arguments or destinations, unknown label. Want of memory may
-/// come in place of any other answer.
+/// of what its array holds, too many arguments or destinations, unknown label, label taken. Want of
+/// memory may come in place of any other answer.
 #[derive(Clone, Copy, Debug, PartialEq, Eq, Error)]
 pub enum LineFault {
     /// It has more than 4,096 bytes before its line feed, a carriage return among them.
@@ -50,6 +50,9 @@ pub enum LineFault {
     /// It names a label or a token that no earlier line makes.
     #[error("unknown label")]
     UnknownLabel,
+    /// It makes a label that an earlier line makes.
+    #[error("label taken")]
+    LabelTaken,
     /// It is one more than there may be.
     #[error("too many {0}")]
     TooMany(What),

@@ -8,7 +8,8 @@ pub fn spelled_arguments_are_read_back()
 {}
 
 /// The words that a report shows for a call are read behind those of a client as just this call, its
-/// destinations among them, where the array behind them is read as the call's.
+/// destinations and its label among them, where the array behind them is read as the call's, and
+/// earlier lines made the label that it names, or didn't make the one that it makes.
 pub fn spelled_calls_are_read_back()
     ensures { ReadsCallsBack }
 {}

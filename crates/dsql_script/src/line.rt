@@ -6,6 +6,7 @@ mod args;
 mod calls;
 mod events;
 mod laws;
+mod ops;
 mod parts;
 mod replies;
 #[cfg(test)]
@@ -15,7 +16,7 @@ mod values;
 use dsql_history::Event;
 use dsql_value::{Memory, Txt};
 use events::event_text;
-pub use laws::{worked_argument_lines, worked_lines, worked_row_lines};
+pub use laws::{worked_argument_lines, worked_lines, worked_row_lines, worked_rows_lines};
 use std::alloc::Global;
 
 /// The line of an event in a report: a JSON array without spaces, in UTF-8, and a line feed.
@@ -23,7 +24,8 @@ use std::alloc::Global;
 /// | event | line |
 /// |---|---|
 /// | `Run` | `["run",VERSION,[NAMES]]`, the names of what the driver can do |
-/// | `Entered` | `["enter",CLIENT,N,"WORDS",ARRAY]`, the words and the array of the script's line |
+/// | `Entered` | `["enter",CLIENT,N,"WORDS",ARRAY]`, the words and the array of the script's line, |
+/// | | or `["enter",CLIENT,N,"WORDS"]` where that line has no array |
 /// | `Heard` | `["heard",CONN,TENURE,OWNER,N,TX,CALL,ANSWER]`, N and TX 0 where there is none |
 /// | `Pool` | `["open",CONN,N]`, `["fell",CONN,N]` |
 /// | | `["lend",CONN,TENURE,OWNER]`, `["back",CONN]` |

@@ -1,7 +1,7 @@
 ghost use Rattle.std.specs.Prelude.{◌≡◌, ◌≢◌, ◌≤◌, map, Ok, Err, IfOk, IfErr, OnErr};
 ghost use Rattle.std.specs.Option.{option_copied};
 ghost use Rattle.std.specs.Str.Lines.{strip_carriage_return};
-ghost use Rattle.dsql_script.specs.ScriptHead.{Progress, progress, unread, after};
+ghost use Rattle.dsql_script.specs.ScriptHead.{Progress, unread, after};
 ghost use Rattle.dsql_script.specs.ScriptLines.{IsReading, read_of, line_of, text_of, form_of, most_lines};
 
 mod args;
@@ -9,6 +9,8 @@ mod array;
 mod calls;
 mod forms;
 mod head;
+mod labels;
+mod rows;
 #[cfg(test)]
 mod tests;
 mod words;
@@ -16,9 +18,10 @@ mod worked;
 
 use crate::fault::{LineFault, What};
 use crate::script::{Head, ScriptLine};
+use labels::Labels;
 use std::alloc::Global;
 use std::marker::Model;
-pub use worked::{worked_one_lines, worked_script_lines};
+pub use worked::{worked_label_lines, worked_one_lines, worked_script_lines};
 
 /// How many lines a script may have.
 const MAX_LINES: u16 = 10_000;
@@ -27,19 +30,25 @@ const MAX_LINES: u16 = 10_000;
 const MAX_BYTES: usize = 4_096;
 
 /// A reader of scripts, line by line. Contracts see the number of lines that it has read, which
-/// counts skipped ones and no refused one, and whether a version line or a caps line may still come.
+/// counts skipped ones and no refused one, whether a version line or a caps line may still come, and
+/// the labels that the lines that it has read make.
 ///
 /// The words of a line are parted by exactly one space. Where a line holds a space followed by `[`,
 /// a JSON array begins at the first such `[` and runs to the line's end. Before all lines that aren't
 /// skipped may stand `version 1`, and before all of clients `caps` with the names of what the driver
-/// can do, each once and in the order of a report. Any other line that isn't skipped is
-/// `cN exec T [@K]` or `cN one T DESTS [@K]`, and an array of a text and at most 32 arguments: client
-/// N, from 1 to 64 without a leading zero, executes the text on T, which is `db` or a label, under the
-/// token K, if one is named, or reads one row of it into 1 to 32 destinations. The name of a label or
-/// a token is a lower-case letter and at most 31 of `a` to `z`, `0` to `9` and `_`, and isn't `db`. No
-/// line makes a label or a token yet. Destinations are parted by commas, and each is `text`, `bytes`,
-/// `bool`, `i8`, `i16`, `i32`, `i64`, `u8`, `u16`, `u32`, `u64`, `time` or `any`, or one that takes a
-/// nil too: `null:text`, `null:i64`, `null:i32`, `null:i16`, `null:u8`, `null:bool` or `null:time`.
+/// can do, each once and in the order of a report. Any other line that isn't skipped is a client's
+/// call: `cN` and the words of the call, N from 1 to 64 without a leading zero.
+///
+/// `exec T [@K]`, `one T DESTS [@K]` and `query R T [@K]` have an array of a text and at most 32
+/// arguments: the client executes the text on T, which is `db` or a label, under the token K, if one
+/// is named, reads one row of it into 1 to 32 destinations, or queries it, which makes the label R for
+/// its rows. `next R`, `scan R DESTS`, `rowsclose R` and `err R` have no array, and are of the rows
+/// whose label is R. No text is carried out on rows, and no line makes a token yet, so T is `db` and no
+/// token is named. A label is made once, by a line before those that name it. The name of a label or a
+/// token is a lower-case letter and at most 31 of `a` to `z`, `0` to `9` and `_`, and isn't `db`.
+/// Destinations are parted by commas, and each is `text`, `bytes`, `bool`, `i8`, `i16`, `i32`, `i64`,
+/// `u8`, `u16`, `u32`, `u64`, `time` or `any`, or one that takes a nil too: `null:text`, `null:i64`,
+/// `null:i32`, `null:i16`, `null:u8`, `null:bool` or `null:time`.
 ///
 /// | argument | as JSON |
 /// |---|---|
@@ -55,24 +64,26 @@ const MAX_BYTES: usize = 4_096;
 pub struct Reader {
     lines: u16,
     head: Head,
+    labels: Labels,
 }
 
 impl Model for Reader {
     ghost Value = { Progress };
 
-    ghost view = { λ r. progress r.lines r.head };
+    ghost view = { λ r. record { lines = r.lines; head = r.head; labels = r.labels } };
 
     ghost invariant = { λ r. r.lines ≤ most_lines };
 }
 
 impl Reader {
-    /// A reader that has read no line.
-    pub fn new() -> Reader
+    /// A reader that has read no line. It takes no memory.
+    pub fn new(alloc: Global) -> Reader
         ensures { result ≡ unread }
     {
         Reader {
             lines: 0,
             head: Head::First,
+            labels: Labels::new(alloc),
         }
     }
 
@@ -88,6 +99,7 @@ impl Reader {
             return Err(LineFault::TooMany(What::Lines));
         }
         let read = read_bytes(alloc, self.head, line)?;
+        self.labels.take(alloc, &read)?;
         self.lines += 1;
         self.head = self.head.after(&read);
         Ok(read)
@@ -98,17 +110,6 @@ impl Reader {
         ensures { result ≡ self.now.lines }
     {
         self.lines
-    }
-}
-
-impl Default for Reader {
-    ghost use Rattle.std.specs.Prelude.{◌≡◌};
-    ghost use Rattle.dsql_script.specs.ScriptHead.{unread};
-
-    ghost is_default = { λ r. r ≡ unread };
-
-    fn default() -> Reader {
-        Reader::new()
     }
 }
 

@@ -11,9 +11,15 @@ pub enum ScriptLine {
     /// The driver can do just this. The line is `caps` and the names of what it can do, each once and
     /// in the order of a report.
     UseCaps(Caps),
-    /// A client, numbered from 1 to 64, makes a call. The line is `cN exec db ["TEXT",ARGS]`, which is
-    /// Go's `DB.ExecContext` of that text with these arguments, or `cN one db DESTS ["TEXT",ARGS]`,
-    /// which is its `DB.QueryRowContext`, and `Row.Scan` into these destinations.
+    /// A client, numbered from 1 to 64, makes a call. The line is one of these:
+    ///
+    /// | line | call in Go |
+    /// |---|---|
+    /// | `cN exec db ["TEXT",ARGS]` | `DB.ExecContext` of that text with these arguments |
+    /// | `cN one db DESTS ["TEXT",ARGS]` | `DB.QueryRowContext`, and `Row.Scan` into these destinations |
+    /// | `cN query R db ["TEXT",ARGS]` | `DB.QueryContext`, whose rows get the label R |
+    /// | `cN next R`, `cN scan R DESTS` | `Rows.Next`, and `Rows.Scan` into these destinations |
+    /// | `cN rowsclose R`, `cN err R` | `Rows.Close`, `Rows.Err` |
     Client { client: u8, op: Op },
 }
 

@@ -1,5 +1,5 @@
 -- The calls of a history.
-use Rattle.std.specs.Prelude.{ℕ, ◌==◌, ◌&&◌, Bool, cond, List, [], ◌∷◌, ◌++◌, length, slice_set, slice_index_or, Option, Some, None, is_none, option_map, Ok, Err}
+use Rattle.std.specs.Prelude.{ℕ, ◌==◌, ◌&&◌, Bool, cond, List, [], ◌∷◌, ◌++◌, length, slice_set, slice_index_or, Option, true, false, Some, None, is_none, option_map, filter, if◌then◌else◌, Ok, Err}
 use Rattle.std.specs.List.{list_any}
 use Rattle.dsql_value.specs.declared.arg.Named.{Named}
 use Rattle.dsql_value.specs.declared.arg.ArgFault.{ArgFault}
@@ -11,7 +11,6 @@ use Rattle.dsql_driver.specs.declared.call.DriverCall.{DriverCall}
 use Rattle.dsql_driver.specs.declared.call.DriverCall.TheVariants.{Reset, Prepare, Exec, Query, Next, CloseRows}
 use Rattle.dsql_driver.specs.declared.answer.DriverAnswer.{DriverAnswer}
 use Rattle.dsql_driver.specs.declared.answer.DriverAnswer.TheVariants as answers
-use Rattle.dsql_journal.specs.Readers.{has}
 use Rattle.dsql_history.specs.declared.event.Event.{Event}
 use Rattle.dsql_history.specs.declared.event.Event.TheVariants.{Entered, Heard, Pool, Replied}
 use Rattle.dsql_history.specs.declared.event.Move.TheVariants.{OpenStart, Lend, Fell}
@@ -19,31 +18,48 @@ use Rattle.dsql_history.specs.declared.event.Op.{Op}
 use Rattle.dsql_history.specs.declared.event.Op.TheVariants as ops
 use Rattle.dsql_history.specs.declared.record.CallRecord.{CallRecord}
 use Rattle.dsql_history.specs.declared.reply.Reply.{Reply}
-use Rattle.dsql_history.specs.declared.reply.Reply.TheVariants.{Result, Cells, Driver, BadConn, NumArgs, HighBit, NamedRefused, BadName, NoRows, DestCount, Scan}
+use Rattle.dsql_history.specs.declared.reply.Reply.TheVariants as reply
+use Rattle.dsql_history.specs.declared.reply.Reply.TheVariants.{Result, Truth, Cells, Driver, BadConn, NumArgs, HighBit, NamedRefused, BadName, Absent, RowsClosed, NoNextYet, NoRows, DestCount, Scan}
+use Rattle.dsql_history.specs.declared.work.Work.{Work}
+use Rattle.dsql_history.specs.declared.work.Work.TheVariants.{ReadOne, HandOut, Fetch, Close}
+use Rattle.dsql_rows.specs.declared.rows.Rows.{Rows}
+use Rattle.dsql_rows.specs.declared.end.RowsEnd.{RowsEnd}
+use Rattle.dsql_rows.specs.declared.end.RowsEnd.TheVariants as ends
+use Rattle.dsql_rows.specs.declared.fault.RowsFault.TheVariants as faults_of_rows
+use Rattle.dsql_rows.specs.OpenRows.{Scanned, is_live, scan_of}
+use Rattle.dsql_history.specs.Readers.Unfinished.{unfinished, is_unfinished}
+use Rattle.dsql_history.specs.Readers.Works.{works, work, maker, asks, works_on, user_of}
+use Rattle.dsql_history.specs.Readers.HandedOut.{rows_by}
 use Rattle.dsql_history.specs.declared.reply.FaultWord.{FaultWord}
 use Rattle.dsql_history.specs.declared.reply.FaultWord.TheVariants.{FromNull, NotANumber, OutOfRange, NotABool, NotUtf8, Unsupported}
 use Rattle.dsql_scan.specs.Rows.{RowScan, row_of}
-use Rattle.dsql_scan.specs.declared.dest.Dest.{Dest}
 use Rattle.dsql_scan.specs.declared.fault.ScanFault.{ScanFault}
 use Rattle.dsql_scan.specs.declared.fault.ScanFault.TheVariants as scans
 use Rattle.dsql_scan.specs.declared.fault.RowFault.TheVariants as rows
-use Rattle.dsql_history.specs.Readers.Lists.{without}
+use Rattle.dsql_history.specs.Readers.Lists.{first}
 use Rattle.dsql_history.specs.Readers.Course.{caps}
 
--- the text of an operation's statement
+-- the text of an operation's statement, empty where it has none
 abbrev pub statement : Op → List ℕ
 statement (ops.Exec text args) = text
+statement (ops.Query label text args) = text
 statement (ops.One dests text args) = text
+statement _ = []
 
 -- its arguments
 abbrev pub arguments : Op → List Named
 arguments (ops.Exec text args) = args
+arguments (ops.Query label text args) = args
 arguments (ops.One dests text args) = args
+arguments _ = []
 
--- the destinations of the one row that it reads, if it reads one
-abbrev pub destinations : Op → Option (List Dest)
-destinations (ops.Exec text args) = None
-destinations (ops.One dests text args) = Some dests
+-- the label of the rows that it is for, empty where it is for none
+abbrev pub label_of : Op → List ℕ
+label_of (ops.Next rows) = rows
+label_of (ops.Scan rows dests) = rows
+label_of (ops.RowsClose rows) = rows
+label_of (ops.Err rows) = rows
+label_of _ = []
 
 -- the reply that a refusal of arguments gives
 abbrev pub refused_with : ArgFault → Option Reply
@@ -56,25 +72,6 @@ refused_with faults.Memory = None
 abbrev pub told_of : Option ArgFault → Option Reply
 told_of None = None
 told_of (Some fault) = refused_with fault
-
--- The reply of a call whose arguments are refused as it enters: by the first that is refused, for its name or its value.
-abbrev pub refused_at_entry : Caps → Op → Option Reply
-refused_at_entry can op = told_of (first_fault can.named (arguments op))
-
--- the parameters that arguments become, where none is refused
-abbrev pub accepted : Option ArgFault → List Named → List Param
-accepted None args = params_of args
-accepted (Some fault) args = []
-
-abbrev pub params_at_entry : Caps → Op → List Param
-params_at_entry can op = accepted (first_fault can.named (arguments op)) (arguments op)
-
--- the reply that a deciding answer gives; a Skip decides nothing
-abbrev pub reply_to : DriverAnswer → Option Reply
-reply_to (answers.Result last affected) = Some (Result last affected)
-reply_to (answers.Fail text) = Some (Driver text)
-reply_to answers.Bad = Some (BadConn 1)
-reply_to _ = None
 
 -- the word of a fault of scanning; there is none for want of memory
 abbrev pub word_of : ScanFault → Option FaultWord
@@ -93,11 +90,73 @@ told_row (Err (rows.DestCount want got)) = Some (DestCount want got)
 told_row (Err (rows.At column fault)) = option_map (λ word. Scan column word) (word_of fault)
 told_row (Err rows.Memory) = None
 
--- What a fetched row decides for a call with these destinations. No row at all is an answer too.
-abbrev pub row_decision : Option (List Dest) → DriverAnswer → Option Reply
-row_decision (Some dests) (answers.Row values) = told_row (row_of values dests)
-row_decision dests answers.End = Some NoRows
-row_decision dests answer = reply_to answer
+-- what a scan of rows replies
+abbrev pub scan_reply : Scanned → Option Reply
+scan_reply (Ok cells) = Some (Cells cells)
+scan_reply (Err (faults_of_rows.RowsClosed by)) = Some (RowsClosed by)
+scan_reply (Err faults_of_rows.NoNextYet) = Some NoNextYet
+scan_reply (Err (faults_of_rows.Scan why)) = told_row (Err why)
+scan_reply (Err faults_of_rows.Memory) = None
+
+-- what rows tell of the fault that ended them, if one did
+abbrev pub fault_reply : Option RowsEnd → Reply
+fault_reply (Some (ends.Failed text)) = Driver text
+fault_reply (Some ends.BadConn) = BadConn 1
+fault_reply _ = reply.Ok
+
+-- it goes on where the rows are live, and else replies at once
+abbrev pub unless_live : Rows → Reply → Option Reply
+unless_live rows it = if is_live rows then None else Some it
+
+-- What an operation on these rows, if there are any, is replied at once. Live rows are fetched from and closed; all else is told as it enters.
+abbrev pub rows_reply : Option Rows → Op → Option Reply
+rows_reply None op = Some (Absent (label_of op))
+rows_reply (Some rows) (ops.Next label) = unless_live rows (Truth false)
+rows_reply (Some rows) (ops.RowsClose label) = unless_live rows reply.Ok
+rows_reply (Some rows) (ops.Scan label dests) = scan_reply (scan_of rows dests)
+rows_reply (Some rows) op = Some (fault_reply rows.ended)
+
+-- The reply that a call gets as it enters, if it gets one then: by the first argument that is refused, for its name or its value, or by the rows that it is for.
+abbrev pub reply_at_entry : Bool → Option Rows → Op → Option Reply
+reply_at_entry named_ok rows (ops.Exec text args) = told_of (first_fault named_ok args)
+reply_at_entry named_ok rows (ops.Query label text args) = told_of (first_fault named_ok args)
+reply_at_entry named_ok rows (ops.One dests text args) = told_of (first_fault named_ok args)
+reply_at_entry named_ok rows op = rows_reply rows op
+
+-- the rows that an operation is for, once their query has replied
+abbrev pub rows_for : List Event → Op → Option Rows
+rows_for before op = cond (is_unfinished before (maker (works before) (label_of op))) None (rows_by before (maker (works before) (label_of op)))
+
+abbrev pub told_at_entry : List Event → Op → Option Reply
+told_at_entry before op = reply_at_entry (caps before).named (rows_for before op) op
+
+-- the parameters that arguments become, where none is refused
+abbrev pub accepted : Option ArgFault → List Named → List Param
+accepted None args = params_of args
+accepted (Some fault) args = []
+
+abbrev pub params_at_entry : Caps → Op → List Param
+params_at_entry can op = accepted (first_fault can.named (arguments op)) (arguments op)
+
+-- the reply that a deciding answer gives; a Skip decides nothing
+abbrev pub reply_to : DriverAnswer → Option Reply
+reply_to (answers.Result last affected) = Some (Result last affected)
+reply_to (answers.Fail text) = Some (Driver text)
+reply_to answers.Bad = Some (BadConn 1)
+reply_to _ = None
+
+-- a query that hands out rows tells their columns
+abbrev pub query_decision : Work → DriverAnswer → Option Reply
+query_decision (HandOut label) (answers.Cursor cursor columns) = Some (reply.Rows columns)
+query_decision work answer = reply_to answer
+
+-- What a fetch decides: the row that was to be read, or whether there was one. No row at all is an answer too.
+abbrev pub fetch_decision : Work → DriverAnswer → Option Reply
+fetch_decision (ReadOne dests) (answers.Row values) = told_row (row_of values dests)
+fetch_decision (Fetch k) (answers.Row values) = Some (Truth true)
+fetch_decision (Fetch k) answer = Some (Truth false)
+fetch_decision work answers.End = Some NoRows
+fetch_decision work answer = reply_to answer
 
 -- Where a row was scanned, its reply waits for its cursor to be closed. Where that fails the failure is told instead.
 abbrev pub closing_decision : DriverAnswer → Option Reply → Option Reply
@@ -105,18 +164,27 @@ closing_decision (answers.Fail text) (Some (Cells cells)) = Some (Driver text)
 closing_decision answers.Bad (Some (Cells cells)) = Some (BadConn 1)
 closing_decision answer earlier = earlier
 
--- What is decided for a call with so many parameters and these destinations. An Exec's answer decides, as does a failed Query and a fetched row, a Prepare
--- that failed, or that tells of another number of inputs, and a Reset answered Bad. A Reset answered Fail is passed over, and neither a CloseStmt nor a
+-- what closing a cursor decides for a call that was made to close it
+abbrev pub closed_reply : DriverAnswer → Option Reply
+closed_reply answers.Done = Some reply.Ok
+closed_reply answer = reply_to answer
+
+abbrev pub close_decision : Work → DriverAnswer → Option Reply → Option Reply
+close_decision (Close k) answer earlier = closed_reply answer
+close_decision work answer earlier = closing_decision answer earlier
+
+-- What is decided for a call with so many parameters and this work. An Exec's answer decides, as does a Query's that fails or hands out rows, a fetch, a
+-- Prepare that failed, or that tells of another number of inputs, and a Reset answered Bad. A Reset answered Fail is passed over, and neither a CloseStmt nor a
 -- test decides anything.
-abbrev pub decision : ℕ → Option (List Dest) → DriverCall → DriverAnswer → Option Reply → Option Reply
-decision count dests (Exec input params) answer earlier = reply_to answer
-decision count dests (Query input params) answer earlier = reply_to answer
-decision count dests (Next rows) answer earlier = row_decision dests answer
-decision count dests (CloseRows rows) answer earlier = closing_decision answer earlier
-decision count dests (Prepare text) (answers.Prepared handle inputs) earlier = told_of (count_fault inputs count)
-decision count dests (Prepare text) answer earlier = reply_to answer
-decision count dests Reset answers.Bad earlier = Some (BadConn 1)
-decision count dests _ answer earlier = earlier
+abbrev pub decision : ℕ → Work → DriverCall → DriverAnswer → Option Reply → Option Reply
+decision count work (Exec input params) answer earlier = reply_to answer
+decision count work (Query input params) answer earlier = query_decision work answer
+decision count work (Next rows) answer earlier = fetch_decision work answer
+decision count work (CloseRows rows) answer earlier = close_decision work answer earlier
+decision count work (Prepare text) (answers.Prepared handle inputs) earlier = told_of (count_fault inputs count)
+decision count work (Prepare text) answer earlier = reply_to answer
+decision count work Reset answers.Bad earlier = Some (BadConn 1)
+decision count work _ answer earlier = earlier
 
 -- what a refused Connect, just heard, decides for the call to which it falls
 abbrev pub refusal : List Event → Option Reply
@@ -125,7 +193,7 @@ refusal _ = None
 
 -- there is no call 0
 abbrev pub nobody : CallRecord
-nobody = record { client = 0; home = 0; text = []; params = []; dests = None; decided = None }
+nobody = record { client = 0; home = 0; text = []; params = []; decided = None }
 
 abbrev pub with_record : ℕ → (CallRecord → CallRecord) → List CallRecord → List CallRecord
 with_record n change calls = slice_set calls n (change (slice_index_or calls n nobody))
@@ -140,15 +208,14 @@ calls (Entered client n op ∷ before) =
       home = 0;
       text = statement op;
       params = params_at_entry (caps before) op;
-      dests = destinations op;
-      decided = refused_at_entry (caps before) op;
+      decided = told_at_entry before op;
     }
     ∷ []
 calls (Pool (OpenStart c n) ∷ before) = with_record n (λ r. record r { home = c }) (calls before)
 calls (Pool (Lend c tenure owner n) ∷ before) = with_record n (λ r. record r { home = c }) (calls before)
 calls (Pool (Fell c n) ∷ before) = with_record n (λ r. record r { decided = refusal before }) (calls before)
 calls (Heard e ∷ before) =
-    cond (e.call_no == 0) (calls before) (with_record e.call_no (λ r. record r { decided = decision (length r.params) r.dests e.call e.answer r.decided }) (calls before))
+    cond (e.call_no == 0) (calls before) (with_record e.call_no (λ r. record r { decided = decision (length r.params) (work before e.call_no) e.call e.answer r.decided }) (calls before))
 calls (Replied n reply ∷ before) = with_record n (λ r. record r { decided = None }) (calls before)
 calls (_ ∷ before) = calls before
 
@@ -163,24 +230,26 @@ next_call before = length (calls before)
 abbrev pub home : List Event → ℕ → ℕ
 home before n = (call_record before n).home
 
--- the calls that have no reply yet, in the order in which they were entered
-abbrev pub unfinished : List Event → List ℕ
-unfinished [] = []
-unfinished (Entered client n op ∷ before) = unfinished before ++ n ∷ []
-unfinished (Replied n reply ∷ before) = without n (unfinished before)
-unfinished (_ ∷ before) = unfinished before
-
-abbrev pub is_unfinished : List Event → ℕ → Bool
-is_unfinished before n = has n (unfinished before)
-
 -- the client has an unfinished call
 abbrev pub is_busy : ℕ → List Event → Bool
 is_busy client before = list_any (λ n. (call_record before n).client == client) (unfinished before)
 
--- it has neither asked for a connection nor been refused
+-- it wants a connection, and has neither asked for one nor been refused
 abbrev pub has_not_asked : List Event → ℕ → Bool
-has_not_asked before n = (home before n == 0) && is_none (call_record before n).decided
+has_not_asked before n = asks (work before n) && ((home before n == 0) && is_none (call_record before n).decided)
 
 -- what the call is to be replied, where that is settled
 abbrev pub reply_due : List Event → ℕ → Option Reply
 reply_due before n = (call_record before n).decided
+
+-- The unfinished call that works on the rows of call n, 0 for none.
+abbrev pub worker : List Event → ℕ → ℕ
+worker before n = first (filter (λ m. works_on n (work before m)) (unfinished before))
+
+-- Who sends on the connection of call n: that call until it has its reply, then the call that works on its rows, or else the House, which is 0.
+abbrev pub sender : List Event → ℕ → ℕ
+sender before n = cond (is_unfinished before n) n (worker before n)
+
+-- the call whose connection call m uses
+abbrev pub user : List Event → ℕ → ℕ
+user before m = user_of (work before m) m

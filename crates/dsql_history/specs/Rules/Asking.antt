@@ -9,7 +9,8 @@ use Rattle.dsql_history.specs.declared.event.Move.TheVariants.{OpenStart, Lend}
 use Rattle.dsql_history.specs.Readers.Lists.{last}
 use Rattle.dsql_history.specs.Readers.Course.{has_ended}
 use Rattle.dsql_history.specs.Readers.Sets.{place, is_idle, idle}
-use Rattle.dsql_history.specs.Readers.Calls.{has_not_asked, is_unfinished}
+use Rattle.dsql_history.specs.Readers.Calls.{has_not_asked}
+use Rattle.dsql_history.specs.Readers.Unfinished.{is_unfinished}
 
 -- the call is under way, hasn't asked before and isn't refused, and the database isn't closed. Until retries come a call has one try
 abbrev pub may_ask : List Event → ℕ → Bool

@@ -1,6 +1,6 @@
--- The driver calls of a call on the database, once a connection is lent to it: Reset where it is due, those of its course, and Valid where the driver can
--- test and the connection isn't known to be bad.
-use Rattle.std.specs.Prelude.{ℕ, ◌==◌, nat_le, Bool, true, false, ◌&&◌, ◌||◌, cond, List, [], ◌∷◌, length, Option, Some, None, is_none, bytes_eq}
+-- The driver calls on a connection that is lent to a call: Reset where it is due, those of the call's course, those over the rows that it handed out, and
+-- Valid where the driver can test and the connection isn't known to be bad.
+use Rattle.std.specs.Prelude.{ℕ, ◌==◌, nat_le, Bool, true, false, not, ◌&&◌, ◌||◌, cond, List, [], ◌∷◌, length, Option, Some, None, is_none, bytes_eq}
 use Rattle.dsql_value.specs.declared.value.Param.{Param}
 use Rattle.dsql_driver.specs.declared.caps.Caps.{Caps}
 use Rattle.dsql_driver.specs.declared.call.DriverCall.{DriverCall}
@@ -11,8 +11,11 @@ use Rattle.dsql_course.specs.declared.course.Course.{Course}
 use Rattle.dsql_course.specs.declared.course.Course.TheVariants as courses
 use Rattle.dsql_course.specs.declared.call.Due.{Due}
 use Rattle.dsql_course.specs.declared.call.Due.TheVariants as course
-use Rattle.dsql_course.specs.Made.{Exchange}
+use Rattle.dsql_course.specs.declared.course.Wish.{Wish}
+use Rattle.dsql_course.specs.declared.course.Wish.TheVariants as wishes
+use Rattle.dsql_course.specs.Made.{Exchange, own_cursor, rows_are_over}
 use Rattle.dsql_course.specs.Line.{Found, comes_next}
+use Rattle.dsql_course.specs.Rows.{rows_next}
 use Rattle.dsql_journal.specs.declared.entry.Entry.{Entry}
 use Rattle.dsql_journal.specs.declared.entry.Owner.TheVariants.{Call}
 use Rattle.dsql_journal.specs.Kinds.{is_bad, is_valid}
@@ -21,12 +24,17 @@ use Rattle.dsql_history.specs.declared.event.Event.TheVariants.{Heard, Pool}
 use Rattle.dsql_history.specs.declared.event.Move.TheVariants.{Back, CloseStart}
 use Rattle.dsql_history.specs.declared.record.Place.{Place}
 use Rattle.dsql_history.specs.declared.record.Place.TheVariants.{Lent}
-use Rattle.dsql_history.specs.declared.record.CallRecord.{CallRecord}
+use Rattle.dsql_history.specs.declared.reply.Reply.{Reply}
+use Rattle.dsql_history.specs.declared.work.Aim.{Aim}
+use Rattle.dsql_history.specs.declared.work.Aim.TheVariants as aims
+use Rattle.dsql_history.specs.declared.work.Work.{Work}
+use Rattle.dsql_history.specs.declared.work.Work.TheVariants.{ReadOne, HandOut, Fetch, Close}
 use Rattle.dsql_history.specs.Same.{same_params}
-use Rattle.dsql_history.specs.Readers.Course.{caps}
+use Rattle.dsql_history.specs.Readers.Course.{caps, has_ended}
 use Rattle.dsql_history.specs.Readers.Sets.{place, uses}
 use Rattle.dsql_history.specs.Readers.Journals.{heard_in}
-use Rattle.dsql_history.specs.Readers.Calls.{call_record}
+use Rattle.dsql_history.specs.Readers.Works.{work}
+use Rattle.dsql_history.specs.Readers.Calls.{call_record, sender, reply_due}
 use Rattle.dsql_history.specs.Readers.Exchanges.{exchanges}
 
 -- the driver can reset, and an earlier tenure of the connection had an owner other than the House
@@ -37,19 +45,25 @@ is_reset_due before c = (caps before).resetter && nat_le 2 (uses before c)
 abbrev pub test_of : Caps → Option DriverCall
 test_of can = cond can.validator (Some Valid) None
 
--- What a call asks of the driver: a text with parameters, and whether it reads one row of what that gives.
+-- What a call asks of the driver: a text with parameters, and what becomes of that. It is executed, one row of it is read, or its rows are handed out.
 pub record Asked : Type 0 where
   pub text : List ℕ
   pub params : List Param
-  pub reads : Bool
+  pub aim : Aim
 
 -- its course
-abbrev pub course_of : Asked → Course
-course_of asked = cond asked.reads courses.One courses.Exec
+abbrev pub course_of : Aim → Course
+course_of aims.Execute = courses.Exec
+course_of aims.ReadOne = courses.One
+course_of aims.HandOut = courses.Query
 
 -- the run of a text or a handle
+abbrev pub run_for : Aim → Input → List Param → DriverCall
+run_for aims.Execute input params = Exec input params
+run_for _ input params = Query input params
+
 abbrev pub run_of : Asked → Input → DriverCall
-run_of asked input = cond asked.reads (Query input asked.params) (Exec input asked.params)
+run_of asked input = run_for asked.aim input asked.params
 
 -- no token can be cancelled yet, and on a connection that is known to be bad nothing is due
 abbrev pub going_on : Found
@@ -65,28 +79,72 @@ sent_as can asked (course.CloseRows rows) = Some (CloseRows rows)
 sent_as can asked (course.CloseStmt handle) = Some (CloseStmt handle)
 sent_as can asked _ = test_of can
 
--- what its course sends next, after these exchanges
-abbrev pub body_after : Caps → Asked → List Exchange → Option DriverCall
-body_after can asked made = sent_as can asked (comes_next (course_of asked) can (length asked.params) going_on made)
+-- the cursor of rows that are handed out
+abbrev pub handed : Aim → List Exchange → Option ℕ
+handed aims.HandOut made = own_cursor made
+handed aim made = None
 
--- what it sends next, after what was heard in its tenure, newest first; nothing comes after a Bad or a test
-abbrev pub line_after : Caps → Bool → Asked → List Entry → Option DriverCall
-line_after can reset_due asked [] = cond reset_due (Some Reset) (body_after can asked [])
-line_after can reset_due asked (e ∷ earlier) = cond (is_bad e.answer || is_valid e.call) None (body_after can asked (exchanges (e ∷ earlier)))
+-- what is sent over rows, where anything is
+abbrev pub sent_over : Caps → Asked → Option Due → Option DriverCall
+sent_over can asked None = None
+sent_over can asked (Some call) = sent_as can asked call
 
--- it reads one row
-abbrev pub reads_row : {X : Type 0} → Option X → Bool
-reads_row None = false
-reads_row (Some dests) = true
+-- What is sent next after these exchanges: what the call's course has, and once it has handed out rows what is wanted of them.
+abbrev pub body_with : Caps → Asked → Wish → List Exchange → Option ℕ → Option DriverCall
+body_with can asked wish made None = sent_as can asked (comes_next (course_of asked.aim) can (length asked.params) going_on made)
+body_with can asked wish made (Some rows) = sent_over can asked (rows_next wish can (length asked.params) made rows)
+
+abbrev pub body_after : Caps → Asked → Wish → List Exchange → Option DriverCall
+body_after can asked wish made = body_with can asked wish made (handed asked.aim made)
+
+-- what is sent next, after what was heard in the tenure, newest first; nothing comes after a Bad or a test
+abbrev pub line_after : Caps → Bool → Asked → Wish → List Entry → Option DriverCall
+line_after can reset_due asked wish [] = cond reset_due (Some Reset) (body_after can asked wish [])
+line_after can reset_due asked wish (e ∷ earlier) = cond (is_bad e.answer || is_valid e.call) None (body_after can asked wish (exchanges (e ∷ earlier)))
+
+-- rows that are handed out keep the connection as long as they aren't over and nobody closes them
+abbrev pub keeps : Wish → Bool
+keeps wishes.Close = false
+keeps _ = true
+
+abbrev pub keeps_with : Wish → List Exchange → Option ℕ → Bool
+keeps_with wish made None = false
+keeps_with wish made (Some rows) = not (rows_are_over made) && keeps wish
+
+abbrev pub keeps_rows : Aim → Wish → List Exchange → Bool
+keeps_rows aim wish made = keeps_with wish made (handed aim made)
+
+-- what becomes of the text of a call
+abbrev pub aim_of : Work → Aim
+aim_of (ReadOne dests) = aims.ReadOne
+aim_of (HandOut label) = aims.HandOut
+aim_of _ = aims.Execute
 
 -- what a call asks
-abbrev pub asked_by : CallRecord → Asked
-asked_by call = record { text = call.text; params = call.params; reads = reads_row call.dests }
+abbrev pub asked_by : List Event → ℕ → Asked
+asked_by before n = record { text = (call_record before n).text; params = (call_record before n).params; aim = aim_of (work before n) }
 
--- what call n sends next in tenure t on connection c, if anything
+-- What is wanted of the rows of call n: what the call that sends there is to do and hasn't done. The end of the run closes all rows.
+abbrev pub wish_of : Bool → Work → Option Reply → Wish
+wish_of true it decided = wishes.Close
+wish_of false (Close k) None = wishes.Close
+wish_of false (Fetch k) None = wishes.Fetch
+wish_of false _ decided = wishes.Nothing
+
+abbrev pub wish : List Event → ℕ → Wish
+wish before n = wish_of (has_ended before) (work before (sender before n)) (reply_due before (sender before n))
+
+-- what is sent next on connection c, which is lent to call n in tenure t, if anything
 abbrev pub due : List Event → ℕ → ℕ → ℕ → Option DriverCall
-due before c t n =
-    line_after (caps before) (is_reset_due before c) (asked_by (call_record before n)) (heard_in before c t)
+due before c t n = line_after (caps before) (is_reset_due before c) (asked_by before n) (wish before n) (heard_in before c t)
+
+-- what is sent next where the rows are to be closed
+abbrev pub due_when_closed : List Event → ℕ → ℕ → ℕ → Option DriverCall
+due_when_closed before c t n = line_after (caps before) (is_reset_due before c) (asked_by before n) wishes.Close (heard_in before c t)
+
+-- the rows of call n keep connection c, which is lent to it in tenure t
+abbrev pub is_kept_by_rows : List Event → ℕ → ℕ → ℕ → Bool
+is_kept_by_rows before c t n = keeps_rows (aim_of (work before n)) (wish before n) (exchanges (heard_in before c t))
 
 -- the call is the one that is due
 abbrev pub is_due : Option DriverCall → DriverCall → Bool
@@ -108,9 +166,9 @@ sends_from before (Lent tenure (Call n)) e = is_due (due before e.conn tenure n)
 sends_from before (Lent tenure owner) e = false
 sends_from before _ e = true
 
--- it lets its connection go once nothing is due any more
+-- it lets its connection go once nothing is due any more, and no rows keep it
 abbrev pub leaves_from : List Event → Place → ℕ → Bool
-leaves_from before (Lent tenure (Call n)) c = is_none (due before c tenure n)
+leaves_from before (Lent tenure (Call n)) c = is_none (due before c tenure n) && not (is_kept_by_rows before c tenure n)
 leaves_from before (Lent tenure owner) c = false
 leaves_from before _ c = true
 

@@ -8,6 +8,7 @@ use Rattle.dsql_history.specs.declared.event.Move.{Move}
 use Rattle.dsql_history.specs.declared.event.Move.TheVariants.{OpenStart, Lend, Back, CloseStart, Gone, Fell}
 use Rattle.dsql_history.specs.declared.record.Place.{Place}
 use Rattle.dsql_history.specs.declared.record.Place.TheVariants.{Opening, Lent, Closing}
+use Rattle.dsql_history.specs.Readers.Calls.{sender}
 use Rattle.dsql_history.specs.Readers.Sets.{place, next_number, is_opening, is_idle, is_lent, is_closing, number_of, next_tenure}
 
 -- OpenStart puts the next new number into opening; Lend moves from idle or opening to lent; Back from lent or opening to idle;
@@ -26,12 +27,12 @@ numbers_lending before (Lend c tenure owner n) = (tenure == next_tenure before c
 numbers_lending before _ = true
 
 -- A Connect is heard only of an opening connection, in tenure 1; a Shut only of a closing one, in the tenure after its last; every
--- other call only of a lent one, with the tenure and owner of its last lending, and here for the owner's call alone.
+-- other call only of a lent one, with the tenure and owner of its last lending, sent by who sends there.
 abbrev pub hears_in : List Event → Place → Entry → Bool
 hears_in before (Opening n) e = is_connect e.call && (e.tenure == 1) && is_house e.owner && (e.call_no == 0)
 hears_in before Closing e = is_shut e.call && (e.tenure == next_tenure before e.conn) && is_house e.owner && (e.call_no == 0)
 hears_in before (Lent tenure owner) e =
-    not (is_connect e.call || is_shut e.call) && (e.tenure == tenure) && same_owner e.owner owner && (e.call_no == number_of owner)
+    not (is_connect e.call || is_shut e.call) && (e.tenure == tenure) && same_owner e.owner owner && (e.call_no == sender before (number_of owner))
 hears_in before _ e = false
 
 abbrev pub keeps_sets : List Event → Event → Bool

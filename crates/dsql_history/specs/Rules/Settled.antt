@@ -8,7 +8,9 @@ use Rattle.dsql_history.specs.declared.record.Place.TheVariants.{Opening, Lent}
 use Rattle.dsql_journal.specs.Readers.{is_empty}
 use Rattle.dsql_history.specs.Readers.Course.{has_ended}
 use Rattle.dsql_history.specs.Readers.Sets.{places, place, is_open, is_opening, is_closing, is_for, number_of, idle}
-use Rattle.dsql_history.specs.Readers.Calls.{call_record, home, unfinished, is_unfinished}
+use Rattle.dsql_history.specs.Readers.Calls.{call_record, home, user}
+use Rattle.dsql_history.specs.Readers.Unfinished.{unfinished, is_unfinished}
+use Rattle.dsql_history.specs.Rules.Line.{due, is_kept_by_rows}
 use Rattle.dsql_history.specs.Rules.Causes.{idle_limit}
 
 -- nothing has to come as the very next event
@@ -16,19 +18,27 @@ abbrev pub is_placed : List Event → Bool
 is_placed (Heard e ∷ before) = not (is_opening (place before e.conn) || is_closing (place before e.conn))
 is_placed _ = true
 
--- a lent connection's call is unfinished, and so is the call for which one is being opened
+-- call n's rows keep its connection, or a driver call is due there
+abbrev pub has_to_come : List Event → ℕ → ℕ → Bool
+has_to_come before t n = is_kept_by_rows before (home before n) t n || is_some (due before (home before n) t n)
+
+-- a lent connection's call is unfinished, or its rows live or are to be closed; the call for which one is being opened is unfinished
 abbrev pub is_in_use : List Event → Place → Bool
-is_in_use before (Lent tenure owner) = is_unfinished before (number_of owner)
+is_in_use before (Lent tenure owner) = is_unfinished before (number_of owner) || has_to_come before tenure (number_of owner)
 is_in_use before (Opening n) = is_unfinished before n
 is_in_use before _ = true
 
 abbrev pub uses_what_is_lent : List Event → Bool
 uses_what_is_lent before = list_all (is_in_use before) (places before)
 
--- an unfinished call has its connection, or one that is being opened for it, or the refused Connect that fell to it
+-- call m has the connection of call n, or one that is being opened for it, or the refused Connect that fell to it
+abbrev pub has_way : List Event → ℕ → ℕ → Bool
+has_way before m n =
+    not (home before n == 0) && (is_for n (place before (home before n)) || (not (is_open (place before (home before n))) && is_some (call_record before m).decided))
+
+-- an unfinished call has its connection, or that of the rows that it works on
 abbrev pub is_under_way : List Event → ℕ → Bool
-is_under_way before n =
-    not (home before n == 0) && (is_for n (place before (home before n)) || (not (is_open (place before (home before n))) && is_some (call_record before n).decided))
+is_under_way before m = has_way before m (user before m)
 
 abbrev pub goes_on : List Event → Bool
 goes_on before = list_all (is_under_way before) (unfinished before)

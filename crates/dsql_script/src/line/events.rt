@@ -4,20 +4,19 @@ ghost use Rattle.serde_json.specs.Data.{string};
 ghost use Rattle.serde_json.specs.View.{view};
 ghost use Rattle.serde_json.specs.Written.{compact_text};
 ghost use Rattle.dsql_script.specs.LineValues.{texts_data};
-ghost use Rattle.dsql_script.specs.Lines.{owner_word, cause_word, caps_names, op_words, op_data, entered_data, move_data, entry_data, json_of};
+ghost use Rattle.dsql_script.specs.Lines.{owner_word, cause_word, caps_names, move_data, entry_data, json_of};
 
 use crate::caps::caps_names;
-use crate::dests::dests_word;
-use crate::line::args::statement_json;
 use crate::line::calls::{answer_json, call_json};
+use crate::line::ops::entered_json;
 use crate::line::parts::worded;
 use crate::line::replies::reply_json;
 use dsql_driver::Caps;
-use dsql_history::{CloseCause, Event, Move, Op};
+use dsql_history::{CloseCause, Event, Move};
 use dsql_journal::{Entry, Owner};
 use dsql_value::Memory;
 use serde_json::Value;
-use std::alloc::{AllocError, Global};
+use std::alloc::Global;
 
 /// Who holds a connection, and by which number.
 fn owner_json(alloc: Global, owner: Owner) -> Result<Value, Memory>
@@ -53,47 +52,6 @@ fn caps_json(alloc: Global, caps: &Caps) -> Result<Value, Memory>
         list.push(Value::try_from_str(alloc, name)?)?;
     }
     Ok(Value::Array(list))
-}
-
-/// The words of the line that asked for a call, without the client.
-fn op_words(alloc: Global, op: &Op) -> Result<String, AllocError>
-    ensures { IfOk result (λ s. string_bytes s ≡ op_words op.now) }
-{
-    match op {
-        Op::Exec { text: _, args: _ } => String::from_str(alloc, "exec db"),
-        Op::One {
-            dests,
-            text: _,
-            args: _,
-        } => {
-            let dests = dests_word(alloc, dests.as_slice())?;
-            format!(in alloc; "one db {dests}")
-        }
-    }
-}
-
-/// The array of that line.
-fn op_json(alloc: Global, op: &Op) -> Result<Value, Memory>
-    ensures { IfOk result (λ v. view v ≡ op_data op.now) }
-{
-    match op {
-        Op::Exec { text, args } => statement_json(alloc, text, args.as_slice()),
-        Op::One {
-            dests: _,
-            text,
-            args,
-        } => statement_json(alloc, text, args.as_slice()),
-    }
-}
-
-/// A client's call: who made it, its number, and the words and the array of the line that asked for it.
-fn entered_json(alloc: Global, client: u8, n: u32, op: &Op) -> Result<Value, Memory>
-    ensures { IfOk result (λ v. view v ≡ entered_data client n op.now) }
-{
-    let words = Value::from(op_words(alloc, op)?);
-    let array = op_json(alloc, op)?;
-    let parts = [Value::from(client), Value::from(n), words, array];
-    worded(alloc, "enter", parts)
 }
 
 /// A connection's move. The call of a lending isn't shown, since its owner's number says it.

@@ -1,5 +1,5 @@
 //! What worked events are written as. The functions do nothing: their contracts are what is shown.
-ghost use Rattle.std.specs.Prelude.{◌≡◌, ◌∷◌, [], Some, None, pos, negsuc, codes, reverse};
+ghost use Rattle.std.specs.Prelude.{◌≡◌, ◌∷◌, [], Some, None, true, false, pos, negsuc, codes, reverse};
 ghost use Rattle.dsql_value.specs.declared.arg.Arg.{Arg};
 ghost use Rattle.dsql_value.specs.declared.arg.Arg.TheVariants as arg;
 ghost use Rattle.dsql_value.specs.WorkedArguments.{plain, named_one};
@@ -9,12 +9,14 @@ ghost use Rattle.dsql_scan.specs.declared.cell.Cell.TheVariants as cell;
 ghost use Rattle.dsql_driver.specs.declared.call.Input.TheVariants as input;
 ghost use Rattle.dsql_driver.specs.declared.call.DriverCall.TheVariants as call;
 ghost use Rattle.dsql_driver.specs.declared.answer.DriverAnswer.TheVariants as answer;
+ghost use Rattle.dsql_rows.specs.declared.end.RowsOver.TheVariants as over;
+ghost use Rattle.dsql_history.specs.declared.event.Op.TheVariants as op;
 ghost use Rattle.dsql_history.specs.declared.reply.FaultWord.TheVariants as fault;
 ghost use Rattle.dsql_history.specs.declared.reply.Reply.{Reply};
 ghost use Rattle.dsql_history.specs.declared.reply.Reply.TheVariants as reply;
 ghost use Rattle.dsql_history.specs.Worked.OneExec.{one_exec};
 ghost use Rattle.dsql_script.specs.Lines.{text_of};
-ghost use Rattle.dsql_script.specs.WorkedLines.{one_exec_report, exec_line, one_line, heard_line, reply_line};
+ghost use Rattle.dsql_script.specs.WorkedLines.{one_exec_report, exec_line, one_line, entered_line, heard_line, reply_line};
 
 /// The lines of a run in which one client executes one statement are its worked report, byte for byte.
 pub fn worked_lines()
@@ -67,4 +69,29 @@ pub fn worked_row_lines()
         ≡ codes "[\"reply\",3,[\"err\",\"dest_count\",1,2,\"sql: expected 1 destination arguments in Scan, not 2\"]]\n" }
     ensures scan { reply_line (reply.Scan 0 fault.NotANumber)
         ≡ codes "[\"reply\",3,[\"err\",\"scan\",0,\"not_a_number\",\"sql: scan of column 0: not_a_number\"]]\n" }
+{}
+
+/// A query and the calls on its rows name its label, and replies tell what these calls gave.
+pub fn worked_rows_lines()
+    ensures query { entered_line (op.Query (codes "r") (codes "GET a") (plain (arg.I64 (pos 1)) ∷ []))
+        ≡ codes "[\"enter\",1,4,\"query r db\",[\"GET a\",1]]\n" }
+    ensures next { entered_line (op.Next (codes "r"))
+        ≡ codes "[\"enter\",1,4,\"next r\"]\n" }
+    ensures scan { entered_line (op.Scan (codes "r") (dest.Text ∷ dest.I64 ∷ []))
+        ≡ codes "[\"enter\",1,4,\"scan r text,i64\"]\n" }
+    ensures rows_close { entered_line (op.RowsClose (codes "r_2"))
+        ≡ codes "[\"enter\",1,4,\"rowsclose r_2\"]\n" }
+    ensures err { entered_line (op.Err (codes "r"))
+        ≡ codes "[\"enter\",1,4,\"err r\"]\n" }
+    ensures ok { reply_line reply.Ok ≡ codes "[\"reply\",3,[\"ok\"]]\n" }
+    ensures rows { reply_line (reply.Rows (codes "key" ∷ codes "value" ∷ []))
+        ≡ codes "[\"reply\",3,[\"ok\",\"rows\",[\"key\",\"value\"]]]\n" }
+    ensures truth { reply_line (reply.Truth true) ≡ codes "[\"reply\",3,[\"ok\",true]]\n" }
+    ensures no_row { reply_line (reply.Truth false) ≡ codes "[\"reply\",3,[\"ok\",false]]\n" }
+    ensures absent { reply_line (reply.Absent (codes "r"))
+        ≡ codes "[\"reply\",3,[\"err\",\"absent\",\"r\",\"sql: no value has this label\"]]\n" }
+    ensures closed { reply_line (reply.RowsClosed over.EndOfRows)
+        ≡ codes "[\"reply\",3,[\"err\",\"rows_closed\",\"end_of_rows\",\"sql: Rows are closed\"]]\n" }
+    ensures no_next { reply_line reply.NoNextYet
+        ≡ codes "[\"reply\",3,[\"err\",\"no_next\",\"sql: Scan called without calling Next\"]]\n" }
 {}

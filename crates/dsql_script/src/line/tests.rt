@@ -2,6 +2,7 @@ use crate::line::event_line;
 use dsql_driver::{DriverAnswer, DriverCall, Input, Level};
 use dsql_history::{Event, FaultWord, Move, Op, Reply};
 use dsql_journal::{Entry, Owner};
+use dsql_rows::RowsOver;
 use dsql_scan::{Cell, Dest};
 use dsql_value::{Arg, Bin, Items, Named, Param, Txt, Value};
 use std::alloc::Global;
@@ -172,6 +173,49 @@ fn shows_destinations_in_order(rt: HostRuntime) -> Result<(), Fail> {
     assert_line(&rt, alloc, &event, want)
 }
 
+/// That call 2 of client 1 has these words, and this array if it has one.
+fn assert_call(rt: &impl Abort, alloc: Global, op: Op, want: &str) -> Result<(), Fail> {
+    let event = Event::Entered {
+        client: 1,
+        n: 2,
+        op,
+    };
+    let want = format!(in alloc; r#"["enter",1,2,{want}]"#)?;
+    assert_line(rt, alloc, &event, want.as_str())
+}
+
+#[test]
+fn shows_calls_on_rows(rt: HostRuntime) -> Result<(), Fail> {
+    let alloc = rt.alloc();
+    let label = Txt::copy_of(alloc, "r")?;
+    let text = Txt::copy_of(alloc, "GET a")?;
+    let args = Items::none(alloc);
+    let query = Op::Query { label, text, args };
+    assert_call(&rt, alloc, query, r#""query r db",["GET a"]"#)?;
+    let rows = Txt::copy_of(alloc, "r")?;
+    assert_call(&rt, alloc, Op::Next { rows }, r#""next r""#)?;
+    let rows = Txt::copy_of(alloc, "r")?;
+    let dests = Items::new(vec![in alloc; Dest::Text, Dest::I64]?);
+    assert_call(&rt, alloc, Op::Scan { rows, dests }, r#""scan r text,i64""#)?;
+    let rows = Txt::copy_of(alloc, "r")?;
+    assert_call(&rt, alloc, Op::RowsClose { rows }, r#""rowsclose r""#)?;
+    let rows = Txt::copy_of(alloc, "r")?;
+    assert_call(&rt, alloc, Op::Err { rows }, r#""err r""#)
+}
+
+#[test]
+fn shows_replies_of_rows(rt: HostRuntime) -> Result<(), Fail> {
+    let alloc = rt.alloc();
+    assert_reply(&rt, alloc, Reply::Ok, r#"["reply",5,["ok"]]"#)?;
+    let columns = vec![in alloc; Txt::copy_of(alloc, "key")?, Txt::copy_of(alloc, "value")?]?;
+    let want = r#"["reply",5,["ok","rows",["key","value"]]]"#;
+    assert_reply(&rt, alloc, Reply::Rows(Items::new(columns)), want)?;
+    let want = r#"["reply",5,["ok",true]]"#;
+    assert_reply(&rt, alloc, Reply::Truth(true), want)?;
+    let want = r#"["reply",5,["ok",false]]"#;
+    assert_reply(&rt, alloc, Reply::Truth(false), want)
+}
+
 #[test]
 fn shows_each_form_of_cell(rt: HostRuntime) -> Result<(), Fail> {
     let alloc = rt.alloc();
@@ -241,6 +285,22 @@ fn shows_errors_of_rows(rt: HostRuntime) -> Result<(), Fail> {
     let want =
         r#"["reply",5,["err","dest_count",1,2,"sql: expected 1 destination arguments in Scan, not 2"]]"#;
     assert_reply(&rt, alloc, Reply::DestCount { want: 1, got: 2 }, want)?;
+    let want = r#"["reply",5,["err","absent","r","sql: no value has this label"]]"#;
+    assert_reply(&rt, alloc, Reply::Absent(Txt::copy_of(alloc, "r")?), want)?;
+    let want = r#"["reply",5,["err","no_next","sql: Scan called without calling Next"]]"#;
+    assert_reply(&rt, alloc, Reply::NoNextYet, want)?;
+    for (over, word) in [
+        (RowsOver::Close, "close"),
+        (RowsOver::EndOfRows, "end_of_rows"),
+        (RowsOver::Failed, "failed"),
+        (RowsOver::BadConn, "bad"),
+        (RowsOver::EndOfRun, "end"),
+    ] {
+        let want = format!(in alloc;
+            r#"["reply",5,["err","rows_closed","{word}","sql: Rows are closed"]]"#
+        )?;
+        assert_reply(&rt, alloc, Reply::RowsClosed(over), want.as_str())?;
+    }
     for (fault, word) in [
         (FaultWord::FromNull, "from_null"),
         (FaultWord::NotANumber, "not_a_number"),

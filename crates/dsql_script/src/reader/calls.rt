@@ -1,12 +1,12 @@
 ghost use Rattle.std.specs.Prelude.{◌≡◌, map};
 ghost use Rattle.std.specs.Option.{option_copied};
 ghost use Rattle.dsql_script.specs.Dests.{dests_of};
-ghost use Rattle.dsql_script.specs.ScriptWords.{client_of};
-ghost use Rattle.dsql_script.specs.ScriptLines.{IsReading, client_line, call_of, exec_of, one_of, one_into, statement_of, has_target, names_database};
+ghost use Rattle.dsql_script.specs.ScriptWords.{client_of, label_of};
+ghost use Rattle.dsql_script.specs.ScriptLines.{IsReading, client_line, call_of, exec_of, query_of, query_as, one_of, one_into, statement_of, has_target, names_database};
 
 use crate::dests::read_dests;
 use crate::fault::{LineFault, What};
-use crate::reader::{args, array, words};
+use crate::reader::{args, array, rows, words};
 use crate::script::ScriptLine;
 use dsql_history::Op;
 use dsql_scan::Dests;
@@ -21,6 +21,8 @@ const MAX_ARGS: usize = 32;
 enum Verb {
     /// That it is executed.
     Exec,
+    /// That it is queried, and its rows get this label.
+    Query(Txt),
     /// That it is queried, and one row is read into these destinations.
     One(Dests),
 }
@@ -34,7 +36,7 @@ impl Verb {
         ensures { result ≡ dest_count self.now }
     {
         match self {
-            Verb::Exec => 0,
+            Verb::Exec | Verb::Query(_) => 0,
             Verb::One(dests) => dests.as_slice().len(),
         }
     }
@@ -44,6 +46,7 @@ impl Verb {
     {
         match self {
             Verb::Exec => Op::Exec { text, args },
+            Verb::Query(label) => Op::Query { label, text, args },
             Verb::One(dests) => Op::One { dests, text, args },
         }
     }
@@ -79,8 +82,9 @@ fn read_call(
     let client = words::client(client).ok_or(LineFault::NoSuchWord)?;
     match verb {
         "exec" => read_exec(alloc, client, words, array),
+        "query" => read_query(alloc, client, words, array),
         "one" => read_one(alloc, client, words, array),
-        _ => Err(LineFault::NoSuchWord),
+        _ => rows::read_call(alloc, client, verb, words, array),
     }
 }
 
@@ -100,6 +104,38 @@ fn read_exec(
         }
         [] => Err(LineFault::BadShape),
     }
+}
+
+/// Reads a query by the words after it.
+fn read_query(
+    alloc: Global,
+    client: u8,
+    words: &[&str],
+    array: Option<&str>,
+) -> Result<ScriptLine, LineFault>
+    ensures { IsReading result
+        (query_of client (map (λ w. w.now) words.now) (option_copied array.entry)) }
+{
+    match words {
+        [label, target, tokens @ ..] => read_query_as(alloc, client, label, target, tokens, array),
+        _ => Err(LineFault::BadShape),
+    }
+}
+
+/// Reads a query by the word for its label and those after it.
+fn read_query_as(
+    alloc: Global,
+    client: u8,
+    label: &str,
+    target: &str,
+    tokens: &[&str],
+    array: Option<&str>,
+) -> Result<ScriptLine, LineFault>
+    ensures { IsReading result (query_as client (label_of label.now) target.now
+        (map (λ w. w.now) tokens.now) (option_copied array.entry)) }
+{
+    let verb = Verb::Query(rows::read_label(alloc, label)?);
+    read_statement(alloc, client, verb, target, tokens, array)
 }
 
 /// Reads a call that reads one row, by the words after `one`.

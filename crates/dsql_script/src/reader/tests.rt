@@ -7,7 +7,7 @@ use std::test::Fail;
 
 /// A reader after which one more line may come.
 fn almost_full(alloc: Global) -> Result<Reader, LineFault> {
-    let mut reader = Reader::new();
+    let mut reader = Reader::new(alloc);
     for _ in 1..MAX_LINES {
         reader.read_line(alloc, b"# a comment")?;
     }
@@ -49,7 +49,7 @@ fn takes_execs(rt: HostRuntime) -> Result<(), Fail> {
         ("c1 exec db [\"a [\\\"b\\\"] \\u00e9\"]", 1, "a [\"b\"] é"),
         ("c1 exec db [\"é [\"]", 1, "é ["),
     ];
-    let mut reader = Reader::new();
+    let mut reader = Reader::new(rt.alloc());
     for (line, want_client, want) in lines {
         match reader.read_line(rt.alloc(), line.as_bytes())? {
             ScriptLine::Client {
@@ -69,7 +69,7 @@ fn takes_execs(rt: HostRuntime) -> Result<(), Fail> {
 /// That an exec whose array holds this behind its text has these arguments, as `Debug` shows them.
 fn assert_arguments(rt: &impl Abort, alloc: Global, json: &str, want: &str) -> Result<(), Fail> {
     let line = format!(in alloc; "c1 exec db [\"a\",{json}]")?;
-    match Reader::new().read_line(alloc, line.as_bytes())? {
+    match Reader::new(alloc).read_line(alloc, line.as_bytes())? {
         ScriptLine::Client {
             client: _client,
             op: Op::Exec { text: _text, args },
@@ -90,7 +90,7 @@ fn assert_refused(
     fault: LineFault,
 ) -> Result<(), Fail> {
     let line = format!(in alloc; "c1 exec x [\"a\",{json}]")?;
-    let told = Reader::new().read_line(alloc, line.as_bytes()).err();
+    let told = Reader::new(alloc).read_line(alloc, line.as_bytes()).err();
     assert_eq!(rt; told, Some(fault), "{json}");
     Ok(())
 }
@@ -208,7 +208,7 @@ fn refuses_other_arguments(rt: HostRuntime) -> Result<(), Fail> {
 
 /// That the line is read as a call of client 1 that reads one row of `GET a` into these destinations.
 fn assert_one(rt: &impl Abort, alloc: Global, line: &str, want: &[Dest]) -> Result<(), Fail> {
-    match Reader::new().read_line(alloc, line.as_bytes())? {
+    match Reader::new(alloc).read_line(alloc, line.as_bytes())? {
         ScriptLine::Client {
             client,
             op: Op::One { dests, text, args },
@@ -276,7 +276,7 @@ fn counts_destinations_after_the_array(rt: HostRuntime) -> Result<(), Fail> {
         (33, "[1]", LineFault::BadShape),
     ] {
         let line = wide_one(alloc, many, array)?;
-        let told = Reader::new().read_line(alloc, line.as_bytes()).err();
+        let told = Reader::new(alloc).read_line(alloc, line.as_bytes()).err();
         assert_eq!(rt; told, Some(fault), "{many} {array}");
     }
     Ok(())
@@ -301,10 +301,46 @@ fn refuses_ones_with_their_faults(rt: HostRuntime) -> Result<(), Fail> {
         ("c1 one x i64 [\"x\"]", LineFault::UnknownLabel),
         ("c1 one db i64 @k [\"x\"]", LineFault::UnknownLabel),
     ];
-    let mut reader = Reader::new();
+    let mut reader = Reader::new(rt.alloc());
     for (line, fault) in lines {
         let told = reader.read_line(rt.alloc(), line.as_bytes()).err();
         assert_eq!(rt; told, Some(fault), "{line}");
+    }
+    Ok(())
+}
+
+#[test]
+fn makes_and_names_labels(rt: HostRuntime) -> Result<(), Fail> {
+    let unknown = Some(LineFault::UnknownLabel);
+    let taken = Some(LineFault::LabelTaken);
+    let lines: [(&str, Option<LineFault>); 22] = [
+        ("c1 next r", unknown),
+        ("c1 query r x [\"a\"]", unknown),
+        ("c1 query r db @k [\"a\"]", unknown),
+        ("c1 query r db [1]", Some(LineFault::BadShape)),
+        ("c1 scan r i64", unknown),
+        ("c1 query r db [\"a\",1]", None),
+        ("c2 query r db [\"a\"]", taken),
+        ("c1 query r db [", Some(LineFault::BadJson)),
+        ("c1 query r r [\"a\"]", unknown),
+        ("c1 exec r [\"a\"]", unknown),
+        ("c2 next r", None),
+        ("c1 scan r text,null:i64", None),
+        ("c1 err r", None),
+        ("c1 rowsclose r", None),
+        ("c1 next r", None),
+        ("c1 query r db [\"a\"]", taken),
+        ("c1 next s", unknown),
+        ("c1 query s_2 db [\"a\"]", None),
+        ("c1 rowsclose s_2", None),
+        ("c1 err s", unknown),
+        ("c1 query abcdefghijklmnopqrstuvwxyz_01234 db [\"a\"]", None),
+        ("c1 next abcdefghijklmnopqrstuvwxyz_01234", None),
+    ];
+    let mut reader = Reader::new(rt.alloc());
+    for (line, fault) in lines {
+        let told = reader.read_line(rt.alloc(), line.as_bytes()).err();
+        assert_eq!(rt; told, fault, "{line}");
     }
     Ok(())
 }
@@ -337,7 +373,7 @@ fn takes_version_and_caps_before_clients(rt: HostRuntime) -> Result<(), Fail> {
         (exec, "start", Some(LineFault::NoSuchWord)),
     ];
     for (before, line, fault) in lines {
-        let mut reader = Reader::new();
+        let mut reader = Reader::new(alloc);
         reader.read_line(alloc, before.as_bytes())?;
         let told = reader.read_line(alloc, line.as_bytes()).err();
         assert_eq!(rt; told, fault, "{line}");
@@ -347,7 +383,7 @@ fn takes_version_and_caps_before_clients(rt: HostRuntime) -> Result<(), Fail> {
 
 #[test]
 fn caps_are_those_that_are_named(rt: HostRuntime) -> Result<(), Fail> {
-    let mut reader = Reader::new();
+    let mut reader = Reader::new(rt.alloc());
     let want = Caps {
         fast_exec: false,
         fast_query: false,
@@ -366,7 +402,7 @@ fn caps_are_those_that_are_named(rt: HostRuntime) -> Result<(), Fail> {
 
 #[test]
 fn skips_empty_lines_and_comments(rt: HostRuntime) -> Result<(), Fail> {
-    let mut reader = Reader::new();
+    let mut reader = Reader::new(rt.alloc());
     for line in ["", "\r", "# c", "#", "#c1 exec x [", "# c\r"] {
         let read = reader.read_line(rt.alloc(), line.as_bytes())?;
         assert!(rt; matches!(read, ScriptLine::Skip), "{line}");
@@ -376,7 +412,7 @@ fn skips_empty_lines_and_comments(rt: HostRuntime) -> Result<(), Fail> {
 
 #[test]
 fn refuses_each_with_its_fault(rt: HostRuntime) -> Result<(), Fail> {
-    let lines: [(&str, LineFault); 45] = [
+    let lines: [(&str, LineFault); 63] = [
         ("[", LineFault::NoSuchWord),
         ("[\"a\"]", LineFault::NoSuchWord),
         (" [\"a\"]", LineFault::NoSuchWord),
@@ -396,7 +432,8 @@ fn refuses_each_with_its_fault(rt: HostRuntime) -> Result<(), Fail> {
         ("c1 ", LineFault::NoSuchWord),
         ("c1 [\"x\"]", LineFault::NoSuchWord),
         ("c1 Exec db [\"x\"]", LineFault::NoSuchWord),
-        ("c1 query r db [\"x\"]", LineFault::NoSuchWord),
+        ("c1 Query r db [\"x\"]", LineFault::NoSuchWord),
+        ("c1 nexts r", LineFault::NoSuchWord),
         ("c1  exec db [\"x\"]", LineFault::NoSuchWord),
         ("c1 exec", LineFault::BadShape),
         ("c1 exec [\"x\"]", LineFault::BadShape),
@@ -416,6 +453,23 @@ fn refuses_each_with_its_fault(rt: HostRuntime) -> Result<(), Fail> {
             "c1 exec abcdefghijklmnopqrstuvwxyz0123456 [\"a\"]",
             LineFault::BadShape,
         ),
+        ("c1 query", LineFault::BadShape),
+        ("c1 query r", LineFault::BadShape),
+        ("c1 query r db", LineFault::BadShape),
+        ("c1 query db db [\"a\"]", LineFault::BadShape),
+        ("c1 query R db [\"a\"]", LineFault::BadShape),
+        ("c1 query r Db [\"a\"]", LineFault::BadShape),
+        ("c1 query r db r [\"a\"]", LineFault::BadShape),
+        ("c1 next", LineFault::BadShape),
+        ("c1 next ", LineFault::BadShape),
+        ("c1 next db", LineFault::BadShape),
+        ("c1 next r r", LineFault::BadShape),
+        ("c1 next r [", LineFault::BadShape),
+        ("c1 scan r", LineFault::BadShape),
+        ("c1 scan r i64,", LineFault::BadShape),
+        ("c1 scan r i64 i64", LineFault::BadShape),
+        ("c1 scan r i64 [\"a\"]", LineFault::BadShape),
+        ("c1 rowsclose @r", LineFault::BadShape),
         ("c1 exec db [", LineFault::BadJson),
         ("c1 exec db [\"a\"] x", LineFault::BadJson),
         ("c1 exec db [\"a\",]", LineFault::BadJson),
@@ -429,7 +483,7 @@ fn refuses_each_with_its_fault(rt: HostRuntime) -> Result<(), Fail> {
             LineFault::UnknownLabel,
         ),
     ];
-    let mut reader = Reader::new();
+    let mut reader = Reader::new(rt.alloc());
     for (line, fault) in lines {
         match reader.read_line(rt.alloc(), line.as_bytes()) {
             Ok(_) => assert!(rt; false, "{line}"),
@@ -442,7 +496,7 @@ fn refuses_each_with_its_fault(rt: HostRuntime) -> Result<(), Fail> {
 #[test]
 fn refuses_long_lines_and_bytes(rt: HostRuntime) -> Result<(), Fail> {
     let alloc = rt.alloc();
-    let mut reader = Reader::new();
+    let mut reader = Reader::new(alloc);
     let mut line = long_exec(alloc, 4_081)?;
     assert_eq!(rt; line.len(), 4_096);
     assert!(rt; reader.read_line(alloc, &line).is_ok());
@@ -464,10 +518,10 @@ fn refuses_long_lines_and_bytes(rt: HostRuntime) -> Result<(), Fail> {
 fn counts_what_it_takes_alone(rt: HostRuntime) -> Result<(), Fail> {
     let alloc = rt.alloc();
     let mut reader = almost_full(alloc)?;
-    let told = reader.read_line(alloc, b"c1 query").err();
+    let told = reader.read_line(alloc, b"c1 ask").err();
     assert_eq!(rt; told, Some(LineFault::NoSuchWord));
     assert!(rt; reader.read_line(alloc, b"c1 exec db [\"x\"]").is_ok());
-    for line in ["", "c1 query", "c1 exec db [\"x\"]"] {
+    for line in ["", "c1 ask", "c1 exec db [\"x\"]"] {
         let told = reader.read_line(alloc, line.as_bytes()).err();
         assert_eq!(rt; told, Some(LineFault::TooMany(What::Lines)), "{line}");
     }
@@ -476,13 +530,14 @@ fn counts_what_it_takes_alone(rt: HostRuntime) -> Result<(), Fail> {
 
 #[test]
 fn faults_say_what_they_are(rt: HostRuntime) -> Result<(), Fail> {
-    let faults: [(LineFault, &str); 9] = [
+    let faults: [(LineFault, &str); 10] = [
         (LineFault::TooLong, "line too long"),
         (LineFault::NotUtf8, "not UTF-8"),
         (LineFault::NoSuchWord, "no such word"),
         (LineFault::BadJson, "not JSON"),
         (LineFault::BadShape, "wrong shape"),
         (LineFault::UnknownLabel, "unknown label"),
+        (LineFault::LabelTaken, "label taken"),
         (LineFault::TooMany(What::Lines), "too many lines"),
         (LineFault::TooMany(What::Args), "too many arguments"),
         (LineFault::Memory, "out of memory"),

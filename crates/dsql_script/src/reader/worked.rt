@@ -3,11 +3,12 @@ ghost use Rattle.dsql_value.specs.declared.arg.Arg.TheVariants as arg;
 ghost use Rattle.dsql_value.specs.WorkedArguments.{plain, named_one};
 ghost use Rattle.dsql_scan.specs.declared.dest.Dest.TheVariants as dest;
 ghost use Rattle.dsql_history.specs.declared.event.Op.TheVariants.{Exec, One};
+ghost use Rattle.dsql_history.specs.declared.event.Op.TheVariants as op;
 ghost use Rattle.dsql_script.specs.declared.fault.What.TheVariants.{Lines, Args};
-ghost use Rattle.dsql_script.specs.declared.fault.LineFault.TheVariants.{TooLong, NotUtf8, NoSuchWord, BadJson, BadShape, UnknownLabel, TooMany};
+ghost use Rattle.dsql_script.specs.declared.fault.LineFault.TheVariants.{TooLong, NotUtf8, NoSuchWord, BadJson, BadShape, UnknownLabel, LabelTaken, TooMany};
 ghost use Rattle.dsql_script.specs.declared.script.ScriptLine.TheVariants.{Skip, Version, UseCaps, Client};
 ghost use Rattle.dsql_script.specs.declared.script.Head.TheVariants.{First, AfterVersion, Begun};
-ghost use Rattle.dsql_script.specs.ScriptHead.{unread, progress, caps_among};
+ghost use Rattle.dsql_script.specs.ScriptHead.{unread, progress, progress_past, caps_among};
 ghost use Rattle.dsql_script.specs.ScriptLines.{read_of};
 
 /// Lines of scripts, each with what is read of it.
@@ -71,4 +72,24 @@ pub fn worked_one_lines()
     ensures too_many { read_of unread (codes "c1 one x i8,i8,i8,i8,i8,i8,i8,i8,i8,i8,i8,i8,i8,i8,i8,i8,i8,i8,i8,i8,i8,i8,i8,i8,i8,i8,i8,i8,i8,i8,i8,i8,i8 [\"GET a\"]") ≡ Err (TooMany Args) }
     ensures label { read_of unread (codes "c1 one x i64 [\"GET a\"]") ≡ Err UnknownLabel }
     ensures token { read_of unread (codes "c1 one db i64 @k [\"GET a\"]") ≡ Err UnknownLabel }
+{}
+
+/// Lines that make a label or name one, each with what is read of it where an earlier line made the
+/// label `r`, and of others where none did.
+pub fn worked_label_lines()
+    ensures query { read_of (progress_past (codes "r" ∷ [])) (codes "c1 query s db [\"GET a\",1]")
+        ≡ Ok (Client 1 (op.Query (codes "s") (codes "GET a") (plain (arg.I64 (pos 1)) ∷ []))) }
+    ensures next { read_of (progress_past (codes "r" ∷ [])) (codes "c2 next r") ≡ Ok (Client 2 (op.Next (codes "r"))) }
+    ensures scan { read_of (progress_past (codes "r" ∷ [])) (codes "c1 scan r text,i64")
+        ≡ Ok (Client 1 (op.Scan (codes "r") (dest.Text ∷ dest.I64 ∷ []))) }
+    ensures rows_close { read_of (progress_past (codes "r" ∷ [])) (codes "c1 rowsclose r") ≡ Ok (Client 1 (op.RowsClose (codes "r"))) }
+    ensures err { read_of (progress_past (codes "q" ∷ codes "r" ∷ [])) (codes "c1 err r") ≡ Ok (Client 1 (op.Err (codes "r"))) }
+    ensures taken { read_of (progress_past (codes "r" ∷ [])) (codes "c1 query r db [\"GET a\"]") ≡ Err LabelTaken }
+    ensures target_before_label { read_of (progress_past (codes "r" ∷ [])) (codes "c1 query r x [\"GET a\"]") ≡ Err UnknownLabel }
+    ensures shape_before_label { read_of (progress_past (codes "r" ∷ [])) (codes "c1 query r db [1]") ≡ Err BadShape }
+    ensures no_text_on_rows { read_of (progress_past (codes "r" ∷ [])) (codes "c1 exec r [\"a\"]") ≡ Err UnknownLabel }
+    ensures unknown { read_of unread (codes "c1 next r") ≡ Err UnknownLabel }
+    ensures unwanted_array { read_of unread (codes "c1 next r [") ≡ Err BadShape }
+    ensures no_label { read_of unread (codes "c1 query db db [\"GET a\"]") ≡ Err BadShape }
+    ensures too_many { read_of unread (codes "c1 scan r i8,i8,i8,i8,i8,i8,i8,i8,i8,i8,i8,i8,i8,i8,i8,i8,i8,i8,i8,i8,i8,i8,i8,i8,i8,i8,i8,i8,i8,i8,i8,i8,i8") ≡ Err (TooMany Args) }
 {}

@@ -1,8 +1,15 @@
-use Rattle.std.proofs.Common.{true, ◌∙◌, subst}
+use Rattle.std.proofs.Common.{true, false, ◌∙◌, subst}
 use Rattle.dsql_player.specs.Carried.{CarriesFirst}
-use Rattle.dsql_player.proofs.Going.{on_then}
+use Rattle.dsql_player.proofs.Going.{on_then, free_still}
 use Rattle.dsql_player.proofs.Telling.{retires_then}
 use Rattle.dsql_player.proofs.chores.carry_chores.Goals as goal
+
+pub returns-clause-none : goal.returns-clause-none
+returns-clause-none g c =
+    let mid = c.loop.engine in
+    let new = c.carry_first_chore.new.engine in
+    let first : CarriesFirst false mid new = subst (λ b. CarriesFirst b mid new) c.if-branch.false c.in_ok-carry_first_chore.ensures.first in
+    free_still mid new first
 
 pub loop-preserved : goal.loop-preserved
 loop-preserved g c =

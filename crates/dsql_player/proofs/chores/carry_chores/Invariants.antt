@@ -1,6 +1,6 @@
 use Rattle.std.proofs.Common.{◌≡◌, ◌-◌, length, is_some}
 use Rattle.dsql_history.specs.Legal.{Legal}
-use Rattle.dsql_history.specs.Readers.Calls.{unfinished}
+use Rattle.dsql_history.specs.Readers.Unfinished.{unfinished}
 use Rattle.dsql_engine.specs.Groups.{most_events}
 use Rattle.dsql_player.specs.Carried.{GoesOn, Retires}
 use Rattle.dsql_player.specs.WiresFit.{WiresFit}

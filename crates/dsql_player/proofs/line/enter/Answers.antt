@@ -1,8 +1,11 @@
-use Rattle.dsql_player.proofs.Entering.{enters, free_client}
+use Rattle.dsql_player.proofs.Entering.{enters, free_client, has_its_turn}
 use Rattle.dsql_player.proofs.line.enter.Goals as goal
 
 pub enter-requires-clause-free : goal.enter-requires-clause-free
 enter-requires-clause-free c = free_client c.args.engine.now c.args.client c.requires.quiet
+
+pub enter-requires-clause-turn : goal.enter-requires-clause-turn
+enter-requires-clause-turn c = has_its_turn c.args.engine.now c.args.op c.requires.quiet
 
 pub returns-clause-enters : goal.returns-clause-enters
 returns-clause-enters c =

@@ -10,7 +10,7 @@ end-requires-clause-allowed c = may_end (past c.args.self.now) c.requires.settle
 pub loop-c-init : goal.loop-c-init
 loop-c-init c = record {
   stands = c.end.ensures.stands;
-  winding = rw c.end.ensures.event (winding_first (past c.args.self.now) c.requires.quiet);
+  winding = rw c.end.ensures.event (winding_first (past c.args.self.now) (lawful_of _ c.requires.stands) c.requires.settled c.requires.quiet c.requires.running);
   group = rw c.end.ensures.event refl;
   paid = rw c.end.ensures.event (omega (arith, c.end.ensures.paid, c.requires.paid));
 }
@@ -40,4 +40,4 @@ loop-c-preserved c =
 pub returns-clause-settled : goal.returns-clause-settled
 returns-clause-settled c =
     let i = c.loop-c.invariant in
-    settled_ended (past c.loop-c.self) (lawful_of _ i.stands) i.winding (none_oldest (idle (past c.loop-c.self)) (sym c.longest_idle.ensures ∙ c.in_default.is))
+    settled_ended (past c.loop-c.self) i.winding (none_oldest (idle (past c.loop-c.self)) (sym c.longest_idle.ensures ∙ c.in_default.is))

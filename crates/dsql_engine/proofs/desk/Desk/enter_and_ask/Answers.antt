@@ -1,28 +1,79 @@
-use Rattle.std.proofs.Common.{◌≡◌, None, refl, ◌∙◌}
-use Rattle.dsql_history.specs.Readers.Course.{caps}
-use Rattle.dsql_history.specs.Readers.Calls.{refused_at_entry}
-use Rattle.dsql_engine.specs.Desk.{past}
-use Rattle.dsql_engine.proofs.Asking.{may_enter, freshly, reply_entered}
+use Rattle.std.proofs.Common.{◌≡◌, ◌∷◌, [], List, nat_lt, ap, sym, subst, ◌∙◌}
+use Rattle.dsql_history.specs.declared.event.Event.{Event}
+use Rattle.dsql_history.specs.Readers.Sets.{next_tenure, open_count}
+use Rattle.dsql_history.specs.Rules.Limit.{room}
+use Rattle.dsql_engine.specs.Groups.{after_using, lent_to}
+use Rattle.dsql_engine.specs.Statements.{asked_of}
+use Rattle.dsql_engine.specs.Steps.{NextOfUse, NextAfterAsk}
+use Rattle.dsql_history.specs.declared.event.Event.TheVariants.{Entered}
+use Rattle.dsql_history.specs.Legal.{Lawful}
+use Rattle.dsql_engine.specs.Desk.{past, lawful_of}
+use Rattle.dsql_engine.proofs.Entered.{may_enter, freshly, reply_entered, asked_entered}
+use Rattle.dsql_engine.proofs.Grouping.{group_lent, next_lent, group_none, next_none}
 use Rattle.dsql_engine.proofs.desk.Desk.enter_and_ask.Goals as goal
 
 pub enter-requires-clause-allowed : goal.enter-requires-clause-allowed
 enter-requires-clause-allowed c =
-    may_enter (past c.args.self.now) c.args.client c.next_call-n.result c.args.op c.requires.settled c.requires.begun c.next_call-n.ensures c.requires.free
+    may_enter (past c.args.self.now) c.args.client c.next_call-n.result c.args.op c.requires.settled c.requires.begun c.next_call-n.ensures c.requires.free c.requires.turn
 
 pub lend_idle-requires-clause-settled : goal.lend_idle-requires-clause-settled
 lend_idle-requires-clause-settled c =
-    rw c.enter.ensures.event (freshly (past c.args.self.now) c.args.client c.next_call-n.result c.args.op c.requires.settled c.next_call-n.ensures)
+    let H = past c.args.self.now in
+    let m : Lawful (Entered c.args.client c.next_call-n.result c.args.op ∷ H) = rw c.enter.ensures.event at (lawful_of _ c.enter.ensures.stands) in
+    rw c.enter.ensures.event (freshly H c.args.client c.next_call-n.result c.args.op (lawful_of _ c.requires.stands) m c.requires.settled c.next_call-n.ensures c.requires.asking.asks)
 
 pub open_or_refuse-requires-clause-settled : goal.open_or_refuse-requires-clause-settled
 open_or_refuse-requires-clause-settled c =
-    rw c.enter.ensures.event (freshly (past c.args.self.now) c.args.client c.next_call-n.result c.args.op c.requires.settled c.next_call-n.ensures)
+    let H = past c.args.self.now in
+    let m : Lawful (Entered c.args.client c.next_call-n.result c.args.op ∷ H) = rw c.enter.ensures.event at (lawful_of _ c.enter.ensures.stands) in
+    rw c.enter.ensures.event (freshly H c.args.client c.next_call-n.result c.args.op (lawful_of _ c.requires.stands) m c.requires.settled c.next_call-n.ensures c.requires.asking.asks)
 
 pub lend_idle-requires-clause-undecided : goal.lend_idle-requires-clause-undecided
 lend_idle-requires-clause-undecided c =
-    let none : refused_at_entry (caps (past c.args.self.now)) c.args.op ≡ None = rw c.requires.accepted refl in
-    rw c.enter.ensures.event (reply_entered (past c.args.self.now) c.args.client c.next_call-n.result c.args.op c.next_call-n.ensures ∙ none)
+    rw c.enter.ensures.event (reply_entered (past c.args.self.now) c.args.client c.next_call-n.result c.args.op c.next_call-n.ensures ∙ c.requires.asking.undecided)
 
 pub open_or_refuse-requires-clause-undecided : goal.open_or_refuse-requires-clause-undecided
 open_or_refuse-requires-clause-undecided c =
-    let none : refused_at_entry (caps (past c.args.self.now)) c.args.op ≡ None = rw c.requires.accepted refl in
-    rw c.enter.ensures.event (reply_entered (past c.args.self.now) c.args.client c.next_call-n.result c.args.op c.next_call-n.ensures ∙ none)
+    rw c.enter.ensures.event (reply_entered (past c.args.self.now) c.args.client c.next_call-n.result c.args.op c.next_call-n.ensures ∙ c.requires.asking.undecided)
+
+pub lend_idle-requires-clause-statement : goal.lend_idle-requires-clause-statement
+lend_idle-requires-clause-statement c =
+    let a = c.requires.asking in
+    rw c.enter.ensures.event
+    (asked_entered (past c.args.self.now) c.args.client c.next_call-n.result c.args.op (asked_of c.args.sent) (lawful_of _ c.requires.stands) c.next_call-n.ensures a.text a.params a.aim)
+
+pub returns-in-Some-clause-group : goal.returns-in-Some-clause-group
+returns-in-Some-clause-group c =
+    let H = past c.args.self.now in
+    let a = c.requires.asking in
+    let h = rw c.enter.ensures.event at (sym c.latest.ensures ∙ c.in-Some.is) in
+    let n = c.next_call-n.result in
+    let k = c.in-Some.c in
+    let g : past c.lend_idle.new.self ≡ after_using k (next_tenure (Entered c.args.client n c.args.op ∷ H) k) n (lent_to (Entered c.args.client n c.args.op ∷ H) k n) =
+    c.lend_idle.ensures.group ∙ ap (λ (K : List Event). after_using k (next_tenure K k) n (lent_to K k n)) c.enter.ensures.event in
+    g ∙ group_lent H c.args.client c.next_call-n.result c.args.op c.in-Some.c (lawful_of _ c.requires.stands) c.next_call-n.ensures a.undecided a.asks h
+
+pub returns-in-Some-clause-next : goal.returns-in-Some-clause-next
+returns-in-Some-clause-next c =
+    let H = past c.args.self.now in
+    let a = c.requires.asking in
+    let h = rw c.enter.ensures.event at (sym c.latest.ensures ∙ c.in-Some.is) in
+    let p = subst (λ (K : List Event). NextOfUse c.in-Some.c (next_tenure K c.in-Some.c) c.next_call-n.result (lent_to K c.in-Some.c c.next_call-n.result) c.lend_idle.result (past c.lend_idle.new.self)) c.enter.ensures.event
+    c.lend_idle.ensures.next in
+    next_lent H c.args.client c.next_call-n.result c.args.op c.in-Some.c c.lend_idle.result (past c.lend_idle.new.self) (lawful_of _ c.requires.stands) c.next_call-n.ensures a.undecided a.asks h p
+
+pub returns-in-None-clause-group : goal.returns-in-None-clause-group
+returns-in-None-clause-group c =
+    let H = past c.args.self.now in
+    let a = c.requires.asking in
+    let h = rw c.enter.ensures.event at (sym c.latest.ensures ∙ c.in-None.is) in
+    let g = rw c.enter.ensures.event at c.open_or_refuse.ensures.group in
+    g ∙ group_none H c.args.client c.next_call-n.result c.args.op (lawful_of _ c.requires.stands) c.next_call-n.ensures a.undecided a.asks h
+
+pub returns-in-None-clause-next : goal.returns-in-None-clause-next
+returns-in-None-clause-next c =
+    let H = past c.args.self.now in
+    let a = c.requires.asking in
+    let h = rw c.enter.ensures.event at (sym c.latest.ensures ∙ c.in-None.is) in
+    let p = subst (λ (K : List Event). NextAfterAsk K c.next_call-n.result [] (nat_lt (open_count K) room) c.open_or_refuse.result (past c.open_or_refuse.new.self)) c.enter.ensures.event c.open_or_refuse.ensures.next in
+    next_none H c.args.client c.next_call-n.result c.args.op c.open_or_refuse.result (past c.open_or_refuse.new.self) (lawful_of _ c.requires.stands) c.next_call-n.ensures a.undecided a.asks h p

@@ -3,8 +3,8 @@ use Rattle.dsql_journal.specs.declared.entry.Owner.{Owner}
 use Rattle.dsql_journal.specs.declared.entry.Owner.TheVariants.{Call}
 use Rattle.dsql_journal.specs.declared.entry.Permit.{Permit}
 use Rattle.dsql_history.specs.declared.record.Place.TheVariants.{Lent}
-use Rattle.dsql_history.specs.Readers.Sets.{place}
-use Rattle.dsql_history.specs.Readers.Calls.{call_record}
+use Rattle.dsql_history.specs.Readers.Sets.{place, number_of}
+use Rattle.dsql_history.specs.Readers.Calls.{sender}
 use Rattle.dsql_history.specs.Rules.Line.{due}
 use Rattle.dsql_engine.specs.Awaited.{permit_of}
 use Rattle.dsql_engine.specs.Statements.{statement_of}
@@ -19,5 +19,5 @@ hear_call-requires-clause-statement c =
     let t = c.in-Lent-default-Call.tenure in
     let n = c.in-Lent-default-Call.n in
     let at : place H e.conn ≡ Lent t (Call n) = sym c.place.ensures ∙ (c.in-Lent-default-Call.is ∙ ap (λ (o : Owner). Lent t o) c.in-Lent-default-Call.field-1-is) in
-    let w : Awaits (due H e.conn t n) e.conn t n (permit_of e) = awaits e.conn t n (due H e.conn t n) (permit_of e) (rw at at c.requires.awaited) in
-    c.requires.statement ∙ ap (λ (k : ℕ). statement_of (call_record H k)) (ap (λ (p : Permit). p.call_no) w.parts)
+    let w : Awaits (due H e.conn t n) e.conn t n (sender H n) (permit_of e) = awaits e.conn t n (sender H n) (due H e.conn t n) (permit_of e) (rw at at c.requires.awaited) in
+    c.requires.statement ∙ ap (λ (k : ℕ). statement_of H k) (ap (λ (p : Permit). number_of p.owner) w.parts)

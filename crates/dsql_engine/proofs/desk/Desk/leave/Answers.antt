@@ -5,10 +5,10 @@ use Rattle.dsql_engine.proofs.desk.Desk.leave.Goals as goal
 
 pub back-requires-clause-allowed : goal.back-requires-clause-allowed
 back-requires-clause-allowed c =
-    may_back (past c.args.self.now) c.args.c c.args.tenure c.args.n (lawful_of _ c.requires.stands) c.requires.settled c.requires.lent c.requires.due
+    may_back (past c.args.self.now) c.args.c c.args.tenure c.args.n (lawful_of _ c.requires.stands) c.requires.settled c.requires.lent c.requires.due c.requires.kept
     (cause_is (past c.args.self.now) c.args.c c.args.bad c.args.invalid c.cause.result c.cause.ensures c.requires.bad c.requires.invalid ∙ c.in-None.is)
 
 pub start_closing-requires-clause-allowed : goal.start_closing-requires-clause-allowed
 start_closing-requires-clause-allowed c =
-    may_close (past c.args.self.now) c.args.c c.args.tenure c.args.n c.in-Some.cause (lawful_of _ c.requires.stands) c.requires.settled c.requires.lent c.requires.due
+    may_close (past c.args.self.now) c.args.c c.args.tenure c.args.n c.in-Some.cause (lawful_of _ c.requires.stands) c.requires.settled c.requires.lent c.requires.due c.requires.kept
     (cause_is (past c.args.self.now) c.args.c c.args.bad c.args.invalid c.cause.result c.cause.ensures c.requires.bad c.requires.invalid ∙ c.in-Some.is)

@@ -28,4 +28,4 @@ pub returns-else-may_open-clause-settled : goal.returns-else-may_open-clause-set
 returns-else-may_open-clause-settled c =
     let H = past c.args.self.now in
     let m : Lawful (Replied c.args.n replies.TooMany ∷ H) = rw c.refuse.ensures.event at (lawful_of _ c.refuse.ensures.stands) in
-    rw c.refuse.ensures.event (settled_refused H c.args.n replies.TooMany c.requires.settled m)
+    rw c.refuse.ensures.event (settled_refused H c.args.n replies.TooMany (lawful_of _ c.requires.stands) c.requires.settled m)

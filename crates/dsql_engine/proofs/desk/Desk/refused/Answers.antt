@@ -39,4 +39,4 @@ returns-clause-settled c =
     let l = rw (c.fall.ensures.event, c.hear_house.ensures.event) at (lawful_of _ c.fall.ensures.stands) in
     let m : Lawful (Pool (Fell e.conn c.args.n) ∷ Heard (connect_entry e.conn e.answer) ∷ H) = subst (λ (x : Entry). Lawful (Pool (Fell e.conn c.args.n) ∷ Heard x ∷ H)) same l in
     rw (c.fall.ensures.event, c.hear_house.ensures.event)
-    (subst (λ (x : Entry). Settled (Pool (Fell e.conn c.args.n) ∷ Heard x ∷ H)) (sym same) (settled_fallen H e.conn c.args.n e.answer (lawful_of _ c.requires.stands) c.requires.settled c.requires.opening fit c.requires.heard c.requires.done m))
+    (subst (λ (x : Entry). Settled (Pool (Fell e.conn c.args.n) ∷ Heard x ∷ H)) (sym same) (settled_fallen H e.conn c.args.n e.answer (lawful_of _ c.requires.stands) c.requires.settled c.requires.turns c.requires.opening fit c.requires.heard c.requires.done m))

@@ -1,13 +1,14 @@
 use Rattle.std.proofs.Common.{arith}
+use Rattle.dsql_history.specs.declared.record.Place.TheVariants.{Nowhere}
 use Rattle.dsql_history.specs.Readers.Sets.{places, is_closing}
 use Rattle.dsql_history.proofs.SoundSets.{sound_sets}
 use Rattle.dsql_engine.specs.Desk.{past, lawful_of}
-use Rattle.dsql_engine.proofs.Chores.{found_at}
+use Rattle.dsql_engine.proofs.Counts.{first_passes}
 use Rattle.dsql_engine.proofs.desk.Desk.shut_permit.Goals as goal
 
 pub overflow_cast-conn : goal.overflow_cast-conn
 overflow_cast-conn c =
     let H = past c.args.self.now in
     let s = sound_sets H (lawful_of _ c.requires.stands) in
-    let f = found_at is_closing (places H) c.args.c c.requires.due in
+    let f = first_passes is_closing (places H) Nowhere c.args.c c.requires.due in
     omega (arith, s.few_places, f.1, c.requires.few)

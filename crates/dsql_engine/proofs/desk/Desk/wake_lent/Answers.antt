@@ -2,6 +2,7 @@ use Rattle.std.proofs.Common.{sym, ◌∙◌}
 use Rattle.dsql_engine.specs.Desk.{past, lawful_of}
 use Rattle.dsql_engine.proofs.Hearing.{good_when_fresh}
 use Rattle.dsql_engine.proofs.Waking.{due_parked}
+use Rattle.dsql_engine.proofs.Using.{but_of, alone_of}
 use Rattle.dsql_engine.proofs.desk.Desk.wake_lent.Goals as goal
 
 pub use_lent-requires-clause-bad : goal.use_lent-requires-clause-bad
@@ -16,3 +17,9 @@ pub use_lent-requires-clause-due : goal.use_lent-requires-clause-due
 use_lent-requires-clause-due c =
     let d = due_parked (past c.args.self.now) c.args.c c.args.tenure c.args.n (lawful_of _ c.requires.stands) c.requires.lent c.requires.fresh in
     c.first_call_on-next.ensures ∙ rw c.requires.statement (sym d)
+
+pub use_lent-requires-clause-settled : goal.use_lent-requires-clause-settled
+use_lent-requires-clause-settled c = but_of (past c.args.self.now) c.args.c c.requires.settled
+
+pub use_lent-requires-clause-alone : goal.use_lent-requires-clause-alone
+use_lent-requires-clause-alone c = alone_of (past c.args.self.now) c.args.n c.requires.turns

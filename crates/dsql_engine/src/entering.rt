@@ -1,0 +1,238 @@
+//! What a call does as it enters.
+ghost use Rattle.std.specs.Prelude.{◌≡◌, ◌<◌, Some, Err, IfOk, IfSome, IfNone, true, length, position};
+ghost use Rattle.std.specs.Option.{option_copied};
+ghost use Rattle.dsql_rows.specs.OpenRows.{was_made, rows_of, scan_of};
+ghost use Rattle.dsql_history.specs.Readers.Works.{maker, works, has_label};
+ghost use Rattle.dsql_history.specs.Readers.HandedOut.{handed_out};
+ghost use Rattle.dsql_history.specs.Readers.Calls.{scan_reply, fault_reply, told_row};
+ghost use Rattle.dsql_engine.specs.Desk.{past, Stands};
+ghost use Rattle.dsql_engine.specs.Statements.{Enters, EntersText, Goes, IsNamed, NoneNamed, IsLook};
+ghost use Rattle.dsql_history.specs.declared.event.Op.TheVariants as ops;
+
+use crate::desk::Desk;
+use crate::next::NoRoom;
+use crate::queries::row_fault;
+use crate::statement::{Entering, Statement, Then, asking};
+use dsql_history::{Aim, Op, Reply, Work};
+use dsql_rows::{RowsEnd, RowsFault};
+use dsql_scan::{Dest, RowFault};
+use dsql_value::{Args, Txt};
+use std::alloc::Global;
+
+#[tactic(auto, unfolding(crate::specs::Desk::Stands))]
+impl Desk {
+    /// What an operation does as it enters.
+    pub fn entering(&self, alloc: Global, op: &Op) -> Result<Entering, NoRoom>
+        requires stands { Stands self.now }
+        requires few { length (past self.now) < 5000000 }
+        ensures { IfOk result (λ it. Enters (past self.now) op.now it) }
+    {
+        match op {
+            Op::Exec { text, args } => self.entering_text(
+                alloc,
+                text,
+                args,
+                Work::Execute,
+                Aim::Execute,
+            ),
+            Op::Query { label, text, args } => {
+                let work = Work::HandOut(label.copy()?);
+                self.entering_text(alloc, text, args, work, Aim::HandOut)
+            }
+            Op::One { dests, text, args } => {
+                let work = Work::ReadOne(dests.clone()?);
+                self.entering_text(alloc, text, args, work, Aim::ReadOne)
+            }
+            Op::Next { rows } => self.entering_next(alloc, rows),
+            Op::Scan { rows, dests } => self.entering_scan(alloc, rows, dests.as_slice()),
+            Op::RowsClose { rows } => self.entering_close(alloc, rows),
+            Op::Err { rows } => self.entering_err(alloc, rows),
+        }
+    }
+
+    /// A call that runs a text.
+    fn entering_text(
+        &self,
+        alloc: Global,
+        text: &Txt,
+        args: &Args,
+        work: Work,
+        aim: Aim,
+    ) -> Result<Entering, NoRoom>
+        requires stands { Stands self.now }
+        ensures { IfOk result (λ it. EntersText (past self.now) text.now args.now work aim it) }
+    {
+        let (statement, then) = asking(alloc, self.caps.named, text, args, aim)?;
+        Ok(Entering {
+            work,
+            statement,
+            closes: None,
+            then,
+        })
+    }
+
+    /// `Rows.Next`.
+    fn entering_next(&self, alloc: Global, label: &Txt) -> Result<Entering, NoRoom>
+        requires stands { Stands self.now }
+        requires few { length (past self.now) < 5000000 }
+        ensures { IfOk result (λ it. Enters (past self.now) (ops.Next label.now) it) }
+    {
+        let then = match self.rows_named(label) {
+            None => Then::Tell(Reply::Absent(label.copy()?)),
+            Some(k) if self.rows.is_live(k) => Then::Use(k, self.statement(alloc, k)?),
+            Some(_) => Then::Tell(Reply::Truth(false)),
+        };
+        Ok(Entering {
+            work: Work::Fetch(self.maker(label)),
+            statement: Statement::none(alloc)?,
+            closes: None,
+            then,
+        })
+    }
+
+    /// `Rows.Close`.
+    #[tactic(auto, using(crate::proofs::CloseAtEntry::closes_as_entered, crate::proofs::CloseAtEntry::closes_made), unfolding(crate::specs::Desk::Stands))]
+    fn entering_close(&self, alloc: Global, label: &Txt) -> Result<Entering, NoRoom>
+        requires stands { Stands self.now }
+        requires few { length (past self.now) < 5000000 }
+        ensures { IfOk result (λ it. Enters (past self.now) (ops.RowsClose label.now) it) }
+    {
+        let closes = self.rows_named(label);
+        Ok(Entering {
+            work: Work::Close(self.maker(label)),
+            statement: Statement::none(alloc)?,
+            closes,
+            then: self.then_close(alloc, label, closes)?,
+        })
+    }
+
+    /// What a call does that is to close the rows of the label, which are those of this call, if there are any.
+    fn then_close(&self, alloc: Global, label: &Txt, rows: Option<u32>) -> Result<Then, NoRoom>
+        requires stands { Stands self.now }
+        requires some { IfSome rows (λ k. IsNamed (past self.now) label.now k) }
+        requires none { IfNone rows (NoneNamed (past self.now) label.now) }
+        ensures { IfOk result (λ then. Goes (past self.now) (ops.RowsClose label.now) then) }
+    {
+        match rows {
+            None => Ok(Then::Tell(Reply::Absent(label.copy()?))),
+            Some(k) if self.rows.is_live(k) => Ok(Then::Use(k, self.statement(alloc, k)?)),
+            Some(_) => Ok(Then::Tell(Reply::Ok)),
+        }
+    }
+
+    /// `Rows.Scan`.
+    fn entering_scan(&self, alloc: Global, label: &Txt, dests: &[Dest]) -> Result<Entering, NoRoom>
+        requires stands { Stands self.now }
+        requires few { length (past self.now) < 5000000 }
+        ensures { IfOk result (λ it. Enters (past self.now) (ops.Scan label.now dests.now) it) }
+    {
+        let reply = match self.rows_named(label) {
+            None => Reply::Absent(label.copy()?),
+            Some(k) => self.scan_reply(k, dests)?,
+        };
+        looking(alloc, reply)
+    }
+
+    /// `Rows.Err`.
+    fn entering_err(&self, alloc: Global, label: &Txt) -> Result<Entering, NoRoom>
+        requires stands { Stands self.now }
+        requires few { length (past self.now) < 5000000 }
+        ensures { IfOk result (λ it. Enters (past self.now) (ops.Err label.now) it) }
+    {
+        let reply = match self.rows_named(label) {
+            None => Reply::Absent(label.copy()?),
+            Some(k) => fault_reply(self.rows.ended(k))?,
+        };
+        looking(alloc, reply)
+    }
+
+    /// The first call whose rows have the label, 0 where there is none.
+    fn maker(&self, label: &Txt) -> u32
+        requires stands { Stands self.now }
+        requires few { length (past self.now) < 5000000 }
+        ensures { result ≡ maker (works (past self.now)) label.now }
+    {
+        match self.first_labelled(label) {
+            Some(n) => n as u32,
+            None => 0,
+        }
+    }
+
+    /// The first call that hands out rows under the label.
+    fn first_labelled(&self, label: &Txt) -> Option<usize>
+        requires { Stands self.now }
+        ensures { result ≡ position (has_label label.now) (works (past self.now)) }
+    {
+        self.works.iter().position(|work| has_label(label, work))
+    }
+
+    /// The call whose rows have the label, where they are there and it has replied.
+    fn rows_named(&self, label: &Txt) -> Option<u32>
+        requires stands { Stands self.now }
+        requires few { length (past self.now) < 5000000 }
+        ensures some { IfSome result (λ k. IsNamed (past self.now) label.now k) }
+        ensures none { IfNone result (NoneNamed (past self.now) label.now) }
+    {
+        let k = self.maker(label);
+        if !self.is_unfinished(k) && self.rows.was_made(k) {
+            Some(k)
+        } else {
+            None
+        }
+    }
+
+    /// What a scan of rows replies.
+    fn scan_reply(&self, k: u32, dests: &[Dest]) -> Result<Reply, NoRoom>
+        requires stands { Stands self.now }
+        requires made { was_made k (handed_out (past self.now)) ≡ true }
+        ensures { IfOk result (λ reply. IfSome (rows_of k (handed_out (past self.now))) (λ rows. scan_reply (scan_of rows dests.now) ≡ Some reply)) }
+    {
+        match self.rows.scan(k, dests) {
+            Ok(cells) => Ok(Reply::Cells(cells)),
+            Err(RowsFault::RowsClosed(by)) => Ok(Reply::RowsClosed(by)),
+            Err(RowsFault::NoNextYet) => Ok(Reply::NoNextYet),
+            Err(RowsFault::Scan(fault)) => scan_fault(fault),
+            Err(RowsFault::Memory) => Err(NoRoom),
+        }
+    }
+}
+
+/// A call that looks at what there is, and replies so.
+fn looking(alloc: Global, reply: Reply) -> Result<Entering, NoRoom>
+    ensures { IfOk result (λ it. IsLook reply it) }
+{
+    Ok(Entering {
+        work: Work::Look,
+        statement: Statement::none(alloc)?,
+        closes: None,
+        then: Then::Tell(reply),
+    })
+}
+
+/// What rows tell of the fault that ended them, if one did.
+fn fault_reply(ended: Option<&RowsEnd>) -> Result<Reply, NoRoom>
+    ensures { IfOk result (λ reply. reply ≡ fault_reply (option_copied ended.entry)) }
+{
+    match ended {
+        Some(RowsEnd::Failed(text)) => Ok(Reply::Driver(text.copy()?)),
+        Some(RowsEnd::BadConn) => Ok(Reply::BadConn(1)),
+        _ => Ok(Reply::Ok),
+    }
+}
+
+/// Whether a call hands out rows under the label.
+fn has_label(label: &Txt, work: &Work) -> bool
+    ensures { result ≡ has_label label.now work.now }
+{
+    match work {
+        Work::HandOut(own) => own.as_str() == label.as_str(),
+        _ => false,
+    }
+}
+
+/// What is replied where a row isn't scanned.
+fn scan_fault(fault: RowFault) -> Result<Reply, NoRoom>
+    ensures { IfOk result (λ reply. told_row (Err fault) ≡ Some reply) }
+{
+    row_fault(fault)?.ok_or(NoRoom)
+}
