@@ -42,7 +42,8 @@ use Rattle.dsql_engine.specs.Made.{all_made, made}
 use Rattle.dsql_engine.specs.Groups.{lent_to}
 use Rattle.dsql_engine.proofs.Basics.{not_first, follows_placed, all_of}
 use Rattle.dsql_engine.proofs.Moving.{row_of, some_number, few_without, none_without}
-use Rattle.dsql_engine.proofs.Using.{home_decided, SameLending, user_own, used_off, used_all, used_told, way_as, way_at, way_off, ways_told}
+use Rattle.dsql_history.proofs.LentRows.{home_decided}
+use Rattle.dsql_engine.proofs.Using.{SameLending, user_own, used_off, used_all, used_told, way_as, way_at, way_off, ways_told}
 
 last_in : (x : ℕ) (ns : List ℕ) → has (last (x ∷ ns)) (x ∷ ns) ≡ true
 last_in x [] = rw (same_to_itself x) refl

@@ -27,7 +27,8 @@ use Rattle.dsql_engine.specs.Turns.{TakesTurns}
 use Rattle.dsql_engine.proofs.Basics.{not_first, begun, follows_placed, all_of, way_of}
 use Rattle.dsql_engine.proofs.Exchanged.{row_of}
 use Rattle.dsql_engine.proofs.Moving.{few_without, none_without}
-use Rattle.dsql_engine.proofs.Using.{home_decided, user_own, numbered, used_off, used_all, used_house, lend_lending, fell_lending, way_as, way_at, way_off}
+use Rattle.dsql_history.proofs.LentRows.{home_decided}
+use Rattle.dsql_engine.proofs.Using.{user_own, numbered, used_off, used_all, used_house, lend_lending, fell_lending, way_as, way_at, way_off}
 
 pub may_hear_connect : (H : List Event) (c n : ℕ) (answer : DriverAnswer) → Lawful H → Settled H → place H c ≡ Opening n → fits_of Connect answer ≡ true → is_memory answer ≡ false
     → Allowed H (Heard (connect_entry c answer))

@@ -35,6 +35,7 @@ use Rattle.dsql_history.proofs.Rows.{same_to_itself, other_number, same_or_not, 
 use Rattle.dsql_history.proofs.SoundSets.{sound_sets}
 use Rattle.dsql_history.proofs.SoundCalls.{SoundCalls, sound_calls, owner_of, heard_home, replied_home}
 use Rattle.dsql_history.proofs.SoundLines.{asked_heard, heard_off, lent_for}
+use Rattle.dsql_history.proofs.LentRows.{home_decided}
 use Rattle.dsql_history.proofs.SoundRows.{rows_closing}
 use Rattle.dsql_history.proofs.HandedLines.{Kept, kept_rows}
 use Rattle.dsql_history.proofs.Workers.{Sender, Itself, Nobody, Fetches, Closes, sender_of, worker_replied}
@@ -330,10 +331,6 @@ used_told K m r n c l uses at some off here =
     (used_off K (Replied m r ∷ K) c (sound_calls (Replied m r ∷ K) l) (λ d apart. refl) off (λ d t k apart is. told_lending K m r n c d t k (sound_calls K l.0) uses at some apart is)) here
 
 -- What is known after a lending of another connection, after a refused Connect and after a Shut.
-
--- a connection found for one call leaves what is decided for each
-pub home_decided : (cs : List CallRecord) (m c n : ℕ) → (get_or (with_record m (λ r. record r { home = c }) cs) n nobody).decided ≡ (get_or cs n nobody).decided
-home_decided cs m c n = grind (arith, read_set cs m (record (get_or cs m nobody) { home = c }) n nobody)
 
 pub lend_lending : (K : List Event) (c u n d t k : ℕ) → SoundCalls K → place K d ≡ Lent t (Call k) → d ≢ c → k ≢ n → SameLending K (Pool (Lend c u (Call n) n) ∷ K) t k
 lend_lending K c u n d t k s is off other =

@@ -1,5 +1,6 @@
 -- The statement of a call, and a call that enters.
-use Rattle.std.specs.Prelude.{◌≡◌, ℕ, cond, Bool, true, false, List, [], Option, Some, None}
+use Rattle.std.specs.Prelude.{◌≡◌, ◌<◌, ℕ, cond, Bool, true, false, List, [], length, Option, Some, None}
+use Rattle.dsql_journal.specs.Readers.{is_empty}
 use Rattle.dsql_value.specs.declared.arg.Named.{Named}
 use Rattle.dsql_value.specs.Arguments.{params_of, first_fault}
 use Rattle.dsql_rows.specs.declared.end.RowsEnd.TheVariants as ends
@@ -9,14 +10,17 @@ use Rattle.dsql_history.specs.declared.event.Op.{Op}
 use Rattle.dsql_history.specs.declared.work.Aim.{Aim}
 use Rattle.dsql_history.specs.declared.work.Work.{Work}
 use Rattle.dsql_history.specs.declared.work.Work.TheVariants.{Look}
-use Rattle.dsql_history.specs.Readers.Course.{caps}
+use Rattle.dsql_history.specs.Readers.Course.{caps, has_ended}
 use Rattle.dsql_history.specs.Readers.Works.{works, work, work_of, maker, asks, user_of}
 use Rattle.dsql_history.specs.Readers.Unfinished.{is_unfinished}
 use Rattle.dsql_history.specs.declared.reply.Reply.{Reply}
 use Rattle.dsql_history.specs.Readers.HandedOut.{Made, handed_out, rows_entered, rows_by}
-use Rattle.dsql_history.specs.Readers.Calls.{statement, params_at_entry, told_of, told_at_entry, call_record}
+use Rattle.dsql_history.specs.Readers.Calls.{statement, params_at_entry, told_of, told_at_entry, call_record, is_busy}
 use Rattle.dsql_history.specs.Rules.Line.{Asked, aim_of}
+use Rattle.dsql_history.specs.Rules.Numbers.{takes_turn}
+use Rattle.dsql_history.specs.Rules.Settled.{Settled}
 use Rattle.dsql_engine.specs.declared.statement.Statement.{Statement}
+use Rattle.dsql_engine.specs.declared.statement.CallStart.{CallStart}
 use Rattle.dsql_engine.specs.declared.statement.Entering.{Entering}
 use Rattle.dsql_engine.specs.declared.statement.Then.{Then}
 use Rattle.dsql_engine.specs.declared.statement.Then.TheVariants.{Ask, Use, Tell}
@@ -72,20 +76,33 @@ abbrev pub AreMade : Option ℕ → Made → Type 0
 AreMade None rows = Unit {0}
 AreMade (Some k) rows = was_made k rows ≡ true
 
--- a call that enters, with what it does
-pub record Enters (past : List Event) (op : Op) (it : Entering) : Type 0 where
+-- a call of the client may enter
+pub record MayEnter (past : List Event) (client : ℕ) (op : Op) : Type 0 where
+  pub settled : Settled past
+  pub begun : is_empty past ≡ false
+  pub free : is_busy client past ≡ false
+  pub running : has_ended past ≡ false
+  pub turn : takes_turn past op ≡ true
+  pub few : length past < 4000000
+
+-- what is kept of a call that enters
+pub record Starts (past : List Event) (op : Op) (it : CallStart) : Type 0 where
   pub work : it.work ≡ work_of (works past) op
   pub text : it.statement.text ≡ statement op
   pub params : it.statement.params ≡ params_at_entry (caps past) op
   pub made : AreMade it.closes (handed_out past)
   pub closes : closed_rows it.closes (handed_out past) ≡ rows_entered past op (handed_out past)
+
+-- a call that enters, and what it does then
+pub record Enters (past : List Event) (op : Op) (it : Entering) : Type 0 where
+  pub starts : Starts past op it.start
   pub goes : Goes past op it.then
 
 -- a call that runs a text
 pub record EntersText (past : List Event) (text : List ℕ) (args : List Named) (work : Work) (aim : Aim) (it : Entering) : Type 0 where
-  pub work_is : it.work ≡ work
-  pub closes : it.closes ≡ None
-  pub asks_for : AsksFor (caps past).named text args aim it.statement it.then
+  pub work_is : it.start.work ≡ work
+  pub closes : it.start.closes ≡ None
+  pub asks_for : AsksFor (caps past).named text args aim it.start.statement it.then
 
 -- the rows of call k have the label, and it has replied
 pub record IsNamed (past : List Event) (label : List ℕ) (k : ℕ) : Type 0 where
@@ -99,8 +116,8 @@ NoneNamed past label = cond (is_unfinished past (maker (works past) label)) None
 
 -- a call that looks, and replies so
 pub record IsLook (reply : Reply) (it : Entering) : Type 0 where
-  pub work : it.work ≡ Look
-  pub text : it.statement.text ≡ []
-  pub params : it.statement.params ≡ []
-  pub closes : it.closes ≡ None
+  pub work : it.start.work ≡ Look
+  pub text : it.start.statement.text ≡ []
+  pub params : it.start.statement.params ≡ []
+  pub closes : it.start.closes ≡ None
   pub then : it.then ≡ Tell reply

@@ -8,7 +8,7 @@ ghost use Rattle.dsql_history.specs.Readers.Exchanges.{step_of};
 ghost use Rattle.dsql_driver.specs.declared.call.DriverCall.TheVariants.{Next, Query};
 ghost use Rattle.dsql_driver.specs.declared.call.Input.{Input};
 ghost use Rattle.dsql_value.specs.declared.value.Param.{Param};
-ghost use Rattle.dsql_engine.specs.Statements.{closed_rows, AreMade};
+ghost use Rattle.dsql_engine.specs.Statements.{Starts};
 ghost use Rattle.dsql_engine.specs.Rows.{HearsRows};
 ghost use Rattle.dsql_history.specs.Readers.Course.{caps};
 ghost use Rattle.dsql_engine.specs.Groups.{told};
@@ -21,7 +21,7 @@ use crate::room::{
     begin_made, close_rows, count_up, move_to, note, note_exchange, put, set_decided, set_home,
     take_out, take_reply, tell_answer,
 };
-use crate::statement::Statement;
+use crate::statement::CallStart;
 use dsql_course::Progress;
 use dsql_driver::{Caps, DriverAnswer};
 use dsql_history::{CallRecord, CloseCause, Event, Move, Op, Place, Reply, Work};
@@ -57,32 +57,30 @@ pub struct Desk {
 #[tactic(auto, unfolding(crate::specs::Desk::Stands, dsql_history::specs::Legal::Allowed))]
 /// The event methods: each adds its event to the history and changes the tables.
 impl Desk {
-    /// A client's call enters, with what it has to do, its statement, the query whose rows it closes, and its
-    /// reply where it is told at once.
+    /// A client's call enters, with what is kept of it, and its reply where it is told at once.
     pub fn enter(
         &mut self,
         n: u32,
         client: u8,
         op: Op,
-        work: Work,
-        statement: Statement,
-        closes: Option<u32>,
+        start: CallStart,
         decided: Option<Reply>,
     )
         requires stands { Stands self.old }
         requires paid { 0 < self.old.paid }
         requires allowed { Allowed (past self.old) (Event.Entered client n op) }
         requires settled { Settled (past self.old) }
-        requires text { statement.text ≡ text_of op }
-        requires params { statement.params ≡ params_at_entry (caps (past self.old)) op }
-        requires work { work ≡ work_of (works (past self.old)) op }
-        requires made { AreMade closes (handed_out (past self.old)) }
-        requires closes { closed_rows closes (handed_out (past self.old)) ≡ rows_entered (past self.old) op (handed_out (past self.old)) }
+        requires starts { Starts (past self.old) op start }
         requires decided { decided ≡ told_at_entry (past self.old) op }
         ensures stands { Stands self.new }
         ensures paid { self.new.paid + 1 ≡ self.old.paid }
         ensures event { past self.new ≡ Event.Entered client n op ∷ past self.old }
     {
+        let CallStart {
+            work,
+            statement,
+            closes,
+        } = start;
         self.paid -= 1;
         note(&mut self.history, Event::Entered { client, n, op });
         put(

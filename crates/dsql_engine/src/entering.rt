@@ -12,7 +12,7 @@ ghost use Rattle.dsql_history.specs.declared.event.Op.TheVariants as ops;
 use crate::desk::Desk;
 use crate::next::NoRoom;
 use crate::queries::row_fault;
-use crate::statement::{Entering, Statement, Then, asking};
+use crate::statement::{CallStart, Entering, Statement, Then, asking};
 use dsql_history::{Aim, Op, Reply, Work};
 use dsql_rows::{RowsEnd, RowsFault};
 use dsql_scan::{Dest, RowFault};
@@ -63,12 +63,12 @@ impl Desk {
         ensures { IfOk result (λ it. EntersText (past self.now) text.now args.now work aim it) }
     {
         let (statement, then) = asking(alloc, self.caps.named, text, args, aim)?;
-        Ok(Entering {
+        let start = CallStart {
             work,
             statement,
             closes: None,
-            then,
-        })
+        };
+        Ok(Entering { start, then })
     }
 
     /// `Rows.Next`.
@@ -82,12 +82,12 @@ impl Desk {
             Some(k) if self.rows.is_live(k) => Then::Use(k, self.statement(alloc, k)?),
             Some(_) => Then::Tell(Reply::Truth(false)),
         };
-        Ok(Entering {
+        let start = CallStart {
             work: Work::Fetch(self.maker(label)),
             statement: Statement::none(alloc)?,
             closes: None,
-            then,
-        })
+        };
+        Ok(Entering { start, then })
     }
 
     /// `Rows.Close`.
@@ -98,12 +98,13 @@ impl Desk {
         ensures { IfOk result (λ it. Enters (past self.now) (ops.RowsClose label.now) it) }
     {
         let closes = self.rows_named(label);
-        Ok(Entering {
+        let then = self.then_close(alloc, label, closes)?;
+        let start = CallStart {
             work: Work::Close(self.maker(label)),
             statement: Statement::none(alloc)?,
             closes,
-            then: self.then_close(alloc, label, closes)?,
-        })
+        };
+        Ok(Entering { start, then })
     }
 
     /// What a call does that is to close the rows of the label, which are those of this call, if there are any.
@@ -201,10 +202,13 @@ impl Desk {
 fn looking(alloc: Global, reply: Reply) -> Result<Entering, NoRoom>
     ensures { IfOk result (λ it. IsLook reply it) }
 {
-    Ok(Entering {
+    let start = CallStart {
         work: Work::Look,
         statement: Statement::none(alloc)?,
         closes: None,
+    };
+    Ok(Entering {
+        start,
         then: Then::Tell(reply),
     })
 }

@@ -53,13 +53,19 @@ pub enum Then {
     Tell(Reply),
 }
 
-/// A call that enters, with the memory that it takes.
+/// What is kept of a call that enters, with the memory that it takes.
 #[derive(Drop)]
-pub struct Entering {
+pub struct CallStart {
     pub work: Work,
     pub statement: Statement,
     /// The query whose rows it closes as it enters.
     pub closes: Option<u32>,
+}
+
+/// A call that enters, and what it does then.
+#[derive(Drop)]
+pub struct Entering {
+    pub start: CallStart,
     pub then: Then,
 }
 

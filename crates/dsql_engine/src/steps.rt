@@ -30,7 +30,7 @@ ghost use Rattle.dsql_history.specs.declared.record.Place.TheVariants.{Opening, 
 ghost use Rattle.dsql_engine.specs.Desk.{past, Stands};
 ghost use Rattle.dsql_engine.specs.Awaited.{awaited, connect_permit, shut_permit, call_permit, permit_of};
 ghost use Rattle.dsql_engine.specs.Latest.{latest};
-ghost use Rattle.dsql_engine.specs.Statements.{statement_of, asked_of, closed_rows, AreMade, Enters, EntersAsking, EntersUsing};
+ghost use Rattle.dsql_engine.specs.Statements.{statement_of, asked_of, MayEnter, Starts, Enters, EntersAsking, EntersUsing};
 ghost use Rattle.dsql_engine.specs.Made.{made};
 ghost use Rattle.dsql_engine.specs.Freshly.{Freshly};
 ghost use Rattle.dsql_engine.specs.Turns.{SettledBut, IsAlone, TakesTurns};
@@ -41,9 +41,9 @@ use crate::desk::Desk;
 use crate::next::{Next, Why};
 use crate::queries::{ends_line, is_bad_answer, is_done_answer, is_invalid_answer};
 use crate::room::reply_of;
-use crate::statement::{Entering, Statement, Then};
+use crate::statement::{CallStart, Entering, Statement, Then};
 use dsql_driver::{DriverAnswer, DriverCall};
-use dsql_history::{CloseCause, Op, Place, Reply, Work};
+use dsql_history::{CloseCause, Op, Place, Reply};
 use dsql_journal::{Entry, Owner, Permit};
 
 impl Desk {
@@ -131,12 +131,7 @@ impl Desk {
     /// A client's call enters.
     pub fn enter_call(&mut self, client: u8, op: Op, entering: Entering) -> Next
         requires stands { Stands self.old }
-        requires settled { Settled (past self.old) }
-        requires begun { is_empty (past self.old) ≡ false }
-        requires free { is_busy client (past self.old) ≡ false }
-        requires running { has_ended (past self.old) ≡ false }
-        requires turn { takes_turn (past self.old) op ≡ true }
-        requires few { length (past self.old) < 4000000 }
+        requires may { MayEnter (past self.old) client op }
         requires enters { Enters (past self.old) op entering }
         requires paid { 4 ≤ self.old.paid }
         ensures stands { Stands self.new }
@@ -145,16 +140,11 @@ impl Desk {
         ensures group { past self.new ≡ after_enter (past self.old) client op }
         ensures next { NextAfterEnter (past self.old) client op result (past self.new) }
     {
-        let Entering {
-            work,
-            statement,
-            closes,
-            then,
-        } = entering;
+        let Entering { start, then } = entering;
         match then {
-            Then::Ask(sent) => self.enter_and_ask(client, op, work, statement, closes, sent),
-            Then::Use(k, sent) => self.enter_and_use(client, op, work, statement, closes, k, sent),
-            Then::Tell(reply) => self.enter_and_tell(client, op, work, statement, closes, reply),
+            Then::Ask(sent) => self.enter_and_ask(client, op, start, sent),
+            Then::Use(k, sent) => self.enter_and_use(client, op, start, k, sent),
+            Then::Tell(reply) => self.enter_and_tell(client, op, start, reply),
         }
     }
 
@@ -163,23 +153,12 @@ impl Desk {
         &mut self,
         client: u8,
         op: Op,
-        work: Work,
-        statement: Statement,
-        closes: Option<u32>,
+        start: CallStart,
         sent: Statement,
     ) -> Next
         requires stands { Stands self.old }
-        requires settled { Settled (past self.old) }
-        requires begun { is_empty (past self.old) ≡ false }
-        requires free { is_busy client (past self.old) ≡ false }
-        requires running { has_ended (past self.old) ≡ false }
-        requires turn { takes_turn (past self.old) op ≡ true }
-        requires few { length (past self.old) < 4000000 }
-        requires work { work ≡ work_of (works (past self.old)) op }
-        requires text { statement.text ≡ text_of op }
-        requires params { statement.params ≡ params_at_entry (caps (past self.old)) op }
-        requires made { AreMade closes (handed_out (past self.old)) }
-        requires closes { closed_rows closes (handed_out (past self.old)) ≡ rows_entered (past self.old) op (handed_out (past self.old)) }
+        requires may { MayEnter (past self.old) client op }
+        requires starts { Starts (past self.old) op start }
         requires asking { EntersAsking (past self.old) op sent }
         requires paid { 4 ≤ self.old.paid }
         ensures stands { Stands self.new }
@@ -188,7 +167,7 @@ impl Desk {
         ensures next { NextAfterEnter (past self.old) client op result (past self.new) }
     {
         let n = self.next_call();
-        self.enter(n, client, op, work, statement, closes, None);
+        self.enter(n, client, op, start, None);
         match self.latest() {
             Some(c) => self.lend_idle(c, n, sent),
             None => self.open_or_refuse(n),
@@ -200,24 +179,13 @@ impl Desk {
         &mut self,
         client: u8,
         op: Op,
-        work: Work,
-        statement: Statement,
-        closes: Option<u32>,
+        start: CallStart,
         k: u32,
         sent: Statement,
     ) -> Next
         requires stands { Stands self.old }
-        requires settled { Settled (past self.old) }
-        requires begun { is_empty (past self.old) ≡ false }
-        requires free { is_busy client (past self.old) ≡ false }
-        requires running { has_ended (past self.old) ≡ false }
-        requires turn { takes_turn (past self.old) op ≡ true }
-        requires few { length (past self.old) < 4000000 }
-        requires work { work ≡ work_of (works (past self.old)) op }
-        requires text { statement.text ≡ text_of op }
-        requires params { statement.params ≡ params_at_entry (caps (past self.old)) op }
-        requires made { AreMade closes (handed_out (past self.old)) }
-        requires closes { closed_rows closes (handed_out (past self.old)) ≡ rows_entered (past self.old) op (handed_out (past self.old)) }
+        requires may { MayEnter (past self.old) client op }
+        requires starts { Starts (past self.old) op start }
         requires using { EntersUsing (past self.old) op k sent }
         requires paid { 4 ≤ self.old.paid }
         ensures stands { Stands self.new }
@@ -226,7 +194,7 @@ impl Desk {
         ensures next { NextAfterEnter (past self.old) client op result (past self.new) }
     {
         let n = self.next_call();
-        self.enter(n, client, op, work, statement, closes, None);
+        self.enter(n, client, op, start, None);
         let c = self.home(k);
         match self.place(c) {
             Place::Lent(tenure, _) => {
@@ -242,23 +210,12 @@ impl Desk {
         &mut self,
         client: u8,
         op: Op,
-        work: Work,
-        statement: Statement,
-        closes: Option<u32>,
+        start: CallStart,
         reply: Reply,
     ) -> Next
         requires stands { Stands self.old }
-        requires settled { Settled (past self.old) }
-        requires begun { is_empty (past self.old) ≡ false }
-        requires free { is_busy client (past self.old) ≡ false }
-        requires running { has_ended (past self.old) ≡ false }
-        requires turn { takes_turn (past self.old) op ≡ true }
-        requires few { length (past self.old) < 4000000 }
-        requires work { work ≡ work_of (works (past self.old)) op }
-        requires text { statement.text ≡ text_of op }
-        requires params { statement.params ≡ params_at_entry (caps (past self.old)) op }
-        requires made { AreMade closes (handed_out (past self.old)) }
-        requires closes { closed_rows closes (handed_out (past self.old)) ≡ rows_entered (past self.old) op (handed_out (past self.old)) }
+        requires may { MayEnter (past self.old) client op }
+        requires starts { Starts (past self.old) op start }
         requires told { told_at_entry (past self.old) op ≡ Some reply }
         requires paid { 4 ≤ self.old.paid }
         ensures stands { Stands self.new }
@@ -267,7 +224,7 @@ impl Desk {
         ensures next { NextAfterEnter (past self.old) client op result (past self.new) }
     {
         let n = self.next_call();
-        self.enter(n, client, op, work, statement, closes, Some(reply));
+        self.enter(n, client, op, start, Some(reply));
         self.tell(n);
         Next::Reply(n)
     }

@@ -183,7 +183,8 @@ work_due H c t n m live s made z is works none a =
 pub other_record : (cs : List CallRecord) (m n : ℕ) (f : CallRecord → CallRecord) → n ≢ m → get_or (with_record m f cs) n nobody ≡ get_or cs n nobody
 other_record cs m n f apart = row_off cs m (f (get_or cs m nobody)) n nobody apart
 
-home_decided : (cs : List CallRecord) (m c n : ℕ) → (get_or (with_record m (λ r. record r { home = c }) cs) n nobody).decided ≡ (get_or cs n nobody).decided
+-- a connection found for one call leaves what is decided for each
+pub home_decided : (cs : List CallRecord) (m c n : ℕ) → (get_or (with_record m (λ r. record r { home = c }) cs) n nobody).decided ≡ (get_or cs n nobody).decided
 home_decided cs m c n = grind (arith, read_set cs m (record (get_or cs m nobody) { home = c }) n nobody)
 
 -- call n and its connection stay together

@@ -14,19 +14,19 @@ use Rattle.dsql_engine.proofs.desk.Desk.enter_and_ask.Goals as goal
 
 pub enter-requires-clause-allowed : goal.enter-requires-clause-allowed
 enter-requires-clause-allowed c =
-    may_enter (past c.args.self.now) c.args.client c.next_call-n.result c.args.op c.requires.settled c.requires.begun c.next_call-n.ensures c.requires.free c.requires.turn
+    may_enter (past c.args.self.now) c.args.client c.next_call-n.result c.args.op c.requires.may.settled c.requires.may.begun c.next_call-n.ensures c.requires.may.free c.requires.may.turn
 
 pub lend_idle-requires-clause-settled : goal.lend_idle-requires-clause-settled
 lend_idle-requires-clause-settled c =
     let H = past c.args.self.now in
     let m : Lawful (Entered c.args.client c.next_call-n.result c.args.op ∷ H) = rw c.enter.ensures.event at (lawful_of _ c.enter.ensures.stands) in
-    rw c.enter.ensures.event (freshly H c.args.client c.next_call-n.result c.args.op (lawful_of _ c.requires.stands) m c.requires.settled c.next_call-n.ensures c.requires.asking.asks)
+    rw c.enter.ensures.event (freshly H c.args.client c.next_call-n.result c.args.op (lawful_of _ c.requires.stands) m c.requires.may.settled c.next_call-n.ensures c.requires.asking.asks)
 
 pub open_or_refuse-requires-clause-settled : goal.open_or_refuse-requires-clause-settled
 open_or_refuse-requires-clause-settled c =
     let H = past c.args.self.now in
     let m : Lawful (Entered c.args.client c.next_call-n.result c.args.op ∷ H) = rw c.enter.ensures.event at (lawful_of _ c.enter.ensures.stands) in
-    rw c.enter.ensures.event (freshly H c.args.client c.next_call-n.result c.args.op (lawful_of _ c.requires.stands) m c.requires.settled c.next_call-n.ensures c.requires.asking.asks)
+    rw c.enter.ensures.event (freshly H c.args.client c.next_call-n.result c.args.op (lawful_of _ c.requires.stands) m c.requires.may.settled c.next_call-n.ensures c.requires.asking.asks)
 
 pub lend_idle-requires-clause-undecided : goal.lend_idle-requires-clause-undecided
 lend_idle-requires-clause-undecided c =

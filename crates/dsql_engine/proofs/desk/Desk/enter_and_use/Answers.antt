@@ -19,13 +19,13 @@ use Rattle.dsql_engine.proofs.desk.Desk.enter_and_use.Goals as goal
 
 pub enter-requires-clause-allowed : goal.enter-requires-clause-allowed
 enter-requires-clause-allowed c =
-    may_enter (past c.args.self.now) c.args.client c.next_call-n.result c.args.op c.requires.settled c.requires.begun c.next_call-n.ensures c.requires.free c.requires.turn
+    may_enter (past c.args.self.now) c.args.client c.next_call-n.result c.args.op c.requires.may.settled c.requires.may.begun c.next_call-n.ensures c.requires.may.free c.requires.may.turn
 
 pub unreachable-requires : goal.unreachable-requires
 unreachable-requires c =
     let a = c.requires.using in
-    let it = lent_now (past c.args.self.now) (past c.enter.new.self) c.args.client c.next_call-n.result c.args.op c.args.k c.home-c.result c.enter.ensures.event (lawful_of _ c.requires.stands) c.requires.settled
-    (lawful_of _ c.enter.ensures.stands) c.next_call-n.ensures c.requires.turn a.undecided a.not_asking a.user c.home-c.ensures in
+    let it = lent_now (past c.args.self.now) (past c.enter.new.self) c.args.client c.next_call-n.result c.args.op c.args.k c.home-c.result c.enter.ensures.event (lawful_of _ c.requires.stands) c.requires.may.settled
+    (lawful_of _ c.enter.ensures.stands) c.next_call-n.ensures c.requires.may.turn a.undecided a.not_asking a.user c.home-c.ensures in
     absurd (c.in_default.not-Lent it.0 (Call c.args.k) (c.place.ensures ∙ it.1))
 
 pub use_lent-requires-clause-settled : goal.use_lent-requires-clause-settled
@@ -34,8 +34,8 @@ use_lent-requires-clause-settled c =
     let K = past c.enter.new.self in
     let t = c.in-Lent.tenure in
     let u : UsesThere K c.args.k c.home-c.result t =
-    uses_now (past c.args.self.now) K c.args.client c.next_call-n.result c.args.op c.args.k c.home-c.result t c.in-Lent.field-1 c.enter.ensures.event (lawful_of _ c.requires.stands) c.requires.settled
-    (lawful_of _ c.enter.ensures.stands) c.next_call-n.ensures c.requires.turn a.undecided a.not_asking a.user c.home-c.ensures (sym c.place.ensures ∙ c.in-Lent.is) in
+    uses_now (past c.args.self.now) K c.args.client c.next_call-n.result c.args.op c.args.k c.home-c.result t c.in-Lent.field-1 c.enter.ensures.event (lawful_of _ c.requires.stands) c.requires.may.settled
+    (lawful_of _ c.enter.ensures.stands) c.next_call-n.ensures c.requires.may.turn a.undecided a.not_asking a.user c.home-c.ensures (sym c.place.ensures ∙ c.in-Lent.is) in
     u.settled
 
 pub use_lent-requires-clause-alone : goal.use_lent-requires-clause-alone
@@ -44,8 +44,8 @@ use_lent-requires-clause-alone c =
     let K = past c.enter.new.self in
     let t = c.in-Lent.tenure in
     let u : UsesThere K c.args.k c.home-c.result t =
-    uses_now (past c.args.self.now) K c.args.client c.next_call-n.result c.args.op c.args.k c.home-c.result t c.in-Lent.field-1 c.enter.ensures.event (lawful_of _ c.requires.stands) c.requires.settled
-    (lawful_of _ c.enter.ensures.stands) c.next_call-n.ensures c.requires.turn a.undecided a.not_asking a.user c.home-c.ensures (sym c.place.ensures ∙ c.in-Lent.is) in
+    uses_now (past c.args.self.now) K c.args.client c.next_call-n.result c.args.op c.args.k c.home-c.result t c.in-Lent.field-1 c.enter.ensures.event (lawful_of _ c.requires.stands) c.requires.may.settled
+    (lawful_of _ c.enter.ensures.stands) c.next_call-n.ensures c.requires.may.turn a.undecided a.not_asking a.user c.home-c.ensures (sym c.place.ensures ∙ c.in-Lent.is) in
     u.alone
 
 pub use_lent-requires-clause-lent : goal.use_lent-requires-clause-lent
@@ -54,8 +54,8 @@ use_lent-requires-clause-lent c =
     let K = past c.enter.new.self in
     let t = c.in-Lent.tenure in
     let u : UsesThere K c.args.k c.home-c.result t =
-    uses_now (past c.args.self.now) K c.args.client c.next_call-n.result c.args.op c.args.k c.home-c.result t c.in-Lent.field-1 c.enter.ensures.event (lawful_of _ c.requires.stands) c.requires.settled
-    (lawful_of _ c.enter.ensures.stands) c.next_call-n.ensures c.requires.turn a.undecided a.not_asking a.user c.home-c.ensures (sym c.place.ensures ∙ c.in-Lent.is) in
+    uses_now (past c.args.self.now) K c.args.client c.next_call-n.result c.args.op c.args.k c.home-c.result t c.in-Lent.field-1 c.enter.ensures.event (lawful_of _ c.requires.stands) c.requires.may.settled
+    (lawful_of _ c.enter.ensures.stands) c.next_call-n.ensures c.requires.may.turn a.undecided a.not_asking a.user c.home-c.ensures (sym c.place.ensures ∙ c.in-Lent.is) in
     u.lent
 
 pub use_lent-requires-clause-due : goal.use_lent-requires-clause-due
@@ -64,8 +64,8 @@ use_lent-requires-clause-due c =
     let K = past c.enter.new.self in
     let t = c.in-Lent.tenure in
     let u : UsesThere K c.args.k c.home-c.result t =
-    uses_now (past c.args.self.now) K c.args.client c.next_call-n.result c.args.op c.args.k c.home-c.result t c.in-Lent.field-1 c.enter.ensures.event (lawful_of _ c.requires.stands) c.requires.settled
-    (lawful_of _ c.enter.ensures.stands) c.next_call-n.ensures c.requires.turn a.undecided a.not_asking a.user c.home-c.ensures (sym c.place.ensures ∙ c.in-Lent.is) in
+    uses_now (past c.args.self.now) K c.args.client c.next_call-n.result c.args.op c.args.k c.home-c.result t c.in-Lent.field-1 c.enter.ensures.event (lawful_of _ c.requires.stands) c.requires.may.settled
+    (lawful_of _ c.enter.ensures.stands) c.next_call-n.ensures c.requires.may.turn a.undecided a.not_asking a.user c.home-c.ensures (sym c.place.ensures ∙ c.in-Lent.is) in
     let asked = ap asked_of a.same ∙ asked_now (past c.args.self.now) K c.args.client c.next_call-n.result c.args.op c.args.k c.home-c.result t c.enter.ensures.event (lawful_of _ c.requires.stands) c.next_call-n.ensures u in
     let next : c.next_call_on-next.result ≡ due K c.home-c.result t c.args.k =
     c.next_call_on-next.ensures ∙ (ap (λ x. body_after (caps K) x (wish K c.args.k) (made K c.home-c.result)) asked ∙ u.body) in
@@ -77,8 +77,8 @@ use_lent-requires-clause-bad c = λ none.
     let K = past c.enter.new.self in
     let t = c.in-Lent.tenure in
     let u : UsesThere K c.args.k c.home-c.result t =
-    uses_now (past c.args.self.now) K c.args.client c.next_call-n.result c.args.op c.args.k c.home-c.result t c.in-Lent.field-1 c.enter.ensures.event (lawful_of _ c.requires.stands) c.requires.settled
-    (lawful_of _ c.enter.ensures.stands) c.next_call-n.ensures c.requires.turn a.undecided a.not_asking a.user c.home-c.ensures (sym c.place.ensures ∙ c.in-Lent.is) in
+    uses_now (past c.args.self.now) K c.args.client c.next_call-n.result c.args.op c.args.k c.home-c.result t c.in-Lent.field-1 c.enter.ensures.event (lawful_of _ c.requires.stands) c.requires.may.settled
+    (lawful_of _ c.enter.ensures.stands) c.next_call-n.ensures c.requires.may.turn a.undecided a.not_asking a.user c.home-c.ensures (sym c.place.ensures ∙ c.in-Lent.is) in
     let asked = ap asked_of a.same ∙ asked_now (past c.args.self.now) K c.args.client c.next_call-n.result c.args.op c.args.k c.home-c.result t c.enter.ensures.event (lawful_of _ c.requires.stands) c.next_call-n.ensures u in
     let next : c.next_call_on-next.result ≡ due K c.home-c.result t c.args.k =
     c.next_call_on-next.ensures ∙ (ap (λ x. body_after (caps K) x (wish K c.args.k) (made K c.home-c.result)) asked ∙ u.body) in
@@ -90,8 +90,8 @@ use_lent-requires-clause-invalid c = λ none.
     let K = past c.enter.new.self in
     let t = c.in-Lent.tenure in
     let u : UsesThere K c.args.k c.home-c.result t =
-    uses_now (past c.args.self.now) K c.args.client c.next_call-n.result c.args.op c.args.k c.home-c.result t c.in-Lent.field-1 c.enter.ensures.event (lawful_of _ c.requires.stands) c.requires.settled
-    (lawful_of _ c.enter.ensures.stands) c.next_call-n.ensures c.requires.turn a.undecided a.not_asking a.user c.home-c.ensures (sym c.place.ensures ∙ c.in-Lent.is) in
+    uses_now (past c.args.self.now) K c.args.client c.next_call-n.result c.args.op c.args.k c.home-c.result t c.in-Lent.field-1 c.enter.ensures.event (lawful_of _ c.requires.stands) c.requires.may.settled
+    (lawful_of _ c.enter.ensures.stands) c.next_call-n.ensures c.requires.may.turn a.undecided a.not_asking a.user c.home-c.ensures (sym c.place.ensures ∙ c.in-Lent.is) in
     let asked = ap asked_of a.same ∙ asked_now (past c.args.self.now) K c.args.client c.next_call-n.result c.args.op c.args.k c.home-c.result t c.enter.ensures.event (lawful_of _ c.requires.stands) c.next_call-n.ensures u in
     let next : c.next_call_on-next.result ≡ due K c.home-c.result t c.args.k =
     c.next_call_on-next.ensures ∙ (ap (λ x. body_after (caps K) x (wish K c.args.k) (made K c.home-c.result)) asked ∙ u.body) in

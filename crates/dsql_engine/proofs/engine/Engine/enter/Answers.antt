@@ -9,8 +9,15 @@ use Rattle.dsql_engine.proofs.engine.Engine.enter.Goals as goal
 pub invariant_of-self : goal.invariant_of-self
 invariant_of-self c = (c.pay.ensures.stands, rw c.pay.ensures.past c.self.invariant.1, rw c.pay.ensures.past c.self.invariant.2, rw c.pay.ensures.past c.self.invariant.3)
 
-pub enter_call-requires-clause-settled : goal.enter_call-requires-clause-settled
-enter_call-requires-clause-settled c = rw c.pay.ensures.past c.self.invariant.1
+pub enter_call-requires-clause-may : goal.enter_call-requires-clause-may
+enter_call-requires-clause-may c = record {
+  settled = rw c.pay.ensures.past c.self.invariant.1;
+  begun = rw c.pay.ensures.past c.self.invariant.2;
+  free = rw (c.pay.ensures.past, c.self.view_is) c.requires.free;
+  running = rw (c.pay.ensures.past, c.self.view_is) c.requires.running;
+  turn = rw (c.pay.ensures.past, c.self.view_is) c.requires.turn;
+  few = rw (c.pay.ensures.past, c.self.view_is) c.requires.room;
+}
 
 pub invariant_of-self-2 : goal.invariant_of-self-2
 invariant_of-self-2 c =
