@@ -27,7 +27,7 @@ use Rattle.dsql_history.specs.Readers.Journals.{heard_in}
 use Rattle.dsql_history.specs.Readers.Exchanges.{exchanges}
 use Rattle.dsql_history.specs.Readers.Works.{work, asks, user_of}
 use Rattle.dsql_history.specs.Readers.Unfinished.{unfinished, is_unfinished}
-use Rattle.dsql_history.specs.Readers.Calls.{calls, call_record, nobody, with_record, home, reply_due, sender, worker, user, decision, refusal}
+use Rattle.dsql_history.specs.Readers.Calls.{calls, call_record, nobody, home, reply_due, sender, worker, user, decision, refusal}
 use Rattle.dsql_history.specs.Rules.Line.{Asked, aim_of, asked_by, wish, wish_of, due, line_after, is_reset_due, is_kept_by_rows, keeps_rows, keeps}
 use Rattle.dsql_history.specs.Rules.Settled.{Settled, is_in_use, uses_what_is_lent, is_under_way, goes_on}
 use Rattle.dsql_history.specs.Legal.{Lawful}

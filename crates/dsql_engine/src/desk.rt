@@ -58,14 +58,7 @@ pub struct Desk {
 /// The event methods: each adds its event to the history and changes the tables.
 impl Desk {
     /// A client's call enters, with what is kept of it, and its reply where it is told at once.
-    pub fn enter(
-        &mut self,
-        n: u32,
-        client: u8,
-        op: Op,
-        start: CallStart,
-        decided: Option<Reply>,
-    )
+    pub fn enter(&mut self, n: u32, client: u8, op: Op, start: CallStart, decided: Option<Reply>)
         requires stands { Stands self.old }
         requires paid { 0 < self.old.paid }
         requires allowed { Allowed (past self.old) (Event.Entered client n op) }

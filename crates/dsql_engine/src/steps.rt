@@ -149,13 +149,7 @@ impl Desk {
     }
 
     /// A client's call enters and asks for a connection.
-    fn enter_and_ask(
-        &mut self,
-        client: u8,
-        op: Op,
-        start: CallStart,
-        sent: Statement,
-    ) -> Next
+    fn enter_and_ask(&mut self, client: u8, op: Op, start: CallStart, sent: Statement) -> Next
         requires stands { Stands self.old }
         requires may { MayEnter (past self.old) client op }
         requires starts { Starts (past self.old) op start }
@@ -206,13 +200,7 @@ impl Desk {
     }
 
     /// A client's call enters, and is told at once.
-    fn enter_and_tell(
-        &mut self,
-        client: u8,
-        op: Op,
-        start: CallStart,
-        reply: Reply,
-    ) -> Next
+    fn enter_and_tell(&mut self, client: u8, op: Op, start: CallStart, reply: Reply) -> Next
         requires stands { Stands self.old }
         requires may { MayEnter (past self.old) client op }
         requires starts { Starts (past self.old) op start }
