@@ -1,9 +1,9 @@
 ghost use Rattle.std.specs.Prelude.{◌≡◌, ℕ, ◌+◌, ◌^◌, ◌<◌, ◌≤◌, ◌∷◌, ◌++◌, [], Some, None, List, true, is_some, length, vec_len, vec_capacity};
 ghost use Rattle.dsql_history.specs.Legal.{Allowed};
 ghost use Rattle.dsql_history.specs.Rules.Settled.{Settled};
-ghost use Rattle.dsql_history.specs.Readers.Calls.{statement as text_of, params_at_entry, told_at_entry, fetch_decision, query_decision, refusal, reply_due};
-ghost use Rattle.dsql_history.specs.Readers.Works.{works, work, work_of};
-ghost use Rattle.dsql_history.specs.Readers.HandedOut.{handed_out, rows_entered};
+ghost use Rattle.dsql_history.specs.Readers.Calls.{told_at_entry, fetch_decision, query_decision, refusal, reply_due};
+ghost use Rattle.dsql_history.specs.Readers.Works.{works, work};
+ghost use Rattle.dsql_history.specs.Readers.HandedOut.{handed_out};
 ghost use Rattle.dsql_history.specs.Readers.Exchanges.{step_of};
 ghost use Rattle.dsql_driver.specs.declared.call.DriverCall.TheVariants.{Next, Query};
 ghost use Rattle.dsql_driver.specs.declared.call.Input.{Input};

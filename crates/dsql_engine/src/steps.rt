@@ -9,11 +9,9 @@ ghost use Rattle.dsql_history.specs.Readers.Sets.{place, idle, open_count, next_
 ghost use Rattle.dsql_history.specs.Readers.Journals.{journal, ends_invalid, heard_in};
 ghost use Rattle.dsql_driver.specs.declared.call.DriverCall.TheVariants as calls;
 ghost use Rattle.dsql_journal.specs.HandlesAndCursors.{fits_at_its_place};
-ghost use Rattle.dsql_history.specs.Readers.Calls.{statement as text_of, params_at_entry, told_at_entry, fetch_decision, query_decision, reply_due, next_call, is_busy, home, sender};
+ghost use Rattle.dsql_history.specs.Readers.Calls.{told_at_entry, fetch_decision, query_decision, reply_due, next_call, home, sender};
 ghost use Rattle.dsql_history.specs.Readers.Unfinished.{is_unfinished};
-ghost use Rattle.dsql_history.specs.Readers.Works.{works, work, work_of, asks};
-ghost use Rattle.dsql_history.specs.Readers.HandedOut.{handed_out, rows_entered};
-ghost use Rattle.dsql_history.specs.Rules.Numbers.{takes_turn};
+ghost use Rattle.dsql_history.specs.Readers.Works.{works, work, asks};
 ghost use Rattle.dsql_history.specs.declared.reply.Reply.{Reply};
 ghost use Rattle.dsql_history.specs.Legal.{Allowed};
 ghost use Rattle.dsql_value.specs.declared.value.Param.{Param};
