@@ -12,7 +12,6 @@ use Rattle.dsql_scan.specs.declared.dest.Dest.{Dest}
 use Rattle.dsql_script.specs.declared.fault.What.TheVariants.{Lines, Args}
 use Rattle.dsql_script.specs.declared.fault.LineFault.{LineFault}
 use Rattle.dsql_script.specs.declared.fault.LineFault.TheVariants.{TooLong, NotUtf8, NoSuchWord, BadShape, TooMany}
-use Rattle.dsql_script.specs.declared.script.Head.{Head}
 use Rattle.dsql_script.specs.declared.script.Head.TheVariants.{Begun}
 use Rattle.dsql_script.specs.declared.script.ScriptLine.{ScriptLine}
 use Rattle.dsql_script.specs.declared.script.ScriptLine.TheVariants.{Skip, Version, UseCaps, Client}
