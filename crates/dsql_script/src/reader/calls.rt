@@ -6,15 +6,13 @@ ghost use Rattle.dsql_script.specs.ScriptLines.{IsReading, client_line, call_of,
 
 use crate::dests::read_dests;
 use crate::fault::{LineFault, What};
-use crate::reader::{args, array, rows, words};
+use crate::reader::args::{self, MAX_ARGS};
+use crate::reader::{array, rows, words};
 use crate::script::ScriptLine;
 use dsql_history::Op;
 use dsql_scan::Dests;
 use dsql_value::{Args, Txt};
 use std::alloc::Global;
-
-/// How many arguments a call may have, and how many destinations.
-const MAX_ARGS: usize = 32;
 
 /// What a call asks of its text with its arguments.
 #[derive(Drop)]

@@ -8,14 +8,12 @@ ghost use Rattle.dsql_script.specs.ScriptLines.{IsReading, rows_line, rows_of, s
 
 use crate::dests::read_dests;
 use crate::fault::{LineFault, What};
+use crate::reader::args::MAX_ARGS;
 use crate::reader::words;
 use crate::script::ScriptLine;
 use dsql_history::Op;
 use dsql_value::Txt;
 use std::alloc::Global;
-
-/// How many destinations a call may have.
-const MAX_DESTS: usize = 32;
 
 /// The label that a word is.
 pub fn read_label(alloc: Global, word: &str) -> Result<Txt, LineFault>
@@ -103,7 +101,7 @@ fn read_scan_into(
 {
     let rows = read_label(alloc, rows)?;
     let dests = read_dests(alloc, dests)?;
-    if dests.as_slice().len() > MAX_DESTS {
+    if dests.as_slice().len() > MAX_ARGS {
         return Err(LineFault::TooMany(What::Args));
     }
     let op = Op::Scan { rows, dests };
