@@ -19,11 +19,10 @@ use Rattle.dsql_journal.specs.HandlesAndCursors.{has_live_handle, has_live_curso
 use Rattle.dsql_journal.specs.Journal.{may_follow, is_whole, IsJournalPrefix}
 use Rattle.dsql_journal.specs.Facts.{KeepsWholeJournal, FitsAtItsPlace, MayShut}
 use Rattle.dsql_journal.specs.Entries.{shut_entry}
-use Rattle.dsql_journal.specs.ExecJournals.{Plain, Good}
 use Rattle.dsql_journal.proofs.Conjunctions.{so_if, parts5}
 use Rattle.dsql_journal.proofs.Sentences.{of-MayFollow}
 use Rattle.dsql_journal.proofs.Tenures.{MayFollow-shut, IsWhole-shut}
-use Rattle.dsql_journal.proofs.ExecJournals.{is_whole_tenure-plain, went_bad-in}
+use Rattle.dsql_journal.proofs.PlainJournals.{Plain, Good, is_whole_tenure-plain, went_bad-in}
 use Rattle.dsql_history.proofs.CallLines.{Step, Start, WasReset, WasSkipped, WasPrepared, HasRows, HasRead, WasRun, WasDone, WasTested, WasDropped, IsOther, step, goes, level, raised, is_going, is_before_end, OneHandle, own_handle, own_cursor, gave, opened, Open, SoFar, sent_entry, is_sent}
 
 -- The connection c was opened and isn't shut. Its live handles are those of calls, and no transaction was begun on it.

@@ -15,7 +15,7 @@ use Rattle.dsql_journal.specs.Journal.{may_follow, is_whole, IsWhole}
 use Rattle.dsql_journal.specs.Entries.{connect_entry, shut_entry}
 use Rattle.dsql_journal.proofs.Beginnings.{may_follow-whole}
 use Rattle.dsql_journal.proofs.Tenures.{of_tenure-new}
-use Rattle.dsql_journal.proofs.ExecJournals.{may_follow-connect, is_whole-refused}
+use Rattle.dsql_journal.proofs.PlainJournals.{may_follow-connect, is_whole-refused}
 use Rattle.dsql_history.specs.declared.event.Event.{Event}
 use Rattle.dsql_history.specs.declared.event.Event.TheVariants.{Heard, Pool}
 use Rattle.dsql_history.specs.declared.event.Move.TheVariants.{Lend, Gone, Fell}
@@ -48,10 +48,6 @@ fresh_lending H c t n l =
     let a = lend_facts H c t (Call n) n l.1 in
     let r = rests_from H c n s a.from in
     of_tenure-new t (journal H c) (s.beginnings c) (omega (arith, r.below, a.tenure))
-
--- a connection that is being opened was never lent
-pub lends_when_opening : (H : List Event) (c n : ℕ) → Lawful H → place H c ≡ Opening n → (lends H c ≡ 0) × (uses H c ≡ 0)
-lends_when_opening H c n l is = let s = stands_at H c (Opening n) l is in (s.unlent, s.unused)
 
 owned_tenure : (c l u : ℕ) (heard opened : Bool) (J : List Entry) (t : ℕ) (o : Owner) → Stands c l u heard opened J (Lent t o) → t ≡ l + 1
 owned_tenure c l u heard opened J t (Call n) s = s.tenure

@@ -18,9 +18,8 @@ use Rattle.dsql_journal.specs.Kinds.{is_valid, is_bad, same_owner}
 use Rattle.dsql_journal.specs.Readers.{is_empty, of_tenure, last_tenure, handles, handles_after, cursors, cursors_after, went_invalid}
 use Rattle.dsql_journal.specs.HandlesAndCursors.{fits_at_its_place}
 use Rattle.dsql_journal.specs.Journal.{may_follow, IsJournalPrefix}
-use Rattle.dsql_journal.specs.ExecJournals.{Plain, Good}
 use Rattle.dsql_journal.proofs.Tenures.{of_tenure-new}
-use Rattle.dsql_journal.proofs.ExecJournals.{Good-with, of_tenure-with}
+use Rattle.dsql_journal.proofs.PlainJournals.{Plain, Good, Good-with, of_tenure-with}
 use Rattle.dsql_history.specs.Readers.Journals.{ends_invalid}
 use Rattle.dsql_history.specs.Readers.Exchanges.{exchanges, step_of, with_exchange}
 use Rattle.dsql_history.specs.Rules.Line.{Asked, line_after, body_after, keeps_rows, is_due}

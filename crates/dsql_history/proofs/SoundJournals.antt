@@ -7,7 +7,7 @@ use Rattle.dsql_journal.specs.declared.entry.Owner.{Owner}
 use Rattle.dsql_journal.specs.declared.entry.Owner.TheVariants.{Call, Tx, Pin, House}
 use Rattle.dsql_journal.specs.Kinds.{is_call, is_connect, is_shut, is_house, same_owner}
 use Rattle.dsql_journal.specs.Journal.{may_follow, IsJournalPrefix}
-use Rattle.dsql_journal.proofs.ExecJournals.{IsJournalPrefix-with}
+use Rattle.dsql_journal.proofs.PlainJournals.{IsJournalPrefix-with}
 use Rattle.dsql_history.specs.declared.event.Event.{Event}
 use Rattle.dsql_history.specs.declared.event.Event.TheVariants.{Run, Entered, Heard, Pool, Replied, Ended}
 use Rattle.dsql_history.specs.declared.event.Move.{Move}

@@ -11,7 +11,7 @@ use Rattle.dsql_journal.specs.Readers.{is_empty}
 use Rattle.dsql_journal.specs.Facts.{MayFollow}
 use Rattle.dsql_journal.proofs.Sentences.{MayFollow-of}
 use Rattle.dsql_journal.proofs.Tenures.{of_tenure-new}
-use Rattle.dsql_journal.proofs.ExecJournals.{of_tenure-with}
+use Rattle.dsql_journal.proofs.PlainJournals.{of_tenure-with}
 use Rattle.dsql_history.specs.declared.event.Event.{Event}
 use Rattle.dsql_history.specs.declared.event.Event.TheVariants.{Run, Entered, Heard, Pool, Replied, Ended}
 use Rattle.dsql_history.specs.declared.event.Op.{Op}

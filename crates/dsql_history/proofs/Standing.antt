@@ -19,10 +19,9 @@ use Rattle.dsql_journal.specs.Tenure.{is_whole_tenure}
 use Rattle.dsql_journal.specs.Journal.{may_follow, IsJournalPrefix}
 use Rattle.dsql_journal.specs.Facts.{MayFollow}
 use Rattle.dsql_journal.specs.Entries.{connect_entry}
-use Rattle.dsql_journal.specs.ExecJournals.{Plain, Good}
 use Rattle.dsql_journal.proofs.Sentences.{MayFollow-of}
 use Rattle.dsql_history.proofs.CallLines.{step, sent_entry, is_sent}
-use Rattle.dsql_journal.proofs.ExecJournals.{Plain-connect, Good-connect, went_bad-in, is_whole_tenure-plain}
+use Rattle.dsql_journal.proofs.PlainJournals.{Plain, Good, Plain-connect, Good-connect, went_bad-in, is_whole_tenure-plain}
 use Rattle.dsql_history.specs.declared.record.Place.{Place}
 use Rattle.dsql_history.specs.declared.record.Place.TheVariants.{Nowhere, Opening, Idle, Lent, Closing}
 use Rattle.dsql_history.specs.Readers.Journals.{ends_invalid}

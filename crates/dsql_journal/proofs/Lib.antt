@@ -5,5 +5,4 @@ pub mod Tenures
 pub mod Wholes
 pub mod Numbers
 pub mod Examples
-pub mod ExecLines
-pub mod ExecJournals
+pub mod PlainJournals

@@ -47,10 +47,6 @@ or_else : (a b : Bool) → (a ≡ true → ⊥) → a || b ≡ true → b ≡ tr
 or_else true b never h = absurd (never refl)
 or_else false b never h = h
 
-or_more : (a b : Bool) → (a ≡ false → b ≡ true) → a || b ≡ true
-or_more true b h = refl
-or_more false b h = h refl
-
 KeepsTransaction-of : (before : List Entry) (e : Entry) → e.tx ≢ 0 → keeps_transaction before e ≡ true → KeepsTransaction before e
 KeepsTransaction-of before e some h =
     let p = parts9 (stands_in_one_tenure before e) (has_owner_of_transaction e) (starts_with_begin before e) (begins_once before e) (is_transaction_call before e) (ends_once before e) (closes_after_end before e) (closes_what_it_prepared before e) (ends_without_cursors before e) (or_else (e.tx == 0) _ (λ is. some (eqb→eq e.tx 0 (grind (arith, nat_tests)))) h) in

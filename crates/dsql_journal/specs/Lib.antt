@@ -12,4 +12,3 @@ pub mod Samples
 pub mod Accepted
 pub mod RefusedShapes
 pub mod RefusedUses
-pub mod ExecJournals

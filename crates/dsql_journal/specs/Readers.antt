@@ -125,10 +125,6 @@ went_invalid journal = list_any (λ x. is_invalid x.answer) journal
 abbrev pub was_refused : List Entry → Bool
 was_refused journal = list_any (λ x. is_connect x.call && is_failure x.answer) journal
 
--- the Connect was answered Done
-abbrev pub was_opened : List Entry → Bool
-was_opened journal = list_any (λ x. is_connect x.call && is_done x.answer) journal
-
 -- Shut was heard
 abbrev pub was_shut : List Entry → Bool
 was_shut journal = list_any (λ x. is_shut x.call) journal

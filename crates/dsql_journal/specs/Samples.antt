@@ -78,7 +78,3 @@ after entries = reverse (house 1 Connect Done ∷ entries)
 -- what stands before is a beginning of a whole journal; with the entry it is none, since this rule is broken
 abbrev pub Refuses : List Entry → Entry → (List Entry → Entry → Bool) → Type 0
 Refuses before e rule = (is_journal_prefix before ≡ true) × (may_follow before e ≡ false) × (rule before e ≡ false)
-
--- what stands before is a beginning of a whole journal, and with the entry it is one too
-abbrev pub Accepts : List Entry → Entry → Type 0
-Accepts before e = (is_journal_prefix before ≡ true) × (may_follow before e ≡ true)
