@@ -1,0 +1,12 @@
+//! The table of prepared statements, after `Stmt` of Go's package `database/sql`: what was prepared, its live
+//! handles on the connections, and which call closed it first.
+#![tactic(auto)]
+
+mod fault;
+mod lists;
+mod stmt;
+mod table;
+
+pub use fault::StmtClosed;
+pub use stmt::Home;
+pub use table::{Handles, Stmts};

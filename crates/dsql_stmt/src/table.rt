@@ -1,0 +1,236 @@
+ghost use Rattle.std.specs.Prelude.{◌≡◌, ◌+◌, ◌<◌, ◌≤◌, ◌==◌, ◌&&◌, not, [], ◌∷◌, ◌++◌, length, None, Some, true, false, OnOk, OnErr, IfOk, IfSome, vec_capacity};
+ghost use Rattle.std.specs.Option.{option_map};
+ghost use Rattle.dsql_stmt.specs.Statements.{handles_of};
+
+use crate::fault::StmtClosed;
+use crate::lists::{Lists, Pairs};
+use crate::stmt::{Home, Prepared, Stmt};
+use dsql_value::{Items, Memory, Txt};
+use indexmap::IndexMap;
+use std::alloc::Global;
+use std::marker::Model;
+
+/// Connections, each with a handle that is live there.
+pub type Handles = Items<(u32, u32)>;
+
+/// The statements that were added, and their live handles. Contracts see the statements by their numbers in
+/// the order in which they were added, the live handles in the order in which they were prepared, and for how
+/// many calls there is memory.
+#[derive(Drop)]
+pub struct Stmts {
+    alloc: Global,
+    stmts: IndexMap<u32, Stmt>,
+    // by statement and connection
+    live: IndexMap<(u32, u32), Prepared>,
+    lists: Lists,
+}
+
+impl Model for Stmts {
+    ghost use Rattle.std.specs.Prelude.{◌-◌, length, min};
+    ghost use Rattle.indexmap.specs.IndexMap.{spare};
+    ghost use Rattle.dsql_stmt.specs.Statements.{Statements};
+
+    ghost Value = { Statements };
+
+    ghost view = { λ s. record {
+      stmts = s.stmts.entries;
+      live = s.live.entries;
+      spare = min (min (spare s.stmts) (spare s.live)) (min s.lists.count (s.lists.size - length s.live.entries));
+    } };
+}
+
+impl Stmts {
+    ghost use Rattle.dsql_stmt.specs.Statements.{stmt_of, was_added, unclosed, changed, closed_by, answer_of, handle_on, is_live, live_handle, handed_out, without_handle, without_conn};
+
+    /// No statements. It takes no memory.
+    pub fn new(alloc: Global) -> Stmts
+        ensures stmts { result.stmts ≡ [] }
+        ensures live { result.live ≡ [] }
+    {
+        Stmts {
+            alloc,
+            stmts: IndexMap::new(alloc),
+            live: IndexMap::new(alloc),
+            lists: Lists::new(alloc),
+        }
+    }
+
+    /// Takes memory for so many calls more, the lists that they answer included.
+    pub fn reserve(&mut self, calls: u32) -> Result<(), Memory>
+        ensures ok { OnOk result (calls ≤ self.new.spare) }
+        ensures stmts { self.new.stmts ≡ self.old.stmts }
+        ensures live { self.new.live ≡ self.old.live }
+        ensures spare { self.old.spare ≤ self.new.spare }
+    {
+        let calls = calls as usize;
+        self.stmts.reserve(calls)?;
+        self.live.reserve(calls)?;
+        self.lists.reserve(calls, self.live.len() + calls)
+    }
+
+    /// How many statements were added and how many of their handles are live, as one number.
+    pub fn held(&self) -> u64
+        ensures { result ≡ length self.now.stmts + length self.now.live }
+    {
+        self.stmts.len() as u64 + self.live.len() as u64
+    }
+
+    /// Whether a statement was added under that number.
+    pub fn was_added(&self, n: u32) -> bool
+        ensures { result ≡ was_added n self.now.stmts }
+    {
+        self.stmts.contains_key(&n)
+    }
+
+    /// Adds a statement, which nothing has closed and which has no live handle.
+    pub fn add(&mut self, n: u32, text: Txt, home: Home) -> Result<(), Memory>
+        requires { was_added n self.old.stmts ≡ false }
+        ensures ok { OnOk result (self.new.stmts ≡ self.old.stmts ++ (n, unclosed text home) ∷ []) }
+        ensures full { OnErr result (self.old.spare ≡ 0) }
+        ensures err { OnErr result (self.new.stmts ≡ self.old.stmts) }
+        ensures live { self.new.live ≡ self.old.live }
+        ensures spare { self.old.spare ≤ self.new.spare + 1 }
+    {
+        let stmt = Stmt {
+            text,
+            home,
+            closed: None,
+        };
+        self.stmts.insert(n, stmt)?;
+        Ok(())
+    }
+
+    /// What a run of the statement on a connection may use: its live handle there, if it has one, with the
+    /// number of arguments. StmtClosed tells the call that closed the statement first.
+    pub fn on_conn(&self, n: u32, conn: u32) -> Result<Option<(u32, i32)>, StmtClosed>
+        requires { was_added n self.now.stmts ≡ true }
+        ensures { IfSome (stmt_of n self.now.stmts) (λ stmt. result ≡ answer_of (handle_on n conn self.now.live) stmt) }
+    {
+        self.stmt(n).answer(self.live(n, conn))
+    }
+
+    /// The live handle of the statement on a connection, if it has one, with the number of arguments, whether
+    /// or not the statement was closed.
+    pub fn live(&self, n: u32, conn: u32) -> Option<(u32, i32)>
+        ensures { result ≡ handle_on n conn self.now.live }
+    {
+        let prepared = self.live.get(&(n, conn))?;
+        Some((prepared.handle, prepared.inputs))
+    }
+
+    /// Whether a statement has a live handle of that number on a connection.
+    pub fn is_live(&self, conn: u32, handle: u32) -> bool
+        ensures { result ≡ is_live conn handle self.now.live }
+    {
+        self.live.iter().any(|(place, prepared)| place.1 == conn && prepared.handle == handle)
+    }
+
+    /// Notes that a driver prepared the statement on a connection: the handle is live from now on.
+    pub fn note_prepared(
+        &mut self,
+        n: u32,
+        conn: u32,
+        handle: u32,
+        inputs: i32,
+    ) -> Result<(), Memory>
+        requires added { was_added n self.old.stmts ≡ true }
+        requires none { handle_on n conn self.old.live ≡ None }
+        requires unused { is_live conn handle self.old.live ≡ false }
+        ensures ok { OnOk result (self.new.live ≡ self.old.live ++ live_handle n conn handle inputs ∷ []) }
+        ensures full { OnErr result (self.old.spare ≡ 0) }
+        ensures err { OnErr result (self.new.live ≡ self.old.live) }
+        ensures stmts { self.new.stmts ≡ self.old.stmts }
+        ensures spare { self.old.spare ≤ self.new.spare + 1 }
+    {
+        self.live.insert((n, conn), Prepared { handle, inputs })?;
+        Ok(())
+    }
+
+    /// Closes the statement, if nothing has, and hands out its live handles with their connections: at a
+    /// second close none. They stay live until they are dropped.
+    pub fn close(&mut self, n: u32, call: u32) -> Result<Handles, Memory>
+        requires { was_added n self.old.stmts ≡ true }
+        ensures ok { OnOk result (self.new.stmts ≡ changed (closed_by call) n self.old.stmts) }
+        ensures handles { IfOk result (λ handles. Some handles ≡ option_map (handed_out n self.old.live) (stmt_of n self.old.stmts)) }
+        ensures full { OnErr result (self.old.spare ≡ 0) }
+        ensures err { OnErr result (self.new.stmts ≡ self.old.stmts) }
+        ensures live { self.new.live ≡ self.old.live }
+        ensures spare { self.old.spare ≤ self.new.spare + 1 }
+    {
+        if self.stmt(n).closed.is_some() {
+            return Ok(Items::none(self.alloc));
+        }
+        let list = self.lists.take();
+        let handles = pairs_of(n, &self.live, list)?;
+        match self.stmts.get_mut(&n) {
+            Some(stmt) => stmt.close(call),
+            None => unreachable!(),
+        }
+        Ok(Items::new(handles))
+    }
+
+    /// A handle was closed on its connection: it isn't live any more. It takes no memory, nor does
+    /// `forget_conn`.
+    pub fn dropped(&mut self, conn: u32, handle: u32)
+        ensures live { self.new.live ≡ without_handle conn handle self.old.live }
+        ensures stmts { self.new.stmts ≡ self.old.stmts }
+        ensures spare { self.old.spare ≤ self.new.spare }
+    {
+        self.live.retain(
+            |place: &(u32, u32), prepared: &mut Prepared| -> bool
+                ensures { (result ≡ not ((place.now.1 == conn) && (prepared.old.handle == handle))) × (prepared.new ≡ prepared.old) }
+            { !(place.1 == conn && prepared.handle == handle) },
+        );
+    }
+
+    /// A connection is lost: none of its handles is live any more.
+    pub fn forget_conn(&mut self, conn: u32)
+        ensures live { self.new.live ≡ without_conn conn self.old.live }
+        ensures stmts { self.new.stmts ≡ self.old.stmts }
+        ensures spare { self.old.spare ≤ self.new.spare }
+    {
+        self.live.retain(
+            |place: &(u32, u32), prepared: &mut Prepared| -> bool
+                ensures { (result ≡ not (place.now.1 == conn)) × (prepared.new ≡ prepared.old) }
+            { place.1 != conn },
+        );
+    }
+
+    /// The text of the statement.
+    pub fn text(&self, n: u32) -> &Txt
+        requires { was_added n self.now.stmts ≡ true }
+        ensures { Some result.now ≡ option_map (λ stmt. stmt.text) (stmt_of n self.now.stmts) }
+    {
+        &self.stmt(n).text
+    }
+
+    /// What the statement was prepared on.
+    pub fn home(&self, n: u32) -> Home
+        requires { was_added n self.now.stmts ≡ true }
+        ensures { Some result ≡ option_map (λ stmt. stmt.home) (stmt_of n self.now.stmts) }
+    {
+        self.stmt(n).home
+    }
+
+    fn stmt(&self, n: u32) -> &Stmt
+        requires { was_added n self.now.stmts ≡ true }
+        ensures { Some result.now ≡ stmt_of n self.now.stmts }
+    {
+        self.stmts.get(&n).unwrap()
+    }
+}
+
+/// A list, filled with the live handles of a statement and their connections.
+fn pairs_of(n: u32, live: &IndexMap<(u32, u32), Prepared>, list: Pairs) -> Result<Pairs, Memory>
+    requires { list.items ≡ [] }
+    ensures ok { IfOk result (λ pairs. pairs.items ≡ handles_of n live.now.entries) }
+    ensures full { OnErr result (vec_capacity list < length live.now.entries) }
+{
+    let mut pairs = list;
+    for ((stmt, conn), prepared) in live {
+        if *stmt == n {
+            pairs.push((*conn, prepared.handle))?;
+        }
+    }
+    Ok(pairs)
+}
