@@ -1,1 +1,7 @@
 pub mod Changes
+pub mod Closes
+pub mod Counts
+pub mod HandedOut
+pub mod Handles
+pub mod OneEach
+pub mod Places

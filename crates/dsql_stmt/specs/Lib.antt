@@ -1,2 +1,4 @@
+pub mod Laws
 pub mod Lists
 pub mod Statements
+pub mod Worked

@@ -1,5 +1,5 @@
 -- Prepared statements by their numbers, and their live handles.
-use Rattle.std.specs.Prelude.{◌≡◌, ℕ, ◌+◌, ◌≤◌, ℤ, Bool, true, false, not, ◌&&◌, ◌==◌, if◌then◌else◌, List, [], ◌∷◌, ◌++◌, filter, map, count_by, Option, Some, None, is_none, is_some, Result, Ok, Err}
+use Rattle.std.specs.Prelude.{ℕ, ◌≤◌, ℤ, Bool, not, ◌&&◌, ◌==◌, if◌then◌else◌, List, [], ◌∷◌, filter, map, count_by, Option, Some, None, is_none, is_some, Result, Ok, Err}
 use Rattle.std.specs.Map.{lookup}
 use Rattle.std.specs.List.{list_any}
 use Rattle.std.specs.Option.{option_map}
@@ -56,15 +56,15 @@ live_handle n conn handle inputs = ((n, conn), record { handle = handle; inputs 
 
 -- it is that statement's
 abbrev pub is_of : ℕ → Live → Bool
-is_of n l = l.0.0 == n
+is_of n l = n == l.0.0
 
 -- it is on that connection
 abbrev pub is_on : ℕ → Live → Bool
-is_on conn l = l.0.1 == conn
+is_on conn l = conn == l.0.1
 
 -- it has that number, on that connection
 abbrev pub is_handle : ℕ → ℕ → Live → Bool
-is_handle conn handle l = is_on conn l && (l.1.handle == handle)
+is_handle conn handle l = is_on conn l && (handle == l.1.handle)
 
 abbrev pub is_place : ℕ → ℕ → (ℕ × ℕ) → Bool
 is_place n conn place = (n == place.0) && (conn == place.1)
@@ -96,7 +96,7 @@ without_conn conn live = filter (λ l. not (is_on conn l)) live
 
 -- a statement has at most one live handle on a connection, and a number is one handle's on a connection
 pub record IsOneEach (live : List Live) : Type 0 where
-  pub of_statement : (n conn : ℕ) → count_by (λ l. is_of n l && is_on conn l) live ≤ 1
+  pub of_statement : (n conn : ℕ) → count_by (λ l. is_place n conn l.0) live ≤ 1
   pub of_number : (conn handle : ℕ) → count_by (is_handle conn handle) live ≤ 1
 
 -- the statements in the order in which they were added, the live handles in the order in which they were

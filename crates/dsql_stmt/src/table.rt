@@ -28,7 +28,7 @@ pub struct Stmts {
 impl Model for Stmts {
     ghost use Rattle.std.specs.Prelude.{◌-◌, length, min};
     ghost use Rattle.indexmap.specs.IndexMap.{spare};
-    ghost use Rattle.dsql_stmt.specs.Statements.{Statements};
+    ghost use Rattle.dsql_stmt.specs.Statements.{Statements, IsOneEach};
 
     ghost Value = { Statements };
 
@@ -37,10 +37,12 @@ impl Model for Stmts {
       live = s.live.entries;
       spare = min (min (spare s.stmts) (spare s.live)) (min s.lists.count (s.lists.size - length s.live.entries));
     } };
+
+    ghost invariant = { λ s. IsOneEach s.live.entries };
 }
 
 impl Stmts {
-    ghost use Rattle.dsql_stmt.specs.Statements.{stmt_of, was_added, unclosed, changed, closed_by, answer_of, handle_on, is_live, live_handle, handed_out, without_handle, without_conn};
+    ghost use Rattle.dsql_stmt.specs.Statements.{stmt_of, was_added, unclosed, changed, closed_by, answer_of, handle_on, is_live, live_handle, handed_out, without_handle, without_conn, IsOneEach};
 
     /// No statements. It takes no memory.
     pub fn new(alloc: Global) -> Stmts
@@ -66,6 +68,14 @@ impl Stmts {
         self.stmts.reserve(calls)?;
         self.live.reserve(calls)?;
         self.lists.reserve(calls, self.live.len() + calls)
+    }
+
+    /// A statement has at most one live handle on a connection, and a handle's number there belongs to one
+    /// statement, as callers learn by this.
+    pub fn vouch(&self)
+        ensures { IsOneEach self.now.live }
+    {
+        let _count = self.live.len();
     }
 
     /// How many statements were added and how many of their handles are live, as one number.
@@ -122,7 +132,7 @@ impl Stmts {
     pub fn is_live(&self, conn: u32, handle: u32) -> bool
         ensures { result ≡ is_live conn handle self.now.live }
     {
-        self.live.iter().any(|(place, prepared)| place.1 == conn && prepared.handle == handle)
+        self.live.iter().any(|(place, prepared)| conn == place.1 && handle == prepared.handle)
     }
 
     /// Notes that a driver prepared the statement on a connection: the handle is live from now on.
@@ -178,8 +188,8 @@ impl Stmts {
     {
         self.live.retain(
             |place: &(u32, u32), prepared: &mut Prepared| -> bool
-                ensures { (result ≡ not ((place.now.1 == conn) && (prepared.old.handle == handle))) × (prepared.new ≡ prepared.old) }
-            { !(place.1 == conn && prepared.handle == handle) },
+                ensures { (result ≡ not ((conn == place.now.1) && (handle == prepared.old.handle))) × (prepared.new ≡ prepared.old) }
+            { !(conn == place.1 && handle == prepared.handle) },
         );
     }
 
@@ -191,8 +201,8 @@ impl Stmts {
     {
         self.live.retain(
             |place: &(u32, u32), prepared: &mut Prepared| -> bool
-                ensures { (result ≡ not (place.now.1 == conn)) × (prepared.new ≡ prepared.old) }
-            { place.1 != conn },
+                ensures { (result ≡ not (conn == place.now.1)) × (prepared.new ≡ prepared.old) }
+            { conn != place.1 },
         );
     }
 
@@ -228,7 +238,7 @@ fn pairs_of(n: u32, live: &IndexMap<(u32, u32), Prepared>, list: Pairs) -> Resul
 {
     let mut pairs = list;
     for ((stmt, conn), prepared) in live {
-        if *stmt == n {
+        if n == *stmt {
             pairs.push((*conn, prepared.handle))?;
         }
     }
