@@ -1,5 +1,5 @@
 -- Requests that wait, the oldest first.
-use Rattle.std.specs.Prelude.{ℕ, Bool, false, not, ◌==◌, List, [], ◌∷◌, filter, Option, Some, None}
+use Rattle.std.specs.Prelude.{ℕ, Bool, true, false, not, ◌&&◌, ◌==◌, List, [], ◌∷◌, filter, find, Option, Some, None}
 use Rattle.std.specs.List.{list_any}
 use Rattle.std.specs.Option.{option_map_or}
 use Rattle.std.specs.Str.{bytes_eq}
@@ -13,6 +13,15 @@ pub record Line : Type 0 where
 -- a request of that call waits
 abbrev pub waits : ℕ → List Request → Bool
 waits call requests = list_any (λ r. r.call == call) requests
+
+-- the request of that call, if it waits
+abbrev pub request_of : ℕ → List Request → Option Request
+request_of call requests = find (λ r. r.call == call) requests
+
+-- each call waits once
+abbrev pub are_distinct : List Request → Bool
+are_distinct [] = true
+are_distinct (r ∷ rs) = not (waits r.call rs) && are_distinct rs
 
 -- the request has a token of that name
 abbrev pub is_of : List ℕ → Request → Bool

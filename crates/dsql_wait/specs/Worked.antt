@@ -2,7 +2,7 @@
 use Rattle.std.specs.Prelude.{◌≡◌, ℕ, true, false, List, [], ◌∷◌, Option, None, Some, codes, count_by}
 use Rattle.dsql_journal.specs.declared.entry.Owner.TheVariants.{Call}
 use Rattle.dsql_wait.specs.declared.request.Request.{Request}
-use Rattle.dsql_wait.specs.Requests.{waits, is_of, oldest, younger, without_call, without_token}
+use Rattle.dsql_wait.specs.Requests.{waits, request_of, are_distinct, is_of, oldest, younger, without_call, without_token}
 
 abbrev pub asked_by : ℕ → Option (List ℕ) → Request
 asked_by n name = record { call = n; owner = Call n; last = false; token = name; asked = 0 }
@@ -25,6 +25,9 @@ pub record WorkedLines : Type 0 where
   pub then_second : oldest (younger three) ≡ Some second
   pub waits_there : waits 2 three ≡ true
   pub not_there : waits 4 three ≡ false
+  pub its_request : request_of 3 three ≡ Some third
+  pub no_request : request_of 4 three ≡ None
+  pub each_once : are_distinct three ≡ true
   pub second_leaves : without_call 2 three ≡ first ∷ third ∷ []
   pub another_leaves : without_call 4 three ≡ three
   pub all_of_a : without_token (codes "a") three ≡ second ∷ []

@@ -27,8 +27,13 @@ fn the_oldest_is_served_first(rt: HostRuntime) -> Result<(), Fail> {
     waiting.join(request(4, None))?;
     assert_eq!(rt; waiting.held(), 4);
     assert_eq!(rt; waiting.leave_all_of(&a), 2);
-    assert_eq!(rt; waiting.leave(4), true);
-    assert_eq!(rt; waiting.leave(4), false);
+    assert_eq!(rt; waiting.waits(4), true);
+    let left = waiting.leave(4);
+    assert!(rt; matches!(&left, Some(request) if request.call == 4));
+    assert_eq!(rt; waiting.waits(4), false);
+    let gone = waiting.leave(4);
+    assert!(rt; gone.is_none());
+    assert!(rt; matches!(waiting.oldest(), Some(request) if request.call == 2));
     let served = waiting.serve_oldest();
     assert!(rt; matches!(&served, Some(request) if request.call == 2));
     let none = waiting.serve_oldest();

@@ -1,5 +1,7 @@
-ghost use Rattle.std.specs.Prelude.{◌≡◌, ◌+◌, ◌≤◌, [], ◌∷◌, ◌++◌, length, min, false, OnOk, OnErr};
-ghost use Rattle.std.specs.List.{count_by};
+ghost use Rattle.std.specs.Prelude.{◌≡◌, ◌+◌, ◌<◌, ◌≤◌, [], ◌∷◌, ◌++◌, length, ◌==◌, min, false, OnOk, OnErr, IfSome};
+ghost use Rattle.std.specs.List.{count_by, position};
+ghost use Rattle.std.specs.Option.{option_copied};
+ghost use Rattle.std.specs.VecDeque.{deque_len};
 
 use crate::request::Request;
 use dsql_value::{Memory, Txt};
@@ -15,17 +17,19 @@ pub struct Waiting {
 }
 
 impl Model for Waiting {
-    ghost use Rattle.std.specs.Prelude.{◌-◌};
+    ghost use Rattle.std.specs.Prelude.{◌≡◌, ◌-◌, true};
     ghost use Rattle.std.specs.VecDeque.{deque_len, deque_capacity};
-    ghost use Rattle.dsql_wait.specs.Requests.{Line};
+    ghost use Rattle.dsql_wait.specs.Requests.{Line, are_distinct};
 
     ghost Value = { Line };
 
     ghost view = { λ w. record { requests = w.queue.items; spare = deque_capacity w.queue - deque_len w.queue } };
+
+    ghost invariant = { λ w. are_distinct w.queue.items ≡ true };
 }
 
 impl Waiting {
-    ghost use Rattle.dsql_wait.specs.Requests.{waits, is_of, oldest, younger, without_call, without_token};
+    ghost use Rattle.dsql_wait.specs.Requests.{waits, request_of, is_of, oldest, younger, without_call, without_token};
 
     /// Nobody waits. It takes no memory.
     pub fn new(alloc: Global) -> Waiting
@@ -58,15 +62,30 @@ impl Waiting {
         self.queue.pop_front()
     }
 
-    /// Takes a call's request out, and says whether it was there.
-    pub fn leave(&mut self, call: u32) -> bool
-        ensures was_there { result ≡ waits call self.old.requests }
+    /// The oldest request, if there is one.
+    pub fn oldest(&self) -> Option<&Request>
+        ensures { option_copied result ≡ oldest self.now.requests }
+    {
+        self.queue.front()
+    }
+
+    /// Takes a call's request out, if it waits.
+    pub fn leave(&mut self, call: u32) -> Option<Request>
+        ensures left { result ≡ request_of call self.old.requests }
         ensures others { self.new.requests ≡ without_call call self.old.requests }
         ensures spare { self.old.spare ≤ self.new.spare }
     {
-        let was_there = self.queue.iter().any(|request| request.call == call);
-        self.queue.retain(|request| request.call != call);
-        was_there
+        match place_of(&self.queue, call) {
+            Some(at) => self.queue.remove(at),
+            None => None,
+        }
+    }
+
+    /// A call's request waits.
+    pub fn waits(&self, call: u32) -> bool
+        ensures { result ≡ waits call self.now.requests }
+    {
+        self.queue.iter().any(|request| request.call == call)
     }
 
     /// Takes all requests with a token of that name out, and says how many there were; 4,294,967,295 stands
@@ -88,6 +107,7 @@ impl Waiting {
     /// Takes memory for so many calls more.
     pub fn reserve(&mut self, calls: u32) -> Result<(), Memory>
         ensures ok { OnOk result (calls ≤ self.new.spare) }
+        ensures full { OnErr result (self.old.spare < calls) }
         ensures requests { self.new.requests ≡ self.old.requests }
         ensures spare { self.old.spare ≤ self.new.spare }
     {
@@ -101,4 +121,12 @@ impl Waiting {
     {
         self.queue.len() as u64
     }
+}
+
+// The place of a call's request.
+fn place_of(queue: &VecDeque<Request>, call: u32) -> Option<usize>
+    ensures place { result ≡ position (λ request. request.call == call) queue.now.items }
+    ensures bound { IfSome result (λ at. at < deque_len queue.now) }
+{
+    queue.iter().position(|request| request.call == call)
 }
