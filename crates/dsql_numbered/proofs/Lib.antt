@@ -1,0 +1,4 @@
+pub mod Changes
+pub mod EachThing
+pub mod Numbers
+pub mod Kept
