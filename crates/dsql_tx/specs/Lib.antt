@@ -1,0 +1,3 @@
+pub mod Transactions
+pub mod Laws
+pub mod Worked

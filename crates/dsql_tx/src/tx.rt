@@ -1,0 +1,39 @@
+ghost use Rattle.std.specs.Prelude.{◌≡◌};
+ghost use Rattle.dsql_tx.specs.Transactions.{admitted, ended_by};
+
+use crate::end::{TxDone, TxEnd};
+use dsql_value::Txt;
+
+/// A transaction that was begun: its connection, the tenure of that, the name of the token that it was begun
+/// with, if there is one, and what ended it.
+#[derive(Drop)]
+pub struct Tx {
+    pub conn: u32,
+    pub tenure: u32,
+    pub token: Option<Txt>,
+    pub ended: Option<TxEnd>,
+}
+
+impl Tx {
+    /// Nothing has ended it.
+    pub fn admit(&self) -> Result<(), TxDone>
+        ensures { result ≡ admitted self.now }
+    {
+        match self.ended {
+            Some(by) => Err(TxDone { by }),
+            None => Ok(()),
+        }
+    }
+
+    /// Ends it, if nothing has.
+    pub fn end(&mut self, by: TxEnd) -> Result<(), TxDone>
+        ensures admits { result ≡ admitted self.old }
+        ensures tx { self.new ≡ ended_by by self.old }
+    {
+        let admits = self.admit();
+        if admits.is_ok() {
+            self.ended = Some(by);
+        }
+        admits
+    }
+}
