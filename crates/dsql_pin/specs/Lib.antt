@@ -1,0 +1,3 @@
+pub mod Pinned
+pub mod Laws
+pub mod Worked
