@@ -11,3 +11,6 @@ mod table;
 pub use fault::StmtClosed;
 pub use stmt::Home;
 pub use table::{Handles, Stmts};
+
+#[cfg(test)]
+mod tests;
