@@ -1,0 +1,4 @@
+pub mod Closed
+pub mod Due
+pub mod Found
+pub mod Rows

@@ -1,0 +1,11 @@
+pub mod Places
+pub mod Changes
+pub mod Counted
+pub mod Pooled
+pub mod Moved
+pub mod Decisions
+pub mod Calls
+pub mod Rest
+pub mod Runs
+pub mod Laws
+pub mod Worked

@@ -1,0 +1,90 @@
+-- The pool as one value, and what is read off it.
+use Rattle.std.specs.Prelude.{ℕ, Bool, false, not, ◌==◌, ◌&&◌, nat_le, cond, ◌+◌, ◌-◌, List, [], Option, length, filter, count_by}
+use Rattle.dsql_time.specs.declared.Limits.{Limits}
+use Rattle.dsql_wait.specs.declared.request.Request.{Request}
+use Rattle.dsql_pool.specs.declared.conn.Place.{Place}
+use Rattle.dsql_pool.specs.declared.conn.Conn.{Conn}
+use Rattle.dsql_pool.specs.declared.moves.Move.{Move}
+use Rattle.dsql_pool.specs.declared.stats.Counts.{Counts}
+use Rattle.dsql_pool.specs.declared.stats.Stats.{Stats}
+use Rattle.dsql_pool.specs.Counted.{no_counts}
+use Rattle.dsql_pool.specs.Places.{place_of, lends_of, is_free}
+
+pub record Pooled : Type 0 where
+  -- the open ones, in the order in which they began to be opened
+  pub conns : List Conn
+  -- how many were opened so far; they are numbered from 1
+  pub opened : ℕ
+  -- the longest idle first
+  pub idle : List ℕ
+  -- the oldest first
+  pub waiting : List Request
+  pub limits : Limits
+  -- nanoseconds
+  pub moment : ℕ
+  pub closed : Bool
+  pub counts : Counts
+  -- how many openings and lendings have begun
+  pub drawn : ℕ
+
+-- a pool, the moves that its newest call made, for how many more calls there is memory, and for how many moves of one call
+pub record Table : Type 0 where
+  pub pooled : Pooled
+  pub moves : List Move
+  pub spare : ℕ
+  pub capacity : ℕ
+
+-- two idle connections are kept, and nothing else is limited
+abbrev pub standard : Limits
+standard = record { max_open = 0; max_idle = 2; lifetime = 0; idle_time = 0 }
+
+-- a pool in which nothing has happened
+abbrev pub fresh : Pooled
+fresh = record { conns = []; opened = 0; idle = []; waiting = []; limits = standard; moment = 0; closed = false; counts = no_counts; drawn = 0 }
+
+-- the place of a connection, if it is open
+abbrev pub place_at : Pooled → ℕ → Option Place
+place_at p c = place_of c p.conns
+
+abbrev pub open_count : Pooled → ℕ
+open_count p = length p.conns
+
+-- how many are being opened for no request of their own
+abbrev pub free_openings : Pooled → ℕ
+free_openings p = count_by (λ conn. is_free conn.place) p.conns
+
+-- the number that the next opening gets
+abbrev pub next_number : Pooled → ℕ
+next_number p = p.opened + 1
+
+-- the number of its next tenure. Its Connect has 1, its kth lending k + 1, and its Shut the number after the last
+abbrev pub next_tenure : Pooled → ℕ → ℕ
+next_tenure p c = lends_of c p.conns + 2
+
+abbrev pub most_open : ℕ
+most_open = 1000
+
+-- the open limit is one that may be reached
+abbrev pub is_limited : Pooled → Bool
+is_limited p = nat_le 1 p.limits.max_open && nat_le p.limits.max_open most_open
+
+-- how many connections may be open
+abbrev pub room : Pooled → ℕ
+room p = cond (is_limited p) p.limits.max_open most_open
+
+abbrev pub without : ℕ → List ℕ → List ℕ
+without n ns = filter (λ m. not (m == n)) ns
+
+abbrev pub stats : Pooled → Stats
+stats p =
+    record {
+      max_open_connections = p.limits.max_open;
+      open_connections = open_count p;
+      in_use = open_count p - length p.idle;
+      idle = length p.idle;
+      wait_count = p.counts.waits;
+      wait_duration = p.counts.waited;
+      max_idle_closed = p.counts.idle_full;
+      max_idle_time_closed = p.counts.idle_time;
+      max_lifetime_closed = p.counts.lifetime;
+    }

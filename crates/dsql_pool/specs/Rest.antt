@@ -1,0 +1,47 @@
+-- What holds of the pool at rest.
+use Rattle.std.specs.Prelude.{◌≡◌, ◌==◌, ℕ, Bool, true, not, ◌&&◌, ◌||◌, nat_le, cond, length, count_by, is_none}
+use Rattle.std.specs.List.{list_all}
+use Rattle.dsql_journal.specs.Readers.{is_empty}
+use Rattle.dsql_pool.specs.Places.{conn_of, is_idle}
+use Rattle.dsql_pool.specs.Pooled.{Pooled, place_at, open_count, free_openings, room, most_open}
+use Rattle.dsql_pool.specs.Decisions.{cause_at}
+
+-- a connection is among the idle ones once where its place is idle, and else not at all
+abbrev pub IsPlaced : Pooled → Type 0
+IsPlaced p = (c : ℕ) → count_by (λ d. d == c) p.idle ≡ cond (is_idle (place_at p c)) 1 0
+
+-- at most a thousand are open, whatever the limits
+abbrev pub keeps_most : Pooled → Bool
+keeps_most p = nat_le (open_count p) most_open
+
+-- where more requests wait than openings are under way for none of their own, as many are open as may be
+abbrev pub opens_enough : Pooled → Bool
+opens_enough p = nat_le (length p.waiting) (free_openings p) || nat_le (room p) (open_count p)
+
+-- where a request waits that isn't its call's last try, none is idle
+abbrev pub serves_those_that_wait : Pooled → Bool
+serves_those_that_wait p = is_empty p.idle || list_all (λ r. r.last) p.waiting
+
+abbrev pub keeps_idle_limit : Pooled → Bool
+keeps_idle_limit p = nat_le (length p.idle) p.limits.max_idle
+
+-- no idle connection is past its idle time or its lifetime
+abbrev pub keeps_no_old_one : Pooled → Bool
+keeps_no_old_one p = list_all (λ c. is_none (cause_at p.limits p.moment (conn_of c p.conns))) p.idle
+
+-- once the database is closed none is idle, and no request waits
+abbrev pub is_empty_when_closed : Pooled → Bool
+is_empty_when_closed p = not p.closed || (is_empty p.idle && is_empty p.waiting)
+
+-- all of these, as one test
+abbrev pub is_at_rest : Pooled → Bool
+is_at_rest p = keeps_most p && opens_enough p && serves_those_that_wait p && keeps_idle_limit p && keeps_no_old_one p && is_empty_when_closed p
+
+pub record AtRest (p : Pooled) : Type 0 where
+  pub placed : IsPlaced p
+  pub most : keeps_most p ≡ true
+  pub enough : opens_enough p ≡ true
+  pub served : serves_those_that_wait p ≡ true
+  pub few : keeps_idle_limit p ≡ true
+  pub young : keeps_no_old_one p ≡ true
+  pub none : is_empty_when_closed p ≡ true

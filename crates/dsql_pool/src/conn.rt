@@ -1,0 +1,156 @@
+ghost use Rattle.std.specs.Prelude.{◌≡◌, ◌<◌, Some};
+ghost use Rattle.dsql_pool.specs.Changes.{opened_at, opening, lent, back, closing, unwanted, unwanted_by};
+ghost use Rattle.dsql_pool.specs.Places.{is_for, is_free, number_of};
+
+use dsql_journal::Owner;
+
+/// Where an open connection stands: in one of the four sets.
+#[derive(Clone, Copy, Debug, PartialEq, Eq)]
+pub enum Place {
+    /// It waits for a request.
+    Idle,
+    /// It is lent to this owner, in this tenure.
+    Lent(u32, Owner),
+    /// It is being opened, for the request of this owner or for none of its own.
+    Opening(Option<Owner>),
+    /// It is being closed.
+    Closing,
+}
+
+impl Place {
+    /// It is being opened for the request of this call.
+    pub fn is_for(&self, call: u32) -> bool
+        ensures { result ≡ is_for call self.now }
+    {
+        match self {
+            Place::Opening(Some(owner)) => number_of(*owner) == call,
+            _ => false,
+        }
+    }
+
+    /// It is being opened for no request of its own.
+    pub fn is_free(&self) -> bool
+        ensures { result ≡ is_free self.now }
+    {
+        matches!(self, Place::Opening(None))
+    }
+}
+
+/// The call of an owner, 0 for the House.
+pub fn number_of(owner: Owner) -> u32
+    ensures { result ≡ number_of owner }
+{
+    match owner {
+        Owner::Call(n) | Owner::Tx(n) | Owner::Pin(n) => n,
+        Owner::House => 0,
+    }
+}
+
+/// An open connection: its number, its place, how often it was lent, how often to an owner other than the
+/// House, and the moments at which it was opened and last given back, in nanoseconds.
+#[derive(Clone, Copy, Debug, PartialEq, Eq)]
+pub struct Conn {
+    pub number: u32,
+    pub place: Place,
+    pub lends: u32,
+    pub uses: u32,
+    pub created: u64,
+    pub returned: u64,
+}
+
+impl Conn {
+    /// One of that number that begins to be opened, for the request of an owner or for none of its own.
+    pub fn opening(number: u32, wanted: Option<Owner>) -> Conn
+        ensures { result ≡ opening number wanted }
+    {
+        Conn {
+            number,
+            place: Place::Opening(wanted),
+            lends: 0,
+            uses: 0,
+            created: 0,
+            returned: 0,
+        }
+    }
+
+    /// The same; an opening for the request of that call is for none now.
+    pub fn unwanted_by(self, call: u32) -> Conn
+        ensures { result ≡ unwanted_by call self }
+    {
+        if self.place.is_for(call) {
+            self.opening_for_none()
+        } else {
+            self
+        }
+    }
+
+    /// The same; an opening is for no request of its own now.
+    pub fn unwanted(self) -> Conn
+        ensures { result ≡ unwanted self }
+    {
+        match self.place {
+            Place::Opening(_) => self.opening_for_none(),
+            _ => self,
+        }
+    }
+
+    fn opening_for_none(self) -> Conn
+        ensures { result ≡ record self { place = Place.Opening None } }
+    {
+        Conn {
+            place: Place::Opening(None),
+            ..self
+        }
+    }
+
+    fn opened_at(&self, moment: u64) -> u64
+        ensures { result ≡ opened_at moment self.now }
+    {
+        match self.place {
+            Place::Opening(_) => moment,
+            _ => self.created,
+        }
+    }
+
+    /// The same, lent at this moment.
+    pub fn lent(self, tenure: u32, owner: Owner, moment: u64) -> Conn
+        requires lends { self.lends < 4294967295 }
+        requires uses { self.uses < 4294967295 }
+        ensures { result ≡ lent tenure owner moment self }
+    {
+        let uses = match owner {
+            Owner::House => self.uses,
+            _ => self.uses + 1,
+        };
+        Conn {
+            number: self.number,
+            place: Place::Lent(tenure, owner),
+            lends: self.lends + 1,
+            uses,
+            created: self.opened_at(moment),
+            returned: self.returned,
+        }
+    }
+
+    /// The same, given back at this moment.
+    pub fn back(self, moment: u64) -> Conn
+        ensures { result ≡ back moment self }
+    {
+        Conn {
+            place: Place::Idle,
+            created: self.opened_at(moment),
+            returned: moment,
+            ..self
+        }
+    }
+
+    /// The same, about to be shut.
+    pub fn closing(self) -> Conn
+        ensures { result ≡ closing self }
+    {
+        Conn {
+            place: Place::Closing,
+            ..self
+        }
+    }
+}

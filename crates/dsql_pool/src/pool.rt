@@ -1,0 +1,151 @@
+ghost use Rattle.std.specs.Prelude.{◌≡◌, ◌+◌, ◌<◌, ◌≤◌, [], length, OnOk, OnErr};
+
+mod asking;
+mod giving_back;
+mod leaving;
+mod making;
+mod opening;
+mod settings;
+mod statistics;
+mod ticks;
+
+use crate::conn::Place;
+use crate::conns::Conns;
+use crate::moves::Move;
+use crate::stats::Counts;
+use dsql_time::{Limits, standard};
+use dsql_value::Memory;
+use dsql_wait::Waiting;
+use std::alloc::Global;
+use std::marker::Model;
+
+/// The most connections that are open at a time, whatever the limits.
+pub const MOST_OPEN: u32 = 1000;
+
+// Beside the closings of all idle connections a call makes one move and the openings that are due.
+const MOST_OTHER_MOVES: usize = 1001;
+
+/// The pool. Contracts see it as one value, the moves that its newest call made, for how many more calls
+/// there is memory, and for how many moves of one call.
+///
+/// A call that makes moves keeps them, and `moves` shows them; so it takes no memory after `reserve`.
+#[derive(Drop)]
+pub struct Pool {
+    conns: Conns,
+    idle: Vec<u32>,
+    waiting: Waiting,
+    limits: Limits,
+    moment: u64,
+    closed: bool,
+    counts: Counts,
+    moves: Vec<Move>,
+}
+
+impl Model for Pool {
+    ghost use Rattle.std.specs.Prelude.{◌+◌, ◌-◌, length, min, nat_le, if◌then◌else◌, vec_len, vec_capacity};
+    ghost use Rattle.dsql_pool.specs.Pooled.{Table};
+
+    ghost Value = { Table };
+
+    ghost view = { λ p. record {
+      pooled = record {
+        conns = p.conns.conns;
+        opened = p.conns.opened;
+        idle = p.idle.items;
+        waiting = p.waiting.requests;
+        limits = p.limits;
+        moment = p.moment;
+        closed = p.closed;
+        counts = p.counts;
+        drawn = p.conns.drawn;
+      };
+      moves = p.moves.items;
+      spare = if nat_le 1000 p.conns.capacity then min p.waiting.spare (min (vec_capacity p.idle - vec_len p.idle) (vec_capacity p.moves - (1001 + vec_len p.idle))) else 0;
+      capacity = vec_capacity p.moves;
+    } };
+}
+
+impl Pool {
+    ghost use Rattle.dsql_pool.specs.Pooled.{fresh, open_count, place_at};
+
+    /// No connections, under the standard limits, at the moment 0. It takes no memory.
+    pub fn new(alloc: Global) -> Pool
+        ensures pooled { result.pooled ≡ fresh }
+        ensures moves { result.moves ≡ [] }
+    {
+        Pool {
+            conns: Conns::new(alloc),
+            idle: Vec::new(alloc),
+            waiting: Waiting::new(alloc),
+            limits: standard(),
+            moment: 0,
+            closed: false,
+            counts: Counts::none(),
+            moves: Vec::new(alloc),
+        }
+    }
+
+    /// Takes memory for so many calls more.
+    pub fn reserve(&mut self, calls: u32) -> Result<(), Memory>
+        ensures ok { OnOk result (calls ≤ self.new.spare) }
+        ensures full { OnErr result (self.old.spare < calls) }
+        ensures room { OnOk result (0 < calls → 1001 + length self.new.pooled.idle ≤ self.new.capacity) }
+        ensures pooled { self.new.pooled ≡ self.old.pooled }
+        ensures moves { self.new.moves ≡ self.old.moves }
+        ensures spare { self.old.spare ≤ self.new.spare }
+    {
+        if calls == 0 {
+            return Ok(());
+        }
+        self.conns.reserve(MOST_OPEN)?;
+        self.waiting.reserve(calls)?;
+        self.idle.reserve(calls as usize)?;
+        let most = MOST_OTHER_MOVES + self.idle.len() + calls as usize;
+        self.moves.reserve(most.saturating_sub(self.moves.len()))?;
+        Ok(())
+    }
+
+    // There is memory for a call, which has made no move yet.
+    fn make_ready(&mut self) -> Result<(), Memory>
+        ensures ok { OnOk result (0 < self.new.spare) }
+        ensures room { OnOk result (1001 + length self.new.pooled.idle ≤ self.new.capacity) }
+        ensures full { OnErr result (self.old.spare ≡ 0) }
+        ensures pooled { self.new.pooled ≡ self.old.pooled }
+        ensures moves { self.new.moves ≡ [] }
+        ensures spare { self.old.spare ≤ self.new.spare }
+    {
+        self.moves.clear();
+        self.reserve(1)
+    }
+
+    /// How many connections are open, in any of the four sets.
+    pub fn held(&self) -> u64
+        ensures { result ≡ open_count self.now.pooled }
+    {
+        self.conns.count()
+    }
+
+    /// How many openings and lendings have begun.
+    pub fn drawn(&self) -> u32
+        ensures { result ≡ self.now.pooled.drawn }
+    {
+        self.conns.drawn()
+    }
+
+    /// Where a connection stands, if it is open.
+    pub fn place(&self, conn: u32) -> Option<Place>
+        ensures { result ≡ place_at self.now.pooled conn }
+    {
+        match self.conns.at(conn) {
+            Some(row) => Some(row.place),
+            None => None,
+        }
+    }
+
+    /// The moves that the newest call made, in their order.
+    pub fn moves(&self) -> &[Move]
+        ensures { result.now ≡ self.now.moves }
+    {
+        self.moves.as_slice()
+    }
+}

@@ -1,0 +1,198 @@
+//! The moves, each made and noted.
+ghost use Rattle.std.specs.Prelude.{◌≡◌, ◌+◌, ◌<◌, ◌≤◌, ◌∷◌, [], ◌++◌, length, None};
+
+use crate::lists::remove_number;
+use crate::moves::{CloseCause, Move};
+use crate::pool::Pool;
+use dsql_journal::Owner;
+
+impl Pool {
+    ghost use Rattle.dsql_pool.specs.Pooled.{open_count, next_number, next_tenure};
+    ghost use Rattle.dsql_pool.specs.Moved.{moved, left, begun, lent_out};
+    ghost use Rattle.dsql_pool.specs.declared.moves.Move.{Move};
+    ghost use Rattle.dsql_pool.specs.declared.moves.Move.TheVariants.{OpenStart, Lend, Back, CloseStart, Gone, Fell};
+
+    // A move is noted, for which there is memory.
+    pub(super) fn note(&mut self, done: Move)
+        requires { length self.old.moves < self.old.capacity }
+        ensures moves { self.new.moves ≡ self.old.moves ++ done ∷ [] }
+        ensures len { length self.new.moves ≡ length self.old.moves + 1 }
+        ensures pooled { self.new.pooled ≡ self.old.pooled }
+        ensures spare { self.old.spare ≤ self.new.spare }
+        ensures capacity { self.old.capacity ≤ self.new.capacity }
+    {
+        match self.moves.push(done) {
+            Ok(()) => {}
+            Err(_) => unreachable!(),
+        }
+    }
+
+    // The number of a connection's next tenure.
+    pub(super) fn next_tenure(&self, conn: u32) -> u32
+        requires { self.now.pooled.drawn ≤ 4000000000 }
+        ensures { result ≡ next_tenure self.now.pooled conn }
+    {
+        match self.conns.at(conn) {
+            Some(row) => row.lends + 2,
+            None => 2,
+        }
+    }
+
+    // A connection is lent, whoever waits.
+    fn lend(&mut self, conn: u32, tenure: u32, owner: Owner)
+        requires { self.old.pooled.drawn < 4294967290 }
+        ensures pooled { self.new.pooled ≡ lent_out conn tenure owner self.old.pooled }
+        ensures moves { self.new.moves ≡ self.old.moves }
+        ensures spare { self.old.spare ≤ self.new.spare }
+        ensures capacity { self.new.capacity ≡ self.old.capacity }
+    {
+        self.conns.lend(conn, tenure, owner, self.moment);
+        remove_number(&mut self.idle, conn);
+    }
+
+    // A call waits no longer, if it did.
+    pub(super) fn leave(&mut self, call: u32)
+        ensures pooled { self.new.pooled ≡ left call self.old.pooled }
+        ensures moves { self.new.moves ≡ self.old.moves }
+        ensures spare { self.old.spare ≤ self.new.spare }
+        ensures capacity { self.new.capacity ≡ self.old.capacity }
+    {
+        let request = self.waiting.leave(call);
+        self.counts = self.counts.with_wait_over(self.moment, &request);
+    }
+
+    // A connection is lent to an owner for a call, which waits no longer.
+    pub(super) fn make_lend(&mut self, conn: u32, owner: Owner, call: u32)
+        requires space { length self.old.moves < self.old.capacity }
+        requires drawn { self.old.pooled.drawn ≤ 4000000000 }
+        ensures pooled { self.new.pooled ≡ moved (Lend conn (next_tenure self.old.pooled conn) owner call) self.old.pooled }
+        ensures moves { self.new.moves ≡ self.old.moves ++ Lend conn (next_tenure self.old.pooled conn) owner call ∷ [] }
+        ensures spare { self.old.spare ≤ self.new.spare }
+    {
+        let tenure = self.next_tenure(conn);
+        self.note(Move::Lend {
+            conn,
+            tenure,
+            owner,
+            call,
+        });
+        self.lend(conn, tenure, owner);
+        self.leave(call);
+    }
+
+    fn rest(&mut self, conn: u32)
+        requires { 0 < self.old.spare }
+        ensures pooled { self.new.pooled ≡ moved (Back conn) self.old.pooled }
+        ensures moves { self.new.moves ≡ self.old.moves }
+        ensures spare { self.old.spare ≤ self.new.spare + 1 }
+        ensures capacity { self.new.capacity ≡ self.old.capacity }
+    {
+        match self.idle.push(conn) {
+            Ok(()) => {}
+            Err(_) => unreachable!(),
+        }
+        self.conns.back(conn, self.moment);
+    }
+
+    // A connection becomes idle, from lent or from opening.
+    pub(super) fn make_back(&mut self, conn: u32)
+        requires room { 0 < self.old.spare }
+        requires space { length self.old.moves < self.old.capacity }
+        ensures pooled { self.new.pooled ≡ moved (Back conn) self.old.pooled }
+        ensures moves { self.new.moves ≡ self.old.moves ++ Back conn ∷ [] }
+        ensures len { length self.new.moves ≡ length self.old.moves + 1 }
+        ensures spare { self.old.spare ≤ self.new.spare + 1 }
+        ensures capacity { self.old.capacity ≤ self.new.capacity }
+    {
+        self.note(Move::Back { conn });
+        self.rest(conn);
+    }
+
+    // A connection begins to be closed.
+    pub(super) fn start_closing(&mut self, conn: u32, cause: CloseCause)
+        ensures pooled { self.new.pooled ≡ moved (CloseStart conn cause) self.old.pooled }
+        ensures moves { self.new.moves ≡ self.old.moves }
+        ensures spare { self.old.spare ≤ self.new.spare }
+        ensures capacity { self.new.capacity ≡ self.old.capacity }
+    {
+        self.conns.close(conn);
+        remove_number(&mut self.idle, conn);
+        self.counts = self.counts.with_closed(cause);
+    }
+
+    pub(super) fn make_closing(&mut self, conn: u32, cause: CloseCause)
+        requires { length self.old.moves < self.old.capacity }
+        ensures pooled { self.new.pooled ≡ moved (CloseStart conn cause) self.old.pooled }
+        ensures moves { self.new.moves ≡ self.old.moves ++ CloseStart conn cause ∷ [] }
+        ensures spare { self.old.spare ≤ self.new.spare }
+    {
+        self.note(Move::CloseStart { conn, cause });
+        self.start_closing(conn, cause);
+    }
+
+    fn remove(&mut self, conn: u32)
+        ensures pooled { self.new.pooled ≡ moved (Gone conn) self.old.pooled }
+        ensures moves { self.new.moves ≡ self.old.moves }
+        ensures spare { self.old.spare ≤ self.new.spare }
+        ensures capacity { self.new.capacity ≡ self.old.capacity }
+    {
+        self.conns.remove(conn);
+    }
+
+    // A connection that was shut is no more.
+    pub(super) fn make_gone(&mut self, conn: u32)
+        requires { length self.old.moves < self.old.capacity }
+        ensures pooled { self.new.pooled ≡ moved (Gone conn) self.old.pooled }
+        ensures moves { self.new.moves ≡ self.old.moves ++ Gone conn ∷ [] }
+        ensures len { length self.new.moves ≡ length self.old.moves + 1 }
+        ensures spare { self.old.spare ≤ self.new.spare }
+        ensures capacity { self.old.capacity ≤ self.new.capacity }
+    {
+        self.note(Move::Gone { conn });
+        self.remove(conn);
+    }
+
+    // A connection couldn't be opened, and the fault falls to a call, which waits no longer.
+    pub(super) fn make_fell(&mut self, conn: u32, call: u32)
+        requires { length self.old.moves < self.old.capacity }
+        ensures pooled { self.new.pooled ≡ moved (Fell conn call) self.old.pooled }
+        ensures moves { self.new.moves ≡ self.old.moves ++ Fell conn call ∷ [] }
+        ensures len { length self.new.moves ≡ length self.old.moves + 1 }
+        ensures spare { self.old.spare ≤ self.new.spare }
+        ensures capacity { self.old.capacity ≤ self.new.capacity }
+    {
+        self.note(Move::Fell { conn, call });
+        self.remove(conn);
+        self.leave(call);
+    }
+
+    // An opening begins, for the request of an owner or for none of its own.
+    fn begin(&mut self, wanted: Option<Owner>)
+        requires room { 0 < self.old.spare }
+        requires few { open_count self.old.pooled < 1000 }
+        requires drawn { self.old.pooled.drawn < 4294967290 }
+        ensures pooled { self.new.pooled ≡ begun wanted self.old.pooled }
+        ensures moves { self.new.moves ≡ self.old.moves }
+        ensures spare { self.old.spare ≤ self.new.spare }
+        ensures capacity { self.new.capacity ≡ self.old.capacity }
+    {
+        self.conns.begin(wanted);
+    }
+
+    // An opening begins for a call, where that is the number of an owner, or for none of its own.
+    pub(super) fn make_opening(&mut self, wanted: Option<Owner>, call: u32)
+        requires room { 0 < self.old.spare }
+        requires few { open_count self.old.pooled < 1000 }
+        requires space { length self.old.moves < self.old.capacity }
+        requires drawn { self.old.pooled.drawn < 4294967290 }
+        ensures pooled { self.new.pooled ≡ begun wanted self.old.pooled }
+        ensures moves { self.new.moves ≡ self.old.moves ++ OpenStart (next_number self.old.pooled) call ∷ [] }
+        ensures len { length self.new.moves ≡ length self.old.moves + 1 }
+        ensures spare { self.old.spare ≤ self.new.spare }
+        ensures capacity { self.old.capacity ≤ self.new.capacity }
+    {
+        let conn = self.conns.next_number();
+        self.note(Move::OpenStart { conn, call });
+        self.begin(wanted);
+    }
+}
