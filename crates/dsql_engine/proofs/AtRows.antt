@@ -54,10 +54,6 @@ works_which (Fetch j) k a u = let same : j ≡ k = u 0 in (true, ap (λ i. Fetch
 works_which (Close j) k a u = let same : j ≡ k = u 0 in (false, ap (λ i. Close i) same)
 works_which Look k a u = let zero_is : 0 ≡ k = u 0 in let one_is : 1 ≡ k = u 1 in absurd (omega (arith, zero_is, one_is))
 
-works_on_it : (live : Bool) (it : Work) (k : ℕ) → Works live it k → works_on k it ≡ true
-works_on_it true it k h = ap (works_on k) h ∙ same_to_itself k
-works_on_it false it k h = ap (works_on k) h ∙ same_to_itself k
-
 works_beside : (live : Bool) (it : Work) (k j : ℕ) → Works live it k → k ≢ j → works_on j it ≡ false
 works_beside true it k j h off = ap (works_on j) h ∙ unlike k j off
   where
@@ -211,15 +207,6 @@ uses_rows : (H : List Event) (client n : ℕ) (op : Op) (k : ℕ) → Lawful H �
 uses_rows H client n op k l s lawful new turn undecided asking uses =
     let w = works_which (work_of (works H) op) k asking uses in
     uses_when H client n op k w.0 l s lawful new turn undecided w.1 (works_entered w.0 (work_of (works H) op) (work (Entered client n op ∷ H) n) k (work_entered H client n op l new) w.1)
-
--- what that call asked is as before
-asked_still : (H : List Event) (client n : ℕ) (op : Op) (k t : ℕ) → Lawful H → n ≡ next_call H → place (Entered client n op ∷ H) (home (Entered client n op ∷ H) k) ≡ Lent t (Call k)
-    → asked_by H k ≡ asked_by (Entered client n op ∷ H) k
-asked_still H client n op k t l new is =
-    let s = sound_calls H l in
-    let there : place H (home H k) ≡ Lent t (Call k) = ap (place H) (sym (entered_home H client n op k)) ∙ is in
-    let w = s.entered_ones (home H k) k (lent_for H (home H k) t k there) in
-    sym (asked_before H client n op k s new w.1)
 
 -- What holds of connection c, which is lent in tenure t, where call k's rows keep it and another call works on them.
 pub record UsesThere (G : List Event) (k c t : ℕ) : Type 0 where

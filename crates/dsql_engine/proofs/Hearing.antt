@@ -8,7 +8,6 @@ use Rattle.dsql_driver.specs.declared.call.DriverCall.TheVariants.{Valid, Query,
 use Rattle.dsql_driver.specs.declared.call.Input.{Input}
 use Rattle.dsql_driver.specs.declared.call.Input.TheVariants.{Text, Handle}
 use Rattle.dsql_driver.specs.declared.answer.DriverAnswer.{DriverAnswer}
-use Rattle.dsql_driver.specs.Fits.{is_invalid}
 use Rattle.dsql_course.specs.declared.call.Due.{Due}
 use Rattle.dsql_course.specs.declared.call.Due.TheVariants as due
 use Rattle.dsql_course.specs.declared.course.Wish.{Wish}
@@ -212,9 +211,6 @@ pub bad_heard : (H : List Event) (c t n m : ℕ) (q : DriverCall) (a : DriverAns
 bad_heard H c t n m q a l is due =
     let g = good_while_due H c t n l is (some_of _ q due) in
     rw (same_to_itself c, g.0) (or_false (is_bad a))
-
-pub invalid_heard : (H : List Event) (c t n m : ℕ) (q : DriverCall) (a : DriverAnswer) → is_invalid a ≡ ends_invalid (journal (Heard (sent_entry c t n m q a) ∷ H) c)
-invalid_heard H c t n m q a = rw (same_to_itself c) refl
 
 -- what the rows need where it is noted: a query makes its rows once, and a fetch is of live rows
 

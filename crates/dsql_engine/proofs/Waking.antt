@@ -9,10 +9,10 @@ use Rattle.dsql_journal.specs.Readers.{has, is_empty}
 use Rattle.dsql_history.specs.declared.event.Event.{Event}
 use Rattle.dsql_history.specs.declared.event.Event.TheVariants.{Replied}
 use Rattle.dsql_history.specs.declared.record.Place.{Place}
-use Rattle.dsql_history.specs.declared.record.Place.TheVariants.{Nowhere, Opening, Idle, Lent, Closing}
+use Rattle.dsql_history.specs.declared.record.Place.TheVariants.{Nowhere, Lent}
 use Rattle.dsql_history.specs.declared.reply.Reply.{Reply}
 use Rattle.dsql_history.specs.Readers.Course.{caps}
-use Rattle.dsql_history.specs.Readers.Sets.{place, is_open, is_opening, is_lent, is_for, number_of}
+use Rattle.dsql_history.specs.Readers.Sets.{place, is_open, is_for, number_of}
 use Rattle.dsql_history.specs.Readers.Works.{work, asks}
 use Rattle.dsql_history.specs.Readers.Unfinished.{is_unfinished}
 use Rattle.dsql_history.specs.Readers.Journals.{heard_in}
@@ -60,14 +60,6 @@ woken_owner H n t o l s u a is =
 pub due_parked : (H : List Event) (c t n : ℕ) → Lawful H → place H c ≡ Lent t (Call n) → heard_in H c t ≡ []
     → due H c t n ≡ cond (is_reset_due H c) (Some Reset) (body_after (caps H) (asked_by H n) (wish H n) (made H c))
 due_parked H c t n l is none = line_first (caps H) (is_reset_due H c) (asked_by H n) (wish H n) (heard_in H c t) (made H c) none (made_lent H l c t n is)
-
--- the place of a connection that is for nobody
-pub for_nobody : (p : Place) (n : ℕ) → is_opening p ≡ false → is_lent p ≡ false → is_for n p ≡ false
-for_nobody Nowhere n o l = refl
-for_nobody (Opening m) n o l = absurd cc
-for_nobody Idle n o l = refl
-for_nobody (Lent t k) n o l = absurd cc
-for_nobody Closing n o l = refl
 
 pub may_tell_fallen : (H : List Event) (n : ℕ) (r : Reply) → Settled H → is_empty H ≡ false → is_unfinished H n ≡ true → asks (work H n) ≡ true → is_for n (place H (home H n)) ≡ false
     → reply_due H n ≡ Some r → Allowed H (Replied n r)

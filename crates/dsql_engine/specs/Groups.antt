@@ -101,15 +101,6 @@ after_heard past e = after_answer (place past e.conn) e (Heard e ∷ past)
 abbrev pub call_of : List Event → ℕ → Option ℕ
 call_of past client = find (λ n. (call_record past n).client == client) (unfinished past)
 
-abbrev pub after_wake_at : Place → ℕ → List Event → List Event
-after_wake_at (Opening m) n past = past
-after_wake_at (Lent tenure owner) n past = after_using (home past n) tenure n past
-after_wake_at _ n past = told n past
-
--- a call that waited looks at its connection: it uses one that was lent to it, and replies where it was refused
-abbrev pub after_wake : List Event → ℕ → List Event
-after_wake past n = after_wake_at (place past (home past n)) n past
-
 -- the idle connections begin to close, in this order
 abbrev pub closings : List ℕ → List Event → List Event
 closings [] past = past
@@ -122,3 +113,7 @@ after_end past = closings (idle past) (Ended ∷ past)
 -- a run stops at so many events
 abbrev pub most_events : ℕ
 most_events = 4000000
+
+-- the steps are proved where there are fewer than these, so that what one appends still counts
+abbrev pub most_within_a_step : ℕ
+most_within_a_step = 5000000

@@ -19,6 +19,7 @@ use Rattle.dsql_history.specs.Readers.Calls.{statement, params_at_entry, told_of
 use Rattle.dsql_history.specs.Rules.Line.{Asked, aim_of}
 use Rattle.dsql_history.specs.Rules.Numbers.{takes_turn}
 use Rattle.dsql_history.specs.Rules.Settled.{Settled}
+use Rattle.dsql_engine.specs.Groups.{most_events}
 use Rattle.dsql_engine.specs.declared.statement.Statement.{Statement}
 use Rattle.dsql_engine.specs.declared.statement.CallStart.{CallStart}
 use Rattle.dsql_engine.specs.declared.statement.Entering.{Entering}
@@ -83,7 +84,7 @@ pub record MayEnter (past : List Event) (client : ℕ) (op : Op) : Type 0 where
   pub free : is_busy client past ≡ false
   pub running : has_ended past ≡ false
   pub turn : takes_turn past op ≡ true
-  pub few : length past < 4000000
+  pub few : length past < most_events
 
 -- what is kept of a call that enters
 pub record Starts (past : List Event) (op : Op) (it : CallStart) : Type 0 where

@@ -11,7 +11,7 @@ ghost use Rattle.dsql_value.specs.declared.value.Param.{Param};
 ghost use Rattle.dsql_engine.specs.Statements.{Starts};
 ghost use Rattle.dsql_engine.specs.Rows.{HearsRows};
 ghost use Rattle.dsql_history.specs.Readers.Course.{caps};
-ghost use Rattle.dsql_engine.specs.Groups.{told};
+ghost use Rattle.dsql_engine.specs.Groups.{told, most_within_a_step};
 ghost use Rattle.dsql_history.specs.declared.event.Move.{Move};
 ghost use Rattle.dsql_history.specs.declared.reply.Reply.{Reply};
 ghost use Rattle.dsql_journal.specs.declared.entry.Owner.TheVariants.{Call};
@@ -116,7 +116,7 @@ impl Desk {
     pub fn lend(&mut self, c: u32, tenure: u32, n: u32)
         requires stands { Stands self.old }
         requires paid { 0 < self.old.paid }
-        requires few { length (past self.old) < 5000000 }
+        requires few { length (past self.old) < most_within_a_step }
         requires allowed { Allowed (past self.old) (Event.Pool (Move.Lend c tenure (Call n) n)) }
         ensures stands { Stands self.new }
         ensures paid { self.new.paid + 1 ≡ self.old.paid }

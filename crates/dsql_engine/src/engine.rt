@@ -17,6 +17,9 @@ use dsql_journal::Entry;
 use std::alloc::Global;
 use std::marker::Model;
 
+/// How many events a run may have.
+const MAX_EVENTS: usize = 4_000_000;
+
 /// A run of the layer. Contracts see it as its history, the newest event first.
 #[derive(Drop)]
 pub struct Engine {
@@ -140,7 +143,7 @@ impl Engine {
     pub fn is_full(&self) -> bool
         ensures { IsTrue result ↔ (most_events ≤ length self.now) }
     {
-        self.desk.history.len() >= 4_000_000
+        self.desk.history.len() >= MAX_EVENTS
     }
 
     /// All that happened, oldest first.

@@ -6,6 +6,7 @@ ghost use Rattle.dsql_history.specs.Readers.Works.{maker, works, has_label};
 ghost use Rattle.dsql_history.specs.Readers.HandedOut.{handed_out};
 ghost use Rattle.dsql_history.specs.Readers.Calls.{scan_reply, fault_reply, told_row};
 ghost use Rattle.dsql_engine.specs.Desk.{past, Stands};
+ghost use Rattle.dsql_engine.specs.Groups.{most_within_a_step};
 ghost use Rattle.dsql_engine.specs.Statements.{Enters, EntersText, Goes, IsNamed, NoneNamed, IsLook};
 ghost use Rattle.dsql_history.specs.declared.event.Op.TheVariants as ops;
 
@@ -24,7 +25,7 @@ impl Desk {
     /// What an operation does as it enters.
     pub fn entering(&self, alloc: Global, op: &Op) -> Result<Entering, NoRoom>
         requires stands { Stands self.now }
-        requires few { length (past self.now) < 5000000 }
+        requires few { length (past self.now) < most_within_a_step }
         ensures { IfOk result (λ it. Enters (past self.now) op.now it) }
     {
         match op {
@@ -74,7 +75,7 @@ impl Desk {
     /// `Rows.Next`.
     fn entering_next(&self, alloc: Global, label: &Txt) -> Result<Entering, NoRoom>
         requires stands { Stands self.now }
-        requires few { length (past self.now) < 5000000 }
+        requires few { length (past self.now) < most_within_a_step }
         ensures { IfOk result (λ it. Enters (past self.now) (ops.Next label.now) it) }
     {
         let then = match self.rows_named(label) {
@@ -94,7 +95,7 @@ impl Desk {
     #[tactic(auto, using(crate::proofs::CloseAtEntry::closes_as_entered, crate::proofs::CloseAtEntry::closes_made), unfolding(crate::specs::Desk::Stands))]
     fn entering_close(&self, alloc: Global, label: &Txt) -> Result<Entering, NoRoom>
         requires stands { Stands self.now }
-        requires few { length (past self.now) < 5000000 }
+        requires few { length (past self.now) < most_within_a_step }
         ensures { IfOk result (λ it. Enters (past self.now) (ops.RowsClose label.now) it) }
     {
         let closes = self.rows_named(label);
@@ -124,7 +125,7 @@ impl Desk {
     /// `Rows.Scan`.
     fn entering_scan(&self, alloc: Global, label: &Txt, dests: &[Dest]) -> Result<Entering, NoRoom>
         requires stands { Stands self.now }
-        requires few { length (past self.now) < 5000000 }
+        requires few { length (past self.now) < most_within_a_step }
         ensures { IfOk result (λ it. Enters (past self.now) (ops.Scan label.now dests.now) it) }
     {
         let reply = match self.rows_named(label) {
@@ -137,7 +138,7 @@ impl Desk {
     /// `Rows.Err`.
     fn entering_err(&self, alloc: Global, label: &Txt) -> Result<Entering, NoRoom>
         requires stands { Stands self.now }
-        requires few { length (past self.now) < 5000000 }
+        requires few { length (past self.now) < most_within_a_step }
         ensures { IfOk result (λ it. Enters (past self.now) (ops.Err label.now) it) }
     {
         let reply = match self.rows_named(label) {
@@ -150,7 +151,7 @@ impl Desk {
     /// The first call whose rows have the label, 0 where there is none.
     fn maker(&self, label: &Txt) -> u32
         requires stands { Stands self.now }
-        requires few { length (past self.now) < 5000000 }
+        requires few { length (past self.now) < most_within_a_step }
         ensures { result ≡ maker (works (past self.now)) label.now }
     {
         match self.first_labelled(label) {
@@ -170,7 +171,7 @@ impl Desk {
     /// The call whose rows have the label, where they are there and it has replied.
     fn rows_named(&self, label: &Txt) -> Option<u32>
         requires stands { Stands self.now }
-        requires few { length (past self.now) < 5000000 }
+        requires few { length (past self.now) < most_within_a_step }
         ensures some { IfSome result (λ k. IsNamed (past self.now) label.now k) }
         ensures none { IfNone result (NoneNamed (past self.now) label.now) }
     {

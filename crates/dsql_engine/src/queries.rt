@@ -3,7 +3,7 @@ ghost use Rattle.std.specs.Prelude.{◌≡◌, ◌≢◌, ◌||◌, ◌+◌, ◌
 ghost use Rattle.dsql_engine.specs.Statements.{statement_of};
 ghost use Rattle.dsql_history.specs.Readers.Course.{caps, has_ended};
 ghost use Rattle.dsql_history.specs.Readers.Sets.{place, number_of, places, idle, open_count, next_number, next_tenure, uses};
-ghost use Rattle.dsql_history.specs.Readers.Calls.{home, next_call, is_busy, worker, sender, reply_due, reply_to, fetch_decision, query_decision, told_row, word_of};
+ghost use Rattle.dsql_history.specs.Readers.Calls.{home, next_call, worker, sender, reply_due, reply_to, fetch_decision, query_decision, told_row, word_of};
 ghost use Rattle.dsql_history.specs.Rules.Limit.{room};
 ghost use Rattle.dsql_history.specs.Readers.Unfinished.{unfinished, is_unfinished};
 ghost use Rattle.dsql_history.specs.Readers.Works.{work, works_on};
@@ -21,7 +21,7 @@ ghost use Rattle.dsql_history.specs.Rules.Causes.{cause_when};
 ghost use Rattle.dsql_driver.specs.Fits.{is_invalid, is_done};
 ghost use Rattle.dsql_journal.specs.Kinds.{is_bad, is_valid};
 ghost use Rattle.dsql_engine.specs.Desk.{past, Stands};
-ghost use Rattle.dsql_engine.specs.Groups.{call_of};
+ghost use Rattle.dsql_engine.specs.Groups.{call_of, most_within_a_step};
 ghost use Rattle.dsql_engine.specs.Awaited.{awaited, shut_permit, connect_permit};
 ghost use Rattle.dsql_history.specs.Rules.Settled.{Settled};
 ghost use Rattle.dsql_engine.specs.Latest.{latest, oldest};
@@ -31,7 +31,7 @@ use crate::next::NoRoom;
 use crate::statement::Statement;
 use dsql_course::{Course, Due, Progress, Wish};
 use dsql_driver::{Caps, DriverAnswer, DriverCall, Input};
-use dsql_history::{Aim, CloseCause, FaultWord, Place, Reply, Work};
+use dsql_history::{Aim, CloseCause, FaultWord, MAX_IDLE, MAX_OPEN, Place, Reply, Work};
 use dsql_journal::{Entry, Owner, Permit};
 use dsql_scan::{Dest, RowFault, ScanFault, scan_row};
 use dsql_value::{Items, Memory, Params, Txt, Value};
@@ -39,16 +39,6 @@ use std::alloc::Global;
 
 #[tactic(auto, unfolding(crate::specs::Desk::Stands))]
 impl Desk {
-    /// Whether the client has an unfinished call.
-    pub fn is_busy(&self, client: u8) -> bool
-        requires { Stands self.now }
-        ensures { result ≡ is_busy client (past self.now) }
-    {
-        self.unfinished
-            .iter()
-            .any(|n| client_of(&self.calls, *n) == client)
-    }
-
     /// The unfinished call of a client.
     pub fn call_of(&self, client: u8) -> Option<u32>
         requires { Stands self.now }
@@ -63,7 +53,7 @@ impl Desk {
     /// The number that the next call gets.
     pub fn next_call(&self) -> u32
         requires stands { Stands self.now }
-        requires few { length (past self.now) < 5000000 }
+        requires few { length (past self.now) < most_within_a_step }
         ensures { result ≡ next_call (past self.now) }
     {
         self.calls.len() as u32
@@ -72,7 +62,7 @@ impl Desk {
     /// The number that the next connection gets.
     pub fn next_number(&self) -> u32
         requires stands { Stands self.now }
-        requires few { length (past self.now) < 5000000 }
+        requires few { length (past self.now) < most_within_a_step }
         ensures { result ≡ next_number (past self.now) }
     {
         self.places.len() as u32
@@ -81,7 +71,7 @@ impl Desk {
     /// The number of a connection's next tenure.
     pub fn next_tenure(&self, c: u32) -> u32
         requires stands { Stands self.now }
-        requires few { length (past self.now) < 5000000 }
+        requires few { length (past self.now) < most_within_a_step }
         ensures { result ≡ next_tenure (past self.now) c }
     {
         count_of(&self.lends, c) + 2
@@ -124,7 +114,7 @@ impl Desk {
         requires { Stands self.now }
         ensures { result ≡ nat_lt (open_count (past self.now)) room }
     {
-        self.places.iter().filter(|p| is_open(**p)).count() < 1000
+        self.places.iter().filter(|p| is_open(**p)).count() < MAX_OPEN
     }
 
     /// Where a connection stands.
@@ -336,7 +326,7 @@ impl Desk {
     pub fn tidy_permit(&self, alloc: Global, c: usize) -> Result<Permit, NoRoom>
         requires stands { Stands self.now }
         requires settled { Settled (past self.now) }
-        requires few { length (past self.now) < 5000000 }
+        requires few { length (past self.now) < most_within_a_step }
         requires due { tidy_due (past self.now) ≡ Some c }
         requires untidy { is_untidy (past self.now) (place (past self.now) c) ≡ true }
         ensures { IfOk result (λ permit. awaited (past self.now) c ≡ Some permit) }
@@ -364,7 +354,7 @@ impl Desk {
     /// Leave to shut a connection.
     pub fn shut_permit(&self, c: usize) -> Permit
         requires stands { Stands self.now }
-        requires few { length (past self.now) < 5000000 }
+        requires few { length (past self.now) < most_within_a_step }
         requires due { shut_due (past self.now) ≡ Some c }
         ensures { result ≡ shut_permit c (next_tenure (past self.now) c) }
     {
@@ -382,7 +372,7 @@ impl Desk {
     /// Leave to connect a connection.
     pub fn connect_permit(&self, c: usize) -> Permit
         requires stands { Stands self.now }
-        requires few { length (past self.now) < 5000000 }
+        requires few { length (past self.now) < most_within_a_step }
         requires due { connect_due (past self.now) ≡ Some c }
         ensures { result ≡ connect_permit c }
     {
@@ -410,7 +400,7 @@ impl Desk {
         if self.ended {
             return Some(CloseCause::DbClosed);
         }
-        if self.idle.len() < 2 {
+        if self.idle.len() < MAX_IDLE {
             None
         } else {
             Some(CloseCause::IdleFull)

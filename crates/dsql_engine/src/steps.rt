@@ -32,7 +32,7 @@ ghost use Rattle.dsql_engine.specs.Statements.{statement_of, asked_of, MayEnter,
 ghost use Rattle.dsql_engine.specs.Made.{made};
 ghost use Rattle.dsql_engine.specs.Freshly.{Freshly};
 ghost use Rattle.dsql_engine.specs.Turns.{SettledBut, IsAlone, TakesTurns};
-ghost use Rattle.dsql_engine.specs.Groups.{after_enter, after_ask, after_heard, after_answer, after_using, after_end, lent_to, leaving, told, told_by};
+ghost use Rattle.dsql_engine.specs.Groups.{after_enter, after_ask, after_heard, after_answer, after_using, after_end, lent_to, leaving, told, told_by, most_events};
 ghost use Rattle.dsql_engine.specs.Steps.{NextAfterEnter, NextAfterAsk, NextAfterHeard, NextAfterAnswer, NextOfUse, NextOfTold, NextOfWake, IsParkedAt};
 
 use crate::desk::Desk;
@@ -222,7 +222,7 @@ impl Desk {
         requires undecided { reply_due (past self.old) n ≡ None }
         requires running { has_ended (past self.old) ≡ false }
         requires latest { latest (idle (past self.old)) ≡ Some c }
-        requires few { length (past self.old) < 4000001 }
+        requires few { length (past self.old) ≤ most_events }
         requires statement { asked_of statement ≡ asked_by (past self.old) n }
         requires paid { 3 ≤ self.old.paid }
         ensures stands { Stands self.new }
@@ -244,7 +244,7 @@ impl Desk {
         requires undecided { reply_due (past self.old) n ≡ None }
         requires running { has_ended (past self.old) ≡ false }
         requires none { idle (past self.old) ≡ [] }
-        requires few { length (past self.old) < 4000001 }
+        requires few { length (past self.old) ≤ most_events }
         requires paid { 3 ≤ self.old.paid }
         ensures stands { Stands self.new }
         ensures settled { Settled (past self.new) }
@@ -307,7 +307,7 @@ impl Desk {
         requires fitting { fits_of entry.call entry.answer ≡ true }
         requires heard { is_memory entry.answer ≡ false }
         requires same { copy ≡ entry.answer }
-        requires few { length (past self.old) < 4000000 }
+        requires few { length (past self.old) < most_events }
         requires paid { 4 ≤ self.old.paid }
         ensures stands { Stands self.new }
         ensures settled { Settled (past self.new) }
@@ -330,7 +330,7 @@ impl Desk {
         requires fitting { fits_of entry.call entry.answer ≡ true }
         requires heard { is_memory entry.answer ≡ false }
         requires done { is_done entry.answer ≡ true }
-        requires few { length (past self.old) < 4000000 }
+        requires few { length (past self.old) < most_events }
         requires paid { 4 ≤ self.old.paid }
         ensures stands { Stands self.new }
         ensures settled { Settled (past self.new) }

@@ -85,8 +85,10 @@ pub fn rows_of_lawful_histories()
     ensures closed { (history : List Event) (n : ℕ) (rows : Rows) → Lawful history → has_ended history ≡ true → rows_by history n ≡ Some rows → is_live rows ≡ false }
 {}
 
-/// Whatever a driver answers to the call that is due, to a Connect or to a Shut, if only it fits at its
-/// place, the journal goes on as it may.
+/// The journal goes on as it may with whatever a driver answers to the call that is due on a lent
+/// connection, if only the answer fits at its place. It goes on with whatever answer fits a Connect, where
+/// the connection is being opened, or a Shut, where it is closing, if the answer isn't want of memory and
+/// nothing has to come first as the very next event.
 pub fn every_answer_may_follow()
     ensures due { (history : List Event) (e : Entry) (t n : ℕ) → Lawful history → place history e.conn ≡ Lent t (Call n) → is_due (due history e.conn t n) e.call ≡ true → e.tenure ≡ t → e.owner ≡ Call n → e.tx ≡ 0 → fits_at_its_place (journal history e.conn) e ≡ true → may_follow (journal history e.conn) e ≡ true }
     ensures connect { (history : List Event) (c n : ℕ) (answer : DriverAnswer) → Lawful history → is_placed history ≡ true → place history c ≡ Opening n → fits_of Connect answer ≡ true → is_memory answer ≡ false → may_follow (journal history c) (connect_entry c answer) ≡ true }
