@@ -1,8 +1,12 @@
 //! Laws of the rules: each law is the contract of a function that does nothing. A history is read newest
 //! first.
 
-ghost use Rattle.std.specs.Prelude.{◌≡◌, ◌↔◌, ◌++◌, true, List};
+ghost use Rattle.std.specs.Prelude.{◌≡◌, ◌≤◌, ◌<◌, ◌↔◌, ◌++◌, ℕ, true, false, List};
 ghost use Rattle.dsql_history.specs.declared.event.Event.{Event};
+ghost use Rattle.dsql_history.specs.declared.event.Event.TheVariants.{Pool};
+ghost use Rattle.dsql_history.specs.declared.event.Move.TheVariants.{OpenStart};
+ghost use Rattle.dsql_history.specs.Readers.Sets.{open_count};
+ghost use Rattle.dsql_history.specs.Rules.Limit.{keeps_limit};
 ghost use Rattle.dsql_history.specs.Computed.{is_allowed, is_calm, is_lawful, is_legal, is_settled};
 ghost use Rattle.dsql_history.specs.Legal.{Allowed, Calm, Lawful, Legal};
 ghost use Rattle.dsql_history.specs.Rules.Settled.{Settled};
@@ -27,4 +31,11 @@ pub fn rules_are_computed()
     ensures lawful { (history : List Event) → (is_lawful history ≡ true) ↔ Lawful history }
     ensures calm { (history : List Event) → (is_calm history ≡ true) ↔ Calm history }
     ensures legal { (history : List Event) → (is_legal history ≡ true) ↔ Legal history }
+{}
+
+/// Whatever happened before, no connection begins to be opened where a thousand are open, and where fewer
+/// are the limit allows it.
+pub fn a_thousand_may_be_open()
+    ensures full { (before : List Event) (c n : ℕ) → 1000 ≤ open_count before → is_allowed before (Pool (OpenStart c n)) ≡ false }
+    ensures below { (before : List Event) (c n : ℕ) → open_count before < 1000 → keeps_limit before (Pool (OpenStart c n)) ≡ true }
 {}
