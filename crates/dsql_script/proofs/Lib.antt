@@ -2,7 +2,6 @@ pub mod Members
 mod Floats
 pub mod Words
 pub mod Labels
-pub mod Texts
 pub mod ScriptArrays
 pub mod ScriptClients
 pub mod ScriptCaps

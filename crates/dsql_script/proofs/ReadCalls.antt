@@ -15,7 +15,8 @@ use Rattle.dsql_script.specs.Dests.{dest_word, dests_word, dest_of, dests_of_wor
 use Rattle.dsql_script.specs.Lines.{op_words, op_data}
 use Rattle.dsql_script.specs.ReadBack.{MayBeAsked, Spells}
 use Rattle.dsql_script.specs.ScriptLines.{Reading, client_line, label_fault, unless_fault, among_labels}
-use Rattle.dsql_script.specs.ScriptWords.{client_of, spaced_words, space, is_name, is_name_byte, is_database}
+use Rattle.dsql_script.specs.ScriptArgs.{most_args}
+use Rattle.dsql_script.specs.ScriptWords.{client_of, spaced_words, space, is_name, is_name_byte, is_database, most_name_rest}
 use Rattle.dsql_script.proofs.ReadBack.{call_is_read_back}
 
 neither : (a b : Bool) → (a || b) ≡ false → (a ≡ false) × (b ≡ false)
@@ -84,9 +85,9 @@ name_bytes_at (byte ∷ bytes) all =
 no_space_in_label : (label : List ℕ) → is_name label ≡ true → list_any is_space label ≡ false
 no_space_in_label [] name = cc
 no_space_in_label (first ∷ rest) name =
-    let whole = and_parts (is_ascii_lowercase first && nat_le (length rest) 31 && list_all is_name_byte rest) (not (is_database (first ∷ rest))) name in
-    let front = and_parts (is_ascii_lowercase first && nat_le (length rest) 31) (list_all is_name_byte rest) whole.0 in
-    let letter = and_parts (is_ascii_lowercase first) (nat_le (length rest) 31) front.0 in
+    let whole = and_parts (is_ascii_lowercase first && nat_le (length rest) most_name_rest && list_all is_name_byte rest) (not (is_database (first ∷ rest))) name in
+    let front = and_parts (is_ascii_lowercase first && nat_le (length rest) most_name_rest) (list_all is_name_byte rest) whole.0 in
+    let letter = and_parts (is_ascii_lowercase first) (nat_le (length rest) most_name_rest) front.0 in
     let begins : is_name_byte first ≡ true = rw letter.0 refl in
     rw (name_byte_at first begins, name_bytes_at rest front.1) refl
 
@@ -118,22 +119,22 @@ taken labels client op reading none is = ap (among_labels labels) is ∙ ap (unl
 
 call_is_read : (word : List ℕ) (client : ℕ) (op : Op) (array : Option (List ℕ)) → client_of word ≡ Some client → MayBeAsked op → Spells array (op_data op) → client_line word (spaced_words (op_words op)) array ≡ Ok (Client client op)
 call_is_read word client (Exec text args) (Some array) is may seen =
-    rw (is, seen, call_is_read_back text args may.0, le-ltb 32 (length args) may.1) refl
+    rw (is, seen, call_is_read_back text args may.0, le-ltb most_args (length args) may.1) refl
 call_is_read word client (Exec text args) None is may seen = absurd seen
 call_is_read word client (Query label text args) (Some array) is may seen =
     ap (λ words. client_line word words (Some array)) (words_of_query label may.0)
-    ∙ rw (is, may.0, seen, call_is_read_back text args may.1.0, le-ltb 32 (length args) may.1.1) refl
+    ∙ rw (is, may.0, seen, call_is_read_back text args may.1.0, le-ltb most_args (length args) may.1.1) refl
 call_is_read word client (Query label text args) None is may seen = absurd seen
 call_is_read word client (One dests text args) (Some array) is may seen =
     ap (λ words. client_line word words (Some array)) (words_of_one dests)
-    ∙ rw (is, dests_are_read_back dests may.0.0, seen, call_is_read_back text args may.1.0, le-ltb 32 (length args) may.1.1, le-ltb 32 (length dests) may.0.1) refl
+    ∙ rw (is, dests_are_read_back dests may.0.0, seen, call_is_read_back text args may.1.0, le-ltb most_args (length args) may.1.1, le-ltb most_args (length dests) may.0.1) refl
 call_is_read word client (One dests text args) None is may seen = absurd seen
 call_is_read word client (Next rows) None is may seen =
     ap (λ words. client_line word (codes "next" ∷ words) None) (words_of_rows rows may) ∙ rw (is, may) refl
 call_is_read word client (Next rows) (Some array) is may seen = absurd seen
 call_is_read word client (Scan rows dests) None is may seen =
     ap (λ words. client_line word words None) (words_of_scan rows dests may.0)
-    ∙ rw (is, may.0, dests_are_read_back dests may.1.0, le-ltb 32 (length dests) may.1.1) refl
+    ∙ rw (is, may.0, dests_are_read_back dests may.1.0, le-ltb most_args (length dests) may.1.1) refl
 call_is_read word client (Scan rows dests) (Some array) is may seen = absurd seen
 call_is_read word client (RowsClose rows) None is may seen =
     ap (λ words. client_line word (codes "rowsclose" ∷ words) None) (words_of_rows rows may) ∙ rw (is, may) refl

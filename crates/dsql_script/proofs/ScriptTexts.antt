@@ -9,16 +9,16 @@ use Rattle.std.proofs.lemmas.Bool.{cases_Bool, eqb-true, le-ltb}
 use Rattle.std.proofs.lemmas.Str.{IsUtf8-from_is_utf8, is_utf8-from_IsUtf8}
 use Rattle.dsql_script.specs.declared.fault.LineFault.TheVariants.{NotUtf8}
 use Rattle.dsql_script.specs.declared.script.Head.{Head}
-use Rattle.dsql_script.specs.ScriptLines.{line_of, text_of}
+use Rattle.dsql_script.specs.ScriptLines.{line_of, text_of, most_bytes}
 
-pub line_of_text : (head : Head) (line : List ℕ) → length line ≤ 4096 → IsUtf8 line → line_of head line ≡ text_of head (strip_carriage_return line)
-line_of_text head line few text = rw (le-ltb 4096 (length line) few, is_utf8-from_IsUtf8 line text) refl
+pub line_of_text : (head : Head) (line : List ℕ) → length line ≤ most_bytes → IsUtf8 line → line_of head line ≡ text_of head (strip_carriage_return line)
+line_of_text head line few text = rw (le-ltb most_bytes (length line) few, is_utf8-from_IsUtf8 line text) refl
 
 not_text : (line : List ℕ) → ¬ (IsUtf8 line) → is_utf8 line ≡ false
 not_text line bytes = elim (cases_Bool (is_utf8 line)) [ inl is ↦ absurd (bytes (IsUtf8-from_is_utf8 line is)) | inr is ↦ is ]
 
-pub line_of_bytes : (head : Head) (line : List ℕ) → length line ≤ 4096 → ¬ (IsUtf8 line) → line_of head line ≡ Err NotUtf8
-line_of_bytes head line few bytes = rw (le-ltb 4096 (length line) few, not_text line bytes) refl
+pub line_of_bytes : (head : Head) (line : List ℕ) → length line ≤ most_bytes → ¬ (IsUtf8 line) → line_of head line ≡ Err NotUtf8
+line_of_bytes head line few bytes = rw (le-ltb most_bytes (length line) few, not_text line bytes) refl
 
 strip-return : (front : List ℕ) → strip_carriage_return (front ++ 13 ∷ []) ≡ front
 strip-return front =

@@ -20,6 +20,7 @@ use Rattle.dsql_history.specs.declared.event.Move.{Move}
 use Rattle.dsql_history.specs.declared.event.Move.TheVariants.{OpenStart, Lend, Back, CloseStart, Gone, Fell}
 use Rattle.dsql_history.specs.declared.event.Event.{Event}
 use Rattle.dsql_history.specs.declared.event.Event.TheVariants.{Run, Entered, Heard, Pool, Replied, Ended}
+use Rattle.dsql_history.specs.Rules.Limit.{room}
 use Rattle.dsql_script.specs.LineValues.{worded, natural, integer, texts_data, cells_data}
 use Rattle.dsql_script.specs.LineArgs.{statement_data}
 use Rattle.dsql_script.specs.Dests.{dests_word}
@@ -116,7 +117,7 @@ over_word Failed = codes "failed"
 over_word BadConn = codes "bad"
 over_word EndOfRun = codes "end"
 
--- an error has its code, what it shows, and its text; no more than 1000 connections may be open
+-- an error has its code, what it shows, and its text
 abbrev pub reply_data : Reply → Data
 reply_data reply.Ok = worded (codes "ok") []
 reply_data (reply.Result last affected) = worded (codes "ok") (string (codes "result") ∷ integer last ∷ integer affected ∷ [])
@@ -135,7 +136,7 @@ reply_data reply.NoNextYet = worded (codes "err") (string (codes "no_next") ∷ 
 reply_data reply.NoRows = worded (codes "err") (string (codes "no_rows") ∷ string (codes "sql: no rows in result set") ∷ [])
 reply_data (reply.DestCount want got) = worded (codes "err") (string (codes "dest_count") ∷ natural want ∷ natural got ∷ string (dest_count_text want got) ∷ [])
 reply_data (reply.Scan column fault) = worded (codes "err") (string (codes "scan") ∷ natural column ∷ string (fault_word fault) ∷ string (scan_text column fault) ∷ [])
-reply_data reply.TooMany = worded (codes "err") (string (codes "too_many") ∷ natural 1000 ∷ string (codes "sql: too many open connections") ∷ [])
+reply_data reply.TooMany = worded (codes "err") (string (codes "too_many") ∷ natural room ∷ string (codes "sql: too many open connections") ∷ [])
 
 -- the array of an event, which begins with its word
 abbrev pub json_of : Event → Data

@@ -137,6 +137,7 @@ abbrev pub call_of_data : Data → Option (List ℕ × List Named)
 call_of_data (array ds) = call_of_items ds
 call_of_data _ = None
 
+-- how many arguments a call may have, and how many destinations
 abbrev pub most_args : ℕ
 most_args = 32
 

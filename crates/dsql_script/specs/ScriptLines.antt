@@ -172,6 +172,7 @@ is_skipped text = length text == 0 || begins_with text (codes "#")
 abbrev pub text_of : Head → List ℕ → Reading
 text_of head text = if is_skipped text then Ok Skip else form_of head (words_of text) (array_of text)
 
+-- how many bytes a line may have before its line feed
 abbrev pub most_bytes : ℕ
 most_bytes = 4096
 
@@ -179,6 +180,7 @@ most_bytes = 4096
 abbrev pub line_of : Head → List ℕ → Reading
 line_of head line = if nat_lt most_bytes (length line) then Err TooLong else (if is_utf8 line then text_of head (strip_carriage_return line) else Err NotUtf8)
 
+-- how many lines a script may have
 abbrev pub most_lines : ℕ
 most_lines = 10000
 

@@ -49,10 +49,14 @@ is_name_byte byte = is_ascii_lowercase byte || is_ascii_digit byte || byte == 95
 abbrev pub is_database : List ℕ → Bool
 is_database word = bytes_eq word (codes "db")
 
--- the name of a label or a token: a lower-case letter and at most 31 bytes more, and not the database's
+-- how many bytes a name may have behind its first
+abbrev pub most_name_rest : ℕ
+most_name_rest = 31
+
+-- the name of a label or a token: a lower-case letter and so many bytes more, and not the database's
 abbrev pub is_name : List ℕ → Bool
 is_name [] = false
-is_name (first ∷ rest) = is_ascii_lowercase first && nat_le (length rest) 31 && list_all is_name_byte rest && not (is_database (first ∷ rest))
+is_name (first ∷ rest) = is_ascii_lowercase first && nat_le (length rest) most_name_rest && list_all is_name_byte rest && not (is_database (first ∷ rest))
 
 -- the label that a word is
 abbrev pub label_of : List ℕ → Option (List ℕ)

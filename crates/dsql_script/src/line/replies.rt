@@ -7,14 +7,14 @@ ghost use Rattle.dsql_script.specs.Lines.{num_args_text, dest_count_text, fault_
 
 use crate::line::parts::worded;
 use crate::line::values::{cells_json, text_json, texts_json};
-use dsql_history::{FaultWord, Reply};
+use dsql_history::{FaultWord, MAX_OPEN, Reply};
 use dsql_rows::RowsOver;
 use dsql_value::{Memory, Txt};
 use serde_json::Value;
 use std::alloc::{AllocError, Global};
 
 /// How many connections may be open at all.
-const MOST_OPEN: u32 = 1000;
+const MOST_OPEN: u32 = MAX_OPEN as u32;
 
 /// An error by its code and its text.
 fn plain_error(alloc: Global, code: &str, text: &str) -> Result<Value, Memory>
