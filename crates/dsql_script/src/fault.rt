@@ -1,6 +1,6 @@
 use std::alloc::{AllocError, AllocFailed};
+use std::error::Error;
 use std::fmt;
-use thiserror::Error;
 
 /// What a script may hold only so many of.
 #[derive(Clone, Copy, Debug, PartialEq, Eq)]
@@ -29,37 +29,51 @@ impl fmt::Display for What {
 /// too many lines, too long, not UTF-8, no such word, the shape of its words, not JSON, the shape
 /// of what its array holds, too many arguments or destinations, unknown label, label taken. Want of
 /// memory may come in place of any other answer.
-#[derive(Clone, Copy, Debug, PartialEq, Eq, Error)]
+#[derive(Clone, Copy, Debug, PartialEq, Eq)]
 pub enum LineFault {
     /// It has more than 4,096 bytes before its line feed, a carriage return among them.
-    #[error("line too long")]
     TooLong,
     /// Its bytes aren't UTF-8.
-    #[error("not UTF-8")]
     NotUtf8,
     /// Its first words begin no form of a line, or the form may not stand here.
-    #[error("no such word")]
     NoSuchWord,
     /// Its array isn't read as JSON.
-    #[error("not JSON")]
     BadJson,
     /// The number or the spelling of its words is wrong, it lacks its array or has one that isn't wanted,
     /// or the array doesn't hold what the form wants.
-    #[error("wrong shape")]
     BadShape,
     /// It names a label or a token that no earlier line makes.
-    #[error("unknown label")]
     UnknownLabel,
     /// It makes a label that an earlier line makes.
-    #[error("label taken")]
     LabelTaken,
     /// It is one more than there may be.
-    #[error("too many {0}")]
     TooMany(What),
     /// There was no memory.
-    #[error("out of memory")]
     Memory,
 }
+
+impl fmt::Display for LineFault {
+    ghost use Rattle.std.specs.Prelude.{Some};
+    ghost use Rattle.dsql_script.specs.Faults.{reason_of};
+
+    ghost output = { λ fault. Some (reason_of fault) };
+
+    fn fmt<W: fmt::Write>(&self, f: &mut fmt::Formatter<W>) -> fmt::Result {
+        match self {
+            LineFault::TooLong => write!(f, "line too long"),
+            LineFault::NotUtf8 => write!(f, "not UTF-8"),
+            LineFault::NoSuchWord => write!(f, "no such word"),
+            LineFault::BadJson => write!(f, "not JSON"),
+            LineFault::BadShape => write!(f, "wrong shape"),
+            LineFault::UnknownLabel => write!(f, "unknown label"),
+            LineFault::LabelTaken => write!(f, "label taken"),
+            LineFault::TooMany(what) => write!(f, "too many {what}"),
+            LineFault::Memory => write!(f, "out of memory"),
+        }
+    }
+}
+
+impl Error for LineFault {}
 
 impl From<AllocError> for LineFault {
     ghost use Rattle.std.specs.Prelude.{◌≡◌};
