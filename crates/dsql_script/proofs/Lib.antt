@@ -1,5 +1,5 @@
 pub mod Members
-mod Floats
+pub mod Spelled
 pub mod Words
 pub mod Labels
 pub mod ScriptArrays

@@ -1,4 +1,5 @@
 pub mod Faults
+pub mod Spelling
 pub mod LineValues
 pub mod LineArgs
 pub mod LineCalls

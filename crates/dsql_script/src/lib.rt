@@ -11,7 +11,8 @@ mod script;
 
 pub use fault::{LineFault, What};
 pub use line::{
-    event_line, worked_argument_lines, worked_lines, worked_row_lines, worked_rows_lines,
+    append_line, event_line, worked_argument_lines, worked_lines, worked_row_lines,
+    worked_rows_lines,
 };
 pub use reader::{Reader, worked_label_lines, worked_one_lines, worked_script_lines};
 pub use script::ScriptLine;

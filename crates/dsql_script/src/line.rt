@@ -1,6 +1,7 @@
 //! Events as the lines of a report.
-ghost use Rattle.std.specs.Prelude.{◌≡◌, IfOk};
-ghost use Rattle.dsql_script.specs.Lines.{line_of};
+ghost use Rattle.std.specs.Prelude.{◌≡◌, ◌++◌, IfOk, OnOk, OnErr, IsUtf8, length, take};
+ghost use Rattle.serde_json.specs.Written.{compact_text};
+ghost use Rattle.dsql_script.specs.Lines.{json_of, line_of};
 
 mod args;
 mod calls;
@@ -15,9 +16,11 @@ mod values;
 
 use dsql_history::Event;
 use dsql_value::{Memory, Txt};
-use events::event_text;
+use events::write_event;
+use json::Writer;
 pub use laws::{worked_argument_lines, worked_lines, worked_row_lines, worked_rows_lines};
-use std::alloc::Global;
+use std::alloc::{AllocError, Global};
+use std::mem;
 
 /// The line of an event in a report: a JSON array without spaces, in UTF-8, and a line feed.
 ///
@@ -44,7 +47,46 @@ use std::alloc::Global;
 pub fn event_line(alloc: Global, event: &Event) -> Result<Txt, Memory>
     ensures { IfOk result (λ t. t ≡ line_of event.now) }
 {
-    let mut line = event_text(alloc, event)?;
-    line.push('\n')?;
-    Ok(Txt::new(line))
+    let mut line = Vec::new(alloc);
+    append_line(alloc, event, &mut line)?;
+    Ok(Txt::new(String::from_utf8(line).unwrap()))
+}
+
+/// Appends the line of an event to those that a buffer holds, as [`event_line`] tells it. The line is in
+/// UTF-8. Want of memory is the only error, and leaves the buffer's bytes as they were.
+pub fn append_line(alloc: Global, event: &Event, lines: &mut Vec<u8>) -> Result<(), Memory>
+    ensures ok { OnOk result (lines.new.items ≡ lines.old.items ++ line_of event.now) }
+    ensures utf8 { OnOk result (IsUtf8 (line_of event.now)) }
+    ensures err { OnErr result (lines.new.items ≡ lines.old.items) }
+{
+    let len = lines.len();
+    let appended = append_whole(alloc, event, lines);
+    if appended.is_err() {
+        lines.truncate(len);
+    }
+    Ok(appended?)
+}
+
+/// Appends an event's array and a line feed, or some of them.
+fn append_whole(alloc: Global, event: &Event, lines: &mut Vec<u8>) -> Result<(), AllocError>
+    ensures ok { OnOk result (lines.new.items ≡ lines.old.items ++ line_of event.now) }
+    ensures utf8 { OnOk result (IsUtf8 (line_of event.now)) }
+    ensures front { take (length lines.old.items) lines.new.items ≡ lines.old.items }
+{
+    append_array(alloc, event, lines)?;
+    lines.push(b'\n')?;
+    Ok(())
+}
+
+/// Appends an event's array, or some of it.
+fn append_array(alloc: Global, event: &Event, lines: &mut Vec<u8>) -> Result<(), AllocError>
+    ensures ok { OnOk result (lines.new.items
+        ≡ lines.old.items ++ compact_text (json_of event.now)) }
+    ensures utf8 { OnOk result (IsUtf8 (compact_text (json_of event.now))) }
+    ensures front { take (length lines.old.items) lines.new.items ≡ lines.old.items }
+{
+    let mut json = Writer::new(mem::replace(lines, Vec::new(alloc)));
+    let written = write_event(alloc, &mut json, event);
+    *lines = json.into_inner();
+    written
 }

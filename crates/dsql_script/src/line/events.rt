@@ -1,34 +1,48 @@
 //! Events as JSON.
-ghost use Rattle.std.specs.Prelude.{◌≡◌, string_bytes, IfOk};
+ghost use Rattle.std.specs.Prelude.{◌≡◌, ◌≤◌, ◌++◌, [], ◌∷◌, codes, decimal, length, map};
 ghost use Rattle.serde_json.specs.Data.{string};
-ghost use Rattle.serde_json.specs.View.{view};
-ghost use Rattle.serde_json.specs.Written.{compact_text};
-ghost use Rattle.dsql_script.specs.LineValues.{texts_data};
+ghost use Rattle.dsql_script.specs.LineValues.{worded, natural, texts_data};
 ghost use Rattle.dsql_script.specs.Lines.{owner_word, cause_word, caps_names, move_data, entry_data, json_of};
+ghost use Rattle.dsql_script.specs.Spelling.{Spells};
 
 use crate::caps::caps_names;
-use crate::line::calls::{answer_json, call_json};
-use crate::line::ops::entered_json;
-use crate::line::parts::worded;
-use crate::line::replies::reply_json;
+use crate::line::calls::{write_answer, write_call};
+use crate::line::ops::write_entered;
+use crate::line::parts::{begin_numbered, write_natural, write_numbered, write_word};
+use crate::line::replies::write_reply;
+use arrayvec::ArrayString;
 use dsql_driver::Caps;
-use dsql_history::{CloseCause, Event, Move};
+use dsql_history::{CloseCause, Event, Move, Reply};
 use dsql_journal::{Entry, Owner};
-use dsql_value::Memory;
-use serde_json::Value;
-use std::alloc::Global;
+use itoa::Buffer;
+use json::Writer;
+use std::alloc::{AllocError, Global};
+
+/// The longest name of an owner: five letters and ten digits.
+const OWNER_LEN: usize = 15;
+
+/// An owner that has a number, behind what kind it is.
+fn write_numbered_owner(json: &mut Writer, kind: &str, n: u32) -> Result<(), AllocError>
+    requires { length kind.now ≤ 5 }
+    ensures { Spells result json.old json.new (string (kind.now ++ decimal n)) }
+{
+    let mut digits = Buffer::new();
+    let mut owner = ArrayString::<OWNER_LEN>::new();
+    owner.push_str(kind);
+    owner.push_str(digits.format(n));
+    json.string(owner.as_str())
+}
 
 /// Who holds a connection, and by which number.
-fn owner_json(alloc: Global, owner: Owner) -> Result<Value, Memory>
-    ensures { IfOk result (λ v. view v ≡ string (owner_word owner)) }
+fn write_owner(json: &mut Writer, owner: Owner) -> Result<(), AllocError>
+    ensures { Spells result json.old json.new (string (owner_word owner)) }
 {
-    let word = match owner {
-        Owner::Call(n) => format!(in alloc; "call:{n}")?,
-        Owner::Tx(n) => format!(in alloc; "tx:{n}")?,
-        Owner::Pin(n) => format!(in alloc; "pin:{n}")?,
-        Owner::House => String::from_str(alloc, "house")?,
-    };
-    Ok(Value::from(word))
+    match owner {
+        Owner::Call(n) => write_numbered_owner(json, "call:", n),
+        Owner::Tx(n) => write_numbered_owner(json, "tx:", n),
+        Owner::Pin(n) => write_numbered_owner(json, "pin:", n),
+        Owner::House => json.string("house"),
+    }
 }
 
 /// The word for why a connection is closed.
@@ -43,86 +57,117 @@ fn word_of(cause: CloseCause) -> &'static str
     }
 }
 
-/// The names of what a driver can do, in a fixed order.
-fn caps_json(alloc: Global, caps: &Caps) -> Result<Value, Memory>
-    ensures { IfOk result (λ v. view v ≡ texts_data (caps_names caps.now)) }
+/// Names as an array of strings, in order.
+#[tactic(auto, using(crate::proofs::Spelled::spelled))]
+fn write_names(json: &mut Writer, names: &[&str]) -> Result<(), AllocError>
+    ensures { Spells result json.old json.new (texts_data (map (λ n. n.now) names.now)) }
 {
-    let mut list = Vec::new(alloc);
-    for name in caps_names(alloc, caps)? {
-        list.push(Value::try_from_str(alloc, name)?)?;
+    json.begin_array()?;
+    for name in names {
+        json.string(name)?;
     }
-    Ok(Value::Array(list))
+    json.end_array()
+}
+
+/// The names of what a driver can do, in a fixed order.
+fn write_caps(alloc: Global, json: &mut Writer, caps: &Caps) -> Result<(), AllocError>
+    ensures { Spells result json.old json.new (texts_data (caps_names caps.now)) }
+{
+    let names = caps_names(alloc, caps)?;
+    write_names(json, names.as_slice())
+}
+
+/// A connection that begins to be opened or couldn't be, and a call.
+fn write_opening(json: &mut Writer, word: &str, conn: u32, call: u32) -> Result<(), AllocError>
+    ensures { Spells result json.old json.new
+        (worded word.now (natural conn ∷ natural call ∷ [])) }
+{
+    begin_numbered(json, word, conn)?;
+    write_natural(json, u64::from(call))?;
+    json.end_array()
+}
+
+/// A connection that is lent, and to whom.
+fn write_lend(json: &mut Writer, conn: u32, tenure: u32, owner: Owner) -> Result<(), AllocError>
+    ensures { Spells result json.old json.new (worded (codes "lend")
+        (natural conn ∷ natural tenure ∷ string (owner_word owner) ∷ [])) }
+{
+    begin_numbered(json, "lend", conn)?;
+    write_natural(json, u64::from(tenure))?;
+    write_owner(json, owner)?;
+    json.end_array()
+}
+
+/// A connection that begins to be closed, and why.
+fn write_close(json: &mut Writer, conn: u32, cause: CloseCause) -> Result<(), AllocError>
+    ensures { Spells result json.old json.new (move_data (Move.CloseStart conn cause)) }
+{
+    begin_numbered(json, "close", conn)?;
+    json.string(word_of(cause))?;
+    json.end_array()
 }
 
 /// A connection's move. The call of a lending isn't shown, since its owner's number says it.
-fn move_json(alloc: Global, step: Move) -> Result<Value, Memory>
-    ensures { IfOk result (λ v. view v ≡ move_data step) }
+fn write_move(json: &mut Writer, step: Move) -> Result<(), AllocError>
+    ensures { Spells result json.old json.new (move_data step) }
 {
     match step {
-        Move::OpenStart { conn, call } => {
-            worded(alloc, "open", [Value::from(conn), Value::from(call)])
-        }
+        Move::OpenStart { conn, call } => write_opening(json, "open", conn, call),
         Move::Lend {
             conn,
             tenure,
             owner,
             call: _,
-        } => {
-            let owner = owner_json(alloc, owner)?;
-            let parts = [Value::from(conn), Value::from(tenure), owner];
-            worded(alloc, "lend", parts)
-        }
-        Move::Back { conn } => worded(alloc, "back", [Value::from(conn)]),
-        Move::CloseStart { conn, cause } => {
-            let cause = Value::try_from_str(alloc, word_of(cause))?;
-            worded(alloc, "close", [Value::from(conn), cause])
-        }
-        Move::Gone { conn } => worded(alloc, "gone", [Value::from(conn)]),
-        Move::Fell { conn, call } => {
-            worded(alloc, "fell", [Value::from(conn), Value::from(call)])
-        }
+        } => write_lend(json, conn, tenure, owner),
+        Move::Back { conn } => write_numbered(json, "back", conn),
+        Move::CloseStart { conn, cause } => write_close(json, conn, cause),
+        Move::Gone { conn } => write_numbered(json, "gone", conn),
+        Move::Fell { conn, call } => write_opening(json, "fell", conn, call),
     }
 }
 
 /// What a driver was asked and answered, and for whom it was asked.
-fn entry_json(alloc: Global, entry: &Entry) -> Result<Value, Memory>
-    ensures { IfOk result (λ v. view v ≡ entry_data entry.now) }
+fn write_entry(alloc: Global, json: &mut Writer, entry: &Entry) -> Result<(), AllocError>
+    ensures { Spells result json.old json.new (entry_data entry.now) }
 {
-    let conn = Value::from(entry.conn);
-    let tenure = Value::from(entry.tenure);
-    let owner = owner_json(alloc, entry.owner)?;
-    let call_no = Value::from(entry.call_no);
-    let tx = Value::from(entry.tx);
-    let call = call_json(alloc, &entry.call)?;
-    let answer = answer_json(alloc, &entry.answer)?;
-    let parts = [conn, tenure, owner, call_no, tx, call, answer];
-    worded(alloc, "heard", parts)
+    begin_numbered(json, "heard", entry.conn)?;
+    write_natural(json, u64::from(entry.tenure))?;
+    write_owner(json, entry.owner)?;
+    write_natural(json, u64::from(entry.call_no))?;
+    write_natural(json, u64::from(entry.tx))?;
+    write_call(alloc, json, &entry.call)?;
+    write_answer(alloc, json, &entry.answer)?;
+    json.end_array()
 }
 
-/// An event as a JSON array that begins with its word.
-fn event_json(alloc: Global, event: &Event) -> Result<Value, Memory>
-    ensures { IfOk result (λ v. view v ≡ json_of event.now) }
+/// The beginning of a run.
+fn write_start(alloc: Global, json: &mut Writer, version: u8, caps: &Caps) -> Result<(), AllocError>
+    ensures { Spells result json.old json.new (json_of (Event.Run version caps.now)) }
+{
+    begin_numbered(json, "run", u32::from(version))?;
+    write_caps(alloc, json, caps)?;
+    json.end_array()
+}
+
+/// A call's number, and its reply.
+fn write_replied(alloc: Global, json: &mut Writer, n: u32, reply: &Reply) -> Result<(), AllocError>
+    ensures { Spells result json.old json.new (json_of (Event.Replied n reply.now)) }
+{
+    begin_numbered(json, "reply", n)?;
+    write_reply(alloc, json, reply)?;
+    json.end_array()
+}
+
+/// An event as an array that begins with its word.
+pub(super) fn write_event(alloc: Global, json: &mut Writer, event: &Event) -> Result<(), AllocError>
+    ensures { Spells result json.old json.new (json_of event.now) }
 {
     match event {
-        Event::Run { version, caps } => {
-            let caps = caps_json(alloc, caps)?;
-            worded(alloc, "run", [Value::from(*version), caps])
-        }
-        Event::Entered { client, n, op } => entered_json(alloc, *client, *n, op),
-        Event::Heard(entry) => entry_json(alloc, entry),
-        Event::Pool(step) => move_json(alloc, *step),
-        Event::Replied { n, reply } => {
-            let reply = reply_json(alloc, reply)?;
-            worded(alloc, "reply", [Value::from(*n), reply])
-        }
-        Event::Ended => worded(alloc, "ended", []),
+        Event::Run { version, caps } => write_start(alloc, json, *version, caps),
+        Event::Entered { client, n, op } => write_entered(alloc, json, *client, *n, op),
+        Event::Heard(entry) => write_entry(alloc, json, entry),
+        Event::Pool(step) => write_move(json, *step),
+        Event::Replied { n, reply } => write_replied(alloc, json, *n, reply),
+        Event::Ended => write_word(json, "ended"),
     }
-}
-
-/// The text of that array, without spaces.
-pub(super) fn event_text(alloc: Global, event: &Event) -> Result<String, Memory>
-    ensures { IfOk result (λ s. string_bytes s ≡ compact_text (json_of event.now)) }
-{
-    let array = event_json(alloc, event)?;
-    Ok(array.to_string(alloc)?)
 }

@@ -1,54 +1,84 @@
 //! Replies as JSON.
 ghost use Rattle.std.specs.Prelude.{◌≡◌, [], ◌∷◌, codes, string_bytes, IfOk};
+ghost use Rattle.json.specs.Token.{begin_array, end_array, string as text_token};
 ghost use Rattle.serde_json.specs.Data.{string};
-ghost use Rattle.serde_json.specs.View.{view};
-ghost use Rattle.dsql_script.specs.LineValues.{worded as worded_data, natural};
+ghost use Rattle.dsql_script.specs.LineValues.{worded, natural, texts_data, cells_data};
 ghost use Rattle.dsql_script.specs.Lines.{num_args_text, dest_count_text, fault_word, scan_text, over_word, reply_data};
+ghost use Rattle.dsql_script.specs.Spelling.{Adds, Spells};
 
-use crate::line::parts::worded;
-use crate::line::values::{cells_json, text_json, texts_json};
+use crate::line::parts::{begin, write_integer, write_natural, write_word};
+use crate::line::values::{write_cells, write_texts};
 use dsql_history::{FaultWord, MAX_OPEN, Reply};
 use dsql_rows::RowsOver;
-use dsql_value::{Memory, Txt};
-use serde_json::Value;
+use dsql_scan::Cell;
+use dsql_value::Txt;
+use json::Writer;
 use std::alloc::{AllocError, Global};
 
 /// How many connections may be open at all.
-const MOST_OPEN: u32 = MAX_OPEN as u32;
+const MOST_OPEN: u64 = MAX_OPEN as u64;
 
-/// An error by its code and its text.
-fn plain_error(alloc: Global, code: &str, text: &str) -> Result<Value, Memory>
-    ensures { IfOk result (λ v. view v ≡ worded_data (codes "err") (string code.now ∷ string text.now ∷ [])) }
+/// Begins an error with its code.
+fn begin_error(json: &mut Writer, code: &str) -> Result<(), AllocError>
+    ensures { Adds result json.old json.new
+        (begin_array ∷ text_token (codes "err") ∷ text_token code.now ∷ []) }
 {
-    let code = Value::try_from_str(alloc, code)?;
-    let text = Value::try_from_str(alloc, text)?;
-    worded(alloc, "err", [code, text])
+    begin(json, "err")?;
+    json.string(code)
 }
 
-/// An error by its code, the one thing that it shows, and its text.
-fn error_json(alloc: Global, code: &str, shown: Value, text: &str) -> Result<Value, Memory>
-    ensures { IfOk result (λ v. view v
-        ≡ worded_data (codes "err") (string code.now ∷ view shown ∷ string text.now ∷ [])) }
+/// Ends an error with its text.
+fn end_error(json: &mut Writer, text: &str) -> Result<(), AllocError>
+    ensures { Adds result json.old json.new (text_token text.now ∷ end_array ∷ []) }
 {
-    let code = Value::try_from_str(alloc, code)?;
-    let text = Value::try_from_str(alloc, text)?;
-    worded(alloc, "err", [code, shown, text])
+    json.string(text)?;
+    json.end_array()
+}
+
+/// An error by its code and its text.
+fn write_error(json: &mut Writer, code: &str, text: &str) -> Result<(), AllocError>
+    ensures { Spells result json.old json.new
+        (worded (codes "err") (string code.now ∷ string text.now ∷ [])) }
+{
+    begin_error(json, code)?;
+    end_error(json, text)
+}
+
+/// An error by its code, a word or a name that it shows, and its text.
+fn write_error_of(json: &mut Writer, code: &str, shown: &str, text: &str) -> Result<(), AllocError>
+    ensures { Spells result json.old json.new
+        (worded (codes "err") (string code.now ∷ string shown.now ∷ string text.now ∷ [])) }
+{
+    begin_error(json, code)?;
+    json.string(shown)?;
+    end_error(json, text)
+}
+
+/// An error by its code, a number that it shows, and its text.
+fn write_error_at(json: &mut Writer, code: &str, n: u64, text: &str) -> Result<(), AllocError>
+    ensures { Spells result json.old json.new
+        (worded (codes "err") (string code.now ∷ natural n ∷ string text.now ∷ [])) }
+{
+    begin_error(json, code)?;
+    write_natural(json, n)?;
+    end_error(json, text)
 }
 
 /// An error by its code, how many of something there should be and how many there are, and its text.
-fn count_error(
-    alloc: Global,
+fn write_count_error(
+    json: &mut Writer,
     code: &str,
     want: u32,
     got: u32,
-    text: String,
-) -> Result<Value, Memory>
-    ensures { IfOk result (λ v. view v ≡ worded_data (codes "err")
-        (string code.now ∷ natural want ∷ natural got ∷ string (string_bytes text) ∷ [])) }
+    text: &str,
+) -> Result<(), AllocError>
+    ensures { Spells result json.old json.new (worded (codes "err")
+        (string code.now ∷ natural want ∷ natural got ∷ string text.now ∷ [])) }
 {
-    let code = Value::try_from_str(alloc, code)?;
-    let parts = [code, Value::from(want), Value::from(got), Value::from(text)];
-    worded(alloc, "err", parts)
+    begin_error(json, code)?;
+    write_natural(json, u64::from(want))?;
+    write_natural(json, u64::from(got))?;
+    end_error(json, text)
 }
 
 /// What is wrong with a number of arguments.
@@ -59,11 +89,11 @@ fn num_args_text(alloc: Global, want: u32, got: u32) -> Result<String, AllocErro
 }
 
 /// The error of a number of arguments.
-fn num_args_error(alloc: Global, want: u32, got: u32) -> Result<Value, Memory>
-    ensures { IfOk result (λ v. view v ≡ reply_data (Reply.NumArgs want got)) }
+fn write_num_args(alloc: Global, json: &mut Writer, want: u32, got: u32) -> Result<(), AllocError>
+    ensures { Spells result json.old json.new (reply_data (Reply.NumArgs want got)) }
 {
     let text = num_args_text(alloc, want, got)?;
-    count_error(alloc, "num_args", want, got, text)
+    write_count_error(json, "num_args", want, got, text.as_str())
 }
 
 /// What is wrong with a number of destinations.
@@ -74,11 +104,11 @@ fn dest_count_text(alloc: Global, want: u32, got: u32) -> Result<String, AllocEr
 }
 
 /// The error of a number of destinations.
-fn dest_count_error(alloc: Global, want: u32, got: u32) -> Result<Value, Memory>
-    ensures { IfOk result (λ v. view v ≡ reply_data (Reply.DestCount want got)) }
+fn write_dest_count(alloc: Global, json: &mut Writer, want: u32, got: u32) -> Result<(), AllocError>
+    ensures { Spells result json.old json.new (reply_data (Reply.DestCount want got)) }
 {
     let text = dest_count_text(alloc, want, got)?;
-    count_error(alloc, "dest_count", want, got, text)
+    write_count_error(json, "dest_count", want, got, text.as_str())
 }
 
 /// The word for why a value isn't scanned.
@@ -104,46 +134,50 @@ fn scan_text(alloc: Global, column: u32, fault: FaultWord) -> Result<String, All
 }
 
 /// The error of a column that isn't scanned.
-fn scan_error(alloc: Global, column: u32, fault: FaultWord) -> Result<Value, Memory>
-    ensures { IfOk result (λ v. view v ≡ reply_data (Reply.Scan column fault)) }
+fn write_scan(
+    alloc: Global,
+    json: &mut Writer,
+    column: u32,
+    fault: FaultWord,
+) -> Result<(), AllocError>
+    ensures { Spells result json.old json.new (reply_data (Reply.Scan column fault)) }
 {
-    let code = Value::try_from_str(alloc, "scan")?;
-    let word = Value::try_from_str(alloc, word_of(fault))?;
     let text = scan_text(alloc, column, fault)?;
-    let parts = [code, Value::from(column), word, Value::from(text)];
-    worded(alloc, "err", parts)
+    begin_error(json, "scan")?;
+    write_natural(json, u64::from(column))?;
+    json.string(word_of(fault))?;
+    end_error(json, text.as_str())
 }
 
 /// The error of a number whose highest bit is set.
-fn high_bit_error(alloc: Global, number: u64) -> Result<Value, Memory>
-    ensures { IfOk result (λ v. view v ≡ reply_data (Reply.HighBit number)) }
+fn write_high_bit(json: &mut Writer, number: u64) -> Result<(), AllocError>
+    ensures { Spells result json.old json.new (reply_data (Reply.HighBit number)) }
 {
     let text = "sql: unsigned value has its high bit set";
-    error_json(alloc, "high_bit", Value::from(number), text)
+    write_error_at(json, "high_bit", number, text)
 }
 
 /// The error of an argument with a name, where a driver takes none.
-fn named_error(alloc: Global, name: &Txt) -> Result<Value, Memory>
-    ensures { IfOk result (λ v. view v ≡ reply_data (Reply.NamedRefused name.now)) }
+fn write_named(json: &mut Writer, name: &str) -> Result<(), AllocError>
+    ensures { Spells result json.old json.new (reply_data (Reply.NamedRefused name.now)) }
 {
     let text = "sql: driver does not support the use of Named Parameters";
-    error_json(alloc, "named", text_json(alloc, name)?, text)
+    write_error_of(json, "named", name, text)
 }
 
 /// The error of a name that an argument can't have.
-fn bad_name_error(alloc: Global, name: &Txt) -> Result<Value, Memory>
-    ensures { IfOk result (λ v. view v ≡ reply_data (Reply.BadName name.now)) }
+fn write_bad_name(json: &mut Writer, name: &str) -> Result<(), AllocError>
+    ensures { Spells result json.old json.new (reply_data (Reply.BadName name.now)) }
 {
     let text = "sql: name does not begin with a letter";
-    error_json(alloc, "bad_name", text_json(alloc, name)?, text)
+    write_error_of(json, "bad_name", name, text)
 }
 
 /// The error of a label under which nothing was handed out.
-fn absent_error(alloc: Global, label: &Txt) -> Result<Value, Memory>
-    ensures { IfOk result (λ v. view v ≡ reply_data (Reply.Absent label.now)) }
+fn write_absent(json: &mut Writer, label: &str) -> Result<(), AllocError>
+    ensures { Spells result json.old json.new (reply_data (Reply.Absent label.now)) }
 {
-    let text = "sql: no value has this label";
-    error_json(alloc, "absent", text_json(alloc, label)?, text)
+    write_error_of(json, "absent", label, "sql: no value has this label")
 }
 
 /// The word for what ended rows.
@@ -160,59 +194,97 @@ fn over_word(over: RowsOver) -> &'static str
 }
 
 /// The error of rows that are over.
-fn closed_error(alloc: Global, over: RowsOver) -> Result<Value, Memory>
-    ensures { IfOk result (λ v. view v ≡ reply_data (Reply.RowsClosed over)) }
+fn write_closed(json: &mut Writer, over: RowsOver) -> Result<(), AllocError>
+    ensures { Spells result json.old json.new (reply_data (Reply.RowsClosed over)) }
 {
-    let word = Value::try_from_str(alloc, over_word(over))?;
-    error_json(alloc, "rows_closed", word, "sql: Rows are closed")
+    write_error_of(json, "rows_closed", over_word(over), "sql: Rows are closed")
 }
 
-/// What a reply gives, under the word for it.
-fn given(alloc: Global, word: &str, list: Value) -> Result<Value, Memory>
-    ensures { IfOk result (λ v. view v ≡ worded_data (codes "ok") (string word.now ∷ view list ∷ [])) }
+/// Begins what a reply gives with the word for it.
+fn begin_ok(json: &mut Writer, word: &str) -> Result<(), AllocError>
+    ensures { Adds result json.old json.new
+        (begin_array ∷ text_token (codes "ok") ∷ text_token word.now ∷ []) }
 {
-    let word = Value::try_from_str(alloc, word)?;
-    worded(alloc, "ok", [word, list])
+    begin(json, "ok")?;
+    json.string(word)
 }
 
 /// The two numbers of an exec that was carried out.
-fn result_json(alloc: Global, last: i64, affected: i64) -> Result<Value, Memory>
-    ensures { IfOk result (λ v. view v ≡ reply_data (Reply.Result last affected)) }
+fn write_result(json: &mut Writer, last: i64, affected: i64) -> Result<(), AllocError>
+    ensures { Spells result json.old json.new (reply_data (Reply.Result last affected)) }
 {
-    let word = Value::try_from_str(alloc, "result")?;
-    let parts = [word, Value::from(last), Value::from(affected)];
-    worded(alloc, "ok", parts)
+    begin_ok(json, "result")?;
+    write_integer(json, last)?;
+    write_integer(json, affected)?;
+    json.end_array()
+}
+
+/// The names of the columns of rows that are handed out.
+fn write_rows(json: &mut Writer, columns: &[Txt]) -> Result<(), AllocError>
+    ensures { Spells result json.old json.new
+        (worded (codes "ok") (string (codes "rows") ∷ texts_data columns.now ∷ [])) }
+{
+    begin_ok(json, "rows")?;
+    write_texts(json, columns)?;
+    json.end_array()
+}
+
+/// Whether there was a row.
+fn write_truth(json: &mut Writer, truth: bool) -> Result<(), AllocError>
+    ensures { Spells result json.old json.new (reply_data (Reply.Truth truth)) }
+{
+    begin(json, "ok")?;
+    json.boolean(truth)?;
+    json.end_array()
+}
+
+/// What the destinations of a row hold.
+fn write_scanned(alloc: Global, json: &mut Writer, cells: &[Cell]) -> Result<(), AllocError>
+    ensures { Spells result json.old json.new
+        (worded (codes "ok") (string (codes "cells") ∷ cells_data cells.now ∷ [])) }
+{
+    begin_ok(json, "cells")?;
+    write_cells(alloc, json, cells)?;
+    json.end_array()
 }
 
 /// A reply: `ok` and what it gives, or `err`, the error's code, its numbers, its name or its cause, and
 /// its text.
-pub(super) fn reply_json(alloc: Global, reply: &Reply) -> Result<Value, Memory>
-    ensures { IfOk result (λ v. view v ≡ reply_data reply.now) }
+pub(super) fn write_reply(alloc: Global, json: &mut Writer, reply: &Reply) -> Result<(), AllocError>
+    ensures { Spells result json.old json.new (reply_data reply.now) }
 {
     match reply {
-        Reply::Ok => worded(alloc, "ok", []),
-        Reply::Result { last, affected } => result_json(alloc, *last, *affected),
-        Reply::Rows(columns) => given(alloc, "rows", texts_json(alloc, columns.as_slice())?),
-        Reply::Truth(truth) => worded(alloc, "ok", [Value::from(*truth)]),
-        Reply::Cells(cells) => given(alloc, "cells", cells_json(alloc, cells.as_slice())?),
-        Reply::Driver(text) => plain_error(alloc, "driver", text.as_str()),
+        Reply::Ok => write_word(json, "ok"),
+        Reply::Result { last, affected } => write_result(json, *last, *affected),
+        Reply::Rows(columns) => write_rows(json, columns.as_slice()),
+        Reply::Truth(truth) => write_truth(json, *truth),
+        Reply::Cells(cells) => write_scanned(alloc, json, cells.as_slice()),
+        Reply::Driver(text) => write_error(json, "driver", text.as_str()),
         Reply::BadConn(tries) => {
-            let text = "driver: bad connection";
-            error_json(alloc, "bad_conn", Value::from(*tries), text)
+            write_error_at(
+                json,
+                "bad_conn",
+                u64::from(*tries),
+                "driver: bad connection",
+            )
         }
-        Reply::NumArgs { want, got } => num_args_error(alloc, *want, *got),
-        Reply::HighBit(number) => high_bit_error(alloc, *number),
-        Reply::NamedRefused(name) => named_error(alloc, name),
-        Reply::BadName(name) => bad_name_error(alloc, name),
-        Reply::Absent(label) => absent_error(alloc, label),
-        Reply::RowsClosed(over) => closed_error(alloc, *over),
-        Reply::NoNextYet => plain_error(alloc, "no_next", "sql: Scan called without calling Next"),
-        Reply::NoRows => plain_error(alloc, "no_rows", "sql: no rows in result set"),
-        Reply::DestCount { want, got } => dest_count_error(alloc, *want, *got),
-        Reply::Scan { column, fault } => scan_error(alloc, *column, *fault),
+        Reply::NumArgs { want, got } => write_num_args(alloc, json, *want, *got),
+        Reply::HighBit(number) => write_high_bit(json, *number),
+        Reply::NamedRefused(name) => write_named(json, name.as_str()),
+        Reply::BadName(name) => write_bad_name(json, name.as_str()),
+        Reply::Absent(label) => write_absent(json, label.as_str()),
+        Reply::RowsClosed(over) => write_closed(json, *over),
+        Reply::NoNextYet => write_error(json, "no_next", "sql: Scan called without calling Next"),
+        Reply::NoRows => write_error(json, "no_rows", "sql: no rows in result set"),
+        Reply::DestCount { want, got } => write_dest_count(alloc, json, *want, *got),
+        Reply::Scan { column, fault } => write_scan(alloc, json, *column, *fault),
         Reply::TooMany => {
-            let text = "sql: too many open connections";
-            error_json(alloc, "too_many", Value::from(MOST_OPEN), text)
+            write_error_at(
+                json,
+                "too_many",
+                MOST_OPEN,
+                "sql: too many open connections",
+            )
         }
     }
 }
