@@ -42,7 +42,7 @@ impl Model for Stmts {
 }
 
 impl Stmts {
-    ghost use Rattle.dsql_stmt.specs.Statements.{stmt_of, was_added, unclosed, changed, closed_by, answer_of, handle_on, is_live, live_handle, handed_out, without_handle, without_conn, IsOneEach};
+    ghost use Rattle.dsql_stmt.specs.Statements.{stmt_of, was_added, unclosed, changed, closed_by, is_open, answer_of, handle_on, is_live, live_handle, handed_out, without_handle, without_conn, IsOneEach};
 
     /// No statements. It takes no memory.
     pub fn new(alloc: Global) -> Stmts
@@ -157,11 +157,14 @@ impl Stmts {
     }
 
     /// Closes the statement, if nothing has, and hands out its live handles with their connections: at a
-    /// second close none. They stay live until they are dropped.
+    /// second close none, which takes no memory. `call` is 0 where no client's call closes it. The handles
+    /// stay live until they are dropped or their connection is forgotten, since a run that was entered before
+    /// the close may still use them.
     pub fn close(&mut self, n: u32, call: u32) -> Result<Handles, Memory>
         requires { was_added n self.old.stmts ≡ true }
         ensures ok { OnOk result (self.new.stmts ≡ changed (closed_by call) n self.old.stmts) }
         ensures handles { IfOk result (λ handles. Some handles ≡ option_map (handed_out n self.old.live) (stmt_of n self.old.stmts)) }
+        ensures first { OnErr result (option_map is_open (stmt_of n self.old.stmts) ≡ Some true) }
         ensures full { OnErr result (self.old.spare ≡ 0) }
         ensures err { OnErr result (self.new.stmts ≡ self.old.stmts) }
         ensures live { self.new.live ≡ self.old.live }
@@ -180,7 +183,7 @@ impl Stmts {
     }
 
     /// A handle was closed on its connection: it isn't live any more. It takes no memory, nor does
-    /// `forget_conn`.
+    /// `forget_conn`. Both look at each live handle.
     pub fn dropped(&mut self, conn: u32, handle: u32)
         ensures live { self.new.live ≡ without_handle conn handle self.old.live }
         ensures stmts { self.new.stmts ≡ self.old.stmts }
