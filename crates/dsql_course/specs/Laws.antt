@@ -1,5 +1,5 @@
 -- What courses promise, as laws.
-use Rattle.std.specs.Prelude.{◌≡◌, ◌≢◌, ℕ, ℤ, true, false, ◌↔◌, Bool, Some, None, List, [], ◌∷◌, map, All, AllPairs, Contains}
+use Rattle.std.specs.Prelude.{◌≡◌, ◌≢◌, ℕ, ℤ, true, false, ◌↔◌, Bool, Option, Some, None, List, [], ◌∷◌, map, All, AllPairs, Contains}
 use Rattle.dsql_driver.specs.declared.caps.Caps.{Caps}
 use Rattle.dsql_course.specs.declared.course.Course.{Course}
 use Rattle.dsql_course.specs.declared.course.Course.TheVariants as course
@@ -9,7 +9,7 @@ use Rattle.dsql_course.specs.declared.call.Got.{Got}
 use Rattle.dsql_course.specs.declared.call.Got.TheVariants as got
 use Rattle.dsql_course.specs.Steps.{step_of}
 use Rattle.dsql_course.specs.Made.{Exchange, went_bad, own_handle, own_cursor, reads_one, rows_are_over}
-use Rattle.dsql_course.specs.Rows.{closing_next, rows_next}
+use Rattle.dsql_course.specs.Rows.{closing_next, closing_of, rows_next, rows_next_of}
 use Rattle.dsql_course.specs.declared.course.Wish.{Wish}
 use Rattle.dsql_course.specs.declared.course.Wish.TheVariants as wish
 use Rattle.dsql_course.specs.Line.{Found, Turn, exchange, comes_next, may_get, IsLine}
@@ -99,3 +99,12 @@ pub record RowsAreClosed : Type 0 where
   pub no_handle : (can : Caps) (args rows : ℕ) (answer : Got) (earlier : List Exchange) → own_handle ((call.CloseRows rows, answer) ∷ earlier) ≡ None
       → closing_next can args ((call.CloseRows rows, answer) ∷ earlier) ≡ call.Over
   pub last : (can : Caps) (args handle : ℕ) (answer : Got) (earlier : List Exchange) → closing_next can args ((call.CloseStmt handle, answer) ∷ earlier) ≡ call.Over
+
+-- Rows that a statement's run handed out, and rows on a connection that is known to be bad: they are fetched from as others are. A statement's handle isn't
+-- closed with its rows, and on such a connection nothing is.
+pub record RowsOfAnyCourse : Type 0 where
+  pub left : (c : Course) (bad : Bool) (can : Caps) (args rows : ℕ) (made : List Exchange) → rows_are_over made ≡ false → rows_next_of c bad wish.Nothing can args made rows ≡ None
+  pub fetched : (c : Course) (bad : Bool) (can : Caps) (args rows : ℕ) (made : List Exchange) → rows_are_over made ≡ false → rows_next_of c bad wish.Fetch can args made rows ≡ Some (call.Next rows)
+  pub keeps_handle : (reads one : Bool) (live : Option (ℕ × ℤ)) (bad : Bool) (can : Caps) (args handle : ℕ) (made : List Exchange) → closing_of (course.Run reads one live) bad can args made ≢ call.CloseStmt handle
+  pub statement : (reads one : Bool) (live : Option (ℕ × ℤ)) (can : Caps) (args rows : ℕ) (made : List Exchange) → closing_next can args made ≡ call.CloseRows rows → closing_of (course.Run reads one live) false can args made ≡ call.CloseRows rows
+  pub bad : (c : Course) (can : Caps) (args : ℕ) (made : List Exchange) → closing_of c true can args made ≡ call.Over

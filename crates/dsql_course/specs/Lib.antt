@@ -7,3 +7,4 @@ pub mod Meant
 pub mod Laws
 pub mod Worked
 pub mod Summary
+pub mod WorkedCuts

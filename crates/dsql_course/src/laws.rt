@@ -1,6 +1,7 @@
 //! What follows from the definitions: each law is the contract of a function that does nothing.
-ghost use Rattle.dsql_course.specs.Laws.{LinesGive, DueMakesLines, StepsOnce, ClosesWhatItOpened, RowsAreClosed};
+ghost use Rattle.dsql_course.specs.Laws.{LinesGive, DueMakesLines, StepsOnce, ClosesWhatItOpened, RowsAreClosed, RowsOfAnyCourse};
 ghost use Rattle.dsql_course.specs.Worked.{WorkedLines};
+ghost use Rattle.dsql_course.specs.WorkedCuts.{CutTexts, CutOnes, CutStatements, CutOthers, WorkedRows};
 
 /// Calls with their answers are given exactly where a line of the course has them, at whose turns no more
 /// was known than is known now.
@@ -36,7 +37,28 @@ pub fn rows_that_are_over_are_closed()
     ensures { RowsAreClosed }
 {}
 
+/// Rows of a statement's run, and rows on a connection that is known to be bad, are fetched from as others
+/// are. A statement keeps its handle, and on such a connection nothing is closed.
+#[tactic(auto, using(crate::proofs::Handed::rows_of_any_course))]
+pub fn rows_of_any_course()
+    ensures { RowsOfAnyCourse }
+{}
+
 /// Worked lines, call after call.
 pub fn worked_lines()
     ensures { WorkedLines }
+{}
+
+/// Worked lines that a cancellation cuts, at each place at which a call looks at its token: those of a text
+/// that is executed or queried, of one row, of statements, and of what is left.
+pub fn worked_cuts()
+    ensures texts { CutTexts }
+    ensures ones { CutOnes }
+    ensures statements { CutStatements }
+    ensures others { CutOthers }
+{}
+
+/// Worked rows that a query or a statement handed out.
+pub fn worked_rows()
+    ensures { WorkedRows }
 {}

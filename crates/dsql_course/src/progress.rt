@@ -2,7 +2,7 @@ ghost use Rattle.std.specs.Prelude.{◌≡◌, [], ◌∷◌, reverse};
 ghost use Rattle.std.specs.List.{list_any};
 ghost use Rattle.dsql_course.specs.Made.{went_bad as went_bad_of, was_skipped as was_skipped_of, is_done, given_handle as given_handle_of, own_handle as own_handle_of, given_cursor as given_cursor_of, own_cursor as own_cursor_of, was_decided as was_decided_of, ends_rows as ends_rows_of, rows_are_over as rows_are_over_of};
 ghost use Rattle.dsql_course.specs.Line.{comes_next as next_of};
-ghost use Rattle.dsql_course.specs.Rows.{rows_next as rows_next_of};
+ghost use Rattle.dsql_course.specs.Rows.{rows_next, rows_next_of, closing_of};
 ghost use Rattle.dsql_course.specs.Summary.{last_call, is_settled};
 
 use crate::call::{Due, Got};
@@ -84,15 +84,41 @@ impl Progress {
         plan.comes_next(Found { stopped, bad }, self)
     }
 
-    /// What comes next over rows with this cursor that were handed out, where this is wanted of them. `None`
-    /// where they stay open as they are.
+    /// What comes next over rows with this cursor that a query handed out, where this is wanted of them, and
+    /// their connection isn't known to be bad from elsewhere. `None` where they stay open as they are.
     pub fn next_over_rows(&self, wish: Wish, caps: Caps, args: usize, rows: u32) -> Option<Due>
-        ensures { result ≡ rows_next_of wish caps args self.now rows }
+        ensures { result ≡ rows_next wish caps args self.now rows }
+    {
+        self.next_over_rows_of(Course::Query, wish, caps, args, false, rows)
+    }
+
+    /// The same over the rows that any course handed out: a statement keeps the handle that its run
+    /// prepared. On a connection that is known to be bad rows are fetched, and not closed.
+    pub fn next_over_rows_of(
+        &self,
+        course: Course,
+        wish: Wish,
+        caps: Caps,
+        args: usize,
+        bad: bool,
+        rows: u32,
+    ) -> Option<Due>
+        ensures { result ≡ rows_next_of course bad wish caps args self.now rows }
     {
         match wish {
             Wish::Nothing if !self.over => None,
             Wish::Fetch if !self.over => Some(Due::Next(rows)),
-            _ => Some(self.next(Course::One, caps, args, true, false)),
+            _ => Some(self.closing(course, caps, args, bad)),
+        }
+    }
+
+    /// What comes next of rows that a course handed out, once they are closed.
+    fn closing(&self, course: Course, caps: Caps, args: usize, bad: bool) -> Due
+        ensures { result ≡ closing_of course bad caps args self.now }
+    {
+        match (course, self.next(Course::One, caps, args, true, bad)) {
+            (Course::Run { .. }, Due::CloseStmt(_)) => Due::Over,
+            (_, due) => due,
         }
     }
 

@@ -58,3 +58,33 @@ fn a_text_that_is_passed_on_is_prepared(rt: HostRuntime) -> Result<(), Fail> {
     );
     Ok(())
 }
+
+#[test]
+fn a_statement_keeps_the_handle_of_its_rows(rt: HostRuntime) -> Result<(), Fail> {
+    let prepared = Got::Prepared {
+        handle: 1,
+        inputs: 0,
+    };
+    let open = Progress::new()
+        .with(Due::Prepare, prepared)
+        .with(Due::Handle(1), Got::Cursor(3));
+    assert_eq!(rt;
+        open.next_over_rows(Wish::Fetch, BARE, 0, 3),
+        Some(Due::Next(3))
+    );
+    let closed = open.with(Due::CloseRows(3), Got::Done);
+    assert_eq!(rt;
+        closed.next_over_rows(Wish::Close, BARE, 0, 3),
+        Some(Due::CloseStmt(1))
+    );
+    let run = Course::Run {
+        reads: true,
+        one: false,
+        live: None,
+    };
+    assert_eq!(rt;
+        closed.next_over_rows_of(run, Wish::Close, BARE, 0, false, 3),
+        Some(Due::Over)
+    );
+    Ok(())
+}
