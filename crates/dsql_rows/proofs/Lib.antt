@@ -1,3 +1,1 @@
-pub mod Changes
-pub mod EachEntry
 pub mod Numbers

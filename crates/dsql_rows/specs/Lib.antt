@@ -1,3 +1,4 @@
 pub mod Ends
 pub mod OpenRows
 pub mod Laws
+pub mod Worked

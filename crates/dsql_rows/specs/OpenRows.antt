@@ -1,10 +1,10 @@
 -- Rows that were made, by their numbers.
-use Rattle.std.specs.Prelude.{◌≡◌, ◌≢◌, ℕ, Bool, true, false, ◌==◌, if◌then◌else◌, List, [], ◌∷◌, Option, Some, None, is_none, is_some, Result, Ok, Err, MatchResult}
-use Rattle.std.specs.Map.{lookup}
+use Rattle.std.specs.Prelude.{◌≡◌, ◌≢◌, ℕ, Bool, true, false, if◌then◌else◌, List, Option, Some, None, is_none, is_some, Result, Ok, Err, MatchResult}
 use Rattle.dsql_value.specs.declared.value.Value.{Value}
 use Rattle.dsql_scan.specs.declared.cell.Cell.{Cell}
 use Rattle.dsql_scan.specs.declared.dest.Dest.{Dest}
 use Rattle.dsql_scan.specs.Rows.{row_of, RowScan}
+use Rattle.dsql_numbered.specs.Numbered as numbered
 use Rattle.dsql_rows.specs.declared.end.RowsEnd.{RowsEnd}
 use Rattle.dsql_rows.specs.declared.fault.RowsClosed.{RowsClosed}
 use Rattle.dsql_rows.specs.declared.fault.RowsFault.{RowsFault}
@@ -77,12 +77,15 @@ pub record OpenRows : Type 0 where
 
 -- the rows of that number
 abbrev pub rows_of : ℕ → List (ℕ × Rows) → Option Rows
-rows_of n rows = lookup (λ k. n == k) rows
+rows_of n rows = numbered.thing_of n rows
 
 abbrev pub was_made : ℕ → List (ℕ × Rows) → Bool
-was_made n rows = is_some (rows_of n rows)
+was_made n rows = numbered.was_made n rows
 
 -- the same with the rows of that number changed
 abbrev pub changed : (Rows → Rows) → ℕ → List (ℕ × Rows) → List (ℕ × Rows)
-changed change n [] = []
-changed change n (e ∷ later) = if n == e.0 then (e.0, change e.1) ∷ later else e ∷ changed change n later
+changed change n rows = numbered.changed change n rows
+
+-- the same with all rows changed
+abbrev pub all_changed : (Rows → Rows) → List (ℕ × Rows) → List (ℕ × Rows)
+all_changed change rows = numbered.all_changed change rows

@@ -1,6 +1,7 @@
 ghost use Rattle.std.specs.Prelude.{◌≡◌};
 ghost use Rattle.dsql_rows.specs.Ends.{over_of, is_fault};
 
+use dsql_cancel::Cause;
 use dsql_value::Txt;
 
 /// What ends rows.
@@ -10,6 +11,10 @@ pub enum RowsEnd {
     Close,
     /// `Next` came to the end of the rows.
     EndOfRows,
+    /// The transaction that they are in was ended.
+    TxEnded,
+    /// The token of their query was cancelled, for this cause.
+    Cancel(Cause),
     /// The driver told an error, with its text.
     Failed(Txt),
     /// The connection was bad.
@@ -23,6 +28,8 @@ pub enum RowsEnd {
 pub enum RowsOver {
     Close,
     EndOfRows,
+    TxEnded,
+    Cancel(Cause),
     Failed,
     BadConn,
     EndOfRun,
@@ -36,6 +43,8 @@ impl RowsEnd {
         match self {
             RowsEnd::Close => RowsOver::Close,
             RowsEnd::EndOfRows => RowsOver::EndOfRows,
+            RowsEnd::TxEnded => RowsOver::TxEnded,
+            RowsEnd::Cancel(cause) => RowsOver::Cancel(*cause),
             RowsEnd::Failed(_) => RowsOver::Failed,
             RowsEnd::BadConn => RowsOver::BadConn,
             RowsEnd::EndOfRun => RowsOver::EndOfRun,
@@ -46,6 +55,9 @@ impl RowsEnd {
     pub(crate) fn is_fault(&self) -> bool
         ensures { result ≡ is_fault self.now }
     {
-        matches!(self, RowsEnd::Failed(_) | RowsEnd::BadConn)
+        matches!(
+            self,
+            RowsEnd::Cancel(_) | RowsEnd::Failed(_) | RowsEnd::BadConn
+        )
     }
 }

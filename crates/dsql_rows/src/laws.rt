@@ -1,5 +1,6 @@
-//! Laws of the table of rows: each law is the contract of a function that does nothing.
+//! Laws of the table of rows, and worked ends: each law is the contract of a function that does nothing.
 ghost use Rattle.dsql_rows.specs.Laws.{FirstEndStays, ScanReadsTheNewest, ChangesOneNumber};
+ghost use Rattle.dsql_rows.specs.Worked.{WorkedEnds};
 
 /// The first end of rows stays, whatever comes to end them later.
 #[tactic(auto, using(crate::proofs::Numbers::first_end_stays))]
@@ -18,4 +19,9 @@ pub fn a_scan_reads_the_newest_row()
 #[tactic(auto, using(crate::proofs::Numbers::changes_one_number))]
 pub fn changes_of_one_number()
     ensures { ChangesOneNumber }
+{}
+
+/// Worked ends: which are told as errors, and what a scan tells of them.
+pub fn worked_ends()
+    ensures { WorkedEnds }
 {}

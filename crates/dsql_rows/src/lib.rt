@@ -8,6 +8,7 @@ pub mod laws;
 mod rows;
 mod table;
 
+pub use dsql_cancel::Cause;
 pub use end::{RowsEnd, RowsOver};
 pub use fault::{RowsClosed, RowsFault};
 pub use table::RowsTable;

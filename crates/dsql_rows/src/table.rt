@@ -1,4 +1,4 @@
-ghost use Rattle.std.specs.Prelude.{◌≡◌, ◌+◌, ◌≤◌, [], ◌∷◌, ◌++◌, length, map, Some, true, false, OnOk, OnErr, IfErr, IfSome};
+ghost use Rattle.std.specs.Prelude.{◌≡◌, ◌+◌, ◌≤◌, [], ◌∷◌, ◌++◌, length, Some, true, false, OnOk, OnErr, IfErr, IfSome};
 ghost use Rattle.std.specs.Option.{option_copied, option_map};
 
 use crate::end::RowsEnd;
@@ -28,7 +28,7 @@ impl Model for RowsTable {
 }
 
 impl RowsTable {
-    ghost use Rattle.dsql_rows.specs.OpenRows.{rows_of, was_made, fresh, is_live, changed, shown, ended_by, told_by, IsClosedBy, IsScan};
+    ghost use Rattle.dsql_rows.specs.OpenRows.{rows_of, was_made, fresh, is_live, changed, all_changed, shown, ended_by, told_by, IsClosedBy, IsScan};
     ghost use Rattle.dsql_rows.specs.declared.end.RowsEnd.TheVariants.{EndOfRun};
 
     /// No rows. It takes no memory.
@@ -122,7 +122,7 @@ impl RowsTable {
 
     /// The end of the run ends all rows that nothing has ended. It takes no memory.
     pub fn close_all(&mut self)
-        ensures rows { self.new.rows ≡ map (λ it. (it.0, ended_by EndOfRun it.1)) self.old.rows }
+        ensures rows { self.new.rows ≡ all_changed (ended_by EndOfRun) self.old.rows }
         ensures spare { self.new.spare ≡ self.old.spare }
     {
         for index in 0..self.rows.len() {

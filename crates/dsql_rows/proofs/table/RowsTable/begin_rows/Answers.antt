@@ -3,7 +3,7 @@ use Rattle.std.proofs.Common.{ℕ, List, ◌∷◌, [], ◌++◌, ap, ◌∙◌,
 use Rattle.indexmap.proofs.CallerLemmas.{insert_entry-new}
 use Rattle.dsql_rows.specs.declared.rows.Rows.{Rows}
 use Rattle.dsql_rows.specs.OpenRows.{OpenRows, fresh, was_made}
-use Rattle.dsql_rows.proofs.Changes.{not_made}
+use Rattle.dsql_numbered.proofs.Changes.{not_made}
 use Rattle.dsql_rows.proofs.table.RowsTable.begin_rows.Goals as goal
 
 pub returns-clause-ok : goal.returns-clause-ok

@@ -1,11 +1,11 @@
 -- One entry after another is ended where it stands.
-use Rattle.std.proofs.Common.{ℕ, List, length, map, slice_get, ap, sym, ◌∙◌, arith}
+use Rattle.std.proofs.Common.{ℕ, List, length, slice_get, ap, sym, ◌∙◌, arith}
 use Rattle.std.specs.Map.{values_of}
 use Rattle.indexmap.specs.IndexMap.{set_value_at}
 use Rattle.dsql_rows.specs.declared.rows.Rows.{Rows}
 use Rattle.dsql_rows.specs.declared.end.RowsEnd.TheVariants.{EndOfRun}
-use Rattle.dsql_rows.specs.OpenRows.{OpenRows, ended_by}
-use Rattle.dsql_rows.proofs.EachEntry.{length-changed_before, changed_before-end, changed_before-next}
+use Rattle.dsql_rows.specs.OpenRows.{OpenRows, ended_by, all_changed}
+use Rattle.dsql_numbered.proofs.EachThing.{length-changed_before, changed_before-end, changed_before-next}
 use Rattle.dsql_rows.proofs.table.RowsTable.close_all.Goals as goal
 
 pub index_mut-requires : goal.index_mut-requires
@@ -27,4 +27,4 @@ pub returns-clause-rows : goal.returns-clause-rows
 returns-clause-rows c =
     c.loop-index.invariant.0
     ∙ (changed_before-end (ended_by EndOfRun) c.loop-index.index c.self.inside.rows.entries (omega arith)
-    ∙ ap (λ (t : OpenRows). map (λ it. (it.0, ended_by EndOfRun it.1)) t.rows) c.self.view_is)
+    ∙ ap (λ (t : OpenRows). all_changed (ended_by EndOfRun) t.rows) c.self.view_is)

@@ -3,7 +3,7 @@ use Rattle.std.proofs.Common.{◌≡◌}
 use Rattle.indexmap.specs.IndexMap.{spare}
 use Rattle.dsql_rows.specs.OpenRows.{ended_by}
 use Rattle.dsql_rows.specs.declared.end.RowsEnd.TheVariants.{EndOfRun}
-use Rattle.dsql_rows.proofs.EachEntry.{changed_before}
+use Rattle.dsql_numbered.proofs.EachThing.{changed_before}
 use Rattle.dsql_rows.proofs.table.RowsTable.close_all.Given as goal
 
 abbrev pub invariant-loop-index : goal.invariant-loop-index

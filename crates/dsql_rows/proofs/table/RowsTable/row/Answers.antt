@@ -1,11 +1,12 @@
 -- The rows of that number, changed where they stand or left as they were.
-use Rattle.std.proofs.Common.{◌≡◌, ℕ, List, Option, Some, ap, sym, ◌∙◌, subst}
+use Rattle.std.proofs.Common.{◌≡◌, ℕ, List, Option, Some, ap, sym, eqb, ◌∙◌, subst}
 use Rattle.std.specs.Prelude.{IfSome}
 use Rattle.std.proofs.lemmas.Result.{on_ok_weaker, on_err_weaker, IfErr-weaker}
 use Rattle.std.proofs.lemmas.Map.Steps.{set_value_same}
+use Rattle.std.specs.Map.{set_value}
 use Rattle.dsql_rows.specs.declared.rows.Rows.{Rows}
 use Rattle.dsql_rows.specs.OpenRows.{OpenRows, rows_of, changed, shown, IsClosedBy}
-use Rattle.dsql_rows.proofs.Changes.{with_rows, with_rows-changed}
+use Rattle.dsql_numbered.proofs.Changes.{set_value-changed}
 use Rattle.dsql_rows.proofs.table.RowsTable.row.Goals as goal
 
 pub returns-clause-ok : goal.returns-clause-ok
@@ -14,8 +15,8 @@ returns-clause-ok c =
     let view = ap (λ (t : OpenRows). t.rows) c.self.view_is in
     on_ok_weaker c.show.result
     (λ shows. (c.get_mut.follows.holds c.show.new.self).0
-    ∙ (ap (λ (r : Rows). with_rows c.args.n rows r) shows
-    ∙ (with_rows-changed (shown c.args.values) c.args.n rows c.in-Some.rows.now (sym c.in-Some.ensures.value)
+    ∙ (ap (λ (r : Rows). set_value (λ k. eqb c.args.n k) rows r) shows
+    ∙ (set_value-changed (shown c.args.values) c.args.n rows c.in-Some.rows.now (sym c.in-Some.ensures.value)
     ∙ ap (λ (es : List (ℕ × Rows)). changed (shown c.args.values) c.args.n es) view)))
     c.show.ensures.ok
 
@@ -33,6 +34,6 @@ returns-clause-err c =
     let view = ap (λ (t : OpenRows). t.rows) c.self.view_is in
     on_err_weaker c.show.result
     (λ stays. (c.get_mut.follows.holds c.show.new.self).0
-    ∙ (ap (λ (r : Rows). with_rows c.args.n rows r) stays
+    ∙ (ap (λ (r : Rows). set_value (λ k. eqb c.args.n k) rows r) stays
     ∙ (set_value_same _ rows c.in-Some.rows.now (sym c.in-Some.ensures.value) ∙ view)))
     c.show.ensures.err
