@@ -1,4 +1,16 @@
+pub mod AfterCalls
 pub mod Closed
 pub mod Due
 pub mod Found
+pub mod Frees
+pub mod Lawful
+pub mod Leaving
+pub mod Members
+pub mod Nearly
+pub mod Placed
+pub mod Returning
+pub mod Resting
 pub mod Rows
+pub mod Settling
+pub mod Stepping
+pub mod Young

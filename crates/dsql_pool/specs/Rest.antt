@@ -1,14 +1,19 @@
 -- What holds of the pool at rest.
-use Rattle.std.specs.Prelude.{◌≡◌, ◌==◌, ℕ, Bool, true, not, ◌&&◌, ◌||◌, nat_le, cond, length, count_by, is_none}
+use Rattle.std.specs.Prelude.{◌≡◌, ◌==◌, ℕ, suc, Bool, true, not, ◌&&◌, ◌||◌, nat_le, cond, List, [], ◌∷◌, length, is_none}
 use Rattle.std.specs.List.{list_all}
 use Rattle.dsql_journal.specs.Readers.{is_empty}
 use Rattle.dsql_pool.specs.Places.{conn_of, is_idle}
 use Rattle.dsql_pool.specs.Pooled.{Pooled, place_at, open_count, free_openings, room, most_open}
 use Rattle.dsql_pool.specs.Decisions.{cause_at}
 
+-- how often a number stands in a list
+abbrev pub times : ℕ → List ℕ → ℕ
+times d [] = 0
+times d (e ∷ es) = cond (e == d) (suc (times d es)) (times d es)
+
 -- a connection is among the idle ones once where its place is idle, and else not at all
 abbrev pub IsPlaced : Pooled → Type 0
-IsPlaced p = (c : ℕ) → count_by (λ d. d == c) p.idle ≡ cond (is_idle (place_at p c)) 1 0
+IsPlaced p = (c : ℕ) → times c p.idle ≡ cond (is_idle (place_at p c)) 1 0
 
 -- at most a thousand are open, whatever the limits
 abbrev pub keeps_most : Pooled → Bool

@@ -5,6 +5,7 @@
 
 mod conn;
 mod conns;
+pub mod laws;
 mod lists;
 mod moves;
 mod pool;
