@@ -1,7 +1,7 @@
 -- The outside in memory: streams over lists of bytes that fail when they are told to, and a clock over a list of moments.
-use Rattle.std.specs.Prelude.{ℕ, ◌+◌, ◌==◌, Bool, List, [], ◌∷◌, ◌++◌, length, min, take, drop, if◌then◌else◌}
+use Rattle.std.specs.Prelude.{ℕ, ◌==◌, Bool, List, [], ◌∷◌, ◌++◌, length, min, take, drop, if◌then◌else◌}
 use Rattle.std.specs.List.{list_any}
-use Rattle.dsql_driver.specs.Streams.{last_count}
+use Rattle.dsql_driver.specs.Streams.{one_more}
 
 -- A stream: the bytes that it has, the most that goes through it at once, the numbers of the turns that are to fail, counted
 -- from 1, how many turns there were and how many failed.
@@ -15,10 +15,6 @@ pub record Stream : Type 0 where
 -- a stream that nothing went through
 abbrev pub new_stream : List ℕ → ℕ → List ℕ → Stream
 new_stream bytes piece failing = record { bytes = bytes; piece = piece; failing = failing; turns = 0; faults = 0 }
-
--- one more than a count, which stands still at its last value
-abbrev pub one_more : ℕ → ℕ
-one_more n = min (n + 1) last_count
 
 -- the stream's next turn is to fail
 abbrev pub fails_next : Stream → Bool

@@ -1,9 +1,13 @@
 -- Counts of faults, and what a read takes.
-use Rattle.std.specs.Prelude.{ℕ, ◌≡◌, ◌<◌, ◌≤◌, Bool, ◌||◌, nat_lt, nat_le, IsTrue, List, [], length, take, drop, Option, Some, None}
+use Rattle.std.specs.Prelude.{ℕ, ◌≡◌, ◌+◌, ◌<◌, ◌≤◌, Bool, ◌||◌, nat_lt, nat_le, IsTrue, List, [], length, min, take, drop, Option, Some, None}
 
 -- the last value of a count, at which it stands still
 abbrev pub last_count : ℕ
 last_count = 18446744073709551615
+
+-- one more than a count, which stands still at its last value
+abbrev pub one_more : ℕ → ℕ
+one_more n = min (n + 1) last_count
 
 -- The count rose. One that stands at its last value counts as risen.
 abbrev pub has_risen : ℕ → ℕ → Bool

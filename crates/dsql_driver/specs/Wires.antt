@@ -1,12 +1,17 @@
--- What wires hear and what fleets retire.
-use Rattle.std.specs.Prelude.{ℕ, ◌≡◌, ◌⊎◌, ◌==◌, Bool, true, false, not, ◌||◌, List, [], ◌∷◌, ◌++◌, length, filter, Option, Some, None, option_map}
+-- What wires and fleets tell of what they were asked.
+use Rattle.std.specs.Prelude.{ℕ, ◌≡◌, ◌⊎◌, ◌==◌, Bool, true, false, not, ◌||◌, List, [], ◌∷◌, ◌++◌, length, filter, Option, Some, None, option_map, Result, Ok, Err}
 use Rattle.std.specs.List.{list_any, list_all}
+use Rattle.dsql_driver.specs.Streams.{one_more}
+use Rattle.dsql_driver.specs.declared.caps.Caps.{Caps}
 use Rattle.dsql_driver.specs.declared.call.DriverCall.{DriverCall}
 use Rattle.dsql_driver.specs.declared.call.DriverCall.TheVariants.{Connect, CloseStmt, CloseRows, Next}
 use Rattle.dsql_driver.specs.declared.answer.DriverAnswer.{DriverAnswer}
 use Rattle.dsql_driver.specs.declared.answer.DriverAnswer.TheVariants.{Done, Prepared, Cursor, Row, Memory}
+use Rattle.dsql_driver.specs.declared.answer.DriverAnswer.TheVariants as answers
+use Rattle.dsql_driver.specs.declared.wire.Planned.{Planned}
 use Rattle.dsql_driver.specs.declared.wire.Refused.{Refused}
 use Rattle.dsql_driver.specs.declared.wire.Refused.TheVariants.{Bad, Fail}
+use Rattle.dsql_driver.specs.declared.wire.Refused.TheVariants as refusals
 
 -- a call that was heard, with its answer
 abbrev pub Told : Type 0
@@ -16,23 +21,91 @@ Told = DriverCall × DriverAnswer
 abbrev pub LiveCursor : Type 0
 LiveCursor = ℕ × ℕ
 
--- a wire's number with what it heard
+-- a fault in place of the answer to the nth call on a wire, its Connect being the first
+abbrev pub Plan : Type 0
+Plan = ℕ × Planned
+
+-- What a wire tells: its number, the calls that it heard with their answers, and the faults that were planned on it, each oldest first.
+pub record WireTold : Type 0 where
+  pub number : ℕ
+  pub calls : List Told
+  pub plans : List Plan
+
+-- a Connect that was asked for, by the connection's number, with its answer
+abbrev pub Connected : Type 0
+Connected = ℕ × DriverAnswer
+
+-- a fault that is planned for the wire of this number
+abbrev pub WirePlan : Type 0
+WirePlan = ℕ × Plan
+
+-- a wire that was given back under this number, with what it tells
 abbrev pub RetiredWire : Type 0
-RetiredWire = ℕ × List Told
+RetiredWire = ℕ × WireTold
 
--- what a new wire has heard
-abbrev pub newly_told : List Told
-newly_told = (Connect, Done) ∷ []
+-- What a fleet tells: the Connects that it was asked for, the faults that were planned, and the wires that it was given back, each oldest first.
+pub record FleetTold : Type 0 where
+  pub connects : List Connected
+  pub plans : List WirePlan
+  pub retired : List RetiredWire
 
--- what was heard after one more call; a call answered Memory isn't heard
-abbrev pub told_after : DriverCall → DriverAnswer → Option (List Told) → Option (List Told)
+-- which capabilities a fleet was asked for last, and how often it was asked; the count stands still at its last value
+pub record Preferred : Type 0 where
+  pub last : Option Caps
+  pub times : ℕ
+
+-- what a new wire tells
+abbrev pub newly_told : ℕ → WireTold
+newly_told number = record { number = number; calls = (Connect, Done) ∷ []; plans = [] }
+
+abbrev pub with_call : Told → WireTold → WireTold
+with_call call told = record told { calls = told.calls ++ call ∷ [] }
+
+-- what a wire tells after one more call; a call answered Memory isn't heard
+abbrev pub told_after : DriverCall → DriverAnswer → Option WireTold → Option WireTold
 told_after call Memory told = told
-told_after call answer told = option_map (λ before. before ++ (call, answer) ∷ []) told
+told_after call answer told = option_map (with_call (call, answer)) told
 
--- what was retired after one more wire
-abbrev pub retired_after : ℕ → Option (List Told) → Option (List RetiredWire) → Option (List RetiredWire)
-retired_after number (Some told) (Some before) = Some (before ++ (number, told) ∷ [])
+abbrev pub with_plan : Plan → WireTold → WireTold
+with_plan plan told = record told { plans = told.plans ++ plan ∷ [] }
+
+-- what a wire tells once one more fault was planned on it
+abbrev pub planned_after : Plan → Option WireTold → Option WireTold
+planned_after plan told = option_map (with_plan plan) told
+
+-- the answer that a fleet gives to a Connect
+abbrev pub answer_of : {W : Type 0} → Result W Refused → DriverAnswer
+answer_of (Ok wire) = Done
+answer_of (Err Bad) = answers.Bad
+answer_of (Err (Fail text)) = answers.Fail text
+answer_of (Err refusals.Memory) = Memory
+
+abbrev pub with_connects : List Connected → FleetTold → FleetTold
+with_connects more told = record told { connects = told.connects ++ more }
+
+-- what a fleet tells after one more Connect; one that is answered Memory isn't told
+abbrev pub connected_after : ℕ → DriverAnswer → Option FleetTold → Option FleetTold
+connected_after number Memory told = told
+connected_after number answer told = option_map (with_connects ((number, answer) ∷ [])) told
+
+abbrev pub with_wire_plan : WirePlan → FleetTold → FleetTold
+with_wire_plan plan told = record told { plans = told.plans ++ plan ∷ [] }
+
+-- what a fleet tells once one more fault was planned
+abbrev pub plans_after : WirePlan → Option FleetTold → Option FleetTold
+plans_after plan told = option_map (with_wire_plan plan) told
+
+abbrev pub with_retired : List RetiredWire → FleetTold → FleetTold
+with_retired more told = record told { retired = told.retired ++ more }
+
+-- what a fleet tells once one more wire was given back
+abbrev pub retired_after : ℕ → Option WireTold → Option FleetTold → Option FleetTold
+retired_after number (Some wire) (Some told) = Some (with_retired ((number, wire) ∷ []) told)
 retired_after number _ _ = None
+
+-- what was asked for last and how often, after these capabilities were
+abbrev pub preferred_after : Caps → Preferred → Preferred
+preferred_after caps before = record { last = Some caps; times = one_more before.times }
 
 abbrev pub has_number : ℕ → List ℕ → Bool
 has_number n ns = list_any (λ m. m == n) ns

@@ -63,6 +63,7 @@ impl<'a> Source for SliceSource<'a> {
         ensures failed { OnErr result (Some self.new.bytes ≡ Some self.old.bytes) }
         ensures counted { self.old.faults ≤ self.new.faults }
         ensures caused { OnErr result (HasRisen self.old.faults self.new.faults) }
+        ensures faultless { OnOk result (self.new.faults ≡ self.old.faults) }
 
         // A source in memory says more: when it fails, how much it takes, and what it is afterwards.
         ensures planned { is_err result ≡ fails_next self.old }
@@ -140,6 +141,7 @@ impl Sink for VecSink {
         ensures failed { OnErr result (Some self.new.bytes ≡ Some self.old.bytes) }
         ensures counted { self.old.faults ≤ self.new.faults }
         ensures caused { OnErr result (HasRisen self.old.faults self.new.faults) }
+        ensures faultless { OnOk result (self.new.faults ≡ self.old.faults) }
 
         // A sink in memory says more: when it has to fail, how much it appends, and what it is afterwards.
         ensures planned { fails_next self.old ≡ true → IsErr result }

@@ -1,4 +1,4 @@
-ghost use Rattle.std.specs.Prelude.{◌≡◌, ◌≤◌, ◌<◌, ◌++◌, ℕ, List, Option, IfOk, OnErr, length, take, option_map};
+ghost use Rattle.std.specs.Prelude.{◌≡◌, ◌≤◌, ◌<◌, ◌++◌, ℕ, List, Option, IfOk, OnOk, OnErr, length, take, option_map};
 ghost use Rattle.dsql_driver.specs.Streams.{HasRisen, Takes};
 
 use thiserror::Error;
@@ -22,7 +22,8 @@ pub trait Source {
         ensures taken { IfOk result (λ n. Takes n (left self.old) (left self.new) buf.new) }
         ensures failed { OnErr result (left self.new ≡ left self.old) }
         ensures counted { faults self.old ≤ faults self.new }
-        ensures caused { OnErr result (HasRisen (faults self.old) (faults self.new)) };
+        ensures caused { OnErr result (HasRisen (faults self.old) (faults self.new)) }
+        ensures faultless { OnOk result (faults self.new ≡ faults self.old) };
 }
 
 /// Where a report's bytes go.
@@ -40,5 +41,6 @@ pub trait Sink {
         ensures appended { IfOk result (λ n. written self.new ≡ option_map (λ w. w ++ take n piece.now) (written self.old)) }
         ensures failed { OnErr result (written self.new ≡ written self.old) }
         ensures counted { faults self.old ≤ faults self.new }
-        ensures caused { OnErr result (HasRisen (faults self.old) (faults self.new)) };
+        ensures caused { OnErr result (HasRisen (faults self.old) (faults self.new)) }
+        ensures faultless { OnOk result (faults self.new ≡ faults self.old) };
 }

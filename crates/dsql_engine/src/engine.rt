@@ -1,4 +1,4 @@
-ghost use Rattle.std.specs.Prelude.{◌≡◌, ◌<◌, ◌≤◌, ◌∷◌, [], ℕ, true, false, length, reverse, Some, IfOk, OnErr, IsTrue, ◌↔◌};
+ghost use Rattle.std.specs.Prelude.{◌≡◌, ◌<◌, ◌≤◌, ◌∷◌, [], ℕ, true, false, length, reverse, Some, IfOk, IfErr, OnOk, OnErr, IsTrue, ◌↔◌};
 ghost use Rattle.dsql_journal.specs.HandlesAndCursors.{fits_at_its_place};
 ghost use Rattle.dsql_history.specs.Readers.Journals.{journal};
 ghost use Rattle.dsql_history.specs.Legal.{Legal};
@@ -9,11 +9,10 @@ ghost use Rattle.dsql_history.specs.Rules.Numbers.{takes_turn};
 ghost use Rattle.dsql_history.specs.declared.event.Event.TheVariants.{Run};
 
 use crate::desk::Desk;
-use crate::next::{Next, NoRoom};
-use crate::queries::number_of;
-use dsql_driver::{Caps, DriverAnswer};
+use crate::next::{HeardBack, Next, NoRoom};
+use dsql_driver::Caps;
 use dsql_history::{Event, Op};
-use dsql_journal::Entry;
+use dsql_wire::Heard;
 use std::alloc::Global;
 use std::marker::Model;
 
@@ -76,21 +75,22 @@ impl Engine {
         Ok(self.desk.enter_call(client, op, entering))
     }
 
-    /// A driver's answer is heard; the copy is of that answer, which fits at its place in the journal.
-    pub fn heard(&mut self, entry: Entry, copy: DriverAnswer) -> Result<Next, NoRoom>
-        requires awaited { awaited self.old entry.conn ≡ Some (permit_of entry) }
-        requires fits { fits_at_its_place (journal self.old entry.conn) entry ≡ true }
-        requires same { copy ≡ entry.answer }
+    /// A driver's answer is taken in, which fits at its place in the journal. It is handed back where there
+    /// is no memory.
+    pub fn heard(&mut self, heard: Heard) -> Result<Next, HeardBack>
+        requires awaited { awaited self.old heard.conn ≡ Some (permit_of heard) }
+        requires fits { fits_at_its_place (journal self.old heard.conn) heard ≡ true }
         requires room { length self.old < most_events }
-        ensures group { IfOk result (λ next. self.new ≡ after_heard self.old entry) }
-        ensures next { IfOk result (λ next. NextAfterHeard self.old entry next self.new) }
+        ensures group { OnOk result (self.new ≡ after_heard self.old heard) }
+        ensures next { IfOk result (λ next. NextAfterHeard self.old heard next self.new) }
+        ensures handed_back { IfErr result (λ back. back.heard ≡ heard) }
         ensures err { OnErr result (self.new ≡ self.old) }
         ensures legal { Legal self.new }
     {
-        let statement = self.desk.statement(self.alloc, number_of(entry.owner))?;
-        let reply = self.desk.reply_decided(self.alloc, &entry)?;
-        self.desk.pay(4)?;
-        Ok(self.desk.hear_answer(entry, copy, statement, reply))
+        match self.desk.ready_for(self.alloc, heard.entry()) {
+            Ok(ready) => Ok(self.desk.hear_answer(heard.into_entry(), ready)),
+            Err(NoRoom) => Err(HeardBack { heard }),
+        }
     }
 
     /// A client's unfinished call looks at its connection again.

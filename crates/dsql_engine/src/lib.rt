@@ -7,10 +7,11 @@ mod engine;
 mod entering;
 mod next;
 mod queries;
+mod ready;
 mod room;
 mod start;
 mod statement;
 mod steps;
 
 pub use engine::Engine;
-pub use next::{Next, NoRoom, Why};
+pub use next::{HeardBack, Next, NoRoom, Why};

@@ -1,5 +1,6 @@
 use dsql_journal::Permit;
 use dsql_value::Memory;
+use dsql_wire::Heard;
 use std::alloc::{AllocError, AllocFailed};
 use thiserror::Error;
 
@@ -27,6 +28,13 @@ pub enum Next {
 #[derive(Clone, Copy, Debug, PartialEq, Eq, Error)]
 #[error("out of memory")]
 pub struct NoRoom;
+
+/// There was no memory to take in what was heard. It is handed back, and nothing changed.
+#[derive(Debug, Drop, Error)]
+#[error("out of memory")]
+pub struct HeardBack {
+    pub heard: Heard,
+}
 
 impl From<AllocError> for NoRoom {
     fn from(_e: AllocError) -> NoRoom {

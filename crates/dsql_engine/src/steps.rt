@@ -28,7 +28,7 @@ ghost use Rattle.dsql_history.specs.declared.record.Place.TheVariants.{Opening, 
 ghost use Rattle.dsql_engine.specs.Desk.{past, Stands};
 ghost use Rattle.dsql_engine.specs.Awaited.{awaited, connect_permit, shut_permit, call_permit, permit_of};
 ghost use Rattle.dsql_engine.specs.Latest.{latest};
-ghost use Rattle.dsql_engine.specs.Statements.{statement_of, asked_of, MayEnter, Starts, Enters, EntersAsking, EntersUsing};
+ghost use Rattle.dsql_engine.specs.Statements.{statement_of, asked_of, MayEnter, Starts, Enters, EntersAsking, EntersUsing, IsReadyFor};
 ghost use Rattle.dsql_engine.specs.Made.{made};
 ghost use Rattle.dsql_engine.specs.Freshly.{Freshly};
 ghost use Rattle.dsql_engine.specs.Turns.{SettledBut, IsAlone, TakesTurns};
@@ -38,6 +38,7 @@ ghost use Rattle.dsql_engine.specs.Steps.{NextAfterEnter, NextAfterAsk, NextAfte
 use crate::desk::Desk;
 use crate::next::{Next, Why};
 use crate::queries::{ends_line, is_bad_answer, is_done_answer, is_invalid_answer};
+use crate::ready::Hearing;
 use crate::room::reply_of;
 use crate::statement::{CallStart, Entering, Statement, Then};
 use dsql_driver::{DriverAnswer, DriverCall};
@@ -261,32 +262,31 @@ impl Desk {
         }
     }
 
-    /// A driver's answer is heard; the copy is of that answer, the statement is that of the call to which the
-    /// connection is lent, and the reply is what the answer to a Query or a Next decides.
+    /// A driver's answer is taken in, for which all is ready.
     #[tactic(auto, using(crate::proofs::Basics::fitting_of, crate::proofs::Basics::heard_of))]
     pub fn hear_answer(
         &mut self,
         entry: Entry,
-        copy: DriverAnswer,
-        statement: Statement,
-        reply: Option<Reply>,
+        ready: Hearing,
     ) -> Next
         requires stands { Stands self.old }
         requires settled { Settled (past self.old) }
         requires turns { TakesTurns (past self.old) }
         requires awaited { awaited (past self.old) entry.conn ≡ Some (permit_of entry) }
         requires fits { fits_at_its_place (journal (past self.old) entry.conn) entry ≡ true }
-        requires fetch { (rows : ℕ) → entry.call ≡ calls.Next rows → reply ≡ fetch_decision (work (past self.old) entry.call_no) entry.answer }
-        requires query { (input : Input) (params : List Param) → entry.call ≡ calls.Query input params → reply ≡ query_decision (work (past self.old) entry.call_no) entry.answer }
-        requires same { copy ≡ entry.answer }
+        requires ready { IsReadyFor (past self.old) entry ready }
         requires few { length (past self.old) < 4000000 }
-        requires statement { statement ≡ statement_of (past self.old) (number_of entry.owner) }
         requires paid { 4 ≤ self.old.paid }
         ensures stands { Stands self.new }
         ensures settled { Settled (past self.new) }
         ensures group { past self.new ≡ after_heard (past self.old) entry }
         ensures next { NextAfterHeard (past self.old) entry result (past self.new) }
     {
+        let Hearing {
+            copy,
+            statement,
+            reply,
+        } = ready;
         match self.place(entry.conn) {
             Place::Opening(n) => self.hear_connect(n, entry, copy),
             Place::Lent(tenure, Owner::Call(n)) => self.hear_call(

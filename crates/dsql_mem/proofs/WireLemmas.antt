@@ -1,7 +1,7 @@
 -- What a wire is after a call that it carried out on some map, or for which memory was wanting.
 use Rattle.std.proofs.Common.{◌≡◌, ◌⊎◌, ℕ, List, [], ◌∷◌, ◌++◌, true, false, refl, ap, ◌∙◌, inl, inr}
 use Rattle.dsql_driver.specs.Fits.{fits_of, is_memory}
-use Rattle.dsql_driver.specs.Wires.{Told, KeepsHandles, KeepsCursors}
+use Rattle.dsql_driver.specs.Wires.{WireTold, with_call, KeepsHandles, KeepsCursors}
 use Rattle.dsql_driver.specs.declared.answer.DriverAnswer.{DriverAnswer}
 use Rattle.dsql_driver.specs.declared.answer.DriverAnswer.TheVariants.{Done, Prepared, Result, Cursor, Row, End, Invalid, Skip, Bad, Fail, Memory}
 use Rattle.dsql_driver.specs.declared.call.DriverCall.{DriverCall}
@@ -12,7 +12,7 @@ use Rattle.dsql_mem.specs.Wire.{WireState, CarriesOut, after_call, faults_after}
 use Rattle.dsql_mem.proofs.EffectLemmas.{effect-IsLawful}
 
 -- a wire that took a call's answer and noted it is the wire after the call
-pub changed_by_parts : (store : Entries) (call noted : DriverCall) (before : WireState) (session : SessionState) (heard : List Told) (faults : ℕ) (answer note : DriverAnswer) → session ≡ (effect store before.session call).session → answer ≡ (effect store before.session call).answer → note ≡ (effect store before.session call).answer → noted ≡ call → heard ≡ before.heard ++ (noted, note) ∷ [] → faults ≡ faults_after before.faults answer → record { session = session; heard = heard; faults = faults } ≡ after_call store before call
+pub changed_by_parts : (store : Entries) (call noted : DriverCall) (before : WireState) (session : SessionState) (told : WireTold) (faults : ℕ) (answer note : DriverAnswer) → session ≡ (effect store before.session call).session → answer ≡ (effect store before.session call).answer → note ≡ (effect store before.session call).answer → noted ≡ call → told ≡ with_call (noted, note) before.told → faults ≡ faults_after before.faults answer → record { session = session; told = told; faults = faults } ≡ after_call store before call
 changed_by_parts store call noted before session heard faults answer note s a n c h f = rw (h, f, s, a, n, c) refl
 
 -- Memory, or another answer

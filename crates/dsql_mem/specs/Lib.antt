@@ -5,6 +5,7 @@ pub mod Entries
 pub mod Filled
 pub mod Laws
 pub mod Number
+pub mod Log
 pub mod Roll
 pub mod Session
 pub mod Spelled

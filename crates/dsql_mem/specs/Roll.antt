@@ -1,9 +1,10 @@
 -- What a roll of retired wires holds.
 use Rattle.std.specs.Prelude.{List, [], ◌∷◌, ◌++◌}
 use Rattle.dsql_driver.specs.Wires.{RetiredWire}
+use Rattle.dsql_mem.specs.Log.{told_of}
 use Rattle.dsql_mem.specs.declared.roll.Roll.{Roll, Empty, Wire'}
 
--- the wires on the roll with what they heard, oldest first
+-- the wires on the roll with what they tell, oldest first
 abbrev pub retired_of : Roll → List RetiredWire
 retired_of Empty = []
-retired_of (Wire' number heard place before) = retired_of before ++ (number, heard.items) ∷ []
+retired_of (Wire' number log place before) = retired_of before ++ (number, told_of log) ∷ []

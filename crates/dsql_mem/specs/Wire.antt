@@ -1,8 +1,8 @@
 -- What wires and fleets in memory are.
-use Rattle.std.specs.Prelude.{◌≡◌, ℕ, true, false, List, [], ◌∷◌, ◌++◌, Option, unwrap_or, if◌then◌else◌}
+use Rattle.std.specs.Prelude.{◌≡◌, ℕ, true, false, List, [], Option, None, unwrap_or, if◌then◌else◌}
 use Rattle.dsql_driver.specs.Fits.{is_fault}
-use Rattle.dsql_driver.specs.Memory.{one_more}
-use Rattle.dsql_driver.specs.Wires.{Told, RetiredWire, newly_told}
+use Rattle.dsql_driver.specs.Streams.{one_more}
+use Rattle.dsql_driver.specs.Wires.{WireTold, FleetTold, Preferred, newly_told, with_call}
 use Rattle.dsql_driver.specs.declared.answer.DriverAnswer.{DriverAnswer}
 use Rattle.dsql_driver.specs.declared.caps.Caps.{Caps}
 use Rattle.dsql_driver.specs.declared.call.DriverCall.{DriverCall}
@@ -10,16 +10,16 @@ use Rattle.dsql_mem.specs.Effect.{effect}
 use Rattle.dsql_mem.specs.Entries.{Entries}
 use Rattle.dsql_mem.specs.Session.{SessionState, new_session}
 
--- A wire: its session, what it heard, oldest first, and how often it answered with a fault. The map is shared by all wires of
--- its fleet, and so it is no part of one.
+-- A wire: its session, what it tells, and how often it answered with a fault. The map is shared by all wires of its fleet, and
+-- so it is no part of one.
 pub record WireState : Type 0 where
   pub session : SessionState
-  pub heard : List Told
+  pub told : WireTold
   pub faults : ℕ
 
--- a wire that has heard just its Connect
-abbrev pub new_wire : WireState
-new_wire = record { session = new_session; heard = newly_told; faults = 0 }
+-- a wire that has heard just its Connect: its session is new
+abbrev pub new_wire : ℕ → WireState
+new_wire number = record { session = new_session; told = newly_told number; faults = 0 }
 
 -- a count of faults after an answer
 abbrev pub faults_after : ℕ → DriverAnswer → ℕ
@@ -30,7 +30,7 @@ abbrev pub after_call : Entries → WireState → DriverCall → WireState
 after_call store wire call = let after = effect store wire.session call in
     record {
       session = after.session;
-      heard = wire.heard ++ (call, after.answer) ∷ [];
+      told = with_call (call, after.answer) wire.told;
       faults = faults_after wire.faults after.answer;
     }
 
@@ -39,10 +39,18 @@ pub record CarriesOut (store : Entries) (call : DriverCall) (answer : DriverAnsw
   pub answered : answer ≡ (effect store before.session call).answer
   pub changed : after ≡ after_call store before call
 
--- A fleet: the capabilities that were asked for last, and the wires that were retired, oldest first.
+-- A fleet: which capabilities it was asked for, and what it tells.
 pub record FleetState : Type 0 where
-  pub preferred : Option Caps
-  pub retired : List RetiredWire
+  pub preferred : Preferred
+  pub told : FleetTold
+
+-- a fleet in memory refuses no Connect as Bad or Fail
+abbrev pub faults_of : FleetState → ℕ
+faults_of fleet = 0
+
+-- a fleet that was asked for nothing
+abbrev pub new_fleet : FleetState
+new_fleet = record { preferred = record { last = None; times = 0 }; told = record { connects = []; plans = []; retired = [] } }
 
 -- all capabilities but named parameters
 abbrev pub default_caps : Caps
@@ -59,4 +67,4 @@ default_caps =
 
 -- what the fleet's driver can do: what was asked for last, or else what it can by itself
 abbrev pub ability_of : FleetState → Caps
-ability_of fleet = unwrap_or fleet.preferred default_caps
+ability_of fleet = unwrap_or fleet.preferred.last default_caps

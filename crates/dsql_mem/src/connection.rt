@@ -1,47 +1,51 @@
 ghost use Rattle.std.specs.Prelude.{◌≡◌, ◌≤◌, true, false, IfOk, OnOk, OnErr};
 ghost use Rattle.dsql_driver.specs.Fits.{is_memory};
+ghost use Rattle.dsql_driver.specs.Wires.{with_plan};
 ghost use Rattle.dsql_mem.specs.Effect.{effect};
+ghost use Rattle.dsql_mem.specs.Entries.{AreAscending};
+ghost use Rattle.dsql_mem.specs.Log.{told_of};
 ghost use Rattle.dsql_mem.specs.Session.{IsSound};
 ghost use Rattle.dsql_mem.specs.Wire.{new_wire, after_call, faults_after, CarriesOut};
 
 use crate::copies::Copies;
-use crate::roll::{Roll, Told};
+use crate::log::Log;
+use crate::roll::Roll;
 use crate::session::Session;
 use crate::store::Store;
-use dsql_driver::{Answered, DriverAnswer, DriverCall};
+use dsql_driver::{Answered, DriverAnswer, DriverCall, Planned};
 use dsql_value::Memory;
 use std::alloc::Global;
 use std::marker::Model;
 
-/// What a wire has for itself: its session, what it heard, its count of faults, and the room for its entry
-/// on a roll.
+/// What a wire has for itself: its session, what it was asked, its count of faults, and the room for its
+/// entry on a roll.
 #[derive(Drop)]
 pub(crate) struct Connection {
     session: Session,
-    heard: Vec<Told>,
+    log: Log,
     faults: u64,
     room: Box<Roll>,
 }
 
 impl Model for Connection {
+    ghost use Rattle.dsql_mem.specs.Log.{told_of};
     ghost use Rattle.dsql_mem.specs.Wire.{WireState};
 
     ghost Value = { WireState };
 
-    ghost view = { λ c. record { session = c.session; heard = c.heard.items; faults = c.faults } };
+    ghost view = { λ c. record { session = c.session; told = told_of c.log; faults = c.faults } };
 }
 
 impl Connection {
     /// A connection that has heard just its Connect.
-    pub(crate) fn new(alloc: Global) -> Result<Connection, Memory>
-        ensures { IfOk result (λ connection. connection ≡ new_wire) }
+    pub(crate) fn new(alloc: Global, number: u32) -> Result<Connection, Memory>
+        ensures { IfOk result (λ connection. connection ≡ new_wire number) }
     {
-        let mut heard = Vec::new(alloc);
-        heard.push((DriverCall::Connect, DriverAnswer::Done))?;
+        let log = Log::new(alloc, number)?;
         let room = Box::new(alloc, Roll::Empty)?;
         Ok(Connection {
             session: Session::new(alloc),
-            heard,
+            log,
             faults: 0,
             room,
         })
@@ -59,10 +63,12 @@ impl Connection {
         ensures copied { result.copy ≡ result.answer }
         ensures carried_out { is_memory result.answer ≡ false → CarriesOut store.old call.now result.answer self.old self.new }
         ensures sound { IsSound self.old.session }
+        ensures ascending { AreAscending store.old }
         ensures stays { is_memory result.answer ≡ true → self.new ≡ self.old }
         ensures counted { self.old.faults ≤ self.new.faults }
     {
         self.vouch();
+        store.vouch();
         match self.hear(alloc, store, call) {
             Ok(answered) => answered,
             Err(Memory) => Answered {
@@ -85,20 +91,28 @@ impl Connection {
         ensures err { OnErr result (self.new ≡ self.old) }
         ensures counted { self.old.faults ≤ self.new.faults }
     {
-        self.heard.reserve(1)?;
+        self.log.calls.reserve(1)?;
         let noted = call.clone()?;
         let Copies { answer, copy, note } = store.step(alloc, &mut self.session, call)?;
         self.faults = faults_after(self.faults, &answer);
-        self.heard.push_reserved((noted, note));
+        self.log.calls.push_reserved((noted, note));
         Ok(Answered { answer, copy })
     }
 
-    /// What it heard, and its room on a roll.
-    pub(crate) fn into_parts(self) -> (Vec<Told>, Box<Roll>)
-        ensures { result.0.items ≡ self.heard }
+    /// Enters a fault that is planned.
+    pub(crate) fn plan(&mut self, nth: u32, what: Planned) -> Result<(), Memory>
+        ensures ok { OnOk result (self.new ≡ record self.old { told = with_plan (nth, what) self.old.told }) }
+        ensures err { OnErr result (self.new ≡ self.old) }
     {
-        let Connection { heard, room, .. } = self;
-        (heard, room)
+        self.log.plan(nth, what)
+    }
+
+    /// What it was asked, and its room on a roll.
+    pub(crate) fn into_parts(self) -> (Log, Box<Roll>)
+        ensures { told_of result.0 ≡ self.told }
+    {
+        let Connection { log, room, .. } = self;
+        (log, room)
     }
 }
 

@@ -1,10 +1,15 @@
-ghost use Rattle.std.specs.Prelude.{◌≡◌, ◌≤◌, [], None, Some, length, min, IfOk};
-ghost use Rattle.dsql_mem.specs.Wire.{ability_of};
+ghost use Rattle.std.specs.Prelude.{◌≡◌, ◌≤◌, [], Some, true, false, is_some, length, min, IfOk, IfErr, IfSome};
+ghost use Rattle.dsql_driver.specs.Fits.{is_fault};
+ghost use Rattle.dsql_driver.specs.Streams.{HasRisen};
+ghost use Rattle.dsql_driver.specs.Wires.{answer_of, connected_after, newly_told, is_fault_of};
+ghost use Rattle.dsql_mem.specs.Session.{handles_of, cursors_of};
+ghost use Rattle.dsql_mem.specs.Wire.{ability_of, faults_of, new_fleet, new_wire};
 
+use crate::log::Plan;
 use crate::roll::Roll;
 use crate::store::Store;
 use crate::wire::MemWire;
-use dsql_driver::{Caps, Fleet, Planned, Refused};
+use dsql_driver::{Caps, DriverAnswer, Fleet, Planned, Refused};
 use dsql_value::Memory;
 use std::marker::Model;
 use std::sync::{Arc, Mutex, Wait};
@@ -26,6 +31,9 @@ pub struct MemFleet<R: AllocGlobal + Wait + Clone + Drop + Send> {
     rt: R,
     store: Arc<Mutex<Store>>,
     preferred: Option<Caps>,
+    preferences: u64,
+    connects: Vec<(u32, DriverAnswer)>,
+    plans: Vec<(u32, Plan)>,
     retired: Roll,
 }
 
@@ -35,26 +43,30 @@ impl<R: AllocGlobal + Wait + Clone + Drop + Send> Model for MemFleet<R> {
 
     ghost Value = { FleetState };
 
-    ghost view = { λ f. record { preferred = f.preferred; retired = retired_of f.retired } };
+    ghost view = { λ f. record { preferred = record { last = f.preferred; times = f.preferences }; told = record { connects = f.connects.items; plans = f.plans.items; retired = retired_of f.retired } } };
 }
 
 impl<R: AllocGlobal + Wait + Clone + Drop + Send> MemFleet<R> {
-    /// A fleet with no connection yet.
+    /// A fleet with no connection yet. Its store is empty.
     pub fn new(rt: R) -> Result<MemFleet<R>, Memory>
-        ensures { IfOk result (λ fleet. fleet ≡ record { preferred = None; retired = [] }) }
+        ensures { IfOk result (λ fleet. fleet ≡ new_fleet) }
     {
         let store = Arc::new(rt.alloc(), Mutex::new(Store::new(rt.alloc())))?;
+        let alloc = rt.alloc();
         Ok(MemFleet {
             rt,
             store,
             preferred: None,
+            preferences: 0,
+            connects: Vec::new(alloc),
+            plans: Vec::new(alloc),
             retired: Roll::Empty,
         })
     }
 
     /// How many wires were retired, at most the last usize.
     pub fn retired_count(&self) -> usize
-        ensures { result ≡ min (length self.now.retired) usize.MAX }
+        ensures { result ≡ min (length self.now.told.retired) usize.MAX }
     {
         self.retired.count()
     }
@@ -67,9 +79,9 @@ impl<R: AllocGlobal + Wait + Clone + Drop + Send> Fleet for MemFleet<R> {
 
     ghost preferred = { λ f. f.preferred };
 
-    ghost retired = { λ f. Some f.retired };
+    ghost told = { λ f. Some f.told };
 
-    ghost faults = { λ _. 0 };
+    ghost faults = { faults_of };
 
     fn caps(&self) -> Caps {
         self.preferred.unwrap_or(DEFAULT_CAPS)
@@ -77,30 +89,52 @@ impl<R: AllocGlobal + Wait + Clone + Drop + Send> Fleet for MemFleet<R> {
 
     fn prefer(&mut self, caps: Caps) {
         self.preferred = Some(caps);
+        self.preferences = self.preferences.saturating_add(1);
     }
 
-    // There are no plans here, so it passes them over.
-    fn plan(&mut self, _wire: u32, _nth: u32, _what: Planned) -> Result<(), Memory> {
+    // It keeps the plan, and carries none out yet.
+    fn plan(&mut self, wire: u32, nth: u32, what: Planned) -> Result<(), Memory> {
+        self.plans.push((wire, (nth, what)))?;
         Ok(())
     }
 
-    fn connect(&mut self, _number: u32) -> Result<MemWire<R>, Refused> {
+    fn connect(&mut self, number: u32) -> Result<MemWire<R>, Refused>
+        ensures asked { Some self.new.told ≡ connected_after number (answer_of result) (Some self.old.told) }
+        ensures new { IfOk result (λ w. IfSome (Some w.told) (λ told. told ≡ newly_told number)) }
+        ensures telling { IfOk result (λ w. is_some (Some self.old.told) ≡ true → is_some (Some w.told) ≡ true) }
+        ensures handles { IfOk result (λ w. handles_of w.session ≡ []) }
+        ensures cursors { IfOk result (λ w. cursors_of w.session ≡ []) }
+        ensures ability { ability_of self.new ≡ ability_of self.old }
+        ensures preferred { self.new.preferred ≡ self.old.preferred }
+        ensures counted { faults_of self.old ≤ faults_of self.new }
+        ensures caused { IfErr result (λ r. is_fault_of r ≡ true → HasRisen (faults_of self.old) (faults_of self.new)) }
+        ensures faultless { is_fault (answer_of result) ≡ false → faults_of self.new ≡ faults_of self.old }
+
+        // A fleet in memory says more: the wire's session is new, so no transaction is open in it.
+        ensures fresh { IfOk result (λ w. w ≡ new_wire number) }
+    {
         let Ok(rt) = self.rt.clone() else {
             return Err(Refused::Memory);
         };
         let Ok(store) = Arc::try_clone(&self.store) else {
             return Err(Refused::Memory);
         };
-        match MemWire::new(rt, store) {
-            Ok(wire) => Ok(wire),
+        if self.connects.reserve(1).is_err() {
+            return Err(Refused::Memory);
+        }
+        match MemWire::new(rt, store, number) {
+            Ok(wire) => {
+                self.connects.push_reserved((number, DriverAnswer::Done));
+                Ok(wire)
+            }
             Err(Memory) => Err(Refused::Memory),
         }
     }
 
     fn retire(&mut self, number: u32, wire: MemWire<R>) {
-        let (heard, room) = wire.into_parts();
+        let (log, room) = wire.into_parts();
         let before = std::mem::replace(&mut self.retired, Roll::Empty);
-        self.retired = before.enter(number, heard, room);
+        self.retired = before.enter(number, log, room);
     }
 }
 

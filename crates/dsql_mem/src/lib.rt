@@ -11,6 +11,7 @@ mod failures;
 mod filled;
 mod fleet;
 pub mod laws;
+mod log;
 mod note;
 mod number;
 mod query;

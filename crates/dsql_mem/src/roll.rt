@@ -1,31 +1,29 @@
 ghost use Rattle.std.specs.Prelude.{◌≡◌, ◌∷◌, [], ◌++◌, length, min};
+ghost use Rattle.dsql_mem.specs.Log.{told_of};
 ghost use Rattle.dsql_mem.specs.Roll.{retired_of};
 
-use dsql_driver::{DriverAnswer, DriverCall};
-
-/// A call that a wire heard, with its answer.
-pub(crate) type Told = (DriverCall, DriverAnswer);
+use crate::log::Log;
 
 /// The wires that were retired, the newest first. Each brings the room for its own entry.
 pub(crate) enum Roll {
     Empty,
     Wire {
         number: u32,
-        heard: Vec<Told>,
+        log: Log,
         before: Box<Roll>,
     },
 }
 
 impl Roll {
     /// Enters a wire, in the room that it brought.
-    pub(crate) fn enter(self, number: u32, heard: Vec<Told>, room: Box<Roll>) -> Roll
-        ensures { retired_of result ≡ retired_of self ++ (number, heard.items) ∷ [] }
+    pub(crate) fn enter(self, number: u32, log: Log, room: Box<Roll>) -> Roll
+        ensures { retired_of result ≡ retired_of self ++ (number, told_of log) ∷ [] }
     {
         let mut before = room;
         *before = self;
         Roll::Wire {
             number,
-            heard,
+            log,
             before,
         }
     }
@@ -52,10 +50,10 @@ impl Drop for Roll {
                 Roll::Empty => return,
                 Roll::Wire {
                     number: _,
-                    heard,
+                    log,
                     before,
                 } => {
-                    drop(heard);
+                    drop(log);
                     self = Box::into_inner(before);
                 }
             }

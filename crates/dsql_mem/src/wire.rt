@@ -1,13 +1,15 @@
-ghost use Rattle.std.specs.Prelude.{◌≡◌, ◌≤◌, Some, true, false, IfOk};
+ghost use Rattle.std.specs.Prelude.{◌≡◌, ◌≤◌, Some, true, false, IfOk, OnOk, OnErr};
 ghost use Rattle.dsql_driver.specs.Fits.{fits_of, is_fault, is_memory};
 ghost use Rattle.dsql_driver.specs.Streams.{HasRisen};
-ghost use Rattle.dsql_driver.specs.Wires.{told_after, KeepsHandles, KeepsCursors};
-ghost use Rattle.dsql_mem.specs.Entries.{Entries};
+ghost use Rattle.dsql_driver.specs.Wires.{told_after, with_plan, KeepsHandles, KeepsCursors};
+ghost use Rattle.dsql_mem.specs.Entries.{Entries, AreAscending};
+ghost use Rattle.dsql_mem.specs.Log.{told_of};
 ghost use Rattle.dsql_mem.specs.Session.{handles_of, cursors_of};
 ghost use Rattle.dsql_mem.specs.Wire.{new_wire, CarriesOut};
 
 use crate::connection::Connection;
-use crate::roll::{Roll, Told};
+use crate::log::Log;
+use crate::roll::Roll;
 use crate::store::Store;
 use dsql_driver::{Answered, DriverCall, Planned, Wire};
 use dsql_value::Memory;
@@ -32,10 +34,10 @@ impl<R: AllocGlobal + Wait + Drop> Model for MemWire<R> {
 
 impl<R: AllocGlobal + Wait + Drop> MemWire<R> {
     /// A wire that has heard just its Connect.
-    pub(crate) fn new(rt: R, store: Arc<Mutex<Store>>) -> Result<MemWire<R>, Memory>
-        ensures { IfOk result (λ wire. wire ≡ new_wire) }
+    pub(crate) fn new(rt: R, store: Arc<Mutex<Store>>, number: u32) -> Result<MemWire<R>, Memory>
+        ensures { IfOk result (λ wire. wire ≡ new_wire number) }
     {
-        let connection = Connection::new(rt.alloc())?;
+        let connection = Connection::new(rt.alloc(), number)?;
         Ok(MemWire {
             rt,
             store,
@@ -43,9 +45,9 @@ impl<R: AllocGlobal + Wait + Drop> MemWire<R> {
         })
     }
 
-    /// What it heard, and its room on a roll.
-    pub(crate) fn into_parts(self) -> (Vec<Told>, Box<Roll>)
-        ensures { result.0.items ≡ self.heard }
+    /// What it was asked, and its room on a roll.
+    pub(crate) fn into_parts(self) -> (Log, Box<Roll>)
+        ensures { told_of result.0 ≡ self.told }
     {
         let MemWire { connection, .. } = self;
         connection.into_parts()
@@ -53,7 +55,7 @@ impl<R: AllocGlobal + Wait + Drop> MemWire<R> {
 }
 
 impl<R: AllocGlobal + Wait + Drop> Wire for MemWire<R> {
-    ghost heard = { λ w. Some w.heard };
+    ghost told = { λ w. Some w.told };
 
     ghost faults = { λ w. w.faults };
 
@@ -64,23 +66,33 @@ impl<R: AllocGlobal + Wait + Drop> Wire for MemWire<R> {
     fn call(&mut self, call: &DriverCall) -> Answered
         ensures copied { result.copy ≡ result.answer }
         ensures fitting { fits_of call.now result.answer ≡ true }
-        ensures told { Some self.new.heard ≡ told_after call.now result.answer (Some self.old.heard) }
+        ensures told { Some self.new.told ≡ told_after call.now result.answer (Some self.old.told) }
         ensures handles { KeepsHandles call.now result.answer (handles_of self.old.session) (handles_of self.new.session) }
         ensures cursors { KeepsCursors call.now result.answer (cursors_of self.old.session) (cursors_of self.new.session) }
         ensures counted { self.old.faults ≤ self.new.faults }
         ensures caused { is_fault result.answer ≡ true → HasRisen self.old.faults self.new.faults }
+        ensures faultless { is_fault result.answer ≡ false → self.new.faults ≡ self.old.faults }
 
         // A wire in memory says more: its answer, and what it is afterwards. The store is some store, since
         // other wires write to it too.
-        ensures carried_out { is_memory result.answer ≡ false → (store : Entries) × CarriesOut store call.now result.answer self.old self.new }
+        ensures carried_out { is_memory result.answer ≡ false → (store : Entries) × AreAscending store × CarriesOut store call.now result.answer self.old self.new }
         ensures stays { is_memory result.answer ≡ true → self.new ≡ self.old }
     {
         let mut store = self.store.lock(&self.rt);
         self.connection.answer(self.rt.alloc(), &mut store, call)
     }
 
-    // There are no plans here, so it passes them over.
-    fn plan(&mut self, _nth: u32, _what: Planned) -> Result<(), Memory> {
-        Ok(())
+    // It keeps the plan, and carries none out yet.
+    fn plan(&mut self, nth: u32, what: Planned) -> Result<(), Memory>
+        ensures told { OnOk result (Some self.new.told ≡ Some (with_plan (nth, what) self.old.told)) }
+        ensures err { OnErr result (Some self.new.told ≡ Some self.old.told) }
+        ensures handles { handles_of self.new.session ≡ handles_of self.old.session }
+        ensures cursors { cursors_of self.new.session ≡ cursors_of self.old.session }
+        ensures faultless { self.new.faults ≡ self.old.faults }
+
+        // Nothing else of it changes.
+        ensures session { self.new.session ≡ self.old.session }
+    {
+        self.connection.plan(nth, what)
     }
 }

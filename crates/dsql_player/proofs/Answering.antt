@@ -3,7 +3,7 @@ use Rattle.std.proofs.Common.{◌≡◌, ◌≢◌, ℕ, zero, suc, false, List,
 use Rattle.std.specs.Prelude.{Ok, Err, OnOk, IfOk, IsSomeAnd}
 use Rattle.std.specs.declared.result.Result.{Result}
 use Rattle.dsql_driver.specs.Fits.{is_memory}
-use Rattle.dsql_driver.specs.Wires.{Told}
+use Rattle.dsql_driver.specs.Wires.{WireTold}
 use Rattle.dsql_journal.specs.declared.entry.Entry.{Entry}
 use Rattle.dsql_journal.specs.declared.entry.Permit.{Permit}
 use Rattle.dsql_journal.specs.Permits.{entry_of}
@@ -20,7 +20,7 @@ use Rattle.dsql_player.specs.declared.halt.Halt.{Halt}
 use Rattle.dsql_player.proofs.Permitting.{heard_entry}
 
 -- what was heard on the wire of an awaited permit is heard by the engine too
-pub asked : {W : Type 0} (told : W → Option (List Told)) (p : Permit) (e : Entry) (answer : Result Next Halt) (old new : List Event) (before after : List (Option (Journaled W))) → awaited old p.conn ≡ Some p
+pub asked : {W : Type 0} (told : W → Option WireTold) (p : Permit) (e : Entry) (answer : Result Next Halt) (old new : List Event) (before after : List (Option (Journaled W))) → awaited old p.conn ≡ Some p
     → e ≡ answered p e.answer → is_memory e.answer ≡ false → OnOk answer (new ≡ after_heard old e) → IfOk answer (λ next. NextAfterHeard old e next new) → ((c : ℕ) → c ≢ p.conn → slot after c ≡ slot before c)
     → HearsEntry told e (slot before p.conn) (slot after p.conn) → IfOk answer (λ next. Asks told p next old new before after)
 asked told p e (Ok next) old new before after awaits is no_want group then_next others noted =
@@ -42,7 +42,7 @@ wire_here (y ∷ ws) zero x P w some at is = sym at ∙ is
 wire_here (y ∷ ws) (suc i) x P w some at is = wire_here ws i x P w some at is
 
 -- it hears one entry more, and goes back into its slot
-pub heard_here : {W : Type 0} (told : W → Option (List Told)) (e : Entry) (ws : List (Option (Journaled W))) (i : ℕ) (before after : Journaled W) → slot ws i ≡ Some before → Hears told e before after
+pub heard_here : {W : Type 0} (told : W → Option WireTold) (e : Entry) (ws : List (Option (Journaled W))) (i : ℕ) (before after : Journaled W) → slot ws i ≡ Some before → Hears told e before after
     → HearsEntry told e (slot ws i) (slot (set ws i (Some after)) i)
 heard_here told e [] i before after is h = absurd cc
 heard_here told e (y ∷ ws) zero before after is h = rw is h

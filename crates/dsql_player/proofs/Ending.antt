@@ -2,7 +2,7 @@
 use Rattle.std.proofs.Common.{◌≡◌, inl, inr, ℕ, ◌<◌, Bool, true, false, List, [], ◌∷◌, length, Option, None, refl, sym, ◌∙◌, ap, subst, get_or, set, arith, cond, ◌&&◌, ◌==◌}
 use Rattle.std.specs.Prelude.{filter, MatchBool, Result, Ok, Err, OnOk}
 use Rattle.std.proofs.lemmas.List.{get_or-set_same}
-use Rattle.dsql_driver.specs.Wires.{Told}
+use Rattle.dsql_driver.specs.Wires.{WireTold}
 use Rattle.dsql_journal.specs.Readers.{has, is_empty}
 use Rattle.dsql_history.specs.declared.event.Event.{Event}
 use Rattle.dsql_history.specs.declared.event.Event.TheVariants.{Pool, Ended}
@@ -26,7 +26,7 @@ use Rattle.dsql_history.proofs.Rows.{within_rows, same_or_not, same_to_itself}
 use Rattle.dsql_history.proofs.SoundSets.{sound_sets}
 use Rattle.dsql_history.proofs.SoundCalls.{sound_calls, owner_of}
 use Rattle.dsql_engine.specs.Groups.{after_end, closings}
-use Rattle.dsql_player.specs.Told.{gone_told}
+use Rattle.dsql_player.specs.Told.{fleet_told}
 use Rattle.dsql_player.specs.Turns.{Turns}
 use Rattle.dsql_player.specs.Extends.{Extends}
 use Rattle.dsql_player.specs.Entered.{entered_calls}
@@ -59,7 +59,7 @@ closings_calls : (cs : List ℕ) (past : List Event) → unfinished (closings cs
 closings_calls [] past = refl
 closings_calls (c ∷ cs) past = closings_calls cs (Pool (CloseStart c DbClosed) ∷ past)
 
-closings_told : (cs : List ℕ) (past : List Event) → gone_told (closings cs past) ≡ gone_told past
+closings_told : (cs : List ℕ) (past : List Event) → fleet_told (closings cs past) ≡ fleet_told past
 closings_told [] past = refl
 closings_told (c ∷ cs) past = closings_told cs (Pool (CloseStart c DbClosed) ∷ past)
 
@@ -160,7 +160,7 @@ unwired past legal ended none free c =
     (λ t o at. none_lent past c t o legal ended none free at)
     (none_at is_closing (places past) c refl (free_of past free).shut)
 
-pub bare : {W : Type 0} (heard : W → Option (List Told)) (telling : Bool) (past : List Event) (ws : List (Option (Journaled W))) (c : ℕ) → has_wire (place past c) ≡ false → WiresFit heard telling past ws
+pub bare : {W : Type 0} (heard : W → Option WireTold) (telling : Bool) (past : List Event) (ws : List (Option (Journaled W))) (c : ℕ) → has_wire (place past c) ≡ false → WiresFit heard telling past ws
     → slot ws c ≡ None
 bare heard telling past ws c no_wire fit =
     subst (λ (b : Bool). MatchBool b (HoldsWire heard telling c (journal past c) (slot ws c)) (slot ws c ≡ None)) no_wire (fit c)

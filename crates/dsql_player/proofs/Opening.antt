@@ -2,7 +2,7 @@
 use Rattle.std.proofs.Common.{◌==◌, ◌+◌, ◌⊎◌, ◌≡◌, ◌≢◌, inl, inr, ℕ, ◌<◌, Bool, true, false, cond, List, [], ◌∷◌, length, Option, Some, None, refl, sym, ◌∙◌, ap, subst, get_or, set, arith}
 use Rattle.std.proofs.lemmas.List.{get_or-set_same}
 use Rattle.std.proofs.lemmas.Bool.Decides.{nat_tests}
-use Rattle.dsql_driver.specs.Wires.{Told}
+use Rattle.dsql_driver.specs.Wires.{WireTold, with_connects}
 use Rattle.dsql_driver.specs.Fits.{is_done}
 use Rattle.dsql_driver.specs.declared.answer.DriverAnswer.{DriverAnswer}
 use Rattle.dsql_journal.specs.declared.entry.Entry.{Entry}
@@ -27,7 +27,7 @@ use Rattle.dsql_history.proofs.Rows.{within_rows}
 use Rattle.dsql_engine.specs.Steps.{IsParked, IsParkedAt}
 use Rattle.dsql_engine.specs.Groups.{after_heard, after_answer}
 use Rattle.dsql_engine.specs.Awaited.{chore_due}
-use Rattle.dsql_player.specs.Told.{gone_told}
+use Rattle.dsql_player.specs.Told.{fleet_told}
 use Rattle.dsql_player.specs.Turns.{keeps_turns}
 use Rattle.dsql_player.specs.Carried.{GoesOn, CarriesChore}
 use Rattle.dsql_player.specs.WiresFit.{slot, HoldsWire, FitsAt, WiresFit, OpensWire}
@@ -63,9 +63,9 @@ pub open_turn : (past : List Event) (p : Permit) (answer : DriverAnswer) → IsC
     → keeps_turns past (Heard (connect_entry p.conn answer)) ≡ true
 open_turn past p answer w due = subst (λ (x : Entry). keeps_turns past (Heard x) ≡ true) (connect_of past p answer w) (chore_turn past p answer due)
 
-pub open_tells : (past : List Event) (e : Entry) (n : ℕ) (b : Bool) → gone_told (opened past e n b) ≡ gone_told past
-open_tells past e n true = refl
-open_tells past e n false = refl
+pub open_tells : (past : List Event) (c : ℕ) (answer : DriverAnswer) (n : ℕ) (b : Bool) → fleet_told (opened past (connect_entry c answer) n b) ≡ with_connects ((c, answer) ∷ []) (fleet_told past)
+open_tells past c answer n true = refl
+open_tells past c answer n false = refl
 
 allowed_of : (past : List Event) (e : Entry) (n : ℕ) (b : Bool) → Lawful (opened past e n b) → Allowed past (Heard e)
 allowed_of past e n true l = l.0.1
@@ -153,7 +153,7 @@ open_carries past c n answer b turn at none = record {
   grows = opened_grows past (connect_entry c answer) n b;
 }
 
-lent_here : {W : Type 0} (heard : W → Option (List Told)) (telling : Bool) (past : List Event) (c t n : ℕ) (answer : DriverAnswer) (wire : Option (Journaled W)) → journal past c ≡ [] → c < length (places past)
+lent_here : {W : Type 0} (heard : W → Option WireTold) (telling : Bool) (past : List Event) (c t n : ℕ) (answer : DriverAnswer) (wire : Option (Journaled W)) → journal past c ≡ [] → c < length (places past)
     → HoldsWire heard telling c (connect_entry c answer ∷ []) wire
     → FitsAt heard telling c (get_or (set (places past) c (Lent t (Call n))) c Nowhere) (journal (Heard (connect_entry c answer) ∷ past) c) wire
 lent_here heard telling past c t n answer wire none lt opens =
@@ -161,12 +161,12 @@ lent_here heard telling past c t n answer wire none lt opens =
     let j : journal (Heard (connect_entry c answer) ∷ past) c ≡ connect_entry c answer ∷ [] = journal_here past (connect_entry c answer) ∙ ap (λ k. connect_entry c answer ∷ k) none in
     rw (at, j) opens
 
-fallen_here : {W : Type 0} (heard : W → Option (List Told)) (telling : Bool) (ps : List Place) (c : ℕ) (J : List Entry) (wire : Option (Journaled W)) → wire ≡ None
+fallen_here : {W : Type 0} (heard : W → Option WireTold) (telling : Bool) (ps : List Place) (c : ℕ) (J : List Entry) (wire : Option (Journaled W)) → wire ≡ None
     → FitsAt heard telling c (get_or (set ps c Nowhere) c Nowhere) J wire
 fallen_here heard telling ps c J wire none = subst (λ (q : Place). FitsAt heard telling c q J wire) (sym (set_default ps c Nowhere)) none
 
 -- The wires fit once the Connect was answered.
-opened_fits : {W : Type 0} (heard : W → Option (List Told)) (telling : Bool) (past : List Event) (c n : ℕ) (answer : DriverAnswer) (b : Bool) (before after : List (Option (Journaled W)))
+opened_fits : {W : Type 0} (heard : W → Option WireTold) (telling : Bool) (past : List Event) (c n : ℕ) (answer : DriverAnswer) (b : Bool) (before after : List (Option (Journaled W)))
     → WiresFit heard telling past before → place past c ≡ Opening n → journal past c ≡ [] → ((d : ℕ) → d ≢ c → slot after d ≡ slot before d)
     → MatchBool b (HoldsWire heard telling c (connect_entry c answer ∷ []) (slot after c)) (slot after c ≡ None) → WiresFit heard telling (opened past (connect_entry c answer) n b) after
 opened_fits heard telling past c n answer true before after fit at none others opens =
@@ -186,7 +186,7 @@ opened_fits heard telling past c n answer false before after fit at none others 
     fit
     (fallen_here heard telling (places past) c (journal (Heard e ∷ past) c) (slot after c) opens)
 
-pub open_fits : {W : Type 0} (heard : W → Option (List Told)) (telling : Bool) (past : List Event) (c n : ℕ) (answer : DriverAnswer) (before after : List (Option (Journaled W)))
+pub open_fits : {W : Type 0} (heard : W → Option WireTold) (telling : Bool) (past : List Event) (c n : ℕ) (answer : DriverAnswer) (before after : List (Option (Journaled W)))
     → WiresFit heard telling past before → place past c ≡ Opening n → journal past c ≡ [] → ((d : ℕ) → d ≢ c → slot after d ≡ slot before d)
     → OpensWire heard telling (connect_entry c answer) (slot after c) → WiresFit heard telling (opened past (connect_entry c answer) n (is_done answer)) after
 open_fits heard telling past c n answer before after fit at none others opens = opened_fits heard telling past c n answer (is_done answer) before after fit at none others opens

@@ -3,7 +3,7 @@ use Rattle.std.proofs.Common.{◌≡◌, ◌==◌, ℕ, Bool, true, false, cond,
 use Rattle.std.specs.Prelude.{option_map, IsSomeAnd}
 use Rattle.std.specs.List.{list_all}
 use Rattle.dsql_driver.specs.Fits.{fits_of, is_done, is_memory}
-use Rattle.dsql_driver.specs.Wires.{Told}
+use Rattle.dsql_driver.specs.Wires.{WireTold}
 use Rattle.dsql_driver.specs.declared.call.DriverCall.{DriverCall}
 use Rattle.dsql_driver.specs.declared.answer.DriverAnswer.{DriverAnswer}
 use Rattle.dsql_journal.specs.declared.entry.Entry.{Entry}
@@ -118,7 +118,7 @@ awaited_sent past p legal h = λ a fits.
     ∙ rw (same_to_itself p.conn, follows) refl
 
 -- so its wire takes it
-pub held_sent : {W : Type 0} (heard : W → Option (List Told)) (c : ℕ) (entries : List Entry) (p : Permit) (wire : Option (Journaled W)) → HoldsWire heard false c entries wire → MayBeSent c entries p
+pub held_sent : {W : Type 0} (heard : W → Option WireTold) (c : ℕ) (entries : List Entry) (p : Permit) (wire : Option (Journaled W)) → HoldsWire heard false c entries wire → MayBeSent c entries p
     → IsSomeAnd wire (λ w. MayBeSent w.conn w.journal p)
 held_sent heard c entries p None h may = absurd h
 held_sent {W} heard c entries p (Some w) h may =
@@ -136,13 +136,13 @@ pub stray_of : (fault : WireFault) (q p : Permit) → fault ≡ Stray q → hand
 stray_of fault q p is back = is ∙ ap (λ (k : Permit). Stray k) (ap handed_back (sym is) ∙ back)
 
 -- what fits at its place on the wire fits in the connection's journal
-pub held_fits : {W : Type 0} (heard : W → Option (List Told)) (c : ℕ) (entries : List Entry) (e : Entry) (wire : Option (Journaled W)) → HoldsWire heard false c entries wire
+pub held_fits : {W : Type 0} (heard : W → Option WireTold) (c : ℕ) (entries : List Entry) (e : Entry) (wire : Option (Journaled W)) → HoldsWire heard false c entries wire
     → IsSomeAnd wire (λ w. fits_at_its_place w.journal e ≡ true) → fits_at_its_place entries e ≡ true
 held_fits heard c entries e None h fits = absurd h
 held_fits {W} heard c entries e (Some w) h fits = subst (λ (j : List Entry). fits_at_its_place j e ≡ true) h.journal fits
 
 -- so what was heard of a permit fits in the journal of its connection
-pub heard_fits : {W : Type 0} (tells : W → Option (List Told)) (past : List Event) (p : Permit) (e : Entry) (wire : Option (Journaled W)) → awaited past p.conn ≡ Some p → e ≡ answered p e.answer
+pub heard_fits : {W : Type 0} (tells : W → Option WireTold) (past : List Event) (p : Permit) (e : Entry) (wire : Option (Journaled W)) → awaited past p.conn ≡ Some p → e ≡ answered p e.answer
     → HoldsWire tells false p.conn (journal past p.conn) wire → IsSomeAnd wire (λ w. fits_at_its_place w.journal e ≡ true) → fits_at_its_place (journal past e.conn) e ≡ true
 heard_fits tells past p e wire h is holds fits =
     subst (λ (c : ℕ). fits_at_its_place (journal past c) e ≡ true) (sym (ap (λ (x : Entry). x.conn) (heard_entry past p e h is))) (held_fits tells p.conn (journal past p.conn) e wire holds fits)

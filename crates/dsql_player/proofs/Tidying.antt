@@ -3,7 +3,7 @@ use Rattle.std.proofs.Common.{◌≡◌, ◌≢◌, ◌==◌, ℕ, ◌<◌, Bool
 use Rattle.std.specs.Prelude.{is_none, is_some, option_map}
 use Rattle.std.specs.List.{list_all}
 use Rattle.std.proofs.lemmas.List.Folds.{list_all_at}
-use Rattle.dsql_driver.specs.Wires.{Told}
+use Rattle.dsql_driver.specs.Wires.{WireTold}
 use Rattle.dsql_driver.specs.declared.call.DriverCall.{DriverCall}
 use Rattle.dsql_driver.specs.declared.answer.DriverAnswer.{DriverAnswer}
 use Rattle.dsql_course.specs.declared.course.Wish.TheVariants as wishes
@@ -12,6 +12,7 @@ use Rattle.dsql_journal.specs.declared.entry.Entry.{Entry}
 use Rattle.dsql_journal.specs.declared.entry.Owner.TheVariants.{Call, Tx, Pin, House}
 use Rattle.dsql_journal.specs.declared.entry.Permit.{Permit}
 use Rattle.dsql_journal.specs.Permits.{entry_of}
+use Rattle.dsql_journal.specs.Kinds.{is_connect}
 use Rattle.dsql_history.specs.declared.event.Event.{Event}
 use Rattle.dsql_history.specs.declared.event.Event.TheVariants.{Heard}
 use Rattle.dsql_history.specs.declared.record.Place.{Place}
@@ -35,7 +36,7 @@ use Rattle.dsql_engine.specs.Groups.{after_heard, after_answer, after_body, leav
 use Rattle.dsql_history.specs.declared.event.CloseCause.{CloseCause}
 use Rattle.dsql_engine.specs.declared.next.Next.TheVariants.{Send, Blocked, Reply as Replies, Quiet}
 use Rattle.dsql_engine.specs.Steps.{IsParked, IsChore}
-use Rattle.dsql_player.specs.Told.{gone_told}
+use Rattle.dsql_player.specs.Told.{fleet_told}
 use Rattle.dsql_player.specs.Turns.{keeps_turns}
 use Rattle.dsql_player.specs.Carried.{CarriesChore}
 use Rattle.dsql_player.specs.Asked.{Asks}
@@ -46,6 +47,7 @@ use Rattle.dsql_player.proofs.Going.{on_still, on_heard}
 use Rattle.dsql_player.proofs.Parking.{home_heard, parked_elsewhere}
 use Rattle.dsql_player.proofs.Places.{found_at}
 use Rattle.dsql_player.proofs.Sending.{left_calls, left_told, left_on, left_longer, leaving_place, leaving_journal, body_fits}
+use Rattle.dsql_player.proofs.Shutting.{untold}
 use Rattle.dsql_player.proofs.Waking.{home_of_asking}
 use Rattle.dsql_player.proofs.Wiring.{journal_elsewhere}
 
@@ -126,19 +128,19 @@ body_carries : (past : List Event) (e : Entry) (t n : ℕ) (kept : Bool) (then_d
 body_carries past e t n kept (Some call) legal ended at turn = left_carries past e t n true legal ended at turn
 body_carries past e t n kept None legal ended at turn = left_carries past e t n kept legal ended at turn
 
-body_told : (past : List Event) (e : Entry) (kept : Bool) (then_due : Option DriverCall) → gone_told (after_body e.conn 0 kept (Heard e ∷ past) then_due) ≡ gone_told past
-body_told past e kept (Some call) = refl
-body_told past e kept None = left_told e.conn kept (Heard e ∷ past)
+body_told : (past : List Event) (e : Entry) (kept : Bool) (then_due : Option DriverCall) → is_connect e.call ≡ false → fleet_told (after_body e.conn 0 kept (Heard e ∷ past) then_due) ≡ fleet_told past
+body_told past e kept (Some call) no = untold past e no
+body_told past e kept None no = left_told e.conn kept (Heard e ∷ past) ∙ untold past e no
 
 -- One call that tidies up was answered.
-pub record Tidies {W : Type 0} (heard : W → Option (List Told)) (past now : List Event) (before after : List (Option (Journaled W))) : Type 0 where
+pub record Tidies {W : Type 0} (heard : W → Option WireTold) (past now : List Event) (before after : List (Option (Journaled W))) : Type 0 where
   pub carries : CarriesChore past now
-  pub told : gone_told now ≡ gone_told past
+  pub told : fleet_told now ≡ fleet_told past
   pub fits : KeepsFit heard past now before after
 
-pub tidies : {W : Type 0} (heard : W → Option (List Told)) (past : List Event) (p : Permit) (next : Next) (now : List Event) (before after : List (Option (Journaled W))) → Legal past → chore_due past ≡ Some p
-    → IsTidying past p.conn p (place past p.conn) → Asks heard p next past now before after → Tidies heard past now before after
-tidies heard past p next now before after legal chore w a =
+pub tidies : {W : Type 0} (heard : W → Option WireTold) (past : List Event) (p : Permit) (next : Next) (now : List Event) (before after : List (Option (Journaled W))) → Legal past → chore_due past ≡ Some p
+    → IsTidying past p.conn p (place past p.conn) → is_connect p.call ≡ false → Asks heard p next past now before after → Tidies heard past now before after
+tidies heard past p next now before after legal chore w no a =
     let e : Entry = entry_of p a.answer in
     let kept = is_kept_by_rows (Heard e ∷ past) p.conn w.tenure w.number in
     let then_due = due (Heard e ∷ past) p.conn w.tenure w.number in
@@ -146,7 +148,7 @@ tidies heard past p next now before after legal chore w a =
     subst (λ (k : List Event). Tidies heard past k before after) (sym is)
     (record {
       carries = body_carries past e w.tenure w.number kept then_due legal w.ended w.lent (chore_turn past p a.answer chore);
-      told = body_told past e kept then_due;
+      told = body_told past e kept then_due no;
       fits = body_fits heard past e w.tenure w.number 0 kept then_due before after w.lent a.others a.noted;
     })
 

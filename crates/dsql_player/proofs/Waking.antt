@@ -2,7 +2,7 @@
 use Rattle.std.proofs.Common.{◌≡◌, ◌==◌, inl, inr, None, ℕ, ◌<◌, Bool, true, false, not, ◌&&◌, ◌||◌, List, [], ◌∷◌, length, Option, Some, refl, sym, ◌∙◌, ap, subst, arith}
 use Rattle.std.specs.Prelude.{find, is_some}
 use Rattle.std.specs.List.{list_all}
-use Rattle.dsql_driver.specs.Wires.{Told}
+use Rattle.dsql_driver.specs.Wires.{WireTold}
 use Rattle.dsql_driver.specs.declared.call.DriverCall.{DriverCall}
 use Rattle.dsql_journal.specs.declared.entry.Owner.TheVariants.{Call}
 use Rattle.dsql_history.specs.declared.event.Event.{Event}
@@ -223,6 +223,6 @@ woken past client why next now u free on l w room =
 pub parked_found : (past : List Event) (client : ℕ) → Waits past client → IsParked past (call_of past client)
 parked_found past client u = subst (λ (k : Option ℕ). IsParked past k) (sym (call_found past client u.under_way)) u.parked
 
-pub wakes_fit : {W : Type 0} (heard : W → Option (List Told)) (past : List Event) (client : ℕ) (why : Why) (next : Next) (now : List Event) (ws : List (Option (Journaled W))) → Wakes past client why next now
+pub wakes_fit : {W : Type 0} (heard : W → Option WireTold) (past : List Event) (client : ℕ) (why : Why) (next : Next) (now : List Event) (ws : List (Option (Journaled W))) → Wakes past client why next now
     → KeepsFit heard past now ws ws
 wakes_fit heard past client why next now ws w = λ telling fit. same_fits heard telling past now ws w.places fit

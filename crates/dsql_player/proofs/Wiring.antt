@@ -1,8 +1,8 @@
 -- Wires that fit a history fit the next one too.
 use Rattle.std.proofs.Common.{◌≡◌, ◌≢◌, inl, inr, ℕ, Bool, true, false, List, [], ◌∷◌, Option, Some, None, refl, sym, ◌∙◌, ap, subst, get_or, set, zero, suc}
-use Rattle.std.specs.Prelude.{is_some, IsSome, MatchBool}
+use Rattle.std.specs.Prelude.{is_some, IsSome, IfSome, MatchBool}
 use Rattle.std.proofs.lemmas.List.{get_or-set_other}
-use Rattle.dsql_driver.specs.Wires.{Told, told_after}
+use Rattle.dsql_driver.specs.Wires.{WireTold, told_after}
 use Rattle.dsql_driver.specs.declared.call.DriverCall.{DriverCall}
 use Rattle.dsql_driver.specs.declared.answer.DriverAnswer.{DriverAnswer}
 use Rattle.dsql_driver.specs.declared.answer.DriverAnswer.TheVariants.{Memory}
@@ -19,19 +19,26 @@ use Rattle.dsql_player.specs.Carried.{KeepsPlaces}
 use Rattle.dsql_player.specs.WiresFit.{slot, has_wire, HoldsWire, FitsAt, WiresFit, HearsEntry, KeepsFit}
 
 -- a call more tells where the calls before tell
-some_told : (call : DriverCall) (answer : DriverAnswer) (told : Option (List Told)) → is_some (told_after call answer told) ≡ is_some told
+some_told : (call : DriverCall) (answer : DriverAnswer) (told : Option WireTold) → is_some (told_after call answer told) ≡ is_some told
 some_told call Memory told = refl
 some_told call _ None = refl
 some_told call _ (Some told) = refl
 
+-- and it plans no fault
+still_unplanned : (call : DriverCall) (answer : DriverAnswer) (told : Option WireTold) → IfSome told (λ t. t.plans ≡ []) → IfSome (told_after call answer told) (λ t. t.plans ≡ [])
+still_unplanned call Memory told h = h
+still_unplanned call _ None h = tt
+still_unplanned call _ (Some told) h = h
+
 -- a wire has heard one entry more
-pub holds_more : {W : Type 0} (heard : W → Option (List Told)) (telling : Bool) (e : Entry) (c : ℕ) (entries : List Entry) (before after : Option (Journaled W)) → HoldsWire heard telling c entries before
+pub holds_more : {W : Type 0} (heard : W → Option WireTold) (telling : Bool) (e : Entry) (c : ℕ) (entries : List Entry) (before after : Option (Journaled W)) → HoldsWire heard telling c entries before
     → HearsEntry heard e before after → HoldsWire heard telling c (e ∷ entries) after
 holds_more heard telling e c entries None after h t = absurd h
 holds_more heard telling e c entries (Some b) None h t = absurd t
 holds_more heard telling e c entries (Some b) (Some a) h t = record {
   conn = t.conn ∙ h.conn;
   journal = t.journal ∙ ap (λ j. e ∷ j) h.journal;
+  unplanned = subst (λ (told : Option WireTold). IfSome told (λ t. t.plans ≡ [])) (sym t.told) (still_unplanned e.call e.answer (heard b.wire) h.unplanned);
   tells = λ all. ap is_some t.told ∙ some_told e.call e.answer (heard b.wire) ∙ h.tells all;
 }
 
@@ -49,12 +56,12 @@ pub slot_elsewhere : {W : Type 0} (ws : List (Option W)) (d : ℕ) (w : Option W
 slot_elsewhere ws d w c n = get_or-set_other ws d c w None n
 
 -- what fits stays so where place, journal and slot stay so
-pub same_fit : {W : Type 0} (heard : W → Option (List Told)) (telling : Bool) (c : ℕ) (p q : Place) (j k : List Entry) (v w : Option (Journaled W)) → has_wire q ≡ has_wire p → k ≡ j → w ≡ v
+pub same_fit : {W : Type 0} (heard : W → Option WireTold) (telling : Bool) (c : ℕ) (p q : Place) (j k : List Entry) (v w : Option (Journaled W)) → has_wire q ≡ has_wire p → k ≡ j → w ≡ v
     → FitsAt heard telling c p j v → FitsAt heard telling c q k w
 same_fit heard telling c p q j k v w places journals slots f = rw (places, journals, slots) f
 
 -- Only connection d changes.
-pub fit_but_one : {W : Type 0} (heard : W → Option (List Told)) (telling : Bool) (past now : List Event) (before after : List (Option (Journaled W))) (d : ℕ)
+pub fit_but_one : {W : Type 0} (heard : W → Option WireTold) (telling : Bool) (past now : List Event) (before after : List (Option (Journaled W))) (d : ℕ)
     → ((c : ℕ) → c ≢ d → place now c ≡ place past c) → ((c : ℕ) → c ≢ d → journal now c ≡ journal past c) → ((c : ℕ) → c ≢ d → slot after c ≡ slot before c)
     → WiresFit heard telling past before → FitsAt heard telling d (place now d) (journal now d) (slot after d) → WiresFit heard telling now after
 fit_but_one heard telling past now before after d places journals slots fit here =
@@ -64,16 +71,16 @@ fit_but_one heard telling past now before after d places journals slots fit here
     ]
 
 -- a connection with a wire holds it
-pub holds_here : {W : Type 0} (heard : W → Option (List Told)) (telling : Bool) (c : ℕ) (p : Place) (j : List Entry) (w : Option (Journaled W)) → has_wire p ≡ true → FitsAt heard telling c p j w
+pub holds_here : {W : Type 0} (heard : W → Option WireTold) (telling : Bool) (c : ℕ) (p : Place) (j : List Entry) (w : Option (Journaled W)) → has_wire p ≡ true → FitsAt heard telling c p j w
     → HoldsWire heard telling c j w
 holds_here heard telling c p j w has f = subst (λ (b : Bool). MatchBool b (HoldsWire heard telling c j w) (w ≡ None)) has f
 
-fits_here : {W : Type 0} (heard : W → Option (List Told)) (telling : Bool) (c : ℕ) (p : Place) (j : List Entry) (w : Option (Journaled W)) → has_wire p ≡ true → HoldsWire heard telling c j w
+fits_here : {W : Type 0} (heard : W → Option WireTold) (telling : Bool) (c : ℕ) (p : Place) (j : List Entry) (w : Option (Journaled W)) → has_wire p ≡ true → HoldsWire heard telling c j w
     → FitsAt heard telling c p j w
 fits_here heard telling c p j w has h = subst (λ (b : Bool). MatchBool b (HoldsWire heard telling c j w) (w ≡ None)) (sym has) h
 
 -- One entry more was heard of a connection that keeps its wire.
-pub fit_heard : {W : Type 0} (heard : W → Option (List Told)) (past now : List Event) (e : Entry) (before after : List (Option (Journaled W)))
+pub fit_heard : {W : Type 0} (heard : W → Option WireTold) (past now : List Event) (e : Entry) (before after : List (Option (Journaled W)))
     → has_wire (place past e.conn) ≡ true → has_wire (place now e.conn) ≡ true → ((c : ℕ) → c ≢ e.conn → place now c ≡ place past c)
     → ((c : ℕ) → journal now c ≡ journal (Heard e ∷ past) c) → ((c : ℕ) → c ≢ e.conn → slot after c ≡ slot before c)
     → HearsEntry heard e (slot before e.conn) (slot after e.conn) → KeepsFit heard past now before after
@@ -87,31 +94,31 @@ fit_heard heard past now e before after had has places journals others hears =
     fit_but_one heard telling past now before after e.conn places (λ c n. journals c ∙ journal_elsewhere past e c n) others fit
     (fits_here heard telling e.conn (place now e.conn) (journal now e.conn) (slot after e.conn) has here)
 
-pub some_wire : {W : Type 0} (heard : W → Option (List Told)) (telling : Bool) (c : ℕ) (entries : List Entry) (w : Option (Journaled W)) → HoldsWire heard telling c entries w → IsSome w
+pub some_wire : {W : Type 0} (heard : W → Option WireTold) (telling : Bool) (c : ℕ) (entries : List Entry) (w : Option (Journaled W)) → HoldsWire heard telling c entries w → IsSome w
 some_wire heard telling c entries None h = absurd h
 some_wire heard telling c entries (Some w) h = refl
 
-untold_slot : {W : Type 0} (heard : W → Option (List Told)) (telling : Bool) (c : ℕ) (j : List Entry) (w : Option (Journaled W)) → HoldsWire heard telling c j w → HoldsWire heard false c j w
+untold_slot : {W : Type 0} (heard : W → Option WireTold) (telling : Bool) (c : ℕ) (j : List Entry) (w : Option (Journaled W)) → HoldsWire heard telling c j w → HoldsWire heard false c j w
 untold_slot heard telling c j None h = h
-untold_slot heard telling c j (Some w) h = record { conn = h.conn; journal = h.journal; tells = λ t. absurd cc }
+untold_slot heard telling c j (Some w) h = record { conn = h.conn; journal = h.journal; unplanned = h.unplanned; tells = λ t. absurd cc }
 
 -- a connection that has a wire has it in its slot, whether all tell or not
-pub wired : {W : Type 0} (heard : W → Option (List Told)) (telling : Bool) (past : List Event) (ws : List (Option (Journaled W))) (c : ℕ) → has_wire (place past c) ≡ true
+pub wired : {W : Type 0} (heard : W → Option WireTold) (telling : Bool) (past : List Event) (ws : List (Option (Journaled W))) (c : ℕ) → has_wire (place past c) ≡ true
     → WiresFit heard telling past ws → HoldsWire heard false c (journal past c) (slot ws c)
 wired heard telling past ws c has fit =
     untold_slot heard telling c (journal past c) (slot ws c) (holds_here heard telling c (place past c) (journal past c) (slot ws c) has (fit c))
 
-untold_fit : {W : Type 0} (heard : W → Option (List Told)) (telling b : Bool) (c : ℕ) (j : List Entry) (w : Option (Journaled W)) → MatchBool b (HoldsWire heard telling c j w) (w ≡ None)
+untold_fit : {W : Type 0} (heard : W → Option WireTold) (telling b : Bool) (c : ℕ) (j : List Entry) (w : Option (Journaled W)) → MatchBool b (HoldsWire heard telling c j w) (w ≡ None)
     → MatchBool b (HoldsWire heard false c j w) (w ≡ None)
 untold_fit heard telling true c j w f = untold_slot heard telling c j w f
 untold_fit heard telling false c j w f = f
 
 -- wires that fit where all tell fit where it is open who tells
-pub untold_fits : {W : Type 0} (heard : W → Option (List Told)) (telling : Bool) (past : List Event) (ws : List (Option (Journaled W))) → WiresFit heard telling past ws → WiresFit heard false past ws
+pub untold_fits : {W : Type 0} (heard : W → Option WireTold) (telling : Bool) (past : List Event) (ws : List (Option (Journaled W))) → WiresFit heard telling past ws → WiresFit heard false past ws
 untold_fits heard telling past ws fit = λ c. untold_fit heard telling (has_wire (place past c)) c (journal past c) (slot ws c) (fit c)
 
 -- wires stay fitting where the same connections have wires and as much was heard of each
-pub same_fits : {W : Type 0} (heard : W → Option (List Told)) (telling : Bool) (past now : List Event) (ws : List (Option (Journaled W))) → KeepsPlaces past now → WiresFit heard telling past ws
+pub same_fits : {W : Type 0} (heard : W → Option WireTold) (telling : Bool) (past now : List Event) (ws : List (Option (Journaled W))) → KeepsPlaces past now → WiresFit heard telling past ws
     → WiresFit heard telling now ws
 same_fits heard telling past now ws k fit =
     λ c. same_fit heard telling c (place past c) (place now c) (journal past c) (journal now c) (slot ws c) (slot ws c) (k.wired c) (k.journals c) refl (fit c)
@@ -121,6 +128,6 @@ new_place past zero is = rw is refl
 new_place past (suc c) is = rw is refl
 
 -- no wires fit where no connection was opened
-pub fresh_fits : {W : Type 0} (heard : W → Option (List Told)) (telling : Bool) (past : List Event) (ws : List (Option (Journaled W))) → places past ≡ Nowhere ∷ [] → ws ≡ []
+pub fresh_fits : {W : Type 0} (heard : W → Option WireTold) (telling : Bool) (past : List Event) (ws : List (Option (Journaled W))) → places past ≡ Nowhere ∷ [] → ws ≡ []
     → WiresFit heard telling past ws
 fresh_fits heard telling past ws is none = λ c. rw (new_place past c is, none) refl

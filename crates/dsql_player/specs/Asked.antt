@@ -1,6 +1,6 @@
 -- A driver call on a wire, and its answer heard.
 use Rattle.std.specs.Prelude.{ℕ, ◌≡◌, ◌≢◌, false, List, Option}
-use Rattle.dsql_driver.specs.Wires.{Told}
+use Rattle.dsql_driver.specs.Wires.{WireTold}
 use Rattle.dsql_driver.specs.Fits.{is_memory}
 use Rattle.dsql_driver.specs.declared.answer.DriverAnswer.{DriverAnswer}
 use Rattle.dsql_journal.specs.declared.entry.Permit.{Permit}
@@ -13,7 +13,7 @@ use Rattle.dsql_wire.specs.Journaled.{Journaled}
 use Rattle.dsql_player.specs.WiresFit.{slot, HearsEntry}
 
 -- some answer was heard, by the engine as by the wire
-pub record Asks {W : Type 0} (heard : W → Option (List Told)) (permit : Permit) (next : Next) (old new : List Event) (before after : List (Option (Journaled W))) : Type 0 where
+pub record Asks {W : Type 0} (heard : W → Option WireTold) (permit : Permit) (next : Next) (old new : List Event) (before after : List (Option (Journaled W))) : Type 0 where
   pub answer : DriverAnswer
   pub no_want : is_memory answer ≡ false
   pub group : new ≡ after_heard old (entry_of permit answer)

@@ -1,6 +1,6 @@
 -- What the parts of carrying a line out change, and what stays.
 use Rattle.std.specs.Prelude.{ℕ, ◌≡◌, ◌<◌, ◌==◌, ◌+◌, ◌-◌, ◌*◌, Bool, true, false, List, [], ◌∷◌, ◌++◌, ◌⊎◌, length, Option, Some, is_some}
-use Rattle.dsql_driver.specs.Wires.{RetiredWire}
+use Rattle.dsql_driver.specs.Wires.{FleetTold}
 use Rattle.dsql_journal.specs.declared.entry.Permit.{Permit}
 use Rattle.dsql_history.specs.declared.event.Event.{Event}
 use Rattle.dsql_history.specs.declared.event.Op.{Op}
@@ -16,7 +16,7 @@ use Rattle.dsql_engine.specs.declared.next.Next.TheVariants.{Send, Blocked, Repl
 use Rattle.dsql_engine.specs.Awaited.{awaited}
 use Rattle.dsql_engine.specs.Groups.{most_events}
 use Rattle.dsql_engine.specs.Steps.{IsParked}
-use Rattle.dsql_player.specs.Told.{gone_told, TellsGone}
+use Rattle.dsql_player.specs.Told.{fleet_told, TellsOn}
 use Rattle.dsql_player.specs.Entered.{entered_calls}
 use Rattle.dsql_player.specs.Turns.{Turns}
 use Rattle.dsql_player.specs.Extends.{Extends}
@@ -30,9 +30,9 @@ pub record GoesOn (old new : List Event) : Type 0 where
   pub ended : has_ended new ≡ has_ended old
   pub clients : (n : ℕ) → (call_record new n).client ≡ (call_record old n).client
 
--- the fleet is given back what is gone
-pub record Retires (before after : Option (List RetiredWire)) (old new : List Event) : Type 0 where
-  pub gone : TellsGone before after old new
+-- the fleet is asked for each Connect that is heard, and given back what is gone
+pub record FleetTells (before after : Option FleetTold) (old new : List Event) : Type 0 where
+  pub told : TellsOn before after old new
   pub telling : is_some after ≡ is_some before
 
 -- one of the layer's own calls is carried out
@@ -95,7 +95,7 @@ ComesNearer old before new after = work_left new after < work_left old before
 -- one step of the call that is under way
 pub record Steps (old : List Event) (client : ℕ) (before : Next) (new : List Event) (after : Next) : Type 0 where
   pub on : GoesOn old new
-  pub told : gone_told new ≡ gone_told old
+  pub told : fleet_told new ≡ fleet_told old
   pub next : ComesNext new client after
   pub nearer : ComesNearer old before new after
 
@@ -103,7 +103,7 @@ pub record Steps (old : List Event) (client : ℕ) (before : Next) (new : List E
 pub record KeepsPlaces (old new : List Event) : Type 0 where
   pub wired : (c : ℕ) → has_wire (place new c) ≡ has_wire (place old c)
   pub journals : (c : ℕ) → journal new c ≡ journal old c
-  pub told : gone_told new ≡ gone_told old
+  pub told : fleet_told new ≡ fleet_told old
 
 -- a client's call enters
 pub record Enters (old : List Event) (client : ℕ) (op : Op) (first : Next) (new : List Event) : Type 0 where

@@ -1,33 +1,70 @@
--- What was heard of each connection, as its wire tells it, and what the fleet was given back.
-use Rattle.std.specs.Prelude.{ℕ, ◌≡◌, List, [], ◌∷◌, ◌++◌, length, Option, Some, None, option_map}
-use Rattle.dsql_driver.specs.Wires.{Told, RetiredWire, retired_after}
+-- What wires and a fleet tell of a history.
+use Rattle.std.specs.Prelude.{ℕ, ◌≡◌, ◌≤◌, cond, List, [], ◌∷◌, ◌++◌, length, Option, Some, None, IfSome, option_map}
+use Rattle.dsql_driver.specs.Wires.{WireTold, FleetTold, Connected, with_connects, with_retired, retired_after}
+use Rattle.dsql_journal.specs.declared.entry.Entry.{Entry}
+use Rattle.dsql_journal.specs.Kinds.{is_connect}
 use Rattle.dsql_history.specs.declared.event.Event.{Event}
-use Rattle.dsql_history.specs.declared.event.Event.TheVariants.{Pool}
+use Rattle.dsql_history.specs.declared.event.Event.TheVariants.{Heard, Pool}
 use Rattle.dsql_history.specs.declared.event.Move.TheVariants.{Gone}
 use Rattle.dsql_history.specs.Readers.Journals.{journal}
 use Rattle.dsql_wire.specs.Told.{told_of}
 use Rattle.dsql_wire.specs.Journaled.{Journaled}
 
--- The wires of the connections that are gone, in the order in which they went, each with what it had heard. A refused Connect has no wire.
-abbrev pub gone_told : List Event → List RetiredWire
-gone_told [] = []
-gone_told (Pool (Gone c) ∷ before) = gone_told before ++ (c, told_of (journal before c)) ∷ []
-gone_told (_ ∷ before) = gone_told before
+-- what the wire of connection c tells, whose journal this is; no fault was planned on it
+abbrev pub tells_of : ℕ → List Entry → WireTold
+tells_of c entries = record { number = c; calls = told_of entries; plans = [] }
 
--- what the fleet tells, where it told r as the history began
-abbrev pub with_gone : Option (List RetiredWire) → List Event → Option (List RetiredWire)
-with_gone r past = option_map (λ rs. rs ++ gone_told past) r
+-- a Connect comes to what a fleet tells, with its answer, and no other call does
+abbrev pub with_heard : Entry → FleetTold → FleetTold
+with_heard e told = cond (is_connect e.call) (with_connects ((e.conn, e.answer) ∷ []) told) told
 
--- a fleet that told what was gone in the old history tells what is gone in the new one
-abbrev pub TellsGone : Option (List RetiredWire) → Option (List RetiredWire) → List Event → List Event → Type 0
-TellsGone before after old new = (r : Option (List RetiredWire)) → before ≡ with_gone r old → after ≡ with_gone r new
+-- What a fleet tells that was asked for the Connects of a history, and was given back the wires of the connections that are gone, all in their order. A refused Connect has no wire, and no fault was planned.
+abbrev pub fleet_told : List Event → FleetTold
+fleet_told [] = record { connects = []; plans = []; retired = [] }
+fleet_told (Heard e ∷ before) = with_heard e (fleet_told before)
+fleet_told (Pool (Gone c) ∷ before) = with_retired ((c, tells_of c (journal before c)) ∷ []) (fleet_told before)
+fleet_told (_ ∷ before) = fleet_told before
+
+-- what a fleet tells that told one thing first, and was then asked for more
+abbrev pub told_then : FleetTold → FleetTold → FleetTold
+told_then more first = record { connects = first.connects ++ more.connects; plans = first.plans; retired = first.retired ++ more.retired }
+
+-- what a fleet tells of a history, where it told so much as the history began
+abbrev pub with_told : Option FleetTold → List Event → Option FleetTold
+with_told told past = option_map (told_then (fleet_told past)) told
+
+-- a fleet that told just of the old history tells just of the new one
+abbrev pub TellsOn : Option FleetTold → Option FleetTold → List Event → List Event → Type 0
+TellsOn before after old new = (told : Option FleetTold) → before ≡ with_told told old → after ≡ with_told told new
+
+-- A fleet that told just of the old history tells of the new one, and maybe of one Connect more, whose answer couldn't be taken in.
+pub record TellsAtMost (before after : Option FleetTold) (old new : List Event) : Type 0 where
+  pub more : List Connected
+  pub few : length more ≤ 1
+  pub told : (told : Option FleetTold) → before ≡ with_told told old → after ≡ option_map (with_connects more) (with_told told new)
+
+-- the same Connects and plans are told, where both tell
+abbrev pub SameAsked : Option FleetTold → Option FleetTold → Type 0
+SameAsked before after = IfSome before (λ b. IfSome after (λ a. (a.connects ≡ b.connects) × (a.plans ≡ b.plans)))
+
+-- A fleet that told just of the old history was asked for the Connects of the new one, and maybe for one more, whose answer couldn't be taken in, and given back what was left. No fault was planned.
+pub record LeavesAtMost (before after : Option FleetTold) (old new : List Event) : Type 0 where
+  pub more : List Connected
+  pub few : length more ≤ 1
+  pub asked : (told : Option FleetTold) → before ≡ with_told told old → SameAsked (option_map (with_connects more) (with_told told new)) after
+
+-- A fleet was asked for just the Connects of this history, and maybe for one more, whose answer couldn't be taken in. No fault was planned.
+pub record AsksAtMost (before after : Option FleetTold) (past : List Event) : Type 0 where
+  pub more : List Connected
+  pub few : length more ≤ 1
+  pub asked : SameAsked (option_map (with_connects more) (with_told before past)) after
 
 -- what the fleet tells once the wire of a slot, if it has one, was given back
-abbrev pub retired_slot : {W : Type 0} → (W → Option (List Told)) → ℕ → Option (Journaled W) → Option (List RetiredWire) → Option (List RetiredWire)
-retired_slot heard number None before = before
-retired_slot heard number (Some wire) before = retired_after number (heard wire.wire) before
+abbrev pub retired_slot : {W : Type 0} → (W → Option WireTold) → ℕ → Option (Journaled W) → Option FleetTold → Option FleetTold
+retired_slot tells number None before = before
+retired_slot tells number (Some wire) before = retired_after number (tells wire.wire) before
 
 -- The same for a list of slots, from the last slot to the first. The slots stand last first.
-abbrev pub retired_from : {W : Type 0} → (W → Option (List Told)) → List (Option (Journaled W)) → Option (List RetiredWire) → Option (List RetiredWire)
-retired_from heard [] before = before
-retired_from heard (wire ∷ lower) before = retired_from heard lower (retired_slot heard (length lower) wire before)
+abbrev pub retired_from : {W : Type 0} → (W → Option WireTold) → List (Option (Journaled W)) → Option FleetTold → Option FleetTold
+retired_from tells [] before = before
+retired_from tells (wire ∷ lower) before = retired_from tells lower (retired_slot tells (length lower) wire before)

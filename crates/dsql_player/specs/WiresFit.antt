@@ -1,7 +1,7 @@
 -- Which connections have a wire, and what each wire has heard.
-use Rattle.std.specs.Prelude.{ℕ, ◌≡◌, Bool, true, false, List, [], ◌∷◌, slice_index_or, Option, Some, None, is_some, MatchBool}
+use Rattle.std.specs.Prelude.{ℕ, ◌≡◌, Bool, true, false, List, [], ◌∷◌, slice_index_or, Option, Some, None, is_some, IfSome, MatchBool}
 use Rattle.dsql_driver.specs.Fits.{is_done}
-use Rattle.dsql_driver.specs.Wires.{Told, told_after}
+use Rattle.dsql_driver.specs.Wires.{WireTold, told_after}
 use Rattle.dsql_journal.specs.declared.entry.Entry.{Entry}
 use Rattle.dsql_history.specs.declared.event.Event.{Event}
 use Rattle.dsql_history.specs.declared.record.Place.{Place}
@@ -21,40 +21,41 @@ has_wire (Lent tenure owner) = true
 has_wire Closing = true
 has_wire _ = false
 
--- a wire of connection c with just this journal, which tells where all do; what it tells is its journal then
-pub record IsWireOf {W : Type 0} (heard : W → Option (List Told)) (telling : Bool) (c : ℕ) (entries : List Entry) (wire : Journaled W) : Type 0 where
+-- A wire of connection c with just this journal, which tells where all do; what it tells is its journal then, and no fault was planned on it.
+pub record IsWireOf {W : Type 0} (heard : W → Option WireTold) (telling : Bool) (c : ℕ) (entries : List Entry) (wire : Journaled W) : Type 0 where
   pub conn : wire.conn ≡ c
   pub journal : wire.journal ≡ entries
+  pub unplanned : IfSome (heard wire.wire) (λ told. told.plans ≡ [])
   pub tells : telling ≡ true → is_some (heard wire.wire) ≡ true
 
 -- there is a wire, and it is one of connection c with just this journal
-abbrev pub HoldsWire : {W : Type 0} → (W → Option (List Told)) → Bool → ℕ → List Entry → Option (Journaled W) → Type 0
+abbrev pub HoldsWire : {W : Type 0} → (W → Option WireTold) → Bool → ℕ → List Entry → Option (Journaled W) → Type 0
 HoldsWire heard telling c entries None = ⊥
 HoldsWire heard telling c entries (Some wire) = IsWireOf heard telling c entries wire
 
 -- What the slot of connection c holds: its wire with its journal, or nothing.
-abbrev pub FitsAt : {W : Type 0} → (W → Option (List Told)) → Bool → ℕ → Place → List Entry → Option (Journaled W) → Type 0
+abbrev pub FitsAt : {W : Type 0} → (W → Option WireTold) → Bool → ℕ → Place → List Entry → Option (Journaled W) → Type 0
 FitsAt heard telling c place entries wire = MatchBool (has_wire place) (HoldsWire heard telling c entries wire) (wire ≡ None)
 
 -- Each connection that is idle, lent or closing has its wire, whose journal is the connection's. No other has one.
-abbrev pub WiresFit : {W : Type 0} → (W → Option (List Told)) → Bool → List Event → List (Option (Journaled W)) → Type 0
+abbrev pub WiresFit : {W : Type 0} → (W → Option WireTold) → Bool → List Event → List (Option (Journaled W)) → Type 0
 WiresFit heard telling past slots = (c : ℕ) → FitsAt heard telling c (place past c) (journal past c) (slot slots c)
 
 -- a wire hears one entry more
-pub record Hears {W : Type 0} (heard : W → Option (List Told)) (e : Entry) (before after : Journaled W) : Type 0 where
+pub record Hears {W : Type 0} (heard : W → Option WireTold) (e : Entry) (before after : Journaled W) : Type 0 where
   pub conn : after.conn ≡ before.conn
   pub journal : after.journal ≡ e ∷ before.journal
   pub told : heard after.wire ≡ told_after e.call e.answer (heard before.wire)
 
 -- the wire in a slot hears one entry more
-abbrev pub HearsEntry : {W : Type 0} → (W → Option (List Told)) → Entry → Option (Journaled W) → Option (Journaled W) → Type 0
+abbrev pub HearsEntry : {W : Type 0} → (W → Option WireTold) → Entry → Option (Journaled W) → Option (Journaled W) → Type 0
 HearsEntry heard e (Some before) (Some after) = Hears heard e before after
 HearsEntry heard e _ _ = ⊥
 
 -- where the Connect was answered Done there is a new wire, whose journal is that entry, and else none
-abbrev pub OpensWire : {W : Type 0} → (W → Option (List Told)) → Bool → Entry → Option (Journaled W) → Type 0
+abbrev pub OpensWire : {W : Type 0} → (W → Option WireTold) → Bool → Entry → Option (Journaled W) → Type 0
 OpensWire heard telling e wire = MatchBool (is_done e.answer) (HoldsWire heard telling e.conn (e ∷ []) wire) (wire ≡ None)
 
 -- wires that fit the old history fit the new one afterwards, whether all tell or not
-abbrev pub KeepsFit : {W : Type 0} → (W → Option (List Told)) → List Event → List Event → List (Option (Journaled W)) → List (Option (Journaled W)) → Type 0
+abbrev pub KeepsFit : {W : Type 0} → (W → Option WireTold) → List Event → List Event → List (Option (Journaled W)) → List (Option (Journaled W)) → Type 0
 KeepsFit heard old new before after = (telling : Bool) → WiresFit heard telling old before → WiresFit heard telling new after

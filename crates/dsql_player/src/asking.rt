@@ -41,9 +41,7 @@ pub(crate) fn hear(engine: &mut Engine, heard: Heard) -> Result<Next, Halt>
     ensures memory { IfErr result (λ halt. halt ≡ Halt.Memory) }
     ensures legal { Legal engine.new }
 {
-    let entry = heard.into_entry();
-    let copy = entry.answer.clone()?;
-    Ok(engine.heard(entry, copy)?)
+    Ok(engine.heard(heard)?)
 }
 
 /// Makes a driver call on the wire of its connection, and brings the answer to the engine.
@@ -55,10 +53,10 @@ pub(crate) fn ask<W: Wire>(
     requires legal { Legal engine.old }
     requires room { length engine.old < most_events }
     requires awaited { awaited engine.old permit.conn ≡ Some permit }
-    requires wire { HoldsWire W.heard false permit.conn (journal engine.old permit.conn)
+    requires wire { HoldsWire W.told false permit.conn (journal engine.old permit.conn)
         (slot wires.old permit.conn) }
     ensures asked { IfOk result
-        (λ next. Asks W.heard permit next engine.old engine.new wires.old wires.new) }
+        (λ next. Asks W.told permit next engine.old engine.new wires.old wires.new) }
     ensures err { OnErr result (engine.new ≡ engine.old) }
     ensures memory { IfErr result (λ halt. halt ≡ Halt.Memory) }
     ensures legal { Legal engine.new }

@@ -1,5 +1,6 @@
 ghost use Rattle.std.specs.Prelude.{◌≡◌, ◌≢◌, ◌<◌, ◌≤◌, ℕ, [], true, false, length, Some, None, IfOk, IfErr, OnOk, OnErr, IsErrOf, is_some};
 ghost use Rattle.dsql_driver.specs.Fits.{is_memory};
+ghost use Rattle.dsql_driver.specs.Wires.{connected_after};
 ghost use Rattle.dsql_journal.specs.HandlesAndCursors.{fits_at_its_place};
 ghost use Rattle.dsql_journal.specs.Kinds.{is_connect, is_shut};
 ghost use Rattle.dsql_history.specs.Legal.{Legal};
@@ -9,9 +10,9 @@ ghost use Rattle.dsql_engine.specs.Awaited.{awaited, chore_due};
 ghost use Rattle.dsql_engine.specs.Groups.{most_events};
 ghost use Rattle.dsql_tenure.specs.Judged.{answered};
 ghost use Rattle.dsql_wire.specs.Opening.{opens};
-ghost use Rattle.dsql_player.specs.Carried.{GoesOn, Retires, CarriesChore, CarriesFirst};
+ghost use Rattle.dsql_player.specs.Carried.{GoesOn, FleetTells, CarriesChore, CarriesFirst};
 ghost use Rattle.dsql_player.specs.WiresFit.{slot, WiresFit, OpensWire, KeepsFit};
-ghost use Rattle.dsql_player.specs.Told.{gone_told};
+ghost use Rattle.dsql_player.specs.Told.{fleet_told, TellsAtMost};
 
 use crate::asking::{ask, check_room, hear};
 use crate::halt::Halt;
@@ -29,13 +30,15 @@ pub(crate) fn carry_chores<F: Fleet>(
     fleet: &mut F,
 ) -> Result<(), Halt>
     requires legal { Legal engine.old }
-    requires wires { WiresFit F.Wire.heard (is_some (F.retired fleet.old)) engine.old wires.old }
+    requires wires { WiresFit F.Wire.told (is_some (F.told fleet.old)) engine.old wires.old }
     ensures none { OnOk result (has_no_chore engine.new ≡ true) }
     ensures calls { OnOk result (unfinished engine.new ≡ unfinished engine.old) }
-    ensures gone { OnOk result
-        (Retires (F.retired fleet.old) (F.retired fleet.new) engine.old engine.new) }
+    ensures told { OnOk result
+        (FleetTells (F.told fleet.old) (F.told fleet.new) engine.old engine.new) }
+    ensures asked { OnErr result
+        (TellsAtMost (F.told fleet.old) (F.told fleet.new) engine.old engine.new) }
     ensures wires { OnOk result
-        (WiresFit F.Wire.heard (is_some (F.retired fleet.new)) engine.new wires.new) }
+        (WiresFit F.Wire.told (is_some (F.told fleet.new)) engine.new wires.new) }
     ensures on { GoesOn engine.old engine.new }
     ensures full { IsErrOf result Halt.Full → most_events ≤ length engine.new }
     ensures ability { F.ability fleet.new ≡ F.ability fleet.old }
@@ -53,12 +56,14 @@ pub(crate) fn carry_first_chore<F: Fleet>(
     fleet: &mut F,
 ) -> Result<bool, Halt>
     requires legal { Legal engine.old }
-    requires wires { WiresFit F.Wire.heard (is_some (F.retired fleet.old)) engine.old wires.old }
+    requires wires { WiresFit F.Wire.told (is_some (F.told fleet.old)) engine.old wires.old }
     ensures first { IfOk result (λ carried. CarriesFirst carried engine.old engine.new) }
-    ensures gone { OnOk result
-        (Retires (F.retired fleet.old) (F.retired fleet.new) engine.old engine.new) }
+    ensures told { OnOk result
+        (FleetTells (F.told fleet.old) (F.told fleet.new) engine.old engine.new) }
+    ensures asked { OnErr result
+        (TellsAtMost (F.told fleet.old) (F.told fleet.new) engine.old engine.new) }
     ensures wires { OnOk result
-        (WiresFit F.Wire.heard (is_some (F.retired fleet.new)) engine.new wires.new) }
+        (WiresFit F.Wire.told (is_some (F.told fleet.new)) engine.new wires.new) }
     ensures err { OnErr result (engine.new ≡ engine.old) }
     ensures full { IsErrOf result Halt.Full → most_events ≤ length engine.new }
     ensures ability { F.ability fleet.new ≡ F.ability fleet.old }
@@ -86,12 +91,14 @@ fn carry_chore<F: Fleet>(
     requires room { length engine.old < most_events }
     requires due { chore_due engine.old ≡ Some permit }
     requires awaited { awaited engine.old permit.conn ≡ Some permit }
-    requires wires { WiresFit F.Wire.heard (is_some (F.retired fleet.old)) engine.old wires.old }
+    requires wires { WiresFit F.Wire.told (is_some (F.told fleet.old)) engine.old wires.old }
     ensures carried { OnOk result (CarriesChore engine.old engine.new) }
-    ensures gone { OnOk result
-        (Retires (F.retired fleet.old) (F.retired fleet.new) engine.old engine.new) }
+    ensures told { OnOk result
+        (FleetTells (F.told fleet.old) (F.told fleet.new) engine.old engine.new) }
+    ensures asked { OnErr result
+        (TellsAtMost (F.told fleet.old) (F.told fleet.new) engine.old engine.new) }
     ensures wires { OnOk result
-        (WiresFit F.Wire.heard (is_some (F.retired fleet.new)) engine.new wires.new) }
+        (WiresFit F.Wire.told (is_some (F.told fleet.new)) engine.new wires.new) }
     ensures err { OnErr result (engine.new ≡ engine.old) }
     ensures memory { IfErr result (λ halt. halt ≡ Halt.Memory) }
     ensures ability { F.ability fleet.new ≡ F.ability fleet.old }
@@ -113,10 +120,10 @@ fn tidy<W: Wire>(engine: &mut Engine, wires: &mut Wires<W>, permit: Permit) -> R
     requires awaited { awaited engine.old permit.conn ≡ Some permit }
     requires no_connect { is_connect permit.call ≡ false }
     requires no_shut { is_shut permit.call ≡ false }
-    requires wires { WiresFit W.heard false engine.old wires.old }
+    requires wires { WiresFit W.told false engine.old wires.old }
     ensures carried { OnOk result (CarriesChore engine.old engine.new) }
-    ensures told { OnOk result (gone_told engine.new ≡ gone_told engine.old) }
-    ensures wires { OnOk result (KeepsFit W.heard engine.old engine.new wires.old wires.new) }
+    ensures told { OnOk result (fleet_told engine.new ≡ fleet_told engine.old) }
+    ensures wires { OnOk result (KeepsFit W.told engine.old engine.new wires.old wires.new) }
     ensures err { OnErr result (engine.new ≡ engine.old) }
     ensures memory { IfErr result (λ halt. halt ≡ Halt.Memory) }
     ensures legal { Legal engine.new }
@@ -137,12 +144,14 @@ fn shut<F: Fleet>(
     requires due { chore_due engine.old ≡ Some permit }
     requires awaited { awaited engine.old permit.conn ≡ Some permit }
     requires shuts { is_shut permit.call ≡ true }
-    requires wires { WiresFit F.Wire.heard (is_some (F.retired fleet.old)) engine.old wires.old }
+    requires wires { WiresFit F.Wire.told (is_some (F.told fleet.old)) engine.old wires.old }
     ensures carried { OnOk result (CarriesChore engine.old engine.new) }
-    ensures gone { OnOk result
-        (Retires (F.retired fleet.old) (F.retired fleet.new) engine.old engine.new) }
+    ensures told { OnOk result
+        (FleetTells (F.told fleet.old) (F.told fleet.new) engine.old engine.new) }
+    ensures asked { OnErr result
+        (TellsAtMost (F.told fleet.old) (F.told fleet.new) engine.old engine.new) }
     ensures wires { OnOk result
-        (WiresFit F.Wire.heard (is_some (F.retired fleet.new)) engine.new wires.new) }
+        (WiresFit F.Wire.told (is_some (F.told fleet.new)) engine.new wires.new) }
     ensures err { OnErr result (engine.new ≡ engine.old) }
     ensures memory { IfErr result (λ halt. halt ≡ Halt.Memory) }
     ensures ability { F.ability fleet.new ≡ F.ability fleet.old }
@@ -172,12 +181,14 @@ fn open<F: Fleet>(
     requires due { chore_due engine.old ≡ Some permit }
     requires awaited { awaited engine.old permit.conn ≡ Some permit }
     requires connects { is_connect permit.call ≡ true }
-    requires wires { WiresFit F.Wire.heard (is_some (F.retired fleet.old)) engine.old wires.old }
+    requires wires { WiresFit F.Wire.told (is_some (F.told fleet.old)) engine.old wires.old }
     ensures carried { OnOk result (CarriesChore engine.old engine.new) }
-    ensures gone { OnOk result
-        (Retires (F.retired fleet.old) (F.retired fleet.new) engine.old engine.new) }
+    ensures told { OnOk result
+        (FleetTells (F.told fleet.old) (F.told fleet.new) engine.old engine.new) }
+    ensures asked { OnErr result
+        (TellsAtMost (F.told fleet.old) (F.told fleet.new) engine.old engine.new) }
     ensures wires { OnOk result
-        (WiresFit F.Wire.heard (is_some (F.retired fleet.new)) engine.new wires.new) }
+        (WiresFit F.Wire.told (is_some (F.told fleet.new)) engine.new wires.new) }
     ensures err { OnErr result (engine.new ≡ engine.old) }
     ensures memory { IfErr result (λ halt. halt ≡ Halt.Memory) }
     ensures ability { F.ability fleet.new ≡ F.ability fleet.old }
@@ -202,9 +213,11 @@ fn connect_wire<F: Fleet>(
     ensures no_want { IfOk result (λ heard. is_memory heard.answer ≡ false) }
     ensures others { OnOk result ((c : ℕ) → c ≢ permit.conn → slot wires.new c ≡ slot wires.old c) }
     ensures wire { IfOk result
-        (λ heard. OpensWire F.Wire.heard (is_some (F.retired fleet.old)) heard (slot wires.new permit.conn)) }
+        (λ heard. OpensWire F.Wire.told (is_some (F.told fleet.old)) heard (slot wires.new permit.conn)) }
+    ensures asked { IfOk result
+        (λ heard. F.told fleet.new ≡ connected_after permit.conn heard.answer (F.told fleet.old)) }
+    ensures unasked { OnErr result (F.told fleet.new ≡ F.told fleet.old) }
     ensures memory { IfErr result (λ halt. halt ≡ Halt.Memory) }
-    ensures retired { F.retired fleet.new ≡ F.retired fleet.old }
     ensures ability { F.ability fleet.new ≡ F.ability fleet.old }
     ensures preferred { F.preferred fleet.new ≡ F.preferred fleet.old }
 {
@@ -226,9 +239,11 @@ fn open_wire<F: Fleet>(
     ensures fits { IfOk result (λ opened. fits_at_its_place [] opened.heard ≡ true) }
     ensures no_want { IfOk result (λ opened. is_memory opened.heard.answer ≡ false) }
     ensures wire { IfOk result
-        (λ opened. OpensWire F.Wire.heard (is_some (F.retired fleet.old)) opened.heard opened.wire) }
+        (λ opened. OpensWire F.Wire.told (is_some (F.told fleet.old)) opened.heard opened.wire) }
+    ensures asked { IfOk result
+        (λ opened. F.told fleet.new ≡ connected_after permit.conn opened.heard.answer (F.told fleet.old)) }
+    ensures unasked { OnErr result (F.told fleet.new ≡ F.told fleet.old) }
     ensures memory { IfErr result (λ halt. halt ≡ Halt.Memory) }
-    ensures retired { F.retired fleet.new ≡ F.retired fleet.old }
     ensures ability { F.ability fleet.new ≡ F.ability fleet.old }
     ensures preferred { F.preferred fleet.new ≡ F.preferred fleet.old }
 {

@@ -1,7 +1,7 @@
 ghost use Rattle.std.specs.Prelude.{◌≡◌};
 ghost use Rattle.dsql_player.specs.declared.halt.Halt.TheVariants as halts;
 
-use dsql_engine::NoRoom;
+use dsql_engine::{HeardBack, NoRoom};
 use dsql_value::Memory;
 use std::alloc::AllocError;
 use thiserror::Error;
@@ -21,6 +21,14 @@ impl From<NoRoom> for Halt {
     ghost from_gives = { λ _ e. e ≡ halts.Memory };
 
     fn from(_e: NoRoom) -> Halt {
+        Halt::Memory
+    }
+}
+
+impl From<HeardBack> for Halt {
+    ghost from_gives = { λ _ e. e ≡ halts.Memory };
+
+    fn from(_back: HeardBack) -> Halt {
         Halt::Memory
     }
 }

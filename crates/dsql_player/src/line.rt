@@ -4,11 +4,11 @@ ghost use Rattle.dsql_history.specs.Readers.Course.{has_ended};
 ghost use Rattle.dsql_history.specs.Readers.Unfinished.{unfinished};
 ghost use Rattle.dsql_history.specs.Rules.House.{is_quiet, has_no_chore};
 ghost use Rattle.dsql_engine.specs.Groups.{most_events};
-ghost use Rattle.dsql_player.specs.Told.{TellsGone};
+ghost use Rattle.dsql_player.specs.Told.{TellsOn, TellsAtMost};
 ghost use Rattle.dsql_player.specs.Entered.{entered_calls};
 ghost use Rattle.dsql_player.specs.Turns.{Turns};
 ghost use Rattle.dsql_player.specs.Extends.{Extends};
-ghost use Rattle.dsql_player.specs.Carried.{GoesOn, Retires, Steps, Enters, Ends, EntersAtMost, ComesNext, ComesNearer, is_reply};
+ghost use Rattle.dsql_player.specs.Carried.{GoesOn, FleetTells, Steps, Enters, Ends, EntersAtMost, ComesNext, ComesNearer, is_reply};
 ghost use Rattle.dsql_player.specs.WiresFit.{slot, WiresFit, KeepsFit};
 
 use crate::asking::{ask, check_room};
@@ -32,17 +32,19 @@ pub fn carry_line<F: Fleet>(
 ) -> Result<(), Halt>
     requires quiet { is_quiet engine.old ≡ true }
     requires running { has_ended engine.old ≡ false }
-    requires wires { WiresFit F.Wire.heard (is_some (F.retired fleet.old)) engine.old wires.old }
+    requires wires { WiresFit F.Wire.told (is_some (F.told fleet.old)) engine.old wires.old }
 
     ensures quiet { OnOk result (is_quiet engine.new ≡ true) }
     ensures running { OnOk result (has_ended engine.new ≡ false) }
     ensures entered { OnOk result
         (entered_calls engine.new ≡ entered_calls engine.old ++ (client, op) ∷ []) }
-    ensures gone { OnOk result
-        (TellsGone (F.retired fleet.old) (F.retired fleet.new) engine.old engine.new) }
+    ensures told { OnOk result
+        (TellsOn (F.told fleet.old) (F.told fleet.new) engine.old engine.new) }
+    ensures asked { OnErr result
+        (TellsAtMost (F.told fleet.old) (F.told fleet.new) engine.old engine.new) }
     ensures wires { OnOk result
-        (WiresFit F.Wire.heard (is_some (F.retired fleet.new)) engine.new wires.new) }
-    ensures telling { OnOk result (is_some (F.retired fleet.new) ≡ is_some (F.retired fleet.old)) }
+        (WiresFit F.Wire.told (is_some (F.told fleet.new)) engine.new wires.new) }
+    ensures telling { OnOk result (is_some (F.told fleet.new) ≡ is_some (F.told fleet.old)) }
 
     // A run that has to stop goes on from the old history and has kept its turns, and its call has
     // entered or not.
@@ -71,16 +73,18 @@ pub fn carry_end<F: Fleet>(
 ) -> Result<(), Halt>
     requires quiet { is_quiet engine.old ≡ true }
     requires running { has_ended engine.old ≡ false }
-    requires wires { WiresFit F.Wire.heard (is_some (F.retired fleet.old)) engine.old wires.old }
+    requires wires { WiresFit F.Wire.told (is_some (F.told fleet.old)) engine.old wires.old }
 
     ensures quiet { OnOk result (is_quiet engine.new ≡ true) }
     ensures ended { OnOk result (has_ended engine.new ≡ true) }
-    ensures gone { OnOk result
-        (TellsGone (F.retired fleet.old) (F.retired fleet.new) engine.old engine.new) }
+    ensures told { OnOk result
+        (TellsOn (F.told fleet.old) (F.told fleet.new) engine.old engine.new) }
+    ensures asked { OnErr result
+        (TellsAtMost (F.told fleet.old) (F.told fleet.new) engine.old engine.new) }
     ensures wires { OnOk result
-        (WiresFit F.Wire.heard (is_some (F.retired fleet.new)) engine.new wires.new) }
+        (WiresFit F.Wire.told (is_some (F.told fleet.new)) engine.new wires.new) }
     ensures empty { OnOk result ((c : ℕ) → slot wires.new c ≡ None) }
-    ensures telling { OnOk result (is_some (F.retired fleet.new) ≡ is_some (F.retired fleet.old)) }
+    ensures telling { OnOk result (is_some (F.told fleet.new) ≡ is_some (F.told fleet.old)) }
 
     ensures turns { Turns engine.old → Turns engine.new }
     ensures extends { Extends engine.old engine.new }
@@ -131,12 +135,14 @@ fn carry_call<F: Fleet>(
 ) -> Result<(), Halt>
     requires legal { Legal engine.old }
     requires next { ComesNext engine.old client first }
-    requires wires { WiresFit F.Wire.heard (is_some (F.retired fleet.old)) engine.old wires.old }
+    requires wires { WiresFit F.Wire.told (is_some (F.told fleet.old)) engine.old wires.old }
     ensures replied { OnOk result (unfinished engine.new ≡ []) }
-    ensures gone { OnOk result
-        (Retires (F.retired fleet.old) (F.retired fleet.new) engine.old engine.new) }
+    ensures told { OnOk result
+        (FleetTells (F.told fleet.old) (F.told fleet.new) engine.old engine.new) }
+    ensures asked { OnErr result
+        (TellsAtMost (F.told fleet.old) (F.told fleet.new) engine.old engine.new) }
     ensures wires { OnOk result
-        (WiresFit F.Wire.heard (is_some (F.retired fleet.new)) engine.new wires.new) }
+        (WiresFit F.Wire.told (is_some (F.told fleet.new)) engine.new wires.new) }
     ensures on { GoesOn engine.old engine.new }
     ensures full { IsErrOf result Halt.Full → most_events ≤ length engine.new }
     ensures ability { F.ability fleet.new ≡ F.ability fleet.old }
@@ -169,13 +175,15 @@ fn take_turn<F: Fleet>(
     requires legal { Legal engine.old }
     requires next { ComesNext engine.old client next }
     requires unreplied { is_reply next ≡ false }
-    requires wires { WiresFit F.Wire.heard (is_some (F.retired fleet.old)) engine.old wires.old }
+    requires wires { WiresFit F.Wire.told (is_some (F.told fleet.old)) engine.old wires.old }
     ensures next { IfOk result (ComesNext engine.new client) }
     ensures nearer { IfOk result (ComesNearer engine.old next engine.new) }
-    ensures gone { OnOk result
-        (Retires (F.retired fleet.old) (F.retired fleet.new) engine.old engine.new) }
+    ensures told { OnOk result
+        (FleetTells (F.told fleet.old) (F.told fleet.new) engine.old engine.new) }
+    ensures asked { OnErr result
+        (TellsAtMost (F.told fleet.old) (F.told fleet.new) engine.old engine.new) }
     ensures wires { OnOk result
-        (WiresFit F.Wire.heard (is_some (F.retired fleet.new)) engine.new wires.new) }
+        (WiresFit F.Wire.told (is_some (F.told fleet.new)) engine.new wires.new) }
     ensures on { GoesOn engine.old engine.new }
     ensures full { IsErrOf result Halt.Full → most_events ≤ length engine.new }
     ensures ability { F.ability fleet.new ≡ F.ability fleet.old }
@@ -199,9 +207,9 @@ fn carry_on<W: Wire>(
     requires free { has_no_chore engine.old ≡ true }
     requires next { ComesNext engine.old client next }
     requires unreplied { is_reply next ≡ false }
-    requires wires { WiresFit W.heard false engine.old wires.old }
+    requires wires { WiresFit W.told false engine.old wires.old }
     ensures steps { IfOk result (Steps engine.old client next engine.new) }
-    ensures wires { OnOk result (KeepsFit W.heard engine.old engine.new wires.old wires.new) }
+    ensures wires { OnOk result (KeepsFit W.told engine.old engine.new wires.old wires.new) }
     ensures err { OnErr result (engine.new ≡ engine.old) }
     ensures full { IsErrOf result Halt.Full → most_events ≤ length engine.new }
     ensures legal { Legal engine.new }

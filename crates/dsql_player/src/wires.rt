@@ -5,7 +5,7 @@ ghost use Rattle.dsql_driver.specs.declared.caps.Caps.{Caps};
 ghost use Rattle.dsql_history.specs.declared.event.Event.TheVariants.{Run};
 ghost use Rattle.dsql_tenure.specs.Judged.{answered};
 ghost use Rattle.dsql_wire.specs.Journaled.{MayBeSent};
-ghost use Rattle.dsql_player.specs.Told.{retired_from, retired_slot};
+ghost use Rattle.dsql_player.specs.Told.{SameAsked, retired_from, retired_slot};
 ghost use Rattle.dsql_player.specs.WiresFit.{slot, WiresFit, Hears, HearsEntry};
 
 use crate::halt::Halt;
@@ -38,7 +38,7 @@ impl<W: Wire> Wires<W> {
     pub fn new(alloc: Global) -> Wires<W>
         ensures empty { result ≡ [] }
         ensures fitting { (telling : Bool) (version : ℕ) (caps : Caps)
-            → WiresFit W.heard telling (Run version caps ∷ []) result }
+            → WiresFit W.told telling (Run version caps ∷ []) result }
     {
         Wires {
             alloc,
@@ -123,7 +123,7 @@ impl<W: Wire> Wires<W> {
         ensures no_want { IfOk result (λ heard. is_memory heard.answer ≡ false) }
         ensures others { (c : ℕ) → c ≢ permit.conn → slot self.new c ≡ slot self.old c }
         ensures noted { IfOk result
-            (λ heard. HearsEntry W.heard heard (slot self.old permit.conn) (slot self.new permit.conn)) }
+            (λ heard. HearsEntry W.told heard (slot self.old permit.conn) (slot self.new permit.conn)) }
         ensures memory { IfErr result (λ halt. halt ≡ Halt.Memory) }
     {
         match &mut self.slots[permit.conn as usize] {
@@ -139,7 +139,7 @@ fn perform_on<W: Wire>(wire: &mut JournaledWire<W>, permit: Permit) -> Result<He
     ensures entry { IfOk result (λ heard. heard ≡ answered permit heard.answer) }
     ensures fits { IfOk result (λ heard. fits_at_its_place wire.old.journal heard ≡ true) }
     ensures no_want { IfOk result (λ heard. is_memory heard.answer ≡ false) }
-    ensures noted { IfOk result (λ heard. Hears W.heard heard wire.old wire.new) }
+    ensures noted { IfOk result (λ heard. Hears W.told heard wire.old wire.new) }
     ensures memory { IfErr result (λ halt. halt ≡ Halt.Memory) }
 {
     match wire.perform(permit) {
@@ -151,8 +151,9 @@ fn perform_on<W: Wire>(wire: &mut JournaledWire<W>, permit: Permit) -> Result<He
 
 /// Gives every wire that is left back to the fleet, the largest number first.
 pub fn retire_all<F: Fleet>(wires: Wires<F::Wire>, fleet: &mut F)
-    ensures retired { F.retired fleet.new
-        ≡ retired_from F.Wire.heard (reverse wires) (F.retired fleet.old) }
+    ensures retired { F.told fleet.new
+        ≡ retired_from F.Wire.told (reverse wires) (F.told fleet.old) }
+    ensures asked { SameAsked (F.told fleet.old) (F.told fleet.new) }
     ensures ability { F.ability fleet.new ≡ F.ability fleet.old }
     ensures preferred { F.preferred fleet.new ≡ F.preferred fleet.old }
 {
@@ -168,8 +169,8 @@ pub fn retire_all<F: Fleet>(wires: Wires<F::Wire>, fleet: &mut F)
 
 /// Gives the wire of this connection back, if there is one.
 fn retire_slot<F: Fleet>(slot: Option<JournaledWire<F::Wire>>, number: u32, fleet: &mut F)
-    ensures retired { F.retired fleet.new
-        ≡ retired_slot F.Wire.heard number slot (F.retired fleet.old) }
+    ensures retired { F.told fleet.new
+        ≡ retired_slot F.Wire.told number slot (F.told fleet.old) }
     ensures ability { F.ability fleet.new ≡ F.ability fleet.old }
     ensures preferred { F.preferred fleet.new ≡ F.preferred fleet.old }
 {

@@ -22,7 +22,7 @@ use Rattle.dsql_script.specs.ScriptHead.{Progress, after}
 use Rattle.dsql_script.specs.ScriptLines.{Reading, has_target, names_database, op_of, has_too_many, call_on, call_of_parts, call_of_array, statement_of, exec_of, one_into, one_of, query_as, query_of, rows_of, rows_call, scan_into, scan_of, rows_line, call_of, client_line, version_line, caps_line, form_of, is_skipped, text_of, line_of, line_fault, unless_fault, among_labels, read_of, most_bytes, most_lines}
 use Rattle.dsql_run.specs.Script.{Script}
 use Rattle.dsql_run.specs.Runs.{StopsReading}
-use Rattle.dsql_run.specs.Reading.{is_body, is_client, IsBodyLine, IsReadStop, NoLine}
+use Rattle.dsql_run.specs.Reading.{is_body, ends_head, IsBodyLine, IsReadStop, NoLine}
 use Rattle.dsql_run.specs.declared.stop.Stop.{Stop}
 use Rattle.dsql_run.specs.declared.stop.Stop.TheVariants.{Read, Write, Memory, Refused, Full}
 
@@ -156,8 +156,9 @@ stays_begun place now (Client client op) is body placed = rw placed refl
 stays_begun place now (Version version) is body placed = absurd cc
 stays_begun place now (UseCaps caps) is body placed = absurd cc
 
-pub begun_by : (place now : Progress) (says : ScriptLine) → is_client says ≡ true → now ≡ after place says → now.head ≡ Begun
+pub begun_by : (place now : Progress) (says : ScriptLine) → ends_head says ≡ true → now ≡ after place says → now.head ≡ Begun
 begun_by place now (Client client op) is placed = rw placed refl
+begun_by place now (UseCaps caps) is placed = rw placed refl
 begun_by place now _ is placed = absurd cc
 
 -- The same, of what a reader came to.
@@ -174,8 +175,8 @@ begun_of_read (Ok None) place now line begun is placed stays = rw stays begun
 begun_of_read (Err stop) place now line begun is placed stays = rw stays begun
 
 pub headed_of_read : (result : Result (Option ScriptLine) Stop) (place now : Progress) → IfOk result (λ one. IfSome one (λ says. now ≡ after place says))
-    → IfOk result (λ one. IfSome one (λ says. is_client says ≡ true → now.head ≡ Begun))
-headed_of_read (Ok (Some says)) place now placed = λ client. begun_by place now says client placed
+    → IfOk result (λ one. IfSome one (λ says. ends_head says ≡ true → now.head ≡ Begun))
+headed_of_read (Ok (Some says)) place now placed = λ ends. begun_by place now says ends placed
 headed_of_read (Ok None) place now placed = tt
 headed_of_read (Err stop) place now placed = tt
 

@@ -1,7 +1,7 @@
 -- After the run's end no connection is left.
 use Rattle.std.proofs.Common.{◌≡◌, ℕ, Bool, true, false, suc, List, [], ◌∷◌, Option, Some, None, get_or, refl}
 use Rattle.std.specs.Prelude.{◌&&◌, is_none, count_by}
-use Rattle.dsql_driver.specs.Wires.{Told}
+use Rattle.dsql_driver.specs.Wires.{WireTold}
 use Rattle.dsql_journal.specs.declared.entry.Entry.{Entry}
 use Rattle.dsql_journal.specs.Readers.{is_empty}
 use Rattle.dsql_history.specs.declared.event.Event.{Event}
@@ -28,7 +28,7 @@ none_opening past quiet c =
     (second_of (is_empty (unfinished past)) (has_no_chore past) quiet)))
 
 -- a place without a wire that isn't opening
-not_open : {W : Type 0} (heard : W → Option (List Told)) (telling : Bool) (c : ℕ) (p : Place) (entries : List Entry) (wire : Option (Journaled W)) → FitsAt heard telling c p entries wire → wire ≡ None → is_opening p ≡ false → is_open p ≡ false
+not_open : {W : Type 0} (heard : W → Option WireTold) (telling : Bool) (c : ℕ) (p : Place) (entries : List Entry) (wire : Option (Journaled W)) → FitsAt heard telling c p entries wire → wire ≡ None → is_opening p ≡ false → is_open p ≡ false
 not_open heard telling c Nowhere entries wire fits none opening = refl
 not_open heard telling c (Opening n) entries wire fits none opening = absurd (cc opening)
 not_open heard telling c Idle entries (Some w) fits none opening = absurd (cc none)
@@ -47,6 +47,6 @@ count_none (Lent tenure owner ∷ ps) none = absurd (cc (none 0))
 count_none (Closing ∷ ps) none = absurd (cc (none 0))
 
 -- where no wire is left and all is quiet, no connection is
-pub none_open : {W : Type 0} (heard : W → Option (List Told)) (telling : Bool) (past : List Event) (slots : List (Option (Journaled W))) → WiresFit heard telling past slots → ((c : ℕ) → slot slots c ≡ None) → is_quiet past ≡ true → open_count past ≡ 0
+pub none_open : {W : Type 0} (heard : W → Option WireTold) (telling : Bool) (past : List Event) (slots : List (Option (Journaled W))) → WiresFit heard telling past slots → ((c : ℕ) → slot slots c ≡ None) → is_quiet past ≡ true → open_count past ≡ 0
 none_open heard telling past slots fits none quiet =
     count_none (places past) (λ c. not_open heard telling c (place past c) (journal past c) (slot slots c) (fits c) (none c) (none_opening past quiet c))

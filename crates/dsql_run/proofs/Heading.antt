@@ -1,28 +1,30 @@
 -- A script's first lines, up to the first one of a client.
-use Rattle.std.proofs.Common.{◌≡◌, ℕ, ◌+◌, ◌-◌, ◌<◌, ◌≤◌, arith, List, [], Option, Some, None, refl, ap, subst}
+use Rattle.std.proofs.Common.{◌≡◌, ◌⊎◌, ◌∙◌, inl, inr, ℕ, ◌+◌, ◌-◌, ◌<◌, ◌≤◌, arith, List, [], Option, Some, None, refl, ap, subst}
 use Rattle.std.specs.Prelude.{Result, Ok, IfSome}
 use Rattle.dsql_driver.specs.declared.caps.Caps.{Caps}
+use Rattle.dsql_driver.specs.Wires.{Preferred, preferred_after}
 use Rattle.dsql_script.specs.declared.script.ScriptLine.{ScriptLine}
 use Rattle.dsql_script.specs.declared.script.ScriptLine.TheVariants.{UseCaps}
 use Rattle.dsql_script.specs.declared.script.Head.TheVariants.{Begun}
+use Rattle.dsql_script.specs.declared.script.Head.{Head}
 use Rattle.dsql_script.specs.ScriptHead.{Progress}
 use Rattle.dsql_run.specs.Script.{Said, nothing, said_of, then}
 use Rattle.dsql_run.specs.Runs.{saying, Plays}
-use Rattle.dsql_run.specs.Reading.{HasRead, ReadTo, ReadsHead, Prefers, NoLine}
+use Rattle.dsql_run.specs.Reading.{HasRead, ReadTo, ReadsHead, Prefers, IsBodyLine, NoLine, asked_for}
 use Rattle.dsql_run.specs.declared.script.ScriptReader.{ScriptReader}
 use Rattle.dsql_run.specs.declared.stop.Stop.{Stop}
 
 -- What the first lines came to so far, and what the fleet was asked for.
-pub record HeadSoFar (before : Option (List ℕ)) (reader : ScriptReader) (left : Option (List ℕ)) (preferred_before preferred_after : Option Caps) (ability_before ability_after : Caps) : Type 0 where
+pub record HeadSoFar (before : Option (List ℕ)) (reader : ScriptReader) (left : Option (List ℕ)) (preferred_before preferred_after : Preferred) (ability_before ability_after : Caps) : Type 0 where
   pub asked : Option Caps
   pub reads : HasRead before reader left (saying asked [])
   pub prefers : Prefers asked preferred_before preferred_after ability_before ability_after
 
-pub head_begins : (before : Option (List ℕ)) (reader : ScriptReader) (left : Option (List ℕ)) (preferred : Option Caps) (ability : Caps) → HasRead before reader left nothing → HeadSoFar before reader left preferred preferred ability ability
+pub head_begins : (before : Option (List ℕ)) (reader : ScriptReader) (left : Option (List ℕ)) (preferred : Preferred) (ability : Caps) → HasRead before reader left nothing → HeadSoFar before reader left preferred preferred ability ability
 head_begins before reader left preferred ability h = record { asked = None; reads = h; prefers = record { preferred = refl; same = λ none. refl } }
 
 -- a line that asks for nothing, and one that asks
-pub head_skips : (before : Option (List ℕ)) (old new : ScriptReader) (left rest : Option (List ℕ)) (line : ScriptLine) (p q : Option Caps) (a b : Caps) → said_of line ≡ nothing
+pub head_skips : (before : Option (List ℕ)) (old new : ScriptReader) (left rest : Option (List ℕ)) (line : ScriptLine) (p q : Preferred) (a b : Caps) → said_of line ≡ nothing
     → ((says : Said) → HasRead before old left says → ReadTo (Ok (Some line)) before new rest says) → HeadSoFar before old left p q a b → HeadSoFar before new rest p q a b
 head_skips before old new left rest line p q a b none reads h = record {
   asked = h.asked;
@@ -30,16 +32,22 @@ head_skips before old new left rest line p q a b none reads h = record {
   prefers = h.prefers;
 }
 
-pub head_asks : (before : Option (List ℕ)) (old new : ScriptReader) (left rest : Option (List ℕ)) (caps : Caps) (p q r : Option Caps) (a b c : Caps) → r ≡ Some caps
+pub head_asks : (before : Option (List ℕ)) (old new : ScriptReader) (left rest : Option (List ℕ)) (caps : Caps) (p q r : Preferred) (a b c : Caps) → r ≡ preferred_after caps q → (old.reader.head ≡ Begun → IsBodyLine (Some (UseCaps caps)))
     → ((says : Said) → HasRead before old left says → ReadTo (Ok (Some (UseCaps caps))) before new rest says) → HeadSoFar before old left p q a b → HeadSoFar before new rest p r a c
-head_asks before old new left rest caps p q r a b c is reads h = record {
-  asked = Some caps;
-  reads = reads (saying h.asked []) h.reads;
-  prefers = record { preferred = is; same = λ none. absurd (cc none) };
-}
+head_asks before old new left rest caps p q r a b c is body reads h =
+    let none : h.asked ≡ None = unasked h.asked old.reader.head caps h.reads.begun body in
+    record {
+      asked = Some caps;
+      reads = reads (saying h.asked []) h.reads;
+      prefers = record { preferred = is ∙ ap (preferred_after caps) (h.prefers.preferred ∙ ap (λ asked. asked_for asked p) none); same = λ some. absurd (cc some) };
+    }
+  where
+    unasked : (asked : Option Caps) (head : Head) (caps : Caps) → (saying asked [] ≡ nothing) ⊎ (head ≡ Begun) → (head ≡ Begun → IsBodyLine (Some (UseCaps caps))) → asked ≡ None
+    unasked asked head caps (inl e) body = ap (λ (s : Said). s.caps) e
+    unasked asked head caps (inr begun) body = absurd (cc (body begun))
 
 -- what came then
-pub head_ends : (result : Result (Option ScriptLine) Stop) (before : Option (List ℕ)) (old new : ScriptReader) (left rest : Option (List ℕ)) (p q : Option Caps) (a b : Caps)
+pub head_ends : (result : Result (Option ScriptLine) Stop) (before : Option (List ℕ)) (old new : ScriptReader) (left rest : Option (List ℕ)) (p q : Preferred) (a b : Caps)
     → ((says : Said) → HasRead before old left says → ReadTo result before new rest says) → HeadSoFar before old left p q a b → ReadsHead before result new rest p q a b
 head_ends result before old new left rest p q a b reads h = record { asked = h.asked; reads = reads (saying h.asked []) h.reads; prefers = h.prefers }
 

@@ -10,3 +10,4 @@ pub mod Finishing
 pub mod Cutting
 pub mod Emptied
 pub mod Telling
+pub mod Asking

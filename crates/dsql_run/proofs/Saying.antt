@@ -1,5 +1,5 @@
 -- What lines say, one after another.
-use Rattle.std.proofs.Common.{◌≡◌, true, List, [], ◌++◌, Option, Some, None, refl, sym, ap, append_assoc}
+use Rattle.std.proofs.Common.{◌≡◌, ◌∙◌, true, List, [], ◌∷◌, ◌++◌, Option, Some, None, refl, sym, ap, append_assoc}
 use Rattle.std.proofs.lemmas.List.{append-nil}
 use Rattle.dsql_driver.specs.declared.caps.Caps.{Caps}
 use Rattle.dsql_history.specs.declared.event.Op.{Op}
@@ -42,3 +42,21 @@ body_says asked calls Skip h = refl
 body_says asked calls (Client client op) h = refl
 body_says asked calls (Version version) h = absurd cc
 body_says asked calls (UseCaps caps) h = absurd cc
+
+no_calls_first : (calls more : List (ℕ × Op)) (one : ℕ × Op) → calls ++ one ∷ more ≡ [] → ⊥
+no_calls_first [] more one is = cc is
+no_calls_first (call ∷ calls) more one is = cc is
+
+-- where lines of the body come behind others and all say nothing, the others do
+pub nothing_first : (says : Said) (line : ScriptLine) → is_body line ≡ true → then says (said_of line) ≡ nothing → says ≡ nothing
+nothing_first says Skip body is = sym (then-nothing says) ∙ is
+nothing_first says (Client client op) body is = absurd (no_calls_first says.calls [] (client, op) (ap (λ s. s.calls) is))
+nothing_first says (Version version) body is = absurd (cc body)
+nothing_first says (UseCaps caps) body is = absurd (cc body)
+
+-- a line of the body asks for nothing, nor does it with what asks for nothing behind it
+pub body_asks_none : (line : ScriptLine) (rest : Said) → is_body line ≡ true → rest.caps ≡ None → (then (said_of line) rest).caps ≡ None
+body_asks_none Skip rest body none = rw none refl
+body_asks_none (Client client op) rest body none = rw none refl
+body_asks_none (Version version) rest body none = absurd (cc body)
+body_asks_none (UseCaps caps) rest body none = absurd (cc body)

@@ -47,7 +47,9 @@ whole_of_ran (Ok done) before after one two is untold r = record {
   empty = r.empty refl;
   read = r.read refl;
   written = r.writes;
-  retired = r.retired refl;
+  told = r.told refl;
+  read_well = r.read_well refl;
+  written_well = r.written_well refl;
   untold = untold;
 }
 

@@ -1,17 +1,20 @@
 -- The lines that were read whole, as a run goes on.
-use Rattle.std.proofs.Common.{◌≡◌, ℕ, ◌+◌, Bool, true, false, List, [], ◌∷◌, ◌++◌, Option, Some, None, refl, sym, ap, ◌∙◌, append_assoc}
-use Rattle.std.specs.Prelude.{IfSome, Ok, Err}
+use Rattle.std.proofs.Common.{◌≡◌, ◌⊎◌, inl, inr, ℕ, ◌+◌, Bool, true, false, List, [], ◌∷◌, ◌++◌, Option, Some, None, refl, sym, ap, ◌∙◌, append_assoc}
+use Rattle.std.specs.Prelude.{IfSome, Ok, Err, option_map}
 use Rattle.std.proofs.lemmas.Option.{same_Some}
 use Rattle.dsql_stream.specs.Lines.{ended_lines, all_lines, ahead, TakesOff}
 use Rattle.dsql_stream.proofs.FirstLines.{Feedless}
 use Rattle.dsql_stream.proofs.EndedLines.{ended_lines-feed, ended_lines-feedless, first_of_ended}
 use Rattle.dsql_script.specs.declared.script.ScriptLine.{ScriptLine}
+use Rattle.dsql_script.specs.declared.script.ScriptLine.TheVariants.{Skip, Version, UseCaps, Client}
+use Rattle.dsql_script.specs.declared.script.Head.TheVariants.{Begun}
 use Rattle.dsql_script.specs.ScriptHead.{Progress, unread, after}
 use Rattle.dsql_script.specs.ScriptLines.{Reading, read_of}
 use Rattle.dsql_run.specs.Script.{Script, Said, nothing, said_of, then, script_of, script_from, whole, with_line, with_said, BeginsSaying}
 use Rattle.dsql_run.specs.Runs.{ReadsUpTo, TakesLine, DropsUnfinished}
-use Rattle.dsql_run.specs.Reading.{with_feeds, AllFeedless, after_lines, after_reading, LinesRead, ReadSoFar}
-use Rattle.dsql_run.proofs.Saying.{then-nothing, with_both, with_nothing}
+use Rattle.dsql_run.specs.Reading.{is_body, with_feeds, AllFeedless, after_lines, after_reading, LinesRead, ReadSoFar}
+use Rattle.dsql_run.proofs.Saying.{then-nothing, nothing-then, with_both, with_nothing}
+use Rattle.dsql_run.proofs.Body.{body_lines, stays_begun}
 
 with_feeds-append : (lines : List (List ℕ)) (line : List ℕ) → with_feeds (lines ++ line ∷ []) ≡ with_feeds lines ++ (line ++ 10 ∷ [])
 with_feeds-append [] line = refl
@@ -130,11 +133,76 @@ script_parts : (bytes read rest : List ℕ) (more : List (List ℕ)) (says : Sai
     → script_of bytes ≡ with_said says (script_from (after_lines unread (ended_lines read)) more)
 script_parts bytes read rest more says parts lines are = ap script_of parts ∙ ap (script_from unread) lines ∙ script_from-append unread (ended_lines read) more says are
 
+-- Behind a line that ends the head of a script no line asks for anything.
+
+none_behind : (says : ScriptLine) (rest : Script) → is_body says ≡ true → rest.says.caps ≡ None → (with_said (said_of says) rest).says.caps ≡ None
+none_behind Skip rest body none = rw none refl
+none_behind (Client client op) rest body none = rw none refl
+none_behind (Version version) rest body none = absurd (cc body)
+none_behind (UseCaps caps) rest body none = absurd (cc body)
+
+none_by_reading : (place : Progress) (line : List ℕ) (reading : Reading) (rest : ScriptLine → Script) → place.head ≡ Begun → read_of place line ≡ reading
+    → ((says : ScriptLine) → (after place says).head ≡ Begun → (rest says).says.caps ≡ None) → (with_line (place.lines + 1) reading rest).says.caps ≡ None
+none_by_reading place line (Ok says) rest begun is others =
+    let body : is_body says ≡ true = body_lines place line says begun is in
+    none_behind says (rest says) body (others says (stays_begun place (after place says) says begun body refl))
+none_by_reading place line (Err fault) rest begun is others = refl
+
+pub none_asked : (place : Progress) (lines : List (List ℕ)) → place.head ≡ Begun → (script_from place lines).says.caps ≡ None
+none_asked place [] begun = refl
+none_asked place (line ∷ more) begun =
+    none_by_reading place line (read_of place line) (λ says. script_from (after place says) more) begun refl (λ says next. none_asked (after place says) more next)
+
+still_begun : (place : Progress) (lines : List (List ℕ)) (says : Said) → place.head ≡ Begun → script_from place lines ≡ whole says → (after_lines place lines).head ≡ Begun
+still_begun place [] says begun is = begun
+still_begun place (line ∷ lines) says begun is =
+    let first = first_taken (place.lines + 1) (read_of place line) (λ next. script_from (after place next) lines) says is in
+    let next = after place first.line in
+    let body : is_body first.line ≡ true = body_lines place line first.line begun first.is in
+    rw first.is (still_begun next lines (script_from next lines).says (stays_begun place next first.line begun body refl) first.others)
+
+-- a line that ends the head, or one that says nothing
+head_or_nothing : (place : Progress) (line : ScriptLine) → (said_of line ≡ nothing) ⊎ ((after place line).head ≡ Begun)
+head_or_nothing place Skip = inl refl
+head_or_nothing place (Version version) = inl refl
+head_or_nothing place (UseCaps caps) = inr refl
+head_or_nothing place (Client client op) = inr refl
+
+-- lines that say anything end the head
+pub head_ended : (place : Progress) (lines : List (List ℕ)) (says : Said) → script_from place lines ≡ whole says → (says ≡ nothing) ⊎ ((after_lines place lines).head ≡ Begun)
+head_ended place [] says is = inl (sym (ap (λ (s : Script). s.says) is))
+head_ended place (line ∷ lines) says is =
+    let first = first_taken (place.lines + 1) (read_of place line) (λ next. script_from (after place next) lines) says is in
+    let next = after place first.line in
+    let rest : Said = (script_from next lines).says in
+    elim (head_or_nothing place first.line) [
+      | inr begun ↦ inr (rw first.is (still_begun next lines rest begun first.others))
+      | inl none ↦
+          let same : rest ≡ says = sym (nothing-then rest) ∙ ap (λ s. then s rest) (sym none) ∙ first.all in
+          elim (head_ended next lines rest first.others) [
+            | inl e ↦ inl (sym same ∙ e)
+            | inr h ↦ inr (rw first.is h)
+          ]
+    ]
+
+asked_behind : (place : Progress) (lines : List (List ℕ)) (says : Said) → (says ≡ nothing) ⊎ (place.head ≡ Begun) → (says ≡ nothing) ⊎ ((script_from place lines).says.caps ≡ None)
+asked_behind place lines says (inl e) = inl e
+asked_behind place lines says (inr begun) = inr (none_asked place lines begun)
+
 -- what the lines say that were read whole, the script says first
 pub first_of_read : (bytes : List ℕ) (left : Option (List ℕ)) (says : Said) → ReadsUpTo bytes left says → BeginsSaying says (script_of bytes).says
 first_of_read bytes left says r =
     let more = first_of_ended r.read r.rest in
+    let place = after_lines unread (ended_lines r.read) in
     record {
-      rest = (script_from (after_lines unread (ended_lines r.read)) more.0).says;
+      rest = (script_from place more.0).says;
       parts = ap (λ (s : Script). s.says) (script_parts bytes r.read r.rest more.0 says r.parts more.1 r.lines);
+      asked = asked_behind place more.0 says (head_ended unread (ended_lines r.read) says r.lines);
     }
+
+-- what is to come behind lines that said this asks for nothing, unless they said nothing
+pub none_to_come : (place : Progress) (ahead : Option (List (List ℕ))) (says : Said) → (says ≡ nothing) ⊎ (place.head ≡ Begun)
+    → (says ≡ nothing) ⊎ IfSome (option_map (script_from place) ahead) (λ s. s.says.caps ≡ None)
+none_to_come place ahead says (inl e) = inl e
+none_to_come place None says (inr begun) = inr tt
+none_to_come place (Some lines) says (inr begun) = inr (none_asked place lines begun)

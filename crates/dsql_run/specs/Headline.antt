@@ -2,7 +2,7 @@
 use Rattle.std.specs.Prelude.{ℕ, ◌≡◌, ◌≤◌, ◌⊎◌, true, List, [], ◌∷◌, length, Option, IfSome, Result, Ok, Err}
 use Rattle.dsql_driver.specs.declared.caps.Caps.{Caps}
 use Rattle.dsql_driver.specs.Streams.{HasRisen, has_risen}
-use Rattle.dsql_driver.specs.Wires.{RetiredWire}
+use Rattle.dsql_driver.specs.Wires.{FleetTold, Preferred}
 use Rattle.dsql_history.specs.declared.event.Event.{Event}
 use Rattle.dsql_history.specs.declared.event.Event.TheVariants.{Run}
 use Rattle.dsql_history.specs.Readers.Course.{has_ended}
@@ -12,12 +12,12 @@ use Rattle.dsql_history.specs.Legal.{Legal}
 use Rattle.dsql_engine.specs.Groups.{most_events}
 use Rattle.dsql_player.specs.Entered.{entered_calls}
 use Rattle.dsql_player.specs.Extends.{Extends}
-use Rattle.dsql_player.specs.Told.{with_gone}
+use Rattle.dsql_player.specs.Told.{with_told, AsksAtMost}
 use Rattle.dsql_player.specs.Turns.{Turns}
 use Rattle.dsql_script.specs.Lines.{text_of}
 use Rattle.dsql_run.specs.Notes.{Tells, usage_note}
 use Rattle.dsql_run.specs.Report.{with_text, ShowsFront}
-use Rattle.dsql_run.specs.Runs.{ran_out, saying, Plays, Writes, CutShort}
+use Rattle.dsql_run.specs.Runs.{ran_out, no_read_failed, no_write_failed, saying, Plays, Writes, CutShort}
 use Rattle.dsql_run.specs.Script.{Says, whole}
 use Rattle.dsql_run.specs.Reading.{Prefers}
 use Rattle.dsql_run.specs.declared.stop.Stop.{Stop}
@@ -29,11 +29,11 @@ pub record Seen : Type 0 where
   pub read_faults : ℕ
   pub written : Option (List ℕ)
   pub write_faults : ℕ
-  pub retired : Option (List RetiredWire)
+  pub told : Option FleetTold
   pub ability : Caps
-  pub preferred : Option Caps
+  pub preferred : Preferred
 
--- A run of a script: one legal history, what stopped it, what of the script it has, and what was asked for, written, read and given back.
+-- A run of a script: one legal history, what stopped it, what of the script it has, and what was asked for, written, read, asked of the fleet and given back to it.
 pub record Ran (stopped : Result Unit Stop) (before after : Seen) : Type 0 where
   pub history : List Event
   pub asked : Option Caps
@@ -48,16 +48,19 @@ pub record Ran (stopped : Result Unit Stop) (before after : Seen) : Type 0 where
   pub writes : Writes stopped (has_risen before.write_faults after.write_faults) before.written history after.written
   pub cut : stopped ≡ Err Write → CutShort before.left after.left asked (has_risen before.read_faults after.read_faults) before.written history after.written
   pub empty : ran_out stopped ≡ true → open_count history ≡ 0
-  pub retired : ran_out stopped ≡ true → after.retired ≡ with_gone before.retired history
+  pub told : ran_out stopped ≡ true → after.told ≡ with_told before.told history
+  pub asks : AsksAtMost before.told after.told history
   pub read_fault : stopped ≡ Err Read → HasRisen before.read_faults after.read_faults
   pub write_fault : stopped ≡ Err Write → HasRisen before.write_faults after.write_faults
+  pub read_well : no_read_failed stopped ≡ true → after.read_faults ≡ before.read_faults
+  pub written_well : no_write_failed stopped ≡ true → after.write_faults ≡ before.write_faults
   pub full : stopped ≡ Err Full → most_events ≤ length history
 
--- There was no memory for the run's first event: nothing was written, and no connection was opened.
+-- There was no memory for the run's first event: nothing was written, and the fleet wasn't asked for a connection.
 pub record NotBegun (stopped : Result Unit Stop) (before after : Seen) : Type 0 where
   pub memory : stopped ≡ Err Memory
   pub unwritten : after.written ≡ before.written
-  pub unopened : after.retired ≡ before.retired
+  pub unopened : after.told ≡ before.told
 
 -- what was seen of the notes: what they hold, and how often they failed
 pub record SeenNotes : Type 0 where
@@ -84,7 +87,9 @@ pub record PlaysWhole (before after : Seen) (notes_before notes_after : SeenNote
   pub empty : open_count history ≡ 0
   pub read : IfSome after.left (λ bytes. bytes ≡ [])
   pub written : after.written ≡ with_text before.written (text_of history)
-  pub retired : after.retired ≡ with_gone before.retired history
+  pub told : after.told ≡ with_told before.told history
+  pub read_well : after.read_faults ≡ before.read_faults
+  pub written_well : after.write_faults ≡ before.write_faults
   pub untold : notes_after.written ≡ notes_before.written
 
 -- Words that aren't accepted are told, or the notes failed.

@@ -1,7 +1,7 @@
 -- How a run ends, and what it has done then.
 use Rattle.std.specs.Prelude.{ℕ, ◌≡◌, ◌≢◌, ◌+◌, ◌⊎◌, Bool, true, false, ◌||◌, All, List, [], ◌∷◌, ◌++◌, Option, Some, None, IfSome, option_map, Result, Ok, Err}
 use Rattle.dsql_driver.specs.declared.caps.Caps.{Caps}
-use Rattle.dsql_driver.specs.Wires.{Told}
+use Rattle.dsql_driver.specs.Wires.{WireTold}
 use Rattle.dsql_history.specs.declared.event.Event.{Event}
 use Rattle.dsql_history.specs.declared.event.Op.{Op}
 use Rattle.dsql_history.specs.Readers.Course.{has_ended}
@@ -40,6 +40,31 @@ ran_out (Err Memory) = false
 ran_out (Err Full) = false
 ran_out _ = true
 
+abbrev pub is_read_fault : {A : Type 0} → Result A Stop → Bool
+is_read_fault (Err Read) = true
+is_read_fault _ = false
+
+abbrev pub is_write_fault : {A : Type 0} → Result A Stop → Bool
+is_write_fault (Err Write) = true
+is_write_fault _ = false
+
+abbrev pub is_sink_fault : Result Unit ShowFault → Bool
+is_sink_fault (Err shows.Failed) = true
+is_sink_fault _ = false
+
+-- where this stops a run, no read of it failed
+abbrev pub no_read_failed : Result Unit Stop → Bool
+no_read_failed (Ok _) = true
+no_read_failed (Err (Refused number fault)) = true
+no_read_failed _ = false
+
+-- where this stops a run, no write of it failed
+abbrev pub no_write_failed : Result Unit Stop → Bool
+no_write_failed (Ok _) = true
+no_write_failed (Err Read) = true
+no_write_failed (Err (Refused number fault)) = true
+no_write_failed _ = false
+
 -- what is still to come of a script, where the source tells
 abbrev pub to_come : ScriptReader → Option (List ℕ) → Option Script
 to_come reader left = option_map (script_from reader.reader) (option_map all_lines (ahead reader.lines left))
@@ -75,7 +100,7 @@ IsRefusal before line (Refused number fault) = (number ≡ before.lines + 1) × 
 IsRefusal before line _ = ⊥
 
 -- A run between two lines: nothing is left to be done, and each wire has heard its connection's journal.
-pub record Between {W : Type 0} (heard : W → Option (List Told)) (telling : Bool) (past : List Event) (slots : List (Option (Journaled W))) : Type 0 where
+pub record Between {W : Type 0} (heard : W → Option WireTold) (telling : Bool) (past : List Event) (slots : List (Option (Journaled W))) : Type 0 where
   pub quiet : is_quiet past ≡ true
   pub running : has_ended past ≡ false
   pub wires : WiresFit heard telling past slots

@@ -1,5 +1,5 @@
 -- What a script says: what its driver can do and its calls, up to the first line that is refused.
-use Rattle.std.specs.Prelude.{ℕ, ◌≡◌, ◌+◌, List, [], ◌∷◌, ◌++◌, Option, Some, None, IfSome, Ok, Err}
+use Rattle.std.specs.Prelude.{ℕ, ◌≡◌, ◌+◌, List, [], ◌∷◌, ◌++◌, ◌⊎◌, Option, Some, None, IfSome, Ok, Err}
 use Rattle.dsql_driver.specs.declared.caps.Caps.{Caps}
 use Rattle.dsql_history.specs.declared.event.Op.{Op}
 use Rattle.dsql_script.specs.declared.fault.LineFault.{LineFault}
@@ -71,10 +71,11 @@ pub record Begins {A : Type 0} (front whole : List A) : Type 0 where
   pub rest : List A
   pub parts : whole ≡ front ++ rest
 
--- what lines say begins with this
+-- What lines say begins with this. Where this says anything, nothing more is asked for behind it.
 pub record BeginsSaying (front all : Said) : Type 0 where
   pub rest : Said
   pub parts : all ≡ then front rest
+  pub asked : (front ≡ nothing) ⊎ (rest.caps ≡ None)
 
 -- where the bytes are known, they say this first
 abbrev pub SaysFirst : Option (List ℕ) → Said → Type 0

@@ -28,8 +28,8 @@ fn run<S: Source, K: Sink, E: Sink, F: Fleet>(
     fleet: &mut F,
 ) -> u8
     ensures ran { PlaysAndTells
-        (record { left = S.left input.old; read_faults = S.faults input.old; written = K.written output.old; write_faults = K.faults output.old; retired = F.retired fleet.old; ability = F.ability fleet.old; preferred = F.preferred fleet.old })
-        (record { left = S.left input.new; read_faults = S.faults input.new; written = K.written output.new; write_faults = K.faults output.new; retired = F.retired fleet.new; ability = F.ability fleet.new; preferred = F.preferred fleet.new })
+        (record { left = S.left input.old; read_faults = S.faults input.old; written = K.written output.old; write_faults = K.faults output.old; told = F.told fleet.old; ability = F.ability fleet.old; preferred = F.preferred fleet.old })
+        (record { left = S.left input.new; read_faults = S.faults input.new; written = K.written output.new; write_faults = K.faults output.new; told = F.told fleet.new; ability = F.ability fleet.new; preferred = F.preferred fleet.new })
         (record { written = E.written notes.old; faults = E.faults notes.old }) (record { written = E.written notes.new; faults = E.faults notes.new }) result }
     ensures silent { result ≡ 0 → notes.new ≡ notes.old }
 {
@@ -66,14 +66,14 @@ pub fn sqlrun<S: Source, K: Sink, E: Sink, F: Fleet, C: Clock, G: Gate>(
 ) -> u8
     // The report of a script that was played to its end is the text of one legal history.
     ensures headline { is_play words.now ≡ true → result ≡ 0 → PlaysWhole
-        (record { left = S.left input.old; read_faults = S.faults input.old; written = K.written output.old; write_faults = K.faults output.old; retired = F.retired fleet.old; ability = F.ability fleet.old; preferred = F.preferred fleet.old })
-        (record { left = S.left input.new; read_faults = S.faults input.new; written = K.written output.new; write_faults = K.faults output.new; retired = F.retired fleet.new; ability = F.ability fleet.new; preferred = F.preferred fleet.new })
+        (record { left = S.left input.old; read_faults = S.faults input.old; written = K.written output.old; write_faults = K.faults output.old; told = F.told fleet.old; ability = F.ability fleet.old; preferred = F.preferred fleet.old })
+        (record { left = S.left input.new; read_faults = S.faults input.new; written = K.written output.new; write_faults = K.faults output.new; told = F.told fleet.new; ability = F.ability fleet.new; preferred = F.preferred fleet.new })
         (record { written = E.written notes.old; faults = E.faults notes.old }) (record { written = E.written notes.new; faults = E.faults notes.new }) }
 
     // At each status the report is the text of one legal history, or a beginning of it.
     ensures ran { is_play words.now ≡ true → PlaysAndTells
-        (record { left = S.left input.old; read_faults = S.faults input.old; written = K.written output.old; write_faults = K.faults output.old; retired = F.retired fleet.old; ability = F.ability fleet.old; preferred = F.preferred fleet.old })
-        (record { left = S.left input.new; read_faults = S.faults input.new; written = K.written output.new; write_faults = K.faults output.new; retired = F.retired fleet.new; ability = F.ability fleet.new; preferred = F.preferred fleet.new })
+        (record { left = S.left input.old; read_faults = S.faults input.old; written = K.written output.old; write_faults = K.faults output.old; told = F.told fleet.old; ability = F.ability fleet.old; preferred = F.preferred fleet.old })
+        (record { left = S.left input.new; read_faults = S.faults input.new; written = K.written output.new; write_faults = K.faults output.new; told = F.told fleet.new; ability = F.ability fleet.new; preferred = F.preferred fleet.new })
         (record { written = E.written notes.old; faults = E.faults notes.old }) (record { written = E.written notes.new; faults = E.faults notes.new }) result }
     ensures accepted { is_play words.now ≡ true → result ≢ 2 }
 

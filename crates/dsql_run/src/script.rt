@@ -5,8 +5,8 @@ ghost use Rattle.dsql_script.specs.ScriptHead.{unread, after};
 ghost use Rattle.dsql_script.specs.ScriptLines.{read_of};
 ghost use Rattle.dsql_script.specs.declared.script.Head.{Head};
 ghost use Rattle.dsql_run.specs.Script.{Said, nothing};
-ghost use Rattle.dsql_run.specs.Reading.{HasRead, ReadTo, IsBodyLine, is_client, IsReadStop, NoLine};
-ghost use Rattle.dsql_run.specs.Runs.{to_come, ReadsOn, TakesLine, DropsUnfinished, StopsReading, IsRefusal};
+ghost use Rattle.dsql_run.specs.Reading.{HasRead, ReadTo, IsBodyLine, ends_head, IsReadStop, NoLine};
+ghost use Rattle.dsql_run.specs.Runs.{is_read_fault, to_come, ReadsOn, TakesLine, DropsUnfinished, StopsReading, IsRefusal};
 ghost use Rattle.dsql_run.specs.declared.stop.Stop.TheVariants.{Read};
 
 use crate::stop::Stop;
@@ -51,13 +51,14 @@ impl ScriptReader {
         ensures reads { (before : Option (List ℕ)) (says : Said) → HasRead before self.old (S.left input.old) says → ReadTo result before self.new (S.left input.new) says }
         ensures body { self.old.reader.head ≡ Head.Begun → IfOk result IsBodyLine }
         ensures begun { self.old.reader.head ≡ Head.Begun → self.new.reader.head ≡ Head.Begun }
-        ensures headed { IfOk result (λ line. IfSome line (λ says. is_client says ≡ true → self.new.reader.head ≡ Head.Begun)) }
+        ensures headed { IfOk result (λ line. IfSome line (λ says. ends_head says ≡ true → self.new.reader.head ≡ Head.Begun)) }
         ensures numbered { IfOk result (λ line. IfSome line (λ _. self.new.reader.lines ≡ self.old.reader.lines + 1)) }
         ensures few { IfOk result (λ line. IfSome line (λ _. self.new.reader.lines ≤ 10000)) }
         ensures failed { result ≡ Err Read → HasRisen (S.faults input.old) (S.faults input.new) }
         ensures readable { IfErr result IsReadStop }
         ensures stays { NoLine result self.old.reader self.new.reader }
         ensures counted { S.faults input.old ≤ S.faults input.new }
+        ensures faultless { is_read_fault result ≡ false → S.faults input.new ≡ S.faults input.old }
     {
         self.take_line(alloc, input)
     }
@@ -80,6 +81,7 @@ impl ScriptReader {
         ensures few { IfOk result (λ line. IfSome line (λ _. self.new.reader.lines ≤ 10000)) }
         ensures failed { result ≡ Err Read → HasRisen (S.faults input.old) (S.faults input.new) }
         ensures counted { S.faults input.old ≤ S.faults input.new }
+        ensures faultless { is_read_fault result ≡ false → S.faults input.new ≡ S.faults input.old }
         ensures telling { is_some (S.left input.new) ≡ is_some (S.left input.old) }
         ensures sees { SawTheEnd self.old.lines (S.left input.old) → SawTheEnd self.new.lines (S.left input.new) }
     {

@@ -1,7 +1,8 @@
-ghost use Rattle.std.specs.Prelude.{◌≡◌, ◌≢◌, ◌≤◌, ◌++◌, ℕ, List, [], Option, OnOk, OnErr, IfErr, length, reverse};
+ghost use Rattle.std.specs.Prelude.{◌≡◌, ◌≢◌, ◌≤◌, ◌++◌, ℕ, List, [], Option, OnOk, OnErr, IfErr, false, length, reverse};
 ghost use Rattle.dsql_driver.specs.Streams.{HasRisen};
 ghost use Rattle.dsql_script.specs.Lines.{line_of, text_of};
 ghost use Rattle.dsql_run.specs.Report.{with_text, oldest, Shows, StopsBetween};
+ghost use Rattle.dsql_run.specs.Runs.{is_sink_fault};
 ghost use Rattle.dsql_run.specs.declared.show.ShowFault.TheVariants as faults;
 
 use dsql_driver::Sink;
@@ -46,6 +47,7 @@ fn show_event<K: Sink>(alloc: Global, event: &Event, output: &mut K) -> Result<(
     ensures err { OnErr result (StopsBetween (K.written output.old) [] (line_of event.now) (K.written output.new)) }
     ensures caused { result ≡ Err ShowFault.Failed → HasRisen (K.faults output.old) (K.faults output.new) }
     ensures counted { K.faults output.old ≤ K.faults output.new }
+    ensures faultless { is_sink_fault result ≡ false → K.faults output.new ≡ K.faults output.old }
 {
     let line = event_line(alloc, event)?;
     write_whole(output, line.as_str().as_bytes())?;
@@ -67,6 +69,7 @@ fn show_events<K: Sink>(
     ensures stops { OnErr result ((w : Option (List ℕ)) → Shows w shown.old (reverse events.now) (K.written output.old) → StopsBetween w (text_of (oldest shown.old (reverse events.now))) (text_of (reverse events.now)) (K.written output.new)) }
     ensures caused { result ≡ Err ShowFault.Failed → HasRisen (K.faults output.old) (K.faults output.new) }
     ensures counted { K.faults output.old ≤ K.faults output.new }
+    ensures faultless { is_sink_fault result ≡ false → K.faults output.new ≡ K.faults output.old }
 {
     while *shown < events.len() {
         show_event(alloc, &events[*shown], output)?;
@@ -89,6 +92,7 @@ pub(crate) fn show<K: Sink>(
     ensures stops { OnErr result ((w : Option (List ℕ)) → Shows w shown.old engine.now (K.written output.old) → StopsBetween w (text_of (oldest shown.old engine.now)) (text_of engine.now) (K.written output.new)) }
     ensures caused { result ≡ Err ShowFault.Failed → HasRisen (K.faults output.old) (K.faults output.new) }
     ensures counted { K.faults output.old ≤ K.faults output.new }
+    ensures faultless { is_sink_fault result ≡ false → K.faults output.new ≡ K.faults output.old }
 {
     show_events(alloc, engine.history(), shown, output)
 }

@@ -109,6 +109,7 @@ impl LineReader {
         ensures short { vec_len line.new ≤ LONGEST + 1 }
         ensures feedless { All (λ byte. byte ≢ 10) line.new.items }
         ensures counted { S.faults source.old ≤ S.faults source.new }
+        ensures faultless { OnOk result (S.faults source.new ≡ S.faults source.old) }
         ensures telling { is_some (S.left source.new) ≡ is_some (S.left source.old) }
         ensures after_end { self.old.ended ≡ true → (source.new ≡ source.old) × (self.new.ended ≡ true) }
         ensures sees { SawTheEnd self.old (S.left source.old) → SawTheEnd self.new (S.left source.new) }
@@ -135,6 +136,7 @@ impl LineReader {
         ensures failed { OnErr result (S.left source.new ≡ S.left source.old) }
         ensures counted { S.faults source.old ≤ S.faults source.new }
         ensures caused { OnErr result (HasRisen (S.faults source.old) (S.faults source.new)) }
+        ensures faultless { OnOk result (S.faults source.new ≡ S.faults source.old) }
     {
         self.start = 0;
         self.end = 0;
@@ -158,6 +160,7 @@ impl LineReader {
         ensures err { OnErr result (self.new ≡ record { pending = []; ended = false }) }
         ensures counted { S.faults source.old ≤ S.faults source.new }
         ensures caused { OnErr result (HasRisen (S.faults source.old) (S.faults source.new)) }
+        ensures faultless { OnOk result (S.faults source.new ≡ S.faults source.old) }
         ensures after_end { self.old.ended ≡ true → (source.new ≡ source.old) × (self.new.ended ≡ true) }
         ensures sees { SawTheEnd self.old (S.left source.old) → SawTheEnd self.new (S.left source.new) }
     {
@@ -189,6 +192,7 @@ impl LineReader {
         ensures err { OnErr result (self.new ≡ record { pending = []; ended = false }) }
         ensures counted { S.faults source.old ≤ S.faults source.new }
         ensures caused { OnErr result (HasRisen (S.faults source.old) (S.faults source.new)) }
+        ensures faultless { OnOk result (S.faults source.new ≡ S.faults source.old) }
         ensures after_end { self.old.ended ≡ true → (source.new ≡ source.old) × (self.new.ended ≡ true) }
         ensures sees { SawTheEnd self.old (S.left source.old) → SawTheEnd self.new (S.left source.new) }
     {

@@ -24,6 +24,7 @@ pub fn write_whole<K: Sink>(sink: &mut K, piece: &[u8]) -> Result<(), Cut>
     ensures caused { IfErr result (λ _. HasRisen (K.faults sink.old) (K.faults sink.new)) }
 
     ensures counted { K.faults sink.old ≤ K.faults sink.new }
+    ensures faultless { OnOk result (K.faults sink.new ≡ K.faults sink.old) }
 {
     let mut written = 0;
     while written < piece.len() {

@@ -7,7 +7,7 @@ use Rattle.dsql_driver.specs.declared.answer.DriverAnswer.{DriverAnswer}
 use Rattle.dsql_driver.specs.declared.answer.DriverAnswer.TheVariants.{Prepared, Cursor, Row}
 use Rattle.dsql_driver.specs.Fits.{fits_of, is_memory}
 use Rattle.dsql_driver.specs.Wires as wires
-use Rattle.dsql_driver.specs.Wires.{Told, KeepsHandles, KeepsCursors}
+use Rattle.dsql_driver.specs.Wires.{WireTold, KeepsHandles, KeepsCursors}
 use Rattle.dsql_journal.specs.declared.entry.Entry.{Entry}
 use Rattle.dsql_journal.specs.Kinds.{if_any, cursor_of, given_handle, given_cursor}
 use Rattle.dsql_journal.specs.Readers.{is_empty, LiveCursor, handles, cursors, handles_named, cursors_named}
@@ -57,18 +57,18 @@ heard_answer : (answer : DriverAnswer) → is_memory answer ≡ false → not (i
 heard_answer answer h = rw h refl
 
 -- what a wire may answer fits at its place
-pub fits_there : (heard : Option (List Told)) (hs hs2 : List ℕ) (cs cs2 : List wires.LiveCursor) (journal : List Entry) (e : Entry) → Agrees heard hs cs journal
+pub fits_there : (told : Option WireTold) (hs hs2 : List ℕ) (cs cs2 : List wires.LiveCursor) (conn : ℕ) (journal : List Entry) (e : Entry) → Agrees told hs cs conn journal
     → is_memory e.answer ≡ false → fits_of e.call e.answer ≡ true → KeepsHandles e.call e.answer hs hs2 → KeepsCursors e.call e.answer cs cs2 → fits_at_its_place journal e ≡ true
-fits_there heard hs hs2 cs cs2 journal e a m f kh kc =
+fits_there told hs hs2 cs cs2 conn journal e a m f kh kc =
     join5 (is_heard e) (is_fitting e) (gives_new_handle journal e) (gives_new_cursor journal e) (has_width_of_cursor journal e)
     (heard_answer e.answer m) f (new_handle journal e.call e.answer hs hs2 a.handles_live kh) (new_cursor journal e.call e.answer cs cs2 a.cursors_live kc) (width journal e.call e.answer cs cs2 a.cursors_live f kc)
 
 -- the same of the entry that an answer makes of a permit
-pub fits_made : (heard : Option (List Told)) (hs hs2 : List ℕ) (cs cs2 : List wires.LiveCursor) (journal : List Entry) (p : Permit) (a : DriverAnswer) (e : Entry) → e ≡ answered p a → Agrees heard hs cs journal
+pub fits_made : (told : Option WireTold) (hs hs2 : List ℕ) (cs cs2 : List wires.LiveCursor) (conn : ℕ) (journal : List Entry) (p : Permit) (a : DriverAnswer) (e : Entry) → e ≡ answered p a → Agrees told hs cs conn journal
     → is_memory a ≡ false → fits_of p.call a ≡ true → KeepsHandles p.call a hs hs2 → KeepsCursors p.call a cs cs2 → fits_at_its_place journal e ≡ true
-fits_made heard hs hs2 cs cs2 journal p a e is agrees m f kh kc =
+fits_made told hs hs2 cs cs2 conn journal p a e is agrees m f kh kc =
     let made : Makes p a e = makes p a e is in
-    fits_there heard hs hs2 cs cs2 journal e agrees (rw made.answer m) (rw (made.call, made.answer) f) (rw (made.call, made.answer) kh) (rw (made.call, made.answer) kc)
+    fits_there told hs hs2 cs cs2 conn journal e agrees (rw made.answer m) (rw (made.call, made.answer) f) (rw (made.call, made.answer) kh) (rw (made.call, made.answer) kc)
 
 -- a beginning, by equal parts
 pub same_beginning : (c d : ℕ) (e f : Entry) (j k : List Entry) → c ≡ d → e ≡ f → j ≡ k → IsBeginningOf d (f ∷ k) → IsBeginningOf c (e ∷ j)

@@ -11,7 +11,7 @@ use Rattle.dsql_driver.specs.declared.answer.DriverAnswer.{DriverAnswer}
 use Rattle.dsql_driver.specs.declared.answer.DriverAnswer.TheVariants.{Prepared, Cursor, Row, Memory}
 use Rattle.dsql_driver.specs.Fits.{is_memory}
 use Rattle.dsql_driver.specs.Wires as wires
-use Rattle.dsql_driver.specs.Wires.{Told, has_number, told_after, KeepsHandles, KeepsCursors}
+use Rattle.dsql_driver.specs.Wires.{WireTold, has_number, with_call, told_after, KeepsHandles, KeepsCursors}
 use Rattle.dsql_journal.specs.declared.entry.Entry.{Entry}
 use Rattle.dsql_journal.specs.Kinds.{is_close_stmt, is_close_rows}
 use Rattle.dsql_journal.specs.Readers.{LiveHandle, LiveCursor, handles, cursors, handles_after, cursors_after, changed, after_next}
@@ -20,7 +20,7 @@ use Rattle.dsql_tenure.proofs.Lists.{list_all-filter, list_all-so}
 use Rattle.dsql_tenure.specs.Judged.{answered}
 use Rattle.dsql_journal.specs.declared.entry.Permit.{Permit}
 use Rattle.dsql_wire.proofs.Answered.{Makes, makes}
-use Rattle.dsql_wire.specs.Told.{told_of}
+use Rattle.dsql_wire.specs.Told.{TellsOf}
 use Rattle.dsql_wire.specs.Journaled.{Agrees, has_handles, has_cursor, has_cursors}
 
 same_number : (n : ℕ) → (n == n) ≡ true
@@ -126,27 +126,27 @@ keeps_cursors e (CloseRows rows) answer before after live k all = rows_closed ro
 keeps_cursors e call answer before after live k all = all_stay call answer before after live refl k all
 
 -- what a wire tells after a call that was heard
-pub told_heard : (call : DriverCall) (answer : DriverAnswer) (told : Option (List Told)) → is_memory answer ≡ false → told_after call answer told ≡ option_map (λ before. before ++ (call, answer) ∷ []) told
+pub told_heard : (call : DriverCall) (answer : DriverAnswer) (told : Option WireTold) → is_memory answer ≡ false → told_after call answer told ≡ option_map (with_call (call, answer)) told
 told_heard call Memory told h = absurd cc
 told_heard call _ told h = refl
 
-tells_more : (told : Option (List Told)) (calls : List Told) (x : Told) → IfSome told (λ t. t ≡ calls) → IfSome (option_map (λ before. before ++ x ∷ []) told) (λ t. t ≡ calls ++ x ∷ [])
-tells_more None calls x h = tt
-tells_more (Some told) calls x h = ap (λ t. t ++ x ∷ []) h
+tells_more : (told : Option WireTold) (conn : ℕ) (journal : List Entry) (e : Entry) → IfSome told (TellsOf conn journal) → IfSome (option_map (with_call (e.call, e.answer)) told) (TellsOf conn (e ∷ journal))
+tells_more None conn journal e h = tt
+tells_more (Some told) conn journal e h = record { number = h.number; calls = ap (λ t. t ++ (e.call, e.answer) ∷ []) h.calls }
 
 -- a wire agrees with its journal after one call more
-pub agrees_then : (heard heard2 : Option (List Told)) (hs hs2 : List ℕ) (cs cs2 : List wires.LiveCursor) (journal : List Entry) (e : Entry) → Agrees heard hs cs journal → is_memory e.answer ≡ false
-    → heard2 ≡ told_after e.call e.answer heard → KeepsHandles e.call e.answer hs hs2 → KeepsCursors e.call e.answer cs cs2 → Agrees heard2 hs2 cs2 (e ∷ journal)
-agrees_then heard heard2 hs hs2 cs cs2 journal e a m told kh kc = record {
+pub agrees_then : (told told2 : Option WireTold) (hs hs2 : List ℕ) (cs cs2 : List wires.LiveCursor) (conn : ℕ) (journal : List Entry) (e : Entry) → Agrees told hs cs conn journal → is_memory e.answer ≡ false
+    → told2 ≡ told_after e.call e.answer told → KeepsHandles e.call e.answer hs hs2 → KeepsCursors e.call e.answer cs cs2 → Agrees told2 hs2 cs2 conn (e ∷ journal)
+agrees_then told told2 hs hs2 cs cs2 conn journal e a m more kh kc = record {
   started = refl;
-  told = let is : heard2 ≡ option_map (λ before. before ++ (e.call, e.answer) ∷ []) heard = told ∙ told_heard e.call e.answer heard m in rw is (tells_more heard (told_of journal) (e.call, e.answer) a.told);
+  tells = let is : told2 ≡ option_map (with_call (e.call, e.answer)) told = more ∙ told_heard e.call e.answer told m in rw is (tells_more told conn journal e a.tells);
   handles_live = keeps_handles e e.call e.answer hs hs2 (handles journal) kh a.handles_live;
   cursors_live = keeps_cursors e e.call e.answer cs cs2 (cursors journal) kc a.cursors_live;
 }
 
 -- the same of the entry that an answer makes of a permit
-pub agrees_made : (heard heard2 : Option (List Told)) (hs hs2 : List ℕ) (cs cs2 : List wires.LiveCursor) (journal : List Entry) (p : Permit) (a : DriverAnswer) (e : Entry) → e ≡ answered p a → Agrees heard hs cs journal
-    → is_memory a ≡ false → heard2 ≡ told_after p.call a heard → KeepsHandles p.call a hs hs2 → KeepsCursors p.call a cs cs2 → Agrees heard2 hs2 cs2 (e ∷ journal)
-agrees_made heard heard2 hs hs2 cs cs2 journal p a e is agrees m told kh kc =
+pub agrees_made : (told told2 : Option WireTold) (hs hs2 : List ℕ) (cs cs2 : List wires.LiveCursor) (conn : ℕ) (journal : List Entry) (p : Permit) (a : DriverAnswer) (e : Entry) → e ≡ answered p a → Agrees told hs cs conn journal
+    → is_memory a ≡ false → told2 ≡ told_after p.call a told → KeepsHandles p.call a hs hs2 → KeepsCursors p.call a cs cs2 → Agrees told2 hs2 cs2 conn (e ∷ journal)
+agrees_made told told2 hs hs2 cs cs2 conn journal p a e is agrees m more kh kc =
     let made : Makes p a e = makes p a e is in
-    agrees_then heard heard2 hs hs2 cs cs2 journal e agrees (rw made.answer m) (rw (made.call, made.answer) told) (rw (made.call, made.answer) kh) (rw (made.call, made.answer) kc)
+    agrees_then told told2 hs hs2 cs cs2 conn journal e agrees (rw made.answer m) (rw (made.call, made.answer) more) (rw (made.call, made.answer) kh) (rw (made.call, made.answer) kc)

@@ -11,7 +11,7 @@ use Rattle.dsql_driver.specs.Fits.{is_done, is_failure}
 use Rattle.dsql_driver.specs.declared.wire.Refused.{Refused}
 use Rattle.dsql_driver.specs.declared.wire.Refused.TheVariants as refused
 use Rattle.dsql_driver.specs.Wires as wires
-use Rattle.dsql_driver.specs.Wires.{Told, newly_told}
+use Rattle.dsql_driver.specs.Wires.{WireTold, newly_told}
 use Rattle.dsql_journal.specs.Readers.{handles_after, cursors_after}
 use Rattle.dsql_journal.specs.declared.entry.Entry.{Entry}
 use Rattle.dsql_journal.specs.declared.entry.Permit.{Permit}
@@ -26,7 +26,7 @@ use Rattle.dsql_journal.proofs.Conjunctions.{parts2, parts5, join2}
 use Rattle.dsql_journal.proofs.Sentences.{MayFollow-of}
 use Rattle.dsql_tenure.specs.Beginnings.{is_beginning_of, IsBeginningOf}
 use Rattle.dsql_tenure.specs.Judged.{Judged, MaySend, answered}
-use Rattle.dsql_wire.specs.Told.{told_of}
+use Rattle.dsql_wire.specs.Told.{TellsOf}
 use Rattle.dsql_wire.specs.Journaled.{MayBeSent, Agrees, has_handles, has_cursors}
 use Rattle.dsql_wire.specs.Opening.{opens, refusal}
 use Rattle.dsql_wire.proofs.Answered.{Makes, makes}
@@ -139,19 +139,19 @@ fits_refused r p a e may h is = rw is (fits_opened p a may (failure_of r a h))
 pub begins_done : (p : Permit) → MayBeSent p.conn [] p → IsBeginningOf p.conn (answered p Done ∷ [])
 begins_done p may = may Done (fits_done p may)
 
-told_new : (heard : Option (List Told)) (e : Entry) → e.call ≡ Connect → e.answer ≡ Done → IfSome heard (λ told. told ≡ newly_told) → IfSome heard (λ told. told ≡ told_of (e ∷ []))
-told_new None e c a h = tt
-told_new (Some told) e c a h = rw (c, a) h
+told_new : (told : Option WireTold) (conn : ℕ) (e : Entry) → e.call ≡ Connect → e.answer ≡ Done → IfSome told (λ t. t ≡ newly_told conn) → IfSome told (TellsOf conn (e ∷ []))
+told_new None conn e c a h = tt
+told_new (Some told) conn e c a h = record { number = ap (λ (t : WireTold). t.number) h; calls = rw (c, a) (ap (λ (t : WireTold). t.calls) h) }
 
 -- a wire that is new agrees with a journal of just its Connect
-pub agrees_new : (heard : Option (List Told)) (hs : List ℕ) (cs : List wires.LiveCursor) (p : Permit) → MayBeSent p.conn [] p → IfSome heard (λ told. told ≡ newly_told) → Agrees heard hs cs (answered p Done ∷ [])
-agrees_new heard hs cs p may told =
+pub agrees_new : (told : Option WireTold) (hs : List ℕ) (cs : List wires.LiveCursor) (p : Permit) → MayBeSent p.conn [] p → IfSome told (λ t. t ≡ newly_told p.conn) → Agrees told hs cs p.conn (answered p Done ∷ [])
+agrees_new told hs cs p may new =
     let e : Entry = answered p Done in
     let made : Makes p Done e = makes p Done e refl in
     let c : e.call ≡ Connect = made.call ∙ opened_by p may in
     record {
       started = refl;
-      told = told_new heard e c made.answer told;
+      tells = told_new told p.conn e c made.answer new;
       handles_live = no_handles hs e c;
       cursors_live = no_cursors cs e c;
     }

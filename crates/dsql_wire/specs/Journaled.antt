@@ -2,13 +2,13 @@
 use Rattle.std.specs.Prelude.{ℕ, ◌≡◌, Bool, true, false, ◌&&◌, ◌==◌, List, Option, IfSome}
 use Rattle.std.specs.List.{list_any, list_all}
 use Rattle.dsql_driver.specs.Wires as wires
-use Rattle.dsql_driver.specs.Wires.{Told, has_number}
+use Rattle.dsql_driver.specs.Wires.{WireTold, has_number}
 use Rattle.dsql_journal.specs.declared.entry.Entry.{Entry}
 use Rattle.dsql_journal.specs.declared.entry.Permit.{Permit}
 use Rattle.dsql_journal.specs.Readers as journals
 use Rattle.dsql_journal.specs.Readers.{is_empty}
 use Rattle.dsql_tenure.specs.Judged.{MaySend}
-use Rattle.dsql_wire.specs.Told.{told_of}
+use Rattle.dsql_wire.specs.Told.{TellsOf}
 use Rattle.dsql_wire.specs.declared.fault.WireFault.{WireFault}
 use Rattle.dsql_wire.specs.declared.fault.WireFault.TheVariants.{Stray, Memory}
 
@@ -34,10 +34,10 @@ has_cursor on c = list_any (λ w. (w.0 == c.number) && (w.1 == c.columns)) on
 abbrev pub has_cursors : List wires.LiveCursor → List journals.LiveCursor → Bool
 has_cursors on live = list_all (has_cursor on) live
 
--- A wire's state agrees with a journal that isn't empty: if the wire tells, it has heard just the journal, and what is live in the journal is live on the wire.
-pub record Agrees (heard : Option (List Told)) (handles : List ℕ) (cursors : List wires.LiveCursor) (journal : List Entry) : Type 0 where
+-- A wire's state agrees with a connection's journal that isn't empty: if the wire tells, it has the connection's number and has heard just the journal, and what is live in the journal is live on the wire.
+pub record Agrees (told : Option WireTold) (handles : List ℕ) (cursors : List wires.LiveCursor) (conn : ℕ) (journal : List Entry) : Type 0 where
   pub started : is_empty journal ≡ false
-  pub told : IfSome heard (λ told. told ≡ told_of journal)
+  pub tells : IfSome told (TellsOf conn journal)
   pub handles_live : has_handles handles (journals.handles journal) ≡ true
   pub cursors_live : has_cursors cursors (journals.cursors journal) ≡ true
 

@@ -1,7 +1,7 @@
-ghost use Rattle.std.specs.Prelude.{◌≡◌, ◌≤◌, ◌∷◌, [], true, is_some, IfOk, IfErr, IfSome, OnOk, IsErrOf};
+ghost use Rattle.std.specs.Prelude.{◌≡◌, ◌≤◌, ◌∷◌, [], true, false, is_some, IfOk, IfErr, IfSome, OnOk, OnErr, IsErrOf};
 ghost use Rattle.dsql_driver.specs.Fits.{is_done, is_fault};
 ghost use Rattle.dsql_driver.specs.Streams.{HasRisen};
-ghost use Rattle.dsql_driver.specs.Wires.{newly_told};
+ghost use Rattle.dsql_driver.specs.Wires.{newly_told, connected_after};
 ghost use Rattle.dsql_journal.specs.HandlesAndCursors.{fits_at_its_place};
 ghost use Rattle.dsql_tenure.specs.Judged.{answered as entry_of};
 ghost use Rattle.dsql_wire.specs.Journaled.{MayBeSent, permit_of};
@@ -26,20 +26,25 @@ pub fn connect<F: Fleet>(
     ensures noted { IfOk result
         (λ opened. IfSome opened.wire (λ w. w.journal ≡ opened.heard ∷ [])) }
     ensures told { IfOk result (λ opened. IfSome opened.wire
-        (λ w. IfSome (F.Wire.heard w.wire) (λ told. told ≡ newly_told))) }
+        (λ w. IfSome (F.Wire.told w.wire) (λ told. told ≡ newly_told permit.conn))) }
     ensures telling { IfOk result (λ opened. IfSome opened.wire
-        (λ w. is_some (F.retired fleet.old) ≡ true → is_some (F.Wire.heard w.wire) ≡ true)) }
+        (λ w. is_some (F.told fleet.old) ≡ true → is_some (F.Wire.told w.wire) ≡ true)) }
     ensures ok { OnOk result (MayBeSent permit.conn [] permit) }
     ensures handed_back { IfErr result (λ fault. permit_of fault ≡ permit) }
     ensures stray { IsErrOf result (WireFault.Stray permit) → ¬ MayBeSent permit.conn [] permit }
     ensures untouched { IsErrOf result (WireFault.Stray permit) → fleet.new ≡ fleet.old }
     ensures memory { IsErrOf result (WireFault.Memory permit) → MayBeSent permit.conn [] permit }
-    ensures retired { F.retired fleet.new ≡ F.retired fleet.old }
+    ensures asked { IfOk result (λ opened. F.told fleet.new
+        ≡ connected_after permit.conn opened.heard.answer (F.told fleet.old)) }
+    ensures unasked { OnErr result (F.told fleet.new ≡ F.told fleet.old) }
     ensures ability { F.ability fleet.new ≡ F.ability fleet.old }
     ensures preferred { F.preferred fleet.new ≡ F.preferred fleet.old }
     ensures counted { F.faults fleet.old ≤ F.faults fleet.new }
     ensures caused { IfOk result (λ opened. is_fault opened.heard.answer ≡ true
         → HasRisen (F.faults fleet.old) (F.faults fleet.new)) }
+    ensures faultless { IfOk result (λ opened. is_fault opened.heard.answer ≡ false
+        → F.faults fleet.new ≡ F.faults fleet.old) }
+    ensures refused { OnErr result (F.faults fleet.new ≡ F.faults fleet.old) }
 {
     let request = Request::new(alloc, permit)?;
     match fleet.connect(request.number()) {

@@ -1,4 +1,4 @@
-ghost use Rattle.std.specs.Prelude.{◌≡◌, ◌∷◌, [], Some, None, true, IsSomeAnd, IfOk, IfErr, IfSome, OnOk, IsErrOf};
+ghost use Rattle.std.specs.Prelude.{◌≡◌, ◌∷◌, [], Some, None, true, IsSomeAnd, IfOk, IfErr, IfSome, OnOk, OnErr, IsErrOf};
 ghost use Rattle.dsql_driver.specs.Wires.{newly_told};
 ghost use Rattle.dsql_journal.specs.HandlesAndCursors.{fits_at_its_place};
 ghost use Rattle.dsql_tenure.specs.Judged.{answered as entry_of};
@@ -73,7 +73,7 @@ impl Request {
 
     /// It was opened with this wire.
     pub(crate) fn opened<W: Wire>(self, wire: W) -> Opened<W>
-        requires told { IfSome (W.heard wire) (λ told. told ≡ newly_told) }
+        requires told { IfSome (W.told wire) (λ told. told ≡ newly_told self.conn) }
         requires handles { W.handles wire ≡ [] }
         requires cursors { W.cursors wire ≡ [] }
         ensures entry { result.heard ≡ entry_of self DriverAnswer.Done }
@@ -101,6 +101,7 @@ impl Request {
         ensures entry { IfOk result (λ opened. opened.heard ≡ entry_of self opened.heard.answer) }
         ensures fits { IfOk result (λ opened. fits_at_its_place [] opened.heard ≡ true) }
         ensures memory { IfErr result (λ fault. fault ≡ WireFault.Memory self) }
+        ensures none_made { OnErr result (refusal_of refused ≡ None) }
     {
         let Request { permit, .. } = self;
         match refusal(refused) {

@@ -15,7 +15,7 @@ struct CountingWire {
 }
 
 impl Wire for CountingWire {
-    ghost heard = { λ _. None };
+    ghost told = { λ _. None };
 
     ghost faults = { λ _. 18446744073709551615 };
 
@@ -65,9 +65,9 @@ impl Fleet for CountingFleet {
 
     ghost ability = { λ f. f.caps };
 
-    ghost preferred = { λ f. Some f.caps };
+    ghost preferred = { λ f. record { last = Some f.caps; times = 18446744073709551615 } };
 
-    ghost retired = { λ _. None };
+    ghost told = { λ _. None };
 
     ghost faults = { λ _. 18446744073709551615 };
 

@@ -1,12 +1,12 @@
 ghost use Rattle.std.specs.Prelude.{◌≡◌, ◌≤◌, ◌∷◌, true, false, reverse, IfOk, IfErr, IfSome, OnOk, OnErr, IsErrOf};
 ghost use Rattle.dsql_driver.specs.Fits.{is_fault};
 ghost use Rattle.dsql_driver.specs.Streams.{HasRisen};
-ghost use Rattle.dsql_driver.specs.Wires.{told_after};
+ghost use Rattle.dsql_driver.specs.Wires.{told_after, planned_after};
 ghost use Rattle.dsql_journal.specs.HandlesAndCursors.{fits_at_its_place};
 ghost use Rattle.dsql_journal.specs.Readers.{is_empty};
 ghost use Rattle.dsql_tenure.specs.Beginnings.{IsBeginningOf};
 ghost use Rattle.dsql_tenure.specs.Judged.{answered as entry_of};
-ghost use Rattle.dsql_wire.specs.Told.{told_of};
+ghost use Rattle.dsql_wire.specs.Told.{TellsOf};
 ghost use Rattle.dsql_wire.specs.Journaled.{Agrees, MayBeSent, permit_of};
 
 use crate::fault::WireFault;
@@ -32,7 +32,7 @@ impl<W: Wire> Model for JournaledWire<W> {
 
     ghost view = { λ j. record { conn = j.journal.conn; journal = j.journal.journal; wire = j.wire } };
 
-    ghost invariant = { λ j. Agrees (W.heard j.wire) (W.handles j.wire) (W.cursors j.wire) j.journal.journal };
+    ghost invariant = { λ j. Agrees (W.told j.wire) (W.handles j.wire) (W.cursors j.wire) j.journal.conn j.journal.journal };
 }
 
 /// What is left of a journaled wire: its connection's number, the journal, oldest first, and the driver's
@@ -46,7 +46,7 @@ pub struct Retired<W> {
 impl<W: Wire> JournaledWire<W> {
     /// The wire of a connection of which just this journal was heard.
     pub(crate) fn of(wire: W, journal: JudgedJournal) -> JournaledWire<W>
-        requires { Agrees (W.heard wire) (W.handles wire) (W.cursors wire) journal.journal }
+        requires { Agrees (W.told wire) (W.handles wire) (W.cursors wire) journal.conn journal.journal }
         ensures conn { result.conn ≡ journal.conn }
         ensures journal { result.journal ≡ journal.journal }
         ensures wire { result.wire ≡ wire }
@@ -60,7 +60,7 @@ impl<W: Wire> JournaledWire<W> {
         ensures fits { IfOk result (λ heard. fits_at_its_place self.old.journal heard ≡ true) }
         ensures noted { IfOk result (λ heard. self.new.journal ≡ heard ∷ self.old.journal) }
         ensures told { IfOk result
-            (λ heard. W.heard self.new.wire ≡ told_after permit.call heard.answer (W.heard self.old.wire)) }
+            (λ heard. W.told self.new.wire ≡ told_after permit.call heard.answer (W.told self.old.wire)) }
         ensures ok { OnOk result (MayBeSent self.old.conn self.old.journal permit) }
         ensures handed_back { IfErr result (λ fault. permit_of fault ≡ permit) }
         ensures stray { IsErrOf result (WireFault.Stray permit)
@@ -69,11 +69,13 @@ impl<W: Wire> JournaledWire<W> {
         ensures memory { IsErrOf result (WireFault.Memory permit)
             → MayBeSent self.old.conn self.old.journal permit }
         ensures err { OnErr result (self.new.journal ≡ self.old.journal) }
-        ensures untold { OnErr result (W.heard self.new.wire ≡ W.heard self.old.wire) }
+        ensures untold { OnErr result (W.told self.new.wire ≡ W.told self.old.wire) }
         ensures conn { self.new.conn ≡ self.old.conn }
         ensures counted { W.faults self.old.wire ≤ W.faults self.new.wire }
         ensures caused { IfOk result (λ heard. is_fault heard.answer ≡ true
             → HasRisen (W.faults self.old.wire) (W.faults self.new.wire)) }
+        ensures faultless { IfOk result (λ heard. is_fault heard.answer ≡ false
+            → W.faults self.new.wire ≡ W.faults self.old.wire) }
     {
         if !self.journal.may_send(&permit) {
             return Err(WireFault::Stray(permit));
@@ -94,7 +96,7 @@ impl<W: Wire> JournaledWire<W> {
         ensures entries { reverse result.now ≡ self.now.journal }
         ensures beginning { IsBeginningOf self.now.conn self.now.journal }
         ensures started { is_empty self.now.journal ≡ false }
-        ensures heard { IfSome (W.heard self.now.wire) (λ told. told ≡ told_of self.now.journal) }
+        ensures told { IfSome (W.told self.now.wire) (TellsOf self.now.conn self.now.journal) }
     {
         self.journal.entries()
     }
@@ -103,8 +105,9 @@ impl<W: Wire> JournaledWire<W> {
     pub fn plan(&mut self, nth: u32, what: Planned) -> Result<(), Memory>
         ensures journal { self.new.journal ≡ self.old.journal }
         ensures conn { self.new.conn ≡ self.old.conn }
-        ensures told { W.heard self.new.wire ≡ W.heard self.old.wire }
-        ensures counted { W.faults self.old.wire ≤ W.faults self.new.wire }
+        ensures told { OnOk result (W.told self.new.wire ≡ planned_after (nth, what) (W.told self.old.wire)) }
+        ensures err { OnErr result (W.told self.new.wire ≡ W.told self.old.wire) }
+        ensures faultless { W.faults self.new.wire ≡ W.faults self.old.wire }
     {
         self.wire.plan(nth, what)
     }
@@ -115,7 +118,7 @@ impl<W: Wire> JournaledWire<W> {
         ensures journal { reverse result.journal.items ≡ self.journal }
         ensures wire { result.wire ≡ self.wire }
         ensures beginning { IsBeginningOf self.conn self.journal }
-        ensures heard { IfSome (W.heard self.wire) (λ told. told ≡ told_of self.journal) }
+        ensures told { IfSome (W.told self.wire) (TellsOf self.conn self.journal) }
     {
         let JournaledWire { wire, journal } = self;
         let (number, journal) = journal.into_parts();

@@ -245,7 +245,7 @@ impl<'a> ListWire<'a> {
 }
 
 impl<'a> Wire for ListWire<'a> {
-    ghost heard = { λ _. None };
+    ghost told = { λ _. None };
 
     ghost faults = { λ _. 18446744073709551615 };
 
@@ -291,9 +291,9 @@ impl<'a> Fleet for ListFleet<'a> {
 
     ghost ability = { λ f. f.caps };
 
-    ghost preferred = { λ f. Some f.caps };
+    ghost preferred = { λ f. record { last = Some f.caps; times = 18446744073709551615 } };
 
-    ghost retired = { λ _. None };
+    ghost told = { λ _. None };
 
     ghost faults = { λ _. 18446744073709551615 };
 

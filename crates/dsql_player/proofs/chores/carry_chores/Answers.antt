@@ -1,7 +1,7 @@
 use Rattle.std.proofs.Common.{true, false, ◌∙◌, subst}
 use Rattle.dsql_player.specs.Carried.{CarriesFirst}
 use Rattle.dsql_player.proofs.Going.{on_then, free_still}
-use Rattle.dsql_player.proofs.Telling.{retires_then}
+use Rattle.dsql_player.proofs.Telling.{tells_then}
 use Rattle.dsql_player.proofs.chores.carry_chores.Goals as goal
 
 pub returns-clause-none : goal.returns-clause-none
@@ -23,7 +23,7 @@ loop-preserved g c =
       legal = more.legal;
       on = on_then old mid new done.on first.0.on;
       calls = first.0.calls ∙ done.calls;
-      gone = retires_then _ _ _ old mid new done.gone more.gone;
+      told = tells_then _ _ _ old mid new done.told more.told;
       wires = more.wires;
       ability = more.ability ∙ done.ability;
       preferred = more.preferred ∙ done.preferred;

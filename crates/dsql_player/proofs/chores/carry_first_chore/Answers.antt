@@ -1,6 +1,6 @@
 use Rattle.std.proofs.Common.{◌≡◌, None, refl}
 use Rattle.dsql_engine.specs.Awaited.{chore_due}
-use Rattle.dsql_player.proofs.Telling.{retires_none}
+use Rattle.dsql_player.proofs.Telling.{tells_none}
 use Rattle.dsql_player.proofs.Tidying.{no_chore, none_due}
 use Rattle.dsql_player.proofs.chores.carry_first_chore.Goals as goal
 
@@ -10,7 +10,7 @@ returns-in_default g c =
     let due : chore_due past ≡ None = none_due past c.in_ok-permit.field-0 c.in_ok-permit.ensures.first c.in_default.not-Send in
     record {
       first = (refl, no_chore past c.requires.legal due);
-      gone = retires_none (g.F.Fleet.retired c.args.fleet.now) past past refl;
+      told = tells_none (g.F.Fleet.told c.args.fleet.now) past past refl;
       wires = c.requires.wires;
       err = tt;
       full = λ h. absurd cc;

@@ -10,7 +10,7 @@ use Rattle.dsql_player.specs.WiresFit.{slot, OpensWire}
 use Rattle.dsql_player.proofs.Awaiting.{chore_opens, connect_of}
 use Rattle.dsql_player.proofs.Opening.{opened, open_is, open_turn, open_carries, open_tells, open_fits, none_before}
 use Rattle.dsql_player.proofs.Permitting.{heard_entry, heard_awaited, first_fits}
-use Rattle.dsql_player.proofs.Telling.{retires_none}
+use Rattle.dsql_player.proofs.Telling.{tells_connect, at_most_none, at_most_one}
 use Rattle.dsql_player.proofs.chores.open.Goals as goal
 
 pub connect_wire-requires-clause-empty : goal.connect_wire-requires-clause-empty
@@ -45,16 +45,16 @@ returns-clause-carried g c =
     let none = none_before past p.conn a w.number (is_done a) (rw is at c.hear.ensures.legal.lawful) in
     rw is (open_carries past p.conn w.number a (is_done a) (open_turn past p a w c.requires.due) w.opens none)
 
-pub returns-clause-gone : goal.returns-clause-gone
-returns-clause-gone g c =
+pub returns-clause-told : goal.returns-clause-told
+returns-clause-told g c =
     let past = c.args.engine.now in
     let p = c.args.permit in
     let e = c.in_ok-heard.heard in
     let a = e.answer in
     let w = chore_opens past p c.requires.due c.requires.awaited c.requires.connects in
     let group : c.hear.new.engine ≡ after_heard past (entry_of p a) = c.in_ok-hear.ensures.group ∙ ap (after_heard past) (heard_entry past p e c.requires.awaited c.in_ok-heard.ensures.entry) in
-    rw (c.connect_wire.ensures.retired, open_is past p a w c.hear.new.engine group)
-    (retires_none _ past _ (open_tells past (connect_entry p.conn a) w.number (is_done a)))
+    rw (c.in_ok-heard.ensures.asked, open_is past p a w c.hear.new.engine group)
+    (tells_connect p.conn a _ past _ c.in_ok-heard.ensures.no_want (open_tells past p.conn a w.number (is_done a)))
 
 pub returns-clause-wires : goal.returns-clause-wires
 returns-clause-wires g c =
@@ -67,7 +67,8 @@ returns-clause-wires g c =
     let group : c.hear.new.engine ≡ after_heard past (entry_of p a) = c.in_ok-hear.ensures.group ∙ ap (after_heard past) heard in
     let is : c.hear.new.engine ≡ opened past (connect_entry p.conn a) w.number (is_done a) = open_is past p a w c.hear.new.engine group in
     let none = none_before past p.conn a w.number (is_done a) (rw is at c.hear.ensures.legal.lawful) in
-    let opens_it : OpensWire g.F.Wire.Wire.heard (is_some (g.F.Fleet.retired c.args.fleet.now)) (connect_entry p.conn a) (slot c.connect_wire.new.wires p.conn) =
-    subst (λ (x : Entry). OpensWire g.F.Wire.Wire.heard (is_some (g.F.Fleet.retired c.args.fleet.now)) x (slot c.connect_wire.new.wires p.conn)) (heard ∙ connect_of past p a w) c.in_ok-heard.ensures.wire in
-    rw (c.connect_wire.ensures.retired, is)
-    (open_fits g.F.Wire.Wire.heard _ past p.conn w.number a c.args.wires.now c.connect_wire.new.wires c.requires.wires w.opens none c.in_ok-heard.ensures.others opens_it)
+    let opens_it : OpensWire g.F.Wire.Wire.told (is_some (g.F.Fleet.told c.args.fleet.now)) (connect_entry p.conn a) (slot c.connect_wire.new.wires p.conn) =
+    subst (λ (x : Entry). OpensWire g.F.Wire.Wire.told (is_some (g.F.Fleet.told c.args.fleet.now)) x (slot c.connect_wire.new.wires p.conn)) (heard ∙ connect_of past p a w) c.in_ok-heard.ensures.wire in
+    let telling = returns-clause-told g c in
+    rw (telling.telling, is)
+    (open_fits g.F.Wire.Wire.told _ past p.conn w.number a c.args.wires.now c.connect_wire.new.wires c.requires.wires w.opens none c.in_ok-heard.ensures.others opens_it)

@@ -1,6 +1,6 @@
 use Rattle.std.proofs.Common.{◌∙◌}
 use Rattle.dsql_player.proofs.Going.{on_then}
-use Rattle.dsql_player.proofs.Telling.{retires_then}
+use Rattle.dsql_player.proofs.Telling.{tells_then}
 use Rattle.dsql_player.proofs.line.carry_call.Goals as goal
 
 pub returns-in_err-next-clause-on : goal.returns-in_err-next-clause-on
@@ -17,7 +17,7 @@ loop-engine-preserved g c =
       legal = more.legal;
       next = more.next;
       on = on_then old mid new done.on more.on;
-      gone = retires_then _ _ _ old mid new done.gone more.gone;
+      told = tells_then _ _ _ old mid new done.told more.told;
       wires = more.wires;
       ability = more.ability ∙ done.ability;
       preferred = more.preferred ∙ done.preferred;

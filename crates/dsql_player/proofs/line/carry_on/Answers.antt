@@ -10,7 +10,7 @@ ask-requires-clause-wire g c =
     let past = c.args.engine.now in
     let p = c.in-Send.permit in
     let s : Sends past c.args.client p = rw c.in-Send.is at c.requires.next in
-    wired g.W.Wire.heard _ past c.args.wires.now p.conn (sent_wired past c.args.client p s) c.requires.wires
+    wired g.W.Wire.told _ past c.args.wires.now p.conn (sent_wired past c.args.client p s) c.requires.wires
 
 pub returns-in-Send-clause-steps : goal.returns-in-Send-clause-steps
 returns-in-Send-clause-steps g c =
@@ -25,7 +25,7 @@ returns-in-Send-clause-wires g c =
     let past = c.args.engine.now in
     let p = c.in-Send.permit in
     let s : Sends past c.args.client p = rw c.in-Send.is at c.requires.next in
-    IfOk-weaker c.ask.result _ _ (λ next a. sent_fits g.W.Wire.heard past c.args.client p next c.ask.new.engine c.args.wires.now c.ask.new.wires s a) c.ask.ensures.asked
+    IfOk-weaker c.ask.result _ _ (λ next a. sent_fits g.W.Wire.told past c.args.client p next c.ask.new.engine c.args.wires.now c.ask.new.wires s a) c.ask.ensures.asked
 
 pub returns-in_ok-wake-in-Blocked-clause-steps : goal.returns-in_ok-wake-in-Blocked-clause-steps
 returns-in_ok-wake-in-Blocked-clause-steps g c =
@@ -41,7 +41,7 @@ returns-in_ok-wake-in-Blocked-clause-wires g c =
     let u : Waits past c.args.client = rw c.in-Blocked.is at c.requires.next in
     let w = woken past c.args.client c.in-Blocked.field-0 c.in_ok-wake-in-Blocked.field-0 c.wake.new.self u c.requires.free c.requires.legal.settled.under_way c.requires.legal.lawful
     c.in_ok-wake-in-Blocked.ensures.woken c.in_ok-check_room.ensures.ok in
-    wakes_fit g.W.Wire.heard past c.args.client c.in-Blocked.field-0 c.in_ok-wake-in-Blocked.field-0 c.wake.new.self c.args.wires.now w
+    wakes_fit g.W.Wire.told past c.args.client c.in-Blocked.field-0 c.in_ok-wake-in-Blocked.field-0 c.wake.new.self c.args.wires.now w
 
 pub wake-requires-clause-parked : goal.wake-requires-clause-parked
 wake-requires-clause-parked g c =

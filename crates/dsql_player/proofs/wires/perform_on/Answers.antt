@@ -11,5 +11,5 @@ returns-in-Ok-clause-noted g c =
     record {
       conn = c.in-Ok.ensures.conn;
       journal = c.in-Ok.ensures.noted;
-      told = c.in-Ok.ensures.told ∙ ap (λ (q : DriverCall). told_after q e.answer (g.W.Wire.heard c.args.wire.now.wire)) (sym made.call);
+      told = c.in-Ok.ensures.told ∙ ap (λ (q : DriverCall). told_after q e.answer (g.W.Wire.told c.args.wire.now.wire)) (sym made.call);
     }

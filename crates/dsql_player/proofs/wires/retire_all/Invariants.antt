@@ -6,8 +6,8 @@ use Rattle.dsql_player.proofs.wires.retire_all.Given as goal
 abbrev pub invariant-loop-slot : goal.invariant-loop-slot
 invariant-loop-slot g l = record {
   few : vec_len l.slots ≤ 2 ^ 32;
-  retired : retired_from g.F.Wire.Wire.heard (reverse l.slots.items) (g.F.Fleet.retired l.fleet)
-      ≡ retired_from g.F.Wire.Wire.heard (reverse l.fn.wires) (g.F.Fleet.retired l.fn.fleet);
+  retired : retired_from g.F.Wire.Wire.told (reverse l.slots.items) (g.F.Fleet.told l.fleet)
+      ≡ retired_from g.F.Wire.Wire.told (reverse l.fn.wires) (g.F.Fleet.told l.fn.fleet);
   ability : g.F.Fleet.ability l.fleet ≡ g.F.Fleet.ability l.fn.fleet;
   preferred : g.F.Fleet.preferred l.fleet ≡ g.F.Fleet.preferred l.fn.fleet;
 }

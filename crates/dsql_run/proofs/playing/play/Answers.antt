@@ -1,8 +1,9 @@
-use Rattle.std.proofs.Common.{◌≡◌, ◌∙◌, [], ◌∷◌, ap, sym, inl, inr, subst}
+use Rattle.std.proofs.Common.{◌≡◌, ◌∙◌, [], ◌∷◌, Option, ap, sym, inl, inr, subst}
 use Rattle.dsql_driver.specs.Streams.{has_risen}
+use Rattle.dsql_driver.specs.Wires.{FleetTold}
 use Rattle.dsql_history.specs.declared.event.Event.TheVariants.{Run}
 use Rattle.dsql_player.specs.Extends.{Extends}
-use Rattle.dsql_player.specs.Told.{with_gone}
+use Rattle.dsql_player.specs.Told.{with_told, AsksAtMost}
 use Rattle.dsql_run.specs.Script.{nothing}
 use Rattle.dsql_run.specs.Reading.{HasRead, ReadsHead}
 use Rattle.dsql_run.proofs.Errors.{on_ok}
@@ -33,7 +34,10 @@ returns g c =
             (λ failed. risen_later (g.S.Source.faults c.args.input.now) (g.S.Source.faults c.read_head-first.new.input) (g.S.Source.faults c.play_from.new.input) c.play_from.ensures.read_on (c.read_head-first.ensures.failed failed))
             (λ risen. risen_earlier (g.S.Source.faults c.args.input.now) (g.S.Source.faults c.read_head-first.new.input) (g.S.Source.faults c.play_from.new.input) c.read_head-first.ensures.counted risen);
         empty = c.play_from.ensures.empty;
-        retired = λ ran. c.play_from.ensures.retired ran ∙ ap (λ r. with_gone r c.play_from.new.engine) c.read_head-first.ensures.retired;
+        told = λ ran. c.play_from.ensures.told ran ∙ ap (λ t. with_told t c.play_from.new.engine) c.read_head-first.ensures.unasked;
+        asks = subst (λ (t : Option FleetTold). AsksAtMost t (g.F.Fleet.told c.play_from.new.fleet) c.play_from.new.engine) c.read_head-first.ensures.unasked c.play_from.ensures.asked;
+        read_well = λ well. c.play_from.ensures.read_well well ∙ c.read_head-first.ensures.faultless (c.play_from.ensures.read_through well);
+        written_well = c.play_from.ensures.written_well;
         read_fault = λ is. elim (c.play_from.ensures.read_fault is) [
           | inl failed ↦ risen_later (g.S.Source.faults c.args.input.now) (g.S.Source.faults c.read_head-first.new.input) (g.S.Source.faults c.play_from.new.input) c.play_from.ensures.read_on (c.read_head-first.ensures.failed failed)
           | inr risen ↦ risen_earlier (g.S.Source.faults c.args.input.now) (g.S.Source.faults c.read_head-first.new.input) (g.S.Source.faults c.play_from.new.input) c.read_head-first.ensures.counted risen

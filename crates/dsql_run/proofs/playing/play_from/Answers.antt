@@ -1,7 +1,8 @@
-use Rattle.std.proofs.Common.{ap, inl, inr}
+use Rattle.std.proofs.Common.{◌∙◌, ap, inl, inr}
 use Rattle.dsql_player.specs.Entered.{entered_calls}
 use Rattle.dsql_player.proofs.Extending.{extends_then}
 use Rattle.dsql_run.specs.Runs.{saying}
+use Rattle.dsql_run.proofs.Asking.{asks, read_played, written_played, not_read, not_written}
 use Rattle.dsql_run.proofs.Errors.{on_ok}
 use Rattle.dsql_run.proofs.Cutting.{shown_before_end, cut_short}
 use Rattle.dsql_run.proofs.Finishing.{plays_finished, wrote_older, writes_more, all_risen}
@@ -43,3 +44,30 @@ returns-clause-cut g c =
     (shown_before_end c.play_lines-played.result c.close-ended.result c.finish.result (g.K.Sink.written c.args.output.now) (g.K.Sink.written c.play_lines-played.new.output) c.play_lines-played.new.shown c.play_lines-played.new.engine
     c.close-ended.new.engine c.close-ended.ensures.same c.finish.ensures.result is unfailed c.close-ended.ensures.extends c.play_lines-played.ensures.within c.play_lines-played.ensures.wrote)
     unfailed is)
+
+pub returns-clause-asked : goal.returns-clause-asked
+returns-clause-asked g c =
+    asks c.play_lines-played.result c.close-ended.result (g.F.Fleet.told c.args.fleet.now) (g.F.Fleet.told c.play_lines-played.new.fleet) (g.F.Fleet.told c.close-ended.new.fleet) (g.F.Fleet.ability c.args.fleet.now)
+    c.play_lines-played.new.engine c.close-ended.new.engine
+    (record {
+      lines = rw (← c.requires.begun) c.play_lines-played.ensures.asked;
+      all = c.play_lines-played.ensures.told;
+      end = c.close-ended.ensures.told;
+      same = c.close-ended.ensures.same;
+      left = c.close-ended.ensures.asked;
+      given_back = c.close-ended.ensures.unasked;
+      stays = c.close-ended.ensures.stays;
+    })
+
+pub returns-clause-read_well : goal.returns-clause-read_well
+returns-clause-read_well g c = λ well.
+    c.play_lines-played.ensures.read_well (not_read c.play_lines-played.result (read_played c.play_lines-played.result c.close-ended.result c.finish.result c.close-ended.ensures.same c.finish.ensures.result well))
+
+pub returns-clause-read_through : goal.returns-clause-read_through
+returns-clause-read_through g c = λ well.
+    c.play_lines-played.ensures.read_through (read_played c.play_lines-played.result c.close-ended.result c.finish.result c.close-ended.ensures.same c.finish.ensures.result well)
+
+pub returns-clause-written_well : goal.returns-clause-written_well
+returns-clause-written_well g c = λ well.
+    c.finish.ensures.faultless well
+    ∙ c.play_lines-played.ensures.written_well (not_written c.play_lines-played.result (written_played c.play_lines-played.result c.close-ended.result c.finish.result c.close-ended.ensures.same c.finish.ensures.result well))

@@ -15,7 +15,7 @@ pub returns-in_err-show-clause-plays : goal.returns-in_err-show-clause-plays
 returns-in_err-show-clause-plays g c = λ before asked read.
     let is : c.from_residual.result ≡ Err (stop_of_show c.in_err-show.field-0.0) = err_is c.from_residual.result (stop_of_show c.in_err-show.field-0.0) c.from_residual.ensures.1 in
     rw (is, c.requires.begun)
-    (first_none (stop_of_show c.in_err-show.field-0.0) c.args.first before c.args.script.now (g.S.Source.left c.args.input.now) (g.S.Source.left c.args.input.now) (saying asked []) (show_stops c.in_err-show.field-0.0) read)
+    (first_none (stop_of_show c.in_err-show.field-0.0) c.args.first before c.args.script.now (g.S.Source.left c.args.input.now) (g.S.Source.left c.args.input.now) (saying asked []) (show_stops c.in_err-show.field-0.0) c.requires.body read)
 
 pub returns-in_err-show-clause-wrote : goal.returns-in_err-show-clause-wrote
 returns-in_err-show-clause-wrote g c =
@@ -82,7 +82,7 @@ loop-next-preserved g c =
     let begun = rw c.in-Some.is at c.loop-next.invariant.headed in
     record {
       between = c.in_ok-play_line.ensures.between refl;
-      gone = c.in_ok-play_line.ensures.gone refl (g.F.Fleet.retired c.args.fleet.now) c.loop-next.invariant.gone;
+      told = c.in_ok-play_line.ensures.told refl (g.F.Fleet.told c.args.fleet.now) c.loop-next.invariant.told;
       reads_so = λ before asked read. c.in_ok-next-2.ensures.reads before (saying asked (entered_calls c.play_line.new.engine))
           (carried_out before c.loop-next.script (g.S.Source.left c.loop-next.input) asked (entered_calls c.loop-next.engine) (entered_calls c.play_line.new.engine) c.in-Some.line body
           (some_of c.loop-next.next c.in-Some.line before c.loop-next.script (g.S.Source.left c.loop-next.input) (saying asked (entered_calls c.loop-next.engine)) c.in-Some.is (c.loop-next.invariant.reads_so before asked read))
@@ -93,8 +93,8 @@ loop-next-preserved g c =
       shown = c.in_ok-play_line.ensures.shown;
       written = λ w start. all_shown w (g.K.Sink.written c.play_line.new.output) c.play_line.new.shown c.play_line.new.engine c.in_ok-play_line.ensures.shown
           (c.in_ok-play_line.ensures.wrote w (c.loop-next.invariant.written w start));
-      reads = omega (arith, c.loop-next.invariant.reads, c.next.ensures.counted);
-      writes = omega (arith, c.loop-next.invariant.writes, c.play_line.ensures.counted);
+      reads = c.next.ensures.faultless refl ∙ c.loop-next.invariant.reads;
+      writes = c.play_line.ensures.faultless refl ∙ c.loop-next.invariant.writes;
       extends = extends_then c.args.engine.now c.loop-next.engine c.play_line.new.engine c.loop-next.invariant.extends c.play_line.ensures.extends;
       ability = c.play_line.ensures.ability ∙ c.loop-next.invariant.ability;
       preferred = c.play_line.ensures.preferred ∙ c.loop-next.invariant.preferred;

@@ -5,7 +5,7 @@ use Rattle.dsql_script.specs.Lines.{text_of}
 use Rattle.dsql_script.specs.declared.script.Head.{Head}
 use Rattle.dsql_player.specs.Entered.{entered_calls}
 use Rattle.dsql_player.specs.Extends.{Extends}
-use Rattle.dsql_player.specs.Told.{with_gone}
+use Rattle.dsql_player.specs.Told.{with_told}
 use Rattle.dsql_run.specs.Report.{with_text}
 use Rattle.dsql_run.specs.Runs.{Between, saying}
 use Rattle.dsql_run.specs.Reading.{ReadTo, IsBodyLine}
@@ -17,8 +17,8 @@ decreases-loop-next g l = (10001 - l.script.reader.lines) + one_if l.next
 
 abbrev pub invariant-loop-next : goal.invariant-loop-next
 invariant-loop-next g l = record {
-  between : Between g.F.Wire.Wire.heard (is_some (g.F.Fleet.retired l.fleet)) l.engine l.wires;
-  gone : g.F.Fleet.retired l.fleet ≡ with_gone (g.F.Fleet.retired l.initial.fleet) l.engine;
+  between : Between g.F.Wire.Wire.told (is_some (g.F.Fleet.told l.fleet)) l.engine l.wires;
+  told : g.F.Fleet.told l.fleet ≡ with_told (g.F.Fleet.told l.initial.fleet) l.engine;
   reads_so : (before : Option (List ℕ)) (asked : Option Caps) → ReadTo (Ok l.initial.next) before l.initial.script (g.S.Source.left l.initial.input) (saying asked [])
       → ReadTo (Ok l.next) before l.script (g.S.Source.left l.input) (saying asked (entered_calls l.engine));
   body : IsBodyLine l.next;
@@ -26,8 +26,8 @@ invariant-loop-next g l = record {
   few : IfSome l.next (λ _. l.script.reader.lines ≤ 10000);
   shown : l.shown ≡ length l.engine;
   written : (w : Option (List ℕ)) → g.K.Sink.written l.initial.output ≡ with_text w (text_of l.initial.engine) → g.K.Sink.written l.output ≡ with_text w (text_of l.engine);
-  reads : g.S.Source.faults l.initial.input ≤ g.S.Source.faults l.input;
-  writes : g.K.Sink.faults l.initial.output ≤ g.K.Sink.faults l.output;
+  reads : g.S.Source.faults l.input ≡ g.S.Source.faults l.initial.input;
+  writes : g.K.Sink.faults l.output ≡ g.K.Sink.faults l.initial.output;
   extends : Extends l.initial.engine l.engine;
   ability : g.F.Fleet.ability l.fleet ≡ g.F.Fleet.ability l.initial.fleet;
   preferred : g.F.Fleet.preferred l.fleet ≡ g.F.Fleet.preferred l.initial.fleet;

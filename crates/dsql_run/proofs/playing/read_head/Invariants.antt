@@ -11,6 +11,6 @@ abbrev pub invariant-loop-line : goal.invariant-loop-line
 invariant-loop-line g l = record {
   head : (before : Option (List ℕ)) → HasRead before l.initial.script (g.S.Source.left l.initial.input) nothing
       → HeadSoFar before l.script (g.S.Source.left l.input) (g.F.Fleet.preferred l.initial.fleet) (g.F.Fleet.preferred l.fleet) (g.F.Fleet.ability l.initial.fleet) (g.F.Fleet.ability l.fleet);
-  reads : g.S.Source.faults l.initial.input ≤ g.S.Source.faults l.input;
-  retired : g.F.Fleet.retired l.fleet ≡ g.F.Fleet.retired l.initial.fleet;
+  faultless : g.S.Source.faults l.input ≡ g.S.Source.faults l.initial.input;
+  unasked : g.F.Fleet.told l.fleet ≡ g.F.Fleet.told l.initial.fleet;
 }

@@ -11,5 +11,5 @@ invariant-loop-shown g l = record {
   within : l.shown ≤ length l.events;
   onward : l.initial.shown ≤ l.shown;
   shows : (w : Option (List ℕ)) → Shows w l.initial.shown (reverse l.events) (g.K.Sink.written l.initial.output) → Shows w l.shown (reverse l.events) (g.K.Sink.written l.output);
-  counted : g.K.Sink.faults l.initial.output ≤ g.K.Sink.faults l.output;
+  faultless : g.K.Sink.faults l.output ≡ g.K.Sink.faults l.initial.output;
 }

@@ -8,6 +8,6 @@ abbrev pub invariant-loop-written : goal.invariant-loop-written
 invariant-loop-written g l = record {
   within : l.written ≤ length l.piece;
   front : g.K.Sink.written l.sink ≡ option_map (λ w. w ++ take l.written l.piece) (g.K.Sink.written l.initial.sink);
-  counted : g.K.Sink.faults l.initial.sink ≤ g.K.Sink.faults l.sink;
+  faultless : g.K.Sink.faults l.sink ≡ g.K.Sink.faults l.initial.sink;
   untouched : l.piece ≡ [] → l.sink ≡ l.initial.sink;
 }

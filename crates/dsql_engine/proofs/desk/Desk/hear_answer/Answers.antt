@@ -20,4 +20,4 @@ hear_call-requires-clause-statement c =
     let n = c.in-Lent-default-Call.n in
     let at : place H e.conn ≡ Lent t (Call n) = sym c.place.ensures ∙ (c.in-Lent-default-Call.is ∙ ap (λ (o : Owner). Lent t o) c.in-Lent-default-Call.field-1-is) in
     let w : Awaits (due H e.conn t n) e.conn t n (sender H n) (permit_of e) = awaits e.conn t n (sender H n) (due H e.conn t n) (permit_of e) (rw at at c.requires.awaited) in
-    c.requires.statement ∙ ap (λ (k : ℕ). statement_of H k) (ap (λ (p : Permit). number_of p.owner) w.parts)
+    c.requires.ready.statement ∙ ap (λ (k : ℕ). statement_of H k) (ap (λ (p : Permit). number_of p.owner) w.parts)

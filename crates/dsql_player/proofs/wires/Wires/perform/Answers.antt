@@ -23,8 +23,8 @@ returns-clause-noted g c =
     let some : IsSomeAnd (slot ws p.conn) may = subst (λ (xs : List (Option (Journaled g.row.W.Denot))). IsSomeAnd (slot xs p.conn) may) (sym c.self.view_is) c.requires in
     let here : slot ws p.conn ≡ Some c.in-Some.wire = wire_here ws p.conn c.index_mut.result.now may c.in-Some.wire some c.index_mut.ensures.value c.in-Some.is in
     IfOk-weaker c.perform_on.result _ _
-    (λ heard noted. subst (λ (xs : List (Option (Journaled g.row.W.Denot))). HearsEntry g.W.Wire.heard heard (slot xs p.conn) (slot (set ws p.conn (Some c.perform_on.new.wire)) p.conn)) c.self.view_is
-    (heard_here g.W.Wire.heard heard ws p.conn c.in-Some.wire c.perform_on.new.wire here noted))
+    (λ heard noted. subst (λ (xs : List (Option (Journaled g.row.W.Denot))). HearsEntry g.W.Wire.told heard (slot xs p.conn) (slot (set ws p.conn (Some c.perform_on.new.wire)) p.conn)) c.self.view_is
+    (heard_here g.W.Wire.told heard ws p.conn c.in-Some.wire c.perform_on.new.wire here noted))
     c.perform_on.ensures.noted
 
 pub returns-clause-fits : goal.returns-clause-fits

@@ -6,7 +6,7 @@ use Rattle.dsql_run.proofs.script.ScriptReader.next.Goals as goal
 pub returns-clause-reads : goal.returns-clause-reads
 returns-clause-reads g c = λ before says h.
     reads_to c.take_line.result before c.args.self.now c.take_line.new.self (g.S.Source.left c.args.input.now) (g.S.Source.left c.take_line.new.input) says h c.take_line.ensures.read c.take_line.ensures.taken
-    c.take_line.ensures.ended c.take_line.ensures.placed c.take_line.ensures.end c.take_line.ensures.sees c.take_line.ensures.stopped c.take_line.ensures.dropped
+    c.take_line.ensures.ended c.take_line.ensures.placed c.take_line.ensures.is c.take_line.ensures.end c.take_line.ensures.sees c.take_line.ensures.stopped c.take_line.ensures.dropped
 
 pub returns-clause-body : goal.returns-clause-body
 returns-clause-body g c = λ begun. body_of_read c.take_line.result c.args.self.now.reader c.take_line.new.self.line.items begun c.take_line.ensures.is

@@ -11,7 +11,7 @@ invariant-loop-self g l = record {
   feedless : All (λ byte. byte ≢ 10) l.line.items;
   short : vec_len l.line ≤ 4097;
   roomy : 4097 ≤ vec_capacity l.line;
-  counted : g.S.Source.faults l.initial.source ≤ g.S.Source.faults l.source;
+  faultless : g.S.Source.faults l.source ≡ g.S.Source.faults l.initial.source;
   after_end : l.initial.self.ended ≡ true → (l.source ≡ l.initial.source) × (l.self.ended ≡ true);
   sees : SawTheEnd l.initial.self (g.S.Source.left l.initial.source) → SawTheEnd l.self (g.S.Source.left l.source);
 }

@@ -16,7 +16,8 @@ of-requires g c =
     let r = c.self.invariant in
     let is : c.answered.result ≡ answered c.self.inside.permit Done = c.answered.ensures ∙ ap (λ (p : Permit). answered p Done) r.twice in
     let grows : c.note.new.self.journal ≡ answered c.self.inside.permit Done ∷ [] = c.note.ensures.journal ∙ rw (is, r.nothing) refl in
-    rw grows (agrees_new _ _ _ c.self.inside.permit r.may c.requires.told)
+    let conn : c.note.new.self.conn ≡ c.self.inside.permit.conn = c.note.ensures.conn ∙ r.conn in
+    rw (grows, conn) (agrees_new _ _ _ c.self.inside.permit r.may (rw (← c.self.view_is) at c.requires.told))
 
 pub returns-clause-fits : goal.returns-clause-fits
 returns-clause-fits g c =

@@ -1,0 +1,7 @@
+-- What a log of a wire holds.
+use Rattle.dsql_driver.specs.Wires.{WireTold}
+use Rattle.dsql_mem.specs.declared.log.Log.{Log}
+
+-- what a wire with this log tells
+abbrev pub told_of : Log → WireTold
+told_of log = record { number = log.number; calls = log.calls.items; plans = log.plans.items }

@@ -1,0 +1,46 @@
+ghost use Rattle.std.specs.Prelude.{◌≡◌, IfOk, OnOk, OnErr};
+ghost use Rattle.dsql_driver.specs.Wires.{newly_told, with_plan};
+ghost use Rattle.dsql_mem.specs.Log.{told_of};
+
+use dsql_driver::{DriverAnswer, DriverCall, Planned};
+use dsql_value::Memory;
+use std::alloc::Global;
+
+/// A call that a wire heard, with its answer.
+pub(crate) type Told = (DriverCall, DriverAnswer);
+
+/// A fault in place of the answer to the nth call on a wire.
+pub(crate) type Plan = (u32, Planned);
+
+/// What a wire was asked: its number, the calls that it heard, and the faults that were planned on it,
+/// oldest first.
+#[derive(Drop)]
+pub(crate) struct Log {
+    pub(crate) number: u32,
+    pub(crate) calls: Vec<Told>,
+    pub(crate) plans: Vec<Plan>,
+}
+
+impl Log {
+    /// The log of a wire that has heard just its Connect.
+    pub(crate) fn new(alloc: Global, number: u32) -> Result<Log, Memory>
+        ensures { IfOk result (λ log. told_of log ≡ newly_told number) }
+    {
+        let mut calls = Vec::new(alloc);
+        calls.push((DriverCall::Connect, DriverAnswer::Done))?;
+        Ok(Log {
+            number,
+            calls,
+            plans: Vec::new(alloc),
+        })
+    }
+
+    /// Enters a fault that is planned.
+    pub(crate) fn plan(&mut self, nth: u32, what: Planned) -> Result<(), Memory>
+        ensures ok { OnOk result (told_of self.new ≡ with_plan (nth, what) (told_of self.old)) }
+        ensures err { OnErr result (told_of self.new ≡ told_of self.old) }
+    {
+        self.plans.push((nth, what))?;
+        Ok(())
+    }
+}
