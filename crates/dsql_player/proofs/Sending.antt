@@ -112,14 +112,14 @@ call_turn past client p answer s =
 -- the call sends what comes next
 again : (past : List Event) (client : ℕ) (p : Permit) (answer : DriverAnswer) (t n : ℕ) (next : Next) → Sends past client p → place past p.conn ≡ Lent t (Call n) → p.call_no ≡ sender past n
     → is_connect p.call ≡ false → SendsOn p.conn (Heard (entry_of p answer) ∷ past) next → length past < most_events → Steps past client (Send p) (Heard (entry_of p answer) ∷ past) next
-again past client p answer t n (Send q) s at number no sends room =
+again past client p answer t n (Send q) s at number plain sends room =
     let e : Entry = entry_of p answer in
     let now : List Event = Heard e ∷ past in
     let w = sent_by now p.conn t n q (subst (λ (k : Place). awaited_at now p.conn k ≡ Some q) at sends) in
     let same : q.call_no ≡ sender past n = w.1 in
     record {
       on = on_heard past past e (on_still past) (call_turn past client p answer s);
-      told = untold past e no;
+      told = untold past e plain;
       next = record {
         under_way = record {
           alone = s.under_way.alone;
@@ -132,9 +132,9 @@ again past client p answer t n (Send q) s at number no sends room =
       };
       nearer = omega (arith, room);
     }
-again past client p answer t n (Blocked why) s at number no sends room = absurd sends
-again past client p answer t n (Reply m) s at number no sends room = absurd sends
-again past client p answer t n Quiet s at number no sends room = absurd sends
+again past client p answer t n (Blocked why) s at number plain sends room = absurd sends
+again past client p answer t n (Reply m) s at number plain sends room = absurd sends
+again past client p answer t n Quiet s at number plain sends room = absurd sends
 
 pub leaving_calls : (c : ℕ) (why : Option CloseCause) (past : List Event) → unfinished (leaving c why ∷ past) ≡ unfinished past
 leaving_calls c None past = refl
@@ -170,7 +170,7 @@ without_one ns n is = rw is (rw same_to_itself refl)
 -- the call has its reply
 finished : (past : List Event) (client : ℕ) (p : Permit) (answer : DriverAnswer) (kept : Bool) → Sends past client p → is_connect p.call ≡ false → length past < most_events
     → Steps past client (Send p) (told p.call_no (left_by p.conn kept (Heard (entry_of p answer) ∷ past))) (Reply p.call_no)
-finished past client p answer kept s no room =
+finished past client p answer kept s plain room =
     let e : Entry = entry_of p answer in
     let now : List Event = left_by p.conn kept (Heard e ∷ past) in
     let calls : unfinished now ≡ p.call_no ∷ [] =
@@ -178,7 +178,7 @@ finished past client p answer kept s no room =
     record {
       on = on_replied past now p.call_no (reply_as (reply_due now p.call_no))
           (left_on p.conn kept past (Heard e ∷ past) (on_heard past past e (on_still past) (call_turn past client p answer s)));
-      told = left_told p.conn kept (Heard e ∷ past) ∙ untold past e no;
+      told = left_told p.conn kept (Heard e ∷ past) ∙ untold past e plain;
       next = without_one (unfinished now) p.call_no calls;
       nearer = omega (arith, room, left_longer p.conn kept (Heard e ∷ past));
     }
@@ -193,15 +193,15 @@ next_told m next some h = subst (λ (b : Bool). NextOfTold b m next) some h
 body_steps : (past : List Event) (client : ℕ) (p : Permit) (answer : DriverAnswer) (t n : ℕ) (kept : Bool) (then_due : Option DriverCall) (next : Next) (now : List Event) → Sends past client p
     → place past p.conn ≡ Lent t (Call n) → p.call_no ≡ sender past n → is_connect p.call ≡ false → now ≡ after_body p.conn p.call_no kept (Heard (entry_of p answer) ∷ past) then_due
     → NextOfBody p.conn p.call_no then_due next now → length past < most_events → Steps past client (Send p) now next
-body_steps past client p answer t n kept (Some call) next now s at number no is what room =
+body_steps past client p answer t n kept (Some call) next now s at number plain is what room =
     subst (λ (k : List Event). Steps past client (Send p) k next) (sym is)
-    (again past client p answer t n next s at number no (subst (λ (k : List Event). SendsOn p.conn k next) is what) room)
-body_steps past client p answer t n kept None next now s at number no is what room =
+    (again past client p answer t n next s at number plain (subst (λ (k : List Event). SendsOn p.conn k next) is what) room)
+body_steps past client p answer t n kept None next now s at number plain is what room =
     let some = some_number past client p s in
     let left : List Event = left_by p.conn kept (Heard (entry_of p answer) ∷ past) in
     let done : now ≡ told p.call_no left = is ∙ told_some p.call_no left some in
     let reply : next ≡ Reply p.call_no = next_told p.call_no next some what in
-    rw (done, reply) (finished past client p answer kept s no room)
+    rw (done, reply) (finished past client p answer kept s plain room)
 
 -- One driver call of the call that is under way was answered.
 pub sent_steps : (past : List Event) (client : ℕ) (p : Permit) (answer : DriverAnswer) (next : Next) (now : List Event) → Sends past client p → now ≡ after_heard past (entry_of p answer)

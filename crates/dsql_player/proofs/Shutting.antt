@@ -56,7 +56,7 @@ shut_carries past e turn = record {
 
 -- a call that is no Connect is none of the fleet
 pub untold : (past : List Event) (e : Entry) → is_connect e.call ≡ false → fleet_told (Heard e ∷ past) ≡ fleet_told past
-untold past e no = rw no refl
+untold past e plain = rw plain refl
 
 shut_only : (q : DriverCall) → is_shut q ≡ true → is_connect q ≡ false
 shut_only Shut h = refl

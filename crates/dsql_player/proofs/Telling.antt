@@ -1,6 +1,6 @@
 -- What the fleet tells as a history goes on.
 use Rattle.std.proofs.Common.{◌≡◌, ◌≤◌, ℕ, Bool, true, false, List, [], ◌∷◌, ◌++◌, length, Option, Some, None, refl, sym, ◌∙◌, ap, subst, append_assoc, arith}
-use Rattle.std.specs.Prelude.{option_map, is_some, IfSome}
+use Rattle.std.specs.Prelude.{option_map, is_some, IfSome, OnErr, Result, Ok, Err}
 use Rattle.std.proofs.lemmas.List.{append-nil}
 use Rattle.dsql_driver.specs.Fits.{is_memory}
 use Rattle.dsql_driver.specs.Wires.{WireTold, FleetTold, Connected, RetiredWire, with_connects, with_retired, connected_after, retired_after}
@@ -124,3 +124,8 @@ retired_same tells slots t = same_retired tells slots t t (same_both t)
 -- the wires that are left were given back
 pub leaves : (before between after : Option FleetTold) (old new : List Event) → TellsAtMost before between old new → SameAsked between after → LeavesAtMost before after old new
 leaves before between after old new f same = record { more = f.more; few = f.few; asked = λ t h. subst (λ (told : Option FleetTold). SameAsked told after) (f.told t h) same }
+
+-- what holds in any case holds after an error
+pub on_any : {A E : Type 0} (r : Result A E) (P : Type 0) → P → OnErr r P
+on_any (Ok x) P p = tt
+on_any (Err e) P p = p

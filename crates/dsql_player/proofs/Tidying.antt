@@ -129,8 +129,8 @@ body_carries past e t n kept (Some call) legal ended at turn = left_carries past
 body_carries past e t n kept None legal ended at turn = left_carries past e t n kept legal ended at turn
 
 body_told : (past : List Event) (e : Entry) (kept : Bool) (then_due : Option DriverCall) → is_connect e.call ≡ false → fleet_told (after_body e.conn 0 kept (Heard e ∷ past) then_due) ≡ fleet_told past
-body_told past e kept (Some call) no = untold past e no
-body_told past e kept None no = left_told e.conn kept (Heard e ∷ past) ∙ untold past e no
+body_told past e kept (Some call) plain = untold past e plain
+body_told past e kept None plain = left_told e.conn kept (Heard e ∷ past) ∙ untold past e plain
 
 -- One call that tidies up was answered.
 pub record Tidies {W : Type 0} (heard : W → Option WireTold) (past now : List Event) (before after : List (Option (Journaled W))) : Type 0 where
@@ -140,7 +140,7 @@ pub record Tidies {W : Type 0} (heard : W → Option WireTold) (past now : List 
 
 pub tidies : {W : Type 0} (heard : W → Option WireTold) (past : List Event) (p : Permit) (next : Next) (now : List Event) (before after : List (Option (Journaled W))) → Legal past → chore_due past ≡ Some p
     → IsTidying past p.conn p (place past p.conn) → is_connect p.call ≡ false → Asks heard p next past now before after → Tidies heard past now before after
-tidies heard past p next now before after legal chore w no a =
+tidies heard past p next now before after legal chore w plain a =
     let e : Entry = entry_of p a.answer in
     let kept = is_kept_by_rows (Heard e ∷ past) p.conn w.tenure w.number in
     let then_due = due (Heard e ∷ past) p.conn w.tenure w.number in
@@ -148,7 +148,7 @@ tidies heard past p next now before after legal chore w no a =
     subst (λ (k : List Event). Tidies heard past k before after) (sym is)
     (record {
       carries = body_carries past e w.tenure w.number kept then_due legal w.ended w.lent (chore_turn past p a.answer chore);
-      told = body_told past e kept then_due no;
+      told = body_told past e kept then_due plain;
       fits = body_fits heard past e w.tenure w.number 0 kept then_due before after w.lent a.others a.noted;
     })
 

@@ -5,7 +5,7 @@ ghost use Rattle.dsql_driver.specs.declared.caps.Caps.{Caps};
 ghost use Rattle.dsql_history.specs.declared.event.Event.TheVariants.{Run};
 ghost use Rattle.dsql_tenure.specs.Judged.{answered};
 ghost use Rattle.dsql_wire.specs.Journaled.{MayBeSent};
-ghost use Rattle.dsql_player.specs.Told.{SameAsked, retired_from, retired_slot};
+ghost use Rattle.dsql_player.specs.Told.{retired_from, retired_slot};
 ghost use Rattle.dsql_player.specs.WiresFit.{slot, WiresFit, Hears, HearsEntry};
 
 use crate::halt::Halt;
@@ -153,7 +153,6 @@ fn perform_on<W: Wire>(wire: &mut JournaledWire<W>, permit: Permit) -> Result<He
 pub fn retire_all<F: Fleet>(wires: Wires<F::Wire>, fleet: &mut F)
     ensures retired { F.told fleet.new
         ≡ retired_from F.Wire.told (reverse wires) (F.told fleet.old) }
-    ensures asked { SameAsked (F.told fleet.old) (F.told fleet.new) }
     ensures ability { F.ability fleet.new ≡ F.ability fleet.old }
     ensures preferred { F.preferred fleet.new ≡ F.preferred fleet.old }
 {

@@ -11,6 +11,7 @@ returns-in_default g c =
     record {
       first = (refl, no_chore past c.requires.legal due);
       told = tells_none (g.F.Fleet.told c.args.fleet.now) past past refl;
+      asked = tt;
       wires = c.requires.wires;
       err = tt;
       full = λ h. absurd cc;

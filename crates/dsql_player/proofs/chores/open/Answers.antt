@@ -10,7 +10,7 @@ use Rattle.dsql_player.specs.WiresFit.{slot, OpensWire}
 use Rattle.dsql_player.proofs.Awaiting.{chore_opens, connect_of}
 use Rattle.dsql_player.proofs.Opening.{opened, open_is, open_turn, open_carries, open_tells, open_fits, none_before}
 use Rattle.dsql_player.proofs.Permitting.{heard_entry, heard_awaited, first_fits}
-use Rattle.dsql_player.proofs.Telling.{tells_connect, at_most_none, at_most_one}
+use Rattle.dsql_player.proofs.Telling.{tells_connect, at_most_one, on_any}
 use Rattle.dsql_player.proofs.chores.open.Goals as goal
 
 pub connect_wire-requires-clause-empty : goal.connect_wire-requires-clause-empty
@@ -72,3 +72,8 @@ returns-clause-wires g c =
     let telling = returns-clause-told g c in
     rw (telling.telling, is)
     (open_fits g.F.Wire.Wire.told _ past p.conn w.number a c.args.wires.now c.connect_wire.new.wires c.requires.wires w.opens none c.in_ok-heard.ensures.others opens_it)
+
+pub returns-in_err-hear-clause-asked : goal.returns-in_err-hear-clause-asked
+returns-in_err-hear-clause-asked g c =
+    on_any c.from_residual-in_err-hear.result _
+    (rw (c.in_ok-heard.ensures.asked, c.in_err-hear.ensures.err) (at_most_one c.args.permit.conn c.in_ok-heard.heard.answer _ c.args.engine.now c.in_ok-heard.ensures.no_want))
