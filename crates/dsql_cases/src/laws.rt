@@ -33,9 +33,10 @@ pub fn rules_are_computed()
     ensures legal { (history : List Event) → (is_legal history ≡ true) ↔ Legal history }
 {}
 
-/// Whatever happened before, no connection begins to be opened where a thousand are open, and where fewer
-/// are the limit allows it.
+/// At most a thousand connections are open. Whatever happened before, none begins to be opened where a
+/// thousand are open, and where fewer are the limit allows it.
 pub fn a_thousand_may_be_open()
+    ensures most { (history : List Event) → Lawful history → open_count history ≤ 1000 }
     ensures full { (before : List Event) (c n : ℕ) → 1000 ≤ open_count before → is_allowed before (Pool (OpenStart c n)) ≡ false }
     ensures below { (before : List Event) (c n : ℕ) → open_count before < 1000 → keeps_limit before (Pool (OpenStart c n)) ≡ true }
 {}
