@@ -9,7 +9,6 @@ use Rattle.std.specs.Option.{OnSome, IfNone}
 use Rattle.std.specs.Cmp.Lexicographic.{nat_list_cmp_total}
 use Rattle.std.specs.FinMap.Entries.{below_all, is_sorted, is_sorted-put, put, by_order}
 use Rattle.dsql_cancel.specs.declared.token.Token.{Token}
-use Rattle.dsql_cancel.specs.declared.token.Cause.{Cause}
 use Rattle.dsql_cancel.specs.declared.token.Cause.TheVariants.{Canceled, Deadline}
 use Rattle.dsql_cancel.specs.Token.{runs_out, stopped}
 use Rattle.dsql_cancel.specs.Token as one
@@ -55,10 +54,6 @@ none_late_put now name t p (e ∷ es) h =
       | Equal ↦ none_more now (e.0, t) es p parts.1
       | Greater ↦ none_more now e (put byte_order name t es) parts.0 (none_late_put now name t p es parts.1)
     ]
-
--- a token that is cancelled doesn't run out
-pub stopped_late : (now : ℕ) (why : Cause) (t : Token) → runs_out now (stopped why t) ≡ false
-stopped_late now why t = refl
 
 -- a token that has run out at a moment is cancelled from then on
 pub at_moment_late : (now : ℕ) (t : Token) → runs_out now (one.at_moment now t) ≡ false
