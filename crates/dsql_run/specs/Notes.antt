@@ -2,9 +2,7 @@
 use Rattle.std.specs.Prelude.{ℕ, ◌≡◌, ◌==◌, ◌⊎◌, Bool, true, false, List, [], ◌∷◌, ◌++◌, Option, Result, Ok, Err, codes, decimal}
 use Rattle.std.specs.List.{list_any}
 use Rattle.std.specs.Str.{bytes_eq}
-use Rattle.dsql_script.specs.declared.fault.What.TheVariants.{Lines, Args}
-use Rattle.dsql_script.specs.declared.fault.LineFault.{LineFault}
-use Rattle.dsql_script.specs.declared.fault.LineFault.TheVariants as faults
+use Rattle.dsql_script.specs.Faults.{reason_of}
 use Rattle.dsql_run.specs.Report.{with_text, ShowsFront}
 use Rattle.dsql_run.specs.declared.show.ShowFault.{ShowFault}
 use Rattle.dsql_run.specs.declared.show.ShowFault.TheVariants as shows
@@ -16,26 +14,11 @@ abbrev pub is_play : List (List ℕ) → Bool
 is_play (word ∷ []) = bytes_eq word (codes "play")
 is_play _ = false
 
-abbrev pub reason_of : LineFault → List ℕ
-reason_of faults.TooLong = codes "line too long"
-reason_of faults.NotUtf8 = codes "not UTF-8"
-reason_of faults.NoSuchWord = codes "no such word"
-reason_of faults.BadJson = codes "not JSON"
-reason_of faults.BadShape = codes "wrong shape"
-reason_of faults.UnknownLabel = codes "unknown label"
-reason_of faults.LabelTaken = codes "label taken"
-reason_of (faults.TooMany Lines) = codes "too many lines"
-reason_of (faults.TooMany Args) = codes "too many arguments"
-reason_of faults.Memory = codes "out of memory"
-
-abbrev pub refusal_of : ℕ → LineFault → List ℕ
-refusal_of number fault = codes "line " ++ decimal number ++ codes ": " ++ reason_of fault
-
 abbrev pub stop_text : Stop → List ℕ
 stop_text Read = codes "read fault"
 stop_text Write = codes "write fault"
 stop_text Memory = codes "out of memory"
-stop_text (Refused number fault) = refusal_of number fault
+stop_text (Refused number fault) = codes "line " ++ decimal number ++ codes ": " ++ reason_of fault
 stop_text Full = codes "too many events"
 
 -- the line that tells what stopped a run

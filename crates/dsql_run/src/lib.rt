@@ -15,6 +15,7 @@ mod stop;
 mod tests;
 
 pub use laws::{a_status_tells_what_stopped, lines_read_whole_come_first};
+pub use notes::tell;
 pub use playing::play;
 pub use program::sqlrun;
 pub use stop::Stop;

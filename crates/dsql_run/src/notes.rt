@@ -1,69 +1,21 @@
-ghost use Rattle.std.specs.Prelude.{◌≡◌, ◌≤◌, ◌++◌, OnOk, OnErr, IfOk, string_bytes};
+ghost use Rattle.std.specs.Prelude.{◌≡◌, ◌≤◌, OnOk, OnErr, IfOk, string_bytes};
 ghost use Rattle.dsql_driver.specs.Streams.{HasRisen, has_risen};
 ghost use Rattle.dsql_run.specs.Report.{with_text, ShowsFront};
 ghost use Rattle.dsql_run.specs.Headline.{RefusesWords};
-ghost use Rattle.dsql_run.specs.Notes.{refusal_of, stop_text, reason_of, note_of, status_of, failed_status, Tells};
+ghost use Rattle.dsql_run.specs.Notes.{note_of, status_of, failed_status, Tells};
 
 use crate::show::ShowFault;
 use crate::stop::Stop;
 use dsql_driver::Sink;
-use dsql_script::{LineFault, What};
 use dsql_stream::write_whole;
 use dsql_value::Memory;
-use itoa::Buffer;
-use std::alloc::{AllocError, Global};
-
-/// Why a line is refused, in words.
-fn reason(fault: &LineFault) -> &'static str
-    ensures { result.now ≡ reason_of fault.now }
-{
-    match fault {
-        LineFault::TooLong => "line too long",
-        LineFault::NotUtf8 => "not UTF-8",
-        LineFault::NoSuchWord => "no such word",
-        LineFault::BadJson => "not JSON",
-        LineFault::BadShape => "wrong shape",
-        LineFault::UnknownLabel => "unknown label",
-        LineFault::LabelTaken => "label taken",
-        LineFault::TooMany(What::Lines) => "too many lines",
-        LineFault::TooMany(What::Args) => "too many arguments",
-        LineFault::Memory => "out of memory",
-    }
-}
-
-/// What is told of a refused line.
-fn push_refusal(line: &mut String, number: u32, fault: &LineFault) -> Result<(), AllocError>
-    ensures { OnOk result (string_bytes line.new ≡ string_bytes line.old ++ refusal_of number fault.now) }
-{
-    let mut buffer = Buffer::new();
-    line.push_str("line ")?;
-    line.push_str(buffer.format(number))?;
-    line.push_str(": ")?;
-    line.push_str(reason(fault))
-}
-
-/// What is told of a stop.
-fn push_stop(line: &mut String, stop: &Stop) -> Result<(), AllocError>
-    ensures { OnOk result (string_bytes line.new ≡ string_bytes line.old ++ stop_text stop.now) }
-{
-    match stop {
-        Stop::Read => line.push_str("read fault"),
-        Stop::Write => line.push_str("write fault"),
-        Stop::Memory => line.push_str("out of memory"),
-        Stop::Refused { number, fault } => push_refusal(line, *number, fault),
-        Stop::Full => line.push_str("too many events"),
-    }
-}
+use std::alloc::Global;
 
 /// The line that tells a stop.
 fn note(alloc: Global, stop: &Stop) -> Result<String, Memory>
     ensures { IfOk result (λ line. string_bytes line ≡ note_of stop.now) }
 {
-    let mut line = String::new(alloc);
-    line.push_str("sqlrun: ")?;
-    push_stop(&mut line, stop)?;
-    line.push('\n')?;
-    Ok(line)
+    Ok(format!(in alloc; "sqlrun: {stop}\n")?)
 }
 
 /// Writes the line that tells a stop.
@@ -101,8 +53,9 @@ fn failed_status(stop: &Stop, fault: ShowFault) -> u8
     }
 }
 
-/// Tells what stopped a run, if anything did, and says its status.
-pub(crate) fn tell<E: Sink>(alloc: Global, ended: &Result<(), Stop>, notes: &mut E) -> u8
+/// Tells what stopped a run, if anything did, and says its status. Where the notes fail the status is 4,
+/// unless it was 5 or 10, and where there is no memory for the line it is 5.
+pub fn tell<E: Sink>(alloc: Global, ended: &Result<(), Stop>, notes: &mut E) -> u8
     ensures told { Tells ended.now (has_risen (E.faults notes.old) (E.faults notes.new)) (E.written notes.old) (E.written notes.new) result }
     ensures silent { OnOk ended.now (notes.new ≡ notes.old) }
 {

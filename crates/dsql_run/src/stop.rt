@@ -6,22 +6,19 @@ use dsql_player::Halt;
 use dsql_script::LineFault;
 use dsql_stream::ReadFault;
 use dsql_value::Memory;
-use thiserror::Error;
+use std::error::Error;
+use std::fmt;
 
 /// Why a run stops before its script's end.
-#[derive(Clone, Copy, Debug, PartialEq, Eq, Error)]
+#[derive(Clone, Copy, Debug, PartialEq, Eq)]
 pub enum Stop {
     /// The source failed.
-    #[error("read fault")]
     Read,
     /// The sink of the report failed.
-    #[error("write fault")]
     Write,
     /// There was no memory.
-    #[error("out of memory")]
     Memory,
     /// A line of the script is refused. Lines count from 1, skipped ones too.
-    #[error("line {number}: {fault}")]
     Refused {
         /// The line's number.
         number: u32,
@@ -29,9 +26,27 @@ pub enum Stop {
         fault: LineFault,
     },
     /// The run has as many events as a run may have.
-    #[error("too many events")]
     Full,
 }
+
+impl fmt::Display for Stop {
+    ghost use Rattle.std.specs.Prelude.{Some};
+    ghost use Rattle.dsql_run.specs.Notes.{stop_text};
+
+    ghost output = { λ stop. Some (stop_text stop) };
+
+    fn fmt<W: fmt::Write>(&self, f: &mut fmt::Formatter<W>) -> fmt::Result {
+        match self {
+            Stop::Read => write!(f, "read fault"),
+            Stop::Write => write!(f, "write fault"),
+            Stop::Memory => write!(f, "out of memory"),
+            Stop::Refused { number, fault } => write!(f, "line {number}: {fault}"),
+            Stop::Full => write!(f, "too many events"),
+        }
+    }
+}
+
+impl Error for Stop {}
 
 impl From<ReadFault> for Stop {
     ghost use Rattle.dsql_run.specs.Runs.{stop_of_read};

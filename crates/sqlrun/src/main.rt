@@ -4,15 +4,13 @@
 
 use dsql_driver::OpenGate;
 use dsql_mem::MemFleet;
-use dsql_run::sqlrun;
+use dsql_run::{Stop, sqlrun, tell};
 use dsql_stream::{StdClock, StdSink, StdSource};
 use dsql_value::{Memory, Txt};
 use std::env::{self, Env};
 use std::io::ErrorKind;
 use std::process::ExitCode;
-
-/// The status for want of memory before anything is read.
-const OUT_OF_MEMORY: u8 = 5;
+use std::sync::Wait;
 
 /// The words that the program was called with, without its name. Words that aren't UTF-8 are none that
 /// it knows, so they count as no words.
@@ -30,20 +28,26 @@ fn words<R: Env + AllocGlobal>(rt: &R) -> Result<Vec<Txt>, Memory> {
     }
 }
 
+/// What the program needs before anything is read: its words, and a driver in memory.
+fn prepared<R: Env + AllocGlobal + Wait + Clone + Drop + Send>(
+    rt: &R,
+) -> Result<(Vec<Txt>, MemFleet<R>), Memory> {
+    let words = words(rt)?;
+    let fleet = MemFleet::new(rt.clone()?)?;
+    Ok((words, fleet))
+}
+
 fn main(rt: HostRuntime) -> ExitCode {
-    let Ok(words) = words(&rt) else {
-        return ExitCode::from(OUT_OF_MEMORY);
+    let mut notes = StdSink::new(rt.stderr());
+    let (words, mut fleet) = match prepared(&rt) {
+        Ok(prepared) => prepared,
+        Err(Memory) => {
+            let status = tell(rt.alloc(), &Err(Stop::Memory), &mut notes);
+            return ExitCode::from(status);
+        }
     };
-    let Ok(handle) = rt.clone() else {
-        return ExitCode::from(OUT_OF_MEMORY);
-    };
-    let Ok(fleet) = MemFleet::new(handle) else {
-        return ExitCode::from(OUT_OF_MEMORY);
-    };
-    let mut fleet = fleet;
     let mut input = StdSource::new(rt.stdin());
     let mut output = StdSink::new(rt.stdout());
-    let mut notes = StdSink::new(rt.stderr());
     let mut clock = StdClock::new(&rt);
     let status = sqlrun(
         rt.alloc(),
