@@ -71,7 +71,7 @@ KeepsNoHandle c turns = ⊥
 abbrev pub Calls : List Turn → Due → Type 0
 Calls turns due = Contains (map (λ turn. turn.call) turns) due
 
--- what a line has opened for itself it has closed when it is over
+-- when a line is over, the close of what it opened for itself was sent
 pub record ClosesWhatItOpened : Type 0 where
   pub cursors : (c : Course) (can : Caps) (args : ℕ) (found : Found) (turns : List Turn) → EndsWell c can args found turns → reads_one c ≡ true → All (λ turn. (rows : ℕ) → turn.answer ≡ got.Cursor rows → Calls turns (call.CloseRows rows)) turns
   pub handles : (c : Course) (can : Caps) (args : ℕ) (found : Found) (turns : List Turn) → EndsWell c can args found turns → KeepsNoHandle c turns → All (λ turn. (handle : ℕ) (inputs : ℤ) → turn.answer ≡ got.Prepared handle inputs → Calls turns (call.CloseStmt handle)) turns
