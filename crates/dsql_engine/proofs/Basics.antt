@@ -23,6 +23,8 @@ use Rattle.dsql_scan.specs.declared.cell.Cell.TheVariants as cells
 use Rattle.dsql_history.specs.declared.reply.FaultWord.{FaultWord}
 use Rattle.dsql_history.specs.declared.reply.FaultWord.TheVariants as words
 use Rattle.dsql_history.specs.Readers.Calls.{reply_due}
+use Rattle.dsql_cancel.specs.declared.token.Cause.{Cause}
+use Rattle.dsql_cancel.specs.declared.token.Cause.TheVariants as causes
 use Rattle.dsql_rows.specs.declared.end.RowsOver.{RowsOver}
 use Rattle.dsql_rows.specs.declared.end.RowsOver.TheVariants as overs
 use Rattle.dsql_engine.specs.Groups.{told, reply_as}
@@ -32,7 +34,7 @@ use Rattle.dsql_journal.proofs.Conjunctions.{parts5}
 use Rattle.dsql_history.proofs.Rows.{same_to_itself, not_true}
 use Rattle.dsql_history.specs.Rules.Course.{begins_with_run, is_run}
 use Rattle.dsql_history.specs.Rules.Order.{follows, follows_answer}
-use Rattle.dsql_history.specs.Rules.Replies.{same_reply, same_word, same_over, same_columns, has_let_go}
+use Rattle.dsql_history.specs.Rules.Replies.{same_reply, same_word, same_cause, same_over, same_columns, has_let_go}
 use Rattle.dsql_history.specs.declared.reply.Reply.TheVariants as replies
 use Rattle.std.specs.Prelude.{bytes_eq, ℤ}
 use Rattle.std.specs.Ordering.{int_eq}
@@ -123,9 +125,15 @@ word_same words.NotABool = refl
 word_same words.NotUtf8 = refl
 word_same words.Unsupported = refl
 
+cause_same : (cause : Cause) → same_cause cause cause ≡ true
+cause_same causes.Canceled = refl
+cause_same causes.Deadline = refl
+
 over_same : (by : RowsOver) → same_over by by ≡ true
 over_same overs.Close = refl
 over_same overs.EndOfRows = refl
+over_same overs.TxEnded = refl
+over_same (overs.Cancel cause) = cause_same cause
 over_same overs.Failed = refl
 over_same overs.BadConn = refl
 over_same overs.EndOfRun = refl

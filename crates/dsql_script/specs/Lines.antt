@@ -6,8 +6,10 @@ use Rattle.dsql_driver.specs.declared.caps.Caps.{Caps}
 use Rattle.dsql_journal.specs.declared.entry.Owner.{Owner}
 use Rattle.dsql_journal.specs.declared.entry.Owner.TheVariants.{Call, Tx, Pin, House}
 use Rattle.dsql_journal.specs.declared.entry.Entry.{Entry}
+use Rattle.dsql_cancel.specs.declared.token.Cause.{Cause}
+use Rattle.dsql_cancel.specs.declared.token.Cause.TheVariants.{Canceled, Deadline}
 use Rattle.dsql_rows.specs.declared.end.RowsOver.{RowsOver}
-use Rattle.dsql_rows.specs.declared.end.RowsOver.TheVariants.{Close, EndOfRows, Failed, BadConn, EndOfRun}
+use Rattle.dsql_rows.specs.declared.end.RowsOver.TheVariants.{Close, EndOfRows, TxEnded, Cancel, Failed, BadConn, EndOfRun}
 use Rattle.dsql_history.specs.declared.reply.Reply.{Reply}
 use Rattle.dsql_history.specs.declared.reply.Reply.TheVariants as reply
 use Rattle.dsql_history.specs.declared.reply.FaultWord.{FaultWord}
@@ -109,10 +111,17 @@ fault_word Unsupported = codes "unsupported"
 abbrev pub scan_text : ℕ → FaultWord → List ℕ
 scan_text column fault = codes "sql: scan of column " ++ (decimal column ++ (codes ": " ++ fault_word fault))
 
+-- why a token is cancelled
+abbrev pub cancel_word : Cause → List ℕ
+cancel_word Canceled = codes "canceled"
+cancel_word Deadline = codes "deadline"
+
 -- what ended rows
 abbrev pub over_word : RowsOver → List ℕ
 over_word Close = codes "close"
 over_word EndOfRows = codes "end_of_rows"
+over_word TxEnded = codes "tx"
+over_word (Cancel cause) = cancel_word cause
 over_word Failed = codes "failed"
 over_word BadConn = codes "bad"
 over_word EndOfRun = codes "end"

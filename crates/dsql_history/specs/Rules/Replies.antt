@@ -10,6 +10,8 @@ use Rattle.dsql_history.specs.declared.reply.Reply.TheVariants.{Result, Rows, Tr
 use Rattle.dsql_history.specs.declared.reply.FaultWord.{FaultWord}
 use Rattle.dsql_history.specs.declared.reply.FaultWord.TheVariants.{FromNull, NotANumber, OutOfRange, NotABool, NotUtf8, Unsupported}
 use Rattle.dsql_history.specs.Same.{same_truth, same_cells}
+use Rattle.dsql_cancel.specs.declared.token.Cause.{Cause}
+use Rattle.dsql_cancel.specs.declared.token.Cause.TheVariants.{Canceled, Deadline}
 use Rattle.dsql_rows.specs.declared.end.RowsOver.{RowsOver}
 use Rattle.dsql_rows.specs.declared.end.RowsOver.TheVariants as overs
 use Rattle.dsql_history.specs.declared.record.Place.{Place}
@@ -28,9 +30,16 @@ same_word NotUtf8 NotUtf8 = true
 same_word Unsupported Unsupported = true
 same_word _ _ = false
 
+abbrev pub same_cause : Cause → Cause → Bool
+same_cause Canceled Canceled = true
+same_cause Deadline Deadline = true
+same_cause _ _ = false
+
 abbrev pub same_over : RowsOver → RowsOver → Bool
 same_over overs.Close overs.Close = true
 same_over overs.EndOfRows overs.EndOfRows = true
+same_over overs.TxEnded overs.TxEnded = true
+same_over (overs.Cancel cause) (overs.Cancel other) = same_cause cause other
 same_over overs.Failed overs.Failed = true
 same_over overs.BadConn overs.BadConn = true
 same_over overs.EndOfRun overs.EndOfRun = true

@@ -3,13 +3,13 @@ ghost use Rattle.std.specs.Prelude.{◌≡◌, [], ◌∷◌, codes, string_byte
 ghost use Rattle.json.specs.Token.{begin_array, end_array, string as text_token};
 ghost use Rattle.serde_json.specs.Data.{string};
 ghost use Rattle.dsql_script.specs.LineValues.{worded, natural, texts_data, cells_data};
-ghost use Rattle.dsql_script.specs.Lines.{num_args_text, dest_count_text, fault_word, scan_text, over_word, reply_data};
+ghost use Rattle.dsql_script.specs.Lines.{num_args_text, dest_count_text, fault_word, scan_text, cancel_word, over_word, reply_data};
 ghost use Rattle.dsql_script.specs.Spelling.{Adds, Spells};
 
 use crate::line::parts::{begin, write_integer, write_natural, write_word};
 use crate::line::values::{write_cells, write_texts};
 use dsql_history::{FaultWord, MAX_OPEN, Reply};
-use dsql_rows::RowsOver;
+use dsql_rows::{Cause, RowsOver};
 use dsql_scan::Cell;
 use dsql_value::Txt;
 use json::Writer;
@@ -180,6 +180,16 @@ fn write_absent(json: &mut Writer, label: &str) -> Result<(), AllocError>
     write_error_of(json, "absent", label, "sql: no value has this label")
 }
 
+/// The word for why a token is cancelled.
+fn cancel_word(cause: Cause) -> &'static str
+    ensures { result.now ≡ cancel_word cause }
+{
+    match cause {
+        Cause::Canceled => "canceled",
+        Cause::Deadline => "deadline",
+    }
+}
+
 /// The word for what ended rows.
 fn over_word(over: RowsOver) -> &'static str
     ensures { result.now ≡ over_word over }
@@ -187,6 +197,8 @@ fn over_word(over: RowsOver) -> &'static str
     match over {
         RowsOver::Close => "close",
         RowsOver::EndOfRows => "end_of_rows",
+        RowsOver::TxEnded => "tx",
+        RowsOver::Cancel(cause) => cancel_word(cause),
         RowsOver::Failed => "failed",
         RowsOver::BadConn => "bad",
         RowsOver::EndOfRun => "end",

@@ -2,7 +2,7 @@ use crate::line::event_line;
 use dsql_driver::{DriverAnswer, DriverCall, Input, Level};
 use dsql_history::{Event, FaultWord, Move, Op, Reply};
 use dsql_journal::{Entry, Owner};
-use dsql_rows::RowsOver;
+use dsql_rows::{Cause, RowsOver};
 use dsql_scan::{Cell, Dest};
 use dsql_value::{Arg, Bin, Items, Named, Param, Txt, Value};
 use std::alloc::Global;
@@ -292,6 +292,9 @@ fn shows_errors_of_rows(rt: HostRuntime) -> Result<(), Fail> {
     for (over, word) in [
         (RowsOver::Close, "close"),
         (RowsOver::EndOfRows, "end_of_rows"),
+        (RowsOver::TxEnded, "tx"),
+        (RowsOver::Cancel(Cause::Canceled), "canceled"),
+        (RowsOver::Cancel(Cause::Deadline), "deadline"),
         (RowsOver::Failed, "failed"),
         (RowsOver::BadConn, "bad"),
         (RowsOver::EndOfRun, "end"),
