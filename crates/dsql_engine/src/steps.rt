@@ -275,7 +275,7 @@ impl Desk {
         requires awaited { awaited (past self.old) entry.conn ≡ Some (permit_of entry) }
         requires fits { fits_at_its_place (journal (past self.old) entry.conn) entry ≡ true }
         requires ready { IsReadyFor (past self.old) entry ready }
-        requires few { length (past self.old) < 4000000 }
+        requires few { length (past self.old) < most_events }
         requires paid { 4 ≤ self.old.paid }
         ensures stands { Stands self.new }
         ensures settled { Settled (past self.new) }
