@@ -2,11 +2,12 @@
 use Rattle.std.proofs.Common.{◌≡◌, ◌⊎◌, Bool, true, false, List, [], ◌∷◌, Option, refl, sym, ◌∙◌, ap, subst, inl, inr, arith}
 use Rattle.std.specs.Prelude.{Result, Ok, Err, option_map}
 use Rattle.dsql_driver.specs.declared.caps.Caps.{Caps}
-use Rattle.dsql_driver.specs.Wires.{FleetTold, with_connects}
+use Rattle.dsql_driver.specs.Wires.{FleetTold, WireTold}
 use Rattle.dsql_history.specs.declared.event.Event.{Event}
 use Rattle.dsql_history.specs.declared.event.Event.TheVariants.{Run}
-use Rattle.dsql_player.specs.Told.{with_told, TellsAtMost, LeavesAtMost, AsksAtMost, SameAsked}
-use Rattle.dsql_player.proofs.Telling.{no_more, same_both, leaves}
+use Rattle.dsql_wire.specs.Journaled.{Journaled}
+use Rattle.dsql_player.specs.Told.{with_told, TellsAtMost, LeavesAtMost, AsksAtMost, SameAsked, retired_from}
+use Rattle.dsql_player.proofs.Telling.{no_more, same_both, leaves, retired_same}
 use Rattle.dsql_run.specs.Runs.{ran_out, no_read_failed, no_write_failed, is_read_fault, is_write_fault, Finishes}
 use Rattle.dsql_run.specs.declared.stop.Stop.{Stop}
 use Rattle.dsql_run.specs.declared.stop.Stop.TheVariants.{Read, Write, Memory, Refused, Full}
@@ -24,6 +25,20 @@ asks_of_told before after past is = record {
 
 leaves_since : (before mid after : Option FleetTold) (rest past : List Event) → mid ≡ with_told before rest → LeavesAtMost mid after rest past → AsksAtMost before after past
 leaves_since before mid after rest past is l = record { more = l.more; few = l.few; asked = l.asked before is }
+
+-- a run that told exactly of its history told at most of it
+pub told_at_most : (before after : Option FleetTold) (caps : Caps) (old past : List Event) → old ≡ Run 1 caps ∷ [] → after ≡ with_told before past → TellsAtMost before after old past
+told_at_most before after caps old past begun is = record {
+  more = [];
+  few = omega arith;
+  told = λ t h. is
+      ∙ ap (λ k. with_told k past) (h ∙ subst (λ (start : List Event). with_told t start ≡ t) (sym begun) (none_told t caps))
+      ∙ no_more (with_told t past);
+}
+
+-- the wires that are left are given back, and nothing more is asked for
+pub given_back : {W : Type 0} (tells : W → Option WireTold) (slots : List (Option (Journaled W))) (before after : Option FleetTold) → after ≡ retired_from tells slots before → SameAsked before after
+given_back tells slots before after is = subst (λ (told : Option FleetTold). SameAsked before told) (sym is) (retired_same tells slots before)
 
 -- what the lines were played with, and what became of it at the end
 pub record Asked (played ended : Result (Unit {0}) Stop) (before mid after : Option FleetTold) (caps : Caps) (rest past : List Event) : Type 0 where

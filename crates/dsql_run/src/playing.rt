@@ -1,4 +1,4 @@
-ghost use Rattle.std.specs.Prelude.{◌≡◌, ◌≤◌, ◌||◌, ◌⊎◌, ℕ, Bool, List, [], ◌∷◌, Option, true, false, length, OnOk, IfOk, IfErr, IfSome, is_some};
+ghost use Rattle.std.specs.Prelude.{◌≡◌, ◌≤◌, ◌||◌, ◌⊎◌, ℕ, Bool, List, [], ◌∷◌, Option, true, false, length, OnOk, OnErr, IfOk, IfErr, IfSome, is_some};
 ghost use Rattle.dsql_driver.specs.declared.caps.Caps.{Caps};
 ghost use Rattle.dsql_driver.specs.Streams.{HasRisen, has_risen};
 ghost use Rattle.dsql_driver.specs.Wires.{FleetTold};

@@ -6,6 +6,7 @@ use Rattle.dsql_script.specs.Lines.{text_of}
 use Rattle.dsql_run.specs.Report.{with_text}
 use Rattle.dsql_run.specs.Reading.{is_body}
 use Rattle.dsql_run.specs.Runs.{saying, stop_of_show}
+use Rattle.dsql_run.proofs.Asking.{told_at_most}
 use Rattle.dsql_run.proofs.Errors.{err_is}
 use Rattle.dsql_run.proofs.Heading.{fewer, read_of_first, some_of, always_headed}
 use Rattle.dsql_run.proofs.Running.{no_text, line_stops, carried_out, first_none, show_stops, wrote_at_rest, wrote_cut, begun_cut, all_shown}
@@ -93,8 +94,8 @@ loop-next-preserved g c =
       shown = c.in_ok-play_line.ensures.shown;
       written = λ w start. all_shown w (g.K.Sink.written c.play_line.new.output) c.play_line.new.shown c.play_line.new.engine c.in_ok-play_line.ensures.shown
           (c.in_ok-play_line.ensures.wrote w (c.loop-next.invariant.written w start));
-      reads = c.next.ensures.faultless refl ∙ c.loop-next.invariant.reads;
-      writes = c.play_line.ensures.faultless refl ∙ c.loop-next.invariant.writes;
+      reads = c.in_ok-next-2.ensures.faultless refl ∙ c.loop-next.invariant.reads;
+      writes = c.in_ok-play_line.ensures.faultless refl ∙ c.loop-next.invariant.writes;
       extends = extends_then c.args.engine.now c.loop-next.engine c.play_line.new.engine c.loop-next.invariant.extends c.play_line.ensures.extends;
       ability = c.play_line.ensures.ability ∙ c.loop-next.invariant.ability;
       preferred = c.play_line.ensures.preferred ∙ c.loop-next.invariant.preferred;
@@ -104,3 +105,12 @@ pub returns-clause-wrote : goal.returns-clause-wrote
 returns-clause-wrote g c =
     let start : g.K.Sink.written c.show.new.output ≡ with_text (g.K.Sink.written c.args.output.now) (text_of c.args.engine.now) = c.in_ok-show.ensures.shows (g.K.Sink.written c.args.output.now) (rw c.requires.shown (sym (no_text (g.K.Sink.written c.args.output.now)))) in
     wrote_at_rest (Ok tt) (g.K.Sink.written c.args.output.now) (g.K.Sink.written c.loop-next.output) c.loop-next.shown c.loop-next.engine c.loop-next.invariant.shown (c.loop-next.invariant.written (g.K.Sink.written c.args.output.now) start)
+
+pub returns-in_err-next-2-clause-asked : goal.returns-in_err-next-2-clause-asked
+returns-in_err-next-2-clause-asked g c =
+    told_at_most (g.F.Fleet.told c.args.fleet.now) (g.F.Fleet.told c.play_line.new.fleet) (g.F.Fleet.ability c.args.fleet.now) c.args.engine.now c.play_line.new.engine c.requires.begun
+    (c.in_ok-play_line.ensures.told refl (g.F.Fleet.told c.args.fleet.now) c.loop-next.invariant.told)
+
+pub returns-clause-asked : goal.returns-clause-asked
+returns-clause-asked g c =
+    told_at_most (g.F.Fleet.told c.args.fleet.now) (g.F.Fleet.told c.loop-next.fleet) (g.F.Fleet.ability c.args.fleet.now) c.args.engine.now c.loop-next.engine c.requires.begun c.loop-next.invariant.told

@@ -1,4 +1,4 @@
-use Rattle.std.proofs.Common.{◌≤◌, ◌-◌, ℕ, List, Option, length}
+use Rattle.std.proofs.Common.{◌≡◌, ◌≤◌, ◌-◌, ℕ, List, Option, length}
 use Rattle.std.specs.Prelude.{reverse}
 use Rattle.dsql_run.specs.Report.{Shows}
 use Rattle.dsql_run.proofs.show.show_events.Given as goal
