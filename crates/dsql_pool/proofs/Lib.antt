@@ -11,6 +11,7 @@ pub mod Placed
 pub mod Returning
 pub mod Resting
 pub mod Rows
+pub mod Served
 pub mod Settling
 pub mod Stepping
 pub mod Young

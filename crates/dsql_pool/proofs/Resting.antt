@@ -73,7 +73,7 @@ takes_some r p h = second (not r.last) (is_empty p.idle) h
     second true false h = refl
     second false b h = cc
 
-full_where_none_opens : (p : Pooled) → are_too_many p ≡ false → may_open p ≡ false → nat_le (room p) (open_count p) ≡ true
+pub full_where_none_opens : (p : Pooled) → are_too_many p ≡ false → may_open p ≡ false → nat_le (room p) (open_count p) ≡ true
 full_where_none_opens p few may = grind (arith, nat_tests, few, may)
 
 -- an opening begins for a request

@@ -1,10 +1,28 @@
 //! Laws of the pool: each law is the contract of a function that does nothing.
-ghost use Rattle.dsql_pool.specs.Laws.{OpensWithinRoom, RestsAfterEachCall};
+ghost use Rattle.dsql_pool.specs.Laws.{FiguresCountTheMoves, OpensWithinRoom, RestsAfterEachCall, ServesTheOldest, WaitsOnlyAtTheLimit};
 
 /// Just after an opening at most as many connections are open as the open limit and the thousand allow.
 #[tactic(auto, using(crate::proofs::Lawful::opens_within_room))]
 pub fn openings_stay_within_the_room()
     ensures { OpensWithinRoom }
+{}
+
+/// A request waits only where it may take no idle connection and there is no room.
+#[tactic(auto, using(crate::proofs::Served::waits_only_at_the_limit))]
+pub fn a_request_waits_only_at_the_limit()
+    ensures { WaitsOnlyAtTheLimit }
+{}
+
+/// Who came first is served first.
+#[tactic(auto, using(crate::proofs::Served::serves_the_oldest))]
+pub fn the_oldest_is_served_first()
+    ensures { ServesTheOldest }
+{}
+
+/// What `stats` counts is what the moves say.
+#[tactic(auto, using(crate::proofs::Served::figures_count_the_moves))]
+pub fn the_figures_count_the_moves()
+    ensures { FiguresCountTheMoves }
 {}
 
 /// The pool is at rest after every call.

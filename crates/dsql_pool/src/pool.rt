@@ -132,6 +132,13 @@ impl Pool {
         self.conns.drawn()
     }
 
+    /// The present moment, in nanoseconds.
+    pub fn moment(&self) -> u64
+        ensures { result ≡ self.now.pooled.moment }
+    {
+        self.moment
+    }
+
     /// Where a connection stands, if it is open.
     pub fn place(&self, conn: u32) -> Option<Place>
         ensures { result ≡ place_at self.now.pooled conn }

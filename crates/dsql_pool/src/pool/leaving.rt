@@ -15,8 +15,8 @@ impl Pool {
     ghost use Rattle.dsql_pool.specs.Decisions.{closings_of_close};
     ghost use Rattle.dsql_pool.specs.Calls.{wants, moves_closed};
 
-    // A call waits, or a connection is being opened for it.
-    fn wants(&self, call: u32) -> bool
+    /// A call waits, or a connection is being opened for it.
+    pub fn wants(&self, call: u32) -> bool
         ensures { result ≡ wants call self.now.pooled }
     {
         self.waiting.waits(call) || self.conns.opens_for(call)
