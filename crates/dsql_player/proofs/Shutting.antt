@@ -1,5 +1,5 @@
 -- A connection is shut and gone, and its wire goes back.
-use Rattle.std.proofs.Common.{inr, ◌≡◌, ◌≢◌, ℕ, Bool, true, false, List, [], ◌∷◌, ◌++◌, Option, Some, None, refl, sym, ◌∙◌, ap, subst, get_or, set, zero, suc, arith}
+use Rattle.std.proofs.Common.{inr, ◌≡◌, ◌≢◌, ℕ, Bool, true, false, List, [], ◌∷◌, Option, Some, None, refl, sym, ◌∙◌, ap, subst, get_or, set, zero, suc, arith}
 use Rattle.dsql_driver.specs.Wires.{WireTold, with_retired}
 use Rattle.dsql_driver.specs.declared.call.DriverCall.{DriverCall}
 use Rattle.dsql_driver.specs.declared.call.DriverCall.TheVariants.{Shut}

@@ -1,9 +1,9 @@
 -- What the fleet tells as a history goes on.
-use Rattle.std.proofs.Common.{◌≡◌, ◌≤◌, ℕ, Bool, true, false, List, [], ◌∷◌, ◌++◌, length, Option, Some, None, refl, sym, ◌∙◌, ap, subst, append_assoc, arith}
+use Rattle.std.proofs.Common.{◌≡◌, ℕ, Bool, true, false, List, [], ◌∷◌, ◌++◌, length, Option, Some, None, refl, sym, ◌∙◌, ap, subst, append_assoc, arith}
 use Rattle.std.specs.Prelude.{option_map, is_some, IfSome, OnErr, Result, Ok, Err}
 use Rattle.std.proofs.lemmas.List.{append-nil}
 use Rattle.dsql_driver.specs.Fits.{is_memory}
-use Rattle.dsql_driver.specs.Wires.{WireTold, FleetTold, Connected, RetiredWire, with_connects, with_retired, connected_after, retired_after}
+use Rattle.dsql_driver.specs.Wires.{WireTold, FleetTold, RetiredWire, with_connects, with_retired, connected_after, retired_after}
 use Rattle.dsql_driver.specs.declared.answer.DriverAnswer.{DriverAnswer}
 use Rattle.dsql_driver.specs.declared.answer.DriverAnswer.TheVariants.{Memory}
 use Rattle.dsql_history.specs.declared.event.Event.{Event}
