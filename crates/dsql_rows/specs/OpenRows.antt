@@ -1,5 +1,5 @@
 -- Rows that were made, by their numbers.
-use Rattle.std.specs.Prelude.{◌≡◌, ◌≢◌, ℕ, Bool, true, false, if◌then◌else◌, List, Option, Some, None, is_none, is_some, Result, Ok, Err, MatchResult}
+use Rattle.std.specs.Prelude.{◌≡◌, ◌≢◌, ℕ, ◌==◌, Bool, true, false, if◌then◌else◌, List, length, Option, Some, None, is_none, Result, Ok, Err, MatchResult}
 use Rattle.dsql_value.specs.declared.value.Value.{Value}
 use Rattle.dsql_scan.specs.declared.cell.Cell.{Cell}
 use Rattle.dsql_scan.specs.declared.dest.Dest.{Dest}
@@ -60,15 +60,20 @@ answer_of dests None current = current_in dests current
 abbrev pub scan_of : Rows → List Dest → Scanned
 scan_of rows dests = answer_of dests rows.ended rows.current
 
--- they are live, and have a current row
-abbrev pub is_readable : Rows → Bool
-is_readable rows = if is_live rows then is_some rows.current else false
+-- there is a current row with as many values as there are destinations
+abbrev pub fits : List Dest → Option (List Value) → Bool
+fits dests None = false
+fits dests (Some values) = length values == length dests
 
--- a result is that answer, or there was no memory to scan a current row
+-- they are live, and their current row has a value for each destination
+abbrev pub is_readable : List Dest → Rows → Bool
+is_readable dests rows = if is_live rows then fits dests rows.current else false
+
+-- a result is that answer, or there was no memory to scan a current row of so many values
 abbrev pub IsScan : Scanned → Rows → List Dest → Type 0
 IsScan result rows dests =
     MatchResult result (λ cells. scan_of rows dests ≡ Ok cells)
-    (λ why. (why ≢ fault.Memory → scan_of rows dests ≡ Err why) × (why ≡ fault.Memory → is_readable rows ≡ true))
+    (λ why. (why ≢ fault.Memory → scan_of rows dests ≡ Err why) × (why ≡ fault.Memory → is_readable dests rows ≡ true))
 
 -- the rows by their numbers, in the order in which they were made, and for how many calls there is memory
 pub record OpenRows : Type 0 where
