@@ -12,7 +12,7 @@ ghost use Rattle.dsql_history.specs.declared.event.Op.TheVariants as ops;
 
 use crate::desk::Desk;
 use crate::next::NoRoom;
-use crate::queries::row_fault;
+use crate::replies::row_fault;
 use crate::statement::{CallStart, Entering, Statement, Then, asking};
 use dsql_history::{Aim, Op, Reply, Work};
 use dsql_rows::{RowsEnd, RowsFault};

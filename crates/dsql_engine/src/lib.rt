@@ -5,10 +5,13 @@
 mod desk;
 mod engine;
 mod entering;
+mod entries;
 mod next;
 mod queries;
 mod ready;
+mod replies;
 mod room;
+mod sending;
 mod start;
 mod statement;
 mod steps;

@@ -1,9 +1,9 @@
 //! Questions to the tables, each answered in a reader's word.
-ghost use Rattle.std.specs.Prelude.{◌≡◌, ◌≢◌, ◌||◌, ◌+◌, ◌^◌, ◌<◌, ◌≤◌, ◌∷◌, [], Some, None, is_some, Err, Option, List, length, nat_lt, slice_index_or, IfOk, OnOk, OnErr, position, find, cond, true, ℕ};
-ghost use Rattle.dsql_engine.specs.Statements.{statement_of};
+ghost use Rattle.std.specs.Prelude.{◌≡◌, ◌+◌, ◌<◌, Some, None, is_some, Option, List, length, nat_lt, slice_index_or, IfOk, position, find, cond, true};
+ghost use Rattle.dsql_engine.specs.Statements.{asked_of, statement_of};
 ghost use Rattle.dsql_history.specs.Readers.Course.{caps, has_ended};
-ghost use Rattle.dsql_history.specs.Readers.Sets.{place, number_of, places, idle, open_count, next_number, next_tenure, uses};
-ghost use Rattle.dsql_history.specs.Readers.Calls.{home, next_call, worker, sender, reply_due, reply_to, fetch_decision, query_decision, told_row, word_of};
+ghost use Rattle.dsql_history.specs.Readers.Sets.{place, places, idle, open_count, next_number, next_tenure, uses, is_open as is_open_place, is_closing as is_closing_place, is_opening as is_opening_place};
+ghost use Rattle.dsql_history.specs.Readers.Calls.{nobody, home, next_call, worker, sender, reply_due, fetch_decision, query_decision};
 ghost use Rattle.dsql_history.specs.Rules.Limit.{room};
 ghost use Rattle.dsql_history.specs.Readers.Unfinished.{unfinished, is_unfinished};
 ghost use Rattle.dsql_history.specs.Readers.Works.{work, works_on};
@@ -11,30 +11,28 @@ ghost use Rattle.dsql_history.specs.declared.work.Work.TheVariants.{Look};
 ghost use Rattle.dsql_history.specs.declared.reply.Reply as reply;
 ghost use Rattle.dsql_value.specs.declared.value.Param.{Param};
 ghost use Rattle.dsql_driver.specs.declared.call.Input.{Input};
-ghost use Rattle.dsql_history.specs.Rules.Line.{is_reset_due, body_after, course_of, run_for, sent_as, test_of, aim_of, handed, keeps_rows, wish, wish_of};
+ghost use Rattle.dsql_history.specs.Rules.Line.{is_reset_due, body_after, aim_of, keeps_rows, wish, wish_of};
 ghost use Rattle.dsql_engine.specs.Made.{made};
-ghost use Rattle.dsql_engine.specs.Statements.{asked_of};
 ghost use Rattle.dsql_driver.specs.declared.call.DriverCall.TheVariants.{Reset, Next, Query};
-ghost use Rattle.dsql_scan.specs.Rows.{row_of};
 ghost use Rattle.dsql_history.specs.Rules.House.{tidy_due, is_untidy, shut_due, connect_due};
 ghost use Rattle.dsql_history.specs.Rules.Causes.{cause_when};
-ghost use Rattle.dsql_driver.specs.Fits.{is_invalid, is_done};
-ghost use Rattle.dsql_journal.specs.Kinds.{is_bad, is_valid};
 ghost use Rattle.dsql_engine.specs.Desk.{past, Stands};
 ghost use Rattle.dsql_engine.specs.Groups.{call_of, most_within_a_step};
 ghost use Rattle.dsql_engine.specs.Awaited.{awaited, shut_permit, connect_permit};
 ghost use Rattle.dsql_history.specs.Rules.Settled.{Settled};
 ghost use Rattle.dsql_engine.specs.Latest.{latest, oldest};
+ghost use Rattle.dsql_history.specs.declared.record.CallRecord.{CallRecord};
 
 use crate::desk::Desk;
 use crate::next::NoRoom;
+use crate::replies::{fetch_decision, query_decision};
+use crate::sending::{aim_of, body_after, keeps_rows, wish_of};
 use crate::statement::Statement;
-use dsql_course::{Course, Due, Progress, Wish};
-use dsql_driver::{Caps, DriverAnswer, DriverCall, Input};
-use dsql_history::{Aim, CloseCause, FaultWord, MAX_IDLE, MAX_OPEN, Place, Reply, Work};
+use dsql_course::{Progress, Wish};
+use dsql_driver::{Caps, DriverCall, Input};
+use dsql_history::{Aim, CallRecord, CloseCause, MAX_IDLE, MAX_OPEN, Place, Reply, Work};
 use dsql_journal::{Entry, Owner, Permit};
-use dsql_scan::{Dest, RowFault, ScanFault, scan_row};
-use dsql_value::{Items, Memory, Params, Txt, Value};
+use dsql_value::{Items, Memory, Txt};
 use std::alloc::Global;
 
 #[tactic(auto, unfolding(crate::specs::Desk::Stands))]
@@ -408,13 +406,6 @@ impl Desk {
     }
 }
 
-ghost use Rattle.std.specs.Prelude.{ℕ};
-ghost use Rattle.dsql_history.specs.Readers.Calls.{nobody};
-ghost use Rattle.dsql_history.specs.Readers.Sets.{is_open as is_open_place, is_closing as is_closing_place, is_opening as is_opening_place};
-ghost use Rattle.dsql_history.specs.declared.record.CallRecord.{CallRecord};
-
-use dsql_history::CallRecord;
-
 fn client_of(calls: &Vec<CallRecord>, n: u32) -> u8
     ensures { result ≡ (slice_index_or calls.now.items n nobody).client }
 {
@@ -451,28 +442,6 @@ fn is_opening(place: Place) -> bool
     matches!(place, Place::Opening(_))
 }
 
-/// The test of a connection, where the driver has one.
-fn test_of(caps: Caps) -> Option<DriverCall>
-    ensures { result ≡ test_of caps }
-{
-    if caps.validator {
-        Some(DriverCall::Valid)
-    } else {
-        None
-    }
-}
-
-/// What becomes of the text of a call that has this to do.
-fn aim_of(work: &Work) -> Aim
-    ensures { result ≡ aim_of work.now }
-{
-    match work {
-        Work::ReadOne(_) => Aim::ReadOne,
-        Work::HandOut(_) => Aim::HandOut,
-        _ => Aim::Execute,
-    }
-}
-
 /// Whether call m works on the rows of call n.
 fn works_on(works: &Vec<Work>, n: u32, m: u32) -> bool
     ensures { result ≡ works_on n (slice_index_or works.now.items m Look) }
@@ -480,217 +449,5 @@ fn works_on(works: &Vec<Work>, n: u32, m: u32) -> bool
     match works.get(m as usize) {
         Some(Work::Fetch(k) | Work::Close(k)) => *k == n,
         _ => false,
-    }
-}
-
-/// What the call that sends wants of rows.
-fn wish_of(ended: bool, work: &Work, decided: bool) -> Wish
-    ensures { (reply : Option reply.Reply) → decided ≡ is_some reply → result ≡ wish_of ended work.now reply }
-{
-    match work {
-        _ if ended => Wish::Close,
-        Work::Close(_) if !decided => Wish::Close,
-        Work::Fetch(_) if !decided => Wish::Fetch,
-        _ => Wish::Nothing,
-    }
-}
-
-/// The course of a call.
-fn course_of(aim: Aim) -> Course
-    ensures { result ≡ course_of aim }
-{
-    match aim {
-        Aim::Execute => Course::Exec,
-        Aim::ReadOne => Course::One,
-        Aim::HandOut => Course::Query,
-    }
-}
-
-/// The run of a text or a handle.
-fn run_of(aim: Aim, input: Input, params: Params) -> DriverCall
-    ensures { result ≡ run_for aim input params }
-{
-    match aim {
-        Aim::Execute => DriverCall::Exec(input, params),
-        Aim::ReadOne | Aim::HandOut => DriverCall::Query(input, params),
-    }
-}
-
-/// The driver call that a call of a statement's course is. At the end of the course the connection is tested.
-fn sent_as(caps: Caps, statement: Statement, due: Due) -> Option<DriverCall>
-    ensures { result ≡ sent_as caps (asked_of statement) due }
-{
-    let Statement { text, params, aim } = statement;
-    match due {
-        Due::Text => Some(run_of(aim, Input::Text(text), params)),
-        Due::Prepare => Some(DriverCall::Prepare(text)),
-        Due::Handle(handle) => Some(run_of(aim, Input::Handle(handle), params)),
-        Due::Next(rows) => Some(DriverCall::Next(rows)),
-        Due::CloseRows(rows) => Some(DriverCall::CloseRows(rows)),
-        Due::CloseStmt(handle) => Some(DriverCall::CloseStmt(handle)),
-        _ => test_of(caps),
-    }
-}
-
-/// The cursor of rows that are handed out.
-fn handed(aim: Aim, made: &Progress) -> Option<u32>
-    ensures { result ≡ handed aim made.now }
-{
-    match aim {
-        Aim::HandOut => made.own_cursor(),
-        _ => None,
-    }
-}
-
-/// What is sent next for a statement, and once it has handed out rows over them.
-fn body_after(caps: Caps, statement: Statement, wish: Wish, made: &Progress) -> Option<DriverCall>
-    ensures { result ≡ body_after caps (asked_of statement) wish made.now }
-{
-    let count = statement.params.as_slice().len();
-    match handed(statement.aim, made) {
-        Some(rows) => {
-            let due = made.next_over_rows(wish, caps, count, rows)?;
-            sent_as(caps, statement, due)
-        }
-        None => {
-            let due = made.next(course_of(statement.aim), caps, count, false, false);
-            sent_as(caps, statement, due)
-        }
-    }
-}
-
-/// Whether rows that were handed out keep their connection.
-fn keeps_rows(aim: Aim, wish: Wish, made: &Progress) -> bool
-    ensures { result ≡ keeps_rows aim wish made.now }
-{
-    match handed(aim, made) {
-        Some(_) => !made.rows_are_over() && !matches!(wish, Wish::Close),
-        None => false,
-    }
-}
-
-/// The word of a fault of scanning, if it isn't want of memory.
-fn word_of(fault: ScanFault) -> Option<FaultWord>
-    ensures { result ≡ word_of fault }
-{
-    match fault {
-        ScanFault::FromNull(_) => Some(FaultWord::FromNull),
-        ScanFault::NotANumber => Some(FaultWord::NotANumber),
-        ScanFault::OutOfRange => Some(FaultWord::OutOfRange),
-        ScanFault::NotABool => Some(FaultWord::NotABool),
-        ScanFault::NotUtf8 => Some(FaultWord::NotUtf8),
-        ScanFault::Unsupported { .. } => Some(FaultWord::Unsupported),
-        ScanFault::Memory => None,
-    }
-}
-
-/// What a fetch decides for a call that has this to do.
-fn fetch_decision(
-    alloc: Global,
-    work: &Work,
-    answer: &DriverAnswer,
-) -> Result<Option<Reply>, NoRoom>
-    ensures { IfOk result (λ reply. reply ≡ fetch_decision work.now answer.now) }
-{
-    match (work, answer) {
-        (Work::ReadOne(dests), DriverAnswer::Row(values)) => {
-            row_reply(alloc, values.as_slice(), dests.as_slice())
-        }
-        (Work::Fetch(_), answer) => Ok(Some(Reply::Truth(matches!(answer, DriverAnswer::Row(_))))),
-        (_, DriverAnswer::End) => Ok(Some(Reply::NoRows)),
-        (_, answer) => reply_to(answer),
-    }
-}
-
-/// What the answer to a Query decides for a call that has this to do.
-fn query_decision(work: &Work, answer: &DriverAnswer) -> Result<Option<Reply>, NoRoom>
-    ensures { IfOk result (λ reply. reply ≡ query_decision work.now answer.now) }
-{
-    match (work, answer) {
-        (Work::HandOut(_), DriverAnswer::Cursor { columns, .. }) => {
-            Ok(Some(Reply::Rows(columns.clone()?)))
-        }
-        (_, answer) => reply_to(answer),
-    }
-}
-
-/// The reply that a deciding answer gives.
-fn reply_to(answer: &DriverAnswer) -> Result<Option<Reply>, NoRoom>
-    ensures { IfOk result (λ reply. reply ≡ reply_to answer.now) }
-{
-    match answer {
-        DriverAnswer::Result { last, affected } => Ok(Some(Reply::Result {
-            last: *last,
-            affected: *affected,
-        })),
-        DriverAnswer::Fail(text) => Ok(Some(Reply::Driver(text.copy()?))),
-        DriverAnswer::Bad => Ok(Some(Reply::BadConn(1))),
-        _ => Ok(None),
-    }
-}
-
-/// What the values of a row decide for a call with these destinations.
-pub fn row_reply(alloc: Global, values: &[Value], dests: &[Dest]) -> Result<Option<Reply>, NoRoom>
-    ensures { IfOk result (λ reply. reply ≡ told_row (row_of values.now dests.now)) }
-{
-    match scan_row(alloc, values, dests) {
-        Ok(cells) => Ok(Some(Reply::Cells(cells))),
-        Err(fault) => row_fault(fault),
-    }
-}
-
-/// What is replied where a row isn't scanned.
-pub fn row_fault(fault: RowFault) -> Result<Option<Reply>, NoRoom>
-    ensures reply { IfOk result (λ reply. reply ≡ told_row (Err fault)) }
-    ensures memory { OnOk result (fault ≢ RowFault.Memory) }
-{
-    match fault {
-        RowFault::DestCount { want, got } => Ok(Some(Reply::DestCount { want, got })),
-        RowFault::At { index, fault } => Ok(word_of(fault).map(|fault| Reply::Scan {
-            column: index,
-            fault,
-        })),
-        RowFault::Memory => Err(NoRoom),
-    }
-}
-
-pub fn is_valid_call(call: &DriverCall) -> bool
-    ensures { result ≡ is_valid call.now }
-{
-    matches!(call, DriverCall::Valid)
-}
-
-/// Whether nothing comes after this entry in its call.
-pub fn ends_line(entry: &Entry) -> bool
-    ensures { result ≡ (is_bad entry.now.answer || is_valid entry.now.call) }
-{
-    is_bad_answer(&entry.answer) || is_valid_call(&entry.call)
-}
-
-pub fn is_bad_answer(answer: &DriverAnswer) -> bool
-    ensures { result ≡ is_bad answer.now }
-{
-    matches!(answer, DriverAnswer::Bad)
-}
-
-pub fn is_done_answer(answer: &DriverAnswer) -> bool
-    ensures { result ≡ is_done answer.now }
-{
-    matches!(answer, DriverAnswer::Done)
-}
-
-pub fn is_invalid_answer(answer: &DriverAnswer) -> bool
-    ensures { result ≡ is_invalid answer.now }
-{
-    matches!(answer, DriverAnswer::Invalid)
-}
-
-/// The call of an owner, 0 for the layer itself.
-pub fn number_of(owner: Owner) -> u32
-    ensures { result ≡ number_of owner }
-{
-    match owner {
-        Owner::Call(n) | Owner::Tx(n) | Owner::Pin(n) => n,
-        Owner::House => 0,
     }
 }

@@ -5,7 +5,7 @@ ghost use Rattle.dsql_engine.specs.Statements.{IsReadyFor};
 
 use crate::desk::Desk;
 use crate::next::NoRoom;
-use crate::queries::number_of;
+use crate::entries::number_of;
 use crate::statement::Statement;
 use dsql_driver::DriverAnswer;
 use dsql_history::Reply;

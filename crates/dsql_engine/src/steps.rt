@@ -37,7 +37,7 @@ ghost use Rattle.dsql_engine.specs.Steps.{NextAfterEnter, NextAfterAsk, NextAfte
 
 use crate::desk::Desk;
 use crate::next::{Next, Why};
-use crate::queries::{ends_line, is_bad_answer, is_done_answer, is_invalid_answer};
+use crate::entries::{ends_line, is_bad_answer, is_done_answer, is_invalid_answer};
 use crate::ready::Hearing;
 use crate::room::reply_of;
 use crate::statement::{CallStart, Entering, Statement, Then};

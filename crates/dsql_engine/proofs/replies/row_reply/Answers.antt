@@ -6,7 +6,7 @@ use Rattle.dsql_scan.specs.declared.fault.RowFault.TheVariants.{Memory}
 use Rattle.dsql_history.specs.declared.reply.Reply.{Reply}
 use Rattle.dsql_history.specs.Readers.Calls.{told_row}
 use Rattle.dsql_engine.specs.declared.next.NoRoom.{NoRoom}
-use Rattle.dsql_engine.proofs.queries.row_reply.Goals as goal
+use Rattle.dsql_engine.proofs.replies.row_reply.Goals as goal
 
 fault_known : (result : Result (Option Reply) NoRoom) (fault : RowFault) (row : RowScan) → (fault ≢ Memory → row ≡ Err fault) → IfOk result (λ reply. reply ≡ told_row (Err fault)) → OnOk result (fault ≢ Memory)
     → IfOk result (λ reply. reply ≡ told_row row)
