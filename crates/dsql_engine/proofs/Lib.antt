@@ -1,3 +1,4 @@
+pub mod Labelled
 pub mod Closing
 pub mod Counts
 pub mod Basics

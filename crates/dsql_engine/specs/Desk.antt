@@ -1,5 +1,6 @@
 -- The tables of the present, each against what the history tells.
-use Rattle.std.specs.Prelude.{◌≡◌, ◌+◌, ◌≤◌, List, reverse, vec_len, vec_capacity}
+use Rattle.std.specs.Prelude.{◌≡◌, ◌+◌, ◌≤◌, ℕ, List, position, reverse, vec_len, vec_capacity}
+use Rattle.indexmap.specs.IndexMap.{get_by_text, spare}
 use Rattle.dsql_history.specs.declared.event.Event.{Event}
 use Rattle.dsql_history.specs.Readers.Course as course
 use Rattle.dsql_history.specs.Readers.Sets as sets
@@ -26,6 +27,7 @@ pub record HasRoom (d : Desk) : Type 0 where
   pub calls : vec_len d.calls + d.paid ≤ vec_capacity d.calls
   pub unfinished : vec_len d.unfinished + d.paid ≤ vec_capacity d.unfinished
   pub works : vec_len d.works + d.paid ≤ vec_capacity d.works
+  pub labels : d.paid ≤ spare d.labels
   pub rows : d.paid ≤ d.rows.spare
 
 pub record Tables (d : Desk) : Type 0 where
@@ -41,6 +43,7 @@ pub record Tables (d : Desk) : Type 0 where
   pub calls : d.calls.items ≡ told.calls (past d)
   pub unfinished : d.unfinished.items ≡ left.unfinished (past d)
   pub works : d.works.items ≡ kinds.works (past d)
+  pub labels : (label : List ℕ) → get_by_text d.labels label ≡ position (kinds.has_label label) (kinds.works (past d))
   pub rows : d.rows.rows ≡ given.handed_out (past d)
   pub room : HasRoom d
 

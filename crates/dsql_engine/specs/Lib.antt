@@ -1,3 +1,4 @@
+pub mod Labels
 pub mod Freshly
 pub mod Turns
 pub mod Latest

@@ -1,5 +1,5 @@
 -- The statement of a call, and a call that enters.
-use Rattle.std.specs.Prelude.{◌≡◌, ◌<◌, ℕ, cond, Bool, true, false, List, [], length, Option, Some, None}
+use Rattle.std.specs.Prelude.{◌≡◌, ◌<◌, ℕ, cond, Bool, true, false, List, [], length, string_bytes, Option, Some, None, option_map}
 use Rattle.dsql_driver.specs.declared.call.DriverCall.TheVariants.{Next, Query}
 use Rattle.dsql_driver.specs.declared.call.Input.{Input}
 use Rattle.dsql_journal.specs.declared.entry.Entry.{Entry}
@@ -26,6 +26,7 @@ use Rattle.dsql_history.specs.Rules.Settled.{Settled}
 use Rattle.dsql_engine.specs.Groups.{most_events}
 use Rattle.dsql_history.specs.Readers.Sets.{number_of}
 use Rattle.dsql_engine.specs.declared.ready.Hearing.{Hearing}
+use Rattle.dsql_engine.specs.Labels.{label_made}
 use Rattle.dsql_engine.specs.declared.statement.Statement.{Statement}
 use Rattle.dsql_engine.specs.declared.statement.CallStart.{CallStart}
 use Rattle.dsql_engine.specs.declared.statement.Entering.{Entering}
@@ -97,6 +98,7 @@ pub record Starts (past : List Event) (op : Op) (it : CallStart) : Type 0 where
   pub work : it.work ≡ work_of (works past) op
   pub text : it.statement.text ≡ statement op
   pub params : it.statement.params ≡ params_at_entry (caps past) op
+  pub label : option_map string_bytes it.label ≡ label_made (work_of (works past) op)
   pub made : AreMade it.closes (handed_out past)
   pub closes : closed_rows it.closes (handed_out past) ≡ rows_entered past op (handed_out past)
 
@@ -108,6 +110,7 @@ pub record Enters (past : List Event) (op : Op) (it : Entering) : Type 0 where
 -- a call that runs a text
 pub record EntersText (past : List Event) (text : List ℕ) (args : List Named) (work : Work) (aim : Aim) (it : Entering) : Type 0 where
   pub work_is : it.start.work ≡ work
+  pub label : option_map string_bytes it.start.label ≡ label_made work
   pub closes : it.start.closes ≡ None
   pub asks_for : AsksFor (caps past).named text args aim it.start.statement it.then
 
@@ -124,6 +127,7 @@ NoneNamed past label = cond (is_unfinished past (maker (works past) label)) None
 -- a call that looks, and replies so
 pub record IsLook (reply : Reply) (it : Entering) : Type 0 where
   pub work : it.start.work ≡ Look
+  pub label : it.start.label ≡ None
   pub text : it.start.statement.text ≡ []
   pub params : it.start.statement.params ≡ []
   pub closes : it.start.closes ≡ None

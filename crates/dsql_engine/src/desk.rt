@@ -18,8 +18,8 @@ ghost use Rattle.dsql_journal.specs.declared.entry.Owner.TheVariants.{Call};
 ghost use Rattle.dsql_engine.specs.Desk.{past, Stands};
 
 use crate::room::{
-    begin_made, close_rows, count_up, move_to, note, note_exchange, put, set_decided, set_home,
-    take_out, take_reply, tell_answer,
+    begin_made, close_rows, count_up, move_to, note, note_exchange, note_label, put, set_decided,
+    set_home, take_out, take_reply, tell_answer,
 };
 use crate::statement::CallStart;
 use dsql_course::Progress;
@@ -27,6 +27,7 @@ use dsql_driver::{Caps, DriverAnswer};
 use dsql_history::{CallRecord, CloseCause, Event, Move, Op, Place, Reply, Work};
 use dsql_journal::{Entry, Owner};
 use dsql_rows::RowsTable;
+use indexmap::IndexMap;
 
 /// What is kept of the present, beside the history.
 #[derive(Drop)]
@@ -48,6 +49,8 @@ pub struct Desk {
     pub unfinished: Vec<u32>,
     /// What each call has to do.
     pub works: Vec<Work>,
+    /// The first call that hands out rows under each label.
+    pub labels: IndexMap<String, u32>,
     /// The rows that were handed out, by the numbers of their queries.
     pub rows: RowsTable,
     /// For how many more events there is memory.
@@ -72,6 +75,7 @@ impl Desk {
         let CallStart {
             work,
             statement,
+            label,
             closes,
         } = start;
         self.paid -= 1;
@@ -88,6 +92,7 @@ impl Desk {
         );
         put(&mut self.unfinished, n);
         put(&mut self.works, work);
+        note_label(&mut self.labels, label, n);
         close_rows(&mut self.rows, closes);
     }
 

@@ -1,10 +1,11 @@
 //! What a call does as it enters.
-ghost use Rattle.std.specs.Prelude.{◌≡◌, ◌<◌, Some, Err, IfOk, IfSome, IfNone, true, length, position};
+ghost use Rattle.std.specs.Prelude.{◌≡◌, ◌<◌, Some, Err, IfOk, IfSome, IfNone, true, length, string_bytes, option_map};
 ghost use Rattle.std.specs.Option.{option_copied};
 ghost use Rattle.dsql_rows.specs.OpenRows.{was_made, rows_of, scan_of};
-ghost use Rattle.dsql_history.specs.Readers.Works.{maker, works, has_label};
+ghost use Rattle.dsql_history.specs.Readers.Works.{maker, works};
 ghost use Rattle.dsql_history.specs.Readers.HandedOut.{handed_out};
 ghost use Rattle.dsql_history.specs.Readers.Calls.{scan_reply, fault_reply, told_row};
+ghost use Rattle.dsql_engine.specs.Labels.{label_made};
 ghost use Rattle.dsql_engine.specs.Desk.{past, Stands};
 ghost use Rattle.dsql_engine.specs.Groups.{most_within_a_step};
 ghost use Rattle.dsql_engine.specs.Statements.{Enters, EntersText, Goes, IsNamed, NoneNamed, IsLook};
@@ -34,15 +35,17 @@ impl Desk {
                 text,
                 args,
                 Work::Execute,
+                None,
                 Aim::Execute,
             ),
             Op::Query { label, text, args } => {
                 let work = Work::HandOut(label.copy()?);
-                self.entering_text(alloc, text, args, work, Aim::HandOut)
+                let label = Some(label.copy()?.into_string());
+                self.entering_text(alloc, text, args, work, label, Aim::HandOut)
             }
             Op::One { dests, text, args } => {
                 let work = Work::ReadOne(dests.clone()?);
-                self.entering_text(alloc, text, args, work, Aim::ReadOne)
+                self.entering_text(alloc, text, args, work, None, Aim::ReadOne)
             }
             Op::Next { rows } => self.entering_next(alloc, rows),
             Op::Scan { rows, dests } => self.entering_scan(alloc, rows, dests.as_slice()),
@@ -58,15 +61,18 @@ impl Desk {
         text: &Txt,
         args: &Args,
         work: Work,
+        label: Option<String>,
         aim: Aim,
     ) -> Result<Entering, NoRoom>
         requires stands { Stands self.now }
+        requires label { option_map string_bytes label ≡ label_made work }
         ensures { IfOk result (λ it. EntersText (past self.now) text.now args.now work aim it) }
     {
         let (statement, then) = asking(alloc, self.caps.named, text, args, aim)?;
         let start = CallStart {
             work,
             statement,
+            label,
             closes: None,
         };
         Ok(Entering { start, then })
@@ -86,6 +92,7 @@ impl Desk {
         let start = CallStart {
             work: Work::Fetch(self.maker(label)),
             statement: Statement::none(alloc)?,
+            label: None,
             closes: None,
         };
         Ok(Entering { start, then })
@@ -103,6 +110,7 @@ impl Desk {
         let start = CallStart {
             work: Work::Close(self.maker(label)),
             statement: Statement::none(alloc)?,
+            label: None,
             closes,
         };
         Ok(Entering { start, then })
@@ -150,22 +158,13 @@ impl Desk {
 
     /// The first call whose rows have the label, 0 where there is none.
     fn maker(&self, label: &Txt) -> u32
-        requires stands { Stands self.now }
-        requires few { length (past self.now) < most_within_a_step }
+        requires { Stands self.now }
         ensures { result ≡ maker (works (past self.now)) label.now }
     {
-        match self.first_labelled(label) {
-            Some(n) => n as u32,
+        match self.labels.get(label.as_str()) {
+            Some(n) => *n,
             None => 0,
         }
-    }
-
-    /// The first call that hands out rows under the label.
-    fn first_labelled(&self, label: &Txt) -> Option<usize>
-        requires { Stands self.now }
-        ensures { result ≡ position (has_label label.now) (works (past self.now)) }
-    {
-        self.works.iter().position(|work| has_label(label, work))
     }
 
     /// The call whose rows have the label, where they are there and it has replied.
@@ -206,6 +205,7 @@ fn looking(alloc: Global, reply: Reply) -> Result<Entering, NoRoom>
     let start = CallStart {
         work: Work::Look,
         statement: Statement::none(alloc)?,
+        label: None,
         closes: None,
     };
     Ok(Entering {
@@ -222,16 +222,6 @@ fn fault_reply(ended: Option<&RowsEnd>) -> Result<Reply, NoRoom>
         Some(RowsEnd::Failed(text)) => Ok(Reply::Driver(text.copy()?)),
         Some(RowsEnd::BadConn) => Ok(Reply::BadConn(1)),
         _ => Ok(Reply::Ok),
-    }
-}
-
-/// Whether a call hands out rows under the label.
-fn has_label(label: &Txt, work: &Work) -> bool
-    ensures { result ≡ has_label label.now work.now }
-{
-    match work {
-        Work::HandOut(own) => own.as_str() == label.as_str(),
-        _ => false,
     }
 }
 

@@ -1,5 +1,7 @@
 //! Writes that were paid for before, or that take no memory: they can't fail.
-ghost use Rattle.std.specs.Prelude.{◌≡◌, ◌+◌, ◌<◌, ◌≤◌, ◌^◌, ◌∷◌, ◌++◌, [], ℕ, Some, None, true, false, cond, ◌==◌, is_some, length, List, reverse, slice_set, slice_index_or, vec_len, vec_capacity};
+ghost use Rattle.std.specs.Prelude.{◌≡◌, ◌+◌, ◌<◌, ◌≤◌, ◌^◌, ◌∷◌, ◌++◌, [], ℕ, Some, None, true, false, cond, ◌==◌, is_some, length, List, reverse, slice_set, slice_index_or, vec_len, vec_capacity, string_bytes, option_map};
+ghost use Rattle.indexmap.specs.IndexMap.{get_by_text, spare};
+ghost use Rattle.dsql_engine.specs.Labels.{labelled};
 ghost use Rattle.dsql_history.specs.Readers.Lists.{without};
 ghost use Rattle.dsql_history.specs.Readers.Sets.{one_more};
 ghost use Rattle.dsql_history.specs.Readers.Calls.{with_record, decision, fetch_decision, query_decision, closing_decision, closed_reply, reply_to, told_of, nobody};
@@ -21,6 +23,7 @@ use dsql_driver::{DriverAnswer, DriverCall, Input};
 use dsql_history::{CallRecord, Event, Place, Reply, Work};
 use dsql_journal::Entry;
 use dsql_rows::{RowsEnd, RowsTable};
+use indexmap::IndexMap;
 
 /// Adds an element where there is room.
 pub fn put<T: Drop>(v: &mut Vec<T>, x: T)
@@ -251,6 +254,31 @@ pub fn decide(calls: &mut Vec<CallRecord>, n: u32, reply: Option<Reply>)
 {
     if n != 0 {
         set_decided(calls, n, reply);
+    }
+}
+
+/// Notes the call that makes a label, unless an earlier one has made it.
+pub fn note_label(labels: &mut IndexMap<String, u32>, label: Option<String>, n: u32)
+    requires { 0 < spare labels.old }
+    ensures labels { (other : List ℕ) → get_by_text labels.new other ≡ labelled (option_map string_bytes label) n other (get_by_text labels.old other) }
+    ensures spare { spare labels.old ≤ spare labels.new + 1 }
+{
+    if let Some(label) = label {
+        put_label(labels, label, n);
+    }
+}
+
+/// Notes the call of a label, unless it has one.
+fn put_label(labels: &mut IndexMap<String, u32>, label: String, n: u32)
+    requires { 0 < spare labels.old }
+    ensures labels { (other : List ℕ) → get_by_text labels.new other ≡ labelled (Some (string_bytes label)) n other (get_by_text labels.old other) }
+    ensures spare { spare labels.old ≤ spare labels.new + 1 }
+{
+    if !labels.contains_key(label.as_str()) {
+        match labels.insert(label, n) {
+            Ok(_) => {}
+            Err(_) => unreachable!(),
+        }
     }
 }
 

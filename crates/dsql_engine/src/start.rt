@@ -11,6 +11,7 @@ use dsql_driver::Caps;
 use dsql_history::{CallRecord, Event, Place, Work};
 use dsql_rows::RowsTable;
 use dsql_value::{Items, Txt};
+use indexmap::IndexMap;
 use std::alloc::Global;
 
 #[tactic(auto, unfolding(crate::specs::Desk::Stands, dsql_history::specs::Legal::Allowed))]
@@ -54,6 +55,7 @@ impl Desk {
             calls,
             unfinished: Vec::new(alloc),
             works,
+            labels: IndexMap::new(alloc),
             rows: RowsTable::new(alloc),
             paid: 0,
         })
@@ -76,6 +78,7 @@ impl Desk {
         self.calls.reserve(count)?;
         self.unfinished.reserve(count)?;
         self.works.reserve(count)?;
+        self.labels.reserve(count)?;
         self.rows.reserve(events)?;
         self.paid = count;
         Ok(())

@@ -58,6 +58,8 @@ pub enum Then {
 pub struct CallStart {
     pub work: Work,
     pub statement: Statement,
+    /// The label of the rows that it hands out, if it does.
+    pub label: Option<String>,
     /// The query whose rows it closes as it enters.
     pub closes: Option<u32>,
 }

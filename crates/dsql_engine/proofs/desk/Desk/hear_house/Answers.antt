@@ -24,6 +24,7 @@ returns-clause-stands c =
       calls = rw p (s.calls ∙ sym (calls_of_house H e c.requires.house));
       unfinished = rw p s.unfinished;
       works = rw p s.works;
+      labels = rw p s.labels;
       rows = rw p (s.rows ∙ sym (rows_of_house H e c.requires.house));
       room = record {
         history = omega (arith, c.note.ensures.len, c.note.ensures.capacity, room.history, c.requires.paid);
@@ -35,6 +36,7 @@ returns-clause-stands c =
         calls = omega (arith, room.calls, c.requires.paid);
         unfinished = omega (arith, room.unfinished, c.requires.paid);
         works = omega (arith, room.works, c.requires.paid);
+        labels = omega (arith, room.labels, c.requires.paid);
         rows = omega (arith, room.rows, c.requires.paid);
       };
     }

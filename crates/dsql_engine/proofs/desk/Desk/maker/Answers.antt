@@ -1,14 +1,23 @@
-use Rattle.std.proofs.Common.{arith, sym, ◌∙◌}
-use Rattle.dsql_history.specs.declared.work.Work.TheVariants.{Look}
-use Rattle.dsql_history.specs.Readers.Works.{works, has_label}
-use Rattle.dsql_history.proofs.SoundCalls.{sound_calls}
-use Rattle.dsql_engine.specs.Desk.{past, lawful_of}
-use Rattle.dsql_engine.proofs.Counts.{first_passes}
+use Rattle.std.proofs.Common.{◌≡◌, sym, ap, ◌∙◌}
+use Rattle.std.specs.Prelude.{position}
+use Rattle.std.specs.Option.{option_copied}
+use Rattle.indexmap.specs.IndexMap.{get_by_text}
+use Rattle.dsql_history.specs.Readers.Works.{works, has_label, or_zero}
+use Rattle.dsql_engine.specs.Desk.{past, Stands}
 use Rattle.dsql_engine.proofs.desk.Desk.maker.Goals as goal
 
-pub overflow_cast-result : goal.overflow_cast-result
-overflow_cast-result c =
-    let H = past c.args.self.now in
-    let s = sound_calls H (lawful_of _ c.requires.stands) in
-    let f = first_passes (has_label c.args.label.now) (works H) Look c.in-Some.n (sym c.first_labelled.ensures ∙ c.in-Some.is) in
-    omega (arith, s.few_calls, s.works_rows, f.1, c.requires.few)
+pub returns-in-Some : goal.returns-in-Some
+unfolding Stands
+returns-in-Some c =
+    let label = c.args.label.now in
+    let found : position (has_label label) (works (past c.args.self.now)) ≡ option_copied c.get.result
+    = sym (c.requires.labels label) ∙ ap (get_by_text c.args.self.now.labels) (sym c.as_str.ensures) ∙ sym c.get.ensures.value in
+    sym (ap or_zero (found ∙ ap option_copied c.in-Some.is))
+
+pub returns-in-None : goal.returns-in-None
+unfolding Stands
+returns-in-None c =
+    let label = c.args.label.now in
+    let found : position (has_label label) (works (past c.args.self.now)) ≡ option_copied c.get.result
+    = sym (c.requires.labels label) ∙ ap (get_by_text c.args.self.now.labels) (sym c.as_str.ensures) ∙ sym c.get.ensures.value in
+    sym (ap or_zero (found ∙ ap option_copied c.in-None.is))
