@@ -8,6 +8,7 @@ use Rattle.dsql_script.specs.declared.script.ScriptLine.TheVariants.{UseCaps}
 use Rattle.dsql_script.specs.declared.script.Head.TheVariants.{Begun}
 use Rattle.dsql_script.specs.declared.script.Head.{Head}
 use Rattle.dsql_script.specs.ScriptHead.{Progress}
+use Rattle.dsql_script.specs.ScriptLines.{most_lines}
 use Rattle.dsql_run.specs.Script.{Said, nothing, said_of, then}
 use Rattle.dsql_run.specs.Runs.{saying, Plays}
 use Rattle.dsql_run.specs.Reading.{HasRead, ReadTo, ReadsHead, Prefers, IsBodyLine, NoLine, asked_for}
@@ -57,7 +58,7 @@ one_if None = 0
 one_if (Some line) = 1
 
 -- each turn reads a line more, or comes to the end
-pub fewer : (next : Option ScriptLine) (old new : Progress) → IfSome next (λ _. new.lines ≡ old.lines + 1) → IfSome next (λ _. new.lines ≤ 10000) → NoLine (Ok next) old new
+pub fewer : (next : Option ScriptLine) (old new : Progress) → IfSome next (λ _. new.lines ≡ old.lines + 1) → IfSome next (λ _. new.lines ≤ most_lines) → NoLine (Ok next) old new
     → (10001 - new.lines) + one_if next < (10001 - old.lines) + 1
 fewer None old new counted few stays = omega (arith, ap (λ (p : Progress). p.lines) stays)
 fewer (Some line) old new counted few stays = omega (arith, counted, few)

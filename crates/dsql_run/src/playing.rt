@@ -9,6 +9,7 @@ ghost use Rattle.dsql_history.specs.Readers.Sets.{open_count};
 ghost use Rattle.dsql_history.specs.Rules.House.{is_quiet};
 ghost use Rattle.dsql_engine.specs.Groups.{most_events};
 ghost use Rattle.dsql_script.specs.Lines.{text_of};
+ghost use Rattle.dsql_script.specs.ScriptLines.{most_lines};
 ghost use Rattle.dsql_player.specs.Entered.{entered_calls};
 ghost use Rattle.dsql_player.specs.Extends.{Extends};
 ghost use Rattle.dsql_player.specs.Told.{with_told, TellsAtMost, LeavesAtMost, AsksAtMost, SameAsked};
@@ -41,7 +42,7 @@ fn read_head<S: Source, F: Fleet>(
     ensures reads { (before : Option (List ℕ)) → HasRead before script.old (S.left input.old) nothing → ReadsHead before result script.new (S.left input.new) (F.preferred fleet.old) (F.preferred fleet.new) (F.ability fleet.old) (F.ability fleet.new) }
     ensures body { IfOk result IsBodyLine }
     ensures begun { IfOk result (λ line. IfSome line (λ _. script.new.reader.head ≡ Head.Begun)) }
-    ensures few { IfOk result (λ line. IfSome line (λ _. script.new.reader.lines ≤ 10000)) }
+    ensures few { IfOk result (λ line. IfSome line (λ _. script.new.reader.lines ≤ most_lines)) }
     ensures failed { result ≡ Err Stop.Read → HasRisen (S.faults input.old) (S.faults input.new) }
     ensures readable { IfErr result IsReadStop }
     ensures counted { S.faults input.old ≤ S.faults input.new }
@@ -76,7 +77,7 @@ fn play_lines<S: Source, K: Sink, F: Fleet>(
     requires shown { shown.old ≡ 0 }
     requires body { IfOk first IsBodyLine }
     requires headed { IfOk first (λ line. IfSome line (λ _. script.old.reader.head ≡ Head.Begun)) }
-    requires few { IfOk first (λ line. IfSome line (λ _. script.old.reader.lines ≤ 10000)) }
+    requires few { IfOk first (λ line. IfSome line (λ _. script.old.reader.lines ≤ most_lines)) }
     requires readable { IfErr first IsReadStop }
     ensures between { ran_out result ≡ true → Between F.Wire.told (is_some (F.told fleet.new)) engine.new wires.new }
     ensures told { ran_out result ≡ true → F.told fleet.new ≡ with_told (F.told fleet.old) engine.new }
@@ -235,7 +236,7 @@ fn play_from<S: Source, K: Sink, F: Fleet>(
     requires legal { Legal engine.old }
     requires body { IfOk first IsBodyLine }
     requires headed { IfOk first (λ line. IfSome line (λ _. script.old.reader.head ≡ Head.Begun)) }
-    requires few { IfOk first (λ line. IfSome line (λ _. script.old.reader.lines ≤ 10000)) }
+    requires few { IfOk first (λ line. IfSome line (λ _. script.old.reader.lines ≤ most_lines)) }
     requires readable { IfErr first IsReadStop }
     ensures legal { Legal engine.new }
     ensures begins { Extends engine.old engine.new }

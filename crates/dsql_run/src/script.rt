@@ -2,7 +2,7 @@ ghost use Rattle.std.specs.Prelude.{◌≡◌, ◌≢◌, ◌+◌, ◌≤◌, �
 ghost use Rattle.dsql_driver.specs.Streams.{HasRisen};
 ghost use Rattle.dsql_stream.specs.Lines.{ahead, SawTheEnd};
 ghost use Rattle.dsql_script.specs.ScriptHead.{unread, after};
-ghost use Rattle.dsql_script.specs.ScriptLines.{read_of};
+ghost use Rattle.dsql_script.specs.ScriptLines.{most_lines, read_of};
 ghost use Rattle.dsql_script.specs.declared.script.Head.{Head};
 ghost use Rattle.dsql_run.specs.Script.{Said, nothing};
 ghost use Rattle.dsql_run.specs.Reading.{HasRead, ReadTo, IsBodyLine, ends_head, IsReadStop, NoLine};
@@ -53,7 +53,7 @@ impl ScriptReader {
         ensures begun { self.old.reader.head ≡ Head.Begun → self.new.reader.head ≡ Head.Begun }
         ensures headed { IfOk result (λ line. IfSome line (λ says. ends_head says ≡ true → self.new.reader.head ≡ Head.Begun)) }
         ensures numbered { IfOk result (λ line. IfSome line (λ _. self.new.reader.lines ≡ self.old.reader.lines + 1)) }
-        ensures few { IfOk result (λ line. IfSome line (λ _. self.new.reader.lines ≤ 10000)) }
+        ensures few { IfOk result (λ line. IfSome line (λ _. self.new.reader.lines ≤ most_lines)) }
         ensures failed { result ≡ Err Read → HasRisen (S.faults input.old) (S.faults input.new) }
         ensures readable { IfErr result IsReadStop }
         ensures stays { NoLine result self.old.reader self.new.reader }
@@ -78,7 +78,7 @@ impl ScriptReader {
         ensures placed { IfOk result (λ line. IfSome line (λ says. self.new.reader ≡ after self.old.reader says)) }
         ensures is { IfOk result (λ line. IfSome line (λ says. read_of self.old.reader self.new.line.items ≡ Ok says)) }
         ensures stays { NoLine result self.old.reader self.new.reader }
-        ensures few { IfOk result (λ line. IfSome line (λ _. self.new.reader.lines ≤ 10000)) }
+        ensures few { IfOk result (λ line. IfSome line (λ _. self.new.reader.lines ≤ most_lines)) }
         ensures failed { result ≡ Err Read → HasRisen (S.faults input.old) (S.faults input.new) }
         ensures counted { S.faults input.old ≤ S.faults input.new }
         ensures faultless { is_read_fault result ≡ false → S.faults input.new ≡ S.faults input.old }

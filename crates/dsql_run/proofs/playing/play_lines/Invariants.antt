@@ -2,6 +2,7 @@ use Rattle.std.proofs.Common.{◌≡◌, ◌≤◌, ◌-◌, ◌+◌, ℕ, List,
 use Rattle.std.specs.Prelude.{is_some, Ok, IfSome}
 use Rattle.dsql_driver.specs.declared.caps.Caps.{Caps}
 use Rattle.dsql_script.specs.Lines.{text_of}
+use Rattle.dsql_script.specs.ScriptLines.{most_lines}
 use Rattle.dsql_script.specs.declared.script.Head.{Head}
 use Rattle.dsql_player.specs.Entered.{entered_calls}
 use Rattle.dsql_player.specs.Extends.{Extends}
@@ -23,7 +24,7 @@ invariant-loop-next g l = record {
       → ReadTo (Ok l.next) before l.script (g.S.Source.left l.input) (saying asked (entered_calls l.engine));
   body : IsBodyLine l.next;
   headed : IfSome l.next (λ _. l.script.reader.head ≡ Head.Begun);
-  few : IfSome l.next (λ _. l.script.reader.lines ≤ 10000);
+  few : IfSome l.next (λ _. l.script.reader.lines ≤ most_lines);
   shown : l.shown ≡ length l.engine;
   written : (w : Option (List ℕ)) → g.K.Sink.written l.initial.output ≡ with_text w (text_of l.initial.engine) → g.K.Sink.written l.output ≡ with_text w (text_of l.engine);
   reads : g.S.Source.faults l.input ≡ g.S.Source.faults l.initial.input;

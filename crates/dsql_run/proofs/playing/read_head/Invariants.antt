@@ -1,11 +1,12 @@
 use Rattle.std.proofs.Common.{◌≡◌, ◌≤◌, ◌-◌, ℕ, List, Option}
+use Rattle.dsql_script.specs.ScriptLines.{most_lines}
 use Rattle.dsql_run.specs.Script.{nothing}
 use Rattle.dsql_run.specs.Reading.{HasRead}
 use Rattle.dsql_run.proofs.Heading.{HeadSoFar}
 use Rattle.dsql_run.proofs.playing.read_head.Given as goal
 
 abbrev pub decreases-loop-line : goal.decreases-loop-line
-decreases-loop-line g l = 10000 - l.script.reader.lines
+decreases-loop-line g l = most_lines - l.script.reader.lines
 
 abbrev pub invariant-loop-line : goal.invariant-loop-line
 invariant-loop-line g l = record {
