@@ -13,7 +13,7 @@ ghost use Rattle.dsql_run.specs.Report.{with_text};
 ghost use Rattle.dsql_run.specs.Reading.{is_body};
 ghost use Rattle.dsql_run.specs.Runs.{Between, ran_out, is_write_fault, EntersLine, IsPlayStop, Wrote, CutAtLine};
 
-use crate::show::show;
+use crate::show::{Shown, show};
 use crate::stop::Stop;
 use dsql_driver::{Fleet, Sink};
 use dsql_engine::Engine;
@@ -54,7 +54,7 @@ pub(crate) fn play_line<K: Sink, F: Fleet>(
     alloc: Global,
     engine: &mut Engine,
     wires: &mut Wires<F::Wire>,
-    shown: &mut usize,
+    shown: &mut Shown,
     output: &mut K,
     fleet: &mut F,
     line: ScriptLine,

@@ -23,7 +23,7 @@ ghost use Rattle.dsql_run.specs.Headline.{Ran, NotBegun};
 
 use crate::carrying::play_line;
 use crate::script::ScriptReader;
-use crate::show::{ShowFault, show};
+use crate::show::{ShowFault, Shown, show};
 use crate::stop::Stop;
 use dsql_driver::{Fleet, Sink, Source};
 use dsql_engine::Engine;
@@ -65,7 +65,7 @@ fn play_lines<S: Source, K: Sink, F: Fleet>(
     alloc: Global,
     engine: &mut Engine,
     wires: &mut Wires<F::Wire>,
-    shown: &mut usize,
+    shown: &mut Shown,
     script: &mut ScriptReader,
     first: Result<Option<ScriptLine>, Stop>,
     input: &mut S,
@@ -197,7 +197,7 @@ fn later_stop(ended: &Result<(), Stop>, fault: ShowFault) -> Stop
 fn finish<K: Sink>(
     alloc: Global,
     engine: &Engine,
-    shown: &mut usize,
+    shown: &mut Shown,
     output: &mut K,
     played: Result<(), Stop>,
     ended: Result<(), Stop>,
@@ -261,7 +261,7 @@ fn play_from<S: Source, K: Sink, F: Fleet>(
     ensures preferred { F.preferred fleet.new ≡ F.preferred fleet.old }
 {
     let mut wires = Wires::new(alloc);
-    let mut shown = 0;
+    let mut shown = Shown::none(alloc);
     let played = play_lines(
         alloc, engine, &mut wires, &mut shown, script, first, input, output, fleet,
     );

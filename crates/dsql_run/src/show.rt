@@ -1,6 +1,6 @@
-ghost use Rattle.std.specs.Prelude.{◌≡◌, ◌≢◌, ◌≤◌, ◌++◌, ℕ, List, [], Option, OnOk, OnErr, IfErr, false, length, reverse};
+ghost use Rattle.std.specs.Prelude.{◌≡◌, ◌<◌, ◌≤◌, ◌++◌, ℕ, List, [], Option, OnOk, OnErr, IfErr, false, length, reverse};
 ghost use Rattle.dsql_driver.specs.Streams.{HasRisen};
-ghost use Rattle.dsql_script.specs.Lines.{line_of, text_of};
+ghost use Rattle.dsql_script.specs.Lines.{text_of};
 ghost use Rattle.dsql_run.specs.Report.{with_text, oldest, Shows, StopsBetween};
 ghost use Rattle.dsql_run.specs.Runs.{is_sink_fault};
 ghost use Rattle.dsql_run.specs.declared.show.ShowFault.TheVariants as faults;
@@ -8,10 +8,11 @@ ghost use Rattle.dsql_run.specs.declared.show.ShowFault.TheVariants as faults;
 use dsql_driver::Sink;
 use dsql_engine::Engine;
 use dsql_history::Event;
-use dsql_script::event_line;
+use dsql_script::append_line;
 use dsql_stream::{Cut, write_whole};
 use dsql_value::Memory;
 use std::alloc::Global;
+use std::marker::Model;
 use thiserror::Error;
 
 /// Why not all of a report was written.
@@ -41,40 +42,59 @@ impl From<Memory> for ShowFault {
     }
 }
 
-/// Writes the line of an event.
-fn show_event<K: Sink>(alloc: Global, event: &Event, output: &mut K) -> Result<(), ShowFault>
-    ensures ok { OnOk result (K.written output.new ≡ with_text (K.written output.old) (line_of event.now)) }
-    ensures err { OnErr result (StopsBetween (K.written output.old) [] (line_of event.now) (K.written output.new)) }
-    ensures caused { result ≡ Err ShowFault.Failed → HasRisen (K.faults output.old) (K.faults output.new) }
-    ensures counted { K.faults output.old ≤ K.faults output.new }
-    ensures faultless { is_sink_fault result ≡ false → K.faults output.new ≡ K.faults output.old }
+/// How many events were shown, and the room in which the lines of the next ones are spelled. Contracts see
+/// the number.
+#[derive(Drop)]
+pub(crate) struct Shown {
+    count: usize,
+    lines: Vec<u8>,
+}
+
+impl Model for Shown {
+    ghost Value = { ℕ };
+
+    ghost view = { λ s. s.count };
+}
+
+impl Shown {
+    /// No event was shown. It takes no memory.
+    pub(crate) fn none(alloc: Global) -> Shown
+        ensures { result ≡ 0 }
+    {
+        Shown {
+            count: 0,
+            lines: Vec::new(alloc),
+        }
+    }
+}
+
+/// Spells the lines of events, which come oldest first, in place of what a buffer holds.
+fn spell(alloc: Global, events: &[Event], lines: &mut Vec<u8>) -> Result<(), Memory>
+    ensures ok { OnOk result (lines.new.items ≡ text_of (reverse events.now)) }
+    ensures err { OnErr result (0 < length events.now) }
 {
-    let line = event_line(alloc, event)?;
-    write_whole(output, line.as_str().as_bytes())?;
+    lines.clear();
+    for event in events {
+        append_line(alloc, event, lines)?;
+    }
     Ok(())
 }
 
-/// Writes the lines of the events that weren't shown, and counts those that are. The events come oldest
-/// first.
+/// Writes the lines of events, which come oldest first, in one piece that is spelled in the buffer.
 fn show_events<K: Sink>(
     alloc: Global,
     events: &[Event],
-    shown: &mut usize,
+    lines: &mut Vec<u8>,
     output: &mut K,
 ) -> Result<(), ShowFault>
-    requires { shown.old ≤ length events.now }
-    ensures ok { OnOk result (shown.new ≡ length events.now) }
-    ensures within { shown.new ≤ length events.now }
-    ensures shows { OnOk result ((w : Option (List ℕ)) → Shows w shown.old (reverse events.now) (K.written output.old) → K.written output.new ≡ with_text w (text_of (reverse events.now))) }
-    ensures stops { OnErr result ((w : Option (List ℕ)) → Shows w shown.old (reverse events.now) (K.written output.old) → StopsBetween w (text_of (oldest shown.old (reverse events.now))) (text_of (reverse events.now)) (K.written output.new)) }
+    ensures ok { OnOk result (K.written output.new ≡ with_text (K.written output.old) (text_of (reverse events.now))) }
+    ensures err { OnErr result (StopsBetween (K.written output.old) [] (text_of (reverse events.now)) (K.written output.new)) }
     ensures caused { result ≡ Err ShowFault.Failed → HasRisen (K.faults output.old) (K.faults output.new) }
     ensures counted { K.faults output.old ≤ K.faults output.new }
     ensures faultless { is_sink_fault result ≡ false → K.faults output.new ≡ K.faults output.old }
 {
-    while *shown < events.len() {
-        show_event(alloc, &events[*shown], output)?;
-        *shown += 1;
-    }
+    spell(alloc, events, lines)?;
+    write_whole(output, lines.as_slice())?;
     Ok(())
 }
 
@@ -82,7 +102,7 @@ fn show_events<K: Sink>(
 pub(crate) fn show<K: Sink>(
     alloc: Global,
     engine: &Engine,
-    shown: &mut usize,
+    shown: &mut Shown,
     output: &mut K,
 ) -> Result<(), ShowFault>
     requires { shown.old ≤ length engine.now }
@@ -94,5 +114,8 @@ pub(crate) fn show<K: Sink>(
     ensures counted { K.faults output.old ≤ K.faults output.new }
     ensures faultless { is_sink_fault result ≡ false → K.faults output.new ≡ K.faults output.old }
 {
-    show_events(alloc, engine.history(), shown, output)
+    let events = engine.history();
+    show_events(alloc, &events[shown.count..], &mut shown.lines, output)?;
+    shown.count = events.len();
+    Ok(())
 }

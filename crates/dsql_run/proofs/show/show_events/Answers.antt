@@ -1,16 +1,28 @@
-use Rattle.std.proofs.Common.{◌≡◌, [], get_or}
-use Rattle.std.specs.Prelude.{Err}
-use Rattle.dsql_run.specs.Report.{StopsBetween}
-use Rattle.dsql_script.specs.Lines.{line_of}
+use Rattle.std.proofs.Common.{◌≡◌, length, ap, sym, ◌∙◌, take, drop, refl, arith, length-take-le}
+use Rattle.std.specs.Prelude.{Err, reverse}
+use Rattle.std.proofs.lemmas.List.{take-append-drop}
+use Rattle.dsql_script.specs.Lines.{text_of}
+use Rattle.dsql_run.specs.declared.show.ShowFault.TheVariants as faults
 use Rattle.dsql_run.proofs.Errors.{err_is}
-use Rattle.dsql_run.proofs.Showing.{shows_stop}
+use Rattle.dsql_run.proofs.Showing.{stops_before}
 use Rattle.dsql_run.proofs.show.show_events.Goals as goal
 
-pub returns-in_err-show_event-clause-stops : goal.returns-in_err-show_event-clause-stops
-returns-in_err-show_event-clause-stops g c =
-    let is : c.from_residual.result ≡ Err c.in_err-show_event.field-0.0 = err_is c.from_residual.result c.in_err-show_event.field-0.0 c.from_residual.ensures.1 in
-    let event : c.index-events-shown.result ≡ get_or c.args.events.now c.loop-shown.shown c.index-events-shown.result = c.index-events-shown.is in
-    let front : StopsBetween (g.K.Sink.written c.loop-shown.output) [] (line_of c.index-events-shown.result) (g.K.Sink.written c.show_event.new.output) = c.in_err-show_event.ensures.err in
+pub returns-in_err-spell-clause-err : goal.returns-in_err-spell-clause-err
+returns-in_err-spell-clause-err g c =
+    let is : c.from_residual.result ≡ Err faults.Memory = err_is c.from_residual.result faults.Memory c.from_residual.ensures.1 in
+    rw is (stops_before (g.K.Sink.written c.args.output.now) c.args.events.now c.in_err-spell.ensures.err)
+
+pub returns-in_err-write_whole-clause-err : goal.returns-in_err-write_whole-clause-err
+returns-in_err-write_whole-clause-err g c =
+    let is : c.from_residual-in_err-write_whole.result ≡ Err faults.Failed = err_is c.from_residual-in_err-write_whole.result faults.Failed c.from_residual-in_err-write_whole.ensures.1 in
+    let piece = c.as_slice.result.now in
+    let written = c.in_err-write_whole.field-0.0.written in
+    let text : piece ≡ text_of (reverse c.args.events.now) = c.as_slice.ensures.value ∙ c.in_ok-spell.ensures.ok in
     rw is
-    (λ w shows. shows_stop w (g.K.Sink.written c.loop-shown.output) (g.K.Sink.written c.show_event.new.output) c.args.events.now c.args.shown.now c.loop-shown.shown c.index-events-shown.result
-    c.loop-shown.invariant.onward c.loop-shown-test.true (c.loop-shown.invariant.shows w shows) (rw event at front))
+    (record {
+      front = take written piece;
+      holds = record { rest = take written piece; parts = refl };
+      short = omega (arith, ap length text, c.in_err-write_whole.ensures.cut, length-take-le written piece (omega (arith, c.in_err-write_whole.ensures.cut)));
+      begins = record { rest = drop written piece; parts = sym text ∙ sym (take-append-drop written piece) };
+      written = c.in_err-write_whole.ensures.front;
+    })
