@@ -1,5 +1,5 @@
 //! Questions to the tables, each answered in a reader's word.
-ghost use Rattle.std.specs.Prelude.{◌≡◌, ◌+◌, ◌<◌, Some, None, is_some, Option, List, length, nat_lt, slice_index_or, IfOk, position, find, cond, true};
+ghost use Rattle.std.specs.Prelude.{◌≡◌, ℕ, ◌+◌, ◌<◌, Some, None, is_some, Option, List, length, nat_lt, slice_index_or, IfOk, position, find, cond, true};
 ghost use Rattle.dsql_engine.specs.Statements.{asked_of, statement_of};
 ghost use Rattle.dsql_history.specs.Readers.Course.{caps, has_ended};
 ghost use Rattle.dsql_history.specs.Readers.Sets.{place, places, idle, open_count, next_number, next_tenure, uses, is_open as is_open_place, is_closing as is_closing_place, is_opening as is_opening_place};
