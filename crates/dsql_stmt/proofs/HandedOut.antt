@@ -15,10 +15,10 @@ use Rattle.dsql_stmt.proofs.Places.{all_of, neither, place_is, place_of, prepare
 abbrev pub pair_of : Live → ℕ × ℕ
 pair_of l = (l.0.1, l.1.handle)
 
-contains_first : {X : Type 0} (x y : X) (xs : List X) → x ≡ y → Contains (x ∷ xs) y
+pub contains_first : {X : Type 0} (x y : X) (xs : List X) → x ≡ y → Contains (x ∷ xs) y
 contains_first x y xs same = (zero, omega arith, same)
 
-contains_later : {X : Type 0} (x y : X) (xs : List X) → Contains xs y → Contains (x ∷ xs) y
+pub contains_later : {X : Type 0} (x y : X) (xs : List X) → Contains xs y → Contains (x ∷ xs) y
 contains_later x y xs c = (suc c.0, omega (arith, c.1), c.2)
 
 each : (n conn : ℕ) (p : Prepared) (live : List Live) → prepared_on n conn live ≡ Some p → Contains (handles_of n live) (conn, p.handle)
@@ -65,7 +65,7 @@ in_front n conn handle l live one own rest (suc k) lt at =
       | false ↦ λ apart. behind_another n conn handle l live apart on
     ] refl
 
-only : (n conn handle : ℕ) (live : List Live) → count_by (λ (l : Live). is_place n conn l.0) live ≤ 1 → Contains (handles_of n live) (conn, handle) → IsOn n conn handle live
+pub only : (n conn handle : ℕ) (live : List Live) → count_by (λ (l : Live). is_place n conn l.0) live ≤ 1 → Contains (handles_of n live) (conn, handle) → IsOn n conn handle live
 only n conn handle [] one c = absurd (omega (arith, c.1))
 only n conn handle (l ∷ live) one c =
     let others = filter (is_of n) live in

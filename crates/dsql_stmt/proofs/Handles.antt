@@ -12,7 +12,7 @@ use Rattle.dsql_stmt.proofs.Places.{neither, nor_second, is_placed, place_on, el
 use Rattle.dsql_stmt.proofs.OneEach.{has_number}
 
 -- from what was prepared to the handle
-seen : {o r : Option Prepared} → o ≡ r → option_map inputs_of o ≡ option_map inputs_of r
+pub seen : {o r : Option Prepared} → o ≡ r → option_map inputs_of o ≡ option_map inputs_of r
 seen same = ap (λ (o : Option Prepared). option_map inputs_of o) same
 
 pub prepared_is_live : PreparedIsLive

@@ -1,6 +1,7 @@
 pub mod Changes
 pub mod Closes
 pub mod Counts
+pub mod Dropped
 pub mod HandedOut
 pub mod Handles
 pub mod OneEach

@@ -3,7 +3,7 @@ use Rattle.std.specs.Prelude.{◌≡◌, ◌≢◌, ℕ, ℤ, true, false, List,
 use Rattle.std.specs.Option.{option_map}
 use Rattle.dsql_stmt.specs.declared.stmt.Home.{Home}
 use Rattle.dsql_stmt.specs.declared.stmt.Stmt.{Stmt}
-use Rattle.dsql_stmt.specs.Statements.{Live, HandleInputs, unclosed, is_open, closed_by, answer_of, stmt_of, was_added, changed, handle_on, is_live, live_handle, handed_out, without_handle, without_conn, IsOneEach}
+use Rattle.dsql_stmt.specs.Statements.{Live, HandleInputs, unclosed, is_open, closed_by, answer_of, stmt_of, was_added, changed, handle_on, is_live, live_handle, handles_of, handed_out, without_handle, without_conn, IsOneEach}
 
 -- the statement after closes by these calls, one after another
 abbrev pub closed_by_all : List ℕ → Stmt → Stmt
@@ -49,6 +49,15 @@ pub record DropsOneHandle : Type 0 where
   pub not_on : (n conn handle : ℕ) (inputs : ℤ) (live : List Live) → IsOneEach live → handle_on n conn live ≡ Some (handle, inputs) → handle_on n conn (without_handle conn handle live) ≡ None
   pub other_numbers : (n conn handle other : ℕ) (inputs : ℤ) (live : List Live) → other ≢ handle → handle_on n conn live ≡ Some (other, inputs) → handle_on n conn (without_handle conn handle live) ≡ Some (other, inputs)
   pub other_connections : (n conn there handle : ℕ) (live : List Live) → there ≢ conn → handle_on n there (without_handle conn handle live) ≡ handle_on n there live
+
+-- what is live after these handles were dropped, one after another
+abbrev pub all_dropped : List (ℕ × ℕ) → List Live → List Live
+all_dropped handles live = fold (λ left pair. without_handle pair.0 pair.1 left) live handles
+
+-- once each handle that a first close handed out was dropped, nothing of the statement is live, and no other statement has lost a handle
+pub record DropsWhatWasHandedOut : Type 0 where
+  pub nothing_left : (n : ℕ) (live : List Live) (stmt : Stmt) → is_open stmt ≡ true → handles_of n (all_dropped (handed_out n live stmt) live) ≡ []
+  pub other_statements : (n other conn : ℕ) (live : List Live) (stmt : Stmt) → other ≢ n → IsOneEach live → handle_on other conn (all_dropped (handed_out n live stmt) live) ≡ handle_on other conn live
 
 -- a lost connection takes with it exactly its handles
 pub record LosesOneConnection : Type 0 where

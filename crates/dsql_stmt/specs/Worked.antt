@@ -3,6 +3,7 @@ use Rattle.std.specs.Prelude.{◌≡◌, pos, true, false, List, [], ◌∷◌, 
 use Rattle.dsql_stmt.specs.declared.stmt.Home.TheVariants.{Db}
 use Rattle.dsql_stmt.specs.declared.stmt.Stmt.{Stmt}
 use Rattle.dsql_stmt.specs.Statements.{Live, unclosed, closed_by, answer_of, handle_on, is_live, live_handle, handed_out, without_handle, without_conn}
+use Rattle.dsql_stmt.specs.Laws.{all_dropped}
 
 abbrev pub three : List Live
 three = live_handle 1 1 1 (pos 1) ∷ live_handle 1 2 7 (pos 1) ∷ live_handle 2 2 8 (pos 0) ∷ []
@@ -20,6 +21,7 @@ pub record WorkedHandles : Type 0 where
   pub handed_again : handed_out 1 three (closed_by 4 set_a) ≡ []
   pub one_dropped : without_handle 2 7 three ≡ live_handle 1 1 1 (pos 1) ∷ live_handle 2 2 8 (pos 0) ∷ []
   pub number_elsewhere_stays : without_handle 1 7 three ≡ three
+  pub all_dropped_of_one : all_dropped (handed_out 1 three set_a) three ≡ live_handle 2 2 8 (pos 0) ∷ []
   pub lost : without_conn 2 three ≡ live_handle 1 1 1 (pos 1) ∷ []
 
 pub record WorkedCloses : Type 0 where

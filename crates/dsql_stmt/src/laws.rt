@@ -1,5 +1,5 @@
 //! Laws of the table of statements, and worked values: each law is the contract of a function that does nothing.
-ghost use Rattle.dsql_stmt.specs.Laws.{FirstCloseStays, ChangesOneStatement, OneHandleEach, PreparedIsLive, HandsOutTheLive, DropsOneHandle, LosesOneConnection};
+ghost use Rattle.dsql_stmt.specs.Laws.{FirstCloseStays, ChangesOneStatement, OneHandleEach, PreparedIsLive, HandsOutTheLive, DropsOneHandle, DropsWhatWasHandedOut, LosesOneConnection};
 ghost use Rattle.dsql_stmt.specs.Worked.{WorkedHandles, WorkedCloses};
 
 /// The call that closed a statement is the first that came to close it, and never changes afterwards.
@@ -37,6 +37,13 @@ pub fn a_close_hands_out_the_live_handles()
 #[tactic(auto, using(crate::proofs::Handles::drops_one_handle))]
 pub fn a_drop_of_one_handle()
     ensures { DropsOneHandle }
+{}
+
+/// Once each handle that a first close handed out was dropped, nothing of the statement is live, and no other
+/// statement has lost a handle.
+#[tactic(auto, using(crate::proofs::Dropped::drops_what_was_handed_out))]
+pub fn nothing_is_live_once_all_was_dropped()
+    ensures { DropsWhatWasHandedOut }
 {}
 
 /// A lost connection takes with it exactly its handles.
