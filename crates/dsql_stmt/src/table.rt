@@ -169,6 +169,7 @@ impl Stmts {
         ensures err { OnErr result (self.new.stmts ≡ self.old.stmts) }
         ensures live { self.new.live ≡ self.old.live }
         ensures spare { self.old.spare ≤ self.new.spare + 1 }
+        ensures again { option_map is_open (stmt_of n self.old.stmts) ≡ Some false → self.old.spare ≤ self.new.spare }
     {
         if self.stmt(n).closed.is_some() {
             return Ok(Items::none(self.alloc));
