@@ -4,8 +4,8 @@ ghost use Rattle.dsql_engine.specs.Desk.{past, Stands};
 ghost use Rattle.dsql_engine.specs.Statements.{IsReadyFor};
 
 use crate::desk::Desk;
-use crate::next::NoRoom;
 use crate::entries::number_of;
+use crate::next::NoRoom;
 use crate::statement::Statement;
 use dsql_driver::DriverAnswer;
 use dsql_history::Reply;

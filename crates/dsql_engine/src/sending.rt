@@ -93,7 +93,12 @@ fn handed(aim: Aim, made: &Progress) -> Option<u32>
 }
 
 /// What is sent next for a statement, and once it has handed out rows over them.
-pub fn body_after(caps: Caps, statement: Statement, wish: Wish, made: &Progress) -> Option<DriverCall>
+pub fn body_after(
+    caps: Caps,
+    statement: Statement,
+    wish: Wish,
+    made: &Progress,
+) -> Option<DriverCall>
     ensures { result ≡ body_after caps (asked_of statement) wish made.now }
 {
     let count = statement.params.as_slice().len();

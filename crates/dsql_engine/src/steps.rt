@@ -36,8 +36,8 @@ ghost use Rattle.dsql_engine.specs.Groups.{after_enter, after_ask, after_heard, 
 ghost use Rattle.dsql_engine.specs.Steps.{NextAfterEnter, NextAfterAsk, NextAfterHeard, NextAfterAnswer, NextOfUse, NextOfTold, NextOfWake, IsParkedAt};
 
 use crate::desk::Desk;
-use crate::next::{Next, Why};
 use crate::entries::{ends_line, is_bad_answer, is_done_answer, is_invalid_answer};
+use crate::next::{Next, Why};
 use crate::ready::Hearing;
 use crate::room::reply_of;
 use crate::statement::{CallStart, Entering, Statement, Then};
@@ -264,11 +264,7 @@ impl Desk {
 
     /// A driver's answer is taken in, for which all is ready.
     #[tactic(auto, using(crate::proofs::Basics::fitting_of, crate::proofs::Basics::heard_of))]
-    pub fn hear_answer(
-        &mut self,
-        entry: Entry,
-        ready: Hearing,
-    ) -> Next
+    pub fn hear_answer(&mut self, entry: Entry, ready: Hearing) -> Next
         requires stands { Stands self.old }
         requires settled { Settled (past self.old) }
         requires turns { TakesTurns (past self.old) }

@@ -15,7 +15,7 @@ returns-in_err-show_events-clause-stops g c =
     let events = c.history-events.result.now in
     let P : ℕ → List Event → Type 0 = λ n past. (w : Option (List ℕ)) → Shows w n past held → StopsBetween w (text_of (oldest n past)) (text_of past) holds in
     let stops : P c.shown.inside.count (reverse events) = λ w shows. stops_next w held holds c.shown.inside.count events shows
-        (subst (λ es. StopsBetween held [] (text_of (reverse es)) holds) (slice_rest c.shown.inside.count events) c.in_err-show_events.ensures.err) in
+    (subst (λ es. StopsBetween held [] (text_of (reverse es)) holds) (slice_rest c.shown.inside.count events) c.in_err-show_events.ensures.err) in
     let counted : P c.args.shown.now (reverse events) = subst (λ n. P n (reverse events)) c.shown.view_is stops in
     rw is (subst (λ past. P c.args.shown.now past) c.history-events.ensures.events counted)
 
@@ -26,6 +26,6 @@ returns-clause-shows g c =
     let events = c.history-events.result.now in
     let P : ℕ → List Event → Type 0 = λ n past. (w : Option (List ℕ)) → Shows w n past held → holds ≡ with_text w (text_of past) in
     let shows : P c.shown.inside.count (reverse events) = λ w shows. shows_next w held holds c.shown.inside.count events shows
-        (subst (λ es. holds ≡ with_text held (text_of (reverse es))) (slice_rest c.shown.inside.count events) c.in_ok-show_events.ensures.ok) in
+    (subst (λ es. holds ≡ with_text held (text_of (reverse es))) (slice_rest c.shown.inside.count events) c.in_ok-show_events.ensures.ok) in
     let counted : P c.args.shown.now (reverse events) = subst (λ n. P n (reverse events)) c.shown.view_is shows in
     subst (λ past. P c.args.shown.now past) c.history-events.ensures.events counted
