@@ -408,18 +408,15 @@ fn a_read_that_fails_ends_the_run_behind_whole_lines(rt: HostRuntime) -> Result<
     Ok(())
 }
 
-/// The first lines of a report, so many.
-fn first_lines(report: &[u8], count: u64) -> &[u8] {
-    let mut ended = 0_u64;
-    for (place, byte) in report.iter().enumerate() {
-        if ended == count {
-            return &report[..place];
-        }
-        if *byte == b'\n' {
-            ended = ended.saturating_add(1);
+/// How many bytes the first pieces have, so many of them.
+fn length_of_first(pieces: &[&str], count: u64) -> u64 {
+    let mut bytes = 0_u64;
+    for (place, piece) in pieces.iter().enumerate() {
+        if (place as u64) < count {
+            bytes = bytes.saturating_add(piece.len() as u64);
         }
     }
-    report
+    bytes
 }
 
 /// The first bytes of a report, so many.
@@ -431,7 +428,8 @@ fn first_bytes(report: &[u8], count: u64) -> &[u8] {
 #[test]
 fn a_write_that_fails_leaves_a_beginning(rt: HostRuntime) -> Result<(), Fail> {
     let alloc = rt.alloc();
-    let report = text(alloc, &[BEGIN, FIRST, END_OF_ONE])?;
+    let pieces = [BEGIN, FIRST, END_OF_ONE];
+    let report = text(alloc, &pieces)?;
     let cut = text(alloc, &[ONE, "c1 exec db [\"SET a"])?;
     let rows: [(&str, usize, &[u64], u8); 6] = [
         (ONE, 1, &[], 0),
@@ -449,11 +447,12 @@ fn a_write_that_fails_leaves_a_beginning(rt: HostRuntime) -> Result<(), Fail> {
                 ..NO_FAULTS
             };
             let outcome = run_with(&rt, PLAY, script.as_bytes(), piece, &faults)?;
-            let front = if piece == 1 {
-                first_bytes(report.as_bytes(), k - 1)
+            let written = if piece == 1 {
+                k - 1
             } else {
-                first_lines(report.as_bytes(), k - 1)
+                length_of_first(&pieces, k - 1)
             };
+            let front = first_bytes(report.as_bytes(), written);
             let whole = front.len() == report.len();
             assert_eq!(rt; outcome.report.as_slice(), front, "write {k} by {piece}");
             assert_eq!(rt;
