@@ -5,7 +5,7 @@ use Rattle.dsql_history.specs.Rules.Course.{is_from_outside}
 use Rattle.dsql_history.specs.Rules.Settled.{Settled}
 use Rattle.dsql_history.specs.Legal.{Allowed, Lawful, Calm, Legal}
 use Rattle.dsql_history.specs.Computed.{is_allowed, is_settled, is_lawful, is_calm, is_legal}
-use Rattle.dsql_history.proofs.JournalLaws.{keeps_journals_of}
+use Rattle.dsql_laws.proofs.JournalLaws.{keeps_journals_of}
 
 parts : (a b : Bool) → a && b ≡ true → (a ≡ true) × (b ≡ true)
 parts true b h = (refl, h)

@@ -12,7 +12,7 @@ use Rattle.dsql_history.specs.Readers.Sets.{places, place, is_open, is_opening, 
 use Rattle.dsql_history.specs.Rules.Limit.{keeps_limit}
 use Rattle.dsql_history.specs.Legal.{Allowed, Lawful}
 use Rattle.dsql_history.specs.Computed.{is_allowed}
-use Rattle.dsql_history.proofs.SoundSets.{moves_of}
+use Rattle.dsql_laws.proofs.SoundSets.{moves_of}
 use Rattle.dsql_cases.proofs.Decide.{allowed_computed}
 
 limit_kept : (before : List Event) (e : Event) → Allowed before e → keeps_limit before e ≡ true

@@ -29,12 +29,12 @@ use Rattle.dsql_history.specs.Rules.Line.{Asked, aim_of, due, line_after, body_a
 use Rattle.dsql_history.specs.Rules.Replies.{is_done_on, has_let_go, has_cause}
 use Rattle.dsql_history.specs.Rules.Settled.{Settled, is_under_way}
 use Rattle.dsql_history.specs.Legal.{Allowed, Lawful}
-use Rattle.dsql_history.proofs.Rows.{same_to_itself, same_or_not, row_at, row_off, row_new, row_old}
-use Rattle.dsql_history.proofs.SoundSets.{sound_sets}
-use Rattle.dsql_history.proofs.SoundCalls.{sound_calls, own_sender}
-use Rattle.dsql_history.proofs.SoundLines.{sound_journals, lent_for}
-use Rattle.dsql_history.proofs.Standing.{good_now}
-use Rattle.dsql_history.proofs.JournalLaws.{fresh_lending}
+use Rattle.dsql_laws.proofs.Rows.{same_to_itself, same_or_not, row_at, row_off, row_new, row_old}
+use Rattle.dsql_laws.proofs.SoundSets.{sound_sets}
+use Rattle.dsql_laws.proofs.SoundCalls.{sound_calls, own_sender}
+use Rattle.dsql_laws.proofs.SoundLines.{sound_journals, lent_for}
+use Rattle.dsql_laws.proofs.Standing.{good_now}
+use Rattle.dsql_laws.proofs.JournalLaws.{fresh_lending}
 use Rattle.dsql_engine.specs.Freshly.{Freshly}
 use Rattle.dsql_engine.specs.Latest.{latest}
 use Rattle.dsql_engine.specs.Turns.{SettledBut, IsAlone}
@@ -42,7 +42,7 @@ use Rattle.dsql_engine.specs.Made.{all_made, made}
 use Rattle.dsql_engine.specs.Groups.{lent_to}
 use Rattle.dsql_engine.proofs.Basics.{not_first, follows_placed, all_of}
 use Rattle.dsql_engine.proofs.Moving.{row_of, some_number, few_without, none_without}
-use Rattle.dsql_history.proofs.LentRows.{home_decided}
+use Rattle.dsql_laws.proofs.LentRows.{home_decided}
 use Rattle.dsql_engine.proofs.Using.{SameLending, user_own, used_off, used_all, used_told, way_as, way_at, way_off, ways_told}
 
 last_in : (x : ℕ) (ns : List ℕ) → has (last (x ∷ ns)) (x ∷ ns) ≡ true

@@ -30,14 +30,14 @@ use Rattle.dsql_history.specs.Rules.Line.{aim_of, wish, wish_of, keeps_rows, is_
 use Rattle.dsql_history.specs.Rules.Replies.{is_done_on, is_kept_at, has_let_go}
 use Rattle.dsql_history.specs.Rules.Settled.{Settled, is_under_way}
 use Rattle.dsql_history.specs.Legal.{Allowed, Lawful}
-use Rattle.dsql_history.proofs.Rows.{same_to_itself, other_number, same_or_not, has-without, row_off}
-use Rattle.dsql_history.proofs.SoundSets.{sound_sets}
-use Rattle.dsql_history.proofs.SoundCalls.{SoundCalls, sound_calls, owner_of, entered_home, replied_home, is_false}
-use Rattle.dsql_history.proofs.SoundLines.{lent_for}
-use Rattle.dsql_history.proofs.HandedLines.{Kept, kept_rows}
-use Rattle.dsql_history.proofs.Workers.{worker_entered, worker_new}
+use Rattle.dsql_laws.proofs.Rows.{same_to_itself, other_number, same_or_not, has-without, row_off}
+use Rattle.dsql_laws.proofs.SoundSets.{sound_sets}
+use Rattle.dsql_laws.proofs.SoundCalls.{SoundCalls, sound_calls, owner_of, entered_home, replied_home, is_false}
+use Rattle.dsql_laws.proofs.SoundLines.{lent_for}
+use Rattle.dsql_laws.proofs.HandedLines.{Kept, kept_rows}
+use Rattle.dsql_laws.proofs.Workers.{worker_entered, worker_new}
 use Rattle.dsql_engine.proofs.Basics.{may_reply, all_of}
-use Rattle.dsql_history.proofs.Tended.{rows_left}
+use Rattle.dsql_laws.proofs.Tended.{rows_left}
 use Rattle.dsql_engine.proofs.Using.{SameLending, used_at, used_off, used_all, asked_told, way_as}
 use Rattle.dsql_engine.proofs.Entered.{old_record, reply_entered, home_entered, work_entered, own_unfinished, old_unfinished, work_before, asked_before, sender_before, way_entered}
 

@@ -31,12 +31,12 @@ use Rattle.dsql_history.specs.Rules.Line.{Asked, aim_of, handed, asked_by, wish,
 use Rattle.dsql_history.specs.Rules.Numbers.{takes_turn, has_turn}
 use Rattle.dsql_history.specs.Rules.Settled.{Settled, is_under_way}
 use Rattle.dsql_history.specs.Legal.{Lawful}
-use Rattle.dsql_history.proofs.Rows.{same_number, same_to_itself, same_or_not}
-use Rattle.dsql_history.proofs.SoundCalls.{sound_calls, entered_home}
-use Rattle.dsql_history.proofs.SoundLines.{sound_made, lent_for}
-use Rattle.dsql_history.proofs.SoundRows.{sound_rows}
-use Rattle.dsql_history.proofs.HandedLines.{Works}
-use Rattle.dsql_history.proofs.LentRows.{SoundRows, AtWork, sender_is, work_due, cursor_there}
+use Rattle.dsql_laws.proofs.Rows.{same_number, same_to_itself, same_or_not}
+use Rattle.dsql_laws.proofs.SoundCalls.{sound_calls, entered_home}
+use Rattle.dsql_laws.proofs.SoundLines.{sound_made, lent_for}
+use Rattle.dsql_laws.proofs.SoundRows.{sound_rows}
+use Rattle.dsql_laws.proofs.HandedLines.{Works}
+use Rattle.dsql_laws.proofs.LentRows.{SoundRows, AtWork, sender_is, work_due, cursor_there}
 use Rattle.dsql_engine.specs.Made.{made}
 use Rattle.dsql_engine.specs.Turns.{SettledBut, IsAlone}
 use Rattle.dsql_engine.proofs.Basics.{all_of}

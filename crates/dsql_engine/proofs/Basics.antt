@@ -31,7 +31,7 @@ use Rattle.dsql_engine.specs.Groups.{told, reply_as}
 use Rattle.dsql_driver.specs.Fits.{fits_of, is_memory}
 use Rattle.dsql_journal.specs.HandlesAndCursors.{fits_at_its_place, is_heard, is_fitting, gives_new_handle, gives_new_cursor, has_width_of_cursor}
 use Rattle.dsql_journal.proofs.Conjunctions.{parts5}
-use Rattle.dsql_history.proofs.Rows.{same_to_itself, not_true}
+use Rattle.dsql_laws.proofs.Rows.{same_to_itself, not_true}
 use Rattle.dsql_history.specs.Rules.Course.{begins_with_run, is_run}
 use Rattle.dsql_history.specs.Rules.Order.{follows, follows_answer}
 use Rattle.dsql_history.specs.Rules.Replies.{same_reply, same_word, same_cause, same_over, same_columns, has_let_go}

@@ -18,16 +18,16 @@ use Rattle.dsql_history.specs.Readers.Unfinished.{unfinished, is_unfinished}
 use Rattle.dsql_history.specs.Readers.Calls.{calls, call_record, home, nobody, reply_to, reply_due, sender, user}
 use Rattle.dsql_history.specs.Rules.Settled.{Settled, is_in_use, has_to_come, is_under_way}
 use Rattle.dsql_history.specs.Legal.{Allowed, Lawful}
-use Rattle.dsql_history.proofs.Rows.{same_to_itself, other_number, same_or_not, row_at, row_off}
-use Rattle.dsql_history.proofs.SoundCalls.{SoundCalls, sound_calls, own_sender}
-use Rattle.dsql_history.proofs.SoundLines.{lent_for}
-use Rattle.dsql_history.proofs.JournalLaws.{follows_connect, whole_refused}
+use Rattle.dsql_laws.proofs.Rows.{same_to_itself, other_number, same_or_not, row_at, row_off}
+use Rattle.dsql_laws.proofs.SoundCalls.{SoundCalls, sound_calls, own_sender}
+use Rattle.dsql_laws.proofs.SoundLines.{lent_for}
+use Rattle.dsql_laws.proofs.JournalLaws.{follows_connect, whole_refused}
 use Rattle.dsql_engine.specs.Groups.{lent_to}
 use Rattle.dsql_engine.specs.Turns.{TakesTurns}
 use Rattle.dsql_engine.proofs.Basics.{not_first, begun, follows_placed, all_of, way_of}
 use Rattle.dsql_engine.proofs.Exchanged.{row_of}
 use Rattle.dsql_engine.proofs.Moving.{few_without, none_without}
-use Rattle.dsql_history.proofs.LentRows.{home_decided}
+use Rattle.dsql_laws.proofs.LentRows.{home_decided}
 use Rattle.dsql_engine.proofs.Using.{user_own, numbered, used_off, used_all, used_house, lend_lending, fell_lending, way_as, way_at, way_off}
 
 pub may_hear_connect : (H : List Event) (c n : ℕ) (answer : DriverAnswer) → Lawful H → Settled H → place H c ≡ Opening n → fits_of Connect answer ≡ true → is_memory answer ≡ false

@@ -18,10 +18,10 @@ use Rattle.dsql_history.specs.Readers.Calls.{sender}
 use Rattle.dsql_history.specs.Rules.Line.{is_kept_by_rows}
 use Rattle.dsql_history.specs.Rules.Settled.{Settled, is_placed, is_in_use}
 use Rattle.dsql_history.specs.Legal.{Allowed, Lawful}
-use Rattle.dsql_history.proofs.Rows.{both, not_true, same_to_itself, is_once, read_set}
-use Rattle.dsql_history.proofs.SoundCalls.{sound_calls, owner_of}
-use Rattle.dsql_history.proofs.SoundLines.{lent_for}
-use Rattle.dsql_history.proofs.SoundSets.{sound_sets}
+use Rattle.dsql_laws.proofs.Rows.{both, not_true, same_to_itself, is_once, read_set}
+use Rattle.dsql_laws.proofs.SoundCalls.{sound_calls, owner_of}
+use Rattle.dsql_laws.proofs.SoundLines.{lent_for}
+use Rattle.dsql_laws.proofs.SoundSets.{sound_sets}
 use Rattle.dsql_history.specs.declared.event.CloseCause.TheVariants.{DbClosed}
 use Rattle.dsql_history.specs.Rules.Causes.{is_at_end}
 use Rattle.dsql_history.specs.Rules.House.{is_quiet, has_no_chore}
@@ -30,7 +30,7 @@ use Rattle.dsql_engine.specs.Latest.{oldest}
 use Rattle.dsql_engine.proofs.Basics.{not_first, follows_placed, all_places}
 use Rattle.dsql_engine.proofs.Using.{kept_in_use}
 use Rattle.dsql_engine.proofs.Leaving.{use_close}
-use Rattle.dsql_history.proofs.Tended.{rows_left}
+use Rattle.dsql_laws.proofs.Tended.{rows_left}
 use Rattle.dsql_engine.proofs.Moving.{closed_or}
 
 pub may_end : (H : List Event) → Settled H → is_empty H ≡ false → is_quiet H ≡ true → has_ended H ≡ false → Allowed H Ended

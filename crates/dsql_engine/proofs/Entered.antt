@@ -23,10 +23,10 @@ use Rattle.dsql_history.specs.Rules.Line.{aim_of, asked_by, wish_of, Asked}
 use Rattle.dsql_history.specs.Rules.Numbers.{takes_turn}
 use Rattle.dsql_history.specs.Rules.Settled.{Settled, is_under_way}
 use Rattle.dsql_history.specs.Legal.{Allowed, Lawful}
-use Rattle.dsql_history.proofs.Rows.{same_to_itself, has_push, row_new, row_old}
-use Rattle.dsql_history.proofs.SoundCalls.{SoundCalls, sound_calls, entered_home, old_work, new_work}
-use Rattle.dsql_history.proofs.SoundLines.{lent_for}
-use Rattle.dsql_history.proofs.Workers.{Sender, Itself, Nobody, Fetches, Closes, sender_of}
+use Rattle.dsql_laws.proofs.Rows.{same_to_itself, has_push, row_new, row_old}
+use Rattle.dsql_laws.proofs.SoundCalls.{SoundCalls, sound_calls, entered_home, old_work, new_work}
+use Rattle.dsql_laws.proofs.SoundLines.{lent_for}
+use Rattle.dsql_laws.proofs.Workers.{Sender, Itself, Nobody, Fetches, Closes, sender_of}
 use Rattle.dsql_engine.specs.Freshly.{Freshly}
 use Rattle.dsql_engine.proofs.Basics.{not_first, follows_placed, way_of}
 use Rattle.dsql_engine.proofs.Using.{SameLending, used_at, used_off, way_as}

@@ -16,11 +16,11 @@ use Rattle.dsql_history.specs.Readers.Journals.{heard_in}
 use Rattle.dsql_history.specs.Readers.Exchanges.{exchanges, step_of, with_exchange}
 use Rattle.dsql_history.specs.Rules.Moves.{hears_in}
 use Rattle.dsql_history.specs.Legal.{Lawful}
-use Rattle.dsql_history.proofs.Rows.{both, same_number, read_set, read_push, same_or_not, row_at, row_off, row_old, length_push, within_rows}
-use Rattle.dsql_history.proofs.SoundCalls.{lend_facts, owner_of}
-use Rattle.dsql_history.proofs.SoundJournals.{heard_facts}
-use Rattle.dsql_history.proofs.SoundLines.{placed, tenure_of, heard_here, heard_off}
-use Rattle.dsql_history.proofs.JournalLaws.{fresh_lending}
+use Rattle.dsql_laws.proofs.Rows.{both, same_number, read_set, read_push, same_or_not, row_at, row_off, row_old, length_push, within_rows}
+use Rattle.dsql_laws.proofs.SoundCalls.{lend_facts, owner_of}
+use Rattle.dsql_laws.proofs.SoundJournals.{heard_facts}
+use Rattle.dsql_laws.proofs.SoundLines.{placed, tenure_of, heard_here, heard_off}
+use Rattle.dsql_laws.proofs.JournalLaws.{fresh_lending}
 use Rattle.dsql_engine.specs.Made.{all_made, made}
 
 row_when : (H : List Event) (c : ℕ) (p : Place) → (c < length (places H)) ⊎ ((length (places H) ≤ c) × (get_or (places H) c Nowhere ≡ Nowhere)) → place H c ≡ p → is_open p ≡ true → c < length (places H)

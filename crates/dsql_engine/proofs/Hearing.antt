@@ -38,18 +38,18 @@ use Rattle.dsql_history.specs.Readers.Calls.{reply_due, sender, user}
 use Rattle.dsql_history.specs.Rules.Line as line
 use Rattle.dsql_history.specs.Rules.Line.{Asked, asked_by, wish, is_due, line_after, body_after, body_with, sent_over, sent_as, run_for, course_of, going_on, handed, test_of}
 use Rattle.dsql_history.specs.Rules.Settled.{Settled, is_under_way}
-use Rattle.dsql_history.specs.Kept.{AreLive}
+use Rattle.dsql_laws.specs.Kept.{AreLive}
 use Rattle.dsql_history.specs.Legal.{Allowed, Lawful}
-use Rattle.dsql_history.proofs.Rows.{same_to_itself, same_or_not}
-use Rattle.dsql_history.proofs.CallLines.{is_sent, sent_entry}
-use Rattle.dsql_history.proofs.Lines.{sent_of, some_of}
-use Rattle.dsql_history.proofs.Standing.{good_now}
-use Rattle.dsql_history.proofs.SoundCalls.{SoundCalls, sound_calls}
-use Rattle.dsql_history.proofs.SoundLines.{sound_journals, asked_heard, heard_here, lent_for}
-use Rattle.dsql_history.proofs.SoundRows.{rows_new, rows_fetched}
-use Rattle.dsql_history.proofs.HeardRows.{heard_other}
-use Rattle.dsql_history.proofs.JournalLaws.{good_while_due, follows_due}
-use Rattle.dsql_history.proofs.Workers.{Sender, Itself, Nobody, Fetches, Closes, sender_of, zero_work}
+use Rattle.dsql_laws.proofs.Rows.{same_to_itself, same_or_not}
+use Rattle.dsql_laws.proofs.CallLines.{is_sent, sent_entry}
+use Rattle.dsql_laws.proofs.Lines.{sent_of, some_of}
+use Rattle.dsql_laws.proofs.Standing.{good_now}
+use Rattle.dsql_laws.proofs.SoundCalls.{SoundCalls, sound_calls}
+use Rattle.dsql_laws.proofs.SoundLines.{sound_journals, asked_heard, heard_here, lent_for}
+use Rattle.dsql_laws.proofs.SoundRows.{rows_new, rows_fetched}
+use Rattle.dsql_laws.proofs.HeardRows.{heard_other}
+use Rattle.dsql_laws.proofs.JournalLaws.{good_while_due, follows_due}
+use Rattle.dsql_laws.proofs.Workers.{Sender, Itself, Nobody, Fetches, Closes, sender_of, zero_work}
 use Rattle.dsql_engine.specs.Awaited.{call_permit}
 use Rattle.dsql_engine.specs.Made.{made}
 use Rattle.dsql_engine.specs.Rows.{HearsRows}

@@ -10,7 +10,7 @@ use Rattle.dsql_history.specs.Readers.Calls.{calls}
 use Rattle.dsql_history.specs.Readers.HandedOut.{handed_out, rows_heard}
 use Rattle.dsql_history.specs.Readers.Exchanges.{step_of}
 use Rattle.dsql_history.specs.Readers.Works.{work}
-use Rattle.dsql_history.proofs.Workers.{zero_work}
+use Rattle.dsql_laws.proofs.Workers.{zero_work}
 use Rattle.dsql_engine.specs.Made.{all_made}
 
 pub made_outside : (H : List Event) (e : Entry) → step_of e.call ≡ None → all_made (Heard e ∷ H) ≡ all_made H

@@ -15,8 +15,8 @@ use Rattle.dsql_history.specs.declared.event.Event.TheVariants.{Entered}
 use Rattle.dsql_history.specs.declared.event.Op.{Op}
 use Rattle.dsql_history.specs.Readers.Calls.{next_call}
 use Rattle.dsql_history.specs.Legal.{Allowed, Lawful}
-use Rattle.dsql_history.proofs.Rows.{both, same_number}
-use Rattle.dsql_history.proofs.SoundCalls.{sound_calls}
+use Rattle.dsql_laws.proofs.Rows.{both, same_number}
+use Rattle.dsql_laws.proofs.SoundCalls.{sound_calls}
 use Rattle.dsql_engine.specs.Labels.{label_made, labelled}
 
 found : ℕ → ℕ → Option ℕ

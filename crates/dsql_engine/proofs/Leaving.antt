@@ -28,14 +28,14 @@ use Rattle.dsql_history.specs.Rules.Line.{due, is_kept_by_rows}
 use Rattle.dsql_history.specs.Rules.Replies.{is_done_on, has_let_go}
 use Rattle.dsql_history.specs.Rules.Settled.{Settled, is_placed, is_in_use, is_under_way, keeps_idle_limit}
 use Rattle.dsql_history.specs.Legal.{Allowed, Lawful}
-use Rattle.dsql_history.proofs.Rows.{same_number, same_to_itself, other_number, within_rows, length-without, length_push, row_at, row_off}
-use Rattle.dsql_history.proofs.SoundCalls.{sound_calls, replied_home}
-use Rattle.dsql_history.proofs.SoundLines.{lent_for}
-use Rattle.dsql_history.proofs.JournalLaws.{whole_when_done}
+use Rattle.dsql_laws.proofs.Rows.{same_number, same_to_itself, other_number, within_rows, length-without, length_push, row_at, row_off}
+use Rattle.dsql_laws.proofs.SoundCalls.{sound_calls, replied_home}
+use Rattle.dsql_laws.proofs.SoundLines.{lent_for}
+use Rattle.dsql_laws.proofs.JournalLaws.{whole_when_done}
 use Rattle.dsql_engine.specs.Groups.{leaving, told, told_by, after_using}
 use Rattle.dsql_engine.specs.Turns.{SettledBut, IsAlone}
 use Rattle.dsql_engine.proofs.Basics.{may_reply, not_first, begun, follows_placed, each_of, all_of, when_told}
-use Rattle.dsql_history.proofs.SoundReplies.{settled_when_done}
+use Rattle.dsql_laws.proofs.SoundReplies.{settled_when_done}
 use Rattle.dsql_engine.proofs.Using.{settled_of, sends_for, kept_in_use, asked_told, used_all, used_told, ways_told, way_as, way_off}
 
 -- it may be given back

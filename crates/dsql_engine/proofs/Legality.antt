@@ -1,7 +1,7 @@
 -- A desk that stands for a settled history stands for a legal one.
 use Rattle.dsql_history.specs.Legal.{Legal}
 use Rattle.dsql_history.specs.Rules.Settled.{Settled}
-use Rattle.dsql_history.proofs.JournalLaws.{keeps_journals_of}
+use Rattle.dsql_laws.proofs.JournalLaws.{keeps_journals_of}
 use Rattle.dsql_engine.specs.declared.desk.Desk.{Desk}
 use Rattle.dsql_engine.specs.Desk.{past, Stands, lawful_of, calm_of}
 

@@ -10,8 +10,8 @@ use Rattle.dsql_history.specs.Readers.Course.{has_ended}
 use Rattle.dsql_history.specs.Readers.Sets.{places, place, idle, is_open}
 use Rattle.dsql_history.specs.Rules.Settled.{keeps_idle_limit, is_empty_when_closed}
 use Rattle.dsql_history.specs.Legal.{Lawful}
-use Rattle.dsql_history.proofs.Rows.{within_rows, length-without}
-use Rattle.dsql_history.proofs.SoundSets.{sound_sets}
+use Rattle.dsql_laws.proofs.Rows.{within_rows, length-without}
+use Rattle.dsql_laws.proofs.SoundSets.{sound_sets}
 
 -- no connection has the number 0
 pub some_number : (H : List Event) (c : ℕ) (p : Place) → Lawful H → place H c ≡ p → is_open p ≡ true → c ≢ 0

@@ -14,9 +14,9 @@ use Rattle.dsql_history.specs.Readers.Unfinished.{unfinished, is_unfinished}
 use Rattle.dsql_history.specs.Readers.Calls.{home, user}
 use Rattle.dsql_history.specs.Rules.Settled.{Settled, is_in_use, is_under_way}
 use Rattle.dsql_history.specs.Legal.{Allowed, Lawful}
-use Rattle.dsql_history.proofs.Rows.{same_to_itself, row_at, row_off}
-use Rattle.dsql_history.proofs.SoundCalls.{sound_calls}
-use Rattle.dsql_history.proofs.JournalLaws.{follows_shut, whole_shut}
+use Rattle.dsql_laws.proofs.Rows.{same_to_itself, row_at, row_off}
+use Rattle.dsql_laws.proofs.SoundCalls.{sound_calls}
+use Rattle.dsql_laws.proofs.JournalLaws.{follows_shut, whole_shut}
 use Rattle.dsql_engine.proofs.Basics.{not_first, begun, follows_placed, all_of, way_of}
 use Rattle.dsql_engine.proofs.Exchanged.{row_of}
 use Rattle.dsql_engine.proofs.Using.{used_off, used_all, used_house, gone_lending, way_as, way_off}

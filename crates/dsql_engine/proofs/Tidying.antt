@@ -26,11 +26,11 @@ use Rattle.dsql_history.specs.Rules.House.{tidy_due, is_untidy}
 use Rattle.dsql_history.specs.Rules.Line.{Asked, aim_of, asked_by, wish, due, line_after, body_after, is_reset_due, is_kept_by_rows, keeps_rows, keeps_with, handed}
 use Rattle.dsql_history.specs.Rules.Settled.{Settled}
 use Rattle.dsql_history.specs.Legal.{Lawful}
-use Rattle.dsql_history.proofs.Rows.{both, same_number}
-use Rattle.dsql_history.proofs.SoundCalls.{sound_calls}
-use Rattle.dsql_history.proofs.SoundLines.{lent_for}
-use Rattle.dsql_history.proofs.SoundRows.{sound_rows}
-use Rattle.dsql_history.proofs.HandedLines.{cursor_of}
+use Rattle.dsql_laws.proofs.Rows.{both, same_number}
+use Rattle.dsql_laws.proofs.SoundCalls.{sound_calls}
+use Rattle.dsql_laws.proofs.SoundLines.{lent_for}
+use Rattle.dsql_laws.proofs.SoundRows.{sound_rows}
+use Rattle.dsql_laws.proofs.HandedLines.{cursor_of}
 use Rattle.dsql_engine.specs.Awaited.{awaited, awaited_at, call_permit}
 use Rattle.dsql_engine.specs.Made.{made}
 use Rattle.dsql_engine.proofs.Counts.{first_passes}

@@ -22,11 +22,11 @@ use Rattle.dsql_history.specs.Readers.Calls.{calls, nobody, home, next_call, sen
 use Rattle.dsql_history.specs.Rules.Numbers.{takes_turn}
 use Rattle.dsql_history.specs.Rules.Settled.{Settled}
 use Rattle.dsql_history.specs.Legal.{Lawful}
-use Rattle.dsql_history.proofs.Rows.{same_number, same_to_itself, same_or_not, has-without, has_push, within_rows}
-use Rattle.dsql_history.proofs.SoundCalls.{SoundCalls, sound_calls, old_work, new_work}
-use Rattle.dsql_history.proofs.SoundLines.{lent_for}
-use Rattle.dsql_history.proofs.SoundRows.{rows_kept}
-use Rattle.dsql_history.proofs.Workers.{worker_entered, worker_new, worker_replied}
+use Rattle.dsql_laws.proofs.Rows.{same_number, same_to_itself, same_or_not, has-without, has_push, within_rows}
+use Rattle.dsql_laws.proofs.SoundCalls.{SoundCalls, sound_calls, old_work, new_work}
+use Rattle.dsql_laws.proofs.SoundLines.{lent_for}
+use Rattle.dsql_laws.proofs.SoundRows.{rows_kept}
+use Rattle.dsql_laws.proofs.Workers.{worker_entered, worker_new, worker_replied}
 use Rattle.dsql_engine.specs.Turns.{TakesTurns}
 use Rattle.dsql_engine.specs.Groups.{after_enter, after_entry, after_heard, after_end}
 use Rattle.dsql_engine.specs.Steps.{NextOfWake}

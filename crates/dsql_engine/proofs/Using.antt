@@ -31,14 +31,14 @@ use Rattle.dsql_history.specs.Readers.Calls.{calls, call_record, nobody, home, r
 use Rattle.dsql_history.specs.Rules.Line.{Asked, aim_of, asked_by, wish, wish_of, due, line_after, is_reset_due, is_kept_by_rows, keeps_rows, keeps}
 use Rattle.dsql_history.specs.Rules.Settled.{Settled, is_in_use, uses_what_is_lent, is_under_way, goes_on}
 use Rattle.dsql_history.specs.Legal.{Lawful}
-use Rattle.dsql_history.proofs.Rows.{same_to_itself, other_number, same_or_not, has-without, row_off, read_set}
-use Rattle.dsql_history.proofs.SoundSets.{sound_sets}
-use Rattle.dsql_history.proofs.SoundCalls.{SoundCalls, sound_calls, owner_of, heard_home, replied_home}
-use Rattle.dsql_history.proofs.SoundLines.{asked_heard, heard_off, lent_for}
-use Rattle.dsql_history.proofs.LentRows.{home_decided}
-use Rattle.dsql_history.proofs.SoundRows.{rows_closing}
-use Rattle.dsql_history.proofs.HandedLines.{Kept, kept_rows}
-use Rattle.dsql_history.proofs.Workers.{Sender, Itself, Nobody, Fetches, Closes, sender_of, worker_replied}
+use Rattle.dsql_laws.proofs.Rows.{same_to_itself, other_number, same_or_not, has-without, row_off, read_set}
+use Rattle.dsql_laws.proofs.SoundSets.{sound_sets}
+use Rattle.dsql_laws.proofs.SoundCalls.{SoundCalls, sound_calls, owner_of, heard_home, replied_home}
+use Rattle.dsql_laws.proofs.SoundLines.{asked_heard, heard_off, lent_for}
+use Rattle.dsql_laws.proofs.LentRows.{home_decided}
+use Rattle.dsql_laws.proofs.SoundRows.{rows_closing}
+use Rattle.dsql_laws.proofs.HandedLines.{Kept, kept_rows}
+use Rattle.dsql_laws.proofs.Workers.{Sender, Itself, Nobody, Fetches, Closes, sender_of, worker_replied}
 use Rattle.dsql_engine.specs.Turns.{SettledBut, IsAlone, TakesTurns}
 use Rattle.dsql_engine.proofs.Basics.{all_places, all_of}
 

@@ -20,8 +20,8 @@ use Rattle.dsql_history.specs.Readers.Calls.{home, reply_due}
 use Rattle.dsql_history.specs.Rules.Line.{due, body_after, asked_by, wish, is_reset_due}
 use Rattle.dsql_history.specs.Rules.Settled.{Settled, is_in_use, has_way}
 use Rattle.dsql_history.specs.Legal.{Allowed, Lawful}
-use Rattle.dsql_history.proofs.Rows.{same_number, same_to_itself}
-use Rattle.dsql_history.proofs.SoundCalls.{sound_calls, owner_of}
+use Rattle.dsql_laws.proofs.Rows.{same_number, same_to_itself}
+use Rattle.dsql_laws.proofs.SoundCalls.{sound_calls, owner_of}
 use Rattle.dsql_engine.specs.Made.{made}
 use Rattle.dsql_engine.proofs.Exchanged.{made_lent}
 use Rattle.dsql_engine.proofs.Keeping.{line_first}

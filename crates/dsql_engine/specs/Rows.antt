@@ -8,7 +8,7 @@ use Rattle.dsql_rows.specs.OpenRows.{fresh, rows_of, was_made}
 use Rattle.dsql_history.specs.declared.work.Work.{Work}
 use Rattle.dsql_history.specs.declared.work.Work.TheVariants.{HandOut, Fetch}
 use Rattle.dsql_history.specs.Readers.HandedOut.{Made}
-use Rattle.dsql_history.specs.Kept.{AreLive}
+use Rattle.dsql_laws.specs.Kept.{AreLive}
 
 -- its answer may change the rows
 abbrev pub is_fetch_or_query : DriverCall → Bool

@@ -6,7 +6,7 @@ ghost use Rattle.dsql_history.specs.Readers.Lists.{without};
 ghost use Rattle.dsql_history.specs.Readers.Sets.{one_more};
 ghost use Rattle.dsql_history.specs.Readers.Calls.{with_record, decision, fetch_decision, query_decision, closing_decision, closed_reply, reply_to, told_of, nobody};
 ghost use Rattle.dsql_history.specs.Readers.HandedOut.{after_fetch, rows_heard};
-ghost use Rattle.dsql_history.specs.Kept.{AreLive};
+ghost use Rattle.dsql_laws.specs.Kept.{AreLive};
 ghost use Rattle.dsql_history.specs.declared.work.Work.TheVariants.{Look};
 ghost use Rattle.dsql_rows.specs.OpenRows.{was_made, rows_of, changed};
 ghost use Rattle.dsql_engine.specs.Rows.{HearsRows, is_fetch_or_query, made_by};

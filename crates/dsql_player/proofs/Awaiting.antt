@@ -18,7 +18,7 @@ use Rattle.dsql_history.specs.Readers.Calls.{sender}
 use Rattle.dsql_history.specs.Readers.Sets.{place, places, next_tenure}
 use Rattle.dsql_history.specs.Rules.House.{tidy_due, shut_due, connect_due, has_no_chore, is_untidy}
 use Rattle.dsql_history.specs.Rules.Line.{due, is_due}
-use Rattle.dsql_history.proofs.Rows.{both, same_number, same_to_itself}
+use Rattle.dsql_laws.proofs.Rows.{both, same_number, same_to_itself}
 use Rattle.dsql_engine.specs.Awaited.{awaited, awaited_at, chore_due, first_chore, shut_chore, connect_chore, connect_permit, shut_permit, call_permit}
 use Rattle.dsql_engine.proofs.Hearing.{Awaits, awaits, due_of}
 use Rattle.dsql_player.specs.Turns.{keeps_turns, same_chore}

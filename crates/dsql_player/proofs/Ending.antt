@@ -22,9 +22,9 @@ use Rattle.dsql_history.specs.Readers.Journals.{journal}
 use Rattle.dsql_history.specs.Rules.House.{is_quiet, has_no_chore, is_untidy}
 use Rattle.dsql_history.specs.Rules.Settled.{is_empty_when_closed}
 use Rattle.dsql_history.specs.Legal.{Legal, Lawful}
-use Rattle.dsql_history.proofs.Rows.{within_rows, same_or_not, same_to_itself}
-use Rattle.dsql_history.proofs.SoundSets.{sound_sets}
-use Rattle.dsql_history.proofs.SoundCalls.{sound_calls, owner_of}
+use Rattle.dsql_laws.proofs.Rows.{within_rows, same_or_not, same_to_itself}
+use Rattle.dsql_laws.proofs.SoundSets.{sound_sets}
+use Rattle.dsql_laws.proofs.SoundCalls.{sound_calls, owner_of}
 use Rattle.dsql_engine.specs.Groups.{after_end, closings}
 use Rattle.dsql_player.specs.Told.{fleet_told}
 use Rattle.dsql_player.specs.Turns.{Turns}

@@ -26,7 +26,7 @@ use Rattle.dsql_history.specs.Readers.HandedOut.{rows_by}
 use Rattle.dsql_history.specs.declared.work.Work.{Work}
 use Rattle.dsql_history.specs.declared.work.Work.TheVariants.{Execute, ReadOne, HandOut, Fetch, Close, Look}
 use Rattle.dsql_history.specs.declared.event.Op.TheVariants as ops
-use Rattle.dsql_history.specs.Kept.{AreKept}
+use Rattle.dsql_laws.specs.Kept.{AreKept}
 use Rattle.dsql_rows.specs.declared.rows.Rows.{Rows}
 use Rattle.dsql_rows.specs.OpenRows.{is_live}
 use Rattle.dsql_history.specs.Rules.House.{is_quiet, has_no_chore}
@@ -34,10 +34,10 @@ use Rattle.dsql_history.specs.Rules.Limit.{room}
 use Rattle.dsql_history.specs.Rules.Line.{due, is_kept_by_rows}
 use Rattle.dsql_history.specs.Rules.Numbers.{has_turn, takes_turn}
 use Rattle.dsql_history.specs.Legal.{Allowed, Lawful}
-use Rattle.dsql_history.proofs.Rows.{both, same_number, same_to_itself, within_rows, read_push, length_push, same_or_not}
-use Rattle.dsql_history.proofs.SoundSets.{moves_of, sound_sets}
-use Rattle.dsql_history.proofs.SoundCalls.{sound_calls, entered_home, new_work, own_sender}
-use Rattle.dsql_history.proofs.SoundRows.{rows_kept}
+use Rattle.dsql_laws.proofs.Rows.{both, same_number, same_to_itself, within_rows, read_push, length_push, same_or_not}
+use Rattle.dsql_laws.proofs.SoundSets.{moves_of, sound_sets}
+use Rattle.dsql_laws.proofs.SoundCalls.{sound_calls, entered_home, new_work, own_sender}
+use Rattle.dsql_laws.proofs.SoundRows.{rows_kept}
 use Rattle.dsql_engine.specs.declared.next.Next.{Next}
 use Rattle.dsql_engine.specs.declared.next.Next.TheVariants.{Send, Blocked, Reply, Quiet}
 use Rattle.dsql_engine.specs.declared.next.Why.TheVariants as whys

@@ -13,7 +13,7 @@ use Rattle.dsql_history.specs.Readers.Works.{work}
 use Rattle.dsql_history.specs.Readers.Lists.{first as first_of}
 use Rattle.dsql_history.specs.Readers.Unfinished.{unfinished, is_unfinished}
 use Rattle.dsql_history.specs.Rules.House.{has_no_chore}
-use Rattle.dsql_history.proofs.Rows.{read_set, same_to_itself}
+use Rattle.dsql_laws.proofs.Rows.{read_set, same_to_itself}
 use Rattle.dsql_engine.specs.declared.next.Next.{Next}
 use Rattle.dsql_engine.specs.declared.next.Next.TheVariants.{Send, Blocked, Reply as Replies, Quiet}
 use Rattle.dsql_engine.specs.Steps.{IsParked}

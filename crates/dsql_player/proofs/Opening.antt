@@ -23,7 +23,7 @@ use Rattle.dsql_history.specs.Readers.Journals.{journal, heard_in}
 use Rattle.dsql_history.specs.Readers.Calls.{calls, home}
 use Rattle.dsql_history.specs.Readers.Unfinished.{unfinished}
 use Rattle.dsql_history.specs.Legal.{Allowed, Lawful}
-use Rattle.dsql_history.proofs.Rows.{within_rows}
+use Rattle.dsql_laws.proofs.Rows.{within_rows}
 use Rattle.dsql_engine.specs.Steps.{IsParked, IsParkedAt}
 use Rattle.dsql_engine.specs.Groups.{after_heard, after_answer}
 use Rattle.dsql_engine.specs.Awaited.{chore_due}

@@ -13,7 +13,7 @@ use Rattle.dsql_history.specs.Readers.Sets.{place}
 use Rattle.dsql_history.specs.Readers.Calls.{calls, home, nobody, with_record, refusal, decision}
 use Rattle.dsql_history.specs.Readers.Works.{work, asks}
 use Rattle.dsql_history.specs.Readers.Journals.{journal}
-use Rattle.dsql_history.proofs.Rows.{read_set, same_or_not}
+use Rattle.dsql_laws.proofs.Rows.{read_set, same_or_not}
 use Rattle.dsql_engine.specs.Steps.{IsParked, IsParkedAt}
 
 -- a change that lets the home be

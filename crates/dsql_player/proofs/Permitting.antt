@@ -30,8 +30,8 @@ use Rattle.dsql_history.specs.Readers.Journals.{journal}
 use Rattle.dsql_history.specs.Readers.Calls.{sender}
 use Rattle.dsql_history.specs.Rules.Line.{due}
 use Rattle.dsql_history.specs.Rules.Settled.{is_placed}
-use Rattle.dsql_history.proofs.Rows.{same_to_itself}
-use Rattle.dsql_history.proofs.JournalLaws.{follows_due, follows_connect, follows_shut, unheard_opening}
+use Rattle.dsql_laws.proofs.Rows.{same_to_itself}
+use Rattle.dsql_laws.proofs.JournalLaws.{follows_due, follows_connect, follows_shut, unheard_opening}
 use Rattle.dsql_engine.specs.Awaited.{awaited, awaited_at, permit_of, connect_permit, shut_permit, call_permit}
 use Rattle.dsql_engine.proofs.Hearing.{Awaits, awaits, due_of}
 use Rattle.dsql_player.specs.WiresFit.{HoldsWire}

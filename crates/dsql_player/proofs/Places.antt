@@ -14,7 +14,7 @@ use Rattle.dsql_history.specs.declared.record.Place.TheVariants.{Nowhere, Openin
 use Rattle.dsql_history.specs.Readers.Course.{has_ended}
 use Rattle.dsql_history.specs.Readers.Sets.{place, places, is_opening}
 use Rattle.dsql_history.specs.Rules.House.{has_no_chore, tidy_due, shut_due, connect_due, is_untidy}
-use Rattle.dsql_history.proofs.Rows.{both, within_rows}
+use Rattle.dsql_laws.proofs.Rows.{both, within_rows}
 
 none_short : (n m : ℕ) → is_none (cond (nat_lt n m) (Some n) None) ≡ true → m ≤ n
 none_short n m h = grind (arith, nat_tests)

@@ -27,7 +27,7 @@ use Rattle.dsql_history.specs.Rules.Causes.{cause}
 use Rattle.dsql_history.specs.Rules.House.{has_no_chore}
 use Rattle.dsql_history.specs.Rules.Line.{due, is_due, is_kept_by_rows}
 use Rattle.dsql_history.specs.Readers.Journals.{journal}
-use Rattle.dsql_history.proofs.Rows.{same_to_itself, within_rows}
+use Rattle.dsql_laws.proofs.Rows.{same_to_itself, within_rows}
 use Rattle.dsql_engine.specs.declared.next.Next.{Next}
 use Rattle.dsql_engine.specs.declared.next.Next.TheVariants.{Send, Blocked, Reply, Quiet}
 use Rattle.dsql_engine.specs.Awaited.{awaited, awaited_at, connect_permit, shut_permit}

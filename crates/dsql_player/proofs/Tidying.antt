@@ -28,8 +28,8 @@ use Rattle.dsql_history.specs.Rules.House.{has_no_chore, tidy_due, shut_due, con
 use Rattle.dsql_history.specs.Rules.Line.{due, is_kept_by_rows, keeps_with, wish_of, wish, handed, aim_of}
 use Rattle.dsql_history.specs.Rules.Settled.{is_in_use, has_to_come}
 use Rattle.dsql_history.specs.Legal.{Legal}
-use Rattle.dsql_history.proofs.Rows.{both, same_to_itself, within_rows}
-use Rattle.dsql_history.proofs.SoundCalls.{sound_calls}
+use Rattle.dsql_laws.proofs.Rows.{both, same_to_itself, within_rows}
+use Rattle.dsql_laws.proofs.SoundCalls.{sound_calls}
 use Rattle.dsql_engine.specs.declared.next.Next.{Next}
 use Rattle.dsql_engine.specs.Awaited.{awaited, awaited_at, chore_due, first_chore, shut_chore, connect_chore, call_permit}
 use Rattle.dsql_engine.specs.Groups.{after_heard, after_answer, after_body, leaving, left_by}

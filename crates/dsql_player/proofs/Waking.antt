@@ -20,8 +20,8 @@ use Rattle.dsql_history.specs.Rules.House.{has_no_chore}
 use Rattle.dsql_history.specs.Rules.Line.{due, is_kept_by_rows}
 use Rattle.dsql_history.specs.Rules.Settled.{goes_on, is_under_way, has_way}
 use Rattle.dsql_history.specs.Legal.{Lawful}
-use Rattle.dsql_history.proofs.Rows.{both, same_number, same_to_itself, same_or_not}
-use Rattle.dsql_history.proofs.SoundCalls.{sound_calls, owner_of, own_sender}
+use Rattle.dsql_laws.proofs.Rows.{both, same_number, same_to_itself, same_or_not}
+use Rattle.dsql_laws.proofs.SoundCalls.{sound_calls, owner_of, own_sender}
 use Rattle.dsql_journal.specs.Readers.{has}
 use Rattle.dsql_engine.specs.declared.next.Next.{Next}
 use Rattle.dsql_engine.specs.declared.next.Next.TheVariants.{Send, Blocked, Reply, Quiet}

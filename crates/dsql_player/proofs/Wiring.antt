@@ -13,7 +13,7 @@ use Rattle.dsql_history.specs.declared.record.Place.{Place}
 use Rattle.dsql_history.specs.declared.record.Place.TheVariants.{Nowhere}
 use Rattle.dsql_history.specs.Readers.Sets.{place, places}
 use Rattle.dsql_history.specs.Readers.Journals.{journal}
-use Rattle.dsql_history.proofs.Rows.{same_to_itself, other_number, same_or_not}
+use Rattle.dsql_laws.proofs.Rows.{same_to_itself, other_number, same_or_not}
 use Rattle.dsql_wire.specs.Journaled.{Journaled}
 use Rattle.dsql_player.specs.Carried.{KeepsPlaces}
 use Rattle.dsql_player.specs.WiresFit.{slot, has_wire, HoldsWire, FitsAt, WiresFit, HearsEntry, KeepsFit}

@@ -14,7 +14,7 @@ use Rattle.dsql_history.specs.Readers.Works.{work}
 use Rattle.dsql_history.specs.Readers.Calls.{sender}
 use Rattle.dsql_history.specs.Rules.Line.{due, asked_by, wish, body_after}
 use Rattle.dsql_history.specs.Legal.{Allowed, Lawful}
-use Rattle.dsql_history.proofs.CallLines.{sent_entry}
+use Rattle.dsql_laws.proofs.CallLines.{sent_entry}
 use Rattle.dsql_engine.specs.Awaited.{permit_of}
 use Rattle.dsql_engine.specs.Desk.{past, lawful_of}
 use Rattle.dsql_engine.specs.Made.{made}

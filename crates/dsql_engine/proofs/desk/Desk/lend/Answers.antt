@@ -1,6 +1,6 @@
 use Rattle.std.proofs.Common.{arith, ◌≤◌, length}
 use Rattle.dsql_history.specs.Readers.Sets.{lends, uses}
-use Rattle.dsql_history.proofs.SoundSets.{sound_sets}
+use Rattle.dsql_laws.proofs.SoundSets.{sound_sets}
 use Rattle.dsql_engine.specs.Desk.{past, Stands, lawful_of}
 use Rattle.dsql_engine.proofs.desk.Desk.lend.Goals as goal
 

@@ -6,7 +6,7 @@ use Rattle.dsql_history.specs.Readers.Course.{caps}
 use Rattle.dsql_history.specs.Readers.Sets.{next_tenure}
 use Rattle.dsql_history.specs.Rules.Line.{due, body_after, wish, is_reset_due}
 use Rattle.dsql_history.specs.Legal.{Lawful}
-use Rattle.dsql_history.proofs.JournalLaws.{fresh_lending}
+use Rattle.dsql_laws.proofs.JournalLaws.{fresh_lending}
 use Rattle.dsql_engine.specs.Groups.{lent_to}
 use Rattle.dsql_engine.specs.Made.{made}
 use Rattle.dsql_engine.specs.Statements.{asked_of}

@@ -1,6 +1,6 @@
 use Rattle.std.proofs.Common.{arith, ap, length}
 use Rattle.std.proofs.lemmas.Grind.{common_steps}
-use Rattle.dsql_history.proofs.SoundCalls.{sound_calls}
+use Rattle.dsql_laws.proofs.SoundCalls.{sound_calls}
 use Rattle.dsql_engine.specs.Desk.{past, Stands, lawful_of}
 use Rattle.dsql_engine.proofs.desk.Desk.next_call.Goals as goal
 

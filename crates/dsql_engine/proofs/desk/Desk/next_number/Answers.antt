@@ -1,6 +1,6 @@
 use Rattle.std.proofs.Common.{arith, ap, length}
 use Rattle.std.proofs.lemmas.Grind.{common_steps}
-use Rattle.dsql_history.proofs.SoundSets.{sound_sets}
+use Rattle.dsql_laws.proofs.SoundSets.{sound_sets}
 use Rattle.dsql_engine.specs.Desk.{past, Stands, lawful_of}
 use Rattle.dsql_engine.proofs.desk.Desk.next_number.Goals as goal
 

@@ -1,7 +1,7 @@
 use Rattle.std.proofs.Common.{arith}
 use Rattle.dsql_history.specs.declared.record.Place.TheVariants.{Nowhere}
 use Rattle.dsql_history.specs.Readers.Sets.{places, is_closing}
-use Rattle.dsql_history.proofs.SoundSets.{sound_sets}
+use Rattle.dsql_laws.proofs.SoundSets.{sound_sets}
 use Rattle.dsql_engine.specs.Desk.{past, lawful_of}
 use Rattle.dsql_engine.proofs.Counts.{first_passes}
 use Rattle.dsql_engine.proofs.desk.Desk.shut_permit.Goals as goal

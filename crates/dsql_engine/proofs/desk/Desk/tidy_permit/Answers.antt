@@ -6,7 +6,7 @@ use Rattle.dsql_history.specs.Readers.Course.{caps}
 use Rattle.dsql_history.specs.Readers.Sets.{places, place}
 use Rattle.dsql_history.specs.Rules.Line.{due, wish, body_after}
 use Rattle.dsql_history.specs.Rules.House.{is_untidy}
-use Rattle.dsql_history.proofs.SoundSets.{sound_sets}
+use Rattle.dsql_laws.proofs.SoundSets.{sound_sets}
 use Rattle.dsql_engine.specs.Desk.{past, lawful_of}
 use Rattle.dsql_engine.specs.Made.{made}
 use Rattle.dsql_engine.specs.Statements.{statement_of, asked_of}
