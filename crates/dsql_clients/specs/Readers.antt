@@ -1,0 +1,9 @@
+pub mod Course
+pub mod Unfinished
+pub mod Works
+pub mod Journals
+pub mod Tries
+pub mod Pool
+pub mod Owed
+pub mod HandedOut
+pub mod Calls

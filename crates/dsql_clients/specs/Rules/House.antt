@@ -1,0 +1,37 @@
+-- The layer's own calls, in their order: what tidies up rows comes before a Shut, that before a Connect, and the smallest connection first.
+use Rattle.std.specs.Prelude.{ℕ, Bool, false, List, Option, Some, is_none, is_some, ◌&&◌}
+use Rattle.std.specs.List.{list_all}
+use Rattle.dsql_journal.specs.declared.entry.Owner.TheVariants.{Call}
+use Rattle.dsql_pool.specs.declared.conn.Place.{Place}
+use Rattle.dsql_pool.specs.declared.conn.Place.TheVariants.{Lent}
+use Rattle.dsql_pool.specs.Places.{is_closing, is_opening}
+use Rattle.dsql_clients.specs.declared.event.Event.{Event}
+use Rattle.dsql_clients.specs.Readers.Unfinished.{unfinished}
+use Rattle.dsql_clients.specs.Readers.Pool.{pool, smallest}
+use Rattle.dsql_clients.specs.Rules.Line.{tidying}
+use Rattle.dsql_clients.specs.Rules.Stands.{stand, is_waiting}
+
+-- the connection that is to be shut first
+abbrev pub shut_due : List Event → Option ℕ
+shut_due before = smallest (λ place. is_closing (Some place)) (pool before)
+
+-- the connection that is to be connected first
+abbrev pub connect_due : List Event → Option ℕ
+connect_due before = smallest (λ place. is_opening (Some place)) (pool before)
+
+-- rows that no call ended are to be closed there
+abbrev pub is_untidy : List Event → Place → Bool
+is_untidy before (Lent tenure (Call n)) = is_some (tidying before n)
+is_untidy before _ = false
+
+-- the connection that is to be tidied up first
+abbrev pub tidy_due : List Event → Option ℕ
+tidy_due before = smallest (is_untidy before) (pool before)
+
+-- the layer has no driver call of its own to make
+abbrev pub has_no_chore : List Event → Bool
+has_no_chore before = is_none (tidy_due before) && (is_none (shut_due before) && is_none (connect_due before))
+
+-- every call has its reply or waits, and there is no chore
+abbrev pub is_quiet : List Event → Bool
+is_quiet before = list_all (λ n. is_waiting (stand before n)) (unfinished before) && has_no_chore before

@@ -1,0 +1,13 @@
+//! What a report of several clients speaks of, and which such reports are legal: calls are under way at once,
+//! wait for a connection, and close the database; limits are set, and statistics are told.
+#![tactic(auto)]
+
+mod event;
+mod record;
+mod reply;
+
+pub use dsql_history::{Aim, FaultWord, Work};
+pub use dsql_pool::{CloseCause, Move, Place, Stats};
+pub use event::{Event, Op, Setting};
+pub use record::{CallRecord, Stand, Try};
+pub use reply::{DbEnd, Reply};

@@ -1,0 +1,38 @@
+use crate::reply::Reply;
+use dsql_driver::DriverAnswer;
+use dsql_value::{Params, Txt};
+
+/// A try of a call to get a connection.
+#[derive(Clone, Debug, Drop)]
+pub enum Try {
+    /// A connection was lent to it.
+    Served,
+    /// One couldn't be opened, and the driver's answer fell to it.
+    Refused(DriverAnswer),
+}
+
+/// Where an unfinished call is between two steps.
+#[derive(Clone, Copy, Debug, PartialEq, Eq)]
+pub enum Stand {
+    /// It waits for a connection.
+    Waits,
+    /// This connection is being opened for it.
+    Opens(u32),
+    /// A driver call of it is made on this connection, or is to be made once the turn is free.
+    Sends(u32),
+    /// Others have settled what it replies, at its next step.
+    Replies,
+}
+
+/// How far a call has come.
+#[derive(Clone, Debug, Drop)]
+pub struct CallRecord {
+    /// The client who made it.
+    pub client: u8,
+    /// The text of its statement.
+    pub text: Txt,
+    /// The parameters that its arguments become, if none is refused.
+    pub params: Params,
+    /// The reply that it has settled itself: as it enters, where it sends nothing, else by its deciding answer.
+    pub decided: Option<Reply>,
+}
