@@ -1,0 +1,12 @@
+pub mod Words
+pub mod Begun
+pub mod Refusals
+pub mod Rows
+pub mod DamagedRows
+pub mod DamagedSteps
+pub mod Waiting
+pub mod DamagedWaiting
+pub mod Closing
+pub mod DamagedClosing
+pub mod Reports
+pub mod ReportsOfRows

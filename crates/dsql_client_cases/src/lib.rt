@@ -1,0 +1,9 @@
+//! What the definitions over histories of several clients mean: which such histories are legal and which are
+//! refused. The functions do nothing: their contracts are what is shown.
+#![tactic(auto)]
+
+pub mod closing;
+pub mod reports;
+pub mod rows;
+pub mod steps;
+pub mod waiting;
