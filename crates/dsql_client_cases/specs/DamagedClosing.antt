@@ -7,7 +7,7 @@ use Rattle.dsql_clients.specs.declared.event.Event.{Event}
 use Rattle.dsql_clients.specs.declared.event.Event.TheVariants.{Waits, Replied, Ended}
 use Rattle.dsql_clients.specs.declared.reply.Reply.TheVariants as replies
 use Rattle.dsql_clients.specs.declared.reply.DbEnd.TheVariants as ends
-use Rattle.dsql_client_cases.specs.Words.{text, exec, too_great, executes, executes_with, fetches, closes, closes_db, sets_open, open_start, lend, close, house, sent}
+use Rattle.dsql_client_cases.specs.Words.{too_great, executes, executes_with, fetches, closes, closes_db, sets_open, open_start, lend, close, house, sent}
 use Rattle.dsql_client_cases.specs.Begun.{started, queried, left_idle}
 
 -- a close replies before it closes an idle one
@@ -101,17 +101,4 @@ the_first_close_counts =
     ∷ Ended
     ∷ executes 1 3
     ∷ Replied 3 (replies.DbClosed ends.EndOfRun)
-    ∷ []
-
--- a second try
-abbrev pub a_second_try : List Event
-a_second_try =
-    started
-    ++ executes 1 1
-    ∷ open_start 1 1
-    ∷ house 1 1 Connect answers.Done
-    ∷ lend 1 2 1
-    ∷ sent 1 2 1 1 (exec text) answers.Bad
-    ∷ close 1 causes.Bad
-    ∷ open_start 2 1
     ∷ []

@@ -4,7 +4,7 @@ use Rattle.dsql_driver.specs.declared.call.DriverCall.TheVariants.{Connect, Next
 use Rattle.dsql_driver.specs.declared.answer.DriverAnswer.TheVariants as answers
 use Rattle.dsql_pool.specs.declared.moves.CloseCause.TheVariants as causes
 use Rattle.dsql_clients.specs.declared.event.Event.{Event}
-use Rattle.dsql_clients.specs.declared.event.Event.TheVariants.{Replied}
+use Rattle.dsql_clients.specs.declared.event.Event.TheVariants.{Replied, Ended}
 use Rattle.dsql_clients.specs.declared.reply.Reply.TheVariants as replies
 use Rattle.dsql_client_cases.specs.Words.{text, exec, query, cursor, row, one_changed, told_one_changed, executes, queries, fetches, closes, asks_for_fault, open_start, lend, back, close, gone, house, sent}
 use Rattle.dsql_client_cases.specs.Begun.{started, queried, executed}
@@ -150,4 +150,39 @@ a_call_that_asks_is_overtaken_by_another =
     ∷ executes 2 2
     ∷ open_start 1 1
     ∷ open_start 2 2
+    ∷ []
+
+-- a second try
+abbrev pub a_second_try : List Event
+a_second_try =
+    started
+    ++ executes 1 1
+    ∷ open_start 1 1
+    ∷ house 1 1 Connect answers.Done
+    ∷ lend 1 2 1
+    ∷ sent 1 2 1 1 (exec text) answers.Bad
+    ∷ close 1 causes.Bad
+    ∷ open_start 2 1
+    ∷ []
+
+-- a fetch of absent rows is not told, and their connection is being opened
+abbrev pub a_fetch_of_absent_rows_is_not_told_and_their_connection_is_being_opened : List Event
+a_fetch_of_absent_rows_is_not_told_and_their_connection_is_being_opened =
+    started
+    ++ queries 1 1 (codes "r")
+    ∷ open_start 1 1
+    ∷ fetches 2 2 (codes "r")
+    ∷ house 1 1 Connect answers.Done
+    ∷ lend 1 2 1
+    ∷ []
+
+-- a fetch after the end of the run is not told
+abbrev pub a_next_after_the_end_is_not_told : List Event
+a_next_after_the_end_is_not_told =
+    queried
+    ++ Ended
+    ∷ fetches 1 2 (codes "r")
+    ∷ sent 1 2 1 0 (CloseRows 1) answers.Done
+    ∷ close 1 causes.DbClosed
+    ∷ Replied 2 (replies.Truth false)
     ∷ []

@@ -6,7 +6,7 @@ use Rattle.dsql_pool.specs.declared.moves.CloseCause.TheVariants as causes
 use Rattle.dsql_clients.specs.declared.event.Event.{Event}
 use Rattle.dsql_clients.specs.declared.event.Event.TheVariants.{Waits, Replied}
 use Rattle.dsql_clients.specs.declared.reply.Reply.TheVariants as replies
-use Rattle.dsql_client_cases.specs.Words.{text, exec, one_changed, told_one_changed, executes, closes, asks_for_stats, sets_open, sets_idle, open_start, lend, back, close, fell, house, sent, stats}
+use Rattle.dsql_client_cases.specs.Words.{text, exec, query, columns, cursor, one_changed, told_one_changed, executes, queries, closes, asks_for_stats, sets_open, sets_idle, open_start, lend, back, close, fell, house, sent, stats}
 use Rattle.dsql_client_cases.specs.Begun.{started, limited, held, awaited, held_both, left_idle}
 
 -- the newer one is served first
@@ -211,4 +211,56 @@ abbrev pub one_is_opened_for_nobody : List Event
 one_is_opened_for_nobody =
     started
     ++ open_start 1 0
+    ∷ []
+
+-- a connection closes as one too many though a call waits
+abbrev pub a_connection_closes_as_full_though_one_waits : List Event
+a_connection_closes_as_full_though_one_waits =
+    limited
+    ++ sets_idle 0
+    ∷ queries 1 1 (codes "r")
+    ∷ open_start 1 1
+    ∷ house 1 1 Connect answers.Done
+    ∷ lend 1 2 1
+    ∷ sent 1 2 1 1 query cursor
+    ∷ Replied 1 (replies.Rows columns)
+    ∷ executes 2 2
+    ∷ Waits 2
+    ∷ closes 1 3 (codes "r")
+    ∷ sent 1 2 1 3 (CloseRows 1) answers.Done
+    ∷ close 1 causes.IdleFull
+    ∷ []
+
+-- a connection above the limit closes as one too many
+abbrev pub a_connection_above_the_limit_closes_as_full : List Event
+a_connection_above_the_limit_closes_as_full =
+    held_both
+    ++ sets_open 1
+    ∷ closes 1 3 (codes "q")
+    ∷ sent 2 2 2 3 (CloseRows 1) answers.Done
+    ∷ close 2 causes.IdleFull
+    ∷ []
+
+-- a call waits a second time
+abbrev pub a_call_waits_twice : List Event
+a_call_waits_twice =
+    awaited
+    ++ Waits 3
+    ∷ []
+
+-- a lifted limit opens for one of two that wait
+abbrev pub a_lifted_limit_opens_for_one_of_two : List Event
+a_lifted_limit_opens_for_one_of_two =
+    awaited
+    ++ sets_open 0
+    ∷ open_start 2 0
+    ∷ asks_for_stats 1 4
+    ∷ []
+
+-- a limit is set before the last setting is carried out
+abbrev pub a_setting_is_followed_by_another : List Event
+a_setting_is_followed_by_another =
+    left_idle
+    ++ sets_idle 1
+    ∷ sets_idle 0
     ∷ []

@@ -10,3 +10,4 @@ pub mod Closing
 pub mod DamagedClosing
 pub mod Reports
 pub mod ReportsOfRows
+pub mod DamagedCourse

@@ -166,3 +166,32 @@ a_call_takes_the_idle_one_that_came_back_last =
     ∷ back 1
     ∷ Replied 5 told_one_changed
     ∷ []
+
+-- a lifted limit opens for three that wait
+abbrev pub a_lifted_limit_opens_for_three : List Event
+a_lifted_limit_opens_for_three =
+    awaited
+    ++ executes 4 4
+    ∷ Waits 4
+    ∷ sets_open 0
+    ∷ open_start 2 0
+    ∷ open_start 3 0
+    ∷ open_start 4 0
+    ∷ house 4 1 Connect answers.Done
+    ∷ lend 4 2 2
+    ∷ house 2 1 Connect answers.Done
+    ∷ lend 2 2 3
+    ∷ house 3 1 Connect answers.Done
+    ∷ lend 3 2 4
+    ∷ sent 2 2 3 3 (exec text) one_changed
+    ∷ back 2
+    ∷ Replied 3 told_one_changed
+    ∷ []
+
+-- the statistics count two waits and one connection that is in use
+abbrev pub the_statistics_count_waits : List Event
+the_statistics_count_waits =
+    awaited
+    ++ asks_for_stats 1 4
+    ∷ Replied 4 (stats 1 1 1 0 2 0)
+    ∷ []

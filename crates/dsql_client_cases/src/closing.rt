@@ -10,7 +10,7 @@ ghost use Rattle.dsql_clients.specs.Rules.Asking.{keeps_asking};
 ghost use Rattle.dsql_clients.specs.Rules.Line.{keeps_line};
 ghost use Rattle.dsql_client_cases.specs.Refusals.{is_refused_at};
 ghost use Rattle.dsql_client_cases.specs.Closing.{a_close_refuses_those_that_wait_each_at_its_own_step, a_close_closes_the_idle_ones_the_longest_idle_first, a_close_refuses_the_call_of_an_opening_which_then_closes, a_refused_one_of_a_closed_database_falls_to_nobody, what_is_under_way_goes_on_after_a_close, rows_go_on_after_a_close, the_run_ends_while_one_waits, calls_after_the_end_of_the_run, an_exec_after_a_close_and_the_end};
-ghost use Rattle.dsql_client_cases.specs.DamagedClosing.{a_close_replies_before_it_closes_an_idle_one, an_opening_that_nobody_wants_any_more_is_lent, what_is_under_way_is_refused_after_a_close, the_run_ends_while_one_is_being_opened, the_run_ends_while_a_fetch_is_under_way, after_the_end_an_argument_is_looked_at_first, after_the_end_a_call_waits, a_close_after_the_end_sends_what_the_layer_owes, the_first_close_counts, a_second_try};
+ghost use Rattle.dsql_client_cases.specs.DamagedClosing.{a_close_replies_before_it_closes_an_idle_one, an_opening_that_nobody_wants_any_more_is_lent, what_is_under_way_is_refused_after_a_close, the_run_ends_while_one_is_being_opened, the_run_ends_while_a_fetch_is_under_way, after_the_end_an_argument_is_looked_at_first, after_the_end_a_call_waits, a_close_after_the_end_sends_what_the_layer_owes, the_first_close_counts};
 
 /// Calls that wait, connections that are opened or idle and rows that are open as the database closes or the run ends.
 pub fn legal_histories_of_closing()
@@ -36,5 +36,4 @@ pub fn refused_histories_of_closing()
     ensures after_the_end_a_call_waits { is_refused_at 11 keeps_asking after_the_end_a_call_waits ≡ true }
     ensures a_close_after_the_end_sends_what_the_layer_owes { is_refused_at 10 keeps_line a_close_after_the_end_sends_what_the_layer_owes ≡ true }
     ensures the_first_close_counts { is_refused_at 12 keeps_replies the_first_close_counts ≡ true }
-    ensures a_second_try { is_refused_at 8 keeps_asking a_second_try ≡ true }
 {}

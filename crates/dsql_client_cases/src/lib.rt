@@ -3,6 +3,7 @@
 #![tactic(auto)]
 
 pub mod closing;
+pub mod course;
 pub mod reports;
 pub mod rows;
 pub mod steps;

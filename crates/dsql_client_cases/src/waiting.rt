@@ -10,8 +10,8 @@ ghost use Rattle.dsql_clients.specs.Rules.Settled.{goes_on, owes_nothing};
 ghost use Rattle.dsql_clients.specs.Rules.Causes.{keeps_causes};
 ghost use Rattle.dsql_clients.specs.Rules.Replies.{keeps_replies};
 ghost use Rattle.dsql_client_cases.specs.Refusals.{is_refused_at, is_unsettled_after};
-ghost use Rattle.dsql_client_cases.specs.Waiting.{two_wait_and_are_served_in_order, a_raised_limit_opens_for_those_that_wait, a_lifted_limit_opens_for_both_and_a_refusal_falls_to_the_first, a_refused_one_makes_room_for_another_opening, a_bad_one_makes_room_once_it_is_gone, the_connection_goes_to_one_that_waits_though_none_may_be_idle, a_lowered_limit_closes_what_comes_back_above_it, fewer_idle_ones_the_longest_idle_closes, an_open_limit_lowers_the_idle_limit_for_good, a_call_takes_the_idle_one_that_came_back_last};
-ghost use Rattle.dsql_client_cases.specs.DamagedWaiting.{the_newer_one_is_served_first, the_connection_comes_back_and_nobody_gets_it, the_reply_comes_before_the_lending, a_call_waits_though_one_is_idle, a_call_waits_below_the_limit, one_is_opened_above_the_limit, a_call_neither_asks_nor_waits, a_call_waits_after_another_entered, a_raised_limit_opens_for_nobody, a_raised_limit_opens_for_two, an_opening_names_a_call_that_waits, the_refusal_falls_to_the_one_that_waits, a_bad_one_makes_room_before_it_is_gone, a_call_that_is_told_replies_in_the_middle_of_a_step, a_lowered_limit_keeps_what_comes_back_above_it, fewer_idle_ones_the_newest_closes, fewer_idle_ones_none_closes, the_statistics_count_one_too_few, the_statistics_come_later, a_call_takes_the_longest_idle_one, one_is_opened_for_nobody};
+ghost use Rattle.dsql_client_cases.specs.Waiting.{two_wait_and_are_served_in_order, a_raised_limit_opens_for_those_that_wait, a_lifted_limit_opens_for_both_and_a_refusal_falls_to_the_first, a_refused_one_makes_room_for_another_opening, a_bad_one_makes_room_once_it_is_gone, the_connection_goes_to_one_that_waits_though_none_may_be_idle, a_lowered_limit_closes_what_comes_back_above_it, fewer_idle_ones_the_longest_idle_closes, an_open_limit_lowers_the_idle_limit_for_good, a_call_takes_the_idle_one_that_came_back_last, a_lifted_limit_opens_for_three, the_statistics_count_waits};
+ghost use Rattle.dsql_client_cases.specs.DamagedWaiting.{the_newer_one_is_served_first, the_connection_comes_back_and_nobody_gets_it, the_reply_comes_before_the_lending, a_call_waits_though_one_is_idle, a_call_waits_below_the_limit, one_is_opened_above_the_limit, a_call_neither_asks_nor_waits, a_call_waits_after_another_entered, a_raised_limit_opens_for_nobody, a_raised_limit_opens_for_two, an_opening_names_a_call_that_waits, the_refusal_falls_to_the_one_that_waits, a_bad_one_makes_room_before_it_is_gone, a_call_that_is_told_replies_in_the_middle_of_a_step, a_lowered_limit_keeps_what_comes_back_above_it, fewer_idle_ones_the_newest_closes, fewer_idle_ones_none_closes, the_statistics_count_one_too_few, the_statistics_come_later, a_call_takes_the_longest_idle_one, one_is_opened_for_nobody, a_connection_closes_as_full_though_one_waits, a_connection_above_the_limit_closes_as_full, a_call_waits_twice, a_lifted_limit_opens_for_one_of_two, a_setting_is_followed_by_another};
 
 /// Calls that wait and are served in order, and limits that are raised, lifted and lowered meanwhile.
 pub fn legal_histories_of_waiting()
@@ -25,6 +25,8 @@ pub fn legal_histories_of_waiting()
     ensures fewer_idle_ones_the_longest_idle_closes { is_legal (reverse fewer_idle_ones_the_longest_idle_closes) ≡ true }
     ensures an_open_limit_lowers_the_idle_limit_for_good { is_legal (reverse an_open_limit_lowers_the_idle_limit_for_good) ≡ true }
     ensures a_call_takes_the_idle_one_that_came_back_last { is_legal (reverse a_call_takes_the_idle_one_that_came_back_last) ≡ true }
+    ensures a_lifted_limit_opens_for_three { is_legal (reverse a_lifted_limit_opens_for_three) ≡ true }
+    ensures the_statistics_count_waits { is_legal (reverse the_statistics_count_waits) ≡ true }
 {}
 
 /// Why histories damaged in a wait or a limit are refused.
@@ -50,4 +52,9 @@ pub fn refused_histories_of_waiting()
     ensures the_statistics_come_later { is_unsettled_after 22 goes_on the_statistics_come_later ≡ true }
     ensures a_call_takes_the_longest_idle_one { is_refused_at 23 keeps_asking a_call_takes_the_longest_idle_one ≡ true }
     ensures one_is_opened_for_nobody { is_refused_at 2 keeps_asking one_is_opened_for_nobody ≡ true }
+    ensures a_connection_closes_as_full_though_one_waits { is_refused_at 14 keeps_causes a_connection_closes_as_full_though_one_waits ≡ true }
+    ensures a_connection_above_the_limit_closes_as_full { is_refused_at 17 keeps_causes a_connection_above_the_limit_closes_as_full ≡ true }
+    ensures a_call_waits_twice { is_refused_at 13 keeps_asking a_call_waits_twice ≡ true }
+    ensures a_lifted_limit_opens_for_one_of_two { is_unsettled_after 14 owes_nothing a_lifted_limit_opens_for_one_of_two ≡ true }
+    ensures a_setting_is_followed_by_another { is_unsettled_after 22 owes_nothing a_setting_is_followed_by_another ≡ true }
 {}

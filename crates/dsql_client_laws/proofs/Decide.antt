@@ -54,11 +54,10 @@ settled_of : (before : List Event) → is_settled before ≡ true → Settled be
 settled_of before h =
     let a = both _ _ h in
     let b = both _ _ a.1 in
-    let c = both _ _ b.1 in
-    record { nothing_owed = a.0; at_rest = b.0; used = c.0; somewhere = c.1 }
+    record { nothing_owed = a.0; used = b.0; somewhere = b.1 }
 
 is_settled_of : (before : List Event) → Settled before → is_settled before ≡ true
-is_settled_of before s = together _ _ s.nothing_owed (together _ _ s.at_rest (together _ _ s.used s.somewhere))
+is_settled_of before s = together _ _ s.nothing_owed (together _ _ s.used s.somewhere)
 
 pub settled_computed : (before : List Event) → (is_settled before ≡ true) ↔ Settled before
 settled_computed before = (settled_of before, is_settled_of before)

@@ -1,11 +1,10 @@
--- What holds at each free moment, and but for one call just before its reply.
+-- What holds at each free moment, and but for one call just before its reply. That the pool is at rest where it owes nothing follows, and is a law.
 use Rattle.std.specs.Prelude.{ℕ, ◌≡◌, ◌==◌, Bool, true, ◌&&◌, ◌||◌, List, is_some}
 use Rattle.std.specs.List.{list_all}
 use Rattle.dsql_journal.specs.Readers.{is_empty}
 use Rattle.dsql_pool.specs.declared.conn.Place.{Place}
 use Rattle.dsql_pool.specs.declared.conn.Place.TheVariants.{Lent}
 use Rattle.dsql_pool.specs.Places.{number_of}
-use Rattle.dsql_pool.specs.Rest.{is_at_rest}
 use Rattle.dsql_clients.specs.declared.event.Event.{Event}
 use Rattle.dsql_clients.specs.Readers.Unfinished.{unfinished}
 use Rattle.dsql_clients.specs.Readers.Pool.{pool}
@@ -16,10 +15,6 @@ use Rattle.dsql_clients.specs.Rules.Stands.{stand}
 -- the pool owes no move
 abbrev pub owes_nothing : List Event → Bool
 owes_nothing before = is_empty (owed before)
-
--- The pool is at rest: openings are under way for those that wait as far as there is room, none is idle while a call waits, no more are idle than may be, and none is once the database is closed.
-abbrev pub rests : List Event → Bool
-rests before = is_at_rest (pool before)
 
 -- a lent connection is in use
 abbrev pub is_in_use : List Event → Place → Bool
@@ -39,10 +34,9 @@ goes_on before = goes_on_but 0 before
 
 -- all is settled but for call n
 abbrev pub is_settled_but : ℕ → List Event → Bool
-is_settled_but n before = owes_nothing before && (rests before && (uses_what_is_lent before && goes_on_but n before))
+is_settled_but n before = owes_nothing before && (uses_what_is_lent before && goes_on_but n before)
 
 pub record Settled (before : List Event) : Type 0 where
   pub nothing_owed : owes_nothing before ≡ true
-  pub at_rest : rests before ≡ true
   pub used : uses_what_is_lent before ≡ true
   pub somewhere : goes_on before ≡ true
