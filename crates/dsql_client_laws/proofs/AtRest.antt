@@ -48,12 +48,12 @@ abbrev pub Rested : List Event → Type 0
 Rested H = AtRest (made (owed H) (pool H))
 
 -- what is known of an event that may come
-record Keeps (H : List Event) (e : Event) : Type 0 where
+pub record Keeps (H : List Event) (e : Event) : Type 0 where
   pub order : follows (owed H) e ≡ true
   pub asking : keeps_asking H e ≡ true
   pub causes : keeps_causes H e ≡ true
 
-keeps_of : (H : List Event) (e : Event) → Allowed H e → Keeps H e
+pub keeps_of : (H : List Event) (e : Event) → Allowed H e → Keeps H e
 unfolding Allowed
 keeps_of H e a = record { order = a.order; asking = a.asking; causes = a.causes }
 
@@ -132,14 +132,14 @@ leaves_rests H c m is h =
     subst AtRest (sym (first_made (given_back H c) m (pool H) a.1)) rest
 
 -- asking and what is given back, where nothing is owed
-asks_now : (H : List Event) (n : ℕ) (m : Move) → owed H ≡ [] → unless_owed H n m ≡ true → is_asked_for H n m ≡ true
+pub asks_now : (H : List Event) (n : ℕ) (m : Move) → owed H ≡ [] → unless_owed H n m ≡ true → is_asked_for H n m ≡ true
 asks_now H n m none h = second (not (is_empty (owed H))) (is_asked_for H n m) (ap (λ ms. not (is_empty ms)) none) h
 
 asker : (H : List Event) (n : ℕ) → may_ask H n ≡ true → is_unfinished H n ≡ true
 asker H n h =
     let a = both (is_unfinished H n) (works.asks (work H n) && (has_a_try (tries H n) && (not (wants n (pool H)) && is_none (reply_due H n)))) h in a.0
 
-owes : (H : List Event) → owed H ≡ [] → is_owed H ≡ false
+pub owes : (H : List Event) → owed H ≡ [] → is_owed H ≡ false
 owes H none = ap (λ ms. not (is_empty ms)) none
 
 -- a move that isn't owed leaves the pool at rest but for what it owes then

@@ -4,4 +4,11 @@ pub mod OwedMoves
 pub mod Numbered
 pub mod AtRest
 pub mod Journals
+pub mod Counts
+pub mod Tried
+pub mod Deserved
+pub mod Holdings
+pub mod Wanting
+pub mod Standing
+pub mod Welcome
 pub mod Decide

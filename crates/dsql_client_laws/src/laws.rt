@@ -1,16 +1,27 @@
 //! Laws of histories of several clients: each law is the contract of a function that does nothing. A history
 //! is read newest first.
 
-ghost use Rattle.std.specs.Prelude.{◌≡◌, ◌≢◌, ◌↔◌, ◌++◌, ℕ, true, List};
+ghost use Rattle.std.specs.Prelude.{◌≡◌, ◌≢◌, ◌↔◌, ◌≤◌, ◌++◌, ◌∷◌, ℕ, true, false, List, Some, is_some};
+ghost use Rattle.dsql_journal.specs.declared.entry.Entry.{Entry};
+ghost use Rattle.dsql_wait.specs.Requests.{waits};
+ghost use Rattle.dsql_pool.specs.Calls.{wants};
+ghost use Rattle.dsql_pool.specs.Places.{is_for};
 ghost use Rattle.dsql_pool.specs.Moved.{made};
 ghost use Rattle.dsql_pool.specs.Rest.{AtRest};
 ghost use Rattle.dsql_clients.specs.declared.event.Event.{Event};
 ghost use Rattle.dsql_clients.specs.Readers.Owed.{owed};
-ghost use Rattle.dsql_clients.specs.Readers.Pool.{pool};
+ghost use Rattle.dsql_history.specs.Readers.Works.{asks};
+ghost use Rattle.dsql_clients.specs.declared.record.Stand.TheVariants.{Waits, Opens, Sends};
+ghost use Rattle.dsql_clients.specs.Readers.Calls.{site};
+ghost use Rattle.dsql_clients.specs.Readers.Pool.{place, pool, smallest};
 ghost use Rattle.dsql_clients.specs.Readers.Unfinished.{is_unfinished};
+ghost use Rattle.dsql_clients.specs.Readers.Works.{work};
+ghost use Rattle.dsql_clients.specs.Rules.Line.{due_for, is_due_at, may_come, parts};
+ghost use Rattle.dsql_clients.specs.Rules.Stands.{stand};
 ghost use Rattle.dsql_clients.specs.Rules.Settled.{Settled, owes_nothing};
 ghost use Rattle.dsql_clients.specs.Legal.{Allowed, Calm, KeepsJournals, Lawful, Legal};
 ghost use Rattle.dsql_clients.specs.Computed.{is_allowed, is_calm, is_lawful, is_legal, is_settled};
+ghost use Rattle.dsql_client_laws.specs.Holdings.{holdings};
 ghost use Rattle.dsql_client_laws.specs.Splits.{AllowedAtEachEvent};
 
 /// The rules are computed: each test is true exactly where what it tests holds.
@@ -46,7 +57,26 @@ pub fn journals_of_lawful_histories()
     ensures { (history : List Event) → Lawful history → KeepsJournals history }
 {}
 
-/// There is no call 0.
+/// No unfinished call is call 0. A call has at most one thing in the pool: a request that waits, an opening, or
+/// a connection. Who wants a connection works on one of its own, and has nothing to send.
 pub fn calls_of_lawful_histories()
-    ensures { (history : List Event) (n : ℕ) → Lawful history → is_unfinished history n ≡ true → n ≢ 0 }
+    ensures numbered { (history : List Event) (n : ℕ) → Lawful history → is_unfinished history n ≡ true → n ≢ 0 }
+    ensures one { (history : List Event) (n : ℕ) → Lawful history → n ≢ 0 → holdings n (pool history) ≤ 1 }
+    ensures own { (history : List Event) (n : ℕ) → Lawful history → n ≢ 0 → wants n (pool history) ≡ true → asks (work history n) ≡ true }
+    ensures silent { (history : List Event) (n : ℕ) → Lawful history → n ≢ 0 → is_some (due_for history n) ≡ true → wants n (pool history) ≡ false }
+{}
+
+/// A call that waits, for which a connection is being opened, or of which a driver call is due, stands there and
+/// nowhere else.
+pub fn a_call_stands_in_one_place()
+    ensures waits { (history : List Event) (n : ℕ) → waits n (pool history).waiting ≡ true → stand history n ≡ Some Waits }
+    ensures opens { (history : List Event) (n c : ℕ) → Lawful history → n ≢ 0 → smallest (is_for n) (pool history) ≡ Some c → stand history n ≡ Some (Opens c) }
+    ensures sends { (history : List Event) (n : ℕ) → Lawful history → n ≢ 0 → is_some (due_for history n) ≡ true → stand history n ≡ Some (Sends (site history n)) }
+{}
+
+/// An answer that is due may come, and stays welcome until something is heard on its connection or its call has
+/// its reply.
+pub fn answers_stay_welcome()
+    ensures due { (history : List Event) (e : Entry) → is_due_at history (place history e.conn) e ≡ true → may_come history e ≡ true }
+    ensures meanwhile { (history : List Event) (last : Event) (e : Entry) → parts last e ≡ false → may_come history e ≡ true → may_come (last ∷ history) e ≡ true }
 {}
