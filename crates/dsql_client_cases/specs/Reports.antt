@@ -1,12 +1,15 @@
 -- Whole reports of the pool, each oldest first.
-use Rattle.std.specs.Prelude.{List, [], ◌∷◌, codes}
-use Rattle.dsql_driver.specs.declared.call.DriverCall.TheVariants.{Connect, CloseRows, Shut, Valid, Reset}
+use Rattle.std.specs.Prelude.{List, [], ◌∷◌, pos, codes}
+use Rattle.dsql_value.specs.declared.value.Value.TheVariants as values
+use Rattle.dsql_scan.specs.declared.cell.Cell.TheVariants as cells
+use Rattle.dsql_scan.specs.declared.dest.Dest.TheVariants as dests
+use Rattle.dsql_driver.specs.declared.call.DriverCall.TheVariants.{Connect, Next, CloseRows, Shut, Valid, Reset}
 use Rattle.dsql_driver.specs.declared.answer.DriverAnswer.TheVariants as answers
 use Rattle.dsql_pool.specs.declared.moves.CloseCause.TheVariants as causes
 use Rattle.dsql_clients.specs.declared.event.Event.{Event}
 use Rattle.dsql_clients.specs.declared.event.Event.TheVariants.{Waits, Replied, Ended}
 use Rattle.dsql_clients.specs.declared.reply.Reply.TheVariants as replies
-use Rattle.dsql_client_cases.specs.Words.{run, exec, query_of, one_changed, told_one_changed, enters_exec, queries_for, closes, asks_for_stats, sets_open, sets_idle, open_start, lend, back, close, gone, house, sent, stats}
+use Rattle.dsql_client_cases.specs.Words.{run, exec, query_of, one_changed, told_one_changed, enters_exec, queries_for, reads_into, closes, asks_for_stats, sets_open, sets_idle, open_start, lend, back, close, gone, house, sent, stats}
 
 -- no call at all
 abbrev pub nothing_asked : List Event
@@ -106,6 +109,82 @@ rows_hold_the_connection =
     ∷ Ended
     ∷ close 1 causes.DbClosed
     ∷ house 1 4 Shut answers.Done
+    ∷ gone 1
+    ∷ []
+
+-- four clients, where two connections may be open
+abbrev pub four_clients : List Event
+four_clients =
+    run
+    ∷ sets_open 2
+    ∷ enters_exec 1 1 (codes "SET k1 1")
+    ∷ open_start 1 1
+    ∷ house 1 1 Connect answers.Done
+    ∷ lend 1 2 1
+    ∷ sent 1 2 1 1 (exec (codes "SET k1 1")) one_changed
+    ∷ sent 1 2 1 1 Valid answers.Done
+    ∷ back 1
+    ∷ Replied 1 told_one_changed
+    ∷ reads_into 1 2 (dests.I64 ∷ []) (codes "GET k1")
+    ∷ lend 1 3 2
+    ∷ sent 1 3 2 2 Reset answers.Done
+    ∷ sent 1 3 2 2 (query_of (codes "GET k1")) (answers.Cursor 1 ((codes "value") ∷ []))
+    ∷ sent 1 3 2 2 (Next 1) (answers.Row ((values.Int (pos 1)) ∷ []))
+    ∷ sent 1 3 2 2 (CloseRows 1) answers.Done
+    ∷ sent 1 3 2 2 Valid answers.Done
+    ∷ back 1
+    ∷ Replied 2 (replies.Cells ((cells.Int (pos 1)) ∷ []))
+    ∷ enters_exec 2 3 (codes "SET k2 2")
+    ∷ lend 1 4 3
+    ∷ sent 1 4 3 3 Reset answers.Done
+    ∷ sent 1 4 3 3 (exec (codes "SET k2 2")) one_changed
+    ∷ sent 1 4 3 3 Valid answers.Done
+    ∷ back 1
+    ∷ Replied 3 told_one_changed
+    ∷ reads_into 2 4 (dests.I64 ∷ []) (codes "GET k2")
+    ∷ lend 1 5 4
+    ∷ sent 1 5 4 4 Reset answers.Done
+    ∷ sent 1 5 4 4 (query_of (codes "GET k2")) (answers.Cursor 2 ((codes "value") ∷ []))
+    ∷ sent 1 5 4 4 (Next 2) (answers.Row ((values.Int (pos 2)) ∷ []))
+    ∷ sent 1 5 4 4 (CloseRows 2) answers.Done
+    ∷ sent 1 5 4 4 Valid answers.Done
+    ∷ back 1
+    ∷ Replied 4 (replies.Cells ((cells.Int (pos 2)) ∷ []))
+    ∷ enters_exec 3 5 (codes "SET k3 3")
+    ∷ lend 1 6 5
+    ∷ sent 1 6 5 5 Reset answers.Done
+    ∷ sent 1 6 5 5 (exec (codes "SET k3 3")) one_changed
+    ∷ sent 1 6 5 5 Valid answers.Done
+    ∷ back 1
+    ∷ Replied 5 told_one_changed
+    ∷ reads_into 3 6 (dests.I64 ∷ []) (codes "GET k3")
+    ∷ lend 1 7 6
+    ∷ sent 1 7 6 6 Reset answers.Done
+    ∷ sent 1 7 6 6 (query_of (codes "GET k3")) (answers.Cursor 3 ((codes "value") ∷ []))
+    ∷ sent 1 7 6 6 (Next 3) (answers.Row ((values.Int (pos 3)) ∷ []))
+    ∷ sent 1 7 6 6 (CloseRows 3) answers.Done
+    ∷ sent 1 7 6 6 Valid answers.Done
+    ∷ back 1
+    ∷ Replied 6 (replies.Cells ((cells.Int (pos 3)) ∷ []))
+    ∷ enters_exec 4 7 (codes "SET k4 4")
+    ∷ lend 1 8 7
+    ∷ sent 1 8 7 7 Reset answers.Done
+    ∷ sent 1 8 7 7 (exec (codes "SET k4 4")) one_changed
+    ∷ sent 1 8 7 7 Valid answers.Done
+    ∷ back 1
+    ∷ Replied 7 told_one_changed
+    ∷ reads_into 4 8 (dests.I64 ∷ []) (codes "GET k4")
+    ∷ lend 1 9 8
+    ∷ sent 1 9 8 8 Reset answers.Done
+    ∷ sent 1 9 8 8 (query_of (codes "GET k4")) (answers.Cursor 4 ((codes "value") ∷ []))
+    ∷ sent 1 9 8 8 (Next 4) (answers.Row ((values.Int (pos 4)) ∷ []))
+    ∷ sent 1 9 8 8 (CloseRows 4) answers.Done
+    ∷ sent 1 9 8 8 Valid answers.Done
+    ∷ back 1
+    ∷ Replied 8 (replies.Cells ((cells.Int (pos 4)) ∷ []))
+    ∷ Ended
+    ∷ close 1 causes.DbClosed
+    ∷ house 1 10 Shut answers.Done
     ∷ gone 1
     ∷ []
 
