@@ -1,0 +1,147 @@
+-- A history follows the lines of a script.
+use Rattle.std.specs.Prelude.{◌≡◌, Bool, true, ◌&&◌, List, [], ◌∷◌, ◌++◌, map}
+use Rattle.std.specs.List.{list_all}
+use Rattle.dsql_journal.specs.Readers.{is_empty}
+use Rattle.dsql_clients.specs.declared.event.Event.{Event}
+use Rattle.dsql_clients.specs.Readers.Course.{has_ended}
+use Rattle.dsql_clients.specs.Rules.Course.{is_run}
+use Rattle.dsql_follows.specs.declared.line.Line.{Line}
+use Rattle.dsql_follows.specs.Clients.{is_free}
+use Rattle.dsql_follows.specs.Moments.{Moment, Passed, begun, at_end, walk, after_events, kept}
+use Rattle.dsql_follows.specs.Turns.{clients, has_run_out}
+use Rattle.dsql_follows.specs.Sentences.{Part, after_part, oldest, begins, were_whole, is_whole, may_enter, sets_nothing, come_in_turn, begins_with_step, makes_whole_steps, enters_in_order, enters_at_once, sets_at_once, keeps_running, starts_alone, steps_once, tidies_once, runs_in_turn, runs_out}
+
+-- A run: its first event, its lines with their parts, the last one first, and the part of the script's end, newest first.
+pub record Played : Type 0 where
+  pub run : Event
+  pub parts : List Part
+  pub last : List Event
+
+-- the events of the run and of these parts
+abbrev pub told : Event → List Part → List Event
+told run [] = run ∷ []
+told run (part ∷ earlier) = part.events ++ told run earlier
+
+-- the whole history, newest first
+abbrev pub history : Played → List Event
+history it = it.last ++ told it.run it.parts
+
+-- the lines, the last one first
+abbrev pub script : Played → List Line
+script it = map (λ part. part.line) it.parts
+
+-- the free moment after these parts
+abbrev pub after : Event → List Part → Moment
+after run [] = begun run
+after run (part ∷ earlier) = after_part (after run earlier) part
+
+-- what the part of a line holds, after a moment
+pub record FollowsLine (m : Moment) (part : Part) : Type 0 where
+  pub begins : begins_with_step m part ≡ true
+  pub whole : makes_whole_steps m part ≡ true
+  pub ordered : enters_in_order m part ≡ true
+  pub entered : enters_at_once m part ≡ true
+  pub set : sets_at_once m part ≡ true
+  pub running : keeps_running m part ≡ true
+  pub started : starts_alone m part ≡ true
+  pub stepped : steps_once m part ≡ true
+  pub tidied : tidies_once m part ≡ true
+  pub in_turn : runs_in_turn m part ≡ true
+  pub run_out : runs_out m part ≡ true
+
+-- The end's part: `m` is the moment before it.
+
+abbrev pub passed_at_end : Moment → List Event → List Passed
+passed_at_end m events = (walk (at_end m) events).passed
+
+-- the free moment after it
+abbrev pub over : Moment → List Event → Moment
+over m events = after_events (at_end m) events
+
+abbrev pub begins_at_end : Moment → List Event → Bool
+begins_at_end m events = begins (oldest (passed_at_end m events))
+
+abbrev pub makes_whole_steps_at_end : Moment → List Event → Bool
+makes_whole_steps_at_end m events = were_whole (passed_at_end m events) && is_whole (over m events)
+
+abbrev pub enters_in_order_at_end : Moment → List Event → Bool
+enters_in_order_at_end m events = list_all (λ p. may_enter p.before p.event) (passed_at_end m events)
+
+abbrev pub sets_nothing_at_end : Moment → List Event → Bool
+sets_nothing_at_end m events = sets_nothing (passed_at_end m events)
+
+-- The calls that were held go on like all others, each step in its turn, until nobody may go on. The run ends then, and all goes on in turn.
+abbrev pub goes_in_turn_at_end : Moment → List Event → Bool
+goes_in_turn_at_end m events = come_in_turn (passed_at_end m events)
+
+-- it goes on until nobody may
+abbrev pub runs_out_at_end : Moment → List Event → Bool
+runs_out_at_end m events = has_run_out (over m events)
+
+-- the run ended
+abbrev pub ends_the_run : Moment → List Event → Bool
+ends_the_run m events = has_ended (over m events).past
+
+abbrev pub is_done : Moment → Bool
+is_done m = list_all (λ client. is_free m.past client && is_empty (kept m client)) (clients m.lines)
+
+-- every line was entered, and each call has its reply
+abbrev pub leaves_nothing : Moment → List Event → Bool
+leaves_nothing m events = is_done (over m events)
+
+pub record FollowsEnd (m : Moment) (events : List Event) : Type 0 where
+  pub begins : begins_at_end m events ≡ true
+  pub whole : makes_whole_steps_at_end m events ≡ true
+  pub ordered : enters_in_order_at_end m events ≡ true
+  pub unset : sets_nothing_at_end m events ≡ true
+  pub in_turn : goes_in_turn_at_end m events ≡ true
+  pub run_out : runs_out_at_end m events ≡ true
+  pub ended : ends_the_run m events ≡ true
+  pub done : leaves_nothing m events ≡ true
+
+-- the run has begun, and each part follows its line
+abbrev pub FollowsLines : Event → List Part → Type 0
+FollowsLines run [] = is_run run ≡ true
+FollowsLines run (part ∷ earlier) = FollowsLines run earlier × FollowsLine (after run earlier) part
+
+pub record Follows (it : Played) : Type 0 where
+  pub lines : FollowsLines it.run it.parts
+  pub end : FollowsEnd (after it.run it.parts) it.last
+
+-- The same as tests.
+
+abbrev pub follows_line : Moment → Part → Bool
+follows_line m part =
+    begins_with_step m part
+    && (makes_whole_steps m part
+    && (enters_in_order m part
+    && (enters_at_once m part
+    && (sets_at_once m part
+    && (keeps_running m part && (starts_alone m part && (steps_once m part && (tidies_once m part && (runs_in_turn m part && runs_out m part)))))))))
+
+abbrev pub follows_end : Moment → List Event → Bool
+follows_end m events =
+    begins_at_end m events
+    && (makes_whole_steps_at_end m events
+    && (enters_in_order_at_end m events
+    && (sets_nothing_at_end m events
+    && (goes_in_turn_at_end m events && (runs_out_at_end m events && (ends_the_run m events && leaves_nothing m events))))))
+
+-- a moment, and whether all before it followed
+pub record Judged : Type 0 where
+  pub moment : Moment
+  pub fine : Bool
+
+abbrev pub judge_line : Part → Judged → Judged
+judge_line part j = record { moment = after_part j.moment part; fine = j.fine && follows_line j.moment part }
+
+abbrev pub judged : Event → List Part → Judged
+judged run [] = record { moment = begun run; fine = is_run run }
+judged run (part ∷ earlier) = judge_line part (judged run earlier)
+
+abbrev pub ends_well : List Event → Judged → Bool
+ends_well events j = j.fine && follows_end j.moment events
+
+-- the parts follow their lines, and the last one the script's end
+abbrev pub follows : Played → Bool
+follows it = ends_well it.last (judged it.run it.parts)

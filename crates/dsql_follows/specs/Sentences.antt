@@ -1,0 +1,236 @@
+-- What the part of a line may hold, one sentence each. `m` is the moment before the line, and a part is newest first.
+use Rattle.std.specs.Prelude.{ℕ, ◌==◌, Bool, true, false, not, ◌&&◌, ◌||◌, cond, List, [], ◌∷◌, Option, Some, None}
+use Rattle.std.specs.List.{list_all}
+use Rattle.std.specs.Ordering.{int_eq}
+use Rattle.dsql_journal.specs.Readers.{is_empty}
+use Rattle.dsql_clients.specs.declared.event.Op.{Op}
+use Rattle.dsql_clients.specs.declared.event.Event.{Event}
+use Rattle.dsql_clients.specs.declared.event.Event.TheVariants.{Entered, Heard, SetLimit, Ended}
+use Rattle.dsql_clients.specs.declared.record.Stand.{Stand}
+use Rattle.dsql_clients.specs.declared.record.Stand.TheVariants.{Sends}
+use Rattle.dsql_clients.specs.Rules.Course.{is_run, is_from_outside}
+use Rattle.dsql_clients.specs.Rules.House.{has_no_chore}
+use Rattle.dsql_clients.specs.Rules.Stands.{stand}
+use Rattle.dsql_follows.specs.declared.line.Line.{Line}
+use Rattle.dsql_follows.specs.declared.line.Line.TheVariants.{Set, Client, Start, Step, StepHouse}
+use Rattle.dsql_follows.specs.Same.{same_op, same_setting}
+use Rattle.dsql_follows.specs.Clients.{call_of, is_free}
+use Rattle.dsql_follows.specs.Moments.{Moment, Passed, met, stepping, is_in_flight, takes_permit, walk, after_events, kept}
+use Rattle.dsql_follows.specs.Turns.{can_move, is_chore, comes_in_turn, has_run_out}
+
+-- a line of the script and the events of its part
+pub record Part : Type 0 where
+  pub line : Line
+  pub events : List Event
+
+-- the events of the part, each with the moment before it
+abbrev pub passed : Moment → Part → List Passed
+passed m part = (walk (met part.line m) part.events).passed
+
+-- a step of a client whose call could move before it gives that its permit, where one is due
+abbrev pub woken : Moment → Line → Moment → Moment
+woken before (Step client) m = cond (can_move before (call_of before.past client)) (takes_permit (call_of before.past client) m) m
+woken before _ m = m
+
+-- the free moment after a line and its part
+abbrev pub after_part : Moment → Part → Moment
+after_part m part = woken m part.line (after_events (met part.line m) part.events)
+
+-- Steps.
+
+-- the oldest event
+abbrev pub oldest : List Passed → Option Passed
+oldest [] = None
+oldest (p ∷ []) = Some p
+oldest (p ∷ earlier) = oldest earlier
+
+-- the events but the oldest one
+abbrev pub later : List Passed → List Passed
+later [] = []
+later (p ∷ []) = []
+later (p ∷ earlier) = p ∷ later earlier
+
+abbrev pub begins : Option Passed → Bool
+begins None = true
+begins (Some p) = p.begins
+
+-- each event of a part is part of a step that begins in it
+abbrev pub begins_with_step : Moment → Part → Bool
+begins_with_step m part = begins (oldest (passed m part))
+
+-- the events are one step
+abbrev pub is_one_step : List Passed → Bool
+is_one_step events = not (is_empty events) && (begins (oldest events) && list_all (λ p. not p.begins) (later events))
+
+-- At a free moment the call that stepped last has gone as far as it can: it has its reply, or its permit is in flight, or it is blocked.
+abbrev pub is_whole : Moment → Bool
+is_whole m = is_in_flight m.stepper m.flights || not (can_move m m.stepper)
+
+-- each step was whole before another began
+abbrev pub were_whole : List Passed → Bool
+were_whole events = list_all (λ p. not p.begins || is_whole p.before) events
+
+-- each step goes as far as it can
+abbrev pub makes_whole_steps : Moment → Part → Bool
+makes_whole_steps m part = were_whole (passed m part) && is_whole (after_events (met part.line m) part.events)
+
+-- Lines of clients.
+
+-- this is the first of the lines
+abbrev pub is_next : Op → List Line → Bool
+is_next op (Client client it ∷ later) = same_op op it
+is_next op (Start client it ∷ later) = same_op op it
+is_next op _ = false
+
+abbrev pub may_enter : Moment → Event → Bool
+may_enter m (Entered client n op) = is_free m.past client && is_next op (kept m client)
+may_enter m _ = true
+
+-- The lines of each client are entered in their order, each once: what is entered is the first of its client's lines that isn't entered yet, while the client
+-- is free.
+abbrev pub enters_in_order : Moment → Part → Bool
+enters_in_order m part = list_all (λ p. may_enter p.before p.event) (passed m part)
+
+-- a line of the client would be entered at its own place: it is free, and has no line kept
+abbrev pub enters_now : Moment → ℕ → Bool
+enters_now m client = is_free m.past client && is_empty (kept m client)
+
+abbrev pub enters_for : ℕ → Event → Bool
+enters_for client (Entered k n op) = k == client
+enters_for client _ = false
+
+abbrev pub is_entry_of : ℕ → Option Passed → Bool
+is_entry_of client None = false
+is_entry_of client (Some p) = enters_for client p.event
+
+abbrev pub enters_first : Moment → ℕ → Part → Bool
+enters_first m client part = not (enters_now m client) || is_entry_of client (oldest (passed m part))
+
+abbrev pub enters_at : Moment → Part → Line → Bool
+enters_at m part (Client client op) = enters_first m client part
+enters_at m part (Start client op) = enters_first m client part
+enters_at m part line = true
+
+-- a client's line is entered at its own place where the client is free and has no line kept: its part begins so
+abbrev pub enters_at_once : Moment → Part → Bool
+enters_at_once m part = enters_at m part part.line
+
+-- Settings, and the run.
+
+abbrev pub is_setting : Event → Bool
+is_setting (SetLimit setting n) = true
+is_setting _ = false
+
+abbrev pub sets_nothing : List Passed → Bool
+sets_nothing events = list_all (λ p. not (is_setting p.event)) events
+
+abbrev pub is_set_by : Line → Event → Bool
+is_set_by (Set setting n) (SetLimit it k) = same_setting setting it && int_eq n k
+is_set_by _ _ = false
+
+abbrev pub sets : Line → Option Passed → Bool
+sets line None = false
+sets line (Some p) = is_set_by line p.event
+
+abbrev pub sets_at : Line → List Passed → Bool
+sets_at (Set setting n) events = sets (Set setting n) (oldest events) && sets_nothing (later events)
+sets_at line events = sets_nothing events
+
+-- the part of a line that sets a limit begins with that, and no limit is set elsewhere
+abbrev pub sets_at_once : Moment → Part → Bool
+sets_at_once m part = sets_at part.line (passed m part)
+
+abbrev pub is_of_the_run : Event → Bool
+is_of_the_run Ended = true
+is_of_the_run e = is_run e
+
+-- the run begins and ends in no line's part
+abbrev pub keeps_running : Moment → Part → Bool
+keeps_running m part = list_all (λ e. not (is_of_the_run e)) part.events
+
+-- Single steps.
+
+abbrev pub starts_at : Moment → List Passed → Line → Bool
+starts_at m events (Start client op) = cond (enters_now m client) (is_one_step events) (is_empty events)
+starts_at m events line = true
+
+-- The part of a line that holds its call is the step in which that enters, so no answer is heard in it. Where the line is kept, nothing comes.
+abbrev pub starts_alone : Moment → Part → Bool
+starts_alone m part = starts_at m (passed m part) part.line
+
+abbrev pub is_answer_to : ℕ → Event → Bool
+is_answer_to n (Heard e) = e.call_no == n
+is_answer_to n _ = false
+
+abbrev pub hears : ℕ → Option Passed → Bool
+hears n None = false
+hears n (Some p) = is_answer_to n p.event
+
+-- call n goes on by itself
+abbrev pub goes_on : ℕ → Option Passed → Bool
+goes_on n None = false
+goes_on n (Some p) = not (is_from_outside p.event) && (stepping p.before p.event == n)
+
+-- a call that can move and stands so only sends, which doesn't show, where a driver call of it is due
+abbrev pub wakes : ℕ → List Passed → Option Stand → Bool
+wakes n events (Some (Sends c)) = is_empty events
+wakes n events it = is_one_step events && goes_on n (oldest events)
+
+abbrev pub steps_call : Moment → List Passed → ℕ → Bool
+steps_call m events n =
+    cond (is_in_flight n m.flights) (is_one_step events && hears n (oldest events)) (cond (can_move m n) (wakes n events (stand m.past n)) (is_empty events))
+
+abbrev pub steps_free : Moment → List Passed → ℕ → Bool
+steps_free m events client = cond (is_empty (kept m client)) (is_empty events) (is_one_step events && is_entry_of client (oldest events))
+
+abbrev pub steps_at : Moment → List Passed → Line → Bool
+steps_at m events (Step client) = cond (is_free m.past client) (steps_free m events client) (steps_call m events (call_of m.past client))
+steps_at m events line = true
+
+-- The part of a single step is one step of that client. Where its call has a permit in flight, its answer is heard. A call that can move goes on, which shows
+-- unless it only sends. A free client enters its first line that is kept. Else there is nothing to do, and nothing comes.
+abbrev pub steps_once : Moment → Part → Bool
+steps_once m part = steps_at m (passed m part) part.line
+
+abbrev pub is_chore_of : Moment → Event → Bool
+is_chore_of m (Heard e) = is_chore m e
+is_chore_of m _ = false
+
+abbrev pub carries : Moment → Option Passed → Bool
+carries m None = false
+carries m (Some p) = is_chore_of m p.event
+
+abbrev pub tidies_at : Moment → List Passed → Line → Bool
+tidies_at m events StepHouse = cond (has_no_chore m.past) (is_empty events) (is_one_step events && carries m (oldest events))
+tidies_at m events line = true
+
+-- the part of a single step of the layer is the chore that comes first, where there is one, and else nothing comes
+abbrev pub tidies_once : Moment → Part → Bool
+tidies_once m part = tidies_at m (passed m part) part.line
+
+-- Lines that run on.
+
+-- after it all goes on, until nobody may
+abbrev pub runs_on : Line → Bool
+runs_on (Start client op) = false
+runs_on (Step client) = false
+runs_on StepHouse = false
+runs_on line = true
+
+-- it makes a step of its own at once
+abbrev pub has_own_step : Moment → Line → Bool
+has_own_step m (Set setting n) = true
+has_own_step m (Client client op) = enters_now m client
+has_own_step m line = false
+
+-- each step comes in its turn
+abbrev pub come_in_turn : List Passed → Bool
+come_in_turn events = list_all (λ p. not p.begins || comes_in_turn p.before p.event) events
+
+-- where a line runs on, each step in its part but its own comes in its turn
+abbrev pub runs_in_turn : Moment → Part → Bool
+runs_in_turn m part = not (runs_on part.line) || come_in_turn (cond (has_own_step m part.line) (later (passed m part)) (passed m part))
+
+-- and it runs on until nobody may go on
+abbrev pub runs_out : Moment → Part → Bool
+runs_out m part = not (runs_on part.line) || has_run_out (after_part m part)

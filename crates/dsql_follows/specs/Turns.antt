@@ -1,0 +1,88 @@
+-- Who may go on at a free moment, and whose turn it is.
+use Rattle.std.specs.Prelude.{ℕ, ◌==◌, nat_le, Bool, true, false, not, ◌&&◌, ◌||◌, cond, List, [], ◌∷◌, Option, Some, None}
+use Rattle.std.specs.List.{list_any, list_all}
+use Rattle.dsql_course.specs.Made.{or_else}
+use Rattle.dsql_journal.specs.declared.entry.Entry.{Entry}
+use Rattle.dsql_journal.specs.Readers.{has, is_empty}
+use Rattle.dsql_clients.specs.declared.event.Event.{Event}
+use Rattle.dsql_clients.specs.declared.event.Event.TheVariants.{Run, Entered, Heard, SetLimit, Ended}
+use Rattle.dsql_clients.specs.declared.record.Stand.{Stand}
+use Rattle.dsql_clients.specs.declared.record.Stand.TheVariants.{Waits, Opens, Sends}
+use Rattle.dsql_clients.specs.Readers.Course.{has_ended}
+use Rattle.dsql_clients.specs.Readers.Unfinished.{is_unfinished}
+use Rattle.dsql_clients.specs.Rules.House.{tidy_due, shut_due, connect_due, has_no_chore}
+use Rattle.dsql_clients.specs.Rules.Stands.{stand}
+use Rattle.dsql_follows.specs.declared.line.Line.{Line}
+use Rattle.dsql_follows.specs.declared.line.Line.TheVariants.{Client, Start}
+use Rattle.dsql_follows.specs.Clients.{call_of, is_free, client_of}
+use Rattle.dsql_follows.specs.Moments.{Flight, Moment, stepping, is_in_flight, kept, is_held}
+
+-- another's permit is in flight on connection c
+abbrev pub is_taken : ℕ → ℕ → List Flight → Bool
+is_taken n c flights = list_any (λ flight. (flight.conn == c) && not (flight.call == n)) flights
+
+-- Call n, which stands so, is blocked: it waits, or a connection is being opened for it, or another's permit is in flight where its driver call is due.
+abbrev pub is_blocked : List Flight → ℕ → Option Stand → Bool
+is_blocked flights n (Some Waits) = true
+is_blocked flights n (Some (Opens c)) = true
+is_blocked flights n (Some (Sends c)) = is_taken n c flights
+is_blocked flights n it = false
+
+-- the call has no reply, and its permit is in flight or it isn't blocked
+abbrev pub can_move : Moment → ℕ → Bool
+can_move m n = is_unfinished m.past n && (is_in_flight n m.flights || not (is_blocked m.flights n (stand m.past n)))
+
+-- the connection on which the layer's own call that comes first is made, if there is any
+abbrev pub first_chore : Moment → Option ℕ
+first_chore m = or_else (tidy_due m.past) (or_else (shut_due m.past) (connect_due m.past))
+
+abbrev pub is_on : Option ℕ → ℕ → Bool
+is_on None c = false
+is_on (Some d) c = d == c
+
+-- the layer's own call that comes first is answered
+abbrev pub is_chore : Moment → Entry → Bool
+is_chore m e = (e.call_no == 0) && is_on (first_chore m) e.conn
+
+-- a free client goes on by the first line that is kept, and else its call, where that isn't held
+abbrev pub may_go_by : Moment → ℕ → ℕ → Bool
+may_go_by m client n = cond (n == 0) (not (is_empty (kept m client))) (can_move m n && not (is_held m client))
+
+abbrev pub may_go : Moment → ℕ → Bool
+may_go m client = may_go_by m client (call_of m.past client)
+
+abbrev pub with_client : ℕ → List ℕ → List ℕ
+with_client client clients = cond (has client clients) clients (client ∷ clients)
+
+-- the clients who have a line
+abbrev pub clients : List Line → List ℕ
+clients [] = []
+clients (Client client op ∷ earlier) = with_client client (clients earlier)
+clients (Start client op ∷ earlier) = with_client client (clients earlier)
+clients (_ ∷ earlier) = clients earlier
+
+-- no client who is smaller than this one may go on
+abbrev pub is_smallest : Moment → ℕ → Bool
+is_smallest m client = list_all (λ k. nat_le client k || not (may_go m k)) (clients m.lines)
+
+-- it is the client's turn: there is no chore, and it is the smallest that may go on
+abbrev pub has_turn : Moment → ℕ → Bool
+has_turn m client = has_no_chore m.past && (may_go m client && is_smallest m client)
+
+-- the turn is nobody's: there is no chore, and no client may go on
+abbrev pub has_run_out : Moment → Bool
+has_run_out m = has_no_chore m.past && list_all (λ k. not (may_go m k)) (clients m.lines)
+
+-- call n goes on by itself in its client's turn
+abbrev pub goes_in_turn : Moment → ℕ → Bool
+goes_in_turn m n = has_turn m (client_of m.past n) && not (is_in_flight n m.flights)
+
+-- A step that begins with this event comes in its turn. The first chore is carried out, and where there is none the smallest client who may go on makes a
+-- step: an answer comes to its call, it enters its first kept line, or its call goes on by itself. The run ends once the turn is nobody's.
+abbrev pub comes_in_turn : Moment → Event → Bool
+comes_in_turn m (Heard e) = cond (e.call_no == 0) (is_chore m e) (is_unfinished m.past e.call_no && has_turn m (client_of m.past e.call_no))
+comes_in_turn m (Entered client n op) = is_free m.past client && has_turn m client
+comes_in_turn m Ended = m.released && (not (has_ended m.past) && has_run_out m)
+comes_in_turn m (SetLimit setting n) = false
+comes_in_turn m (Run version caps) = false
+comes_in_turn m e = goes_in_turn m (stepping m e)

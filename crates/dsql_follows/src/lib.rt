@@ -1,0 +1,7 @@
+//! Which parts of a history follow which lines of a script: with several clients, lines that are kept, calls that
+//! are held, and single steps.
+#![tactic(auto)]
+
+mod line;
+
+pub use line::Line;

@@ -1,0 +1,18 @@
+use dsql_clients::{Op, Setting};
+
+/// What a line of a script asks for.
+#[derive(Clone, Debug, Drop)]
+pub enum Line {
+    /// Nothing: it is empty or a comment, or it was for what comes before the run.
+    Skip,
+    /// A limit is set to this number.
+    Set(Setting, i64),
+    /// A client makes a call.
+    Client { client: u8, op: Op },
+    /// A client makes a call, which is held: it goes on by single steps alone, until the script ends.
+    Start { client: u8, op: Op },
+    /// A client makes one step.
+    Step { client: u8 },
+    /// The layer makes one driver call of its own.
+    StepHouse,
+}
