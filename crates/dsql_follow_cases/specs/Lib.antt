@@ -1,0 +1,5 @@
+pub mod Words
+pub mod Followed
+pub mod Edits
+pub mod Strayed
+pub mod StrayedEnds
