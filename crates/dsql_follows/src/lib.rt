@@ -2,6 +2,7 @@
 //! are held, and single steps.
 #![tactic(auto)]
 
+pub mod laws;
 mod line;
 
 pub use line::Line;

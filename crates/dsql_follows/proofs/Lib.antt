@@ -1,0 +1,2 @@
+mod Decide
+mod Walks
