@@ -77,7 +77,7 @@ nothing_owed (m ∷ ms) (Replied n reply) not_move h = absurd cc
 nothing_owed (m ∷ ms) Ended not_move h = absurd cc
 
 -- where an event comes that isn't a move, the pool was at rest before it
-before_event : (H : List Event) (e : Event) → is_move e ≡ false → Allowed H e → Rested H → AtRest (pool H)
+pub before_event : (H : List Event) (e : Event) → is_move e ≡ false → Allowed H e → Rested H → AtRest (pool H)
 before_event H e not_move a h = let k = keeps_of H e a in rests_when (pool H) (owed H) (nothing_owed (owed H) e not_move k.order) h
 
 answered_rests : (answer : DriverAnswer) (c : ℕ) (p : Pooled) (at : Option Place) → place_at p c ≡ at → AtRest p → AtRest (made (answered answer c p at) p)

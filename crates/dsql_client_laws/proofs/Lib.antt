@@ -11,4 +11,7 @@ pub mod Holdings
 pub mod Wanting
 pub mod Standing
 pub mod Welcome
+pub mod Able
+pub mod AbleMoves
+pub mod OwedAllowed
 pub mod Decide

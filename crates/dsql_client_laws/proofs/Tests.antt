@@ -26,6 +26,9 @@ second false b f h = h
 pub same_number : (n m : ℕ) → (n == m) ≡ true → n ≡ m
 same_number n m h = grind (arith, nat_tests)
 
+pub same_itself : (n : ℕ) → (n == n) ≡ true
+same_itself n = grind (arith, nat_tests)
+
 pub other_number : (n m : ℕ) → n ≢ m → (n == m) ≡ false
 other_number n m h = grind (arith, nat_tests)
 
@@ -75,3 +78,29 @@ move_is (Fell c n) (Fell d m) h =
     let q : n ≡ m = same_number n m a.1 in
     rw (p, q) refl
 move_is _ _ h = absurd cc
+
+owner_itself : (o : Owner) → same_owner o o ≡ true
+owner_itself (Call n) = same_itself n
+owner_itself (Tx n) = same_itself n
+owner_itself (Pin n) = same_itself n
+owner_itself House = refl
+
+cause_itself : (a : CloseCause) → same_cause a a ≡ true
+cause_itself Bad = refl
+cause_itself Invalid = refl
+cause_itself OverLimit = refl
+cause_itself IdleFull = refl
+cause_itself Lifetime = refl
+cause_itself IdleTime = refl
+cause_itself DbClosed = refl
+cause_itself Discarded = refl
+
+pub move_itself : (m : Move) → same_move m m ≡ true
+move_itself (OpenStart c n) = together (c == c) (n == n) (same_itself c) (same_itself n)
+move_itself (Lend c t o n) =
+    together (c == c) ((t == t) && (same_owner o o && (n == n))) (same_itself c)
+    (together (t == t) (same_owner o o && (n == n)) (same_itself t) (together (same_owner o o) (n == n) (owner_itself o) (same_itself n)))
+move_itself (Back c) = same_itself c
+move_itself (CloseStart c why) = together (c == c) (same_cause why why) (same_itself c) (cause_itself why)
+move_itself (Gone c) = same_itself c
+move_itself (Fell c n) = together (c == c) (n == n) (same_itself c) (same_itself n)

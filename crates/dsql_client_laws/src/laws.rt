@@ -1,14 +1,16 @@
 //! Laws of histories of several clients: each law is the contract of a function that does nothing. A history
 //! is read newest first.
 
-ghost use Rattle.std.specs.Prelude.{◌≡◌, ◌≢◌, ◌↔◌, ◌≤◌, ◌++◌, ◌∷◌, ℕ, true, false, List, Some, is_some};
+ghost use Rattle.std.specs.Prelude.{◌≡◌, ◌≢◌, ◌↔◌, ◌≤◌, ◌++◌, [], ◌∷◌, ℕ, true, false, List, Some, is_some};
 ghost use Rattle.dsql_journal.specs.declared.entry.Entry.{Entry};
 ghost use Rattle.dsql_wait.specs.Requests.{waits};
 ghost use Rattle.dsql_pool.specs.Calls.{wants};
 ghost use Rattle.dsql_pool.specs.Places.{is_for};
 ghost use Rattle.dsql_pool.specs.Moved.{made};
 ghost use Rattle.dsql_pool.specs.Rest.{AtRest};
+ghost use Rattle.dsql_pool.specs.declared.moves.Move.{Move};
 ghost use Rattle.dsql_clients.specs.declared.event.Event.{Event};
+ghost use Rattle.dsql_clients.specs.declared.event.Event.TheVariants.{Pool};
 ghost use Rattle.dsql_clients.specs.Readers.Owed.{owed};
 ghost use Rattle.dsql_history.specs.Readers.Works.{asks};
 ghost use Rattle.dsql_clients.specs.declared.record.Stand.TheVariants.{Waits, Opens, Sends};
@@ -22,6 +24,7 @@ ghost use Rattle.dsql_clients.specs.Rules.Settled.{Settled, owes_nothing};
 ghost use Rattle.dsql_clients.specs.Legal.{Allowed, Calm, KeepsJournals, Lawful, Legal};
 ghost use Rattle.dsql_clients.specs.Computed.{is_allowed, is_calm, is_lawful, is_legal, is_settled};
 ghost use Rattle.dsql_client_laws.specs.Holdings.{holdings};
+ghost use Rattle.dsql_client_laws.specs.OwedMade.{with_moves};
 ghost use Rattle.dsql_client_laws.specs.Splits.{AllowedAtEachEvent};
 
 /// The rules are computed: each test is true exactly where what it tests holds.
@@ -50,6 +53,16 @@ pub fn lawful_is_allowed_at_each_event()
 pub fn pools_of_lawful_histories()
     ensures then { (history : List Event) → Lawful history → AtRest (made (owed history) (pool history)) }
     ensures now { (history : List Event) → Lawful history → owes_nothing history ≡ true → AtRest (pool history) }
+{}
+
+/// The move that the pool owes first may come whatever was before, and the others are owed then. So all may come
+/// one after another, after which none is owed, and the pool has made them.
+pub fn owed_moves_are_allowed()
+    ensures next { (history : List Event) (due : Move) (later : List Move) → Lawful history → owed history ≡ due ∷ later → Allowed history (Pool due) }
+    ensures later { (history : List Event) (due : Move) (later : List Move) → owed history ≡ due ∷ later → owed (Pool due ∷ history) ≡ later }
+    ensures all { (history : List Event) → Lawful history → Lawful (with_moves (owed history) history) }
+    ensures none { (history : List Event) → owed (with_moves (owed history) history) ≡ [] }
+    ensures pool { (history : List Event) → pool (with_moves (owed history) history) ≡ made (owed history) (pool history) }
 {}
 
 /// Each connection's journal is a beginning of a whole one, and whole once the connection has left.
