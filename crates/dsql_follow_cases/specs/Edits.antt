@@ -3,7 +3,7 @@ use Rattle.std.specs.Prelude.{ℕ, ◌+◌, ◌-◌, Bool, not, ◌&&◌, List, 
 use Rattle.dsql_clients.specs.declared.event.Event.{Event}
 use Rattle.dsql_follows.specs.declared.line.Line.{Line}
 use Rattle.dsql_follows.specs.declared.line.Line.TheVariants.{Skip}
-use Rattle.dsql_follows.specs.Moments.{Moment}
+use Rattle.dsql_follows.specs.Moments.{Moment, met, at_end}
 use Rattle.dsql_follows.specs.Sentences.{Part}
 use Rattle.dsql_follows.specs.Follows.{Played, Judged, judged}
 use Rattle.dsql_follow_cases.specs.Words.{part}
@@ -48,6 +48,13 @@ abbrev pub brings_forward : ℕ → ℕ → Played → Played
 brings_forward k n it =
     with_part (k + 1) (record (part_at (k + 1) it) { events = take n (part_at (k + 1) it).events })
     (with_part k (record (part_at k it) { events = drop n (part_at (k + 1) it).events ++ (part_at k it).events }) it)
+
+-- the sentence is of events that come once a line is read, or at the script's end
+abbrev pub once_read : (Moment → List Event → Bool) → Moment → Part → Bool
+once_read sentence m part = sentence (met part.line m) part.events
+
+abbrev pub once_at_end : (Moment → List Event → Bool) → Moment → List Event → Bool
+once_at_end sentence m events = sentence (at_end m) events
 
 abbrev pub strays : (Moment → Part → Bool) → Part → Judged → Bool
 strays sentence part j = j.fine && not (sentence j.moment part)

@@ -1,9 +1,9 @@
 -- What is computed is what the definitions say.
 use Rattle.std.proofs.Common.{◌≡◌, ◌↔◌, Bool, true, false, ◌&&◌, List, [], ◌∷◌, refl, subst, ap}
 use Rattle.dsql_clients.specs.declared.event.Event.{Event}
-use Rattle.dsql_follows.specs.Moments.{Moment}
+use Rattle.dsql_follows.specs.Moments.{Moment, met, at_end}
 use Rattle.dsql_follows.specs.Sentences.{Part, after_part}
-use Rattle.dsql_follows.specs.Follows.{Played, FollowsLine, FollowsEnd, FollowsLines, Follows, after, judged, follows_line, follows_end, follows}
+use Rattle.dsql_follows.specs.Follows.{Played, MakesSteps, FollowsLine, FollowsEnd, FollowsLines, Follows, after, judged, makes_steps, follows_line, follows_end, follows}
 
 both : (a b : Bool) → (a && b) ≡ true → (a ≡ true) × (b ≡ true)
 both true b h = (refl, h)
@@ -13,53 +13,54 @@ together : (a b : Bool) → a ≡ true → b ≡ true → a && b ≡ true
 together true b h k = k
 together false b h k = absurd cc
 
+steps_of : (m : Moment) (events : List Event) → makes_steps m events ≡ true → MakesSteps m events
+steps_of m events h =
+    let a = both _ _ h in
+    let b = both _ _ a.1 in
+    record { begins = a.0; whole = b.0; ordered = b.1 }
+
+are_steps_of : (m : Moment) (events : List Event) → MakesSteps m events → makes_steps m events ≡ true
+are_steps_of m events r = together _ _ r.begins (together _ _ r.whole r.ordered)
+
 line_of : (m : Moment) (part : Part) → follows_line m part ≡ true → FollowsLine m part
 line_of m part h =
-    let a = both _ _ h in
+    let a = both (makes_steps (met part.line m) part.events) _ h in
     let b = both _ _ a.1 in
     let c = both _ _ b.1 in
     let d = both _ _ c.1 in
     let e = both _ _ d.1 in
     let f = both _ _ e.1 in
     let g = both _ _ f.1 in
-    let i = both _ _ g.1 in
-    let j = both _ _ i.1 in
-    let k = both _ _ j.1 in
     record {
-      begins = a.0;
-      whole = b.0;
-      ordered = c.0;
-      entered = d.0;
-      set = e.0;
-      running = f.0;
-      started = g.0;
-      stepped = i.0;
-      tidied = j.0;
-      in_turn = k.0;
-      run_out = k.1;
+      steps = steps_of (met part.line m) part.events a.0;
+      entered = b.0;
+      set = c.0;
+      started = d.0;
+      stepped = e.0;
+      tidied = f.0;
+      in_turn = g.0;
+      run_out = g.1;
     }
 
 is_line_of : (m : Moment) (part : Part) → FollowsLine m part → follows_line m part ≡ true
 is_line_of m part r =
-    together _ _ r.begins (together _ _ r.whole (together _ _ r.ordered (together _ _ r.entered (together _ _ r.set (together _ _ r.running (together _ _ r.started (together _ _ r.stepped (together _ _ r.tidied (together _ _ r.in_turn r.run_out)))))))))
+    together _ _ (are_steps_of (met part.line m) part.events r.steps)
+    (together _ _ r.entered (together _ _ r.set (together _ _ r.started (together _ _ r.stepped (together _ _ r.tidied (together _ _ r.in_turn r.run_out))))))
 
 pub line_computed : (m : Moment) (part : Part) → (follows_line m part ≡ true) ↔ FollowsLine m part
 line_computed m part = (line_of m part, is_line_of m part)
 
 end_of : (m : Moment) (events : List Event) → follows_end m events ≡ true → FollowsEnd m events
 end_of m events h =
-    let a = both _ _ h in
+    let a = both (makes_steps (at_end m) events) _ h in
     let b = both _ _ a.1 in
     let c = both _ _ b.1 in
     let d = both _ _ c.1 in
-    let e = both _ _ d.1 in
-    let f = both _ _ e.1 in
-    let g = both _ _ f.1 in
-    record { begins = a.0; whole = b.0; ordered = c.0; unset = d.0; in_turn = e.0; run_out = f.0; ended = g.0; done = g.1 }
+    record { steps = steps_of (at_end m) events a.0; in_turn = b.0; run_out = c.0; ended = d.0; done = d.1 }
 
 is_end_of : (m : Moment) (events : List Event) → FollowsEnd m events → follows_end m events ≡ true
 is_end_of m events r =
-    together _ _ r.begins (together _ _ r.whole (together _ _ r.ordered (together _ _ r.unset (together _ _ r.in_turn (together _ _ r.run_out (together _ _ r.ended r.done))))))
+    together _ _ (are_steps_of (at_end m) events r.steps) (together _ _ r.in_turn (together _ _ r.run_out (together _ _ r.ended r.done)))
 
 pub end_computed : (m : Moment) (events : List Event) → (follows_end m events ≡ true) ↔ FollowsEnd m events
 end_computed m events = (end_of m events, is_end_of m events)

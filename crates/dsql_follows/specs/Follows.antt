@@ -7,9 +7,9 @@ use Rattle.dsql_clients.specs.Readers.Course.{has_ended}
 use Rattle.dsql_clients.specs.Rules.Course.{is_run}
 use Rattle.dsql_follows.specs.declared.line.Line.{Line}
 use Rattle.dsql_follows.specs.Clients.{is_free}
-use Rattle.dsql_follows.specs.Moments.{Moment, Passed, begun, at_end, walk, after_events, kept}
+use Rattle.dsql_follows.specs.Moments.{Moment, begun, met, at_end, after_events, kept}
 use Rattle.dsql_follows.specs.Turns.{clients, has_run_out}
-use Rattle.dsql_follows.specs.Sentences.{Part, after_part, oldest, begins, were_whole, is_whole, may_enter, sets_nothing, come_in_turn, begins_with_step, makes_whole_steps, enters_in_order, enters_at_once, sets_at_once, keeps_running, starts_alone, steps_once, tidies_once, runs_in_turn, runs_out}
+use Rattle.dsql_follows.specs.Sentences.{Part, after_part, passed, begins_with_step, makes_whole_steps, enters_in_order, come_in_turn, enters_at_once, sets_at_once, starts_alone, steps_once, tidies_once, runs_in_turn, runs_out}
 
 -- A run: its first event, its lines with their parts, the last one first, and the part of the script's end, newest first.
 pub record Played : Type 0 where
@@ -35,14 +35,17 @@ abbrev pub after : Event → List Part → Moment
 after run [] = begun run
 after run (part ∷ earlier) = after_part (after run earlier) part
 
+-- These events are whole steps, and enter lines in their order. The moment is that once a line is read, or at the script's end.
+pub record MakesSteps (m : Moment) (events : List Event) : Type 0 where
+  pub begins : begins_with_step m events ≡ true
+  pub whole : makes_whole_steps m events ≡ true
+  pub ordered : enters_in_order m events ≡ true
+
 -- what the part of a line holds, after a moment
 pub record FollowsLine (m : Moment) (part : Part) : Type 0 where
-  pub begins : begins_with_step m part ≡ true
-  pub whole : makes_whole_steps m part ≡ true
-  pub ordered : enters_in_order m part ≡ true
+  pub steps : MakesSteps (met part.line m) part.events
   pub entered : enters_at_once m part ≡ true
   pub set : sets_at_once m part ≡ true
-  pub running : keeps_running m part ≡ true
   pub started : starts_alone m part ≡ true
   pub stepped : steps_once m part ≡ true
   pub tidied : tidies_once m part ≡ true
@@ -51,34 +54,18 @@ pub record FollowsLine (m : Moment) (part : Part) : Type 0 where
 
 -- The end's part: `m` is the moment before it.
 
-abbrev pub passed_at_end : Moment → List Event → List Passed
-passed_at_end m events = (walk (at_end m) events).passed
+-- Calls that were held go on like all others, each step in its turn, until nobody may go on. Then the run ends, and all goes on in turn.
+abbrev pub ends_in_turn : Moment → List Event → Bool
+ends_in_turn m events = come_in_turn (passed (at_end m) events)
 
 -- the free moment after it
 abbrev pub over : Moment → List Event → Moment
 over m events = after_events (at_end m) events
 
-abbrev pub begins_at_end : Moment → List Event → Bool
-begins_at_end m events = begins (oldest (passed_at_end m events))
-
-abbrev pub makes_whole_steps_at_end : Moment → List Event → Bool
-makes_whole_steps_at_end m events = were_whole (passed_at_end m events) && is_whole (over m events)
-
-abbrev pub enters_in_order_at_end : Moment → List Event → Bool
-enters_in_order_at_end m events = list_all (λ p. may_enter p.before p.event) (passed_at_end m events)
-
-abbrev pub sets_nothing_at_end : Moment → List Event → Bool
-sets_nothing_at_end m events = sets_nothing (passed_at_end m events)
-
--- The calls that were held go on like all others, each step in its turn, until nobody may go on. The run ends then, and all goes on in turn.
-abbrev pub goes_in_turn_at_end : Moment → List Event → Bool
-goes_in_turn_at_end m events = come_in_turn (passed_at_end m events)
-
 -- it goes on until nobody may
-abbrev pub runs_out_at_end : Moment → List Event → Bool
-runs_out_at_end m events = has_run_out (over m events)
+abbrev pub ends_run_out : Moment → List Event → Bool
+ends_run_out m events = has_run_out (over m events)
 
--- the run ended
 abbrev pub ends_the_run : Moment → List Event → Bool
 ends_the_run m events = has_ended (over m events).past
 
@@ -89,13 +76,11 @@ is_done m = list_all (λ client. is_free m.past client && is_empty (kept m clien
 abbrev pub leaves_nothing : Moment → List Event → Bool
 leaves_nothing m events = is_done (over m events)
 
+-- what the part of the script's end holds, after a moment
 pub record FollowsEnd (m : Moment) (events : List Event) : Type 0 where
-  pub begins : begins_at_end m events ≡ true
-  pub whole : makes_whole_steps_at_end m events ≡ true
-  pub ordered : enters_in_order_at_end m events ≡ true
-  pub unset : sets_nothing_at_end m events ≡ true
-  pub in_turn : goes_in_turn_at_end m events ≡ true
-  pub run_out : runs_out_at_end m events ≡ true
+  pub steps : MakesSteps (at_end m) events
+  pub in_turn : ends_in_turn m events ≡ true
+  pub run_out : ends_run_out m events ≡ true
   pub ended : ends_the_run m events ≡ true
   pub done : leaves_nothing m events ≡ true
 
@@ -110,22 +95,17 @@ pub record Follows (it : Played) : Type 0 where
 
 -- The same as tests.
 
+abbrev pub makes_steps : Moment → List Event → Bool
+makes_steps m events = begins_with_step m events && (makes_whole_steps m events && enters_in_order m events)
+
 abbrev pub follows_line : Moment → Part → Bool
 follows_line m part =
-    begins_with_step m part
-    && (makes_whole_steps m part
-    && (enters_in_order m part
+    makes_steps (met part.line m) part.events
     && (enters_at_once m part
-    && (sets_at_once m part
-    && (keeps_running m part && (starts_alone m part && (steps_once m part && (tidies_once m part && (runs_in_turn m part && runs_out m part)))))))))
+    && (sets_at_once m part && (starts_alone m part && (steps_once m part && (tidies_once m part && (runs_in_turn m part && runs_out m part))))))
 
 abbrev pub follows_end : Moment → List Event → Bool
-follows_end m events =
-    begins_at_end m events
-    && (makes_whole_steps_at_end m events
-    && (enters_in_order_at_end m events
-    && (sets_nothing_at_end m events
-    && (goes_in_turn_at_end m events && (runs_out_at_end m events && (ends_the_run m events && leaves_nothing m events))))))
+follows_end m events = makes_steps (at_end m) events && (ends_in_turn m events && (ends_run_out m events && (ends_the_run m events && leaves_nothing m events)))
 
 -- a moment, and whether all before it followed
 pub record Judged : Type 0 where

@@ -9,7 +9,7 @@ use Rattle.dsql_clients.specs.declared.event.Event.TheVariants.{Run, Entered, He
 use Rattle.dsql_clients.specs.declared.record.Stand.{Stand}
 use Rattle.dsql_clients.specs.declared.record.Stand.TheVariants.{Sends}
 use Rattle.dsql_clients.specs.Readers.Owed.{owed}
-use Rattle.dsql_clients.specs.Rules.Course.{is_from_outside}
+use Rattle.dsql_clients.specs.Rules.Course.{is_run, is_from_outside}
 use Rattle.dsql_clients.specs.Rules.Stands.{stand}
 use Rattle.dsql_follows.specs.declared.line.Line.{Line}
 use Rattle.dsql_follows.specs.declared.line.Line.TheVariants.{Skip, Client, Start}
@@ -60,9 +60,9 @@ stepping m (Run version caps) = 0
 stepping m (SetLimit setting n) = 0
 stepping m Ended = 0
 
--- A step begins with this event: it comes from outside, or a call goes on that wasn't going on. Just before it is a free moment.
+-- A step begins with this event: the run begins, or it comes from outside, or a call goes on that wasn't going on. Just before it is a free moment.
 abbrev pub begins_step : Moment → Event → Bool
-begins_step m e = is_from_outside e || not (stepping m e == m.stepper)
+begins_step m e = is_run e || (is_from_outside e || not (stepping m e == m.stepper))
 
 -- Flights.
 

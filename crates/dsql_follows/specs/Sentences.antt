@@ -1,14 +1,14 @@
--- What the part of a line may hold, one sentence each. `m` is the moment before the line, and a part is newest first.
+-- What a part may hold, one sentence each. Events are newest first.
 use Rattle.std.specs.Prelude.{ℕ, ◌==◌, Bool, true, false, not, ◌&&◌, ◌||◌, cond, List, [], ◌∷◌, Option, Some, None}
 use Rattle.std.specs.List.{list_all}
 use Rattle.std.specs.Ordering.{int_eq}
 use Rattle.dsql_journal.specs.Readers.{is_empty}
 use Rattle.dsql_clients.specs.declared.event.Op.{Op}
 use Rattle.dsql_clients.specs.declared.event.Event.{Event}
-use Rattle.dsql_clients.specs.declared.event.Event.TheVariants.{Entered, Heard, SetLimit, Ended}
+use Rattle.dsql_clients.specs.declared.event.Event.TheVariants.{Entered, Heard, SetLimit}
 use Rattle.dsql_clients.specs.declared.record.Stand.{Stand}
 use Rattle.dsql_clients.specs.declared.record.Stand.TheVariants.{Sends}
-use Rattle.dsql_clients.specs.Rules.Course.{is_run, is_from_outside}
+use Rattle.dsql_clients.specs.Rules.Course.{is_from_outside}
 use Rattle.dsql_clients.specs.Rules.House.{has_no_chore}
 use Rattle.dsql_clients.specs.Rules.Stands.{stand}
 use Rattle.dsql_follows.specs.declared.line.Line.{Line}
@@ -18,25 +18,10 @@ use Rattle.dsql_follows.specs.Clients.{call_of, is_free}
 use Rattle.dsql_follows.specs.Moments.{Moment, Passed, met, stepping, is_in_flight, takes_permit, walk, after_events, kept}
 use Rattle.dsql_follows.specs.Turns.{can_move, is_chore, comes_in_turn, has_run_out}
 
--- a line of the script and the events of its part
-pub record Part : Type 0 where
-  pub line : Line
-  pub events : List Event
+-- Steps. Here m is the moment once the line is read, or at the script's end, and these events come then.
 
--- the events of the part, each with the moment before it
-abbrev pub passed : Moment → Part → List Passed
-passed m part = (walk (met part.line m) part.events).passed
-
--- a step of a client whose call could move before it gives that its permit, where one is due
-abbrev pub woken : Moment → Line → Moment → Moment
-woken before (Step client) m = cond (can_move before (call_of before.past client)) (takes_permit (call_of before.past client) m) m
-woken before _ m = m
-
--- the free moment after a line and its part
-abbrev pub after_part : Moment → Part → Moment
-after_part m part = woken m part.line (after_events (met part.line m) part.events)
-
--- Steps.
+abbrev pub passed : Moment → List Event → List Passed
+passed m events = (walk m events).passed
 
 -- the oldest event
 abbrev pub oldest : List Passed → Option Passed
@@ -55,12 +40,8 @@ begins None = true
 begins (Some p) = p.begins
 
 -- each event of a part is part of a step that begins in it
-abbrev pub begins_with_step : Moment → Part → Bool
-begins_with_step m part = begins (oldest (passed m part))
-
--- the events are one step
-abbrev pub is_one_step : List Passed → Bool
-is_one_step events = not (is_empty events) && (begins (oldest events) && list_all (λ p. not p.begins) (later events))
+abbrev pub begins_with_step : Moment → List Event → Bool
+begins_with_step m events = begins (oldest (passed m events))
 
 -- At a free moment the call that stepped last has gone as far as it can: it has its reply, or its permit is in flight, or it is blocked.
 abbrev pub is_whole : Moment → Bool
@@ -71,10 +52,8 @@ abbrev pub were_whole : List Passed → Bool
 were_whole events = list_all (λ p. not p.begins || is_whole p.before) events
 
 -- each step goes as far as it can
-abbrev pub makes_whole_steps : Moment → Part → Bool
-makes_whole_steps m part = were_whole (passed m part) && is_whole (after_events (met part.line m) part.events)
-
--- Lines of clients.
+abbrev pub makes_whole_steps : Moment → List Event → Bool
+makes_whole_steps m events = were_whole (passed m events) && is_whole (after_events m events)
 
 -- this is the first of the lines
 abbrev pub is_next : Op → List Line → Bool
@@ -88,8 +67,36 @@ may_enter m _ = true
 
 -- The lines of each client are entered in their order, each once: what is entered is the first of its client's lines that isn't entered yet, while the client
 -- is free.
-abbrev pub enters_in_order : Moment → Part → Bool
-enters_in_order m part = list_all (λ p. may_enter p.before p.event) (passed m part)
+abbrev pub enters_in_order : Moment → List Event → Bool
+enters_in_order m events = list_all (λ p. may_enter p.before p.event) (passed m events)
+
+-- each step comes in its turn
+abbrev pub come_in_turn : List Passed → Bool
+come_in_turn events = list_all (λ p. not p.begins || comes_in_turn p.before p.event) events
+
+-- Parts of lines. Here m is the moment before the line.
+
+-- a line of the script and the events of its part
+pub record Part : Type 0 where
+  pub line : Line
+  pub events : List Event
+
+-- the events of the part, each with the moment before it
+abbrev pub passed_in : Moment → Part → List Passed
+passed_in m part = passed (met part.line m) part.events
+
+-- a step of a client whose call could move before it gives that its permit, where one is due
+abbrev pub woken : Moment → Line → Moment → Moment
+woken before (Step client) m = cond (can_move before (call_of before.past client)) (takes_permit (call_of before.past client) m) m
+woken before _ m = m
+
+-- the free moment after a line and its part
+abbrev pub after_part : Moment → Part → Moment
+after_part m part = woken m part.line (after_events (met part.line m) part.events)
+
+-- the events are one step
+abbrev pub is_one_step : List Passed → Bool
+is_one_step events = not (is_empty events) && (begins (oldest events) && list_all (λ p. not p.begins) (later events))
 
 -- a line of the client would be entered at its own place: it is free, and has no line kept
 abbrev pub enters_now : Moment → ℕ → Bool
@@ -104,7 +111,7 @@ is_entry_of client None = false
 is_entry_of client (Some p) = enters_for client p.event
 
 abbrev pub enters_first : Moment → ℕ → Part → Bool
-enters_first m client part = not (enters_now m client) || is_entry_of client (oldest (passed m part))
+enters_first m client part = not (enters_now m client) || is_entry_of client (oldest (passed_in m part))
 
 abbrev pub enters_at : Moment → Part → Line → Bool
 enters_at m part (Client client op) = enters_first m client part
@@ -115,38 +122,21 @@ enters_at m part line = true
 abbrev pub enters_at_once : Moment → Part → Bool
 enters_at_once m part = enters_at m part part.line
 
--- Settings, and the run.
-
-abbrev pub is_setting : Event → Bool
-is_setting (SetLimit setting n) = true
-is_setting _ = false
-
-abbrev pub sets_nothing : List Passed → Bool
-sets_nothing events = list_all (λ p. not (is_setting p.event)) events
-
 abbrev pub is_set_by : Line → Event → Bool
 is_set_by (Set setting n) (SetLimit it k) = same_setting setting it && int_eq n k
 is_set_by _ _ = false
 
-abbrev pub sets : Line → Option Passed → Bool
-sets line None = false
-sets line (Some p) = is_set_by line p.event
+abbrev pub is_set_in : Line → Option Passed → Bool
+is_set_in line None = false
+is_set_in line (Some p) = is_set_by line p.event
 
-abbrev pub sets_at : Line → List Passed → Bool
-sets_at (Set setting n) events = sets (Set setting n) (oldest events) && sets_nothing (later events)
-sets_at line events = sets_nothing events
+abbrev pub sets_at : List Passed → Line → Bool
+sets_at events (Set setting n) = is_set_in (Set setting n) (oldest events)
+sets_at events line = true
 
--- the part of a line that sets a limit begins with that, and no limit is set elsewhere
+-- the part of a line that sets a limit begins with that
 abbrev pub sets_at_once : Moment → Part → Bool
-sets_at_once m part = sets_at part.line (passed m part)
-
-abbrev pub is_of_the_run : Event → Bool
-is_of_the_run Ended = true
-is_of_the_run e = is_run e
-
--- the run begins and ends in no line's part
-abbrev pub keeps_running : Moment → Part → Bool
-keeps_running m part = list_all (λ e. not (is_of_the_run e)) part.events
+sets_at_once m part = sets_at (passed_in m part) part.line
 
 -- Single steps.
 
@@ -156,7 +146,7 @@ starts_at m events line = true
 
 -- The part of a line that holds its call is the step in which that enters, so no answer is heard in it. Where the line is kept, nothing comes.
 abbrev pub starts_alone : Moment → Part → Bool
-starts_alone m part = starts_at m (passed m part) part.line
+starts_alone m part = starts_at m (passed_in m part) part.line
 
 abbrev pub is_answer_to : ℕ → Event → Bool
 is_answer_to n (Heard e) = e.call_no == n
@@ -190,7 +180,7 @@ steps_at m events line = true
 -- The part of a single step is one step of that client. Where its call has a permit in flight, its answer is heard. A call that can move goes on, which shows
 -- unless it only sends. A free client enters its first line that is kept. Else there is nothing to do, and nothing comes.
 abbrev pub steps_once : Moment → Part → Bool
-steps_once m part = steps_at m (passed m part) part.line
+steps_once m part = steps_at m (passed_in m part) part.line
 
 abbrev pub is_chore_of : Moment → Event → Bool
 is_chore_of m (Heard e) = is_chore m e
@@ -206,7 +196,7 @@ tidies_at m events line = true
 
 -- the part of a single step of the layer is the chore that comes first, where there is one, and else nothing comes
 abbrev pub tidies_once : Moment → Part → Bool
-tidies_once m part = tidies_at m (passed m part) part.line
+tidies_once m part = tidies_at m (passed_in m part) part.line
 
 -- Lines that run on.
 
@@ -223,13 +213,9 @@ has_own_step m (Set setting n) = true
 has_own_step m (Client client op) = enters_now m client
 has_own_step m line = false
 
--- each step comes in its turn
-abbrev pub come_in_turn : List Passed → Bool
-come_in_turn events = list_all (λ p. not p.begins || comes_in_turn p.before p.event) events
-
--- where a line runs on, each step in its part but its own comes in its turn
+-- where a line runs on, each step in its part but its own comes in its turn, so no limit is set there and the run doesn't end
 abbrev pub runs_in_turn : Moment → Part → Bool
-runs_in_turn m part = not (runs_on part.line) || come_in_turn (cond (has_own_step m part.line) (later (passed m part)) (passed m part))
+runs_in_turn m part = not (runs_on part.line) || come_in_turn (cond (has_own_step m part.line) (later (passed_in m part)) (passed_in m part))
 
 -- and it runs on until nobody may go on
 abbrev pub runs_out : Moment → Part → Bool
