@@ -4,3 +4,4 @@ pub mod Moments
 pub mod Turns
 pub mod Sentences
 pub mod Follows
+pub mod Splits

@@ -1,5 +1,5 @@
 -- What a part may hold, one sentence each. Events are newest first.
-use Rattle.std.specs.Prelude.{ℕ, ◌==◌, Bool, true, false, not, ◌&&◌, ◌||◌, cond, List, [], ◌∷◌, Option, Some, None}
+use Rattle.std.specs.Prelude.{ℕ, ◌==◌, Bool, true, false, not, ◌&&◌, ◌||◌, cond, List, [], ◌∷◌, Option, Some, None, is_none}
 use Rattle.std.specs.List.{list_all}
 use Rattle.std.specs.Ordering.{int_eq}
 use Rattle.dsql_journal.specs.Readers.{is_empty}
@@ -9,14 +9,13 @@ use Rattle.dsql_clients.specs.declared.event.Event.TheVariants.{Entered, Heard, 
 use Rattle.dsql_clients.specs.declared.record.Stand.{Stand}
 use Rattle.dsql_clients.specs.declared.record.Stand.TheVariants.{Sends}
 use Rattle.dsql_clients.specs.Rules.Course.{is_from_outside}
-use Rattle.dsql_clients.specs.Rules.House.{has_no_chore}
 use Rattle.dsql_clients.specs.Rules.Stands.{stand}
 use Rattle.dsql_follows.specs.declared.line.Line.{Line}
 use Rattle.dsql_follows.specs.declared.line.Line.TheVariants.{Set, Client, Start, Step, StepHouse}
 use Rattle.dsql_follows.specs.Same.{same_op, same_setting}
 use Rattle.dsql_follows.specs.Clients.{call_of, is_free}
 use Rattle.dsql_follows.specs.Moments.{Moment, Passed, met, stepping, is_in_flight, takes_permit, walk, after_events, kept}
-use Rattle.dsql_follows.specs.Turns.{can_move, is_chore, comes_in_turn, has_run_out}
+use Rattle.dsql_follows.specs.Turns.{can_move, first_chore, is_chore, comes_in_turn, has_run_out}
 
 -- Steps. Here m is the moment once the line is read, or at the script's end, and these events come then.
 
@@ -191,7 +190,7 @@ carries m None = false
 carries m (Some p) = is_chore_of m p.event
 
 abbrev pub tidies_at : Moment → List Passed → Line → Bool
-tidies_at m events StepHouse = cond (has_no_chore m.past) (is_empty events) (is_one_step events && carries m (oldest events))
+tidies_at m events StepHouse = cond (is_none (first_chore m)) (is_empty events) (is_one_step events && carries m (oldest events))
 tidies_at m events line = true
 
 -- the part of a single step of the layer is the chore that comes first, where there is one, and else nothing comes

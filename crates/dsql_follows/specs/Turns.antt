@@ -1,6 +1,6 @@
 -- Who may go on at a free moment, and whose turn it is.
-use Rattle.std.specs.Prelude.{ℕ, ◌==◌, nat_le, Bool, true, false, not, ◌&&◌, ◌||◌, cond, List, [], ◌∷◌, Option, Some, None}
-use Rattle.std.specs.List.{list_any, list_all}
+use Rattle.std.specs.Prelude.{ℕ, ◌==◌, nat_le, Bool, true, false, not, ◌&&◌, ◌||◌, cond, List, [], ◌∷◌, filter, Option, Some, None, is_none}
+use Rattle.std.specs.List.{list_any}
 use Rattle.dsql_course.specs.Made.{or_else}
 use Rattle.dsql_journal.specs.declared.entry.Entry.{Entry}
 use Rattle.dsql_journal.specs.Readers.{has, is_empty}
@@ -10,7 +10,7 @@ use Rattle.dsql_clients.specs.declared.record.Stand.{Stand}
 use Rattle.dsql_clients.specs.declared.record.Stand.TheVariants.{Waits, Opens, Sends}
 use Rattle.dsql_clients.specs.Readers.Course.{has_ended}
 use Rattle.dsql_clients.specs.Readers.Unfinished.{is_unfinished}
-use Rattle.dsql_clients.specs.Rules.House.{tidy_due, shut_due, connect_due, has_no_chore}
+use Rattle.dsql_clients.specs.Rules.House.{tidy_due, shut_due, connect_due}
 use Rattle.dsql_clients.specs.Rules.Stands.{stand}
 use Rattle.dsql_follows.specs.declared.line.Line.{Line}
 use Rattle.dsql_follows.specs.declared.line.Line.TheVariants.{Client, Start}
@@ -36,14 +36,6 @@ can_move m n = is_unfinished m.past n && (is_in_flight n m.flights || not (is_bl
 abbrev pub first_chore : Moment → Option ℕ
 first_chore m = or_else (tidy_due m.past) (or_else (shut_due m.past) (connect_due m.past))
 
-abbrev pub is_on : Option ℕ → ℕ → Bool
-is_on None c = false
-is_on (Some d) c = d == c
-
--- the layer's own call that comes first is answered
-abbrev pub is_chore : Moment → Entry → Bool
-is_chore m e = (e.call_no == 0) && is_on (first_chore m) e.conn
-
 -- a free client goes on by the first line that is kept, and else its call, where that isn't held
 abbrev pub may_go_by : Moment → ℕ → ℕ → Bool
 may_go_by m client n = cond (n == 0) (not (is_empty (kept m client))) (can_move m n && not (is_held m client))
@@ -61,17 +53,33 @@ clients (Client client op ∷ earlier) = with_client client (clients earlier)
 clients (Start client op ∷ earlier) = with_client client (clients earlier)
 clients (_ ∷ earlier) = clients earlier
 
--- no client who is smaller than this one may go on
-abbrev pub is_smallest : Moment → ℕ → Bool
-is_smallest m client = list_all (λ k. nat_le client k || not (may_go m k)) (clients m.lines)
+abbrev pub lesser : ℕ → Option ℕ → ℕ
+lesser n None = n
+lesser n (Some m) = cond (nat_le n m) n m
 
--- it is the client's turn: there is no chore, and it is the smallest that may go on
+abbrev pub least : List ℕ → Option ℕ
+least [] = None
+least (n ∷ rest) = Some (lesser n (least rest))
+
+-- the smallest client who may go on
+abbrev pub next_client : Moment → Option ℕ
+next_client m = least (filter (λ client. may_go m client) (clients m.lines))
+
+abbrev pub is_it : Option ℕ → ℕ → Bool
+is_it None n = false
+is_it (Some m) n = m == n
+
+-- it is this client's turn: there is no chore, and it is the smallest that may go on
 abbrev pub has_turn : Moment → ℕ → Bool
-has_turn m client = has_no_chore m.past && (may_go m client && is_smallest m client)
+has_turn m client = is_none (first_chore m) && is_it (next_client m) client
 
 -- the turn is nobody's: there is no chore, and no client may go on
 abbrev pub has_run_out : Moment → Bool
-has_run_out m = has_no_chore m.past && list_all (λ k. not (may_go m k)) (clients m.lines)
+has_run_out m = is_none (first_chore m) && is_none (next_client m)
+
+-- the layer's own call that comes first is answered
+abbrev pub is_chore : Moment → Entry → Bool
+is_chore m e = (e.call_no == 0) && is_it (first_chore m) e.conn
 
 -- call n goes on by itself in its client's turn
 abbrev pub goes_in_turn : Moment → ℕ → Bool
@@ -80,8 +88,8 @@ goes_in_turn m n = has_turn m (client_of m.past n) && not (is_in_flight n m.flig
 -- A step that begins with this event comes in its turn. The first chore is carried out, and where there is none the smallest client who may go on makes a
 -- step: an answer comes to its call, it enters its first kept line, or its call goes on by itself. The run ends once the turn is nobody's.
 abbrev pub comes_in_turn : Moment → Event → Bool
-comes_in_turn m (Heard e) = cond (e.call_no == 0) (is_chore m e) (is_unfinished m.past e.call_no && has_turn m (client_of m.past e.call_no))
-comes_in_turn m (Entered client n op) = is_free m.past client && has_turn m client
+comes_in_turn m (Heard e) = cond (e.call_no == 0) (is_it (first_chore m) e.conn) (has_turn m (client_of m.past e.call_no) && is_unfinished m.past e.call_no)
+comes_in_turn m (Entered client n op) = has_turn m client && is_free m.past client
 comes_in_turn m Ended = m.released && (not (has_ended m.past) && has_run_out m)
 comes_in_turn m (SetLimit setting n) = false
 comes_in_turn m (Run version caps) = false
