@@ -11,6 +11,3 @@ mod tokens;
 pub use fault::{TokenFault, Unknown};
 pub use token::Cause;
 pub use tokens::{Names, Tokens};
-
-#[cfg(test)]
-mod tests;

@@ -2,3 +2,4 @@ pub mod Fits
 pub mod Memory
 pub mod Streams
 pub mod Wires
+pub mod Worked

@@ -95,32 +95,3 @@ fn is_done_when_well(call: &DriverCall) -> bool
         | DriverCall::Next(_) => false,
     }
 }
-
-#[cfg(test)]
-mod tests {
-    use super::*;
-    use dsql_value::Items;
-
-    #[test]
-    fn answers_fit_by_the_table(rt: HostRuntime) {
-        let prepared = DriverAnswer::Prepared {
-            handle: 1,
-            inputs: -1,
-        };
-        let exec = DriverCall::Exec(Input::Handle(1), Items::none(rt.alloc()));
-        for (call, answer, want) in [
-            (DriverCall::Ping, DriverAnswer::Done, true),
-            (DriverCall::Ping, DriverAnswer::Bad, true),
-            (DriverCall::Ping, DriverAnswer::Invalid, false),
-            (DriverCall::Valid, DriverAnswer::Invalid, true),
-            (DriverCall::Valid, DriverAnswer::Bad, false),
-            (DriverCall::Valid, DriverAnswer::Memory, true),
-            (DriverCall::Next(1), DriverAnswer::End, true),
-            (DriverCall::Next(1), DriverAnswer::Done, false),
-            (DriverCall::Connect, prepared, false),
-            (exec, DriverAnswer::Skip, false),
-        ] {
-            assert_eq!(rt; fits(&call, &answer), want, "{answer:?} to {call:?}");
-        }
-    }
-}

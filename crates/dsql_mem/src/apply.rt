@@ -131,6 +131,3 @@ fn show(alloc: Global, session: &mut Session, found: Found) -> Result<Copies, Me
         Found::Refused(answer) => Copies::of(answer),
     }
 }
-
-#[cfg(test)]
-mod tests;

@@ -225,27 +225,3 @@ fn take_out(statements: &mut Vec<Prepared>, handle: u32)
 {
     statements.retain(|s| s.handle != handle);
 }
-
-#[cfg(test)]
-mod tests {
-    use super::*;
-    use std::test::Fail;
-
-    #[test]
-    fn no_handle_comes_after_the_last_number(rt: HostRuntime) -> Result<(), Fail> {
-        let alloc = rt.alloc();
-        let text = Txt::copy_of(alloc, "DEL a")?;
-        let mut session = Session {
-            statements: Vec::new(alloc),
-            last_handle: u32::MAX,
-            cursors: Vec::new(alloc),
-            last_cursor: u32::MAX,
-            undo: None,
-        };
-        let copies = session.prepare(alloc, &text)?;
-        assert!(rt;
-            matches!(&copies.answer, DriverAnswer::Fail(text) if text.as_str() == "mem: numbers spent")
-        );
-        Ok(())
-    }
-}

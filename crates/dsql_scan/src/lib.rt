@@ -16,6 +16,3 @@ pub use column::scan;
 pub use dest::{Dest, Dests, Kind};
 pub use fault::{RowFault, ScanFault};
 pub use row::scan_row;
-
-#[cfg(test)]
-mod tests;

@@ -35,37 +35,3 @@ pub fn write_whole<K: Sink>(sink: &mut K, piece: &[u8]) -> Result<(), Cut>
     }
     Ok(())
 }
-
-#[cfg(test)]
-mod tests {
-    use super::*;
-    use dsql_driver::VecSink;
-    use std::test::Fail;
-
-    #[test]
-    fn a_piece_is_written_up_to_the_write_that_fails(rt: HostRuntime) -> Result<(), Fail> {
-        let faults = [
-            (1, Err(Cut { written: 0 }), ""),
-            (2, Err(Cut { written: 1 }), "a"),
-            (3, Err(Cut { written: 2 }), "ab"),
-            (4, Ok(()), "abc"),
-        ];
-        for (k, want, bytes) in faults {
-            let mut sink = VecSink::new(rt.alloc(), 1, vec![in rt.alloc(); k]?);
-            assert_eq!(rt; write_whole(&mut sink, b""), Ok(()));
-            assert_eq!(rt; write_whole(&mut sink, b"abc"), want, "write {k} fails");
-            assert_eq!(rt; sink.bytes(), bytes.as_bytes(), "write {k} fails");
-        }
-        Ok(())
-    }
-
-    #[test]
-    fn pieces_follow_one_another(rt: HostRuntime) {
-        for most in 1..=4 {
-            let mut sink = VecSink::new(rt.alloc(), most, Vec::new(rt.alloc()));
-            assert_eq!(rt; write_whole(&mut sink, b"abc"), Ok(()));
-            assert_eq!(rt; write_whole(&mut sink, b"de"), Ok(()));
-            assert_eq!(rt; sink.bytes(), b"abcde".as_slice(), "by {most}");
-        }
-    }
-}

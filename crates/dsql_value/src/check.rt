@@ -127,6 +127,3 @@ fn signed(number: u64) -> Result<i64, ArgFault>
 {
     i64::try_from(number).map_err(|_| ArgFault::HighBit(number))
 }
-
-#[cfg(test)]
-mod tests;
