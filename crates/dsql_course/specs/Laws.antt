@@ -1,5 +1,5 @@
 -- What courses promise, as laws.
-use Rattle.std.specs.Prelude.{◌≡◌, ◌≢◌, ℕ, ℤ, true, false, ◌↔◌, Bool, Option, Some, None, List, [], ◌∷◌, map, All, AllPairs, Contains}
+use Rattle.std.specs.Prelude.{◌≡◌, ◌≢◌, ℕ, ℤ, true, false, Bool, Option, Some, None, List, ◌∷◌, map, All, AllPairs, Contains}
 use Rattle.dsql_driver.specs.declared.caps.Caps.{Caps}
 use Rattle.dsql_course.specs.declared.course.Course.{Course}
 use Rattle.dsql_course.specs.declared.course.Course.TheVariants as course
@@ -12,42 +12,7 @@ use Rattle.dsql_course.specs.Made.{Exchange, went_bad, own_handle, own_cursor, r
 use Rattle.dsql_course.specs.Rows.{closing_next, closing_of, rows_next, rows_next_of}
 use Rattle.dsql_course.specs.declared.course.Wish.{Wish}
 use Rattle.dsql_course.specs.declared.course.Wish.TheVariants as wish
-use Rattle.dsql_course.specs.Line.{Found, Turn, exchange, comes_next, may_get, IsLine}
-use Rattle.dsql_course.specs.Given.{is_given, due_of}
-
--- no more was known then than is known now
-pub record IsWithin (then now : Found) : Type 0 where
-  pub stopped : now.stopped ≡ false → then.stopped ≡ false
-  pub bad : now.bad ≡ false → then.bad ≡ false
-
--- at none of these turns more was known than is known now
-abbrev pub AreWithin : List Turn → Found → Type 0
-AreWithin turns now = All (λ turn. IsWithin turn.found now) turns
-
--- a line that gives these exchanges
-abbrev pub HasLine : Course → Caps → ℕ → Found → List Exchange → Type 0
-HasLine c can args found made = (turns : List Turn) × IsLine c can args turns × AreWithin turns found × (map exchange turns ≡ made)
-
--- exchanges are given exactly where a line gives them
-abbrev pub LinesGive : Type 0
-LinesGive = (c : Course) (can : Caps) (args : ℕ) (found : Found) (made : List Exchange) → (is_given c can args found made ≡ true) ↔ HasLine c can args found made
-
--- what is known only grows
-abbrev pub Rises : List Turn → Type 0
-Rises [] = Unit {0}
-Rises (turn ∷ earlier) = AreWithin earlier turn.found × Rises earlier
-
--- each call was due then, and has an answer that it may have; so none is Over, which may have none
-abbrev pub AskedInTurn : Course → Caps → ℕ → List Turn → Type 0
-AskedInTurn c can args [] = Unit {0}
-AskedInTurn c can args (turn ∷ earlier) =
-    AskedInTurn c can args earlier
-    × (turn.call ≡ due_of c can args turn.found (map exchange earlier))
-    × (may_get c turn.call turn.answer ≡ true)
-
--- who makes each time the call that is due makes a line, and there is no other line
-abbrev pub DueMakesLines : Type 0
-DueMakesLines = (c : Course) (can : Caps) (args : ℕ) (turns : List Turn) → Rises turns → IsLine c can args turns ↔ AskedInTurn c can args turns
+use Rattle.dsql_course.specs.Line.{Found, Turn, exchange, comes_next, IsLine}
 
 -- no two calls of a line are the same step
 abbrev pub StepsOnce : Type 0

@@ -2,7 +2,6 @@ pub mod Steps
 pub mod Made
 pub mod Line
 pub mod Rows
-pub mod Given
 pub mod Meant
 pub mod Laws
 pub mod Worked

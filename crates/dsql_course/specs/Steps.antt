@@ -18,10 +18,6 @@ pub data Step : Type 0 where
   BeginIt : Step
   UndoIt : Step
 
--- reading one row
-abbrev pub reading : List Step
-reading = FetchRow ∷ CloseCursor ∷ []
-
 -- The steps that a course may take, in their order. Each is taken once or not at all.
 abbrev pub steps : Course → List Step
 steps course.Exec = RunText ∷ PrepareText ∷ RunHandle ∷ CloseHandle ∷ []

@@ -7,8 +7,7 @@ use Rattle.dsql_course.specs.declared.call.Due.{Due}
 use Rattle.dsql_course.specs.declared.call.Due.TheVariants as call
 use Rattle.dsql_course.specs.declared.call.Got.TheVariants as got
 use Rattle.dsql_course.specs.Made.{Exchange}
-use Rattle.dsql_course.specs.Line.{Found}
-use Rattle.dsql_course.specs.Given.{due_of}
+use Rattle.dsql_course.specs.Line.{Found, comes_next}
 
 abbrev pub fast : Caps
 fast = record { fast_exec = true; fast_query = true; begin_options = true; named = false; pinger = true; resetter = true; validator = true }
@@ -25,9 +24,9 @@ stopped = record { stopped = true; bad = false }
 abbrev pub bad : Found
 bad = record { stopped = false; bad = true }
 
--- what is due with no argument, after these exchanges, the newest first
+-- what comes next with no argument, after these exchanges, the newest first
 abbrev pub next : Course → Caps → Found → List Exchange → Due
-next c can found made = due_of c can 0 found made
+next c can found made = comes_next c can 0 found made
 
 abbrev pub cursor_of_handle : List Exchange
 cursor_of_handle = (call.Handle 1, got.Cursor 2) ∷ (call.Prepare, got.Prepared 1 (pos 0)) ∷ []
@@ -50,4 +49,3 @@ pub record WorkedLines : Type 0 where
   pub live_run : next (course.Run false false (Some (7, pos 0))) fast going_on [] ≡ call.Handle 7
   pub begun : next course.Begin fast going_on ((call.Begin, got.Done) ∷ []) ≡ call.Over
   pub undone : next course.Begin fast stopped ((call.Begin, got.Done) ∷ []) ≡ call.Rollback
-  pub no_line : next course.Exec fast going_on ((call.Prepare, got.Prepared 1 (pos 0)) ∷ []) ≡ call.Over

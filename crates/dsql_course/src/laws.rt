@@ -1,20 +1,7 @@
 //! What follows from the definitions: each law is the contract of a function that does nothing.
-ghost use Rattle.dsql_course.specs.Laws.{LinesGive, DueMakesLines, StepsOnce, ClosesWhatItOpened, RowsAreClosed, RowsOfAnyCourse};
+ghost use Rattle.dsql_course.specs.Laws.{StepsOnce, ClosesWhatItOpened, RowsAreClosed, RowsOfAnyCourse};
 ghost use Rattle.dsql_course.specs.Worked.{WorkedLines};
 ghost use Rattle.dsql_course.specs.WorkedCuts.{CutTexts, CutOnes, CutStatements, CutOthers, WorkedRows};
-
-/// Calls with their answers are given exactly where a line of the course has them, at whose turns no more
-/// was known than is known now.
-#[tactic(auto, using(crate::proofs::Turns::lines_give))]
-pub fn a_line_gives_its_exchanges()
-    ensures { LinesGive }
-{}
-
-/// Where what is known only grows, a line is what comes of making each time the call that is due.
-#[tactic(auto, using(crate::proofs::Turns::due_makes_lines))]
-pub fn what_is_due_call_after_call_is_a_line()
-    ensures { DueMakesLines }
-{}
 
 /// No two calls of a line are the same step.
 #[tactic(auto, using(crate::proofs::Order::steps_once))]

@@ -12,7 +12,6 @@ mod step;
 
 pub use call::{Due, Got};
 pub use course::{Course, Wish};
-pub use line::{comes_next, due};
 pub use progress::Progress;
 
 #[cfg(test)]

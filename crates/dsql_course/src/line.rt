@@ -1,59 +1,14 @@
-ghost use Rattle.std.specs.Prelude.{◌≡◌, ◌&&◌, ◌||◌, not, is_none, map, reverse};
+ghost use Rattle.std.specs.Prelude.{◌≡◌, ◌&&◌, ◌||◌, not, is_none, map};
 ghost use Rattle.dsql_value.specs.Arguments.{count_fault};
-ghost use Rattle.dsql_course.specs.Given.{may_have_come as may_have_come_of, is_given as is_given_of, due_of};
-ghost use Rattle.dsql_course.specs.Line.{comes_next as next_of, first_wanted as first_wanted_of, steps_left as steps_left_of, wanted as wanted_of, run_with, lets_handle_go as lets_handle_go_of, may_get as may_get_of, same_call as same_call_of};
+ghost use Rattle.dsql_course.specs.Line.{comes_next as next_of, first_wanted as first_wanted_of, steps_left as steps_left_of, wanted as wanted_of, run_with, lets_handle_go as lets_handle_go_of};
 ghost use Rattle.dsql_course.specs.Made.{was_skipped as was_skipped_of, has_fast_way as has_fast_way_of, live_handle as live_handle_of, own_handle as own_handle_of, or_else};
 ghost use Rattle.dsql_course.specs.Meant.{meant, known};
 
-use crate::call::{Due, Got};
+use crate::call::Due;
 use crate::course::Course;
 use crate::progress::Progress;
 use crate::step::{self, Step};
 use dsql_driver::Caps;
-
-/// The driver call that comes next in one try of a call with so many arguments, after those that a line of
-/// its course has. The newest is the last of `made`.
-pub fn comes_next(
-    course: &Course,
-    caps: Caps,
-    args: u32,
-    stopped: bool,
-    bad: bool,
-    made: &[(Due, Got)],
-) -> Due
-    ensures { result ≡ next_of course.now caps args (record { stopped = stopped; bad = bad }) (reverse made.now) }
-{
-    let plan = Plan {
-        course: *course,
-        caps,
-        args: args as usize,
-    };
-    plan.comes_next(Found { stopped, bad }, &Progress::of(made))
-}
-
-/// The same after any calls: nothing is due after those that no line gives.
-pub fn due(
-    course: &Course,
-    caps: Caps,
-    args: u32,
-    stopped: bool,
-    bad: bool,
-    made: &[(Due, Got)],
-) -> Due
-    ensures { result ≡ due_of course.now caps args (record { stopped = stopped; bad = bad }) (reverse made.now) }
-{
-    let plan = Plan {
-        course: *course,
-        caps,
-        args: args as usize,
-    };
-    let found = Found { stopped, bad };
-    if plan.is_given(found, made) {
-        plan.comes_next(found, &Progress::of(made))
-    } else {
-        Due::Over
-    }
-}
 
 /// What is known as a call is made: it is stopped, and its connection is known to be bad.
 #[derive(Clone, Copy)]
@@ -156,38 +111,6 @@ impl Plan {
             course => found.stopped && !made.was_decided(course),
         }
     }
-
-    /// A line gives these calls with their answers.
-    fn is_given(&self, found: Found, made: &[(Due, Got)]) -> bool
-        ensures { result ≡ is_given_of self.now.course self.now.caps self.now.args (known found) (reverse made.now) }
-    {
-        let mut earlier = Progress::new();
-        for (call, got) in made {
-            if !self.may_have_come(found, *call, &earlier) || !may_get(self.course, *call, *got) {
-                return false;
-            }
-            earlier = earlier.with(*call, *got);
-        }
-        true
-    }
-
-    /// The call may have come next, with what may have been known then.
-    fn may_have_come(&self, found: Found, call: Due, earlier: &Progress) -> bool
-        ensures { result
-            ≡ may_have_come_of self.now.course self.now.caps self.now.args (known found) call earlier.now }
-    {
-        let comes = |known: Found| same_call(call, self.comes_next(known, earlier));
-        comes(Found {
-            stopped: false,
-            bad: false,
-        }) || comes(Found {
-            bad: false,
-            ..found
-        }) || comes(Found {
-            stopped: false,
-            ..found
-        }) || comes(found)
-    }
 }
 
 /// The steps behind the last one that was taken.
@@ -206,29 +129,4 @@ fn takes(inputs: i32, args: usize) -> bool
     ensures { result ≡ is_none (count_fault inputs args) }
 {
     u32::try_from(inputs).is_ok_and(|inputs| inputs as usize == args) || inputs < 0
-}
-
-fn same_call(one: Due, other: Due) -> bool
-    ensures { result ≡ same_call_of one other }
-{
-    one == other
-}
-
-/// The answer is one that the call may have.
-fn may_get(course: Course, call: Due, got: Got) -> bool
-    ensures { result ≡ may_get_of course call got }
-{
-    match (call, got) {
-        (Due::Over, _) => false,
-        (_, Got::Bad | Got::Fail) | (Due::Text, Got::Skip) => true,
-        (Due::Text | Due::Handle(_), Got::Result) => !course.reads_rows(),
-        (Due::Text | Due::Handle(_), Got::Cursor(_)) => course.reads_rows(),
-        (Due::Prepare, Got::Prepared { inputs, .. }) => inputs >= -1,
-        (Due::Next(_), Got::Row | Got::End) => true,
-        (
-            Due::CloseRows(_) | Due::CloseStmt(_) | Due::Ping | Due::Begin | Due::Rollback,
-            Got::Done,
-        ) => true,
-        _ => false,
-    }
 }

@@ -1,4 +1,4 @@
-ghost use Rattle.std.specs.Prelude.{◌≡◌, [], ◌∷◌, reverse};
+ghost use Rattle.std.specs.Prelude.{◌≡◌, [], ◌∷◌};
 ghost use Rattle.std.specs.List.{list_any};
 ghost use Rattle.dsql_course.specs.Made.{went_bad as went_bad_of, was_skipped as was_skipped_of, is_done, given_handle as given_handle_of, own_handle as own_handle_of, given_cursor as given_cursor_of, own_cursor as own_cursor_of, was_decided as was_decided_of, ends_rows as ends_rows_of, rows_are_over as rows_are_over_of};
 ghost use Rattle.dsql_course.specs.Line.{comes_next as next_of};
@@ -120,17 +120,6 @@ impl Progress {
             (Course::Run { .. }, Due::CloseStmt(_)) => Due::Over,
             (_, due) => due,
         }
-    }
-
-    /// What these calls have made, the newest last.
-    pub(crate) fn of(made: &[(Due, Got)]) -> Progress
-        ensures { result ≡ reverse made.now }
-    {
-        let mut progress = Progress::new();
-        for (call, got) in made {
-            progress = progress.with(*call, *got);
-        }
-        progress
     }
 }
 

@@ -27,13 +27,12 @@ fn one_row_is_read_call_after_call(rt: HostRuntime) -> Result<(), Fail> {
         (Due::CloseRows(3), Got::Done),
         (Due::CloseStmt(1), Got::Done),
     ];
-    for (i, (call, _)) in calls.iter().enumerate() {
-        assert_eq!(rt;
-            due(&Course::One, BARE, 2, false, false, &calls[..i]),
-            *call
-        );
+    let mut made = Progress::new();
+    for (call, got) in calls {
+        assert_eq!(rt; made.next(Course::One, BARE, 2, false, false), call);
+        made = made.with(call, got);
     }
-    assert_eq!(rt; due(&Course::One, BARE, 2, false, false, &calls), Due::Over);
+    assert_eq!(rt; made.next(Course::One, BARE, 2, false, false), Due::Over);
     Ok(())
 }
 
@@ -43,19 +42,14 @@ fn a_text_that_is_passed_on_is_prepared(rt: HostRuntime) -> Result<(), Fail> {
         fast_exec: true,
         ..BARE
     };
+    let unmade = Progress::new();
+    assert_eq!(rt; unmade.next(Course::Exec, fast, 0, false, false), Due::Text);
+    let skipped = unmade.with(Due::Text, Got::Skip);
     assert_eq!(rt;
-        comes_next(&Course::Exec, fast, 0, false, false, &[]),
-        Due::Text
-    );
-    let skipped = [(Due::Text, Got::Skip)];
-    assert_eq!(rt;
-        comes_next(&Course::Exec, fast, 0, false, false, &skipped),
+        skipped.next(Course::Exec, fast, 0, false, false),
         Due::Prepare
     );
-    assert_eq!(rt;
-        comes_next(&Course::Exec, fast, 0, true, false, &skipped),
-        Due::Over
-    );
+    assert_eq!(rt; skipped.next(Course::Exec, fast, 0, true, false), Due::Over);
     Ok(())
 }
 

@@ -7,6 +7,7 @@ use Rattle.std.proofs.lemmas.List.{take_all, drop_all, length-take-le, nil_from_
 use Rattle.std.proofs.lemmas.List.Sums.{fails_before_first, prefix_len-le-length}
 use Rattle.std.proofs.lemmas.List.Splits.{slice_split_first, slice_split_none, length-slice_split}
 use Rattle.std.proofs.lemmas.Option.{same_Some}
+use Rattle.dsql_stream.specs.declared.lines.TheConstants.{LONGEST}
 use Rattle.dsql_stream.specs.Lines.{is_line_feed, first_line, after_line, lines_of_parts, all_lines, HandsOutLine}
 use Rattle.dsql_stream.proofs.FirstLines.{length-first_line}
 
@@ -39,19 +40,19 @@ first_line_shorter : (bytes : List ℕ) → length (first_line bytes) ≤ length
 first_line_shorter bytes = omega (arith, length-first_line bytes, prefix_len-le-length (λ byte. not (is_line_feed byte)) bytes)
 
 -- a line was cut exactly where the first line is too long
-length-cut : (unread line : List ℕ) (after : Option (List ℕ)) → HandsOutLine unread after line → 4096 < length (first_line unread) → length line ≡ 4097
+length-cut : (unread line : List ℕ) (after : Option (List ℕ)) → HandsOutLine unread after line → LONGEST < length (first_line unread) → length line ≡ LONGEST + 1
 length-cut unread line after out long =
-    ap length (out.cut long).0 ∙ length-take-le 4097 unread (omega (arith, long, first_line_shorter unread))
+    ap length (out.cut long).0 ∙ length-take-le (LONGEST + 1) unread (omega (arith, long, first_line_shorter unread))
 
-pub cut_where_long : (unread line : List ℕ) (after : Option (List ℕ)) → HandsOutLine unread after line → (4096 < length line) ↔ (4096 < length (first_line unread))
+pub cut_where_long : (unread line : List ℕ) (after : Option (List ℕ)) → HandsOutLine unread after line → (LONGEST < length line) ↔ (LONGEST < length (first_line unread))
 cut_where_long unread line after out = (
-  λ long. elim (cases_lt 4096 (length (first_line unread))) [ inl first ↦ first | inr short ↦ absurd (omega (arith, long, short, ap length (out.whole short).0)) ],
+  λ long. elim (cases_lt LONGEST (length (first_line unread))) [ inl first ↦ first | inr short ↦ absurd (omega (arith, long, short, ap length (out.whole short).0)) ],
   λ long. omega (arith, length-cut unread line after out long),
 )
 
-pub uncut_first : (unread rest line : List ℕ) → HandsOutLine unread (Some rest) line → length line ≤ 4096 → all_lines unread ≡ line ∷ all_lines rest
+pub uncut_first : (unread rest line : List ℕ) → HandsOutLine unread (Some rest) line → length line ≤ LONGEST → all_lines unread ≡ line ∷ all_lines rest
 uncut_first unread rest line out short =
-    elim (cases_lt 4096 (length (first_line unread))) [
+    elim (cases_lt LONGEST (length (first_line unread))) [
       | inl long ↦ absurd (omega (arith, short, length-cut unread line (Some rest) out long))
       | inr first ↦ let rest_is : rest ≡ after_line unread = same_Some _ _ (out.whole first).1 in rw ((out.whole first).0, rest_is) (all_lines-first unread out.there)
     ]
@@ -61,7 +62,7 @@ pub takes_a_byte : (unread rest line : List ℕ) → HandsOutLine unread (Some r
 takes_a_byte unread rest line out =
     let all : 0 ≤ length unread = omega arith in
     let some : 0 < length unread = elim (eq-or-lt_of_le all) [ inl none ↦ absurd (out.there (nil_from_length unread (sym none))) | inr more ↦ more ] in
-    elim (cases_lt 4096 (length (first_line unread))) [
-      | inl long ↦ let is : rest ≡ drop 4097 unread = same_Some _ _ (out.cut long).1 in omega (arith, some, ap length is, length-drop 4097 unread)
+    elim (cases_lt LONGEST (length (first_line unread))) [
+      | inl long ↦ let is : rest ≡ drop (LONGEST + 1) unread = same_Some _ _ (out.cut long).1 in omega (arith, some, ap length is, length-drop (LONGEST + 1) unread)
       | inr short ↦ let is : rest ≡ after_line unread = same_Some _ _ (out.whole (omega (arith, short))).1 in omega (arith, some, ap length is, length-drop (position_or_len is_line_feed unread + 1) unread)
     ]

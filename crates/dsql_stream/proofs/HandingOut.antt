@@ -1,12 +1,13 @@
 -- What was taken off the front of the bytes ahead is a line, at each end of the reading.
-use Rattle.std.proofs.Common.{◌≡◌, ◌≢◌, ℕ, ◌≤◌, ◌==◌, true, not, List, [], ◌∷◌, ◌++◌, Option, Some, None, length, refl, ap, sym, ◌∙◌, arith, length-append, append-nil, ne_eqb}
+use Rattle.std.proofs.Common.{◌≡◌, ◌≢◌, ℕ, ◌+◌, ◌≤◌, ◌==◌, true, not, List, [], ◌∷◌, ◌++◌, Option, Some, None, length, refl, ap, sym, ◌∙◌, arith, length-append, append-nil, ne_eqb}
 use Rattle.std.proofs.lemmas.List.{take_at, drop_at}
+use Rattle.dsql_stream.specs.declared.lines.TheConstants.{LONGEST}
 use Rattle.dsql_stream.specs.Buffered.{Buffered}
 use Rattle.dsql_stream.specs.Lines.{ahead, TakesOff, HandsOut, HandsOutLine}
 use Rattle.dsql_stream.proofs.FirstLines.{Feedless, first_line-feed, after_line-feed, first_line-feedless, after_line-feedless, first_line_longer}
 
 -- a line that a line feed ended
-pub hands_out_ended : (line : List ℕ) (before mid after : Option (List ℕ)) → Feedless line → length line ≤ 4096
+pub hands_out_ended : (line : List ℕ) (before mid after : Option (List ℕ)) → Feedless line → length line ≤ LONGEST
     → TakesOff line before mid → TakesOff (10 ∷ []) mid after → HandsOut true before after line
 hands_out_ended line before mid None feedless short front feed = let none : before ≡ None = cc in rw none refl
 hands_out_ended line before mid (Some rest) feedless short front feed =
@@ -18,19 +19,19 @@ hands_out_ended line before mid (Some rest) feedless short front feed =
     })
 
 -- a line of all bytes that were left
-last_line : (line : List ℕ) → Feedless line → length line ≤ 4096 → line ≢ [] → HandsOutLine line (Some []) line
+last_line : (line : List ℕ) → Feedless line → length line ≤ LONGEST → line ≢ [] → HandsOutLine line (Some []) line
 last_line line feedless short there = record {
   there = there;
   whole = λ _. (sym (first_line-feedless line feedless), ap Some (sym (after_line-feedless line feedless)));
   cut = λ long. absurd (omega (arith, long, ap length (first_line-feedless line feedless)));
 }
 
-at_end : (line : List ℕ) → Feedless line → length line ≤ 4096 → HandsOut (not (length line == 0)) (Some line) (Some []) line
+at_end : (line : List ℕ) → Feedless line → length line ≤ LONGEST → HandsOut (not (length line == 0)) (Some line) (Some []) line
 at_end [] _ _ = (refl, refl)
 at_end (byte ∷ more) feedless short = rw (ne_eqb (length (byte ∷ more)) 0 (λ none. omega (arith, none))) (last_line (byte ∷ more) feedless short (λ none. cc))
 
 -- the last line, or none
-pub hands_out_last : (line : List ℕ) (reader : Buffered) (left before mid : Option (List ℕ)) → Feedless line → length line ≤ 4096
+pub hands_out_last : (line : List ℕ) (reader : Buffered) (left before mid : Option (List ℕ)) → Feedless line → length line ≤ LONGEST
     → reader ≡ record { pending = []; ended = true } → TakesOff line before mid → TakesOff [] mid (ahead reader left)
     → HandsOut (not (length line == 0)) before (ahead reader left) line
 hands_out_last line reader None before mid feedless short ended front none = let unknown : before ≡ None = cc in rw unknown refl
@@ -41,7 +42,7 @@ hands_out_last line reader (Some bytes) before mid feedless short ended front no
     rw (all, end) (at_end line feedless short)
 
 -- a line that is too long
-pub hands_out_cut : (line : List ℕ) (before after : Option (List ℕ)) → Feedless line → length line ≡ 4097 → TakesOff line before after
+pub hands_out_cut : (line : List ℕ) (before after : Option (List ℕ)) → Feedless line → length line ≡ LONGEST + 1 → TakesOff line before after
     → HandsOut true before after line
 hands_out_cut line before None feedless long front = let none : before ≡ None = front in rw none refl
 hands_out_cut line before (Some rest) feedless long front =
@@ -49,5 +50,5 @@ hands_out_cut line before (Some rest) feedless long front =
     rw bytes (record {
       there = λ none. absurd (omega (arith, ap length none, length-append line rest));
       whole = λ short. absurd (omega (arith, short, first_line_longer line rest feedless));
-      cut = λ _. (sym (take_at line rest 4097 long), ap Some (sym (drop_at line rest 4097 long)));
+      cut = λ _. (sym (take_at line rest (LONGEST + 1) long), ap Some (sym (drop_at line rest (LONGEST + 1) long)));
     })

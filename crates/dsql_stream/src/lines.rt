@@ -57,12 +57,13 @@ pub struct LineReader {
 impl Model for LineReader {
     ghost use Rattle.std.specs.Prelude.{◌≡◌, ◌≤◌, true, length, take, drop};
     ghost use Rattle.dsql_stream.specs.Buffered.{Buffered};
+    ghost use Rattle.dsql_stream.specs.declared.lines.TheConstants.{ROOM};
 
     ghost Value = { Buffered };
 
     ghost view = { λ r. record { pending = drop r.start (take r.end r.buffer.items); ended = r.ended } };
 
-    ghost invariant = { λ r. (r.start ≤ r.end) × (r.end ≤ length r.buffer.items) × (length r.buffer.items ≡ 4096) × (r.ended ≡ true → r.start ≡ r.end) };
+    ghost invariant = { λ r. (r.start ≤ r.end) × (r.end ≤ length r.buffer.items) × (length r.buffer.items ≡ ROOM) × (r.ended ≡ true → r.start ≡ r.end) };
 }
 
 impl LineReader {

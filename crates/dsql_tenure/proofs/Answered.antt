@@ -16,7 +16,8 @@ use Rattle.dsql_tenure.specs.declared.tables.Cursor as kept
 use Rattle.dsql_tenure.specs.declared.tables.Tables.{Tables}
 use Rattle.dsql_tenure.specs.Asked.{answer_like, outcome_of}
 use Rattle.dsql_tenure.specs.MayBeAsked.{may_be_asked, is_as_wide}
-use Rattle.dsql_tenure.specs.Tables.{past, kept_handle, kept_cursor, Stands, keeps_of}
+use Rattle.dsql_tenure.specs.Tables.{past, kept_handle, kept_cursor, Stands}
+use Rattle.dsql_tenure.proofs.Keeping.{keeps_of}
 use Rattle.dsql_tenure.proofs.Lists.{list_all-map, list_any-map, list_all-filter, list_all-same, is_empty-filter}
 
 -- the entry with an answer that differs in its contents alone

@@ -9,7 +9,8 @@ use Rattle.dsql_tenure.specs.declared.tables.Handle.{Handle}
 use Rattle.dsql_tenure.specs.declared.tables.Cursor.{Cursor}
 use Rattle.dsql_tenure.specs.declared.tables.Tables.{Tables}
 use Rattle.dsql_tenure.specs.Parts.{keeps_handle, keeps_cursor, serves_handle, serves_cursor}
-use Rattle.dsql_tenure.specs.Tables.{past, kept_handle, kept_cursor, Stands, keeps_of}
+use Rattle.dsql_tenure.specs.Tables.{past, kept_handle, kept_cursor, Stands}
+use Rattle.dsql_tenure.proofs.Keeping.{keeps_of}
 use Rattle.dsql_tenure.proofs.Lists.{list_all-map, list_any-map, list_all-same, list_all-and, list_all-filter, is_empty-filter}
 
 grouped : (a b c d e f g h : Bool) → (a && b && c && d && e && f && g && h) ≡ ((a && d && g && h) && (b && c && e && f))

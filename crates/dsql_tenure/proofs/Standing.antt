@@ -15,7 +15,8 @@ use Rattle.dsql_tenure.specs.declared.fault.Phase.TheVariants.{After}
 use Rattle.dsql_tenure.specs.declared.tables.Tables.{Tables}
 use Rattle.dsql_tenure.specs.Beginnings.{is_beginning_of, IsBeginningOf, can_grow, phase}
 use Rattle.dsql_tenure.specs.Open.{open_in}
-use Rattle.dsql_tenure.specs.Tables.{past, Stands, keeps_of}
+use Rattle.dsql_tenure.specs.Tables.{past, Stands}
+use Rattle.dsql_tenure.proofs.Keeping.{keeps_of}
 use Rattle.dsql_tenure.proofs.Transactions.{has-open}
 
 not_true : (b : Bool) → not b ≡ true → b ≡ false

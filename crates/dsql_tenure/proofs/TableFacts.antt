@@ -12,7 +12,8 @@ use Rattle.dsql_tenure.specs.declared.tables.Handle.{Handle}
 use Rattle.dsql_tenure.specs.declared.tables.Cursor.{Cursor}
 use Rattle.dsql_tenure.specs.declared.tables.Tables.{Tables}
 use Rattle.dsql_tenure.specs.TenureParts.{closes_own}
-use Rattle.dsql_tenure.specs.Tables.{past, kept_handle, kept_cursor, Stands, keeps_of}
+use Rattle.dsql_tenure.specs.Tables.{past, kept_handle, kept_cursor, Stands}
+use Rattle.dsql_tenure.proofs.Keeping.{keeps_of}
 use Rattle.dsql_tenure.proofs.Lists.{list_all-map, list_all-same}
 use Rattle.dsql_tenure.proofs.Groups.{bad_tenure-some}
 use Rattle.dsql_tenure.proofs.Places.{has_ended-last}

@@ -50,7 +50,3 @@ pub record Keeps (t : Tables) : Type 0 where
 -- what the judge carries from one entry to the next, and doesn't look into
 unfoldable pub Stands : Tables → Type 0
 Stands t = Keeps t
-
-pub keeps_of : (t : Tables) → Stands t → Keeps t
-unfolding Stands
-keeps_of t s = s

@@ -30,10 +30,6 @@ new_cursor : (journal : List Entry) (call : DriverCall) (answer : DriverAnswer) 
 new_cursor journal call (Cursor rows columns) before after live k = no_cursor rows before (cursors journal) k.1 live
 new_cursor journal call _ before after live k = refl
 
-no_row : {X : Type 0} (xs : List X) → list_all (λ c. true) xs ≡ true
-no_row [] = refl
-no_row (x ∷ xs) = no_row xs
-
 width_of_row : (journal : List Entry) (call : DriverCall) (values : _) (before after : List wires.LiveCursor) → has_cursors before (cursors journal) ≡ true → fits_of call (Row values) ≡ true
     → KeepsCursors call (Row values) before after → if_any (cursor_of call) (λ r. list_all (is_as_wide (Row values)) (cursors_named r journal)) ≡ true
 width_of_row journal (Next rows) values before after live fits k = as_wide rows (length values) before (cursors journal) k.1 live

@@ -1,6 +1,7 @@
 use Rattle.std.proofs.Common.{◌↔◌, IsTrue, ◌∙◌, sym, subst}
 use Rattle.dsql_tenure.specs.Judged.{Judged, MaySend}
-use Rattle.dsql_tenure.specs.Tables.{past, keeps_of}
+use Rattle.dsql_tenure.specs.Tables.{past}
+use Rattle.dsql_tenure.proofs.Keeping.{keeps_of}
 use Rattle.dsql_tenure.proofs.Sending.{all_may, may_all}
 use Rattle.dsql_tenure.proofs.judge.Judge.may_send.Goals as goal
 

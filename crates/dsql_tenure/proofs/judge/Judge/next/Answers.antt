@@ -4,7 +4,8 @@ use Rattle.dsql_journal.specs.declared.entry.Entry.{Entry}
 use Rattle.dsql_journal.specs.Readers.{last_tenure}
 use Rattle.dsql_tenure.specs.Beginnings.{is_beginning_of, IsBeginningOf, phase}
 use Rattle.dsql_tenure.specs.Judged.{Judged}
-use Rattle.dsql_tenure.specs.Tables.{past, keeps_of}
+use Rattle.dsql_tenure.specs.Tables.{past}
+use Rattle.dsql_tenure.proofs.Keeping.{keeps_of}
 use Rattle.dsql_tenure.proofs.Standing.{stands-beginning}
 use Rattle.dsql_tenure.proofs.judge.Judge.next.Goals as goal
 

@@ -3,7 +3,8 @@ use native.Mathlib.Omega.{arith}
 use Rattle.std.proofs.lemmas.Bool.Decides.{nat_tests}
 use Rattle.dsql_journal.specs.Readers.{last_tenure}
 use Rattle.dsql_journal.specs.Tenure.{has_ended_transactions as has_ended}
-use Rattle.dsql_tenure.specs.Tables.{past, keeps_of}
+use Rattle.dsql_tenure.specs.Tables.{past}
+use Rattle.dsql_tenure.proofs.Keeping.{keeps_of}
 use Rattle.dsql_tenure.proofs.TableFacts.{ended_last, ended_new, none-empty}
 use Rattle.dsql_tenure.proofs.tables.Tables.has_ended_transactions.Goals as goal
 

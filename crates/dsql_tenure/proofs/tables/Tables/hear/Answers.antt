@@ -11,7 +11,8 @@ use Rattle.dsql_tenure.specs.declared.tables.Cursor.{Cursor}
 use Rattle.dsql_tenure.specs.Flags.{bad_with}
 use Rattle.dsql_tenure.specs.Heard as heard
 use Rattle.dsql_tenure.specs.Open.{open_after}
-use Rattle.dsql_tenure.specs.Tables.{past, Stands, keeps_of}
+use Rattle.dsql_tenure.specs.Tables.{past, Stands}
+use Rattle.dsql_tenure.proofs.Keeping.{keeps_of}
 use Rattle.dsql_tenure.proofs.Standing.{stands-follows}
 use Rattle.dsql_tenure.proofs.Hearing.{kept_handles, kept_cursors, first_bad, so_far_with, has_begun, count_begun, begins_new}
 use Rattle.dsql_tenure.proofs.tables.Tables.hear.Goals as goal

@@ -5,7 +5,8 @@ use Rattle.dsql_tenure.specs.declared.so_far.SoFar.{SoFar}
 use Rattle.dsql_tenure.specs.Asked.{entry_like}
 use Rattle.dsql_tenure.specs.SoFar.{so_far}
 use Rattle.dsql_tenure.specs.TenureParts.{keeps_shape, keeps_rest}
-use Rattle.dsql_tenure.specs.Tables.{past, keeps_of}
+use Rattle.dsql_tenure.specs.Tables.{past}
+use Rattle.dsql_tenure.proofs.Keeping.{keeps_of}
 use Rattle.dsql_tenure.proofs.Groups.{and-then, and-else}
 use Rattle.dsql_tenure.proofs.Owned.{served}
 use Rattle.dsql_tenure.proofs.TenureRules.{keeps_tenure-groups}

@@ -4,7 +4,8 @@ use Rattle.std.proofs.lemmas.Bool.Decides.{nat_tests}
 use Rattle.dsql_journal.specs.Transaction.{keeps_transaction as keeps, has_owner_of_transaction}
 use Rattle.dsql_tenure.specs.Asked.{entry_like}
 use Rattle.dsql_tenure.specs.Open.{keeps_number}
-use Rattle.dsql_tenure.specs.Tables.{past, keeps_of}
+use Rattle.dsql_tenure.specs.Tables.{past}
+use Rattle.dsql_tenure.proofs.Keeping.{keeps_of}
 use Rattle.dsql_tenure.proofs.Groups.{and-then, and-else}
 use Rattle.dsql_tenure.proofs.Owned.{served}
 use Rattle.dsql_tenure.proofs.TransactionRules.{rises, keeps_transaction-is}

@@ -5,7 +5,8 @@ use Rattle.dsql_journal.specs.declared.entry.Entry.{Entry}
 use Rattle.dsql_journal.specs.Readers.{last_tenure}
 use Rattle.dsql_journal.proofs.Tenures.{of_tenure-new}
 use Rattle.dsql_tenure.specs.SoFar.{so_far}
-use Rattle.dsql_tenure.specs.Tables.{past, keeps_of}
+use Rattle.dsql_tenure.specs.Tables.{past}
+use Rattle.dsql_tenure.proofs.Keeping.{keeps_of}
 use Rattle.dsql_tenure.proofs.tables.Tables.so_far_of.Goals as goal
 
 pub returns-else-n-self : goal.returns-else-n-self
