@@ -1,5 +1,6 @@
 -- The tokens of an array are its brackets, and between them those of its values in order.
 use Rattle.std.proofs.Common.{◌≡◌, ℕ, List, [], ◌∷◌, ◌++◌, map, refl, ap, sym, subst, append_assoc, ◌∙◌}
+use Rattle.std.specs.Prelude.{flat_map}
 use Rattle.std.specs.Str.{IsUtf8}
 use Rattle.std.proofs.lemmas.Grind.{common_steps}
 use Rattle.json.specs.Token.{Token, end_array}
@@ -9,7 +10,11 @@ use Rattle.serde_json.specs.Data.{Data}
 use Rattle.serde_json.specs.View.{items_of}
 use Rattle.serde_json.specs.Written.{items_outline, compact_text}
 use Rattle.serde_json.proofs.Texts.{print-outline}
-use Rattle.dsql_script.specs.Spelling.{tokens_of, each_tokens}
+use Rattle.dsql_script.specs.Spelling.{tokens_of}
+
+-- the tokens of an array's values, one value behind another
+abbrev pub each_tokens : {A : Type 0} → (A → Data) → List A → List Token
+each_tokens data_of xs = flat_map (λ x. tokens_of (data_of x)) xs
 
 pub items-each : {A : Type 0} (data_of : A → Data) (xs : List A) → items_tokens (items_outline (items_of (map data_of xs))) ≡ each_tokens data_of xs ++ end_array ∷ []
 items-each data_of [] = refl

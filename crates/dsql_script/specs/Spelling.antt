@@ -1,5 +1,5 @@
 -- What of a line is in a writer, as the tokens of JSON.
-use Rattle.std.specs.Prelude.{◌≡◌, ℕ, List, [], ◌∷◌, ◌++◌, flat_map, Result, OnOk}
+use Rattle.std.specs.Prelude.{◌≡◌, ℕ, List, [], ◌∷◌, ◌++◌, Result, OnOk}
 use Rattle.json.specs.Token.{Token}
 use Rattle.json.specs.Tree.{json_tokens}
 use Rattle.json.specs.Written.{Written}
@@ -9,10 +9,6 @@ use Rattle.serde_json.specs.Written.{outline}
 -- the tokens of a value without floats, in order
 abbrev pub tokens_of : Data → List Token
 tokens_of d = json_tokens (outline d)
-
--- the tokens of an array's values, one value behind another
-abbrev pub each_tokens : {A : Type 0} → (A → Data) → List A → List Token
-each_tokens data_of xs = flat_map (λ x. tokens_of (data_of x)) xs
 
 -- On success the tokens stand behind those that a writer had. What was before its first token stays in any case.
 abbrev pub Adds : {E : Type 0} → Result (Unit {0}) E → Written → Written → List Token → Type 0

@@ -1,6 +1,6 @@
 use Rattle.std.proofs.Common.{◌≡◌, ◌++◌, take}
 use Rattle.dsql_script.specs.LineArgs.{argument_data}
-use Rattle.dsql_script.specs.Spelling.{each_tokens}
+use Rattle.dsql_script.proofs.Spelled.{each_tokens}
 use Rattle.dsql_script.proofs.line.args.write_statement.Given as goal
 
 abbrev pub invariant-loop-named : goal.invariant-loop-named

@@ -1,6 +1,6 @@
 use Rattle.std.proofs.Common.{◌≡◌, ◌++◌, map, take}
 use Rattle.serde_json.specs.Data.{string}
-use Rattle.dsql_script.specs.Spelling.{each_tokens}
+use Rattle.dsql_script.proofs.Spelled.{each_tokens}
 use Rattle.dsql_script.proofs.line.events.write_names.Given as goal
 
 abbrev pub invariant-loop-name : goal.invariant-loop-name

@@ -1,6 +1,6 @@
 use Rattle.std.proofs.Common.{◌≡◌, ◌++◌, take}
 use Rattle.dsql_script.specs.LineValues.{cell_data}
-use Rattle.dsql_script.specs.Spelling.{each_tokens}
+use Rattle.dsql_script.proofs.Spelled.{each_tokens}
 use Rattle.dsql_script.proofs.line.values.write_cells.Given as goal
 
 abbrev pub invariant-loop-cell : goal.invariant-loop-cell

@@ -1,6 +1,6 @@
 use Rattle.std.proofs.Common.{◌≡◌, ◌++◌, take}
 use Rattle.serde_json.specs.Data.{string}
-use Rattle.dsql_script.specs.Spelling.{each_tokens}
+use Rattle.dsql_script.proofs.Spelled.{each_tokens}
 use Rattle.dsql_script.proofs.line.values.write_texts.Given as goal
 
 abbrev pub invariant-loop-text : goal.invariant-loop-text

@@ -1,6 +1,6 @@
 use Rattle.std.proofs.Common.{◌≡◌, ◌++◌, take}
 use Rattle.dsql_script.specs.LineValues.{value_data}
-use Rattle.dsql_script.specs.Spelling.{each_tokens}
+use Rattle.dsql_script.proofs.Spelled.{each_tokens}
 use Rattle.dsql_script.proofs.line.values.write_values.Given as goal
 
 abbrev pub invariant-loop-value : goal.invariant-loop-value
