@@ -26,3 +26,4 @@ pub mod Entered
 pub mod Grouping
 pub mod AtOnce
 pub mod AtRows
+pub mod Open

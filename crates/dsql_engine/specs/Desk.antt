@@ -10,6 +10,7 @@ use Rattle.dsql_history.specs.Readers.Works as kinds
 use Rattle.dsql_history.specs.Readers.HandedOut as given
 use Rattle.dsql_history.specs.Legal.{Lawful, Calm}
 use Rattle.dsql_engine.specs.Made as lines
+use Rattle.dsql_engine.specs.Open as standing
 use Rattle.dsql_engine.specs.declared.desk.Desk.{Desk}
 
 -- the events so far, the newest first
@@ -23,6 +24,7 @@ pub record HasRoom (d : Desk) : Type 0 where
   pub lends : vec_len d.lends + d.paid ≤ vec_capacity d.lends
   pub uses : vec_len d.uses + d.paid ≤ vec_capacity d.uses
   pub made : vec_len d.made + d.paid ≤ vec_capacity d.made
+  pub opened : vec_len d.opened + d.paid ≤ vec_capacity d.opened
   pub idle : vec_len d.idle + d.paid ≤ vec_capacity d.idle
   pub calls : vec_len d.calls + d.paid ≤ vec_capacity d.calls
   pub unfinished : vec_len d.unfinished + d.paid ≤ vec_capacity d.unfinished
@@ -39,6 +41,7 @@ pub record Tables (d : Desk) : Type 0 where
   pub lends : d.lends.items ≡ sets.all_lends (past d)
   pub uses : d.uses.items ≡ sets.all_uses (past d)
   pub made : d.made.items ≡ lines.all_made (past d)
+  pub opened : d.opened.items ≡ standing.open_ones (past d)
   pub idle : d.idle.items ≡ sets.idle (past d)
   pub calls : d.calls.items ≡ told.calls (past d)
   pub unfinished : d.unfinished.items ≡ left.unfinished (past d)

@@ -117,3 +117,7 @@ most_events = 4000000
 -- the steps are proved where there are fewer than these, so that what one appends still counts
 abbrev pub most_within_a_step : ℕ
 most_within_a_step = 5000000
+
+-- a step but the last appends no more than these
+abbrev pub events_of_a_step : ℕ
+events_of_a_step = 4

@@ -1,11 +1,8 @@
 -- The statement of a call, and a call that enters.
 use Rattle.std.specs.Prelude.{◌≡◌, ◌<◌, ℕ, cond, Bool, true, false, List, [], length, string_bytes, Option, Some, None, option_map}
-use Rattle.dsql_driver.specs.declared.call.DriverCall.TheVariants.{Next, Query}
-use Rattle.dsql_driver.specs.declared.call.Input.{Input}
 use Rattle.dsql_journal.specs.declared.entry.Entry.{Entry}
 use Rattle.dsql_journal.specs.Readers.{is_empty}
 use Rattle.dsql_value.specs.declared.arg.Named.{Named}
-use Rattle.dsql_value.specs.declared.value.Param.{Param}
 use Rattle.dsql_value.specs.Arguments.{params_of, first_fault}
 use Rattle.dsql_rows.specs.declared.end.RowsEnd.TheVariants as ends
 use Rattle.dsql_rows.specs.OpenRows.{was_made, ended_by, changed}
@@ -19,7 +16,7 @@ use Rattle.dsql_history.specs.Readers.Works.{works, work, work_of, maker, asks, 
 use Rattle.dsql_history.specs.Readers.Unfinished.{is_unfinished}
 use Rattle.dsql_history.specs.declared.reply.Reply.{Reply}
 use Rattle.dsql_history.specs.Readers.HandedOut.{Made, handed_out, rows_entered, rows_by}
-use Rattle.dsql_history.specs.Readers.Calls.{fetch_decision, query_decision, statement, params_at_entry, told_of, told_at_entry, call_record, is_busy}
+use Rattle.dsql_history.specs.Readers.Calls.{statement, params_at_entry, told_of, told_at_entry, call_record, is_busy}
 use Rattle.dsql_history.specs.Rules.Line.{Asked, aim_of}
 use Rattle.dsql_history.specs.Rules.Numbers.{takes_turn}
 use Rattle.dsql_history.specs.Rules.Settled.{Settled}
@@ -27,6 +24,7 @@ use Rattle.dsql_engine.specs.Groups.{most_events}
 use Rattle.dsql_history.specs.Readers.Sets.{number_of}
 use Rattle.dsql_engine.specs.declared.ready.Hearing.{Hearing}
 use Rattle.dsql_engine.specs.Labels.{label_made}
+use Rattle.dsql_engine.specs.Told.{Decides}
 use Rattle.dsql_engine.specs.declared.statement.Statement.{Statement}
 use Rattle.dsql_engine.specs.declared.statement.CallStart.{CallStart}
 use Rattle.dsql_engine.specs.declared.statement.Entering.{Entering}
@@ -133,9 +131,7 @@ pub record IsLook (reply : Reply) (it : Entering) : Type 0 where
   pub closes : it.start.closes ≡ None
   pub then : it.then ≡ Tell reply
 
--- All that the step over an entry needs: its answer once more, the statement of the call to which the connection is lent, and what the answer to a Query or a Next decides.
+-- all that the step over an entry needs: the statement of the call to which the connection is lent, and what the answer decides
 pub record IsReadyFor (past : List Event) (entry : Entry) (ready : Hearing) : Type 0 where
-  pub same : ready.copy ≡ entry.answer
   pub statement : ready.statement ≡ statement_of past (number_of entry.owner)
-  pub fetch : (rows : ℕ) → entry.call ≡ Next rows → ready.reply ≡ fetch_decision (work past entry.call_no) entry.answer
-  pub query : (input : Input) (params : List Param) → entry.call ≡ Query input params → ready.reply ≡ query_decision (work past entry.call_no) entry.answer
+  pub decides : Decides (work past entry.call_no) entry ready.copy ready.reply

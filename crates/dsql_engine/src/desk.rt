@@ -1,21 +1,18 @@
-ghost use Rattle.std.specs.Prelude.{◌≡◌, ℕ, ◌+◌, ◌^◌, ◌<◌, ◌≤◌, ◌∷◌, ◌++◌, [], Some, None, List, true, is_some, length, vec_len, vec_capacity};
-ghost use Rattle.dsql_history.specs.Legal.{Allowed};
+ghost use Rattle.std.specs.Prelude.{◌≡◌, ◌<◌, ◌∷◌, Some, None, length};
 ghost use Rattle.dsql_history.specs.Rules.Settled.{Settled};
-ghost use Rattle.dsql_history.specs.Readers.Calls.{told_at_entry, fetch_decision, query_decision, refusal, reply_due};
-ghost use Rattle.dsql_history.specs.Readers.Works.{works, work};
+ghost use Rattle.dsql_history.specs.Readers.Calls.{told_at_entry, refusal, reply_due};
+ghost use Rattle.dsql_history.specs.Readers.Works.{work};
 ghost use Rattle.dsql_history.specs.Readers.HandedOut.{handed_out};
 ghost use Rattle.dsql_history.specs.Readers.Exchanges.{step_of};
-ghost use Rattle.dsql_driver.specs.declared.call.DriverCall.TheVariants.{Next, Query};
-ghost use Rattle.dsql_driver.specs.declared.call.Input.{Input};
-ghost use Rattle.dsql_value.specs.declared.value.Param.{Param};
-ghost use Rattle.dsql_engine.specs.Statements.{Starts};
-ghost use Rattle.dsql_engine.specs.Rows.{HearsRows};
-ghost use Rattle.dsql_history.specs.Readers.Course.{caps};
-ghost use Rattle.dsql_engine.specs.Groups.{told, most_within_a_step};
 ghost use Rattle.dsql_history.specs.declared.event.Move.{Move};
 ghost use Rattle.dsql_history.specs.declared.reply.Reply.{Reply};
 ghost use Rattle.dsql_journal.specs.declared.entry.Owner.TheVariants.{Call};
-ghost use Rattle.dsql_engine.specs.Desk.{past, Stands};
+ghost use Rattle.dsql_engine.specs.Statements.{Starts};
+ghost use Rattle.dsql_engine.specs.Told.{Decides};
+ghost use Rattle.dsql_engine.specs.Rows.{HearsRows};
+ghost use Rattle.dsql_engine.specs.Groups.{reply_as, most_within_a_step};
+ghost use Rattle.dsql_engine.specs.Desk.{past};
+ghost use Rattle.dsql_engine.specs.Appending.{MayAppend, MayTell, Appends};
 
 use crate::room::{
     begin_made, close_rows, count_up, move_to, note, note_exchange, note_label, put, set_decided,
@@ -42,6 +39,8 @@ pub struct Desk {
     pub uses: Vec<u32>,
     /// What was exchanged on each connection since it was lent.
     pub made: Vec<Progress>,
+    /// The connections that stand somewhere, the smallest first.
+    pub opened: Vec<u32>,
     /// The idle connections, the longest idle first.
     pub idle: Vec<u32>,
     /// Each call, by its number, and those without a reply.
@@ -62,15 +61,11 @@ pub struct Desk {
 impl Desk {
     /// A client's call enters, with what is kept of it, and its reply where it is told at once.
     pub fn enter(&mut self, n: u32, client: u8, op: Op, start: CallStart, decided: Option<Reply>)
-        requires stands { Stands self.old }
-        requires paid { 0 < self.old.paid }
-        requires allowed { Allowed (past self.old) (Event.Entered client n op) }
+        requires may { MayAppend self.old (Event.Entered client n op) }
         requires settled { Settled (past self.old) }
         requires starts { Starts (past self.old) op start }
         requires decided { decided ≡ told_at_entry (past self.old) op }
-        ensures stands { Stands self.new }
-        ensures paid { self.new.paid + 1 ≡ self.old.paid }
-        ensures event { past self.new ≡ Event.Entered client n op ∷ past self.old }
+        ensures { Appends self.old self.new (Event.Entered client n op) }
     {
         let CallStart {
             work,
@@ -98,12 +93,8 @@ impl Desk {
 
     /// A connection begins to be opened, for a call.
     pub fn start_opening(&mut self, c: u32, n: u32)
-        requires stands { Stands self.old }
-        requires paid { 0 < self.old.paid }
-        requires allowed { Allowed (past self.old) (Event.Pool (Move.OpenStart c n)) }
-        ensures stands { Stands self.new }
-        ensures paid { self.new.paid + 1 ≡ self.old.paid }
-        ensures event { past self.new ≡ Event.Pool (Move.OpenStart c n) ∷ past self.old }
+        requires { MayAppend self.old (Event.Pool (Move.OpenStart c n)) }
+        ensures { Appends self.old self.new (Event.Pool (Move.OpenStart c n)) }
     {
         self.paid -= 1;
         note(
@@ -114,18 +105,15 @@ impl Desk {
         put(&mut self.lends, 0);
         put(&mut self.uses, 0);
         put(&mut self.made, Progress::new());
+        put(&mut self.opened, c);
         set_home(&mut self.calls, n, c);
     }
 
     /// A connection is lent to a call on the database.
     pub fn lend(&mut self, c: u32, tenure: u32, n: u32)
-        requires stands { Stands self.old }
-        requires paid { 0 < self.old.paid }
+        requires may { MayAppend self.old (Event.Pool (Move.Lend c tenure (Call n) n)) }
         requires few { length (past self.old) < most_within_a_step }
-        requires allowed { Allowed (past self.old) (Event.Pool (Move.Lend c tenure (Call n) n)) }
-        ensures stands { Stands self.new }
-        ensures paid { self.new.paid + 1 ≡ self.old.paid }
-        ensures event { past self.new ≡ Event.Pool (Move.Lend c tenure (Call n) n) ∷ past self.old }
+        ensures { Appends self.old self.new (Event.Pool (Move.Lend c tenure (Call n) n)) }
     {
         self.paid -= 1;
         let owner = Owner::Call(n);
@@ -149,17 +137,11 @@ impl Desk {
     /// A driver answered a call that a client or the layer made on a lent connection. The copy is of its
     /// answer, and the reply is what the answer to a Query or a Next decides.
     pub fn hear(&mut self, entry: Entry, copy: DriverAnswer, reply: Option<Reply>)
-        requires stands { Stands self.old }
-        requires paid { 0 < self.old.paid }
-        requires allowed { Allowed (past self.old) (Event.Heard entry) }
+        requires may { MayAppend self.old (Event.Heard entry) }
         requires settled { Settled (past self.old) }
-        requires same { copy ≡ entry.answer }
-        requires fetch { (rows : ℕ) → entry.call ≡ Next rows → reply ≡ fetch_decision (work (past self.old) entry.call_no) entry.answer }
-        requires query { (input : Input) (params : List Param) → entry.call ≡ Query input params → reply ≡ query_decision (work (past self.old) entry.call_no) entry.answer }
+        requires decides { Decides (work (past self.old) entry.call_no) entry copy reply }
         requires rows { HearsRows (work (past self.old) entry.call_no) entry.call_no entry.call (handed_out (past self.old)) }
-        ensures stands { Stands self.new }
-        ensures paid { self.new.paid + 1 ≡ self.old.paid }
-        ensures event { past self.new ≡ Event.Heard entry ∷ past self.old }
+        ensures { Appends self.old self.new (Event.Heard entry) }
     {
         self.paid -= 1;
         note_exchange(&mut self.made, &entry);
@@ -176,15 +158,11 @@ impl Desk {
 
     /// A driver answered the layer's Connect or Shut.
     pub fn hear_house(&mut self, entry: Entry)
-        requires stands { Stands self.old }
-        requires paid { 0 < self.old.paid }
-        requires allowed { Allowed (past self.old) (Event.Heard entry) }
+        requires may { MayAppend self.old (Event.Heard entry) }
         requires settled { Settled (past self.old) }
         requires house { entry.call_no ≡ 0 }
         requires outside { step_of entry.call ≡ None }
-        ensures stands { Stands self.new }
-        ensures paid { self.new.paid + 1 ≡ self.old.paid }
-        ensures event { past self.new ≡ Event.Heard entry ∷ past self.old }
+        ensures { Appends self.old self.new (Event.Heard entry) }
     {
         self.paid -= 1;
         note(&mut self.history, Event::Heard(entry));
@@ -192,12 +170,8 @@ impl Desk {
 
     /// A connection is given back.
     pub fn back(&mut self, c: u32)
-        requires stands { Stands self.old }
-        requires paid { 0 < self.old.paid }
-        requires allowed { Allowed (past self.old) (Event.Pool (Move.Back c)) }
-        ensures stands { Stands self.new }
-        ensures paid { self.new.paid + 1 ≡ self.old.paid }
-        ensures event { past self.new ≡ Event.Pool (Move.Back c) ∷ past self.old }
+        requires { MayAppend self.old (Event.Pool (Move.Back c)) }
+        ensures { Appends self.old self.new (Event.Pool (Move.Back c)) }
     {
         self.paid -= 1;
         note(&mut self.history, Event::Pool(Move::Back { conn: c }));
@@ -207,12 +181,8 @@ impl Desk {
 
     /// A connection begins to be closed.
     pub fn start_closing(&mut self, c: u32, cause: CloseCause)
-        requires stands { Stands self.old }
-        requires paid { 0 < self.old.paid }
-        requires allowed { Allowed (past self.old) (Event.Pool (Move.CloseStart c cause)) }
-        ensures stands { Stands self.new }
-        ensures paid { self.new.paid + 1 ≡ self.old.paid }
-        ensures event { past self.new ≡ Event.Pool (Move.CloseStart c cause) ∷ past self.old }
+        requires { MayAppend self.old (Event.Pool (Move.CloseStart c cause)) }
+        ensures { Appends self.old self.new (Event.Pool (Move.CloseStart c cause)) }
     {
         self.paid -= 1;
         note(
@@ -225,27 +195,20 @@ impl Desk {
 
     /// A connection that was shut is gone.
     pub fn gone(&mut self, c: u32)
-        requires stands { Stands self.old }
-        requires paid { 0 < self.old.paid }
-        requires allowed { Allowed (past self.old) (Event.Pool (Move.Gone c)) }
-        ensures stands { Stands self.new }
-        ensures paid { self.new.paid + 1 ≡ self.old.paid }
-        ensures event { past self.new ≡ Event.Pool (Move.Gone c) ∷ past self.old }
+        requires { MayAppend self.old (Event.Pool (Move.Gone c)) }
+        ensures { Appends self.old self.new (Event.Pool (Move.Gone c)) }
     {
         self.paid -= 1;
         note(&mut self.history, Event::Pool(Move::Gone { conn: c }));
         move_to(&mut self.places, c, Place::Nowhere);
+        take_out(&mut self.opened, c);
     }
 
     /// A Connect was refused, and what that decides falls to a call.
     pub fn fall(&mut self, c: u32, n: u32, reply: Option<Reply>)
-        requires stands { Stands self.old }
-        requires paid { 0 < self.old.paid }
-        requires allowed { Allowed (past self.old) (Event.Pool (Move.Fell c n)) }
+        requires may { MayAppend self.old (Event.Pool (Move.Fell c n)) }
         requires reply { reply ≡ refusal (past self.old) }
-        ensures stands { Stands self.new }
-        ensures paid { self.new.paid + 1 ≡ self.old.paid }
-        ensures event { past self.new ≡ Event.Pool (Move.Fell c n) ∷ past self.old }
+        ensures { Appends self.old self.new (Event.Pool (Move.Fell c n)) }
     {
         self.paid -= 1;
         note(
@@ -253,18 +216,14 @@ impl Desk {
             Event::Pool(Move::Fell { conn: c, call: n }),
         );
         move_to(&mut self.places, c, Place::Nowhere);
+        take_out(&mut self.opened, c);
         set_decided(&mut self.calls, n, reply);
     }
 
     /// A call is told the reply that is settled.
     pub fn tell(&mut self, n: u32)
-        requires stands { Stands self.old }
-        requires paid { 0 < self.old.paid }
-        requires settled { is_some (reply_due (past self.old) n) ≡ true }
-        requires allowed { (reply : Reply) → reply_due (past self.old) n ≡ Some reply → Allowed (past self.old) (Event.Replied n reply) }
-        ensures stands { Stands self.new }
-        ensures paid { self.new.paid + 1 ≡ self.old.paid }
-        ensures event { past self.new ≡ told n (past self.old) }
+        requires { MayTell self.old n }
+        ensures { Appends self.old self.new (Event.Replied n (reply_as (reply_due (past self.old) n))) }
     {
         self.paid -= 1;
         let reply = take_reply(&mut self.calls, n);
@@ -274,12 +233,8 @@ impl Desk {
 
     /// A call is refused, since too many connections are open.
     pub fn refuse(&mut self, n: u32)
-        requires stands { Stands self.old }
-        requires paid { 0 < self.old.paid }
-        requires allowed { Allowed (past self.old) (Event.Replied n Reply.TooMany) }
-        ensures stands { Stands self.new }
-        ensures paid { self.new.paid + 1 ≡ self.old.paid }
-        ensures event { past self.new ≡ Event.Replied n Reply.TooMany ∷ past self.old }
+        requires { MayAppend self.old (Event.Replied n Reply.TooMany) }
+        ensures { Appends self.old self.new (Event.Replied n Reply.TooMany) }
     {
         self.paid -= 1;
         set_decided(&mut self.calls, n, None);
@@ -290,13 +245,9 @@ impl Desk {
 
     /// The run ends.
     pub fn end(&mut self)
-        requires stands { Stands self.old }
-        requires paid { 0 < self.old.paid }
-        requires allowed { Allowed (past self.old) Event.Ended }
+        requires may { MayAppend self.old Event.Ended }
         requires settled { Settled (past self.old) }
-        ensures stands { Stands self.new }
-        ensures paid { self.new.paid + 1 ≡ self.old.paid }
-        ensures event { past self.new ≡ Event.Ended ∷ past self.old }
+        ensures { Appends self.old self.new Event.Ended }
     {
         self.paid -= 1;
         note(&mut self.history, Event::Ended);

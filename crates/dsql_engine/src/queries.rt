@@ -2,18 +2,18 @@
 ghost use Rattle.std.specs.Prelude.{◌≡◌, ℕ, ◌+◌, ◌<◌, Some, None, is_some, Option, List, length, nat_lt, slice_index_or, IfOk, position, find, cond, true};
 ghost use Rattle.dsql_engine.specs.Statements.{asked_of, statement_of};
 ghost use Rattle.dsql_history.specs.Readers.Course.{caps, has_ended};
-ghost use Rattle.dsql_history.specs.Readers.Sets.{place, places, idle, open_count, next_number, next_tenure, uses, is_open as is_open_place, is_closing as is_closing_place, is_opening as is_opening_place};
-ghost use Rattle.dsql_history.specs.Readers.Calls.{nobody, home, next_call, worker, sender, reply_due, fetch_decision, query_decision};
+ghost use Rattle.dsql_history.specs.Readers.Sets.{place, places, idle, open_count, next_number, next_tenure, uses, is_closing as is_closing_place, is_opening as is_opening_place};
+ghost use Rattle.dsql_history.specs.Readers.Calls.{nobody, home, next_call, worker, sender, reply_due};
 ghost use Rattle.dsql_history.specs.Rules.Limit.{room};
 ghost use Rattle.dsql_history.specs.Readers.Unfinished.{unfinished, is_unfinished};
 ghost use Rattle.dsql_history.specs.Readers.Works.{work, works_on};
 ghost use Rattle.dsql_history.specs.declared.work.Work.TheVariants.{Look};
 ghost use Rattle.dsql_history.specs.declared.reply.Reply as reply;
-ghost use Rattle.dsql_value.specs.declared.value.Param.{Param};
-ghost use Rattle.dsql_driver.specs.declared.call.Input.{Input};
 ghost use Rattle.dsql_history.specs.Rules.Line.{is_reset_due, body_after, aim_of, keeps_rows, wish, wish_of};
 ghost use Rattle.dsql_engine.specs.Made.{made};
-ghost use Rattle.dsql_driver.specs.declared.call.DriverCall.TheVariants.{Reset, Next, Query};
+ghost use Rattle.dsql_engine.specs.Open.{open_ones};
+ghost use Rattle.dsql_engine.specs.Told.{Decides};
+ghost use Rattle.dsql_driver.specs.declared.call.DriverCall.TheVariants.{Reset};
 ghost use Rattle.dsql_history.specs.Rules.House.{tidy_due, is_untidy, shut_due, connect_due};
 ghost use Rattle.dsql_history.specs.Rules.Causes.{cause_when};
 ghost use Rattle.dsql_engine.specs.Desk.{past, Stands};
@@ -108,11 +108,12 @@ impl Desk {
     }
 
     /// Whether one more connection may be opened.
+    #[tactic(auto, using(crate::proofs::Open::open_counted), unfolding(crate::specs::Desk::Stands))]
     pub fn may_open(&self) -> bool
         requires { Stands self.now }
         ensures { result ≡ nat_lt (open_count (past self.now)) room }
     {
-        self.places.iter().filter(|p| is_open(**p)).count() < MAX_OPEN
+        self.opened.len() < MAX_OPEN
     }
 
     /// Where a connection stands.
@@ -273,8 +274,7 @@ impl Desk {
     /// What the answer to a Query or a Next decides for the call of an entry.
     pub fn reply_decided(&self, alloc: Global, entry: &Entry) -> Result<Option<Reply>, NoRoom>
         requires { Stands self.now }
-        ensures fetch { IfOk result (λ reply. (rows : ℕ) → entry.now.call ≡ Next rows → reply ≡ fetch_decision (work (past self.now) entry.now.call_no) entry.now.answer) }
-        ensures query { IfOk result (λ reply. (input : Input) (params : List Param) → entry.now.call ≡ Query input params → reply ≡ query_decision (work (past self.now) entry.now.call_no) entry.now.answer) }
+        ensures { IfOk result (λ reply. Decides (work (past self.now) entry.now.call_no) entry.now entry.now.answer reply) }
     {
         match (&entry.call, self.works.get(entry.call_no as usize)) {
             (DriverCall::Next(_), Some(work)) => fetch_decision(alloc, work, &entry.answer),
@@ -286,11 +286,22 @@ impl Desk {
     }
 
     /// The first connection that is to be tidied up.
-    pub fn tidy_due(&self) -> Option<usize>
+    pub fn tidy_due(&self) -> Option<u32>
         requires { Stands self.now }
         ensures { result ≡ tidy_due (past self.now) }
     {
-        self.places.iter().position(|p| self.is_untidy(*p))
+        self.first_untidy()
+    }
+
+    /// The first of the open connections that is to be tidied up.
+    fn first_untidy(&self) -> Option<u32>
+        requires { Stands self.now }
+        ensures { result ≡ find (λ conn. is_untidy (past self.now) (place (past self.now) conn)) (open_ones (past self.now)) }
+    {
+        self.opened
+            .iter()
+            .copied()
+            .find(|conn| self.is_untidy(self.place(*conn)))
     }
 
     /// Whether rows that the end of the run ended still have it, and no client's call sends there.
@@ -305,31 +316,50 @@ impl Desk {
     }
 
     /// The first connection that is to be shut.
-    pub fn shut_due(&self) -> Option<usize>
+    pub fn shut_due(&self) -> Option<u32>
         requires { Stands self.now }
         ensures { result ≡ shut_due (past self.now) }
     {
-        self.places.iter().position(|p| is_closing(*p))
+        self.first_closing()
+    }
+
+    /// The first of the open connections that is to be shut.
+    fn first_closing(&self) -> Option<u32>
+        requires { Stands self.now }
+        ensures { result ≡ find (λ conn. is_closing_place (place (past self.now) conn)) (open_ones (past self.now)) }
+    {
+        self.opened
+            .iter()
+            .copied()
+            .find(|conn| is_closing(self.place(*conn)))
     }
 
     /// The first connection that is to be connected.
-    pub fn connect_due(&self) -> Option<usize>
+    pub fn connect_due(&self) -> Option<u32>
         requires { Stands self.now }
         ensures { result ≡ connect_due (past self.now) }
     {
-        self.places.iter().position(|p| is_opening(*p))
+        self.first_opening()
+    }
+
+    /// The first of the open connections that is to be connected.
+    fn first_opening(&self) -> Option<u32>
+        requires { Stands self.now }
+        ensures { result ≡ find (λ conn. is_opening_place (place (past self.now) conn)) (open_ones (past self.now)) }
+    {
+        self.opened
+            .iter()
+            .copied()
+            .find(|conn| is_opening(self.place(*conn)))
     }
 
     /// The layer's next call on a connection that is to be tidied up.
-    pub fn tidy_permit(&self, alloc: Global, c: usize) -> Result<Permit, NoRoom>
+    pub fn tidy_permit(&self, alloc: Global, conn: u32) -> Result<Permit, NoRoom>
         requires stands { Stands self.now }
         requires settled { Settled (past self.now) }
-        requires few { length (past self.now) < most_within_a_step }
-        requires due { tidy_due (past self.now) ≡ Some c }
-        requires untidy { is_untidy (past self.now) (place (past self.now) c) ≡ true }
-        ensures { IfOk result (λ permit. awaited (past self.now) c ≡ Some permit) }
+        requires untidy { is_untidy (past self.now) (place (past self.now) conn) ≡ true }
+        ensures { IfOk result (λ permit. awaited (past self.now) conn ≡ Some permit) }
     {
-        let conn = c as u32;
         match self.place(conn) {
             Place::Lent(tenure, Owner::Call(n)) => {
                 let statement = self.statement(alloc, n)?;
@@ -350,13 +380,11 @@ impl Desk {
     }
 
     /// Leave to shut a connection.
-    pub fn shut_permit(&self, c: usize) -> Permit
+    pub fn shut_permit(&self, conn: u32) -> Permit
         requires stands { Stands self.now }
         requires few { length (past self.now) < most_within_a_step }
-        requires due { shut_due (past self.now) ≡ Some c }
-        ensures { result ≡ shut_permit c (next_tenure (past self.now) c) }
+        ensures { result ≡ shut_permit conn (next_tenure (past self.now) conn) }
     {
-        let conn = c as u32;
         Permit {
             conn,
             tenure: self.next_tenure(conn),
@@ -368,14 +396,11 @@ impl Desk {
     }
 
     /// Leave to connect a connection.
-    pub fn connect_permit(&self, c: usize) -> Permit
-        requires stands { Stands self.now }
-        requires few { length (past self.now) < most_within_a_step }
-        requires due { connect_due (past self.now) ≡ Some c }
-        ensures { result ≡ connect_permit c }
+    pub fn connect_permit(&self, conn: u32) -> Permit
+        ensures { result ≡ connect_permit conn }
     {
         Permit {
-            conn: c as u32,
+            conn,
             tenure: 1,
             owner: Owner::House,
             call_no: 0,
@@ -422,12 +447,6 @@ fn count_of(counts: &Vec<u32>, c: u32) -> u32
         Some(count) => *count,
         None => 0,
     }
-}
-
-fn is_open(place: Place) -> bool
-    ensures { result ≡ is_open_place place }
-{
-    !matches!(place, Place::Nowhere)
 }
 
 fn is_closing(place: Place) -> bool

@@ -16,7 +16,7 @@ ghost use Rattle.dsql_value.specs.Arguments.{count_fault};
 ghost use Rattle.dsql_driver.specs.declared.call.DriverCall.TheVariants.{Prepare, Query, Next, CloseRows};
 ghost use Rattle.dsql_driver.specs.declared.call.Input.{Input};
 ghost use Rattle.dsql_value.specs.declared.value.Param.{Param};
-ghost use Rattle.dsql_engine.specs.Told.{told_entry, are_cells};
+ghost use Rattle.dsql_engine.specs.Told.{told_entry, are_cells, Decides};
 
 use dsql_course::{Due, Got, Progress};
 use dsql_driver::{DriverAnswer, DriverCall, Input};
@@ -320,9 +320,7 @@ pub fn tell_answer(
     copy: DriverAnswer,
     reply: Option<Reply>,
 )
-    requires same { copy ≡ entry.now.answer }
-    requires fetch { (rows : ℕ) → entry.now.call ≡ Next rows → reply ≡ fetch_decision (slice_index_or works.now.items entry.now.call_no Look) entry.now.answer }
-    requires query { (input : Input) (params : List Param) → entry.now.call ≡ Query input params → reply ≡ query_decision (slice_index_or works.now.items entry.now.call_no Look) entry.now.answer }
+    requires decides { Decides (slice_index_or works.now.items entry.now.call_no Look) entry.now copy reply }
     requires rows { HearsRows (slice_index_or works.now.items entry.now.call_no Look) entry.now.call_no entry.now.call rows.old.rows }
     requires room { 0 < rows.old.spare }
     ensures items { calls.new.items ≡ told_entry entry.now.call_no (slice_index_or works.now.items entry.now.call_no Look) entry.now.call entry.now.answer calls.old.items }

@@ -51,6 +51,7 @@ impl Desk {
             lends,
             uses,
             made,
+            opened: Vec::new(alloc),
             idle: Vec::new(alloc),
             calls,
             unfinished: Vec::new(alloc),
@@ -74,6 +75,7 @@ impl Desk {
         self.lends.reserve(count)?;
         self.uses.reserve(count)?;
         self.made.reserve(count)?;
+        self.opened.reserve(count)?;
         self.idle.reserve(count)?;
         self.calls.reserve(count)?;
         self.unfinished.reserve(count)?;

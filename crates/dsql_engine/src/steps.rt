@@ -26,13 +26,14 @@ ghost use Rattle.dsql_history.specs.declared.event.Event.TheVariants.{Heard};
 ghost use Rattle.dsql_history.specs.declared.event.Move.{Move};
 ghost use Rattle.dsql_history.specs.declared.record.Place.TheVariants.{Opening, Lent, Closing};
 ghost use Rattle.dsql_engine.specs.Desk.{past, Stands};
+ghost use Rattle.dsql_engine.specs.Appending.{Appends, CanPay, Reaches, HearsHouse};
 ghost use Rattle.dsql_engine.specs.Awaited.{awaited, connect_permit, shut_permit, call_permit, permit_of};
 ghost use Rattle.dsql_engine.specs.Latest.{latest};
 ghost use Rattle.dsql_engine.specs.Statements.{statement_of, asked_of, MayEnter, Starts, Enters, EntersAsking, EntersUsing, IsReadyFor};
 ghost use Rattle.dsql_engine.specs.Made.{made};
 ghost use Rattle.dsql_engine.specs.Freshly.{Freshly};
 ghost use Rattle.dsql_engine.specs.Turns.{SettledBut, IsAlone, TakesTurns};
-ghost use Rattle.dsql_engine.specs.Groups.{after_enter, after_ask, after_heard, after_answer, after_using, after_end, lent_to, leaving, told, told_by, most_events};
+ghost use Rattle.dsql_engine.specs.Groups.{after_enter, after_ask, after_heard, after_answer, after_using, after_end, lent_to, leaving, told, told_by, most_events, events_of_a_step};
 ghost use Rattle.dsql_engine.specs.Steps.{NextAfterEnter, NextAfterAsk, NextAfterHeard, NextAfterAnswer, NextOfUse, NextOfTold, NextOfWake, IsParkedAt};
 
 use crate::desk::Desk;
@@ -57,17 +58,14 @@ impl Desk {
         bad: bool,
         invalid: bool,
     ) -> Next
-        requires stands { Stands self.old }
+        requires pays { CanPay self.old 2 }
         requires settled { SettledBut (past self.old) c }
         requires alone { IsAlone (past self.old) n }
         requires lent { place (past self.old) c ≡ Lent tenure (Call n) }
         requires due { next ≡ due (past self.old) c tenure n }
         requires bad { next ≡ None → bad ≡ went_bad (journal (past self.old) c) }
         requires invalid { next ≡ None → invalid ≡ ends_invalid (journal (past self.old) c) }
-        requires paid { 2 ≤ self.old.paid }
-        ensures stands { Stands self.new }
-        ensures settled { Settled (past self.new) }
-        ensures group { past self.new ≡ after_using c tenure n (past self.old) }
+        ensures reaches { Reaches self.new (after_using c tenure n (past self.old)) }
         ensures next { NextOfUse c tenure n (past self.old) result (past self.new) }
     {
         let m = self.sender(n);
@@ -90,8 +88,7 @@ impl Desk {
 
     /// Who sent on a connection replies, unless that was the layer itself.
     fn finish(&mut self, m: u32) -> Next
-        requires stands { Stands self.old }
-        requires paid { 0 < self.old.paid }
+        requires pays { CanPay self.old 1 }
         requires decided { (m ≡ 0 → ⊥) → is_some (reply_due (past self.old) m) ≡ true }
         requires allowed { (reply : Reply) → (m ≡ 0 → ⊥) → reply_due (past self.old) m ≡ Some reply → Allowed (past self.old) (Event.Replied m reply) }
         ensures stands { Stands self.new }
@@ -107,17 +104,14 @@ impl Desk {
 
     /// A connection on which nothing is due any more is given back, or begins to close.
     fn leave(&mut self, c: u32, tenure: u32, n: u32, bad: bool, invalid: bool)
-        requires stands { Stands self.old }
+        requires pays { CanPay self.old 2 }
         requires settled { SettledBut (past self.old) c }
         requires lent { place (past self.old) c ≡ Lent tenure (Call n) }
         requires due { due (past self.old) c tenure n ≡ None }
         requires kept { is_kept_by_rows (past self.old) c tenure n ≡ false }
         requires bad { bad ≡ went_bad (journal (past self.old) c) }
         requires invalid { invalid ≡ ends_invalid (journal (past self.old) c) }
-        requires paid { 2 ≤ self.old.paid }
-        ensures stands { Stands self.new }
-        ensures paid { self.new.paid + 1 ≡ self.old.paid }
-        ensures group { past self.new ≡ leaving c (cause (past self.old) c) ∷ past self.old }
+        ensures { Appends self.old self.new (leaving c (cause (past self.old) c)) }
     {
         match self.cause(bad, invalid) {
             None => self.back(c),
@@ -129,14 +123,11 @@ impl Desk {
 impl Desk {
     /// A client's call enters.
     pub fn enter_call(&mut self, client: u8, op: Op, entering: Entering) -> Next
-        requires stands { Stands self.old }
+        requires pays { CanPay self.old events_of_a_step }
         requires may { MayEnter (past self.old) client op }
         requires enters { Enters (past self.old) op entering }
-        requires paid { 4 ≤ self.old.paid }
-        ensures stands { Stands self.new }
-        ensures settled { Settled (past self.new) }
+        ensures reaches { Reaches self.new (after_enter (past self.old) client op) }
         ensures begun { is_empty (past self.new) ≡ false }
-        ensures group { past self.new ≡ after_enter (past self.old) client op }
         ensures next { NextAfterEnter (past self.old) client op result (past self.new) }
     {
         let Entering { start, then } = entering;
@@ -149,14 +140,11 @@ impl Desk {
 
     /// A client's call enters and asks for a connection.
     fn enter_and_ask(&mut self, client: u8, op: Op, start: CallStart, sent: Statement) -> Next
-        requires stands { Stands self.old }
+        requires pays { CanPay self.old events_of_a_step }
         requires may { MayEnter (past self.old) client op }
         requires starts { Starts (past self.old) op start }
         requires asking { EntersAsking (past self.old) op sent }
-        requires paid { 4 ≤ self.old.paid }
-        ensures stands { Stands self.new }
-        ensures settled { Settled (past self.new) }
-        ensures group { past self.new ≡ after_enter (past self.old) client op }
+        ensures reaches { Reaches self.new (after_enter (past self.old) client op) }
         ensures next { NextAfterEnter (past self.old) client op result (past self.new) }
     {
         let n = self.next_call();
@@ -176,14 +164,11 @@ impl Desk {
         k: u32,
         sent: Statement,
     ) -> Next
-        requires stands { Stands self.old }
+        requires pays { CanPay self.old events_of_a_step }
         requires may { MayEnter (past self.old) client op }
         requires starts { Starts (past self.old) op start }
         requires using { EntersUsing (past self.old) op k sent }
-        requires paid { 4 ≤ self.old.paid }
-        ensures stands { Stands self.new }
-        ensures settled { Settled (past self.new) }
-        ensures group { past self.new ≡ after_enter (past self.old) client op }
+        ensures reaches { Reaches self.new (after_enter (past self.old) client op) }
         ensures next { NextAfterEnter (past self.old) client op result (past self.new) }
     {
         let n = self.next_call();
@@ -200,14 +185,11 @@ impl Desk {
 
     /// A client's call enters, and is told at once.
     fn enter_and_tell(&mut self, client: u8, op: Op, start: CallStart, reply: Reply) -> Next
-        requires stands { Stands self.old }
+        requires pays { CanPay self.old events_of_a_step }
         requires may { MayEnter (past self.old) client op }
         requires starts { Starts (past self.old) op start }
         requires told { told_at_entry (past self.old) op ≡ Some reply }
-        requires paid { 4 ≤ self.old.paid }
-        ensures stands { Stands self.new }
-        ensures settled { Settled (past self.new) }
-        ensures group { past self.new ≡ after_enter (past self.old) client op }
+        ensures reaches { Reaches self.new (after_enter (past self.old) client op) }
         ensures next { NextAfterEnter (past self.old) client op result (past self.new) }
     {
         let n = self.next_call();
@@ -218,17 +200,14 @@ impl Desk {
 
     /// The idle connection that came back last is lent to a call that has just entered.
     fn lend_idle(&mut self, c: u32, n: u32, statement: Statement) -> Next
-        requires stands { Stands self.old }
+        requires pays { CanPay self.old 3 }
         requires settled { Freshly (past self.old) n }
         requires undecided { reply_due (past self.old) n ≡ None }
         requires running { has_ended (past self.old) ≡ false }
         requires latest { latest (idle (past self.old)) ≡ Some c }
         requires few { length (past self.old) ≤ most_events }
         requires statement { asked_of statement ≡ asked_by (past self.old) n }
-        requires paid { 3 ≤ self.old.paid }
-        ensures stands { Stands self.new }
-        ensures settled { Settled (past self.new) }
-        ensures group { past self.new ≡ after_using c (next_tenure (past self.old) c) n (lent_to (past self.old) c n) }
+        ensures reaches { Reaches self.new (after_using c (next_tenure (past self.old) c) n (lent_to (past self.old) c n)) }
         ensures next { NextOfUse c (next_tenure (past self.old) c) n (lent_to (past self.old) c n) result (past self.new) }
     {
         let tenure = self.next_tenure(c);
@@ -240,16 +219,13 @@ impl Desk {
     /// A connection begins to be opened for a call that has just entered, where one more may be; else the
     /// call is refused.
     fn open_or_refuse(&mut self, n: u32) -> Next
-        requires stands { Stands self.old }
+        requires pays { CanPay self.old 3 }
         requires settled { Freshly (past self.old) n }
         requires undecided { reply_due (past self.old) n ≡ None }
         requires running { has_ended (past self.old) ≡ false }
         requires none { idle (past self.old) ≡ [] }
         requires few { length (past self.old) ≤ most_events }
-        requires paid { 3 ≤ self.old.paid }
-        ensures stands { Stands self.new }
-        ensures settled { Settled (past self.new) }
-        ensures group { past self.new ≡ after_ask (past self.old) n [] }
+        ensures reaches { Reaches self.new (after_ask (past self.old) n []) }
         ensures next { NextAfterAsk (past self.old) n [] (nat_lt (open_count (past self.old)) room) result (past self.new) }
     {
         if self.may_open() {
@@ -265,29 +241,19 @@ impl Desk {
     /// A driver's answer is taken in, for which all is ready.
     #[tactic(auto, using(crate::proofs::Basics::fitting_of, crate::proofs::Basics::heard_of))]
     pub fn hear_answer(&mut self, entry: Entry, ready: Hearing) -> Next
-        requires stands { Stands self.old }
+        requires pays { CanPay self.old events_of_a_step }
         requires settled { Settled (past self.old) }
         requires turns { TakesTurns (past self.old) }
         requires awaited { awaited (past self.old) entry.conn ≡ Some (permit_of entry) }
         requires fits { fits_at_its_place (journal (past self.old) entry.conn) entry ≡ true }
         requires ready { IsReadyFor (past self.old) entry ready }
         requires few { length (past self.old) < most_events }
-        requires paid { 4 ≤ self.old.paid }
-        ensures stands { Stands self.new }
-        ensures settled { Settled (past self.new) }
-        ensures group { past self.new ≡ after_heard (past self.old) entry }
+        ensures reaches { Reaches self.new (after_heard (past self.old) entry) }
         ensures next { NextAfterHeard (past self.old) entry result (past self.new) }
     {
-        let Hearing {
-            copy,
-            statement,
-            reply,
-        } = ready;
         match self.place(entry.conn) {
-            Place::Opening(n) => self.hear_connect(n, entry, copy),
-            Place::Lent(tenure, Owner::Call(n)) => self.hear_call(
-                tenure, n, entry, copy, statement, reply,
-            ),
+            Place::Opening(n) => self.hear_connect(n, entry, ready.copy),
+            Place::Lent(tenure, Owner::Call(n)) => self.hear_call(tenure, n, entry, ready),
             Place::Closing => self.hear_shut(entry),
             _ => unreachable!(),
         }
@@ -295,19 +261,12 @@ impl Desk {
 
     /// The answer to a Connect.
     fn hear_connect(&mut self, n: u32, entry: Entry, copy: DriverAnswer) -> Next
-        requires stands { Stands self.old }
-        requires settled { Settled (past self.old) }
+        requires pays { CanPay self.old events_of_a_step }
+        requires hears { HearsHouse (past self.old) (Opening n) (connect_permit entry.conn) entry }
         requires turns { TakesTurns (past self.old) }
-        requires opening { place (past self.old) entry.conn ≡ Opening n }
-        requires permit { permit_of entry ≡ connect_permit entry.conn }
-        requires fitting { fits_of entry.call entry.answer ≡ true }
-        requires heard { is_memory entry.answer ≡ false }
         requires same { copy ≡ entry.answer }
         requires few { length (past self.old) < most_events }
-        requires paid { 4 ≤ self.old.paid }
-        ensures stands { Stands self.new }
-        ensures settled { Settled (past self.new) }
-        ensures group { past self.new ≡ after_answer (Opening n) entry (Heard entry ∷ past self.old) }
+        ensures reaches { Reaches self.new (after_answer (Opening n) entry (Heard entry ∷ past self.old)) }
         ensures next { result ≡ Next.Quiet }
     {
         if is_done_answer(&entry.answer) {
@@ -319,18 +278,11 @@ impl Desk {
 
     /// An opened connection goes to the call that it was opened for.
     fn connected(&mut self, n: u32, entry: Entry) -> Next
-        requires stands { Stands self.old }
-        requires settled { Settled (past self.old) }
-        requires opening { place (past self.old) entry.conn ≡ Opening n }
-        requires permit { permit_of entry ≡ connect_permit entry.conn }
-        requires fitting { fits_of entry.call entry.answer ≡ true }
-        requires heard { is_memory entry.answer ≡ false }
+        requires pays { CanPay self.old events_of_a_step }
+        requires hears { HearsHouse (past self.old) (Opening n) (connect_permit entry.conn) entry }
         requires done { is_done entry.answer ≡ true }
         requires few { length (past self.old) < most_events }
-        requires paid { 4 ≤ self.old.paid }
-        ensures stands { Stands self.new }
-        ensures settled { Settled (past self.new) }
-        ensures group { past self.new ≡ lent_to (Heard entry ∷ past self.old) entry.conn n }
+        ensures reaches { Reaches self.new (lent_to (Heard entry ∷ past self.old) entry.conn n) }
         ensures next { result ≡ Next.Quiet }
     {
         let c = entry.conn;
@@ -342,19 +294,12 @@ impl Desk {
 
     /// A refused Connect falls to the call that it was for.
     fn refused(&mut self, n: u32, entry: Entry, copy: DriverAnswer) -> Next
-        requires stands { Stands self.old }
-        requires settled { Settled (past self.old) }
+        requires pays { CanPay self.old events_of_a_step }
+        requires hears { HearsHouse (past self.old) (Opening n) (connect_permit entry.conn) entry }
         requires turns { TakesTurns (past self.old) }
-        requires opening { place (past self.old) entry.conn ≡ Opening n }
-        requires permit { permit_of entry ≡ connect_permit entry.conn }
-        requires fitting { fits_of entry.call entry.answer ≡ true }
-        requires heard { is_memory entry.answer ≡ false }
         requires same { copy ≡ entry.answer }
         requires done { is_done entry.answer ≡ false }
-        requires paid { 4 ≤ self.old.paid }
-        ensures stands { Stands self.new }
-        ensures settled { Settled (past self.new) }
-        ensures group { past self.new ≡ Event.Pool (Move.Fell entry.conn n) ∷ Heard entry ∷ past self.old }
+        ensures reaches { Reaches self.new (Event.Pool (Move.Fell entry.conn n) ∷ Heard entry ∷ past self.old) }
         ensures next { result ≡ Next.Quiet }
     {
         let c = entry.conn;
@@ -365,16 +310,9 @@ impl Desk {
 
     /// The answer to a Shut.
     fn hear_shut(&mut self, entry: Entry) -> Next
-        requires stands { Stands self.old }
-        requires settled { Settled (past self.old) }
-        requires closing { place (past self.old) entry.conn ≡ Closing }
-        requires permit { permit_of entry ≡ shut_permit entry.conn (next_tenure (past self.old) entry.conn) }
-        requires fitting { fits_of entry.call entry.answer ≡ true }
-        requires heard { is_memory entry.answer ≡ false }
-        requires paid { 4 ≤ self.old.paid }
-        ensures stands { Stands self.new }
-        ensures settled { Settled (past self.new) }
-        ensures group { past self.new ≡ after_answer Closing entry (Heard entry ∷ past self.old) }
+        requires pays { CanPay self.old events_of_a_step }
+        requires hears { HearsHouse (past self.old) Closing (shut_permit entry.conn (next_tenure (past self.old) entry.conn)) entry }
+        ensures reaches { Reaches self.new (after_answer Closing entry (Heard entry ∷ past self.old)) }
         ensures next { result ≡ Next.Quiet }
     {
         let c = entry.conn;
@@ -384,31 +322,22 @@ impl Desk {
     }
 
     /// The answer to a driver call of a client's call.
-    fn hear_call(
-        &mut self,
-        tenure: u32,
-        n: u32,
-        entry: Entry,
-        copy: DriverAnswer,
-        statement: Statement,
-        reply: Option<Reply>,
-    ) -> Next
-        requires stands { Stands self.old }
+    fn hear_call(&mut self, tenure: u32, n: u32, entry: Entry, ready: Hearing) -> Next
+        requires pays { CanPay self.old events_of_a_step }
         requires settled { Settled (past self.old) }
         requires turns { TakesTurns (past self.old) }
         requires lent { place (past self.old) entry.conn ≡ Lent tenure (Call n) }
         requires awaited { option_map (call_permit entry.conn tenure n (sender (past self.old) n)) (due (past self.old) entry.conn tenure n) ≡ Some (permit_of entry) }
         requires fits { fits_at_its_place (journal (past self.old) entry.conn) entry ≡ true }
-        requires fetch { (rows : ℕ) → entry.call ≡ calls.Next rows → reply ≡ fetch_decision (work (past self.old) entry.call_no) entry.answer }
-        requires query { (input : Input) (params : List Param) → entry.call ≡ calls.Query input params → reply ≡ query_decision (work (past self.old) entry.call_no) entry.answer }
-        requires same { copy ≡ entry.answer }
-        requires statement { statement ≡ statement_of (past self.old) n }
-        requires paid { 4 ≤ self.old.paid }
-        ensures stands { Stands self.new }
-        ensures settled { Settled (past self.new) }
-        ensures group { past self.new ≡ after_answer (Lent tenure (Call n)) entry (Heard entry ∷ past self.old) }
+        requires ready { IsReadyFor (past self.old) entry ready }
+        ensures reaches { Reaches self.new (after_answer (Lent tenure (Call n)) entry (Heard entry ∷ past self.old)) }
         ensures next { NextAfterAnswer (Lent tenure (Call n)) entry (Heard entry ∷ past self.old) result (past self.new) }
     {
+        let Hearing {
+            copy,
+            statement,
+            reply,
+        } = ready;
         let c = entry.conn;
         let bad = is_bad_answer(&entry.answer);
         let invalid = is_invalid_answer(&entry.answer);
@@ -437,7 +366,7 @@ impl Desk {
     /// An unfinished call looks at its connection: it uses one that was lent to it, on which nothing was
     /// heard yet, and replies where its connection was refused.
     pub fn wake_call(&mut self, n: u32, statement: Statement) -> Next
-        requires stands { Stands self.old }
+        requires pays { CanPay self.old events_of_a_step }
         requires settled { Settled (past self.old) }
         requires turns { TakesTurns (past self.old) }
         requires begun { is_empty (past self.old) ≡ false }
@@ -445,7 +374,6 @@ impl Desk {
         requires asks { asks (work (past self.old) n) ≡ true }
         requires parked { IsParkedAt (place (past self.old) (home (past self.old) n)) (home (past self.old) n) (past self.old) }
         requires statement { statement ≡ statement_of (past self.old) n }
-        requires paid { 4 ≤ self.old.paid }
         ensures stands { Stands self.new }
         ensures settled { Settled (past self.new) }
         ensures next { NextOfWake (place (past self.old) (home (past self.old) n)) (home (past self.old) n) n (past self.old) result (past self.new) }
@@ -462,16 +390,13 @@ impl Desk {
 
     /// A call whose connection was refused replies.
     fn wake_fallen(&mut self, n: u32) -> Next
-        requires stands { Stands self.old }
+        requires pays { CanPay self.old events_of_a_step }
         requires settled { Settled (past self.old) }
         requires begun { is_empty (past self.old) ≡ false }
         requires unfinished { is_unfinished (past self.old) n ≡ true }
         requires asks { asks (work (past self.old) n) ≡ true }
         requires free { is_for n (place (past self.old) (home (past self.old) n)) ≡ false }
-        requires paid { 4 ≤ self.old.paid }
-        ensures stands { Stands self.new }
-        ensures settled { Settled (past self.new) }
-        ensures group { past self.new ≡ told n (past self.old) }
+        ensures reaches { Reaches self.new (told n (past self.old)) }
         ensures next { result ≡ Next.Reply n }
     {
         self.tell(n);
@@ -480,16 +405,13 @@ impl Desk {
 
     /// A call uses the connection that was lent to it, on which nothing was heard yet.
     fn wake_lent(&mut self, c: u32, tenure: u32, n: u32, statement: Statement) -> Next
-        requires stands { Stands self.old }
+        requires pays { CanPay self.old events_of_a_step }
         requires settled { Settled (past self.old) }
         requires turns { TakesTurns (past self.old) }
         requires lent { place (past self.old) c ≡ Lent tenure (Call n) }
         requires fresh { heard_in (past self.old) c tenure ≡ [] }
         requires statement { statement ≡ statement_of (past self.old) n }
-        requires paid { 4 ≤ self.old.paid }
-        ensures stands { Stands self.new }
-        ensures settled { Settled (past self.new) }
-        ensures group { past self.new ≡ after_using c tenure n (past self.old) }
+        ensures reaches { Reaches self.new (after_using c tenure n (past self.old)) }
         ensures next { NextOfUse c tenure n (past self.old) result (past self.new) }
     {
         let next = self.first_call_on(c, n, statement);
@@ -498,15 +420,12 @@ impl Desk {
 
     /// The run ends, and the idle connections begin to close, the longest idle first.
     pub fn end_run(&mut self)
-        requires stands { Stands self.old }
+        requires pays { CanPay self.old (length (idle (past self.old)) + 1) }
         requires settled { Settled (past self.old) }
         requires begun { is_empty (past self.old) ≡ false }
         requires quiet { is_quiet (past self.old) ≡ true }
         requires running { has_ended (past self.old) ≡ false }
-        requires paid { length (idle (past self.old)) + 1 ≤ self.old.paid }
-        ensures stands { Stands self.new }
-        ensures settled { Settled (past self.new) }
-        ensures group { past self.new ≡ after_end (past self.old) }
+        ensures { Reaches self.new (after_end (past self.old)) }
     {
         self.end();
         while let Some(c) = self.longest_idle() {

@@ -1,4 +1,4 @@
-use Rattle.std.proofs.Common.{◌≡◌, ◌∷◌, [], List, nat_lt, ap, sym, subst, ◌∙◌}
+use Rattle.std.proofs.Common.{rules, ◌≡◌, ◌∷◌, [], List, nat_lt, ap, sym, subst, ◌∙◌}
 use Rattle.dsql_history.specs.declared.event.Event.{Event}
 use Rattle.dsql_history.specs.Readers.Sets.{next_tenure, open_count}
 use Rattle.dsql_history.specs.Rules.Limit.{room}
@@ -12,21 +12,25 @@ use Rattle.dsql_engine.proofs.Entered.{may_enter, freshly, reply_entered, asked_
 use Rattle.dsql_engine.proofs.Grouping.{group_lent, next_lent, group_none, next_none}
 use Rattle.dsql_engine.proofs.desk.Desk.enter_and_ask.Goals as goal
 
-pub enter-requires-clause-allowed : goal.enter-requires-clause-allowed
-enter-requires-clause-allowed c =
-    may_enter (past c.args.self.now) c.args.client c.next_call-n.result c.args.op c.requires.may.settled c.requires.may.begun c.next_call-n.ensures c.requires.may.free c.requires.may.turn
+pub enter-requires-clause-may : goal.enter-requires-clause-may
+enter-requires-clause-may c =
+    record {
+      stands = search rules;
+      paid = search rules;
+      allowed = may_enter (past c.args.self.now) c.args.client c.next_call-n.result c.args.op c.requires.may.settled c.requires.may.begun c.next_call-n.ensures c.requires.may.free c.requires.may.turn;
+    }
 
 pub lend_idle-requires-clause-settled : goal.lend_idle-requires-clause-settled
 lend_idle-requires-clause-settled c =
     let H = past c.args.self.now in
     let m : Lawful (Entered c.args.client c.next_call-n.result c.args.op ∷ H) = rw c.enter.ensures.event at (lawful_of _ c.enter.ensures.stands) in
-    rw c.enter.ensures.event (freshly H c.args.client c.next_call-n.result c.args.op (lawful_of _ c.requires.stands) m c.requires.may.settled c.next_call-n.ensures c.requires.asking.asks)
+    rw c.enter.ensures.event (freshly H c.args.client c.next_call-n.result c.args.op (lawful_of _ c.requires.pays.stands) m c.requires.may.settled c.next_call-n.ensures c.requires.asking.asks)
 
 pub open_or_refuse-requires-clause-settled : goal.open_or_refuse-requires-clause-settled
 open_or_refuse-requires-clause-settled c =
     let H = past c.args.self.now in
     let m : Lawful (Entered c.args.client c.next_call-n.result c.args.op ∷ H) = rw c.enter.ensures.event at (lawful_of _ c.enter.ensures.stands) in
-    rw c.enter.ensures.event (freshly H c.args.client c.next_call-n.result c.args.op (lawful_of _ c.requires.stands) m c.requires.may.settled c.next_call-n.ensures c.requires.asking.asks)
+    rw c.enter.ensures.event (freshly H c.args.client c.next_call-n.result c.args.op (lawful_of _ c.requires.pays.stands) m c.requires.may.settled c.next_call-n.ensures c.requires.asking.asks)
 
 pub lend_idle-requires-clause-undecided : goal.lend_idle-requires-clause-undecided
 lend_idle-requires-clause-undecided c =
@@ -40,18 +44,21 @@ pub lend_idle-requires-clause-statement : goal.lend_idle-requires-clause-stateme
 lend_idle-requires-clause-statement c =
     let a = c.requires.asking in
     rw c.enter.ensures.event
-    (asked_entered (past c.args.self.now) c.args.client c.next_call-n.result c.args.op (asked_of c.args.sent) (lawful_of _ c.requires.stands) c.next_call-n.ensures a.text a.params a.aim)
+    (asked_entered (past c.args.self.now) c.args.client c.next_call-n.result c.args.op (asked_of c.args.sent) (lawful_of _ c.requires.pays.stands) c.next_call-n.ensures a.text a.params a.aim)
 
-pub returns-in-Some-clause-group : goal.returns-in-Some-clause-group
-returns-in-Some-clause-group c =
-    let H = past c.args.self.now in
-    let a = c.requires.asking in
-    let h = rw c.enter.ensures.event at (sym c.latest.ensures ∙ c.in-Some.is) in
-    let n = c.next_call-n.result in
-    let k = c.in-Some.c in
-    let g : past c.lend_idle.new.self ≡ after_using k (next_tenure (Entered c.args.client n c.args.op ∷ H) k) n (lent_to (Entered c.args.client n c.args.op ∷ H) k n) =
-    c.lend_idle.ensures.group ∙ ap (λ (K : List Event). after_using k (next_tenure K k) n (lent_to K k n)) c.enter.ensures.event in
-    g ∙ group_lent H c.args.client c.next_call-n.result c.args.op c.in-Some.c (lawful_of _ c.requires.stands) c.next_call-n.ensures a.undecided a.asks h
+pub returns-in-Some-clause-reaches : goal.returns-in-Some-clause-reaches
+returns-in-Some-clause-reaches c = record {
+  stands = search rules;
+  settled = search rules;
+  group = (let H = past c.args.self.now in
+      let a = c.requires.asking in
+      let h = rw c.enter.ensures.event at (sym c.latest.ensures ∙ c.in-Some.is) in
+      let n = c.next_call-n.result in
+      let k = c.in-Some.c in
+      let g : past c.lend_idle.new.self ≡ after_using k (next_tenure (Entered c.args.client n c.args.op ∷ H) k) n (lent_to (Entered c.args.client n c.args.op ∷ H) k n) =
+      c.lend_idle.ensures.reaches.group ∙ ap (λ (K : List Event). after_using k (next_tenure K k) n (lent_to K k n)) c.enter.ensures.event in
+      g ∙ group_lent H c.args.client c.next_call-n.result c.args.op c.in-Some.c (lawful_of _ c.requires.pays.stands) c.next_call-n.ensures a.undecided a.asks h);
+}
 
 pub returns-in-Some-clause-next : goal.returns-in-Some-clause-next
 returns-in-Some-clause-next c =
@@ -60,15 +67,18 @@ returns-in-Some-clause-next c =
     let h = rw c.enter.ensures.event at (sym c.latest.ensures ∙ c.in-Some.is) in
     let p = subst (λ (K : List Event). NextOfUse c.in-Some.c (next_tenure K c.in-Some.c) c.next_call-n.result (lent_to K c.in-Some.c c.next_call-n.result) c.lend_idle.result (past c.lend_idle.new.self)) c.enter.ensures.event
     c.lend_idle.ensures.next in
-    next_lent H c.args.client c.next_call-n.result c.args.op c.in-Some.c c.lend_idle.result (past c.lend_idle.new.self) (lawful_of _ c.requires.stands) c.next_call-n.ensures a.undecided a.asks h p
+    next_lent H c.args.client c.next_call-n.result c.args.op c.in-Some.c c.lend_idle.result (past c.lend_idle.new.self) (lawful_of _ c.requires.pays.stands) c.next_call-n.ensures a.undecided a.asks h p
 
-pub returns-in-None-clause-group : goal.returns-in-None-clause-group
-returns-in-None-clause-group c =
-    let H = past c.args.self.now in
-    let a = c.requires.asking in
-    let h = rw c.enter.ensures.event at (sym c.latest.ensures ∙ c.in-None.is) in
-    let g = rw c.enter.ensures.event at c.open_or_refuse.ensures.group in
-    g ∙ group_none H c.args.client c.next_call-n.result c.args.op (lawful_of _ c.requires.stands) c.next_call-n.ensures a.undecided a.asks h
+pub returns-in-None-clause-reaches : goal.returns-in-None-clause-reaches
+returns-in-None-clause-reaches c = record {
+  stands = search rules;
+  settled = search rules;
+  group = (let H = past c.args.self.now in
+      let a = c.requires.asking in
+      let h = rw c.enter.ensures.event at (sym c.latest.ensures ∙ c.in-None.is) in
+      let g = rw c.enter.ensures.event at c.open_or_refuse.ensures.reaches.group in
+      g ∙ group_none H c.args.client c.next_call-n.result c.args.op (lawful_of _ c.requires.pays.stands) c.next_call-n.ensures a.undecided a.asks h);
+}
 
 pub returns-in-None-clause-next : goal.returns-in-None-clause-next
 returns-in-None-clause-next c =
@@ -76,4 +86,4 @@ returns-in-None-clause-next c =
     let a = c.requires.asking in
     let h = rw c.enter.ensures.event at (sym c.latest.ensures ∙ c.in-None.is) in
     let p = subst (λ (K : List Event). NextAfterAsk K c.next_call-n.result [] (nat_lt (open_count K) room) c.open_or_refuse.result (past c.open_or_refuse.new.self)) c.enter.ensures.event c.open_or_refuse.ensures.next in
-    next_none H c.args.client c.next_call-n.result c.args.op c.open_or_refuse.result (past c.open_or_refuse.new.self) (lawful_of _ c.requires.stands) c.next_call-n.ensures a.undecided a.asks h p
+    next_none H c.args.client c.next_call-n.result c.args.op c.open_or_refuse.result (past c.open_or_refuse.new.self) (lawful_of _ c.requires.pays.stands) c.next_call-n.ensures a.undecided a.asks h p

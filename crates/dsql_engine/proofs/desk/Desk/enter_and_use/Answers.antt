@@ -1,4 +1,4 @@
-use Rattle.std.proofs.Common.{◌≡◌, ◌∷◌, ℕ, List, ap, sym, subst, ◌∙◌}
+use Rattle.std.proofs.Common.{rules, ◌≡◌, ◌∷◌, ℕ, List, ap, sym, subst, ◌∙◌}
 use Rattle.dsql_history.specs.declared.event.Event.{Event}
 use Rattle.dsql_history.specs.declared.event.Event.TheVariants.{Entered}
 use Rattle.dsql_history.specs.Readers.Course.{caps}
@@ -17,14 +17,18 @@ use Rattle.dsql_engine.proofs.Grouping.{group_used, next_used}
 use Rattle.dsql_engine.proofs.AtRows.{UsesThere, uses_now, lent_now, asked_now, never_none}
 use Rattle.dsql_engine.proofs.desk.Desk.enter_and_use.Goals as goal
 
-pub enter-requires-clause-allowed : goal.enter-requires-clause-allowed
-enter-requires-clause-allowed c =
-    may_enter (past c.args.self.now) c.args.client c.next_call-n.result c.args.op c.requires.may.settled c.requires.may.begun c.next_call-n.ensures c.requires.may.free c.requires.may.turn
+pub enter-requires-clause-may : goal.enter-requires-clause-may
+enter-requires-clause-may c =
+    record {
+      stands = search rules;
+      paid = search rules;
+      allowed = may_enter (past c.args.self.now) c.args.client c.next_call-n.result c.args.op c.requires.may.settled c.requires.may.begun c.next_call-n.ensures c.requires.may.free c.requires.may.turn;
+    }
 
 pub unreachable-requires : goal.unreachable-requires
 unreachable-requires c =
     let a = c.requires.using in
-    let it = lent_now (past c.args.self.now) (past c.enter.new.self) c.args.client c.next_call-n.result c.args.op c.args.k c.home-c.result c.enter.ensures.event (lawful_of _ c.requires.stands) c.requires.may.settled
+    let it = lent_now (past c.args.self.now) (past c.enter.new.self) c.args.client c.next_call-n.result c.args.op c.args.k c.home-c.result c.enter.ensures.event (lawful_of _ c.requires.pays.stands) c.requires.may.settled
     (lawful_of _ c.enter.ensures.stands) c.next_call-n.ensures c.requires.may.turn a.undecided a.not_asking a.user c.home-c.ensures in
     absurd (c.in_default.not-Lent it.0 (Call c.args.k) (c.place.ensures ∙ it.1))
 
@@ -34,7 +38,7 @@ use_lent-requires-clause-settled c =
     let K = past c.enter.new.self in
     let t = c.in-Lent.tenure in
     let u : UsesThere K c.args.k c.home-c.result t =
-    uses_now (past c.args.self.now) K c.args.client c.next_call-n.result c.args.op c.args.k c.home-c.result t c.in-Lent.field-1 c.enter.ensures.event (lawful_of _ c.requires.stands) c.requires.may.settled
+    uses_now (past c.args.self.now) K c.args.client c.next_call-n.result c.args.op c.args.k c.home-c.result t c.in-Lent.field-1 c.enter.ensures.event (lawful_of _ c.requires.pays.stands) c.requires.may.settled
     (lawful_of _ c.enter.ensures.stands) c.next_call-n.ensures c.requires.may.turn a.undecided a.not_asking a.user c.home-c.ensures (sym c.place.ensures ∙ c.in-Lent.is) in
     u.settled
 
@@ -44,7 +48,7 @@ use_lent-requires-clause-alone c =
     let K = past c.enter.new.self in
     let t = c.in-Lent.tenure in
     let u : UsesThere K c.args.k c.home-c.result t =
-    uses_now (past c.args.self.now) K c.args.client c.next_call-n.result c.args.op c.args.k c.home-c.result t c.in-Lent.field-1 c.enter.ensures.event (lawful_of _ c.requires.stands) c.requires.may.settled
+    uses_now (past c.args.self.now) K c.args.client c.next_call-n.result c.args.op c.args.k c.home-c.result t c.in-Lent.field-1 c.enter.ensures.event (lawful_of _ c.requires.pays.stands) c.requires.may.settled
     (lawful_of _ c.enter.ensures.stands) c.next_call-n.ensures c.requires.may.turn a.undecided a.not_asking a.user c.home-c.ensures (sym c.place.ensures ∙ c.in-Lent.is) in
     u.alone
 
@@ -54,7 +58,7 @@ use_lent-requires-clause-lent c =
     let K = past c.enter.new.self in
     let t = c.in-Lent.tenure in
     let u : UsesThere K c.args.k c.home-c.result t =
-    uses_now (past c.args.self.now) K c.args.client c.next_call-n.result c.args.op c.args.k c.home-c.result t c.in-Lent.field-1 c.enter.ensures.event (lawful_of _ c.requires.stands) c.requires.may.settled
+    uses_now (past c.args.self.now) K c.args.client c.next_call-n.result c.args.op c.args.k c.home-c.result t c.in-Lent.field-1 c.enter.ensures.event (lawful_of _ c.requires.pays.stands) c.requires.may.settled
     (lawful_of _ c.enter.ensures.stands) c.next_call-n.ensures c.requires.may.turn a.undecided a.not_asking a.user c.home-c.ensures (sym c.place.ensures ∙ c.in-Lent.is) in
     u.lent
 
@@ -64,9 +68,9 @@ use_lent-requires-clause-due c =
     let K = past c.enter.new.self in
     let t = c.in-Lent.tenure in
     let u : UsesThere K c.args.k c.home-c.result t =
-    uses_now (past c.args.self.now) K c.args.client c.next_call-n.result c.args.op c.args.k c.home-c.result t c.in-Lent.field-1 c.enter.ensures.event (lawful_of _ c.requires.stands) c.requires.may.settled
+    uses_now (past c.args.self.now) K c.args.client c.next_call-n.result c.args.op c.args.k c.home-c.result t c.in-Lent.field-1 c.enter.ensures.event (lawful_of _ c.requires.pays.stands) c.requires.may.settled
     (lawful_of _ c.enter.ensures.stands) c.next_call-n.ensures c.requires.may.turn a.undecided a.not_asking a.user c.home-c.ensures (sym c.place.ensures ∙ c.in-Lent.is) in
-    let asked = ap asked_of a.same ∙ asked_now (past c.args.self.now) K c.args.client c.next_call-n.result c.args.op c.args.k c.home-c.result t c.enter.ensures.event (lawful_of _ c.requires.stands) c.next_call-n.ensures u in
+    let asked = ap asked_of a.same ∙ asked_now (past c.args.self.now) K c.args.client c.next_call-n.result c.args.op c.args.k c.home-c.result t c.enter.ensures.event (lawful_of _ c.requires.pays.stands) c.next_call-n.ensures u in
     let next : c.next_call_on-next.result ≡ due K c.home-c.result t c.args.k =
     c.next_call_on-next.ensures ∙ (ap (λ x. body_after (caps K) x (wish K c.args.k) (made K c.home-c.result)) asked ∙ u.body) in
     next
@@ -77,9 +81,9 @@ use_lent-requires-clause-bad c = λ none.
     let K = past c.enter.new.self in
     let t = c.in-Lent.tenure in
     let u : UsesThere K c.args.k c.home-c.result t =
-    uses_now (past c.args.self.now) K c.args.client c.next_call-n.result c.args.op c.args.k c.home-c.result t c.in-Lent.field-1 c.enter.ensures.event (lawful_of _ c.requires.stands) c.requires.may.settled
+    uses_now (past c.args.self.now) K c.args.client c.next_call-n.result c.args.op c.args.k c.home-c.result t c.in-Lent.field-1 c.enter.ensures.event (lawful_of _ c.requires.pays.stands) c.requires.may.settled
     (lawful_of _ c.enter.ensures.stands) c.next_call-n.ensures c.requires.may.turn a.undecided a.not_asking a.user c.home-c.ensures (sym c.place.ensures ∙ c.in-Lent.is) in
-    let asked = ap asked_of a.same ∙ asked_now (past c.args.self.now) K c.args.client c.next_call-n.result c.args.op c.args.k c.home-c.result t c.enter.ensures.event (lawful_of _ c.requires.stands) c.next_call-n.ensures u in
+    let asked = ap asked_of a.same ∙ asked_now (past c.args.self.now) K c.args.client c.next_call-n.result c.args.op c.args.k c.home-c.result t c.enter.ensures.event (lawful_of _ c.requires.pays.stands) c.next_call-n.ensures u in
     let next : c.next_call_on-next.result ≡ due K c.home-c.result t c.args.k =
     c.next_call_on-next.ensures ∙ (ap (λ x. body_after (caps K) x (wish K c.args.k) (made K c.home-c.result)) asked ∙ u.body) in
     absurd (never_none K c.args.k c.home-c.result t c.next_call_on-next.result u next none)
@@ -90,26 +94,29 @@ use_lent-requires-clause-invalid c = λ none.
     let K = past c.enter.new.self in
     let t = c.in-Lent.tenure in
     let u : UsesThere K c.args.k c.home-c.result t =
-    uses_now (past c.args.self.now) K c.args.client c.next_call-n.result c.args.op c.args.k c.home-c.result t c.in-Lent.field-1 c.enter.ensures.event (lawful_of _ c.requires.stands) c.requires.may.settled
+    uses_now (past c.args.self.now) K c.args.client c.next_call-n.result c.args.op c.args.k c.home-c.result t c.in-Lent.field-1 c.enter.ensures.event (lawful_of _ c.requires.pays.stands) c.requires.may.settled
     (lawful_of _ c.enter.ensures.stands) c.next_call-n.ensures c.requires.may.turn a.undecided a.not_asking a.user c.home-c.ensures (sym c.place.ensures ∙ c.in-Lent.is) in
-    let asked = ap asked_of a.same ∙ asked_now (past c.args.self.now) K c.args.client c.next_call-n.result c.args.op c.args.k c.home-c.result t c.enter.ensures.event (lawful_of _ c.requires.stands) c.next_call-n.ensures u in
+    let asked = ap asked_of a.same ∙ asked_now (past c.args.self.now) K c.args.client c.next_call-n.result c.args.op c.args.k c.home-c.result t c.enter.ensures.event (lawful_of _ c.requires.pays.stands) c.next_call-n.ensures u in
     let next : c.next_call_on-next.result ≡ due K c.home-c.result t c.args.k =
     c.next_call_on-next.ensures ∙ (ap (λ x. body_after (caps K) x (wish K c.args.k) (made K c.home-c.result)) asked ∙ u.body) in
     absurd (never_none K c.args.k c.home-c.result t c.next_call_on-next.result u next none)
 
-pub returns-clause-group : goal.returns-clause-group
-returns-clause-group c =
-    let H = past c.args.self.now in
-    let a = c.requires.using in
-    let n = c.next_call-n.result in
-    let k = c.args.k in
-    let t = c.in-Lent.tenure in
-    let at : c.home-c.result ≡ home (Entered c.args.client n c.args.op ∷ H) k = c.home-c.ensures ∙ ap (λ (K : List Event). home K k) c.enter.ensures.event in
-    let is : place (Entered c.args.client n c.args.op ∷ H) (home (Entered c.args.client n c.args.op ∷ H) k) ≡ Lent t c.in-Lent.field-1 =
-    ap (place (Entered c.args.client n c.args.op ∷ H)) (sym at) ∙ (ap (λ (K : List Event). place K c.home-c.result) (sym c.enter.ensures.event) ∙ (sym c.place.ensures ∙ c.in-Lent.is)) in
-    let g : past c.use_lent.new.self ≡ after_using (home (Entered c.args.client n c.args.op ∷ H) k) t k (Entered c.args.client n c.args.op ∷ H) =
-    c.use_lent.ensures.group ∙ (ap (λ (K : List Event). after_using c.home-c.result t k K) c.enter.ensures.event ∙ ap (λ (d : ℕ). after_using d t k (Entered c.args.client n c.args.op ∷ H)) at) in
-    g ∙ group_used H c.args.client n c.args.op k t c.in-Lent.field-1 (lawful_of _ c.requires.stands) c.next_call-n.ensures a.undecided a.not_asking (a.user n) is
+pub returns-clause-reaches : goal.returns-clause-reaches
+returns-clause-reaches c = record {
+  stands = search rules;
+  settled = search rules;
+  group = (let H = past c.args.self.now in
+      let a = c.requires.using in
+      let n = c.next_call-n.result in
+      let k = c.args.k in
+      let t = c.in-Lent.tenure in
+      let at : c.home-c.result ≡ home (Entered c.args.client n c.args.op ∷ H) k = c.home-c.ensures ∙ ap (λ (K : List Event). home K k) c.enter.ensures.event in
+      let is : place (Entered c.args.client n c.args.op ∷ H) (home (Entered c.args.client n c.args.op ∷ H) k) ≡ Lent t c.in-Lent.field-1 =
+      ap (place (Entered c.args.client n c.args.op ∷ H)) (sym at) ∙ (ap (λ (K : List Event). place K c.home-c.result) (sym c.enter.ensures.event) ∙ (sym c.place.ensures ∙ c.in-Lent.is)) in
+      let g : past c.use_lent.new.self ≡ after_using (home (Entered c.args.client n c.args.op ∷ H) k) t k (Entered c.args.client n c.args.op ∷ H) =
+      c.use_lent.ensures.reaches.group ∙ (ap (λ (K : List Event). after_using c.home-c.result t k K) c.enter.ensures.event ∙ ap (λ (d : ℕ). after_using d t k (Entered c.args.client n c.args.op ∷ H)) at) in
+      g ∙ group_used H c.args.client n c.args.op k t c.in-Lent.field-1 (lawful_of _ c.requires.pays.stands) c.next_call-n.ensures a.undecided a.not_asking (a.user n) is);
+}
 
 pub returns-clause-next : goal.returns-clause-next
 returns-clause-next c =
@@ -123,4 +130,4 @@ returns-clause-next c =
     ap (place (Entered c.args.client n c.args.op ∷ H)) (sym at) ∙ (ap (λ (K : List Event). place K c.home-c.result) (sym c.enter.ensures.event) ∙ (sym c.place.ensures ∙ c.in-Lent.is)) in
     let p = subst (λ (K : List Event). NextOfUse c.home-c.result t k K c.use_lent.result (past c.use_lent.new.self)) c.enter.ensures.event c.use_lent.ensures.next in
     let q = subst (λ (d : ℕ). NextOfUse d t k (Entered c.args.client n c.args.op ∷ H) c.use_lent.result (past c.use_lent.new.self)) at p in
-    next_used H c.args.client n c.args.op k t c.in-Lent.field-1 c.use_lent.result (past c.use_lent.new.self) (lawful_of _ c.requires.stands) c.next_call-n.ensures a.undecided a.not_asking (a.user n) is q
+    next_used H c.args.client n c.args.op k t c.in-Lent.field-1 c.use_lent.result (past c.use_lent.new.self) (lawful_of _ c.requires.pays.stands) c.next_call-n.ensures a.undecided a.not_asking (a.user n) is q

@@ -3,7 +3,7 @@ use Rattle.dsql_engine.proofs.Grouping.{begun_enter}
 use Rattle.dsql_engine.proofs.desk.Desk.enter_call.Goals as goal
 
 pub returns-in-Ask-clause-begun : goal.returns-in-Ask-clause-begun
-returns-in-Ask-clause-begun c = rw c.enter_and_ask.ensures.group (begun_enter (past c.args.self.now) c.args.client c.args.op)
+returns-in-Ask-clause-begun c = rw c.enter_and_ask.ensures.reaches.group (begun_enter (past c.args.self.now) c.args.client c.args.op)
 
 pub returns-in-Use-clause-begun : goal.returns-in-Use-clause-begun
-returns-in-Use-clause-begun c = rw c.enter_and_use.ensures.group (begun_enter (past c.args.self.now) c.args.client c.args.op)
+returns-in-Use-clause-begun c = rw c.enter_and_use.ensures.reaches.group (begun_enter (past c.args.self.now) c.args.client c.args.op)

@@ -7,13 +7,13 @@ use Rattle.dsql_engine.proofs.desk.Desk.lend.Goals as goal
 pub count_up-requires : goal.count_up-requires
 unfolding Stands
 count_up-requires c =
-    let s = sound_sets (past c.args.self.now) (lawful_of _ c.requires.stands) in
+    let s = sound_sets (past c.args.self.now) (lawful_of _ c.requires.may.stands) in
     let few : lends (past c.args.self.now) c.args.c ≤ length (past c.args.self.now) = s.few_lends c.args.c in
-    rw c.requires.stands.lends (omega (arith, few, c.requires.few))
+    rw c.requires.may.stands.lends (omega (arith, few, c.requires.few))
 
 pub count_up-requires-2 : goal.count_up-requires-2
 unfolding Stands
 count_up-requires-2 c =
-    let s = sound_sets (past c.args.self.now) (lawful_of _ c.requires.stands) in
+    let s = sound_sets (past c.args.self.now) (lawful_of _ c.requires.may.stands) in
     let few : uses (past c.args.self.now) c.args.c ≤ length (past c.args.self.now) = s.few_uses c.args.c in
-    rw c.requires.stands.uses (omega (arith, few, c.requires.few))
+    rw c.requires.may.stands.uses (omega (arith, few, c.requires.few))

@@ -1,4 +1,4 @@
-use Rattle.std.proofs.Common.{◌≡◌, ℕ, List, Some, cond, ap, sym, subst, ◌∙◌, refl}
+use Rattle.std.proofs.Common.{rules, ◌≡◌, ℕ, List, Some, cond, ap, sym, subst, ◌∙◌, refl}
 use Rattle.dsql_driver.specs.declared.call.DriverCall.TheVariants.{Reset}
 use Rattle.dsql_history.specs.declared.event.Event.{Event}
 use Rattle.dsql_history.specs.declared.record.Place.TheVariants.{Idle}
@@ -15,17 +15,21 @@ use Rattle.dsql_engine.specs.Desk.{past, lawful_of}
 use Rattle.dsql_engine.proofs.Asking.{idle_latest, may_lend_idle, lent_now, settled_lend_idle, alone_lent, first_fresh, good_fresh}
 use Rattle.dsql_engine.proofs.desk.Desk.lend_idle.Goals as goal
 
-pub lend-requires-clause-allowed : goal.lend-requires-clause-allowed
-lend-requires-clause-allowed c =
+pub lend-requires-clause-may : goal.lend-requires-clause-may
+lend-requires-clause-may c =
     let H = past c.args.self.now in
-    let l : Lawful H = lawful_of _ c.requires.stands in
+    let l : Lawful H = lawful_of _ c.requires.pays.stands in
     let k = idle_latest H c.args.c l c.requires.latest in
-    rw c.next_tenure-tenure.ensures (may_lend_idle H c.args.c c.args.n c.requires.settled c.requires.undecided k.0 k.1 c.requires.running)
+    record {
+      stands = search rules;
+      paid = search rules;
+      allowed = rw c.next_tenure-tenure.ensures (may_lend_idle H c.args.c c.args.n c.requires.settled c.requires.undecided k.0 k.1 c.requires.running);
+    }
 
 pub use_lent-requires-clause-settled : goal.use_lent-requires-clause-settled
 use_lent-requires-clause-settled c =
     let H = past c.args.self.now in
-    let l : Lawful H = lawful_of _ c.requires.stands in
+    let l : Lawful H = lawful_of _ c.requires.pays.stands in
     let k = idle_latest H c.args.c l c.requires.latest in
     let m : Lawful (lent_to H c.args.c c.args.n) = rw (c.lend.ensures.event, c.next_tenure-tenure.ensures) at (lawful_of _ c.lend.ensures.stands) in
     rw (c.lend.ensures.event, c.next_tenure-tenure.ensures) (settled_lend_idle H c.args.c c.args.n l c.requires.settled k.0 m)
@@ -39,7 +43,7 @@ use_lent-requires-clause-alone c =
 pub use_lent-requires-clause-lent : goal.use_lent-requires-clause-lent
 use_lent-requires-clause-lent c =
     let H = past c.args.self.now in
-    let l : Lawful H = lawful_of _ c.requires.stands in
+    let l : Lawful H = lawful_of _ c.requires.pays.stands in
     let k = idle_latest H c.args.c l c.requires.latest in
     rw (c.lend.ensures.event, c.next_tenure-tenure.ensures) (lent_now H c.args.c c.args.n Idle k.0 refl)
 
@@ -50,7 +54,7 @@ use_lent-requires-clause-due c =
     let n = c.args.n in
     let e : past c.lend.new.self ≡ lent_to H k n = rw (c.lend.ensures.event, c.next_tenure-tenure.ensures) refl in
     let m : Lawful (lent_to H k n) = rw (c.lend.ensures.event, c.next_tenure-tenure.ensures) at (lawful_of _ c.lend.ensures.stands) in
-    let f = first_fresh H k n (asked_of c.args.statement) (lawful_of _ c.requires.stands) c.requires.settled m c.requires.statement in
+    let f = first_fresh H k n (asked_of c.args.statement) (lawful_of _ c.requires.pays.stands) c.requires.settled m c.requires.statement in
     let g = subst
     (λ (K : List Event).
     cond (is_reset_due K k) (Some Reset) (body_after (caps K) (asked_of c.args.statement) (wish K n) (made K k)) ≡ due K k (next_tenure H k) n)
@@ -60,7 +64,7 @@ use_lent-requires-clause-due c =
 pub use_lent-requires-clause-bad : goal.use_lent-requires-clause-bad
 use_lent-requires-clause-bad c = λ none.
     let H = past c.args.self.now in
-    let l : Lawful H = lawful_of _ c.requires.stands in
+    let l : Lawful H = lawful_of _ c.requires.pays.stands in
     let k = idle_latest H c.args.c l c.requires.latest in
     let m : Lawful (lent_to H c.args.c c.args.n) = rw (c.lend.ensures.event, c.next_tenure-tenure.ensures) at (lawful_of _ c.lend.ensures.stands) in
     let g = good_fresh (lent_to H c.args.c c.args.n) c.args.c (next_tenure H c.args.c) c.args.n m (lent_now H c.args.c c.args.n Idle k.0 refl) (fresh_lending H c.args.c (next_tenure H c.args.c) c.args.n m) in
@@ -69,7 +73,7 @@ use_lent-requires-clause-bad c = λ none.
 pub use_lent-requires-clause-invalid : goal.use_lent-requires-clause-invalid
 use_lent-requires-clause-invalid c = λ none.
     let H = past c.args.self.now in
-    let l : Lawful H = lawful_of _ c.requires.stands in
+    let l : Lawful H = lawful_of _ c.requires.pays.stands in
     let k = idle_latest H c.args.c l c.requires.latest in
     let m : Lawful (lent_to H c.args.c c.args.n) = rw (c.lend.ensures.event, c.next_tenure-tenure.ensures) at (lawful_of _ c.lend.ensures.stands) in
     let g = good_fresh (lent_to H c.args.c c.args.n) c.args.c (next_tenure H c.args.c) c.args.n m (lent_now H c.args.c c.args.n Idle k.0 refl) (fresh_lending H c.args.c (next_tenure H c.args.c) c.args.n m) in

@@ -1,4 +1,4 @@
-use Rattle.std.proofs.Common.{◌≡◌, refl, ◌∷◌, true, false, sym, ◌∙◌}
+use Rattle.std.proofs.Common.{rules, ◌≡◌, refl, ◌∷◌, true, false, sym, ◌∙◌}
 use Rattle.dsql_history.specs.Rules.Causes.{cause}
 use Rattle.dsql_history.specs.Rules.Line.{is_kept_by_rows}
 use Rattle.dsql_engine.specs.Desk.{past, lawful_of}
@@ -9,69 +9,70 @@ use Rattle.dsql_engine.proofs.desk.Desk.use_lent.Goals as goal
 
 pub finish-requires-clause-decided : goal.finish-requires-clause-decided
 finish-requires-clause-decided c =
-    decided_kept (past c.args.self.now) c.args.c c.args.tenure c.args.n c.sender-m.result (lawful_of _ c.requires.stands) c.requires.lent (sym c.requires.due ∙ c.in-None.is) c.sender-m.ensures
+    decided_kept (past c.args.self.now) c.args.c c.args.tenure c.args.n c.sender-m.result (lawful_of _ c.requires.pays.stands) c.requires.lent (sym c.requires.due ∙ c.in-None.is) c.sender-m.ensures
 
 pub finish-requires-clause-allowed : goal.finish-requires-clause-allowed
 finish-requires-clause-allowed c = λ r some due.
     let H = past c.args.self.now in
-    let l = lawful_of _ c.requires.stands in
+    let l = lawful_of _ c.requires.pays.stands in
     let kept : is_kept_by_rows H c.args.c c.args.tenure c.args.n ≡ true = sym (kept_by H c.args.c c.args.tenure c.args.n l c.requires.lent) ∙ (sym c.is_kept.ensures ∙ c.if-is_kept.true) in
     allowed_kept H c.args.c c.args.tenure c.args.n c.sender-m.result r l c.requires.settled c.requires.lent kept c.sender-m.ensures some due
 
 pub leave-requires-clause-kept : goal.leave-requires-clause-kept
 leave-requires-clause-kept c =
-    sym (kept_by (past c.args.self.now) c.args.c c.args.tenure c.args.n (lawful_of _ c.requires.stands) c.requires.lent) ∙ (sym c.is_kept.ensures ∙ c.if-is_kept.false)
+    sym (kept_by (past c.args.self.now) c.args.c c.args.tenure c.args.n (lawful_of _ c.requires.pays.stands) c.requires.lent) ∙ (sym c.is_kept.ensures ∙ c.if-is_kept.false)
 
 pub finish-requires-in-None-2-clause-decided : goal.finish-requires-in-None-2-clause-decided
 finish-requires-in-None-2-clause-decided c =
     let H = past c.args.self.now in
     let k = cause H c.args.c in
     let f = left_by H c.args.c c.args.tenure _ k c.requires.settled c.requires.lent refl in
-    rw c.leave.ensures.group
-    (decided_left H (leaving c.args.c k ∷ H) c.args.c c.args.tenure c.args.n c.sender-m.result (lawful_of _ c.requires.stands) c.requires.lent f (sym c.requires.due ∙ c.in-None.is) c.sender-m.ensures)
+    rw c.leave.ensures.event
+    (decided_left H (leaving c.args.c k ∷ H) c.args.c c.args.tenure c.args.n c.sender-m.result (lawful_of _ c.requires.pays.stands) c.requires.lent f (sym c.requires.due ∙ c.in-None.is) c.sender-m.ensures)
 
 pub finish-requires-in-None-2-clause-allowed : goal.finish-requires-in-None-2-clause-allowed
 finish-requires-in-None-2-clause-allowed c =
     let H = past c.args.self.now in
     let k = cause H c.args.c in
     let f = left_by H c.args.c c.args.tenure _ k c.requires.settled c.requires.lent refl in
-    rw c.leave.ensures.group
+    rw c.leave.ensures.event
     (λ r some due.
-    allowed_left H (leaving c.args.c k ∷ H) c.args.c c.args.tenure c.args.n c.sender-m.result r (lawful_of _ c.requires.stands) c.requires.lent f c.sender-m.ensures some due)
+    allowed_left H (leaving c.args.c k ∷ H) c.args.c c.args.tenure c.args.n c.sender-m.result r (lawful_of _ c.requires.pays.stands) c.requires.lent f c.sender-m.ensures some due)
 
-pub returns-in-Some-clause-settled : goal.returns-in-Some-clause-settled
-returns-in-Some-clause-settled c =
-    settled_due (past c.args.self.now) c.args.c c.args.tenure c.args.n c.in-Some.call (lawful_of _ c.requires.stands) c.requires.settled c.requires.lent (sym c.requires.due ∙ c.in-Some.is)
+pub returns-in-Some-clause-reaches : goal.returns-in-Some-clause-reaches
+returns-in-Some-clause-reaches c = record {
+  stands = search rules;
+  settled = settled_due (past c.args.self.now) c.args.c c.args.tenure c.args.n c.in-Some.call (lawful_of _ c.requires.pays.stands) c.requires.settled c.requires.lent (sym c.requires.due ∙ c.in-Some.is);
+  group = search rules;
+}
 
-pub returns-in-None-clause-settled : goal.returns-in-None-clause-settled
-returns-in-None-clause-settled c =
-    let H = past c.args.self.now in
-    let l = lawful_of _ c.requires.stands in
-    let kept : is_kept_by_rows H c.args.c c.args.tenure c.args.n ≡ true = sym (kept_by H c.args.c c.args.tenure c.args.n l c.requires.lent) ∙ (sym c.is_kept.ensures ∙ c.if-is_kept.true) in
-    let m = rw c.finish.ensures.group at (lawful_of _ c.finish.ensures.stands) in
-    rw c.finish.ensures.group
-    (settled_finish_kept H c.args.c c.args.tenure c.args.n c.sender-m.result l c.requires.settled c.requires.lent (sym c.requires.due ∙ c.in-None.is) kept c.sender-m.ensures m)
+pub returns-in-None-clause-reaches : goal.returns-in-None-clause-reaches
+returns-in-None-clause-reaches c = record {
+  stands = search rules;
+  settled = (let H = past c.args.self.now in
+      let l = lawful_of _ c.requires.pays.stands in
+      let kept : is_kept_by_rows H c.args.c c.args.tenure c.args.n ≡ true = sym (kept_by H c.args.c c.args.tenure c.args.n l c.requires.lent) ∙ (sym c.is_kept.ensures ∙ c.if-is_kept.true) in
+      let m = rw c.finish.ensures.group at (lawful_of _ c.finish.ensures.stands) in
+      rw c.finish.ensures.group
+      (settled_finish_kept H c.args.c c.args.tenure c.args.n c.sender-m.result l c.requires.settled c.requires.lent (sym c.requires.due ∙ c.in-None.is) kept c.sender-m.ensures m));
+  group = (let H = past c.args.self.now in
+      let l = lawful_of _ c.requires.pays.stands in
+      let kept : is_kept_by_rows H c.args.c c.args.tenure c.args.n ≡ true = sym (kept_by H c.args.c c.args.tenure c.args.n l c.requires.lent) ∙ (sym c.is_kept.ensures ∙ c.if-is_kept.true) in
+      c.finish.ensures.group ∙ after_kept H c.args.c c.args.tenure c.args.n c.sender-m.result (sym c.requires.due ∙ c.in-None.is) kept c.sender-m.ensures);
+}
 
-pub returns-in-None-clause-group : goal.returns-in-None-clause-group
-returns-in-None-clause-group c =
-    let H = past c.args.self.now in
-    let l = lawful_of _ c.requires.stands in
-    let kept : is_kept_by_rows H c.args.c c.args.tenure c.args.n ≡ true = sym (kept_by H c.args.c c.args.tenure c.args.n l c.requires.lent) ∙ (sym c.is_kept.ensures ∙ c.if-is_kept.true) in
-    c.finish.ensures.group ∙ after_kept H c.args.c c.args.tenure c.args.n c.sender-m.result (sym c.requires.due ∙ c.in-None.is) kept c.sender-m.ensures
-
-pub returns-in-None-2-clause-settled : goal.returns-in-None-2-clause-settled
-returns-in-None-2-clause-settled c =
-    let H = past c.args.self.now in
-    let k = cause H c.args.c in
-    let f = left_by H c.args.c c.args.tenure _ k c.requires.settled c.requires.lent refl in
-    let m = rw (c.finish-in-None-2.ensures.group, c.leave.ensures.group) at (lawful_of _ c.finish-in-None-2.ensures.stands) in
-    rw (c.finish-in-None-2.ensures.group, c.leave.ensures.group)
-    (settled_finish_left H (leaving c.args.c k ∷ H) c.args.c c.args.tenure c.args.n c.sender-m.result (lawful_of _ c.requires.stands) c.requires.settled c.requires.alone c.requires.lent f
-    (sym c.requires.due ∙ c.in-None.is) c.sender-m.ensures m)
-
-pub returns-in-None-2-clause-group : goal.returns-in-None-2-clause-group
-returns-in-None-2-clause-group c =
-    let H = past c.args.self.now in
-    let l = lawful_of _ c.requires.stands in
-    let free : is_kept_by_rows H c.args.c c.args.tenure c.args.n ≡ false = sym (kept_by H c.args.c c.args.tenure c.args.n l c.requires.lent) ∙ (sym c.is_kept.ensures ∙ c.if-is_kept.false) in
-    c.finish-in-None-2.ensures.group ∙ (rw c.leave.ensures.group (after_left H c.args.c c.args.tenure c.args.n c.sender-m.result (sym c.requires.due ∙ c.in-None.is) free c.sender-m.ensures))
+pub returns-in-None-2-clause-reaches : goal.returns-in-None-2-clause-reaches
+returns-in-None-2-clause-reaches c = record {
+  stands = search rules;
+  settled = (let H = past c.args.self.now in
+      let k = cause H c.args.c in
+      let f = left_by H c.args.c c.args.tenure _ k c.requires.settled c.requires.lent refl in
+      let m = rw (c.finish-in-None-2.ensures.group, c.leave.ensures.event) at (lawful_of _ c.finish-in-None-2.ensures.stands) in
+      rw (c.finish-in-None-2.ensures.group, c.leave.ensures.event)
+      (settled_finish_left H (leaving c.args.c k ∷ H) c.args.c c.args.tenure c.args.n c.sender-m.result (lawful_of _ c.requires.pays.stands) c.requires.settled c.requires.alone c.requires.lent f
+      (sym c.requires.due ∙ c.in-None.is) c.sender-m.ensures m));
+  group = (let H = past c.args.self.now in
+      let l = lawful_of _ c.requires.pays.stands in
+      let free : is_kept_by_rows H c.args.c c.args.tenure c.args.n ≡ false = sym (kept_by H c.args.c c.args.tenure c.args.n l c.requires.lent) ∙ (sym c.is_kept.ensures ∙ c.if-is_kept.false) in
+      c.finish-in-None-2.ensures.group ∙ (rw c.leave.ensures.event (after_left H c.args.c c.args.tenure c.args.n c.sender-m.result (sym c.requires.due ∙ c.in-None.is) free c.sender-m.ensures)));
+}

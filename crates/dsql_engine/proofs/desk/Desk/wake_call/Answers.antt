@@ -10,4 +10,4 @@ pub wake_lent-requires-clause-lent : goal.wake_lent-requires-clause-lent
 wake_lent-requires-clause-lent c =
     let H = past c.args.self.now in
     let at : place H (home H c.args.n) ≡ Lent c.in-Lent.tenure c.in-Lent.field-1 = ap (λ (k : ℕ). place H k) (sym c.home-c.ensures) ∙ (sym c.place.ensures ∙ c.in-Lent.is) in
-    rw c.home-c.ensures (woken_owner H c.args.n c.in-Lent.tenure c.in-Lent.field-1 (lawful_of _ c.requires.stands) c.requires.settled c.requires.unfinished c.requires.asks at)
+    rw c.home-c.ensures (woken_owner H c.args.n c.in-Lent.tenure c.in-Lent.field-1 (lawful_of _ c.requires.pays.stands) c.requires.settled c.requires.unfinished c.requires.asks at)

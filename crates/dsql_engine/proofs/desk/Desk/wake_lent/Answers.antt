@@ -7,15 +7,15 @@ use Rattle.dsql_engine.proofs.desk.Desk.wake_lent.Goals as goal
 
 pub use_lent-requires-clause-bad : goal.use_lent-requires-clause-bad
 use_lent-requires-clause-bad c = λ none.
-    let g = good_when_fresh (past c.args.self.now) c.args.c c.args.tenure c.args.n (lawful_of _ c.requires.stands) c.requires.lent c.requires.fresh in sym g.0
+    let g = good_when_fresh (past c.args.self.now) c.args.c c.args.tenure c.args.n (lawful_of _ c.requires.pays.stands) c.requires.lent c.requires.fresh in sym g.0
 
 pub use_lent-requires-clause-invalid : goal.use_lent-requires-clause-invalid
 use_lent-requires-clause-invalid c = λ none.
-    let g = good_when_fresh (past c.args.self.now) c.args.c c.args.tenure c.args.n (lawful_of _ c.requires.stands) c.requires.lent c.requires.fresh in sym g.1
+    let g = good_when_fresh (past c.args.self.now) c.args.c c.args.tenure c.args.n (lawful_of _ c.requires.pays.stands) c.requires.lent c.requires.fresh in sym g.1
 
 pub use_lent-requires-clause-due : goal.use_lent-requires-clause-due
 use_lent-requires-clause-due c =
-    let d = due_parked (past c.args.self.now) c.args.c c.args.tenure c.args.n (lawful_of _ c.requires.stands) c.requires.lent c.requires.fresh in
+    let d = due_parked (past c.args.self.now) c.args.c c.args.tenure c.args.n (lawful_of _ c.requires.pays.stands) c.requires.lent c.requires.fresh in
     c.first_call_on-next.ensures ∙ rw c.requires.statement (sym d)
 
 pub use_lent-requires-clause-settled : goal.use_lent-requires-clause-settled

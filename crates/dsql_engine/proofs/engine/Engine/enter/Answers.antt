@@ -25,4 +25,4 @@ invariant_of-self-2 c =
     let turns : TakesTurns H = rw c.pay.ensures.past c.self.invariant.3 in
     let settled : Settled H = rw c.pay.ensures.past c.self.invariant.1 in
     let turn : takes_turn H c.args.op ≡ true = rw (c.pay.ensures.past, c.self.view_is) c.requires.turn in
-    (c.enter_call.ensures.stands, c.enter_call.ensures.settled, c.enter_call.ensures.begun, rw c.enter_call.ensures.group (turns_entered H c.args.client c.args.op (lawful_of _ c.pay.ensures.stands) settled turn turns))
+    (c.enter_call.ensures.reaches.stands, c.enter_call.ensures.reaches.settled, c.enter_call.ensures.begun, rw c.enter_call.ensures.reaches.group (turns_entered H c.args.client c.args.op (lawful_of _ c.pay.ensures.stands) settled turn turns))

@@ -13,8 +13,8 @@ hear_answer-requires-clause-turns c = rw c.ready_for.ensures.past c.self.invaria
 pub invariant_of-self : goal.invariant_of-self
 invariant_of-self c =
     let turns : TakesTurns (past c.ready_for.new.self) = rw c.ready_for.ensures.past c.self.invariant.3 in (
-      c.hear_answer.ensures.stands,
-      c.hear_answer.ensures.settled,
-      rw c.hear_answer.ensures.group (begun_heard (past c.ready_for.new.self) c.into_entry.result),
-      rw c.hear_answer.ensures.group (turns_heard (past c.ready_for.new.self) c.into_entry.result turns),
+      c.hear_answer.ensures.reaches.stands,
+      c.hear_answer.ensures.reaches.settled,
+      rw c.hear_answer.ensures.reaches.group (begun_heard (past c.ready_for.new.self) c.into_entry.result),
+      rw c.hear_answer.ensures.reaches.group (turns_heard (past c.ready_for.new.self) c.into_entry.result turns),
     )
