@@ -36,9 +36,9 @@ use Rattle.dsql_laws.proofs.SoundLines.{sound_journals, lent_for}
 use Rattle.dsql_laws.proofs.Standing.{good_now}
 use Rattle.dsql_laws.proofs.JournalLaws.{fresh_lending}
 use Rattle.dsql_engine.specs.Freshly.{Freshly}
-use Rattle.dsql_engine.specs.Latest.{latest}
+use Rattle.dsql_desk.specs.Latest.{latest}
 use Rattle.dsql_engine.specs.Turns.{SettledBut, IsAlone}
-use Rattle.dsql_engine.specs.Made.{all_made, made}
+use Rattle.dsql_desk.specs.Made.{all_made, made}
 use Rattle.dsql_engine.specs.Groups.{lent_to}
 use Rattle.dsql_engine.proofs.Basics.{not_first, follows_placed, all_of}
 use Rattle.dsql_engine.proofs.Moving.{row_of, some_number, few_without, none_without}

@@ -37,7 +37,7 @@ use Rattle.dsql_laws.proofs.SoundLines.{sound_made, lent_for}
 use Rattle.dsql_laws.proofs.SoundRows.{sound_rows}
 use Rattle.dsql_laws.proofs.HandedLines.{Works}
 use Rattle.dsql_laws.proofs.LentRows.{SoundRows, AtWork, sender_is, work_due, cursor_there}
-use Rattle.dsql_engine.specs.Made.{made}
+use Rattle.dsql_desk.specs.Made.{made}
 use Rattle.dsql_engine.specs.Turns.{SettledBut, IsAlone}
 use Rattle.dsql_engine.proofs.Basics.{all_of}
 use Rattle.dsql_engine.proofs.Moving.{some_number}

@@ -27,7 +27,8 @@ use Rattle.dsql_cancel.specs.declared.token.Cause.{Cause}
 use Rattle.dsql_cancel.specs.declared.token.Cause.TheVariants as causes
 use Rattle.dsql_rows.specs.declared.end.RowsOver.{RowsOver}
 use Rattle.dsql_rows.specs.declared.end.RowsOver.TheVariants as overs
-use Rattle.dsql_engine.specs.Groups.{told, reply_as}
+use Rattle.dsql_engine.specs.Groups.{told}
+use Rattle.dsql_desk.specs.Told.{reply_as}
 use Rattle.dsql_driver.specs.Fits.{fits_of, is_memory}
 use Rattle.dsql_journal.specs.HandlesAndCursors.{fits_at_its_place, is_heard, is_fitting, gives_new_handle, gives_new_cursor, has_width_of_cursor}
 use Rattle.dsql_journal.proofs.Conjunctions.{parts5}

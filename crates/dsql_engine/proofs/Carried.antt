@@ -22,7 +22,8 @@ use Rattle.dsql_history.specs.Rules.Causes.{cause}
 use Rattle.dsql_history.specs.Rules.Limit.{room}
 use Rattle.dsql_history.specs.Rules.Line.{due, is_kept_by_rows}
 use Rattle.dsql_engine.specs.declared.next.Next.{Next}
-use Rattle.dsql_engine.specs.Groups.{after_using, after_body, after_ask, after_use_at, after_going, after_answer, after_heard, after_end, closings, leaving, left_by, lent_to, told, told_by, reply_as}
+use Rattle.dsql_engine.specs.Groups.{after_using, after_body, after_ask, after_use_at, after_going, after_answer, after_heard, after_end, closings, leaving, left_by, lent_to, told, told_by}
+use Rattle.dsql_desk.specs.Told.{reply_as}
 use Rattle.dsql_engine.specs.Steps.{NextOfWake}
 
 -- it holds on after each move and each reply

@@ -12,7 +12,7 @@ use Rattle.dsql_history.specs.Readers.Calls.{sender}
 use Rattle.dsql_history.specs.Rules.Line.{due}
 use Rattle.dsql_history.specs.Rules.House.{tidy_due, shut_due, connect_due}
 use Rattle.dsql_engine.specs.Awaited.{awaited, awaited_at, chore_due, call_permit, shut_permit, connect_permit}
-use Rattle.dsql_engine.proofs.Counts.{first_passes}
+use Rattle.dsql_desk.proofs.Counts.{first_passes}
 
 closing_is : (p : Place) → is_closing p ≡ true → p ≡ Closing
 closing_is Closing h = refl

@@ -26,7 +26,7 @@ use Rattle.dsql_history.specs.declared.event.CloseCause.TheVariants.{DbClosed}
 use Rattle.dsql_history.specs.Rules.Causes.{is_at_end}
 use Rattle.dsql_history.specs.Rules.House.{is_quiet, has_no_chore}
 use Rattle.dsql_engine.specs.Groups.{closings}
-use Rattle.dsql_engine.specs.Latest.{oldest}
+use Rattle.dsql_desk.specs.Latest.{oldest}
 use Rattle.dsql_engine.proofs.Basics.{not_first, follows_placed, all_places}
 use Rattle.dsql_engine.proofs.Using.{kept_in_use}
 use Rattle.dsql_engine.proofs.Leaving.{use_close}

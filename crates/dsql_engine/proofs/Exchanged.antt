@@ -21,7 +21,7 @@ use Rattle.dsql_laws.proofs.SoundCalls.{lend_facts, owner_of}
 use Rattle.dsql_laws.proofs.SoundJournals.{heard_facts}
 use Rattle.dsql_laws.proofs.SoundLines.{placed, tenure_of, heard_here, heard_off}
 use Rattle.dsql_laws.proofs.JournalLaws.{fresh_lending}
-use Rattle.dsql_engine.specs.Made.{all_made, made}
+use Rattle.dsql_desk.specs.Made.{all_made, made}
 
 row_when : (H : List Event) (c : ℕ) (p : Place) → (c < length (places H)) ⊎ ((length (places H) ≤ c) × (get_or (places H) c Nowhere ≡ Nowhere)) → place H c ≡ p → is_open p ≡ true → c < length (places H)
 row_when H c p (inl l) is there = l

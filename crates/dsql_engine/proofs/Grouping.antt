@@ -16,7 +16,7 @@ use Rattle.dsql_history.specs.Readers.Calls.{home, next_call, told_at_entry, use
 use Rattle.dsql_history.specs.Rules.Limit.{room}
 use Rattle.dsql_history.specs.Legal.{Lawful}
 use Rattle.dsql_engine.specs.declared.next.Next.{Next}
-use Rattle.dsql_engine.specs.Latest.{latest}
+use Rattle.dsql_desk.specs.Latest.{latest}
 use Rattle.dsql_engine.specs.Groups.{after_enter, after_entry, after_going, after_ask, after_use_at, after_using, lent_to}
 use Rattle.dsql_engine.specs.Steps.{NextAfterEnter, NextAfterEntry, NextAfterGoing, NextAfterAsk, NextOfUse, NextOfRows}
 use Rattle.dsql_engine.proofs.Carried.{begun_going}

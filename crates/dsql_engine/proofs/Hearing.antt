@@ -51,8 +51,8 @@ use Rattle.dsql_laws.proofs.HeardRows.{heard_other}
 use Rattle.dsql_laws.proofs.JournalLaws.{good_while_due, follows_due}
 use Rattle.dsql_laws.proofs.Workers.{Sender, Itself, Nobody, Fetches, Closes, sender_of, zero_work}
 use Rattle.dsql_engine.specs.Awaited.{call_permit}
-use Rattle.dsql_engine.specs.Made.{made}
-use Rattle.dsql_engine.specs.Rows.{HearsRows}
+use Rattle.dsql_desk.specs.Made.{made}
+use Rattle.dsql_desk.specs.Rows.{HearsRows}
 use Rattle.dsql_engine.specs.Turns.{SettledBut}
 use Rattle.dsql_engine.proofs.Exchanged.{made_lent}
 use Rattle.dsql_engine.proofs.Keeping.{line_later}

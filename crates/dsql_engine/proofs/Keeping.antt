@@ -14,7 +14,7 @@ use Rattle.dsql_history.specs.Readers.Works.{work}
 use Rattle.dsql_history.specs.Readers.Exchanges.{exchanges}
 use Rattle.dsql_history.specs.Rules.Line.{Asked, aim_of, wish, keeps_rows, is_kept_by_rows, line_after, body_after}
 use Rattle.dsql_history.specs.Legal.{Lawful}
-use Rattle.dsql_engine.specs.Made.{made}
+use Rattle.dsql_desk.specs.Made.{made}
 use Rattle.dsql_engine.proofs.Exchanged.{made_lent}
 
 -- nothing was heard yet

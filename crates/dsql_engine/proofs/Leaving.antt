@@ -23,7 +23,7 @@ use Rattle.dsql_history.specs.Readers.Journals.{journal, ends_invalid}
 use Rattle.dsql_history.specs.Readers.Works.{works, user_of}
 use Rattle.dsql_history.specs.Readers.Unfinished.{unfinished, is_unfinished}
 use Rattle.dsql_history.specs.Readers.Calls.{calls, home, nobody, reply_due, sender, user}
-use Rattle.dsql_history.specs.Rules.Causes.{cause, cause_when, is_cause}
+use Rattle.dsql_history.specs.Rules.Causes.{cause, cause_when, is_cause, idle_limit}
 use Rattle.dsql_history.specs.Rules.Line.{due, is_kept_by_rows}
 use Rattle.dsql_history.specs.Rules.Replies.{is_done_on, has_let_go}
 use Rattle.dsql_history.specs.Rules.Settled.{Settled, is_placed, is_in_use, is_under_way, keeps_idle_limit}
@@ -83,7 +83,7 @@ may_close H c t n why l s is none free for = record {
 }
 
 -- a connection that is given back leaves an idle list with room, of a run that goes on
-kept_when : (bad invalid closed : Bool) (k : ℕ) → cause_when bad invalid closed k ≡ None → (closed ≡ false) × (k < 2)
+kept_when : (bad invalid closed : Bool) (k : ℕ) → cause_when bad invalid closed k ≡ None → (closed ≡ false) × (k < idle_limit)
 kept_when true invalid closed k h = absurd cc
 kept_when false true closed k h = absurd cc
 kept_when false false true k h = absurd cc
@@ -100,7 +100,7 @@ pub record Left (H : List Event) (c : ℕ) (G : List Event) : Type 0 where
   pub others : (d : ℕ) → d ≢ c → place G d ≡ place H d
   pub begun : is_empty G ≡ false
   pub placed : is_placed G ≡ true
-  pub few : length (idle G) ≤ 2
+  pub few : length (idle G) ≤ idle_limit
   pub closed : has_ended G ≡ true → idle G ≡ []
 
 row_there : (H : List Event) (c t : ℕ) (o : Owner) → place H c ≡ Lent t o → c < length (places H)
@@ -109,7 +109,7 @@ row_there H c t o is = grind (arith, within_rows (places H) c Nowhere)
 without_none : (c : ℕ) (ns : List ℕ) → ns ≡ [] → without c ns ≡ []
 without_none c ns h = rw h refl
 
-few_of : (H : List Event) (c : ℕ) → SettledBut H c → length (idle H) ≤ 2
+few_of : (H : List Event) (c : ℕ) → SettledBut H c → length (idle H) ≤ idle_limit
 few_of H c s = grind (arith, nat_tests, s.few)
 
 none_idle : (H : List Event) (c : ℕ) → SettledBut H c → has_ended H ≡ true → idle H ≡ []
@@ -265,7 +265,7 @@ way_left H G c t n j s is f u apart =
     way_as H G j (ap (λ (ws : List Work). user_of (get_or ws j Look) j) f.same_works) (ap (λ (cs : List CallRecord). (get_or cs (user H j) nobody).home) f.same_calls)
     (f.others (home H (user H j)) off) (ap (λ x. is_some x) (same_due H G c j f)) before
 
-few_left : (G : List Event) → length (idle G) ≤ 2 → keeps_idle_limit G ≡ true
+few_left : (G : List Event) → length (idle G) ≤ idle_limit → keeps_idle_limit G ≡ true
 few_left G few = grind (arith, nat_tests, few)
 
 closed_or : (b : Bool) (ns : List ℕ) → (b ≡ true → ns ≡ []) → (not b || is_empty ns) ≡ true

@@ -1,6 +1,3 @@
-pub mod Labelled
-pub mod Closing
-pub mod Counts
 pub mod Basics
 pub mod Using
 pub mod Carried
@@ -18,12 +15,7 @@ pub mod Waking
 pub mod Ending
 pub mod Legality
 pub mod Chores
-pub mod Workers
-pub mod House
-pub mod CloseAtEntry
-pub mod Beside
 pub mod Entered
 pub mod Grouping
 pub mod AtOnce
 pub mod AtRows
-pub mod Open

@@ -2,6 +2,7 @@
 use Rattle.std.proofs.Common.{◌≡◌, ◌≢◌, ℕ, ◌<◌, ◌≤◌, ◌⊎◌, inl, inr, Bool, true, false, not, ◌||◌, nat_le, List, [], ◌∷◌, length, get_or, refl, arith, ap, sym, ◌∙◌}
 use Rattle.std.proofs.lemmas.Bool.Decides.{nat_tests}
 use Rattle.dsql_journal.specs.Readers.{is_empty}
+use Rattle.dsql_history.specs.Rules.Causes.{idle_limit}
 use Rattle.dsql_history.specs.declared.event.Event.{Event}
 use Rattle.dsql_history.specs.declared.record.Place.{Place}
 use Rattle.dsql_history.specs.declared.record.Place.TheVariants.{Nowhere}
@@ -31,7 +32,7 @@ pub closed_or : (b : Bool) (ns : List ℕ) → (b ≡ true → ns ≡ []) → (n
 closed_or false ns h = refl
 closed_or true ns h = rw (h refl) refl
 
-pub few_of : (H : List Event) → keeps_idle_limit H ≡ true → length (idle H) ≤ 2
+pub few_of : (H : List Event) → keeps_idle_limit H ≡ true → length (idle H) ≤ idle_limit
 few_of H f = grind (arith, nat_tests, f)
 
 none_when : (b : Bool) (ns : List ℕ) → (not b || is_empty ns) ≡ true → b ≡ true → ns ≡ []
@@ -45,7 +46,7 @@ pub without_none : (c : ℕ) (ns : List ℕ) → ns ≡ [] → without c ns ≡ 
 without_none c ns h = rw h refl
 
 -- a connection is taken out of the idle ones, if it was among them
-pub few_without : (H : List Event) (c : ℕ) → keeps_idle_limit H ≡ true → nat_le (length (without c (idle H))) 2 ≡ true
+pub few_without : (H : List Event) (c : ℕ) → keeps_idle_limit H ≡ true → nat_le (length (without c (idle H))) idle_limit ≡ true
 few_without H c f = grind (arith, nat_tests, few_of H f, length-without c (idle H))
 
 pub none_without : (H : List Event) (c : ℕ) → is_empty_when_closed H ≡ true → (not (has_ended H) || is_empty (without c (idle H))) ≡ true

@@ -32,8 +32,8 @@ use Rattle.dsql_laws.proofs.SoundLines.{lent_for}
 use Rattle.dsql_laws.proofs.SoundRows.{sound_rows}
 use Rattle.dsql_laws.proofs.HandedLines.{cursor_of}
 use Rattle.dsql_engine.specs.Awaited.{awaited, awaited_at, call_permit}
-use Rattle.dsql_engine.specs.Made.{made}
-use Rattle.dsql_engine.proofs.Counts.{first_passes}
+use Rattle.dsql_desk.specs.Made.{made}
+use Rattle.dsql_desk.proofs.Counts.{first_passes}
 use Rattle.dsql_engine.proofs.Exchanged.{made_lent}
 use Rattle.dsql_engine.proofs.Using.{used_at}
 

@@ -22,7 +22,7 @@ use Rattle.dsql_history.specs.Rules.Settled.{Settled, is_in_use, has_way}
 use Rattle.dsql_history.specs.Legal.{Allowed, Lawful}
 use Rattle.dsql_laws.proofs.Rows.{same_number, same_to_itself}
 use Rattle.dsql_laws.proofs.SoundCalls.{sound_calls, owner_of}
-use Rattle.dsql_engine.specs.Made.{made}
+use Rattle.dsql_desk.specs.Made.{made}
 use Rattle.dsql_engine.proofs.Exchanged.{made_lent}
 use Rattle.dsql_engine.proofs.Keeping.{line_first}
 use Rattle.dsql_engine.proofs.Basics.{may_reply, way_of}

@@ -1,5 +1,5 @@
 -- The events of one step, in their order. A history is newest first, so the last event of a step stands leftmost.
-use Rattle.std.specs.Prelude.{ℕ, ◌==◌, nat_lt, Bool, true, false, cond, List, [], ◌∷◌, Option, Some, None, find}
+use Rattle.std.specs.Prelude.{ℕ, ◌==◌, nat_lt, Bool, true, false, cond, List, [], ◌∷◌, Option, Some, None}
 use Rattle.dsql_driver.specs.declared.call.DriverCall.{DriverCall}
 use Rattle.dsql_driver.specs.Fits.{is_done}
 use Rattle.dsql_journal.specs.declared.entry.Entry.{Entry}
@@ -16,22 +16,18 @@ use Rattle.dsql_history.specs.declared.reply.Reply.{Reply}
 use Rattle.dsql_history.specs.declared.reply.Reply.TheVariants.{TooMany}
 use Rattle.dsql_history.specs.Readers.Lists.{last}
 use Rattle.dsql_history.specs.Readers.Sets.{place, idle, next_number, next_tenure, open_count}
-use Rattle.dsql_history.specs.Readers.Calls.{call_record, home, next_call, reply_due, told_at_entry, sender, user}
-use Rattle.dsql_history.specs.Readers.Unfinished.{unfinished}
+use Rattle.dsql_history.specs.Readers.Calls.{home, next_call, reply_due, told_at_entry, sender, user}
 use Rattle.dsql_history.specs.Readers.Works.{work, asks}
 use Rattle.dsql_history.specs.Rules.Causes.{cause}
 use Rattle.dsql_history.specs.Rules.Limit.{room}
 use Rattle.dsql_history.specs.Rules.Line.{due, is_kept_by_rows}
+pub use Rattle.dsql_desk.specs.Clients.{call_of}
+pub use Rattle.dsql_desk.specs.Told.{reply_as}
 
 -- a lent connection is given back, or closes
 abbrev pub leaving : ℕ → Option CloseCause → Event
 leaving c None = Pool (Back c)
 leaving c (Some why) = Pool (CloseStart c why)
-
--- what a call replies: what is settled, or else that it asked in vain
-abbrev pub reply_as : Option Reply → Reply
-reply_as (Some reply) = reply
-reply_as None = TooMany
 
 abbrev pub told : ℕ → List Event → List Event
 told n past = Replied n (reply_as (reply_due past n)) ∷ past
@@ -97,10 +93,6 @@ after_answer _ e past = past
 abbrev pub after_heard : List Event → Entry → List Event
 after_heard past e = after_answer (place past e.conn) e (Heard e ∷ past)
 
--- the unfinished call of a client
-abbrev pub call_of : List Event → ℕ → Option ℕ
-call_of past client = find (λ n. (call_record past n).client == client) (unfinished past)
-
 -- the idle connections begin to close, in this order
 abbrev pub closings : List ℕ → List Event → List Event
 closings [] past = past
@@ -113,10 +105,6 @@ after_end past = closings (idle past) (Ended ∷ past)
 -- a run stops at so many events
 abbrev pub most_events : ℕ
 most_events = 4000000
-
--- the steps are proved where there are fewer than these, so that what one appends still counts
-abbrev pub most_within_a_step : ℕ
-most_within_a_step = 5000000
 
 -- a step but the last appends no more than these
 abbrev pub events_of_a_step : ℕ

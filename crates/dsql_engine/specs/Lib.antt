@@ -1,14 +1,8 @@
-pub mod Labels
 pub mod Freshly
 pub mod Turns
-pub mod Latest
-pub mod Made
-pub mod Open
-pub mod Told
-pub mod Rows
-pub mod Statements
-pub mod Desk
 pub mod Awaited
-pub mod Appending
 pub mod Groups
+pub mod Reaching
+pub mod Entering
+pub mod Hearing
 pub mod Steps

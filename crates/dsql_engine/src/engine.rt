@@ -8,8 +8,13 @@ ghost use Rattle.dsql_history.specs.Rules.House.{is_quiet};
 ghost use Rattle.dsql_history.specs.Rules.Numbers.{takes_turn};
 ghost use Rattle.dsql_history.specs.declared.event.Event.TheVariants.{Run};
 
-use crate::desk::Desk;
-use crate::next::{HeardBack, Next, NoRoom};
+use crate::end::end_run;
+use crate::enter::enter_call;
+use crate::hear::{hear_answer, ready_for};
+use crate::next::{EVENTS_OF_A_STEP, HeardBack, Next};
+use crate::permits::{connect_permit, shut_permit, tidy_permit};
+use crate::wake::wake_call;
+use dsql_desk::{Desk, NoRoom};
 use dsql_driver::Caps;
 use dsql_history::{Event, Op};
 use dsql_wire::Heard;
@@ -18,6 +23,9 @@ use std::marker::Model;
 
 /// How many events a run may have.
 const MAX_EVENTS: usize = 4_000_000;
+
+/// The most events of the run's end: the end itself, and a close for each idle connection.
+const EVENTS_OF_THE_END: u32 = 3;
 
 /// A run of the layer. Contracts see it as its history, the newest event first.
 #[derive(Drop)]
@@ -34,7 +42,7 @@ impl Model for Engine {
 
     ghost Value = { List Event };
 
-    ghost use Rattle.dsql_engine.specs.Desk.{past, Stands};
+    ghost use Rattle.dsql_desk.specs.Desk.{past, Stands};
     ghost use Rattle.dsql_engine.specs.Turns.{TakesTurns};
 
     ghost view = { λ e. past e.desk };
@@ -45,7 +53,8 @@ impl Model for Engine {
 #[tactic(auto, using(crate::proofs::Legality::legal_of))]
 impl Engine {
     ghost use Rattle.dsql_engine.specs.Awaited.{awaited, chore_due, permit_of};
-    ghost use Rattle.dsql_engine.specs.Groups.{after_enter, after_heard, after_end, call_of, most_events};
+    ghost use Rattle.dsql_desk.specs.Clients.{call_of};
+    ghost use Rattle.dsql_engine.specs.Groups.{after_enter, after_heard, after_end, most_events};
     ghost use Rattle.dsql_engine.specs.Steps.{NextAfterEnter, NextAfterHeard, NextAfterWake, IsChore, IsParked};
 
     /// An engine whose run has begun, over a driver that can do this.
@@ -71,8 +80,8 @@ impl Engine {
         ensures legal { Legal self.new }
     {
         let entering = self.desk.entering(self.alloc, &op)?;
-        self.desk.pay(4)?;
-        Ok(self.desk.enter_call(client, op, entering))
+        self.desk.pay(EVENTS_OF_A_STEP)?;
+        Ok(enter_call(&mut self.desk, client, op, entering))
     }
 
     /// A driver's answer is taken in, which fits at its place in the journal. It is handed back where there
@@ -87,8 +96,8 @@ impl Engine {
         ensures err { OnErr result (self.new ≡ self.old) }
         ensures legal { Legal self.new }
     {
-        match self.desk.ready_for(self.alloc, heard.entry()) {
-            Ok(ready) => Ok(self.desk.hear_answer(heard.into_entry(), ready)),
+        match ready_for(&mut self.desk, self.alloc, heard.entry()) {
+            Ok(ready) => Ok(hear_answer(&mut self.desk, heard.into_entry(), ready)),
             Err(NoRoom) => Err(HeardBack { heard }),
         }
     }
@@ -101,12 +110,12 @@ impl Engine {
         ensures err { OnErr result (self.new ≡ self.old) }
         ensures legal { Legal self.new }
     {
-        let Some(n) = self.desk.call_of(client) else {
+        let Some(call) = self.desk.call_of(client) else {
             unreachable!();
         };
-        let statement = self.desk.statement(self.alloc, n)?;
-        self.desk.pay(4)?;
-        Ok(self.desk.wake_call(n, statement))
+        let statement = self.desk.statement(self.alloc, call)?;
+        self.desk.pay(EVENTS_OF_A_STEP)?;
+        Ok(wake_call(&mut self.desk, call, statement))
     }
 
     /// The layer's own driver call that comes first, if there is one.
@@ -114,14 +123,14 @@ impl Engine {
         requires room { length self.now < most_events }
         ensures first { IfOk result (λ next. IsChore self.now next) }
     {
-        if let Some(c) = self.desk.tidy_due() {
-            return Ok(Next::Send(self.desk.tidy_permit(self.alloc, c)?));
+        if let Some(conn) = self.desk.tidy_due() {
+            return Ok(Next::Send(tidy_permit(&self.desk, self.alloc, conn)?));
         }
-        if let Some(c) = self.desk.shut_due() {
-            return Ok(Next::Send(self.desk.shut_permit(c)));
+        if let Some(conn) = self.desk.shut_due() {
+            return Ok(Next::Send(shut_permit(&self.desk, conn)));
         }
         match self.desk.connect_due() {
-            Some(c) => Ok(Next::Send(self.desk.connect_permit(c))),
+            Some(conn) => Ok(Next::Send(connect_permit(conn))),
             None => Ok(Next::Quiet),
         }
     }
@@ -134,8 +143,8 @@ impl Engine {
         ensures err { OnErr result (self.new ≡ self.old) }
         ensures legal { Legal self.new }
     {
-        self.desk.pay(3)?;
-        self.desk.end_run();
+        self.desk.pay(EVENTS_OF_THE_END)?;
+        end_run(&mut self.desk);
         Ok(())
     }
 

@@ -2,19 +2,15 @@
 //! history of all that happened, which is legal after every call.
 #![tactic(auto)]
 
-mod desk;
+mod end;
 mod engine;
-mod entering;
-mod entries;
+mod enter;
+mod hear;
+mod lent;
 mod next;
-mod queries;
-mod ready;
-mod replies;
-mod room;
-mod sending;
-mod start;
-mod statement;
-mod steps;
+mod permits;
+mod wake;
 
+pub use dsql_desk::NoRoom;
 pub use engine::Engine;
-pub use next::{HeardBack, Next, NoRoom, Why};
+pub use next::{HeardBack, Next, Why};

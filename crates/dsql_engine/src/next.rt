@@ -1,8 +1,9 @@
 use dsql_journal::Permit;
-use dsql_value::Memory;
 use dsql_wire::Heard;
-use std::alloc::{AllocError, AllocFailed};
 use thiserror::Error;
+
+/// The most events of one step, but for the run's end.
+pub const EVENTS_OF_A_STEP: u32 = 4;
 
 /// Why a call can't move.
 #[derive(Clone, Copy, Debug, PartialEq, Eq)]
@@ -24,32 +25,9 @@ pub enum Next {
     Quiet,
 }
 
-/// There was no memory for a step. Nothing changed.
-#[derive(Clone, Copy, Debug, PartialEq, Eq, Error)]
-#[error("out of memory")]
-pub struct NoRoom;
-
 /// There was no memory to take in what was heard. It is handed back, and nothing changed.
 #[derive(Debug, Drop, Error)]
 #[error("out of memory")]
 pub struct HeardBack {
     pub heard: Heard,
-}
-
-impl From<AllocError> for NoRoom {
-    fn from(_e: AllocError) -> NoRoom {
-        NoRoom
-    }
-}
-
-impl<T: Drop> From<AllocFailed<T>> for NoRoom {
-    fn from(_e: AllocFailed<T>) -> NoRoom {
-        NoRoom
-    }
-}
-
-impl From<Memory> for NoRoom {
-    fn from(_e: Memory) -> NoRoom {
-        NoRoom
-    }
 }

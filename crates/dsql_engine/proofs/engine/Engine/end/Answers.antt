@@ -1,4 +1,4 @@
-use Rattle.dsql_engine.specs.Desk.{past}
+use Rattle.dsql_desk.specs.Desk.{past}
 use Rattle.dsql_engine.specs.Turns.{TakesTurns}
 use Rattle.dsql_engine.proofs.Carried.{begun_end}
 use Rattle.dsql_engine.proofs.Turning.{turns_end}

@@ -1,7 +1,8 @@
 use Rattle.std.proofs.Common.{◌≡◌, true}
 use Rattle.dsql_history.specs.Rules.Numbers.{takes_turn}
 use Rattle.dsql_history.specs.Rules.Settled.{Settled}
-use Rattle.dsql_engine.specs.Desk.{past, lawful_of}
+use Rattle.dsql_desk.specs.Desk.{past}
+use Rattle.dsql_desk.proofs.Standing.{lawful_of}
 use Rattle.dsql_engine.specs.Turns.{TakesTurns}
 use Rattle.dsql_engine.proofs.Turning.{turns_entered}
 use Rattle.dsql_engine.proofs.engine.Engine.enter.Goals as goal

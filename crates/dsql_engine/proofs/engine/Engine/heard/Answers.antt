@@ -1,4 +1,4 @@
-use Rattle.dsql_engine.specs.Desk.{past}
+use Rattle.dsql_desk.specs.Desk.{past}
 use Rattle.dsql_engine.specs.Turns.{TakesTurns}
 use Rattle.dsql_engine.proofs.Carried.{begun_heard}
 use Rattle.dsql_engine.proofs.Turning.{turns_heard}
@@ -12,9 +12,9 @@ hear_answer-requires-clause-turns c = rw c.ready_for.ensures.past c.self.invaria
 
 pub invariant_of-self : goal.invariant_of-self
 invariant_of-self c =
-    let turns : TakesTurns (past c.ready_for.new.self) = rw c.ready_for.ensures.past c.self.invariant.3 in (
+    let turns : TakesTurns (past c.ready_for.new.desk) = rw c.ready_for.ensures.past c.self.invariant.3 in (
       c.hear_answer.ensures.reaches.stands,
       c.hear_answer.ensures.reaches.settled,
-      rw c.hear_answer.ensures.reaches.group (begun_heard (past c.ready_for.new.self) c.into_entry.result),
-      rw c.hear_answer.ensures.reaches.group (turns_heard (past c.ready_for.new.self) c.into_entry.result turns),
+      rw c.hear_answer.ensures.reaches.group (begun_heard (past c.ready_for.new.desk) c.into_entry.result),
+      rw c.hear_answer.ensures.reaches.group (turns_heard (past c.ready_for.new.desk) c.into_entry.result turns),
     )

@@ -1,7 +1,7 @@
 use Rattle.std.proofs.Common.{sym, ◌∙◌}
 use Rattle.dsql_history.specs.Readers.Sets.{place}
 use Rattle.dsql_history.specs.Readers.Calls.{home}
-use Rattle.dsql_engine.specs.Desk.{past}
+use Rattle.dsql_desk.specs.Desk.{past}
 use Rattle.dsql_engine.specs.Turns.{TakesTurns}
 use Rattle.dsql_engine.proofs.Carried.{begun_woken}
 use Rattle.dsql_engine.proofs.Turning.{turns_woken}
@@ -18,15 +18,15 @@ pub wake_call-requires-clause-turns : goal.wake_call-requires-clause-turns
 wake_call-requires-clause-turns c = rw c.pay.ensures.past c.self.invariant.3
 
 pub wake_call-requires-clause-unfinished : goal.wake_call-requires-clause-unfinished
-wake_call-requires-clause-unfinished c = rw c.pay.ensures.past (found_in _ _ c.in-Some.n (sym c.call_of.ensures ∙ c.in-Some.is))
+wake_call-requires-clause-unfinished c = rw c.pay.ensures.past (found_in _ _ c.in-Some.call (sym c.call_of.ensures ∙ c.in-Some.is))
 
 pub invariant_of-self-2 : goal.invariant_of-self-2
 invariant_of-self-2 c =
     let H = past c.pay.new.self in
-    let n = c.in-Some.n in
+    let n = c.in-Some.call in
     let turns : TakesTurns H = rw c.pay.ensures.past c.self.invariant.3 in (
       c.wake_call.ensures.stands,
       c.wake_call.ensures.settled,
-      begun_woken (place H (home H n)) (home H n) n H c.wake_call.result (past c.wake_call.new.self) c.wake_call.ensures.next (rw c.pay.ensures.past c.self.invariant.2),
-      turns_woken (place H (home H n)) (home H n) n H c.wake_call.result (past c.wake_call.new.self) c.wake_call.ensures.next turns,
+      begun_woken (place H (home H n)) (home H n) n H c.wake_call.result (past c.wake_call.new.desk) c.wake_call.ensures.next (rw c.pay.ensures.past c.self.invariant.2),
+      turns_woken (place H (home H n)) (home H n) n H c.wake_call.result (past c.wake_call.new.desk) c.wake_call.ensures.next turns,
     )

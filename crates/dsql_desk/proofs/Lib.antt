@@ -1,0 +1,9 @@
+pub mod Standing
+pub mod Labelled
+pub mod Closing
+pub mod Counts
+pub mod Workers
+pub mod House
+pub mod CloseAtEntry
+pub mod Beside
+pub mod Open

@@ -1,0 +1,11 @@
+pub mod Limits
+pub mod Clients
+pub mod Labels
+pub mod Latest
+pub mod Made
+pub mod Open
+pub mod Told
+pub mod Rows
+pub mod Statements
+pub mod Desk
+pub mod Appending

@@ -1,7 +1,0 @@
-use Rattle.std.proofs.Common.{◌∙◌}
-use Rattle.dsql_engine.specs.Desk.{past, lawful_of}
-use Rattle.dsql_engine.proofs.Open.{connect_found}
-use Rattle.dsql_engine.proofs.desk.Desk.connect_due.Goals as goal
-
-pub returns : goal.returns
-returns c = c.first_opening.ensures ∙ connect_found (past c.args.self.now) (lawful_of _ c.requires)
