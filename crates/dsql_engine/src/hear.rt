@@ -1,23 +1,18 @@
 //! A driver's answer is taken in.
-ghost use Rattle.std.specs.Prelude.{◌≡◌, ◌≤◌, IfOk, OnOk, ◌<◌, ◌∷◌, Some, true, false, length, option_map};
+ghost use Rattle.std.specs.Prelude.{◌≡◌, ◌≤◌, IfOk, OnOk, ◌<◌, ◌∷◌, true, false, length};
 ghost use Rattle.dsql_desk.specs.Desk.{past, Stands};
 ghost use Rattle.dsql_driver.specs.Fits.{is_done};
-ghost use Rattle.dsql_engine.specs.Awaited.{awaited, connect_permit, shut_permit, call_permit, permit_of};
+ghost use Rattle.dsql_engine.specs.Awaited.{connect_permit, shut_permit};
 ghost use Rattle.dsql_engine.specs.Groups.{after_heard, after_answer, lent_to, most_events, events_of_a_step};
-ghost use Rattle.dsql_engine.specs.Hearing.{IsReadyFor, HearsHouse};
+ghost use Rattle.dsql_engine.specs.Hearing.{IsReadyFor, MayHear, HearsHouse};
 ghost use Rattle.dsql_engine.specs.Reaching.{CanPay, Reaches};
 ghost use Rattle.dsql_engine.specs.Steps.{NextAfterHeard, NextAfterAnswer};
 ghost use Rattle.dsql_engine.specs.Turns.{TakesTurns};
-ghost use Rattle.dsql_history.specs.Readers.Calls.{sender};
-ghost use Rattle.dsql_history.specs.Readers.Journals.{journal};
 ghost use Rattle.dsql_history.specs.Readers.Sets.{place, next_tenure};
-ghost use Rattle.dsql_history.specs.Rules.Line.{due};
-ghost use Rattle.dsql_history.specs.Rules.Settled.{Settled};
 ghost use Rattle.dsql_history.specs.declared.event.Event.{Event};
 ghost use Rattle.dsql_history.specs.declared.event.Event.TheVariants.{Heard};
 ghost use Rattle.dsql_history.specs.declared.event.Move.{Move};
 ghost use Rattle.dsql_history.specs.declared.record.Place.TheVariants.{Opening, Lent, Closing};
-ghost use Rattle.dsql_journal.specs.HandlesAndCursors.{fits_at_its_place};
 ghost use Rattle.dsql_journal.specs.declared.entry.Owner.TheVariants.{Call};
 
 use crate::lent::use_lent;
@@ -65,12 +60,8 @@ pub fn ready_for(desk: &mut Desk, alloc: Global, entry: &Entry) -> Result<Hearin
 #[tactic(auto, using(crate::proofs::Basics::fitting_of, crate::proofs::Basics::heard_of))]
 pub fn hear_answer(desk: &mut Desk, entry: Entry, ready: Hearing) -> Next
     requires pays { CanPay desk.old events_of_a_step }
-    requires settled { Settled (past desk.old) }
-    requires turns { TakesTurns (past desk.old) }
-    requires awaited { awaited (past desk.old) entry.conn ≡ Some (permit_of entry) }
-    requires fits { fits_at_its_place (journal (past desk.old) entry.conn) entry ≡ true }
+    requires hears { MayHear (past desk.old) entry }
     requires ready { IsReadyFor (past desk.old) entry ready }
-    requires few { length (past desk.old) < most_events }
     ensures reaches { Reaches desk.new (after_heard (past desk.old) entry) }
     ensures next { NextAfterHeard (past desk.old) entry result (past desk.new) }
 {
@@ -147,11 +138,8 @@ fn hear_shut(desk: &mut Desk, entry: Entry) -> Next
 /// The answer to a driver call of a client's call.
 fn hear_call(desk: &mut Desk, tenure: u32, call: u32, entry: Entry, ready: Hearing) -> Next
     requires pays { CanPay desk.old events_of_a_step }
-    requires settled { Settled (past desk.old) }
-    requires turns { TakesTurns (past desk.old) }
+    requires hears { MayHear (past desk.old) entry }
     requires lent { place (past desk.old) entry.conn ≡ Lent tenure (Call call) }
-    requires awaited { option_map (call_permit entry.conn tenure call (sender (past desk.old) call)) (due (past desk.old) entry.conn tenure call) ≡ Some (permit_of entry) }
-    requires fits { fits_at_its_place (journal (past desk.old) entry.conn) entry ≡ true }
     requires ready { IsReadyFor (past desk.old) entry ready }
     ensures reaches { Reaches desk.new (after_answer (Lent tenure (Call call)) entry (Heard entry ∷ past desk.old)) }
     ensures next { NextAfterAnswer (Lent tenure (Call call)) entry (Heard entry ∷ past desk.old) result (past desk.new) }

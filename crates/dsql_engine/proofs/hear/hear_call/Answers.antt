@@ -34,14 +34,14 @@ hear-requires-clause-may c =
     let e = c.args.entry in
     let t = c.args.tenure in
     let n = c.args.call in
-    let w : Awaits (due H e.conn t n) e.conn t n (sender H n) (permit_of e) = awaits e.conn t n (sender H n) (due H e.conn t n) (permit_of e) c.requires.awaited in
+    let w : Awaits (due H e.conn t n) e.conn t n (sender H n) (permit_of e) = awaits e.conn t n (sender H n) (due H e.conn t n) (permit_of e) (rw c.requires.lent at c.requires.hears.awaited) in
     let same : e ≡ sent_entry e.conn t n (sender H n) e.call e.answer = ap (λ (p : Permit). entry_of p e.answer) w.parts in
     record {
       stands = search rules;
       paid = search rules;
       allowed = subst (λ (x : Entry). Allowed H (Heard x)) (sym same)
-          (may_hear_call H e.conn t n e.call e.answer (lawful_of _ c.requires.pays.stands) c.requires.settled c.requires.lent (due_of H e.conn t n e.call w.call)
-          (subst (λ (x : Entry). fits_at_its_place (journal H e.conn) x ≡ true) same c.requires.fits));
+          (may_hear_call H e.conn t n e.call e.answer (lawful_of _ c.requires.pays.stands) c.requires.hears.settled c.requires.lent (due_of H e.conn t n e.call w.call)
+          (subst (λ (x : Entry). fits_at_its_place (journal H e.conn) x ≡ true) same c.requires.hears.fits));
     }
 
 pub hear-requires-clause-rows : goal.hear-requires-clause-rows
@@ -50,7 +50,7 @@ hear-requires-clause-rows c =
     let e = c.args.entry in
     let t = c.args.tenure in
     let n = c.args.call in
-    let w : Awaits (due H e.conn t n) e.conn t n (sender H n) (permit_of e) = awaits e.conn t n (sender H n) (due H e.conn t n) (permit_of e) c.requires.awaited in
+    let w : Awaits (due H e.conn t n) e.conn t n (sender H n) (permit_of e) = awaits e.conn t n (sender H n) (due H e.conn t n) (permit_of e) (rw c.requires.lent at c.requires.hears.awaited) in
     let number : e.call_no ≡ sender H n = ap (λ (p : Permit). p.call_no) w.parts in
     subst (λ (m : ℕ). HearsRows (work H m) m e.call (handed_out H)) (sym number)
     (hears_rows H e.conn t n e.call (lawful_of _ c.requires.pays.stands) c.requires.lent (due_of H e.conn t n e.call w.call))
@@ -61,17 +61,17 @@ use_lent-requires-clause-settled c =
     let e = c.args.entry in
     let t = c.args.tenure in
     let n = c.args.call in
-    let w : Awaits (due H e.conn t n) e.conn t n (sender H n) (permit_of e) = awaits e.conn t n (sender H n) (due H e.conn t n) (permit_of e) c.requires.awaited in
+    let w : Awaits (due H e.conn t n) e.conn t n (sender H n) (permit_of e) = awaits e.conn t n (sender H n) (due H e.conn t n) (permit_of e) (rw c.requires.lent at c.requires.hears.awaited) in
     let same : e ≡ sent_entry e.conn t n (sender H n) e.call e.answer = ap (λ (p : Permit). entry_of p e.answer) w.parts in
     let l : Lawful H = lawful_of _ c.requires.pays.stands in
     let k = rw c.hear.ensures.event at (lawful_of _ c.hear.ensures.stands) in
     let m : Lawful (Heard (sent_entry e.conn t n (sender H n) e.call e.answer) ∷ H) = subst (λ (x : Entry). Lawful (Heard x ∷ H)) same k in
-    rw c.hear.ensures.event (subst (λ (x : Entry). SettledBut (Heard x ∷ H) e.conn) (sym same) (settled_heard H e.conn t n e.call e.answer l c.requires.settled c.requires.lent m))
+    rw c.hear.ensures.event (subst (λ (x : Entry). SettledBut (Heard x ∷ H) e.conn) (sym same) (settled_heard H e.conn t n e.call e.answer l c.requires.hears.settled c.requires.lent m))
 
 pub use_lent-requires-clause-alone : goal.use_lent-requires-clause-alone
 use_lent-requires-clause-alone c =
     let H = past c.args.desk.now in
-    subst (λ (K : List Event). IsAlone K c.args.call) (sym c.hear.ensures.event) (alone_of H c.args.call c.requires.turns)
+    subst (λ (K : List Event). IsAlone K c.args.call) (sym c.hear.ensures.event) (alone_of H c.args.call c.requires.hears.turns)
 
 pub use_lent-requires-clause-due : goal.use_lent-requires-clause-due
 use_lent-requires-clause-due c =
@@ -79,7 +79,7 @@ use_lent-requires-clause-due c =
     let e = c.args.entry in
     let t = c.args.tenure in
     let n = c.args.call in
-    let w : Awaits (due H e.conn t n) e.conn t n (sender H n) (permit_of e) = awaits e.conn t n (sender H n) (due H e.conn t n) (permit_of e) c.requires.awaited in
+    let w : Awaits (due H e.conn t n) e.conn t n (sender H n) (permit_of e) = awaits e.conn t n (sender H n) (due H e.conn t n) (permit_of e) (rw c.requires.lent at c.requires.hears.awaited) in
     let statement : c.args.ready.statement ≡ statement_of H n = c.requires.ready.statement ∙ ap (λ (k : ℕ). statement_of H k) (ap (λ (p : Permit). number_of p.owner) w.parts) in
     let same : e ≡ sent_entry e.conn t n (sender H n) e.call e.answer = ap (λ (p : Permit). entry_of p e.answer) w.parts in
     let k = rw c.hear.ensures.event at (lawful_of _ c.hear.ensures.stands) in
@@ -96,7 +96,7 @@ use_lent-requires-clause-bad c = λ none.
     let e = c.args.entry in
     let t = c.args.tenure in
     let n = c.args.call in
-    let w : Awaits (due H e.conn t n) e.conn t n (sender H n) (permit_of e) = awaits e.conn t n (sender H n) (due H e.conn t n) (permit_of e) c.requires.awaited in
+    let w : Awaits (due H e.conn t n) e.conn t n (sender H n) (permit_of e) = awaits e.conn t n (sender H n) (due H e.conn t n) (permit_of e) (rw c.requires.lent at c.requires.hears.awaited) in
     let same : e ≡ sent_entry e.conn t n (sender H n) e.call e.answer = ap (λ (p : Permit). entry_of p e.answer) w.parts in
     let l : Lawful H = lawful_of _ c.requires.pays.stands in
     let b : is_bad e.answer ≡ went_bad (journal (Heard e ∷ H) e.conn) =

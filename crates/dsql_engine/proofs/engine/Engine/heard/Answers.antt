@@ -4,11 +4,14 @@ use Rattle.dsql_engine.proofs.Carried.{begun_heard}
 use Rattle.dsql_engine.proofs.Turning.{turns_heard}
 use Rattle.dsql_engine.proofs.engine.Engine.heard.Goals as goal
 
-pub hear_answer-requires-clause-settled : goal.hear_answer-requires-clause-settled
-hear_answer-requires-clause-settled c = rw c.ready_for.ensures.past c.self.invariant.1
-
-pub hear_answer-requires-clause-turns : goal.hear_answer-requires-clause-turns
-hear_answer-requires-clause-turns c = rw c.ready_for.ensures.past c.self.invariant.3
+pub hear_answer-requires-clause-hears : goal.hear_answer-requires-clause-hears
+hear_answer-requires-clause-hears c = record {
+  settled = rw c.ready_for.ensures.past c.self.invariant.1;
+  turns = rw c.ready_for.ensures.past c.self.invariant.3;
+  awaited = rw (c.into_entry.ensures, c.ready_for.ensures.past, c.self.view_is) c.requires.awaited;
+  fits = rw (c.into_entry.ensures, c.ready_for.ensures.past, c.self.view_is) c.requires.fits;
+  few = rw (c.ready_for.ensures.past, c.self.view_is) c.requires.room;
+}
 
 pub invariant_of-self : goal.invariant_of-self
 invariant_of-self c =
