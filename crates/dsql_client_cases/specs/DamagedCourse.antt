@@ -181,3 +181,12 @@ tells_of_too_many =
     ++ executes 1 1
     ∷ Replied 1 replies.TooMany
     ∷ []
+
+-- a connection becomes idle before it is connected
+abbrev pub becomes_idle_before_the_connect : List Event
+becomes_idle_before_the_connect =
+    started
+    ++ executes 1 1
+    ∷ open_start 1 1
+    ∷ back 1
+    ∷ []

@@ -6,7 +6,7 @@ use Rattle.dsql_pool.specs.declared.moves.CloseCause.TheVariants as causes
 use Rattle.dsql_clients.specs.declared.event.Event.{Event}
 use Rattle.dsql_clients.specs.declared.event.Event.TheVariants.{Replied, Ended}
 use Rattle.dsql_clients.specs.declared.reply.Reply.TheVariants as replies
-use Rattle.dsql_client_cases.specs.Words.{text, exec, query, cursor, row, one_changed, told_one_changed, executes, queries, fetches, closes, asks_for_fault, open_start, lend, back, close, gone, house, sent}
+use Rattle.dsql_client_cases.specs.Words.{text, exec, query, cursor, row, one_changed, told_one_changed, executes, queries, fetches, closes, asks_for_fault, open_start, lend, back, close, gone, house, sent, run}
 use Rattle.dsql_client_cases.specs.Begun.{started, queried, executed}
 
 -- an exec gives back after another was served
@@ -185,4 +185,17 @@ a_next_after_the_end_is_not_told =
     ∷ sent 1 2 1 0 (CloseRows 1) answers.Done
     ∷ close 1 causes.DbClosed
     ∷ Replied 2 (replies.Truth false)
+    ∷ []
+
+-- an exec replies before its connection is tested
+abbrev pub an_exec_replies_before_its_connection_is_tested : List Event
+an_exec_replies_before_its_connection_is_tested =
+    run
+    ∷ []
+    ++ executes 1 1
+    ∷ open_start 1 1
+    ∷ house 1 1 Connect answers.Done
+    ∷ lend 1 2 1
+    ∷ sent 1 2 1 1 (exec text) one_changed
+    ∷ Replied 1 told_one_changed
     ∷ []

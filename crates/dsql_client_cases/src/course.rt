@@ -15,7 +15,7 @@ ghost use Rattle.dsql_clients.specs.Rules.Line.{keeps_line};
 ghost use Rattle.dsql_clients.specs.Rules.Journals.{keeps_journals};
 ghost use Rattle.dsql_clients.specs.Rules.Replies.{keeps_replies};
 ghost use Rattle.dsql_client_cases.specs.Refusals.{is_refused_at, is_unsettled_after};
-ghost use Rattle.dsql_client_cases.specs.DamagedCourse.{has_another_version, begins_without_run, runs_twice, ends_twice, skips_a_call, enters_while_busy, replies_twice, replies_to_no_call, skips_a_connection, lends_in_another_tenure, hears_in_another_tenure, lends_before_the_connect, lends_a_refused_one, leaves_a_connected_one, falls_before_the_connect, goes_unshut, keeps_a_bad_one, gives_back_open_rows, answers_a_fetch_with_a_result, tells_of_too_many};
+ghost use Rattle.dsql_client_cases.specs.DamagedCourse.{has_another_version, begins_without_run, runs_twice, ends_twice, skips_a_call, enters_while_busy, replies_twice, replies_to_no_call, skips_a_connection, lends_in_another_tenure, hears_in_another_tenure, lends_before_the_connect, lends_a_refused_one, leaves_a_connected_one, falls_before_the_connect, goes_unshut, keeps_a_bad_one, gives_back_open_rows, answers_a_fetch_with_a_result, tells_of_too_many, becomes_idle_before_the_connect};
 
 /// Why histories damaged in their course are refused.
 pub fn refused_courses()
@@ -39,6 +39,7 @@ pub fn refused_courses()
     ensures gives_back_open_rows { is_refused_at 8 keeps_line gives_back_open_rows ≡ true }
     ensures answers_a_fetch_with_a_result { is_refused_at 9 keeps_journals answers_a_fetch_with_a_result ≡ true }
     ensures tells_of_too_many { is_refused_at 3 keeps_replies tells_of_too_many ≡ true }
+    ensures becomes_idle_before_the_connect { is_refused_at 4 keeps_causes becomes_idle_before_the_connect ≡ true }
 {}
 
 /// A history without any event isn't legal.
