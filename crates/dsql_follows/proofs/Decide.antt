@@ -1,17 +1,10 @@
 -- What is computed is what the definitions say.
-use Rattle.std.proofs.Common.{◌≡◌, ◌↔◌, Bool, true, false, ◌&&◌, List, [], ◌∷◌, refl, subst, ap}
+use Rattle.std.proofs.Common.{◌≡◌, ◌↔◌, true, List, [], ◌∷◌, refl, subst, ap}
 use Rattle.dsql_clients.specs.declared.event.Event.{Event}
+use Rattle.dsql_follows.proofs.Bools.{both, together}
 use Rattle.dsql_follows.specs.Moments.{Moment, met, at_end}
 use Rattle.dsql_follows.specs.Sentences.{Part, after_part}
 use Rattle.dsql_follows.specs.Follows.{Played, MakesSteps, FollowsLine, FollowsEnd, FollowsLines, Follows, after, judged, makes_steps, follows_line, follows_end, follows}
-
-both : (a b : Bool) → (a && b) ≡ true → (a ≡ true) × (b ≡ true)
-both true b h = (refl, h)
-both false b h = absurd cc
-
-together : (a b : Bool) → a ≡ true → b ≡ true → a && b ≡ true
-together true b h k = k
-together false b h k = absurd cc
 
 steps_of : (m : Moment) (events : List Event) → makes_steps m events ≡ true → MakesSteps m events
 steps_of m events h =

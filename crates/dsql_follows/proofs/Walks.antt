@@ -1,11 +1,11 @@
 -- Events that are gone over one after another.
-use Rattle.std.proofs.Common.{◌≡◌, List, [], ◌∷◌, ◌++◌, cond, refl, ap}
+use Rattle.std.proofs.Common.{◌≡◌, List, [], ◌∷◌, ◌++◌, refl, ap}
 use Rattle.dsql_clients.specs.declared.event.Event.{Event}
-use Rattle.dsql_follows.specs.Moments.{Moment, begins_step, at_rest, with_event, walk}
+use Rattle.dsql_follows.specs.Moments.{Moment, begins_step, rested, with_event, walk}
 
 pub now_goes_on : (m : Moment) (newer older : List Event) → (walk m (newer ++ older)).now ≡ (walk (walk m older).now newer).now
 now_goes_on m [] older = refl
-now_goes_on m (e ∷ newer) older = ap (λ now. with_event e (cond (begins_step now e) (at_rest now) now)) (now_goes_on m newer older)
+now_goes_on m (e ∷ newer) older = ap (λ now. with_event e (rested (begins_step now e) now)) (now_goes_on m newer older)
 
 pub passed_goes_on : (m : Moment) (newer older : List Event) → (walk m (newer ++ older)).passed ≡ (walk (walk m older).now newer).passed ++ (walk m older).passed
 passed_goes_on m [] older = refl

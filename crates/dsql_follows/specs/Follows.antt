@@ -7,7 +7,7 @@ use Rattle.dsql_clients.specs.Readers.Course.{has_ended}
 use Rattle.dsql_clients.specs.Rules.Course.{is_run}
 use Rattle.dsql_follows.specs.declared.line.Line.{Line}
 use Rattle.dsql_follows.specs.Clients.{is_free}
-use Rattle.dsql_follows.specs.Moments.{Moment, begun, met, at_end, after_events, kept}
+use Rattle.dsql_follows.specs.Moments.{Moment, just_begun, met, at_end, after_events, kept}
 use Rattle.dsql_follows.specs.Turns.{clients, has_run_out}
 use Rattle.dsql_follows.specs.Sentences.{Part, after_part, passed, begins_with_step, makes_whole_steps, enters_in_order, come_in_turn, enters_at_once, sets_at_once, starts_alone, steps_once, tidies_once, runs_in_turn, runs_out}
 
@@ -32,7 +32,7 @@ script it = map (λ part. part.line) it.parts
 
 -- the free moment after these parts
 abbrev pub after : Event → List Part → Moment
-after run [] = begun run
+after run [] = just_begun run
 after run (part ∷ earlier) = after_part (after run earlier) part
 
 -- These events are whole steps, and enter lines in their order. The moment is that once a line is read, or at the script's end.
@@ -84,7 +84,7 @@ pub record FollowsEnd (m : Moment) (events : List Event) : Type 0 where
   pub ended : ends_the_run m events ≡ true
   pub done : leaves_nothing m events ≡ true
 
--- the run has begun, and each part follows its line
+-- the run has just begun, and each part follows its line
 abbrev pub FollowsLines : Event → List Part → Type 0
 FollowsLines run [] = is_run run ≡ true
 FollowsLines run (part ∷ earlier) = FollowsLines run earlier × FollowsLine (after run earlier) part
@@ -116,7 +116,7 @@ abbrev pub judge_line : Part → Judged → Judged
 judge_line part j = record { moment = after_part j.moment part; fine = j.fine && follows_line j.moment part }
 
 abbrev pub judged : Event → List Part → Judged
-judged run [] = record { moment = begun run; fine = is_run run }
+judged run [] = record { moment = just_begun run; fine = is_run run }
 judged run (part ∷ earlier) = judge_line part (judged run earlier)
 
 abbrev pub ends_well : List Event → Judged → Bool

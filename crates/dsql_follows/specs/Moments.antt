@@ -29,9 +29,9 @@ pub record Moment : Type 0 where
   pub lines : List Line
   pub released : Bool
 
--- the run has begun, and no line was read
-abbrev pub begun : Event → Moment
-begun run = record { past = run ∷ []; stepper = 0; flights = []; lines = []; released = false }
+-- the run has just begun, and no line was read
+abbrev pub just_begun : Event → Moment
+just_begun run = record { past = run ∷ []; stepper = 0; flights = []; lines = []; released = false }
 
 -- the line is read
 abbrev pub met : Line → Moment → Moment
@@ -69,12 +69,12 @@ begins_step m e = is_run e || (is_from_outside e || not (stepping m e == m.stepp
 abbrev pub is_in_flight : ℕ → List Flight → Bool
 is_in_flight n flights = list_any (λ flight. flight.call == n) flights
 
-abbrev pub is_busy : ℕ → List Flight → Bool
-is_busy c flights = list_any (λ flight. flight.conn == c) flights
+abbrev pub has_flight : ℕ → List Flight → Bool
+has_flight c flights = list_any (λ flight. flight.conn == c) flights
 
 -- with a permit of call n on connection c, unless the call or the connection has one already
 abbrev pub with_flight : ℕ → ℕ → List Flight → List Flight
-with_flight n c flights = cond (is_in_flight n flights || is_busy c flights) flights (record { call = n; conn = c } ∷ flights)
+with_flight n c flights = cond (is_in_flight n flights || has_flight c flights) flights (record { call = n; conn = c } ∷ flights)
 
 -- call n stands so, and gets a permit where its driver call is due
 abbrev pub permitted : ℕ → Option Stand → List Flight → List Flight
@@ -112,8 +112,12 @@ pub record Walk : Type 0 where
 abbrev pub passes : Event → Bool → Moment → List Passed → Walk
 passes e begins m passed = record { now = with_event e m; passed = record { event = e; before = m; begins = begins } ∷ passed }
 
+-- the moment just before an event, which is a free one where a step begins
+abbrev pub rested : Bool → Moment → Moment
+rested begins m = record m { flights = cond begins (at_rest m).flights m.flights }
+
 abbrev pub goes_over : Event → Bool → Walk → Walk
-goes_over e begins w = passes e begins (cond begins (at_rest w.now) w.now) w.passed
+goes_over e begins w = passes e begins (rested begins w.now) w.passed
 
 abbrev pub with_next : Event → Walk → Walk
 with_next e w = goes_over e (begins_step w.now e) w

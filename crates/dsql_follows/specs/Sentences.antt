@@ -14,7 +14,7 @@ use Rattle.dsql_follows.specs.declared.line.Line.{Line}
 use Rattle.dsql_follows.specs.declared.line.Line.TheVariants.{Set, Client, Start, Step, StepHouse}
 use Rattle.dsql_follows.specs.Same.{same_op, same_setting}
 use Rattle.dsql_follows.specs.Clients.{call_of, is_free}
-use Rattle.dsql_follows.specs.Moments.{Moment, Passed, met, stepping, is_in_flight, takes_permit, walk, after_events, kept}
+use Rattle.dsql_follows.specs.Moments.{Flight, Moment, Passed, met, stepping, begins_step, is_in_flight, takes_permit, walk, after_events, kept}
 use Rattle.dsql_follows.specs.Turns.{can_move, first_chore, is_chore, comes_in_turn, has_run_out}
 
 -- Steps. Here m is the moment once the line is read, or at the script's end, and these events come then.
@@ -40,7 +40,9 @@ begins (Some p) = p.begins
 
 -- each event of a part is part of a step that begins in it
 abbrev pub begins_with_step : Moment → List Event → Bool
-begins_with_step m events = begins (oldest (passed m events))
+begins_with_step m [] = true
+begins_with_step m (e ∷ []) = begins_step m e
+begins_with_step m (e ∷ earlier) = begins_with_step m earlier
 
 -- At a free moment the call that stepped last has gone as far as it can: it has its reply, or its permit is in flight, or it is blocked.
 abbrev pub is_whole : Moment → Bool
@@ -84,10 +86,13 @@ pub record Part : Type 0 where
 abbrev pub passed_in : Moment → Part → List Passed
 passed_in m part = passed (met part.line m) part.events
 
+abbrev pub woken_flights : Moment → Line → Moment → List Flight
+woken_flights before (Step client) m = cond (can_move before (call_of before.past client)) (takes_permit (call_of before.past client) m).flights m.flights
+woken_flights before _ m = m.flights
+
 -- a step of a client whose call could move before it gives that its permit, where one is due
 abbrev pub woken : Moment → Line → Moment → Moment
-woken before (Step client) m = cond (can_move before (call_of before.past client)) (takes_permit (call_of before.past client) m) m
-woken before _ m = m
+woken before line m = record m { flights = woken_flights before line m }
 
 -- the free moment after a line and its part
 abbrev pub after_part : Moment → Part → Moment
@@ -156,14 +161,14 @@ hears n None = false
 hears n (Some p) = is_answer_to n p.event
 
 -- call n goes on by itself
-abbrev pub goes_on : ℕ → Option Passed → Bool
-goes_on n None = false
-goes_on n (Some p) = not (is_from_outside p.event) && (stepping p.before p.event == n)
+abbrev pub goes_on_by_itself : ℕ → Option Passed → Bool
+goes_on_by_itself n None = false
+goes_on_by_itself n (Some p) = not (is_from_outside p.event) && (stepping p.before p.event == n)
 
 -- a call that can move and stands so only sends, which doesn't show, where a driver call of it is due
 abbrev pub wakes : ℕ → List Passed → Option Stand → Bool
 wakes n events (Some (Sends c)) = is_empty events
-wakes n events it = is_one_step events && goes_on n (oldest events)
+wakes n events it = is_one_step events && goes_on_by_itself n (oldest events)
 
 abbrev pub steps_call : Moment → List Passed → ℕ → Bool
 steps_call m events n =

@@ -9,7 +9,7 @@ use Rattle.dsql_clients.specs.Rules.Stands.{stand}
 use Rattle.dsql_follows.specs.declared.line.Line.{Line}
 use Rattle.dsql_follows.specs.declared.line.Line.TheVariants.{Start, Step, StepHouse}
 use Rattle.dsql_follows.specs.Clients.{call_of, is_free}
-use Rattle.dsql_follows.specs.Moments.{Moment, begun, met, is_in_flight, begins_step, at_rest, with_event, kept}
+use Rattle.dsql_follows.specs.Moments.{Moment, just_begun, met, is_in_flight, begins_step, at_rest, rested, with_event, kept}
 use Rattle.dsql_follows.specs.Turns.{can_move, first_chore, has_run_out}
 use Rattle.dsql_follows.specs.Sentences.{Part, after_part, enters_now, has_own_step, runs_on}
 use Rattle.dsql_follows.specs.Follows.{Played, follows}
@@ -39,7 +39,7 @@ abbrev pub is_full : Bool → Bool → Moment → Event → Bool
 is_full runs at_once m e = begins_step m e && (not at_once && (not runs || has_run_out (at_rest m)))
 
 abbrev pub on : Moment → Event → Moment
-on m e = with_event e (cond (begins_step m e) (at_rest m) m)
+on m e = with_event e (rested (begins_step m e) m)
 
 -- the part takes events until it is full; a step is to come at once, or not
 abbrev pub take_part : Bool → Bool → Moment → List Event → List Event → Taken
@@ -72,7 +72,7 @@ as_played run d = record { run = run; parts = d.parts; last = reverse d.left }
 
 -- the parts of a history, of which this is the first event and these are the others, for the lines of a script; all oldest first
 abbrev pub split : List Line → Event → List Event → Played
-split lines run events = as_played run (deal lines (record { moment = begun run; parts = []; left = events }))
+split lines run events = as_played run (deal lines (record { moment = just_begun run; parts = []; left = events }))
 
 -- the history, oldest first, follows the lines, oldest first
 abbrev pub follows_lines : List Line → List Event → Bool

@@ -70,8 +70,8 @@ is_it None n = false
 is_it (Some m) n = m == n
 
 -- it is this client's turn: there is no chore, and it is the smallest that may go on
-abbrev pub has_turn : Moment → ℕ → Bool
-has_turn m client = is_none (first_chore m) && is_it (next_client m) client
+abbrev pub is_turn_of : Moment → ℕ → Bool
+is_turn_of m client = is_none (first_chore m) && is_it (next_client m) client
 
 -- the turn is nobody's: there is no chore, and no client may go on
 abbrev pub has_run_out : Moment → Bool
@@ -83,13 +83,13 @@ is_chore m e = (e.call_no == 0) && is_it (first_chore m) e.conn
 
 -- call n goes on by itself in its client's turn
 abbrev pub goes_in_turn : Moment → ℕ → Bool
-goes_in_turn m n = has_turn m (client_of m.past n) && not (is_in_flight n m.flights)
+goes_in_turn m n = is_turn_of m (client_of m.past n) && not (is_in_flight n m.flights)
 
 -- A step that begins with this event comes in its turn. The first chore is carried out, and where there is none the smallest client who may go on makes a
 -- step: an answer comes to its call, it enters its first kept line, or its call goes on by itself. The run ends once the turn is nobody's.
 abbrev pub comes_in_turn : Moment → Event → Bool
-comes_in_turn m (Heard e) = cond (e.call_no == 0) (is_it (first_chore m) e.conn) (has_turn m (client_of m.past e.call_no) && is_unfinished m.past e.call_no)
-comes_in_turn m (Entered client n op) = has_turn m client && is_free m.past client
+comes_in_turn m (Heard e) = cond (e.call_no == 0) (is_it (first_chore m) e.conn) (is_turn_of m (client_of m.past e.call_no) && is_unfinished m.past e.call_no)
+comes_in_turn m (Entered client n op) = is_turn_of m client && is_free m.past client
 comes_in_turn m Ended = m.released && (not (has_ended m.past) && has_run_out m)
 comes_in_turn m (SetLimit setting n) = false
 comes_in_turn m (Run version caps) = false

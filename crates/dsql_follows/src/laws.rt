@@ -4,7 +4,7 @@ ghost use Rattle.std.specs.Prelude.{◌≡◌, ◌↔◌, ◌++◌, true, List};
 ghost use Rattle.dsql_clients.specs.declared.event.Event.{Event};
 ghost use Rattle.dsql_follows.specs.Moments.{Moment, walk};
 ghost use Rattle.dsql_follows.specs.Sentences.{Part};
-ghost use Rattle.dsql_follows.specs.Follows.{Played, FollowsLine, FollowsEnd, Follows, follows_line, follows_end, follows};
+ghost use Rattle.dsql_follows.specs.Follows.{Played, FollowsLine, FollowsEnd, Follows, script, history, follows_line, follows_end, follows};
 
 /// The sentences are computed: each test is true exactly where what it tests holds.
 pub fn sentences_are_computed()
@@ -18,4 +18,9 @@ pub fn sentences_are_computed()
 pub fn a_walk_goes_on()
     ensures now { (m : Moment) (newer older : List Event) → (walk m (newer ++ older)).now ≡ (walk (walk m older).now newer).now }
     ensures passed { (m : Moment) (newer older : List Event) → (walk m (newer ++ older)).passed ≡ (walk (walk m older).now newer).passed ++ (walk m older).passed }
+{}
+
+/// Runs that follow are the same where their scripts and histories are: what came before a line settles its part.
+pub fn a_history_follows_in_one_way()
+    ensures { (a b : Played) → Follows a → Follows b → script a ≡ script b → history a ≡ history b → a ≡ b }
 {}
