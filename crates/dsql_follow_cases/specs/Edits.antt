@@ -1,11 +1,12 @@
 -- Changes of a run, and where it stops following its lines. Parts are counted from 1, as the script has their lines.
-use Rattle.std.specs.Prelude.{ℕ, ◌+◌, ◌-◌, Bool, not, ◌&&◌, List, [], ◌++◌, length, take, drop, reverse, slice_index_or, slice_set}
+use Rattle.std.specs.Prelude.{ℕ, ◌+◌, ◌-◌, Bool, not, ◌&&◌, List, [], ◌∷◌, ◌++◌, length, take, drop, reverse, slice_index_or, slice_set}
 use Rattle.dsql_clients.specs.declared.event.Event.{Event}
 use Rattle.dsql_follows.specs.declared.line.Line.{Line}
 use Rattle.dsql_follows.specs.declared.line.Line.TheVariants.{Skip}
 use Rattle.dsql_follows.specs.Moments.{Moment, met, at_end}
 use Rattle.dsql_follows.specs.Sentences.{Part}
-use Rattle.dsql_follows.specs.Follows.{Played, Judged, judged}
+use Rattle.dsql_follows.specs.Follows.{Played, Judged, script, history, judged}
+use Rattle.dsql_follows.specs.Splits.{split}
 use Rattle.dsql_follow_cases.specs.Words.{part}
 
 abbrev pub part_at : ℕ → Played → Part
@@ -69,3 +70,11 @@ strays_so sentence events j = j.fine && not (sentence j.moment events)
 -- all parts follow their lines, and of the end's part the sentence is false
 abbrev pub strays_at_the_end : (Moment → List Event → Bool) → Played → Bool
 strays_at_the_end sentence it = strays_so sentence it.last (judged it.run it.parts)
+
+abbrev pub but_first : List Event → List Event
+but_first [] = []
+but_first (e ∷ later) = later
+
+-- the same script and history, with the parts that are found
+abbrev pub parts_found : Played → Played
+parts_found it = split (reverse (script it)) it.run (but_first (reverse (history it)))

@@ -3,6 +3,7 @@
 ghost use Rattle.std.specs.Prelude.{◌≡◌, true};
 ghost use Rattle.dsql_clients.specs.Computed.{is_legal};
 ghost use Rattle.dsql_follows.specs.Follows.{follows, history};
+ghost use Rattle.dsql_follow_cases.specs.Edits.{parts_found};
 ghost use Rattle.dsql_follow_cases.specs.Followed.{one_exec, rows_hold_the_connection, served_in_order, held_and_kept, stepped_by_hand, stepped_in_the_other_order, shared_rows, closed_while_waiting, answered_after_a_close, limit_lowered, two_at_once, released_at_the_end, waits_until_the_end};
 
 /// The parts of each of these runs follow their lines.
@@ -37,4 +38,21 @@ pub fn their_histories_are_legal()
     ensures two_at_once { is_legal (history two_at_once) ≡ true }
     ensures released_at_the_end { is_legal (history released_at_the_end) ≡ true }
     ensures waits_until_the_end { is_legal (history waits_until_the_end) ≡ true }
+{}
+
+/// The parts are found where only the script and the history are known.
+pub fn their_parts_are_found()
+    ensures one_exec { parts_found one_exec ≡ one_exec }
+    ensures rows_hold_the_connection { parts_found rows_hold_the_connection ≡ rows_hold_the_connection }
+    ensures served_in_order { parts_found served_in_order ≡ served_in_order }
+    ensures held_and_kept { parts_found held_and_kept ≡ held_and_kept }
+    ensures stepped_by_hand { parts_found stepped_by_hand ≡ stepped_by_hand }
+    ensures stepped_in_the_other_order { parts_found stepped_in_the_other_order ≡ stepped_in_the_other_order }
+    ensures shared_rows { parts_found shared_rows ≡ shared_rows }
+    ensures closed_while_waiting { parts_found closed_while_waiting ≡ closed_while_waiting }
+    ensures answered_after_a_close { parts_found answered_after_a_close ≡ answered_after_a_close }
+    ensures limit_lowered { parts_found limit_lowered ≡ limit_lowered }
+    ensures two_at_once { parts_found two_at_once ≡ two_at_once }
+    ensures released_at_the_end { parts_found released_at_the_end ≡ released_at_the_end }
+    ensures waits_until_the_end { parts_found waits_until_the_end ≡ waits_until_the_end }
 {}
