@@ -31,7 +31,8 @@ no_turn m client h =
 
 none_in_turn : (m : Moment) (e : Event) → m.released ≡ false → has_run_out m ≡ true → comes_in_turn m e ≡ false
 none_in_turn m (Heard e) r h =
-    either_false (e.call_no == 0) _ _ (nobody (first_chore m) e.conn (both (is_none (first_chore m)) (is_none (next_client m)) h).0)
+    either_false (e.call_no == 0) _ _
+    (second_false (e.call_no == 0) (is_it (first_chore m) e.conn) (nobody (first_chore m) e.conn (both (is_none (first_chore m)) (is_none (next_client m)) h).0))
     (first_false (is_turn_of m (client_of m.past e.call_no)) _ (no_turn m (client_of m.past e.call_no) h))
 none_in_turn m (Entered client n op) r h = first_false (is_turn_of m client) _ (no_turn m client h)
 none_in_turn m Ended r h = first_false m.released _ r

@@ -165,7 +165,7 @@ abbrev pub goes_on_by_itself : ℕ → Option Passed → Bool
 goes_on_by_itself n None = false
 goes_on_by_itself n (Some p) = not (is_from_outside p.event) && (stepping p.before p.event == n)
 
--- a call that can move and stands so only sends, which doesn't show, where a driver call of it is due
+-- Call n, which can move and stands so, goes on. Where a driver call of it is due it only sends, which doesn't show.
 abbrev pub wakes : ℕ → List Passed → Option Stand → Bool
 wakes n events (Some (Sends c)) = is_empty events
 wakes n events it = is_one_step events && goes_on_by_itself n (oldest events)

@@ -88,7 +88,7 @@ goes_in_turn m n = is_turn_of m (client_of m.past n) && not (is_in_flight n m.fl
 -- A step that begins with this event comes in its turn. The first chore is carried out, and where there is none the smallest client who may go on makes a
 -- step: an answer comes to its call, it enters its first kept line, or its call goes on by itself. The run ends once the turn is nobody's.
 abbrev pub comes_in_turn : Moment → Event → Bool
-comes_in_turn m (Heard e) = cond (e.call_no == 0) (is_it (first_chore m) e.conn) (is_turn_of m (client_of m.past e.call_no) && is_unfinished m.past e.call_no)
+comes_in_turn m (Heard e) = cond (e.call_no == 0) (is_chore m e) (is_turn_of m (client_of m.past e.call_no) && is_unfinished m.past e.call_no)
 comes_in_turn m (Entered client n op) = is_turn_of m client && is_free m.past client
 comes_in_turn m Ended = m.released && (not (has_ended m.past) && has_run_out m)
 comes_in_turn m (SetLimit setting n) = false
