@@ -18,7 +18,8 @@ use Rattle.dsql_pool.specs.declared.moves.Move.TheVariants.{OpenStart, Lend, Bac
 use Rattle.dsql_pool.specs.declared.moves.Outcome.{Outcome}
 use Rattle.dsql_pool.specs.declared.moves.Outcome.TheVariants.{Closes, Serves, Rests}
 use Rattle.dsql_pool.specs.Changes.{opening, back, closing, unwanted}
-use Rattle.dsql_pool.specs.Places.{conn_of, number_of, is_lent, is_idle, is_opening, is_closing}
+use Rattle.dsql_pool.specs.Places.{conn_of, is_lent, is_idle, is_opening, is_closing}
+use Rattle.dsql_journal.specs.Kinds.{number_of}
 use Rattle.dsql_pool.specs.Pooled.{Pooled, place_at, next_tenure, next_number, open_count, room, without}
 use Rattle.dsql_pool.specs.Rest.{times}
 use Rattle.dsql_pool.specs.Moved.{made, moved, begun, shut}

@@ -19,7 +19,8 @@ use Rattle.dsql_pool.specs.declared.moves.Move.{Move}
 use Rattle.dsql_pool.specs.declared.moves.Move.TheVariants.{OpenStart, Lend, Back, CloseStart, Gone, Fell}
 use Rattle.dsql_pool.specs.declared.moves.Outcome.{Outcome}
 use Rattle.dsql_pool.specs.declared.moves.Outcome.TheVariants.{Closes, Serves, Rests}
-use Rattle.dsql_pool.specs.Places.{conn_of, number_of, is_lent}
+use Rattle.dsql_pool.specs.Places.{conn_of, is_lent}
+use Rattle.dsql_journal.specs.Kinds.{number_of}
 use Rattle.dsql_pool.specs.Pooled.{Pooled, place_at, next_tenure, next_number}
 use Rattle.dsql_pool.specs.Moved.{made, moved, shut}
 use Rattle.dsql_pool.specs.Decisions.{closings_of_setting, falls_to, openings, due_openings, lends_to_oldest, moves_back, moves_unwanted, when_given_back, when_unwanted, when_opened}

@@ -11,7 +11,8 @@ use Rattle.dsql_pool.specs.declared.conn.Place.TheVariants.{Idle, Lent, Opening,
 use Rattle.dsql_pool.specs.declared.moves.Move.{Move}
 use Rattle.dsql_pool.specs.declared.moves.Move.TheVariants.{OpenStart, Lend, Back, CloseStart, Gone, Fell}
 use Rattle.dsql_pool.specs.Changes.{opening, lent, back, closing, unwanted}
-use Rattle.dsql_pool.specs.Places.{number_of, is_for}
+use Rattle.dsql_pool.specs.Places.{is_for}
+use Rattle.dsql_journal.specs.Kinds.{number_of}
 use Rattle.dsql_pool.specs.Pooled.{Pooled, next_number}
 use Rattle.dsql_pool.specs.Moved.{moved, begun, joined, shut}
 use Rattle.dsql_pool.specs.Calls.{wants, moves_asked}

@@ -5,7 +5,6 @@
 mod chores;
 mod desk;
 mod entering;
-mod entries;
 mod events;
 mod exchanges;
 mod labels;
@@ -19,7 +18,6 @@ mod telling;
 mod writes;
 
 pub use desk::Desk;
-pub use entries::{ends_line, is_bad_answer, is_done_answer, is_invalid_answer, number_of};
 pub use no_room::NoRoom;
 pub use replies::reply_of;
 pub use statement::{CallStart, Entering, Statement, Then};

@@ -1,4 +1,5 @@
 pub mod Fits
+pub mod Kinds
 pub mod Memory
 pub mod Streams
 pub mod Wires

@@ -6,6 +6,7 @@ mod answer;
 mod call;
 mod caps;
 mod clock;
+mod kinds;
 pub mod laws;
 mod memory;
 mod stream;

@@ -20,7 +20,8 @@ use Rattle.dsql_history.specs.declared.work.Work.{Work}
 use Rattle.dsql_history.specs.declared.work.Work.TheVariants.{Execute, ReadOne, HandOut, Fetch, Close, Look}
 use Rattle.dsql_history.specs.Readers.Lists.{first, without}
 use Rattle.dsql_history.specs.Readers.Course.{has_ended}
-use Rattle.dsql_history.specs.Readers.Sets.{place, is_for, number_of}
+use Rattle.dsql_history.specs.Readers.Sets.{place, is_for}
+use Rattle.dsql_journal.specs.Kinds.{number_of}
 use Rattle.dsql_history.specs.Readers.Works.{works, work, work_of, works_on, user_of}
 use Rattle.dsql_history.specs.Readers.Unfinished.{unfinished, is_unfinished}
 use Rattle.dsql_history.specs.Readers.Journals.{heard_in}

@@ -10,7 +10,8 @@ use Rattle.dsql_history.specs.declared.record.Place.{Place}
 use Rattle.dsql_history.specs.declared.record.Place.TheVariants.{Nowhere, Opening, Idle, Lent, Closing}
 use Rattle.dsql_history.specs.Readers.Lists.{without, first}
 use Rattle.dsql_history.specs.Readers.Course.{has_ended}
-use Rattle.dsql_history.specs.Readers.Sets.{places, place, idle, is_idle, number_of}
+use Rattle.dsql_history.specs.Readers.Sets.{places, place, idle, is_idle}
+use Rattle.dsql_journal.specs.Kinds.{number_of}
 use Rattle.dsql_journal.specs.declared.entry.Owner.{Owner}
 use Rattle.dsql_journal.specs.declared.entry.Owner.TheVariants.{Call}
 use Rattle.dsql_history.specs.Readers.Unfinished.{unfinished, is_unfinished}

@@ -17,7 +17,7 @@ use Rattle.dsql_course.specs.Rows.{rows_next}
 use Rattle.dsql_journal.specs.declared.entry.Entry.{Entry}
 use Rattle.dsql_journal.specs.declared.entry.Owner.TheVariants.{Call}
 use Rattle.dsql_journal.specs.declared.entry.Permit.{Permit}
-use Rattle.dsql_journal.specs.Kinds.{is_connect, is_shut, is_bad, is_valid}
+use Rattle.dsql_driver.specs.Kinds.{is_connect, is_shut, is_bad, is_valid}
 use Rattle.dsql_journal.specs.Readers.{went_bad}
 use Rattle.dsql_journal.specs.HandlesAndCursors.{fits_at_its_place}
 use Rattle.dsql_history.specs.declared.event.Event.{Event}

@@ -6,7 +6,7 @@ use Rattle.dsql_course.specs.Made.{Exchange}
 use Rattle.dsql_course.specs.declared.course.Wish.{Wish}
 use Rattle.dsql_journal.specs.declared.entry.Entry.{Entry}
 use Rattle.dsql_journal.specs.declared.entry.Owner.TheVariants.{Call}
-use Rattle.dsql_journal.specs.Kinds.{is_bad, is_valid}
+use Rattle.dsql_driver.specs.Kinds.{is_bad, is_valid}
 use Rattle.dsql_history.specs.declared.event.Event.{Event}
 use Rattle.dsql_history.specs.declared.record.Place.TheVariants.{Lent}
 use Rattle.dsql_history.specs.Readers.Sets.{place}

@@ -22,7 +22,8 @@ use Rattle.dsql_history.specs.declared.work.Work.{Work}
 use Rattle.dsql_history.specs.declared.work.Work.TheVariants.{Fetch, Close}
 use Rattle.dsql_history.specs.Readers.Lists.{without}
 use Rattle.dsql_history.specs.Readers.Course.{caps, has_ended}
-use Rattle.dsql_history.specs.Readers.Sets.{places, place, is_open, is_for, number_of, all_uses}
+use Rattle.dsql_history.specs.Readers.Sets.{places, place, is_open, is_for, all_uses}
+use Rattle.dsql_journal.specs.Kinds.{number_of}
 use Rattle.dsql_history.specs.Readers.Journals.{heard_in}
 use Rattle.dsql_history.specs.Readers.Exchanges.{exchanges}
 use Rattle.dsql_history.specs.Readers.Works.{work, asks, user_of}

@@ -12,7 +12,8 @@ use Rattle.dsql_history.specs.declared.record.Place.{Place}
 use Rattle.dsql_history.specs.declared.record.Place.TheVariants.{Nowhere, Lent}
 use Rattle.dsql_history.specs.declared.reply.Reply.{Reply}
 use Rattle.dsql_history.specs.Readers.Course.{caps}
-use Rattle.dsql_history.specs.Readers.Sets.{place, is_open, is_for, number_of}
+use Rattle.dsql_history.specs.Readers.Sets.{place, is_open, is_for}
+use Rattle.dsql_journal.specs.Kinds.{number_of}
 use Rattle.dsql_history.specs.Readers.Works.{work, asks}
 use Rattle.dsql_history.specs.Readers.Unfinished.{is_unfinished}
 use Rattle.dsql_history.specs.Readers.Journals.{heard_in}

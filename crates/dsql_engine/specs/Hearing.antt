@@ -9,7 +9,8 @@ use Rattle.dsql_engine.specs.Groups.{most_events}
 use Rattle.dsql_engine.specs.Turns.{TakesTurns}
 use Rattle.dsql_history.specs.declared.event.Event.{Event}
 use Rattle.dsql_history.specs.declared.record.Place.{Place}
-use Rattle.dsql_history.specs.Readers.Sets.{place, number_of}
+use Rattle.dsql_history.specs.Readers.Sets.{place}
+use Rattle.dsql_journal.specs.Kinds.{number_of}
 use Rattle.dsql_history.specs.Rules.Settled.{Settled}
 use Rattle.dsql_engine.specs.Awaited.{awaited, permit_of}
 use Rattle.dsql_history.specs.Readers.Works.{work}

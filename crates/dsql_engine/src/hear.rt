@@ -17,10 +17,7 @@ ghost use Rattle.dsql_journal.specs.declared.entry.Owner.TheVariants.{Call};
 
 use crate::lent::use_lent;
 use crate::next::{EVENTS_OF_A_STEP, Next};
-use dsql_desk::{
-    Desk, NoRoom, Statement, ends_line, is_bad_answer, is_done_answer, is_invalid_answer,
-    number_of, reply_of,
-};
+use dsql_desk::{Desk, NoRoom, Statement, reply_of};
 use dsql_driver::DriverAnswer;
 use dsql_history::{Place, Reply};
 use dsql_journal::{Entry, Owner};
@@ -46,7 +43,7 @@ pub fn ready_for(desk: &mut Desk, alloc: Global, entry: &Entry) -> Result<Hearin
     ensures past { past desk.new ≡ past desk.old }
 {
     let copy = entry.answer.clone()?;
-    let statement = desk.statement(alloc, number_of(entry.owner))?;
+    let statement = desk.statement(alloc, entry.owner.number())?;
     let reply = desk.reply_decided(alloc, entry)?;
     desk.pay(EVENTS_OF_A_STEP)?;
     Ok(Hearing {
@@ -83,7 +80,7 @@ fn hear_connect(desk: &mut Desk, call: u32, entry: Entry, copy: DriverAnswer) ->
     ensures reaches { Reaches desk.new (after_answer (Opening call) entry (Heard entry ∷ past desk.old)) }
     ensures next { result ≡ Next.Quiet }
 {
-    if is_done_answer(&entry.answer) {
+    if entry.answer.is_done() {
         connected(desk, call, entry)
     } else {
         refused(desk, call, entry, copy)
@@ -150,9 +147,9 @@ fn hear_call(desk: &mut Desk, tenure: u32, call: u32, entry: Entry, ready: Heari
         reply,
     } = ready;
     let conn = entry.conn;
-    let bad = is_bad_answer(&entry.answer);
-    let invalid = is_invalid_answer(&entry.answer);
-    let over = ends_line(&entry);
+    let bad = entry.answer.is_bad();
+    let invalid = entry.answer.is_invalid();
+    let over = entry.ends_line();
     desk.hear(entry, copy, reply);
     let next = desk.next_unless(over, conn, call, statement);
     use_lent(desk, conn, tenure, call, next, bad, invalid)

@@ -4,7 +4,7 @@ use native.Mathlib.Omega.{arith}
 use Rattle.dsql_journal.specs.declared.entry.Entry.{Entry}
 use Rattle.dsql_driver.specs.Fits.{fits_of, is_memory, is_failure}
 use Rattle.std.specs.List.{list_all}
-use Rattle.dsql_journal.specs.Kinds.{is_shut, is_connect}
+use Rattle.dsql_driver.specs.Kinds.{is_shut, is_connect}
 use Rattle.dsql_journal.specs.Readers.{was_shut, was_refused}
 use Rattle.dsql_journal.specs.Journal.{may_follow, is_journal_prefix, is_finished, IsJournalPrefix, IsWhole}
 use Rattle.dsql_journal.specs.Facts.{MayFollow}

@@ -8,7 +8,8 @@ use Rattle.dsql_driver.specs.declared.call.DriverCall.{DriverCall}
 use Rattle.dsql_driver.specs.declared.call.DriverCall.TheVariants.{Prepare, CloseStmt, Query, Next, CloseRows}
 use Rattle.dsql_driver.specs.declared.answer.DriverAnswer.{DriverAnswer}
 use Rattle.dsql_driver.specs.declared.answer.DriverAnswer.TheVariants.{Prepared, Cursor}
-use Rattle.dsql_journal.specs.Kinds.{if_any, given_handle, given_cursor}
+use Rattle.dsql_journal.specs.Kinds.{if_any}
+use Rattle.dsql_driver.specs.Kinds.{given_handle, given_cursor}
 use Rattle.dsql_journal.specs.Readers.{is_empty, LiveHandle, LiveCursor, handles, handles_after, handles_named, cursors, cursors_after, cursors_named, changed, after_next}
 use Rattle.dsql_journal.specs.Journal.{may_follow, is_journal_prefix, IsJournalPrefix}
 use Rattle.dsql_journal.specs.Facts.{MayFollow}

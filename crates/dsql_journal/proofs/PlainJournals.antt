@@ -9,7 +9,8 @@ use Rattle.dsql_driver.specs.declared.answer.DriverAnswer.{DriverAnswer}
 use Rattle.dsql_driver.specs.declared.answer.DriverAnswer.TheVariants.{Done, Bad, Fail, Memory}
 use Rattle.dsql_driver.specs.Fits.{fits_of, is_memory, is_failure, is_invalid}
 use Rattle.dsql_journal.specs.declared.entry.Entry.{Entry}
-use Rattle.dsql_journal.specs.Kinds.{◌⇒◌, is_bad, is_call}
+use Rattle.dsql_journal.specs.Kinds.{◌⇒◌, is_call}
+use Rattle.dsql_driver.specs.Kinds.{is_bad}
 use Rattle.dsql_journal.specs.Readers.{LiveHandle, is_empty, of_tenure, handles, cursors, begun, begins, was_refused, was_shut, went_bad, went_invalid}
 use Rattle.dsql_journal.specs.Tenure.{is_whole_tenure, has_ended_transactions, has_closed_cursors, has_closed_handles}
 use Rattle.dsql_journal.specs.Journal.{may_follow, is_journal_prefix, is_whole, IsJournalPrefix}

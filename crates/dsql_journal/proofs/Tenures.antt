@@ -7,7 +7,8 @@ use Rattle.dsql_journal.specs.declared.entry.Entry.{Entry}
 use Rattle.dsql_driver.specs.declared.call.DriverCall.TheVariants.{Shut}
 use Rattle.dsql_driver.specs.declared.answer.DriverAnswer.{DriverAnswer}
 use Rattle.dsql_driver.specs.declared.answer.DriverAnswer.TheVariants.{Prepared, Cursor}
-use Rattle.dsql_journal.specs.Kinds.{◌⇒◌, if_any, given_handle, given_cursor}
+use Rattle.dsql_journal.specs.Kinds.{◌⇒◌, if_any}
+use Rattle.dsql_driver.specs.Kinds.{given_handle, given_cursor}
 use Rattle.dsql_driver.specs.Fits.{fits_of, is_memory}
 use Rattle.dsql_journal.specs.Readers.{of_tenure, last_tenure, is_empty, went_bad, went_invalid, bad_tenure, handles_named, cursors_named}
 use Rattle.dsql_journal.specs.Journal.{may_follow, is_journal_prefix, IsJournalPrefix, IsWhole}

@@ -8,7 +8,8 @@ use Rattle.dsql_driver.specs.declared.call.DriverCall.{DriverCall}
 use Rattle.dsql_driver.specs.declared.call.DriverCall.TheVariants.{Prepare, CloseStmt, Query, Next, CloseRows}
 use Rattle.dsql_driver.specs.declared.answer.DriverAnswer.{DriverAnswer}
 use Rattle.dsql_driver.specs.declared.answer.DriverAnswer.TheVariants.{Prepared, Cursor}
-use Rattle.dsql_journal.specs.Kinds.{◌⇒◌, is_call, is_bad, is_ending}
+use Rattle.dsql_journal.specs.Kinds.{◌⇒◌, is_call}
+use Rattle.dsql_driver.specs.Kinds.{is_bad, is_ending}
 use Rattle.dsql_journal.specs.Readers.{is_empty, has, of_tenure, last_tenure, LiveHandle, LiveCursor, handles, handles_after, cursors, cursors_after, changed, after_next, begun, ended, went_bad}
 use Rattle.dsql_journal.specs.Tenure.{has_ended_transactions, has_closed_cursors, has_closed_handles, is_whole_tenure}
 use Rattle.dsql_journal.specs.Journal.{may_follow, is_journal_prefix, IsJournalPrefix}

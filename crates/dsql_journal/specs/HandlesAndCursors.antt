@@ -5,7 +5,8 @@ use Rattle.dsql_journal.specs.declared.entry.Entry.{Entry}
 use Rattle.dsql_driver.specs.declared.answer.DriverAnswer.{DriverAnswer}
 use Rattle.dsql_driver.specs.declared.answer.DriverAnswer.TheVariants.{Row}
 use Rattle.dsql_driver.specs.Fits.{fits_of, is_memory}
-use Rattle.dsql_journal.specs.Kinds.{◌⇒◌, if_any, is_next, is_close_stmt, handle_of, cursor_of, given_handle, given_cursor, is_call, is_house}
+use Rattle.dsql_journal.specs.Kinds.{◌⇒◌, if_any, is_call, is_house}
+use Rattle.dsql_driver.specs.Kinds.{is_next, is_close_stmt, handle_of, cursor_of, given_handle, given_cursor}
 use Rattle.dsql_journal.specs.Readers.{is_empty, LiveHandle, LiveCursor, handles_named, cursors_named}
 
 -- the test of each live handle that the call names

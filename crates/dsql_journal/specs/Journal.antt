@@ -2,7 +2,7 @@
 use Rattle.std.specs.Prelude.{Bool, true, false, ◌&&◌, ◌||◌, IsTrue, List, [], ◌∷◌}
 use Rattle.dsql_journal.specs.declared.entry.Entry.{Entry}
 use Rattle.dsql_driver.specs.Fits.{is_failure}
-use Rattle.dsql_journal.specs.Kinds.{is_connect, is_shut}
+use Rattle.dsql_driver.specs.Kinds.{is_connect, is_shut}
 use Rattle.dsql_journal.specs.Readers.{last_tenure}
 use Rattle.dsql_journal.specs.Tenure.{is_whole_tenure, keeps_tenure}
 use Rattle.dsql_journal.specs.Transaction.{keeps_transaction}

@@ -8,7 +8,7 @@ use Rattle.dsql_driver.specs.declared.answer.DriverAnswer.TheVariants.{Prepared,
 use Rattle.dsql_driver.specs.Fits.{is_done, is_failure, is_invalid}
 use Rattle.dsql_journal.specs.declared.entry.Entry.{Entry}
 use Rattle.dsql_journal.specs.declared.entry.Owner.{Owner}
-use Rattle.dsql_journal.specs.Kinds.{is_connect, is_shut, is_begin, is_ending, is_bad, is_over}
+use Rattle.dsql_driver.specs.Kinds.{is_connect, is_shut, is_begin, is_ending, is_bad, is_over}
 
 abbrev pub is_empty : {X : Type 0} → List X → Bool
 is_empty [] = true

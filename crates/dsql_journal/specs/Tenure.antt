@@ -8,7 +8,8 @@ use Rattle.dsql_driver.specs.declared.call.DriverCall.{DriverCall}
 use Rattle.dsql_driver.specs.declared.call.DriverCall.TheVariants.{Prepare, Exec, Query, Next, CloseRows, CloseStmt}
 use Rattle.dsql_driver.specs.declared.call.Input.TheVariants.{Text, Handle}
 use Rattle.dsql_driver.specs.Fits.{is_failure, is_skip}
-use Rattle.dsql_journal.specs.Kinds.{◌⇒◌, if_any, is_number, is_connect, is_reset, is_valid, is_ping, is_prepare, runs_text, runs_handle, is_next, is_close_stmt, is_begin, is_shut, is_work, handle_of, cursor_of, given_handle, given_cursor, is_bad, is_house, is_call, same_owner}
+use Rattle.dsql_journal.specs.Kinds.{◌⇒◌, if_any, is_number, is_house, is_call, same_owner}
+use Rattle.dsql_driver.specs.Kinds.{is_connect, is_reset, is_valid, is_ping, is_prepare, runs_text, runs_handle, is_next, is_close_stmt, is_begin, is_shut, is_work, handle_of, cursor_of, given_handle, given_cursor, is_bad}
 use Rattle.dsql_journal.specs.Readers.{is_empty, has, of_tenure, handles, cursors, begun, ended, went_bad}
 
 -- Each transaction that was begun in tenure n has had its Commit or Rollback.

@@ -3,7 +3,8 @@ use Rattle.std.specs.Prelude.{Bool, ◌&&◌, ◌||◌, not, ◌==◌, List}
 use Rattle.std.specs.List.{list_any, list_all}
 use Rattle.dsql_journal.specs.declared.entry.Entry.{Entry}
 use Rattle.dsql_driver.specs.Fits.{is_done}
-use Rattle.dsql_journal.specs.Kinds.{◌⇒◌, if_any, is_number, is_close_stmt, is_begin, is_ending, is_work, handle_of, given_handle, is_pin, is_tx_number}
+use Rattle.dsql_journal.specs.Kinds.{◌⇒◌, if_any, is_number, is_pin, is_tx_number}
+use Rattle.dsql_driver.specs.Kinds.{is_close_stmt, is_begin, is_ending, is_work, handle_of, given_handle}
 use Rattle.dsql_journal.specs.Readers.{is_empty, of_transaction, cursors, went_bad}
 
 -- what the transaction of e has before it, newest first

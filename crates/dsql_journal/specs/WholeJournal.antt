@@ -2,7 +2,8 @@
 use Rattle.std.specs.Prelude.{Bool, ◌&&◌, ◌||◌, not, ◌==◌, nat_lt, nat_le, List, if◌then◌else◌}
 use Rattle.std.specs.List.{list_all}
 use Rattle.dsql_journal.specs.declared.entry.Entry.{Entry}
-use Rattle.dsql_journal.specs.Kinds.{◌⇒◌, if_any, is_connect, is_reset, is_valid, is_close_stmt, is_close_rows, is_shut}
+use Rattle.dsql_journal.specs.Kinds.{◌⇒◌, if_any}
+use Rattle.dsql_driver.specs.Kinds.{is_connect, is_reset, is_valid, is_close_stmt, is_close_rows, is_shut}
 use Rattle.dsql_journal.specs.Readers.{is_empty, last_tenure, bad_tenure, went_bad, went_invalid, was_refused, was_shut}
 use Rattle.dsql_journal.specs.Tenure.{is_whole_tenure}
 

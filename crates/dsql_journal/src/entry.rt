@@ -1,4 +1,6 @@
-ghost use Rattle.std.specs.Prelude.{◌≡◌};
+ghost use Rattle.std.specs.Prelude.{◌≡◌, ◌||◌};
+ghost use Rattle.dsql_driver.specs.Kinds.{is_bad, is_valid};
+ghost use Rattle.dsql_journal.specs.Kinds.{is_house, is_call, is_tx_number, is_pin, same_owner, number_of};
 ghost use Rattle.dsql_journal.specs.Permits.{entry_of};
 
 use dsql_driver::{DriverAnswer, DriverCall};
@@ -13,6 +15,56 @@ pub enum Owner {
     House,
 }
 
+impl Owner {
+    /// The layer itself.
+    pub fn is_house(self) -> bool
+        ensures { result ≡ is_house self }
+    {
+        matches!(self, Owner::House)
+    }
+
+    /// A call on the database.
+    pub fn is_call(self) -> bool
+        ensures { result ≡ is_call self }
+    {
+        matches!(self, Owner::Call(_))
+    }
+
+    /// A transaction of this number stands in a tenure of such an owner.
+    pub fn owns_transaction(self, tx: u32) -> bool
+        ensures { result ≡ (is_tx_number tx self || is_pin self) }
+    {
+        match self {
+            Owner::Tx(own) => own == tx,
+            Owner::Pin(_) => true,
+            Owner::Call(_) | Owner::House => false,
+        }
+    }
+
+    /// The same owner.
+    pub fn is_same(self, other: Owner) -> bool
+        ensures { result ≡ same_owner self other }
+    {
+        match (self, other) {
+            (Owner::Call(n), Owner::Call(m))
+            | (Owner::Tx(n), Owner::Tx(m))
+            | (Owner::Pin(n), Owner::Pin(m)) => n == m,
+            (Owner::House, Owner::House) => true,
+            _ => false,
+        }
+    }
+
+    /// Its number, 0 for the layer itself.
+    pub fn number(self) -> u32
+        ensures { result ≡ number_of self }
+    {
+        match self {
+            Owner::Call(n) | Owner::Tx(n) | Owner::Pin(n) => n,
+            Owner::House => 0,
+        }
+    }
+}
+
 /// One line of a connection's journal. Connections and their tenures are numbered from 1; `call_no` is
 /// the client's call that sent it, 0 for the layer itself; `tx` is its transaction, 0 for none.
 #[derive(Clone, Debug, Drop)]
@@ -24,6 +76,15 @@ pub struct Entry {
     pub tx: u32,
     pub call: DriverCall,
     pub answer: DriverAnswer,
+}
+
+impl Entry {
+    /// Nothing comes after this entry in its call: it was answered Bad, or was the test of its connection.
+    pub fn ends_line(&self) -> bool
+        ensures { result ≡ (is_bad self.now.answer || is_valid self.now.call) }
+    {
+        self.answer.is_bad() || self.call.is_valid()
+    }
 }
 
 /// Leave to make one driver call: an entry without its answer.

@@ -12,7 +12,8 @@ use Rattle.dsql_driver.specs.declared.answer.DriverAnswer.{DriverAnswer}
 use Rattle.dsql_driver.specs.declared.answer.DriverAnswer.TheVariants.{Prepared}
 use Rattle.dsql_journal.specs.declared.entry.Entry.{Entry}
 use Rattle.dsql_journal.specs.declared.entry.Owner.TheVariants.{Call}
-use Rattle.dsql_journal.specs.Kinds.{◌⇒◌, is_bad, is_call, is_connect, is_prepare, is_reset, is_valid, is_ping, is_next, is_number, same_owner, given_handle}
+use Rattle.dsql_journal.specs.Kinds.{◌⇒◌, is_call, is_number, same_owner}
+use Rattle.dsql_driver.specs.Kinds.{is_bad, is_connect, is_prepare, is_reset, is_valid, is_ping, is_next, given_handle}
 use Rattle.dsql_journal.specs.Readers.{LiveHandle, is_empty, of_tenure, last_tenure, handles, handles_after, handles_named, cursors, cursors_named, begun, went_bad, bad_tenure, was_refused, was_shut}
 use Rattle.dsql_journal.specs.Tenure.{is_body, place, is_whole_tenure, goes_in_order, has_closed_cursors, closes_own_handle, closes_rows_first, follows_skip, runs_own_handle, uses_own_cursor}
 use Rattle.dsql_journal.specs.HandlesAndCursors.{has_live_handle, has_live_cursor, fetches_before_the_end, has_transaction_of_handle, has_transaction_of_cursor, uses_cursor_in_its_tenure, uses_handle_in_its_tenure, uses_handle_in_call_tenures, fits_at_its_place, is_heard, is_fitting, gives_new_handle, gives_new_cursor, has_width_of_cursor}

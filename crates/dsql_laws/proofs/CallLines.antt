@@ -13,7 +13,8 @@ use Rattle.dsql_driver.specs.Fits.{is_skip}
 use Rattle.dsql_value.specs.declared.value.Param.{Param}
 use Rattle.dsql_journal.specs.declared.entry.Entry.{Entry}
 use Rattle.dsql_journal.specs.declared.entry.Owner.TheVariants.{Call}
-use Rattle.dsql_journal.specs.Kinds.{◌⇒◌, is_number, is_ping, is_prepare, is_valid, is_over, runs_text, given_handle, given_cursor}
+use Rattle.dsql_journal.specs.Kinds.{◌⇒◌, is_number}
+use Rattle.dsql_driver.specs.Kinds.{is_ping, is_prepare, is_valid, is_over, runs_text, given_handle, given_cursor}
 use Rattle.dsql_journal.specs.Readers.{LiveHandle, LiveCursor, handles, handles_after, cursors, cursors_after}
 use Rattle.dsql_journal.specs.Tenure.{place}
 

@@ -17,7 +17,7 @@ use Rattle.dsql_course.specs.declared.call.Due.{Due}
 use Rattle.dsql_course.specs.declared.call.Got.TheVariants as got
 use Rattle.dsql_course.specs.Made.{Exchange, given_cursor, own_cursor, rows_are_over}
 use Rattle.dsql_journal.specs.declared.entry.Entry.{Entry}
-use Rattle.dsql_journal.specs.Kinds.{is_bad, is_valid, is_next}
+use Rattle.dsql_driver.specs.Kinds.{is_bad, is_valid, is_next}
 use Rattle.dsql_rows.specs.declared.rows.Rows.{Rows}
 use Rattle.dsql_rows.specs.declared.end.RowsEnd.{RowsEnd}
 use Rattle.dsql_rows.specs.declared.end.RowsEnd.TheVariants.{EndOfRows, Failed, BadConn}

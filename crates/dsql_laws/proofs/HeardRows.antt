@@ -5,7 +5,8 @@ use Rattle.dsql_course.specs.declared.course.Wish.TheVariants as wishes
 use Rattle.dsql_course.specs.Made.{rows_are_over}
 use Rattle.dsql_journal.specs.declared.entry.Entry.{Entry}
 use Rattle.dsql_journal.specs.declared.entry.Owner.TheVariants.{Call, Tx, Pin, House}
-use Rattle.dsql_journal.specs.Kinds.{is_connect, is_shut, is_house, same_owner}
+use Rattle.dsql_journal.specs.Kinds.{is_house, same_owner}
+use Rattle.dsql_driver.specs.Kinds.{is_connect, is_shut}
 use Rattle.dsql_journal.specs.Facts.{MayFollow}
 use Rattle.dsql_journal.proofs.Sentences.{MayFollow-of}
 use Rattle.dsql_rows.specs.declared.rows.Rows.{Rows}

@@ -20,7 +20,8 @@ use Rattle.dsql_history.specs.declared.record.CallRecord.{CallRecord}
 use Rattle.dsql_history.specs.declared.work.Work.{Work}
 use Rattle.dsql_history.specs.declared.work.Work.TheVariants.{Fetch, Close, Look}
 use Rattle.dsql_history.specs.Readers.Course.{caps, has_ended}
-use Rattle.dsql_history.specs.Readers.Sets.{places, place, is_for, is_opening, is_closing, is_lent, number_of}
+use Rattle.dsql_history.specs.Readers.Sets.{places, place, is_for, is_opening, is_closing, is_lent}
+use Rattle.dsql_journal.specs.Kinds.{number_of}
 use Rattle.dsql_history.specs.Readers.Works.{works, work, asks}
 use Rattle.dsql_history.specs.Readers.HandedOut.{rows_by}
 use Rattle.dsql_history.specs.Readers.Journals.{heard_in}

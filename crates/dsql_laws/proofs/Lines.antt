@@ -14,7 +14,8 @@ use Rattle.dsql_course.specs.declared.course.Wish.{Wish}
 use Rattle.dsql_journal.specs.declared.entry.Entry.{Entry}
 use Rattle.dsql_journal.specs.declared.entry.Owner.{Owner}
 use Rattle.dsql_journal.specs.declared.entry.Owner.TheVariants.{Call, Tx, Pin, House}
-use Rattle.dsql_journal.specs.Kinds.{is_valid, is_bad, same_owner}
+use Rattle.dsql_journal.specs.Kinds.{same_owner}
+use Rattle.dsql_driver.specs.Kinds.{is_valid, is_bad}
 use Rattle.dsql_journal.specs.Readers.{is_empty, of_tenure, last_tenure, handles, handles_after, cursors, cursors_after, went_invalid}
 use Rattle.dsql_journal.specs.HandlesAndCursors.{fits_at_its_place}
 use Rattle.dsql_journal.specs.Journal.{may_follow, IsJournalPrefix}

@@ -18,7 +18,7 @@ use Rattle.dsql_course.specs.declared.call.Got.TheVariants as got
 use Rattle.dsql_course.specs.Steps.{PrepareText, steps, behind}
 use Rattle.dsql_course.specs.Made.{Exchange, went_bad, own_handle, own_cursor, rows_are_over, has_fast_way}
 use Rattle.dsql_course.specs.Line.{comes_next, steps_left}
-use Rattle.dsql_journal.specs.Kinds.{is_bad, is_valid, is_over}
+use Rattle.dsql_driver.specs.Kinds.{is_bad, is_valid, is_over}
 use Rattle.dsql_history.specs.declared.work.Aim.{Aim}
 use Rattle.dsql_history.specs.declared.work.Aim.TheVariants as aims
 use Rattle.dsql_course.specs.declared.course.Wish.{Wish}

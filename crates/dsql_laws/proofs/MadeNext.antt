@@ -19,7 +19,7 @@ use Rattle.dsql_course.specs.declared.call.Got.TheVariants as got
 use Rattle.dsql_course.specs.Made.{Exchange, is_bad as is_bad_got, given_handle, given_cursor, went_bad, own_handle, own_cursor, rows_are_over, has_fast_way}
 use Rattle.dsql_course.specs.Rows.{closing_next}
 use Rattle.dsql_course.proofs.Handed.{rows_are_closed}
-use Rattle.dsql_journal.specs.Kinds.{is_bad, is_over}
+use Rattle.dsql_driver.specs.Kinds.{is_bad, is_over}
 use Rattle.dsql_history.specs.Readers.Exchanges.{step_of, got_of, with_exchange}
 use Rattle.dsql_history.specs.declared.work.Aim.{Aim}
 use Rattle.dsql_history.specs.declared.work.Aim.TheVariants as aims

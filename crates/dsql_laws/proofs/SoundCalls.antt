@@ -6,7 +6,7 @@ use Rattle.dsql_driver.specs.Fits.{is_done}
 use Rattle.dsql_journal.specs.declared.entry.Entry.{Entry}
 use Rattle.dsql_journal.specs.declared.entry.Owner.{Owner}
 use Rattle.dsql_journal.specs.declared.entry.Owner.TheVariants.{Call, Tx, Pin, House}
-use Rattle.dsql_journal.specs.Kinds.{is_call}
+use Rattle.dsql_journal.specs.Kinds.{is_call, number_of}
 use Rattle.dsql_journal.specs.Readers.{has, is_empty}
 use Rattle.dsql_history.specs.declared.event.Event.{Event}
 use Rattle.dsql_history.specs.declared.event.Event.TheVariants.{Run, Entered, Heard, Pool, Replied, Ended}
@@ -19,7 +19,7 @@ use Rattle.dsql_history.specs.declared.record.CallRecord.{CallRecord}
 use Rattle.dsql_history.specs.declared.reply.Reply.{Reply}
 use Rattle.dsql_history.specs.Readers.Lists.{last}
 use Rattle.dsql_history.specs.Readers.Course.{caps, has_ended}
-use Rattle.dsql_history.specs.Readers.Sets.{places, place, idle, is_idle, is_opening, is_for, number_of, next_number, next_tenure}
+use Rattle.dsql_history.specs.Readers.Sets.{places, place, idle, is_idle, is_opening, is_for, next_number, next_tenure}
 use Rattle.dsql_history.specs.Readers.Works.{works, work, work_of, asks, hands_out, user_of}
 use Rattle.dsql_history.specs.Readers.Calls.{calls, home, next_call, nobody, with_record, call_record, has_not_asked, statement, params_at_entry, told_at_entry, is_busy, decision, refusal, sender, user}
 use Rattle.dsql_history.specs.declared.work.Work.{Work}

@@ -5,7 +5,8 @@ use Rattle.dsql_driver.specs.Fits.{is_done}
 use Rattle.dsql_journal.specs.declared.entry.Entry.{Entry}
 use Rattle.dsql_journal.specs.declared.entry.Owner.{Owner}
 use Rattle.dsql_journal.specs.declared.entry.Owner.TheVariants.{Call, Tx, Pin, House}
-use Rattle.dsql_journal.specs.Kinds.{is_call, is_connect, is_shut, is_house, same_owner}
+use Rattle.dsql_journal.specs.Kinds.{is_call, is_house, same_owner, number_of}
+use Rattle.dsql_driver.specs.Kinds.{is_connect, is_shut}
 use Rattle.dsql_journal.specs.Journal.{may_follow, IsJournalPrefix}
 use Rattle.dsql_journal.proofs.PlainJournals.{IsJournalPrefix-with}
 use Rattle.dsql_history.specs.declared.event.Event.{Event}
@@ -16,7 +17,7 @@ use Rattle.dsql_history.specs.declared.event.CloseCause.{CloseCause}
 use Rattle.dsql_history.specs.declared.record.Place.{Place}
 use Rattle.dsql_history.specs.declared.record.Place.TheVariants.{Nowhere, Opening, Idle, Lent, Closing}
 use Rattle.dsql_history.specs.Readers.Course.{caps, has_ended}
-use Rattle.dsql_history.specs.Readers.Sets.{places, place, idle, is_opening, is_closing, is_lent, is_idle, number_of, all_lends, lends, all_uses, uses}
+use Rattle.dsql_history.specs.Readers.Sets.{places, place, idle, is_opening, is_closing, is_lent, is_idle, all_lends, lends, all_uses, uses}
 use Rattle.dsql_history.specs.Readers.Works.{work}
 use Rattle.dsql_history.specs.Readers.Calls.{sender}
 use Rattle.dsql_history.specs.Readers.Journals.{journal, heard_in}

@@ -6,7 +6,8 @@ use Rattle.dsql_driver.specs.declared.caps.Caps.{Caps}
 use Rattle.dsql_journal.specs.declared.entry.Entry.{Entry}
 use Rattle.dsql_journal.specs.declared.entry.Owner.{Owner}
 use Rattle.dsql_journal.specs.declared.entry.Owner.TheVariants.{Call}
-use Rattle.dsql_journal.specs.Kinds.{is_connect, is_shut, same_owner}
+use Rattle.dsql_journal.specs.Kinds.{same_owner}
+use Rattle.dsql_driver.specs.Kinds.{is_connect, is_shut}
 use Rattle.dsql_journal.specs.Readers.{is_empty}
 use Rattle.dsql_journal.specs.Facts.{MayFollow}
 use Rattle.dsql_journal.proofs.Sentences.{MayFollow-of}

@@ -29,7 +29,7 @@ use Rattle.dsql_course.specs.Made.{Exchange, own_cursor, has_fast_way}
 use Rattle.dsql_journal.specs.declared.entry.Entry.{Entry}
 use Rattle.dsql_journal.specs.declared.entry.Owner.{Owner}
 use Rattle.dsql_journal.specs.declared.entry.Owner.TheVariants.{Call}
-use Rattle.dsql_journal.specs.Kinds.{is_bad, is_valid}
+use Rattle.dsql_driver.specs.Kinds.{is_bad, is_valid}
 use Rattle.dsql_history.specs.declared.event.Event.{Event}
 use Rattle.dsql_history.specs.declared.event.Event.TheVariants.{Run, Entered, Heard, Pool, Replied, Ended}
 use Rattle.dsql_history.specs.declared.event.Op.{Op}

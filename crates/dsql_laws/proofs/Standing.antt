@@ -13,7 +13,8 @@ use Rattle.dsql_course.specs.declared.course.Wish.{Wish}
 use Rattle.dsql_journal.specs.declared.entry.Entry.{Entry}
 use Rattle.dsql_journal.specs.declared.entry.Owner.{Owner}
 use Rattle.dsql_journal.specs.declared.entry.Owner.TheVariants.{Call, Tx, Pin, House}
-use Rattle.dsql_journal.specs.Kinds.{◌⇒◌, is_connect, is_house, is_reset, is_valid}
+use Rattle.dsql_journal.specs.Kinds.{◌⇒◌, is_house}
+use Rattle.dsql_driver.specs.Kinds.{is_connect, is_reset, is_valid}
 use Rattle.dsql_journal.specs.Readers.{is_empty, of_tenure, last_tenure, handles, cursors, begun, begins, went_bad, went_invalid}
 use Rattle.dsql_journal.specs.Tenure.{is_whole_tenure}
 use Rattle.dsql_journal.specs.Journal.{may_follow, IsJournalPrefix}

@@ -19,7 +19,8 @@ use Rattle.dsql_history.specs.declared.reply.Reply.{Reply}
 use Rattle.dsql_history.specs.declared.work.Work.{Work}
 use Rattle.dsql_history.specs.declared.work.Work.TheVariants.{Look}
 use Rattle.dsql_history.specs.Readers.Course.{caps, has_ended}
-use Rattle.dsql_history.specs.Readers.Sets.{places, place, is_for, number_of}
+use Rattle.dsql_history.specs.Readers.Sets.{places, place, is_for}
+use Rattle.dsql_journal.specs.Kinds.{number_of}
 use Rattle.dsql_history.specs.Readers.Works.{work, user_of}
 use Rattle.dsql_history.specs.Readers.HandedOut.{rows_by}
 use Rattle.dsql_history.specs.Readers.Journals.{heard_in}

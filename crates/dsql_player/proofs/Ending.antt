@@ -11,7 +11,8 @@ use Rattle.dsql_history.specs.declared.event.CloseCause.TheVariants.{DbClosed}
 use Rattle.dsql_history.specs.declared.record.Place.{Place}
 use Rattle.dsql_history.specs.declared.record.Place.TheVariants.{Nowhere, Opening, Idle, Lent, Closing}
 use Rattle.dsql_history.specs.Readers.Course.{has_ended}
-use Rattle.dsql_history.specs.Readers.Sets.{place, places, idle, is_idle, is_closing, number_of}
+use Rattle.dsql_history.specs.Readers.Sets.{place, places, idle, is_idle, is_closing}
+use Rattle.dsql_journal.specs.Kinds.{number_of}
 use Rattle.dsql_journal.specs.declared.entry.Owner.{Owner}
 use Rattle.dsql_journal.specs.declared.entry.Owner.TheVariants.{Call}
 use Rattle.dsql_history.specs.Readers.Lists.{first}

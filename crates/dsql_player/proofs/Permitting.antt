@@ -10,7 +10,7 @@ use Rattle.dsql_journal.specs.declared.entry.Entry.{Entry}
 use Rattle.dsql_journal.specs.declared.entry.Owner.TheVariants.{Call, Tx, Pin, House}
 use Rattle.dsql_journal.specs.declared.entry.Permit.{Permit}
 use Rattle.dsql_journal.specs.Permits.{entry_of}
-use Rattle.dsql_journal.specs.Kinds.{is_begin}
+use Rattle.dsql_driver.specs.Kinds.{is_begin}
 use Rattle.dsql_journal.specs.Journal.{may_follow}
 use Rattle.dsql_journal.specs.HandlesAndCursors.{fits_at_its_place, is_heard, is_fitting, gives_new_handle, gives_new_cursor, has_width_of_cursor}
 use Rattle.dsql_journal.proofs.Conjunctions.{parts5}

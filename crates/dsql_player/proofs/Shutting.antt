@@ -3,7 +3,7 @@ use Rattle.std.proofs.Common.{inr, ◌≡◌, ◌≢◌, ℕ, Bool, true, false,
 use Rattle.dsql_driver.specs.Wires.{WireTold, with_retired}
 use Rattle.dsql_driver.specs.declared.call.DriverCall.{DriverCall}
 use Rattle.dsql_driver.specs.declared.call.DriverCall.TheVariants.{Shut}
-use Rattle.dsql_journal.specs.Kinds.{is_connect, is_shut}
+use Rattle.dsql_driver.specs.Kinds.{is_connect, is_shut}
 use Rattle.dsql_journal.specs.declared.entry.Entry.{Entry}
 use Rattle.dsql_history.specs.declared.event.Event.{Event}
 use Rattle.dsql_history.specs.declared.event.Event.TheVariants.{Heard, Pool}

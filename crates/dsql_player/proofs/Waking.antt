@@ -8,7 +8,8 @@ use Rattle.dsql_journal.specs.declared.entry.Owner.TheVariants.{Call}
 use Rattle.dsql_history.specs.declared.event.Event.{Event}
 use Rattle.dsql_history.specs.declared.record.Place.{Place}
 use Rattle.dsql_history.specs.declared.record.Place.TheVariants.{Nowhere, Opening, Idle, Lent, Closing}
-use Rattle.dsql_history.specs.Readers.Sets.{place, places, is_opening, is_for, is_open, number_of}
+use Rattle.dsql_history.specs.Readers.Sets.{place, places, is_opening, is_for, is_open}
+use Rattle.dsql_journal.specs.Kinds.{number_of}
 use Rattle.dsql_history.specs.declared.work.Work.{Work}
 use Rattle.dsql_history.specs.declared.work.Work.TheVariants.{Execute, ReadOne, HandOut, Fetch, Close, Look}
 use Rattle.dsql_history.specs.Readers.Works.{work, asks, user_of}

@@ -4,7 +4,7 @@ use Rattle.std.specs.List.{list_all}
 use Rattle.dsql_driver.specs.declared.call.DriverCall.{DriverCall}
 use Rattle.dsql_journal.specs.declared.entry.Entry.{Entry}
 use Rattle.dsql_journal.specs.declared.entry.Permit.{Permit}
-use Rattle.dsql_journal.specs.Kinds.{is_connect, is_shut}
+use Rattle.dsql_driver.specs.Kinds.{is_connect, is_shut}
 use Rattle.dsql_history.specs.declared.event.Event.{Event}
 use Rattle.dsql_history.specs.declared.event.Event.TheVariants.{Entered, Heard, Ended}
 use Rattle.dsql_history.specs.Readers.Course.{has_ended}

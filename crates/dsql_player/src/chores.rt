@@ -2,7 +2,7 @@ ghost use Rattle.std.specs.Prelude.{◌≡◌, ◌≢◌, ◌<◌, ◌≤◌, �
 ghost use Rattle.dsql_driver.specs.Fits.{is_memory};
 ghost use Rattle.dsql_driver.specs.Wires.{connected_after};
 ghost use Rattle.dsql_journal.specs.HandlesAndCursors.{fits_at_its_place};
-ghost use Rattle.dsql_journal.specs.Kinds.{is_connect, is_shut};
+ghost use Rattle.dsql_driver.specs.Kinds.{is_connect, is_shut};
 ghost use Rattle.dsql_history.specs.Legal.{Legal};
 ghost use Rattle.dsql_history.specs.Readers.Unfinished.{unfinished};
 ghost use Rattle.dsql_history.specs.Rules.House.{has_no_chore};

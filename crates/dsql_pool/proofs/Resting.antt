@@ -24,7 +24,8 @@ use Rattle.dsql_pool.specs.declared.moves.Outcome.{Outcome}
 use Rattle.dsql_pool.specs.declared.moves.Outcome.TheVariants.{Closes, Serves, Rests}
 use Rattle.dsql_pool.specs.declared.request.Asked.TheVariants as asked
 use Rattle.dsql_pool.specs.declared.request.AskFault.TheVariants.{TooMany}
-use Rattle.dsql_pool.specs.Places.{conn_of, number_of, is_idle, is_lent, is_opening, is_closing, is_free}
+use Rattle.dsql_pool.specs.Places.{conn_of, is_idle, is_lent, is_opening, is_closing, is_free}
+use Rattle.dsql_journal.specs.Kinds.{number_of}
 use Rattle.dsql_pool.specs.Changes.{opening, opened_at, gone}
 use Rattle.dsql_pool.specs.Pooled.{Pooled, place_at, open_count, free_openings, next_number, next_tenure, room, most_open}
 use Rattle.dsql_pool.specs.Moved.{moved, made, begun, joined}

@@ -2,7 +2,7 @@
 use Rattle.std.specs.Prelude.{ℕ, ℤ, ◌≡◌, ◌<◌, Bool, false, ◌||◌, List, [], ◌∷◌, ◌++◌, Some, Result, Ok}
 use Rattle.std.specs.List.{list_any}
 use Rattle.dsql_journal.specs.declared.entry.Owner.TheVariants.{House}
-use Rattle.dsql_journal.specs.Kinds.{is_house}
+use Rattle.dsql_journal.specs.Kinds.{is_house, number_of}
 use Rattle.dsql_wait.specs.declared.request.Request.{Request}
 use Rattle.dsql_wait.specs.Requests.{waits}
 use Rattle.dsql_pool.specs.declared.moves.Move.{Move}
@@ -11,7 +11,7 @@ use Rattle.dsql_pool.specs.declared.moves.Fate.{Fate}
 use Rattle.dsql_pool.specs.declared.request.Asked.{Asked}
 use Rattle.dsql_pool.specs.declared.request.Asked.TheVariants as asked
 use Rattle.dsql_pool.specs.declared.request.AskFault.{AskFault}
-use Rattle.dsql_pool.specs.Places.{number_of, is_for}
+use Rattle.dsql_pool.specs.Places.{is_for}
 use Rattle.dsql_pool.specs.Pooled.{Pooled, place_at, next_tenure}
 use Rattle.dsql_pool.specs.Moved.{moved, made, begun, joined, limited, with_open, with_idle, with_lifetime, with_idle_time, ticked, shut}
 use Rattle.dsql_pool.specs.Decisions.{ask_outcome, when_given_back, moves_back, when_opened, falls_to, openings_for_waiting, closings_of_setting, closings_of_tick, closings_of_close}

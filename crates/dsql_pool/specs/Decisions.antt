@@ -20,7 +20,8 @@ use Rattle.dsql_pool.specs.declared.request.Asked.{Asked}
 use Rattle.dsql_pool.specs.declared.request.Asked.TheVariants as asked
 use Rattle.dsql_pool.specs.declared.request.AskFault.{AskFault}
 use Rattle.dsql_pool.specs.declared.request.AskFault.TheVariants.{TooMany}
-use Rattle.dsql_pool.specs.Places.{conn_of, number_of}
+use Rattle.dsql_pool.specs.Places.{conn_of}
+use Rattle.dsql_journal.specs.Kinds.{number_of}
 use Rattle.dsql_pool.specs.Pooled.{Pooled, open_count, free_openings, next_number, next_tenure, most_open, is_limited, room}
 
 -- the last of a list, or 0

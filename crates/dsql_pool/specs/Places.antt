@@ -2,6 +2,7 @@
 use Rattle.std.specs.Prelude.{◌≡◌, ℕ, Bool, true, false, ◌&&◌, ◌==◌, ◌≤◌, nat_le, List, find, Option, Some, None}
 use Rattle.std.specs.List.{list_all}
 use Rattle.std.specs.Option.{option_map, option_map_or}
+use Rattle.dsql_journal.specs.Kinds.{number_of}
 use Rattle.dsql_journal.specs.declared.entry.Owner.{Owner}
 use Rattle.dsql_journal.specs.declared.entry.Owner.TheVariants.{Call, Tx, Pin, House}
 use Rattle.dsql_pool.specs.declared.conn.Place.{Place}
@@ -42,13 +43,6 @@ is_opening _ = false
 abbrev pub is_closing : Option Place → Bool
 is_closing (Some Closing) = true
 is_closing _ = false
-
--- the call of an owner, 0 for the House
-abbrev pub number_of : Owner → ℕ
-number_of (Call n) = n
-number_of (Tx n) = n
-number_of (Pin n) = n
-number_of House = 0
 
 -- it is being opened for the request of this call
 abbrev pub is_for : ℕ → Place → Bool

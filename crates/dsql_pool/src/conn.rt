@@ -1,6 +1,6 @@
 ghost use Rattle.std.specs.Prelude.{◌≡◌, ◌<◌, Some};
 ghost use Rattle.dsql_pool.specs.Changes.{opened_at, opening, lent, back, closing, unwanted, unwanted_by};
-ghost use Rattle.dsql_pool.specs.Places.{is_for, is_free, number_of};
+ghost use Rattle.dsql_pool.specs.Places.{is_for, is_free};
 
 use dsql_journal::Owner;
 
@@ -23,7 +23,7 @@ impl Place {
         ensures { result ≡ is_for call self.now }
     {
         match self {
-            Place::Opening(Some(owner)) => number_of(*owner) == call,
+            Place::Opening(Some(owner)) => owner.number() == call,
             _ => false,
         }
     }
@@ -33,16 +33,6 @@ impl Place {
         ensures { result ≡ is_free self.now }
     {
         matches!(self, Place::Opening(None))
-    }
-}
-
-/// The call of an owner, 0 for the House.
-pub fn number_of(owner: Owner) -> u32
-    ensures { result ≡ number_of owner }
-{
-    match owner {
-        Owner::Call(n) | Owner::Tx(n) | Owner::Pin(n) => n,
-        Owner::House => 0,
     }
 }
 

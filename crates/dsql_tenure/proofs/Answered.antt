@@ -7,7 +7,8 @@ use Rattle.dsql_journal.specs.declared.entry.Entry.{Entry}
 use Rattle.dsql_journal.specs.declared.entry.Owner.{Owner}
 use Rattle.dsql_journal.specs.declared.entry.Owner.TheVariants.{Call, Tx, Pin, House}
 use Rattle.dsql_journal.specs.Tenure.{keeps_body}
-use Rattle.dsql_journal.specs.Kinds.{if_any, given_handle, given_cursor, cursor_of}
+use Rattle.dsql_journal.specs.Kinds.{if_any}
+use Rattle.dsql_driver.specs.Kinds.{given_handle, given_cursor, cursor_of}
 use Rattle.dsql_journal.specs.Readers.{LiveHandle, LiveCursor, is_empty, handles, cursors}
 use Rattle.dsql_journal.specs.HandlesAndCursors.{gives_new_handle, gives_new_cursor, has_width_of_cursor}
 use Rattle.dsql_journal.specs.HandlesAndCursors as rule

@@ -9,7 +9,8 @@ use Rattle.dsql_driver.specs.Fits.{is_failure}
 use Rattle.dsql_journal.specs.declared.entry.Entry.{Entry}
 use Rattle.dsql_journal.specs.declared.entry.Owner.{Owner}
 use Rattle.dsql_journal.specs.declared.entry.Owner.TheVariants.{Call, Tx, Pin, House}
-use Rattle.dsql_journal.specs.Kinds.{◌⇒◌, is_valid, is_reset, is_begin, is_ending, is_house, is_pin, is_tx_number, same_owner}
+use Rattle.dsql_journal.specs.Kinds.{◌⇒◌, is_house, is_pin, is_tx_number, same_owner}
+use Rattle.dsql_driver.specs.Kinds.{is_valid, is_reset, is_begin, is_ending}
 use Rattle.dsql_journal.specs.Readers.{is_empty, has, of_tenure, of_transaction, begun, ended, went_bad, was_shut, was_refused}
 use Rattle.dsql_journal.specs.Tenure.{is_whole_tenure, is_body, is_refused_begin, body}
 use Rattle.dsql_journal.specs.Journal.{may_follow, is_journal_prefix, IsJournalPrefix}

@@ -11,7 +11,8 @@ use Rattle.dsql_driver.specs.declared.answer.DriverAnswer.TheVariants.{Bad}
 use Rattle.dsql_journal.specs.declared.entry.Entry.{Entry}
 use Rattle.dsql_journal.specs.declared.entry.Owner.{Owner}
 use Rattle.dsql_journal.specs.declared.entry.Owner.TheVariants.{Call}
-use Rattle.dsql_journal.specs.Kinds.{◌⇒◌, is_number, is_reset, is_valid, is_ping, is_next, is_bad, is_call, is_pin, is_tx_number, given_handle, given_cursor, same_owner}
+use Rattle.dsql_journal.specs.Kinds.{◌⇒◌, is_number, is_call, is_pin, is_tx_number, same_owner}
+use Rattle.dsql_driver.specs.Kinds.{is_reset, is_valid, is_ping, is_next, is_bad, given_handle, given_cursor}
 use Rattle.dsql_journal.specs.Readers.{LiveHandle, LiveCursor, is_empty, has, of_tenure, handles, cursors, cursors_named, went_bad}
 use Rattle.dsql_journal.specs.HandlesAndCursors.{is_as_wide}
 use Rattle.dsql_journal.specs.Tenure.{is_whole_tenure, has_ended_transactions, has_closed_cursors, has_closed_handles, is_body, place}

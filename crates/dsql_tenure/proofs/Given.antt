@@ -10,7 +10,8 @@ use Rattle.dsql_driver.specs.declared.answer.DriverAnswer.TheVariants.{Prepared,
 use Rattle.dsql_journal.specs.declared.entry.Entry.{Entry}
 use Rattle.dsql_journal.specs.declared.entry.Owner.{Owner}
 use Rattle.dsql_journal.specs.declared.entry.Owner.TheVariants.{Call, Tx, Pin, House}
-use Rattle.dsql_journal.specs.Kinds.{is_number, given_handle, given_cursor, same_owner}
+use Rattle.dsql_journal.specs.Kinds.{is_number, same_owner}
+use Rattle.dsql_driver.specs.Kinds.{given_handle, given_cursor}
 use Rattle.dsql_journal.specs.Readers.{LiveHandle, LiveCursor, handles, handles_after, cursors, cursors_after, changed, after_next}
 use Rattle.dsql_journal.proofs.Conjunctions.{parts2, join2}
 use Rattle.dsql_tenure.proofs.Lists.{list_all-so}

@@ -3,7 +3,7 @@ use Rattle.std.proofs.Common.{◌≡◌, Bool, true, false, cond, ◌&&◌, ◌|
 use Rattle.std.specs.List.{list_all}
 use native.Mathlib.Omega.{arith}
 use Rattle.dsql_journal.specs.declared.entry.Entry.{Entry}
-use Rattle.dsql_journal.specs.Kinds.{is_bad}
+use Rattle.dsql_driver.specs.Kinds.{is_bad}
 use Rattle.dsql_journal.specs.Readers.{went_bad, bad_tenure}
 use Rattle.dsql_journal.specs.WholeJournal as whole
 use Rattle.dsql_journal.specs.WholeJournal.{keeps_whole_journal}

@@ -6,7 +6,7 @@ use Rattle.dsql_driver.specs.declared.call.DriverCall.TheVariants.{Prepare, Clos
 use Rattle.dsql_driver.specs.declared.answer.DriverAnswer.{DriverAnswer}
 use Rattle.dsql_driver.specs.declared.answer.DriverAnswer.TheVariants.{Prepared, Cursor}
 use Rattle.dsql_journal.specs.declared.entry.Entry.{Entry}
-use Rattle.dsql_journal.specs.Kinds.{is_bad, is_over}
+use Rattle.dsql_driver.specs.Kinds.{is_bad, is_over}
 use Rattle.dsql_journal.specs.Readers.{LiveHandle, LiveCursor, has, handles_after, cursors_after, changed, after_next, bad_tenure, went_bad, begun, begins, of_tenure}
 use Rattle.dsql_journal.specs.Journal.{may_follow, IsJournalPrefix}
 use Rattle.dsql_journal.specs.Facts.{MayFollow}

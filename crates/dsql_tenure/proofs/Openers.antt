@@ -12,7 +12,8 @@ use Rattle.dsql_driver.specs.Fits.{fits_of, is_memory, is_skip}
 use Rattle.dsql_journal.specs.declared.entry.Entry.{Entry}
 use Rattle.dsql_journal.specs.declared.entry.Owner.{Owner}
 use Rattle.dsql_journal.specs.declared.entry.Owner.TheVariants.{Call, Tx, Pin, House}
-use Rattle.dsql_journal.specs.Kinds.{◌⇒◌, is_number, is_reset, is_valid, is_prepare, runs_text, runs_handle, is_next, given_cursor, is_call}
+use Rattle.dsql_journal.specs.Kinds.{◌⇒◌, is_number, is_call}
+use Rattle.dsql_driver.specs.Kinds.{is_reset, is_valid, is_prepare, runs_text, runs_handle, is_next, given_cursor}
 use Rattle.dsql_journal.specs.Readers.{LiveCursor, of_tenure, cursors, cursors_after, changed, after_next}
 use Rattle.dsql_journal.specs.Tenure.{is_body, place}
 use Rattle.dsql_journal.specs.Journal.{may_follow, is_journal_prefix, IsJournalPrefix}

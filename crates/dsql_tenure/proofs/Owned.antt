@@ -9,7 +9,8 @@ use Rattle.dsql_driver.specs.declared.answer.DriverAnswer.{DriverAnswer}
 use Rattle.dsql_driver.specs.declared.answer.DriverAnswer.TheVariants.{Prepared}
 use Rattle.dsql_journal.specs.declared.entry.Entry.{Entry}
 use Rattle.dsql_journal.specs.declared.entry.Owner.{Owner}
-use Rattle.dsql_journal.specs.Kinds.{◌⇒◌, if_any, is_number, is_call, given_handle, given_cursor, handle_of, cursor_of, same_owner}
+use Rattle.dsql_journal.specs.Kinds.{◌⇒◌, if_any, is_number, is_call, same_owner}
+use Rattle.dsql_driver.specs.Kinds.{given_handle, given_cursor, handle_of, cursor_of}
 use Rattle.dsql_journal.specs.Readers.{LiveHandle, LiveCursor, is_empty, of_tenure, last_tenure, handles, handles_after, cursors}
 use Rattle.dsql_journal.specs.HandlesAndCursors.{keeps_handles_and_cursors}
 use Rattle.dsql_journal.specs.Tenure as tenure

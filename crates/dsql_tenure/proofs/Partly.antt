@@ -7,7 +7,8 @@ use Rattle.dsql_driver.specs.declared.call.DriverCall.{DriverCall}
 use Rattle.dsql_driver.specs.declared.answer.DriverAnswer.TheVariants.{Bad}
 use Rattle.dsql_driver.specs.Fits.{may_fail}
 use Rattle.dsql_journal.specs.declared.entry.Entry.{Entry}
-use Rattle.dsql_journal.specs.Kinds.{◌⇒◌, is_connect, is_reset, is_valid, is_bad, is_house}
+use Rattle.dsql_journal.specs.Kinds.{◌⇒◌, is_house}
+use Rattle.dsql_driver.specs.Kinds.{is_connect, is_reset, is_valid, is_bad}
 use Rattle.dsql_journal.specs.Readers.{bad_tenure, went_bad, was_refused, was_shut}
 use Rattle.dsql_journal.specs.HandlesAndCursors.{has_width_of_cursor}
 use Rattle.dsql_journal.specs.Tenure.{is_whole_tenure}

@@ -4,7 +4,7 @@ use Rattle.std.specs.List.{filter, list_any, list_all}
 use native.Mathlib.Omega.{arith}
 use Rattle.std.proofs.lemmas.Bool.Decides.{nat_tests}
 use Rattle.dsql_journal.specs.declared.entry.Entry.{Entry}
-use Rattle.dsql_journal.specs.Kinds.{is_ending}
+use Rattle.dsql_driver.specs.Kinds.{is_ending}
 use Rattle.dsql_journal.specs.Readers.{is_empty, has, of_tenure, of_transaction, last_tenure, begins, begun, ended, went_bad}
 use Rattle.dsql_journal.specs.Tenure.{has_ended_transactions, has_closed_cursors, has_closed_handles, is_whole_tenure}
 use Rattle.dsql_journal.specs.Journal.{may_follow, is_journal_prefix, IsJournalPrefix}

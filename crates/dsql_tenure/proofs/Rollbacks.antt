@@ -10,7 +10,8 @@ use Rattle.dsql_driver.specs.declared.answer.DriverAnswer.{DriverAnswer}
 use Rattle.dsql_driver.specs.declared.answer.DriverAnswer.TheVariants.{Invalid}
 use Rattle.dsql_driver.specs.Fits.{fits_of, is_invalid}
 use Rattle.dsql_journal.specs.declared.entry.Entry.{Entry}
-use Rattle.dsql_journal.specs.Kinds.{◌⇒◌, is_valid, is_reset, is_bad, is_shut, is_pin, is_tx_number, same_owner}
+use Rattle.dsql_journal.specs.Kinds.{◌⇒◌, is_pin, is_tx_number, same_owner}
+use Rattle.dsql_driver.specs.Kinds.{is_valid, is_reset, is_bad, is_shut}
 use Rattle.dsql_journal.specs.Readers.{has, of_tenure, last_tenure, begun, went_bad, bad_tenure, went_invalid, was_shut}
 use Rattle.dsql_journal.specs.Tenure.{is_whole_tenure, is_body}
 use Rattle.dsql_journal.specs.Journal.{may_follow, is_journal_prefix, IsJournalPrefix}

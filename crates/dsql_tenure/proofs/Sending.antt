@@ -11,7 +11,8 @@ use Rattle.dsql_journal.specs.declared.entry.Entry.{Entry}
 use Rattle.dsql_journal.specs.declared.entry.Owner.{Owner}
 use Rattle.dsql_journal.specs.declared.entry.Owner.TheVariants.{Call, Tx, Pin, House}
 use Rattle.dsql_journal.specs.declared.entry.Permit.{Permit}
-use Rattle.dsql_journal.specs.Kinds.{◌⇒◌, if_any, is_bad, is_begin, is_valid, is_close_stmt, cursor_of}
+use Rattle.dsql_journal.specs.Kinds.{◌⇒◌, if_any}
+use Rattle.dsql_driver.specs.Kinds.{is_bad, is_begin, is_valid, is_close_stmt, cursor_of}
 use Rattle.dsql_journal.specs.Readers.{LiveCursor, cursors}
 use Rattle.dsql_journal.specs.Tenure as tenure
 use Rattle.dsql_journal.specs.HandlesAndCursors.{fits_at_its_place, is_heard, is_fitting, gives_new_handle, gives_new_cursor, is_as_wide, has_width_of_cursor}

@@ -2,7 +2,8 @@
 use Rattle.std.proofs.Common.{◌≡◌, ℕ, Bool, true, false, cond, not, ◌&&◌, ◌||◌, ◌==◌, List, [], ◌∷◌, refl, ◌∙◌, ap}
 use Rattle.std.specs.List.{filter, list_all, list_any}
 use Rattle.dsql_journal.specs.declared.entry.Entry.{Entry}
-use Rattle.dsql_journal.specs.Kinds.{◌⇒◌, is_call, is_house, is_close_stmt, is_next}
+use Rattle.dsql_journal.specs.Kinds.{◌⇒◌, is_call, is_house}
+use Rattle.dsql_driver.specs.Kinds.{is_close_stmt, is_next}
 use Rattle.dsql_journal.specs.Readers.{LiveHandle, LiveCursor, is_empty, handles, cursors}
 use Rattle.dsql_journal.specs.HandlesAndCursors.{keeps_handles_and_cursors, has_live_handle, has_live_cursor, fetches_before_the_end, has_transaction_of_handle, has_transaction_of_cursor, uses_cursor_in_its_tenure, uses_handle_in_its_tenure, uses_handle_in_call_tenures}
 use Rattle.dsql_tenure.specs.declared.tables.Handle.{Handle}

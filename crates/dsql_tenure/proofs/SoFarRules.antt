@@ -10,7 +10,8 @@ use Rattle.dsql_driver.specs.Fits.{is_skip}
 use Rattle.dsql_journal.specs.declared.entry.Entry.{Entry}
 use Rattle.dsql_journal.specs.declared.entry.Owner.{Owner}
 use Rattle.dsql_journal.specs.declared.entry.Owner.TheVariants.{Call, Tx, Pin, House}
-use Rattle.dsql_journal.specs.Kinds.{◌⇒◌, is_number, is_reset, is_valid, is_ping, is_prepare, runs_text, is_next, given_handle, same_owner}
+use Rattle.dsql_journal.specs.Kinds.{◌⇒◌, is_number, same_owner}
+use Rattle.dsql_driver.specs.Kinds.{is_reset, is_valid, is_ping, is_prepare, runs_text, is_next, given_handle}
 use Rattle.dsql_journal.specs.Readers.{is_empty, last_owner}
 use Rattle.dsql_journal.specs.Tenure.{place, is_body}
 use Rattle.dsql_tenure.specs.declared.so_far.Prepared.{Prepared}

@@ -5,7 +5,7 @@ use native.Mathlib.Omega.{arith}
 use Rattle.dsql_driver.specs.Fits.{is_failure}
 use Rattle.dsql_journal.specs.declared.entry.Entry.{Entry}
 use Rattle.dsql_journal.specs.declared.entry.Owner.TheVariants.{Tx}
-use Rattle.dsql_journal.specs.Kinds.{is_valid, is_reset, is_bad, is_shut, is_connect}
+use Rattle.dsql_driver.specs.Kinds.{is_valid, is_reset, is_bad, is_shut, is_connect}
 use Rattle.dsql_journal.specs.Readers.{has, of_tenure, last_tenure, last_owner, went_bad, was_shut, was_refused}
 use Rattle.dsql_journal.specs.Journal.{may_follow, is_journal_prefix, is_whole, IsJournalPrefix}
 use Rattle.dsql_journal.specs.Facts.{MayFollow}

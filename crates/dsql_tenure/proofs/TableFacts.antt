@@ -4,7 +4,8 @@ use Rattle.std.specs.List.{list_all}
 use native.Mathlib.Omega.{arith}
 use Rattle.std.proofs.lemmas.Bool.Decides.{nat_tests}
 use Rattle.dsql_journal.specs.declared.entry.Entry.{Entry}
-use Rattle.dsql_journal.specs.Kinds.{◌⇒◌, if_any, is_call, is_close_stmt, handle_of}
+use Rattle.dsql_journal.specs.Kinds.{◌⇒◌, if_any, is_call}
+use Rattle.dsql_driver.specs.Kinds.{is_close_stmt, handle_of}
 use Rattle.dsql_journal.specs.Readers.{LiveHandle, LiveCursor, is_empty, handles, cursors, has, begun, of_tenure, last_tenure, went_bad}
 use Rattle.dsql_journal.specs.Tenure.{has_ended_transactions, has_closed_cursors, has_closed_handles}
 use Rattle.dsql_journal.proofs.Tenures.{of_tenure-new}

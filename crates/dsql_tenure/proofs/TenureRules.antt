@@ -4,7 +4,8 @@ use Rattle.std.specs.List.{filter, list_all, list_any}
 use Rattle.dsql_journal.specs.declared.entry.Entry.{Entry}
 use Rattle.dsql_journal.specs.declared.entry.Owner.{Owner}
 use Rattle.dsql_journal.specs.declared.entry.Owner.TheVariants.{Call, Tx, Pin, House}
-use Rattle.dsql_journal.specs.Kinds.{◌⇒◌, if_any, is_number, is_connect, is_reset, is_ping, is_prepare, runs_handle, is_next, is_close_stmt, is_shut, handle_of, given_handle, is_house}
+use Rattle.dsql_journal.specs.Kinds.{◌⇒◌, if_any, is_number, is_house}
+use Rattle.dsql_driver.specs.Kinds.{is_connect, is_reset, is_ping, is_prepare, runs_handle, is_next, is_close_stmt, is_shut, handle_of, given_handle}
 use Rattle.dsql_journal.specs.Readers.{is_empty, of_tenure, last_tenure, last_owner, handles, went_bad}
 use Rattle.dsql_journal.specs.Tenure.{place, is_body, keeps_tenure, has_closed_cursors}
 use Rattle.dsql_journal.specs.Tenure as tenure

@@ -11,7 +11,8 @@ use Rattle.dsql_driver.specs.Fits.{is_done}
 use Rattle.dsql_journal.specs.declared.entry.Entry.{Entry}
 use Rattle.dsql_journal.specs.declared.entry.Owner.{Owner}
 use Rattle.dsql_journal.specs.declared.entry.Owner.TheVariants.{Call, Tx, Pin, House}
-use Rattle.dsql_journal.specs.Kinds.{◌⇒◌, if_any, is_number, is_call, is_reset, is_valid, is_begin, is_ending, is_close_stmt, is_work, given_handle, handle_of, same_owner}
+use Rattle.dsql_journal.specs.Kinds.{◌⇒◌, if_any, is_number, is_call, same_owner}
+use Rattle.dsql_driver.specs.Kinds.{is_reset, is_valid, is_begin, is_ending, is_close_stmt, is_work, given_handle, handle_of}
 use Rattle.dsql_journal.specs.Readers.{LiveHandle, is_empty, has, of_transaction, last_tenure, handles, handles_after, begun, ended}
 use Rattle.dsql_journal.specs.Tenure.{is_whole_tenure}
 use Rattle.dsql_journal.specs.Transaction as rule

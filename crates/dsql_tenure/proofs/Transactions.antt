@@ -11,7 +11,8 @@ use Rattle.dsql_driver.specs.Fits.{is_done, is_failure}
 use Rattle.dsql_journal.specs.declared.entry.Entry.{Entry}
 use Rattle.dsql_journal.specs.declared.entry.Owner.{Owner}
 use Rattle.dsql_journal.specs.declared.entry.Owner.TheVariants.{Call, Tx, Pin, House}
-use Rattle.dsql_journal.specs.Kinds.{◌⇒◌, is_begin, is_ping, is_work, is_connect, is_close_stmt, is_shut, is_ending, is_reset, is_valid, is_house}
+use Rattle.dsql_journal.specs.Kinds.{◌⇒◌, is_house}
+use Rattle.dsql_driver.specs.Kinds.{is_begin, is_ping, is_work, is_connect, is_close_stmt, is_shut, is_ending, is_reset, is_valid}
 use Rattle.dsql_journal.specs.Readers.{is_empty, has, of_transaction, begins, begun, ended}
 use Rattle.dsql_journal.specs.Tenure.{place, is_refused_begin, has_ended_transactions, body, is_body, is_whole_tenure}
 use Rattle.dsql_journal.specs.Tenure as tenure

@@ -9,7 +9,8 @@ use Rattle.dsql_driver.specs.declared.call.Input.TheVariants.{Text}
 use Rattle.dsql_journal.specs.declared.entry.Entry.{Entry}
 use Rattle.dsql_journal.specs.declared.entry.Owner.{Owner}
 use Rattle.dsql_journal.specs.declared.entry.Owner.TheVariants.{Tx}
-use Rattle.dsql_journal.specs.Kinds.{◌⇒◌, if_any, is_number, is_begin, is_ending, is_work, is_close_stmt, is_call, is_house, is_pin, is_tx_number, handle_of, given_handle, same_owner}
+use Rattle.dsql_journal.specs.Kinds.{◌⇒◌, if_any, is_number, is_call, is_house, is_pin, is_tx_number, same_owner}
+use Rattle.dsql_driver.specs.Kinds.{is_begin, is_ending, is_work, is_close_stmt, handle_of, given_handle}
 use Rattle.dsql_journal.specs.Readers.{LiveHandle, LiveCursor, is_empty, has, of_tenure, of_transaction, handles, handles_named, cursors, begun, ended}
 use Rattle.dsql_journal.specs.Tenure.{is_whole_tenure, has_ended_transactions, has_closed_cursors, has_closed_handles, body}
 use Rattle.dsql_journal.specs.Facts.{KeepsBody, KeepsTransaction}

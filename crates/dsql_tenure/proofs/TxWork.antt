@@ -12,7 +12,8 @@ use Rattle.dsql_driver.specs.Fits.{fits_of, is_memory}
 use Rattle.dsql_journal.specs.declared.entry.Entry.{Entry}
 use Rattle.dsql_journal.specs.declared.entry.Owner.{Owner}
 use Rattle.dsql_journal.specs.declared.entry.Owner.TheVariants.{Call, Tx, Pin, House}
-use Rattle.dsql_journal.specs.Kinds.{◌⇒◌, is_number, is_bad, is_reset, is_valid, is_begin, is_ending, is_close_stmt, is_work, given_handle, given_cursor, same_owner}
+use Rattle.dsql_journal.specs.Kinds.{◌⇒◌, is_number, same_owner}
+use Rattle.dsql_driver.specs.Kinds.{is_bad, is_reset, is_valid, is_begin, is_ending, is_close_stmt, is_work, given_handle, given_cursor}
 use Rattle.dsql_journal.specs.Readers.{LiveHandle, LiveCursor, is_empty, has, of_transaction, handles, cursors, cursors_after, ended, went_bad}
 use Rattle.dsql_journal.specs.Tenure.{is_body, is_refused_begin, body, earlier}
 use Rattle.dsql_journal.specs.Journal.{may_follow, is_journal_prefix, IsJournalPrefix}

@@ -7,7 +7,8 @@ use Rattle.dsql_driver.specs.declared.call.DriverCall.{DriverCall}
 use Rattle.dsql_driver.specs.declared.call.DriverCall.TheVariants.{Connect, Reset, Valid, CloseStmt, Shut}
 use Rattle.dsql_driver.specs.declared.answer.DriverAnswer.{DriverAnswer}
 use Rattle.dsql_journal.specs.declared.entry.Entry.{Entry}
-use Rattle.dsql_journal.specs.Kinds.{◌⇒◌, is_valid, is_reset, is_bad, is_begin, is_connect, is_close_stmt, is_shut, is_house, is_call, is_number, given_cursor, given_handle, same_owner}
+use Rattle.dsql_journal.specs.Kinds.{◌⇒◌, is_house, is_call, is_number, same_owner}
+use Rattle.dsql_driver.specs.Kinds.{is_valid, is_reset, is_bad, is_begin, is_connect, is_close_stmt, is_shut, given_cursor, given_handle}
 use Rattle.dsql_journal.specs.Readers.{LiveHandle, LiveCursor, is_empty, of_tenure, handles, handles_after, cursors, cursors_after, went_bad}
 use Rattle.dsql_journal.specs.Tenure.{is_whole_tenure, has_ended_transactions, has_closed_cursors, has_closed_handles}
 use Rattle.dsql_driver.specs.Fits.{is_done}

@@ -4,7 +4,8 @@ use Rattle.std.specs.List.{list_all, list_any}
 use Rattle.dsql_journal.specs.declared.entry.Entry.{Entry}
 use Rattle.dsql_journal.specs.declared.entry.Owner.{Owner}
 use Rattle.dsql_journal.specs.declared.entry.Owner.TheVariants.{Call, Tx, Pin, House}
-use Rattle.dsql_journal.specs.Kinds.{is_reset, is_valid, is_shut, is_bad, is_house}
+use Rattle.dsql_journal.specs.Kinds.{is_house}
+use Rattle.dsql_driver.specs.Kinds.{is_reset, is_valid, is_shut, is_bad}
 use Rattle.dsql_journal.specs.Readers.{has, of_tenure, begun, ended, went_bad}
 use Rattle.dsql_journal.specs.Journal.{is_journal_prefix}
 use Rattle.dsql_tenure.specs.declared.fault.Phase.{Phase}

@@ -6,7 +6,7 @@ use Rattle.dsql_driver.specs.declared.call.DriverCall.TheVariants.{Prepare, Clos
 use Rattle.dsql_driver.specs.declared.answer.DriverAnswer.{DriverAnswer}
 use Rattle.dsql_driver.specs.declared.answer.DriverAnswer.TheVariants.{Prepared, Cursor}
 use Rattle.dsql_journal.specs.declared.entry.Entry.{Entry}
-use Rattle.dsql_journal.specs.Kinds.{is_over}
+use Rattle.dsql_driver.specs.Kinds.{is_over}
 use Rattle.dsql_tenure.specs.declared.tables.Handle.{Handle}
 use Rattle.dsql_tenure.specs.declared.tables.Cursor as kept
 

@@ -2,7 +2,7 @@
 use Rattle.std.specs.Prelude.{ℕ, Bool, ◌&&◌, ◌||◌, not, ◌==◌, List, [], ◌∷◌, if◌then◌else◌}
 use Rattle.std.specs.List.{filter}
 use Rattle.dsql_journal.specs.declared.entry.Entry.{Entry}
-use Rattle.dsql_journal.specs.Kinds.{is_begin, is_ending, is_close_stmt, is_work}
+use Rattle.dsql_driver.specs.Kinds.{is_begin, is_ending, is_close_stmt, is_work}
 use Rattle.dsql_journal.specs.Readers.{has, begun, begins}
 use Rattle.dsql_journal.specs.Transaction.{ends_without_cursors}
 use Rattle.dsql_driver.specs.Fits.{is_done}

@@ -1,7 +1,8 @@
 -- The rules of a journal in groups, as they are tested together.
 use Rattle.std.specs.Prelude.{Bool, ◌&&◌, ◌||◌, not, ◌==◌, List, if◌then◌else◌}
 use Rattle.dsql_journal.specs.declared.entry.Entry.{Entry}
-use Rattle.dsql_journal.specs.Kinds.{◌⇒◌, is_call, is_house, is_close_stmt, is_next}
+use Rattle.dsql_journal.specs.Kinds.{◌⇒◌, is_call, is_house}
+use Rattle.dsql_driver.specs.Kinds.{is_close_stmt, is_next}
 use Rattle.dsql_journal.specs.HandlesAndCursors.{has_live_handle, has_live_cursor, fetches_before_the_end, has_transaction_of_handle, has_transaction_of_cursor, uses_cursor_in_its_tenure, uses_handle_in_its_tenure, uses_handle_in_call_tenures}
 use Rattle.dsql_journal.specs.WholeJournal.{follows_no_refusal, follows_no_shut, follows_whole_tenure, connects_first, starts_with_tenure_one, has_rising_tenure, tidies_nothing_bad, stays_in_bad_tenure, shuts_after_invalid}
 use Rattle.dsql_tenure.specs.declared.tables.Handle.{Handle}

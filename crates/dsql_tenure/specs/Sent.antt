@@ -3,7 +3,7 @@ use Rattle.std.specs.Prelude.{ℕ, Bool, ◌&&◌, ◌==◌, List, [], if◌then
 use Rattle.dsql_driver.specs.declared.answer.DriverAnswer.TheVariants.{Done, Fail}
 use Rattle.dsql_journal.specs.declared.entry.Entry.{Entry}
 use Rattle.dsql_journal.specs.declared.entry.Permit.{Permit}
-use Rattle.dsql_journal.specs.Kinds.{is_begin, is_valid}
+use Rattle.dsql_driver.specs.Kinds.{is_begin, is_valid}
 use Rattle.dsql_journal.specs.Permits.{entry_of}
 use Rattle.dsql_tenure.specs.MayBeAsked.{may_be_asked}
 

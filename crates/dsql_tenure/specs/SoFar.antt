@@ -3,7 +3,7 @@ use Rattle.std.specs.Prelude.{ℕ, ◌&&◌, not, ◌==◌, max, Option, Some, N
 use Rattle.std.specs.List.{list_any}
 use Rattle.dsql_driver.specs.Fits.{is_skip}
 use Rattle.dsql_journal.specs.declared.entry.Entry.{Entry}
-use Rattle.dsql_journal.specs.Kinds.{is_bad, is_reset, is_valid, is_ping, is_prepare, runs_text, given_handle}
+use Rattle.dsql_driver.specs.Kinds.{is_bad, is_reset, is_valid, is_ping, is_prepare, runs_text, given_handle}
 use Rattle.dsql_journal.specs.Readers.{last_owner, went_bad}
 use Rattle.dsql_journal.specs.Tenure.{is_body, place, is_refused_begin}
 use Rattle.dsql_tenure.specs.declared.so_far.Prepared.{Prepared}

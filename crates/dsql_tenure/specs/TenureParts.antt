@@ -4,7 +4,8 @@ use Rattle.std.specs.List.{list_all}
 use Rattle.dsql_journal.specs.declared.entry.Entry.{Entry}
 use Rattle.dsql_journal.specs.declared.entry.Owner.{Owner}
 use Rattle.dsql_journal.specs.declared.entry.Owner.TheVariants.{Call, Tx, Pin, House}
-use Rattle.dsql_journal.specs.Kinds.{◌⇒◌, if_any, is_connect, is_reset, is_valid, is_ping, is_prepare, is_next, is_close_stmt, is_shut, runs_handle, handle_of, is_house, same_owner}
+use Rattle.dsql_journal.specs.Kinds.{◌⇒◌, if_any, is_house, same_owner}
+use Rattle.dsql_driver.specs.Kinds.{is_connect, is_reset, is_valid, is_ping, is_prepare, is_next, is_close_stmt, is_shut, runs_handle, handle_of}
 use Rattle.dsql_journal.specs.Readers.{handles}
 use Rattle.dsql_journal.specs.Tenure.{place, is_body, is_refused_begin, is_pin_body, is_outside_transactions, closes_rows_first, is_whole_at_valid}
 use Rattle.dsql_tenure.specs.declared.so_far.Prepared.{Prepared}

@@ -4,7 +4,7 @@ ghost use Rattle.std.specs.List.{list_all};
 ghost use Rattle.dsql_driver.specs.Fits.{is_memory};
 ghost use Rattle.dsql_journal.specs.HandlesAndCursors as handles;
 ghost use Rattle.dsql_journal.specs.Journal.{may_follow};
-ghost use Rattle.dsql_journal.specs.Kinds.{is_ending, is_connect, is_shut};
+ghost use Rattle.dsql_driver.specs.Kinds.{is_ending, is_connect, is_shut};
 ghost use Rattle.dsql_journal.specs.Permits.{entry_of};
 ghost use Rattle.dsql_journal.specs.Readers.{last_owner};
 ghost use Rattle.dsql_tenure.specs.Asked.{answer_like, entry_like};
@@ -14,7 +14,6 @@ ghost use Rattle.dsql_tenure.specs.Sent.{may_send};
 
 use crate::asked::{Asked, Outcome};
 use crate::fault::Phase;
-use crate::kinds::{cursor_of, given_cursor, given_handle, is_begin, is_house, is_valid};
 use crate::rules::{has_cursor, has_handle};
 use crate::tables::{Cursor, Tables};
 use dsql_driver::{DriverAnswer, fits};
@@ -65,10 +64,10 @@ impl Tables {
         if permit.conn != self.conn {
             return false;
         }
-        if is_valid(&permit.call) {
+        if permit.call.is_valid() {
             return self.may_be_answered(permit, permit.tx, Outcome::Done);
         }
-        if is_begin(&permit.call) {
+        if permit.call.is_begin() {
             return self.may_be_answered(permit, permit.tx, Outcome::Done)
                 && self.may_be_answered(permit, 0, Outcome::Failed);
         }
@@ -119,7 +118,7 @@ impl Tables {
             return false;
         }
         if !self.went_bad() {
-            return !is_house(owner);
+            return !owner.is_house();
         }
         match owner {
             Owner::Tx(n) => self.is_open(n),
@@ -148,7 +147,7 @@ impl Tables {
         requires { Stands self.now }
         ensures { result ≡ handles.gives_new_handle (past self.now) entry.now }
     {
-        match given_handle(&entry.answer) {
+        match entry.answer.given_handle() {
             Some(n) => !has_handle(&self.handles, n),
             None => true,
         }
@@ -158,7 +157,7 @@ impl Tables {
         requires { Stands self.now }
         ensures { result ≡ handles.gives_new_cursor (past self.now) entry.now }
     {
-        match given_cursor(&entry.answer) {
+        match entry.answer.given_cursor() {
             Some(n) => !has_cursor(&self.cursors, n),
             None => true,
         }
@@ -169,7 +168,7 @@ impl Tables {
         requires { Stands self.now }
         ensures { result ≡ handles.has_width_of_cursor (past self.now) entry.now }
     {
-        match cursor_of(&entry.call) {
+        match entry.call.cursor() {
             Some(n) => is_as_wide(&self.cursors, n, &entry.answer),
             None => true,
         }

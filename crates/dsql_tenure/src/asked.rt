@@ -1,7 +1,6 @@
 //! What was asked of a driver, with as much of its answer as later calls depend on.
 ghost use Rattle.std.specs.Prelude.{◌≡◌, ◌<◌, ◌||◌, ◌&&◌, ◌==◌, not, Some, None};
 ghost use Rattle.dsql_driver.specs.Fits.{is_done, is_failure, is_skip, is_invalid};
-ghost use Rattle.dsql_journal.specs.Kinds as kind;
 ghost use Rattle.dsql_journal.specs.Tenure as tenure;
 ghost use Rattle.dsql_tenure.specs.Asked.{answer_like, entry_like, outcome_of as outcome_in};
 

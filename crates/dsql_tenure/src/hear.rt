@@ -1,14 +1,13 @@
 //! Hearing an entry, and room for it.
 ghost use Rattle.std.specs.Prelude.{◌≡◌, ℕ, ◌+◌, ◌^◌, ◌<◌, ◌≤◌, ◌∷◌, ◌&&◌, ◌||◌, ◌==◌, true, false, length, nat_eq, Option, OnOk, OnErr, if◌then◌else◌};
 ghost use Rattle.dsql_driver.specs.Fits as fit;
-ghost use Rattle.dsql_journal.specs.Kinds as kind;
+ghost use Rattle.dsql_driver.specs.Kinds as kind;
 ghost use Rattle.dsql_journal.specs.Readers.{last_tenure, handles, cursors, begun, begins as begins_entry};
 ghost use Rattle.dsql_tenure.specs.Beginnings.{is_beginning_of};
 ghost use Rattle.dsql_tenure.specs.Flags.{bad_with};
 ghost use Rattle.indexmap.specs.IndexSet.{contains, spare, index_set_len};
 
 use crate::heard::{begins, hear_cursors, hear_handles, hear_open};
-use crate::kinds::{is_bad, is_connect, is_failure, is_invalid, is_shut};
 use crate::tables::{Cursor, Handle, Tables};
 use dsql_journal::Entry;
 use dsql_value::Memory;
@@ -36,8 +35,8 @@ impl Tables {
         self.so_far = so_far;
         self.tenure = entry.tenure;
         self.refused = was_refused(entry) | self.refused;
-        self.shut = is_shut(&entry.call) | self.shut;
-        self.invalid = is_invalid(&entry.answer) | self.invalid;
+        self.shut = entry.call.is_shut() | self.shut;
+        self.invalid = entry.answer.is_invalid() | self.invalid;
         self.bad_tenure = bad_with(self.bad_tenure, entry);
         self.room -= 1;
         let past = self.past.then(entry);
@@ -80,7 +79,7 @@ impl Tables {
 fn was_refused(entry: &Entry) -> bool
     ensures { result ≡ (kind.is_connect entry.now.call && fit.is_failure entry.now.answer) }
 {
-    is_connect(&entry.call) && is_failure(&entry.answer)
+    entry.call.is_connect() && entry.answer.is_failure()
 }
 
 /// The tenure of the first Bad answer, with one entry more.
@@ -89,7 +88,7 @@ fn bad_with(first: Option<u32>, entry: &Entry) -> Option<u32>
 {
     match first {
         Some(n) => Some(n),
-        None if is_bad(&entry.answer) => Some(entry.tenure),
+        None if entry.answer.is_bad() => Some(entry.tenure),
         None => None,
     }
 }

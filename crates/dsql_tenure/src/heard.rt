@@ -4,7 +4,6 @@ ghost use Rattle.dsql_journal.specs.Readers.{begins};
 ghost use Rattle.dsql_tenure.specs.Heard as heard;
 ghost use Rattle.dsql_tenure.specs.Open.{open_after};
 
-use crate::kinds::{is_begin, is_done, is_ending, is_over};
 use crate::tables::{Cursor, Handle};
 use dsql_driver::{DriverAnswer, DriverCall};
 use dsql_journal::Entry;
@@ -64,7 +63,7 @@ fn finished_by(entry: &Entry) -> Option<u32>
     ensures { result ≡ heard.finished_by entry.now.call entry.now.answer }
 {
     match &entry.call {
-        DriverCall::Next(rows) if is_over(&entry.answer) => Some(*rows),
+        DriverCall::Next(rows) if entry.answer.is_over() => Some(*rows),
         _ => None,
     }
 }
@@ -169,7 +168,7 @@ pub fn hear_open(numbers: &mut Vec<u32>, entry: &Entry)
 {
     if begins(entry) {
         put_first(numbers, entry.tx);
-    } else if is_ending(&entry.call) {
+    } else if entry.call.is_ending() {
         drop_number(numbers, entry.tx);
     }
 }
@@ -178,7 +177,7 @@ pub fn hear_open(numbers: &mut Vec<u32>, entry: &Entry)
 pub fn begins(entry: &Entry) -> bool
     ensures { result ≡ begins entry.now }
 {
-    is_begin(&entry.call) && is_done(&entry.answer)
+    entry.call.is_begin() && entry.answer.is_done()
 }
 
 fn drop_number(numbers: &mut Vec<u32>, n: u32)

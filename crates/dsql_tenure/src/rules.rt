@@ -3,6 +3,7 @@
 ghost use Rattle.std.specs.Prelude.{◌≡◌, ◌<◌, ◌≤◌, ◌&&◌, ◌||◌, ◌==◌, not, nat_lt, Bool, true, IsTrue};
 ghost use Rattle.std.specs.List.{list_all, list_any};
 ghost use Rattle.dsql_journal.specs.HandlesAndCursors.{keeps_handles_and_cursors};
+ghost use Rattle.dsql_driver.specs.Kinds as driver_kind;
 ghost use Rattle.dsql_journal.specs.Kinds as kind;
 ghost use Rattle.dsql_journal.specs.Readers as told;
 ghost use Rattle.dsql_journal.specs.Readers.{last_tenure};
@@ -13,11 +14,7 @@ ghost use Rattle.dsql_tenure.specs.Asked.{entry_like};
 ghost use Rattle.dsql_tenure.specs.Parts as part;
 
 use crate::asked::{Asked, Outcome};
-use crate::kinds::{
-    cursor_of, handle_of, is_begin, is_call, is_close_rows, is_close_stmt, is_connect, is_ending,
-    is_house, is_next, is_ping, is_prepare, is_reset, is_shut, is_valid, is_work, owns_transaction,
-    place, runs_handle, same_owner,
-};
+use crate::place::place;
 use crate::so_far::{Prepared, SoFar};
 use crate::tables::{Cursor, Handle, Tables};
 use dsql_journal::Owner;
@@ -98,9 +95,9 @@ impl Tables {
         ensures { result ≡ begins_well (past self.now) (entry_like asked.now) }
     {
         if self.so_far.owner.is_none() {
-            is_connect(asked.call) && asked.tenure == 1
+            asked.call.is_connect() && asked.tenure == 1
         } else {
-            !is_connect(asked.call)
+            !asked.call.is_connect()
         }
     }
 
@@ -121,7 +118,7 @@ impl Tables {
     {
         self.tidies_nothing_bad(asked)
             && self.stays_in_bad_tenure(asked)
-            && (!self.invalid || is_shut(asked.call))
+            && (!self.invalid || asked.call.is_shut())
     }
 
     fn tidies_nothing_bad(&self, asked: &Asked<'_>) -> bool
@@ -136,7 +133,7 @@ impl Tables {
         ensures { result ≡ whole.stays_in_bad_tenure (past self.now) (entry_like asked.now) }
     {
         match self.bad_tenure {
-            Some(n) => asked.tenure == n || is_shut(asked.call),
+            Some(n) => asked.tenure == n || asked.call.is_shut(),
             None => true,
         }
     }
@@ -160,7 +157,7 @@ impl Tables {
         requires { Stands self.now }
         ensures { result ≡ keeps_handle (past self.now) (entry_like asked.now) }
     {
-        match handle_of(asked.call) {
+        match asked.call.handle() {
             Some(n) => serves_handle(&self.handles, n, asked),
             None => true,
         }
@@ -170,7 +167,7 @@ impl Tables {
         requires { Stands self.now }
         ensures { result ≡ keeps_cursor (past self.now) (entry_like asked.now) }
     {
-        match cursor_of(asked.call) {
+        match asked.call.cursor() {
             Some(n) => serves_cursor(&self.cursors, n, asked),
             None => true,
         }
@@ -185,8 +182,8 @@ impl Handle {
         ensures { result ≡ part.serves_handle self.now (entry_like asked.now) }
     {
         self.tx == asked.tx
-            && if is_call(self.owner) {
-                is_call(asked.owner) || is_house(asked.owner) && is_close_stmt(asked.call)
+            && if self.owner.is_call() {
+                asked.owner.is_call() || asked.owner.is_house() && asked.call.is_close_stmt()
             } else {
                 self.tenure == asked.tenure
             }
@@ -200,7 +197,7 @@ impl Cursor {
     fn serves(&self, asked: &Asked<'_>) -> bool
         ensures { result ≡ part.serves_cursor self.now (entry_like asked.now) }
     {
-        (!is_next(asked.call) || !self.over) && self.tx == asked.tx && self.tenure == asked.tenure
+        (!asked.call.is_next() || !self.over) && self.tx == asked.tx && self.tenure == asked.tenure
     }
 }
 
@@ -246,12 +243,12 @@ fn each_cursor_serves(cursors: &[Cursor], n: u32, asked: &Asked<'_>) -> bool
 
 /// A Reset, Valid, CloseStmt or CloseRows.
 fn tidies(asked: &Asked<'_>) -> bool
-    ensures { result ≡ (kind.is_reset asked.now.call.now || kind.is_valid asked.now.call.now || kind.is_close_stmt asked.now.call.now || kind.is_close_rows asked.now.call.now) }
+    ensures { result ≡ (driver_kind.is_reset asked.now.call.now || driver_kind.is_valid asked.now.call.now || driver_kind.is_close_stmt asked.now.call.now || driver_kind.is_close_rows asked.now.call.now) }
 {
-    is_reset(asked.call)
-        || is_valid(asked.call)
-        || is_close_stmt(asked.call)
-        || is_close_rows(asked.call)
+    asked.call.is_reset()
+        || asked.call.is_valid()
+        || asked.call.is_close_stmt()
+        || asked.call.is_close_rows()
 }
 
 /// No cursor of that tenure is live.
@@ -265,5 +262,5 @@ fn no_cursor_of_tenure(cursors: &[Cursor], n: u32) -> bool
 fn only_call_handles_of_tenure(handles: &[Handle], n: u32) -> bool
     ensures { result ≡ list_all (λ h. not (h.tenure == n) || kind.is_call h.owner) handles.now }
 {
-    handles.iter().all(|h| h.tenure != n || is_call(h.owner))
+    handles.iter().all(|h| h.tenure != n || h.owner.is_call())
 }

@@ -2,13 +2,10 @@
 ghost use Rattle.std.specs.Prelude.{◌≡◌, ◌<◌, ◌&&◌, ◌||◌, not, List, [], ◌∷◌};
 ghost use Rattle.dsql_driver.specs.Fits as fit;
 ghost use Rattle.dsql_journal.specs.declared.entry.Entry.{Entry};
-ghost use Rattle.dsql_journal.specs.Kinds as kind;
+ghost use Rattle.dsql_driver.specs.Kinds as kind;
 ghost use Rattle.dsql_journal.specs.Tenure as tenure;
 
-use crate::kinds::{
-    given_handle, is_bad, is_begin, is_failure, is_ping, is_prepare, is_reset, is_skip, is_valid,
-    place, runs_text,
-};
+use crate::place::place;
 use dsql_journal::{Entry, Owner};
 
 /// The handles that the Prepares of a tenure gave.
@@ -47,7 +44,7 @@ pub struct SoFar {
 
 impl SoFar {
     ghost use Rattle.std.specs.Prelude.{max, if◌then◌else◌};
-    ghost use Rattle.dsql_journal.specs.Kinds.{is_prepare, given_handle};
+    ghost use Rattle.dsql_driver.specs.Kinds.{is_prepare, given_handle};
     ghost use Rattle.dsql_tenure.specs.SoFar.{so_far, prepared_with};
 
     /// Of a tenure that has no entry.
@@ -79,10 +76,10 @@ impl SoFar {
     fn prepared_with(&self, entry: &Entry) -> Prepared
         ensures { result ≡ (if is_prepare entry.now.call then prepared_with (given_handle entry.now.answer) self.now.prepared else self.now.prepared) }
     {
-        if !is_prepare(&entry.call) {
+        if !entry.call.is_prepare() {
             return self.prepared;
         }
-        match (given_handle(&entry.answer), self.prepared) {
+        match (entry.answer.given_handle(), self.prepared) {
             (Some(handle), Prepared::Nothing) => Prepared::Handle(handle),
             (Some(handle), Prepared::Handle(other)) if handle == other => Prepared::Handle(other),
             _ => Prepared::Otherwise,
@@ -95,10 +92,10 @@ impl SoFar {
     {
         SoFar {
             owner: Some(entry.owner),
-            tested: is_valid(&entry.call) | self.tested,
+            tested: entry.call.is_valid() | self.tested,
             fell: falls(entry) | self.fell,
-            bad: is_bad(&entry.answer) | self.bad,
-            pinged: is_ping(&entry.call) | self.pinged,
+            bad: entry.answer.is_bad() | self.bad,
+            pinged: entry.call.is_ping() | self.pinged,
             worked: is_body(entry) | self.worked,
             place: self.place_with(entry),
             ran: ran(entry) | self.ran,
@@ -112,26 +109,26 @@ impl SoFar {
 fn falls(entry: &Entry) -> bool
     ensures { result ≡ (kind.is_reset entry.now.call && kind.is_bad entry.now.answer) }
 {
-    is_reset(&entry.call) && is_bad(&entry.answer)
+    entry.call.is_reset() && entry.answer.is_bad()
 }
 
 /// An entry beside Reset and Valid.
 fn is_body(entry: &Entry) -> bool
     ensures { result ≡ tenure.is_body entry.now }
 {
-    !(is_reset(&entry.call) || is_valid(&entry.call))
+    !(entry.call.is_reset() || entry.call.is_valid())
 }
 
 /// A run of a text that the driver didn't skip.
 fn ran(entry: &Entry) -> bool
     ensures { result ≡ (kind.runs_text entry.now.call && not (fit.is_skip entry.now.answer)) }
 {
-    runs_text(&entry.call) && !is_skip(&entry.answer)
+    entry.call.runs_text() && !entry.answer.is_skip()
 }
 
 /// A Begin answered Bad or Fail outside transactions.
 fn is_refused_begin(entry: &Entry) -> bool
     ensures { result ≡ tenure.is_refused_begin entry.now }
 {
-    is_begin(&entry.call) && is_failure(&entry.answer) && entry.tx == 0
+    entry.call.is_begin() && entry.answer.is_failure() && entry.tx == 0
 }

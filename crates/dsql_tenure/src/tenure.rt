@@ -2,17 +2,14 @@
 ghost use Rattle.std.specs.Prelude.{◌≡◌, ◌<◌, ◌≤◌, ◌&&◌, ◌||◌, ◌==◌, not, nat_lt, true};
 ghost use Rattle.std.specs.List.{list_all};
 ghost use Rattle.dsql_journal.specs.HandlesAndCursors.{keeps_handles_and_cursors as keeps_uses};
-ghost use Rattle.dsql_journal.specs.Kinds as kind;
+ghost use Rattle.dsql_driver.specs.Kinds as kind;
 ghost use Rattle.dsql_journal.specs.Readers.{last_tenure, of_tenure};
 ghost use Rattle.dsql_journal.specs.Tenure as rule;
 ghost use Rattle.dsql_tenure.specs.Asked.{entry_like};
 ghost use Rattle.dsql_tenure.specs.TenureParts as part;
 
 use crate::asked::{Asked, Outcome};
-use crate::kinds::{
-    handle_of, is_begin, is_close_stmt, is_connect, is_house, is_next, is_ping, is_prepare,
-    is_reset, is_shut, is_valid, is_work, place, runs_handle, same_owner,
-};
+use crate::place::place;
 use crate::so_far::{Prepared, SoFar};
 use crate::tables::{Handle, Tables};
 use dsql_journal::Owner;
@@ -60,7 +57,7 @@ impl Tables {
         requires last { last_tenure (past self.now) ≤ asked.now.tenure }
         ensures { result ≡ rule.is_whole_at_valid (past self.now) (entry_like asked.now) }
     {
-        !is_valid(asked.call) || self.is_whole_tenure(asked.tenure)
+        !asked.call.is_valid() || self.is_whole_tenure(asked.tenure)
     }
 
     /// Tests stand in no transaction, a Reset answered Bad is the last, and the body keeps its rules.
@@ -71,7 +68,7 @@ impl Tables {
         if so_far.fell {
             return false;
         }
-        if is_reset(asked.call) || is_valid(asked.call) {
+        if asked.call.is_reset() || asked.call.is_valid() {
             asked.tx == 0
         } else {
             self.keeps_body(so_far, asked)
@@ -106,10 +103,10 @@ impl Tables {
         requires { Stands self.now }
         ensures { result ≡ part.closes_own (past self.now) (entry_like asked.now) }
     {
-        if !is_close_stmt(asked.call) {
+        if !asked.call.is_close_stmt() {
             return true;
         }
-        match handle_of(asked.call) {
+        match asked.call.handle() {
             Some(n) => is_of_tenure(&self.handles, n, asked.tenure),
             None => true,
         }
@@ -119,7 +116,7 @@ impl Tables {
         requires { Stands self.now }
         ensures { result ≡ rule.closes_rows_first (past self.now) (entry_like asked.now) }
     {
-        !is_close_stmt(asked.call)
+        !asked.call.is_close_stmt()
             || matches!(asked.outcome, Outcome::Bad)
             || self.has_closed_cursors(asked.tenure)
     }
@@ -131,7 +128,7 @@ impl SoFar {
         ensures { result ≡ part.has_owner self.now.owner owner }
     {
         match self.owner {
-            Some(own) => same_owner(own, owner),
+            Some(own) => own.is_same(owner),
             None => true,
         }
     }
@@ -140,7 +137,7 @@ impl SoFar {
     fn keeps_house(&self, asked: &Asked<'_>) -> bool
         ensures { result ≡ part.keeps_house self.now (entry_like asked.now) }
     {
-        !is_house(asked.owner)
+        !asked.owner.is_house()
             || self.owner.is_none() && is_house_call(asked) && asked.call_no == 0 && asked.tx == 0
     }
 
@@ -150,7 +147,7 @@ impl SoFar {
     {
         self.has_owner(asked.owner)
             && self.keeps_house(asked)
-            && (!is_reset(asked.call) || self.owner.is_none())
+            && (!asked.call.is_reset() || self.owner.is_none())
             && !self.tested
     }
 
@@ -158,11 +155,11 @@ impl SoFar {
     fn goes_in_order(&self, asked: &Asked<'_>) -> bool
         ensures { result ≡ part.goes_in_order self.now (entry_like asked.now) }
     {
-        if is_ping(asked.call) {
+        if asked.call.is_ping() {
             return !self.worked;
         }
         let place = place(asked.call);
-        0 < place && !self.pinged && (self.place < place || is_next(asked.call) && self.place == 4)
+        0 < place && !self.pinged && (self.place < place || asked.call.is_next() && self.place == 4)
     }
 
     /// It prepares or runs a handle only after a skip, runs its own handle, and sends nothing after a Bad.
@@ -175,13 +172,13 @@ impl SoFar {
     fn follows_skip(&self, asked: &Asked<'_>) -> bool
         ensures { result ≡ part.follows_skip self.now (entry_like asked.now) }
     {
-        !self.ran || !(is_prepare(asked.call) || runs_handle(asked.call))
+        !self.ran || !(asked.call.is_prepare() || asked.call.runs_handle())
     }
 
     fn runs_own(&self, asked: &Asked<'_>) -> bool
         ensures { result ≡ part.runs_own self.now (entry_like asked.now) }
     {
-        match (runs_handle(asked.call), handle_of(asked.call)) {
+        match (asked.call.runs_handle(), asked.call.handle()) {
             (true, Some(n)) => self.prepared.allows(n),
             _ => true,
         }
@@ -219,19 +216,21 @@ fn is_of_tenure(handles: &[Handle], n: u32, tenure: u32) -> bool
 fn is_house_call(asked: &Asked<'_>) -> bool
     ensures { result ≡ (kind.is_connect asked.now.call.now || kind.is_close_stmt asked.now.call.now || kind.is_shut asked.now.call.now) }
 {
-    is_connect(asked.call) || is_close_stmt(asked.call) || is_shut(asked.call)
+    asked.call.is_connect() || asked.call.is_close_stmt() || asked.call.is_shut()
 }
 
 /// A Begin answered Bad or Fail outside transactions.
 fn is_refused_begin(asked: &Asked<'_>) -> bool
     ensures { result ≡ rule.is_refused_begin (entry_like asked.now) }
 {
-    is_begin(asked.call) && matches!(asked.outcome, Outcome::Bad | Outcome::Failed) && asked.tx == 0
+    asked.call.is_begin()
+        && matches!(asked.outcome, Outcome::Bad | Outcome::Failed)
+        && asked.tx == 0
 }
 
 /// On a pinned connection, outside transactions, there are pings, work and refused Begins.
 fn is_pin_body(asked: &Asked<'_>) -> bool
     ensures { result ≡ rule.is_pin_body (entry_like asked.now) }
 {
-    asked.tx != 0 || is_ping(asked.call) || is_work(asked.call) || is_refused_begin(asked)
+    asked.tx != 0 || asked.call.is_ping() || asked.call.is_work() || is_refused_begin(asked)
 }

@@ -9,7 +9,6 @@ ghost use Rattle.dsql_tenure.specs.Asked.{entry_like};
 ghost use Rattle.dsql_tenure.specs.Open.{open_in, begins_anew, goes_on_open, keeps_number};
 
 use crate::asked::{Asked, Outcome};
-use crate::kinds::{is_begin, is_close_stmt, is_ending, is_work, owns_transaction};
 use crate::tables::{Cursor, Tables};
 
 #[tactic(auto, unfolding(crate::specs::Tables::Stands))]
@@ -26,7 +25,7 @@ impl Tables {
         if asked.tx == 0 {
             return true;
         }
-        owns_transaction(asked.owner, asked.tx) && self.keeps_number(asked)
+        asked.owner.owns_transaction(asked.tx) && self.keeps_number(asked)
     }
 
     /// A Begin makes a new transaction; a live handle of it may be closed at any time; all else is done while
@@ -35,10 +34,10 @@ impl Tables {
         requires { Stands self.now }
         ensures { result ≡ keeps_number (past self.now) (entry_like asked.now) }
     {
-        if is_begin(asked.call) {
+        if asked.call.is_begin() {
             self.begins_anew(asked)
         } else {
-            is_close_stmt(asked.call) || self.goes_on_open(asked)
+            asked.call.is_close_stmt() || self.goes_on_open(asked)
         }
     }
 
@@ -62,7 +61,7 @@ impl Tables {
         requires { Stands self.now }
         ensures { result ≡ goes_on_open (past self.now) (entry_like asked.now) }
     {
-        (is_work(asked.call) || is_ending(asked.call))
+        (asked.call.is_work() || asked.call.is_ending())
             && self.is_open(asked.tx)
             && self.ends_without_cursors(asked)
     }
@@ -79,7 +78,7 @@ impl Tables {
         requires { Stands self.now }
         ensures { result ≡ rule.ends_without_cursors (past self.now) (entry_like asked.now) }
     {
-        !is_ending(asked.call) || self.went_bad() || self.has_no_cursor_of(asked.tx)
+        !asked.call.is_ending() || self.went_bad() || self.has_no_cursor_of(asked.tx)
     }
 
     fn has_no_cursor_of(&self, n: u32) -> bool

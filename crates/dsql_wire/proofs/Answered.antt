@@ -4,7 +4,7 @@ use Rattle.dsql_driver.specs.declared.answer.DriverAnswer.{DriverAnswer}
 use Rattle.dsql_driver.specs.Fits.{is_done}
 use Rattle.dsql_journal.specs.declared.entry.Entry.{Entry}
 use Rattle.dsql_journal.specs.declared.entry.Permit.{Permit}
-use Rattle.dsql_journal.specs.Kinds.{is_begin}
+use Rattle.dsql_driver.specs.Kinds.{is_begin}
 use Rattle.dsql_journal.specs.Permits.{entry_of}
 use Rattle.dsql_tenure.specs.Judged.{answered}
 

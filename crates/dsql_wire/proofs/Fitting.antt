@@ -9,7 +9,8 @@ use Rattle.dsql_driver.specs.Fits.{fits_of, is_memory}
 use Rattle.dsql_driver.specs.Wires as wires
 use Rattle.dsql_driver.specs.Wires.{WireTold, KeepsHandles, KeepsCursors}
 use Rattle.dsql_journal.specs.declared.entry.Entry.{Entry}
-use Rattle.dsql_journal.specs.Kinds.{if_any, cursor_of, given_handle, given_cursor}
+use Rattle.dsql_journal.specs.Kinds.{if_any}
+use Rattle.dsql_driver.specs.Kinds.{cursor_of, given_handle, given_cursor}
 use Rattle.dsql_journal.specs.Readers.{is_empty, LiveCursor, handles, cursors, handles_named, cursors_named}
 use Rattle.dsql_journal.specs.HandlesAndCursors.{fits_at_its_place, is_heard, is_fitting, gives_new_handle, gives_new_cursor, has_width_of_cursor, is_as_wide}
 use Rattle.dsql_journal.proofs.Conjunctions.{join5}

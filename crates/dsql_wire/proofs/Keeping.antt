@@ -13,7 +13,7 @@ use Rattle.dsql_driver.specs.Fits.{is_memory}
 use Rattle.dsql_driver.specs.Wires as wires
 use Rattle.dsql_driver.specs.Wires.{WireTold, has_number, with_call, told_after, KeepsHandles, KeepsCursors}
 use Rattle.dsql_journal.specs.declared.entry.Entry.{Entry}
-use Rattle.dsql_journal.specs.Kinds.{is_close_stmt, is_close_rows}
+use Rattle.dsql_driver.specs.Kinds.{is_close_stmt, is_close_rows}
 use Rattle.dsql_journal.specs.Readers.{LiveHandle, LiveCursor, handles, cursors, handles_after, cursors_after, changed, after_next}
 use Rattle.dsql_journal.proofs.Conjunctions.{parts2, join2}
 use Rattle.dsql_tenure.proofs.Lists.{list_all-filter, list_all-so}

@@ -17,7 +17,8 @@ use Rattle.dsql_journal.specs.declared.entry.Entry.{Entry}
 use Rattle.dsql_journal.specs.declared.entry.Permit.{Permit}
 use Rattle.dsql_journal.specs.declared.entry.Owner.{Owner}
 use Rattle.dsql_journal.specs.declared.entry.Owner.TheVariants.{Call, Tx, Pin, House}
-use Rattle.dsql_journal.specs.Kinds.{is_connect, is_house}
+use Rattle.dsql_journal.specs.Kinds.{is_house}
+use Rattle.dsql_driver.specs.Kinds.{is_connect}
 use Rattle.dsql_journal.specs.Facts.{MayFollow}
 use Rattle.dsql_journal.specs.Journal.{may_follow}
 use Rattle.dsql_journal.specs.HandlesAndCursors.{fits_at_its_place}

@@ -5,7 +5,8 @@ use Rattle.dsql_driver.specs.declared.answer.DriverAnswer.TheVariants as answers
 use Rattle.dsql_driver.specs.declared.wire.Refused.{Refused}
 use Rattle.dsql_driver.specs.declared.wire.Refused.TheVariants.{Bad, Fail, Memory}
 use Rattle.dsql_journal.specs.declared.entry.Permit.{Permit}
-use Rattle.dsql_journal.specs.Kinds.{is_connect, is_house}
+use Rattle.dsql_journal.specs.Kinds.{is_house}
+use Rattle.dsql_driver.specs.Kinds.{is_connect}
 use Rattle.dsql_tenure.specs.Judged.{Judged}
 use Rattle.dsql_wire.specs.Journaled.{MayBeSent}
 

@@ -1,7 +1,7 @@
 //! Copies of permits, and what answers make of them.
 ghost use Rattle.std.specs.Prelude.{◌≡◌, ◌&&◌, not, IfOk};
 ghost use Rattle.dsql_driver.specs.Fits.{is_done, is_memory as is_want};
-ghost use Rattle.dsql_journal.specs.Kinds.{is_begin};
+ghost use Rattle.dsql_driver.specs.Kinds.{is_begin};
 ghost use Rattle.dsql_tenure.specs.Judged.{answered};
 
 use dsql_driver::{DriverAnswer, DriverCall};

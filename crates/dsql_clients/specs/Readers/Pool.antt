@@ -8,7 +8,8 @@ use Rattle.dsql_pool.specs.declared.conn.Place.{Place}
 use Rattle.dsql_pool.specs.declared.conn.Place.TheVariants.{Lent}
 use Rattle.dsql_pool.specs.declared.moves.Move.{Move}
 use Rattle.dsql_pool.specs.declared.moves.Move.TheVariants.{OpenStart}
-use Rattle.dsql_pool.specs.Places.{conn_of, number_of, is_for}
+use Rattle.dsql_pool.specs.Places.{conn_of, is_for}
+use Rattle.dsql_journal.specs.Kinds.{number_of}
 use Rattle.dsql_pool.specs.Pooled.{Pooled, fresh, place_at}
 use Rattle.dsql_pool.specs.Moved.{moved, begun, joined, shut}
 use Rattle.dsql_pool.specs.Calls.{open_set, idle_set}

@@ -1,12 +1,13 @@
 -- The moves among the four sets, the numbers of tenures, and what is heard in which set.
 use Rattle.std.specs.Prelude.{◌==◌, Bool, true, false, not, ◌&&◌, ◌||◌, List, Option, Some}
 use Rattle.dsql_journal.specs.declared.entry.Entry.{Entry}
-use Rattle.dsql_journal.specs.Kinds.{is_connect, is_shut, is_house, same_owner}
+use Rattle.dsql_journal.specs.Kinds.{is_house, same_owner, number_of}
+use Rattle.dsql_driver.specs.Kinds.{is_connect, is_shut}
 use Rattle.dsql_pool.specs.declared.conn.Place.{Place}
 use Rattle.dsql_pool.specs.declared.conn.Place.TheVariants.{Opening, Lent, Closing}
 use Rattle.dsql_pool.specs.declared.moves.Move.{Move}
 use Rattle.dsql_pool.specs.declared.moves.Move.TheVariants.{OpenStart, Lend, Back, CloseStart, Gone, Fell}
-use Rattle.dsql_pool.specs.Places.{is_opening, is_idle, is_lent, is_closing, number_of}
+use Rattle.dsql_pool.specs.Places.{is_opening, is_idle, is_lent, is_closing}
 use Rattle.dsql_pool.specs.Pooled.{Pooled, next_number, next_tenure, place_at}
 use Rattle.dsql_clients.specs.declared.event.Event.{Event}
 use Rattle.dsql_clients.specs.declared.event.Event.TheVariants.{Heard, Pool}

@@ -4,7 +4,7 @@ use Rattle.std.specs.List.{list_all}
 use Rattle.dsql_journal.specs.Readers.{is_empty}
 use Rattle.dsql_pool.specs.declared.conn.Place.{Place}
 use Rattle.dsql_pool.specs.declared.conn.Place.TheVariants.{Lent}
-use Rattle.dsql_pool.specs.Places.{number_of}
+use Rattle.dsql_journal.specs.Kinds.{number_of}
 use Rattle.dsql_clients.specs.declared.event.Event.{Event}
 use Rattle.dsql_clients.specs.Readers.Unfinished.{unfinished}
 use Rattle.dsql_clients.specs.Readers.Pool.{pool}

@@ -2,7 +2,7 @@
 use Rattle.std.specs.Prelude.{ℕ, ◌==◌, ◌+◌, Bool, true, false, cond, List, [], ◌∷◌, ◌++◌, length, count_by, slice_set, slice_index_or}
 use Rattle.dsql_journal.specs.declared.entry.Owner.{Owner}
 use Rattle.dsql_journal.specs.declared.entry.Owner.TheVariants.{Call, Tx, Pin, House}
-use Rattle.dsql_journal.specs.Kinds.{is_house}
+use Rattle.dsql_journal.specs.Kinds.{is_house, number_of}
 use Rattle.dsql_history.specs.declared.event.Event.{Event}
 use Rattle.dsql_history.specs.declared.event.Event.TheVariants.{Pool}
 use Rattle.dsql_history.specs.declared.event.Move.TheVariants.{OpenStart, Lend, Back, CloseStart, Gone, Fell}
@@ -47,13 +47,6 @@ is_lent _ = false
 abbrev pub is_closing : Place → Bool
 is_closing Closing = true
 is_closing _ = false
-
--- the call of an owner, 0 for the House
-abbrev pub number_of : Owner → ℕ
-number_of (Call n) = n
-number_of (Tx n) = n
-number_of (Pin n) = n
-number_of House = 0
 
 -- it is being opened for this call, or lent to an owner of its number
 abbrev pub is_for : ℕ → Place → Bool

@@ -18,7 +18,7 @@ use Rattle.dsql_course.specs.Line.{Found, comes_next}
 use Rattle.dsql_course.specs.Rows.{rows_next}
 use Rattle.dsql_journal.specs.declared.entry.Entry.{Entry}
 use Rattle.dsql_journal.specs.declared.entry.Owner.TheVariants.{Call}
-use Rattle.dsql_journal.specs.Kinds.{is_bad, is_valid}
+use Rattle.dsql_driver.specs.Kinds.{is_bad, is_valid}
 use Rattle.dsql_history.specs.declared.event.Event.{Event}
 use Rattle.dsql_history.specs.declared.event.Event.TheVariants.{Heard, Pool}
 use Rattle.dsql_history.specs.declared.event.Move.TheVariants.{Back, CloseStart}

@@ -1,7 +1,8 @@
 -- The moves among the four sets, the numbers of tenures, and what is heard in which set.
 use Rattle.std.specs.Prelude.{◌==◌, Bool, true, false, not, ◌&&◌, ◌||◌, List}
 use Rattle.dsql_journal.specs.declared.entry.Entry.{Entry}
-use Rattle.dsql_journal.specs.Kinds.{is_connect, is_shut, is_house, same_owner}
+use Rattle.dsql_journal.specs.Kinds.{is_house, same_owner, number_of}
+use Rattle.dsql_driver.specs.Kinds.{is_connect, is_shut}
 use Rattle.dsql_history.specs.declared.event.Event.{Event}
 use Rattle.dsql_history.specs.declared.event.Event.TheVariants.{Heard, Pool}
 use Rattle.dsql_history.specs.declared.event.Move.{Move}
@@ -9,7 +10,7 @@ use Rattle.dsql_history.specs.declared.event.Move.TheVariants.{OpenStart, Lend, 
 use Rattle.dsql_history.specs.declared.record.Place.{Place}
 use Rattle.dsql_history.specs.declared.record.Place.TheVariants.{Opening, Lent, Closing}
 use Rattle.dsql_history.specs.Readers.Calls.{sender}
-use Rattle.dsql_history.specs.Readers.Sets.{place, next_number, is_opening, is_idle, is_lent, is_closing, number_of, next_tenure}
+use Rattle.dsql_history.specs.Readers.Sets.{place, next_number, is_opening, is_idle, is_lent, is_closing, next_tenure}
 
 -- OpenStart puts the next new number into opening; Lend moves from idle or opening to lent; Back from lent or opening to idle;
 -- CloseStart from idle, lent or opening to closing; Gone takes out of closing; Fell takes out of opening.

@@ -7,7 +7,8 @@ use Rattle.dsql_history.specs.declared.record.Place.{Place}
 use Rattle.dsql_history.specs.declared.record.Place.TheVariants.{Opening, Lent}
 use Rattle.dsql_journal.specs.Readers.{is_empty}
 use Rattle.dsql_history.specs.Readers.Course.{has_ended}
-use Rattle.dsql_history.specs.Readers.Sets.{places, place, is_open, is_opening, is_closing, is_for, number_of, idle}
+use Rattle.dsql_history.specs.Readers.Sets.{places, place, is_open, is_opening, is_closing, is_for, idle}
+use Rattle.dsql_journal.specs.Kinds.{number_of}
 use Rattle.dsql_history.specs.Readers.Calls.{call_record, home, user}
 use Rattle.dsql_history.specs.Readers.Unfinished.{unfinished, is_unfinished}
 use Rattle.dsql_history.specs.Rules.Line.{due, is_kept_by_rows}

@@ -1,14 +1,15 @@
 //! Openings: those that come to their end, and those that begin for requests that wait.
 ghost use Rattle.std.specs.Prelude.{◌≡◌, ◌+◌, ◌<◌, ◌≤◌, ◌∷◌, [], ◌++◌, length, true, OnOk, OnErr};
 
-use crate::conn::{Place, number_of};
+use crate::conn::Place;
 use crate::moves::Outcome;
 use crate::pool::{MOST_OPEN, Pool};
 use dsql_journal::Owner;
 use dsql_value::Memory;
 
 impl Pool {
-    ghost use Rattle.dsql_pool.specs.Places.{is_opening, is_closing, number_of};
+    ghost use Rattle.dsql_pool.specs.Places.{is_opening, is_closing};
+    ghost use Rattle.dsql_journal.specs.Kinds.{number_of};
     ghost use Rattle.dsql_pool.specs.Pooled.{room, place_at, next_tenure};
     ghost use Rattle.dsql_pool.specs.Moved.{made, moved};
     ghost use Rattle.dsql_pool.specs.Decisions.{when_unwanted, moves_unwanted, falls_to, due_openings, openings_for_waiting};
@@ -45,7 +46,7 @@ impl Pool {
     {
         self.make_ready()?;
         match self.place(conn) {
-            Some(Place::Opening(Some(owner))) => self.make_lend(conn, owner, number_of(owner)),
+            Some(Place::Opening(Some(owner))) => self.make_lend(conn, owner, owner.number()),
             Some(Place::Opening(None)) => self.place_unwanted(conn),
             _ => {}
         }
@@ -57,7 +58,7 @@ impl Pool {
         ensures { result ≡ falls_to (place_at self.now.pooled conn) self.now.pooled }
     {
         match self.place(conn) {
-            Some(Place::Opening(Some(owner))) => number_of(owner),
+            Some(Place::Opening(Some(owner))) => owner.number(),
             Some(Place::Opening(None)) => match self.waiting.oldest() {
                 Some(request) => request.call,
                 None => 0,

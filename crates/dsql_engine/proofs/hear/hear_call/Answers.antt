@@ -1,5 +1,5 @@
 use Rattle.std.proofs.Common.{rules, ◌≡◌, ℕ, List, ◌∷◌, ◌||◌, true, cond, None, ap, sym, subst, ◌∙◌, refl}
-use Rattle.dsql_journal.specs.Kinds.{is_bad, is_valid}
+use Rattle.dsql_driver.specs.Kinds.{is_bad, is_valid}
 use Rattle.dsql_journal.specs.Readers.{went_bad}
 use Rattle.dsql_journal.specs.HandlesAndCursors.{fits_at_its_place}
 use Rattle.dsql_journal.specs.declared.entry.Entry.{Entry}
@@ -12,7 +12,7 @@ use Rattle.dsql_history.specs.Readers.HandedOut.{handed_out}
 use Rattle.dsql_history.specs.Readers.Journals.{journal}
 use Rattle.dsql_history.specs.Readers.Works.{work}
 use Rattle.dsql_history.specs.Readers.Calls.{sender}
-use Rattle.dsql_history.specs.Readers.Sets.{number_of}
+use Rattle.dsql_journal.specs.Kinds.{number_of}
 use Rattle.dsql_history.specs.Rules.Line.{due, asked_by, wish, body_after}
 use Rattle.dsql_history.specs.Legal.{Allowed, Lawful}
 use Rattle.dsql_laws.proofs.CallLines.{sent_entry}

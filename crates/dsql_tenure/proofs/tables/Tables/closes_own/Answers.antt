@@ -1,7 +1,7 @@
 use Rattle.std.proofs.Common.{◌≡◌, true, ◌==◌, ◌||◌, not, List, ◌∙◌, ap, sym}
 use Rattle.std.specs.List.{list_all}
 use native.Mathlib.Omega.{arith}
-use Rattle.dsql_journal.specs.Kinds.{is_close_stmt}
+use Rattle.dsql_driver.specs.Kinds.{is_close_stmt}
 use Rattle.dsql_tenure.specs.declared.tables.Handle.{Handle}
 use Rattle.dsql_tenure.specs.Asked.{entry_like}
 use Rattle.dsql_tenure.proofs.TableFacts.{closes_own_by}
