@@ -1,5 +1,6 @@
 pub mod Words
 pub mod Followed
+pub mod FollowedSteps
 pub mod Edits
 pub mod Strayed
 pub mod StrayedEnds

@@ -6,7 +6,8 @@ use Rattle.dsql_client_cases.specs.Words.{enters_exec, closes, asks_for_stats, s
 use Rattle.dsql_follows.specs.declared.line.Line.TheVariants.{Skip, Step}
 use Rattle.dsql_follows.specs.Follows.{Played}
 use Rattle.dsql_follow_cases.specs.Words.{set_a, set_b, set_c, set_d, r, limits, connects, shuts, resets, runs, tests, closes_rows, tests_after, is_told}
-use Rattle.dsql_follow_cases.specs.Followed.{rows_hold_the_connection, served_in_order, held_and_kept, stepped_by_hand, stepped_in_the_other_order, shared_rows, closed_while_waiting, answered_after_a_close, limit_lowered, released_at_the_end}
+use Rattle.dsql_follow_cases.specs.Followed.{rows_hold_the_connection, served_in_order, closed_while_waiting, limit_lowered}
+use Rattle.dsql_follow_cases.specs.FollowedSteps.{held_and_kept, stepped_by_hand, stepped_in_the_other_order, shared_rows, answered_after_a_close, released_at_the_end}
 use Rattle.dsql_follow_cases.specs.Edits.{with_events, with_line, without_part, puts_off, brings_forward}
 
 -- the wait of a call stands in the part of the next line

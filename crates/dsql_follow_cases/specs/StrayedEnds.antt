@@ -7,7 +7,8 @@ use Rattle.dsql_clients.specs.declared.reply.Reply.TheVariants as replies
 use Rattle.dsql_client_cases.specs.Words.{enters_exec, fetches, asks_for_stats, sets_open, close, gone, stats}
 use Rattle.dsql_follows.specs.Follows.{Played}
 use Rattle.dsql_follow_cases.specs.Words.{set_a, r, shuts, tests, closes_rows, tests_after, is_told}
-use Rattle.dsql_follow_cases.specs.Followed.{one_exec, stepped_by_hand, closed_while_waiting, answered_after_a_close, two_at_once, released_at_the_end, waits_until_the_end}
+use Rattle.dsql_follow_cases.specs.Followed.{one_exec, closed_while_waiting, waits_until_the_end}
+use Rattle.dsql_follow_cases.specs.FollowedSteps.{stepped_by_hand, answered_after_a_close, two_at_once, released_at_the_end}
 use Rattle.dsql_follow_cases.specs.Edits.{with_last, puts_off_to_the_end}
 
 -- a lending stands in the end's part, and its connection was opened in the last line's

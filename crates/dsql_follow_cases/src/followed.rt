@@ -4,7 +4,8 @@ ghost use Rattle.std.specs.Prelude.{◌≡◌, true};
 ghost use Rattle.dsql_clients.specs.Computed.{is_legal};
 ghost use Rattle.dsql_follows.specs.Follows.{follows, history};
 ghost use Rattle.dsql_follow_cases.specs.Edits.{parts_found};
-ghost use Rattle.dsql_follow_cases.specs.Followed.{one_exec, rows_hold_the_connection, served_in_order, held_and_kept, stepped_by_hand, stepped_in_the_other_order, shared_rows, closed_while_waiting, answered_after_a_close, limit_lowered, two_at_once, released_at_the_end, waits_until_the_end};
+ghost use Rattle.dsql_follow_cases.specs.Followed.{one_exec, rows_hold_the_connection, served_in_order, closed_while_waiting, limit_lowered, waits_until_the_end};
+ghost use Rattle.dsql_follow_cases.specs.FollowedSteps.{held_and_kept, stepped_by_hand, stepped_in_the_other_order, shared_rows, answered_after_a_close, two_at_once, released_at_the_end};
 
 /// The parts of each of these runs follow their lines.
 pub fn runs_that_follow()
