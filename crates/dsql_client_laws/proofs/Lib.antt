@@ -14,4 +14,6 @@ pub mod Welcome
 pub mod Able
 pub mod AbleMoves
 pub mod OwedAllowed
+pub mod GivenBack
+pub mod AskedAllowed
 pub mod Decide

@@ -29,7 +29,7 @@ use Rattle.dsql_client_laws.proofs.OwedMoves.{is_own, are_own, own_moved, owed_o
 use Rattle.dsql_client_laws.proofs.Able.{is_able, are_able}
 use Rattle.dsql_client_laws.proofs.AbleMoves.{able}
 
-or_first : (a b : Bool) → a ≡ true → (a || b) ≡ true
+pub or_first : (a b : Bool) → a ≡ true → (a || b) ≡ true
 or_first true b h = refl
 or_first false b h = absurd cc
 
@@ -75,7 +75,7 @@ or_both true b c h = refl
 or_both false b true h = refl
 or_both false b false h = h
 
-or_second : (a b : Bool) → b ≡ true → (a || b) ≡ true
+pub or_second : (a b : Bool) → b ≡ true → (a || b) ≡ true
 or_second true b h = refl
 or_second false b h = h
 
@@ -157,7 +157,7 @@ next_allowed H m ms l is =
 pub next_owed : (H : List Event) (m : Move) (ms : List Move) → owed H ≡ m ∷ ms → owed (Pool m ∷ H) ≡ ms
 next_owed H m ms is = ap (left_of H m) is
 
-all_lawful : (H : List Event) (ms : List Move) → Lawful H → owed H ≡ ms → Lawful (with_moves ms H)
+pub all_lawful : (H : List Event) (ms : List Move) → Lawful H → owed H ≡ ms → Lawful (with_moves ms H)
 all_lawful H [] l is = l
 all_lawful H (m ∷ ms) l is = all_lawful (Pool m ∷ H) ms (l, next_allowed H m ms l is) (next_owed H m ms is)
 
@@ -171,7 +171,7 @@ all_made H (m ∷ ms) is = all_made (Pool m ∷ H) ms (next_owed H m ms is)
 pub owed_made : (H : List Event) → owed (with_moves (owed H) H) ≡ []
 owed_made H = all_made H (owed H) refl
 
-pool_made : (H : List Event) (ms : List Move) → are_own ms ≡ true → pool (with_moves ms H) ≡ made ms (pool H)
+pub pool_made : (H : List Event) (ms : List Move) → are_own ms ≡ true → pool (with_moves ms H) ≡ made ms (pool H)
 pool_made H [] own = refl
 pool_made H (m ∷ ms) own =
     let a = both (is_own m) (are_own ms) own in

@@ -61,7 +61,7 @@ oldest_own : (c t : ℕ) (rs : List Request) → are_own (lends_to_oldest c t rs
 oldest_own c t [] = refl
 oldest_own c t (r ∷ rs) = refl
 
-back_own : (c : ℕ) (p : Pooled) (o : Outcome) → are_own (moves_back c p o) ≡ true
+pub back_own : (c : ℕ) (p : Pooled) (o : Outcome) → are_own (moves_back c p o) ≡ true
 back_own c p (Closes why) = refl
 back_own c p Serves = oldest_own c (next_tenure p c) p.waiting
 back_own c p Rests = refl

@@ -1,3 +1,5 @@
 pub mod Splits
 pub mod Holdings
 pub mod OwedMade
+pub mod Leaving
+pub mod Asked

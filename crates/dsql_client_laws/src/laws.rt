@@ -11,19 +11,22 @@ ghost use Rattle.dsql_pool.specs.Rest.{AtRest};
 ghost use Rattle.dsql_pool.specs.declared.moves.Move.{Move};
 ghost use Rattle.dsql_clients.specs.declared.event.Event.{Event};
 ghost use Rattle.dsql_clients.specs.declared.event.Event.TheVariants.{Pool};
-ghost use Rattle.dsql_clients.specs.Readers.Owed.{owed};
+ghost use Rattle.dsql_clients.specs.Readers.Owed.{given_back, owed};
 ghost use Rattle.dsql_history.specs.Readers.Works.{asks};
 ghost use Rattle.dsql_clients.specs.declared.record.Stand.TheVariants.{Waits, Opens, Sends};
 ghost use Rattle.dsql_clients.specs.Readers.Calls.{site};
 ghost use Rattle.dsql_clients.specs.Readers.Pool.{place, pool, smallest};
 ghost use Rattle.dsql_clients.specs.Readers.Unfinished.{is_unfinished};
 ghost use Rattle.dsql_clients.specs.Readers.Works.{work};
+ghost use Rattle.dsql_clients.specs.Rules.Asking.{may_ask, ask_outcome};
 ghost use Rattle.dsql_clients.specs.Rules.Line.{due_for, is_due_at, may_come, parts};
 ghost use Rattle.dsql_clients.specs.Rules.Stands.{stand};
 ghost use Rattle.dsql_clients.specs.Rules.Settled.{Settled, owes_nothing};
 ghost use Rattle.dsql_clients.specs.Legal.{Allowed, Calm, KeepsJournals, Lawful, Legal};
 ghost use Rattle.dsql_clients.specs.Computed.{is_allowed, is_calm, is_lawful, is_legal, is_settled};
+ghost use Rattle.dsql_client_laws.specs.Asked.{with_asked};
 ghost use Rattle.dsql_client_laws.specs.Holdings.{holdings};
+ghost use Rattle.dsql_client_laws.specs.Leaving.{MayLeave};
 ghost use Rattle.dsql_client_laws.specs.OwedMade.{with_moves};
 ghost use Rattle.dsql_client_laws.specs.Splits.{AllowedAtEachEvent};
 
@@ -63,6 +66,19 @@ pub fn owed_moves_are_allowed()
     ensures all { (history : List Event) → Lawful history → Lawful (with_moves (owed history) history) }
     ensures none { (history : List Event) → owed (with_moves (owed history) history) ≡ [] }
     ensures pool { (history : List Event) → pool (with_moves (owed history) history) ≡ made (owed history) (pool history) }
+{}
+
+/// The moves of a connection that may leave its call are allowed one after another, after which none is owed, and
+/// the pool has made them.
+pub fn what_is_given_back_is_allowed()
+    ensures all { (history : List Event) (conn : ℕ) → Lawful history → MayLeave history conn → Lawful (with_moves (given_back history conn) history) }
+    ensures none { (history : List Event) (conn : ℕ) → MayLeave history conn → owed (with_moves (given_back history conn) history) ≡ [] }
+    ensures pool { (history : List Event) (conn : ℕ) → pool (with_moves (given_back history conn) history) ≡ made (given_back history conn) (pool history) }
+{}
+
+/// Where nothing is owed, what comes of a call that may ask is allowed: a lending, an opening, or that it waits.
+pub fn what_is_asked_for_is_allowed()
+    ensures { (history : List Event) (n : ℕ) → Lawful history → owed history ≡ [] → may_ask history n ≡ true → Lawful (with_asked n (ask_outcome history n) history) }
 {}
 
 /// Each connection's journal is a beginning of a whole one, and whole once the connection has left.
