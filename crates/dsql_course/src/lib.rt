@@ -13,6 +13,3 @@ mod step;
 pub use call::{Due, Got};
 pub use course::{Course, Wish};
 pub use progress::Progress;
-
-#[cfg(test)]
-mod tests;

@@ -9,6 +9,3 @@ mod table;
 
 pub use end::{ConnDone, PinEnd};
 pub use table::Pins;
-
-#[cfg(test)]
-mod tests;

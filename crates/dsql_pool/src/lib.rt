@@ -21,6 +21,3 @@ pub use moves::{CloseCause, Fate, Move, Outcome};
 pub use pool::{MOST_OPEN, Pool};
 pub use request::{AskFault, Asked};
 pub use stats::{Counts, Stats};
-
-#[cfg(test)]
-mod tests;

@@ -12,6 +12,3 @@ pub use dsql_cancel::Cause;
 pub use end::{RowsEnd, RowsOver};
 pub use fault::{RowsClosed, RowsFault};
 pub use table::RowsTable;
-
-#[cfg(test)]
-mod tests;

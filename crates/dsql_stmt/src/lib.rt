@@ -11,6 +11,3 @@ mod table;
 pub use fault::StmtClosed;
 pub use stmt::Home;
 pub use table::{Handles, Stmts};
-
-#[cfg(test)]
-mod tests;

@@ -20,6 +20,3 @@ mod transaction;
 pub use dsql_journal::{Entry, Owner, Permit};
 pub use fault::{JudgeFault, Phase};
 pub use judge::Judge;
-
-#[cfg(test)]
-mod tests;

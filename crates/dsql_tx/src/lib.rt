@@ -10,6 +10,3 @@ mod tx;
 pub use dsql_cancel::Cause;
 pub use end::{TxDone, TxEnd};
 pub use table::Txs;
-
-#[cfg(test)]
-mod tests;

@@ -9,6 +9,3 @@ mod waiting;
 pub use dsql_journal::Owner;
 pub use request::Request;
 pub use waiting::Waiting;
-
-#[cfg(test)]
-mod tests;

@@ -1,6 +1,6 @@
 ghost use Rattle.std.specs.Prelude.{◌<◌};
 
-use super::*;
+use dsql_pool::{Asked, CloseCause, Fate, Move, Owner, Place, Pool, Request};
 use std::process::Abort;
 use std::test::Fail;
 
