@@ -1,13 +1,13 @@
 -- The moves of a connection that is given back are allowed one after another.
 use Rattle.std.proofs.Common.{◌≡◌, ℕ, true, not, ◌||◌, List, [], ◌∷◌, refl, sym, ap, subst, ◌∙◌}
 use Rattle.std.specs.Prelude.{drop}
-use Rattle.dsql_journal.specs.Kinds.{is_call}
+use Rattle.dsql_journal.specs.Kinds.{is_call, number_of}
 use Rattle.dsql_pool.specs.declared.moves.CloseCause.{CloseCause}
 use Rattle.dsql_pool.specs.declared.moves.Move.{Move}
 use Rattle.dsql_pool.specs.declared.moves.Move.TheVariants.{Back, CloseStart}
 use Rattle.dsql_pool.specs.declared.moves.Outcome.{Outcome}
 use Rattle.dsql_pool.specs.declared.moves.Outcome.TheVariants.{Closes, Serves, Rests}
-use Rattle.dsql_pool.specs.Places.{is_idle, is_lent, is_opening, number_of}
+use Rattle.dsql_pool.specs.Places.{is_idle, is_lent, is_opening}
 use Rattle.dsql_pool.specs.Pooled.{next_tenure}
 use Rattle.dsql_pool.specs.Moved.{made}
 use Rattle.dsql_pool.specs.Decisions.{lends_to_oldest, moves_back, when_given_back}

@@ -1,10 +1,9 @@
 -- A connection that may leave its call.
 use Rattle.std.specs.Prelude.{ℕ, ◌≡◌, true, false, List, [], Some}
 use Rattle.dsql_journal.specs.declared.entry.Owner.{Owner}
-use Rattle.dsql_journal.specs.Kinds.{is_call}
+use Rattle.dsql_journal.specs.Kinds.{is_call, number_of}
 use Rattle.dsql_journal.specs.Tenure.{is_whole_tenure}
 use Rattle.dsql_pool.specs.declared.conn.Place.TheVariants.{Lent}
-use Rattle.dsql_pool.specs.Places.{number_of}
 use Rattle.dsql_clients.specs.declared.event.Event.{Event}
 use Rattle.dsql_clients.specs.Readers.Journals.{journal}
 use Rattle.dsql_clients.specs.Readers.Owed.{owed}
