@@ -16,9 +16,11 @@ fn assert_added(rt: &impl Abort, stmts: &Stmts, n: u32) {
 
 fn note(rt: &impl Abort, stmts: &mut Stmts, n: u32, conn: u32, inputs: i32) -> Result<(), Fail> {
     assert!(rt; stmts.was_added(n));
-    assert!(rt; stmts.live(n, conn).is_none());
     assert!(rt; !stmts.is_live(conn, 7));
-    Ok(stmts.note_prepared(n, conn, 7, inputs)?)
+    match stmts.live(n, conn) {
+        None => Ok(stmts.note_prepared(n, conn, 7, inputs)?),
+        Some(_) => Err("it has a handle")?,
+    }
 }
 
 fn assert_prepared(rt: &impl Abort, stmts: &Stmts, n: u32, conn: u32, inputs: i32) {
