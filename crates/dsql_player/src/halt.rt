@@ -4,16 +4,13 @@ ghost use Rattle.dsql_player.specs.declared.halt.Halt.TheVariants as halts;
 use dsql_engine::{HeardBack, NoRoom};
 use dsql_value::Memory;
 use std::alloc::AllocError;
-use thiserror::Error;
 
 /// Why a run stops before its end.
-#[derive(Clone, Copy, Debug, PartialEq, Eq, Error)]
+#[derive(Clone, Copy, Debug, PartialEq, Eq)]
 pub enum Halt {
     /// There was no memory: in the engine, in the driver or for the table of wires.
-    #[error("out of memory")]
     Memory,
     /// The run has as many events as a run may have.
-    #[error("too many events")]
     Full,
 }
 
