@@ -1,6 +1,6 @@
 -- What is awaited on a connection, by where it stands, and the layer's own calls.
 use Rattle.std.proofs.Common.{◌≡◌, ◌==◌, ◌⊎◌, inl, inr, ℕ, Bool, true, false, ◌&&◌, ◌||◌, List, Option, Some, None, refl, sym, ◌∙◌, ap, subst}
-use Rattle.std.specs.Prelude.{option_map, is_none}
+use Rattle.std.specs.Prelude.{option_map}
 use Rattle.dsql_driver.specs.declared.call.DriverCall.{DriverCall}
 use Rattle.dsql_driver.specs.declared.call.DriverCall.TheVariants.{Connect, Shut}
 use Rattle.dsql_driver.specs.declared.answer.DriverAnswer.{DriverAnswer}
@@ -16,7 +16,7 @@ use Rattle.dsql_history.specs.declared.record.Place.TheVariants.{Nowhere, Openin
 use Rattle.dsql_history.specs.Readers.Course.{has_ended}
 use Rattle.dsql_history.specs.Readers.Calls.{sender}
 use Rattle.dsql_history.specs.Readers.Sets.{place, places, next_tenure}
-use Rattle.dsql_history.specs.Rules.House.{tidy_due, shut_due, connect_due, has_no_chore, is_untidy}
+use Rattle.dsql_history.specs.Rules.House.{tidy_due, shut_due, connect_due, is_untidy}
 use Rattle.dsql_history.specs.Rules.Line.{due, is_due}
 use Rattle.dsql_laws.proofs.Rows.{both, same_number, same_to_itself}
 use Rattle.dsql_engine.specs.Awaited.{awaited, awaited_at, chore_due, first_chore, shut_chore, connect_chore, connect_permit, shut_permit, call_permit}
@@ -87,22 +87,6 @@ kind_first past p None at h = inl (house_shut past p (shut_due past) h)
 -- the chore opens or shuts a connection, or tidies up
 pub chore_kind : (past : List Event) (p : Permit) → chore_due past ≡ Some p → IsHouse p ⊎ IsTidying past p.conn p (place past p.conn)
 chore_kind past p h = kind_first past p (tidy_due past) refl h
-
-some_connect : (conn : Option ℕ) (p : Permit) → connect_chore conn ≡ Some p → is_none conn ≡ false
-some_connect (Some c) p h = refl
-some_connect None p h = absurd cc
-
-some_shut : (past : List Event) (p : Permit) (conn : Option ℕ) → shut_chore past conn ≡ Some p → (is_none conn && is_none (connect_due past)) ≡ false
-some_shut past p (Some c) h = refl
-some_shut past p None h = some_connect (connect_due past) p h
-
-some_first : (past : List Event) (p : Permit) (conn : Option ℕ) → first_chore past conn ≡ Some p → (is_none conn && (is_none (shut_due past) && is_none (connect_due past))) ≡ false
-some_first past p (Some c) h = refl
-some_first past p None h = some_shut past p (shut_due past) h
-
--- where there is a chore, it isn't so that there is none
-pub some_chore : (past : List Event) (p : Permit) → chore_due past ≡ Some p → has_no_chore past ≡ false
-some_chore past p h = some_first past p (tidy_due past) h
 
 both_same : (q : DriverCall) → (is_connect q || is_shut q) ≡ true → same_chore q q ≡ true
 both_same Connect h = refl

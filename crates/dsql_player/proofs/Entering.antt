@@ -71,9 +71,6 @@ still past quiet =
     let b = both (is_empty (unfinished past)) (has_no_chore past) quiet in
     record { none = empty_list (unfinished past) b.0; free = b.1 }
 
-pub quiet_of : (past : List Event) → unfinished past ≡ [] → has_no_chore past ≡ true → is_quiet past ≡ true
-quiet_of past none free = rw (none, free) refl
-
 entered_turn : (past : List Event) (client n : ℕ) (op : Op) → is_quiet past ≡ true → has_ended past ≡ false → keeps_turns past (Entered client n op) ≡ true
 entered_turn past client n op quiet running = rw (quiet, running) refl
 

@@ -83,10 +83,6 @@ no_more (Some told) = ap (λ cs. Some (record told { connects = cs })) (sym (app
 pub at_most : (before after : Option FleetTold) (old new : List Event) → FleetTells before after old new → TellsAtMost before after old new
 at_most before after old new f = record { more = []; few = omega arith; told = λ t h. f.told t h ∙ no_more (with_told t new) }
 
--- the fleet wasn't asked, and nothing came
-pub at_most_none : (before : Option FleetTold) (old : List Event) → TellsAtMost before before old old
-at_most_none before old = at_most before before old old (tells_none before old old refl)
-
 -- the fleet was asked for a Connect whose answer couldn't be taken in
 pub at_most_one : (c : ℕ) (a : DriverAnswer) (before : Option FleetTold) (old : List Event) → is_memory a ≡ false → TellsAtMost before (connected_after c a before) old old
 at_most_one c a before old heard = record {
@@ -94,9 +90,6 @@ at_most_one c a before old heard = record {
   few = omega arith;
   told = λ t h. heard_answer c a before heard ∙ ap (option_map (with_connects ((c, a) ∷ []))) h;
 }
-
-pub then_at_most : (before between after : Option FleetTold) (old mid new : List Event) → FleetTells before between old mid → TellsAtMost between after mid new → TellsAtMost before after old new
-then_at_most before between after old mid new f g = record { more = g.more; few = g.few; told = λ t h. g.told t (f.told t h) }
 
 pub same_both : (t : Option FleetTold) → SameAsked t t
 same_both None = tt

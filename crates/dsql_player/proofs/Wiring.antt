@@ -1,6 +1,6 @@
 -- Wires that fit a history fit the next one too.
 use Rattle.std.proofs.Common.{◌≡◌, ◌≢◌, inl, inr, ℕ, Bool, true, false, List, [], ◌∷◌, Option, Some, None, refl, sym, ◌∙◌, ap, subst, get_or, set, zero, suc}
-use Rattle.std.specs.Prelude.{is_some, IsSome, IfSome, MatchBool}
+use Rattle.std.specs.Prelude.{is_some, IfSome, MatchBool}
 use Rattle.std.proofs.lemmas.List.{get_or-set_other}
 use Rattle.dsql_driver.specs.Wires.{WireTold, told_after}
 use Rattle.dsql_driver.specs.declared.call.DriverCall.{DriverCall}
@@ -94,10 +94,6 @@ fit_heard heard past now e before after had has places journals others hears =
     fit_but_one heard telling past now before after e.conn places (λ c n. journals c ∙ journal_elsewhere past e c n) others fit
     (fits_here heard telling e.conn (place now e.conn) (journal now e.conn) (slot after e.conn) has here)
 
-pub some_wire : {W : Type 0} (heard : W → Option WireTold) (telling : Bool) (c : ℕ) (entries : List Entry) (w : Option (Journaled W)) → HoldsWire heard telling c entries w → IsSome w
-some_wire heard telling c entries None h = absurd h
-some_wire heard telling c entries (Some w) h = refl
-
 untold_slot : {W : Type 0} (heard : W → Option WireTold) (telling : Bool) (c : ℕ) (j : List Entry) (w : Option (Journaled W)) → HoldsWire heard telling c j w → HoldsWire heard false c j w
 untold_slot heard telling c j None h = h
 untold_slot heard telling c j (Some w) h = record { conn = h.conn; journal = h.journal; unplanned = h.unplanned; tells = λ t. absurd cc }
@@ -107,15 +103,6 @@ pub wired : {W : Type 0} (heard : W → Option WireTold) (telling : Bool) (past 
     → WiresFit heard telling past ws → HoldsWire heard false c (journal past c) (slot ws c)
 wired heard telling past ws c has fit =
     untold_slot heard telling c (journal past c) (slot ws c) (holds_here heard telling c (place past c) (journal past c) (slot ws c) has (fit c))
-
-untold_fit : {W : Type 0} (heard : W → Option WireTold) (telling b : Bool) (c : ℕ) (j : List Entry) (w : Option (Journaled W)) → MatchBool b (HoldsWire heard telling c j w) (w ≡ None)
-    → MatchBool b (HoldsWire heard false c j w) (w ≡ None)
-untold_fit heard telling true c j w f = untold_slot heard telling c j w f
-untold_fit heard telling false c j w f = f
-
--- wires that fit where all tell fit where it is open who tells
-pub untold_fits : {W : Type 0} (heard : W → Option WireTold) (telling : Bool) (past : List Event) (ws : List (Option (Journaled W))) → WiresFit heard telling past ws → WiresFit heard false past ws
-untold_fits heard telling past ws fit = λ c. untold_fit heard telling (has_wire (place past c)) c (journal past c) (slot ws c) (fit c)
 
 -- wires stay fitting where the same connections have wires and as much was heard of each
 pub same_fits : {W : Type 0} (heard : W → Option WireTold) (telling : Bool) (past now : List Event) (ws : List (Option (Journaled W))) → KeepsPlaces past now → WiresFit heard telling past ws

@@ -1,6 +1,7 @@
 -- What the parts of carrying a line out change, and what stays.
-use Rattle.std.specs.Prelude.{ℕ, ◌≡◌, ◌<◌, ◌==◌, ◌+◌, ◌-◌, ◌*◌, Bool, true, false, List, [], ◌∷◌, ◌++◌, ◌⊎◌, length, Option, Some, is_some}
-use Rattle.dsql_driver.specs.Wires.{FleetTold}
+use Rattle.std.specs.Prelude.{ℕ, ◌≡◌, ◌<◌, ◌==◌, ◌+◌, ◌-◌, ◌*◌, Bool, true, false, List, [], ◌∷◌, ◌++◌, ◌⊎◌, length, Option, Some, is_some, Result, OnOk, OnErr, IfErr}
+use Rattle.dsql_driver.specs.Wires.{WireTold, FleetTold}
+use Rattle.dsql_driver.specs.declared.wire.Fleet.{Ghosts}
 use Rattle.dsql_journal.specs.declared.entry.Permit.{Permit}
 use Rattle.dsql_history.specs.declared.event.Event.{Event}
 use Rattle.dsql_history.specs.declared.event.Op.{Op}
@@ -11,16 +12,20 @@ use Rattle.dsql_history.specs.Readers.Unfinished.{unfinished, is_unfinished}
 use Rattle.dsql_history.specs.Readers.Sets.{place}
 use Rattle.dsql_history.specs.Readers.Journals.{journal}
 use Rattle.dsql_history.specs.Rules.House.{has_no_chore}
+use Rattle.dsql_history.specs.Legal.{Legal}
 use Rattle.dsql_engine.specs.declared.next.Next.{Next}
 use Rattle.dsql_engine.specs.declared.next.Next.TheVariants.{Send, Blocked, Reply, Quiet}
-use Rattle.dsql_engine.specs.Awaited.{awaited}
+use Rattle.dsql_engine.specs.Awaited.{awaited, chore_due}
 use Rattle.dsql_engine.specs.Groups.{most_events}
 use Rattle.dsql_engine.specs.Steps.{IsParked}
-use Rattle.dsql_player.specs.Told.{fleet_told, TellsOn}
+use Rattle.dsql_wire.specs.Journaled.{Journaled}
+use Rattle.dsql_player.specs.declared.halt.Halt.{Halt}
+use Rattle.dsql_player.specs.declared.halt.Halt.TheVariants.{Memory}
+use Rattle.dsql_player.specs.Told.{fleet_told, TellsOn, TellsAtMost}
 use Rattle.dsql_player.specs.Entered.{entered_calls}
 use Rattle.dsql_player.specs.Turns.{Turns}
 use Rattle.dsql_player.specs.Extends.{Extends}
-use Rattle.dsql_player.specs.WiresFit.{has_wire}
+use Rattle.dsql_player.specs.WiresFit.{has_wire, WiresFit}
 
 -- the run goes on, and no call is entered
 pub record GoesOn (old new : List Event) : Type 0 where
@@ -34,6 +39,31 @@ pub record GoesOn (old new : List Event) : Type 0 where
 pub record FleetTells (before after : Option FleetTold) (old new : List Event) : Type 0 where
   pub told : TellsOn before after old new
   pub telling : is_some after ≡ is_some before
+
+-- what the fleet can do, and what it was asked for last, stays
+pub record SameAbility {F W : Type 0} (fleet : Ghosts F W) (before after : F) : Type 0 where
+  pub ability : fleet.ability after ≡ fleet.ability before
+  pub preferred : fleet.preferred after ≡ fleet.preferred before
+
+-- A part of a run is carried out: the fleet tells of the new history, and the wires fit it. Where it can't be, the fleet was asked for one Connect more at most.
+pub record KeepsRun {A F W : Type 0} (fleet : Ghosts F W) (heard : W → Option WireTold) (result : Result A Halt) (before after : F) (old new : List Event) (slots : List (Option (Journaled W))) : Type 0 where
+  pub told : OnOk result (FleetTells (fleet.told before) (fleet.told after) old new)
+  pub asked : OnErr result (TellsAtMost (fleet.told before) (fleet.told after) old new)
+  pub wires : OnOk result (WiresFit heard (is_some (fleet.told after)) new slots)
+  pub able : SameAbility fleet before after
+  pub legal : Legal new
+
+-- an error is want of memory, and changes nothing
+pub record FailsForMemory {A : Type 0} (result : Result A Halt) (old new : List Event) : Type 0 where
+  pub same : OnErr result (new ≡ old)
+  pub memory : IfErr result (λ halt. halt ≡ Memory)
+
+-- The layer's first own call, which its connection awaits, in a legal history that has room for more events.
+pub record IsTheChore (past : List Event) (permit : Permit) : Type 0 where
+  pub legal : Legal past
+  pub room : length past < most_events
+  pub due : chore_due past ≡ Some permit
+  pub awaited : awaited past permit.conn ≡ Some permit
 
 -- one of the layer's own calls is carried out
 pub record CarriesChore (old new : List Event) : Type 0 where

@@ -6,6 +6,7 @@ ghost use Rattle.dsql_engine.specs.Awaited.{awaited, permit_of};
 ghost use Rattle.dsql_engine.specs.Groups.{after_heard, most_events};
 ghost use Rattle.dsql_engine.specs.Steps.{NextAfterHeard};
 ghost use Rattle.dsql_player.specs.Asked.{Asks};
+ghost use Rattle.dsql_player.specs.Carried.{FailsForMemory};
 ghost use Rattle.dsql_player.specs.WiresFit.{slot, HoldsWire};
 
 use crate::halt::Halt;
@@ -37,8 +38,7 @@ pub(crate) fn hear(engine: &mut Engine, heard: Heard) -> Result<Next, Halt>
     requires fits { fits_at_its_place (journal engine.old heard.conn) heard ≡ true }
     ensures group { OnOk result (engine.new ≡ after_heard engine.old heard) }
     ensures next { IfOk result (λ next. NextAfterHeard engine.old heard next engine.new) }
-    ensures err { OnErr result (engine.new ≡ engine.old) }
-    ensures memory { IfErr result (λ halt. halt ≡ Halt.Memory) }
+    ensures fails { FailsForMemory result engine.old engine.new }
     ensures legal { Legal engine.new }
 {
     Ok(engine.heard(heard)?)
@@ -57,8 +57,7 @@ pub(crate) fn ask<W: Wire>(
         (slot wires.old permit.conn) }
     ensures asked { IfOk result
         (λ next. Asks W.told permit next engine.old engine.new wires.old wires.new) }
-    ensures err { OnErr result (engine.new ≡ engine.old) }
-    ensures memory { IfErr result (λ halt. halt ≡ Halt.Memory) }
+    ensures fails { FailsForMemory result engine.old engine.new }
     ensures legal { Legal engine.new }
 {
     let heard = wires.perform(permit)?;

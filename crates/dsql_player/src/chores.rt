@@ -10,7 +10,8 @@ ghost use Rattle.dsql_engine.specs.Awaited.{awaited, chore_due};
 ghost use Rattle.dsql_engine.specs.Groups.{most_events};
 ghost use Rattle.dsql_tenure.specs.Judged.{answered};
 ghost use Rattle.dsql_wire.specs.Opening.{opens};
-ghost use Rattle.dsql_player.specs.Carried.{GoesOn, FleetTells, CarriesChore, CarriesFirst};
+ghost use Rattle.dsql_player.specs.Carried.{GoesOn, CarriesChore, CarriesFirst, FailsForMemory, IsTheChore, KeepsRun, SameAbility};
+ghost use Rattle.dsql_player.specs.Asked.{Answers};
 ghost use Rattle.dsql_player.specs.WiresFit.{slot, WiresFit, OpensWire, KeepsFit};
 ghost use Rattle.dsql_player.specs.Told.{fleet_told, TellsAtMost};
 
@@ -33,17 +34,9 @@ pub(crate) fn carry_chores<F: Fleet>(
     requires wires { WiresFit F.Wire.told (is_some (F.told fleet.old)) engine.old wires.old }
     ensures none { OnOk result (has_no_chore engine.new ≡ true) }
     ensures calls { OnOk result (unfinished engine.new ≡ unfinished engine.old) }
-    ensures told { OnOk result
-        (FleetTells (F.told fleet.old) (F.told fleet.new) engine.old engine.new) }
-    ensures asked { OnErr result
-        (TellsAtMost (F.told fleet.old) (F.told fleet.new) engine.old engine.new) }
-    ensures wires { OnOk result
-        (WiresFit F.Wire.told (is_some (F.told fleet.new)) engine.new wires.new) }
+    ensures run { KeepsRun F.Fleet F.Wire.told result fleet.old fleet.new engine.old engine.new wires.new }
     ensures on { GoesOn engine.old engine.new }
     ensures full { IsErrOf result Halt.Full → most_events ≤ length engine.new }
-    ensures ability { F.ability fleet.new ≡ F.ability fleet.old }
-    ensures preferred { F.preferred fleet.new ≡ F.preferred fleet.old }
-    ensures legal { Legal engine.new }
 {
     while carry_first_chore(engine, wires, fleet)? {}
     Ok(())
@@ -58,17 +51,9 @@ pub(crate) fn carry_first_chore<F: Fleet>(
     requires legal { Legal engine.old }
     requires wires { WiresFit F.Wire.told (is_some (F.told fleet.old)) engine.old wires.old }
     ensures first { IfOk result (λ carried. CarriesFirst carried engine.old engine.new) }
-    ensures told { OnOk result
-        (FleetTells (F.told fleet.old) (F.told fleet.new) engine.old engine.new) }
-    ensures asked { OnErr result
-        (TellsAtMost (F.told fleet.old) (F.told fleet.new) engine.old engine.new) }
-    ensures wires { OnOk result
-        (WiresFit F.Wire.told (is_some (F.told fleet.new)) engine.new wires.new) }
+    ensures run { KeepsRun F.Fleet F.Wire.told result fleet.old fleet.new engine.old engine.new wires.new }
     ensures err { OnErr result (engine.new ≡ engine.old) }
     ensures full { IsErrOf result Halt.Full → most_events ≤ length engine.new }
-    ensures ability { F.ability fleet.new ≡ F.ability fleet.old }
-    ensures preferred { F.preferred fleet.new ≡ F.preferred fleet.old }
-    ensures legal { Legal engine.new }
 {
     check_room(engine)?;
     match engine.chore()? {
@@ -87,23 +72,11 @@ fn carry_chore<F: Fleet>(
     fleet: &mut F,
     permit: Permit,
 ) -> Result<(), Halt>
-    requires legal { Legal engine.old }
-    requires room { length engine.old < most_events }
-    requires due { chore_due engine.old ≡ Some permit }
-    requires awaited { awaited engine.old permit.conn ≡ Some permit }
+    requires chore { IsTheChore engine.old permit }
     requires wires { WiresFit F.Wire.told (is_some (F.told fleet.old)) engine.old wires.old }
     ensures carried { OnOk result (CarriesChore engine.old engine.new) }
-    ensures told { OnOk result
-        (FleetTells (F.told fleet.old) (F.told fleet.new) engine.old engine.new) }
-    ensures asked { OnErr result
-        (TellsAtMost (F.told fleet.old) (F.told fleet.new) engine.old engine.new) }
-    ensures wires { OnOk result
-        (WiresFit F.Wire.told (is_some (F.told fleet.new)) engine.new wires.new) }
-    ensures err { OnErr result (engine.new ≡ engine.old) }
-    ensures memory { IfErr result (λ halt. halt ≡ Halt.Memory) }
-    ensures ability { F.ability fleet.new ≡ F.ability fleet.old }
-    ensures preferred { F.preferred fleet.new ≡ F.preferred fleet.old }
-    ensures legal { Legal engine.new }
+    ensures run { KeepsRun F.Fleet F.Wire.told result fleet.old fleet.new engine.old engine.new wires.new }
+    ensures fails { FailsForMemory result engine.old engine.new }
 {
     match permit.call {
         DriverCall::Connect => open(engine, wires, fleet, permit),
@@ -114,18 +87,14 @@ fn carry_chore<F: Fleet>(
 
 /// Makes a call on a connection that rows still have, although the run has ended.
 fn tidy<W: Wire>(engine: &mut Engine, wires: &mut Wires<W>, permit: Permit) -> Result<(), Halt>
-    requires legal { Legal engine.old }
-    requires room { length engine.old < most_events }
-    requires due { chore_due engine.old ≡ Some permit }
-    requires awaited { awaited engine.old permit.conn ≡ Some permit }
+    requires chore { IsTheChore engine.old permit }
     requires no_connect { is_connect permit.call ≡ false }
     requires no_shut { is_shut permit.call ≡ false }
     requires wires { WiresFit W.told false engine.old wires.old }
     ensures carried { OnOk result (CarriesChore engine.old engine.new) }
     ensures told { OnOk result (fleet_told engine.new ≡ fleet_told engine.old) }
     ensures wires { OnOk result (KeepsFit W.told engine.old engine.new wires.old wires.new) }
-    ensures err { OnErr result (engine.new ≡ engine.old) }
-    ensures memory { IfErr result (λ halt. halt ≡ Halt.Memory) }
+    ensures fails { FailsForMemory result engine.old engine.new }
     ensures legal { Legal engine.new }
 {
     ask(engine, wires, permit)?;
@@ -139,24 +108,12 @@ fn shut<F: Fleet>(
     fleet: &mut F,
     permit: Permit,
 ) -> Result<(), Halt>
-    requires legal { Legal engine.old }
-    requires room { length engine.old < most_events }
-    requires due { chore_due engine.old ≡ Some permit }
-    requires awaited { awaited engine.old permit.conn ≡ Some permit }
+    requires chore { IsTheChore engine.old permit }
     requires shuts { is_shut permit.call ≡ true }
     requires wires { WiresFit F.Wire.told (is_some (F.told fleet.old)) engine.old wires.old }
     ensures carried { OnOk result (CarriesChore engine.old engine.new) }
-    ensures told { OnOk result
-        (FleetTells (F.told fleet.old) (F.told fleet.new) engine.old engine.new) }
-    ensures asked { OnErr result
-        (TellsAtMost (F.told fleet.old) (F.told fleet.new) engine.old engine.new) }
-    ensures wires { OnOk result
-        (WiresFit F.Wire.told (is_some (F.told fleet.new)) engine.new wires.new) }
-    ensures err { OnErr result (engine.new ≡ engine.old) }
-    ensures memory { IfErr result (λ halt. halt ≡ Halt.Memory) }
-    ensures ability { F.ability fleet.new ≡ F.ability fleet.old }
-    ensures preferred { F.preferred fleet.new ≡ F.preferred fleet.old }
-    ensures legal { Legal engine.new }
+    ensures run { KeepsRun F.Fleet F.Wire.told result fleet.old fleet.new engine.old engine.new wires.new }
+    ensures fails { FailsForMemory result engine.old engine.new }
 {
     let number = permit.conn;
     ask(engine, wires, permit)?;
@@ -176,24 +133,12 @@ fn open<F: Fleet>(
     fleet: &mut F,
     permit: Permit,
 ) -> Result<(), Halt>
-    requires legal { Legal engine.old }
-    requires room { length engine.old < most_events }
-    requires due { chore_due engine.old ≡ Some permit }
-    requires awaited { awaited engine.old permit.conn ≡ Some permit }
+    requires chore { IsTheChore engine.old permit }
     requires connects { is_connect permit.call ≡ true }
     requires wires { WiresFit F.Wire.told (is_some (F.told fleet.old)) engine.old wires.old }
     ensures carried { OnOk result (CarriesChore engine.old engine.new) }
-    ensures told { OnOk result
-        (FleetTells (F.told fleet.old) (F.told fleet.new) engine.old engine.new) }
-    ensures asked { OnErr result
-        (TellsAtMost (F.told fleet.old) (F.told fleet.new) engine.old engine.new) }
-    ensures wires { OnOk result
-        (WiresFit F.Wire.told (is_some (F.told fleet.new)) engine.new wires.new) }
-    ensures err { OnErr result (engine.new ≡ engine.old) }
-    ensures memory { IfErr result (λ halt. halt ≡ Halt.Memory) }
-    ensures ability { F.ability fleet.new ≡ F.ability fleet.old }
-    ensures preferred { F.preferred fleet.new ≡ F.preferred fleet.old }
-    ensures legal { Legal engine.new }
+    ensures run { KeepsRun F.Fleet F.Wire.told result fleet.old fleet.new engine.old engine.new wires.new }
+    ensures fails { FailsForMemory result engine.old engine.new }
 {
     let heard = connect_wire(wires, fleet, permit)?;
     hear(engine, heard)?;
@@ -208,9 +153,7 @@ fn connect_wire<F: Fleet>(
 ) -> Result<Heard, Halt>
     requires empty { slot wires.old permit.conn ≡ None }
     requires opens { opens permit ≡ true }
-    ensures entry { IfOk result (λ heard. heard ≡ answered permit heard.answer) }
-    ensures fits { IfOk result (λ heard. fits_at_its_place [] heard ≡ true) }
-    ensures no_want { IfOk result (λ heard. is_memory heard.answer ≡ false) }
+    ensures heard { IfOk result (Answers permit []) }
     ensures others { OnOk result ((c : ℕ) → c ≢ permit.conn → slot wires.new c ≡ slot wires.old c) }
     ensures wire { IfOk result
         (λ heard. OpensWire F.Wire.told (is_some (F.told fleet.old)) heard (slot wires.new permit.conn)) }
@@ -218,8 +161,7 @@ fn connect_wire<F: Fleet>(
         (λ heard. F.told fleet.new ≡ connected_after permit.conn heard.answer (F.told fleet.old)) }
     ensures unasked { OnErr result (F.told fleet.new ≡ F.told fleet.old) }
     ensures memory { IfErr result (λ halt. halt ≡ Halt.Memory) }
-    ensures ability { F.ability fleet.new ≡ F.ability fleet.old }
-    ensures preferred { F.preferred fleet.new ≡ F.preferred fleet.old }
+    ensures able { SameAbility F.Fleet fleet.old fleet.new }
 {
     let number = permit.conn;
     wires.make_room(number)?;
@@ -235,17 +177,14 @@ fn open_wire<F: Fleet>(
     permit: Permit,
 ) -> Result<Opened<F::Wire>, Halt>
     requires { opens permit ≡ true }
-    ensures entry { IfOk result (λ opened. opened.heard ≡ answered permit opened.heard.answer) }
-    ensures fits { IfOk result (λ opened. fits_at_its_place [] opened.heard ≡ true) }
-    ensures no_want { IfOk result (λ opened. is_memory opened.heard.answer ≡ false) }
+    ensures heard { IfOk result (λ opened. Answers permit [] opened.heard) }
     ensures wire { IfOk result
         (λ opened. OpensWire F.Wire.told (is_some (F.told fleet.old)) opened.heard opened.wire) }
     ensures asked { IfOk result
         (λ opened. F.told fleet.new ≡ connected_after permit.conn opened.heard.answer (F.told fleet.old)) }
     ensures unasked { OnErr result (F.told fleet.new ≡ F.told fleet.old) }
     ensures memory { IfErr result (λ halt. halt ≡ Halt.Memory) }
-    ensures ability { F.ability fleet.new ≡ F.ability fleet.old }
-    ensures preferred { F.preferred fleet.new ≡ F.preferred fleet.old }
+    ensures able { SameAbility F.Fleet fleet.old fleet.new }
 {
     match connect(alloc, fleet, permit) {
         Ok(opened) => Ok(opened),

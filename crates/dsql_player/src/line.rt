@@ -4,11 +4,10 @@ ghost use Rattle.dsql_history.specs.Readers.Course.{has_ended};
 ghost use Rattle.dsql_history.specs.Readers.Unfinished.{unfinished};
 ghost use Rattle.dsql_history.specs.Rules.House.{is_quiet, has_no_chore};
 ghost use Rattle.dsql_engine.specs.Groups.{most_events};
-ghost use Rattle.dsql_player.specs.Told.{TellsOn, TellsAtMost};
 ghost use Rattle.dsql_player.specs.Entered.{entered_calls};
 ghost use Rattle.dsql_player.specs.Turns.{Turns};
 ghost use Rattle.dsql_player.specs.Extends.{Extends};
-ghost use Rattle.dsql_player.specs.Carried.{GoesOn, FleetTells, Steps, Enters, Ends, EntersAtMost, ComesNext, ComesNearer, is_reply};
+ghost use Rattle.dsql_player.specs.Carried.{GoesOn, KeepsRun, Steps, Enters, Ends, EntersAtMost, ComesNext, ComesNearer, is_reply};
 ghost use Rattle.dsql_player.specs.WiresFit.{slot, WiresFit, KeepsFit};
 
 use crate::asking::{ask, check_room};
@@ -38,13 +37,7 @@ pub fn carry_line<F: Fleet>(
     ensures running { OnOk result (has_ended engine.new ≡ false) }
     ensures entered { OnOk result
         (entered_calls engine.new ≡ entered_calls engine.old ++ (client, op) ∷ []) }
-    ensures told { OnOk result
-        (TellsOn (F.told fleet.old) (F.told fleet.new) engine.old engine.new) }
-    ensures asked { OnErr result
-        (TellsAtMost (F.told fleet.old) (F.told fleet.new) engine.old engine.new) }
-    ensures wires { OnOk result
-        (WiresFit F.Wire.told (is_some (F.told fleet.new)) engine.new wires.new) }
-    ensures telling { OnOk result (is_some (F.told fleet.new) ≡ is_some (F.told fleet.old)) }
+    ensures run { KeepsRun F.Fleet F.Wire.told result fleet.old fleet.new engine.old engine.new wires.new }
 
     // A run that has to stop goes on from the old history and has kept its turns, and its call has
     // entered or not.
@@ -52,10 +45,6 @@ pub fn carry_line<F: Fleet>(
     ensures extends { Extends engine.old engine.new }
     ensures stopped { OnErr result (EntersAtMost (client, op) engine.old engine.new) }
     ensures full { IsErrOf result Halt.Full → most_events ≤ length engine.new }
-
-    ensures ability { F.ability fleet.new ≡ F.ability fleet.old }
-    ensures preferred { F.preferred fleet.new ≡ F.preferred fleet.old }
-    ensures legal { Legal engine.new }
 {
     let next = enter(engine, client, op)?;
     carry_call(engine, wires, fleet, client, next)?;
@@ -77,23 +66,13 @@ pub fn carry_end<F: Fleet>(
 
     ensures quiet { OnOk result (is_quiet engine.new ≡ true) }
     ensures ended { OnOk result (has_ended engine.new ≡ true) }
-    ensures told { OnOk result
-        (TellsOn (F.told fleet.old) (F.told fleet.new) engine.old engine.new) }
-    ensures asked { OnErr result
-        (TellsAtMost (F.told fleet.old) (F.told fleet.new) engine.old engine.new) }
-    ensures wires { OnOk result
-        (WiresFit F.Wire.told (is_some (F.told fleet.new)) engine.new wires.new) }
+    ensures run { KeepsRun F.Fleet F.Wire.told result fleet.old fleet.new engine.old engine.new wires.new }
     ensures empty { OnOk result ((c : ℕ) → slot wires.new c ≡ None) }
-    ensures telling { OnOk result (is_some (F.told fleet.new) ≡ is_some (F.told fleet.old)) }
 
     ensures turns { Turns engine.old → Turns engine.new }
     ensures extends { Extends engine.old engine.new }
     ensures entered { entered_calls engine.new ≡ entered_calls engine.old }
     ensures full { IsErrOf result Halt.Full → most_events ≤ length engine.new }
-
-    ensures ability { F.ability fleet.new ≡ F.ability fleet.old }
-    ensures preferred { F.preferred fleet.new ≡ F.preferred fleet.old }
-    ensures legal { Legal engine.new }
 {
     end(engine)?;
     carry_chores(engine, wires, fleet)
@@ -137,17 +116,9 @@ fn carry_call<F: Fleet>(
     requires next { ComesNext engine.old client first }
     requires wires { WiresFit F.Wire.told (is_some (F.told fleet.old)) engine.old wires.old }
     ensures replied { OnOk result (unfinished engine.new ≡ []) }
-    ensures told { OnOk result
-        (FleetTells (F.told fleet.old) (F.told fleet.new) engine.old engine.new) }
-    ensures asked { OnErr result
-        (TellsAtMost (F.told fleet.old) (F.told fleet.new) engine.old engine.new) }
-    ensures wires { OnOk result
-        (WiresFit F.Wire.told (is_some (F.told fleet.new)) engine.new wires.new) }
+    ensures run { KeepsRun F.Fleet F.Wire.told result fleet.old fleet.new engine.old engine.new wires.new }
     ensures on { GoesOn engine.old engine.new }
     ensures full { IsErrOf result Halt.Full → most_events ≤ length engine.new }
-    ensures ability { F.ability fleet.new ≡ F.ability fleet.old }
-    ensures preferred { F.preferred fleet.new ≡ F.preferred fleet.old }
-    ensures legal { Legal engine.new }
 {
     let mut next = first;
     while !is_reply(&next) {
@@ -178,17 +149,9 @@ fn take_turn<F: Fleet>(
     requires wires { WiresFit F.Wire.told (is_some (F.told fleet.old)) engine.old wires.old }
     ensures next { IfOk result (ComesNext engine.new client) }
     ensures nearer { IfOk result (ComesNearer engine.old next engine.new) }
-    ensures told { OnOk result
-        (FleetTells (F.told fleet.old) (F.told fleet.new) engine.old engine.new) }
-    ensures asked { OnErr result
-        (TellsAtMost (F.told fleet.old) (F.told fleet.new) engine.old engine.new) }
-    ensures wires { OnOk result
-        (WiresFit F.Wire.told (is_some (F.told fleet.new)) engine.new wires.new) }
+    ensures run { KeepsRun F.Fleet F.Wire.told result fleet.old fleet.new engine.old engine.new wires.new }
     ensures on { GoesOn engine.old engine.new }
     ensures full { IsErrOf result Halt.Full → most_events ≤ length engine.new }
-    ensures ability { F.ability fleet.new ≡ F.ability fleet.old }
-    ensures preferred { F.preferred fleet.new ≡ F.preferred fleet.old }
-    ensures legal { Legal engine.new }
 {
     if carry_first_chore(engine, wires, fleet)? {
         return Ok(next);

@@ -5,6 +5,7 @@ ghost use Rattle.dsql_driver.specs.declared.caps.Caps.{Caps};
 ghost use Rattle.dsql_history.specs.declared.event.Event.TheVariants.{Run};
 ghost use Rattle.dsql_tenure.specs.Judged.{answered};
 ghost use Rattle.dsql_wire.specs.Journaled.{MayBeSent};
+ghost use Rattle.dsql_player.specs.Carried.{SameAbility};
 ghost use Rattle.dsql_player.specs.Told.{retired_from, retired_slot};
 ghost use Rattle.dsql_player.specs.WiresFit.{slot, WiresFit, Hears, HearsEntry};
 
@@ -153,8 +154,7 @@ fn perform_on<W: Wire>(wire: &mut JournaledWire<W>, permit: Permit) -> Result<He
 pub fn retire_all<F: Fleet>(wires: Wires<F::Wire>, fleet: &mut F)
     ensures retired { F.told fleet.new
         ≡ retired_from F.Wire.told (reverse wires) (F.told fleet.old) }
-    ensures ability { F.ability fleet.new ≡ F.ability fleet.old }
-    ensures preferred { F.preferred fleet.new ≡ F.preferred fleet.old }
+    ensures able { SameAbility F.Fleet fleet.old fleet.new }
 {
     let Wires {
         mut slots,
@@ -170,8 +170,7 @@ pub fn retire_all<F: Fleet>(wires: Wires<F::Wire>, fleet: &mut F)
 fn retire_slot<F: Fleet>(slot: Option<JournaledWire<F::Wire>>, number: u32, fleet: &mut F)
     ensures retired { F.told fleet.new
         ≡ retired_slot F.Wire.told number slot (F.told fleet.old) }
-    ensures ability { F.ability fleet.new ≡ F.ability fleet.old }
-    ensures preferred { F.preferred fleet.new ≡ F.preferred fleet.old }
+    ensures able { SameAbility F.Fleet fleet.old fleet.new }
 {
     match slot {
         Some(wire) => {

@@ -49,14 +49,6 @@ wrote_older (Err Memory) w now n old new e within wrote = front_of_older w now o
 wrote_older (Err (Refused number fault)) w now n old new e within wrote = shows_older w now n old new e within wrote
 wrote_older (Err Full) w now n old new e within wrote = shows_older w now n old new e within wrote
 
-pub uncut : (played ended : Result (Unit {0}) Stop) → (ran_out played ≡ false → ended ≡ played) → is_cut played ended ≡ false → (failed played ≡ false) × (wanted_memory played ≡ false)
-uncut (Ok done) ended kept cut = (refl, refl)
-uncut (Err Read) ended kept cut = (refl, refl)
-uncut (Err Write) ended kept cut = absurd (cc cut)
-uncut (Err Memory) ended kept cut = absurd (cc (subst (λ r. is_cut (Err Memory) r ≡ false) (kept refl) cut))
-uncut (Err (Refused number fault)) ended kept cut = (refl, refl)
-uncut (Err Full) ended kept cut = (refl, refl)
-
 full_front : (faulty : Bool) (w now : Option (List ℕ)) (past : List Event) → faulty ≡ true → ShowsFront w (text_of past) now → Writes (Err Full) faulty w past now
 full_front true w now past is front = front
 full_front false w now past is front = absurd (cc is)
@@ -88,41 +80,6 @@ writes_full : (faulty : Bool) (w now : Option (List ℕ)) (past : List Event) �
 writes_full true w now past is = front_all w now (text_of past) is
 writes_full false w now past is = is
 
--- all is written
-pub finish_shown : (ended : Result (Unit {0}) Stop) (w now : Option (List ℕ)) (past : List Event) (faulty : Bool) → now ≡ with_text w (text_of past) → Writes ended faulty w past now
-finish_shown (Ok done) w now past faulty is = is
-finish_shown (Err Read) w now past faulty is = is
-finish_shown (Err Write) w now past faulty is = front_all w now (text_of past) is
-finish_shown (Err Memory) w now past faulty is = front_all w now (text_of past) is
-finish_shown (Err (Refused number fault)) w now past faulty is = is
-finish_shown (Err Full) w now past faulty is = writes_full faulty w now past is
-
--- the last events couldn't be shown
-pub finish_cut : (ended : Result (Unit {0}) Stop) (fault : ShowFault) (w now : Option (List ℕ)) (past : List Event) (before risen : Bool) → (fault ≡ shows.Failed → risen ≡ true) → ShowsFront w (text_of past) now
-    → Writes (Err (later_stop ended fault)) (before || risen) w past now
-finish_cut ended shows.Memory w now past before risen caused front = front
-finish_cut (Ok done) shows.Failed w now past before risen caused front = front
-finish_cut (Err Read) shows.Failed w now past before risen caused front = front
-finish_cut (Err Write) shows.Failed w now past before risen caused front = front
-finish_cut (Err Memory) shows.Failed w now past before risen caused front = front
-finish_cut (Err (Refused number fault)) shows.Failed w now past before risen caused front = front
-finish_cut (Err Full) shows.Failed w now past before risen caused front = full_front (before || risen) w now past (or_second before risen (caused refl)) front
-
-pub finishes_later : (played ended : Result (Unit {0}) Stop) (fault : ShowFault) → is_cut played ended ≡ false → Finishes ended (Err (later_stop ended fault))
-finishes_later played ended shows.Memory cut = inr (inl refl)
-finishes_later played (Ok done) shows.Failed cut = inr (inr (refl, refl))
-finishes_later played (Err Read) shows.Failed cut = inr (inr (refl, refl))
-finishes_later played (Err Write) shows.Failed cut = inl refl
-finishes_later played (Err Memory) shows.Failed cut = absurd (cc (sym (or_second (failed played) true refl) ∙ cut))
-finishes_later played (Err (Refused number fault)) shows.Failed cut = inr (inr (refl, refl))
-finishes_later played (Err Full) shows.Failed cut = inl refl
-
--- the end was carried out exactly where what is told at last isn't want of memory or of room
-pub finishes_out : (ended final : Result (Unit {0}) Stop) → Finishes ended final → ran_out final ≡ true → ran_out ended ≡ true
-finishes_out ended final (inl same) out = rw (sym same) out
-finishes_out ended final (inr (inl memory)) out = absurd (cc (subst (λ r. ran_out r ≡ true) memory out))
-finishes_out ended final (inr (inr write)) out = write.1
-
 plays_ended : (played ended : Result (Unit {0}) Stop) (bytes rest : Option (List ℕ)) (calls : Said) → (ran_out ended ≡ true → ended ≡ played) → Plays played bytes rest calls → Plays ended bytes rest calls
 plays_ended played (Ok done) bytes rest calls same plays = subst (λ r. Plays r bytes rest calls) (sym (same refl)) plays
 plays_ended played (Err Read) bytes rest calls same plays = subst (λ r. Plays r bytes rest calls) (sym (same refl)) plays
@@ -136,22 +93,6 @@ pub plays_finished : (played ended final : Result (Unit {0}) Stop) (bytes rest :
 plays_finished played ended final bytes rest calls same (inl is) plays = rw is (plays_ended played ended bytes rest calls same plays)
 plays_finished played ended final bytes rest calls same (inr (inl memory)) plays = rw memory (plays_first played bytes rest calls plays)
 plays_finished played ended final bytes rest calls same (inr (inr write)) plays = rw write.0 (plays_first played bytes rest calls plays)
-
--- only what was played to its end without fault is told as such
-pub told_done : (played ended final : Result (Unit {0}) Stop) (done : Unit {0}) → (ran_out ended ≡ true → ended ≡ played) → Finishes ended final → final ≡ Ok done → played ≡ Ok done
-told_done played ended final done same (inl is) at = let e : ended ≡ Ok done = sym is ∙ at in sym (same (rw e refl)) ∙ e
-told_done played ended final done same (inr (inl memory)) at = absurd (cc (sym memory ∙ at))
-told_done played ended final done same (inr (inr write)) at = absurd (cc (sym write.0 ∙ at))
-
-pub told_read : (played ended final : Result (Unit {0}) Stop) → (ran_out ended ≡ true → ended ≡ played) → Finishes ended final → final ≡ Err Read → played ≡ Err Read
-told_read played ended final same (inl is) at = let e : ended ≡ Err Read = sym is ∙ at in sym (same (rw e refl)) ∙ e
-told_read played ended final same (inr (inl memory)) at = absurd (cc (sym memory ∙ at))
-told_read played ended final same (inr (inr write)) at = absurd (cc (sym write.0 ∙ at))
-
-pub told_full : (ended final : Result (Unit {0}) Stop) → Finishes ended final → final ≡ Err Full → ended ≡ Err Full
-told_full ended final (inl is) at = sym is ∙ at
-told_full ended final (inr (inl memory)) at = absurd (cc (sym memory ∙ at))
-told_full ended final (inr (inr write)) at = absurd (cc (sym write.0 ∙ at))
 
 -- a fault more in a later step is one more in all
 pub writes_more : (r : Result (Unit {0}) Stop) (one all : Bool) (w now : Option (List ℕ)) (past : List Event) → (one ≡ true → all ≡ true) → Writes r one w past now → Writes r all w past now

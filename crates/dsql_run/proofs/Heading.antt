@@ -21,37 +21,6 @@ pub record HeadSoFar (before : Option (List ℕ)) (reader : ScriptReader) (left 
   pub reads : HasRead before reader left (saying asked [])
   pub prefers : Prefers asked preferred_before preferred_after ability_before ability_after
 
-pub head_begins : (before : Option (List ℕ)) (reader : ScriptReader) (left : Option (List ℕ)) (preferred : Preferred) (ability : Caps) → HasRead before reader left nothing → HeadSoFar before reader left preferred preferred ability ability
-head_begins before reader left preferred ability h = record { asked = None; reads = h; prefers = record { preferred = refl; same = λ none. refl } }
-
--- a line that asks for nothing, and one that asks
-pub head_skips : (before : Option (List ℕ)) (old new : ScriptReader) (left rest : Option (List ℕ)) (line : ScriptLine) (p q : Preferred) (a b : Caps) → said_of line ≡ nothing
-    → ((says : Said) → HasRead before old left says → ReadTo (Ok (Some line)) before new rest says) → HeadSoFar before old left p q a b → HeadSoFar before new rest p q a b
-head_skips before old new left rest line p q a b none reads h = record {
-  asked = h.asked;
-  reads = subst (λ s. HasRead before new rest (then (saying h.asked []) s)) none (reads (saying h.asked []) h.reads);
-  prefers = h.prefers;
-}
-
-pub head_asks : (before : Option (List ℕ)) (old new : ScriptReader) (left rest : Option (List ℕ)) (caps : Caps) (p q r : Preferred) (a b c : Caps) → r ≡ preferred_after caps q → (old.reader.head ≡ Begun → IsBodyLine (Some (UseCaps caps)))
-    → ((says : Said) → HasRead before old left says → ReadTo (Ok (Some (UseCaps caps))) before new rest says) → HeadSoFar before old left p q a b → HeadSoFar before new rest p r a c
-head_asks before old new left rest caps p q r a b c is body reads h =
-    let none : h.asked ≡ None = unasked h.asked old.reader.head caps h.reads.begun body in
-    record {
-      asked = Some caps;
-      reads = reads (saying h.asked []) h.reads;
-      prefers = record { preferred = is ∙ ap (preferred_after caps) (h.prefers.preferred ∙ ap (λ asked. asked_for asked p) none); same = λ some. absurd (cc some) };
-    }
-  where
-    unasked : (asked : Option Caps) (head : Head) (caps : Caps) → (saying asked [] ≡ nothing) ⊎ (head ≡ Begun) → (head ≡ Begun → IsBodyLine (Some (UseCaps caps))) → asked ≡ None
-    unasked asked head caps (inl e) body = ap (λ (s : Said). s.caps) e
-    unasked asked head caps (inr begun) body = absurd (cc (body begun))
-
--- what came then
-pub head_ends : (result : Result (Option ScriptLine) Stop) (before : Option (List ℕ)) (old new : ScriptReader) (left rest : Option (List ℕ)) (p q : Preferred) (a b : Caps)
-    → ((says : Said) → HasRead before old left says → ReadTo result before new rest says) → HeadSoFar before old left p q a b → ReadsHead before result new rest p q a b
-head_ends result before old new left rest p q a b reads h = record { asked = h.asked; reads = reads (saying h.asked []) h.reads; prefers = h.prefers }
-
 -- one for a line
 abbrev pub one_if : Option ScriptLine → ℕ
 one_if None = 0
@@ -66,12 +35,6 @@ fewer (Some line) old new counted few stays = omega (arith, counted, few)
 -- what was about to be played, with what came of it
 pub read_of_first : (first : Result (Option ScriptLine) Stop) (next : Option ScriptLine) (before : Option (List ℕ)) (reader : ScriptReader) (left : Option (List ℕ)) (says : Said) → first ≡ Ok next → ReadTo first before reader left says → ReadTo (Ok next) before reader left says
 read_of_first first next before reader left says is read = rw is at read
-
--- where there is no line the script was at its end
-pub ends_at : (next : Option ScriptLine) (before : Option (List ℕ)) (reader : ScriptReader) (left : Option (List ℕ)) (says : Said) → ((line : ScriptLine) → next ≡ Some line → ⊥) → ReadTo (Ok next) before reader left says
-    → Plays (Ok tt) before left says × IfSome left (λ bytes. bytes ≡ [])
-ends_at None before reader left says none read = read
-ends_at (Some line) before reader left says none read = absurd (none line refl)
 
 pub some_of : (next : Option ScriptLine) (line : ScriptLine) (before : Option (List ℕ)) (reader : ScriptReader) (left : Option (List ℕ)) (says : Said) → next ≡ Some line → ReadTo (Ok next) before reader left says
     → HasRead before reader left (then says (said_of line))

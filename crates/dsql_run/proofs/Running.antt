@@ -36,7 +36,7 @@ use Rattle.dsql_run.specs.declared.stop.Stop.TheVariants.{Read, Write, Memory, R
 use Rattle.dsql_history.specs.Readers.Course.{has_ended}
 use Rattle.dsql_history.specs.Rules.House.{is_quiet}
 use Rattle.dsql_run.proofs.Showing.{text_on}
-use Rattle.dsql_run.proofs.WholeLines.{first_of_read, none_to_come, nothing_read_ahead, reads_line, reads_up_to}
+use Rattle.dsql_run.proofs.WholeLines.{first_of_read, none_to_come, reads_line, reads_up_to}
 
 pub no_text : (w : Option (List ℕ)) → with_text w [] ≡ w
 no_text None = refl
@@ -125,19 +125,6 @@ reads_to (Ok (Some line)) before old new left rest says h reads taken stays plac
 reads_to (Ok None) before old new left rest says h reads taken stays placed is end sees stops dropped = read_the_end before old new left rest says h reads (end refl h.sees)
 reads_to (Err stop) before old new left rest says h reads taken stays placed is end sees stops dropped = read_no_line before old new left rest says stop h stops (λ is. dropped (ap Err is))
 
--- a reader that has read nothing
-pub read_nothing : (left : Option (List ℕ)) (reader : ScriptReader) → reader.lines ≡ record { pending = []; ended = false } → reader.reader ≡ unread → HasRead left reader left nothing
-read_nothing left reader lines none = record {
-  script = rw (lines, none) (begins left);
-  lines = rw (lines, none) (nothing_read_ahead left);
-  begun = inl refl;
-  sees = λ h. absurd (cc (rw lines at h));
-}
-  where
-    begins : (l : Option (List ℕ)) → option_map script_of l ≡ option_map (with_said nothing) (option_map (script_from unread) (option_map all_lines (ahead (record { pending = []; ended = false }) l)))
-    begins None = refl
-    begins (Some bytes) = ap Some (sym (with_nothing (script_of bytes)))
-
 -- a line was read and couldn't be carried out or shown: its calls were entered, or weren't
 asked_before : (says : Said) (line : ScriptLine) (s : Script) → is_body line ≡ true → NoneToCome (then says (said_of line)) (Some s) → (says ≡ nothing) ⊎ ((then (said_of line) s.says).caps ≡ None)
 asked_before says line s body (inl e) = inl (nothing_first says line body e)
@@ -203,6 +190,9 @@ oldest_older n old new e within =
 pub oldest_all : (past : List Event) → oldest (length past) past ≡ past
 oldest_all past = ap reverse (take_all (length past) (reverse past) (omega (arith, length-reverse past))) ∙ reverse-reverse past
 
+pub wrote_all : (w now : Option (List ℕ)) (n : ℕ) (past : List Event) → n ≡ length past → now ≡ with_text w (text_of past) → Shows w n past now
+wrote_all w now n past all is = is ∙ rw (all, oldest_all past) refl
+
 -- text that was written of the older history is a beginning of the newer one's
 pub front_of_older : (w now : Option (List ℕ)) (old new : List Event) → Extends old new → ShowsFront w (text_of old) now → ShowsFront w (text_of new) now
 front_of_older w now old new e f = record {
@@ -241,9 +231,6 @@ pub wrote_cut : (f : ShowFault) (w now : Option (List ℕ)) (n m : ℕ) (past : 
 wrote_cut shows.Failed w now n m past stop = front_of_stop w now (text_of (oldest m past)) (text_of past) stop
 wrote_cut shows.Memory w now n m past stop = front_of_stop w now (text_of (oldest m past)) (text_of past) stop
 
-pub wrote_all : (w now : Option (List ℕ)) (n : ℕ) (past : List Event) (done : Unit {0}) → n ≡ length past → now ≡ with_text w (text_of past) → Wrote (Ok done) w n past now
-wrote_all w now n past done all is = is ∙ rw (all, oldest_all past) refl
-
 -- before the first line
 pub first_none : (stop : Stop) (first : Result (Option ScriptLine) Stop) (before : Option (List ℕ)) (reader : ScriptReader) (left rest : Option (List ℕ)) (says : Said) → IsPlayStop stop → IfOk first IsBodyLine → ReadTo first before reader left says → Plays (Err stop) before rest says
 first_none Read first before reader left rest says kind body read = absurd kind
@@ -255,9 +242,6 @@ first_none Full first before reader left rest says kind body read = read_first f
 pub show_stops : (f : ShowFault) → IsPlayStop (stop_of_show f)
 show_stops shows.Failed = tt
 show_stops shows.Memory = tt
-
-pub front_none : (w : Option (List ℕ)) (text : List ℕ) → ShowsFront w text w
-front_none w text = record { front = []; begins = record { rest = text; parts = refl }; written = sym (no_text w) }
 
 -- all events were shown, whatever comes then
 pub wrote_at_rest : (r : Result (Unit {0}) Stop) (w now : Option (List ℕ)) (n : ℕ) (past : List Event) → n ≡ length past → now ≡ with_text w (text_of past) → Wrote r w n past now

@@ -64,34 +64,6 @@ whole_at_zero before after one two status is p =
     let none = told_of_none p.stopped (has_risen one.faults two.faults) one.written two.written (subst (λ s. Tells p.stopped (has_risen one.faults two.faults) one.written two.written s) is p.told) in
     whole_of p.stopped before after one two none.0 none.1 p.ran
 
-two_of_none : (stop : Stop) → status_of stop ≡ 2 → ⊥
-two_of_none Read is = cc is
-two_of_none Write is = cc is
-two_of_none Memory is = cc is
-two_of_none (Refused number fault) is = cc is
-two_of_none Full is = cc is
-
-two_of_no_cut : (stop : Stop) (fault : ShowFault) → failed_status stop fault ≡ 2 → ⊥
-two_of_no_cut stop shows.Memory is = cc is
-two_of_no_cut Read shows.Failed is = cc is
-two_of_no_cut Write shows.Failed is = cc is
-two_of_no_cut Memory shows.Failed is = cc is
-two_of_no_cut (Refused number fault) shows.Failed is = cc is
-two_of_no_cut Full shows.Failed is = cc is
-
-two_is_no_status : (stopped : Result (Unit {0}) Stop) (risen : Bool) (w now : Option (List ℕ)) (status : ℕ) → status ≡ 2 → Tells stopped risen w now status → ⊥
-two_is_no_status (Ok done) risen w now status is told = cc (sym is ∙ told.0)
-two_is_no_status (Err stop) risen w now status is (inl all) = two_of_none stop (sym all.status_is ∙ is)
-two_is_no_status (Err stop) risen w now status is (inr part) = two_of_no_cut stop part.fault (sym part.status_is ∙ is)
-
--- no script's status is that of words
-pub not_two : (before after : Seen) (one two : SeenNotes) (status : ℕ) → PlaysAndTells before after one two status → status ≢ 2
-not_two before after one two status p is = two_is_no_status p.stopped (has_risen one.faults two.faults) one.written two.written status is p.told
-
--- nothing is done to the notes where the status is 0
-pub silent_at_zero : {P : Type 0} (stopped : Result (Unit {0}) Stop) (risen : Bool) (w now : Option (List ℕ)) (status : ℕ) → status ≡ 0 → Tells stopped risen w now status → OnOk stopped P → P
-silent_at_zero {P = P} stopped risen w now status zero told silent = on_ok stopped silent (told_of_none stopped risen w now (subst (λ s. Tells stopped risen w now s) zero told)).0
-
 status_is_known : (stop : Stop) → is_status (status_of stop) ≡ true
 status_is_known Read = refl
 status_is_known Write = refl

@@ -61,15 +61,6 @@ script_from-append p (line ∷ lines) more says is =
     ∙ (ap (λ said. with_said said (script_from (after_lines next lines) more)) first.all
     ∙ ap (λ reading. with_said says (script_from (after_reading p reading (λ one. after_lines one lines)) more)) (sym first.is))))
 
-nothing_read : (before : Option (List ℕ)) → ReadSoFar false before before unread nothing
-nothing_read None = tt
-nothing_read (Some bytes) = record { lines = []; feedless = tt; parts = refl; are = refl; placed = refl }
-
--- a reader that has read nothing
-pub nothing_read_ahead : (before : Option (List ℕ)) → ReadSoFar false before (ahead (record { pending = []; ended = false }) before) unread nothing
-nothing_read_ahead None = tt
-nothing_read_ahead (Some bytes) = nothing_read (Some bytes)
-
 -- what one line says
 one_line : (p : Progress) (line : List ℕ) (says : ScriptLine) → read_of p line ≡ Ok says → script_from p (line ∷ []) ≡ whole (said_of says)
 one_line p line says reads = rw reads (ap whole (then-nothing (said_of says)))

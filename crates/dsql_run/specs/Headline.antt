@@ -1,6 +1,9 @@
 -- What a run of the program has done, as one history shows it.
 use Rattle.std.specs.Prelude.{ℕ, ◌≡◌, ◌≤◌, ◌⊎◌, true, List, [], ◌∷◌, length, Option, IfSome, Result, Ok, Err}
 use Rattle.dsql_driver.specs.declared.caps.Caps.{Caps}
+use Rattle.dsql_driver.specs.declared.stream.Source as sources
+use Rattle.dsql_driver.specs.declared.stream.Sink as sinks
+use Rattle.dsql_driver.specs.declared.wire.Fleet as fleets
 use Rattle.dsql_driver.specs.Streams.{HasRisen, has_risen}
 use Rattle.dsql_driver.specs.Wires.{FleetTold, Preferred}
 use Rattle.dsql_history.specs.declared.event.Event.{Event}
@@ -33,6 +36,18 @@ pub record Seen : Type 0 where
   pub ability : Caps
   pub preferred : Preferred
 
+-- what is seen of this source, this sink and this fleet
+abbrev pub seen : {S K F W : Type 0} → sources.Ghosts S → sinks.Ghosts K → fleets.Ghosts F W → S → K → F → Seen
+seen source sink fleet input output lent = record {
+  left = source.left input;
+  read_faults = source.faults input;
+  written = sink.written output;
+  write_faults = sink.faults output;
+  told = fleet.told lent;
+  ability = fleet.ability lent;
+  preferred = fleet.preferred lent;
+}
+
 -- A run of a script: one legal history, what stopped it, what of the script it has, and what was asked for, written, read, asked of the fleet and given back to it.
 pub record Ran (stopped : Result Unit Stop) (before after : Seen) : Type 0 where
   pub history : List Event
@@ -62,15 +77,22 @@ pub record NotBegun (stopped : Result Unit Stop) (before after : Seen) : Type 0 
   pub unwritten : after.written ≡ before.written
   pub unopened : after.told ≡ before.told
 
+-- A script was played, and this stopped it, if anything did.
+abbrev pub IsPlayed : Result Unit Stop → Seen → Seen → Type 0
+IsPlayed stopped before after = Ran stopped before after ⊎ NotBegun stopped before after
+
 -- what was seen of the notes: what they hold, and how often they failed
 pub record SeenNotes : Type 0 where
   pub written : Option (List ℕ)
   pub faults : ℕ
 
+abbrev pub seen_notes : {E : Type 0} → sinks.Ghosts E → E → SeenNotes
+seen_notes sink notes = record { written = sink.written notes; faults = sink.faults notes }
+
 -- A script was played, and what stopped it, if anything did, was told with its status.
 pub record PlaysAndTells (before after : Seen) (notes_before notes_after : SeenNotes) (status : ℕ) : Type 0 where
   pub stopped : Result Unit Stop
-  pub ran : Ran stopped before after ⊎ NotBegun stopped before after
+  pub ran : IsPlayed stopped before after
   pub told : Tells stopped (has_risen notes_before.faults notes_after.faults) notes_before.written notes_after.written status
 
 -- The whole of a script was played: its report is the text of one legal history, and nothing was told.

@@ -5,3 +5,4 @@ pub mod Notes
 pub mod Headline
 pub mod Reading
 pub mod Listed
+pub mod Playing

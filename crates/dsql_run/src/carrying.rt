@@ -1,17 +1,11 @@
-ghost use Rattle.std.specs.Prelude.{◌≡◌, ◌≤◌, ◌++◌, ℕ, List, Option, true, false, length, OnOk, OnErr, IfErr, is_some};
-ghost use Rattle.dsql_driver.specs.Streams.{HasRisen};
-ghost use Rattle.dsql_driver.specs.Wires.{FleetTold};
-ghost use Rattle.dsql_history.specs.Legal.{Legal};
+ghost use Rattle.std.specs.Prelude.{◌≡◌, ◌≤◌, ◌++◌, true, length, OnOk, OnErr, IfErr, is_some};
 ghost use Rattle.dsql_engine.specs.Groups.{most_events};
-ghost use Rattle.dsql_script.specs.Lines.{text_of};
 ghost use Rattle.dsql_player.specs.Entered.{entered_calls};
-ghost use Rattle.dsql_player.specs.Extends.{Extends};
-ghost use Rattle.dsql_player.specs.Told.{with_told, TellsAtMost};
-ghost use Rattle.dsql_player.specs.Turns.{Turns};
+ghost use Rattle.dsql_player.specs.Told.{TellsOn, TellsAtMost};
 ghost use Rattle.dsql_run.specs.Script.{said_of};
-ghost use Rattle.dsql_run.specs.Report.{with_text};
 ghost use Rattle.dsql_run.specs.Reading.{is_body};
-ghost use Rattle.dsql_run.specs.Runs.{Between, ran_out, is_write_fault, EntersLine, IsPlayStop, Wrote, CutAtLine};
+ghost use Rattle.dsql_run.specs.Runs.{Between, ran_out, is_write_fault, EntersLine, IsPlayStop};
+ghost use Rattle.dsql_run.specs.Playing.{RunsOn, CountsFaults, WritesLine};
 
 use crate::show::{Shown, show};
 use crate::stop::Stop;
@@ -33,14 +27,10 @@ fn carry<F: Fleet>(
     ensures between { OnOk result (Between F.Wire.told (is_some (F.told fleet.new)) engine.new wires.new) }
     ensures entered { OnOk result (entered_calls engine.new ≡ entered_calls engine.old ++ (said_of line).calls) }
     ensures stopped { OnErr result (EntersLine (said_of line).calls engine.old engine.new) }
-    ensures told { OnOk result ((t : Option FleetTold) → F.told fleet.old ≡ with_told t engine.old → F.told fleet.new ≡ with_told t engine.new) }
+    ensures told { OnOk result (TellsOn (F.told fleet.old) (F.told fleet.new) engine.old engine.new) }
     ensures asked { OnErr result (TellsAtMost (F.told fleet.old) (F.told fleet.new) engine.old engine.new) }
-    ensures extends { Extends engine.old engine.new }
-    ensures turns { Turns engine.new }
     ensures full { result ≡ Err Halt.Full → most_events ≤ length engine.new }
-    ensures ability { F.ability fleet.new ≡ F.ability fleet.old }
-    ensures preferred { F.preferred fleet.new ≡ F.preferred fleet.old }
-    ensures legal { Legal engine.new }
+    ensures on { RunsOn F.Fleet fleet.old fleet.new engine.old engine.new }
 {
     match line {
         ScriptLine::Skip => Ok(()),
@@ -65,22 +55,13 @@ pub(crate) fn play_line<K: Sink, F: Fleet>(
     ensures between { ran_out result ≡ true → Between F.Wire.told (is_some (F.told fleet.new)) engine.new wires.new }
     ensures entered { OnOk result (entered_calls engine.new ≡ entered_calls engine.old ++ (said_of line).calls) }
     ensures stopped { OnErr result (EntersLine (said_of line).calls engine.old engine.new) }
-    ensures told { ran_out result ≡ true → (t : Option FleetTold) → F.told fleet.old ≡ with_told t engine.old → F.told fleet.new ≡ with_told t engine.new }
+    ensures told { ran_out result ≡ true → TellsOn (F.told fleet.old) (F.told fleet.new) engine.old engine.new }
     ensures asked { OnErr result (TellsAtMost (F.told fleet.old) (F.told fleet.new) engine.old engine.new) }
-    ensures shown { OnOk result (shown.new ≡ length engine.new) }
-    ensures within { shown.new ≤ length engine.new }
-    ensures wrote { (w : Option (List ℕ)) → K.written output.old ≡ with_text w (text_of engine.old) → Wrote result w shown.new engine.new (K.written output.new) }
-    ensures cut { (w : Option (List ℕ)) → K.written output.old ≡ with_text w (text_of engine.old) → result ≡ Err Stop.Write → CutAtLine w engine.new (K.written output.new) }
+    ensures writes { WritesLine result engine.old engine.new (K.written output.old) shown.new (K.written output.new) }
     ensures kinds { IfErr result IsPlayStop }
-    ensures caused { result ≡ Err Stop.Write → HasRisen (K.faults output.old) (K.faults output.new) }
-    ensures counted { K.faults output.old ≤ K.faults output.new }
-    ensures faultless { is_write_fault result ≡ false → K.faults output.new ≡ K.faults output.old }
+    ensures faults { CountsFaults (is_write_fault result) (K.faults output.old) (K.faults output.new) }
     ensures full { result ≡ Err Stop.Full → most_events ≤ length engine.new }
-    ensures extends { Extends engine.old engine.new }
-    ensures turns { Turns engine.new }
-    ensures ability { F.ability fleet.new ≡ F.ability fleet.old }
-    ensures preferred { F.preferred fleet.new ≡ F.preferred fleet.old }
-    ensures legal { Legal engine.new }
+    ensures on { RunsOn F.Fleet fleet.old fleet.new engine.old engine.new }
 {
     carry(engine, wires, fleet, line)?;
     show(alloc, engine, shown, output)?;

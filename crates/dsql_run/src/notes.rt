@@ -1,7 +1,7 @@
 ghost use Rattle.std.specs.Prelude.{◌≡◌, ◌≤◌, OnOk, OnErr, IfOk, string_bytes};
 ghost use Rattle.dsql_driver.specs.Streams.{HasRisen, has_risen};
 ghost use Rattle.dsql_run.specs.Report.{with_text, ShowsFront};
-ghost use Rattle.dsql_run.specs.Headline.{RefusesWords};
+ghost use Rattle.dsql_run.specs.Headline.{seen_notes, RefusesWords};
 ghost use Rattle.dsql_run.specs.Notes.{note_of, status_of, failed_status, Tells};
 
 use crate::show::ShowFault;
@@ -70,7 +70,7 @@ pub fn tell<E: Sink>(alloc: Global, ended: &Result<(), Stop>, notes: &mut E) -> 
 
 /// Tells how the program is called, and says its status.
 pub(crate) fn tell_usage<E: Sink>(notes: &mut E) -> u8
-    ensures { RefusesWords (record { written = E.written notes.old; faults = E.faults notes.old }) (record { written = E.written notes.new; faults = E.faults notes.new }) result }
+    ensures { RefusesWords (seen_notes E.Sink notes.old) (seen_notes E.Sink notes.new) result }
 {
     match write_whole(
         notes,

@@ -1,25 +1,20 @@
-ghost use Rattle.std.specs.Prelude.{◌≡◌, ◌≤◌, ◌||◌, ◌⊎◌, ℕ, Bool, List, [], ◌∷◌, Option, true, false, length, OnOk, OnErr, IfOk, IfErr, IfSome, is_some};
+ghost use Rattle.std.specs.Prelude.{◌≡◌, ◌≤◌, ◌||◌, ℕ, Bool, List, [], ◌∷◌, Option, true, false, length, OnOk, OnErr, IfSome, is_some};
 ghost use Rattle.dsql_driver.specs.declared.caps.Caps.{Caps};
 ghost use Rattle.dsql_driver.specs.Streams.{HasRisen, has_risen};
-ghost use Rattle.dsql_driver.specs.Wires.{FleetTold};
 ghost use Rattle.dsql_history.specs.declared.event.Event.TheVariants.{Run};
 ghost use Rattle.dsql_history.specs.Legal.{Legal};
-ghost use Rattle.dsql_history.specs.Readers.Course.{has_ended};
-ghost use Rattle.dsql_history.specs.Readers.Sets.{open_count};
-ghost use Rattle.dsql_history.specs.Rules.House.{is_quiet};
 ghost use Rattle.dsql_engine.specs.Groups.{most_events};
 ghost use Rattle.dsql_script.specs.Lines.{text_of};
-ghost use Rattle.dsql_script.specs.ScriptLines.{most_lines};
 ghost use Rattle.dsql_player.specs.Entered.{entered_calls};
-ghost use Rattle.dsql_player.specs.Extends.{Extends};
-ghost use Rattle.dsql_player.specs.Told.{with_told, TellsAtMost, LeavesAtMost, AsksAtMost, SameAsked};
+ghost use Rattle.dsql_player.specs.Told.{with_told, TellsOn, TellsAtMost, LeavesAtMost, AsksAtMost, SameAsked};
 ghost use Rattle.dsql_player.specs.Turns.{Turns};
 ghost use Rattle.dsql_run.specs.Report.{oldest, Shows, StopsBetween};
 ghost use Rattle.dsql_script.specs.declared.script.Head.{Head};
-ghost use Rattle.dsql_run.specs.Runs.{Between, ran_out, is_read_fault, is_write_fault, no_read_failed, no_write_failed, saying, Plays, IsLinesEnd, CutAtLine, CutShort, Wrote, Writes, Finishes, failed, is_cut, later_stop};
+ghost use Rattle.dsql_run.specs.Runs.{Between, ran_out, is_read_fault, is_write_fault, no_read_failed, no_write_failed, saying, Plays, CutShort, Wrote, Writes, Finishes, failed, is_cut, later_stop};
 ghost use Rattle.dsql_run.specs.Script.{nothing};
-ghost use Rattle.dsql_run.specs.Reading.{HasRead, ReadTo, ReadsHead, IsBodyLine, IsReadStop};
-ghost use Rattle.dsql_run.specs.Headline.{Ran, NotBegun};
+ghost use Rattle.dsql_run.specs.Reading.{HasRead, ReadTo, ReadsHead};
+ghost use Rattle.dsql_run.specs.Headline.{IsPlayed, seen};
+ghost use Rattle.dsql_run.specs.Playing.{RunsOn, IsOver, CountsFaults, IsHeadRead, WritesLines, ReadsLater, WritesWell};
 
 use crate::carrying::play_line;
 use crate::script::ScriptReader;
@@ -40,13 +35,8 @@ fn read_head<S: Source, F: Fleet>(
     fleet: &mut F,
 ) -> Result<Option<ScriptLine>, Stop>
     ensures reads { (before : Option (List ℕ)) → HasRead before script.old (S.left input.old) nothing → ReadsHead before result script.new (S.left input.new) (F.preferred fleet.old) (F.preferred fleet.new) (F.ability fleet.old) (F.ability fleet.new) }
-    ensures body { IfOk result IsBodyLine }
-    ensures begun { IfOk result (λ line. IfSome line (λ _. script.new.reader.head ≡ Head.Begun)) }
-    ensures few { IfOk result (λ line. IfSome line (λ _. script.new.reader.lines ≤ most_lines)) }
-    ensures failed { result ≡ Err Stop.Read → HasRisen (S.faults input.old) (S.faults input.new) }
-    ensures readable { IfErr result IsReadStop }
-    ensures counted { S.faults input.old ≤ S.faults input.new }
-    ensures faultless { is_read_fault result ≡ false → S.faults input.new ≡ S.faults input.old }
+    ensures first { IsHeadRead result script.new.reader }
+    ensures faults { CountsFaults (is_read_fault result) (S.faults input.old) (S.faults input.new) }
     ensures unasked { F.told fleet.new ≡ F.told fleet.old }
 {
     while let Some(line) = script.next(alloc, input)? {
@@ -75,32 +65,18 @@ fn play_lines<S: Source, K: Sink, F: Fleet>(
     requires begun { engine.old ≡ Run 1 (F.ability fleet.old) ∷ [] }
     requires between { Between F.Wire.told (is_some (F.told fleet.old)) engine.old wires.old }
     requires shown { shown.old ≡ 0 }
-    requires body { IfOk first IsBodyLine }
-    requires headed { IfOk first (λ line. IfSome line (λ _. script.old.reader.head ≡ Head.Begun)) }
-    requires few { IfOk first (λ line. IfSome line (λ _. script.old.reader.lines ≤ most_lines)) }
-    requires readable { IfErr first IsReadStop }
+    requires first { IsHeadRead first script.old.reader }
     ensures between { ran_out result ≡ true → Between F.Wire.told (is_some (F.told fleet.new)) engine.new wires.new }
     ensures told { ran_out result ≡ true → F.told fleet.new ≡ with_told (F.told fleet.old) engine.new }
     ensures asked { TellsAtMost (F.told fleet.old) (F.told fleet.new) engine.old engine.new }
     ensures plays { (before : Option (List ℕ)) (asked : Option Caps) → ReadTo first before script.old (S.left input.old) (saying asked []) → Plays result before (S.left input.new) (saying asked (entered_calls engine.new)) }
-    ensures cut { result ≡ Err Stop.Write → CutAtLine (K.written output.old) engine.new (K.written output.new) }
     ensures end { OnOk result ((before : Option (List ℕ)) (asked : Option Caps) → ReadTo first before script.old (S.left input.old) (saying asked []) → IfSome (S.left input.new) (λ bytes. bytes ≡ [])) }
-    ensures within { shown.new ≤ length engine.new }
-    ensures shown { IsLinesEnd result → shown.new ≡ length engine.new }
-    ensures wrote { Wrote result (K.written output.old) shown.new engine.new (K.written output.new) }
-    ensures read_fault { result ≡ Err Stop.Read → first ≡ Err Stop.Read ⊎ HasRisen (S.faults input.old) (S.faults input.new) }
-    ensures write_fault { result ≡ Err Stop.Write → HasRisen (K.faults output.old) (K.faults output.new) }
-    ensures counted { K.faults output.old ≤ K.faults output.new }
-    ensures read_on { S.faults input.old ≤ S.faults input.new }
+    ensures writes { WritesLines result engine.new (K.written output.old) shown.new (K.written output.new) }
+    ensures reads { ReadsLater first result (S.faults input.old) (S.faults input.new) }
     ensures read_well { is_read_fault result ≡ false → S.faults input.new ≡ S.faults input.old }
-    ensures read_through { no_read_failed result ≡ true → is_read_fault first ≡ false }
-    ensures written_well { is_write_fault result ≡ false → K.faults output.new ≡ K.faults output.old }
+    ensures faults { CountsFaults (is_write_fault result) (K.faults output.old) (K.faults output.new) }
     ensures full { result ≡ Err Stop.Full → most_events ≤ length engine.new }
-    ensures extends { Extends engine.old engine.new }
-    ensures turns { Turns engine.new }
-    ensures ability { F.ability fleet.new ≡ F.ability fleet.old }
-    ensures preferred { F.preferred fleet.new ≡ F.preferred fleet.old }
-    ensures legal { Legal engine.new }
+    ensures on { RunsOn F.Fleet fleet.old fleet.new engine.old engine.new }
 {
     show(alloc, engine, shown, output)?;
     let mut next = first?;
@@ -114,18 +90,12 @@ fn play_lines<S: Source, K: Sink, F: Fleet>(
 /// Ends the run, which shuts every connection and retires its wire.
 fn end_run<F: Fleet>(engine: &mut Engine, wires: Wires<F::Wire>, fleet: &mut F) -> Result<(), Halt>
     requires between { Between F.Wire.told (is_some (F.told fleet.old)) engine.old wires }
-    ensures quiet { OnOk result (is_quiet engine.new ≡ true) }
-    ensures ended { OnOk result (has_ended engine.new ≡ true) }
-    ensures empty { OnOk result (open_count engine.new ≡ 0) }
-    ensures told { OnOk result ((t : Option FleetTold) → F.told fleet.old ≡ with_told t engine.old → F.told fleet.new ≡ with_told t engine.new) }
+    ensures over { OnOk result (IsOver engine.new) }
+    ensures told { OnOk result (TellsOn (F.told fleet.old) (F.told fleet.new) engine.old engine.new) }
     ensures asked { OnErr result (LeavesAtMost (F.told fleet.old) (F.told fleet.new) engine.old engine.new) }
     ensures entered { entered_calls engine.new ≡ entered_calls engine.old }
     ensures full { result ≡ Err Halt.Full → most_events ≤ length engine.new }
-    ensures extends { Extends engine.old engine.new }
-    ensures turns { Turns engine.new }
-    ensures ability { F.ability fleet.new ≡ F.ability fleet.old }
-    ensures preferred { F.preferred fleet.new ≡ F.preferred fleet.old }
-    ensures legal { Legal engine.new }
+    ensures on { RunsOn F.Fleet fleet.old fleet.new engine.old engine.new }
 {
     let mut wires = wires;
     match carry_end(engine, &mut wires, fleet) {
@@ -153,20 +123,14 @@ fn close<F: Fleet>(
     requires legal { Legal engine.old }
     ensures same { ran_out result ≡ true → result ≡ played }
     ensures kept { ran_out played ≡ false → result ≡ played }
-    ensures quiet { ran_out result ≡ true → is_quiet engine.new ≡ true }
-    ensures ended { ran_out result ≡ true → has_ended engine.new ≡ true }
-    ensures empty { ran_out result ≡ true → open_count engine.new ≡ 0 }
-    ensures told { ran_out result ≡ true → (t : Option FleetTold) → F.told fleet.old ≡ with_told t engine.old → F.told fleet.new ≡ with_told t engine.new }
+    ensures over { ran_out result ≡ true → IsOver engine.new }
+    ensures told { ran_out result ≡ true → TellsOn (F.told fleet.old) (F.told fleet.new) engine.old engine.new }
     ensures asked { ran_out played ≡ true → ran_out result ≡ false → LeavesAtMost (F.told fleet.old) (F.told fleet.new) engine.old engine.new }
     ensures unasked { ran_out played ≡ false → SameAsked (F.told fleet.old) (F.told fleet.new) }
     ensures stays { ran_out played ≡ false → engine.new ≡ engine.old }
     ensures entered { entered_calls engine.new ≡ entered_calls engine.old }
     ensures full { result ≡ Err Stop.Full → most_events ≤ length engine.new }
-    ensures extends { Extends engine.old engine.new }
-    ensures turns { Turns engine.new }
-    ensures ability { F.ability fleet.new ≡ F.ability fleet.old }
-    ensures preferred { F.preferred fleet.new ≡ F.preferred fleet.old }
-    ensures legal { Legal engine.new }
+    ensures on { RunsOn F.Fleet fleet.old fleet.new engine.old engine.new }
 {
     match played {
         Err(Stop::Memory | Stop::Full) => retire_all(wires, fleet),
@@ -234,31 +198,19 @@ fn play_from<S: Source, K: Sink, F: Fleet>(
 ) -> Result<(), Stop>
     requires begun { engine.old ≡ Run 1 (F.ability fleet.old) ∷ [] }
     requires legal { Legal engine.old }
-    requires body { IfOk first IsBodyLine }
-    requires headed { IfOk first (λ line. IfSome line (λ _. script.old.reader.head ≡ Head.Begun)) }
-    requires few { IfOk first (λ line. IfSome line (λ _. script.old.reader.lines ≤ most_lines)) }
-    requires readable { IfErr first IsReadStop }
-    ensures legal { Legal engine.new }
-    ensures begins { Extends engine.old engine.new }
+    requires first { IsHeadRead first script.old.reader }
+    ensures on { RunsOn F.Fleet fleet.old fleet.new engine.old engine.new }
     ensures plays { (before : Option (List ℕ)) (asked : Option Caps) → ReadTo first before script.old (S.left input.old) (saying asked []) → Plays result before (S.left input.new) (saying asked (entered_calls engine.new)) }
-    ensures turns { Turns engine.new }
-    ensures ended { ran_out result ≡ true → has_ended engine.new ≡ true }
-    ensures quiet { ran_out result ≡ true → is_quiet engine.new ≡ true }
-    ensures read { OnOk result ((before : Option (List ℕ)) (asked : Option Caps) → ReadTo first before script.old (S.left input.old) (saying asked []) → IfSome (S.left input.new) (λ bytes. bytes ≡ [])) }
+    ensures over { ran_out result ≡ true → IsOver engine.new }
+    ensures end { OnOk result ((before : Option (List ℕ)) (asked : Option Caps) → ReadTo first before script.old (S.left input.old) (saying asked []) → IfSome (S.left input.new) (λ bytes. bytes ≡ [])) }
     ensures writes { Writes result (has_risen (K.faults output.old) (K.faults output.new)) (K.written output.old) engine.new (K.written output.new) }
     ensures cut { result ≡ Err Stop.Write → (before : Option (List ℕ)) (asked : Option Caps) (failed : Bool) → ReadTo first before script.old (S.left input.old) (saying asked []) → (first ≡ Err Stop.Read → failed ≡ true) → (HasRisen (S.faults input.old) (S.faults input.new) → failed ≡ true) → CutShort before (S.left input.new) asked failed (K.written output.old) engine.new (K.written output.new) }
-    ensures empty { ran_out result ≡ true → open_count engine.new ≡ 0 }
     ensures told { ran_out result ≡ true → F.told fleet.new ≡ with_told (F.told fleet.old) engine.new }
     ensures asked { AsksAtMost (F.told fleet.old) (F.told fleet.new) engine.new }
+    ensures reads { ReadsLater first result (S.faults input.old) (S.faults input.new) }
     ensures read_well { no_read_failed result ≡ true → S.faults input.new ≡ S.faults input.old }
-    ensures read_through { no_read_failed result ≡ true → is_read_fault first ≡ false }
-    ensures written_well { no_write_failed result ≡ true → K.faults output.new ≡ K.faults output.old }
-    ensures read_fault { result ≡ Err Stop.Read → first ≡ Err Stop.Read ⊎ HasRisen (S.faults input.old) (S.faults input.new) }
-    ensures read_on { S.faults input.old ≤ S.faults input.new }
-    ensures write_fault { result ≡ Err Stop.Write → HasRisen (K.faults output.old) (K.faults output.new) }
+    ensures written_well { WritesWell result (K.faults output.old) (K.faults output.new) }
     ensures full { result ≡ Err Stop.Full → most_events ≤ length engine.new }
-    ensures ability { F.ability fleet.new ≡ F.ability fleet.old }
-    ensures preferred { F.preferred fleet.new ≡ F.preferred fleet.old }
 {
     let mut wires = Wires::new(alloc);
     let mut shown = Shown::none(alloc);
@@ -283,12 +235,9 @@ pub fn play<S: Source, K: Sink, F: Fleet>(
     output: &mut K,
     fleet: &mut F,
 ) -> Result<(), Stop>
-    ensures ran { Ran result
-        (record { left = S.left input.old; read_faults = S.faults input.old; written = K.written output.old; write_faults = K.faults output.old; told = F.told fleet.old; ability = F.ability fleet.old; preferred = F.preferred fleet.old })
-        (record { left = S.left input.new; read_faults = S.faults input.new; written = K.written output.new; write_faults = K.faults output.new; told = F.told fleet.new; ability = F.ability fleet.new; preferred = F.preferred fleet.new })
-        ⊎ NotBegun result
-        (record { left = S.left input.old; read_faults = S.faults input.old; written = K.written output.old; write_faults = K.faults output.old; told = F.told fleet.old; ability = F.ability fleet.old; preferred = F.preferred fleet.old })
-        (record { left = S.left input.new; read_faults = S.faults input.new; written = K.written output.new; write_faults = K.faults output.new; told = F.told fleet.new; ability = F.ability fleet.new; preferred = F.preferred fleet.new }) }
+    ensures ran { IsPlayed result
+        (seen S.Source K.Sink F.Fleet input.old output.old fleet.old)
+        (seen S.Source K.Sink F.Fleet input.new output.new fleet.new) }
 {
     let mut script = ScriptReader::new(alloc)?;
     let first = read_head(alloc, &mut script, input, fleet);

@@ -1,7 +1,7 @@
 ghost use Rattle.std.specs.Prelude.{◌≡◌, ◌≢◌, ◌⊎◌, true, false};
 ghost use Rattle.dsql_driver.specs.Streams.{HasRisen};
 ghost use Rattle.dsql_run.specs.Notes.{is_play, is_status};
-ghost use Rattle.dsql_run.specs.Headline.{PlaysAndTells, PlaysWhole, RefusesWords};
+ghost use Rattle.dsql_run.specs.Headline.{seen, seen_notes, PlaysAndTells, PlaysWhole, RefusesWords};
 
 use crate::notes::{tell, tell_usage};
 use crate::playing::play;
@@ -28,9 +28,9 @@ fn run<S: Source, K: Sink, E: Sink, F: Fleet>(
     fleet: &mut F,
 ) -> u8
     ensures ran { PlaysAndTells
-        (record { left = S.left input.old; read_faults = S.faults input.old; written = K.written output.old; write_faults = K.faults output.old; told = F.told fleet.old; ability = F.ability fleet.old; preferred = F.preferred fleet.old })
-        (record { left = S.left input.new; read_faults = S.faults input.new; written = K.written output.new; write_faults = K.faults output.new; told = F.told fleet.new; ability = F.ability fleet.new; preferred = F.preferred fleet.new })
-        (record { written = E.written notes.old; faults = E.faults notes.old }) (record { written = E.written notes.new; faults = E.faults notes.new }) result }
+        (seen S.Source K.Sink F.Fleet input.old output.old fleet.old)
+        (seen S.Source K.Sink F.Fleet input.new output.new fleet.new)
+        (seen_notes E.Sink notes.old) (seen_notes E.Sink notes.new) result }
     ensures silent { result ≡ 0 → notes.new ≡ notes.old }
 {
     let stopped = play(alloc, input, output, fleet);
@@ -66,15 +66,15 @@ pub fn sqlrun<S: Source, K: Sink, E: Sink, F: Fleet, C: Clock, G: Gate>(
 ) -> u8
     // The report of a script that was played to its end is the text of one legal history.
     ensures headline { is_play words.now ≡ true → result ≡ 0 → PlaysWhole
-        (record { left = S.left input.old; read_faults = S.faults input.old; written = K.written output.old; write_faults = K.faults output.old; told = F.told fleet.old; ability = F.ability fleet.old; preferred = F.preferred fleet.old })
-        (record { left = S.left input.new; read_faults = S.faults input.new; written = K.written output.new; write_faults = K.faults output.new; told = F.told fleet.new; ability = F.ability fleet.new; preferred = F.preferred fleet.new })
-        (record { written = E.written notes.old; faults = E.faults notes.old }) (record { written = E.written notes.new; faults = E.faults notes.new }) }
+        (seen S.Source K.Sink F.Fleet input.old output.old fleet.old)
+        (seen S.Source K.Sink F.Fleet input.new output.new fleet.new)
+        (seen_notes E.Sink notes.old) (seen_notes E.Sink notes.new) }
 
     // At each status the report is the text of one legal history, or a beginning of it.
     ensures ran { is_play words.now ≡ true → PlaysAndTells
-        (record { left = S.left input.old; read_faults = S.faults input.old; written = K.written output.old; write_faults = K.faults output.old; told = F.told fleet.old; ability = F.ability fleet.old; preferred = F.preferred fleet.old })
-        (record { left = S.left input.new; read_faults = S.faults input.new; written = K.written output.new; write_faults = K.faults output.new; told = F.told fleet.new; ability = F.ability fleet.new; preferred = F.preferred fleet.new })
-        (record { written = E.written notes.old; faults = E.faults notes.old }) (record { written = E.written notes.new; faults = E.faults notes.new }) result }
+        (seen S.Source K.Sink F.Fleet input.old output.old fleet.old)
+        (seen S.Source K.Sink F.Fleet input.new output.new fleet.new)
+        (seen_notes E.Sink notes.old) (seen_notes E.Sink notes.new) result }
     ensures accepted { is_play words.now ≡ true → result ≢ 2 }
 
     // What a status says of the streams, whatever they tell.
@@ -84,7 +84,7 @@ pub fn sqlrun<S: Source, K: Sink, E: Sink, F: Fleet, C: Clock, G: Gate>(
     ensures write_fault { is_play words.now ≡ true → result ≡ 4 → HasRisen (K.faults output.old) (K.faults output.new) ⊎ HasRisen (E.faults notes.old) (E.faults notes.new) }
 
     // Words that aren't accepted.
-    ensures refused { is_play words.now ≡ false → RefusesWords (record { written = E.written notes.old; faults = E.faults notes.old }) (record { written = E.written notes.new; faults = E.faults notes.new }) result }
+    ensures refused { is_play words.now ≡ false → RefusesWords (seen_notes E.Sink notes.old) (seen_notes E.Sink notes.new) result }
     ensures unread { is_play words.now ≡ false → input.new ≡ input.old }
     ensures unwritten { is_play words.now ≡ false → output.new ≡ output.old }
     ensures unopened { is_play words.now ≡ false → fleet.new ≡ fleet.old }

@@ -1,11 +1,11 @@
-ghost use Rattle.std.specs.Prelude.{◌≡◌, ◌≢◌, ◌+◌, ◌≤◌, ℕ, List, Option, true, false, [], None, IfOk, IfErr, OnOk, OnErr, IfSome, is_some};
-ghost use Rattle.dsql_driver.specs.Streams.{HasRisen};
+ghost use Rattle.std.specs.Prelude.{◌≡◌, ◌+◌, ◌≤◌, ℕ, List, Option, true, false, [], None, IfOk, IfErr, IfSome, is_some};
 ghost use Rattle.dsql_stream.specs.Lines.{ahead, SawTheEnd};
 ghost use Rattle.dsql_script.specs.ScriptHead.{unread, after};
 ghost use Rattle.dsql_script.specs.ScriptLines.{most_lines, read_of};
 ghost use Rattle.dsql_script.specs.declared.script.Head.{Head};
 ghost use Rattle.dsql_run.specs.Script.{Said, nothing};
 ghost use Rattle.dsql_run.specs.Reading.{HasRead, ReadTo, IsBodyLine, ends_head, IsReadStop, NoLine};
+ghost use Rattle.dsql_run.specs.Playing.{CountsFaults};
 ghost use Rattle.dsql_run.specs.Runs.{is_read_fault, to_come, ReadsOn, TakesLine, DropsUnfinished, StopsReading, IsRefusal};
 ghost use Rattle.dsql_run.specs.declared.stop.Stop.TheVariants.{Read};
 
@@ -54,11 +54,9 @@ impl ScriptReader {
         ensures headed { IfOk result (λ line. IfSome line (λ says. ends_head says ≡ true → self.new.reader.head ≡ Head.Begun)) }
         ensures numbered { IfOk result (λ line. IfSome line (λ _. self.new.reader.lines ≡ self.old.reader.lines + 1)) }
         ensures few { IfOk result (λ line. IfSome line (λ _. self.new.reader.lines ≤ most_lines)) }
-        ensures failed { result ≡ Err Read → HasRisen (S.faults input.old) (S.faults input.new) }
         ensures readable { IfErr result IsReadStop }
         ensures stays { NoLine result self.old.reader self.new.reader }
-        ensures counted { S.faults input.old ≤ S.faults input.new }
-        ensures faultless { is_read_fault result ≡ false → S.faults input.new ≡ S.faults input.old }
+        ensures faults { CountsFaults (is_read_fault result) (S.faults input.old) (S.faults input.new) }
     {
         self.take_line(alloc, input)
     }
@@ -79,9 +77,7 @@ impl ScriptReader {
         ensures is { IfOk result (λ line. IfSome line (λ says. read_of self.old.reader self.new.line.items ≡ Ok says)) }
         ensures stays { NoLine result self.old.reader self.new.reader }
         ensures few { IfOk result (λ line. IfSome line (λ _. self.new.reader.lines ≤ most_lines)) }
-        ensures failed { result ≡ Err Read → HasRisen (S.faults input.old) (S.faults input.new) }
-        ensures counted { S.faults input.old ≤ S.faults input.new }
-        ensures faultless { is_read_fault result ≡ false → S.faults input.new ≡ S.faults input.old }
+        ensures faults { CountsFaults (is_read_fault result) (S.faults input.old) (S.faults input.new) }
         ensures telling { is_some (S.left input.new) ≡ is_some (S.left input.old) }
         ensures sees { SawTheEnd self.old.lines (S.left input.old) → SawTheEnd self.new.lines (S.left input.new) }
     {

@@ -1,7 +1,7 @@
-ghost use Rattle.std.specs.Prelude.{◌≡◌, ◌<◌, ◌≤◌, ◌++◌, ℕ, List, [], Option, OnOk, OnErr, IfErr, false, length, reverse};
-ghost use Rattle.dsql_driver.specs.Streams.{HasRisen};
+ghost use Rattle.std.specs.Prelude.{◌≡◌, ◌<◌, ◌≤◌, ℕ, List, [], Option, OnOk, OnErr, length, reverse};
 ghost use Rattle.dsql_script.specs.Lines.{text_of};
 ghost use Rattle.dsql_run.specs.Report.{with_text, oldest, Shows, StopsBetween};
+ghost use Rattle.dsql_run.specs.Playing.{CountsFaults};
 ghost use Rattle.dsql_run.specs.Runs.{is_sink_fault};
 ghost use Rattle.dsql_run.specs.declared.show.ShowFault.TheVariants as faults;
 
@@ -89,9 +89,7 @@ fn show_events<K: Sink>(
 ) -> Result<(), ShowFault>
     ensures ok { OnOk result (K.written output.new ≡ with_text (K.written output.old) (text_of (reverse events.now))) }
     ensures err { OnErr result (StopsBetween (K.written output.old) [] (text_of (reverse events.now)) (K.written output.new)) }
-    ensures caused { result ≡ Err ShowFault.Failed → HasRisen (K.faults output.old) (K.faults output.new) }
-    ensures counted { K.faults output.old ≤ K.faults output.new }
-    ensures faultless { is_sink_fault result ≡ false → K.faults output.new ≡ K.faults output.old }
+    ensures faults { CountsFaults (is_sink_fault result) (K.faults output.old) (K.faults output.new) }
 {
     spell(alloc, events, lines)?;
     write_whole(output, lines.as_slice())?;
@@ -110,9 +108,7 @@ pub(crate) fn show<K: Sink>(
     ensures within { shown.new ≤ length engine.now }
     ensures shows { OnOk result ((w : Option (List ℕ)) → Shows w shown.old engine.now (K.written output.old) → K.written output.new ≡ with_text w (text_of engine.now)) }
     ensures stops { OnErr result ((w : Option (List ℕ)) → Shows w shown.old engine.now (K.written output.old) → StopsBetween w (text_of (oldest shown.old engine.now)) (text_of engine.now) (K.written output.new)) }
-    ensures caused { result ≡ Err ShowFault.Failed → HasRisen (K.faults output.old) (K.faults output.new) }
-    ensures counted { K.faults output.old ≤ K.faults output.new }
-    ensures faultless { is_sink_fault result ≡ false → K.faults output.new ≡ K.faults output.old }
+    ensures faults { CountsFaults (is_sink_fault result) (K.faults output.old) (K.faults output.new) }
 {
     let events = engine.history();
     show_events(alloc, &events[shown.count..], &mut shown.lines, output)?;

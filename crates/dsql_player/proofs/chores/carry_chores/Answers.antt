@@ -20,11 +20,11 @@ loop-preserved g c =
     let more = c.in_ok-carry_first_chore.ensures in
     let first : CarriesFirst true mid new = subst (λ b. CarriesFirst b mid new) c.if-branch.true more.first in
     record {
-      legal = more.legal;
+      legal = more.run.legal;
       on = on_then old mid new done.on first.0.on;
       calls = first.0.calls ∙ done.calls;
-      told = tells_then _ _ _ old mid new done.told more.told;
-      wires = more.wires;
-      ability = more.ability ∙ done.ability;
-      preferred = more.preferred ∙ done.preferred;
+      told = tells_then _ _ _ old mid new done.told more.run.told;
+      wires = more.run.wires;
+      ability = more.run.able.ability ∙ done.ability;
+      preferred = more.run.able.preferred ∙ done.preferred;
     }

@@ -10,12 +10,13 @@ returns-in_default g c =
     let due : chore_due past ≡ None = none_due past c.in_ok-permit.field-0 c.in_ok-permit.ensures.first c.in_default.not-Send in
     record {
       first = (refl, no_chore past c.requires.legal due);
-      told = tells_none (g.F.Fleet.told c.args.fleet.now) past past refl;
-      asked = tt;
-      wires = c.requires.wires;
+      run = record {
+        told = tells_none (g.F.Fleet.told c.args.fleet.now) past past refl;
+        asked = tt;
+        wires = c.requires.wires;
+        able = record { ability = refl; preferred = refl };
+        legal = c.requires.legal;
+      };
       err = tt;
       full = λ h. absurd cc;
-      ability = refl;
-      preferred = refl;
-      legal = c.requires.legal;
     }

@@ -14,11 +14,11 @@ loop-engine-preserved g c =
     let done = c.loop-engine.invariant in
     let more = c.in_ok-next.ensures in
     record {
-      legal = more.legal;
+      legal = more.run.legal;
       next = more.next;
       on = on_then old mid new done.on more.on;
-      told = tells_then _ _ _ old mid new done.told more.told;
-      wires = more.wires;
-      ability = more.ability ∙ done.ability;
-      preferred = more.preferred ∙ done.preferred;
+      told = tells_then _ _ _ old mid new done.told more.run.told;
+      wires = more.run.wires;
+      ability = more.run.able.ability ∙ done.ability;
+      preferred = more.run.able.preferred ∙ done.preferred;
     }

@@ -12,10 +12,10 @@ returns-clause-empty g c =
     let ended : has_ended now ≡ true = c.carry_chores.ensures.on.ended ∙ c.in_ok-end.ensures.ends.ended in
     let replied : unfinished c.end.new.engine ≡ [] = c.in_ok-end.ensures.ends.calls ∙ (still c.args.engine.now c.requires.quiet).none in
     on_ok3 c.carry_chores.result _ _ _ _
-    (λ free calls fit k. bare g.F.Wire.Wire.told _ now c.carry_chores.new.wires k (unwired now c.carry_chores.ensures.legal ended (calls ∙ replied) free k) fit)
+    (λ free calls fit k. bare g.F.Wire.Wire.told _ now c.carry_chores.new.wires k (unwired now c.carry_chores.ensures.run.legal ended (calls ∙ replied) free k) fit)
     c.carry_chores.ensures.none
     c.carry_chores.ensures.calls
-    c.carry_chores.ensures.wires
+    c.carry_chores.ensures.run.wires
 
 pub returns-clause-extends : goal.returns-clause-extends
 returns-clause-extends g c = extends_then c.args.engine.now c.end.new.engine c.carry_chores.new.engine c.in_ok-end.ensures.ends.extends c.carry_chores.ensures.on.extends

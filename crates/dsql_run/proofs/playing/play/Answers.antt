@@ -6,6 +6,7 @@ use Rattle.dsql_player.specs.Extends.{Extends}
 use Rattle.dsql_player.specs.Told.{with_told, AsksAtMost}
 use Rattle.dsql_run.specs.Script.{nothing}
 use Rattle.dsql_run.specs.Reading.{HasRead, ReadsHead}
+use Rattle.dsql_run.specs.Runs.{is_read_fault}
 use Rattle.dsql_run.proofs.Errors.{on_ok}
 use Rattle.dsql_run.proofs.Finishing.{risen_later, risen_earlier}
 use Rattle.dsql_run.proofs.playing.play.Goals as goal
@@ -16,33 +17,33 @@ returns g c =
     let read : HasRead left c.in_ok-script.script left nothing = c.in_ok-script.ensures.first left in
     let head : ReadsHead left c.read_head-first.result c.read_head-first.new.script (g.S.Source.left c.read_head-first.new.input) (g.F.Fleet.preferred c.args.fleet.now) (g.F.Fleet.preferred c.read_head-first.new.fleet)
     (g.F.Fleet.ability c.args.fleet.now) (g.F.Fleet.ability c.read_head-first.new.fleet) = c.read_head-first.ensures.reads left read in
-    let begun : c.in-Ok.engine ≡ Run 1 (g.F.Fleet.ability c.play_from.new.fleet) ∷ [] = c.in-Ok.ensures.begun ∙ ap (λ caps. Run 1 caps ∷ []) (c.caps.ensures ∙ sym c.play_from.ensures.ability) in
+    let begun : c.in-Ok.engine ≡ Run 1 (g.F.Fleet.ability c.play_from.new.fleet) ∷ [] = c.in-Ok.ensures.begun ∙ ap (λ caps. Run 1 caps ∷ []) (c.caps.ensures ∙ sym c.play_from.ensures.on.able.ability) in
     record {
       ran = inl (record {
         history = c.play_from.new.engine;
         asked = head.asked;
-        legal = c.play_from.ensures.legal;
-        begins = subst (λ h. Extends h c.play_from.new.engine) begun c.play_from.ensures.begins;
-        turns = c.play_from.ensures.turns;
+        legal = c.play_from.ensures.on.legal;
+        begins = subst (λ h. Extends h c.play_from.new.engine) begun c.play_from.ensures.on.extends;
+        turns = c.play_from.ensures.on.turns;
         plays = c.play_from.ensures.plays left head.asked head.reads;
-        prefers = record { preferred = c.play_from.ensures.preferred ∙ head.prefers.preferred; same = λ none. c.play_from.ensures.ability ∙ head.prefers.same none };
-        ended = c.play_from.ensures.ended;
-        quiet = c.play_from.ensures.quiet;
-        read = λ done. on_ok c.play_from.result c.play_from.ensures.read done left head.asked head.reads;
+        prefers = record { preferred = c.play_from.ensures.on.able.preferred ∙ head.prefers.preferred; same = λ none. c.play_from.ensures.on.able.ability ∙ head.prefers.same none };
+        ended = λ ran. (c.play_from.ensures.over ran).ended;
+        quiet = λ ran. (c.play_from.ensures.over ran).quiet;
+        read = λ done. on_ok c.play_from.result c.play_from.ensures.end done left head.asked head.reads;
         writes = c.play_from.ensures.writes;
         cut = λ is. c.play_from.ensures.cut is left head.asked (has_risen (g.S.Source.faults c.args.input.now) (g.S.Source.faults c.play_from.new.input)) head.reads
-            (λ failed. risen_later (g.S.Source.faults c.args.input.now) (g.S.Source.faults c.read_head-first.new.input) (g.S.Source.faults c.play_from.new.input) c.play_from.ensures.read_on (c.read_head-first.ensures.failed failed))
-            (λ risen. risen_earlier (g.S.Source.faults c.args.input.now) (g.S.Source.faults c.read_head-first.new.input) (g.S.Source.faults c.play_from.new.input) c.read_head-first.ensures.counted risen);
-        empty = c.play_from.ensures.empty;
+            (λ failed. risen_later (g.S.Source.faults c.args.input.now) (g.S.Source.faults c.read_head-first.new.input) (g.S.Source.faults c.play_from.new.input) c.play_from.ensures.reads.counted (c.read_head-first.ensures.faults.caused (ap is_read_fault failed)))
+            (λ risen. risen_earlier (g.S.Source.faults c.args.input.now) (g.S.Source.faults c.read_head-first.new.input) (g.S.Source.faults c.play_from.new.input) c.read_head-first.ensures.faults.counted risen);
+        empty = λ ran. (c.play_from.ensures.over ran).empty;
         told = λ ran. c.play_from.ensures.told ran ∙ ap (λ t. with_told t c.play_from.new.engine) c.read_head-first.ensures.unasked;
         asks = subst (λ (t : Option FleetTold). AsksAtMost t (g.F.Fleet.told c.play_from.new.fleet) c.play_from.new.engine) c.read_head-first.ensures.unasked c.play_from.ensures.asked;
-        read_well = λ well. c.play_from.ensures.read_well well ∙ c.read_head-first.ensures.faultless (c.play_from.ensures.read_through well);
-        written_well = c.play_from.ensures.written_well;
-        read_fault = λ is. elim (c.play_from.ensures.read_fault is) [
-          | inl failed ↦ risen_later (g.S.Source.faults c.args.input.now) (g.S.Source.faults c.read_head-first.new.input) (g.S.Source.faults c.play_from.new.input) c.play_from.ensures.read_on (c.read_head-first.ensures.failed failed)
-          | inr risen ↦ risen_earlier (g.S.Source.faults c.args.input.now) (g.S.Source.faults c.read_head-first.new.input) (g.S.Source.faults c.play_from.new.input) c.read_head-first.ensures.counted risen
+        read_well = λ well. c.play_from.ensures.read_well well ∙ c.read_head-first.ensures.faults.faultless (c.play_from.ensures.reads.through well);
+        written_well = c.play_from.ensures.written_well.faultless;
+        read_fault = λ is. elim (c.play_from.ensures.reads.caused is) [
+          | inl failed ↦ risen_later (g.S.Source.faults c.args.input.now) (g.S.Source.faults c.read_head-first.new.input) (g.S.Source.faults c.play_from.new.input) c.play_from.ensures.reads.counted (c.read_head-first.ensures.faults.caused (ap is_read_fault failed))
+          | inr risen ↦ risen_earlier (g.S.Source.faults c.args.input.now) (g.S.Source.faults c.read_head-first.new.input) (g.S.Source.faults c.play_from.new.input) c.read_head-first.ensures.faults.counted risen
         ];
-        write_fault = c.play_from.ensures.write_fault;
+        write_fault = c.play_from.ensures.written_well.caused;
         full = c.play_from.ensures.full;
       });
     }

@@ -1,16 +1,21 @@
-use Rattle.std.proofs.Common.{◌∙◌, ap, inl, inr}
+use Rattle.std.proofs.Common.{◌∙◌, ap, inl, inr, rules}
 use Rattle.dsql_player.specs.Entered.{entered_calls}
 use Rattle.dsql_player.proofs.Extending.{extends_then}
-use Rattle.dsql_run.specs.Runs.{saying}
+use Rattle.dsql_run.specs.Runs.{saying, is_write_fault}
 use Rattle.dsql_run.proofs.Asking.{asks, read_played, written_played, not_read, not_written}
 use Rattle.dsql_run.proofs.Errors.{on_ok}
 use Rattle.dsql_run.proofs.Cutting.{shown_before_end, cut_short}
 use Rattle.dsql_run.proofs.Finishing.{plays_finished, wrote_older, writes_more, all_risen}
 use Rattle.dsql_run.proofs.playing.play_from.Goals as goal
 
-pub returns-clause-begins : goal.returns-clause-begins
-returns-clause-begins g c =
-    extends_then c.args.engine.now c.play_lines-played.new.engine c.close-ended.new.engine c.play_lines-played.ensures.extends c.close-ended.ensures.extends
+pub returns-clause-on : goal.returns-clause-on
+returns-clause-on g c =
+    record {
+      extends = extends_then c.args.engine.now c.play_lines-played.new.engine c.close-ended.new.engine c.play_lines-played.ensures.on.extends c.close-ended.ensures.on.extends;
+      turns = search rules;
+      able = search rules;
+      legal = search rules;
+    }
 
 pub returns-clause-plays : goal.returns-clause-plays
 returns-clause-plays g c = λ before asked read.
@@ -21,9 +26,9 @@ returns-clause-plays g c = λ before asked read.
 pub returns-clause-writes : goal.returns-clause-writes
 returns-clause-writes g c =
     writes_more c.finish.result _ _ (g.K.Sink.written c.args.output.now) (g.K.Sink.written c.finish.new.output) c.close-ended.new.engine
-    (all_risen c.play_lines-played.result (g.K.Sink.faults c.args.output.now) (g.K.Sink.faults c.play_lines-played.new.output) (g.K.Sink.faults c.finish.new.output) c.play_lines-played.ensures.counted c.finish.ensures.counted c.play_lines-played.ensures.write_fault)
+    (all_risen c.play_lines-played.result (g.K.Sink.faults c.args.output.now) (g.K.Sink.faults c.play_lines-played.new.output) (g.K.Sink.faults c.finish.new.output) c.play_lines-played.ensures.faults.counted c.finish.ensures.counted (λ is. c.play_lines-played.ensures.faults.caused (ap is_write_fault is)))
     (c.finish.ensures.wrote (g.K.Sink.written c.args.output.now)
-    (wrote_older c.play_lines-played.result (g.K.Sink.written c.args.output.now) (g.K.Sink.written c.play_lines-played.new.output) c.play_lines-played.new.shown c.play_lines-played.new.engine c.close-ended.new.engine c.close-ended.ensures.extends c.play_lines-played.ensures.within c.play_lines-played.ensures.wrote))
+    (wrote_older c.play_lines-played.result (g.K.Sink.written c.args.output.now) (g.K.Sink.written c.play_lines-played.new.output) c.play_lines-played.new.shown c.play_lines-played.new.engine c.close-ended.new.engine c.close-ended.ensures.on.extends c.play_lines-played.ensures.writes.within c.play_lines-played.ensures.writes.wrote))
 
 pub returns-clause-cut : goal.returns-clause-cut
 returns-clause-cut g c =
@@ -35,14 +40,14 @@ returns-clause-cut g c =
       running = λ ran. (c.play_lines-played.ensures.between ran).running;
       plays = c.play_lines-played.ensures.plays before asked read;
       read = λ done. on_ok c.play_lines-played.result c.play_lines-played.ensures.end done before asked read;
-      caused = λ fault. elim (c.play_lines-played.ensures.read_fault fault) [ inl first ↦ first_failed first | inr risen ↦ risen_failed risen ];
-      cut = c.play_lines-played.ensures.cut;
-      shown = c.play_lines-played.ensures.shown;
+      caused = λ fault. elim (c.play_lines-played.ensures.reads.caused fault) [ inl first ↦ first_failed first | inr risen ↦ risen_failed risen ];
+      cut = c.play_lines-played.ensures.writes.cut;
+      shown = c.play_lines-played.ensures.writes.shown;
     })
-    c.close-ended.ensures.extends c.close-ended.ensures.entered (λ unwritten. ap g.K.Sink.written (c.finish.ensures.unwritten unwritten))
+    c.close-ended.ensures.on.extends c.close-ended.ensures.entered (λ unwritten. ap g.K.Sink.written (c.finish.ensures.unwritten unwritten))
     (λ unfailed. c.finish.ensures.stops (g.K.Sink.written c.args.output.now)
     (shown_before_end c.play_lines-played.result c.close-ended.result c.finish.result (g.K.Sink.written c.args.output.now) (g.K.Sink.written c.play_lines-played.new.output) c.play_lines-played.new.shown c.play_lines-played.new.engine
-    c.close-ended.new.engine c.close-ended.ensures.same c.finish.ensures.result is unfailed c.close-ended.ensures.extends c.play_lines-played.ensures.within c.play_lines-played.ensures.wrote)
+    c.close-ended.new.engine c.close-ended.ensures.same c.finish.ensures.result is unfailed c.close-ended.ensures.on.extends c.play_lines-played.ensures.writes.within c.play_lines-played.ensures.writes.wrote)
     unfailed is)
 
 pub returns-clause-asked : goal.returns-clause-asked
@@ -63,11 +68,16 @@ pub returns-clause-read_well : goal.returns-clause-read_well
 returns-clause-read_well g c = λ well.
     c.play_lines-played.ensures.read_well (not_read c.play_lines-played.result (read_played c.play_lines-played.result c.close-ended.result c.finish.result c.close-ended.ensures.same c.finish.ensures.result well))
 
-pub returns-clause-read_through : goal.returns-clause-read_through
-returns-clause-read_through g c = λ well.
-    c.play_lines-played.ensures.read_through (read_played c.play_lines-played.result c.close-ended.result c.finish.result c.close-ended.ensures.same c.finish.ensures.result well)
+pub returns-clause-reads : goal.returns-clause-reads
+returns-clause-reads g c = record {
+  caused = search rules;
+  counted = search rules;
+  through = λ well. c.play_lines-played.ensures.reads.through (read_played c.play_lines-played.result c.close-ended.result c.finish.result c.close-ended.ensures.same c.finish.ensures.result well);
+}
 
 pub returns-clause-written_well : goal.returns-clause-written_well
-returns-clause-written_well g c = λ well.
-    c.finish.ensures.faultless well
-    ∙ c.play_lines-played.ensures.written_well (not_written c.play_lines-played.result (written_played c.play_lines-played.result c.close-ended.result c.finish.result c.close-ended.ensures.same c.finish.ensures.result well))
+returns-clause-written_well g c = record {
+  caused = search rules;
+  faultless = λ well. c.finish.ensures.faultless well
+      ∙ c.play_lines-played.ensures.faults.faultless (not_written c.play_lines-played.result (written_played c.play_lines-played.result c.close-ended.result c.finish.result c.close-ended.ensures.same c.finish.ensures.result well));
+}

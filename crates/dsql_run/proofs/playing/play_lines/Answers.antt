@@ -1,4 +1,4 @@
-use Rattle.std.proofs.Common.{◌≡◌, ◌∙◌, [], true, refl, sym, arith}
+use Rattle.std.proofs.Common.{◌≡◌, ◌∙◌, [], true, refl, sym, arith, rules}
 use Rattle.std.specs.Prelude.{Ok, Err}
 use Rattle.dsql_player.specs.Entered.{entered_calls}
 use Rattle.dsql_player.proofs.Extending.{extends_then}
@@ -16,24 +16,30 @@ pub returns-in_err-show-clause-plays : goal.returns-in_err-show-clause-plays
 returns-in_err-show-clause-plays g c = λ before asked read.
     let is : c.from_residual.result ≡ Err (stop_of_show c.in_err-show.field-0.0) = err_is c.from_residual.result (stop_of_show c.in_err-show.field-0.0) c.from_residual.ensures.1 in
     rw (is, c.requires.begun)
-    (first_none (stop_of_show c.in_err-show.field-0.0) c.args.first before c.args.script.now (g.S.Source.left c.args.input.now) (g.S.Source.left c.args.input.now) (saying asked []) (show_stops c.in_err-show.field-0.0) c.requires.body read)
+    (first_none (stop_of_show c.in_err-show.field-0.0) c.args.first before c.args.script.now (g.S.Source.left c.args.input.now) (g.S.Source.left c.args.input.now) (saying asked []) (show_stops c.in_err-show.field-0.0) c.requires.first.body read)
 
-pub returns-in_err-show-clause-wrote : goal.returns-in_err-show-clause-wrote
-returns-in_err-show-clause-wrote g c =
+pub returns-in_err-show-clause-writes : goal.returns-in_err-show-clause-writes
+returns-in_err-show-clause-writes g c =
     let is : c.from_residual.result ≡ Err (stop_of_show c.in_err-show.field-0.0) = err_is c.from_residual.result (stop_of_show c.in_err-show.field-0.0) c.from_residual.ensures.1 in
-    rw is
-    (wrote_cut c.in_err-show.field-0.0 (g.K.Sink.written c.args.output.now) (g.K.Sink.written c.show.new.output) c.show.new.shown c.args.shown.now c.args.engine.now
-    (c.in_err-show.ensures.stops (g.K.Sink.written c.args.output.now) (rw c.requires.shown (sym (no_text (g.K.Sink.written c.args.output.now))))))
+    record {
+      shown = search rules;
+      within = search rules;
+      wrote = rw is
+          (wrote_cut c.in_err-show.field-0.0 (g.K.Sink.written c.args.output.now) (g.K.Sink.written c.show.new.output) c.show.new.shown c.args.shown.now c.args.engine.now
+          (c.in_err-show.ensures.stops (g.K.Sink.written c.args.output.now) (rw c.requires.shown (sym (no_text (g.K.Sink.written c.args.output.now))))));
+      cut = λ is. begun_cut (g.K.Sink.written c.args.output.now) (g.K.Sink.written c.show.new.output) c.args.shown.now (g.F.Fleet.ability c.args.fleet.now) c.args.engine.now c.requires.begun c.requires.shown
+          (c.in_err-show.ensures.stops (g.K.Sink.written c.args.output.now) (rw c.requires.shown (sym (no_text (g.K.Sink.written c.args.output.now)))));
+    }
 
-pub returns-in_err-show-clause-cut : goal.returns-in_err-show-clause-cut
-returns-in_err-show-clause-cut g c =
-    λ is. begun_cut (g.K.Sink.written c.args.output.now) (g.K.Sink.written c.show.new.output) c.args.shown.now (g.F.Fleet.ability c.args.fleet.now) c.args.engine.now c.requires.begun c.requires.shown
-    (c.in_err-show.ensures.stops (g.K.Sink.written c.args.output.now) (rw c.requires.shown (sym (no_text (g.K.Sink.written c.args.output.now)))))
-
-pub returns-in_err-next-clause-wrote : goal.returns-in_err-next-clause-wrote
-returns-in_err-next-clause-wrote g c =
+pub returns-in_err-next-clause-writes : goal.returns-in_err-next-clause-writes
+returns-in_err-next-clause-writes g c =
     let start : g.K.Sink.written c.show.new.output ≡ with_text (g.K.Sink.written c.args.output.now) (text_of c.args.engine.now) = c.in_ok-show.ensures.shows (g.K.Sink.written c.args.output.now) (rw c.requires.shown (sym (no_text (g.K.Sink.written c.args.output.now)))) in
-    wrote_at_rest c.from_residual-in_err-next.result (g.K.Sink.written c.args.output.now) (g.K.Sink.written c.show.new.output) c.show.new.shown c.args.engine.now c.in_ok-show.ensures.ok start
+    record {
+      shown = search rules;
+      within = search rules;
+      wrote = wrote_at_rest c.from_residual-in_err-next.result (g.K.Sink.written c.args.output.now) (g.K.Sink.written c.show.new.output) c.show.new.shown c.args.engine.now c.in_ok-show.ensures.ok start;
+      cut = search rules;
+    }
 
 pub returns-in_err-play_line-clause-plays : goal.returns-in_err-play_line-clause-plays
 returns-in_err-play_line-clause-plays g c = λ before asked read.
@@ -45,32 +51,46 @@ returns-in_err-play_line-clause-plays g c = λ before asked read.
     (line_stops before c.loop-next.script (g.S.Source.left c.loop-next.input) (g.S.Source.left c.loop-next.input) asked (entered_calls c.loop-next.engine) (entered_calls c.play_line.new.engine) c.in-Some.line c.in_err-play_line.field-0.0
     body had c.in_err-play_line.ensures.stopped c.in_err-play_line.ensures.kinds)
 
-pub returns-in_err-play_line-clause-wrote : goal.returns-in_err-play_line-clause-wrote
-returns-in_err-play_line-clause-wrote g c =
+pub returns-in_err-play_line-clause-writes : goal.returns-in_err-play_line-clause-writes
+returns-in_err-play_line-clause-writes g c =
     let start : g.K.Sink.written c.show.new.output ≡ with_text (g.K.Sink.written c.args.output.now) (text_of c.args.engine.now) = c.in_ok-show.ensures.shows (g.K.Sink.written c.args.output.now) (rw c.requires.shown (sym (no_text (g.K.Sink.written c.args.output.now)))) in
     let is : c.from_residual-in_err-play_line.result ≡ Err c.in_err-play_line.field-0.0 = err_is c.from_residual-in_err-play_line.result c.in_err-play_line.field-0.0 c.from_residual-in_err-play_line.ensures.1 in
-    rw is (c.in_err-play_line.ensures.wrote (g.K.Sink.written c.args.output.now) (c.loop-next.invariant.written (g.K.Sink.written c.args.output.now) start))
+    record {
+      shown = search rules;
+      within = search rules;
+      wrote = rw is (c.in_err-play_line.ensures.writes.wrote (g.K.Sink.written c.args.output.now) (c.loop-next.invariant.written (g.K.Sink.written c.args.output.now) start));
+      cut = λ stop. c.in_err-play_line.ensures.writes.cut (g.K.Sink.written c.args.output.now) (c.loop-next.invariant.written (g.K.Sink.written c.args.output.now) start) (sym is ∙ stop);
+    }
 
-pub returns-in_err-play_line-clause-cut : goal.returns-in_err-play_line-clause-cut
-returns-in_err-play_line-clause-cut g c =
+pub returns-in_err-play_line-clause-on : goal.returns-in_err-play_line-clause-on
+returns-in_err-play_line-clause-on g c =
+    record {
+      extends = extends_then c.args.engine.now c.loop-next.engine c.play_line.new.engine c.loop-next.invariant.extends c.play_line.ensures.on.extends;
+      turns = search rules;
+      able = search rules;
+      legal = search rules;
+    }
+
+pub returns-in_err-next-2-clause-writes : goal.returns-in_err-next-2-clause-writes
+returns-in_err-next-2-clause-writes g c =
     let start : g.K.Sink.written c.show.new.output ≡ with_text (g.K.Sink.written c.args.output.now) (text_of c.args.engine.now) = c.in_ok-show.ensures.shows (g.K.Sink.written c.args.output.now) (rw c.requires.shown (sym (no_text (g.K.Sink.written c.args.output.now)))) in
-    let stop : c.from_residual-in_err-play_line.result ≡ Err c.in_err-play_line.field-0.0 = err_is c.from_residual-in_err-play_line.result c.in_err-play_line.field-0.0 c.from_residual-in_err-play_line.ensures.1 in
-    λ is. c.in_err-play_line.ensures.cut (g.K.Sink.written c.args.output.now) (c.loop-next.invariant.written (g.K.Sink.written c.args.output.now) start) (sym stop ∙ is)
+    record {
+      shown = search rules;
+      within = search rules;
+      wrote = wrote_at_rest c.from_residual-in_err-next-2.result (g.K.Sink.written c.args.output.now) (g.K.Sink.written c.play_line.new.output) c.play_line.new.shown c.play_line.new.engine c.in_ok-play_line.ensures.writes.shown
+          (all_shown (g.K.Sink.written c.args.output.now) (g.K.Sink.written c.play_line.new.output) c.play_line.new.shown c.play_line.new.engine c.in_ok-play_line.ensures.writes.shown
+          (c.in_ok-play_line.ensures.writes.wrote (g.K.Sink.written c.args.output.now) (c.loop-next.invariant.written (g.K.Sink.written c.args.output.now) start)));
+      cut = search rules;
+    }
 
-pub returns-in_err-play_line-clause-extends : goal.returns-in_err-play_line-clause-extends
-returns-in_err-play_line-clause-extends g c =
-    extends_then c.args.engine.now c.loop-next.engine c.play_line.new.engine c.loop-next.invariant.extends c.play_line.ensures.extends
-
-pub returns-in_err-next-2-clause-wrote : goal.returns-in_err-next-2-clause-wrote
-returns-in_err-next-2-clause-wrote g c =
-    let start : g.K.Sink.written c.show.new.output ≡ with_text (g.K.Sink.written c.args.output.now) (text_of c.args.engine.now) = c.in_ok-show.ensures.shows (g.K.Sink.written c.args.output.now) (rw c.requires.shown (sym (no_text (g.K.Sink.written c.args.output.now)))) in
-    wrote_at_rest c.from_residual-in_err-next-2.result (g.K.Sink.written c.args.output.now) (g.K.Sink.written c.play_line.new.output) c.play_line.new.shown c.play_line.new.engine c.in_ok-play_line.ensures.shown
-    (all_shown (g.K.Sink.written c.args.output.now) (g.K.Sink.written c.play_line.new.output) c.play_line.new.shown c.play_line.new.engine c.in_ok-play_line.ensures.shown
-    (c.in_ok-play_line.ensures.wrote (g.K.Sink.written c.args.output.now) (c.loop-next.invariant.written (g.K.Sink.written c.args.output.now) start)))
-
-pub returns-in_err-next-2-clause-extends : goal.returns-in_err-next-2-clause-extends
-returns-in_err-next-2-clause-extends g c =
-    extends_then c.args.engine.now c.loop-next.engine c.play_line.new.engine c.loop-next.invariant.extends c.play_line.ensures.extends
+pub returns-in_err-next-2-clause-on : goal.returns-in_err-next-2-clause-on
+returns-in_err-next-2-clause-on g c =
+    record {
+      extends = extends_then c.args.engine.now c.loop-next.engine c.play_line.new.engine c.loop-next.invariant.extends c.play_line.ensures.on.extends;
+      turns = search rules;
+      able = search rules;
+      legal = search rules;
+    }
 
 pub loop-next-smaller : goal.loop-next-smaller
 loop-next-smaller g c =
@@ -91,20 +111,25 @@ loop-next-preserved g c =
       body = c.in_ok-next-2.ensures.body begun;
       headed = always_headed c.in_ok-next-2.next c.next.new.self.reader (c.in_ok-next-2.ensures.begun begun);
       few = c.in_ok-next-2.ensures.few;
-      shown = c.in_ok-play_line.ensures.shown;
-      written = λ w start. all_shown w (g.K.Sink.written c.play_line.new.output) c.play_line.new.shown c.play_line.new.engine c.in_ok-play_line.ensures.shown
-          (c.in_ok-play_line.ensures.wrote w (c.loop-next.invariant.written w start));
-      reads = c.in_ok-next-2.ensures.faultless refl ∙ c.loop-next.invariant.reads;
-      writes = c.in_ok-play_line.ensures.faultless refl ∙ c.loop-next.invariant.writes;
-      extends = extends_then c.args.engine.now c.loop-next.engine c.play_line.new.engine c.loop-next.invariant.extends c.play_line.ensures.extends;
-      ability = c.play_line.ensures.ability ∙ c.loop-next.invariant.ability;
-      preferred = c.play_line.ensures.preferred ∙ c.loop-next.invariant.preferred;
+      shown = c.in_ok-play_line.ensures.writes.shown;
+      written = λ w start. all_shown w (g.K.Sink.written c.play_line.new.output) c.play_line.new.shown c.play_line.new.engine c.in_ok-play_line.ensures.writes.shown
+          (c.in_ok-play_line.ensures.writes.wrote w (c.loop-next.invariant.written w start));
+      reads = c.in_ok-next-2.ensures.faults.faultless refl ∙ c.loop-next.invariant.reads;
+      writes = c.in_ok-play_line.ensures.faults.faultless refl ∙ c.loop-next.invariant.writes;
+      extends = extends_then c.args.engine.now c.loop-next.engine c.play_line.new.engine c.loop-next.invariant.extends c.play_line.ensures.on.extends;
+      ability = c.play_line.ensures.on.able.ability ∙ c.loop-next.invariant.ability;
+      preferred = c.play_line.ensures.on.able.preferred ∙ c.loop-next.invariant.preferred;
     }
 
-pub returns-clause-wrote : goal.returns-clause-wrote
-returns-clause-wrote g c =
+pub returns-clause-writes : goal.returns-clause-writes
+returns-clause-writes g c =
     let start : g.K.Sink.written c.show.new.output ≡ with_text (g.K.Sink.written c.args.output.now) (text_of c.args.engine.now) = c.in_ok-show.ensures.shows (g.K.Sink.written c.args.output.now) (rw c.requires.shown (sym (no_text (g.K.Sink.written c.args.output.now)))) in
-    wrote_at_rest (Ok tt) (g.K.Sink.written c.args.output.now) (g.K.Sink.written c.loop-next.output) c.loop-next.shown c.loop-next.engine c.loop-next.invariant.shown (c.loop-next.invariant.written (g.K.Sink.written c.args.output.now) start)
+    record {
+      shown = search rules;
+      within = search rules;
+      wrote = wrote_at_rest (Ok tt) (g.K.Sink.written c.args.output.now) (g.K.Sink.written c.loop-next.output) c.loop-next.shown c.loop-next.engine c.loop-next.invariant.shown (c.loop-next.invariant.written (g.K.Sink.written c.args.output.now) start);
+      cut = search rules;
+    }
 
 pub returns-in_err-next-2-clause-asked : goal.returns-in_err-next-2-clause-asked
 returns-in_err-next-2-clause-asked g c =
