@@ -1,0 +1,53 @@
+-- What is kept of the present, each against what the history tells.
+use Rattle.std.specs.Prelude.{◌≡◌, ◌+◌, ◌≤◌, List, length, reverse, vec_len, vec_capacity}
+use Rattle.dsql_pool.specs.Moved.{made}
+use Rattle.dsql_clients.specs.declared.event.Event.{Event}
+use Rattle.dsql_clients.specs.Readers.Course as course
+use Rattle.dsql_clients.specs.Readers.Owed.{owed}
+use Rattle.dsql_clients.specs.Readers.Pool as pools
+use Rattle.dsql_clients.specs.Readers.Unfinished as left
+use Rattle.dsql_clients.specs.Readers.Works as kinds
+use Rattle.dsql_clients.specs.Legal.{Lawful, Calm}
+use Rattle.dsql_client_desk.specs.declared.desk.Desk.{Desk}
+
+-- the events so far, the newest first
+abbrev pub past : Desk → List Event
+past d = reverse d.history.items
+
+-- each table has room for as many events as were paid for
+pub record HasRoom (d : Desk) : Type 0 where
+  pub history : vec_len d.history + d.paid ≤ vec_capacity d.history
+  pub unfinished : vec_len d.unfinished + d.paid ≤ vec_capacity d.unfinished
+  pub works : vec_len d.works + d.paid ≤ vec_capacity d.works
+  pub pool : d.paid ≤ d.pool.spare
+
+-- all but the pool
+pub record Tables (d : Desk) : Type 0 where
+  pub lawful : Lawful (past d)
+  pub calm : Calm (past d)
+  pub caps : d.caps ≡ course.caps (past d)
+  pub closed_by : d.closed_by ≡ course.db_end (past d)
+  pub ended : d.ended ≡ course.has_ended (past d)
+  pub unfinished : d.unfinished.items ≡ left.unfinished (past d)
+  pub works : d.works.items ≡ kinds.works (past d)
+  pub room : HasRoom d
+
+-- and the pool is that of the history
+pub record Standing (d : Desk) : Type 0 where
+  pub tables : Tables d
+  pub pool : d.pool.pooled ≡ pools.pool (past d)
+
+-- The pool has made already what the history owes, in its newest call, and there is memory for it.
+pub record Owing (d : Desk) : Type 0 where
+  pub tables : Tables d
+  pub pool : d.pool.pooled ≡ made (owed (past d)) (pools.pool (past d))
+  pub moves : d.pool.moves ≡ owed (past d)
+  pub paid : length (owed (past d)) ≤ d.paid
+
+-- what a step carries from one event to the next, and doesn't look into
+unfoldable pub Stands : Desk → Type 0
+Stands d = Standing d
+
+-- what stands between an event and the moves that it makes due
+unfoldable pub Owes : Desk → Type 0
+Owes d = Owing d

@@ -1,0 +1,72 @@
+//! What is kept of the present: that of a run that begins, and its room.
+ghost use Rattle.std.specs.Prelude.{◌≡◌, ◌∷◌, [], IfOk, OnOk};
+ghost use Rattle.dsql_client_desk.specs.Desk.{past, Stands};
+ghost use Rattle.dsql_clients.specs.Rules.Settled.{Settled};
+ghost use Rattle.dsql_clients.specs.declared.event.Event.TheVariants.{Run};
+
+use crate::no_room::NoRoom;
+use dsql_clients::{DbEnd, Event, Work};
+use dsql_driver::Caps;
+use dsql_pool::Pool;
+use std::alloc::Global;
+
+/// What is kept of the present, beside the history.
+#[derive(Drop)]
+pub struct Desk {
+    /// All that happened, the oldest first.
+    pub history: Vec<Event>,
+    pub caps: Caps,
+    /// What closed the database, if something did.
+    pub closed_by: Option<DbEnd>,
+    pub ended: bool,
+    /// The connections, the requests that wait, and the limits.
+    pub pool: Pool,
+    /// The calls without a reply.
+    pub unfinished: Vec<u32>,
+    /// What each call has to do, by its number.
+    pub works: Vec<Work>,
+    /// For how many more events there is memory.
+    pub paid: usize,
+}
+
+#[tactic(auto, unfolding(crate::specs::Desk::Stands, dsql_clients::specs::Legal::Allowed))]
+impl Desk {
+    /// The desk of a run that begins.
+    pub fn start(alloc: Global, version: u8, caps: Caps) -> Result<Desk, NoRoom>
+        requires { version ≡ 1 }
+        ensures stands { IfOk result (λ d. Stands d) }
+        ensures past { IfOk result (λ d. past d ≡ Run version caps ∷ []) }
+        ensures settled { IfOk result (λ d. Settled (past d)) }
+    {
+        let mut history = Vec::new(alloc);
+        history.push(Event::Run { version, caps })?;
+        let mut works = Vec::new(alloc);
+        works.push(Work::Look)?;
+        Ok(Desk {
+            history,
+            caps,
+            closed_by: None,
+            ended: false,
+            pool: Pool::new(alloc),
+            unfinished: Vec::new(alloc),
+            works,
+            paid: 0,
+        })
+    }
+
+    /// Takes the memory for some events.
+    pub fn pay(&mut self, events: u32) -> Result<(), NoRoom>
+        requires { Stands self.old }
+        ensures stands { Stands self.new }
+        ensures past { past self.new ≡ past self.old }
+        ensures paid { OnOk result (self.new.paid ≡ events) }
+    {
+        let count = events as usize;
+        self.history.reserve(count)?;
+        self.unfinished.reserve(count)?;
+        self.works.reserve(count)?;
+        self.pool.reserve(events)?;
+        self.paid = count;
+        Ok(())
+    }
+}

@@ -1,0 +1,12 @@
+//! The desk of the layer's core for several clients: what is kept of the present beside the history. Each
+//! event method adds its event, and the moves that the pool makes of it, to both.
+#![tactic(auto)]
+
+mod desk;
+mod events;
+mod no_room;
+mod pooling;
+mod writes;
+
+pub use desk::Desk;
+pub use no_room::NoRoom;
