@@ -102,7 +102,7 @@ use_lent-requires-clause-bad c = λ none.
     let b : is_bad e.answer ≡ went_bad (journal (Heard e ∷ H) e.conn) =
     subst (λ (x : Entry). is_bad e.answer ≡ went_bad (journal (Heard x ∷ H) e.conn)) (sym same)
     (bad_heard H e.conn t n (sender H n) e.call e.answer l c.requires.lent (due_of H e.conn t n e.call w.call)) in
-    rw c.hear.ensures.event (c.is_bad_answer-bad.ensures ∙ b)
+    rw c.hear.ensures.event (c.is_bad-bad.ensures ∙ b)
 
 pub returns-clause-reaches : goal.returns-clause-reaches
 returns-clause-reaches c = record {
