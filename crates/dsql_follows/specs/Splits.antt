@@ -12,7 +12,7 @@ use Rattle.dsql_follows.specs.Clients.{call_of, is_free}
 use Rattle.dsql_follows.specs.Moments.{Moment, just_begun, met, is_in_flight, begins_step, at_rest, rested, with_event, kept}
 use Rattle.dsql_follows.specs.Turns.{can_move, first_chore, has_run_out}
 use Rattle.dsql_follows.specs.Sentences.{Part, after_part, enters_now, has_own_step, runs_on}
-use Rattle.dsql_follows.specs.Follows.{Played, follows}
+use Rattle.dsql_follows.specs.Follows.{Played}
 
 abbrev pub is_sending : Option Stand → Bool
 is_sending (Some (Sends c)) = true
@@ -73,8 +73,3 @@ as_played run d = record { run = run; parts = d.parts; last = reverse d.left }
 -- the parts of a history, of which this is the first event and these are the others, for the lines of a script; all oldest first
 abbrev pub split : List Line → Event → List Event → Played
 split lines run events = as_played run (deal lines (record { moment = just_begun run; parts = []; left = events }))
-
--- the history, oldest first, follows the lines, oldest first
-abbrev pub follows_lines : List Line → List Event → Bool
-follows_lines lines [] = false
-follows_lines lines (run ∷ events) = follows (split lines run events)

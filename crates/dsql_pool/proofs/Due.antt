@@ -63,10 +63,6 @@ pub pool_then : (ms : List Move) (p q r : Pooled) → q ≡ made ms p → r ≡ 
 pool_then ms p q r e f =
     f ∙ (ap (λ (s : Pooled). made (openings_for_waiting s) s) e ∙ sym (made_append ms (openings_for_waiting (made ms p)) p))
 
-pub moves_then : (ms so_far all : List Move) (p q : Pooled) → so_far ≡ ms → q ≡ made ms p → all ≡ so_far ++ openings_for_waiting q → all ≡ then_openings ms p
-moves_then ms so_far all p q e f g =
-    g ∙ (ap (λ (ns : List Move). ns ++ openings_for_waiting q) e ∙ ap (λ (s : Pooled). ms ++ openings_for_waiting s) f)
-
 pub room_most : (p : Pooled) → room p ≤ 1000
 room_most p =
     elim (is_limited p) as (λ b. is_limited p ≡ b → cond b p.limits.max_open most_open ≤ 1000) [

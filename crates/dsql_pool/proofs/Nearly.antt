@@ -29,9 +29,6 @@ pub record Nearly (p : Pooled) : Type 0 where
 pub young_at : (p : Pooled) → AtRest p → Young p.limits p.moment p.conns
 young_at p h = list_young p.limits p.moment p.idle p.conns h.placed h.young
 
-pub nearly : (p : Pooled) → AtRest p → Nearly p
-nearly p h = record { placed = h.placed; most = h.most; served = h.served; few = h.few; young = young_at p h; none = h.none }
-
 pub wholly : (p : Pooled) → Nearly p → opens_enough p ≡ true → AtRest p
 wholly p h enough = record { placed = h.placed; most = h.most; enough = enough; served = h.served; few = h.few; young = young_list p.limits p.moment p.idle p.conns h.placed h.young; none = h.none }
 
