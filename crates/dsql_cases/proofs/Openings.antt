@@ -9,7 +9,7 @@ use Rattle.dsql_history.specs.declared.event.Move.TheVariants.{OpenStart, Lend, 
 use Rattle.dsql_history.specs.declared.record.Place.{Place}
 use Rattle.dsql_history.specs.declared.record.Place.TheVariants.{Nowhere, Opening, Idle, Lent, Closing}
 use Rattle.dsql_history.specs.Readers.Sets.{places, place, is_open, is_opening, is_idle, is_lent, is_closing, open_count}
-use Rattle.dsql_history.specs.Rules.Limit.{keeps_limit}
+use Rattle.dsql_history.specs.Rules.Limit.{room, keeps_limit}
 use Rattle.dsql_history.specs.Legal.{Allowed, Lawful}
 use Rattle.dsql_history.specs.Computed.{is_allowed}
 use Rattle.dsql_laws.proofs.SoundSets.{moves_of}
@@ -23,14 +23,14 @@ never : (b : Bool) → (b ≡ true → ⊥) → b ≡ false
 never true impossible = absurd (impossible refl)
 never false impossible = refl
 
-pub opens_below : (before : List Event) (c n : ℕ) → open_count before < 1000 → keeps_limit before (Pool (OpenStart c n)) ≡ true
-opens_below before c n few = lt-ltb (open_count before) 1000 few
+pub opens_below : (before : List Event) (c n : ℕ) → open_count before < room → keeps_limit before (Pool (OpenStart c n)) ≡ true
+opens_below before c n few = lt-ltb (open_count before) room few
 
-pub opens_no_more : (before : List Event) (c n : ℕ) → 1000 ≤ open_count before → is_allowed before (Pool (OpenStart c n)) ≡ false
+pub opens_no_more : (before : List Event) (c n : ℕ) → room ≤ open_count before → is_allowed before (Pool (OpenStart c n)) ≡ false
 opens_no_more before c n many = never (is_allowed before (Pool (OpenStart c n))) (λ is. no_room (limit_kept before (Pool (OpenStart c n)) ((allowed_computed before (Pool (OpenStart c n))).0 is)))
   where
     no_room : keeps_limit before (Pool (OpenStart c n)) ≡ true → ⊥
-    no_room kept = let clash : true ≡ false = sym kept ∙ le-ltb (open_count before) 1000 many in cc
+    no_room kept = let clash : true ≡ false = sym kept ∙ le-ltb (open_count before) room many in cc
 
 somewhere : (p : Place) → is_idle p || is_lent p || is_opening p || is_closing p ≡ true → is_open p ≡ true
 somewhere Nowhere h = h
@@ -55,11 +55,11 @@ no_more_by_moving (x ∷ ps) zero p is =
 no_more_by_moving (x ∷ ps) (suc c) p is =
     rw (counted x (slice_set ps c p)) (rw (counted x ps) (omega (arith, no_more_by_moving ps c p is)))
 
-pub a_thousand_at_most : (history : List Event) → Lawful history → open_count history ≤ 1000
+pub a_thousand_at_most : (history : List Event) → Lawful history → open_count history ≤ room
 a_thousand_at_most [] l = omega arith
 a_thousand_at_most (Pool (OpenStart c n) ∷ before) l =
-    let room : keeps_limit before (Pool (OpenStart c n)) ≡ true = limit_kept before (Pool (OpenStart c n)) l.1 in
-    grind (arith, nat_tests, room, sum_by-append (λ (p : Place). cond (is_open p) 1 0) (places before) (Opening n ∷ []))
+    let kept : keeps_limit before (Pool (OpenStart c n)) ≡ true = limit_kept before (Pool (OpenStart c n)) l.1 in
+    grind (arith, nat_tests, kept, sum_by-append (λ (p : Place). cond (is_open p) 1 0) (places before) (Opening n ∷ []))
 a_thousand_at_most (Pool (Lend c t owner n) ∷ before) l =
     let from = somewhere (place before c) (grind (arith, moves_of before (Lend c t owner n) l.1)) in
     omega (arith, no_more_by_moving (places before) c (Lent t owner) from, a_thousand_at_most before l.0)

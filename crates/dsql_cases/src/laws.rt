@@ -6,7 +6,7 @@ ghost use Rattle.dsql_history.specs.declared.event.Event.{Event};
 ghost use Rattle.dsql_history.specs.declared.event.Event.TheVariants.{Pool};
 ghost use Rattle.dsql_history.specs.declared.event.Move.TheVariants.{OpenStart};
 ghost use Rattle.dsql_history.specs.Readers.Sets.{open_count};
-ghost use Rattle.dsql_history.specs.Rules.Limit.{keeps_limit};
+ghost use Rattle.dsql_history.specs.Rules.Limit.{room, keeps_limit};
 ghost use Rattle.dsql_history.specs.Computed.{is_allowed, is_calm, is_lawful, is_legal, is_settled};
 ghost use Rattle.dsql_history.specs.Legal.{Allowed, Calm, Lawful, Legal};
 ghost use Rattle.dsql_history.specs.Rules.Settled.{Settled};
@@ -36,7 +36,7 @@ pub fn rules_are_computed()
 /// At most a thousand connections are open. Whatever happened before, none begins to be opened where a
 /// thousand are open, and where fewer are the limit allows it.
 pub fn a_thousand_may_be_open()
-    ensures most { (history : List Event) → Lawful history → open_count history ≤ 1000 }
-    ensures full { (before : List Event) (c n : ℕ) → 1000 ≤ open_count before → is_allowed before (Pool (OpenStart c n)) ≡ false }
-    ensures below { (before : List Event) (c n : ℕ) → open_count before < 1000 → keeps_limit before (Pool (OpenStart c n)) ≡ true }
+    ensures most { (history : List Event) → Lawful history → open_count history ≤ room }
+    ensures full { (before : List Event) (c n : ℕ) → room ≤ open_count before → is_allowed before (Pool (OpenStart c n)) ≡ false }
+    ensures below { (before : List Event) (c n : ℕ) → open_count before < room → keeps_limit before (Pool (OpenStart c n)) ≡ true }
 {}

@@ -1,9 +1,10 @@
 -- What is known of a desk that stands, and what an event leaves.
 use Rattle.std.proofs.Common.{◌≡◌, ℕ, ◌≤◌, ◌<◌, false, List, [], ◌∷◌, length, refl, ap, arith}
+use Rattle.dsql_history.specs.Limits.{most_within_a_step}
 use Rattle.dsql_pool.specs.declared.moves.Outcome.{Outcome}
 use Rattle.dsql_pool.specs.declared.moves.Outcome.TheVariants.{Closes, Serves, Rests}
 use Rattle.dsql_pool.specs.Decisions.{moves_back}
-use Rattle.dsql_pool.specs.Pooled.{Pooled}
+use Rattle.dsql_pool.specs.Pooled.{Pooled, most_drawn}
 use Rattle.dsql_clients.specs.declared.event.Event.{Event}
 use Rattle.dsql_clients.specs.declared.event.Event.TheVariants.{Entered}
 use Rattle.dsql_clients.specs.declared.event.Op.{Op}
@@ -13,7 +14,7 @@ use Rattle.dsql_clients.specs.Readers.Owed.{owed}
 use Rattle.dsql_clients.specs.Readers.Pool.{pool}
 use Rattle.dsql_clients.specs.Legal.{Lawful, Calm}
 use Rattle.dsql_client_desk.specs.declared.desk.Desk.{Desk}
-use Rattle.dsql_client_desk.specs.Appending.{is_close, most_within_a_step}
+use Rattle.dsql_client_desk.specs.Appending.{is_close}
 use Rattle.dsql_client_desk.specs.Desk.{past, Stands}
 use Rattle.dsql_client_desk.proofs.Moves.{few_drawn}
 
@@ -25,7 +26,7 @@ pub calm_of : (d : Desk) → Stands d → Calm (past d)
 unfolding Stands
 calm_of d s = s.tables.calm
 
-pub few_openings : (d : Desk) → Stands d → length (past d) < most_within_a_step → d.pool.pooled.drawn ≤ 4000000000
+pub few_openings : (d : Desk) → Stands d → length (past d) < most_within_a_step → d.pool.pooled.drawn ≤ most_drawn
 unfolding Stands
 few_openings d s few =
     let drawn = few_drawn (past d) in

@@ -1,6 +1,7 @@
 -- What the event methods of the desk ask for, and what they leave.
 use Rattle.std.specs.Prelude.{ℕ, Bool, true, false, ◌≡◌, ◌<◌, ◌≤◌, ◌+◌, [], ◌∷◌, length, Option, Some, None, Result, Ok}
 use Rattle.dsql_journal.specs.declared.entry.Owner.TheVariants.{Call}
+use Rattle.dsql_history.specs.Limits.{most_within_a_step}
 use Rattle.dsql_pool.specs.declared.moves.Fate.{Fate}
 use Rattle.dsql_pool.specs.declared.moves.Move.TheVariants.{OpenStart, Lend}
 use Rattle.dsql_pool.specs.declared.request.Asked.{Asked}
@@ -18,10 +19,6 @@ use Rattle.dsql_client_laws.specs.Leaving.{MayLeave}
 use Rattle.dsql_client_laws.specs.OwedMade.{with_moves}
 use Rattle.dsql_client_desk.specs.declared.desk.Desk.{Desk}
 use Rattle.dsql_client_desk.specs.Desk.{past, Stands}
-
--- a history stays under so many events within a step
-abbrev pub most_within_a_step : ℕ
-most_within_a_step = 5000000
 
 -- the event may come next, and there is memory for it and for the moves that it makes due
 pub record MayAppend (desk : Desk) (event : Event) : Type 0 where

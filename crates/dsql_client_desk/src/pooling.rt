@@ -1,7 +1,7 @@
 //! Calls on the pool for which there is memory: they can't fail.
 ghost use Rattle.std.specs.Prelude.{◌≡◌, ◌+◌, ◌<◌, ◌≤◌, [], true, false};
 ghost use Rattle.dsql_pool.specs.Places.{is_lent};
-ghost use Rattle.dsql_pool.specs.Pooled.{place_at};
+ghost use Rattle.dsql_pool.specs.Pooled.{place_at, most_drawn};
 ghost use Rattle.dsql_pool.specs.Moved.{made, shut};
 ghost use Rattle.dsql_pool.specs.Calls.{MayAsk, asks, moves_closed, moves_given_back};
 ghost use Rattle.dsql_pool.specs.Decisions.{ask_outcome};
@@ -18,7 +18,7 @@ use dsql_wait::Request;
 pub fn ask(pool: &mut Pool, call: u32) -> Result<Asked, AskFault>
     requires room { 0 < pool.old.spare }
     requires request { MayAsk (request_at call pool.old.pooled.moment) pool.old.pooled }
-    requires drawn { pool.old.pooled.drawn ≤ 4000000000 }
+    requires drawn { pool.old.pooled.drawn ≤ most_drawn }
     ensures outcome { result ≡ ask_outcome (request_at call pool.old.pooled.moment) pool.old.pooled }
     ensures pooled { pool.new.pooled ≡ asks (request_at call pool.old.pooled.moment) pool.old.pooled }
     ensures spare { pool.old.spare ≤ pool.new.spare + 1 }
@@ -54,7 +54,7 @@ pub fn close(pool: &mut Pool)
 /// Sets a limit.
 pub fn set_limit(pool: &mut Pool, setting: Setting, n: i64)
     requires room { 0 < pool.old.spare }
-    requires drawn { pool.old.pooled.drawn ≤ 4000000000 }
+    requires drawn { pool.old.pooled.drawn ≤ most_drawn }
     ensures moves { pool.new.moves ≡ limit_set setting n pool.old.pooled }
     ensures pooled { pool.new.pooled ≡ made (limit_set setting n pool.old.pooled) (with_limit setting n pool.old.pooled) }
     ensures spare { pool.old.spare ≤ pool.new.spare + 1 }
@@ -73,7 +73,7 @@ pub fn set_limit(pool: &mut Pool, setting: Setting, n: i64)
 pub fn give_back(pool: &mut Pool, conn: u32, fate: Fate)
     requires room { 0 < pool.old.spare }
     requires lent { is_lent (place_at pool.old.pooled conn) ≡ true }
-    requires drawn { pool.old.pooled.drawn ≤ 4000000000 }
+    requires drawn { pool.old.pooled.drawn ≤ most_drawn }
     ensures moves { pool.new.moves ≡ moves_given_back fate conn pool.old.pooled }
     ensures pooled { pool.new.pooled ≡ made (moves_given_back fate conn pool.old.pooled) pool.old.pooled }
     ensures spare { pool.old.spare ≤ pool.new.spare + 1 }
@@ -88,7 +88,7 @@ pub fn give_back(pool: &mut Pool, conn: u32, fate: Fate)
 /// it is gone. Answers whether it was in one of these places; elsewhere the pool stays as it is.
 pub fn answer(pool: &mut Pool, conn: u32, answer: &DriverAnswer) -> bool
     requires room { 0 < pool.old.spare }
-    requires drawn { pool.old.pooled.drawn ≤ 4000000000 }
+    requires drawn { pool.old.pooled.drawn ≤ most_drawn }
     ensures moves { result ≡ true → pool.new.moves ≡ answered answer.now conn pool.old.pooled (place_at pool.old.pooled conn) }
     ensures none { result ≡ false → answered answer.now conn pool.old.pooled (place_at pool.old.pooled conn) ≡ [] }
     ensures pooled { pool.new.pooled ≡ made (answered answer.now conn pool.old.pooled (place_at pool.old.pooled conn)) pool.old.pooled }

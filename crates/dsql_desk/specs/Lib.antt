@@ -1,4 +1,3 @@
-pub mod Limits
 pub mod Clients
 pub mod Labels
 pub mod Latest

@@ -4,7 +4,7 @@ ghost use Rattle.std.specs.Option.{option_copied};
 ghost use Rattle.std.specs.Prelude.{◌≡◌, ◌<◌, Some, Err, IfOk, IfSome, IfNone, true, length, string_bytes, option_map};
 ghost use Rattle.dsql_desk.specs.Desk.{past, Stands};
 ghost use Rattle.dsql_desk.specs.Labels.{label_made};
-ghost use Rattle.dsql_desk.specs.Limits.{most_within_a_step};
+ghost use Rattle.dsql_history.specs.Limits.{most_within_a_step};
 ghost use Rattle.dsql_desk.specs.Statements.{Enters, EntersText, Goes, IsNamed, NoneNamed, IsLook};
 ghost use Rattle.dsql_history.specs.Readers.Calls.{scan_reply, fault_reply, told_row};
 ghost use Rattle.dsql_history.specs.Readers.HandedOut.{handed_out};

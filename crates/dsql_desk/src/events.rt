@@ -2,7 +2,7 @@
 ghost use Rattle.std.specs.Prelude.{◌≡◌, ◌<◌, None, length};
 ghost use Rattle.dsql_desk.specs.Appending.{MayAppend, MayTell, Appends};
 ghost use Rattle.dsql_desk.specs.Desk.{past};
-ghost use Rattle.dsql_desk.specs.Limits.{most_within_a_step};
+ghost use Rattle.dsql_history.specs.Limits.{most_within_a_step};
 ghost use Rattle.dsql_desk.specs.Rows.{HearsRows};
 ghost use Rattle.dsql_desk.specs.Statements.{Starts};
 ghost use Rattle.dsql_desk.specs.Told.{Decides, reply_as};

@@ -3,7 +3,7 @@ ghost use Rattle.std.specs.Prelude.{◌≡◌, ◌<◌, is_some, length, nat_lt,
 ghost use Rattle.dsql_desk.specs.Clients.{call_of};
 ghost use Rattle.dsql_desk.specs.Desk.{past, Stands};
 ghost use Rattle.dsql_desk.specs.Latest.{latest, oldest};
-ghost use Rattle.dsql_desk.specs.Limits.{most_within_a_step};
+ghost use Rattle.dsql_history.specs.Limits.{most_within_a_step};
 ghost use Rattle.dsql_desk.specs.Statements.{statement_of};
 ghost use Rattle.dsql_history.specs.Readers.Calls.{nobody, home, next_call, worker, sender, reply_due};
 ghost use Rattle.dsql_history.specs.Readers.Course.{caps, has_ended};

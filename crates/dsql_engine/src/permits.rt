@@ -1,7 +1,7 @@
 //! Leave for the layer's own driver calls.
 ghost use Rattle.std.specs.Prelude.{◌≡◌, ◌<◌, Some, length, IfOk, true};
 ghost use Rattle.dsql_desk.specs.Desk.{past, Stands};
-ghost use Rattle.dsql_desk.specs.Limits.{most_within_a_step};
+ghost use Rattle.dsql_history.specs.Limits.{most_within_a_step};
 ghost use Rattle.dsql_engine.specs.Awaited.{awaited, shut_permit, connect_permit};
 ghost use Rattle.dsql_history.specs.Readers.Sets.{place, next_tenure};
 ghost use Rattle.dsql_history.specs.Rules.House.{is_untidy};

@@ -63,9 +63,9 @@ pub pool_then : (ms : List Move) (p q r : Pooled) → q ≡ made ms p → r ≡ 
 pool_then ms p q r e f =
     f ∙ (ap (λ (s : Pooled). made (openings_for_waiting s) s) e ∙ sym (made_append ms (openings_for_waiting (made ms p)) p))
 
-pub room_most : (p : Pooled) → room p ≤ 1000
+pub room_most : (p : Pooled) → room p ≤ most_open
 room_most p =
-    elim (is_limited p) as (λ b. is_limited p ≡ b → cond b p.limits.max_open most_open ≤ 1000) [
+    elim (is_limited p) as (λ b. is_limited p ≡ b → cond b p.limits.max_open most_open ≤ most_open) [
       | true ↦ λ limited. grind (arith, nat_tests)
       | false ↦ λ not. omega arith
     ] refl

@@ -38,7 +38,7 @@ waits_at r p true takes o t h = cc
 waits_at r p false true o t h = cc
 waits_at r p false false o t h = waits_without r p (are_too_many p) (may_open p) o t refl refl h
 
-many_are_open : (p : Pooled) → are_too_many p ≡ true → (is_limited p ≡ false) × (1000 ≤ open_count p)
+many_are_open : (p : Pooled) → are_too_many p ≡ true → (is_limited p ≡ false) × (most_open ≤ open_count p)
 many_are_open p h = (second (nat_le most_open (open_count p)) (is_limited p) h, true_le most_open (open_count p) (first (nat_le most_open (open_count p)) (is_limited p) h))
   where
     first : (a b : Bool) → (a && not b) ≡ true → a ≡ true
@@ -50,12 +50,12 @@ many_are_open p h = (second (nat_le most_open (open_count p)) (is_limited p) h, 
     second true false h = refl
     second false b h = cc
 
-refused_without : (p : Pooled) (many may : Bool) → are_too_many p ≡ many → cond many (Err TooMany) (cond may (Ok (asked.Opening (next_number p))) (Ok asked.Queued)) ≡ Err TooMany → (is_limited p ≡ false) × (1000 ≤ open_count p)
+refused_without : (p : Pooled) (many may : Bool) → are_too_many p ≡ many → cond many (Err TooMany) (cond may (Ok (asked.Opening (next_number p))) (Ok asked.Queued)) ≡ Err TooMany → (is_limited p ≡ false) × (most_open ≤ open_count p)
 refused_without p true may e h = many_are_open p e
 refused_without p false true e h = cc
 refused_without p false false e h = cc
 
-refused_at : (p : Pooled) (closed takes : Bool) → cond closed (Ok asked.Closed) (cond takes (Ok (asked.Lent (last p.idle) (next_tenure p (last p.idle)))) (when_none_idle p)) ≡ Err TooMany → (is_limited p ≡ false) × (1000 ≤ open_count p)
+refused_at : (p : Pooled) (closed takes : Bool) → cond closed (Ok asked.Closed) (cond takes (Ok (asked.Lent (last p.idle) (next_tenure p (last p.idle)))) (when_none_idle p)) ≡ Err TooMany → (is_limited p ≡ false) × (most_open ≤ open_count p)
 refused_at p true takes h = cc
 refused_at p false true h = cc
 refused_at p false false h = refused_without p (are_too_many p) (may_open p) refl h

@@ -10,7 +10,7 @@ use Rattle.dsql_pool.specs.declared.moves.Outcome.TheVariants.{Serves, Rests}
 use Rattle.dsql_pool.specs.declared.request.Asked.TheVariants as asked
 use Rattle.dsql_pool.specs.declared.request.AskFault.TheVariants.{TooMany}
 use Rattle.dsql_pool.specs.Counted.{saturated, largest_total}
-use Rattle.dsql_pool.specs.Pooled.{Pooled, fresh, place_at, open_count, next_number, next_tenure, is_limited, room}
+use Rattle.dsql_pool.specs.Pooled.{Pooled, fresh, place_at, open_count, next_number, next_tenure, is_limited, most_open, room}
 use Rattle.dsql_pool.specs.Moved.{made, begun, joined}
 use Rattle.dsql_pool.specs.Decisions.{takes_idle, ask_outcome, due_openings, openings, when_good, when_given_back, when_unwanted, falls_to}
 use Rattle.dsql_pool.specs.Calls.{moves_given_back, moves_opened}
@@ -30,7 +30,7 @@ pub record WaitsOnlyAtTheLimit : Type 0 where
   pub no_room : (r : Request) (p : Pooled) → ask_outcome r p ≡ Ok asked.Queued → room p ≤ open_count p
   pub still_open : (r : Request) (p : Pooled) → ask_outcome r p ≡ Ok asked.Queued → p.closed ≡ false
   -- and is refused only where no limit lets it wait
-  pub refused : (r : Request) (p : Pooled) → ask_outcome r p ≡ Err TooMany → (is_limited p ≡ false) × (1000 ≤ open_count p)
+  pub refused : (r : Request) (p : Pooled) → ask_outcome r p ≡ Err TooMany → (is_limited p ≡ false) × (most_open ≤ open_count p)
 
 -- who came first is served first
 pub record ServesTheOldest : Type 0 where

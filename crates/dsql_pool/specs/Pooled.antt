@@ -61,8 +61,22 @@ next_number p = p.opened + 1
 abbrev pub next_tenure : Pooled → ℕ → ℕ
 next_tenure p c = lends_of c p.conns + 2
 
+-- the most connections that are open at a time, whatever the limits
 abbrev pub most_open : ℕ
 most_open = 1000
+
+-- the most moves of a call beside its closings of idle connections: one, and the openings that are due
+abbrev pub most_other_moves : ℕ
+most_other_moves = most_open + 1
+
+-- so many openings and lendings may have begun before a call, so that numbers of connections and tenures fit 32 bits
+-- behind it too
+abbrev pub most_drawn : ℕ
+most_drawn = 4000000000
+
+-- and within a call they are fewer than these: a tenure's number may be larger than their count by two
+abbrev pub most_drawn_within_a_call : ℕ
+most_drawn_within_a_call = 4294967290
 
 -- the open limit is one that may be reached
 abbrev pub is_limited : Pooled → Bool

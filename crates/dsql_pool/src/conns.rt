@@ -1,6 +1,7 @@
 ghost use Rattle.std.specs.Prelude.{◌≡◌, ◌+◌, ◌<◌, ◌≤◌, [], ◌∷◌, ◌++◌, length, map, count_by, vec_len, vec_capacity, position, ◌==◌, OnOk, OnErr, IfSome};
 ghost use Rattle.std.specs.List.{list_any};
 ghost use Rattle.dsql_pool.specs.Places.{conn_of, is_for, is_free};
+ghost use Rattle.dsql_pool.specs.Pooled.{most_drawn_within_a_call};
 ghost use Rattle.dsql_pool.specs.Changes.{changed, opening, lent, back, closing, gone, unwanted, unwanted_by};
 
 use crate::conn::Conn;
@@ -88,7 +89,7 @@ impl Conns {
 
     /// The number that the next one gets.
     pub fn next_number(&self) -> u32
-        requires { self.now.drawn < 4294967290 }
+        requires { self.now.drawn < most_drawn_within_a_call }
         ensures { result ≡ self.now.opened + 1 }
     {
         self.opened + 1
@@ -106,7 +107,7 @@ impl Conns {
     /// An opening begins, for the request of an owner or for none of its own.
     pub fn begin(&mut self, wanted: Option<Owner>)
         requires room { length self.old.conns < self.old.capacity }
-        requires drawn { self.old.drawn < 4294967290 }
+        requires drawn { self.old.drawn < most_drawn_within_a_call }
         ensures conns { self.new.conns ≡ self.old.conns ++ opening (self.old.opened + 1) wanted ∷ [] }
         ensures opened { self.new.opened ≡ self.old.opened + 1 }
         ensures drawn { self.new.drawn ≡ self.old.drawn + 1 }
@@ -123,7 +124,7 @@ impl Conns {
 
     /// A connection is lent, if it is open.
     pub fn lend(&mut self, conn: u32, tenure: u32, owner: Owner, moment: u64)
-        requires { self.old.drawn < 4294967290 }
+        requires { self.old.drawn < most_drawn_within_a_call }
         ensures conns { self.new.conns ≡ changed conn (lent tenure owner moment) self.old.conns }
         ensures opened { self.new.opened ≡ self.old.opened }
         ensures drawn { self.new.drawn ≡ self.old.drawn + 1 }

@@ -43,7 +43,7 @@ pub struct Pool {
 
 impl Model for Pool {
     ghost use Rattle.std.specs.Prelude.{◌+◌, ◌-◌, length, min, nat_le, if◌then◌else◌, vec_len, vec_capacity};
-    ghost use Rattle.dsql_pool.specs.Pooled.{Table};
+    ghost use Rattle.dsql_pool.specs.Pooled.{Table, most_open, most_other_moves};
 
     ghost Value = { Table };
 
@@ -60,13 +60,13 @@ impl Model for Pool {
         drawn = p.conns.drawn;
       };
       moves = p.moves.items;
-      spare = if nat_le 1000 p.conns.capacity then min p.waiting.spare (min (vec_capacity p.idle - vec_len p.idle) (vec_capacity p.moves - (1001 + vec_len p.idle))) else 0;
+      spare = if nat_le most_open p.conns.capacity then min p.waiting.spare (min (vec_capacity p.idle - vec_len p.idle) (vec_capacity p.moves - (most_other_moves + vec_len p.idle))) else 0;
       capacity = vec_capacity p.moves;
     } };
 }
 
 impl Pool {
-    ghost use Rattle.dsql_pool.specs.Pooled.{fresh, open_count, place_at};
+    ghost use Rattle.dsql_pool.specs.Pooled.{fresh, open_count, place_at, most_other_moves};
 
     /// No connections, under the standard limits, at the moment 0. It takes no memory.
     pub fn new(alloc: Global) -> Pool
@@ -89,7 +89,7 @@ impl Pool {
     pub fn reserve(&mut self, calls: u32) -> Result<(), Memory>
         ensures ok { OnOk result (calls ≤ self.new.spare) }
         ensures full { OnErr result (self.old.spare < calls) }
-        ensures room { OnOk result (0 < calls → 1001 + length self.new.pooled.idle ≤ self.new.capacity) }
+        ensures room { OnOk result (0 < calls → most_other_moves + length self.new.pooled.idle ≤ self.new.capacity) }
         ensures pooled { self.new.pooled ≡ self.old.pooled }
         ensures moves { self.new.moves ≡ self.old.moves }
         ensures spare { self.old.spare ≤ self.new.spare }
@@ -108,7 +108,7 @@ impl Pool {
     // There is memory for a call, which has made no move yet.
     fn make_ready(&mut self) -> Result<(), Memory>
         ensures ok { OnOk result (0 < self.new.spare) }
-        ensures room { OnOk result (1001 + length self.new.pooled.idle ≤ self.new.capacity) }
+        ensures room { OnOk result (most_other_moves + length self.new.pooled.idle ≤ self.new.capacity) }
         ensures full { OnErr result (self.old.spare ≡ 0) }
         ensures pooled { self.new.pooled ≡ self.old.pooled }
         ensures moves { self.new.moves ≡ [] }

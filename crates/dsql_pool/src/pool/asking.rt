@@ -8,16 +8,16 @@ use dsql_wait::Request;
 
 impl Pool {
     ghost use Rattle.dsql_wait.specs.Requests.{waits};
-    ghost use Rattle.dsql_pool.specs.Pooled.{open_count};
+    ghost use Rattle.dsql_pool.specs.Pooled.{open_count, most_open, most_drawn};
     ghost use Rattle.dsql_pool.specs.Moved.{joined};
     ghost use Rattle.dsql_pool.specs.Decisions.{ask_outcome, when_none_idle};
     ghost use Rattle.dsql_pool.specs.Calls.{MayAsk, asks, moves_asked};
 
     // What a request becomes that takes no idle connection.
     fn when_none_idle(&self) -> Result<Asked, AskFault>
-        requires { self.now.pooled.drawn ≤ 4000000000 }
+        requires { self.now.pooled.drawn ≤ most_drawn }
         ensures outcome { result ≡ when_none_idle self.now.pooled }
-        ensures few { (c : ℕ) → result ≡ Ok (Asked.Opening c) → open_count self.now.pooled < 1000 }
+        ensures few { (c : ℕ) → result ≡ Ok (Asked.Opening c) → open_count self.now.pooled < most_open }
     {
         let open = self.conns.count();
         let most = self.limits.max_open;
@@ -32,9 +32,9 @@ impl Pool {
 
     // What a request becomes.
     fn when_asked(&self, request: &Request) -> Result<Asked, AskFault>
-        requires { self.now.pooled.drawn ≤ 4000000000 }
+        requires { self.now.pooled.drawn ≤ most_drawn }
         ensures outcome { result ≡ ask_outcome request.now self.now.pooled }
-        ensures few { (c : ℕ) → result ≡ Ok (Asked.Opening c) → open_count self.now.pooled < 1000 }
+        ensures few { (c : ℕ) → result ≡ Ok (Asked.Opening c) → open_count self.now.pooled < most_open }
     {
         if self.closed {
             return Ok(Asked::Closed);
@@ -67,7 +67,7 @@ impl Pool {
     /// asks for a new connection.
     pub fn ask(&mut self, request: Request) -> Result<Asked, AskFault>
         requires request { MayAsk request self.old.pooled }
-        requires drawn { self.old.pooled.drawn ≤ 4000000000 }
+        requires drawn { self.old.pooled.drawn ≤ most_drawn }
         ensures outcome { IfOk result (λ asked. ask_outcome request self.old.pooled ≡ Ok asked) }
         ensures ok { OnOk result (self.new.pooled ≡ asks request self.old.pooled) }
         ensures moves { OnOk result (self.new.moves ≡ moves_asked request (ask_outcome request self.old.pooled)) }

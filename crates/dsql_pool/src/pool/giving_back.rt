@@ -9,7 +9,7 @@ use dsql_value::Memory;
 
 impl Pool {
     ghost use Rattle.dsql_pool.specs.Places.{is_idle, is_lent};
-    ghost use Rattle.dsql_pool.specs.Pooled.{place_at, next_tenure};
+    ghost use Rattle.dsql_pool.specs.Pooled.{place_at, next_tenure, most_drawn};
     ghost use Rattle.dsql_pool.specs.Moved.{made, moved};
     ghost use Rattle.dsql_pool.specs.Decisions.{when_kept, when_good, when_given_back, lends_to_oldest};
     ghost use Rattle.dsql_pool.specs.Calls.{moves_given_back, moves_lent_house};
@@ -64,7 +64,7 @@ impl Pool {
     // A connection is lent to the oldest request, if one waits.
     pub(super) fn serve_oldest(&mut self, conn: u32)
         requires space { length self.old.moves < self.old.capacity }
-        requires drawn { self.old.pooled.drawn ≤ 4000000000 }
+        requires drawn { self.old.pooled.drawn ≤ most_drawn }
         ensures pooled { self.new.pooled ≡ made (lends_to_oldest conn (next_tenure self.old.pooled conn) self.old.pooled.waiting) self.old.pooled }
         ensures moves { self.new.moves ≡ self.old.moves ++ lends_to_oldest conn (next_tenure self.old.pooled conn) self.old.pooled.waiting }
         ensures spare { self.old.spare ≤ self.new.spare }
@@ -82,7 +82,7 @@ impl Pool {
     /// `fate` is what was said against it. After `DB.putConn` of Go's package.
     pub fn give_back(&mut self, conn: u32, fate: Fate) -> Result<(), Memory>
         requires lent { is_lent (place_at self.old.pooled conn) ≡ true }
-        requires drawn { self.old.pooled.drawn ≤ 4000000000 }
+        requires drawn { self.old.pooled.drawn ≤ most_drawn }
         ensures moves { OnOk result (self.new.moves ≡ moves_given_back fate conn self.old.pooled) }
         ensures ok { OnOk result (self.new.pooled ≡ made (moves_given_back fate conn self.old.pooled) self.old.pooled) }
         ensures full { OnErr result (self.old.spare ≡ 0) }
@@ -105,7 +105,7 @@ impl Pool {
     /// tenure.
     pub fn lend_house(&mut self, conn: u32) -> Result<u32, Memory>
         requires idle { is_idle (place_at self.old.pooled conn) ≡ true }
-        requires drawn { self.old.pooled.drawn ≤ 4000000000 }
+        requires drawn { self.old.pooled.drawn ≤ most_drawn }
         ensures tenure { IfOk result (λ tenure. tenure ≡ next_tenure self.old.pooled conn) }
         ensures moves { OnOk result (self.new.moves ≡ moves_lent_house conn self.old.pooled) }
         ensures ok { OnOk result (self.new.pooled ≡ made (moves_lent_house conn self.old.pooled) self.old.pooled) }

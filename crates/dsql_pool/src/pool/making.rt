@@ -7,7 +7,7 @@ use crate::pool::Pool;
 use dsql_journal::Owner;
 
 impl Pool {
-    ghost use Rattle.dsql_pool.specs.Pooled.{open_count, next_number, next_tenure};
+    ghost use Rattle.dsql_pool.specs.Pooled.{open_count, next_number, next_tenure, most_open, most_drawn, most_drawn_within_a_call};
     ghost use Rattle.dsql_pool.specs.Moved.{moved, left, begun, lent_out};
     ghost use Rattle.dsql_pool.specs.declared.moves.Move.{Move};
     ghost use Rattle.dsql_pool.specs.declared.moves.Move.TheVariants.{OpenStart, Lend, Back, CloseStart, Gone, Fell};
@@ -29,7 +29,7 @@ impl Pool {
 
     // The number of a connection's next tenure.
     pub(super) fn next_tenure(&self, conn: u32) -> u32
-        requires { self.now.pooled.drawn ≤ 4000000000 }
+        requires { self.now.pooled.drawn ≤ most_drawn }
         ensures { result ≡ next_tenure self.now.pooled conn }
     {
         match self.conns.at(conn) {
@@ -40,7 +40,7 @@ impl Pool {
 
     // A connection is lent, whoever waits.
     fn lend(&mut self, conn: u32, tenure: u32, owner: Owner)
-        requires { self.old.pooled.drawn < 4294967290 }
+        requires { self.old.pooled.drawn < most_drawn_within_a_call }
         ensures pooled { self.new.pooled ≡ lent_out conn tenure owner self.old.pooled }
         ensures moves { self.new.moves ≡ self.old.moves }
         ensures spare { self.old.spare ≤ self.new.spare }
@@ -64,7 +64,7 @@ impl Pool {
     // A connection is lent to an owner for a call, which waits no longer.
     pub(super) fn make_lend(&mut self, conn: u32, owner: Owner, call: u32)
         requires space { length self.old.moves < self.old.capacity }
-        requires drawn { self.old.pooled.drawn ≤ 4000000000 }
+        requires drawn { self.old.pooled.drawn ≤ most_drawn }
         ensures pooled { self.new.pooled ≡ moved (Lend conn (next_tenure self.old.pooled conn) owner call) self.old.pooled }
         ensures moves { self.new.moves ≡ self.old.moves ++ Lend conn (next_tenure self.old.pooled conn) owner call ∷ [] }
         ensures spare { self.old.spare ≤ self.new.spare }
@@ -169,8 +169,8 @@ impl Pool {
     // An opening begins, for the request of an owner or for none of its own.
     fn begin(&mut self, wanted: Option<Owner>)
         requires room { 0 < self.old.spare }
-        requires few { open_count self.old.pooled < 1000 }
-        requires drawn { self.old.pooled.drawn < 4294967290 }
+        requires few { open_count self.old.pooled < most_open }
+        requires drawn { self.old.pooled.drawn < most_drawn_within_a_call }
         ensures pooled { self.new.pooled ≡ begun wanted self.old.pooled }
         ensures moves { self.new.moves ≡ self.old.moves }
         ensures spare { self.old.spare ≤ self.new.spare }
@@ -182,9 +182,9 @@ impl Pool {
     // An opening begins for a call, where that is the number of an owner, or for none of its own.
     pub(super) fn make_opening(&mut self, wanted: Option<Owner>, call: u32)
         requires room { 0 < self.old.spare }
-        requires few { open_count self.old.pooled < 1000 }
+        requires few { open_count self.old.pooled < most_open }
         requires space { length self.old.moves < self.old.capacity }
-        requires drawn { self.old.pooled.drawn < 4294967290 }
+        requires drawn { self.old.pooled.drawn < most_drawn_within_a_call }
         ensures pooled { self.new.pooled ≡ begun wanted self.old.pooled }
         ensures moves { self.new.moves ≡ self.old.moves ++ OpenStart (next_number self.old.pooled) call ∷ [] }
         ensures len { length self.new.moves ≡ length self.old.moves + 1 }

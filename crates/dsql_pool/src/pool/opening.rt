@@ -10,7 +10,7 @@ use dsql_value::Memory;
 impl Pool {
     ghost use Rattle.dsql_pool.specs.Places.{is_opening, is_closing};
     ghost use Rattle.dsql_journal.specs.Kinds.{number_of};
-    ghost use Rattle.dsql_pool.specs.Pooled.{room, place_at, next_tenure};
+    ghost use Rattle.dsql_pool.specs.Pooled.{room, place_at, next_tenure, most_open, most_drawn};
     ghost use Rattle.dsql_pool.specs.Moved.{made, moved};
     ghost use Rattle.dsql_pool.specs.Decisions.{when_unwanted, moves_unwanted, falls_to, due_openings, openings_for_waiting};
     ghost use Rattle.dsql_pool.specs.Calls.{moves_opened, moves_failed, moves_gone};
@@ -21,7 +21,7 @@ impl Pool {
     fn place_unwanted(&mut self, conn: u32)
         requires room { 0 < self.old.spare }
         requires space { length self.old.moves < self.old.capacity }
-        requires drawn { self.old.pooled.drawn ≤ 4000000000 }
+        requires drawn { self.old.pooled.drawn ≤ most_drawn }
         ensures pooled { self.new.pooled ≡ made (moves_unwanted conn self.old.pooled (when_unwanted self.old.pooled)) self.old.pooled }
         ensures moves { self.new.moves ≡ self.old.moves ++ moves_unwanted conn self.old.pooled (when_unwanted self.old.pooled) }
         ensures spare { self.old.spare ≤ self.new.spare + 1 }
@@ -37,7 +37,7 @@ impl Pool {
     /// it; else it is closed, goes to the oldest request, or is idle.
     pub fn opened(&mut self, conn: u32) -> Result<(), Memory>
         requires opening { is_opening (place_at self.old.pooled conn) ≡ true }
-        requires drawn { self.old.pooled.drawn ≤ 4000000000 }
+        requires drawn { self.old.pooled.drawn ≤ most_drawn }
         ensures moves { OnOk result (self.new.moves ≡ moves_opened conn self.old.pooled) }
         ensures ok { OnOk result (self.new.pooled ≡ made (moves_opened conn self.old.pooled) self.old.pooled) }
         ensures full { OnErr result (self.old.spare ≡ 0) }
@@ -94,8 +94,8 @@ impl Pool {
     // The openings that are due begin.
     pub(super) fn begin_due(&mut self)
         requires room { 0 < self.old.spare }
-        requires space { length self.old.moves + 1000 ≤ self.old.capacity }
-        requires drawn { self.old.pooled.drawn ≤ 4000000000 }
+        requires space { length self.old.moves + most_open ≤ self.old.capacity }
+        requires drawn { self.old.pooled.drawn ≤ most_drawn }
         ensures pooled { self.new.pooled ≡ made (openings_for_waiting self.old.pooled) self.old.pooled }
         ensures moves { self.new.moves ≡ self.old.moves ++ openings_for_waiting self.old.pooled }
         ensures spare { self.old.spare ≤ self.new.spare }
@@ -110,7 +110,7 @@ impl Pool {
     /// wants it, else to the oldest request, else to nobody; then openings begin that are due.
     pub fn open_failed(&mut self, conn: u32) -> Result<(), Memory>
         requires opening { is_opening (place_at self.old.pooled conn) ≡ true }
-        requires drawn { self.old.pooled.drawn ≤ 4000000000 }
+        requires drawn { self.old.pooled.drawn ≤ most_drawn }
         ensures moves { OnOk result (self.new.moves ≡ moves_failed conn self.old.pooled) }
         ensures ok { OnOk result (self.new.pooled ≡ made (moves_failed conn self.old.pooled) self.old.pooled) }
         ensures full { OnErr result (self.old.spare ≡ 0) }
@@ -128,7 +128,7 @@ impl Pool {
     /// package.
     pub fn gone(&mut self, conn: u32) -> Result<(), Memory>
         requires closing { is_closing (place_at self.old.pooled conn) ≡ true }
-        requires drawn { self.old.pooled.drawn ≤ 4000000000 }
+        requires drawn { self.old.pooled.drawn ≤ most_drawn }
         ensures moves { OnOk result (self.new.moves ≡ moves_gone conn self.old.pooled) }
         ensures ok { OnOk result (self.new.pooled ≡ made (moves_gone conn self.old.pooled) self.old.pooled) }
         ensures full { OnErr result (self.old.spare ≡ 0) }

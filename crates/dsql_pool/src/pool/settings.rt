@@ -9,6 +9,7 @@ use dsql_time::{Limits, with_idle, with_open};
 use dsql_value::Memory;
 
 impl Pool {
+    ghost use Rattle.dsql_pool.specs.Pooled.{most_drawn};
     ghost use Rattle.dsql_pool.specs.Moved.{made, moved, limited};
     ghost use Rattle.dsql_pool.specs.Moved as changes;
     ghost use Rattle.dsql_pool.specs.Decisions.{starts_closing, closings_of_setting};
@@ -126,7 +127,7 @@ impl Pool {
     /// Sets the open limit, as Go's `DB.SetMaxOpenConns`. Surplus idle connections close, the longest idle
     /// first; then openings begin that are due.
     pub fn set_open(&mut self, n: i64) -> Result<(), Memory>
-        requires { self.old.pooled.drawn ≤ 4000000000 }
+        requires { self.old.pooled.drawn ≤ most_drawn }
         ensures moves { OnOk result (self.new.moves ≡ moves_open_set n self.old.pooled) }
         ensures ok { OnOk result (self.new.pooled ≡ made (moves_open_set n self.old.pooled) (open_set n self.old.pooled)) }
         ensures full { OnErr result (self.old.spare ≡ 0) }
