@@ -6,3 +6,5 @@ pub mod Reaching
 pub mod Entering
 pub mod Hearing
 pub mod Steps
+pub mod Waking
+pub mod Ending

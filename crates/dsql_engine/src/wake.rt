@@ -1,19 +1,16 @@
 //! A client's unfinished call looks at its connection again.
-ghost use Rattle.std.specs.Prelude.{◌≡◌, [], true, false};
+ghost use Rattle.std.specs.Prelude.{◌≡◌, [], false};
 ghost use Rattle.dsql_desk.specs.Desk.{past, Stands};
 ghost use Rattle.dsql_desk.specs.Statements.{statement_of};
 ghost use Rattle.dsql_engine.specs.Groups.{after_using, told, events_of_a_step};
 ghost use Rattle.dsql_engine.specs.Reaching.{CanPay, Reaches};
-ghost use Rattle.dsql_engine.specs.Steps.{NextOfUse, NextOfWake, IsParkedAt};
-ghost use Rattle.dsql_engine.specs.Turns.{TakesTurns};
+ghost use Rattle.dsql_engine.specs.Steps.{NextOfUse, NextOfWake};
+ghost use Rattle.dsql_engine.specs.Waking.{MayWake};
 ghost use Rattle.dsql_history.specs.Readers.Calls.{home};
 ghost use Rattle.dsql_history.specs.Readers.Journals.{heard_in};
 ghost use Rattle.dsql_history.specs.Readers.Sets.{place, is_for};
-ghost use Rattle.dsql_history.specs.Readers.Unfinished.{is_unfinished};
-ghost use Rattle.dsql_history.specs.Readers.Works.{work, asks};
 ghost use Rattle.dsql_history.specs.Rules.Settled.{Settled};
 ghost use Rattle.dsql_history.specs.declared.record.Place.TheVariants.{Lent};
-ghost use Rattle.dsql_journal.specs.Readers.{is_empty};
 ghost use Rattle.dsql_journal.specs.declared.entry.Owner.TheVariants.{Call};
 
 use crate::lent::use_lent;
@@ -25,12 +22,7 @@ use dsql_history::{Place, Reply};
 /// heard yet, and replies where its connection was refused.
 pub fn wake_call(desk: &mut Desk, call: u32, statement: Statement) -> Next
     requires pays { CanPay desk.old events_of_a_step }
-    requires settled { Settled (past desk.old) }
-    requires turns { TakesTurns (past desk.old) }
-    requires begun { is_empty (past desk.old) ≡ false }
-    requires unfinished { is_unfinished (past desk.old) call ≡ true }
-    requires asks { asks (work (past desk.old) call) ≡ true }
-    requires parked { IsParkedAt (place (past desk.old) (home (past desk.old) call)) (home (past desk.old) call) (past desk.old) }
+    requires may { MayWake (past desk.old) call }
     requires statement { statement ≡ statement_of (past desk.old) call }
     ensures stands { Stands desk.new }
     ensures settled { Settled (past desk.new) }
@@ -49,10 +41,7 @@ pub fn wake_call(desk: &mut Desk, call: u32, statement: Statement) -> Next
 /// A call whose connection was refused replies.
 fn wake_fallen(desk: &mut Desk, call: u32) -> Next
     requires pays { CanPay desk.old events_of_a_step }
-    requires settled { Settled (past desk.old) }
-    requires begun { is_empty (past desk.old) ≡ false }
-    requires unfinished { is_unfinished (past desk.old) call ≡ true }
-    requires asks { asks (work (past desk.old) call) ≡ true }
+    requires may { MayWake (past desk.old) call }
     requires free { is_for call (place (past desk.old) (home (past desk.old) call)) ≡ false }
     ensures reaches { Reaches desk.new (told call (past desk.old)) }
     ensures next { result ≡ Next.Reply call }
@@ -64,8 +53,7 @@ fn wake_fallen(desk: &mut Desk, call: u32) -> Next
 /// A call uses the connection that was lent to it, on which nothing was heard yet.
 fn wake_lent(desk: &mut Desk, conn: u32, tenure: u32, call: u32, statement: Statement) -> Next
     requires pays { CanPay desk.old events_of_a_step }
-    requires settled { Settled (past desk.old) }
-    requires turns { TakesTurns (past desk.old) }
+    requires may { MayWake (past desk.old) call }
     requires lent { place (past desk.old) conn ≡ Lent tenure (Call call) }
     requires fresh { heard_in (past desk.old) conn tenure ≡ [] }
     requires statement { statement ≡ statement_of (past desk.old) call }

@@ -10,13 +10,13 @@ end-requires-clause-may c =
     record {
       stands = search rules;
       paid = search rules;
-      allowed = may_end (past c.args.desk.now) c.requires.settled c.requires.begun c.requires.quiet c.requires.running;
+      allowed = may_end (past c.args.desk.now) c.requires.may.settled c.requires.may.begun c.requires.may.quiet c.requires.may.running;
     }
 
 pub loop-conn-init : goal.loop-conn-init
 loop-conn-init c = record {
   stands = c.end.ensures.stands;
-  winding = rw c.end.ensures.event (winding_first (past c.args.desk.now) (lawful_of _ c.requires.pays.stands) c.requires.settled c.requires.quiet c.requires.running);
+  winding = rw c.end.ensures.event (winding_first (past c.args.desk.now) (lawful_of _ c.requires.pays.stands) c.requires.may.settled c.requires.may.quiet c.requires.may.running);
   group = rw c.end.ensures.event refl;
   paid = rw c.end.ensures.event (omega (arith, c.end.ensures.paid, c.requires.pays.paid));
 }

@@ -11,8 +11,8 @@ tell-requires c =
     record {
       stands = search rules;
       paid = search rules;
-      decided = settled_fallen H c.args.call c.requires.settled c.requires.unfinished c.requires.asks c.requires.free;
-      allowed = λ r due. may_tell_fallen H c.args.call r c.requires.settled c.requires.begun c.requires.unfinished c.requires.asks c.requires.free due;
+      decided = settled_fallen H c.args.call c.requires.may.settled c.requires.may.unfinished c.requires.may.parked.0 c.requires.free;
+      allowed = λ r due. may_tell_fallen H c.args.call r c.requires.may.settled c.requires.may.begun c.requires.may.unfinished c.requires.may.parked.0 c.requires.free due;
     }
 
 pub returns-clause-reaches : goal.returns-clause-reaches
@@ -20,7 +20,7 @@ returns-clause-reaches c = record {
   stands = search rules;
   settled = (let H = past c.args.desk.now in
       let m = rw c.tell.ensures.event at (lawful_of _ c.tell.ensures.stands) in
-      let some = settled_fallen H c.args.call c.requires.settled c.requires.unfinished c.requires.asks c.requires.free in
-      rw c.tell.ensures.event (when_told H c.args.call some m (λ r w. settled_told_fallen H c.args.call r c.requires.settled c.requires.unfinished c.requires.asks c.requires.free w)));
+      let some = settled_fallen H c.args.call c.requires.may.settled c.requires.may.unfinished c.requires.may.parked.0 c.requires.free in
+      rw c.tell.ensures.event (when_told H c.args.call some m (λ r w. settled_told_fallen H c.args.call r c.requires.may.settled c.requires.may.unfinished c.requires.may.parked.0 c.requires.free w)));
   group = c.tell.ensures.event;
 }

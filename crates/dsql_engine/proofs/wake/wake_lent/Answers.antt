@@ -20,7 +20,7 @@ use_lent-requires-clause-due c =
     c.first_call_on-next.ensures ∙ rw c.requires.statement (sym d)
 
 pub use_lent-requires-clause-settled : goal.use_lent-requires-clause-settled
-use_lent-requires-clause-settled c = but_of (past c.args.desk.now) c.args.conn c.requires.settled
+use_lent-requires-clause-settled c = but_of (past c.args.desk.now) c.args.conn c.requires.may.settled
 
 pub use_lent-requires-clause-alone : goal.use_lent-requires-clause-alone
-use_lent-requires-clause-alone c = alone_of (past c.args.desk.now) c.args.call c.requires.turns
+use_lent-requires-clause-alone c = alone_of (past c.args.desk.now) c.args.call c.requires.may.turns

@@ -11,14 +11,14 @@ use Rattle.dsql_engine.proofs.engine.Engine.wake.Goals as goal
 pub invariant_of-self : goal.invariant_of-self
 invariant_of-self c = (c.pay.ensures.stands, rw c.pay.ensures.past c.self.invariant.1, rw c.pay.ensures.past c.self.invariant.2, rw c.pay.ensures.past c.self.invariant.3)
 
-pub wake_call-requires-clause-settled : goal.wake_call-requires-clause-settled
-wake_call-requires-clause-settled c = rw c.pay.ensures.past c.self.invariant.1
-
-pub wake_call-requires-clause-turns : goal.wake_call-requires-clause-turns
-wake_call-requires-clause-turns c = rw c.pay.ensures.past c.self.invariant.3
-
-pub wake_call-requires-clause-unfinished : goal.wake_call-requires-clause-unfinished
-wake_call-requires-clause-unfinished c = rw c.pay.ensures.past (found_in _ _ c.in-Some.call (sym c.call_of.ensures ∙ c.in-Some.is))
+pub wake_call-requires-clause-may : goal.wake_call-requires-clause-may
+wake_call-requires-clause-may c = record {
+  settled = rw c.pay.ensures.past c.self.invariant.1;
+  turns = rw c.pay.ensures.past c.self.invariant.3;
+  begun = rw c.pay.ensures.past c.self.invariant.2;
+  unfinished = rw c.pay.ensures.past (found_in _ _ c.in-Some.call (sym c.call_of.ensures ∙ c.in-Some.is));
+  parked = rw c.pay.ensures.past (rw (sym c.call_of.ensures ∙ c.in-Some.is) at (rw (sym c.self.view_is) c.requires.parked));
+}
 
 pub invariant_of-self-2 : goal.invariant_of-self-2
 invariant_of-self-2 c =
