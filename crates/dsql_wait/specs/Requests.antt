@@ -6,7 +6,7 @@ use Rattle.std.specs.Str.{bytes_eq}
 use Rattle.dsql_wait.specs.declared.request.Request.{Request}
 
 -- the requests that wait, and for how many calls there is memory
-pub record Line : Type 0 where
+pub record Queue : Type 0 where
   pub requests : List Request
   pub spare : ℕ
 

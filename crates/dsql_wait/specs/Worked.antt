@@ -1,4 +1,4 @@
--- Worked lines of three requests: call 1 with token `a`, call 2 without a token, call 3 with token `a`.
+-- Worked queues of three requests: call 1 with token `a`, call 2 without a token, call 3 with token `a`.
 use Rattle.std.specs.Prelude.{◌≡◌, ℕ, true, false, List, [], ◌∷◌, Option, None, Some, codes, count_by}
 use Rattle.dsql_journal.specs.declared.entry.Owner.TheVariants.{Call}
 use Rattle.dsql_wait.specs.declared.request.Request.{Request}
@@ -19,7 +19,7 @@ third = asked_by 3 (Some (codes "a"))
 abbrev pub three : List Request
 three = first ∷ second ∷ third ∷ []
 
-pub record WorkedLines : Type 0 where
+pub record WorkedQueues : Type 0 where
   pub nobody : oldest [] ≡ None
   pub oldest_first : oldest three ≡ Some first
   pub then_second : oldest (younger three) ≡ Some second

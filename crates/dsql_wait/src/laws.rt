@@ -1,7 +1,7 @@
-//! Laws of waiting, and worked lines: each law is the contract of a function that does nothing.
+//! Laws of waiting, and worked queues: each law is the contract of a function that does nothing.
 
 ghost use Rattle.dsql_wait.specs.Laws.{ServedInOrder, LeavesTheOrder, LeavesOthers, RoomLasts};
-ghost use Rattle.dsql_wait.specs.Worked.{WorkedLines};
+ghost use Rattle.dsql_wait.specs.Worked.{WorkedQueues};
 
 /// Requests are served in the order in which they joined.
 pub fn served_in_order()
@@ -20,7 +20,7 @@ pub fn room_lasts()
     ensures { RoomLasts }
 {}
 
-/// Worked lines: who is served, who waits, and who is left.
+/// Worked queues: who is served, who waits, and who is left.
 pub fn worked_lines()
-    ensures { WorkedLines }
+    ensures { WorkedQueues }
 {}

@@ -19,9 +19,9 @@ pub struct Waiting {
 impl Model for Waiting {
     ghost use Rattle.std.specs.Prelude.{◌≡◌, ◌-◌, true};
     ghost use Rattle.std.specs.VecDeque.{deque_len, deque_capacity};
-    ghost use Rattle.dsql_wait.specs.Requests.{Line, are_distinct};
+    ghost use Rattle.dsql_wait.specs.Requests.{Queue, are_distinct};
 
-    ghost Value = { Line };
+    ghost Value = { Queue };
 
     ghost view = { λ w. record { requests = w.queue.items; spare = deque_capacity w.queue - deque_len w.queue } };
 

@@ -1,13 +1,13 @@
 use Rattle.std.proofs.Common.{◌≡◌, not, ◌∙◌, ap, rules}
 use Rattle.std.proofs.lemmas.Fn.{filter_same}
-use Rattle.dsql_wait.specs.Requests.{Line, is_of, are_distinct, without_token}
-use Rattle.dsql_wait.proofs.Lines.{some_distinct}
+use Rattle.dsql_wait.specs.Requests.{Queue, is_of, are_distinct, without_token}
+use Rattle.dsql_wait.proofs.Queues.{some_distinct}
 use Rattle.dsql_wait.proofs.waiting.Waiting.leave_all_of.Goals as goal
 
 pub returns-clause-others : goal.returns-clause-others
 returns-clause-others c =
     filter_same _ _ _ (λ x b f' k. search rules) _ _ c.retain.ensures.filtered
-    ∙ ap (λ (w : Line). without_token c.args.token.now w.requests) c.self.view_is
+    ∙ ap (λ (w : Queue). without_token c.args.token.now w.requests) c.self.view_is
 
 pub invariant_of-self : goal.invariant_of-self
 invariant_of-self c =

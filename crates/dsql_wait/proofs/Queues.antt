@@ -1,4 +1,4 @@
--- What a line keeps when requests leave it, and how long room lasts.
+-- What a queue keeps when requests leave it, and how long room lasts.
 use Rattle.std.proofs.Common.{◌≡◌, ◌≢◌, ℕ, zero, suc, ◌+◌, ◌<◌, ◌≤◌, Bool, true, false, not, ◌&&◌, ◌||◌, eqb, cond, List, [], ◌∷◌, ◌++◌, length, get_or, Some, None, refl, sym, ap, ◌∙◌, subst, arith, add-one}
 use Rattle.std.specs.Prelude.{filter, remove, ltb, slice_get}
 use Rattle.std.specs.List.{position, position_or_len}
