@@ -20,7 +20,7 @@ use Rattle.dsql_pool.specs.declared.moves.Outcome.TheVariants.{Closes, Serves, R
 use Rattle.dsql_pool.specs.Changes.{opening, back, closing, unwanted}
 use Rattle.dsql_pool.specs.Places.{conn_of, is_lent, is_idle, is_opening, is_closing}
 use Rattle.dsql_journal.specs.Kinds.{number_of}
-use Rattle.dsql_pool.specs.Pooled.{Pooled, place_at, next_tenure, next_number, open_count, room, without}
+use Rattle.dsql_pool.specs.Pooled.{Pooled, place_at, next_tenure, next_number, open_count, most_allowed, without}
 use Rattle.dsql_pool.specs.Rest.{times}
 use Rattle.dsql_pool.specs.Moved.{made, moved, begun, shut}
 use Rattle.dsql_pool.specs.Decisions.{closings_of_setting, falls_to, openings, openings_for_waiting, due_openings, lends_to_oldest, moves_back, moves_unwanted, when_unwanted, when_opened}
@@ -31,7 +31,7 @@ use Rattle.dsql_client_laws.proofs.Tests.{both, together, same_itself}
 
 -- The move can be made now, of a connection that isn't lent. One that leaves the four sets has a whole journal.
 abbrev pub is_able : (ℕ → List Entry) → Pooled → Move → Bool
-is_able J p (OpenStart c n) = (c == next_number p) && nat_lt (open_count p) (room p)
+is_able J p (OpenStart c n) = (c == next_number p) && nat_lt (open_count p) (most_allowed p)
 is_able J p (Lend c t o n) = (is_idle (place_at p c) || is_opening (place_at p c)) && ((t == next_tenure p c) && (n == number_of o))
 is_able J p (Back c) = is_opening (place_at p c)
 is_able J p (CloseStart c why) = is_idle (place_at p c) || is_opening (place_at p c)
@@ -56,14 +56,14 @@ able-append J (m ∷ ms) ns p h k =
     let a = both (is_able J p m) (are_able J ms (moved m p)) h in
     together (is_able J p m) (are_able J (ms ++ ns) (moved m p)) a.0 (able-append J ms ns (moved m p) a.1 k)
 
-openings_able : (J : ℕ → List Entry) (k c : ℕ) (p : Pooled) → c ≡ next_number p → k ≤ room p - open_count p → are_able J (openings k c) p ≡ true
+openings_able : (J : ℕ → List Entry) (k c : ℕ) (p : Pooled) → c ≡ next_number p → k ≤ most_allowed p - open_count p → are_able J (openings k c) p ≡ true
 openings_able J zero c p is h = refl
 openings_able J (suc k) c p is h =
     let number : (c == next_number p) ≡ true = grind (arith, nat_tests, is) in
-    let below : nat_lt (open_count p) (room p) ≡ true = grind (arith, nat_tests, h) in
+    let below : nat_lt (open_count p) (most_allowed p) ≡ true = grind (arith, nat_tests, h) in
     let more : length (p.conns ++ opening (next_number p) None ∷ []) ≡ length p.conns + 1 = length-append p.conns (opening (next_number p) None ∷ []) in
     let rest = openings_able J k (c + 1) (begun None p) (ap (λ n. n + 1) is) (omega (arith, more, h)) in
-    together (is_able J p (OpenStart c 0)) (are_able J (openings k (c + 1)) (begun None p)) (together (c == next_number p) (nat_lt (open_count p) (room p)) number below) rest
+    together (is_able J p (OpenStart c 0)) (are_able J (openings k (c + 1)) (begun None p)) (together (c == next_number p) (nat_lt (open_count p) (most_allowed p)) number below) rest
 
 then_able : (J : ℕ → List Entry) (ms : List Move) (p : Pooled) → are_able J ms p ≡ true → are_able J (then_openings ms p) p ≡ true
 then_able J ms p h =

@@ -12,7 +12,7 @@ use Rattle.dsql_pool.specs.declared.request.Asked.TheVariants as asked
 use Rattle.dsql_pool.specs.declared.request.AskFault.{AskFault}
 use Rattle.dsql_pool.specs.declared.request.AskFault.TheVariants.{TooMany}
 use Rattle.dsql_pool.specs.Places.{is_idle, is_opening}
-use Rattle.dsql_pool.specs.Pooled.{Pooled, place_at, next_number, next_tenure, open_count, room}
+use Rattle.dsql_pool.specs.Pooled.{Pooled, place_at, next_number, next_tenure, open_count, most_allowed}
 use Rattle.dsql_pool.specs.Rest.{times, AtRest}
 use Rattle.dsql_pool.specs.Decisions.{last, takes_idle, are_too_many, may_open, when_none_idle}
 use Rattle.dsql_pool.specs.Calls.{moves_asked}
@@ -139,7 +139,7 @@ open_allowed H n c none may outcome =
     let p = pool H in
     let number = opens_next p c (last p.idle) (next_tenure p (last p.idle)) p.closed (takes_idle (request H n) p) outcome in
     let within = asks_within (request H n) p c p.closed (takes_idle (request H n) p) outcome in
-    let below : nat_lt (open_count p) (room p) ≡ true = grind (arith, nat_tests, within) in
+    let below : nat_lt (open_count p) (most_allowed p) ≡ true = grind (arith, nat_tests, within) in
     record {
       course = course_of_move H n (OpenStart c n) may;
       numbers = refl;

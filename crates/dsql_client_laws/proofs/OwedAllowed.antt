@@ -7,7 +7,7 @@ use Rattle.dsql_pool.specs.declared.conn.Place.TheVariants.{Idle, Lent, Opening,
 use Rattle.dsql_pool.specs.declared.moves.Move.{Move}
 use Rattle.dsql_pool.specs.declared.moves.Move.TheVariants.{OpenStart, Lend, Back, CloseStart, Gone, Fell}
 use Rattle.dsql_pool.specs.Places.{is_idle, is_lent, is_opening, is_closing}
-use Rattle.dsql_pool.specs.Pooled.{next_number, open_count, room}
+use Rattle.dsql_pool.specs.Pooled.{next_number, open_count, most_allowed}
 use Rattle.dsql_pool.specs.Moved.{made, moved}
 use Rattle.dsql_clients.specs.declared.event.Event.{Event}
 use Rattle.dsql_clients.specs.declared.event.Event.TheVariants.{Pool}
@@ -82,7 +82,7 @@ or_second false b h = h
 -- each rule, of a move that can be made and is owed
 
 able_sets : (H : List Event) (m : Move) → is_able (journal H) (pool H) m ≡ true → keeps_sets H (Pool m) ≡ true
-able_sets H (OpenStart c n) h = let a = both (c == next_number (pool H)) (nat_lt (open_count (pool H)) (room (pool H))) h in together (c == next_number (pool H)) true a.0 refl
+able_sets H (OpenStart c n) h = let a = both (c == next_number (pool H)) (nat_lt (open_count (pool H)) (most_allowed (pool H))) h in together (c == next_number (pool H)) true a.0 refl
 able_sets H (Lend c t o n) h = h
 able_sets H (Back c) h = together (is_lent (place H c) || is_opening (place H c)) true (or_second (is_lent (place H c)) (is_opening (place H c)) h) refl
 able_sets H (CloseStart c why) h =
@@ -91,7 +91,7 @@ able_sets H (Gone c) h = let a = both (is_closing (place H c)) (is_whole (journa
 able_sets H (Fell c n) h = let a = both (is_opening (place H c)) (is_whole (journal H c)) h in together (is_opening (place H c)) true a.0 refl
 
 able_limit : (H : List Event) (m : Move) → is_able (journal H) (pool H) m ≡ true → keeps_limit H (Pool m) ≡ true
-able_limit H (OpenStart c n) h = let a = both (c == next_number (pool H)) (nat_lt (open_count (pool H)) (room (pool H))) h in a.1
+able_limit H (OpenStart c n) h = let a = both (c == next_number (pool H)) (nat_lt (open_count (pool H)) (most_allowed (pool H))) h in a.1
 able_limit H (Lend c t o n) h = refl
 able_limit H (Back c) h = refl
 able_limit H (CloseStart c why) h = refl

@@ -10,7 +10,7 @@ use Rattle.dsql_pool.specs.declared.conn.Place.TheVariants.{Idle, Lent, Opening,
 use Rattle.dsql_pool.specs.declared.conn.Conn.{Conn}
 use Rattle.dsql_pool.specs.Places.{is_idle, is_opening, is_for}
 use Rattle.dsql_pool.specs.Changes.{unwanted, unwanted_by}
-use Rattle.dsql_pool.specs.Pooled.{Pooled, fresh, open_count, free_openings, next_tenure, room}
+use Rattle.dsql_pool.specs.Pooled.{Pooled, fresh, open_count, free_openings, next_tenure, most_allowed}
 use Rattle.dsql_pool.specs.Moved.{made, withdrawn, shut, ticked}
 use Rattle.dsql_pool.specs.Decisions.{closings_of_setting, closings_of_tick, closings_of_close}
 use Rattle.dsql_pool.specs.Calls.{open_set, idle_set, lifetime_set, idle_time_set, moves_open_set, moves_idle_set, moves_closed}
@@ -74,7 +74,7 @@ withdrawn_rests n p h =
       young = young_map p.limits p.moment (unwanted_by n) p.conns keeps (λ x is. stays_itself (is_for n x.place) x is) (young_at p h);
       none = or_kept (not p.closed) (is_empty p.idle && is_empty p.waiting) (not p.closed) (is_empty p.idle && is_empty q.waiting) h.none (λ k. k) (λ k. and_kept (is_empty p.idle) (is_empty p.waiting) (is_empty p.idle) (is_empty q.waiting) k (λ m. m) (empty_filter others p.waiting));
     })
-    (enough_kept (length p.waiting) (free_openings p) (room p) (open_count p) (length q.waiting) (free_openings q) (room q) (open_count q) h.enough (omega (arith, frees, fewer)) (omega (arith, many)))
+    (enough_kept (length p.waiting) (free_openings p) (most_allowed p) (open_count p) (length q.waiting) (free_openings q) (most_allowed q) (open_count q) h.enough (omega (arith, frees, fewer)) (omega (arith, many)))
 
 closed_rests : (p : Pooled) → AtRest p → AtRest (made (moves_closed p) (shut p))
 closed_rests p h =
@@ -97,7 +97,7 @@ closed_rests p h =
       young = settling.settled_young ms s closes (closings_young ms s closes young);
       none = or_right (not q.closed) (is_empty q.idle && is_empty q.waiting) (both (is_empty q.idle) (is_empty q.waiting) (settling.all_gone s placed) (ap (λ (rs : List Request). is_empty rs) left.waiting));
     })
-    (settling.settled_enough ms s closes settled.free (or_left (nat_le 0 (free_openings s)) (nat_le (room s) (open_count s)) (le_true 0 (free_openings s) (omega arith))))
+    (settling.settled_enough ms s closes settled.free (or_left (nat_le 0 (free_openings s)) (nat_le (most_allowed s) (open_count s)) (le_true 0 (free_openings s) (omega arith))))
 
 idle_set_rests : (n : ℤ) (p : Pooled) → AtRest p → AtRest (made (moves_idle_set n p) (idle_set n p))
 idle_set_rests n p h =

@@ -8,7 +8,7 @@ use Rattle.dsql_pool.specs.declared.moves.Outcome.TheVariants.{Serves}
 use Rattle.dsql_pool.specs.declared.moves.Move.{Move}
 use Rattle.dsql_pool.specs.declared.moves.Move.TheVariants.{OpenStart, Back}
 use Rattle.dsql_pool.specs.Changes.{opening}
-use Rattle.dsql_pool.specs.Pooled.{Pooled, open_count, next_number, next_tenure, is_limited, most_open, room}
+use Rattle.dsql_pool.specs.Pooled.{Pooled, open_count, next_number, next_tenure, is_limited, most_open, most_allowed}
 use Rattle.dsql_pool.specs.Moved.{moved, made, begun}
 use Rattle.dsql_pool.specs.Decisions.{openings, openings_for_waiting, due_openings, lends_to_oldest, moves_back, when_given_back}
 use Rattle.dsql_pool.specs.Calls.{then_openings, moves_given_back}
@@ -63,16 +63,16 @@ pub pool_then : (ms : List Move) (p q r : Pooled) → q ≡ made ms p → r ≡ 
 pool_then ms p q r e f =
     f ∙ (ap (λ (s : Pooled). made (openings_for_waiting s) s) e ∙ sym (made_append ms (openings_for_waiting (made ms p)) p))
 
-pub room_most : (p : Pooled) → room p ≤ most_open
-room_most p =
+pub allowed_most : (p : Pooled) → most_allowed p ≤ most_open
+allowed_most p =
     elim (is_limited p) as (λ b. is_limited p ≡ b → cond b p.limits.max_open most_open ≤ most_open) [
       | true ↦ λ limited. grind (arith, nat_tests)
       | false ↦ λ not. omega arith
     ] refl
 
--- one that is due has room
-pub due_has_room : (k : ℕ) (p : Pooled) → k < due_openings p → open_count p + k < room p
-due_has_room k p due = omega (arith, due)
+-- one that is due is allowed
+pub due_is_allowed : (k : ℕ) (p : Pooled) → k < due_openings p → open_count p + k < most_allowed p
+due_is_allowed k p due = omega (arith, due)
 
 served_back : (c : ℕ) (p : Pooled) → lends_to_oldest c (next_tenure (moved (Back c) p) c) p.waiting ≡ lends_to_oldest c (next_tenure p c) p.waiting
 served_back c p = ap (λ (n : ℕ). lends_to_oldest c (n + 2) p.waiting) (lends_stay c p.moment p.conns)

@@ -54,6 +54,6 @@ length-gone c (x ∷ xs) =
     let rest = length-gone c xs in
     elim (eqb x.number c) as (λ b. length (cond (not b) (x ∷ gone c xs) (gone c xs)) ≤ length (x ∷ xs)) [ true ↦ omega (arith, rest) | false ↦ omega (arith, rest) ]
 
--- where no more wait in excess and no more room is left, as many are opened as were enough
+-- where no more wait in excess and no more are allowed, as many are opened as were enough
 pub enough_kept : (w f r o w' f' r' o' : ℕ) → (nat_le w f || nat_le r o) ≡ true → w' + f ≤ w + f' → r' + o ≤ r + o' → (nat_le w' f' || nat_le r' o') ≡ true
 enough_kept w f r o w' f' r' o' h fewer less = grind (arith, nat_tests)

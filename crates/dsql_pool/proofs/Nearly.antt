@@ -7,11 +7,11 @@ use Rattle.dsql_journal.specs.Readers.{is_empty}
 use Rattle.dsql_time.specs.declared.Limits.{Limits}
 use Rattle.dsql_wait.specs.declared.request.Request.{Request}
 use Rattle.dsql_pool.specs.Changes.{opening}
-use Rattle.dsql_pool.specs.Pooled.{Pooled, open_count, free_openings, next_number, room, most_open}
+use Rattle.dsql_pool.specs.Pooled.{Pooled, open_count, free_openings, next_number, most_allowed, most_open}
 use Rattle.dsql_pool.specs.Moved.{made, begun}
 use Rattle.dsql_pool.specs.Decisions.{openings, openings_for_waiting, due_openings}
 use Rattle.dsql_pool.specs.Rest.{AtRest, IsPlaced, keeps_most, opens_enough, serves_those_that_wait, keeps_idle_limit, is_empty_when_closed}
-use Rattle.dsql_pool.proofs.Due.{open_so_far, room_most}
+use Rattle.dsql_pool.proofs.Due.{open_so_far, allowed_most}
 use Rattle.dsql_pool.proofs.Placed.{Placed, placed_more}
 use Rattle.dsql_pool.proofs.Young.{Young, young_list, list_young, young_more}
 use Rattle.dsql_pool.proofs.Frees.{count-more}
@@ -90,7 +90,7 @@ young_openings zero c p h = h
 young_openings (suc k) c p h = young_openings k (c + 1) (begun None p) (young_more p.limits p.moment (next_number p) None p.conns h)
 
 pub enough_due : (w f r o w' f' r' o' : ℕ) → w' ≡ w → f' ≡ f + min (w - f) (r - o) → r' ≡ r → o' ≡ o + min (w - f) (r - o) → (nat_le w' f' || nat_le r' o') ≡ true
-enough_due w f r o w' f' r' o' same more room opened = grind (arith, nat_tests, same, more, room, opened)
+enough_due w f r o w' f' r' o' same more allowed opened = grind (arith, nat_tests, same, more, allowed, opened)
 
 -- once the openings that are due have begun, the pool is at rest
 pub opened_rests : (p : Pooled) → Nearly p → AtRest (made (openings_for_waiting p) p)
@@ -99,18 +99,18 @@ opened_rests p h =
     let c = next_number p in
     let q = made (openings k c) p in
     let o = opens k c p in
-    let room_same : room q ≡ room p = ap (λ (l : Limits). cond (nat_le 1 l.max_open && nat_le l.max_open most_open) l.max_open most_open) o.limits in
+    let allowed_same : most_allowed q ≡ most_allowed p = ap (λ (l : Limits). cond (nat_le 1 l.max_open && nat_le l.max_open most_open) l.max_open most_open) o.limits in
     let so_many = open_so_far k c p in
     wholly q
     (record {
       placed = placed_openings k c p h.placed;
       most =
-          let room = room_most p in
+          let allowed = allowed_most p in
           let few = true_le (open_count p) most_open h.most in
-          le_true (open_count q) most_open (omega (arith, so_many, room, few));
+          le_true (open_count q) most_open (omega (arith, so_many, allowed, few));
       served = ap (λ (ns : List ℕ). is_empty ns || list_all (λ r. r.last) q.waiting) o.idle ∙ (ap (λ (rs : List Request). is_empty p.idle || list_all (λ r. r.last) rs) o.waiting ∙ h.served);
       few = ap (λ (ns : List ℕ). nat_le (length ns) q.limits.max_idle) o.idle ∙ (ap (λ (l : Limits). nat_le (length p.idle) l.max_idle) o.limits ∙ h.few);
       young = subst (λ (l : Limits). Young l q.moment q.conns) (sym o.limits) (subst (λ (m : ℕ). Young p.limits m q.conns) (sym o.moment) (young_openings k c p h.young));
       none = ap (λ (b : Bool). not b || (is_empty q.idle && is_empty q.waiting)) o.closed ∙ (ap (λ (ns : List ℕ). not p.closed || (is_empty ns && is_empty q.waiting)) o.idle ∙ (ap (λ (rs : List Request). not p.closed || (is_empty p.idle && is_empty rs)) o.waiting ∙ h.none));
     })
-    (enough_due (length p.waiting) (free_openings p) (room p) (open_count p) (length q.waiting) (free_openings q) (room q) (open_count q) (ap length o.waiting) o.free room_same so_many)
+    (enough_due (length p.waiting) (free_openings p) (most_allowed p) (open_count p) (length q.waiting) (free_openings q) (most_allowed q) (open_count q) (ap length o.waiting) o.free allowed_same so_many)

@@ -27,13 +27,13 @@ use Rattle.dsql_pool.specs.declared.request.AskFault.TheVariants.{TooMany}
 use Rattle.dsql_pool.specs.Places.{conn_of, is_idle, is_lent, is_opening, is_closing, is_free}
 use Rattle.dsql_journal.specs.Kinds.{number_of}
 use Rattle.dsql_pool.specs.Changes.{opening, opened_at, gone}
-use Rattle.dsql_pool.specs.Pooled.{Pooled, place_at, open_count, free_openings, next_number, next_tenure, room, most_open}
+use Rattle.dsql_pool.specs.Pooled.{Pooled, place_at, open_count, free_openings, next_number, next_tenure, most_allowed, most_open}
 use Rattle.dsql_pool.specs.Moved.{moved, made, begun, joined}
 use Rattle.dsql_pool.specs.Decisions.{last, takes_idle, are_too_many, may_open, when_none_idle, when_good, when_given_back, is_expired, moves_back, moves_unwanted, when_opened, falls_to, openings_for_waiting}
 use Rattle.dsql_pool.specs.Calls.{after_asked, asks, moves_opened, moves_failed, moves_given_back, moves_gone}
 use Rattle.dsql_pool.specs.Rest.{AtRest, times}
-use Rattle.dsql_pool.proofs.Due.{made_append, room_most}
-use Rattle.dsql_pool.proofs.Lawful.{has_room}
+use Rattle.dsql_pool.proofs.Due.{made_append, allowed_most}
+use Rattle.dsql_pool.proofs.Lawful.{may_open_one}
 use Rattle.dsql_pool.proofs.Placed.{placed_gone, placed_more}
 use Rattle.dsql_pool.proofs.Young.{member_is_idle, young_gone, young_more}
 use Rattle.dsql_pool.proofs.Frees.{passing, count-more, length-gone, enough_kept}
@@ -74,7 +74,7 @@ takes_some r p h = second (not r.last) (is_empty p.idle) h
     second true false h = refl
     second false b h = cc
 
-pub full_where_none_opens : (p : Pooled) → are_too_many p ≡ false → may_open p ≡ false → nat_le (room p) (open_count p) ≡ true
+pub full_where_none_opens : (p : Pooled) → are_too_many p ≡ false → may_open p ≡ false → nat_le (most_allowed p) (open_count p) ≡ true
 full_where_none_opens p few may = grind (arith, nat_tests, few, may)
 
 -- an opening begins for a request
@@ -82,8 +82,8 @@ begun_rests : (owner : Owner) (p : Pooled) → AtRest p → are_too_many p ≡ f
 begun_rests owner p h few may =
     let q = begun (Some owner) p in
     let more = length-append p.conns (opening (next_number p) (Some owner) ∷ []) in
-    let left = has_room p few may in
-    let most = room_most p in
+    let left = may_open_one p few may in
+    let most = allowed_most p in
     let frees = count-more free (opening (next_number p) (Some owner)) p.conns in
     wholly q
     (record {
@@ -94,7 +94,7 @@ begun_rests owner p h few may =
       young = young_more p.limits p.moment (next_number p) (Some owner) p.conns (young_at p h);
       none = h.none;
     })
-    (enough_kept (length p.waiting) (free_openings p) (room p) (open_count p) (length p.waiting) (free_openings q) (room q) (open_count q) h.enough (omega (arith, frees)) (omega (arith, more)))
+    (enough_kept (length p.waiting) (free_openings p) (most_allowed p) (open_count p) (length p.waiting) (free_openings q) (most_allowed q) (open_count q) h.enough (omega (arith, frees)) (omega (arith, more)))
 
 waits_rightly : (r : Request) (p : Pooled) → takes_idle r p ≡ false → (is_empty p.idle || list_all (λ s. s.last) p.waiting) ≡ true → (is_empty p.idle || list_all (λ s. s.last) (p.waiting ++ r ∷ [])) ≡ true
 waits_rightly r p takes served =
@@ -109,7 +109,7 @@ waits_rightly r p takes served =
     and_last false b h t = cc
 
 -- a request joins those that wait
-joined_rests : (r : Request) (p : Pooled) → AtRest p → p.closed ≡ false → takes_idle r p ≡ false → nat_le (room p) (open_count p) ≡ true → AtRest (joined r p)
+joined_rests : (r : Request) (p : Pooled) → AtRest p → p.closed ≡ false → takes_idle r p ≡ false → nat_le (most_allowed p) (open_count p) ≡ true → AtRest (joined r p)
 joined_rests r p h open_still takes full =
     wholly (joined r p)
     (record {
@@ -120,7 +120,7 @@ joined_rests r p h open_still takes full =
       young = young_at p h;
       none = or_left (not p.closed) (is_empty p.idle && is_empty (p.waiting ++ r ∷ [])) (ap not open_still);
     })
-    (or_right (nat_le (length (p.waiting ++ r ∷ [])) (free_openings p)) (nat_le (room p) (open_count p)) full)
+    (or_right (nat_le (length (p.waiting ++ r ∷ [])) (free_openings p)) (nat_le (most_allowed p) (open_count p)) full)
 
 none_idle_rests : (r : Request) (p : Pooled) → AtRest p → p.closed ≡ false → takes_idle r p ≡ false → AtRest (after_asked r (when_none_idle p) p)
 none_idle_rests r p h open_still takes =

@@ -15,7 +15,7 @@ use Rattle.dsql_pool.specs.declared.moves.Move.TheVariants.{Lend, Back}
 use Rattle.dsql_pool.specs.declared.moves.Outcome.TheVariants.{Closes, Serves, Rests}
 use Rattle.dsql_pool.specs.Places.{conn_of, is_idle}
 use Rattle.dsql_pool.specs.Changes.{changed, lent, back, opened_at}
-use Rattle.dsql_pool.specs.Pooled.{Pooled, open_count, free_openings, room, without}
+use Rattle.dsql_pool.specs.Pooled.{Pooled, open_count, free_openings, most_allowed, without}
 use Rattle.dsql_pool.specs.Moved.{moved, made}
 use Rattle.dsql_pool.specs.Decisions.{is_over_limit, when_kept, when_good}
 use Rattle.dsql_pool.specs.Rest.{AtRest}
@@ -57,19 +57,19 @@ when_rests false p h = (
   ] refl h,
 )
 
-over_is_full : (p : Pooled) → is_over_limit p ≡ true → nat_le (room p) (open_count p) ≡ true
+over_is_full : (p : Pooled) → is_over_limit p ≡ true → nat_le (most_allowed p) (open_count p) ≡ true
 over_is_full p h = grind (arith, nat_tests)
 
 -- where an unwanted one closes, none waits or as many are open as may be
-pub when_closes : (cause : CloseCause) (p : Pooled) → AtRest p → when_good false p ≡ Closes cause → (is_empty p.waiting || nat_le (room p) (open_count p)) ≡ true
+pub when_closes : (cause : CloseCause) (p : Pooled) → AtRest p → when_good false p ≡ Closes cause → (is_empty p.waiting || nat_le (most_allowed p) (open_count p)) ≡ true
 when_closes cause p rest h =
-    elim p.closed as (λ b. (not b || (is_empty p.idle && is_empty p.waiting)) ≡ true → cond b (Closes for.DbClosed) (cond (is_over_limit p) (Closes for.OverLimit) (when_kept p)) ≡ Closes cause → (is_empty p.waiting || nat_le (room p) (open_count p)) ≡ true) [
-      | true ↦ λ both k. or_left (is_empty p.waiting) (nat_le (room p) (open_count p)) (second (is_empty p.idle) (is_empty p.waiting) both)
+    elim p.closed as (λ b. (not b || (is_empty p.idle && is_empty p.waiting)) ≡ true → cond b (Closes for.DbClosed) (cond (is_over_limit p) (Closes for.OverLimit) (when_kept p)) ≡ Closes cause → (is_empty p.waiting || nat_le (most_allowed p) (open_count p)) ≡ true) [
+      | true ↦ λ both k. or_left (is_empty p.waiting) (nat_le (most_allowed p) (open_count p)) (second (is_empty p.idle) (is_empty p.waiting) both)
       | false ↦ λ any k.
-          elim (is_over_limit p) as (λ b. is_over_limit p ≡ b → cond b (Closes for.OverLimit) (when_kept p) ≡ Closes cause → (is_empty p.waiting || nat_le (room p) (open_count p)) ≡ true) [
-            | true ↦ λ over m. or_right (is_empty p.waiting) (nat_le (room p) (open_count p)) (over_is_full p over)
+          elim (is_over_limit p) as (λ b. is_over_limit p ≡ b → cond b (Closes for.OverLimit) (when_kept p) ≡ Closes cause → (is_empty p.waiting || nat_le (most_allowed p) (open_count p)) ≡ true) [
+            | true ↦ λ over m. or_right (is_empty p.waiting) (nat_le (most_allowed p) (open_count p)) (over_is_full p over)
             | false ↦ λ under m.
-                elim (is_empty p.waiting) as (λ b. cond (not b) Serves (cond (nat_lt (length p.idle) p.limits.max_idle) Rests (Closes for.IdleFull)) ≡ Closes cause → (b || nat_le (room p) (open_count p)) ≡ true) [ true ↦ λ n. refl | false ↦ λ n. cc ] m
+                elim (is_empty p.waiting) as (λ b. cond (not b) Serves (cond (nat_lt (length p.idle) p.limits.max_idle) Rests (Closes for.IdleFull)) ≡ Closes cause → (b || nat_le (most_allowed p) (open_count p)) ≡ true) [ true ↦ λ n. refl | false ↦ λ n. cc ] m
           ] refl k
     ] rest.none h
   where
@@ -98,7 +98,7 @@ back_rests c x p h found busy keeps young =
           (young_at p h);
       none = or_left (not p.closed) (is_empty q.idle && is_empty p.waiting) (ap not keeps.open_still);
     })
-    (or_left (nat_le (length p.waiting) (free_openings q)) (nat_le (room q) (open_count q)) (le_true (length p.waiting) (free_openings q) (omega (arith, zero))))
+    (or_left (nat_le (length p.waiting) (free_openings q)) (nat_le (most_allowed q) (open_count q)) (le_true (length p.waiting) (free_openings q) (omega (arith, zero))))
   where
     all_none : (rs : List Request) → is_empty rs ≡ true → list_all (λ r. r.last) rs ≡ true
     all_none [] h = refl
@@ -151,7 +151,7 @@ served_rests c tenure owner x r rs p waits h found busy not_free open_still =
           (young_at p h);
       none = or_left (not p.closed) (is_empty q.idle && is_empty q.waiting) (ap not open_still);
     })
-    (enough_kept (length p.waiting) (free_openings p) (room p) (open_count p) (length q.waiting) (free_openings q) (room q) (open_count q) h.enough (omega (arith, one, two, none, came, idle_then, was, fewer)) (omega (arith, same, again)))
+    (enough_kept (length p.waiting) (free_openings p) (most_allowed p) (open_count p) (length q.waiting) (free_openings q) (most_allowed q) (open_count q) h.enough (omega (arith, one, two, none, came, idle_then, was, fewer)) (omega (arith, same, again)))
 
 -- where the oldest request gets one, a request waits and the pool is open
 pub when_serves : (expired : Bool) (p : Pooled) → when_good expired p ≡ Serves → (p.closed ≡ false) × (is_empty p.waiting ≡ false)

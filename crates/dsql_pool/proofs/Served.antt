@@ -14,7 +14,7 @@ use Rattle.dsql_pool.specs.declared.request.Asked.TheVariants as asked
 use Rattle.dsql_pool.specs.declared.request.AskFault.TheVariants.{TooMany}
 use Rattle.dsql_pool.specs.declared.stats.Counts.{Counts}
 use Rattle.dsql_pool.specs.Counted.{saturated, largest_total, closed_for, wait_over}
-use Rattle.dsql_pool.specs.Pooled.{Pooled, open_count, next_number, next_tenure, is_limited, most_open, room}
+use Rattle.dsql_pool.specs.Pooled.{Pooled, open_count, next_number, next_tenure, is_limited, most_open, most_allowed}
 use Rattle.dsql_pool.specs.Moved.{moved, made}
 use Rattle.dsql_pool.specs.Decisions.{last, takes_idle, are_too_many, may_open, when_none_idle, lends_to_oldest, moves_back, moves_unwanted, when_opened, falls_to, oldest_call}
 use Rattle.dsql_pool.specs.Laws.{WaitsOnlyAtTheLimit, ServesTheOldest, FiguresCountTheMoves, is_idle_full, is_idle_time, is_lifetime}
@@ -25,13 +25,13 @@ use Rattle.dsql_pool.proofs.Returning.{when_rests}
 -- what is known of a request that waits
 record Waits (r : Request) (p : Pooled) : Type 0 where
   none_idle : takes_idle r p ≡ false
-  no_room : room p ≤ open_count p
+  all_open : most_allowed p ≤ open_count p
   still_open : p.closed ≡ false
 
 waits_without : (r : Request) (p : Pooled) (many may : Bool) → p.closed ≡ false → takes_idle r p ≡ false → are_too_many p ≡ many → may_open p ≡ may → cond many (Err TooMany) (cond may (Ok (asked.Opening (next_number p))) (Ok asked.Queued)) ≡ Ok asked.Queued → Waits r p
 waits_without r p true may o t e f h = cc
 waits_without r p false true o t e f h = cc
-waits_without r p false false o t e f h = record { none_idle = t; no_room = true_le (room p) (open_count p) (full_where_none_opens p e f); still_open = o }
+waits_without r p false false o t e f h = record { none_idle = t; all_open = true_le (most_allowed p) (open_count p) (full_where_none_opens p e f); still_open = o }
 
 waits_at : (r : Request) (p : Pooled) (closed takes : Bool) → p.closed ≡ closed → takes_idle r p ≡ takes → cond closed (Ok asked.Closed) (cond takes (Ok (asked.Lent (last p.idle) (next_tenure p (last p.idle)))) (when_none_idle p)) ≡ Ok asked.Queued → Waits r p
 waits_at r p true takes o t h = cc
@@ -63,7 +63,7 @@ refused_at p false false h = refused_without p (are_too_many p) (may_open p) ref
 pub waits_only_at_the_limit : WaitsOnlyAtTheLimit
 waits_only_at_the_limit = record {
   none_idle = λ r p h. (waits_at r p p.closed (takes_idle r p) refl refl h).none_idle;
-  no_room = λ r p h. (waits_at r p p.closed (takes_idle r p) refl refl h).no_room;
+  all_open = λ r p h. (waits_at r p p.closed (takes_idle r p) refl refl h).all_open;
   still_open = λ r p h. (waits_at r p p.closed (takes_idle r p) refl refl h).still_open;
   refused = λ r p h. refused_at p p.closed (takes_idle r p) h;
 }

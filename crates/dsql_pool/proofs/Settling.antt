@@ -13,7 +13,7 @@ use Rattle.dsql_pool.specs.declared.moves.CloseCause.{CloseCause}
 use Rattle.dsql_pool.specs.declared.moves.CloseCause.TheVariants.{IdleFull, DbClosed}
 use Rattle.dsql_pool.specs.declared.moves.Move.{Move}
 use Rattle.dsql_pool.specs.Places.{conn_of, is_idle, is_free}
-use Rattle.dsql_pool.specs.Pooled.{Pooled, open_count, free_openings, room, most_open, without}
+use Rattle.dsql_pool.specs.Pooled.{Pooled, open_count, free_openings, most_allowed, most_open, without}
 use Rattle.dsql_pool.specs.Moved.{made}
 use Rattle.dsql_pool.specs.Decisions.{starts_closing, closing_for, closing_at, cause_at, closings_of_setting, closings_of_tick, closings_of_close}
 use Rattle.dsql_pool.specs.Rest.{AtRest, IsPlaced, times, keeps_most, opens_enough, serves_those_that_wait, keeps_idle_limit, is_empty_when_closed}
@@ -73,9 +73,9 @@ settled_enough moves p closes free enough =
     let q = made moves p in
     let left = leaves moves p closes in
     let waiting = ap length left.waiting in
-    let same : room q ≡ room p = ap (λ (l : Limits). cond (nat_le 1 l.max_open && nat_le l.max_open most_open) l.max_open most_open) left.limits in
+    let same : most_allowed q ≡ most_allowed p = ap (λ (l : Limits). cond (nat_le 1 l.max_open && nat_le l.max_open most_open) l.max_open most_open) left.limits in
     let many = left.as_many in
-    enough_kept (length p.waiting) (free_openings p) (room p) (open_count p) (length q.waiting) (free_openings q) (room q) (open_count q) enough (omega (arith, waiting, free)) (omega (arith, same, many))
+    enough_kept (length p.waiting) (free_openings p) (most_allowed p) (open_count p) (length q.waiting) (free_openings q) (most_allowed q) (open_count q) enough (omega (arith, waiting, free)) (omega (arith, same, many))
 
 pub settled_few : (moves : List Move) (p : Pooled) → list_all starts_closing moves ≡ true → keeps_idle_limit p ≡ true → keeps_idle_limit (made moves p) ≡ true
 settled_few moves p closes few =

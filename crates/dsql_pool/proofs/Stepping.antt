@@ -16,7 +16,7 @@ use Rattle.dsql_pool.specs.declared.moves.CloseCause.{CloseCause}
 use Rattle.dsql_pool.specs.declared.moves.Move.TheVariants.{Lend, CloseStart}
 use Rattle.dsql_pool.specs.Places.{conn_of}
 use Rattle.dsql_pool.specs.Changes.{changed, lent, back, closing, opened_at}
-use Rattle.dsql_pool.specs.Pooled.{Pooled, open_count, free_openings, room, most_open, without}
+use Rattle.dsql_pool.specs.Pooled.{Pooled, open_count, free_openings, most_allowed, most_open, without}
 use Rattle.dsql_pool.specs.Moved.{moved}
 use Rattle.dsql_pool.specs.Rest.{AtRest, opens_enough}
 use Rattle.dsql_pool.proofs.Rows.{all_filter}
@@ -64,7 +64,7 @@ lend_enough c tenure n owner p h busy =
     let none = lent_is_none tenure p.moment owner (conn_of c p.conns) in
     let fewer = fewer_requests (others n) p.waiting in
     let same = length-changed c (lent tenure owner p.moment) p.conns in
-    enough_kept (length p.waiting) (free_openings p) (room p) (open_count p) (length q.waiting) (free_openings q) (room q) (open_count q) h.enough (omega (arith, change, none, busy, fewer)) (omega (arith, same))
+    enough_kept (length p.waiting) (free_openings p) (most_allowed p) (open_count p) (length q.waiting) (free_openings q) (most_allowed q) (open_count q) h.enough (omega (arith, change, none, busy, fewer)) (omega (arith, same))
 
 -- where the oldest request gets it
 pub serve_enough : (c tenure : ℕ) (owner : Owner) (p : Pooled) (r : Request) (rs : List Request) → p.waiting ≡ r ∷ rs → AtRest p → opens_enough (moved (Lend c tenure owner r.call) p) ≡ true
@@ -75,7 +75,7 @@ serve_enough c tenure owner p r rs e h =
     let at_most = passing_one (conn_of c p.conns) in
     let fewer = served_fewer p.waiting r rs e in
     let same = length-changed c (lent tenure owner p.moment) p.conns in
-    enough_kept (length p.waiting) (free_openings p) (room p) (open_count p) (length q.waiting) (free_openings q) (room q) (open_count q) h.enough (omega (arith, change, none, at_most, fewer)) (omega (arith, same))
+    enough_kept (length p.waiting) (free_openings p) (most_allowed p) (open_count p) (length q.waiting) (free_openings q) (most_allowed q) (open_count q) h.enough (omega (arith, change, none, at_most, fewer)) (omega (arith, same))
   where
     passing_one : (o : Option Conn) → passing free o ≤ 1
     passing_one None = omega arith
@@ -110,15 +110,15 @@ close_enough c cause p h busy =
     let change = count-changed free c closing p.conns in
     let none = closed_is_none (conn_of c p.conns) in
     let same = length-changed c closing p.conns in
-    enough_kept (length p.waiting) (free_openings p) (room p) (open_count p) (length q.waiting) (free_openings q) (room q) (open_count q) h.enough (omega (arith, change, none, busy)) (omega (arith, same))
+    enough_kept (length p.waiting) (free_openings p) (most_allowed p) (open_count p) (length q.waiting) (free_openings q) (most_allowed q) (open_count q) h.enough (omega (arith, change, none, busy)) (omega (arith, same))
 
 -- where none waits, or as many are open as may be
-pub close_enough_still : (c : ℕ) (cause : CloseCause) (p : Pooled) → (is_empty p.waiting || nat_le (room p) (open_count p)) ≡ true → opens_enough (moved (CloseStart c cause) p) ≡ true
+pub close_enough_still : (c : ℕ) (cause : CloseCause) (p : Pooled) → (is_empty p.waiting || nat_le (most_allowed p) (open_count p)) ≡ true → opens_enough (moved (CloseStart c cause) p) ≡ true
 close_enough_still c cause p h =
     let q = moved (CloseStart c cause) p in
-    or_kept (is_empty p.waiting) (nat_le (room p) (open_count p)) (nat_le (length p.waiting) (free_openings q)) (nat_le (room q) (open_count q)) h
+    or_kept (is_empty p.waiting) (nat_le (most_allowed p) (open_count p)) (nat_le (length p.waiting) (free_openings q)) (nat_le (most_allowed q) (open_count q)) h
     (λ none. le_true (length p.waiting) (free_openings q) (let zero = empty_length p.waiting none in omega (arith, zero)))
-    (λ full. ap (λ (n : ℕ). nat_le (room p) n) (length-changed c closing p.conns) ∙ full)
+    (λ full. ap (λ (n : ℕ). nat_le (most_allowed p) n) (length-changed c closing p.conns) ∙ full)
   where
     empty_length : (rs : List Request) → is_empty rs ≡ true → length rs ≡ 0
     empty_length [] h = refl

@@ -22,7 +22,7 @@ use Rattle.dsql_pool.specs.declared.request.AskFault.{AskFault}
 use Rattle.dsql_pool.specs.declared.request.AskFault.TheVariants.{TooMany}
 use Rattle.dsql_pool.specs.Places.{conn_of}
 use Rattle.dsql_journal.specs.Kinds.{number_of}
-use Rattle.dsql_pool.specs.Pooled.{Pooled, open_count, free_openings, next_number, next_tenure, most_open, is_limited, room}
+use Rattle.dsql_pool.specs.Pooled.{Pooled, open_count, free_openings, next_number, next_tenure, most_open, is_limited, most_allowed}
 
 -- the last of a list, or 0
 abbrev pub last : List ℕ → ℕ
@@ -130,7 +130,7 @@ openings (suc k) c = OpenStart c 0 ∷ openings k (c + 1)
 
 -- as many as there are requests more than openings under way for none, as far as the open limit allows
 abbrev pub due_openings : Pooled → ℕ
-due_openings p = min (length p.waiting - free_openings p) (room p - open_count p)
+due_openings p = min (length p.waiting - free_openings p) (most_allowed p - open_count p)
 
 abbrev pub openings_for_waiting : Pooled → List Move
 openings_for_waiting p = openings (due_openings p) (next_number p)

@@ -10,7 +10,7 @@ use Rattle.dsql_pool.specs.declared.moves.Outcome.TheVariants.{Serves, Rests}
 use Rattle.dsql_pool.specs.declared.request.Asked.TheVariants as asked
 use Rattle.dsql_pool.specs.declared.request.AskFault.TheVariants.{TooMany}
 use Rattle.dsql_pool.specs.Counted.{saturated, largest_total}
-use Rattle.dsql_pool.specs.Pooled.{Pooled, fresh, place_at, open_count, next_number, next_tenure, is_limited, most_open, room}
+use Rattle.dsql_pool.specs.Pooled.{Pooled, fresh, place_at, open_count, next_number, next_tenure, is_limited, most_open, most_allowed}
 use Rattle.dsql_pool.specs.Moved.{made, begun, joined}
 use Rattle.dsql_pool.specs.Decisions.{takes_idle, ask_outcome, due_openings, openings, when_good, when_given_back, when_unwanted, falls_to}
 use Rattle.dsql_pool.specs.Calls.{moves_given_back, moves_opened}
@@ -18,16 +18,16 @@ use Rattle.dsql_pool.specs.Rest.{AtRest}
 use Rattle.dsql_pool.specs.Runs.{Call, May, AllMay, after, after_all}
 
 -- just after an opening at most as many are open as may be
-pub record OpensWithinRoom : Type 0 where
+pub record OpensAsAllowed : Type 0 where
   -- one that begins for a request
-  pub for_a_request : (r : Request) (p : Pooled) (c : ℕ) → ask_outcome r p ≡ Ok (asked.Opening c) → open_count (begun (Some r.owner) p) ≤ room p
+  pub for_a_request : (r : Request) (p : Pooled) (c : ℕ) → ask_outcome r p ≡ Ok (asked.Opening c) → open_count (begun (Some r.owner) p) ≤ most_allowed p
   -- each of those that begin for requests that wait
-  pub for_waiting : (p : Pooled) (k : ℕ) → k < due_openings p → open_count (made (openings (k + 1) (next_number p)) p) ≤ room p
+  pub for_waiting : (p : Pooled) (k : ℕ) → k < due_openings p → open_count (made (openings (k + 1) (next_number p)) p) ≤ most_allowed p
 
 -- a request waits only where it may take no idle connection, and as many are open as may be
 pub record WaitsOnlyAtTheLimit : Type 0 where
   pub none_idle : (r : Request) (p : Pooled) → ask_outcome r p ≡ Ok asked.Queued → takes_idle r p ≡ false
-  pub no_room : (r : Request) (p : Pooled) → ask_outcome r p ≡ Ok asked.Queued → room p ≤ open_count p
+  pub all_open : (r : Request) (p : Pooled) → ask_outcome r p ≡ Ok asked.Queued → most_allowed p ≤ open_count p
   pub still_open : (r : Request) (p : Pooled) → ask_outcome r p ≡ Ok asked.Queued → p.closed ≡ false
   -- and is refused only where no limit lets it wait
   pub refused : (r : Request) (p : Pooled) → ask_outcome r p ≡ Err TooMany → (is_limited p ≡ false) × (most_open ≤ open_count p)

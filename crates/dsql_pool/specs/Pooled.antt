@@ -83,8 +83,8 @@ abbrev pub is_limited : Pooled → Bool
 is_limited p = nat_le 1 p.limits.max_open && nat_le p.limits.max_open most_open
 
 -- how many connections may be open
-abbrev pub room : Pooled → ℕ
-room p = cond (is_limited p) p.limits.max_open most_open
+abbrev pub most_allowed : Pooled → ℕ
+most_allowed p = cond (is_limited p) p.limits.max_open most_open
 
 abbrev pub without : ℕ → List ℕ → List ℕ
 without n ns = filter (λ m. not (m == n)) ns

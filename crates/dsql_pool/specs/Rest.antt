@@ -3,7 +3,7 @@ use Rattle.std.specs.Prelude.{◌≡◌, ◌==◌, ℕ, suc, Bool, true, not, �
 use Rattle.std.specs.List.{list_all}
 use Rattle.dsql_journal.specs.Readers.{is_empty}
 use Rattle.dsql_pool.specs.Places.{conn_of, is_idle}
-use Rattle.dsql_pool.specs.Pooled.{Pooled, place_at, open_count, free_openings, room, most_open}
+use Rattle.dsql_pool.specs.Pooled.{Pooled, place_at, open_count, free_openings, most_allowed, most_open}
 use Rattle.dsql_pool.specs.Decisions.{cause_at}
 
 -- how often a number stands in a list
@@ -21,7 +21,7 @@ keeps_most p = nat_le (open_count p) most_open
 
 -- where more requests wait than openings are under way for none of their own, as many are open as may be
 abbrev pub opens_enough : Pooled → Bool
-opens_enough p = nat_le (length p.waiting) (free_openings p) || nat_le (room p) (open_count p)
+opens_enough p = nat_le (length p.waiting) (free_openings p) || nat_le (most_allowed p) (open_count p)
 
 -- where a request waits that isn't its call's last try, none is idle
 abbrev pub serves_those_that_wait : Pooled → Bool

@@ -1,13 +1,13 @@
 //! Laws of the pool: each law is the contract of a function that does nothing.
-ghost use Rattle.dsql_pool.specs.Laws.{FiguresCountTheMoves, OpensWithinRoom, RestsAfterEachCall, ServesTheOldest, WaitsOnlyAtTheLimit};
+ghost use Rattle.dsql_pool.specs.Laws.{FiguresCountTheMoves, OpensAsAllowed, RestsAfterEachCall, ServesTheOldest, WaitsOnlyAtTheLimit};
 
 /// Just after an opening at most as many connections are open as the open limit and the thousand allow.
-#[tactic(auto, using(crate::proofs::Lawful::opens_within_room))]
+#[tactic(auto, using(crate::proofs::Lawful::opens_as_allowed))]
 pub fn openings_stay_within_the_room()
-    ensures { OpensWithinRoom }
+    ensures { OpensAsAllowed }
 {}
 
-/// A request waits only where it may take no idle connection and there is no room.
+/// A request waits only where it may take no idle connection and as many are open as may be.
 #[tactic(auto, using(crate::proofs::Served::waits_only_at_the_limit))]
 pub fn a_request_waits_only_at_the_limit()
     ensures { WaitsOnlyAtTheLimit }

@@ -10,7 +10,7 @@ use dsql_value::Memory;
 impl Pool {
     ghost use Rattle.dsql_pool.specs.Places.{is_opening, is_closing};
     ghost use Rattle.dsql_journal.specs.Kinds.{number_of};
-    ghost use Rattle.dsql_pool.specs.Pooled.{room, place_at, next_tenure, most_open, most_drawn};
+    ghost use Rattle.dsql_pool.specs.Pooled.{most_allowed, place_at, next_tenure, most_open, most_drawn};
     ghost use Rattle.dsql_pool.specs.Moved.{made, moved};
     ghost use Rattle.dsql_pool.specs.Decisions.{when_unwanted, moves_unwanted, falls_to, due_openings, openings_for_waiting};
     ghost use Rattle.dsql_pool.specs.Calls.{moves_opened, moves_failed, moves_gone};
@@ -68,8 +68,8 @@ impl Pool {
     }
 
     // How many may be open.
-    fn room(&self) -> u64
-        ensures { result ≡ room self.now.pooled }
+    fn most_allowed(&self) -> u64
+        ensures { result ≡ most_allowed self.now.pooled }
     {
         let most = self.limits.max_open;
         if 1 <= most && most <= MOST_OPEN {
@@ -88,7 +88,7 @@ impl Pool {
             return 0;
         }
         let wanted = waiting.saturating_sub(self.conns.free_openings());
-        wanted.min(self.room().saturating_sub(self.conns.count()))
+        wanted.min(self.most_allowed().saturating_sub(self.conns.count()))
     }
 
     // The openings that are due begin.
