@@ -235,10 +235,10 @@ may_follow-valid c t n m a J s fits =
     })
 
 -- a call beyond what was reached keeps the order
-keeps_course : (p q : ℕ) (next : DriverCall → Bool) (L : List Entry) → p < q → list_all (λ x. nat_le (place x.call) p) L ≡ true
+stays_in_order : (p q : ℕ) (next : DriverCall → Bool) (L : List Entry) → p < q → list_all (λ x. nat_le (place x.call) p) L ≡ true
     → list_all (λ x. nat_lt (place x.call) q || next x.call) (filter is_body L) ≡ true
-keeps_course p q next [] less all = refl
-keeps_course p q next (x ∷ L) less all = grind (arith, nat_tests, less, all, keeps_course p q next L less)
+stays_in_order p q next [] less all = refl
+stays_in_order p q next (x ∷ L) less all = grind (arith, nat_tests, less, all, stays_in_order p q next L less)
 
 split : (a b : Bool) → (a && b) ≡ true → (a ≡ true) × (b ≡ true)
 split true b h = (refl, h)
@@ -255,12 +255,12 @@ next_behind (Query (Text text) params) h = refl
 next_behind (Query (Handle handle) params) h = refl
 next_behind _ h = refl
 
-next_course : (L : List Entry) → list_all (λ x. nat_le (place x.call) 4) L ≡ true → list_all (λ x. nat_lt (place x.call) 4 || (is_next x.call && true)) (filter is_body L) ≡ true
-next_course [] all = refl
-next_course (x ∷ L) all =
+next_in_order : (L : List Entry) → list_all (λ x. nat_le (place x.call) 4) L ≡ true → list_all (λ x. nat_lt (place x.call) 4 || (is_next x.call && true)) (filter is_body L) ≡ true
+next_in_order [] all = refl
+next_in_order (x ∷ L) all =
     let both = split (nat_le (place x.call) 4) (list_all (λ y. nat_le (place y.call) 4) L) all in
     let here : nat_lt (place x.call) 4 || (is_next x.call && true) ≡ true = next_behind x.call both.0 in
-    let rest : list_all (λ y. nat_lt (place y.call) 4 || (is_next y.call && true)) (filter is_body L) ≡ true = next_course L both.1 in
+    let rest : list_all (λ y. nat_lt (place y.call) 4 || (is_next y.call && true)) (filter is_body L) ≡ true = next_in_order L both.1 in
     by_body (is_body x) here rest
   where
     by_body : (b : Bool) → nat_lt (place x.call) 4 || (is_next x.call && true) ≡ true
@@ -281,7 +281,7 @@ works _ = false
 
 -- what a call of the body has of its own
 record Own (c t n m : ℕ) (q : DriverCall) (a : DriverAnswer) (J : List Entry) : Type 0 where
-  course : goes_in_order J (sent_entry c t n m q a) ≡ true
+  in_order : goes_in_order J (sent_entry c t n m q a) ≡ true
   close : closes_own_handle J (sent_entry c t n m q a) ≡ true
   cursor : uses_own_cursor J (sent_entry c t n m q a) ≡ true
   skip : follows_skip J (sent_entry c t n m q a) ≡ true
@@ -310,7 +310,7 @@ work_call _ n h = absurd cc
 -- what is beyond all that was sent
 beyond : (c t n m : ℕ) (q : DriverCall) (a : DriverAnswer) (J : List Entry) → Sends c t n q J → level (step (of_tenure t J)) < place q
     → goes_in_order J (sent_entry c t n m q a) ≡ true
-beyond c t n m q a J s higher = let so = s.so_far in keeps_course (level (step (of_tenure t J))) (place q) (λ r. is_next r && is_next q) (of_tenure t J) higher so.leveled
+beyond c t n m q a J s higher = let so = s.so_far in stays_in_order (level (step (of_tenure t J))) (place q) (λ r. is_next r && is_next q) (of_tenure t J) higher so.leveled
 
 may_follow-work : (c t n m : ℕ) (q : DriverCall) (a : DriverAnswer) (J : List Entry) → Sends c t n q J → works q ≡ true → Own c t n m q a J
     → fits_at_its_place J (sent_entry c t n m q a) ≡ true → may_follow J (sent_entry c t n m q a) ≡ true
@@ -332,7 +332,7 @@ may_follow-work c t n m q a J s work own fits =
         in_body = λ _. record {
           kind = rw k.3 k.4;
           ping_alone = rw k.3 (rw so.unpinged refl);
-          order = own.course;
+          order = own.in_order;
           own_cursor = own.cursor;
           own_close = own.close;
           skip = own.skip;
@@ -372,7 +372,7 @@ may_follow-text : (c t n m : ℕ) (text : List ℕ) (params : List Param) (a : D
 may_follow-text c t n m text params a J s fits =
     may_follow-work c t n m (Exec (Text text) params) a J s refl
     (record {
-      course = beyond c t n m (Exec (Text text) params) a J s (low_text (step (of_tenure t J)) text params s.next);
+      in_order = beyond c t n m (Exec (Text text) params) a J s (low_text (step (of_tenure t J)) text params s.next);
       close = refl;
       cursor = refl;
       skip = refl;
@@ -393,7 +393,7 @@ may_follow-query : (c t n m : ℕ) (text : List ℕ) (params : List Param) (a : 
 may_follow-query c t n m text params a J s fits =
     may_follow-work c t n m (Query (Text text) params) a J s refl
     (record {
-      course = beyond c t n m (Query (Text text) params) a J s (low_query (step (of_tenure t J)) text params s.next);
+      in_order = beyond c t n m (Query (Text text) params) a J s (low_query (step (of_tenure t J)) text params s.next);
       close = refl;
       cursor = refl;
       skip = refl;
@@ -423,7 +423,7 @@ may_follow-prepare c t n m text a J s fits =
     let k = early_prepare text (step (of_tenure t J)) s.next in
     may_follow-work c t n m (Prepare text) a J s refl
     (record {
-      course = beyond c t n m (Prepare text) a J s k.0;
+      in_order = beyond c t n m (Prepare text) a J s k.0;
       close = refl;
       cursor = refl;
       skip = so.skipped k.1;
@@ -479,7 +479,7 @@ may_follow-run c t n m handle params a J s fits =
     let given = split (list_all (λ x. is_prepare x.call ⇒ is_number (given_handle x.answer) handle) (of_tenure t J)) (list_any (λ x. is_number (given_handle x.answer) handle) (of_tenure t J)) k.gave in
     may_follow-work c t n m (Exec (Handle handle) params) a J s refl
     (record {
-      course = beyond c t n m (Exec (Handle handle) params) a J s k.low;
+      in_order = beyond c t n m (Exec (Handle handle) params) a J s k.low;
       close = refl;
       cursor = refl;
       skip = so.skipped k.early;
@@ -505,7 +505,7 @@ may_follow-handle c t n m handle params a J s fits =
     let given = split (list_all (λ x. is_prepare x.call ⇒ is_number (given_handle x.answer) handle) (of_tenure t J)) (list_any (λ x. is_number (given_handle x.answer) handle) (of_tenure t J)) k.gave in
     may_follow-work c t n m (Query (Handle handle) params) a J s refl
     (record {
-      course = beyond c t n m (Query (Handle handle) params) a J s k.low;
+      in_order = beyond c t n m (Query (Handle handle) params) a J s k.low;
       close = refl;
       cursor = refl;
       skip = so.skipped k.early;
@@ -555,7 +555,7 @@ may_follow-close c t n m handle a J s fits =
     let none : cursors J ≡ [] = s.open_rows ∙ k.none in
     may_follow-work c t n m (CloseStmt handle) a J s refl
     (record {
-      course = beyond c t n m (CloseStmt handle) a J s k.low;
+      in_order = beyond c t n m (CloseStmt handle) a J s k.low;
       close = k.gave;
       cursor = refl;
       skip = refl;
@@ -601,7 +601,7 @@ may_follow-next c t n m rows a J s fits =
     let named = named_rows t rows k.columns false J (s.open_rows ∙ k.is) in
     may_follow-work c t n m (Next rows) a J s refl
     (record {
-      course = next_course (of_tenure t J) (raised (level (step (of_tenure t J))) 4 (of_tenure t J) k.low so.leveled);
+      in_order = next_in_order (of_tenure t J) (raised (level (step (of_tenure t J))) 4 (of_tenure t J) k.low so.leveled);
       close = refl;
       cursor = k.gave;
       skip = refl;
@@ -644,7 +644,7 @@ may_follow-free c t n m rows a J s fits =
     let named = named_rows t rows k.columns k.over J (s.open_rows ∙ k.is) in
     may_follow-work c t n m (CloseRows rows) a J s refl
     (record {
-      course = beyond c t n m (CloseRows rows) a J s k.low;
+      in_order = beyond c t n m (CloseRows rows) a J s k.low;
       close = refl;
       cursor = k.gave;
       skip = refl;

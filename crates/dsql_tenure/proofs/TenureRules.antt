@@ -122,15 +122,15 @@ module _ (before : List Entry) (e : Entry) where
         (part.has_owner (last_owner earlier) e.owner) (tenure.has_one_owner before e) (tenure.has_no_valid_before before e) (is_none (last_owner earlier)) true
         (one_owner earlier e.owner (of_one_owner e.tenure before h last)) (sym (is_none-owner earlier))
 
-    course-is : (tenure.tests_without_transaction e && tenure.follows_no_bad_reset before e && (is_body e ⇒ tenure.keeps_body e.owner before e)) ≡ part.keeps_course (so_far earlier) before e
-    course-is = ap (λ b. tenure.tests_without_transaction e && tenure.follows_no_bad_reset before e && b) (if_same (is_body e) _ _ (λ is. keeps_body-is e.owner))
+    tests_and_body-is : (tenure.tests_without_transaction e && tenure.follows_no_bad_reset before e && (is_body e ⇒ tenure.keeps_body e.owner before e)) ≡ part.keeps_tests_and_body (so_far earlier) before e
+    tests_and_body-is = ap (λ b. tenure.tests_without_transaction e && tenure.follows_no_bad_reset before e && b) (if_same (is_body e) _ _ (λ is. keeps_body-is e.owner))
 
     -- the rules of a tenure in groups
     pub keeps_tenure-groups : keeps_tenure before e ≡ (part.keeps_shape (so_far earlier) e && part.keeps_rest (so_far earlier) before e)
     keeps_tenure-groups =
         all_ten (tenure.has_one_owner before e && tenure.is_alone_of_house before e && tenure.is_house_call e && tenure.has_house_numbers e && tenure.resets_first before e && tenure.has_no_valid_before before e)
         (tenure.is_whole_at_valid before e) (tenure.tests_without_transaction e) (tenure.follows_no_bad_reset before e) (is_body e ⇒ tenure.keeps_body e.owner before e)
-        (part.keeps_shape (so_far earlier) e) (part.keeps_course (so_far earlier) before e) shape-is course-is
+        (part.keeps_shape (so_far earlier) e) (part.keeps_tests_and_body (so_far earlier) before e) shape-is tests_and_body-is
       where
         all_ten : (a w t b k x y : Bool) → a ≡ x → (t && b && k) ≡ y → (a && w && t && b && k) ≡ (x && (w && y))
         all_ten a w t b k x y p q = rw p (go x w)

@@ -70,9 +70,9 @@ keeps_body s (Pin n) before e = is_pin_body e
 keeps_body s House before e = true
 
 -- tests in no transaction, nothing after a Reset answered Bad, and the body
-abbrev pub keeps_course : SoFar → List Entry → Entry → Bool
-keeps_course s before e = (is_reset e.call || is_valid e.call ⇒ e.tx == 0) && not s.fell && (is_body e ⇒ keeps_body s e.owner before e)
+abbrev pub keeps_tests_and_body : SoFar → List Entry → Entry → Bool
+keeps_tests_and_body s before e = (is_reset e.call || is_valid e.call ⇒ e.tx == 0) && not s.fell && (is_body e ⇒ keeps_body s e.owner before e)
 
 -- it is whole at its Valid, and the rest
 abbrev pub keeps_rest : SoFar → List Entry → Entry → Bool
-keeps_rest s before e = is_whole_at_valid before e && keeps_course s before e
+keeps_rest s before e = is_whole_at_valid before e && keeps_tests_and_body s before e

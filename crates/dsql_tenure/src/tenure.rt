@@ -49,7 +49,7 @@ impl Tables {
         requires last { last_tenure (past self.now) ≤ asked.now.tenure }
         ensures { result ≡ part.keeps_rest so_far.now (past self.now) (entry_like asked.now) }
     {
-        self.is_whole_at_valid(asked) && self.keeps_course(so_far, asked)
+        self.is_whole_at_valid(asked) && self.keeps_tests_and_body(so_far, asked)
     }
 
     fn is_whole_at_valid(&self, asked: &Asked<'_>) -> bool
@@ -61,9 +61,9 @@ impl Tables {
     }
 
     /// Tests stand in no transaction, a Reset answered Bad is the last, and the body keeps its rules.
-    fn keeps_course(&self, so_far: &SoFar, asked: &Asked<'_>) -> bool
+    fn keeps_tests_and_body(&self, so_far: &SoFar, asked: &Asked<'_>) -> bool
         requires { Stands self.now }
-        ensures { result ≡ part.keeps_course so_far.now (past self.now) (entry_like asked.now) }
+        ensures { result ≡ part.keeps_tests_and_body so_far.now (past self.now) (entry_like asked.now) }
     {
         if so_far.fell {
             return false;
