@@ -7,3 +7,4 @@ pub mod Pool
 pub mod Owed
 pub mod HandedOut
 pub mod Calls
+pub mod Clients

@@ -11,3 +11,4 @@ pub mod Stands
 pub mod House
 pub mod Settled
 pub mod Replies
+pub mod Flights

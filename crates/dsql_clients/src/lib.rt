@@ -9,5 +9,5 @@ mod reply;
 pub use dsql_history::{Aim, FaultWord, Work};
 pub use dsql_pool::{CloseCause, Move, Place, Stats};
 pub use event::{Event, Op, Setting};
-pub use record::{CallRecord, Stand, Try};
+pub use record::{CallRecord, Flight, Stand, Try};
 pub use reply::{DbEnd, Reply};

@@ -11,6 +11,13 @@ pub enum Try {
     Refused(DriverAnswer),
 }
 
+/// A driver call that is under way: the call that sent it, and the connection on which it is made.
+#[derive(Clone, Copy, Debug, PartialEq, Eq)]
+pub struct Flight {
+    pub call: u32,
+    pub conn: u32,
+}
+
 /// Where an unfinished call is between two steps.
 #[derive(Clone, Copy, Debug, PartialEq, Eq)]
 pub enum Stand {

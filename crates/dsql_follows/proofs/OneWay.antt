@@ -11,8 +11,9 @@ use Rattle.dsql_clients.specs.declared.record.Stand.TheVariants.{Waits, Opens, S
 use Rattle.dsql_clients.specs.Rules.Stands.{stand}
 use Rattle.dsql_follows.specs.declared.line.Line.{Line}
 use Rattle.dsql_follows.specs.declared.line.Line.TheVariants.{Skip, Set, Client, Start, Step, StepHouse}
-use Rattle.dsql_follows.specs.Clients.{call_of, is_free, client_of}
-use Rattle.dsql_follows.specs.Moments.{Moment, Passed, met, at_end, stepping, begins_step, is_in_flight, at_rest, rested, walk, kept}
+use Rattle.dsql_clients.specs.Readers.Clients.{call_of, is_free, client_of}
+use Rattle.dsql_clients.specs.Rules.Flights.{is_in_flight}
+use Rattle.dsql_follows.specs.Moments.{Moment, Passed, met, at_end, stepping, begins_step, at_rest, rested, walk, kept}
 use Rattle.dsql_follows.specs.Turns.{can_move, first_chore, next_client, is_it, is_turn_of, has_run_out, comes_in_turn}
 use Rattle.dsql_follows.specs.Sentences.{Part, passed, oldest, later, begins, begins_with_step, come_in_turn, after_part, is_one_step, enters_now, is_entry_of, is_set_in, hears, goes_on_by_itself, wakes, starts_at, steps_at, steps_free, steps_call, carries, tidies_at}
 use Rattle.dsql_follows.specs.Follows.{Played, FollowsLine, FollowsLines, Follows, told, script, history, after}

@@ -6,19 +6,14 @@ use Rattle.dsql_pool.specs.declared.moves.Move.{Move}
 use Rattle.dsql_pool.specs.declared.moves.Move.TheVariants.{OpenStart, Lend}
 use Rattle.dsql_clients.specs.declared.event.Event.{Event}
 use Rattle.dsql_clients.specs.declared.event.Event.TheVariants.{Run, Entered, Heard, Pool, Waits, SetLimit, Replied, Ended}
-use Rattle.dsql_clients.specs.declared.record.Stand.{Stand}
-use Rattle.dsql_clients.specs.declared.record.Stand.TheVariants.{Sends}
+use Rattle.dsql_clients.specs.declared.record.Flight.{Flight}
 use Rattle.dsql_clients.specs.Readers.Owed.{owed}
 use Rattle.dsql_clients.specs.Rules.Course.{is_run, is_from_outside}
+use Rattle.dsql_clients.specs.Rules.Flights.{permitted, without_flight}
 use Rattle.dsql_clients.specs.Rules.Stands.{stand}
 use Rattle.dsql_follows.specs.declared.line.Line.{Line}
 use Rattle.dsql_follows.specs.declared.line.Line.TheVariants.{Skip, Client, Start}
-use Rattle.dsql_follows.specs.Clients.{made_by}
-
--- a permit in flight: the call that has it, and the connection on which its driver call is made
-pub record Flight : Type 0 where
-  pub call : ℕ
-  pub conn : ℕ
+use Rattle.dsql_clients.specs.Readers.Clients.{made_by}
 
 -- What happened and the lines that were read are newest first. The newest event is part of a step of this call, and at 0 of the layer or of a line. At the
 -- script's end the calls that were held are released.
@@ -66,21 +61,6 @@ begins_step m e = is_run e || (is_from_outside e || not (stepping m e == m.stepp
 
 -- Flights.
 
-abbrev pub is_in_flight : ℕ → List Flight → Bool
-is_in_flight n flights = list_any (λ flight. flight.call == n) flights
-
-abbrev pub has_flight : ℕ → List Flight → Bool
-has_flight c flights = list_any (λ flight. flight.conn == c) flights
-
--- with a permit of call n on connection c, unless the call or the connection has one already
-abbrev pub with_flight : ℕ → ℕ → List Flight → List Flight
-with_flight n c flights = cond (is_in_flight n flights || has_flight c flights) flights (record { call = n; conn = c } ∷ flights)
-
--- call n stands so, and gets a permit where its driver call is due
-abbrev pub permitted : ℕ → Option Stand → List Flight → List Flight
-permitted n (Some (Sends c)) flights = with_flight n c flights
-permitted n _ flights = flights
-
 abbrev pub takes_permit : ℕ → Moment → Moment
 takes_permit n m = record m { flights = permitted n (stand m.past n) m.flights }
 
@@ -90,7 +70,7 @@ at_rest m = takes_permit m.stepper m
 
 -- a permit is in flight until its answer is heard
 abbrev pub landed : Event → List Flight → List Flight
-landed (Heard e) flights = filter (λ flight. not (flight.call == e.call_no)) flights
+landed (Heard e) flights = without_flight e.call_no flights
 landed _ flights = flights
 
 abbrev pub with_event : Event → Moment → Moment

@@ -13,8 +13,10 @@ use Rattle.dsql_clients.specs.Rules.Stands.{stand}
 use Rattle.dsql_follows.specs.declared.line.Line.{Line}
 use Rattle.dsql_follows.specs.declared.line.Line.TheVariants.{Set, Client, Start, Step, StepHouse}
 use Rattle.dsql_follows.specs.Same.{same_op, same_setting}
-use Rattle.dsql_follows.specs.Clients.{call_of, is_free}
-use Rattle.dsql_follows.specs.Moments.{Flight, Moment, Passed, met, stepping, begins_step, is_in_flight, takes_permit, walk, after_events, kept}
+use Rattle.dsql_clients.specs.Readers.Clients.{call_of, is_free}
+use Rattle.dsql_clients.specs.declared.record.Flight.{Flight}
+use Rattle.dsql_clients.specs.Rules.Flights.{is_in_flight}
+use Rattle.dsql_follows.specs.Moments.{Moment, Passed, met, stepping, begins_step, takes_permit, walk, after_events, kept}
 use Rattle.dsql_follows.specs.Turns.{can_move, first_chore, is_chore, comes_in_turn, has_run_out}
 
 -- Steps. Here m is the moment once the line is read, or at the script's end, and these events come then.

@@ -8,8 +8,9 @@ use Rattle.dsql_clients.specs.declared.record.Stand.TheVariants.{Sends}
 use Rattle.dsql_clients.specs.Rules.Stands.{stand}
 use Rattle.dsql_follows.specs.declared.line.Line.{Line}
 use Rattle.dsql_follows.specs.declared.line.Line.TheVariants.{Start, Step, StepHouse}
-use Rattle.dsql_follows.specs.Clients.{call_of, is_free}
-use Rattle.dsql_follows.specs.Moments.{Moment, just_begun, met, is_in_flight, begins_step, at_rest, rested, with_event, kept}
+use Rattle.dsql_clients.specs.Readers.Clients.{call_of, is_free}
+use Rattle.dsql_clients.specs.Rules.Flights.{is_in_flight}
+use Rattle.dsql_follows.specs.Moments.{Moment, just_begun, met, begins_step, at_rest, rested, with_event, kept}
 use Rattle.dsql_follows.specs.Turns.{can_move, first_chore, has_run_out}
 use Rattle.dsql_follows.specs.Sentences.{Part, after_part, enters_now, has_own_step, runs_on}
 use Rattle.dsql_follows.specs.Follows.{Played}

@@ -6,35 +6,22 @@ use Rattle.dsql_journal.specs.declared.entry.Entry.{Entry}
 use Rattle.dsql_journal.specs.Readers.{has, is_empty}
 use Rattle.dsql_clients.specs.declared.event.Event.{Event}
 use Rattle.dsql_clients.specs.declared.event.Event.TheVariants.{Run, Entered, Heard, SetLimit, Ended}
-use Rattle.dsql_clients.specs.declared.record.Stand.{Stand}
-use Rattle.dsql_clients.specs.declared.record.Stand.TheVariants.{Waits, Opens, Sends}
 use Rattle.dsql_clients.specs.Readers.Course.{has_ended}
 use Rattle.dsql_clients.specs.Readers.Unfinished.{is_unfinished}
-use Rattle.dsql_clients.specs.Rules.House.{tidy_due, shut_due, connect_due}
-use Rattle.dsql_clients.specs.Rules.Stands.{stand}
+use Rattle.dsql_clients.specs.Rules.Flights.{is_in_flight, may_move}
+use Rattle.dsql_clients.specs.Rules.House.{chore_due}
 use Rattle.dsql_follows.specs.declared.line.Line.{Line}
 use Rattle.dsql_follows.specs.declared.line.Line.TheVariants.{Client, Start}
-use Rattle.dsql_follows.specs.Clients.{call_of, is_free, client_of}
-use Rattle.dsql_follows.specs.Moments.{Flight, Moment, stepping, is_in_flight, kept, is_held}
-
--- another's permit is in flight on connection c
-abbrev pub is_taken : ℕ → ℕ → List Flight → Bool
-is_taken n c flights = list_any (λ flight. (flight.conn == c) && not (flight.call == n)) flights
-
--- Call n, which stands so, is blocked: it waits, or a connection is being opened for it, or another's permit is in flight where its driver call is due.
-abbrev pub is_blocked : List Flight → ℕ → Option Stand → Bool
-is_blocked flights n (Some Waits) = true
-is_blocked flights n (Some (Opens c)) = true
-is_blocked flights n (Some (Sends c)) = is_taken n c flights
-is_blocked flights n it = false
+use Rattle.dsql_clients.specs.Readers.Clients.{call_of, is_free, client_of}
+use Rattle.dsql_follows.specs.Moments.{Moment, stepping, kept, is_held}
 
 -- the call has no reply, and its permit is in flight or it isn't blocked
 abbrev pub can_move : Moment → ℕ → Bool
-can_move m n = is_unfinished m.past n && (is_in_flight n m.flights || not (is_blocked m.flights n (stand m.past n)))
+can_move m n = may_move m.past m.flights n
 
 -- the connection on which the layer's own call that comes first is made, if there is any
 abbrev pub first_chore : Moment → Option ℕ
-first_chore m = or_else (tidy_due m.past) (or_else (shut_due m.past) (connect_due m.past))
+first_chore m = chore_due m.past
 
 -- a free client goes on by the first line that is kept, and else its call, where that isn't held
 abbrev pub may_go_by : Moment → ℕ → ℕ → Bool

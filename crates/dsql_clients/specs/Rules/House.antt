@@ -1,6 +1,7 @@
 -- The layer's own calls, in their order: what tidies up rows comes before a Shut, that before a Connect, and the smallest connection first.
 use Rattle.std.specs.Prelude.{ℕ, Bool, false, List, Option, Some, is_none, is_some, ◌&&◌}
 use Rattle.std.specs.List.{list_all}
+use Rattle.dsql_course.specs.Made.{or_else}
 use Rattle.dsql_journal.specs.declared.entry.Owner.TheVariants.{Call}
 use Rattle.dsql_pool.specs.declared.conn.Place.{Place}
 use Rattle.dsql_pool.specs.declared.conn.Place.TheVariants.{Lent}
@@ -28,9 +29,13 @@ is_untidy before _ = false
 abbrev pub tidy_due : List Event → Option ℕ
 tidy_due before = smallest (is_untidy before) (pool before)
 
+-- the connection on which the layer's own call that comes first is made, if there is any
+abbrev pub chore_due : List Event → Option ℕ
+chore_due before = or_else (tidy_due before) (or_else (shut_due before) (connect_due before))
+
 -- the layer has no driver call of its own to make
 abbrev pub has_no_chore : List Event → Bool
-has_no_chore before = is_none (tidy_due before) && (is_none (shut_due before) && is_none (connect_due before))
+has_no_chore before = is_none (chore_due before)
 
 -- every call has its reply or waits, and there is no chore
 abbrev pub is_quiet : List Event → Bool
