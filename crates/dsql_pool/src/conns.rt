@@ -73,6 +73,13 @@ impl Conns {
         self.rows.len() as u64
     }
 
+    /// They in their order.
+    pub fn rows(&self) -> &[Conn]
+        ensures { result.now ≡ self.now.conns }
+    {
+        self.rows.as_slice()
+    }
+
     /// How many are being opened for no request of their own.
     pub fn free_openings(&self) -> u64
         ensures { result ≡ count_by (λ conn. is_free conn.place) self.now.conns }

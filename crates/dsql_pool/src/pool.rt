@@ -5,6 +5,7 @@ mod giving_back;
 mod leaving;
 mod making;
 mod opening;
+mod questions;
 mod settings;
 mod statistics;
 mod ticks;

@@ -27,8 +27,8 @@ impl Pool {
         }
     }
 
-    // The number of a connection's next tenure.
-    pub(super) fn next_tenure(&self, conn: u32) -> u32
+    /// The number of a connection's next tenure.
+    pub fn next_tenure(&self, conn: u32) -> u32
         requires { self.now.pooled.drawn ≤ most_drawn }
         ensures { result ≡ next_tenure self.now.pooled conn }
     {
