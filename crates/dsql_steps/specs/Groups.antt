@@ -1,0 +1,76 @@
+-- The events of one step, in their order. A history is newest first, so the last event of a step stands leftmost.
+use Rattle.std.specs.Prelude.{ℕ, ℤ, Bool, not, ◌&&◌, cond, List, ◌∷◌, Option, Some, None, Result, Err, is_some}
+use Rattle.dsql_journal.specs.declared.entry.Entry.{Entry}
+use Rattle.dsql_journal.specs.declared.entry.Owner.TheVariants.{Call}
+use Rattle.dsql_pool.specs.declared.conn.Place.{Place}
+use Rattle.dsql_pool.specs.declared.conn.Place.TheVariants.{Lent}
+use Rattle.dsql_pool.specs.declared.request.Asked.{Asked}
+use Rattle.dsql_pool.specs.declared.request.AskFault.{AskFault}
+use Rattle.dsql_pool.specs.declared.request.AskFault.TheVariants as faults
+use Rattle.dsql_clients.specs.declared.event.Event.{Event}
+use Rattle.dsql_clients.specs.declared.event.Event.TheVariants.{Entered, Heard, SetLimit, Replied, Ended}
+use Rattle.dsql_clients.specs.declared.event.Op.{Op}
+use Rattle.dsql_clients.specs.declared.event.Setting.{Setting}
+use Rattle.dsql_clients.specs.declared.reply.Reply.{Reply}
+use Rattle.dsql_clients.specs.declared.reply.Reply.TheVariants.{TooMany}
+use Rattle.dsql_clients.specs.Readers.Unfinished.{is_unfinished}
+use Rattle.dsql_clients.specs.Readers.Pool.{place}
+use Rattle.dsql_clients.specs.Readers.Owed.{given_back, owed}
+use Rattle.dsql_clients.specs.Readers.Calls.{next_call, reply_due}
+use Rattle.dsql_clients.specs.Rules.Asking.{may_ask, ask_outcome}
+use Rattle.dsql_clients.specs.Rules.Line.{due_for, is_used}
+use Rattle.dsql_client_laws.specs.Asked.{with_asked}
+use Rattle.dsql_client_laws.specs.OwedMade.{with_moves}
+
+-- the moves come that the pool owes
+abbrev pub with_owed : List Event → List Event
+with_owed past = with_moves (owed past) past
+
+-- call n asked, and this came of it
+abbrev pub asked_so : ℕ → Result Asked AskFault → List Event → List Event
+asked_so n (Err faults.TooMany) past = Replied n TooMany ∷ past
+asked_so n outcome past = with_asked n outcome past
+
+-- call n asks for a connection, where it may
+abbrev pub after_asking : ℕ → List Event → List Event
+after_asking n past = cond (may_ask past n) (asked_so n (ask_outcome past n) past) past
+
+abbrev pub after_settling : ℕ → Option Reply → List Event → List Event
+after_settling n (Some reply) past = Replied n reply ∷ past
+after_settling n None past = after_asking n past
+
+-- the call has no reply, and no driver call of it is due
+abbrev pub sends_nothing : List Event → ℕ → Bool
+sends_nothing past n = is_unfinished past n && not (is_some (due_for past n))
+
+-- Call n goes on by itself as far as it can. Where no driver call of it is due it replies what is settled, or else asks for a connection where it may. There is no call 0.
+abbrev pub gone_on : ℕ → List Event → List Event
+gone_on n past = cond (sends_nothing past n) (after_settling n (reply_due past n) past) past
+
+-- a call enters
+abbrev pub after_enter : List Event → ℕ → Op → List Event
+after_enter past client op = gone_on (next_call past) (with_owed (Entered client (next_call past) op ∷ past))
+
+-- connection c, which is lent to call n, is given back where it isn't in use any more
+abbrev pub let_go : ℕ → ℕ → List Event → List Event
+let_go c n past = cond (is_used past n) past (with_moves (given_back past c) past)
+
+abbrev pub heard_at : Option Place → Entry → List Event → List Event
+heard_at (Some (Lent tenure (Call n))) e past = gone_on e.call_no (let_go e.conn n (Heard e ∷ past))
+heard_at _ e past = with_owed (Heard e ∷ past)
+
+-- a driver's answer is heard
+abbrev pub after_heard : List Event → Entry → List Event
+after_heard past e = heard_at (place past e.conn) e past
+
+-- a limit is set
+abbrev pub after_set : List Event → Setting → ℤ → List Event
+after_set past setting n = with_owed (SetLimit setting n ∷ past)
+
+-- the run ends
+abbrev pub after_end : List Event → List Event
+after_end past = with_owed (Ended ∷ past)
+
+-- a run stops at so many events
+abbrev pub most_events : ℕ
+most_events = 4000000
