@@ -1,17 +1,10 @@
-//! Tests of the tables of what is open, of the pool and of the judge of journals: what no clause of theirs says.
+//! Tests of the tables of what is open and of the pool: that they find memory, and what else no clause of
+//! theirs says. Where a table answered that it took memory for a call, a clause says that the call finds it.
 #![tactic(auto)]
 
-#[cfg(test)]
-mod pin;
 #[cfg(test)]
 mod pool;
 #[cfg(test)]
 mod rows;
 #[cfg(test)]
-mod stmt;
-#[cfg(test)]
-mod tenure;
-#[cfg(test)]
-mod tx;
-#[cfg(test)]
-mod wait;
+mod table;

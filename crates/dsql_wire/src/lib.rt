@@ -16,6 +16,3 @@ pub use heard::Heard;
 pub use opening::connect;
 pub use request::Opened;
 pub use wire::{JournaledWire, Retired};
-
-#[cfg(test)]
-mod tests;
