@@ -1,0 +1,26 @@
+//! Laws of steps. A history is read newest first.
+
+ghost use Rattle.std.specs.Prelude.{◌≡◌, ◌==◌, ◌⊎◌, [], ℕ, ℤ, false};
+ghost use Rattle.dsql_journal.specs.declared.entry.Entry.{Entry};
+ghost use Rattle.dsql_clients.specs.declared.event.Event.TheVariants.{Entered, Heard, SetLimit, Ended};
+ghost use Rattle.dsql_clients.specs.declared.event.Op.{Op};
+ghost use Rattle.dsql_clients.specs.declared.event.Setting.{Setting};
+ghost use Rattle.dsql_clients.specs.Readers.Calls.{next_call};
+ghost use Rattle.dsql_clients.specs.Readers.Owed.{owed};
+ghost use Rattle.dsql_follows.specs.Moments.{Moment};
+ghost use Rattle.dsql_steps.specs.Groups.{after_enter, after_heard, after_set, after_end, gone_on};
+ghost use Rattle.dsql_step_laws.specs.Steps.{IsAtRest, MakesStep, GoesByItself};
+
+/// A call that enters, an answer, a limit and the run's end are each one step, with all that comes of it. It is the
+/// step of the call that enters or is answered, and else of nobody.
+pub fn each_step_is_one()
+    ensures enter { (m : Moment) (client : ℕ) (op : Op) → IsAtRest m → MakesStep m (Entered client (next_call m.past) op) (next_call m.past) (after_enter m.past client op) }
+    ensures heard { (m : Moment) (e : Entry) → IsAtRest m → MakesStep m (Heard e) e.call_no (after_heard m.past e) }
+    ensures set { (m : Moment) (setting : Setting) (n : ℤ) → IsAtRest m → MakesStep m (SetLimit setting n) 0 (after_set m.past setting n) }
+    ensures end { (m : Moment) → IsAtRest m → MakesStep m Ended 0 (after_end m.past) }
+{}
+
+/// A call that goes on by itself, and didn't step last, makes one step, or nothing comes.
+pub fn a_call_that_goes_on_makes_one_step()
+    ensures { (m : Moment) (n : ℕ) → IsAtRest m → owed m.past ≡ [] → (n == m.stepper) ≡ false → (gone_on n m.past ≡ m.past) ⊎ GoesByItself m n (gone_on n m.past) }
+{}
