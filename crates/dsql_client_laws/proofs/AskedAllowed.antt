@@ -79,7 +79,8 @@ takes_last r p c t h takes is =
     let idle : is_idle (place_at p (last p.idle)) ≡ true = member_is_idle p.idle p.conns (last p.idle) h.placed (last_stands p.idle (not_empty (not r.last) (is_empty p.idle) takes)) in
     record { idle = subst (λ d. is_idle (place_at p d) ≡ true) conn idle; tenure = sym tenure ∙ ap (next_tenure p) conn }
 
-lends_idle : (r : Request) (p : Pooled) (c t : ℕ) (closed takes : Bool) → AtRest p → takes_idle r p ≡ takes → cond closed (Ok asked.Closed) (cond takes (Ok (asked.Lent (last p.idle) (next_tenure p (last p.idle)))) (when_none_idle p)) ≡ Ok (asked.Lent c t) → Takes p c t
+-- a request is lent an idle connection
+pub lends_idle : (r : Request) (p : Pooled) (c t : ℕ) (closed takes : Bool) → AtRest p → takes_idle r p ≡ takes → cond closed (Ok asked.Closed) (cond takes (Ok (asked.Lent (last p.idle) (next_tenure p (last p.idle)))) (when_none_idle p)) ≡ Ok (asked.Lent c t) → Takes p c t
 lends_idle r p c t true takes h e is = absurd cc
 lends_idle r p c t false true h e is = takes_last r p c t h e is
 lends_idle r p c t false false h e is = absurd (no_lending p c t (are_too_many p) (may_open p) is)

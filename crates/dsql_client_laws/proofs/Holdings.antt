@@ -92,7 +92,7 @@ opening_asked H c n (due ∷ later) k is own some =
     absurd (some (same_number n 0 none))
 
 -- a lending is deserved, or comes of the call's asking
-lending_from : (H : List Event) (c t : ℕ) (o : Owner) (n : ℕ) (ms : List Move) → Keeps H (Pool (Lend c t o n)) → owed H ≡ ms → AllDeserved ms (pool H) → (may_ask H n ≡ true) ⊎ Deserves c n (pool H)
+pub lending_from : (H : List Event) (c t : ℕ) (o : Owner) (n : ℕ) (ms : List Move) → Keeps H (Pool (Lend c t o n)) → owed H ≡ ms → AllDeserved ms (pool H) → (may_ask H n ≡ true) ⊎ Deserves c n (pool H)
 lending_from H c t o n [] k is h =
     let asked = asks_now H n (Lend c t o n) is k.asking in
     let a = both (may_ask H n) (is_first (moves_asked (request H n) (ask_outcome H n)) (Lend c t o n)) asked in

@@ -49,11 +49,11 @@ use Rattle.dsql_client_laws.proofs.Holdings.{by_call, opening_asked, one_at_most
 abbrev pub is_opening_for : ℕ → Conn → Bool
 is_opening_for n x = is_for n x.place
 
-abbrev openings_for : ℕ → Pooled → ℕ
+abbrev pub openings_for : ℕ → Pooled → ℕ
 openings_for n p = count_by (is_opening_for n) p.conns
 
 -- the requests and the openings of call n
-abbrev wanted : ℕ → Pooled → ℕ
+abbrev pub wanted : ℕ → Pooled → ℕ
 wanted n p = waits_of n p + openings_for n p
 
 pub any_counts : (n : ℕ) (conns : List Conn) → list_any (λ conn. is_for n conn.place) conns ≡ true → 1 ≤ count_by (is_opening_for n) conns
@@ -73,7 +73,7 @@ wants_counts n p h = by_waiting (waits n p.waiting) refl h
     by_waiting false is k = let some = any_counts n p.conns k in omega (arith, some)
 
 -- a call with work of its own has entered, and keeps it
-same_work : (ws : List Work) (w : Work) (n : ℕ) → asks (slice_index_or ws n Look) ≡ true → asks (slice_index_or (ws ++ w ∷ []) n Look) ≡ true
+pub same_work : (ws : List Work) (w : Work) (n : ℕ) → asks (slice_index_or ws n Look) ≡ true → asks (slice_index_or (ws ++ w ∷ []) n Look) ≡ true
 same_work [] w n h = absurd cc
 same_work (v ∷ ws) w zero h = h
 same_work (v ∷ ws) w (suc n) h = same_work ws w n h
@@ -87,17 +87,17 @@ unwanted_opening n x = at x.place refl
     at (Opening w) is = rw is (omega arith)
     at Closing is = rw is (omega arith)
 
-shut_wants : (n : ℕ) (p : Pooled) → wanted n (shut p) ≤ wanted n p
+pub shut_wants : (n : ℕ) (p : Pooled) → wanted n (shut p) ≤ wanted n p
 shut_wants n p = let few = mapped_fewer (is_opening_for n) unwanted p.conns (unwanted_opening n) in omega (arith, few)
 
-begun_wants : (n : ℕ) (w : Option Owner) (p : Pooled) → wanted n (begun w p) ≡ wanted n p + cond {A = ℕ} (is_for n (Opening w)) 1 0
+pub begun_wants : (n : ℕ) (w : Option Owner) (p : Pooled) → wanted n (begun w p) ≡ wanted n p + cond {A = ℕ} (is_for n (Opening w)) 1 0
 begun_wants n w p = let more = count-more (is_opening_for n) (opening (next_number p) w) p.conns in omega (arith, more)
 
-wanted_opening : (k n : ℕ) → n ≢ 0 → cond {A = ℕ} (is_for n (Opening (wanted_by k))) 1 0 ≤ cond {A = ℕ} (k == n) 1 0
+pub wanted_opening : (k n : ℕ) → n ≢ 0 → cond {A = ℕ} (is_for n (Opening (wanted_by k))) 1 0 ≤ cond {A = ℕ} (k == n) 1 0
 wanted_opening k n some =
     elim (k == 0) as (λ b. cond {A = ℕ} (is_for n (Opening (cond b None (Some (Call k))))) 1 0 ≤ cond {A = ℕ} (k == n) 1 0) [ true ↦ omega arith | false ↦ omega arith ]
 
-same_limit : (s : Setting) (k : ℤ) (n : ℕ) (p : Pooled) → wanted n (with_limit s k p) ≡ wanted n p
+pub same_limit : (s : Setting) (k : ℤ) (n : ℕ) (p : Pooled) → wanted n (with_limit s k p) ≡ wanted n p
 same_limit MaxOpen k n p = refl
 same_limit MaxIdle k n p = refl
 
@@ -188,7 +188,7 @@ homes_apart n (x ∷ xs) =
     at (Opening w) is = rw is (omega arith)
     at Closing is = rw is (omega arith)
 
-found_counts : (q : Conn → Bool) (c : ℕ) (conns : List Conn) → passing q (conn_of c conns) ≤ count_by q conns
+pub found_counts : (q : Conn → Bool) (c : ℕ) (conns : List Conn) → passing q (conn_of c conns) ≤ count_by q conns
 found_counts q c [] = omega arith
 found_counts q c (x ∷ xs) =
     let rest = found_counts q c xs in
@@ -199,7 +199,7 @@ abbrev place_or : Option Place → Place
 place_or None = Idle
 place_or (Some it) = it
 
-lent_found : (n t : ℕ) (o : Option Conn) → option_map (λ x. x.place) o ≡ Some (Lent t (Call n)) → passing (is_lent_out n) o ≡ 1
+pub lent_found : (n t : ℕ) (o : Option Conn) → option_map (λ x. x.place) o ≡ Some (Lent t (Call n)) → passing (is_lent_out n) o ≡ 1
 lent_found n t None is = absurd cc
 lent_found n t (Some x) is =
     let at : x.place ≡ Lent t (Call n) = ap place_or is in
