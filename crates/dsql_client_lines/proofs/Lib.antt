@@ -1,0 +1,11 @@
+pub mod Standing
+pub mod Lines
+pub mod UnderWay
+pub mod Hands
+pub mod Invariant
+pub mod Answered
+pub mod Stood
+pub mod Sound
+pub mod Following
+pub mod Handed
+pub mod Exchanged
