@@ -85,7 +85,7 @@ own_requests (Ended ∷ H) = refl
 
 -- an answer that leaves a whole journal
 
-connect_fails : (call : DriverCall) (answer : DriverAnswer) → is_connect call ≡ true → fits_of call answer ≡ true → not (is_memory answer) ≡ true → is_done answer ≡ false → is_failure answer ≡ true
+pub connect_fails : (call : DriverCall) (answer : DriverAnswer) → is_connect call ≡ true → fits_of call answer ≡ true → not (is_memory answer) ≡ true → is_done answer ≡ false → is_failure answer ≡ true
 connect_fails calls.Connect answers.Bad is fits heard not_done = refl
 connect_fails calls.Connect (answers.Fail text) is fits heard not_done = refl
 connect_fails calls.Connect answers.Memory is fits heard not_done = absurd cc

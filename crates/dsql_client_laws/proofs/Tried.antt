@@ -53,10 +53,10 @@ unlent n x = at x.place refl
     at (Opening wanted) is = rw is (omega arith)
     at Closing is = rw is (omega arith)
 
-shut_fewer : (n : ℕ) (p : Pooled) → lent_count n (shut p) ≤ lent_count n p
+pub shut_fewer : (n : ℕ) (p : Pooled) → lent_count n (shut p) ≤ lent_count n p
 shut_fewer n p = mapped_fewer (is_lent_out n) unwanted p.conns (unlent n)
 
-begun_same : (n c : ℕ) (w : Option Owner) (conns : List Conn) → count_by (is_lent_out n) (conns ++ opening c w ∷ []) ≤ count_by (is_lent_out n) conns
+pub begun_same : (n c : ℕ) (w : Option Owner) (conns : List Conn) → count_by (is_lent_out n) (conns ++ opening c w ∷ []) ≤ count_by (is_lent_out n) conns
 begun_same n c w conns = let more = count-more (is_lent_out n) (opening c w) conns in omega (arith, more)
 
 lent_one : (b : Bool) (had now : ℕ) (ts : List Try) → had ≤ length ts → (b ≡ false → now ≤ had) → now ≤ had + 1 → now ≤ length (with_try b Served ts)
@@ -67,7 +67,7 @@ more_tries : (b : Bool) (t : Try) (now : ℕ) (ts : List Try) → now ≤ length
 more_tries true t now ts h = omega (arith, h)
 more_tries false t now ts h = h
 
-same_limit : (s : Setting) (k : ℤ) (n : ℕ) (p : Pooled) → lent_count n (with_limit s k p) ≡ lent_count n p
+pub same_limit : (s : Setting) (k : ℤ) (n : ℕ) (p : Pooled) → lent_count n (with_limit s k p) ≡ lent_count n p
 same_limit MaxOpen k n p = refl
 same_limit MaxIdle k n p = refl
 

@@ -65,7 +65,7 @@ any_counts n (x ∷ xs) h =
       | false ↦ λ is k. let rest = any_counts n xs k in omega (arith, split, rest)
     ] refl h
 
-wants_counts : (n : ℕ) (p : Pooled) → wants n p ≡ true → 1 ≤ wanted n p
+pub wants_counts : (n : ℕ) (p : Pooled) → wants n p ≡ true → 1 ≤ wanted n p
 wants_counts n p h = by_waiting (waits n p.waiting) refl h
   where
     by_waiting : (b : Bool) → waits n p.waiting ≡ b → (b || list_any (λ conn. is_for n conn.place) p.conns) ≡ true → 1 ≤ wanted n p
@@ -101,7 +101,7 @@ pub same_limit : (s : Setting) (k : ℤ) (n : ℕ) (p : Pooled) → wanted n (wi
 same_limit MaxOpen k n p = refl
 same_limit MaxIdle k n p = refl
 
-works_alone : (H : List Event) (n : ℕ) → may_ask H n ≡ true → asks (work H n) ≡ true
+pub works_alone : (H : List Event) (n : ℕ) → may_ask H n ≡ true → asks (work H n) ≡ true
 works_alone H n may =
     let a = both (is_unfinished H n) (asks (work H n) && (has_a_try (tries H n) && (not (wants n (pool H)) && is_none (reply_due H n)))) may in
     let b = both (asks (work H n)) (has_a_try (tries H n) && (not (wants n (pool H)) && is_none (reply_due H n))) a.1 in b.0
@@ -207,7 +207,7 @@ lent_found n t (Some x) is =
     ap (λ (at : Place). cond {A = ℕ} (is_lent_out n (record x { place = at })) 1 0) at ∙ ap (λ (b : Bool). cond {A = ℕ} b 1 0) itself
 
 -- what call n would send on its own connection it sends where that is lent to it
-sends_where_lent : (H : List Event) (n : ℕ) (w : Wish) (c : ℕ) (at : Option Place) → place H c ≡ at → is_some (line_at H n w c at) ≡ true → 1 ≤ lent_count n (pool H)
+pub sends_where_lent : (H : List Event) (n : ℕ) (w : Wish) (c : ℕ) (at : Option Place) → place H c ≡ at → is_some (line_at H n w c at) ≡ true → 1 ≤ lent_count n (pool H)
 sends_where_lent H n w c (Some (Lent t (Call m))) is h =
     by_call m n (1 ≤ lent_count n (pool H))
     (λ same.
@@ -238,7 +238,7 @@ of_another H n l some not = by (wants n (pool H)) refl
     by false is = is
     by true is = let clash : true ≡ false = sym (wants_its_own H n l some is) ∙ not in absurd cc
 
-none_wanted : (n : ℕ) (p : Pooled) → wanted n p ≡ 0 → wants n p ≡ false
+pub none_wanted : (n : ℕ) (p : Pooled) → wanted n p ≡ 0 → wants n p ≡ false
 none_wanted n p none = by (wants n p) refl
   where
     by : (b : Bool) → wants n p ≡ b → wants n p ≡ false

@@ -1,0 +1,9 @@
+use Rattle.dsql_client_calls.proofs.Untried.{wants_untried}
+use Rattle.dsql_client_calls.proofs.Enders.{unended}
+use Rattle.dsql_client_calls.proofs.replies.what_has_not_come_yet.Goals as goal
+
+pub returns-clause-tries : goal.returns-clause-tries
+returns-clause-tries c = wants_untried
+
+pub returns-clause-ender : goal.returns-clause-ender
+returns-clause-ender c = unended

@@ -1,0 +1,42 @@
+//! What touches no other call. A history is read newest first.
+
+ghost use Rattle.std.specs.Prelude.{◌≡◌, ◌≢◌, ◌∷◌, ℕ, ℤ, true, List};
+ghost use Rattle.dsql_pool.specs.declared.moves.Move.TheVariants.{OpenStart};
+ghost use Rattle.dsql_clients.specs.declared.event.Event.{Event};
+ghost use Rattle.dsql_clients.specs.declared.event.Event.TheVariants.{Pool, Replied, SetLimit, Waits};
+ghost use Rattle.dsql_clients.specs.declared.event.Setting.{Setting};
+ghost use Rattle.dsql_clients.specs.declared.reply.Reply.{Reply};
+ghost use Rattle.dsql_clients.specs.Rules.Line.{due_for};
+ghost use Rattle.dsql_clients.specs.Rules.Settled.{goes_on, goes_on_but, uses_what_is_lent};
+
+/// A reply leaves what is due of each other call, and what is lent is in use as before. Where each other call was
+/// somewhere, each is after it.
+pub fn a_reply_touches_no_other_call()
+    ensures due { (history : List Event) (n m : ℕ) (reply : Reply) → m ≢ n → due_for (Replied n reply ∷ history) m ≡ due_for history m }
+    ensures used { (history : List Event) (n : ℕ) (reply : Reply) → uses_what_is_lent (Replied n reply ∷ history) ≡ uses_what_is_lent history }
+    ensures others { (history : List Event) (n : ℕ) (reply : Reply) → goes_on_but n history ≡ true → goes_on (Replied n reply ∷ history) ≡ true }
+{}
+
+/// That a call waits leaves what is due of each, and what is lent is in use as before. Where each other call was
+/// somewhere, each is after it.
+pub fn a_wait_touches_no_other_call()
+    ensures due { (history : List Event) (n m : ℕ) → due_for (Waits n ∷ history) m ≡ due_for history m }
+    ensures used { (history : List Event) (n : ℕ) → uses_what_is_lent (Waits n ∷ history) ≡ uses_what_is_lent history }
+    ensures others { (history : List Event) (n : ℕ) → goes_on_but n history ≡ true → goes_on (Waits n ∷ history) ≡ true }
+{}
+
+/// A limit leaves what is due of each call, what is in use, and where the calls are, before the moves that it makes
+/// due.
+pub fn a_limit_touches_no_call()
+    ensures due { (history : List Event) (setting : Setting) (number : ℤ) (m : ℕ) → due_for (SetLimit setting number ∷ history) m ≡ due_for history m }
+    ensures used { (history : List Event) (setting : Setting) (number : ℤ) → uses_what_is_lent (SetLimit setting number ∷ history) ≡ uses_what_is_lent history }
+    ensures others { (history : List Event) (setting : Setting) (number : ℤ) (n : ℕ) → goes_on_but n history ≡ true → goes_on_but n (SetLimit setting number ∷ history) ≡ true }
+{}
+
+/// An opening that begins leaves what is due of each call, and what is lent is in use as before. Where each call but
+/// the one that it is for was somewhere, each is after it.
+pub fn an_opening_touches_no_other_call()
+    ensures due { (history : List Event) (c n m : ℕ) → due_for (Pool (OpenStart c n) ∷ history) m ≡ due_for history m }
+    ensures used { (history : List Event) (c n : ℕ) → uses_what_is_lent (Pool (OpenStart c n) ∷ history) ≡ uses_what_is_lent history }
+    ensures others { (history : List Event) (c n : ℕ) → goes_on_but n history ≡ true → goes_on (Pool (OpenStart c n) ∷ history) ≡ true }
+{}
