@@ -18,3 +18,5 @@ pub mod Untouched
 pub mod Numbers
 pub mod Openings
 pub mod Nowhere
+pub mod Closings
+pub mod LimitMoves

@@ -87,7 +87,7 @@ no_line_nowhere H n w c at is = ap (line_at H n w c) is
 abbrev found_home : ℕ → List Conn → Option Conn
 found_home n conns = find (λ conn. is_home n conn.place) conns
 
-abbrev number_or : Option Conn → ℕ
+abbrev pub number_or : Option Conn → ℕ
 number_or o = or_none (option_map (λ conn. conn.number) o)
 
 pub opens_lines : (H : List Event) (c k n : ℕ) (w : Wish) → line_of (opens_for H c k) n w ≡ line_of H n w
@@ -195,7 +195,7 @@ still_somewhere false o (Some c) rest more h = refl
 still_somewhere false None None rest more h = h
 still_somewhere false (Some c) None rest more h = let clash : false ≡ true = more refl in absurd cc
 
-abbrev otherwise : List Event → ℕ → Option DriverCall → Option Stand
+abbrev pub otherwise : List Event → ℕ → Option DriverCall → Option Stand
 otherwise H m due = or_else (stands (is_some due) (stands_at.Sends (site H m))) (stands (is_none (decided H m) && is_some (told_by_others H m)) stands_at.Replies)
 
 site_opens : (H : List Event) (c k m : ℕ) (d : Option DriverCall) → is_some (otherwise (opens_for H c k) m d) ≡ is_some (otherwise H m d)
@@ -203,7 +203,7 @@ site_opens H c k m None = refl
 site_opens H c k m (Some q) = refl
 
 -- who stands somewhere without an opening does so wherever its connection is
-same_otherwise : (w : Bool) (o : Option ℕ) (r s : Option Stand) → is_some r ≡ is_some s → is_some (or_else (stands w stands_at.Waits) (or_else (opens o) r)) ≡ is_some (or_else (stands w stands_at.Waits) (or_else (opens o) s))
+pub same_otherwise : (w : Bool) (o : Option ℕ) (r s : Option Stand) → is_some r ≡ is_some s → is_some (or_else (stands w stands_at.Waits) (or_else (opens o) r)) ≡ is_some (or_else (stands w stands_at.Waits) (or_else (opens o) s))
 same_otherwise true o r s h = refl
 same_otherwise false (Some c) r s h = refl
 same_otherwise false None r s h = h
@@ -244,3 +244,13 @@ goes_on_opens H c n h = all_so (λ m. (m == n) || is_some (stand H m)) (λ m. (m
         by : (b : Bool) → (m == n) ≡ b → (b || is_some (stand H m)) ≡ true → ((m == 0) || is_some (stand (opens_for H c n) m)) ≡ true
         by true is k = own (n == 0) refl (same_number m n is)
         by false is k = or_second (m == 0) (is_some (stand (opens_for H c n) m)) (stand_opens H c n m k)
+
+pub goes_on_opens_but : (H : List Event) (c k n : ℕ) → goes_on_but n H ≡ true → goes_on_but n (opens_for H c k) ≡ true
+goes_on_opens_but H c k n h = all_so (λ m. (m == n) || is_some (stand H m)) (λ m. (m == n) || is_some (stand (opens_for H c k) m)) (unfinished H) each h
+  where
+    each : (m : ℕ) → ((m == n) || is_some (stand H m)) ≡ true → ((m == n) || is_some (stand (opens_for H c k) m)) ≡ true
+    each m so = by (m == n) so
+      where
+        by : (b : Bool) → (b || is_some (stand H m)) ≡ true → (b || is_some (stand (opens_for H c k) m)) ≡ true
+        by true is = refl
+        by false is = stand_opens H c k m is

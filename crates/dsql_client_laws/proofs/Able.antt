@@ -72,7 +72,7 @@ then_able J ms p h =
 
 -- idle connections that begin to be closed, the longest idle first
 
-placed_once : (b : Bool) (n : ℕ) → suc n ≡ cond {A = ℕ} b 1 0 → (b ≡ true) × (n ≡ 0)
+pub placed_once : (b : Bool) (n : ℕ) → suc n ≡ cond {A = ℕ} b 1 0 → (b ≡ true) × (n ≡ 0)
 placed_once true n h = (refl, omega (arith, h))
 placed_once false n h = absurd (omega (arith, h))
 
@@ -84,7 +84,7 @@ without_none c (e ∷ es) h =
       | false ↦ λ k. ap (λ xs. e ∷ xs) (without_none c es k)
     ] h
 
-without_first : (c : ℕ) (ns : List ℕ) → times c ns ≡ 0 → without c (c ∷ ns) ≡ ns
+pub without_first : (c : ℕ) (ns : List ℕ) → times c ns ≡ 0 → without c (c ∷ ns) ≡ ns
 without_first c ns none = ap (λ (b : Bool). cond (not b) (c ∷ without c ns) (without c ns)) (same_itself c) ∙ without_none c ns none
 
 closings_able : (J : ℕ → List Entry) (why : CloseCause) (cs more : List ℕ) (p : Pooled) → p.idle ≡ cs ++ more → Placed p.idle p.conns → are_able J (map (λ c. CloseStart c why) cs) p ≡ true
