@@ -242,7 +242,7 @@ live_after H (Replied m reply) a o k = o.live k
 live_after H Ended a o k = none_at_end k (handed_out H)
 
 -- a call that enters has no connection, and ended no rows
-new_unlent : (H : List Event) (client m : ℕ) (op : Op) → Lawful H → Allowed H (Entered client m op) → lent_count m (pool H) ≡ 0
+pub new_unlent : (H : List Event) (client m : ℕ) (op : Op) → Lawful H → Allowed H (Entered client m op) → lent_count m (pool H) ≡ 0
 new_unlent H client m op l a = by (lent_count m (pool H)) refl
   where
     by : (k : ℕ) → lent_count m (pool H) ≡ k → lent_count m (pool H) ≡ 0

@@ -20,3 +20,5 @@ pub mod Openings
 pub mod Nowhere
 pub mod Closings
 pub mod LimitMoves
+pub mod Entries
+pub mod Told

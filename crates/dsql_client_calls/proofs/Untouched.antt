@@ -152,7 +152,7 @@ all_without q r n (m ∷ ms) so h =
       | false ↦ λ is. together (r m) (list_all r (without n ms)) (so m is a.0) rest
     ] refl
 
-apart_of : (m n : ℕ) → (m == n) ≡ false → m ≢ n
+pub apart_of : (m n : ℕ) → (m == n) ≡ false → m ≢ n
 apart_of m n other same = let clash : true ≡ false = sym (ap (λ k. m == k) (sym same) ∙ same_itself m) ∙ other in cc
 
 pub goes_on_replied : (H : List Event) (n : ℕ) (reply : Reply) → goes_on_but n H ≡ true → goes_on (Replied n reply ∷ H) ≡ true

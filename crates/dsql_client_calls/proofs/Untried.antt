@@ -82,7 +82,7 @@ lends_one H c t o n a =
     omega (arith, counted, here)
 
 -- who is lent a connection wants none
-lends_unwanting : (H : List Event) (c t : ℕ) (o : Owner) (n : ℕ) → Lawful (Pool (Lend c t o n) ∷ H) → n ≢ 0 → wanted n (moved (Lend c t o n) (pool H)) ≡ 0
+pub lends_unwanting : (H : List Event) (c t : ℕ) (o : Owner) (n : ℕ) → Lawful (Pool (Lend c t o n) ∷ H) → n ≢ 0 → wanted n (moved (Lend c t o n) (pool H)) ≡ 0
 lends_unwanting H c t o n l some =
     let q = moved (Lend c t o n) (pool H) in
     let lent_one = lends_one H c t o n l.1 in
@@ -103,7 +103,7 @@ gone_one q c (x ∷ xs) =
     ]
 
 -- to whom a refusal falls wants no connection any more
-fallen_unwanting : (H : List Event) (c n : ℕ) → Lawful (Pool (Fell c n) ∷ H) → n ≢ 0 → wanted n (moved (Fell c n) (pool H)) ≡ 0
+pub fallen_unwanting : (H : List Event) (c n : ℕ) → Lawful (Pool (Fell c n) ∷ H) → n ≢ 0 → wanted n (moved (Fell c n) (pool H)) ≡ 0
 fallen_unwanting H c n l some = let f = falls H c n l.1 in by f.wanted f.opening f.to
   where
     by : (w : Option Owner) → place H c ≡ Some (Opening w) → n ≡ falls_to (Some (Opening w)) (pool H) → wanted n (moved (Fell c n) (pool H)) ≡ 0
@@ -174,7 +174,7 @@ joins_untried H k n may had now =
 other_try : (k n : ℕ) (x : Try) (ts : List Try) → (k == n) ≡ false → length (with_try (k == n) x ts) ≡ length ts
 other_try k n x ts not = ap (λ b. length (with_try b x ts)) not
 
-wanting_untried : (H : List Event) (n : ℕ) → Lawful H → n ≢ 0 → 1 ≤ wanted n (pool H) → length (tries H n) ≡ 0
+pub wanting_untried : (H : List Event) (n : ℕ) → Lawful H → n ≢ 0 → 1 ≤ wanted n (pool H) → length (tries H n) ≡ 0
 wanting_untried [] n l some now = refl
 wanting_untried (Run version can ∷ H) n l some now = wanting_untried H n l.0 some now
 wanting_untried (Entered client m DbClose ∷ H) n l some now = let few = shut_wants n (pool H) in wanting_untried H n l.0 some (omega (arith, few, now))

@@ -5,7 +5,8 @@ ghost use Rattle.dsql_pool.specs.declared.moves.Move.TheVariants.{CloseStart, Op
 ghost use Rattle.dsql_pool.specs.declared.conn.Place.TheVariants.{Idle};
 ghost use Rattle.dsql_pool.specs.declared.moves.CloseCause.{CloseCause};
 ghost use Rattle.dsql_clients.specs.declared.event.Event.{Event};
-ghost use Rattle.dsql_clients.specs.declared.event.Event.TheVariants.{Pool, Replied, SetLimit, Waits};
+ghost use Rattle.dsql_clients.specs.declared.event.Event.TheVariants.{Entered, Pool, Replied, SetLimit, Waits};
+ghost use Rattle.dsql_clients.specs.declared.event.Op.{Op};
 ghost use Rattle.dsql_clients.specs.declared.event.Setting.{Setting};
 ghost use Rattle.dsql_clients.specs.declared.reply.Reply.{Reply};
 ghost use Rattle.dsql_clients.specs.Readers.Owed.{owed};
@@ -14,6 +15,7 @@ ghost use Rattle.dsql_clients.specs.Rules.Line.{due_for};
 ghost use Rattle.dsql_clients.specs.Rules.Settled.{goes_on, goes_on_but, uses_what_is_lent};
 ghost use Rattle.dsql_clients.specs.Legal.{Lawful};
 ghost use Rattle.dsql_client_laws.specs.OwedMade.{with_moves};
+ghost use Rattle.dsql_client_calls.specs.Entries.{is_plain};
 
 /// A reply leaves what is due of each other call, and what is lent is in use as before. Where each other call was
 /// somewhere, each is after it.
@@ -53,4 +55,12 @@ pub fn an_idle_closing_touches_no_call()
     ensures due { (history : List Event) (c m : ℕ) (cause : CloseCause) → place history c ≡ Some Idle → due_for (Pool (CloseStart c cause) ∷ history) m ≡ due_for history m }
     ensures used { (history : List Event) (c : ℕ) (cause : CloseCause) → place history c ≡ Some Idle → uses_what_is_lent (Pool (CloseStart c cause) ∷ history) ≡ uses_what_is_lent history }
     ensures others { (history : List Event) (c n : ℕ) (cause : CloseCause) → place history c ≡ Some Idle → goes_on_but n history ≡ true → goes_on_but n (Pool (CloseStart c cause) ∷ history) ≡ true }
+{}
+
+/// A call that enters leaves what is due of each other, which connections are in use, and where the others are, unless
+/// it closes rows or the database.
+pub fn an_entry_touches_no_other_call()
+    ensures due { (history : List Event) (client n m : ℕ) (op : Op) → Lawful (Entered client n op ∷ history) → is_plain op ≡ true → m ≢ n → due_for (Entered client n op ∷ history) m ≡ due_for history m }
+    ensures used { (history : List Event) (client n : ℕ) (op : Op) → Lawful (Entered client n op ∷ history) → is_plain op ≡ true → uses_what_is_lent (Entered client n op ∷ history) ≡ uses_what_is_lent history }
+    ensures others { (history : List Event) (client n : ℕ) (op : Op) → Lawful (Entered client n op ∷ history) → is_plain op ≡ true → goes_on_but n history ≡ true → goes_on_but n (Entered client n op ∷ history) ≡ true }
 {}

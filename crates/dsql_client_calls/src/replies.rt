@@ -1,6 +1,6 @@
 //! Which calls have their reply settled, and which have had a try. A history is read newest first.
 
-ghost use Rattle.std.specs.Prelude.{◌≡◌, ◌≢◌, [], ◌∷◌, ℕ, true, false, List, is_some};
+ghost use Rattle.std.specs.Prelude.{◌≡◌, ◌≢◌, [], ◌∷◌, ℕ, true, false, List, None, is_some};
 ghost use Rattle.dsql_driver.specs.declared.answer.DriverAnswer.{DriverAnswer};
 ghost use Rattle.dsql_pool.specs.Calls.{wants};
 ghost use Rattle.dsql_history.specs.declared.work.Work.TheVariants.{Close, Look};
@@ -27,8 +27,9 @@ pub fn who_sends_nothing_replies()
     ensures unserved { (history : List Event) (n : ℕ) → Lawful history → is_unfinished history n ≡ true → wants n (pool history) ≡ false → may_ask history n ≡ false → was_served (tries history n) ≡ false → is_fetch (work history n) ≡ false → is_some (reply_due history n) ≡ true }
 {}
 
-/// Who wants a connection has had no try yet. Rows that nothing has ended have no call that ended them.
+/// Who wants a connection has had no try yet, and has settled nothing itself. Rows that nothing has ended have no call that ended them.
 pub fn what_has_not_come_yet()
     ensures tries { (history : List Event) (n : ℕ) → Lawful history → n ≢ 0 → wants n (pool history) ≡ true → tries history n ≡ [] }
+    ensures undecided { (history : List Event) (n : ℕ) → Lawful history → n ≢ 0 → wants n (pool history) ≡ true → decided history n ≡ None }
     ensures ender { (history : List Event) (n : ℕ) → over (rows_by history n) ≡ false → ender history n ≡ 0 }
 {}

@@ -128,7 +128,7 @@ joins_for H k n may had now =
     let none : cond {A = ℕ} (k == n) 1 0 ≡ 0 = ap (λ (b : Bool). cond {A = ℕ} b 1 0) not in
     had (omega (arith, more, none, now)))
 
-wanting_works : (H : List Event) (n : ℕ) → Lawful H → n ≢ 0 → 1 ≤ wanted n (pool H) → asks (work H n) ≡ true
+pub wanting_works : (H : List Event) (n : ℕ) → Lawful H → n ≢ 0 → 1 ≤ wanted n (pool H) → asks (work H n) ≡ true
 wanting_works [] n l some now = absurd (omega (arith, now))
 wanting_works (Run version can ∷ H) n l some now = wanting_works H n l.0 some now
 wanting_works (Entered client m DbClose ∷ H) n l some now =
