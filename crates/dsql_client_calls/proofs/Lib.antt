@@ -22,3 +22,4 @@ pub mod Closings
 pub mod LimitMoves
 pub mod Entries
 pub mod Told
+pub mod Answered

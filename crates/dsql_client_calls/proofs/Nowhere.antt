@@ -39,7 +39,7 @@ last_fails true true true false o h ha hb hc hd = absurd cc
 
 -- one that asks for a connection
 
-told_own : (H : List Event) (n : ℕ) (w : Work) → asks w ≡ true → told_of_work H n w ≡ told_by_tries H (tries H n)
+pub told_own : (H : List Event) (n : ℕ) (w : Work) → asks w ≡ true → told_of_work H n w ≡ told_by_tries H (tries H n)
 told_own H n Execute own = refl
 told_own H n (ReadOne dests) own = refl
 told_own H n (HandOut label) own = refl

@@ -93,12 +93,12 @@ not_heard H e n l some now same =
     let none : length (tries H e.call_no) ≡ 0 = ap (λ k. length (tries H k)) (sym same) ∙ wanting_untried H n l.0 some now in
     absurd (omega (arith, tried, none))
 
-not_entering : (H : List Event) (client m : ℕ) (op : Op) (n : ℕ) → Lawful (Entered client m op ∷ H) → n ≢ 0 → 1 ≤ wanted n (pool H) → n ≢ m
+pub not_entering : (H : List Event) (client m : ℕ) (op : Op) (n : ℕ) → Lawful (Entered client m op ∷ H) → n ≢ 0 → 1 ≤ wanted n (pool H) → n ≢ m
 not_entering H client m op n l some now same =
     let new = enters_next H client m op l.1 in
     never (sym (wanting_works H n l.0 some now) ∙ ap works.asks (no_work_yet H n (omega (arith, new, same))))
 
-entered_undecided : (H : List Event) (client m : ℕ) (op : Op) (n : ℕ) → Lawful (Entered client m op ∷ H) → n ≢ 0 → 1 ≤ wanted n (pool H) → decided H n ≡ None → decided (Entered client m op ∷ H) n ≡ None
+pub entered_undecided : (H : List Event) (client m : ℕ) (op : Op) (n : ℕ) → Lawful (Entered client m op ∷ H) → n ≢ 0 → 1 ≤ wanted n (pool H) → decided H n ≡ None → decided (Entered client m op ∷ H) n ≡ None
 entered_undecided H client m op n l some now had = ap (λ r. r.decided) (old_record H client m op n (enters_next H client m op l.1) (not_entering H client m op n l some now)) ∙ had
 
 replied_undecided : (H : List Event) (m : ℕ) (reply : Reply) (n : ℕ) → decided H n ≡ None → decided (Replied m reply ∷ H) n ≡ None
@@ -110,7 +110,7 @@ replied_undecided H m reply n had = by (read_set (calls H) m (record (call_recor
     by (inl w) = ap (λ r. r.decided) w.2
     by (inr w) = ap (λ r. r.decided) w.1 ∙ had
 
-wanting_undecided : (H : List Event) (n : ℕ) → Lawful H → n ≢ 0 → 1 ≤ wanted n (pool H) → decided H n ≡ None
+pub wanting_undecided : (H : List Event) (n : ℕ) → Lawful H → n ≢ 0 → 1 ≤ wanted n (pool H) → decided H n ≡ None
 wanting_undecided [] n l some now = absurd (omega (arith, now))
 wanting_undecided (Run version can ∷ H) n l some now = wanting_undecided H n l.0 some now
 wanting_undecided (Entered client m DbClose ∷ H) n l some now =

@@ -26,10 +26,10 @@ none_found q (x ∷ xs) h =
       | false ↦ λ is k. rw is (none_found q xs k)
     ] refl h
 
-none_opens : (n : ℕ) (p : Pooled) → list_any (λ conn. is_for n conn.place) p.conns ≡ false → smallest (is_for n) p ≡ None
+pub none_opens : (n : ℕ) (p : Pooled) → list_any (λ conn. is_for n conn.place) p.conns ≡ false → smallest (is_for n) p ≡ None
 none_opens n p none = ap (option_map (λ conn. conn.number)) (none_found (λ conn. is_for n conn.place) p.conns none)
 
-neither : (a b : Bool) → (a || b) ≡ false → (a ≡ false) × (b ≡ false)
+pub neither : (a b : Bool) → (a || b) ≡ false → (a ≡ false) × (b ≡ false)
 neither true b h = absurd cc
 neither false b h = (refl, h)
 
