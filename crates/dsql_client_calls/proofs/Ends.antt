@@ -59,7 +59,7 @@ some_of (Some q) call h = refl
 
 -- as the run ends each call that has no reply waits
 
-waits_only : (w d r : Bool) (o : Option ℕ) (c : ℕ) → is_waiting (or_else (stands w stands_at.Waits) (or_else (opens o) (or_else (stands d (stands_at.Sends c)) (stands r stands_at.Replies)))) ≡ true → w ≡ true
+pub waits_only : (w d r : Bool) (o : Option ℕ) (c : ℕ) → is_waiting (or_else (stands w stands_at.Waits) (or_else (opens o) (or_else (stands d (stands_at.Sends c)) (stands r stands_at.Replies)))) ≡ true → w ≡ true
 waits_only true d r o c h = refl
 waits_only false d r (Some k) c h = absurd cc
 waits_only false true r None c h = absurd cc
@@ -74,7 +74,7 @@ all_has q (m ∷ ns) n h k = let a = both (q m) (list_all q ns) h in by (all_has
     by rest true is j here = subst (λ i. q i ≡ true) (same_number m n is) here
     by rest false is j here = rest j
 
-quiet_at_end : (H : List Event) → Allowed H Ended → is_quiet H ≡ true
+pub quiet_at_end : (H : List Event) → Allowed H Ended → is_quiet H ≡ true
 unfolding Allowed
 quiet_at_end H a =
     let b = both (begins_with_run H Ended) (ends_once H Ended) a.course in

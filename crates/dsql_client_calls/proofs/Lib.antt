@@ -23,3 +23,4 @@ pub mod LimitMoves
 pub mod Entries
 pub mod Told
 pub mod Answered
+pub mod Ending

@@ -34,12 +34,12 @@ use Rattle.dsql_client_calls.proofs.Openings.{due_opens, used_opens, goes_on_ope
 use Rattle.dsql_client_calls.proofs.Closings.{due_closes, used_closes, goes_on_closes}
 
 -- it closes an idle connection, or begins an opening for no request of its own
-abbrev is_quiet : Pooled → Move → Bool
+abbrev pub is_quiet : Pooled → Move → Bool
 is_quiet p (CloseStart c why) = is_idle (place_at p c)
 is_quiet p (OpenStart c n) = n == 0
 is_quiet p _ = false
 
-abbrev are_quiet : List Move → Pooled → Bool
+abbrev pub are_quiet : List Move → Pooled → Bool
 are_quiet [] p = true
 are_quiet (m ∷ ms) p = is_quiet p m && are_quiet ms (moved m p)
 
@@ -52,7 +52,7 @@ openings_quiet : (k c : ℕ) (p : Pooled) → are_quiet (openings k c) p ≡ tru
 openings_quiet zero c p = refl
 openings_quiet (suc k) c p = openings_quiet k (c + 1) (begun None p)
 
-closings_quiet : (why : CloseCause) (cs more : List ℕ) (p : Pooled) → p.idle ≡ cs ++ more → Placed p.idle p.conns → are_quiet (map (λ c. CloseStart c why) cs) p ≡ true
+pub closings_quiet : (why : CloseCause) (cs more : List ℕ) (p : Pooled) → p.idle ≡ cs ++ more → Placed p.idle p.conns → are_quiet (map (λ c. CloseStart c why) cs) p ≡ true
 closings_quiet why [] more p is h = refl
 closings_quiet why (c ∷ cs) more p is h =
     let first : times c (c ∷ (cs ++ more)) ≡ suc (times c (cs ++ more)) = ap (λ (b : Bool). cond b (suc (times c (cs ++ more))) (times c (cs ++ more))) (same_itself c) in
@@ -81,10 +81,10 @@ idle_place (Some Closing) h = absurd cc
 idle_place None h = absurd cc
 
 -- for each call and each connection all is as it was
-record Untouched (H K : List Event) (n : ℕ) : Type 0 where
-  due : (m : ℕ) → due_for K m ≡ due_for H m
-  used : uses_what_is_lent K ≡ uses_what_is_lent H
-  others : goes_on_but n H ≡ true → goes_on_but n K ≡ true
+pub record Untouched (H K : List Event) (n : ℕ) : Type 0 where
+  pub due : (m : ℕ) → due_for K m ≡ due_for H m
+  pub used : uses_what_is_lent K ≡ uses_what_is_lent H
+  pub others : goes_on_but n H ≡ true → goes_on_but n K ≡ true
 
 one_quiet : (H : List Event) (m : Move) (n : ℕ) → is_quiet (pool H) m ≡ true → Untouched H (Pool m ∷ H) n
 one_quiet H (CloseStart c why) n h =
@@ -103,7 +103,7 @@ quiet_moved p (Back c) h = absurd cc
 quiet_moved p (Gone c) h = absurd cc
 quiet_moved p (Fell c k) h = absurd cc
 
-all_quiet : (H : List Event) (ms : List Move) (n : ℕ) → are_quiet ms (pool H) ≡ true → Untouched H (with_moves ms H) n
+pub all_quiet : (H : List Event) (ms : List Move) (n : ℕ) → are_quiet ms (pool H) ≡ true → Untouched H (with_moves ms H) n
 all_quiet H [] n h = record { due = λ m. refl; used = refl; others = λ k. k }
 all_quiet H (m ∷ ms) n h =
     let a = both (is_quiet (pool H) m) (are_quiet ms (moved m (pool H))) h in

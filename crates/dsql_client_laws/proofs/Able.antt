@@ -106,10 +106,10 @@ open_set_able J n p h = then_able J (closings_of_setting (open_set n p)) (open_s
 pub idle_set_able : (J : ℕ → List Entry) (n : ℤ) (p : Pooled) → Placed p.idle p.conns → are_able J (closings_of_setting (idle_set n p)) (idle_set n p) ≡ true
 idle_set_able J n p h = surplus_able J (idle_set n p) h
 
-keeps_number : (x : Conn) → (unwanted x).number ≡ x.number
+pub keeps_number : (x : Conn) → (unwanted x).number ≡ x.number
 keeps_number x = elim (is_opening (Some x.place)) as (λ b. (cond b (record x { place = Opening None }) x).number ≡ x.number) [ true ↦ refl | false ↦ refl ]
 
-stays_idle : (x : Conn) → is_idle (Some (unwanted x).place) ≡ is_idle (Some x.place)
+pub stays_idle : (x : Conn) → is_idle (Some (unwanted x).place) ≡ is_idle (Some x.place)
 stays_idle x = at x.place refl
   where
     at : (place : Place) → x.place ≡ place → is_idle (Some (unwanted x).place) ≡ is_idle (Some x.place)
