@@ -13,14 +13,5 @@ pub mod Idle
 pub mod Ends
 pub mod Tidying
 pub mod Enders
-pub mod Alike
-pub mod Untouched
-pub mod Numbers
-pub mod Openings
 pub mod Nowhere
-pub mod Closings
-pub mod LimitMoves
-pub mod Entries
 pub mod Told
-pub mod Answered
-pub mod Ending

@@ -1,4 +1,3 @@
 pub mod Bounds
 pub mod Chores
 pub mod Served
-pub mod Entries

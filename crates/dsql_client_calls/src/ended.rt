@@ -6,15 +6,12 @@ ghost use Rattle.dsql_journal.specs.declared.entry.Owner.{Owner};
 ghost use Rattle.dsql_pool.specs.Places.{is_for};
 ghost use Rattle.dsql_pool.specs.declared.moves.Move.TheVariants.{Lend};
 ghost use Rattle.dsql_clients.specs.declared.event.Event.{Event};
-ghost use Rattle.dsql_clients.specs.declared.event.Event.TheVariants.{Ended, Pool};
+ghost use Rattle.dsql_clients.specs.declared.event.Event.TheVariants.{Pool};
 ghost use Rattle.dsql_clients.specs.Readers.Course.{has_ended};
 ghost use Rattle.dsql_clients.specs.Readers.HandedOut.{are_live};
-ghost use Rattle.dsql_clients.specs.Readers.Owed.{owed};
 ghost use Rattle.dsql_clients.specs.Readers.Pool.{pool, smallest};
 ghost use Rattle.dsql_clients.specs.Rules.Line.{due_for, holder, may_come};
-ghost use Rattle.dsql_clients.specs.Rules.Settled.{goes_on};
 ghost use Rattle.dsql_clients.specs.Legal.{Allowed, Lawful};
-ghost use Rattle.dsql_client_laws.specs.OwedMade.{with_moves};
 
 /// Once the database is closed nobody waits, no connection is being opened for a call, and none is lent to a call
 /// any more.
@@ -32,10 +29,4 @@ pub fn the_end_leaves_nothing_due()
     ensures live { (history : List Event) (n : ℕ) → Lawful history → has_ended history ≡ true → are_live history n ≡ false }
     ensures layer { (history : List Event) (e : Entry) → Lawful history → has_ended history ≡ true → may_come history e ≡ true → e.call_no ≡ 0 }
     ensures turn { (history : List Event) (c : ℕ) → Lawful history → has_ended history ≡ true → holder history c ≡ 0 }
-{}
-
-/// As the run ends each call that has no reply is told that the database is closed, and stays so once the moves
-/// that this makes due have come.
-pub fn the_end_tells_each_call()
-    ensures { (history : List Event) → Lawful (Ended ∷ history) → goes_on (with_moves (owed (Ended ∷ history)) (Ended ∷ history)) ≡ true }
 {}

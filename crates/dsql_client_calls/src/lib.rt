@@ -6,5 +6,4 @@
 pub mod bounds;
 pub mod chores;
 pub mod ended;
-pub mod others;
 pub mod replies;

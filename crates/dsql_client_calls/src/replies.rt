@@ -1,14 +1,10 @@
 //! Which calls have their reply settled, and which have had a try. A history is read newest first.
 
-ghost use Rattle.std.specs.Prelude.{◌≡◌, ◌≢◌, [], ◌∷◌, ℕ, true, false, List, None, Some, is_some};
+ghost use Rattle.std.specs.Prelude.{◌≡◌, ◌≢◌, [], ◌∷◌, ℕ, true, false, List, None, is_some};
 ghost use Rattle.dsql_driver.specs.declared.answer.DriverAnswer.{DriverAnswer};
-ghost use Rattle.dsql_pool.specs.declared.moves.Move.TheVariants.{Fell};
 ghost use Rattle.dsql_pool.specs.Calls.{wants};
 ghost use Rattle.dsql_history.specs.declared.work.Work.TheVariants.{Close, Look};
 ghost use Rattle.dsql_clients.specs.declared.event.Event.{Event};
-ghost use Rattle.dsql_clients.specs.declared.event.Event.TheVariants.{Ended, Entered, Pool};
-ghost use Rattle.dsql_clients.specs.declared.event.Op.TheVariants.{DbClose};
-ghost use Rattle.dsql_clients.specs.declared.record.Stand.TheVariants.{Replies};
 ghost use Rattle.dsql_clients.specs.declared.record.Try.{Try};
 ghost use Rattle.dsql_clients.specs.declared.record.Try.TheVariants.{Refused};
 ghost use Rattle.dsql_clients.specs.Readers.Calls.{decided, reply_due, reply_to};
@@ -18,7 +14,6 @@ ghost use Rattle.dsql_clients.specs.Readers.Tries.{tries};
 ghost use Rattle.dsql_clients.specs.Readers.Unfinished.{is_unfinished};
 ghost use Rattle.dsql_clients.specs.Readers.Works.{is_fetch, work};
 ghost use Rattle.dsql_clients.specs.Rules.Asking.{may_ask};
-ghost use Rattle.dsql_clients.specs.Rules.Stands.{stand};
 ghost use Rattle.dsql_clients.specs.Legal.{Lawful};
 ghost use Rattle.dsql_client_calls.specs.Served.{was_served};
 
@@ -37,12 +32,4 @@ pub fn what_has_not_come_yet()
     ensures tries { (history : List Event) (n : ℕ) → Lawful history → n ≢ 0 → wants n (pool history) ≡ true → tries history n ≡ [] }
     ensures undecided { (history : List Event) (n : ℕ) → Lawful history → n ≢ 0 → wants n (pool history) ≡ true → decided history n ≡ None }
     ensures ender { (history : List Event) (n : ℕ) → over (rows_by history n) ≡ false → ender history n ≡ 0 }
-{}
-
-/// To whom a refused connection falls stands where it replies. So does who wants a connection as a call closes the
-/// database, or as the run ends.
-pub fn who_is_told_stands_where_it_replies()
-    ensures refused { (history : List Event) (c n : ℕ) → Lawful (Pool (Fell c n) ∷ history) → n ≢ 0 → stand (Pool (Fell c n) ∷ history) n ≡ Some Replies }
-    ensures closed { (history : List Event) (client m n : ℕ) → Lawful (Entered client m DbClose ∷ history) → n ≢ 0 → wants n (pool history) ≡ true → stand (Entered client m DbClose ∷ history) n ≡ Some Replies }
-    ensures ended { (history : List Event) (n : ℕ) → Lawful (Ended ∷ history) → n ≢ 0 → wants n (pool history) ≡ true → stand (Ended ∷ history) n ≡ Some Replies }
 {}

@@ -33,9 +33,9 @@ use Rattle.dsql_clients.specs.Rules.Settled.{is_in_use, uses_what_is_lent, goes_
 use Rattle.dsql_clients.specs.Rules.Stands.{stands, opens, stand}
 use Rattle.dsql_client_laws.proofs.Tests.{same_number, same_itself}
 use Rattle.dsql_client_calls.proofs.Enders.{same_ender}
-use Rattle.dsql_client_calls.proofs.Alike.{due_alike, used_alike, in_use_alike, all_alike, line_asked}
-use Rattle.dsql_client_calls.proofs.Untouched.{all_so, or_second}
-use Rattle.dsql_client_calls.proofs.Numbers.{none_zero, none_next}
+use Rattle.dsql_client_others.proofs.Alike.{due_alike, used_alike, in_use_alike, all_alike, line_asked}
+use Rattle.dsql_client_others.proofs.Untouched.{all_so, or_second}
+use Rattle.dsql_client_others.proofs.Numbers.{none_zero, none_next}
 
 abbrev opens_for : List Event → ℕ → ℕ → List Event
 opens_for H c k = Pool (OpenStart c k) ∷ H

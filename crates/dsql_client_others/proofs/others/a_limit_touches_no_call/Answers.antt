@@ -1,5 +1,5 @@
-use Rattle.dsql_client_calls.proofs.LimitMoves.{limit_due, limit_used, limit_others}
-use Rattle.dsql_client_calls.proofs.others.a_limit_touches_no_call.Goals as goal
+use Rattle.dsql_client_others.proofs.LimitMoves.{limit_due, limit_used, limit_others}
+use Rattle.dsql_client_others.proofs.others.a_limit_touches_no_call.Goals as goal
 
 pub returns-clause-due : goal.returns-clause-due
 returns-clause-due c = limit_due

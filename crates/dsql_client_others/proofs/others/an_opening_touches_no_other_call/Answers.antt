@@ -1,5 +1,5 @@
-use Rattle.dsql_client_calls.proofs.Openings.{due_opens, used_opens, goes_on_opens}
-use Rattle.dsql_client_calls.proofs.others.an_opening_touches_no_other_call.Goals as goal
+use Rattle.dsql_client_others.proofs.Openings.{due_opens, used_opens, goes_on_opens}
+use Rattle.dsql_client_others.proofs.others.an_opening_touches_no_other_call.Goals as goal
 
 pub returns-clause-due : goal.returns-clause-due
 returns-clause-due c = due_opens

@@ -25,10 +25,10 @@ use Rattle.dsql_client_laws.specs.OwedMade.{with_moves}
 use Rattle.dsql_client_laws.proofs.Tests.{both}
 use Rattle.dsql_client_laws.proofs.AtRest.{before_event, rested}
 use Rattle.dsql_client_laws.proofs.Able.{keeps_number, stays_idle}
-use Rattle.dsql_client_calls.proofs.Untouched.{all_so}
+use Rattle.dsql_client_others.proofs.Untouched.{all_so}
 use Rattle.dsql_client_calls.proofs.Ends.{waits_only, quiet_at_end}
-use Rattle.dsql_client_calls.proofs.LimitMoves.{are_quiet, closings_quiet, all_quiet}
-use Rattle.dsql_client_calls.proofs.Answered.{left_waiting_replies}
+use Rattle.dsql_client_others.proofs.LimitMoves.{are_quiet, closings_quiet, all_quiet}
+use Rattle.dsql_client_others.proofs.Answered.{left_waiting_replies}
 
 closed_quiet : (p : Pooled) → Placed p.idle p.conns → are_quiet (moves_closed p) (shut p) ≡ true
 closed_quiet p h = closings_quiet DbClosed p.idle [] (shut p) (sym (append-nil p.idle)) (placed_map unwanted keeps_number stays_idle p.idle p.conns h)

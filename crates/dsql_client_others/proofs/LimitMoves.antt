@@ -29,9 +29,9 @@ use Rattle.dsql_client_laws.specs.OwedMade.{with_moves}
 use Rattle.dsql_client_laws.proofs.Tests.{both, together, same_number, same_itself}
 use Rattle.dsql_client_laws.proofs.AtRest.{before_event, rested}
 use Rattle.dsql_client_laws.proofs.Able.{placed_once, without_first}
-use Rattle.dsql_client_calls.proofs.Untouched.{due_limit, used_limit, goes_on_limit}
-use Rattle.dsql_client_calls.proofs.Openings.{due_opens, used_opens, goes_on_opens_but}
-use Rattle.dsql_client_calls.proofs.Closings.{due_closes, used_closes, goes_on_closes}
+use Rattle.dsql_client_others.proofs.Untouched.{due_limit, used_limit, goes_on_limit}
+use Rattle.dsql_client_others.proofs.Openings.{due_opens, used_opens, goes_on_opens_but}
+use Rattle.dsql_client_others.proofs.Closings.{due_closes, used_closes, goes_on_closes}
 
 -- it closes an idle connection, or begins an opening for no request of its own
 abbrev pub is_quiet : Pooled → Move → Bool

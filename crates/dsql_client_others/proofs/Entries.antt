@@ -39,12 +39,12 @@ use Rattle.dsql_clients.specs.Legal.{Lawful}
 use Rattle.dsql_client_laws.proofs.Tests.{together, same_itself}
 use Rattle.dsql_client_laws.proofs.Tried.{lent_count}
 use Rattle.dsql_client_laws.proofs.Wanting.{sends_where_lent}
-use Rattle.dsql_client_calls.specs.Entries.{is_plain}
+use Rattle.dsql_client_others.specs.Entries.{is_plain}
 use Rattle.dsql_client_calls.proofs.Lists.{same_or_not}
 use Rattle.dsql_client_calls.proofs.Works.{enters_next, old_record, old_work, old_unfinished}
 use Rattle.dsql_client_calls.proofs.Enders.{same_ender}
-use Rattle.dsql_client_calls.proofs.Alike.{Alike, due_alike, used_alike, lent_alike, line_asked}
-use Rattle.dsql_client_calls.proofs.Untouched.{all_so, apart_of}
+use Rattle.dsql_client_others.proofs.Alike.{Alike, due_alike, used_alike, lent_alike, line_asked}
+use Rattle.dsql_client_others.proofs.Untouched.{all_so, apart_of}
 use Rattle.dsql_client_calls.proofs.Ends.{new_unlent}
 
 -- what such a call leaves: the pool, the rows, and what closed the database

@@ -1,5 +1,5 @@
-use Rattle.dsql_client_calls.proofs.Closings.{due_closes, used_closes, goes_on_closes}
-use Rattle.dsql_client_calls.proofs.others.an_idle_closing_touches_no_call.Goals as goal
+use Rattle.dsql_client_others.proofs.Closings.{due_closes, used_closes, goes_on_closes}
+use Rattle.dsql_client_others.proofs.others.an_idle_closing_touches_no_call.Goals as goal
 
 pub returns-clause-due : goal.returns-clause-due
 returns-clause-due c = λ history conn m cause at. due_closes history conn cause m at

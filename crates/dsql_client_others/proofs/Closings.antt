@@ -27,9 +27,9 @@ use Rattle.dsql_clients.specs.declared.record.Stand.TheVariants as stands_at
 use Rattle.dsql_course.specs.Made.{or_else}
 use Rattle.dsql_client_laws.proofs.Tests.{same_number}
 use Rattle.dsql_client_calls.proofs.Enders.{same_ender}
-use Rattle.dsql_client_calls.proofs.Alike.{due_alike, used_alike, in_use_alike, all_alike, line_asked}
-use Rattle.dsql_client_calls.proofs.Untouched.{all_so}
-use Rattle.dsql_client_calls.proofs.Openings.{number_or, otherwise, same_otherwise}
+use Rattle.dsql_client_others.proofs.Alike.{due_alike, used_alike, in_use_alike, all_alike, line_asked}
+use Rattle.dsql_client_others.proofs.Untouched.{all_so}
+use Rattle.dsql_client_others.proofs.Openings.{number_or, otherwise, same_otherwise}
 
 abbrev closes_at : List Event → ℕ → CloseCause → List Event
 closes_at H c why = Pool (CloseStart c why) ∷ H

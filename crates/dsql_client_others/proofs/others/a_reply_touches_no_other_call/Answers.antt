@@ -1,5 +1,5 @@
-use Rattle.dsql_client_calls.proofs.Untouched.{due_replied, used_replied, goes_on_replied}
-use Rattle.dsql_client_calls.proofs.others.a_reply_touches_no_other_call.Goals as goal
+use Rattle.dsql_client_others.proofs.Untouched.{due_replied, used_replied, goes_on_replied}
+use Rattle.dsql_client_others.proofs.others.a_reply_touches_no_other_call.Goals as goal
 
 pub returns-clause-due : goal.returns-clause-due
 returns-clause-due c = λ history n m reply apart. due_replied history n reply m apart

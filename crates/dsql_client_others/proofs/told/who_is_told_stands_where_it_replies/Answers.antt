@@ -1,5 +1,5 @@
-use Rattle.dsql_client_calls.proofs.Answered.{fallen_replies, shut_out_replies, left_waiting_replies}
-use Rattle.dsql_client_calls.proofs.replies.who_is_told_stands_where_it_replies.Goals as goal
+use Rattle.dsql_client_others.proofs.Answered.{fallen_replies, shut_out_replies, left_waiting_replies}
+use Rattle.dsql_client_others.proofs.told.who_is_told_stands_where_it_replies.Goals as goal
 
 pub returns-clause-refused : goal.returns-clause-refused
 returns-clause-refused c = fallen_replies

@@ -1,5 +1,5 @@
-use Rattle.dsql_client_calls.proofs.Entries.{due_entered, used_entered, goes_on_entered}
-use Rattle.dsql_client_calls.proofs.others.an_entry_touches_no_other_call.Goals as goal
+use Rattle.dsql_client_others.proofs.Entries.{due_entered, used_entered, goes_on_entered}
+use Rattle.dsql_client_others.proofs.others.an_entry_touches_no_other_call.Goals as goal
 
 pub returns-clause-due : goal.returns-clause-due
 returns-clause-due c = λ history client n m op. due_entered history client n op m

@@ -15,7 +15,7 @@ ghost use Rattle.dsql_clients.specs.Rules.Line.{due_for};
 ghost use Rattle.dsql_clients.specs.Rules.Settled.{goes_on, goes_on_but, uses_what_is_lent};
 ghost use Rattle.dsql_clients.specs.Legal.{Lawful};
 ghost use Rattle.dsql_client_laws.specs.OwedMade.{with_moves};
-ghost use Rattle.dsql_client_calls.specs.Entries.{is_plain};
+ghost use Rattle.dsql_client_others.specs.Entries.{is_plain};
 
 /// A reply leaves what is due of each other call, and what is lent is in use as before. Where each other call was
 /// somewhere, each is after it.

@@ -27,7 +27,7 @@ use Rattle.dsql_client_calls.proofs.Lists.{has-without}
 use Rattle.dsql_client_laws.proofs.Tests.{both, together, same_number, other_number, same_itself}
 use Rattle.dsql_client_calls.proofs.Works.{other_replied}
 use Rattle.dsql_client_calls.proofs.Enders.{same_ender}
-use Rattle.dsql_client_calls.proofs.Alike.{Alike, due_alike, used_alike, lent_alike, line_asked, replied_lines}
+use Rattle.dsql_client_others.proofs.Alike.{Alike, due_alike, used_alike, lent_alike, line_asked, replied_lines}
 
 -- what is due
 

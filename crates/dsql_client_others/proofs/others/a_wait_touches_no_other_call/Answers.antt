@@ -1,5 +1,5 @@
-use Rattle.dsql_client_calls.proofs.Untouched.{due_waits, used_waits, goes_on_waits}
-use Rattle.dsql_client_calls.proofs.others.a_wait_touches_no_other_call.Goals as goal
+use Rattle.dsql_client_others.proofs.Untouched.{due_waits, used_waits, goes_on_waits}
+use Rattle.dsql_client_others.proofs.others.a_wait_touches_no_other_call.Goals as goal
 
 pub returns-clause-due : goal.returns-clause-due
 returns-clause-due c = due_waits

@@ -1,0 +1,9 @@
+pub mod Alike
+pub mod Untouched
+pub mod Numbers
+pub mod Openings
+pub mod Closings
+pub mod LimitMoves
+pub mod Entries
+pub mod Answered
+pub mod Ending
