@@ -10,8 +10,6 @@ mod laws;
 mod ops;
 mod parts;
 mod replies;
-#[cfg(test)]
-mod tests;
 mod values;
 
 use dsql_history::Event;

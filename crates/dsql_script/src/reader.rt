@@ -11,8 +11,6 @@ mod forms;
 mod head;
 mod labels;
 mod rows;
-#[cfg(test)]
-mod tests;
 mod words;
 mod worked;
 

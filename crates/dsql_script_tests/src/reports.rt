@@ -1,0 +1,177 @@
+//! Events as lines of reports, with what no line of a script and no example brings.
+
+use dsql_driver::{DriverAnswer, DriverCall, Input, Level};
+use dsql_history::{Event, FaultWord, Move, Reply};
+use dsql_journal::{Entry, Owner};
+use dsql_rows::{Cause, RowsOver};
+use dsql_scan::{Cell, Cells};
+use dsql_script::append_line;
+use dsql_value::{Bin, Columns, Items, Memory, Param, Params, Txt, Value, Values};
+use std::alloc::Global;
+use std::test::Fail;
+
+/// The lines of these events.
+fn lines_of(alloc: Global, events: &[Event]) -> Result<String, Fail> {
+    let mut lines = Vec::new(alloc);
+    for event in events {
+        append_line(alloc, event, &mut lines)?;
+    }
+    Ok(String::from_utf8(lines)?)
+}
+
+/// What connection 1 was asked in transaction 2, and what it answered.
+fn heard(call: DriverCall, answer: DriverAnswer) -> Event {
+    Event::Heard(Entry {
+        conn: 1,
+        tenure: 4,
+        owner: Owner::Tx(2),
+        call_no: 3,
+        tx: 2,
+        call,
+        answer,
+    })
+}
+
+/// The reply to call 5.
+fn replied(reply: Reply) -> Event {
+    Event::Replied { n: 5, reply }
+}
+
+fn text(alloc: Global, text: &str) -> Result<Txt, Memory> {
+    Txt::copy_of(alloc, text)
+}
+
+fn bytes(alloc: Global) -> Result<Bin, Memory> {
+    Ok(Bin::new(vec![in alloc; 0, 255, 171]?))
+}
+
+/// A value of each kind.
+fn values(alloc: Global) -> Result<Values, Memory> {
+    Ok(Items::new(vec![in alloc;
+        Value::Nil,
+        Value::Int(-5),
+        Value::Bool(true),
+        Value::Bytes(bytes(alloc)?),
+        Value::Text(text(alloc, "ann")?),
+        Value::Time(-1),
+    ]?))
+}
+
+/// A cell of each kind.
+fn cells(alloc: Global) -> Result<Cells, Memory> {
+    Ok(Items::new(vec![in alloc;
+        Cell::Null,
+        Cell::Text(text(alloc, "ann")?),
+        Cell::Bytes(bytes(alloc)?),
+        Cell::Bool(true),
+        Cell::Int(-5),
+        Cell::Uint(9_223_372_036_854_775_807),
+        Cell::Uint(9_223_372_036_854_775_808),
+        Cell::Time(9),
+    ]?))
+}
+
+#[test]
+fn values_and_cells_are_spelled(rt: HostRuntime) -> Result<(), Fail> {
+    let want =
+        r#"["heard",1,4,"tx:2",3,2,["next",7],["row",[null,-5,true,{"bytes":"00ffab"},"ann",{"time":-1}]]]
+["reply",5,["ok","cells",[null,"ann",{"bytes":"00ffab"},true,-5,{"u64":9223372036854775807},9223372036854775808,{"time":9}]]]
+"#;
+    let row = DriverAnswer::Row(values(rt.alloc())?);
+    let events = [
+        heard(DriverCall::Next(7), row),
+        replied(Reply::Cells(cells(rt.alloc())?)),
+    ];
+    let lines = lines_of(rt.alloc(), &events)?;
+    assert_eq!(rt; lines.as_str(), want);
+    Ok(())
+}
+
+/// A parameter without a name, and one with a name.
+fn params(alloc: Global) -> Result<Params, Memory> {
+    let plain = Param {
+        name: None,
+        value: Value::Int(1),
+    };
+    let named = Param {
+        name: Some(text(alloc, "x")?),
+        value: Value::Time(9),
+    };
+    Ok(Items::new(vec![in alloc; plain, named]?))
+}
+
+fn columns(alloc: Global) -> Result<Columns, Memory> {
+    Ok(Items::new(vec![in alloc; text(alloc, "key")?, text(alloc, "value")?]?))
+}
+
+fn queried(alloc: Global) -> Result<Event, Memory> {
+    let call = DriverCall::Query(Input::Handle(5), params(alloc)?);
+    let columns = columns(alloc)?;
+    Ok(heard(call, DriverAnswer::Cursor { rows: 6, columns }))
+}
+
+/// A text with quotes, a line feed, a control character and a letter of two bytes.
+fn prepared(alloc: Global) -> Result<Event, Memory> {
+    let call = DriverCall::Prepare(text(alloc, "a \"b\" \\ \n \u{1} é")?);
+    let answer = DriverAnswer::Prepared {
+        handle: 8,
+        inputs: -1,
+    };
+    Ok(heard(call, answer))
+}
+
+fn begun(alloc: Global) -> Result<Event, Memory> {
+    let call = DriverCall::Begin {
+        level: Level::RepeatableRead,
+        read_only: true,
+    };
+    Ok(heard(call, DriverAnswer::Fail(text(alloc, "down")?)))
+}
+
+#[test]
+fn driver_calls_are_spelled(rt: HostRuntime) -> Result<(), Fail> {
+    let want =
+        r#"["heard",1,4,"tx:2",3,2,["query",5,[1,{"name":"x","value":{"time":9}}]],["cursor",6,["key","value"]]]
+["heard",1,4,"tx:2",3,2,["prepare","a \"b\" \\ \n \u0001 é"],["prepared",8,-1]]
+["heard",1,4,"tx:2",3,2,["begin","repeatable_read",true],["fail","down"]]
+["fell",3,0]
+"#;
+    let events = [
+        queried(rt.alloc())?,
+        prepared(rt.alloc())?,
+        begun(rt.alloc())?,
+        Event::Pool(Move::Fell { conn: 3, call: 0 }),
+    ];
+    let lines = lines_of(rt.alloc(), &events)?;
+    assert_eq!(rt; lines.as_str(), want);
+    Ok(())
+}
+
+/// The reply that column 3 isn't scanned.
+fn unscanned(fault: FaultWord) -> Event {
+    replied(Reply::Scan { column: 3, fault })
+}
+
+#[test]
+fn faults_of_rows_are_spelled(rt: HostRuntime) -> Result<(), Fail> {
+    let want = r#"["reply",5,["err","rows_closed","tx","sql: Rows are closed"]]
+["reply",5,["err","rows_closed","canceled","sql: Rows are closed"]]
+["reply",5,["err","rows_closed","deadline","sql: Rows are closed"]]
+["reply",5,["err","scan",3,"out_of_range","sql: scan of column 3: out_of_range"]]
+["reply",5,["err","scan",3,"not_a_bool","sql: scan of column 3: not_a_bool"]]
+["reply",5,["err","scan",3,"not_utf8","sql: scan of column 3: not_utf8"]]
+["reply",5,["err","scan",3,"unsupported","sql: scan of column 3: unsupported"]]
+"#;
+    let events = [
+        replied(Reply::RowsClosed(RowsOver::TxEnded)),
+        replied(Reply::RowsClosed(RowsOver::Cancel(Cause::Canceled))),
+        replied(Reply::RowsClosed(RowsOver::Cancel(Cause::Deadline))),
+        unscanned(FaultWord::OutOfRange),
+        unscanned(FaultWord::NotABool),
+        unscanned(FaultWord::NotUtf8),
+        unscanned(FaultWord::Unsupported),
+    ];
+    let lines = lines_of(rt.alloc(), &events)?;
+    assert_eq!(rt; lines.as_str(), want);
+    Ok(())
+}
