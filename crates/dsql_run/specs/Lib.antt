@@ -4,5 +4,4 @@ pub mod Runs
 pub mod Notes
 pub mod Headline
 pub mod Reading
-pub mod Listed
 pub mod Playing

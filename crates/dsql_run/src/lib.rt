@@ -2,8 +2,6 @@
 #![tactic(auto)]
 
 mod carrying;
-#[cfg(test)]
-mod fault_tests;
 mod laws;
 mod notes;
 mod playing;
@@ -11,8 +9,6 @@ mod program;
 mod script;
 mod show;
 mod stop;
-#[cfg(test)]
-mod tests;
 
 pub use laws::{a_status_tells_what_stopped, lines_read_whole_come_first};
 pub use notes::tell;

@@ -1,25 +1,26 @@
-//! The whole reports that a driver with faults has to give, by the rules of the layer.
+//! Reports of execs over a driver with faults, by the rules of the layer.
 
-pub(super) const CONNECT_FAILS: &str = r#"["run",1,["fast_exec","resetter","validator"]]
+pub(super) const REPORTS: &[&str] = &[
+    // The Connect fails.
+    r#"["run",1,["fast_exec","resetter","validator"]]
 ["enter",1,1,"exec db",["SET a 1"]]
 ["open",1,1]
 ["heard",1,1,"house",0,0,["connect"],["fail","boom"]]
 ["fell",1,1]
 ["reply",1,["err","driver","boom"]]
 ["ended"]
-"#;
-
-pub(super) const CONNECT_IS_BAD: &str = r#"["run",1,["fast_exec","resetter","validator"]]
+"#,
+    // The Connect is answered as bad.
+    r#"["run",1,["fast_exec","resetter","validator"]]
 ["enter",1,1,"exec db",["SET a 1"]]
 ["open",1,1]
 ["heard",1,1,"house",0,0,["connect"],["bad"]]
 ["fell",1,1]
 ["reply",1,["err","bad_conn",1,"driver: bad connection"]]
 ["ended"]
-"#;
-
-// A statement that fails says nothing against its connection.
-pub(super) const EXEC_FAILS: &str = r#"["run",1,["fast_exec","resetter","validator"]]
+"#,
+    // The exec fails. A statement that fails says nothing against its connection.
+    r#"["run",1,["fast_exec","resetter","validator"]]
 ["enter",1,1,"exec db",["SET a 1"]]
 ["open",1,1]
 ["heard",1,1,"house",0,0,["connect"],["done"]]
@@ -32,10 +33,9 @@ pub(super) const EXEC_FAILS: &str = r#"["run",1,["fast_exec","resetter","validat
 ["close",1,"db_closed"]
 ["heard",1,3,"house",0,0,["shut"],["done"]]
 ["gone",1]
-"#;
-
-// A connection that is known to be bad isn't tested.
-pub(super) const EXEC_IS_BAD: &str = r#"["run",1,["fast_exec","resetter","validator"]]
+"#,
+    // The exec is answered as bad. A connection that is known to be bad isn't tested.
+    r#"["run",1,["fast_exec","resetter","validator"]]
 ["enter",1,1,"exec db",["SET a 1"]]
 ["open",1,1]
 ["heard",1,1,"house",0,0,["connect"],["done"]]
@@ -46,10 +46,9 @@ pub(super) const EXEC_IS_BAD: &str = r#"["run",1,["fast_exec","resetter","valida
 ["heard",1,3,"house",0,0,["shut"],["done"]]
 ["gone",1]
 ["ended"]
-"#;
-
-// The text is skipped, so it is prepared, run by its handle and closed.
-pub(super) const EXEC_IS_PREPARED: &str = r#"["run",1,["fast_exec","resetter","validator"]]
+"#,
+    // The text is skipped, so it is prepared, run by its handle and closed.
+    r#"["run",1,["fast_exec","resetter","validator"]]
 ["enter",1,1,"exec db",["SET a ?",1]]
 ["open",1,1]
 ["heard",1,1,"house",0,0,["connect"],["done"]]
@@ -65,10 +64,9 @@ pub(super) const EXEC_IS_PREPARED: &str = r#"["run",1,["fast_exec","resetter","v
 ["close",1,"db_closed"]
 ["heard",1,3,"house",0,0,["shut"],["done"]]
 ["gone",1]
-"#;
-
-// The statement wants two inputs, so it is closed without a run.
-pub(super) const ARGUMENTS_ARE_TOO_FEW: &str = r#"["run",1,["fast_exec","resetter","validator"]]
+"#,
+    // The statement wants two inputs, so it is closed without a run.
+    r#"["run",1,["fast_exec","resetter","validator"]]
 ["enter",1,1,"exec db",["SET a ?",1]]
 ["open",1,1]
 ["heard",1,1,"house",0,0,["connect"],["done"]]
@@ -83,9 +81,8 @@ pub(super) const ARGUMENTS_ARE_TOO_FEW: &str = r#"["run",1,["fast_exec","resette
 ["close",1,"db_closed"]
 ["heard",1,3,"house",0,0,["shut"],["done"]]
 ["gone",1]
-"#;
-
-pub(super) const CLOSE_IS_BAD_AND_ARGUMENTS_ARE_TOO_FEW: &str =
+"#,
+    // The same, and the handle's close is answered as bad.
     r#"["run",1,["fast_exec","resetter","validator"]]
 ["enter",1,1,"exec db",["SET a ?",1]]
 ["open",1,1]
@@ -99,9 +96,9 @@ pub(super) const CLOSE_IS_BAD_AND_ARGUMENTS_ARE_TOO_FEW: &str =
 ["heard",1,3,"house",0,0,["shut"],["done"]]
 ["gone",1]
 ["ended"]
-"#;
-
-pub(super) const PREPARE_FAILS: &str = r#"["run",1,["fast_exec","resetter","validator"]]
+"#,
+    // The Prepare fails.
+    r#"["run",1,["fast_exec","resetter","validator"]]
 ["enter",1,1,"exec db",["SET a ?",1]]
 ["open",1,1]
 ["heard",1,1,"house",0,0,["connect"],["done"]]
@@ -115,9 +112,9 @@ pub(super) const PREPARE_FAILS: &str = r#"["run",1,["fast_exec","resetter","vali
 ["close",1,"db_closed"]
 ["heard",1,3,"house",0,0,["shut"],["done"]]
 ["gone",1]
-"#;
-
-pub(super) const PREPARE_IS_BAD: &str = r#"["run",1,["fast_exec","resetter","validator"]]
+"#,
+    // The Prepare is answered as bad.
+    r#"["run",1,["fast_exec","resetter","validator"]]
 ["enter",1,1,"exec db",["SET a ?",1]]
 ["open",1,1]
 ["heard",1,1,"house",0,0,["connect"],["done"]]
@@ -129,9 +126,9 @@ pub(super) const PREPARE_IS_BAD: &str = r#"["run",1,["fast_exec","resetter","val
 ["heard",1,3,"house",0,0,["shut"],["done"]]
 ["gone",1]
 ["ended"]
-"#;
-
-pub(super) const RUN_AND_CLOSE_FAIL: &str = r#"["run",1,["fast_exec","resetter","validator"]]
+"#,
+    // The run by the handle fails, and so does its close.
+    r#"["run",1,["fast_exec","resetter","validator"]]
 ["enter",1,1,"exec db",["SET a ?",1]]
 ["open",1,1]
 ["heard",1,1,"house",0,0,["connect"],["done"]]
@@ -147,10 +144,9 @@ pub(super) const RUN_AND_CLOSE_FAIL: &str = r#"["run",1,["fast_exec","resetter",
 ["close",1,"db_closed"]
 ["heard",1,3,"house",0,0,["shut"],["done"]]
 ["gone",1]
-"#;
-
-// On a bad connection nothing is closed.
-pub(super) const RUN_IS_BAD: &str = r#"["run",1,["fast_exec","resetter","validator"]]
+"#,
+    // The run by the handle is answered as bad. On a bad connection nothing is closed.
+    r#"["run",1,["fast_exec","resetter","validator"]]
 ["enter",1,1,"exec db",["SET a ?",1]]
 ["open",1,1]
 ["heard",1,1,"house",0,0,["connect"],["done"]]
@@ -163,10 +159,9 @@ pub(super) const RUN_IS_BAD: &str = r#"["run",1,["fast_exec","resetter","validat
 ["heard",1,3,"house",0,0,["shut"],["done"]]
 ["gone",1]
 ["ended"]
-"#;
-
-// The statement was carried out, and its reply stays.
-pub(super) const CLOSE_IS_BAD: &str = r#"["run",1,["fast_exec","resetter","validator"]]
+"#,
+    // The handle's close is answered as bad. The statement was carried out, and its reply stays.
+    r#"["run",1,["fast_exec","resetter","validator"]]
 ["enter",1,1,"exec db",["SET a ?",1]]
 ["open",1,1]
 ["heard",1,1,"house",0,0,["connect"],["done"]]
@@ -180,10 +175,9 @@ pub(super) const CLOSE_IS_BAD: &str = r#"["run",1,["fast_exec","resetter","valid
 ["heard",1,3,"house",0,0,["shut"],["done"]]
 ["gone",1]
 ["ended"]
-"#;
-
-// The statement was carried out, and its reply stays.
-pub(super) const TEST_IS_FAILED: &str = r#"["run",1,["fast_exec","resetter","validator"]]
+"#,
+    // The connection fails its test. The statement was carried out, and its reply stays.
+    r#"["run",1,["fast_exec","resetter","validator"]]
 ["enter",1,1,"exec db",["SET a 1"]]
 ["open",1,1]
 ["heard",1,1,"house",0,0,["connect"],["done"]]
@@ -195,10 +189,9 @@ pub(super) const TEST_IS_FAILED: &str = r#"["run",1,["fast_exec","resetter","val
 ["heard",1,3,"house",0,0,["shut"],["done"]]
 ["gone",1]
 ["ended"]
-"#;
-
-// A Reset that fails is passed over.
-pub(super) const RESET_FAILS: &str = r#"["run",1,["fast_exec","resetter","validator"]]
+"#,
+    // A Reset that fails is passed over.
+    r#"["run",1,["fast_exec","resetter","validator"]]
 ["enter",1,1,"exec db",["SET a 1"]]
 ["open",1,1]
 ["heard",1,1,"house",0,0,["connect"],["done"]]
@@ -218,10 +211,9 @@ pub(super) const RESET_FAILS: &str = r#"["run",1,["fast_exec","resetter","valida
 ["close",1,"db_closed"]
 ["heard",1,4,"house",0,0,["shut"],["done"]]
 ["gone",1]
-"#;
-
-// After a Reset that is answered as bad the statement isn't sent.
-pub(super) const RESET_IS_BAD: &str = r#"["run",1,["fast_exec","resetter","validator"]]
+"#,
+    // After a Reset that is answered as bad the statement isn't sent.
+    r#"["run",1,["fast_exec","resetter","validator"]]
 ["enter",1,1,"exec db",["SET a 1"]]
 ["open",1,1]
 ["heard",1,1,"house",0,0,["connect"],["done"]]
@@ -238,10 +230,9 @@ pub(super) const RESET_IS_BAD: &str = r#"["run",1,["fast_exec","resetter","valid
 ["heard",1,4,"house",0,0,["shut"],["done"]]
 ["gone",1]
 ["ended"]
-"#;
-
-// A connection is gone whatever its Shut is answered.
-pub(super) const SHUT_FAILS: &str = r#"["run",1,["fast_exec","resetter","validator"]]
+"#,
+    // The Shut fails. A connection is gone whatever its Shut is answered.
+    r#"["run",1,["fast_exec","resetter","validator"]]
 ["enter",1,1,"exec db",["SET a 1"]]
 ["open",1,1]
 ["heard",1,1,"house",0,0,["connect"],["done"]]
@@ -254,9 +245,9 @@ pub(super) const SHUT_FAILS: &str = r#"["run",1,["fast_exec","resetter","validat
 ["close",1,"db_closed"]
 ["heard",1,3,"house",0,0,["shut"],["fail","boom"]]
 ["gone",1]
-"#;
-
-pub(super) const SHUT_IS_BAD: &str = r#"["run",1,["fast_exec","resetter","validator"]]
+"#,
+    // The Shut is answered as bad.
+    r#"["run",1,["fast_exec","resetter","validator"]]
 ["enter",1,1,"exec db",["SET a 1"]]
 ["open",1,1]
 ["heard",1,1,"house",0,0,["connect"],["done"]]
@@ -269,10 +260,9 @@ pub(super) const SHUT_IS_BAD: &str = r#"["run",1,["fast_exec","resetter","valida
 ["close",1,"db_closed"]
 ["heard",1,3,"house",0,0,["shut"],["bad"]]
 ["gone",1]
-"#;
-
-// A driver without the fast path, a test or a reset is asked nothing.
-pub(super) const DRIVER_IS_PLAIN: &str = r#"["run",1,[]]
+"#,
+    // A driver without the fast path, a test or a reset is asked nothing.
+    r#"["run",1,[]]
 ["enter",1,1,"exec db",["SET a ?",1]]
 ["open",1,1]
 ["heard",1,1,"house",0,0,["connect"],["done"]]
@@ -286,10 +276,9 @@ pub(super) const DRIVER_IS_PLAIN: &str = r#"["run",1,[]]
 ["close",1,"db_closed"]
 ["heard",1,3,"house",0,0,["shut"],["done"]]
 ["gone",1]
-"#;
-
-// A driver without a test or a reset is asked for neither.
-pub(super) const NEITHER_TESTED_NOR_RESET: &str = r#"["run",1,["fast_exec"]]
+"#,
+    // A driver without a test or a reset is asked for neither.
+    r#"["run",1,["fast_exec"]]
 ["enter",1,1,"exec db",["SET a 1"]]
 ["open",1,1]
 ["heard",1,1,"house",0,0,["connect"],["done"]]
@@ -306,9 +295,9 @@ pub(super) const NEITHER_TESTED_NOR_RESET: &str = r#"["run",1,["fast_exec"]]
 ["close",1,"db_closed"]
 ["heard",1,4,"house",0,0,["shut"],["done"]]
 ["gone",1]
-"#;
-
-pub(super) const ALL_IS_WELL: &str = r#"["run",1,["fast_exec","resetter","validator"]]
+"#,
+    // All is well, over two calls.
+    r#"["run",1,["fast_exec","resetter","validator"]]
 ["enter",1,1,"exec db",["SET a 1"]]
 ["open",1,1]
 ["heard",1,1,"house",0,0,["connect"],["done"]]
@@ -328,10 +317,8 @@ pub(super) const ALL_IS_WELL: &str = r#"["run",1,["fast_exec","resetter","valida
 ["close",1,"db_closed"]
 ["heard",1,4,"house",0,0,["shut"],["done"]]
 ["gone",1]
-"#;
-
-// After a bad connection the next call opens another one.
-pub(super) const EXEC_IS_BAD_THEN_ALL_IS_WELL: &str =
+"#,
+    // After a bad connection the next call opens another one.
     r#"["run",1,["fast_exec","resetter","validator"]]
 ["enter",1,1,"exec db",["SET a 1"]]
 ["open",1,1]
@@ -354,9 +341,9 @@ pub(super) const EXEC_IS_BAD_THEN_ALL_IS_WELL: &str =
 ["close",2,"db_closed"]
 ["heard",2,3,"house",0,0,["shut"],["done"]]
 ["gone",2]
-"#;
-
-pub(super) const EXEC_IS_BAD_THEN_FAILS: &str = r#"["run",1,["fast_exec","resetter","validator"]]
+"#,
+    // The exec is answered as bad, and fails on the next connection.
+    r#"["run",1,["fast_exec","resetter","validator"]]
 ["enter",1,1,"exec db",["SET a 1"]]
 ["open",1,1]
 ["heard",1,1,"house",0,0,["connect"],["done"]]
@@ -378,10 +365,8 @@ pub(super) const EXEC_IS_BAD_THEN_FAILS: &str = r#"["run",1,["fast_exec","resett
 ["close",2,"db_closed"]
 ["heard",2,3,"house",0,0,["shut"],["done"]]
 ["gone",2]
-"#;
-
-// A connection that couldn't be opened keeps its number.
-pub(super) const CONNECT_IS_BAD_THEN_ALL_IS_WELL: &str =
+"#,
+    // A connection that couldn't be opened keeps its number.
     r#"["run",1,["fast_exec","resetter","validator"]]
 ["enter",1,1,"exec db",["SET a 1"]]
 ["open",1,1]
@@ -400,9 +385,9 @@ pub(super) const CONNECT_IS_BAD_THEN_ALL_IS_WELL: &str =
 ["close",2,"db_closed"]
 ["heard",2,3,"house",0,0,["shut"],["done"]]
 ["gone",2]
-"#;
-
-pub(super) const CONNECT_FAILS_THEN_IS_BAD: &str = r#"["run",1,["fast_exec","resetter","validator"]]
+"#,
+    // One Connect fails, and the next is answered as bad.
+    r#"["run",1,["fast_exec","resetter","validator"]]
 ["enter",1,1,"exec db",["SET a 1"]]
 ["open",1,1]
 ["heard",1,1,"house",0,0,["connect"],["fail","boom"]]
@@ -414,10 +399,9 @@ pub(super) const CONNECT_FAILS_THEN_IS_BAD: &str = r#"["run",1,["fast_exec","res
 ["fell",2,2]
 ["reply",2,["err","bad_conn",1,"driver: bad connection"]]
 ["ended"]
-"#;
-
-// The call is told of its statement; that the connection is invalid is the layer's affair.
-pub(super) const EXEC_FAILS_AND_TEST_IS_FAILED: &str =
+"#,
+    // The exec fails, and so does the test. The call is told of its statement. That the connection is invalid is
+    // the layer's affair.
     r#"["run",1,["fast_exec","resetter","validator"]]
 ["enter",1,1,"exec db",["SET a 1"]]
 ["open",1,1]
@@ -430,9 +414,8 @@ pub(super) const EXEC_FAILS_AND_TEST_IS_FAILED: &str =
 ["heard",1,3,"house",0,0,["shut"],["done"]]
 ["gone",1]
 ["ended"]
-"#;
-
-pub(super) const TEST_IS_FAILED_THEN_EXEC_FAILS: &str =
+"#,
+    // The connection fails its test, and the exec fails on the next one.
     r#"["run",1,["fast_exec","resetter","validator"]]
 ["enter",1,1,"exec db",["SET a 1"]]
 ["open",1,1]
@@ -456,9 +439,8 @@ pub(super) const TEST_IS_FAILED_THEN_EXEC_FAILS: &str =
 ["close",2,"db_closed"]
 ["heard",2,3,"house",0,0,["shut"],["done"]]
 ["gone",2]
-"#;
-
-pub(super) const RESET_FAILS_AND_EXEC_IS_BAD: &str =
+"#,
+    // The Reset fails, and the exec is answered as bad.
     r#"["run",1,["fast_exec","resetter","validator"]]
 ["enter",1,1,"exec db",["SET a 1"]]
 ["open",1,1]
@@ -477,10 +459,8 @@ pub(super) const RESET_FAILS_AND_EXEC_IS_BAD: &str =
 ["heard",1,4,"house",0,0,["shut"],["done"]]
 ["gone",1]
 ["ended"]
-"#;
-
-// A bad connection is shut too, and gone whatever the answer is.
-pub(super) const EXEC_IS_BAD_AND_SHUT_FAILS: &str =
+"#,
+    // A bad connection is shut too, and gone whatever the answer is.
     r#"["run",1,["fast_exec","resetter","validator"]]
 ["enter",1,1,"exec db",["SET a 1"]]
 ["open",1,1]
@@ -492,9 +472,8 @@ pub(super) const EXEC_IS_BAD_AND_SHUT_FAILS: &str =
 ["heard",1,3,"house",0,0,["shut"],["fail","boom"]]
 ["gone",1]
 ["ended"]
-"#;
-
-pub(super) const RESET_IS_BAD_AND_SHUT_IS_BAD: &str =
+"#,
+    // The Reset is answered as bad, and so is the Shut.
     r#"["run",1,["fast_exec","resetter","validator"]]
 ["enter",1,1,"exec db",["SET a 1"]]
 ["open",1,1]
@@ -512,4 +491,5 @@ pub(super) const RESET_IS_BAD_AND_SHUT_IS_BAD: &str =
 ["heard",1,4,"house",0,0,["shut"],["bad"]]
 ["gone",1]
 ["ended"]
-"#;
+"#,
+];

@@ -1,7 +1,8 @@
-//! The whole reports of rows that a query hands out, over a driver with faults, by the rules of the layer.
+//! Reports of rows that a query hands out, over a driver with faults, by the rules of the layer.
 
-// The fetch tells that there is no row once all is closed, and the rows keep what failed.
-pub(super) const NEXT_FAILS: &str = r#"["run",1,["fast_exec","fast_query","resetter","validator"]]
+pub(super) const REPORTS: &[&str] = &[
+    // A Next fails. The fetch tells that there is no row once all is closed, and the rows keep what failed.
+    r#"["run",1,["fast_exec","fast_query","resetter","validator"]]
 ["enter",1,1,"query r db",["GET a"]]
 ["open",1,1]
 ["heard",1,1,"house",0,0,["connect"],["done"]]
@@ -20,10 +21,9 @@ pub(super) const NEXT_FAILS: &str = r#"["run",1,["fast_exec","fast_query","reset
 ["close",1,"db_closed"]
 ["heard",1,3,"house",0,0,["shut"],["done"]]
 ["gone",1]
-"#;
-
-// On a bad connection not even the cursor is closed.
-pub(super) const NEXT_IS_BAD: &str = r#"["run",1,["fast_exec","fast_query","resetter","validator"]]
+"#,
+    // A Next is answered as bad. On a bad connection not even the cursor is closed.
+    r#"["run",1,["fast_exec","fast_query","resetter","validator"]]
 ["enter",1,1,"query r db",["GET a"]]
 ["open",1,1]
 ["heard",1,1,"house",0,0,["connect"],["done"]]
@@ -39,10 +39,8 @@ pub(super) const NEXT_IS_BAD: &str = r#"["run",1,["fast_exec","fast_query","rese
 ["enter",1,3,"err r"]
 ["reply",3,["err","bad_conn",1,"driver: bad connection"]]
 ["ended"]
-"#;
-
-// The rows ended before their cursor was closed, so they keep no fault.
-pub(super) const NO_ROW_AND_CLOSE_IS_BAD: &str =
+"#,
+    // The close of the cursor is answered as bad. The rows ended before their cursor was closed, so they keep no fault.
     r#"["run",1,["fast_exec","fast_query","resetter","validator"]]
 ["enter",1,1,"query r db",["GET a"]]
 ["open",1,1]
@@ -60,10 +58,9 @@ pub(super) const NO_ROW_AND_CLOSE_IS_BAD: &str =
 ["enter",1,3,"err r"]
 ["reply",3,["ok"]]
 ["ended"]
-"#;
-
-// Who closes rows is told what became of that. The rows themselves keep no fault.
-pub(super) const CLOSE_FAILS: &str = r#"["run",1,["fast_exec","fast_query","resetter","validator"]]
+"#,
+    // The close of the cursor fails. Who closes rows is told what became of that. The rows themselves keep no fault.
+    r#"["run",1,["fast_exec","fast_query","resetter","validator"]]
 ["enter",1,1,"query r db",["GET a"]]
 ["open",1,1]
 ["heard",1,1,"house",0,0,["connect"],["done"]]
@@ -84,9 +81,9 @@ pub(super) const CLOSE_FAILS: &str = r#"["run",1,["fast_exec","fast_query","rese
 ["close",1,"db_closed"]
 ["heard",1,3,"house",0,0,["shut"],["done"]]
 ["gone",1]
-"#;
-
-pub(super) const CLOSE_IS_BAD: &str = r#"["run",1,["fast_exec","fast_query","resetter","validator"]]
+"#,
+    // The close of the cursor is answered as bad.
+    r#"["run",1,["fast_exec","fast_query","resetter","validator"]]
 ["enter",1,1,"query r db",["GET a"]]
 ["open",1,1]
 ["heard",1,1,"house",0,0,["connect"],["done"]]
@@ -105,10 +102,8 @@ pub(super) const CLOSE_IS_BAD: &str = r#"["run",1,["fast_exec","fast_query","res
 ["enter",1,4,"err r"]
 ["reply",4,["ok"]]
 ["ended"]
-"#;
-
-// The handle that was prepared for the query lives as long as its rows.
-pub(super) const ROWS_OF_HANDLE_ARE_CLOSED: &str =
+"#,
+    // The handle that was prepared for the query lives as long as its rows.
     r#"["run",1,["fast_exec","fast_query","resetter","validator"]]
 ["enter",1,1,"query r db",["GET ?","a"]]
 ["open",1,1]
@@ -131,10 +126,8 @@ pub(super) const ROWS_OF_HANDLE_ARE_CLOSED: &str =
 ["close",1,"db_closed"]
 ["heard",1,3,"house",0,0,["shut"],["done"]]
 ["gone",1]
-"#;
-
-// No call is left that could be told what fails.
-pub(super) const END_CLOSES_ROWS: &str =
+"#,
+    // The run's end closes the rows. No call is left that could be told what fails.
     r#"["run",1,["fast_exec","fast_query","resetter","validator"]]
 ["enter",1,1,"query r db",["GET a"]]
 ["open",1,1]
@@ -161,4 +154,5 @@ pub(super) const END_CLOSES_ROWS: &str =
 ["gone",1]
 ["heard",2,3,"house",0,0,["shut"],["done"]]
 ["gone",2]
-"#;
+"#,
+];

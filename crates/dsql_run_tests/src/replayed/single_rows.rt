@@ -1,6 +1,8 @@
-//! The whole reports of calls that read one row, over a driver with faults, by the rules of the layer.
+//! Reports of calls that read one row, over a driver with faults, by the rules of the layer.
 
-pub(super) const ROW_IS_READ: &str = r#"["run",1,["fast_exec","fast_query","resetter","validator"]]
+pub(super) const REPORTS: &[&str] = &[
+    // A row is read.
+    r#"["run",1,["fast_exec","fast_query","resetter","validator"]]
 ["enter",1,1,"one db i64",["GET a"]]
 ["open",1,1]
 ["heard",1,1,"house",0,0,["connect"],["done"]]
@@ -15,10 +17,9 @@ pub(super) const ROW_IS_READ: &str = r#"["run",1,["fast_exec","fast_query","rese
 ["close",1,"db_closed"]
 ["heard",1,3,"house",0,0,["shut"],["done"]]
 ["gone",1]
-"#;
-
-// There is no cursor to be closed.
-pub(super) const QUERY_FAILS: &str = r#"["run",1,["fast_exec","fast_query","resetter","validator"]]
+"#,
+    // The query fails. There is no cursor to be closed.
+    r#"["run",1,["fast_exec","fast_query","resetter","validator"]]
 ["enter",1,1,"one db i64",["GET a"]]
 ["open",1,1]
 ["heard",1,1,"house",0,0,["connect"],["done"]]
@@ -31,9 +32,9 @@ pub(super) const QUERY_FAILS: &str = r#"["run",1,["fast_exec","fast_query","rese
 ["close",1,"db_closed"]
 ["heard",1,3,"house",0,0,["shut"],["done"]]
 ["gone",1]
-"#;
-
-pub(super) const QUERY_IS_BAD: &str = r#"["run",1,["fast_exec","fast_query","resetter","validator"]]
+"#,
+    // The query is answered as bad.
+    r#"["run",1,["fast_exec","fast_query","resetter","validator"]]
 ["enter",1,1,"one db i64",["GET a"]]
 ["open",1,1]
 ["heard",1,1,"house",0,0,["connect"],["done"]]
@@ -44,10 +45,9 @@ pub(super) const QUERY_IS_BAD: &str = r#"["run",1,["fast_exec","fast_query","res
 ["heard",1,3,"house",0,0,["shut"],["done"]]
 ["gone",1]
 ["ended"]
-"#;
-
-// The reply waits until the cursor is closed.
-pub(super) const NEXT_FAILS: &str = r#"["run",1,["fast_exec","fast_query","resetter","validator"]]
+"#,
+    // The Next fails. The reply waits until the cursor is closed.
+    r#"["run",1,["fast_exec","fast_query","resetter","validator"]]
 ["enter",1,1,"one db i64",["GET a"]]
 ["open",1,1]
 ["heard",1,1,"house",0,0,["connect"],["done"]]
@@ -62,10 +62,8 @@ pub(super) const NEXT_FAILS: &str = r#"["run",1,["fast_exec","fast_query","reset
 ["close",1,"db_closed"]
 ["heard",1,3,"house",0,0,["shut"],["done"]]
 ["gone",1]
-"#;
-
-// The first fault is told.
-pub(super) const NEXT_FAILS_AND_CLOSE_IS_BAD: &str =
+"#,
+    // The Next fails, and the close of the cursor is answered as bad. The first fault is told.
     r#"["run",1,["fast_exec","fast_query","resetter","validator"]]
 ["enter",1,1,"one db i64",["GET a"]]
 ["open",1,1]
@@ -79,10 +77,9 @@ pub(super) const NEXT_FAILS_AND_CLOSE_IS_BAD: &str =
 ["heard",1,3,"house",0,0,["shut"],["done"]]
 ["gone",1]
 ["ended"]
-"#;
-
-// On a bad connection not even the cursor is closed.
-pub(super) const NEXT_IS_BAD: &str = r#"["run",1,["fast_exec","fast_query","resetter","validator"]]
+"#,
+    // The Next is answered as bad. On a bad connection not even the cursor is closed.
+    r#"["run",1,["fast_exec","fast_query","resetter","validator"]]
 ["enter",1,1,"one db i64",["GET a"]]
 ["open",1,1]
 ["heard",1,1,"house",0,0,["connect"],["done"]]
@@ -94,9 +91,9 @@ pub(super) const NEXT_IS_BAD: &str = r#"["run",1,["fast_exec","fast_query","rese
 ["heard",1,3,"house",0,0,["shut"],["done"]]
 ["gone",1]
 ["ended"]
-"#;
-
-pub(super) const NO_ROW: &str = r#"["run",1,["fast_exec","fast_query","resetter","validator"]]
+"#,
+    // There is no row.
+    r#"["run",1,["fast_exec","fast_query","resetter","validator"]]
 ["enter",1,1,"one db i64",["GET a"]]
 ["open",1,1]
 ["heard",1,1,"house",0,0,["connect"],["done"]]
@@ -111,10 +108,8 @@ pub(super) const NO_ROW: &str = r#"["run",1,["fast_exec","fast_query","resetter"
 ["close",1,"db_closed"]
 ["heard",1,3,"house",0,0,["shut"],["done"]]
 ["gone",1]
-"#;
-
-// That there was no row stays the reply.
-pub(super) const NO_ROW_AND_CLOSE_FAILS: &str =
+"#,
+    // The close of the cursor fails. That there was no row stays the reply.
     r#"["run",1,["fast_exec","fast_query","resetter","validator"]]
 ["enter",1,1,"one db i64",["GET a"]]
 ["open",1,1]
@@ -130,9 +125,8 @@ pub(super) const NO_ROW_AND_CLOSE_FAILS: &str =
 ["close",1,"db_closed"]
 ["heard",1,3,"house",0,0,["shut"],["done"]]
 ["gone",1]
-"#;
-
-pub(super) const NO_ROW_AND_CLOSE_IS_BAD: &str =
+"#,
+    // The same, where it is answered as bad.
     r#"["run",1,["fast_exec","fast_query","resetter","validator"]]
 ["enter",1,1,"one db i64",["GET a"]]
 ["open",1,1]
@@ -146,10 +140,8 @@ pub(super) const NO_ROW_AND_CLOSE_IS_BAD: &str =
 ["heard",1,3,"house",0,0,["shut"],["done"]]
 ["gone",1]
 ["ended"]
-"#;
-
-// The row was read, but the call isn't well before its cursor is closed.
-pub(super) const CLOSE_ROWS_FAILS: &str =
+"#,
+    // The close of the cursor fails. The row was read, but the call isn't well before its cursor is closed.
     r#"["run",1,["fast_exec","fast_query","resetter","validator"]]
 ["enter",1,1,"one db i64",["GET a"]]
 ["open",1,1]
@@ -165,9 +157,8 @@ pub(super) const CLOSE_ROWS_FAILS: &str =
 ["close",1,"db_closed"]
 ["heard",1,3,"house",0,0,["shut"],["done"]]
 ["gone",1]
-"#;
-
-pub(super) const CLOSE_ROWS_IS_BAD: &str =
+"#,
+    // The close of the cursor is answered as bad.
     r#"["run",1,["fast_exec","fast_query","resetter","validator"]]
 ["enter",1,1,"one db i64",["GET a"]]
 ["open",1,1]
@@ -181,10 +172,8 @@ pub(super) const CLOSE_ROWS_IS_BAD: &str =
 ["heard",1,3,"house",0,0,["shut"],["done"]]
 ["gone",1]
 ["ended"]
-"#;
-
-// What became of the row stays the reply.
-pub(super) const ROW_IS_TOO_NARROW_AND_CLOSE_FAILS: &str =
+"#,
+    // The row has too few values, and the close of the cursor fails. What became of the row stays the reply.
     r#"["run",1,["fast_exec","fast_query","resetter","validator"]]
 ["enter",1,1,"one db i64,i64",["GET a"]]
 ["open",1,1]
@@ -200,10 +189,8 @@ pub(super) const ROW_IS_TOO_NARROW_AND_CLOSE_FAILS: &str =
 ["close",1,"db_closed"]
 ["heard",1,3,"house",0,0,["shut"],["done"]]
 ["gone",1]
-"#;
-
-// The row was read, and its reply stays.
-pub(super) const ROW_TEST_IS_FAILED: &str =
+"#,
+    // The connection fails its test. The row was read, and its reply stays.
     r#"["run",1,["fast_exec","fast_query","resetter","validator"]]
 ["enter",1,1,"one db i64",["GET a"]]
 ["open",1,1]
@@ -218,10 +205,8 @@ pub(super) const ROW_TEST_IS_FAILED: &str =
 ["heard",1,3,"house",0,0,["shut"],["done"]]
 ["gone",1]
 ["ended"]
-"#;
-
-// The text is skipped, so it is prepared and asked by its handle. The cursor is closed first.
-pub(super) const QUERY_IS_PREPARED: &str =
+"#,
+    // The text is skipped, so it is prepared and asked by its handle. The cursor is closed first.
     r#"["run",1,["fast_exec","fast_query","resetter","validator"]]
 ["enter",1,1,"one db i64",["GET ?","a"]]
 ["open",1,1]
@@ -240,9 +225,9 @@ pub(super) const QUERY_IS_PREPARED: &str =
 ["close",1,"db_closed"]
 ["heard",1,3,"house",0,0,["shut"],["done"]]
 ["gone",1]
-"#;
-
-pub(super) const HANDLE_FAILS: &str = r#"["run",1,["fast_exec","fast_query","resetter","validator"]]
+"#,
+    // The query by the handle fails.
+    r#"["run",1,["fast_exec","fast_query","resetter","validator"]]
 ["enter",1,1,"one db i64",["GET ?","a"]]
 ["open",1,1]
 ["heard",1,1,"house",0,0,["connect"],["done"]]
@@ -258,9 +243,8 @@ pub(super) const HANDLE_FAILS: &str = r#"["run",1,["fast_exec","fast_query","res
 ["close",1,"db_closed"]
 ["heard",1,3,"house",0,0,["shut"],["done"]]
 ["gone",1]
-"#;
-
-pub(super) const HANDLE_IS_BAD: &str =
+"#,
+    // The query by the handle is answered as bad.
     r#"["run",1,["fast_exec","fast_query","resetter","validator"]]
 ["enter",1,1,"one db i64",["GET ?","a"]]
 ["open",1,1]
@@ -274,10 +258,8 @@ pub(super) const HANDLE_IS_BAD: &str =
 ["heard",1,3,"house",0,0,["shut"],["done"]]
 ["gone",1]
 ["ended"]
-"#;
-
-// The cursor and the handle are closed even then.
-pub(super) const NEXT_OF_HANDLE_FAILS: &str =
+"#,
+    // The Next fails. The cursor and the handle are closed even then.
     r#"["run",1,["fast_exec","fast_query","resetter","validator"]]
 ["enter",1,1,"one db i64",["GET ?","a"]]
 ["open",1,1]
@@ -296,10 +278,8 @@ pub(super) const NEXT_OF_HANDLE_FAILS: &str =
 ["close",1,"db_closed"]
 ["heard",1,3,"house",0,0,["shut"],["done"]]
 ["gone",1]
-"#;
-
-// On a bad connection neither the cursor nor the handle is closed.
-pub(super) const NEXT_OF_HANDLE_IS_BAD: &str =
+"#,
+    // The Next is answered as bad. On a bad connection neither the cursor nor the handle is closed.
     r#"["run",1,["fast_exec","fast_query","resetter","validator"]]
 ["enter",1,1,"one db i64",["GET ?","a"]]
 ["open",1,1]
@@ -314,9 +294,8 @@ pub(super) const NEXT_OF_HANDLE_IS_BAD: &str =
 ["heard",1,3,"house",0,0,["shut"],["done"]]
 ["gone",1]
 ["ended"]
-"#;
-
-pub(super) const NO_ROW_OF_HANDLE: &str =
+"#,
+    // There is no row of the handle.
     r#"["run",1,["fast_exec","fast_query","resetter","validator"]]
 ["enter",1,1,"one db i64",["GET ?","a"]]
 ["open",1,1]
@@ -335,9 +314,8 @@ pub(super) const NO_ROW_OF_HANDLE: &str =
 ["close",1,"db_closed"]
 ["heard",1,3,"house",0,0,["shut"],["done"]]
 ["gone",1]
-"#;
-
-pub(super) const CLOSE_ROWS_OF_HANDLE_IS_BAD: &str =
+"#,
+    // The close of the handle's cursor is answered as bad.
     r#"["run",1,["fast_exec","fast_query","resetter","validator"]]
 ["enter",1,1,"one db i64",["GET ?","a"]]
 ["open",1,1]
@@ -353,10 +331,8 @@ pub(super) const CLOSE_ROWS_OF_HANDLE_IS_BAD: &str =
 ["heard",1,3,"house",0,0,["shut"],["done"]]
 ["gone",1]
 ["ended"]
-"#;
-
-// The row was read and its cursor closed, and its reply stays.
-pub(super) const CLOSE_STMT_IS_BAD: &str =
+"#,
+    // The handle's close is answered as bad. The row was read and its cursor closed, and its reply stays.
     r#"["run",1,["fast_exec","fast_query","resetter","validator"]]
 ["enter",1,1,"one db i64",["GET ?","a"]]
 ["open",1,1]
@@ -373,10 +349,8 @@ pub(super) const CLOSE_STMT_IS_BAD: &str =
 ["heard",1,3,"house",0,0,["shut"],["done"]]
 ["gone",1]
 ["ended"]
-"#;
-
-// The statement wants two inputs, so nothing is asked.
-pub(super) const QUERY_HAS_TOO_FEW_ARGUMENTS: &str =
+"#,
+    // The statement wants two inputs, so nothing is asked.
     r#"["run",1,["fast_exec","fast_query","resetter","validator"]]
 ["enter",1,1,"one db i64",["GET ?","a"]]
 ["open",1,1]
@@ -392,10 +366,9 @@ pub(super) const QUERY_HAS_TOO_FEW_ARGUMENTS: &str =
 ["close",1,"db_closed"]
 ["heard",1,3,"house",0,0,["shut"],["done"]]
 ["gone",1]
-"#;
-
-// A driver without the fast path and a test is asked for neither.
-pub(super) const DRIVER_IS_PLAIN: &str = r#"["run",1,[]]
+"#,
+    // A driver without the fast path and a test is asked for neither.
+    r#"["run",1,[]]
 ["enter",1,1,"one db i64",["GET ?","a"]]
 ["open",1,1]
 ["heard",1,1,"house",0,0,["connect"],["done"]]
@@ -411,10 +384,8 @@ pub(super) const DRIVER_IS_PLAIN: &str = r#"["run",1,[]]
 ["close",1,"db_closed"]
 ["heard",1,3,"house",0,0,["shut"],["done"]]
 ["gone",1]
-"#;
-
-// The faults are told to the one call that met them.
-pub(super) const NEXT_FAILS_THEN_ALL_IS_WELL: &str =
+"#,
+    // The Next fails, and then all is well. The faults are told to the one call that met them.
     r#"["run",1,["fast_exec","fast_query","resetter","validator"]]
 ["enter",1,1,"one db i64",["GET a"]]
 ["open",1,1]
@@ -437,4 +408,5 @@ pub(super) const NEXT_FAILS_THEN_ALL_IS_WELL: &str =
 ["close",1,"db_closed"]
 ["heard",1,4,"house",0,0,["shut"],["done"]]
 ["gone",1]
-"#;
+"#,
+];

@@ -1,11 +1,11 @@
-//! A driver whose answers are listed.
+//! A driver whose answers a report tells.
 
-ghost use Rattle.std.specs.Prelude.{◌≡◌, ℕ, Bool, List, None, Some, true, length, IfOk, IfErr};
+ghost use Rattle.std.specs.Prelude.{◌≡◌, ℕ, Bool, List, None, Some, true, false, length, IfOk, IfErr};
 ghost use Rattle.dsql_value.specs.declared.value.Param.{Param};
 ghost use Rattle.dsql_driver.specs.declared.answer.DriverAnswer.{DriverAnswer};
 ghost use Rattle.dsql_driver.specs.declared.call.DriverCall.TheVariants.{Prepare, Query};
 ghost use Rattle.dsql_driver.specs.declared.call.Input.{Input};
-ghost use Rattle.dsql_run.specs.Listed.{live_of, cursors_of};
+ghost use Rattle.dsql_run_tests.specs.Live.{live_of, cursors_of};
 ghost use Rattle.dsql_driver.specs.Fits.{fits_of};
 ghost use Rattle.dsql_driver.specs.Wires.{KeepsHandles, KeepsCursors};
 
@@ -13,9 +13,19 @@ use dsql_driver::{Answered, Caps, DriverAnswer, DriverCall, Fleet, Input, Planne
 use dsql_value::{Columns, Items, Memory, Txt, Value, Values};
 use std::alloc::Global;
 
+const NO_CAPS: Caps = Caps {
+    fast_exec: false,
+    fast_query: false,
+    begin_options: false,
+    named: false,
+    pinger: false,
+    resetter: false,
+    validator: false,
+};
+
 /// What a driver answers.
-#[derive(Clone, Copy, Debug, PartialEq, Eq)]
-pub(super) enum Listed {
+#[derive(Clone, Copy)]
+enum ToldAnswer {
     Done,
     /// A result: one entry was affected.
     Ran,
@@ -33,29 +43,60 @@ pub(super) enum Listed {
     Boom,
 }
 
-/// A driver that answers by lists, one for each connection: first its Connect, then its calls in order.
-/// Where nothing that fits is listed, it answers that there is no memory. A connection gives one handle and
-/// one cursor.
+/// A driver that answers each call as a report tells of the same connection. Where the report tells no more,
+/// it answers that there is no memory. A connection gives one handle and one cursor.
 #[derive(Drop)]
-pub(super) struct ListFleet<'a> {
+pub(super) struct ToldFleet<'a> {
     alloc: Global,
     caps: Caps,
-    answers: &'a [&'a [Listed]],
-    /// How many connections it was given back.
-    pub(super) retired: usize,
-    /// How many answers of these were still listed.
-    pub(super) unheard: usize,
+    report: &'a str,
 }
 
-/// A connection of such a driver, with the answers that are still listed.
+/// A connection of such a driver.
 #[derive(Drop)]
-pub(super) struct ListWire<'a> {
+pub(super) struct ToldWire {
     alloc: Global,
-    answers: &'a [Listed],
+    answers: Vec<ToldAnswer>,
+    /// How many of them it gave.
+    given: usize,
     /// It gave its handle, whose number is 1.
     prepared: bool,
     /// It gave its cursor, whose number is 1.
     opened: bool,
+}
+
+/// What is answered where an entry of a report ends so.
+fn told_answer(end: &str) -> Option<ToldAnswer> {
+    match end {
+        "\"done\"]]" => Some(ToldAnswer::Done),
+        "\"result\",0,1]]" => Some(ToldAnswer::Ran),
+        "\"skip\"]]" => Some(ToldAnswer::Skip),
+        "\"prepared\",1,1]]" => Some(ToldAnswer::Gave(1)),
+        "\"prepared\",1,2]]" => Some(ToldAnswer::Gave(2)),
+        "\"cursor\",1,[\"value\"]]]" => Some(ToldAnswer::Cursor),
+        "\"row\",[1]]]" => Some(ToldAnswer::Row),
+        "\"end\"]]" => Some(ToldAnswer::End),
+        "\"invalid\"]]" => Some(ToldAnswer::Invalid),
+        "\"bad\"]]" => Some(ToldAnswer::Bad),
+        "\"fail\",\"boom\"]]" => Some(ToldAnswer::Boom),
+        _ => None,
+    }
+}
+
+/// What a report tells that a connection answered.
+fn answers_of(alloc: Global, report: &str, number: u32) -> Result<Vec<ToldAnswer>, Memory> {
+    let head = format!(in alloc; "[\"heard\",{number},")?;
+    let mut answers = Vec::new(alloc);
+    for line in report.lines() {
+        if line.starts_with(head.as_str()) {
+            if let Some((_, end)) = line.rsplit_once("],[") {
+                if let Some(told) = told_answer(end) {
+                    answers.push(told)?;
+                }
+            }
+        }
+    }
+    Ok(answers)
 }
 
 fn no_memory() -> Answered
@@ -85,29 +126,29 @@ fn one_value(alloc: Global) -> Result<Values, Memory>
 }
 
 /// The answer to a call that reads rows, but for its cursor. Other calls aren't known.
-fn row_answer_of(alloc: Global, call: &DriverCall, listed: Listed) -> Result<DriverAnswer, Memory>
+fn row_answer_of(alloc: Global, call: &DriverCall, told: ToldAnswer) -> Result<DriverAnswer, Memory>
     ensures fitting { IfOk result (λ answer. fits_of call.now answer ≡ true) }
     ensures handles { (live : List ℕ) → IfOk result (λ answer. KeepsHandles call.now answer live live) }
     ensures cursors { (opened : Bool) → IfOk result (λ answer. KeepsCursors call.now answer (cursors_of opened) (cursors_of opened)) }
 {
     Ok(match call {
-        DriverCall::Query(Input::Text(_), _) => match listed {
-            Listed::Skip => DriverAnswer::Skip,
-            Listed::Bad => DriverAnswer::Bad,
-            Listed::Boom => DriverAnswer::Fail(boom(alloc)?),
+        DriverCall::Query(Input::Text(_), _) => match told {
+            ToldAnswer::Skip => DriverAnswer::Skip,
+            ToldAnswer::Bad => DriverAnswer::Bad,
+            ToldAnswer::Boom => DriverAnswer::Fail(boom(alloc)?),
             _ => DriverAnswer::Memory,
         },
-        DriverCall::Next(_) => match listed {
-            Listed::Row => DriverAnswer::Row(one_value(alloc)?),
-            Listed::End => DriverAnswer::End,
-            Listed::Bad => DriverAnswer::Bad,
-            Listed::Boom => DriverAnswer::Fail(boom(alloc)?),
+        DriverCall::Next(_) => match told {
+            ToldAnswer::Row => DriverAnswer::Row(one_value(alloc)?),
+            ToldAnswer::End => DriverAnswer::End,
+            ToldAnswer::Bad => DriverAnswer::Bad,
+            ToldAnswer::Boom => DriverAnswer::Fail(boom(alloc)?),
             _ => DriverAnswer::Memory,
         },
-        DriverCall::CloseRows(_) => match listed {
-            Listed::Done => DriverAnswer::Done,
-            Listed::Bad => DriverAnswer::Bad,
-            Listed::Boom => DriverAnswer::Fail(boom(alloc)?),
+        DriverCall::CloseRows(_) => match told {
+            ToldAnswer::Done => DriverAnswer::Done,
+            ToldAnswer::Bad => DriverAnswer::Bad,
+            ToldAnswer::Boom => DriverAnswer::Fail(boom(alloc)?),
             _ => DriverAnswer::Memory,
         },
         _ => DriverAnswer::Memory,
@@ -115,64 +156,60 @@ fn row_answer_of(alloc: Global, call: &DriverCall, listed: Listed) -> Result<Dri
 }
 
 /// The answer to a call, but for its handle and its cursor. Calls that no exec, one or query makes aren't known.
-fn answer_of(alloc: Global, call: &DriverCall, listed: Listed) -> Result<DriverAnswer, Memory>
+fn answer_of(alloc: Global, call: &DriverCall, told: ToldAnswer) -> Result<DriverAnswer, Memory>
     ensures fitting { IfOk result (λ answer. fits_of call.now answer ≡ true) }
     ensures handles { (live : List ℕ) → IfOk result (λ answer. KeepsHandles call.now answer live live) }
     ensures cursors { (opened : Bool) → IfOk result (λ answer. KeepsCursors call.now answer (cursors_of opened) (cursors_of opened)) }
 {
     Ok(match call {
-        DriverCall::Reset | DriverCall::CloseStmt(_) | DriverCall::Shut => match listed {
-            Listed::Done => DriverAnswer::Done,
-            Listed::Bad => DriverAnswer::Bad,
-            Listed::Boom => DriverAnswer::Fail(boom(alloc)?),
+        DriverCall::Reset | DriverCall::CloseStmt(_) | DriverCall::Shut => match told {
+            ToldAnswer::Done => DriverAnswer::Done,
+            ToldAnswer::Bad => DriverAnswer::Bad,
+            ToldAnswer::Boom => DriverAnswer::Fail(boom(alloc)?),
             _ => DriverAnswer::Memory,
         },
-        DriverCall::Exec(Input::Text(_), _) => match listed {
-            Listed::Ran => DriverAnswer::Result {
+        DriverCall::Exec(Input::Text(_), _) => match told {
+            ToldAnswer::Ran => DriverAnswer::Result {
                 last: 0,
                 affected: 1,
             },
-            Listed::Skip => DriverAnswer::Skip,
-            Listed::Bad => DriverAnswer::Bad,
-            Listed::Boom => DriverAnswer::Fail(boom(alloc)?),
+            ToldAnswer::Skip => DriverAnswer::Skip,
+            ToldAnswer::Bad => DriverAnswer::Bad,
+            ToldAnswer::Boom => DriverAnswer::Fail(boom(alloc)?),
             _ => DriverAnswer::Memory,
         },
-        DriverCall::Exec(Input::Handle(_), _) => match listed {
-            Listed::Ran => DriverAnswer::Result {
+        DriverCall::Exec(Input::Handle(_), _) => match told {
+            ToldAnswer::Ran => DriverAnswer::Result {
                 last: 0,
                 affected: 1,
             },
-            Listed::Bad => DriverAnswer::Bad,
-            Listed::Boom => DriverAnswer::Fail(boom(alloc)?),
+            ToldAnswer::Bad => DriverAnswer::Bad,
+            ToldAnswer::Boom => DriverAnswer::Fail(boom(alloc)?),
             _ => DriverAnswer::Memory,
         },
-        DriverCall::Prepare(_) | DriverCall::Query(Input::Handle(_), _) => match listed {
-            Listed::Bad => DriverAnswer::Bad,
-            Listed::Boom => DriverAnswer::Fail(boom(alloc)?),
+        DriverCall::Prepare(_) | DriverCall::Query(Input::Handle(_), _) => match told {
+            ToldAnswer::Bad => DriverAnswer::Bad,
+            ToldAnswer::Boom => DriverAnswer::Fail(boom(alloc)?),
             _ => DriverAnswer::Memory,
         },
-        DriverCall::Valid => match listed {
-            Listed::Done => DriverAnswer::Done,
-            Listed::Invalid => DriverAnswer::Invalid,
+        DriverCall::Valid => match told {
+            ToldAnswer::Done => DriverAnswer::Done,
+            ToldAnswer::Invalid => DriverAnswer::Invalid,
             _ => DriverAnswer::Memory,
         },
-        _ => return row_answer_of(alloc, call, listed),
+        _ => return row_answer_of(alloc, call, told),
     })
 }
 
-impl<'a> ListWire<'a> {
-    /// Takes the next answer off the list.
-    fn next(&mut self) -> Option<Listed>
+impl ToldWire {
+    /// The next answer that is told.
+    fn next(&mut self) -> Option<ToldAnswer>
         ensures prepared { self.new.prepared ≡ self.old.prepared }
         ensures opened { self.new.opened ≡ self.old.opened }
     {
-        match self.answers.split_first() {
-            Some((first, rest)) => {
-                self.answers = rest;
-                Some(*first)
-            }
-            None => None,
-        }
+        let told = self.answers.get(self.given).copied();
+        self.given = self.given.saturating_add(1);
+        told
     }
 
     /// Gives the handle, if it wasn't given yet.
@@ -225,26 +262,26 @@ impl<'a> ListWire<'a> {
         ensures prepared { IfErr result (λ _. self.new.prepared ≡ self.old.prepared) }
         ensures opened { IfErr result (λ _. self.new.opened ≡ self.old.opened) }
     {
-        let Some(listed) = self.next() else {
+        let Some(told) = self.next() else {
             return Err(Memory);
         };
         if let DriverCall::Prepare(_) = call {
-            if let Listed::Gave(inputs) = listed {
+            if let ToldAnswer::Gave(inputs) = told {
                 return Ok(self.give(inputs));
             }
         }
         if let DriverCall::Query(_, _) = call {
-            if let Listed::Cursor = listed {
+            if let ToldAnswer::Cursor = told {
                 return self.open();
             }
         }
-        let answer = answer_of(self.alloc, call, listed)?;
+        let answer = answer_of(self.alloc, call, told)?;
         let copy = answer.clone()?;
         Ok(Answered { answer, copy })
     }
 }
 
-impl<'a> Wire for ListWire<'a> {
+impl Wire for ToldWire {
     ghost told = { λ _. None };
 
     ghost faults = { λ _. 18446744073709551615 };
@@ -265,29 +302,32 @@ impl<'a> Wire for ListWire<'a> {
     }
 }
 
-impl<'a> ListFleet<'a> {
-    /// A driver that can do this and answers so.
-    pub(super) fn new(alloc: Global, caps: Caps, answers: &'a [&'a [Listed]]) -> ListFleet<'a> {
-        ListFleet {
+impl<'a> ToldFleet<'a> {
+    /// A driver that answers as this report tells.
+    pub(super) fn new(alloc: Global, report: &'a str) -> ToldFleet<'a> {
+        ToldFleet {
             alloc,
-            caps,
-            answers,
-            retired: 0,
-            unheard: 0,
+            caps: NO_CAPS,
+            report,
         }
     }
 
-    /// The answers of the connection of this number. Connections are numbered from 1.
-    fn listed_for(&self, number: u32) -> &'a [Listed] {
-        match (number as usize).checked_sub(1) {
-            Some(place) => self.answers.get(place).copied().unwrap_or(&[]),
-            None => &[],
-        }
+    fn opened(&self, number: u32) -> Result<ToldWire, Memory>
+        ensures prepared { IfOk result (λ w. w.prepared ≡ false) }
+        ensures opened { IfOk result (λ w. w.opened ≡ false) }
+    {
+        Ok(ToldWire {
+            alloc: self.alloc,
+            answers: answers_of(self.alloc, self.report, number)?,
+            given: 0,
+            prepared: false,
+            opened: false,
+        })
     }
 }
 
-impl<'a> Fleet for ListFleet<'a> {
-    type Wire = ListWire<'a>;
+impl<'a> Fleet for ToldFleet<'a> {
+    type Wire = ToldWire;
 
     ghost ability = { λ f. f.caps };
 
@@ -309,17 +349,14 @@ impl<'a> Fleet for ListFleet<'a> {
         Ok(())
     }
 
-    fn connect(&mut self, number: u32) -> Result<ListWire<'a>, Refused> {
-        let mut wire = ListWire {
-            alloc: self.alloc,
-            answers: self.listed_for(number),
-            prepared: false,
-            opened: false,
+    fn connect(&mut self, number: u32) -> Result<ToldWire, Refused> {
+        let Ok(mut wire) = self.opened(number) else {
+            return Err(Refused::Memory);
         };
         match wire.next() {
-            Some(Listed::Done) => Ok(wire),
-            Some(Listed::Bad) => Err(Refused::Bad),
-            Some(Listed::Boom) => match boom(self.alloc) {
+            Some(ToldAnswer::Done) => Ok(wire),
+            Some(ToldAnswer::Bad) => Err(Refused::Bad),
+            Some(ToldAnswer::Boom) => match boom(self.alloc) {
                 Ok(text) => Err(Refused::Fail(text)),
                 Err(Memory) => Err(Refused::Memory),
             },
@@ -327,8 +364,5 @@ impl<'a> Fleet for ListFleet<'a> {
         }
     }
 
-    fn retire(&mut self, _number: u32, wire: ListWire<'a>) {
-        self.retired = self.retired.saturating_add(1);
-        self.unheard = self.unheard.saturating_add(wire.answers.len());
-    }
+    fn retire(&mut self, _number: u32, _wire: ToldWire) {}
 }
