@@ -14,3 +14,4 @@ pub mod ReadBack
 pub mod ReadCaps
 pub mod ReadCalls
 pub mod ScriptCalls
+pub mod LoneTexts

@@ -1,5 +1,5 @@
 //! The calls of clients as JSON.
-ghost use Rattle.std.specs.Prelude.{◌≡◌, flat_map};
+ghost use Rattle.std.specs.Prelude.{◌≡◌, ◌++◌, codes, flat_map, string_bytes, IfOk};
 ghost use Rattle.serde_json.specs.Data.{string};
 ghost use Rattle.dsql_script.specs.Lines.{op_words, if_any, op_data, entered_data};
 ghost use Rattle.dsql_script.specs.Spelling.{tokens_of, Adds, Spells};
@@ -8,8 +8,31 @@ use crate::dests::dests_word;
 use crate::line::args::write_statement;
 use crate::line::parts::{begin_numbered, write_natural};
 use dsql_history::Op;
+use dsql_value::Txt;
 use json::Writer;
 use std::alloc::{AllocError, Global};
+
+/// Room for the words of a call: the longest verb, a label of 32 bytes and what stands behind it.
+const WORDS_ROOM: usize = 48;
+
+/// A verb with its space, and a label behind it.
+fn labelled(alloc: Global, verb: &str, label: &Txt) -> Result<String, AllocError>
+    ensures { IfOk result (λ words. string_bytes words ≡ verb.now ++ label.now) }
+{
+    let mut words = String::with_capacity(alloc, WORDS_ROOM)?;
+    words.push_str(verb)?;
+    words.push_str(label.as_str())?;
+    Ok(words)
+}
+
+/// The words of a query whose rows get this label.
+fn query_words(alloc: Global, label: &Txt) -> Result<String, AllocError>
+    ensures { IfOk result (λ words. string_bytes words ≡ codes "query " ++ (label.now ++ codes " db")) }
+{
+    let mut words = labelled(alloc, "query ", label)?;
+    words.push_str(" db")?;
+    Ok(words)
+}
 
 /// The words of the line that asked for a call, without the client.
 fn write_words(alloc: Global, json: &mut Writer, op: &Op) -> Result<(), AllocError>
@@ -21,7 +44,7 @@ fn write_words(alloc: Global, json: &mut Writer, op: &Op) -> Result<(), AllocErr
             label,
             text: _,
             args: _,
-        } => format!(in alloc; "query {} db", label.as_str())?,
+        } => query_words(alloc, label)?,
         Op::One {
             dests,
             text: _,
@@ -30,13 +53,13 @@ fn write_words(alloc: Global, json: &mut Writer, op: &Op) -> Result<(), AllocErr
             let dests = dests_word(alloc, dests.as_slice())?;
             format!(in alloc; "one db {dests}")?
         }
-        Op::Next { rows } => format!(in alloc; "next {}", rows.as_str())?,
+        Op::Next { rows } => labelled(alloc, "next ", rows)?,
         Op::Scan { rows, dests } => {
             let dests = dests_word(alloc, dests.as_slice())?;
             format!(in alloc; "scan {} {dests}", rows.as_str())?
         }
-        Op::RowsClose { rows } => format!(in alloc; "rowsclose {}", rows.as_str())?,
-        Op::Err { rows } => format!(in alloc; "err {}", rows.as_str())?,
+        Op::RowsClose { rows } => labelled(alloc, "rowsclose ", rows)?,
+        Op::Err { rows } => labelled(alloc, "err ", rows)?,
     };
     json.string(words.as_str())
 }

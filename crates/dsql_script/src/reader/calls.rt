@@ -1,8 +1,8 @@
-ghost use Rattle.std.specs.Prelude.{◌≡◌, map};
+ghost use Rattle.std.specs.Prelude.{◌≡◌, map, Some};
 ghost use Rattle.std.specs.Option.{option_copied};
 ghost use Rattle.dsql_script.specs.Dests.{dests_of};
 ghost use Rattle.dsql_script.specs.ScriptWords.{client_of, label_of};
-ghost use Rattle.dsql_script.specs.ScriptLines.{IsReading, client_line, call_of, exec_of, query_of, query_as, one_of, one_into, statement_of, has_target, names_database};
+ghost use Rattle.dsql_script.specs.ScriptLines.{IsReading, client_line, call_of, exec_of, query_of, query_as, one_of, one_into, statement_of, call_of_parts, has_target, names_database};
 
 use crate::dests::read_dests;
 use crate::fault::{LineFault, What};
@@ -11,7 +11,7 @@ use crate::reader::{array, rows, words};
 use crate::script::ScriptLine;
 use dsql_history::Op;
 use dsql_scan::Dests;
-use dsql_value::{Args, Txt};
+use dsql_value::{Args, Items, Txt};
 use std::alloc::Global;
 
 /// What a call asks of its text with its arguments.
@@ -184,8 +184,27 @@ fn read_statement(
         return Err(LineFault::BadShape);
     }
     let array = array.ok_or(LineFault::BadShape)?;
+    if let Some(text) = array::lone_text(array) {
+        let text = Txt::new(String::from_str(alloc, text)?);
+        return call_with(client, verb, target, tokens, text, Items::none(alloc));
+    }
     let value = array::read_array(alloc, array)?;
     let (text, args) = args::read_call(alloc, &value)?;
+    call_with(client, verb, target, tokens, text, args)
+}
+
+/// The call by what it asks, what it is made on, the words after that, and its text with its arguments.
+fn call_with(
+    client: u8,
+    verb: Verb,
+    target: &str,
+    tokens: &[&str],
+    text: Txt,
+    args: Args,
+) -> Result<ScriptLine, LineFault>
+    ensures { IsReading result (call_of_parts client verb
+        (names_database target.now (map (λ w. w.now) tokens.now)) (Some (text, args))) }
+{
     if args.as_slice().len() > MAX_ARGS || verb.dest_count() > MAX_ARGS {
         return Err(LineFault::TooMany(What::Args));
     }
