@@ -1,13 +1,18 @@
 -- What is kept of the present, each against what the history tells.
-use Rattle.std.specs.Prelude.{◌≡◌, ◌+◌, ◌≤◌, List, length, reverse, vec_len, vec_capacity}
+use Rattle.std.specs.Prelude.{◌≡◌, ◌+◌, ◌≤◌, ℕ, List, length, position, reverse, vec_len, vec_capacity}
+use Rattle.indexmap.specs.IndexMap.{get_by_text, spare}
 use Rattle.dsql_pool.specs.Moved.{made}
+use Rattle.dsql_history.specs.Readers.Works.{has_label}
 use Rattle.dsql_clients.specs.declared.event.Event.{Event}
 use Rattle.dsql_clients.specs.Readers.Course as course
+use Rattle.dsql_clients.specs.Readers.HandedOut as given
 use Rattle.dsql_clients.specs.Readers.Owed.{owed}
 use Rattle.dsql_clients.specs.Readers.Pool as pools
 use Rattle.dsql_clients.specs.Readers.Unfinished as left
 use Rattle.dsql_clients.specs.Readers.Works as kinds
 use Rattle.dsql_clients.specs.Legal.{Lawful, Calm}
+use Rattle.dsql_client_desk.specs.Calls.{KeepsCalls}
+use Rattle.dsql_client_desk.specs.Made as lines
 use Rattle.dsql_client_desk.specs.declared.desk.Desk.{Desk}
 
 -- the events so far, the newest first
@@ -18,7 +23,10 @@ past d = reverse d.history.items
 pub record HasRoom (d : Desk) : Type 0 where
   pub history : vec_len d.history + d.paid ≤ vec_capacity d.history
   pub unfinished : vec_len d.unfinished + d.paid ≤ vec_capacity d.unfinished
-  pub works : vec_len d.works + d.paid ≤ vec_capacity d.works
+  pub made : vec_len d.made + d.paid ≤ vec_capacity d.made
+  pub calls : vec_len d.calls + d.paid ≤ vec_capacity d.calls
+  pub labels : d.paid ≤ spare d.labels
+  pub rows : d.paid ≤ d.rows.spare
   pub pool : d.paid ≤ d.pool.spare
 
 -- all but the pool
@@ -29,7 +37,10 @@ pub record Tables (d : Desk) : Type 0 where
   pub closed_by : d.closed_by ≡ course.db_end (past d)
   pub ended : d.ended ≡ course.has_ended (past d)
   pub unfinished : d.unfinished.items ≡ left.unfinished (past d)
-  pub works : d.works.items ≡ kinds.works (past d)
+  pub made : d.made.items ≡ lines.all_made (past d)
+  pub calls : KeepsCalls (past d) d.calls.items
+  pub labels : (label : List ℕ) → get_by_text d.labels label ≡ position (has_label label) (kinds.works (past d))
+  pub rows : d.rows.rows ≡ given.handed_out (past d)
   pub room : HasRoom d
 
 -- and the pool is that of the history

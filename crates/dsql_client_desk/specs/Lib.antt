@@ -1,2 +1,4 @@
+pub mod Made
+pub mod Calls
 pub mod Desk
 pub mod Appending

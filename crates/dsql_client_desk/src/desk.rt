@@ -1,13 +1,19 @@
 //! What is kept of the present: that of a run that begins, and its room.
 ghost use Rattle.std.specs.Prelude.{◌≡◌, ◌∷◌, [], IfOk, OnOk};
+ghost use Rattle.dsql_client_desk.specs.Calls.{nobody};
 ghost use Rattle.dsql_client_desk.specs.Desk.{past, Stands};
 ghost use Rattle.dsql_clients.specs.Rules.Settled.{Settled};
 ghost use Rattle.dsql_clients.specs.declared.event.Event.TheVariants.{Run};
 
+use crate::call::CallRow;
 use crate::no_room::NoRoom;
-use dsql_clients::{DbEnd, Event, Work};
+use dsql_clients::{CallRecord, DbEnd, Event, Work};
+use dsql_course::Progress;
 use dsql_driver::Caps;
 use dsql_pool::Pool;
+use dsql_rows::RowsTable;
+use dsql_value::{Items, Txt};
+use indexmap::IndexMap;
 use std::alloc::Global;
 
 /// What is kept of the present, beside the history.
@@ -21,10 +27,16 @@ pub struct Desk {
     pub ended: bool,
     /// The connections, the requests that wait, and the limits.
     pub pool: Pool,
+    /// What was exchanged on each connection since it was lent, by its number.
+    pub made: Vec<Progress>,
+    /// Each call, by its number. There is no call 0.
+    pub calls: Vec<CallRow>,
     /// The calls without a reply.
     pub unfinished: Vec<u32>,
-    /// What each call has to do, by its number.
-    pub works: Vec<Work>,
+    /// The first call that hands out rows under each label.
+    pub labels: IndexMap<String, u32>,
+    /// The rows that were handed out, by the numbers of their queries.
+    pub rows: RowsTable,
     /// For how many more events there is memory.
     pub paid: usize,
 }
@@ -40,16 +52,21 @@ impl Desk {
     {
         let mut history = Vec::new(alloc);
         history.push(Event::Run { version, caps })?;
-        let mut works = Vec::new(alloc);
-        works.push(Work::Look)?;
+        let mut made = Vec::new(alloc);
+        made.push(Progress::new())?;
+        let mut calls = Vec::new(alloc);
+        calls.push(nobody(alloc)?)?;
         Ok(Desk {
             history,
             caps,
             closed_by: None,
             ended: false,
             pool: Pool::new(alloc),
+            made,
+            calls,
             unfinished: Vec::new(alloc),
-            works,
+            labels: IndexMap::new(alloc),
+            rows: RowsTable::new(alloc),
             paid: 0,
         })
     }
@@ -64,9 +81,30 @@ impl Desk {
         let count = events as usize;
         self.history.reserve(count)?;
         self.unfinished.reserve(count)?;
-        self.works.reserve(count)?;
+        self.made.reserve(count)?;
+        self.calls.reserve(count)?;
+        self.labels.reserve(count)?;
+        self.rows.reserve(events)?;
         self.pool.reserve(events)?;
         self.paid = count;
         Ok(())
     }
+}
+
+// The row of no call.
+fn nobody(alloc: Global) -> Result<CallRow, NoRoom>
+    ensures { IfOk result (λ row. row ≡ nobody) }
+{
+    let call = CallRecord {
+        client: 0,
+        text: Txt::copy_of(alloc, "")?,
+        params: Items::none(alloc),
+        decided: None,
+    };
+    Ok(CallRow {
+        call,
+        work: Work::Look,
+        tried: None,
+        ender: 0,
+    })
 }

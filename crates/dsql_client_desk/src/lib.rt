@@ -2,11 +2,12 @@
 //! event method adds its event, and the moves that the pool makes of it, to both.
 #![tactic(auto)]
 
+mod call;
 mod desk;
-mod events;
 mod no_room;
 mod pooling;
 mod writes;
 
+pub use call::{CallRow, CallStart};
 pub use desk::Desk;
 pub use no_room::NoRoom;

@@ -1,0 +1,31 @@
+-- What is kept of each call, against what the history tells.
+use Rattle.std.specs.Prelude.{ℕ, ◌≡◌, true, List, [], ◌∷◌, map, slice_index_or, Option, Some, None}
+use Rattle.dsql_history.specs.declared.work.Work.TheVariants.{Look}
+use Rattle.dsql_clients.specs.declared.event.Event.{Event}
+use Rattle.dsql_clients.specs.declared.record.Try.{Try}
+use Rattle.dsql_clients.specs.Readers.Calls as told
+use Rattle.dsql_clients.specs.Readers.HandedOut as given
+use Rattle.dsql_clients.specs.Readers.Tries.{tries}
+use Rattle.dsql_clients.specs.Readers.Unfinished.{is_unfinished}
+use Rattle.dsql_clients.specs.Readers.Works as kinds
+use Rattle.dsql_client_desk.specs.declared.call.CallRow.{CallRow}
+
+-- there is no call 0
+abbrev pub nobody : CallRow
+nobody = record { call = told.nobody; work = Look; tried = None; ender = 0 }
+
+-- what is kept of call n
+abbrev pub row_at : List CallRow → ℕ → CallRow
+row_at rows n = slice_index_or rows n nobody
+
+-- the newest try
+abbrev pub newest : List Try → Option Try
+newest [] = None
+newest (it ∷ earlier) = Some it
+
+-- What is kept of the calls, by their numbers. A call's try counts as long as it has no reply.
+pub record KeepsCalls (past : List Event) (rows : List CallRow) : Type 0 where
+  pub calls : map (λ row. row.call) rows ≡ told.calls past
+  pub works : map (λ row. row.work) rows ≡ kinds.works past
+  pub tried : (n : ℕ) → is_unfinished past n ≡ true → (row_at rows n).tried ≡ newest (tries past n)
+  pub ender : (n : ℕ) → (row_at rows n).ender ≡ given.ender past n
