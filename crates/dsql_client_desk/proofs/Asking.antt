@@ -41,11 +41,11 @@ may_request H n l may =
     record { owner = refl; call = refl; numbered = omega (arith, some); new = not_true (wants n (pool H)) e.0; asked = refl }
 
 pub asked_leaves : (n : ℕ) (a : Result Asked AskFault) (H : List Event) → Leaves H (with_asked n a H)
-asked_leaves n (Ok (asked.Lent c t)) H = record { caps = refl; db_end = refl; has_ended = refl; unfinished = refl; works = refl }
-asked_leaves n (Ok (asked.Opening c)) H = record { caps = refl; db_end = refl; has_ended = refl; unfinished = refl; works = refl }
-asked_leaves n (Ok asked.Queued) H = record { caps = refl; db_end = refl; has_ended = refl; unfinished = refl; works = refl }
-asked_leaves n (Ok asked.Closed) H = record { caps = refl; db_end = refl; has_ended = refl; unfinished = refl; works = refl }
-asked_leaves n (Err why) H = record { caps = refl; db_end = refl; has_ended = refl; unfinished = refl; works = refl }
+asked_leaves n (Ok (asked.Lent c t)) H = record { caps = refl; db_end = refl; has_ended = refl; unfinished = refl; works = refl; handed_out = refl }
+asked_leaves n (Ok (asked.Opening c)) H = record { caps = refl; db_end = refl; has_ended = refl; unfinished = refl; works = refl; handed_out = refl }
+asked_leaves n (Ok asked.Queued) H = record { caps = refl; db_end = refl; has_ended = refl; unfinished = refl; works = refl; handed_out = refl }
+asked_leaves n (Ok asked.Closed) H = record { caps = refl; db_end = refl; has_ended = refl; unfinished = refl; works = refl; handed_out = refl }
+asked_leaves n (Err why) H = record { caps = refl; db_end = refl; has_ended = refl; unfinished = refl; works = refl; handed_out = refl }
 
 pub asked_calm : (n : ℕ) (a : Result Asked AskFault) (H : List Event) → Calm H → Calm (with_asked n a H)
 asked_calm n (Ok (asked.Lent c t)) H calm = (calm, λ outside. absurd cc)

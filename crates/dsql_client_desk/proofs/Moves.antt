@@ -11,11 +11,14 @@ use Rattle.dsql_clients.specs.declared.event.Op.TheVariants.{Exec, Query, One, N
 use Rattle.dsql_clients.specs.declared.event.Setting.{Setting}
 use Rattle.dsql_clients.specs.declared.event.Setting.TheVariants.{MaxOpen, MaxIdle}
 use Rattle.dsql_clients.specs.Readers.Course.{caps, db_end, has_ended}
+use Rattle.dsql_clients.specs.Readers.HandedOut.{handed_out}
 use Rattle.dsql_clients.specs.Readers.Pool.{pool, with_limit}
 use Rattle.dsql_clients.specs.Readers.Unfinished.{unfinished}
 use Rattle.dsql_clients.specs.Readers.Works.{works}
 use Rattle.dsql_clients.specs.Legal.{Calm}
 use Rattle.dsql_client_laws.specs.OwedMade.{with_moves}
+use Rattle.dsql_client_desk.specs.Made.{all_made}
+use Rattle.dsql_client_desk.specs.Moves.{lent_by, lent_by_all}
 
 with_moves-append : (ms ns : List Move) (H : List Event) → with_moves (ms ++ ns) H ≡ with_moves ns (with_moves ms H)
 with_moves-append [] ns H = refl
@@ -34,11 +37,25 @@ pub record Leaves (H K : List Event) : Type 0 where
   pub has_ended : has_ended K ≡ has_ended H
   pub unfinished : unfinished K ≡ unfinished H
   pub works : works K ≡ works H
+  pub handed_out : handed_out K ≡ handed_out H
 
 pub leaves : (ms : List Move) (H : List Event) → Leaves H (with_moves ms H)
-leaves [] H = record { caps = refl; db_end = refl; has_ended = refl; unfinished = refl; works = refl }
+leaves [] H = record { caps = refl; db_end = refl; has_ended = refl; unfinished = refl; works = refl; handed_out = refl }
 leaves (m ∷ ms) H =
-    let rest = leaves ms (Pool m ∷ H) in record { caps = rest.caps; db_end = rest.db_end; has_ended = rest.has_ended; unfinished = rest.unfinished; works = rest.works }
+    let rest = leaves ms (Pool m ∷ H) in record { caps = rest.caps; db_end = rest.db_end; has_ended = rest.has_ended; unfinished = rest.unfinished; works = rest.works; handed_out = rest.handed_out }
+
+-- what was exchanged on each connection since it was lent, after moves
+pub made_move : (m : Move) (H : List Event) → all_made (Pool m ∷ H) ≡ lent_by m (all_made H)
+made_move (OpenStart c n) H = refl
+made_move (Lend c t o n) H = refl
+made_move (Back c) H = refl
+made_move (CloseStart c why) H = refl
+made_move (Gone c) H = refl
+made_move (Fell c n) H = refl
+
+pub made_moves : (ms : List Move) (H : List Event) → all_made (with_moves ms H) ≡ lent_by_all ms (all_made H)
+made_moves [] H = refl
+made_moves (m ∷ ms) H = made_moves ms (Pool m ∷ H) ∙ ap (lent_by_all ms) (made_move m H)
 
 pub stays_calm : (ms : List Move) (H : List Event) → Calm H → Calm (with_moves ms H)
 stays_calm [] H calm = calm

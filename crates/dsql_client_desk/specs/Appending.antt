@@ -1,7 +1,9 @@
 -- What the event methods of the desk ask for, and what they leave.
-use Rattle.std.specs.Prelude.{ℕ, Bool, true, false, ◌≡◌, ◌<◌, ◌≤◌, ◌+◌, [], ◌∷◌, length, Option, Some, None, Result, Ok}
+use Rattle.std.specs.Prelude.{ℕ, Bool, true, false, ◌≡◌, ◌<◌, ◌≤◌, ◌+◌, List, [], ◌∷◌, length, Option, Some, None, Result, Ok}
 use Rattle.dsql_journal.specs.declared.entry.Owner.TheVariants.{Call}
 use Rattle.dsql_history.specs.Limits.{most_within_a_step}
+use Rattle.dsql_pool.specs.declared.conn.Place.{Place}
+use Rattle.dsql_pool.specs.declared.conn.Place.TheVariants.{Opening, Closing}
 use Rattle.dsql_pool.specs.declared.moves.Fate.{Fate}
 use Rattle.dsql_pool.specs.declared.moves.Move.TheVariants.{OpenStart, Lend}
 use Rattle.dsql_pool.specs.declared.request.Asked.{Asked}
@@ -11,6 +13,8 @@ use Rattle.dsql_clients.specs.declared.event.Event.{Event}
 use Rattle.dsql_clients.specs.declared.event.Event.TheVariants.{Pool, Waits}
 use Rattle.dsql_clients.specs.declared.event.Op.{Op}
 use Rattle.dsql_clients.specs.declared.event.Op.TheVariants.{DbClose}
+use Rattle.dsql_clients.specs.declared.reply.Reply.{Reply}
+use Rattle.dsql_clients.specs.Readers.Calls.{reply_due}
 use Rattle.dsql_clients.specs.Readers.Owed.{fate, given_back, owed}
 use Rattle.dsql_clients.specs.Rules.Asking.{may_ask, ask_outcome}
 use Rattle.dsql_clients.specs.Legal.{Allowed}
@@ -19,6 +23,7 @@ use Rattle.dsql_client_laws.specs.Leaving.{MayLeave}
 use Rattle.dsql_client_laws.specs.OwedMade.{with_moves}
 use Rattle.dsql_client_desk.specs.declared.desk.Desk.{Desk}
 use Rattle.dsql_client_desk.specs.Desk.{past, Stands}
+use Rattle.dsql_client_desk.specs.Settling.{reply_or}
 
 -- the event may come next, and there is memory for it and for the moves that it makes due
 pub record MayAppend (desk : Desk) (event : Event) : Type 0 where
@@ -73,6 +78,16 @@ event_asked n (Ok (asked.Lent c tenure)) = Some (Pool (Lend c tenure (Call n) n)
 event_asked n (Ok (asked.Opening c)) = Some (Pool (OpenStart c n))
 event_asked n (Ok asked.Queued) = Some (Waits n)
 event_asked n _ = None
+
+-- what call n is to be replied, where that is settled
+abbrev pub reply_now : List Event → ℕ → Reply
+reply_now past n = reply_or (reply_due past n)
+
+-- it is being opened or closed
+abbrev pub is_under_way : Option Place → Bool
+is_under_way (Some (Opening wanted)) = true
+is_under_way (Some Closing) = true
+is_under_way _ = false
 
 -- the operation closes the database
 abbrev pub is_close : Op → Bool

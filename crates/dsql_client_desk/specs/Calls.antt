@@ -1,7 +1,8 @@
 -- What is kept of each call, against what the history tells.
-use Rattle.std.specs.Prelude.{ℕ, ◌≡◌, true, List, [], ◌∷◌, map, slice_index_or, Option, Some, None}
+use Rattle.std.specs.Prelude.{ℕ, ◌≡◌, true, List, [], ◌∷◌, map, slice_set, slice_index_or, Option, Some, None}
 use Rattle.dsql_history.specs.declared.work.Work.TheVariants.{Look}
 use Rattle.dsql_clients.specs.declared.event.Event.{Event}
+use Rattle.dsql_clients.specs.declared.record.CallRecord.{CallRecord}
 use Rattle.dsql_clients.specs.declared.record.Try.{Try}
 use Rattle.dsql_clients.specs.Readers.Calls as told
 use Rattle.dsql_clients.specs.Readers.HandedOut as given
@@ -17,6 +18,19 @@ nobody = record { call = told.nobody; work = Look; tried = None; ender = 0 }
 -- what is kept of call n
 abbrev pub row_at : List CallRow → ℕ → CallRow
 row_at rows n = slice_index_or rows n nobody
+
+-- the calls with the row of call n changed
+abbrev pub with_row : ℕ → (CallRow → CallRow) → List CallRow → List CallRow
+with_row n change rows = slice_set rows n (change (row_at rows n))
+
+abbrev pub with_call : (CallRecord → CallRecord) → CallRow → CallRow
+with_call change row = record row { call = change row.call }
+
+abbrev pub with_tried : Try → CallRow → CallRow
+with_tried it row = record row { tried = Some it }
+
+abbrev pub with_ender : ℕ → CallRow → CallRow
+with_ender n row = record row { ender = n }
 
 -- the newest try
 abbrev pub newest : List Try → Option Try

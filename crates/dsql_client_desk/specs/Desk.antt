@@ -22,23 +22,21 @@ past d = reverse d.history.items
 -- each table has room for as many events as were paid for
 pub record HasRoom (d : Desk) : Type 0 where
   pub history : vec_len d.history + d.paid ≤ vec_capacity d.history
-  pub unfinished : vec_len d.unfinished + d.paid ≤ vec_capacity d.unfinished
   pub made : vec_len d.made + d.paid ≤ vec_capacity d.made
   pub calls : vec_len d.calls + d.paid ≤ vec_capacity d.calls
+  pub unfinished : vec_len d.unfinished + d.paid ≤ vec_capacity d.unfinished
   pub labels : d.paid ≤ spare d.labels
   pub rows : d.paid ≤ d.rows.spare
-  pub pool : d.paid ≤ d.pool.spare
 
--- all but the pool
+-- all but the pool, and what closed the database
 pub record Tables (d : Desk) : Type 0 where
   pub lawful : Lawful (past d)
   pub calm : Calm (past d)
   pub caps : d.caps ≡ course.caps (past d)
-  pub closed_by : d.closed_by ≡ course.db_end (past d)
   pub ended : d.ended ≡ course.has_ended (past d)
-  pub unfinished : d.unfinished.items ≡ left.unfinished (past d)
   pub made : d.made.items ≡ lines.all_made (past d)
   pub calls : KeepsCalls (past d) d.calls.items
+  pub unfinished : d.unfinished.items ≡ left.unfinished (past d)
   pub labels : (label : List ℕ) → get_by_text d.labels label ≡ position (has_label label) (kinds.works (past d))
   pub rows : d.rows.rows ≡ given.handed_out (past d)
   pub room : HasRoom d
@@ -46,13 +44,17 @@ pub record Tables (d : Desk) : Type 0 where
 -- and the pool is that of the history
 pub record Standing (d : Desk) : Type 0 where
   pub tables : Tables d
+  pub closed_by : d.closed_by ≡ course.db_end (past d)
   pub pool : d.pool.pooled ≡ pools.pool (past d)
+  pub room : d.paid ≤ d.pool.spare
 
 -- The pool has made already what the history owes, in its newest call, and there is memory for it.
 pub record Owing (d : Desk) : Type 0 where
   pub tables : Tables d
+  pub closed_by : d.closed_by ≡ course.db_end (past d)
   pub pool : d.pool.pooled ≡ made (owed (past d)) (pools.pool (past d))
   pub moves : d.pool.moves ≡ owed (past d)
+  pub room : d.paid ≤ d.pool.spare
   pub paid : length (owed (past d)) ≤ d.paid
 
 -- what a step carries from one event to the next, and doesn't look into

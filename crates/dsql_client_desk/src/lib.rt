@@ -4,8 +4,17 @@
 
 mod call;
 mod desk;
+mod events;
+mod exchanges;
+mod labels;
 mod no_room;
 mod pooling;
+mod replies;
+mod rows;
+mod settling;
+mod tables;
+mod telling;
+mod tries;
 mod writes;
 
 pub use call::{CallRow, CallStart};

@@ -1,5 +1,6 @@
 //! Calls on the pool for which there is memory: they can't fail.
-ghost use Rattle.std.specs.Prelude.{◌≡◌, ◌+◌, ◌<◌, ◌≤◌, [], true, false};
+ghost use Rattle.std.specs.Prelude.{◌≡◌, ◌+◌, ◌<◌, ◌≤◌, true};
+ghost use Rattle.dsql_client_desk.specs.Appending.{is_under_way};
 ghost use Rattle.dsql_pool.specs.Places.{is_lent};
 ghost use Rattle.dsql_pool.specs.Pooled.{place_at, most_drawn};
 ghost use Rattle.dsql_pool.specs.Moved.{made, shut};
@@ -84,17 +85,19 @@ pub fn give_back(pool: &mut Pool, conn: u32, fate: Fate)
     }
 }
 
-/// A connection answered: where it was being opened it is now, or couldn't be, and where it was being closed
-/// it is gone. Answers whether it was in one of these places; elsewhere the pool stays as it is.
-pub fn answer(pool: &mut Pool, conn: u32, answer: &DriverAnswer) -> bool
+/// A connection answered that was being opened or closed: it is open now, or couldn't be, or it is gone.
+pub fn answer(pool: &mut Pool, conn: u32, answer: &DriverAnswer)
     requires room { 0 < pool.old.spare }
     requires drawn { pool.old.pooled.drawn ≤ most_drawn }
     ensures moves { result ≡ true → pool.new.moves ≡ answered answer.now conn pool.old.pooled (place_at pool.old.pooled conn) }
     ensures none { result ≡ false → answered answer.now conn pool.old.pooled (place_at pool.old.pooled conn) ≡ [] }
+    requires under_way { is_under_way (place_at pool.old.pooled conn) ≡ true }
+    requires drawn { pool.old.pooled.drawn ≤ 4000000000 }
+    ensures moves { pool.new.moves ≡ answered answer.now conn pool.old.pooled (place_at pool.old.pooled conn) }
     ensures pooled { pool.new.pooled ≡ made (answered answer.now conn pool.old.pooled (place_at pool.old.pooled conn)) pool.old.pooled }
     ensures spare { pool.old.spare ≤ pool.new.spare + 1 }
 {
-    let made = match pool.place(conn) {
+    let moved = match pool.place(conn) {
         Some(Place::Opening(_)) => {
             if matches!(answer, DriverAnswer::Done) {
                 pool.opened(conn)
@@ -103,10 +106,10 @@ pub fn answer(pool: &mut Pool, conn: u32, answer: &DriverAnswer) -> bool
             }
         }
         Some(Place::Closing) => pool.gone(conn),
-        _ => return false,
+        _ => unreachable!(),
     };
-    match made {
-        Ok(()) => true,
+    match moved {
+        Ok(()) => {}
         Err(_) => unreachable!(),
     }
 }

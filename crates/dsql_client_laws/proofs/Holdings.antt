@@ -55,7 +55,7 @@ no_tries [] h = refl
 no_tries (t ∷ ts) h = absurd cc
 
 -- what isn't being opened for the call is its home only where it is lent to it
-lent_home : (n : ℕ) (x : Conn) → is_for n x.place ≡ false → cond {A = ℕ} (is_home_of n x) 1 0 ≤ cond {A = ℕ} (is_lent_out n x) 1 0
+pub lent_home : (n : ℕ) (x : Conn) → is_for n x.place ≡ false → cond {A = ℕ} (is_home_of n x) 1 0 ≤ cond {A = ℕ} (is_lent_out n x) 1 0
 lent_home n x none = at x.place refl
   where
     at : (place : Place) → x.place ≡ place → cond {A = ℕ} (is_home_of n x) 1 0 ≤ cond {A = ℕ} (is_lent_out n x) 1 0
