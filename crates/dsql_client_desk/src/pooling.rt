@@ -88,11 +88,8 @@ pub fn give_back(pool: &mut Pool, conn: u32, fate: Fate)
 /// A connection answered that was being opened or closed: it is open now, or couldn't be, or it is gone.
 pub fn answer(pool: &mut Pool, conn: u32, answer: &DriverAnswer)
     requires room { 0 < pool.old.spare }
-    requires drawn { pool.old.pooled.drawn ≤ most_drawn }
-    ensures moves { result ≡ true → pool.new.moves ≡ answered answer.now conn pool.old.pooled (place_at pool.old.pooled conn) }
-    ensures none { result ≡ false → answered answer.now conn pool.old.pooled (place_at pool.old.pooled conn) ≡ [] }
     requires under_way { is_under_way (place_at pool.old.pooled conn) ≡ true }
-    requires drawn { pool.old.pooled.drawn ≤ 4000000000 }
+    requires drawn { pool.old.pooled.drawn ≤ most_drawn }
     ensures moves { pool.new.moves ≡ answered answer.now conn pool.old.pooled (place_at pool.old.pooled conn) }
     ensures pooled { pool.new.pooled ≡ made (answered answer.now conn pool.old.pooled (place_at pool.old.pooled conn)) pool.old.pooled }
     ensures spare { pool.old.spare ≤ pool.new.spare + 1 }
