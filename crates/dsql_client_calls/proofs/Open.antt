@@ -9,7 +9,7 @@ use Rattle.dsql_pool.specs.declared.conn.Conn.{Conn}
 use Rattle.dsql_pool.specs.declared.moves.Move.TheVariants.{OpenStart, Lend, Back, CloseStart, Gone, Fell}
 use Rattle.dsql_pool.specs.Changes.{opening, lent, back, closing, unwanted}
 use Rattle.dsql_pool.specs.Places.{conn_of, is_idle}
-use Rattle.dsql_pool.specs.Pooled.{Pooled, next_number, open_count, room, most_open, without}
+use Rattle.dsql_pool.specs.Pooled.{Pooled, next_number, open_count, most_allowed, most_open, without}
 use Rattle.dsql_pool.specs.Rest.{times, AtRest}
 use Rattle.dsql_pool.proofs.Frees.{length-changed, length-gone}
 use Rattle.dsql_pool.proofs.Members.{times-without_other, times-without_same}
@@ -26,8 +26,8 @@ limit_of : (H : List Event) (e : Event) → Allowed H e → keeps_limit H e ≡ 
 unfolding Allowed
 limit_of H e a = a.limit
 
--- there is room for a thousand at most
-pub room_most : (p : Pooled) → room p ≤ most_open
+-- a thousand at most may be open
+pub room_most : (p : Pooled) → most_allowed p ≤ most_open
 room_most p = by (nat_le 1 p.limits.max_open) (nat_le p.limits.max_open most_open) refl
   where
     by : (a b : Bool) → nat_le p.limits.max_open most_open ≡ b → cond (a && b) p.limits.max_open most_open ≤ most_open
@@ -35,11 +35,11 @@ room_most p = by (nat_le 1 p.limits.max_open) (nat_le p.limits.max_open most_ope
     by true false h = omega arith
     by false b h = omega arith
 
-one_more : (p : Pooled) (c : ℕ) (conns : List Conn) (x : Conn) → nat_lt (open_count p) (room p) ≡ true → length (p.conns ++ x ∷ []) ≤ most_open
+one_more : (p : Pooled) (c : ℕ) (conns : List Conn) (x : Conn) → nat_lt (open_count p) (most_allowed p) ≡ true → length (p.conns ++ x ∷ []) ≤ most_open
 one_more p c conns x h =
     let most = room_most p in
     let more = length-append p.conns (x ∷ []) in
-    let below : open_count p < room p = grind (arith, nat_tests) in
+    let below : open_count p < most_allowed p = grind (arith, nat_tests) in
     omega (arith, most, more, below)
 
 same_limit : (s : Setting) (k : ℤ) (p : Pooled) → open_count (with_limit s k p) ≡ open_count p
