@@ -74,10 +74,3 @@ one_came n (Ok (asked.Opening c)) e H is = ap (λ f. f ∷ H) (sym (ap (event_or
 one_came n (Ok asked.Queued) e H is = ap (λ f. f ∷ H) (sym (ap (event_or e) is))
 one_came n (Ok asked.Closed) e H is = absurd cc
 one_came n (Err why) e H is = absurd cc
-
-pub none_came : (n : ℕ) (a : Result Asked AskFault) (H : List Event) → event_asked n a ≡ None → H ≡ with_asked n a H
-none_came n (Ok (asked.Lent c t)) H is = absurd cc
-none_came n (Ok (asked.Opening c)) H is = absurd cc
-none_came n (Ok asked.Queued) H is = absurd cc
-none_came n (Ok asked.Closed) H is = refl
-none_came n (Err why) H is = refl

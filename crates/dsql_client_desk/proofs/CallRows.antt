@@ -1,8 +1,7 @@
 -- The table of calls, after one row of it was changed or one was added.
-use Rattle.std.proofs.Common.{◌≡◌, ◌≢◌, ℕ, zero, suc, ◌<◌, List, [], ◌∷◌, ◌++◌, map, length, refl, sym, ap, ◌∙◌, arith}
+use Rattle.std.proofs.Common.{◌≡◌, ◌≢◌, ℕ, zero, suc, ◌<◌, List, [], ◌∷◌, ◌++◌, map, length, refl, ap}
 use Rattle.std.specs.Prelude.{slice_index_or}
-use Rattle.std.proofs.lemmas.List.{length-set, get_or-set_same, get_or-set_other}
-use Rattle.dsql_history.specs.declared.work.Work.{Work}
+use Rattle.std.proofs.lemmas.List.{get_or-set_same, get_or-set_other}
 use Rattle.dsql_history.specs.declared.work.Work.TheVariants.{Look}
 use Rattle.dsql_clients.specs.declared.record.CallRecord.{CallRecord}
 use Rattle.dsql_clients.specs.Readers.Calls.{with_record}

@@ -1,5 +1,5 @@
 -- The calls after one that may have ended rows, and who ended them.
-use Rattle.std.proofs.Common.{◌≡◌, ◌≢◌, ℕ, ◌<◌, ◌⊎◌, inl, inr, Bool, true, false, ◌&&◌, cond, eqb, List, [], ◌∷◌, ◌++◌, map, length, Option, Some, None, refl, sym, ap, ◌∙◌, arith, subst}
+use Rattle.std.proofs.Common.{◌≡◌, ◌≢◌, ℕ, ◌<◌, Bool, true, false, ◌&&◌, cond, eqb, List, [], ◌∷◌, ◌++◌, map, length, Option, Some, None, refl, sym, ap, ◌∙◌, subst}
 use Rattle.std.specs.Prelude.{option_map, if◌then◌else◌}
 use Rattle.dsql_value.specs.declared.value.Param.{Param}
 use Rattle.dsql_driver.specs.declared.call.DriverCall.{DriverCall}

@@ -1,6 +1,6 @@
 -- Who ended rows. Rows that are over stay over, and nobody has ended those that are live.
-use Rattle.std.proofs.Common.{◌≡◌, ◌≢◌, ℕ, ◌⊎◌, inl, inr, Bool, true, false, cond, eqb, List, [], ◌∷◌, ◌++◌, Option, Some, None, refl, sym, ap, ◌∙◌, arith, subst}
-use Rattle.std.specs.Prelude.{is_some, option_map, if◌then◌else◌}
+use Rattle.std.proofs.Common.{◌≡◌, ◌≢◌, ℕ, ◌⊎◌, inl, inr, Bool, true, false, cond, eqb, List, [], ◌∷◌, ◌++◌, Option, Some, None, refl, sym, ap, ◌∙◌, arith}
+use Rattle.std.specs.Prelude.{option_map, if◌then◌else◌}
 use Rattle.std.proofs.lemmas.Bool.Decides.{nat_tests}
 use Rattle.dsql_driver.specs.declared.call.DriverCall.{DriverCall}
 use Rattle.dsql_driver.specs.declared.call.DriverCall.TheVariants.{Query, Next}
@@ -9,7 +9,7 @@ use Rattle.dsql_driver.specs.declared.answer.DriverAnswer.TheVariants as answers
 use Rattle.dsql_rows.specs.declared.end.RowsEnd.{RowsEnd}
 use Rattle.dsql_rows.specs.declared.end.RowsEnd.TheVariants as ends
 use Rattle.dsql_rows.specs.declared.rows.Rows.{Rows}
-use Rattle.dsql_rows.specs.OpenRows.{fresh, is_live, ended_by, rows_of, changed, all_changed}
+use Rattle.dsql_rows.specs.OpenRows.{fresh, is_live, ended_by, rows_of, changed}
 use Rattle.dsql_rows.proofs.Numbers.{changes_one_number}
 use Rattle.dsql_numbered.proofs.Numbers.{changes_each}
 use Rattle.dsql_history.specs.declared.work.Work.{Work}
@@ -18,7 +18,6 @@ use Rattle.dsql_history.specs.Readers.HandedOut.{Made, after_fetch}
 use Rattle.dsql_history.specs.Readers.Works.{maker}
 use Rattle.dsql_clients.specs.declared.event.Event.{Event}
 use Rattle.dsql_clients.specs.declared.event.Event.TheVariants.{Run, Entered, Heard, Pool, Waits, SetLimit, Replied, Ended}
-use Rattle.dsql_clients.specs.declared.event.Op.{Op}
 use Rattle.dsql_clients.specs.declared.event.Op.TheVariants.{RowsClose}
 use Rattle.dsql_clients.specs.Readers.HandedOut.{handed_out, rows_by, rows_heard, fetched, live, are_live, caller, ended_at, ender}
 use Rattle.dsql_clients.specs.Readers.Unfinished.{is_unfinished}

@@ -1,9 +1,8 @@
 -- What is kept of the calls stands after each event.
-use Rattle.std.proofs.Common.{◌≡◌, ◌≢◌, ℕ, zero, suc, subst, ◌+◌, ◌<◌, ◌≤◌, ◌⊎◌, inl, inr, Bool, true, false, ◌==◌, List, [], ◌∷◌, ◌++◌, length, length-set, Option, Some, None, refl, sym, ap, ◌∙◌, arith}
-use Rattle.std.specs.Prelude.{ℤ, slice_index_or}
+use Rattle.std.proofs.Common.{◌≡◌, ℕ, subst, ◌+◌, ◌<◌, ◌≤◌, ◌⊎◌, inl, inr, true, false, ◌==◌, List, [], ◌∷◌, ◌++◌, length, length-set, Option, None, refl, sym, ap, ◌∙◌, arith}
+use Rattle.std.specs.Prelude.{slice_index_or}
 use Rattle.std.proofs.lemmas.Bool.Decides.{nat_tests}
 use Rattle.std.proofs.lemmas.List.{get_or_past, length-append}
-use Rattle.dsql_driver.specs.declared.caps.Caps.{Caps}
 use Rattle.dsql_driver.specs.declared.answer.DriverAnswer.{DriverAnswer}
 use Rattle.dsql_driver.specs.declared.answer.DriverAnswer.TheVariants as answers
 use Rattle.dsql_journal.specs.declared.entry.Entry.{Entry}
@@ -18,9 +17,8 @@ use Rattle.dsql_history.specs.declared.work.Work.{Work}
 use Rattle.dsql_history.specs.declared.work.Work.TheVariants.{Look}
 use Rattle.dsql_history.specs.Readers.HandedOut.{Made}
 use Rattle.dsql_clients.specs.declared.event.Event.{Event}
-use Rattle.dsql_clients.specs.declared.event.Event.TheVariants.{Run, Entered, Heard, Pool, Waits, SetLimit, Replied, Ended}
+use Rattle.dsql_clients.specs.declared.event.Event.TheVariants.{Entered, Heard, Pool, Replied}
 use Rattle.dsql_clients.specs.declared.event.Op.{Op}
-use Rattle.dsql_clients.specs.declared.event.Setting.{Setting}
 use Rattle.dsql_clients.specs.declared.record.CallRecord.{CallRecord}
 use Rattle.dsql_clients.specs.declared.record.Try.{Try}
 use Rattle.dsql_clients.specs.declared.record.Try.TheVariants.{Served, Refused}
@@ -184,14 +182,6 @@ replied_keeps H n reply rows k =
           ap (λ (r : CallRow). r.tried) (changed_beside replied n m rows still.0) ∙ k.tried m still.1;
       ender = λ m. same_at (λ (r : CallRow). r.ender) replied n rows m (λ r. refl) ∙ (k.ender m ∙ sym (ender_of_none H (Replied n reply) m refl));
     }
-
--- the table of a run that begins
-pub start_keeps : (version : ℕ) (can : Caps) → KeepsCalls (Run version can ∷ []) (nobody ∷ [])
-start_keeps version can = record { calls = refl; works = refl; tried = λ n left. absurd cc; ender = ended }
-  where
-    ended : (n : ℕ) → (row_at (nobody ∷ []) n).ender ≡ 0
-    ended zero = refl
-    ended (suc n) = refl
 
 pub row_work : (H : List Event) (rows : List CallRow) (n : ℕ) → KeepsCalls H rows → (row_at rows n).work ≡ work H n
 row_work H rows n k = work_at rows n ∙ ap (λ ws. slice_index_or ws n Look) k.works

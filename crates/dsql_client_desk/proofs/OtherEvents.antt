@@ -1,9 +1,9 @@
 -- Events that concern no table, and the end of the run.
-use Rattle.std.proofs.Common.{◌≡◌, ℕ, true, List, [], ◌∷◌, refl, sym, ◌∙◌}
+use Rattle.std.proofs.Common.{◌≡◌, ℕ, true, List, ◌∷◌, refl, sym, ◌∙◌}
 use Rattle.std.specs.Prelude.{ℤ, position}
 use Rattle.dsql_history.specs.Readers.Works.{has_label}
 use Rattle.dsql_clients.specs.declared.event.Event.{Event}
-use Rattle.dsql_clients.specs.declared.event.Event.TheVariants.{Run, Entered, Heard, Pool, Waits, SetLimit, Replied, Ended}
+use Rattle.dsql_clients.specs.declared.event.Event.TheVariants.{Waits, SetLimit, Ended}
 use Rattle.dsql_clients.specs.declared.event.Setting.{Setting}
 use Rattle.dsql_clients.specs.Readers.Course.{caps, has_ended}
 use Rattle.dsql_clients.specs.Readers.HandedOut.{handed_out}

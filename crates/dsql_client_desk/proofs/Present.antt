@@ -12,19 +12,10 @@ use Rattle.dsql_clients.specs.declared.event.Op.TheVariants.{Exec, Query, One, N
 use Rattle.dsql_clients.specs.Readers.Course.{db_end}
 use Rattle.dsql_clients.specs.Readers.Owed.{owed}
 use Rattle.dsql_clients.specs.Readers.Pool.{pool}
-use Rattle.dsql_clients.specs.Legal.{Lawful, Calm}
 use Rattle.dsql_client_desk.specs.declared.desk.Desk.{Desk}
 use Rattle.dsql_client_desk.specs.Appending.{is_close}
 use Rattle.dsql_client_desk.specs.Desk.{past, Stands}
 use Rattle.dsql_client_desk.proofs.Moves.{few_drawn}
-
-pub lawful_of : (d : Desk) → Stands d → Lawful (past d)
-unfolding Stands
-lawful_of d s = s.tables.lawful
-
-pub calm_of : (d : Desk) → Stands d → Calm (past d)
-unfolding Stands
-calm_of d s = s.tables.calm
 
 pub few_openings : (d : Desk) → Stands d → length (past d) < most_within_a_step → d.pool.pooled.drawn ≤ most_drawn
 unfolding Stands

@@ -1,5 +1,5 @@
 -- A call's row tells the reply that is due.
-use Rattle.std.proofs.Common.{◌≡◌, ℕ, true, false, cond, List, [], ◌∷◌, Option, Some, None, refl, ap, ◌∙◌, sym, subst}
+use Rattle.std.proofs.Common.{◌≡◌, ℕ, true, false, cond, List, [], ◌∷◌, Option, Some, None, refl, ap, ◌∙◌}
 use Rattle.std.specs.Prelude.{is_some}
 use Rattle.dsql_course.specs.Made.{or_else}
 use Rattle.dsql_history.specs.declared.work.Work.{Work}

@@ -16,7 +16,7 @@ use Rattle.dsql_clients.specs.declared.event.Event.TheVariants.{Run, Entered, He
 use Rattle.dsql_clients.specs.declared.record.Try.{Try}
 use Rattle.dsql_clients.specs.declared.record.Try.TheVariants.{Served, Refused}
 use Rattle.dsql_clients.specs.Readers.Owed.{owed}
-use Rattle.dsql_clients.specs.Readers.Pool.{pool, place}
+use Rattle.dsql_clients.specs.Readers.Pool.{pool}
 use Rattle.dsql_clients.specs.Readers.Tries.{tries, with_try, newest_answer, has_a_try}
 use Rattle.dsql_clients.specs.Readers.Unfinished.{is_unfinished}
 use Rattle.dsql_clients.specs.Readers.Works.{works, work, work_of}

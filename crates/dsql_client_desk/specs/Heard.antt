@@ -17,7 +17,7 @@ use Rattle.dsql_clients.specs.declared.reply.Reply.TheVariants.{Cells}
 use Rattle.dsql_clients.specs.Readers.Calls.{decided_by, decision, fetch_decision, query_decision}
 use Rattle.dsql_clients.specs.Readers.HandedOut.{live}
 use Rattle.dsql_client_desk.specs.declared.call.CallRow.{CallRow}
-use Rattle.dsql_client_desk.specs.Calls.{row_at, with_row, with_call, with_ender}
+use Rattle.dsql_client_desk.specs.Calls.{with_row, with_call, with_ender}
 
 -- its answer may change the rows
 abbrev pub is_fetch_or_query : DriverCall → Bool

@@ -41,4 +41,3 @@ pub fn closed_reply(answer: DriverAnswer) -> Option<Reply>
         other => reply_of(other),
     }
 }
-

@@ -15,12 +15,7 @@ use dsql_rows::{RowsEnd, RowsTable};
 use dsql_value::Values;
 
 /// Ends the rows of a query, if one is named, for a call.
-pub fn close_rows(
-    calls: &mut Vec<CallRow>,
-    rows: &mut RowsTable,
-    closes: Option<u32>,
-    call: u32,
-)
+pub fn close_rows(calls: &mut Vec<CallRow>, rows: &mut RowsTable, closes: Option<u32>, call: u32)
     requires { AreMade closes rows.old.rows }
     ensures calls { calls.new.items ≡ closed_by closes call rows.old.rows calls.old.items }
     ensures len { vec_len calls.new ≡ vec_len calls.old }
@@ -35,12 +30,7 @@ pub fn close_rows(
 }
 
 /// Notes what the answer to a Query or a Next makes of the rows; the copy is of the entry's answer.
-pub fn note_rows(
-    calls: &mut Vec<CallRow>,
-    rows: &mut RowsTable,
-    entry: &Entry,
-    copy: DriverAnswer,
-)
+pub fn note_rows(calls: &mut Vec<CallRow>, rows: &mut RowsTable, entry: &Entry, copy: DriverAnswer)
     requires rows { HearsRows (row_at calls.old.items entry.now.call_no).work entry.now.call_no entry.now.call rows.old.rows }
     requires room { 0 < rows.old.spare }
     ensures calls { calls.new.items ≡ calls_after (row_at calls.old.items entry.now.call_no).work entry.now.call_no entry.now.call copy rows.old.rows calls.old.items }

@@ -1,4 +1,4 @@
-use Rattle.std.proofs.Common.{◌≡◌, length, arith, ap, ◌∙◌}
+use Rattle.std.proofs.Common.{length, arith, ap, ◌∙◌}
 use Rattle.dsql_clients.specs.Readers.Owed.{owed}
 use Rattle.dsql_client_laws.specs.OwedMade.{with_moves}
 use Rattle.dsql_client_desk.proofs.desk.Desk.hear.Goals as goal
