@@ -1,10 +1,31 @@
 -- What was taken off the front of the bytes ahead is a line, at each end of the reading.
-use Rattle.std.proofs.Common.{◌≡◌, ◌≢◌, ℕ, ◌+◌, ◌≤◌, ◌==◌, true, not, List, [], ◌∷◌, ◌++◌, Option, Some, None, length, refl, ap, sym, ◌∙◌, arith, length-append, append-nil, ne_eqb}
+use Rattle.std.proofs.Common.{◌≡◌, ◌≢◌, ℕ, ◌+◌, ◌≤◌, ◌==◌, Bool, true, false, not, if◌then◌else◌, List, [], ◌∷◌, ◌++◌, Option, Some, None, length, refl, ap, sym, ◌∙◌, arith, length-append, append_assoc, append-nil, ne_eqb}
 use Rattle.std.proofs.lemmas.List.{take_at, drop_at}
 use Rattle.dsql_stream.specs.declared.lines.TheConstants.{LONGEST}
 use Rattle.dsql_stream.specs.Buffered.{Buffered}
 use Rattle.dsql_stream.specs.Lines.{ahead, TakesOff, HandsOut, HandsOutLine}
 use Rattle.dsql_stream.proofs.FirstLines.{Feedless, first_line-feed, after_line-feed, first_line-feedless, after_line-feedless, first_line_longer}
+
+-- what is taken off next follows what was taken off
+pub takes_off_then : (front next : List ℕ) (before mid after : Option (List ℕ)) → TakesOff front before mid → TakesOff next mid after → TakesOff (front ++ next) before after
+takes_off_then front next before mid None first second = let none : mid ≡ None = second in first ∙ rw none refl
+takes_off_then front next before mid (Some rest) first second = let bytes : mid ≡ Some (next ++ rest) = second in first ∙ rw (bytes, append_assoc front next rest) refl
+
+run_ahead : (run pending bytes : List ℕ) (ended : Bool)
+    → (if ended then run ++ pending else (run ++ pending) ++ bytes) ≡ run ++ (if ended then pending else pending ++ bytes)
+run_ahead run pending bytes true = refl
+run_ahead run pending bytes false = append_assoc run pending bytes
+
+-- what was taken off the pending bytes was taken off what is ahead
+pub takes_off_pending : (run : List ℕ) (old new : Buffered) (left : Option (List ℕ)) → old.pending ≡ run ++ new.pending → new.ended ≡ old.ended → TakesOff run (ahead old left) (ahead new left)
+takes_off_pending run old new None front same = refl
+takes_off_pending run old new (Some bytes) front same = rw (front, same) (ap Some (run_ahead run new.pending bytes old.ended))
+
+-- a byte and a run behind it are taken off
+pub takes_byte_and_run : (line run : List ℕ) (byte : ℕ) (old new : Buffered) (left before mid : Option (List ℕ)) → TakesOff line before mid → TakesOff (byte ∷ []) mid (ahead old left)
+    → old.pending ≡ run ++ new.pending → new.ended ≡ old.ended → TakesOff ((line ++ byte ∷ []) ++ run) before (ahead new left)
+takes_byte_and_run line run byte old new left before mid first next front same =
+    takes_off_then (line ++ byte ∷ []) run before (ahead old left) (ahead new left) (takes_off_then line (byte ∷ []) before mid (ahead old left) first next) (takes_off_pending run old new left front same)
 
 -- a line that a line feed ended
 pub hands_out_ended : (line : List ℕ) (before mid after : Option (List ℕ)) → Feedless line → length line ≤ LONGEST

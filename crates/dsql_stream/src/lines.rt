@@ -1,4 +1,4 @@
-ghost use Rattle.std.specs.Prelude.{◌≡◌, ◌≢◌, ◌<◌, ◌≤◌, ◌+◌, ◌++◌, ℕ, [], ◌∷◌, ◌↔◌, All, IsTrue, IfOk, OnOk, OnErr, IfSome, IfNone, MatchOption, is_some, option_to_list, vec_len};
+ghost use Rattle.std.specs.Prelude.{◌≡◌, ◌≢◌, ◌<◌, ◌≤◌, ◌+◌, ◌++◌, ℕ, List, [], ◌∷◌, ◌↔◌, All, IsTrue, IfOk, OnOk, OnErr, IfSome, IfNone, MatchOption, is_some, option_to_list, length, take, vec_len, vec_capacity};
 ghost use Rattle.dsql_driver.specs.Streams.{HasRisen};
 ghost use Rattle.dsql_stream.specs.Lines.{ahead, HandsOut, SawTheEnd, TakesOff};
 
@@ -120,7 +120,10 @@ impl LineReader {
         while line.len() <= LONGEST {
             match self.take_byte(source)? {
                 Some(b'\n') => return Ok(true),
-                Some(byte) => line.push_reserved(byte),
+                Some(byte) => {
+                    line.push_reserved(byte);
+                    self.take_run(line);
+                }
                 None => return Ok(!line.is_empty()),
             }
         }
@@ -185,6 +188,25 @@ impl LineReader {
         Some(byte)
     }
 
+    /// Takes the pending bytes before the first line feed among them, or as many as the line may still have.
+    fn take_run(&mut self, line: &mut Vec<u8>)
+        requires room { LONGEST + 1 ≤ vec_capacity line.old }
+        requires short { vec_len line.old ≤ LONGEST + 1 }
+        ensures run { (run : List ℕ) × (line.new.items ≡ line.old.items ++ run) × (self.old.pending ≡ run ++ self.new.pending) × All (λ byte. byte ≢ 10) run }
+        ensures short { vec_len line.new ≤ LONGEST + 1 }
+        ensures capacity { vec_capacity line.old ≤ vec_capacity line.new }
+        ensures ended { self.new.ended ≡ self.old.ended }
+    {
+        let most = LONGEST + 1 - line.len();
+        let pending = &self.buffer[self.start..self.end];
+        let front = &pending[..pending.len().min(most)];
+        let count = run_length(front);
+        match line.extend_from_slice(&front[..count]) {
+            Ok(()) => self.start += count,
+            Err(_) => unreachable!(),
+        }
+    }
+
     /// The next byte, if there is one.
     fn take_byte<S: Source>(&mut self, source: &mut S) -> Result<Option<u8>, Failed>
         ensures byte { IfOk result (λ byte. TakesOff (option_to_list byte) (ahead self.old (S.left source.old)) (ahead self.new (S.left source.new))) }
@@ -200,4 +222,15 @@ impl LineReader {
         self.make_ready(source)?;
         Ok(self.pop())
     }
+}
+
+/// How many bytes stand before the first line feed.
+fn run_length(bytes: &[u8]) -> usize
+    ensures within { result ≤ length bytes.now }
+    ensures feedless { All (λ byte. byte ≢ 10) (take result bytes.now) }
+{
+    bytes
+        .iter()
+        .position(|byte| *byte == b'\n')
+        .unwrap_or(bytes.len())
 }
