@@ -1,4 +1,4 @@
-ghost use Rattle.std.specs.Prelude.{◌≡◌, ◌≤◌, ◌||◌, ℕ, Bool, List, [], ◌∷◌, Option, true, false, length, OnOk, OnErr, IfSome, is_some};
+ghost use Rattle.std.specs.Prelude.{◌≡◌, ◌≤◌, ◌||◌, ℕ, Bool, List, [], ◌∷◌, Option, None, true, false, length, OnOk, OnErr, IfSome, is_some};
 ghost use Rattle.dsql_driver.specs.declared.caps.Caps.{Caps};
 ghost use Rattle.dsql_driver.specs.Streams.{HasRisen, has_risen};
 ghost use Rattle.dsql_history.specs.declared.event.Event.TheVariants.{Run};
@@ -221,6 +221,59 @@ fn play_from<S: Source, K: Sink, F: Fleet>(
     finish(alloc, engine, &mut shown, output, played, ended)
 }
 
+/// What a run keeps until it is over: its history with the tables over it, and what was read of the script.
+#[derive(Drop)]
+pub(crate) struct Kept {
+    engine: Engine,
+    script: ScriptReader,
+}
+
+/// A run that was played: what stopped it, and what it kept, if it began.
+#[derive(Drop)]
+pub(crate) struct Played {
+    pub(crate) stopped: Result<(), Stop>,
+    pub(crate) kept: Option<Kept>,
+}
+
+impl Played {
+    /// A run that there was no memory to begin.
+    fn not_begun() -> Played
+        ensures { result ≡ record { stopped = Err Stop.Memory; kept = None } }
+    {
+        Played {
+            stopped: Err(Stop::Memory),
+            kept: None,
+        }
+    }
+}
+
+/// Plays a script as `play` does, and hands out what the run kept, which is long to give back.
+pub(crate) fn play_keeping<S: Source, K: Sink, F: Fleet>(
+    alloc: Global,
+    input: &mut S,
+    output: &mut K,
+    fleet: &mut F,
+) -> Played
+    ensures ran { IsPlayed result.stopped
+        (seen S.Source K.Sink F.Fleet input.old output.old fleet.old)
+        (seen S.Source K.Sink F.Fleet input.new output.new fleet.new) }
+{
+    let Ok(script) = ScriptReader::new(alloc) else {
+        return Played::not_begun();
+    };
+    let mut script = script;
+    let first = read_head(alloc, &mut script, input, fleet);
+    let Ok(engine) = Engine::new(alloc, 1, fleet.caps()) else {
+        return Played::not_begun();
+    };
+    let mut engine = engine;
+    let stopped = play_from(alloc, &mut engine, &mut script, first, input, output, fleet);
+    Played {
+        stopped,
+        kept: Some(Kept { engine, script }),
+    }
+}
+
 /// Plays a script from the source to its end, and writes its report into the sink. The run begins at the
 /// first line of a client, or at the script's end, with what the fleet can do then. It ends early at the
 /// first line that is refused, and where the source or the sink fails; its connections are shut and given
@@ -239,11 +292,5 @@ pub fn play<S: Source, K: Sink, F: Fleet>(
         (seen S.Source K.Sink F.Fleet input.old output.old fleet.old)
         (seen S.Source K.Sink F.Fleet input.new output.new fleet.new) }
 {
-    let mut script = ScriptReader::new(alloc)?;
-    let first = read_head(alloc, &mut script, input, fleet);
-    let Ok(engine) = Engine::new(alloc, 1, fleet.caps()) else {
-        return Err(Stop::Memory);
-    };
-    let mut engine = engine;
-    play_from(alloc, &mut engine, &mut script, first, input, output, fleet)
+    play_keeping(alloc, input, output, fleet).stopped
 }

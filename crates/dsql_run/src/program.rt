@@ -4,10 +4,11 @@ ghost use Rattle.dsql_run.specs.Notes.{is_play, is_status};
 ghost use Rattle.dsql_run.specs.Headline.{seen, seen_notes, PlaysAndTells, PlaysWhole, RefusesWords};
 
 use crate::notes::{tell, tell_usage};
-use crate::playing::play;
+use crate::playing::{Played, play_keeping};
 use dsql_driver::{Clock, Fleet, Gate, Sink, Source};
 use dsql_value::Txt;
 use std::alloc::Global;
+use std::mem;
 
 /// Whether the program's words ask for a script to be played.
 fn is_play(words: &[Txt]) -> bool
@@ -33,7 +34,10 @@ fn run<S: Source, K: Sink, E: Sink, F: Fleet>(
         (seen_notes E.Sink notes.old) (seen_notes E.Sink notes.new) result }
     ensures silent { result ≡ 0 → notes.new ≡ notes.old }
 {
-    let stopped = play(alloc, input, output, fleet);
+    let Played { stopped, kept } = play_keeping(alloc, input, output, fleet);
+
+    // The process ends with the run and gives all memory back at once, which takes no time for each event.
+    mem::forget(kept);
     tell(alloc, &stopped, notes)
 }
 
@@ -54,6 +58,9 @@ fn run<S: Source, K: Sink, E: Sink, F: Fleet>(
 /// After a read fault or a refused line the run is ended as at the script's end. After a write fault
 /// nothing more is written, and the run is still ended. Where the notes fail the status is 4, unless it
 /// was 5 or 10.
+///
+/// The memory that the run kept is left to the end of the process, as is fit for a program that ends then;
+/// `play` gives it back.
 pub fn sqlrun<S: Source, K: Sink, E: Sink, F: Fleet, C: Clock, G: Gate>(
     alloc: Global,
     words: &[Txt],

@@ -7,7 +7,7 @@ use Rattle.dsql_stream.specs.Lines.{ahead, TakesOff, HandsOut, HandsOutLine}
 use Rattle.dsql_stream.proofs.FirstLines.{Feedless, first_line-feed, after_line-feed, first_line-feedless, after_line-feedless, first_line_longer}
 
 -- what is taken off next follows what was taken off
-pub takes_off_then : (front next : List ℕ) (before mid after : Option (List ℕ)) → TakesOff front before mid → TakesOff next mid after → TakesOff (front ++ next) before after
+takes_off_then : (front next : List ℕ) (before mid after : Option (List ℕ)) → TakesOff front before mid → TakesOff next mid after → TakesOff (front ++ next) before after
 takes_off_then front next before mid None first second = let none : mid ≡ None = second in first ∙ rw none refl
 takes_off_then front next before mid (Some rest) first second = let bytes : mid ≡ Some (next ++ rest) = second in first ∙ rw (bytes, append_assoc front next rest) refl
 
@@ -17,7 +17,7 @@ run_ahead run pending bytes true = refl
 run_ahead run pending bytes false = append_assoc run pending bytes
 
 -- what was taken off the pending bytes was taken off what is ahead
-pub takes_off_pending : (run : List ℕ) (old new : Buffered) (left : Option (List ℕ)) → old.pending ≡ run ++ new.pending → new.ended ≡ old.ended → TakesOff run (ahead old left) (ahead new left)
+takes_off_pending : (run : List ℕ) (old new : Buffered) (left : Option (List ℕ)) → old.pending ≡ run ++ new.pending → new.ended ≡ old.ended → TakesOff run (ahead old left) (ahead new left)
 takes_off_pending run old new None front same = refl
 takes_off_pending run old new (Some bytes) front same = rw (front, same) (ap Some (run_ahead run new.pending bytes old.ended))
 

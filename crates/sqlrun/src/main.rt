@@ -9,6 +9,7 @@ use dsql_stream::{StdClock, StdSink, StdSource};
 use dsql_value::{Memory, Txt};
 use std::env::{self, Env};
 use std::io::ErrorKind;
+use std::mem;
 use std::process::ExitCode;
 use std::sync::Wait;
 
@@ -59,5 +60,8 @@ fn main(rt: HostRuntime) -> ExitCode {
         &mut clock,
         &OpenGate,
     );
+
+    // As with what the run kept, the fleet's store is left to the end of the process.
+    mem::forget(fleet);
     ExitCode::from(status)
 }
