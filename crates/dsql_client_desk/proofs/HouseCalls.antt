@@ -46,11 +46,6 @@ is_no_query Connect opens = refl
 is_no_query Shut opens = refl
 is_no_query q opens = absurd cc
 
-pub is_no_step : (q : DriverCall) → opens_or_shuts q ≡ true → step_of q ≡ None
-is_no_step Connect opens = refl
-is_no_step Shut opens = refl
-is_no_step q opens = absurd cc
-
 nobody_told : (w : Work) (e : Entry) (rows : List CallRow) → e.call_no ≡ 0 → calls_told w e rows ≡ rows
 nobody_told w e rows house =
     let none : decided_by w e (row_at rows e.call_no).call ≡ (row_at rows e.call_no).call = rw house refl in
@@ -65,11 +60,6 @@ house_keeps H e rows opens house k =
 
 pub house_rows : (H : List Event) (e : Entry) → opens_or_shuts e.call ≡ true → handed_out (Heard e ∷ H) ≡ handed_out H
 house_rows H e opens = rows_beside (work H e.call_no) e.call_no e.call e.answer (handed_out H) (is_no_query e.call opens)
-
-pub house_made : (H : List Event) (e : Entry) → opens_or_shuts e.call ≡ true → all_made (Heard e ∷ H) ≡ all_made H
-house_made H e opens =
-    let xs = all_made H in
-    ap (λ (step : Option Due). slice_set xs e.conn (with_exchange step e.answer (slice_index_or xs e.conn []))) (is_no_step e.call opens) ∙ set-get_or xs e.conn []
 
 -- what is heard elsewhere is heard of a lent connection, and makes no move due
 

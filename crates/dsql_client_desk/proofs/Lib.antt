@@ -17,3 +17,12 @@ pub mod HouseCalls
 pub mod Fetched
 pub mod OtherEvents
 pub mod Settled
+pub mod KeptOfCalls
+pub mod RowsKept
+pub mod FewCalls
+pub mod Sent
+pub mod HeardThere
+pub mod Lent
+pub mod Told
+pub mod CloseAtEntry
+pub mod Fates

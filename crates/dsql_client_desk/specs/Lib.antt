@@ -1,3 +1,4 @@
+pub mod Exchanged
 pub mod Made
 pub mod Calls
 pub mod Moves
@@ -7,3 +8,6 @@ pub mod Settling
 pub mod Desk
 pub mod Adding
 pub mod Appending
+pub mod Entering
+pub mod Lines
+pub mod Statements

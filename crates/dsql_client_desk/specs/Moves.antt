@@ -2,20 +2,21 @@
 use Rattle.std.specs.Prelude.{List, [], ◌∷◌, ◌++◌, slice_set}
 use Rattle.dsql_driver.specs.declared.answer.DriverAnswer.{DriverAnswer}
 use Rattle.dsql_driver.specs.declared.answer.DriverAnswer.TheVariants.{Bad}
-use Rattle.dsql_course.specs.Made.{Exchange}
 use Rattle.dsql_pool.specs.declared.moves.Move.{Move}
 use Rattle.dsql_pool.specs.declared.moves.Move.TheVariants.{OpenStart, Lend, Fell}
 use Rattle.dsql_clients.specs.declared.record.Try.TheVariants.{Served, Refused}
 use Rattle.dsql_client_desk.specs.declared.call.CallRow.{CallRow}
+use Rattle.dsql_client_desk.specs.declared.exchanged.Exchanged.{Exchanged}
 use Rattle.dsql_client_desk.specs.Calls.{with_row, with_tried}
+use Rattle.dsql_client_desk.specs.Exchanged.{unheard}
 
 -- what was exchanged on each connection since it was lent, after a move
-abbrev pub lent_by : Move → List (List Exchange) → List (List Exchange)
-lent_by (OpenStart c n) made = made ++ [] ∷ []
-lent_by (Lend c tenure owner n) made = slice_set made c []
+abbrev pub lent_by : Move → List Exchanged → List Exchanged
+lent_by (OpenStart c n) made = made ++ unheard ∷ []
+lent_by (Lend c tenure owner n) made = slice_set made c unheard
 lent_by _ made = made
 
-abbrev pub lent_by_all : List Move → List (List Exchange) → List (List Exchange)
+abbrev pub lent_by_all : List Move → List Exchanged → List Exchanged
 lent_by_all [] made = made
 lent_by_all (move ∷ moves) made = lent_by_all moves (lent_by move made)
 

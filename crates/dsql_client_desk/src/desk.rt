@@ -6,9 +6,9 @@ ghost use Rattle.dsql_clients.specs.Rules.Settled.{Settled};
 ghost use Rattle.dsql_clients.specs.declared.event.Event.TheVariants.{Run};
 
 use crate::call::CallRow;
+use crate::exchanged::Exchanged;
 use crate::no_room::NoRoom;
 use dsql_clients::{CallRecord, DbEnd, Event, Work};
-use dsql_course::Progress;
 use dsql_driver::Caps;
 use dsql_pool::Pool;
 use dsql_rows::RowsTable;
@@ -28,7 +28,7 @@ pub struct Desk {
     /// The connections, the requests that wait, and the limits.
     pub pool: Pool,
     /// What was exchanged on each connection since it was lent, by its number.
-    pub made: Vec<Progress>,
+    pub made: Vec<Exchanged>,
     /// Each call, by its number. There is no call 0.
     pub calls: Vec<CallRow>,
     /// The calls without a reply.
@@ -53,7 +53,7 @@ impl Desk {
         let mut history = Vec::new(alloc);
         history.push(Event::Run { version, caps })?;
         let mut made = Vec::new(alloc);
-        made.push(Progress::new())?;
+        made.push(Exchanged::new())?;
         let mut calls = Vec::new(alloc);
         calls.push(nobody(alloc)?)?;
         Ok(Desk {

@@ -81,6 +81,7 @@ impl Desk {
         ensures { Adds self.old self.new (Event.Heard entry) }
     {
         self.paid -= 1;
+        note_exchange(&mut self.made, &entry);
         note(&mut self.history, Event::Heard(entry));
     }
 

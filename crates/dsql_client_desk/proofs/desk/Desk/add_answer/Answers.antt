@@ -5,6 +5,7 @@ use Rattle.dsql_clients.specs.Readers.HandedOut.{handed_out, rows_heard}
 use Rattle.dsql_clients.specs.Readers.Works.{work}
 use Rattle.dsql_client_desk.specs.Calls.{row_at}
 use Rattle.dsql_client_desk.specs.Desk.{past}
+use Rattle.dsql_client_desk.specs.Exchanged.{unheard, then_heard}
 use Rattle.dsql_client_desk.specs.Heard.{Decides, HearsRows}
 use Rattle.dsql_client_desk.proofs.Kept.{answered_keeps, row_work}
 use Rattle.dsql_client_desk.proofs.desk.Desk.add_answer.Goals as goal
@@ -38,7 +39,7 @@ returns c =
         calm = rw p may.calm;
         caps = rw p t.caps;
         ended = rw p t.ended;
-        made = rw p (c.note_exchange.ensures.items ∙ ap (λ xs. slice_set xs e.conn (with_exchange (step_of e.call) e.answer (slice_index_or xs e.conn []))) t.made);
+        made = rw p (c.note_exchange.ensures.items ∙ ap (λ xs. slice_set xs e.conn (then_heard e (slice_index_or xs e.conn unheard))) t.made);
         calls = rw p (answered_keeps H e d.calls.items _ _ c.requires.rows t.calls t.rows c.tell_answer.ensures.items);
         unfinished = rw p t.unfinished;
         labels = rw p t.labels;

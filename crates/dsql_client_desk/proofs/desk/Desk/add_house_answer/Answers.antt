@@ -1,6 +1,8 @@
-use Rattle.std.proofs.Common.{sym, refl, rules, ◌∙◌}
+use Rattle.std.proofs.Common.{sym, ap, refl, rules, ◌∙◌}
+use Rattle.std.specs.Prelude.{slice_set, slice_index_or}
 use Rattle.dsql_client_desk.specs.Desk.{past}
-use Rattle.dsql_client_desk.proofs.HouseCalls.{house_keeps, house_made, house_rows}
+use Rattle.dsql_client_desk.specs.Exchanged.{unheard, then_heard}
+use Rattle.dsql_client_desk.proofs.HouseCalls.{house_keeps, house_rows}
 use Rattle.dsql_client_desk.proofs.desk.Desk.add_house_answer.Goals as goal
 
 pub returns : goal.returns
@@ -18,7 +20,7 @@ returns c =
         calm = rw p may.calm;
         caps = rw p t.caps;
         ended = rw p t.ended;
-        made = rw p (t.made ∙ sym (house_made H e opens));
+        made = rw p (c.note_exchange.ensures.items ∙ ap (λ xs. slice_set xs e.conn (then_heard e (slice_index_or xs e.conn unheard))) t.made);
         calls = rw p (house_keeps H e d.calls.items opens c.requires.house t.calls);
         unfinished = rw p t.unfinished;
         labels = rw p t.labels;
