@@ -90,7 +90,7 @@ other_line H client n op j w new apart same =
     ∙ line_asked H K j w (home H j) (place H (home H j)) asked
     (λ a t. ap (λ p. line_after (caps H) ((caps H).resetter && nat_le 2 (option_map_or (λ conn. conn.uses) (conn_of (home H j) p.conns) 0)) a w (heard_in H (home H j) t)) same)
 
-entered_lines : (H : List Event) (client n : ℕ) (op : Op) → Lawful (Entered client n op ∷ H) → pool (Entered client n op ∷ H) ≡ pool H → (j : ℕ) (w : Wish) → line_of (Entered client n op ∷ H) j w ≡ line_of H j w
+pub entered_lines : (H : List Event) (client n : ℕ) (op : Op) → Lawful (Entered client n op ∷ H) → pool (Entered client n op ∷ H) ≡ pool H → (j : ℕ) (w : Wish) → line_of (Entered client n op ∷ H) j w ≡ line_of H j w
 entered_lines H client n op l same j w = by (same_or_not j n)
   where
     none : lent_count n (pool H) ≡ 0
@@ -125,7 +125,7 @@ used_entered H client n op l plain =
 
 -- where each other call stands
 
-tries_alike : (H K : List Event) (ts : List Try) → db_end K ≡ db_end H → told_by_tries K ts ≡ told_by_tries H ts
+pub tries_alike : (H K : List Event) (ts : List Try) → db_end K ≡ db_end H → told_by_tries K ts ≡ told_by_tries H ts
 tries_alike H K [] same = ap (option_map DbClosed) same
 tries_alike H K (Served ∷ earlier) same = refl
 tries_alike H K (Refused a ∷ earlier) same = refl
