@@ -90,7 +90,7 @@ works_on H e a s u =
     works_heard e.conn (lends H e.conn) e.tenure u.holder e.call_no (journal H e.conn) e (caps H) (is_reset_due H e.conn) (asked_by H u.holder) u.wish
     (lent_works H e.conn e.tenure u.holder (s.stands e.conn) u.lent) (s.made e.conn e.tenure u.holder u.lent) f.may refl refl (owner_of H e a u) refl u.due
 
-sent_at : (H : List Event) (e : Entry) → Allowed H (Heard e) → Sound H → (u : UnderWay H e)
+pub sent_at : (H : List Event) (e : Entry) → Allowed H (Heard e) → Sound H → (u : UnderWay H e)
     → SentAt (caps H) (asked_by H u.holder) u.wish (step (heard_in H e.conn e.tenure)) (exchanges (heard_in H e.conn e.tenure)) e.call e.answer
 sent_at H e a s u =
     let L = heard_in H e.conn e.tenure in

@@ -1,0 +1,5 @@
+pub mod Awaited
+pub mod Decides
+pub mod Served
+pub mod Fetches
+pub mod Nowhere
