@@ -1,18 +1,16 @@
 -- An answer to the layer itself, where it opened a connection or closed it.
-use Rattle.std.proofs.Common.{◌≡◌, ℕ, ◌==◌, true, false, ◌&&◌, List, [], ◌∷◌, Option, Some, None, refl, sym, ap, ◌∙◌, subst}
-use Rattle.std.specs.Prelude.{slice_set, slice_index_or}
+use Rattle.std.proofs.Common.{◌≡◌, ℕ, ◌==◌, true, false, ◌&&◌, List, [], ◌∷◌, Option, Some, refl, sym, ap, ◌∙◌, subst}
+use Rattle.std.specs.Prelude.{slice_set}
 use Rattle.std.proofs.lemmas.List.{set-get_or}
 use Rattle.dsql_driver.specs.declared.call.DriverCall.{DriverCall}
 use Rattle.dsql_driver.specs.declared.call.DriverCall.TheVariants.{Connect, Shut}
 use Rattle.dsql_driver.specs.Kinds.{is_connect, is_shut}
-use Rattle.dsql_course.specs.declared.call.Due.{Due}
 use Rattle.dsql_journal.specs.declared.entry.Entry.{Entry}
 use Rattle.dsql_pool.specs.declared.conn.Place.{Place}
 use Rattle.dsql_pool.specs.declared.conn.Place.TheVariants.{Opening, Closing}
 use Rattle.dsql_pool.specs.Pooled.{Pooled, next_tenure}
 use Rattle.dsql_history.specs.declared.work.Work.{Work}
 use Rattle.dsql_history.specs.declared.work.Work.TheVariants.{HandOut, Fetch}
-use Rattle.dsql_history.specs.Readers.Exchanges.{step_of, with_exchange}
 use Rattle.dsql_history.specs.Readers.HandedOut.{Made}
 use Rattle.dsql_clients.specs.declared.event.Event.{Event}
 use Rattle.dsql_clients.specs.declared.event.Event.TheVariants.{Heard}
@@ -27,7 +25,6 @@ use Rattle.dsql_client_desk.specs.declared.call.CallRow.{CallRow}
 use Rattle.dsql_client_desk.specs.Adding.{opens_or_shuts}
 use Rattle.dsql_client_desk.specs.Calls.{KeepsCalls, nobody, row_at}
 use Rattle.dsql_client_desk.specs.Heard.{HearsRows, calls_after, calls_told, is_fetch_or_query}
-use Rattle.dsql_client_desk.specs.Made.{all_made}
 use Rattle.dsql_client_desk.proofs.Beside.{rows_beside, calls_beside}
 use Rattle.dsql_client_desk.proofs.Kept.{heard_keeps}
 use Rattle.dsql_client_desk.proofs.MadeKnown.{made_known}

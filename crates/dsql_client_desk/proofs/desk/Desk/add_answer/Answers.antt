@@ -1,6 +1,5 @@
 use Rattle.std.proofs.Common.{◌≡◌, [], sym, ap, subst, refl, rules, ◌∙◌}
 use Rattle.std.specs.Prelude.{slice_set, slice_index_or}
-use Rattle.dsql_history.specs.Readers.Exchanges.{step_of, with_exchange}
 use Rattle.dsql_clients.specs.Readers.HandedOut.{handed_out, rows_heard}
 use Rattle.dsql_clients.specs.Readers.Works.{work}
 use Rattle.dsql_client_desk.specs.Calls.{row_at}
