@@ -1,17 +1,17 @@
 //! Events as lines of reports, with what no line of a script and no example brings.
 
-use dsql_driver::{DriverAnswer, DriverCall, Input, Level};
+use dsql_driver::{DriverAnswer, DriverCall, Level};
 use dsql_history::{Event, FaultWord, Move, Reply};
 use dsql_journal::{Entry, Owner};
 use dsql_rows::{Cause, RowsOver};
 use dsql_scan::{Cell, Cells};
 use dsql_script::append_line;
-use dsql_value::{Bin, Columns, Items, Memory, Param, Params, Txt, Value, Values};
+use dsql_value::{Bin, Items, Memory, Txt, Value, Values};
 use std::alloc::Global;
 use std::test::Fail;
 
 /// The lines of these events.
-fn lines_of(alloc: Global, events: &[Event]) -> Result<String, Fail> {
+pub(super) fn lines_of(alloc: Global, events: &[Event]) -> Result<String, Fail> {
     let mut lines = Vec::new(alloc);
     for event in events {
         append_line(alloc, event, &mut lines)?;
@@ -71,43 +71,26 @@ fn cells(alloc: Global) -> Result<Cells, Memory> {
     ]?))
 }
 
+fn row(alloc: Global) -> Result<Event, Memory> {
+    let values = values(alloc)?;
+    Ok(heard(DriverCall::Next(7), DriverAnswer::Row(values)))
+}
+
+fn scanned(alloc: Global) -> Result<Event, Memory> {
+    let cells = cells(alloc)?;
+    Ok(replied(Reply::Cells(cells)))
+}
+
 #[test]
 fn values_and_cells_are_spelled(rt: HostRuntime) -> Result<(), Fail> {
     let want =
         r#"["heard",1,4,"tx:2",3,2,["next",7],["row",[null,-5,true,{"bytes":"00ffab"},"ann",{"time":-1}]]]
 ["reply",5,["ok","cells",[null,"ann",{"bytes":"00ffab"},true,-5,{"u64":9223372036854775807},9223372036854775808,{"time":9}]]]
 "#;
-    let row = DriverAnswer::Row(values(rt.alloc())?);
-    let events = [
-        heard(DriverCall::Next(7), row),
-        replied(Reply::Cells(cells(rt.alloc())?)),
-    ];
+    let events = [row(rt.alloc())?, scanned(rt.alloc())?];
     let lines = lines_of(rt.alloc(), &events)?;
     assert_eq!(rt; lines.as_str(), want);
     Ok(())
-}
-
-/// A parameter without a name, and one with a name.
-fn params(alloc: Global) -> Result<Params, Memory> {
-    let plain = Param {
-        name: None,
-        value: Value::Int(1),
-    };
-    let named = Param {
-        name: Some(text(alloc, "x")?),
-        value: Value::Time(9),
-    };
-    Ok(Items::new(vec![in alloc; plain, named]?))
-}
-
-fn columns(alloc: Global) -> Result<Columns, Memory> {
-    Ok(Items::new(vec![in alloc; text(alloc, "key")?, text(alloc, "value")?]?))
-}
-
-fn queried(alloc: Global) -> Result<Event, Memory> {
-    let call = DriverCall::Query(Input::Handle(5), params(alloc)?);
-    let columns = columns(alloc)?;
-    Ok(heard(call, DriverAnswer::Cursor { rows: 6, columns }))
 }
 
 /// A text with quotes, a line feed, a control character and a letter of two bytes.
@@ -130,14 +113,11 @@ fn begun(alloc: Global) -> Result<Event, Memory> {
 
 #[test]
 fn driver_calls_are_spelled(rt: HostRuntime) -> Result<(), Fail> {
-    let want =
-        r#"["heard",1,4,"tx:2",3,2,["query",5,[1,{"name":"x","value":{"time":9}}]],["cursor",6,["key","value"]]]
-["heard",1,4,"tx:2",3,2,["prepare","a \"b\" \\ \n \u0001 é"],["prepared",8,-1]]
+    let want = r#"["heard",1,4,"tx:2",3,2,["prepare","a \"b\" \\ \n \u0001 é"],["prepared",8,-1]]
 ["heard",1,4,"tx:2",3,2,["begin","repeatable_read",true],["fail","down"]]
 ["fell",3,0]
 "#;
     let events = [
-        queried(rt.alloc())?,
         prepared(rt.alloc())?,
         begun(rt.alloc())?,
         Event::Pool(Move::Fell { conn: 3, call: 0 }),

@@ -1,7 +1,9 @@
 //! Transcripts of readers: lines of a script, and below them, behind `= `, what is told of each.
 
-use dsql_history::Event;
-use dsql_script::{Reader, ScriptLine, event_line};
+use crate::reports::lines_of;
+use dsql_driver::Caps;
+use dsql_history::{Event, Op};
+use dsql_script::{Reader, ScriptLine};
 use std::alloc::Global;
 use std::test::Fail;
 
@@ -185,22 +187,24 @@ c1 one x i8,i8,i8,i8,i8,i8,i8,i8,i8,i8,i8,i8,i8,i8,i8,i8,i8,i8,i8,i8,i8,i8,i8,i8
 = unknown label
 "#;
 
-/// The line of an event, without its line feed.
-fn spelled(alloc: Global, event: &Event) -> Result<String, Fail> {
-    let line = event_line(alloc, event)?;
-    Ok(String::from_str(alloc, line.as_str().trim_end())?)
+/// The line of a report that shows what a driver can do.
+fn caps_line(alloc: Global, caps: Caps) -> Result<String, Fail> {
+    lines_of(alloc, &[Event::Run { version: 1, caps }])
+}
+
+/// The line of a report that shows a call.
+fn call_line(alloc: Global, client: u8, op: Op) -> Result<String, Fail> {
+    lines_of(alloc, &[Event::Entered { client, n: 1, op }])
 }
 
 /// What a reader makes of a line: a call and what a driver can do as the line of a report, and a refusal as its reason.
 fn told(alloc: Global, reader: &mut Reader, line: &str) -> Result<String, Fail> {
     match reader.read_line(alloc, line.as_bytes()) {
-        Ok(ScriptLine::Skip) => Ok(String::from_str(alloc, "skipped")?),
-        Ok(ScriptLine::Version(version)) => Ok(format!(in alloc; "version {version}")?),
-        Ok(ScriptLine::UseCaps(caps)) => spelled(alloc, &Event::Run { version: 1, caps }),
-        Ok(ScriptLine::Client { client, op }) => {
-            spelled(alloc, &Event::Entered { client, n: 1, op })
-        }
-        Err(fault) => Ok(fault.to_string(alloc)?),
+        Ok(ScriptLine::Skip) => Ok(String::from_str(alloc, "skipped\n")?),
+        Ok(ScriptLine::Version(version)) => Ok(format!(in alloc; "version {version}\n")?),
+        Ok(ScriptLine::UseCaps(caps)) => caps_line(alloc, caps),
+        Ok(ScriptLine::Client { client, op }) => call_line(alloc, client, op),
+        Err(fault) => Ok(format!(in alloc; "{fault}\n")?),
     }
 }
 
@@ -213,13 +217,13 @@ fn read_again(alloc: Global, transcript: &str) -> Result<String, Fail> {
         if !line.starts_with("= ") {
             let next = told(alloc, &mut reader, line)?;
             if !last.is_empty() && next.as_str() != last.as_str() {
-                write!(made, "= {last}\n")?;
+                write!(made, "= {last}")?;
             }
             last = next;
             write!(made, "{line}\n")?;
         }
     }
-    write!(made, "= {last}\n")?;
+    write!(made, "= {last}")?;
     Ok(made)
 }
 
