@@ -139,7 +139,7 @@ used_heard H e t k l is h used = conns_so (λ x. is_in_use H x.place) (λ x. is_
     by (Opening o) was = refl
     by Closing was = refl
 
-lent_used : (H : List Event) (d u : ℕ) (owner : Owner) → uses_what_is_lent H ≡ true → place H d ≡ Some (Lent u owner) → is_used H (number_of owner) ≡ true
+pub lent_used : (H : List Event) (d u : ℕ) (owner : Owner) → uses_what_is_lent H ≡ true → place H d ≡ Some (Lent u owner) → is_used H (number_of owner) ≡ true
 lent_used H d u owner h at = by (conn_of d (pool H).conns) refl at
   where
     by : (o : Option Conn) → conn_of d (pool H).conns ≡ o → option_map (λ x. x.place) o ≡ Some (Lent u owner) → is_used H (number_of owner) ≡ true

@@ -46,7 +46,7 @@ abbrev standing : Pooled → ℕ → Bool → ℕ → Bool → Option Stand
 standing p m due there replies =
     or_else (stands (waits m p.waiting) stands_at.Waits) (or_else (opens (smallest (is_for m) p)) (or_else (stands due (stands_at.Sends there)) (stands replies stands_at.Replies)))
 
-somewhere : (w : Bool) (o : Option ℕ) (d r : Bool) (c : ℕ) → is_some (or_else (stands w stands_at.Waits) (or_else (opens o) (or_else (stands d (stands_at.Sends c)) (stands r stands_at.Replies))))
+pub somewhere : (w : Bool) (o : Option ℕ) (d r : Bool) (c : ℕ) → is_some (or_else (stands w stands_at.Waits) (or_else (opens o) (or_else (stands d (stands_at.Sends c)) (stands r stands_at.Replies))))
     ≡ (w || (is_some o || (d || r)))
 somewhere true o d r c = refl
 somewhere false (Some k) d r c = refl

@@ -1,0 +1,4 @@
+pub mod Once
+pub mod Moved
+pub mod Meant
+pub mod Lends
