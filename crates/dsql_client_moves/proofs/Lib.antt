@@ -2,3 +2,4 @@ pub mod Once
 pub mod Moved
 pub mod Meant
 pub mod Lends
+pub mod Asked
