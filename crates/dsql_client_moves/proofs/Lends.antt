@@ -53,12 +53,12 @@ use Rattle.dsql_client_others.proofs.Untouched.{or_second}
 use Rattle.dsql_client_heard.proofs.Answered.{lent_used}
 use Rattle.dsql_client_heard.proofs.Settling.{all_within}
 use Rattle.dsql_client_moves.proofs.Meant.{is_meant, meant}
-use Rattle.dsql_client_moves.proofs.Moved.{Left, line_beside, over_same, over_none, due_moved, used_moved, used_off, stays_somewhere}
+use Rattle.dsql_client_moves.proofs.Moved.{Left, goes_on_each, line_beside, over_same, over_none, due_moved, used_moved, used_off, stays_somewhere}
 
 abbrev lends : List Event → ℕ → ℕ → ℕ → List Event
 lends H c t n = Pool (Lend c t (Call n) n) ∷ H
 
-open_place : (o : Option Place) → (is_idle o || is_opening o) ≡ true → is_some o ≡ true
+pub open_place : (o : Option Place) → (is_idle o || is_opening o) ≡ true → is_some o ≡ true
 open_place None h = absurd cc
 open_place (Some p) h = refl
 
@@ -229,11 +229,4 @@ itself_lent H c t n l h =
     (λ j u so. or_second (j == 0) (is_some (stand (lends H c t n) j)) (some_stand H c t n j l u (λ apart. second (j == n) (is_some (stand H j)) (other_number j n apart) so))) h
 
 pub somewhere_lent : (H : List Event) (c t n k : ℕ) → Lawful (lends H c t n) → goes_on_but k H ≡ true → goes_on_but k (lends H c t n) ≡ true
-somewhere_lent H c t n k l h = all_within (λ j. (j == k) || is_some (stand H j)) (λ j. (j == k) || is_some (stand (lends H c t n) j)) (unfinished H) each h
-  where
-    each : (j : ℕ) → is_unfinished H j ≡ true → ((j == k) || is_some (stand H j)) ≡ true → ((j == k) || is_some (stand (lends H c t n) j)) ≡ true
-    each j u so = by (j == k) so
-      where
-        by : (b : Bool) → (b || is_some (stand H j)) ≡ true → (b || is_some (stand (lends H c t n) j)) ≡ true
-        by true h = refl
-        by false h = some_stand H c t n j l u (λ apart. h)
+somewhere_lent H c t n k l h = goes_on_each H (lends H c t n) k refl (λ j u so. some_stand H c t n j l u (λ apart. so)) h

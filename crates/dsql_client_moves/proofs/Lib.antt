@@ -3,3 +3,5 @@ pub mod Moved
 pub mod Meant
 pub mod Lends
 pub mod Asked
+pub mod Carried
+pub mod House

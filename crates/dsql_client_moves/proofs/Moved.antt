@@ -1,5 +1,6 @@
 -- What a move leaves of the connections beside its own, and of the calls that it isn't of.
 use Rattle.std.proofs.Common.{◌≡◌, ◌≢◌, ℕ, ◌==◌, ◌⊎◌, inl, inr, Bool, true, false, ◌&&◌, ◌||◌, cond, List, ◌∷◌, Option, Some, None, is_some, is_none, nat_le, refl, sym, ap, ◌∙◌}
+use Rattle.std.specs.List.{list_all}
 use Rattle.std.specs.Prelude.{find}
 use Rattle.std.specs.Option.{option_map}
 use Rattle.dsql_course.specs.declared.course.Wish.{Wish}
@@ -29,10 +30,10 @@ use Rattle.dsql_clients.specs.Readers.HandedOut.{rows_by, are_live}
 use Rattle.dsql_clients.specs.Readers.Journals.{heard_in}
 use Rattle.dsql_clients.specs.Readers.Pool.{pool, place, home, smallest, wanted_by}
 use Rattle.dsql_clients.specs.Readers.Tries.{tries}
-use Rattle.dsql_clients.specs.Readers.Unfinished.{is_unfinished}
+use Rattle.dsql_clients.specs.Readers.Unfinished.{unfinished, is_unfinished}
 use Rattle.dsql_clients.specs.Readers.Works.{work, is_fetch}
 use Rattle.dsql_clients.specs.Rules.Line.{is_reset_due, asked_by, line_at, line_of, wish_as, wish, sent_for, due_in, due_for, rest_with, is_used}
-use Rattle.dsql_clients.specs.Rules.Settled.{is_in_use, uses_what_is_lent}
+use Rattle.dsql_clients.specs.Rules.Settled.{is_in_use, uses_what_is_lent, goes_on_but}
 use Rattle.dsql_clients.specs.Rules.Stands.{stand}
 use Rattle.dsql_clients.specs.Legal.{Allowed, Lawful}
 use Rattle.dsql_client_laws.proofs.Tests.{same_number}
@@ -43,7 +44,7 @@ use Rattle.dsql_client_lendings.proofs.Lent.{move_facts}
 use Rattle.dsql_client_lendings.proofs.Owners.{owner_is_call}
 use Rattle.dsql_client_lines.proofs.Lines.{line_here}
 use Rattle.dsql_client_others.proofs.Entries.{tries_alike}
-use Rattle.dsql_client_heard.proofs.Settling.{is_settling, somewhere}
+use Rattle.dsql_client_heard.proofs.Settling.{is_settling, somewhere, all_within}
 use Rattle.dsql_client_moves.specs.Beside.{UsedBeside}
 use Rattle.dsql_client_moves.proofs.Once.{once, all_found, found_number, found_some}
 
@@ -249,3 +250,13 @@ stays_somewhere H m j a s h =
     stands_somewhere K j
     ∙ each_of (waits j (pool H).waiting) (is_some (smallest (is_for j) (pool H))) (is_settling H j) (waits j (pool K).waiting) (is_some (smallest (is_for j) (pool K))) (is_settling K j) s.waits
     (opening_stays H m j a s.unopened) (λ k. settling ∙ k) (sym (stands_somewhere H j) ∙ h)
+
+-- who was somewhere is so after it, where each unfinished call is that was
+pub goes_on_each : (H K : List Event) (k : ℕ) → unfinished K ≡ unfinished H → ((j : ℕ) → is_unfinished H j ≡ true → is_some (stand H j) ≡ true → is_some (stand K j) ≡ true) → goes_on_but k H ≡ true
+    → goes_on_but k K ≡ true
+goes_on_each H K k same each h =
+    ap (list_all (λ j. (j == k) || is_some (stand K j))) same ∙ all_within (λ j. (j == k) || is_some (stand H j)) (λ j. (j == k) || is_some (stand K j)) (unfinished H) (λ j u so. by j u (j == k) so) h
+  where
+    by : (j : ℕ) → is_unfinished H j ≡ true → (b : Bool) → (b || is_some (stand H j)) ≡ true → (b || is_some (stand K j)) ≡ true
+    by j u true so = refl
+    by j u false so = each j u so

@@ -2,5 +2,6 @@
 //! contract of a function that does nothing.
 #![tactic(auto)]
 
+pub mod answers;
 pub mod asking;
 pub mod lending;

@@ -30,7 +30,7 @@ use Rattle.dsql_client_calls.proofs.Ends.{waits_only, quiet_at_end}
 use Rattle.dsql_client_others.proofs.LimitMoves.{are_quiet, closings_quiet, all_quiet}
 use Rattle.dsql_client_others.proofs.Answered.{left_waiting_replies}
 
-closed_quiet : (p : Pooled) → Placed p.idle p.conns → are_quiet (moves_closed p) (shut p) ≡ true
+pub closed_quiet : (p : Pooled) → Placed p.idle p.conns → are_quiet (moves_closed p) (shut p) ≡ true
 closed_quiet p h = closings_quiet DbClosed p.idle [] (shut p) (sym (append-nil p.idle)) (placed_map unwanted keeps_number stays_idle p.idle p.conns h)
 
 told_of_end : (H : List Event) → Lawful (Ended ∷ H) → (m : ℕ) → is_waiting (stand H m) ≡ true → ((m == 0) || is_some (stand (Ended ∷ H) m)) ≡ true

@@ -48,7 +48,7 @@ quiet-append [] ns p h k = k
 quiet-append (m ∷ ms) ns p h k =
     let a = both (is_quiet p m) (are_quiet ms (moved m p)) h in together (is_quiet p m) (are_quiet (ms ++ ns) (moved m p)) a.0 (quiet-append ms ns (moved m p) a.1 k)
 
-openings_quiet : (k c : ℕ) (p : Pooled) → are_quiet (openings k c) p ≡ true
+pub openings_quiet : (k c : ℕ) (p : Pooled) → are_quiet (openings k c) p ≡ true
 openings_quiet zero c p = refl
 openings_quiet (suc k) c p = openings_quiet k (c + 1) (begun None p)
 
