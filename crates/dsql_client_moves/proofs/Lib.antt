@@ -5,3 +5,4 @@ pub mod Lends
 pub mod Asked
 pub mod Carried
 pub mod House
+pub mod Leaves

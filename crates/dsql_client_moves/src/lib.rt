@@ -4,4 +4,5 @@
 
 pub mod answers;
 pub mod asking;
+pub mod leaving;
 pub mod lending;
