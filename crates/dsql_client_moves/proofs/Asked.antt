@@ -41,7 +41,7 @@ use Rattle.dsql_client_moves.proofs.Lends.{all_used, itself_lent}
 
 -- a closed database was closed by something
 
-ended_by_now : (o : Option DbEnd) (end : DbEnd) → is_some (or_end o end) ≡ true
+pub ended_by_now : (o : Option DbEnd) (end : DbEnd) → is_some (or_end o end) ≡ true
 ended_by_now None end = refl
 ended_by_now (Some earlier) end = refl
 

@@ -6,3 +6,4 @@ pub mod Asked
 pub mod Carried
 pub mod House
 pub mod Leaves
+pub mod Shut

@@ -194,7 +194,7 @@ each_of true b c false false f p q r h = let clash : false ≡ true = p refl in 
 each_of false true c false false f p q r h = let clash : false ≡ true = q refl in absurd cc
 each_of false false c false false f p q r h = r h
 
-stands_somewhere : (H : List Event) (j : ℕ) → is_some (stand H j) ≡ (waits j (pool H).waiting || (is_some (smallest (is_for j) (pool H)) || is_settling H j))
+pub stands_somewhere : (H : List Event) (j : ℕ) → is_some (stand H j) ≡ (waits j (pool H).waiting || (is_some (smallest (is_for j) (pool H)) || is_settling H j))
 stands_somewhere H j =
     somewhere (waits j (pool H).waiting) (smallest (is_for j) (pool H)) (is_some (due_for H j)) (is_none (decided H j) && is_some (told_by_others H j)) (site H j)
 

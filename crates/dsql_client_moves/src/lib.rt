@@ -4,5 +4,6 @@
 
 pub mod answers;
 pub mod asking;
+pub mod closing;
 pub mod leaving;
 pub mod lending;
