@@ -134,7 +134,11 @@ fn unscanned(fault: FaultWord) -> Event {
 
 #[test]
 fn faults_of_rows_are_spelled(rt: HostRuntime) -> Result<(), Fail> {
-    let want = r#"["reply",5,["err","rows_closed","tx","sql: Rows are closed"]]
+    let want = r#"["reply",5,["err","rows_closed","close","sql: Rows are closed"]]
+["reply",5,["err","rows_closed","failed","sql: Rows are closed"]]
+["reply",5,["err","rows_closed","bad","sql: Rows are closed"]]
+["reply",5,["err","rows_closed","end","sql: Rows are closed"]]
+["reply",5,["err","rows_closed","tx","sql: Rows are closed"]]
 ["reply",5,["err","rows_closed","canceled","sql: Rows are closed"]]
 ["reply",5,["err","rows_closed","deadline","sql: Rows are closed"]]
 ["reply",5,["err","scan",3,"out_of_range","sql: scan of column 3: out_of_range"]]
@@ -143,6 +147,10 @@ fn faults_of_rows_are_spelled(rt: HostRuntime) -> Result<(), Fail> {
 ["reply",5,["err","scan",3,"unsupported","sql: scan of column 3: unsupported"]]
 "#;
     let events = [
+        replied(Reply::RowsClosed(RowsOver::Close)),
+        replied(Reply::RowsClosed(RowsOver::Failed)),
+        replied(Reply::RowsClosed(RowsOver::BadConn)),
+        replied(Reply::RowsClosed(RowsOver::EndOfRun)),
         replied(Reply::RowsClosed(RowsOver::TxEnded)),
         replied(Reply::RowsClosed(RowsOver::Cancel(Cause::Canceled))),
         replied(Reply::RowsClosed(RowsOver::Cancel(Cause::Deadline))),
