@@ -37,7 +37,7 @@ use Rattle.dsql_clients.specs.Rules.Settled.{uses_what_is_lent, goes_on, goes_on
 use Rattle.dsql_clients.specs.Rules.Stands.{stand}
 use Rattle.dsql_clients.specs.Legal.{Lawful}
 use Rattle.dsql_client_laws.proofs.Numbered.{unfinished_from_one}
-use Rattle.dsql_client_laws.proofs.Standing.{stands_sending}
+use Rattle.dsql_client_laws.proofs.Standing.{stands_sending, stands_waiting}
 use Rattle.dsql_client_laws.proofs.Tests.{second, same_number, other_number}
 use Rattle.dsql_client_calls.proofs.Lists.{same_or_not}
 use Rattle.dsql_client_calls.proofs.Untried.{moves_of}
@@ -230,3 +230,6 @@ itself_lent H c t n l h =
 
 pub somewhere_lent : (H : List Event) (c t n k : ℕ) → Lawful (lends H c t n) → goes_on_but k H ≡ true → goes_on_but k (lends H c t n) ≡ true
 somewhere_lent H c t n k l h = goes_on_each H (lends H c t n) k refl (λ j u so. some_stand H c t n j l u (λ apart. so)) h
+
+pub waits_lent : (H : List Event) (c t n j : ℕ) → j ≢ n → waits j (pool H).waiting ≡ true → stand (lends H c t n) j ≡ Some stands_at.Waits
+waits_lent H c t n j apart h = stands_waiting (lends H c t n) j (still_waits j n (pool H).waiting apart h)

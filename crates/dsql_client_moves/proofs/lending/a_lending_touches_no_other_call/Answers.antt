@@ -1,4 +1,4 @@
-use Rattle.dsql_client_moves.proofs.Lends.{due_lent, stands_lent, used_lent, due_others, used_beside, all_used, itself_lent, somewhere_lent}
+use Rattle.dsql_client_moves.proofs.Lends.{due_lent, stands_lent, used_lent, due_others, used_beside, all_used, itself_lent, somewhere_lent, waits_lent}
 use Rattle.dsql_client_moves.proofs.lending.a_lending_touches_no_other_call.Goals as goal
 
 pub returns-clause-due : goal.returns-clause-due
@@ -6,6 +6,9 @@ returns-clause-due c = due_lent
 
 pub returns-clause-stands : goal.returns-clause-stands
 returns-clause-stands c = stands_lent
+
+pub returns-clause-waits : goal.returns-clause-waits
+returns-clause-waits c = λ history conn t n m. waits_lent history conn t n m
 
 pub returns-clause-used : goal.returns-clause-used
 returns-clause-used c = used_lent
