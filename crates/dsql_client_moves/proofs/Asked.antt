@@ -83,7 +83,7 @@ some_told H [] try some = by (db_end H) some
     by (Some end) h = refl
 some_told H (t ∷ ts) try some = absurd cc
 
-asks_an_open_one : (H : List Event) (n : ℕ) → may_ask H n ≡ true → (pool H).closed ≡ true → ⊥
+pub asks_an_open_one : (H : List Event) (n : ℕ) → may_ask H n ≡ true → (pool H).closed ≡ true → ⊥
 asks_an_open_one H n may closed =
     let a = both (is_unfinished H n) (asks (work H n) && (has_a_try (tries H n) && (not (wants n (pool H)) && is_none (reply_due H n)))) may in
     let b = both (asks (work H n)) (has_a_try (tries H n) && (not (wants n (pool H)) && is_none (reply_due H n))) a.1 in
@@ -96,14 +96,14 @@ asks_an_open_one H n may closed =
     neither None h k = cc
     neither (Some r) h k = cc
 
-closed_only : (closed takes many may : Bool) (it : Asked) (c : ℕ) → (it ≡ asked.Closed → ⊥) → cond closed (Ok asked.Closed) (cond takes (Ok it) (cond many (Err TooMany) (cond may (Ok (asked.Opening c)) (Ok asked.Queued)))) ≡ Ok asked.Closed → closed ≡ true
+pub closed_only : (closed takes many may : Bool) (it : Asked) (c : ℕ) → (it ≡ asked.Closed → ⊥) → cond closed (Ok asked.Closed) (cond takes (Ok it) (cond many (Err TooMany) (cond may (Ok (asked.Opening c)) (Ok asked.Queued)))) ≡ Ok asked.Closed → closed ≡ true
 closed_only true takes many may it c other is = refl
 closed_only false true many may it c other is = let same : it ≡ asked.Closed = cc in absurd (other same)
 closed_only false false true may it c other is = absurd cc
 closed_only false false false true it c other is = absurd cc
 closed_only false false false false it c other is = absurd cc
 
-no_memory : (closed takes many may : Bool) (it : Asked) (c : ℕ) → cond closed (Ok asked.Closed) (cond takes (Ok it) (cond many (Err TooMany) (cond may (Ok (asked.Opening c)) (Ok asked.Queued)))) ≡ Err Memory → ⊥
+pub no_memory : (closed takes many may : Bool) (it : Asked) (c : ℕ) → cond closed (Ok asked.Closed) (cond takes (Ok it) (cond many (Err TooMany) (cond may (Ok (asked.Opening c)) (Ok asked.Queued)))) ≡ Err Memory → ⊥
 no_memory true takes many may it c is = cc
 no_memory false true many may it c is = cc
 no_memory false false true may it c is = cc

@@ -1,0 +1,6 @@
+pub mod Groups
+pub mod Sameness
+pub mod Standing
+pub mod Replying
+pub mod Leaves
+pub mod Asking
