@@ -14,10 +14,10 @@ use Rattle.dsql_run.proofs.playing.play_keeping.Goals as goal
 pub returns : goal.returns
 returns g c =
     let left = g.S.Source.left c.args.input.now in
-    let read : HasRead left c.in-Ok.script left nothing = c.in_ok-script.ensures.first left in
+    let read : HasRead left c.in-Ok.script left nothing = c.in-Ok.ensures.first left in
     let head : ReadsHead left c.read_head-first.result c.read_head-first.new.script (g.S.Source.left c.read_head-first.new.input) (g.F.Fleet.preferred c.args.fleet.now) (g.F.Fleet.preferred c.read_head-first.new.fleet)
     (g.F.Fleet.ability c.args.fleet.now) (g.F.Fleet.ability c.read_head-first.new.fleet) = c.read_head-first.ensures.reads left read in
-    let begun : c.in-Ok.engine ≡ Run 1 (g.F.Fleet.ability c.play_from-stopped.new.fleet) ∷ [] = c.in-Ok.ensures.begun ∙ ap (λ caps. Run 1 caps ∷ []) (c.caps.ensures ∙ sym c.play_from-stopped.ensures.on.able.ability) in
+    let begun : c.in-Ok-new.engine ≡ Run 1 (g.F.Fleet.ability c.play_from-stopped.new.fleet) ∷ [] = c.in-Ok-new.ensures.begun ∙ ap (λ caps. Run 1 caps ∷ []) (c.caps.ensures ∙ sym c.play_from-stopped.ensures.on.able.ability) in
     record {
       ran = inl (record {
         history = c.play_from-stopped.new.engine;
