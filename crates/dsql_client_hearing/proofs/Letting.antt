@@ -1,13 +1,11 @@
 -- An answer on a lent connection, and what is let go after it.
-use Rattle.std.proofs.Common.{◌≡◌, ◌≢◌, ℕ, ◌+◌, ◌≤◌, ◌==◌, Bool, true, false, not, ◌&&◌, cond, List, [], ◌∷◌, length, Option, Some, None, refl, sym, ap, subst, ◌∙◌, arith}
+use Rattle.std.proofs.Common.{◌≡◌, ℕ, ◌+◌, ◌≤◌, Bool, true, false, ◌&&◌, cond, List, [], ◌∷◌, length, Option, Some, None, refl, sym, ap, ◌∙◌, arith}
 use Rattle.dsql_journal.specs.declared.entry.Entry.{Entry}
 use Rattle.dsql_journal.specs.declared.entry.Owner.TheVariants.{Call, Tx, Pin, House}
-use Rattle.dsql_journal.specs.Kinds.{number_of}
-use Rattle.dsql_journal.specs.Readers.{has, is_empty}
+use Rattle.dsql_journal.specs.Readers.{is_empty}
 use Rattle.dsql_pool.specs.declared.conn.Place.{Place}
 use Rattle.dsql_pool.specs.declared.conn.Place.TheVariants.{Idle, Lent, Opening, Closing}
 use Rattle.dsql_pool.specs.declared.moves.Move.{Move}
-use Rattle.dsql_history.specs.Readers.Works.{user_of}
 use Rattle.dsql_history.specs.Rules.Line.{Asked}
 use Rattle.dsql_clients.specs.declared.event.Event.{Event}
 use Rattle.dsql_clients.specs.declared.event.Event.TheVariants.{Heard, Pool}
@@ -15,8 +13,7 @@ use Rattle.dsql_clients.specs.Readers.Calls.{user}
 use Rattle.dsql_clients.specs.Readers.Owed.{answered, given_back, owed}
 use Rattle.dsql_clients.specs.Readers.Pool.{place, pool}
 use Rattle.dsql_clients.specs.Readers.Unfinished.{is_unfinished}
-use Rattle.dsql_clients.specs.Readers.Works.{work, works}
-use Rattle.dsql_clients.specs.Rules.Line.{asked_by, is_used, may_come, sends_from}
+use Rattle.dsql_clients.specs.Rules.Line.{is_used, may_come, sends_from}
 use Rattle.dsql_clients.specs.Rules.Settled.{Settled, goes_on_but, is_settled_but, owes_nothing, uses_what_is_lent}
 use Rattle.dsql_clients.specs.Legal.{Allowed, Lawful}
 use Rattle.dsql_client_laws.specs.Leaving.{MayLeave}

@@ -1,5 +1,5 @@
 -- The step over an answer: what it needs, and what it leaves.
-use Rattle.std.proofs.Common.{◌≡◌, ◌≢◌, ℕ, ◌+◌, ◌≤◌, ◌<◌, ◌==◌, Bool, true, false, not, ◌&&◌, ◌||◌, cond, List, [], ◌∷◌, length, Option, Some, None, is_some, refl, sym, ap, subst, ◌∙◌, arith}
+use Rattle.std.proofs.Common.{◌≡◌, ◌≢◌, ℕ, ◌==◌, Bool, true, false, not, ◌&&◌, ◌||◌, cond, List, [], ◌∷◌, Option, Some, None, is_some, refl, sym, ap, subst, ◌∙◌, arith}
 use Rattle.dsql_driver.specs.Fits.{is_invalid}
 use Rattle.dsql_driver.specs.Kinds.{is_bad}
 use Rattle.dsql_journal.specs.declared.entry.Entry.{Entry}
@@ -13,20 +13,18 @@ use Rattle.dsql_clients.specs.declared.event.Event.{Event}
 use Rattle.dsql_clients.specs.declared.event.Event.TheVariants.{Heard}
 use Rattle.dsql_clients.specs.declared.record.Flight.{Flight}
 use Rattle.dsql_clients.specs.Readers.Calls.{reply_due, user}
-use Rattle.dsql_clients.specs.Readers.Owed.{fate, fate_when, owed}
+use Rattle.dsql_clients.specs.Readers.Owed.{fate, fate_when}
 use Rattle.dsql_clients.specs.Readers.Pool.{place, pool}
 use Rattle.dsql_clients.specs.Readers.Unfinished.{is_unfinished}
 use Rattle.dsql_clients.specs.Rules.Flights.{is_in_flight, without_flight}
-use Rattle.dsql_clients.specs.Rules.Line.{due_for, is_used, may_come, sends_from}
+use Rattle.dsql_clients.specs.Rules.Line.{due_for, sends_from}
 use Rattle.dsql_clients.specs.Rules.Moves.{hears_in}
 use Rattle.dsql_clients.specs.Rules.Settled.{Settled, goes_on_but, is_settled_but, owes_nothing, uses_what_is_lent}
 use Rattle.dsql_clients.specs.Legal.{Allowed, Lawful}
-use Rattle.dsql_client_laws.specs.OwedMade.{with_moves}
 use Rattle.dsql_client_laws.proofs.Numbered.{unfinished_from_one}
 use Rattle.dsql_client_laws.proofs.OwedAllowed.{owed_made}
 use Rattle.dsql_client_laws.proofs.Tests.{both}
 use Rattle.dsql_client_calls.proofs.Owed.{few_next}
-use Rattle.dsql_client_lines.specs.UnderWay.{StaysWithItsCall}
 use Rattle.dsql_client_lines.proofs.Following.{none_bad, stays_with_its_call}
 use Rattle.dsql_client_moves.proofs.House.{answer_carried}
 use Rattle.dsql_steps.specs.Groups.{after_settling, gone_on, heard_at, let_go, with_owed}
@@ -38,7 +36,7 @@ use Rattle.dsql_client_desk.proofs.Fates.{fate_heard}
 use Rattle.dsql_client_going.specs.Reaching.{CanPay}
 use Rattle.dsql_client_going.specs.Stepping.{events_of_a_step}
 use Rattle.dsql_client_hearing.specs.declared.hear.Hearing.{Hearing}
-use Rattle.dsql_client_hearing.specs.Hearing.{IsReadyFor, IsWelcome, MayHear, lent_to}
+use Rattle.dsql_client_hearing.specs.Hearing.{IsWelcome, MayHear, lent_to}
 use Rattle.dsql_client_hearing.proofs.Letting.{LentTo, comes_there, same_let_go, statement_stays}
 use Rattle.dsql_client_hearing.proofs.Welcome.{house_number, owner_there}
 

@@ -1,6 +1,5 @@
 -- An answer that is welcome may come next, at a free moment.
-use Rattle.std.proofs.Common.{◌≡◌, ◌≢◌, ℕ, ◌==◌, Bool, true, false, not, ◌&&◌, ◌||◌, List, [], ◌∷◌, Option, Some, None, is_some, refl, sym, ap, subst, ◌∙◌}
-use Rattle.dsql_driver.specs.declared.answer.DriverAnswer.{DriverAnswer}
+use Rattle.std.proofs.Common.{◌≡◌, ℕ, ◌==◌, Bool, true, false, not, ◌&&◌, ◌||◌, List, [], ◌∷◌, Option, Some, None, is_some, refl, sym, ap, subst, ◌∙◌}
 use Rattle.dsql_driver.specs.declared.call.DriverCall.{DriverCall}
 use Rattle.dsql_driver.specs.declared.call.DriverCall.TheVariants.{Connect, Next, Query, Shut}
 use Rattle.dsql_driver.specs.Fits.{fits_of, is_memory}
@@ -8,7 +7,7 @@ use Rattle.dsql_driver.specs.Kinds.{is_connect, is_shut}
 use Rattle.dsql_journal.specs.declared.entry.Entry.{Entry}
 use Rattle.dsql_journal.specs.declared.entry.Owner.{Owner}
 use Rattle.dsql_journal.specs.declared.entry.Owner.TheVariants.{Call, Tx, Pin, House}
-use Rattle.dsql_journal.specs.Entries.{connect_entry, house_entry, shut_entry}
+use Rattle.dsql_journal.specs.Entries.{house_entry}
 use Rattle.dsql_journal.specs.HandlesAndCursors.{fits_at_its_place, gives_new_cursor, gives_new_handle, has_width_of_cursor, is_fitting, is_heard}
 use Rattle.dsql_journal.specs.Journal.{may_follow}
 use Rattle.dsql_journal.specs.Kinds.{is_house, same_owner}

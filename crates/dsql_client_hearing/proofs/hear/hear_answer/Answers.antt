@@ -1,6 +1,6 @@
-use Rattle.std.proofs.Common.{◌≡◌, ◌≢◌, ◌<◌, Some, None, false, sym, ap, subst, ◌∙◌, arith}
+use Rattle.std.proofs.Common.{◌≡◌, Some, None, sym, ap, subst, ◌∙◌, arith}
 use Rattle.dsql_clients.specs.Readers.Pool.{place}
-use Rattle.dsql_clients.specs.Rules.Flights.{is_in_flight, without_flight}
+use Rattle.dsql_clients.specs.Rules.Flights.{is_in_flight}
 use Rattle.dsql_client_desk.specs.Desk.{past, Stands}
 use Rattle.dsql_client_going.specs.Stepping.{GoesOnOrRests}
 use Rattle.dsql_client_going.specs.declared.next.Next.TheVariants.{Quiet}

@@ -1,11 +1,10 @@
-use Rattle.std.proofs.Common.{◌≡◌, ◌≢◌, ◌∷◌, true, false, refl, sym, ap, subst, ◌∙◌, arith}
+use Rattle.std.proofs.Common.{◌≡◌, ◌≢◌, ◌∷◌, true, false, sym, ap, subst, ◌∙◌, arith}
 use Rattle.std.proofs.lemmas.Bool.Decides.{nat_tests}
 use Rattle.dsql_clients.specs.declared.event.Event.TheVariants.{Heard}
 use Rattle.dsql_clients.specs.Readers.Calls.{user}
 use Rattle.dsql_clients.specs.Readers.Owed.{fate}
 use Rattle.dsql_clients.specs.Readers.Unfinished.{is_unfinished}
 use Rattle.dsql_clients.specs.Rules.Line.{is_used}
-use Rattle.dsql_clients.specs.Rules.Settled.{is_settled_but}
 use Rattle.dsql_clients.specs.Legal.{Lawful}
 use Rattle.dsql_client_laws.specs.Leaving.{MayLeave}
 use Rattle.dsql_steps.specs.Groups.{gone_on, let_go}

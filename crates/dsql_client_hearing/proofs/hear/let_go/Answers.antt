@@ -1,4 +1,4 @@
-use Rattle.std.proofs.Common.{◌≡◌, Bool, true, false, not, cond, refl, sym, ap, ◌∙◌, arith}
+use Rattle.std.proofs.Common.{◌≡◌, Bool, true, false, cond, sym, ap, ◌∙◌, arith}
 use Rattle.dsql_clients.specs.Readers.Owed.{given_back}
 use Rattle.dsql_clients.specs.Rules.Line.{is_used}
 use Rattle.dsql_client_laws.specs.OwedMade.{with_moves}
