@@ -1,6 +1,5 @@
 use Rattle.std.proofs.Common.{◌∷◌, ap, subst, ◌∙◌}
 use Rattle.dsql_clients.specs.declared.event.Event.TheVariants.{Entered}
-use Rattle.dsql_clients.specs.Readers.Calls.{next_call}
 use Rattle.dsql_client_desk.specs.Desk.{past}
 use Rattle.dsql_client_going.specs.Reaching.{HasGoneOn}
 use Rattle.dsql_steps.specs.Groups.{gone_on, with_owed}
