@@ -1,0 +1,12 @@
+//! The layer's core for several clients: calls enter and go on, answers are taken in, limits are set and the run ends,
+//! one step at a time. The history is legal after each step.
+#![tactic(auto)]
+
+mod engine;
+mod outside;
+mod paying;
+mod permits;
+
+pub use dsql_client_desk::NoRoom;
+pub use dsql_client_going::{Next, Why};
+pub use engine::{Engine, HeardBack};
