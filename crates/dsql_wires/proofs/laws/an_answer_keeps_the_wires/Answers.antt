@@ -1,0 +1,17 @@
+use Rattle.std.proofs.Common.{◌∷◌, ◌++◌}
+use Rattle.dsql_clients.specs.declared.event.Event.TheVariants.{Heard}
+use Rattle.dsql_wires.proofs.Asking.{wire_fits, performed_fits, performed_told}
+use Rattle.dsql_wires.proofs.Telling.{tells_none}
+use Rattle.dsql_wires.proofs.laws.an_answer_keeps_the_wires.Goals as goal
+
+pub returns-clause-fits : goal.returns-clause-fits
+returns-clause-fits g c = λ telling p e past ws is fit fits. wire_fits g.W.Wire.told telling past p e ws fit is fits
+
+pub returns-clause-wires : goal.returns-clause-wires
+returns-clause-wires g c = performed_fits g.W.Wire.told
+
+pub returns-clause-told : goal.returns-clause-told
+returns-clause-told g c = performed_told
+
+pub returns-clause-tells : goal.returns-clause-tells
+returns-clause-tells g c = λ fleet p e more past is opens shuts quiet. tells_none fleet past (more ++ Heard e ∷ past) (performed_told p e more past is opens shuts quiet)

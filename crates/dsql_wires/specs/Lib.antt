@@ -1,0 +1,4 @@
+pub mod WiresFit
+pub mod Asked
+pub mod Told
+pub mod Extends

@@ -1,0 +1,68 @@
+-- Which connections have a wire, and what each wire has heard.
+use Rattle.std.specs.Prelude.{ℕ, ◌≡◌, Bool, true, not, ◌&&◌, List, [], ◌∷◌, slice_index_or, Option, Some, None, is_some, IfSome, MatchBool}
+use Rattle.std.specs.List.{list_any}
+use Rattle.dsql_driver.specs.Fits.{is_done}
+use Rattle.dsql_driver.specs.Kinds.{is_connect}
+use Rattle.dsql_driver.specs.Wires.{WireTold, told_after}
+use Rattle.dsql_journal.specs.declared.entry.Entry.{Entry}
+use Rattle.dsql_journal.specs.Readers.{was_shut}
+use Rattle.dsql_clients.specs.declared.event.Event.{Event}
+use Rattle.dsql_clients.specs.Readers.Journals.{journal}
+use Rattle.dsql_wire.specs.Journaled.{Journaled}
+
+-- the wire of connection c, if it has one
+abbrev pub slot : {W : Type 0} → List (Option W) → ℕ → Option W
+slot slots c = slice_index_or slots c None
+
+-- the Connect was answered Done
+abbrev pub was_opened : List Entry → Bool
+was_opened entries = list_any (λ x. is_connect x.call && is_done x.answer) entries
+
+-- the connection of this journal has a wire: it was opened, and not shut
+abbrev pub is_wired : List Entry → Bool
+is_wired entries = was_opened entries && not (was_shut entries)
+
+-- A wire of connection c with just this journal, which tells where all do; what it tells is its journal then, and no fault was planned on it.
+pub record IsWireOf {W : Type 0} (heard : W → Option WireTold) (telling : Bool) (c : ℕ) (entries : List Entry) (wire : Journaled W) : Type 0 where
+  pub conn : wire.conn ≡ c
+  pub journal : wire.journal ≡ entries
+  pub unplanned : IfSome (heard wire.wire) (λ told. told.plans ≡ [])
+  pub tells : telling ≡ true → is_some (heard wire.wire) ≡ true
+
+-- there is a wire, and it is one of connection c with just this journal
+abbrev pub HoldsWire : {W : Type 0} → (W → Option WireTold) → Bool → ℕ → List Entry → Option (Journaled W) → Type 0
+HoldsWire heard telling c entries None = ⊥
+HoldsWire heard telling c entries (Some wire) = IsWireOf heard telling c entries wire
+
+-- What the slot of connection c holds: its wire with its journal, or nothing.
+abbrev pub FitsAt : {W : Type 0} → (W → Option WireTold) → Bool → ℕ → List Entry → Option (Journaled W) → Type 0
+FitsAt heard telling c entries wire = MatchBool (is_wired entries) (HoldsWire heard telling c entries wire) (wire ≡ None)
+
+-- Each connection that was opened and not shut has its wire, whose journal is the connection's. No other has one.
+abbrev pub WiresFit : {W : Type 0} → (W → Option WireTold) → Bool → List Event → List (Option (Journaled W)) → Type 0
+WiresFit heard telling past slots = (c : ℕ) → FitsAt heard telling c (journal past c) (slot slots c)
+
+-- a wire hears one entry more
+pub record Hears {W : Type 0} (heard : W → Option WireTold) (e : Entry) (before after : Journaled W) : Type 0 where
+  pub conn : after.conn ≡ before.conn
+  pub journal : after.journal ≡ e ∷ before.journal
+  pub told : heard after.wire ≡ told_after e.call e.answer (heard before.wire)
+
+-- the wire in a slot hears one entry more
+abbrev pub HearsEntry : {W : Type 0} → (W → Option WireTold) → Entry → Option (Journaled W) → Option (Journaled W) → Type 0
+HearsEntry heard e (Some before) (Some after) = Hears heard e before after
+HearsEntry heard e _ _ = ⊥
+
+-- a wire has heard what it had
+pub record SameHeard {W : Type 0} (heard : W → Option WireTold) (before after : Journaled W) : Type 0 where
+  pub conn : after.conn ≡ before.conn
+  pub journal : after.journal ≡ before.journal
+  pub told : heard after.wire ≡ heard before.wire
+
+-- where the Connect was answered Done there is a new wire, whose journal is that entry, and else none
+abbrev pub OpensWire : {W : Type 0} → (W → Option WireTold) → Bool → Entry → Option (Journaled W) → Type 0
+OpensWire heard telling e wire = MatchBool (is_done e.answer) (HoldsWire heard telling e.conn (e ∷ []) wire) (wire ≡ None)
+
+-- wires that fit the old history fit the new one afterwards, whether all tell or not
+abbrev pub KeepsFit : {W : Type 0} → (W → Option WireTold) → List Event → List Event → List (Option (Journaled W)) → List (Option (Journaled W)) → Type 0
+KeepsFit heard old new before after = (telling : Bool) → WiresFit heard telling old before → WiresFit heard telling new after
