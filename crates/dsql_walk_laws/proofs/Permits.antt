@@ -50,18 +50,22 @@ full_stays n c before after g h = by (is_in_flight n before) refl h
     by true is k = or_first (is_in_flight n after) (has_flight c after) (any_stays (λ flight. flight.call == n) before after g is)
     by false is k = or_second (is_in_flight n after) (has_flight c after) (any_stays (λ flight. flight.conn == c) before after g k)
 
+-- a call is in flight once its permit is
+pub joins_flight : (n c : ℕ) (flights : List Flight) → is_in_flight n (flights ++ record { call = n; conn = c } ∷ []) ≡ true
+joins_flight n c flights =
+    let new : List Flight = record { call = n; conn = c } ∷ [] in
+    list_any-append (λ flight. flight.call == n) flights new ∙ or_second (is_in_flight n flights) (is_in_flight n new) (or_first (n == n) false (same_itself n))
+
 -- with its permit there is one
 full_then : (n c : ℕ) (flights : List Flight) → is_full n c (with_flight n c flights) ≡ true
 full_then n c flights = by (is_full n c flights) refl
   where
-    new : Flight
-    new = record { call = n; conn = c }
+    more : List Flight
+    more = flights ++ record { call = n; conn = c } ∷ []
 
-    by : (b : Bool) → is_full n c flights ≡ b → is_full n c (cond b flights (flights ++ new ∷ [])) ≡ true
+    by : (b : Bool) → is_full n c flights ≡ b → is_full n c (cond b flights more) ≡ true
     by true is = is
-    by false is =
-        or_first (is_in_flight n (flights ++ new ∷ [])) (has_flight c (flights ++ new ∷ []))
-        (list_any-append (λ flight. flight.call == n) flights (new ∷ []) ∙ or_second (is_in_flight n flights) (is_in_flight n (new ∷ [])) (or_first (n == n) false (same_itself n)))
+    by false is = or_first (is_in_flight n more) (has_flight c more) (joins_flight n c flights)
 
 longer : (flights : List Flight) (new : Flight) → flights ++ new ∷ [] ≡ flights → length flights + 1 ≡ length flights
 longer flights new same = sym (length-append flights (new ∷ [])) ∙ ap length same
