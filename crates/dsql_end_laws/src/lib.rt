@@ -1,0 +1,5 @@
+//! Laws of lawful histories of several clients, up to their ends: which call is whose, who has run out, and what is
+//! left once the run is over. Each law is the contract of a function that does nothing.
+#![tactic(auto)]
+
+pub mod clients;
