@@ -1,3 +1,9 @@
 pub mod Finds
 pub mod Whose
 pub mod Steps
+pub mod RunOut
+pub mod Wanters
+pub mod Enders
+pub mod Senders
+pub mod Left
+pub mod Ended

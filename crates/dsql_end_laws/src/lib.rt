@@ -3,3 +3,5 @@
 #![tactic(auto)]
 
 pub mod clients;
+pub mod over;
+pub mod quiet;

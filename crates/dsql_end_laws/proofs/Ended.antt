@@ -1,0 +1,185 @@
+-- Once the run has ended and has run out, no call is left, no connection is open, and each journal is whole.
+use Rattle.std.proofs.Common.{◌≡◌, ◌≢◌, ℕ, ◌==◌, ◌⊎◌, inl, inr, Bool, true, false, not, ◌&&◌, ◌||◌, cond, List, [], ◌∷◌, length, Option, Some, None, is_some, is_none, refl, sym, ap, ◌∙◌}
+use Rattle.std.specs.Prelude.{find}
+use Rattle.std.specs.List.{list_all}
+use Rattle.std.specs.Option.{option_map}
+use Rattle.dsql_course.specs.declared.course.Wish.TheVariants as wishes
+use Rattle.dsql_journal.specs.Journal.{IsWhole}
+use Rattle.dsql_journal.specs.Readers.{has, is_empty}
+use Rattle.dsql_journal.specs.declared.entry.Owner.{Owner}
+use Rattle.dsql_journal.specs.declared.entry.Owner.TheVariants.{Call, Tx, Pin, House}
+use Rattle.dsql_journal.specs.Kinds.{is_call}
+use Rattle.dsql_rows.specs.declared.rows.Rows.{Rows}
+use Rattle.dsql_wait.specs.Requests.{waits}
+use Rattle.dsql_pool.specs.declared.conn.Conn.{Conn}
+use Rattle.dsql_pool.specs.declared.conn.Place.{Place}
+use Rattle.dsql_pool.specs.declared.conn.Place.TheVariants.{Idle, Lent, Opening, Closing}
+use Rattle.dsql_pool.specs.Places.{conn_of, is_closing, is_for, is_idle, is_opening}
+use Rattle.dsql_pool.specs.Rest.{times}
+use Rattle.dsql_clients.specs.declared.event.Event.{Event}
+use Rattle.dsql_clients.specs.declared.record.Flight.{Flight}
+use Rattle.dsql_clients.specs.Readers.Calls.{decided, site, told_by_others}
+use Rattle.dsql_clients.specs.Readers.Course.{has_ended}
+use Rattle.dsql_clients.specs.Readers.HandedOut.{are_live, ender, live, over, rows_by}
+use Rattle.dsql_clients.specs.Readers.Journals.{journal}
+use Rattle.dsql_clients.specs.Readers.Pool.{place, pool, smallest}
+use Rattle.dsql_clients.specs.Readers.Unfinished.{is_unfinished, unfinished}
+use Rattle.dsql_clients.specs.Rules.House.{has_no_chore, is_untidy}
+use Rattle.dsql_clients.specs.Rules.Line.{due_for, is_used, line_of, tidying}
+use Rattle.dsql_clients.specs.Rules.Stands.{is_waiting, stand}
+use Rattle.dsql_clients.specs.Legal.{Lawful, Legal}
+use Rattle.dsql_client_laws.proofs.AtRest.{rests_owing_nothing}
+use Rattle.dsql_client_laws.proofs.Tests.{both, same_itself, together}
+use Rattle.dsql_client_lendings.proofs.Owners.{owner_is_call}
+use Rattle.dsql_client_calls.proofs.Closed.{closed_shut, ended_closed}
+use Rattle.dsql_client_calls.proofs.Ends.{over_once_ended, waits_only}
+use Rattle.dsql_client_calls.proofs.Lists.{same_or_not}
+use Rattle.dsql_client_heard.proofs.Answered.{lent_used}
+use Rattle.dsql_pool.proofs.Rows.{found_passes}
+use Rattle.dsql_end_laws.specs.Over.{HasRunOut, IsOver}
+use Rattle.dsql_end_laws.proofs.Left.{IsKnown, known}
+use Rattle.dsql_end_laws.proofs.RunOut.{no_chore, NoChore, quiet_where_run_out, unnumbered}
+use Rattle.dsql_end_laws.proofs.Senders.{attended, needed_over}
+
+-- each call has its reply: who has none waits, which nobody does for a closed database
+
+none_waits : (H : List Event) (n : ℕ) → (pool H).waiting ≡ [] → is_waiting (stand H n) ≡ true → ⊥
+none_waits H n none h =
+    let waiting = waits_only (waits n (pool H).waiting) (is_some (due_for H n)) (is_none (decided H n) && is_some (told_by_others H n)) (smallest (is_for n) (pool H)) (site H n) h in
+    let clash : false ≡ true = sym (ap (waits n) none) ∙ waiting in
+    cc
+
+none_left : (q : ℕ → Bool) (ns : List ℕ) → list_all q ns ≡ true → ((n : ℕ) → q n ≡ true → ⊥) → ns ≡ []
+none_left q [] h none = refl
+none_left q (n ∷ ns) h none = let a = both (q n) (list_all q ns) h in absurd (none n a.0)
+
+all_replied : (H : List Event) (flights : List Flight) → Legal H → has_ended H ≡ true → HasRunOut H flights → unfinished H ≡ []
+all_replied H flights legal ended out =
+    let b = both (list_all (λ n. is_waiting (stand H n)) (unfinished H)) (has_no_chore H) (quiet_where_run_out H flights legal.lawful legal.settled out) in
+    let shut = closed_shut H legal.lawful (ended_closed H ended) in
+    none_left (λ n. is_waiting (stand H n)) (unfinished H) b.0 (λ n waiting. none_waits H n shut.waiting waiting)
+
+-- where a connection stands so, one is found that does
+
+none_passes : (q : Conn → Bool) (conns : List Conn) → find q conns ≡ None → list_all (λ x. not (q x)) conns ≡ true
+none_passes q [] h = refl
+none_passes q (x ∷ xs) h = by (none_passes q xs) (q x) h
+  where
+    by : (find q xs ≡ None → list_all (λ y. not (q y)) xs ≡ true) → (b : Bool) → cond b (Some x) (find q xs) ≡ None → (not b && list_all (λ y. not (q y)) xs) ≡ true
+    by rest true k = absurd cc
+    by rest false k = rest k
+
+found_there : (H : List Event) (test : Place → Bool) (c : ℕ) (p : Place) → place H c ≡ Some p → test p ≡ true → smallest test (pool H) ≡ None → ⊥
+found_there H test c p is passes none = by (conn_of c (pool H).conns) refl is
+  where
+    by : (o : Option Conn) → conn_of c (pool H).conns ≡ o → option_map (λ (x : Conn). x.place) o ≡ Some p → ⊥
+    by None found at = cc
+    by (Some x) found at =
+        let there : x.place ≡ p = cc in
+        let all = none_passes (λ (y : Conn). test y.place) (pool H).conns (unnumbered (find (λ (y : Conn). test y.place) (pool H).conns) none) in
+        let fails : not (test x.place) ≡ true = found_passes (λ (y : Conn). not (test y.place)) c x (pool H).conns all found in
+        let clash : false ≡ true = sym (ap not (ap test there ∙ passes)) ∙ fails in
+        cc
+
+-- what is known once it has run out
+record Ends (H : List Event) : Type 0 where
+  lawful : Lawful H
+  legal : Legal H
+  ended : has_ended H ≡ true
+  replied : unfinished H ≡ []
+  chores : NoChore H
+
+-- none is idle in a closed pool at rest
+
+none_idle : (H : List Event) (c : ℕ) → Ends H → place H c ≡ Some Idle → ⊥
+none_idle H c ends is =
+    let settled = ends.legal.settled in
+    let rest = rests_owing_nothing H ends.lawful settled.nothing_owed in
+    let counted : times c (pool H).idle ≡ 1 = rest.placed c ∙ ap (λ (at : Option Place). cond {A = ℕ} (is_idle at) 1 0) is in
+    let b = both (is_empty (pool H).idle) (is_empty (pool H).waiting) (closed (pool H).closed (ended_closed H ends.ended) rest.none) in
+    none_of (pool H).idle b.0 counted
+  where
+    closed : (b : Bool) → b ≡ true → (not b || (is_empty (pool H).idle && is_empty (pool H).waiting)) ≡ true → (is_empty (pool H).idle && is_empty (pool H).waiting) ≡ true
+    closed true is_so h = h
+    closed false is_so h = absurd cc
+
+    none_of : (ns : List ℕ) → is_empty ns ≡ true → times c ns ≡ 1 → ⊥
+    none_of [] h k = cc
+    none_of (n ∷ ns) h k = cc
+
+-- a lent connection is in use, and whoever would use it is gone
+
+not_unfinished : (H : List Event) (n : ℕ) → unfinished H ≡ [] → is_unfinished H n ≡ true → ⊥
+not_unfinished H n none u = let clash : false ≡ true = sym (ap (λ (ns : List ℕ). has n ns) none) ∙ u in cc
+
+untidy_over : (H : List Event) (n : ℕ) → over (rows_by H n) ≡ true → ender H n ≡ 0 → is_some (line_of H n wishes.Close) ≡ true → is_some (tidying H n) ≡ true
+untidy_over H n gone none line =
+    let untidy : (over (rows_by H n) && (ender H n == 0)) ≡ true = together (over (rows_by H n)) (ender H n == 0) gone (ap (λ k. k == 0) none) in
+    ap (λ (b : Bool). is_some (cond b (line_of H n wishes.Close) None)) untidy ∙ line
+
+none_lent_to : (H : List Event) (c t n : ℕ) → Ends H → place H c ≡ Some (Lent t (Call n)) → ⊥
+none_lent_to H c t n ends is = by (rows_by H n) refl
+  where
+    used : is_used H n ≡ true
+    used = let settled = ends.legal.settled in lent_used H c t (Call n) settled.used is
+
+    dead : are_live H n ≡ false
+    dead = let o = over_once_ended H ends.lawful ends.ended in o.live n
+
+    closes : over (rows_by H n) ≡ true → (ender H n ≡ 0) ⊎ (ender H n ≢ 0) → ⊥
+    closes gone (inl none) =
+        let chores = ends.chores in
+        found_there H (is_untidy H) c (Lent t (Call n)) is (untidy_over H n gone none (needed_over H n gone used)) chores.tidy
+    closes gone (inr some) = let a = attended H ends.lawful in not_unfinished H (ender H n) ends.replied (a.ended c t n is some)
+
+    by : (o : Option Rows) → rows_by H n ≡ o → ⊥
+    by None none = let a = attended H ends.lawful in not_unfinished H n ends.replied (a.unmade c t n is none)
+    by (Some r) some = closes (over_of (rows_by H n) dead (ap (λ (o : Option Rows). is_some o) some)) (same_or_not (ender H n) 0)
+      where
+        over_of : (o : Option Rows) → live o ≡ false → is_some o ≡ true → over o ≡ true
+        over_of None d s = absurd cc
+        over_of (Some q) d s = ap not d
+
+none_lent : (H : List Event) (c t : ℕ) (owner : Owner) → Ends H → place H c ≡ Some (Lent t owner) → ⊥
+none_lent H c t owner ends is = by owner (owner_is_call H c t owner ends.lawful is) is
+  where
+    by : (o : Owner) → is_call o ≡ true → place H c ≡ Some (Lent t o) → ⊥
+    by (Call n) its at = none_lent_to H c t n ends at
+    by (Tx n) its at = absurd cc
+    by (Pin n) its at = absurd cc
+    by House its at = absurd cc
+
+nowhere : (H : List Event) (c : ℕ) → Ends H → place H c ≡ None
+nowhere H c ends = by (place H c) refl
+  where
+    chores : NoChore H
+    chores = ends.chores
+
+    by : (o : Option Place) → place H c ≡ o → o ≡ None
+    by None is = refl
+    by (Some Idle) is = absurd (none_idle H c ends is)
+    by (Some (Lent t owner)) is = absurd (none_lent H c t owner ends is)
+    by (Some (Opening wanted)) is = absurd (found_there H (λ at. is_opening (Some at)) c (Opening wanted) is refl chores.connect)
+    by (Some Closing) is = absurd (found_there H (λ at. is_closing (Some at)) c Closing is refl chores.shut)
+
+none_open : (conns : List Conn) → ((c : ℕ) → option_map (λ (x : Conn). x.place) (conn_of c conns) ≡ None) → length conns ≡ 0
+none_open [] none = refl
+none_open (x ∷ xs) none =
+    let here : option_map (λ (y : Conn). y.place) (conn_of x.number (x ∷ xs)) ≡ Some x.place =
+    ap (λ (b : Bool). option_map (λ (y : Conn). y.place) (cond b (Some x) (conn_of x.number xs))) (same_itself x.number)
+    in
+    let clash : Some x.place ≡ None = sym here ∙ none x.number in
+    absurd cc
+
+whole_or_silent : (H : List Event) (c : ℕ) → Ends H → (journal H c ≡ []) ⊎ IsWhole (journal H c)
+whole_or_silent H c ends = by (known H c ends.lawful)
+  where
+    by : IsKnown H c → (journal H c ≡ []) ⊎ IsWhole (journal H c)
+    by (inl silent) = inl silent
+    by (inr (inl there)) = let clash : false ≡ true = sym (ap (λ (o : Option Place). is_some o) (nowhere H c ends)) ∙ there in absurd cc
+    by (inr (inr left)) = let keeps = ends.legal.journals in inr (keeps.wholes c left)
+
+pub over_where_run_out : (H : List Event) (flights : List Flight) → Legal H → has_ended H ≡ true → HasRunOut H flights → IsOver H
+over_where_run_out H flights legal ended out =
+    let ends : Ends H = record { lawful = legal.lawful; legal = legal; ended = ended; replied = all_replied H flights legal ended out; chores = no_chore H out.idle } in
+    record { replied = ends.replied; none_open = none_open (pool H).conns (λ c. nowhere H c ends); nowhere = λ c. nowhere H c ends; whole = λ c. whole_or_silent H c ends }

@@ -1,0 +1,190 @@
+-- Who wants a connection, and who is lent one, has no reply yet.
+use Rattle.std.proofs.Common.{◌≡◌, ◌≢◌, ℕ, zero, suc, ◌≤◌, ◌⊎◌, inl, inr, Bool, true, false, not, ◌&&◌, ◌||◌, cond, List, [], ◌∷◌, Option, Some, None, is_some, is_none, refl, sym, ap, subst, ◌∙◌, arith}
+use Rattle.std.specs.Prelude.{count_by, find}
+use Rattle.std.specs.List.{list_any}
+use Rattle.std.specs.Option.{option_map}
+use Rattle.dsql_course.specs.Made.{or_else}
+use Rattle.dsql_journal.specs.declared.entry.Owner.{Owner}
+use Rattle.dsql_wait.specs.Requests.{waits}
+use Rattle.dsql_pool.specs.declared.conn.Conn.{Conn}
+use Rattle.dsql_pool.specs.declared.moves.Move.TheVariants.{Lend}
+use Rattle.dsql_pool.specs.Calls.{wants}
+use Rattle.dsql_pool.specs.Places.{is_for}
+use Rattle.dsql_pool.specs.Pooled.{Pooled}
+use Rattle.dsql_pool.proofs.Frees.{count-cons}
+use Rattle.dsql_history.specs.Readers.Works.{asks}
+use Rattle.dsql_clients.specs.declared.event.Event.{Event}
+use Rattle.dsql_clients.specs.declared.event.Event.TheVariants.{Run, Entered, Heard, Pool, Waits, SetLimit, Replied, Ended}
+use Rattle.dsql_clients.specs.declared.event.Op.TheVariants.{DbClose}
+use Rattle.dsql_clients.specs.declared.reply.DbEnd.{DbEnd}
+use Rattle.dsql_clients.specs.declared.reply.Reply.{Reply}
+use Rattle.dsql_clients.specs.declared.reply.Reply.TheVariants.{DbClosed, TooMany}
+use Rattle.dsql_clients.specs.Same.{is_reply}
+use Rattle.dsql_clients.specs.Readers.Calls.{reply_due, told_by_others, told_by_tries}
+use Rattle.dsql_clients.specs.Readers.Course.{db_end}
+use Rattle.dsql_clients.specs.Readers.Pool.{pool, smallest}
+use Rattle.dsql_clients.specs.Readers.Tries.{has_a_try, tries}
+use Rattle.dsql_clients.specs.Readers.Unfinished.{is_unfinished}
+use Rattle.dsql_clients.specs.Readers.Works.{work}
+use Rattle.dsql_clients.specs.Rules.Asking.{ask_outcome, is_too_many, may_ask}
+use Rattle.dsql_clients.specs.Rules.Line.{due_for}
+use Rattle.dsql_clients.specs.Rules.Replies.{has_cause, is_told_too_many}
+use Rattle.dsql_clients.specs.Rules.Settled.{is_settled_but}
+use Rattle.dsql_clients.specs.Legal.{Allowed, Lawful}
+use Rattle.dsql_client_laws.proofs.Counts.{waits_none}
+use Rattle.dsql_client_laws.proofs.Standing.{neither, none_opens}
+use Rattle.dsql_client_laws.proofs.Tests.{both, other_number}
+use Rattle.dsql_client_laws.proofs.Wanting.{is_opening_for, wanted, wanting_works}
+use Rattle.dsql_client_calls.proofs.Closed.{closed_shut, opens_for_none, stays_closed}
+use Rattle.dsql_client_calls.proofs.Lists.{same_or_not}
+use Rattle.dsql_client_calls.proofs.Nowhere.{told_own}
+use Rattle.dsql_client_calls.proofs.Told.{wanting_undecided}
+use Rattle.dsql_client_calls.proofs.Untried.{wants_untried}
+use Rattle.dsql_client_calls.proofs.Works.{enters_unfinished, stays_unfinished}
+use Rattle.dsql_client_lendings.proofs.Cases.{true_false}
+use Rattle.dsql_client_lendings.proofs.Wanted.{lent_nothing, wants_no_more}
+use Rattle.dsql_end_laws.proofs.RunOut.{unnumbered}
+
+-- who wants something is counted
+
+uncounted : (q : Conn → Bool) (conns : List Conn) → find q conns ≡ None → count_by q conns ≡ 0
+uncounted q [] h = refl
+uncounted q (x ∷ xs) h = by (uncounted q xs) (q x) refl h
+  where
+    by : (find q xs ≡ None → count_by q xs ≡ 0) → (b : Bool) → q x ≡ b → cond b (Some x) (find q xs) ≡ None → count_by q (x ∷ xs) ≡ 0
+    by rest true is k = absurd cc
+    by rest false is k =
+        let none = rest k in
+        let split = count-cons q x xs in
+        let here : cond {A = ℕ} (q x) 1 0 ≡ 0 = ap (λ (b : Bool). cond {A = ℕ} b 1 0) is in
+        omega (arith, none, split, here)
+
+none_counted : (n : ℕ) (p : Pooled) → waits n p.waiting ≡ false → smallest (is_for n) p ≡ None → wanted n p ≡ 0
+none_counted n p unwaiting unopened =
+    let waiting = waits_none n p.waiting unwaiting in
+    let opening = uncounted (is_opening_for n) p.conns (unnumbered (find (λ (x : Conn). is_for n x.place) p.conns) unopened) in
+    omega (arith, waiting, opening)
+
+counted_wants : (n : ℕ) (p : Pooled) → 1 ≤ wanted n p → wants n p ≡ true
+counted_wants n p some = by (wants n p) refl
+  where
+    by : (b : Bool) → wants n p ≡ b → b ≡ true
+    by true is = refl
+    by false is =
+        let b = neither (waits n p.waiting) (list_any (λ conn. is_for n conn.place) p.conns) is in
+        let none = none_counted n p b.0 (none_opens n p b.1) in
+        absurd (omega (arith, some, none))
+
+-- nobody wants anything of a database that something closed
+
+end_closes : (H : List Event) → is_some (db_end H) ≡ true → (pool H).closed ≡ true
+end_closes [] h = absurd cc
+end_closes (Ended ∷ H) h = refl
+end_closes (Entered client m DbClose ∷ H) h = refl
+end_closes (Entered client m op ∷ H) h = stays_closed H (Entered client m op) (end_closes H h)
+end_closes (Run version can ∷ H) h = stays_closed H (Run version can) (end_closes H h)
+end_closes (Heard e ∷ H) h = stays_closed H (Heard e) (end_closes H h)
+end_closes (Pool move ∷ H) h = stays_closed H (Pool move) (end_closes H h)
+end_closes (Waits n ∷ H) h = stays_closed H (Waits n) (end_closes H h)
+end_closes (SetLimit s k ∷ H) h = stays_closed H (SetLimit s k) (end_closes H h)
+end_closes (Replied n reply ∷ H) h = stays_closed H (Replied n reply) (end_closes H h)
+
+closed_to_all : (H : List Event) (n : ℕ) → Lawful H → (pool H).closed ≡ true → wanted n (pool H) ≡ 0
+closed_to_all H n l closed =
+    let shut = closed_shut H l closed in
+    none_counted n (pool H) (ap (waits n) shut.waiting) (opens_for_none H n l closed)
+
+-- so who wants something has nothing to reply
+
+-- what is known of a reply that may come
+pub record RepliesNow (H : List Event) (n : ℕ) (reply : Reply) : Type 0 where
+  pub unfinished : is_unfinished H n ≡ true
+  pub done : is_none (due_for H n) ≡ true
+  pub cause : has_cause H n reply ≡ true
+  pub settled : is_settled_but n H ≡ true
+
+pub replies_now : (H : List Event) (n : ℕ) (reply : Reply) → Allowed H (Replied n reply) → RepliesNow H n reply
+unfolding Allowed
+replies_now H n reply a =
+    let b = both (is_none (due_for H n)) (has_cause H n reply && is_settled_but n H) a.replies in
+    let c = both (has_cause H n reply) (is_settled_but n H) b.1 in
+    record { unfinished = a.numbers; done = b.0; cause = c.0; settled = c.1 }
+
+some_reply : (o : Option Reply) (reply : Reply) → is_reply o reply ≡ true → is_some o ≡ true
+some_reply None reply h = absurd cc
+some_reply (Some due) reply h = refl
+
+asked_in_vain : (H : List Event) (n : ℕ) (reply : Reply) → is_told_too_many H n reply ≡ true → may_ask H n ≡ true
+asked_in_vain H n TooMany h = let b = both (may_ask H n) (is_too_many (ask_outcome H n)) h in b.0
+asked_in_vain H n reply h = absurd cc
+
+asks_unwanting : (H : List Event) (n : ℕ) → may_ask H n ≡ true → wants n (pool H) ≡ false
+asks_unwanting H n may =
+    let a = both (is_unfinished H n) (asks (work H n) && (has_a_try (tries H n) && (not (wants n (pool H)) && is_none (reply_due H n)))) may in
+    let b = both (asks (work H n)) (has_a_try (tries H n) && (not (wants n (pool H)) && is_none (reply_due H n))) a.1 in
+    let c = both (has_a_try (tries H n)) (not (wants n (pool H)) && is_none (reply_due H n)) b.1 in
+    let d = both (not (wants n (pool H))) (is_none (reply_due H n)) c.1 in
+    is_not (wants n (pool H)) d.0
+  where
+    is_not : (b : Bool) → not b ≡ true → b ≡ false
+    is_not true h = absurd cc
+    is_not false h = refl
+
+closed_by_some : (o : Option DbEnd) → is_some (option_map DbClosed o) ≡ true → is_some o ≡ true
+closed_by_some None h = absurd cc
+closed_by_some (Some end) h = refl
+
+-- nothing is settled that it replies, as long as the database is open
+wanting_silent : (H : List Event) (n : ℕ) → Lawful H → n ≢ 0 → 1 ≤ wanted n (pool H) → is_some (reply_due H n) ≡ true → ⊥
+wanting_silent H n l some now settled =
+    let own = wanting_works H n l some now in
+    let untried = wants_untried H n l some (counted_wants n (pool H) now) in
+    let others : is_some (told_by_others H n) ≡ true = sym (ap (λ (o : Option Reply). is_some (or_else o (told_by_others H n))) (wanting_undecided H n l some now)) ∙ settled in
+    let told : told_by_others H n ≡ told_by_tries H [] = told_own H n (work H n) own ∙ ap (told_by_tries H) untried in
+    let end : is_some (db_end H) ≡ true = closed_by_some (db_end H) (sym (ap (λ (o : Option Reply). is_some o) told) ∙ others) in
+    let none = closed_to_all H n l (end_closes H end) in
+    absurd (omega (arith, now, none))
+
+replies_wanting_none : (H : List Event) (n : ℕ) (reply : Reply) → Lawful H → n ≢ 0 → Allowed H (Replied n reply) → 1 ≤ wanted n (pool H) → ⊥
+replies_wanting_none H n reply l some a now = let r = replies_now H n reply a in by (is_reply (reply_due H n) reply) refl r.cause
+  where
+    by : (b : Bool) → is_reply (reply_due H n) reply ≡ b → (b || is_told_too_many H n reply) ≡ true → ⊥
+    by true is h = wanting_silent H n l some now (some_reply (reply_due H n) reply is)
+    by false is h = true_false (wants n (pool H)) (counted_wants n (pool H) now) (asks_unwanting H n (asked_in_vain H n reply h))
+
+-- Who wants a connection has no reply.
+
+asks_unfinished : (H : List Event) (n : ℕ) → may_ask H n ≡ true → is_unfinished H n ≡ true
+asks_unfinished H n may = let a = both (is_unfinished H n) (asks (work H n) && (has_a_try (tries H n) && (not (wants n (pool H)) && is_none (reply_due H n)))) may in a.0
+
+-- who may ask or wants something has no reply
+asks_or_wants : (H : List Event) (n : ℕ) → (1 ≤ wanted n (pool H) → is_unfinished H n ≡ true) → ((may_ask H n ≡ true → ⊥) → wanted n (pool H) ≡ 0 → ⊥) → is_unfinished H n ≡ true
+asks_or_wants H n had neither_one = by (may_ask H n) (wanted n (pool H)) refl refl
+  where
+    by : (b : Bool) (k : ℕ) → may_ask H n ≡ b → wanted n (pool H) ≡ k → is_unfinished H n ≡ true
+    by true k may so_many = asks_unfinished H n may
+    by false zero may so_many = absurd (neither_one (λ asks. true_false (may_ask H n) asks may) so_many)
+    by false (suc k) may so_many = had (omega (arith, so_many))
+
+pub still_without_reply : (H : List Event) (e : Event) (n : ℕ) → ((reply : Reply) → e ≡ Replied n reply → ⊥) → is_unfinished H n ≡ true → is_unfinished (e ∷ H) n ≡ true
+still_without_reply H (Replied m reply) n other u = by (same_or_not m n)
+  where
+    by : (m ≡ n) ⊎ (m ≢ n) → is_unfinished (Replied m reply ∷ H) n ≡ true
+    by (inl same) = absurd (other reply (ap (λ k. Replied k reply) same))
+    by (inr apart) = stays_unfinished H m reply n (other_number m n apart) u
+still_without_reply H (Entered client m op) n other u = enters_unfinished H client m op n u
+still_without_reply H e n other u = u
+
+pub wanting_unfinished : (H : List Event) (n : ℕ) → Lawful H → n ≢ 0 → 1 ≤ wanted n (pool H) → is_unfinished H n ≡ true
+wanting_unfinished [] n l some now = absurd (omega (arith, now))
+wanting_unfinished (e ∷ H) n l some now = still_without_reply H e n replied (before (wanting_unfinished H n l.0 some))
+  where
+    replied : (reply : Reply) → e ≡ Replied n reply → ⊥
+    replied reply is = replies_wanting_none H n reply l.0 some (subst (λ (d : Event). Allowed H d) is l.1) (subst (λ (d : Event). 1 ≤ wanted n (pool (d ∷ H))) is now)
+
+    before : (1 ≤ wanted n (pool H) → is_unfinished H n ≡ true) → is_unfinished H n ≡ true
+    before earlier = asks_or_wants H n earlier (λ silent none. let still = wants_no_more H e n l.1 some silent none in absurd (omega (arith, now, still)))
+
+-- and so has who is lent one
+pub lends_unfinished : (H : List Event) (c t : ℕ) (o : Owner) (n : ℕ) → Lawful H → Allowed H (Pool (Lend c t o n)) → n ≢ 0 → is_unfinished H n ≡ true
+lends_unfinished H c t o n l a some = asks_or_wants H n (wanting_unfinished H n l some) (lent_nothing H c t o n l a)

@@ -1,0 +1,14 @@
+//! What is left once the run is over. A history is read newest first.
+
+ghost use Rattle.std.specs.Prelude.{◌≡◌, true, List};
+ghost use Rattle.dsql_clients.specs.declared.event.Event.{Event};
+ghost use Rattle.dsql_clients.specs.declared.record.Flight.{Flight};
+ghost use Rattle.dsql_clients.specs.Readers.Course.{has_ended};
+ghost use Rattle.dsql_clients.specs.Legal.{Legal};
+ghost use Rattle.dsql_end_laws.specs.Over.{HasRunOut, IsOver};
+
+/// Once the run has ended, and no call may move and there is no chore, each call has its reply, no connection is open,
+/// and the journal of each that something was heard of is whole.
+pub fn a_run_that_ended_and_has_run_out_is_over()
+    ensures { (past : List Event) (flights : List Flight) → Legal past → has_ended past ≡ true → HasRunOut past flights → IsOver past }
+{}
