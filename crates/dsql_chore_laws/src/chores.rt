@@ -1,0 +1,38 @@
+//! The layer's own driver calls. A history is read newest first.
+
+ghost use Rattle.std.specs.Prelude.{◌≡◌, ◌≢◌, ℕ, true, false, List, Some, is_some};
+ghost use Rattle.dsql_driver.specs.Kinds.{is_connect, is_shut};
+ghost use Rattle.dsql_journal.specs.declared.entry.Entry.{Entry};
+ghost use Rattle.dsql_journal.specs.declared.entry.Permit.{Permit};
+ghost use Rattle.dsql_pool.specs.Places.{is_closing, is_lent, is_opening};
+ghost use Rattle.dsql_clients.specs.declared.event.Event.{Event};
+ghost use Rattle.dsql_clients.specs.Readers.Course.{has_ended};
+ghost use Rattle.dsql_clients.specs.Readers.Pool.{place};
+ghost use Rattle.dsql_clients.specs.Rules.Line.{may_come, tidying};
+ghost use Rattle.dsql_clients.specs.Rules.Settled.{owes_nothing};
+ghost use Rattle.dsql_clients.specs.Legal.{Lawful};
+ghost use Rattle.dsql_client_going.specs.Permits.{chore_permit};
+ghost use Rattle.dsql_chore_laws.specs.Chores.{MayBeMade};
+
+/// Rows that no call ended, and that are over, ended with the run. So the layer tidies up only after that.
+pub fn what_is_tidied_up_ended_with_the_run()
+    ensures { (history : List Event) (n : ℕ) → Lawful history → is_some (tidying history n) ≡ true → has_ended history ≡ true }
+{}
+
+/// Where nothing is owed the layer's own call on a connection may be made there, and each answer that fits is
+/// welcome.
+pub fn the_layers_own_calls_may_be_made()
+    ensures { (history : List Event) (c : ℕ) (permit : Permit) → Lawful history → owes_nothing history ≡ true → chore_permit history c ≡ Some permit → MayBeMade history c permit }
+{}
+
+/// Where the layer has a call of its own to make no answer to a client's call may come.
+pub fn the_layers_own_calls_meet_no_others()
+    ensures { (history : List Event) (c : ℕ) (permit : Permit) (e : Entry) → Lawful history → chore_permit history c ≡ Some permit → e.call_no ≢ 0 → may_come history e ≡ true → e.conn ≢ c }
+{}
+
+/// The layer connects what is being opened, shuts what is closing, and tidies up what is lent.
+pub fn chores_are_told_by_kind()
+    ensures connect { (history : List Event) (c : ℕ) (permit : Permit) → chore_permit history c ≡ Some permit → is_connect permit.call ≡ true → is_opening (place history c) ≡ true }
+    ensures shut { (history : List Event) (c : ℕ) (permit : Permit) → chore_permit history c ≡ Some permit → is_shut permit.call ≡ true → is_closing (place history c) ≡ true }
+    ensures tidy { (history : List Event) (c : ℕ) (permit : Permit) → chore_permit history c ≡ Some permit → is_connect permit.call ≡ false → is_shut permit.call ≡ false → is_lent (place history c) ≡ true }
+{}
