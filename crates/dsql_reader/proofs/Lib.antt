@@ -1,0 +1,12 @@
+pub mod Members
+pub mod Words
+pub mod Labels
+pub mod ScriptArrays
+pub mod ScriptClients
+pub mod ScriptLimits
+pub mod ScriptCaps
+pub mod ScriptTexts
+pub mod ScriptForms
+pub mod ScriptOnLiterals
+pub mod ScriptCalls
+pub mod LoneTexts

@@ -1,0 +1,56 @@
+-- Lines by their first word, which a program has behind a reference.
+use Rattle.std.proofs.Common.{◌≡◌, ◌≢◌, ℕ, ◌≤◌, ◌-◌, List, [], ◌∷◌, false, map, length, get_or, take, drop, Option, Some, None, codes, refl, inl, inr, arith, Bor}
+use Rattle.std.specs.Str.{bytes_eq}
+use Rattle.std.proofs.lemmas.Bool.{cases_Bool}
+use Rattle.std.proofs.lemmas.List.{take_all}
+use Rattle.std.proofs.lemmas.Slice.Eq.{bytes_eq-Decides}
+use Rattle.dsql_reader.specs.declared.script.Head.{Head}
+use Rattle.dsql_clients.specs.declared.event.Setting.TheVariants.{MaxOpen, MaxIdle}
+use Rattle.dsql_reader.specs.ScriptLines.{form_of, limit_alone, set_line, step_line, client_line}
+
+pub other_word : (a b : List ℕ) → a ≢ b → bytes_eq a b ≡ false
+other_word a b other = elim (cases_Bool (bytes_eq a b)) [ inl is ↦ absurd (other ((bytes_eq-Decides a b).0 is)) | inr is ↦ is ]
+
+abbrev pub texts : List (Bor (List ℕ)) → List (List ℕ)
+texts words = map (λ w. w.now) words
+
+-- Behind the first word are the others.
+
+pub form_of_maxopen : (head : Head) (words : List (Bor (List ℕ))) (array : Option (List ℕ)) (d : Bor (List ℕ)) → 1 ≤ length words → (get_or words 0 d).now ≡ codes "maxopen"
+    → form_of head (texts words) array ≡ set_line MaxOpen (texts (take (length words - 1) (drop 1 words))) array
+form_of_maxopen head [] array d some is = absurd (omega arith)
+form_of_maxopen head (first ∷ words) array d some is =
+    let all : take (length (first ∷ words) - 1) words ≡ words = take_all _ words (omega arith) in
+    rw (all, is) refl
+
+pub form_of_maxidle : (head : Head) (words : List (Bor (List ℕ))) (array : Option (List ℕ)) (d : Bor (List ℕ)) → 1 ≤ length words → (get_or words 0 d).now ≡ codes "maxidle"
+    → form_of head (texts words) array ≡ set_line MaxIdle (texts (take (length words - 1) (drop 1 words))) array
+form_of_maxidle head [] array d some is = absurd (omega arith)
+form_of_maxidle head (first ∷ words) array d some is =
+    let all : take (length (first ∷ words) - 1) words ≡ words = take_all _ words (omega arith) in
+    rw (all, is) refl
+
+pub form_of_step : (head : Head) (words : List (Bor (List ℕ))) (array : Option (List ℕ)) (d : Bor (List ℕ)) → 1 ≤ length words → (get_or words 0 d).now ≡ codes "step"
+    → form_of head (texts words) array ≡ step_line (texts (take (length words - 1) (drop 1 words))) array
+form_of_step head [] array d some is = absurd (omega arith)
+form_of_step head (first ∷ words) array d some is =
+    let all : take (length (first ∷ words) - 1) words ≡ words = take_all _ words (omega arith) in
+    rw (all, is) refl
+
+-- a line whose first word begins no other form is a client's
+pub form_of_client : (head : Head) (words : List (Bor (List ℕ))) (array : Option (List ℕ)) (d : Bor (List ℕ)) → 1 ≤ length words
+    → (get_or words 0 d).now ≢ codes "version" → (get_or words 0 d).now ≢ codes "caps"
+    → (get_or words 0 d).now ≢ codes "maxopen" → (get_or words 0 d).now ≢ codes "maxidle"
+    → (get_or words 0 d).now ≢ codes "start" → (get_or words 0 d).now ≢ codes "step"
+    → form_of head (texts words) array ≡ client_line false (get_or words 0 d).now (texts (take (length words - 1) (drop 1 words))) array
+form_of_client head [] array d some version caps maxopen maxidle start step = absurd (omega arith)
+form_of_client head (first ∷ words) array d some version caps maxopen maxidle start step =
+    let all : take (length (first ∷ words) - 1) words ≡ words = take_all _ words (omega arith) in
+    rw (all, other_word first.now (codes "version") version, other_word first.now (codes "caps") caps, other_word first.now (codes "maxopen") maxopen, other_word first.now (codes "maxidle") maxidle, other_word first.now (codes "start") start, other_word first.now (codes "step") step) refl
+
+-- more than one word is no limit
+pub limit_alone_of_more : (words : List (Bor (List ℕ))) (array : Option (List ℕ)) → 2 ≤ length words → limit_alone (texts words) array ≡ None
+limit_alone_of_more words (Some array) more = refl
+limit_alone_of_more [] None more = refl
+limit_alone_of_more (number ∷ []) None more = absurd (omega arith)
+limit_alone_of_more (number ∷ other ∷ words) None more = refl

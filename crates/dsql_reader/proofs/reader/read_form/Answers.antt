@@ -1,0 +1,24 @@
+use Rattle.std.specs.Option.{option_copied}
+use Rattle.dsql_reader.proofs.ScriptForms.{form_of_maxopen, form_of_maxidle, form_of_step, form_of_client}
+use Rattle.dsql_reader.proofs.reader.read_form.Goals as goal
+
+pub returns-in-maxopen : goal.returns-in-maxopen
+returns-in-maxopen c =
+    let set = form_of_maxopen c.args.head c.args.words.now (option_copied c.args.array) _ c.in-len1-up.len_at_least c.in-maxopen.is in
+    rw set c.read_set.ensures
+
+pub returns-in-maxidle : goal.returns-in-maxidle
+returns-in-maxidle c =
+    let set = form_of_maxidle c.args.head c.args.words.now (option_copied c.args.array) _ c.in-len1-up.len_at_least c.in-maxidle.is in
+    rw set c.read_set-in-maxidle.ensures
+
+pub returns-in-step : goal.returns-in-step
+returns-in-step c =
+    let step = form_of_step c.args.head c.args.words.now (option_copied c.args.array) _ c.in-len1-up.len_at_least c.in-step.is in
+    rw step c.read_step.ensures
+
+pub returns-in_default-first : goal.returns-in_default-first
+returns-in_default-first c =
+    let not = c.in_default-first in
+    let client = form_of_client c.args.head c.args.words.now (option_copied c.args.array) _ c.in-len1-up.len_at_least not.not-version not.not-caps not.not-maxopen not.not-maxidle not.not-start not.not-step in
+    rw client c.read_client.ensures

@@ -1,0 +1,157 @@
+-- What the lines of a script say, and why one is refused.
+use Rattle.std.specs.Prelude.{ℕ, ℤ, ◌==◌, ◌||◌, Bool, true, false, nat_lt, nat_le, List, [], ◌∷◌, length, codes, if◌then◌else◌, Option, Some, None, Result, Ok, Err}
+use Rattle.std.specs.List.{list_any}
+use Rattle.std.specs.Str.{bytes_eq, is_utf8}
+use Rattle.std.specs.Str.Lines.{strip_carriage_return}
+use Rattle.dsql_driver.specs.declared.caps.Caps.{Caps}
+use Rattle.dsql_clients.specs.declared.event.Op.{Op}
+use Rattle.dsql_clients.specs.declared.event.Op.TheVariants as op
+use Rattle.dsql_clients.specs.declared.event.Setting.{Setting}
+use Rattle.dsql_clients.specs.declared.event.Setting.TheVariants.{MaxOpen, MaxIdle}
+use Rattle.dsql_reader.specs.declared.fault.What.TheVariants.{Lines}
+use Rattle.dsql_reader.specs.declared.fault.LineFault.{LineFault}
+use Rattle.dsql_reader.specs.declared.fault.LineFault.TheVariants.{TooLong, NotUtf8, NoSuchWord, BadShape, UnknownLabel, LabelTaken, TooMany}
+use Rattle.dsql_reader.specs.declared.script.ScriptLine.{ScriptLine}
+use Rattle.dsql_reader.specs.declared.script.ScriptLine.TheVariants.{Skip, Version, UseCaps, Set, Client, Step, StepHouse}
+use Rattle.dsql_reader.specs.declared.script.Head.{Head}
+use Rattle.dsql_reader.specs.declared.script.Head.TheVariants.{First, Begun}
+use Rattle.dsql_reader.specs.ScriptCalls.{CallReading, call_of}
+use Rattle.dsql_reader.specs.ScriptHead.{Progress, is_version, caps_of}
+use Rattle.dsql_reader.specs.ScriptWords.{begins_with, words_of, array_of, limit_of, client_of}
+
+-- a line or the fault for which it is refused
+abbrev pub Reading : Type 0
+Reading = Result ScriptLine LineFault
+
+-- a call of a client, which is held or isn't
+abbrev pub client_call : Bool → ℕ → CallReading → Reading
+client_call held client (Ok op) = Ok (Client client op held)
+client_call held client (Err fault) = Err fault
+
+abbrev pub call_by_client : Bool → Option ℕ → CallReading → Reading
+call_by_client held None call = Err NoSuchWord
+call_by_client held (Some client) call = client_call held client call
+
+-- a client's line by its first word and those after it
+abbrev pub client_line : Bool → List ℕ → List (List ℕ) → Option (List ℕ) → Reading
+client_line held client words array = call_by_client held (client_of client) (call_of words array)
+
+-- a line of a call that is held, by the words after `start`: a client's line
+abbrev pub start_line : List (List ℕ) → Option (List ℕ) → Reading
+start_line [] array = Err NoSuchWord
+start_line (client ∷ words) array = client_line true client words array
+
+-- the number of a limit by the words after the first one: it alone, and no array
+abbrev pub limit_alone : List (List ℕ) → Option (List ℕ) → Option ℤ
+limit_alone words (Some array) = None
+limit_alone (number ∷ []) None = limit_of number
+limit_alone _ None = None
+
+abbrev pub set_or_fault : Setting → Option ℤ → Reading
+set_or_fault setting None = Err BadShape
+set_or_fault setting (Some n) = Ok (Set setting n)
+
+-- a line that sets a limit, by the words after the first one and its array
+abbrev pub set_line : Setting → List (List ℕ) → Option (List ℕ) → Reading
+set_line setting words array = set_or_fault setting (limit_alone words array)
+
+abbrev pub step_or_fault : Option ℕ → Reading
+step_or_fault None = Err BadShape
+step_or_fault (Some client) = Ok (Step client)
+
+-- a step by who makes it: the layer itself, or a client
+abbrev pub step_by : List ℕ → Reading
+step_by who = if bytes_eq who (codes "house") then Ok StepHouse else step_or_fault (client_of who)
+
+-- a line of a step, by the words after `step`: who makes it, and no array
+abbrev pub step_line : List (List ℕ) → Option (List ℕ) → Reading
+step_line words (Some array) = Err BadShape
+step_line (who ∷ []) None = step_by who
+step_line _ None = Err BadShape
+
+-- a version line by the words after the first one; it may stand before all but skipped lines
+abbrev pub version_line : Head → List (List ℕ) → Option (List ℕ) → Reading
+version_line First words None = if is_version words then Ok (Version 1) else Err BadShape
+version_line First words (Some array) = Err BadShape
+version_line _ words array = Err NoSuchWord
+
+abbrev pub caps_or_fault : Option Caps → Reading
+caps_or_fault None = Err BadShape
+caps_or_fault (Some caps) = Ok (UseCaps caps)
+
+-- a caps line by the words after the first one; it may stand before all but skipped lines and a version line
+abbrev pub caps_line : Head → List (List ℕ) → Option (List ℕ) → Reading
+caps_line Begun words array = Err NoSuchWord
+caps_line _ words None = caps_or_fault (caps_of words)
+caps_line _ words (Some array) = Err BadShape
+
+-- a line by its words and its array
+abbrev pub form_of : Head → List (List ℕ) → Option (List ℕ) → Reading
+form_of head [] array = Err NoSuchWord
+form_of head (first ∷ words) array =
+    if bytes_eq first (codes "version") then version_line head words array
+    else if bytes_eq first (codes "caps") then caps_line head words array
+    else if bytes_eq first (codes "maxopen") then set_line MaxOpen words array
+    else if bytes_eq first (codes "maxidle") then set_line MaxIdle words array
+    else if bytes_eq first (codes "start") then start_line words array
+    else if bytes_eq first (codes "step") then step_line words array
+    else client_line false first words array
+
+-- an empty line, or a comment
+abbrev pub is_skipped : List ℕ → Bool
+is_skipped text = length text == 0 || begins_with text (codes "#")
+
+abbrev pub text_of : Head → List ℕ → Reading
+text_of head text = if is_skipped text then Ok Skip else form_of head (words_of text) (array_of text)
+
+-- how many bytes a line may have before its line feed
+abbrev pub most_bytes : ℕ
+most_bytes = 4096
+
+-- a line before which few enough were read
+abbrev pub line_of : Head → List ℕ → Reading
+line_of head line = if nat_lt most_bytes (length line) then Err TooLong else (if is_utf8 line then text_of head (strip_carriage_return line) else Err NotUtf8)
+
+-- how many lines a script may have
+abbrev pub most_lines : ℕ
+most_lines = 10000
+
+-- the label stands among these
+abbrev pub is_among : List (List ℕ) → List ℕ → Bool
+is_among labels label = list_any (λ made. bytes_eq label made) labels
+
+-- the fault of a label that earlier lines have to have made, and of one that they may not have made
+abbrev pub unless_made : List (List ℕ) → List ℕ → Option LineFault
+unless_made labels rows = if is_among labels rows then None else Some UnknownLabel
+
+abbrev pub if_made : List (List ℕ) → List ℕ → Option LineFault
+if_made labels label = if is_among labels label then Some LabelTaken else None
+
+-- the fault of a call's label, where earlier lines made these
+abbrev pub label_fault : List (List ℕ) → Op → Option LineFault
+label_fault labels (op.Exec text args) = None
+label_fault labels (op.Query label text args) = if_made labels label
+label_fault labels (op.One dests text args) = None
+label_fault labels (op.Next rows) = unless_made labels rows
+label_fault labels (op.Scan rows dests) = unless_made labels rows
+label_fault labels (op.RowsClose rows) = unless_made labels rows
+label_fault labels (op.Err rows) = unless_made labels rows
+label_fault labels op.DbClose = None
+label_fault labels op.Stats = None
+
+abbrev pub line_fault : List (List ℕ) → ScriptLine → Option LineFault
+line_fault labels (Client client op held) = label_fault labels op
+line_fault labels _ = None
+
+abbrev pub unless_fault : ScriptLine → Option LineFault → Reading
+unless_fault line None = Ok line
+unless_fault line (Some fault) = Err fault
+
+-- a line that was read, where earlier lines made these labels
+abbrev pub among_labels : List (List ℕ) → Reading → Reading
+among_labels labels (Ok line) = unless_fault line (line_fault labels line)
+among_labels labels (Err fault) = Err fault
+
+-- what a line says, without its line feed, where the script was read so far before it: its label is looked at last
+abbrev pub read_of : Progress → List ℕ → Reading
+read_of before line = if nat_le most_lines before.lines then Err (TooMany Lines) else among_labels before.labels (line_of before.head line)
