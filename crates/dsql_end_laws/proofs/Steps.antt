@@ -20,7 +20,8 @@ use Rattle.dsql_client_laws.proofs.Splits.{Lawful-older}
 use Rattle.dsql_client_laws.proofs.Tests.{both, other_number, same_itself, same_number}
 use Rattle.dsql_client_calls.proofs.Lists.{same_or_not}
 use Rattle.dsql_client_calls.proofs.Works.{enters_next, new_record, old_unfinished, still_unfinished}
-use Rattle.dsql_end_laws.specs.Steps.{begins_step_of, is_later_of, IsStep}
+use Rattle.dsql_end_laws.specs.Steps.{begins_step_of, IsStep}
+use Rattle.dsql_walk_laws.specs.Groups.{is_later_of}
 use Rattle.dsql_end_laws.proofs.Whose.{busy_own, busy_unfinished, enters_free, idle_none, is_entry, is_of, kept_client, of_itself, old_client, one_call, same_client, unfinished_entered}
 use Rattle.dsql_end_laws.proofs.Finds.{any_of, found_same, found_without}
 

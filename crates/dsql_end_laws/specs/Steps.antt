@@ -1,16 +1,10 @@
 -- The events of a step, in which one call goes on.
-use Rattle.std.specs.Prelude.{ℕ, ◌≡◌, ◌==◌, Bool, true, false, List, [], ◌∷◌, ◌++◌}
+use Rattle.std.specs.Prelude.{ℕ, ◌≡◌, Bool, true, List, [], ◌∷◌, ◌++◌}
 use Rattle.std.specs.List.{list_all}
 use Rattle.dsql_clients.specs.declared.event.Event.{Event}
-use Rattle.dsql_clients.specs.declared.event.Event.TheVariants.{Heard, Pool, Waits, SetLimit, Replied, Ended}
+use Rattle.dsql_clients.specs.declared.event.Event.TheVariants.{Heard, SetLimit, Ended}
 use Rattle.dsql_clients.specs.Legal.{Lawful}
-
--- what comes behind the first event: moves of the pool, that call n waits, and its reply
-abbrev pub is_later_of : ℕ → Event → Bool
-is_later_of n (Pool move) = true
-is_later_of n (Waits m) = m == n
-is_later_of n (Replied m reply) = m == n
-is_later_of n _ = false
+use Rattle.dsql_walk_laws.specs.Groups.{is_later_of}
 
 -- a step begins with an answer, a limit or the end of the run, or call n goes on by itself
 abbrev pub begins_step_of : ℕ → Event → Bool
