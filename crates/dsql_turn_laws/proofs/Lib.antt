@@ -1,0 +1,10 @@
+mod Due
+mod Senders
+mod Flights
+mod Leave
+mod Later
+mod Keeping
+mod Begins
+mod Steps
+mod Turning
+mod Blocked
