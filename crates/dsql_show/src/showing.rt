@@ -1,0 +1,114 @@
+ghost use Rattle.std.specs.Prelude.{◌≡◌, ◌<◌, ◌≤◌, ℕ, List, [], Option, OnOk, OnErr, length, reverse};
+ghost use Rattle.dsql_report.specs.Lines.{text_of};
+ghost use Rattle.dsql_stream.specs.Faults.{CountsFaults};
+ghost use Rattle.dsql_show.specs.Report.{Shows, StopsBetween, is_sink_fault, oldest, with_text};
+ghost use Rattle.dsql_show.specs.declared.showing.ShowFault.TheVariants as faults;
+
+use dsql_clients::Event;
+use dsql_driver::Sink;
+use dsql_report::append_line;
+use dsql_stream::{Cut, write_whole};
+use dsql_value::Memory;
+use std::alloc::Global;
+use std::marker::Model;
+use thiserror::Error;
+
+/// Why not all of a report was written.
+#[derive(Clone, Copy, Debug, PartialEq, Eq, Error)]
+pub enum ShowFault {
+    /// The sink failed.
+    #[error("the write failed")]
+    Failed,
+    /// There was no memory for a line.
+    #[error("out of memory")]
+    Memory,
+}
+
+impl From<Cut> for ShowFault {
+    ghost from_gives = { λ _ fault. fault ≡ faults.Failed };
+
+    fn from(_cut: Cut) -> ShowFault {
+        ShowFault::Failed
+    }
+}
+
+impl From<Memory> for ShowFault {
+    ghost from_gives = { λ _ fault. fault ≡ faults.Memory };
+
+    fn from(_e: Memory) -> ShowFault {
+        ShowFault::Memory
+    }
+}
+
+/// How many events were shown, and the room in which the lines of the next ones are spelled. Contracts see
+/// the number.
+#[derive(Drop)]
+pub struct Shown {
+    count: usize,
+    lines: Vec<u8>,
+}
+
+impl Model for Shown {
+    ghost Value = { ℕ };
+
+    ghost view = { λ s. s.count };
+}
+
+impl Shown {
+    /// No event was shown. It takes no memory.
+    pub fn none(alloc: Global) -> Shown
+        ensures { result ≡ 0 }
+    {
+        Shown {
+            count: 0,
+            lines: Vec::new(alloc),
+        }
+    }
+}
+
+/// Spells the lines of events, which come oldest first, in place of what a buffer holds.
+fn spell(alloc: Global, events: &[Event], lines: &mut Vec<u8>) -> Result<(), Memory>
+    ensures ok { OnOk result (lines.new.items ≡ text_of (reverse events.now)) }
+    ensures err { OnErr result (0 < length events.now) }
+{
+    lines.clear();
+    for event in events {
+        append_line(alloc, event, lines)?;
+    }
+    Ok(())
+}
+
+/// Writes the lines of events, which come oldest first, in one piece that is spelled in the buffer.
+fn show_events<K: Sink>(
+    alloc: Global,
+    events: &[Event],
+    lines: &mut Vec<u8>,
+    output: &mut K,
+) -> Result<(), ShowFault>
+    ensures ok { OnOk result (K.written output.new ≡ with_text (K.written output.old) (text_of (reverse events.now))) }
+    ensures err { OnErr result (StopsBetween (K.written output.old) [] (text_of (reverse events.now)) (K.written output.new)) }
+    ensures faults { CountsFaults (is_sink_fault result) (K.faults output.old) (K.faults output.new) }
+{
+    spell(alloc, events, lines)?;
+    write_whole(output, lines.as_slice())?;
+    Ok(())
+}
+
+/// Writes the lines of a history's events that weren't shown, oldest first, and counts those that are.
+pub fn show<K: Sink>(
+    alloc: Global,
+    history: &[Event],
+    shown: &mut Shown,
+    output: &mut K,
+) -> Result<(), ShowFault>
+    requires { shown.old ≤ length history.now }
+    ensures ok { OnOk result (shown.new ≡ length history.now) }
+    ensures within { shown.new ≤ length history.now }
+    ensures shows { OnOk result ((w : Option (List ℕ)) → Shows w shown.old (reverse history.now) (K.written output.old) → K.written output.new ≡ with_text w (text_of (reverse history.now))) }
+    ensures stops { OnErr result ((w : Option (List ℕ)) → Shows w shown.old (reverse history.now) (K.written output.old) → StopsBetween w (text_of (oldest shown.old (reverse history.now))) (text_of (reverse history.now)) (K.written output.new)) }
+    ensures faults { CountsFaults (is_sink_fault result) (K.faults output.old) (K.faults output.new) }
+{
+    show_events(alloc, &history[shown.count..], &mut shown.lines, output)?;
+    shown.count = history.len();
+    Ok(())
+}
