@@ -5,3 +5,4 @@ pub mod Flying
 pub mod Chores
 pub mod Appended
 pub mod Stepped
+pub mod Lengths

@@ -39,7 +39,7 @@ impl Model for Engine {
     ghost use Rattle.std.specs.Prelude.{◌≡◌, true, false};
     ghost use Rattle.dsql_journal.specs.Readers.{is_empty};
     ghost use Rattle.dsql_clients.specs.Rules.Settled.{Settled};
-    ghost use Rattle.dsql_client_engine.specs.Core.{Core};
+    ghost use Rattle.dsql_client_engine.specs.Core.{Core, HasRoomForEnd};
     ghost use Rattle.dsql_client_going.specs.Stepping.{are_of_unfinished};
     ghost use Rattle.dsql_client_desk.specs.Desk.{past, Stands};
 
@@ -47,7 +47,7 @@ impl Model for Engine {
 
     ghost view = { λ e. record { past = past e.desk; flights = e.flights.flights; chore = e.chore } };
 
-    ghost invariant = { λ e. Stands e.desk × Settled (past e.desk) × (is_empty (past e.desk) ≡ false) × (are_of_unfinished (past e.desk) e.flights.flights ≡ true) };
+    ghost invariant = { λ e. Stands e.desk × Settled (past e.desk) × (is_empty (past e.desk) ≡ false) × (are_of_unfinished (past e.desk) e.flights.flights ≡ true) × HasRoomForEnd (past e.desk) };
 }
 
 #[tactic(auto, using(crate::proofs::Legality::legal_of, crate::proofs::Legality::legal_at_first))]
@@ -103,7 +103,6 @@ impl Engine {
     pub fn end(&mut self) -> Result<(), NoRoom>
         requires quiet { is_quiet self.old.past ≡ true }
         requires running { has_ended self.old.past ≡ false }
-        requires room { length self.old.past < most_events }
         ensures group { OnOk result (self.new.past ≡ after_end self.old.past) }
         ensures flights { self.new.flights ≡ self.old.flights }
         ensures chore { self.new.chore ≡ self.old.chore }

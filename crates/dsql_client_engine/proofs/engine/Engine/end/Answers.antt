@@ -1,18 +1,27 @@
-use Rattle.std.proofs.Common.{◌≡◌, false, true, refl, sym, subst, ◌∷◌, List}
+use Rattle.std.proofs.Common.{◌≡◌, ◌≤◌, arith, rules, length, false, true, refl, sym, subst, ◌∷◌, List}
 use Rattle.dsql_clients.specs.declared.event.Event.{Event}
 use Rattle.dsql_clients.specs.Readers.Course.{has_ended}
 use Rattle.dsql_clients.specs.Rules.House.{is_quiet}
-use Rattle.dsql_client_engine.specs.Core.{Core}
+use Rattle.dsql_client_going.specs.Stepping.{events_of_a_step}
+use Rattle.dsql_client_engine.specs.Core.{Core, most_before_end}
 use Rattle.dsql_client_engine.proofs.Legality.{legal_kept, legal_of}
 use Rattle.dsql_clients.specs.declared.event.Event.TheVariants.{Ended}
 use Rattle.dsql_clients.specs.Readers.Owed.{owed}
 use Rattle.dsql_client_desk.specs.Desk.{past}
 use Rattle.dsql_client_engine.proofs.Appended.{moves_fly}
 use Rattle.dsql_client_engine.proofs.Flying.{begun_moved}
+use Rattle.dsql_client_engine.proofs.Lengths.{room_after_end}
 use Rattle.dsql_client_engine.proofs.engine.Engine.end.Goals as goal
 
 pub invariant_of-self : goal.invariant_of-self
-invariant_of-self c = (c.pay.ensures.stands, rw c.pay.ensures.past c.self.invariant.1, rw c.pay.ensures.past c.self.invariant.2, rw (c.pay.ensures.past, c.pay.ensures.flights) c.self.invariant.3)
+invariant_of-self c = (c.pay.ensures.stands, rw c.pay.ensures.past c.self.invariant.1, rw c.pay.ensures.past c.self.invariant.2, rw (c.pay.ensures.past, c.pay.ensures.flights) c.self.invariant.3, rw c.pay.ensures.past c.self.invariant.4)
+
+pub end_run-requires-clause-pays : goal.end_run-requires-clause-pays
+end_run-requires-clause-pays c =
+    let running : has_ended (past c.self.inside.desk) ≡ false = subst (λ (v : Core). has_ended v.past ≡ false) (sym c.self.view_is) c.requires.running in
+    let few : length (past c.pay.new.desk) ≤ most_before_end = rw c.pay.ensures.past (c.self.invariant.4 running) in
+    let paid : c.pay.new.desk.paid ≡ events_of_a_step = search rules in
+    record { stands = c.pay.ensures.stands; paid = omega (arith, paid); few = omega (arith, few) }
 
 pub end_run-requires-clause-settled : goal.end_run-requires-clause-settled
 end_run-requires-clause-settled c = rw c.pay.ensures.past c.self.invariant.1
@@ -34,6 +43,7 @@ invariant_of-self-2 c =
       r.settled,
       rw r.group (begun_moved (owed K) K refl),
       rw r.group (moves_fly (owed K) K _ (rw (c.pay.ensures.past, c.pay.ensures.flights) c.self.invariant.3)),
+      room_after_end (past c.pay.new.desk) (past c.end_run.new.desk) r.group,
     )
 
 pub returns-clause-legal : goal.returns-clause-legal

@@ -1,4 +1,4 @@
-use Rattle.std.proofs.Common.{◌≡◌, true, List, ap, subst, ◌∙◌}
+use Rattle.std.proofs.Common.{◌≡◌, ◌<◌, length, true, List, sym, ap, subst, ◌∙◌}
 use Rattle.dsql_clients.specs.declared.event.Event.{Event}
 use Rattle.dsql_clients.specs.declared.record.Flight.{Flight}
 use Rattle.dsql_clients.specs.Legal.{Legal}
@@ -8,8 +8,10 @@ use Rattle.dsql_client_desk.specs.Desk.{past}
 use Rattle.dsql_client_desk.proofs.KeptOfCalls.{lawful_kept}
 use Rattle.dsql_client_going.specs.Reaching.{HasGoneOn}
 use Rattle.dsql_client_going.specs.Stepping.{are_of_unfinished}
+use Rattle.dsql_steps.specs.Groups.{most_events}
 use Rattle.dsql_client_engine.specs.Core.{Core}
 use Rattle.dsql_client_engine.proofs.Legality.{legal_kept, legal_of}
+use Rattle.dsql_client_engine.proofs.Lengths.{room_after_enter}
 use Rattle.dsql_client_engine.proofs.Stepped.{begun_entered, entered_flies}
 use Rattle.dsql_client_engine.proofs.engine.Engine.enter.Goals as goal
 
@@ -28,11 +30,14 @@ invariant_of-self-2 c =
     let K = past c.enter_call.new.desk in
     let before = c.pay.new.flights.flights in
     let r = c.enter_call.ensures.reaches in
+    let lawful = lawful_kept c.pay.new.desk c.pay.ensures.stands in
+    let short : length H < most_events = rw c.pay.ensures.past (subst (λ (v : Core). length v.past < most_events) (sym c.self.view_is) c.requires.room) in
     let flying : are_of_unfinished H before ≡ true = rw (c.pay.ensures.past, c.pay.ensures.flights) c.self.invariant.3 in (
       r.stands,
       r.settled,
       ap is_empty r.group ∙ begun_entered H c.args.client c.args.op,
-      entered_flies H c.args.client c.args.op K before c.enter_call.new.flights.flights c.enter_call.result (lawful_kept c.pay.new.desk c.pay.ensures.stands) r.group flying c.enter_call.ensures.goes,
+      entered_flies H c.args.client c.args.op K before c.enter_call.new.flights.flights c.enter_call.result lawful r.group flying c.enter_call.ensures.goes,
+      room_after_enter H K c.args.client c.args.op r.group lawful (rw c.pay.ensures.past c.self.invariant.1) short,
     )
 
 pub returns-clause-next : goal.returns-clause-next

@@ -1,4 +1,4 @@
-use Rattle.std.proofs.Common.{◌≡◌, false, true, rules, sym, ap, subst, ◌∙◌, ℕ, List}
+use Rattle.std.proofs.Common.{◌≡◌, ◌<◌, length, false, true, rules, sym, ap, subst, ◌∙◌, ℕ, List}
 use Rattle.dsql_journal.specs.Readers.{is_empty}
 use Rattle.dsql_clients.specs.Readers.Calls.{is_busy}
 use Rattle.dsql_clients.specs.Readers.Clients.{call_of}
@@ -8,7 +8,7 @@ use Rattle.dsql_clients.specs.Rules.Settled.{is_settled_but}
 use Rattle.dsql_client_desk.specs.Desk.{past}
 use Rattle.dsql_client_desk.proofs.KeptOfCalls.{lawful_kept}
 use Rattle.dsql_client_going.specs.Stepping.{are_of_unfinished}
-use Rattle.dsql_steps.specs.Groups.{gone_on}
+use Rattle.dsql_steps.specs.Groups.{gone_on, most_events}
 use Rattle.dsql_client_engine.specs.Core.{Core}
 use Rattle.dsql_clients.specs.Legal.{Legal}
 use Rattle.dsql_clients.specs.declared.record.Flight.{Flight}
@@ -16,11 +16,12 @@ use Rattle.dsql_client_going.specs.Reaching.{HasGoneOn}
 use Rattle.dsql_client_engine.proofs.Legality.{legal_kept, legal_of}
 use Rattle.dsql_client_engine.proofs.Busy.{busy_unfinished}
 use Rattle.dsql_client_engine.proofs.Flying.{begun_gone, gone_flies, gone_others, others_fly}
+use Rattle.dsql_client_engine.proofs.Lengths.{room_after_gone}
 use Rattle.dsql_client_engine.proofs.Settling.{settled_but}
 use Rattle.dsql_client_engine.proofs.engine.Engine.wake.Goals as goal
 
 pub invariant_of-self : goal.invariant_of-self
-invariant_of-self c = (c.pay.ensures.stands, rw c.pay.ensures.past c.self.invariant.1, rw c.pay.ensures.past c.self.invariant.2, rw (c.pay.ensures.past, c.pay.ensures.flights) c.self.invariant.3)
+invariant_of-self c = (c.pay.ensures.stands, rw c.pay.ensures.past c.self.invariant.1, rw c.pay.ensures.past c.self.invariant.2, rw (c.pay.ensures.past, c.pay.ensures.flights) c.self.invariant.3, rw c.pay.ensures.past c.self.invariant.4)
 
 pub go_on-requires-clause-may : goal.go_on-requires-clause-may
 go_on-requires-clause-may c =
@@ -52,11 +53,13 @@ invariant_of-self-2 c =
     let still : is_in_flight n before ≡ false =
     subst (λ fs. is_in_flight n fs ≡ false) (sym c.pay.ensures.flights) (subst (λ k. is_in_flight k c.self.inside.flights.flights ≡ false) (sym c.call_of-call.ensures) parked)
     in
+    let short : length H < most_events = rw c.pay.ensures.past (subst (λ (v : Core). length v.past < most_events) (sym c.self.view_is) c.requires.room) in
     let others : are_of_unfinished (gone_on n H) before ≡ true = others_fly H (gone_on n H) n before (gone_others n H) still flying in (
       r.stands,
       r.settled,
       rw r.group (begun_gone n H begun),
       gone_flies (past c.go_on.new.desk) n before c.go_on.new.flights.flights c.go_on.result c.go_on.ensures.goes (subst (λ K. are_of_unfinished K before ≡ true) (sym r.group) others),
+      room_after_gone H (past c.go_on.new.desk) n r.group short,
     )
 
 pub returns-in_err-statement-clause-legal : goal.returns-in_err-statement-clause-legal
