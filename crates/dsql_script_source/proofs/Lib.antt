@@ -1,0 +1,7 @@
+pub mod Saying
+pub mod Body
+pub mod Errors
+pub mod Reading
+pub mod WholeLines
+pub mod Coming
+pub mod Heading
