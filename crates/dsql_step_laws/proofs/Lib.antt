@@ -1,2 +1,2 @@
-mod Going
-mod Groups
+pub mod Going
+pub mod Groups

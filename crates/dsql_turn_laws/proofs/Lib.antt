@@ -1,10 +1,10 @@
-mod Due
-mod Senders
-mod Flights
-mod Leave
-mod Later
-mod Keeping
-mod Begins
-mod Steps
-mod Turning
-mod Blocked
+pub mod Due
+pub mod Senders
+pub mod Flights
+pub mod Leave
+pub mod Later
+pub mod Keeping
+pub mod Begins
+pub mod Steps
+pub mod Turning
+pub mod Blocked

@@ -1,0 +1,34 @@
+-- The player as a run begins.
+use Rattle.std.proofs.Common.{◌≡◌, ℕ, false, List, [], ◌∷◌, None, refl, ap, sym, arith}
+use Rattle.dsql_driver.specs.declared.caps.Caps.{Caps}
+use Rattle.dsql_clients.specs.declared.event.Event.TheVariants.{Run}
+use Rattle.dsql_clients.specs.Legal.{Legal}
+use Rattle.dsql_follows.specs.Moments.{just_begun}
+use Rattle.dsql_seats.specs.Seats.{Seat, empty_seat, seat}
+use Rattle.dsql_turn_laws.proofs.Steps.{begun_flies}
+use Rattle.dsql_playing.specs.Playing.{IsAt, IsReady, Playing, lines_kept}
+
+-- a player of a run that has begun, whose clients have nothing at hand
+abbrev pub begun : ℕ → Caps → List Seat → Playing
+begun version caps seats = record { past = Run version caps ∷ []; flights = []; chore = None; seats = seats; released = false }
+
+pub begun_ready : (version : ℕ) (caps : Caps) (seats : List Seat) → Legal (Run version caps ∷ []) → ((client : ℕ) → seat seats client ≡ empty_seat) → IsReady (begun version caps seats)
+begun_ready version caps seats legal empty = record {
+  legal = legal;
+  free = refl;
+  flying = begun_flies version caps;
+  seats = λ client. record { leave = rw (empty client) refl; room = λ busy. absurd cc };
+  held = λ released. absurd cc;
+}
+
+pub begun_at : (version : ℕ) (caps : Caps) (seats : List Seat) → ((client : ℕ) → seat seats client ≡ empty_seat) → IsAt (just_begun (Run version caps)) (begun version caps seats)
+begun_at version caps seats empty = record {
+  past = refl;
+  flights = refl;
+  released = refl;
+  rest = refl;
+  whole = refl;
+  made = λ client. omega arith;
+  kept = λ client. ap (λ (s : Seat). lines_kept client s.kept) (sym (empty client));
+  held = λ client busy. absurd cc;
+}

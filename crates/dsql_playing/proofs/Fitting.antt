@@ -1,0 +1,35 @@
+-- Wires, and what a fleet tells, through the steps of a run.
+use Rattle.std.proofs.Common.{◌≡◌, ℕ, Bool, true, false, List, Option, Some, None, sym, subst}
+use Rattle.std.specs.Prelude.{MatchBool}
+use Rattle.dsql_driver.specs.Wires.{WireTold}
+use Rattle.dsql_journal.specs.declared.entry.Entry.{Entry}
+use Rattle.dsql_clients.specs.declared.event.Event.{Event}
+use Rattle.dsql_clients.specs.Readers.Journals.{journal}
+use Rattle.dsql_wire.specs.Journaled.{Journaled}
+use Rattle.dsql_wires.specs.WiresFit.{FitsAt, HoldsWire, KeepsFit, WiresFit, is_wired, slot}
+use Rattle.dsql_playing.specs.Carried.{HearsNothing}
+
+untelling_wire : {W : Type 0} (heard : W → Option WireTold) (telling : Bool) (c : ℕ) (entries : List Entry) (wire : Option (Journaled W)) → HoldsWire heard telling c entries wire → HoldsWire heard false c entries wire
+untelling_wire heard telling c entries None h = absurd h
+untelling_wire heard telling c entries (Some w) h = record { conn = h.conn; journal = h.journal; unplanned = h.unplanned; tells = λ t. absurd cc }
+
+untelling_at : {W : Type 0} (heard : W → Option WireTold) (telling : Bool) (c : ℕ) (entries : List Entry) (wire : Option (Journaled W)) (b : Bool)
+    → MatchBool b (HoldsWire heard telling c entries wire) (wire ≡ None) → MatchBool b (HoldsWire heard false c entries wire) (wire ≡ None)
+untelling_at heard telling c entries wire true h = untelling_wire heard telling c entries wire h
+untelling_at heard telling c entries wire false h = h
+
+-- wires fit, whether all tell or not
+pub untelling : {W : Type 0} (heard : W → Option WireTold) (telling : Bool) (past : List Event) (slots : List (Option (Journaled W))) → WiresFit heard telling past slots → WiresFit heard false past slots
+untelling heard telling past slots fit = λ c. untelling_at heard telling c (journal past c) (slot slots c) (is_wired (journal past c)) (fit c)
+
+-- Where nothing is heard the wires fit as before.
+pub fits_unheard : {W : Type 0} (heard : W → Option WireTold) (old new : List Event) (slots : List (Option (Journaled W))) → HearsNothing old new → KeepsFit heard old new slots slots
+fits_unheard heard old new slots h = λ telling fit c. subst (λ (entries : List Entry). FitsAt heard telling c entries (slot slots c)) (sym (h.journals c)) (fit c)
+
+-- nor where the history is the same
+pub fits_same : {W : Type 0} (heard : W → Option WireTold) (old new : List Event) (slots : List (Option (Journaled W))) → new ≡ old → KeepsFit heard old new slots slots
+fits_same heard old new slots same = λ telling fit. subst (λ (past : List Event). WiresFit heard telling past slots) (sym same) fit
+
+pub fits_then : {W : Type 0} (heard : W → Option WireTold) (old mid new : List Event) (before between after : List (Option (Journaled W))) → KeepsFit heard old mid before between → KeepsFit heard mid new between after
+    → KeepsFit heard old new before after
+fits_then heard old mid new before between after a b = λ telling fit. b telling (a telling fit)

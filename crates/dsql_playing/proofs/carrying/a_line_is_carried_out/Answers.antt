@@ -1,0 +1,20 @@
+use Rattle.dsql_playing.proofs.Lines.{begun_client, begun_done, begun_set, begun_skip, begun_stops, stops_at_once}
+use Rattle.dsql_playing.proofs.carrying.a_line_is_carried_out.Goals as goal
+
+pub returns-clause-skipped : goal.returns-clause-skipped
+returns-clause-skipped c = begun_skip
+
+pub returns-clause-set : goal.returns-clause-set
+returns-clause-set c = begun_set
+
+pub returns-clause-admitted : goal.returns-clause-admitted
+returns-clause-admitted c = begun_client
+
+pub returns-clause-done : goal.returns-clause-done
+returns-clause-done c = begun_done
+
+pub returns-clause-stops : goal.returns-clause-stops
+returns-clause-stops c = begun_stops
+
+pub returns-clause-stops_at_once : goal.returns-clause-stops_at_once
+returns-clause-stops_at_once c = stops_at_once

@@ -1,0 +1,17 @@
+use Rattle.dsql_playing.proofs.Ready.{answer_ready, end_ready, entry_ready, set_ready, wake_ready}
+use Rattle.dsql_playing.proofs.staying.a_player_stays_ready.Goals as goal
+
+pub returns-clause-set : goal.returns-clause-set
+returns-clause-set c = set_ready
+
+pub returns-clause-ended : goal.returns-clause-ended
+returns-clause-ended c = end_ready
+
+pub returns-clause-entered : goal.returns-clause-entered
+returns-clause-entered c = entry_ready
+
+pub returns-clause-answered : goal.returns-clause-answered
+returns-clause-answered c = answer_ready
+
+pub returns-clause-woken : goal.returns-clause-woken
+returns-clause-woken c = wake_ready

@@ -1,0 +1,15 @@
+use Rattle.dsql_playing.proofs.Standing.{answer_taken}
+use Rattle.dsql_playing.proofs.Taking.{end_taken, set_taken, wakes}
+use Rattle.dsql_playing.proofs.taking_steps.each_act_is_one_step.Goals as goal
+
+pub returns-clause-set : goal.returns-clause-set
+returns-clause-set c = set_taken
+
+pub returns-clause-ended : goal.returns-clause-ended
+returns-clause-ended c = end_taken
+
+pub returns-clause-answered : goal.returns-clause-answered
+returns-clause-answered c = answer_taken
+
+pub returns-clause-woken : goal.returns-clause-woken
+returns-clause-woken c = wakes

@@ -1,0 +1,68 @@
+-- What is kept as a part of a run is carried out, and which part follows its line.
+use Rattle.std.specs.Prelude.{ℕ, ◌≡◌, true, List, ◌++◌, Option, Result, OnOk, OnErr, is_some}
+use Rattle.dsql_driver.specs.Wires.{WireTold}
+use Rattle.dsql_driver.specs.declared.wire.Fleet.{Ghosts}
+use Rattle.dsql_clients.specs.declared.event.Event.{Event}
+use Rattle.dsql_clients.specs.Legal.{Legal}
+use Rattle.dsql_clients.specs.Readers.Journals.{journal}
+use Rattle.dsql_follows.specs.declared.line.Line.{Line}
+use Rattle.dsql_follows.specs.Moments.{Moment, met, at_end}
+use Rattle.dsql_follows.specs.Sentences.{Part, after_part, runs_in_turn}
+use Rattle.dsql_follows.specs.Follows.{MakesSteps, FollowsLine, FollowsEnd, ends_in_turn}
+use Rattle.dsql_wire.specs.Journaled.{Journaled}
+use Rattle.dsql_wires.specs.Told.{fleet_told, FleetTells, TellsAtMost, SameAbility}
+use Rattle.dsql_wires.specs.WiresFit.{KeepsFit, WiresFit}
+use Rattle.dsql_playing.specs.declared.halt.Halt.{Halt}
+use Rattle.dsql_playing.specs.Playing.{Playing, IsAt, IsReady}
+
+-- A part of a run is carried out: the fleet tells of the new history, and the wires fit it. Where it can't be, the fleet was asked for one Connect more at most.
+pub record KeepsRun {A F W : Type 0} (fleet : Ghosts F W) (heard : W → Option WireTold) (result : Result A Halt) (before after : F) (old new : Playing) (slots : List (Option (Journaled W))) : Type 0 where
+  pub ready : OnOk result (IsReady new)
+  pub told : OnOk result (FleetTells (fleet.told before) (fleet.told after) old.past new.past)
+  pub asked : OnErr result (TellsAtMost (fleet.told before) (fleet.told after) old.past new.past)
+  pub wires : OnOk result (WiresFit heard (is_some (fleet.told after)) new.past slots)
+  pub able : SameAbility fleet before after
+  pub legal : Legal new.past
+
+-- A part of a run in which no connection is opened or shut: its wires fit the new history, and the fleet has nothing to tell of it.
+pub record KeepsWires {A W : Type 0} (heard : W → Option WireTold) (result : Result A Halt) (old new : Playing) (before after : List (Option (Journaled W))) : Type 0 where
+  pub ready : OnOk result (IsReady new)
+  pub wires : OnOk result (KeepsFit heard old.past new.past before after)
+  pub told : OnOk result (fleet_told new.past ≡ fleet_told old.past)
+  pub legal : Legal new.past
+
+-- nothing was heard from one history to the other
+pub record HearsNothing (old new : List Event) : Type 0 where
+  pub journals : (c : ℕ) → journal new c ≡ journal old c
+  pub told : fleet_told new ≡ fleet_told old
+
+-- a line with these events
+abbrev pub part : Line → List Event → Part
+part line events = record { line = line; events = events }
+
+-- The line was carried out, and its part follows it.
+pub record Carries (m : Moment) (line : Line) (before after : Playing) : Type 0 where
+  pub events : List Event
+  pub grows : after.past ≡ events ++ before.past
+  pub follows : FollowsLine m (part line events)
+  pub at : IsAt (after_part m (part line events)) after
+
+-- The line couldn't be carried out to its end: its part has whole steps in the order of the lines, and where it runs on each came in its turn.
+pub record StopsInLine (m : Moment) (line : Line) (before after : List Event) : Type 0 where
+  pub events : List Event
+  pub grows : after ≡ events ++ before
+  pub steps : MakesSteps (met line m) events
+  pub in_turn : runs_in_turn m (part line events) ≡ true
+
+-- The script's end was carried out, and its part follows.
+pub record CarriesEnd (m : Moment) (before after : List Event) : Type 0 where
+  pub events : List Event
+  pub grows : after ≡ events ++ before
+  pub follows : FollowsEnd m events
+
+-- It couldn't be: its part has whole steps in the order of the lines, each in its turn.
+pub record StopsInEnd (m : Moment) (before after : List Event) : Type 0 where
+  pub events : List Event
+  pub grows : after ≡ events ++ before
+  pub steps : MakesSteps (at_end m) events
+  pub in_turn : ends_in_turn m events ≡ true

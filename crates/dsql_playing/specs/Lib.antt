@@ -1,0 +1,5 @@
+pub mod Playing
+pub mod Stepping
+pub mod Acts
+pub mod Chores
+pub mod Carried
