@@ -7,10 +7,7 @@ use Rattle.dsql_follows.specs.Moments.{just_begun}
 use Rattle.dsql_seats.specs.Seats.{Seat, empty_seat, seat}
 use Rattle.dsql_turn_laws.proofs.Steps.{begun_flies}
 use Rattle.dsql_playing.specs.Playing.{IsAt, IsReady, Playing, lines_kept}
-
--- a player of a run that has begun, whose clients have nothing at hand
-abbrev pub begun : ℕ → Caps → List Seat → Playing
-begun version caps seats = record { past = Run version caps ∷ []; flights = []; chore = None; seats = seats; released = false }
+use Rattle.dsql_playing.specs.Acts.{begun}
 
 pub begun_ready : (version : ℕ) (caps : Caps) (seats : List Seat) → Legal (Run version caps ∷ []) → ((client : ℕ) → seat seats client ≡ empty_seat) → IsReady (begun version caps seats)
 begun_ready version caps seats legal empty = record {

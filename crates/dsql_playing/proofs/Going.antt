@@ -8,12 +8,7 @@ use Rattle.dsql_walk_laws.proofs.AddedUp.{no_steps, one_more}
 use Rattle.dsql_walk_laws.proofs.Turns.{more_in_turn}
 use Rattle.dsql_playing.specs.Playing.{Playing, IsAt}
 use Rattle.dsql_playing.specs.Stepping.{InTurn, RunsInTurn, RunsOut, RunsSoFar, TakesStep}
-
--- the player took steps in their turns, and is at the moment after them
-pub record RunsTo (m : Moment) (before after : Playing) : Type 0 where
-  pub now : Moment
-  pub runs : RunsInTurn m before.past after.past now
-  pub at : IsAt now after
+use Rattle.dsql_playing.specs.Acts.{RunsTo}
 
 pub runs_none : (m : Moment) (p : Playing) → IsAt m p → RunsTo m p p
 runs_none m p at = record {

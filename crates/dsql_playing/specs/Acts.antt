@@ -1,9 +1,11 @@
 -- What the acts of a player leave, and how far it has come with a line.
-use Rattle.std.specs.Prelude.{ℕ, ◌≡◌, ◌≢◌, ◌<◌, ◌≤◌, true, false, not, ◌&&◌, List, ◌++◌, length, None}
+use Rattle.std.specs.Prelude.{ℕ, ◌≡◌, ◌≢◌, ◌<◌, ◌≤◌, true, false, not, ◌&&◌, List, [], ◌∷◌, ◌++◌, length, None}
 use Rattle.dsql_journal.specs.declared.entry.Entry.{Entry}
 use Rattle.dsql_journal.specs.declared.entry.Permit.{Permit}
 use Rattle.dsql_tenure.specs.Judged.{answered}
+use Rattle.dsql_driver.specs.declared.caps.Caps.{Caps}
 use Rattle.dsql_clients.specs.declared.event.Event.{Event}
+use Rattle.dsql_clients.specs.declared.event.Event.TheVariants.{Run}
 use Rattle.dsql_clients.specs.Rules.Flights.{is_in_flight, may_move}
 use Rattle.dsql_clients.specs.Rules.Settled.{Settled}
 use Rattle.dsql_clients.specs.Legal.{Lawful, Legal}
@@ -16,7 +18,7 @@ use Rattle.dsql_steps.specs.Groups.{after_heard, gone_on}
 use Rattle.dsql_seats.specs.declared.seats.KeptLine.{KeptLine}
 use Rattle.dsql_seats.specs.Seats.{Seat, seat}
 use Rattle.dsql_playing.specs.Playing.{IsAt, KeepsLines, Playing}
-use Rattle.dsql_playing.specs.Stepping.{leave_of}
+use Rattle.dsql_playing.specs.Stepping.{RunsInTurn, leave_of}
 
 -- what each client has at hand is as before
 pub record SamePermits (seats now : List Seat) : Type 0 where
@@ -73,3 +75,13 @@ pub record TakesAnswer (permit : Permit) (e : Entry) (before after : Playing) : 
   pub seats : after.seats ≡ before.seats
   pub released : after.released ≡ before.released
   pub legal : Legal after.past
+
+-- the player took steps in their turns, and is at the moment after them
+pub record RunsTo (m : Moment) (before after : Playing) : Type 0 where
+  pub now : Moment
+  pub runs : RunsInTurn m before.past after.past now
+  pub at : IsAt now after
+
+-- a player of a run that has begun, whose clients have nothing at hand
+abbrev pub begun : ℕ → Caps → List Seat → Playing
+begun version caps seats = record { past = Run version caps ∷ []; flights = []; chore = None; seats = seats; released = false }

@@ -18,9 +18,11 @@ ghost use Rattle.dsql_follows.specs.Moments.{Moment, at_end};
 ghost use Rattle.dsql_follows.specs.Sentences.{runs_on};
 ghost use Rattle.dsql_seats.specs.Seats.{seat};
 ghost use Rattle.dsql_wire.specs.Journaled.{Journaled};
-ghost use Rattle.dsql_wires.specs.WiresFit.{WiresFit, slot};
+ghost use Rattle.dsql_step_laws.specs.Steps.{goes_by_itself};
+ghost use Rattle.dsql_wires.specs.Told.{hears_nothing};
+ghost use Rattle.dsql_wires.specs.WiresFit.{KeepsFit, WiresFit, slot};
 ghost use Rattle.dsql_playing.specs.Acts.{Begun, ComesToEnd};
-ghost use Rattle.dsql_playing.specs.Carried.{Carries, CarriesEnd, StopsInEnd, StopsInLine};
+ghost use Rattle.dsql_playing.specs.Carried.{Carries, CarriesEnd, HearsNothing, StopsInEnd, StopsInLine};
 ghost use Rattle.dsql_playing.specs.Playing.{IsAt, IsReady, Playing};
 ghost use Rattle.dsql_playing.specs.Stepping.{Admits, IsAnswerTo, IsChoreOn, IsEnd, IsEntryOf, IsSetTo, RunsOut, RunsSoFar, TakesStep, goes};
 
@@ -59,4 +61,10 @@ pub fn the_end_is_carried_out<W: Wire>()
     ensures done { (m : Moment) (old new : Playing) → IsReady new → new.released ≡ true → has_ended new.past ≡ true → chore_due new.past ≡ None → ((client : ℕ) → goes new client ≡ false) → ComesToEnd m old new → CarriesEnd m old.past new.past }
     ensures over { (p : Playing) → IsReady p → p.released ≡ true → has_ended p.past ≡ true → chore_due p.past ≡ None → ((client : ℕ) → goes p client ≡ false) → IsOver p.past }
     ensures empty { (telling : Bool) (past : List Event) (slots : List (Option (Journaled W))) → IsOver past → WiresFit W.told telling past slots → (c : ℕ) → slot slots c ≡ None }
+{}
+
+/// What a call does by itself isn't heard, and where nothing is heard the wires fit as before.
+pub fn what_is_not_heard_keeps_the_wires<W: Wire>()
+    ensures itself { (n : ℕ) (e : Event) → goes_by_itself n e ≡ true → hears_nothing e ≡ true }
+    ensures wires { (old new : List Event) (slots : List (Option (Journaled W))) → HearsNothing old new → KeepsFit W.told old new slots slots }
 {}

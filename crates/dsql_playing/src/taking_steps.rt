@@ -11,9 +11,9 @@ ghost use Rattle.dsql_follows.specs.Moments.{Moment};
 ghost use Rattle.dsql_follows.specs.Turns.{has_run_out, is_turn_of, may_go};
 ghost use Rattle.dsql_step_laws.specs.Steps.{IsAtRest};
 ghost use Rattle.dsql_steps.specs.Groups.{after_end, after_set};
-ghost use Rattle.dsql_playing.specs.Acts.{Woken};
+ghost use Rattle.dsql_playing.specs.Acts.{RunsTo, Woken};
 ghost use Rattle.dsql_playing.specs.Playing.{HasLinesOf, IsAt, KeepsLines, Playing};
-ghost use Rattle.dsql_playing.specs.Stepping.{HearsAnswer, InTurn, IsAnswerTo, IsChoreOn, IsEnd, IsEntryOf, IsFirstToGo, IsSetTo, TakesStep, Wakes, goes};
+ghost use Rattle.dsql_playing.specs.Stepping.{HearsAnswer, InTurn, IsAnswerTo, IsChoreOn, IsEnd, IsEntryOf, IsFirstToGo, IsSetTo, RunsOut, RunsSoFar, TakesStep, Wakes, goes};
 
 /// A limit, the run's end, an answer to a call and a call that is woken are each one step from the moment at which the
 /// player is. The answer is so too from a moment at which its driver call isn't under way yet.
@@ -36,4 +36,12 @@ pub fn whose_turn_it_is()
 pub fn what_comes_in_turn()
     ensures chore { (m : Moment) (p after : Playing) → IsAt m p → TakesStep m p after (IsChoreOn (chore_due p.past)) → TakesStep m p after (InTurn m) }
     ensures entry { (m : Moment) (p after : Playing) (client : ℕ) → Lawful p.past → IsAt m p → is_turn_of m client ≡ true → is_busy client p.past ≡ false → TakesStep m p after (IsEntryOf client) → TakesStep m p after (InTurn m) }
+{}
+
+/// Steps in their turns add up, until nobody may go on or the run has to stop.
+pub fn steps_in_turn_add_up()
+    ensures none { (m : Moment) (p : Playing) → IsAt m p → RunsTo m p p }
+    ensures more { (m : Moment) (old mid new : Playing) → RunsTo m old mid → ((now : Moment) → IsAt now mid → TakesStep now mid new (InTurn now)) → RunsTo m old new }
+    ensures so_far { (m : Moment) (old new : Playing) → RunsTo m old new → RunsSoFar m old.past new.past }
+    ensures out { (m : Moment) (old new : Playing) → RunsTo m old new → ((now : Moment) → IsAt now new → has_run_out now ≡ true) → RunsOut m old new }
 {}

@@ -1,0 +1,117 @@
+-- What the fleet was asked for in a run, and which faults there were.
+use Rattle.std.proofs.Common.{◌≡◌, ◌⊎◌, Bool, true, false, List, [], ◌∷◌, ◌++◌, Option, Some, None, refl, sym, ◌∙◌, ap, subst, inl, inr, arith}
+use Rattle.std.specs.Prelude.{Result, Ok, Err, option_map}
+use Rattle.std.proofs.lemmas.List.{append-nil}
+use Rattle.dsql_driver.specs.declared.caps.Caps.{Caps}
+use Rattle.dsql_driver.specs.Wires.{FleetTold, WireTold}
+use Rattle.dsql_clients.specs.declared.event.Event.{Event}
+use Rattle.dsql_clients.specs.declared.event.Event.TheVariants.{Run}
+use Rattle.dsql_wire.specs.Journaled.{Journaled}
+use Rattle.dsql_wires.specs.Told.{with_told, TellsAtMost, LeavesAtMost, AsksAtMost, SameAsked, retired_from}
+use Rattle.dsql_wires.proofs.Telling.{no_more, same_both, leaves, retired_same}
+use Rattle.dsql_script_source.specs.Stops.{is_read_fault, no_read_failed}
+use Rattle.dsql_script_source.specs.declared.stop.Stop.{Stop}
+use Rattle.dsql_script_source.specs.declared.stop.Stop.TheVariants.{Read, Write, Memory, Refused, Full}
+use Rattle.dsql_outcome.specs.Runs.{ran_out, no_write_failed, is_write_fault, Finishes}
+
+pub none_told : (t : Option FleetTold) (caps : Caps) → with_told t (Run 1 caps ∷ []) ≡ t
+none_told None caps = refl
+none_told (Some told) caps =
+    ap (λ cs. Some (record { connects = cs; plans = told.plans; retired = told.retired ++ [] })) (append-nil told.connects)
+    ∙ ap (λ rs. Some (record { connects = told.connects; plans = told.plans; retired = rs })) (append-nil told.retired)
+
+asks_of_leaves : (before after : Option FleetTold) (caps : Caps) (past : List Event) → LeavesAtMost before after (Run 1 caps ∷ []) past → AsksAtMost before after past
+asks_of_leaves before after caps past l = record { more = l.more; few = l.few; asked = l.asked before (sym (none_told before caps)) }
+
+asks_of_told : (before after : Option FleetTold) (past : List Event) → after ≡ with_told before past → AsksAtMost before after past
+asks_of_told before after past is = record {
+  more = [];
+  few = omega arith;
+  asked = subst (λ (told : Option FleetTold). SameAsked told after) (is ∙ no_more (with_told before past)) (same_both after);
+}
+
+leaves_since : (before mid after : Option FleetTold) (rest past : List Event) → mid ≡ with_told before rest → LeavesAtMost mid after rest past → AsksAtMost before after past
+leaves_since before mid after rest past is l = record { more = l.more; few = l.few; asked = l.asked before is }
+
+-- a run that told exactly of its history told at most of it
+pub told_at_most : (before after : Option FleetTold) (caps : Caps) (old past : List Event) → old ≡ Run 1 caps ∷ [] → after ≡ with_told before past → TellsAtMost before after old past
+told_at_most before after caps old past begun is = record {
+  more = [];
+  few = omega arith;
+  told = λ t h. is
+      ∙ ap (λ k. with_told k past) (h ∙ subst (λ (start : List Event). with_told t start ≡ t) (sym begun) (none_told t caps))
+      ∙ no_more (with_told t past);
+}
+
+-- the wires that are left are given back, and nothing more is asked for
+pub given_back : {W : Type 0} (tells : W → Option WireTold) (slots : List (Option (Journaled W))) (before after : Option FleetTold) → after ≡ retired_from tells slots before → SameAsked before after
+given_back tells slots before after is = subst (λ (told : Option FleetTold). SameAsked before told) (sym is) (retired_same tells slots before)
+
+-- what the lines were played with, and what became of it at the end
+pub record Asked (played ended : Result (Unit {0}) Stop) (before mid after : Option FleetTold) (caps : Caps) (rest past : List Event) : Type 0 where
+  pub lines : TellsAtMost before mid (Run 1 caps ∷ []) rest
+  pub all : ran_out played ≡ true → mid ≡ with_told before rest
+  pub end : ran_out ended ≡ true → (t : Option FleetTold) → mid ≡ with_told t rest → after ≡ with_told t past
+  pub same : ran_out ended ≡ true → ended ≡ played
+  pub left : ran_out played ≡ true → ran_out ended ≡ false → LeavesAtMost mid after rest past
+  pub given_back : ran_out played ≡ false → SameAsked mid after
+  pub stays : ran_out played ≡ false → past ≡ rest
+
+asks_by : (p e : Bool) (played ended : Result (Unit {0}) Stop) (before mid after : Option FleetTold) (caps : Caps) (rest past : List Event) → ran_out played ≡ p → ran_out ended ≡ e → Asked played ended before mid after caps rest past
+    → AsksAtMost before after past
+asks_by p true played ended before mid after caps rest past is ran a =
+    let all : mid ≡ with_told before rest = a.all (subst (λ (r : Result (Unit {0}) Stop). ran_out r ≡ true) (a.same ran) ran) in
+    asks_of_told before after past (a.end ran before all)
+asks_by true false played ended before mid after caps rest past is ran a = leaves_since before mid after rest past (a.all is) (a.left is ran)
+asks_by false false played ended before mid after caps rest past is ran a =
+    subst (λ (h : List Event). AsksAtMost before after h) (sym (a.stays is)) (asks_of_leaves before after caps rest (leaves before mid after (Run 1 caps ∷ []) rest a.lines (a.given_back is)))
+
+pub asks : (played ended : Result (Unit {0}) Stop) (before mid after : Option FleetTold) (caps : Caps) (rest past : List Event) → Asked played ended before mid after caps rest past → AsksAtMost before after past
+asks played ended before mid after caps rest past a = asks_by (ran_out played) (ran_out ended) played ended before mid after caps rest past refl refl a
+
+read_ran : (r : Result (Unit {0}) Stop) → no_read_failed r ≡ true → ran_out r ≡ true
+read_ran (Ok done) h = refl
+read_ran (Err (Refused number fault)) h = refl
+read_ran (Err Read) h = absurd (cc h)
+read_ran (Err Write) h = absurd (cc h)
+read_ran (Err Memory) h = absurd (cc h)
+read_ran (Err Full) h = absurd (cc h)
+
+write_ran : (r : Result (Unit {0}) Stop) → no_write_failed r ≡ true → ran_out r ≡ true
+write_ran (Ok done) h = refl
+write_ran (Err (Refused number fault)) h = refl
+write_ran (Err Read) h = refl
+write_ran (Err Write) h = absurd (cc h)
+write_ran (Err Memory) h = absurd (cc h)
+write_ran (Err Full) h = absurd (cc h)
+
+-- what no read or write failed in at last, none failed in as the lines were played
+pub read_played : (played ended final : Result (Unit {0}) Stop) → (ran_out ended ≡ true → ended ≡ played) → Finishes ended final → no_read_failed final ≡ true → no_read_failed played ≡ true
+read_played played ended final same (inl is) well =
+    let e : no_read_failed ended ≡ true = subst (λ (r : Result (Unit {0}) Stop). no_read_failed r ≡ true) is well in
+    subst (λ (r : Result (Unit {0}) Stop). no_read_failed r ≡ true) (same (read_ran ended e)) e
+read_played played ended final same (inr (inl memory)) well = absurd (cc (subst (λ (r : Result (Unit {0}) Stop). no_read_failed r ≡ true) memory well))
+read_played played ended final same (inr (inr write)) well = absurd (cc (subst (λ (r : Result (Unit {0}) Stop). no_read_failed r ≡ true) write.0 well))
+
+pub written_played : (played ended final : Result (Unit {0}) Stop) → (ran_out ended ≡ true → ended ≡ played) → Finishes ended final → no_write_failed final ≡ true → no_write_failed played ≡ true
+written_played played ended final same (inl is) well =
+    let e : no_write_failed ended ≡ true = subst (λ (r : Result (Unit {0}) Stop). no_write_failed r ≡ true) is well in
+    subst (λ (r : Result (Unit {0}) Stop). no_write_failed r ≡ true) (same (write_ran ended e)) e
+written_played played ended final same (inr (inl memory)) well = absurd (cc (subst (λ (r : Result (Unit {0}) Stop). no_write_failed r ≡ true) memory well))
+written_played played ended final same (inr (inr write)) well = absurd (cc (subst (λ (r : Result (Unit {0}) Stop). no_write_failed r ≡ true) write.0 well))
+
+pub not_read : (r : Result (Unit {0}) Stop) → no_read_failed r ≡ true → is_read_fault r ≡ false
+not_read (Ok done) h = refl
+not_read (Err (Refused number fault)) h = refl
+not_read (Err Read) h = absurd (cc h)
+not_read (Err Write) h = refl
+not_read (Err Memory) h = refl
+not_read (Err Full) h = refl
+
+pub not_written : (r : Result (Unit {0}) Stop) → no_write_failed r ≡ true → is_write_fault r ≡ false
+not_written (Ok done) h = refl
+not_written (Err (Refused number fault)) h = refl
+not_written (Err Read) h = refl
+not_written (Err Write) h = absurd (cc h)
+not_written (Err Memory) h = refl
+not_written (Err Full) h = refl

@@ -1,0 +1,165 @@
+-- What a run follows that was ended, or where it was cut.
+use Rattle.std.proofs.Common.{◌≡◌, ◌⊎◌, ℕ, ◌≤◌, Bool, true, false, List, [], Option, length, refl, ap, sym, subst, ◌∙◌, inl, inr}
+use Rattle.std.specs.Prelude.{IfSome, Result, Ok, Err}
+use Rattle.dsql_driver.specs.declared.caps.Caps.{Caps}
+use Rattle.dsql_clients.specs.declared.event.Event.{Event}
+use Rattle.dsql_follows.specs.Moments.{Moment}
+use Rattle.dsql_follows.specs.Follows.{after, told}
+use Rattle.dsql_wires.specs.Extends.{Extends}
+use Rattle.dsql_playing.specs.Carried.{CarriesEnd, StopsInEnd}
+use Rattle.dsql_playing.specs.Playing.{Playing, IsAt}
+use Rattle.dsql_report.specs.Lines.{text_of}
+use Rattle.dsql_show.specs.Report.{oldest, Shows, StopsBetween}
+use Rattle.dsql_script_source.specs.Plays.{Plays}
+use Rattle.dsql_script_source.specs.Script.{Said}
+use Rattle.dsql_script_source.specs.declared.stop.Stop.{Stop}
+use Rattle.dsql_script_source.specs.declared.stop.Stop.TheVariants.{Read, Write, Memory, Refused, Full}
+use Rattle.dsql_outcome.specs.Followed.{FollowsAll, StopsShort}
+use Rattle.dsql_outcome.specs.Runs.{CutAtEnd, CutAtLine, CutShort, Finishes, IsLinesEnd, Wrote, is_write_fault, ran_out, wanted_memory}
+use Rattle.dsql_outcome.specs.Playing.{LinesPlayed, ScriptPlayed}
+use Rattle.dsql_outcome.proofs.Following.{all_stops_short, end_follows, end_stops_short}
+use Rattle.dsql_outcome.proofs.Saying.{plays_first}
+use Rattle.dsql_outcome.proofs.Finished.{shows_of_wrote, wrote_older}
+use Rattle.dsql_outcome.proofs.Writing.{stops_after_older}
+
+-- a write fault is told of a run that was ended
+so_ran : (ended final : Result (Unit {0}) Stop) → Finishes ended final → final ≡ Err Write → ran_out ended ≡ true
+so_ran ended final (inl same) is = let e : ended ≡ Err Write = sym same ∙ is in rw e refl
+so_ran ended final (inr (inl memory)) is = absurd (cc (sym memory ∙ is))
+so_ran ended final (inr (inr write)) is = write.1
+
+pub failed_is : (r : Result (Unit {0}) Stop) → is_write_fault r ≡ true → r ≡ Err Write
+failed_is (Ok done) is = absurd (cc is)
+failed_is (Err Read) is = absurd (cc is)
+failed_is (Err Write) is = refl
+failed_is (Err Memory) is = absurd (cc is)
+failed_is (Err (Refused number fault)) is = absurd (cc is)
+failed_is (Err Full) is = absurd (cc is)
+
+-- the lines had come to an end before the sink failed
+lines_over : (played : Result (Unit {0}) Stop) → ran_out played ≡ true → is_write_fault played ≡ false → IsLinesEnd played
+lines_over (Ok done) ran unfailed = tt
+lines_over (Err Read) ran unfailed = tt
+lines_over (Err Write) ran unfailed = absurd (cc unfailed)
+lines_over (Err Memory) ran unfailed = absurd (cc ran)
+lines_over (Err (Refused number fault)) ran unfailed = tt
+lines_over (Err Full) ran unfailed = absurd (cc ran)
+
+not_wanting : (played : Result (Unit {0}) Stop) → ran_out played ≡ true → wanted_memory played ≡ false
+not_wanting (Ok done) ran = refl
+not_wanting (Err Read) ran = refl
+not_wanting (Err Write) ran = refl
+not_wanting (Err Memory) ran = absurd (cc ran)
+not_wanting (Err (Refused number fault)) ran = refl
+not_wanting (Err Full) ran = refl
+
+-- what was written before the end of the run
+pub shown_before_end : (played ended final : Result (Unit {0}) Stop) (w mid : Option (List ℕ)) (n : ℕ) (rest past : List Event) → (ran_out ended ≡ true → ended ≡ played) → Finishes ended final → final ≡ Err Write
+    → is_write_fault played ≡ false → Extends rest past → n ≤ length rest → Wrote played w n rest mid → Shows w n past mid
+shown_before_end played ended final w mid n rest past same finishes is unfailed goes_on within wrote =
+    let ran : ran_out played ≡ true = subst (λ r. ran_out r ≡ true) (same (so_ran ended final finishes is)) (so_ran ended final finishes is) in
+    shows_of_wrote played w mid n past unfailed (not_wanting played ran) (wrote_older played w mid n rest past goes_on within wrote)
+
+plays_ended : (played ended : Result (Unit {0}) Stop) (bytes rest : Option (List ℕ)) (says : Said) → (ran_out ended ≡ true → ended ≡ played) → Plays played bytes rest says → Plays ended bytes rest says
+plays_ended played (Ok done) bytes rest says same plays = subst (λ r. Plays r bytes rest says) (sym (same refl)) plays
+plays_ended played (Err Read) bytes rest says same plays = subst (λ r. Plays r bytes rest says) (sym (same refl)) plays
+plays_ended played (Err Write) bytes rest says same plays = plays_first played bytes rest says plays
+plays_ended played (Err Memory) bytes rest says same plays = plays_first played bytes rest says plays
+plays_ended played (Err (Refused number fault)) bytes rest says same plays = subst (λ r. Plays r bytes rest says) (sym (same refl)) plays
+plays_ended played (Err Full) bytes rest says same plays = plays_first played bytes rest says plays
+
+-- what a run has of its script, by what is told at last
+pub plays_finished : (played ended final : Result (Unit {0}) Stop) (bytes rest : Option (List ℕ)) (says : Said) → (ran_out ended ≡ true → ended ≡ played) → Finishes ended final → Plays played bytes rest says → Plays final bytes rest says
+plays_finished played ended final bytes rest says same (inl is) plays = rw is (plays_ended played ended bytes rest says same plays)
+plays_finished played ended final bytes rest says same (inr (inl memory)) plays = rw memory (plays_first played bytes rest says plays)
+plays_finished played ended final bytes rest says same (inr (inr write)) plays = rw write.0 (plays_first played bytes rest says plays)
+
+-- How a run ended: what stopped its lines, what stopped it then, and what it is told as; and the history when its lines had been played, and at last.
+pub record Ends (played ended final : Result (Unit {0}) Stop) (rest : Playing) (past : List Event) : Type 0 where
+  pub same : ran_out ended ≡ true → ended ≡ played
+  pub finishes : Finishes ended final
+  pub extends : Extends rest.past past
+  pub carries : ran_out ended ≡ true → (m : Moment) → IsAt m rest → CarriesEnd m rest.past past
+  pub stops : ran_out played ≡ true → ran_out ended ≡ false → (m : Moment) → IsAt m rest → StopsInEnd m rest.past past
+  pub stays : ran_out played ≡ false → past ≡ rest.past
+
+played_ran : (played ended final : Result (Unit {0}) Stop) (rest : Playing) (past : List Event) → Ends played ended final rest past → ran_out ended ≡ true → ran_out played ≡ true
+played_ran played ended final rest past e ran = subst (λ r. ran_out r ≡ true) (e.same ran) ran
+
+-- it was ended, and follows its lines and the script's end
+ended_follows : (played ended final : Result (Unit {0}) Stop) (before left : Option (List ℕ)) (asked : Option Caps) (run : Event) (rest : Playing) (past : List Event) (w mid : Option (List ℕ)) → Ends played ended final rest past
+    → (l : LinesPlayed played before left asked run rest w mid) → ran_out ended ≡ true → (all : FollowsAll run l.lines past) × (all.played.parts ≡ l.parts)
+ended_follows played ended final before left asked run rest past w mid e l ran =
+    let through = played_ran played ended final rest past e ran in
+    end_follows run l.lines l.parts rest.past past (l.follows through) (e.carries ran (after run l.parts) (l.at through))
+
+ended_short : (played ended final : Result (Unit {0}) Stop) (before left : Option (List ℕ)) (asked : Option Caps) (run : Event) (rest : Playing) (past : List Event) (w mid : Option (List ℕ)) → Ends played ended final rest past
+    → (l : LinesPlayed played before left asked run rest w mid) → ran_out ended ≡ false → StopsShort run l.lines past
+ended_short played ended final before left asked run rest past w mid e l out = by (ran_out played) refl
+  where
+    by : (b : Bool) → ran_out played ≡ b → StopsShort run l.lines past
+    by true ran = end_stops_short run l.lines l.parts rest.past past (l.follows ran) (e.stops ran out (after run l.parts) (l.at ran))
+    by false short = subst (λ h. StopsShort run l.lines h) (sym (e.stays short)) (l.short short)
+
+either_short : (played ended final : Result (Unit {0}) Stop) (before left : Option (List ℕ)) (asked : Option Caps) (run : Event) (rest : Playing) (past : List Event) (w mid : Option (List ℕ)) → Ends played ended final rest past
+    → (l : LinesPlayed played before left asked run rest w mid) → StopsShort run l.lines past
+either_short played ended final before left asked run rest past w mid e l = by (ran_out ended) refl
+  where
+    by : (b : Bool) → ran_out ended ≡ b → StopsShort run l.lines past
+    by true ran = all_stops_short run l.lines past (ended_follows played ended final before left asked run rest past w mid e l ran).0
+    by false out = ended_short played ended final before left asked run rest past w mid e l out
+
+-- what is told of a run that ran out is that of one that was ended
+final_ran : (ended final : Result (Unit {0}) Stop) → Finishes ended final → ran_out final ≡ true → ran_out ended ≡ true
+final_ran ended final (inl same) ran = subst (λ r. ran_out r ≡ true) same ran
+final_ran ended final (inr (inl memory)) ran = absurd (cc (sym (ap ran_out memory) ∙ ran))
+final_ran ended final (inr (inr write)) ran = write.1
+
+done_played : (played ended final : Result (Unit {0}) Stop) → (ran_out ended ≡ true → ended ≡ played) → Finishes ended final → final ≡ Ok tt → played ≡ Ok tt
+done_played played ended final same (inl is) done =
+    let it : ended ≡ Ok tt = sym is ∙ done in
+    sym (same (ap ran_out it)) ∙ it
+done_played played ended final same (inr (inl memory)) done = absurd (cc (sym memory ∙ done))
+done_played played ended final same (inr (inr write)) done = absurd (cc (sym write.0 ∙ done))
+
+-- What was written where the sink failed: the lines' events when they had been played, and all at last.
+pub record WrittenBy (played final : Result (Unit {0}) Stop) (w mid now : Option (List ℕ)) (n : ℕ) (rest past : List Event) : Type 0 where
+  pub shown : IsLinesEnd played → n ≡ length rest
+  pub unwritten : is_write_fault played ≡ true → now ≡ mid
+  pub stops : is_write_fault played ≡ false → final ≡ Err Write → StopsBetween w (text_of (oldest n past)) (text_of past) now
+
+cut_by : (failing : Bool) (played ended final : Result (Unit {0}) Stop) (before left : Option (List ℕ)) (asked : Option Caps) (source_failed : Bool) (run : Event) (rest : Playing) (past : List Event) (w mid now : Option (List ℕ)) (n : ℕ)
+    → is_write_fault played ≡ failing → ran_out played ≡ true → final ≡ Err Write → Ends played ended final rest past → (l : LinesPlayed played before left asked run rest w mid) → (played ≡ Err Read → source_failed ≡ true)
+    → WrittenBy played final w mid now n rest.past past → CutAtLine w run l.parts now ⊎ CutAtEnd before left asked l.lines source_failed w (told run l.parts) past now
+cut_by true played ended final before left asked source_failed run rest past w mid now n is ran failed e l caused by =
+    inl (subst (λ held. CutAtLine w run l.parts held) (sym (by.unwritten is)) (l.cut (failed_is played is)))
+cut_by false played ended final before left asked source_failed run rest past w mid now n is ran failed e l caused by =
+    let over = lines_over played ran is in
+    inr (record {
+      played = played;
+      over = over;
+      plays = l.plays;
+      read = l.read;
+      caused = caused;
+      written = subst (λ h. StopsBetween w (text_of h) (text_of past) now) (l.follows ran).is (stops_after_older w now n rest.past past e.extends (by.shown over) (by.stops is failed));
+    })
+
+-- the lines that were played of a script to the run's end
+pub script_played : (played ended final : Result (Unit {0}) Stop) (before left : Option (List ℕ)) (asked : Option Caps) (source_failed : Bool) (run : Event) (rest : Playing) (past : List Event) (w mid now : Option (List ℕ)) (n : ℕ)
+    → Ends played ended final rest past → LinesPlayed played before left asked run rest w mid → (played ≡ Err Read → source_failed ≡ true) → WrittenBy played final w mid now n rest.past past
+    → ScriptPlayed final before left asked source_failed run past w now
+script_played played ended final before left asked source_failed run rest past w mid now n e l caused by = record {
+  lines = l.lines;
+  plays = plays_finished played ended final before left _ e.same e.finishes l.plays;
+  read = λ done. l.read (done_played played ended final e.same e.finishes done);
+  follows = λ ran. (ended_follows played ended final before left asked run rest past w mid e l (final_ran ended final e.finishes ran)).0;
+  short = λ out. either_short played ended final before left asked run rest past w mid e l;
+  cut = λ failed.
+      let ran = so_ran ended final e.finishes failed in
+      let follows = ended_follows played ended final before left asked run rest past w mid e l ran in
+      record {
+        all = follows.0;
+        cut = subst (λ parts. CutAtLine w run parts now ⊎ CutAtEnd before left asked l.lines source_failed w (told run parts) past now) (sym follows.1)
+            (cut_by (is_write_fault played) played ended final before left asked source_failed run rest past w mid now n refl (played_ran played ended final rest past e ran) failed e l caused by);
+      };
+}

@@ -1,0 +1,47 @@
+-- A history that follows lines.
+use Rattle.std.specs.Prelude.{◌≡◌, ◌⊎◌, true, List, ◌∷◌, ◌++◌, reverse, map}
+use Rattle.dsql_clients.specs.declared.event.Event.{Event}
+use Rattle.dsql_follows.specs.declared.line.Line.{Line}
+use Rattle.dsql_follows.specs.Moments.{met, at_end}
+use Rattle.dsql_follows.specs.Sentences.{Part, runs_in_turn}
+use Rattle.dsql_follows.specs.Follows.{Played, MakesSteps, FollowsLines, Follows, ends_in_turn, after, told, script, history}
+use Rattle.dsql_playing.specs.Carried.{part}
+
+-- the lines of these parts, the last one first
+abbrev pub lines_of : List Part → List Line
+lines_of parts = map (λ part. part.line) parts
+
+-- From the run's first event on, this history follows these lines, the oldest first, and the script's end.
+pub record FollowsAll (run : Event) (lines : List Line) (past : List Event) : Type 0 where
+  pub played : Played
+  pub begins : played.run ≡ run
+  pub follows : Follows played
+  pub is_of : script played ≡ reverse lines
+  pub is : history played ≡ past
+
+-- these lines, the oldest first, were carried out, and no more happened
+pub record FollowsSoFar (run : Event) (lines : List Line) (parts : List Part) (past : List Event) : Type 0 where
+  pub follows : FollowsLines run parts
+  pub is_of : lines_of parts ≡ reverse lines
+  pub is : past ≡ told run parts
+
+-- the run stopped in the last of the lines, whose part has whole steps so far
+pub record StopsInLast (run : Event) (lines : List Line) (parts : List Part) (more : List Event) : Type 0 where
+  pub line : Line
+  pub is_of : reverse lines ≡ line ∷ lines_of parts
+  pub steps : MakesSteps (met line (after run parts)) more
+  pub in_turn : runs_in_turn (after run parts) (part line more) ≡ true
+
+-- the run stopped in the script's end, or before any of it
+pub record StopsInTheEnd (run : Event) (lines : List Line) (parts : List Part) (more : List Event) : Type 0 where
+  pub is_of : lines_of parts ≡ reverse lines
+  pub steps : MakesSteps (at_end (after run parts)) more
+  pub in_turn : ends_in_turn (after run parts) more ≡ true
+
+-- A run that had to stop: the lines before follow, and behind their parts come whole steps of the last line, or of the script's end.
+pub record StopsShort (run : Event) (lines : List Line) (past : List Event) : Type 0 where
+  pub parts : List Part
+  pub more : List Event
+  pub follows : FollowsLines run parts
+  pub is : past ≡ more ++ told run parts
+  pub stops : StopsInLast run lines parts more ⊎ StopsInTheEnd run lines parts more

@@ -1,0 +1,5 @@
+pub mod Followed
+pub mod Runs
+pub mod Notes
+pub mod Headline
+pub mod Playing

@@ -1,0 +1,91 @@
+-- What the parts of playing a script leave behind.
+use Rattle.std.specs.Prelude.{ℕ, ◌≡◌, ◌≤◌, ◌⊎◌, Bool, true, false, List, [], length, Option, IfSome, Result, Ok, Err, OnOk}
+use Rattle.std.specs.List.{list_all}
+use Rattle.dsql_driver.specs.declared.caps.Caps.{Caps}
+use Rattle.dsql_driver.specs.declared.wire.Fleet.{Ghosts}
+use Rattle.dsql_driver.specs.Streams.{HasRisen}
+use Rattle.dsql_pool.specs.Pooled.{open_count}
+use Rattle.dsql_clients.specs.declared.event.Event.{Event}
+use Rattle.dsql_clients.specs.Legal.{Legal}
+use Rattle.dsql_clients.specs.Readers.Course.{has_ended}
+use Rattle.dsql_clients.specs.Readers.Pool.{pool}
+use Rattle.dsql_clients.specs.Rules.House.{is_quiet}
+use Rattle.dsql_follows.specs.declared.line.Line.{Line}
+use Rattle.dsql_follows.specs.Sentences.{Part}
+use Rattle.dsql_follows.specs.Follows.{after}
+use Rattle.dsql_wires.specs.Extends.{Extends}
+use Rattle.dsql_wires.specs.Told.{SameAbility}
+use Rattle.dsql_playing.specs.Playing.{Playing, IsAt}
+use Rattle.dsql_reader.specs.declared.script.ScriptLine.{ScriptLine}
+use Rattle.dsql_report.specs.Lines.{text_of}
+use Rattle.dsql_show.specs.Report.{with_text, StopsBetween}
+use Rattle.dsql_script_source.specs.Plays.{Plays, saying}
+use Rattle.dsql_script_source.specs.Position.{Position}
+use Rattle.dsql_script_source.specs.Reading.{ReadTo}
+use Rattle.dsql_script_source.specs.Script.{is_skip}
+use Rattle.dsql_script_source.specs.Stops.{is_read_fault, no_read_failed}
+use Rattle.dsql_script_source.specs.declared.stop.Stop.{Stop}
+use Rattle.dsql_script_source.specs.declared.stop.Stop.TheVariants.{Read, Write}
+use Rattle.dsql_outcome.specs.Followed.{FollowsAll, FollowsSoFar, StopsShort}
+use Rattle.dsql_outcome.specs.Runs.{ran_out, no_write_failed, CutAtLine, CutShort, IsLinesEnd, Wrote}
+
+-- a run goes on: its history is legal, and its fleet can do what it could
+pub record RunsOn {F W : Type 0} (fleet : Ghosts F W) (before after : F) (old new : List Event) : Type 0 where
+  pub extends : Extends old new
+  pub able : SameAbility fleet before after
+  pub legal : Legal new
+
+-- the run has ended, each call has its reply, and no connection is open
+pub record IsOver (past : List Event) : Type 0 where
+  pub quiet : is_quiet past ≡ true
+  pub ended : has_ended past ≡ true
+  pub empty : open_count (pool past) ≡ 0
+
+-- The first lines of a script ask for this, and so many of them are skipped as they are played; then comes what was read.
+pub record HasHead (first : Result (Option ScriptLine) Stop) (before : Option (List ℕ)) (reader : Position) (left : Option (List ℕ)) (asked : Option Caps) (skipped : List Line) : Type 0 where
+  pub silent : list_all is_skip skipped ≡ true
+  pub reads : ReadTo first before reader left (saying asked skipped)
+
+-- What was written of a line where all of the history before it was, and how many events were shown.
+pub record WritesLine (stopped : Result Unit Stop) (old new : List Event) (held : Option (List ℕ)) (count : ℕ) (holds : Option (List ℕ)) : Type 0 where
+  pub shown : OnOk stopped (count ≡ length new)
+  pub within : count ≤ length new
+  pub wrote : (w : Option (List ℕ)) → held ≡ with_text w (text_of old) → Wrote stopped w count new holds
+  pub cut : (w : Option (List ℕ)) → held ≡ with_text w (text_of old) → stopped ≡ Err Write → StopsBetween w (text_of old) (text_of new) holds
+
+-- What was written of all lines that were played, and how many events were shown.
+pub record WritesLines (stopped : Result Unit Stop) (past : List Event) (held : Option (List ℕ)) (count : ℕ) (holds : Option (List ℕ)) : Type 0 where
+  pub shown : IsLinesEnd stopped → count ≡ length past
+  pub within : count ≤ length past
+  pub wrote : Wrote stopped held count past holds
+
+-- The lines that were played of a script, whose parts the history follows, or where the run stopped in them. Where the sink failed, it was at the last of them.
+pub record LinesPlayed (stopped : Result Unit Stop) (before left : Option (List ℕ)) (asked : Option Caps) (run : Event) (player : Playing) (w now : Option (List ℕ)) : Type 0 where
+  pub lines : List Line
+  pub parts : List Part
+  pub plays : Plays stopped before left (saying asked lines)
+  pub read : stopped ≡ Ok tt → IfSome left (λ bytes. bytes ≡ [])
+  pub follows : ran_out stopped ≡ true → FollowsSoFar run lines parts player.past
+  pub at : ran_out stopped ≡ true → IsAt (after run parts) player
+  pub short : ran_out stopped ≡ false → StopsShort run lines player.past
+  pub cut : stopped ≡ Err Write → CutAtLine w run parts now
+
+-- The lines that were played of a script to the run's end, and what of it the history follows.
+pub record ScriptPlayed (stopped : Result Unit Stop) (before left : Option (List ℕ)) (asked : Option Caps) (source_failed : Bool) (run : Event) (past : List Event) (w now : Option (List ℕ)) : Type 0 where
+  pub lines : List Line
+  pub plays : Plays stopped before left (saying asked lines)
+  pub read : stopped ≡ Ok tt → IfSome left (λ bytes. bytes ≡ [])
+  pub follows : ran_out stopped ≡ true → FollowsAll run lines past
+  pub short : ran_out stopped ≡ false → StopsShort run lines past
+  pub cut : stopped ≡ Err Write → CutShort before left asked lines source_failed w run past now
+
+-- A source's count of faults as the lines behind the first ones are played. A fault came as the first ones were read, or later.
+pub record ReadsLater (first : Result (Option ScriptLine) Stop) (stopped : Result Unit Stop) (before after : ℕ) : Type 0 where
+  pub caused : stopped ≡ Err Read → first ≡ Err Read ⊎ HasRisen before after
+  pub counted : before ≤ after
+  pub through : no_read_failed stopped ≡ true → is_read_fault first ≡ false
+
+-- a sink's count of faults, where this stopped a run
+pub record WritesWell (stopped : Result Unit Stop) (before after : ℕ) : Type 0 where
+  pub caused : stopped ≡ Err Write → HasRisen before after
+  pub faultless : no_write_failed stopped ≡ true → after ≡ before

@@ -1,0 +1,9 @@
+use Rattle.dsql_playing.proofs.Fitting.{fits_unheard}
+use Rattle.dsql_playing.proofs.Hearing.{itself_quiet}
+use Rattle.dsql_playing.proofs.carrying.what_is_not_heard_keeps_the_wires.Goals as goal
+
+pub returns-clause-itself : goal.returns-clause-itself
+returns-clause-itself g c = itself_quiet
+
+pub returns-clause-wires : goal.returns-clause-wires
+returns-clause-wires g c = fits_unheard g.W.Wire.told
