@@ -1,3 +1,1 @@
-pub mod Splits
-pub mod Decide
-pub mod Openings
+mod Openings

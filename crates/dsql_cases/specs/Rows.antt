@@ -1,193 +1,127 @@
--- Legal histories of calls that read one row, and histories that are legal but for one place, each oldest first.
-use Rattle.std.specs.Prelude.{List, [], ◌∷◌, ◌++◌, pos, codes, ℕ}
-use Rattle.dsql_value.specs.declared.value.Value.TheVariants.{Int}
-use Rattle.dsql_scan.specs.declared.dest.Dest.{Dest}
-use Rattle.dsql_scan.specs.declared.dest.Dest.TheVariants.{I8, I64}
-use Rattle.dsql_scan.specs.declared.cell.Cell.{Cell}
-use Rattle.dsql_scan.specs.declared.cell.Cell.TheVariants as cells
-use Rattle.dsql_driver.specs.declared.call.DriverCall.{DriverCall}
-use Rattle.dsql_driver.specs.declared.call.DriverCall.TheVariants.{Connect, Prepare, Query, Next, CloseRows, CloseStmt, Valid, Shut}
-use Rattle.dsql_driver.specs.declared.call.Input.TheVariants.{Text, Handle}
-use Rattle.dsql_driver.specs.declared.answer.DriverAnswer.{DriverAnswer}
+-- Histories in which two calls work on the same rows. Each is oldest first.
+use Rattle.std.specs.Prelude.{List, [], ◌∷◌, ◌++◌, true, false, codes}
+use Rattle.dsql_driver.specs.declared.call.DriverCall.TheVariants.{Next, CloseRows}
 use Rattle.dsql_driver.specs.declared.answer.DriverAnswer.TheVariants as answers
+use Rattle.dsql_rows.specs.declared.end.RowsOver.TheVariants as overs
+use Rattle.dsql_pool.specs.declared.moves.CloseCause.TheVariants as causes
 use Rattle.dsql_history.specs.declared.event.Event.{Event}
-use Rattle.dsql_history.specs.declared.event.Event.TheVariants.{Entered, Replied, Ended}
-use Rattle.dsql_history.specs.declared.event.Op.TheVariants.{One}
-use Rattle.dsql_history.specs.declared.event.CloseCause.TheVariants as causes
-use Rattle.dsql_history.specs.declared.reply.Reply.{Reply}
-use Rattle.dsql_history.specs.declared.reply.Reply.TheVariants.{Cells, Driver, BadConn, NoRows, DestCount, Scan}
-use Rattle.dsql_history.specs.declared.reply.FaultWord.TheVariants.{OutOfRange}
-use Rattle.dsql_history.specs.Worked.Words.{run, open_start, lend, back, close, gone, house, heard, exec}
-use Rattle.dsql_cases.specs.Edits.{left_out, changed, put_in_after, swapped}
-use Rattle.dsql_cases.specs.Histories.{fault}
+use Rattle.dsql_history.specs.declared.event.Event.TheVariants.{Replied}
+use Rattle.dsql_history.specs.declared.reply.Reply.TheVariants as replies
+use Rattle.dsql_cases.specs.Words.{row, closes, scans, back, close, sent}
+use Rattle.dsql_cases.specs.Begun.{queried, fetched_twice, fetched_and_closed}
 
--- the text of a query
-abbrev pub text : List ℕ
-text = codes "GET a"
-
-abbrev pub query : DriverCall
-query = Query (Text text) []
-
--- a cursor over rows of one column
-abbrev pub cursor : ℕ → DriverAnswer
-cursor rows = answers.Cursor rows (codes "value" ∷ [])
-
--- a row of one number
-abbrev pub row : ℕ → DriverAnswer
-row n = answers.Row (Int (pos n) ∷ [])
-
--- what it is in a signed destination
-abbrev pub cell : ℕ → List Cell
-cell n = cells.Int (pos n) ∷ []
-
--- a call that reads a row into these destinations is lent a new connection
-abbrev pub lent : List Dest → List Event
-lent dests =
-    run
-    ∷ Entered 1 1 (One dests text [])
-    ∷ open_start 1 1
-    ∷ house 1 1 Connect answers.Done
-    ∷ lend 1 2 1
+-- two fetches, each given a row
+abbrev pub two_fetches_each_given_a_row : List Event
+two_fetches_each_given_a_row =
+    fetched_twice
+    ++ sent 1 2 1 2 (Next 1) (row (codes "a"))
+    ∷ Replied 2 (replies.Truth true)
+    ∷ sent 1 2 1 3 (Next 1) (row (codes "b"))
+    ∷ Replied 3 (replies.Truth true)
     ∷ []
 
--- the connection is tested and kept, and the call is replied
-abbrev pub kept : Reply → List Event
-kept reply =
-    heard 1 2 1 Valid answers.Done
+-- the second of two fetches is answered first
+abbrev pub the_second_of_two_fetches_is_answered_first : List Event
+the_second_of_two_fetches_is_answered_first =
+    fetched_twice
+    ++ sent 1 2 1 3 (Next 1) (row (codes "a"))
+    ∷ Replied 3 (replies.Truth true)
+    ∷ sent 1 2 1 2 (Next 1) (row (codes "b"))
+    ∷ Replied 2 (replies.Truth true)
+    ∷ []
+
+-- a row that comes after another has closed the rows
+abbrev pub a_row_that_comes_after_another_has_closed_the_rows : List Event
+a_row_that_comes_after_another_has_closed_the_rows =
+    fetched_and_closed
+    ++ sent 1 2 1 2 (Next 1) (row (codes "a"))
+    ∷ Replied 2 (replies.Truth true)
+    ∷ sent 1 2 1 3 (CloseRows 1) answers.Done
     ∷ back 1
-    ∷ Replied 1 reply
-    ∷ Ended
-    ∷ close 1 causes.DbClosed
-    ∷ house 1 3 Shut answers.Done
-    ∷ gone 1
+    ∷ Replied 3 replies.Ok
     ∷ []
 
--- a row is fetched, and its cursor closed
-abbrev pub reads_a_row : List Event
-reads_a_row =
-    lent (I64 ∷ [])
-    ++ heard 1 2 1 query (cursor 1)
-    ∷ heard 1 2 1 (Next 1) (row 5)
-    ∷ heard 1 2 1 (CloseRows 1) answers.Done
-    ∷ kept (Cells (cell 5))
+-- no row comes after another has closed the rows
+abbrev pub no_row_comes_after_another_has_closed_the_rows : List Event
+no_row_comes_after_another_has_closed_the_rows =
+    fetched_and_closed
+    ++ sent 1 2 1 2 (Next 1) answers.End
+    ∷ Replied 2 (replies.Truth false)
+    ∷ sent 1 2 1 3 (CloseRows 1) answers.Done
+    ∷ back 1
+    ∷ Replied 3 replies.Ok
+    ∷ []
 
--- there is no row
-abbrev pub finds_no_row : List Event
-finds_no_row =
-    lent (I64 ∷ [])
-    ++ heard 1 2 1 query (cursor 1)
-    ∷ heard 1 2 1 (Next 1) answers.End
-    ∷ heard 1 2 1 (CloseRows 1) answers.Done
-    ∷ kept NoRows
+-- a failure comes after another has closed the rows
+abbrev pub a_failure_comes_after_another_has_closed_the_rows : List Event
+a_failure_comes_after_another_has_closed_the_rows =
+    fetched_and_closed
+    ++ sent 1 2 1 2 (Next 1) (answers.Fail (codes "no"))
+    ∷ Replied 2 (replies.Truth false)
+    ∷ sent 1 2 1 3 (CloseRows 1) answers.Done
+    ∷ back 1
+    ∷ Replied 3 replies.Ok
+    ∷ []
 
--- a row of one value, and two destinations
-abbrev pub with_another_number : List Event
-with_another_number =
-    lent (I64 ∷ I64 ∷ [])
-    ++ heard 1 2 1 query (cursor 1)
-    ∷ heard 1 2 1 (Next 1) (row 5)
-    ∷ heard 1 2 1 (CloseRows 1) answers.Done
-    ∷ kept (DestCount 1 2)
-
--- the number is too large for its destination; that the cursor isn't closed well adds nothing
-abbrev pub is_out_of_range : List Event
-is_out_of_range =
-    lent (I8 ∷ [])
-    ++ heard 1 2 1 query (cursor 1)
-    ∷ heard 1 2 1 (Next 1) (row 300)
-    ∷ heard 1 2 1 (CloseRows 1) (answers.Fail fault)
-    ∷ kept (Scan 0 OutOfRange)
-
--- the query fails: there is no cursor
-abbrev pub fails_to_query : List Event
-fails_to_query =
-    lent (I64 ∷ [])
-    ++ heard 1 2 1 query (answers.Fail fault)
-    ∷ kept (Driver fault)
-
--- the row can't be fetched: its cursor is closed
-abbrev pub fails_to_fetch : List Event
-fails_to_fetch =
-    lent (I64 ∷ [])
-    ++ heard 1 2 1 query (cursor 1)
-    ∷ heard 1 2 1 (Next 1) (answers.Fail fault)
-    ∷ heard 1 2 1 (CloseRows 1) answers.Done
-    ∷ kept (Driver fault)
-
--- the cursor can't be closed: its failure is told in place of the row
-abbrev pub fails_to_close : List Event
-fails_to_close =
-    lent (I64 ∷ [])
-    ++ heard 1 2 1 query (cursor 1)
-    ∷ heard 1 2 1 (Next 1) (row 5)
-    ∷ heard 1 2 1 (CloseRows 1) (answers.Fail fault)
-    ∷ kept (Driver fault)
-
--- the connection goes bad as the row is fetched: the cursor isn't closed
-abbrev pub goes_bad_at_the_row : List Event
-goes_bad_at_the_row =
-    lent (I64 ∷ [])
-    ++ heard 1 2 1 query (cursor 1)
-    ∷ heard 1 2 1 (Next 1) answers.Bad
+-- a bad answer comes after another has closed the rows
+abbrev pub a_bad_answer_comes_after_another_has_closed_the_rows : List Event
+a_bad_answer_comes_after_another_has_closed_the_rows =
+    fetched_and_closed
+    ++ sent 1 2 1 2 (Next 1) answers.Bad
     ∷ close 1 causes.Bad
-    ∷ Replied 1 (BadConn 1)
-    ∷ house 1 3 Shut answers.Done
-    ∷ gone 1
-    ∷ Ended
+    ∷ Replied 2 (replies.Truth false)
+    ∷ Replied 3 replies.Ok
     ∷ []
 
--- the driver skips the text, which is prepared; the cursor is closed, and then its handle
-abbrev pub reads_a_prepared_row : List Event
-reads_a_prepared_row =
-    lent (I64 ∷ [])
-    ++ heard 1 2 1 query answers.Skip
-    ∷ heard 1 2 1 (Prepare text) (answers.Prepared 1 (pos 0))
-    ∷ heard 1 2 1 (Query (Handle 1) []) (cursor 2)
-    ∷ heard 1 2 1 (Next 2) (row 5)
-    ∷ heard 1 2 1 (CloseRows 2) answers.Done
-    ∷ heard 1 2 1 (CloseStmt 1) answers.Done
-    ∷ kept (Cells (cell 5))
+-- a fetch that was not sent is told that the rows are closed
+abbrev pub a_fetch_that_was_not_sent_is_told_that_the_rows_are_closed : List Event
+a_fetch_that_was_not_sent_is_told_that_the_rows_are_closed =
+    fetched_and_closed
+    ++ Replied 2 (replies.Truth false)
+    ∷ sent 1 2 1 3 (CloseRows 1) answers.Done
+    ∷ back 1
+    ∷ Replied 3 replies.Ok
+    ∷ []
 
--- the text is executed
-abbrev pub executes_the_query : List Event
-executes_the_query = changed 6 (heard 1 2 1 (exec text) (answers.Result (pos 0) (pos 1))) reads_a_row
+-- it is told so while they are being closed
+abbrev pub it_is_told_so_while_they_are_being_closed : List Event
+it_is_told_so_while_they_are_being_closed =
+    fetched_and_closed
+    ++ sent 1 2 1 3 (CloseRows 1) answers.Done
+    ∷ back 1
+    ∷ Replied 3 replies.Ok
+    ∷ Replied 2 (replies.Truth false)
+    ∷ []
 
--- the cursor is left open
-abbrev pub leaves_the_cursor : List Event
-leaves_the_cursor = left_out 8 reads_a_row
+-- a scan after a row that came too late
+abbrev pub a_scan_after_a_row_that_came_too_late : List Event
+a_scan_after_a_row_that_came_too_late =
+    fetched_and_closed
+    ++ sent 1 2 1 2 (Next 1) (row (codes "a"))
+    ∷ Replied 2 (replies.Truth true)
+    ∷ scans 1 4 (codes "r")
+    ∷ Replied 4 (replies.RowsClosed overs.Close)
+    ∷ []
 
--- a second row is fetched
-abbrev pub fetches_twice : List Event
-fetches_twice = put_in_after 7 (heard 1 2 1 (Next 1) (row 6)) reads_a_row
+-- a fetch that ends the rows closes them, and another is told meanwhile
+abbrev pub a_fetch_that_ends_the_rows_closes_them_and_another_is_told_meanwhile : List Event
+a_fetch_that_ends_the_rows_closes_them_and_another_is_told_meanwhile =
+    fetched_twice
+    ++ sent 1 2 1 2 (Next 1) answers.End
+    ∷ Replied 3 (replies.Truth false)
+    ∷ sent 1 2 1 2 (CloseRows 1) answers.Done
+    ∷ back 1
+    ∷ Replied 2 (replies.Truth false)
+    ∷ []
 
--- the cursor is closed before a row is fetched
-abbrev pub closes_before_the_row : List Event
-closes_before_the_row = swapped 7 reads_a_row
-
--- a row of two values over one column
-abbrev pub gives_a_wider_row : List Event
-gives_a_wider_row = changed 7 (heard 1 2 1 (Next 1) (answers.Row (Int (pos 5) ∷ Int (pos 6) ∷ []))) reads_a_row
-
--- the cursor is closed on a bad connection
-abbrev pub closes_on_a_bad_one : List Event
-closes_on_a_bad_one = put_in_after 7 (heard 1 2 1 (CloseRows 1) answers.Done) goes_bad_at_the_row
-
--- the handle is closed before the cursor over it
-abbrev pub closes_the_handle_first : List Event
-closes_the_handle_first = swapped 10 reads_a_prepared_row
-
--- cells, though there was no row
-abbrev pub replies_cells_of_no_row : List Event
-replies_cells_of_no_row = changed 11 (Replied 1 (Cells (cell 5))) finds_no_row
-
--- no row, though its fetch failed
-abbrev pub tells_no_row_of_a_failure : List Event
-tells_no_row_of_a_failure = changed 11 (Replied 1 NoRows) fails_to_fetch
-
--- cells that aren't those of the row
-abbrev pub replies_other_cells : List Event
-replies_other_cells = changed 11 (Replied 1 (Cells (cell 6))) reads_a_row
-
--- cells, though the cursor couldn't be closed
-abbrev pub replies_cells_after_a_failure : List Event
-replies_cells_after_a_failure = changed 11 (Replied 1 (Cells (cell 5))) fails_to_close
+-- a second close of rows that are being closed
+abbrev pub a_second_close_of_rows_that_are_being_closed : List Event
+a_second_close_of_rows_that_are_being_closed =
+    queried
+    ++ closes 1 2 (codes "r")
+    ∷ closes 2 3 (codes "r")
+    ∷ Replied 3 replies.Ok
+    ∷ sent 1 2 1 2 (CloseRows 1) answers.Done
+    ∷ back 1
+    ∷ Replied 2 replies.Ok
+    ∷ []

@@ -1,55 +1,42 @@
-//! Calls that read one row: worked histories that are legal, and histories that are legal but for one
-//! place, each with the event that may not come and a rule that it breaks. The functions do nothing:
-//! their contracts are what is shown.
+//! Two calls on the same rows: histories that are legal, and histories that are refused, each with the event that
+//! may not come and a rule that it breaks. The functions do nothing: their contracts are what is shown.
 
-ghost use Rattle.std.specs.Prelude.{◌≡◌, true, false, reverse};
+ghost use Rattle.std.specs.Prelude.{◌≡◌, true, reverse};
 ghost use Rattle.dsql_history.specs.Computed.{is_legal};
-ghost use Rattle.dsql_history.specs.Rules.Journals.{keeps_journals};
 ghost use Rattle.dsql_history.specs.Rules.Line.{keeps_line};
+ghost use Rattle.dsql_history.specs.Rules.Moves.{keeps_sets};
 ghost use Rattle.dsql_history.specs.Rules.Replies.{keeps_replies};
 ghost use Rattle.dsql_cases.specs.Refusals.{is_refused_at};
-ghost use Rattle.dsql_cases.specs.Rows.{reads_a_row, finds_no_row, with_another_number, is_out_of_range, fails_to_query, fails_to_fetch, fails_to_close, goes_bad_at_the_row, reads_a_prepared_row, executes_the_query, leaves_the_cursor, fetches_twice, closes_before_the_row, gives_a_wider_row, closes_on_a_bad_one, closes_the_handle_first, replies_cells_of_no_row, tells_no_row_of_a_failure, replies_other_cells, replies_cells_after_a_failure};
+ghost use Rattle.dsql_cases.specs.Rows.{two_fetches_each_given_a_row, the_second_of_two_fetches_is_answered_first, a_row_that_comes_after_another_has_closed_the_rows, no_row_comes_after_another_has_closed_the_rows, a_failure_comes_after_another_has_closed_the_rows, a_bad_answer_comes_after_another_has_closed_the_rows, a_fetch_that_was_not_sent_is_told_that_the_rows_are_closed, it_is_told_so_while_they_are_being_closed, a_scan_after_a_row_that_came_too_late, a_fetch_that_ends_the_rows_closes_them_and_another_is_told_meanwhile, a_second_close_of_rows_that_are_being_closed};
+ghost use Rattle.dsql_cases.specs.DamagedRows.{a_fetch_sends_after_it_was_told, a_fetch_is_sent_after_the_rows_were_closed_by_an_answered_close, two_fetches_and_a_close_after_the_first_answer_the_second_is_not_sent, a_fetch_whose_rows_another_closed_closes_them, the_bad_connection_closes_only_as_the_other_is_told, a_fetch_sends_twice, a_fetch_between_two_calls_of_the_close, another_call_closes_the_rows_that_a_fetch_ended, a_fetch_of_ended_rows_is_told_that_there_was_a_row, a_fetch_is_answered_on_the_connection_of_other_rows, the_layer_closes_rows_that_a_call_ended, a_fetch_sends_again_after_its_reply};
 
-/// A row that is read, and none; another number of destinations; a number that is too large; a query, a
-/// fetch and a close that fail; a connection that goes bad; and a text that is prepared.
-pub fn legal_row_histories()
-    ensures reads_a_row { is_legal (reverse reads_a_row) ≡ true }
-    ensures finds_no_row { is_legal (reverse finds_no_row) ≡ true }
-    ensures with_another_number { is_legal (reverse with_another_number) ≡ true }
-    ensures is_out_of_range { is_legal (reverse is_out_of_range) ≡ true }
-    ensures fails_to_query { is_legal (reverse fails_to_query) ≡ true }
-    ensures fails_to_fetch { is_legal (reverse fails_to_fetch) ≡ true }
-    ensures fails_to_close { is_legal (reverse fails_to_close) ≡ true }
-    ensures goes_bad_at_the_row { is_legal (reverse goes_bad_at_the_row) ≡ true }
-    ensures reads_a_prepared_row { is_legal (reverse reads_a_prepared_row) ≡ true }
+/// Rows that two calls fetch from, or one fetches from and another closes.
+pub fn legal_histories_of_shared_rows()
+    ensures two_fetches_each_given_a_row { is_legal (reverse two_fetches_each_given_a_row) ≡ true }
+    ensures the_second_of_two_fetches_is_answered_first { is_legal (reverse the_second_of_two_fetches_is_answered_first) ≡ true }
+    ensures a_row_that_comes_after_another_has_closed_the_rows { is_legal (reverse a_row_that_comes_after_another_has_closed_the_rows) ≡ true }
+    ensures no_row_comes_after_another_has_closed_the_rows { is_legal (reverse no_row_comes_after_another_has_closed_the_rows) ≡ true }
+    ensures a_failure_comes_after_another_has_closed_the_rows { is_legal (reverse a_failure_comes_after_another_has_closed_the_rows) ≡ true }
+    ensures a_bad_answer_comes_after_another_has_closed_the_rows { is_legal (reverse a_bad_answer_comes_after_another_has_closed_the_rows) ≡ true }
+    ensures a_fetch_that_was_not_sent_is_told_that_the_rows_are_closed { is_legal (reverse a_fetch_that_was_not_sent_is_told_that_the_rows_are_closed) ≡ true }
+    ensures it_is_told_so_while_they_are_being_closed { is_legal (reverse it_is_told_so_while_they_are_being_closed) ≡ true }
+    ensures a_scan_after_a_row_that_came_too_late { is_legal (reverse a_scan_after_a_row_that_came_too_late) ≡ true }
+    ensures a_fetch_that_ends_the_rows_closes_them_and_another_is_told_meanwhile { is_legal (reverse a_fetch_that_ends_the_rows_closes_them_and_another_is_told_meanwhile) ≡ true }
+    ensures a_second_close_of_rows_that_are_being_closed { is_legal (reverse a_second_close_of_rows_that_are_being_closed) ≡ true }
 {}
 
-/// Histories damaged in a call that reads one row.
-pub fn damaged_row_histories()
-    ensures executes_the_query { is_legal (reverse executes_the_query) ≡ false }
-    ensures leaves_the_cursor { is_legal (reverse leaves_the_cursor) ≡ false }
-    ensures fetches_twice { is_legal (reverse fetches_twice) ≡ false }
-    ensures closes_before_the_row { is_legal (reverse closes_before_the_row) ≡ false }
-    ensures gives_a_wider_row { is_legal (reverse gives_a_wider_row) ≡ false }
-    ensures closes_on_a_bad_one { is_legal (reverse closes_on_a_bad_one) ≡ false }
-    ensures closes_the_handle_first { is_legal (reverse closes_the_handle_first) ≡ false }
-    ensures replies_cells_of_no_row { is_legal (reverse replies_cells_of_no_row) ≡ false }
-    ensures tells_no_row_of_a_failure { is_legal (reverse tells_no_row_of_a_failure) ≡ false }
-    ensures replies_other_cells { is_legal (reverse replies_other_cells) ≡ false }
-    ensures replies_cells_after_a_failure { is_legal (reverse replies_cells_after_a_failure) ≡ false }
-{}
-
-/// Why they are refused.
-pub fn refused_row_histories()
-    ensures executes_the_query { is_refused_at 6 keeps_line executes_the_query ≡ true }
-    ensures leaves_the_cursor { is_refused_at 8 keeps_line leaves_the_cursor ≡ true }
-    ensures fetches_twice { is_refused_at 8 keeps_line fetches_twice ≡ true }
-    ensures closes_before_the_row { is_refused_at 7 keeps_line closes_before_the_row ≡ true }
-    ensures gives_a_wider_row { is_refused_at 7 keeps_journals gives_a_wider_row ≡ true }
-    ensures closes_on_a_bad_one { is_refused_at 8 keeps_line closes_on_a_bad_one ≡ true }
-    ensures closes_the_handle_first { is_refused_at 10 keeps_line closes_the_handle_first ≡ true }
-    ensures replies_cells_of_no_row { is_refused_at 11 keeps_replies replies_cells_of_no_row ≡ true }
-    ensures tells_no_row_of_a_failure { is_refused_at 11 keeps_replies tells_no_row_of_a_failure ≡ true }
-    ensures replies_other_cells { is_refused_at 11 keeps_replies replies_other_cells ≡ true }
-    ensures replies_cells_after_a_failure { is_refused_at 11 keeps_replies replies_cells_after_a_failure ≡ true }
+/// Why histories of two calls on the same rows are refused.
+pub fn refused_histories_of_shared_rows()
+    ensures a_fetch_sends_after_it_was_told { is_refused_at 11 keeps_line a_fetch_sends_after_it_was_told ≡ true }
+    ensures a_fetch_is_sent_after_the_rows_were_closed_by_an_answered_close { is_refused_at 13 keeps_sets a_fetch_is_sent_after_the_rows_were_closed_by_an_answered_close ≡ true }
+    ensures two_fetches_and_a_close_after_the_first_answer_the_second_is_not_sent { is_refused_at 13 keeps_line two_fetches_and_a_close_after_the_first_answer_the_second_is_not_sent ≡ true }
+    ensures a_fetch_whose_rows_another_closed_closes_them { is_refused_at 11 keeps_line a_fetch_whose_rows_another_closed_closes_them ≡ true }
+    ensures the_bad_connection_closes_only_as_the_other_is_told { is_refused_at 11 keeps_replies the_bad_connection_closes_only_as_the_other_is_told ≡ true }
+    ensures a_fetch_sends_twice { is_refused_at 10 keeps_line a_fetch_sends_twice ≡ true }
+    ensures a_fetch_between_two_calls_of_the_close { is_refused_at 12 keeps_line a_fetch_between_two_calls_of_the_close ≡ true }
+    ensures another_call_closes_the_rows_that_a_fetch_ended { is_refused_at 11 keeps_line another_call_closes_the_rows_that_a_fetch_ended ≡ true }
+    ensures a_fetch_of_ended_rows_is_told_that_there_was_a_row { is_refused_at 10 keeps_replies a_fetch_of_ended_rows_is_told_that_there_was_a_row ≡ true }
+    ensures a_fetch_is_answered_on_the_connection_of_other_rows { is_refused_at 15 keeps_line a_fetch_is_answered_on_the_connection_of_other_rows ≡ true }
+    ensures the_layer_closes_rows_that_a_call_ended { is_refused_at 9 keeps_line the_layer_closes_rows_that_a_call_ended ≡ true }
+    ensures a_fetch_sends_again_after_its_reply { is_refused_at 11 keeps_line a_fetch_sends_again_after_its_reply ≡ true }
 {}

@@ -23,18 +23,18 @@ use Rattle.dsql_journal.specs.declared.entry.Entry.{Entry}
 use Rattle.dsql_journal.specs.declared.entry.Owner.TheVariants.{Call}
 use Rattle.dsql_pool.specs.declared.conn.Place.{Place}
 use Rattle.dsql_pool.specs.declared.conn.Place.TheVariants.{Lent}
-use Rattle.dsql_history.specs.declared.work.Aim.{Aim}
-use Rattle.dsql_history.specs.declared.work.Aim.TheVariants as aims
-use Rattle.dsql_history.specs.Readers.Exchanges.{exchanges}
-use Rattle.dsql_history.specs.Rules.Line.{Asked, body_after, body_with, course_of, going_on, handed, is_due, line_after, run_for, sent_as, sent_over, test_of}
-use Rattle.dsql_history.specs.Same.{same_name, same_params, same_truth, same_value}
-use Rattle.dsql_clients.specs.declared.event.Event.{Event}
-use Rattle.dsql_clients.specs.Readers.Course.{caps}
-use Rattle.dsql_clients.specs.Readers.HandedOut.{ender, over, rows_by}
-use Rattle.dsql_clients.specs.Readers.Journals.{heard_in}
-use Rattle.dsql_clients.specs.Readers.Pool.{home, place}
-use Rattle.dsql_clients.specs.Rules.Line.{asked_by, is_reset_due, line_at, line_of, tidying}
-use Rattle.dsql_client_laws.proofs.Tests.{same_itself, together}
+use Rattle.dsql_work.specs.declared.work.Aim.{Aim}
+use Rattle.dsql_work.specs.declared.work.Aim.TheVariants as aims
+use Rattle.dsql_work.specs.Exchanges.{exchanges}
+use Rattle.dsql_work.specs.Line.{Asked, body_after, body_with, course_of, going_on, handed, is_due, line_after, run_for, sent_as, sent_over, test_of}
+use Rattle.dsql_work.specs.Same.{same_name, same_params, same_truth, same_value}
+use Rattle.dsql_history.specs.declared.event.Event.{Event}
+use Rattle.dsql_history.specs.Readers.Course.{caps}
+use Rattle.dsql_history.specs.Readers.HandedOut.{ender, over, rows_by}
+use Rattle.dsql_history.specs.Readers.Journals.{heard_in}
+use Rattle.dsql_history.specs.Readers.Pool.{home, place}
+use Rattle.dsql_history.specs.Rules.Line.{asked_by, is_reset_due, line_at, line_of, tidying}
+use Rattle.dsql_laws.proofs.Tests.{same_itself, together}
 
 -- parameters are the same as themselves
 

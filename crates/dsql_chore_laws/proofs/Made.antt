@@ -21,32 +21,32 @@ use Rattle.dsql_tenure.specs.Judged.{answered}
 use Rattle.dsql_tenure.proofs.Standing.{beginning-more}
 use Rattle.dsql_wire.specs.Journaled.{MayBeSent}
 use Rattle.dsql_wire.specs.Opening.{opens}
-use Rattle.dsql_history.specs.Rules.Line.{is_due}
+use Rattle.dsql_work.specs.Line.{is_due}
 use Rattle.dsql_pool.specs.declared.conn.Place.{Place}
 use Rattle.dsql_pool.specs.declared.conn.Place.TheVariants.{Idle, Lent, Opening, Closing}
 use Rattle.dsql_pool.specs.declared.moves.Move.{Move}
 use Rattle.dsql_pool.specs.Places.{is_closing, is_opening}
 use Rattle.dsql_pool.specs.Pooled.{next_tenure}
-use Rattle.dsql_clients.specs.declared.event.Event.{Event}
-use Rattle.dsql_clients.specs.declared.event.Event.TheVariants.{Ended, Heard}
-use Rattle.dsql_clients.specs.Readers.Course.{has_ended}
-use Rattle.dsql_clients.specs.Readers.Journals.{journal}
-use Rattle.dsql_clients.specs.Readers.Owed.{owed}
-use Rattle.dsql_clients.specs.Readers.Pool.{place, pool}
-use Rattle.dsql_clients.specs.Rules.Line.{keeps_line, may_come, sends_from, tidying}
-use Rattle.dsql_clients.specs.Rules.Moves.{hears_in, keeps_sets}
-use Rattle.dsql_clients.specs.Rules.Order.{follows}
-use Rattle.dsql_clients.specs.Rules.Settled.{owes_nothing}
-use Rattle.dsql_clients.specs.Legal.{Lawful}
-use Rattle.dsql_client_laws.proofs.Journals.{keeps_journals_of}
-use Rattle.dsql_client_laws.proofs.Tests.{same_itself, together}
-use Rattle.dsql_client_lendings.proofs.Spared.{unpressed}
-use Rattle.dsql_client_lines.proofs.Following.{follows_connect, follows_due, follows_shut}
-use Rattle.dsql_client_lines.proofs.Sound.{sound}
-use Rattle.dsql_client_lines.proofs.Standing.{opening_opens}
-use Rattle.dsql_client_calls.proofs.Tidying.{tidying_comes, unheld_once_ended}
-use Rattle.dsql_client_going.specs.Permits.{call_permit, chore_at, chore_permit, house_permit}
-use Rattle.dsql_client_hearing.specs.Hearing.{IsWelcome}
+use Rattle.dsql_history.specs.declared.event.Event.{Event}
+use Rattle.dsql_history.specs.declared.event.Event.TheVariants.{Ended, Heard}
+use Rattle.dsql_history.specs.Readers.Course.{has_ended}
+use Rattle.dsql_history.specs.Readers.Journals.{journal}
+use Rattle.dsql_history.specs.Readers.Owed.{owed}
+use Rattle.dsql_history.specs.Readers.Pool.{place, pool}
+use Rattle.dsql_history.specs.Rules.Line.{keeps_line, may_come, sends_from, tidying}
+use Rattle.dsql_history.specs.Rules.Moves.{hears_in, keeps_sets}
+use Rattle.dsql_history.specs.Rules.Order.{follows}
+use Rattle.dsql_history.specs.Rules.Settled.{owes_nothing}
+use Rattle.dsql_history.specs.Legal.{Lawful}
+use Rattle.dsql_laws.proofs.Journals.{keeps_journals_of}
+use Rattle.dsql_laws.proofs.Tests.{same_itself, together}
+use Rattle.dsql_lending_laws.proofs.Spared.{unpressed}
+use Rattle.dsql_sending_laws.proofs.Following.{follows_connect, follows_due, follows_shut}
+use Rattle.dsql_sending_laws.proofs.Sound.{sound}
+use Rattle.dsql_sending_laws.proofs.Standing.{opening_opens}
+use Rattle.dsql_call_laws.proofs.Tidying.{tidying_comes, unheld_once_ended}
+use Rattle.dsql_going.specs.Permits.{call_permit, chore_at, chore_permit, house_permit}
+use Rattle.dsql_hearing.specs.Hearing.{IsWelcome}
 use Rattle.dsql_chore_laws.specs.Chores.{MayBeMade}
 use Rattle.dsql_chore_laws.proofs.Itself.{neither, tidying_itself}
 use Rattle.dsql_chore_laws.proofs.Tidied.{tidied_after_end}

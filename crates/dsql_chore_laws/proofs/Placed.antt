@@ -11,14 +11,14 @@ use Rattle.dsql_pool.specs.declared.conn.Place.{Place}
 use Rattle.dsql_pool.specs.declared.conn.Place.TheVariants.{Idle, Lent, Opening, Closing}
 use Rattle.dsql_pool.specs.Places.{is_closing, is_lent, is_opening}
 use Rattle.dsql_pool.specs.Pooled.{next_tenure}
-use Rattle.dsql_clients.specs.declared.event.Event.{Event}
-use Rattle.dsql_clients.specs.Readers.Pool.{place, pool}
-use Rattle.dsql_clients.specs.Rules.Line.{may_come, tidying}
-use Rattle.dsql_clients.specs.Legal.{Lawful}
-use Rattle.dsql_client_laws.proofs.Tests.{same_number}
-use Rattle.dsql_client_lines.proofs.Following.{stays_with_its_call}
-use Rattle.dsql_client_calls.proofs.Ends.{over_once_ended}
-use Rattle.dsql_client_going.specs.Permits.{call_permit, chore_at, chore_permit, house_permit}
+use Rattle.dsql_history.specs.declared.event.Event.{Event}
+use Rattle.dsql_history.specs.Readers.Pool.{place, pool}
+use Rattle.dsql_history.specs.Rules.Line.{may_come, tidying}
+use Rattle.dsql_history.specs.Legal.{Lawful}
+use Rattle.dsql_laws.proofs.Tests.{same_number}
+use Rattle.dsql_sending_laws.proofs.Following.{stays_with_its_call}
+use Rattle.dsql_call_laws.proofs.Ends.{over_once_ended}
+use Rattle.dsql_going.specs.Permits.{call_permit, chore_at, chore_permit, house_permit}
 use Rattle.dsql_chore_laws.proofs.Itself.{neither, tidying_itself}
 use Rattle.dsql_chore_laws.proofs.Tidied.{tidied_after_end}
 

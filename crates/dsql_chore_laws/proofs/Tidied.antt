@@ -10,25 +10,25 @@ use Rattle.dsql_rows.specs.declared.rows.Rows.{Rows}
 use Rattle.dsql_rows.specs.declared.end.RowsEnd.TheVariants as ends
 use Rattle.dsql_rows.specs.OpenRows.{changed, ended_by, fresh, is_live, rows_of}
 use Rattle.dsql_rows.proofs.Numbers.{changes_one_number}
-use Rattle.dsql_history.specs.declared.work.Work.{Work}
-use Rattle.dsql_history.specs.declared.work.Work.TheVariants.{Fetch, HandOut, Look}
-use Rattle.dsql_history.specs.Readers.HandedOut.{Made}
-use Rattle.dsql_history.specs.Readers.Works.{maker}
-use Rattle.dsql_clients.specs.declared.event.Event.{Event}
-use Rattle.dsql_clients.specs.declared.event.Event.TheVariants.{Run, Entered, Heard, Pool, Waits, SetLimit, Replied, Ended}
-use Rattle.dsql_clients.specs.declared.event.Op.{Op}
-use Rattle.dsql_clients.specs.declared.event.Op.TheVariants as ops
-use Rattle.dsql_clients.specs.Readers.Course.{has_ended}
-use Rattle.dsql_clients.specs.Readers.HandedOut.{are_live, caller, ended_at, ender, fetched, handed_out, live, over, rows_by, rows_entered, rows_heard}
-use Rattle.dsql_clients.specs.Readers.Unfinished.{is_unfinished}
-use Rattle.dsql_clients.specs.Readers.Works.{work, works}
-use Rattle.dsql_clients.specs.Rules.Line.{line_of, tidying}
-use Rattle.dsql_clients.specs.Legal.{Lawful}
-use Rattle.dsql_client_laws.proofs.Numbered.{some_calls}
-use Rattle.dsql_client_laws.proofs.Tests.{both, same_number}
-use Rattle.dsql_client_calls.proofs.Lists.{same_or_not}
-use Rattle.dsql_client_calls.proofs.Works.{enters_next, old_work}
-use Rattle.dsql_client_lendings.proofs.Rows.{rows_at_end_of}
+use Rattle.dsql_work.specs.declared.work.Work.{Work}
+use Rattle.dsql_work.specs.declared.work.Work.TheVariants.{Fetch, HandOut, Look}
+use Rattle.dsql_work.specs.HandedOut.{Made}
+use Rattle.dsql_work.specs.Works.{maker}
+use Rattle.dsql_history.specs.declared.event.Event.{Event}
+use Rattle.dsql_history.specs.declared.event.Event.TheVariants.{Run, Entered, Heard, Pool, Waits, SetLimit, Replied, Ended}
+use Rattle.dsql_history.specs.declared.event.Op.{Op}
+use Rattle.dsql_history.specs.declared.event.Op.TheVariants as ops
+use Rattle.dsql_history.specs.Readers.Course.{has_ended}
+use Rattle.dsql_history.specs.Readers.HandedOut.{are_live, caller, ended_at, ender, fetched, handed_out, live, over, rows_by, rows_entered, rows_heard}
+use Rattle.dsql_history.specs.Readers.Unfinished.{is_unfinished}
+use Rattle.dsql_history.specs.Readers.Works.{work, works}
+use Rattle.dsql_history.specs.Rules.Line.{line_of, tidying}
+use Rattle.dsql_history.specs.Legal.{Lawful}
+use Rattle.dsql_laws.proofs.Numbered.{some_calls}
+use Rattle.dsql_laws.proofs.Tests.{both, same_number}
+use Rattle.dsql_call_laws.proofs.Lists.{same_or_not}
+use Rattle.dsql_call_laws.proofs.Works.{enters_next, old_work}
+use Rattle.dsql_lending_laws.proofs.Rows.{rows_at_end_of}
 
 never : true ≡ false → ⊥
 never h = cc

@@ -7,9 +7,9 @@ use Rattle.dsql_journal.specs.HandlesAndCursors.{fits_at_its_place}
 use Rattle.dsql_tenure.specs.Judged.{answered}
 use Rattle.dsql_wire.specs.Journaled.{MayBeSent}
 use Rattle.dsql_wire.specs.Opening.{opens}
-use Rattle.dsql_clients.specs.declared.event.Event.{Event}
-use Rattle.dsql_clients.specs.Readers.Journals.{journal}
-use Rattle.dsql_client_hearing.specs.Hearing.{IsWelcome}
+use Rattle.dsql_history.specs.declared.event.Event.{Event}
+use Rattle.dsql_history.specs.Readers.Journals.{journal}
+use Rattle.dsql_hearing.specs.Hearing.{IsWelcome}
 
 -- The layer's own call may be made on connection c: a Connect opens it, of which nothing was heard yet; the journal lets each call be sent; and each answer
 -- that fits is welcome.

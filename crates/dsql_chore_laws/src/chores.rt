@@ -5,13 +5,13 @@ ghost use Rattle.dsql_driver.specs.Kinds.{is_connect, is_shut};
 ghost use Rattle.dsql_journal.specs.declared.entry.Entry.{Entry};
 ghost use Rattle.dsql_journal.specs.declared.entry.Permit.{Permit};
 ghost use Rattle.dsql_pool.specs.Places.{is_closing, is_lent, is_opening};
-ghost use Rattle.dsql_clients.specs.declared.event.Event.{Event};
-ghost use Rattle.dsql_clients.specs.Readers.Course.{has_ended};
-ghost use Rattle.dsql_clients.specs.Readers.Pool.{place};
-ghost use Rattle.dsql_clients.specs.Rules.Line.{may_come, tidying};
-ghost use Rattle.dsql_clients.specs.Rules.Settled.{owes_nothing};
-ghost use Rattle.dsql_clients.specs.Legal.{Lawful};
-ghost use Rattle.dsql_client_going.specs.Permits.{chore_permit};
+ghost use Rattle.dsql_history.specs.declared.event.Event.{Event};
+ghost use Rattle.dsql_history.specs.Readers.Course.{has_ended};
+ghost use Rattle.dsql_history.specs.Readers.Pool.{place};
+ghost use Rattle.dsql_history.specs.Rules.Line.{may_come, tidying};
+ghost use Rattle.dsql_history.specs.Rules.Settled.{owes_nothing};
+ghost use Rattle.dsql_history.specs.Legal.{Lawful};
+ghost use Rattle.dsql_going.specs.Permits.{chore_permit};
 ghost use Rattle.dsql_chore_laws.specs.Chores.{MayBeMade};
 
 /// Rows that no call ended, and that are over, ended with the run. So the layer tidies up only after that.

@@ -6,10 +6,13 @@ use Rattle.dsql_rows.specs.declared.end.RowsEnd.TheVariants as ends
 use Rattle.dsql_rows.specs.OpenRows.{rows_of, changed, ended_by}
 use Rattle.dsql_history.specs.declared.event.Event.{Event}
 use Rattle.dsql_history.specs.declared.event.Op.TheVariants as ops
-use Rattle.dsql_history.specs.Readers.Works.{works, maker}
+use Rattle.dsql_work.specs.Works.{maker}
+use Rattle.dsql_history.specs.Readers.Works.{works}
 use Rattle.dsql_history.specs.Readers.Unfinished.{is_unfinished}
-use Rattle.dsql_history.specs.Readers.HandedOut.{Made, handed_out, rows_by, rows_entered}
-use Rattle.dsql_desk.specs.Statements.{AreMade, closed_rows, IsNamed, NoneNamed}
+use Rattle.dsql_work.specs.HandedOut.{Made}
+use Rattle.dsql_history.specs.Readers.HandedOut.{handed_out, rows_by, rows_entered}
+use Rattle.dsql_desk.specs.Entering.{IsNamed, NoneNamed}
+use Rattle.dsql_desk.specs.Starts.{AreMade, closed_rows}
 
 -- where none have the number nothing is changed
 unmade : (change : Rows → Rows) (n : ℕ) (rows : Made) → rows_of n rows ≡ None → changed change n rows ≡ rows

@@ -6,7 +6,7 @@ use Rattle.dsql_driver.specs.Fits.{is_failure}
 use Rattle.dsql_history.specs.declared.reply.Reply.{Reply}
 use Rattle.dsql_history.specs.declared.reply.Reply.TheVariants.{Cells, Driver, BadConn}
 use Rattle.dsql_history.specs.Readers.Calls.{closing_decision}
-use Rattle.dsql_desk.specs.Told.{are_cells}
+use Rattle.dsql_desk.specs.Heard.{are_cells}
 
 pub closing_other : (a : DriverAnswer) (d : Option Reply) → are_cells d ≡ false → closing_decision a d ≡ d
 closing_other (Fail text) None h = refl

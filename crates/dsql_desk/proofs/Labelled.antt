@@ -7,17 +7,10 @@ use Rattle.std.proofs.lemmas.Bool.{cases_Bool}
 use Rattle.std.proofs.lemmas.Bool.Decides.{nat_tests}
 use Rattle.std.proofs.lemmas.List.Folds.{position_or_len_push}
 use Rattle.std.proofs.lemmas.Slice.Eq.{bytes_eq-Decides}
-use Rattle.dsql_history.specs.declared.work.Work.{Work}
-use Rattle.dsql_history.specs.declared.work.Work.TheVariants.{Execute, ReadOne, HandOut, Fetch, Close, Look}
-use Rattle.dsql_history.specs.Readers.Works.{works, has_label}
-use Rattle.dsql_history.specs.declared.event.Event.{Event}
-use Rattle.dsql_history.specs.declared.event.Event.TheVariants.{Entered}
-use Rattle.dsql_history.specs.declared.event.Op.{Op}
-use Rattle.dsql_history.specs.Readers.Calls.{next_call}
-use Rattle.dsql_history.specs.Legal.{Allowed, Lawful}
-use Rattle.dsql_laws.proofs.Rows.{both, same_number}
-use Rattle.dsql_laws.proofs.SoundCalls.{sound_calls}
-use Rattle.dsql_desk.specs.Labels.{label_made, labelled}
+use Rattle.dsql_work.specs.declared.work.Work.{Work}
+use Rattle.dsql_work.specs.declared.work.Work.TheVariants.{Execute, ReadOne, HandOut, Fetch, Close, Look}
+use Rattle.dsql_work.specs.Works.{has_label}
+use Rattle.dsql_desk.specs.Starts.{label_made, labelled}
 
 found : ℕ → ℕ → Option ℕ
 found k n = cond (nat_lt k n) (Some k) None
@@ -84,8 +77,3 @@ labelled_put find own other n next new is =
     is
     ∙ chosen_as (bytes_eq own other) n (find other) (λ same. ap (λ l. is_some (find l)) (sym ((bytes_eq-Decides own other).0 same)) ∙ new)
     ∙ labelled_chosen own other n (find other)
-
--- the number of a call that may enter is that of the next work
-pub next_work : (H : List Event) (client n : ℕ) (op : Op) → Lawful H → Allowed H (Entered client n op) → n ≡ length (works H)
-unfolding Allowed
-next_work H client n op lawful allowed = same_number n (next_call H) (both _ _ allowed.numbers).0 ∙ sym (sound_calls H lawful).works_rows

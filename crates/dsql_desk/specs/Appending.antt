@@ -1,28 +1,95 @@
 -- What the event methods of the desk ask for, and what they leave.
-use Rattle.std.specs.Prelude.{ℕ, ◌≡◌, ◌<◌, ◌+◌, ◌∷◌, true, Some, is_some}
+use Rattle.std.specs.Prelude.{ℕ, Bool, true, false, ◌≡◌, ◌<◌, ◌≤◌, ◌+◌, List, [], ◌∷◌, length, Option, Some, None, Result, Ok}
+use Rattle.dsql_journal.specs.declared.entry.Owner.TheVariants.{Call}
+use Rattle.dsql_work.specs.Limits.{most_within_a_step}
+use Rattle.dsql_pool.specs.declared.conn.Place.{Place}
+use Rattle.dsql_pool.specs.declared.conn.Place.TheVariants.{Opening, Closing}
+use Rattle.dsql_pool.specs.declared.moves.Fate.{Fate}
+use Rattle.dsql_pool.specs.declared.moves.Move.TheVariants.{OpenStart, Lend}
+use Rattle.dsql_pool.specs.declared.request.Asked.{Asked}
+use Rattle.dsql_pool.specs.declared.request.Asked.TheVariants as asked
+use Rattle.dsql_pool.specs.declared.request.AskFault.{AskFault}
 use Rattle.dsql_history.specs.declared.event.Event.{Event}
-use Rattle.dsql_history.specs.declared.event.Event.TheVariants.{Replied}
+use Rattle.dsql_history.specs.declared.event.Event.TheVariants.{Pool, Waits}
+use Rattle.dsql_history.specs.declared.event.Op.{Op}
+use Rattle.dsql_history.specs.declared.event.Op.TheVariants.{DbClose}
 use Rattle.dsql_history.specs.declared.reply.Reply.{Reply}
-use Rattle.dsql_history.specs.Legal.{Allowed}
 use Rattle.dsql_history.specs.Readers.Calls.{reply_due}
+use Rattle.dsql_history.specs.Readers.Owed.{fate, given_back, owed}
+use Rattle.dsql_history.specs.Rules.Asking.{may_ask, ask_outcome}
+use Rattle.dsql_history.specs.Legal.{Allowed}
+use Rattle.dsql_laws.specs.Asked.{with_asked}
+use Rattle.dsql_laws.specs.Leaving.{MayLeave}
+use Rattle.dsql_laws.specs.OwedMade.{with_moves}
 use Rattle.dsql_desk.specs.declared.desk.Desk.{Desk}
 use Rattle.dsql_desk.specs.Desk.{past, Stands}
+use Rattle.dsql_desk.specs.Settling.{reply_or}
 
--- the event may come next, and there is memory for it
+-- the event may come next, and there is memory for it and for the moves that it makes due
 pub record MayAppend (desk : Desk) (event : Event) : Type 0 where
   pub stands : Stands desk
-  pub paid : 0 < desk.paid
+  pub paid : length (owed (event ∷ past desk)) < desk.paid
   pub allowed : Allowed (past desk) event
+  pub few : length (past desk) < most_within_a_step
 
--- the call may be told the reply that is settled
-pub record MayTell (desk : Desk) (call : ℕ) : Type 0 where
-  pub stands : Stands desk
-  pub paid : 0 < desk.paid
-  pub decided : is_some (reply_due (past desk) call) ≡ true
-  pub allowed : (reply : Reply) → reply_due (past desk) call ≡ Some reply → Allowed (past desk) (Replied call reply)
-
--- the event came
+-- the event came, and then the moves that it made due
 pub record Appends (old new : Desk) (added : Event) : Type 0 where
   pub stands : Stands new
+  pub paid : new.paid + length (owed (added ∷ past old)) + 1 ≡ old.paid
+  pub event : past new ≡ with_moves (owed (added ∷ past old)) (added ∷ past old)
+
+-- the moves came that were owed
+pub record Makes (old new : Desk) : Type 0 where
+  pub stands : Stands new
+  pub paid : new.paid + length (owed (past old)) ≡ old.paid
+  pub moves : past new ≡ with_moves (owed (past old)) (past old)
+
+-- connection c may leave its call, of which its journal tells this, and there is memory for the moves that this makes
+pub record MayGiveBack (desk : Desk) (c : ℕ) (told : Fate) : Type 0 where
+  pub stands : Stands desk
+  pub leaves : MayLeave (past desk) c
+  pub fate : told ≡ fate (past desk) c
+  pub paid : length (given_back (past desk) c) ≤ desk.paid
+  pub few : length (past desk) < most_within_a_step
+
+-- the moves came of connection c, which was given back
+pub record GivesBack (old new : Desk) (c : ℕ) : Type 0 where
+  pub stands : Stands new
+  pub paid : new.paid + length (given_back (past old) c) ≡ old.paid
+  pub moves : past new ≡ with_moves (given_back (past old) c) (past old)
+
+-- call n may ask for a connection, and there is memory for what comes of it
+pub record MayAskNow (desk : Desk) (n : ℕ) : Type 0 where
+  pub stands : Stands desk
+  pub owing : owed (past desk) ≡ []
+  pub asks : may_ask (past desk) n ≡ true
+  pub paid : 0 < desk.paid
+  pub few : length (past desk) < most_within_a_step
+
+-- call n asked, and what the pool answered came
+pub record Asks (old new : Desk) (n : ℕ) : Type 0 where
+  pub stands : Stands new
   pub paid : new.paid + 1 ≡ old.paid
-  pub event : past new ≡ added ∷ past old
+  pub event : past new ≡ with_asked n (ask_outcome (past old) n) (past old)
+
+-- the event that comes of call n's asking, if one does
+abbrev pub event_asked : ℕ → Result Asked AskFault → Option Event
+event_asked n (Ok (asked.Lent c tenure)) = Some (Pool (Lend c tenure (Call n) n))
+event_asked n (Ok (asked.Opening c)) = Some (Pool (OpenStart c n))
+event_asked n (Ok asked.Queued) = Some (Waits n)
+event_asked n _ = None
+
+-- what call n is to be replied, where that is settled
+abbrev pub reply_now : List Event → ℕ → Reply
+reply_now past n = reply_or (reply_due past n)
+
+-- it is being opened or closed
+abbrev pub is_under_way : Option Place → Bool
+is_under_way (Some (Opening wanted)) = true
+is_under_way (Some Closing) = true
+is_under_way _ = false
+
+-- the operation closes the database
+abbrev pub is_close : Op → Bool
+is_close DbClose = true
+is_close _ = false

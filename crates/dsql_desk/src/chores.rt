@@ -1,93 +1,74 @@
-//! Which of the open connections the layer's own driver calls are for.
+//! The layer's own driver calls.
 ghost use Rattle.std.specs.Prelude.{◌≡◌, find};
 ghost use Rattle.dsql_desk.specs.Desk.{past, Stands};
-ghost use Rattle.dsql_desk.specs.Open.{open_ones};
-ghost use Rattle.dsql_history.specs.Readers.Sets.{place, is_closing as is_closing_place, is_opening as is_opening_place};
-ghost use Rattle.dsql_history.specs.Rules.House.{tidy_due, is_untidy, shut_due, connect_due};
+ghost use Rattle.dsql_history.specs.Readers.Pool.{pool};
+ghost use Rattle.dsql_history.specs.Rules.House.{chore_due, connect_due, is_untidy, shut_due, tidy_due};
 
 use crate::desk::Desk;
+use crate::places;
 use dsql_history::Place;
 use dsql_journal::Owner;
+use dsql_pool::Conn;
 
 #[tactic(auto, unfolding(crate::specs::Desk::Stands))]
 impl Desk {
-    /// The first connection that is to be tidied up.
+    /// The connection on which the layer's own driver call that comes first is made, if there is any.
+    pub fn chore_due(&self) -> Option<u32>
+        requires { Stands self.now }
+        ensures { result ≡ chore_due (past self.now) }
+    {
+        if let Some(conn) = self.tidy_due() {
+            return Some(conn);
+        }
+        if let Some(conn) = self.shut_due() {
+            return Some(conn);
+        }
+        self.connect_due()
+    }
+
+    /// The connection that is to be tidied up first.
     pub fn tidy_due(&self) -> Option<u32>
         requires { Stands self.now }
         ensures { result ≡ tidy_due (past self.now) }
     {
-        self.first_untidy()
+        places::number_of(self.first_untidy())
     }
 
-    /// The first of the open connections that is to be tidied up.
-    fn first_untidy(&self) -> Option<u32>
+    fn first_untidy(&self) -> Option<Conn>
         requires { Stands self.now }
-        ensures { result ≡ find (λ conn. is_untidy (past self.now) (place (past self.now) conn)) (open_ones (past self.now)) }
+        ensures { result ≡ find (λ conn. is_untidy (past self.now) conn.place) (pool (past self.now)).conns }
     {
-        self.opened
+        self.pool
+            .conns()
             .iter()
             .copied()
-            .find(|conn| self.is_untidy(self.place(*conn)))
+            .find(|conn| self.is_untidy(conn.place))
     }
 
-    /// Whether rows that the end of the run ended still have it, and no client's call sends there.
+    /// Whether rows that no call ended are to be closed there.
     fn is_untidy(&self, place: Place) -> bool
         requires { Stands self.now }
         ensures { result ≡ is_untidy (past self.now) place }
     {
         match place {
-            Place::Lent(_, Owner::Call(call)) => self.ended && self.sender(call) == 0,
+            Place::Lent(_, Owner::Call(call)) => self.is_tidying(call),
             _ => false,
         }
     }
 
-    /// The first connection that is to be shut.
+    /// The connection that is to be shut first.
     pub fn shut_due(&self) -> Option<u32>
         requires { Stands self.now }
         ensures { result ≡ shut_due (past self.now) }
     {
-        self.first_closing()
+        places::number_of(places::closing(self.pool.conns()))
     }
 
-    /// The first of the open connections that is to be shut.
-    fn first_closing(&self) -> Option<u32>
-        requires { Stands self.now }
-        ensures { result ≡ find (λ conn. is_closing_place (place (past self.now) conn)) (open_ones (past self.now)) }
-    {
-        self.opened
-            .iter()
-            .copied()
-            .find(|conn| is_closing(self.place(*conn)))
-    }
-
-    /// The first connection that is to be connected.
+    /// The connection that is to be connected first.
     pub fn connect_due(&self) -> Option<u32>
         requires { Stands self.now }
         ensures { result ≡ connect_due (past self.now) }
     {
-        self.first_opening()
+        places::number_of(places::opening(self.pool.conns()))
     }
-
-    /// The first of the open connections that is to be connected.
-    fn first_opening(&self) -> Option<u32>
-        requires { Stands self.now }
-        ensures { result ≡ find (λ conn. is_opening_place (place (past self.now) conn)) (open_ones (past self.now)) }
-    {
-        self.opened
-            .iter()
-            .copied()
-            .find(|conn| is_opening(self.place(*conn)))
-    }
-}
-
-fn is_closing(place: Place) -> bool
-    ensures { result ≡ is_closing_place place }
-{
-    matches!(place, Place::Closing)
-}
-
-fn is_opening(place: Place) -> bool
-    ensures { result ≡ is_opening_place place }
-{
-    matches!(place, Place::Opening(_))
 }

@@ -1,13 +1,16 @@
-//! The tables of the present: those of a run that begins, and their room.
+//! What is kept of the present: that of a run that begins, and its room.
 ghost use Rattle.std.specs.Prelude.{◌≡◌, ◌∷◌, [], IfOk, OnOk};
+ghost use Rattle.dsql_desk.specs.Calls.{nobody};
 ghost use Rattle.dsql_desk.specs.Desk.{past, Stands};
 ghost use Rattle.dsql_history.specs.Rules.Settled.{Settled};
 ghost use Rattle.dsql_history.specs.declared.event.Event.TheVariants.{Run};
 
+use crate::call::CallRow;
+use crate::exchanged::Exchanged;
 use crate::no_room::NoRoom;
-use dsql_course::Progress;
 use dsql_driver::Caps;
-use dsql_history::{CallRecord, Event, Place, Work};
+use dsql_history::{CallRecord, DbEnd, Event, Work};
+use dsql_pool::Pool;
 use dsql_rows::RowsTable;
 use dsql_value::{Items, Txt};
 use indexmap::IndexMap;
@@ -16,25 +19,20 @@ use std::alloc::Global;
 /// What is kept of the present, beside the history.
 #[derive(Drop)]
 pub struct Desk {
+    /// All that happened, the oldest first.
     pub history: Vec<Event>,
     pub caps: Caps,
+    /// What closed the database, if something did.
+    pub closed_by: Option<DbEnd>,
     pub ended: bool,
-    /// The place of each connection, by its number.
-    pub places: Vec<Place>,
-    /// How often each connection was lent, and how often to an owner other than the layer itself.
-    pub lends: Vec<u32>,
-    pub uses: Vec<u32>,
-    /// What was exchanged on each connection since it was lent.
-    pub made: Vec<Progress>,
-    /// The connections that stand somewhere, the smallest first.
-    pub opened: Vec<u32>,
-    /// The idle connections, the longest idle first.
-    pub idle: Vec<u32>,
-    /// Each call, by its number, and those without a reply.
-    pub calls: Vec<CallRecord>,
+    /// The connections, the requests that wait, and the limits.
+    pub pool: Pool,
+    /// What was exchanged on each connection since it was lent, by its number.
+    pub made: Vec<Exchanged>,
+    /// Each call, by its number. There is no call 0.
+    pub calls: Vec<CallRow>,
+    /// The calls without a reply.
     pub unfinished: Vec<u32>,
-    /// What each call has to do.
-    pub works: Vec<Work>,
     /// The first call that hands out rows under each label.
     pub labels: IndexMap<String, u32>,
     /// The rows that were handed out, by the numbers of their queries.
@@ -47,44 +45,26 @@ pub struct Desk {
 impl Desk {
     /// The desk of a run that begins.
     pub fn start(alloc: Global, version: u8, caps: Caps) -> Result<Desk, NoRoom>
+        requires { version ≡ 1 }
         ensures stands { IfOk result (λ d. Stands d) }
         ensures past { IfOk result (λ d. past d ≡ Run version caps ∷ []) }
         ensures settled { IfOk result (λ d. Settled (past d)) }
     {
         let mut history = Vec::new(alloc);
         history.push(Event::Run { version, caps })?;
-        let mut places = Vec::new(alloc);
-        places.push(Place::Nowhere)?;
-        let mut lends = Vec::new(alloc);
-        lends.push(0)?;
-        let mut uses = Vec::new(alloc);
-        uses.push(0)?;
         let mut made = Vec::new(alloc);
-        made.push(Progress::new())?;
+        made.push(Exchanged::new())?;
         let mut calls = Vec::new(alloc);
-        let text = Txt::copy_of(alloc, "")?;
-        calls.push(CallRecord {
-            client: 0,
-            home: 0,
-            text,
-            params: Items::none(alloc),
-            decided: None,
-        })?;
-        let mut works = Vec::new(alloc);
-        works.push(Work::Look)?;
+        calls.push(nobody(alloc)?)?;
         Ok(Desk {
             history,
             caps,
+            closed_by: None,
             ended: false,
-            places,
-            lends,
-            uses,
+            pool: Pool::new(alloc),
             made,
-            opened: Vec::new(alloc),
-            idle: Vec::new(alloc),
             calls,
             unfinished: Vec::new(alloc),
-            works,
             labels: IndexMap::new(alloc),
             rows: RowsTable::new(alloc),
             paid: 0,
@@ -100,18 +80,31 @@ impl Desk {
     {
         let count = events as usize;
         self.history.reserve(count)?;
-        self.places.reserve(count)?;
-        self.lends.reserve(count)?;
-        self.uses.reserve(count)?;
-        self.made.reserve(count)?;
-        self.opened.reserve(count)?;
-        self.idle.reserve(count)?;
-        self.calls.reserve(count)?;
         self.unfinished.reserve(count)?;
-        self.works.reserve(count)?;
+        self.made.reserve(count)?;
+        self.calls.reserve(count)?;
         self.labels.reserve(count)?;
         self.rows.reserve(events)?;
+        self.pool.reserve(events)?;
         self.paid = count;
         Ok(())
     }
+}
+
+// The row of no call.
+fn nobody(alloc: Global) -> Result<CallRow, NoRoom>
+    ensures { IfOk result (λ row. row ≡ nobody) }
+{
+    let call = CallRecord {
+        client: 0,
+        text: Txt::copy_of(alloc, "")?,
+        params: Items::none(alloc),
+        decided: None,
+    };
+    Ok(CallRow {
+        call,
+        work: Work::Look,
+        tried: None,
+        ender: 0,
+    })
 }

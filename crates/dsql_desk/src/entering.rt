@@ -1,56 +1,74 @@
-//! What a call does as it enters.
-ghost use Rattle.dsql_history.specs.declared.event.Op.TheVariants as ops;
+//! What is kept of a call that enters.
 ghost use Rattle.std.specs.Option.{option_copied};
 ghost use Rattle.std.specs.Prelude.{◌≡◌, ◌<◌, Some, Err, IfOk, IfSome, IfNone, true, length, string_bytes, option_map};
+ghost use Rattle.dsql_work.specs.Limits.{most_within_a_step};
 ghost use Rattle.dsql_desk.specs.Desk.{past, Stands};
-ghost use Rattle.dsql_desk.specs.Labels.{label_made};
-ghost use Rattle.dsql_history.specs.Limits.{most_within_a_step};
-ghost use Rattle.dsql_desk.specs.Statements.{Enters, EntersText, Goes, IsNamed, NoneNamed, IsLook};
-ghost use Rattle.dsql_history.specs.Readers.Calls.{scan_reply, fault_reply, told_row};
+ghost use Rattle.dsql_desk.specs.Entering.{IsChecked, IsNamed, NoneNamed, names_fit, StartsOver, StartsText};
+ghost use Rattle.dsql_desk.specs.Starts.{Starts, label_made};
+ghost use Rattle.dsql_history.specs.Readers.Calls.{fault_reply, refused_with, scan_reply, told_at_entry, told_row};
 ghost use Rattle.dsql_history.specs.Readers.HandedOut.{handed_out};
-ghost use Rattle.dsql_history.specs.Readers.Works.{maker, works};
-ghost use Rattle.dsql_rows.specs.OpenRows.{was_made, rows_of, scan_of};
+ghost use Rattle.dsql_history.specs.Readers.Works.{works};
+ghost use Rattle.dsql_history.specs.declared.event.Op.TheVariants as ops;
+ghost use Rattle.dsql_work.specs.Works.{maker};
+ghost use Rattle.dsql_rows.specs.OpenRows.{rows_of, scan_of, was_made};
 
+use crate::call::CallStart;
+use crate::deciding::row_fault;
 use crate::desk::Desk;
 use crate::no_room::NoRoom;
-use crate::replies::row_fault;
-use crate::statement::{CallStart, Entering, Statement, Then, asking};
-use dsql_history::{Aim, Op, Reply, Work};
+use dsql_history::{Op, Reply, Work};
 use dsql_rows::{RowsEnd, RowsFault};
 use dsql_scan::{Dest, RowFault};
-use dsql_value::{Args, Txt};
+use dsql_value::{ArgFault, Args, Items, Params, Txt, check_args};
 use std::alloc::Global;
+
+/// A text with its arguments, and the reply where one of them is refused.
+#[derive(Drop)]
+pub struct Checked {
+    pub text: Txt,
+    pub params: Params,
+    pub refused: Option<Reply>,
+}
 
 #[tactic(auto, unfolding(crate::specs::Desk::Stands))]
 impl Desk {
-    /// What an operation does as it enters.
-    pub fn entering(&self, alloc: Global, op: &Op) -> Result<Entering, NoRoom>
+    /// What is kept of a call that enters with an operation, with the memory that it takes.
+    pub fn entering(&self, alloc: Global, op: &Op) -> Result<CallStart, NoRoom>
         requires stands { Stands self.now }
         requires few { length (past self.now) < most_within_a_step }
-        ensures { IfOk result (λ it. Enters (past self.now) op.now it) }
+        ensures { IfOk result (λ it. Starts (past self.now) op.now it) }
     {
         match op {
-            Op::Exec { text, args } => self.entering_text(
-                alloc,
-                text,
-                args,
-                Work::Execute,
-                None,
-                Aim::Execute,
-            ),
+            Op::Exec { text, args } => self.entering_text(alloc, text, args, Work::Execute, None),
             Op::Query { label, text, args } => {
                 let work = Work::HandOut(label.copy()?);
                 let label = Some(label.copy()?.into_string());
-                self.entering_text(alloc, text, args, work, label, Aim::HandOut)
+                self.entering_text(alloc, text, args, work, label)
             }
             Op::One { dests, text, args } => {
                 let work = Work::ReadOne(dests.clone()?);
-                self.entering_text(alloc, text, args, work, None, Aim::ReadOne)
+                self.entering_text(alloc, text, args, work, None)
             }
             Op::Next { rows } => self.entering_next(alloc, rows),
             Op::Scan { rows, dests } => self.entering_scan(alloc, rows, dests.as_slice()),
             Op::RowsClose { rows } => self.entering_close(alloc, rows),
             Op::Err { rows } => self.entering_err(alloc, rows),
+            Op::DbClose => over_rows(alloc, Work::Look, None, Some(Reply::Ok)),
+            Op::Stats => {
+                let stats = Reply::Stats(self.pool.stats());
+                over_rows(alloc, Work::Look, None, Some(stats))
+            }
+        }
+    }
+
+    /// Whether no call that has entered makes the label that this operation makes.
+    pub fn names_fit(&self, op: &Op) -> bool
+        requires { Stands self.now }
+        ensures { result ≡ names_fit (past self.now) op.now }
+    {
+        match op {
+            Op::Query { label, .. } => self.maker(label) == 0,
+            _ => true,
         }
     }
 
@@ -62,108 +80,99 @@ impl Desk {
         args: &Args,
         work: Work,
         label: Option<String>,
-        aim: Aim,
-    ) -> Result<Entering, NoRoom>
+    ) -> Result<CallStart, NoRoom>
         requires stands { Stands self.now }
         requires label { option_map string_bytes label ≡ label_made work }
-        ensures { IfOk result (λ it. EntersText (past self.now) text.now args.now work aim it) }
+        ensures { IfOk result (λ it. StartsText (past self.now) text.now args.now work it) }
     {
-        let (statement, then) = asking(alloc, self.caps.named, text, args, aim)?;
-        let start = CallStart {
+        let Checked {
+            text,
+            params,
+            refused,
+        } = accept(alloc, self.caps.named, text, args)?;
+        let decided = match self.closed_by {
+            Some(end) => Some(Reply::DbClosed(end)),
+            None => refused,
+        };
+        Ok(CallStart {
             work,
-            statement,
+            text,
+            params,
             label,
             closes: None,
-        };
-        Ok(Entering { start, then })
+            decided,
+        })
     }
 
     /// `Rows.Next`.
-    fn entering_next(&self, alloc: Global, label: &Txt) -> Result<Entering, NoRoom>
+    fn entering_next(&self, alloc: Global, label: &Txt) -> Result<CallStart, NoRoom>
         requires stands { Stands self.now }
         requires few { length (past self.now) < most_within_a_step }
-        ensures { IfOk result (λ it. Enters (past self.now) (ops.Next label.now) it) }
+        ensures { IfOk result (λ it. Starts (past self.now) (ops.Next label.now) it) }
     {
-        let then = match self.rows_named(label) {
-            None => Then::Tell(Reply::Absent(label.copy()?)),
-            Some(query) if self.rows.is_live(query) => Then::Use(
-                query,
-                self.statement(alloc, query)?,
-            ),
-            Some(_) => Then::Tell(Reply::Truth(false)),
+        let decided = match self.rows_named(label) {
+            None => Some(Reply::Absent(label.copy()?)),
+            Some(query) if self.rows.is_live(query) => None,
+            Some(_) => Some(Reply::Truth(false)),
         };
-        let start = CallStart {
-            work: Work::Fetch(self.maker(label)),
-            statement: Statement::none(alloc)?,
-            label: None,
-            closes: None,
-        };
-        Ok(Entering { start, then })
+        over_rows(alloc, Work::Fetch(self.maker(label)), None, decided)
     }
 
     /// `Rows.Close`.
     #[tactic(auto, using(crate::proofs::CloseAtEntry::closes_as_entered, crate::proofs::CloseAtEntry::closes_made), unfolding(crate::specs::Desk::Stands))]
-    fn entering_close(&self, alloc: Global, label: &Txt) -> Result<Entering, NoRoom>
+    fn entering_close(&self, alloc: Global, label: &Txt) -> Result<CallStart, NoRoom>
         requires stands { Stands self.now }
         requires few { length (past self.now) < most_within_a_step }
-        ensures { IfOk result (λ it. Enters (past self.now) (ops.RowsClose label.now) it) }
+        ensures { IfOk result (λ it. Starts (past self.now) (ops.RowsClose label.now) it) }
     {
         let closes = self.rows_named(label);
-        let then = self.then_close(alloc, label, closes)?;
-        let start = CallStart {
-            work: Work::Close(self.maker(label)),
-            statement: Statement::none(alloc)?,
-            label: None,
-            closes,
-        };
-        Ok(Entering { start, then })
+        let decided = self.told_closing(label, closes)?;
+        over_rows(alloc, Work::Close(self.maker(label)), closes, decided)
     }
 
-    /// What a call does that is to close the rows of the label, which are those of this call, if there are any.
-    fn then_close(&self, alloc: Global, label: &Txt, rows: Option<u32>) -> Result<Then, NoRoom>
+    /// What a call is told at once that is to close the rows of the label, which are those of this call, if there
+    /// are any.
+    fn told_closing(&self, label: &Txt, rows: Option<u32>) -> Result<Option<Reply>, NoRoom>
         requires stands { Stands self.now }
         requires some { IfSome rows (λ query. IsNamed (past self.now) label.now query) }
         requires none { IfNone rows (NoneNamed (past self.now) label.now) }
-        ensures { IfOk result (λ then. Goes (past self.now) (ops.RowsClose label.now) then) }
+        ensures { IfOk result (λ reply. reply ≡ told_at_entry (past self.now) (ops.RowsClose label.now)) }
     {
         match rows {
-            None => Ok(Then::Tell(Reply::Absent(label.copy()?))),
-            Some(query) if self.rows.is_live(query) => Ok(Then::Use(
-                query,
-                self.statement(alloc, query)?,
-            )),
-            Some(_) => Ok(Then::Tell(Reply::Ok)),
+            None => Ok(Some(Reply::Absent(label.copy()?))),
+            Some(query) if self.rows.is_live(query) => Ok(None),
+            Some(_) => Ok(Some(Reply::Ok)),
         }
     }
 
     /// `Rows.Scan`.
-    fn entering_scan(&self, alloc: Global, label: &Txt, dests: &[Dest]) -> Result<Entering, NoRoom>
+    fn entering_scan(&self, alloc: Global, label: &Txt, dests: &[Dest]) -> Result<CallStart, NoRoom>
         requires stands { Stands self.now }
         requires few { length (past self.now) < most_within_a_step }
-        ensures { IfOk result (λ it. Enters (past self.now) (ops.Scan label.now dests.now) it) }
+        ensures { IfOk result (λ it. Starts (past self.now) (ops.Scan label.now dests.now) it) }
     {
         let reply = match self.rows_named(label) {
             None => Reply::Absent(label.copy()?),
             Some(query) => self.scan_reply(query, dests)?,
         };
-        looking(alloc, reply)
+        over_rows(alloc, Work::Look, None, Some(reply))
     }
 
     /// `Rows.Err`.
-    fn entering_err(&self, alloc: Global, label: &Txt) -> Result<Entering, NoRoom>
+    fn entering_err(&self, alloc: Global, label: &Txt) -> Result<CallStart, NoRoom>
         requires stands { Stands self.now }
         requires few { length (past self.now) < most_within_a_step }
-        ensures { IfOk result (λ it. Enters (past self.now) (ops.Err label.now) it) }
+        ensures { IfOk result (λ it. Starts (past self.now) (ops.Err label.now) it) }
     {
         let reply = match self.rows_named(label) {
             None => Reply::Absent(label.copy()?),
             Some(query) => fault_reply(self.rows.ended(query))?,
         };
-        looking(alloc, reply)
+        over_rows(alloc, Work::Look, None, Some(reply))
     }
 
     /// The first call whose rows have the label, 0 where there is none.
-    fn maker(&self, label: &Txt) -> u32
+    pub fn maker(&self, label: &Txt) -> u32
         requires { Stands self.now }
         ensures { result ≡ maker (works (past self.now)) label.now }
     {
@@ -204,20 +213,58 @@ impl Desk {
     }
 }
 
-/// A call that looks at what there is, and replies so.
-fn looking(alloc: Global, reply: Reply) -> Result<Entering, NoRoom>
-    ensures { IfOk result (λ it. IsLook reply it) }
+/// A call that runs no text of its own.
+fn over_rows(
+    alloc: Global,
+    work: Work,
+    closes: Option<u32>,
+    decided: Option<Reply>,
+) -> Result<CallStart, NoRoom>
+    ensures { IfOk result (λ it. StartsOver work closes decided it) }
 {
-    let start = CallStart {
-        work: Work::Look,
-        statement: Statement::none(alloc)?,
+    Ok(CallStart {
+        work,
+        text: Txt::copy_of(alloc, "")?,
+        params: Items::none(alloc),
         label: None,
-        closes: None,
-    };
-    Ok(Entering {
-        start,
-        then: Then::Tell(reply),
+        closes,
+        decided,
     })
+}
+
+/// A text with arguments, over a driver that takes names or doesn't.
+fn accept(alloc: Global, named_ok: bool, text: &Txt, args: &Args) -> Result<Checked, NoRoom>
+    ensures { IfOk result (λ it. IsChecked named_ok text.now args.now it) }
+{
+    let text = text.copy()?;
+    match check_args(alloc, -1, named_ok, args.as_slice()) {
+        Ok(params) => Ok(Checked {
+            text,
+            params,
+            refused: None,
+        }),
+        Err(fault) => {
+            let refused = Some(refusal(fault)?);
+            Ok(Checked {
+                text,
+                params: Items::none(alloc),
+                refused,
+            })
+        }
+    }
+}
+
+/// The reply that a refusal of arguments gives.
+fn refusal(fault: ArgFault) -> Result<Reply, NoRoom>
+    ensures reply { IfOk result (λ reply. refused_with fault ≡ Some reply) }
+{
+    match fault {
+        ArgFault::HighBit(number) => Ok(Reply::HighBit(number)),
+        ArgFault::NumArgs { want, got } => Ok(Reply::NumArgs { want, got }),
+        ArgFault::NamedRefused(name) => Ok(Reply::NamedRefused(name)),
+        ArgFault::BadName(name) => Ok(Reply::BadName(name)),
+        ArgFault::Memory => Err(NoRoom),
+    }
 }
 
 /// What rows tell of the fault that ended them, if one did.

@@ -1,117 +1,102 @@
-//! The event methods: each adds its event to the history and changes the tables.
-ghost use Rattle.std.specs.Prelude.{◌≡◌, ◌<◌, None, length};
-ghost use Rattle.dsql_desk.specs.Appending.{MayAppend, MayTell, Appends};
-ghost use Rattle.dsql_desk.specs.Desk.{past};
-ghost use Rattle.dsql_history.specs.Limits.{most_within_a_step};
-ghost use Rattle.dsql_desk.specs.Rows.{HearsRows};
-ghost use Rattle.dsql_desk.specs.Statements.{Starts};
-ghost use Rattle.dsql_desk.specs.Told.{Decides, reply_as};
-ghost use Rattle.dsql_history.specs.Readers.Calls.{told_at_entry, refusal, reply_due};
-ghost use Rattle.dsql_history.specs.Readers.Exchanges.{step_of};
+//! The event methods: each adds its event to the history and to the tables, and then come the moves that the
+//! pool makes of it.
+ghost use Rattle.std.specs.Prelude.{◌≡◌, ◌+◌, ◌∷◌, true, false, is_some};
+ghost use Rattle.dsql_desk.specs.Adding.{opens_or_shuts};
+ghost use Rattle.dsql_desk.specs.Appending.{MayAppend, MayAskNow, MayGiveBack, Asks, event_asked, Appends, GivesBack, Makes, is_close, reply_now};
+ghost use Rattle.dsql_desk.specs.Desk.{past, Stands, Owes};
+ghost use Rattle.dsql_desk.specs.Heard.{Decides, HearsRows};
+ghost use Rattle.dsql_desk.specs.Starts.{Starts};
+ghost use Rattle.dsql_history.specs.Readers.Calls.{reply_due};
 ghost use Rattle.dsql_history.specs.Readers.HandedOut.{handed_out};
+ghost use Rattle.dsql_history.specs.Readers.Tries.{newest_answer};
 ghost use Rattle.dsql_history.specs.Readers.Works.{work};
+ghost use Rattle.dsql_history.specs.Rules.Asking.{ask_outcome};
 ghost use Rattle.dsql_history.specs.Rules.Settled.{Settled};
-ghost use Rattle.dsql_history.specs.declared.event.Move.{Move};
-ghost use Rattle.dsql_history.specs.declared.reply.Reply.{Reply};
-ghost use Rattle.dsql_journal.specs.declared.entry.Owner.TheVariants.{Call};
+ghost use Rattle.dsql_history.specs.declared.event.Op.{Op};
 
+use crate::call::CallStart;
 use crate::desk::Desk;
-use crate::exchanges::{begin_made, note_exchange};
-use crate::labels::note_label;
-use crate::rows::close_rows;
-use crate::statement::CallStart;
-use crate::telling::{tell, tell_answer};
-use crate::writes::{count_up, move_to, note, put, set_decided, set_home, take_out, take_reply};
-use dsql_course::Progress;
-use dsql_driver::DriverAnswer;
-use dsql_history::{CallRecord, CloseCause, Event, Move, Op, Place, Reply};
+use crate::pooling::{answer, ask, close, give_back, set_limit};
+use dsql_driver::{DriverAnswer, DriverCall};
+use dsql_history::{DbEnd, Event, Op, Reply, Setting};
 use dsql_journal::{Entry, Owner};
+use dsql_pool::{AskFault, Asked, Fate, Move};
 
-#[tactic(auto, unfolding(crate::specs::Desk::Stands, dsql_history::specs::Legal::Allowed))]
+#[tactic(auto, unfolding(crate::specs::Desk::Stands, crate::specs::Desk::Owes, dsql_history::specs::Legal::Allowed))]
 impl Desk {
-    /// A client's call enters, with what is kept of it, and its reply where it is told at once.
-    pub fn enter(&mut self, call: u32, client: u8, op: Op, start: CallStart, decided: Option<Reply>)
+    // The moves of the pool's newest call come, one after another. This was answered just before the first.
+    fn make_owed(&mut self, answer: DriverAnswer)
+        requires owes { Owes self.old }
+        requires answer { answer ≡ newest_answer (past self.old) }
+        ensures { Makes self.old self.new }
+    {
+        self.add_moves(answer);
+    }
+
+    /// A client's call enters that doesn't close the database, with what is kept of it.
+    pub fn enter(&mut self, call: u32, client: u8, op: Op, start: CallStart)
         requires may { MayAppend self.old (Event.Entered client call op) }
         requires settled { Settled (past self.old) }
+        requires other { is_close op ≡ false }
         requires starts { Starts (past self.old) op start }
-        requires decided { decided ≡ told_at_entry (past self.old) op }
         ensures { Appends self.old self.new (Event.Entered client call op) }
     {
-        let CallStart {
-            work,
-            statement,
-            label,
-            closes,
-        } = start;
-        self.paid -= 1;
-        note(
-            &mut self.history,
-            Event::Entered {
-                client,
-                n: call,
-                op,
-            },
-        );
-        put(
-            &mut self.calls,
-            CallRecord {
-                client,
-                home: 0,
-                text: statement.text,
-                params: statement.params,
-                decided,
-            },
-        );
-        put(&mut self.unfinished, call);
-        put(&mut self.works, work);
-        note_label(&mut self.labels, label, call);
-        close_rows(&mut self.rows, closes);
+        self.add_call(call, client, op, start);
     }
 
-    /// A connection begins to be opened, for a call.
-    pub fn start_opening(&mut self, conn: u32, call: u32)
-        requires { MayAppend self.old (Event.Pool (Move.OpenStart conn call)) }
-        ensures { Appends self.old self.new (Event.Pool (Move.OpenStart conn call)) }
+    // The call enters that closes the database; what that makes due is owed.
+    fn enter_close(&mut self, call: u32, client: u8, start: CallStart)
+        requires may { MayAppend self.old (Event.Entered client call Op.DbClose) }
+        requires settled { Settled (past self.old) }
+        requires starts { Starts (past self.old) Op.DbClose start }
+        ensures owes { Owes self.new }
+        ensures paid { self.new.paid + 1 ≡ self.old.paid }
+        ensures event { past self.new ≡ Event.Entered client call Op.DbClose ∷ past self.old }
     {
-        self.paid -= 1;
-        note(
-            &mut self.history,
-            Event::Pool(Move::OpenStart { conn, call }),
-        );
-        put(&mut self.places, Place::Opening(call));
-        put(&mut self.lends, 0);
-        put(&mut self.uses, 0);
-        put(&mut self.made, Progress::new());
-        put(&mut self.opened, conn);
-        set_home(&mut self.calls, call, conn);
+        self.add_call(call, client, Op::DbClose, start);
+        if self.closed_by.is_none() {
+            self.closed_by = Some(DbEnd::Close);
+        }
+        close(&mut self.pool);
     }
 
-    /// A connection is lent to a call on the database.
-    pub fn lend(&mut self, conn: u32, tenure: u32, call: u32)
-        requires may { MayAppend self.old (Event.Pool (Move.Lend conn tenure (Call call) call)) }
-        requires few { length (past self.old) < most_within_a_step }
-        ensures { Appends self.old self.new (Event.Pool (Move.Lend conn tenure (Call call) call)) }
+    /// A client's call enters that closes the database, and the pool closes.
+    pub fn close(&mut self, call: u32, client: u8, start: CallStart)
+        requires may { MayAppend self.old (Event.Entered client call Op.DbClose) }
+        requires settled { Settled (past self.old) }
+        requires starts { Starts (past self.old) Op.DbClose start }
+        ensures { Appends self.old self.new (Event.Entered client call Op.DbClose) }
     {
-        self.paid -= 1;
-        let owner = Owner::Call(call);
-        count_up(&mut self.lends, conn);
-        count_up(&mut self.uses, conn);
-        begin_made(&mut self.made, conn);
-        note(
-            &mut self.history,
-            Event::Pool(Move::Lend {
-                conn,
-                tenure,
-                owner,
-                call,
-            }),
-        );
-        move_to(&mut self.places, conn, Place::Lent(tenure, owner));
-        take_out(&mut self.idle, conn);
-        set_home(&mut self.calls, call, conn);
+        self.enter_close(call, client, start);
+        self.make_owed(DriverAnswer::Bad);
     }
 
-    /// A driver answered a call that a client or the layer made on a lent connection. The copy is of its
+    // A connection was opened or closed, or couldn't be opened; what that makes due is owed.
+    fn hear_house(&mut self, entry: Entry)
+        requires may { MayAppend self.old (Event.Heard entry) }
+        requires settled { Settled (past self.old) }
+        requires opens { opens_or_shuts entry.call ≡ true }
+        ensures owes { Owes self.new }
+        ensures paid { self.new.paid + 1 ≡ self.old.paid }
+        ensures event { past self.new ≡ Event.Heard entry ∷ past self.old }
+    {
+        answer(&mut self.pool, entry.conn, &entry.answer);
+        self.add_house_answer(entry);
+    }
+
+    // A driver answered on a lent connection.
+    fn hear_lent(&mut self, entry: Entry, copy: DriverAnswer, reply: Option<Reply>)
+        requires may { MayAppend self.old (Event.Heard entry) }
+        requires settled { Settled (past self.old) }
+        requires lent { opens_or_shuts entry.call ≡ false }
+        requires decides { Decides (work (past self.old) entry.call_no) entry copy reply }
+        requires rows { HearsRows (work (past self.old) entry.call_no) entry.call_no entry.call (handed_out (past self.old)) }
+        ensures { Appends self.old self.new (Event.Heard entry) }
+    {
+        self.add_answer(entry, copy, reply);
+    }
+
+    /// A driver answered. Where its connection was being opened or closed, the pool moves it. The copy is of its
     /// answer, and the reply is what the answer to a Query or a Next decides.
     pub fn hear(&mut self, entry: Entry, copy: DriverAnswer, reply: Option<Reply>)
         requires may { MayAppend self.old (Event.Heard entry) }
@@ -120,112 +105,124 @@ impl Desk {
         requires rows { HearsRows (work (past self.old) entry.call_no) entry.call_no entry.call (handed_out (past self.old)) }
         ensures { Appends self.old self.new (Event.Heard entry) }
     {
-        self.paid -= 1;
-        note_exchange(&mut self.made, &entry);
-        tell_answer(
-            &mut self.calls,
-            &mut self.rows,
-            &self.works,
-            &entry,
-            copy,
-            reply,
-        );
-        note(&mut self.history, Event::Heard(entry));
+        if opens_or_shuts(&entry.call) {
+            self.hear_house(entry);
+            self.make_owed(copy);
+        } else {
+            self.hear_lent(entry, copy, reply);
+        }
     }
 
-    /// A driver answered the layer's Connect or Shut.
-    pub fn hear_house(&mut self, entry: Entry)
-        requires may { MayAppend self.old (Event.Heard entry) }
+    /// A call asks for a connection, and the pool answers it: one is lent to it or begins to be opened for it, or
+    /// it waits, or too many are open, which changes nothing.
+    pub fn ask(&mut self, call: u32) -> Result<Asked, AskFault>
+        requires { MayAskNow self.old call }
+        ensures outcome { result ≡ ask_outcome (past self.old) call }
+        ensures asks { Asks self.old self.new call }
+    {
+        let outcome = ask(&mut self.pool, call);
+        match event_asked(call, outcome) {
+            Some(Event::Pool(it)) => self.add_move(it),
+            Some(event) => self.add_beside(event),
+            None => self.paid -= 1,
+        }
+        outcome
+    }
+
+    /// A connection leaves its call, and the pool moves it.
+    pub fn give_back(&mut self, conn: u32, fate: Fate)
+        requires { MayGiveBack self.old conn fate }
+        ensures { GivesBack self.old self.new conn }
+    {
+        give_back(&mut self.pool, conn, fate);
+        self.add_moves(DriverAnswer::Bad);
+    }
+
+    // A limit was set; what that makes due is owed.
+    fn note_limit(&mut self, setting: Setting, n: i64)
+        requires may { MayAppend self.old (Event.SetLimit setting n) }
         requires settled { Settled (past self.old) }
-        requires house { entry.call_no ≡ 0 }
-        requires outside { step_of entry.call ≡ None }
-        ensures { Appends self.old self.new (Event.Heard entry) }
+        ensures owes { Owes self.new }
+        ensures paid { self.new.paid + 1 ≡ self.old.paid }
+        ensures event { past self.new ≡ Event.SetLimit setting n ∷ past self.old }
     {
-        self.paid -= 1;
-        note(&mut self.history, Event::Heard(entry));
+        self.add_beside(Event::SetLimit(setting, n));
+        set_limit(&mut self.pool, setting, n);
     }
 
-    /// A connection is given back.
-    pub fn back(&mut self, conn: u32)
-        requires { MayAppend self.old (Event.Pool (Move.Back conn)) }
-        ensures { Appends self.old self.new (Event.Pool (Move.Back conn)) }
+    /// A limit is set, and the pool keeps to it.
+    pub fn set_limit(&mut self, setting: Setting, n: i64)
+        requires may { MayAppend self.old (Event.SetLimit setting n) }
+        requires settled { Settled (past self.old) }
+        ensures { Appends self.old self.new (Event.SetLimit setting n) }
     {
-        self.paid -= 1;
-        note(&mut self.history, Event::Pool(Move::Back { conn }));
-        move_to(&mut self.places, conn, Place::Idle);
-        put(&mut self.idle, conn);
+        self.note_limit(setting, n);
+        self.make_owed(DriverAnswer::Bad);
     }
 
-    /// A connection begins to be closed.
-    pub fn start_closing(&mut self, conn: u32, cause: CloseCause)
-        requires { MayAppend self.old (Event.Pool (Move.CloseStart conn cause)) }
-        ensures { Appends self.old self.new (Event.Pool (Move.CloseStart conn cause)) }
+    /// A call has its reply, which is handed in.
+    pub fn tell(&mut self, call: u32, reply: Reply)
+        requires { MayAppend self.old (Event.Replied call reply) }
+        ensures { Appends self.old self.new (Event.Replied call reply) }
     {
-        self.paid -= 1;
-        note(
-            &mut self.history,
-            Event::Pool(Move::CloseStart { conn, cause }),
-        );
-        move_to(&mut self.places, conn, Place::Closing);
-        take_out(&mut self.idle, conn);
+        self.add_reply(call, reply);
     }
 
-    /// A connection that was shut is gone.
-    pub fn gone(&mut self, conn: u32)
-        requires { MayAppend self.old (Event.Pool (Move.Gone conn)) }
-        ensures { Appends self.old self.new (Event.Pool (Move.Gone conn)) }
+    /// A call has the reply that is settled.
+    pub fn tell_due(&mut self, call: u32)
+        requires may { MayAppend self.old (Event.Replied call (reply_now (past self.old) call)) }
+        requires due { is_some (reply_due (past self.old) call) ≡ true }
+        ensures { Appends self.old self.new (Event.Replied call (reply_now (past self.old) call)) }
     {
-        self.paid -= 1;
-        note(&mut self.history, Event::Pool(Move::Gone { conn }));
-        move_to(&mut self.places, conn, Place::Nowhere);
-        take_out(&mut self.opened, conn);
+        self.add_due_reply(call);
     }
 
-    /// A Connect was refused, and what that decides falls to a call.
-    pub fn fall(&mut self, conn: u32, call: u32, reply: Option<Reply>)
-        requires may { MayAppend self.old (Event.Pool (Move.Fell conn call)) }
-        requires reply { reply ≡ refusal (past self.old) }
-        ensures { Appends self.old self.new (Event.Pool (Move.Fell conn call)) }
+    // The run ended; what that makes due is owed.
+    fn note_end(&mut self)
+        requires may { MayAppend self.old Event.Ended }
+        requires settled { Settled (past self.old) }
+        ensures owes { Owes self.new }
+        ensures paid { self.new.paid + 1 ≡ self.old.paid }
+        ensures event { past self.new ≡ Event.Ended ∷ past self.old }
     {
-        self.paid -= 1;
-        note(&mut self.history, Event::Pool(Move::Fell { conn, call }));
-        move_to(&mut self.places, conn, Place::Nowhere);
-        take_out(&mut self.opened, conn);
-        set_decided(&mut self.calls, call, reply);
+        self.add_end();
+        if self.closed_by.is_none() {
+            self.closed_by = Some(DbEnd::EndOfRun);
+        }
+        close(&mut self.pool);
     }
 
-    /// A call is told the reply that is settled.
-    pub fn tell(&mut self, call: u32)
-        requires { MayTell self.old call }
-        ensures { Appends self.old self.new (Event.Replied call (reply_as (reply_due (past self.old) call))) }
-    {
-        self.paid -= 1;
-        let reply = take_reply(&mut self.calls, call);
-        note(&mut self.history, Event::Replied { n: call, reply });
-        take_out(&mut self.unfinished, call);
-    }
-
-    /// A call is refused, since too many connections are open.
-    pub fn refuse(&mut self, call: u32)
-        requires { MayAppend self.old (Event.Replied call Reply.TooMany) }
-        ensures { Appends self.old self.new (Event.Replied call Reply.TooMany) }
-    {
-        self.paid -= 1;
-        set_decided(&mut self.calls, call, None);
-        let reply = Reply::TooMany;
-        note(&mut self.history, Event::Replied { n: call, reply });
-        take_out(&mut self.unfinished, call);
-    }
-
-    /// The run ends.
+    /// The run ends, and the pool closes.
     pub fn end(&mut self)
         requires may { MayAppend self.old Event.Ended }
         requires settled { Settled (past self.old) }
         ensures { Appends self.old self.new Event.Ended }
     {
-        self.paid -= 1;
-        note(&mut self.history, Event::Ended);
-        self.ended = true;
-        self.rows.close_all();
+        self.note_end();
+        self.make_owed(DriverAnswer::Bad);
+    }
+}
+
+/// The layer itself makes this call, where it opens a connection or closes it.
+fn opens_or_shuts(call: &DriverCall) -> bool
+    ensures { result ≡ opens_or_shuts call.now }
+{
+    matches!(call, DriverCall::Connect | DriverCall::Shut)
+}
+
+/// The event that comes of a call's asking, if one does.
+fn event_asked(call: u32, outcome: Result<Asked, AskFault>) -> Option<Event>
+    ensures { result ≡ event_asked call outcome }
+{
+    match outcome {
+        Ok(Asked::Lent { conn, tenure }) => Some(Event::Pool(Move::Lend {
+            conn,
+            tenure,
+            owner: Owner::Call(call),
+            call,
+        })),
+        Ok(Asked::Opening(conn)) => Some(Event::Pool(Move::OpenStart { conn, call })),
+        Ok(Asked::Queued) => Some(Event::Waits(call)),
+        _ => None,
     }
 }

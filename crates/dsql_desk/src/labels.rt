@@ -1,6 +1,6 @@
 //! The labels of rows, each with its call.
 ghost use Rattle.std.specs.Prelude.{◌≡◌, ◌+◌, ◌<◌, ◌≤◌, ℕ, Some, List, string_bytes, option_map};
-ghost use Rattle.dsql_desk.specs.Labels.{labelled};
+ghost use Rattle.dsql_desk.specs.Starts.{labelled};
 ghost use Rattle.indexmap.specs.IndexMap.{get_by_text, spare};
 
 use indexmap::IndexMap;

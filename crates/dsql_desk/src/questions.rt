@@ -1,42 +1,80 @@
-//! Questions to the tables, each answered in a reader's word.
-ghost use Rattle.std.specs.Prelude.{◌≡◌, ◌<◌, is_some, length, nat_lt, slice_index_or, IfOk, find};
-ghost use Rattle.dsql_desk.specs.Clients.{call_of};
+//! Questions about calls and connections, each answered in a reader's word.
+ghost use Rattle.std.specs.Prelude.{◌≡◌, ◌<◌, ◌==◌, is_some, length, find, IfOk};
+ghost use Rattle.dsql_work.specs.Limits.{most_within_a_step};
 ghost use Rattle.dsql_desk.specs.Desk.{past, Stands};
-ghost use Rattle.dsql_desk.specs.Latest.{latest, oldest};
-ghost use Rattle.dsql_history.specs.Limits.{most_within_a_step};
+ghost use Rattle.dsql_desk.specs.Lines.{rows_worked};
 ghost use Rattle.dsql_desk.specs.Statements.{statement_of};
-ghost use Rattle.dsql_history.specs.Readers.Calls.{nobody, home, next_call, worker, sender, reply_due};
-ghost use Rattle.dsql_history.specs.Readers.Course.{caps, has_ended};
-ghost use Rattle.dsql_history.specs.Readers.Sets.{place, idle, open_count, next_number, next_tenure};
-ghost use Rattle.dsql_history.specs.Readers.Unfinished.{unfinished, is_unfinished};
-ghost use Rattle.dsql_history.specs.Readers.Works.{work, works_on};
-ghost use Rattle.dsql_history.specs.Rules.Causes.{cause_when};
-ghost use Rattle.dsql_history.specs.Rules.Limit.{room};
-ghost use Rattle.dsql_history.specs.Rules.Line.{is_reset_due, aim_of};
-ghost use Rattle.dsql_history.specs.declared.work.Work.TheVariants.{Look};
+ghost use Rattle.dsql_history.specs.Readers.Calls.{call_record, decided, is_busy, next_call, site, user};
+ghost use Rattle.dsql_history.specs.Readers.Clients.{call_of, client_of};
+ghost use Rattle.dsql_history.specs.Readers.HandedOut.{are_live, ender, over, rows_by};
+ghost use Rattle.dsql_history.specs.Readers.Pool.{home, is_home, place, pool, smallest};
+ghost use Rattle.dsql_history.specs.Readers.Unfinished.{is_unfinished, unfinished};
+ghost use Rattle.dsql_history.specs.Readers.Works.{is_fetch, work};
+ghost use Rattle.dsql_history.specs.Rules.Line.{is_reset_due};
+ghost use Rattle.dsql_work.specs.Works.{asks};
+ghost use Rattle.dsql_work.specs.Line.{aim_of};
+ghost use Rattle.dsql_pool.specs.Places.{is_for};
+ghost use Rattle.dsql_pool.specs.Pooled.{next_tenure};
+ghost use Rattle.dsql_wait.specs.Requests.{waits};
 
 use crate::desk::Desk;
-use crate::sending::aim_of;
 use crate::statement::Statement;
-use dsql_driver::Caps;
-use dsql_history::{Aim, CallRecord, CloseCause, MAX_IDLE, MAX_OPEN, Place, Work};
+use crate::{places, row};
+use dsql_history::{Aim, Place};
 use dsql_value::{Items, Memory, Txt};
 use std::alloc::Global;
 
-#[tactic(auto, unfolding(crate::specs::Desk::Stands))]
+#[tactic(auto, using(crate::proofs::KeptOfCalls::call_kept, crate::proofs::KeptOfCalls::work_kept, crate::proofs::KeptOfCalls::ender_kept), unfolding(crate::specs::Desk::Stands))]
 impl Desk {
-    /// The unfinished call of a client.
-    pub fn call_of(&self, client: u8) -> Option<u32>
+    /// The unfinished call of a client, 0 for none.
+    pub fn call_of(&self, client: u8) -> u32
         requires { Stands self.now }
         ensures { result ≡ call_of (past self.now) client }
+    {
+        match self.found_call(client) {
+            Some(call) => call,
+            None => 0,
+        }
+    }
+
+    fn found_call(&self, client: u8) -> Option<u32>
+        requires { Stands self.now }
+        ensures { result ≡ find (λ n. client_of (past self.now) n == client) (unfinished (past self.now)) }
     {
         self.unfinished
             .iter()
             .copied()
-            .find(|call| client_of(&self.calls, *call) == client)
+            .find(|call| self.client_of(*call) == client)
+    }
+
+    /// The client who made a call.
+    pub fn client_of(&self, call: u32) -> u8
+        requires { Stands self.now }
+        ensures { result ≡ client_of (past self.now) call }
+    {
+        row::client_of(&self.calls, call)
+    }
+
+    /// Whether a client has an unfinished call.
+    pub fn is_busy(&self, client: u8) -> bool
+        requires { Stands self.now }
+        ensures { result ≡ is_busy client (past self.now) }
+    {
+        self.unfinished
+            .iter()
+            .any(|call| self.client_of(*call) == client)
+    }
+
+    /// Whether a call has no reply yet.
+    pub fn is_unfinished(&self, call: u32) -> bool
+        requires { Stands self.now }
+        ensures { result ≡ is_unfinished (past self.now) call }
+    {
+        self.unfinished.iter().any(|other| *other == call)
     }
 
     /// The number that the next call gets.
+    #[tactic(auto, using(crate::proofs::FewCalls::rows_counted, crate::proofs::FewCalls::few_rows), unfolding(crate::specs::Desk::Stands))]
     pub fn next_call(&self) -> u32
         requires stands { Stands self.now }
         requires few { length (past self.now) < most_within_a_step }
@@ -45,74 +83,22 @@ impl Desk {
         self.calls.len() as u32
     }
 
-    /// The number that the next connection gets.
-    pub fn next_number(&self) -> u32
-        requires stands { Stands self.now }
-        requires few { length (past self.now) < most_within_a_step }
-        ensures { result ≡ next_number (past self.now) }
-    {
-        self.places.len() as u32
-    }
-
-    /// The number of a connection's next tenure.
-    pub fn next_tenure(&self, conn: u32) -> u32
-        requires stands { Stands self.now }
-        requires few { length (past self.now) < most_within_a_step }
-        ensures { result ≡ next_tenure (past self.now) conn }
-    {
-        count_of(&self.lends, conn) + 2
-    }
-
-    /// Whether a call that uses the connection has to reset it first.
-    pub fn is_reset_due(&self, conn: u32) -> bool
-        requires { Stands self.now }
-        ensures { result ≡ is_reset_due (past self.now) conn }
-    {
-        self.caps.resetter && count_of(&self.uses, conn) >= 2
-    }
-
-    /// What the driver can do.
-    pub fn caps(&self) -> Caps
-        requires { Stands self.now }
-        ensures { result ≡ caps (past self.now) }
-    {
-        self.caps
-    }
-
-    /// The connection that came back last.
-    pub fn latest(&self) -> Option<u32>
-        requires { Stands self.now }
-        ensures { result ≡ latest (idle (past self.now)) }
-    {
-        self.idle.last().copied()
-    }
-
-    /// The connection that has been idle longest.
-    pub fn longest_idle(&self) -> Option<u32>
-        requires { Stands self.now }
-        ensures { result ≡ oldest (idle (past self.now)) }
-    {
-        self.idle.first().copied()
-    }
-
-    /// Whether one more connection may be opened.
-    #[tactic(auto, using(crate::proofs::Open::open_counted), unfolding(crate::specs::Desk::Stands))]
-    pub fn may_open(&self) -> bool
-        requires { Stands self.now }
-        ensures { result ≡ nat_lt (open_count (past self.now)) room }
-    {
-        self.opened.len() < MAX_OPEN
-    }
-
-    /// Where a connection stands.
-    pub fn place(&self, conn: u32) -> Place
+    /// Where a connection stands, if it is open.
+    pub fn place(&self, conn: u32) -> Option<Place>
         requires { Stands self.now }
         ensures { result ≡ place (past self.now) conn }
     {
-        match self.places.get(conn as usize) {
-            Some(place) => *place,
-            None => Place::Nowhere,
-        }
+        self.pool.place(conn)
+    }
+
+    /// The number of a connection's next tenure.
+    #[tactic(auto, using(crate::proofs::Present::few_openings), unfolding(crate::specs::Desk::Stands))]
+    pub fn next_tenure(&self, conn: u32) -> u32
+        requires stands { Stands self.now }
+        requires few { length (past self.now) < most_within_a_step }
+        ensures { result ≡ next_tenure (pool (past self.now)) conn }
+    {
+        self.pool.next_tenure(conn)
     }
 
     /// The connection of a call, 0 for none.
@@ -120,9 +106,35 @@ impl Desk {
         requires { Stands self.now }
         ensures { result ≡ home (past self.now) call }
     {
-        match self.calls.get(call as usize) {
-            Some(record) => record.home,
+        match self.lent_or_opened(call) {
+            Some(conn) => conn,
             None => 0,
+        }
+    }
+
+    fn lent_or_opened(&self, call: u32) -> Option<u32>
+        requires { Stands self.now }
+        ensures { result ≡ smallest (is_home call) (pool (past self.now)) }
+    {
+        places::number_of(places::home(self.pool.conns(), call))
+    }
+
+    /// The connection that a call uses, 0 for none yet.
+    pub fn site(&self, call: u32) -> u32
+        requires { Stands self.now }
+        ensures { result ≡ site (past self.now) call }
+    {
+        self.home(self.user(call))
+    }
+
+    /// The call whose connection a call uses.
+    pub fn user(&self, call: u32) -> u32
+        requires { Stands self.now }
+        ensures { result ≡ user (past self.now) call }
+    {
+        match self.rows_worked(call) {
+            Some(query) => query,
+            None => call,
         }
     }
 
@@ -133,9 +145,9 @@ impl Desk {
     {
         let aim = self.aim(call);
         match self.calls.get(call as usize) {
-            Some(record) => {
-                let text = record.text.copy()?;
-                let params = record.params.clone()?;
+            Some(row) => {
+                let text = row.call.text.copy()?;
+                let params = row.call.params.clone()?;
                 Ok(Statement { text, params, aim })
             }
             None => {
@@ -146,117 +158,101 @@ impl Desk {
         }
     }
 
+    /// Whether a call waits for a connection.
+    pub fn waits(&self, call: u32) -> bool
+        requires { Stands self.now }
+        ensures { result ≡ waits call (pool (past self.now)).waiting }
+    {
+        self.pool.waits(call)
+    }
+
+    /// The connection that is being opened for a call, if one is.
+    pub fn opening_for(&self, call: u32) -> Option<u32>
+        requires { Stands self.now }
+        ensures { result ≡ smallest (is_for call) (pool (past self.now)) }
+    {
+        places::number_of(places::opening_for(self.pool.conns(), call))
+    }
+
+    /// Whether the first driver call on a connection is a Reset.
+    pub(crate) fn is_reset_due(&self, conn: u32) -> bool
+        requires { Stands self.now }
+        ensures { result ≡ is_reset_due (past self.now) conn }
+    {
+        self.caps.resetter && places::uses(self.pool.conns(), conn) >= 2
+    }
+
     /// What becomes of the text of a call.
-    pub fn aim(&self, call: u32) -> Aim
+    pub(crate) fn aim(&self, call: u32) -> Aim
         requires { Stands self.now }
         ensures { result ≡ aim_of (work (past self.now) call) }
     {
-        match self.works.get(call as usize) {
-            Some(work) => aim_of(work),
-            None => Aim::Execute,
-        }
+        row::aim_of(&self.calls, call)
     }
 
-    /// Whether a call has no reply yet.
-    pub fn is_unfinished(&self, call: u32) -> bool
+    /// How many parameters the statement of a call has.
+    pub(crate) fn params(&self, call: u32) -> usize
         requires { Stands self.now }
-        ensures { result ≡ is_unfinished (past self.now) call }
+        ensures { result ≡ length (call_record (past self.now) call).params }
     {
-        self.unfinished.iter().any(|m| *m == call)
+        row::params_of(&self.calls, call)
     }
 
-    /// The unfinished call that works on the rows of a call, if there is one.
-    fn any_worker(&self, call: u32) -> Option<u32>
+    /// The call on whose rows a call works, if it works on rows.
+    pub(crate) fn rows_worked(&self, call: u32) -> Option<u32>
         requires { Stands self.now }
-        ensures { result ≡ find (λ m. works_on call (work (past self.now) m)) (unfinished (past self.now)) }
+        ensures { result ≡ rows_worked (work (past self.now) call) }
     {
-        self.unfinished
-            .iter()
-            .copied()
-            .find(|other| works_on(&self.works, call, *other))
+        row::rows_worked(&self.calls, call)
     }
 
-    /// The call that works on the rows of a call, 0 for none.
-    #[tactic(auto, using(crate::proofs::Workers::found_first))]
-    pub fn worker(&self, call: u32) -> u32
+    /// Whether a call fetches a row.
+    pub(crate) fn fetches(&self, call: u32) -> bool
         requires { Stands self.now }
-        ensures { result ≡ worker (past self.now) call }
+        ensures { result ≡ is_fetch (work (past self.now) call) }
     {
-        match self.any_worker(call) {
-            Some(worker) => worker,
-            None => 0,
-        }
+        row::fetches(&self.calls, call)
     }
 
-    /// Who sends on the connection of a call.
-    pub fn sender(&self, call: u32) -> u32
+    /// Whether a call asks for a connection of its own.
+    pub(crate) fn asks(&self, call: u32) -> bool
         requires { Stands self.now }
-        ensures { result ≡ sender (past self.now) call }
+        ensures { result ≡ asks (work (past self.now) call) }
     {
-        if self.is_unfinished(call) {
-            call
-        } else {
-            self.worker(call)
-        }
+        row::asks(&self.calls, call)
     }
 
-    /// Whether the reply of a call is settled.
-    pub fn is_decided(&self, call: u32) -> bool
+    /// Whether a call has settled its reply itself.
+    pub(crate) fn has_decided(&self, call: u32) -> bool
         requires { Stands self.now }
-        ensures { result ≡ is_some (reply_due (past self.now) call) }
+        ensures { result ≡ is_some (decided (past self.now) call) }
     {
-        match self.calls.get(call as usize) {
-            Some(record) => record.decided.is_some(),
-            None => false,
-        }
+        row::has_decided(&self.calls, call)
     }
 
-    /// Why a connection closes that is given back, if it does.
-    pub fn cause(&self, bad: bool, invalid: bool) -> Option<CloseCause>
+    /// The call that ended the rows of a call, 0 for none.
+    pub(crate) fn ender(&self, call: u32) -> u32
         requires { Stands self.now }
-        ensures { result ≡ cause_when bad invalid (has_ended (past self.now)) (length (idle (past self.now))) }
+        ensures { result ≡ ender (past self.now) call }
     {
-        if bad {
-            return Some(CloseCause::Bad);
-        }
-        if invalid {
-            return Some(CloseCause::Invalid);
-        }
-        if self.ended {
-            return Some(CloseCause::DbClosed);
-        }
-        if self.idle.len() < MAX_IDLE {
-            None
-        } else {
-            Some(CloseCause::IdleFull)
-        }
+        row::ender_of(&self.calls, call)
     }
-}
 
-fn client_of(calls: &Vec<CallRecord>, call: u32) -> u8
-    ensures { result ≡ (slice_index_or calls.now.items call nobody).client }
-{
-    match calls.get(call as usize) {
-        Some(record) => record.client,
-        None => 0,
+    /// Whether the rows of a call are live.
+    #[tactic(auto, using(crate::proofs::RowsKept::live_made, crate::proofs::RowsKept::none_made), unfolding(crate::specs::Desk::Stands))]
+    pub(crate) fn are_live(&self, call: u32) -> bool
+        requires { Stands self.now }
+        ensures { result ≡ are_live (past self.now) call }
+    {
+        self.rows.was_made(call) && self.rows.is_live(call)
     }
-}
 
-fn count_of(counts: &Vec<u32>, conn: u32) -> u32
-    ensures { result ≡ slice_index_or counts.now.items conn 0 }
-{
-    match counts.get(conn as usize) {
-        Some(count) => *count,
-        None => 0,
-    }
-}
-
-/// Whether a call works on the rows of a query.
-fn works_on(works: &Vec<Work>, query: u32, call: u32) -> bool
-    ensures { result ≡ works_on query (slice_index_or works.now.items call Look) }
-{
-    match works.get(call as usize) {
-        Some(Work::Fetch(rows) | Work::Close(rows)) => *rows == query,
-        _ => false,
+    /// Whether a call handed out rows that have ended.
+    #[tactic(auto, using(crate::proofs::RowsKept::live_made, crate::proofs::RowsKept::none_made), unfolding(crate::specs::Desk::Stands))]
+    pub(crate) fn are_over(&self, call: u32) -> bool
+        requires { Stands self.now }
+        ensures { result ≡ over (rows_by (past self.now) call) }
+    {
+        self.rows.was_made(call) && !self.rows.is_live(call)
     }
 }

@@ -1,199 +1,235 @@
-//! What is sent next on a lent connection.
-ghost use Rattle.dsql_history.specs.declared.reply.Reply as reply;
-ghost use Rattle.std.specs.Prelude.{◌≡◌, Some, None, is_some, Option, cond};
+//! What is sent next on the connections that are lent to calls.
+ghost use Rattle.std.specs.Prelude.{◌≡◌, ◌==◌, ◌&&◌, Some, is_some};
 ghost use Rattle.dsql_desk.specs.Desk.{past, Stands};
-ghost use Rattle.dsql_desk.specs.Made.{made};
-ghost use Rattle.dsql_desk.specs.Statements.{asked_of};
-ghost use Rattle.dsql_driver.specs.declared.call.DriverCall.TheVariants.{Reset};
+ghost use Rattle.dsql_desk.specs.Lines.{due_over, lent_to, line_on, or_itself};
+ghost use Rattle.dsql_desk.specs.Statements.{statement_of};
+ghost use Rattle.dsql_history.specs.Readers.Calls.{user};
 ghost use Rattle.dsql_history.specs.Readers.Course.{caps};
+ghost use Rattle.dsql_history.specs.Readers.HandedOut.{ender, over, rows_by};
 ghost use Rattle.dsql_history.specs.Readers.Works.{work};
-ghost use Rattle.dsql_history.specs.Rules.Line.{is_reset_due, body_after, aim_of, keeps_rows, wish, wish_of, course_of, run_for, sent_as, test_of, handed, due};
+ghost use Rattle.dsql_history.specs.Rules.Line.{due_for, is_reset_due, is_used, line_of, sent_for, tidying, wish};
+ghost use Rattle.dsql_work.specs.Works.{asks};
 
+use crate::course::Line;
 use crate::desk::Desk;
+use crate::exchanged::Exchanged;
 use crate::statement::Statement;
-use dsql_course::{Course, Due, Progress, Wish};
-use dsql_driver::{Caps, DriverCall, Input};
-use dsql_history::{Aim, Work};
-use dsql_value::Params;
+use dsql_course::Wish;
+use dsql_driver::DriverCall;
+use dsql_history::Place;
+use dsql_journal::Owner;
 
-#[tactic(auto, unfolding(crate::specs::Desk::Stands))]
+#[tactic(auto, using(crate::proofs::Lent::line_lent, crate::proofs::Lent::due_by_kind, crate::proofs::Lent::user_by_kind, crate::proofs::Sent::next_is_sent, crate::proofs::Lent::used_by_rows), unfolding(crate::specs::Desk::Stands))]
 impl Desk {
-    /// What is wanted of the rows of a call.
-    pub fn wish(&self, call: u32) -> Wish
+    /// Whether a driver call of a call is due.
+    pub fn is_due(&self, call: u32) -> bool
         requires { Stands self.now }
-        ensures { result ≡ wish (past self.now) call }
+        ensures { result ≡ is_some (due_for (past self.now) call) }
     {
-        let sender = self.sender(call);
-        let decided = self.is_decided(sender);
-        match self.works.get(sender as usize) {
-            Some(work) => wish_of(self.ended, work, decided),
-            None => wish_of(self.ended, &Work::Look, decided),
+        self.is_unfinished(call) && self.is_due_over(call, self.rows_worked(call))
+    }
+
+    /// The driver call of a call that is due, where the statement is of the call whose connection it uses.
+    pub fn driver_call(&self, call: u32, statement: Statement) -> Option<DriverCall>
+        requires stands { Stands self.now }
+        requires statement { statement ≡ statement_of (past self.now) (user (past self.now) call) }
+        ensures { result ≡ due_for (past self.now) call }
+    {
+        if self.is_unfinished(call) {
+            self.call_due_over(call, self.rows_worked(call), statement)
+        } else {
+            None
         }
     }
 
-    /// What is sent next on the connection that is lent to a call, after its Reset, if that is due.
-    pub fn next_call_on(&self, conn: u32, call: u32, statement: Statement) -> Option<DriverCall>
+    /// Whether the layer itself has something to send to close the rows of a call.
+    pub fn is_tidying(&self, call: u32) -> bool
         requires { Stands self.now }
-        ensures { result ≡ body_after (caps (past self.now)) (asked_of statement) (wish (past self.now) call) (made (past self.now) conn) }
+        ensures { result ≡ is_some (tidying (past self.now) call) }
     {
-        let wish = self.wish(call);
-        match self.made.get(conn as usize) {
-            Some(made) => body_after(self.caps, statement, wish, made),
-            None => body_after(self.caps, statement, wish, &Progress::new()),
+        self.are_left_over(call) && self.sends(call, Wish::Close)
+    }
+
+    /// What the layer itself sends next to close the rows of a call, of which this is the statement.
+    pub fn tidying_call(&self, call: u32, statement: Statement) -> Option<DriverCall>
+        requires stands { Stands self.now }
+        requires statement { statement ≡ statement_of (past self.now) call }
+        ensures { result ≡ tidying (past self.now) call }
+    {
+        if self.are_left_over(call) {
+            self.next_sent(call, Wish::Close, statement)
+        } else {
+            None
         }
     }
 
-    /// What is sent first on it.
-    pub fn first_call_on(&self, conn: u32, call: u32, statement: Statement) -> Option<DriverCall>
+    /// Whether the connection that is lent to a call is in use.
+    pub fn is_used(&self, call: u32) -> bool
         requires { Stands self.now }
-        ensures { result ≡ cond (is_reset_due (past self.now) conn) (Some Reset) (body_after (caps (past self.now)) (asked_of statement) (wish (past self.now) call) (made (past self.now) conn)) }
+        ensures { result ≡ is_used (past self.now) call }
     {
-        if self.is_reset_due(conn) {
-            return Some(DriverCall::Reset);
+        if self.are_live(call) {
+            return true;
         }
-        self.next_call_on(conn, call, statement)
+        if self.are_over(call) {
+            self.sends(call, Wish::Close)
+        } else {
+            self.sends(call, Wish::Nothing)
+        }
     }
 
-    /// What is sent next on the connection that is lent to a call, unless that is over.
-    pub fn next_unless(
+    /// Whether the rows of a call have ended, and no call has ended them.
+    fn are_left_over(&self, call: u32) -> bool
+        requires { Stands self.now }
+        ensures { result ≡ over (rows_by (past self.now) call) && (ender (past self.now) call == 0) }
+    {
+        self.are_over(call) && self.ender(call) == 0
+    }
+
+    /// What a call wants of the rows of another.
+    fn wish(&self, call: u32, query: u32) -> Wish
+        requires { Stands self.now }
+        ensures { result ≡ wish (past self.now) call query }
+    {
+        if self.ender(query) == call {
+            Wish::Close
+        } else if self.fetches(call) && self.are_live(query) && !self.has_decided(call) {
+            Wish::Fetch
+        } else {
+            Wish::Nothing
+        }
+    }
+
+    /// Whether a call sends something, over these rows or else by itself.
+    fn is_due_over(&self, call: u32, rows: Option<u32>) -> bool
+        requires { Stands self.now }
+        ensures { result ≡ is_some (due_over (past self.now) call (asks (work (past self.now) call)) rows) }
+    {
+        match rows {
+            Some(query) => self.sends_over(query, self.wish(call, query)),
+            None => self.asks(call) && self.sends(call, Wish::Nothing),
+        }
+    }
+
+    /// What a call sends, over these rows or else by itself.
+    fn call_due_over(
         &self,
-        over: bool,
-        conn: u32,
         call: u32,
+        rows: Option<u32>,
         statement: Statement,
     ) -> Option<DriverCall>
-        requires { Stands self.now }
-        ensures { result ≡ cond over None (body_after (caps (past self.now)) (asked_of statement) (wish (past self.now) call) (made (past self.now) conn)) }
+        requires stands { Stands self.now }
+        requires statement { statement ≡ statement_of (past self.now) (or_itself rows call) }
+        ensures { result ≡ due_over (past self.now) call (asks (work (past self.now) call)) rows }
     {
-        if over {
-            None
-        } else {
-            self.next_call_on(conn, call, statement)
+        match rows {
+            Some(query) => self.call_over(query, self.wish(call, query), statement),
+            None => {
+                if self.asks(call) {
+                    self.next_sent(call, Wish::Nothing, statement)
+                } else {
+                    None
+                }
+            }
         }
     }
 
-    /// Whether the rows of a call keep the connection that is lent to it.
-    pub fn is_kept(&self, conn: u32, call: u32) -> bool
+    /// Whether something is sent over the rows of a call, of which this is wanted.
+    fn sends_over(&self, query: u32, wish: Wish) -> bool
         requires { Stands self.now }
-        ensures { result ≡ keeps_rows (aim_of (work (past self.now) call)) (wish (past self.now) call) (made (past self.now) conn) }
+        ensures { result ≡ is_some (sent_for (past self.now) query wish) }
     {
-        let wish = self.wish(call);
+        match wish {
+            Wish::Nothing => false,
+            Wish::Fetch => self.sends(query, Wish::Fetch),
+            Wish::Close => self.sends(query, Wish::Close),
+        }
+    }
+
+    /// What is sent over the rows of a call, of which this is wanted.
+    fn call_over(&self, query: u32, wish: Wish, statement: Statement) -> Option<DriverCall>
+        requires stands { Stands self.now }
+        requires statement { statement ≡ statement_of (past self.now) query }
+        ensures { result ≡ sent_for (past self.now) query wish }
+    {
+        match wish {
+            Wish::Nothing => None,
+            Wish::Fetch => self.next_sent(query, Wish::Fetch, statement),
+            Wish::Close => self.next_sent(query, Wish::Close, statement),
+        }
+    }
+
+    /// Whether something is sent next on the connection that is lent to a call.
+    fn sends(&self, call: u32, wish: Wish) -> bool
+        requires { Stands self.now }
+        ensures { result ≡ is_some (line_of (past self.now) call wish) }
+    {
+        match self.lent_to(call) {
+            Some(conn) => self.sends_on(conn, call, wish),
+            None => false,
+        }
+    }
+
+    /// What is sent next on the connection that is lent to a call.
+    fn next_sent(&self, call: u32, wish: Wish, statement: Statement) -> Option<DriverCall>
+        requires stands { Stands self.now }
+        requires statement { statement ≡ statement_of (past self.now) call }
+        ensures { result ≡ line_of (past self.now) call wish }
+    {
+        match self.lent_to(call) {
+            Some(conn) => self.next_on(conn, call, wish, statement),
+            None => None,
+        }
+    }
+
+    /// The connection that is lent to a call, if one is.
+    fn lent_to(&self, call: u32) -> Option<u32>
+        requires { Stands self.now }
+        ensures { result ≡ lent_to (past self.now) call }
+    {
+        let conn = self.home(call);
+        match self.place(conn) {
+            Some(Place::Lent(_, Owner::Call(owner))) => {
+                if owner == call { Some(conn) } else { None }
+            }
+            _ => None,
+        }
+    }
+
+    fn sends_on(&self, conn: u32, call: u32, wish: Wish) -> bool
+        requires { Stands self.now }
+        ensures { result ≡ is_some (line_on (past self.now) call wish (Some conn)) }
+    {
+        let line = self.line(conn, wish);
+        let aim = self.aim(call);
+        let count = self.params(call);
         match self.made.get(conn as usize) {
-            Some(made) => keeps_rows(self.aim(call), wish, made),
-            None => keeps_rows(self.aim(call), wish, &Progress::new()),
+            Some(heard) => line.sends(aim, count, heard),
+            None => line.sends(aim, count, &Exchanged::new()),
         }
     }
-}
 
-/// The test of a connection, where the driver has one.
-fn test_of(caps: Caps) -> Option<DriverCall>
-    ensures { result ≡ test_of caps }
-{
-    if caps.validator {
-        Some(DriverCall::Valid)
-    } else {
-        None
-    }
-}
-
-/// What becomes of the text of a call that has this to do.
-pub fn aim_of(work: &Work) -> Aim
-    ensures { result ≡ aim_of work.now }
-{
-    match work {
-        Work::ReadOne(_) => Aim::ReadOne,
-        Work::HandOut(_) => Aim::HandOut,
-        _ => Aim::Execute,
-    }
-}
-
-/// What the call that sends wants of rows.
-pub fn wish_of(ended: bool, work: &Work, decided: bool) -> Wish
-    ensures { (reply : Option reply.Reply) → decided ≡ is_some reply → result ≡ wish_of ended work.now reply }
-{
-    match work {
-        _ if ended => Wish::Close,
-        Work::Close(_) if !decided => Wish::Close,
-        Work::Fetch(_) if !decided => Wish::Fetch,
-        _ => Wish::Nothing,
-    }
-}
-
-/// The course of a call.
-fn course_of(aim: Aim) -> Course
-    ensures { result ≡ course_of aim }
-{
-    match aim {
-        Aim::Execute => Course::Exec,
-        Aim::ReadOne => Course::One,
-        Aim::HandOut => Course::Query,
-    }
-}
-
-/// The run of a text or a handle.
-fn run_of(aim: Aim, input: Input, params: Params) -> DriverCall
-    ensures { result ≡ run_for aim input params }
-{
-    match aim {
-        Aim::Execute => DriverCall::Exec(input, params),
-        Aim::ReadOne | Aim::HandOut => DriverCall::Query(input, params),
-    }
-}
-
-/// The driver call that a call of a statement's course is. At the end of the course the connection is tested.
-fn sent_as(caps: Caps, statement: Statement, due: Due) -> Option<DriverCall>
-    ensures { result ≡ sent_as caps (asked_of statement) due }
-{
-    let Statement { text, params, aim } = statement;
-    match due {
-        Due::Text => Some(run_of(aim, Input::Text(text), params)),
-        Due::Prepare => Some(DriverCall::Prepare(text)),
-        Due::Handle(handle) => Some(run_of(aim, Input::Handle(handle), params)),
-        Due::Next(rows) => Some(DriverCall::Next(rows)),
-        Due::CloseRows(rows) => Some(DriverCall::CloseRows(rows)),
-        Due::CloseStmt(handle) => Some(DriverCall::CloseStmt(handle)),
-        _ => test_of(caps),
-    }
-}
-
-/// The cursor of rows that are handed out.
-fn handed(aim: Aim, made: &Progress) -> Option<u32>
-    ensures { result ≡ handed aim made.now }
-{
-    match aim {
-        Aim::HandOut => made.own_cursor(),
-        _ => None,
-    }
-}
-
-/// What is sent next for a statement, and once it has handed out rows over them.
-pub fn body_after(
-    caps: Caps,
-    statement: Statement,
-    wish: Wish,
-    made: &Progress,
-) -> Option<DriverCall>
-    ensures { result ≡ body_after caps (asked_of statement) wish made.now }
-{
-    let count = statement.params.as_slice().len();
-    match handed(statement.aim, made) {
-        Some(rows) => {
-            let due = made.next_over_rows(wish, caps, count, rows)?;
-            sent_as(caps, statement, due)
-        }
-        None => {
-            let due = made.next(course_of(statement.aim), caps, count, false, false);
-            sent_as(caps, statement, due)
+    fn next_on(&self, conn: u32, call: u32, wish: Wish, statement: Statement) -> Option<DriverCall>
+        requires stands { Stands self.now }
+        requires statement { statement ≡ statement_of (past self.now) call }
+        ensures { result ≡ line_on (past self.now) call wish (Some conn) }
+    {
+        let line = self.line(conn, wish);
+        match self.made.get(conn as usize) {
+            Some(heard) => line.next(statement, heard),
+            None => line.next(statement, &Exchanged::new()),
         }
     }
-}
 
-/// Whether rows that were handed out keep their connection.
-pub fn keeps_rows(aim: Aim, wish: Wish, made: &Progress) -> bool
-    ensures { result ≡ keeps_rows aim wish made.now }
-{
-    match handed(aim, made) {
-        Some(_) => !made.rows_are_over() && !matches!(wish, Wish::Close),
-        None => false,
+    /// What the driver calls on a connection go by.
+    fn line(&self, conn: u32, wish: Wish) -> Line
+        requires { Stands self.now }
+        ensures { result ≡ (record { caps = caps (past self.now); reset_due = is_reset_due (past self.now) conn; wish = wish }) }
+    {
+        Line {
+            caps: self.caps,
+            reset_due: self.is_reset_due(conn),
+            wish,
+        }
     }
 }

@@ -16,25 +16,25 @@ use Rattle.dsql_pool.specs.declared.conn.Place.{Place}
 use Rattle.dsql_pool.specs.declared.conn.Place.TheVariants.{Idle, Lent, Opening, Closing}
 use Rattle.dsql_pool.specs.Places.{conn_of, is_closing, is_for, is_idle, is_opening}
 use Rattle.dsql_pool.specs.Rest.{times}
-use Rattle.dsql_clients.specs.declared.event.Event.{Event}
-use Rattle.dsql_clients.specs.declared.record.Flight.{Flight}
-use Rattle.dsql_clients.specs.Readers.Calls.{decided, site, told_by_others}
-use Rattle.dsql_clients.specs.Readers.Course.{has_ended}
-use Rattle.dsql_clients.specs.Readers.HandedOut.{are_live, ender, live, over, rows_by}
-use Rattle.dsql_clients.specs.Readers.Journals.{journal}
-use Rattle.dsql_clients.specs.Readers.Pool.{place, pool, smallest}
-use Rattle.dsql_clients.specs.Readers.Unfinished.{is_unfinished, unfinished}
-use Rattle.dsql_clients.specs.Rules.House.{has_no_chore, is_untidy}
-use Rattle.dsql_clients.specs.Rules.Line.{due_for, is_used, line_of, tidying}
-use Rattle.dsql_clients.specs.Rules.Stands.{is_waiting, stand}
-use Rattle.dsql_clients.specs.Legal.{Lawful, Legal}
-use Rattle.dsql_client_laws.proofs.AtRest.{rests_owing_nothing}
-use Rattle.dsql_client_laws.proofs.Tests.{both, same_itself, together}
-use Rattle.dsql_client_lendings.proofs.Owners.{owner_is_call}
-use Rattle.dsql_client_calls.proofs.Closed.{closed_shut, ended_closed}
-use Rattle.dsql_client_calls.proofs.Ends.{over_once_ended, waits_only}
-use Rattle.dsql_client_calls.proofs.Lists.{same_or_not}
-use Rattle.dsql_client_heard.proofs.Answered.{lent_used}
+use Rattle.dsql_history.specs.declared.event.Event.{Event}
+use Rattle.dsql_history.specs.declared.record.Flight.{Flight}
+use Rattle.dsql_history.specs.Readers.Calls.{decided, site, told_by_others}
+use Rattle.dsql_history.specs.Readers.Course.{has_ended}
+use Rattle.dsql_history.specs.Readers.HandedOut.{are_live, ender, live, over, rows_by}
+use Rattle.dsql_history.specs.Readers.Journals.{journal}
+use Rattle.dsql_history.specs.Readers.Pool.{place, pool, smallest}
+use Rattle.dsql_history.specs.Readers.Unfinished.{is_unfinished, unfinished}
+use Rattle.dsql_history.specs.Rules.House.{has_no_chore, is_untidy}
+use Rattle.dsql_history.specs.Rules.Line.{due_for, is_used, line_of, tidying}
+use Rattle.dsql_history.specs.Rules.Stands.{is_waiting, stand}
+use Rattle.dsql_history.specs.Legal.{Lawful, Legal}
+use Rattle.dsql_laws.proofs.AtRest.{rests_owing_nothing}
+use Rattle.dsql_laws.proofs.Tests.{both, same_itself, together}
+use Rattle.dsql_lending_laws.proofs.Owners.{owner_is_call}
+use Rattle.dsql_call_laws.proofs.Closed.{closed_shut, ended_closed}
+use Rattle.dsql_call_laws.proofs.Ends.{over_once_ended, waits_only}
+use Rattle.dsql_call_laws.proofs.Lists.{same_or_not}
+use Rattle.dsql_heard_laws.proofs.Answered.{lent_used}
 use Rattle.dsql_pool.proofs.Rows.{found_passes}
 use Rattle.dsql_end_laws.specs.Over.{HasRunOut, IsOver}
 use Rattle.dsql_end_laws.proofs.Left.{IsKnown, known}

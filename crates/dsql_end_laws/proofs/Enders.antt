@@ -6,23 +6,23 @@ use Rattle.dsql_driver.specs.declared.answer.DriverAnswer.{DriverAnswer}
 use Rattle.dsql_rows.specs.declared.end.RowsEnd.TheVariants as ends
 use Rattle.dsql_rows.specs.OpenRows.{changed, ended_by, rows_of}
 use Rattle.dsql_rows.proofs.Numbers.{changes_one_number}
-use Rattle.dsql_history.specs.declared.work.Work.{Work}
-use Rattle.dsql_history.specs.declared.work.Work.TheVariants.{Fetch, Close}
-use Rattle.dsql_history.specs.Readers.HandedOut.{Made}
-use Rattle.dsql_history.specs.Readers.Works.{maker}
-use Rattle.dsql_clients.specs.declared.event.Event.{Event}
-use Rattle.dsql_clients.specs.declared.event.Event.TheVariants.{Run, Entered, Heard, Pool, Waits, SetLimit, Replied, Ended}
-use Rattle.dsql_clients.specs.declared.event.Op.{Op}
-use Rattle.dsql_clients.specs.declared.event.Op.TheVariants.{RowsClose}
-use Rattle.dsql_clients.specs.Readers.HandedOut.{are_live, caller, ended_at, ender, fetched, handed_out, live, rows_entered, rows_heard}
-use Rattle.dsql_clients.specs.Readers.Unfinished.{is_unfinished}
-use Rattle.dsql_clients.specs.Readers.Works.{work, work_of, works}
-use Rattle.dsql_clients.specs.Legal.{Lawful}
-use Rattle.dsql_client_calls.proofs.Lists.{same_or_not}
-use Rattle.dsql_client_calls.proofs.Rows.{ender_works, is_worker}
-use Rattle.dsql_client_calls.proofs.Works.{enters_next, is_look, new_work, work_stays}
-use Rattle.dsql_client_lendings.proofs.Cases.{true_false}
-use Rattle.dsql_client_lines.proofs.UnderWay.{WorksOn}
+use Rattle.dsql_work.specs.declared.work.Work.{Work}
+use Rattle.dsql_work.specs.declared.work.Work.TheVariants.{Fetch, Close}
+use Rattle.dsql_work.specs.HandedOut.{Made}
+use Rattle.dsql_work.specs.Works.{maker}
+use Rattle.dsql_history.specs.declared.event.Event.{Event}
+use Rattle.dsql_history.specs.declared.event.Event.TheVariants.{Run, Entered, Heard, Pool, Waits, SetLimit, Replied, Ended}
+use Rattle.dsql_history.specs.declared.event.Op.{Op}
+use Rattle.dsql_history.specs.declared.event.Op.TheVariants.{RowsClose}
+use Rattle.dsql_history.specs.Readers.HandedOut.{are_live, caller, ended_at, ender, fetched, handed_out, live, rows_entered, rows_heard}
+use Rattle.dsql_history.specs.Readers.Unfinished.{is_unfinished}
+use Rattle.dsql_history.specs.Readers.Works.{work, work_of, works}
+use Rattle.dsql_history.specs.Legal.{Lawful}
+use Rattle.dsql_call_laws.proofs.Lists.{same_or_not}
+use Rattle.dsql_call_laws.proofs.Rows.{ender_works, is_worker}
+use Rattle.dsql_call_laws.proofs.Works.{enters_next, is_look, new_work, work_stays}
+use Rattle.dsql_lending_laws.proofs.Cases.{true_false}
+use Rattle.dsql_sending_laws.proofs.UnderWay.{WorksOn}
 
 abbrev lives_in : ℕ → Made → Bool
 lives_in n rows = live (rows_of n rows)

@@ -4,9 +4,9 @@ use Rattle.std.specs.Prelude.{find, Option}
 use Rattle.std.specs.List.{list_any}
 use Rattle.dsql_journal.specs.Readers.{has}
 use Rattle.dsql_pool.specs.Pooled.{without}
-use Rattle.dsql_clients.specs.Readers.Pool.{or_none}
-use Rattle.dsql_client_laws.proofs.OwedAllowed.{or_first, or_second}
-use Rattle.dsql_client_laws.proofs.Tests.{same_itself, same_number}
+use Rattle.dsql_history.specs.Readers.Pool.{or_none}
+use Rattle.dsql_laws.proofs.OwedAllowed.{or_first, or_second}
+use Rattle.dsql_laws.proofs.Tests.{same_itself, same_number}
 
 -- Where one passes, the first that does stands there, and passes; where none does, none is found.
 

@@ -10,18 +10,18 @@ use Rattle.dsql_pool.specs.Pooled.{Pooled, next_number, place_at}
 use Rattle.dsql_pool.specs.Moved.{shut}
 use Rattle.dsql_pool.proofs.Found.{found_changed, KeepsNumber}
 use Rattle.dsql_pool.proofs.Placed.{found_more}
-use Rattle.dsql_clients.specs.declared.event.Event.{Event}
-use Rattle.dsql_clients.specs.declared.event.Event.TheVariants.{Entered, Heard, Pool, SetLimit, Ended}
-use Rattle.dsql_clients.specs.declared.event.Op.TheVariants.{DbClose}
-use Rattle.dsql_clients.specs.Readers.Journals.{journal}
-use Rattle.dsql_clients.specs.Readers.Pool.{place, pool, wanted_by}
-use Rattle.dsql_clients.specs.Legal.{has_left, Lawful}
-use Rattle.dsql_client_laws.proofs.OwedAllowed.{or_first, or_second}
-use Rattle.dsql_client_laws.proofs.Tests.{same_itself, same_number}
-use Rattle.dsql_client_calls.proofs.Lists.{same_or_not}
-use Rattle.dsql_client_lendings.proofs.Born.{heard_open}
-use Rattle.dsql_client_lendings.proofs.Cases.{limit_conns}
-use Rattle.dsql_client_lendings.proofs.Found.{changed_off, gone_off, place_in, shut_found}
+use Rattle.dsql_history.specs.declared.event.Event.{Event}
+use Rattle.dsql_history.specs.declared.event.Event.TheVariants.{Entered, Heard, Pool, SetLimit, Ended}
+use Rattle.dsql_history.specs.declared.event.Op.TheVariants.{DbClose}
+use Rattle.dsql_history.specs.Readers.Journals.{journal}
+use Rattle.dsql_history.specs.Readers.Pool.{place, pool, wanted_by}
+use Rattle.dsql_history.specs.Legal.{has_left, Lawful}
+use Rattle.dsql_laws.proofs.OwedAllowed.{or_first, or_second}
+use Rattle.dsql_laws.proofs.Tests.{same_itself, same_number}
+use Rattle.dsql_call_laws.proofs.Lists.{same_or_not}
+use Rattle.dsql_lending_laws.proofs.Born.{heard_open}
+use Rattle.dsql_lending_laws.proofs.Cases.{limit_conns}
+use Rattle.dsql_lending_laws.proofs.Found.{changed_off, gone_off, place_in, shut_found}
 
 -- what is open stays so until it leaves
 

@@ -9,21 +9,21 @@ use Rattle.dsql_pool.specs.declared.conn.Conn.{Conn}
 use Rattle.dsql_pool.specs.declared.conn.Place.{Place}
 use Rattle.dsql_pool.specs.declared.conn.Place.TheVariants.{Idle, Lent, Opening, Closing}
 use Rattle.dsql_pool.specs.Places.{is_for, is_opening}
-use Rattle.dsql_clients.specs.declared.event.Event.{Event}
-use Rattle.dsql_clients.specs.declared.record.Flight.{Flight}
-use Rattle.dsql_clients.specs.declared.record.Stand.TheVariants as stands_at
-use Rattle.dsql_clients.specs.Readers.Calls.{decided, site, told_by_others}
-use Rattle.dsql_clients.specs.Readers.Pool.{pool, smallest}
-use Rattle.dsql_clients.specs.Readers.Unfinished.{is_unfinished, unfinished}
-use Rattle.dsql_clients.specs.Rules.Flights.{is_blocked, is_in_flight, may_move}
-use Rattle.dsql_clients.specs.Rules.House.{chore_due, connect_due, has_no_chore, is_quiet, shut_due, tidy_due}
-use Rattle.dsql_clients.specs.Rules.Line.{due_for}
-use Rattle.dsql_clients.specs.Rules.Settled.{Settled}
-use Rattle.dsql_clients.specs.Rules.Stands.{is_waiting, opens, stand, stands}
-use Rattle.dsql_clients.specs.Legal.{Lawful}
-use Rattle.dsql_client_laws.proofs.Numbered.{unfinished_from_one}
-use Rattle.dsql_client_laws.proofs.Tests.{both, other_number, same_itself, second, together}
-use Rattle.dsql_client_heard.proofs.Settling.{all_within}
+use Rattle.dsql_history.specs.declared.event.Event.{Event}
+use Rattle.dsql_history.specs.declared.record.Flight.{Flight}
+use Rattle.dsql_history.specs.declared.record.Stand.TheVariants as stands_at
+use Rattle.dsql_history.specs.Readers.Calls.{decided, site, told_by_others}
+use Rattle.dsql_history.specs.Readers.Pool.{pool, smallest}
+use Rattle.dsql_history.specs.Readers.Unfinished.{is_unfinished, unfinished}
+use Rattle.dsql_history.specs.Rules.Flights.{is_blocked, is_in_flight, may_move}
+use Rattle.dsql_history.specs.Rules.House.{chore_due, connect_due, has_no_chore, is_quiet, shut_due, tidy_due}
+use Rattle.dsql_history.specs.Rules.Line.{due_for}
+use Rattle.dsql_history.specs.Rules.Settled.{Settled}
+use Rattle.dsql_history.specs.Rules.Stands.{is_waiting, opens, stand, stands}
+use Rattle.dsql_history.specs.Legal.{Lawful}
+use Rattle.dsql_laws.proofs.Numbered.{unfinished_from_one}
+use Rattle.dsql_laws.proofs.Tests.{both, other_number, same_itself, second, together}
+use Rattle.dsql_heard_laws.proofs.Settling.{all_within}
 use Rattle.dsql_end_laws.specs.Over.{HasRunOut}
 
 -- there is no chore of any kind

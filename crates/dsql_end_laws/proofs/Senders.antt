@@ -7,34 +7,34 @@ use Rattle.dsql_rows.specs.declared.rows.Rows.{Rows}
 use Rattle.dsql_rows.specs.OpenRows.{is_live}
 use Rattle.dsql_pool.specs.declared.conn.Place.TheVariants.{Lent}
 use Rattle.dsql_pool.specs.declared.moves.Move.TheVariants.{Lend}
-use Rattle.dsql_history.specs.declared.work.Work.{Work}
-use Rattle.dsql_history.specs.declared.work.Work.TheVariants.{Execute, ReadOne, HandOut, Fetch, Close, Look}
-use Rattle.dsql_history.specs.Readers.Works.{asks}
-use Rattle.dsql_clients.specs.declared.event.Event.{Event}
-use Rattle.dsql_clients.specs.declared.event.Event.TheVariants.{Run, Entered, Heard, Pool, Waits, SetLimit, Replied, Ended}
-use Rattle.dsql_clients.specs.declared.reply.Reply.{Reply}
-use Rattle.dsql_clients.specs.Readers.Calls.{decided}
-use Rattle.dsql_clients.specs.Readers.HandedOut.{are_live, caller, ended_at, ender, live, over, rows_by}
-use Rattle.dsql_clients.specs.Readers.Pool.{place}
-use Rattle.dsql_clients.specs.Readers.Unfinished.{is_unfinished, unfinished}
-use Rattle.dsql_clients.specs.Readers.Works.{is_fetch, work}
-use Rattle.dsql_clients.specs.Rules.Line.{due_for, due_in, is_used, line_of, rest, rest_with, sent_for, wish, wish_as}
-use Rattle.dsql_clients.specs.Rules.Settled.{goes_on_but, owes_nothing, uses_what_is_lent}
-use Rattle.dsql_clients.specs.Legal.{Allowed, Lawful}
-use Rattle.dsql_client_laws.proofs.Tests.{both, other_number, same_itself, second}
-use Rattle.dsql_client_laws.proofs.Tried.{lends_to}
-use Rattle.dsql_client_lendings.proofs.Lent.{lent_before, Lends}
-use Rattle.dsql_client_lendings.proofs.Owners.{lent_asks, lent_number}
-use Rattle.dsql_client_lendings.proofs.Rows.{ender_over, rows_kept}
-use Rattle.dsql_client_lendings.proofs.Wanted.{lent_nothing, tried_may_not_ask}
-use Rattle.dsql_client_lines.proofs.Invariant.{over_made}
-use Rattle.dsql_client_lines.proofs.Sound.{sound}
-use Rattle.dsql_client_lines.proofs.UnderWay.{WorksOn}
-use Rattle.dsql_client_calls.proofs.Lists.{has_push}
-use Rattle.dsql_client_calls.proofs.Looks.{comes, heard_there}
-use Rattle.dsql_client_laws.proofs.OwedAllowed.{or_second}
-use Rattle.dsql_client_lines.proofs.Following.{stays_with_its_call}
-use Rattle.dsql_client_heard.proofs.Answered.{lent_used}
+use Rattle.dsql_work.specs.declared.work.Work.{Work}
+use Rattle.dsql_work.specs.declared.work.Work.TheVariants.{Execute, ReadOne, HandOut, Fetch, Close, Look}
+use Rattle.dsql_work.specs.Works.{asks}
+use Rattle.dsql_history.specs.declared.event.Event.{Event}
+use Rattle.dsql_history.specs.declared.event.Event.TheVariants.{Run, Entered, Heard, Pool, Waits, SetLimit, Replied, Ended}
+use Rattle.dsql_history.specs.declared.reply.Reply.{Reply}
+use Rattle.dsql_history.specs.Readers.Calls.{decided}
+use Rattle.dsql_history.specs.Readers.HandedOut.{are_live, caller, ended_at, ender, live, over, rows_by}
+use Rattle.dsql_history.specs.Readers.Pool.{place}
+use Rattle.dsql_history.specs.Readers.Unfinished.{is_unfinished, unfinished}
+use Rattle.dsql_history.specs.Readers.Works.{is_fetch, work}
+use Rattle.dsql_history.specs.Rules.Line.{due_for, due_in, is_used, line_of, rest, rest_with, sent_for, wish, wish_as}
+use Rattle.dsql_history.specs.Rules.Settled.{goes_on_but, owes_nothing, uses_what_is_lent}
+use Rattle.dsql_history.specs.Legal.{Allowed, Lawful}
+use Rattle.dsql_laws.proofs.Tests.{both, other_number, same_itself, second}
+use Rattle.dsql_laws.proofs.Tried.{lends_to}
+use Rattle.dsql_lending_laws.proofs.Lent.{lent_before, Lends}
+use Rattle.dsql_lending_laws.proofs.Owners.{lent_asks, lent_number}
+use Rattle.dsql_lending_laws.proofs.Rows.{ender_over, rows_kept}
+use Rattle.dsql_lending_laws.proofs.Wanted.{lent_nothing, tried_may_not_ask}
+use Rattle.dsql_sending_laws.proofs.Invariant.{over_made}
+use Rattle.dsql_sending_laws.proofs.Sound.{sound}
+use Rattle.dsql_sending_laws.proofs.UnderWay.{WorksOn}
+use Rattle.dsql_call_laws.proofs.Lists.{has_push}
+use Rattle.dsql_call_laws.proofs.Looks.{comes, heard_there}
+use Rattle.dsql_laws.proofs.OwedAllowed.{or_second}
+use Rattle.dsql_sending_laws.proofs.Following.{stays_with_its_call}
+use Rattle.dsql_heard_laws.proofs.Answered.{lent_used}
 use Rattle.dsql_end_laws.proofs.Enders.{ender_now, ender_works_on}
 use Rattle.dsql_end_laws.proofs.Wanters.{lends_unfinished, replies_now, still_without_reply}
 

@@ -5,21 +5,21 @@ use Rattle.std.specs.Option.{option_or}
 use Rattle.std.specs.List.{list_all}
 use Rattle.std.proofs.lemmas.List.Folds.{find-append}
 use Rattle.dsql_pool.specs.Pooled.{without}
-use Rattle.dsql_clients.specs.declared.event.Event.{Event}
-use Rattle.dsql_clients.specs.declared.event.Event.TheVariants.{Entered, Heard, Pool, Waits, Replied, Ended}
-use Rattle.dsql_clients.specs.declared.event.Op.{Op}
-use Rattle.dsql_clients.specs.declared.record.CallRecord.{CallRecord}
-use Rattle.dsql_clients.specs.Readers.Calls.{is_busy, next_call}
-use Rattle.dsql_clients.specs.Readers.Clients.{call_of, client_of, made_by}
-use Rattle.dsql_clients.specs.Readers.Course.{has_ended}
-use Rattle.dsql_clients.specs.Readers.Pool.{or_none}
-use Rattle.dsql_clients.specs.Readers.Unfinished.{is_unfinished, unfinished}
-use Rattle.dsql_clients.specs.Legal.{Lawful}
-use Rattle.dsql_client_laws.proofs.Numbered.{some_calls}
-use Rattle.dsql_client_laws.proofs.Splits.{Lawful-older}
-use Rattle.dsql_client_laws.proofs.Tests.{both, other_number, same_itself, same_number}
-use Rattle.dsql_client_calls.proofs.Lists.{same_or_not}
-use Rattle.dsql_client_calls.proofs.Works.{enters_next, new_record, old_unfinished, still_unfinished}
+use Rattle.dsql_history.specs.declared.event.Event.{Event}
+use Rattle.dsql_history.specs.declared.event.Event.TheVariants.{Entered, Heard, Pool, Waits, Replied, Ended}
+use Rattle.dsql_history.specs.declared.event.Op.{Op}
+use Rattle.dsql_history.specs.declared.record.CallRecord.{CallRecord}
+use Rattle.dsql_history.specs.Readers.Calls.{is_busy, next_call}
+use Rattle.dsql_history.specs.Readers.Clients.{call_of, client_of, made_by}
+use Rattle.dsql_history.specs.Readers.Course.{has_ended}
+use Rattle.dsql_history.specs.Readers.Pool.{or_none}
+use Rattle.dsql_history.specs.Readers.Unfinished.{is_unfinished, unfinished}
+use Rattle.dsql_history.specs.Legal.{Lawful}
+use Rattle.dsql_laws.proofs.Numbered.{some_calls}
+use Rattle.dsql_laws.proofs.Splits.{Lawful-older}
+use Rattle.dsql_laws.proofs.Tests.{both, other_number, same_itself, same_number}
+use Rattle.dsql_call_laws.proofs.Lists.{same_or_not}
+use Rattle.dsql_call_laws.proofs.Works.{enters_next, new_record, old_unfinished, still_unfinished}
 use Rattle.dsql_end_laws.specs.Steps.{begins_step_of, IsStep}
 use Rattle.dsql_walk_laws.specs.Groups.{is_later_of}
 use Rattle.dsql_end_laws.proofs.Whose.{busy_own, busy_unfinished, enters_free, idle_none, is_entry, is_of, kept_client, of_itself, old_client, one_call, same_client, unfinished_entered}

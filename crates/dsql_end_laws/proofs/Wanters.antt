@@ -12,37 +12,37 @@ use Rattle.dsql_pool.specs.Calls.{wants}
 use Rattle.dsql_pool.specs.Places.{is_for}
 use Rattle.dsql_pool.specs.Pooled.{Pooled}
 use Rattle.dsql_pool.proofs.Frees.{count-cons}
-use Rattle.dsql_history.specs.Readers.Works.{asks}
-use Rattle.dsql_clients.specs.declared.event.Event.{Event}
-use Rattle.dsql_clients.specs.declared.event.Event.TheVariants.{Run, Entered, Heard, Pool, Waits, SetLimit, Replied, Ended}
-use Rattle.dsql_clients.specs.declared.event.Op.TheVariants.{DbClose}
-use Rattle.dsql_clients.specs.declared.reply.DbEnd.{DbEnd}
-use Rattle.dsql_clients.specs.declared.reply.Reply.{Reply}
-use Rattle.dsql_clients.specs.declared.reply.Reply.TheVariants.{DbClosed, TooMany}
-use Rattle.dsql_clients.specs.Same.{is_reply}
-use Rattle.dsql_clients.specs.Readers.Calls.{reply_due, told_by_others, told_by_tries}
-use Rattle.dsql_clients.specs.Readers.Course.{db_end}
-use Rattle.dsql_clients.specs.Readers.Pool.{pool, smallest}
-use Rattle.dsql_clients.specs.Readers.Tries.{has_a_try, tries}
-use Rattle.dsql_clients.specs.Readers.Unfinished.{is_unfinished}
-use Rattle.dsql_clients.specs.Readers.Works.{work}
-use Rattle.dsql_clients.specs.Rules.Asking.{ask_outcome, is_too_many, may_ask}
-use Rattle.dsql_clients.specs.Rules.Line.{due_for}
-use Rattle.dsql_clients.specs.Rules.Replies.{has_cause, is_told_too_many}
-use Rattle.dsql_clients.specs.Rules.Settled.{is_settled_but}
-use Rattle.dsql_clients.specs.Legal.{Allowed, Lawful}
-use Rattle.dsql_client_laws.proofs.Counts.{waits_none}
-use Rattle.dsql_client_laws.proofs.Standing.{neither, none_opens}
-use Rattle.dsql_client_laws.proofs.Tests.{both, other_number}
-use Rattle.dsql_client_laws.proofs.Wanting.{is_opening_for, wanted, wanting_works}
-use Rattle.dsql_client_calls.proofs.Closed.{closed_shut, opens_for_none, stays_closed}
-use Rattle.dsql_client_calls.proofs.Lists.{same_or_not}
-use Rattle.dsql_client_calls.proofs.Nowhere.{told_own}
-use Rattle.dsql_client_calls.proofs.Told.{wanting_undecided}
-use Rattle.dsql_client_calls.proofs.Untried.{wants_untried}
-use Rattle.dsql_client_calls.proofs.Works.{enters_unfinished, stays_unfinished}
-use Rattle.dsql_client_lendings.proofs.Cases.{true_false}
-use Rattle.dsql_client_lendings.proofs.Wanted.{lent_nothing, wants_no_more}
+use Rattle.dsql_work.specs.Works.{asks}
+use Rattle.dsql_history.specs.declared.event.Event.{Event}
+use Rattle.dsql_history.specs.declared.event.Event.TheVariants.{Run, Entered, Heard, Pool, Waits, SetLimit, Replied, Ended}
+use Rattle.dsql_history.specs.declared.event.Op.TheVariants.{DbClose}
+use Rattle.dsql_history.specs.declared.reply.DbEnd.{DbEnd}
+use Rattle.dsql_history.specs.declared.reply.Reply.{Reply}
+use Rattle.dsql_history.specs.declared.reply.Reply.TheVariants.{DbClosed, TooMany}
+use Rattle.dsql_history.specs.Same.{is_reply}
+use Rattle.dsql_history.specs.Readers.Calls.{reply_due, told_by_others, told_by_tries}
+use Rattle.dsql_history.specs.Readers.Course.{db_end}
+use Rattle.dsql_history.specs.Readers.Pool.{pool, smallest}
+use Rattle.dsql_history.specs.Readers.Tries.{has_a_try, tries}
+use Rattle.dsql_history.specs.Readers.Unfinished.{is_unfinished}
+use Rattle.dsql_history.specs.Readers.Works.{work}
+use Rattle.dsql_history.specs.Rules.Asking.{ask_outcome, is_too_many, may_ask}
+use Rattle.dsql_history.specs.Rules.Line.{due_for}
+use Rattle.dsql_history.specs.Rules.Replies.{has_cause, is_told_too_many}
+use Rattle.dsql_history.specs.Rules.Settled.{is_settled_but}
+use Rattle.dsql_history.specs.Legal.{Allowed, Lawful}
+use Rattle.dsql_laws.proofs.Counts.{waits_none}
+use Rattle.dsql_laws.proofs.Standing.{neither, none_opens}
+use Rattle.dsql_laws.proofs.Tests.{both, other_number}
+use Rattle.dsql_laws.proofs.Wanting.{is_opening_for, wanted, wanting_works}
+use Rattle.dsql_call_laws.proofs.Closed.{closed_shut, opens_for_none, stays_closed}
+use Rattle.dsql_call_laws.proofs.Lists.{same_or_not}
+use Rattle.dsql_call_laws.proofs.Nowhere.{told_own}
+use Rattle.dsql_call_laws.proofs.Told.{wanting_undecided}
+use Rattle.dsql_call_laws.proofs.Untried.{wants_untried}
+use Rattle.dsql_call_laws.proofs.Works.{enters_unfinished, stays_unfinished}
+use Rattle.dsql_lending_laws.proofs.Cases.{true_false}
+use Rattle.dsql_lending_laws.proofs.Wanted.{lent_nothing, wants_no_more}
 use Rattle.dsql_end_laws.proofs.RunOut.{unnumbered}
 
 -- who wants something is counted

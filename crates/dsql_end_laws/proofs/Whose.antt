@@ -3,21 +3,21 @@ use Rattle.std.proofs.Common.{◌≡◌, ◌≢◌, ◌↔◌, ℕ, ◌<◌, ◌
 use Rattle.std.specs.Prelude.{slice_index_or}
 use Rattle.std.proofs.lemmas.List.{length-append}
 use Rattle.dsql_journal.specs.declared.entry.Entry.{Entry}
-use Rattle.dsql_history.specs.declared.work.Work.{Work}
-use Rattle.dsql_clients.specs.declared.event.Event.{Event}
-use Rattle.dsql_clients.specs.declared.event.Event.TheVariants.{Run, Entered, Heard, Pool, Waits, SetLimit, Replied, Ended}
-use Rattle.dsql_clients.specs.declared.event.Op.{Op}
-use Rattle.dsql_clients.specs.declared.record.CallRecord.{CallRecord}
-use Rattle.dsql_clients.specs.Readers.Calls.{calls, decided_by, decision, entering, is_busy, next_call, nobody, with_record}
-use Rattle.dsql_clients.specs.Readers.Clients.{call_of, client_of, is_free}
-use Rattle.dsql_clients.specs.Readers.Pool.{or_none}
-use Rattle.dsql_clients.specs.Readers.Unfinished.{is_unfinished, unfinished}
-use Rattle.dsql_clients.specs.Readers.Works.{work}
-use Rattle.dsql_clients.specs.Legal.{Allowed, Lawful}
-use Rattle.dsql_client_laws.proofs.Numbered.{unfinished_from_one}
-use Rattle.dsql_client_laws.proofs.Tests.{both, other_number, same_itself, same_number}
-use Rattle.dsql_client_calls.proofs.Lists.{read_set, row_old, same_or_not}
-use Rattle.dsql_client_calls.proofs.Works.{enters_next, new_record, old_record, old_unfinished, still_unfinished}
+use Rattle.dsql_work.specs.declared.work.Work.{Work}
+use Rattle.dsql_history.specs.declared.event.Event.{Event}
+use Rattle.dsql_history.specs.declared.event.Event.TheVariants.{Run, Entered, Heard, Pool, Waits, SetLimit, Replied, Ended}
+use Rattle.dsql_history.specs.declared.event.Op.{Op}
+use Rattle.dsql_history.specs.declared.record.CallRecord.{CallRecord}
+use Rattle.dsql_history.specs.Readers.Calls.{calls, decided_by, decision, entering, is_busy, next_call, nobody, with_record}
+use Rattle.dsql_history.specs.Readers.Clients.{call_of, client_of, is_free}
+use Rattle.dsql_history.specs.Readers.Pool.{or_none}
+use Rattle.dsql_history.specs.Readers.Unfinished.{is_unfinished, unfinished}
+use Rattle.dsql_history.specs.Readers.Works.{work}
+use Rattle.dsql_history.specs.Legal.{Allowed, Lawful}
+use Rattle.dsql_laws.proofs.Numbered.{unfinished_from_one}
+use Rattle.dsql_laws.proofs.Tests.{both, other_number, same_itself, same_number}
+use Rattle.dsql_call_laws.proofs.Lists.{read_set, row_old, same_or_not}
+use Rattle.dsql_call_laws.proofs.Works.{enters_next, new_record, old_record, old_unfinished, still_unfinished}
 use Rattle.dsql_end_laws.proofs.Finds.{any_of, found_in, found_none, found_passes}
 
 -- a call keeps its client

@@ -3,13 +3,13 @@ use Rattle.std.specs.Prelude.{ℕ, ◌≡◌, ◌⊎◌, true, false, List, [], 
 use Rattle.std.specs.List.{list_all}
 use Rattle.dsql_journal.specs.Journal.{IsWhole}
 use Rattle.dsql_pool.specs.Pooled.{open_count}
-use Rattle.dsql_clients.specs.declared.event.Event.{Event}
-use Rattle.dsql_clients.specs.declared.record.Flight.{Flight}
-use Rattle.dsql_clients.specs.Readers.Journals.{journal}
-use Rattle.dsql_clients.specs.Readers.Pool.{place, pool}
-use Rattle.dsql_clients.specs.Readers.Unfinished.{is_unfinished, unfinished}
-use Rattle.dsql_clients.specs.Rules.Flights.{may_move}
-use Rattle.dsql_clients.specs.Rules.House.{chore_due}
+use Rattle.dsql_history.specs.declared.event.Event.{Event}
+use Rattle.dsql_history.specs.declared.record.Flight.{Flight}
+use Rattle.dsql_history.specs.Readers.Journals.{journal}
+use Rattle.dsql_history.specs.Readers.Pool.{place, pool}
+use Rattle.dsql_history.specs.Readers.Unfinished.{is_unfinished, unfinished}
+use Rattle.dsql_history.specs.Rules.Flights.{may_move}
+use Rattle.dsql_history.specs.Rules.House.{chore_due}
 
 -- The calls of which a driver call is under way have no reply, no call may move, and the layer has no driver call of its own to make.
 pub record HasRunOut (past : List Event) (flights : List Flight) : Type 0 where

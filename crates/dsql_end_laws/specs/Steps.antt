@@ -1,9 +1,9 @@
 -- The events of a step, in which one call goes on.
 use Rattle.std.specs.Prelude.{ℕ, ◌≡◌, Bool, true, List, [], ◌∷◌, ◌++◌}
 use Rattle.std.specs.List.{list_all}
-use Rattle.dsql_clients.specs.declared.event.Event.{Event}
-use Rattle.dsql_clients.specs.declared.event.Event.TheVariants.{Heard, SetLimit, Ended}
-use Rattle.dsql_clients.specs.Legal.{Lawful}
+use Rattle.dsql_history.specs.declared.event.Event.{Event}
+use Rattle.dsql_history.specs.declared.event.Event.TheVariants.{Heard, SetLimit, Ended}
+use Rattle.dsql_history.specs.Legal.{Lawful}
 use Rattle.dsql_walk_laws.specs.Groups.{is_later_of}
 
 -- a step begins with an answer, a limit or the end of the run, or call n goes on by itself

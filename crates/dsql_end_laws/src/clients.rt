@@ -1,14 +1,14 @@
 //! Clients and their calls, step by step. A history is read newest first.
 
 ghost use Rattle.std.specs.Prelude.{◌≡◌, ◌≢◌, ◌↔◌, ◌<◌, ◌+◌, ◌==◌, ◌∷◌, ◌++◌, ℕ, true, false, not, cond, List};
-ghost use Rattle.dsql_clients.specs.declared.event.Event.{Event};
-ghost use Rattle.dsql_clients.specs.declared.event.Event.TheVariants.{Entered};
-ghost use Rattle.dsql_clients.specs.declared.event.Op.{Op};
-ghost use Rattle.dsql_clients.specs.Readers.Calls.{is_busy, next_call};
-ghost use Rattle.dsql_clients.specs.Readers.Clients.{call_of, client_of, is_free, made_by};
-ghost use Rattle.dsql_clients.specs.Readers.Course.{has_ended};
-ghost use Rattle.dsql_clients.specs.Readers.Unfinished.{is_unfinished};
-ghost use Rattle.dsql_clients.specs.Legal.{Lawful};
+ghost use Rattle.dsql_history.specs.declared.event.Event.{Event};
+ghost use Rattle.dsql_history.specs.declared.event.Event.TheVariants.{Entered};
+ghost use Rattle.dsql_history.specs.declared.event.Op.{Op};
+ghost use Rattle.dsql_history.specs.Readers.Calls.{is_busy, next_call};
+ghost use Rattle.dsql_history.specs.Readers.Clients.{call_of, client_of, is_free, made_by};
+ghost use Rattle.dsql_history.specs.Readers.Course.{has_ended};
+ghost use Rattle.dsql_history.specs.Readers.Unfinished.{is_unfinished};
+ghost use Rattle.dsql_history.specs.Legal.{Lawful};
 ghost use Rattle.dsql_end_laws.specs.Steps.{begins_step_of, IsStep};
 
 /// A client is busy exactly where it has an unfinished call, which is its own, and is free where it isn't busy.

@@ -1,10 +1,10 @@
 //! What is left once the run is over. A history is read newest first.
 
 ghost use Rattle.std.specs.Prelude.{◌≡◌, true, List};
-ghost use Rattle.dsql_clients.specs.declared.event.Event.{Event};
-ghost use Rattle.dsql_clients.specs.declared.record.Flight.{Flight};
-ghost use Rattle.dsql_clients.specs.Readers.Course.{has_ended};
-ghost use Rattle.dsql_clients.specs.Legal.{Legal};
+ghost use Rattle.dsql_history.specs.declared.event.Event.{Event};
+ghost use Rattle.dsql_history.specs.declared.record.Flight.{Flight};
+ghost use Rattle.dsql_history.specs.Readers.Course.{has_ended};
+ghost use Rattle.dsql_history.specs.Legal.{Legal};
 ghost use Rattle.dsql_end_laws.specs.Over.{HasRunOut, IsOver};
 
 /// Once the run has ended, and no call may move and there is no chore, each call has its reply, no connection is open,

@@ -1,11 +1,11 @@
 //! Who has run out. A history is read newest first.
 
 ghost use Rattle.std.specs.Prelude.{◌≡◌, true, List};
-ghost use Rattle.dsql_clients.specs.declared.event.Event.{Event};
-ghost use Rattle.dsql_clients.specs.declared.record.Flight.{Flight};
-ghost use Rattle.dsql_clients.specs.Rules.House.{is_quiet};
-ghost use Rattle.dsql_clients.specs.Rules.Settled.{Settled};
-ghost use Rattle.dsql_clients.specs.Legal.{Lawful};
+ghost use Rattle.dsql_history.specs.declared.event.Event.{Event};
+ghost use Rattle.dsql_history.specs.declared.record.Flight.{Flight};
+ghost use Rattle.dsql_history.specs.Rules.House.{is_quiet};
+ghost use Rattle.dsql_history.specs.Rules.Settled.{Settled};
+ghost use Rattle.dsql_history.specs.Legal.{Lawful};
 ghost use Rattle.dsql_end_laws.specs.Over.{HasRunOut};
 
 /// Where no call may move and there is no chore, every call has its reply or waits.

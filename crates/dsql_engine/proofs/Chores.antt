@@ -1,66 +1,83 @@
--- The layer's own calls.
-use Rattle.std.proofs.Common.{◌≡◌, ℕ, true, List, refl, Option, Some, None, ap, sym, subst}
-use Rattle.std.specs.Prelude.{option_map}
+-- The layer has a driver call to make on the connection where one is due.
+use Rattle.std.proofs.Common.{◌≡◌, ℕ, Bool, true, List, Option, Some, None, is_some, refl, sym, ap, ◌∙◌}
+use Rattle.std.specs.Prelude.{find}
+use Rattle.std.specs.Option.{option_map}
+use Rattle.dsql_course.specs.Made.{or_else}
 use Rattle.dsql_driver.specs.declared.call.DriverCall.{DriverCall}
 use Rattle.dsql_journal.specs.declared.entry.Owner.TheVariants.{Call, Tx, Pin, House}
 use Rattle.dsql_journal.specs.declared.entry.Permit.{Permit}
+use Rattle.dsql_pool.specs.declared.conn.Conn.{Conn}
+use Rattle.dsql_pool.specs.declared.conn.Place.{Place}
+use Rattle.dsql_pool.specs.declared.conn.Place.TheVariants.{Idle, Lent, Opening, Closing}
+use Rattle.dsql_pool.specs.Places.{is_closing, is_opening}
 use Rattle.dsql_history.specs.declared.event.Event.{Event}
-use Rattle.dsql_history.specs.declared.record.Place.{Place}
-use Rattle.dsql_history.specs.declared.record.Place.TheVariants.{Nowhere, Opening, Idle, Lent, Closing}
-use Rattle.dsql_history.specs.Readers.Sets.{places, place, is_opening, is_closing, next_tenure}
-use Rattle.dsql_history.specs.Readers.Calls.{sender}
-use Rattle.dsql_history.specs.Rules.Line.{due}
-use Rattle.dsql_history.specs.Rules.House.{tidy_due, shut_due, connect_due}
-use Rattle.dsql_engine.specs.Awaited.{awaited, awaited_at, chore_due, call_permit, shut_permit, connect_permit}
-use Rattle.dsql_desk.proofs.Counts.{first_passes}
+use Rattle.dsql_history.specs.Readers.Pool.{place, pool, smallest}
+use Rattle.dsql_history.specs.Rules.House.{chore_due, connect_due, is_untidy, shut_due, tidy_due}
+use Rattle.dsql_history.specs.Rules.Line.{tidying}
+use Rattle.dsql_move_laws.proofs.Once.{once, found_number}
+use Rattle.dsql_going.specs.Permits.{call_permit, chore_at, chore_permit}
+use Rattle.dsql_going.specs.declared.next.Next.TheVariants.{Send, Quiet}
+use Rattle.dsql_engine.specs.Chores.{chore_next}
 
-closing_is : (p : Place) → is_closing p ≡ true → p ≡ Closing
-closing_is Closing h = refl
-closing_is Nowhere h = absurd cc
-closing_is (Opening n) h = absurd cc
-closing_is Idle h = absurd cc
-closing_is (Lent t o) h = absurd cc
+-- what is so of one in every such place is so of the smallest connection in one
+found_there : (H : List Event) (test : Place → Bool) (right : Option Place → Bool) (c : ℕ) (found : Option Conn) → ((at : Place) → test at ≡ true → right (Some at) ≡ true) → find (λ conn. test conn.place) (pool H).conns ≡ found
+    → option_map (λ (conn : Conn). conn.number) found ≡ Some c → right (place H c) ≡ true
+found_there H test right c None each is k = absurd cc
+found_there H test right c (Some x) each is k =
+    let f = found_number (λ (conn : Conn). test conn.place) (pool H).conns x (once H) is in
+    let same : x.number ≡ c = cc in
+    let at : place H c ≡ Some x.place = ap (place H) (sym same) ∙ ap (option_map (λ (conn : Conn). conn.place)) f.0 in
+    ap right at ∙ each x.place f.1
 
-opening_waits : (H : List Event) (c : ℕ) (p : Place) → is_opening p ≡ true → awaited_at H c p ≡ Some (connect_permit c)
-opening_waits H c (Opening n) h = refl
-opening_waits H c Nowhere h = absurd cc
-opening_waits H c Idle h = absurd cc
-opening_waits H c (Lent t o) h = absurd cc
-opening_waits H c Closing h = absurd cc
+there : (H : List Event) (test : Place → Bool) (right : Option Place → Bool) (c : ℕ) → ((at : Place) → test at ≡ true → right (Some at) ≡ true) → smallest test (pool H) ≡ Some c → right (place H c) ≡ true
+there H test right c each is = found_there H test right c (find (λ conn. test conn.place) (pool H).conns) each refl is
 
-permit_conn : (c t n m : ℕ) (d : Option DriverCall) (p : Permit) → option_map (call_permit c t n m) d ≡ Some p → p.conn ≡ c
-permit_conn c t n m None p h = absurd cc
-permit_conn c t n m (Some q) p h = let e : call_permit c t n m q ≡ p = cc in ap (λ (k : Permit). k.conn) (sym e)
+mapped : (f : DriverCall → Permit) (o : Option DriverCall) → is_some o ≡ true → is_some (option_map f o) ≡ true
+mapped f None h = absurd cc
+mapped f (Some call) h = refl
 
--- what a connection awaits is of that connection
-awaits_own : (H : List Event) (c : ℕ) (q : Place) (p : Permit) → awaited_at H c q ≡ Some p → p.conn ≡ c
-awaits_own H c (Opening n) p h = let e : connect_permit c ≡ p = cc in ap (λ (k : Permit). k.conn) (sym e)
-awaits_own H c Closing p h = let e : shut_permit c (next_tenure H c) ≡ p = cc in ap (λ (k : Permit). k.conn) (sym e)
-awaits_own H c (Lent t (Call n)) p h = permit_conn c t n (sender H n) (due H c t n) p h
-awaits_own H c (Lent t (Tx n)) p h = absurd cc
-awaits_own H c (Lent t (Pin n)) p h = absurd cc
-awaits_own H c (Lent t House) p h = absurd cc
-awaits_own H c Nowhere p h = absurd cc
-awaits_own H c Idle p h = absurd cc
+unmapped : (f : DriverCall → Permit) (o : Option DriverCall) → is_some (option_map f o) ≡ true → is_some o ≡ true
+unmapped f None h = absurd cc
+unmapped f (Some call) h = refl
 
-pub chore_tidy : (H : List Event) (c : ℕ) (p : Permit) → tidy_due H ≡ Some c → awaited H c ≡ Some p → (chore_due H ≡ Some p) × (awaited H p.conn ≡ Some p)
-chore_tidy H c p h is = (rw h is, subst (λ (k : ℕ). awaited H k ≡ Some p) (sym (awaits_own H c (place H c) p is)) is)
+tidies : (H : List Event) (c : ℕ) (at : Place) → is_untidy H at ≡ true → is_some (chore_at H c (Some at)) ≡ true
+tidies H c (Lent t (Call n)) h = mapped (call_permit c t n 0) (tidying H n) h
+tidies H c (Lent t (Tx n)) h = absurd cc
+tidies H c (Lent t (Pin n)) h = absurd cc
+tidies H c (Lent t House) h = absurd cc
+tidies H c Idle h = absurd cc
+tidies H c (Opening wanted) h = absurd cc
+tidies H c Closing h = absurd cc
 
-pub chore_shut : (H : List Event) (c : ℕ) → tidy_due H ≡ None → shut_due H ≡ Some c
-    → (chore_due H ≡ Some (shut_permit c (next_tenure H c))) × (awaited H c ≡ Some (shut_permit c (next_tenure H c)))
-chore_shut H c tidy h =
-    let f = first_passes is_closing (places H) Nowhere c h in
-    (rw (tidy, h) refl, rw (closing_is (place H c) f.0) refl)
+shuts : (H : List Event) (c : ℕ) (at : Place) → is_closing (Some at) ≡ true → is_some (chore_at H c (Some at)) ≡ true
+shuts H c Closing h = refl
+shuts H c Idle h = absurd cc
+shuts H c (Opening wanted) h = absurd cc
+shuts H c (Lent t owner) h = absurd cc
 
-pub chore_connect : (H : List Event) (c : ℕ) → tidy_due H ≡ None → shut_due H ≡ None → connect_due H ≡ Some c → (chore_due H ≡ Some (connect_permit c)) × (awaited H c ≡ Some (connect_permit c))
-chore_connect H c tidy n h =
-    let f = first_passes is_opening (places H) Nowhere c h in
-    (rw (tidy, n, h) refl, opening_waits H c (place H c) f.0)
+connects : (H : List Event) (c : ℕ) (at : Place) → is_opening (Some at) ≡ true → is_some (chore_at H c (Some at)) ≡ true
+connects H c (Opening wanted) h = refl
+connects H c Idle h = absurd cc
+connects H c Closing h = absurd cc
+connects H c (Lent t owner) h = absurd cc
 
-pub chore_none : (H : List Event) → tidy_due H ≡ None → shut_due H ≡ None → connect_due H ≡ None → chore_due H ≡ None
-chore_none H tidy shut connect = rw (tidy, shut, connect) refl
+one_of : (a b d : Option ℕ) (c : ℕ) (P : Bool) → (a ≡ Some c → P ≡ true) → (b ≡ Some c → P ≡ true) → (d ≡ Some c → P ≡ true) → or_else a (or_else b d) ≡ Some c → P ≡ true
+one_of (Some x) b d c P first second third is = first is
+one_of None (Some x) d c P first second third is = second is
+one_of None None d c P first second third is = third is
 
--- what is none of the values there could be
-pub none_when : (r d : Option ℕ) → r ≡ d → ((x : ℕ) → r ≡ Some x → ⊥) → d ≡ None
-none_when None d e h = sym e
-none_when (Some x) d e h = absurd (h x refl)
+pub chore_given : (H : List Event) (c : ℕ) → chore_due H ≡ Some c → is_some (chore_permit H c) ≡ true
+chore_given H c is =
+    let right : Option Place → Bool = λ at. is_some (chore_at H c at) in
+    one_of (tidy_due H) (shut_due H) (connect_due H) c (is_some (chore_permit H c)) (there H (is_untidy H) right c (tidies H c)) (there H (λ at. is_closing (Some at)) right c (shuts H c)) (there H (λ at. is_opening (Some at)) right c (connects H c)) is
+
+-- leave is given for it
+pub chore_sent : (H : List Event) (c : ℕ) (permit : Permit) → chore_due H ≡ Some c → chore_permit H c ≡ Some permit → chore_next H (chore_due H) ≡ Some (Send permit)
+chore_sent H c permit due leave = ap (chore_next H) due ∙ ap (option_map Send) leave
+
+pub chore_quiet : (H : List Event) → chore_due H ≡ None → chore_next H (chore_due H) ≡ Some Quiet
+chore_quiet H none = ap (chore_next H) none
+
+-- what the layer sends on a connection that is lent to call n closes the rows of that call
+pub due_tidying : (H : List Event) (c t n : ℕ) (at : Option Place) → is_some (chore_permit H c) ≡ true → at ≡ place H c → at ≡ Some (Lent t (Call n)) → is_some (tidying H n) ≡ true
+due_tidying H c t n at due is lent = unmapped (call_permit c t n 0) (tidying H n) (sym (ap (λ it. is_some (chore_at H c it)) (sym is ∙ lent)) ∙ due)

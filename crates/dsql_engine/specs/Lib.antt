@@ -1,10 +1,3 @@
-pub mod Freshly
-pub mod Turns
-pub mod Awaited
-pub mod Groups
-pub mod Reaching
-pub mod Entering
+pub mod Core
+pub mod Chores
 pub mod Hearing
-pub mod Steps
-pub mod Waking
-pub mod Ending

@@ -1,16 +1,12 @@
-//! The layer's core: it takes calls, driver answers and the run's end one at a time, and keeps the
-//! history of all that happened, which is legal after every call.
+//! The layer's core for several clients: calls enter and go on, answers are taken in, limits are set and the run ends,
+//! one step at a time. The history is legal after each step.
 #![tactic(auto)]
 
-mod end;
 mod engine;
-mod enter;
-mod hear;
-mod lent;
-mod next;
+mod outside;
+mod paying;
 mod permits;
-mod wake;
 
 pub use dsql_desk::NoRoom;
-pub use engine::Engine;
-pub use next::{HeardBack, Next, Why};
+pub use dsql_going::{Next, Why};
+pub use engine::{Engine, HeardBack, Spent};

@@ -1,7 +1,8 @@
-ghost use Rattle.std.specs.Prelude.{◌≡◌, ◌+◌, ◌<◌, ◌≤◌, [], OnOk};
-ghost use Rattle.dsql_clients.specs.Rules.Flights.{is_in_flight, has_flight, is_taken, with_flight, without_flight};
+ghost use Rattle.std.specs.Prelude.{◌≡◌, ◌==◌, ◌&&◌, ◌+◌, ◌<◌, ◌≤◌, [], OnOk};
+ghost use Rattle.std.specs.List.{list_any};
+ghost use Rattle.dsql_history.specs.Rules.Flights.{is_in_flight, has_flight, is_taken, with_flight, without_flight};
 
-use dsql_clients::Flight;
+use dsql_history::Flight;
 use dsql_value::Memory;
 use std::alloc::Global;
 use std::marker::Model;
@@ -54,6 +55,15 @@ impl Flights {
         ensures { result ≡ has_flight conn self.now.flights }
     {
         self.flights.iter().any(|flight| flight.conn == conn)
+    }
+
+    /// One of this call is under way on this connection.
+    pub fn has(&self, call: u32, conn: u32) -> bool
+        ensures { result ≡ list_any (λ flight. (flight.call == call) && (flight.conn == conn)) self.now.flights }
+    {
+        self.flights
+            .iter()
+            .any(|flight| flight.call == call && flight.conn == conn)
     }
 
     /// Another call's is under way on this connection.

@@ -3,5 +3,5 @@
 
 mod flights;
 
-pub use dsql_clients::Flight;
+pub use dsql_history::Flight;
 pub use flights::Flights;

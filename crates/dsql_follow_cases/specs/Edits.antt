@@ -1,6 +1,6 @@
 -- Changes of a run, and where it stops following its lines. Parts are counted from 1, as the script has their lines.
 use Rattle.std.specs.Prelude.{ℕ, ◌+◌, ◌-◌, Bool, not, ◌&&◌, List, [], ◌∷◌, ◌++◌, length, take, drop, reverse, slice_index_or, slice_set}
-use Rattle.dsql_clients.specs.declared.event.Event.{Event}
+use Rattle.dsql_history.specs.declared.event.Event.{Event}
 use Rattle.dsql_follows.specs.declared.line.Line.{Line}
 use Rattle.dsql_follows.specs.declared.line.Line.TheVariants.{Skip}
 use Rattle.dsql_follows.specs.Moments.{Moment, met, at_end}

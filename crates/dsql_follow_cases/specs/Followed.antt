@@ -1,10 +1,10 @@
 -- Runs of calls that wait, of limits and of the database's close, whose parts follow their lines. Parts and events are oldest first.
 use Rattle.std.specs.Prelude.{false, [], ◌∷◌}
 use Rattle.dsql_pool.specs.declared.moves.CloseCause.TheVariants as causes
-use Rattle.dsql_clients.specs.declared.event.Event.TheVariants.{Waits, Replied, Ended}
-use Rattle.dsql_clients.specs.declared.reply.DbEnd.TheVariants as ends
-use Rattle.dsql_clients.specs.declared.reply.Reply.TheVariants as replies
-use Rattle.dsql_client_cases.specs.Words.{query, columns, cursor, enters_exec, queries, fetches, closes, asks_for_stats, closes_db, sets_open, open_start, lend, back, close, gone, sent, stats}
+use Rattle.dsql_history.specs.declared.event.Event.TheVariants.{Waits, Replied, Ended}
+use Rattle.dsql_history.specs.declared.reply.DbEnd.TheVariants as ends
+use Rattle.dsql_history.specs.declared.reply.Reply.TheVariants as replies
+use Rattle.dsql_cases.specs.Words.{query, columns, cursor, enters_exec, queries, fetches, closes, asks_for_stats, closes_db, sets_open, open_start, lend, back, close, gone, sent, stats}
 use Rattle.dsql_follows.specs.declared.line.Line.TheVariants.{Skip, Step, StepHouse}
 use Rattle.dsql_follows.specs.Follows.{Played}
 use Rattle.dsql_follow_cases.specs.Words.{set_a, set_b, set_c, set_d, r, limits, calls_exec, calls_query, calls_next, calls_close, calls_stats, calls_db_close, starts_exec, connects, shuts, resets, runs, tests, closes_rows, tests_after, is_told, part, played}

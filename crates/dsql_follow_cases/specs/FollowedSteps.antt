@@ -2,9 +2,9 @@
 use Rattle.std.specs.Prelude.{true, false, [], ◌∷◌, codes}
 use Rattle.dsql_driver.specs.declared.call.DriverCall.TheVariants.{Next}
 use Rattle.dsql_pool.specs.declared.moves.CloseCause.TheVariants as causes
-use Rattle.dsql_clients.specs.declared.event.Event.TheVariants.{Waits, Replied, Ended}
-use Rattle.dsql_clients.specs.declared.reply.Reply.TheVariants as replies
-use Rattle.dsql_client_cases.specs.Words.{query, columns, cursor, row, enters_exec, queries, fetches, closes, asks_for_stats, closes_db, sets_open, open_start, lend, back, close, gone, sent, stats}
+use Rattle.dsql_history.specs.declared.event.Event.TheVariants.{Waits, Replied, Ended}
+use Rattle.dsql_history.specs.declared.reply.Reply.TheVariants as replies
+use Rattle.dsql_cases.specs.Words.{query, columns, cursor, row, enters_exec, queries, fetches, closes, asks_for_stats, closes_db, sets_open, open_start, lend, back, close, gone, sent, stats}
 use Rattle.dsql_follows.specs.declared.line.Line.TheVariants.{Skip, Step, StepHouse}
 use Rattle.dsql_follows.specs.Follows.{Played}
 use Rattle.dsql_follow_cases.specs.Words.{set_a, set_b, set_c, set_d, r, limits, calls_exec, calls_query, calls_next, calls_close, calls_stats, calls_db_close, starts_exec, starts_next, starts_stats, connects, shuts, resets, runs, tests, closes_rows, tests_after, is_told, part, played}

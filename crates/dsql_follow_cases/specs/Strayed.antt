@@ -1,8 +1,8 @@
 -- Runs of which a line's part doesn't follow: each is one that follows but for one thing. Events are oldest first.
 use Rattle.std.specs.Prelude.{[], ◌∷◌}
-use Rattle.dsql_clients.specs.declared.event.Event.TheVariants.{Waits, Replied, Ended}
-use Rattle.dsql_clients.specs.declared.reply.Reply.TheVariants as replies
-use Rattle.dsql_client_cases.specs.Words.{enters_exec, closes, asks_for_stats, sets_open, lend, back, gone, stats}
+use Rattle.dsql_history.specs.declared.event.Event.TheVariants.{Waits, Replied, Ended}
+use Rattle.dsql_history.specs.declared.reply.Reply.TheVariants as replies
+use Rattle.dsql_cases.specs.Words.{enters_exec, closes, asks_for_stats, sets_open, lend, back, gone, stats}
 use Rattle.dsql_follows.specs.declared.line.Line.TheVariants.{Skip, Step}
 use Rattle.dsql_follows.specs.Follows.{Played}
 use Rattle.dsql_follow_cases.specs.Words.{set_a, set_b, set_c, set_d, r, limits, connects, shuts, resets, runs, tests, closes_rows, tests_after, is_told}

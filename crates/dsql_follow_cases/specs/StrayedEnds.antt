@@ -1,10 +1,10 @@
 -- Runs of which the end's part doesn't follow: each is one that follows but for one thing. Events are oldest first.
 use Rattle.std.specs.Prelude.{[], ◌∷◌}
 use Rattle.dsql_pool.specs.declared.moves.CloseCause.TheVariants as causes
-use Rattle.dsql_clients.specs.declared.event.Event.TheVariants.{Replied, Ended}
-use Rattle.dsql_clients.specs.declared.reply.DbEnd.TheVariants as ends
-use Rattle.dsql_clients.specs.declared.reply.Reply.TheVariants as replies
-use Rattle.dsql_client_cases.specs.Words.{enters_exec, fetches, asks_for_stats, sets_open, close, gone, stats}
+use Rattle.dsql_history.specs.declared.event.Event.TheVariants.{Replied, Ended}
+use Rattle.dsql_history.specs.declared.reply.DbEnd.TheVariants as ends
+use Rattle.dsql_history.specs.declared.reply.Reply.TheVariants as replies
+use Rattle.dsql_cases.specs.Words.{enters_exec, fetches, asks_for_stats, sets_open, close, gone, stats}
 use Rattle.dsql_follows.specs.Follows.{Played}
 use Rattle.dsql_follow_cases.specs.Words.{set_a, r, shuts, tests, closes_rows, tests_after, is_told}
 use Rattle.dsql_follow_cases.specs.Followed.{one_exec, closed_while_waiting, waits_until_the_end}

@@ -2,11 +2,11 @@
 use Rattle.std.specs.Prelude.{ℕ, List, [], pos, codes, reverse}
 use Rattle.dsql_driver.specs.declared.call.DriverCall.TheVariants.{Connect, Reset, Valid, CloseRows, Shut}
 use Rattle.dsql_driver.specs.declared.answer.DriverAnswer.TheVariants as answers
-use Rattle.dsql_clients.specs.declared.event.Event.{Event}
-use Rattle.dsql_clients.specs.declared.event.Event.TheVariants.{Replied}
-use Rattle.dsql_clients.specs.declared.event.Op.TheVariants as ops
-use Rattle.dsql_clients.specs.declared.event.Setting.TheVariants.{MaxOpen}
-use Rattle.dsql_client_cases.specs.Words.{run, exec, one_changed, told_one_changed, rows_text, house, sent}
+use Rattle.dsql_history.specs.declared.event.Event.{Event}
+use Rattle.dsql_history.specs.declared.event.Event.TheVariants.{Replied}
+use Rattle.dsql_history.specs.declared.event.Op.TheVariants as ops
+use Rattle.dsql_history.specs.declared.event.Setting.TheVariants.{MaxOpen}
+use Rattle.dsql_cases.specs.Words.{run, exec, one_changed, told_one_changed, rows_text, house, sent}
 use Rattle.dsql_follows.specs.declared.line.Line.{Line}
 use Rattle.dsql_follows.specs.declared.line.Line.TheVariants.{Set, Client, Start}
 use Rattle.dsql_follows.specs.Sentences.{Part}

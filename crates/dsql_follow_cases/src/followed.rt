@@ -1,7 +1,7 @@
 //! Runs whose parts follow their lines: each history is legal, too.
 
 ghost use Rattle.std.specs.Prelude.{◌≡◌, true};
-ghost use Rattle.dsql_clients.specs.Computed.{is_legal};
+ghost use Rattle.dsql_history.specs.Computed.{is_legal};
 ghost use Rattle.dsql_follows.specs.Follows.{follows, history};
 ghost use Rattle.dsql_follow_cases.specs.Edits.{parts_found};
 ghost use Rattle.dsql_follow_cases.specs.Followed.{one_exec, rows_hold_the_connection, served_in_order, closed_while_waiting, limit_lowered, waits_until_the_end};

@@ -3,16 +3,16 @@ use Rattle.std.proofs.Common.{◌≡◌, ◌⊎◌, inl, inr, ⊎_elim, ℕ, ◌
 use Rattle.std.proofs.lemmas.List.{append-nil, append_assoc, append_cancel_right}
 use Rattle.std.specs.List.{list_all}
 use Rattle.dsql_journal.specs.Readers.{is_empty}
-use Rattle.dsql_clients.specs.declared.event.Event.{Event}
-use Rattle.dsql_clients.specs.declared.event.Event.TheVariants.{Run, Entered, Heard, SetLimit, Ended}
-use Rattle.dsql_clients.specs.declared.event.Op.{Op}
-use Rattle.dsql_clients.specs.declared.record.Stand.{Stand}
-use Rattle.dsql_clients.specs.declared.record.Stand.TheVariants.{Waits, Opens, Sends, Replies}
-use Rattle.dsql_clients.specs.Rules.Stands.{stand}
+use Rattle.dsql_history.specs.declared.event.Event.{Event}
+use Rattle.dsql_history.specs.declared.event.Event.TheVariants.{Run, Entered, Heard, SetLimit, Ended}
+use Rattle.dsql_history.specs.declared.event.Op.{Op}
+use Rattle.dsql_history.specs.declared.record.Stand.{Stand}
+use Rattle.dsql_history.specs.declared.record.Stand.TheVariants.{Waits, Opens, Sends, Replies}
+use Rattle.dsql_history.specs.Rules.Stands.{stand}
 use Rattle.dsql_follows.specs.declared.line.Line.{Line}
 use Rattle.dsql_follows.specs.declared.line.Line.TheVariants.{Skip, Set, Client, Start, Step, StepHouse}
-use Rattle.dsql_clients.specs.Readers.Clients.{call_of, is_free, client_of}
-use Rattle.dsql_clients.specs.Rules.Flights.{is_in_flight}
+use Rattle.dsql_history.specs.Readers.Clients.{call_of, is_free, client_of}
+use Rattle.dsql_history.specs.Rules.Flights.{is_in_flight}
 use Rattle.dsql_follows.specs.Moments.{Moment, Passed, met, at_end, stepping, begins_step, at_rest, rested, walk, kept}
 use Rattle.dsql_follows.specs.Turns.{can_move, first_chore, next_client, is_it, is_turn_of, has_run_out, comes_in_turn}
 use Rattle.dsql_follows.specs.Sentences.{Part, passed, oldest, later, begins, begins_with_step, come_in_turn, after_part, is_one_step, enters_now, is_entry_of, is_set_in, hears, goes_on_by_itself, wakes, starts_at, steps_at, steps_free, steps_call, carries, tidies_at}

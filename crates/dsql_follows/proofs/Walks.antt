@@ -1,6 +1,6 @@
 -- Events that are gone over one after another.
 use Rattle.std.proofs.Common.{◌≡◌, List, [], ◌∷◌, ◌++◌, refl, ap}
-use Rattle.dsql_clients.specs.declared.event.Event.{Event}
+use Rattle.dsql_history.specs.declared.event.Event.{Event}
 use Rattle.dsql_follows.specs.Moments.{Moment, begins_step, rested, with_event, walk}
 
 pub now_goes_on : (m : Moment) (newer older : List Event) → (walk m (newer ++ older)).now ≡ (walk (walk m older).now newer).now

@@ -2,11 +2,11 @@
 use Rattle.std.specs.Prelude.{◌≡◌, Bool, true, ◌&&◌, List, [], ◌∷◌, ◌++◌, map}
 use Rattle.std.specs.List.{list_all}
 use Rattle.dsql_journal.specs.Readers.{is_empty}
-use Rattle.dsql_clients.specs.declared.event.Event.{Event}
-use Rattle.dsql_clients.specs.Readers.Course.{has_ended}
-use Rattle.dsql_clients.specs.Rules.Course.{is_run}
+use Rattle.dsql_history.specs.declared.event.Event.{Event}
+use Rattle.dsql_history.specs.Readers.Course.{has_ended}
+use Rattle.dsql_history.specs.Rules.Course.{is_run}
 use Rattle.dsql_follows.specs.declared.line.Line.{Line}
-use Rattle.dsql_clients.specs.Readers.Clients.{is_free}
+use Rattle.dsql_history.specs.Readers.Clients.{is_free}
 use Rattle.dsql_follows.specs.Moments.{Moment, just_begun, met, at_end, after_events, kept}
 use Rattle.dsql_follows.specs.Turns.{clients, has_run_out}
 use Rattle.dsql_follows.specs.Sentences.{Part, after_part, passed, begins_with_step, makes_whole_steps, enters_in_order, come_in_turn, enters_at_once, sets_at_once, starts_alone, steps_once, tidies_once, runs_in_turn, runs_out}

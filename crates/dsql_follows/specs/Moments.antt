@@ -4,16 +4,16 @@ use Rattle.std.specs.List.{list_any}
 use Rattle.dsql_journal.specs.Readers.{is_empty}
 use Rattle.dsql_pool.specs.declared.moves.Move.{Move}
 use Rattle.dsql_pool.specs.declared.moves.Move.TheVariants.{OpenStart, Lend}
-use Rattle.dsql_clients.specs.declared.event.Event.{Event}
-use Rattle.dsql_clients.specs.declared.event.Event.TheVariants.{Run, Entered, Heard, Pool, Waits, SetLimit, Replied, Ended}
-use Rattle.dsql_clients.specs.declared.record.Flight.{Flight}
-use Rattle.dsql_clients.specs.Readers.Owed.{owed}
-use Rattle.dsql_clients.specs.Rules.Course.{is_run, is_from_outside}
-use Rattle.dsql_clients.specs.Rules.Flights.{permitted, without_flight}
-use Rattle.dsql_clients.specs.Rules.Stands.{stand}
+use Rattle.dsql_history.specs.declared.event.Event.{Event}
+use Rattle.dsql_history.specs.declared.event.Event.TheVariants.{Run, Entered, Heard, Pool, Waits, SetLimit, Replied, Ended}
+use Rattle.dsql_history.specs.declared.record.Flight.{Flight}
+use Rattle.dsql_history.specs.Readers.Owed.{owed}
+use Rattle.dsql_history.specs.Rules.Course.{is_run, is_from_outside}
+use Rattle.dsql_history.specs.Rules.Flights.{permitted, without_flight}
+use Rattle.dsql_history.specs.Rules.Stands.{stand}
 use Rattle.dsql_follows.specs.declared.line.Line.{Line}
 use Rattle.dsql_follows.specs.declared.line.Line.TheVariants.{Skip, Client, Start}
-use Rattle.dsql_clients.specs.Readers.Clients.{made_by}
+use Rattle.dsql_history.specs.Readers.Clients.{made_by}
 
 -- What happened and the lines that were read are newest first. The newest event is part of a step of this call, and at 0 of the layer or of a line. At the
 -- script's end the calls that were held are released.

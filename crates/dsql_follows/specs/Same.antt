@@ -6,11 +6,11 @@ use Rattle.dsql_value.specs.declared.arg.Arg.TheVariants as args
 use Rattle.dsql_value.specs.declared.arg.Named.{Named}
 use Rattle.dsql_scan.specs.declared.dest.Dest.{Dest}
 use Rattle.dsql_scan.specs.declared.dest.Dest.TheVariants as dests
-use Rattle.dsql_history.specs.Same.{same_truth, same_name}
-use Rattle.dsql_clients.specs.declared.event.Op.{Op}
-use Rattle.dsql_clients.specs.declared.event.Op.TheVariants as ops
-use Rattle.dsql_clients.specs.declared.event.Setting.{Setting}
-use Rattle.dsql_clients.specs.declared.event.Setting.TheVariants.{MaxOpen, MaxIdle}
+use Rattle.dsql_work.specs.Same.{same_truth, same_name}
+use Rattle.dsql_history.specs.declared.event.Op.{Op}
+use Rattle.dsql_history.specs.declared.event.Op.TheVariants as ops
+use Rattle.dsql_history.specs.declared.event.Setting.{Setting}
+use Rattle.dsql_history.specs.declared.event.Setting.TheVariants.{MaxOpen, MaxIdle}
 
 abbrev pub same_setting : Setting → Setting → Bool
 same_setting MaxOpen MaxOpen = true

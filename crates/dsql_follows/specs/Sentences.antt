@@ -3,19 +3,19 @@ use Rattle.std.specs.Prelude.{ℕ, ◌==◌, Bool, true, false, not, ◌&&◌, �
 use Rattle.std.specs.List.{list_all}
 use Rattle.std.specs.Ordering.{int_eq}
 use Rattle.dsql_journal.specs.Readers.{is_empty}
-use Rattle.dsql_clients.specs.declared.event.Op.{Op}
-use Rattle.dsql_clients.specs.declared.event.Event.{Event}
-use Rattle.dsql_clients.specs.declared.event.Event.TheVariants.{Entered, Heard, SetLimit}
-use Rattle.dsql_clients.specs.declared.record.Stand.{Stand}
-use Rattle.dsql_clients.specs.declared.record.Stand.TheVariants.{Sends}
-use Rattle.dsql_clients.specs.Rules.Course.{is_from_outside}
-use Rattle.dsql_clients.specs.Rules.Stands.{stand}
+use Rattle.dsql_history.specs.declared.event.Op.{Op}
+use Rattle.dsql_history.specs.declared.event.Event.{Event}
+use Rattle.dsql_history.specs.declared.event.Event.TheVariants.{Entered, Heard, SetLimit}
+use Rattle.dsql_history.specs.declared.record.Stand.{Stand}
+use Rattle.dsql_history.specs.declared.record.Stand.TheVariants.{Sends}
+use Rattle.dsql_history.specs.Rules.Course.{is_from_outside}
+use Rattle.dsql_history.specs.Rules.Stands.{stand}
 use Rattle.dsql_follows.specs.declared.line.Line.{Line}
 use Rattle.dsql_follows.specs.declared.line.Line.TheVariants.{Set, Client, Start, Step, StepHouse}
 use Rattle.dsql_follows.specs.Same.{same_op, same_setting}
-use Rattle.dsql_clients.specs.Readers.Clients.{call_of, is_free}
-use Rattle.dsql_clients.specs.declared.record.Flight.{Flight}
-use Rattle.dsql_clients.specs.Rules.Flights.{is_in_flight}
+use Rattle.dsql_history.specs.Readers.Clients.{call_of, is_free}
+use Rattle.dsql_history.specs.declared.record.Flight.{Flight}
+use Rattle.dsql_history.specs.Rules.Flights.{is_in_flight}
 use Rattle.dsql_follows.specs.Moments.{Moment, Passed, met, stepping, begins_step, takes_permit, walk, after_events, kept}
 use Rattle.dsql_follows.specs.Turns.{can_move, first_chore, is_chore, comes_in_turn, has_run_out}
 

@@ -2,14 +2,14 @@
 -- that runs on does so just until the turn is nobody's. So events are dealt out to the lines, oldest first.
 use Rattle.std.specs.Prelude.{ℕ, Bool, true, false, not, ◌&&◌, ◌||◌, cond, List, [], ◌∷◌, reverse, Option, Some, is_some}
 use Rattle.dsql_journal.specs.Readers.{is_empty}
-use Rattle.dsql_clients.specs.declared.event.Event.{Event}
-use Rattle.dsql_clients.specs.declared.record.Stand.{Stand}
-use Rattle.dsql_clients.specs.declared.record.Stand.TheVariants.{Sends}
-use Rattle.dsql_clients.specs.Rules.Stands.{stand}
+use Rattle.dsql_history.specs.declared.event.Event.{Event}
+use Rattle.dsql_history.specs.declared.record.Stand.{Stand}
+use Rattle.dsql_history.specs.declared.record.Stand.TheVariants.{Sends}
+use Rattle.dsql_history.specs.Rules.Stands.{stand}
 use Rattle.dsql_follows.specs.declared.line.Line.{Line}
 use Rattle.dsql_follows.specs.declared.line.Line.TheVariants.{Start, Step, StepHouse}
-use Rattle.dsql_clients.specs.Readers.Clients.{call_of, is_free}
-use Rattle.dsql_clients.specs.Rules.Flights.{is_in_flight}
+use Rattle.dsql_history.specs.Readers.Clients.{call_of, is_free}
+use Rattle.dsql_history.specs.Rules.Flights.{is_in_flight}
 use Rattle.dsql_follows.specs.Moments.{Moment, just_begun, met, begins_step, at_rest, rested, with_event, kept}
 use Rattle.dsql_follows.specs.Turns.{can_move, first_chore, has_run_out}
 use Rattle.dsql_follows.specs.Sentences.{Part, after_part, enters_now, has_own_step, runs_on}

@@ -4,15 +4,15 @@ use Rattle.std.specs.List.{list_any}
 use Rattle.dsql_course.specs.Made.{or_else}
 use Rattle.dsql_journal.specs.declared.entry.Entry.{Entry}
 use Rattle.dsql_journal.specs.Readers.{has, is_empty}
-use Rattle.dsql_clients.specs.declared.event.Event.{Event}
-use Rattle.dsql_clients.specs.declared.event.Event.TheVariants.{Run, Entered, Heard, SetLimit, Ended}
-use Rattle.dsql_clients.specs.Readers.Course.{has_ended}
-use Rattle.dsql_clients.specs.Readers.Unfinished.{is_unfinished}
-use Rattle.dsql_clients.specs.Rules.Flights.{is_in_flight, may_move}
-use Rattle.dsql_clients.specs.Rules.House.{chore_due}
+use Rattle.dsql_history.specs.declared.event.Event.{Event}
+use Rattle.dsql_history.specs.declared.event.Event.TheVariants.{Run, Entered, Heard, SetLimit, Ended}
+use Rattle.dsql_history.specs.Readers.Course.{has_ended}
+use Rattle.dsql_history.specs.Readers.Unfinished.{is_unfinished}
+use Rattle.dsql_history.specs.Rules.Flights.{is_in_flight, may_move}
+use Rattle.dsql_history.specs.Rules.House.{chore_due}
 use Rattle.dsql_follows.specs.declared.line.Line.{Line}
 use Rattle.dsql_follows.specs.declared.line.Line.TheVariants.{Client, Start}
-use Rattle.dsql_clients.specs.Readers.Clients.{call_of, is_free, client_of}
+use Rattle.dsql_history.specs.Readers.Clients.{call_of, is_free, client_of}
 use Rattle.dsql_follows.specs.Moments.{Moment, stepping, kept, is_held}
 
 -- the call has no reply, and its permit is in flight or it isn't blocked

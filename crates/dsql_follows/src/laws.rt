@@ -1,7 +1,7 @@
 //! Laws of runs and their scripts: each law is the contract of a function that does nothing.
 
 ghost use Rattle.std.specs.Prelude.{◌≡◌, ◌↔◌, ◌++◌, true, List};
-ghost use Rattle.dsql_clients.specs.declared.event.Event.{Event};
+ghost use Rattle.dsql_history.specs.declared.event.Event.{Event};
 ghost use Rattle.dsql_follows.specs.Moments.{Moment, walk};
 ghost use Rattle.dsql_follows.specs.Sentences.{Part};
 ghost use Rattle.dsql_follows.specs.Follows.{Played, FollowsLine, FollowsEnd, Follows, script, history, follows_line, follows_end, follows};

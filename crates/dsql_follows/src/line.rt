@@ -1,4 +1,4 @@
-use dsql_clients::{Op, Setting};
+use dsql_history::{Op, Setting};
 
 /// What a line of a script asks for.
 #[derive(Clone, Debug, Drop)]

@@ -1,6 +1,7 @@
 -- The rules computed: tests of an event and of a whole history. Each is true exactly where the record holds.
 use Rattle.std.specs.Prelude.{Bool, true, not, ◌&&◌, ◌||◌, List, [], ◌∷◌}
 use Rattle.dsql_history.specs.declared.event.Event.{Event}
+use Rattle.dsql_history.specs.Readers.Course.{has_begun}
 use Rattle.dsql_history.specs.Rules.Course.{keeps_course, is_from_outside}
 use Rattle.dsql_history.specs.Rules.Numbers.{keeps_numbers}
 use Rattle.dsql_history.specs.Rules.Moves.{keeps_sets}
@@ -11,7 +12,7 @@ use Rattle.dsql_history.specs.Rules.Causes.{keeps_causes}
 use Rattle.dsql_history.specs.Rules.Line.{keeps_line}
 use Rattle.dsql_history.specs.Rules.Journals.{keeps_journals}
 use Rattle.dsql_history.specs.Rules.Replies.{keeps_replies}
-use Rattle.dsql_history.specs.Rules.Settled.{is_placed, uses_what_is_lent, goes_on, keeps_idle_limit, is_empty_when_closed}
+use Rattle.dsql_history.specs.Rules.Settled.{is_settled_but}
 
 abbrev pub is_allowed : List Event → Event → Bool
 is_allowed before e =
@@ -23,8 +24,7 @@ is_allowed before e =
     && (keeps_order before e && (keeps_causes before e && (keeps_line before e && (keeps_journals before e && keeps_replies before e))))))))
 
 abbrev pub is_settled : List Event → Bool
-is_settled before =
-    is_placed before && (uses_what_is_lent before && (goes_on before && (keeps_idle_limit before && is_empty_when_closed before)))
+is_settled before = is_settled_but 0 before
 
 abbrev pub is_lawful : List Event → Bool
 is_lawful [] = true
@@ -36,4 +36,4 @@ is_calm (e ∷ before) = is_calm before && (not (is_from_outside e) || is_settle
 
 -- the whole history is legal
 abbrev pub is_legal : List Event → Bool
-is_legal history = is_lawful history && (is_calm history && is_settled history)
+is_legal history = has_begun history && (is_lawful history && (is_calm history && is_settled history))

@@ -1,9 +1,10 @@
 -- Which histories are legal. A history is read from its newest event back: `e ∷ before` is e after all of before.
 use Rattle.std.specs.Prelude.{ℕ, ◌≡◌, ◌==◌, Bool, true, false, ◌||◌, List, [], ◌∷◌}
 use Rattle.dsql_journal.specs.Journal.{IsJournalPrefix, IsWhole}
+use Rattle.dsql_pool.specs.declared.moves.Move.TheVariants.{Gone, Fell}
 use Rattle.dsql_history.specs.declared.event.Event.{Event}
 use Rattle.dsql_history.specs.declared.event.Event.TheVariants.{Pool}
-use Rattle.dsql_history.specs.declared.event.Move.TheVariants.{Gone, Fell}
+use Rattle.dsql_history.specs.Readers.Course.{has_begun}
 use Rattle.dsql_history.specs.Readers.Journals.{journal}
 use Rattle.dsql_history.specs.Rules.Course.{keeps_course, is_from_outside}
 use Rattle.dsql_history.specs.Rules.Numbers.{keeps_numbers}
@@ -57,6 +58,7 @@ pub record KeepsJournals (history : List Event) : Type 0 where
   pub wholes : (c : ℕ) → has_left history c ≡ true → IsWhole (journal history c)
 
 pub record Legal (history : List Event) : Type 0 where
+  pub begun : has_begun history ≡ true
   pub lawful : Lawful history
   pub calm : Calm history
   pub settled : Settled history

@@ -1,9 +1,10 @@
-pub mod Lists
 pub mod Course
-pub mod Sets
 pub mod Unfinished
 pub mod Works
+pub mod Journals
+pub mod Tries
+pub mod Pool
+pub mod Owed
 pub mod HandedOut
 pub mod Calls
-pub mod Journals
-pub mod Exchanges
+pub mod Clients

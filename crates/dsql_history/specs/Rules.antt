@@ -7,6 +7,8 @@ pub mod Order
 pub mod Causes
 pub mod Line
 pub mod Journals
-pub mod Replies
+pub mod Stands
 pub mod House
 pub mod Settled
+pub mod Replies
+pub mod Flights

@@ -1,6 +1,7 @@
 use crate::reply::Reply;
 use dsql_driver::Caps;
-use dsql_journal::{Entry, Owner};
+use dsql_journal::Entry;
+use dsql_pool::Move;
 use dsql_scan::Dests;
 use dsql_value::{Args, Txt};
 
@@ -21,54 +22,19 @@ pub enum Op {
     RowsClose { rows: Txt },
     /// `Rows.Err`.
     Err { rows: Txt },
+    /// `DB.Close`.
+    DbClose,
+    /// `DB.Stats`.
+    Stats,
 }
 
-/// Why a connection is closed.
+/// A limit that can be set.
 #[derive(Clone, Copy, Debug, PartialEq, Eq)]
-pub enum CloseCause {
-    /// The driver said that it is bad.
-    Bad,
-    /// The driver's test of it failed.
-    Invalid,
-    /// Enough connections are idle.
-    IdleFull,
-    /// The database was closed.
-    DbClosed,
-}
-
-/// A move of a connection among the four sets: opening, lent, idle and closing.
-#[derive(Clone, Copy, Debug, PartialEq, Eq)]
-pub enum Move {
-    /// It begins to be opened, for a call.
-    OpenStart {
-        conn: u32,
-        call: u32,
-    },
-    /// It is lent to an owner, in a new tenure.
-    Lend {
-        conn: u32,
-        tenure: u32,
-        owner: Owner,
-        call: u32,
-    },
-    /// It is given back and is idle.
-    Back {
-        conn: u32,
-    },
-    /// It begins to be closed.
-    CloseStart {
-        conn: u32,
-        cause: CloseCause,
-    },
-    /// It was shut and is no more.
-    Gone {
-        conn: u32,
-    },
-    /// It couldn't be opened, and the fault falls to a call, or to none at 0.
-    Fell {
-        conn: u32,
-        call: u32,
-    },
+pub enum Setting {
+    /// `DB.SetMaxOpenConns`.
+    MaxOpen,
+    /// `DB.SetMaxIdleConns`.
+    MaxIdle,
 }
 
 /// One thing that happened in a run.
@@ -82,6 +48,10 @@ pub enum Event {
     Heard(Entry),
     /// A connection moved.
     Pool(Move),
+    /// A call begins to wait for a connection.
+    Waits(u32),
+    /// A limit was set to this number.
+    SetLimit(Setting, i64),
     /// A call was answered.
     Replied { n: u32, reply: Reply },
     /// The run ended.

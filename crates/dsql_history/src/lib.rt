@@ -1,15 +1,13 @@
-//! What a report speaks of, and which reports are legal.
+//! What a report of several clients speaks of, and which such reports are legal: calls are under way at once,
+//! wait for a connection, and close the database; limits are set, and statistics are told.
 #![tactic(auto)]
 
 mod event;
-mod limits;
 mod record;
 mod reply;
-mod work;
-pub mod worked;
 
-pub use event::{CloseCause, Event, Move, Op};
-pub use limits::{MAX_IDLE, MAX_OPEN};
-pub use record::{CallRecord, Place};
-pub use reply::{FaultWord, Reply};
-pub use work::{Aim, Work};
+pub use dsql_pool::{CloseCause, Move, Place, Stats};
+pub use dsql_work::{Aim, FaultWord, Work};
+pub use event::{Event, Op, Setting};
+pub use record::{CallRecord, Flight, Stand, Try};
+pub use reply::{DbEnd, Reply};

@@ -1,20 +1,34 @@
 use crate::reply::Reply;
-use dsql_journal::Owner;
+use dsql_driver::DriverAnswer;
 use dsql_value::{Params, Txt};
 
-/// Where a connection stands: in one of the four sets, or in none.
+/// A try of a call to get a connection.
+#[derive(Clone, Debug, Drop)]
+pub enum Try {
+    /// A connection was lent to it.
+    Served,
+    /// One couldn't be opened, and the driver's answer fell to it.
+    Refused(DriverAnswer),
+}
+
+/// A driver call that is under way: the call that sent it, and the connection on which it is made.
 #[derive(Clone, Copy, Debug, PartialEq, Eq)]
-pub enum Place {
-    /// It isn't open.
-    Nowhere,
-    /// It is being opened, for this call.
-    Opening(u32),
-    /// It waits for a call that wants it.
-    Idle,
-    /// It is lent to this owner, in this tenure.
-    Lent(u32, Owner),
-    /// It is being closed.
-    Closing,
+pub struct Flight {
+    pub call: u32,
+    pub conn: u32,
+}
+
+/// Where an unfinished call is between two steps.
+#[derive(Clone, Copy, Debug, PartialEq, Eq)]
+pub enum Stand {
+    /// It waits for a connection.
+    Waits,
+    /// This connection is being opened for it.
+    Opens(u32),
+    /// A driver call of it is made on this connection, or is to be made once the turn is free.
+    Sends(u32),
+    /// Others have settled what it replies, at its next step.
+    Replies,
 }
 
 /// How far a call has come.
@@ -22,12 +36,10 @@ pub enum Place {
 pub struct CallRecord {
     /// The client who made it.
     pub client: u8,
-    /// The connection that was lent or is opened for it, 0 for none yet.
-    pub home: u32,
     /// The text of its statement.
     pub text: Txt,
     /// The parameters that its arguments become, if none is refused.
     pub params: Params,
-    /// The reply that is settled: as it enters, where it sends nothing, else by its deciding answer.
+    /// The reply that it has settled itself: as it enters, where it sends nothing, else by its deciding answer.
     pub decided: Option<Reply>,
 }

@@ -1,16 +1,16 @@
+use dsql_pool::Stats;
 use dsql_rows::RowsOver;
 use dsql_scan::Cells;
 use dsql_value::{Columns, Txt};
+use dsql_work::FaultWord;
 
-/// Why a value isn't scanned.
+/// What closed the database.
 #[derive(Clone, Copy, Debug, PartialEq, Eq)]
-pub enum FaultWord {
-    FromNull,
-    NotANumber,
-    OutOfRange,
-    NotABool,
-    NotUtf8,
-    Unsupported,
+pub enum DbEnd {
+    /// A client's call.
+    Close,
+    /// The end of the run.
+    EndOfRun,
 }
 
 /// What a call is answered.
@@ -52,4 +52,8 @@ pub enum Reply {
     Scan { column: u32, fault: FaultWord },
     /// As many connections are open as may be at all.
     TooMany,
+    /// The database is closed.
+    DbClosed(DbEnd),
+    /// Go's `sql.DBStats`.
+    Stats(Stats),
 }

@@ -1,1 +1,5 @@
-pub mod Kept
+pub mod Splits
+pub mod Holdings
+pub mod OwedMade
+pub mod Leaving
+pub mod Asked

@@ -1,96 +1,111 @@
-//! What holds of every lawful history: each law is the contract of a function that does nothing. A
-//! history is read newest first.
+//! Laws of histories of several clients: each law is the contract of a function that does nothing. A history
+//! is read newest first.
 
-ghost use Rattle.std.specs.Prelude.{◌≡◌, ◌≢◌, None, Some, ◌<◌, ◌≤◌, ◌+◌, ℕ, true, false, List, [], ◌∷◌, length, is_none, is_some};
-ghost use Rattle.dsql_driver.specs.Fits.{fits_of, is_memory};
-ghost use Rattle.dsql_driver.specs.declared.answer.DriverAnswer.{DriverAnswer};
-ghost use Rattle.dsql_driver.specs.declared.call.DriverCall.TheVariants.{Connect, Shut, Query, Next};
+ghost use Rattle.std.specs.Prelude.{◌≡◌, ◌≢◌, ◌↔◌, ◌≤◌, ◌++◌, [], ◌∷◌, ℕ, true, false, List, Some, is_some};
 ghost use Rattle.dsql_journal.specs.declared.entry.Entry.{Entry};
-ghost use Rattle.dsql_journal.specs.declared.entry.Owner.{Owner};
-ghost use Rattle.dsql_journal.specs.declared.entry.Owner.TheVariants.{Call};
-ghost use Rattle.dsql_journal.specs.Entries.{connect_entry, shut_entry};
-ghost use Rattle.dsql_journal.specs.HandlesAndCursors.{fits_at_its_place};
-ghost use Rattle.dsql_journal.specs.Journal.{may_follow};
-ghost use Rattle.dsql_journal.specs.Kinds.{is_call};
-ghost use Rattle.dsql_journal.specs.Readers.{has, went_bad};
-ghost use Rattle.dsql_journal.specs.Tenure.{is_whole_tenure};
+ghost use Rattle.dsql_wait.specs.Requests.{waits};
+ghost use Rattle.dsql_pool.specs.Calls.{wants};
+ghost use Rattle.dsql_pool.specs.Places.{is_for};
+ghost use Rattle.dsql_pool.specs.Moved.{made};
+ghost use Rattle.dsql_pool.specs.Rest.{AtRest};
+ghost use Rattle.dsql_pool.specs.declared.moves.Move.{Move};
 ghost use Rattle.dsql_history.specs.declared.event.Event.{Event};
-ghost use Rattle.dsql_history.specs.declared.event.Event.TheVariants.{Heard};
-ghost use Rattle.dsql_history.specs.declared.record.Place.TheVariants.{Nowhere, Opening, Lent, Closing};
-ghost use Rattle.dsql_history.specs.Legal.{Lawful, KeepsJournals};
-ghost use Rattle.dsql_history.specs.Readers.Works.{work, hands_out};
-ghost use Rattle.dsql_history.specs.Readers.HandedOut.{rows_by};
-ghost use Rattle.dsql_history.specs.Readers.Calls.{calls, home, reply_due, sender};
-ghost use Rattle.dsql_laws.specs.Kept.{AreKept, AreLive};
-ghost use Rattle.dsql_history.specs.declared.work.Work.TheVariants.{Fetch};
-ghost use Rattle.dsql_rows.specs.declared.rows.Rows.{Rows};
-ghost use Rattle.dsql_rows.specs.OpenRows.{is_live};
-ghost use Rattle.dsql_value.specs.declared.value.Param.{Param};
-ghost use Rattle.dsql_driver.specs.declared.call.Input.{Input};
+ghost use Rattle.dsql_history.specs.declared.event.Event.TheVariants.{Pool};
+ghost use Rattle.dsql_history.specs.Readers.Owed.{given_back, owed};
+ghost use Rattle.dsql_work.specs.Works.{asks};
+ghost use Rattle.dsql_history.specs.declared.record.Stand.TheVariants.{Waits, Opens, Sends};
+ghost use Rattle.dsql_history.specs.Readers.Calls.{site};
+ghost use Rattle.dsql_history.specs.Readers.Pool.{place, pool, smallest};
 ghost use Rattle.dsql_history.specs.Readers.Unfinished.{is_unfinished};
-ghost use Rattle.dsql_history.specs.Readers.Course.{has_ended};
-ghost use Rattle.dsql_history.specs.Readers.Journals.{journal, ends_invalid};
-ghost use Rattle.dsql_history.specs.Readers.Sets.{places, place, idle, is_idle, is_for, lends, next_tenure};
-ghost use Rattle.dsql_history.specs.Rules.Line.{due, due_when_closed, is_due, is_kept_by_rows};
-ghost use Rattle.dsql_history.specs.Rules.Settled.{is_placed};
+ghost use Rattle.dsql_history.specs.Readers.Works.{work};
+ghost use Rattle.dsql_history.specs.Rules.Asking.{may_ask, ask_outcome};
+ghost use Rattle.dsql_history.specs.Rules.Line.{due_for, is_due_at, may_come, parts};
+ghost use Rattle.dsql_history.specs.Rules.Stands.{stand};
+ghost use Rattle.dsql_history.specs.Rules.Settled.{Settled, owes_nothing};
+ghost use Rattle.dsql_history.specs.Legal.{Allowed, Calm, KeepsJournals, Lawful, Legal};
+ghost use Rattle.dsql_history.specs.Computed.{is_allowed, is_calm, is_lawful, is_legal, is_settled};
+ghost use Rattle.dsql_laws.specs.Asked.{with_asked};
+ghost use Rattle.dsql_laws.specs.Holdings.{holdings};
+ghost use Rattle.dsql_laws.specs.Leaving.{MayLeave};
+ghost use Rattle.dsql_laws.specs.OwedMade.{with_moves};
+ghost use Rattle.dsql_laws.specs.Splits.{AllowedAtEachEvent};
 
-/// The idle list has just the connections whose place is idle. Connection 0 is nowhere.
-pub fn sets_of_lawful_histories()
-    ensures idle { (history : List Event) (c : ℕ) → Lawful history → has c (idle history) ≡ is_idle (place history c) }
-    ensures none { (history : List Event) → Lawful history → place history 0 ≡ Nowhere }
-    ensures few { (history : List Event) → Lawful history → length (places history) ≤ length history + 1 }
+/// The rules are computed: each test is true exactly where what it tests holds.
+pub fn rules_are_computed()
+    ensures allowed { (before : List Event) (e : Event) → (is_allowed before e ≡ true) ↔ Allowed before e }
+    ensures settled { (before : List Event) → (is_settled before ≡ true) ↔ Settled before }
+    ensures lawful { (history : List Event) → (is_lawful history ≡ true) ↔ Lawful history }
+    ensures calm { (history : List Event) → (is_calm history ≡ true) ↔ Calm history }
+    ensures legal { (history : List Event) → (is_legal history ≡ true) ↔ Legal history }
 {}
 
-/// A connection is lent to calls alone, and opened for them: each to one call, and no other connection is
-/// lent to or opened for that. The call has no reply yet, unless it handed out rows. Once the run ended it
-/// has its reply.
-pub fn calls_of_lawful_histories()
-    ensures owner { (history : List Event) (c t : ℕ) (owner : Owner) → Lawful history → place history c ≡ Lent t owner → is_call owner ≡ true }
-    ensures one { (history : List Event) (c n : ℕ) → Lawful history → is_for n (place history c) ≡ true → home history n ≡ c }
-    ensures within { (history : List Event) (c n : ℕ) → Lawful history → is_for n (place history c) ≡ true → (0 < n) × (n < length (calls history)) }
-    ensures opening { (history : List Event) (c n : ℕ) → Lawful history → place history c ≡ Opening n → is_unfinished history n ≡ true }
-    ensures unfinished { (history : List Event) (c n : ℕ) → Lawful history → is_for n (place history c) ≡ true → hands_out (work history n) ≡ false → is_unfinished history n ≡ true }
-    ensures number { (history : List Event) (n : ℕ) → Lawful history → is_unfinished history n ≡ true → (0 < n) × (n < length (calls history)) }
-    ensures ended { (history : List Event) (c n : ℕ) → Lawful history → has_ended history ≡ true → is_for n (place history c) ≡ true → is_unfinished history n ≡ false }
+/// A beginning of a lawful history is lawful, and settled wherever an event came from outside if the whole
+/// is.
+pub fn beginnings_are_lawful()
+    ensures lawful { (older newer : List Event) → Lawful (newer ++ older) → Lawful older }
+    ensures calm { (older newer : List Event) → Calm (newer ++ older) → Calm older }
 {}
 
-/// Each connection's journal is a beginning of a whole one, and whole once the connection is gone.
+/// A history is lawful exactly where each event, wherever it stands, may come after those before it.
+pub fn lawful_is_allowed_at_each_event()
+    ensures { (history : List Event) → Lawful history ↔ AllowedAtEachEvent history }
+{}
+
+/// Once it has made the moves that it owes the pool is at rest, as its own laws say; so it is wherever it owes
+/// none.
+pub fn pools_of_lawful_histories()
+    ensures then { (history : List Event) → Lawful history → AtRest (made (owed history) (pool history)) }
+    ensures now { (history : List Event) → Lawful history → owes_nothing history ≡ true → AtRest (pool history) }
+{}
+
+/// The move that the pool owes first may come whatever was before, and the others are owed then. So all may come
+/// one after another, after which none is owed, and the pool has made them.
+pub fn owed_moves_are_allowed()
+    ensures next { (history : List Event) (due : Move) (later : List Move) → Lawful history → owed history ≡ due ∷ later → Allowed history (Pool due) }
+    ensures later { (history : List Event) (due : Move) (later : List Move) → owed history ≡ due ∷ later → owed (Pool due ∷ history) ≡ later }
+    ensures all { (history : List Event) → Lawful history → Lawful (with_moves (owed history) history) }
+    ensures none { (history : List Event) → owed (with_moves (owed history) history) ≡ [] }
+    ensures pool { (history : List Event) → pool (with_moves (owed history) history) ≡ made (owed history) (pool history) }
+{}
+
+/// The moves of a connection that may leave its call are allowed one after another, after which none is owed, and
+/// the pool has made them.
+pub fn what_is_given_back_is_allowed()
+    ensures all { (history : List Event) (conn : ℕ) → Lawful history → MayLeave history conn → Lawful (with_moves (given_back history conn) history) }
+    ensures none { (history : List Event) (conn : ℕ) → MayLeave history conn → owed (with_moves (given_back history conn) history) ≡ [] }
+    ensures pool { (history : List Event) (conn : ℕ) → pool (with_moves (given_back history conn) history) ≡ made (given_back history conn) (pool history) }
+{}
+
+/// Where nothing is owed, what comes of a call that may ask is allowed: a lending, an opening, or that it waits.
+pub fn what_is_asked_for_is_allowed()
+    ensures { (history : List Event) (n : ℕ) → Lawful history → owed history ≡ [] → may_ask history n ≡ true → Lawful (with_asked n (ask_outcome history n) history) }
+{}
+
+/// Each connection's journal is a beginning of a whole one, and whole once the connection has left.
 pub fn journals_of_lawful_histories()
     ensures { (history : List Event) → Lawful history → KeepsJournals history }
 {}
 
-/// A lent connection has the tenure of its last lending, and can be given back once nothing is due on it any
-/// more and no rows keep it. As long as a driver call is due on it, none was answered Bad and no test of it failed.
-pub fn tenures_of_lawful_histories()
-    ensures tenure { (history : List Event) (c t : ℕ) (owner : Owner) → Lawful history → place history c ≡ Lent t owner → t ≡ lends history c + 1 }
-    ensures whole { (history : List Event) (c t n : ℕ) → Lawful history → place history c ≡ Lent t (Call n) → is_none (due history c t n) ≡ true → is_kept_by_rows history c t n ≡ false → is_whole_tenure t (journal history c) ≡ true }
-    ensures good { (history : List Event) (c t n : ℕ) → Lawful history → place history c ≡ Lent t (Call n) → is_some (due history c t n) ≡ true → (went_bad (journal history c) ≡ false) × (ends_invalid (journal history c) ≡ false) }
+/// No unfinished call is call 0. A call has at most one thing in the pool: a request that waits, an opening, or
+/// a connection. Who wants a connection works on one of its own, and has nothing to send.
+pub fn calls_of_lawful_histories()
+    ensures numbered { (history : List Event) (n : ℕ) → Lawful history → is_unfinished history n ≡ true → n ≢ 0 }
+    ensures one { (history : List Event) (n : ℕ) → Lawful history → n ≢ 0 → holdings n (pool history) ≤ 1 }
+    ensures own { (history : List Event) (n : ℕ) → Lawful history → n ≢ 0 → wants n (pool history) ≡ true → asks (work history n) ≡ true }
+    ensures silent { (history : List Event) (n : ℕ) → Lawful history → n ≢ 0 → is_some (due_for history n) ≡ true → wants n (pool history) ≡ false }
 {}
 
-/// Where the call that sends on a lent connection has nothing more to send there, its reply is settled.
-pub fn replies_of_lawful_histories()
-    ensures { (history : List Event) (c t n : ℕ) → Lawful history → place history c ≡ Lent t (Call n) → sender history n ≢ 0 → is_none (due history c t n) ≡ true → is_some (reply_due history (sender history n)) ≡ true }
+/// A call that waits, for which a connection is being opened, or of which a driver call is due, stands there and
+/// nowhere else.
+pub fn a_call_stands_in_one_place()
+    ensures waits { (history : List Event) (n : ℕ) → waits n (pool history).waiting ≡ true → stand history n ≡ Some Waits }
+    ensures opens { (history : List Event) (n c : ℕ) → Lawful history → n ≢ 0 → smallest (is_for n) (pool history) ≡ Some c → stand history n ≡ Some (Opens c) }
+    ensures sends { (history : List Event) (n : ℕ) → Lawful history → n ≢ 0 → is_some (due_for history n) ≡ true → stand history n ≡ Some (Sends (site history n)) }
 {}
 
-/// Live rows whose query has replied keep the connection that is lent to it, with their cursor. A query makes
-/// its rows once, and a fetch is for rows that were made and are live. Where rows that keep their connection are
-/// to be closed, a driver call is due. Where nobody sends on a lent connection, rows keep it, until the run
-/// ends.
-pub fn rows_of_lawful_histories()
-    ensures kept { (history : List Event) (n : ℕ) (rows : Rows) → Lawful history → rows_by history n ≡ Some rows → is_live rows ≡ true → AreKept history n rows }
-    ensures new { (history : List Event) (c t n : ℕ) (input : Input) (params : List Param) → Lawful history → place history c ≡ Lent t (Call n) → is_due (due history c t n) (Query input params) ≡ true → rows_by history n ≡ None }
-    ensures fetched { (history : List Event) (c t n cursor k : ℕ) → Lawful history → place history c ≡ Lent t (Call n) → is_due (due history c t n) (Next cursor) ≡ true → work history (sender history n) ≡ Fetch k → (k ≡ n) × AreLive (rows_by history n) }
-    ensures closing { (history : List Event) (c t n : ℕ) → Lawful history → place history c ≡ Lent t (Call n) → is_kept_by_rows history c t n ≡ true → is_some (due_when_closed history c t n) ≡ true }
-    ensures left { (history : List Event) (c t n : ℕ) → Lawful history → place history c ≡ Lent t (Call n) → sender history n ≡ 0 → has_ended history ≡ false → is_kept_by_rows history c t n ≡ true }
-    ensures closed { (history : List Event) (n : ℕ) (rows : Rows) → Lawful history → has_ended history ≡ true → rows_by history n ≡ Some rows → is_live rows ≡ false }
-{}
-
-/// The journal goes on as it may with whatever a driver answers to the call that is due on a lent
-/// connection, if only the answer fits at its place. It goes on with whatever answer fits a Connect, where
-/// the connection is being opened, or a Shut, where it is closing, if the answer isn't want of memory and
-/// nothing has to come first as the very next event.
-pub fn every_answer_may_follow()
-    ensures due { (history : List Event) (e : Entry) (t n : ℕ) → Lawful history → place history e.conn ≡ Lent t (Call n) → is_due (due history e.conn t n) e.call ≡ true → e.tenure ≡ t → e.owner ≡ Call n → e.tx ≡ 0 → fits_at_its_place (journal history e.conn) e ≡ true → may_follow (journal history e.conn) e ≡ true }
-    ensures connect { (history : List Event) (c n : ℕ) (answer : DriverAnswer) → Lawful history → is_placed history ≡ true → place history c ≡ Opening n → fits_of Connect answer ≡ true → is_memory answer ≡ false → may_follow (journal history c) (connect_entry c answer) ≡ true }
-    ensures shut { (history : List Event) (c : ℕ) (answer : DriverAnswer) → Lawful history → is_placed history ≡ true → place history c ≡ Closing → fits_of Shut answer ≡ true → is_memory answer ≡ false → may_follow (journal history c) (shut_entry c (next_tenure history c) answer) ≡ true }
+/// An answer that is due may come, and stays welcome until something is heard on its connection or its call has
+/// its reply.
+pub fn answers_stay_welcome()
+    ensures due { (history : List Event) (e : Entry) → is_due_at history (place history e.conn) e ≡ true → may_come history e ≡ true }
+    ensures meanwhile { (history : List Event) (last : Event) (e : Entry) → parts last e ≡ false → may_come history e ≡ true → may_come (last ∷ history) e ≡ true }
 {}

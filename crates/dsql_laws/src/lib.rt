@@ -1,5 +1,5 @@
-//! What holds of every lawful history, apart from the definitions of which histories are lawful: who only
-//! reads or writes reports needs those alone.
+//! What holds of every lawful history of several clients, and that the rules over such histories are
+//! computed: each law is the contract of a function that does nothing.
 #![tactic(auto)]
 
 pub mod laws;

@@ -2,8 +2,8 @@
 use Rattle.std.proofs.Common.{◌≡◌, ℕ, Bool, true, not, ◌||◌, List, [], ◌∷◌, ◌++◌, refl, ap, sym, subst, ◌∙◌, append-nil}
 use Rattle.std.specs.List.{list_all}
 use Rattle.std.proofs.lemmas.List.Folds.{list_all-append}
-use Rattle.dsql_clients.specs.declared.event.Event.{Event}
-use Rattle.dsql_client_laws.proofs.Tests.{together}
+use Rattle.dsql_history.specs.declared.event.Event.{Event}
+use Rattle.dsql_laws.proofs.Tests.{together}
 use Rattle.dsql_follows.specs.Moments.{Moment, Passed, Walk, after_events, at_rest, goes_over, passes, walk, with_next}
 use Rattle.dsql_follows.specs.Turns.{comes_in_turn}
 use Rattle.dsql_follows.specs.Sentences.{passed, begins_with_step, come_in_turn, is_whole, may_enter}

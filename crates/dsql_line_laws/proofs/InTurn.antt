@@ -3,15 +3,15 @@ use Rattle.std.proofs.Common.{◌≡◌, ◌≢◌, ℕ, ◌==◌, Bool, true, f
 use Rattle.dsql_journal.specs.declared.entry.Entry.{Entry}
 use Rattle.dsql_journal.specs.Readers.{is_empty}
 use Rattle.dsql_pool.specs.declared.moves.Move.TheVariants.{OpenStart, Lend}
-use Rattle.dsql_clients.specs.declared.event.Event.{Event}
-use Rattle.dsql_clients.specs.declared.event.Event.TheVariants.{Entered, Heard, Pool, Waits, Replied, Ended}
-use Rattle.dsql_clients.specs.declared.event.Op.{Op}
-use Rattle.dsql_clients.specs.Readers.Clients.{call_of, client_of, is_free}
-use Rattle.dsql_clients.specs.Readers.Course.{has_ended}
-use Rattle.dsql_clients.specs.Readers.Owed.{owed}
-use Rattle.dsql_clients.specs.Readers.Unfinished.{is_unfinished}
-use Rattle.dsql_clients.specs.Rules.Flights.{is_in_flight}
-use Rattle.dsql_client_laws.proofs.Tests.{other_number, same_itself, same_number, together}
+use Rattle.dsql_history.specs.declared.event.Event.{Event}
+use Rattle.dsql_history.specs.declared.event.Event.TheVariants.{Entered, Heard, Pool, Waits, Replied, Ended}
+use Rattle.dsql_history.specs.declared.event.Op.{Op}
+use Rattle.dsql_history.specs.Readers.Clients.{call_of, client_of, is_free}
+use Rattle.dsql_history.specs.Readers.Course.{has_ended}
+use Rattle.dsql_history.specs.Readers.Owed.{owed}
+use Rattle.dsql_history.specs.Readers.Unfinished.{is_unfinished}
+use Rattle.dsql_history.specs.Rules.Flights.{is_in_flight}
+use Rattle.dsql_laws.proofs.Tests.{other_number, same_itself, same_number, together}
 use Rattle.dsql_follows.specs.Moments.{Moment, begins_step, stepping}
 use Rattle.dsql_follows.specs.Turns.{comes_in_turn, first_chore, goes_in_turn, has_run_out, is_chore, is_it, is_turn_of}
 use Rattle.dsql_step_laws.specs.Steps.{IsStep, goes_by_itself}

@@ -3,14 +3,14 @@ use Rattle.std.proofs.Common.{◌≡◌, ℕ, ◌==◌, Bool, true, false, not, 
 use Rattle.std.specs.List.{list_all}
 use Rattle.dsql_journal.specs.declared.entry.Entry.{Entry}
 use Rattle.dsql_journal.specs.Readers.{is_empty}
-use Rattle.dsql_clients.specs.declared.event.Event.{Event}
-use Rattle.dsql_clients.specs.declared.event.Event.TheVariants.{Heard}
-use Rattle.dsql_clients.specs.declared.record.Flight.{Flight}
-use Rattle.dsql_clients.specs.declared.record.Stand.{Stand}
-use Rattle.dsql_clients.specs.declared.record.Stand.TheVariants.{Waits, Opens, Sends, Replies}
-use Rattle.dsql_clients.specs.Rules.Flights.{has_flight, is_in_flight, permitted, without_flight}
-use Rattle.dsql_clients.specs.Rules.Stands.{stand}
-use Rattle.dsql_client_laws.proofs.Tests.{same_itself}
+use Rattle.dsql_history.specs.declared.event.Event.{Event}
+use Rattle.dsql_history.specs.declared.event.Event.TheVariants.{Heard}
+use Rattle.dsql_history.specs.declared.record.Flight.{Flight}
+use Rattle.dsql_history.specs.declared.record.Stand.{Stand}
+use Rattle.dsql_history.specs.declared.record.Stand.TheVariants.{Waits, Opens, Sends, Replies}
+use Rattle.dsql_history.specs.Rules.Flights.{has_flight, is_in_flight, permitted, without_flight}
+use Rattle.dsql_history.specs.Rules.Stands.{stand}
+use Rattle.dsql_laws.proofs.Tests.{same_itself}
 use Rattle.dsql_follows.specs.Moments.{Moment, Passed, Walk, at_rest, begins_step, goes_over, landed, passes, rested, takes_permit, walk, with_event}
 use Rattle.dsql_follows.specs.Sentences.{begins, is_one_step, is_whole, later, oldest}
 use Rattle.dsql_step_laws.specs.Steps.{IsAtRest, IsStep, stepped}

@@ -3,9 +3,9 @@ use Rattle.std.proofs.Common.{◌≡◌, ℕ, ◌≤◌, ◌==◌, nat_le, Bool,
 use Rattle.std.proofs.lemmas.Bool.Decides.{nat_tests}
 use Rattle.std.proofs.lemmas.Map.Views.{any-filter_same}
 use Rattle.dsql_journal.specs.Readers.{has}
-use Rattle.dsql_clients.specs.Readers.Pool.{or_none}
-use Rattle.dsql_client_laws.proofs.OwedAllowed.{or_first, or_second}
-use Rattle.dsql_client_laws.proofs.Tests.{same_itself, same_number}
+use Rattle.dsql_history.specs.Readers.Pool.{or_none}
+use Rattle.dsql_laws.proofs.OwedAllowed.{or_first, or_second}
+use Rattle.dsql_laws.proofs.Tests.{same_itself, same_number}
 use Rattle.dsql_follows.specs.Turns.{least, lesser}
 
 -- it is one of them

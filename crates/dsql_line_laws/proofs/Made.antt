@@ -3,21 +3,21 @@ use Rattle.std.proofs.Common.{◌≡◌, ◌≢◌, ℕ, ◌≤◌, ◌+◌, ◌
 use Rattle.std.specs.List.{list_all}
 use Rattle.dsql_journal.specs.declared.entry.Entry.{Entry}
 use Rattle.dsql_journal.specs.Readers.{has}
-use Rattle.dsql_history.specs.declared.work.Work.{Work}
-use Rattle.dsql_clients.specs.declared.event.Event.{Event}
-use Rattle.dsql_clients.specs.declared.event.Event.TheVariants.{Run, Entered, Heard, Pool, Waits, SetLimit, Replied, Ended}
-use Rattle.dsql_clients.specs.declared.event.Op.{Op}
-use Rattle.dsql_clients.specs.declared.record.CallRecord.{CallRecord}
-use Rattle.dsql_clients.specs.Readers.Calls.{calls, decided_by, decision, nobody, with_record}
-use Rattle.dsql_clients.specs.Readers.Clients.{call_of, client_of, is_free, made_by}
-use Rattle.dsql_clients.specs.Readers.Pool.{or_none}
-use Rattle.dsql_clients.specs.Readers.Unfinished.{is_unfinished, unfinished}
-use Rattle.dsql_clients.specs.Readers.Works.{work}
-use Rattle.dsql_clients.specs.Legal.{Lawful}
-use Rattle.dsql_client_laws.proofs.OwedAllowed.{or_second}
-use Rattle.dsql_client_laws.proofs.Tests.{both, other_number, same_itself, same_number}
-use Rattle.dsql_client_calls.proofs.Lists.{read_set, same_or_not}
-use Rattle.dsql_client_calls.proofs.Works.{enters_next, new_record, old_record, old_unfinished, other_replied, still_unfinished}
+use Rattle.dsql_work.specs.declared.work.Work.{Work}
+use Rattle.dsql_history.specs.declared.event.Event.{Event}
+use Rattle.dsql_history.specs.declared.event.Event.TheVariants.{Run, Entered, Heard, Pool, Waits, SetLimit, Replied, Ended}
+use Rattle.dsql_history.specs.declared.event.Op.{Op}
+use Rattle.dsql_history.specs.declared.record.CallRecord.{CallRecord}
+use Rattle.dsql_history.specs.Readers.Calls.{calls, decided_by, decision, nobody, with_record}
+use Rattle.dsql_history.specs.Readers.Clients.{call_of, client_of, is_free, made_by}
+use Rattle.dsql_history.specs.Readers.Pool.{or_none}
+use Rattle.dsql_history.specs.Readers.Unfinished.{is_unfinished, unfinished}
+use Rattle.dsql_history.specs.Readers.Works.{work}
+use Rattle.dsql_history.specs.Legal.{Lawful}
+use Rattle.dsql_laws.proofs.OwedAllowed.{or_second}
+use Rattle.dsql_laws.proofs.Tests.{both, other_number, same_itself, same_number}
+use Rattle.dsql_call_laws.proofs.Lists.{read_set, same_or_not}
+use Rattle.dsql_call_laws.proofs.Works.{enters_next, new_record, old_record, old_unfinished, other_replied, still_unfinished}
 use Rattle.dsql_walk_laws.specs.Groups.{IsGroup, is_later_of}
 use Rattle.dsql_line_laws.specs.Entries.{is_entry}
 

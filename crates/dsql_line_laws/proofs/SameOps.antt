@@ -5,10 +5,10 @@ use Rattle.dsql_value.specs.declared.arg.Arg.{Arg}
 use Rattle.dsql_value.specs.declared.arg.Arg.TheVariants as args
 use Rattle.dsql_value.specs.declared.arg.Named.{Named}
 use Rattle.dsql_scan.specs.declared.dest.Dest.{Dest}
-use Rattle.dsql_history.specs.Same.{same_truth, same_name}
-use Rattle.dsql_clients.specs.declared.event.Op.{Op}
-use Rattle.dsql_clients.specs.declared.event.Op.TheVariants as ops
-use Rattle.dsql_client_laws.proofs.Tests.{same_itself, together}
+use Rattle.dsql_work.specs.Same.{same_truth, same_name}
+use Rattle.dsql_history.specs.declared.event.Op.{Op}
+use Rattle.dsql_history.specs.declared.event.Op.TheVariants as ops
+use Rattle.dsql_laws.proofs.Tests.{same_itself, together}
 use Rattle.dsql_follows.specs.Same.{rank, same_arg, same_args, same_dests, same_op}
 
 bytes_itself : (xs : List ℕ) → bytes_eq xs xs ≡ true

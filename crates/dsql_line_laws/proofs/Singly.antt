@@ -2,21 +2,21 @@
 use Rattle.std.proofs.Common.{◌≡◌, ℕ, ◌==◌, Bool, true, false, not, ◌&&◌, ◌||◌, cond, List, [], ◌∷◌, Option, Some, None, is_none, refl, sym, ap, ◌∙◌}
 use Rattle.dsql_journal.specs.declared.entry.Entry.{Entry}
 use Rattle.dsql_journal.specs.Readers.{is_empty}
-use Rattle.dsql_clients.specs.declared.event.Event.{Event}
-use Rattle.dsql_clients.specs.declared.event.Event.TheVariants.{Entered, Heard, Pool, Waits, Replied}
-use Rattle.dsql_clients.specs.declared.event.Op.{Op}
-use Rattle.dsql_clients.specs.declared.record.Stand.{Stand}
-use Rattle.dsql_clients.specs.declared.record.Stand.TheVariants.{Sends}
-use Rattle.dsql_clients.specs.declared.record.Stand.TheVariants as stands
-use Rattle.dsql_clients.specs.Legal.{Lawful}
-use Rattle.dsql_clients.specs.Readers.Clients.{call_of, is_free}
-use Rattle.dsql_clients.specs.Readers.Unfinished.{is_unfinished}
-use Rattle.dsql_clients.specs.Rules.Course.{is_from_outside}
-use Rattle.dsql_clients.specs.Rules.Flights.{is_blocked, is_in_flight}
-use Rattle.dsql_clients.specs.Rules.Stands.{stand}
-use Rattle.dsql_client_laws.proofs.Numbered.{unfinished_from_one}
-use Rattle.dsql_client_laws.proofs.OwedAllowed.{or_first, or_second}
-use Rattle.dsql_client_laws.proofs.Tests.{both, same_itself, same_number, together}
+use Rattle.dsql_history.specs.declared.event.Event.{Event}
+use Rattle.dsql_history.specs.declared.event.Event.TheVariants.{Entered, Heard, Pool, Waits, Replied}
+use Rattle.dsql_history.specs.declared.event.Op.{Op}
+use Rattle.dsql_history.specs.declared.record.Stand.{Stand}
+use Rattle.dsql_history.specs.declared.record.Stand.TheVariants.{Sends}
+use Rattle.dsql_history.specs.declared.record.Stand.TheVariants as stands
+use Rattle.dsql_history.specs.Legal.{Lawful}
+use Rattle.dsql_history.specs.Readers.Clients.{call_of, is_free}
+use Rattle.dsql_history.specs.Readers.Unfinished.{is_unfinished}
+use Rattle.dsql_history.specs.Rules.Course.{is_from_outside}
+use Rattle.dsql_history.specs.Rules.Flights.{is_blocked, is_in_flight}
+use Rattle.dsql_history.specs.Rules.Stands.{stand}
+use Rattle.dsql_laws.proofs.Numbered.{unfinished_from_one}
+use Rattle.dsql_laws.proofs.OwedAllowed.{or_first, or_second}
+use Rattle.dsql_laws.proofs.Tests.{both, same_itself, same_number, together}
 use Rattle.dsql_follows.specs.declared.line.Line.{Line}
 use Rattle.dsql_follows.specs.declared.line.Line.TheVariants.{Start, Step, StepHouse}
 use Rattle.dsql_follows.specs.Moments.{Moment, Passed, kept, met, stepping, takes_permit}

@@ -3,12 +3,12 @@ use Rattle.std.proofs.Common.{◌≡◌, ℕ, ◌≤◌, ◌<◌, ◌==◌, ◌�
 use Rattle.std.specs.List.{list_all}
 use Rattle.std.proofs.lemmas.Bool.{cases_lt}
 use Rattle.dsql_journal.specs.Readers.{has, is_empty}
-use Rattle.dsql_clients.specs.Legal.{Lawful}
-use Rattle.dsql_clients.specs.Readers.Pool.{or_none}
-use Rattle.dsql_clients.specs.Readers.Unfinished.{unfinished}
-use Rattle.dsql_clients.specs.Readers.Clients.{call_of, client_of, is_free}
-use Rattle.dsql_client_laws.proofs.OwedAllowed.{or_first, or_second}
-use Rattle.dsql_client_laws.proofs.Tests.{both, same_itself, same_number, together}
+use Rattle.dsql_history.specs.Legal.{Lawful}
+use Rattle.dsql_history.specs.Readers.Pool.{or_none}
+use Rattle.dsql_history.specs.Readers.Unfinished.{unfinished}
+use Rattle.dsql_history.specs.Readers.Clients.{call_of, client_of, is_free}
+use Rattle.dsql_laws.proofs.OwedAllowed.{or_first, or_second}
+use Rattle.dsql_laws.proofs.Tests.{both, same_itself, same_number, together}
 use Rattle.dsql_follows.specs.declared.line.Line.{Line}
 use Rattle.dsql_follows.specs.declared.line.Line.TheVariants.{Skip, Set, Client, Start, Step, StepHouse}
 use Rattle.dsql_follows.specs.Moments.{Moment, is_held, kept, lines_of}

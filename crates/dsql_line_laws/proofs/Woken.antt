@@ -5,22 +5,22 @@ use Rattle.dsql_course.specs.Made.{or_else}
 use Rattle.dsql_journal.specs.Readers.{has}
 use Rattle.dsql_wait.specs.Requests.{waits}
 use Rattle.dsql_pool.specs.Places.{is_for}
-use Rattle.dsql_clients.specs.declared.event.Event.{Event}
-use Rattle.dsql_clients.specs.declared.event.Event.TheVariants.{Replied}
-use Rattle.dsql_clients.specs.declared.record.Flight.{Flight}
-use Rattle.dsql_clients.specs.declared.record.Stand.{Stand}
-use Rattle.dsql_clients.specs.declared.record.Stand.TheVariants as stands_at
-use Rattle.dsql_clients.specs.declared.reply.Reply.{Reply}
-use Rattle.dsql_clients.specs.Legal.{Lawful}
-use Rattle.dsql_clients.specs.Readers.Calls.{decided, reply_due, site, told_by_others}
-use Rattle.dsql_clients.specs.Readers.Pool.{pool, smallest}
-use Rattle.dsql_clients.specs.Readers.Unfinished.{is_unfinished, unfinished}
-use Rattle.dsql_clients.specs.Rules.Flights.{is_blocked, is_in_flight}
-use Rattle.dsql_clients.specs.Rules.Line.{due_for}
-use Rattle.dsql_clients.specs.Rules.Settled.{Settled}
-use Rattle.dsql_clients.specs.Rules.Stands.{opens, stand, stands}
-use Rattle.dsql_client_laws.proofs.Numbered.{unfinished_from_one}
-use Rattle.dsql_client_laws.proofs.Tests.{both, other_number, same_itself, same_number, second, together}
+use Rattle.dsql_history.specs.declared.event.Event.{Event}
+use Rattle.dsql_history.specs.declared.event.Event.TheVariants.{Replied}
+use Rattle.dsql_history.specs.declared.record.Flight.{Flight}
+use Rattle.dsql_history.specs.declared.record.Stand.{Stand}
+use Rattle.dsql_history.specs.declared.record.Stand.TheVariants as stands_at
+use Rattle.dsql_history.specs.declared.reply.Reply.{Reply}
+use Rattle.dsql_history.specs.Legal.{Lawful}
+use Rattle.dsql_history.specs.Readers.Calls.{decided, reply_due, site, told_by_others}
+use Rattle.dsql_history.specs.Readers.Pool.{pool, smallest}
+use Rattle.dsql_history.specs.Readers.Unfinished.{is_unfinished, unfinished}
+use Rattle.dsql_history.specs.Rules.Flights.{is_blocked, is_in_flight}
+use Rattle.dsql_history.specs.Rules.Line.{due_for}
+use Rattle.dsql_history.specs.Rules.Settled.{Settled}
+use Rattle.dsql_history.specs.Rules.Stands.{opens, stand, stands}
+use Rattle.dsql_laws.proofs.Numbered.{unfinished_from_one}
+use Rattle.dsql_laws.proofs.Tests.{both, other_number, same_itself, same_number, second, together}
 use Rattle.dsql_follows.specs.Moments.{Moment, Walk, at_rest, begins_step, goes_over, rested, with_event}
 use Rattle.dsql_follows.specs.Splits.{is_sending}
 use Rattle.dsql_follows.specs.Turns.{can_move}

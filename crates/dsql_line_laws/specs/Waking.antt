@@ -1,8 +1,8 @@
 -- What a call does that may move, and of which no driver call is under way.
 use Rattle.std.specs.Prelude.{◌≡◌, ℕ, false, List, Some}
-use Rattle.dsql_clients.specs.declared.event.Event.{Event}
-use Rattle.dsql_clients.specs.declared.record.Stand.TheVariants.{Sends}
-use Rattle.dsql_clients.specs.Rules.Stands.{stand}
+use Rattle.dsql_history.specs.declared.event.Event.{Event}
+use Rattle.dsql_history.specs.declared.record.Stand.TheVariants.{Sends}
+use Rattle.dsql_history.specs.Rules.Stands.{stand}
 use Rattle.dsql_follows.specs.Moments.{Moment}
 use Rattle.dsql_follows.specs.Splits.{is_sending}
 use Rattle.dsql_steps.specs.Groups.{gone_on}

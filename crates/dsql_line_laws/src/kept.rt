@@ -1,11 +1,11 @@
 //! Lines that are kept, and calls that are held.
 
 ghost use Rattle.std.specs.Prelude.{◌≡◌, ◌≢◌, ◌≤◌, ◌++◌, ◌&&◌, [], ◌∷◌, ℕ, Bool, true, false, not, cond, List};
-ghost use Rattle.dsql_clients.specs.declared.event.Event.{Event};
-ghost use Rattle.dsql_clients.specs.declared.event.Event.TheVariants.{Entered};
-ghost use Rattle.dsql_clients.specs.declared.event.Op.{Op};
-ghost use Rattle.dsql_clients.specs.Legal.{Lawful};
-ghost use Rattle.dsql_clients.specs.Readers.Clients.{is_free, made_by};
+ghost use Rattle.dsql_history.specs.declared.event.Event.{Event};
+ghost use Rattle.dsql_history.specs.declared.event.Event.TheVariants.{Entered};
+ghost use Rattle.dsql_history.specs.declared.event.Op.{Op};
+ghost use Rattle.dsql_history.specs.Legal.{Lawful};
+ghost use Rattle.dsql_history.specs.Readers.Clients.{is_free, made_by};
 ghost use Rattle.dsql_follows.specs.declared.line.Line.{Line};
 ghost use Rattle.dsql_follows.specs.declared.line.Line.TheVariants.{Client, Start};
 ghost use Rattle.dsql_follows.specs.Moments.{Moment, at_end, is_held, is_line_of, is_start, kept, met, takes_permit};

@@ -1,11 +1,11 @@
 //! Lines that run on, and the script's end.
 
 ghost use Rattle.std.specs.Prelude.{◌≡◌, ◌++◌, [], ℕ, ℤ, true, false, List};
-ghost use Rattle.dsql_clients.specs.declared.event.Event.{Event};
-ghost use Rattle.dsql_clients.specs.declared.event.Event.TheVariants.{Entered, SetLimit, Ended};
-ghost use Rattle.dsql_clients.specs.declared.event.Op.{Op};
-ghost use Rattle.dsql_clients.specs.declared.event.Setting.{Setting};
-ghost use Rattle.dsql_clients.specs.Readers.Course.{has_ended};
+ghost use Rattle.dsql_history.specs.declared.event.Event.{Event};
+ghost use Rattle.dsql_history.specs.declared.event.Event.TheVariants.{Entered, SetLimit, Ended};
+ghost use Rattle.dsql_history.specs.declared.event.Op.{Op};
+ghost use Rattle.dsql_history.specs.declared.event.Setting.{Setting};
+ghost use Rattle.dsql_history.specs.Readers.Course.{has_ended};
 ghost use Rattle.dsql_follows.specs.declared.line.Line.{Line};
 ghost use Rattle.dsql_follows.specs.declared.line.Line.TheVariants.{Client, Set};
 ghost use Rattle.dsql_follows.specs.Moments.{Moment, at_end, met};

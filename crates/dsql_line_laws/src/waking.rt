@@ -2,11 +2,11 @@
 
 ghost use Rattle.std.specs.Prelude.{◌≡◌, ◌==◌, ◌⊎◌, ℕ, true, false, List};
 ghost use Rattle.dsql_journal.specs.declared.entry.Entry.{Entry};
-ghost use Rattle.dsql_clients.specs.declared.event.Event.{Event};
-ghost use Rattle.dsql_clients.specs.declared.event.Event.TheVariants.{Heard};
-ghost use Rattle.dsql_clients.specs.Legal.{Lawful};
-ghost use Rattle.dsql_clients.specs.Rules.Flights.{is_in_flight};
-ghost use Rattle.dsql_clients.specs.Rules.Settled.{Settled};
+ghost use Rattle.dsql_history.specs.declared.event.Event.{Event};
+ghost use Rattle.dsql_history.specs.declared.event.Event.TheVariants.{Heard};
+ghost use Rattle.dsql_history.specs.Legal.{Lawful};
+ghost use Rattle.dsql_history.specs.Rules.Flights.{is_in_flight};
+ghost use Rattle.dsql_history.specs.Rules.Settled.{Settled};
 ghost use Rattle.dsql_follows.specs.Moments.{Moment, takes_permit};
 ghost use Rattle.dsql_follows.specs.Sentences.{is_whole};
 ghost use Rattle.dsql_follows.specs.Turns.{can_move};

@@ -4,7 +4,7 @@ use Rattle.std.specs.Prelude.{Result, Ok, Err, nat_lt, nat_le}
 use Rattle.std.proofs.lemmas.Bool.{lt-ltb, ltb-true, le-leb, leb-true}
 use Rattle.std.proofs.lemmas.List.{append-nil}
 use Rattle.dsql_driver.specs.Streams.{HasRisen, has_risen, last_count}
-use Rattle.dsql_clients.specs.declared.event.Event.{Event}
+use Rattle.dsql_history.specs.declared.event.Event.{Event}
 use Rattle.dsql_wires.specs.Extends.{Extends}
 use Rattle.dsql_report.specs.Lines.{text_of}
 use Rattle.dsql_show.specs.Report.{with_text, Shows, ShowsFront}

@@ -3,8 +3,8 @@ use Rattle.std.proofs.Common.{◌≡◌, ℕ, Bool, true, false, List, [], ◌�
 use Rattle.std.specs.Prelude.{reverse, IfErr, IfOk, IfSome, Result, Ok, Err}
 use Rattle.std.specs.List.{list_all}
 use Rattle.dsql_driver.specs.declared.caps.Caps.{Caps}
-use Rattle.dsql_clients.specs.declared.event.Event.{Event}
-use Rattle.dsql_clients.specs.declared.event.Event.TheVariants.{Run}
+use Rattle.dsql_history.specs.declared.event.Event.{Event}
+use Rattle.dsql_history.specs.declared.event.Event.TheVariants.{Run}
 use Rattle.dsql_follows.specs.declared.line.Line.{Line}
 use Rattle.dsql_follows.specs.Moments.{Moment, just_begun}
 use Rattle.dsql_follows.specs.Sentences.{Part}

@@ -1,6 +1,6 @@
 -- A history that follows lines.
 use Rattle.std.specs.Prelude.{◌≡◌, ◌⊎◌, true, List, ◌∷◌, ◌++◌, reverse, map}
-use Rattle.dsql_clients.specs.declared.event.Event.{Event}
+use Rattle.dsql_history.specs.declared.event.Event.{Event}
 use Rattle.dsql_follows.specs.declared.line.Line.{Line}
 use Rattle.dsql_follows.specs.Moments.{met, at_end}
 use Rattle.dsql_follows.specs.Sentences.{Part, runs_in_turn}

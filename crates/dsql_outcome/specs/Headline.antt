@@ -7,12 +7,12 @@ use Rattle.dsql_driver.specs.declared.wire.Fleet as fleets
 use Rattle.dsql_driver.specs.Streams.{HasRisen, has_risen}
 use Rattle.dsql_driver.specs.Wires.{FleetTold, Preferred}
 use Rattle.dsql_pool.specs.Pooled.{open_count}
-use Rattle.dsql_clients.specs.declared.event.Event.{Event}
-use Rattle.dsql_clients.specs.declared.event.Event.TheVariants.{Run}
-use Rattle.dsql_clients.specs.Legal.{Legal}
-use Rattle.dsql_clients.specs.Readers.Course.{has_ended}
-use Rattle.dsql_clients.specs.Readers.Pool.{pool}
-use Rattle.dsql_clients.specs.Rules.House.{is_quiet}
+use Rattle.dsql_history.specs.declared.event.Event.{Event}
+use Rattle.dsql_history.specs.declared.event.Event.TheVariants.{Run}
+use Rattle.dsql_history.specs.Legal.{Legal}
+use Rattle.dsql_history.specs.Readers.Course.{has_ended}
+use Rattle.dsql_history.specs.Readers.Pool.{pool}
+use Rattle.dsql_history.specs.Rules.House.{is_quiet}
 use Rattle.dsql_follows.specs.declared.line.Line.{Line}
 use Rattle.dsql_steps.specs.Groups.{most_events}
 use Rattle.dsql_wires.specs.Told.{with_told, AsksAtMost}

@@ -1,65 +1,54 @@
-ghost use Rattle.std.specs.Prelude.{◌≡◌, ◌<◌, ◌≤◌, true, false, length, Some, IfOk, IfErr, OnOk, OnErr};
-ghost use Rattle.dsql_journal.specs.HandlesAndCursors.{fits_at_its_place};
-ghost use Rattle.dsql_history.specs.Legal.{Legal};
-ghost use Rattle.dsql_history.specs.Readers.Journals.{journal};
-ghost use Rattle.dsql_engine.specs.Awaited.{awaited, permit_of};
-ghost use Rattle.dsql_engine.specs.Groups.{after_heard, most_events};
-ghost use Rattle.dsql_engine.specs.Steps.{NextAfterHeard};
-ghost use Rattle.dsql_player.specs.Asked.{Asks};
-ghost use Rattle.dsql_player.specs.Carried.{FailsForMemory};
-ghost use Rattle.dsql_player.specs.WiresFit.{slot, HoldsWire};
+//! A client's call makes the driver call for which it has leave.
+ghost use Rattle.std.specs.Prelude.{◌≡◌, ◌<◌, true, false, is_some, length, OnOk};
+ghost use Rattle.dsql_history.specs.Readers.Clients.{call_of};
+ghost use Rattle.dsql_player.specs.Keeping.{FailsForMemory, SameCourse};
+ghost use Rattle.dsql_playing.specs.Carried.{KeepsWires};
+ghost use Rattle.dsql_playing.specs.Playing.{IsReady};
+ghost use Rattle.dsql_playing.specs.Stepping.{HearsAnswer, leave_of};
+ghost use Rattle.dsql_seats.specs.Seats.{seat};
+ghost use Rattle.dsql_steps.specs.Groups.{most_events};
+ghost use Rattle.dsql_wires.specs.WiresFit.{WiresFit};
 
-use crate::halt::Halt;
-use crate::wires::Wires;
+use crate::player::Player;
 use dsql_driver::Wire;
-use dsql_engine::{Engine, Next};
+use dsql_engine::Next;
 use dsql_journal::Permit;
-use dsql_wire::Heard;
+use dsql_playing::Halt;
+use dsql_wires::Wires;
 
-/// Whether a step may still append events.
-pub(crate) fn check_room(engine: &Engine) -> Result<(), Halt>
-    ensures ok { OnOk result (length engine.now < most_events) }
-    ensures full { OnErr result (most_events ≤ length engine.now) }
-    ensures legal { Legal engine.now }
+/// The leave for a driver call that comes of a step, if any does.
+pub(crate) fn leave_of(next: Next) -> Option<Permit>
+    ensures { result ≡ leave_of next }
 {
-    // It vouches that the history is legal.
-    let _history = engine.history();
-    if engine.is_full() {
-        return Err(Halt::Full);
+    match next {
+        Next::Send(permit) => Some(permit),
+        _ => None,
     }
-    Ok(())
 }
 
-/// Brings what was heard of a connection to the engine.
-pub(crate) fn hear(engine: &mut Engine, heard: Heard) -> Result<Next, Halt>
-    requires legal { Legal engine.old }
-    requires room { length engine.old < most_events }
-    requires awaited { awaited engine.old heard.conn ≡ Some (permit_of heard) }
-    requires fits { fits_at_its_place (journal engine.old heard.conn) heard ≡ true }
-    ensures group { OnOk result (engine.new ≡ after_heard engine.old heard) }
-    ensures next { IfOk result (λ next. NextAfterHeard engine.old heard next engine.new) }
-    ensures fails { FailsForMemory result engine.old engine.new }
-    ensures legal { Legal engine.new }
-{
-    Ok(engine.heard(heard)?)
-}
-
-/// Makes a driver call on the wire of its connection, and brings the answer to the engine.
-pub(crate) fn ask<W: Wire>(
-    engine: &mut Engine,
-    wires: &mut Wires<W>,
-    permit: Permit,
-) -> Result<Next, Halt>
-    requires legal { Legal engine.old }
-    requires room { length engine.old < most_events }
-    requires awaited { awaited engine.old permit.conn ≡ Some permit }
-    requires wire { HoldsWire W.told false permit.conn (journal engine.old permit.conn)
-        (slot wires.old permit.conn) }
-    ensures asked { IfOk result
-        (λ next. Asks W.told permit next engine.old engine.new wires.old wires.new) }
-    ensures fails { FailsForMemory result engine.old engine.new }
-    ensures legal { Legal engine.new }
-{
-    let heard = wires.perform(permit)?;
-    hear(engine, heard)
+impl Player {
+    /// The client's call makes the driver call for which it has leave, and goes on with the answer.
+    pub(crate) fn make_call<W: Wire>(
+        &mut self,
+        wires: &mut Wires<W>,
+        client: u8,
+    ) -> Result<(), Halt>
+        requires ready { IsReady self.old }
+        requires room { length self.old.past < most_events }
+        requires leave { is_some (seat self.old.seats client).permit ≡ true }
+        requires wires { WiresFit W.told false self.old.past wires.old }
+        ensures hears { OnOk result (HearsAnswer (call_of self.old.past client) self.old self.new) }
+        ensures grows { OnOk result (length self.old.past < length self.new.past) }
+        ensures course { OnOk result (SameCourse self.old self.new) }
+        ensures run { KeepsWires W.told result self.old self.new wires.old wires.new }
+        ensures fails { FailsForMemory result self.old.past self.new.past }
+    {
+        let Some(permit) = self.seats.take_permit(client) else {
+            unreachable!();
+        };
+        let heard = wires.perform(permit)?;
+        let next = self.engine.heard(heard)?;
+        self.seats.hand(client, leave_of(next));
+        Ok(())
+    }
 }

@@ -10,19 +10,19 @@ use Rattle.dsql_journal.specs.declared.entry.Permit.{Permit}
 use Rattle.dsql_journal.specs.HandlesAndCursors.{fits_at_its_place}
 use Rattle.dsql_journal.specs.Permits.{entry_of}
 use Rattle.dsql_tenure.specs.Judged.{answered}
-use Rattle.dsql_clients.specs.declared.event.Event.TheVariants.{Heard}
-use Rattle.dsql_clients.specs.Readers.Calls.{is_busy}
-use Rattle.dsql_clients.specs.Readers.Clients.{call_of}
-use Rattle.dsql_clients.specs.Readers.Journals.{journal}
-use Rattle.dsql_clients.specs.Rules.Flights.{without_flight}
-use Rattle.dsql_clients.specs.Legal.{Lawful, Legal}
-use Rattle.dsql_client_laws.proofs.Tests.{other_number}
-use Rattle.dsql_client_engine.specs.Core.{Core}
-use Rattle.dsql_client_engine.specs.Hearing.{MayBeHeard, is_on}
-use Rattle.dsql_client_going.specs.Reaching.{HasGoneOn}
-use Rattle.dsql_client_going.specs.Stepping.{GoesOnOrRests, Rests}
-use Rattle.dsql_client_going.specs.declared.next.Next.{Next}
-use Rattle.dsql_client_hearing.specs.Hearing.{IsWelcome}
+use Rattle.dsql_history.specs.declared.event.Event.TheVariants.{Heard}
+use Rattle.dsql_history.specs.Readers.Calls.{is_busy}
+use Rattle.dsql_history.specs.Readers.Clients.{call_of}
+use Rattle.dsql_history.specs.Readers.Journals.{journal}
+use Rattle.dsql_history.specs.Rules.Flights.{without_flight}
+use Rattle.dsql_history.specs.Legal.{Lawful, Legal}
+use Rattle.dsql_laws.proofs.Tests.{other_number}
+use Rattle.dsql_engine.specs.Core.{Core}
+use Rattle.dsql_engine.specs.Hearing.{MayBeHeard, is_on}
+use Rattle.dsql_going.specs.Reaching.{HasGoneOn}
+use Rattle.dsql_going.specs.Stepping.{GoesOnOrRests, Rests}
+use Rattle.dsql_going.specs.declared.next.Next.{Next}
+use Rattle.dsql_hearing.specs.Hearing.{IsWelcome}
 use Rattle.dsql_end_laws.proofs.Whose.{idle_none}
 use Rattle.dsql_seats.specs.Seats.{seat}
 use Rattle.dsql_steps.specs.Groups.{after_heard}

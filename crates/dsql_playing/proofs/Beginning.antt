@@ -1,8 +1,8 @@
 -- The player as a run begins.
 use Rattle.std.proofs.Common.{◌≡◌, ℕ, false, List, [], ◌∷◌, None, refl, ap, sym, arith}
 use Rattle.dsql_driver.specs.declared.caps.Caps.{Caps}
-use Rattle.dsql_clients.specs.declared.event.Event.TheVariants.{Run}
-use Rattle.dsql_clients.specs.Legal.{Legal}
+use Rattle.dsql_history.specs.declared.event.Event.TheVariants.{Run}
+use Rattle.dsql_history.specs.Legal.{Legal}
 use Rattle.dsql_follows.specs.Moments.{just_begun}
 use Rattle.dsql_seats.specs.Seats.{Seat, empty_seat, seat}
 use Rattle.dsql_turn_laws.proofs.Steps.{begun_flies}

@@ -10,9 +10,9 @@ use Rattle.dsql_journal.specs.declared.entry.Entry.{Entry}
 use Rattle.dsql_journal.specs.Journal.{IsWhole, is_finished, is_journal_prefix, may_follow}
 use Rattle.dsql_journal.specs.WholeJournal.{connects_first}
 use Rattle.dsql_journal.proofs.Sentences.{MayFollow-of}
-use Rattle.dsql_clients.specs.declared.event.Event.{Event}
-use Rattle.dsql_clients.specs.Readers.Journals.{journal}
-use Rattle.dsql_client_laws.proofs.Tests.{both}
+use Rattle.dsql_history.specs.declared.event.Event.{Event}
+use Rattle.dsql_history.specs.Readers.Journals.{journal}
+use Rattle.dsql_laws.proofs.Tests.{both}
 use Rattle.dsql_end_laws.specs.Over.{IsOver}
 use Rattle.dsql_wire.specs.Journaled.{Journaled}
 use Rattle.dsql_wires.proofs.Journals.{opened_wired, shut_unwired}

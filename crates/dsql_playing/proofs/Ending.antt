@@ -1,14 +1,14 @@
 -- The run ends once nobody may go on.
 use Rattle.std.proofs.Common.{◌≡◌, ℕ, Bool, true, false, not, ◌&&◌, ◌||◌, None, refl, ap, sym, subst, ◌∙◌}
-use Rattle.dsql_clients.specs.declared.event.Event.TheVariants.{Ended}
-use Rattle.dsql_clients.specs.Readers.Calls.{is_busy}
-use Rattle.dsql_clients.specs.Readers.Clients.{call_of, client_of}
-use Rattle.dsql_clients.specs.Readers.Course.{has_ended}
-use Rattle.dsql_clients.specs.Readers.Unfinished.{is_unfinished, unfinished}
-use Rattle.dsql_clients.specs.Rules.Flights.{is_blocked, is_in_flight, may_move}
-use Rattle.dsql_clients.specs.Rules.House.{chore_due, is_quiet}
-use Rattle.dsql_clients.specs.Rules.Stands.{stand}
-use Rattle.dsql_clients.specs.Legal.{Lawful}
+use Rattle.dsql_history.specs.declared.event.Event.TheVariants.{Ended}
+use Rattle.dsql_history.specs.Readers.Calls.{is_busy}
+use Rattle.dsql_history.specs.Readers.Clients.{call_of, client_of}
+use Rattle.dsql_history.specs.Readers.Course.{has_ended}
+use Rattle.dsql_history.specs.Readers.Unfinished.{is_unfinished, unfinished}
+use Rattle.dsql_history.specs.Rules.Flights.{is_blocked, is_in_flight, may_move}
+use Rattle.dsql_history.specs.Rules.House.{chore_due, is_quiet}
+use Rattle.dsql_history.specs.Rules.Stands.{stand}
+use Rattle.dsql_history.specs.Legal.{Lawful}
 use Rattle.dsql_end_laws.proofs.Finds.{any_of}
 use Rattle.dsql_end_laws.proofs.RunOut.{quiet_where_run_out}
 use Rattle.dsql_end_laws.proofs.Steps.{step_ended}

@@ -3,8 +3,8 @@ use Rattle.std.proofs.Common.{◌≡◌, ℕ, Bool, true, false, List, Option, S
 use Rattle.std.specs.Prelude.{MatchBool}
 use Rattle.dsql_driver.specs.Wires.{WireTold}
 use Rattle.dsql_journal.specs.declared.entry.Entry.{Entry}
-use Rattle.dsql_clients.specs.declared.event.Event.{Event}
-use Rattle.dsql_clients.specs.Readers.Journals.{journal}
+use Rattle.dsql_history.specs.declared.event.Event.{Event}
+use Rattle.dsql_history.specs.Readers.Journals.{journal}
 use Rattle.dsql_wire.specs.Journaled.{Journaled}
 use Rattle.dsql_wires.specs.WiresFit.{FitsAt, HoldsWire, KeepsFit, WiresFit, is_wired, slot}
 use Rattle.dsql_playing.specs.Carried.{HearsNothing}

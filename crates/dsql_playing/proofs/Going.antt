@@ -1,6 +1,6 @@
 -- Steps, each in its turn, one after another.
 use Rattle.std.proofs.Common.{◌≡◌, true, List, [], ◌++◌, refl, sym, ap, ◌∙◌, append_assoc}
-use Rattle.dsql_clients.specs.declared.event.Event.{Event}
+use Rattle.dsql_history.specs.declared.event.Event.{Event}
 use Rattle.dsql_follows.specs.Moments.{Moment}
 use Rattle.dsql_follows.specs.Turns.{has_run_out}
 use Rattle.dsql_step_laws.specs.Steps.{stepped}

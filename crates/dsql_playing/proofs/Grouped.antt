@@ -3,16 +3,16 @@ use Rattle.std.proofs.Common.{◌≡◌, ◌≢◌, ◌<◌, ◌+◌, ◌⊎◌,
 use Rattle.std.specs.Prelude.{ℤ}
 use Rattle.dsql_journal.specs.declared.entry.Entry.{Entry}
 use Rattle.dsql_journal.specs.Readers.{is_empty}
-use Rattle.dsql_clients.specs.declared.event.Event.{Event}
-use Rattle.dsql_clients.specs.declared.event.Event.TheVariants.{Entered, Heard, SetLimit, Ended}
-use Rattle.dsql_clients.specs.declared.event.Op.{Op}
-use Rattle.dsql_clients.specs.declared.event.Setting.{Setting}
-use Rattle.dsql_clients.specs.Readers.Calls.{next_call}
-use Rattle.dsql_clients.specs.Readers.Owed.{owed}
-use Rattle.dsql_clients.specs.Rules.Flights.{permitted}
-use Rattle.dsql_clients.specs.Rules.Settled.{Settled}
-use Rattle.dsql_clients.specs.Rules.Stands.{stand}
-use Rattle.dsql_client_laws.proofs.Tests.{other_number}
+use Rattle.dsql_history.specs.declared.event.Event.{Event}
+use Rattle.dsql_history.specs.declared.event.Event.TheVariants.{Entered, Heard, SetLimit, Ended}
+use Rattle.dsql_history.specs.declared.event.Op.{Op}
+use Rattle.dsql_history.specs.declared.event.Setting.{Setting}
+use Rattle.dsql_history.specs.Readers.Calls.{next_call}
+use Rattle.dsql_history.specs.Readers.Owed.{owed}
+use Rattle.dsql_history.specs.Rules.Flights.{permitted}
+use Rattle.dsql_history.specs.Rules.Settled.{Settled}
+use Rattle.dsql_history.specs.Rules.Stands.{stand}
+use Rattle.dsql_laws.proofs.Tests.{other_number}
 use Rattle.dsql_follows.specs.Moments.{Moment}
 use Rattle.dsql_steps.specs.Groups.{after_end, after_enter, after_heard, after_set, gone_on}
 use Rattle.dsql_step_laws.specs.Steps.{IsAtRest, MakesStep, GoesByItself, goes_by_itself}

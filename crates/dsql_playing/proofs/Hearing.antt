@@ -6,9 +6,9 @@ use Rattle.dsql_driver.specs.Kinds.{is_connect, is_shut}
 use Rattle.dsql_driver.specs.Wires.{WireTold}
 use Rattle.dsql_journal.specs.declared.entry.Entry.{Entry}
 use Rattle.dsql_journal.specs.declared.entry.Permit.{Permit}
-use Rattle.dsql_clients.specs.declared.event.Event.{Event}
-use Rattle.dsql_clients.specs.declared.event.Event.TheVariants.{Heard}
-use Rattle.dsql_client_laws.proofs.Tests.{both, together}
+use Rattle.dsql_history.specs.declared.event.Event.{Event}
+use Rattle.dsql_history.specs.declared.event.Event.TheVariants.{Heard}
+use Rattle.dsql_laws.proofs.Tests.{both, together}
 use Rattle.dsql_step_laws.specs.Steps.{goes_by_itself}
 use Rattle.dsql_walk_laws.specs.Groups.{is_later_of}
 use Rattle.dsql_tenure.specs.Judged.{answered}

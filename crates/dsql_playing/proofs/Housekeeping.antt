@@ -5,26 +5,26 @@ use Rattle.dsql_journal.specs.declared.entry.Entry.{Entry}
 use Rattle.dsql_journal.specs.declared.entry.Permit.{Permit}
 use Rattle.dsql_journal.specs.HandlesAndCursors.{fits_at_its_place}
 use Rattle.dsql_journal.specs.Permits.{entry_of}
-use Rattle.dsql_clients.specs.declared.event.Event.{Event}
-use Rattle.dsql_clients.specs.declared.event.Event.TheVariants.{Heard}
-use Rattle.dsql_clients.specs.declared.record.Flight.{Flight}
-use Rattle.dsql_clients.specs.Legal.{Lawful}
-use Rattle.dsql_clients.specs.Readers.Course.{has_ended}
-use Rattle.dsql_clients.specs.Readers.Journals.{journal}
-use Rattle.dsql_clients.specs.Rules.Flights.{is_in_flight, permitted, without_flight}
-use Rattle.dsql_clients.specs.Rules.House.{chore_due}
-use Rattle.dsql_clients.specs.Rules.Stands.{stand}
-use Rattle.dsql_client_going.specs.declared.next.Next.{Next}
-use Rattle.dsql_client_going.specs.Permits.{chore_permit}
-use Rattle.dsql_client_going.specs.Stepping.{GoesOnOrRests, Rests}
-use Rattle.dsql_client_hearing.specs.Hearing.{IsWelcome}
-use Rattle.dsql_client_laws.proofs.Standing.{neither}
-use Rattle.dsql_client_laws.proofs.Tests.{other_number, same_itself}
+use Rattle.dsql_history.specs.declared.event.Event.{Event}
+use Rattle.dsql_history.specs.declared.event.Event.TheVariants.{Heard}
+use Rattle.dsql_history.specs.declared.record.Flight.{Flight}
+use Rattle.dsql_history.specs.Legal.{Lawful}
+use Rattle.dsql_history.specs.Readers.Course.{has_ended}
+use Rattle.dsql_history.specs.Readers.Journals.{journal}
+use Rattle.dsql_history.specs.Rules.Flights.{is_in_flight, permitted, without_flight}
+use Rattle.dsql_history.specs.Rules.House.{chore_due}
+use Rattle.dsql_history.specs.Rules.Stands.{stand}
+use Rattle.dsql_going.specs.declared.next.Next.{Next}
+use Rattle.dsql_going.specs.Permits.{chore_permit}
+use Rattle.dsql_going.specs.Stepping.{GoesOnOrRests, Rests}
+use Rattle.dsql_hearing.specs.Hearing.{IsWelcome}
+use Rattle.dsql_laws.proofs.Standing.{neither}
+use Rattle.dsql_laws.proofs.Tests.{other_number, same_itself}
 use Rattle.dsql_chore_laws.specs.Chores.{MayBeMade}
 use Rattle.dsql_chore_laws.proofs.Made.{chore_made}
 use Rattle.dsql_chore_laws.proofs.Placed.{meets_no_other}
-use Rattle.dsql_client_engine.specs.Core.{Core}
-use Rattle.dsql_client_engine.specs.Hearing.{MayBeHeard, is_on, is_under_way}
+use Rattle.dsql_engine.specs.Core.{Core}
+use Rattle.dsql_engine.specs.Hearing.{MayBeHeard, is_on, is_under_way}
 use Rattle.dsql_end_laws.proofs.Steps.{step_ended}
 use Rattle.dsql_follows.specs.Moments.{Moment, landed}
 use Rattle.dsql_seats.specs.Seats.{Seat, seat}

@@ -4,7 +4,7 @@ use Rattle.std.specs.Prelude.{Result, Ok, Err, IsErr, OnErr}
 use Rattle.std.proofs.lemmas.Result.{on_ok_weaker, on_err_weaker}
 use Rattle.dsql_driver.specs.Wires.{WireTold}
 use Rattle.dsql_driver.specs.declared.wire.Fleet.{Ghosts}
-use Rattle.dsql_clients.specs.Legal.{Legal}
+use Rattle.dsql_history.specs.Legal.{Legal}
 use Rattle.dsql_wire.specs.Journaled.{Journaled}
 use Rattle.dsql_wires.specs.Told.{FleetTells, SameAbility, TellsAtMost, fleet_told}
 use Rattle.dsql_wires.specs.WiresFit.{KeepsFit, WiresFit}

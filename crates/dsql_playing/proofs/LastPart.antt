@@ -4,14 +4,14 @@ use Rattle.std.specs.Prelude.{find}
 use Rattle.std.specs.List.{list_any}
 use Rattle.std.proofs.lemmas.Bool.{not-false}
 use Rattle.dsql_journal.specs.Readers.{is_empty}
-use Rattle.dsql_clients.specs.declared.event.Event.{Event}
-use Rattle.dsql_clients.specs.Readers.Calls.{call_record, is_busy}
-use Rattle.dsql_clients.specs.Readers.Clients.{call_of, client_of, is_free}
-use Rattle.dsql_clients.specs.Readers.Course.{has_ended}
-use Rattle.dsql_clients.specs.Readers.Pool.{or_none}
-use Rattle.dsql_clients.specs.Readers.Unfinished.{unfinished}
-use Rattle.dsql_clients.specs.Rules.Flights.{may_move}
-use Rattle.dsql_clients.specs.Rules.House.{chore_due}
+use Rattle.dsql_history.specs.declared.event.Event.{Event}
+use Rattle.dsql_history.specs.Readers.Calls.{call_record, is_busy}
+use Rattle.dsql_history.specs.Readers.Clients.{call_of, client_of, is_free}
+use Rattle.dsql_history.specs.Readers.Course.{has_ended}
+use Rattle.dsql_history.specs.Readers.Pool.{or_none}
+use Rattle.dsql_history.specs.Readers.Unfinished.{unfinished}
+use Rattle.dsql_history.specs.Rules.Flights.{may_move}
+use Rattle.dsql_history.specs.Rules.House.{chore_due}
 use Rattle.dsql_end_laws.specs.Over.{IsOver}
 use Rattle.dsql_end_laws.proofs.Ended.{over_where_run_out}
 use Rattle.dsql_follows.specs.Moments.{Moment, at_end}

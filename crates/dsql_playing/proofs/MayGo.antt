@@ -3,18 +3,18 @@ use Rattle.std.proofs.Common.{◌≡◌, ◌≤◌, ℕ, Bool, true, false, not,
 use Rattle.std.specs.Prelude.{slice_get}
 use Rattle.std.proofs.lemmas.List.{get_or_past}
 use Rattle.dsql_journal.specs.Readers.{is_empty}
-use Rattle.dsql_clients.specs.declared.event.Event.{Event}
-use Rattle.dsql_clients.specs.declared.record.Flight.{Flight}
-use Rattle.dsql_clients.specs.declared.record.Stand.{Stand}
-use Rattle.dsql_clients.specs.declared.record.Stand.TheVariants.{Waits, Opens, Sends, Replies}
-use Rattle.dsql_clients.specs.Readers.Calls.{is_busy}
-use Rattle.dsql_clients.specs.Readers.Clients.{call_of}
-use Rattle.dsql_clients.specs.Readers.Unfinished.{is_unfinished}
-use Rattle.dsql_clients.specs.Rules.Flights.{is_blocked, is_in_flight, is_taken, may_move}
-use Rattle.dsql_clients.specs.Rules.Stands.{stand}
-use Rattle.dsql_client_engine.specs.Core.{Core, blocked_call, blocked_for, unfinished_of}
-use Rattle.dsql_client_going.specs.Answers.{why_blocked}
-use Rattle.dsql_client_going.specs.declared.next.Why.TheVariants.{Turn}
+use Rattle.dsql_history.specs.declared.event.Event.{Event}
+use Rattle.dsql_history.specs.declared.record.Flight.{Flight}
+use Rattle.dsql_history.specs.declared.record.Stand.{Stand}
+use Rattle.dsql_history.specs.declared.record.Stand.TheVariants.{Waits, Opens, Sends, Replies}
+use Rattle.dsql_history.specs.Readers.Calls.{is_busy}
+use Rattle.dsql_history.specs.Readers.Clients.{call_of}
+use Rattle.dsql_history.specs.Readers.Unfinished.{is_unfinished}
+use Rattle.dsql_history.specs.Rules.Flights.{is_blocked, is_in_flight, is_taken, may_move}
+use Rattle.dsql_history.specs.Rules.Stands.{stand}
+use Rattle.dsql_engine.specs.Core.{Core, blocked_call, blocked_for, unfinished_of}
+use Rattle.dsql_going.specs.Answers.{why_blocked}
+use Rattle.dsql_going.specs.declared.next.Why.TheVariants.{Turn}
 use Rattle.dsql_end_laws.proofs.Whose.{busy_unfinished}
 use Rattle.dsql_seats.specs.Seats.{Seat, empty_seat, seat}
 use Rattle.dsql_playing.specs.Playing.{IsReady, Playing}

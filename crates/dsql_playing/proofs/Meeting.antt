@@ -1,6 +1,6 @@
 -- A line is read, or the script is at its end, and the player is at that moment.
 use Rattle.std.proofs.Common.{◌≡◌, ℕ, ◌<◌, true, false, List, length, refl, sym, ap, subst, ◌∙◌}
-use Rattle.dsql_clients.specs.Readers.Clients.{call_of}
+use Rattle.dsql_history.specs.Readers.Clients.{call_of}
 use Rattle.dsql_follows.specs.declared.line.Line.{Line}
 use Rattle.dsql_follows.specs.Moments.{Moment, at_end, is_line_of, met}
 use Rattle.dsql_line_laws.proofs.KeptLines.{all_made_met, held_same, kept_same}

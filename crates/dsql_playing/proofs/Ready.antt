@@ -5,23 +5,23 @@ use Rattle.dsql_driver.specs.declared.answer.DriverAnswer.TheVariants.{Done}
 use Rattle.dsql_journal.specs.declared.entry.Entry.{Entry}
 use Rattle.dsql_journal.specs.declared.entry.Permit.{Permit}
 use Rattle.dsql_journal.specs.Permits.{entry_of}
-use Rattle.dsql_clients.specs.declared.event.Event.{Event}
-use Rattle.dsql_clients.specs.declared.event.Event.TheVariants.{Entered, Heard, SetLimit, Ended, Pool, Waits, Replied}
-use Rattle.dsql_clients.specs.declared.event.Op.{Op}
-use Rattle.dsql_clients.specs.declared.event.Setting.{Setting}
-use Rattle.dsql_clients.specs.declared.record.Flight.{Flight}
-use Rattle.dsql_clients.specs.Readers.Calls.{is_busy, next_call}
-use Rattle.dsql_clients.specs.Readers.Clients.{call_of, client_of}
-use Rattle.dsql_clients.specs.Readers.Unfinished.{is_unfinished}
-use Rattle.dsql_clients.specs.Rules.Flights.{is_in_flight, permitted, without_flight}
-use Rattle.dsql_clients.specs.Rules.Line.{parts}
-use Rattle.dsql_clients.specs.Rules.Stands.{stand}
-use Rattle.dsql_clients.specs.Legal.{Lawful, Legal}
-use Rattle.dsql_client_laws.proofs.Tests.{other_number, same_number}
-use Rattle.dsql_client_calls.proofs.Lists.{same_or_not}
-use Rattle.dsql_client_going.specs.Reaching.{HasGoneOn}
-use Rattle.dsql_client_going.specs.declared.next.Next.{Next}
-use Rattle.dsql_client_hearing.proofs.Steps.{landed_apart}
+use Rattle.dsql_history.specs.declared.event.Event.{Event}
+use Rattle.dsql_history.specs.declared.event.Event.TheVariants.{Entered, Heard, SetLimit, Ended, Pool, Waits, Replied}
+use Rattle.dsql_history.specs.declared.event.Op.{Op}
+use Rattle.dsql_history.specs.declared.event.Setting.{Setting}
+use Rattle.dsql_history.specs.declared.record.Flight.{Flight}
+use Rattle.dsql_history.specs.Readers.Calls.{is_busy, next_call}
+use Rattle.dsql_history.specs.Readers.Clients.{call_of, client_of}
+use Rattle.dsql_history.specs.Readers.Unfinished.{is_unfinished}
+use Rattle.dsql_history.specs.Rules.Flights.{is_in_flight, permitted, without_flight}
+use Rattle.dsql_history.specs.Rules.Line.{parts}
+use Rattle.dsql_history.specs.Rules.Stands.{stand}
+use Rattle.dsql_history.specs.Legal.{Lawful, Legal}
+use Rattle.dsql_laws.proofs.Tests.{other_number, same_number}
+use Rattle.dsql_call_laws.proofs.Lists.{same_or_not}
+use Rattle.dsql_going.specs.Reaching.{HasGoneOn}
+use Rattle.dsql_going.specs.declared.next.Next.{Next}
+use Rattle.dsql_hearing.proofs.Steps.{landed_apart}
 use Rattle.dsql_end_laws.specs.Steps.{begins_step_of}
 use Rattle.dsql_end_laws.proofs.Whose.{busy_own, idle_none, unfinished_entered, busy_unfinished}
 use Rattle.dsql_line_laws.specs.Entries.{is_entry}

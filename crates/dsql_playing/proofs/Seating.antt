@@ -6,26 +6,26 @@ use Rattle.std.proofs.lemmas.List.Folds.{list_any-append}
 use Rattle.dsql_driver.specs.declared.answer.DriverAnswer.TheVariants.{Done}
 use Rattle.dsql_journal.specs.declared.entry.Permit.{Permit}
 use Rattle.dsql_journal.specs.Permits.{entry_of}
-use Rattle.dsql_clients.specs.declared.event.Event.{Event}
-use Rattle.dsql_clients.specs.declared.record.Flight.{Flight}
-use Rattle.dsql_clients.specs.declared.record.Stand.{Stand}
-use Rattle.dsql_clients.specs.declared.record.Stand.TheVariants.{Waits, Opens, Sends, Replies}
-use Rattle.dsql_clients.specs.Readers.Calls.{is_busy}
-use Rattle.dsql_clients.specs.Readers.Clients.{call_of}
-use Rattle.dsql_clients.specs.Readers.Unfinished.{is_unfinished}
-use Rattle.dsql_clients.specs.Rules.Flights.{has_flight, is_in_flight, permitted, with_flight, without_flight}
-use Rattle.dsql_clients.specs.Rules.Line.{parts}
-use Rattle.dsql_clients.specs.Rules.Stands.{stand}
-use Rattle.dsql_clients.specs.Legal.{Lawful}
-use Rattle.dsql_client_laws.proofs.Standing.{neither}
-use Rattle.dsql_client_laws.proofs.Tests.{other_number}
-use Rattle.dsql_client_calls.proofs.Lists.{same_or_not}
-use Rattle.dsql_client_going.specs.declared.next.Next.{Next}
-use Rattle.dsql_client_going.specs.declared.next.Next.TheVariants as nexts
-use Rattle.dsql_client_going.specs.declared.next.Why.{Why}
-use Rattle.dsql_client_going.specs.Answers.{sends_unless, why_blocked}
-use Rattle.dsql_client_going.specs.Permits.{permit_for}
-use Rattle.dsql_client_going.specs.Reaching.{HasGoneOn}
+use Rattle.dsql_history.specs.declared.event.Event.{Event}
+use Rattle.dsql_history.specs.declared.record.Flight.{Flight}
+use Rattle.dsql_history.specs.declared.record.Stand.{Stand}
+use Rattle.dsql_history.specs.declared.record.Stand.TheVariants.{Waits, Opens, Sends, Replies}
+use Rattle.dsql_history.specs.Readers.Calls.{is_busy}
+use Rattle.dsql_history.specs.Readers.Clients.{call_of}
+use Rattle.dsql_history.specs.Readers.Unfinished.{is_unfinished}
+use Rattle.dsql_history.specs.Rules.Flights.{has_flight, is_in_flight, permitted, with_flight, without_flight}
+use Rattle.dsql_history.specs.Rules.Line.{parts}
+use Rattle.dsql_history.specs.Rules.Stands.{stand}
+use Rattle.dsql_history.specs.Legal.{Lawful}
+use Rattle.dsql_laws.proofs.Standing.{neither}
+use Rattle.dsql_laws.proofs.Tests.{other_number}
+use Rattle.dsql_call_laws.proofs.Lists.{same_or_not}
+use Rattle.dsql_going.specs.declared.next.Next.{Next}
+use Rattle.dsql_going.specs.declared.next.Next.TheVariants as nexts
+use Rattle.dsql_going.specs.declared.next.Why.{Why}
+use Rattle.dsql_going.specs.Answers.{sends_unless, why_blocked}
+use Rattle.dsql_going.specs.Permits.{permit_for}
+use Rattle.dsql_going.specs.Reaching.{HasGoneOn}
 use Rattle.dsql_seats.specs.Seats.{Seat, seat}
 use Rattle.dsql_turn_laws.specs.Leaves.{IsLeave}
 use Rattle.dsql_turn_laws.specs.Turns.{Flying, flies}

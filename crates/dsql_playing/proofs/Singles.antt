@@ -3,20 +3,20 @@ use Rattle.std.proofs.Common.{◌≡◌, ℕ, ◌<◌, Bool, true, false, not, �
 use Rattle.dsql_course.specs.Made.{or_else}
 use Rattle.dsql_journal.specs.declared.entry.Permit.{Permit}
 use Rattle.dsql_journal.specs.Readers.{is_empty}
-use Rattle.dsql_clients.specs.declared.event.Event.{Event}
-use Rattle.dsql_clients.specs.declared.event.Op.{Op}
-use Rattle.dsql_clients.specs.declared.record.Flight.{Flight}
-use Rattle.dsql_clients.specs.declared.record.Stand.{Stand}
-use Rattle.dsql_clients.specs.declared.record.Stand.TheVariants.{Waits, Opens, Sends, Replies}
-use Rattle.dsql_clients.specs.Legal.{Lawful}
-use Rattle.dsql_clients.specs.Readers.Calls.{decided, is_busy, reply_due, site, told_by_others}
-use Rattle.dsql_clients.specs.Readers.Clients.{call_of}
-use Rattle.dsql_clients.specs.Readers.Pool.{pool, smallest}
-use Rattle.dsql_clients.specs.Readers.Unfinished.{is_unfinished}
-use Rattle.dsql_clients.specs.Rules.Flights.{is_in_flight, may_move, permitted}
-use Rattle.dsql_clients.specs.Rules.House.{chore_due}
-use Rattle.dsql_clients.specs.Rules.Line.{due_for}
-use Rattle.dsql_clients.specs.Rules.Stands.{opens, stand, stands}
+use Rattle.dsql_history.specs.declared.event.Event.{Event}
+use Rattle.dsql_history.specs.declared.event.Op.{Op}
+use Rattle.dsql_history.specs.declared.record.Flight.{Flight}
+use Rattle.dsql_history.specs.declared.record.Stand.{Stand}
+use Rattle.dsql_history.specs.declared.record.Stand.TheVariants.{Waits, Opens, Sends, Replies}
+use Rattle.dsql_history.specs.Legal.{Lawful}
+use Rattle.dsql_history.specs.Readers.Calls.{decided, is_busy, reply_due, site, told_by_others}
+use Rattle.dsql_history.specs.Readers.Clients.{call_of}
+use Rattle.dsql_history.specs.Readers.Pool.{pool, smallest}
+use Rattle.dsql_history.specs.Readers.Unfinished.{is_unfinished}
+use Rattle.dsql_history.specs.Rules.Flights.{is_in_flight, may_move, permitted}
+use Rattle.dsql_history.specs.Rules.House.{chore_due}
+use Rattle.dsql_history.specs.Rules.Line.{due_for}
+use Rattle.dsql_history.specs.Rules.Stands.{opens, stand, stands}
 use Rattle.dsql_follows.specs.declared.line.Line.{Line}
 use Rattle.dsql_follows.specs.declared.line.Line.TheVariants.{Start, Step, StepHouse}
 use Rattle.dsql_follows.specs.Moments.{Moment, met, takes_permit}

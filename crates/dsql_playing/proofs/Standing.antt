@@ -1,17 +1,17 @@
 -- The moment at which the player stands after a step.
 use Rattle.std.proofs.Common.{◌≡◌, inl, inr, ℕ, ◌==◌, Bool, true, false, not, ◌&&◌, ◌||◌, cond, List, [], ◌∷◌, ◌++◌, Option, Some, None, refl, ap, sym, subst, ◌∙◌}
-use Rattle.dsql_clients.specs.declared.event.Event.{Event}
-use Rattle.dsql_clients.specs.declared.event.Event.TheVariants.{Entered, Heard}
-use Rattle.dsql_clients.specs.declared.record.Flight.{Flight}
-use Rattle.dsql_clients.specs.declared.record.Stand.{Stand}
-use Rattle.dsql_clients.specs.declared.record.Stand.TheVariants.{Waits, Opens, Sends, Replies}
-use Rattle.dsql_clients.specs.Readers.Calls.{is_busy}
-use Rattle.dsql_clients.specs.Readers.Clients.{is_free}
-use Rattle.dsql_clients.specs.Rules.Flights.{has_flight, is_in_flight, may_move, permitted, without_flight}
-use Rattle.dsql_clients.specs.Rules.Stands.{stand}
-use Rattle.dsql_clients.specs.Legal.{Lawful}
-use Rattle.dsql_client_laws.proofs.Tests.{same_itself}
-use Rattle.dsql_client_calls.proofs.Lists.{same_or_not}
+use Rattle.dsql_history.specs.declared.event.Event.{Event}
+use Rattle.dsql_history.specs.declared.event.Event.TheVariants.{Entered, Heard}
+use Rattle.dsql_history.specs.declared.record.Flight.{Flight}
+use Rattle.dsql_history.specs.declared.record.Stand.{Stand}
+use Rattle.dsql_history.specs.declared.record.Stand.TheVariants.{Waits, Opens, Sends, Replies}
+use Rattle.dsql_history.specs.Readers.Calls.{is_busy}
+use Rattle.dsql_history.specs.Readers.Clients.{is_free}
+use Rattle.dsql_history.specs.Rules.Flights.{has_flight, is_in_flight, may_move, permitted, without_flight}
+use Rattle.dsql_history.specs.Rules.Stands.{stand}
+use Rattle.dsql_history.specs.Legal.{Lawful}
+use Rattle.dsql_laws.proofs.Tests.{same_itself}
+use Rattle.dsql_call_laws.proofs.Lists.{same_or_not}
 use Rattle.dsql_follows.specs.declared.line.Line.{Line}
 use Rattle.dsql_follows.specs.declared.line.Line.TheVariants.{Client, Start}
 use Rattle.dsql_follows.specs.Moments.{Moment, is_held, is_start, kept, landed, takes_permit}

@@ -4,21 +4,21 @@ use Rattle.std.specs.Prelude.{ℤ}
 use Rattle.dsql_course.specs.Made.{or_else}
 use Rattle.dsql_wait.specs.Requests.{waits}
 use Rattle.dsql_pool.specs.Places.{is_for}
-use Rattle.dsql_clients.specs.declared.event.Event.{Event}
-use Rattle.dsql_clients.specs.declared.event.Event.TheVariants.{SetLimit, Ended, Pool, Waits, Replied}
-use Rattle.dsql_clients.specs.declared.event.Setting.{Setting}
-use Rattle.dsql_clients.specs.declared.record.Flight.{Flight}
-use Rattle.dsql_clients.specs.declared.record.Stand.TheVariants as stands_at
-use Rattle.dsql_clients.specs.Readers.Calls.{decided, is_busy, site, told_by_others}
-use Rattle.dsql_clients.specs.Readers.Pool.{pool, smallest}
-use Rattle.dsql_clients.specs.Readers.Works.{work}
-use Rattle.dsql_clients.specs.Rules.Flights.{is_in_flight, may_move, permitted}
-use Rattle.dsql_clients.specs.Rules.Line.{due_for, due_in}
-use Rattle.dsql_clients.specs.Rules.Settled.{Settled}
-use Rattle.dsql_clients.specs.Rules.Stands.{opens, stand, stands}
-use Rattle.dsql_clients.specs.Legal.{Lawful}
-use Rattle.dsql_client_laws.proofs.Tests.{same_number}
-use Rattle.dsql_client_going.specs.declared.next.Next.{Next}
+use Rattle.dsql_history.specs.declared.event.Event.{Event}
+use Rattle.dsql_history.specs.declared.event.Event.TheVariants.{SetLimit, Ended, Pool, Waits, Replied}
+use Rattle.dsql_history.specs.declared.event.Setting.{Setting}
+use Rattle.dsql_history.specs.declared.record.Flight.{Flight}
+use Rattle.dsql_history.specs.declared.record.Stand.TheVariants as stands_at
+use Rattle.dsql_history.specs.Readers.Calls.{decided, is_busy, site, told_by_others}
+use Rattle.dsql_history.specs.Readers.Pool.{pool, smallest}
+use Rattle.dsql_history.specs.Readers.Works.{work}
+use Rattle.dsql_history.specs.Rules.Flights.{is_in_flight, may_move, permitted}
+use Rattle.dsql_history.specs.Rules.Line.{due_for, due_in}
+use Rattle.dsql_history.specs.Rules.Settled.{Settled}
+use Rattle.dsql_history.specs.Rules.Stands.{opens, stand, stands}
+use Rattle.dsql_history.specs.Legal.{Lawful}
+use Rattle.dsql_laws.proofs.Tests.{same_number}
+use Rattle.dsql_going.specs.declared.next.Next.{Next}
 use Rattle.dsql_turn_laws.proofs.Keeping.{nobody}
 use Rattle.dsql_follows.specs.Moments.{Moment, landed, takes_permit}
 use Rattle.dsql_follows.specs.Sentences.{is_whole}

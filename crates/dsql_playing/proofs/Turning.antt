@@ -1,12 +1,12 @@
 -- Who may go on, and whose turn it is, at a moment at which the player is.
 use Rattle.std.proofs.Common.{◌≡◌, ℕ, ◌==◌, Bool, true, false, not, ◌&&◌, cond, List, [], ◌∷◌, None, refl, sym, ap, subst, ◌∙◌}
 use Rattle.dsql_journal.specs.Readers.{is_empty}
-use Rattle.dsql_clients.specs.declared.event.Event.{Event}
-use Rattle.dsql_clients.specs.Legal.{Lawful}
-use Rattle.dsql_clients.specs.Readers.Calls.{is_busy}
-use Rattle.dsql_clients.specs.Readers.Clients.{call_of, is_free}
-use Rattle.dsql_clients.specs.Rules.Flights.{is_in_flight, may_move}
-use Rattle.dsql_clients.specs.Rules.House.{chore_due}
+use Rattle.dsql_history.specs.declared.event.Event.{Event}
+use Rattle.dsql_history.specs.Legal.{Lawful}
+use Rattle.dsql_history.specs.Readers.Calls.{is_busy}
+use Rattle.dsql_history.specs.Readers.Clients.{call_of, is_free}
+use Rattle.dsql_history.specs.Rules.Flights.{is_in_flight, may_move}
+use Rattle.dsql_history.specs.Rules.House.{chore_due}
 use Rattle.dsql_end_laws.proofs.Whose.{busy_with, free_idle, idle_none}
 use Rattle.dsql_follows.specs.Moments.{Moment, is_held, kept}
 use Rattle.dsql_follows.specs.Turns.{can_move, comes_in_turn, has_run_out, is_turn_of, may_go}

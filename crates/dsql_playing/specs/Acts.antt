@@ -4,16 +4,16 @@ use Rattle.dsql_journal.specs.declared.entry.Entry.{Entry}
 use Rattle.dsql_journal.specs.declared.entry.Permit.{Permit}
 use Rattle.dsql_tenure.specs.Judged.{answered}
 use Rattle.dsql_driver.specs.declared.caps.Caps.{Caps}
-use Rattle.dsql_clients.specs.declared.event.Event.{Event}
-use Rattle.dsql_clients.specs.declared.event.Event.TheVariants.{Run}
-use Rattle.dsql_clients.specs.Rules.Flights.{is_in_flight, may_move}
-use Rattle.dsql_clients.specs.Rules.Settled.{Settled}
-use Rattle.dsql_clients.specs.Legal.{Lawful, Legal}
+use Rattle.dsql_history.specs.declared.event.Event.{Event}
+use Rattle.dsql_history.specs.declared.event.Event.TheVariants.{Run}
+use Rattle.dsql_history.specs.Rules.Flights.{is_in_flight, may_move}
+use Rattle.dsql_history.specs.Rules.Settled.{Settled}
+use Rattle.dsql_history.specs.Legal.{Lawful, Legal}
 use Rattle.dsql_follows.specs.declared.line.Line.{Line}
 use Rattle.dsql_follows.specs.Moments.{Moment}
 use Rattle.dsql_line_laws.specs.Running.{RunsOn, RunsToEnd}
-use Rattle.dsql_client_going.specs.declared.next.Next.{Next}
-use Rattle.dsql_client_going.specs.Reaching.{HasGoneOn}
+use Rattle.dsql_going.specs.declared.next.Next.{Next}
+use Rattle.dsql_going.specs.Reaching.{HasGoneOn}
 use Rattle.dsql_steps.specs.Groups.{after_heard, gone_on}
 use Rattle.dsql_seats.specs.declared.seats.KeptLine.{KeptLine}
 use Rattle.dsql_seats.specs.Seats.{Seat, seat}

@@ -4,9 +4,9 @@ use Rattle.dsql_journal.specs.declared.entry.Entry.{Entry}
 use Rattle.dsql_journal.specs.declared.entry.Permit.{Permit}
 use Rattle.dsql_journal.specs.HandlesAndCursors.{fits_at_its_place}
 use Rattle.dsql_tenure.specs.Judged.{answered}
-use Rattle.dsql_clients.specs.Readers.Journals.{journal}
-use Rattle.dsql_clients.specs.Rules.House.{chore_due}
-use Rattle.dsql_client_going.specs.Permits.{chore_permit}
+use Rattle.dsql_history.specs.Readers.Journals.{journal}
+use Rattle.dsql_history.specs.Rules.House.{chore_due}
+use Rattle.dsql_going.specs.Permits.{chore_permit}
 use Rattle.dsql_steps.specs.Groups.{most_events}
 use Rattle.dsql_playing.specs.Playing.{Playing, IsReady}
 

@@ -1,12 +1,12 @@
 -- A player, as contracts see it, and how it stands at a moment of its run.
 use Rattle.std.specs.Prelude.{ℕ, ◌≡◌, ◌≢◌, ◌<◌, Bool, true, false, cond, List, ◌∷◌, map, length, Option, Some, None}
 use Rattle.dsql_journal.specs.declared.entry.Permit.{Permit}
-use Rattle.dsql_clients.specs.declared.event.Event.{Event}
-use Rattle.dsql_clients.specs.declared.record.Flight.{Flight}
-use Rattle.dsql_clients.specs.Readers.Calls.{is_busy}
-use Rattle.dsql_clients.specs.Readers.Clients.{call_of}
-use Rattle.dsql_clients.specs.Rules.Flights.{is_in_flight}
-use Rattle.dsql_clients.specs.Legal.{Legal}
+use Rattle.dsql_history.specs.declared.event.Event.{Event}
+use Rattle.dsql_history.specs.declared.record.Flight.{Flight}
+use Rattle.dsql_history.specs.Readers.Calls.{is_busy}
+use Rattle.dsql_history.specs.Readers.Clients.{call_of}
+use Rattle.dsql_history.specs.Rules.Flights.{is_in_flight}
+use Rattle.dsql_history.specs.Legal.{Legal}
 use Rattle.dsql_follows.specs.declared.line.Line.{Line}
 use Rattle.dsql_follows.specs.declared.line.Line.TheVariants.{Client, Start}
 use Rattle.dsql_follows.specs.Moments.{Moment, kept, is_held}

@@ -3,23 +3,23 @@ use Rattle.std.specs.Prelude.{ℕ, ℤ, ◌≡◌, ◌<◌, Bool, true, false, n
 use Rattle.dsql_journal.specs.declared.entry.Entry.{Entry}
 use Rattle.dsql_journal.specs.declared.entry.Permit.{Permit}
 use Rattle.dsql_journal.specs.Readers.{is_empty}
-use Rattle.dsql_clients.specs.declared.event.Event.{Event}
-use Rattle.dsql_clients.specs.declared.event.Event.TheVariants.{Entered, Heard, SetLimit, Ended}
-use Rattle.dsql_clients.specs.declared.event.Op.{Op}
-use Rattle.dsql_clients.specs.declared.event.Setting.{Setting}
-use Rattle.dsql_clients.specs.Readers.Calls.{is_busy}
-use Rattle.dsql_clients.specs.Readers.Clients.{call_of}
-use Rattle.dsql_clients.specs.Rules.Flights.{may_move, without_flight}
-use Rattle.dsql_clients.specs.Rules.House.{chore_due}
+use Rattle.dsql_history.specs.declared.event.Event.{Event}
+use Rattle.dsql_history.specs.declared.event.Event.TheVariants.{Entered, Heard, SetLimit, Ended}
+use Rattle.dsql_history.specs.declared.event.Op.{Op}
+use Rattle.dsql_history.specs.declared.event.Setting.{Setting}
+use Rattle.dsql_history.specs.Readers.Calls.{is_busy}
+use Rattle.dsql_history.specs.Readers.Clients.{call_of}
+use Rattle.dsql_history.specs.Rules.Flights.{may_move, without_flight}
+use Rattle.dsql_history.specs.Rules.House.{chore_due}
 use Rattle.dsql_follows.specs.Moments.{Moment, met, takes_permit}
 use Rattle.dsql_follows.specs.Turns.{has_run_out, comes_in_turn}
 use Rattle.dsql_follows.specs.Sentences.{enters_now, may_enter, passed, come_in_turn}
 use Rattle.dsql_steps.specs.Groups.{after_heard}
 use Rattle.dsql_step_laws.specs.Steps.{IsStep, stepped, goes_by_itself}
 use Rattle.dsql_walk_laws.specs.Whole.{Steps}
-use Rattle.dsql_client_going.specs.Reaching.{HasGoneOn}
-use Rattle.dsql_client_going.specs.declared.next.Next.{Next}
-use Rattle.dsql_client_going.specs.declared.next.Next.TheVariants.{Send}
+use Rattle.dsql_going.specs.Reaching.{HasGoneOn}
+use Rattle.dsql_going.specs.declared.next.Next.{Next}
+use Rattle.dsql_going.specs.declared.next.Next.TheVariants.{Send}
 use Rattle.dsql_seats.specs.declared.seats.KeptLine.{KeptLine}
 use Rattle.dsql_seats.specs.Seats.{seat}
 use Rattle.dsql_playing.specs.Playing.{Playing, IsAt, KeepsLines, line_kept}

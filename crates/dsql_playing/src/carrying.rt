@@ -2,15 +2,15 @@
 
 ghost use Rattle.std.specs.Prelude.{◌≡◌, ℕ, ℤ, Bool, List, Option, true, false, None};
 ghost use Rattle.dsql_journal.specs.Readers.{is_empty};
-ghost use Rattle.dsql_clients.specs.declared.event.Event.{Event};
-ghost use Rattle.dsql_clients.specs.declared.event.Op.{Op};
-ghost use Rattle.dsql_clients.specs.declared.event.Setting.{Setting};
-ghost use Rattle.dsql_clients.specs.Readers.Calls.{is_busy};
-ghost use Rattle.dsql_clients.specs.Readers.Clients.{call_of};
-ghost use Rattle.dsql_clients.specs.Readers.Course.{has_ended};
-ghost use Rattle.dsql_clients.specs.Rules.Flights.{is_in_flight, may_move};
-ghost use Rattle.dsql_clients.specs.Rules.House.{chore_due};
-ghost use Rattle.dsql_clients.specs.Legal.{Lawful};
+ghost use Rattle.dsql_history.specs.declared.event.Event.{Event};
+ghost use Rattle.dsql_history.specs.declared.event.Op.{Op};
+ghost use Rattle.dsql_history.specs.declared.event.Setting.{Setting};
+ghost use Rattle.dsql_history.specs.Readers.Calls.{is_busy};
+ghost use Rattle.dsql_history.specs.Readers.Clients.{call_of};
+ghost use Rattle.dsql_history.specs.Readers.Course.{has_ended};
+ghost use Rattle.dsql_history.specs.Rules.Flights.{is_in_flight, may_move};
+ghost use Rattle.dsql_history.specs.Rules.House.{chore_due};
+ghost use Rattle.dsql_history.specs.Legal.{Lawful};
 ghost use Rattle.dsql_end_laws.specs.Over.{IsOver};
 ghost use Rattle.dsql_follows.specs.declared.line.Line.{Line};
 ghost use Rattle.dsql_follows.specs.declared.line.Line.TheVariants.{Client, Set, Skip, Start, Step, StepHouse};

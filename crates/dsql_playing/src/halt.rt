@@ -1,7 +1,7 @@
 ghost use Rattle.std.specs.Prelude.{◌≡◌};
 ghost use Rattle.dsql_playing.specs.declared.halt.Halt.TheVariants as halts;
 
-use dsql_client_engine::{HeardBack, NoRoom};
+use dsql_engine::{HeardBack, NoRoom};
 use dsql_value::Memory;
 
 /// Why a run stops before its end.

@@ -1,12 +1,12 @@
 //! Each act of a player is one step, and what comes in its turn. A history is read newest first.
 
 ghost use Rattle.std.specs.Prelude.{◌≡◌, ◌≢◌, ℕ, ℤ, Bool, true, false, None};
-ghost use Rattle.dsql_clients.specs.declared.event.Setting.{Setting};
-ghost use Rattle.dsql_clients.specs.Readers.Calls.{is_busy};
-ghost use Rattle.dsql_clients.specs.Rules.Flights.{without_flight};
-ghost use Rattle.dsql_clients.specs.Rules.House.{chore_due};
-ghost use Rattle.dsql_clients.specs.Legal.{Lawful};
-ghost use Rattle.dsql_client_going.specs.declared.next.Next.{Next};
+ghost use Rattle.dsql_history.specs.declared.event.Setting.{Setting};
+ghost use Rattle.dsql_history.specs.Readers.Calls.{is_busy};
+ghost use Rattle.dsql_history.specs.Rules.Flights.{without_flight};
+ghost use Rattle.dsql_history.specs.Rules.House.{chore_due};
+ghost use Rattle.dsql_history.specs.Legal.{Lawful};
+ghost use Rattle.dsql_going.specs.declared.next.Next.{Next};
 ghost use Rattle.dsql_follows.specs.Moments.{Moment};
 ghost use Rattle.dsql_follows.specs.Turns.{has_run_out, is_turn_of, may_go};
 ghost use Rattle.dsql_step_laws.specs.Steps.{IsAtRest};

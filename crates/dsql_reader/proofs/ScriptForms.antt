@@ -5,7 +5,7 @@ use Rattle.std.proofs.lemmas.Bool.{cases_Bool}
 use Rattle.std.proofs.lemmas.List.{take_all}
 use Rattle.std.proofs.lemmas.Slice.Eq.{bytes_eq-Decides}
 use Rattle.dsql_reader.specs.declared.script.Head.{Head}
-use Rattle.dsql_clients.specs.declared.event.Setting.TheVariants.{MaxOpen, MaxIdle}
+use Rattle.dsql_history.specs.declared.event.Setting.TheVariants.{MaxOpen, MaxIdle}
 use Rattle.dsql_reader.specs.ScriptLines.{form_of, limit_alone, set_line, step_line, client_line}
 
 pub other_word : (a b : List ℕ) → a ≢ b → bytes_eq a b ≡ false

@@ -5,8 +5,8 @@ use Rattle.serde_json.specs.Data.{Data}
 use Rattle.serde_json.specs.Read.{read}
 use Rattle.dsql_value.specs.declared.arg.Named.{Named}
 use Rattle.dsql_scan.specs.declared.dest.Dest.{Dest}
-use Rattle.dsql_clients.specs.declared.event.Op.{Op}
-use Rattle.dsql_clients.specs.declared.event.Op.TheVariants as op
+use Rattle.dsql_history.specs.declared.event.Op.{Op}
+use Rattle.dsql_history.specs.declared.event.Op.TheVariants as op
 use Rattle.dsql_report.specs.Dests.{dests_of}
 use Rattle.dsql_reader.specs.declared.fault.What.TheVariants.{Args}
 use Rattle.dsql_reader.specs.declared.fault.LineFault.{LineFault}

@@ -4,8 +4,8 @@ use Rattle.std.specs.List.{list_any}
 use Rattle.std.specs.Str.{bytes_eq}
 use Rattle.std.specs.Cmp.Lexicographic.{pointwise}
 use Rattle.dsql_driver.specs.declared.caps.Caps.{Caps}
-use Rattle.dsql_clients.specs.declared.event.Op.{Op}
-use Rattle.dsql_clients.specs.declared.event.Op.TheVariants.{Query}
+use Rattle.dsql_history.specs.declared.event.Op.{Op}
+use Rattle.dsql_history.specs.declared.event.Op.TheVariants.{Query}
 use Rattle.dsql_reader.specs.declared.script.Head.{Head}
 use Rattle.dsql_reader.specs.declared.script.Head.TheVariants.{First, AfterVersion, Begun}
 use Rattle.dsql_reader.specs.declared.script.ScriptLine.{ScriptLine}

@@ -20,7 +20,7 @@ mod worked;
 
 use crate::fault::{LineFault, What};
 use crate::script::{Head, ScriptLine};
-use dsql_clients::Setting;
+use dsql_history::Setting;
 use labels::Labels;
 use std::alloc::Global;
 use std::marker::Model;

@@ -1,5 +1,5 @@
-use dsql_clients::{Op, Setting};
 use dsql_driver::Caps;
+use dsql_history::{Op, Setting};
 
 /// What one line of a script says.
 #[derive(Clone, Debug, Drop)]

@@ -16,18 +16,18 @@ use Rattle.dsql_cancel.specs.declared.token.Cause.{Cause}
 use Rattle.dsql_cancel.specs.declared.token.Cause.TheVariants.{Canceled, Deadline}
 use Rattle.dsql_rows.specs.declared.end.RowsOver.{RowsOver}
 use Rattle.dsql_rows.specs.declared.end.RowsOver.TheVariants.{Close, EndOfRows, TxEnded, Cancel, Failed, BadConn, EndOfRun}
-use Rattle.dsql_history.specs.declared.reply.FaultWord.{FaultWord}
-use Rattle.dsql_history.specs.declared.reply.FaultWord.TheVariants.{FromNull, NotANumber, OutOfRange, NotABool, NotUtf8, Unsupported}
-use Rattle.dsql_clients.specs.declared.reply.Reply.{Reply}
-use Rattle.dsql_clients.specs.declared.reply.Reply.TheVariants as reply
-use Rattle.dsql_clients.specs.declared.reply.DbEnd.{DbEnd}
-use Rattle.dsql_clients.specs.declared.reply.DbEnd.TheVariants as db_end
-use Rattle.dsql_clients.specs.declared.event.Op.{Op}
-use Rattle.dsql_clients.specs.declared.event.Op.TheVariants as op
-use Rattle.dsql_clients.specs.declared.event.Setting.{Setting}
-use Rattle.dsql_clients.specs.declared.event.Setting.TheVariants.{MaxOpen, MaxIdle}
-use Rattle.dsql_clients.specs.declared.event.Event.{Event}
-use Rattle.dsql_clients.specs.declared.event.Event.TheVariants.{Run, Entered, Heard, Pool, Waits, SetLimit, Replied, Ended}
+use Rattle.dsql_work.specs.declared.fault_word.FaultWord.{FaultWord}
+use Rattle.dsql_work.specs.declared.fault_word.FaultWord.TheVariants.{FromNull, NotANumber, OutOfRange, NotABool, NotUtf8, Unsupported}
+use Rattle.dsql_history.specs.declared.reply.Reply.{Reply}
+use Rattle.dsql_history.specs.declared.reply.Reply.TheVariants as reply
+use Rattle.dsql_history.specs.declared.reply.DbEnd.{DbEnd}
+use Rattle.dsql_history.specs.declared.reply.DbEnd.TheVariants as db_end
+use Rattle.dsql_history.specs.declared.event.Op.{Op}
+use Rattle.dsql_history.specs.declared.event.Op.TheVariants as op
+use Rattle.dsql_history.specs.declared.event.Setting.{Setting}
+use Rattle.dsql_history.specs.declared.event.Setting.TheVariants.{MaxOpen, MaxIdle}
+use Rattle.dsql_history.specs.declared.event.Event.{Event}
+use Rattle.dsql_history.specs.declared.event.Event.TheVariants.{Run, Entered, Heard, Pool, Waits, SetLimit, Replied, Ended}
 use Rattle.dsql_report.specs.LineValues.{list_data, worded, natural, integer, texts_data, cells_data}
 use Rattle.dsql_report.specs.LineArgs.{statement_data}
 use Rattle.dsql_report.specs.Dests.{dests_word}

@@ -8,11 +8,11 @@ use Rattle.dsql_driver.specs.declared.answer.DriverAnswer.TheVariants as answers
 use Rattle.dsql_journal.specs.declared.entry.Owner.TheVariants.{Call, House}
 use Rattle.dsql_pool.specs.declared.moves.CloseCause.TheVariants.{DbClosed}
 use Rattle.dsql_pool.specs.declared.moves.Move.TheVariants.{OpenStart, Lend, Back, CloseStart, Gone}
-use Rattle.dsql_history.specs.Worked.Words.{all_caps}
-use Rattle.dsql_clients.specs.declared.reply.Reply.TheVariants.{Result}
-use Rattle.dsql_clients.specs.declared.event.Op.TheVariants as ops
-use Rattle.dsql_clients.specs.declared.event.Event.{Event}
-use Rattle.dsql_clients.specs.declared.event.Event.TheVariants.{Run, Entered, Heard, Pool, Replied, Ended}
+use Rattle.dsql_work.specs.Caps.{all_caps}
+use Rattle.dsql_history.specs.declared.reply.Reply.TheVariants.{Result}
+use Rattle.dsql_history.specs.declared.event.Op.TheVariants as ops
+use Rattle.dsql_history.specs.declared.event.Event.{Event}
+use Rattle.dsql_history.specs.declared.event.Event.TheVariants.{Run, Entered, Heard, Pool, Replied, Ended}
 
 -- the layer's own call on connection c in tenure t
 abbrev pub house : ℕ → ℕ → DriverCall → DriverAnswer → Event

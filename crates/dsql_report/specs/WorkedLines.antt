@@ -8,10 +8,10 @@ use Rattle.dsql_pool.specs.declared.moves.CloseCause.{CloseCause}
 use Rattle.dsql_pool.specs.declared.moves.Move.{Move}
 use Rattle.dsql_pool.specs.declared.moves.Move.TheVariants.{CloseStart}
 use Rattle.dsql_pool.specs.declared.stats.Stats.{Stats}
-use Rattle.dsql_clients.specs.declared.reply.Reply.{Reply}
-use Rattle.dsql_clients.specs.declared.event.Op.{Op}
-use Rattle.dsql_clients.specs.declared.event.Op.TheVariants.{Exec, One}
-use Rattle.dsql_clients.specs.declared.event.Event.TheVariants.{Entered, Pool, Replied}
+use Rattle.dsql_history.specs.declared.reply.Reply.{Reply}
+use Rattle.dsql_history.specs.declared.event.Op.{Op}
+use Rattle.dsql_history.specs.declared.event.Op.TheVariants.{Exec, One}
+use Rattle.dsql_history.specs.declared.event.Event.TheVariants.{Entered, Pool, Replied}
 use Rattle.dsql_report.specs.Lines.{line_of}
 use Rattle.dsql_report.specs.OneExec.{heard}
 

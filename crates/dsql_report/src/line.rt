@@ -12,7 +12,7 @@ mod parts;
 mod replies;
 mod values;
 
-use dsql_clients::Event;
+use dsql_history::Event;
 use dsql_value::{Memory, Txt};
 use events::write_event;
 use json::Writer;

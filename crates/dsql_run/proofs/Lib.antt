@@ -1,13 +1,3 @@
-pub mod Saying
-pub mod Body
+pub mod Going
+pub mod Written
 pub mod Heading
-pub mod Errors
-pub mod Reading
-pub mod WholeLines
-pub mod Showing
-pub mod Running
-pub mod Finishing
-pub mod Cutting
-pub mod Emptied
-pub mod Telling
-pub mod Asking

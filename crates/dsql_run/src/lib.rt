@@ -2,16 +2,12 @@
 #![tactic(auto)]
 
 mod carrying;
-mod laws;
-mod notes;
+mod closing;
 mod playing;
 mod program;
-mod script;
-mod show;
-mod stop;
+mod showing;
 
-pub use laws::{a_status_tells_what_stopped, lines_read_whole_come_first};
-pub use notes::tell;
+pub use dsql_outcome::tell;
+pub use dsql_script_source::Stop;
 pub use playing::play;
 pub use program::sqlrun;
-pub use stop::Stop;

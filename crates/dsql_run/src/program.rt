@@ -1,11 +1,11 @@
 ghost use Rattle.std.specs.Prelude.{◌≡◌, ◌≢◌, ◌⊎◌, true, false};
 ghost use Rattle.dsql_driver.specs.Streams.{HasRisen};
-ghost use Rattle.dsql_run.specs.Notes.{is_play, is_status};
-ghost use Rattle.dsql_run.specs.Headline.{seen, seen_notes, PlaysAndTells, PlaysWhole, RefusesWords};
+ghost use Rattle.dsql_outcome.specs.Notes.{is_play, is_status};
+ghost use Rattle.dsql_outcome.specs.Headline.{seen, seen_notes, PlaysAndTells, PlaysWhole, RefusesWords};
 
-use crate::notes::{tell, tell_usage};
 use crate::playing::{Played, play_keeping};
 use dsql_driver::{Clock, Fleet, Gate, Sink, Source};
+use dsql_outcome::{tell, tell_usage};
 use dsql_value::Txt;
 use std::alloc::Global;
 use std::mem;

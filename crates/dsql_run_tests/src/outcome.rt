@@ -1,6 +1,7 @@
 //! What a run gives, as one text.
 
-use dsql_driver::{Fleet, ListClock, OpenGate, Source, VecSink};
+use crate::driver::ToldFleet;
+use dsql_driver::{Fleet, ListClock, OpenGate, SliceSource, Source, VecSink};
 use dsql_run::sqlrun;
 use dsql_value::Txt;
 use std::alloc::Global;
@@ -38,4 +39,22 @@ pub(super) fn run_over<S: Source, F: Fleet>(
     );
     let notes = str::from_utf8(notes.bytes())?;
     outcome(alloc, status, notes, str::from_utf8(output.bytes())?)
+}
+
+/// Plays a script over streams that don't fail, and this driver.
+pub(super) fn play_over<F: Fleet>(
+    alloc: Global,
+    script: &str,
+    fleet: &mut F,
+) -> Result<String, Fail> {
+    let mut input = SliceSource::new(script.as_bytes(), 4096, &[]);
+    let mut output = VecSink::new(alloc, 4096, Vec::new(alloc));
+    let mut notes = VecSink::new(alloc, 4096, Vec::new(alloc));
+    run_over(alloc, PLAY, &mut input, &mut output, &mut notes, fleet)
+}
+
+/// Plays a script over a driver that answers as a report tells.
+pub(super) fn play_as_told(alloc: Global, script: &str, told: &str) -> Result<String, Fail> {
+    let mut fleet = ToldFleet::new(alloc, told);
+    play_over(alloc, script, &mut fleet)
 }

@@ -5,9 +5,7 @@ mod execs;
 mod open_rows;
 mod single_rows;
 
-use crate::driver::ToldFleet;
-use crate::outcome::{PLAY, outcome, run_over};
-use dsql_driver::{SliceSource, VecSink};
+use crate::outcome::{outcome, play_as_told};
 use std::alloc::Global;
 use std::test::Fail;
 
@@ -52,11 +50,7 @@ fn script_of(alloc: Global, report: &str) -> Result<String, Fail> {
 /// What a run of the script that a report shows gives, over a driver that answers as another one tells.
 fn played_again(alloc: Global, report: &str, told: &str) -> Result<String, Fail> {
     let script = script_of(alloc, report)?;
-    let mut input = SliceSource::new(script.as_bytes(), 4096, &[]);
-    let mut output = VecSink::new(alloc, 4096, Vec::new(alloc));
-    let mut notes = VecSink::new(alloc, 4096, Vec::new(alloc));
-    let mut fleet = ToldFleet::new(alloc, told);
-    run_over(alloc, PLAY, &mut input, &mut output, &mut notes, &mut fleet)
+    play_as_told(alloc, script.as_str(), told)
 }
 
 #[test]

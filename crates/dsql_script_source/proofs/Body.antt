@@ -3,8 +3,8 @@ use Rattle.std.proofs.Common.{◌≡◌, ℕ, ◌+◌, Bool, true, false, List, 
 use Rattle.std.specs.Prelude.{ℤ, if◌then◌else◌, nat_lt, nat_le, codes, Result, Ok, Err, IfOk, IfErr, IfSome}
 use Rattle.std.specs.Str.{bytes_eq, is_utf8}
 use Rattle.std.specs.Str.Lines.{strip_carriage_return}
-use Rattle.dsql_clients.specs.declared.event.Setting.{Setting}
-use Rattle.dsql_clients.specs.declared.event.Setting.TheVariants.{MaxOpen, MaxIdle}
+use Rattle.dsql_history.specs.declared.event.Setting.{Setting}
+use Rattle.dsql_history.specs.declared.event.Setting.TheVariants.{MaxOpen, MaxIdle}
 use Rattle.dsql_reader.specs.declared.fault.What.TheVariants.{Lines}
 use Rattle.dsql_reader.specs.declared.fault.LineFault.{LineFault}
 use Rattle.dsql_reader.specs.declared.fault.LineFault.TheVariants.{TooLong, NotUtf8, TooMany}

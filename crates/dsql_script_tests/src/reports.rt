@@ -1,11 +1,11 @@
 //! Events as lines of reports, with what no line of a script and no example brings.
 
 use dsql_driver::{DriverAnswer, DriverCall, Level};
-use dsql_history::{Event, FaultWord, Move, Reply};
+use dsql_history::{Event, FaultWord, Move, Reply, Setting, Stats};
 use dsql_journal::{Entry, Owner};
+use dsql_report::append_line;
 use dsql_rows::{Cause, RowsOver};
 use dsql_scan::{Cell, Cells};
-use dsql_script::append_line;
 use dsql_value::{Bin, Items, Memory, Txt, Value, Values};
 use std::alloc::Global;
 use std::test::Fail;
@@ -158,6 +158,57 @@ fn faults_of_rows_are_spelled(rt: HostRuntime) -> Result<(), Fail> {
         unscanned(FaultWord::NotABool),
         unscanned(FaultWord::NotUtf8),
         unscanned(FaultWord::Unsupported),
+    ];
+    let lines = lines_of(rt.alloc(), &events)?;
+    assert_eq!(rt; lines.as_str(), want);
+    Ok(())
+}
+
+/// The connection with the greatest number is lent in its last tenure.
+fn lent(owner: Owner, call: u32) -> Event {
+    Event::Pool(Move::Lend {
+        conn: 4_294_967_295,
+        tenure: 4_294_967_295,
+        owner,
+        call,
+    })
+}
+
+#[test]
+fn greatest_numbers_are_spelled(rt: HostRuntime) -> Result<(), Fail> {
+    let want = r#"["wait",4294967295]
+["set","maxopen",-9223372036854775808]
+["set","maxidle",9223372036854775807]
+["open",4294967295,4294967295]
+["lend",4294967295,4294967295,"call:4294967295"]
+["lend",4294967295,4294967295,"tx:4294967295"]
+["lend",4294967295,4294967295,"pin:4294967295"]
+["lend",4294967295,4294967295,"house"]
+["reply",5,["ok","stats",[18446744073709551615,18446744073709551614,3,4,5,6,7,8,9]]]
+"#;
+    let events = [
+        Event::Waits(4_294_967_295),
+        Event::SetLimit(Setting::MaxOpen, -9_223_372_036_854_775_808),
+        Event::SetLimit(Setting::MaxIdle, 9_223_372_036_854_775_807),
+        Event::Pool(Move::OpenStart {
+            conn: 4_294_967_295,
+            call: 4_294_967_295,
+        }),
+        lent(Owner::Call(4_294_967_295), 4_294_967_295),
+        lent(Owner::Tx(4_294_967_295), 4_294_967_295),
+        lent(Owner::Pin(4_294_967_295), 4_294_967_295),
+        lent(Owner::House, 0),
+        replied(Reply::Stats(Stats {
+            max_open_connections: 18_446_744_073_709_551_615,
+            open_connections: 18_446_744_073_709_551_614,
+            in_use: 3,
+            idle: 4,
+            wait_count: 5,
+            wait_duration: 6,
+            max_idle_closed: 7,
+            max_idle_time_closed: 8,
+            max_lifetime_closed: 9,
+        })),
     ];
     let lines = lines_of(rt.alloc(), &events)?;
     assert_eq!(rt; lines.as_str(), want);

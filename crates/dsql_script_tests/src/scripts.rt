@@ -3,7 +3,7 @@
 use crate::reports::lines_of;
 use dsql_driver::Caps;
 use dsql_history::{Event, Op};
-use dsql_script::{Reader, ScriptLine};
+use dsql_reader::{Reader, ScriptLine};
 use std::alloc::Global;
 use std::test::Fail;
 
@@ -43,8 +43,11 @@ c1 query r db ["a",1]
 c2 query r db ["a"]
 = label taken
 c1 query r r ["a"]
-c1 exec r ["a"]
+c1 one r i64 ["a"]
+start c1 exec r ["a"]
 = unknown label
+start c3 query r db ["a"]
+= label taken
 c2 next r
 = ["enter",2,1,"next r"]
 c1 scan r text,null:i64
@@ -87,8 +90,98 @@ caps fast_exec fast_query begin_options named pinger resetter validator
 = ["run",1,["fast_exec","fast_query","begin_options","named","pinger","resetter","validator"]]
 caps
 version 1
-start
 = no such word
+"#;
+
+/// Limits, calls that are held, steps, and calls without further words.
+const SEVERAL_CLIENTS: &str = r#"maxopen 0
+= ["set","maxopen",0]
+maxidle -9223372036854775808
+= ["set","maxidle",-9223372036854775808]
+version 1
+caps
+= no such word
+start c64 exec db ["a",1]
+= held ["enter",64,1,"exec db",["a",1]]
+start c1 one db i64,any ["a"]
+= held ["enter",1,1,"one db i64,any",["a"]]
+start c2 query r db ["a"]
+= held ["enter",2,1,"query r db",["a"]]
+start c2 next r
+= held ["enter",2,1,"next r"]
+start c1 scan r i64
+= held ["enter",1,1,"scan r i64"]
+start c1 rowsclose r
+= held ["enter",1,1,"rowsclose r"]
+start c1 err r
+= held ["enter",1,1,"err r"]
+start c1 dbclose
+= held ["enter",1,1,"dbclose"]
+start c1 stats
+= held ["enter",1,1,"stats"]
+c3 dbclose
+= ["enter",3,1,"dbclose"]
+c3 stats
+= ["enter",3,1,"stats"]
+step c1
+= step of client 1
+step c64
+= step of client 64
+step house
+= step of the layer
+#step c1
+= skipped
+"#;
+
+/// Lines for several clients that aren't read.
+const OTHER_LINES: &str = r#"maxconns 5
+Maxopen 5
+maxopen5
+maxlife 100
+start 
+start [
+start step c1
+start version 1
+start c1 
+start c0 stats
+start  c1 stats
+start # c1
+house
+steps c1
+c1 step
+c1 maxopen 5
+c1 Stats
+c1 close
+= no such word
+maxopen --5
+maxopen 5 
+maxopen  5
+maxopen 0x5
+maxopen 1e3
+maxopen 00
+maxopen -05
+maxopen ٣
+maxidle [5]
+maxidle
+maxidle 18446744073709551616
+start c1 stats 
+start c1 dbclose r
+start c1 next
+step 
+step c0
+step 1
+step c01
+step  c1
+step c1 
+step houses
+step house c1
+step c1 ["a"]
+c1 stats 
+= wrong shape
+start c1 exec db ["a",]
+= not JSON
+start c1 scan r i64
+= unknown label
 "#;
 
 /// Calls that aren't read, since their words begin no form or aren't those of one.
@@ -140,7 +233,6 @@ c1 scan r
 c1 scan r i64,
 c1 scan r i64 ["a"]
 c1 rowsclose @r
-version 3
 = wrong shape
 "#;
 
@@ -192,18 +284,26 @@ fn caps_line(alloc: Global, caps: Caps) -> Result<String, Fail> {
     lines_of(alloc, &[Event::Run { version: 1, caps }])
 }
 
-/// The line of a report that shows a call.
-fn call_line(alloc: Global, client: u8, op: Op) -> Result<String, Fail> {
-    lines_of(alloc, &[Event::Entered { client, n: 1, op }])
+/// The line of a report that shows a call, behind a word where it is held.
+fn call_line(alloc: Global, client: u8, op: Op, held: bool) -> Result<String, Fail> {
+    let line = lines_of(alloc, &[Event::Entered { client, n: 1, op }])?;
+    if held {
+        return Ok(format!(in alloc; "held {line}")?);
+    }
+    Ok(line)
 }
 
-/// What a reader makes of a line: a call and what a driver can do as the line of a report, and a refusal as its reason.
+/// What a reader makes of a line: a call, a limit and what a driver can do as the line of a report, and a refusal as its
+/// reason.
 fn told(alloc: Global, reader: &mut Reader, line: &str) -> Result<String, Fail> {
     match reader.read_line(alloc, line.as_bytes()) {
         Ok(ScriptLine::Skip) => Ok(String::from_str(alloc, "skipped\n")?),
         Ok(ScriptLine::Version(version)) => Ok(format!(in alloc; "version {version}\n")?),
         Ok(ScriptLine::UseCaps(caps)) => caps_line(alloc, caps),
-        Ok(ScriptLine::Client { client, op }) => call_line(alloc, client, op),
+        Ok(ScriptLine::Set(setting, n)) => lines_of(alloc, &[Event::SetLimit(setting, n)]),
+        Ok(ScriptLine::Client { client, op, held }) => call_line(alloc, client, op, held),
+        Ok(ScriptLine::Step(client)) => Ok(format!(in alloc; "step of client {client}\n")?),
+        Ok(ScriptLine::StepHouse) => Ok(String::from_str(alloc, "step of the layer\n")?),
         Err(fault) => Ok(format!(in alloc; "{fault}\n")?),
     }
 }
@@ -229,7 +329,15 @@ fn read_again(alloc: Global, transcript: &str) -> Result<String, Fail> {
 
 #[test]
 fn transcripts_are_those_of_a_reader(rt: HostRuntime) -> Result<(), Fail> {
-    for transcript in [CALLS, LABELS, HEAD, OTHER_WORDS, OTHER_ARRAYS] {
+    for transcript in [
+        CALLS,
+        LABELS,
+        HEAD,
+        SEVERAL_CLIENTS,
+        OTHER_WORDS,
+        OTHER_ARRAYS,
+        OTHER_LINES,
+    ] {
         let again = read_again(rt.alloc(), transcript)?;
         assert_eq!(rt; again.as_str(), transcript);
     }

@@ -3,7 +3,7 @@ ghost use Rattle.std.specs.Prelude.{◌≡◌, ◌≢◌, ◌<◌, ◌≤◌, �
 ghost use Rattle.dsql_seats.specs.Seats.{empty_seat, seat, released};
 
 use crate::at_hand::AtHand;
-use dsql_clients::Op;
+use dsql_history::Op;
 use dsql_journal::Permit;
 use dsql_value::Memory;
 use std::alloc::Global;

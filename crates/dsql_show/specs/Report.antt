@@ -1,6 +1,6 @@
 -- What was written of a report.
 use Rattle.std.specs.Prelude.{ℕ, ◌≡◌, ◌<◌, Bool, true, false, List, ◌++◌, length, take, reverse, Option, option_map, Result, Err}
-use Rattle.dsql_clients.specs.declared.event.Event.{Event}
+use Rattle.dsql_history.specs.declared.event.Event.{Event}
 use Rattle.dsql_report.specs.Lines.{text_of}
 use Rattle.dsql_show.specs.declared.showing.ShowFault.{ShowFault}
 use Rattle.dsql_show.specs.declared.showing.ShowFault.TheVariants.{Failed}

@@ -4,8 +4,8 @@ ghost use Rattle.dsql_stream.specs.Faults.{CountsFaults};
 ghost use Rattle.dsql_show.specs.Report.{Shows, StopsBetween, is_sink_fault, oldest, with_text};
 ghost use Rattle.dsql_show.specs.declared.showing.ShowFault.TheVariants as faults;
 
-use dsql_clients::Event;
 use dsql_driver::Sink;
+use dsql_history::Event;
 use dsql_report::append_line;
 use dsql_stream::{Cut, write_whole};
 use dsql_value::Memory;

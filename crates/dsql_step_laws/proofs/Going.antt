@@ -2,12 +2,12 @@
 use Rattle.std.proofs.Common.{◌≡◌, ℕ, true, false, not, List, [], ◌∷◌, ◌++◌, Some, refl, ap, sym, subst, ◌∙◌}
 use Rattle.dsql_journal.specs.Readers.{is_empty}
 use Rattle.dsql_pool.specs.declared.moves.Move.{Move}
-use Rattle.dsql_clients.specs.declared.event.Event.{Event}
-use Rattle.dsql_clients.specs.declared.event.Event.TheVariants.{Pool}
-use Rattle.dsql_clients.specs.declared.record.Flight.{Flight}
-use Rattle.dsql_clients.specs.Readers.Owed.{left_of, owed}
-use Rattle.dsql_client_laws.specs.OwedMade.{with_moves}
-use Rattle.dsql_client_laws.proofs.Tests.{same_itself}
+use Rattle.dsql_history.specs.declared.event.Event.{Event}
+use Rattle.dsql_history.specs.declared.event.Event.TheVariants.{Pool}
+use Rattle.dsql_history.specs.declared.record.Flight.{Flight}
+use Rattle.dsql_history.specs.Readers.Owed.{left_of, owed}
+use Rattle.dsql_laws.specs.OwedMade.{with_moves}
+use Rattle.dsql_laws.proofs.Tests.{same_itself}
 use Rattle.dsql_follows.specs.Moments.{Moment, Passed, Walk, at_rest, begins_step, goes_over, landed, rested, stepping, walk, with_event}
 use Rattle.dsql_follows.specs.Sentences.{oldest, is_one_step}
 use Rattle.dsql_step_laws.specs.Steps.{IsAtRest, IsStep}

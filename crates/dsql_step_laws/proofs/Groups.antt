@@ -16,19 +16,19 @@ use Rattle.dsql_pool.specs.declared.request.AskFault.{AskFault}
 use Rattle.dsql_pool.specs.declared.request.AskFault.TheVariants as faults
 use Rattle.dsql_pool.specs.Decisions.{lends_to_oldest, moves_back, when_given_back}
 use Rattle.dsql_pool.specs.Pooled.{next_tenure}
-use Rattle.dsql_clients.specs.declared.event.Event.{Event}
-use Rattle.dsql_clients.specs.declared.event.Event.TheVariants.{Entered, Heard, Pool, Waits, SetLimit, Replied, Ended}
-use Rattle.dsql_clients.specs.declared.event.Op.{Op}
-use Rattle.dsql_clients.specs.declared.event.Setting.{Setting}
-use Rattle.dsql_clients.specs.declared.reply.Reply.{Reply}
-use Rattle.dsql_clients.specs.declared.reply.Reply.TheVariants.{TooMany}
-use Rattle.dsql_clients.specs.Readers.Calls.{next_call, reply_due}
-use Rattle.dsql_clients.specs.Readers.Owed.{answered, fate, given_back, left_of, owed}
-use Rattle.dsql_clients.specs.Readers.Pool.{place, pool}
-use Rattle.dsql_clients.specs.Rules.Asking.{ask_outcome, may_ask}
-use Rattle.dsql_clients.specs.Rules.Line.{is_used}
-use Rattle.dsql_client_laws.specs.OwedMade.{with_moves}
-use Rattle.dsql_client_laws.proofs.Tests.{same_itself, same_number}
+use Rattle.dsql_history.specs.declared.event.Event.{Event}
+use Rattle.dsql_history.specs.declared.event.Event.TheVariants.{Entered, Heard, Pool, Waits, SetLimit, Replied, Ended}
+use Rattle.dsql_history.specs.declared.event.Op.{Op}
+use Rattle.dsql_history.specs.declared.event.Setting.{Setting}
+use Rattle.dsql_history.specs.declared.reply.Reply.{Reply}
+use Rattle.dsql_history.specs.declared.reply.Reply.TheVariants.{TooMany}
+use Rattle.dsql_history.specs.Readers.Calls.{next_call, reply_due}
+use Rattle.dsql_history.specs.Readers.Owed.{answered, fate, given_back, left_of, owed}
+use Rattle.dsql_history.specs.Readers.Pool.{place, pool}
+use Rattle.dsql_history.specs.Rules.Asking.{ask_outcome, may_ask}
+use Rattle.dsql_history.specs.Rules.Line.{is_used}
+use Rattle.dsql_laws.specs.OwedMade.{with_moves}
+use Rattle.dsql_laws.proofs.Tests.{same_itself, same_number}
 use Rattle.dsql_follows.specs.Moments.{Moment, begins_step, landed, stepping}
 use Rattle.dsql_steps.specs.Groups.{after_enter, after_end, after_heard, after_set, after_settling, asked_so, gone_on, heard_at, let_go, sends_nothing, with_owed}
 use Rattle.dsql_step_laws.specs.Steps.{IsAtRest, MakesStep, GoesByItself, goes_by_itself}

@@ -1,10 +1,10 @@
 -- One step of the layer's core, as the sentences on the parts of a script see it.
 use Rattle.std.specs.Prelude.{◌≡◌, ℕ, ◌==◌, Bool, true, false, List, ◌++◌, Some}
 use Rattle.dsql_pool.specs.declared.moves.Move.TheVariants.{OpenStart, Lend}
-use Rattle.dsql_clients.specs.declared.event.Event.{Event}
-use Rattle.dsql_clients.specs.declared.event.Event.TheVariants.{Pool, Waits, Replied}
-use Rattle.dsql_clients.specs.Rules.Flights.{permitted}
-use Rattle.dsql_clients.specs.Rules.Stands.{stand}
+use Rattle.dsql_history.specs.declared.event.Event.{Event}
+use Rattle.dsql_history.specs.declared.event.Event.TheVariants.{Pool, Waits, Replied}
+use Rattle.dsql_history.specs.Rules.Flights.{permitted}
+use Rattle.dsql_history.specs.Rules.Stands.{stand}
 use Rattle.dsql_follows.specs.Moments.{Moment, at_rest, landed, after_events}
 use Rattle.dsql_follows.specs.Sentences.{passed, oldest, is_one_step}
 

@@ -2,11 +2,11 @@
 
 ghost use Rattle.std.specs.Prelude.{◌≡◌, ◌==◌, ◌⊎◌, [], ℕ, ℤ, false};
 ghost use Rattle.dsql_journal.specs.declared.entry.Entry.{Entry};
-ghost use Rattle.dsql_clients.specs.declared.event.Event.TheVariants.{Entered, Heard, SetLimit, Ended};
-ghost use Rattle.dsql_clients.specs.declared.event.Op.{Op};
-ghost use Rattle.dsql_clients.specs.declared.event.Setting.{Setting};
-ghost use Rattle.dsql_clients.specs.Readers.Calls.{next_call};
-ghost use Rattle.dsql_clients.specs.Readers.Owed.{owed};
+ghost use Rattle.dsql_history.specs.declared.event.Event.TheVariants.{Entered, Heard, SetLimit, Ended};
+ghost use Rattle.dsql_history.specs.declared.event.Op.{Op};
+ghost use Rattle.dsql_history.specs.declared.event.Setting.{Setting};
+ghost use Rattle.dsql_history.specs.Readers.Calls.{next_call};
+ghost use Rattle.dsql_history.specs.Readers.Owed.{owed};
 ghost use Rattle.dsql_follows.specs.Moments.{Moment};
 ghost use Rattle.dsql_steps.specs.Groups.{after_enter, after_heard, after_set, after_end, gone_on};
 ghost use Rattle.dsql_step_laws.specs.Steps.{IsAtRest, MakesStep, GoesByItself};

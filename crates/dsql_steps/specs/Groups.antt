@@ -7,20 +7,20 @@ use Rattle.dsql_pool.specs.declared.conn.Place.TheVariants.{Lent}
 use Rattle.dsql_pool.specs.declared.request.Asked.{Asked}
 use Rattle.dsql_pool.specs.declared.request.AskFault.{AskFault}
 use Rattle.dsql_pool.specs.declared.request.AskFault.TheVariants as faults
-use Rattle.dsql_clients.specs.declared.event.Event.{Event}
-use Rattle.dsql_clients.specs.declared.event.Event.TheVariants.{Entered, Heard, SetLimit, Replied, Ended}
-use Rattle.dsql_clients.specs.declared.event.Op.{Op}
-use Rattle.dsql_clients.specs.declared.event.Setting.{Setting}
-use Rattle.dsql_clients.specs.declared.reply.Reply.{Reply}
-use Rattle.dsql_clients.specs.declared.reply.Reply.TheVariants.{TooMany}
-use Rattle.dsql_clients.specs.Readers.Unfinished.{is_unfinished}
-use Rattle.dsql_clients.specs.Readers.Pool.{place}
-use Rattle.dsql_clients.specs.Readers.Owed.{given_back, owed}
-use Rattle.dsql_clients.specs.Readers.Calls.{next_call, reply_due}
-use Rattle.dsql_clients.specs.Rules.Asking.{may_ask, ask_outcome}
-use Rattle.dsql_clients.specs.Rules.Line.{due_for, is_used}
-use Rattle.dsql_client_laws.specs.Asked.{with_asked}
-use Rattle.dsql_client_laws.specs.OwedMade.{with_moves}
+use Rattle.dsql_history.specs.declared.event.Event.{Event}
+use Rattle.dsql_history.specs.declared.event.Event.TheVariants.{Entered, Heard, SetLimit, Replied, Ended}
+use Rattle.dsql_history.specs.declared.event.Op.{Op}
+use Rattle.dsql_history.specs.declared.event.Setting.{Setting}
+use Rattle.dsql_history.specs.declared.reply.Reply.{Reply}
+use Rattle.dsql_history.specs.declared.reply.Reply.TheVariants.{TooMany}
+use Rattle.dsql_history.specs.Readers.Unfinished.{is_unfinished}
+use Rattle.dsql_history.specs.Readers.Pool.{place}
+use Rattle.dsql_history.specs.Readers.Owed.{given_back, owed}
+use Rattle.dsql_history.specs.Readers.Calls.{next_call, reply_due}
+use Rattle.dsql_history.specs.Rules.Asking.{may_ask, ask_outcome}
+use Rattle.dsql_history.specs.Rules.Line.{due_for, is_used}
+use Rattle.dsql_laws.specs.Asked.{with_asked}
+use Rattle.dsql_laws.specs.OwedMade.{with_moves}
 
 -- the moves come that the pool owes
 abbrev pub with_owed : List Event → List Event

@@ -1,8 +1,8 @@
 //! Laws of steps: each law is the contract of a function that does nothing. A history is read newest first.
 
 ghost use Rattle.std.specs.Prelude.{◌≡◌, ◌∷◌, ℕ, false, List};
-ghost use Rattle.dsql_clients.specs.declared.event.Event.{Event};
-ghost use Rattle.dsql_clients.specs.Readers.Unfinished.{is_unfinished};
+ghost use Rattle.dsql_history.specs.declared.event.Event.{Event};
+ghost use Rattle.dsql_history.specs.Readers.Unfinished.{is_unfinished};
 ghost use Rattle.dsql_steps.specs.Groups.{gone_on};
 
 /// Who has no call under way doesn't go on.

@@ -10,28 +10,28 @@ use Rattle.dsql_pool.specs.Calls.{wants}
 use Rattle.dsql_pool.specs.Places.{is_for}
 use Rattle.dsql_pool.specs.declared.conn.Place.{Place}
 use Rattle.dsql_pool.specs.declared.conn.Place.TheVariants.{Idle, Lent, Opening, Closing}
-use Rattle.dsql_clients.specs.declared.event.Event.{Event}
-use Rattle.dsql_clients.specs.declared.record.Flight.{Flight}
-use Rattle.dsql_clients.specs.declared.record.Stand.{Stand}
-use Rattle.dsql_clients.specs.declared.record.Stand.TheVariants.{Waits, Opens, Sends, Replies}
-use Rattle.dsql_clients.specs.Readers.Calls.{decided, site, told_by_others}
-use Rattle.dsql_clients.specs.Readers.Pool.{place, pool}
-use Rattle.dsql_clients.specs.Readers.Unfinished.{is_unfinished}
-use Rattle.dsql_clients.specs.Rules.Flights.{has_flight, is_in_flight, permitted}
-use Rattle.dsql_clients.specs.Rules.Line.{due_for}
-use Rattle.dsql_clients.specs.Rules.Stands.{stand, stands}
-use Rattle.dsql_clients.specs.Legal.{Lawful}
-use Rattle.dsql_client_laws.proofs.Numbered.{unfinished_from_one}
-use Rattle.dsql_client_laws.proofs.Standing.{neither, none_opens, stands_sending}
-use Rattle.dsql_client_laws.proofs.Tests.{together}
-use Rattle.dsql_client_others.proofs.Untouched.{or_second}
-use Rattle.dsql_client_going.specs.Answers.{next_for, sends_unless, why_blocked}
-use Rattle.dsql_client_going.specs.Permits.{permit_for, sent_at}
-use Rattle.dsql_client_going.specs.Reaching.{HasGoneOn}
-use Rattle.dsql_client_going.specs.Stepping.{are_of_unfinished}
-use Rattle.dsql_client_going.specs.declared.next.Next.{Next}
-use Rattle.dsql_client_going.specs.declared.next.Next.TheVariants as nexts
-use Rattle.dsql_client_going.proofs.Standing.{unsent_flights}
+use Rattle.dsql_history.specs.declared.event.Event.{Event}
+use Rattle.dsql_history.specs.declared.record.Flight.{Flight}
+use Rattle.dsql_history.specs.declared.record.Stand.{Stand}
+use Rattle.dsql_history.specs.declared.record.Stand.TheVariants.{Waits, Opens, Sends, Replies}
+use Rattle.dsql_history.specs.Readers.Calls.{decided, site, told_by_others}
+use Rattle.dsql_history.specs.Readers.Pool.{place, pool}
+use Rattle.dsql_history.specs.Readers.Unfinished.{is_unfinished}
+use Rattle.dsql_history.specs.Rules.Flights.{has_flight, is_in_flight, permitted}
+use Rattle.dsql_history.specs.Rules.Line.{due_for}
+use Rattle.dsql_history.specs.Rules.Stands.{stand, stands}
+use Rattle.dsql_history.specs.Legal.{Lawful}
+use Rattle.dsql_laws.proofs.Numbered.{unfinished_from_one}
+use Rattle.dsql_laws.proofs.Standing.{neither, none_opens, stands_sending}
+use Rattle.dsql_laws.proofs.Tests.{together}
+use Rattle.dsql_other_laws.proofs.Untouched.{or_second}
+use Rattle.dsql_going.specs.Answers.{next_for, sends_unless, why_blocked}
+use Rattle.dsql_going.specs.Permits.{permit_for, sent_at}
+use Rattle.dsql_going.specs.Reaching.{HasGoneOn}
+use Rattle.dsql_going.specs.Stepping.{are_of_unfinished}
+use Rattle.dsql_going.specs.declared.next.Next.{Next}
+use Rattle.dsql_going.specs.declared.next.Next.TheVariants as nexts
+use Rattle.dsql_going.proofs.Standing.{unsent_flights}
 use Rattle.dsql_turn_laws.specs.Turns.{Flying, flies, is_apart, keeps_turn, sender_at}
 use Rattle.dsql_turn_laws.proofs.Flights.{apart_permitted, begins, flies_on}
 use Rattle.dsql_turn_laws.proofs.Keeping.{FlyingBut}

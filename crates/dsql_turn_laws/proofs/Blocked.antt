@@ -2,22 +2,22 @@
 use Rattle.std.proofs.Common.{◌≡◌, ℕ, Bool, true, false, cond, List, Option, Some, None, is_some, refl, ap, ◌∙◌}
 use Rattle.std.specs.Option.{option_map}
 use Rattle.dsql_journal.specs.declared.entry.Permit.{Permit}
-use Rattle.dsql_clients.specs.declared.event.Event.{Event}
-use Rattle.dsql_clients.specs.declared.record.Flight.{Flight}
-use Rattle.dsql_clients.specs.declared.record.Stand.{Stand}
-use Rattle.dsql_clients.specs.declared.record.Stand.TheVariants.{Waits, Opens, Sends, Replies}
-use Rattle.dsql_clients.specs.Readers.Unfinished.{is_unfinished}
-use Rattle.dsql_clients.specs.Rules.Flights.{is_taken, permitted}
-use Rattle.dsql_clients.specs.Rules.Line.{due_for}
-use Rattle.dsql_clients.specs.Rules.Stands.{stand}
-use Rattle.dsql_client_going.specs.Answers.{sends_unless, why_blocked}
-use Rattle.dsql_client_going.specs.Permits.{permit_for}
-use Rattle.dsql_client_going.specs.Reaching.{HasGoneOn}
-use Rattle.dsql_client_going.specs.declared.next.Next.{Next}
-use Rattle.dsql_client_going.specs.declared.next.Next.TheVariants.{Send, Blocked, Reply}
-use Rattle.dsql_client_going.specs.declared.next.Why.{Why}
-use Rattle.dsql_client_going.specs.declared.next.Why.TheVariants.{Turn}
-use Rattle.dsql_client_going.proofs.Standing.{taken_stays, unsent_flights}
+use Rattle.dsql_history.specs.declared.event.Event.{Event}
+use Rattle.dsql_history.specs.declared.record.Flight.{Flight}
+use Rattle.dsql_history.specs.declared.record.Stand.{Stand}
+use Rattle.dsql_history.specs.declared.record.Stand.TheVariants.{Waits, Opens, Sends, Replies}
+use Rattle.dsql_history.specs.Readers.Unfinished.{is_unfinished}
+use Rattle.dsql_history.specs.Rules.Flights.{is_taken, permitted}
+use Rattle.dsql_history.specs.Rules.Line.{due_for}
+use Rattle.dsql_history.specs.Rules.Stands.{stand}
+use Rattle.dsql_going.specs.Answers.{sends_unless, why_blocked}
+use Rattle.dsql_going.specs.Permits.{permit_for}
+use Rattle.dsql_going.specs.Reaching.{HasGoneOn}
+use Rattle.dsql_going.specs.declared.next.Next.{Next}
+use Rattle.dsql_going.specs.declared.next.Next.TheVariants.{Send, Blocked, Reply}
+use Rattle.dsql_going.specs.declared.next.Why.{Why}
+use Rattle.dsql_going.specs.declared.next.Why.TheVariants.{Turn}
+use Rattle.dsql_going.proofs.Standing.{taken_stays, unsent_flights}
 
 -- no driver call is to be made
 abbrev is_still : Next → Bool

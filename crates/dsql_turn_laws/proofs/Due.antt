@@ -23,23 +23,23 @@ use Rattle.dsql_journal.specs.declared.entry.Entry.{Entry}
 use Rattle.dsql_journal.specs.declared.entry.Owner.TheVariants.{Call, Tx, Pin, House}
 use Rattle.dsql_pool.specs.declared.conn.Place.{Place}
 use Rattle.dsql_pool.specs.declared.conn.Place.TheVariants.{Idle, Lent, Opening, Closing}
-use Rattle.dsql_history.specs.declared.work.Aim.{Aim}
-use Rattle.dsql_history.specs.declared.work.Aim.TheVariants as aims
-use Rattle.dsql_history.specs.declared.work.Work.{Work}
-use Rattle.dsql_history.specs.declared.work.Work.TheVariants.{Execute, ReadOne, HandOut, Fetch, Close, Look}
-use Rattle.dsql_history.specs.Readers.Exchanges.{exchanges}
-use Rattle.dsql_history.specs.Rules.Line.{Asked, body_after, body_with, course_of, going_on, handed, is_due, line_after, run_for, sent_as, sent_over, test_of}
-use Rattle.dsql_history.specs.Same.{same_name, same_params, same_truth, same_value}
-use Rattle.dsql_clients.specs.declared.event.Event.{Event}
-use Rattle.dsql_clients.specs.Readers.Course.{caps}
-use Rattle.dsql_clients.specs.Readers.Journals.{heard_in}
-use Rattle.dsql_clients.specs.Readers.Pool.{home, place}
-use Rattle.dsql_clients.specs.Readers.Unfinished.{is_unfinished}
-use Rattle.dsql_clients.specs.Readers.Works.{work}
-use Rattle.dsql_clients.specs.Rules.Line.{asked_by, due_for, due_in, is_reset_due, line_at, line_of, sent_for, wish}
-use Rattle.dsql_laws.proofs.CallLines.{is_sent}
-use Rattle.dsql_laws.proofs.Lines.{sent_of}
-use Rattle.dsql_client_laws.proofs.Tests.{same_itself}
+use Rattle.dsql_work.specs.declared.work.Aim.{Aim}
+use Rattle.dsql_work.specs.declared.work.Aim.TheVariants as aims
+use Rattle.dsql_work.specs.declared.work.Work.{Work}
+use Rattle.dsql_work.specs.declared.work.Work.TheVariants.{Execute, ReadOne, HandOut, Fetch, Close, Look}
+use Rattle.dsql_work.specs.Exchanges.{exchanges}
+use Rattle.dsql_work.specs.Line.{Asked, body_after, body_with, course_of, going_on, handed, is_due, line_after, run_for, sent_as, sent_over, test_of}
+use Rattle.dsql_work.specs.Same.{same_name, same_params, same_truth, same_value}
+use Rattle.dsql_history.specs.declared.event.Event.{Event}
+use Rattle.dsql_history.specs.Readers.Course.{caps}
+use Rattle.dsql_history.specs.Readers.Journals.{heard_in}
+use Rattle.dsql_history.specs.Readers.Pool.{home, place}
+use Rattle.dsql_history.specs.Readers.Unfinished.{is_unfinished}
+use Rattle.dsql_history.specs.Readers.Works.{work}
+use Rattle.dsql_history.specs.Rules.Line.{asked_by, due_for, due_in, is_reset_due, line_at, line_of, sent_for, wish}
+use Rattle.dsql_work_laws.proofs.CallLines.{is_sent}
+use Rattle.dsql_work_laws.proofs.Lines.{sent_of}
+use Rattle.dsql_laws.proofs.Tests.{same_itself}
 
 bytes_itself : (xs : List ℕ) → bytes_eq xs xs ≡ true
 bytes_itself [] = refl

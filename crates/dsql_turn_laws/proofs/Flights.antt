@@ -3,12 +3,12 @@ use Rattle.std.proofs.Common.{◌≡◌, ◌≢◌, ℕ, ◌==◌, Bool, true, f
 use Rattle.std.specs.List.{list_any}
 use Rattle.std.proofs.lemmas.Bool.Decides.{nat_tests}
 use Rattle.std.proofs.lemmas.List.Folds.{list_any-append}
-use Rattle.dsql_clients.specs.declared.record.Flight.{Flight}
-use Rattle.dsql_clients.specs.declared.record.Stand.{Stand}
-use Rattle.dsql_clients.specs.declared.record.Stand.TheVariants.{Waits, Opens, Sends, Replies}
-use Rattle.dsql_clients.specs.Rules.Flights.{has_flight, is_in_flight, is_taken, permitted, without_flight}
-use Rattle.dsql_client_laws.proofs.Standing.{neither}
-use Rattle.dsql_client_laws.proofs.Tests.{both, same_number}
+use Rattle.dsql_history.specs.declared.record.Flight.{Flight}
+use Rattle.dsql_history.specs.declared.record.Stand.{Stand}
+use Rattle.dsql_history.specs.declared.record.Stand.TheVariants.{Waits, Opens, Sends, Replies}
+use Rattle.dsql_history.specs.Rules.Flights.{has_flight, is_in_flight, is_taken, permitted, without_flight}
+use Rattle.dsql_laws.proofs.Standing.{neither}
+use Rattle.dsql_laws.proofs.Tests.{both, same_number}
 use Rattle.dsql_turn_laws.specs.Turns.{flies, is_apart}
 
 -- it is under way, so its call and its connection have one

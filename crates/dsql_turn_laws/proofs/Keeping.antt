@@ -4,20 +4,20 @@ use Rattle.std.specs.List.{list_all}
 use Rattle.std.proofs.lemmas.Bool.Decides.{nat_tests}
 use Rattle.dsql_journal.specs.declared.entry.Entry.{Entry}
 use Rattle.dsql_pool.proofs.Rows.{all_filter, all_pass}
-use Rattle.dsql_clients.specs.declared.event.Event.{Event}
-use Rattle.dsql_clients.specs.declared.event.Event.TheVariants.{Run, Entered, Heard, Pool, Waits, SetLimit, Replied, Ended}
-use Rattle.dsql_clients.specs.declared.record.Flight.{Flight}
-use Rattle.dsql_clients.specs.declared.reply.Reply.{Reply}
-use Rattle.dsql_clients.specs.Readers.Unfinished.{is_unfinished}
-use Rattle.dsql_clients.specs.Rules.Flights.{is_in_flight, without_flight}
-use Rattle.dsql_clients.specs.Legal.{Lawful}
-use Rattle.dsql_client_laws.proofs.Numbered.{unfinished_from_one}
-use Rattle.dsql_client_laws.proofs.Standing.{neither}
-use Rattle.dsql_client_laws.proofs.Tests.{both, same_number, together}
-use Rattle.dsql_client_lines.proofs.Invariant.{is_answer}
-use Rattle.dsql_client_calls.proofs.Lists.{same_or_not}
-use Rattle.dsql_client_calls.proofs.Works.{as_many, enters_next, enters_unfinished, old_unfinished, stays_unfinished, still_unfinished}
-use Rattle.dsql_client_going.specs.Stepping.{are_of_unfinished}
+use Rattle.dsql_history.specs.declared.event.Event.{Event}
+use Rattle.dsql_history.specs.declared.event.Event.TheVariants.{Run, Entered, Heard, Pool, Waits, SetLimit, Replied, Ended}
+use Rattle.dsql_history.specs.declared.record.Flight.{Flight}
+use Rattle.dsql_history.specs.declared.reply.Reply.{Reply}
+use Rattle.dsql_history.specs.Readers.Unfinished.{is_unfinished}
+use Rattle.dsql_history.specs.Rules.Flights.{is_in_flight, without_flight}
+use Rattle.dsql_history.specs.Legal.{Lawful}
+use Rattle.dsql_laws.proofs.Numbered.{unfinished_from_one}
+use Rattle.dsql_laws.proofs.Standing.{neither}
+use Rattle.dsql_laws.proofs.Tests.{both, same_number, together}
+use Rattle.dsql_sending_laws.proofs.Invariant.{is_answer}
+use Rattle.dsql_call_laws.proofs.Lists.{same_or_not}
+use Rattle.dsql_call_laws.proofs.Works.{as_many, enters_next, enters_unfinished, old_unfinished, stays_unfinished, still_unfinished}
+use Rattle.dsql_going.specs.Stepping.{are_of_unfinished}
 use Rattle.dsql_walk_laws.specs.Groups.{is_later_of}
 use Rattle.dsql_turn_laws.specs.Turns.{Flying, flies, is_apart, keeps_turn, sender_at}
 use Rattle.dsql_turn_laws.proofs.Flights.{apart_landed, flies_landed, one_place}

@@ -13,17 +13,17 @@ use Rattle.dsql_pool.specs.declared.request.Asked.{Asked}
 use Rattle.dsql_pool.specs.declared.request.Asked.TheVariants as asked
 use Rattle.dsql_pool.specs.declared.request.AskFault.{AskFault}
 use Rattle.dsql_pool.specs.declared.request.AskFault.TheVariants as faults
-use Rattle.dsql_clients.specs.declared.event.Event.{Event}
-use Rattle.dsql_clients.specs.declared.event.Event.TheVariants.{Heard, Pool}
-use Rattle.dsql_clients.specs.declared.reply.Reply.{Reply}
-use Rattle.dsql_clients.specs.Readers.Calls.{reply_due}
-use Rattle.dsql_clients.specs.Readers.Owed.{given_back, owed}
-use Rattle.dsql_clients.specs.Rules.Asking.{ask_outcome, may_ask}
-use Rattle.dsql_clients.specs.Rules.Line.{is_used}
-use Rattle.dsql_clients.specs.Legal.{Lawful}
-use Rattle.dsql_client_laws.specs.OwedMade.{with_moves}
-use Rattle.dsql_client_laws.proofs.Splits.{Lawful-older}
-use Rattle.dsql_client_laws.proofs.Tests.{same_itself, together}
+use Rattle.dsql_history.specs.declared.event.Event.{Event}
+use Rattle.dsql_history.specs.declared.event.Event.TheVariants.{Heard, Pool}
+use Rattle.dsql_history.specs.declared.reply.Reply.{Reply}
+use Rattle.dsql_history.specs.Readers.Calls.{reply_due}
+use Rattle.dsql_history.specs.Readers.Owed.{given_back, owed}
+use Rattle.dsql_history.specs.Rules.Asking.{ask_outcome, may_ask}
+use Rattle.dsql_history.specs.Rules.Line.{is_used}
+use Rattle.dsql_history.specs.Legal.{Lawful}
+use Rattle.dsql_laws.specs.OwedMade.{with_moves}
+use Rattle.dsql_laws.proofs.Splits.{Lawful-older}
+use Rattle.dsql_laws.proofs.Tests.{same_itself, together}
 use Rattle.dsql_steps.specs.Groups.{after_settling, asked_so, gone_on, heard_at, let_go, sends_nothing, with_owed}
 use Rattle.dsql_walk_laws.specs.Groups.{is_later_of}
 

@@ -19,23 +19,23 @@ use Rattle.dsql_tenure.proofs.Standing.{beginning-more}
 use Rattle.dsql_wire.specs.Journaled.{MayBeSent}
 use Rattle.dsql_pool.specs.declared.conn.Place.{Place}
 use Rattle.dsql_pool.specs.declared.conn.Place.TheVariants.{Lent}
-use Rattle.dsql_clients.specs.declared.event.Event.{Event}
-use Rattle.dsql_clients.specs.declared.event.Event.TheVariants.{Run, Entered, Heard, Pool, Waits, SetLimit, Replied, Ended}
-use Rattle.dsql_clients.specs.Readers.Journals.{journal}
-use Rattle.dsql_clients.specs.Readers.Pool.{place, pool}
-use Rattle.dsql_clients.specs.Rules.Line.{parts, sends_from}
-use Rattle.dsql_clients.specs.Rules.Moves.{hears_in}
-use Rattle.dsql_clients.specs.Legal.{Lawful}
-use Rattle.dsql_client_laws.proofs.Journals.{keeps_journals_of}
-use Rattle.dsql_client_laws.proofs.Tests.{both, other_number, same_itself, same_number, together}
-use Rattle.dsql_client_laws.proofs.Welcome.{stays_welcome}
-use Rattle.dsql_client_lendings.proofs.Lent.{stays_lent}
-use Rattle.dsql_client_lines.proofs.Following.{follows_due}
-use Rattle.dsql_client_lines.proofs.Invariant.{coming_used}
-use Rattle.dsql_client_lines.proofs.Lines.{line_in}
-use Rattle.dsql_client_lines.proofs.Sound.{sound}
-use Rattle.dsql_client_lines.proofs.UnderWay.{UnderWay}
-use Rattle.dsql_client_hearing.specs.Hearing.{IsWelcome}
+use Rattle.dsql_history.specs.declared.event.Event.{Event}
+use Rattle.dsql_history.specs.declared.event.Event.TheVariants.{Run, Entered, Heard, Pool, Waits, SetLimit, Replied, Ended}
+use Rattle.dsql_history.specs.Readers.Journals.{journal}
+use Rattle.dsql_history.specs.Readers.Pool.{place, pool}
+use Rattle.dsql_history.specs.Rules.Line.{parts, sends_from}
+use Rattle.dsql_history.specs.Rules.Moves.{hears_in}
+use Rattle.dsql_history.specs.Legal.{Lawful}
+use Rattle.dsql_laws.proofs.Journals.{keeps_journals_of}
+use Rattle.dsql_laws.proofs.Tests.{both, other_number, same_itself, same_number, together}
+use Rattle.dsql_laws.proofs.Welcome.{stays_welcome}
+use Rattle.dsql_lending_laws.proofs.Lent.{stays_lent}
+use Rattle.dsql_sending_laws.proofs.Following.{follows_due}
+use Rattle.dsql_sending_laws.proofs.Invariant.{coming_used}
+use Rattle.dsql_sending_laws.proofs.Lines.{line_in}
+use Rattle.dsql_sending_laws.proofs.Sound.{sound}
+use Rattle.dsql_sending_laws.proofs.UnderWay.{UnderWay}
+use Rattle.dsql_hearing.specs.Hearing.{IsWelcome}
 use Rattle.dsql_walk_laws.specs.Groups.{is_later_of}
 use Rattle.dsql_turn_laws.specs.Leaves.{IsLeave}
 use Rattle.dsql_turn_laws.proofs.Due.{due_of_call}

@@ -8,31 +8,31 @@ use Rattle.dsql_pool.specs.declared.conn.Place.{Place}
 use Rattle.dsql_pool.specs.declared.conn.Place.TheVariants.{Idle, Lent, Opening, Closing}
 use Rattle.dsql_pool.specs.declared.moves.Move.TheVariants.{Lend}
 use Rattle.dsql_pool.specs.Calls.{wants}
-use Rattle.dsql_history.specs.declared.work.Work.{Work}
-use Rattle.dsql_history.specs.declared.work.Work.TheVariants.{Execute, ReadOne, HandOut, Fetch, Close, Look}
-use Rattle.dsql_history.specs.Readers.Works.{asks, user_of}
-use Rattle.dsql_clients.specs.declared.event.Event.{Event}
-use Rattle.dsql_clients.specs.declared.event.Event.TheVariants.{Run, Entered, Heard, Pool, Waits, SetLimit, Replied, Ended}
-use Rattle.dsql_clients.specs.Readers.Calls.{site, user}
-use Rattle.dsql_clients.specs.Readers.Journals.{heard_in, journal}
-use Rattle.dsql_clients.specs.Readers.Pool.{home, place, pool}
-use Rattle.dsql_clients.specs.Readers.Works.{work, work_of, works}
-use Rattle.dsql_clients.specs.Rules.Line.{may_come, newest_sender, sends_from}
-use Rattle.dsql_clients.specs.Legal.{Allowed, Lawful}
-use Rattle.dsql_client_laws.proofs.Numbered.{some_calls}
-use Rattle.dsql_client_laws.proofs.Tests.{same_number}
-use Rattle.dsql_client_laws.proofs.Wanting.{none_wanted, wants_its_own}
-use Rattle.dsql_client_lendings.proofs.Lent.{lent_before}
-use Rattle.dsql_client_lendings.proofs.Owners.{at_home, owner_is_call}
-use Rattle.dsql_client_lendings.proofs.Wanted.{lent_wants_none}
-use Rattle.dsql_client_lines.specs.UnderWay.{StaysWithItsCall}
-use Rattle.dsql_client_lines.proofs.Answered.{heard_facts, same_lent}
-use Rattle.dsql_client_lines.proofs.Following.{stays_with_its_call}
-use Rattle.dsql_client_lines.proofs.Invariant.{fresh_lending, heard_same, is_answer}
-use Rattle.dsql_client_lines.proofs.Sound.{sound}
-use Rattle.dsql_client_calls.proofs.Lists.{same_or_not}
-use Rattle.dsql_client_calls.proofs.Works.{as_many, enters_next, old_work}
-use Rattle.dsql_client_desk.proofs.Known.{unfinished_known}
+use Rattle.dsql_work.specs.declared.work.Work.{Work}
+use Rattle.dsql_work.specs.declared.work.Work.TheVariants.{Execute, ReadOne, HandOut, Fetch, Close, Look}
+use Rattle.dsql_work.specs.Works.{asks, user_of}
+use Rattle.dsql_history.specs.declared.event.Event.{Event}
+use Rattle.dsql_history.specs.declared.event.Event.TheVariants.{Run, Entered, Heard, Pool, Waits, SetLimit, Replied, Ended}
+use Rattle.dsql_history.specs.Readers.Calls.{site, user}
+use Rattle.dsql_history.specs.Readers.Journals.{heard_in, journal}
+use Rattle.dsql_history.specs.Readers.Pool.{home, place, pool}
+use Rattle.dsql_history.specs.Readers.Works.{work, work_of, works}
+use Rattle.dsql_history.specs.Rules.Line.{may_come, newest_sender, sends_from}
+use Rattle.dsql_history.specs.Legal.{Allowed, Lawful}
+use Rattle.dsql_laws.proofs.Numbered.{some_calls}
+use Rattle.dsql_laws.proofs.Tests.{same_number}
+use Rattle.dsql_laws.proofs.Wanting.{none_wanted, wants_its_own}
+use Rattle.dsql_lending_laws.proofs.Lent.{lent_before}
+use Rattle.dsql_lending_laws.proofs.Owners.{at_home, owner_is_call}
+use Rattle.dsql_lending_laws.proofs.Wanted.{lent_wants_none}
+use Rattle.dsql_sending_laws.specs.UnderWay.{StaysWithItsCall}
+use Rattle.dsql_sending_laws.proofs.Answered.{heard_facts, same_lent}
+use Rattle.dsql_sending_laws.proofs.Following.{stays_with_its_call}
+use Rattle.dsql_sending_laws.proofs.Invariant.{fresh_lending, heard_same, is_answer}
+use Rattle.dsql_sending_laws.proofs.Sound.{sound}
+use Rattle.dsql_call_laws.proofs.Lists.{same_or_not}
+use Rattle.dsql_call_laws.proofs.Works.{as_many, enters_next, old_work}
+use Rattle.dsql_desk.proofs.Known.{unfinished_known}
 use Rattle.dsql_turn_laws.specs.Turns.{sender_at, sender_in}
 
 -- the connection is lent to a call

@@ -3,23 +3,23 @@ use Rattle.std.proofs.Common.{◌≡◌, ℕ, Bool, true, false, List, [], ◌�
 use Rattle.std.specs.Prelude.{ℤ}
 use Rattle.dsql_driver.specs.declared.caps.Caps.{Caps}
 use Rattle.dsql_journal.specs.declared.entry.Entry.{Entry}
-use Rattle.dsql_clients.specs.declared.event.Event.{Event}
-use Rattle.dsql_clients.specs.declared.event.Event.TheVariants.{Run, Entered, Heard, SetLimit, Ended}
-use Rattle.dsql_clients.specs.declared.event.Op.{Op}
-use Rattle.dsql_clients.specs.declared.event.Setting.{Setting}
-use Rattle.dsql_clients.specs.declared.record.Flight.{Flight}
-use Rattle.dsql_clients.specs.Readers.Calls.{next_call}
-use Rattle.dsql_clients.specs.Readers.Owed.{owed}
-use Rattle.dsql_clients.specs.Readers.Pool.{place}
-use Rattle.dsql_clients.specs.Readers.Unfinished.{is_unfinished}
-use Rattle.dsql_clients.specs.Rules.Flights.{is_in_flight, permitted, without_flight}
-use Rattle.dsql_clients.specs.Rules.Stands.{stand}
-use Rattle.dsql_clients.specs.Legal.{Lawful}
-use Rattle.dsql_client_calls.proofs.Works.{as_many}
-use Rattle.dsql_client_desk.proofs.Known.{unfinished_known}
-use Rattle.dsql_client_going.specs.Reaching.{HasGoneOn}
-use Rattle.dsql_client_going.specs.declared.next.Next.{Next}
-use Rattle.dsql_client_hearing.proofs.Steps.{landed_apart}
+use Rattle.dsql_history.specs.declared.event.Event.{Event}
+use Rattle.dsql_history.specs.declared.event.Event.TheVariants.{Run, Entered, Heard, SetLimit, Ended}
+use Rattle.dsql_history.specs.declared.event.Op.{Op}
+use Rattle.dsql_history.specs.declared.event.Setting.{Setting}
+use Rattle.dsql_history.specs.declared.record.Flight.{Flight}
+use Rattle.dsql_history.specs.Readers.Calls.{next_call}
+use Rattle.dsql_history.specs.Readers.Owed.{owed}
+use Rattle.dsql_history.specs.Readers.Pool.{place}
+use Rattle.dsql_history.specs.Readers.Unfinished.{is_unfinished}
+use Rattle.dsql_history.specs.Rules.Flights.{is_in_flight, permitted, without_flight}
+use Rattle.dsql_history.specs.Rules.Stands.{stand}
+use Rattle.dsql_history.specs.Legal.{Lawful}
+use Rattle.dsql_call_laws.proofs.Works.{as_many}
+use Rattle.dsql_desk.proofs.Known.{unfinished_known}
+use Rattle.dsql_going.specs.Reaching.{HasGoneOn}
+use Rattle.dsql_going.specs.declared.next.Next.{Next}
+use Rattle.dsql_hearing.proofs.Steps.{landed_apart}
 use Rattle.dsql_steps.specs.Groups.{after_end, after_enter, after_heard, after_set, gone_on, with_owed}
 use Rattle.dsql_turn_laws.specs.Turns.{Flying, flies}
 use Rattle.dsql_turn_laws.proofs.Begins.{more_flying, taking_off}

@@ -8,30 +8,30 @@ use Rattle.dsql_journal.specs.declared.entry.Permit.{Permit}
 use Rattle.dsql_journal.specs.Permits.{entry_of}
 use Rattle.dsql_pool.specs.declared.conn.Place.{Place}
 use Rattle.dsql_pool.specs.declared.conn.Place.TheVariants.{Idle, Lent, Opening, Closing}
-use Rattle.dsql_history.specs.Rules.Line.{is_due}
-use Rattle.dsql_clients.specs.declared.event.Event.{Event}
-use Rattle.dsql_clients.specs.declared.record.Flight.{Flight}
-use Rattle.dsql_clients.specs.declared.record.Stand.TheVariants.{Sends}
-use Rattle.dsql_clients.specs.Readers.Calls.{site}
-use Rattle.dsql_clients.specs.Readers.Pool.{place}
-use Rattle.dsql_clients.specs.Readers.Unfinished.{is_unfinished}
-use Rattle.dsql_clients.specs.Readers.Works.{work}
-use Rattle.dsql_clients.specs.Rules.Flights.{has_flight, is_in_flight, is_taken, permitted}
-use Rattle.dsql_clients.specs.Rules.Line.{due_for, due_from, due_in, has_turn, holder, holder_at, if_sending, is_at, is_due_at, tidying}
-use Rattle.dsql_clients.specs.Rules.Stands.{stand}
-use Rattle.dsql_clients.specs.Legal.{Lawful}
-use Rattle.dsql_client_laws.proofs.Numbered.{unfinished_from_one}
-use Rattle.dsql_client_laws.proofs.Standing.{stands_sending}
-use Rattle.dsql_client_laws.proofs.Tests.{other_number, same_itself, together}
-use Rattle.dsql_client_laws.proofs.Welcome.{due_may_come}
-use Rattle.dsql_client_calls.proofs.Lists.{same_or_not}
-use Rattle.dsql_client_others.proofs.Untouched.{or_second}
-use Rattle.dsql_client_going.specs.Answers.{sends_unless, why_blocked}
-use Rattle.dsql_client_going.specs.Permits.{call_permit, permit_for, sent_at}
-use Rattle.dsql_client_going.specs.Reaching.{HasGoneOn}
-use Rattle.dsql_client_going.specs.declared.next.Next.TheVariants as nexts
-use Rattle.dsql_client_going.specs.declared.next.Why.{Why}
-use Rattle.dsql_client_going.specs.declared.next.Why.TheVariants.{Turn}
+use Rattle.dsql_work.specs.Line.{is_due}
+use Rattle.dsql_history.specs.declared.event.Event.{Event}
+use Rattle.dsql_history.specs.declared.record.Flight.{Flight}
+use Rattle.dsql_history.specs.declared.record.Stand.TheVariants.{Sends}
+use Rattle.dsql_history.specs.Readers.Calls.{site}
+use Rattle.dsql_history.specs.Readers.Pool.{place}
+use Rattle.dsql_history.specs.Readers.Unfinished.{is_unfinished}
+use Rattle.dsql_history.specs.Readers.Works.{work}
+use Rattle.dsql_history.specs.Rules.Flights.{has_flight, is_in_flight, is_taken, permitted}
+use Rattle.dsql_history.specs.Rules.Line.{due_for, due_from, due_in, has_turn, holder, holder_at, if_sending, is_at, is_due_at, tidying}
+use Rattle.dsql_history.specs.Rules.Stands.{stand}
+use Rattle.dsql_history.specs.Legal.{Lawful}
+use Rattle.dsql_laws.proofs.Numbered.{unfinished_from_one}
+use Rattle.dsql_laws.proofs.Standing.{stands_sending}
+use Rattle.dsql_laws.proofs.Tests.{other_number, same_itself, together}
+use Rattle.dsql_laws.proofs.Welcome.{due_may_come}
+use Rattle.dsql_call_laws.proofs.Lists.{same_or_not}
+use Rattle.dsql_other_laws.proofs.Untouched.{or_second}
+use Rattle.dsql_going.specs.Answers.{sends_unless, why_blocked}
+use Rattle.dsql_going.specs.Permits.{call_permit, permit_for, sent_at}
+use Rattle.dsql_going.specs.Reaching.{HasGoneOn}
+use Rattle.dsql_going.specs.declared.next.Next.TheVariants as nexts
+use Rattle.dsql_going.specs.declared.next.Why.{Why}
+use Rattle.dsql_going.specs.declared.next.Why.TheVariants.{Turn}
 use Rattle.dsql_turn_laws.specs.Leaves.{IsLeave}
 use Rattle.dsql_turn_laws.specs.Turns.{Flying, flies, sender_at, sender_in}
 use Rattle.dsql_turn_laws.proofs.Due.{due_itself}

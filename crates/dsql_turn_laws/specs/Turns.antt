@@ -3,14 +3,14 @@ use Rattle.std.specs.Prelude.{◌≡◌, ℕ, ◌==◌, Bool, true, not, ◌&&�
 use Rattle.std.specs.List.{list_any}
 use Rattle.dsql_pool.specs.declared.conn.Place.{Place}
 use Rattle.dsql_pool.specs.declared.conn.Place.TheVariants.{Lent}
-use Rattle.dsql_clients.specs.declared.event.Event.{Event}
-use Rattle.dsql_clients.specs.declared.record.Flight.{Flight}
-use Rattle.dsql_clients.specs.Readers.Journals.{heard_in}
-use Rattle.dsql_clients.specs.Readers.Pool.{place}
-use Rattle.dsql_clients.specs.Readers.Unfinished.{is_unfinished}
-use Rattle.dsql_clients.specs.Rules.Flights.{has_flight, is_in_flight}
-use Rattle.dsql_clients.specs.Rules.Line.{newest_sender}
-use Rattle.dsql_client_going.specs.Stepping.{are_of_unfinished}
+use Rattle.dsql_history.specs.declared.event.Event.{Event}
+use Rattle.dsql_history.specs.declared.record.Flight.{Flight}
+use Rattle.dsql_history.specs.Readers.Journals.{heard_in}
+use Rattle.dsql_history.specs.Readers.Pool.{place}
+use Rattle.dsql_history.specs.Readers.Unfinished.{is_unfinished}
+use Rattle.dsql_history.specs.Rules.Flights.{has_flight, is_in_flight}
+use Rattle.dsql_history.specs.Rules.Line.{newest_sender}
+use Rattle.dsql_going.specs.Stepping.{are_of_unfinished}
 
 abbrev pub sender_in : List Event → ℕ → Option Place → ℕ
 sender_in past c (Some (Lent tenure owner)) = newest_sender (heard_in past c tenure)

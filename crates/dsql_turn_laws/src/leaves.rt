@@ -10,11 +10,11 @@ ghost use Rattle.dsql_journal.specs.HandlesAndCursors.{fits_at_its_place};
 ghost use Rattle.dsql_journal.specs.Permits.{entry_of};
 ghost use Rattle.dsql_tenure.specs.Judged.{answered};
 ghost use Rattle.dsql_wire.specs.Journaled.{MayBeSent};
-ghost use Rattle.dsql_clients.specs.declared.event.Event.{Event};
-ghost use Rattle.dsql_clients.specs.Readers.Journals.{journal};
-ghost use Rattle.dsql_clients.specs.Rules.Line.{parts};
-ghost use Rattle.dsql_clients.specs.Legal.{Lawful};
-ghost use Rattle.dsql_client_hearing.specs.Hearing.{IsWelcome};
+ghost use Rattle.dsql_history.specs.declared.event.Event.{Event};
+ghost use Rattle.dsql_history.specs.Readers.Journals.{journal};
+ghost use Rattle.dsql_history.specs.Rules.Line.{parts};
+ghost use Rattle.dsql_history.specs.Legal.{Lawful};
+ghost use Rattle.dsql_hearing.specs.Hearing.{IsWelcome};
 ghost use Rattle.dsql_walk_laws.specs.Groups.{is_later_of};
 ghost use Rattle.dsql_turn_laws.specs.Leaves.{IsLeave};
 

@@ -2,10 +2,10 @@
 use Rattle.std.proofs.Common.{◌≡◌, ℕ, Bool, true, not, ◌||◌, List, [], ◌∷◌, ◌++◌, refl, ap, sym, subst, ◌∙◌, append-nil}
 use Rattle.std.specs.List.{list_all}
 use Rattle.std.proofs.lemmas.List.Folds.{list_all-append}
-use Rattle.dsql_clients.specs.declared.event.Event.{Event}
-use Rattle.dsql_clients.specs.declared.event.Event.TheVariants.{Pool, Waits, Replied}
-use Rattle.dsql_clients.specs.Rules.Stands.{stand}
-use Rattle.dsql_client_laws.proofs.Tests.{both, together}
+use Rattle.dsql_history.specs.declared.event.Event.{Event}
+use Rattle.dsql_history.specs.declared.event.Event.TheVariants.{Pool, Waits, Replied}
+use Rattle.dsql_history.specs.Rules.Stands.{stand}
+use Rattle.dsql_laws.proofs.Tests.{both, together}
 use Rattle.dsql_follows.specs.Moments.{Moment, Passed, after_events, at_rest, begins_step, landed, rested, walk}
 use Rattle.dsql_follows.specs.Sentences.{passed, begins_with_step, enters_in_order, is_whole, may_enter, were_whole}
 use Rattle.dsql_follows.specs.Follows.{MakesSteps}

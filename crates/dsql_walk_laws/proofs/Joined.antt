@@ -1,7 +1,7 @@
 -- A step behind others is gone over as it is from the free moment after them.
 use Rattle.std.proofs.Common.{◌≡◌, ℕ, true, List, [], ◌∷◌, ◌++◌, refl, ap, sym, subst, ◌∙◌}
-use Rattle.dsql_clients.specs.declared.event.Event.{Event}
-use Rattle.dsql_clients.specs.declared.record.Flight.{Flight}
+use Rattle.dsql_history.specs.declared.event.Event.{Event}
+use Rattle.dsql_history.specs.declared.record.Flight.{Flight}
 use Rattle.dsql_follows.specs.Moments.{Moment, Passed, Walk, after_events, at_rest, begins_step, goes_over, passes, walk, with_next}
 use Rattle.dsql_follows.specs.Sentences.{passed}
 use Rattle.dsql_step_laws.specs.Steps.{IsAtRest, IsStep}

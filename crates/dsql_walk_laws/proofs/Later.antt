@@ -2,11 +2,11 @@
 use Rattle.std.proofs.Common.{◌≡◌, ℕ, ◌==◌, true, false, not, List, [], ◌∷◌, ◌++◌, Option, Some, None, refl, ap, sym, subst}
 use Rattle.std.specs.List.{list_all}
 use Rattle.std.proofs.lemmas.Bool.{not-false, not-true}
-use Rattle.dsql_clients.specs.declared.event.Event.{Event}
-use Rattle.dsql_clients.specs.declared.event.Event.TheVariants.{Pool, Waits, Replied}
-use Rattle.dsql_clients.specs.Rules.Course.{is_run, is_from_outside}
-use Rattle.dsql_client_laws.proofs.Standing.{neither}
-use Rattle.dsql_client_laws.proofs.Tests.{both, together, same_number}
+use Rattle.dsql_history.specs.declared.event.Event.{Event}
+use Rattle.dsql_history.specs.declared.event.Event.TheVariants.{Pool, Waits, Replied}
+use Rattle.dsql_history.specs.Rules.Course.{is_run, is_from_outside}
+use Rattle.dsql_laws.proofs.Standing.{neither}
+use Rattle.dsql_laws.proofs.Tests.{both, together, same_number}
 use Rattle.dsql_follows.specs.Moments.{Moment, Passed, begins_step, stepping, walk}
 use Rattle.dsql_follows.specs.Sentences.{passed, begins, later, oldest}
 use Rattle.dsql_journal.specs.Readers.{is_empty}

@@ -2,14 +2,14 @@
 use Rattle.std.proofs.Common.{◌≡◌, ℕ, ◌==◌, ◌+◌, Bool, true, false, not, ◌&&◌, ◌||◌, cond, List, [], ◌∷◌, ◌++◌, length, Option, Some, None, refl, ap, sym, subst, ◌∙◌, arith, append-nil, length-append}
 use Rattle.std.specs.List.{list_any}
 use Rattle.std.proofs.lemmas.List.Folds.{list_any-append}
-use Rattle.dsql_clients.specs.declared.record.Flight.{Flight}
-use Rattle.dsql_clients.specs.declared.record.Stand.{Stand}
-use Rattle.dsql_clients.specs.declared.record.Stand.TheVariants.{Waits, Opens, Sends, Replies}
-use Rattle.dsql_clients.specs.Readers.Unfinished.{is_unfinished}
-use Rattle.dsql_clients.specs.Rules.Flights.{is_in_flight, has_flight, is_blocked, permitted, with_flight}
-use Rattle.dsql_clients.specs.Rules.Stands.{stand}
-use Rattle.dsql_client_laws.proofs.OwedAllowed.{or_first, or_second}
-use Rattle.dsql_client_laws.proofs.Tests.{same_itself}
+use Rattle.dsql_history.specs.declared.record.Flight.{Flight}
+use Rattle.dsql_history.specs.declared.record.Stand.{Stand}
+use Rattle.dsql_history.specs.declared.record.Stand.TheVariants.{Waits, Opens, Sends, Replies}
+use Rattle.dsql_history.specs.Readers.Unfinished.{is_unfinished}
+use Rattle.dsql_history.specs.Rules.Flights.{is_in_flight, has_flight, is_blocked, permitted, with_flight}
+use Rattle.dsql_history.specs.Rules.Stands.{stand}
+use Rattle.dsql_laws.proofs.OwedAllowed.{or_first, or_second}
+use Rattle.dsql_laws.proofs.Tests.{same_itself}
 use Rattle.dsql_follows.specs.Moments.{Moment, takes_permit}
 use Rattle.dsql_follows.specs.Sentences.{is_whole}
 use Rattle.dsql_step_laws.specs.Steps.{IsAtRest}

@@ -1,8 +1,8 @@
 -- Which of the events that were passed are first, and which are later.
 use Rattle.std.proofs.Common.{◌≡◌, Bool, true, false, not, ◌||◌, List, [], ◌∷◌, ◌++◌, Option, Some, None, refl, ap, ◌∙◌}
 use Rattle.std.specs.List.{list_all}
-use Rattle.dsql_client_laws.proofs.OwedAllowed.{or_first, or_second}
-use Rattle.dsql_client_laws.proofs.Tests.{both, together}
+use Rattle.dsql_laws.proofs.OwedAllowed.{or_first, or_second}
+use Rattle.dsql_laws.proofs.Tests.{both, together}
 use Rattle.dsql_follows.specs.Moments.{Passed}
 use Rattle.dsql_follows.specs.Sentences.{oldest, later}
 

@@ -2,8 +2,8 @@
 use Rattle.std.proofs.Common.{◌≡◌, ℕ, true, false, not, ◌||◌, List, [], ◌∷◌, ◌++◌, ap, ◌∙◌}
 use Rattle.std.proofs.lemmas.List.Folds.{list_all-append}
 use Rattle.dsql_journal.specs.Readers.{is_empty}
-use Rattle.dsql_clients.specs.declared.event.Event.{Event}
-use Rattle.dsql_client_laws.proofs.Tests.{together}
+use Rattle.dsql_history.specs.declared.event.Event.{Event}
+use Rattle.dsql_laws.proofs.Tests.{together}
 use Rattle.dsql_follows.specs.Moments.{Moment, Passed}
 use Rattle.dsql_follows.specs.Turns.{comes_in_turn}
 use Rattle.dsql_follows.specs.Sentences.{passed, come_in_turn, later, oldest}

@@ -1,8 +1,8 @@
 -- The events of one step.
 use Rattle.std.specs.Prelude.{◌≡◌, ℕ, ◌==◌, Bool, true, false, List, [], ◌∷◌, ◌++◌}
 use Rattle.std.specs.List.{list_all}
-use Rattle.dsql_clients.specs.declared.event.Event.{Event}
-use Rattle.dsql_clients.specs.declared.event.Event.TheVariants.{Pool, Waits, Replied}
+use Rattle.dsql_history.specs.declared.event.Event.{Event}
+use Rattle.dsql_history.specs.declared.event.Event.TheVariants.{Pool, Waits, Replied}
 
 -- an event of a step of call n behind its first: a move of the pool, or that the call waits or has its reply
 abbrev pub is_later_of : ℕ → Event → Bool

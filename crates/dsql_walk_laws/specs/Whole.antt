@@ -1,6 +1,6 @@
 -- Whole steps, one after another.
 use Rattle.std.specs.Prelude.{◌≡◌, true, List}
-use Rattle.dsql_clients.specs.declared.event.Event.{Event}
+use Rattle.dsql_history.specs.declared.event.Event.{Event}
 use Rattle.dsql_follows.specs.Moments.{Moment, after_events}
 use Rattle.dsql_follows.specs.Sentences.{passed, begins_with_step, is_whole, were_whole, enters_in_order}
 use Rattle.dsql_step_laws.specs.Steps.{IsAtRest}

@@ -2,7 +2,7 @@
 
 ghost use Rattle.std.specs.Prelude.{◌≡◌, ◌++◌, [], ℕ, true, false, List};
 ghost use Rattle.dsql_journal.specs.Readers.{is_empty};
-ghost use Rattle.dsql_clients.specs.declared.event.Event.{Event};
+ghost use Rattle.dsql_history.specs.declared.event.Event.{Event};
 ghost use Rattle.dsql_follows.specs.declared.line.Line.{Line};
 ghost use Rattle.dsql_follows.specs.Moments.{Moment, met, at_end, takes_permit};
 ghost use Rattle.dsql_follows.specs.Turns.{comes_in_turn};

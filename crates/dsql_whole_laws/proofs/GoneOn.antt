@@ -6,27 +6,27 @@ use Rattle.dsql_driver.specs.declared.call.DriverCall.{DriverCall}
 use Rattle.dsql_journal.specs.declared.entry.Owner.TheVariants.{Call}
 use Rattle.dsql_pool.specs.declared.conn.Place.{Place}
 use Rattle.dsql_pool.specs.declared.conn.Place.TheVariants.{Lent}
-use Rattle.dsql_clients.specs.declared.event.Event.{Event}
-use Rattle.dsql_clients.specs.declared.record.Flight.{Flight}
-use Rattle.dsql_clients.specs.declared.record.Stand.{Stand}
-use Rattle.dsql_clients.specs.declared.record.Stand.TheVariants.{Waits, Opens, Sends, Replies}
-use Rattle.dsql_clients.specs.Readers.Calls.{site}
-use Rattle.dsql_clients.specs.Readers.Pool.{place}
-use Rattle.dsql_clients.specs.Readers.Unfinished.{is_unfinished}
-use Rattle.dsql_clients.specs.Rules.Flights.{has_flight, is_in_flight, is_taken, is_blocked, may_move, permitted, with_flight}
-use Rattle.dsql_clients.specs.Rules.Line.{due_for}
-use Rattle.dsql_clients.specs.Rules.Stands.{stand}
-use Rattle.dsql_clients.specs.Legal.{Lawful}
-use Rattle.dsql_client_laws.proofs.Numbered.{unfinished_from_one}
-use Rattle.dsql_client_laws.proofs.OwedAllowed.{or_first, or_second}
-use Rattle.dsql_client_laws.proofs.Standing.{neither, stands_sending}
-use Rattle.dsql_client_going.specs.declared.next.Next.{Next}
-use Rattle.dsql_client_going.specs.declared.next.Next.TheVariants.{Send, Reply}
-use Rattle.dsql_client_going.specs.declared.next.Why.{Why}
-use Rattle.dsql_client_going.specs.declared.next.Why.TheVariants.{Turn}
-use Rattle.dsql_client_going.specs.Answers.{sends_unless, why_blocked}
-use Rattle.dsql_client_going.specs.Permits.{permit_for, sent_at}
-use Rattle.dsql_client_going.specs.Reaching.{HasGoneOn}
+use Rattle.dsql_history.specs.declared.event.Event.{Event}
+use Rattle.dsql_history.specs.declared.record.Flight.{Flight}
+use Rattle.dsql_history.specs.declared.record.Stand.{Stand}
+use Rattle.dsql_history.specs.declared.record.Stand.TheVariants.{Waits, Opens, Sends, Replies}
+use Rattle.dsql_history.specs.Readers.Calls.{site}
+use Rattle.dsql_history.specs.Readers.Pool.{place}
+use Rattle.dsql_history.specs.Readers.Unfinished.{is_unfinished}
+use Rattle.dsql_history.specs.Rules.Flights.{has_flight, is_in_flight, is_taken, is_blocked, may_move, permitted, with_flight}
+use Rattle.dsql_history.specs.Rules.Line.{due_for}
+use Rattle.dsql_history.specs.Rules.Stands.{stand}
+use Rattle.dsql_history.specs.Legal.{Lawful}
+use Rattle.dsql_laws.proofs.Numbered.{unfinished_from_one}
+use Rattle.dsql_laws.proofs.OwedAllowed.{or_first, or_second}
+use Rattle.dsql_laws.proofs.Standing.{neither, stands_sending}
+use Rattle.dsql_going.specs.declared.next.Next.{Next}
+use Rattle.dsql_going.specs.declared.next.Next.TheVariants.{Send, Reply}
+use Rattle.dsql_going.specs.declared.next.Why.{Why}
+use Rattle.dsql_going.specs.declared.next.Why.TheVariants.{Turn}
+use Rattle.dsql_going.specs.Answers.{sends_unless, why_blocked}
+use Rattle.dsql_going.specs.Permits.{permit_for, sent_at}
+use Rattle.dsql_going.specs.Reaching.{HasGoneOn}
 use Rattle.dsql_walk_laws.proofs.Permits.{blocked_stays, joins_flight, permitted_grows}
 
 -- it can't move where there is a reason for it

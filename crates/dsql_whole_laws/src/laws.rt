@@ -1,12 +1,12 @@
 //! Laws of whole steps. A history is read newest first.
 
 ghost use Rattle.std.specs.Prelude.{◌≡◌, ℕ, true, List};
-ghost use Rattle.dsql_clients.specs.declared.record.Flight.{Flight};
-ghost use Rattle.dsql_clients.specs.Legal.{Lawful};
+ghost use Rattle.dsql_history.specs.declared.record.Flight.{Flight};
+ghost use Rattle.dsql_history.specs.Legal.{Lawful};
 ghost use Rattle.dsql_follows.specs.Moments.{Moment};
 ghost use Rattle.dsql_follows.specs.Sentences.{is_whole};
-ghost use Rattle.dsql_client_going.specs.declared.next.Next.{Next};
-ghost use Rattle.dsql_client_going.specs.Reaching.{HasGoneOn};
+ghost use Rattle.dsql_going.specs.declared.next.Next.{Next};
+ghost use Rattle.dsql_going.specs.Reaching.{HasGoneOn};
 
 /// A call that has gone on has its reply, or is blocked, or its permit is in flight, so the last step is whole. So
 /// is each step of the layer, which has no call of its own that goes on.

@@ -12,9 +12,9 @@ use Rattle.dsql_tenure.specs.Judged.{answered}
 use Rattle.dsql_wire.specs.Journaled.{Journaled, MayBeSent}
 use Rattle.dsql_wire.specs.Told.{TellsOf}
 use Rattle.dsql_wire.proofs.Answered.{makes}
-use Rattle.dsql_clients.specs.declared.event.Event.{Event}
-use Rattle.dsql_clients.specs.declared.event.Event.TheVariants.{Heard}
-use Rattle.dsql_clients.specs.Readers.Journals.{journal}
+use Rattle.dsql_history.specs.declared.event.Event.{Event}
+use Rattle.dsql_history.specs.declared.event.Event.TheVariants.{Heard}
+use Rattle.dsql_history.specs.Readers.Journals.{journal}
 use Rattle.dsql_wires.specs.Asked.{Answers, Performs, Connects}
 use Rattle.dsql_wires.specs.Told.{hears_nothing, fleet_told, FleetTells, retired_slot}
 use Rattle.dsql_wires.specs.WiresFit.{slot, HoldsWire, FitsAt, WiresFit, HearsEntry, OpensWire}

@@ -1,6 +1,6 @@
 -- A history goes on from itself, over each event, and over one history from another.
 use Rattle.std.proofs.Common.{List, [], ◌∷◌, ◌++◌, refl, sym, ◌∙◌, ap, append_assoc}
-use Rattle.dsql_clients.specs.declared.event.Event.{Event}
+use Rattle.dsql_history.specs.declared.event.Event.{Event}
 use Rattle.dsql_wires.specs.Extends.{Extends}
 
 pub extends_same : (past : List Event) → Extends past past

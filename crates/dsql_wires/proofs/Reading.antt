@@ -6,9 +6,9 @@ use Rattle.dsql_driver.specs.Kinds.{is_connect, is_shut}
 use Rattle.dsql_driver.specs.Wires.{WireTold, FleetTold, with_connects, with_retired}
 use Rattle.dsql_journal.specs.declared.entry.Entry.{Entry}
 use Rattle.dsql_journal.proofs.Conjunctions.{parts2}
-use Rattle.dsql_clients.specs.declared.event.Event.{Event}
-use Rattle.dsql_clients.specs.declared.event.Event.TheVariants.{Heard}
-use Rattle.dsql_clients.specs.Readers.Journals.{journal}
+use Rattle.dsql_history.specs.declared.event.Event.{Event}
+use Rattle.dsql_history.specs.declared.event.Event.TheVariants.{Heard}
+use Rattle.dsql_history.specs.Readers.Journals.{journal}
 use Rattle.dsql_wire.specs.Told.{told_of, TellsOf}
 use Rattle.dsql_wire.specs.Journaled.{Journaled}
 use Rattle.dsql_wires.specs.Told.{hears_nothing, tells_of, fleet_told, FleetTells, retired_slot}

@@ -6,7 +6,7 @@ use Rattle.dsql_driver.specs.Fits.{is_memory}
 use Rattle.dsql_driver.specs.Wires.{WireTold, FleetTold, RetiredWire, with_connects, with_retired, connected_after, retired_after}
 use Rattle.dsql_driver.specs.declared.answer.DriverAnswer.{DriverAnswer}
 use Rattle.dsql_driver.specs.declared.answer.DriverAnswer.TheVariants.{Memory}
-use Rattle.dsql_clients.specs.declared.event.Event.{Event}
+use Rattle.dsql_history.specs.declared.event.Event.{Event}
 use Rattle.dsql_wires.specs.Told.{fleet_told, FleetTells, told_then, with_told, TellsAtMost, LeavesAtMost, SameAsked, retired_slot, retired_from}
 use Rattle.dsql_wire.specs.Journaled.{Journaled}
 

@@ -1,6 +1,6 @@
 -- How one history goes on from another.
 use Rattle.std.specs.Prelude.{◌≡◌, ◌++◌, List}
-use Rattle.dsql_clients.specs.declared.event.Event.{Event}
+use Rattle.dsql_history.specs.declared.event.Event.{Event}
 
 -- one history goes on from another; the newest event comes first
 pub record Extends (old new : List Event) : Type 0 where

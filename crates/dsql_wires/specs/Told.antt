@@ -4,9 +4,9 @@ use Rattle.dsql_driver.specs.Kinds.{is_connect, is_shut}
 use Rattle.dsql_driver.specs.Wires.{WireTold, FleetTold, Connected, with_connects, with_retired, retired_after}
 use Rattle.dsql_driver.specs.declared.wire.Fleet.{Ghosts}
 use Rattle.dsql_journal.specs.declared.entry.Entry.{Entry}
-use Rattle.dsql_clients.specs.declared.event.Event.{Event}
-use Rattle.dsql_clients.specs.declared.event.Event.TheVariants.{Heard}
-use Rattle.dsql_clients.specs.Readers.Journals.{journal}
+use Rattle.dsql_history.specs.declared.event.Event.{Event}
+use Rattle.dsql_history.specs.declared.event.Event.TheVariants.{Heard}
+use Rattle.dsql_history.specs.Readers.Journals.{journal}
 use Rattle.dsql_wire.specs.Told.{told_of}
 use Rattle.dsql_wire.specs.Journaled.{Journaled}
 

@@ -6,8 +6,8 @@ use Rattle.dsql_driver.specs.Kinds.{is_connect}
 use Rattle.dsql_driver.specs.Wires.{WireTold, told_after}
 use Rattle.dsql_journal.specs.declared.entry.Entry.{Entry}
 use Rattle.dsql_journal.specs.Readers.{was_shut}
-use Rattle.dsql_clients.specs.declared.event.Event.{Event}
-use Rattle.dsql_clients.specs.Readers.Journals.{journal}
+use Rattle.dsql_history.specs.declared.event.Event.{Event}
+use Rattle.dsql_history.specs.Readers.Journals.{journal}
 use Rattle.dsql_wire.specs.Journaled.{Journaled}
 
 -- the wire of connection c, if it has one

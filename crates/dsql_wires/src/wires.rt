@@ -4,8 +4,8 @@ ghost use Rattle.dsql_driver.specs.declared.caps.Caps.{Caps};
 ghost use Rattle.dsql_journal.specs.HandlesAndCursors.{fits_at_its_place};
 ghost use Rattle.dsql_tenure.specs.Judged.{answered};
 ghost use Rattle.dsql_wire.specs.Journaled.{MayBeSent};
-ghost use Rattle.dsql_clients.specs.declared.event.Event.{Event};
-ghost use Rattle.dsql_clients.specs.declared.event.Event.TheVariants.{Run};
+ghost use Rattle.dsql_history.specs.declared.event.Event.{Event};
+ghost use Rattle.dsql_history.specs.declared.event.Event.TheVariants.{Run};
 ghost use Rattle.dsql_wires.specs.WiresFit.{slot, WiresFit, KeepsFit, Hears, HearsEntry, SameHeard};
 
 use dsql_driver::Wire;

@@ -1,43 +1,46 @@
 -- The calls of a history.
-use Rattle.std.specs.Prelude.{ℕ, ◌==◌, ◌&&◌, Bool, cond, List, [], ◌∷◌, ◌++◌, length, slice_set, slice_index_or, Option, true, false, Some, None, is_none, option_map, filter, if◌then◌else◌, Ok, Err}
+use Rattle.std.specs.Prelude.{ℕ, ◌==◌, Bool, true, false, cond, List, [], ◌∷◌, ◌++◌, length, slice_set, slice_index_or, Option, Some, None, option_map, if◌then◌else◌, Ok, Err}
 use Rattle.std.specs.List.{list_any}
 use Rattle.dsql_value.specs.declared.arg.Named.{Named}
 use Rattle.dsql_value.specs.declared.arg.ArgFault.{ArgFault}
 use Rattle.dsql_value.specs.declared.arg.ArgFault.TheVariants as faults
 use Rattle.dsql_value.specs.declared.value.Param.{Param}
-use Rattle.dsql_value.specs.Arguments.{params_of, first_fault, count_fault}
+use Rattle.dsql_value.specs.Arguments.{first_fault, count_fault}
 use Rattle.dsql_driver.specs.declared.caps.Caps.{Caps}
 use Rattle.dsql_driver.specs.declared.call.DriverCall.{DriverCall}
 use Rattle.dsql_driver.specs.declared.call.DriverCall.TheVariants.{Reset, Prepare, Exec, Query, Next, CloseRows}
 use Rattle.dsql_driver.specs.declared.answer.DriverAnswer.{DriverAnswer}
 use Rattle.dsql_driver.specs.declared.answer.DriverAnswer.TheVariants as answers
-use Rattle.dsql_history.specs.declared.event.Event.{Event}
-use Rattle.dsql_history.specs.declared.event.Event.TheVariants.{Entered, Heard, Pool, Replied}
-use Rattle.dsql_history.specs.declared.event.Move.TheVariants.{OpenStart, Lend, Fell}
-use Rattle.dsql_history.specs.declared.event.Op.{Op}
-use Rattle.dsql_history.specs.declared.event.Op.TheVariants as ops
-use Rattle.dsql_history.specs.declared.record.CallRecord.{CallRecord}
-use Rattle.dsql_history.specs.declared.reply.Reply.{Reply}
-use Rattle.dsql_history.specs.declared.reply.Reply.TheVariants as reply
-use Rattle.dsql_history.specs.declared.reply.Reply.TheVariants.{Result, Truth, Cells, Driver, BadConn, NumArgs, HighBit, NamedRefused, BadName, Absent, RowsClosed, NoNextYet, NoRows, DestCount, Scan}
-use Rattle.dsql_history.specs.declared.work.Work.{Work}
-use Rattle.dsql_history.specs.declared.work.Work.TheVariants.{ReadOne, HandOut, Fetch, Close}
+use Rattle.dsql_journal.specs.declared.entry.Entry.{Entry}
 use Rattle.dsql_rows.specs.declared.rows.Rows.{Rows}
 use Rattle.dsql_rows.specs.declared.end.RowsEnd.{RowsEnd}
 use Rattle.dsql_rows.specs.declared.end.RowsEnd.TheVariants as ends
 use Rattle.dsql_rows.specs.declared.fault.RowsFault.TheVariants as faults_of_rows
 use Rattle.dsql_rows.specs.OpenRows.{Scanned, is_live, scan_of}
-use Rattle.dsql_history.specs.Readers.Unfinished.{unfinished, is_unfinished}
-use Rattle.dsql_history.specs.Readers.Works.{works, work, maker, asks, works_on, user_of}
-use Rattle.dsql_history.specs.Readers.HandedOut.{rows_by}
-use Rattle.dsql_history.specs.declared.reply.FaultWord.{FaultWord}
-use Rattle.dsql_history.specs.declared.reply.FaultWord.TheVariants.{FromNull, NotANumber, OutOfRange, NotABool, NotUtf8, Unsupported}
 use Rattle.dsql_scan.specs.Rows.{RowScan, row_of}
-use Rattle.dsql_scan.specs.declared.fault.ScanFault.{ScanFault}
-use Rattle.dsql_scan.specs.declared.fault.ScanFault.TheVariants as scans
 use Rattle.dsql_scan.specs.declared.fault.RowFault.TheVariants as rows
-use Rattle.dsql_history.specs.Readers.Lists.{first}
-use Rattle.dsql_history.specs.Readers.Course.{caps}
+use Rattle.dsql_course.specs.Made.{or_else}
+use Rattle.dsql_pool.specs.Pooled.{stats}
+use Rattle.dsql_work.specs.declared.work.Work.{Work}
+use Rattle.dsql_work.specs.declared.work.Work.TheVariants.{ReadOne, HandOut, Fetch, Close, Look}
+use Rattle.dsql_work.specs.Works.{maker, asks, user_of}
+use Rattle.dsql_work.specs.Calls.{word_of, accepted}
+use Rattle.dsql_history.specs.declared.event.Event.{Event}
+use Rattle.dsql_history.specs.declared.event.Event.TheVariants.{Entered, Heard, Replied}
+use Rattle.dsql_history.specs.declared.event.Op.{Op}
+use Rattle.dsql_history.specs.declared.event.Op.TheVariants as ops
+use Rattle.dsql_history.specs.declared.record.CallRecord.{CallRecord}
+use Rattle.dsql_history.specs.declared.record.Try.{Try}
+use Rattle.dsql_history.specs.declared.record.Try.TheVariants.{Served, Refused}
+use Rattle.dsql_history.specs.declared.reply.Reply.{Reply}
+use Rattle.dsql_history.specs.declared.reply.Reply.TheVariants as reply
+use Rattle.dsql_history.specs.declared.reply.Reply.TheVariants.{Result, Truth, Cells, Driver, BadConn, NumArgs, HighBit, NamedRefused, BadName, Absent, RowsClosed, NoNextYet, NoRows, DestCount, Scan, DbClosed}
+use Rattle.dsql_history.specs.Readers.Course.{caps, db_end}
+use Rattle.dsql_history.specs.Readers.Unfinished.{unfinished, is_unfinished}
+use Rattle.dsql_history.specs.Readers.Works.{works, work, work_of}
+use Rattle.dsql_history.specs.Readers.Tries.{tries}
+use Rattle.dsql_history.specs.Readers.Pool.{pool, home}
+use Rattle.dsql_history.specs.Readers.HandedOut.{rows_by, over}
 
 -- the text of an operation's statement, empty where it has none
 abbrev pub statement : Op → List ℕ
@@ -72,16 +75,6 @@ refused_with faults.Memory = None
 abbrev pub told_of : Option ArgFault → Option Reply
 told_of None = None
 told_of (Some fault) = refused_with fault
-
--- the word of a fault of scanning; there is none for want of memory
-abbrev pub word_of : ScanFault → Option FaultWord
-word_of (scans.FromNull dest) = Some FromNull
-word_of scans.NotANumber = Some NotANumber
-word_of scans.OutOfRange = Some OutOfRange
-word_of scans.NotABool = Some NotABool
-word_of scans.NotUtf8 = Some NotUtf8
-word_of (scans.Unsupported from dest) = Some Unsupported
-word_of scans.Memory = None
 
 -- what a row that was scanned so replies
 abbrev pub told_row : RowScan → Option Reply
@@ -127,14 +120,17 @@ reply_at_entry named_ok rows op = rows_reply rows op
 abbrev pub rows_for : List Event → Op → Option Rows
 rows_for before op = cond (is_unfinished before (maker (works before) (label_of op))) None (rows_by before (maker (works before) (label_of op)))
 
+-- a closed database lends to nobody
+abbrev pub closed_to : List Event → Op → Option Reply
+closed_to before op = cond (asks (work_of (works before) op)) (option_map DbClosed (db_end before)) None
+
+-- What a call is told as it enters, if anything: that the database is closed, where it would ask for a connection, or else what its arguments or its rows give. A close of the database and a question for its statistics are told at once.
 abbrev pub told_at_entry : List Event → Op → Option Reply
-told_at_entry before op = reply_at_entry (caps before).named (rows_for before op) op
+told_at_entry before ops.DbClose = Some reply.Ok
+told_at_entry before ops.Stats = Some (reply.Stats (stats (pool before)))
+told_at_entry before op = or_else (closed_to before op) (reply_at_entry (caps before).named (rows_for before op) op)
 
--- the parameters that arguments become, where none is refused
-abbrev pub accepted : Option ArgFault → List Named → List Param
-accepted None args = params_of args
-accepted (Some fault) args = []
-
+-- the parameters that its arguments become, where none is refused
 abbrev pub params_at_entry : Caps → Op → List Param
 params_at_entry can op = accepted (first_fault can.named (arguments op)) (arguments op)
 
@@ -186,36 +182,31 @@ decision count work (Prepare text) answer earlier = reply_to answer
 decision count work Reset answers.Bad earlier = Some (BadConn 1)
 decision count work _ answer earlier = earlier
 
--- what a refused Connect, just heard, decides for the call to which it falls
-abbrev pub refusal : List Event → Option Reply
-refusal (Heard e ∷ before) = reply_to e.answer
-refusal _ = None
-
 -- there is no call 0
 abbrev pub nobody : CallRecord
-nobody = record { client = 0; home = 0; text = []; params = []; decided = None }
+nobody = record { client = 0; text = []; params = []; decided = None }
 
 abbrev pub with_record : ℕ → (CallRecord → CallRecord) → List CallRecord → List CallRecord
 with_record n change calls = slice_set calls n (change (slice_index_or calls n nobody))
 
--- each call, by its number
-abbrev pub calls : List Event → List CallRecord
-calls [] = nobody ∷ []
-calls (Entered client n op ∷ before) =
-    calls before
-    ++ record {
+abbrev pub entering : List Event → ℕ → Op → CallRecord
+entering before client op =
+    record {
       client = client;
-      home = 0;
       text = statement op;
       params = params_at_entry (caps before) op;
       decided = told_at_entry before op;
     }
-    ∷ []
-calls (Pool (OpenStart c n) ∷ before) = with_record n (λ r. record r { home = c }) (calls before)
-calls (Pool (Lend c tenure owner n) ∷ before) = with_record n (λ r. record r { home = c }) (calls before)
-calls (Pool (Fell c n) ∷ before) = with_record n (λ r. record r { decided = refusal before }) (calls before)
-calls (Heard e ∷ before) =
-    cond (e.call_no == 0) (calls before) (with_record e.call_no (λ r. record r { decided = decision (length r.params) (work before e.call_no) e.call e.answer r.decided }) (calls before))
+
+-- a call with this work after an answer to it; the layer's own calls are nobody's
+abbrev pub decided_by : Work → Entry → CallRecord → CallRecord
+decided_by work e r = cond (e.call_no == 0) r (record r { decided = decision (length r.params) work e.call e.answer r.decided })
+
+-- each call, by its number
+abbrev pub calls : List Event → List CallRecord
+calls [] = nobody ∷ []
+calls (Entered client n op ∷ before) = calls before ++ entering before client op ∷ []
+calls (Heard e ∷ before) = with_record e.call_no (decided_by (work before e.call_no) e) (calls before)
 calls (Replied n reply ∷ before) = with_record n (λ r. record r { decided = None }) (calls before)
 calls (_ ∷ before) = calls before
 
@@ -226,30 +217,38 @@ call_record before n = slice_index_or (calls before) n nobody
 abbrev pub next_call : List Event → ℕ
 next_call before = length (calls before)
 
--- the connection that was lent or is opened for the call, 0 for none yet
-abbrev pub home : List Event → ℕ → ℕ
-home before n = (call_record before n).home
-
 -- the client has an unfinished call
 abbrev pub is_busy : ℕ → List Event → Bool
 is_busy client before = list_any (λ n. (call_record before n).client == client) (unfinished before)
 
--- it wants a connection, and has neither asked for one nor been refused
-abbrev pub has_not_asked : List Event → ℕ → Bool
-has_not_asked before n = asks (work before n) && ((home before n == 0) && is_none (call_record before n).decided)
-
--- what the call is to be replied, where that is settled
-abbrev pub reply_due : List Event → ℕ → Option Reply
-reply_due before n = (call_record before n).decided
-
--- The unfinished call that works on the rows of call n, 0 for none.
-abbrev pub worker : List Event → ℕ → ℕ
-worker before n = first (filter (λ m. works_on n (work before m)) (unfinished before))
-
--- Who sends on the connection of call n: that call until it has its reply, then the call that works on its rows, or else the House, which is 0.
-abbrev pub sender : List Event → ℕ → ℕ
-sender before n = cond (is_unfinished before n) n (worker before n)
-
 -- the call whose connection call m uses
 abbrev pub user : List Event → ℕ → ℕ
 user before m = user_of (work before m) m
+
+-- the connection that call m uses, 0 for none yet
+abbrev pub site : List Event → ℕ → ℕ
+site before m = home before (user before m)
+
+-- what call n has settled itself
+abbrev pub decided : List Event → ℕ → Option Reply
+decided before n = (call_record before n).decided
+
+-- what a call is told that waits for a connection, or for which one was opened: the refusal that fell to it, or that the database is closed
+abbrev pub told_by_tries : List Event → List Try → Option Reply
+told_by_tries before [] = option_map DbClosed (db_end before)
+told_by_tries before (Served ∷ earlier) = None
+told_by_tries before (Refused answer ∷ earlier) = reply_to answer
+
+-- What others have settled for call n: for a fetch of rows that they ended, that there is no row; for a close, that nothing is left to be closed.
+abbrev pub told_of_work : List Event → ℕ → Work → Option Reply
+told_of_work before n (Fetch k) = cond (over (rows_by before k)) (Some (Truth false)) None
+told_of_work before n (Close k) = Some reply.Ok
+told_of_work before n Look = None
+told_of_work before n it = told_by_tries before (tries before n)
+
+abbrev pub told_by_others : List Event → ℕ → Option Reply
+told_by_others before n = told_of_work before n (work before n)
+
+-- what the call is to be replied once nothing more of it is due, where that is settled
+abbrev pub reply_due : List Event → ℕ → Option Reply
+reply_due before n = or_else (decided before n) (told_by_others before n)

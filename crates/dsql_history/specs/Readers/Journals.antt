@@ -1,6 +1,5 @@
 -- The journals of a history, each newest first.
-use Rattle.std.specs.Prelude.{ℕ, ◌==◌, Bool, false, cond, List, [], ◌∷◌}
-use Rattle.dsql_driver.specs.Fits.{is_invalid}
+use Rattle.std.specs.Prelude.{ℕ, ◌==◌, cond, List, [], ◌∷◌}
 use Rattle.dsql_journal.specs.declared.entry.Entry.{Entry}
 use Rattle.dsql_journal.specs.Readers.{of_tenure}
 use Rattle.dsql_history.specs.declared.event.Event.{Event}
@@ -15,8 +14,3 @@ journal (_ ∷ before) c = journal before c
 -- what was heard in tenure t of connection c
 abbrev pub heard_in : List Event → ℕ → ℕ → List Entry
 heard_in before c t = of_tenure t (journal before c)
-
--- its last entry is a test that failed
-abbrev pub ends_invalid : List Entry → Bool
-ends_invalid [] = false
-ends_invalid (e ∷ before) = is_invalid e.answer

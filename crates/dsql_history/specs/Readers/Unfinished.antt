@@ -1,9 +1,9 @@
 -- The calls that have no reply yet.
 use Rattle.std.specs.Prelude.{ℕ, Bool, List, [], ◌∷◌, ◌++◌}
 use Rattle.dsql_journal.specs.Readers.{has}
+use Rattle.dsql_pool.specs.Pooled.{without}
 use Rattle.dsql_history.specs.declared.event.Event.{Event}
 use Rattle.dsql_history.specs.declared.event.Event.TheVariants.{Entered, Replied}
-use Rattle.dsql_history.specs.Readers.Lists.{without}
 
 -- the calls that have no reply yet, in the order in which they were entered
 abbrev pub unfinished : List Event → List ℕ

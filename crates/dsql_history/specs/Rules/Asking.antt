@@ -1,30 +1,52 @@
 -- What a call that asks for a connection makes.
-use Rattle.std.specs.Prelude.{ℕ, ◌==◌, Bool, true, not, ◌&&◌, cond, List}
-use Rattle.dsql_journal.specs.declared.entry.Owner.{Owner}
-use Rattle.dsql_journal.specs.Kinds.{is_call}
+use Rattle.std.specs.Prelude.{ℕ, Bool, true, false, not, ◌&&◌, ◌||◌, List, Result, Ok, Err, is_none}
 use Rattle.dsql_journal.specs.Readers.{is_empty}
+use Rattle.dsql_pool.specs.declared.moves.Move.{Move}
+use Rattle.dsql_pool.specs.declared.moves.Move.TheVariants.{OpenStart, Lend}
+use Rattle.dsql_pool.specs.declared.request.Asked.{Asked}
+use Rattle.dsql_pool.specs.declared.request.Asked.TheVariants.{Queued}
+use Rattle.dsql_pool.specs.declared.request.AskFault.{AskFault}
+use Rattle.dsql_pool.specs.declared.request.AskFault.TheVariants.{TooMany}
+use Rattle.dsql_pool.specs.Decisions as pools
+use Rattle.dsql_pool.specs.Calls.{wants, moves_asked}
+use Rattle.dsql_work.specs.Works.{asks}
 use Rattle.dsql_history.specs.declared.event.Event.{Event}
-use Rattle.dsql_history.specs.declared.event.Event.TheVariants.{Pool}
-use Rattle.dsql_history.specs.declared.event.Move.TheVariants.{OpenStart, Lend}
-use Rattle.dsql_history.specs.Readers.Lists.{last}
-use Rattle.dsql_history.specs.Readers.Course.{has_ended}
-use Rattle.dsql_history.specs.Readers.Sets.{place, is_idle, idle}
-use Rattle.dsql_history.specs.Readers.Calls.{has_not_asked}
+use Rattle.dsql_history.specs.declared.event.Event.TheVariants.{Waits, Pool}
+use Rattle.dsql_history.specs.Same.{is_first}
+use Rattle.dsql_history.specs.Readers.Works.{work}
+use Rattle.dsql_history.specs.Readers.Tries.{tries, has_a_try}
+use Rattle.dsql_history.specs.Readers.Pool.{pool, request}
+use Rattle.dsql_history.specs.Readers.Owed.{owed}
+use Rattle.dsql_history.specs.Readers.Calls.{reply_due}
 use Rattle.dsql_history.specs.Readers.Unfinished.{is_unfinished}
 
--- the call is under way, hasn't asked before and isn't refused, and the database isn't closed. Until retries come a call has one try
+-- the call works on a connection of its own, has a try left and nothing to come of an earlier one, and nothing is settled that it replies
 abbrev pub may_ask : List Event → ℕ → Bool
-may_ask before n = is_unfinished before n && has_not_asked before n && not (has_ended before)
+may_ask before n =
+    is_unfinished before n && (asks (work before n) && (has_a_try (tries before n) && (not (wants n (pool before)) && is_none (reply_due before n))))
 
--- a lending out of idle is of the connection that came back last
-abbrev pub takes_latest : List Event → ℕ → Owner → ℕ → Bool
-takes_latest before c owner n = may_ask before n && is_call owner && (last (idle before) == c)
+-- what the pool answers it
+abbrev pub ask_outcome : List Event → ℕ → Result Asked AskFault
+ask_outcome before n = pools.ask_outcome (request before n) (pool before)
 
--- an opening names the call that asked, where none is idle
-abbrev pub opens_for_itself : List Event → ℕ → Bool
-opens_for_itself before n = may_ask before n && is_empty (idle before)
+abbrev pub is_queued : Result Asked AskFault → Bool
+is_queued (Ok Queued) = true
+is_queued _ = false
+
+abbrev pub is_too_many : Result Asked AskFault → Bool
+is_too_many (Err TooMany) = true
+is_too_many _ = false
+
+-- call n asks, and this move comes of it
+abbrev pub is_asked_for : List Event → ℕ → Move → Bool
+is_asked_for before n move = may_ask before n && is_first (moves_asked (request before n) (ask_outcome before n)) move
+
+-- a lending or an opening that the pool doesn't owe comes of a call that asks
+abbrev pub unless_owed : List Event → ℕ → Move → Bool
+unless_owed before n move = not (is_empty (owed before)) || is_asked_for before n move
 
 abbrev pub keeps_asking : List Event → Event → Bool
-keeps_asking before (Pool (Lend c tenure owner n)) = cond (is_idle (place before c)) (takes_latest before c owner n) true
-keeps_asking before (Pool (OpenStart c n)) = opens_for_itself before n
+keeps_asking before (Pool (OpenStart c n)) = unless_owed before n (OpenStart c n)
+keeps_asking before (Pool (Lend c tenure owner n)) = unless_owed before n (Lend c tenure owner n)
+keeps_asking before (Waits n) = may_ask before n && is_queued (ask_outcome before n)
 keeps_asking before _ = true

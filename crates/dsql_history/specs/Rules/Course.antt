@@ -1,7 +1,7 @@
 -- The course of a history.
-use Rattle.std.specs.Prelude.{Bool, true, false, not, ◌&&◌, List, [], ◌∷◌}
+use Rattle.std.specs.Prelude.{◌==◌, Bool, true, false, not, ◌&&◌, List, [], ◌∷◌}
 use Rattle.dsql_history.specs.declared.event.Event.{Event}
-use Rattle.dsql_history.specs.declared.event.Event.TheVariants.{Run, Entered, Heard, Ended}
+use Rattle.dsql_history.specs.declared.event.Event.TheVariants.{Run, Entered, Heard, SetLimit, Ended}
 use Rattle.dsql_history.specs.Readers.Course.{has_ended}
 use Rattle.dsql_history.specs.Rules.House.{is_quiet}
 
@@ -9,12 +9,17 @@ abbrev pub is_run : Event → Bool
 is_run (Run version caps) = true
 is_run _ = false
 
+-- a report has the version 1
+abbrev pub is_first_version : Event → Bool
+is_first_version (Run version caps) = version == 1
+is_first_version _ = false
+
 -- its first event is a Run, and no other is
 abbrev pub begins_with_run : List Event → Event → Bool
-begins_with_run [] e = is_run e
+begins_with_run [] e = is_first_version e
 begins_with_run (_ ∷ before) e = not (is_run e)
 
--- the run ends at most once, and only where each call has its reply and there is no chore
+-- the run ends at most once, and only where each call has its reply or waits, and there is no chore
 abbrev pub ends_once : List Event → Event → Bool
 ends_once before Ended = not (has_ended before) && is_quiet before
 ends_once before _ = true
@@ -26,5 +31,6 @@ keeps_course before e = begins_with_run before e && ends_once before e
 abbrev pub is_from_outside : Event → Bool
 is_from_outside (Entered client n op) = true
 is_from_outside (Heard entry) = true
+is_from_outside (SetLimit setting n) = true
 is_from_outside Ended = true
 is_from_outside _ = false

@@ -1,179 +1,145 @@
--- The driver calls on a connection that is lent to a call: Reset where it is due, those of the call's course, those over the rows that it handed out, and
--- Valid where the driver can test and the connection isn't known to be bad.
-use Rattle.std.specs.Prelude.{ℕ, ◌==◌, nat_le, Bool, true, false, not, ◌&&◌, ◌||◌, cond, List, [], ◌∷◌, length, Option, Some, None, is_none, bytes_eq}
-use Rattle.dsql_value.specs.declared.value.Param.{Param}
-use Rattle.dsql_driver.specs.declared.caps.Caps.{Caps}
+-- The driver calls on a connection that is lent to a call: which a call would send next, whose turn it is, and which answers may come.
+use Rattle.std.specs.Prelude.{ℕ, ◌==◌, nat_le, Bool, true, false, not, ◌&&◌, ◌||◌, cond, List, [], ◌∷◌, Option, Some, None, is_none, is_some}
 use Rattle.dsql_driver.specs.declared.call.DriverCall.{DriverCall}
-use Rattle.dsql_driver.specs.declared.call.DriverCall.TheVariants.{Reset, Valid, Prepare, Exec, Query, Next, CloseRows, CloseStmt}
-use Rattle.dsql_driver.specs.declared.call.Input.{Input}
-use Rattle.dsql_driver.specs.declared.call.Input.TheVariants.{Text, Handle}
-use Rattle.dsql_course.specs.declared.course.Course.{Course}
-use Rattle.dsql_course.specs.declared.course.Course.TheVariants as courses
-use Rattle.dsql_course.specs.declared.call.Due.{Due}
-use Rattle.dsql_course.specs.declared.call.Due.TheVariants as course
 use Rattle.dsql_course.specs.declared.course.Wish.{Wish}
 use Rattle.dsql_course.specs.declared.course.Wish.TheVariants as wishes
-use Rattle.dsql_course.specs.Made.{Exchange, own_cursor, rows_are_over}
-use Rattle.dsql_course.specs.Line.{Found, comes_next}
-use Rattle.dsql_course.specs.Rows.{rows_next}
 use Rattle.dsql_journal.specs.declared.entry.Entry.{Entry}
 use Rattle.dsql_journal.specs.declared.entry.Owner.TheVariants.{Call}
-use Rattle.dsql_driver.specs.Kinds.{is_bad, is_valid}
+use Rattle.dsql_journal.specs.Kinds.{is_call, number_of}
+use Rattle.dsql_rows.specs.declared.rows.Rows.{Rows}
+use Rattle.dsql_rows.specs.OpenRows.{is_live}
+use Rattle.dsql_pool.specs.declared.conn.Place.{Place}
+use Rattle.dsql_pool.specs.declared.conn.Place.TheVariants.{Lent}
+use Rattle.dsql_pool.specs.declared.moves.Move.TheVariants.{Back, CloseStart}
+use Rattle.dsql_work.specs.declared.work.Work.{Work}
+use Rattle.dsql_work.specs.declared.work.Work.TheVariants.{Fetch, Close, Look}
+use Rattle.dsql_work.specs.Line.{Asked, aim_of, line_after, is_due}
 use Rattle.dsql_history.specs.declared.event.Event.{Event}
-use Rattle.dsql_history.specs.declared.event.Event.TheVariants.{Heard, Pool}
-use Rattle.dsql_history.specs.declared.event.Move.TheVariants.{Back, CloseStart}
-use Rattle.dsql_history.specs.declared.record.Place.{Place}
-use Rattle.dsql_history.specs.declared.record.Place.TheVariants.{Lent}
-use Rattle.dsql_history.specs.declared.reply.Reply.{Reply}
-use Rattle.dsql_history.specs.declared.work.Aim.{Aim}
-use Rattle.dsql_history.specs.declared.work.Aim.TheVariants as aims
-use Rattle.dsql_history.specs.declared.work.Work.{Work}
-use Rattle.dsql_history.specs.declared.work.Work.TheVariants.{ReadOne, HandOut, Fetch, Close}
-use Rattle.dsql_history.specs.Same.{same_params}
-use Rattle.dsql_history.specs.Readers.Course.{caps, has_ended}
-use Rattle.dsql_history.specs.Readers.Sets.{place, uses}
+use Rattle.dsql_history.specs.declared.event.Event.TheVariants.{Heard, Pool, Replied}
+use Rattle.dsql_history.specs.Readers.Course.{caps}
+use Rattle.dsql_history.specs.Readers.Unfinished.{is_unfinished}
+use Rattle.dsql_history.specs.Readers.Works.{work, is_fetch}
 use Rattle.dsql_history.specs.Readers.Journals.{heard_in}
-use Rattle.dsql_history.specs.Readers.Works.{work}
-use Rattle.dsql_history.specs.Readers.Calls.{call_record, sender, reply_due}
-use Rattle.dsql_history.specs.Readers.Exchanges.{exchanges}
+use Rattle.dsql_history.specs.Readers.Pool.{place, uses, home}
+use Rattle.dsql_history.specs.Readers.HandedOut.{rows_by, are_live, over, ender}
+use Rattle.dsql_history.specs.Readers.Calls.{call_record, site, decided}
 
 -- the driver can reset, and an earlier tenure of the connection had an owner other than the House
 abbrev pub is_reset_due : List Event → ℕ → Bool
 is_reset_due before c = (caps before).resetter && nat_le 2 (uses before c)
 
--- the test, where the driver has one
-abbrev pub test_of : Caps → Option DriverCall
-test_of can = cond can.validator (Some Valid) None
-
--- What a call asks of the driver: a text with parameters, and what becomes of that. It is executed, one row of it is read, or its rows are handed out.
-pub record Asked : Type 0 where
-  pub text : List ℕ
-  pub params : List Param
-  pub aim : Aim
-
--- its course
-abbrev pub course_of : Aim → Course
-course_of aims.Execute = courses.Exec
-course_of aims.ReadOne = courses.One
-course_of aims.HandOut = courses.Query
-
--- the run of a text or a handle
-abbrev pub run_for : Aim → Input → List Param → DriverCall
-run_for aims.Execute input params = Exec input params
-run_for _ input params = Query input params
-
-abbrev pub run_of : Asked → Input → DriverCall
-run_of asked input = run_for asked.aim input asked.params
-
--- no token can be cancelled yet, and on a connection that is known to be bad nothing is due
-abbrev pub going_on : Found
-going_on = record { stopped = false; bad = false }
-
--- The driver call that is a call of its course. At the end of that the connection is tested.
-abbrev pub sent_as : Caps → Asked → Due → Option DriverCall
-sent_as can asked course.Text = Some (run_of asked (Text asked.text))
-sent_as can asked course.Prepare = Some (Prepare asked.text)
-sent_as can asked (course.Handle handle) = Some (run_of asked (Handle handle))
-sent_as can asked (course.Next rows) = Some (Next rows)
-sent_as can asked (course.CloseRows rows) = Some (CloseRows rows)
-sent_as can asked (course.CloseStmt handle) = Some (CloseStmt handle)
-sent_as can asked _ = test_of can
-
--- the cursor of rows that are handed out
-abbrev pub handed : Aim → List Exchange → Option ℕ
-handed aims.HandOut made = own_cursor made
-handed aim made = None
-
--- what is sent over rows, where anything is
-abbrev pub sent_over : Caps → Asked → Option Due → Option DriverCall
-sent_over can asked None = None
-sent_over can asked (Some call) = sent_as can asked call
-
--- What is sent next after these exchanges: what the call's course has, and once it has handed out rows what is wanted of them.
-abbrev pub body_with : Caps → Asked → Wish → List Exchange → Option ℕ → Option DriverCall
-body_with can asked wish made None = sent_as can asked (comes_next (course_of asked.aim) can (length asked.params) going_on made)
-body_with can asked wish made (Some rows) = sent_over can asked (rows_next wish can (length asked.params) made rows)
-
-abbrev pub body_after : Caps → Asked → Wish → List Exchange → Option DriverCall
-body_after can asked wish made = body_with can asked wish made (handed asked.aim made)
-
--- what is sent next, after what was heard in the tenure, newest first; nothing comes after a Bad or a test
-abbrev pub line_after : Caps → Bool → Asked → Wish → List Entry → Option DriverCall
-line_after can reset_due asked wish [] = cond reset_due (Some Reset) (body_after can asked wish [])
-line_after can reset_due asked wish (e ∷ earlier) = cond (is_bad e.answer || is_valid e.call) None (body_after can asked wish (exchanges (e ∷ earlier)))
-
--- rows that are handed out keep the connection as long as they aren't over and nobody closes them
-abbrev pub keeps : Wish → Bool
-keeps wishes.Close = false
-keeps _ = true
-
-abbrev pub keeps_with : Wish → List Exchange → Option ℕ → Bool
-keeps_with wish made None = false
-keeps_with wish made (Some rows) = not (rows_are_over made) && keeps wish
-
-abbrev pub keeps_rows : Aim → Wish → List Exchange → Bool
-keeps_rows aim wish made = keeps_with wish made (handed aim made)
-
--- what becomes of the text of a call
-abbrev pub aim_of : Work → Aim
-aim_of (ReadOne dests) = aims.ReadOne
-aim_of (HandOut label) = aims.HandOut
-aim_of _ = aims.Execute
-
--- what a call asks
+-- what a call asks of the driver
 abbrev pub asked_by : List Event → ℕ → Asked
 asked_by before n = record { text = (call_record before n).text; params = (call_record before n).params; aim = aim_of (work before n) }
 
--- What is wanted of the rows of call n: what the call that sends there is to do and hasn't done. The end of the run closes all rows.
-abbrev pub wish_of : Bool → Work → Option Reply → Wish
-wish_of true it decided = wishes.Close
-wish_of false (Close k) None = wishes.Close
-wish_of false (Fetch k) None = wishes.Fetch
-wish_of false _ decided = wishes.Nothing
+-- what is sent next on a connection that is lent to call n, where this is wanted of the rows that it handed out
+abbrev pub line_at : List Event → ℕ → Wish → ℕ → Option Place → Option DriverCall
+line_at before n wish c (Some (Lent tenure (Call m))) =
+    cond (m == n) (line_after (caps before) (is_reset_due before c) (asked_by before n) wish (heard_in before c tenure)) None
+line_at before n wish c _ = None
 
-abbrev pub wish : List Event → ℕ → Wish
-wish before n = wish_of (has_ended before) (work before (sender before n)) (reply_due before (sender before n))
+abbrev pub line_of : List Event → ℕ → Wish → Option DriverCall
+line_of before n wish = line_at before n wish (home before n) (place before (home before n))
 
--- what is sent next on connection c, which is lent to call n in tenure t, if anything
-abbrev pub due : List Event → ℕ → ℕ → ℕ → Option DriverCall
-due before c t n = line_after (caps before) (is_reset_due before c) (asked_by before n) (wish before n) (heard_in before c t)
+-- rows are closed by the call that ended them, and are fetched from as long as they are live
+abbrev pub wish_as : Bool → Bool → Wish
+wish_as true fetches = wishes.Close
+wish_as false true = wishes.Fetch
+wish_as false false = wishes.Nothing
 
--- what is sent next where the rows are to be closed
-abbrev pub due_when_closed : List Event → ℕ → ℕ → ℕ → Option DriverCall
-due_when_closed before c t n = line_after (caps before) (is_reset_due before c) (asked_by before n) wishes.Close (heard_in before c t)
+-- what call m wants of the rows of call k
+abbrev pub wish : List Event → ℕ → ℕ → Wish
+wish before m k = wish_as (ender before k == m) (is_fetch (work before m) && (are_live before k && is_none (decided before m)))
 
--- the rows of call n keep connection c, which is lent to it in tenure t
-abbrev pub is_kept_by_rows : List Event → ℕ → ℕ → ℕ → Bool
-is_kept_by_rows before c t n = keeps_rows (aim_of (work before n)) (wish before n) (exchanges (heard_in before c t))
+-- what is sent over the rows of call k, if anything is wanted of them
+abbrev pub sent_for : List Event → ℕ → Wish → Option DriverCall
+sent_for before k wishes.Nothing = None
+sent_for before k wish = line_of before k wish
 
--- the call is the one that is due
-abbrev pub is_due : Option DriverCall → DriverCall → Bool
-is_due (Some Reset) Reset = true
-is_due (Some Valid) Valid = true
-is_due (Some (Prepare text)) (Prepare other) = bytes_eq text other
-is_due (Some (Exec (Text text) params)) (Exec (Text other) others) = bytes_eq text other && same_params params others
-is_due (Some (Exec (Handle handle) params)) (Exec (Handle other) others) = (handle == other) && same_params params others
-is_due (Some (Query (Text text) params)) (Query (Text other) others) = bytes_eq text other && same_params params others
-is_due (Some (Query (Handle handle) params)) (Query (Handle other) others) = (handle == other) && same_params params others
-is_due (Some (Next rows)) (Next other) = rows == other
-is_due (Some (CloseRows rows)) (CloseRows other) = rows == other
-is_due (Some (CloseStmt handle)) (CloseStmt other) = handle == other
-is_due _ call = false
+abbrev pub due_in : List Event → ℕ → Work → Option DriverCall
+due_in before m (Fetch k) = sent_for before k (wish before m k)
+due_in before m (Close k) = sent_for before k (wish before m k)
+due_in before m Look = None
+due_in before m it = line_of before m wishes.Nothing
 
--- a call on the database sends what is due
-abbrev pub sends_from : List Event → Place → Entry → Bool
-sends_from before (Lent tenure (Call n)) e = is_due (due before e.conn tenure n) e.call
-sends_from before (Lent tenure owner) e = false
+-- the driver call that call m would send next on the connection that it uses, if any
+abbrev pub due_for : List Event → ℕ → Option DriverCall
+due_for before m = cond (is_unfinished before m) (due_in before m (work before m)) None
+
+-- what the layer itself would send next to close the rows of call n, which no call has ended
+abbrev pub tidying : List Event → ℕ → Option DriverCall
+tidying before n = cond (over (rows_by before n) && (ender before n == 0)) (line_of before n wishes.Close) None
+
+-- what call m would send next on the connection of call n, and at 0 the layer
+abbrev pub due_from : List Event → ℕ → ℕ → Option DriverCall
+due_from before m n = cond (m == 0) (tidying before n) (due_for before m)
+
+-- What is still to be sent on the connection that is lent to call n, whoever sends it: over its rows, once they are over, or else by itself.
+abbrev pub rest_with : List Event → ℕ → Option Rows → Option DriverCall
+rest_with before n None = line_of before n wishes.Nothing
+rest_with before n (Some rows) = cond (is_live rows) None (line_of before n wishes.Close)
+
+abbrev pub rest : List Event → ℕ → Option DriverCall
+rest before n = rest_with before n (rows_by before n)
+
+-- the connection that is lent to call n is in use: its rows are live, or something is still to be sent there
+abbrev pub is_used : List Event → ℕ → Bool
+is_used before n = are_live before n || is_some (rest before n)
+
+-- who sent the newest of these, 0 for none and for the layer
+abbrev pub newest_sender : List Entry → ℕ
+newest_sender [] = 0
+newest_sender (e ∷ earlier) = e.call_no
+
+-- the call, if it has something more to send, and else 0
+abbrev pub if_sending : List Event → ℕ → ℕ
+if_sending before m = cond (is_some (due_for before m)) m 0
+
+abbrev pub holder_at : List Event → ℕ → Option Place → ℕ
+holder_at before c (Some (Lent tenure owner)) = if_sending before (newest_sender (heard_in before c tenure))
+holder_at before c _ = 0
+
+-- Who holds the turn on connection c: the call that sent the newest driver call of its tenure and has more to send; 0 for none. Each call of the layer is an operation of its own.
+abbrev pub holder : List Event → ℕ → ℕ
+holder before c = holder_at before c (place before c)
+
+-- the turn on connection c is free, or call m's
+abbrev pub has_turn : List Event → ℕ → ℕ → Bool
+has_turn before c m = (holder before c == 0) || (holder before c == m)
+
+-- call m uses that connection, where it isn't the layer
+abbrev pub is_at : List Event → ℕ → ℕ → Bool
+is_at before m c = (m == 0) || (site before m == c)
+
+-- now, on a connection in this place, the entry is what its call has to send, and it is its turn
+abbrev pub is_due_at : List Event → Option Place → Entry → Bool
+is_due_at before (Some (Lent tenure (Call n))) e =
+    (e.tenure == tenure) && (is_at before e.call_no e.conn && (has_turn before e.conn e.call_no && is_due (due_from before e.call_no n) e.call))
+is_due_at before _ e = false
+
+-- what was under way before the event isn't so after it: an answer was heard on that connection, or its call has its reply
+abbrev pub parts : Event → Entry → Bool
+parts (Heard last) e = last.conn == e.conn
+parts (Replied n reply) e = n == e.call_no
+parts _ e = false
+
+-- The entry is due now, or was due at an earlier moment since which nothing was heard on its connection: what is under way there stays welcome, whatever comes meanwhile.
+abbrev pub may_come : List Event → Entry → Bool
+may_come [] e = false
+may_come (last ∷ earlier) e =
+    is_due_at (last ∷ earlier) (place (last ∷ earlier) e.conn) e || (not (parts last e) && may_come earlier e)
+
+abbrev pub sends_from : List Event → Option Place → Entry → Bool
+sends_from before (Some (Lent tenure owner)) e = may_come before e
 sends_from before _ e = true
 
--- it lets its connection go once nothing is due any more, and no rows keep it
-abbrev pub leaves_from : List Event → Place → ℕ → Bool
-leaves_from before (Lent tenure (Call n)) c = is_none (due before c tenure n) && not (is_kept_by_rows before c tenure n)
-leaves_from before (Lent tenure owner) c = false
-leaves_from before _ c = true
+-- a connection leaves its call once it isn't in use any more
+abbrev pub leaves_from : List Event → Option Place → Bool
+leaves_from before (Some (Lent tenure owner)) = is_call owner && not (is_used before (number_of owner))
+leaves_from before _ = true
 
 abbrev pub keeps_line : List Event → Event → Bool
 keeps_line before (Heard e) = sends_from before (place before e.conn) e
-keeps_line before (Pool (Back c)) = leaves_from before (place before c) c
-keeps_line before (Pool (CloseStart c cause)) = leaves_from before (place before c) c
+keeps_line before (Pool (Back c)) = leaves_from before (place before c)
+keeps_line before (Pool (CloseStart c cause)) = leaves_from before (place before c)
 keeps_line before _ = true

@@ -7,7 +7,7 @@ ghost use Rattle.dsql_reader.specs.ScriptLines.{client_line, start_line, limit_a
 use crate::fault::LineFault;
 use crate::reader::{calls, words};
 use crate::script::ScriptLine;
-use dsql_clients::Setting;
+use dsql_history::Setting;
 use std::alloc::Global;
 
 /// Reads a client's line, of a call that is held or isn't, by its first word, those after it and its array.

@@ -10,7 +10,7 @@ use crate::fault::{LineFault, What};
 use crate::reader::args::{self, MAX_ARGS};
 use crate::reader::dests::read_dests;
 use crate::reader::{array, rows, targets};
-use dsql_clients::Op;
+use dsql_history::Op;
 use dsql_scan::Dests;
 use dsql_value::{Args, Items, Txt};
 use std::alloc::Global;

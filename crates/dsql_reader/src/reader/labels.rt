@@ -6,7 +6,7 @@ ghost use Rattle.dsql_reader.specs.Outcomes.{IsFault};
 
 use crate::fault::LineFault;
 use crate::script::ScriptLine;
-use dsql_clients::Op;
+use dsql_history::Op;
 use indexmap::IndexSet;
 use std::alloc::Global;
 use std::marker::Model;

@@ -10,7 +10,7 @@ use crate::fault::{LineFault, What};
 use crate::reader::args::MAX_ARGS;
 use crate::reader::dests::read_dests;
 use crate::reader::words;
-use dsql_clients::Op;
+use dsql_history::Op;
 use dsql_value::Txt;
 use std::alloc::Global;
 

@@ -2,9 +2,9 @@ ghost use Rattle.std.specs.Prelude.{◌≡◌, ◌∷◌, ◌++◌, [], pos, neg
 ghost use Rattle.dsql_value.specs.declared.arg.Arg.TheVariants as arg;
 ghost use Rattle.dsql_value.specs.WorkedArguments.{plain, named_one};
 ghost use Rattle.dsql_scan.specs.declared.dest.Dest.TheVariants as dest;
-ghost use Rattle.dsql_clients.specs.declared.event.Op.TheVariants.{Exec, One};
-ghost use Rattle.dsql_clients.specs.declared.event.Op.TheVariants as op;
-ghost use Rattle.dsql_clients.specs.declared.event.Setting.TheVariants.{MaxOpen, MaxIdle};
+ghost use Rattle.dsql_history.specs.declared.event.Op.TheVariants.{Exec, One};
+ghost use Rattle.dsql_history.specs.declared.event.Op.TheVariants as op;
+ghost use Rattle.dsql_history.specs.declared.event.Setting.TheVariants.{MaxOpen, MaxIdle};
 ghost use Rattle.dsql_reader.specs.declared.fault.What.TheVariants.{Lines, Args};
 ghost use Rattle.dsql_reader.specs.declared.fault.LineFault.TheVariants.{TooLong, NotUtf8, NoSuchWord, BadJson, BadShape, UnknownLabel, LabelTaken, TooMany};
 ghost use Rattle.dsql_reader.specs.declared.script.ScriptLine.TheVariants.{Skip, Version, UseCaps, Set, Client, Step, StepHouse};

@@ -13,8 +13,8 @@ use crate::line::parts::{
 };
 use crate::line::replies::write_reply;
 use arrayvec::ArrayString;
-use dsql_clients::{CloseCause, Event, Move, Reply, Setting};
 use dsql_driver::Caps;
+use dsql_history::{CloseCause, Event, Move, Reply, Setting};
 use dsql_journal::{Entry, Owner};
 use itoa::Buffer;
 use json::Writer;

@@ -7,7 +7,7 @@ ghost use Rattle.dsql_report.specs.Spelling.{tokens_of, Adds, Spells};
 use crate::dests::dests_word;
 use crate::line::args::write_statement;
 use crate::line::parts::{begin_numbered, write_natural};
-use dsql_clients::Op;
+use dsql_history::Op;
 use dsql_value::Txt;
 use json::Writer;
 use std::alloc::{AllocError, Global};

@@ -8,7 +8,7 @@ ghost use Rattle.dsql_report.specs.Spelling.{Adds, Spells};
 
 use crate::line::parts::{begin, write_integer, write_natural, write_word};
 use crate::line::values::{write_cells, write_texts};
-use dsql_clients::{DbEnd, FaultWord, Reply, Stats};
+use dsql_history::{DbEnd, FaultWord, Reply, Stats};
 use dsql_pool::MOST_OPEN;
 use dsql_rows::{Cause, RowsOver};
 use dsql_scan::Cell;

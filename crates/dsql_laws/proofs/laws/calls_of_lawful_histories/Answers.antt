@@ -1,23 +1,16 @@
-use Rattle.dsql_laws.proofs.SoundCalls.{sound_calls}
+use Rattle.dsql_laws.proofs.Numbered.{unfinished_from_one}
+use Rattle.dsql_laws.proofs.Holdings.{one_at_most}
+use Rattle.dsql_laws.proofs.Wanting.{wants_its_own, sends_or_wants}
 use Rattle.dsql_laws.proofs.laws.calls_of_lawful_histories.Goals as goal
 
-pub returns-clause-owner : goal.returns-clause-owner
-returns-clause-owner c = λ H d t o l. let s = sound_calls H l in s.owners d t o
+pub returns-clause-numbered : goal.returns-clause-numbered
+returns-clause-numbered c = unfinished_from_one
 
 pub returns-clause-one : goal.returns-clause-one
-returns-clause-one c = λ H d n l. let s = sound_calls H l in s.at_home d n
+returns-clause-one c = one_at_most
 
-pub returns-clause-within : goal.returns-clause-within
-returns-clause-within c = λ H d n l. let s = sound_calls H l in s.entered_ones d n
+pub returns-clause-own : goal.returns-clause-own
+returns-clause-own c = wants_its_own
 
-pub returns-clause-opening : goal.returns-clause-opening
-returns-clause-opening c = λ H d n l. let s = sound_calls H l in s.opening_ones d n
-
-pub returns-clause-unfinished : goal.returns-clause-unfinished
-returns-clause-unfinished c = λ H d n l. let s = sound_calls H l in s.unfinished_ones d n
-
-pub returns-clause-number : goal.returns-clause-number
-returns-clause-number c = λ H n l. let s = sound_calls H l in s.within n
-
-pub returns-clause-ended : goal.returns-clause-ended
-returns-clause-ended c = λ H d n l h. let s = sound_calls H l in s.ended_none h d n
+pub returns-clause-silent : goal.returns-clause-silent
+returns-clause-silent c = sends_or_wants

@@ -1,4 +1,4 @@
-use Rattle.dsql_laws.proofs.JournalLaws.{keeps_journals_of}
+use Rattle.dsql_laws.proofs.Journals.{keeps_journals_of}
 use Rattle.dsql_laws.proofs.laws.journals_of_lawful_histories.Goals as goal
 
 pub returns : goal.returns

@@ -1,4 +1,4 @@
-use Rattle.dsql_run.proofs.Telling.{whole_at_zero, known_of_run, known_of_words, read_fault_at_three, write_fault_at_four}
+use Rattle.dsql_outcome.proofs.Telling.{whole_at_zero, known_of_run, known_of_words, read_fault_at_three, write_fault_at_four}
 use Rattle.dsql_run.proofs.program.sqlrun.Goals as goal
 
 pub returns-then-is_play-clause-headline : goal.returns-then-is_play-clause-headline

@@ -1,4 +1,4 @@
-use Rattle.dsql_client_hearing.proofs.Steps.{landed_apart}
+use Rattle.dsql_hearing.proofs.Steps.{landed_apart}
 use Rattle.dsql_turn_laws.proofs.Steps.{new_parked}
 use Rattle.dsql_turn_laws.proofs.turns.who_goes_on_has_none_under_way.Goals as goal
 

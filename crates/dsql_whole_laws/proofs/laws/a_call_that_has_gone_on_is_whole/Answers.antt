@@ -1,5 +1,5 @@
 use Rattle.std.proofs.Common.{◌≡◌, true, not, ◌||◌, sym, subst}
-use Rattle.dsql_clients.specs.Rules.Flights.{is_in_flight, may_move}
+use Rattle.dsql_history.specs.Rules.Flights.{is_in_flight, may_move}
 use Rattle.dsql_whole_laws.proofs.GoneOn.{call_whole, layer_whole}
 use Rattle.dsql_whole_laws.proofs.laws.a_call_that_has_gone_on_is_whole.Goals as goal
 

@@ -1,5 +1,5 @@
 use Rattle.std.proofs.Common.{◌∷◌, ◌++◌}
-use Rattle.dsql_clients.specs.declared.event.Event.TheVariants.{Heard}
+use Rattle.dsql_history.specs.declared.event.Event.TheVariants.{Heard}
 use Rattle.dsql_wires.proofs.Asking.{wire_fits, performed_fits, performed_told}
 use Rattle.dsql_wires.proofs.Telling.{tells_none}
 use Rattle.dsql_wires.proofs.laws.an_answer_keeps_the_wires.Goals as goal

@@ -2,7 +2,8 @@ use Rattle.std.proofs.Common.{◌≡◌, sym, ap, ◌∙◌}
 use Rattle.std.specs.Prelude.{position}
 use Rattle.std.specs.Option.{option_copied}
 use Rattle.indexmap.specs.IndexMap.{get_by_text}
-use Rattle.dsql_history.specs.Readers.Works.{works, has_label, or_zero}
+use Rattle.dsql_work.specs.Works.{has_label, or_zero}
+use Rattle.dsql_history.specs.Readers.Works.{works}
 use Rattle.dsql_desk.specs.Desk.{past, Stands}
 use Rattle.dsql_desk.proofs.desk.Desk.maker.Goals as goal
 
@@ -11,7 +12,7 @@ unfolding Stands
 returns-in-Some c =
     let label = c.args.label.now in
     let found : position (has_label label) (works (past c.args.self.now)) ≡ option_copied c.get.result
-    = sym (c.requires.labels label) ∙ ap (get_by_text c.args.self.now.labels) (sym c.as_str.ensures) ∙ sym c.get.ensures.value in
+    = sym (c.requires.tables.labels label) ∙ ap (get_by_text c.args.self.now.labels) (sym c.as_str.ensures) ∙ sym c.get.ensures.value in
     sym (ap or_zero (found ∙ ap option_copied c.in-Some.is))
 
 pub returns-in-None : goal.returns-in-None
@@ -19,5 +20,5 @@ unfolding Stands
 returns-in-None c =
     let label = c.args.label.now in
     let found : position (has_label label) (works (past c.args.self.now)) ≡ option_copied c.get.result
-    = sym (c.requires.labels label) ∙ ap (get_by_text c.args.self.now.labels) (sym c.as_str.ensures) ∙ sym c.get.ensures.value in
+    = sym (c.requires.tables.labels label) ∙ ap (get_by_text c.args.self.now.labels) (sym c.as_str.ensures) ∙ sym c.get.ensures.value in
     sym (ap or_zero (found ∙ ap option_copied c.in-None.is))

@@ -1,40 +1,26 @@
-use Rattle.std.proofs.Common.{◌≡◌, sym, ◌∙◌, refl, None, Some}
-use Rattle.dsql_history.specs.Rules.House.{tidy_due, shut_due}
-use Rattle.dsql_engine.specs.Awaited.{awaited}
+use Rattle.std.proofs.Common.{◌≡◌, Some, None, sym, subst, ◌∙◌}
 use Rattle.dsql_desk.specs.Desk.{past}
-use Rattle.dsql_engine.proofs.Chores.{chore_tidy, chore_shut, chore_connect, chore_none, none_when}
-use Rattle.dsql_engine.proofs.Tidying.{untidy_at}
+use Rattle.dsql_engine.proofs.Chores.{chore_given, chore_quiet, chore_sent}
+use Rattle.dsql_history.specs.Rules.House.{chore_due}
+use Rattle.dsql_going.specs.declared.next.Next.TheVariants.{Send, Quiet}
+use Rattle.dsql_engine.specs.Chores.{IsChore}
+use Rattle.dsql_engine.specs.Core.{Core}
 use Rattle.dsql_engine.proofs.engine.Engine.chore.Goals as goal
 
-pub tidy_permit-requires-clause-untidy : goal.tidy_permit-requires-clause-untidy
-tidy_permit-requires-clause-untidy c = untidy_at (past c.self.inside.desk) c.in-Some.conn (sym c.tidy_due.ensures ∙ c.in-Some.is)
+pub chore_permit-requires-clause-due : goal.chore_permit-requires-clause-due
+chore_permit-requires-clause-due c = chore_given (past c.self.inside.desk) c.in-Some.conn (sym c.chore_due.ensures ∙ c.in-Some.is)
 
-pub returns-in-Some : goal.returns-in-Some
-returns-in-Some c =
+pub returns-in_default-clause-next : goal.returns-in_default-clause-next
+returns-in_default-clause-next c =
     let H = past c.self.inside.desk in
-    let waits : awaited H c.in-Some.conn ≡ Some c.in_ok-tidy_permit.field-0 = c.in_ok-tidy_permit.ensures in
-    let k = chore_tidy H c.in-Some.conn c.in_ok-tidy_permit.field-0 (sym c.tidy_due.ensures ∙ c.in-Some.is) waits in
-    record { first = rw (← c.self.view_is) k }
+    let none : chore_due H ≡ None = sym c.chore_due.ensures ∙ c.in_default.is in
+    let free : c.self.inside.chore ≡ None = subst (λ (v : Core). v.chore ≡ None) (sym c.self.view_is) c.requires.free in
+    subst (λ (v : Core). IsChore v.past Quiet v) c.self.view_is (record { next_is = chore_quiet H none; chore = free ∙ sym none })
 
-pub returns-in-Some-shut_due : goal.returns-in-Some-shut_due
-returns-in-Some-shut_due c =
+pub returns-clause-next : goal.returns-clause-next
+returns-clause-next c =
     let H = past c.self.inside.desk in
-    let tidy : tidy_due H ≡ None = none_when c.tidy_due.result (tidy_due H) c.tidy_due.ensures c.in_default.not-Some in
-    let k = chore_shut H c.in-Some-shut_due.conn tidy (sym c.shut_due.ensures ∙ c.in-Some-shut_due.is) in
-    record { first = rw (c.shut_permit.ensures, ← c.self.view_is) k }
-
-pub returns-in-Some-connect_due : goal.returns-in-Some-connect_due
-returns-in-Some-connect_due c =
-    let H = past c.self.inside.desk in
-    let tidy : tidy_due H ≡ None = none_when c.tidy_due.result (tidy_due H) c.tidy_due.ensures c.in_default.not-Some in
-    let shut : shut_due H ≡ None = none_when c.shut_due.result (shut_due H) c.shut_due.ensures c.in_default-shut_due.not-Some in
-    let k = chore_connect H c.in-Some-connect_due.conn tidy shut (sym c.connect_due.ensures ∙ c.in-Some-connect_due.is) in
-    record { first = rw (c.connect_permit.ensures, ← c.self.view_is) k }
-
-pub returns-in-None : goal.returns-in-None
-returns-in-None c =
-    let H = past c.self.inside.desk in
-    let tidy : tidy_due H ≡ None = none_when c.tidy_due.result (tidy_due H) c.tidy_due.ensures c.in_default.not-Some in
-    let shut : shut_due H ≡ None = none_when c.shut_due.result (shut_due H) c.shut_due.ensures c.in_default-shut_due.not-Some in
-    let k = chore_none H tidy shut (sym c.connect_due.ensures ∙ c.in-None.is) in
-    record { first = (refl, rw (← c.self.view_is) k) }
+    let due : chore_due H ≡ Some c.in-Some.conn = sym c.chore_due.ensures ∙ c.in-Some.is in
+    let now : Core = record { past = H; flights = c.self.inside.flights.flights; chore = Some c.in-Some.conn } in
+    subst (λ (v : Core). IsChore v.past (Send c.in_ok-permit.permit) now) c.self.view_is
+    (record { next_is = chore_sent H c.in-Some.conn c.in_ok-permit.permit due c.in_ok-permit.ensures; chore = sym due })

@@ -1,6 +1,6 @@
 use Rattle.std.proofs.Common.{rules, ap, ◌∙◌}
 use Rattle.std.proofs.lemmas.Fn.{filter_same}
-use Rattle.dsql_clients.specs.Rules.Flights.{without_flight}
+use Rattle.dsql_history.specs.Rules.Flights.{without_flight}
 use Rattle.dsql_flights.specs.UnderWay.{UnderWay}
 use Rattle.dsql_flights.proofs.flights.Flights.land.Goals as goal
 

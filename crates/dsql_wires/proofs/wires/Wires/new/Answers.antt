@@ -1,5 +1,5 @@
 use Rattle.std.proofs.Common.{refl, [], ◌∷◌}
-use Rattle.dsql_clients.specs.declared.event.Event.TheVariants.{Run}
+use Rattle.dsql_history.specs.declared.event.Event.TheVariants.{Run}
 use Rattle.dsql_wires.proofs.Wiring.{fresh_fits}
 use Rattle.dsql_wires.proofs.wires.Wires.new.Goals as goal
 

@@ -5,7 +5,7 @@ use Rattle.std.proofs.lemmas.Result.{IfOk-weaker, on_err_weaker}
 use Rattle.dsql_wire.specs.Journaled.{Journaled, MayBeSent}
 use Rattle.dsql_wires.specs.WiresFit.{slot, HearsEntry, KeepsFit}
 use Rattle.dsql_wires.proofs.Slots.{wire_here, heard_here}
-use Rattle.dsql_clients.specs.declared.event.Event.{Event}
+use Rattle.dsql_history.specs.declared.event.Event.{Event}
 use Rattle.dsql_wires.proofs.Wiring.{still_fits}
 use Rattle.dsql_wires.proofs.wires.Wires.perform.Goals as goal
 

@@ -1,9 +1,0 @@
-use Rattle.std.proofs.Common.{ap, arith}
-use Rattle.dsql_client_desk.proofs.Present.{few_openings}
-use Rattle.dsql_client_desk.proofs.desk.Desk.note_limit.Goals as goal
-
-pub set_limit-requires-clause-drawn : goal.set_limit-requires-clause-drawn
-set_limit-requires-clause-drawn c =
-    let few = few_openings c.args.self.now c.requires.may.stands c.requires.may.few in
-    let same = ap (λ q. q.pooled.drawn) c.add_beside.ensures.pool in
-    omega (arith, few, same)

@@ -1,5 +1,0 @@
-pub mod Splits
-pub mod Holdings
-pub mod OwedMade
-pub mod Leaving
-pub mod Asked

@@ -1,0 +1,76 @@
+-- What comes of a call that asks, and what it leaves.
+use Rattle.std.proofs.Common.{◌≡◌, ◌≢◌, ℕ, Bool, true, false, not, ◌&&◌, List, ◌∷◌, Option, Some, None, refl, sym, ap, is_none, arith}
+use Rattle.std.specs.Prelude.{Result, Ok, Err}
+use Rattle.dsql_journal.specs.declared.entry.Owner.TheVariants.{Call}
+use Rattle.dsql_pool.specs.declared.request.Asked.{Asked}
+use Rattle.dsql_pool.specs.declared.request.Asked.TheVariants as asked
+use Rattle.dsql_pool.specs.declared.request.AskFault.{AskFault}
+use Rattle.dsql_pool.specs.Moved.{begun}
+use Rattle.dsql_pool.specs.Calls.{MayAsk, after_asked, wants}
+use Rattle.dsql_work.specs.Works.{asks}
+use Rattle.dsql_history.specs.declared.event.Event.{Event}
+use Rattle.dsql_history.specs.Readers.Pool.{pool, request, wanted_by}
+use Rattle.dsql_history.specs.Readers.Tries.{tries, has_a_try}
+use Rattle.dsql_history.specs.Readers.Works.{work}
+use Rattle.dsql_history.specs.Readers.Calls.{reply_due}
+use Rattle.dsql_history.specs.Readers.Unfinished.{is_unfinished}
+use Rattle.dsql_history.specs.Rules.Asking.{may_ask}
+use Rattle.dsql_history.specs.Legal.{Lawful, Calm}
+use Rattle.dsql_laws.specs.Asked.{with_asked}
+use Rattle.dsql_laws.proofs.Tests.{both, other_number}
+use Rattle.dsql_laws.proofs.Numbered.{unfinished_from_one}
+use Rattle.dsql_desk.specs.Appending.{event_asked}
+use Rattle.dsql_desk.proofs.Moves.{Leaves}
+
+not_true : (b : Bool) → not b ≡ true → b ≡ false
+not_true true h = absurd cc
+not_true false h = refl
+
+pub numbered : (H : List Event) (n : ℕ) → Lawful H → may_ask H n ≡ true → n ≢ 0
+numbered H n l may =
+    let a = both (is_unfinished H n) (asks (work H n) && (has_a_try (tries H n) && (not (wants n (pool H)) && is_none (reply_due H n)))) may in
+    unfinished_from_one H n l a.0
+
+pub may_request : (H : List Event) (n : ℕ) → Lawful H → may_ask H n ≡ true → MayAsk (request H n) (pool H)
+may_request H n l may =
+    let a = both (is_unfinished H n) (asks (work H n) && (has_a_try (tries H n) && (not (wants n (pool H)) && is_none (reply_due H n)))) may in
+    let b = both (asks (work H n)) (has_a_try (tries H n) && (not (wants n (pool H)) && is_none (reply_due H n))) a.1 in
+    let d = both (has_a_try (tries H n)) (not (wants n (pool H)) && is_none (reply_due H n)) b.1 in
+    let e = both (not (wants n (pool H))) (is_none (reply_due H n)) d.1 in
+    let some = numbered H n l may in
+    record { owner = refl; call = refl; numbered = omega (arith, some); new = not_true (wants n (pool H)) e.0; asked = refl }
+
+pub asked_leaves : (n : ℕ) (a : Result Asked AskFault) (H : List Event) → Leaves H (with_asked n a H)
+asked_leaves n (Ok (asked.Lent c t)) H = record { caps = refl; db_end = refl; has_ended = refl; unfinished = refl; works = refl; handed_out = refl }
+asked_leaves n (Ok (asked.Opening c)) H = record { caps = refl; db_end = refl; has_ended = refl; unfinished = refl; works = refl; handed_out = refl }
+asked_leaves n (Ok asked.Queued) H = record { caps = refl; db_end = refl; has_ended = refl; unfinished = refl; works = refl; handed_out = refl }
+asked_leaves n (Ok asked.Closed) H = record { caps = refl; db_end = refl; has_ended = refl; unfinished = refl; works = refl; handed_out = refl }
+asked_leaves n (Err why) H = record { caps = refl; db_end = refl; has_ended = refl; unfinished = refl; works = refl; handed_out = refl }
+
+pub asked_calm : (n : ℕ) (a : Result Asked AskFault) (H : List Event) → Calm H → Calm (with_asked n a H)
+asked_calm n (Ok (asked.Lent c t)) H calm = (calm, λ outside. absurd cc)
+asked_calm n (Ok (asked.Opening c)) H calm = (calm, λ outside. absurd cc)
+asked_calm n (Ok asked.Queued) H calm = (calm, λ outside. absurd cc)
+asked_calm n (Ok asked.Closed) H calm = calm
+asked_calm n (Err why) H calm = calm
+
+wanted_is : (n : ℕ) → n ≢ 0 → wanted_by n ≡ Some (Call n)
+wanted_is n some = let other = other_number n 0 some in rw other refl
+
+pub asked_pool : (n : ℕ) (a : Result Asked AskFault) (H : List Event) → n ≢ 0 → pool (with_asked n a H) ≡ after_asked (request H n) a (pool H)
+asked_pool n (Ok (asked.Lent c t)) H some = refl
+asked_pool n (Ok (asked.Opening c)) H some = ap (λ w. begun w (pool H)) (wanted_is n some)
+asked_pool n (Ok asked.Queued) H some = refl
+asked_pool n (Ok asked.Closed) H some = refl
+asked_pool n (Err why) H some = refl
+
+abbrev event_or : Event → Option Event → Event
+event_or d None = d
+event_or d (Some e) = e
+
+pub one_came : (n : ℕ) (a : Result Asked AskFault) (e : Event) (H : List Event) → event_asked n a ≡ Some e → e ∷ H ≡ with_asked n a H
+one_came n (Ok (asked.Lent c t)) e H is = ap (λ f. f ∷ H) (sym (ap (event_or e) is))
+one_came n (Ok (asked.Opening c)) e H is = ap (λ f. f ∷ H) (sym (ap (event_or e) is))
+one_came n (Ok asked.Queued) e H is = ap (λ f. f ∷ H) (sym (ap (event_or e) is))
+one_came n (Ok asked.Closed) e H is = absurd cc
+one_came n (Err why) e H is = absurd cc

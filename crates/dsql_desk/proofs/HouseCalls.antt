@@ -1,0 +1,77 @@
+-- An answer to the layer itself, where it opened a connection or closed it.
+use Rattle.std.proofs.Common.{◌≡◌, ℕ, ◌==◌, true, false, ◌&&◌, List, [], ◌∷◌, Option, Some, refl, sym, ap, ◌∙◌, subst}
+use Rattle.std.specs.Prelude.{slice_set}
+use Rattle.std.proofs.lemmas.List.{set-get_or}
+use Rattle.dsql_driver.specs.declared.call.DriverCall.{DriverCall}
+use Rattle.dsql_driver.specs.declared.call.DriverCall.TheVariants.{Connect, Shut}
+use Rattle.dsql_driver.specs.Kinds.{is_connect, is_shut}
+use Rattle.dsql_journal.specs.declared.entry.Entry.{Entry}
+use Rattle.dsql_pool.specs.declared.conn.Place.{Place}
+use Rattle.dsql_pool.specs.declared.conn.Place.TheVariants.{Opening, Closing}
+use Rattle.dsql_pool.specs.Pooled.{Pooled, next_tenure}
+use Rattle.dsql_work.specs.declared.work.Work.{Work}
+use Rattle.dsql_work.specs.declared.work.Work.TheVariants.{HandOut, Fetch}
+use Rattle.dsql_work.specs.HandedOut.{Made}
+use Rattle.dsql_history.specs.declared.event.Event.{Event}
+use Rattle.dsql_history.specs.declared.event.Event.TheVariants.{Heard}
+use Rattle.dsql_history.specs.declared.record.CallRecord.{CallRecord}
+use Rattle.dsql_history.specs.Readers.Calls.{decided_by}
+use Rattle.dsql_history.specs.Readers.HandedOut.{handed_out}
+use Rattle.dsql_history.specs.Readers.Owed.{answered}
+use Rattle.dsql_history.specs.Readers.Works.{work}
+use Rattle.dsql_history.specs.Rules.Moves.{hears_in, is_house_entry}
+use Rattle.dsql_laws.proofs.Tests.{both}
+use Rattle.dsql_desk.specs.declared.call.CallRow.{CallRow}
+use Rattle.dsql_desk.specs.Adding.{opens_or_shuts}
+use Rattle.dsql_desk.specs.Calls.{KeepsCalls, nobody, row_at}
+use Rattle.dsql_desk.specs.Heard.{HearsRows, calls_after, calls_told, is_fetch_or_query}
+use Rattle.dsql_desk.proofs.Beside.{rows_beside, calls_beside}
+use Rattle.dsql_desk.proofs.Kept.{heard_keeps}
+use Rattle.dsql_desk.proofs.MadeKnown.{made_known}
+
+hears_nothing : (w : Work) (n : ℕ) (q : DriverCall) (made : Made) → opens_or_shuts q ≡ true → HearsRows w n q made
+hears_nothing (HandOut label) n Connect made opens = tt
+hears_nothing (HandOut label) n Shut made opens = tt
+hears_nothing (Fetch k) n Connect made opens = tt
+hears_nothing (Fetch k) n Shut made opens = tt
+hears_nothing w n Connect made opens = tt
+hears_nothing w n Shut made opens = tt
+hears_nothing w n q made opens = absurd cc
+
+pub is_no_query : (q : DriverCall) → opens_or_shuts q ≡ true → is_fetch_or_query q ≡ false
+is_no_query Connect opens = refl
+is_no_query Shut opens = refl
+is_no_query q opens = absurd cc
+
+nobody_told : (w : Work) (e : Entry) (rows : List CallRow) → e.call_no ≡ 0 → calls_told w e rows ≡ rows
+nobody_told w e rows house =
+    let none : decided_by w e (row_at rows e.call_no).call ≡ (row_at rows e.call_no).call = rw house refl in
+    ap (λ (r : CallRecord). slice_set rows e.call_no (record (row_at rows e.call_no) { call = r })) none ∙ set-get_or rows e.call_no nobody
+
+pub house_keeps : (H : List Event) (e : Entry) (rows : List CallRow) → opens_or_shuts e.call ≡ true → e.call_no ≡ 0 → KeepsCalls H rows → KeepsCalls (Heard e ∷ H) rows
+house_keeps H e rows opens house k =
+    let w = work H e.call_no in
+    let same : calls_after w e.call_no e.call e.answer (handed_out H) (calls_told w e rows) ≡ rows
+    = calls_beside w e.call_no e.call e.answer (handed_out H) (calls_told w e rows) (is_no_query e.call opens) ∙ nobody_told w e rows house in
+    subst (λ (rs : List CallRow). KeepsCalls (Heard e ∷ H) rs) same (heard_keeps H e w rows refl (hears_nothing w e.call_no e.call (handed_out H) opens) (made_known H) k)
+
+pub house_rows : (H : List Event) (e : Entry) → opens_or_shuts e.call ≡ true → handed_out (Heard e ∷ H) ≡ handed_out H
+house_rows H e opens = rows_beside (work H e.call_no) e.call_no e.call e.answer (handed_out H) (is_no_query e.call opens)
+
+-- what is heard elsewhere is heard of a lent connection, and makes no move due
+
+opens_none : (q : DriverCall) → opens_or_shuts q ≡ false → (is_connect q ≡ false) × (is_shut q ≡ false)
+opens_none Connect other = absurd cc
+opens_none Shut other = absurd cc
+opens_none q other = (refl, refl)
+
+pub lent_owes_none : (e : Entry) (p : Pooled) (at : Option Place) → hears_in p at e ≡ true → opens_or_shuts e.call ≡ false → answered e.answer e.conn p at ≡ []
+lent_owes_none e p (Some (Opening wanted)) hears other =
+    let b = both (is_connect e.call) ((e.tenure == 1) && is_house_entry e) hears in
+    let o = opens_none e.call other in
+    absurd (let no : false ≡ true = sym o.0 ∙ b.0 in cc)
+lent_owes_none e p (Some Closing) hears other =
+    let b = both (is_shut e.call) ((e.tenure == next_tenure p e.conn) && is_house_entry e) hears in
+    let o = opens_none e.call other in
+    absurd (let no : false ≡ true = sym o.1 ∙ b.0 in cc)
+lent_owes_none e p at hears other = refl

@@ -1,0 +1,83 @@
+-- What others have settled for a call, and where a call waits.
+use Rattle.std.proofs.Common.{◌≡◌, ℕ, Bool, true, false, not, ◌||◌, ◌&&◌, cond, List, [], ◌∷◌, refl, sym, ap, ◌∙◌, Option, None, Some, is_none, is_some}
+use Rattle.dsql_course.specs.Made.{or_else}
+use Rattle.dsql_wait.specs.Requests.{waits}
+use Rattle.dsql_pool.specs.Places.{is_for}
+use Rattle.dsql_work.specs.declared.work.Work.{Work}
+use Rattle.dsql_work.specs.declared.work.Work.TheVariants.{Execute, ReadOne, HandOut, Fetch, Close, Look}
+use Rattle.dsql_work.specs.Works.{asks}
+use Rattle.dsql_history.specs.declared.event.Event.{Event}
+use Rattle.dsql_history.specs.declared.record.Stand.TheVariants.{Waits, Sends, Replies}
+use Rattle.dsql_history.specs.declared.record.Try.{Try}
+use Rattle.dsql_history.specs.declared.record.Try.TheVariants.{Served, Refused}
+use Rattle.dsql_history.specs.declared.reply.Reply.{Reply}
+use Rattle.dsql_history.specs.declared.reply.Reply.TheVariants.{Truth}
+use Rattle.dsql_history.specs.Readers.Calls.{decided, site, told_by_others, told_by_tries, told_of_work}
+use Rattle.dsql_history.specs.Readers.Course.{db_end}
+use Rattle.dsql_history.specs.Readers.HandedOut.{over, rows_by}
+use Rattle.dsql_history.specs.Readers.Pool.{pool, smallest}
+use Rattle.dsql_history.specs.Readers.Tries.{has_a_try, tries}
+use Rattle.dsql_history.specs.Readers.Unfinished.{is_unfinished}
+use Rattle.dsql_history.specs.Readers.Works.{is_fetch}
+use Rattle.dsql_history.specs.Rules.Line.{due_for}
+use Rattle.dsql_history.specs.Rules.Stands.{stands, opens, stand, is_waiting}
+use Rattle.dsql_desk.specs.declared.desk.Desk.{Desk}
+use Rattle.dsql_desk.specs.Calls.{newest, row_at}
+use Rattle.dsql_desk.specs.Desk.{past, Stands}
+use Rattle.dsql_desk.specs.Lines.{rows_worked}
+use Rattle.dsql_desk.specs.Settling.{told_trying}
+
+-- others have settled what call n replies, which works on these rows or else asks for a connection
+abbrev pub is_told_over : List Event → ℕ → Bool → Bool → Option ℕ → Bool
+is_told_over H n fetches asking (Some k) = not fetches || over (rows_by H k)
+is_told_over H n fetches asking None = asking && is_some (told_by_tries H (tries H n))
+
+cond_some : (b : Bool) (reply : Reply) → is_some (cond b (Some reply) None) ≡ b
+cond_some true reply = refl
+cond_some false reply = refl
+
+pub told_by_kind : (H : List Event) (n : ℕ) (it : Work) → is_some (told_of_work H n it) ≡ is_told_over H n (is_fetch it) (asks it) (rows_worked it)
+told_by_kind H n Execute = refl
+told_by_kind H n (ReadOne dests) = refl
+told_by_kind H n (HandOut label) = refl
+told_by_kind H n (Fetch k) = cond_some (over (rows_by H k)) (Truth false)
+told_by_kind H n (Close k) = refl
+told_by_kind H n Look = refl
+
+told_by_newest : (H : List Event) (ts : List Try) → told_by_tries H ts ≡ told_trying (db_end H) (newest ts)
+told_by_newest H [] = refl
+told_by_newest H (Served ∷ earlier) = refl
+told_by_newest H (Refused answer ∷ earlier) = refl
+
+untried : (ts : List Try) → has_a_try ts ≡ is_none (newest ts)
+untried [] = refl
+untried (it ∷ earlier) = refl
+
+pub told_kept : (d : Desk) (n : ℕ) → Stands d → is_unfinished (past d) n ≡ true → told_trying d.closed_by (row_at d.calls.items n).tried ≡ told_by_tries (past d) (tries (past d) n)
+unfolding Stands
+told_kept d n s under_way =
+    ap (λ (tried : Option Try). told_trying d.closed_by tried) (s.tables.calls.tried n under_way) ∙ ap (λ end. told_trying end (newest (tries (past d) n))) s.closed_by ∙ sym (told_by_newest (past d) (tries (past d) n))
+
+pub try_kept : (d : Desk) (n : ℕ) → Stands d → is_unfinished (past d) n ≡ true → is_none (row_at d.calls.items n).tried ≡ has_a_try (tries (past d) n)
+unfolding Stands
+try_kept d n s under_way = ap (λ (tried : Option Try). is_none tried) (s.tables.calls.tried n under_way) ∙ sym (untried (tries (past d) n))
+
+pub either_some : (a b : Option Reply) → is_some (or_else a b) ≡ is_some a || is_some b
+either_some None b = refl
+either_some (Some reply) b = refl
+
+pub either_none : (a b : Option Reply) → is_none (or_else a b) ≡ not (is_some a || is_some b)
+either_none None None = refl
+either_none None (Some reply) = refl
+either_none (Some reply) b = refl
+
+waits_or : (b d r : Bool) (o : Option ℕ) (c : ℕ) → is_waiting (or_else (stands b Waits) (or_else (opens o) (or_else (stands d (Sends c)) (stands r Replies)))) ≡ b
+waits_or true d r o c = refl
+waits_or false d r (Some k) c = refl
+waits_or false true r None c = refl
+waits_or false false true None c = refl
+waits_or false false false None c = refl
+
+pub waiting_only : (H : List Event) (n : ℕ) → is_waiting (stand H n) ≡ waits n (pool H).waiting
+waiting_only H n =
+    waits_or (waits n (pool H).waiting) (is_some (due_for H n)) (is_none (decided H n) && is_some (told_by_others H n)) (smallest (is_for n) (pool H)) (site H n)

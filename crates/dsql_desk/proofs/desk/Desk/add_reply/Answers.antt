@@ -1,0 +1,35 @@
+use Rattle.std.proofs.Common.{◌∷◌, sym, ap, subst, refl, rules, ◌∙◌}
+use Rattle.dsql_pool.specs.Pooled.{without}
+use Rattle.dsql_history.specs.declared.event.Event.TheVariants.{Replied}
+use Rattle.dsql_desk.specs.Calls.{KeepsCalls}
+use Rattle.dsql_desk.specs.Desk.{past}
+use Rattle.dsql_desk.proofs.Kept.{replied_keeps}
+use Rattle.dsql_desk.proofs.desk.Desk.add_reply.Goals as goal
+
+pub returns : goal.returns
+returns c =
+    let d = c.args.self.now in
+    let H = past d in
+    let n = c.args.call in
+    let reply = c.args.reply in
+    let may = c.requires in
+    let t = may.tables in
+    let p = c.note.ensures.past in
+    record {
+      tables = record {
+        lawful = rw p may.lawful;
+        calm = rw p may.calm;
+        caps = rw p t.caps;
+        ended = rw p t.ended;
+        made = rw p t.made;
+        calls = rw p (subst (λ rs. KeepsCalls (Replied n reply ∷ H) rs) (sym c.forget.ensures.items) (replied_keeps H n reply d.calls.items t.calls));
+        unfinished = rw p (c.take_out.ensures.items ∙ ap (without n) t.unfinished);
+        labels = rw p t.labels;
+        rows = rw p t.rows;
+        room = search rules;
+      };
+      event = p;
+      paid = search rules;
+      closed_by = refl;
+      pool = refl;
+    }

@@ -1,0 +1,80 @@
+use Rattle.std.proofs.Common.{◌≡◌, ◌∷◌, Some, sym, ap, subst, ◌∙◌, arith}
+use Rattle.dsql_pool.specs.Calls.{MayAsk, asks}
+use Rattle.dsql_pool.specs.Decisions as pools
+use Rattle.dsql_history.specs.declared.event.Event.TheVariants.{Pool}
+use Rattle.dsql_history.specs.Readers.Pool.{request_at}
+use Rattle.dsql_history.specs.Rules.Asking.{ask_outcome}
+use Rattle.dsql_history.specs.Legal.{Lawful, Calm}
+use Rattle.dsql_laws.specs.Asked.{with_asked}
+use Rattle.dsql_laws.proofs.AskedAllowed.{asked_lawful}
+use Rattle.dsql_desk.specs.Appending.{event_asked}
+use Rattle.dsql_desk.specs.Desk.{past, Stands}
+use Rattle.dsql_desk.proofs.Present.{few_openings}
+use Rattle.dsql_desk.proofs.Asking.{may_request, numbered, asked_leaves, asked_calm, asked_pool, one_came}
+use Rattle.dsql_desk.proofs.desk.Desk.ask.Goals as goal
+
+pub ask-outcome-requires-clause-request : goal.ask-outcome-requires-clause-request
+unfolding Stands
+ask-outcome-requires-clause-request c =
+    let H = past c.args.self.now in
+    let n = c.args.call in
+    subst (λ q. MayAsk (request_at n q.moment) q) (sym c.requires.stands.pool) (may_request H n c.requires.stands.tables.lawful c.requires.asks)
+
+pub ask-outcome-requires-clause-drawn : goal.ask-outcome-requires-clause-drawn
+ask-outcome-requires-clause-drawn c = few_openings c.args.self.now c.requires.stands c.requires.few
+
+pub add_move-requires-clause-may : goal.add_move-requires-clause-may
+unfolding Stands
+add_move-requires-clause-may c =
+    let H = past c.args.self.now in
+    let n = c.args.call in
+    let t = c.requires.stands.tables in
+    let a = ask_outcome H n in
+    let out : c.ask-outcome.result ≡ a = c.ask-outcome.ensures.outcome ∙ ap (λ q. pools.ask_outcome (request_at n q.moment) q) c.requires.stands.pool in
+    let came : event_asked n a ≡ Some (Pool c.in-Some-Pool.it)
+    = ap (event_asked n) (sym out) ∙ (sym c.event_asked.ensures ∙ (c.in-Some-Pool.is ∙ ap (λ e. Some e) c.in-Some-Pool.field-0-is)) in
+    let p : Pool c.in-Some-Pool.it ∷ H ≡ with_asked n a H = one_came n a (Pool c.in-Some-Pool.it) H came in
+    record {
+      tables = record {
+        lawful = t.lawful;
+        calm = t.calm;
+        caps = t.caps;
+        ended = t.ended;
+        made = t.made;
+        calls = t.calls;
+        unfinished = t.unfinished;
+        labels = t.labels;
+        rows = t.rows;
+        room = record { history = t.room.history; made = t.room.made; calls = t.room.calls; unfinished = t.room.unfinished; labels = t.room.labels; rows = t.room.rows };
+      };
+      lawful = subst (λ K. Lawful K) (sym p) (asked_lawful H n t.lawful c.requires.owing c.requires.asks);
+      calm = subst (λ K. Calm K) (sym p) (asked_calm n a H t.calm);
+      paid = c.requires.paid;
+    }
+
+pub returns-in-Some-Pool-clause-asks : goal.returns-in-Some-Pool-clause-asks
+unfolding Stands
+returns-in-Some-Pool-clause-asks c =
+    let H = past c.args.self.now in
+    let n = c.args.call in
+    let s = c.requires.stands in
+    let a = ask_outcome H n in
+    let added = c.add_move.ensures in
+    let out : c.ask-outcome.result ≡ a = c.ask-outcome.ensures.outcome ∙ ap (λ q. pools.ask_outcome (request_at n q.moment) q) s.pool in
+    let came : event_asked n a ≡ Some (Pool c.in-Some-Pool.it)
+    = ap (event_asked n) (sym out) ∙ (sym c.event_asked.ensures ∙ (c.in-Some-Pool.is ∙ ap (λ e. Some e) c.in-Some-Pool.field-0-is)) in
+    let p : past c.add_move.new.self ≡ with_asked n a H = added.event ∙ one_came n a (Pool c.in-Some-Pool.it) H came in
+    let rest = asked_leaves n a H in
+    record {
+      stands = record {
+        tables = added.tables;
+        closed_by = rw p (added.closed_by ∙ (s.closed_by ∙ sym rest.db_end));
+        pool =
+            rw p
+            (ap (λ q. q.pooled) added.pool
+            ∙ (c.ask-outcome.ensures.pooled ∙ (ap (λ q. asks (request_at n q.moment) q) s.pool ∙ sym (asked_pool n a H (numbered H n s.tables.lawful c.requires.asks)))));
+        room = let same = ap (λ q. q.spare) added.pool in omega (arith, same, s.room, c.ask-outcome.ensures.spare, c.requires.paid, added.paid);
+      };
+      paid = added.paid;
+      event = p;
+    }

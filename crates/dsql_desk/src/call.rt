@@ -1,0 +1,30 @@
+use dsql_history::{CallRecord, Reply, Try, Work};
+use dsql_value::{Params, Txt};
+
+/// What is kept of a call.
+#[derive(Drop)]
+pub struct CallRow {
+    /// How far it has come.
+    pub call: CallRecord,
+    /// What it has to do.
+    pub work: Work,
+    /// Its newest try to get a connection, as long as it has no reply.
+    pub tried: Option<Try>,
+    /// The call that ended the rows that it handed out; 0 for none, and for the end of the run.
+    pub ender: u32,
+}
+
+/// What is kept of a call that enters, with the memory that it takes.
+#[derive(Drop)]
+pub struct CallStart {
+    pub work: Work,
+    /// The text of its statement, empty where it has none, and the parameters that its arguments become.
+    pub text: Txt,
+    pub params: Params,
+    /// The label of the rows that it hands out, if it does.
+    pub label: Option<String>,
+    /// The query whose rows it closes as it enters.
+    pub closes: Option<u32>,
+    /// Its reply, where it is told at once.
+    pub decided: Option<Reply>,
+}

@@ -1,0 +1,114 @@
+//! Where an unfinished call is, and what others have settled for it.
+ghost use Rattle.std.specs.Prelude.{◌≡◌, true, is_some};
+ghost use Rattle.std.specs.List.{list_all};
+ghost use Rattle.dsql_desk.specs.Desk.{past, Stands};
+ghost use Rattle.dsql_history.specs.Readers.Calls.{reply_due, told_by_others, told_by_tries};
+ghost use Rattle.dsql_history.specs.Readers.Tries.{has_a_try, tries};
+ghost use Rattle.dsql_history.specs.Readers.Unfinished.{is_unfinished, unfinished};
+ghost use Rattle.dsql_history.specs.Rules.Asking.{may_ask};
+ghost use Rattle.dsql_history.specs.Rules.House.{is_quiet};
+ghost use Rattle.dsql_history.specs.Rules.Stands.{is_waiting, stand};
+
+use crate::desk::Desk;
+use crate::row;
+use dsql_history::Stand;
+
+#[tactic(auto, using(crate::proofs::Told::told_by_kind, crate::proofs::Told::told_kept, crate::proofs::Told::try_kept, crate::proofs::Told::either_some, crate::proofs::Told::waiting_only), unfolding(crate::specs::Desk::Stands))]
+impl Desk {
+    /// Where an unfinished call is.
+    pub fn stand(&self, call: u32) -> Option<Stand>
+        requires stands { Stands self.now }
+        requires unfinished { is_unfinished (past self.now) call ≡ true }
+        ensures { result ≡ stand (past self.now) call }
+    {
+        if self.waits(call) {
+            return Some(Stand::Waits);
+        }
+        if let Some(conn) = self.opening_for(call) {
+            return Some(Stand::Opens(conn));
+        }
+        if self.is_due(call) {
+            return Some(Stand::Sends(self.site(call)));
+        }
+        if !self.has_decided(call) && self.is_told(call) {
+            Some(Stand::Replies)
+        } else {
+            None
+        }
+    }
+
+    /// Whether the reply of an unfinished call is settled.
+    pub fn is_settled(&self, call: u32) -> bool
+        requires stands { Stands self.now }
+        requires unfinished { is_unfinished (past self.now) call ≡ true }
+        ensures { result ≡ is_some (reply_due (past self.now) call) }
+    {
+        self.has_decided(call) || self.is_told(call)
+    }
+
+    /// Whether a call is to ask for a connection.
+    #[tactic(auto, using(crate::proofs::Told::either_none), unfolding(crate::specs::Desk::Stands))]
+    pub fn may_ask(&self, call: u32) -> bool
+        requires { Stands self.now }
+        ensures { result ≡ may_ask (past self.now) call }
+    {
+        self.is_unfinished(call)
+            && self.asks(call)
+            && self.has_a_try(call)
+            && !self.pool.wants(call)
+            && !self.is_settled(call)
+    }
+
+    /// Whether every call has its reply or waits, and there is no chore.
+    pub fn is_quiet(&self) -> bool
+        requires { Stands self.now }
+        ensures { result ≡ is_quiet (past self.now) }
+    {
+        self.all_wait() && self.chore_due().is_none()
+    }
+
+    /// Whether each unfinished call waits.
+    fn all_wait(&self) -> bool
+        requires { Stands self.now }
+        ensures { result ≡ list_all (λ n. is_waiting (stand (past self.now) n)) (unfinished (past self.now)) }
+    {
+        self.unfinished.iter().all(|call| self.is_waiting(*call))
+    }
+
+    fn is_waiting(&self, call: u32) -> bool
+        requires { Stands self.now }
+        ensures { result ≡ is_waiting (stand (past self.now) call) }
+    {
+        self.waits(call)
+    }
+
+    /// Whether others have settled what an unfinished call replies.
+    fn is_told(&self, call: u32) -> bool
+        requires stands { Stands self.now }
+        requires unfinished { is_unfinished (past self.now) call ≡ true }
+        ensures { result ≡ is_some (told_by_others (past self.now) call) }
+    {
+        match self.rows_worked(call) {
+            Some(query) => !self.fetches(call) || self.are_over(query),
+            None => self.asks(call) && self.is_told_by_tries(call),
+        }
+    }
+
+    /// Whether a try of an unfinished call, or the end of the database, has settled what it replies.
+    fn is_told_by_tries(&self, call: u32) -> bool
+        requires stands { Stands self.now }
+        requires unfinished { is_unfinished (past self.now) call ≡ true }
+        ensures { result ≡ is_some (told_by_tries (past self.now) (tries (past self.now) call)) }
+    {
+        row::is_told_trying(&self.calls, call, self.closed_by)
+    }
+
+    /// Whether another try is left to an unfinished call.
+    fn has_a_try(&self, call: u32) -> bool
+        requires stands { Stands self.now }
+        requires unfinished { is_unfinished (past self.now) call ≡ true }
+        ensures { result ≡ has_a_try (tries (past self.now) call) }
+    {
+        row::is_untried(&self.calls, call)
+    }
+}

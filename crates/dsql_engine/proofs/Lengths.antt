@@ -1,0 +1,114 @@
+-- How much longer a history is after a step, so that the end may come after it.
+use Rattle.std.proofs.Common.{◌≡◌, ◌≤◌, ◌<◌, ◌+◌, arith, ℕ, Bool, true, false, cond, List, [], ◌∷◌, length, Option, Some, None, subst, sym, ◌∙◌}
+use Rattle.std.specs.Prelude.{ℤ, Result, Ok, Err}
+use Rattle.dsql_journal.specs.declared.entry.Entry.{Entry}
+use Rattle.dsql_journal.specs.declared.entry.Owner.TheVariants.{Call, Tx, Pin, House}
+use Rattle.dsql_pool.specs.declared.conn.Place.{Place}
+use Rattle.dsql_pool.specs.declared.conn.Place.TheVariants.{Idle, Lent, Opening, Closing}
+use Rattle.dsql_pool.specs.declared.moves.Move.{Move}
+use Rattle.dsql_pool.specs.declared.request.Asked.{Asked}
+use Rattle.dsql_pool.specs.declared.request.Asked.TheVariants as asked
+use Rattle.dsql_pool.specs.declared.request.AskFault.{AskFault}
+use Rattle.dsql_pool.specs.declared.request.AskFault.TheVariants as faults
+use Rattle.dsql_history.specs.declared.event.Event.{Event}
+use Rattle.dsql_history.specs.declared.event.Event.TheVariants.{Entered, Heard, Pool, SetLimit, Ended}
+use Rattle.dsql_history.specs.declared.event.Op.{Op}
+use Rattle.dsql_history.specs.declared.event.Setting.{Setting}
+use Rattle.dsql_history.specs.declared.reply.Reply.{Reply}
+use Rattle.dsql_history.specs.Readers.Calls.{next_call, reply_due}
+use Rattle.dsql_history.specs.Readers.Owed.{owed}
+use Rattle.dsql_history.specs.Readers.Pool.{place}
+use Rattle.dsql_history.specs.Rules.Asking.{ask_outcome, may_ask}
+use Rattle.dsql_history.specs.Rules.Settled.{Settled}
+use Rattle.dsql_history.specs.Legal.{Lawful}
+use Rattle.dsql_laws.specs.OwedMade.{with_moves}
+use Rattle.dsql_call_laws.specs.Bounds.{most_moves}
+use Rattle.dsql_call_laws.proofs.Owed.{few_next}
+use Rattle.dsql_desk.proofs.Moves.{leaves}
+use Rattle.dsql_going.specs.Stepping.{events_of_a_step}
+use Rattle.dsql_hearing.proofs.Letting.{few_let_go}
+use Rattle.dsql_steps.specs.Groups.{after_end, after_enter, after_heard, after_set, after_settling, asked_so, gone_on, heard_at, let_go, most_events, sends_nothing, with_owed}
+use Rattle.dsql_engine.specs.Core.{HasRoomForEnd}
+
+-- a call that goes on adds an event at most
+
+asked_adds_one : (n : ℕ) (a : Result Asked AskFault) (H : List Event) → length (asked_so n a H) ≤ length H + 1
+asked_adds_one n (Ok (asked.Lent c t)) H = omega arith
+asked_adds_one n (Ok (asked.Opening c)) H = omega arith
+asked_adds_one n (Ok asked.Queued) H = omega arith
+asked_adds_one n (Ok asked.Closed) H = omega arith
+asked_adds_one n (Err faults.TooMany) H = omega arith
+asked_adds_one n (Err faults.Memory) H = omega arith
+
+either_adds_one : (b : Bool) (K H : List Event) → length K ≤ length H + 1 → length (cond b K H) ≤ length H + 1
+either_adds_one true K H few = few
+either_adds_one false K H few = omega arith
+
+settling_adds_one : (n : ℕ) (o : Option Reply) (H : List Event) → length (after_settling n o H) ≤ length H + 1
+settling_adds_one n (Some reply) H = omega arith
+settling_adds_one n None H = either_adds_one (may_ask H n) (asked_so n (ask_outcome H n) H) H (asked_adds_one n (ask_outcome H n) H)
+
+gone_adds_one : (n : ℕ) (H : List Event) → length (gone_on n H) ≤ length H + 1
+gone_adds_one n H = either_adds_one (sends_nothing H n) (after_settling n (reply_due H n) H) H (settling_adds_one n (reply_due H n) H)
+
+-- an event adds itself and the moves that it makes due
+
+moves_add : (ms : List Move) (H : List Event) → length (with_moves ms H) ≡ length ms + length H
+moves_add [] H = omega arith
+moves_add (m ∷ ms) H = let rest = moves_add ms (Pool m ∷ H) in omega (arith, rest)
+
+event_adds_few : (H : List Event) (e : Event) → Lawful H → Settled H → length (with_owed (e ∷ H)) ≤ length H + 1 + most_moves
+event_adds_few H e l settled =
+    let few = few_next H e l settled.nothing_owed in
+    let longer = moves_add (owed (e ∷ H)) (e ∷ H) in
+    omega (arith, few, longer)
+
+-- so a step adds few
+
+entered_adds_few : (H : List Event) (client : ℕ) (op : Op) → Lawful H → Settled H → length (after_enter H client op) ≤ length H + events_of_a_step
+entered_adds_few H client op l settled =
+    let e = Entered client (next_call H) op in
+    let entered = event_adds_few H e l settled in
+    let gone = gone_adds_one (next_call H) (with_owed (e ∷ H)) in
+    omega (arith, entered, gone)
+
+rest_adds_few : (H : List Event) (e : Event) → Lawful H → Settled H → length (with_owed (e ∷ H)) ≤ length H + events_of_a_step
+rest_adds_few H e l settled = let few = event_adds_few H e l settled in omega (arith, few)
+
+heard_at_adds_few : (H : List Event) (e : Entry) (at : Option Place) → Lawful H → Settled H → length (heard_at at e H) ≤ length H + events_of_a_step
+heard_at_adds_few H e (Some (Lent t (Call n))) l settled =
+    let K = Heard e ∷ H in
+    let left = few_let_go K e.conn n in
+    let gone = gone_adds_one e.call_no (let_go e.conn n K) in
+    omega (arith, left, gone)
+heard_at_adds_few H e (Some (Lent t (Tx n))) l settled = rest_adds_few H (Heard e) l settled
+heard_at_adds_few H e (Some (Lent t (Pin n))) l settled = rest_adds_few H (Heard e) l settled
+heard_at_adds_few H e (Some (Lent t House)) l settled = rest_adds_few H (Heard e) l settled
+heard_at_adds_few H e (Some Idle) l settled = rest_adds_few H (Heard e) l settled
+heard_at_adds_few H e (Some (Opening wanted)) l settled = rest_adds_few H (Heard e) l settled
+heard_at_adds_few H e (Some Closing) l settled = rest_adds_few H (Heard e) l settled
+heard_at_adds_few H e None l settled = rest_adds_few H (Heard e) l settled
+
+-- a step that begins where the run isn't full leaves room for the end
+
+room_after : (H K G : List Event) → K ≡ G → length G ≤ length H + events_of_a_step → length H < most_events → HasRoomForEnd K
+room_after H K G is few short = subst (λ (P : List Event). HasRoomForEnd P) (sym is) (λ running. omega (arith, few, short))
+
+pub room_after_gone : (H K : List Event) (n : ℕ) → K ≡ gone_on n H → length H < most_events → HasRoomForEnd K
+room_after_gone H K n is short = let one = gone_adds_one n H in room_after H K (gone_on n H) is (omega (arith, one)) short
+
+pub room_after_enter : (H K : List Event) (client : ℕ) (op : Op) → K ≡ after_enter H client op → Lawful H → Settled H → length H < most_events → HasRoomForEnd K
+room_after_enter H K client op is l settled short = room_after H K (after_enter H client op) is (entered_adds_few H client op l settled) short
+
+pub room_after_heard : (H K : List Event) (e : Entry) → K ≡ after_heard H e → Lawful H → Settled H → length H < most_events → HasRoomForEnd K
+room_after_heard H K e is l settled short = room_after H K (after_heard H e) is (heard_at_adds_few H e (place H e.conn) l settled) short
+
+pub room_after_limit : (H K : List Event) (s : Setting) (k : ℤ) → K ≡ after_set H s k → Lawful H → Settled H → length H < most_events → HasRoomForEnd K
+room_after_limit H K s k is l settled short = room_after H K (after_set H s k) is (rest_adds_few H (SetLimit s k) l settled) short
+
+-- the end comes once
+pub room_after_end : (H K : List Event) → K ≡ after_end H → HasRoomForEnd K
+room_after_end H K is =
+    let G = Ended ∷ H in
+    let left = leaves (owed G) G in
+    subst (λ (P : List Event). HasRoomForEnd P) (sym is) (λ running. let clash : true ≡ false = sym left.has_ended ∙ running in absurd cc)

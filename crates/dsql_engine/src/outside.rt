@@ -1,0 +1,36 @@
+//! What comes from outside that no call asks for: a limit, and the end of the run.
+ghost use Rattle.std.specs.Prelude.{◌≡◌, true, false};
+ghost use Rattle.dsql_journal.specs.Readers.{is_empty};
+ghost use Rattle.dsql_history.specs.Readers.Course.{has_ended};
+ghost use Rattle.dsql_history.specs.Rules.House.{is_quiet};
+ghost use Rattle.dsql_history.specs.Rules.Settled.{Settled};
+ghost use Rattle.dsql_desk.specs.Desk.{past, Stands};
+ghost use Rattle.dsql_going.specs.Reaching.{CanPay, Reaches};
+ghost use Rattle.dsql_going.specs.Stepping.{events_of_a_step};
+ghost use Rattle.dsql_steps.specs.Groups.{after_set, after_end};
+
+use dsql_desk::Desk;
+use dsql_history::Setting;
+
+/// A limit is set, and the pool keeps to it.
+pub fn set_limit(desk: &mut Desk, setting: Setting, n: i64)
+    requires pays { CanPay desk.old events_of_a_step }
+    requires settled { Settled (past desk.old) }
+    requires begun { is_empty (past desk.old) ≡ false }
+    ensures stands { Stands desk.new }
+    ensures group { past desk.new ≡ after_set (past desk.old) setting n }
+{
+    desk.set_limit(setting, n);
+}
+
+/// The run ends, and the pool closes.
+pub fn end_run(desk: &mut Desk)
+    requires pays { CanPay desk.old events_of_a_step }
+    requires settled { Settled (past desk.old) }
+    requires begun { is_empty (past desk.old) ≡ false }
+    requires quiet { is_quiet (past desk.old) ≡ true }
+    requires running { has_ended (past desk.old) ≡ false }
+    ensures { Reaches desk.new (after_end (past desk.old)) }
+{
+    desk.end();
+}

@@ -1,0 +1,48 @@
+//! The memory of a step.
+ghost use Rattle.std.specs.Prelude.{◌≡◌, ◌<◌, IfOk, OnOk};
+ghost use Rattle.dsql_desk.specs.Desk.{past, Stands};
+ghost use Rattle.dsql_going.specs.Stepping.{events_of_a_step};
+ghost use Rattle.dsql_hearing.specs.Hearing.{IsReadyFor};
+
+use dsql_desk::{Desk, NoRoom};
+use dsql_flights::Flights;
+use dsql_hearing::{Hearing, ready_for};
+use dsql_journal::Entry;
+use std::alloc::Global;
+
+/// How many events a step appends at most.
+const EVENTS_OF_A_STEP: u32 = 2_005;
+
+/// Takes the memory for the events of a step, and for a driver call that begins in it.
+pub fn pay(desk: &mut Desk, flights: &mut Flights) -> Result<(), NoRoom>
+    requires { Stands desk.old }
+    ensures stands { Stands desk.new }
+    ensures past { past desk.new ≡ past desk.old }
+    ensures paid { OnOk result (desk.new.paid ≡ events_of_a_step) }
+    ensures flights { flights.new.flights ≡ flights.old.flights }
+    ensures spare { OnOk result (0 < flights.new.spare) }
+{
+    desk.pay(EVENTS_OF_A_STEP)?;
+    flights.reserve(1)?;
+    Ok(())
+}
+
+/// Makes all ready that the step over this answer needs, and takes its memory.
+pub fn prepare(
+    desk: &mut Desk,
+    flights: &mut Flights,
+    alloc: Global,
+    entry: &Entry,
+) -> Result<Hearing, NoRoom>
+    requires { Stands desk.old }
+    ensures stands { Stands desk.new }
+    ensures past { past desk.new ≡ past desk.old }
+    ensures paid { OnOk result (desk.new.paid ≡ events_of_a_step) }
+    ensures flights { flights.new.flights ≡ flights.old.flights }
+    ensures spare { OnOk result (0 < flights.new.spare) }
+    ensures ready { IfOk result (IsReadyFor (past desk.old) entry.now) }
+{
+    let ready = ready_for(desk, alloc, entry)?;
+    pay(desk, flights)?;
+    Ok(ready)
+}

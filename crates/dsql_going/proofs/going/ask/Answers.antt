@@ -1,0 +1,151 @@
+use Rattle.std.proofs.Common.{◌≡◌, ℕ, ◌<◌, ◌∷◌, true, false, length, Some, is_some, refl, sym, ap, subst, ◌∙◌, arith}
+use Rattle.std.specs.Prelude.{Ok, Err}
+use Rattle.dsql_work.specs.Limits.{most_within_a_step}
+use Rattle.dsql_journal.specs.declared.entry.Owner.TheVariants.{Call}
+use Rattle.dsql_pool.specs.declared.moves.Move.TheVariants.{OpenStart, Lend}
+use Rattle.dsql_pool.specs.declared.request.Asked.TheVariants as asked
+use Rattle.dsql_pool.specs.declared.request.AskFault.TheVariants as faults
+use Rattle.dsql_pool.specs.Places.{is_for}
+use Rattle.dsql_history.specs.declared.event.Event.TheVariants.{Pool, Waits, Replied}
+use Rattle.dsql_history.specs.declared.record.Stand.TheVariants as stands_at
+use Rattle.dsql_history.specs.declared.reply.Reply.TheVariants.{TooMany}
+use Rattle.dsql_history.specs.Readers.Pool.{pool, smallest}
+use Rattle.dsql_history.specs.Rules.Asking.{ask_outcome, is_too_many, may_ask}
+use Rattle.dsql_history.specs.Rules.Line.{due_for}
+use Rattle.dsql_history.specs.Rules.Settled.{Settled, is_settled_but}
+use Rattle.dsql_history.specs.Legal.{Allowed, Lawful}
+use Rattle.dsql_laws.specs.Asked.{with_asked}
+use Rattle.dsql_move_laws.proofs.Lends.{due_lent}
+use Rattle.dsql_steps.specs.Groups.{asked_so}
+use Rattle.dsql_desk.specs.declared.desk.Desk.{Desk}
+use Rattle.dsql_desk.specs.Appending.{Asks}
+use Rattle.dsql_desk.specs.Desk.{past, Stands}
+use Rattle.dsql_going.specs.Reaching.{HasGoneOn, Reaches}
+use Rattle.dsql_going.specs.declared.next.Next.TheVariants as nexts
+use Rattle.dsql_going.specs.declared.next.Why.TheVariants as whys
+use Rattle.dsql_going.proofs.Asking.{asking_silent, never_closed, never_memory, settled_asked, stands_opened, stands_queued}
+use Rattle.dsql_going.proofs.Groups.{asked_group}
+use Rattle.dsql_going.proofs.Replying.{goes_replying, many_cause, reply_allowed, settled_replied}
+use Rattle.dsql_going.proofs.Standing.{goes_blocked, number_in}
+use Rattle.dsql_going.proofs.going.ask.Goals as goal
+
+-- what is so after a call that asked, unless too many are open
+reaches_asked : (old new : Desk) (n : ℕ) → Stands old → is_settled_but n (past old) ≡ true → may_ask (past old) n ≡ true → is_too_many (ask_outcome (past old) n) ≡ false → Asks old new n
+    → Reaches new (asked_so n (ask_outcome (past old) n) (past old))
+unfolding Stands
+reaches_asked old new n s settled may few asks = record {
+  stands = asks.stands;
+  settled = subst (λ K. Settled K) (sym asks.event) (settled_asked (past old) n s.tables.lawful settled may few);
+  group = asks.event ∙ asked_group n (ask_outcome (past old) n) (past old) few;
+}
+
+pub send-requires-clause-due : goal.send-requires-clause-due
+unfolding Stands
+send-requires-clause-due c =
+    let H = past c.args.desk.now in
+    let n = c.args.call in
+    let asks = c.ask.ensures.asks in
+    let d = c.in-Ok-Lent.field-0-0 in
+    let t = c.in-Ok-Lent.field-0-1 in
+    let out : ask_outcome H n ≡ Ok (asked.Lent d t) = sym c.ask.ensures.outcome ∙ (c.in-Ok-Lent.is ∙ ap (λ it. Ok it) c.in-Ok-Lent.field-0-is) in
+    let came : past c.ask.new.self ≡ Pool (Lend d t (Call n) n) ∷ H = asks.event ∙ ap (λ a. with_asked n a H) out in
+    let l : Lawful (Pool (Lend d t (Call n) n) ∷ H) = subst (λ K. Lawful K) came asks.stands.tables.lawful in
+    subst (λ K. is_some (due_for K n) ≡ true) (sym came) (due_lent H d t n l c.requires.may.unfinished)
+
+pub tell-requires : goal.tell-requires
+unfolding Stands
+tell-requires c =
+    let H = past c.args.desk.now in
+    let n = c.args.call in
+    let asks = c.ask.ensures.asks in
+    let may = c.requires.may in
+    let out : ask_outcome H n ≡ Err faults.TooMany = sym c.ask.ensures.outcome ∙ (c.in-Err-TooMany.is ∙ ap (λ it. Err it) c.in-Err-TooMany.field-0-is) in
+    let same : past c.ask.new.self ≡ H = asks.event ∙ ap (λ a. with_asked n a H) out in
+    let allowed : Allowed H (Replied n TooMany)
+    = reply_allowed H n TooMany may.unfinished (asking_silent H n c.requires.pays.stands.tables.lawful c.requires.asks) (many_cause H n c.requires.asks (ap is_too_many out)) may.settled in
+    record {
+      stands = asks.stands;
+      paid = let before = c.requires.pays.paid in let after = asks.paid in omega (arith, before, after);
+      allowed = subst (λ K. Allowed K (Replied n TooMany)) (sym same) allowed;
+      few = subst (λ K. length K < most_within_a_step) (sym same) c.requires.pays.few;
+    }
+
+pub unreachable-requires : goal.unreachable-requires
+unreachable-requires c =
+    never_closed (past c.args.desk.now) c.args.call c.requires.asks (sym c.ask.ensures.outcome ∙ (c.in-Ok-Closed.is ∙ ap (λ it. Ok it) c.in-Ok-Closed.field-0-is))
+
+pub unreachable-requires-in-Err-Memory : goal.unreachable-requires-in-Err-Memory
+unreachable-requires-in-Err-Memory c =
+    never_memory (past c.args.desk.now) c.args.call (sym c.ask.ensures.outcome ∙ (c.in-Err-Memory.is ∙ ap (λ it. Err it) c.in-Err-Memory.field-0-is))
+
+pub returns-in-Ok-Lent-clause-reaches : goal.returns-in-Ok-Lent-clause-reaches
+unfolding Stands
+returns-in-Ok-Lent-clause-reaches c =
+    let H = past c.args.desk.now in
+    let n = c.args.call in
+    let out : ask_outcome H n ≡ Ok c.in-Ok-Lent.field-0 = sym c.ask.ensures.outcome ∙ c.in-Ok-Lent.is in
+    reaches_asked c.args.desk.now c.ask.new.self n c.requires.pays.stands c.requires.may.settled c.requires.asks (ap is_too_many out) c.ask.ensures.asks
+
+pub returns-in-Ok-Opening-clause-reaches : goal.returns-in-Ok-Opening-clause-reaches
+unfolding Stands
+returns-in-Ok-Opening-clause-reaches c =
+    let H = past c.args.desk.now in
+    let n = c.args.call in
+    let out : ask_outcome H n ≡ Ok c.in-Ok-Opening.field-0 = sym c.ask.ensures.outcome ∙ c.in-Ok-Opening.is in
+    reaches_asked c.args.desk.now c.ask.new.self n c.requires.pays.stands c.requires.may.settled c.requires.asks (ap is_too_many out) c.ask.ensures.asks
+
+pub returns-in-Ok-Opening-clause-goes : goal.returns-in-Ok-Opening-clause-goes
+unfolding Stands
+returns-in-Ok-Opening-clause-goes c =
+    let H = past c.args.desk.now in
+    let n = c.args.call in
+    let flights = c.args.flights.now.flights in
+    let asks = c.ask.ensures.asks in
+    let d = c.in-Ok-Opening.field-0-0 in
+    let out : ask_outcome H n ≡ Ok (asked.Opening d) = sym c.ask.ensures.outcome ∙ (c.in-Ok-Opening.is ∙ ap (λ it. Ok it) c.in-Ok-Opening.field-0-is) in
+    let came : past c.ask.new.self ≡ Pool (OpenStart d n) ∷ H = asks.event ∙ ap (λ a. with_asked n a H) out in
+    let l : Lawful (Pool (OpenStart d n) ∷ H) = subst (λ K. Lawful K) came asks.stands.tables.lawful in
+    let at = stands_opened H n d l c.requires.asks in
+    subst (λ K. HasGoneOn K flights flights n (nexts.Blocked whys.Opening)) (sym came)
+    (goes_blocked (Pool (OpenStart d n) ∷ H) n flights (Some (stands_at.Opens (number_in (smallest (is_for n) (pool (Pool (OpenStart d n) ∷ H)))))) whys.Opening c.requires.may.unfinished at refl refl)
+
+pub returns-in-Ok-Queued-clause-reaches : goal.returns-in-Ok-Queued-clause-reaches
+unfolding Stands
+returns-in-Ok-Queued-clause-reaches c =
+    let H = past c.args.desk.now in
+    let n = c.args.call in
+    let out : ask_outcome H n ≡ Ok c.in-Ok-Queued.field-0 = sym c.ask.ensures.outcome ∙ c.in-Ok-Queued.is in
+    reaches_asked c.args.desk.now c.ask.new.self n c.requires.pays.stands c.requires.may.settled c.requires.asks (ap is_too_many out) c.ask.ensures.asks
+
+pub returns-in-Ok-Queued-clause-goes : goal.returns-in-Ok-Queued-clause-goes
+returns-in-Ok-Queued-clause-goes c =
+    let H = past c.args.desk.now in
+    let n = c.args.call in
+    let flights = c.args.flights.now.flights in
+    let out : ask_outcome H n ≡ Ok asked.Queued = sym c.ask.ensures.outcome ∙ (c.in-Ok-Queued.is ∙ ap (λ it. Ok it) c.in-Ok-Queued.field-0-is) in
+    let came : past c.ask.new.self ≡ Waits n ∷ H = c.ask.ensures.asks.event ∙ ap (λ a. with_asked n a H) out in
+    subst (λ K. HasGoneOn K flights flights n (nexts.Blocked whys.Connection)) (sym came)
+    (goes_blocked (Waits n ∷ H) n flights (Some stands_at.Waits) whys.Connection c.requires.may.unfinished (stands_queued H n) refl refl)
+
+pub returns-in-Err-TooMany-clause-reaches : goal.returns-in-Err-TooMany-clause-reaches
+returns-in-Err-TooMany-clause-reaches c =
+    let H = past c.args.desk.now in
+    let n = c.args.call in
+    let out : ask_outcome H n ≡ Err faults.TooMany = sym c.ask.ensures.outcome ∙ (c.in-Err-TooMany.is ∙ ap (λ it. Err it) c.in-Err-TooMany.field-0-is) in
+    let same : past c.ask.new.self ≡ H = c.ask.ensures.asks.event ∙ ap (λ a. with_asked n a H) out in
+    let came : past c.tell.new.self ≡ Replied n TooMany ∷ H = c.tell.ensures.event ∙ ap (λ K. Replied n TooMany ∷ K) same in
+    record {
+      stands = c.tell.ensures.stands;
+      settled = subst (λ K. Settled K) (sym came) (settled_replied H n TooMany c.requires.may.settled);
+      group = came ∙ sym (ap (λ a. asked_so n a H) out);
+    }
+
+pub returns-in-Err-TooMany-clause-goes : goal.returns-in-Err-TooMany-clause-goes
+returns-in-Err-TooMany-clause-goes c =
+    let H = past c.args.desk.now in
+    let n = c.args.call in
+    let flights = c.args.flights.now.flights in
+    let out : ask_outcome H n ≡ Err faults.TooMany = sym c.ask.ensures.outcome ∙ (c.in-Err-TooMany.is ∙ ap (λ it. Err it) c.in-Err-TooMany.field-0-is) in
+    let same : past c.ask.new.self ≡ H = c.ask.ensures.asks.event ∙ ap (λ a. with_asked n a H) out in
+    let came : past c.tell.new.self ≡ Replied n TooMany ∷ H = c.tell.ensures.event ∙ ap (λ K. Replied n TooMany ∷ K) same in
+    subst (λ K. HasGoneOn K flights flights n (nexts.Reply n)) (sym came) (goes_replying H n TooMany flights)

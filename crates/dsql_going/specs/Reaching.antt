@@ -1,0 +1,38 @@
+-- What a call that goes on asks for, and what it leaves.
+use Rattle.std.specs.Prelude.{◌≡◌, ◌≤◌, ◌<◌, ℕ, true, false, List, length, Some}
+use Rattle.dsql_work.specs.Limits.{most_within_a_step}
+use Rattle.dsql_history.specs.declared.event.Event.{Event}
+use Rattle.dsql_history.specs.declared.record.Flight.{Flight}
+use Rattle.dsql_history.specs.Readers.Unfinished.{is_unfinished}
+use Rattle.dsql_history.specs.Rules.Flights.{is_in_flight, permitted}
+use Rattle.dsql_history.specs.Rules.Settled.{Settled, is_settled_but}
+use Rattle.dsql_history.specs.Rules.Stands.{stand}
+use Rattle.dsql_flights.specs.UnderWay.{UnderWay}
+use Rattle.dsql_desk.specs.declared.desk.Desk.{Desk}
+use Rattle.dsql_desk.specs.Desk.{past, Stands}
+use Rattle.dsql_going.specs.declared.next.Next.{Next}
+use Rattle.dsql_going.specs.Answers.{next_for}
+
+-- there is memory for so many events, and the run isn't too long
+pub record CanPay (desk : Desk) (events : ℕ) : Type 0 where
+  pub stands : Stands desk
+  pub paid : events ≤ desk.paid
+  pub few : length (past desk) < most_within_a_step
+
+-- a step led to this history, which is settled
+pub record Reaches (new : Desk) (history : List Event) : Type 0 where
+  pub stands : Stands new
+  pub settled : Settled (past new)
+  pub group : past new ≡ history
+
+-- an unfinished call goes on, of which no driver call is under way; all but it is settled
+pub record MayGoOn (past : List Event) (flights : UnderWay) (n : ℕ) : Type 0 where
+  pub settled : is_settled_but n past ≡ true
+  pub unfinished : is_unfinished past n ≡ true
+  pub parked : is_in_flight n flights.flights ≡ false
+  pub spare : 0 < flights.spare
+
+-- it has gone on, where these were under way before
+pub record HasGoneOn (now : List Event) (before after : List Flight) (n : ℕ) (next : Next) : Type 0 where
+  pub answers : next_for now before n ≡ Some next
+  pub flights : after ≡ permitted n (stand now n) before

@@ -1,0 +1,153 @@
+-- The step over an answer: what it needs, and what it leaves.
+use Rattle.std.proofs.Common.{◌≡◌, ◌≢◌, ℕ, ◌==◌, Bool, true, false, not, ◌&&◌, ◌||◌, cond, List, [], ◌∷◌, Option, Some, None, is_some, refl, sym, ap, subst, ◌∙◌, arith}
+use Rattle.dsql_driver.specs.Fits.{is_invalid}
+use Rattle.dsql_driver.specs.Kinds.{is_bad}
+use Rattle.dsql_journal.specs.declared.entry.Entry.{Entry}
+use Rattle.dsql_journal.specs.declared.entry.Owner.TheVariants.{Call, Tx, Pin, House}
+use Rattle.dsql_journal.specs.Kinds.{number_of}
+use Rattle.dsql_journal.specs.Readers.{is_empty}
+use Rattle.dsql_pool.specs.declared.conn.Place.{Place}
+use Rattle.dsql_pool.specs.declared.conn.Place.TheVariants.{Idle, Lent, Opening, Closing}
+use Rattle.dsql_pool.specs.Places.{is_lent}
+use Rattle.dsql_history.specs.declared.event.Event.{Event}
+use Rattle.dsql_history.specs.declared.event.Event.TheVariants.{Heard}
+use Rattle.dsql_history.specs.declared.record.Flight.{Flight}
+use Rattle.dsql_history.specs.Readers.Calls.{reply_due, user}
+use Rattle.dsql_history.specs.Readers.Owed.{fate, fate_when}
+use Rattle.dsql_history.specs.Readers.Pool.{place, pool}
+use Rattle.dsql_history.specs.Readers.Unfinished.{is_unfinished}
+use Rattle.dsql_history.specs.Rules.Flights.{is_in_flight, without_flight}
+use Rattle.dsql_history.specs.Rules.Line.{due_for, sends_from}
+use Rattle.dsql_history.specs.Rules.Moves.{hears_in}
+use Rattle.dsql_history.specs.Rules.Settled.{Settled, goes_on_but, is_settled_but, owes_nothing, uses_what_is_lent}
+use Rattle.dsql_history.specs.Legal.{Allowed, Lawful}
+use Rattle.dsql_laws.proofs.Numbered.{unfinished_from_one}
+use Rattle.dsql_laws.proofs.OwedAllowed.{owed_made}
+use Rattle.dsql_laws.proofs.Tests.{both}
+use Rattle.dsql_call_laws.proofs.Owed.{few_next}
+use Rattle.dsql_sending_laws.proofs.Following.{none_bad, stays_with_its_call}
+use Rattle.dsql_move_laws.proofs.House.{answer_carried}
+use Rattle.dsql_steps.specs.Groups.{after_settling, gone_on, heard_at, let_go, with_owed}
+use Rattle.dsql_desk.specs.declared.desk.Desk.{Desk}
+use Rattle.dsql_desk.specs.Appending.{MayAppend}
+use Rattle.dsql_desk.specs.Desk.{past, Stands}
+use Rattle.dsql_desk.specs.Statements.{statement_of}
+use Rattle.dsql_desk.proofs.Fates.{fate_heard}
+use Rattle.dsql_going.specs.Reaching.{CanPay}
+use Rattle.dsql_going.specs.Stepping.{events_of_a_step}
+use Rattle.dsql_hearing.specs.declared.hear.Hearing.{Hearing}
+use Rattle.dsql_hearing.specs.Hearing.{IsWelcome, MayHear, lent_to}
+use Rattle.dsql_hearing.proofs.Letting.{LentTo, comes_there, same_let_go, statement_stays}
+use Rattle.dsql_hearing.proofs.Welcome.{house_number, owner_there}
+
+pub may_append : (desk : Desk) (e : Entry) (ready : Hearing) → CanPay desk events_of_a_step → MayHear (past desk) e ready → MayAppend desk (Heard e)
+unfolding Stands
+may_append desk e ready pays may = record {
+  stands = pays.stands;
+  paid =
+      let few = few_next (past desk) (Heard e) pays.stands.tables.lawful may.settled.nothing_owed in
+      let paid = pays.paid in
+      omega (arith, few, paid);
+  allowed = may.allowed;
+  few = pays.few;
+}
+
+-- where the connection isn't lent to a call
+
+unlent_at : (H : List Event) (e : Entry) (at : Option Place) → Lawful H → place H e.conn ≡ at → sends_from H at e ≡ true → lent_to at ≡ None → is_lent at ≡ false
+unlent_at H e (Some (Lent t (Call m))) l is sends house = absurd cc
+unlent_at H e (Some (Lent t (Tx m))) l is sends house = let it = stays_with_its_call H e l sends in let clash = sym it.lent ∙ is in absurd cc
+unlent_at H e (Some (Lent t (Pin m))) l is sends house = let it = stays_with_its_call H e l sends in let clash = sym it.lent ∙ is in absurd cc
+unlent_at H e (Some (Lent t House)) l is sends house = let it = stays_with_its_call H e l sends in let clash = sym it.lent ∙ is in absurd cc
+unlent_at H e (Some Idle) l is sends house = refl
+unlent_at H e (Some (Opening o)) l is sends house = refl
+unlent_at H e (Some Closing) l is sends house = refl
+unlent_at H e None l is sends house = refl
+
+unlent : (H : List Event) (e : Entry) → Lawful H → Allowed H (Heard e) → lent_to (place H e.conn) ≡ None → is_lent (place H e.conn) ≡ false
+unfolding Allowed
+unlent H e l a house = unlent_at H e (place H e.conn) l refl a.line house
+
+pub settled_house : (H : List Event) (e : Entry) → Lawful H → Allowed H (Heard e) → Settled H → lent_to (place H e.conn) ≡ None → Settled (with_owed (Heard e ∷ H))
+settled_house H e l a s house =
+    let carried = answer_carried H e (l, a) (unlent H e l a house) in
+    record { nothing_owed = ap is_empty (owed_made (Heard e ∷ H)); used = carried.used s.used; somewhere = carried.somewhere 0 s.somewhere }
+
+pub layer_calls : (H : List Event) (e : Entry) → Lawful H → IsWelcome H e → lent_to (place H e.conn) ≡ None → e.call_no ≡ 0
+layer_calls H e l w house = house_number H e (place H e.conn) w.none (unlent_at H e (place H e.conn) l refl w.line house) w.sets
+
+pub house_group : (H : List Event) (e : Entry) (at : Option Place) → lent_to at ≡ None → heard_at at e H ≡ with_owed (Heard e ∷ H)
+house_group H e (Some (Lent t (Call m))) house = absurd cc
+house_group H e (Some (Lent t (Tx m))) house = refl
+house_group H e (Some (Lent t (Pin m))) house = refl
+house_group H e (Some (Lent t House)) house = refl
+house_group H e (Some Idle) house = refl
+house_group H e (Some (Opening o)) house = refl
+house_group H e (Some Closing) house = refl
+house_group H e None house = refl
+
+pub lent_group : (H : List Event) (e : Entry) (at : Option Place) (n : ℕ) → lent_to at ≡ Some n → heard_at at e H ≡ gone_on e.call_no (let_go e.conn n (Heard e ∷ H))
+lent_group H e (Some (Lent t (Call m))) n lent = let same : m ≡ n = cc in ap (λ i. gone_on e.call_no (let_go e.conn i (Heard e ∷ H))) same
+lent_group H e (Some (Lent t (Tx m))) n lent = absurd cc
+lent_group H e (Some (Lent t (Pin m))) n lent = absurd cc
+lent_group H e (Some (Lent t House)) n lent = absurd cc
+lent_group H e (Some Idle) n lent = absurd cc
+lent_group H e (Some (Opening o)) n lent = absurd cc
+lent_group H e (Some Closing) n lent = absurd cc
+lent_group H e None n lent = absurd cc
+
+-- what the answer tells of a lent connection
+pub fate_there : (H : List Event) (e : Entry) (n : ℕ) → Lawful H → Allowed H (Heard e) → LentTo (place H e.conn) n → fate (Heard e ∷ H) e.conn ≡ fate_when (is_bad e.answer) (is_invalid e.answer)
+fate_there H e n l a at = fate_heard H e (none_bad H e l (comes_there H e n a at))
+
+-- there is no call 0
+
+nobody_left : (P : List Event) → Lawful P → is_unfinished P 0 ≡ false
+nobody_left P l = by (is_unfinished P 0) refl
+  where
+    by : (b : Bool) → is_unfinished P 0 ≡ b → is_unfinished P 0 ≡ false
+    by true is = absurd (unfinished_from_one P 0 l is refl)
+    by false is = is
+
+pub nobody_goes : (P : List Event) (n : ℕ) → Lawful P → n ≡ 0 → gone_on n P ≡ P
+nobody_goes P n l none =
+    ap (λ m. gone_on m P) none
+    ∙ ap (λ (b : Bool). cond (b && not (is_some (due_for P 0))) (after_settling 0 (reply_due P 0) P) P) (nobody_left P l)
+
+pub settled_nobody : (P : List Event) (n : ℕ) → n ≡ 0 → is_settled_but n P ≡ true → Settled P
+settled_nobody P n none h =
+    let h0 : is_settled_but 0 P ≡ true = subst (λ m. is_settled_but m P ≡ true) none h in
+    let a = both (owes_nothing P) (uses_what_is_lent P && goes_on_but 0 P) h0 in
+    let b = both (uses_what_is_lent P) (goes_on_but 0 P) a.1 in
+    record { nothing_owed = a.0; used = b.0; somewhere = b.1 }
+
+-- the call of an answer goes on
+
+allowed_sets : (H : List Event) (e : Entry) → Allowed H (Heard e) → hears_in (pool H) (place H e.conn) e ≡ true
+unfolding Allowed
+allowed_sets H e a = a.sets
+
+pub unfinished_on : (H : List Event) (e : Entry) (n : ℕ) → Lawful H → Allowed H (Heard e) → LentTo (place H e.conn) n → e.call_no ≢ 0 → is_unfinished (let_go e.conn n (Heard e ∷ H)) e.call_no ≡ true
+unfinished_on H e n l a at some =
+    let it = stays_with_its_call H e l (comes_there H e n a at) in
+    let same = same_let_go (Heard e ∷ H) e.conn n in
+    same.unfinished e.call_no ∙ it.unfinished some
+
+pub statement_on : (H : List Event) (e : Entry) (n : ℕ) → Lawful H → Allowed H (Heard e) → LentTo (place H e.conn) n → e.call_no ≢ 0
+    → statement_of (let_go e.conn n (Heard e ∷ H)) (user (let_go e.conn n (Heard e ∷ H)) e.call_no) ≡ statement_of H (number_of e.owner)
+statement_on H e n l a at some =
+    let G = let_go e.conn n (Heard e ∷ H) in
+    let it = stays_with_its_call H e l (comes_there H e n a at) in
+    let same = same_let_go (Heard e ∷ H) e.conn n in
+    let whose : user G e.call_no ≡ it.holder = same.whose e.call_no ∙ it.used some in
+    ap (statement_of G) whose
+    ∙ (same.asked it.holder ∙ (statement_stays H e e.conn e.tenure it.holder l it.lent ∙ ap (λ o. statement_of H (number_of o)) (sym (owner_there H e it (allowed_sets H e a)))))
+
+-- no driver call of it is under way any more
+pub landed_apart : (n : ℕ) (flights : List Flight) → is_in_flight n (without_flight n flights) ≡ false
+landed_apart n [] = refl
+landed_apart n (x ∷ xs) = by (x.call == n) refl (landed_apart n xs)
+  where
+    by : (b : Bool) → (x.call == n) ≡ b → is_in_flight n (without_flight n xs) ≡ false → is_in_flight n (cond (not b) (x ∷ without_flight n xs) (without_flight n xs)) ≡ false
+    by true is rest = rest
+    by false is rest = ap (λ b. b || is_in_flight n (without_flight n xs)) is ∙ rest

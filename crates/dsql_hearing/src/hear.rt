@@ -1,0 +1,136 @@
+//! A driver's answer is taken in.
+ghost use Rattle.std.specs.Prelude.{◌≡◌, ◌∷◌, ◌+◌, ◌≤◌, ◌<◌, false, length, IfOk, Some, None};
+ghost use Rattle.dsql_work.specs.Limits.{most_within_a_step};
+ghost use Rattle.dsql_history.specs.declared.event.Event.TheVariants.{Heard};
+ghost use Rattle.dsql_history.specs.Readers.Owed.{fate};
+ghost use Rattle.dsql_history.specs.Readers.Pool.{place};
+ghost use Rattle.dsql_history.specs.Rules.Flights.{is_in_flight, without_flight};
+ghost use Rattle.dsql_history.specs.Rules.Line.{is_used};
+ghost use Rattle.dsql_laws.specs.Leaving.{MayLeave};
+ghost use Rattle.dsql_call_laws.specs.Bounds.{most_given_back};
+ghost use Rattle.dsql_desk.specs.Desk.{past, Stands};
+ghost use Rattle.dsql_going.specs.Reaching.{CanPay, Reaches};
+ghost use Rattle.dsql_going.specs.Stepping.{events_of_a_step, MayStep, GoesOnOrRests};
+ghost use Rattle.dsql_hearing.specs.Hearing.{IsWelcome, IsReadyFor, MayHear, LetsGo, lent_to};
+ghost use Rattle.dsql_steps.specs.Groups.{after_heard, gone_on, let_go, with_owed};
+
+use dsql_desk::{Desk, NoRoom, Statement, fate_of};
+use dsql_driver::DriverAnswer;
+use dsql_flights::Flights;
+use dsql_going::{Next, go_on};
+use dsql_history::Reply;
+use dsql_journal::{Entry, Owner};
+use dsql_pool::{Fate, Place};
+use std::alloc::Global;
+
+/// What the step over an answer needs, with the memory that it takes.
+#[derive(Drop)]
+pub struct Hearing {
+    /// The answer once more.
+    pub copy: DriverAnswer,
+    /// The statement of the call to which the connection is lent.
+    pub statement: Statement,
+    /// What the answer to a Query or a Next decides.
+    pub reply: Option<Reply>,
+}
+
+/// Makes all ready that the step over this answer needs.
+pub fn ready_for(desk: &Desk, alloc: Global, entry: &Entry) -> Result<Hearing, NoRoom>
+    requires { Stands desk.now }
+    ensures { IfOk result (IsReadyFor (past desk.now) entry.now) }
+{
+    let copy = entry.answer.clone()?;
+    let statement = desk.statement(alloc, entry.owner.number())?;
+    let reply = desk.reply_decided(alloc, entry)?;
+    Ok(Hearing {
+        copy,
+        statement,
+        reply,
+    })
+}
+
+/// A driver's answer is taken in, for which all is ready.
+pub fn hear_answer(desk: &mut Desk, flights: &mut Flights, entry: Entry, ready: Hearing) -> Next
+    requires pays { CanPay desk.old events_of_a_step }
+    requires few { length (past desk.old) + events_of_a_step ≤ most_within_a_step }
+    requires may { MayStep (past desk.old) flights.old }
+    requires welcome { IsWelcome (past desk.old) entry }
+    requires ready { IsReadyFor (past desk.old) entry ready }
+    ensures reaches { Reaches desk.new (after_heard (past desk.old) entry) }
+    ensures goes { GoesOnOrRests (past desk.new) (without_flight entry.call_no flights.old.flights) flights.new.flights entry.call_no result }
+{
+    flights.land(entry.call_no);
+    match lent_to(desk.place(entry.conn)) {
+        Some(query) => hear_lent(desk, flights, query, entry, ready),
+        None => {
+            hear_house(desk, entry, ready);
+            Next::Quiet
+        }
+    }
+}
+
+/// The answer to a driver call that opens a connection or closes it.
+fn hear_house(desk: &mut Desk, entry: Entry, ready: Hearing)
+    requires pays { CanPay desk.old events_of_a_step }
+    requires may { MayHear (past desk.old) entry ready }
+    requires house { lent_to (place (past desk.old) entry.conn) ≡ None }
+    ensures { Reaches desk.new (with_owed (Heard entry ∷ past desk.old)) }
+{
+    desk.hear(entry, ready.copy, ready.reply);
+}
+
+/// The answer to a driver call on a connection that is lent to a call.
+fn hear_lent(
+    desk: &mut Desk,
+    flights: &mut Flights,
+    query: u32,
+    entry: Entry,
+    ready: Hearing,
+) -> Next
+    requires pays { CanPay desk.old events_of_a_step }
+    requires few { length (past desk.old) + events_of_a_step ≤ most_within_a_step }
+    requires may { MayHear (past desk.old) entry ready }
+    requires lent { lent_to (place (past desk.old) entry.conn) ≡ Some query }
+    requires parked { is_in_flight entry.call_no flights.old.flights ≡ false }
+    requires spare { 0 < flights.old.spare }
+    ensures reaches { Reaches desk.new (gone_on entry.call_no (let_go entry.conn query (Heard entry ∷ past desk.old))) }
+    ensures goes { GoesOnOrRests (past desk.new) flights.old.flights flights.new.flights entry.call_no result }
+{
+    let Hearing {
+        copy,
+        statement,
+        reply,
+    } = ready;
+    let conn = entry.conn;
+    let call = entry.call_no;
+    let told = fate_of(&entry.answer);
+    desk.hear(entry, copy, reply);
+    let_go(desk, conn, query, told);
+    if call == 0 {
+        Next::Quiet
+    } else {
+        go_on(desk, flights, call, statement)
+    }
+}
+
+/// A connection is given back where it isn't in use any more.
+fn let_go(desk: &mut Desk, conn: u32, query: u32, told: Fate)
+    requires pays { CanPay desk.old most_given_back }
+    requires leaves { is_used (past desk.old) query ≡ false → MayLeave (past desk.old) conn }
+    requires told { told ≡ fate (past desk.old) conn }
+    ensures { LetsGo desk.old desk.new conn query }
+{
+    if !desk.is_used(query) {
+        desk.give_back(conn, told);
+    }
+}
+
+/// The call to which a connection in this place is lent, if it is to a call.
+fn lent_to(place: Option<Place>) -> Option<u32>
+    ensures { result ≡ lent_to place }
+{
+    match place {
+        Some(Place::Lent(_, Owner::Call(call))) => Some(call),
+        _ => None,
+    }
+}

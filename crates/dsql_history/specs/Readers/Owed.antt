@@ -1,0 +1,65 @@
+-- The moves that the pool owes: what it decided at an event and hasn't done yet.
+use Rattle.std.specs.Prelude.{ℕ, ℤ, Bool, true, false, cond, List, [], ◌∷◌, drop, Option, Some}
+use Rattle.dsql_driver.specs.declared.answer.DriverAnswer.{DriverAnswer}
+use Rattle.dsql_driver.specs.Fits.{is_done}
+use Rattle.dsql_journal.specs.Readers.{went_bad}
+use Rattle.dsql_pool.specs.declared.conn.Place.{Place}
+use Rattle.dsql_pool.specs.declared.conn.Place.TheVariants.{Opening, Closing}
+use Rattle.dsql_pool.specs.declared.moves.Fate.{Fate}
+use Rattle.dsql_pool.specs.declared.moves.Fate.TheVariants.{Good, Bad, Invalid}
+use Rattle.dsql_pool.specs.declared.moves.Move.{Move}
+use Rattle.dsql_pool.specs.declared.moves.Move.TheVariants.{Back, CloseStart}
+use Rattle.dsql_pool.specs.Pooled.{Pooled}
+use Rattle.dsql_pool.specs.Calls.{moves_opened, moves_failed, moves_given_back, moves_gone, moves_open_set, moves_idle_set, moves_closed}
+use Rattle.dsql_work.specs.Journals.{ends_invalid}
+use Rattle.dsql_history.specs.declared.event.Event.{Event}
+use Rattle.dsql_history.specs.declared.event.Event.TheVariants.{Entered, Heard, Pool, SetLimit, Ended}
+use Rattle.dsql_history.specs.declared.event.Op.TheVariants.{DbClose}
+use Rattle.dsql_history.specs.declared.event.Setting.{Setting}
+use Rattle.dsql_history.specs.declared.event.Setting.TheVariants.{MaxOpen, MaxIdle}
+use Rattle.dsql_history.specs.Readers.Journals.{journal}
+use Rattle.dsql_history.specs.Readers.Pool.{pool, place}
+
+abbrev pub fate_when : Bool → Bool → Fate
+fate_when true invalid = Bad
+fate_when false true = Invalid
+fate_when false false = Good
+
+-- What the journal of connection c tells of it: the driver said that it is bad, or else its test failed just now.
+abbrev pub fate : List Event → ℕ → Fate
+fate before c = fate_when (went_bad (journal before c)) (ends_invalid (journal before c))
+
+-- what comes of connection c as it is given back
+abbrev pub given_back : List Event → ℕ → List Move
+given_back before c = moves_given_back (fate before c) c (pool before)
+
+-- what comes of an answer of a connection in this place: it is opened, or couldn't be, or was shut
+abbrev pub answered : DriverAnswer → ℕ → Pooled → Option Place → List Move
+answered answer c p (Some (Opening wanted)) = cond (is_done answer) (moves_opened c p) (moves_failed c p)
+answered answer c p (Some Closing) = moves_gone c p
+answered answer c p _ = []
+
+abbrev pub limit_set : Setting → ℤ → Pooled → List Move
+limit_set MaxOpen n p = moves_open_set n p
+limit_set MaxIdle n p = moves_idle_set n p
+
+-- what comes of a connection that leaves its call by this move
+abbrev pub leaving : List Event → Move → List Move
+leaving before (Back c) = given_back before c
+leaving before (CloseStart c cause) = given_back before c
+leaving before move = []
+
+-- what is left after a move: of what was owed, or of what comes of a connection that leaves its call
+abbrev pub left_of : List Event → Move → List Move → List Move
+left_of before move (due ∷ later) = later
+left_of before move [] = drop 1 (leaving before move)
+
+-- The moves that the pool has still to make, in their order: those that a connection's answer, a limit, the close or the end of the run made due.
+abbrev pub owed : List Event → List Move
+owed [] = []
+owed (Entered client n DbClose ∷ before) = moves_closed (pool before)
+owed (Heard e ∷ before) = answered e.answer e.conn (pool before) (place before e.conn)
+owed (Pool move ∷ before) = left_of before move (owed before)
+owed (SetLimit setting n ∷ before) = limit_set setting n (pool before)
+owed (Ended ∷ before) = moves_closed (pool before)
+owed (_ ∷ before) = []

@@ -1,0 +1,32 @@
+-- Where each unfinished call is between two steps.
+use Rattle.std.specs.Prelude.{ℕ, Bool, true, false, ◌&&◌, List, Option, Some, None, is_none, is_some}
+use Rattle.dsql_course.specs.Made.{or_else}
+use Rattle.dsql_wait.specs.Requests.{waits}
+use Rattle.dsql_pool.specs.Places.{is_for}
+use Rattle.dsql_history.specs.declared.event.Event.{Event}
+use Rattle.dsql_history.specs.declared.record.Stand.{Stand}
+use Rattle.dsql_history.specs.declared.record.Stand.TheVariants.{Waits, Opens, Sends, Replies}
+use Rattle.dsql_history.specs.Readers.Pool.{pool, smallest}
+use Rattle.dsql_history.specs.Readers.Calls.{site, decided, told_by_others}
+use Rattle.dsql_history.specs.Rules.Line.{due_for}
+
+abbrev pub stands : Bool → Stand → Option Stand
+stands true it = Some it
+stands false it = None
+
+abbrev pub opens : Option ℕ → Option Stand
+opens None = None
+opens (Some c) = Some (Opens c)
+
+-- Where call n is: it waits, or a connection is being opened for it, or a driver call of it is due, or others have settled what it replies. It is nowhere where it has to ask, or has settled its reply itself: that comes in the same step.
+abbrev pub stand : List Event → ℕ → Option Stand
+stand before n =
+    or_else (stands (waits n (pool before).waiting) Waits)
+    (or_else (opens (smallest (is_for n) (pool before)))
+    (or_else (stands (is_some (due_for before n)) (Sends (site before n)))
+    (stands (is_none (decided before n) && is_some (told_by_others before n)) Replies)))
+
+-- it waits
+abbrev pub is_waiting : Option Stand → Bool
+is_waiting (Some Waits) = true
+is_waiting _ = false

@@ -1,0 +1,153 @@
+-- To whom a refusal falls, and who still waits as the database is closed, stands where it replies.
+use Rattle.std.proofs.Common.{◌≡◌, ◌≢◌, ℕ, ◌≤◌, ◌==◌, Bool, true, false, ◌&&◌, cond, List, [], ◌∷◌, Option, Some, None, is_some, is_none, refl, ap, ◌∙◌, arith}
+use Rattle.std.specs.Prelude.{count_by}
+use Rattle.std.specs.List.{list_any}
+use Rattle.std.specs.Option.{option_map}
+use Rattle.std.proofs.lemmas.Bool.Decides.{nat_tests}
+use Rattle.dsql_course.specs.Made.{or_else}
+use Rattle.dsql_journal.specs.declared.entry.Owner.{Owner}
+use Rattle.dsql_journal.specs.Kinds.{number_of}
+use Rattle.dsql_wait.specs.declared.request.Request.{Request}
+use Rattle.dsql_wait.specs.Requests.{waits}
+use Rattle.dsql_pool.specs.declared.conn.Conn.{Conn}
+use Rattle.dsql_pool.specs.declared.conn.Place.{Place}
+use Rattle.dsql_pool.specs.declared.conn.Place.TheVariants.{Opening}
+use Rattle.dsql_pool.specs.declared.moves.Move.TheVariants.{Fell}
+use Rattle.dsql_pool.specs.Calls.{wants}
+use Rattle.dsql_pool.specs.Decisions.{falls_to, oldest_call}
+use Rattle.dsql_pool.specs.Places.{conn_of, is_for}
+use Rattle.dsql_pool.proofs.Frees.{passing}
+use Rattle.dsql_work.specs.Works.{asks}
+use Rattle.dsql_history.specs.declared.event.Event.{Event}
+use Rattle.dsql_history.specs.declared.event.Event.TheVariants.{Entered, Pool, Ended}
+use Rattle.dsql_history.specs.declared.event.Op.TheVariants.{DbClose}
+use Rattle.dsql_history.specs.declared.record.Stand.TheVariants as stands_at
+use Rattle.dsql_history.specs.declared.record.Try.TheVariants.{Refused}
+use Rattle.dsql_history.specs.declared.reply.DbEnd.{DbEnd}
+use Rattle.dsql_history.specs.declared.reply.DbEnd.TheVariants as ends
+use Rattle.dsql_history.specs.declared.reply.Reply.{Reply}
+use Rattle.dsql_history.specs.declared.reply.Reply.TheVariants.{DbClosed}
+use Rattle.dsql_history.specs.Readers.Course.{or_end, db_end}
+use Rattle.dsql_history.specs.Readers.Calls.{site, decided, told_by_tries, told_by_others}
+use Rattle.dsql_history.specs.Readers.Pool.{pool, place, smallest}
+use Rattle.dsql_history.specs.Readers.Tries.{tries, with_try, newest_answer}
+use Rattle.dsql_history.specs.Readers.Unfinished.{is_unfinished}
+use Rattle.dsql_history.specs.Readers.Works.{work}
+use Rattle.dsql_history.specs.Rules.Line.{due_in, due_for}
+use Rattle.dsql_history.specs.Rules.Stands.{stands, opens, stand}
+use Rattle.dsql_history.specs.Legal.{Allowed, Lawful}
+use Rattle.dsql_laws.specs.Holdings.{waits_of}
+use Rattle.dsql_laws.proofs.Tests.{same_itself}
+use Rattle.dsql_laws.proofs.Counts.{request-cons, gone_fewer}
+use Rattle.dsql_laws.proofs.Tried.{is_lent_out, lent_count, shut_fewer}
+use Rattle.dsql_laws.proofs.Holdings.{one_at_most}
+use Rattle.dsql_laws.proofs.Standing.{neither, none_opens}
+use Rattle.dsql_laws.proofs.Wanting.{is_opening_for, wanted, wants_counts, wants_its_own, wanting_works, homes_apart, found_counts, none_wanted}
+use Rattle.dsql_call_laws.proofs.Works.{enters_next, old_work}
+use Rattle.dsql_call_laws.proofs.Falls.{falls}
+use Rattle.dsql_call_laws.proofs.Untried.{wants_untried, fallen_unwanting}
+use Rattle.dsql_call_laws.proofs.Refusals.{refusal_told}
+use Rattle.dsql_call_laws.proofs.Closed.{opens_for_none}
+use Rattle.dsql_call_laws.proofs.Idle.{due_lent}
+use Rattle.dsql_call_laws.proofs.Nowhere.{told_own}
+use Rattle.dsql_call_laws.proofs.Told.{not_entering, entered_undecided, wanting_undecided, wants_undecided}
+
+replies_only : (w d : Bool) (o : Option ℕ) (c : ℕ) (own others : Option Reply) → w ≡ false → o ≡ None → d ≡ false → own ≡ None → is_some others ≡ true
+    → or_else (stands w stands_at.Waits) (or_else (opens o) (or_else (stands d (stands_at.Sends c)) (stands (is_none own && is_some others) stands_at.Replies))) ≡ Some stands_at.Replies
+replies_only false false None c None (Some reply) hw ho hd hown told = refl
+replies_only true d o c own others hw ho hd hown told = absurd cc
+replies_only false true o c own others hw ho hd hown told = absurd cc
+replies_only false false (Some k) c own others hw ho hd hown told = absurd cc
+replies_only false false None c (Some r) others hw ho hd hown told = absurd cc
+replies_only false false None c None None hw ho hd hown told = absurd cc
+
+-- who has no connection sends nothing
+silent : (H : List Event) (n : ℕ) → asks (work H n) ≡ true → lent_count n (pool H) ≡ 0 → is_some (due_for H n) ≡ false
+silent H n own none = by (is_unfinished H n)
+  where
+    inside : (b : Bool) → is_some (due_in H n (work H n)) ≡ b → b ≡ false
+    inside false is = refl
+    inside true is = let lent = due_lent H n (work H n) own is in absurd (omega (arith, lent, none))
+
+    by : (b : Bool) → is_some (cond b (due_in H n (work H n)) None) ≡ false
+    by true = inside (is_some (due_in H n (work H n))) refl
+    by false = refl
+
+wanting_unlent : (H : List Event) (n : ℕ) → Lawful H → n ≢ 0 → 1 ≤ wanted n (pool H) → lent_count n (pool H) ≡ 0
+wanting_unlent H n l some now =
+    let one = one_at_most H n l some in
+    let apart = homes_apart n (pool H).conns in
+    omega (arith, one, apart, now)
+
+-- a refusal
+
+opening_passes : (owner : Owner) (k : ℕ) (o : Option Conn) → k ≡ number_of owner → option_map (λ x. x.place) o ≡ Some (Opening (Some owner)) → passing (is_opening_for k) o ≡ 1
+opening_passes owner k None whose at = absurd cc
+opening_passes owner k (Some x) whose at =
+    let there : x.place ≡ Opening (Some owner) = cc in
+    ap (λ (pl : Place). cond {A = ℕ} (is_for k pl) 1 0) there ∙ ap (λ (b : Bool). cond {A = ℕ} b 1 0) (ap (λ j. number_of owner == j) whose ∙ same_itself (number_of owner))
+
+fallen_wanted : (H : List Event) (c n : ℕ) → Allowed H (Pool (Fell c n)) → n ≢ 0 → 1 ≤ wanted n (pool H)
+fallen_wanted H c n a some = let f = falls H c n a in by f.wanted f.opening f.to
+  where
+    by : (w : Option Owner) → place H c ≡ Some (Opening w) → n ≡ falls_to (Some (Opening w)) (pool H) → 1 ≤ wanted n (pool H)
+    by (Some owner) is to =
+        let found = opening_passes owner n (conn_of c (pool H).conns) to is in
+        let counted = found_counts (is_opening_for n) c (pool H).conns in
+        omega (arith, found, counted)
+    by None is to = waited (pool H).waiting refl
+      where
+        waited : (rs : List Request) → (pool H).waiting ≡ rs → 1 ≤ wanted n (pool H)
+        waited [] w = absurd (some (to ∙ ap (λ rs. oldest_call rs) w))
+        waited (r ∷ rs) w =
+            let its : n ≡ r.call = to ∙ ap (λ qs. oldest_call qs) w in
+            let here : (r.call == n) ≡ true = grind (arith, nat_tests, its) in
+            let counted = request-cons n r rs in
+            let first : cond {A = ℕ} (r.call == n) 1 0 ≡ 1 = ap (λ (b : Bool). cond {A = ℕ} b 1 0) here in
+            let all : waits_of n (pool H) ≡ count_by (λ (q : Request). q.call == n) (r ∷ rs) = ap (λ qs. count_by (λ (q : Request). q.call == n) qs) w in
+            omega (arith, counted, first, all)
+
+pub fallen_replies : (H : List Event) (c n : ℕ) → Lawful (Pool (Fell c n) ∷ H) → n ≢ 0 → stand (Pool (Fell c n) ∷ H) n ≡ Some stands_at.Replies
+fallen_replies H c n l some =
+    let K = Pool (Fell c n) ∷ H in
+    let now = fallen_wanted H c n l.1 some in
+    let own = wanting_works H n l.0 some now in
+    let unwanting = neither (waits n (pool K).waiting) (list_any (λ conn. is_for n conn.place) (pool K).conns) (none_wanted n (pool K) (fallen_unwanting H c n l some)) in
+    let few = gone_fewer (is_lent_out n) c (pool H).conns in
+    let none = wanting_unlent H n l.0 some now in
+    let unlent : lent_count n (pool K) ≡ 0 = omega (arith, few, none) in
+    let newest : tries K n ≡ Refused (newest_answer H) ∷ tries H n = ap (λ b. with_try b (Refused (newest_answer H)) (tries H n)) (same_itself n) in
+    let told : told_by_others K n ≡ told_by_tries K (Refused (newest_answer H) ∷ tries H n) = told_own K n (work K n) own ∙ ap (told_by_tries K) newest in
+    replies_only (waits n (pool K).waiting) (is_some (due_for K n)) (smallest (is_for n) (pool K)) (site K n) (decided K n) (told_by_others K n) unwanting.0 (none_opens n (pool K) unwanting.1)
+    (silent K n own unlent) (wanting_undecided H n l.0 some now) (ap (λ o. is_some o) told ∙ refusal_told K n (newest_answer H) (tries H n) l newest)
+
+-- a database that is closed
+
+some_end : (o : Option DbEnd) (end : DbEnd) → is_some (option_map DbClosed (or_end o end)) ≡ true
+some_end None end = refl
+some_end (Some earlier) end = refl
+
+pub shut_out_replies : (H : List Event) (client k n : ℕ) → Lawful (Entered client k DbClose ∷ H) → n ≢ 0 → wants n (pool H) ≡ true → stand (Entered client k DbClose ∷ H) n ≡ Some stands_at.Replies
+shut_out_replies H client k n l some h =
+    let K = Entered client k DbClose ∷ H in
+    let now = wants_counts n (pool H) h in
+    let apart = not_entering H client k DbClose n l some now in
+    let own : asks (work K n) ≡ true = ap asks (old_work H client k DbClose n (enters_next H client k DbClose l.1) apart) ∙ wants_its_own H n l.0 some h in
+    let few = shut_fewer n (pool H) in
+    let none = wanting_unlent H n l.0 some now in
+    let unlent : lent_count n (pool K) ≡ 0 = omega (arith, few, none) in
+    let told : told_by_others K n ≡ told_by_tries K [] = told_own K n (work K n) own ∙ ap (told_by_tries K) (wants_untried H n l.0 some h) in
+    replies_only (waits n (pool K).waiting) (is_some (due_for K n)) (smallest (is_for n) (pool K)) (site K n) (decided K n) (told_by_others K n) refl (opens_for_none K n l refl) (silent K n own unlent)
+    (entered_undecided H client k DbClose n l some now (wants_undecided H n l.0 some h)) (ap (λ o. is_some o) told ∙ some_end (db_end H) ends.Close)
+
+pub left_waiting_replies : (H : List Event) (n : ℕ) → Lawful (Ended ∷ H) → n ≢ 0 → wants n (pool H) ≡ true → stand (Ended ∷ H) n ≡ Some stands_at.Replies
+left_waiting_replies H n l some h =
+    let K = Ended ∷ H in
+    let now = wants_counts n (pool H) h in
+    let own : asks (work K n) ≡ true = wants_its_own H n l.0 some h in
+    let few = shut_fewer n (pool H) in
+    let none = wanting_unlent H n l.0 some now in
+    let unlent : lent_count n (pool K) ≡ 0 = omega (arith, few, none) in
+    let told : told_by_others K n ≡ told_by_tries K [] = told_own K n (work K n) own ∙ ap (told_by_tries K) (wants_untried H n l.0 some h) in
+    replies_only (waits n (pool K).waiting) (is_some (due_for K n)) (smallest (is_for n) (pool K)) (site K n) (decided K n) (told_by_others K n) refl (opens_for_none K n l refl) (silent K n own unlent)
+    (wants_undecided H n l.0 some h) (ap (λ o. is_some o) told ∙ some_end (db_end H) ends.EndOfRun)

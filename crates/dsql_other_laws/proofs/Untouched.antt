@@ -1,0 +1,180 @@
+-- A reply, a wait and a limit touch no other call, and no connection.
+use Rattle.std.proofs.Common.{◌≡◌, ◌≢◌, ℕ, ◌==◌, Bool, true, false, not, ◌&&◌, ◌||◌, cond, List, [], ◌∷◌, ◌++◌, Option, is_some, is_none, refl, sym, ap, subst, ◌∙◌}
+use Rattle.std.specs.Prelude.{ℤ}
+use Rattle.std.specs.List.{list_all}
+use Rattle.dsql_course.specs.declared.course.Wish.{Wish}
+use Rattle.dsql_course.specs.Made.{or_else}
+use Rattle.dsql_driver.specs.declared.call.DriverCall.{DriverCall}
+use Rattle.dsql_journal.specs.Readers.{has}
+use Rattle.dsql_wait.specs.declared.request.Request.{Request}
+use Rattle.dsql_wait.specs.Requests.{waits}
+use Rattle.dsql_pool.specs.Places.{is_for}
+use Rattle.dsql_pool.specs.Pooled.{without}
+use Rattle.dsql_history.specs.declared.event.Event.{Event}
+use Rattle.dsql_history.specs.declared.event.Event.TheVariants.{Waits, SetLimit, Replied}
+use Rattle.dsql_history.specs.declared.event.Setting.{Setting}
+use Rattle.dsql_history.specs.declared.event.Setting.TheVariants.{MaxOpen, MaxIdle}
+use Rattle.dsql_history.specs.declared.record.Stand.{Stand}
+use Rattle.dsql_history.specs.declared.record.Stand.TheVariants as stands_at
+use Rattle.dsql_history.specs.declared.reply.Reply.{Reply}
+use Rattle.dsql_history.specs.Readers.Calls.{site, decided, told_by_others}
+use Rattle.dsql_history.specs.Readers.Pool.{pool, place, home, request, smallest}
+use Rattle.dsql_history.specs.Readers.Unfinished.{unfinished, is_unfinished}
+use Rattle.dsql_history.specs.Rules.Line.{line_of, due_for}
+use Rattle.dsql_history.specs.Rules.Settled.{uses_what_is_lent, goes_on_but, goes_on}
+use Rattle.dsql_history.specs.Rules.Stands.{stands, opens, stand}
+use Rattle.dsql_call_laws.proofs.Lists.{has-without}
+use Rattle.dsql_laws.proofs.Tests.{both, together, same_number, other_number, same_itself}
+use Rattle.dsql_call_laws.proofs.Works.{other_replied}
+use Rattle.dsql_call_laws.proofs.Enders.{same_ender}
+use Rattle.dsql_other_laws.proofs.Alike.{Alike, due_alike, used_alike, lent_alike, line_asked, replied_lines}
+
+-- what is due
+
+other_unfinished : (H : List Event) (n : ℕ) (reply : Reply) (m : ℕ) → m ≢ n → is_unfinished (Replied n reply ∷ H) m ≡ is_unfinished H m
+other_unfinished H n reply m apart = has-without m n (unfinished H) ∙ ap (λ b. not b && has m (unfinished H)) (other_number m n apart)
+
+replied_alike : (H : List Event) (n : ℕ) (reply : Reply) (m : ℕ) → m ≢ n → Alike H (Replied n reply ∷ H) m
+replied_alike H n reply m apart = record {
+  unfinished = other_unfinished H n reply m apart;
+  its_work = refl;
+  live = λ k. refl;
+  enders = λ k. same_ender H (Replied n reply) k refl;
+  lines = replied_lines H n reply;
+  decided = ap (λ r. r.decided) (other_replied H n reply m apart);
+}
+
+pub due_replied : (H : List Event) (n : ℕ) (reply : Reply) (m : ℕ) → m ≢ n → due_for (Replied n reply ∷ H) m ≡ due_for H m
+due_replied H n reply m apart = due_alike H (Replied n reply ∷ H) m (replied_alike H n reply m apart)
+
+waits_lines : (H : List Event) (k : ℕ) (n : ℕ) (w : Wish) → line_of (Waits k ∷ H) n w ≡ line_of H n w
+waits_lines H k n w = line_asked H (Waits k ∷ H) n w (home H n) (place H (home H n)) refl (λ a t. refl)
+
+pub due_waits : (H : List Event) (k m : ℕ) → due_for (Waits k ∷ H) m ≡ due_for H m
+due_waits H k m =
+    due_alike H (Waits k ∷ H) m
+    (record { unfinished = refl; its_work = refl; live = λ j. refl; enders = λ j. same_ender H (Waits k) j refl; lines = waits_lines H k; decided = refl })
+
+limit_lines : (H : List Event) (s : Setting) (k : ℤ) (n : ℕ) (w : Wish) → line_of (SetLimit s k ∷ H) n w ≡ line_of H n w
+limit_lines H MaxOpen k n w = line_asked H (SetLimit MaxOpen k ∷ H) n w (home H n) (place H (home H n)) refl (λ a t. refl)
+limit_lines H MaxIdle k n w = line_asked H (SetLimit MaxIdle k ∷ H) n w (home H n) (place H (home H n)) refl (λ a t. refl)
+
+pub due_limit : (H : List Event) (s : Setting) (k : ℤ) (m : ℕ) → due_for (SetLimit s k ∷ H) m ≡ due_for H m
+due_limit H s k m =
+    due_alike H (SetLimit s k ∷ H) m
+    (record { unfinished = refl; its_work = refl; live = λ j. refl; enders = λ j. same_ender H (SetLimit s k) j refl; lines = limit_lines H s k; decided = refl })
+
+-- what is lent is in use as before
+
+pub used_replied : (H : List Event) (n : ℕ) (reply : Reply) → uses_what_is_lent (Replied n reply ∷ H) ≡ uses_what_is_lent H
+used_replied H n reply = lent_alike H (Replied n reply ∷ H) refl (λ k. used_alike H (Replied n reply ∷ H) k refl (replied_lines H n reply))
+
+pub used_waits : (H : List Event) (n : ℕ) → uses_what_is_lent (Waits n ∷ H) ≡ uses_what_is_lent H
+used_waits H n = lent_alike H (Waits n ∷ H) refl (λ k. used_alike H (Waits n ∷ H) k refl (waits_lines H n))
+
+pub used_limit : (H : List Event) (s : Setting) (k : ℤ) → uses_what_is_lent (SetLimit s k ∷ H) ≡ uses_what_is_lent H
+used_limit H MaxOpen k = lent_alike H (SetLimit MaxOpen k ∷ H) refl (λ n. used_alike H (SetLimit MaxOpen k ∷ H) n refl (limit_lines H MaxOpen k))
+used_limit H MaxIdle k = lent_alike H (SetLimit MaxIdle k ∷ H) refl (λ n. used_alike H (SetLimit MaxIdle k ∷ H) n refl (limit_lines H MaxIdle k))
+
+-- where each call stands
+
+abbrev standing : Bool → Option ℕ → Option DriverCall → ℕ → Option Reply → Option Reply → Option Stand
+standing waiting opening due there own others =
+    or_else (stands waiting stands_at.Waits)
+    (or_else (opens opening) (or_else (stands (is_some due) (stands_at.Sends there)) (stands (is_none own && is_some others) stands_at.Replies)))
+
+stand_replied : (H : List Event) (n : ℕ) (reply : Reply) (m : ℕ) → m ≢ n → stand (Replied n reply ∷ H) m ≡ stand H m
+stand_replied H n reply m apart =
+    let w = waits m (pool H).waiting in
+    let o = smallest (is_for m) (pool H) in
+    ap (λ d. standing w o d (site H m) (decided (Replied n reply ∷ H) m) (told_by_others H m)) (due_replied H n reply m apart)
+    ∙ ap (λ x. standing w o (due_for H m) (site H m) x (told_by_others H m)) (ap (λ r. r.decided) (other_replied H n reply m apart))
+
+pub stand_limit : (H : List Event) (s : Setting) (k : ℤ) (m : ℕ) → stand (SetLimit s k ∷ H) m ≡ stand H m
+stand_limit H MaxOpen k m = ap (λ d. standing (waits m (pool H).waiting) (smallest (is_for m) (pool H)) d (site H m) (decided H m) (told_by_others H m)) (due_limit H MaxOpen k m)
+stand_limit H MaxIdle k m = ap (λ d. standing (waits m (pool H).waiting) (smallest (is_for m) (pool H)) d (site H m) (decided H m) (told_by_others H m)) (due_limit H MaxIdle k m)
+
+waits_more : (m : ℕ) (rs : List Request) (r : Request) → waits m rs ≡ true → waits m (rs ++ r ∷ []) ≡ true
+waits_more m [] r h = absurd cc
+waits_more m (q ∷ qs) r h = by (waits_more m qs r) (q.call == m) h
+  where
+    by : (waits m qs ≡ true → waits m (qs ++ r ∷ []) ≡ true) → (b : Bool) → (b || waits m qs) ≡ true → (b || waits m (qs ++ r ∷ [])) ≡ true
+    by rest true k = refl
+    by rest false k = rest k
+
+waits_last : (m : ℕ) (rs : List Request) (r : Request) → (r.call == m) ≡ true → waits m (rs ++ r ∷ []) ≡ true
+waits_last m [] r is = ap (λ b. b || false) is
+waits_last m (q ∷ qs) r is = by (waits_last m qs r is) (q.call == m)
+  where
+    by : waits m (qs ++ r ∷ []) ≡ true → (b : Bool) → (b || waits m (qs ++ r ∷ [])) ≡ true
+    by rest true = refl
+    by rest false = rest
+
+still_somewhere : (a b : Bool) (rest : Option Stand) → (a ≡ true → b ≡ true) → is_some (or_else (stands a stands_at.Waits) rest) ≡ true → is_some (or_else (stands b stands_at.Waits) rest) ≡ true
+still_somewhere a true rest more h = refl
+still_somewhere true false rest more h = absurd (let clash : false ≡ true = more refl in cc)
+still_somewhere false false rest more h = h
+
+stand_waits : (H : List Event) (n m : ℕ) → is_some (stand H m) ≡ true → is_some (stand (Waits n ∷ H) m) ≡ true
+stand_waits H n m h =
+    let w = waits m ((pool H).waiting ++ request H n ∷ []) in
+    let o = smallest (is_for m) (pool H) in
+    let same = ap (λ d. is_some (standing w o d (site H m) (decided H m) (told_by_others H m))) (due_waits H n m) in
+    same
+    ∙ still_somewhere (waits m (pool H).waiting) w
+    (or_else (opens o) (or_else (stands (is_some (due_for H m)) (stands_at.Sends (site H m))) (stands (is_none (decided H m) && is_some (told_by_others H m)) stands_at.Replies)))
+    (waits_more m (pool H).waiting (request H n)) h
+
+itself_waits : (H : List Event) (n : ℕ) → is_some (stand (Waits n ∷ H) n) ≡ true
+itself_waits H n = by (waits n ((pool H).waiting ++ request H n ∷ [])) (waits_last n (pool H).waiting (request H n) (same_itself n))
+  where
+    by : (b : Bool) → b ≡ true
+        → is_some (or_else (stands b stands_at.Waits) (or_else (opens (smallest (is_for n) (pool H))) (or_else (stands (is_some (due_for (Waits n ∷ H) n)) (stands_at.Sends (site H n)))
+        (stands (is_none (decided H n) && is_some (told_by_others H n)) stands_at.Replies)))) ≡ true
+    by true h = refl
+    by false h = absurd cc
+
+pub or_second : (a b : Bool) → b ≡ true → (a || b) ≡ true
+or_second true b h = refl
+or_second false b h = h
+
+but_for : (a b : Bool) → (a || b) ≡ true → a ≡ false → b ≡ true
+but_for true b h k = absurd cc
+but_for false b h k = h
+
+all_without : (q r : ℕ → Bool) (n : ℕ) (ms : List ℕ) → ((m : ℕ) → (m == n) ≡ false → q m ≡ true → r m ≡ true) → list_all q ms ≡ true → list_all r (without n ms) ≡ true
+all_without q r n [] so h = refl
+all_without q r n (m ∷ ms) so h =
+    let a = both (q m) (list_all q ms) h in
+    let rest = all_without q r n ms so a.1 in
+    elim (m == n) as (λ b. (m == n) ≡ b → list_all r (cond (not b) (m ∷ without n ms) (without n ms)) ≡ true) [
+      | true ↦ λ is. rest
+      | false ↦ λ is. together (r m) (list_all r (without n ms)) (so m is a.0) rest
+    ] refl
+
+pub apart_of : (m n : ℕ) → (m == n) ≡ false → m ≢ n
+apart_of m n other same = let clash : true ≡ false = sym (ap (λ k. m == k) (sym same) ∙ same_itself m) ∙ other in cc
+
+pub goes_on_replied : (H : List Event) (n : ℕ) (reply : Reply) → goes_on_but n H ≡ true → goes_on (Replied n reply ∷ H) ≡ true
+goes_on_replied H n reply h =
+    all_without (λ m. (m == n) || is_some (stand H m)) (λ m. (m == 0) || is_some (stand (Replied n reply ∷ H) m)) n (unfinished H)
+    (λ m other so. or_second (m == 0) (is_some (stand (Replied n reply ∷ H) m)) (ap (λ s. is_some s) (stand_replied H n reply m (apart_of m n other)) ∙ but_for (m == n) (is_some (stand H m)) so other)) h
+
+pub all_so : (q r : ℕ → Bool) (ms : List ℕ) → ((m : ℕ) → q m ≡ true → r m ≡ true) → list_all q ms ≡ true → list_all r ms ≡ true
+all_so q r [] so h = refl
+all_so q r (m ∷ ms) so h = let a = both (q m) (list_all q ms) h in together (r m) (list_all r ms) (so m a.0) (all_so q r ms so a.1)
+
+pub goes_on_waits : (H : List Event) (n : ℕ) → goes_on_but n H ≡ true → goes_on (Waits n ∷ H) ≡ true
+goes_on_waits H n h = all_so (λ m. (m == n) || is_some (stand H m)) (λ m. (m == 0) || is_some (stand (Waits n ∷ H) m)) (unfinished H) each h
+  where
+    each : (m : ℕ) → ((m == n) || is_some (stand H m)) ≡ true → ((m == 0) || is_some (stand (Waits n ∷ H) m)) ≡ true
+    each m so = or_second (m == 0) (is_some (stand (Waits n ∷ H) m)) (by (m == n) refl so)
+      where
+        by : (b : Bool) → (m == n) ≡ b → (b || is_some (stand H m)) ≡ true → is_some (stand (Waits n ∷ H) m) ≡ true
+        by true is k = let same : m ≡ n = same_number m n is in subst (λ j. is_some (stand (Waits n ∷ H) j) ≡ true) (sym same) (itself_waits H n)
+        by false is k = stand_waits H n m k
+
+pub goes_on_limit : (H : List Event) (s : Setting) (k : ℤ) (n : ℕ) → goes_on_but n H ≡ true → goes_on_but n (SetLimit s k ∷ H) ≡ true
+goes_on_limit H s k n h =
+    all_so (λ m. (m == n) || is_some (stand H m)) (λ m. (m == n) || is_some (stand (SetLimit s k ∷ H) m)) (unfinished H)
+    (λ m so. ap (λ x. (m == n) || is_some x) (stand_limit H s k m) ∙ so) h

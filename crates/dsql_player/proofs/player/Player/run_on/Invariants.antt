@@ -1,0 +1,22 @@
+use Rattle.std.proofs.Common.{◌-◌, length, is_some}
+use Rattle.dsql_follows.specs.Moments.{Moment}
+use Rattle.dsql_steps.specs.Groups.{most_events}
+use Rattle.dsql_wires.specs.Told.{FleetTells, SameAbility}
+use Rattle.dsql_wires.specs.WiresFit.{WiresFit}
+use Rattle.dsql_playing.specs.Acts.{RunsTo}
+use Rattle.dsql_playing.specs.Playing.{IsAt, IsReady}
+use Rattle.dsql_player.specs.Keeping.{SameCourse}
+use Rattle.dsql_player.proofs.player.Player.run_on.Given as goal
+
+abbrev pub invariant-loop : goal.invariant-loop
+invariant-loop g l = record {
+  ready : IsReady l.self;
+  runs : (m : Moment) → IsAt m l.fn.self → RunsTo m l.fn.self l.self;
+  course : SameCourse l.fn.self l.self;
+  told : FleetTells (g.F.Fleet.told l.fn.fleet) (g.F.Fleet.told l.fleet) l.fn.self.past l.self.past;
+  wires : WiresFit g.F.Wire.Wire.told (is_some (g.F.Fleet.told l.fleet)) l.self.past l.wires;
+  able : SameAbility g.F.Fleet l.fn.fleet l.fleet;
+}
+
+abbrev pub decreases-loop : goal.decreases-loop
+decreases-loop g l = most_events - length l.self.past

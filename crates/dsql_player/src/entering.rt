@@ -1,0 +1,95 @@
+//! Calls enter, a limit is set, and the run ends.
+ghost use Rattle.std.specs.Prelude.{◌≡◌, ◌<◌, ◌∷◌, true, false, length, IfOk, OnOk};
+ghost use Rattle.dsql_journal.specs.Readers.{is_empty};
+ghost use Rattle.dsql_history.specs.Readers.Calls.{is_busy};
+ghost use Rattle.dsql_history.specs.Readers.Course.{has_ended};
+ghost use Rattle.dsql_history.specs.Rules.House.{is_quiet};
+ghost use Rattle.dsql_player.specs.Keeping.{ActsUnheard, SameCourse};
+ghost use Rattle.dsql_follows.specs.Moments.{Moment};
+ghost use Rattle.dsql_playing.specs.Playing.{IsAt, IsAtBut, IsReady};
+ghost use Rattle.dsql_playing.specs.Stepping.{Admits, IsEnd, IsEntryOf, IsSetTo, TakesStep};
+ghost use Rattle.dsql_seats.specs.Seats.{seat};
+ghost use Rattle.dsql_steps.specs.Groups.{most_events};
+
+use crate::asking::leave_of;
+use crate::player::Player;
+use dsql_history::Setting;
+use dsql_playing::Halt;
+use dsql_seats::KeptLine;
+
+impl Player {
+    /// A line of a client is entered where the client is free and has no line kept, and else it is kept. Says which.
+    pub(crate) fn admit(&mut self, client: u8, line: KeptLine) -> Result<bool, Halt>
+        requires ready { IsReady self.old }
+        requires room { length self.old.past < most_events }
+        ensures admits { IfOk result (λ entered. (m : Moment) → IsAt m self.old → Admits entered m client line self.old self.new) }
+        ensures course { OnOk result (SameCourse self.old self.new) }
+        ensures act { ActsUnheard result self.old self.new }
+    {
+        if self.engine.unfinished(client).is_some() || self.seats.has_kept(client) {
+            self.seats.keep(client, line)?;
+            return Ok(false);
+        }
+        self.enter(client, line)?;
+        Ok(true)
+    }
+
+    /// The first line of a free client that is kept is entered.
+    pub(crate) fn enter_kept(&mut self, client: u8) -> Result<(), Halt>
+        requires ready { IsReady self.old }
+        requires room { length self.old.past < most_events }
+        requires free { is_busy client self.old.past ≡ false }
+        requires kept { is_empty (seat self.old.seats client).kept ≡ false }
+        ensures enters { OnOk result ((m : Moment) → IsAt m self.old → TakesStep m self.old self.new (IsEntryOf client)) }
+        ensures grows { OnOk result (length self.old.past < length self.new.past) }
+        ensures course { OnOk result (SameCourse self.old self.new) }
+        ensures act { ActsUnheard result self.old self.new }
+    {
+        match self.seats.take_first(client) {
+            Some(line) => self.enter(client, line),
+            None => unreachable!(),
+        }
+    }
+
+    /// A line of a free client is entered, which was taken out of those that are kept.
+    fn enter(&mut self, client: u8, line: KeptLine) -> Result<(), Halt>
+        requires ready { IsReady self.old }
+        requires room { length self.old.past < most_events }
+        requires free { is_busy client self.old.past ≡ false }
+        ensures enters { OnOk result ((m : Moment) → IsAtBut m client line self.old → TakesStep m self.old self.new (IsEntryOf client)) }
+        ensures grows { OnOk result (length self.old.past < length self.new.past) }
+        ensures course { OnOk result (SameCourse self.old self.new) }
+        ensures act { ActsUnheard result self.old self.new }
+    {
+        self.seats.seat_client(client)?;
+        let KeptLine { op, held } = line;
+        let next = self.engine.enter(client, op)?;
+        self.seats.hand(client, leave_of(next));
+        self.seats.hold(client, !self.released && held);
+        Ok(())
+    }
+
+    /// A limit is set.
+    pub(crate) fn set_limit(&mut self, setting: Setting, n: i64) -> Result<(), Halt>
+        requires ready { IsReady self.old }
+        requires room { length self.old.past < most_events }
+        ensures sets { OnOk result ((m : Moment) → IsAt m self.old → TakesStep m self.old self.new (IsSetTo setting n)) }
+        ensures course { OnOk result (SameCourse self.old self.new) }
+        ensures act { ActsUnheard result self.old self.new }
+    {
+        Ok(self.engine.control(setting, n)?)
+    }
+
+    /// The run ends, which closes the database.
+    pub(crate) fn end_run(&mut self) -> Result<(), Halt>
+        requires ready { IsReady self.old }
+        requires quiet { is_quiet self.old.past ≡ true }
+        requires running { has_ended self.old.past ≡ false }
+        ensures ends { OnOk result ((m : Moment) → IsAt m self.old → TakesStep m self.old self.new IsEnd) }
+        ensures ended { OnOk result (has_ended self.new.past ≡ true) }
+        ensures released { self.new.released ≡ self.old.released }
+        ensures act { ActsUnheard result self.old self.new }
+    {
+        Ok(self.engine.end()?)
+    }
+}

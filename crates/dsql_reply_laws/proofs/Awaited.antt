@@ -1,0 +1,218 @@
+-- Which call still comes to an answer that decides, by what was heard in its tenure; where an answer is awaited something is sent.
+use Rattle.std.proofs.Common.{◌≡◌, ℕ, ℤ, pos, Bool, true, false, ◌||◌, cond, List, [], ◌∷◌, length, Option, Some, None, is_none, is_some, refl, ap}
+use Rattle.dsql_value.specs.declared.value.Param.{Param}
+use Rattle.dsql_value.specs.Arguments.{count_fault}
+use Rattle.dsql_driver.specs.declared.caps.Caps.{Caps}
+use Rattle.dsql_driver.specs.declared.call.DriverCall.{DriverCall}
+use Rattle.dsql_driver.specs.declared.call.DriverCall.TheVariants.{Reset, Valid, Prepare, Exec, Query, CloseRows, CloseStmt}
+use Rattle.dsql_driver.specs.declared.call.Input.TheVariants.{Text, Handle}
+use Rattle.dsql_driver.specs.declared.answer.DriverAnswer.{DriverAnswer}
+use Rattle.dsql_driver.specs.declared.answer.DriverAnswer.TheVariants.{Prepared, Cursor, Skip, Bad}
+use Rattle.dsql_driver.specs.Kinds.{is_bad, is_valid}
+use Rattle.dsql_course.specs.declared.call.Due.TheVariants as due
+use Rattle.dsql_course.specs.declared.call.Got.TheVariants as got
+use Rattle.dsql_course.specs.declared.course.Wish.{Wish}
+use Rattle.dsql_course.specs.Made.{Exchange, own_cursor, has_fast_way}
+use Rattle.dsql_journal.specs.declared.entry.Entry.{Entry}
+use Rattle.dsql_work.specs.declared.work.Aim.{Aim}
+use Rattle.dsql_work.specs.declared.work.Aim.TheVariants as aims
+use Rattle.dsql_work.specs.Exchanges.{exchanges, step_of, got_of, with_exchange}
+use Rattle.dsql_work.specs.Line.{Asked, course_of, is_due, sent_as, run_for, body_after, line_after, keeps_rows, handed}
+use Rattle.dsql_work_laws.proofs.CallLines.{Step, Start, WasReset, WasSkipped, WasPrepared, HasRows, HasRead, WasDone, step, step_after, goes}
+use Rattle.dsql_work_laws.proofs.MadeLines.{MadeAt, asking, first_of, second_of, then_handle, body_before, clean_when_done}
+use Rattle.dsql_work_laws.proofs.Lines.{body_due}
+
+-- one row is read by the call itself
+abbrev pub is_one : Aim → Bool
+is_one aims.ReadOne = true
+is_one _ = false
+
+-- a call with so many parameters, which reads one row itself or doesn't, still comes to an answer that decides
+abbrev pub awaits_after : Bool → DriverCall → DriverAnswer → ℕ → Bool
+awaits_after one call Bad count = false
+awaits_after one Reset answer count = true
+awaits_after one (Exec (Text text) params) Skip count = true
+awaits_after one (Query (Text text) params) Skip count = true
+awaits_after one (Query input params) (Cursor rows columns) count = one
+awaits_after one (Prepare text) (Prepared handle inputs) count = is_none (count_fault inputs count)
+awaits_after one _ answer count = false
+
+abbrev pub awaits : Bool → List Entry → ℕ → Bool
+awaits one [] count = true
+awaits one (e ∷ earlier) count = awaits_after one e.call e.answer count
+
+-- the steps at which an answer is still to decide
+abbrev pub is_awaiting : Bool → Step → Bool
+is_awaiting one Start = true
+is_awaiting one WasReset = true
+is_awaiting one WasSkipped = true
+is_awaiting one (WasPrepared handle) = true
+is_awaiting one (HasRows own rows) = one
+is_awaiting one _ = false
+
+awaiting_after : (one : Bool) (s : Step) (q : DriverCall) (a : DriverAnswer) (count : ℕ) → awaits_after one q a count ≡ true → is_awaiting one (step_after s q a) ≡ true
+awaiting_after one s q Bad count h = absurd cc
+awaiting_after one s Reset a count h = refl
+awaiting_after one s (Exec (Text text) params) Skip count h = refl
+awaiting_after one s (Exec (Text text) params) a count h = absurd cc
+awaiting_after one s (Query (Text text) params) Skip count h = refl
+awaiting_after one s (Query (Text text) params) (Cursor rows columns) count h = h
+awaiting_after one s (Query (Text text) params) a count h = absurd cc
+awaiting_after one s (Query (Handle handle) params) (Cursor rows columns) count h = h
+awaiting_after one s (Query (Handle handle) params) a count h = absurd cc
+awaiting_after one s (Prepare text) (Prepared handle inputs) count h = refl
+awaiting_after one s q a count h = absurd cc
+
+awaiting : (one : Bool) (L : List Entry) (count : ℕ) → awaits one L count ≡ true → is_awaiting one (step L) ≡ true
+awaiting one [] count h = refl
+awaiting one (e ∷ earlier) count h = awaiting_after one (step earlier) e.call e.answer count h
+
+-- where the step awaits nothing, nothing is awaited
+pub none_awaited : (one : Bool) (L : List Entry) (count : ℕ) → is_awaiting one (step L) ≡ false → awaits one L count ≡ false
+none_awaited one L count h = by_value (awaits one L count) (awaiting one L count)
+  where
+    by_value : (b : Bool) → (b ≡ true → is_awaiting one (step L) ≡ true) → b ≡ false
+    by_value true k = let m : is_awaiting one (step L) ≡ true = k refl in absurd (cc)
+    by_value false k = refl
+
+pub testing_step : (one : Bool) (s : Step) → goes s Valid ≡ true → is_awaiting one s ≡ false
+testing_step one WasDone h = refl
+testing_step one (HasRead own rows false) h = absurd cc
+testing_step one _ h = absurd cc
+
+-- a cursor is closed once a row was fetched, where the call reads one itself
+freeing_body : (can : Caps) (text : List ℕ) (params : List Param) (aim : Aim) (w : Wish) (s : Step) (made : List Exchange) (rows : ℕ) → MadeAt can (asking text params aim) s made
+    → goes s (CloseRows rows) ≡ true → is_due (body_after can (asking text params aim) w made) (CloseRows rows) ≡ true → is_awaiting (is_one aim) s ≡ false
+freeing_body can text params aims.ReadOne w (HasRows own cursor) made rows m g d = let k = rw m.sends at d in absurd cc
+freeing_body can text params aims.HandOut w (HasRows own cursor) made rows m g d = refl
+freeing_body can text params aims.Execute w (HasRows own cursor) made rows m g d = refl
+freeing_body can text params aim w (HasRead own cursor false) made rows m g d = refl
+freeing_body can text params aim w (HasRead own cursor true) made rows m g d = refl
+freeing_body can text params aim w _ made rows m g d = absurd cc
+
+pub freeing : (can : Caps) (reset : Bool) (asked : Asked) (w : Wish) (L : List Entry) (rows : ℕ) → MadeAt can asked (step L) (exchanges L) → goes (step L) (CloseRows rows) ≡ true
+    → is_due (line_after can reset asked w L) (CloseRows rows) ≡ true → is_awaiting (is_one asked.aim) (step L) ≡ false
+freeing can reset asked w [] rows m g d = absurd cc
+freeing can reset asked w (e ∷ earlier) rows m g d =
+    let b = body_due can reset asked w e earlier (CloseRows rows) d in
+    freeing_body can asked.text asked.params asked.aim w (step (e ∷ earlier)) (exchanges (e ∷ earlier)) rows m g b.1
+
+-- a handle is closed behind its run, or where it takes another number of parameters
+
+closes_other : (can : Caps) (asked : Asked) (handle h : ℕ) (b : Bool) → is_due (sent_as can asked (cond b (due.Handle handle) (due.CloseStmt handle))) (CloseStmt h) ≡ true → b ≡ false
+closes_other can asked handle h true k = by_aim asked.aim k
+  where
+    by_aim : (x : Aim) → is_due (Some (run_for x (Handle handle) asked.params)) (CloseStmt h) ≡ true → true ≡ false
+    by_aim aims.Execute m = absurd cc
+    by_aim aims.ReadOne m = absurd cc
+    by_aim aims.HandOut m = absurd cc
+closes_other can asked handle h false k = refl
+
+abbrev inputs_in : Option (ℕ × ℤ) → ℤ
+inputs_in None = pos 0
+inputs_in (Some p) = p.1
+
+closing_after : (can : Caps) (asked : Asked) (w : Wish) (one : Bool) (s : Step) (q : DriverCall) (a : DriverAnswer) (made : List Exchange) (h : ℕ)
+    → MadeAt can asked (step_after s q a) (with_exchange (step_of q) a made) → goes (step_after s q a) (CloseStmt h) ≡ true
+    → is_due (body_after can asked w (with_exchange (step_of q) a made)) (CloseStmt h) ≡ true → awaits_after one q a (length asked.params) ≡ false
+closing_after can asked w one s q Bad made h m g k = refl
+closing_after can asked w one s Reset a made h m g k = absurd cc
+closing_after can asked w one s (Exec (Text text) params) Skip made h m g k = absurd cc
+closing_after can asked w one s (Exec (Text text) params) a made h m g k = refl
+closing_after can asked w one s (Query (Text text) params) Skip made h m g k = absurd cc
+closing_after can asked w one s (Query (Text text) params) (Cursor rows columns) made h m g k = absurd cc
+closing_after can asked w one s (Query (Text text) params) a made h m g k = refl
+closing_after can asked w one s (Query (Handle handle) params) (Cursor rows columns) made h m g k = absurd cc
+closing_after can asked w one s (Query (Handle handle) params) a made h m g k = refl
+closing_after can asked w one s (Prepare text) (Prepared handle inputs) made h m g k =
+    let is : inputs ≡ m.inputs = ap (λ o. inputs_in o) m.own in
+    rw is (closes_other can asked handle h (is_none (count_fault m.inputs (length asked.params)))
+    (rw (body_before can asked w ((due.Prepare, got_of (Prepared handle inputs)) ∷ made) m.none, then_handle can asked.text asked.params asked.aim handle ((due.Prepare, got_of (Prepared handle inputs)) ∷ made) m) at k))
+closing_after can asked w one s q a made h m g k = refl
+
+pub closing_awaits : (can : Caps) (reset : Bool) (asked : Asked) (w : Wish) (one : Bool) (L : List Entry) (h : ℕ) → MadeAt can asked (step L) (exchanges L) → goes (step L) (CloseStmt h) ≡ true
+    → is_due (line_after can reset asked w L) (CloseStmt h) ≡ true → awaits one L (length asked.params) ≡ false
+closing_awaits can reset asked w one [] h made g k = absurd cc
+closing_awaits can reset asked w one (e ∷ earlier) h made g k =
+    let b = body_due can reset asked w e earlier (CloseStmt h) k in
+    closing_after can asked w one (step earlier) e.call e.answer (exchanges earlier) h made g b.1
+
+-- where nothing is due nothing is awaited
+
+some_first : (can : Caps) (asked : Asked) (w : Wish) → is_none (body_after can asked w []) ≡ true → ⊥
+some_first can asked w h = by_fast (has_fast_way (course_of asked.aim) can) (rw (body_before can asked w [] refl, first_of can asked.text asked.params asked.aim) at h)
+  where
+    by_fast : (b : Bool) → is_none (sent_as can asked (cond b due.Text due.Prepare)) ≡ true → ⊥
+    by_fast true k = cc
+    by_fast false k = cc
+
+some_second : (can : Caps) (asked : Asked) (w : Wish) → is_none (body_after can asked w ((due.Text, got.Skip) ∷ [])) ≡ true → ⊥
+some_second can asked w h =
+    let k : is_none (sent_as can asked due.Prepare) ≡ true =
+    rw (body_before can asked w ((due.Text, got.Skip) ∷ []) refl, second_of can asked.text asked.params asked.aim) at h in
+    cc
+
+none_keep : (aim : Aim) (w : Wish) (made : List Exchange) → own_cursor made ≡ None → keeps_rows aim w made ≡ false
+none_keep aims.Execute w made h = refl
+none_keep aims.ReadOne w made h = refl
+none_keep aims.HandOut w made h = rw h refl
+
+done_rows : (can : Caps) (text : List ℕ) (params : List Param) (aim : Aim) (w : Wish) (own : Option ℕ) (rows : ℕ) (made : List Exchange)
+    → MadeAt can (asking text params aim) (HasRows own rows) made → is_none (body_after can (asking text params aim) w made) ≡ true → is_one aim ≡ false
+done_rows can text params aims.ReadOne w own rows made m h = let k = rw m.sends at h in absurd cc
+done_rows can text params aims.HandOut w own rows made m h = refl
+done_rows can text params aims.Execute w own rows made m h = refl
+
+done_awaits : (can : Caps) (asked : Asked) (w : Wish) (s : Step) (made : List Exchange) → MadeAt can asked s made → is_none (body_after can asked w made) ≡ true → is_awaiting (is_one asked.aim) s ≡ false
+done_awaits can asked w Start made m h = absurd (some_first can asked w (rw m at h))
+done_awaits can asked w WasReset made m h = absurd (some_first can asked w (rw m at h))
+done_awaits can asked w WasSkipped made m h = absurd (some_second can asked w (rw m at h))
+done_awaits can asked w (WasPrepared handle) made m h = let c = clean_when_done can asked w (WasPrepared handle) made m h (none_keep asked.aim w made m.none) in absurd cc
+done_awaits can asked w (HasRows own rows) made m h = done_rows can asked.text asked.params asked.aim w own rows made m h
+done_awaits can asked w _ made m h = refl
+
+ended_awaits : (one : Bool) (q : DriverCall) (a : DriverAnswer) (count : ℕ) → is_bad a || is_valid q ≡ true → awaits_after one q a count ≡ false
+ended_awaits one q Bad count h = refl
+ended_awaits one Valid a count h = refl
+ended_awaits one q a count h = absurd cc
+
+nothing_awaited : (can : Caps) (reset : Bool) (asked : Asked) (w : Wish) (L : List Entry) → MadeAt can asked (step L) (exchanges L) → is_none (line_after can reset asked w L) ≡ true
+    → awaits (is_one asked.aim) L (length asked.params) ≡ false
+nothing_awaited can true asked w [] made h = absurd cc
+nothing_awaited can false asked w [] made h = absurd (some_first can asked w h)
+nothing_awaited can reset asked w (e ∷ earlier) made h = by_end (is_bad e.answer || is_valid e.call) refl h
+  where
+    by_end : (b : Bool) → is_bad e.answer || is_valid e.call ≡ b → is_none (cond b None (body_after can asked w (exchanges (e ∷ earlier)))) ≡ true
+        → awaits (is_one asked.aim) (e ∷ earlier) (length asked.params) ≡ false
+    by_end true is k = ended_awaits (is_one asked.aim) e.call e.answer (length asked.params) is
+    by_end false is k =
+        none_awaited (is_one asked.aim) (e ∷ earlier) (length asked.params) (done_awaits can asked w (step (e ∷ earlier)) (exchanges (e ∷ earlier)) made k)
+
+some_when : {A : Type 0} (o : Option A) → (is_none o ≡ true → ⊥) → is_some o ≡ true
+some_when None h = absurd (h refl)
+some_when (Some x) h = refl
+
+-- where an answer is awaited something is due
+pub awaited_due : (can : Caps) (reset : Bool) (asked : Asked) (w : Wish) (L : List Entry) → MadeAt can asked (step L) (exchanges L) → awaits (is_one asked.aim) L (length asked.params) ≡ true
+    → is_some (line_after can reset asked w L) ≡ true
+awaited_due can reset asked w L made h =
+    some_when (line_after can reset asked w L) (λ none. never (awaits (is_one asked.aim) L (length asked.params)) h (nothing_awaited can reset asked w L made none))
+  where
+    never : (b : Bool) → b ≡ true → b ≡ false → ⊥
+    never b x y = cc
+
+no_cursor : (made : List Exchange) (rows : ℕ) → own_cursor made ≡ None → own_cursor made ≡ Some rows → ⊥
+no_cursor made rows h k = cc
+
+-- a call that hands out rows awaits nothing once it has them
+opened_none : (can : Caps) (text : List ℕ) (params : List Param) (aim : Aim) (s : Step) (made : List Exchange) (rows : ℕ) → MadeAt can (asking text params aim) s made → handed aim made ≡ Some rows → is_awaiting (is_one aim) s ≡ false
+opened_none can text params aims.Execute s made rows m h = absurd cc
+opened_none can text params aims.ReadOne s made rows m h = absurd cc
+opened_none can text params aims.HandOut Start made rows m h = absurd (no_cursor made rows (ap own_cursor m) h)
+opened_none can text params aims.HandOut WasReset made rows m h = absurd (no_cursor made rows (ap own_cursor m) h)
+opened_none can text params aims.HandOut WasSkipped made rows m h = absurd (no_cursor made rows (ap own_cursor m) h)
+opened_none can text params aims.HandOut (WasPrepared handle) made rows m h = absurd (no_cursor made rows m.none h)
+opened_none can text params aims.HandOut _ made rows m h = refl
+
+pub handed_awaits : (can : Caps) (asked : Asked) (L : List Entry) (rows : ℕ) → MadeAt can asked (step L) (exchanges L) → handed asked.aim (exchanges L) ≡ Some rows → awaits (is_one asked.aim) L (length asked.params) ≡ false
+handed_awaits can asked L rows m h = none_awaited (is_one asked.aim) L (length asked.params) (opened_none can asked.text asked.params asked.aim (step L) (exchanges L) rows m h)

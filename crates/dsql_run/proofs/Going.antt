@@ -1,0 +1,80 @@
+-- How a history goes on as a line or the script's end is carried out, and what stops it.
+use Rattle.std.proofs.Common.{◌≡◌, false, List, [], ◌∷◌, Option, refl, sym, ap, subst, ◌∙◌}
+use Rattle.std.specs.Prelude.{Err, IfErr, Result}
+use Rattle.std.proofs.lemmas.Result.{IfErr-at_err}
+use Rattle.dsql_driver.specs.declared.caps.Caps.{Caps}
+use Rattle.dsql_driver.specs.Wires.{FleetTold}
+use Rattle.dsql_history.specs.declared.event.Event.{Event}
+use Rattle.dsql_history.specs.declared.event.Event.TheVariants.{Run}
+use Rattle.dsql_follows.specs.declared.line.Line.{Line}
+use Rattle.dsql_follows.specs.Moments.{Moment}
+use Rattle.dsql_playing.specs.Carried.{Carries, CarriesEnd, StopsInEnd, StopsInLine}
+use Rattle.dsql_playing.specs.Playing.{Playing}
+use Rattle.dsql_playing.specs.declared.halt.Halt.{Halt}
+use Rattle.dsql_playing.specs.declared.halt.Halt.TheVariants as halts
+use Rattle.dsql_script_source.specs.declared.stop.Stop.{Stop}
+use Rattle.dsql_script_source.specs.declared.stop.Stop.TheVariants.{Full}
+use Rattle.dsql_wires.specs.Extends.{Extends}
+use Rattle.dsql_wires.specs.Told.{TellsAtMost, with_told}
+use Rattle.dsql_outcome.specs.Runs.{IsPlayStop, IsShowStop, is_write_fault, ran_out, stop_of_halt}
+use Rattle.dsql_outcome.proofs.Asking.{none_told}
+
+pub line_extends : (m : Moment) (line : Line) (old new : Playing) → Carries m line old new → Extends old.past new.past
+line_extends m line old new c = record { added = c.events; whole = c.grows }
+
+pub stop_extends : (m : Moment) (line : Line) (old new : List Event) → StopsInLine m line old new → Extends old new
+stop_extends m line old new s = record { added = s.events; whole = s.grows }
+
+pub end_extends : (m : Moment) (old new : List Event) → CarriesEnd m old new → Extends old new
+end_extends m old new c = record { added = c.events; whole = c.grows }
+
+pub end_stop_extends : (m : Moment) (old new : List Event) → StopsInEnd m old new → Extends old new
+end_stop_extends m old new s = record { added = s.events; whole = s.grows }
+
+-- What stops a run that can't be carried on.
+
+pub halt_plays : (halt : Halt) → IsPlayStop (stop_of_halt halt)
+halt_plays halts.Memory = tt
+halt_plays halts.Full = tt
+
+pub halt_runs_out : (halt : Halt) → ran_out (Err (stop_of_halt halt)) ≡ false
+halt_runs_out halts.Memory = refl
+halt_runs_out halts.Full = refl
+
+pub halt_writes : (halt : Halt) → is_write_fault (Err (stop_of_halt halt)) ≡ false
+halt_writes halts.Memory = refl
+halt_writes halts.Full = refl
+
+pub full_halt : (halt : Halt) → stop_of_halt halt ≡ Full → halt ≡ halts.Full
+full_halt halts.Memory is = absurd (cc is)
+full_halt halts.Full is = refl
+
+-- the same of a stop that is one of these
+pub halted : (stop : Stop) (halt : Halt) → stop ≡ stop_of_halt halt → ran_out (Err stop) ≡ false
+halted stop halt is = ap (λ s. ran_out (Err s)) is ∙ halt_runs_out halt
+
+pub halted_plays : (stop : Stop) (halt : Halt) → stop ≡ stop_of_halt halt → IsPlayStop stop
+halted_plays stop halt is = subst IsPlayStop (sym is) (halt_plays halt)
+
+pub halted_writes : (stop : Stop) (halt : Halt) → stop ≡ stop_of_halt halt → is_write_fault (Err stop) ≡ false
+halted_writes stop halt is = ap (λ s. is_write_fault (Err s)) is ∙ halt_writes halt
+
+pub halted_full : (stop : Stop) (halt : Halt) (r : Result (Unit {0}) Stop) → stop ≡ stop_of_halt halt → r ≡ Err stop → r ≡ Err Full → halt ≡ halts.Full
+halted_full stop halt r is same full =
+    let it : stop ≡ Full = cc (sym same ∙ full) in
+    full_halt halt (sym is ∙ it)
+
+-- events that can't be shown don't fill a run
+pub shown_unfilled : (r : Result (Unit {0}) Stop) → IfErr r IsShowStop → r ≡ Err Full → ⊥
+shown_unfilled r kind full = IfErr-at_err IsShowStop full kind
+
+-- The fleet was asked for what a history tells, and then for a little more.
+pub at_most_since : (before mid after : Option FleetTold) (caps : Caps) (old rest past : List Event) → old ≡ Run 1 caps ∷ [] → mid ≡ with_told before rest → TellsAtMost mid after rest past → TellsAtMost before after old past
+at_most_since before mid after caps old rest past begun is a = record {
+  more = a.more;
+  few = a.few;
+  told = λ t h. a.told t (is ∙ ap (λ k. with_told k rest) (h ∙ subst (λ (start : List Event). with_told t start ≡ t) (sym begun) (none_told t caps)));
+}
+
+pub told_at_first : (t : Option FleetTold) (caps : Caps) (past : List Event) → past ≡ Run 1 caps ∷ [] → t ≡ with_told t past
+told_at_first t caps past begun = subst (λ (start : List Event). t ≡ with_told t start) (sym begun) (sym (none_told t caps))

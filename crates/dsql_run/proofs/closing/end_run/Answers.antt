@@ -1,0 +1,32 @@
+use Rattle.std.specs.Prelude.{reverse}
+use Rattle.dsql_wires.proofs.Telling.{leaves}
+use Rattle.dsql_outcome.proofs.Asking.{given_back}
+use Rattle.dsql_playing.proofs.Keeping.{able_then}
+use Rattle.dsql_run.proofs.Going.{end_extends, end_stop_extends}
+use Rattle.dsql_run.proofs.closing.end_run.Goals as goal
+
+pub returns-in-Ok-clause-over : goal.returns-in-Ok-clause-over
+returns-in-Ok-clause-over g c = record {
+  quiet = c.in-Ok.ensures.quiet;
+  ended = c.in-Ok.ensures.ended;
+  empty = c.in-Ok.ensures.over.none_open;
+}
+
+pub returns-in-Ok-clause-on : goal.returns-in-Ok-clause-on
+returns-in-Ok-clause-on g c = record {
+  extends = end_extends c.requires.between.moment c.args.player.now.past c.carry_end.new.player.past (c.in-Ok.ensures.carries c.requires.between.moment c.requires.between.at);
+  able = c.carry_end.ensures.run.able;
+  legal = c.carry_end.ensures.run.legal;
+}
+
+pub returns-in-Err-clause-asked : goal.returns-in-Err-clause-asked
+returns-in-Err-clause-asked g c =
+    leaves _ _ _ _ _ c.in-Err.ensures.run.asked
+    (given_back g.F.Wire.Wire.told (reverse c.carry_end.new.wires) (g.F.Fleet.told c.carry_end.new.fleet) (g.F.Fleet.told c.retire_all.new.fleet) c.retire_all.ensures.retired)
+
+pub returns-in-Err-clause-on : goal.returns-in-Err-clause-on
+returns-in-Err-clause-on g c = record {
+  extends = end_stop_extends c.requires.between.moment c.args.player.now.past c.carry_end.new.player.past (c.in-Err.ensures.stops c.requires.between.moment c.requires.between.at);
+  able = able_then g.F.Fleet c.args.fleet.now c.carry_end.new.fleet c.retire_all.new.fleet c.carry_end.ensures.run.able c.retire_all.ensures.able;
+  legal = c.carry_end.ensures.run.legal;
+}

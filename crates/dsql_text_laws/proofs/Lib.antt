@@ -1,0 +1,11 @@
+pub mod WordBytes
+pub mod LineParts
+pub mod ReadNumbers
+pub mod ReadBytes
+pub mod ReadBack
+pub mod ReadCaps
+pub mod ReadCalls
+pub mod ReadTexts
+pub mod ReadLines
+pub mod ReadClients
+pub mod ReadLimits

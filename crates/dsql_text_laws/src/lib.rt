@@ -1,0 +1,30 @@
+//! What holds of reports and scripts together: what a report shows of a call, of capabilities or of a limit is read in
+//! a script as what it was made of. Each law is the contract of a function that does nothing.
+#![tactic(auto)]
+
+ghost use Rattle.dsql_text_laws.specs.ReadBack.{ReadsArgumentsBack, ReadsCallsBack, ReadsCapsBack, ReadsLimitsBack};
+
+/// The array that a report shows for a call is read in a script as just this call: its text and its
+/// arguments, each of the same form, with the same name and content.
+pub fn spelled_arguments_are_read_back()
+    ensures { ReadsArgumentsBack }
+{}
+
+/// The words that a report shows for a call are read behind the word for a client as just this call, its
+/// destinations and its label among them, where the array behind them is read as the call's, and
+/// earlier lines made the label that it names, or didn't make the one that it makes. With `start` in
+/// front the call is held, and else it isn't. So a line of these words and the array that the report
+/// shows asks for this call. A client's word is `c` and the number that the report shows for it.
+pub fn spelled_calls_are_read_back()
+    ensures { ReadsCallsBack }
+{}
+
+/// The names that a report shows for what a driver can do are read in a caps line as just this.
+pub fn spelled_capabilities_are_read_back()
+    ensures { ReadsCapsBack }
+{}
+
+/// A line of the word and the number that a report shows for a limit sets just this limit.
+pub fn spelled_limits_are_read_back()
+    ensures { ReadsLimitsBack }
+{}

@@ -1,0 +1,10 @@
+pub mod Calls
+pub mod Caps
+pub mod Exchanges
+pub mod HandedOut
+pub mod Journals
+pub mod Limits
+pub mod Line
+pub mod Replies
+pub mod Same
+pub mod Works

@@ -1,0 +1,119 @@
+-- The driver calls on a connection that is lent to a call: Reset where it is due, those of the call's course, those over the rows that it handed out, and
+-- Valid where the driver can test and the connection isn't known to be bad.
+use Rattle.std.specs.Prelude.{ℕ, ◌==◌, Bool, true, false, not, ◌&&◌, ◌||◌, cond, List, [], ◌∷◌, length, Option, Some, None, bytes_eq}
+use Rattle.dsql_value.specs.declared.value.Param.{Param}
+use Rattle.dsql_driver.specs.declared.caps.Caps.{Caps}
+use Rattle.dsql_driver.specs.declared.call.DriverCall.{DriverCall}
+use Rattle.dsql_driver.specs.declared.call.DriverCall.TheVariants.{Reset, Valid, Prepare, Exec, Query, Next, CloseRows, CloseStmt}
+use Rattle.dsql_driver.specs.declared.call.Input.{Input}
+use Rattle.dsql_driver.specs.declared.call.Input.TheVariants.{Text, Handle}
+use Rattle.dsql_course.specs.declared.course.Course.{Course}
+use Rattle.dsql_course.specs.declared.course.Course.TheVariants as courses
+use Rattle.dsql_course.specs.declared.call.Due.{Due}
+use Rattle.dsql_course.specs.declared.call.Due.TheVariants as course
+use Rattle.dsql_course.specs.declared.course.Wish.{Wish}
+use Rattle.dsql_course.specs.declared.course.Wish.TheVariants as wishes
+use Rattle.dsql_course.specs.Made.{Exchange, own_cursor, rows_are_over}
+use Rattle.dsql_course.specs.Line.{Found, comes_next}
+use Rattle.dsql_course.specs.Rows.{rows_next}
+use Rattle.dsql_journal.specs.declared.entry.Entry.{Entry}
+use Rattle.dsql_driver.specs.Kinds.{is_bad, is_valid}
+use Rattle.dsql_work.specs.declared.work.Aim.{Aim}
+use Rattle.dsql_work.specs.declared.work.Aim.TheVariants as aims
+use Rattle.dsql_work.specs.declared.work.Work.{Work}
+use Rattle.dsql_work.specs.declared.work.Work.TheVariants.{ReadOne, HandOut, Close}
+use Rattle.dsql_work.specs.Same.{same_params}
+use Rattle.dsql_work.specs.Exchanges.{exchanges}
+
+-- the test, where the driver has one
+abbrev pub test_of : Caps → Option DriverCall
+test_of can = cond can.validator (Some Valid) None
+
+-- What a call asks of the driver: a text with parameters, and what becomes of that. It is executed, one row of it is read, or its rows are handed out.
+pub record Asked : Type 0 where
+  pub text : List ℕ
+  pub params : List Param
+  pub aim : Aim
+
+-- its course
+abbrev pub course_of : Aim → Course
+course_of aims.Execute = courses.Exec
+course_of aims.ReadOne = courses.One
+course_of aims.HandOut = courses.Query
+
+-- the run of a text or a handle
+abbrev pub run_for : Aim → Input → List Param → DriverCall
+run_for aims.Execute input params = Exec input params
+run_for _ input params = Query input params
+
+abbrev pub run_of : Asked → Input → DriverCall
+run_of asked input = run_for asked.aim input asked.params
+
+-- no token can be cancelled yet, and on a connection that is known to be bad nothing is due
+abbrev pub going_on : Found
+going_on = record { stopped = false; bad = false }
+
+-- The driver call that is a call of its course. At the end of that the connection is tested.
+abbrev pub sent_as : Caps → Asked → Due → Option DriverCall
+sent_as can asked course.Text = Some (run_of asked (Text asked.text))
+sent_as can asked course.Prepare = Some (Prepare asked.text)
+sent_as can asked (course.Handle handle) = Some (run_of asked (Handle handle))
+sent_as can asked (course.Next rows) = Some (Next rows)
+sent_as can asked (course.CloseRows rows) = Some (CloseRows rows)
+sent_as can asked (course.CloseStmt handle) = Some (CloseStmt handle)
+sent_as can asked _ = test_of can
+
+-- the cursor of rows that are handed out
+abbrev pub handed : Aim → List Exchange → Option ℕ
+handed aims.HandOut made = own_cursor made
+handed aim made = None
+
+-- what is sent over rows, where anything is
+abbrev pub sent_over : Caps → Asked → Option Due → Option DriverCall
+sent_over can asked None = None
+sent_over can asked (Some call) = sent_as can asked call
+
+-- What is sent next after these exchanges: what the call's course has, and once it has handed out rows what is wanted of them.
+abbrev pub body_with : Caps → Asked → Wish → List Exchange → Option ℕ → Option DriverCall
+body_with can asked wish made None = sent_as can asked (comes_next (course_of asked.aim) can (length asked.params) going_on made)
+body_with can asked wish made (Some rows) = sent_over can asked (rows_next wish can (length asked.params) made rows)
+
+abbrev pub body_after : Caps → Asked → Wish → List Exchange → Option DriverCall
+body_after can asked wish made = body_with can asked wish made (handed asked.aim made)
+
+-- what is sent next, after what was heard in the tenure, newest first; nothing comes after a Bad or a test
+abbrev pub line_after : Caps → Bool → Asked → Wish → List Entry → Option DriverCall
+line_after can reset_due asked wish [] = cond reset_due (Some Reset) (body_after can asked wish [])
+line_after can reset_due asked wish (e ∷ earlier) = cond (is_bad e.answer || is_valid e.call) None (body_after can asked wish (exchanges (e ∷ earlier)))
+
+-- rows that are handed out keep the connection as long as they aren't over and nobody closes them
+abbrev pub keeps : Wish → Bool
+keeps wishes.Close = false
+keeps _ = true
+
+abbrev pub keeps_with : Wish → List Exchange → Option ℕ → Bool
+keeps_with wish made None = false
+keeps_with wish made (Some rows) = not (rows_are_over made) && keeps wish
+
+abbrev pub keeps_rows : Aim → Wish → List Exchange → Bool
+keeps_rows aim wish made = keeps_with wish made (handed aim made)
+
+-- what becomes of the text of a call
+abbrev pub aim_of : Work → Aim
+aim_of (ReadOne dests) = aims.ReadOne
+aim_of (HandOut label) = aims.HandOut
+aim_of _ = aims.Execute
+
+-- the call is the one that is due
+abbrev pub is_due : Option DriverCall → DriverCall → Bool
+is_due (Some Reset) Reset = true
+is_due (Some Valid) Valid = true
+is_due (Some (Prepare text)) (Prepare other) = bytes_eq text other
+is_due (Some (Exec (Text text) params)) (Exec (Text other) others) = bytes_eq text other && same_params params others
+is_due (Some (Exec (Handle handle) params)) (Exec (Handle other) others) = (handle == other) && same_params params others
+is_due (Some (Query (Text text) params)) (Query (Text other) others) = bytes_eq text other && same_params params others
+is_due (Some (Query (Handle handle) params)) (Query (Handle other) others) = (handle == other) && same_params params others
+is_due (Some (Next rows)) (Next other) = rows == other
+is_due (Some (CloseRows rows)) (CloseRows other) = rows == other
+is_due (Some (CloseStmt handle)) (CloseStmt other) = handle == other
+is_due _ call = false
