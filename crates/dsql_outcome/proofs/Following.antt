@@ -125,12 +125,12 @@ line_stops_short run lines parts line old new f s = record {
   more = s.events;
   follows = f.follows;
   is = s.grows ∙ ap (λ before. s.events ++ before) f.is;
-  stops = inl (record { line = line; is_of = reverse-append lines (line ∷ []) ∙ ap (λ more. line ∷ more) (sym f.is_of); steps = s.steps; in_turn = s.in_turn });
+  stops = inl (record { line = line; is_of = reverse-append lines (line ∷ []) ∙ ap (λ more. line ∷ more) (sym f.is_of); begins = s.begins; steps = s.steps; in_turn = s.in_turn });
 }
 
 -- a line that was carried out has whole steps so far
 pub carried_stops : (m : Moment) (line : Line) (old new : Playing) → Carries m line old new → StopsInLine m line old.past new.past
-carried_stops m line old new c = record { events = c.events; grows = c.grows; steps = c.follows.steps; in_turn = c.follows.in_turn }
+carried_stops m line old new c = record { events = c.events; grows = c.grows; begins = inr (inr c.follows); steps = c.follows.steps; in_turn = c.follows.in_turn }
 
 -- the run stopped between two lines
 pub stops_at_rest : (caps : Caps) (lines : List Line) (parts : List Part) (past : List Event) → FollowsSoFar (Run 1 caps) lines parts past → StopsShort (Run 1 caps) lines past
@@ -146,7 +146,7 @@ stops_at_rest caps lines (p ∷ earlier) past f = record {
   more = p.events;
   follows = f.follows.0;
   is = f.is;
-  stops = inl (record { line = p.line; is_of = sym f.is_of; steps = f.follows.1.steps; in_turn = f.follows.1.in_turn });
+  stops = inl (record { line = p.line; is_of = sym f.is_of; begins = inr (inr f.follows.1); steps = f.follows.1.steps; in_turn = f.follows.1.in_turn });
 }
 
 -- The script's end.

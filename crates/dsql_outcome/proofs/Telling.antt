@@ -43,6 +43,7 @@ whole_of_ran (Ok done) before after one two is untold r = record {
   prefers = r.prefers;
   ended = r.ended refl;
   quiet = r.quiet refl;
+  replied = r.replied refl;
   empty = r.empty refl;
   read = r.read refl;
   written = r.writes;

@@ -5,7 +5,7 @@ use Rattle.dsql_follows.specs.declared.line.Line.{Line}
 use Rattle.dsql_follows.specs.Moments.{met, at_end}
 use Rattle.dsql_follows.specs.Sentences.{Part, runs_in_turn}
 use Rattle.dsql_follows.specs.Follows.{Played, MakesSteps, FollowsLines, Follows, ends_in_turn, after, told, script, history}
-use Rattle.dsql_playing.specs.Carried.{part}
+use Rattle.dsql_playing.specs.Carried.{IsBeginningOf, part}
 
 -- the lines of these parts, the last one first
 abbrev pub lines_of : List Part → List Line
@@ -25,10 +25,11 @@ pub record FollowsSoFar (run : Event) (lines : List Line) (parts : List Part) (p
   pub is_of : lines_of parts ≡ reverse lines
   pub is : past ≡ told run parts
 
--- the run stopped in the last of the lines, whose part has whole steps so far
+-- the run stopped in the last of the lines, whose part is a beginning of what it asks for, in whole steps
 pub record StopsInLast (run : Event) (lines : List Line) (parts : List Part) (more : List Event) : Type 0 where
   pub line : Line
   pub is_of : reverse lines ≡ line ∷ lines_of parts
+  pub begins : IsBeginningOf (after run parts) line more
   pub steps : MakesSteps (met line (after run parts)) more
   pub in_turn : runs_in_turn (after run parts) (part line more) ≡ true
 

@@ -12,6 +12,7 @@ use Rattle.dsql_history.specs.declared.event.Event.TheVariants.{Run}
 use Rattle.dsql_history.specs.Legal.{Legal}
 use Rattle.dsql_history.specs.Readers.Course.{has_ended}
 use Rattle.dsql_history.specs.Readers.Pool.{pool}
+use Rattle.dsql_history.specs.Readers.Unfinished.{unfinished}
 use Rattle.dsql_history.specs.Rules.House.{is_quiet}
 use Rattle.dsql_follows.specs.declared.line.Line.{Line}
 use Rattle.dsql_steps.specs.Groups.{most_events}
@@ -62,6 +63,7 @@ pub record Ran (stopped : Result Unit Stop) (before after : Seen) : Type 0 where
   pub prefers : Prefers asked before.preferred after.preferred before.ability after.ability
   pub ended : ran_out stopped ≡ true → has_ended history ≡ true
   pub quiet : ran_out stopped ≡ true → is_quiet history ≡ true
+  pub replied : ran_out stopped ≡ true → unfinished history ≡ []
   pub read : stopped ≡ Ok tt → IfSome after.left (λ bytes. bytes ≡ [])
   pub writes : Writes stopped (has_risen before.write_faults after.write_faults) before.written history after.written
   pub cut : stopped ≡ Err Write → CutShort before.left after.left asked lines (has_risen before.read_faults after.read_faults) before.written (Run 1 after.ability) history after.written
@@ -109,6 +111,7 @@ pub record PlaysWhole (before after : Seen) (notes_before notes_after : SeenNote
   pub prefers : Prefers asked before.preferred after.preferred before.ability after.ability
   pub ended : has_ended history ≡ true
   pub quiet : is_quiet history ≡ true
+  pub replied : unfinished history ≡ []
   pub empty : open_count (pool history) ≡ 0
   pub read : IfSome after.left (λ bytes. bytes ≡ [])
   pub written : after.written ≡ with_text before.written (text_of history)
@@ -123,3 +126,4 @@ pub record RefusesWords (notes_before notes_after : SeenNotes) (status : ℕ) : 
   pub status_is : (status ≡ 2) ⊎ (status ≡ 4)
   pub front : status ≡ 4 → ShowsFront notes_before.written usage_note notes_after.written
   pub caused : status ≡ 4 → HasRisen notes_before.faults notes_after.faults
+  pub well : status ≡ 2 → notes_after.faults ≡ notes_before.faults

@@ -39,12 +39,13 @@ failed_status Memory shows.Failed = 5
 failed_status Full shows.Failed = 10
 failed_status _ shows.Failed = 4
 
--- The notes were written for this reason; a fault of theirs is one.
+-- The notes were written in part for this reason; a fault of theirs is one, and where there was no memory for the line nothing was written.
 pub record TellsInPart (stop : Stop) (risen : Bool) (w now : Option (List ℕ)) (status : ℕ) : Type 0 where
   pub fault : ShowFault
   pub status_is : status ≡ failed_status stop fault
   pub caused : fault ≡ shows.Failed → risen ≡ true
   pub front : ShowsFront w (note_of stop) now
+  pub unwritten : fault ≡ shows.Memory → now ≡ w
 
 -- the stop was told with its status
 pub record TellsAll (stop : Stop) (w now : Option (List ℕ)) (status : ℕ) : Type 0 where

@@ -9,6 +9,7 @@ use Rattle.dsql_history.specs.declared.event.Event.{Event}
 use Rattle.dsql_history.specs.Legal.{Legal}
 use Rattle.dsql_history.specs.Readers.Course.{has_ended}
 use Rattle.dsql_history.specs.Readers.Pool.{pool}
+use Rattle.dsql_history.specs.Readers.Unfinished.{unfinished}
 use Rattle.dsql_history.specs.Rules.House.{is_quiet}
 use Rattle.dsql_follows.specs.declared.line.Line.{Line}
 use Rattle.dsql_follows.specs.Sentences.{Part}
@@ -38,6 +39,7 @@ pub record RunsOn {F W : Type 0} (fleet : Ghosts F W) (before after : F) (old ne
 -- the run has ended, each call has its reply, and no connection is open
 pub record IsOver (past : List Event) : Type 0 where
   pub quiet : is_quiet past ≡ true
+  pub replied : unfinished past ≡ []
   pub ended : has_ended past ≡ true
   pub empty : open_count (pool past) ≡ 0
 

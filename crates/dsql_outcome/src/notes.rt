@@ -23,6 +23,7 @@ fn write_note<E: Sink>(alloc: Global, stop: &Stop, notes: &mut E) -> Result<(), 
     ensures ok { OnOk result (E.written notes.new ≡ with_text (E.written notes.old) (note_of stop.now)) }
     ensures err { OnErr result (ShowsFront (E.written notes.old) (note_of stop.now) (E.written notes.new)) }
     ensures caused { result ≡ Err ShowFault.Failed → HasRisen (E.faults notes.old) (E.faults notes.new) }
+    ensures unwritten { result ≡ Err ShowFault.Memory → E.written notes.new ≡ E.written notes.old }
     ensures counted { E.faults notes.old ≤ E.faults notes.new }
 {
     let line = note(alloc, stop)?;

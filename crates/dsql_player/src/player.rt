@@ -38,6 +38,7 @@ impl Player {
         ensures at { IfOk result (λ p. IsAt (just_begun (Run version caps)) p) }
         ensures ready { IfOk result (λ p. IsReady p) }
         ensures unreleased { IfOk result (λ p. p.released ≡ false) }
+        ensures memory { OnErr result (result ≡ Err Halt.Memory) }
     {
         Ok(Player {
             engine: Engine::new(alloc, version, caps)?,

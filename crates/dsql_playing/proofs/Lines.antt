@@ -1,5 +1,5 @@
 -- Lines that run on are carried out.
-use Rattle.std.proofs.Common.{◌≡◌, ℕ, ℤ, Bool, true, false, List, [], ◌++◌, refl, sym, ap, subst, ◌∙◌, append_assoc}
+use Rattle.std.proofs.Common.{◌≡◌, ℕ, ℤ, Bool, true, false, List, [], ◌++◌, inl, inr, refl, sym, ap, subst, ◌∙◌, append_assoc}
 use Rattle.dsql_history.specs.declared.event.Event.{Event}
 use Rattle.dsql_history.specs.declared.event.Op.{Op}
 use Rattle.dsql_history.specs.declared.event.Setting.{Setting}
@@ -65,14 +65,16 @@ begun_done m line old mid new b runs out =
       at = subst (λ (now : Moment). IsAt now new) (sym done.1) o.at;
     }
 
-pub begun_stops : (m : Moment) (line : Line) (old mid : Playing) (new : List Event) → Begun m line old mid → ((now : Moment) → IsAt now mid → RunsSoFar now mid.past new) → StopsInLine m line old.past new
-begun_stops m line old mid new b stops =
+pub begun_stops : (m : Moment) (line : Line) (old mid : Playing) (new : List Event) → Begun m line old mid → runs_on line ≡ true → ((now : Moment) → IsAt now mid → RunsSoFar now mid.past new)
+    → StopsInLine m line old.past new
+begun_stops m line old mid new b runs stops =
     let s = stops b.now b.at in
     let on = runs_further m line b.events s.runs.events b.now s.now b.runs s.runs.steps s.runs.in_turn in
     let far = runs_so_far m line (s.runs.events ++ b.events) s.now on in
     record {
       events = s.runs.events ++ b.events;
       grows = joined s.runs.events b.events old.past mid.past new b.grows s.runs.grows;
+      begins = inr (inl (record { runs = runs; entered = on.begins.entered; set = on.begins.set }));
       steps = far.0;
       in_turn = far.1;
     }
@@ -81,4 +83,4 @@ begun_stops m line old mid new b stops =
 pub stops_at_once : (m : Moment) (line : Line) (p : Playing) (new : List Event) → new ≡ p.past → IsAt m p → StopsInLine m line p.past new
 stops_at_once m line p new same at =
     let none = nothing_so_far m line at.rest at.whole in
-    record { events = []; grows = same; steps = none.0; in_turn = none.1 }
+    record { events = []; grows = same; begins = inl refl; steps = none.0; in_turn = none.1 }

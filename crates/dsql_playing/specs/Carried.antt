@@ -1,5 +1,5 @@
 -- What is kept as a part of a run is carried out, and which part follows its line.
-use Rattle.std.specs.Prelude.{ℕ, ◌≡◌, true, List, ◌++◌, Option, Result, OnOk, OnErr, is_some}
+use Rattle.std.specs.Prelude.{ℕ, ◌≡◌, ◌⊎◌, true, List, [], ◌++◌, Option, Result, OnOk, OnErr, is_some}
 use Rattle.dsql_driver.specs.Wires.{WireTold}
 use Rattle.dsql_driver.specs.declared.wire.Fleet.{Ghosts}
 use Rattle.dsql_history.specs.declared.event.Event.{Event}
@@ -7,7 +7,7 @@ use Rattle.dsql_history.specs.Legal.{Legal}
 use Rattle.dsql_history.specs.Readers.Journals.{journal}
 use Rattle.dsql_follows.specs.declared.line.Line.{Line}
 use Rattle.dsql_follows.specs.Moments.{Moment, met, at_end}
-use Rattle.dsql_follows.specs.Sentences.{Part, after_part, runs_in_turn}
+use Rattle.dsql_follows.specs.Sentences.{Part, after_part, enters_at_once, runs_in_turn, runs_on, sets_at_once}
 use Rattle.dsql_follows.specs.Follows.{MakesSteps, FollowsLine, FollowsEnd, ends_in_turn}
 use Rattle.dsql_wire.specs.Journaled.{Journaled}
 use Rattle.dsql_wires.specs.Told.{fleet_told, FleetTells, TellsAtMost, SameAbility}
@@ -47,10 +47,21 @@ pub record Carries (m : Moment) (line : Line) (before after : Playing) : Type 0 
   pub follows : FollowsLine m (part line events)
   pub at : IsAt (after_part m (part line events)) after
 
--- The line couldn't be carried out to its end: its part has whole steps in the order of the lines, and where it runs on each came in its turn.
+-- the line runs on, and what came of it began with its own step, if it has one
+pub record BeginsOnItsOwn (m : Moment) (line : Line) (events : List Event) : Type 0 where
+  pub runs : runs_on line ≡ true
+  pub entered : enters_at_once m (part line events) ≡ true
+  pub set : sets_at_once m (part line events) ≡ true
+
+-- Of the line came nothing yet, or a beginning of what it asks for, or all.
+abbrev pub IsBeginningOf : Moment → Line → List Event → Type 0
+IsBeginningOf m line events = (events ≡ []) ⊎ (BeginsOnItsOwn m line events ⊎ FollowsLine m (part line events))
+
+-- The line couldn't be carried out to its end: its part is a beginning of what it asks for, in whole steps in the order of the lines, and where it runs on each came in its turn.
 pub record StopsInLine (m : Moment) (line : Line) (before after : List Event) : Type 0 where
   pub events : List Event
   pub grows : after ≡ events ++ before
+  pub begins : IsBeginningOf m line events
   pub steps : MakesSteps (met line m) events
   pub in_turn : runs_in_turn m (part line events) ≡ true
 

@@ -29,13 +29,13 @@ ghost use Rattle.dsql_playing.specs.Stepping.{Admits, IsAnswerTo, IsChoreOn, IsE
 use dsql_driver::Wire;
 
 /// A line that runs on begins by its own step, or with nothing, and is carried out once all has gone on until nobody may.
-/// Where that has to stop, what came of it is whole steps in the order of the lines, each in its turn.
+/// Where that has to stop, what came of it is a beginning of that: its own step first, and whole steps, each in its turn.
 pub fn a_line_is_carried_out()
     ensures skipped { (m : Moment) (p : Playing) → IsAt m p → Begun m Skip p p }
     ensures set { (m : Moment) (setting : Setting) (n : ℤ) (old mid : Playing) → IsAt m old → ((now : Moment) → IsAt now old → TakesStep now old mid (IsSetTo setting n)) → Begun m (Set setting n) old mid }
     ensures admitted { (m : Moment) (client : ℕ) (op : Op) (old mid : Playing) (entered : Bool) → IsAt m old → Admits entered m client (record { op = op; held = false }) old mid → Begun m (Client client op) old mid }
     ensures done { (m : Moment) (line : Line) (old mid new : Playing) → Begun m line old mid → runs_on line ≡ true → ((now : Moment) → IsAt now mid → RunsOut now mid new) → Carries m line old new }
-    ensures stops { (m : Moment) (line : Line) (old mid : Playing) (new : List Event) → Begun m line old mid → ((now : Moment) → IsAt now mid → RunsSoFar now mid.past new) → StopsInLine m line old.past new }
+    ensures stops { (m : Moment) (line : Line) (old mid : Playing) (new : List Event) → Begun m line old mid → runs_on line ≡ true → ((now : Moment) → IsAt now mid → RunsSoFar now mid.past new) → StopsInLine m line old.past new }
     ensures stops_at_once { (m : Moment) (line : Line) (p : Playing) (new : List Event) → new ≡ p.past → IsAt m p → StopsInLine m line p.past new }
 {}
 

@@ -166,7 +166,7 @@ pub(crate) fn play_keeping<S: Source, K: Sink, F: Fleet>(
 ///
 /// # Errors
 ///
-/// What stopped the script, or the sink's fault or want of memory where these came later.
+/// What stopped the script, or the sink's fault, want of memory or too many events where these came later.
 pub fn play<S: Source, K: Sink, F: Fleet>(
     alloc: Global,
     input: &mut S,

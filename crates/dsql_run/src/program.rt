@@ -56,8 +56,8 @@ fn run<S: Source, K: Sink, E: Sink, F: Fleet>(
 /// | 10 | the run has 4,000,000 events | `sqlrun: too many events` |
 ///
 /// After a read fault or a refused line the run is ended as at the script's end. After a write fault
-/// nothing more is written, and the run is still ended. Where the notes fail the status is 4, unless it
-/// was 5 or 10.
+/// the run is still ended, and the output holds a beginning of its report. Where the output didn't fail the
+/// status is 4 only if the notes did.
 ///
 /// The memory that the run kept is left to the end of the process, as is fit for a program that ends then;
 /// `play` gives it back.

@@ -18,4 +18,5 @@ returns-in-Err g c =
         written = c.in-Err.ensures.front;
       };
       caused = λ h. c.in-Err.ensures.caused;
+      well = λ h. absurd (cc h);
     }

@@ -102,8 +102,9 @@ returns-in_ok-begin-in_default-clause-carries g c =
 
 pub returns-in_ok-begin-in_default-clause-stops : goal.returns-in_ok-begin-in_default-clause-stops
 returns-in_ok-begin-in_default-clause-stops g c =
+    let runs : runs_on c.args.line ≡ true = runs_then c.args.line (λ client op is. c.in_default.not-Start client op is) (λ client is. c.in_default.not-Step client is) c.in_default.not-StepHouse in
     on_err_weaker c.run_on.result
-    (λ stops m at. begun_stops m c.args.line c.args.player.now c.begin.new.self c.run_on.new.self.past (c.in_ok-begin-in_default.ensures.begins m at) stops)
+    (λ stops m at. begun_stops m c.args.line c.args.player.now c.begin.new.self c.run_on.new.self.past (c.in_ok-begin-in_default.ensures.begins m at) runs stops)
     c.run_on.ensures.so_far
 
 pub returns-in_ok-begin-in_default-clause-run : goal.returns-in_ok-begin-in_default-clause-run

@@ -8,6 +8,7 @@ use Rattle.dsql_run.proofs.closing.end_run.Goals as goal
 pub returns-in-Ok-clause-over : goal.returns-in-Ok-clause-over
 returns-in-Ok-clause-over g c = record {
   quiet = c.in-Ok.ensures.quiet;
+  replied = c.in-Ok.ensures.over.replied;
   ended = c.in-Ok.ensures.ended;
   empty = c.in-Ok.ensures.over.none_open;
 }

@@ -36,6 +36,7 @@ returns g c =
         prefers = record { preferred = c.play_from-stopped.ensures.on.able.preferred ∙ head.prefers.preferred; same = λ none. c.play_from-stopped.ensures.on.able.ability ∙ head.prefers.same none };
         ended = λ ran. (c.play_from-stopped.ensures.over ran).ended;
         quiet = λ ran. (c.play_from-stopped.ensures.over ran).quiet;
+        replied = λ ran. (c.play_from-stopped.ensures.over ran).replied;
         read = script.read;
         writes = c.play_from-stopped.ensures.writes;
         cut = script.cut;
