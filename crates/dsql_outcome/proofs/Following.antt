@@ -103,6 +103,9 @@ begun_follows caps skipped past silent begun = record {
   is = begun ∙ sym (told_blank (Run 1 caps) (reverse skipped));
 }
 
+pub blank_is_skipped : (skipped : List Line) → list_all is_skip skipped ≡ true → list_all is_skip (lines_of (blank (reverse skipped))) ≡ true
+blank_is_skipped skipped silent = ap (λ lines. list_all is_skip lines) (lines_of_blank (reverse skipped)) ∙ skipped_in_reverse skipped silent
+
 pub begun_at : (caps : Caps) (skipped : List Line) (p : Playing) → list_all is_skip skipped ≡ true → IsAt (just_begun (Run 1 caps)) p → IsAt (after (Run 1 caps) (blank (reverse skipped))) p
 begun_at caps skipped p silent at =
     let all = skipped_in_reverse skipped silent in

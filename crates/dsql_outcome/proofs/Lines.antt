@@ -24,7 +24,7 @@ use Rattle.dsql_script_source.specs.declared.stop.Stop.TheVariants.{Read, Write,
 use Rattle.dsql_outcome.specs.Followed.{FollowsSoFar}
 use Rattle.dsql_outcome.specs.Runs.{CutAtLine, IsLinesEnd, IsPlayStop, is_write_fault, ran_out}
 use Rattle.dsql_outcome.specs.Playing.{HasHead, LinesPlayed}
-use Rattle.dsql_outcome.proofs.Following.{begun_at, begun_follows, blank, carried_stops, line_follows, line_stops_short, stops_at_rest, told_blank}
+use Rattle.dsql_outcome.proofs.Following.{begun_at, begun_follows, blank, blank_is_skipped, carried_stops, line_follows, line_stops_short, stops_at_rest, told_blank}
 use Rattle.dsql_outcome.proofs.Saying.{carried_out, first_plays, line_stops, read_first}
 
 -- The lines that were carried out so far, and what was read behind them.
@@ -125,7 +125,7 @@ first_stops stop first before reader left rest asked skipped caps p w now kind b
       follows = λ ran. follows;
       at = λ ran. begun_at caps skipped p h.silent at;
       short = λ out. stops_at_rest caps skipped (blank (reverse skipped)) p.past follows;
-      cut = λ is. inr (record { begun = told_blank (Run 1 caps) (reverse skipped); written = stops });
+      cut = λ is. inr (record { begun = told_blank (Run 1 caps) (reverse skipped); skipped = blank_is_skipped skipped h.silent; written = stops });
     }
 
 -- a line couldn't be carried out or shown

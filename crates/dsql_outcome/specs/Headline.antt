@@ -76,10 +76,11 @@ pub record Ran (stopped : Result Unit Stop) (before after : Seen) : Type 0 where
   pub written_well : no_write_failed stopped ≡ true → after.write_faults ≡ before.write_faults
   pub full : stopped ≡ Err Full → most_events ≤ length history
 
--- There was no memory for the run's first event: nothing was written, and the fleet wasn't asked for a connection.
+-- There was no memory for the run's first event: nothing was written, no write failed, and the fleet wasn't asked for a connection.
 pub record NotBegun (stopped : Result Unit Stop) (before after : Seen) : Type 0 where
   pub memory : stopped ≡ Err Memory
   pub unwritten : after.written ≡ before.written
+  pub untried : after.write_faults ≡ before.write_faults
   pub unopened : after.told ≡ before.told
 
 -- A script was played, and this stopped it, if anything did.

@@ -1,5 +1,6 @@
 -- How a run goes: what stops it, where the sink failed, and what was written.
 use Rattle.std.specs.Prelude.{ℕ, ◌≡◌, ◌⊎◌, Bool, true, false, ◌||◌, List, [], ◌∷◌, Option, IfSome, Result, Ok, Err}
+use Rattle.std.specs.List.{list_all}
 use Rattle.dsql_driver.specs.declared.caps.Caps.{Caps}
 use Rattle.dsql_driver.specs.Wires.{WireTold}
 use Rattle.dsql_wire.specs.Journaled.{Journaled}
@@ -18,9 +19,10 @@ use Rattle.dsql_show.specs.Report.{with_text, Shows, ShowsFront, StopsBetween}
 use Rattle.dsql_show.specs.declared.showing.ShowFault.{ShowFault}
 use Rattle.dsql_show.specs.declared.showing.ShowFault.TheVariants as shows
 use Rattle.dsql_script_source.specs.Plays.{Plays, saying}
+use Rattle.dsql_script_source.specs.Script.{is_skip}
 use Rattle.dsql_script_source.specs.declared.stop.Stop.{Stop}
 use Rattle.dsql_script_source.specs.declared.stop.Stop.TheVariants.{Read, Write, Memory, Refused, Full}
-use Rattle.dsql_outcome.specs.Followed.{FollowsAll}
+use Rattle.dsql_outcome.specs.Followed.{FollowsAll, lines_of}
 
 -- What stops a run.
 
@@ -106,9 +108,10 @@ pub record CutInLast (w : Option (List ℕ)) (run : Event) (parts : List Part) (
   pub are : parts ≡ part ∷ earlier
   pub written : StopsBetween w (text_of (told run earlier)) (text_of (told run parts)) now
 
--- The sink failed as the run's first event was written, and no line had events yet.
+-- The sink failed as the run's first event was written, before any line that isn't skipped.
 pub record CutAtFirst (w : Option (List ℕ)) (run : Event) (parts : List Part) (now : Option (List ℕ)) : Type 0 where
   pub begun : told run parts ≡ run ∷ []
+  pub skipped : list_all is_skip (lines_of parts) ≡ true
   pub written : StopsBetween w [] (text_of (run ∷ [])) now
 
 -- The sink failed before the lines came to an end.
