@@ -23,14 +23,15 @@ use Rattle.dsql_pool.specs.Pooled.{Pooled, next_number}
 use Rattle.dsql_pool.proofs.Frees.{passing}
 use Rattle.dsql_pool.proofs.Rows.{all_filter}
 use Rattle.dsql_history.specs.declared.event.Event.{Event}
-use Rattle.dsql_history.specs.declared.event.Event.TheVariants.{Run, Entered, Heard, Pool, Waits, SetLimit, Replied, Ended}
+use Rattle.dsql_history.specs.declared.event.Event.TheVariants.{Run, Entered, Heard, Pool, Waits, Ticked, SetLimit, Replied, Ended}
 use Rattle.dsql_history.specs.declared.event.Op.TheVariants.{Exec, Query, One, Next, Scan, RowsClose, Err as Fault, DbClose, Stats}
-use Rattle.dsql_history.specs.declared.event.Setting.{Setting}
-use Rattle.dsql_history.specs.declared.event.Setting.TheVariants.{MaxOpen, MaxIdle}
+use Rattle.dsql_history.specs.declared.event.Control.{Control}
+use Rattle.dsql_history.specs.declared.event.Setting.TheVariants.{MaxOpen, MaxIdle, MaxLife, MaxIdleTime}
+use Rattle.dsql_history.specs.declared.event.Control.TheVariants.{Tick, Set}
 use Rattle.dsql_history.specs.Same.{is_first}
 use Rattle.dsql_history.specs.Readers.Course.{has_ended}
 use Rattle.dsql_history.specs.Readers.Owed.{owed}
-use Rattle.dsql_history.specs.Readers.Pool.{pool, request, wanted_by, with_limit, is_home, smallest}
+use Rattle.dsql_history.specs.Readers.Pool.{pool, request, wanted_by, with_control, is_home, smallest}
 use Rattle.dsql_history.specs.Rules.Asking.{may_ask, ask_outcome, is_queued}
 use Rattle.dsql_history.specs.Rules.Order.{follows}
 use Rattle.dsql_history.specs.Legal.{Allowed, Lawful}
@@ -102,9 +103,12 @@ pub record Shut (p : Pooled) : Type 0 where
   pub waiting : p.waiting ≡ []
   pub free : list_all (λ conn. is_free conn.place) p.conns ≡ true
 
-shut_limit : (s : Setting) (k : ℤ) (p : Pooled) → (with_limit s k p).closed ≡ true → (p.closed ≡ true → Shut p) → Shut (with_limit s k p)
-shut_limit MaxOpen k p h so = let x = so h in record { waiting = x.waiting; free = x.free }
-shut_limit MaxIdle k p h so = let x = so h in record { waiting = x.waiting; free = x.free }
+shut_control : (control : Control) (p : Pooled) → (with_control control p).closed ≡ true → (p.closed ≡ true → Shut p) → Shut (with_control control p)
+shut_control (Tick k) p h so = let x = so h in record { waiting = x.waiting; free = x.free }
+shut_control (Set MaxOpen k) p h so = let x = so h in record { waiting = x.waiting; free = x.free }
+shut_control (Set MaxIdle k) p h so = let x = so h in record { waiting = x.waiting; free = x.free }
+shut_control (Set MaxLife k) p h so = let x = so h in record { waiting = x.waiting; free = x.free }
+shut_control (Set MaxIdleTime k) p h so = let x = so h in record { waiting = x.waiting; free = x.free }
 
 opens_free : (H : List Event) (c k : ℕ) → Allowed H (Pool (OpenStart c k)) → (pool H).closed ≡ true → is_free (Opening (wanted_by k)) ≡ true
 opens_free H c k a closed =
@@ -153,15 +157,19 @@ closed_shut (Waits k ∷ H) l h =
     let keeps = keeps_of H (Waits k) l.1 in
     let a = both (may_ask H k) (is_queued (ask_outcome H k)) keeps.asking in
     absurd (none_queued (ask_outcome H k) (closed_outcome (request H k) (pool H) h) a.1)
-closed_shut (SetLimit s k ∷ H) l h = shut_limit s k (pool H) h (λ closed. closed_shut H l.0 closed)
+closed_shut (Ticked now ∷ H) l h = shut_control (Tick now) (pool H) h (λ closed. closed_shut H l.0 closed)
+closed_shut (SetLimit s k ∷ H) l h = shut_control (Set s k) (pool H) h (λ closed. closed_shut H l.0 closed)
 closed_shut (Replied m reply ∷ H) l h = closed_shut H l.0 h
 closed_shut (Ended ∷ H) l h = record { waiting = refl; free = shut_free (pool H).conns }
 
 -- it stays closed
 
-limit_closed : (s : Setting) (k : ℤ) (p : Pooled) → p.closed ≡ true → (with_limit s k p).closed ≡ true
-limit_closed MaxOpen k p h = h
-limit_closed MaxIdle k p h = h
+control_closed : (control : Control) (p : Pooled) → p.closed ≡ true → (with_control control p).closed ≡ true
+control_closed (Tick k) p h = h
+control_closed (Set MaxOpen k) p h = h
+control_closed (Set MaxIdle k) p h = h
+control_closed (Set MaxLife k) p h = h
+control_closed (Set MaxIdleTime k) p h = h
 
 pub stays_closed : (H : List Event) (e : Event) → (pool H).closed ≡ true → (pool (e ∷ H)).closed ≡ true
 stays_closed H (Run version can) h = h
@@ -182,7 +190,8 @@ stays_closed H (Pool (CloseStart c why)) h = h
 stays_closed H (Pool (Gone c)) h = h
 stays_closed H (Pool (Fell c k)) h = h
 stays_closed H (Waits k) h = h
-stays_closed H (SetLimit s k) h = limit_closed s k (pool H) h
+stays_closed H (Ticked now) h = control_closed (Tick now) (pool H) h
+stays_closed H (SetLimit s k) h = control_closed (Set s k) (pool H) h
 stays_closed H (Replied m reply) h = h
 stays_closed H Ended h = refl
 
@@ -194,6 +203,7 @@ ended_closed (Entered client m op ∷ H) h = stays_closed H (Entered client m op
 ended_closed (Heard e ∷ H) h = stays_closed H (Heard e) (ended_closed H h)
 ended_closed (Pool m ∷ H) h = stays_closed H (Pool m) (ended_closed H h)
 ended_closed (Waits k ∷ H) h = stays_closed H (Waits k) (ended_closed H h)
+ended_closed (Ticked now ∷ H) h = stays_closed H (Ticked now) (ended_closed H h)
 ended_closed (SetLimit s k ∷ H) h = stays_closed H (SetLimit s k) (ended_closed H h)
 ended_closed (Replied m reply ∷ H) h = stays_closed H (Replied m reply) (ended_closed H h)
 

@@ -13,7 +13,7 @@ use Rattle.dsql_work.specs.HandedOut.{Made, after_fetch, rows_at_end}
 use Rattle.dsql_work.specs.Works.{maker}
 use Rattle.dsql_call_laws.proofs.Rows.{ended_live}
 use Rattle.dsql_history.specs.declared.event.Event.{Event}
-use Rattle.dsql_history.specs.declared.event.Event.TheVariants.{Run, Entered, Heard, Pool, Waits, SetLimit, Replied, Ended}
+use Rattle.dsql_history.specs.declared.event.Event.TheVariants.{Run, Entered, Heard, Pool, Waits, Ticked, SetLimit, Replied, Ended}
 use Rattle.dsql_history.specs.declared.event.Op.{Op}
 use Rattle.dsql_history.specs.declared.event.Op.TheVariants as ops
 use Rattle.dsql_history.specs.Readers.HandedOut.{fetched, rows_heard, rows_entered, handed_out, rows_by, live, over, are_live, ended_at, ender}
@@ -106,6 +106,7 @@ rows_follow H Ended n = end_follows n (handed_out H)
 rows_follow H (Run version can) n = same_follows (rows_by H n)
 rows_follow H (Pool m) n = same_follows (rows_by H n)
 rows_follow H (Waits m) n = same_follows (rows_by H n)
+rows_follow H (Ticked now) n = same_follows (rows_by H n)
 rows_follow H (SetLimit s k) n = same_follows (rows_by H n)
 rows_follow H (Replied m reply) n = same_follows (rows_by H n)
 

@@ -19,9 +19,10 @@ use Rattle.dsql_work.specs.Works.{asks}
 use Rattle.dsql_work.specs.Line.{is_due}
 use Rattle.dsql_call_laws.proofs.Lists.{same_or_not}
 use Rattle.dsql_history.specs.declared.event.Event.{Event}
-use Rattle.dsql_history.specs.declared.event.Event.TheVariants.{Run, Entered, Heard, Pool, Waits, SetLimit, Replied, Ended}
+use Rattle.dsql_history.specs.declared.event.Event.TheVariants.{Run, Entered, Heard, Pool, Waits, Ticked, SetLimit, Replied, Ended}
 use Rattle.dsql_history.specs.declared.event.Op.{Op}
 use Rattle.dsql_history.specs.declared.event.Op.TheVariants.{Exec, Query, One, Next, Scan, RowsClose, Err, DbClose, Stats}
+use Rattle.dsql_history.specs.declared.event.Control.TheVariants.{Tick, Set}
 use Rattle.dsql_history.specs.declared.record.Stand.TheVariants as stands_at
 use Rattle.dsql_history.specs.declared.record.Try.{Try}
 use Rattle.dsql_history.specs.Readers.Course.{has_ended}
@@ -40,7 +41,7 @@ use Rattle.dsql_rows.specs.OpenRows.{rows_of}
 use Rattle.dsql_laws.proofs.Tests.{both, same_number, other_number}
 use Rattle.dsql_laws.proofs.Numbered.{some_calls, unfinished_from_one}
 use Rattle.dsql_laws.proofs.Counts.{waits_some, changed_fewer, gone_fewer}
-use Rattle.dsql_laws.proofs.Tried.{is_lent_out, lent_count, shut_fewer, begun_same, same_limit}
+use Rattle.dsql_laws.proofs.Tried.{is_lent_out, lent_count, shut_fewer, begun_same, same_control}
 use Rattle.dsql_laws.proofs.Holdings.{one_at_most}
 use Rattle.dsql_laws.proofs.Wanting.{homes_apart, wants_its_own}
 use Rattle.dsql_call_laws.proofs.Works.{as_many, enters_next, old_unfinished, still_unfinished}
@@ -217,6 +218,7 @@ zero_work (Run version can ∷ H) = zero_work H
 zero_work (Heard e ∷ H) = zero_work H
 zero_work (Pool m ∷ H) = zero_work H
 zero_work (Waits k ∷ H) = zero_work H
+zero_work (Ticked now ∷ H) = zero_work H
 zero_work (SetLimit s k ∷ H) = zero_work H
 zero_work (Replied m reply ∷ H) = zero_work H
 zero_work (Ended ∷ H) = zero_work H
@@ -237,6 +239,7 @@ live_after H (Entered client m op) a o k = entering_revives_none H client m op k
 live_after H (Run version can) a o k = o.live k
 live_after H (Pool m) a o k = o.live k
 live_after H (Waits m) a o k = o.live k
+live_after H (Ticked now) a o k = o.live k
 live_after H (SetLimit s m) a o k = o.live k
 live_after H (Replied m reply) a o k = o.live k
 live_after H Ended a o k = none_at_end k (handed_out H)
@@ -283,7 +286,8 @@ lent_after H (Pool (CloseStart c why)) l h o n u =
 lent_after H (Pool (Gone c)) l h o n u = let none = o.lent n u in let few = gone_fewer (is_lent_out n) c (pool H).conns in omega (arith, none, few)
 lent_after H (Pool (Fell c k)) l h o n u = let none = o.lent n u in let few = gone_fewer (is_lent_out n) c (pool H).conns in omega (arith, none, few)
 lent_after H (Waits k) l h o n u = o.lent n u
-lent_after H (SetLimit s k) l h o n u = let none = o.lent n u in let same = same_limit s k n (pool H) in omega (arith, none, same)
+lent_after H (Ticked now) l h o n u = let none = o.lent n u in let same = same_control (Tick now) n (pool H) in omega (arith, none, same)
+lent_after H (SetLimit s k) l h o n u = let none = o.lent n u in let same = same_control (Set s k) n (pool H) in omega (arith, none, same)
 lent_after H (Replied m reply) l h o n u = let b = still_unfinished H m reply n u in o.lent n b.1
 lent_after H Ended l h o n u = let none = o.lent n u in let few = shut_fewer n (pool H) in omega (arith, none, few)
 
@@ -306,6 +310,7 @@ old_ender H (Run version can) l o m k u is = o.ender m k u is
 old_ender H (Heard e) l o m k u is = o.ender m k u is
 old_ender H (Pool move) l o m k u is = o.ender m k u is
 old_ender H (Waits n) l o m k u is = o.ender m k u is
+old_ender H (Ticked now) l o m k u is = o.ender m k u is
 old_ender H (SetLimit s n) l o m k u is = o.ender m k u is
 old_ender H Ended l o m k u is = o.ender m k u is
 
@@ -327,6 +332,7 @@ over_once_ended (Entered client m op ∷ H) l h = over_after H (Entered client m
 over_once_ended (Heard e ∷ H) l h = over_after H (Heard e) l h (over_once_ended H l.0 h)
 over_once_ended (Pool m ∷ H) l h = over_after H (Pool m) l h (over_once_ended H l.0 h)
 over_once_ended (Waits k ∷ H) l h = over_after H (Waits k) l h (over_once_ended H l.0 h)
+over_once_ended (Ticked now ∷ H) l h = over_after H (Ticked now) l h (over_once_ended H l.0 h)
 over_once_ended (SetLimit s k ∷ H) l h = over_after H (SetLimit s k) l h (over_once_ended H l.0 h)
 over_once_ended (Replied m reply ∷ H) l h = over_after H (Replied m reply) l h (over_once_ended H l.0 h)
 

@@ -17,20 +17,22 @@ use Rattle.dsql_pool.specs.declared.moves.Move.{Move}
 use Rattle.dsql_pool.specs.declared.moves.Move.TheVariants.{OpenStart, Lend, Back, CloseStart, Gone, Fell}
 use Rattle.dsql_pool.specs.declared.moves.Outcome.{Outcome}
 use Rattle.dsql_pool.specs.declared.moves.Outcome.TheVariants.{Closes, Serves, Rests}
-use Rattle.dsql_pool.specs.Calls.{then_openings, moves_opened, moves_failed, open_set, idle_set}
+use Rattle.dsql_pool.specs.Calls.{then_openings, moves_opened, moves_failed, open_set, idle_set, lifetime_set, idle_time_set}
 use Rattle.dsql_pool.specs.Decisions.{openings, due_openings, lends_to_oldest, moves_back, moves_unwanted, when_opened, when_unwanted, when_given_back, falls_to, closings_of_setting}
-use Rattle.dsql_pool.specs.Moved.{made, shut}
+use Rattle.dsql_pool.specs.Moved.{made, shut, ticked}
 use Rattle.dsql_pool.specs.Pooled.{Pooled, next_number, next_tenure, place_at}
 use Rattle.dsql_history.specs.declared.event.Event.{Event}
-use Rattle.dsql_history.specs.declared.event.Event.TheVariants.{Run, Entered, Heard, Pool, Waits, SetLimit, Replied, Ended}
+use Rattle.dsql_history.specs.declared.event.Event.TheVariants.{Run, Entered, Heard, Pool, Waits, Ticked, SetLimit, Replied, Ended}
 use Rattle.dsql_history.specs.declared.event.Op.TheVariants.{Exec, Query, One, Next, Scan, RowsClose, Err, DbClose, Stats}
-use Rattle.dsql_history.specs.declared.event.Setting.{Setting}
-use Rattle.dsql_history.specs.declared.event.Setting.TheVariants.{MaxOpen, MaxIdle}
-use Rattle.dsql_history.specs.Readers.Owed.{fate, answered, limit_set, leaving, left_of, owed}
+use Rattle.dsql_history.specs.declared.event.Control.{Control}
+use Rattle.dsql_history.specs.declared.event.Setting.TheVariants.{MaxOpen, MaxIdle, MaxLife, MaxIdleTime}
+use Rattle.dsql_history.specs.declared.event.Control.TheVariants.{Tick, Set}
+use Rattle.dsql_history.specs.Readers.Owed.{fate, answered, controlled, leaving, left_of, owed}
 use Rattle.dsql_history.specs.Readers.Pool.{pool, place}
 use Rattle.dsql_history.specs.Rules.Order.{follows}
 use Rattle.dsql_history.specs.Legal.{Allowed}
 use Rattle.dsql_laws.proofs.Tests.{both, together, move_is}
+use Rattle.dsql_laws.proofs.Outdated.{outdated_all}
 use Rattle.dsql_laws.proofs.AtRest.{keeps_of}
 
 abbrev is_no_fall : Move → Bool
@@ -58,9 +60,12 @@ closings_fall_none why (c ∷ cs) = closings_fall_none why cs
 surplus_falls_none : (p : Pooled) → are_no_falls (closings_of_setting p) ≡ true
 surplus_falls_none p = closings_fall_none IdleFull (take (length p.idle - p.limits.max_idle) p.idle)
 
-limit_falls_none : (s : Setting) (n : ℤ) (p : Pooled) → are_no_falls (limit_set s n p) ≡ true
-limit_falls_none MaxOpen n p = then_fall_none (closings_of_setting (open_set n p)) (open_set n p) (surplus_falls_none (open_set n p))
-limit_falls_none MaxIdle n p = surplus_falls_none (idle_set n p)
+control_falls_none : (control : Control) (p : Pooled) → are_no_falls (controlled control p) ≡ true
+control_falls_none (Tick n) p = outdated_all is_no_fall (λ c why. refl) (ticked n p)
+control_falls_none (Set MaxOpen n) p = then_fall_none (closings_of_setting (open_set n p)) (open_set n p) (surplus_falls_none (open_set n p))
+control_falls_none (Set MaxIdle n) p = surplus_falls_none (idle_set n p)
+control_falls_none (Set MaxLife n) p = outdated_all is_no_fall (λ c why. refl) (lifetime_set n p)
+control_falls_none (Set MaxIdleTime n) p = outdated_all is_no_fall (λ c why. refl) (idle_time_set n p)
 
 oldest_falls_none : (c t : ℕ) (rs : List Request) → are_no_falls (lends_to_oldest c t rs) ≡ true
 oldest_falls_none c t [] = refl
@@ -127,7 +132,8 @@ later_falls_none (Entered client n Stats ∷ H) = refl
 later_falls_none (Heard e ∷ H) = answered_later e.answer e.conn (pool H) (place H e.conn)
 later_falls_none (Pool m ∷ H) = fewer_fall_none (left_of H m (owed H)) (left_falls_none H m (owed H) (later_falls_none H))
 later_falls_none (Waits n ∷ H) = refl
-later_falls_none (SetLimit s n ∷ H) = fewer_fall_none (limit_set s n (pool H)) (limit_falls_none s n (pool H))
+later_falls_none (Ticked now ∷ H) = fewer_fall_none (controlled (Tick now) (pool H)) (control_falls_none (Tick now) (pool H))
+later_falls_none (SetLimit s n ∷ H) = fewer_fall_none (controlled (Set s n) (pool H)) (control_falls_none (Set s n) (pool H))
 later_falls_none (Replied n reply ∷ H) = refl
 later_falls_none (Ended ∷ H) = fewer_fall_none (owed (Ended ∷ H)) (closings_fall_none DbClosed (shut (pool H)).idle)
 
@@ -191,6 +197,7 @@ falls H c n a = let k = keeps_of H (Pool (Fell c n)) a in by H k.order k.causes
     by (Entered client m Stats ∷ K) h some = absurd cc
     by (Pool m ∷ K) h some = absurd (first_falls (left_of K m (owed K)) c n (left_falls_none K m (owed K) (later_falls_none K)) h some)
     by (Waits m ∷ K) h some = absurd cc
-    by (SetLimit s k ∷ K) h some = absurd (first_falls (limit_set s k (pool K)) c n (limit_falls_none s k (pool K)) h some)
+    by (Ticked now ∷ K) h some = absurd (first_falls (controlled (Tick now) (pool K)) c n (control_falls_none (Tick now) (pool K)) h some)
+    by (SetLimit s k ∷ K) h some = absurd (first_falls (controlled (Set s k) (pool K)) c n (control_falls_none (Set s k) (pool K)) h some)
     by (Replied m reply ∷ K) h some = absurd cc
     by (Ended ∷ K) h some = absurd (first_falls (owed (Ended ∷ K)) c n (closings_fall_none DbClosed (shut (pool K)).idle) h some)

@@ -23,8 +23,9 @@ use Rattle.dsql_work.specs.Works.{asks}
 use Rattle.dsql_work.specs.Line.{is_due}
 use Rattle.dsql_call_laws.proofs.Lists.{within_rows}
 use Rattle.dsql_history.specs.declared.event.Event.{Event}
-use Rattle.dsql_history.specs.declared.event.Event.TheVariants.{Run, Entered, Heard, Pool, Waits, SetLimit, Replied, Ended}
+use Rattle.dsql_history.specs.declared.event.Event.TheVariants.{Run, Entered, Heard, Pool, Waits, Ticked, SetLimit, Replied, Ended}
 use Rattle.dsql_history.specs.declared.event.Op.TheVariants.{Exec, Query, One, Next, Scan, RowsClose, Err, DbClose, Stats}
+use Rattle.dsql_history.specs.declared.event.Control.TheVariants.{Tick, Set}
 use Rattle.dsql_history.specs.declared.record.Try.{Try}
 use Rattle.dsql_history.specs.Readers.Owed.{owed}
 use Rattle.dsql_history.specs.Readers.Pool.{pool, place, home, wanted_by, is_home}
@@ -39,7 +40,7 @@ use Rattle.dsql_laws.proofs.Tests.{both}
 use Rattle.dsql_laws.proofs.AtRest.{keeps_of}
 use Rattle.dsql_laws.proofs.Counts.{changed_fewer, gone_fewer}
 use Rattle.dsql_laws.proofs.Deserved.{is_home_of, Deserves, deserved}
-use Rattle.dsql_laws.proofs.Tried.{is_lent_out, lent_count, lends_to, lent_tried, shut_fewer, begun_same, same_limit}
+use Rattle.dsql_laws.proofs.Tried.{is_lent_out, lent_count, lends_to, lent_tried, shut_fewer, begun_same, same_control}
 use Rattle.dsql_laws.proofs.Holdings.{by_call, lending_from}
 use Rattle.dsql_laws.proofs.Wanting.{works_alone, wants_its_own, sends_where_lent}
 use Rattle.dsql_call_laws.proofs.Works.{work_stays, as_many, stays_unfinished, enters_unfinished}
@@ -131,7 +132,8 @@ lent_asks (Pool (CloseStart c why) ∷ H) n l some now =
 lent_asks (Pool (Gone c) ∷ H) n l some now = let few = gone_fewer (is_lent_out n) c (pool H).conns in lent_asks H n l.0 some (omega (arith, few, now))
 lent_asks (Pool (Fell c k) ∷ H) n l some now = let few = gone_fewer (is_lent_out n) c (pool H).conns in lent_asks H n l.0 some (omega (arith, few, now))
 lent_asks (Waits k ∷ H) n l some now = lent_asks H n l.0 some now
-lent_asks (SetLimit s k ∷ H) n l some now = let same = same_limit s k n (pool H) in lent_asks H n l.0 some (omega (arith, same, now))
+lent_asks (Ticked moment ∷ H) n l some now = let same = same_control (Tick moment) n (pool H) in lent_asks H n l.0 some (omega (arith, same, now))
+lent_asks (SetLimit s k ∷ H) n l some now = let same = same_control (Set s k) n (pool H) in lent_asks H n l.0 some (omega (arith, same, now))
 lent_asks (Replied m reply ∷ H) n l some now = lent_asks H n l.0 some now
 lent_asks (Ended ∷ H) n l some now = let few = shut_fewer n (pool H) in lent_asks H n l.0 some (omega (arith, few, now))
 
@@ -190,6 +192,7 @@ tries_stay H (Pool (CloseStart c why)) n h = h
 tries_stay H (Pool (Gone c)) n h = h
 tries_stay H (Pool (Fell c k)) n h = more_tries (k == n) _ (tries H n) h
 tries_stay H (Waits k) n h = h
+tries_stay H (Ticked now) n h = h
 tries_stay H (SetLimit s k) n h = h
 tries_stay H (Replied m reply) n h = h
 tries_stay H Ended n h = h
@@ -205,6 +208,7 @@ still H (Run version can) e apart u = u
 still H (Heard x) e apart u = u
 still H (Pool m) e apart u = u
 still H (Waits k) e apart u = u
+still H (Ticked now) e apart u = u
 still H (SetLimit s k) e apart u = u
 still H Ended e apart u = u
 

@@ -10,7 +10,7 @@ use Rattle.dsql_rows.specs.declared.end.RowsEnd.{RowsEnd}
 use Rattle.dsql_rows.specs.OpenRows.{scan_answer, answer_of}
 use Rattle.dsql_call_laws.proofs.Lists.{same_or_not}
 use Rattle.dsql_history.specs.declared.event.Event.{Event}
-use Rattle.dsql_history.specs.declared.event.Event.TheVariants.{Run, Entered, Heard, Pool, Waits, SetLimit, Replied, Ended}
+use Rattle.dsql_history.specs.declared.event.Event.TheVariants.{Run, Entered, Heard, Pool, Waits, Ticked, SetLimit, Replied, Ended}
 use Rattle.dsql_history.specs.declared.event.Op.{Op}
 use Rattle.dsql_history.specs.declared.event.Op.TheVariants as ops
 use Rattle.dsql_history.specs.Readers.Unfinished.{is_unfinished}
@@ -83,6 +83,7 @@ looked (Heard e ∷ H) n l u look =
     ap (λ r. is_some r.decided) (other_heard H e n (never_heard H e n l.1 some look)) ∙ looked H n l.0 u look
 looked (Pool m ∷ H) n l u look = looked H n l.0 u look
 looked (Waits m ∷ H) n l u look = looked H n l.0 u look
+looked (Ticked now ∷ H) n l u look = looked H n l.0 u look
 looked (SetLimit s k ∷ H) n l u look = looked H n l.0 u look
 looked (Replied m reply ∷ H) n l u look =
     let b = still_unfinished H m reply n u in

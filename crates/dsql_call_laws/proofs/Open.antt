@@ -14,11 +14,12 @@ use Rattle.dsql_pool.specs.Rest.{times, AtRest}
 use Rattle.dsql_pool.proofs.Frees.{length-changed, length-gone}
 use Rattle.dsql_pool.proofs.Members.{times-without_other, times-without_same}
 use Rattle.dsql_history.specs.declared.event.Event.{Event}
-use Rattle.dsql_history.specs.declared.event.Event.TheVariants.{Run, Entered, Heard, Pool, Waits, SetLimit, Replied, Ended}
+use Rattle.dsql_history.specs.declared.event.Event.TheVariants.{Run, Entered, Heard, Pool, Waits, Ticked, SetLimit, Replied, Ended}
 use Rattle.dsql_history.specs.declared.event.Op.TheVariants.{Exec, Query, One, Next, Scan, RowsClose, Err, DbClose, Stats}
-use Rattle.dsql_history.specs.declared.event.Setting.{Setting}
-use Rattle.dsql_history.specs.declared.event.Setting.TheVariants.{MaxOpen, MaxIdle}
-use Rattle.dsql_history.specs.Readers.Pool.{pool, wanted_by, with_limit}
+use Rattle.dsql_history.specs.declared.event.Control.{Control}
+use Rattle.dsql_history.specs.declared.event.Setting.TheVariants.{MaxOpen, MaxIdle, MaxLife, MaxIdleTime}
+use Rattle.dsql_history.specs.declared.event.Control.TheVariants.{Tick, Set}
+use Rattle.dsql_history.specs.Readers.Pool.{pool, wanted_by, with_control}
 use Rattle.dsql_history.specs.Rules.Limit.{keeps_limit}
 use Rattle.dsql_history.specs.Legal.{Allowed, Lawful}
 
@@ -42,9 +43,12 @@ one_more p c conns x h =
     let below : open_count p < most_allowed p = grind (arith, nat_tests) in
     omega (arith, most, more, below)
 
-same_limit : (s : Setting) (k : ℤ) (p : Pooled) → open_count (with_limit s k p) ≡ open_count p
-same_limit MaxOpen k p = refl
-same_limit MaxIdle k p = refl
+same_control : (control : Control) (p : Pooled) → open_count (with_control control p) ≡ open_count p
+same_control (Tick k) p = refl
+same_control (Set MaxOpen k) p = refl
+same_control (Set MaxIdle k) p = refl
+same_control (Set MaxLife k) p = refl
+same_control (Set MaxIdleTime k) p = refl
 
 pub few_open : (H : List Event) → Lawful H → open_count (pool H) ≤ most_open
 few_open [] l = omega arith
@@ -66,7 +70,8 @@ few_open (Pool (CloseStart c why) ∷ H) l = let rest = few_open H l.0 in let sa
 few_open (Pool (Gone c) ∷ H) l = let rest = few_open H l.0 in let few = length-gone c (pool H).conns in omega (arith, rest, few)
 few_open (Pool (Fell c m) ∷ H) l = let rest = few_open H l.0 in let few = length-gone c (pool H).conns in omega (arith, rest, few)
 few_open (Waits m ∷ H) l = few_open H l.0
-few_open (SetLimit s k ∷ H) l = let rest = few_open H l.0 in let same = same_limit s k (pool H) in omega (arith, rest, same)
+few_open (Ticked now ∷ H) l = let rest = few_open H l.0 in let same = same_control (Tick now) (pool H) in omega (arith, rest, same)
+few_open (SetLimit s k ∷ H) l = let rest = few_open H l.0 in let same = same_control (Set s k) (pool H) in omega (arith, rest, same)
 few_open (Replied m reply ∷ H) l = few_open H l.0
 few_open (Ended ∷ H) l = let rest = few_open H l.0 in let same = length-map (pool H).conns unwanted in omega (arith, rest, same)
 

@@ -1,6 +1,6 @@
 -- How many moves are owed at most.
 use Rattle.std.proofs.Common.{◌≡◌, ℕ, zero, suc, ◌+◌, ◌-◌, ◌≤◌, Bool, true, false, cond, List, [], ◌∷◌, length, take, drop, Option, Some, None, refl, ap, length-append, arith}
-use Rattle.std.specs.Prelude.{ℤ}
+use Rattle.std.specs.List.{filter_map, cons_option}
 use Rattle.std.proofs.lemmas.List.{length-map}
 use Rattle.dsql_journal.specs.Readers.{is_empty}
 use Rattle.dsql_driver.specs.Fits.{is_done}
@@ -10,21 +10,24 @@ use Rattle.dsql_pool.specs.declared.conn.Place.{Place}
 use Rattle.dsql_pool.specs.declared.conn.Place.TheVariants.{Idle, Lent, Opening, Closing}
 use Rattle.dsql_pool.specs.declared.moves.Move.{Move}
 use Rattle.dsql_pool.specs.declared.moves.Move.TheVariants.{OpenStart, Lend, Back, CloseStart, Gone, Fell}
+use Rattle.dsql_pool.specs.declared.moves.CloseCause.{CloseCause}
 use Rattle.dsql_pool.specs.declared.moves.CloseCause.TheVariants.{DbClosed, IdleFull}
 use Rattle.dsql_pool.specs.declared.moves.Outcome.{Outcome}
 use Rattle.dsql_pool.specs.declared.moves.Outcome.TheVariants.{Closes, Serves, Rests}
-use Rattle.dsql_pool.specs.Calls.{then_openings, moves_opened, moves_failed, moves_closed, open_set, idle_set}
-use Rattle.dsql_pool.specs.Decisions.{openings, due_openings, lends_to_oldest, moves_back, moves_unwanted, when_opened, when_unwanted, when_given_back, falls_to, closings_of_setting}
-use Rattle.dsql_pool.specs.Moved.{made}
+use Rattle.dsql_pool.specs.Calls.{then_openings, moves_opened, moves_failed, moves_closed, open_set, idle_set, lifetime_set, idle_time_set}
+use Rattle.dsql_pool.specs.Decisions.{openings, due_openings, lends_to_oldest, moves_back, moves_unwanted, when_opened, when_unwanted, when_given_back, falls_to, closings_of_setting, closings_of_tick, closing_for, cause_at}
+use Rattle.dsql_pool.specs.Moved.{made, ticked}
+use Rattle.dsql_pool.specs.Places.{conn_of}
 use Rattle.dsql_pool.specs.Pooled.{Pooled, next_tenure, most_open, place_at}
 use Rattle.dsql_pool.specs.Rest.{AtRest}
 use Rattle.dsql_history.specs.declared.event.Event.{Event}
-use Rattle.dsql_history.specs.declared.event.Event.TheVariants.{Run, Entered, Heard, Pool, Waits, SetLimit, Replied, Ended}
+use Rattle.dsql_history.specs.declared.event.Event.TheVariants.{Run, Entered, Heard, Pool, Waits, Ticked, SetLimit, Replied, Ended}
 use Rattle.dsql_history.specs.declared.event.Op.TheVariants.{Exec, Query, One, Next, Scan, RowsClose, Err, DbClose, Stats}
-use Rattle.dsql_history.specs.declared.event.Setting.{Setting}
-use Rattle.dsql_history.specs.declared.event.Setting.TheVariants.{MaxOpen, MaxIdle}
+use Rattle.dsql_history.specs.declared.event.Control.{Control}
+use Rattle.dsql_history.specs.declared.event.Setting.TheVariants.{MaxOpen, MaxIdle, MaxLife, MaxIdleTime}
+use Rattle.dsql_history.specs.declared.event.Control.TheVariants.{Tick, Set}
 use Rattle.dsql_history.specs.Readers.Pool.{pool, place}
-use Rattle.dsql_history.specs.Readers.Owed.{fate, given_back, answered, limit_set, leaving, left_of, owed}
+use Rattle.dsql_history.specs.Readers.Owed.{fate, given_back, answered, controlled, leaving, left_of, owed}
 use Rattle.dsql_history.specs.Rules.Settled.{owes_nothing}
 use Rattle.dsql_history.specs.Legal.{Lawful}
 use Rattle.dsql_laws.proofs.AtRest.{rests_owing_nothing, before_event, rested}
@@ -102,11 +105,26 @@ surplus_few p =
     let few = length_take k p.idle in
     omega (arith, same, few)
 
-limit_few : (s : Setting) (n : ℤ) (p : Pooled) → length p.idle ≤ most_open → length (limit_set s n p) ≤ most_moves
-limit_few MaxOpen n p h =
+chosen_few : (g : ℕ → Option CloseCause) (cs : List ℕ) → length (filter_map (λ c. closing_for c (g c)) cs) ≤ length cs
+chosen_few g [] = omega arith
+chosen_few g (c ∷ cs) =
+    let few = chosen_few g cs in
+    elim (g c) as (λ (o : Option CloseCause). length (cons_option (closing_for c o) (filter_map (λ d. closing_for d (g d)) cs)) ≤ length (c ∷ cs)) [
+      | None ↦ omega (arith, few)
+      | Some why ↦ omega (arith, few)
+    ]
+
+outdated_few : (p : Pooled) → length (closings_of_tick p) ≤ length p.idle
+outdated_few p = chosen_few (λ c. cause_at p.limits p.moment (conn_of c p.conns)) p.idle
+
+control_few : (control : Control) (p : Pooled) → length p.idle ≤ most_open → length (controlled control p) ≤ most_moves
+control_few (Tick n) p h = let few = outdated_few (ticked n p) in omega (arith, few, h)
+control_few (Set MaxOpen n) p h =
     let surplus = surplus_few (open_set n p) in
     then_few (closings_of_setting (open_set n p)) (open_set n p) most_open (omega (arith, surplus, h))
-limit_few MaxIdle n p h = let surplus = surplus_few (idle_set n p) in omega (arith, surplus, h)
+control_few (Set MaxIdle n) p h = let surplus = surplus_few (idle_set n p) in omega (arith, surplus, h)
+control_few (Set MaxLife n) p h = let few = outdated_few (lifetime_set n p) in omega (arith, few, h)
+control_few (Set MaxIdleTime n) p h = let few = outdated_few (idle_time_set n p) in omega (arith, few, h)
 
 drop_few : {A : Type 0} (xs : List A) → length (drop 1 xs) ≤ length xs
 drop_few [] = omega arith
@@ -139,7 +157,8 @@ next_few H (Entered client n Stats) h k = omega arith
 next_few H (Heard e) h k = answered_few e.answer e.conn (pool H) (place H e.conn)
 next_few H (Pool m) h k = left_few H m (owed H) k
 next_few H (Waits n) h k = omega arith
-next_few H (SetLimit s n) h k = limit_few s n (pool H) h
+next_few H (Ticked now) h k = control_few (Tick now) (pool H) h
+next_few H (SetLimit s n) h k = control_few (Set s n) (pool H) h
 next_few H (Replied n reply) h k = omega arith
 next_few H Ended h k = closed_few (pool H) h
 
@@ -160,6 +179,7 @@ few_owed (Run version can ∷ H) l = omega arith
 few_owed (Entered client n op ∷ H) l = next_few H (Entered client n op) (idle_below H l.0 (before_event H (Entered client n op) refl l.1 (rested H l.0))) (few_owed H l.0)
 few_owed (Heard e ∷ H) l = next_few H (Heard e) (idle_below H l.0 (before_event H (Heard e) refl l.1 (rested H l.0))) (few_owed H l.0)
 few_owed (Waits n ∷ H) l = omega arith
+few_owed (Ticked now ∷ H) l = next_few H (Ticked now) (idle_below H l.0 (before_event H (Ticked now) refl l.1 (rested H l.0))) (few_owed H l.0)
 few_owed (SetLimit s n ∷ H) l = next_few H (SetLimit s n) (idle_below H l.0 (before_event H (SetLimit s n) refl l.1 (rested H l.0))) (few_owed H l.0)
 few_owed (Replied n reply ∷ H) l = omega arith
 few_owed (Ended ∷ H) l = next_few H Ended (idle_below H l.0 (before_event H Ended refl l.1 (rested H l.0))) (few_owed H l.0)

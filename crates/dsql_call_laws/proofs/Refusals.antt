@@ -14,7 +14,7 @@ use Rattle.dsql_pool.specs.declared.moves.Move.TheVariants.{OpenStart, Lend, Bac
 use Rattle.dsql_pool.specs.Calls.{moves_opened, moves_failed}
 use Rattle.dsql_pool.specs.Pooled.{place_at}
 use Rattle.dsql_history.specs.declared.event.Event.{Event}
-use Rattle.dsql_history.specs.declared.event.Event.TheVariants.{Run, Entered, Heard, Pool, Waits, SetLimit, Replied, Ended}
+use Rattle.dsql_history.specs.declared.event.Event.TheVariants.{Run, Entered, Heard, Pool, Waits, Ticked, SetLimit, Replied, Ended}
 use Rattle.dsql_history.specs.declared.record.Try.{Try}
 use Rattle.dsql_history.specs.declared.record.Try.TheVariants.{Served, Refused}
 use Rattle.dsql_history.specs.Readers.Calls.{reply_to}
@@ -68,6 +68,7 @@ newest_told (Run version can ∷ H) c n l a = refl
 newest_told (Entered client m op ∷ H) c n l a = refl
 newest_told (Pool m ∷ H) c n l a = refl
 newest_told (Waits m ∷ H) c n l a = refl
+newest_told (Ticked now ∷ H) c n l a = refl
 newest_told (SetLimit s k ∷ H) c n l a = refl
 newest_told (Replied m reply ∷ H) c n l a = refl
 newest_told (Ended ∷ H) c n l a = refl
@@ -96,6 +97,7 @@ refusal_told (Pool (Fell c m) ∷ H) n a earlier l is = by (refusal_told H n a e
     by rest (inl now) = let same : newest_answer H ≡ a = cc in subst (λ b. is_some (reply_to b) ≡ true) same (newest_told H c m l.0 l.1)
     by rest (inr k) = rest k
 refusal_told (Waits m ∷ H) n a earlier l is = refusal_told H n a earlier l.0 is
+refusal_told (Ticked now ∷ H) n a earlier l is = refusal_told H n a earlier l.0 is
 refusal_told (SetLimit s k ∷ H) n a earlier l is = refusal_told H n a earlier l.0 is
 refusal_told (Replied m reply ∷ H) n a earlier l is = refusal_told H n a earlier l.0 is
 refusal_told (Ended ∷ H) n a earlier l is = refusal_told H n a earlier l.0 is

@@ -13,7 +13,7 @@ use Rattle.dsql_work.specs.declared.work.Work.TheVariants.{HandOut, Fetch, Close
 use Rattle.dsql_work.specs.HandedOut.{Made, rows_at_end}
 use Rattle.dsql_work.specs.Works.{maker}
 use Rattle.dsql_history.specs.declared.event.Event.{Event}
-use Rattle.dsql_history.specs.declared.event.Event.TheVariants.{Run, Entered, Heard, Pool, Waits, SetLimit, Replied, Ended}
+use Rattle.dsql_history.specs.declared.event.Event.TheVariants.{Run, Entered, Heard, Pool, Waits, Ticked, SetLimit, Replied, Ended}
 use Rattle.dsql_history.specs.declared.event.Op.{Op}
 use Rattle.dsql_history.specs.declared.event.Op.TheVariants as ops
 use Rattle.dsql_history.specs.Readers.HandedOut.{rows_heard, rows_entered, handed_out, live, are_live, caller, ended_at, ender}
@@ -125,6 +125,7 @@ ends_work H (Heard e) n l was now some = fetches_only (work H e.call_no) e.call_
 ends_work H (Run version can) n l was now some = absurd (some refl)
 ends_work H (Pool m) n l was now some = absurd (some refl)
 ends_work H (Waits m) n l was now some = absurd (some refl)
+ends_work H (Ticked moment) n l was now some = absurd (some refl)
 ends_work H (SetLimit s k) n l was now some = absurd (some refl)
 ends_work H (Replied m reply) n l was now some = absurd (some refl)
 ends_work H Ended n l was now some = absurd (some refl)

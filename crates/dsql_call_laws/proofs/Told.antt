@@ -10,16 +10,17 @@ use Rattle.dsql_pool.specs.Moved.{begun, joined, moved}
 use Rattle.dsql_pool.specs.Pooled.{Pooled}
 use Rattle.dsql_work.specs.Works as works
 use Rattle.dsql_history.specs.declared.event.Event.{Event}
-use Rattle.dsql_history.specs.declared.event.Event.TheVariants.{Run, Entered, Heard, Pool, Waits, SetLimit, Replied, Ended}
+use Rattle.dsql_history.specs.declared.event.Event.TheVariants.{Run, Entered, Heard, Pool, Waits, Ticked, SetLimit, Replied, Ended}
 use Rattle.dsql_history.specs.declared.event.Op.{Op}
 use Rattle.dsql_history.specs.declared.event.Op.TheVariants.{Exec, Query, One, Next, Scan, RowsClose, Err, DbClose, Stats}
-use Rattle.dsql_history.specs.declared.event.Setting.{Setting}
-use Rattle.dsql_history.specs.declared.event.Setting.TheVariants.{MaxOpen, MaxIdle}
+use Rattle.dsql_history.specs.declared.event.Control.{Control}
+use Rattle.dsql_history.specs.declared.event.Setting.TheVariants.{MaxOpen, MaxIdle, MaxLife, MaxIdleTime}
+use Rattle.dsql_history.specs.declared.event.Control.TheVariants.{Tick, Set}
 use Rattle.dsql_history.specs.declared.reply.Reply.{Reply}
 use Rattle.dsql_history.specs.Same.{is_first}
 use Rattle.dsql_history.specs.Readers.Calls.{calls, call_record, nobody, decided, reply_due, told_by_others}
 use Rattle.dsql_history.specs.Readers.Owed.{owed}
-use Rattle.dsql_history.specs.Readers.Pool.{pool, place, request, wanted_by, with_limit}
+use Rattle.dsql_history.specs.Readers.Pool.{pool, place, request, wanted_by, with_control}
 use Rattle.dsql_history.specs.Readers.Tries.{tries, has_a_try}
 use Rattle.dsql_history.specs.Readers.Unfinished.{is_unfinished}
 use Rattle.dsql_history.specs.Readers.Works.{work}
@@ -53,9 +54,12 @@ asks_undecided H n may =
     let d = both (not (wants n p)) (is_none (reply_due H n)) c.1 in
     neither_settled (decided H n) (told_by_others H n) d.1
 
-same_limit : (s : Setting) (k : ℤ) (n : ℕ) (p : Pooled) → wanted n (with_limit s k p) ≡ wanted n p
-same_limit MaxOpen k n p = refl
-same_limit MaxIdle k n p = refl
+same_control : (control : Control) (n : ℕ) (p : Pooled) → wanted n (with_control control p) ≡ wanted n p
+same_control (Tick k) n p = refl
+same_control (Set MaxOpen k) n p = refl
+same_control (Set MaxIdle k) n p = refl
+same_control (Set MaxLife k) n p = refl
+same_control (Set MaxIdleTime k) n p = refl
 
 asked_undecided : (H : List Event) (k n : ℕ) → (k ≡ n) → may_ask H k ≡ true → decided H n ≡ None
 asked_undecided H k n same may = subst (λ m. decided H m ≡ None) same (asks_undecided H k may)
@@ -152,7 +156,8 @@ wanting_undecided (Waits k ∷ H) n l some now =
     let keeps = keeps_of H (Waits k) l.1 in
     let a = both (may_ask H k) (is_queued (ask_outcome H k)) keeps.asking in
     joins_undecided H k n a.0 (wanting_undecided H n l.0 some) now
-wanting_undecided (SetLimit s k ∷ H) n l some now = let same = same_limit s k n (pool H) in wanting_undecided H n l.0 some (omega (arith, same, now))
+wanting_undecided (Ticked moment ∷ H) n l some now = let same = same_control (Tick moment) n (pool H) in wanting_undecided H n l.0 some (omega (arith, same, now))
+wanting_undecided (SetLimit s k ∷ H) n l some now = let same = same_control (Set s k) n (pool H) in wanting_undecided H n l.0 some (omega (arith, same, now))
 wanting_undecided (Replied m reply ∷ H) n l some now = replied_undecided H m reply n (wanting_undecided H n l.0 some now)
 wanting_undecided (Ended ∷ H) n l some now = let few = shut_wants n (pool H) in wanting_undecided H n l.0 some (omega (arith, few, now))
 

@@ -20,16 +20,17 @@ use Rattle.dsql_pool.proofs.Found.{found_changed}
 use Rattle.dsql_pool.proofs.Frees.{passing, count-cons}
 use Rattle.dsql_work.specs.Works as works
 use Rattle.dsql_history.specs.declared.event.Event.{Event}
-use Rattle.dsql_history.specs.declared.event.Event.TheVariants.{Run, Entered, Heard, Pool, Waits, SetLimit, Replied, Ended}
+use Rattle.dsql_history.specs.declared.event.Event.TheVariants.{Run, Entered, Heard, Pool, Waits, Ticked, SetLimit, Replied, Ended}
 use Rattle.dsql_history.specs.declared.event.Op.TheVariants.{Exec, Query, One, Next, Scan, RowsClose, Err, DbClose, Stats}
-use Rattle.dsql_history.specs.declared.event.Setting.{Setting}
-use Rattle.dsql_history.specs.declared.event.Setting.TheVariants.{MaxOpen, MaxIdle}
+use Rattle.dsql_history.specs.declared.event.Control.{Control}
+use Rattle.dsql_history.specs.declared.event.Setting.TheVariants.{MaxOpen, MaxIdle, MaxLife, MaxIdleTime}
+use Rattle.dsql_history.specs.declared.event.Control.TheVariants.{Tick, Set}
 use Rattle.dsql_history.specs.declared.record.Try.{Try}
 use Rattle.dsql_history.specs.declared.record.Try.TheVariants.{Served, Refused}
 use Rattle.dsql_history.specs.Same.{is_first}
 use Rattle.dsql_history.specs.Readers.Calls.{reply_due}
 use Rattle.dsql_history.specs.Readers.Owed.{owed}
-use Rattle.dsql_history.specs.Readers.Pool.{pool, place, request, wanted_by, with_limit}
+use Rattle.dsql_history.specs.Readers.Pool.{pool, place, request, wanted_by, with_control}
 use Rattle.dsql_history.specs.Readers.Tries.{tries, with_try, newest_answer, has_a_try}
 use Rattle.dsql_history.specs.Readers.Unfinished.{is_unfinished}
 use Rattle.dsql_history.specs.Readers.Works.{work}
@@ -141,9 +142,12 @@ fallen_unwanting H c n l some = let f = falls H c n l.1 in by f.wanted f.opening
             let few = gone_fewer (is_opening_for n) c p.conns in
             omega (arith, counted, first, all, none, one, apart, few)
 
-same_limit : (s : Setting) (k : ℤ) (n : ℕ) (p : Pooled) → wanted n (with_limit s k p) ≡ wanted n p
-same_limit MaxOpen k n p = refl
-same_limit MaxIdle k n p = refl
+same_control : (control : Control) (n : ℕ) (p : Pooled) → wanted n (with_control control p) ≡ wanted n p
+same_control (Tick k) n p = refl
+same_control (Set MaxOpen k) n p = refl
+same_control (Set MaxIdle k) n p = refl
+same_control (Set MaxLife k) n p = refl
+same_control (Set MaxIdleTime k) n p = refl
 
 asked_untried : (H : List Event) (k n : ℕ) → (k ≡ n) → may_ask H k ≡ true → length (tries H n) ≡ 0
 asked_untried H k n same may = subst (λ m. length (tries H m) ≡ 0) same (asks_untried H k may)
@@ -219,7 +223,8 @@ wanting_untried (Waits k ∷ H) n l some now =
     let keeps = keeps_of H (Waits k) l.1 in
     let a = both (may_ask H k) (is_queued (ask_outcome H k)) keeps.asking in
     joins_untried H k n a.0 (wanting_untried H n l.0 some) now
-wanting_untried (SetLimit s k ∷ H) n l some now = let same = same_limit s k n (pool H) in wanting_untried H n l.0 some (omega (arith, same, now))
+wanting_untried (Ticked moment ∷ H) n l some now = let same = same_control (Tick moment) n (pool H) in wanting_untried H n l.0 some (omega (arith, same, now))
+wanting_untried (SetLimit s k ∷ H) n l some now = let same = same_control (Set s k) n (pool H) in wanting_untried H n l.0 some (omega (arith, same, now))
 wanting_untried (Replied m reply ∷ H) n l some now = wanting_untried H n l.0 some now
 wanting_untried (Ended ∷ H) n l some now = let few = shut_wants n (pool H) in wanting_untried H n l.0 some (omega (arith, few, now))
 

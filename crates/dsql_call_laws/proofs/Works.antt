@@ -10,7 +10,7 @@ use Rattle.dsql_work.specs.declared.work.Work.{Work}
 use Rattle.dsql_work.specs.declared.work.Work.TheVariants.{Look}
 use Rattle.dsql_call_laws.proofs.Lists.{row_old, row_off, row_new, has-without, has_push}
 use Rattle.dsql_history.specs.declared.event.Event.{Event}
-use Rattle.dsql_history.specs.declared.event.Event.TheVariants.{Run, Entered, Heard, Pool, Waits, SetLimit, Replied, Ended}
+use Rattle.dsql_history.specs.declared.event.Event.TheVariants.{Run, Entered, Heard, Pool, Waits, Ticked, SetLimit, Replied, Ended}
 use Rattle.dsql_history.specs.declared.event.Op.{Op}
 use Rattle.dsql_history.specs.declared.reply.Reply.{Reply}
 use Rattle.dsql_history.specs.Readers.Unfinished.{unfinished, is_unfinished}
@@ -35,6 +35,7 @@ work_stays H (Run version can) m h = refl
 work_stays H (Heard e) m h = refl
 work_stays H (Pool move) m h = refl
 work_stays H (Waits n) m h = refl
+work_stays H (Ticked now) m h = refl
 work_stays H (SetLimit s n) m h = refl
 work_stays H (Replied n reply) m h = refl
 work_stays H Ended m h = refl
@@ -52,6 +53,7 @@ as_many (Replied n reply ∷ H) = as_many H ∙ sym (length-set (calls H) n _)
 as_many (Run version can ∷ H) = as_many H
 as_many (Pool m ∷ H) = as_many H
 as_many (Waits n ∷ H) = as_many H
+as_many (Ticked now ∷ H) = as_many H
 as_many (SetLimit s n ∷ H) = as_many H
 as_many (Ended ∷ H) = as_many H
 

@@ -8,6 +8,8 @@ pub mod Waiting
 pub mod DamagedWaiting
 pub mod Closing
 pub mod DamagedClosing
+pub mod Times
+pub mod DamagedTimes
 pub mod Reports
 pub mod ReportsOfRows
 pub mod DamagedCourse

@@ -15,9 +15,9 @@ use Rattle.dsql_pool.specs.declared.moves.CloseCause.{CloseCause}
 use Rattle.dsql_pool.specs.declared.moves.Move.TheVariants.{OpenStart, Lend, Back, CloseStart, Gone, Fell}
 use Rattle.dsql_work.specs.Caps.{all_caps}
 use Rattle.dsql_history.specs.declared.event.Event.{Event}
-use Rattle.dsql_history.specs.declared.event.Event.TheVariants.{Run, Entered, Heard, Pool, SetLimit}
+use Rattle.dsql_history.specs.declared.event.Event.TheVariants.{Run, Entered, Heard, Pool, Ticked, SetLimit}
 use Rattle.dsql_history.specs.declared.event.Op.TheVariants as ops
-use Rattle.dsql_history.specs.declared.event.Setting.TheVariants.{MaxOpen, MaxIdle}
+use Rattle.dsql_history.specs.declared.event.Setting.TheVariants.{MaxOpen, MaxIdle, MaxLife, MaxIdleTime}
 use Rattle.dsql_history.specs.declared.reply.Reply.{Reply}
 use Rattle.dsql_history.specs.declared.reply.Reply.TheVariants as replies
 
@@ -117,6 +117,15 @@ sets_open n = SetLimit MaxOpen (pos n)
 abbrev pub sets_idle : ℕ → Event
 sets_idle n = SetLimit MaxIdle (pos n)
 
+abbrev pub sets_life : ℕ → Event
+sets_life d = SetLimit MaxLife (pos d)
+
+abbrev pub sets_idle_time : ℕ → Event
+sets_idle_time d = SetLimit MaxIdleTime (pos d)
+
+abbrev pub ticks : ℕ → Event
+ticks now = Ticked now
+
 abbrev pub open_start : ℕ → ℕ → Event
 open_start c n = Pool (OpenStart c n)
 
@@ -147,3 +156,13 @@ sent c t n m call answer = Heard (record { conn = c; tenure = t; owner = Call n;
 abbrev pub stats : ℕ → ℕ → ℕ → ℕ → ℕ → ℕ → Reply
 stats most opened used idles waits closed =
     replies.Stats (record { max_open_connections = most; open_connections = opened; in_use = used; idle = idles; wait_count = waits; wait_duration = 0; max_idle_closed = closed; max_idle_time_closed = 0; max_lifetime_closed = 0 })
+
+-- nothing is open any more: so many closed as idle for too long, and so many as open for too long
+abbrev pub stats_of_times : ℕ → ℕ → Reply
+stats_of_times idle_out expired =
+    replies.Stats (record { max_open_connections = 0; open_connections = 0; in_use = 0; idle = 0; wait_count = 0; wait_duration = 0; max_idle_closed = 0; max_idle_time_closed = idle_out; max_lifetime_closed = expired })
+
+-- one connection may be open, and is idle; a call waited for it, for so many nanoseconds
+abbrev pub stats_of_a_wait : ℕ → Reply
+stats_of_a_wait waited =
+    replies.Stats (record { max_open_connections = 1; open_connections = 1; in_use = 0; idle = 1; wait_count = 1; wait_duration = waited; max_idle_closed = 0; max_idle_time_closed = 0; max_lifetime_closed = 0 })

@@ -8,4 +8,5 @@ pub mod limit;
 pub mod reports;
 pub mod rows;
 pub mod steps;
+pub mod times;
 pub mod waiting;

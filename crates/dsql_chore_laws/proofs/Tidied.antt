@@ -15,7 +15,7 @@ use Rattle.dsql_work.specs.declared.work.Work.TheVariants.{Fetch, HandOut, Look}
 use Rattle.dsql_work.specs.HandedOut.{Made}
 use Rattle.dsql_work.specs.Works.{maker}
 use Rattle.dsql_history.specs.declared.event.Event.{Event}
-use Rattle.dsql_history.specs.declared.event.Event.TheVariants.{Run, Entered, Heard, Pool, Waits, SetLimit, Replied, Ended}
+use Rattle.dsql_history.specs.declared.event.Event.TheVariants.{Run, Entered, Heard, Pool, Waits, Ticked, SetLimit, Replied, Ended}
 use Rattle.dsql_history.specs.declared.event.Op.{Op}
 use Rattle.dsql_history.specs.declared.event.Op.TheVariants as ops
 use Rattle.dsql_history.specs.Readers.Course.{has_ended}
@@ -87,6 +87,7 @@ unmade H Ended n none = ap over (rows_at_end_of (handed_out H) n) ∙ mapped (en
 unmade H (Run version can) n none = plain (rows_by H n) none
 unmade H (Pool m) n none = plain (rows_by H n) none
 unmade H (Waits m) n none = plain (rows_by H n) none
+unmade H (Ticked now) n none = plain (rows_by H n) none
 unmade H (SetLimit s k) n none = plain (rows_by H n) none
 unmade H (Replied m reply) n none = plain (rows_by H n) none
 
@@ -117,6 +118,7 @@ layer_looks (Run version can ∷ H) l = layer_looks H l.0
 layer_looks (Heard e ∷ H) l = layer_looks H l.0
 layer_looks (Pool m ∷ H) l = layer_looks H l.0
 layer_looks (Waits k ∷ H) l = layer_looks H l.0
+layer_looks (Ticked now ∷ H) l = layer_looks H l.0
 layer_looks (SetLimit s k ∷ H) l = layer_looks H l.0
 layer_looks (Replied m reply ∷ H) l = layer_looks H l.0
 layer_looks (Ended ∷ H) l = layer_looks H l.0
@@ -132,6 +134,7 @@ ended_now H (Heard e) n l was now none =
 ended_now H (Run version can) n l was now none = absurd (never (sym was ∙ now))
 ended_now H (Pool m) n l was now none = absurd (never (sym was ∙ now))
 ended_now H (Waits m) n l was now none = absurd (never (sym was ∙ now))
+ended_now H (Ticked moment) n l was now none = absurd (never (sym was ∙ now))
 ended_now H (SetLimit s k) n l was now none = absurd (never (sym was ∙ now))
 ended_now H (Replied m reply) n l was now none = absurd (never (sym was ∙ now))
 

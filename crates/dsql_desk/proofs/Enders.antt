@@ -17,7 +17,7 @@ use Rattle.dsql_work.specs.declared.work.Work.TheVariants.{HandOut, Fetch}
 use Rattle.dsql_work.specs.HandedOut.{Made, after_fetch}
 use Rattle.dsql_work.specs.Works.{maker}
 use Rattle.dsql_history.specs.declared.event.Event.{Event}
-use Rattle.dsql_history.specs.declared.event.Event.TheVariants.{Run, Entered, Heard, Pool, Waits, SetLimit, Replied, Ended}
+use Rattle.dsql_history.specs.declared.event.Event.TheVariants.{Run, Entered, Heard, Pool, Waits, Ticked, SetLimit, Replied, Ended}
 use Rattle.dsql_history.specs.declared.event.Op.TheVariants.{RowsClose}
 use Rattle.dsql_history.specs.Readers.HandedOut.{handed_out, rows_by, rows_heard, fetched, live, are_live, caller, ended_at, ender}
 use Rattle.dsql_history.specs.Readers.Unfinished.{is_unfinished}
@@ -95,6 +95,7 @@ goes H Ended n = rw (changes_each (ended_by ends.EndOfRun) n (handed_out H)) (ma
 goes H (Run version can) n = stays (rows_by H n)
 goes H (Pool move) n = stays (rows_by H n)
 goes H (Waits m) n = stays (rows_by H n)
+goes H (Ticked now) n = stays (rows_by H n)
 goes H (SetLimit setting k) n = stays (rows_by H n)
 goes H (Replied m reply) n = stays (rows_by H n)
 

@@ -17,22 +17,24 @@ use Rattle.dsql_pool.specs.declared.moves.Move.{Move}
 use Rattle.dsql_pool.specs.declared.moves.Move.TheVariants.{Back, CloseStart, Gone, Fell}
 use Rattle.dsql_pool.specs.declared.moves.Outcome.{Outcome}
 use Rattle.dsql_pool.specs.declared.moves.Outcome.TheVariants.{Closes, Serves, Rests}
-use Rattle.dsql_pool.specs.Calls.{wants, then_openings, moves_opened, moves_failed, open_set, idle_set, moves_closed}
-use Rattle.dsql_pool.specs.Moved.{made, shut}
+use Rattle.dsql_pool.specs.Calls.{wants, then_openings, moves_opened, moves_failed, open_set, idle_set, lifetime_set, idle_time_set, moves_closed}
+use Rattle.dsql_pool.specs.Moved.{made, shut, ticked}
 use Rattle.dsql_pool.specs.Decisions.{closings_of_setting, due_openings, falls_to, lends_to_oldest, moves_back, moves_unwanted, oldest_call, openings, when_given_back, when_opened, when_unwanted}
 use Rattle.dsql_pool.specs.Places.{conn_of, is_for}
 use Rattle.dsql_pool.specs.Pooled.{Pooled, next_number, next_tenure, place_at}
 use Rattle.dsql_history.specs.declared.event.Event.{Event}
-use Rattle.dsql_history.specs.declared.event.Event.TheVariants.{Run, Entered, Heard, Pool, Waits, SetLimit, Replied, Ended}
-use Rattle.dsql_history.specs.declared.event.Setting.{Setting}
-use Rattle.dsql_history.specs.declared.event.Setting.TheVariants.{MaxOpen, MaxIdle}
+use Rattle.dsql_history.specs.declared.event.Event.TheVariants.{Run, Entered, Heard, Pool, Waits, Ticked, SetLimit, Replied, Ended}
+use Rattle.dsql_history.specs.declared.event.Control.{Control}
+use Rattle.dsql_history.specs.declared.event.Setting.TheVariants.{MaxOpen, MaxIdle, MaxLife, MaxIdleTime}
+use Rattle.dsql_history.specs.declared.event.Control.TheVariants.{Tick, Set}
 use Rattle.dsql_history.specs.declared.event.Op.TheVariants.{DbClose}
-use Rattle.dsql_history.specs.Readers.Owed.{answered, given_back, left_of, limit_set, owed, fate}
+use Rattle.dsql_history.specs.Readers.Owed.{answered, given_back, left_of, controlled, owed, fate}
 use Rattle.dsql_history.specs.Readers.Pool.{pool, place}
 use Rattle.dsql_history.specs.Rules.Order.{follows}
 use Rattle.dsql_history.specs.Legal.{Allowed}
 use Rattle.dsql_laws.proofs.Tests.{both, together, same_number, move_is}
 use Rattle.dsql_laws.proofs.AtRest.{keeps_of}
+use Rattle.dsql_laws.proofs.Outdated.{outdated_all}
 use Rattle.dsql_laws.proofs.OwedAllowed.{or_first, or_second}
 
 abbrev is_no_refusal : Move → Bool
@@ -57,11 +59,14 @@ closings_refuse_none : (why : CloseCause) (cs : List ℕ) → are_no_refusals (m
 closings_refuse_none why [] = refl
 closings_refuse_none why (c ∷ cs) = closings_refuse_none why cs
 
-limit_refuses_none : (s : Setting) (n : ℤ) (p : Pooled) → are_no_refusals (limit_set s n p) ≡ true
-limit_refuses_none MaxOpen n p =
+control_refuses_none : (control : Control) (p : Pooled) → are_no_refusals (controlled control p) ≡ true
+control_refuses_none (Tick n) p = outdated_all is_no_refusal (λ c why. refl) (ticked n p)
+control_refuses_none (Set MaxOpen n) p =
     let q = open_set n p in
     then_refuse_none (closings_of_setting q) q (closings_refuse_none IdleFull (take (length q.idle - q.limits.max_idle) q.idle))
-limit_refuses_none MaxIdle n p = let q = idle_set n p in closings_refuse_none IdleFull (take (length q.idle - q.limits.max_idle) q.idle)
+control_refuses_none (Set MaxIdle n) p = let q = idle_set n p in closings_refuse_none IdleFull (take (length q.idle - q.limits.max_idle) q.idle)
+control_refuses_none (Set MaxLife n) p = outdated_all is_no_refusal (λ c why. refl) (lifetime_set n p)
+control_refuses_none (Set MaxIdleTime n) p = outdated_all is_no_refusal (λ c why. refl) (idle_time_set n p)
 
 lends_refuse_none : (c t : ℕ) (rs : List Request) → are_no_refusals (lends_to_oldest c t rs) ≡ true
 lends_refuse_none c t [] = refl
@@ -108,7 +113,8 @@ owed_later [] = refl
 owed_later (Entered client n DbClose ∷ H) = later_refuse_none (moves_closed (pool H)) (closings_refuse_none DbClosed (shut (pool H)).idle)
 owed_later (Heard e ∷ H) = answered_later e.answer e.conn (pool H) (place H e.conn)
 owed_later (Pool m ∷ H) = later_refuse_none (left_of H m (owed H)) (left_refuse_none H m (owed H) (owed_later H))
-owed_later (SetLimit s n ∷ H) = later_refuse_none (limit_set s n (pool H)) (limit_refuses_none s n (pool H))
+owed_later (Ticked now ∷ H) = later_refuse_none (controlled (Tick now) (pool H)) (control_refuses_none (Tick now) (pool H))
+owed_later (SetLimit s n ∷ H) = later_refuse_none (controlled (Set s n) (pool H)) (control_refuses_none (Set s n) (pool H))
 owed_later (Ended ∷ H) = later_refuse_none (moves_closed (pool H)) (closings_refuse_none DbClosed (shut (pool H)).idle)
 owed_later (e ∷ H) = refl
 
@@ -158,9 +164,12 @@ falling_wants (Heard e ∷ H) c n a some = let keeps = keeps_of (Heard e ∷ H) 
 falling_wants (Pool m ∷ H) c n a some =
     let keeps = keeps_of (Pool m ∷ H) (Pool (Fell c n)) a in
     absurd (none_follows (left_of H m (owed H)) c n (left_refuse_none H m (owed H) (owed_later H)) keeps.order keeps.causes)
+falling_wants (Ticked now ∷ H) c n a some =
+    let keeps = keeps_of (Ticked now ∷ H) (Pool (Fell c n)) a in
+    absurd (none_follows (controlled (Tick now) (pool H)) c n (control_refuses_none (Tick now) (pool H)) keeps.order keeps.causes)
 falling_wants (SetLimit s k ∷ H) c n a some =
     let keeps = keeps_of (SetLimit s k ∷ H) (Pool (Fell c n)) a in
-    absurd (none_follows (limit_set s k (pool H)) c n (limit_refuses_none s k (pool H)) keeps.order keeps.causes)
+    absurd (none_follows (controlled (Set s k) (pool H)) c n (control_refuses_none (Set s k) (pool H)) keeps.order keeps.causes)
 falling_wants (Ended ∷ H) c n a some =
     let keeps = keeps_of (Ended ∷ H) (Pool (Fell c n)) a in
     absurd (none_follows (moves_closed (pool H)) c n (closings_refuse_none DbClosed (shut (pool H)).idle) keeps.order keeps.causes)

@@ -2,7 +2,7 @@
 use Rattle.std.proofs.Common.{◌≡◌, ◌≤◌, ◌+◌, List, [], ◌∷◌, length, length-set, length-append, sym, ap, ◌∙◌, arith}
 use Rattle.std.proofs.lemmas.List.{length-map}
 use Rattle.dsql_history.specs.declared.event.Event.{Event}
-use Rattle.dsql_history.specs.declared.event.Event.TheVariants.{Run, Entered, Heard, Pool, Waits, SetLimit, Replied, Ended}
+use Rattle.dsql_history.specs.declared.event.Event.TheVariants.{Run, Entered, Heard, Pool, Waits, Ticked, SetLimit, Replied, Ended}
 use Rattle.dsql_history.specs.Readers.Calls.{calls, entering}
 use Rattle.dsql_desk.specs.declared.call.CallRow.{CallRow}
 use Rattle.dsql_desk.specs.declared.desk.Desk.{Desk}
@@ -16,6 +16,7 @@ few_calls (Replied n reply ∷ H) = let few = few_calls H in grind (arith, lengt
 few_calls (Run version can ∷ H) = let few = few_calls H in omega (arith, few)
 few_calls (Pool m ∷ H) = let few = few_calls H in omega (arith, few)
 few_calls (Waits n ∷ H) = let few = few_calls H in omega (arith, few)
+few_calls (Ticked now ∷ H) = let few = few_calls H in omega (arith, few)
 few_calls (SetLimit s n ∷ H) = let few = few_calls H in omega (arith, few)
 few_calls (Ended ∷ H) = let few = few_calls H in omega (arith, few)
 

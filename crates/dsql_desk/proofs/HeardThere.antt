@@ -11,12 +11,13 @@ use Rattle.dsql_pool.specs.declared.moves.Move.TheVariants.{OpenStart, Lend, Bac
 use Rattle.dsql_pool.specs.Places.{conn_of, is_idle, is_opening}
 use Rattle.dsql_pool.specs.Pooled.{Pooled}
 use Rattle.dsql_history.specs.declared.event.Event.{Event}
-use Rattle.dsql_history.specs.declared.event.Event.TheVariants.{Run, Entered, Heard, Pool, Waits, SetLimit, Replied, Ended}
+use Rattle.dsql_history.specs.declared.event.Event.TheVariants.{Run, Entered, Heard, Pool, Waits, Ticked, SetLimit, Replied, Ended}
 use Rattle.dsql_history.specs.declared.event.Op.TheVariants.{Exec, Query, One, Next, Scan, RowsClose, Err, DbClose, Stats}
-use Rattle.dsql_history.specs.declared.event.Setting.{Setting}
-use Rattle.dsql_history.specs.declared.event.Setting.TheVariants.{MaxOpen, MaxIdle}
+use Rattle.dsql_history.specs.declared.event.Control.{Control}
+use Rattle.dsql_history.specs.declared.event.Setting.TheVariants.{MaxOpen, MaxIdle, MaxLife, MaxIdleTime}
+use Rattle.dsql_history.specs.declared.event.Control.TheVariants.{Tick, Set}
 use Rattle.dsql_history.specs.Readers.Journals.{heard_in}
-use Rattle.dsql_history.specs.Readers.Pool.{pool, place, with_limit}
+use Rattle.dsql_history.specs.Readers.Pool.{pool, place, with_control}
 use Rattle.dsql_history.specs.Legal.{Allowed, Lawful}
 use Rattle.dsql_work_laws.proofs.Rows.{same_or_not, row_at, row_off, row_old}
 use Rattle.dsql_lending_laws.proofs.Found.{place_in}
@@ -30,9 +31,12 @@ use Rattle.dsql_desk.specs.Exchanged.{unheard, then_heard, exchanged_in}
 use Rattle.dsql_desk.specs.Lines.{IsKept}
 use Rattle.dsql_desk.specs.Made.{all_made, made}
 
-limit_opened : (s : Setting) (k : ℤ) (p : Pooled) → (with_limit s k p).opened ≡ p.opened
-limit_opened MaxOpen k p = refl
-limit_opened MaxIdle k p = refl
+control_opened : (control : Control) (p : Pooled) → (with_control control p).opened ≡ p.opened
+control_opened (Tick k) p = refl
+control_opened (Set MaxOpen k) p = refl
+control_opened (Set MaxIdle k) p = refl
+control_opened (Set MaxLife k) p = refl
+control_opened (Set MaxIdleTime k) p = refl
 
 -- there is a row for each connection
 
@@ -56,7 +60,8 @@ made_rows (Entered client n (RowsClose rows) ∷ H) = made_rows H
 made_rows (Entered client n (Err rows) ∷ H) = made_rows H
 made_rows (Entered client n Stats ∷ H) = made_rows H
 made_rows (Waits n ∷ H) = made_rows H
-made_rows (SetLimit s k ∷ H) = let rows = made_rows H in let same = limit_opened s k (pool H) in omega (arith, rows, same)
+made_rows (Ticked now ∷ H) = let rows = made_rows H in let same = control_opened (Tick now) (pool H) in omega (arith, rows, same)
+made_rows (SetLimit s k ∷ H) = let rows = made_rows H in let same = control_opened (Set s k) (pool H) in omega (arith, rows, same)
 made_rows (Replied n reply ∷ H) = made_rows H
 made_rows (Ended ∷ H) = made_rows H
 
@@ -125,6 +130,7 @@ kept_on H (Pool (Fell d k)) c t n l a is kept = kept
 kept_on H (Run version can) c t n l a is kept = kept
 kept_on H (Entered client m op) c t n l a is kept = kept
 kept_on H (Waits m) c t n l a is kept = kept
+kept_on H (Ticked now) c t n l a is kept = kept
 kept_on H (SetLimit s m) c t n l a is kept = kept
 kept_on H (Replied m reply) c t n l a is kept = kept
 kept_on H Ended c t n l a is kept = kept

@@ -5,7 +5,7 @@ use Rattle.std.proofs.lemmas.List.{length-append}
 use Rattle.dsql_journal.specs.Readers.{has}
 use Rattle.dsql_pool.specs.Pooled.{without}
 use Rattle.dsql_history.specs.declared.event.Event.{Event}
-use Rattle.dsql_history.specs.declared.event.Event.TheVariants.{Run, Entered, Heard, Pool, Waits, SetLimit, Replied, Ended}
+use Rattle.dsql_history.specs.declared.event.Event.TheVariants.{Run, Entered, Heard, Pool, Waits, Ticked, SetLimit, Replied, Ended}
 use Rattle.dsql_history.specs.declared.event.Op.{Op}
 use Rattle.dsql_history.specs.Readers.Unfinished.{unfinished, is_unfinished}
 use Rattle.dsql_history.specs.Readers.Calls.{calls, entering, next_call, is_busy}
@@ -34,6 +34,7 @@ as_many_works (Replied n reply ∷ H) = let same = as_many_works H in grind (ari
 as_many_works (Run version can ∷ H) = as_many_works H
 as_many_works (Pool m ∷ H) = as_many_works H
 as_many_works (Waits n ∷ H) = as_many_works H
+as_many_works (Ticked now ∷ H) = as_many_works H
 as_many_works (SetLimit s n ∷ H) = as_many_works H
 as_many_works (Ended ∷ H) = as_many_works H
 
@@ -66,5 +67,6 @@ unfinished_known (Run version can ∷ H) n l is = unfinished_known H n l.0 is
 unfinished_known (Heard e ∷ H) n l is = unfinished_known H n l.0 is
 unfinished_known (Pool m ∷ H) n l is = unfinished_known H n l.0 is
 unfinished_known (Waits m ∷ H) n l is = unfinished_known H n l.0 is
+unfinished_known (Ticked now ∷ H) n l is = unfinished_known H n l.0 is
 unfinished_known (SetLimit s m ∷ H) n l is = unfinished_known H n l.0 is
 unfinished_known (Ended ∷ H) n l is = unfinished_known H n l.0 is

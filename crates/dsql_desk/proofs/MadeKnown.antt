@@ -15,7 +15,7 @@ use Rattle.dsql_work.specs.declared.work.Work.TheVariants.{HandOut, Fetch, Look}
 use Rattle.dsql_work.specs.HandedOut.{Made}
 use Rattle.dsql_work.specs.Works.{hands_out, maker}
 use Rattle.dsql_history.specs.declared.event.Event.{Event}
-use Rattle.dsql_history.specs.declared.event.Event.TheVariants.{Run, Entered, Heard, Pool, Waits, SetLimit, Replied, Ended}
+use Rattle.dsql_history.specs.declared.event.Event.TheVariants.{Run, Entered, Heard, Pool, Waits, Ticked, SetLimit, Replied, Ended}
 use Rattle.dsql_history.specs.declared.event.Op.{Op}
 use Rattle.dsql_history.specs.declared.event.Op.TheVariants.{RowsClose}
 use Rattle.dsql_history.specs.Readers.HandedOut.{handed_out, rows_by, rows_heard, rows_entered, fetched}
@@ -80,5 +80,6 @@ made_known (Ended ∷ H) n is = made_known H n (some_mapped (ended_by ends.EndOf
 made_known (Run version can ∷ H) n is = made_known H n is
 made_known (Pool m ∷ H) n is = made_known H n is
 made_known (Waits m ∷ H) n is = made_known H n is
+made_known (Ticked now ∷ H) n is = made_known H n is
 made_known (SetLimit s m ∷ H) n is = made_known H n is
 made_known (Replied m reply ∷ H) n is = made_known H n is

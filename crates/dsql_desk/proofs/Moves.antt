@@ -6,13 +6,14 @@ use Rattle.dsql_pool.specs.declared.moves.Move.{Move}
 use Rattle.dsql_pool.specs.declared.moves.Move.TheVariants.{OpenStart, Lend, Back, CloseStart, Gone, Fell}
 use Rattle.dsql_pool.specs.Pooled.{Pooled}
 use Rattle.dsql_history.specs.declared.event.Event.{Event}
-use Rattle.dsql_history.specs.declared.event.Event.TheVariants.{Run, Entered, Heard, Pool, Waits, SetLimit, Replied, Ended}
+use Rattle.dsql_history.specs.declared.event.Event.TheVariants.{Run, Entered, Heard, Pool, Waits, Ticked, SetLimit, Replied, Ended}
 use Rattle.dsql_history.specs.declared.event.Op.TheVariants.{Exec, Query, One, Next, Scan, RowsClose, Err, DbClose, Stats}
-use Rattle.dsql_history.specs.declared.event.Setting.{Setting}
-use Rattle.dsql_history.specs.declared.event.Setting.TheVariants.{MaxOpen, MaxIdle}
+use Rattle.dsql_history.specs.declared.event.Control.{Control}
+use Rattle.dsql_history.specs.declared.event.Setting.TheVariants.{MaxOpen, MaxIdle, MaxLife, MaxIdleTime}
+use Rattle.dsql_history.specs.declared.event.Control.TheVariants.{Tick, Set}
 use Rattle.dsql_history.specs.Readers.Course.{caps, db_end, has_ended}
 use Rattle.dsql_history.specs.Readers.HandedOut.{handed_out}
-use Rattle.dsql_history.specs.Readers.Pool.{pool, with_limit}
+use Rattle.dsql_history.specs.Readers.Pool.{pool, with_control}
 use Rattle.dsql_history.specs.Readers.Unfinished.{unfinished}
 use Rattle.dsql_history.specs.Readers.Works.{works}
 use Rattle.dsql_history.specs.Legal.{Calm}
@@ -61,9 +62,12 @@ pub stays_calm : (ms : List Move) (H : List Event) → Calm H → Calm (with_mov
 stays_calm [] H calm = calm
 stays_calm (m ∷ ms) H calm = stays_calm ms (Pool m ∷ H) (calm, λ outside. absurd cc)
 
-drawn_limit : (s : Setting) (n : ℤ) (p : Pooled) → (with_limit s n p).drawn ≡ p.drawn
-drawn_limit MaxOpen n p = refl
-drawn_limit MaxIdle n p = refl
+drawn_control : (control : Control) (p : Pooled) → (with_control control p).drawn ≡ p.drawn
+drawn_control (Tick n) p = refl
+drawn_control (Set MaxOpen n) p = refl
+drawn_control (Set MaxIdle n) p = refl
+drawn_control (Set MaxLife n) p = refl
+drawn_control (Set MaxIdleTime n) p = refl
 
 -- each opening and each lending is an event
 pub few_drawn : (H : List Event) → (pool H).drawn ≤ length H
@@ -86,7 +90,8 @@ few_drawn (Pool (CloseStart c why) ∷ H) = let few = few_drawn H in omega (arit
 few_drawn (Pool (Gone c) ∷ H) = let few = few_drawn H in omega (arith, few)
 few_drawn (Pool (Fell c n) ∷ H) = let few = few_drawn H in omega (arith, few)
 few_drawn (Waits n ∷ H) = let few = few_drawn H in omega (arith, few)
-few_drawn (SetLimit s n ∷ H) = let few = few_drawn H in let same = drawn_limit s n (pool H) in omega (arith, few, same)
+few_drawn (Ticked now ∷ H) = let few = few_drawn H in let same = drawn_control (Tick now) (pool H) in omega (arith, few, same)
+few_drawn (SetLimit s n ∷ H) = let few = few_drawn H in let same = drawn_control (Set s n) (pool H) in omega (arith, few, same)
 few_drawn (Replied n reply ∷ H) = let few = few_drawn H in omega (arith, few)
 few_drawn (Ended ∷ H) = let few = few_drawn H in omega (arith, few)
 

@@ -12,7 +12,7 @@ use Rattle.dsql_work.specs.declared.work.Work.{Work}
 use Rattle.dsql_work.specs.declared.work.Work.TheVariants.{Look}
 use Rattle.dsql_work.specs.Works.{asks}
 use Rattle.dsql_history.specs.declared.event.Event.{Event}
-use Rattle.dsql_history.specs.declared.event.Event.TheVariants.{Run, Entered, Heard, Pool, Waits, SetLimit, Replied, Ended}
+use Rattle.dsql_history.specs.declared.event.Event.TheVariants.{Run, Entered, Heard, Pool, Waits, Ticked, SetLimit, Replied, Ended}
 use Rattle.dsql_history.specs.declared.record.Try.{Try}
 use Rattle.dsql_history.specs.declared.record.Try.TheVariants.{Served, Refused}
 use Rattle.dsql_history.specs.Readers.Owed.{owed}
@@ -91,6 +91,7 @@ tried_known (Pool (Gone c) ∷ H) n l some tried = tried_known H n l.0 some trie
 tried_known (Run version can ∷ H) n l some tried = tried_known H n l.0 some tried
 tried_known (Heard e ∷ H) n l some tried = tried_known H n l.0 some tried
 tried_known (Waits m ∷ H) n l some tried = tried_known H n l.0 some tried
+tried_known (Ticked now ∷ H) n l some tried = tried_known H n l.0 some tried
 tried_known (SetLimit s m ∷ H) n l some tried = tried_known H n l.0 some tried
 tried_known (Replied m reply ∷ H) n l some tried = tried_known H n l.0 some tried
 tried_known (Ended ∷ H) n l some tried = tried_known H n l.0 some tried

@@ -6,7 +6,7 @@ use Rattle.dsql_driver.specs.declared.call.DriverCall.TheVariants.{Connect, Shut
 use Rattle.dsql_pool.specs.declared.moves.Move.{Move}
 use Rattle.dsql_pool.specs.declared.moves.Move.TheVariants.{Fell}
 use Rattle.dsql_history.specs.declared.event.Event.{Event}
-use Rattle.dsql_history.specs.declared.event.Event.TheVariants.{SetLimit, Waits}
+use Rattle.dsql_history.specs.declared.event.Event.TheVariants.{Ticked, SetLimit, Waits}
 use Rattle.dsql_history.specs.Readers.Tries.{newest_answer}
 use Rattle.dsql_history.specs.Legal.{Lawful, Calm}
 use Rattle.dsql_laws.specs.OwedMade.{with_moves}
@@ -50,6 +50,7 @@ pub record AddsMoves (old new : Desk) (moves : List Move) : Type 0 where
 
 -- no table but the history changes with it
 abbrev pub is_beside : Event → Bool
+is_beside (Ticked now) = true
 is_beside (SetLimit setting n) = true
 is_beside (Waits n) = true
 is_beside _ = false

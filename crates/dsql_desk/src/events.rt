@@ -7,6 +7,7 @@ ghost use Rattle.dsql_desk.specs.Desk.{past, Stands, Owes};
 ghost use Rattle.dsql_desk.specs.Heard.{Decides, HearsRows};
 ghost use Rattle.dsql_desk.specs.Starts.{Starts};
 ghost use Rattle.dsql_history.specs.Readers.Calls.{reply_due};
+ghost use Rattle.dsql_history.specs.Readers.Controls.{told, told_after};
 ghost use Rattle.dsql_history.specs.Readers.HandedOut.{handed_out};
 ghost use Rattle.dsql_history.specs.Readers.Tries.{newest_answer};
 ghost use Rattle.dsql_history.specs.Readers.Works.{work};
@@ -16,9 +17,9 @@ ghost use Rattle.dsql_history.specs.declared.event.Op.{Op};
 
 use crate::call::CallStart;
 use crate::desk::Desk;
-use crate::pooling::{answer, ask, close, give_back, set_limit};
+use crate::pooling::{answer, ask, close, control_pool, give_back};
 use dsql_driver::{DriverAnswer, DriverCall};
-use dsql_history::{DbEnd, Event, Op, Reply, Setting};
+use dsql_history::{Control, DbEnd, Event, Op, Reply};
 use dsql_journal::{Entry, Owner};
 use dsql_pool::{AskFault, Asked, Fate, Move};
 
@@ -138,25 +139,26 @@ impl Desk {
         self.add_moves(DriverAnswer::Bad);
     }
 
-    // A limit was set; what that makes due is owed.
-    fn note_limit(&mut self, setting: Setting, n: i64)
-        requires may { MayAppend self.old (Event.SetLimit setting n) }
+    // A limit or a moment was told; what that makes due is owed.
+    fn note_control(&mut self, control: Control)
+        requires may { MayAppend self.old (told control) }
         requires settled { Settled (past self.old) }
         ensures owes { Owes self.new }
         ensures paid { self.new.paid + 1 ≡ self.old.paid }
-        ensures event { past self.new ≡ Event.SetLimit setting n ∷ past self.old }
+        ensures event { past self.new ≡ told control ∷ past self.old }
     {
-        self.add_beside(Event::SetLimit(setting, n));
-        set_limit(&mut self.pool, setting, n);
+        self.add_beside(event_told(control));
+        control_pool(&mut self.pool, control);
     }
 
-    /// A limit is set, and the pool keeps to it.
-    pub fn set_limit(&mut self, setting: Setting, n: i64)
-        requires may { MayAppend self.old (Event.SetLimit setting n) }
+    /// A limit is set, or the present moment, and the pool keeps to it.
+    pub fn control(&mut self, control: Control)
+        requires may { MayAppend self.old (told_after (past self.old) control) }
         requires settled { Settled (past self.old) }
-        ensures { Appends self.old self.new (Event.SetLimit setting n) }
+        ensures { Appends self.old self.new (told_after (past self.old) control) }
     {
-        self.note_limit(setting, n);
+        let taken = self.taken(control);
+        self.note_control(taken);
         self.make_owed(DriverAnswer::Bad);
     }
 
@@ -208,6 +210,16 @@ fn opens_or_shuts(call: &DriverCall) -> bool
     ensures { result ≡ opens_or_shuts call.now }
 {
     matches!(call, DriverCall::Connect | DriverCall::Shut)
+}
+
+/// How a limit or a moment is told.
+fn event_told(control: Control) -> Event
+    ensures { result ≡ told control }
+{
+    match control {
+        Control::Tick(now) => Event::Ticked(now),
+        Control::Set(setting, n) => Event::SetLimit(setting, n),
+    }
 }
 
 /// The event that comes of a call's asking, if one does.

@@ -6,11 +6,11 @@ ghost use Rattle.dsql_pool.specs.Pooled.{place_at, most_drawn};
 ghost use Rattle.dsql_pool.specs.Moved.{made, shut};
 ghost use Rattle.dsql_pool.specs.Calls.{MayAsk, asks, moves_closed, moves_given_back};
 ghost use Rattle.dsql_pool.specs.Decisions.{ask_outcome};
-ghost use Rattle.dsql_history.specs.Readers.Owed.{answered, limit_set};
-ghost use Rattle.dsql_history.specs.Readers.Pool.{request_at, with_limit};
+ghost use Rattle.dsql_history.specs.Readers.Owed.{answered, controlled};
+ghost use Rattle.dsql_history.specs.Readers.Pool.{request_at, with_control};
 
 use dsql_driver::DriverAnswer;
-use dsql_history::Setting;
+use dsql_history::{Control, Setting};
 use dsql_journal::Owner;
 use dsql_pool::{AskFault, Asked, Fate, Place, Pool};
 use dsql_wait::Request;
@@ -52,19 +52,22 @@ pub fn close(pool: &mut Pool)
     }
 }
 
-/// Sets a limit.
-pub fn set_limit(pool: &mut Pool, setting: Setting, n: i64)
+/// Sets a limit, or the present moment.
+pub fn control_pool(pool: &mut Pool, control: Control)
     requires room { 0 < pool.old.spare }
     requires drawn { pool.old.pooled.drawn ≤ most_drawn }
-    ensures moves { pool.new.moves ≡ limit_set setting n pool.old.pooled }
-    ensures pooled { pool.new.pooled ≡ made (limit_set setting n pool.old.pooled) (with_limit setting n pool.old.pooled) }
+    ensures moves { pool.new.moves ≡ controlled control pool.old.pooled }
+    ensures pooled { pool.new.pooled ≡ made (controlled control pool.old.pooled) (with_control control pool.old.pooled) }
     ensures spare { pool.old.spare ≤ pool.new.spare + 1 }
 {
-    let set = match setting {
-        Setting::MaxOpen => pool.set_open(n),
-        Setting::MaxIdle => pool.set_idle(n),
+    let done = match control {
+        Control::Tick(now) => pool.tick(now),
+        Control::Set(Setting::MaxOpen, n) => pool.set_open(n),
+        Control::Set(Setting::MaxIdle, n) => pool.set_idle(n),
+        Control::Set(Setting::MaxLife, n) => pool.set_lifetime(n),
+        Control::Set(Setting::MaxIdleTime, n) => pool.set_idle_time(n),
     };
-    match set {
+    match done {
         Ok(()) => {}
         Err(_) => unreachable!(),
     }

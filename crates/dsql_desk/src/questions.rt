@@ -6,6 +6,7 @@ ghost use Rattle.dsql_desk.specs.Lines.{rows_worked};
 ghost use Rattle.dsql_desk.specs.Statements.{statement_of};
 ghost use Rattle.dsql_history.specs.Readers.Calls.{call_record, decided, is_busy, next_call, site, user};
 ghost use Rattle.dsql_history.specs.Readers.Clients.{call_of, client_of};
+ghost use Rattle.dsql_history.specs.Readers.Controls.{taken};
 ghost use Rattle.dsql_history.specs.Readers.HandedOut.{are_live, ender, over, rows_by};
 ghost use Rattle.dsql_history.specs.Readers.Pool.{home, is_home, place, pool, smallest};
 ghost use Rattle.dsql_history.specs.Readers.Unfinished.{is_unfinished, unfinished};
@@ -20,7 +21,7 @@ ghost use Rattle.dsql_wait.specs.Requests.{waits};
 use crate::desk::Desk;
 use crate::statement::Statement;
 use crate::{places, row};
-use dsql_history::{Aim, Place};
+use dsql_history::{Aim, Control, Place};
 use dsql_value::{Items, Memory, Txt};
 use std::alloc::Global;
 
@@ -34,6 +35,17 @@ impl Desk {
         match self.found_call(client) {
             Some(call) => call,
             None => 0,
+        }
+    }
+
+    /// What is taken of a limit or a moment: one before the present moment counts as the present one.
+    pub(crate) fn taken(&self, control: Control) -> Control
+        requires { Stands self.now }
+        ensures { result ≡ taken (past self.now) control }
+    {
+        match control {
+            Control::Tick(now) => Control::Tick(self.pool.moment().max(now)),
+            Control::Set(setting, n) => Control::Set(setting, n),
         }
     }
 

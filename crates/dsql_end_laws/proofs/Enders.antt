@@ -11,7 +11,7 @@ use Rattle.dsql_work.specs.declared.work.Work.TheVariants.{Fetch, Close}
 use Rattle.dsql_work.specs.HandedOut.{Made}
 use Rattle.dsql_work.specs.Works.{maker}
 use Rattle.dsql_history.specs.declared.event.Event.{Event}
-use Rattle.dsql_history.specs.declared.event.Event.TheVariants.{Run, Entered, Heard, Pool, Waits, SetLimit, Replied, Ended}
+use Rattle.dsql_history.specs.declared.event.Event.TheVariants.{Run, Entered, Heard, Pool, Waits, Ticked, SetLimit, Replied, Ended}
 use Rattle.dsql_history.specs.declared.event.Op.{Op}
 use Rattle.dsql_history.specs.declared.event.Op.TheVariants.{RowsClose}
 use Rattle.dsql_history.specs.Readers.HandedOut.{are_live, caller, ended_at, ender, fetched, handed_out, live, rows_entered, rows_heard}
@@ -63,6 +63,7 @@ ends_on H (Heard e) n l was now some works = fetches_on (work H e.call_no) e.cal
 ends_on H (Run version can) n l was now some works = absurd (some refl)
 ends_on H (Pool m) n l was now some works = absurd (some refl)
 ends_on H (Waits m) n l was now some works = absurd (some refl)
+ends_on H (Ticked moment) n l was now some works = absurd (some refl)
 ends_on H (SetLimit s k) n l was now some works = absurd (some refl)
 ends_on H (Replied m reply) n l was now some works = absurd (some refl)
 ends_on H Ended n l was now some works = absurd (some refl)

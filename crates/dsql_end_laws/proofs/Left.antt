@@ -11,8 +11,9 @@ use Rattle.dsql_pool.specs.Moved.{shut}
 use Rattle.dsql_pool.proofs.Found.{found_changed, KeepsNumber}
 use Rattle.dsql_pool.proofs.Placed.{found_more}
 use Rattle.dsql_history.specs.declared.event.Event.{Event}
-use Rattle.dsql_history.specs.declared.event.Event.TheVariants.{Entered, Heard, Pool, SetLimit, Ended}
+use Rattle.dsql_history.specs.declared.event.Event.TheVariants.{Entered, Heard, Pool, Ticked, SetLimit, Ended}
 use Rattle.dsql_history.specs.declared.event.Op.TheVariants.{DbClose}
+use Rattle.dsql_history.specs.declared.event.Control.TheVariants.{Tick, Set}
 use Rattle.dsql_history.specs.Readers.Journals.{journal}
 use Rattle.dsql_history.specs.Readers.Pool.{place, pool, wanted_by}
 use Rattle.dsql_history.specs.Legal.{has_left, Lawful}
@@ -20,7 +21,7 @@ use Rattle.dsql_laws.proofs.OwedAllowed.{or_first, or_second}
 use Rattle.dsql_laws.proofs.Tests.{same_itself, same_number}
 use Rattle.dsql_call_laws.proofs.Lists.{same_or_not}
 use Rattle.dsql_lending_laws.proofs.Born.{heard_open}
-use Rattle.dsql_lending_laws.proofs.Cases.{limit_conns}
+use Rattle.dsql_lending_laws.proofs.Cases.{control_conns}
 use Rattle.dsql_lending_laws.proofs.Found.{changed_off, gone_off, place_in, shut_found}
 
 -- what is open stays so until it leaves
@@ -64,7 +65,8 @@ stays_or_leaves H (Pool (Gone d)) c h = leaves_now H c d (is_some (place_of c (g
 stays_or_leaves H (Pool (Fell d k)) c h = leaves_now H c d (is_some (place_of c (gone d (pool H).conns))) (gone_or_placed c d (pool H).conns h)
 stays_or_leaves H (Entered client n DbClose) c h = inl (shut_placed c (pool H) h)
 stays_or_leaves H Ended c h = inl (shut_placed c (pool H) h)
-stays_or_leaves H (SetLimit s k) c h = inl (ap (λ conns. is_some (place_of c conns)) (limit_conns s k (pool H)) ∙ h)
+stays_or_leaves H (Ticked now) c h = inl (ap (λ conns. is_some (place_of c conns)) (control_conns (Tick now) (pool H)) ∙ h)
+stays_or_leaves H (SetLimit s k) c h = inl (ap (λ conns. is_some (place_of c conns)) (control_conns (Set s k) (pool H)) ∙ h)
 stays_or_leaves H e c h = inl h
 
 stays_left : (H : List Event) (e : Event) (c : ℕ) → has_left H c ≡ true → has_left (e ∷ H) c ≡ true

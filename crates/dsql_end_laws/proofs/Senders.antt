@@ -11,7 +11,7 @@ use Rattle.dsql_work.specs.declared.work.Work.{Work}
 use Rattle.dsql_work.specs.declared.work.Work.TheVariants.{Execute, ReadOne, HandOut, Fetch, Close, Look}
 use Rattle.dsql_work.specs.Works.{asks}
 use Rattle.dsql_history.specs.declared.event.Event.{Event}
-use Rattle.dsql_history.specs.declared.event.Event.TheVariants.{Run, Entered, Heard, Pool, Waits, SetLimit, Replied, Ended}
+use Rattle.dsql_history.specs.declared.event.Event.TheVariants.{Run, Entered, Heard, Pool, Waits, Ticked, SetLimit, Replied, Ended}
 use Rattle.dsql_history.specs.declared.reply.Reply.{Reply}
 use Rattle.dsql_history.specs.Readers.Calls.{decided}
 use Rattle.dsql_history.specs.Readers.HandedOut.{are_live, caller, ended_at, ender, live, over, rows_by}
@@ -161,6 +161,7 @@ caller_unfinished H (Heard e) l some =
 caller_unfinished H (Run version can) l some = absurd (some refl)
 caller_unfinished H (Pool m) l some = absurd (some refl)
 caller_unfinished H (Waits m) l some = absurd (some refl)
+caller_unfinished H (Ticked now) l some = absurd (some refl)
 caller_unfinished H (SetLimit s k) l some = absurd (some refl)
 caller_unfinished H (Replied m reply) l some = absurd (some refl)
 caller_unfinished H Ended l some = absurd (some refl)

@@ -14,7 +14,7 @@ use Rattle.dsql_pool.specs.Pooled.{Pooled}
 use Rattle.dsql_pool.proofs.Frees.{count-cons}
 use Rattle.dsql_work.specs.Works.{asks}
 use Rattle.dsql_history.specs.declared.event.Event.{Event}
-use Rattle.dsql_history.specs.declared.event.Event.TheVariants.{Run, Entered, Heard, Pool, Waits, SetLimit, Replied, Ended}
+use Rattle.dsql_history.specs.declared.event.Event.TheVariants.{Run, Entered, Heard, Pool, Waits, Ticked, SetLimit, Replied, Ended}
 use Rattle.dsql_history.specs.declared.event.Op.TheVariants.{DbClose}
 use Rattle.dsql_history.specs.declared.reply.DbEnd.{DbEnd}
 use Rattle.dsql_history.specs.declared.reply.Reply.{Reply}
@@ -86,6 +86,7 @@ end_closes (Run version can ∷ H) h = stays_closed H (Run version can) (end_clo
 end_closes (Heard e ∷ H) h = stays_closed H (Heard e) (end_closes H h)
 end_closes (Pool move ∷ H) h = stays_closed H (Pool move) (end_closes H h)
 end_closes (Waits n ∷ H) h = stays_closed H (Waits n) (end_closes H h)
+end_closes (Ticked now ∷ H) h = stays_closed H (Ticked now) (end_closes H h)
 end_closes (SetLimit s k ∷ H) h = stays_closed H (SetLimit s k) (end_closes H h)
 end_closes (Replied n reply ∷ H) h = stays_closed H (Replied n reply) (end_closes H h)
 

@@ -5,7 +5,7 @@ use Rattle.std.proofs.lemmas.List.{length-append}
 use Rattle.dsql_journal.specs.declared.entry.Entry.{Entry}
 use Rattle.dsql_work.specs.declared.work.Work.{Work}
 use Rattle.dsql_history.specs.declared.event.Event.{Event}
-use Rattle.dsql_history.specs.declared.event.Event.TheVariants.{Run, Entered, Heard, Pool, Waits, SetLimit, Replied, Ended}
+use Rattle.dsql_history.specs.declared.event.Event.TheVariants.{Run, Entered, Heard, Pool, Waits, Ticked, SetLimit, Replied, Ended}
 use Rattle.dsql_history.specs.declared.event.Op.{Op}
 use Rattle.dsql_history.specs.declared.record.CallRecord.{CallRecord}
 use Rattle.dsql_history.specs.Readers.Calls.{calls, decided_by, decision, entering, is_busy, next_call, nobody, with_record}
@@ -43,6 +43,7 @@ same_client H (Replied n reply) m h = with_client (calls H) n m (λ r. record r 
 same_client H (Run version can) m h = refl
 same_client H (Pool move) m h = refl
 same_client H (Waits n) m h = refl
+same_client H (Ticked now) m h = refl
 same_client H (SetLimit s k) m h = refl
 same_client H Ended m h = refl
 
@@ -53,6 +54,7 @@ old_client H (Replied n reply) m old = same_client H (Replied n reply) m refl
 old_client H (Run version can) m old = refl
 old_client H (Pool move) m old = refl
 old_client H (Waits n) m old = refl
+old_client H (Ticked now) m old = refl
 old_client H (SetLimit s k) m old = refl
 old_client H Ended m old = refl
 
@@ -63,6 +65,7 @@ more_calls H (Replied n reply) = grind (arith, length-set)
 more_calls H (Run version can) = omega arith
 more_calls H (Pool move) = omega arith
 more_calls H (Waits n) = omega arith
+more_calls H (Ticked now) = omega arith
 more_calls H (SetLimit s k) = omega arith
 more_calls H Ended = omega arith
 
@@ -86,6 +89,7 @@ unfinished_entered (Heard e ∷ H) n l u = let old = unfinished_entered H n l.0 
 unfinished_entered (Run version can ∷ H) n l u = unfinished_entered H n l.0 u
 unfinished_entered (Pool move ∷ H) n l u = unfinished_entered H n l.0 u
 unfinished_entered (Waits k ∷ H) n l u = unfinished_entered H n l.0 u
+unfinished_entered (Ticked now ∷ H) n l u = unfinished_entered H n l.0 u
 unfinished_entered (SetLimit s k ∷ H) n l u = unfinished_entered H n l.0 u
 unfinished_entered (Ended ∷ H) n l u = unfinished_entered H n l.0 u
 
@@ -167,6 +171,7 @@ one_call (Heard e ∷ H) m n l u v same = one_call H m n l.0 u v (sym (same_clie
 one_call (Run version can ∷ H) m n l u v same = one_call H m n l.0 u v same
 one_call (Pool move ∷ H) m n l u v same = one_call H m n l.0 u v same
 one_call (Waits k ∷ H) m n l u v same = one_call H m n l.0 u v same
+one_call (Ticked now ∷ H) m n l u v same = one_call H m n l.0 u v same
 one_call (SetLimit s k ∷ H) m n l u v same = one_call H m n l.0 u v same
 one_call (Ended ∷ H) m n l u v same = one_call H m n l.0 u v same
 

@@ -1,15 +1,19 @@
--- A limit that is set, and the end of the run: each may come at a free moment, and all is settled after it.
+-- A limit or a moment that is set, and the end of the run: each may come at a free moment, and all is settled after it.
 use Rattle.std.proofs.Common.{◌≡◌, ◌<◌, ◌≤◌, arith, length, ℕ, true, false, not, List, [], ◌∷◌, refl, sym, ap, subst, ◌∙◌}
-use Rattle.std.specs.Prelude.{ℤ}
+use Rattle.std.specs.Prelude.{nat_le, max}
+use Rattle.std.proofs.lemmas.Bool.Decides.{nat_tests}
 use Rattle.std.specs.List.{list_all}
 use Rattle.dsql_journal.specs.Readers.{has, is_empty}
 use Rattle.dsql_pool.specs.declared.moves.Move.{Move}
 use Rattle.dsql_history.specs.declared.event.Event.{Event}
-use Rattle.dsql_history.specs.declared.event.Event.TheVariants.{Ended, SetLimit}
-use Rattle.dsql_history.specs.declared.event.Setting.{Setting}
+use Rattle.dsql_history.specs.declared.event.Event.TheVariants.{Ended, Ticked, SetLimit}
+use Rattle.dsql_history.specs.declared.event.Control.{Control}
+use Rattle.dsql_history.specs.declared.event.Control.TheVariants.{Tick, Set}
 use Rattle.dsql_history.specs.declared.record.Flight.{Flight}
+use Rattle.dsql_history.specs.Readers.Controls.{told, taken, told_after}
 use Rattle.dsql_history.specs.Readers.Course.{has_ended}
 use Rattle.dsql_history.specs.Readers.Owed.{owed}
+use Rattle.dsql_history.specs.Readers.Pool.{pool}
 use Rattle.dsql_history.specs.Rules.Course.{keeps_course}
 use Rattle.dsql_history.specs.Rules.House.{is_quiet}
 use Rattle.dsql_history.specs.Rules.Order.{follows}
@@ -21,7 +25,7 @@ use Rattle.dsql_laws.proofs.Tests.{together}
 use Rattle.dsql_call_laws.proofs.Owed.{few_next}
 use Rattle.dsql_move_laws.proofs.Shut.{ended_used}
 use Rattle.dsql_other_laws.proofs.Ending.{all_told_of_end}
-use Rattle.dsql_other_laws.proofs.LimitMoves.{limit_others, limit_used}
+use Rattle.dsql_other_laws.proofs.ControlMoves.{control_others, control_used}
 use Rattle.dsql_desk.specs.Appending.{MayAppend}
 use Rattle.dsql_desk.specs.Desk.{past}
 use Rattle.dsql_desk.specs.declared.desk.Desk.{Desk}
@@ -29,21 +33,37 @@ use Rattle.dsql_desk.proofs.KeptOfCalls.{lawful_kept}
 use Rattle.dsql_desk.proofs.Moves.{leaves}
 use Rattle.dsql_going.specs.Reaching.{CanPay}
 use Rattle.dsql_going.specs.Stepping.{are_of_unfinished, events_of_a_step}
-use Rattle.dsql_steps.specs.Groups.{after_end, after_set}
+use Rattle.dsql_steps.specs.Groups.{after_control, after_end}
 use Rattle.dsql_engine.proofs.Flying.{begun_moved}
 
 follows_none : (ms : List Move) (e : Event) → is_empty ms ≡ true → follows ms e ≡ true
 follows_none [] e h = refl
 follows_none (m ∷ ms) e h = absurd cc
 
-course_of_limit : (H : List Event) (s : Setting) (k : ℤ) → is_empty H ≡ false → keeps_course H (SetLimit s k) ≡ true
-course_of_limit [] s k begun = absurd cc
-course_of_limit (e ∷ H) s k begun = refl
+not_back : (b n : ℕ) → nat_le b (max b n) ≡ true
+not_back b n = grind (arith, nat_tests)
 
-limit_allowed : (H : List Event) (s : Setting) (k : ℤ) → is_empty H ≡ false → Settled H → Allowed H (SetLimit s k)
+course_of_control : (H : List Event) (control : Control) → is_empty H ≡ false → keeps_course H (told_after H control) ≡ true
+course_of_control [] control begun = absurd cc
+course_of_control (e ∷ H) (Tick now) begun = together (nat_le (pool (e ∷ H)).moment (max (pool (e ∷ H)).moment now)) true (not_back (pool (e ∷ H)).moment now) refl
+course_of_control (e ∷ H) (Set s k) begun = refl
+
+told_allowed : (H : List Event) (control : Control) → keeps_course H (told control) ≡ true → Settled H → Allowed H (told control)
 unfolding Allowed
-limit_allowed H s k begun settled = record {
-  course = course_of_limit H s k begun;
+told_allowed H (Tick now) course settled = record {
+  course = course;
+  numbers = refl;
+  sets = refl;
+  limit = refl;
+  asking = refl;
+  order = follows_none (owed H) (Ticked now) settled.nothing_owed;
+  causes = refl;
+  line = refl;
+  journals = refl;
+  replies = refl;
+}
+told_allowed H (Set s k) course settled = record {
+  course = course;
   numbers = refl;
   sets = refl;
   limit = refl;
@@ -55,10 +75,14 @@ limit_allowed H s k begun settled = record {
   replies = refl;
 }
 
-settled_limit : (H : List Event) (s : Setting) (k : ℤ) → Lawful H → is_empty H ≡ false → Settled H → Settled (after_set H s k)
-settled_limit H s k l begun settled =
-    let now : Lawful (SetLimit s k ∷ H) = (l, limit_allowed H s k begun settled) in
-    record { nothing_owed = ap is_empty (owed_made (SetLimit s k ∷ H)); used = limit_used H s k now ∙ settled.used; somewhere = limit_others H s k 0 now settled.somewhere }
+control_allowed : (H : List Event) (control : Control) → is_empty H ≡ false → Settled H → Allowed H (told_after H control)
+control_allowed H control begun settled = told_allowed H (taken H control) (course_of_control H control begun) settled
+
+settled_control : (H : List Event) (control : Control) → Lawful H → is_empty H ≡ false → Settled H → Settled (after_control H control)
+settled_control H control l begun settled =
+    let took = taken H control in
+    let now : Lawful (told took ∷ H) = (l, control_allowed H control begun settled) in
+    record { nothing_owed = ap is_empty (owed_made (told took ∷ H)); used = control_used H took now ∙ settled.used; somewhere = control_others H took 0 now settled.somewhere }
 
 course_of_end : (H : List Event) → is_empty H ≡ false → is_quiet H ≡ true → has_ended H ≡ false → keeps_course H Ended ≡ true
 course_of_end [] begun quiet running = absurd cc
@@ -92,22 +116,27 @@ step_pays H e paid l settled enough = let few = few_next H e l settled.nothing_o
 pub moves_fly : (ms : List Move) (H : List Event) (flights : List Flight) → are_of_unfinished H flights ≡ true → are_of_unfinished (with_moves ms H) flights ≡ true
 moves_fly ms H flights h = let left = leaves ms H in ap (λ us. list_all (λ (flight : Flight). has flight.call us) flights) left.unfinished ∙ h
 
--- all of it after a limit that is set
-pub record AfterLimit (K : List Event) (flights : List Flight) : Type 0 where
+-- all of it after a limit or a moment that is set
+pub record AfterControl (K : List Event) (flights : List Flight) : Type 0 where
   pub settled : Settled K
   pub begun : is_empty K ≡ false
   pub flying : are_of_unfinished K flights ≡ true
 
-pub after_limit : (H : List Event) (s : Setting) (k : ℤ) (K : List Event) (flights : List Flight) → K ≡ after_set H s k → Lawful H → is_empty H ≡ false → Settled H → are_of_unfinished H flights ≡ true → AfterLimit K flights
-after_limit H s k K flights is l begun settled flying =
-    let G = SetLimit s k ∷ H in
-    subst (λ (P : List Event). AfterLimit P flights) (sym is) (record { settled = settled_limit H s k l begun settled; begun = begun_moved (owed G) G refl; flying = moves_fly (owed G) G flights flying })
+told_flying : (H : List Event) (control : Control) (flights : List Flight) → are_of_unfinished H flights ≡ true → are_of_unfinished (told control ∷ H) flights ≡ true
+told_flying H (Tick now) flights h = h
+told_flying H (Set s k) flights h = h
 
--- a limit may be set where a step may begin
-pub limit_may : (desk : Desk) (s : Setting) (k : ℤ) → CanPay desk events_of_a_step → is_empty (past desk) ≡ false → Settled (past desk) → MayAppend desk (SetLimit s k)
-limit_may desk s k pays begun settled = record {
+pub after_a_control : (H : List Event) (control : Control) (K : List Event) (flights : List Flight) → K ≡ after_control H control → Lawful H → is_empty H ≡ false → Settled H → are_of_unfinished H flights ≡ true → AfterControl K flights
+after_a_control H control K flights is l begun settled flying =
+    let G = told_after H control ∷ H in
+    subst (λ (P : List Event). AfterControl P flights) (sym is)
+    (record { settled = settled_control H control l begun settled; begun = begun_moved (owed G) G refl; flying = moves_fly (owed G) G flights (told_flying H (taken H control) flights flying) })
+
+-- a limit or a moment may be set where a step may begin
+pub control_may : (desk : Desk) (control : Control) → CanPay desk events_of_a_step → is_empty (past desk) ≡ false → Settled (past desk) → MayAppend desk (told_after (past desk) control)
+control_may desk control pays begun settled = record {
   stands = pays.stands;
-  paid = step_pays (past desk) (SetLimit s k) desk.paid (lawful_kept desk pays.stands) settled pays.paid;
-  allowed = limit_allowed (past desk) s k begun settled;
+  paid = step_pays (past desk) (told_after (past desk) control) desk.paid (lawful_kept desk pays.stands) settled pays.paid;
+  allowed = control_allowed (past desk) control begun settled;
   few = pays.few;
 }

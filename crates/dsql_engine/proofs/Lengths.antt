@@ -11,9 +11,10 @@ use Rattle.dsql_pool.specs.declared.request.Asked.TheVariants as asked
 use Rattle.dsql_pool.specs.declared.request.AskFault.{AskFault}
 use Rattle.dsql_pool.specs.declared.request.AskFault.TheVariants as faults
 use Rattle.dsql_history.specs.declared.event.Event.{Event}
-use Rattle.dsql_history.specs.declared.event.Event.TheVariants.{Entered, Heard, Pool, SetLimit, Ended}
+use Rattle.dsql_history.specs.declared.event.Event.TheVariants.{Entered, Heard, Pool, Ended}
 use Rattle.dsql_history.specs.declared.event.Op.{Op}
-use Rattle.dsql_history.specs.declared.event.Setting.{Setting}
+use Rattle.dsql_history.specs.declared.event.Control.{Control}
+use Rattle.dsql_history.specs.Readers.Controls.{told_after}
 use Rattle.dsql_history.specs.declared.reply.Reply.{Reply}
 use Rattle.dsql_history.specs.Readers.Calls.{next_call, reply_due}
 use Rattle.dsql_history.specs.Readers.Owed.{owed}
@@ -27,7 +28,7 @@ use Rattle.dsql_call_laws.proofs.Owed.{few_next}
 use Rattle.dsql_desk.proofs.Moves.{leaves}
 use Rattle.dsql_going.specs.Stepping.{events_of_a_step}
 use Rattle.dsql_hearing.proofs.Letting.{few_let_go}
-use Rattle.dsql_steps.specs.Groups.{after_end, after_enter, after_heard, after_set, after_settling, asked_so, gone_on, heard_at, let_go, most_events, sends_nothing, with_owed}
+use Rattle.dsql_steps.specs.Groups.{after_control, after_end, after_enter, after_heard, after_settling, asked_so, gone_on, heard_at, let_go, most_events, sends_nothing, with_owed}
 use Rattle.dsql_engine.specs.Core.{HasRoomForEnd}
 
 -- a call that goes on adds an event at most
@@ -103,8 +104,8 @@ room_after_enter H K client op is l settled short = room_after H K (after_enter 
 pub room_after_heard : (H K : List Event) (e : Entry) → K ≡ after_heard H e → Lawful H → Settled H → length H < most_events → HasRoomForEnd K
 room_after_heard H K e is l settled short = room_after H K (after_heard H e) is (heard_at_adds_few H e (place H e.conn) l settled) short
 
-pub room_after_limit : (H K : List Event) (s : Setting) (k : ℤ) → K ≡ after_set H s k → Lawful H → Settled H → length H < most_events → HasRoomForEnd K
-room_after_limit H K s k is l settled short = room_after H K (after_set H s k) is (rest_adds_few H (SetLimit s k) l settled) short
+pub room_after_control : (H K : List Event) (control : Control) → K ≡ after_control H control → Lawful H → Settled H → length H < most_events → HasRoomForEnd K
+room_after_control H K control is l settled short = room_after H K (after_control H control) is (rest_adds_few H (told_after H control) l settled) short
 
 -- the end comes once
 pub room_after_end : (H K : List Event) → K ≡ after_end H → HasRoomForEnd K

@@ -7,19 +7,20 @@ ghost use Rattle.dsql_history.specs.Rules.Flights.{is_in_flight};
 ghost use Rattle.dsql_history.specs.Rules.House.{is_quiet};
 ghost use Rattle.dsql_history.specs.declared.event.Event.TheVariants.{Run};
 ghost use Rattle.dsql_going.specs.Reaching.{HasGoneOn};
-ghost use Rattle.dsql_steps.specs.Groups.{after_set, after_end, gone_on, most_events};
+ghost use Rattle.dsql_steps.specs.Groups.{after_control, after_end, gone_on, most_events};
 
 mod chores;
 mod questions;
 mod steps;
 
-use crate::outside::{end_run, set_limit};
+use crate::control_fault::ControlFault;
+use crate::outside::{self, end_run};
 use crate::paying::pay;
 use dsql_desk::{Desk, NoRoom};
 use dsql_driver::Caps;
 use dsql_flights::Flights;
 use dsql_going::{Next, go_on};
-use dsql_history::Setting;
+use dsql_history::Control;
 pub use questions::Spent;
 use std::alloc::Global;
 use std::marker::Model;
@@ -86,17 +87,18 @@ impl Engine {
         Ok(go_on(&mut self.desk, &mut self.flights, call, statement))
     }
 
-    /// A limit is set, and the pool keeps to it.
-    pub fn control(&mut self, setting: Setting, n: i64) -> Result<(), NoRoom>
+    /// A limit is set, or the present moment, and the pool keeps to it. Time never goes back: a moment before the present
+    /// one counts as the present one.
+    pub fn control(&mut self, control: Control) -> Result<(), ControlFault>
         requires room { length self.old.past < most_events }
-        ensures group { OnOk result (self.new.past ≡ after_set self.old.past setting n) }
+        ensures group { OnOk result (self.new.past ≡ after_control self.old.past control) }
         ensures flights { self.new.flights ≡ self.old.flights }
         ensures chore { self.new.chore ≡ self.old.chore }
         ensures err { OnErr result (self.new ≡ self.old) }
         ensures legal { Legal self.new.past }
     {
         pay(&mut self.desk, &mut self.flights)?;
-        set_limit(&mut self.desk, setting, n);
+        outside::control(&mut self.desk, control);
         Ok(())
     }
 

@@ -1,4 +1,4 @@
-//! What comes from outside that no call asks for: a limit, and the end of the run.
+//! What comes from outside that no call asks for: a limit, the present moment, and the end of the run.
 ghost use Rattle.std.specs.Prelude.{◌≡◌, true, false};
 ghost use Rattle.dsql_journal.specs.Readers.{is_empty};
 ghost use Rattle.dsql_history.specs.Readers.Course.{has_ended};
@@ -7,20 +7,20 @@ ghost use Rattle.dsql_history.specs.Rules.Settled.{Settled};
 ghost use Rattle.dsql_desk.specs.Desk.{past, Stands};
 ghost use Rattle.dsql_going.specs.Reaching.{CanPay, Reaches};
 ghost use Rattle.dsql_going.specs.Stepping.{events_of_a_step};
-ghost use Rattle.dsql_steps.specs.Groups.{after_set, after_end};
+ghost use Rattle.dsql_steps.specs.Groups.{after_control, after_end};
 
 use dsql_desk::Desk;
-use dsql_history::Setting;
+use dsql_history::Control;
 
-/// A limit is set, and the pool keeps to it.
-pub fn set_limit(desk: &mut Desk, setting: Setting, n: i64)
+/// A limit is set, or the present moment, and the pool keeps to it.
+pub fn control(desk: &mut Desk, control: Control)
     requires pays { CanPay desk.old events_of_a_step }
     requires settled { Settled (past desk.old) }
     requires begun { is_empty (past desk.old) ≡ false }
     ensures stands { Stands desk.new }
-    ensures group { past desk.new ≡ after_set (past desk.old) setting n }
+    ensures group { past desk.new ≡ after_control (past desk.old) control }
 {
-    desk.set_limit(setting, n);
+    desk.control(control);
 }
 
 /// The run ends, and the pool closes.

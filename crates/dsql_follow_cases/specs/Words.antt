@@ -6,9 +6,11 @@ use Rattle.dsql_history.specs.declared.event.Event.{Event}
 use Rattle.dsql_history.specs.declared.event.Event.TheVariants.{Replied}
 use Rattle.dsql_history.specs.declared.event.Op.TheVariants as ops
 use Rattle.dsql_history.specs.declared.event.Setting.TheVariants.{MaxOpen}
+use Rattle.dsql_history.specs.declared.event.Control.TheVariants.{Set, Tick}
 use Rattle.dsql_cases.specs.Words.{run, exec, one_changed, told_one_changed, rows_text, house, sent}
 use Rattle.dsql_follows.specs.declared.line.Line.{Line}
-use Rattle.dsql_follows.specs.declared.line.Line.TheVariants.{Set, Client, Start}
+use Rattle.dsql_follows.specs.declared.line.Line.TheVariants as lines
+use Rattle.dsql_follows.specs.declared.line.Line.TheVariants.{Client, Start}
 use Rattle.dsql_follows.specs.Sentences.{Part}
 use Rattle.dsql_follows.specs.Follows.{Played}
 
@@ -30,7 +32,10 @@ r = codes "r"
 -- Lines.
 
 abbrev pub limits : ℕ → Line
-limits n = Set MaxOpen (pos n)
+limits n = lines.Control (Set MaxOpen (pos n))
+
+abbrev pub ticks : ℕ → Line
+ticks now = lines.Control (Tick now)
 
 abbrev pub calls_exec : ℕ → List ℕ → Line
 calls_exec client it = Client client (ops.Exec it [])

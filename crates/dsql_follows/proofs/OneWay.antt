@@ -4,13 +4,15 @@ use Rattle.std.proofs.lemmas.List.{append-nil, append_assoc, append_cancel_right
 use Rattle.std.specs.List.{list_all}
 use Rattle.dsql_journal.specs.Readers.{is_empty}
 use Rattle.dsql_history.specs.declared.event.Event.{Event}
-use Rattle.dsql_history.specs.declared.event.Event.TheVariants.{Run, Entered, Heard, SetLimit, Ended}
+use Rattle.dsql_history.specs.declared.event.Event.TheVariants.{Run, Entered, Heard, Ticked, SetLimit, Ended}
 use Rattle.dsql_history.specs.declared.event.Op.{Op}
+use Rattle.dsql_history.specs.declared.event.Control.{Control}
 use Rattle.dsql_history.specs.declared.record.Stand.{Stand}
 use Rattle.dsql_history.specs.declared.record.Stand.TheVariants.{Waits, Opens, Sends, Replies}
 use Rattle.dsql_history.specs.Rules.Stands.{stand}
 use Rattle.dsql_follows.specs.declared.line.Line.{Line}
-use Rattle.dsql_follows.specs.declared.line.Line.TheVariants.{Skip, Set, Client, Start, Step, StepHouse}
+use Rattle.dsql_follows.specs.declared.line.Line.TheVariants as lines
+use Rattle.dsql_follows.specs.declared.line.Line.TheVariants.{Skip, Client, Start, Step, StepHouse}
 use Rattle.dsql_history.specs.Readers.Clients.{call_of, is_free, client_of}
 use Rattle.dsql_history.specs.Rules.Flights.{is_in_flight}
 use Rattle.dsql_follows.specs.Moments.{Moment, Passed, met, at_end, stepping, begins_step, at_rest, rested, walk, kept}
@@ -37,6 +39,7 @@ none_in_turn m (Heard e) r h =
     (first_false (is_turn_of m (client_of m.past e.call_no)) _ (no_turn m (client_of m.past e.call_no) h))
 none_in_turn m (Entered client n op) r h = first_false (is_turn_of m client) _ (no_turn m client h)
 none_in_turn m Ended r h = first_false m.released _ r
+none_in_turn m (Ticked now) r h = refl
 none_in_turn m (SetLimit setting n) r h = refl
 none_in_turn m (Run version caps) r h = refl
 none_in_turn m e r h = first_false (is_turn_of m (client_of m.past (stepping m e))) _ (no_turn m (client_of m.past (stepping m e)) h)
@@ -145,9 +148,9 @@ released_after : (m : Moment) (events : List Event) → (walk m events).now.rele
 released_after m [] = refl
 released_after m (e ∷ rest) = released_after m rest
 
-is_set_somewhere : (line : Line) (xs : List Passed) → is_set_in line (oldest xs) ≡ true → is_empty xs ≡ false
-is_set_somewhere line [] h = absurd cc
-is_set_somewhere line (x ∷ xs) h = refl
+is_set_somewhere : (control : Control) (xs : List Passed) → is_set_in control (oldest xs) ≡ true → is_empty xs ≡ false
+is_set_somewhere control [] h = absurd cc
+is_set_somewhere control (x ∷ xs) h = refl
 
 is_entered_somewhere : (now : Bool) (client : ℕ) (xs : List Passed) → not now || is_entry_of client (oldest xs) ≡ true → now ≡ true → is_empty xs ≡ false
 is_entered_somewhere false client xs h k = absurd cc
@@ -158,9 +161,9 @@ is_entered_somewhere true client (x ∷ xs) h k = refl
 no_step_more : (m : Moment) (line : Line) (zs : List Event) (e : Event) (qe : List Event) → m.released ≡ false
     → FollowsLine m (record { line = line; events = zs ++ e ∷ qe }) → FollowsLine m (record { line = line; events = qe }) → begins_step (walk (met line m) qe).now e ≡ false
 no_step_more m Skip zs e qe r f g = runs_no_further (met Skip m) false zs e qe f.in_turn (λ k. absurd cc) (released_after (met Skip m) qe ∙ r) g.run_out
-no_step_more m (Set setting n) zs e qe r f g =
-    runs_no_further (met (Set setting n) m) true zs e qe f.in_turn (λ k. is_set_somewhere (Set setting n) (passed (met (Set setting n) m) qe) g.set)
-    (released_after (met (Set setting n) m) qe ∙ r) g.run_out
+no_step_more m (lines.Control control) zs e qe r f g =
+    runs_no_further (met (lines.Control control) m) true zs e qe f.in_turn (λ k. is_set_somewhere control (passed (met (lines.Control control) m) qe) g.set)
+    (released_after (met (lines.Control control) m) qe ∙ r) g.run_out
 no_step_more m (Client client op) zs e qe r f g =
     runs_no_further (met (Client client op) m) (enters_now m client) zs e qe f.in_turn
     (is_entered_somewhere (enters_now m client) client (passed (met (Client client op) m) qe) g.entered)

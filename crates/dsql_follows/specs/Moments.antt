@@ -5,7 +5,7 @@ use Rattle.dsql_journal.specs.Readers.{is_empty}
 use Rattle.dsql_pool.specs.declared.moves.Move.{Move}
 use Rattle.dsql_pool.specs.declared.moves.Move.TheVariants.{OpenStart, Lend}
 use Rattle.dsql_history.specs.declared.event.Event.{Event}
-use Rattle.dsql_history.specs.declared.event.Event.TheVariants.{Run, Entered, Heard, Pool, Waits, SetLimit, Replied, Ended}
+use Rattle.dsql_history.specs.declared.event.Event.TheVariants.{Run, Entered, Heard, Pool, Waits, Ticked, SetLimit, Replied, Ended}
 use Rattle.dsql_history.specs.declared.record.Flight.{Flight}
 use Rattle.dsql_history.specs.Readers.Owed.{owed}
 use Rattle.dsql_history.specs.Rules.Course.{is_run, is_from_outside}
@@ -52,6 +52,7 @@ stepping m (Waits n) = n
 stepping m (Replied n reply) = n
 stepping m (Pool move) = cond (is_empty (owed m.past)) (mover m.stepper move) m.stepper
 stepping m (Run version caps) = 0
+stepping m (Ticked now) = 0
 stepping m (SetLimit setting n) = 0
 stepping m Ended = 0
 

@@ -10,11 +10,13 @@ use Rattle.dsql_work.specs.Same.{same_truth, same_name}
 use Rattle.dsql_history.specs.declared.event.Op.{Op}
 use Rattle.dsql_history.specs.declared.event.Op.TheVariants as ops
 use Rattle.dsql_history.specs.declared.event.Setting.{Setting}
-use Rattle.dsql_history.specs.declared.event.Setting.TheVariants.{MaxOpen, MaxIdle}
+use Rattle.dsql_history.specs.declared.event.Setting.TheVariants.{MaxOpen, MaxIdle, MaxLife, MaxIdleTime}
 
 abbrev pub same_setting : Setting → Setting → Bool
 same_setting MaxOpen MaxOpen = true
 same_setting MaxIdle MaxIdle = true
+same_setting MaxLife MaxLife = true
+same_setting MaxIdleTime MaxIdleTime = true
 same_setting _ _ = false
 
 abbrev pub same_arg : Arg → Arg → Bool

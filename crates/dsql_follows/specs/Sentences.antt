@@ -5,15 +5,19 @@ use Rattle.std.specs.Ordering.{int_eq}
 use Rattle.dsql_journal.specs.Readers.{is_empty}
 use Rattle.dsql_history.specs.declared.event.Op.{Op}
 use Rattle.dsql_history.specs.declared.event.Event.{Event}
-use Rattle.dsql_history.specs.declared.event.Event.TheVariants.{Entered, Heard, SetLimit}
+use Rattle.dsql_history.specs.declared.event.Event.TheVariants.{Entered, Heard, Ticked, SetLimit}
+use Rattle.dsql_history.specs.declared.event.Control.{Control}
+use Rattle.dsql_history.specs.declared.event.Control.TheVariants.{Tick, Set}
 use Rattle.dsql_history.specs.declared.record.Stand.{Stand}
 use Rattle.dsql_history.specs.declared.record.Stand.TheVariants.{Sends}
 use Rattle.dsql_history.specs.Rules.Course.{is_from_outside}
 use Rattle.dsql_history.specs.Rules.Stands.{stand}
 use Rattle.dsql_follows.specs.declared.line.Line.{Line}
-use Rattle.dsql_follows.specs.declared.line.Line.TheVariants.{Set, Client, Start, Step, StepHouse}
+use Rattle.dsql_follows.specs.declared.line.Line.TheVariants as lines
+use Rattle.dsql_follows.specs.declared.line.Line.TheVariants.{Client, Start, Step, StepHouse}
 use Rattle.dsql_follows.specs.Same.{same_op, same_setting}
 use Rattle.dsql_history.specs.Readers.Clients.{call_of, is_free}
+use Rattle.dsql_history.specs.Readers.Controls.{taken}
 use Rattle.dsql_history.specs.declared.record.Flight.{Flight}
 use Rattle.dsql_history.specs.Rules.Flights.{is_in_flight}
 use Rattle.dsql_follows.specs.Moments.{Moment, Passed, met, stepping, begins_step, takes_permit, walk, after_events, kept}
@@ -128,19 +132,21 @@ enters_at m part line = true
 abbrev pub enters_at_once : Moment → Part → Bool
 enters_at_once m part = enters_at m part part.line
 
-abbrev pub is_set_by : Line → Event → Bool
-is_set_by (Set setting n) (SetLimit it k) = same_setting setting it && int_eq n k
-is_set_by _ _ = false
+-- the event tells it
+abbrev pub is_told : Control → Event → Bool
+is_told (Tick now) (Ticked moment) = now == moment
+is_told (Set setting n) (SetLimit it k) = same_setting setting it && int_eq n k
+is_told _ _ = false
 
-abbrev pub is_set_in : Line → Option Passed → Bool
-is_set_in line None = false
-is_set_in line (Some p) = is_set_by line p.event
+abbrev pub is_set_in : Control → Option Passed → Bool
+is_set_in control None = false
+is_set_in control (Some p) = is_told (taken p.before.past control) p.event
 
 abbrev pub sets_at : List Passed → Line → Bool
-sets_at events (Set setting n) = is_set_in (Set setting n) (oldest events)
+sets_at events (lines.Control control) = is_set_in control (oldest events)
 sets_at events line = true
 
--- the part of a line that sets a limit begins with that
+-- The part of a line that sets a limit or the moment begins with that. Time never goes back: a moment before the present one counts as the present one.
 abbrev pub sets_at_once : Moment → Part → Bool
 sets_at_once m part = sets_at (passed_in m part) part.line
 
@@ -215,11 +221,11 @@ runs_on line = true
 
 -- it makes a step of its own at once
 abbrev pub has_own_step : Moment → Line → Bool
-has_own_step m (Set setting n) = true
+has_own_step m (lines.Control control) = true
 has_own_step m (Client client op) = enters_now m client
 has_own_step m line = false
 
--- where a line runs on, each step in its part but its own comes in its turn, so no limit is set there and the run doesn't end
+-- where a line runs on, each step in its part but its own comes in its turn, so no limit and no moment is set there and the run doesn't end
 abbrev pub runs_in_turn : Moment → Part → Bool
 runs_in_turn m part = not (runs_on part.line) || come_in_turn (cond (has_own_step m part.line) (later (passed_in m part)) (passed_in m part))
 

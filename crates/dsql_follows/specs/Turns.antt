@@ -5,7 +5,7 @@ use Rattle.dsql_course.specs.Made.{or_else}
 use Rattle.dsql_journal.specs.declared.entry.Entry.{Entry}
 use Rattle.dsql_journal.specs.Readers.{has, is_empty}
 use Rattle.dsql_history.specs.declared.event.Event.{Event}
-use Rattle.dsql_history.specs.declared.event.Event.TheVariants.{Run, Entered, Heard, SetLimit, Ended}
+use Rattle.dsql_history.specs.declared.event.Event.TheVariants.{Run, Entered, Heard, Ticked, SetLimit, Ended}
 use Rattle.dsql_history.specs.Readers.Course.{has_ended}
 use Rattle.dsql_history.specs.Readers.Unfinished.{is_unfinished}
 use Rattle.dsql_history.specs.Rules.Flights.{is_in_flight, may_move}
@@ -78,6 +78,7 @@ abbrev pub comes_in_turn : Moment → Event → Bool
 comes_in_turn m (Heard e) = cond (e.call_no == 0) (is_chore m e) (is_turn_of m (client_of m.past e.call_no) && is_unfinished m.past e.call_no)
 comes_in_turn m (Entered client n op) = is_turn_of m client && is_free m.past client
 comes_in_turn m Ended = m.released && (not (has_ended m.past) && has_run_out m)
+comes_in_turn m (Ticked now) = false
 comes_in_turn m (SetLimit setting n) = false
 comes_in_turn m (Run version caps) = false
 comes_in_turn m e = goes_in_turn m (stepping m e)

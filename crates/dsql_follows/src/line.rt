@@ -1,12 +1,12 @@
-use dsql_history::{Op, Setting};
+use dsql_history::{Control, Op};
 
 /// What a line of a script asks for.
 #[derive(Clone, Debug, Drop)]
 pub enum Line {
     /// Nothing: it is empty or a comment, or it was for what comes before the run.
     Skip,
-    /// A limit is set to this number.
-    Set(Setting, i64),
+    /// A limit is set, or the present moment.
+    Control(Control),
     /// A client makes a call.
     Client { client: u8, op: Op },
     /// A client makes a call, which is held: it goes on by single steps alone, until the script ends.

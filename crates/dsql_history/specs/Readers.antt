@@ -5,6 +5,7 @@ pub mod Journals
 pub mod Tries
 pub mod Pool
 pub mod Owed
+pub mod Controls
 pub mod HandedOut
 pub mod Calls
 pub mod Clients

@@ -35,6 +35,19 @@ pub enum Setting {
     MaxOpen,
     /// `DB.SetMaxIdleConns`.
     MaxIdle,
+    /// `DB.SetConnMaxLifetime`, in nanoseconds.
+    MaxLife,
+    /// `DB.SetConnMaxIdleTime`, in nanoseconds.
+    MaxIdleTime,
+}
+
+/// What comes to the layer from outside beside the calls of clients.
+#[derive(Clone, Copy, Debug)]
+pub enum Control {
+    /// The present moment, in nanoseconds; time never goes back, so an earlier one counts as the present one.
+    Tick(u64),
+    /// A limit, and the number that it is set to.
+    Set(Setting, i64),
 }
 
 /// One thing that happened in a run.
@@ -50,6 +63,8 @@ pub enum Event {
     Pool(Move),
     /// A call begins to wait for a connection.
     Waits(u32),
+    /// The present moment is this one, in nanoseconds.
+    Ticked(u64),
     /// A limit was set to this number.
     SetLimit(Setting, i64),
     /// A call was answered.

@@ -8,6 +8,6 @@ mod reply;
 
 pub use dsql_pool::{CloseCause, Move, Place, Stats};
 pub use dsql_work::{Aim, FaultWord, Work};
-pub use event::{Event, Op, Setting};
+pub use event::{Control, Event, Op, Setting};
 pub use record::{CallRecord, Flight, Stand, Try};
 pub use reply::{DbEnd, Reply};

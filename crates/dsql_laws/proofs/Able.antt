@@ -23,11 +23,12 @@ use Rattle.dsql_journal.specs.Kinds.{number_of}
 use Rattle.dsql_pool.specs.Pooled.{Pooled, place_at, next_tenure, next_number, open_count, most_allowed, without}
 use Rattle.dsql_pool.specs.Rest.{times}
 use Rattle.dsql_pool.specs.Moved.{made, moved, begun, shut}
-use Rattle.dsql_pool.specs.Decisions.{closings_of_setting, falls_to, openings, openings_for_waiting, due_openings, lends_to_oldest, moves_back, moves_unwanted, when_unwanted, when_opened}
+use Rattle.dsql_pool.specs.Decisions.{closings_of_setting, closings_of_tick, falls_to, openings, openings_for_waiting, due_openings, lends_to_oldest, moves_back, moves_unwanted, when_unwanted, when_opened}
 use Rattle.dsql_pool.specs.Calls.{then_openings, moves_failed, moves_gone, moves_closed, open_set, idle_set}
 use Rattle.dsql_pool.proofs.Found.{found_changed, lends_stay}
 use Rattle.dsql_pool.proofs.Placed.{Placed, placed_away, placed_map}
 use Rattle.dsql_laws.proofs.Tests.{both, together, same_itself}
+use Rattle.dsql_laws.proofs.Outdated.{close_idle, outdated_close}
 
 -- The move can be made now, of a connection that isn't lent. One that leaves the four sets has a whole journal.
 abbrev pub is_able : (ℕ → List Entry) → Pooled → Move → Bool
@@ -105,6 +106,20 @@ open_set_able J n p h = then_able J (closings_of_setting (open_set n p)) (open_s
 
 pub idle_set_able : (J : ℕ → List Entry) (n : ℤ) (p : Pooled) → Placed p.idle p.conns → are_able J (closings_of_setting (idle_set n p)) (idle_set n p) ≡ true
 idle_set_able J n p h = surplus_able J (idle_set n p) h
+
+closing_idle_able : (J : ℕ → List Entry) (ms : List Move) (p : Pooled) → close_idle ms p ≡ true → are_able J ms p ≡ true
+closing_idle_able J [] p h = refl
+closing_idle_able J (CloseStart c why ∷ ms) p h =
+    let a = both (is_idle (place_at p c)) (close_idle ms (moved (CloseStart c why) p)) h in
+    together (is_able J p (CloseStart c why)) (are_able J ms (moved (CloseStart c why) p)) (ap (λ b. b || is_opening (place_at p c)) a.0) (closing_idle_able J ms (moved (CloseStart c why) p) a.1)
+closing_idle_able J (OpenStart c n ∷ ms) p h = absurd cc
+closing_idle_able J (Lend c t o n ∷ ms) p h = absurd cc
+closing_idle_able J (Back c ∷ ms) p h = absurd cc
+closing_idle_able J (Gone c ∷ ms) p h = absurd cc
+closing_idle_able J (Fell c n ∷ ms) p h = absurd cc
+
+pub outdated_able : (J : ℕ → List Entry) (p : Pooled) → Placed p.idle p.conns → are_able J (closings_of_tick p) p ≡ true
+outdated_able J p h = closing_idle_able J (closings_of_tick p) p (outdated_close p h)
 
 pub keeps_number : (x : Conn) → (unwanted x).number ≡ x.number
 keeps_number x = elim (is_opening (Some x.place)) as (λ b. (cond b (record x { place = Opening None }) x).number ≡ x.number) [ true ↦ refl | false ↦ refl ]

@@ -23,20 +23,21 @@ use Rattle.dsql_pool.specs.declared.moves.Move.TheVariants.{OpenStart, Lend, Bac
 use Rattle.dsql_pool.specs.declared.moves.Outcome.{Outcome}
 use Rattle.dsql_pool.specs.Places.{is_lent, is_opening, is_closing}
 use Rattle.dsql_pool.specs.Pooled.{Pooled, place_at, next_tenure}
-use Rattle.dsql_pool.specs.Moved.{moved}
+use Rattle.dsql_pool.specs.Moved.{moved, ticked}
 use Rattle.dsql_pool.specs.Decisions.{moves_back, when_given_back}
-use Rattle.dsql_pool.specs.Calls.{moves_opened, moves_failed}
+use Rattle.dsql_pool.specs.Calls.{moves_opened, moves_failed, lifetime_set, idle_time_set}
 use Rattle.dsql_pool.specs.Rest.{AtRest}
 use Rattle.dsql_pool.proofs.Rows.{all_filter}
 use Rattle.dsql_history.specs.declared.event.Event.{Event}
-use Rattle.dsql_history.specs.declared.event.Event.TheVariants.{Run, Entered, Heard, Pool, Waits, SetLimit, Replied, Ended}
+use Rattle.dsql_history.specs.declared.event.Event.TheVariants.{Run, Entered, Heard, Pool, Waits, Ticked, SetLimit, Replied, Ended}
 use Rattle.dsql_history.specs.declared.event.Op.TheVariants.{Exec, Query, One, Next, Scan, RowsClose, Err, DbClose, Stats}
-use Rattle.dsql_history.specs.declared.event.Setting.{Setting}
-use Rattle.dsql_history.specs.declared.event.Setting.TheVariants.{MaxOpen, MaxIdle}
+use Rattle.dsql_history.specs.declared.event.Control.{Control}
+use Rattle.dsql_history.specs.declared.event.Setting.TheVariants.{MaxOpen, MaxIdle, MaxLife, MaxIdleTime}
+use Rattle.dsql_history.specs.declared.event.Control.TheVariants.{Tick, Set}
 use Rattle.dsql_history.specs.Same.{is_first}
 use Rattle.dsql_history.specs.Readers.Journals.{journal}
-use Rattle.dsql_history.specs.Readers.Pool.{pool, place, request, with_move, with_limit}
-use Rattle.dsql_history.specs.Readers.Owed.{fate, given_back, answered, limit_set, leaving, left_of, owed}
+use Rattle.dsql_history.specs.Readers.Pool.{pool, place, request, with_move, with_control}
+use Rattle.dsql_history.specs.Readers.Owed.{fate, given_back, answered, controlled, leaving, left_of, owed}
 use Rattle.dsql_history.specs.Rules.Order.{follows}
 use Rattle.dsql_history.specs.Rules.Causes.{is_owed, is_given_back}
 use Rattle.dsql_history.specs.Rules.Moves.{hears_in, is_house_entry}
@@ -45,13 +46,16 @@ use Rattle.dsql_laws.proofs.Tests.{both, second, together, same_itself, move_is}
 use Rattle.dsql_laws.proofs.OwedMoves.{is_own, are_own, own_moved, owed_own}
 use Rattle.dsql_laws.proofs.AtRest.{Keeps, keeps_of, owes, rested, before_event}
 use Rattle.dsql_laws.proofs.Journals.{keeps_journals_of}
-use Rattle.dsql_laws.proofs.Able.{is_able, are_able, is_own_request, open_set_able, idle_set_able, closed_able, opened_able, failed_able, gone_able, back_able}
+use Rattle.dsql_laws.proofs.Able.{is_able, are_able, is_own_request, open_set_able, idle_set_able, outdated_able, closed_able, opened_able, failed_able, gone_able, back_able}
 
 -- each request that waits is its owner's
 
-same_waiting : (s : Setting) (n : ℤ) (p : Pooled) → list_all is_own_request p.waiting ≡ true → list_all is_own_request (with_limit s n p).waiting ≡ true
-same_waiting MaxOpen n p h = h
-same_waiting MaxIdle n p h = h
+same_waiting : (control : Control) (p : Pooled) → list_all is_own_request p.waiting ≡ true → list_all is_own_request (with_control control p).waiting ≡ true
+same_waiting (Tick n) p h = h
+same_waiting (Set MaxOpen n) p h = h
+same_waiting (Set MaxIdle n) p h = h
+same_waiting (Set MaxLife n) p h = h
+same_waiting (Set MaxIdleTime n) p h = h
 
 left_requests : (n : ℕ) (rs : List Request) → list_all is_own_request rs ≡ true → list_all is_own_request (without_call n rs) ≡ true
 left_requests n rs h = all_filter is_own_request (λ r. not (r.call == n)) rs h
@@ -79,7 +83,8 @@ own_requests (Waits n ∷ H) =
     let last : list_all is_own_request (request H n ∷ []) ≡ true = together (n == n) true (same_itself n) refl in
     list_all-append is_own_request (pool H).waiting (request H n ∷ [])
     ∙ together (list_all is_own_request (pool H).waiting) (list_all is_own_request (request H n ∷ [])) (own_requests H) last
-own_requests (SetLimit s n ∷ H) = same_waiting s n (pool H) (own_requests H)
+own_requests (Ticked now ∷ H) = same_waiting (Tick now) (pool H) (own_requests H)
+own_requests (SetLimit s n ∷ H) = same_waiting (Set s n) (pool H) (own_requests H)
 own_requests (Replied n reply ∷ H) = own_requests H
 own_requests (Ended ∷ H) = refl
 
@@ -147,9 +152,12 @@ heard_able H e (Some Idle) l is = refl
 heard_able H e (Some (Lent t owner)) l is = refl
 heard_able H e None l is = refl
 
-limit_able : (J : ℕ → List Entry) (s : Setting) (n : ℤ) (p : Pooled) → AtRest p → are_able J (limit_set s n p) (with_limit s n p) ≡ true
-limit_able J MaxOpen n p h = open_set_able J n p h.placed
-limit_able J MaxIdle n p h = idle_set_able J n p h.placed
+control_able : (J : ℕ → List Entry) (control : Control) (p : Pooled) → AtRest p → are_able J (controlled control p) (with_control control p) ≡ true
+control_able J (Tick n) p h = outdated_able J (ticked n p) h.placed
+control_able J (Set MaxOpen n) p h = open_set_able J n p h.placed
+control_able J (Set MaxIdle n) p h = idle_set_able J n p h.placed
+control_able J (Set MaxLife n) p h = outdated_able J (lifetime_set n p) h.placed
+control_able J (Set MaxIdleTime n) p h = outdated_able J (idle_time_set n p) h.placed
 
 rest_able : (J : ℕ → List Entry) (c : ℕ) (p : Pooled) (o : Outcome) (ms : List Move) (m : Move) → moves_back c p o ≡ ms → is_first ms m ≡ true → list_all is_own_request p.waiting ≡ true → is_lent (place_at p c) ≡ true → are_able J (drop 1 ms) (moved m p) ≡ true
 rest_able J c p o [] m is first own h = absurd cc
@@ -193,6 +201,7 @@ able (Entered client n Stats ∷ H) l = refl
 able (Heard e ∷ H) l = heard_able H e (place H e.conn) l refl
 able (Pool m ∷ H) l = move_able H m (owed H) (keeps_of H (Pool m) l.1) refl (owed_own H) (able H l.0)
 able (Waits n ∷ H) l = refl
-able (SetLimit s n ∷ H) l = limit_able (journal H) s n (pool H) (before_event H (SetLimit s n) refl l.1 (rested H l.0))
+able (Ticked now ∷ H) l = control_able (journal H) (Tick now) (pool H) (before_event H (Ticked now) refl l.1 (rested H l.0))
+able (SetLimit s n ∷ H) l = control_able (journal H) (Set s n) (pool H) (before_event H (SetLimit s n) refl l.1 (rested H l.0))
 able (Replied n reply ∷ H) l = refl
 able (Ended ∷ H) l = let rest = before_event H Ended refl l.1 (rested H l.0) in closed_able (journal H) (pool H) rest.placed

@@ -24,17 +24,18 @@ use Rattle.dsql_pool.proofs.AfterCalls.{rests_after_each_call}
 use Rattle.dsql_pool.proofs.Resting.{asked_rests}
 use Rattle.dsql_work.specs.Works as works
 use Rattle.dsql_history.specs.declared.event.Event.{Event}
-use Rattle.dsql_history.specs.declared.event.Event.TheVariants.{Run, Entered, Heard, Pool, Waits, SetLimit, Replied, Ended}
+use Rattle.dsql_history.specs.declared.event.Event.TheVariants.{Run, Entered, Heard, Pool, Waits, Ticked, SetLimit, Replied, Ended}
 use Rattle.dsql_history.specs.declared.event.Op.TheVariants.{Exec, Query, One, Next, Scan, RowsClose, Err as Fault, DbClose, Stats}
-use Rattle.dsql_history.specs.declared.event.Setting.{Setting}
-use Rattle.dsql_history.specs.declared.event.Setting.TheVariants.{MaxOpen, MaxIdle}
+use Rattle.dsql_history.specs.declared.event.Control.{Control}
+use Rattle.dsql_history.specs.declared.event.Setting.TheVariants.{MaxOpen, MaxIdle, MaxLife, MaxIdleTime}
+use Rattle.dsql_history.specs.declared.event.Control.TheVariants.{Tick, Set}
 use Rattle.dsql_history.specs.Same.{is_first}
-use Rattle.dsql_history.specs.Readers.Pool.{pool, place, request, with_move, with_limit, wanted_by}
+use Rattle.dsql_history.specs.Readers.Pool.{pool, place, request, with_move, with_control, wanted_by}
 use Rattle.dsql_history.specs.Readers.Works.{work}
 use Rattle.dsql_history.specs.Readers.Tries.{tries, has_a_try}
 use Rattle.dsql_history.specs.Readers.Calls.{reply_due}
 use Rattle.dsql_history.specs.Readers.Unfinished.{is_unfinished}
-use Rattle.dsql_history.specs.Readers.Owed.{fate, given_back, answered, limit_set, leaving, left_of, owed}
+use Rattle.dsql_history.specs.Readers.Owed.{fate, given_back, answered, controlled, leaving, left_of, owed}
 use Rattle.dsql_history.specs.Rules.Order.{follows}
 use Rattle.dsql_history.specs.Rules.Asking.{may_ask, ask_outcome, is_asked_for, unless_owed, is_queued, keeps_asking}
 use Rattle.dsql_history.specs.Rules.Causes.{is_owed, is_given_back, keeps_causes}
@@ -72,6 +73,7 @@ nothing_owed (m ∷ ms) (Run version can) not_move h = absurd cc
 nothing_owed (m ∷ ms) (Entered client n op) not_move h = absurd cc
 nothing_owed (m ∷ ms) (Heard e) not_move h = absurd cc
 nothing_owed (m ∷ ms) (Waits n) not_move h = absurd cc
+nothing_owed (m ∷ ms) (Ticked now) not_move h = absurd cc
 nothing_owed (m ∷ ms) (SetLimit s n) not_move h = absurd cc
 nothing_owed (m ∷ ms) (Replied n reply) not_move h = absurd cc
 nothing_owed (m ∷ ms) Ended not_move h = absurd cc
@@ -90,9 +92,12 @@ answered_rests answer c p (Some Idle) is h = h
 answered_rests answer c p (Some (Lent t owner)) is h = h
 answered_rests answer c p None is h = h
 
-limit_rests : (s : Setting) (n : ℤ) (p : Pooled) → AtRest p → AtRest (made (limit_set s n p) (with_limit s n p))
-limit_rests MaxOpen n p h = rests_after_each_call.after_a_call (call.SetOpen n) p h tt
-limit_rests MaxIdle n p h = rests_after_each_call.after_a_call (call.SetIdle n) p h tt
+control_rests : (control : Control) (p : Pooled) → AtRest p → AtRest (made (controlled control p) (with_control control p))
+control_rests (Tick n) p h = rests_after_each_call.after_a_call (call.Tick n) p h tt
+control_rests (Set MaxOpen n) p h = rests_after_each_call.after_a_call (call.SetOpen n) p h tt
+control_rests (Set MaxIdle n) p h = rests_after_each_call.after_a_call (call.SetIdle n) p h tt
+control_rests (Set MaxLife n) p h = rests_after_each_call.after_a_call (call.SetLifetime n) p h tt
+control_rests (Set MaxIdleTime n) p h = rests_after_each_call.after_a_call (call.SetIdleTime n) p h tt
 
 queued_rests : (r : Request) (p : Pooled) (a : Result Asked AskFault) → is_queued a ≡ true → AtRest (after_asked r a p) → AtRest (joined r p)
 queued_rests r p (Ok asked.Queued) is h = h
@@ -186,7 +191,8 @@ rested (Waits n ∷ H) l =
     let k = keeps_of H (Waits n) l.1 in
     let a = both (may_ask H n) (is_queued (ask_outcome H n)) k.asking in
     queued_rests (request H n) (pool H) (ask_outcome H n) a.1 (asked_rests (request H n) (pool H) (before_event H (Waits n) refl l.1 (rested H l.0)))
-rested (SetLimit s n ∷ H) l = limit_rests s n (pool H) (before_event H (SetLimit s n) refl l.1 (rested H l.0))
+rested (Ticked now ∷ H) l = control_rests (Tick now) (pool H) (before_event H (Ticked now) refl l.1 (rested H l.0))
+rested (SetLimit s n ∷ H) l = control_rests (Set s n) (pool H) (before_event H (SetLimit s n) refl l.1 (rested H l.0))
 rested (Replied n reply ∷ H) l = before_event H (Replied n reply) refl l.1 (rested H l.0)
 rested (Ended ∷ H) l = rests_after_each_call.after_a_call call.Close (pool H) (before_event H Ended refl l.1 (rested H l.0)) tt
 

@@ -22,22 +22,24 @@ use Rattle.dsql_pool.specs.declared.moves.Outcome.TheVariants.{Closes, Serves, R
 use Rattle.dsql_pool.specs.Places.{conn_of, is_lent}
 use Rattle.dsql_journal.specs.Kinds.{number_of}
 use Rattle.dsql_pool.specs.Pooled.{Pooled, place_at, next_tenure, next_number}
-use Rattle.dsql_pool.specs.Moved.{made, moved, shut}
+use Rattle.dsql_pool.specs.Moved.{made, moved, shut, ticked}
 use Rattle.dsql_pool.specs.Decisions.{closings_of_setting, falls_to, openings, due_openings, lends_to_oldest, moves_back, moves_unwanted, when_given_back, when_unwanted, when_opened}
-use Rattle.dsql_pool.specs.Calls.{then_openings, moves_opened, moves_failed, open_set, idle_set}
+use Rattle.dsql_pool.specs.Calls.{then_openings, moves_opened, moves_failed, open_set, idle_set, lifetime_set, idle_time_set}
 use Rattle.dsql_pool.proofs.Frees.{passing}
 use Rattle.dsql_history.specs.declared.event.Event.{Event}
-use Rattle.dsql_history.specs.declared.event.Event.TheVariants.{Run, Entered, Heard, Pool, Waits, SetLimit, Replied, Ended}
+use Rattle.dsql_history.specs.declared.event.Event.TheVariants.{Run, Entered, Heard, Pool, Waits, Ticked, SetLimit, Replied, Ended}
 use Rattle.dsql_history.specs.declared.event.Op.TheVariants.{Exec, Query, One, Next, Scan, RowsClose, Err, DbClose, Stats}
-use Rattle.dsql_history.specs.declared.event.Setting.{Setting}
-use Rattle.dsql_history.specs.declared.event.Setting.TheVariants.{MaxOpen, MaxIdle}
+use Rattle.dsql_history.specs.declared.event.Control.{Control}
+use Rattle.dsql_history.specs.declared.event.Setting.TheVariants.{MaxOpen, MaxIdle, MaxLife, MaxIdleTime}
+use Rattle.dsql_history.specs.declared.event.Control.TheVariants.{Tick, Set}
 use Rattle.dsql_history.specs.Same.{is_first}
-use Rattle.dsql_history.specs.Readers.Pool.{pool, place, with_move, with_limit, is_home}
-use Rattle.dsql_history.specs.Readers.Owed.{fate, given_back, answered, limit_set, leaving, left_of, owed}
+use Rattle.dsql_history.specs.Readers.Pool.{pool, place, with_move, with_control, is_home}
+use Rattle.dsql_history.specs.Readers.Owed.{fate, given_back, answered, controlled, leaving, left_of, owed}
 use Rattle.dsql_history.specs.Rules.Order.{follows}
 use Rattle.dsql_history.specs.Rules.Causes.{is_owed, is_given_back}
 use Rattle.dsql_history.specs.Legal.{Lawful}
 use Rattle.dsql_laws.proofs.Tests.{both, second, together, move_is}
+use Rattle.dsql_laws.proofs.Outdated.{outdated_all}
 use Rattle.dsql_laws.proofs.OwedMoves.{is_own, are_own, own_moved, owed_own}
 use Rattle.dsql_laws.proofs.AtRest.{Keeps, keeps_of, owes}
 
@@ -143,9 +145,12 @@ answered_deserved answer c p (Some Idle) = tt
 answered_deserved answer c p (Some (Lent t owner)) = tt
 answered_deserved answer c p None = tt
 
-limit_deserved : (s : Setting) (n : ℤ) (p : Pooled) → AllDeserved (limit_set s n p) (with_limit s n p)
-limit_deserved MaxOpen n p = without_lendings (limit_set MaxOpen n p) (open_set n p) (then_lend_none (closings_of_setting (open_set n p)) (open_set n p) (surplus_lends_none (open_set n p)))
-limit_deserved MaxIdle n p = without_lendings (limit_set MaxIdle n p) (idle_set n p) (surplus_lends_none (idle_set n p))
+control_deserved : (control : Control) (p : Pooled) → AllDeserved (controlled control p) (with_control control p)
+control_deserved (Tick n) p = without_lendings (controlled (Tick n) p) (ticked n p) (outdated_all is_no_lending (λ c why. refl) (ticked n p))
+control_deserved (Set MaxOpen n) p = without_lendings (controlled (Set MaxOpen n) p) (open_set n p) (then_lend_none (closings_of_setting (open_set n p)) (open_set n p) (surplus_lends_none (open_set n p)))
+control_deserved (Set MaxIdle n) p = without_lendings (controlled (Set MaxIdle n) p) (idle_set n p) (surplus_lends_none (idle_set n p))
+control_deserved (Set MaxLife n) p = without_lendings (controlled (Set MaxLife n) p) (lifetime_set n p) (outdated_all is_no_lending (λ c why. refl) (lifetime_set n p))
+control_deserved (Set MaxIdleTime n) p = without_lendings (controlled (Set MaxIdleTime n) p) (idle_time_set n p) (outdated_all is_no_lending (λ c why. refl) (idle_time_set n p))
 
 rest_deserved : (ms : List Move) (m : Move) (p : Pooled) → is_first ms m ≡ true → AllDeserved ms p → AllDeserved (drop 1 ms) (moved m p)
 rest_deserved [] m p is h = absurd cc
@@ -188,6 +193,7 @@ deserved (Entered client n Stats ∷ H) l = tt
 deserved (Heard e ∷ H) l = answered_deserved e.answer e.conn (pool H) (place H e.conn)
 deserved (Pool m ∷ H) l = move_deserved H m (owed H) (keeps_of H (Pool m) l.1) refl (owed_own H) (deserved H l.0)
 deserved (Waits n ∷ H) l = tt
-deserved (SetLimit s n ∷ H) l = limit_deserved s n (pool H)
+deserved (Ticked now ∷ H) l = control_deserved (Tick now) (pool H)
+deserved (SetLimit s n ∷ H) l = control_deserved (Set s n) (pool H)
 deserved (Replied n reply ∷ H) l = tt
 deserved (Ended ∷ H) l = without_lendings (owed (Ended ∷ H)) (shut (pool H)) (closings_lend_none DbClosed (shut (pool H)).idle)

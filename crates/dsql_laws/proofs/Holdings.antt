@@ -19,13 +19,14 @@ use Rattle.dsql_pool.specs.Calls.{wants, moves_asked}
 use Rattle.dsql_pool.proofs.Frees.{count-more}
 use Rattle.dsql_work.specs.Works as works
 use Rattle.dsql_history.specs.declared.event.Event.{Event}
-use Rattle.dsql_history.specs.declared.event.Event.TheVariants.{Run, Entered, Heard, Pool, Waits, SetLimit, Replied, Ended}
+use Rattle.dsql_history.specs.declared.event.Event.TheVariants.{Run, Entered, Heard, Pool, Waits, Ticked, SetLimit, Replied, Ended}
 use Rattle.dsql_history.specs.declared.event.Op.TheVariants.{Exec, Query, One, Next, Scan, RowsClose, Err, DbClose, Stats}
-use Rattle.dsql_history.specs.declared.event.Setting.{Setting}
-use Rattle.dsql_history.specs.declared.event.Setting.TheVariants.{MaxOpen, MaxIdle}
+use Rattle.dsql_history.specs.declared.event.Control.{Control}
+use Rattle.dsql_history.specs.declared.event.Setting.TheVariants.{MaxOpen, MaxIdle, MaxLife, MaxIdleTime}
+use Rattle.dsql_history.specs.declared.event.Control.TheVariants.{Tick, Set}
 use Rattle.dsql_history.specs.declared.record.Try.{Try}
 use Rattle.dsql_history.specs.Same.{is_first}
-use Rattle.dsql_history.specs.Readers.Pool.{pool, request, wanted_by, with_limit, is_home}
+use Rattle.dsql_history.specs.Readers.Pool.{pool, request, wanted_by, with_control, is_home}
 use Rattle.dsql_history.specs.Readers.Owed.{owed}
 use Rattle.dsql_history.specs.Readers.Works.{work}
 use Rattle.dsql_history.specs.Readers.Tries.{tries, has_a_try}
@@ -126,9 +127,12 @@ wanted_home k n some =
 pub by_call : (k n : ℕ) (P : Type 0) → ((k ≡ n) → P) → ((k == n) ≡ false → P) → P
 by_call k n P same other = elim (k == n) as (λ b. (k == n) ≡ b → P) [ true ↦ λ is. same (same_number k n is) | false ↦ λ is. other is ] refl
 
-same_limit : (s : Setting) (k : ℤ) (n : ℕ) (p : Pooled) → holdings n (with_limit s k p) ≡ holdings n p
-same_limit MaxOpen k n p = refl
-same_limit MaxIdle k n p = refl
+same_control : (control : Control) (n : ℕ) (p : Pooled) → holdings n (with_control control p) ≡ holdings n p
+same_control (Tick k) n p = refl
+same_control (Set MaxOpen k) n p = refl
+same_control (Set MaxIdle k) n p = refl
+same_control (Set MaxLife k) n p = refl
+same_control (Set MaxIdleTime k) n p = refl
 
 opens_one : (H : List Event) (c k n : ℕ) → Lawful H → Keeps H (Pool (OpenStart c k)) → n ≢ 0 → holdings n (pool H) ≤ 1 → holdings n (begun (wanted_by k) (pool H)) ≤ 1
 opens_one H c k n l keeps some had =
@@ -232,6 +236,7 @@ one_at_most (Waits k ∷ H) n l some =
     let keeps = keeps_of H (Waits k) l.1 in
     let a = both (may_ask H k) (is_queued (ask_outcome H k)) keeps.asking in
     joins_one H k n l.0 a.0 (one_at_most H n l.0 some)
-one_at_most (SetLimit s k ∷ H) n l some = let had = one_at_most H n l.0 some in let same = same_limit s k n (pool H) in omega (arith, had, same)
+one_at_most (Ticked now ∷ H) n l some = let had = one_at_most H n l.0 some in let same = same_control (Tick now) n (pool H) in omega (arith, had, same)
+one_at_most (SetLimit s k ∷ H) n l some = let had = one_at_most H n l.0 some in let same = same_control (Set s k) n (pool H) in omega (arith, had, same)
 one_at_most (Replied m reply ∷ H) n l some = one_at_most H n l.0 some
 one_at_most (Ended ∷ H) n l some = let had = one_at_most H n l.0 some in let few = shut_holds n (pool H) in omega (arith, had, few)

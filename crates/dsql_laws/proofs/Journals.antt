@@ -6,7 +6,7 @@ use Rattle.dsql_journal.proofs.Beginnings.{may_follow-whole}
 use Rattle.dsql_journal.proofs.PlainJournals.{IsJournalPrefix-with}
 use Rattle.dsql_pool.specs.declared.moves.Move.TheVariants.{OpenStart, Lend, Back, CloseStart, Gone, Fell}
 use Rattle.dsql_history.specs.declared.event.Event.{Event}
-use Rattle.dsql_history.specs.declared.event.Event.TheVariants.{Run, Entered, Heard, Pool, Waits, SetLimit, Replied, Ended}
+use Rattle.dsql_history.specs.declared.event.Event.TheVariants.{Run, Entered, Heard, Pool, Waits, Ticked, SetLimit, Replied, Ended}
 use Rattle.dsql_history.specs.Readers.Journals.{journal}
 use Rattle.dsql_history.specs.Rules.Journals.{keeps_journals}
 use Rattle.dsql_history.specs.Legal.{Allowed, Lawful, has_left, KeepsJournals}
@@ -29,6 +29,7 @@ beginnings (Run version can ∷ H) c l = beginnings H c l.0
 beginnings (Entered client n op ∷ H) c l = beginnings H c l.0
 beginnings (Pool m ∷ H) c l = beginnings H c l.0
 beginnings (Waits n ∷ H) c l = beginnings H c l.0
+beginnings (Ticked now ∷ H) c l = beginnings H c l.0
 beginnings (SetLimit s n ∷ H) c l = beginnings H c l.0
 beginnings (Replied n reply ∷ H) c l = beginnings H c l.0
 beginnings (Ended ∷ H) c l = beginnings H c l.0
@@ -60,6 +61,7 @@ wholes (Pool (CloseStart d why) ∷ H) c l h = wholes H c l.0 h
 wholes (Run version can ∷ H) c l h = wholes H c l.0 h
 wholes (Entered client n op ∷ H) c l h = wholes H c l.0 h
 wholes (Waits n ∷ H) c l h = wholes H c l.0 h
+wholes (Ticked now ∷ H) c l h = wholes H c l.0 h
 wholes (SetLimit s n ∷ H) c l h = wholes H c l.0 h
 wholes (Replied n reply ∷ H) c l h = wholes H c l.0 h
 wholes (Ended ∷ H) c l h = wholes H c l.0 h

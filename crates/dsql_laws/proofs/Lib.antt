@@ -11,6 +11,7 @@ pub mod Holdings
 pub mod Wanting
 pub mod Standing
 pub mod Welcome
+pub mod Outdated
 pub mod Able
 pub mod AbleMoves
 pub mod OwedAllowed

@@ -7,7 +7,7 @@ use Rattle.std.proofs.lemmas.List.{length-append}
 use Rattle.dsql_journal.specs.Readers.{has}
 use Rattle.dsql_pool.specs.Pooled.{without}
 use Rattle.dsql_history.specs.declared.event.Event.{Event}
-use Rattle.dsql_history.specs.declared.event.Event.TheVariants.{Run, Entered, Heard, Pool, Waits, SetLimit, Replied, Ended}
+use Rattle.dsql_history.specs.declared.event.Event.TheVariants.{Run, Entered, Heard, Pool, Waits, Ticked, SetLimit, Replied, Ended}
 use Rattle.dsql_history.specs.declared.event.Op.{Op}
 use Rattle.dsql_history.specs.Readers.Unfinished.{unfinished, is_unfinished}
 use Rattle.dsql_history.specs.Readers.Calls.{calls, entering, next_call, is_busy}
@@ -22,6 +22,7 @@ some_calls (Replied n reply ∷ H) = let so_many = some_calls H in grind (arith,
 some_calls (Run version can ∷ H) = some_calls H
 some_calls (Pool m ∷ H) = some_calls H
 some_calls (Waits n ∷ H) = some_calls H
+some_calls (Ticked now ∷ H) = some_calls H
 some_calls (SetLimit s n ∷ H) = some_calls H
 some_calls (Ended ∷ H) = some_calls H
 
@@ -57,6 +58,7 @@ numbered (Run version can ∷ H) l = numbered H l.0
 numbered (Heard e ∷ H) l = numbered H l.0
 numbered (Pool m ∷ H) l = numbered H l.0
 numbered (Waits n ∷ H) l = numbered H l.0
+numbered (Ticked now ∷ H) l = numbered H l.0
 numbered (SetLimit s n ∷ H) l = numbered H l.0
 numbered (Ended ∷ H) l = numbered H l.0
 

@@ -15,18 +15,19 @@ use Rattle.dsql_pool.specs.declared.moves.Move.TheVariants.{OpenStart, Lend, Bac
 use Rattle.dsql_pool.specs.declared.moves.Outcome.{Outcome}
 use Rattle.dsql_pool.specs.declared.moves.Outcome.TheVariants.{Closes, Serves, Rests}
 use Rattle.dsql_pool.specs.Pooled.{Pooled, place_at, next_tenure, next_number}
-use Rattle.dsql_pool.specs.Moved.{made, moved}
+use Rattle.dsql_pool.specs.Moved.{made, moved, shut, ticked}
 use Rattle.dsql_pool.specs.Decisions.{closings_of_setting, falls_to, openings, due_openings, lends_to_oldest, moves_back, moves_unwanted, when_given_back, when_unwanted, when_opened}
-use Rattle.dsql_pool.specs.Calls.{then_openings, moves_opened, moves_failed, open_set, idle_set}
-use Rattle.dsql_pool.specs.Moved.{shut}
+use Rattle.dsql_pool.specs.Calls.{then_openings, moves_opened, moves_failed, open_set, idle_set, lifetime_set, idle_time_set}
 use Rattle.dsql_history.specs.declared.event.Event.{Event}
-use Rattle.dsql_history.specs.declared.event.Event.TheVariants.{Run, Entered, Heard, Pool, Waits, SetLimit, Replied, Ended}
+use Rattle.dsql_history.specs.declared.event.Event.TheVariants.{Run, Entered, Heard, Pool, Waits, Ticked, SetLimit, Replied, Ended}
 use Rattle.dsql_history.specs.declared.event.Op.TheVariants.{Exec, Query, One, Next, Scan, RowsClose, Err, DbClose, Stats}
-use Rattle.dsql_history.specs.declared.event.Setting.{Setting}
-use Rattle.dsql_history.specs.declared.event.Setting.TheVariants.{MaxOpen, MaxIdle}
+use Rattle.dsql_history.specs.declared.event.Control.{Control}
+use Rattle.dsql_history.specs.declared.event.Setting.TheVariants.{MaxOpen, MaxIdle, MaxLife, MaxIdleTime}
+use Rattle.dsql_history.specs.declared.event.Control.TheVariants.{Tick, Set}
 use Rattle.dsql_history.specs.Readers.Pool.{pool, place, with_move}
-use Rattle.dsql_history.specs.Readers.Owed.{fate, answered, limit_set, leaving, left_of, owed}
+use Rattle.dsql_history.specs.Readers.Owed.{fate, answered, controlled, leaving, left_of, owed}
 use Rattle.dsql_laws.proofs.Tests.{both, same_number, together}
+use Rattle.dsql_laws.proofs.Outdated.{outdated_all}
 
 -- an opening is for no request of its own
 abbrev pub is_own : Move → Bool
@@ -94,9 +95,12 @@ answered_own answer c p None = refl
 surplus_own : (p : Pooled) → are_own (closings_of_setting p) ≡ true
 surplus_own p = closings_own IdleFull (take (length p.idle - p.limits.max_idle) p.idle)
 
-limit_own : (s : Setting) (n : ℤ) (p : Pooled) → are_own (limit_set s n p) ≡ true
-limit_own MaxOpen n p = then_own (closings_of_setting (open_set n p)) (open_set n p) (surplus_own (open_set n p))
-limit_own MaxIdle n p = surplus_own (idle_set n p)
+control_own : (control : Control) (p : Pooled) → are_own (controlled control p) ≡ true
+control_own (Tick n) p = outdated_all is_own (λ c why. refl) (ticked n p)
+control_own (Set MaxOpen n) p = then_own (closings_of_setting (open_set n p)) (open_set n p) (surplus_own (open_set n p))
+control_own (Set MaxIdle n) p = surplus_own (idle_set n p)
+control_own (Set MaxLife n) p = outdated_all is_own (λ c why. refl) (lifetime_set n p)
+control_own (Set MaxIdleTime n) p = outdated_all is_own (λ c why. refl) (idle_time_set n p)
 
 fewer_own : (ms : List Move) → are_own ms ≡ true → are_own (drop 1 ms) ≡ true
 fewer_own [] h = refl
@@ -129,6 +133,7 @@ owed_own (Entered client n Stats ∷ H) = refl
 owed_own (Heard e ∷ H) = answered_own e.answer e.conn (pool H) (place H e.conn)
 owed_own (Pool m ∷ H) = left_own H m (owed H) (owed_own H)
 owed_own (Waits n ∷ H) = refl
-owed_own (SetLimit s n ∷ H) = limit_own s n (pool H)
+owed_own (Ticked now ∷ H) = control_own (Tick now) (pool H)
+owed_own (SetLimit s n ∷ H) = control_own (Set s n) (pool H)
 owed_own (Replied n reply ∷ H) = refl
 owed_own (Ended ∷ H) = closings_own DbClosed (shut (pool H)).idle

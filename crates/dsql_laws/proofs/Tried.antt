@@ -12,13 +12,14 @@ use Rattle.dsql_pool.specs.Pooled.{Pooled, next_number}
 use Rattle.dsql_pool.specs.Moved.{shut}
 use Rattle.dsql_pool.proofs.Frees.{count-more}
 use Rattle.dsql_history.specs.declared.event.Event.{Event}
-use Rattle.dsql_history.specs.declared.event.Event.TheVariants.{Run, Entered, Heard, Pool, Waits, SetLimit, Replied, Ended}
+use Rattle.dsql_history.specs.declared.event.Event.TheVariants.{Run, Entered, Heard, Pool, Waits, Ticked, SetLimit, Replied, Ended}
 use Rattle.dsql_history.specs.declared.event.Op.TheVariants.{Exec, Query, One, Next, Scan, RowsClose, Err, DbClose, Stats}
-use Rattle.dsql_history.specs.declared.event.Setting.{Setting}
-use Rattle.dsql_history.specs.declared.event.Setting.TheVariants.{MaxOpen, MaxIdle}
+use Rattle.dsql_history.specs.declared.event.Control.{Control}
+use Rattle.dsql_history.specs.declared.event.Setting.TheVariants.{MaxOpen, MaxIdle, MaxLife, MaxIdleTime}
+use Rattle.dsql_history.specs.declared.event.Control.TheVariants.{Tick, Set}
 use Rattle.dsql_history.specs.declared.record.Try.{Try}
 use Rattle.dsql_history.specs.declared.record.Try.TheVariants.{Served, Refused}
-use Rattle.dsql_history.specs.Readers.Pool.{pool, wanted_by, with_limit}
+use Rattle.dsql_history.specs.Readers.Pool.{pool, wanted_by, with_control}
 use Rattle.dsql_history.specs.Readers.Tries.{tries, with_try, newest_answer}
 use Rattle.dsql_history.specs.Rules.Moves.{moves_from, numbers_lending}
 use Rattle.dsql_history.specs.Legal.{Allowed, Lawful}
@@ -67,9 +68,12 @@ more_tries : (b : Bool) (t : Try) (now : ℕ) (ts : List Try) → now ≤ length
 more_tries true t now ts h = omega (arith, h)
 more_tries false t now ts h = h
 
-pub same_limit : (s : Setting) (k : ℤ) (n : ℕ) (p : Pooled) → lent_count n (with_limit s k p) ≡ lent_count n p
-same_limit MaxOpen k n p = refl
-same_limit MaxIdle k n p = refl
+pub same_control : (control : Control) (n : ℕ) (p : Pooled) → lent_count n (with_control control p) ≡ lent_count n p
+same_control (Tick k) n p = refl
+same_control (Set MaxOpen k) n p = refl
+same_control (Set MaxIdle k) n p = refl
+same_control (Set MaxLife k) n p = refl
+same_control (Set MaxIdleTime k) n p = refl
 
 pub lent_tried : (H : List Event) (n : ℕ) → Lawful H → lent_count n (pool H) ≤ length (tries H n)
 lent_tried [] n l = omega arith
@@ -106,6 +110,7 @@ lent_tried (Pool (Fell c m) ∷ H) n l =
     let few = gone_fewer (is_lent_out n) c (pool H).conns in
     more_tries (m == n) (Refused (newest_answer H)) (lent_count n (pool (Pool (Fell c m) ∷ H))) (tries H n) (omega (arith, rest, few))
 lent_tried (Waits m ∷ H) n l = lent_tried H n l.0
-lent_tried (SetLimit s k ∷ H) n l = let rest = lent_tried H n l.0 in let same = same_limit s k n (pool H) in omega (arith, rest, same)
+lent_tried (Ticked now ∷ H) n l = let rest = lent_tried H n l.0 in let same = same_control (Tick now) n (pool H) in omega (arith, rest, same)
+lent_tried (SetLimit s k ∷ H) n l = let rest = lent_tried H n l.0 in let same = same_control (Set s k) n (pool H) in omega (arith, rest, same)
 lent_tried (Replied m reply ∷ H) n l = lent_tried H n l.0
 lent_tried (Ended ∷ H) n l = let rest = lent_tried H n l.0 in let few = shut_fewer n (pool H) in omega (arith, rest, few)

@@ -23,12 +23,13 @@ use Rattle.dsql_work.specs.declared.work.Work.{Work}
 use Rattle.dsql_work.specs.declared.work.Work.TheVariants.{Execute, ReadOne, HandOut, Fetch, Close, Look}
 use Rattle.dsql_work.specs.Works.{asks}
 use Rattle.dsql_history.specs.declared.event.Event.{Event}
-use Rattle.dsql_history.specs.declared.event.Event.TheVariants.{Run, Entered, Heard, Pool, Waits, SetLimit, Replied, Ended}
+use Rattle.dsql_history.specs.declared.event.Event.TheVariants.{Run, Entered, Heard, Pool, Waits, Ticked, SetLimit, Replied, Ended}
 use Rattle.dsql_history.specs.declared.event.Op.TheVariants.{Exec, Query, One, Next, Scan, RowsClose, Err, DbClose, Stats}
-use Rattle.dsql_history.specs.declared.event.Setting.{Setting}
-use Rattle.dsql_history.specs.declared.event.Setting.TheVariants.{MaxOpen, MaxIdle}
+use Rattle.dsql_history.specs.declared.event.Control.{Control}
+use Rattle.dsql_history.specs.declared.event.Setting.TheVariants.{MaxOpen, MaxIdle, MaxLife, MaxIdleTime}
+use Rattle.dsql_history.specs.declared.event.Control.TheVariants.{Tick, Set}
 use Rattle.dsql_history.specs.Same.{is_first}
-use Rattle.dsql_history.specs.Readers.Pool.{pool, place, home, request, wanted_by, with_limit, is_home}
+use Rattle.dsql_history.specs.Readers.Pool.{pool, place, home, request, wanted_by, with_control, is_home}
 use Rattle.dsql_history.specs.Readers.Owed.{owed}
 use Rattle.dsql_history.specs.Readers.Works.{work, works, work_of}
 use Rattle.dsql_history.specs.Readers.Tries.{tries, has_a_try}
@@ -97,9 +98,12 @@ pub wanted_opening : (k n : ℕ) → n ≢ 0 → cond {A = ℕ} (is_for n (Openi
 wanted_opening k n some =
     elim (k == 0) as (λ b. cond {A = ℕ} (is_for n (Opening (cond b None (Some (Call k))))) 1 0 ≤ cond {A = ℕ} (k == n) 1 0) [ true ↦ omega arith | false ↦ omega arith ]
 
-pub same_limit : (s : Setting) (k : ℤ) (n : ℕ) (p : Pooled) → wanted n (with_limit s k p) ≡ wanted n p
-same_limit MaxOpen k n p = refl
-same_limit MaxIdle k n p = refl
+pub same_control : (control : Control) (n : ℕ) (p : Pooled) → wanted n (with_control control p) ≡ wanted n p
+same_control (Tick k) n p = refl
+same_control (Set MaxOpen k) n p = refl
+same_control (Set MaxIdle k) n p = refl
+same_control (Set MaxLife k) n p = refl
+same_control (Set MaxIdleTime k) n p = refl
 
 pub works_alone : (H : List Event) (n : ℕ) → may_ask H n ≡ true → asks (work H n) ≡ true
 works_alone H n may =
@@ -163,7 +167,8 @@ wanting_works (Waits k ∷ H) n l some now =
     let keeps = keeps_of H (Waits k) l.1 in
     let a = both (may_ask H k) (is_queued (ask_outcome H k)) keeps.asking in
     joins_for H k n a.0 (wanting_works H n l.0 some) now
-wanting_works (SetLimit s k ∷ H) n l some now = let same = same_limit s k n (pool H) in wanting_works H n l.0 some (omega (arith, same, now))
+wanting_works (Ticked moment ∷ H) n l some now = let same = same_control (Tick moment) n (pool H) in wanting_works H n l.0 some (omega (arith, same, now))
+wanting_works (SetLimit s k ∷ H) n l some now = let same = same_control (Set s k) n (pool H) in wanting_works H n l.0 some (omega (arith, same, now))
 wanting_works (Replied m reply ∷ H) n l some now = wanting_works H n l.0 some now
 wanting_works (Ended ∷ H) n l some now = let few = shut_wants n (pool H) in wanting_works H n l.0 some (omega (arith, few, now))
 

@@ -11,8 +11,9 @@ use Rattle.dsql_pool.specs.Pooled.{Pooled, next_number}
 use Rattle.dsql_pool.specs.Moved.{begun, shut}
 use Rattle.dsql_pool.proofs.Found.{KeepsNumber, found_changed}
 use Rattle.dsql_history.specs.declared.event.Event.{Event}
-use Rattle.dsql_history.specs.declared.event.Event.TheVariants.{Run, Entered, Heard, Pool, Waits, SetLimit, Replied, Ended}
+use Rattle.dsql_history.specs.declared.event.Event.TheVariants.{Run, Entered, Heard, Pool, Waits, Ticked, SetLimit, Replied, Ended}
 use Rattle.dsql_history.specs.declared.event.Op.TheVariants.{Exec, Query, One, Next, Scan, RowsClose, Err, DbClose, Stats}
+use Rattle.dsql_history.specs.declared.event.Control.TheVariants.{Tick, Set}
 use Rattle.dsql_history.specs.Readers.Journals.{journal}
 use Rattle.dsql_history.specs.Readers.Pool.{pool, place, wanted_by}
 use Rattle.dsql_history.specs.Rules.Moves.{hears_in}
@@ -20,7 +21,7 @@ use Rattle.dsql_history.specs.Legal.{Allowed, Lawful}
 use Rattle.dsql_laws.proofs.Tests.{same_number}
 use Rattle.dsql_work_laws.proofs.Rows.{same_or_not}
 use Rattle.dsql_lending_laws.proofs.Found.{place_in, changed_off, gone_at, gone_off, begun_off, shut_found}
-use Rattle.dsql_lending_laws.proofs.Cases.{limit_conns, limit_opened}
+use Rattle.dsql_lending_laws.proofs.Cases.{control_conns, control_opened}
 
 pub record Born (H : List Event) : Type 0 where
   pub none : (c : ℕ) → (pool H).opened < c → conn_of c (pool H).conns ≡ None
@@ -91,11 +92,18 @@ born (Pool (CloseStart c why) ∷ H) l = born_with H (Pool (CloseStart c why)) (
 born (Pool (Gone c) ∷ H) l = born_with H (Pool (Gone c)) (born H l.0) refl (λ d none. none_gone c d (pool H).conns none) (λ d. refl)
 born (Pool (Fell c n) ∷ H) l = born_with H (Pool (Fell c n)) (born H l.0) refl (λ d none. none_gone c d (pool H).conns none) (λ d. refl)
 born (Waits n ∷ H) l = born_with H (Waits n) (born H l.0) refl (λ c none. none) (λ c. refl)
+born (Ticked now ∷ H) l =
+    let b = born H l.0 in
+    let so_many = control_opened (Tick now) (pool H) in
+    record {
+      none = λ c above. ap (conn_of c) (control_conns (Tick now) (pool H)) ∙ (b.none c (omega (arith, above, so_many)));
+      silent = λ c above. b.silent c (omega (arith, above, so_many));
+    }
 born (SetLimit s k ∷ H) l =
     let b = born H l.0 in
-    let so_many = limit_opened s k (pool H) in
+    let so_many = control_opened (Set s k) (pool H) in
     record {
-      none = λ c above. ap (conn_of c) (limit_conns s k (pool H)) ∙ (b.none c (omega (arith, above, so_many)));
+      none = λ c above. ap (conn_of c) (control_conns (Set s k) (pool H)) ∙ (b.none c (omega (arith, above, so_many)));
       silent = λ c above. b.silent c (omega (arith, above, so_many));
     }
 born (Replied n reply ∷ H) l = born_with H (Replied n reply) (born H l.0) refl (λ c none. none) (λ c. refl)

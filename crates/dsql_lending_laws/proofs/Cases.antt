@@ -2,9 +2,10 @@
 use Rattle.std.proofs.Common.{◌≡◌, Bool, true, false, refl}
 use Rattle.std.specs.Prelude.{ℤ}
 use Rattle.dsql_pool.specs.Pooled.{Pooled}
-use Rattle.dsql_history.specs.declared.event.Setting.{Setting}
-use Rattle.dsql_history.specs.declared.event.Setting.TheVariants.{MaxOpen, MaxIdle}
-use Rattle.dsql_history.specs.Readers.Pool.{with_limit}
+use Rattle.dsql_history.specs.declared.event.Control.{Control}
+use Rattle.dsql_history.specs.declared.event.Setting.TheVariants.{MaxOpen, MaxIdle, MaxLife, MaxIdleTime}
+use Rattle.dsql_history.specs.declared.event.Control.TheVariants.{Tick, Set}
+use Rattle.dsql_history.specs.Readers.Pool.{with_control}
 
 pub true_false : (b : Bool) → b ≡ true → b ≡ false → ⊥
 true_false b h k = cc
@@ -13,10 +14,16 @@ pub is_false : (b : Bool) → (b ≡ true → ⊥) → b ≡ false
 is_false true h = absurd (h refl)
 is_false false h = refl
 
-pub limit_conns : (s : Setting) (k : ℤ) (p : Pooled) → (with_limit s k p).conns ≡ p.conns
-limit_conns MaxOpen k p = refl
-limit_conns MaxIdle k p = refl
+pub control_conns : (control : Control) (p : Pooled) → (with_control control p).conns ≡ p.conns
+control_conns (Tick k) p = refl
+control_conns (Set MaxOpen k) p = refl
+control_conns (Set MaxIdle k) p = refl
+control_conns (Set MaxLife k) p = refl
+control_conns (Set MaxIdleTime k) p = refl
 
-pub limit_opened : (s : Setting) (k : ℤ) (p : Pooled) → (with_limit s k p).opened ≡ p.opened
-limit_opened MaxOpen k p = refl
-limit_opened MaxIdle k p = refl
+pub control_opened : (control : Control) (p : Pooled) → (with_control control p).opened ≡ p.opened
+control_opened (Tick k) p = refl
+control_opened (Set MaxOpen k) p = refl
+control_opened (Set MaxIdle k) p = refl
+control_opened (Set MaxLife k) p = refl
+control_opened (Set MaxIdleTime k) p = refl

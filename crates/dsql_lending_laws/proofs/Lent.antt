@@ -16,8 +16,9 @@ use Rattle.dsql_pool.specs.Pooled.{next_number, place_at}
 use Rattle.dsql_pool.specs.Moved.{begun, shut}
 use Rattle.dsql_pool.proofs.Found.{KeepsNumber, found_changed}
 use Rattle.dsql_history.specs.declared.event.Event.{Event}
-use Rattle.dsql_history.specs.declared.event.Event.TheVariants.{Run, Entered, Heard, Pool, Waits, SetLimit, Replied, Ended}
+use Rattle.dsql_history.specs.declared.event.Event.TheVariants.{Run, Entered, Heard, Pool, Waits, Ticked, SetLimit, Replied, Ended}
 use Rattle.dsql_history.specs.declared.event.Op.TheVariants.{Exec, Query, One, Next, Scan, RowsClose, Err, DbClose, Stats}
+use Rattle.dsql_history.specs.declared.event.Control.TheVariants.{Tick, Set}
 use Rattle.dsql_history.specs.Readers.Pool.{pool, place, uses, wanted_by}
 use Rattle.dsql_history.specs.Rules.Moves.{moves_from, numbers_lending}
 use Rattle.dsql_history.specs.Rules.Line.{is_used, leaves_from}
@@ -26,7 +27,7 @@ use Rattle.dsql_laws.proofs.Tests.{both}
 use Rattle.dsql_work_laws.proofs.Rows.{same_or_not}
 use Rattle.dsql_lending_laws.proofs.Found.{place_in, uses_in, unwanted_lent, changed_off, gone_at, gone_off, begun_at, begun_off, shut_found, unwanted_in, unwanted_place}
 use Rattle.dsql_lending_laws.proofs.Born.{born, open_is_old}
-use Rattle.dsql_lending_laws.proofs.Cases.{true_false, limit_conns}
+use Rattle.dsql_lending_laws.proofs.Cases.{true_false, control_conns}
 
 -- what an allowed move finds
 pub record MoveFacts (H : List Event) (m : Move) : Type 0 where
@@ -80,7 +81,8 @@ stays_found : (H : List Event) (e : Event) (c t n : ℕ) → Lawful H → Allowe
 stays_found H (Pool m) c t n l a is used = inl (kept_move H m c t n l a is used)
 stays_found H (Entered client k DbClose) c t n l a is used = inr (shut_found c (pool H))
 stays_found H Ended c t n l a is used = inr (shut_found c (pool H))
-stays_found H (SetLimit s k) c t n l a is used = inl (ap (conn_of c) (limit_conns s k (pool H)))
+stays_found H (Ticked now) c t n l a is used = inl (ap (conn_of c) (control_conns (Tick now) (pool H)))
+stays_found H (SetLimit s k) c t n l a is used = inl (ap (conn_of c) (control_conns (Set s k) (pool H)))
 stays_found H (Entered client k (Exec text args)) c t n l a is used = inl refl
 stays_found H (Entered client k (Query label text args)) c t n l a is used = inl refl
 stays_found H (Entered client k (One dests text args)) c t n l a is used = inl refl
@@ -196,7 +198,8 @@ lent_before H (Pool (Gone d)) c t n l is = inl (before_gone H d c t n is)
 lent_before H (Pool (Fell d k)) c t n l is = inl (before_gone H d c t n is)
 lent_before H (Entered client k DbClose) c t n l is = inl (lent_when_shut H c t (Call n) is)
 lent_before H Ended c t n l is = inl (lent_when_shut H c t (Call n) is)
-lent_before H (SetLimit s k) c t n l is = inl (sym (ap (place_of c) (limit_conns s k (pool H))) ∙ is)
+lent_before H (Ticked now) c t n l is = inl (sym (ap (place_of c) (control_conns (Tick now) (pool H))) ∙ is)
+lent_before H (SetLimit s k) c t n l is = inl (sym (ap (place_of c) (control_conns (Set s k) (pool H))) ∙ is)
 lent_before H (Entered client k (Exec text args)) c t n l is = inl is
 lent_before H (Entered client k (Query label text args)) c t n l is = inl is
 lent_before H (Entered client k (One dests text args)) c t n l is = inl is

@@ -27,21 +27,22 @@ use Rattle.dsql_pool.specs.declared.request.AskFault.{AskFault}
 use Rattle.dsql_pool.specs.Changes.{lent, back, closing, opening, changed, gone, unwanted}
 use Rattle.dsql_pool.specs.Places.{conn_of}
 use Rattle.dsql_pool.specs.Pooled.{Pooled, place_at, next_tenure, next_number}
-use Rattle.dsql_pool.specs.Moved.{made, begun, shut}
+use Rattle.dsql_pool.specs.Moved.{made, begun, shut, ticked}
 use Rattle.dsql_pool.specs.Decisions.{closings_of_setting, falls_to, openings, due_openings, lends_to_oldest, moves_back, moves_unwanted, when_given_back, when_unwanted, when_opened}
-use Rattle.dsql_pool.specs.Calls.{wants, then_openings, moves_opened, moves_failed, moves_asked, open_set, idle_set}
+use Rattle.dsql_pool.specs.Calls.{wants, then_openings, moves_opened, moves_failed, moves_asked, open_set, idle_set, lifetime_set, idle_time_set}
 use Rattle.dsql_pool.proofs.Rows.{all_pass, all_filter, all_map, all_changed, found_passes}
 use Rattle.dsql_pool.proofs.Frees.{passing, count-cons}
 use Rattle.dsql_work.specs.Works.{asks}
 use Rattle.dsql_history.specs.declared.event.Event.{Event}
-use Rattle.dsql_history.specs.declared.event.Event.TheVariants.{Run, Entered, Heard, Pool, Waits, SetLimit, Replied, Ended}
+use Rattle.dsql_history.specs.declared.event.Event.TheVariants.{Run, Entered, Heard, Pool, Waits, Ticked, SetLimit, Replied, Ended}
 use Rattle.dsql_history.specs.declared.event.Op.{Op}
 use Rattle.dsql_history.specs.declared.event.Op.TheVariants.{Exec, Query, One, Next, Scan, RowsClose, Err as Fault, DbClose, Stats}
-use Rattle.dsql_history.specs.declared.event.Setting.{Setting}
-use Rattle.dsql_history.specs.declared.event.Setting.TheVariants.{MaxOpen, MaxIdle}
+use Rattle.dsql_history.specs.declared.event.Control.{Control}
+use Rattle.dsql_history.specs.declared.event.Setting.TheVariants.{MaxOpen, MaxIdle, MaxLife, MaxIdleTime}
+use Rattle.dsql_history.specs.declared.event.Control.TheVariants.{Tick, Set}
 use Rattle.dsql_history.specs.Same.{is_first}
-use Rattle.dsql_history.specs.Readers.Pool.{pool, place, home, request, wanted_by, with_move, with_limit, is_home, or_none}
-use Rattle.dsql_history.specs.Readers.Owed.{fate, given_back, answered, limit_set, left_of, owed}
+use Rattle.dsql_history.specs.Readers.Pool.{pool, place, home, request, wanted_by, with_move, with_control, is_home, or_none}
+use Rattle.dsql_history.specs.Readers.Owed.{fate, given_back, answered, controlled, left_of, owed}
 use Rattle.dsql_history.specs.Readers.Unfinished.{is_unfinished}
 use Rattle.dsql_history.specs.Readers.Works.{work, works, work_of}
 use Rattle.dsql_history.specs.Readers.Tries.{tries, has_a_try}
@@ -51,6 +52,7 @@ use Rattle.dsql_history.specs.Rules.Order.{follows}
 use Rattle.dsql_history.specs.Legal.{Lawful}
 use Rattle.dsql_laws.proofs.Tests.{both, together, move_is, same_number, same_itself, other_number}
 use Rattle.dsql_laws.proofs.OwedMoves.{owed_own}
+use Rattle.dsql_laws.proofs.Outdated.{outdated_all}
 use Rattle.dsql_laws.proofs.AtRest.{Keeps, keeps_of, asks_now}
 use Rattle.dsql_laws.proofs.Numbered.{unfinished_from_one}
 use Rattle.dsql_laws.proofs.Deserved.{is_home_of}
@@ -150,9 +152,12 @@ answered_well f answer c p (Some Idle) all h = refl
 answered_well f answer c p (Some (Lent t o)) all h = refl
 answered_well f answer c p None all h = refl
 
-limit_well : (f : Owner → Bool) (s : Setting) (n : ℤ) (p : Pooled) → lend_well f (limit_set s n p) ≡ true
-limit_well f MaxOpen n p = then_well f (closings_of_setting (open_set n p)) (open_set n p) (closings_well f IdleFull (take (length p.idle - (open_set n p).limits.max_idle) p.idle))
-limit_well f MaxIdle n p = closings_well f IdleFull (take (length p.idle - (idle_set n p).limits.max_idle) p.idle)
+control_well : (f : Owner → Bool) (control : Control) (p : Pooled) → lend_well f (controlled control p) ≡ true
+control_well f (Tick n) p = outdated_all (lends_well f) (λ c why. refl) (ticked n p)
+control_well f (Set MaxOpen n) p = then_well f (closings_of_setting (open_set n p)) (open_set n p) (closings_well f IdleFull (take (length p.idle - (open_set n p).limits.max_idle) p.idle))
+control_well f (Set MaxIdle n) p = closings_well f IdleFull (take (length p.idle - (idle_set n p).limits.max_idle) p.idle)
+control_well f (Set MaxLife n) p = outdated_all (lends_well f) (λ c why. refl) (lifetime_set n p)
+control_well f (Set MaxIdleTime n) p = outdated_all (lends_well f) (λ c why. refl) (idle_time_set n p)
 
 rest_well : (f : Owner → Bool) (ms : List Move) → lend_well f ms ≡ true → lend_well f (drop 1 ms) ≡ true
 rest_well f [] h = refl
@@ -266,9 +271,12 @@ joined_asked f r rs own h =
     let last : are_asked f (r ∷ []) ≡ true = together (f r.owner) true own refl in
     list_all-append (λ x. f x.owner) rs (r ∷ []) ∙ together (are_asked f rs) (are_asked f (r ∷ [])) h last
 
-same_limit : (f : Owner → Bool) (s : Setting) (n : ℤ) (p : Pooled) → are_owned f p.conns ≡ true → are_asked f p.waiting ≡ true → (are_owned f (with_limit s n p).conns ≡ true) × (are_asked f (with_limit s n p).waiting ≡ true)
-same_limit f MaxOpen n p h k = (h, k)
-same_limit f MaxIdle n p h k = (h, k)
+same_control : (f : Owner → Bool) (control : Control) (p : Pooled) → are_owned f p.conns ≡ true → are_asked f p.waiting ≡ true → (are_owned f (with_control control p).conns ≡ true) × (are_asked f (with_control control p).waiting ≡ true)
+same_control f (Tick n) p h k = (h, k)
+same_control f (Set MaxOpen n) p h k = (h, k)
+same_control f (Set MaxIdle n) p h k = (h, k)
+same_control f (Set MaxLife n) p h k = (h, k)
+same_control f (Set MaxIdleTime n) p h k = (h, k)
 
 owned_entered : (H : List Event) (client m : ℕ) (op : Op) → Owned H → pool (Entered client m op ∷ H) ≡ pool H → owed (Entered client m op ∷ H) ≡ [] → Owned (Entered client m op ∷ H)
 owned_entered H client m op s same none = record {
@@ -316,10 +324,14 @@ owned (Waits n ∷ H) l =
     let keeps = keeps_of H (Waits n) l.1 in
     let a = both (may_ask H n) (is_queued (ask_outcome H n)) keeps.asking in
     record { conns = s.conns; waiting = joined_asked (is_asker H) (request H n) (pool H).waiting (asker_of H n l.0 a.0) s.waiting; owing = refl }
+owned (Ticked now ∷ H) l =
+    let s = owned H l.0 in
+    let same = same_control (is_asker H) (Tick now) (pool H) s.conns s.waiting in
+    record { conns = same.0; waiting = same.1; owing = control_well (is_asker H) (Tick now) (pool H) }
 owned (SetLimit setting n ∷ H) l =
     let s = owned H l.0 in
-    let same = same_limit (is_asker H) setting n (pool H) s.conns s.waiting in
-    record { conns = same.0; waiting = same.1; owing = limit_well (is_asker H) setting n (pool H) }
+    let same = same_control (is_asker H) (Set setting n) (pool H) s.conns s.waiting in
+    record { conns = same.0; waiting = same.1; owing = control_well (is_asker H) (Set setting n) (pool H) }
 owned (Replied n reply ∷ H) l = let s = owned H l.0 in record { conns = s.conns; waiting = s.waiting; owing = refl }
 owned (Ended ∷ H) l =
     let s = owned H l.0 in record { conns = shut_owned (is_asker H) (pool H) s.conns; waiting = refl; owing = closings_well (is_asker H) causes.DbClosed (pool H).idle }

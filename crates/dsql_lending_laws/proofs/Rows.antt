@@ -16,7 +16,7 @@ use Rattle.dsql_work.specs.declared.work.Work.TheVariants.{HandOut, Fetch}
 use Rattle.dsql_work.specs.Works.{maker}
 use Rattle.dsql_work.specs.HandedOut.{Made, after_fetch, rows_at_end}
 use Rattle.dsql_history.specs.declared.event.Event.{Event}
-use Rattle.dsql_history.specs.declared.event.Event.TheVariants.{Run, Entered, Heard, Pool, Waits, SetLimit, Replied, Ended}
+use Rattle.dsql_history.specs.declared.event.Event.TheVariants.{Run, Entered, Heard, Pool, Waits, Ticked, SetLimit, Replied, Ended}
 use Rattle.dsql_history.specs.declared.event.Op.{Op}
 use Rattle.dsql_history.specs.declared.event.Op.TheVariants as ops
 use Rattle.dsql_history.specs.Readers.Unfinished.{is_unfinished}
@@ -100,6 +100,7 @@ rows_kept H Ended n =
 rows_kept H (Run version can) n = kept_same (rows_by H n)
 rows_kept H (Pool m) n = kept_same (rows_by H n)
 rows_kept H (Waits m) n = kept_same (rows_by H n)
+rows_kept H (Ticked now) n = kept_same (rows_by H n)
 rows_kept H (SetLimit setting m) n = kept_same (rows_by H n)
 rows_kept H (Replied m reply) n = kept_same (rows_by H n)
 

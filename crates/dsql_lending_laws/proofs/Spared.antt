@@ -27,28 +27,30 @@ use Rattle.dsql_pool.specs.Changes.{back, closing}
 use Rattle.dsql_pool.specs.Places.{conn_of, is_lent, is_idle, is_opening, is_closing}
 use Rattle.dsql_pool.specs.Pooled.{Pooled, place_at, next_tenure, next_number}
 use Rattle.dsql_pool.specs.Rest.{AtRest}
-use Rattle.dsql_pool.specs.Moved.{made, moved, shut}
-use Rattle.dsql_pool.specs.Decisions.{closings_of_setting, falls_to, openings, openings_for_waiting, due_openings, lends_to_oldest, moves_back, moves_unwanted, when_given_back, when_unwanted, when_opened, takes_idle}
-use Rattle.dsql_pool.specs.Calls.{then_openings, moves_opened, moves_failed, moves_gone, moves_closed, moves_asked, open_set, idle_set}
+use Rattle.dsql_pool.specs.Moved.{made, moved, shut, ticked}
+use Rattle.dsql_pool.specs.Decisions.{closings_of_setting, closings_of_tick, falls_to, openings, openings_for_waiting, due_openings, lends_to_oldest, moves_back, moves_unwanted, when_given_back, when_unwanted, when_opened, takes_idle}
+use Rattle.dsql_pool.specs.Calls.{then_openings, moves_opened, moves_failed, moves_gone, moves_closed, moves_asked, open_set, idle_set, lifetime_set, idle_time_set}
 use Rattle.dsql_pool.proofs.Found.{found_changed}
 use Rattle.dsql_pool.proofs.Members.{all_members}
 use Rattle.dsql_pool.proofs.Placed.{Placed}
 use Rattle.dsql_pool.proofs.Returning.{when_serves}
 use Rattle.dsql_pool.proofs.Young.{member_is_idle}
 use Rattle.dsql_history.specs.declared.event.Event.{Event}
-use Rattle.dsql_history.specs.declared.event.Event.TheVariants.{Run, Entered, Heard, Pool, Waits, SetLimit, Replied, Ended}
+use Rattle.dsql_history.specs.declared.event.Event.TheVariants.{Run, Entered, Heard, Pool, Waits, Ticked, SetLimit, Replied, Ended}
 use Rattle.dsql_history.specs.declared.event.Op.TheVariants.{Exec, Query, One, Next, Scan, RowsClose, Err as Fault, DbClose, Stats}
-use Rattle.dsql_history.specs.declared.event.Setting.{Setting}
-use Rattle.dsql_history.specs.declared.event.Setting.TheVariants.{MaxOpen, MaxIdle}
+use Rattle.dsql_history.specs.declared.event.Control.{Control}
+use Rattle.dsql_history.specs.declared.event.Setting.TheVariants.{MaxOpen, MaxIdle, MaxLife, MaxIdleTime}
+use Rattle.dsql_history.specs.declared.event.Control.TheVariants.{Tick, Set}
 use Rattle.dsql_history.specs.Same.{is_first}
-use Rattle.dsql_history.specs.Readers.Pool.{pool, place, request, with_move, with_limit}
-use Rattle.dsql_history.specs.Readers.Owed.{fate, given_back, answered, limit_set, leaving, left_of, owed}
+use Rattle.dsql_history.specs.Readers.Pool.{pool, place, request, with_move, with_control}
+use Rattle.dsql_history.specs.Readers.Owed.{fate, given_back, answered, controlled, leaving, left_of, owed}
 use Rattle.dsql_history.specs.Rules.Asking.{may_ask, ask_outcome, is_asked_for}
 use Rattle.dsql_history.specs.Rules.Causes.{is_owed, is_given_back}
 use Rattle.dsql_history.specs.Rules.Order.{follows}
 use Rattle.dsql_history.specs.Legal.{Lawful}
 use Rattle.dsql_laws.proofs.Tests.{both, second, together, move_is, same_number, same_itself}
 use Rattle.dsql_laws.proofs.OwedMoves.{is_own, are_own, own_moved, owed_own}
+use Rattle.dsql_laws.proofs.Outdated.{close_idle, outdated_close}
 use Rattle.dsql_laws.proofs.AtRest.{Keeps, keeps_of, owes, rested, before_event, rests_owing_nothing, asks_now}
 use Rattle.dsql_laws.proofs.AskedAllowed.{lends_idle}
 use Rattle.dsql_work_laws.proofs.Rows.{by_number}
@@ -140,6 +142,20 @@ surplus_spare : (p : Pooled) → Placed p.idle p.conns → are_sparing (closings
 surplus_spare p h =
     let k = length p.idle - p.limits.max_idle in closings_spare IdleFull (take k p.idle) p (first_elsewhere p k p.idle (idles_elsewhere p h))
 
+closing_idle_spare : (ms : List Move) (p : Pooled) → close_idle ms p ≡ true → are_sparing ms p ≡ true
+closing_idle_spare [] p h = refl
+closing_idle_spare (CloseStart c why ∷ ms) p h =
+    let a = both (is_idle (place_at p c)) (close_idle ms (moved (CloseStart c why) p)) h in
+    together (is_elsewhere p c) (are_sparing ms (moved (CloseStart c why) p)) (idle_elsewhere (place_at p c) a.0) (closing_idle_spare ms (moved (CloseStart c why) p) a.1)
+closing_idle_spare (OpenStart c n ∷ ms) p h = absurd cc
+closing_idle_spare (Lend c t o n ∷ ms) p h = absurd cc
+closing_idle_spare (Back c ∷ ms) p h = absurd cc
+closing_idle_spare (Gone c ∷ ms) p h = absurd cc
+closing_idle_spare (Fell c n ∷ ms) p h = absurd cc
+
+outdated_spare : (p : Pooled) → Placed p.idle p.conns → are_sparing (closings_of_tick p) p ≡ true
+outdated_spare p h = closing_idle_spare (closings_of_tick p) p (outdated_close p h)
+
 idle_when_shut : (at : Option Place) → is_idle at ≡ true → not (is_opening (option_map unwanted_place at)) ≡ true
 idle_when_shut (Some Idle) h = refl
 idle_when_shut (Some (Lent t o)) h = absurd cc
@@ -202,9 +218,12 @@ back_later c p Rests lent = refl
 back_later c p Serves lent =
     lends_idle_one c (next_tenure p c) (moved (Back c) p) p.waiting (changed_place c (back p.moment) Idle p.conns (λ _. refl) (λ _. refl) (lent_there (place_at p c) lent))
 
-limit_spares : (s : Setting) (n : ℤ) (p : Pooled) → AtRest p → are_sparing (limit_set s n p) (with_limit s n p) ≡ true
-limit_spares MaxOpen n p h = then_spare (closings_of_setting (open_set n p)) (open_set n p) (surplus_spare (open_set n p) h.placed)
-limit_spares MaxIdle n p h = surplus_spare (idle_set n p) h.placed
+control_spares : (control : Control) (p : Pooled) → AtRest p → are_sparing (controlled control p) (with_control control p) ≡ true
+control_spares (Tick n) p h = outdated_spare (ticked n p) h.placed
+control_spares (Set MaxOpen n) p h = then_spare (closings_of_setting (open_set n p)) (open_set n p) (surplus_spare (open_set n p) h.placed)
+control_spares (Set MaxIdle n) p h = surplus_spare (idle_set n p) h.placed
+control_spares (Set MaxLife n) p h = outdated_spare (lifetime_set n p) h.placed
+control_spares (Set MaxIdleTime n) p h = outdated_spare (idle_time_set n p) h.placed
 
 -- what is owed after each event
 
@@ -247,6 +266,7 @@ spared_later (Run version can ∷ H) h = refl
 spared_later (Entered client n op ∷ H) h = later_of (owed (Entered client n op ∷ H)) (pool (Entered client n op ∷ H)) h
 spared_later (Pool m ∷ H) h = later_of (owed (Pool m ∷ H)) (pool (Pool m ∷ H)) h
 spared_later (Waits n ∷ H) h = refl
+spared_later (Ticked now ∷ H) h = later_of (owed (Ticked now ∷ H)) (pool (Ticked now ∷ H)) h
 spared_later (SetLimit s n ∷ H) h = later_of (owed (SetLimit s n ∷ H)) (pool (SetLimit s n ∷ H)) h
 spared_later (Replied n reply ∷ H) h = refl
 spared_later (Ended ∷ H) h = later_of (owed (Ended ∷ H)) (pool (Ended ∷ H)) h
@@ -266,7 +286,8 @@ spared (Entered client n Stats ∷ H) l = refl
 spared (Heard e ∷ H) l = answered_later e.answer e.conn (pool H) (place H e.conn)
 spared (Pool m ∷ H) l = move_spares H m (owed H) (keeps_of H (Pool m) l.1) refl (owed_own H) (spared_later H (spared H l.0))
 spared (Waits n ∷ H) l = refl
-spared (SetLimit s n ∷ H) l = limit_spares s n (pool H) (before_event H (SetLimit s n) refl l.1 (rested H l.0))
+spared (Ticked now ∷ H) l = control_spares (Tick now) (pool H) (before_event H (Ticked now) refl l.1 (rested H l.0))
+spared (SetLimit s n ∷ H) l = control_spares (Set s n) (pool H) (before_event H (SetLimit s n) refl l.1 (rested H l.0))
 spared (Replied n reply ∷ H) l = refl
 spared (Ended ∷ H) l = let rest = before_event H Ended refl l.1 (rested H l.0) in closed_spare (pool H) rest.placed
 
@@ -364,6 +385,7 @@ opened_by (Run version can ∷ H) c s h opens = absurd cc
 opened_by (Entered client n op ∷ H) c s h opens = absurd (spared_first c (owed (Entered client n op ∷ H)) (pool (Entered client n op ∷ H)) s h opens)
 opened_by (Pool m ∷ H) c s h opens = absurd (spared_first c (owed (Pool m ∷ H)) (pool (Pool m ∷ H)) s h opens)
 opened_by (Waits n ∷ H) c s h opens = absurd cc
+opened_by (Ticked now ∷ H) c s h opens = absurd (spared_first c (owed (Ticked now ∷ H)) (pool (Ticked now ∷ H)) s h opens)
 opened_by (SetLimit setting n ∷ H) c s h opens = absurd (spared_first c (owed (SetLimit setting n ∷ H)) (pool (SetLimit setting n ∷ H)) s h opens)
 opened_by (Replied n reply ∷ H) c s h opens = absurd cc
 opened_by (Ended ∷ H) c s h opens = absurd (spared_first c (owed (Ended ∷ H)) (pool (Ended ∷ H)) s h opens)
@@ -460,6 +482,7 @@ first_follows (due ∷ later) (Run version can) c h f = absurd cc
 first_follows (due ∷ later) (Entered client n op) c h f = absurd cc
 first_follows (due ∷ later) (Heard e) c h f = absurd cc
 first_follows (due ∷ later) (Waits n) c h f = absurd cc
+first_follows (due ∷ later) (Ticked now) c h f = absurd cc
 first_follows (due ∷ later) (SetLimit setting n) c h f = absurd cc
 first_follows (due ∷ later) (Replied n reply) c h f = absurd cc
 first_follows (due ∷ later) Ended c h f = absurd cc

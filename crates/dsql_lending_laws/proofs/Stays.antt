@@ -11,7 +11,7 @@ use Rattle.dsql_work.specs.declared.work.Work.TheVariants.{Look}
 use Rattle.dsql_work.specs.Works.{asks}
 use Rattle.dsql_work.specs.Line.{Asked, aim_of}
 use Rattle.dsql_history.specs.declared.event.Event.{Event}
-use Rattle.dsql_history.specs.declared.event.Event.TheVariants.{Run, Entered, Heard, Pool, Waits, SetLimit, Replied, Ended}
+use Rattle.dsql_history.specs.declared.event.Event.TheVariants.{Run, Entered, Heard, Pool, Waits, Ticked, SetLimit, Replied, Ended}
 use Rattle.dsql_history.specs.declared.record.CallRecord.{CallRecord}
 use Rattle.dsql_history.specs.Readers.Calls.{calls, call_record, nobody, with_record, entering, decided_by, decision}
 use Rattle.dsql_history.specs.Readers.Unfinished.{unfinished, is_unfinished}
@@ -32,6 +32,7 @@ as_many (Replied n reply ∷ H) = as_many H ∙ sym (length-set (calls H) n (rec
 as_many (Run version can ∷ H) = as_many H
 as_many (Pool m ∷ H) = as_many H
 as_many (Waits n ∷ H) = as_many H
+as_many (Ticked now ∷ H) = as_many H
 as_many (SetLimit setting n ∷ H) = as_many H
 as_many (Ended ∷ H) = as_many H
 
@@ -51,6 +52,7 @@ work_stays H (Heard e) m busy = refl
 work_stays H (Run version can) m busy = refl
 work_stays H (Pool move) m busy = refl
 work_stays H (Waits n) m busy = refl
+work_stays H (Ticked now) m busy = refl
 work_stays H (SetLimit setting n) m busy = refl
 work_stays H (Replied n reply) m busy = refl
 work_stays H Ended m busy = refl
@@ -87,6 +89,7 @@ asked_stays H (Replied m reply) n busy = asked_row (calls H) m n (λ r. record r
 asked_stays H (Run version can) n busy = refl
 asked_stays H (Pool move) n busy = refl
 asked_stays H (Waits m) n busy = refl
+asked_stays H (Ticked now) n busy = refl
 asked_stays H (SetLimit setting m) n busy = refl
 asked_stays H Ended n busy = refl
 
@@ -103,5 +106,6 @@ unfinished_stays H (Heard x) e on h = h
 unfinished_stays H (Run version can) e on h = h
 unfinished_stays H (Pool move) e on h = h
 unfinished_stays H (Waits n) e on h = h
+unfinished_stays H (Ticked now) e on h = h
 unfinished_stays H (SetLimit setting n) e on h = h
 unfinished_stays H Ended e on h = h

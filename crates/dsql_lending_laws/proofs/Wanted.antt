@@ -12,8 +12,9 @@ use Rattle.dsql_pool.specs.Calls.{wants, moves_asked}
 use Rattle.dsql_pool.proofs.Frees.{passing}
 use Rattle.dsql_work.specs.Works.{asks}
 use Rattle.dsql_history.specs.declared.event.Event.{Event}
-use Rattle.dsql_history.specs.declared.event.Event.TheVariants.{Run, Entered, Heard, Pool, Waits, SetLimit, Replied, Ended}
+use Rattle.dsql_history.specs.declared.event.Event.TheVariants.{Run, Entered, Heard, Pool, Waits, Ticked, SetLimit, Replied, Ended}
 use Rattle.dsql_history.specs.declared.event.Op.TheVariants.{Exec, Query, One, Next, Scan, RowsClose, Err, DbClose, Stats}
+use Rattle.dsql_history.specs.declared.event.Control.TheVariants.{Tick, Set}
 use Rattle.dsql_history.specs.declared.record.Try.{Try}
 use Rattle.dsql_history.specs.declared.record.Try.TheVariants.{Served, Refused}
 use Rattle.dsql_history.specs.Same.{is_first}
@@ -32,7 +33,7 @@ use Rattle.dsql_laws.proofs.Counts.{request-more, left_fewer, waits_some, change
 use Rattle.dsql_laws.proofs.Deserved.{is_home_of, Deserves, deserved}
 use Rattle.dsql_laws.proofs.Tried.{is_lent_out, lent_count, lent_tried}
 use Rattle.dsql_laws.proofs.Holdings.{by_call, opening_asked, one_at_most, lending_from}
-use Rattle.dsql_laws.proofs.Wanting.{wanted, is_opening_for, shut_wants, begun_wants, wanted_opening, same_limit, homes_apart, found_counts, lent_found}
+use Rattle.dsql_laws.proofs.Wanting.{wanted, is_opening_for, shut_wants, begun_wants, wanted_opening, same_control, homes_apart, found_counts, lent_found}
 use Rattle.dsql_lending_laws.proofs.Found.{place_in}
 use Rattle.dsql_lending_laws.proofs.Owners.{lent_number}
 use Rattle.dsql_lending_laws.proofs.Lent.{move_facts}
@@ -83,6 +84,7 @@ still_tried H (Run version can) n h = h
 still_tried H (Entered client m op) n h = h
 still_tried H (Heard e) n h = h
 still_tried H (Waits m) n h = h
+still_tried H (Ticked now) n h = h
 still_tried H (SetLimit s k) n h = h
 still_tried H (Replied m reply) n h = h
 still_tried H Ended n h = h
@@ -128,7 +130,8 @@ wants_no_more H (Pool (Fell c k)) n a some silent none =
     let few = gone_fewer (is_opening_for n) c (pool H).conns in
     omega (arith, few_wait, few, none)
 wants_no_more H (Waits k) n a some silent none = waits_no_more H k n a silent none
-wants_no_more H (SetLimit s k) n a some silent none = same_limit s k n (pool H) ∙ none
+wants_no_more H (Ticked now) n a some silent none = same_control (Tick now) n (pool H) ∙ none
+wants_no_more H (SetLimit s k) n a some silent none = same_control (Set s k) n (pool H) ∙ none
 wants_no_more H (Entered client m DbClose) n a some silent none = let few = shut_wants n (pool H) in omega (arith, few, none)
 wants_no_more H Ended n a some silent none = let few = shut_wants n (pool H) in omega (arith, few, none)
 wants_no_more H (Entered client m (Exec text args)) n a some silent none = none

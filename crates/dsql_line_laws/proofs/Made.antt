@@ -5,7 +5,7 @@ use Rattle.dsql_journal.specs.declared.entry.Entry.{Entry}
 use Rattle.dsql_journal.specs.Readers.{has}
 use Rattle.dsql_work.specs.declared.work.Work.{Work}
 use Rattle.dsql_history.specs.declared.event.Event.{Event}
-use Rattle.dsql_history.specs.declared.event.Event.TheVariants.{Run, Entered, Heard, Pool, Waits, SetLimit, Replied, Ended}
+use Rattle.dsql_history.specs.declared.event.Event.TheVariants.{Run, Entered, Heard, Pool, Waits, Ticked, SetLimit, Replied, Ended}
 use Rattle.dsql_history.specs.declared.event.Op.{Op}
 use Rattle.dsql_history.specs.declared.record.CallRecord.{CallRecord}
 use Rattle.dsql_history.specs.Readers.Calls.{calls, decided_by, decision, nobody, with_record}
@@ -89,6 +89,7 @@ call_made (Replied m reply ∷ H) n l u =
 call_made (Run version can ∷ H) n l u = call_made H n l.0 u
 call_made (Pool move ∷ H) n l u = call_made H n l.0 u
 call_made (Waits m ∷ H) n l u = call_made H n l.0 u
+call_made (Ticked now ∷ H) n l u = call_made H n l.0 u
 call_made (SetLimit setting k ∷ H) n l u = call_made H n l.0 u
 call_made (Ended ∷ H) n l u = call_made H n l.0 u
 

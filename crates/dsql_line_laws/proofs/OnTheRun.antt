@@ -3,19 +3,23 @@ use Rattle.std.proofs.Common.{◌≡◌, ℕ, ℤ, Bool, true, false, not, ◌||
 use Rattle.std.proofs.lemmas.List.Folds.{list_all-append}
 use Rattle.dsql_journal.specs.Readers.{is_empty}
 use Rattle.dsql_history.specs.declared.event.Event.{Event}
-use Rattle.dsql_history.specs.declared.event.Event.TheVariants.{Entered, SetLimit, Ended}
+use Rattle.dsql_history.specs.declared.event.Event.TheVariants.{Entered, Ended}
 use Rattle.dsql_history.specs.declared.event.Op.{Op}
+use Rattle.dsql_history.specs.declared.event.Control.{Control}
 use Rattle.dsql_history.specs.declared.event.Setting.{Setting}
-use Rattle.dsql_history.specs.declared.event.Setting.TheVariants.{MaxOpen, MaxIdle}
+use Rattle.dsql_history.specs.declared.event.Setting.TheVariants.{MaxOpen, MaxIdle, MaxLife, MaxIdleTime}
+use Rattle.dsql_history.specs.declared.event.Control.TheVariants.{Tick, Set}
+use Rattle.dsql_history.specs.Readers.Controls.{told, taken, told_after}
 use Rattle.dsql_history.specs.Readers.Course.{has_ended}
 use Rattle.dsql_laws.proofs.OwedAllowed.{or_first, or_second}
 use Rattle.dsql_laws.proofs.Tests.{same_itself, together}
 use Rattle.dsql_follows.specs.declared.line.Line.{Line}
-use Rattle.dsql_follows.specs.declared.line.Line.TheVariants.{Skip, Set, Client, Start}
+use Rattle.dsql_follows.specs.declared.line.Line.TheVariants as lines
+use Rattle.dsql_follows.specs.declared.line.Line.TheVariants.{Skip, Client, Start}
 use Rattle.dsql_follows.specs.Moments.{Moment, Passed, at_end, met}
 use Rattle.dsql_follows.specs.Same.{same_setting}
 use Rattle.dsql_follows.specs.Turns.{comes_in_turn, has_run_out}
-use Rattle.dsql_follows.specs.Sentences.{Part, after_part, come_in_turn, enters_at_once, enters_for, enters_now, has_own_step, is_entry_of, is_set_by, is_set_in, is_whole, later, may_enter, oldest, passed, runs_in_turn, runs_on, sets_at_once, starts_alone, steps_once, tidies_once}
+use Rattle.dsql_follows.specs.Sentences.{Part, after_part, come_in_turn, enters_at_once, enters_for, enters_now, has_own_step, is_entry_of, is_set_in, is_told, is_whole, later, may_enter, oldest, passed, runs_in_turn, runs_on, sets_at_once, starts_alone, steps_once, tidies_once}
 use Rattle.dsql_follows.specs.Follows.{FollowsEnd, MakesSteps, ends_in_turn, is_done}
 use Rattle.dsql_step_laws.specs.Steps.{IsAtRest, IsStep, stepped}
 use Rattle.dsql_walk_laws.specs.Whole.{Steps}
@@ -37,9 +41,9 @@ entry_stays false client newer older h = refl
 entry_stays true client newer [] h = absurd cc
 entry_stays true client newer (p ∷ older) h = ap (is_entry_of client) (oldest_behind newer p older) ∙ h
 
-set_stays : (line : Line) (newer older : List Passed) → is_set_in line (oldest older) ≡ true → is_set_in line (oldest (newer ++ older)) ≡ true
-set_stays line newer [] h = absurd cc
-set_stays line newer (p ∷ older) h = ap (is_set_in line) (oldest_behind newer p older) ∙ h
+set_stays : (control : Control) (newer older : List Passed) → is_set_in control (oldest older) ≡ true → is_set_in control (oldest (newer ++ older)) ≡ true
+set_stays control newer [] h = absurd cc
+set_stays control newer (p ∷ older) h = ap (is_set_in control) (oldest_behind newer p older) ∙ h
 
 enters_still : (m : Moment) (line : Line) (events more : List Event) (newer : List Passed) → passed (met line m) (more ++ events) ≡ newer ++ passed (met line m) events
     → enters_at_once m (part_of line events) ≡ true → enters_at_once m (part_of line (more ++ events)) ≡ true
@@ -51,8 +55,8 @@ enters_still m line events more newer is h = refl
 
 sets_still : (m : Moment) (line : Line) (events more : List Event) (newer : List Passed) → passed (met line m) (more ++ events) ≡ newer ++ passed (met line m) events
     → sets_at_once m (part_of line events) ≡ true → sets_at_once m (part_of line (more ++ events)) ≡ true
-sets_still m (Set setting n) events more newer is h =
-    ap (λ ps. is_set_in (Set setting n) (oldest ps)) is ∙ set_stays (Set setting n) newer (passed (met (Set setting n) m) events) h
+sets_still m (lines.Control control) events more newer is h =
+    ap (λ ps. is_set_in control (oldest ps)) is ∙ set_stays control newer (passed (met (lines.Control control) m) events) h
 sets_still m line events more newer is h = refl
 
 -- A line's own step has come, where it has one.
@@ -62,12 +66,12 @@ entry_came false client ps h own = absurd cc
 entry_came true client [] h own = absurd cc
 entry_came true client (p ∷ ps) h own = refl
 
-set_came : (line : Line) (ps : List Passed) → is_set_in line (oldest ps) ≡ true → is_empty ps ≡ false
-set_came line [] h = absurd cc
-set_came line (p ∷ ps) h = refl
+set_came : (control : Control) (ps : List Passed) → is_set_in control (oldest ps) ≡ true → is_empty ps ≡ false
+set_came control [] h = absurd cc
+set_came control (p ∷ ps) h = refl
 
 own_came : (m : Moment) (line : Line) (events : List Event) → BeginsAsItShould m (part_of line events) → has_own_step m line ≡ true → is_empty (passed (met line m) events) ≡ false
-own_came m (Set setting n) events b own = set_came (Set setting n) (passed (met (Set setting n) m) events) b.set
+own_came m (lines.Control control) events b own = set_came control (passed (met (lines.Control control) m) events) b.set
 own_came m (Client client op) events b own = entry_came (enters_now m client) client (passed (met (Client client op) m) events) b.entered own
 own_came m line events b own = absurd cc
 
@@ -117,6 +121,16 @@ runs_in_steps m line events now rest whole on own h turn =
 setting_itself : (setting : Setting) → same_setting setting setting ≡ true
 setting_itself MaxOpen = refl
 setting_itself MaxIdle = refl
+setting_itself MaxLife = refl
+setting_itself MaxIdleTime = refl
+
+told_itself : (control : Control) → is_told control (told control) ≡ true
+told_itself (Tick now) = same_itself now
+told_itself (Set setting k) = together (same_setting setting setting) (int_eq k k) (setting_itself setting) (int_itself k)
+
+tells_no_entry : (m : Moment) (control : Control) → may_enter m (told control) ≡ true
+tells_no_entry m (Tick now) = refl
+tells_no_entry m (Set setting k) = refl
 
 pub entry_first : (m : Moment) (first : Event) (client n k : ℕ) (op : Op) (events : List Event) → IsStep m first n events → first ≡ Entered client k op → is_entry_of client (oldest (passed m events)) ≡ true
 entry_first m first client n k op events s entered = ap (is_entry_of client) s.oldest ∙ (ap (enters_for client) entered ∙ same_itself client)
@@ -132,15 +146,16 @@ runs_from_entry m client op first n k entered events rest whole enters is s may 
       in_turn = ap (λ own. come_in_turn (cond own (later (passed there events)) (passed there events))) enters ∙ first_in_turn there first n events s;
     }
 
-pub runs_from_set : (m : Moment) (setting : Setting) (k : ℤ) (first : Event) (n : ℕ) (events : List Event) → IsAtRest m → is_whole m ≡ true → first ≡ SetLimit setting k
-    → IsStep (met (Set setting k) m) first n events → is_whole (stepped (met (Set setting k) m) first n events) ≡ true → RunsOn m (Set setting k) events (stepped (met (Set setting k) m) first n events)
-runs_from_set m setting k first n events rest whole is s after =
-    let line = Set setting k in
+pub runs_from_control : (m : Moment) (control : Control) (first : Event) (n : ℕ) (events : List Event) → IsAtRest m → is_whole m ≡ true → first ≡ told_after m.past control
+    → IsStep (met (lines.Control control) m) first n events → is_whole (stepped (met (lines.Control control) m) first n events) ≡ true
+    → RunsOn m (lines.Control control) events (stepped (met (lines.Control control) m) first n events)
+runs_from_control m control first n events rest whole is s after =
+    let line = lines.Control control in
     let there = met line m in
-    let its : is_set_by line first ≡ true = ap (is_set_by line) is ∙ together (same_setting setting setting) (int_eq k k) (setting_itself setting) (int_itself k) in
+    let its : is_told (taken m.past control) first ≡ true = ap (is_told (taken m.past control)) is ∙ told_itself (taken m.past control) in
     record {
-      steps = one_step there first n events (ap (met line) rest) whole s (ap (may_enter there) is) after;
-      begins = record { entered = refl; set = ap (is_set_in line) s.oldest ∙ its };
+      steps = one_step there first n events (ap (met line) rest) whole s (ap (may_enter there) is ∙ tells_no_entry there (taken m.past control)) after;
+      begins = record { entered = refl; set = ap (is_set_in control) s.oldest ∙ its };
       in_turn = first_in_turn there first n events s;
     }
 
@@ -167,7 +182,7 @@ followed m line events now r out started stepped tidied after =
 pub runs_done : (m : Moment) (line : Line) (events : List Event) (now : Moment) → RunsOn m line events now → runs_on line ≡ true → has_run_out now ≡ true
     → FollowsTo m line events now
 runs_done m Skip events now r on out = followed m Skip events now r out refl refl refl r.steps.now_is
-runs_done m (Set setting k) events now r on out = followed m (Set setting k) events now r out refl refl refl r.steps.now_is
+runs_done m (lines.Control control) events now r on out = followed m (lines.Control control) events now r out refl refl refl r.steps.now_is
 runs_done m (Client client op) events now r on out = followed m (Client client op) events now r out refl refl refl r.steps.now_is
 runs_done m line events now r on out = absurd cc
 

@@ -1,13 +1,15 @@
 //! Lines that run on, and the script's end.
 
-ghost use Rattle.std.specs.Prelude.{◌≡◌, ◌++◌, [], ℕ, ℤ, true, false, List};
+ghost use Rattle.std.specs.Prelude.{◌≡◌, ◌++◌, [], ℕ, true, false, List};
 ghost use Rattle.dsql_history.specs.declared.event.Event.{Event};
-ghost use Rattle.dsql_history.specs.declared.event.Event.TheVariants.{Entered, SetLimit, Ended};
+ghost use Rattle.dsql_history.specs.declared.event.Event.TheVariants.{Entered, Ended};
 ghost use Rattle.dsql_history.specs.declared.event.Op.{Op};
-ghost use Rattle.dsql_history.specs.declared.event.Setting.{Setting};
+ghost use Rattle.dsql_history.specs.declared.event.Control.{Control};
+ghost use Rattle.dsql_history.specs.Readers.Controls.{told_after};
 ghost use Rattle.dsql_history.specs.Readers.Course.{has_ended};
 ghost use Rattle.dsql_follows.specs.declared.line.Line.{Line};
-ghost use Rattle.dsql_follows.specs.declared.line.Line.TheVariants.{Client, Set};
+ghost use Rattle.dsql_follows.specs.declared.line.Line.TheVariants as lines;
+ghost use Rattle.dsql_follows.specs.declared.line.Line.TheVariants.{Client};
 ghost use Rattle.dsql_follows.specs.Moments.{Moment, at_end, met};
 ghost use Rattle.dsql_follows.specs.Turns.{comes_in_turn, has_run_out};
 ghost use Rattle.dsql_follows.specs.Sentences.{come_in_turn, enters_now, has_own_step, is_whole, may_enter, passed, runs_in_turn, runs_on};
@@ -30,7 +32,7 @@ pub fn a_line_runs_on()
     ensures nothing { (m : Moment) (line : Line) → IsAtRest m → is_whole m ≡ true → runs_on line ≡ true → has_own_step m line ≡ false → RunsOn m line [] (met line m) }
     ensures in_steps { (m : Moment) (line : Line) (events : List Event) (now : Moment) → IsAtRest m → is_whole m ≡ true → runs_on line ≡ true → has_own_step m line ≡ false → Steps (met line m) events now → come_in_turn (passed (met line m) events) ≡ true → RunsOn m line events now }
     ensures enters { (m : Moment) (client : ℕ) (op : Op) (first : Event) (n k : ℕ) (entered : Op) (events : List Event) → IsAtRest m → is_whole m ≡ true → enters_now m client ≡ true → first ≡ Entered client k entered → IsStep (met (Client client op) m) first n events → may_enter (met (Client client op) m) first ≡ true → is_whole (stepped (met (Client client op) m) first n events) ≡ true → RunsOn m (Client client op) events (stepped (met (Client client op) m) first n events) }
-    ensures sets { (m : Moment) (setting : Setting) (number : ℤ) (first : Event) (n : ℕ) (events : List Event) → IsAtRest m → is_whole m ≡ true → first ≡ SetLimit setting number → IsStep (met (Set setting number) m) first n events → is_whole (stepped (met (Set setting number) m) first n events) ≡ true → RunsOn m (Set setting number) events (stepped (met (Set setting number) m) first n events) }
+    ensures controls { (m : Moment) (control : Control) (first : Event) (n : ℕ) (events : List Event) → IsAtRest m → is_whole m ≡ true → first ≡ told_after m.past control → IsStep (met (lines.Control control) m) first n events → is_whole (stepped (met (lines.Control control) m) first n events) ≡ true → RunsOn m (lines.Control control) events (stepped (met (lines.Control control) m) first n events) }
     ensures further { (m : Moment) (line : Line) (events more : List Event) (now after : Moment) → RunsOn m line events now → Steps now more after → come_in_turn (passed now more) ≡ true → RunsOn m line (more ++ events) after }
 {}
 

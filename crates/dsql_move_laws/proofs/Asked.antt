@@ -12,10 +12,11 @@ use Rattle.dsql_pool.specs.Decisions.{takes_idle, are_too_many, may_open, last}
 use Rattle.dsql_pool.specs.Pooled.{Pooled, next_number, next_tenure}
 use Rattle.dsql_work.specs.Works.{asks}
 use Rattle.dsql_history.specs.declared.event.Event.{Event}
-use Rattle.dsql_history.specs.declared.event.Event.TheVariants.{Run, Entered, Heard, Pool, Waits, SetLimit, Replied, Ended}
+use Rattle.dsql_history.specs.declared.event.Event.TheVariants.{Run, Entered, Heard, Pool, Waits, Ticked, SetLimit, Replied, Ended}
 use Rattle.dsql_history.specs.declared.event.Op.TheVariants.{Exec, Query, One, Next, Scan, RowsClose, Err as Fault, DbClose, Stats}
-use Rattle.dsql_history.specs.declared.event.Setting.{Setting}
-use Rattle.dsql_history.specs.declared.event.Setting.TheVariants.{MaxOpen, MaxIdle}
+use Rattle.dsql_history.specs.declared.event.Control.{Control}
+use Rattle.dsql_history.specs.declared.event.Setting.TheVariants.{MaxOpen, MaxIdle, MaxLife, MaxIdleTime}
+use Rattle.dsql_history.specs.declared.event.Control.TheVariants.{Tick, Set}
 use Rattle.dsql_history.specs.declared.record.Try.{Try}
 use Rattle.dsql_history.specs.declared.reply.DbEnd.{DbEnd}
 use Rattle.dsql_history.specs.declared.reply.DbEnd.TheVariants as ends
@@ -24,7 +25,7 @@ use Rattle.dsql_history.specs.declared.reply.Reply.TheVariants.{DbClosed}
 use Rattle.dsql_history.specs.Readers.Calls.{decided, told_by_tries, told_by_others, reply_due}
 use Rattle.dsql_history.specs.Readers.Course.{db_end, or_end}
 use Rattle.dsql_history.specs.Readers.Owed.{owed}
-use Rattle.dsql_history.specs.Readers.Pool.{pool, request, with_limit}
+use Rattle.dsql_history.specs.Readers.Pool.{pool, request, with_control}
 use Rattle.dsql_history.specs.Readers.Tries.{tries, has_a_try}
 use Rattle.dsql_history.specs.Readers.Unfinished.{is_unfinished}
 use Rattle.dsql_history.specs.Readers.Works.{work}
@@ -45,9 +46,12 @@ pub ended_by_now : (o : Option DbEnd) (end : DbEnd) → is_some (or_end o end) �
 ended_by_now None end = refl
 ended_by_now (Some earlier) end = refl
 
-limit_closed : (s : Setting) (k : ℤ) (p : Pooled) → (with_limit s k p).closed ≡ p.closed
-limit_closed MaxOpen k p = refl
-limit_closed MaxIdle k p = refl
+control_closed : (control : Control) (p : Pooled) → (with_control control p).closed ≡ p.closed
+control_closed (Tick k) p = refl
+control_closed (Set MaxOpen k) p = refl
+control_closed (Set MaxIdle k) p = refl
+control_closed (Set MaxLife k) p = refl
+control_closed (Set MaxIdleTime k) p = refl
 
 closed_end : (H : List Event) → (pool H).closed ≡ true → is_some (db_end H) ≡ true
 closed_end [] h = absurd cc
@@ -69,7 +73,8 @@ closed_end (Pool (CloseStart c why) ∷ H) h = closed_end H h
 closed_end (Pool (Gone c) ∷ H) h = closed_end H h
 closed_end (Pool (Fell c k) ∷ H) h = closed_end H h
 closed_end (Waits k ∷ H) h = closed_end H h
-closed_end (SetLimit s k ∷ H) h = closed_end H (sym (limit_closed s k (pool H)) ∙ h)
+closed_end (Ticked now ∷ H) h = closed_end H (sym (control_closed (Tick now) (pool H)) ∙ h)
+closed_end (SetLimit s k ∷ H) h = closed_end H (sym (control_closed (Set s k) (pool H)) ∙ h)
 closed_end (Replied m reply ∷ H) h = closed_end H h
 closed_end (Ended ∷ H) h = ended_by_now (db_end H) ends.EndOfRun
 

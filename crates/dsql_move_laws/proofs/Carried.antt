@@ -33,7 +33,7 @@ use Rattle.dsql_call_laws.proofs.Untried.{moves_of}
 use Rattle.dsql_lending_laws.proofs.Found.{place_in, changed_place, gone_at}
 use Rattle.dsql_lending_laws.proofs.Owners.{owner_is_call}
 use Rattle.dsql_other_laws.proofs.Answered.{fallen_replies}
-use Rattle.dsql_other_laws.proofs.LimitMoves.{are_quiet, all_quiet}
+use Rattle.dsql_other_laws.proofs.ControlMoves.{are_quiet, all_quiet}
 use Rattle.dsql_heard_laws.proofs.Answered.{lent_used}
 use Rattle.dsql_move_laws.proofs.Lends.{open_place, still_waits, all_used, somewhere_lent}
 use Rattle.dsql_move_laws.proofs.Moved.{conn_moved, Left, goes_on_each, line_beside, over_same, due_moved, used_moved, stays_somewhere}

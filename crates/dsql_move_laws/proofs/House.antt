@@ -41,7 +41,7 @@ use Rattle.dsql_sending_laws.proofs.Lines.{line_here}
 use Rattle.dsql_sending_laws.proofs.Sound.{sound}
 use Rattle.dsql_sending_laws.proofs.UnderWay.{UnderWay}
 use Rattle.dsql_other_laws.proofs.Alike.{used_alike, lent_alike}
-use Rattle.dsql_other_laws.proofs.LimitMoves.{openings_quiet}
+use Rattle.dsql_other_laws.proofs.ControlMoves.{openings_quiet}
 use Rattle.dsql_heard_laws.proofs.Settling.{Left, settling_stays, stays_somewhere}
 use Rattle.dsql_move_laws.proofs.Carried.{Carried, carried_itself, carried_on, quiet_carried, IsUnlent, lend_carried, back_carried, close_carried, gone_carried, fell_carried}
 use Rattle.dsql_move_laws.proofs.Moved.{LentTo, lent_or_silent, goes_on_each}

@@ -1,5 +1,6 @@
 -- A connection that was opened for a call is lent to that call alone.
 use Rattle.std.proofs.Common.{◌≡◌, ℕ, zero, suc, ◌+◌, ◌==◌, Bool, true, false, ◌&&◌, cond, List, [], ◌∷◌, ◌++◌, map, length, ◌-◌, Option, Some, None, refl, sym, ap, subst, ◌∙◌}
+use Rattle.std.specs.List.{list_all}
 use Rattle.std.specs.Prelude.{ℤ, Result, Ok, Err, drop, take}
 use Rattle.std.specs.Option.{option_map}
 use Rattle.dsql_journal.specs.Readers.{is_empty}
@@ -17,26 +18,27 @@ use Rattle.dsql_pool.specs.declared.moves.CloseCause.TheVariants.{IdleFull, DbCl
 use Rattle.dsql_pool.specs.declared.moves.Move.{Move}
 use Rattle.dsql_pool.specs.declared.moves.Move.TheVariants.{OpenStart, Lend, Back, CloseStart, Gone, Fell}
 use Rattle.dsql_pool.specs.declared.request.Asked.TheVariants as asked
-use Rattle.dsql_pool.specs.Calls.{then_openings, moves_asked, moves_opened, moves_failed, moves_gone, moves_closed, open_set, idle_set}
+use Rattle.dsql_pool.specs.Calls.{then_openings, moves_asked, moves_opened, moves_failed, moves_gone, moves_closed, open_set, idle_set, lifetime_set, idle_time_set}
 use Rattle.dsql_pool.specs.Changes.{back}
 use Rattle.dsql_pool.specs.declared.moves.Outcome.{Outcome}
 use Rattle.dsql_pool.specs.declared.moves.Outcome.TheVariants.{Closes, Serves, Rests}
 use Rattle.dsql_pool.specs.declared.request.Asked.{Asked}
 use Rattle.dsql_pool.specs.declared.request.AskFault.{AskFault}
-use Rattle.dsql_pool.specs.Decisions.{takes_idle, openings, due_openings, closings_of_setting, lends_to_oldest, moves_back, moves_unwanted, when_unwanted, when_opened, when_given_back, falls_to}
-use Rattle.dsql_pool.specs.Moved.{moved, made, shut}
+use Rattle.dsql_pool.specs.Decisions.{takes_idle, openings, due_openings, closings_of_setting, closings_of_tick, lends_to_oldest, moves_back, moves_unwanted, when_unwanted, when_opened, when_given_back, falls_to}
+use Rattle.dsql_pool.specs.Moved.{moved, made, shut, ticked}
 use Rattle.dsql_pool.specs.Places.{conn_of, is_idle, is_lent}
 use Rattle.dsql_pool.specs.Rest.{AtRest}
 use Rattle.dsql_pool.specs.Pooled.{Pooled, next_number, next_tenure, place_at}
 use Rattle.dsql_pool.proofs.Found.{found_changed}
 use Rattle.dsql_history.specs.declared.event.Event.{Event}
-use Rattle.dsql_history.specs.declared.event.Event.TheVariants.{Run, Entered, Heard, Pool, Waits, SetLimit, Replied, Ended}
+use Rattle.dsql_history.specs.declared.event.Event.TheVariants.{Run, Entered, Heard, Pool, Waits, Ticked, SetLimit, Replied, Ended}
 use Rattle.dsql_history.specs.declared.event.Op.TheVariants.{Exec, Query, One, Next, Scan, RowsClose, Err, DbClose, Stats}
-use Rattle.dsql_history.specs.declared.event.Setting.{Setting}
-use Rattle.dsql_history.specs.declared.event.Setting.TheVariants.{MaxOpen, MaxIdle}
+use Rattle.dsql_history.specs.declared.event.Control.{Control}
+use Rattle.dsql_history.specs.declared.event.Setting.TheVariants.{MaxOpen, MaxIdle, MaxLife, MaxIdleTime}
+use Rattle.dsql_history.specs.declared.event.Control.TheVariants.{Tick, Set}
 use Rattle.dsql_history.specs.Same.{is_first}
-use Rattle.dsql_history.specs.Readers.Owed.{fate, given_back, answered, limit_set, leaving, left_of, owed}
-use Rattle.dsql_history.specs.Readers.Pool.{pool, place, request, with_move, with_limit}
+use Rattle.dsql_history.specs.Readers.Owed.{fate, given_back, answered, controlled, leaving, left_of, owed}
+use Rattle.dsql_history.specs.Readers.Pool.{pool, place, request, with_move, with_control}
 use Rattle.dsql_history.specs.Rules.Asking.{may_ask, ask_outcome}
 use Rattle.dsql_history.specs.Rules.Causes.{is_given_back, is_owed}
 use Rattle.dsql_history.specs.Rules.Order.{follows}
@@ -44,6 +46,7 @@ use Rattle.dsql_history.specs.Legal.{Lawful}
 use Rattle.dsql_laws.proofs.AtRest.{Keeps, keeps_of, asks_now, owes, rests_owing_nothing}
 use Rattle.dsql_laws.proofs.AskedAllowed.{lends_idle}
 use Rattle.dsql_laws.proofs.OwedMoves.{is_own, are_own, own_moved, owed_own}
+use Rattle.dsql_laws.proofs.Outdated.{outdated_all}
 use Rattle.dsql_laws.proofs.Tests.{both, together, second, same_itself, move_is}
 
 -- the place isn't one that is opened for another call than n
@@ -98,6 +101,13 @@ then_lend_none ms p h = let q = made ms p in none-append ms (openings (due_openi
 surplus_lends_none : (p : Pooled) → lend_none (closings_of_setting p) ≡ true
 surplus_lends_none p = closings_lend_none IdleFull (take (length p.idle - p.limits.max_idle) p.idle)
 
+all_lend_none : (ms : List Move) → list_all is_no_lending ms ≡ true → lend_none ms ≡ true
+all_lend_none [] h = refl
+all_lend_none (m ∷ ms) h = let a = both (is_no_lending m) (list_all is_no_lending ms) h in together (is_no_lending m) (lend_none ms) a.0 (all_lend_none ms a.1)
+
+outdated_lend_none : (p : Pooled) → lend_none (closings_of_tick p) ≡ true
+outdated_lend_none p = all_lend_none (closings_of_tick p) (outdated_all is_no_lending (λ c why. refl) p)
+
 -- what each event makes due
 
 oldest_well : (c t : ℕ) (rs : List Request) (p : Pooled) → ((n : ℕ) → is_meant n (place_at p c) ≡ true) → all_well (lends_to_oldest c t rs) p ≡ true
@@ -128,9 +138,12 @@ answered_well answer c p (Some Idle) = refl
 answered_well answer c p (Some (Lent t o)) = refl
 answered_well answer c p None = refl
 
-limit_well : (s : Setting) (k : ℤ) (p : Pooled) → all_well (limit_set s k p) (with_limit s k p) ≡ true
-limit_well MaxOpen k p = none_well (limit_set MaxOpen k p) (open_set k p) (then_lend_none (closings_of_setting (open_set k p)) (open_set k p) (surplus_lends_none (open_set k p)))
-limit_well MaxIdle k p = none_well (limit_set MaxIdle k p) (idle_set k p) (surplus_lends_none (idle_set k p))
+control_well : (control : Control) (p : Pooled) → all_well (controlled control p) (with_control control p) ≡ true
+control_well (Tick k) p = none_well (controlled (Tick k) p) (ticked k p) (outdated_lend_none (ticked k p))
+control_well (Set MaxOpen k) p = none_well (controlled (Set MaxOpen k) p) (open_set k p) (then_lend_none (closings_of_setting (open_set k p)) (open_set k p) (surplus_lends_none (open_set k p)))
+control_well (Set MaxIdle k) p = none_well (controlled (Set MaxIdle k) p) (idle_set k p) (surplus_lends_none (idle_set k p))
+control_well (Set MaxLife k) p = none_well (controlled (Set MaxLife k) p) (lifetime_set k p) (outdated_lend_none (lifetime_set k p))
+control_well (Set MaxIdleTime k) p = none_well (controlled (Set MaxIdleTime k) p) (idle_time_set k p) (outdated_lend_none (idle_time_set k p))
 
 closed_well : (p : Pooled) → all_well (moves_closed p) (shut p) ≡ true
 closed_well p = none_well (moves_closed p) (shut p) (closings_lend_none DbClosed p.idle)
@@ -189,7 +202,8 @@ owed_well (Entered client n Stats ∷ H) l = refl
 owed_well (Heard e ∷ H) l = answered_well e.answer e.conn (pool H) (place H e.conn)
 owed_well (Pool m ∷ H) l = move_well H m (owed H) (keeps_of H (Pool m) l.1) refl (owed_own H) (owed_well H l.0)
 owed_well (Waits n ∷ H) l = refl
-owed_well (SetLimit s n ∷ H) l = limit_well s n (pool H)
+owed_well (Ticked now ∷ H) l = control_well (Tick now) (pool H)
+owed_well (SetLimit s n ∷ H) l = control_well (Set s n) (pool H)
 owed_well (Replied n reply ∷ H) l = refl
 owed_well (Ended ∷ H) l = closed_well (pool H)
 

@@ -12,13 +12,14 @@ use Rattle.dsql_pool.specs.Pooled.{next_number}
 use Rattle.dsql_pool.proofs.Found.{KeepsNumber, found_changed}
 use Rattle.dsql_pool.proofs.Placed.{found_map}
 use Rattle.dsql_history.specs.declared.event.Event.{Event}
-use Rattle.dsql_history.specs.declared.event.Event.TheVariants.{Run, Entered, Heard, Pool, Waits, SetLimit, Replied, Ended}
+use Rattle.dsql_history.specs.declared.event.Event.TheVariants.{Run, Entered, Heard, Pool, Waits, Ticked, SetLimit, Replied, Ended}
 use Rattle.dsql_history.specs.declared.event.Op.TheVariants.{Exec, Query, One, Next, Scan, RowsClose, Err, DbClose, Stats}
+use Rattle.dsql_history.specs.declared.event.Control.TheVariants.{Tick, Set}
 use Rattle.dsql_history.specs.Readers.Pool.{pool, wanted_by}
 use Rattle.dsql_laws.proofs.Able.{keeps_number}
 use Rattle.dsql_laws.proofs.Tests.{both, together, same_itself, other_number}
 use Rattle.dsql_call_laws.proofs.Lists.{same_or_not}
-use Rattle.dsql_lending_laws.proofs.Cases.{limit_conns}
+use Rattle.dsql_lending_laws.proofs.Cases.{control_conns}
 use Rattle.dsql_lending_laws.proofs.Found.{changed_off, gone_at, gone_off}
 use Rattle.dsql_other_laws.proofs.Numbers.{none_next}
 use Rattle.dsql_other_laws.proofs.Untouched.{apart_of}
@@ -116,7 +117,8 @@ once (Pool (CloseStart c why) ∷ H) = changed_once c closing (pool H).conns (λ
 once (Pool (Gone c) ∷ H) = gone_once c (pool H).conns (once H)
 once (Pool (Fell c k) ∷ H) = gone_once c (pool H).conns (once H)
 once (Waits k ∷ H) = once H
-once (SetLimit s k ∷ H) = ap is_once (limit_conns s k (pool H)) ∙ once H
+once (Ticked now ∷ H) = ap is_once (control_conns (Tick now) (pool H)) ∙ once H
+once (SetLimit s k ∷ H) = ap is_once (control_conns (Set s k) (pool H)) ∙ once H
 once (Replied m reply ∷ H) = once H
 once (Ended ∷ H) = mapped_once unwanted (pool H).conns keeps_number (once H)
 

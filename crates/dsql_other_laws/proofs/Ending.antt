@@ -27,7 +27,7 @@ use Rattle.dsql_laws.proofs.AtRest.{before_event, rested}
 use Rattle.dsql_laws.proofs.Able.{keeps_number, stays_idle}
 use Rattle.dsql_other_laws.proofs.Untouched.{all_so}
 use Rattle.dsql_call_laws.proofs.Ends.{waits_only, quiet_at_end}
-use Rattle.dsql_other_laws.proofs.LimitMoves.{are_quiet, closings_quiet, all_quiet}
+use Rattle.dsql_other_laws.proofs.ControlMoves.{are_quiet, closings_quiet, all_quiet}
 use Rattle.dsql_other_laws.proofs.Answered.{left_waiting_replies}
 
 pub closed_quiet : (p : Pooled) → Placed p.idle p.conns → are_quiet (moves_closed p) (shut p) ≡ true

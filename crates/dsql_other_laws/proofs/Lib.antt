@@ -3,7 +3,7 @@ pub mod Untouched
 pub mod Numbers
 pub mod Openings
 pub mod Closings
-pub mod LimitMoves
+pub mod ControlMoves
 pub mod Entries
 pub mod Answered
 pub mod Ending

@@ -12,11 +12,12 @@ use Rattle.dsql_pool.specs.Places.{conn_of, is_opening}
 use Rattle.dsql_pool.specs.Pooled.{Pooled, next_number}
 use Rattle.dsql_pool.proofs.Rows.{all_filter, all_pass}
 use Rattle.dsql_history.specs.declared.event.Event.{Event}
-use Rattle.dsql_history.specs.declared.event.Event.TheVariants.{Run, Entered, Heard, Pool, Waits, SetLimit, Replied, Ended}
+use Rattle.dsql_history.specs.declared.event.Event.TheVariants.{Run, Entered, Heard, Pool, Waits, Ticked, SetLimit, Replied, Ended}
 use Rattle.dsql_history.specs.declared.event.Op.TheVariants.{Exec, Query, One, Next, Scan, RowsClose, Err, DbClose, Stats}
-use Rattle.dsql_history.specs.declared.event.Setting.{Setting}
-use Rattle.dsql_history.specs.declared.event.Setting.TheVariants.{MaxOpen, MaxIdle}
-use Rattle.dsql_history.specs.Readers.Pool.{pool, wanted_by, with_limit}
+use Rattle.dsql_history.specs.declared.event.Control.{Control}
+use Rattle.dsql_history.specs.declared.event.Setting.TheVariants.{MaxOpen, MaxIdle, MaxLife, MaxIdleTime}
+use Rattle.dsql_history.specs.declared.event.Control.TheVariants.{Tick, Set}
+use Rattle.dsql_history.specs.Readers.Pool.{pool, wanted_by, with_control}
 use Rattle.dsql_laws.proofs.Tests.{both, together, same_number}
 
 abbrev is_numbered : ℕ → Conn → Bool
@@ -56,9 +57,12 @@ begun_numbered p x is h =
     ∙ together (list_all (is_numbered n) p.conns) (list_all (is_numbered n) (x ∷ [])) (all_pass (is_numbered p.opened) (is_numbered n) p.conns (still_numbered p.opened) h)
     (together (is_numbered n x) true (one_numbered p.opened x is) refl)
 
-same_limit : (s : Setting) (k : ℤ) (p : Pooled) → are_numbered p ≡ true → are_numbered (with_limit s k p) ≡ true
-same_limit MaxOpen k p h = h
-same_limit MaxIdle k p h = h
+same_control : (control : Control) (p : Pooled) → are_numbered p ≡ true → are_numbered (with_control control p) ≡ true
+same_control (Tick k) p h = h
+same_control (Set MaxOpen k) p h = h
+same_control (Set MaxIdle k) p h = h
+same_control (Set MaxLife k) p h = h
+same_control (Set MaxIdleTime k) p h = h
 
 numbered : (H : List Event) → are_numbered (pool H) ≡ true
 numbered [] = refl
@@ -80,7 +84,8 @@ numbered (Pool (CloseStart c why) ∷ H) = changed_numbered (pool H).opened c cl
 numbered (Pool (Gone c) ∷ H) = all_filter (is_numbered (pool H).opened) (λ x. not (x.number == c)) (pool H).conns (numbered H)
 numbered (Pool (Fell c k) ∷ H) = all_filter (is_numbered (pool H).opened) (λ x. not (x.number == c)) (pool H).conns (numbered H)
 numbered (Waits k ∷ H) = numbered H
-numbered (SetLimit s k ∷ H) = same_limit s k (pool H) (numbered H)
+numbered (Ticked now ∷ H) = same_control (Tick now) (pool H) (numbered H)
+numbered (SetLimit s k ∷ H) = same_control (Set s k) (pool H) (numbered H)
 numbered (Replied m reply ∷ H) = numbered H
 numbered (Ended ∷ H) = mapped_numbered (pool H).opened unwanted (pool H).conns unwanted_number (numbered H)
 

@@ -11,13 +11,15 @@ use Rattle.dsql_wait.specs.Requests.{waits}
 use Rattle.dsql_pool.specs.Places.{is_for}
 use Rattle.dsql_pool.specs.Pooled.{without}
 use Rattle.dsql_history.specs.declared.event.Event.{Event}
-use Rattle.dsql_history.specs.declared.event.Event.TheVariants.{Waits, SetLimit, Replied}
-use Rattle.dsql_history.specs.declared.event.Setting.{Setting}
-use Rattle.dsql_history.specs.declared.event.Setting.TheVariants.{MaxOpen, MaxIdle}
+use Rattle.dsql_history.specs.declared.event.Event.TheVariants.{Waits, Replied}
+use Rattle.dsql_history.specs.declared.event.Control.{Control}
+use Rattle.dsql_history.specs.declared.event.Setting.TheVariants.{MaxOpen, MaxIdle, MaxLife, MaxIdleTime}
+use Rattle.dsql_history.specs.declared.event.Control.TheVariants.{Tick, Set}
 use Rattle.dsql_history.specs.declared.record.Stand.{Stand}
 use Rattle.dsql_history.specs.declared.record.Stand.TheVariants as stands_at
 use Rattle.dsql_history.specs.declared.reply.Reply.{Reply}
 use Rattle.dsql_history.specs.Readers.Calls.{site, decided, told_by_others}
+use Rattle.dsql_history.specs.Readers.Controls.{told}
 use Rattle.dsql_history.specs.Readers.Pool.{pool, place, home, request, smallest}
 use Rattle.dsql_history.specs.Readers.Unfinished.{unfinished, is_unfinished}
 use Rattle.dsql_history.specs.Rules.Line.{line_of, due_for}
@@ -55,14 +57,20 @@ due_waits H k m =
     due_alike H (Waits k ∷ H) m
     (record { unfinished = refl; its_work = refl; live = λ j. refl; enders = λ j. same_ender H (Waits k) j refl; lines = waits_lines H k; decided = refl })
 
-limit_lines : (H : List Event) (s : Setting) (k : ℤ) (n : ℕ) (w : Wish) → line_of (SetLimit s k ∷ H) n w ≡ line_of H n w
-limit_lines H MaxOpen k n w = line_asked H (SetLimit MaxOpen k ∷ H) n w (home H n) (place H (home H n)) refl (λ a t. refl)
-limit_lines H MaxIdle k n w = line_asked H (SetLimit MaxIdle k ∷ H) n w (home H n) (place H (home H n)) refl (λ a t. refl)
+control_lines : (H : List Event) (control : Control) (n : ℕ) (w : Wish) → line_of (told control ∷ H) n w ≡ line_of H n w
+control_lines H (Tick k) n w = line_asked H (told (Tick k) ∷ H) n w (home H n) (place H (home H n)) refl (λ a t. refl)
+control_lines H (Set MaxOpen k) n w = line_asked H (told (Set MaxOpen k) ∷ H) n w (home H n) (place H (home H n)) refl (λ a t. refl)
+control_lines H (Set MaxIdle k) n w = line_asked H (told (Set MaxIdle k) ∷ H) n w (home H n) (place H (home H n)) refl (λ a t. refl)
+control_lines H (Set MaxLife k) n w = line_asked H (told (Set MaxLife k) ∷ H) n w (home H n) (place H (home H n)) refl (λ a t. refl)
+control_lines H (Set MaxIdleTime k) n w = line_asked H (told (Set MaxIdleTime k) ∷ H) n w (home H n) (place H (home H n)) refl (λ a t. refl)
 
-pub due_limit : (H : List Event) (s : Setting) (k : ℤ) (m : ℕ) → due_for (SetLimit s k ∷ H) m ≡ due_for H m
-due_limit H s k m =
-    due_alike H (SetLimit s k ∷ H) m
-    (record { unfinished = refl; its_work = refl; live = λ j. refl; enders = λ j. same_ender H (SetLimit s k) j refl; lines = limit_lines H s k; decided = refl })
+pub due_control : (H : List Event) (control : Control) (m : ℕ) → due_for (told control ∷ H) m ≡ due_for H m
+due_control H (Tick k) m =
+    due_alike H (told (Tick k) ∷ H) m
+    (record { unfinished = refl; its_work = refl; live = λ j. refl; enders = λ j. same_ender H (told (Tick k)) j refl; lines = control_lines H (Tick k); decided = refl })
+due_control H (Set s k) m =
+    due_alike H (told (Set s k) ∷ H) m
+    (record { unfinished = refl; its_work = refl; live = λ j. refl; enders = λ j. same_ender H (told (Set s k)) j refl; lines = control_lines H (Set s k); decided = refl })
 
 -- what is lent is in use as before
 
@@ -72,9 +80,12 @@ used_replied H n reply = lent_alike H (Replied n reply ∷ H) refl (λ k. used_a
 pub used_waits : (H : List Event) (n : ℕ) → uses_what_is_lent (Waits n ∷ H) ≡ uses_what_is_lent H
 used_waits H n = lent_alike H (Waits n ∷ H) refl (λ k. used_alike H (Waits n ∷ H) k refl (waits_lines H n))
 
-pub used_limit : (H : List Event) (s : Setting) (k : ℤ) → uses_what_is_lent (SetLimit s k ∷ H) ≡ uses_what_is_lent H
-used_limit H MaxOpen k = lent_alike H (SetLimit MaxOpen k ∷ H) refl (λ n. used_alike H (SetLimit MaxOpen k ∷ H) n refl (limit_lines H MaxOpen k))
-used_limit H MaxIdle k = lent_alike H (SetLimit MaxIdle k ∷ H) refl (λ n. used_alike H (SetLimit MaxIdle k ∷ H) n refl (limit_lines H MaxIdle k))
+pub used_control : (H : List Event) (control : Control) → uses_what_is_lent (told control ∷ H) ≡ uses_what_is_lent H
+used_control H (Tick k) = lent_alike H (told (Tick k) ∷ H) refl (λ n. used_alike H (told (Tick k) ∷ H) n refl (control_lines H (Tick k)))
+used_control H (Set MaxOpen k) = lent_alike H (told (Set MaxOpen k) ∷ H) refl (λ n. used_alike H (told (Set MaxOpen k) ∷ H) n refl (control_lines H (Set MaxOpen k)))
+used_control H (Set MaxIdle k) = lent_alike H (told (Set MaxIdle k) ∷ H) refl (λ n. used_alike H (told (Set MaxIdle k) ∷ H) n refl (control_lines H (Set MaxIdle k)))
+used_control H (Set MaxLife k) = lent_alike H (told (Set MaxLife k) ∷ H) refl (λ n. used_alike H (told (Set MaxLife k) ∷ H) n refl (control_lines H (Set MaxLife k)))
+used_control H (Set MaxIdleTime k) = lent_alike H (told (Set MaxIdleTime k) ∷ H) refl (λ n. used_alike H (told (Set MaxIdleTime k) ∷ H) n refl (control_lines H (Set MaxIdleTime k)))
 
 -- where each call stands
 
@@ -90,9 +101,12 @@ stand_replied H n reply m apart =
     ap (λ d. standing w o d (site H m) (decided (Replied n reply ∷ H) m) (told_by_others H m)) (due_replied H n reply m apart)
     ∙ ap (λ x. standing w o (due_for H m) (site H m) x (told_by_others H m)) (ap (λ r. r.decided) (other_replied H n reply m apart))
 
-pub stand_limit : (H : List Event) (s : Setting) (k : ℤ) (m : ℕ) → stand (SetLimit s k ∷ H) m ≡ stand H m
-stand_limit H MaxOpen k m = ap (λ d. standing (waits m (pool H).waiting) (smallest (is_for m) (pool H)) d (site H m) (decided H m) (told_by_others H m)) (due_limit H MaxOpen k m)
-stand_limit H MaxIdle k m = ap (λ d. standing (waits m (pool H).waiting) (smallest (is_for m) (pool H)) d (site H m) (decided H m) (told_by_others H m)) (due_limit H MaxIdle k m)
+pub stand_control : (H : List Event) (control : Control) (m : ℕ) → stand (told control ∷ H) m ≡ stand H m
+stand_control H (Tick k) m = ap (λ d. standing (waits m (pool H).waiting) (smallest (is_for m) (pool H)) d (site H m) (decided H m) (told_by_others H m)) (due_control H (Tick k) m)
+stand_control H (Set MaxOpen k) m = ap (λ d. standing (waits m (pool H).waiting) (smallest (is_for m) (pool H)) d (site H m) (decided H m) (told_by_others H m)) (due_control H (Set MaxOpen k) m)
+stand_control H (Set MaxIdle k) m = ap (λ d. standing (waits m (pool H).waiting) (smallest (is_for m) (pool H)) d (site H m) (decided H m) (told_by_others H m)) (due_control H (Set MaxIdle k) m)
+stand_control H (Set MaxLife k) m = ap (λ d. standing (waits m (pool H).waiting) (smallest (is_for m) (pool H)) d (site H m) (decided H m) (told_by_others H m)) (due_control H (Set MaxLife k) m)
+stand_control H (Set MaxIdleTime k) m = ap (λ d. standing (waits m (pool H).waiting) (smallest (is_for m) (pool H)) d (site H m) (decided H m) (told_by_others H m)) (due_control H (Set MaxIdleTime k) m)
 
 waits_more : (m : ℕ) (rs : List Request) (r : Request) → waits m rs ≡ true → waits m (rs ++ r ∷ []) ≡ true
 waits_more m [] r h = absurd cc
@@ -174,7 +188,10 @@ goes_on_waits H n h = all_so (λ m. (m == n) || is_some (stand H m)) (λ m. (m =
         by true is k = let same : m ≡ n = same_number m n is in subst (λ j. is_some (stand (Waits n ∷ H) j) ≡ true) (sym same) (itself_waits H n)
         by false is k = stand_waits H n m k
 
-pub goes_on_limit : (H : List Event) (s : Setting) (k : ℤ) (n : ℕ) → goes_on_but n H ≡ true → goes_on_but n (SetLimit s k ∷ H) ≡ true
-goes_on_limit H s k n h =
-    all_so (λ m. (m == n) || is_some (stand H m)) (λ m. (m == n) || is_some (stand (SetLimit s k ∷ H) m)) (unfinished H)
-    (λ m so. ap (λ x. (m == n) || is_some x) (stand_limit H s k m) ∙ so) h
+pub goes_on_control : (H : List Event) (control : Control) (n : ℕ) → goes_on_but n H ≡ true → goes_on_but n (told control ∷ H) ≡ true
+goes_on_control H (Tick k) n h =
+    all_so (λ m. (m == n) || is_some (stand H m)) (λ m. (m == n) || is_some (stand (told (Tick k) ∷ H) m)) (unfinished H)
+    (λ m so. ap (λ x. (m == n) || is_some x) (stand_control H (Tick k) m) ∙ so) h
+goes_on_control H (Set s k) n h =
+    all_so (λ m. (m == n) || is_some (stand H m)) (λ m. (m == n) || is_some (stand (told (Set s k) ∷ H) m)) (unfinished H)
+    (λ m so. ap (λ x. (m == n) || is_some x) (stand_control H (Set s k) m) ∙ so) h

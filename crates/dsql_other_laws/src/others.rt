@@ -1,14 +1,15 @@
 //! What touches no other call. A history is read newest first.
 
-ghost use Rattle.std.specs.Prelude.{◌≡◌, ◌≢◌, ◌∷◌, ℕ, ℤ, true, List, Some};
+ghost use Rattle.std.specs.Prelude.{◌≡◌, ◌≢◌, ◌∷◌, ℕ, true, List, Some};
 ghost use Rattle.dsql_pool.specs.declared.moves.Move.TheVariants.{CloseStart, OpenStart};
 ghost use Rattle.dsql_pool.specs.declared.conn.Place.TheVariants.{Idle};
 ghost use Rattle.dsql_pool.specs.declared.moves.CloseCause.{CloseCause};
 ghost use Rattle.dsql_history.specs.declared.event.Event.{Event};
-ghost use Rattle.dsql_history.specs.declared.event.Event.TheVariants.{Entered, Pool, Replied, SetLimit, Waits};
+ghost use Rattle.dsql_history.specs.declared.event.Event.TheVariants.{Entered, Pool, Replied, Waits};
 ghost use Rattle.dsql_history.specs.declared.event.Op.{Op};
-ghost use Rattle.dsql_history.specs.declared.event.Setting.{Setting};
+ghost use Rattle.dsql_history.specs.declared.event.Control.{Control};
 ghost use Rattle.dsql_history.specs.declared.reply.Reply.{Reply};
+ghost use Rattle.dsql_history.specs.Readers.Controls.{told};
 ghost use Rattle.dsql_history.specs.Readers.Owed.{owed};
 ghost use Rattle.dsql_history.specs.Readers.Pool.{place};
 ghost use Rattle.dsql_history.specs.Rules.Line.{due_for};
@@ -33,12 +34,12 @@ pub fn a_wait_touches_no_other_call()
     ensures others { (history : List Event) (n : ℕ) → goes_on_but n history ≡ true → goes_on (Waits n ∷ history) ≡ true }
 {}
 
-/// A limit, with the moves that it makes due, leaves what is due of each call, which connections are in use, and
-/// where the calls are.
-pub fn a_limit_touches_no_call()
-    ensures due { (history : List Event) (setting : Setting) (number : ℤ) (m : ℕ) → Lawful (SetLimit setting number ∷ history) → due_for (with_moves (owed (SetLimit setting number ∷ history)) (SetLimit setting number ∷ history)) m ≡ due_for history m }
-    ensures used { (history : List Event) (setting : Setting) (number : ℤ) → Lawful (SetLimit setting number ∷ history) → uses_what_is_lent (with_moves (owed (SetLimit setting number ∷ history)) (SetLimit setting number ∷ history)) ≡ uses_what_is_lent history }
-    ensures others { (history : List Event) (setting : Setting) (number : ℤ) (n : ℕ) → Lawful (SetLimit setting number ∷ history) → goes_on_but n history ≡ true → goes_on_but n (with_moves (owed (SetLimit setting number ∷ history)) (SetLimit setting number ∷ history)) ≡ true }
+/// A moment or a limit, with the moves that it makes due, leaves what is due of each call, which connections are in
+/// use, and where the calls are.
+pub fn a_control_touches_no_call()
+    ensures due { (history : List Event) (control : Control) (m : ℕ) → Lawful (told control ∷ history) → due_for (with_moves (owed (told control ∷ history)) (told control ∷ history)) m ≡ due_for history m }
+    ensures used { (history : List Event) (control : Control) → Lawful (told control ∷ history) → uses_what_is_lent (with_moves (owed (told control ∷ history)) (told control ∷ history)) ≡ uses_what_is_lent history }
+    ensures others { (history : List Event) (control : Control) (n : ℕ) → Lawful (told control ∷ history) → goes_on_but n history ≡ true → goes_on_but n (with_moves (owed (told control ∷ history)) (told control ∷ history)) ≡ true }
 {}
 
 /// An opening that begins leaves what is due of each call, and what is lent is in use as before. Where each call but

@@ -1,12 +1,14 @@
 -- A call enters, a limit is set, and the run ends.
 use Rattle.std.proofs.Common.{◌≡◌, ◌≢◌, ◌≤◌, ◌<◌, inl, inr, ℕ, Bool, true, false, not, ◌&&◌, List, ◌++◌, length, Option, Some, None, is_some, cond, Result, Ok, Err, refl, sym, ap, subst, ◌∙◌, arith}
-use Rattle.std.specs.Prelude.{ℤ, OnErr}
+use Rattle.std.specs.Prelude.{◌∷◌, OnErr}
 use Rattle.dsql_journal.specs.declared.entry.Permit.{Permit}
 use Rattle.dsql_history.specs.declared.event.Event.{Event}
-use Rattle.dsql_history.specs.declared.event.Event.TheVariants.{Entered, SetLimit, Ended}
-use Rattle.dsql_history.specs.declared.event.Setting.{Setting}
+use Rattle.dsql_history.specs.declared.event.Event.TheVariants.{Entered, Ended}
+use Rattle.dsql_history.specs.declared.event.Control.{Control}
+use Rattle.dsql_history.specs.declared.event.Control.TheVariants.{Tick, Set}
 use Rattle.dsql_history.specs.Readers.Calls.{is_busy, next_call}
 use Rattle.dsql_history.specs.Readers.Clients.{call_of, is_free}
+use Rattle.dsql_history.specs.Readers.Controls.{told, taken, told_after}
 use Rattle.dsql_history.specs.Readers.Course.{has_ended}
 use Rattle.dsql_history.specs.Rules.Flights.{permitted}
 use Rattle.dsql_history.specs.Rules.Stands.{stand}
@@ -21,22 +23,22 @@ use Rattle.dsql_seats.specs.declared.seats.KeptLine.{KeptLine}
 use Rattle.dsql_seats.specs.Seats.{Seat, seat}
 use Rattle.dsql_step_laws.specs.Steps.{MakesStep}
 use Rattle.dsql_step_laws.proofs.Groups.{enter_is_one}
-use Rattle.dsql_steps.specs.Groups.{after_end, after_enter, after_set}
+use Rattle.dsql_steps.specs.Groups.{after_control, after_end, after_enter}
 use Rattle.dsql_whole_laws.proofs.GoneOn.{call_whole}
 use Rattle.dsql_engine.specs.Core.{Core, unfinished_of}
 use Rattle.dsql_player.specs.Keeping.{ActsUnheard, SameCourse}
 use Rattle.dsql_playing.specs.declared.halt.Halt.{Halt}
 use Rattle.dsql_playing.specs.declared.halt.Halt.TheVariants as halts
-use Rattle.dsql_playing.specs.Acts.{EntersLine, Hands, SamePermits}
-use Rattle.dsql_playing.specs.Carried.{HearsNothing}
+use Rattle.dsql_playing.specs.Acts.{Hands, SamePermits}
+use Rattle.dsql_playing.specs.Carried.{HearsNothing, hears_nothing}
 use Rattle.dsql_playing.specs.Playing.{HoldsNone, IsAt, IsAtBut, IsReady, KeepsLines, Playing}
-use Rattle.dsql_playing.specs.Stepping.{IsEnd, IsEntryOf, IsSetTo, TakesStep, leave_of}
-use Rattle.dsql_playing.proofs.Grouped.{Grouped, ends_grouped, enters_grouped, grows, sets_grouped}
+use Rattle.dsql_playing.specs.Stepping.{IsEnd, IsEntryOf, IsTold, TakesStep, leave_of}
+use Rattle.dsql_playing.proofs.Grouped.{Grouped, control_grouped, ends_grouped, enters_grouped, grows}
 use Rattle.dsql_playing.proofs.Ending.{has_ended_then}
 use Rattle.dsql_playing.proofs.Hearing.{hears_none, step_quiet}
-use Rattle.dsql_playing.proofs.Ready.{end_ready, entry_ready, holds_none, set_ready}
-use Rattle.dsql_playing.proofs.Standing.{HasGoneFar, entry_taken}
-use Rattle.dsql_playing.proofs.Taking.{end_taken, set_taken}
+use Rattle.dsql_playing.proofs.Ready.{control_ready, end_ready, entry_ready, holds_none}
+use Rattle.dsql_playing.proofs.Standing.{EntersLine, HasGoneFar, entry_taken}
+use Rattle.dsql_playing.proofs.Taking.{control_taken, end_taken}
 use Rattle.dsql_playing.proofs.Whose.{end_step}
 
 -- What the clients have at hand once a call entered.
@@ -196,29 +198,40 @@ module _ (before after : Core) (seats : List Seat) (released : Bool) (old : Play
   same_leave : SamePermits old.seats seats
   same_leave = permits_stay old.seats seats (ap (λ (p : Playing). p.seats) is)
 
--- A limit is set.
+-- A limit is set, or the present moment.
 
-module _ (setting : Setting) (k : ℤ) (before after : Core) (seats : List Seat) (released : Bool) (old : Playing) (is : seen before seats released ≡ old) (ready : IsReady old) (group : after.past ≡ after_set before.past setting k) (flights : after.flights ≡ before.flights) (chore : after.chore ≡ before.chore) (legal : Legal after.past) where
-  set_group : Grouped old.past after.past (SetLimit setting k) 0
-  set_group = subst (λ (H : List Event). Grouped old.past H (SetLimit setting k) 0) (sym (group ∙ ap (λ (p : Playing). after_set p.past setting k) is)) (sets_grouped old.past setting k)
+answers_nothing : (control : Control) → hears_nothing (told control) ≡ true
+answers_nothing (Tick now) = refl
+answers_nothing (Set setting k) = refl
 
-  pub set_step : (m : Moment) → IsAt m old → TakesStep m old (seen after seats released) (IsSetTo setting k)
-  set_step m at =
-      set_taken m old (seen after seats released) setting k at (group ∙ ap (λ (p : Playing). after_set p.past setting k) is) (flights ∙ ap (λ (p : Playing). p.flights) is) legal.lawful
+ends_nothing : (past : List Event) (control : Control) → has_ended (told control ∷ past) ≡ has_ended past
+ends_nothing past (Tick now) = refl
+ends_nothing past (Set setting k) = refl
+
+module _ (control : Control) (before after : Core) (seats : List Seat) (released : Bool) (old : Playing) (is : seen before seats released ≡ old) (ready : IsReady old) (group : after.past ≡ after_control before.past control) (flights : after.flights ≡ before.flights) (chore : after.chore ≡ before.chore) (legal : Legal after.past) where
+  told_first : Event
+  told_first = told_after old.past control
+
+  control_group : Grouped old.past after.past told_first 0
+  control_group = subst (λ (H : List Event). Grouped old.past H told_first 0) (sym (group ∙ ap (λ (p : Playing). after_control p.past control) is)) (control_grouped old.past control)
+
+  pub control_step : (m : Moment) → IsAt m old → TakesStep m old (seen after seats released) (IsTold old.past control)
+  control_step m at =
+      control_taken m old (seen after seats released) control at (group ∙ ap (λ (p : Playing). after_control p.past control) is) (flights ∙ ap (λ (p : Playing). p.flights) is) legal.lawful
       (as_before before after seats released old is)
 
-  pub set_course : SameCourse old (seen after seats released)
-  set_course = record {
-    ended = ap has_ended set_group.grown ∙ step_ended old.past set_group.events (SetLimit setting k) 0 (end_step old.past after.past (SetLimit setting k) 0 set_group legal.lawful);
+  pub control_course : SameCourse old (seen after seats released)
+  control_course = record {
+    ended = ap has_ended control_group.grown ∙ (step_ended old.past control_group.events told_first 0 (end_step old.past after.past told_first 0 control_group legal.lawful) ∙ ends_nothing old.past (taken old.past control));
     released = ap (λ (p : Playing). p.released) is;
   }
 
-  pub set_acts : ActsUnheard {A = Unit {0}} (Ok tt) old (seen after seats released)
-  set_acts = record {
-    ready = set_ready old (seen after seats released) setting k ready (group ∙ ap (λ (p : Playing). after_set p.past setting k) is) (flights ∙ ap (λ (p : Playing). p.flights) is) legal
+  pub control_acts : ActsUnheard {A = Unit {0}} (Ok tt) old (seen after seats released)
+  control_acts = record {
+    ready = control_ready old (seen after seats released) control ready (group ∙ ap (λ (p : Playing). after_control p.past control) is) (flights ∙ ap (λ (p : Playing). p.flights) is) legal
         (chore ∙ (ap (λ (p : Playing). p.chore) is ∙ ready.free)) (same_leave before after seats released old is)
         (holds_none old (seen after seats released) (as_before before after seats released old is) ready.held);
-    unheard = step_quiet old.past after.past (SetLimit setting k) 0 set_group refl;
+    unheard = step_quiet old.past after.past told_first 0 control_group (answers_nothing (taken old.past control));
     fails = record { same = tt; memory = tt };
     legal = legal;
   }

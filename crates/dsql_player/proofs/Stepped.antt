@@ -1,12 +1,12 @@
 -- Single steps are carried out, and lines begin.
-use Rattle.std.proofs.Common.{◌≡◌, ℕ, ℤ, ◌<◌, Bool, true, false, not, cond, List, Option, Some, None, length, refl, sym, ap, subst, ◌∙◌}
+use Rattle.std.proofs.Common.{◌≡◌, ℕ, ◌<◌, Bool, true, false, not, cond, List, Option, Some, None, length, refl, sym, ap, subst, ◌∙◌}
 use Rattle.std.specs.Prelude.{Result, Ok, Err, IfErr, is_some, is_none, slice_get}
 use Rattle.dsql_driver.specs.Wires.{WireTold}
 use Rattle.dsql_driver.specs.declared.wire.Fleet.{Ghosts}
 use Rattle.dsql_journal.specs.Readers.{is_empty}
 use Rattle.dsql_history.specs.declared.event.Event.{Event}
 use Rattle.dsql_history.specs.declared.event.Op.{Op}
-use Rattle.dsql_history.specs.declared.event.Setting.{Setting}
+use Rattle.dsql_history.specs.declared.event.Control.{Control}
 use Rattle.dsql_history.specs.declared.record.Flight.{Flight}
 use Rattle.dsql_history.specs.Legal.{Lawful}
 use Rattle.dsql_history.specs.Readers.Calls.{is_busy}
@@ -15,7 +15,8 @@ use Rattle.dsql_history.specs.Rules.Flights.{is_in_flight, may_move, without_fli
 use Rattle.dsql_engine.specs.Core.{Core, blocked_for, unfinished_of}
 use Rattle.dsql_going.specs.declared.next.Why.{Why}
 use Rattle.dsql_follows.specs.declared.line.Line.{Line}
-use Rattle.dsql_follows.specs.declared.line.Line.TheVariants.{Client, Set, Skip, Start, Step, StepHouse}
+use Rattle.dsql_follows.specs.declared.line.Line.TheVariants as lines
+use Rattle.dsql_follows.specs.declared.line.Line.TheVariants.{Client, Skip, Start, Step, StepHouse}
 use Rattle.dsql_follows.specs.Moments.{Moment}
 use Rattle.dsql_follows.specs.Sentences.{runs_on}
 use Rattle.dsql_seats.specs.Seats.{Seat, seat}
@@ -113,17 +114,17 @@ house_stepped false m old new makes at = subst (λ (p : Playing). Carries m Step
 
 -- Lines that run on.
 
-pub is_skip : (line : Line) → runs_on line ≡ true → ((setting : Setting) (n : ℤ) → line ≡ Set setting n → ⊥) → ((client : ℕ) (op : Op) → line ≡ Client client op → ⊥) → line ≡ Skip
-is_skip Skip runs not_set not_client = refl
-is_skip (Set setting n) runs not_set not_client = absurd (not_set setting n refl)
-is_skip (Client client op) runs not_set not_client = absurd (not_client client op refl)
-is_skip (Start client op) runs not_set not_client = absurd cc
-is_skip (Step client) runs not_set not_client = absurd cc
-is_skip StepHouse runs not_set not_client = absurd cc
+pub is_skip : (line : Line) → runs_on line ≡ true → ((control : Control) → line ≡ lines.Control control → ⊥) → ((client : ℕ) (op : Op) → line ≡ Client client op → ⊥) → line ≡ Skip
+is_skip Skip runs not_control not_client = refl
+is_skip (lines.Control control) runs not_control not_client = absurd (not_control control refl)
+is_skip (Client client op) runs not_control not_client = absurd (not_client client op refl)
+is_skip (Start client op) runs not_control not_client = absurd cc
+is_skip (Step client) runs not_control not_client = absurd cc
+is_skip StepHouse runs not_control not_client = absurd cc
 
 pub runs_then : (line : Line) → ((client : ℕ) (op : Op) → line ≡ Start client op → ⊥) → ((client : ℕ) → line ≡ Step client → ⊥) → (line ≡ StepHouse → ⊥) → runs_on line ≡ true
 runs_then Skip not_start not_step not_house = refl
-runs_then (Set setting n) not_start not_step not_house = refl
+runs_then (lines.Control control) not_start not_step not_house = refl
 runs_then (Client client op) not_start not_step not_house = refl
 runs_then (Start client op) not_start not_step not_house = absurd (not_start client op refl)
 runs_then (Step client) not_start not_step not_house = absurd (not_step client refl)

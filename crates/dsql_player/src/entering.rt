@@ -7,13 +7,13 @@ ghost use Rattle.dsql_history.specs.Rules.House.{is_quiet};
 ghost use Rattle.dsql_player.specs.Keeping.{ActsUnheard, SameCourse};
 ghost use Rattle.dsql_follows.specs.Moments.{Moment};
 ghost use Rattle.dsql_playing.specs.Playing.{IsAt, IsAtBut, IsReady};
-ghost use Rattle.dsql_playing.specs.Stepping.{Admits, IsEnd, IsEntryOf, IsSetTo, TakesStep};
+ghost use Rattle.dsql_playing.specs.Stepping.{Admits, IsEnd, IsEntryOf, IsTold, TakesStep};
 ghost use Rattle.dsql_seats.specs.Seats.{seat};
 ghost use Rattle.dsql_steps.specs.Groups.{most_events};
 
 use crate::asking::leave_of;
 use crate::player::Player;
-use dsql_history::Setting;
+use dsql_history::Control;
 use dsql_playing::Halt;
 use dsql_seats::KeptLine;
 
@@ -69,15 +69,15 @@ impl Player {
         Ok(())
     }
 
-    /// A limit is set.
-    pub(crate) fn set_limit(&mut self, setting: Setting, n: i64) -> Result<(), Halt>
+    /// A limit is set, or the present moment.
+    pub(crate) fn control(&mut self, control: Control) -> Result<(), Halt>
         requires ready { IsReady self.old }
         requires room { length self.old.past < most_events }
-        ensures sets { OnOk result ((m : Moment) → IsAt m self.old → TakesStep m self.old self.new (IsSetTo setting n)) }
+        ensures tells { OnOk result ((m : Moment) → IsAt m self.old → TakesStep m self.old self.new (IsTold self.old.past control)) }
         ensures course { OnOk result (SameCourse self.old self.new) }
         ensures act { ActsUnheard result self.old self.new }
     {
-        Ok(self.engine.control(setting, n)?)
+        Ok(self.engine.control(control)?)
     }
 
     /// The run ends, which closes the database.

@@ -90,7 +90,7 @@ impl Player {
         ensures act { ActsUnheard result self.old self.new }
     {
         match line {
-            Line::Set(setting, n) => self.set_limit(setting, n),
+            Line::Control(control) => self.control(control),
             Line::Client { client, op } => {
                 self.admit(client, KeptLine { op, held: false })?;
                 Ok(())

@@ -4,19 +4,20 @@ use Rattle.std.specs.Prelude.{ℤ}
 use Rattle.dsql_journal.specs.declared.entry.Entry.{Entry}
 use Rattle.dsql_journal.specs.Readers.{is_empty}
 use Rattle.dsql_history.specs.declared.event.Event.{Event}
-use Rattle.dsql_history.specs.declared.event.Event.TheVariants.{Entered, Heard, SetLimit, Ended}
+use Rattle.dsql_history.specs.declared.event.Event.TheVariants.{Entered, Heard, Ended}
 use Rattle.dsql_history.specs.declared.event.Op.{Op}
-use Rattle.dsql_history.specs.declared.event.Setting.{Setting}
+use Rattle.dsql_history.specs.declared.event.Control.{Control}
 use Rattle.dsql_history.specs.Readers.Calls.{next_call}
+use Rattle.dsql_history.specs.Readers.Controls.{told_after}
 use Rattle.dsql_history.specs.Readers.Owed.{owed}
 use Rattle.dsql_history.specs.Rules.Flights.{permitted}
 use Rattle.dsql_history.specs.Rules.Settled.{Settled}
 use Rattle.dsql_history.specs.Rules.Stands.{stand}
 use Rattle.dsql_laws.proofs.Tests.{other_number}
 use Rattle.dsql_follows.specs.Moments.{Moment}
-use Rattle.dsql_steps.specs.Groups.{after_end, after_enter, after_heard, after_set, gone_on}
+use Rattle.dsql_steps.specs.Groups.{after_end, after_enter, after_heard, after_control, gone_on}
 use Rattle.dsql_step_laws.specs.Steps.{IsAtRest, MakesStep, GoesByItself, goes_by_itself}
-use Rattle.dsql_step_laws.proofs.Groups.{end_is_one, enter_is_one, goes_on_by_one, heard_is_one, set_is_one}
+use Rattle.dsql_step_laws.proofs.Groups.{end_is_one, enter_is_one, goes_on_by_one, heard_is_one, control_is_one}
 use Rattle.dsql_walk_laws.specs.Groups.{IsGroup}
 use Rattle.dsql_walk_laws.proofs.Later.{step_is_group}
 use Rattle.dsql_walk_laws.proofs.Permits.{permitted_twice}
@@ -44,8 +45,8 @@ enters_grouped past client op = grouped_by (free past) (Entered client (next_cal
 pub hears_grouped : (past : List Event) (e : Entry) → Grouped past (after_heard past e) (Heard e) e.call_no
 hears_grouped past e = grouped_by (free past) (Heard e) e.call_no (after_heard past e) (heard_is_one (free past) e (free_rests past))
 
-pub sets_grouped : (past : List Event) (setting : Setting) (k : ℤ) → Grouped past (after_set past setting k) (SetLimit setting k) 0
-sets_grouped past setting k = grouped_by (free past) (SetLimit setting k) 0 (after_set past setting k) (set_is_one (free past) setting k (free_rests past))
+pub control_grouped : (past : List Event) (control : Control) → Grouped past (after_control past control) (told_after past control) 0
+control_grouped past control = grouped_by (free past) (told_after past control) 0 (after_control past control) (control_is_one (free past) control (free_rests past))
 
 pub ends_grouped : (past : List Event) → Grouped past (after_end past) Ended 0
 ends_grouped past = grouped_by (free past) Ended 0 (after_end past) (end_is_one (free past) (free_rests past))

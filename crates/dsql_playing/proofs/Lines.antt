@@ -1,17 +1,19 @@
 -- Lines that run on are carried out.
-use Rattle.std.proofs.Common.{◌≡◌, ℕ, ℤ, Bool, true, false, List, [], ◌++◌, inl, inr, refl, sym, ap, subst, ◌∙◌, append_assoc}
+use Rattle.std.proofs.Common.{◌≡◌, ℕ, Bool, true, false, List, [], ◌++◌, inl, inr, refl, sym, ap, subst, ◌∙◌, append_assoc}
 use Rattle.dsql_history.specs.declared.event.Event.{Event}
 use Rattle.dsql_history.specs.declared.event.Op.{Op}
-use Rattle.dsql_history.specs.declared.event.Setting.{Setting}
+use Rattle.dsql_history.specs.declared.event.Control.{Control}
+use Rattle.dsql_history.specs.Readers.Controls.{told_after}
 use Rattle.dsql_follows.specs.declared.line.Line.{Line}
-use Rattle.dsql_follows.specs.declared.line.Line.TheVariants.{Client, Set, Skip}
+use Rattle.dsql_follows.specs.declared.line.Line.TheVariants as lines
+use Rattle.dsql_follows.specs.declared.line.Line.TheVariants.{Client, Skip}
 use Rattle.dsql_follows.specs.Moments.{Moment, met}
 use Rattle.dsql_follows.specs.Sentences.{has_own_step, runs_on}
-use Rattle.dsql_line_laws.proofs.OnTheRun.{nothing_so_far, runs_done, runs_from_entry, runs_from_nothing, runs_from_set, runs_further, runs_so_far}
+use Rattle.dsql_line_laws.proofs.OnTheRun.{nothing_so_far, runs_done, runs_from_entry, runs_from_control, runs_from_nothing, runs_further, runs_so_far}
 use Rattle.dsql_step_laws.specs.Steps.{stepped}
 use Rattle.dsql_playing.specs.Carried.{Carries, StopsInLine}
 use Rattle.dsql_playing.specs.Playing.{Playing, IsAt}
-use Rattle.dsql_playing.specs.Stepping.{Admits, IsSetTo, RunsOut, RunsSoFar, TakesStep}
+use Rattle.dsql_playing.specs.Stepping.{Admits, IsTold, RunsOut, RunsSoFar, TakesStep}
 use Rattle.dsql_playing.proofs.Meeting.{met_at}
 use Rattle.dsql_playing.specs.Acts.{Begun}
 
@@ -25,15 +27,15 @@ begun_bare m line old mid at runs none same now =
 pub begun_skip : (m : Moment) (p : Playing) → IsAt m p → Begun m Skip p p
 begun_skip m p at = begun_bare m Skip p p at refl refl refl (met_at m p Skip (λ client. refl) at)
 
-pub begun_set : (m : Moment) (setting : Setting) (n : ℤ) (old mid : Playing) → IsAt m old
-    → ((now : Moment) → IsAt now old → TakesStep now old mid (IsSetTo setting n)) → Begun m (Set setting n) old mid
-begun_set m setting n old mid at step =
-    let line : Line = Set setting n in
+pub begun_control : (m : Moment) (control : Control) (old mid : Playing) → IsAt m old
+    → ((now : Moment) → IsAt now old → TakesStep now old mid (IsTold old.past control)) → Begun m (lines.Control control) old mid
+begun_control m control old mid at step =
+    let line : Line = lines.Control control in
     let t = step (met line m) (met_at m old line (λ client. refl) at) in
     record {
       events = t.events;
       now = stepped (met line m) t.first t.call t.events;
-      runs = runs_from_set m setting n t.first t.call t.events at.rest at.whole t.kind_is.set t.step t.at.whole;
+      runs = runs_from_control m control t.first t.call t.events at.rest at.whole (t.kind_is.told ∙ ap (λ H. told_after H control) (sym at.past)) t.step t.at.whole;
       grows = t.grows;
       at = t.at;
     }

@@ -6,12 +6,14 @@ use Rattle.dsql_journal.specs.declared.entry.Entry.{Entry}
 use Rattle.dsql_journal.specs.declared.entry.Permit.{Permit}
 use Rattle.dsql_journal.specs.Permits.{entry_of}
 use Rattle.dsql_history.specs.declared.event.Event.{Event}
-use Rattle.dsql_history.specs.declared.event.Event.TheVariants.{Entered, Heard, SetLimit, Ended, Pool, Waits, Replied}
+use Rattle.dsql_history.specs.declared.event.Event.TheVariants.{Entered, Heard, Ended, Pool, Waits, Replied}
 use Rattle.dsql_history.specs.declared.event.Op.{Op}
-use Rattle.dsql_history.specs.declared.event.Setting.{Setting}
+use Rattle.dsql_history.specs.declared.event.Control.{Control}
+use Rattle.dsql_history.specs.declared.event.Control.TheVariants.{Tick, Set}
 use Rattle.dsql_history.specs.declared.record.Flight.{Flight}
 use Rattle.dsql_history.specs.Readers.Calls.{is_busy, next_call}
 use Rattle.dsql_history.specs.Readers.Clients.{call_of, client_of}
+use Rattle.dsql_history.specs.Readers.Controls.{told, taken, told_after}
 use Rattle.dsql_history.specs.Readers.Unfinished.{is_unfinished}
 use Rattle.dsql_history.specs.Rules.Flights.{is_in_flight, permitted, without_flight}
 use Rattle.dsql_history.specs.Rules.Line.{parts}
@@ -26,13 +28,13 @@ use Rattle.dsql_end_laws.specs.Steps.{begins_step_of}
 use Rattle.dsql_end_laws.proofs.Whose.{busy_own, idle_none, unfinished_entered, busy_unfinished}
 use Rattle.dsql_line_laws.specs.Entries.{is_entry}
 use Rattle.dsql_seats.specs.Seats.{Seat}
-use Rattle.dsql_steps.specs.Groups.{after_end, after_enter, after_heard, after_set, gone_on}
+use Rattle.dsql_steps.specs.Groups.{after_end, after_enter, after_heard, after_control, gone_on}
 use Rattle.dsql_step_laws.specs.Steps.{goes_by_itself}
 use Rattle.dsql_turn_laws.specs.Leaves.{IsLeave}
 use Rattle.dsql_turn_laws.specs.Turns.{Flying, flies}
-use Rattle.dsql_turn_laws.proofs.Steps.{answer_flies, end_flies, enter_flies, new_parked, set_flies, wake_flies}
+use Rattle.dsql_turn_laws.proofs.Steps.{answer_flies, end_flies, enter_flies, new_parked, control_flies, wake_flies}
 use Rattle.dsql_playing.specs.Playing.{HoldsNone, IsReady, KeepsLines, Playing, SeatFits}
-use Rattle.dsql_playing.proofs.Grouped.{GoneOn, Grouped, ends_grouped, enters_grouped, goes_grouped, hears_grouped, sets_grouped}
+use Rattle.dsql_playing.proofs.Grouped.{GoneOn, Grouped, ends_grouped, enters_grouped, goes_grouped, hears_grouped, control_grouped}
 use Rattle.dsql_playing.proofs.Seating.{Goes, OthersStay, SameButFor, and_then, goes_by_step, its_seat, lands, one_call_there, other_seat, same_flights, sends_more}
 use Rattle.dsql_playing.proofs.Whose.{begins_itself, begins_no_entry, busy_alike, busy_before, busy_call, entry_other, entry_own, its_call, lawful_before, other_call}
 use Rattle.dsql_playing.specs.Acts.{Hands, SamePermits}
@@ -65,14 +67,23 @@ nobody_ready first before after ready g begins legal free goes same held = recor
     fits client =
         other_seat 0 (client + 1) client before.past after.past before.flights after.flights before.seats after.seats goes (others client) (λ is. absurd (omega (arith, is))) (ready.seats client)
 
-pub set_ready : (before after : Playing) (setting : Setting) (k : ℤ) → IsReady before → after.past ≡ after_set before.past setting k → after.flights ≡ before.flights → Legal after.past → after.chore ≡ None
+begins_one : (control : Control) → begins_step_of 0 (told control) ≡ true
+begins_one (Tick now) = refl
+begins_one (Set setting k) = refl
+
+parts_none : (control : Control) (permit : Permit) → parts (told control) (entry_of permit Done) ≡ false
+parts_none (Tick now) permit = refl
+parts_none (Set setting k) permit = refl
+
+pub control_ready : (before after : Playing) (control : Control) → IsReady before → after.past ≡ after_control before.past control → after.flights ≡ before.flights → Legal after.past → after.chore ≡ None
     → SamePermits before.seats after.seats → HoldsNone after → IsReady after
-set_ready before after setting k ready is fly legal free same held =
-    let g : Grouped before.past after.past (SetLimit setting k) 0 = subst (λ H. Grouped before.past H (SetLimit setting k) 0) (sym is) (sets_grouped before.past setting k) in
+control_ready before after control ready is fly legal free same held =
+    let first = told_after before.past control in
+    let g : Grouped before.past after.past first 0 = subst (λ H. Grouped before.past H first 0) (sym is) (control_grouped before.past control) in
     let f : Flying after.past after.flights =
-    subst (Flying after.past) (sym fly) (subst (λ H. Flying H before.flights) (sym is) (set_flies before.past setting k before.flights (subst Lawful is legal.lawful) ready.flying)) in
+    subst (Flying after.past) (sym fly) (subst (λ H. Flying H before.flights) (sym is) (control_flies before.past control before.flights (subst Lawful is legal.lawful) ready.flying)) in
     let kept : SameButFor 0 before.flights after.flights = subst (SameButFor 0 before.flights) (sym fly) (same_flights 0 before.flights) in
-    nobody_ready (SetLimit setting k) before after ready g refl legal free (goes_by_step (SetLimit setting k) 0 before.past after.past before.flights after.flights g legal.lawful f kept (λ permit there apart. refl)) same held
+    nobody_ready first before after ready g (begins_one (taken before.past control)) legal free (goes_by_step first 0 before.past after.past before.flights after.flights g legal.lawful f kept (λ permit there apart. parts_none (taken before.past control) permit)) same held
 
 pub end_ready : (before after : Playing) → IsReady before → after.past ≡ after_end before.past → after.flights ≡ before.flights → Legal after.past → after.chore ≡ None → SamePermits before.seats after.seats → HoldsNone after → IsReady after
 end_ready before after ready is fly legal free same held =

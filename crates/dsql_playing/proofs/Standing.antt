@@ -31,7 +31,6 @@ use Rattle.dsql_playing.specs.Playing.{HasLinesOf, IsAt, IsAtBut, KeepsLines, Pl
 use Rattle.dsql_playing.specs.Stepping.{HearsAnswer, IsAnswerTo, IsEntryOf, TakesStep}
 use Rattle.dsql_playing.proofs.Grouped.{grouped_by}
 use Rattle.dsql_playing.proofs.Whose.{busy_alike, busy_before, entry_other}
-use Rattle.dsql_playing.specs.Acts.{EntersLine}
 
 pub has_lines : (m : Moment) (p : Playing) → IsAt m p → HasLinesOf m p
 has_lines m p at = record { past = at.past; released = at.released; made = at.made; kept = at.kept; held = at.held }
@@ -145,6 +144,13 @@ kept_may_enter m client n line rest free is = by line.held is
     by : (b : Bool) → kept m client ≡ cond b (Start client line.op) (Client client line.op) ∷ rest → may_enter m (Entered client n line.op) ≡ true
     by true first = start_may_enter m client n line.op rest free first
     by false first = call_may_enter m client n line.op rest free first
+
+-- the line is taken, and its call held where that was asked for and the script isn't at its end
+pub record EntersLine (client : ℕ) (line : KeptLine) (before after : Playing) : Type 0 where
+  pub released : after.released ≡ before.released
+  pub kept : (other : ℕ) → (seat after.seats other).kept ≡ (seat before.seats other).kept
+  pub held : (seat after.seats client).held ≡ (not before.released && line.held)
+  pub others : (other : ℕ) → other ≢ client → (seat after.seats other).held ≡ (seat before.seats other).held
 
 pub entry_taken : (m : Moment) (client n : ℕ) (line : KeptLine) (before after : Playing) → IsAtBut m client line before → MakesStep m (Entered client n line.op) n after.past → Lawful after.past
     → is_free before.past client ≡ true → permitted n (stand after.past n) m.flights ≡ after.flights → HasGoneFar after.past after.flights n → EntersLine client line before after

@@ -5,11 +5,13 @@ use Rattle.dsql_course.specs.Made.{or_else}
 use Rattle.dsql_wait.specs.Requests.{waits}
 use Rattle.dsql_pool.specs.Places.{is_for}
 use Rattle.dsql_history.specs.declared.event.Event.{Event}
-use Rattle.dsql_history.specs.declared.event.Event.TheVariants.{SetLimit, Ended, Pool, Waits, Replied}
-use Rattle.dsql_history.specs.declared.event.Setting.{Setting}
+use Rattle.dsql_history.specs.declared.event.Event.TheVariants.{Ended, Pool, Waits, Replied}
+use Rattle.dsql_history.specs.declared.event.Control.{Control}
+use Rattle.dsql_history.specs.declared.event.Control.TheVariants.{Tick, Set}
 use Rattle.dsql_history.specs.declared.record.Flight.{Flight}
 use Rattle.dsql_history.specs.declared.record.Stand.TheVariants as stands_at
 use Rattle.dsql_history.specs.Readers.Calls.{decided, is_busy, site, told_by_others}
+use Rattle.dsql_history.specs.Readers.Controls.{told, taken, told_after}
 use Rattle.dsql_history.specs.Readers.Pool.{pool, smallest}
 use Rattle.dsql_history.specs.Readers.Works.{work}
 use Rattle.dsql_history.specs.Rules.Flights.{is_in_flight, may_move, permitted}
@@ -22,14 +24,15 @@ use Rattle.dsql_going.specs.declared.next.Next.{Next}
 use Rattle.dsql_turn_laws.proofs.Keeping.{nobody}
 use Rattle.dsql_follows.specs.Moments.{Moment, landed, takes_permit}
 use Rattle.dsql_follows.specs.Sentences.{is_whole}
-use Rattle.dsql_steps.specs.Groups.{after_end, after_set, gone_on}
+use Rattle.dsql_steps.specs.Groups.{after_end, after_control, gone_on}
 use Rattle.dsql_step_laws.specs.Steps.{GoesByItself, MakesStep, goes_by_itself}
-use Rattle.dsql_step_laws.proofs.Groups.{end_is_one, goes_on_by_one, set_is_one}
+use Rattle.dsql_line_laws.specs.Entries.{is_entry}
+use Rattle.dsql_step_laws.proofs.Groups.{end_is_one, goes_on_by_one, control_is_one}
 use Rattle.dsql_walk_laws.proofs.Permits.{taken_at_rest}
 use Rattle.dsql_whole_laws.proofs.GoneOn.{call_whole, layer_whole}
 use Rattle.dsql_line_laws.proofs.Stepped.{enters_not}
 use Rattle.dsql_playing.specs.Playing.{IsAt, KeepsLines, Playing, lines_kept}
-use Rattle.dsql_playing.specs.Stepping.{IsEnd, IsOfItself, IsSetTo, TakesStep, Wakes}
+use Rattle.dsql_playing.specs.Stepping.{IsEnd, IsOfItself, IsTold, TakesStep, Wakes}
 use Rattle.dsql_playing.proofs.Grouped.{GoneOn, goes_grouped, grows, none_owed}
 use Rattle.dsql_playing.proofs.Standing.{has_lines, step_taken}
 use Rattle.dsql_playing.specs.Acts.{Woken}
@@ -51,12 +54,22 @@ nobody_sends H flights l =
 
 -- Steps of nobody.
 
-pub set_taken : (m : Moment) (before after : Playing) (setting : Setting) (k : ℤ) → IsAt m before → after.past ≡ after_set before.past setting k → after.flights ≡ before.flights → Lawful after.past
-    → KeepsLines before after → TakesStep m before after (IsSetTo setting k)
-set_taken m before after setting k at is fly l lines =
-    let s : MakesStep m (SetLimit setting k) 0 after.past = subst (MakesStep m (SetLimit setting k) 0) (ap (λ H. after_set H setting k) at.past ∙ sym is) (set_is_one m setting k at.rest) in
-    step_taken m (SetLimit setting k) 0 before after (IsSetTo setting k) (has_lines m before at) s refl (nobody_sends after.past m.flights l ∙ (at.flights ∙ sym fly)) (layer_whole after.past after.flights l) lines
-    (record { set = refl; of_nobody = refl })
+no_entry : (control : Control) → is_entry (told control) ≡ false
+no_entry (Tick now) = refl
+no_entry (Set setting k) = refl
+
+lands_nothing : (control : Control) (flights : List Flight) → landed (told control) flights ≡ flights
+lands_nothing (Tick now) flights = refl
+lands_nothing (Set setting k) flights = refl
+
+pub control_taken : (m : Moment) (before after : Playing) (control : Control) → IsAt m before → after.past ≡ after_control before.past control → after.flights ≡ before.flights → Lawful after.past
+    → KeepsLines before after → TakesStep m before after (IsTold before.past control)
+control_taken m before after control at is fly l lines =
+    let first = told_after m.past control in
+    let s : MakesStep m first 0 after.past = subst (MakesStep m first 0) (ap (λ H. after_control H control) at.past ∙ sym is) (control_is_one m control at.rest) in
+    step_taken m first 0 before after (IsTold before.past control) (has_lines m before at) s (no_entry (taken m.past control))
+    (ap (permitted 0 (stand after.past 0)) (lands_nothing (taken m.past control) m.flights) ∙ (nobody_sends after.past m.flights l ∙ (at.flights ∙ sym fly))) (layer_whole after.past after.flights l) lines
+    (record { told = ap (λ H. told_after H control) at.past; of_nobody = refl })
 
 pub end_taken : (m : Moment) (before after : Playing) → IsAt m before → after.past ≡ after_end before.past → after.flights ≡ before.flights → Lawful after.past → KeepsLines before after → TakesStep m before after IsEnd
 end_taken m before after at is fly l lines =

@@ -15,7 +15,6 @@ use Rattle.dsql_line_laws.specs.Running.{RunsOn, RunsToEnd}
 use Rattle.dsql_going.specs.declared.next.Next.{Next}
 use Rattle.dsql_going.specs.Reaching.{HasGoneOn}
 use Rattle.dsql_steps.specs.Groups.{after_heard, gone_on}
-use Rattle.dsql_seats.specs.declared.seats.KeptLine.{KeptLine}
 use Rattle.dsql_seats.specs.Seats.{Seat, seat}
 use Rattle.dsql_playing.specs.Playing.{IsAt, KeepsLines, Playing}
 use Rattle.dsql_playing.specs.Stepping.{RunsInTurn, leave_of}
@@ -31,13 +30,6 @@ pub record Hands (me : ℕ) (next : Next) (seats now : List Seat) : Type 0 where
   pub others : (client : ℕ) → client ≢ me → (seat now client).permit ≡ (seat seats client).permit
   pub room : me < length now
   pub many : length seats ≤ length now
-
--- the line is taken, and its call held where that was asked for and the script isn't at its end
-pub record EntersLine (client : ℕ) (line : KeptLine) (before after : Playing) : Type 0 where
-  pub released : after.released ≡ before.released
-  pub kept : (other : ℕ) → (seat after.seats other).kept ≡ (seat before.seats other).kept
-  pub held : (seat after.seats client).held ≡ (not before.released && line.held)
-  pub others : (other : ℕ) → other ≢ client → (seat after.seats other).held ≡ (seat before.seats other).held
 
 -- the call that is woken
 pub record Woken (n : ℕ) (next : Next) (before after : Playing) : Type 0 where

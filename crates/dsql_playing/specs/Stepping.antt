@@ -4,11 +4,12 @@ use Rattle.dsql_journal.specs.declared.entry.Entry.{Entry}
 use Rattle.dsql_journal.specs.declared.entry.Permit.{Permit}
 use Rattle.dsql_journal.specs.Readers.{is_empty}
 use Rattle.dsql_history.specs.declared.event.Event.{Event}
-use Rattle.dsql_history.specs.declared.event.Event.TheVariants.{Entered, Heard, SetLimit, Ended}
+use Rattle.dsql_history.specs.declared.event.Event.TheVariants.{Entered, Heard, Ended}
 use Rattle.dsql_history.specs.declared.event.Op.{Op}
-use Rattle.dsql_history.specs.declared.event.Setting.{Setting}
+use Rattle.dsql_history.specs.declared.event.Control.{Control}
 use Rattle.dsql_history.specs.Readers.Calls.{is_busy}
 use Rattle.dsql_history.specs.Readers.Clients.{call_of}
+use Rattle.dsql_history.specs.Readers.Controls.{told_after}
 use Rattle.dsql_history.specs.Rules.Flights.{may_move, without_flight}
 use Rattle.dsql_history.specs.Rules.House.{chore_due}
 use Rattle.dsql_follows.specs.Moments.{Moment, met, takes_permit}
@@ -76,9 +77,9 @@ pub record IsOfItself (n : ℕ) (first : Event) (call : ℕ) : Type 0 where
   pub by_itself : goes_by_itself n first ≡ true
   pub of_it : call ≡ n
 
--- a limit was set to this number
-pub record IsSetTo (setting : Setting) (n : ℤ) (first : Event) (call : ℕ) : Type 0 where
-  pub set : first ≡ SetLimit setting n
+-- a limit was set, or the present moment, after this past
+pub record IsTold (past : List Event) (control : Control) (first : Event) (call : ℕ) : Type 0 where
+  pub told : first ≡ told_after past control
   pub of_nobody : call ≡ 0
 
 -- the run ended

@@ -1,10 +1,10 @@
 //! Lines that are carried out, and the script's end. A history is read newest first.
 
-ghost use Rattle.std.specs.Prelude.{◌≡◌, ℕ, ℤ, Bool, List, Option, true, false, None};
+ghost use Rattle.std.specs.Prelude.{◌≡◌, ℕ, Bool, List, Option, true, false, None};
 ghost use Rattle.dsql_journal.specs.Readers.{is_empty};
 ghost use Rattle.dsql_history.specs.declared.event.Event.{Event};
 ghost use Rattle.dsql_history.specs.declared.event.Op.{Op};
-ghost use Rattle.dsql_history.specs.declared.event.Setting.{Setting};
+ghost use Rattle.dsql_history.specs.declared.event.Control.{Control};
 ghost use Rattle.dsql_history.specs.Readers.Calls.{is_busy};
 ghost use Rattle.dsql_history.specs.Readers.Clients.{call_of};
 ghost use Rattle.dsql_history.specs.Readers.Course.{has_ended};
@@ -13,7 +13,8 @@ ghost use Rattle.dsql_history.specs.Rules.House.{chore_due};
 ghost use Rattle.dsql_history.specs.Legal.{Lawful};
 ghost use Rattle.dsql_end_laws.specs.Over.{IsOver};
 ghost use Rattle.dsql_follows.specs.declared.line.Line.{Line};
-ghost use Rattle.dsql_follows.specs.declared.line.Line.TheVariants.{Client, Set, Skip, Start, Step, StepHouse};
+ghost use Rattle.dsql_follows.specs.declared.line.Line.TheVariants as lines;
+ghost use Rattle.dsql_follows.specs.declared.line.Line.TheVariants.{Client, Skip, Start, Step, StepHouse};
 ghost use Rattle.dsql_follows.specs.Moments.{Moment, at_end};
 ghost use Rattle.dsql_follows.specs.Sentences.{runs_on};
 ghost use Rattle.dsql_seats.specs.Seats.{seat};
@@ -24,7 +25,7 @@ ghost use Rattle.dsql_wires.specs.WiresFit.{KeepsFit, WiresFit, slot};
 ghost use Rattle.dsql_playing.specs.Acts.{Begun, ComesToEnd};
 ghost use Rattle.dsql_playing.specs.Carried.{Carries, CarriesEnd, HearsNothing, StopsInEnd, StopsInLine};
 ghost use Rattle.dsql_playing.specs.Playing.{IsAt, IsReady, Playing};
-ghost use Rattle.dsql_playing.specs.Stepping.{Admits, IsAnswerTo, IsChoreOn, IsEnd, IsEntryOf, IsSetTo, RunsOut, RunsSoFar, TakesStep, goes};
+ghost use Rattle.dsql_playing.specs.Stepping.{Admits, IsAnswerTo, IsChoreOn, IsEnd, IsEntryOf, IsTold, RunsOut, RunsSoFar, TakesStep, goes};
 
 use dsql_driver::Wire;
 
@@ -32,7 +33,7 @@ use dsql_driver::Wire;
 /// Where that has to stop, what came of it is a beginning of that: its own step first, and whole steps, each in its turn.
 pub fn a_line_is_carried_out()
     ensures skipped { (m : Moment) (p : Playing) → IsAt m p → Begun m Skip p p }
-    ensures set { (m : Moment) (setting : Setting) (n : ℤ) (old mid : Playing) → IsAt m old → ((now : Moment) → IsAt now old → TakesStep now old mid (IsSetTo setting n)) → Begun m (Set setting n) old mid }
+    ensures control { (m : Moment) (control : Control) (old mid : Playing) → IsAt m old → ((now : Moment) → IsAt now old → TakesStep now old mid (IsTold old.past control)) → Begun m (lines.Control control) old mid }
     ensures admitted { (m : Moment) (client : ℕ) (op : Op) (old mid : Playing) (entered : Bool) → IsAt m old → Admits entered m client (record { op = op; held = false }) old mid → Begun m (Client client op) old mid }
     ensures done { (m : Moment) (line : Line) (old mid new : Playing) → Begun m line old mid → runs_on line ≡ true → ((now : Moment) → IsAt now mid → RunsOut now mid new) → Carries m line old new }
     ensures stops { (m : Moment) (line : Line) (old mid : Playing) (new : List Event) → Begun m line old mid → runs_on line ≡ true → ((now : Moment) → IsAt now mid → RunsSoFar now mid.past new) → StopsInLine m line old.past new }

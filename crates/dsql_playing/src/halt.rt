@@ -1,7 +1,7 @@
 ghost use Rattle.std.specs.Prelude.{◌≡◌};
 ghost use Rattle.dsql_playing.specs.declared.halt.Halt.TheVariants as halts;
 
-use dsql_engine::{HeardBack, NoRoom};
+use dsql_engine::{ControlFault, HeardBack, NoRoom};
 use dsql_value::Memory;
 
 /// Why a run stops before its end.
@@ -17,6 +17,14 @@ impl From<NoRoom> for Halt {
     ghost from_gives = { λ _ e. e ≡ halts.Memory };
 
     fn from(_e: NoRoom) -> Halt {
+        Halt::Memory
+    }
+}
+
+impl From<ControlFault> for Halt {
+    ghost from_gives = { λ _ e. e ≡ halts.Memory };
+
+    fn from(_e: ControlFault) -> Halt {
         Halt::Memory
     }
 }

@@ -1,7 +1,7 @@
 //! Each act of a player is one step, and what comes in its turn. A history is read newest first.
 
-ghost use Rattle.std.specs.Prelude.{◌≡◌, ◌≢◌, ℕ, ℤ, Bool, true, false, None};
-ghost use Rattle.dsql_history.specs.declared.event.Setting.{Setting};
+ghost use Rattle.std.specs.Prelude.{◌≡◌, ◌≢◌, ℕ, Bool, true, false, None};
+ghost use Rattle.dsql_history.specs.declared.event.Control.{Control};
 ghost use Rattle.dsql_history.specs.Readers.Calls.{is_busy};
 ghost use Rattle.dsql_history.specs.Rules.Flights.{without_flight};
 ghost use Rattle.dsql_history.specs.Rules.House.{chore_due};
@@ -10,15 +10,15 @@ ghost use Rattle.dsql_going.specs.declared.next.Next.{Next};
 ghost use Rattle.dsql_follows.specs.Moments.{Moment};
 ghost use Rattle.dsql_follows.specs.Turns.{has_run_out, is_turn_of, may_go};
 ghost use Rattle.dsql_step_laws.specs.Steps.{IsAtRest};
-ghost use Rattle.dsql_steps.specs.Groups.{after_end, after_set};
+ghost use Rattle.dsql_steps.specs.Groups.{after_control, after_end};
 ghost use Rattle.dsql_playing.specs.Acts.{RunsTo, Woken};
 ghost use Rattle.dsql_playing.specs.Playing.{HasLinesOf, IsAt, KeepsLines, Playing};
-ghost use Rattle.dsql_playing.specs.Stepping.{HearsAnswer, InTurn, IsAnswerTo, IsChoreOn, IsEnd, IsEntryOf, IsFirstToGo, IsSetTo, RunsOut, RunsSoFar, TakesStep, Wakes, goes};
+ghost use Rattle.dsql_playing.specs.Stepping.{HearsAnswer, InTurn, IsAnswerTo, IsChoreOn, IsEnd, IsEntryOf, IsFirstToGo, IsTold, RunsOut, RunsSoFar, TakesStep, Wakes, goes};
 
-/// A limit, the run's end, an answer to a call and a call that is woken are each one step from the moment at which the
+/// A limit or a moment, the run's end, an answer to a call and a call that is woken are each one step from the moment at which the
 /// player is. The answer is so too from a moment at which its driver call isn't under way yet.
 pub fn each_act_is_one_step()
-    ensures set { (m : Moment) (before after : Playing) (setting : Setting) (k : ℤ) → IsAt m before → after.past ≡ after_set before.past setting k → after.flights ≡ before.flights → Lawful after.past → KeepsLines before after → TakesStep m before after (IsSetTo setting k) }
+    ensures control { (m : Moment) (before after : Playing) (control : Control) → IsAt m before → after.past ≡ after_control before.past control → after.flights ≡ before.flights → Lawful after.past → KeepsLines before after → TakesStep m before after (IsTold before.past control) }
     ensures ended { (m : Moment) (before after : Playing) → IsAt m before → after.past ≡ after_end before.past → after.flights ≡ before.flights → Lawful after.past → KeepsLines before after → TakesStep m before after IsEnd }
     ensures answered { (m : Moment) (n : ℕ) (before after : Playing) → HasLinesOf m before → IsAtRest m → without_flight n m.flights ≡ without_flight n before.flights → Lawful after.past → HearsAnswer n before after → TakesStep m before after (IsAnswerTo n) }
     ensures woken { (shows : Bool) (m : Moment) (n : ℕ) (next : Next) (before after : Playing) → (shows ≡ true → after.past ≢ before.past) → (shows ≡ false → after.past ≡ before.past) → Woken n next before after → IsAt m before → Wakes shows m n before after }

@@ -17,7 +17,8 @@ use Rattle.dsql_journal.specs.declared.entry.Entry.{Entry}
 use Rattle.dsql_work.specs.declared.work.Aim.{Aim}
 use Rattle.dsql_work.specs.declared.work.Aim.TheVariants as aims
 use Rattle.dsql_work.specs.Exchanges.{exchanges, step_of, got_of, with_exchange}
-use Rattle.dsql_work.specs.Line.{Asked, course_of, is_due, sent_as, run_for, body_after, line_after, keeps_rows, handed}
+use Rattle.dsql_work.specs.Line.{Asked, course_of, is_due, sent_as, run_for, body_after, line_after, handed}
+use Rattle.dsql_work_laws.proofs.KeptRows.{keeps_rows}
 use Rattle.dsql_work_laws.proofs.CallLines.{Step, Start, WasReset, WasSkipped, WasPrepared, HasRows, HasRead, WasDone, step, step_after, goes}
 use Rattle.dsql_work_laws.proofs.MadeLines.{MadeAt, asking, first_of, second_of, then_handle, body_before, clean_when_done}
 use Rattle.dsql_work_laws.proofs.Lines.{body_due}

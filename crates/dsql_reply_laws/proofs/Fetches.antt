@@ -10,7 +10,7 @@ use Rattle.dsql_work.specs.Exchanges.{exchanges}
 use Rattle.dsql_work.specs.Works.{maker}
 use Rattle.dsql_work.specs.Line.{aim_of, handed}
 use Rattle.dsql_history.specs.declared.event.Event.{Event}
-use Rattle.dsql_history.specs.declared.event.Event.TheVariants.{Run, Entered, Heard, Pool, Waits, SetLimit, Replied, Ended}
+use Rattle.dsql_history.specs.declared.event.Event.TheVariants.{Run, Entered, Heard, Pool, Waits, Ticked, SetLimit, Replied, Ended}
 use Rattle.dsql_history.specs.declared.event.Op.{Op}
 use Rattle.dsql_history.specs.declared.event.Op.TheVariants as ops
 use Rattle.dsql_history.specs.declared.reply.Reply.{Reply}
@@ -106,6 +106,7 @@ finds (Heard e ∷ H) n k l u it = by (finds H n k l.0 u it) (same_or_not n e.ca
     by earlier (inr apart) = finds_still H (Heard e) n k (other_heard H e n apart) earlier
 finds (Pool m ∷ H) n k l u it = finds_still H (Pool m) n k refl (finds H n k l.0 u it)
 finds (Waits m ∷ H) n k l u it = finds_still H (Waits m) n k refl (finds H n k l.0 u it)
+finds (Ticked now ∷ H) n k l u it = finds_still H (Ticked now) n k refl (finds H n k l.0 u it)
 finds (SetLimit s j ∷ H) n k l u it = finds_still H (SetLimit s j) n k refl (finds H n k l.0 u it)
 finds (Replied m reply ∷ H) n k l u it =
     let b = still_unfinished H m reply n u in

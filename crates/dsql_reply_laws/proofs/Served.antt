@@ -20,7 +20,7 @@ use Rattle.dsql_work.specs.Works.{asks}
 use Rattle.dsql_work.specs.Exchanges.{exchanges}
 use Rattle.dsql_work.specs.Line.{Asked, aim_of, handed, is_due}
 use Rattle.dsql_history.specs.declared.event.Event.{Event}
-use Rattle.dsql_history.specs.declared.event.Event.TheVariants.{Run, Entered, Heard, Pool, Waits, SetLimit, Replied, Ended}
+use Rattle.dsql_history.specs.declared.event.Event.TheVariants.{Run, Entered, Heard, Pool, Waits, Ticked, SetLimit, Replied, Ended}
 use Rattle.dsql_history.specs.declared.record.Try.TheVariants.{Served, Refused}
 use Rattle.dsql_history.specs.declared.reply.Reply.{Reply}
 use Rattle.dsql_history.specs.Readers.Course.{caps}
@@ -103,6 +103,7 @@ served_asks (Pool (Fell c m) ∷ H) n l h = by (served_asks H n l.0) (m == n) h
     by earlier true k = absurd cc
     by earlier false k = earlier k
 served_asks (Waits m ∷ H) n l h = served_asks H n l.0 h
+served_asks (Ticked now ∷ H) n l h = served_asks H n l.0 h
 served_asks (SetLimit s k ∷ H) n l h = served_asks H n l.0 h
 served_asks (Replied m reply ∷ H) n l h = served_asks H n l.0 h
 served_asks (Ended ∷ H) n l h = served_asks H n l.0 h
@@ -315,6 +316,7 @@ settles (Pool (Fell c m) ∷ H) n l u h = by (settles H n l.0 u) (m == n) h
     by earlier true k = absurd cc
     by earlier false k = settles_quiet H (Pool (Fell c m)) n l refl refl (earlier k)
 settles (Waits m ∷ H) n l u h = settles_quiet H (Waits m) n l refl refl (settles H n l.0 u h)
+settles (Ticked now ∷ H) n l u h = settles_quiet H (Ticked now) n l refl refl (settles H n l.0 u h)
 settles (SetLimit s k ∷ H) n l u h = settles_quiet H (SetLimit s k) n l refl refl (settles H n l.0 u h)
 settles (Replied m reply ∷ H) n l u h =
     let b = still_unfinished H m reply n u in

@@ -26,7 +26,7 @@ use Rattle.dsql_work.specs.Exchanges.{exchanges, step_of, with_exchange}
 use Rattle.dsql_work.specs.Works.{asks}
 use Rattle.dsql_work.specs.Line.{Asked, aim_of}
 use Rattle.dsql_history.specs.declared.event.Event.{Event}
-use Rattle.dsql_history.specs.declared.event.Event.TheVariants.{Run, Entered, Heard, Pool, Waits, SetLimit, Replied, Ended}
+use Rattle.dsql_history.specs.declared.event.Event.TheVariants.{Run, Entered, Heard, Pool, Waits, Ticked, SetLimit, Replied, Ended}
 use Rattle.dsql_history.specs.Readers.Course.{caps}
 use Rattle.dsql_history.specs.Readers.Calls.{call_record}
 use Rattle.dsql_history.specs.Readers.HandedOut.{handed_out, rows_by, rows_heard, live, are_live}
@@ -120,6 +120,7 @@ zero_work (Heard e ∷ H) = zero_work H
 zero_work (Run version can ∷ H) = zero_work H
 zero_work (Pool m ∷ H) = zero_work H
 zero_work (Waits n ∷ H) = zero_work H
+zero_work (Ticked now ∷ H) = zero_work H
 zero_work (SetLimit s k ∷ H) = zero_work H
 zero_work (Replied n reply ∷ H) = zero_work H
 zero_work (Ended ∷ H) = zero_work H

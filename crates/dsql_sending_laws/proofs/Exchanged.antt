@@ -16,8 +16,9 @@ use Rattle.dsql_pool.specs.Places.{conn_of, is_idle, is_opening}
 use Rattle.dsql_work.specs.Exchanges.{exchanges, step_of, with_exchange}
 use Rattle.dsql_work.specs.Line.{Asked, line_after, body_after}
 use Rattle.dsql_history.specs.declared.event.Event.{Event}
-use Rattle.dsql_history.specs.declared.event.Event.TheVariants.{Run, Entered, Heard, Pool, Waits, SetLimit, Replied, Ended}
+use Rattle.dsql_history.specs.declared.event.Event.TheVariants.{Run, Entered, Heard, Pool, Waits, Ticked, SetLimit, Replied, Ended}
 use Rattle.dsql_history.specs.declared.event.Op.TheVariants.{Exec, Query, One, Next, Scan, RowsClose, Err, DbClose, Stats}
+use Rattle.dsql_history.specs.declared.event.Control.TheVariants.{Tick, Set}
 use Rattle.dsql_history.specs.Readers.Course.{caps}
 use Rattle.dsql_history.specs.Readers.Journals.{journal, heard_in}
 use Rattle.dsql_history.specs.Readers.Pool.{pool, place}
@@ -34,7 +35,7 @@ use Rattle.dsql_sending_laws.proofs.Standing.{lent_works}
 use Rattle.dsql_sending_laws.proofs.Invariant.{fresh_lending}
 use Rattle.dsql_sending_laws.proofs.Answered.{lent_under_way, heard_here, heard_off, same_lent}
 use Rattle.dsql_sending_laws.proofs.Sound.{sound}
-use Rattle.dsql_lending_laws.proofs.Cases.{limit_opened}
+use Rattle.dsql_lending_laws.proofs.Cases.{control_opened}
 
 -- there is a row for each connection
 
@@ -58,7 +59,8 @@ made_rows (Entered client n (RowsClose rows) ∷ H) = made_rows H
 made_rows (Entered client n (Err rows) ∷ H) = made_rows H
 made_rows (Entered client n Stats ∷ H) = made_rows H
 made_rows (Waits n ∷ H) = made_rows H
-made_rows (SetLimit s k ∷ H) = let rows = made_rows H in let same = limit_opened s k (pool H) in omega (arith, rows, same)
+made_rows (Ticked now ∷ H) = let rows = made_rows H in let same = control_opened (Tick now) (pool H) in omega (arith, rows, same)
+made_rows (SetLimit s k ∷ H) = let rows = made_rows H in let same = control_opened (Set s k) (pool H) in omega (arith, rows, same)
 made_rows (Replied n reply ∷ H) = made_rows H
 made_rows (Ended ∷ H) = made_rows H
 
@@ -127,6 +129,7 @@ kept_on H (Pool (Fell d k)) c t n l a is kept = kept
 kept_on H (Run version can) c t n l a is kept = kept
 kept_on H (Entered client m op) c t n l a is kept = kept
 kept_on H (Waits m) c t n l a is kept = kept
+kept_on H (Ticked now) c t n l a is kept = kept
 kept_on H (SetLimit s m) c t n l a is kept = kept
 kept_on H (Replied m reply) c t n l a is kept = kept
 kept_on H Ended c t n l a is kept = kept

@@ -27,7 +27,7 @@ use Rattle.dsql_work.specs.HandedOut.{Made}
 use Rattle.dsql_work.specs.Works.{maker}
 use Rattle.dsql_work.specs.Line.{Asked, aim_of, line_after, is_due}
 use Rattle.dsql_history.specs.declared.event.Event.{Event}
-use Rattle.dsql_history.specs.declared.event.Event.TheVariants.{Run, Entered, Heard, Pool, Waits, SetLimit, Replied, Ended}
+use Rattle.dsql_history.specs.declared.event.Event.TheVariants.{Run, Entered, Heard, Pool, Waits, Ticked, SetLimit, Replied, Ended}
 use Rattle.dsql_history.specs.declared.event.Op.{Op}
 use Rattle.dsql_history.specs.declared.event.Op.TheVariants as ops
 use Rattle.dsql_history.specs.Readers.Course.{caps}
@@ -117,6 +117,7 @@ caps_stay H (Entered client n op) c p a is = refl
 caps_stay H (Heard e) c p a is = refl
 caps_stay H (Pool m) c p a is = refl
 caps_stay H (Waits n) c p a is = refl
+caps_stay H (Ticked now) c p a is = refl
 caps_stay H (SetLimit s k) c p a is = refl
 caps_stay H (Replied n reply) c p a is = refl
 caps_stay H Ended c p a is = refl
@@ -164,6 +165,7 @@ rows_turn H Ended n h = inr (ends.EndOfRun, rows_at_end_of (handed_out H) n)
 rows_turn H (Run version can) n h = inl refl
 rows_turn H (Pool m) n h = inl refl
 rows_turn H (Waits m) n h = inl refl
+rows_turn H (Ticked now) n h = inl refl
 rows_turn H (SetLimit s k) n h = inl refl
 rows_turn H (Replied m reply) n h = inl refl
 
@@ -193,6 +195,7 @@ heard_same H (Run version can) c t h = refl
 heard_same H (Entered client n op) c t h = refl
 heard_same H (Pool m) c t h = refl
 heard_same H (Waits n) c t h = refl
+heard_same H (Ticked now) c t h = refl
 heard_same H (SetLimit s k) c t h = refl
 heard_same H (Replied n reply) c t h = refl
 heard_same H Ended c t h = refl
@@ -286,6 +289,7 @@ unheard H (Run version can) e on = refl
 unheard H (Entered client n op) e on = refl
 unheard H (Pool m) e on = refl
 unheard H (Waits n) e on = refl
+unheard H (Ticked now) e on = refl
 unheard H (SetLimit s k) e on = refl
 unheard H (Replied n reply) e on = refl
 unheard H Ended e on = refl

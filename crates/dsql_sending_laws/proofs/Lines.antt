@@ -16,7 +16,8 @@ use Rattle.dsql_rows.specs.OpenRows.{is_live}
 use Rattle.dsql_work.specs.declared.work.Aim.{Aim}
 use Rattle.dsql_work.specs.declared.work.Aim.TheVariants as aims
 use Rattle.dsql_work.specs.Exchanges.{exchanges}
-use Rattle.dsql_work.specs.Line.{Asked, aim_of, line_after, body_after, handed, keeps_with, keeps_rows}
+use Rattle.dsql_work.specs.Line.{Asked, aim_of, line_after, body_after, handed}
+use Rattle.dsql_work_laws.proofs.KeptRows.{keeps_with, keeps_rows}
 use Rattle.dsql_history.specs.declared.event.Event.{Event}
 use Rattle.dsql_history.specs.Readers.Course.{caps}
 use Rattle.dsql_history.specs.Readers.HandedOut.{rows_by, live, are_live}

@@ -2,7 +2,7 @@
 use Rattle.std.proofs.Common.{◌≡◌, false, List, [], ◌∷◌, refl}
 use Rattle.dsql_journal.specs.declared.entry.Entry.{Entry}
 use Rattle.dsql_history.specs.declared.event.Event.{Event}
-use Rattle.dsql_history.specs.declared.event.Event.TheVariants.{Run, Entered, Heard, Pool, Waits, SetLimit, Replied, Ended}
+use Rattle.dsql_history.specs.declared.event.Event.TheVariants.{Run, Entered, Heard, Pool, Waits, Ticked, SetLimit, Replied, Ended}
 use Rattle.dsql_history.specs.Readers.HandedOut.{rows_by}
 use Rattle.dsql_history.specs.Legal.{Lawful}
 use Rattle.dsql_sending_laws.proofs.Lines.{live_used}
@@ -53,6 +53,7 @@ sound (Run version can ∷ H) l = quiet H (Run version can) l refl (sound H l.0)
 sound (Entered client n op ∷ H) l = quiet H (Entered client n op) l refl (sound H l.0)
 sound (Pool m ∷ H) l = quiet H (Pool m) l refl (sound H l.0)
 sound (Waits n ∷ H) l = quiet H (Waits n) l refl (sound H l.0)
+sound (Ticked now ∷ H) l = quiet H (Ticked now) l refl (sound H l.0)
 sound (SetLimit setting k ∷ H) l = quiet H (SetLimit setting k) l refl (sound H l.0)
 sound (Replied n reply ∷ H) l = quiet H (Replied n reply) l refl (sound H l.0)
 sound (Ended ∷ H) l = quiet H Ended l refl (sound H l.0)

@@ -20,8 +20,9 @@ use Rattle.dsql_pool.specs.Places.{conn_of, place_of, lends_of, is_idle, is_lent
 use Rattle.dsql_pool.specs.Pooled.{Pooled, next_number, next_tenure, place_at}
 use Rattle.dsql_work.specs.Journals.{ends_invalid}
 use Rattle.dsql_history.specs.declared.event.Event.{Event}
-use Rattle.dsql_history.specs.declared.event.Event.TheVariants.{Run, Entered, Heard, Pool, Waits, SetLimit, Replied, Ended}
+use Rattle.dsql_history.specs.declared.event.Event.TheVariants.{Run, Entered, Heard, Pool, Waits, Ticked, SetLimit, Replied, Ended}
 use Rattle.dsql_history.specs.declared.event.Op.TheVariants as ops
+use Rattle.dsql_history.specs.declared.event.Control.TheVariants.{Tick, Set}
 use Rattle.dsql_history.specs.Same.{is_first}
 use Rattle.dsql_history.specs.Readers.Course.{caps}
 use Rattle.dsql_history.specs.Readers.Journals.{journal}
@@ -50,7 +51,7 @@ use Rattle.dsql_lending_laws.proofs.Born.{born}
 use Rattle.dsql_lending_laws.proofs.Lent.{move_facts, back_line}
 use Rattle.dsql_sending_laws.proofs.Invariant.{Sound}
 use Rattle.dsql_sending_laws.proofs.Answered.{heard_facts, lent_under_way, works_on}
-use Rattle.dsql_lending_laws.proofs.Cases.{limit_conns}
+use Rattle.dsql_lending_laws.proofs.Cases.{control_conns}
 
 follows_of : (H : List Event) (e : Event) → Allowed H e → follows (owed H) e ≡ true
 follows_of H e a = let k = keeps_of H e a in k.order
@@ -241,6 +242,7 @@ stands_event H (Entered client n (ops.RowsClose rows)) l s d = stands_quiet H (E
 stands_event H (Entered client n (ops.Err rows)) l s d = stands_quiet H (Entered client n (ops.Err rows)) l.1 s (λ c. refl) (λ c. refl) d
 stands_event H (Entered client n ops.Stats) l s d = stands_quiet H (Entered client n ops.Stats) l.1 s (λ c. refl) (λ c. refl) d
 stands_event H (Waits n) l s d = stands_quiet H (Waits n) l.1 s (λ c. refl) (λ c. refl) d
-stands_event H (SetLimit setting k) l s d = stands_quiet H (SetLimit setting k) l.1 s (λ c. refl) (λ c. ap (conn_of c) (limit_conns setting k (pool H))) d
+stands_event H (Ticked now) l s d = stands_quiet H (Ticked now) l.1 s (λ c. refl) (λ c. ap (conn_of c) (control_conns (Tick now) (pool H))) d
+stands_event H (SetLimit setting k) l s d = stands_quiet H (SetLimit setting k) l.1 s (λ c. refl) (λ c. ap (conn_of c) (control_conns (Set setting k) (pool H))) d
 stands_event H (Replied n reply) l s d = stands_quiet H (Replied n reply) l.1 s (λ c. refl) (λ c. refl) d
 stands_event H Ended l s d = stands_closed H Ended l.1 s (λ c. refl) d

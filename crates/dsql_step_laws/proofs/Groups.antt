@@ -17,12 +17,14 @@ use Rattle.dsql_pool.specs.declared.request.AskFault.TheVariants as faults
 use Rattle.dsql_pool.specs.Decisions.{lends_to_oldest, moves_back, when_given_back}
 use Rattle.dsql_pool.specs.Pooled.{next_tenure}
 use Rattle.dsql_history.specs.declared.event.Event.{Event}
-use Rattle.dsql_history.specs.declared.event.Event.TheVariants.{Entered, Heard, Pool, Waits, SetLimit, Replied, Ended}
+use Rattle.dsql_history.specs.declared.event.Event.TheVariants.{Entered, Heard, Pool, Waits, Replied, Ended}
 use Rattle.dsql_history.specs.declared.event.Op.{Op}
-use Rattle.dsql_history.specs.declared.event.Setting.{Setting}
+use Rattle.dsql_history.specs.declared.event.Control.{Control}
+use Rattle.dsql_history.specs.declared.event.Control.TheVariants.{Tick, Set}
 use Rattle.dsql_history.specs.declared.reply.Reply.{Reply}
 use Rattle.dsql_history.specs.declared.reply.Reply.TheVariants.{TooMany}
 use Rattle.dsql_history.specs.Readers.Calls.{next_call, reply_due}
+use Rattle.dsql_history.specs.Readers.Controls.{told_after}
 use Rattle.dsql_history.specs.Readers.Owed.{answered, fate, given_back, left_of, owed}
 use Rattle.dsql_history.specs.Readers.Pool.{place, pool}
 use Rattle.dsql_history.specs.Rules.Asking.{ask_outcome, may_ask}
@@ -30,7 +32,7 @@ use Rattle.dsql_history.specs.Rules.Line.{is_used}
 use Rattle.dsql_laws.specs.OwedMade.{with_moves}
 use Rattle.dsql_laws.proofs.Tests.{same_itself, same_number}
 use Rattle.dsql_follows.specs.Moments.{Moment, begins_step, landed, stepping}
-use Rattle.dsql_steps.specs.Groups.{after_enter, after_end, after_heard, after_set, after_settling, asked_so, gone_on, heard_at, let_go, sends_nothing, with_owed}
+use Rattle.dsql_steps.specs.Groups.{after_enter, after_end, after_heard, after_control, after_settling, asked_so, gone_on, heard_at, let_go, sends_nothing, with_owed}
 use Rattle.dsql_step_laws.specs.Steps.{IsAtRest, MakesStep, GoesByItself, goes_by_itself}
 use Rattle.dsql_step_laws.proofs.Going.{Going, going, begun, goes, goes_moving, moves_ahead, whole}
 
@@ -121,8 +123,9 @@ enter_is_one m client op rest =
     let none : owed (es ++ m.past) ≡ [] = subst (λ H. owed H ≡ []) ahead (made_all (e ∷ m.past) (owed (e ∷ m.past)) refl) in
     subst (λ H. MakesStep m e n (gone_on n H)) (sym ahead) (ends_with m e n es (goes_moving m e n (e ∷ []) (owed (e ∷ m.past)) (begun m e rest refl) refl) none)
 
-pub set_is_one : (m : Moment) (setting : Setting) (k : ℤ) → IsAtRest m → MakesStep m (SetLimit setting k) 0 (after_set m.past setting k)
-set_is_one m setting k rest = with_due m (SetLimit setting k) rest refl
+pub control_is_one : (m : Moment) (control : Control) → IsAtRest m → MakesStep m (told_after m.past control) 0 (after_control m.past control)
+control_is_one m (Tick now) rest = with_due m (told_after m.past (Tick now)) rest refl
+control_is_one m (Set setting k) rest = with_due m (told_after m.past (Set setting k)) rest refl
 
 pub end_is_one : (m : Moment) → IsAtRest m → MakesStep m Ended 0 (after_end m.past)
 end_is_one m rest = with_due m Ended rest refl

@@ -1,5 +1,5 @@
 -- The events of one step, in their order. A history is newest first, so the last event of a step stands leftmost.
-use Rattle.std.specs.Prelude.{ℕ, ℤ, Bool, not, ◌&&◌, cond, List, ◌∷◌, Option, Some, None, Result, Err, is_some}
+use Rattle.std.specs.Prelude.{ℕ, Bool, not, ◌&&◌, cond, List, ◌∷◌, Option, Some, None, Result, Err, is_some}
 use Rattle.dsql_journal.specs.declared.entry.Entry.{Entry}
 use Rattle.dsql_journal.specs.declared.entry.Owner.TheVariants.{Call}
 use Rattle.dsql_pool.specs.declared.conn.Place.{Place}
@@ -8,15 +8,16 @@ use Rattle.dsql_pool.specs.declared.request.Asked.{Asked}
 use Rattle.dsql_pool.specs.declared.request.AskFault.{AskFault}
 use Rattle.dsql_pool.specs.declared.request.AskFault.TheVariants as faults
 use Rattle.dsql_history.specs.declared.event.Event.{Event}
-use Rattle.dsql_history.specs.declared.event.Event.TheVariants.{Entered, Heard, SetLimit, Replied, Ended}
+use Rattle.dsql_history.specs.declared.event.Event.TheVariants.{Entered, Heard, Replied, Ended}
 use Rattle.dsql_history.specs.declared.event.Op.{Op}
-use Rattle.dsql_history.specs.declared.event.Setting.{Setting}
+use Rattle.dsql_history.specs.declared.event.Control.{Control}
 use Rattle.dsql_history.specs.declared.reply.Reply.{Reply}
 use Rattle.dsql_history.specs.declared.reply.Reply.TheVariants.{TooMany}
 use Rattle.dsql_history.specs.Readers.Unfinished.{is_unfinished}
 use Rattle.dsql_history.specs.Readers.Pool.{place}
 use Rattle.dsql_history.specs.Readers.Owed.{given_back, owed}
 use Rattle.dsql_history.specs.Readers.Calls.{next_call, reply_due}
+use Rattle.dsql_history.specs.Readers.Controls.{told_after}
 use Rattle.dsql_history.specs.Rules.Asking.{may_ask, ask_outcome}
 use Rattle.dsql_history.specs.Rules.Line.{due_for, is_used}
 use Rattle.dsql_laws.specs.Asked.{with_asked}
@@ -63,9 +64,9 @@ heard_at _ e past = with_owed (Heard e ∷ past)
 abbrev pub after_heard : List Event → Entry → List Event
 after_heard past e = heard_at (place past e.conn) e past
 
--- a limit is set
-abbrev pub after_set : List Event → Setting → ℤ → List Event
-after_set past setting n = with_owed (SetLimit setting n ∷ past)
+-- a limit is set, or the present moment
+abbrev pub after_control : List Event → Control → List Event
+after_control past control = with_owed (told_after past control ∷ past)
 
 -- the run ends
 abbrev pub after_end : List Event → List Event

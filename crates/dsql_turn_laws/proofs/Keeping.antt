@@ -5,7 +5,7 @@ use Rattle.std.proofs.lemmas.Bool.Decides.{nat_tests}
 use Rattle.dsql_journal.specs.declared.entry.Entry.{Entry}
 use Rattle.dsql_pool.proofs.Rows.{all_filter, all_pass}
 use Rattle.dsql_history.specs.declared.event.Event.{Event}
-use Rattle.dsql_history.specs.declared.event.Event.TheVariants.{Run, Entered, Heard, Pool, Waits, SetLimit, Replied, Ended}
+use Rattle.dsql_history.specs.declared.event.Event.TheVariants.{Run, Entered, Heard, Pool, Waits, Ticked, SetLimit, Replied, Ended}
 use Rattle.dsql_history.specs.declared.record.Flight.{Flight}
 use Rattle.dsql_history.specs.declared.reply.Reply.{Reply}
 use Rattle.dsql_history.specs.Readers.Unfinished.{is_unfinished}
@@ -79,6 +79,7 @@ known_on H (Run version can) flights spared h = h
 known_on H (Heard e) flights spared h = h
 known_on H (Pool move) flights spared h = h
 known_on H (Waits n) flights spared h = h
+known_on H (Ticked now) flights spared h = h
 known_on H (SetLimit setting n) flights spared h = h
 known_on H Ended flights spared h = h
 
@@ -117,6 +118,7 @@ was_unfinished H (Run version can) c l u = u
 was_unfinished H (Heard e) c l u = u
 was_unfinished H (Pool move) c l u = u
 was_unfinished H (Waits n) c l u = u
+was_unfinished H (Ticked now) c l u = u
 was_unfinished H (SetLimit setting n) c l u = u
 was_unfinished H Ended c l u = u
 
@@ -166,6 +168,7 @@ later_spares n (Entered client m op) flights parked h = tt
 later_spares n (Heard e) flights parked h = tt
 later_spares n (Pool move) flights parked h = tt
 later_spares n (Waits m) flights parked h = tt
+later_spares n (Ticked now) flights parked h = tt
 later_spares n (SetLimit setting m) flights parked h = tt
 later_spares n Ended flights parked h = tt
 

@@ -20,7 +20,7 @@ use Rattle.dsql_wire.specs.Journaled.{MayBeSent}
 use Rattle.dsql_pool.specs.declared.conn.Place.{Place}
 use Rattle.dsql_pool.specs.declared.conn.Place.TheVariants.{Lent}
 use Rattle.dsql_history.specs.declared.event.Event.{Event}
-use Rattle.dsql_history.specs.declared.event.Event.TheVariants.{Run, Entered, Heard, Pool, Waits, SetLimit, Replied, Ended}
+use Rattle.dsql_history.specs.declared.event.Event.TheVariants.{Run, Entered, Heard, Pool, Waits, Ticked, SetLimit, Replied, Ended}
 use Rattle.dsql_history.specs.Readers.Journals.{journal}
 use Rattle.dsql_history.specs.Readers.Pool.{place, pool}
 use Rattle.dsql_history.specs.Rules.Line.{parts, sends_from}
@@ -48,6 +48,7 @@ parts_alike (Entered client n op) p a b = refl
 parts_alike (Heard e) p a b = refl
 parts_alike (Pool move) p a b = refl
 parts_alike (Waits n) p a b = refl
+parts_alike (Ticked now) p a b = refl
 parts_alike (SetLimit setting n) p a b = refl
 parts_alike (Replied n reply) p a b = refl
 parts_alike Ended p a b = refl
@@ -82,6 +83,7 @@ later_apart n (Replied m reply) p apart h = let same : m ≡ n = same_number m n
 later_apart n (Run version can) p apart h = absurd cc
 later_apart n (Entered client m op) p apart h = absurd cc
 later_apart n (Heard e) p apart h = absurd cc
+later_apart n (Ticked now) p apart h = absurd cc
 later_apart n (SetLimit setting m) p apart h = absurd cc
 later_apart n Ended p apart h = absurd cc
 
@@ -122,6 +124,7 @@ of_one_connection (Run version can ∷ H) c = of_one_connection H c
 of_one_connection (Entered client n op ∷ H) c = of_one_connection H c
 of_one_connection (Pool move ∷ H) c = of_one_connection H c
 of_one_connection (Waits n ∷ H) c = of_one_connection H c
+of_one_connection (Ticked now ∷ H) c = of_one_connection H c
 of_one_connection (SetLimit setting n ∷ H) c = of_one_connection H c
 of_one_connection (Replied n reply ∷ H) c = of_one_connection H c
 of_one_connection (Ended ∷ H) c = of_one_connection H c

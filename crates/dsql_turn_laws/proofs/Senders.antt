@@ -12,7 +12,7 @@ use Rattle.dsql_work.specs.declared.work.Work.{Work}
 use Rattle.dsql_work.specs.declared.work.Work.TheVariants.{Execute, ReadOne, HandOut, Fetch, Close, Look}
 use Rattle.dsql_work.specs.Works.{asks, user_of}
 use Rattle.dsql_history.specs.declared.event.Event.{Event}
-use Rattle.dsql_history.specs.declared.event.Event.TheVariants.{Run, Entered, Heard, Pool, Waits, SetLimit, Replied, Ended}
+use Rattle.dsql_history.specs.declared.event.Event.TheVariants.{Run, Entered, Heard, Pool, Waits, Ticked, SetLimit, Replied, Ended}
 use Rattle.dsql_history.specs.Readers.Calls.{site, user}
 use Rattle.dsql_history.specs.Readers.Journals.{heard_in, journal}
 use Rattle.dsql_history.specs.Readers.Pool.{home, place, pool}
@@ -137,6 +137,7 @@ uses_on H (Run version can) k m a it = record { entered = it.entered; user = it.
 uses_on H (Heard e) k m a it = record { entered = it.entered; user = it.user }
 uses_on H (Pool move) k m a it = record { entered = it.entered; user = it.user }
 uses_on H (Waits n) k m a it = record { entered = it.entered; user = it.user }
+uses_on H (Ticked now) k m a it = record { entered = it.entered; user = it.user }
 uses_on H (SetLimit setting n) k m a it = record { entered = it.entered; user = it.user }
 uses_on H (Replied n reply) k m a it = record { entered = it.entered; user = it.user }
 uses_on H Ended k m a it = record { entered = it.entered; user = it.user }
@@ -192,6 +193,7 @@ sender_uses (Run version can ∷ H) l = uses_quiet H (Run version can) l refl (s
 sender_uses (Entered client n op ∷ H) l = uses_quiet H (Entered client n op) l refl (sender_uses H l.0)
 sender_uses (Pool move ∷ H) l = uses_quiet H (Pool move) l refl (sender_uses H l.0)
 sender_uses (Waits n ∷ H) l = uses_quiet H (Waits n) l refl (sender_uses H l.0)
+sender_uses (Ticked now ∷ H) l = uses_quiet H (Ticked now) l refl (sender_uses H l.0)
 sender_uses (SetLimit setting n ∷ H) l = uses_quiet H (SetLimit setting n) l refl (sender_uses H l.0)
 sender_uses (Replied n reply ∷ H) l = uses_quiet H (Replied n reply) l refl (sender_uses H l.0)
 sender_uses (Ended ∷ H) l = uses_quiet H Ended l refl (sender_uses H l.0)

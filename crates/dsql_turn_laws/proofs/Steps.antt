@@ -1,14 +1,15 @@
 -- What is under way keeps its turns at each step of the core.
 use Rattle.std.proofs.Common.{◌≡◌, ℕ, Bool, true, false, List, [], ◌∷◌, refl, arith}
-use Rattle.std.specs.Prelude.{ℤ}
 use Rattle.dsql_driver.specs.declared.caps.Caps.{Caps}
 use Rattle.dsql_journal.specs.declared.entry.Entry.{Entry}
 use Rattle.dsql_history.specs.declared.event.Event.{Event}
-use Rattle.dsql_history.specs.declared.event.Event.TheVariants.{Run, Entered, Heard, SetLimit, Ended}
+use Rattle.dsql_history.specs.declared.event.Event.TheVariants.{Run, Entered, Heard, Ticked, SetLimit, Ended}
 use Rattle.dsql_history.specs.declared.event.Op.{Op}
-use Rattle.dsql_history.specs.declared.event.Setting.{Setting}
+use Rattle.dsql_history.specs.declared.event.Control.{Control}
+use Rattle.dsql_history.specs.declared.event.Control.TheVariants.{Tick, Set}
 use Rattle.dsql_history.specs.declared.record.Flight.{Flight}
 use Rattle.dsql_history.specs.Readers.Calls.{next_call}
+use Rattle.dsql_history.specs.Readers.Controls.{told, taken, told_after}
 use Rattle.dsql_history.specs.Readers.Owed.{owed}
 use Rattle.dsql_history.specs.Readers.Pool.{place}
 use Rattle.dsql_history.specs.Readers.Unfinished.{is_unfinished}
@@ -20,7 +21,7 @@ use Rattle.dsql_desk.proofs.Known.{unfinished_known}
 use Rattle.dsql_going.specs.Reaching.{HasGoneOn}
 use Rattle.dsql_going.specs.declared.next.Next.{Next}
 use Rattle.dsql_hearing.proofs.Steps.{landed_apart}
-use Rattle.dsql_steps.specs.Groups.{after_end, after_enter, after_heard, after_set, gone_on, with_owed}
+use Rattle.dsql_steps.specs.Groups.{after_end, after_enter, after_heard, after_control, gone_on, with_owed}
 use Rattle.dsql_turn_laws.specs.Turns.{Flying, flies}
 use Rattle.dsql_turn_laws.proofs.Begins.{more_flying, taking_off}
 use Rattle.dsql_turn_laws.proofs.Flights.{free_landed}
@@ -62,11 +63,14 @@ owed_flies first flights l f =
 lawful_owed : (first : List Event) → Lawful (with_owed first) → Lawful first
 lawful_owed first l = lawful_older 0 first (with_owed first) (moves_later 0 (owed first) first) l
 
-pub set_flies : (past : List Event) (setting : Setting) (n : ℤ) (flights : List Flight) → Lawful (after_set past setting n) → Flying past flights → Flying (after_set past setting n) flights
-set_flies past setting n flights l f =
-    let first : List Event = SetLimit setting n ∷ past in
-    let lawful = lawful_owed first l in
-    owed_flies first flights l (all_flying 0 0 first flights lawful refl (quiet_on 0 0 past (SetLimit setting n) flights lawful refl tt (any_flying 0 0 past flights f)))
+told_flies : (past : List Event) (control : Control) (flights : List Flight) → Lawful (told control ∷ past) → Flying past flights → Flying (told control ∷ past) flights
+told_flies past (Tick now) flights l f = all_flying 0 0 (Ticked now ∷ past) flights l refl (quiet_on 0 0 past (Ticked now) flights l refl tt (any_flying 0 0 past flights f))
+told_flies past (Set setting n) flights l f =
+    all_flying 0 0 (SetLimit setting n ∷ past) flights l refl (quiet_on 0 0 past (SetLimit setting n) flights l refl tt (any_flying 0 0 past flights f))
+
+pub control_flies : (past : List Event) (control : Control) (flights : List Flight) → Lawful (after_control past control) → Flying past flights → Flying (after_control past control) flights
+control_flies past control flights l f =
+    let first : List Event = told_after past control ∷ past in owed_flies first flights l (told_flies past (taken past control) flights (lawful_owed first l) f)
 
 pub end_flies : (past : List Event) (flights : List Flight) → Lawful (after_end past) → Flying past flights → Flying (after_end past) flights
 end_flies past flights l f =

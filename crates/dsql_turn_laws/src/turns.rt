@@ -1,14 +1,14 @@
 //! Laws of turns: who sent last on a lent connection, and has no reply yet, has a driver call under way there. A
 //! history is read newest first.
 
-ghost use Rattle.std.specs.Prelude.{◌≡◌, ◌≢◌, ◌++◌, ◌∷◌, [], ℕ, ℤ, true, false, List, Option};
+ghost use Rattle.std.specs.Prelude.{◌≡◌, ◌≢◌, ◌++◌, ◌∷◌, [], ℕ, true, false, List, Option};
 ghost use Rattle.dsql_driver.specs.declared.caps.Caps.{Caps};
 ghost use Rattle.dsql_journal.specs.declared.entry.Entry.{Entry};
 ghost use Rattle.dsql_journal.specs.declared.entry.Permit.{Permit};
 ghost use Rattle.dsql_history.specs.declared.event.Event.{Event};
 ghost use Rattle.dsql_history.specs.declared.event.Event.TheVariants.{Run};
 ghost use Rattle.dsql_history.specs.declared.event.Op.{Op};
-ghost use Rattle.dsql_history.specs.declared.event.Setting.{Setting};
+ghost use Rattle.dsql_history.specs.declared.event.Control.{Control};
 ghost use Rattle.dsql_history.specs.declared.record.Flight.{Flight};
 ghost use Rattle.dsql_history.specs.declared.record.Stand.{Stand};
 ghost use Rattle.dsql_history.specs.Readers.Calls.{next_call};
@@ -19,7 +19,7 @@ ghost use Rattle.dsql_going.specs.Reaching.{HasGoneOn};
 ghost use Rattle.dsql_going.specs.declared.next.Next.{Next};
 ghost use Rattle.dsql_going.specs.declared.next.Next.TheVariants.{Send, Blocked, Reply};
 ghost use Rattle.dsql_going.specs.declared.next.Why.{Why};
-ghost use Rattle.dsql_steps.specs.Groups.{after_enter, after_heard, after_set, after_end, gone_on};
+ghost use Rattle.dsql_steps.specs.Groups.{after_enter, after_heard, after_control, after_end, gone_on};
 ghost use Rattle.dsql_turn_laws.specs.Leaves.{IsLeave};
 ghost use Rattle.dsql_turn_laws.specs.Turns.{Flying, flies};
 
@@ -38,13 +38,13 @@ pub fn who_waits_sends_nothing()
 {}
 
 /// Nothing is under way as a run begins. Turns are kept by each step of the core: as a call enters, or goes on by
-/// itself, as an answer of a call or of the layer is heard, as a limit is set, and as the run ends.
+/// itself, as an answer of a call or of the layer is heard, as a limit or the moment is set, and as the run ends.
 pub fn turns_are_kept()
     ensures begun { (version : ℕ) (caps : Caps) → Flying (Run version caps ∷ []) [] }
     ensures entered { (past : List Event) (client : ℕ) (op : Op) (flights : List Flight) → Lawful (after_enter past client op) → Flying past flights → Flying (after_enter past client op) (permitted (next_call past) (stand (after_enter past client op) (next_call past)) flights) }
     ensures heard { (past : List Event) (e : Entry) (before after : List Flight) (next : Next) → Lawful (after_heard past e) → Flying past before → flies e.call_no e.conn before ≡ true → HasGoneOn (after_heard past e) (without_flight e.call_no before) after e.call_no next → Flying (after_heard past e) after }
     ensures layer { (past : List Event) (e : Entry) (flights : List Flight) → Lawful (after_heard past e) → Flying past flights → e.call_no ≡ 0 → Flying (after_heard past e) flights }
-    ensures set { (past : List Event) (setting : Setting) (n : ℤ) (flights : List Flight) → Lawful (after_set past setting n) → Flying past flights → Flying (after_set past setting n) flights }
+    ensures control { (past : List Event) (control : Control) (flights : List Flight) → Lawful (after_control past control) → Flying past flights → Flying (after_control past control) flights }
     ensures ended { (past : List Event) (flights : List Flight) → Lawful (after_end past) → Flying past flights → Flying (after_end past) flights }
     ensures woken { (past : List Event) (n : ℕ) (flights : List Flight) → Lawful (gone_on n past) → Flying past flights → is_in_flight n flights ≡ false → Flying (gone_on n past) (permitted n (stand (gone_on n past) n) flights) }
 {}

@@ -1,6 +1,6 @@
 -- The driver calls on a connection that is lent to a call: Reset where it is due, those of the call's course, those over the rows that it handed out, and
 -- Valid where the driver can test and the connection isn't known to be bad.
-use Rattle.std.specs.Prelude.{ℕ, ◌==◌, Bool, true, false, not, ◌&&◌, ◌||◌, cond, List, [], ◌∷◌, length, Option, Some, None, bytes_eq}
+use Rattle.std.specs.Prelude.{ℕ, ◌==◌, Bool, true, false, ◌&&◌, ◌||◌, cond, List, [], ◌∷◌, length, Option, Some, None, bytes_eq}
 use Rattle.dsql_value.specs.declared.value.Param.{Param}
 use Rattle.dsql_driver.specs.declared.caps.Caps.{Caps}
 use Rattle.dsql_driver.specs.declared.call.DriverCall.{DriverCall}
@@ -13,7 +13,7 @@ use Rattle.dsql_course.specs.declared.call.Due.{Due}
 use Rattle.dsql_course.specs.declared.call.Due.TheVariants as course
 use Rattle.dsql_course.specs.declared.course.Wish.{Wish}
 use Rattle.dsql_course.specs.declared.course.Wish.TheVariants as wishes
-use Rattle.dsql_course.specs.Made.{Exchange, own_cursor, rows_are_over}
+use Rattle.dsql_course.specs.Made.{Exchange, own_cursor}
 use Rattle.dsql_course.specs.Line.{Found, comes_next}
 use Rattle.dsql_course.specs.Rows.{rows_next}
 use Rattle.dsql_journal.specs.declared.entry.Entry.{Entry}
@@ -85,18 +85,6 @@ body_after can asked wish made = body_with can asked wish made (handed asked.aim
 abbrev pub line_after : Caps → Bool → Asked → Wish → List Entry → Option DriverCall
 line_after can reset_due asked wish [] = cond reset_due (Some Reset) (body_after can asked wish [])
 line_after can reset_due asked wish (e ∷ earlier) = cond (is_bad e.answer || is_valid e.call) None (body_after can asked wish (exchanges (e ∷ earlier)))
-
--- rows that are handed out keep the connection as long as they aren't over and nobody closes them
-abbrev pub keeps : Wish → Bool
-keeps wishes.Close = false
-keeps _ = true
-
-abbrev pub keeps_with : Wish → List Exchange → Option ℕ → Bool
-keeps_with wish made None = false
-keeps_with wish made (Some rows) = not (rows_are_over made) && keeps wish
-
-abbrev pub keeps_rows : Aim → Wish → List Exchange → Bool
-keeps_rows aim wish made = keeps_with wish made (handed aim made)
 
 -- what becomes of the text of a call
 abbrev pub aim_of : Work → Aim

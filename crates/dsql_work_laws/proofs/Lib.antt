@@ -1,3 +1,4 @@
+pub mod KeptRows
 pub mod CallLines
 pub mod CallJournals
 pub mod MadeLines

@@ -23,7 +23,8 @@ use Rattle.dsql_journal.proofs.Tenures.{of_tenure-new}
 use Rattle.dsql_journal.proofs.PlainJournals.{Plain, Good, Good-with, of_tenure-with}
 use Rattle.dsql_work.specs.Journals.{ends_invalid}
 use Rattle.dsql_work.specs.Exchanges.{exchanges, step_of, with_exchange}
-use Rattle.dsql_work.specs.Line.{Asked, line_after, body_after, keeps_rows, is_due}
+use Rattle.dsql_work.specs.Line.{Asked, line_after, body_after, is_due}
+use Rattle.dsql_work_laws.proofs.KeptRows.{keeps_rows}
 use Rattle.dsql_work_laws.proofs.CallLines.{Step, Start, WasReset, WasSkipped, WasPrepared, HasRows, HasRead, WasRun, WasDone, WasTested, WasDropped, IsOther, step, step_after, goes, SoFar, sent_entry, so_far-start, so_far-next, is_sent}
 use Rattle.dsql_work_laws.proofs.CallJournals.{Served, served_of, served_sent, Sends, may_follow-sent}
 use Rattle.dsql_work_laws.proofs.MadeLines.{MadeAt, is_ended, ended_by, is_clean, clean_when_done, goes_body}

@@ -24,7 +24,8 @@ use Rattle.dsql_work.specs.declared.work.Aim.TheVariants as aims
 use Rattle.dsql_course.specs.declared.course.Wish.{Wish}
 use Rattle.dsql_course.specs.declared.course.Wish.TheVariants as wishes
 use Rattle.dsql_course.specs.Rows.{closing_next}
-use Rattle.dsql_work.specs.Line.{Asked, course_of, run_for, run_of, going_on, sent_as, test_of, handed, body_after, keeps, keeps_rows, is_due}
+use Rattle.dsql_work.specs.Line.{Asked, course_of, run_for, run_of, going_on, sent_as, test_of, handed, body_after, is_due}
+use Rattle.dsql_work_laws.proofs.KeptRows.{keeps, keeps_rows}
 use Rattle.dsql_work_laws.proofs.CallLines.{Step, Start, WasReset, WasSkipped, WasPrepared, HasRows, HasRead, WasRun, WasDone, WasTested, WasDropped, IsOther, step_after, read_after, freed_after, left_of, goes}
 
 -- the call of its course that comes next

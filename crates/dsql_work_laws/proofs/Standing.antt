@@ -25,7 +25,8 @@ use Rattle.dsql_work_laws.proofs.CallLines.{step, sent_entry, is_sent}
 use Rattle.dsql_journal.proofs.PlainJournals.{Plain, Good, Plain-connect, Good-connect, went_bad-in, is_whole_tenure-plain}
 use Rattle.dsql_work.specs.Journals.{ends_invalid}
 use Rattle.dsql_work.specs.Exchanges.{exchanges}
-use Rattle.dsql_work.specs.Line.{Asked, line_after, is_due, keeps_rows}
+use Rattle.dsql_work.specs.Line.{Asked, line_after, is_due}
+use Rattle.dsql_work_laws.proofs.KeptRows.{keeps_rows}
 use Rattle.dsql_work_laws.proofs.Rows.{same_number}
 use Rattle.dsql_work_laws.proofs.CallJournals.{Served, served_of, plain_of}
 use Rattle.dsql_work_laws.proofs.MadeLines.{MadeAt}

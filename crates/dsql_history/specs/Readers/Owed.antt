@@ -10,13 +10,15 @@ use Rattle.dsql_pool.specs.declared.moves.Fate.TheVariants.{Good, Bad, Invalid}
 use Rattle.dsql_pool.specs.declared.moves.Move.{Move}
 use Rattle.dsql_pool.specs.declared.moves.Move.TheVariants.{Back, CloseStart}
 use Rattle.dsql_pool.specs.Pooled.{Pooled}
-use Rattle.dsql_pool.specs.Calls.{moves_opened, moves_failed, moves_given_back, moves_gone, moves_open_set, moves_idle_set, moves_closed}
+use Rattle.dsql_pool.specs.Calls.{moves_opened, moves_failed, moves_given_back, moves_gone, moves_open_set, moves_idle_set, moves_lifetime_set, moves_idle_time_set, moves_ticked, moves_closed}
 use Rattle.dsql_work.specs.Journals.{ends_invalid}
 use Rattle.dsql_history.specs.declared.event.Event.{Event}
-use Rattle.dsql_history.specs.declared.event.Event.TheVariants.{Entered, Heard, Pool, SetLimit, Ended}
+use Rattle.dsql_history.specs.declared.event.Event.TheVariants.{Entered, Heard, Pool, Ticked, SetLimit, Ended}
 use Rattle.dsql_history.specs.declared.event.Op.TheVariants.{DbClose}
 use Rattle.dsql_history.specs.declared.event.Setting.{Setting}
-use Rattle.dsql_history.specs.declared.event.Setting.TheVariants.{MaxOpen, MaxIdle}
+use Rattle.dsql_history.specs.declared.event.Setting.TheVariants.{MaxOpen, MaxIdle, MaxLife, MaxIdleTime}
+use Rattle.dsql_history.specs.declared.event.Control.{Control}
+use Rattle.dsql_history.specs.declared.event.Control.TheVariants.{Tick, Set}
 use Rattle.dsql_history.specs.Readers.Journals.{journal}
 use Rattle.dsql_history.specs.Readers.Pool.{pool, place}
 
@@ -42,6 +44,13 @@ answered answer c p _ = []
 abbrev pub limit_set : Setting → ℤ → Pooled → List Move
 limit_set MaxOpen n p = moves_open_set n p
 limit_set MaxIdle n p = moves_idle_set n p
+limit_set MaxLife n p = moves_lifetime_set n p
+limit_set MaxIdleTime n p = moves_idle_time_set n p
+
+-- what comes of a moment or a limit
+abbrev pub controlled : Control → Pooled → List Move
+controlled (Tick now) p = moves_ticked now p
+controlled (Set setting n) p = limit_set setting n p
 
 -- what comes of a connection that leaves its call by this move
 abbrev pub leaving : List Event → Move → List Move
@@ -54,12 +63,13 @@ abbrev pub left_of : List Event → Move → List Move → List Move
 left_of before move (due ∷ later) = later
 left_of before move [] = drop 1 (leaving before move)
 
--- The moves that the pool has still to make, in their order: those that a connection's answer, a limit, the close or the end of the run made due.
+-- The moves that the pool has still to make, in their order: those that a connection's answer, a moment, a limit, the close or the end of the run made due.
 abbrev pub owed : List Event → List Move
 owed [] = []
 owed (Entered client n DbClose ∷ before) = moves_closed (pool before)
 owed (Heard e ∷ before) = answered e.answer e.conn (pool before) (place before e.conn)
 owed (Pool move ∷ before) = left_of before move (owed before)
-owed (SetLimit setting n ∷ before) = limit_set setting n (pool before)
+owed (Ticked now ∷ before) = controlled (Tick now) (pool before)
+owed (SetLimit setting n ∷ before) = controlled (Set setting n) (pool before)
 owed (Ended ∷ before) = moves_closed (pool before)
 owed (_ ∷ before) = []

@@ -11,13 +11,15 @@ use Rattle.dsql_pool.specs.declared.moves.Move.TheVariants.{OpenStart}
 use Rattle.dsql_pool.specs.Places.{conn_of, is_for}
 use Rattle.dsql_journal.specs.Kinds.{number_of}
 use Rattle.dsql_pool.specs.Pooled.{Pooled, fresh, place_at}
-use Rattle.dsql_pool.specs.Moved.{moved, begun, joined, shut}
-use Rattle.dsql_pool.specs.Calls.{open_set, idle_set}
+use Rattle.dsql_pool.specs.Moved.{moved, begun, joined, shut, ticked}
+use Rattle.dsql_pool.specs.Calls.{open_set, idle_set, lifetime_set, idle_time_set}
 use Rattle.dsql_history.specs.declared.event.Event.{Event}
-use Rattle.dsql_history.specs.declared.event.Event.TheVariants.{Entered, Pool, Waits, SetLimit, Ended}
+use Rattle.dsql_history.specs.declared.event.Event.TheVariants.{Entered, Pool, Waits, Ticked, SetLimit, Ended}
 use Rattle.dsql_history.specs.declared.event.Op.TheVariants.{DbClose}
 use Rattle.dsql_history.specs.declared.event.Setting.{Setting}
-use Rattle.dsql_history.specs.declared.event.Setting.TheVariants.{MaxOpen, MaxIdle}
+use Rattle.dsql_history.specs.declared.event.Setting.TheVariants.{MaxOpen, MaxIdle, MaxLife, MaxIdleTime}
+use Rattle.dsql_history.specs.declared.event.Control.{Control}
+use Rattle.dsql_history.specs.declared.event.Control.TheVariants.{Tick, Set}
 
 -- the request of call n at a moment; as long as a call has one try it is no last one
 abbrev pub request_at : ℕ → ℕ → Request
@@ -38,6 +40,13 @@ with_move move p = moved move p
 abbrev pub with_limit : Setting → ℤ → Pooled → Pooled
 with_limit MaxOpen n p = open_set n p
 with_limit MaxIdle n p = idle_set n p
+with_limit MaxLife n p = lifetime_set n p
+with_limit MaxIdleTime n p = idle_time_set n p
+
+-- the pool at that moment, or with that limit, before the moves that this makes
+abbrev pub with_control : Control → Pooled → Pooled
+with_control (Tick now) p = ticked now p
+with_control (Set setting n) p = with_limit setting n p
 
 -- The pool after all events. A call that closes the database shuts it as it enters, and so does the end of the run.
 abbrev pub pool : List Event → Pooled
@@ -45,7 +54,8 @@ pool [] = fresh
 pool (Entered client n DbClose ∷ before) = shut (pool before)
 pool (Pool move ∷ before) = with_move move (pool before)
 pool (Waits n ∷ before) = joins n (pool before)
-pool (SetLimit setting n ∷ before) = with_limit setting n (pool before)
+pool (Ticked now ∷ before) = with_control (Tick now) (pool before)
+pool (SetLimit setting n ∷ before) = with_control (Set setting n) (pool before)
 pool (Ended ∷ before) = shut (pool before)
 pool (_ ∷ before) = pool before
 

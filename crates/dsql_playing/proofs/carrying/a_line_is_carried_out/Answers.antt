@@ -1,11 +1,11 @@
-use Rattle.dsql_playing.proofs.Lines.{begun_client, begun_done, begun_set, begun_skip, begun_stops, stops_at_once}
+use Rattle.dsql_playing.proofs.Lines.{begun_client, begun_done, begun_control, begun_skip, begun_stops, stops_at_once}
 use Rattle.dsql_playing.proofs.carrying.a_line_is_carried_out.Goals as goal
 
 pub returns-clause-skipped : goal.returns-clause-skipped
 returns-clause-skipped c = begun_skip
 
-pub returns-clause-set : goal.returns-clause-set
-returns-clause-set c = begun_set
+pub returns-clause-control : goal.returns-clause-control
+returns-clause-control c = begun_control
 
 pub returns-clause-admitted : goal.returns-clause-admitted
 returns-clause-admitted c = begun_client

@@ -1,8 +1,8 @@
-use Rattle.dsql_playing.proofs.Ready.{answer_ready, end_ready, entry_ready, set_ready, wake_ready}
+use Rattle.dsql_playing.proofs.Ready.{answer_ready, end_ready, entry_ready, control_ready, wake_ready}
 use Rattle.dsql_playing.proofs.staying.a_player_stays_ready.Goals as goal
 
-pub returns-clause-set : goal.returns-clause-set
-returns-clause-set c = set_ready
+pub returns-clause-control : goal.returns-clause-control
+returns-clause-control c = control_ready
 
 pub returns-clause-ended : goal.returns-clause-ended
 returns-clause-ended c = end_ready

@@ -1,9 +1,9 @@
 use Rattle.dsql_playing.proofs.Standing.{answer_taken}
-use Rattle.dsql_playing.proofs.Taking.{end_taken, set_taken, wakes}
+use Rattle.dsql_playing.proofs.Taking.{end_taken, control_taken, wakes}
 use Rattle.dsql_playing.proofs.taking_steps.each_act_is_one_step.Goals as goal
 
-pub returns-clause-set : goal.returns-clause-set
-returns-clause-set c = set_taken
+pub returns-clause-control : goal.returns-clause-control
+returns-clause-control c = control_taken
 
 pub returns-clause-ended : goal.returns-clause-ended
 returns-clause-ended c = end_taken

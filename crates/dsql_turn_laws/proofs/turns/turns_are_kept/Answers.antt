@@ -1,4 +1,4 @@
-use Rattle.dsql_turn_laws.proofs.Steps.{begun_flies, enter_flies, answer_flies, layer_flies, set_flies, end_flies, wake_flies}
+use Rattle.dsql_turn_laws.proofs.Steps.{begun_flies, enter_flies, answer_flies, layer_flies, control_flies, end_flies, wake_flies}
 use Rattle.dsql_turn_laws.proofs.turns.turns_are_kept.Goals as goal
 
 pub returns-clause-begun : goal.returns-clause-begun
@@ -13,8 +13,8 @@ returns-clause-heard c = answer_flies
 pub returns-clause-layer : goal.returns-clause-layer
 returns-clause-layer c = layer_flies
 
-pub returns-clause-set : goal.returns-clause-set
-returns-clause-set c = set_flies
+pub returns-clause-control : goal.returns-clause-control
+returns-clause-control c = control_flies
 
 pub returns-clause-ended : goal.returns-clause-ended
 returns-clause-ended c = end_flies

@@ -1,22 +1,13 @@
-use Rattle.std.proofs.Common.{rules, ◌≡◌, ℤ, w64, to_z, of_z, subst}
-use Rattle.std.specs.Prelude.{OnOk}
+use Rattle.std.proofs.Common.{◌≡◌}
 use Rattle.std.proofs.lemmas.Result.{on_ok_weaker}
-use Rattle.dsql_follows.specs.declared.line.Line.TheVariants.{Set}
-use Rattle.dsql_follows.specs.Moments.{Moment}
-use Rattle.dsql_playing.specs.Acts.{Begun}
-use Rattle.dsql_playing.specs.Playing.{IsAt}
-use Rattle.dsql_playing.proofs.Lines.{begun_client, begun_set}
+use Rattle.dsql_playing.proofs.Lines.{begun_client, begun_control}
 use Rattle.dsql_player.proofs.Stepped.{is_skip, skipped}
 use Rattle.dsql_player.proofs.player.Player.begin.Goals as goal
 
-pub returns-in-Set-clause-begins : goal.returns-in-Set-clause-begins
-returns-in-Set-clause-begins c =
-    let old = c.args.self.now in
-    let new = c.set_limit.new.self in
-    let same : to_z w64 (of_z w64 c.in-Set.n) ≡ c.in-Set.n = search rules in
-    rw c.in-Set.is
-    (subst (λ (n : ℤ). OnOk c.set_limit.result ((m : Moment) → IsAt m old → Begun m (Set c.in-Set.setting n) old new)) same
-    (on_ok_weaker c.set_limit.result (λ sets m at. begun_set m c.in-Set.setting (to_z w64 (of_z w64 c.in-Set.n)) old new at sets) c.set_limit.ensures.sets))
+pub returns-in-Control-clause-begins : goal.returns-in-Control-clause-begins
+returns-in-Control-clause-begins c =
+    rw c.in-Control.is
+    (on_ok_weaker c.control.result (λ tells m at. begun_control m c.in-Control.field-0 c.args.self.now c.control.new.self at tells) c.control.ensures.tells)
 
 pub returns-in-Client-clause-begins : goal.returns-in-Client-clause-begins
 returns-in-Client-clause-begins c =
@@ -24,4 +15,4 @@ returns-in-Client-clause-begins c =
 
 pub returns-clause-begins : goal.returns-clause-begins
 returns-clause-begins c = λ m at.
-    skipped c.args.line m c.args.self.now (is_skip c.args.line c.requires.runs (λ setting n is. c.in_default.not-Set setting n is) (λ client op is. c.in_default.not-Client client op is)) at
+    skipped c.args.line m c.args.self.now (is_skip c.args.line c.requires.runs (λ control is. c.in_default.not-Control control is) (λ client op is. c.in_default.not-Client client op is)) at

@@ -1,4 +1,4 @@
--- A limit with the moves that it makes due touches no call: they close idle connections, and begin openings for none of their own.
+-- A moment or a limit with the moves that it makes due touches no call: they close idle connections, and begin openings for none of their own.
 use Rattle.std.proofs.Common.{◌≡◌, ℕ, zero, suc, ◌+◌, ◌-◌, ◌==◌, Bool, true, false, ◌&&◌, cond, List, [], ◌∷◌, ◌++◌, length, map, take, Option, Some, None, refl, sym, ap, ◌∙◌}
 use Rattle.std.specs.Prelude.{ℤ, drop}
 use Rattle.std.proofs.lemmas.List.{take-append-drop}
@@ -8,20 +8,22 @@ use Rattle.dsql_pool.specs.declared.moves.CloseCause.{CloseCause}
 use Rattle.dsql_pool.specs.declared.moves.CloseCause.TheVariants.{IdleFull}
 use Rattle.dsql_pool.specs.declared.moves.Move.{Move}
 use Rattle.dsql_pool.specs.declared.moves.Move.TheVariants.{OpenStart, Lend, Back, CloseStart, Gone, Fell}
-use Rattle.dsql_pool.specs.Calls.{then_openings, open_set, idle_set}
+use Rattle.dsql_pool.specs.Calls.{then_openings, open_set, idle_set, lifetime_set, idle_time_set}
 use Rattle.dsql_pool.specs.Changes.{closing}
-use Rattle.dsql_pool.specs.Decisions.{openings, due_openings, closings_of_setting}
-use Rattle.dsql_pool.specs.Moved.{begun, moved, made}
+use Rattle.dsql_pool.specs.Decisions.{openings, due_openings, closings_of_setting, closings_of_tick}
+use Rattle.dsql_pool.specs.Moved.{begun, moved, made, ticked}
 use Rattle.dsql_pool.specs.Places.{is_idle}
 use Rattle.dsql_pool.specs.Pooled.{Pooled, next_number, place_at, without}
 use Rattle.dsql_pool.specs.Rest.{times}
 use Rattle.dsql_pool.proofs.Placed.{Placed, placed_away}
 use Rattle.dsql_history.specs.declared.event.Event.{Event}
-use Rattle.dsql_history.specs.declared.event.Event.TheVariants.{Pool, SetLimit}
-use Rattle.dsql_history.specs.declared.event.Setting.{Setting}
-use Rattle.dsql_history.specs.declared.event.Setting.TheVariants.{MaxOpen, MaxIdle}
-use Rattle.dsql_history.specs.Readers.Owed.{limit_set, owed}
-use Rattle.dsql_history.specs.Readers.Pool.{pool, place, with_move, with_limit}
+use Rattle.dsql_history.specs.declared.event.Event.TheVariants.{Pool, Ticked, SetLimit}
+use Rattle.dsql_history.specs.declared.event.Control.{Control}
+use Rattle.dsql_history.specs.declared.event.Setting.TheVariants.{MaxOpen, MaxIdle, MaxLife, MaxIdleTime}
+use Rattle.dsql_history.specs.declared.event.Control.TheVariants.{Tick, Set}
+use Rattle.dsql_history.specs.Readers.Controls.{told}
+use Rattle.dsql_history.specs.Readers.Owed.{controlled, owed}
+use Rattle.dsql_history.specs.Readers.Pool.{pool, place, with_move, with_control}
 use Rattle.dsql_history.specs.Rules.Line.{due_for}
 use Rattle.dsql_history.specs.Rules.Settled.{uses_what_is_lent, goes_on_but}
 use Rattle.dsql_history.specs.Legal.{Lawful}
@@ -29,7 +31,8 @@ use Rattle.dsql_laws.specs.OwedMade.{with_moves}
 use Rattle.dsql_laws.proofs.Tests.{both, together, same_number, same_itself}
 use Rattle.dsql_laws.proofs.AtRest.{before_event, rested}
 use Rattle.dsql_laws.proofs.Able.{placed_once, without_first}
-use Rattle.dsql_other_laws.proofs.Untouched.{due_limit, used_limit, goes_on_limit}
+use Rattle.dsql_laws.proofs.Outdated.{close_idle, outdated_close}
+use Rattle.dsql_other_laws.proofs.Untouched.{due_control, used_control, goes_on_control}
 use Rattle.dsql_other_laws.proofs.Openings.{due_opens, used_opens, goes_on_opens_but}
 use Rattle.dsql_other_laws.proofs.Closings.{due_closes, used_closes, goes_on_closes}
 
@@ -67,9 +70,26 @@ surplus_quiet p h = let k = length p.idle - p.limits.max_idle in closings_quiet 
 then_quiet : (ms : List Move) (p : Pooled) → are_quiet ms p ≡ true → are_quiet (then_openings ms p) p ≡ true
 then_quiet ms p h = let q = made ms p in quiet-append ms (openings (due_openings q) (next_number q)) p h (openings_quiet (due_openings q) (next_number q) q)
 
-limit_quiet : (s : Setting) (k : ℤ) (p : Pooled) → Placed p.idle p.conns → are_quiet (limit_set s k p) (with_limit s k p) ≡ true
-limit_quiet MaxOpen k p h = then_quiet (closings_of_setting (open_set k p)) (open_set k p) (surplus_quiet (open_set k p) h)
-limit_quiet MaxIdle k p h = surplus_quiet (idle_set k p) h
+closing_idle_quiet : (ms : List Move) (p : Pooled) → close_idle ms p ≡ true → are_quiet ms p ≡ true
+closing_idle_quiet [] p h = refl
+closing_idle_quiet (CloseStart c why ∷ ms) p h =
+    let a = both (is_idle (place_at p c)) (close_idle ms (moved (CloseStart c why) p)) h in
+    together (is_idle (place_at p c)) (are_quiet ms (moved (CloseStart c why) p)) a.0 (closing_idle_quiet ms (moved (CloseStart c why) p) a.1)
+closing_idle_quiet (OpenStart c n ∷ ms) p h = absurd cc
+closing_idle_quiet (Lend c t o n ∷ ms) p h = absurd cc
+closing_idle_quiet (Back c ∷ ms) p h = absurd cc
+closing_idle_quiet (Gone c ∷ ms) p h = absurd cc
+closing_idle_quiet (Fell c n ∷ ms) p h = absurd cc
+
+outdated_quiet : (p : Pooled) → Placed p.idle p.conns → are_quiet (closings_of_tick p) p ≡ true
+outdated_quiet p h = closing_idle_quiet (closings_of_tick p) p (outdated_close p h)
+
+control_quiet : (control : Control) (p : Pooled) → Placed p.idle p.conns → are_quiet (controlled control p) (with_control control p) ≡ true
+control_quiet (Tick k) p h = outdated_quiet (ticked k p) h
+control_quiet (Set MaxOpen k) p h = then_quiet (closings_of_setting (open_set k p)) (open_set k p) (surplus_quiet (open_set k p) h)
+control_quiet (Set MaxIdle k) p h = surplus_quiet (idle_set k p) h
+control_quiet (Set MaxLife k) p h = outdated_quiet (lifetime_set k p) h
+control_quiet (Set MaxIdleTime k) p h = outdated_quiet (idle_time_set k p) h
 
 -- what quiet moves leave
 
@@ -111,15 +131,17 @@ all_quiet H (m ∷ ms) n h =
     let rest = all_quiet (Pool m ∷ H) ms n (ap (are_quiet ms) (quiet_moved (pool H) m a.0) ∙ a.1) in
     record { due = λ k. rest.due k ∙ here.due k; used = rest.used ∙ here.used; others = λ k. rest.others (here.others k) }
 
-limit_untouched : (H : List Event) (s : Setting) (k : ℤ) (n : ℕ) → Lawful (SetLimit s k ∷ H) → Untouched (SetLimit s k ∷ H) (with_moves (owed (SetLimit s k ∷ H)) (SetLimit s k ∷ H)) n
-limit_untouched H s k n l =
-    let rest = before_event H (SetLimit s k) refl l.1 (rested H l.0) in all_quiet (SetLimit s k ∷ H) (owed (SetLimit s k ∷ H)) n (limit_quiet s k (pool H) rest.placed)
+control_untouched : (H : List Event) (control : Control) (n : ℕ) → Lawful (told control ∷ H) → Untouched (told control ∷ H) (with_moves (owed (told control ∷ H)) (told control ∷ H)) n
+control_untouched H (Tick k) n l =
+    let rest = before_event H (Ticked k) refl l.1 (rested H l.0) in all_quiet (Ticked k ∷ H) (owed (Ticked k ∷ H)) n (control_quiet (Tick k) (pool H) rest.placed)
+control_untouched H (Set s k) n l =
+    let rest = before_event H (SetLimit s k) refl l.1 (rested H l.0) in all_quiet (SetLimit s k ∷ H) (owed (SetLimit s k ∷ H)) n (control_quiet (Set s k) (pool H) rest.placed)
 
-pub limit_due : (H : List Event) (s : Setting) (k : ℤ) (m : ℕ) → Lawful (SetLimit s k ∷ H) → due_for (with_moves (owed (SetLimit s k ∷ H)) (SetLimit s k ∷ H)) m ≡ due_for H m
-limit_due H s k m l = let u = limit_untouched H s k 0 l in u.due m ∙ due_limit H s k m
+pub control_due : (H : List Event) (control : Control) (m : ℕ) → Lawful (told control ∷ H) → due_for (with_moves (owed (told control ∷ H)) (told control ∷ H)) m ≡ due_for H m
+control_due H control m l = let u = control_untouched H control 0 l in u.due m ∙ due_control H control m
 
-pub limit_used : (H : List Event) (s : Setting) (k : ℤ) → Lawful (SetLimit s k ∷ H) → uses_what_is_lent (with_moves (owed (SetLimit s k ∷ H)) (SetLimit s k ∷ H)) ≡ uses_what_is_lent H
-limit_used H s k l = let u = limit_untouched H s k 0 l in u.used ∙ used_limit H s k
+pub control_used : (H : List Event) (control : Control) → Lawful (told control ∷ H) → uses_what_is_lent (with_moves (owed (told control ∷ H)) (told control ∷ H)) ≡ uses_what_is_lent H
+control_used H control l = let u = control_untouched H control 0 l in u.used ∙ used_control H control
 
-pub limit_others : (H : List Event) (s : Setting) (k : ℤ) (n : ℕ) → Lawful (SetLimit s k ∷ H) → goes_on_but n H ≡ true → goes_on_but n (with_moves (owed (SetLimit s k ∷ H)) (SetLimit s k ∷ H)) ≡ true
-limit_others H s k n l h = let u = limit_untouched H s k n l in u.others (goes_on_limit H s k n h)
+pub control_others : (H : List Event) (control : Control) (n : ℕ) → Lawful (told control ∷ H) → goes_on_but n H ≡ true → goes_on_but n (with_moves (owed (told control ∷ H)) (told control ∷ H)) ≡ true
+control_others H control n l h = let u = control_untouched H control n l in u.others (goes_on_control H control n h)
