@@ -121,10 +121,7 @@ impl Conns {
         ensures capacity { self.old.capacity ≤ self.new.capacity }
     {
         let number = self.opened + 1;
-        match self.rows.push(Conn::opening(number, wanted)) {
-            Ok(()) => {}
-            Err(_) => unreachable!(),
-        }
+        self.rows.push_reserved(Conn::opening(number, wanted));
         self.opened = number;
         self.drawn += 1;
     }

@@ -27,10 +27,7 @@ pub fn note_closings(conns: &[u32], cause: CloseCause, moves: &mut Vec<Move>)
     ensures capacity { vec_capacity moves.old ≤ vec_capacity moves.new }
 {
     for conn in conns {
-        match moves.push(Move::CloseStart { conn: *conn, cause }) {
-            Ok(()) => {}
-            Err(_) => unreachable!(),
-        }
+        moves.push_reserved(Move::CloseStart { conn: *conn, cause });
     }
 }
 
@@ -51,10 +48,7 @@ pub fn note_outdated(
 {
     for conn in idle {
         if let Some(closing) = closing_at(conns, *conn, limits, moment) {
-            match moves.push(closing) {
-                Ok(()) => {}
-                Err(_) => unreachable!(),
-            }
+            moves.push_reserved(closing);
         }
     }
 }

@@ -1,4 +1,4 @@
-ghost use Rattle.std.specs.Prelude.{◌≡◌, ◌+◌, ◌<◌, ◌≤◌, [], length, OnOk, OnErr};
+ghost use Rattle.std.specs.Prelude.{◌≡◌, ◌+◌, ◌<◌, ◌≤◌, [], length, vec_len, vec_capacity, OnOk, OnErr};
 
 mod asking;
 mod giving_back;
@@ -102,8 +102,7 @@ impl Pool {
         self.waiting.reserve(calls)?;
         self.idle.reserve(calls as usize)?;
         let most = MOST_OTHER_MOVES + self.idle.len() + calls as usize;
-        self.moves.reserve(most.saturating_sub(self.moves.len()))?;
-        Ok(())
+        reserve_moves(&mut self.moves, most)
     }
 
     // There is memory for a call, which has made no move yet.
@@ -156,4 +155,16 @@ impl Pool {
     {
         self.moves.as_slice()
     }
+}
+
+// Takes memory for so many moves in all.
+fn reserve_moves(moves: &mut Vec<Move>, most: usize) -> Result<(), Memory>
+    ensures ok { OnOk result (most ≤ vec_capacity moves.new) }
+    ensures full { OnErr result (vec_capacity moves.old < most) }
+    ensures moves { moves.new.items ≡ moves.old.items }
+    ensures len { vec_len moves.new ≡ vec_len moves.old }
+    ensures capacity { vec_capacity moves.old ≤ vec_capacity moves.new }
+{
+    moves.reserve(most.saturating_sub(moves.len()))?;
+    Ok(())
 }

@@ -21,10 +21,7 @@ impl Pool {
         ensures spare { self.old.spare ≤ self.new.spare }
         ensures capacity { self.old.capacity ≤ self.new.capacity }
     {
-        match self.moves.push(done) {
-            Ok(()) => {}
-            Err(_) => unreachable!(),
-        }
+        self.moves.push_reserved(done);
     }
 
     /// The number of a connection's next tenure.
@@ -87,10 +84,7 @@ impl Pool {
         ensures spare { self.old.spare ≤ self.new.spare + 1 }
         ensures capacity { self.new.capacity ≡ self.old.capacity }
     {
-        match self.idle.push(conn) {
-            Ok(()) => {}
-            Err(_) => unreachable!(),
-        }
+        self.idle.push_reserved(conn);
         self.conns.back(conn, self.moment);
     }
 

@@ -6,5 +6,5 @@ use Rattle.dsql_pool.proofs.conns.Conns.begin.Goals as goal
 
 pub invariant_of-self : goal.invariant_of-self
 invariant_of-self c =
-    drawn_begun c.self.inside.drawn c.self.inside.opened _ c.opening.result c.self.inside.rows.items c.push.new.self.items refl
-    (ap (λ (x : Conn). x.lends) c.opening.ensures) (ap (λ (x : Conn). x.uses) c.opening.ensures) c.in-Ok.ensures.items c.self.invariant
+    drawn_begun c.self.inside.drawn c.self.inside.opened _ c.opening.result c.self.inside.rows.items c.push_reserved.new.self.items refl
+    (ap (λ (x : Conn). x.lends) c.opening.ensures) (ap (λ (x : Conn). x.uses) c.opening.ensures) c.push_reserved.ensures.items c.self.invariant
