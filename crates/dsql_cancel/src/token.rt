@@ -2,7 +2,7 @@ ghost use Rattle.std.specs.Prelude.{◌≡◌};
 ghost use Rattle.dsql_cancel.specs.Token as token;
 
 /// Why a token is cancelled, as Go's `context.Canceled` and `context.DeadlineExceeded`.
-#[derive(Clone, Copy, Debug, PartialEq, Eq)]
+#[derive(Clone, Copy, Debug)]
 pub enum Cause {
     Canceled,
     Deadline,
@@ -10,7 +10,7 @@ pub enum Cause {
 
 /// What a token is at a moment: its deadline in nanoseconds, if it has one, and why it is cancelled, if it
 /// is.
-#[derive(Clone, Copy, Debug)]
+#[derive(Clone, Copy)]
 pub struct Token {
     pub deadline: Option<u64>,
     pub cause: Option<Cause>,

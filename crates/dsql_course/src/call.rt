@@ -1,5 +1,5 @@
 /// A driver call of a call's course, without what it is sent with.
-#[derive(Clone, Copy, Debug, PartialEq, Eq)]
+#[derive(Clone, Copy)]
 pub enum Due {
     /// A run of the text.
     Text,
@@ -21,7 +21,7 @@ pub enum Due {
 }
 
 /// What a driver answered, as far as later calls depend on it.
-#[derive(Clone, Copy, Debug, PartialEq, Eq)]
+#[derive(Clone, Copy)]
 pub enum Got {
     Done,
     Result,

@@ -3,7 +3,7 @@ ghost use Rattle.std.specs.Prelude.{◌≡◌};
 use dsql_driver::Caps;
 
 /// What a call on the database does with the connection that is lent to it.
-#[derive(Clone, Copy, Debug, PartialEq, Eq)]
+#[derive(Clone, Copy)]
 pub enum Course {
     /// `DB.ExecContext`: a text is executed.
     Exec,
@@ -27,7 +27,7 @@ pub enum Course {
 }
 
 /// What is wanted of rows that a query handed out.
-#[derive(Clone, Copy, Debug, PartialEq, Eq)]
+#[derive(Clone, Copy)]
 pub enum Wish {
     /// Nothing just now.
     Nothing,

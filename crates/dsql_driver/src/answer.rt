@@ -8,7 +8,7 @@ use std::alloc::AllocError;
 /// What a driver answers to one call. `Skip` is Go's `driver.ErrSkip`, `Bad` its `driver.ErrBadConn`,
 /// `End` the `io.EOF` of Rows' Next, `Invalid` a Validator's no, and `Fail` any other error with its
 /// text. `Memory` is want of memory in the driver itself.
-#[derive(Debug, Drop)]
+#[derive(Drop)]
 pub enum DriverAnswer {
     Done,
     Prepared { handle: u32, inputs: i32 },

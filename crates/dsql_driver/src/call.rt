@@ -4,7 +4,7 @@ use dsql_value::{Params, Txt};
 use std::alloc::AllocError;
 
 /// What a statement is run from: its text, or the handle that a Prepare gave for it.
-#[derive(Debug, Drop)]
+#[derive(Drop)]
 pub enum Input {
     Text(Txt),
     Handle(u32),
@@ -22,7 +22,7 @@ impl Clone for Input {
 }
 
 /// How far apart transactions are kept, as Go's `sql.IsolationLevel`.
-#[derive(Clone, Copy, Debug, PartialEq, Eq)]
+#[derive(Clone, Copy)]
 pub enum Level {
     Default,
     ReadUncommitted,
@@ -38,7 +38,7 @@ pub enum Level {
 /// Connect, `SessionResetter`'s ResetSession, `Validator`'s IsValid, `Pinger`'s Ping, `ConnPrepareContext`,
 /// `Stmt`'s Close, the two `ExecerContext` and `StmtExecContext`, the two `QueryerContext` and
 /// `StmtQueryContext`, `Rows`' Next and Close, `ConnBeginTx`, `Tx`'s Commit and Rollback, and `Conn`'s Close.
-#[derive(Debug, Drop)]
+#[derive(Drop)]
 pub enum DriverCall {
     Connect,
     Reset,

@@ -2,7 +2,7 @@
 /// `driver`: `fast_exec` is ExecerContext, `fast_query` QueryerContext, `begin_options` ConnBeginTx,
 /// `named` the support of named parameters, `pinger` Pinger, `resetter` SessionResetter, `validator`
 /// Validator.
-#[derive(Clone, Copy, Debug, PartialEq, Eq)]
+#[derive(Clone, Copy)]
 pub struct Caps {
     pub fast_exec: bool,
     pub fast_query: bool,

@@ -202,7 +202,7 @@ impl Clock for ListClock {
 }
 
 /// A gate that lets every call pass at once.
-#[derive(Clone, Copy, Debug)]
+#[derive(Clone, Copy)]
 pub struct OpenGate;
 
 impl Gate for OpenGate {

@@ -10,7 +10,7 @@ use crate::caps::Caps;
 use dsql_value::{Memory, Txt};
 
 /// A fault that is planned in place of a driver's answer.
-#[derive(Clone, Debug, Drop)]
+#[derive(Drop)]
 pub enum Planned {
     Bad,
     Fail(Txt),
@@ -18,7 +18,7 @@ pub enum Planned {
 }
 
 /// Why a connection couldn't be opened.
-#[derive(Clone, Debug, Drop)]
+#[derive(Debug, Drop)]
 pub enum Refused {
     Bad,
     Fail(Txt),
@@ -26,7 +26,7 @@ pub enum Refused {
 }
 
 /// A driver's answer, twice, so that nothing has to be copied once the driver was called.
-#[derive(Debug, Drop)]
+#[derive(Drop)]
 pub struct Answered {
     pub answer: DriverAnswer,
     pub copy: DriverAnswer,

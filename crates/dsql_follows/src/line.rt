@@ -1,7 +1,7 @@
 use dsql_history::{Control, Op};
 
 /// What a line of a script asks for.
-#[derive(Clone, Debug, Drop)]
+#[derive(Drop)]
 pub enum Line {
     /// Nothing: it is empty or a comment, or it was for what comes before the run.
     Skip,

@@ -12,7 +12,7 @@ pub enum Why {
 }
 
 /// What comes after one step.
-#[derive(Debug, Drop)]
+#[derive(Drop)]
 pub enum Next {
     /// This driver call is to be made, and its answer brought back.
     Send(Permit),

@@ -6,7 +6,7 @@ use dsql_scan::Dests;
 use dsql_value::{Args, Txt};
 
 /// What a client asks of the layer. Rows that a query hands out are named by its label.
-#[derive(Clone, Debug, Drop)]
+#[derive(Drop)]
 pub enum Op {
     /// `DB.ExecContext` of a text with arguments.
     Exec { text: Txt, args: Args },
@@ -51,7 +51,7 @@ pub enum Control {
 }
 
 /// One thing that happened in a run.
-#[derive(Clone, Debug, Drop)]
+#[derive(Drop)]
 pub enum Event {
     /// The run began.
     Run { version: u8, caps: Caps },

@@ -3,7 +3,7 @@ use dsql_driver::DriverAnswer;
 use dsql_value::{Params, Txt};
 
 /// A try of a call to get a connection.
-#[derive(Clone, Debug, Drop)]
+#[derive(Drop)]
 pub enum Try {
     /// A connection was lent to it.
     Served,
@@ -32,7 +32,7 @@ pub enum Stand {
 }
 
 /// How far a call has come.
-#[derive(Clone, Debug, Drop)]
+#[derive(Drop)]
 pub struct CallRecord {
     /// The client who made it.
     pub client: u8,

@@ -14,7 +14,7 @@ pub enum DbEnd {
 }
 
 /// What a call is answered.
-#[derive(Clone, Debug, Drop)]
+#[derive(Drop)]
 pub enum Reply {
     /// It was done, and there is nothing to tell.
     Ok,

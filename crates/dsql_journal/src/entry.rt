@@ -7,7 +7,7 @@ use dsql_driver::{DriverAnswer, DriverCall};
 
 /// Who holds a connection during a tenure: a call on the database, a transaction or a pinned
 /// connection, each by its number, or the layer itself, which opens and closes connections.
-#[derive(Clone, Copy, Debug, PartialEq, Eq)]
+#[derive(Clone, Copy)]
 pub enum Owner {
     Call(u32),
     Tx(u32),
@@ -67,7 +67,7 @@ impl Owner {
 
 /// One line of a connection's journal. Connections and their tenures are numbered from 1; `call_no` is
 /// the client's call that sent it, 0 for the layer itself; `tx` is its transaction, 0 for none.
-#[derive(Clone, Debug, Drop)]
+#[derive(Drop)]
 pub struct Entry {
     pub conn: u32,
     pub tenure: u32,
@@ -88,7 +88,7 @@ impl Entry {
 }
 
 /// Leave to make one driver call: an entry without its answer.
-#[derive(Debug, Drop)]
+#[derive(Drop)]
 pub struct Permit {
     pub conn: u32,
     pub tenure: u32,

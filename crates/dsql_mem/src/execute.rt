@@ -15,7 +15,7 @@ use dsql_value::{Memory, Param, Txt, Value};
 use std::alloc::Global;
 
 /// What a command comes to: a write, or an answer that says why there is none.
-#[derive(Debug, Drop)]
+#[derive(Drop)]
 pub(crate) enum Outcome {
     /// The key gets the value, or goes where there is none. So many entries are affected.
     Write {

@@ -16,7 +16,7 @@ use dsql_value::{Items, Memory, Param, Txt};
 use std::alloc::Global;
 
 /// What a query comes to: the entries of its rows, or an answer that says why there are none.
-#[derive(Debug, Drop)]
+#[derive(Drop)]
 pub(crate) enum Found {
     Rows { shape: Shape, entries: Items<Entry> },
     Refused(DriverAnswer),

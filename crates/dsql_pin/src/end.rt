@@ -1,7 +1,7 @@
 use thiserror::Error;
 
 /// What ends a pin.
-#[derive(Clone, Copy, Debug, PartialEq, Eq)]
+#[derive(Clone, Copy, Debug)]
 pub enum PinEnd {
     /// Its `Close`.
     Close,
@@ -14,7 +14,7 @@ pub enum PinEnd {
 }
 
 /// The pin was ended before, by this: Go's `sql.ErrConnDone`.
-#[derive(Clone, Copy, Debug, PartialEq, Eq, Error)]
+#[derive(Clone, Copy, Debug, Error)]
 #[error("sql: connection is already closed")]
 pub struct ConnDone {
     pub by: PinEnd,

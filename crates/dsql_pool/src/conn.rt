@@ -5,7 +5,7 @@ ghost use Rattle.dsql_pool.specs.Places.{is_for, is_free};
 use dsql_journal::Owner;
 
 /// Where an open connection stands: in one of the four sets.
-#[derive(Clone, Copy, Debug, PartialEq, Eq)]
+#[derive(Clone, Copy)]
 pub enum Place {
     /// It waits for a request.
     Idle,
@@ -38,7 +38,7 @@ impl Place {
 
 /// An open connection: its number, its place, how often it was lent, how often to an owner other than the
 /// House, and the moments at which it was opened and last given back, in nanoseconds.
-#[derive(Clone, Copy, Debug, PartialEq, Eq)]
+#[derive(Clone, Copy)]
 pub struct Conn {
     pub number: u32,
     pub place: Place,

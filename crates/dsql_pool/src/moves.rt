@@ -1,7 +1,7 @@
 use dsql_journal::Owner;
 
 /// Why a connection is closed.
-#[derive(Clone, Copy, Debug, PartialEq, Eq)]
+#[derive(Clone, Copy)]
 pub enum CloseCause {
     /// The driver said that it is bad.
     Bad,
@@ -22,7 +22,7 @@ pub enum CloseCause {
 }
 
 /// A move of a connection among the four sets: opening, lent, idle and closing.
-#[derive(Clone, Copy, Debug, PartialEq, Eq)]
+#[derive(Clone, Copy)]
 pub enum Move {
     /// It begins to be opened, for a call, or for none of its own at 0.
     OpenStart {
@@ -57,7 +57,7 @@ pub enum Move {
 }
 
 /// What a journal tells of a connection that is given back.
-#[derive(Clone, Copy, Debug, PartialEq, Eq)]
+#[derive(Clone, Copy)]
 pub enum Fate {
     /// Nothing against it.
     Good,
@@ -70,7 +70,7 @@ pub enum Fate {
 }
 
 /// What becomes of a connection that was given back, or opened and not wanted.
-#[derive(Clone, Copy, Debug, PartialEq, Eq)]
+#[derive(Clone, Copy)]
 pub enum Outcome {
     /// It closes.
     Closes(CloseCause),

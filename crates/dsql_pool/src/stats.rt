@@ -7,7 +7,7 @@ use dsql_wait::Request;
 /// What was counted so far: requests that had to wait, how long the waits took that ended, in nanoseconds,
 /// and connections closed because enough were idle, for their idle time and for their lifetime. Each stands
 /// still at its type's end.
-#[derive(Clone, Copy, Debug, PartialEq, Eq)]
+#[derive(Clone, Copy)]
 pub struct Counts {
     pub waits: u64,
     pub waited: u64,
@@ -83,7 +83,7 @@ pub fn with_wait(moment: u64, waited: u64, request: &Request) -> u64
 }
 
 /// The nine numbers of Go's `DBStats`.
-#[derive(Clone, Copy, Debug, PartialEq, Eq)]
+#[derive(Clone, Copy)]
 pub struct Stats {
     /// The open limit, 0 for none.
     pub max_open_connections: u64,

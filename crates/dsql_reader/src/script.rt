@@ -2,7 +2,7 @@ use dsql_driver::Caps;
 use dsql_history::{Op, Setting};
 
 /// What one line of a script says.
-#[derive(Clone, Debug, Drop)]
+#[derive(Drop)]
 pub enum ScriptLine {
     /// Nothing, since it is empty or begins with `#`.
     Skip,

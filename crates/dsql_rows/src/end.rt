@@ -5,7 +5,7 @@ use dsql_cancel::Cause;
 use dsql_value::Txt;
 
 /// What ends rows.
-#[derive(Debug, Drop)]
+#[derive(Drop)]
 pub enum RowsEnd {
     /// Their `Close`.
     Close,
@@ -24,7 +24,7 @@ pub enum RowsEnd {
 }
 
 /// What ended rows, without the text.
-#[derive(Clone, Copy, Debug, PartialEq, Eq)]
+#[derive(Clone, Copy, Debug)]
 pub enum RowsOver {
     Close,
     EndOfRows,

@@ -3,14 +3,14 @@ use dsql_scan::RowFault;
 use thiserror::Error;
 
 /// The rows were ended before, by this.
-#[derive(Clone, Copy, Debug, PartialEq, Eq, Error)]
+#[derive(Clone, Copy, Debug, Error)]
 #[error("sql: Rows are closed")]
 pub struct RowsClosed {
     pub by: RowsOver,
 }
 
 /// Why rows don't scan their current row, as the error of Go's `Rows.Scan` says.
-#[derive(Clone, Copy, Debug, PartialEq, Eq, Error)]
+#[derive(Clone, Copy, Debug, Error)]
 pub enum RowsFault {
     /// They were ended before, by this.
     #[error("sql: Rows are closed")]

@@ -3,7 +3,7 @@ use dsql_value::Items;
 /// Where a value is scanned to: the type of a variable that Go's `Rows.Scan` is given a pointer to.
 /// `Any` is `*any`, which takes each value as it is. The Null destinations are those of `NullString`,
 /// `NullInt64` and their like; they take a nil too.
-#[derive(Clone, Copy, Debug, PartialEq, Eq)]
+#[derive(Clone, Copy, Debug)]
 pub enum Dest {
     Text,
     Bytes,
@@ -28,7 +28,7 @@ pub enum Dest {
 }
 
 /// The kinds of a driver's values.
-#[derive(Clone, Copy, Debug, PartialEq, Eq)]
+#[derive(Clone, Copy, Debug)]
 pub enum Kind {
     Nil,
     Int,

@@ -2,7 +2,7 @@ use crate::dest::{Dest, Kind};
 use thiserror::Error;
 
 /// Why a value isn't scanned, as the error of Go's `Rows.Scan` says.
-#[derive(Clone, Copy, Debug, PartialEq, Eq, Error)]
+#[derive(Clone, Copy, Debug, Error)]
 pub enum ScanFault {
     /// The value is nil, and this destination takes none.
     #[error("nil doesn't go into {0:?}")]
@@ -29,7 +29,7 @@ pub enum ScanFault {
 }
 
 /// Why the values of a row aren't scanned. A count or a place above 4,294,967,295 is given as that number.
-#[derive(Clone, Copy, Debug, PartialEq, Eq, Error)]
+#[derive(Clone, Copy, Debug, Error)]
 pub enum RowFault {
     /// There are `want` values, and `got` destinations.
     #[error("expected {want} destinations, not {got}")]

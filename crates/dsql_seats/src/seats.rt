@@ -10,7 +10,7 @@ use std::alloc::Global;
 use std::marker::Model;
 
 /// A line of a client that is kept, since the client isn't free yet: its call, and whether that is to be held.
-#[derive(Debug, Drop)]
+#[derive(Drop)]
 pub struct KeptLine {
     pub op: Op,
     pub held: bool,

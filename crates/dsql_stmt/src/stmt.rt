@@ -5,7 +5,7 @@ use crate::fault::StmtClosed;
 use dsql_value::Txt;
 
 /// What a statement was prepared on: the database, a transaction or a pinned connection, by its number.
-#[derive(Clone, Copy, Debug, PartialEq, Eq)]
+#[derive(Clone, Copy)]
 pub enum Home {
     Db,
     Tx(u32),
@@ -22,7 +22,7 @@ pub struct Stmt {
 
 /// What a driver answers where it prepares a text: the number of the handle, and how many arguments it takes,
 /// -1 where the driver doesn't know.
-#[derive(Clone, Copy, Debug, PartialEq, Eq)]
+#[derive(Clone, Copy)]
 pub struct Prepared {
     pub handle: u32,
     pub inputs: i32,

@@ -2,7 +2,7 @@ use thiserror::Error;
 
 /// Where a journal stands: no Connect was heard yet, no tenure can have a further entry, the last one
 /// can, or Shut was heard.
-#[derive(Clone, Copy, Debug, PartialEq, Eq)]
+#[derive(Clone, Copy, Debug)]
 pub enum Phase {
     Before,
     Between,
@@ -11,7 +11,7 @@ pub enum Phase {
 }
 
 /// Why an entry wasn't taken. Nothing changed.
-#[derive(Clone, Copy, Debug, PartialEq, Eq, Error)]
+#[derive(Clone, Copy, Debug, Error)]
 pub enum JudgeFault {
     /// No whole journal goes on like this. The phase and the last tenure's number, 0 where there is none,
     /// say where the journal stood.

@@ -9,7 +9,7 @@ ghost use Rattle.dsql_time.specs.Limits.{count_limit, duration_limit, has_expire
 pub mod laws;
 
 /// The limits that a pool keeps. Durations are in nanoseconds.
-#[derive(Clone, Copy, Debug, PartialEq, Eq)]
+#[derive(Clone, Copy)]
 pub struct Limits {
     /// The most connections open at a time, as `DBStats.MaxOpenConnections`; 0 is no limit.
     pub max_open: u32,

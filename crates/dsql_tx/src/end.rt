@@ -2,7 +2,7 @@ use dsql_cancel::Cause;
 use thiserror::Error;
 
 /// What ends a transaction.
-#[derive(Clone, Copy, Debug, PartialEq, Eq)]
+#[derive(Clone, Copy, Debug)]
 pub enum TxEnd {
     /// Its `Commit`.
     Commit,
@@ -15,7 +15,7 @@ pub enum TxEnd {
 }
 
 /// The transaction was ended before, by this: Go's `sql.ErrTxDone`.
-#[derive(Clone, Copy, Debug, PartialEq, Eq, Error)]
+#[derive(Clone, Copy, Debug, Error)]
 #[error("sql: transaction has already been committed or rolled back")]
 pub struct TxDone {
     pub by: TxEnd,

@@ -2,14 +2,14 @@ ghost use Rattle.std.specs.Prelude.{◌≡◌};
 ghost use Rattle.dsql_value.specs.declared.arg.ArgFault.TheVariants as faults;
 
 use crate::items::Items;
-use crate::text::{Bin, Txt, copy_of_optional};
+use crate::text::{Bin, Txt};
 use std::alloc::{AllocError, AllocFailed};
 use thiserror::Error;
 
 /// An argument that a caller gives for a statement's input: one of the types that Go's
 /// `driver.DefaultParameterConverter` takes, or one of `sql.NullString`, `sql.NullInt64` and their like.
 /// `Time` counts nanoseconds since 1970. A Null form without a content is Go's with `Valid` false.
-#[derive(Debug, Drop)]
+#[derive(Drop)]
 pub enum Arg {
     Nil,
     I8(i8),
@@ -40,50 +40,11 @@ pub enum Arg {
     NullTime(Option<i64>),
 }
 
-impl Clone for Arg {
-    ghost is_clone = { λ x y. y ≡ x };
-
-    fn clone(&self) -> Result<Arg, AllocError> {
-        Ok(match self {
-            Arg::Nil => Arg::Nil,
-            Arg::I8(number) => Arg::I8(*number),
-            Arg::I16(number) => Arg::I16(*number),
-            Arg::I32(number) => Arg::I32(*number),
-            Arg::I64(number) => Arg::I64(*number),
-            Arg::U8(number) => Arg::U8(*number),
-            Arg::U16(number) => Arg::U16(*number),
-            Arg::U32(number) => Arg::U32(*number),
-            Arg::U64(number) => Arg::U64(*number),
-            Arg::Bool(truth) => Arg::Bool(*truth),
-            Arg::Text(text) => Arg::Text(text.clone()?),
-            Arg::Bytes(bytes) => Arg::Bytes(bytes.clone()?),
-            Arg::Time(moment) => Arg::Time(*moment),
-            Arg::NullText(text) => Arg::NullText(copy_of_optional(text)?),
-            Arg::NullI64(number) => Arg::NullI64(*number),
-            Arg::NullI32(number) => Arg::NullI32(*number),
-            Arg::NullI16(number) => Arg::NullI16(*number),
-            Arg::NullU8(number) => Arg::NullU8(*number),
-            Arg::NullBool(truth) => Arg::NullBool(*truth),
-            Arg::NullTime(moment) => Arg::NullTime(*moment),
-        })
-    }
-}
-
 /// An argument with its name, if it has one, as Go's `sql.NamedArg`. The name is without a symbol before it.
-#[derive(Debug, Drop)]
+#[derive(Drop)]
 pub struct Named {
     pub name: Option<Txt>,
     pub arg: Arg,
-}
-
-impl Clone for Named {
-    ghost is_clone = { λ x y. y ≡ x };
-
-    fn clone(&self) -> Result<Named, AllocError> {
-        let name = copy_of_optional(&self.name)?;
-        let arg = self.arg.clone()?;
-        Ok(Named { name, arg })
-    }
 }
 
 /// The arguments of one call, in order.

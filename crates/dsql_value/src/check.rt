@@ -125,5 +125,8 @@ fn signed(number: u64) -> Result<i64, ArgFault>
     ensures value { IfOk result (λ value. Value.Int value ≡ arg_of (Arg.U64 number)) }
     ensures refused { IfErr result (λ fault. value_fault (Arg.U64 number) ≡ Some fault) }
 {
-    i64::try_from(number).map_err(|_| ArgFault::HighBit(number))
+    match i64::try_from(number) {
+        Ok(value) => Ok(value),
+        Err(_) => Err(ArgFault::HighBit(number)),
+    }
 }

@@ -6,7 +6,7 @@ use dsql_value::Txt;
 
 /// A call that wants a connection: for whom, whether this is its last try, the name of its token if it has
 /// one, and the moment at which it asked, in nanoseconds.
-#[derive(Debug, Drop)]
+#[derive(Drop)]
 pub struct Request {
     pub call: u32,
     pub owner: Owner,

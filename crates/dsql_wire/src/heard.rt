@@ -5,7 +5,7 @@ use std::marker::Model;
 
 /// An entry that a driver's answer made. It is made only by `connect` and `JournaledWire::perform`, and
 /// never copied. Contracts see the entry.
-#[derive(Debug, Drop)]
+#[derive(Drop)]
 pub struct Heard {
     entry: Entry,
 }

@@ -13,7 +13,7 @@ pub enum Aim {
 }
 
 /// What a call has to do.
-#[derive(Clone, Debug, Drop)]
+#[derive(Debug, Drop)]
 pub enum Work {
     /// It executes a text on a connection of its own.
     Execute,

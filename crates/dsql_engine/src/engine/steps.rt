@@ -16,13 +16,21 @@ use dsql_going::Next;
 use dsql_hearing::hear_answer;
 use dsql_history::Op;
 use dsql_wire::Heard;
+use std::fmt;
 use thiserror::Error;
 
 /// There was no memory to take in what was heard. It is handed back, and nothing changed.
-#[derive(Debug, Drop, Error)]
+#[derive(Drop, Error)]
 #[error("out of memory")]
 pub struct HeardBack {
     pub heard: Heard,
+}
+
+/// It prints as its text: what was heard isn't printed.
+impl fmt::Debug for HeardBack {
+    fn fmt<W: fmt::Write>(&self, f: &mut fmt::Formatter<W>) -> fmt::Result {
+        fmt::Display::fmt(self, f)
+    }
 }
 
 #[tactic(auto)]
