@@ -1,7 +1,7 @@
 //! The driver in memory: in one session, over two wires and in a thread.
 
 use dsql_driver::{Answered, DriverAnswer, DriverCall, Fleet, Input, Level, Planned, Wire};
-use dsql_mem::{MemFleet, Session, Store};
+use dsql_mem::{MemFleet, Session, Store, apply};
 use dsql_value::{Items, Memory, Txt};
 use std::alloc::Global;
 use std::test::Fail;
@@ -19,7 +19,7 @@ const BEGIN: DriverCall = DriverCall::Begin {
 
 /// The call isn't refused.
 fn goes(alloc: Global, store: &mut Store, session: &mut Session, call: &DriverCall) -> bool {
-    let answered = store.apply(alloc, session, call);
+    let answered = apply(alloc, store, session, call);
     matches!(
         answered.answer,
         DriverAnswer::Done | DriverAnswer::Result { .. }

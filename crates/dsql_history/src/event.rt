@@ -29,7 +29,7 @@ pub enum Op {
 }
 
 /// A limit that can be set.
-#[derive(Clone, Copy, Debug, PartialEq, Eq)]
+#[derive(Clone, Copy)]
 pub enum Setting {
     /// `DB.SetMaxOpenConns`.
     MaxOpen,
@@ -42,7 +42,7 @@ pub enum Setting {
 }
 
 /// What comes to the layer from outside beside the calls of clients.
-#[derive(Clone, Copy, Debug)]
+#[derive(Clone, Copy)]
 pub enum Control {
     /// The present moment, in nanoseconds; time never goes back, so an earlier one counts as the present one.
     Tick(u64),

@@ -15,21 +15,22 @@ use Rattle.dsql_driver.specs.declared.call.Input.TheVariants as input
 use Rattle.dsql_value.specs.declared.value.Param.{Param}
 use Rattle.dsql_value.specs.declared.value.Value.{Value}
 use Rattle.dsql_value.specs.declared.value.Value.TheVariants as value
-use Rattle.dsql_mem.specs.Cursor.{CursorState, columns_of, row_of, next_row}
-use Rattle.dsql_mem.specs.Effect.{Effect, effect, executed_in, executed, executed_text, executed_prepared, commanded, carried_out, added, deleted, summed, number_in, prepared, closed, found, queried, queried_text, queried_prepared, queried_in, opened, given, next_taken, rows_closed, shown, in_session, only_answered, no_such_handle}
-use Rattle.dsql_mem.specs.Entries.{Entries, value_at, entry_at, listed}
-use Rattle.dsql_mem.specs.Filled.{key_for, value_for, left_after}
-use Rattle.dsql_mem.specs.Number.{fits_i64}
-use Rattle.dsql_mem.specs.Session.{SessionState, IsSound, handles_of, cursors_of, cursor_of, text_of, is_live, is_open, largest_number}
-use Rattle.dsql_mem.specs.Statement.{Statement, Set, Add, Del, Get, ListKeys, statement_of, inputs_of, is_query}
-use Rattle.dsql_mem.specs.declared.cursor.Shape.{Shape}
-use Rattle.dsql_mem.specs.declared.cursor.Shape.TheVariants as shape
-use Rattle.dsql_mem.specs.declared.execute.Outcome.{Outcome}
-use Rattle.dsql_mem.specs.declared.execute.Outcome.TheVariants.{Write}
-use Rattle.dsql_mem.specs.declared.execute.Outcome.TheVariants as outcome
-use Rattle.dsql_mem.specs.declared.query.Found.{Found}
-use Rattle.dsql_mem.specs.declared.query.Found.TheVariants.{Rows, Refused}
-use Rattle.dsql_mem.proofs.SessionLemmas.{reverse-push, reverse-without, handle_of, live_cursor, handle_is_new, cursor_is_new, cursors-advanced, width-cursors}
+use Rattle.dsql_session.specs.Cursor.{CursorState, columns_of, row_of, next_row}
+use Rattle.dsql_mem.specs.Effect.{Effect, effect, carried_out, in_session, only_answered}
+use Rattle.dsql_session.specs.Calls.{executed_in, executed, executed_text, executed_prepared, commanded, added, deleted, summed, number_in, prepared, closed, found, queried, queried_text, queried_prepared, queried_in, opened, given, next_taken, rows_closed, shown, no_such_handle}
+use Rattle.dsql_store.specs.Entries.{Entries, value_at, entry_at, listed}
+use Rattle.dsql_session.specs.Filled.{key_for, value_for, left_after}
+use Rattle.dsql_session.specs.Number.{fits_i64}
+use Rattle.dsql_session.specs.Session.{SessionState, IsSound, handles_of, cursors_of, cursor_of, text_of, is_live, is_open, largest_number}
+use Rattle.dsql_session.specs.Statement.{Statement, Set, Add, Del, Get, ListKeys, statement_of, inputs_of, is_query}
+use Rattle.dsql_session.specs.declared.cursor.Shape.{Shape}
+use Rattle.dsql_session.specs.declared.cursor.Shape.TheVariants as shape
+use Rattle.dsql_session.specs.declared.execute.Outcome.{Outcome}
+use Rattle.dsql_session.specs.declared.execute.Outcome.TheVariants.{Write}
+use Rattle.dsql_session.specs.declared.execute.Outcome.TheVariants as outcome
+use Rattle.dsql_session.specs.declared.query.Found.{Found}
+use Rattle.dsql_session.specs.declared.query.Found.TheVariants.{Rows, Refused}
+use Rattle.dsql_session.proofs.SessionLemmas.{reverse-push, reverse-without, handle_of, live_cursor, handle_is_new, cursor_is_new, cursors-advanced, width-cursors}
 
 -- both branches have a property
 pub cond_both : {A : Type 0} (P : A → Type 0) (b : Bool) (x y : A) → P x → P y → P (cond b x y)

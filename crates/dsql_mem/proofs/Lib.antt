@@ -1,13 +1,4 @@
-pub mod Ascending
-pub mod CursorLemmas
-pub mod DelLaw
 pub mod EffectLemmas
-pub mod EntryLemmas
 pub mod Examples
-pub mod ListLaw
-pub mod NumberLemmas
 pub mod RollbackLaw
-pub mod SessionLemmas
-pub mod SetLaw
 pub mod WireLemmas
-pub mod WordLemmas

@@ -9,22 +9,23 @@ use Rattle.dsql_driver.specs.declared.call.DriverCall.{DriverCall}
 use Rattle.dsql_driver.specs.declared.call.DriverCall.TheVariants.{Connect, Reset, Valid, Ping, Prepare, CloseStmt, Exec, Query, Next, CloseRows, Begin, Commit, Rollback, Shut}
 use Rattle.dsql_driver.specs.declared.call.Level.{Level}
 use Rattle.dsql_value.specs.declared.value.Value.{Value}
-use Rattle.dsql_mem.specs.Cursor.{next_row}
-use Rattle.dsql_mem.specs.Effect.{Kept, effect, executed_in, carried_out, prepared, closed, queried_in, shown, given, next_taken, rows_closed, in_session, in_transaction}
-use Rattle.dsql_mem.specs.Entries.{Entries, AreAscending, value_at, with_state}
+use Rattle.dsql_session.specs.Cursor.{next_row}
+use Rattle.dsql_mem.specs.Effect.{effect, carried_out, in_session}
+use Rattle.dsql_session.specs.Calls.{Kept, executed_in, prepared, closed, queried_in, shown, given, next_taken, rows_closed, in_transaction}
+use Rattle.dsql_store.specs.Entries.{Entries, AreAscending, value_at, with_state}
 use Rattle.dsql_mem.specs.Laws.{RollbackRestores, leaves_transaction, after_calls}
-use Rattle.dsql_mem.specs.Session.{SessionState, cursor_of, is_live, is_open}
-use Rattle.dsql_mem.specs.Statement.{Statement, statement_of}
-use Rattle.dsql_mem.specs.Undo.{rolled_back}
-use Rattle.dsql_mem.specs.declared.execute.Outcome.{Outcome}
-use Rattle.dsql_mem.specs.declared.execute.Outcome.TheVariants as outcome
-use Rattle.dsql_mem.specs.declared.note.Note.{Note}
-use Rattle.dsql_mem.specs.declared.query.Found.{Found}
-use Rattle.dsql_mem.specs.declared.query.Found.TheVariants.{Rows, Refused}
-use Rattle.dsql_mem.proofs.Ascending.{ascending-with_state}
-use Rattle.dsql_mem.proofs.DelLaw.{deletes_one_key}
+use Rattle.dsql_session.specs.Session.{SessionState, cursor_of, is_live, is_open}
+use Rattle.dsql_session.specs.Statement.{Statement, statement_of}
+use Rattle.dsql_store.specs.Undo.{rolled_back}
+use Rattle.dsql_session.specs.declared.execute.Outcome.{Outcome}
+use Rattle.dsql_session.specs.declared.execute.Outcome.TheVariants as outcome
+use Rattle.dsql_store.specs.declared.note.Note.{Note}
+use Rattle.dsql_session.specs.declared.query.Found.{Found}
+use Rattle.dsql_session.specs.declared.query.Found.TheVariants.{Rows, Refused}
+use Rattle.dsql_store.proofs.Ascending.{ascending-with_state}
+use Rattle.dsql_store.proofs.DelLaw.{deletes_one_key}
 use Rattle.dsql_mem.proofs.EffectLemmas.{cond_both, option_both}
-use Rattle.dsql_mem.proofs.SetLaw.{sets_one_key}
+use Rattle.dsql_store.proofs.SetLaw.{sets_one_key}
 
 bytes_eq-swap : (xs ys : List ℕ) → bytes_eq xs ys ≡ bytes_eq ys xs
 bytes_eq-swap xs ys = both (bytes_eq xs ys) (bytes_eq ys xs) (λ h. (bytes_eq-Decides ys xs).1 (sym ((bytes_eq-Decides xs ys).0 h))) (λ h. (bytes_eq-Decides xs ys).1 (sym ((bytes_eq-Decides ys xs).0 h))) where

@@ -1,13 +1,13 @@
 -- What a wire is after a call that it carried out on some map, or for which memory was wanting.
-use Rattle.std.proofs.Common.{◌≡◌, ◌⊎◌, ℕ, List, [], ◌∷◌, ◌++◌, true, false, refl, ap, ◌∙◌, inl, inr}
+use Rattle.std.proofs.Common.{◌≡◌, ◌⊎◌, ℕ, true, false, refl, ap, ◌∙◌, inl, inr}
 use Rattle.dsql_driver.specs.Fits.{fits_of, is_memory}
 use Rattle.dsql_driver.specs.Wires.{WireTold, with_call, KeepsHandles, KeepsCursors}
 use Rattle.dsql_driver.specs.declared.answer.DriverAnswer.{DriverAnswer}
 use Rattle.dsql_driver.specs.declared.answer.DriverAnswer.TheVariants.{Done, Prepared, Result, Cursor, Row, End, Invalid, Skip, Bad, Fail, Memory}
 use Rattle.dsql_driver.specs.declared.call.DriverCall.{DriverCall}
 use Rattle.dsql_mem.specs.Effect.{effect}
-use Rattle.dsql_mem.specs.Entries.{Entries}
-use Rattle.dsql_mem.specs.Session.{SessionState, IsSound, handles_of, cursors_of}
+use Rattle.dsql_store.specs.Entries.{Entries}
+use Rattle.dsql_session.specs.Session.{SessionState, IsSound, handles_of, cursors_of}
 use Rattle.dsql_mem.specs.Wire.{WireState, CarriesOut, after_call, faults_after}
 use Rattle.dsql_mem.proofs.EffectLemmas.{effect-IsLawful}
 

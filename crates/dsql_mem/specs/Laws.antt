@@ -1,12 +1,12 @@
--- What holds of transactions and of lists, whatever is called.
-use Rattle.std.specs.Prelude.{◌≡◌, ℕ, nat_eq, Bool, true, false, List, [], ◌∷◌, None, is_some, if◌then◌else◌}
-use Rattle.std.specs.List.{list_all, starts_with}
+-- What holds of transactions, whatever is called.
+use Rattle.std.specs.Prelude.{◌≡◌, ℕ, Bool, true, false, List, [], ◌∷◌, is_some}
+use Rattle.std.specs.List.{list_all}
 use Rattle.dsql_driver.specs.declared.call.DriverCall.{DriverCall}
 use Rattle.dsql_driver.specs.declared.call.DriverCall.TheVariants.{Reset, Begin, Commit, Rollback, Shut}
 use Rattle.dsql_driver.specs.declared.call.Level.{Level}
 use Rattle.dsql_mem.specs.Effect.{effect}
-use Rattle.dsql_mem.specs.Entries.{Entries, AreAscending, value_at, listed}
-use Rattle.dsql_mem.specs.Session.{SessionState}
+use Rattle.dsql_store.specs.Entries.{Entries, AreAscending, value_at}
+use Rattle.dsql_session.specs.Session.{SessionState}
 
 -- the call neither begins a transaction nor ends one
 abbrev pub leaves_transaction : DriverCall → Bool
@@ -29,9 +29,3 @@ RollbackRestores = (store : Entries) (session : SessionState) (level : Level) (r
     let begun = effect store session (Begin level read_only) in
     let done = after_calls begun.store begun.session calls in
     value_at key (effect done.0 done.1 Rollback).store ≡ value_at key store
-
--- A list has just the keys that begin with the prefix, with their values, and they ascend: so each stands there once.
-pub record ListsPrefix : Type 0 where
-  pub values : (prefix : List ℕ) (store : Entries) (key : List ℕ) →
-      value_at key (listed prefix store) ≡ (if starts_with nat_eq key prefix then value_at key store else None)
-  pub ascending : (prefix : List ℕ) (store : Entries) → AreAscending store → AreAscending (listed prefix store)

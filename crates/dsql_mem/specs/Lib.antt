@@ -1,15 +1,6 @@
-pub mod Copies
-pub mod Cursor
 pub mod Effect
-pub mod Entries
-pub mod Filled
 pub mod Laws
-pub mod Number
 pub mod Log
 pub mod Roll
-pub mod Session
-pub mod Spelled
-pub mod Statement
-pub mod Undo
 pub mod Wire
 pub mod Worked

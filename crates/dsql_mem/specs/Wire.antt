@@ -1,5 +1,5 @@
 -- What wires and fleets in memory are.
-use Rattle.std.specs.Prelude.{◌≡◌, ℕ, true, false, List, [], Option, None, unwrap_or, if◌then◌else◌}
+use Rattle.std.specs.Prelude.{◌≡◌, ℕ, true, false, [], None, unwrap_or, if◌then◌else◌}
 use Rattle.dsql_driver.specs.Fits.{is_fault}
 use Rattle.dsql_driver.specs.Streams.{one_more}
 use Rattle.dsql_driver.specs.Wires.{WireTold, FleetTold, Preferred, newly_told, with_call}
@@ -7,8 +7,8 @@ use Rattle.dsql_driver.specs.declared.answer.DriverAnswer.{DriverAnswer}
 use Rattle.dsql_driver.specs.declared.caps.Caps.{Caps}
 use Rattle.dsql_driver.specs.declared.call.DriverCall.{DriverCall}
 use Rattle.dsql_mem.specs.Effect.{effect}
-use Rattle.dsql_mem.specs.Entries.{Entries}
-use Rattle.dsql_mem.specs.Session.{SessionState, new_session}
+use Rattle.dsql_store.specs.Entries.{Entries}
+use Rattle.dsql_session.specs.Session.{SessionState, new_session}
 
 -- A wire: its session, what it tells, and how often it answered with a fault. The map is shared by all wires of its fleet, and
 -- so it is no part of one.

@@ -1,6 +1,5 @@
--- What a SET and a DEL come to, and worked calls.
-use Rattle.std.specs.Prelude.{◌≡◌, ℕ, pos, negsuc, false, List, [], ◌∷◌, Some, None, codes, if◌then◌else◌}
-use Rattle.std.specs.Str.{bytes_eq}
+-- Worked calls, and numbers by their spelling.
+use Rattle.std.specs.Prelude.{◌≡◌, ℕ, pos, negsuc, false, List, [], ◌∷◌, Some, None, codes}
 use Rattle.dsql_driver.specs.declared.answer.DriverAnswer.{DriverAnswer}
 use Rattle.dsql_driver.specs.declared.answer.DriverAnswer.TheVariants.{Done, Prepared, Result, Cursor, Row, End, Skip}
 use Rattle.dsql_driver.specs.declared.call.DriverCall.{DriverCall}
@@ -10,20 +9,11 @@ use Rattle.dsql_driver.specs.declared.call.Level.TheVariants.{Default}
 use Rattle.dsql_value.specs.declared.value.Param.{Param}
 use Rattle.dsql_value.specs.declared.value.Value.{Value}
 use Rattle.dsql_value.specs.declared.value.Value.TheVariants.{Nil, Int, Text}
-use Rattle.dsql_mem.specs.Effect.{Effect, effect, only_answered, no_such_handle, no_such_statement, not_a_command, not_a_query, wrong_arguments, key_is_not_text, not_a_number, out_of_range, in_transaction, no_transaction, numbers_spent}
-use Rattle.dsql_mem.specs.Entries.{Entries, AreAscending, with_value, without_key, value_at}
-use Rattle.dsql_mem.specs.Number.{number_of}
-use Rattle.dsql_mem.specs.Session.{SessionState, new_session}
-
--- once a key has a value, each other key has what it had
-abbrev pub SetsOneKey : Type 0
-SetsOneKey = (key : List ℕ) (value : Value) (store : Entries) (other : List ℕ) →
-    value_at other (with_value key value store) ≡ (if bytes_eq other key then Some value else value_at other store)
-
--- once a key is taken out of a map, whose keys ascend, it isn't there, and each other key has what it had
-abbrev pub DeletesOneKey : Type 0
-DeletesOneKey = (key : List ℕ) (store : Entries) (other : List ℕ) → AreAscending store →
-    value_at other (without_key key store) ≡ (if bytes_eq key other then None else value_at other store)
+use Rattle.dsql_mem.specs.Effect.{Effect, effect, only_answered}
+use Rattle.dsql_session.specs.Calls.{no_such_handle, no_such_statement, not_a_command, not_a_query, wrong_arguments, key_is_not_text, not_a_number, out_of_range, in_transaction, no_transaction, numbers_spent}
+use Rattle.dsql_store.specs.Entries.{Entries, with_value, value_at}
+use Rattle.dsql_session.specs.Number.{number_of}
+use Rattle.dsql_session.specs.Session.{SessionState, new_session}
 
 -- numbers by their spelling
 pub record WorkedNumbers : Type 0 where

@@ -2,17 +2,17 @@ ghost use Rattle.std.specs.Prelude.{◌≡◌, ◌≤◌, true, false, IfOk, OnO
 ghost use Rattle.dsql_driver.specs.Fits.{is_memory};
 ghost use Rattle.dsql_driver.specs.Wires.{with_plan};
 ghost use Rattle.dsql_mem.specs.Effect.{effect};
-ghost use Rattle.dsql_mem.specs.Entries.{AreAscending};
+ghost use Rattle.dsql_store.specs.Entries.{AreAscending};
 ghost use Rattle.dsql_mem.specs.Log.{told_of};
-ghost use Rattle.dsql_mem.specs.Session.{IsSound};
+ghost use Rattle.dsql_session.specs.Session.{IsSound};
 ghost use Rattle.dsql_mem.specs.Wire.{new_wire, after_call, faults_after, CarriesOut};
 
-use crate::copies::Copies;
+use crate::calls::step;
 use crate::log::Log;
 use crate::roll::Roll;
-use crate::session::Session;
-use crate::store::Store;
 use dsql_driver::{Answered, DriverAnswer, DriverCall, Planned};
+use dsql_session::{Copies, Session};
+use dsql_store::Store;
 use dsql_value::Memory;
 use std::alloc::Global;
 use std::marker::Model;
@@ -93,7 +93,7 @@ impl Connection {
     {
         self.log.calls.reserve(1)?;
         let noted = call.clone()?;
-        let Copies { answer, copy, note } = store.step(alloc, &mut self.session, call)?;
+        let Copies { answer, copy, note } = step(alloc, store, &mut self.session, call)?;
         self.faults = faults_after(self.faults, &answer);
         self.log.calls.push_reserved((noted, note));
         Ok(Answered { answer, copy })

@@ -2,14 +2,14 @@ ghost use Rattle.std.specs.Prelude.{◌≡◌, ◌≤◌, [], Some, true, false,
 ghost use Rattle.dsql_driver.specs.Fits.{is_fault};
 ghost use Rattle.dsql_driver.specs.Streams.{HasRisen};
 ghost use Rattle.dsql_driver.specs.Wires.{answer_of, connected_after, newly_told, is_fault_of};
-ghost use Rattle.dsql_mem.specs.Session.{handles_of, cursors_of};
+ghost use Rattle.dsql_session.specs.Session.{handles_of, cursors_of};
 ghost use Rattle.dsql_mem.specs.Wire.{ability_of, faults_of, new_fleet, new_wire};
 
 use crate::log::Plan;
 use crate::roll::Roll;
-use crate::store::Store;
 use crate::wire::MemWire;
 use dsql_driver::{Caps, DriverAnswer, Fleet, Planned, Refused};
+use dsql_store::Store;
 use dsql_value::Memory;
 use std::marker::Model;
 use std::sync::{Arc, Mutex, Wait};

@@ -2,27 +2,17 @@
 //! statement is a few words.
 #![tactic(auto)]
 
-mod apply;
+mod calls;
 mod connection;
-mod copies;
-mod cursor;
-mod execute;
-mod failures;
-mod filled;
 mod fleet;
 pub mod laws;
 mod log;
-mod note;
-mod number;
-mod query;
 mod roll;
-mod session;
-mod statement;
-mod store;
 mod wire;
 pub mod worked;
 
+pub use calls::apply;
+pub use dsql_session::Session;
+pub use dsql_store::Store;
 pub use fleet::MemFleet;
-pub use session::Session;
-pub use store::Store;
 pub use wire::MemWire;

@@ -2,16 +2,16 @@ ghost use Rattle.std.specs.Prelude.{◌≡◌, ◌≤◌, Some, true, false, IfO
 ghost use Rattle.dsql_driver.specs.Fits.{fits_of, is_fault, is_memory};
 ghost use Rattle.dsql_driver.specs.Streams.{HasRisen};
 ghost use Rattle.dsql_driver.specs.Wires.{told_after, with_plan, KeepsHandles, KeepsCursors};
-ghost use Rattle.dsql_mem.specs.Entries.{Entries, AreAscending};
+ghost use Rattle.dsql_store.specs.Entries.{Entries, AreAscending};
 ghost use Rattle.dsql_mem.specs.Log.{told_of};
-ghost use Rattle.dsql_mem.specs.Session.{handles_of, cursors_of};
+ghost use Rattle.dsql_session.specs.Session.{handles_of, cursors_of};
 ghost use Rattle.dsql_mem.specs.Wire.{new_wire, CarriesOut};
 
 use crate::connection::Connection;
 use crate::log::Log;
 use crate::roll::Roll;
-use crate::store::Store;
 use dsql_driver::{Answered, DriverCall, Planned, Wire};
+use dsql_store::Store;
 use dsql_value::Memory;
 use std::marker::Model;
 use std::sync::{Arc, Mutex, Wait};

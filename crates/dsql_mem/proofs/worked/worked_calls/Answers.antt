@@ -1,8 +1,6 @@
-use Rattle.dsql_mem.proofs.DelLaw.{deletes_one_key}
 use Rattle.dsql_mem.proofs.Examples.{worked_numbers, worked_texts, worked_handles, worked_queries, worked_transactions}
-use Rattle.dsql_mem.proofs.SetLaw.{sets_one_key}
 use Rattle.dsql_mem.proofs.worked.worked_calls.Goals as goal
 
 pub returns : goal.returns
 returns c =
-    record { set = sets_one_key; deleted = deletes_one_key; numbers = worked_numbers; texts = worked_texts; handles = worked_handles; queries = worked_queries; transactions = worked_transactions }
+    record { numbers = worked_numbers; texts = worked_texts; handles = worked_handles; queries = worked_queries; transactions = worked_transactions }

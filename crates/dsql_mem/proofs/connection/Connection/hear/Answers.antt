@@ -3,7 +3,7 @@ use Rattle.dsql_driver.specs.Wires.{Told}
 use Rattle.dsql_mem.specs.Effect.{effect}
 use Rattle.dsql_mem.specs.Log.{told_of}
 use Rattle.dsql_mem.specs.Wire.{WireState, after_call, faults_after}
-use Rattle.dsql_mem.specs.declared.copies.Copies.{Copies}
+use Rattle.dsql_session.specs.declared.copies.Copies.{Copies}
 use Rattle.dsql_mem.proofs.WireLemmas.{changed_by_parts}
 use Rattle.dsql_mem.proofs.connection.Connection.hear.Goals as goal
 

@@ -1,6 +1,0 @@
--- An answer in three copies.
-use Rattle.dsql_driver.specs.declared.answer.DriverAnswer.{DriverAnswer}
-use Rattle.dsql_mem.specs.declared.copies.Copies.{Copies}
-
-abbrev pub copies_of : DriverAnswer → Copies
-copies_of answer = record { answer = answer; copy = answer; note = answer }

@@ -1,0 +1,20 @@
+//! The sessions of the driver in memory: what the driver keeps for one connection, and what the statements
+//! that it is given there, a few words each, come to on a store.
+#![tactic(auto)]
+
+mod copies;
+mod cursor;
+mod execute;
+mod failures;
+mod filled;
+mod number;
+mod query;
+mod session;
+mod statement;
+
+pub use copies::Copies;
+pub use cursor::Shape;
+pub use execute::Outcome;
+pub use failures::NO_TRANSACTION;
+pub use query::Found;
+pub use session::Session;

@@ -1,0 +1,101 @@
+//! The transactions of a session. While one is open, the session notes what each key was before it wrote
+//! to it.
+
+ghost use Rattle.std.specs.Prelude.{◌≡◌, ◌∷◌, ◌++◌, [], OnOk, OnErr};
+ghost use Rattle.dsql_store.specs.Entries.{value_at, with_state};
+
+use super::Session;
+use crate::copies::Copies;
+use crate::failures::{IN_TRANSACTION, NO_TRANSACTION};
+use dsql_store::{Note, Store};
+use dsql_value::{Memory, Txt, Value};
+use std::alloc::Global;
+
+impl Session {
+    ghost use Rattle.std.specs.Prelude.{IfOk, None, is_some, option_map, reverse};
+    ghost use Rattle.dsql_session.specs.Copies.{copies_of};
+    ghost use Rattle.dsql_session.specs.Calls.{begun, committed};
+    ghost use Rattle.dsql_session.specs.Session.{noted};
+
+    /// Whether a transaction is open.
+    pub fn in_transaction(&self) -> bool
+        ensures { result ≡ is_some self.now.undo }
+    {
+        self.undo.is_some()
+    }
+
+    /// What it noted in the transaction that is open, oldest first.
+    pub fn notes(&self) -> Option<&[Note]>
+        ensures { option_map (λ notes. reverse notes.now) result ≡ self.now.undo }
+    {
+        match &self.undo {
+            Some(notes) => Some(notes.as_slice()),
+            None => None,
+        }
+    }
+
+    /// Begins a transaction.
+    pub fn begin(&mut self, alloc: Global) -> Result<Copies, Memory>
+        ensures answer { IfOk result (λ copies. copies ≡ copies_of (begun self.old).1) }
+        ensures session { OnOk result (self.new ≡ (begun self.old).0) }
+        ensures stays { OnErr result (self.new ≡ self.old) }
+    {
+        if self.in_transaction() {
+            return Copies::of_failure(alloc, IN_TRANSACTION);
+        }
+        self.undo = Some(Vec::new(alloc));
+        Ok(Copies::of_done())
+    }
+
+    /// Ends a transaction, and leaves what it wrote.
+    pub fn commit(&mut self, alloc: Global) -> Result<Copies, Memory>
+        ensures answer { IfOk result (λ copies. copies ≡ copies_of (committed self.old).1) }
+        ensures session { OnOk result (self.new ≡ (committed self.old).0) }
+        ensures stays { OnErr result (self.new ≡ self.old) }
+    {
+        if !self.in_transaction() {
+            return Copies::of_failure(alloc, NO_TRANSACTION);
+        }
+        self.forget();
+        Ok(Copies::of_done())
+    }
+
+    /// Ends a transaction, if one is open, and drops its notes.
+    pub fn forget(&mut self)
+        ensures { self.new ≡ record self.old { undo = None } }
+    {
+        self.undo = None;
+    }
+
+    /// Writes to a store for this session, and notes what the key was if a transaction is open.
+    pub fn write(&mut self, store: &mut Store, key: Txt, value: Option<Value>) -> Result<(), Memory>
+        ensures store { OnOk result (store.new ≡ with_state key value store.old) }
+        ensures session { OnOk result (self.new ≡ noted (record { key = key; value = value_at key store.old }) self.old) }
+        ensures store_stays { OnErr result (store.new ≡ store.old) }
+        ensures session_stays { OnErr result (self.new ≡ self.old) }
+    {
+        match &mut self.undo {
+            Some(notes) => write_noted(notes, store, key, value),
+            None => store.write(key, value),
+        }
+    }
+}
+
+/// Writes to a store, and notes what the key was. The room for the note is taken first.
+fn write_noted(
+    notes: &mut Vec<Note>,
+    store: &mut Store,
+    key: Txt,
+    value: Option<Value>,
+) -> Result<(), Memory>
+    ensures store { OnOk result (store.new ≡ with_state key value store.old) }
+    ensures notes { OnOk result (notes.new.items ≡ notes.old.items ++ record { key = key; value = value_at key store.old } ∷ []) }
+    ensures store_stays { OnErr result (store.new ≡ store.old) }
+    ensures notes_stay { OnErr result (notes.new.items ≡ notes.old.items) }
+{
+    notes.reserve(1)?;
+    let note = store.note(&key)?;
+    store.write(key, value)?;
+    notes.push_reserved(note);
+    Ok(())
+}

@@ -1,0 +1,5 @@
+pub mod Ascending
+pub mod DelLaw
+pub mod EntryLemmas
+pub mod ListLaw
+pub mod SetLaw
