@@ -25,12 +25,13 @@ use Rattle.dsql_step_laws.specs.Steps.{MakesStep}
 use Rattle.dsql_step_laws.proofs.Groups.{enter_is_one}
 use Rattle.dsql_steps.specs.Groups.{after_control, after_end, after_enter}
 use Rattle.dsql_whole_laws.proofs.GoneOn.{call_whole}
+use Rattle.dsql_wires.specs.Told.{hears_nothing}
 use Rattle.dsql_engine.specs.Core.{Core, unfinished_of}
 use Rattle.dsql_player.specs.Keeping.{ActsUnheard, SameCourse}
 use Rattle.dsql_playing.specs.declared.halt.Halt.{Halt}
 use Rattle.dsql_playing.specs.declared.halt.Halt.TheVariants as halts
 use Rattle.dsql_playing.specs.Acts.{Hands, SamePermits}
-use Rattle.dsql_playing.specs.Carried.{HearsNothing, hears_nothing}
+use Rattle.dsql_playing.specs.Carried.{HearsNothing}
 use Rattle.dsql_playing.specs.Playing.{HoldsNone, IsAt, IsAtBut, IsReady, KeepsLines, Playing}
 use Rattle.dsql_playing.specs.Stepping.{IsEnd, IsEntryOf, IsTold, TakesStep, leave_of}
 use Rattle.dsql_playing.proofs.Grouped.{Grouped, control_grouped, ends_grouped, enters_grouped, grows}
@@ -209,7 +210,7 @@ ends_nothing past (Tick now) = refl
 ends_nothing past (Set setting k) = refl
 
 module _ (control : Control) (before after : Core) (seats : List Seat) (released : Bool) (old : Playing) (is : seen before seats released ≡ old) (ready : IsReady old) (group : after.past ≡ after_control before.past control) (flights : after.flights ≡ before.flights) (chore : after.chore ≡ before.chore) (legal : Legal after.past) where
-  told_first : Event
+  abbrev told_first : Event
   told_first = told_after old.past control
 
   control_group : Grouped old.past after.past told_first 0

@@ -7,7 +7,7 @@ use Rattle.dsql_player.proofs.player.Player.begin.Goals as goal
 pub returns-in-Control-clause-begins : goal.returns-in-Control-clause-begins
 returns-in-Control-clause-begins c =
     rw c.in-Control.is
-    (on_ok_weaker c.control.result (λ tells m at. begun_control m c.in-Control.field-0 c.args.self.now c.control.new.self at tells) c.control.ensures.tells)
+    (on_ok_weaker c.control.result (λ tells m at. begun_control m c.in-Control.control c.args.self.now c.control.new.self at tells) c.control.ensures.tells)
 
 pub returns-in-Client-clause-begins : goal.returns-in-Client-clause-begins
 returns-in-Client-clause-begins c =
