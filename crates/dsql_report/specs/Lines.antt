@@ -25,9 +25,9 @@ use Rattle.dsql_history.specs.declared.reply.DbEnd.TheVariants as db_end
 use Rattle.dsql_history.specs.declared.event.Op.{Op}
 use Rattle.dsql_history.specs.declared.event.Op.TheVariants as op
 use Rattle.dsql_history.specs.declared.event.Setting.{Setting}
-use Rattle.dsql_history.specs.declared.event.Setting.TheVariants.{MaxOpen, MaxIdle}
+use Rattle.dsql_history.specs.declared.event.Setting.TheVariants.{MaxOpen, MaxIdle, MaxLife, MaxIdleTime}
 use Rattle.dsql_history.specs.declared.event.Event.{Event}
-use Rattle.dsql_history.specs.declared.event.Event.TheVariants.{Run, Entered, Heard, Pool, Waits, SetLimit, Replied, Ended}
+use Rattle.dsql_history.specs.declared.event.Event.TheVariants.{Run, Entered, Heard, Pool, Waits, Ticked, SetLimit, Replied, Ended}
 use Rattle.dsql_report.specs.LineValues.{list_data, worded, natural, integer, texts_data, cells_data}
 use Rattle.dsql_report.specs.LineArgs.{statement_data}
 use Rattle.dsql_report.specs.Dests.{dests_word}
@@ -53,6 +53,8 @@ cause_word cause.Discarded = codes "discarded"
 abbrev pub limit_word : Setting → List ℕ
 limit_word MaxOpen = codes "maxopen"
 limit_word MaxIdle = codes "maxidle"
+limit_word MaxLife = codes "maxlife"
+limit_word MaxIdleTime = codes "maxidletime"
 
 -- a name, where it is to be given
 abbrev pub name_if : Bool → List ℕ → List (List ℕ)
@@ -187,6 +189,7 @@ json_of (Entered client n op) = entered_data client n op
 json_of (Heard entry) = entry_data entry
 json_of (Pool move) = move_data move
 json_of (Waits n) = worded (codes "wait") (natural n ∷ [])
+json_of (Ticked now) = worded (codes "tick") (natural now ∷ [])
 json_of (SetLimit setting n) = worded (codes "set") (string (limit_word setting) ∷ integer n ∷ [])
 json_of (Replied n reply) = worded (codes "reply") (natural n ∷ reply_data reply ∷ [])
 json_of Ended = worded (codes "ended") []

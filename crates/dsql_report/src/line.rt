@@ -34,7 +34,9 @@ use std::mem;
 /// | | `["lend",CONN,TENURE,OWNER]`, `["back",CONN]` |
 /// | | `["close",CONN,CAUSE]`, `["gone",CONN]` |
 /// | `Waits` | `["wait",N]` |
-/// | `SetLimit` | `["set","maxopen",N]`, `["set","maxidle",N]` |
+/// | `Ticked` | `["tick",NOW]`, in nanoseconds |
+/// | `SetLimit` | `["set","maxopen",N]`, `["set","maxidle",N]`, |
+/// | | `["set","maxlife",D]`, `["set","maxidletime",D]`, in nanoseconds |
 /// | `Replied` | `["reply",N,REPLY]` |
 /// | `Ended` | `["ended"]` |
 ///

@@ -155,6 +155,15 @@ fn write_start(alloc: Global, json: &mut Writer, version: u8, caps: &Caps) -> Re
     json.end_array()
 }
 
+/// The present moment.
+fn write_tick(json: &mut Writer, now: u64) -> Result<(), AllocError>
+    ensures { Spells result json.old json.new (json_of (Event.Ticked now)) }
+{
+    begin(json, "tick")?;
+    write_natural(json, now)?;
+    json.end_array()
+}
+
 /// The word for a limit.
 fn limit_word(setting: Setting) -> &'static str
     ensures { result.now ≡ limit_word setting }
@@ -162,6 +171,8 @@ fn limit_word(setting: Setting) -> &'static str
     match setting {
         Setting::MaxOpen => "maxopen",
         Setting::MaxIdle => "maxidle",
+        Setting::MaxLife => "maxlife",
+        Setting::MaxIdleTime => "maxidletime",
     }
 }
 
@@ -194,6 +205,7 @@ pub(super) fn write_event(alloc: Global, json: &mut Writer, event: &Event) -> Re
         Event::Heard(entry) => write_entry(alloc, json, entry),
         Event::Pool(step) => write_move(json, *step),
         Event::Waits(n) => write_numbered(json, "wait", *n),
+        Event::Ticked(now) => write_tick(json, *now),
         Event::SetLimit(setting, n) => write_limit(json, *setting, *n),
         Event::Replied { n, reply } => write_replied(alloc, json, *n, reply),
         Event::Ended => write_word(json, "ended"),

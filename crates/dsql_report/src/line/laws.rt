@@ -101,7 +101,7 @@ pub fn worked_rows_lines()
         ≡ codes "[\"reply\",3,[\"err\",\"no_next\",\"sql: Scan called without calling Next\"]]\n" }
 {}
 
-/// Calls wait, limits are set, connections are opened for a call or for the waiting list and closed for each
+/// Calls wait, moments come, limits are set, connections are opened for a call or for the waiting list and closed for each
 /// cause, and replies tell of a pool that is full, of a closed database and of statistics.
 pub fn worked_pool_lines()
     ensures wait { line_of (event.Waits 3) ≡ codes "[\"wait\",3]\n" }
@@ -109,6 +109,13 @@ pub fn worked_pool_lines()
         ≡ codes "[\"set\",\"maxopen\",2]\n" }
     ensures max_idle { line_of (event.SetLimit setting.MaxIdle (negsuc 0))
         ≡ codes "[\"set\",\"maxidle\",-1]\n" }
+    ensures max_life { line_of (event.SetLimit setting.MaxLife (pos 3600000000000))
+        ≡ codes "[\"set\",\"maxlife\",3600000000000]\n" }
+    ensures max_idle_time { line_of (event.SetLimit setting.MaxIdleTime (negsuc 9223372036854775807))
+        ≡ codes "[\"set\",\"maxidletime\",-9223372036854775808]\n" }
+    ensures first_moment { line_of (event.Ticked 0) ≡ codes "[\"tick\",0]\n" }
+    ensures last_moment { line_of (event.Ticked 18446744073709551615)
+        ≡ codes "[\"tick\",18446744073709551615]\n" }
     ensures open_for_call { move_line (moved.OpenStart 2 5) ≡ codes "[\"open\",2,5]\n" }
     ensures open_for_list { move_line (moved.OpenStart 2 0) ≡ codes "[\"open\",2,0]\n" }
     ensures bad { close_line cause.Bad ≡ codes "[\"close\",2,\"bad\"]\n" }
