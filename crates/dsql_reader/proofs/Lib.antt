@@ -4,6 +4,7 @@ pub mod Labels
 pub mod ScriptArrays
 pub mod ScriptClients
 pub mod ScriptLimits
+pub mod ScriptMoments
 pub mod ScriptCaps
 pub mod ScriptTexts
 pub mod ScriptForms

@@ -5,8 +5,8 @@ use Rattle.std.proofs.lemmas.Bool.{cases_Bool}
 use Rattle.std.proofs.lemmas.List.{take_all}
 use Rattle.std.proofs.lemmas.Slice.Eq.{bytes_eq-Decides}
 use Rattle.dsql_reader.specs.declared.script.Head.{Head}
-use Rattle.dsql_history.specs.declared.event.Setting.TheVariants.{MaxOpen, MaxIdle}
-use Rattle.dsql_reader.specs.ScriptLines.{form_of, limit_alone, set_line, step_line, client_line}
+use Rattle.dsql_history.specs.declared.event.Setting.TheVariants.{MaxOpen, MaxIdle, MaxLife, MaxIdleTime}
+use Rattle.dsql_reader.specs.ScriptLines.{form_of, limit_alone, set_line, moment_alone, tick_line, step_line, client_line}
 
 pub other_word : (a b : List ℕ) → a ≢ b → bytes_eq a b ≡ false
 other_word a b other = elim (cases_Bool (bytes_eq a b)) [ inl is ↦ absurd (other ((bytes_eq-Decides a b).0 is)) | inr is ↦ is ]
@@ -30,6 +30,27 @@ form_of_maxidle head (first ∷ words) array d some is =
     let all : take (length (first ∷ words) - 1) words ≡ words = take_all _ words (omega arith) in
     rw (all, is) refl
 
+pub form_of_maxlife : (head : Head) (words : List (Bor (List ℕ))) (array : Option (List ℕ)) (d : Bor (List ℕ)) → 1 ≤ length words → (get_or words 0 d).now ≡ codes "maxlife"
+    → form_of head (texts words) array ≡ set_line MaxLife (texts (take (length words - 1) (drop 1 words))) array
+form_of_maxlife head [] array d some is = absurd (omega arith)
+form_of_maxlife head (first ∷ words) array d some is =
+    let all : take (length (first ∷ words) - 1) words ≡ words = take_all _ words (omega arith) in
+    rw (all, is) refl
+
+pub form_of_maxidletime : (head : Head) (words : List (Bor (List ℕ))) (array : Option (List ℕ)) (d : Bor (List ℕ)) → 1 ≤ length words → (get_or words 0 d).now ≡ codes "maxidletime"
+    → form_of head (texts words) array ≡ set_line MaxIdleTime (texts (take (length words - 1) (drop 1 words))) array
+form_of_maxidletime head [] array d some is = absurd (omega arith)
+form_of_maxidletime head (first ∷ words) array d some is =
+    let all : take (length (first ∷ words) - 1) words ≡ words = take_all _ words (omega arith) in
+    rw (all, is) refl
+
+pub form_of_tick : (head : Head) (words : List (Bor (List ℕ))) (array : Option (List ℕ)) (d : Bor (List ℕ)) → 1 ≤ length words → (get_or words 0 d).now ≡ codes "tick"
+    → form_of head (texts words) array ≡ tick_line (texts (take (length words - 1) (drop 1 words))) array
+form_of_tick head [] array d some is = absurd (omega arith)
+form_of_tick head (first ∷ words) array d some is =
+    let all : take (length (first ∷ words) - 1) words ≡ words = take_all _ words (omega arith) in
+    rw (all, is) refl
+
 pub form_of_step : (head : Head) (words : List (Bor (List ℕ))) (array : Option (List ℕ)) (d : Bor (List ℕ)) → 1 ≤ length words → (get_or words 0 d).now ≡ codes "step"
     → form_of head (texts words) array ≡ step_line (texts (take (length words - 1) (drop 1 words))) array
 form_of_step head [] array d some is = absurd (omega arith)
@@ -41,12 +62,13 @@ form_of_step head (first ∷ words) array d some is =
 pub form_of_client : (head : Head) (words : List (Bor (List ℕ))) (array : Option (List ℕ)) (d : Bor (List ℕ)) → 1 ≤ length words
     → (get_or words 0 d).now ≢ codes "version" → (get_or words 0 d).now ≢ codes "caps"
     → (get_or words 0 d).now ≢ codes "maxopen" → (get_or words 0 d).now ≢ codes "maxidle"
+    → (get_or words 0 d).now ≢ codes "maxlife" → (get_or words 0 d).now ≢ codes "maxidletime" → (get_or words 0 d).now ≢ codes "tick"
     → (get_or words 0 d).now ≢ codes "start" → (get_or words 0 d).now ≢ codes "step"
     → form_of head (texts words) array ≡ client_line false (get_or words 0 d).now (texts (take (length words - 1) (drop 1 words))) array
-form_of_client head [] array d some version caps maxopen maxidle start step = absurd (omega arith)
-form_of_client head (first ∷ words) array d some version caps maxopen maxidle start step =
+form_of_client head [] array d some version caps maxopen maxidle maxlife maxidletime tick start step = absurd (omega arith)
+form_of_client head (first ∷ words) array d some version caps maxopen maxidle maxlife maxidletime tick start step =
     let all : take (length (first ∷ words) - 1) words ≡ words = take_all _ words (omega arith) in
-    rw (all, other_word first.now (codes "version") version, other_word first.now (codes "caps") caps, other_word first.now (codes "maxopen") maxopen, other_word first.now (codes "maxidle") maxidle, other_word first.now (codes "start") start, other_word first.now (codes "step") step) refl
+    rw (all, other_word first.now (codes "version") version, other_word first.now (codes "caps") caps, other_word first.now (codes "maxopen") maxopen, other_word first.now (codes "maxidle") maxidle, other_word first.now (codes "maxlife") maxlife, other_word first.now (codes "maxidletime") maxidletime, other_word first.now (codes "tick") tick, other_word first.now (codes "start") start, other_word first.now (codes "step") step) refl
 
 -- more than one word is no limit
 pub limit_alone_of_more : (words : List (Bor (List ℕ))) (array : Option (List ℕ)) → 2 ≤ length words → limit_alone (texts words) array ≡ None
@@ -54,3 +76,10 @@ limit_alone_of_more words (Some array) more = refl
 limit_alone_of_more [] None more = refl
 limit_alone_of_more (number ∷ []) None more = absurd (omega arith)
 limit_alone_of_more (number ∷ other ∷ words) None more = refl
+
+-- nor a moment
+pub moment_alone_of_more : (words : List (Bor (List ℕ))) (array : Option (List ℕ)) → 2 ≤ length words → moment_alone (texts words) array ≡ None
+moment_alone_of_more words (Some array) more = refl
+moment_alone_of_more [] None more = refl
+moment_alone_of_more (now ∷ []) None more = absurd (omega arith)
+moment_alone_of_more (now ∷ other ∷ words) None more = refl

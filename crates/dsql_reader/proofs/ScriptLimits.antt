@@ -77,7 +77,7 @@ without_minus [] none = λ e. absurd (omega arith)
 without_minus (first ∷ rest) none = λ e. none rest (ap (λ b. b ∷ rest) e)
 
 -- digits that begin with `0` are no number, unless they are `0`
-padded : (digits : List ℕ) → get_or digits 0 0 ≡ 48 → digits ≢ codes "0" → is_number digits ≡ false
+pub padded : (digits : List ℕ) → get_or digits 0 0 ≡ 48 → digits ≢ codes "0" → is_number digits ≡ false
 padded [] zero other = absurd (omega arith)
 padded (first ∷ []) zero other = absurd (other (ap (λ b. b ∷ []) zero))
 padded (first ∷ second ∷ rest) zero other =

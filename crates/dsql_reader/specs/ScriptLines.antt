@@ -7,17 +7,19 @@ use Rattle.dsql_driver.specs.declared.caps.Caps.{Caps}
 use Rattle.dsql_history.specs.declared.event.Op.{Op}
 use Rattle.dsql_history.specs.declared.event.Op.TheVariants as op
 use Rattle.dsql_history.specs.declared.event.Setting.{Setting}
-use Rattle.dsql_history.specs.declared.event.Setting.TheVariants.{MaxOpen, MaxIdle}
+use Rattle.dsql_history.specs.declared.event.Setting.TheVariants.{MaxOpen, MaxIdle, MaxLife, MaxIdleTime}
+use Rattle.dsql_history.specs.declared.event.Control.TheVariants.{Tick, Set}
 use Rattle.dsql_reader.specs.declared.fault.What.TheVariants.{Lines}
 use Rattle.dsql_reader.specs.declared.fault.LineFault.{LineFault}
 use Rattle.dsql_reader.specs.declared.fault.LineFault.TheVariants.{TooLong, NotUtf8, NoSuchWord, BadShape, UnknownLabel, LabelTaken, TooMany}
 use Rattle.dsql_reader.specs.declared.script.ScriptLine.{ScriptLine}
-use Rattle.dsql_reader.specs.declared.script.ScriptLine.TheVariants.{Skip, Version, UseCaps, Set, Client, Step, StepHouse}
+use Rattle.dsql_reader.specs.declared.script.ScriptLine.TheVariants.{Skip, Version, UseCaps, Client, Step, StepHouse}
+use Rattle.dsql_reader.specs.declared.script.ScriptLine.TheVariants as script
 use Rattle.dsql_reader.specs.declared.script.Head.{Head}
 use Rattle.dsql_reader.specs.declared.script.Head.TheVariants.{First, Begun}
 use Rattle.dsql_reader.specs.ScriptCalls.{CallReading, call_of}
 use Rattle.dsql_reader.specs.ScriptHead.{Progress, is_version, caps_of}
-use Rattle.dsql_reader.specs.ScriptWords.{begins_with, words_of, array_of, limit_of, client_of}
+use Rattle.dsql_reader.specs.ScriptWords.{begins_with, words_of, array_of, limit_of, moment_of, client_of}
 
 -- a line or the fault for which it is refused
 abbrev pub Reading : Type 0
@@ -49,11 +51,25 @@ limit_alone _ None = None
 
 abbrev pub set_or_fault : Setting → Option ℤ → Reading
 set_or_fault setting None = Err BadShape
-set_or_fault setting (Some n) = Ok (Set setting n)
+set_or_fault setting (Some n) = Ok (script.Control (Set setting n))
 
 -- a line that sets a limit, by the words after the first one and its array
 abbrev pub set_line : Setting → List (List ℕ) → Option (List ℕ) → Reading
 set_line setting words array = set_or_fault setting (limit_alone words array)
+
+-- a moment by the words after `tick`: it alone, and no array
+abbrev pub moment_alone : List (List ℕ) → Option (List ℕ) → Option ℕ
+moment_alone words (Some array) = None
+moment_alone (now ∷ []) None = moment_of now
+moment_alone _ None = None
+
+abbrev pub tick_or_fault : Option ℕ → Reading
+tick_or_fault None = Err BadShape
+tick_or_fault (Some now) = Ok (script.Control (Tick now))
+
+-- a line of the present moment, by the words after `tick` and its array
+abbrev pub tick_line : List (List ℕ) → Option (List ℕ) → Reading
+tick_line words array = tick_or_fault (moment_alone words array)
 
 abbrev pub step_or_fault : Option ℕ → Reading
 step_or_fault None = Err BadShape
@@ -93,6 +109,9 @@ form_of head (first ∷ words) array =
     else if bytes_eq first (codes "caps") then caps_line head words array
     else if bytes_eq first (codes "maxopen") then set_line MaxOpen words array
     else if bytes_eq first (codes "maxidle") then set_line MaxIdle words array
+    else if bytes_eq first (codes "maxlife") then set_line MaxLife words array
+    else if bytes_eq first (codes "maxidletime") then set_line MaxIdleTime words array
+    else if bytes_eq first (codes "tick") then tick_line words array
     else if bytes_eq first (codes "start") then start_line words array
     else if bytes_eq first (codes "step") then step_line words array
     else client_line false first words array

@@ -47,6 +47,12 @@ below_zero digits =
 abbrev pub limit_of : List ℕ → Option ℤ
 limit_of word = if begins_with word (codes "-") then below_zero (drop 1 word) else from_zero word
 
+-- the moment that a word is, which fits a u64
+abbrev pub moment_of : List ℕ → Option ℕ
+moment_of word =
+    let now = digits_value 10 word in
+    if is_number word && nat_lt now (2 ^ 64) then Some now else None
+
 -- the number of a client, which is from 1 to 64
 abbrev pub client_number : List ℕ → Option ℕ
 client_number digits =

@@ -26,7 +26,7 @@ use std::alloc::Global;
 use std::marker::Model;
 pub use worked::{
     worked_label_lines, worked_limit_lines, worked_one_lines, worked_script_lines,
-    worked_start_lines, worked_step_lines,
+    worked_start_lines, worked_step_lines, worked_tick_lines,
 };
 
 /// How many lines a script may have.
@@ -42,11 +42,13 @@ const MAX_BYTES: usize = 4_096;
 /// The words of a line are parted by exactly one space. Where a line holds a space followed by `[`,
 /// a JSON array begins at the first such `[` and runs to the line's end. Before all lines that aren't
 /// skipped may stand `version 1`, and before all but that `caps` with the names of what the driver can
-/// do, each once and in the order of a report. Any other line that isn't skipped sets a limit, is a
-/// client's call, or asks for one step.
+/// do, each once and in the order of a report. Any other line that isn't skipped sets a limit,
+/// tells the present moment, is a client's call, or asks for one step.
 ///
-/// `maxopen N` and `maxidle N` set a limit. N is a decimal number that fits an `i64`, without a leading
-/// zero; one below zero has a minus before it. A client's call is `cN` and the words of the call, N from
+/// `maxopen N`, `maxidle N`, `maxlife D` and `maxidletime D` set a limit. N and D are decimal numbers
+/// that fit an `i64`, without a leading zero; one below zero has a minus before it. D is in nanoseconds.
+/// `tick NOW` tells the present moment, in nanoseconds: NOW is a decimal number that fits a `u64`,
+/// without a sign and without a leading zero. A client's call is `cN` and the words of the call, N from
 /// 1 to 64 without a leading zero. Where `start` stands before them, the call is held. `step cN` asks for
 /// one step of a client, and `step house` for one of the layer itself.
 ///
@@ -173,6 +175,9 @@ fn read_form(
         "caps" => head::read_caps(alloc, head, rest, array),
         "maxopen" => body::read_set(Setting::MaxOpen, rest, array),
         "maxidle" => body::read_set(Setting::MaxIdle, rest, array),
+        "maxlife" => body::read_set(Setting::MaxLife, rest, array),
+        "maxidletime" => body::read_set(Setting::MaxIdleTime, rest, array),
+        "tick" => body::read_tick(rest, array),
         "start" => body::read_start(alloc, rest, array),
         "step" => body::read_step(rest, array),
         client => body::read_client(alloc, false, client, rest, array),

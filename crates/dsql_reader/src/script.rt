@@ -1,5 +1,5 @@
 use dsql_driver::Caps;
-use dsql_history::{Op, Setting};
+use dsql_history::{Control, Op};
 
 /// What one line of a script says.
 #[derive(Drop)]
@@ -11,8 +11,9 @@ pub enum ScriptLine {
     /// The driver can do just this. The line is `caps` and the names of what it can do, each once and
     /// in the order of a report.
     UseCaps(Caps),
-    /// A limit is set to this number. The line is `maxopen N` or `maxidle N`.
-    Set(Setting, i64),
+    /// A limit is set, or the present moment. The line is `maxopen N`, `maxidle N`, `maxlife D`,
+    /// `maxidletime D` or `tick NOW`.
+    Control(Control),
     /// A client, numbered from 1 to 64, makes a call. The line is one of these:
     ///
     /// | line | call in Go |

@@ -1,13 +1,13 @@
-//! The lines of a script that may stand anywhere: calls of clients, limits and steps.
+//! The lines of a script that may stand anywhere: calls of clients, limits, moments and steps.
 ghost use Rattle.std.specs.Prelude.{map};
 ghost use Rattle.std.specs.Option.{option_copied};
 ghost use Rattle.dsql_reader.specs.Outcomes.{IsShaped, IsReading};
-ghost use Rattle.dsql_reader.specs.ScriptLines.{client_line, start_line, limit_alone, set_line, step_by, step_line};
+ghost use Rattle.dsql_reader.specs.ScriptLines.{client_line, start_line, limit_alone, set_line, moment_alone, tick_line, step_by, step_line};
 
 use crate::fault::LineFault;
 use crate::reader::{calls, words};
 use crate::script::ScriptLine;
-use dsql_history::Setting;
+use dsql_history::{Control, Setting};
 use std::alloc::Global;
 
 /// Reads a client's line, of a call that is held or isn't, by its first word, those after it and its array.
@@ -51,7 +51,7 @@ pub fn read_set(
         (set_line setting (map (λ w. w.now) words.now) (option_copied array.entry)) }
 {
     let limit = read_limit(words, array)?;
-    Ok(ScriptLine::Set(setting, limit))
+    Ok(ScriptLine::Control(Control::Set(setting, limit)))
 }
 
 /// The number of a limit, by the words after the first one.
@@ -64,6 +64,29 @@ fn read_limit(words: &[&str], array: Option<&str>) -> Result<i64, LineFault>
     }
     match words {
         [number] => words::limit(number).ok_or(LineFault::BadShape),
+        _ => Err(LineFault::BadShape),
+    }
+}
+
+/// Reads a line of the present moment, by the words after `tick`.
+pub fn read_tick(words: &[&str], array: Option<&str>) -> Result<ScriptLine, LineFault>
+    ensures { IsReading result
+        (tick_line (map (λ w. w.now) words.now) (option_copied array.entry)) }
+{
+    let now = read_moment(words, array)?;
+    Ok(ScriptLine::Control(Control::Tick(now)))
+}
+
+/// The moment of such a line.
+fn read_moment(words: &[&str], array: Option<&str>) -> Result<u64, LineFault>
+    ensures { IsShaped result
+        (moment_alone (map (λ w. w.now) words.now) (option_copied array.entry)) }
+{
+    if array.is_some() {
+        return Err(LineFault::BadShape);
+    }
+    match words {
+        [now] => words::moment(now).ok_or(LineFault::BadShape),
         _ => Err(LineFault::BadShape),
     }
 }

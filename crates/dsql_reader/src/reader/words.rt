@@ -1,7 +1,7 @@
 ghost use Rattle.std.specs.Prelude.{◌≡◌, ◌==◌, IfOk, List, map};
 ghost use Rattle.std.specs.Option.{option_copied};
 ghost use Rattle.std.specs.List.{slice_split, list_all};
-ghost use Rattle.dsql_reader.specs.ScriptWords.{space, before_array, array_of, limit_of, client_of, client_number, is_name, is_target, is_token, is_database, is_name_byte};
+ghost use Rattle.dsql_reader.specs.ScriptWords.{space, before_array, array_of, limit_of, moment_of, client_of, client_number, is_name, is_target, is_token, is_database, is_name_byte};
 
 use std::alloc::{AllocError, Global};
 
@@ -39,6 +39,23 @@ pub fn limit(word: &str) -> Option<i64>
     }
     let digits = word.strip_prefix('-').unwrap_or(word);
     if digits.starts_with('0') {
+        return None;
+    }
+    // `parse` takes a plus, which isn't spelled here
+    if word.starts_with('+') {
+        return None;
+    }
+    word.parse().ok()
+}
+
+/// The moment that a word is.
+pub fn moment(word: &str) -> Option<u64>
+    ensures { result ≡ moment_of word.now }
+{
+    if word == "0" {
+        return Some(0);
+    }
+    if word.starts_with('0') {
         return None;
     }
     // `parse` takes a plus, which isn't spelled here

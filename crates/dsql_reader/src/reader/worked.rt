@@ -4,10 +4,12 @@ ghost use Rattle.dsql_value.specs.WorkedArguments.{plain, named_one};
 ghost use Rattle.dsql_scan.specs.declared.dest.Dest.TheVariants as dest;
 ghost use Rattle.dsql_history.specs.declared.event.Op.TheVariants.{Exec, One};
 ghost use Rattle.dsql_history.specs.declared.event.Op.TheVariants as op;
-ghost use Rattle.dsql_history.specs.declared.event.Setting.TheVariants.{MaxOpen, MaxIdle};
+ghost use Rattle.dsql_history.specs.declared.event.Setting.TheVariants.{MaxOpen, MaxIdle, MaxLife, MaxIdleTime};
+ghost use Rattle.dsql_history.specs.declared.event.Control.TheVariants.{Tick, Set};
 ghost use Rattle.dsql_reader.specs.declared.fault.What.TheVariants.{Lines, Args};
 ghost use Rattle.dsql_reader.specs.declared.fault.LineFault.TheVariants.{TooLong, NotUtf8, NoSuchWord, BadJson, BadShape, UnknownLabel, LabelTaken, TooMany};
-ghost use Rattle.dsql_reader.specs.declared.script.ScriptLine.TheVariants.{Skip, Version, UseCaps, Set, Client, Step, StepHouse};
+ghost use Rattle.dsql_reader.specs.declared.script.ScriptLine.TheVariants.{Skip, Version, UseCaps, Client, Step, StepHouse};
+ghost use Rattle.dsql_reader.specs.declared.script.ScriptLine.TheVariants as script;
 ghost use Rattle.dsql_reader.specs.declared.script.Head.TheVariants.{First, AfterVersion, Begun};
 ghost use Rattle.dsql_reader.specs.ScriptHead.{unread, progress, progress_past, after, caps_among};
 ghost use Rattle.dsql_reader.specs.ScriptLines.{read_of};
@@ -97,11 +99,15 @@ pub fn worked_label_lines()
 
 /// Lines that set a limit, each with what is read of it.
 pub fn worked_limit_lines()
-    ensures max_open { read_of unread (codes "maxopen 5") ≡ Ok (Set MaxOpen (pos 5)) }
-    ensures max_idle { read_of (progress 7 Begun) (codes "maxidle 0\r") ≡ Ok (Set MaxIdle (pos 0)) }
-    ensures below_zero { read_of (progress 1 AfterVersion) (codes "maxidle -1") ≡ Ok (Set MaxIdle (negsuc 0)) }
-    ensures greatest { read_of unread (codes "maxopen 9223372036854775807") ≡ Ok (Set MaxOpen (pos 9223372036854775807)) }
-    ensures least { read_of unread (codes "maxopen -9223372036854775808") ≡ Ok (Set MaxOpen (negsuc 9223372036854775807)) }
+    ensures max_open { read_of unread (codes "maxopen 5") ≡ Ok (script.Control (Set MaxOpen (pos 5))) }
+    ensures max_idle { read_of (progress 7 Begun) (codes "maxidle 0\r") ≡ Ok (script.Control (Set MaxIdle (pos 0))) }
+    ensures below_zero { read_of (progress 1 AfterVersion) (codes "maxidle -1") ≡ Ok (script.Control (Set MaxIdle (negsuc 0))) }
+    ensures greatest { read_of unread (codes "maxopen 9223372036854775807") ≡ Ok (script.Control (Set MaxOpen (pos 9223372036854775807))) }
+    ensures least { read_of unread (codes "maxopen -9223372036854775808") ≡ Ok (script.Control (Set MaxOpen (negsuc 9223372036854775807))) }
+    ensures max_life { read_of unread (codes "maxlife 3600000000000") ≡ Ok (script.Control (Set MaxLife (pos 3600000000000))) }
+    ensures max_idle_time { read_of (progress 7 Begun) (codes "maxidletime -1") ≡ Ok (script.Control (Set MaxIdleTime (negsuc 0))) }
+    ensures life_too_long { read_of unread (codes "maxlife 9223372036854775808") ≡ Err BadShape }
+    ensures no_idle_time { read_of unread (codes "maxidletime") ≡ Err BadShape }
     ensures too_great { read_of unread (codes "maxopen 9223372036854775808") ≡ Err BadShape }
     ensures too_small { read_of unread (codes "maxopen -9223372036854775809") ≡ Err BadShape }
     ensures leading_zero { read_of unread (codes "maxopen 05") ≡ Err BadShape }
@@ -113,7 +119,24 @@ pub fn worked_limit_lines()
     ensures empty_word { read_of unread (codes "maxopen ") ≡ Err BadShape }
     ensures two_numbers { read_of unread (codes "maxopen 1 2") ≡ Err BadShape }
     ensures unwanted_array { read_of unread (codes "maxidle 1 [") ≡ Err BadShape }
-    ensures no_version_behind { read_of (after unread (Set MaxOpen (pos 5))) (codes "version 1") ≡ Err NoSuchWord }
+    ensures no_version_behind { read_of (after unread (script.Control (Set MaxOpen (pos 5)))) (codes "version 1") ≡ Err NoSuchWord }
+{}
+
+/// Lines that tell the present moment, each with what is read of it.
+pub fn worked_tick_lines()
+    ensures first { read_of unread (codes "tick 0") ≡ Ok (script.Control (Tick 0)) }
+    ensures later { read_of (progress 7 Begun) (codes "tick 1500000000\r") ≡ Ok (script.Control (Tick 1500000000)) }
+    ensures last { read_of unread (codes "tick 18446744073709551615") ≡ Ok (script.Control (Tick 18446744073709551615)) }
+    ensures too_late { read_of unread (codes "tick 18446744073709551616") ≡ Err BadShape }
+    ensures below_zero { read_of unread (codes "tick -1") ≡ Err BadShape }
+    ensures leading_zero { read_of unread (codes "tick 01") ≡ Err BadShape }
+    ensures plus { read_of unread (codes "tick +1") ≡ Err BadShape }
+    ensures no_number { read_of unread (codes "tick") ≡ Err BadShape }
+    ensures empty_word { read_of unread (codes "tick ") ≡ Err BadShape }
+    ensures two_numbers { read_of unread (codes "tick 1 2") ≡ Err BadShape }
+    ensures unwanted_array { read_of unread (codes "tick 1 []") ≡ Err BadShape }
+    ensures held { read_of unread (codes "start tick 1") ≡ Err NoSuchWord }
+    ensures no_version_behind { read_of (after unread (script.Control (Tick 5))) (codes "version 1") ≡ Err NoSuchWord }
 {}
 
 /// Lines of calls that are held, each with what is read of it.
