@@ -9,3 +9,4 @@ pub mod ReadTexts
 pub mod ReadLines
 pub mod ReadClients
 pub mod ReadLimits
+pub mod ReadMoments

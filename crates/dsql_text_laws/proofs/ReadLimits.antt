@@ -8,11 +8,12 @@ use Rattle.std.proofs.lemmas.Fmt.{decimal_is_IsNumeral, digits_decimal, digits_v
 use Rattle.std.proofs.lemmas.Str.Parse.{digit_from_value}
 use Rattle.serde_json.specs.Written.{compact_text}
 use Rattle.dsql_history.specs.declared.event.Setting.{Setting}
-use Rattle.dsql_history.specs.declared.event.Setting.TheVariants.{MaxOpen, MaxIdle}
+use Rattle.dsql_history.specs.declared.event.Setting.TheVariants.{MaxOpen, MaxIdle, MaxLife, MaxIdleTime}
+use Rattle.dsql_history.specs.declared.event.Control.TheVariants.{Set}
 use Rattle.dsql_report.specs.LineValues.{integer}
 use Rattle.dsql_report.specs.Lines.{limit_word}
 use Rattle.dsql_reader.specs.declared.script.Head.{Head}
-use Rattle.dsql_reader.specs.declared.script.ScriptLine.TheVariants.{Set}
+use Rattle.dsql_reader.specs.declared.script.ScriptLine.TheVariants as script
 use Rattle.dsql_reader.specs.ScriptLines.{form_of, is_skipped, text_of}
 use Rattle.dsql_reader.specs.ScriptWords.{limit_of, space, spaced_words}
 use Rattle.dsql_reader.proofs.ScriptClients.{own, begins_not}
@@ -46,20 +47,28 @@ number_lacks c (negsuc n) other fails fits =
 limit_words : (setting : Setting) (number : List ℕ) → Lacks space number → spaced_words (limit_word setting ++ (codes " " ++ number)) ≡ limit_word setting ∷ number ∷ []
 limit_words MaxOpen number none = ap (λ words. codes "maxopen" ∷ words) (alone number none)
 limit_words MaxIdle number none = ap (λ words. codes "maxidle" ∷ words) (alone number none)
+limit_words MaxLife number none = ap (λ words. codes "maxlife" ∷ words) (alone number none)
+limit_words MaxIdleTime number none = ap (λ words. codes "maxidletime" ∷ words) (alone number none)
 
 limit_lacks : (setting : Setting) (number : List ℕ) → Lacks bracket number → Lacks bracket (limit_word setting ++ (codes " " ++ number))
 limit_lacks MaxOpen number none = none
 limit_lacks MaxIdle number none = none
+limit_lacks MaxLife number none = none
+limit_lacks MaxIdleTime number none = none
 
 not_skipped : (setting : Setting) (number : List ℕ) → is_skipped (limit_word setting ++ (codes " " ++ number)) ≡ false
 not_skipped MaxOpen number = is_told 109 (codes "axopen " ++ number) refl
 not_skipped MaxIdle number = is_told 109 (codes "axidle " ++ number) refl
+not_skipped MaxLife number = is_told 109 (codes "axlife " ++ number) refl
+not_skipped MaxIdleTime number = is_told 109 (codes "axidletime " ++ number) refl
 
-limit_is_read : (head : Head) (setting : Setting) (n : ℤ) → FitsSigned w64 n → form_of head (limit_word setting ∷ compact_text (integer n) ∷ []) None ≡ Ok (Set setting n)
+limit_is_read : (head : Head) (setting : Setting) (n : ℤ) → FitsSigned w64 n → form_of head (limit_word setting ∷ compact_text (integer n) ∷ []) None ≡ Ok (script.Control (Set setting n))
 limit_is_read head MaxOpen n fits = rw (number_is_read n fits) refl
 limit_is_read head MaxIdle n fits = rw (number_is_read n fits) refl
+limit_is_read head MaxLife n fits = rw (number_is_read n fits) refl
+limit_is_read head MaxIdleTime n fits = rw (number_is_read n fits) refl
 
-pub limit_is_read_back : (head : Head) (setting : Setting) (n : ℤ) → FitsSigned w64 n → text_of head (limit_text setting n) ≡ Ok (Set setting n)
+pub limit_is_read_back : (head : Head) (setting : Setting) (n : ℤ) → FitsSigned w64 n → text_of head (limit_text setting n) ≡ Ok (script.Control (Set setting n))
 limit_is_read_back head setting n fits =
     let number = compact_text (integer n) in
     let words = limit_words setting number (number_lacks space n refl refl fits) in

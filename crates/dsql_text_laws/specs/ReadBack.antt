@@ -1,4 +1,4 @@
--- What a report shows of a call, of capabilities or of a limit is in a script what it was made of.
+-- What a report shows of a call, of capabilities, of a limit or of a moment is in a script what it was made of.
 use Rattle.std.specs.Prelude.{◌≡◌, ℕ, ℤ, ◌<◌, ◌≤◌, ◌^◌, Bool, true, false, List, [], ◌∷◌, ◌++◌, length, codes, FitsSigned, All, Option, Some, None, Ok}
 use Rattle.std.specs.Int.{w8, w16, w32, w64}
 use Rattle.hex.specs.Hex.{IsBytes}
@@ -13,12 +13,14 @@ use Rattle.dsql_scan.specs.declared.dest.Dest.{Dest}
 use Rattle.dsql_history.specs.declared.event.Op.{Op}
 use Rattle.dsql_history.specs.declared.event.Op.TheVariants.{Exec, Query, One, Next, Scan, RowsClose, Err, DbClose, Stats}
 use Rattle.dsql_history.specs.declared.event.Setting.{Setting}
+use Rattle.dsql_history.specs.declared.event.Control.TheVariants.{Tick, Set}
 use Rattle.dsql_report.specs.Dests.{dests_word, dests_of}
 use Rattle.dsql_report.specs.LineArgs.{arg_data, argument_data, statement_data}
 use Rattle.dsql_report.specs.LineValues.{natural, integer}
 use Rattle.dsql_report.specs.Lines.{caps_names, limit_word, op_words, op_data}
 use Rattle.dsql_reader.specs.declared.script.Head.{Head}
-use Rattle.dsql_reader.specs.declared.script.ScriptLine.TheVariants.{Client, Set}
+use Rattle.dsql_reader.specs.declared.script.ScriptLine.TheVariants.{Client}
+use Rattle.dsql_reader.specs.declared.script.ScriptLine.TheVariants as script
 use Rattle.dsql_reader.specs.ScriptArgs.{arg_of_data, named_of_data, call_of_data, most_args}
 use Rattle.dsql_reader.specs.ScriptHead.{caps_of}
 use Rattle.dsql_reader.specs.ScriptLines.{form_of, text_of, label_fault, among_labels}
@@ -111,4 +113,11 @@ abbrev pub limit_text : Setting → ℤ → List ℕ
 limit_text setting n = limit_word setting ++ (codes " " ++ compact_text (integer n))
 
 abbrev pub ReadsLimitsBack : Type 0
-ReadsLimitsBack = (head : Head) (setting : Setting) (n : ℤ) → FitsSigned w64 n → text_of head (limit_text setting n) ≡ Ok (Set setting n)
+ReadsLimitsBack = (head : Head) (setting : Setting) (n : ℤ) → FitsSigned w64 n → text_of head (limit_text setting n) ≡ Ok (script.Control (Set setting n))
+
+-- a line of `tick` and of the number of a moment, as a report shows it
+abbrev pub moment_text : ℕ → List ℕ
+moment_text now = codes "tick " ++ compact_text (natural now)
+
+abbrev pub ReadsMomentsBack : Type 0
+ReadsMomentsBack = (head : Head) (now : ℕ) → now < 2 ^ 64 → text_of head (moment_text now) ≡ Ok (script.Control (Tick now))

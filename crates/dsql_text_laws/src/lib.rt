@@ -1,8 +1,8 @@
-//! What holds of reports and scripts together: what a report shows of a call, of capabilities or of a limit is read in
-//! a script as what it was made of. Each law is the contract of a function that does nothing.
+//! What holds of reports and scripts together: what a report shows of a call, of capabilities, of a limit or of a
+//! moment is read in a script as what it was made of. Each law is the contract of a function that does nothing.
 #![tactic(auto)]
 
-ghost use Rattle.dsql_text_laws.specs.ReadBack.{ReadsArgumentsBack, ReadsCallsBack, ReadsCapsBack, ReadsLimitsBack};
+ghost use Rattle.dsql_text_laws.specs.ReadBack.{ReadsArgumentsBack, ReadsCallsBack, ReadsCapsBack, ReadsLimitsBack, ReadsMomentsBack};
 
 /// The array that a report shows for a call is read in a script as just this call: its text and its
 /// arguments, each of the same form, with the same name and content.
@@ -27,4 +27,9 @@ pub fn spelled_capabilities_are_read_back()
 /// A line of the word and the number that a report shows for a limit sets just this limit.
 pub fn spelled_limits_are_read_back()
     ensures { ReadsLimitsBack }
+{}
+
+/// A line of `tick` and the number that a report shows for a moment tells just this moment.
+pub fn spelled_moments_are_read_back()
+    ensures { ReadsMomentsBack }
 {}
