@@ -2,7 +2,7 @@
 
 use crate::reports::lines_of;
 use dsql_driver::Caps;
-use dsql_history::{Event, Op};
+use dsql_history::{Control, Event, Op};
 use dsql_reader::{Reader, ScriptLine};
 use std::alloc::Global;
 use std::test::Fail;
@@ -93,11 +93,17 @@ version 1
 = no such word
 "#;
 
-/// Limits, calls that are held, steps, and calls without further words.
+/// Limits, a moment, calls that are held, steps, and calls without further words.
 const SEVERAL_CLIENTS: &str = r#"maxopen 0
 = ["set","maxopen",0]
 maxidle -9223372036854775808
 = ["set","maxidle",-9223372036854775808]
+maxlife 9223372036854775807
+= ["set","maxlife",9223372036854775807]
+maxidletime 0
+= ["set","maxidletime",0]
+tick 18446744073709551615
+= ["tick",18446744073709551615]
 version 1
 caps
 = no such word
@@ -137,7 +143,7 @@ step house
 const OTHER_LINES: &str = r#"maxconns 5
 Maxopen 5
 maxopen5
-maxlife 100
+maxlifetime 100
 start 
 start [
 start step c1
@@ -293,14 +299,18 @@ fn call_line(alloc: Global, client: u8, op: Op, held: bool) -> Result<String, Fa
     Ok(line)
 }
 
-/// What a reader makes of a line: a call, a limit and what a driver can do as the line of a report, and a refusal as its
-/// reason.
+/// What a reader makes of a line: a call, a limit, a moment and what a driver can do as the line of a report, and a
+/// refusal as its reason.
 fn told(alloc: Global, reader: &mut Reader, line: &str) -> Result<String, Fail> {
     match reader.read_line(alloc, line.as_bytes()) {
         Ok(ScriptLine::Skip) => Ok(String::from_str(alloc, "skipped\n")?),
         Ok(ScriptLine::Version(version)) => Ok(format!(in alloc; "version {version}\n")?),
         Ok(ScriptLine::UseCaps(caps)) => caps_line(alloc, caps),
-        Ok(ScriptLine::Set(setting, n)) => lines_of(alloc, &[Event::SetLimit(setting, n)]),
+        Ok(ScriptLine::Control(Control::Tick(now))) => lines_of(alloc, &[Event::Ticked(now)]),
+        Ok(ScriptLine::Control(Control::Set(setting, n))) => lines_of(
+            alloc,
+            &[Event::SetLimit(setting, n)],
+        ),
         Ok(ScriptLine::Client { client, op, held }) => call_line(alloc, client, op, held),
         Ok(ScriptLine::Step(client)) => Ok(format!(in alloc; "step of client {client}\n")?),
         Ok(ScriptLine::StepHouse) => Ok(String::from_str(alloc, "step of the layer\n")?),
