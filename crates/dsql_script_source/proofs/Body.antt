@@ -4,7 +4,7 @@ use Rattle.std.specs.Prelude.{ℤ, if◌then◌else◌, nat_lt, nat_le, codes, R
 use Rattle.std.specs.Str.{bytes_eq, is_utf8}
 use Rattle.std.specs.Str.Lines.{strip_carriage_return}
 use Rattle.dsql_history.specs.declared.event.Setting.{Setting}
-use Rattle.dsql_history.specs.declared.event.Setting.TheVariants.{MaxOpen, MaxIdle}
+use Rattle.dsql_history.specs.declared.event.Setting.TheVariants.{MaxOpen, MaxIdle, MaxLife, MaxIdleTime}
 use Rattle.dsql_reader.specs.declared.fault.What.TheVariants.{Lines}
 use Rattle.dsql_reader.specs.declared.fault.LineFault.{LineFault}
 use Rattle.dsql_reader.specs.declared.fault.LineFault.TheVariants.{TooLong, NotUtf8, TooMany}
@@ -14,7 +14,7 @@ use Rattle.dsql_reader.specs.declared.script.ScriptLine.TheVariants.{Skip, Versi
 use Rattle.dsql_reader.specs.ScriptWords.{words_of, array_of, client_of}
 use Rattle.dsql_reader.specs.ScriptCalls.{CallReading, call_of}
 use Rattle.dsql_reader.specs.ScriptHead.{Progress, after}
-use Rattle.dsql_reader.specs.ScriptLines.{Reading, client_call, call_by_client, client_line, start_line, limit_alone, set_or_fault, set_line, step_or_fault, step_line, version_line, caps_line, form_of, is_skipped, text_of, line_of, line_fault, unless_fault, among_labels, read_of, most_bytes, most_lines}
+use Rattle.dsql_reader.specs.ScriptLines.{Reading, client_call, call_by_client, client_line, start_line, limit_alone, set_or_fault, set_line, moment_alone, tick_or_fault, tick_line, step_or_fault, step_line, version_line, caps_line, form_of, is_skipped, text_of, line_of, line_fault, unless_fault, among_labels, read_of, most_bytes, most_lines}
 use Rattle.dsql_script_source.specs.Script.{Script}
 use Rattle.dsql_script_source.specs.Reading.{StopsReading, is_body, ends_head, IsBodyLine, NoLine}
 use Rattle.dsql_script_source.specs.Stops.{IsReadStop}
@@ -52,6 +52,13 @@ body_set setting (Some number) = refl
 body_set_line : (setting : Setting) (words : List (List ℕ)) (array : Option (List ℕ)) → Body (set_line setting words array)
 body_set_line setting words array = body_set setting (limit_alone words array)
 
+body_tick : (moment : Option ℕ) → Body (tick_or_fault moment)
+body_tick None = tt
+body_tick (Some now) = refl
+
+body_tick_line : (words : List (List ℕ)) (array : Option (List ℕ)) → Body (tick_line words array)
+body_tick_line words array = body_tick (moment_alone words array)
+
 body_step : (client : Option ℕ) → Body (step_or_fault client)
 body_step None = tt
 body_step (Some client) = refl
@@ -68,15 +75,21 @@ body_form_of (first ∷ words) array =
     let client = client_line false first words array in
     let step = if bytes_eq first (codes "step") then step_line words array else client in
     let start = if bytes_eq first (codes "start") then start_line words array else step in
-    let idle = if bytes_eq first (codes "maxidle") then set_line MaxIdle words array else start in
+    let tick = if bytes_eq first (codes "tick") then tick_line words array else start in
+    let idle_time = if bytes_eq first (codes "maxidletime") then set_line MaxIdleTime words array else tick in
+    let life = if bytes_eq first (codes "maxlife") then set_line MaxLife words array else idle_time in
+    let idle = if bytes_eq first (codes "maxidle") then set_line MaxIdle words array else life in
     let limits = if bytes_eq first (codes "maxopen") then set_line MaxOpen words array else idle in
     let caps = if bytes_eq first (codes "caps") then caps_line Begun words array else limits in
     either (bytes_eq first (codes "version")) (version_line Begun words array) caps tt
     (either (bytes_eq first (codes "caps")) (caps_line Begun words array) limits tt
     (either (bytes_eq first (codes "maxopen")) (set_line MaxOpen words array) idle (body_set_line MaxOpen words array)
-    (either (bytes_eq first (codes "maxidle")) (set_line MaxIdle words array) start (body_set_line MaxIdle words array)
+    (either (bytes_eq first (codes "maxidle")) (set_line MaxIdle words array) life (body_set_line MaxIdle words array)
+    (either (bytes_eq first (codes "maxlife")) (set_line MaxLife words array) idle_time (body_set_line MaxLife words array)
+    (either (bytes_eq first (codes "maxidletime")) (set_line MaxIdleTime words array) tick (body_set_line MaxIdleTime words array)
+    (either (bytes_eq first (codes "tick")) (tick_line words array) start (body_tick_line words array)
     (either (bytes_eq first (codes "start")) (start_line words array) step (body_start_line words array)
-    (either (bytes_eq first (codes "step")) (step_line words array) client (body_step_line words array) (body_client_line false first words array))))))
+    (either (bytes_eq first (codes "step")) (step_line words array) client (body_step_line words array) (body_client_line false first words array)))))))))
 
 body_text : (text : List ℕ) → Body (text_of Begun text)
 body_text text = either (is_skipped text) (Ok Skip) (form_of Begun (words_of text) (array_of text)) refl (body_form_of (words_of text) (array_of text))

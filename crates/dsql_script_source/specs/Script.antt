@@ -6,7 +6,8 @@ use Rattle.dsql_follows.specs.declared.line.Line.{Line}
 use Rattle.dsql_follows.specs.declared.line.Line.TheVariants as played
 use Rattle.dsql_reader.specs.declared.fault.LineFault.{LineFault}
 use Rattle.dsql_reader.specs.declared.script.ScriptLine.{ScriptLine}
-use Rattle.dsql_reader.specs.declared.script.ScriptLine.TheVariants.{Skip, Version, UseCaps, Set, Client, Step, StepHouse}
+use Rattle.dsql_reader.specs.declared.script.ScriptLine.TheVariants.{Skip, Version, UseCaps, Client, Step, StepHouse}
+use Rattle.dsql_reader.specs.declared.script.ScriptLine.TheVariants as script
 use Rattle.dsql_reader.specs.ScriptHead.{Progress, unread, after}
 use Rattle.dsql_reader.specs.ScriptLines.{Reading, read_of}
 use Rattle.dsql_stream.specs.Lines.{all_lines}
@@ -24,7 +25,7 @@ abbrev pub line_as_played : ScriptLine → Line
 line_as_played Skip = played.Skip
 line_as_played (Version version) = played.Skip
 line_as_played (UseCaps caps) = played.Skip
-line_as_played (Set setting number) = played.Set setting number
+line_as_played (script.Control control) = played.Control control
 line_as_played (Client client op true) = played.Start client op
 line_as_played (Client client op false) = played.Client client op
 line_as_played (Step client) = played.Step client

@@ -11,7 +11,7 @@ pub fn line_as_played(line: ScriptLine) -> Line
 {
     match line {
         ScriptLine::Skip | ScriptLine::Version(_) | ScriptLine::UseCaps(_) => Line::Skip,
-        ScriptLine::Set(setting, number) => Line::Set(setting, number),
+        ScriptLine::Control(control) => Line::Control(control),
         ScriptLine::Client {
             client,
             op,
