@@ -1,6 +1,6 @@
 -- As many connections are open as may be: no more is opened then, and one may be below that.
 use Rattle.std.proofs.Common.{◌≡◌, ℕ, ◌≤◌, ◌<◌, Bool, true, false, cond, List, refl, sym, ◌∙◌, arith}
-use Rattle.std.specs.Prelude.{nat_le, nat_lt, ◌&&◌}
+use Rattle.std.specs.Prelude.{nat_le, ◌&&◌}
 use Rattle.std.proofs.lemmas.Bool.{lt-ltb, le-ltb, leb-true}
 use Rattle.dsql_pool.specs.declared.moves.Move.TheVariants.{OpenStart}
 use Rattle.dsql_pool.specs.Pooled.{Pooled, open_count, is_limited, most_allowed, most_open}

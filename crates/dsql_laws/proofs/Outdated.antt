@@ -1,5 +1,5 @@
 -- The closings of idle connections that are past their time.
-use Rattle.std.proofs.Common.{◌≡◌, ℕ, suc, ◌≤◌, ◌==◌, Bool, true, false, ◌&&◌, cond, List, [], ◌∷◌, Option, Some, None, refl, sym, ap, subst, ◌∙◌, arith}
+use Rattle.std.proofs.Common.{◌≡◌, ℕ, suc, ◌≤◌, ◌==◌, Bool, true, false, ◌&&◌, cond, List, [], ◌∷◌, Option, Some, None, refl, sym, ap, ◌∙◌, arith}
 use Rattle.std.specs.List.{list_all, filter_map, cons_option}
 use Rattle.std.proofs.lemmas.Bool.Decides.{nat_tests}
 use Rattle.dsql_pool.specs.declared.moves.CloseCause.{CloseCause}
@@ -10,7 +10,7 @@ use Rattle.dsql_pool.specs.Changes.{closing}
 use Rattle.dsql_pool.specs.Pooled.{Pooled, place_at, without}
 use Rattle.dsql_pool.specs.Rest.{times}
 use Rattle.dsql_pool.specs.Moved.{moved}
-use Rattle.dsql_pool.specs.Decisions.{starts_closing, closing_for, closing_at, cause_at, closings_of_tick}
+use Rattle.dsql_pool.specs.Decisions.{starts_closing, closing_for, cause_at, closings_of_tick}
 use Rattle.dsql_pool.proofs.Members.{times-without_other}
 use Rattle.dsql_pool.proofs.Placed.{Placed, placed_away}
 use Rattle.dsql_pool.proofs.Settling.{outdated_closes}

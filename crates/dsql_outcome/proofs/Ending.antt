@@ -1,6 +1,6 @@
 -- What a run follows that was ended, or where it was cut.
 use Rattle.std.proofs.Common.{◌≡◌, ◌⊎◌, ℕ, ◌≤◌, Bool, true, false, List, [], Option, length, refl, ap, sym, subst, ◌∙◌, inl, inr}
-use Rattle.std.specs.Prelude.{IfSome, Result, Ok, Err}
+use Rattle.std.specs.Prelude.{Result, Ok, Err}
 use Rattle.dsql_driver.specs.declared.caps.Caps.{Caps}
 use Rattle.dsql_history.specs.declared.event.Event.{Event}
 use Rattle.dsql_follows.specs.Moments.{Moment}
@@ -15,7 +15,7 @@ use Rattle.dsql_script_source.specs.Script.{Said}
 use Rattle.dsql_script_source.specs.declared.stop.Stop.{Stop}
 use Rattle.dsql_script_source.specs.declared.stop.Stop.TheVariants.{Read, Write, Memory, Refused, Full}
 use Rattle.dsql_outcome.specs.Followed.{FollowsAll, StopsShort}
-use Rattle.dsql_outcome.specs.Runs.{CutAtEnd, CutAtLine, CutShort, Finishes, IsLinesEnd, Wrote, is_write_fault, ran_out, wanted_memory}
+use Rattle.dsql_outcome.specs.Runs.{CutAtEnd, CutAtLine, Finishes, IsLinesEnd, Wrote, is_write_fault, ran_out, wanted_memory}
 use Rattle.dsql_outcome.specs.Playing.{LinesPlayed, ScriptPlayed}
 use Rattle.dsql_outcome.proofs.Following.{all_stops_short, end_follows, end_stops_short}
 use Rattle.dsql_outcome.proofs.Saying.{plays_first}

@@ -1,7 +1,6 @@
 -- The lines that were played of a script.
 use Rattle.std.proofs.Common.{◌≡◌, ℕ, Bool, true, false, List, [], ◌∷◌, ◌++◌, Option, Some, None, refl, ap, sym, subst, ◌∙◌, inl, inr}
 use Rattle.std.specs.Prelude.{reverse, IfErr, IfOk, IfSome, Result, Ok, Err}
-use Rattle.std.specs.List.{list_all}
 use Rattle.dsql_driver.specs.declared.caps.Caps.{Caps}
 use Rattle.dsql_history.specs.declared.event.Event.{Event}
 use Rattle.dsql_history.specs.declared.event.Event.TheVariants.{Run}
@@ -17,14 +16,14 @@ use Rattle.dsql_show.specs.Report.{StopsBetween, oldest}
 use Rattle.dsql_script_source.specs.Plays.{Plays, saying}
 use Rattle.dsql_script_source.specs.Position.{Position}
 use Rattle.dsql_script_source.specs.Reading.{HasRead, IsBodyLine, ReadTo, is_body}
-use Rattle.dsql_script_source.specs.Script.{is_skip, line_as_played, said_of, then}
+use Rattle.dsql_script_source.specs.Script.{line_as_played}
 use Rattle.dsql_script_source.specs.Stops.{IsReadStop}
 use Rattle.dsql_script_source.specs.declared.stop.Stop.{Stop}
 use Rattle.dsql_script_source.specs.declared.stop.Stop.TheVariants.{Read, Write, Memory, Refused, Full}
 use Rattle.dsql_outcome.specs.Followed.{FollowsSoFar}
-use Rattle.dsql_outcome.specs.Runs.{CutAtLine, IsLinesEnd, IsPlayStop, is_write_fault, ran_out}
+use Rattle.dsql_outcome.specs.Runs.{IsLinesEnd, IsPlayStop, is_write_fault, ran_out}
 use Rattle.dsql_outcome.specs.Playing.{HasHead, LinesPlayed}
-use Rattle.dsql_outcome.proofs.Following.{begun_at, begun_follows, blank, blank_is_skipped, carried_stops, line_follows, line_stops_short, stops_at_rest, told_blank}
+use Rattle.dsql_outcome.proofs.Following.{begun_at, begun_follows, blank, blank_is_skipped, line_follows, line_stops_short, stops_at_rest, told_blank}
 use Rattle.dsql_outcome.proofs.Saying.{carried_out, first_plays, line_stops, read_first}
 
 -- The lines that were carried out so far, and what was read behind them.

@@ -84,11 +84,6 @@ pub shown_kinds : (r : Result (Unit {0}) Stop) → IfErr r IsShowStop → IfErr 
 shown_kinds (Ok done) kind = tt
 shown_kinds (Err stop) kind = show_stops stop kind
 
--- events that can't be shown don't fill a run
-pub show_fills_none : (stop : Stop) → IsShowStop stop → stop ≡ Full → ⊥
-show_fills_none Full kind is = kind
-show_fills_none _ kind is = cc is
-
 -- all events were shown, whatever comes then
 pub wrote_at_rest : (r : Result (Unit {0}) Stop) (w now : Option (List ℕ)) (n : ℕ) (past : List Event) → n ≡ length past → now ≡ with_text w (text_of past) → Wrote r w n past now
 wrote_at_rest (Ok done) w now n past all is = is ∙ rw (all, oldest_all past) refl

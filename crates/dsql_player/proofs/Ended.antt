@@ -1,9 +1,8 @@
 -- The script's end is carried out.
-use Rattle.std.proofs.Common.{◌≡◌, ℕ, Bool, true, false, List, Option, None, refl, sym, ap, subst, ◌∙◌}
-use Rattle.std.specs.Prelude.{Result, Ok, Err, OnOk, OnErr, is_some}
+use Rattle.std.proofs.Common.{◌≡◌, ℕ, Bool, true, false, List, Option, None, refl, ap, ◌∙◌}
+use Rattle.std.specs.Prelude.{Result, Ok, Err, OnOk}
 use Rattle.dsql_driver.specs.Wires.{WireTold}
 use Rattle.dsql_driver.specs.declared.wire.Fleet.{Ghosts}
-use Rattle.dsql_history.specs.declared.event.Event.{Event}
 use Rattle.dsql_history.specs.Readers.Course.{has_ended}
 use Rattle.dsql_history.specs.Rules.House.{chore_due, is_quiet}
 use Rattle.dsql_history.specs.Legal.{Legal}

@@ -1,6 +1,6 @@
 -- The run goes on: the step whose turn it is.
 use Rattle.std.proofs.Common.{◌≡◌, ◌<◌, ℕ, true, false, not, ◌&&◌, List, ◌++◌, length, Option, None, refl, ap, sym, subst, ◌∙◌}
-use Rattle.std.specs.Prelude.{Result, Ok, Err, OnOk, IfErr}
+use Rattle.std.specs.Prelude.{Result, Ok, Err, OnOk}
 use Rattle.std.proofs.lemmas.Result.{on_ok_weaker}
 use Rattle.dsql_driver.specs.Wires.{WireTold}
 use Rattle.dsql_journal.specs.Readers.{is_empty}
@@ -30,11 +30,6 @@ use Rattle.dsql_playing.proofs.MayGo.{goes_busy, goes_free}
 use Rattle.dsql_playing.proofs.Standing.{answer_taken, has_lines, has_lines_before, landed_alike}
 use Rattle.dsql_playing.proofs.Turning.{answer_in_turn, chore_in_turn, entry_in_turn, itself_in_turn, out_at, turn_at}
 use Rattle.dsql_player.specs.Keeping.{ActsUnheard, SameCourse}
-
--- what failed for want of memory didn't fail for want of room
-pub not_full : {A : Type 0} (result : Result A Halt) (P : Type 0) → IfErr result (λ halt. halt ≡ halts.Memory) → result ≡ Err halts.Full → P
-not_full (Ok x) P memory full = absurd cc
-not_full (Err e) P memory full = absurd cc
 
 always : {A E P : Type 0} (result : Result A E) → P → OnOk result P
 always (Ok x) p = p

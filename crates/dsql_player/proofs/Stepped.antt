@@ -30,7 +30,7 @@ use Rattle.dsql_playing.specs.Carried.{Carries, KeepsRun, KeepsWires}
 use Rattle.dsql_playing.specs.Playing.{IsAt, IsReady, Playing}
 use Rattle.dsql_playing.specs.Stepping.{HearsAnswer, IsAnswerTo, MakesChore, TakesStep, Wakes}
 use Rattle.dsql_playing.proofs.Fitting.{fits_unheard}
-use Rattle.dsql_playing.proofs.Keeping.{run_goes, run_stays}
+use Rattle.dsql_playing.proofs.Keeping.{run_goes}
 use Rattle.dsql_playing.proofs.Lines.{begun_skip}
 use Rattle.dsql_playing.proofs.MayGo.{kept_first, moves_of}
 use Rattle.dsql_playing.proofs.Singles.{answer_steps, chore_steps, flies_ready, idle_house_steps, itself_steps, leave_steps}
@@ -50,10 +50,6 @@ woken_wires heard x y old new slots a = record { ready = a.ready; wires = fits_u
 pub run_unheard : {A B F W : Type 0} (fleet : Ghosts F W) (heard : W → Option WireTold) (x : A) (y : B) (now : F) (old new : Playing) (slots : List (Option (Journaled W)))
     → WiresFit heard (is_some (fleet.told now)) old.past slots → ActsUnheard {A = A} (Ok x) old new → KeepsRun {A = B} fleet heard (Ok y) now now old new slots
 run_unheard fleet heard x y now old new slots fit a = run_goes fleet heard y now old new slots slots fit a.ready (fits_unheard heard old.past new.past slots a.unheard) a.unheard.told a.legal
-
-pub run_unheard_stays : {A B F W : Type 0} (fleet : Ghosts F W) (heard : W → Option WireTold) (d e : Halt) (now : F) (old new : Playing) (slots : List (Option (Journaled W)))
-    → ActsUnheard {A = A} (Err d) old new → KeepsRun {A = B} fleet heard (Err e) now now old new slots
-run_unheard_stays fleet heard d e now old new slots a = run_stays fleet heard (Err e) now old new slots refl a.unheard.told a.legal
 
 -- A call makes a single step.
 

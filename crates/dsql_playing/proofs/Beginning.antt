@@ -1,12 +1,12 @@
 -- The player as a run begins.
-use Rattle.std.proofs.Common.{◌≡◌, ℕ, false, List, [], ◌∷◌, None, refl, ap, sym, arith}
+use Rattle.std.proofs.Common.{◌≡◌, ℕ, List, [], ◌∷◌, refl, ap, sym, arith}
 use Rattle.dsql_driver.specs.declared.caps.Caps.{Caps}
 use Rattle.dsql_history.specs.declared.event.Event.TheVariants.{Run}
 use Rattle.dsql_history.specs.Legal.{Legal}
 use Rattle.dsql_follows.specs.Moments.{just_begun}
 use Rattle.dsql_seats.specs.Seats.{Seat, empty_seat, seat}
 use Rattle.dsql_turn_laws.proofs.Steps.{begun_flies}
-use Rattle.dsql_playing.specs.Playing.{IsAt, IsReady, Playing, lines_kept}
+use Rattle.dsql_playing.specs.Playing.{IsAt, IsReady, lines_kept}
 use Rattle.dsql_playing.specs.Acts.{begun}
 
 pub begun_ready : (version : ℕ) (caps : Caps) (seats : List Seat) → Legal (Run version caps ∷ []) → ((client : ℕ) → seat seats client ≡ empty_seat) → IsReady (begun version caps seats)

@@ -30,6 +30,3 @@ fits_unheard heard old new slots h = λ telling fit c. subst (λ (entries : List
 pub fits_same : {W : Type 0} (heard : W → Option WireTold) (old new : List Event) (slots : List (Option (Journaled W))) → new ≡ old → KeepsFit heard old new slots slots
 fits_same heard old new slots same = λ telling fit. subst (λ (past : List Event). WiresFit heard telling past slots) (sym same) fit
 
-pub fits_then : {W : Type 0} (heard : W → Option WireTold) (old mid new : List Event) (before between after : List (Option (Journaled W))) → KeepsFit heard old mid before between → KeepsFit heard mid new between after
-    → KeepsFit heard old new before after
-fits_then heard old mid new before between after a b = λ telling fit. b telling (a telling fit)

@@ -7,7 +7,7 @@ use Rattle.dsql_step_laws.specs.Steps.{stepped}
 use Rattle.dsql_walk_laws.proofs.AddedUp.{no_steps, one_more}
 use Rattle.dsql_walk_laws.proofs.Turns.{more_in_turn}
 use Rattle.dsql_playing.specs.Playing.{Playing, IsAt}
-use Rattle.dsql_playing.specs.Stepping.{InTurn, RunsInTurn, RunsOut, RunsSoFar, TakesStep}
+use Rattle.dsql_playing.specs.Stepping.{InTurn, RunsOut, RunsSoFar, TakesStep}
 use Rattle.dsql_playing.specs.Acts.{RunsTo}
 
 pub runs_none : (m : Moment) (p : Playing) → IsAt m p → RunsTo m p p

@@ -12,7 +12,7 @@ use Rattle.dsql_history.specs.Readers.Clients.{call_of}
 use Rattle.dsql_history.specs.Readers.Unfinished.{is_unfinished}
 use Rattle.dsql_history.specs.Rules.Flights.{is_blocked, is_in_flight, is_taken, may_move}
 use Rattle.dsql_history.specs.Rules.Stands.{stand}
-use Rattle.dsql_engine.specs.Core.{Core, blocked_call, blocked_for, unfinished_of}
+use Rattle.dsql_engine.specs.Core.{Core, blocked_call, blocked_for}
 use Rattle.dsql_going.specs.Answers.{why_blocked}
 use Rattle.dsql_going.specs.declared.next.Why.TheVariants.{Turn}
 use Rattle.dsql_end_laws.proofs.Whose.{busy_unfinished}
@@ -23,21 +23,6 @@ use Rattle.dsql_playing.specs.Stepping.{goes}
 pub kept_first : {X : Type 0} (xs : List X) → is_some (slice_get xs 0) ≡ not (is_empty xs)
 kept_first [] = refl
 kept_first (x ∷ xs) = refl
-
-free_none : (busy : Bool) (n : ℕ) → is_none (cond busy (Some n) None) ≡ true → busy ≡ false
-free_none true n h = absurd cc
-free_none false n h = refl
-
--- who has no unfinished call isn't busy, and the other way round
-pub is_free_of : (past : List Event) (client : ℕ) → is_none (unfinished_of past client) ≡ true → is_busy client past ≡ false
-is_free_of past client h = free_none (is_busy client past) (call_of past client) h
-
-some_call : (busy : Bool) (n : ℕ) → is_none (cond busy (Some n) None) ≡ false → busy ≡ true
-some_call true n h = refl
-some_call false n h = absurd cc
-
-pub is_busy_of : (past : List Event) (client : ℕ) → is_none (unfinished_of past client) ≡ false → is_busy client past ≡ true
-is_busy_of past client h = some_call (is_busy client past) (call_of past client) h
 
 -- A call isn't blocked where it may move.
 

@@ -1,5 +1,5 @@
 -- The steps that the player takes, seen from the moment at which it stood.
-use Rattle.std.proofs.Common.{◌≡◌, ◌≢◌, ◌<◌, ◌⊎◌, inl, inr, ℕ, ◌==◌, Bool, true, false, not, ◌&&◌, ◌||◌, cond, List, length, Option, Some, None, is_none, is_some, refl, ap, sym, subst, ◌∙◌}
+use Rattle.std.proofs.Common.{◌≡◌, ◌≢◌, ◌<◌, ◌⊎◌, inl, inr, ℕ, ◌==◌, Bool, true, false, not, ◌&&◌, ◌||◌, cond, List, Option, Some, None, is_none, is_some, refl, ap, sym, subst, ◌∙◌}
 use Rattle.std.specs.Prelude.{ℤ}
 use Rattle.dsql_course.specs.Made.{or_else}
 use Rattle.dsql_wait.specs.Requests.{waits}
@@ -33,7 +33,7 @@ use Rattle.dsql_whole_laws.proofs.GoneOn.{call_whole, layer_whole}
 use Rattle.dsql_line_laws.proofs.Stepped.{enters_not}
 use Rattle.dsql_playing.specs.Playing.{IsAt, KeepsLines, Playing, lines_kept}
 use Rattle.dsql_playing.specs.Stepping.{IsEnd, IsOfItself, IsTold, TakesStep, Wakes}
-use Rattle.dsql_playing.proofs.Grouped.{GoneOn, goes_grouped, grows, none_owed}
+use Rattle.dsql_playing.proofs.Grouped.{none_owed}
 use Rattle.dsql_playing.proofs.Standing.{has_lines, step_taken}
 use Rattle.dsql_playing.specs.Acts.{Woken}
 
@@ -134,9 +134,3 @@ pub wakes : (shows : Bool) (m : Moment) (n : ℕ) (next : Next) (before after : 
 wakes true m n next before after grew same w at = wake_shows m n next before after w at (grew refl)
 wakes false m n next before after grew same w at = (same refl, wake_sends m n next before after w at (same refl))
 
-pub gone_longer : (past : List Event) (n : ℕ) → n ≢ 0 → Settled past → (gone_on n past ≡ past) ⊎ (length past < length (gone_on n past))
-gone_longer past n some settled = by (goes_grouped past n some settled)
-  where
-    by : (gone_on n past ≡ past) ⊎ GoneOn past (gone_on n past) n → (gone_on n past ≡ past) ⊎ (length past < length (gone_on n past))
-    by (inl none) = inl none
-    by (inr more) = inr (grows past (gone_on n past) more.first n more.grouped)

@@ -8,9 +8,6 @@ use Rattle.dsql_pool.specs.declared.conn.Conn.{Conn}
 use Rattle.dsql_pool.specs.Places.{conn_of}
 use Rattle.dsql_pool.specs.Changes.{changed, gone}
 
-one : Bool → ℕ
-one b = cond b 1 0
-
 -- 1 where what was found passes
 abbrev pub passing : (Conn → Bool) → Option Conn → ℕ
 passing q None = 0

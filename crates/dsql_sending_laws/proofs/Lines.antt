@@ -129,10 +129,6 @@ pub record Finished (H : List Event) (c t n : ℕ) : Type 0 where
   pub none : is_none (line_in H c t n wish) ≡ true
   pub free : keeps_rows (aim_of (work H n)) wish (exchanges (heard_in H c t)) ≡ false
 
-neither : (a b : Bool) → (a || b) ≡ false → (a ≡ false) × (b ≡ false)
-neither true b h = absurd cc
-neither false b h = (refl, h)
-
 not_some : {A : Type 0} (o : Option A) → is_some o ≡ false → is_none o ≡ true
 not_some None h = refl
 not_some (Some x) h = absurd cc

@@ -21,7 +21,7 @@ use Rattle.dsql_driver.specs.Kinds.{is_bad, is_valid}
 use Rattle.dsql_work.specs.declared.work.Aim.{Aim}
 use Rattle.dsql_work.specs.declared.work.Aim.TheVariants as aims
 use Rattle.dsql_work.specs.declared.work.Work.{Work}
-use Rattle.dsql_work.specs.declared.work.Work.TheVariants.{ReadOne, HandOut, Close}
+use Rattle.dsql_work.specs.declared.work.Work.TheVariants.{ReadOne, HandOut}
 use Rattle.dsql_work.specs.Same.{same_params}
 use Rattle.dsql_work.specs.Exchanges.{exchanges}
 
