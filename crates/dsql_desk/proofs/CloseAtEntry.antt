@@ -12,7 +12,7 @@ use Rattle.dsql_history.specs.Readers.Unfinished.{is_unfinished}
 use Rattle.dsql_work.specs.HandedOut.{Made}
 use Rattle.dsql_history.specs.Readers.HandedOut.{handed_out, rows_by, rows_entered}
 use Rattle.dsql_desk.specs.Entering.{IsNamed, NoneNamed}
-use Rattle.dsql_desk.specs.Starts.{AreMade, closed_rows}
+use Rattle.dsql_telling.specs.Starts.{AreMade, closed_rows}
 
 -- where none have the number nothing is changed
 unmade : (change : Rows → Rows) (n : ℕ) (rows : Made) → rows_of n rows ≡ None → changed change n rows ≡ rows

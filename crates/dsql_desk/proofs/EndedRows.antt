@@ -21,11 +21,11 @@ use Rattle.dsql_history.specs.declared.event.Op.{Op}
 use Rattle.dsql_history.specs.Readers.HandedOut.{handed_out, rows_by, rows_heard, rows_entered, fetched, live, are_live, caller, ender}
 use Rattle.dsql_history.specs.Readers.Works.{work}
 use Rattle.dsql_laws.proofs.Tests.{both}
-use Rattle.dsql_desk.specs.declared.call.CallRow.{CallRow}
-use Rattle.dsql_desk.specs.Calls.{row_at, with_ender}
-use Rattle.dsql_desk.specs.Heard.{HearsRows, calls_after, ended_for, is_end}
-use Rattle.dsql_desk.specs.Starts.{closed_by, closed_rows, AreMade}
-use Rattle.dsql_desk.proofs.CallRows.{same_at, same_all, changed_at, changed_beside}
+use Rattle.dsql_calls.specs.declared.call.CallRow.{CallRow}
+use Rattle.dsql_calls.specs.Calls.{row_at, with_ender}
+use Rattle.dsql_telling.specs.Heard.{HearsRows, calls_after, ended_for, is_end}
+use Rattle.dsql_telling.specs.Starts.{closed_by, closed_rows, AreMade}
+use Rattle.dsql_calls.proofs.CallRows.{same_at, same_all, changed_at, changed_beside}
 use Rattle.dsql_desk.proofs.Enders.{by_number, changed_same, changed_other, ender_stays, ender_ends}
 
 -- the calls once one has ended the rows of another, if it has

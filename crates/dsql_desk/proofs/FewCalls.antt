@@ -4,7 +4,7 @@ use Rattle.std.proofs.lemmas.List.{length-map}
 use Rattle.dsql_history.specs.declared.event.Event.{Event}
 use Rattle.dsql_history.specs.declared.event.Event.TheVariants.{Run, Entered, Heard, Pool, Waits, Ticked, SetLimit, Replied, Ended}
 use Rattle.dsql_history.specs.Readers.Calls.{calls, entering}
-use Rattle.dsql_desk.specs.declared.call.CallRow.{CallRow}
+use Rattle.dsql_calls.specs.declared.call.CallRow.{CallRow}
 use Rattle.dsql_desk.specs.declared.desk.Desk.{Desk}
 use Rattle.dsql_desk.specs.Desk.{past, Stands}
 

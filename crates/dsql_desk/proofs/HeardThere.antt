@@ -26,8 +26,8 @@ use Rattle.dsql_lending_laws.proofs.Lent.{Lends, move_facts, lent_before}
 use Rattle.dsql_sending_laws.proofs.Invariant.{fresh_lending}
 use Rattle.dsql_sending_laws.proofs.Answered.{lent_under_way, heard_here, heard_off, same_lent}
 use Rattle.dsql_sending_laws.proofs.Sound.{sound}
-use Rattle.dsql_desk.specs.declared.exchanged.Exchanged.{Exchanged}
-use Rattle.dsql_desk.specs.Exchanged.{unheard, then_heard, exchanged_in}
+use Rattle.dsql_exchanged.specs.declared.exchanged.Exchanged.{Exchanged}
+use Rattle.dsql_exchanged.specs.Exchanged.{unheard, then_heard, exchanged_in}
 use Rattle.dsql_desk.specs.Lines.{IsKept}
 use Rattle.dsql_desk.specs.Made.{all_made, made}
 

@@ -21,11 +21,11 @@ use Rattle.dsql_history.specs.Readers.Owed.{answered}
 use Rattle.dsql_history.specs.Readers.Works.{work}
 use Rattle.dsql_history.specs.Rules.Moves.{hears_in, is_house_entry}
 use Rattle.dsql_laws.proofs.Tests.{both}
-use Rattle.dsql_desk.specs.declared.call.CallRow.{CallRow}
+use Rattle.dsql_calls.specs.declared.call.CallRow.{CallRow}
 use Rattle.dsql_desk.specs.Adding.{opens_or_shuts}
-use Rattle.dsql_desk.specs.Calls.{KeepsCalls, nobody, row_at}
-use Rattle.dsql_desk.specs.Heard.{HearsRows, calls_after, calls_told, is_fetch_or_query}
-use Rattle.dsql_desk.proofs.Beside.{rows_beside, calls_beside}
+use Rattle.dsql_calls.specs.Calls.{KeepsCalls, nobody, row_at}
+use Rattle.dsql_telling.specs.Heard.{HearsRows, calls_after, calls_told, is_fetch_or_query}
+use Rattle.dsql_telling.proofs.Beside.{rows_beside, calls_beside}
 use Rattle.dsql_desk.proofs.Kept.{heard_keeps}
 use Rattle.dsql_desk.proofs.MadeKnown.{made_known}
 

@@ -31,15 +31,15 @@ use Rattle.dsql_history.specs.Readers.Unfinished.{is_unfinished}
 use Rattle.dsql_history.specs.Readers.Works.{works, work, work_of}
 use Rattle.dsql_history.specs.Legal.{Lawful}
 use Rattle.dsql_laws.specs.OwedMade.{with_moves}
-use Rattle.dsql_desk.specs.declared.call.CallRow.{CallRow}
-use Rattle.dsql_desk.specs.declared.call.CallStart.{CallStart}
+use Rattle.dsql_calls.specs.declared.call.CallRow.{CallRow}
+use Rattle.dsql_calls.specs.declared.call.CallStart.{CallStart}
 use Rattle.dsql_desk.specs.Adding.{IsAnswerBefore, is_refusal}
-use Rattle.dsql_desk.specs.Calls.{KeepsCalls, nobody, row_at, with_row, with_call, with_tried, newest}
-use Rattle.dsql_desk.specs.Heard.{HearsRows, calls_after, calls_told}
-use Rattle.dsql_desk.specs.Moves.{tried_by, tried_by_all}
-use Rattle.dsql_desk.specs.Settling.{replied}
-use Rattle.dsql_desk.specs.Starts.{Starts, closed_by, closed_rows, AreMade}
-use Rattle.dsql_desk.proofs.CallRows.{same_at, same_all, calls_changed, changed_at, changed_beside, same_pushed, all_pushed, as_many, work_at, call_at}
+use Rattle.dsql_calls.specs.Calls.{KeepsCalls, nobody, row_at, with_row, with_call, with_tried, newest}
+use Rattle.dsql_telling.specs.Heard.{HearsRows, calls_after, calls_told}
+use Rattle.dsql_calls.specs.Tries.{tried_by, tried_by_all}
+use Rattle.dsql_calls.specs.Settling.{replied}
+use Rattle.dsql_telling.specs.Starts.{Starts, closed_by, closed_rows, AreMade}
+use Rattle.dsql_calls.proofs.CallRows.{same_at, same_all, calls_changed, changed_at, changed_beside, same_pushed, all_pushed, as_many, work_at, call_at}
 use Rattle.dsql_desk.proofs.EndedRows.{closed_same, closed_tried, closing_ends, heard_same, heard_tried, heard_ends}
 use Rattle.dsql_desk.proofs.Enders.{by_number, ender_of_none}
 use Rattle.dsql_desk.proofs.Known.{unfinished_before, unfinished_still}

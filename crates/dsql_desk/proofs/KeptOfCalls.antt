@@ -9,9 +9,9 @@ use Rattle.dsql_history.specs.Readers.Calls.{call_record}
 use Rattle.dsql_history.specs.Readers.HandedOut as given
 use Rattle.dsql_history.specs.Readers.Works.{work}
 use Rattle.dsql_history.specs.Legal.{Lawful}
-use Rattle.dsql_desk.specs.declared.call.CallRow.{CallRow}
+use Rattle.dsql_calls.specs.declared.call.CallRow.{CallRow}
 use Rattle.dsql_desk.specs.declared.desk.Desk.{Desk}
-use Rattle.dsql_desk.specs.Calls.{nobody, row_at}
+use Rattle.dsql_calls.specs.Calls.{nobody, row_at}
 use Rattle.dsql_desk.specs.Desk.{past, Stands}
 
 pub call_kept : (d : Desk) (n : ℕ) → Stands d → (row_at d.calls.items n).call ≡ call_record (past d) n

@@ -17,10 +17,12 @@ use Rattle.dsql_history.specs.Readers.HandedOut.{live, over}
 use Rattle.dsql_history.specs.Readers.Journals.{heard_in}
 use Rattle.dsql_history.specs.Readers.Pool.{place, home}
 use Rattle.dsql_history.specs.Rules.Line.{asked_by, is_reset_due, line_at, line_of, due_in, rest_with}
-use Rattle.dsql_desk.specs.Lines.{IsKept, line_told, lent_at, lent_to, line_on, rows_worked, or_itself, due_over}
+use Rattle.dsql_desk.specs.Lines.{IsKept, lent_at, lent_to, line_on, or_itself, due_over}
+use Rattle.dsql_exchanged.specs.Lines.{line_told}
+use Rattle.dsql_calls.specs.Calls.{rows_worked}
 use Rattle.dsql_history.specs.Legal.{Lawful}
 use Rattle.dsql_desk.proofs.HeardThere.{kept_lent}
-use Rattle.dsql_desk.proofs.Sent.{told_as_heard}
+use Rattle.dsql_exchanged.proofs.Sent.{told_as_heard}
 
 lent_here : (H : List Event) (n : ℕ) (wish : Wish) (c : ℕ) (p : Option Place) → IsKept H → place H c ≡ p → line_at H n wish c p ≡ line_on H n wish (lent_at n c p)
 lent_here H n wish c None kept is = refl

@@ -1,11 +1,6 @@
 pub mod Moves
-pub mod MovesMade
 pub mod Present
 pub mod Asking
-pub mod Beside
-pub mod Closing
-pub mod Labelled
-pub mod CallRows
 pub mod Enders
 pub mod EndedRows
 pub mod Known
@@ -14,13 +9,11 @@ pub mod Falling
 pub mod Untried
 pub mod Kept
 pub mod HouseCalls
-pub mod Fetched
 pub mod OtherEvents
 pub mod Settled
 pub mod KeptOfCalls
 pub mod RowsKept
 pub mod FewCalls
-pub mod Sent
 pub mod HeardThere
 pub mod Lent
 pub mod Told

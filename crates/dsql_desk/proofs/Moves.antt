@@ -1,7 +1,6 @@
--- What moves of the pool leave as it is, and how they are added.
-use Rattle.std.proofs.Common.{◌≡◌, ℕ, ◌+◌, ◌≤◌, ◌<◌, List, [], ◌∷◌, ◌++◌, length, take, get_or, refl, sym, ap, ◌∙◌, arith}
+-- What moves of the pool leave as it is.
+use Rattle.std.proofs.Common.{◌≡◌, ◌≤◌, List, [], ◌∷◌, length, refl, ap, ◌∙◌, arith}
 use Rattle.std.specs.Prelude.{ℤ}
-use Rattle.std.proofs.lemmas.List.{take_more}
 use Rattle.dsql_pool.specs.declared.moves.Move.{Move}
 use Rattle.dsql_pool.specs.declared.moves.Move.TheVariants.{OpenStart, Lend, Back, CloseStart, Gone, Fell}
 use Rattle.dsql_pool.specs.Pooled.{Pooled}
@@ -19,17 +18,7 @@ use Rattle.dsql_history.specs.Readers.Works.{works}
 use Rattle.dsql_history.specs.Legal.{Calm}
 use Rattle.dsql_laws.specs.OwedMade.{with_moves}
 use Rattle.dsql_desk.specs.Made.{all_made}
-use Rattle.dsql_desk.specs.Moves.{lent_by, lent_by_all}
-
-with_moves-append : (ms ns : List Move) (H : List Event) → with_moves (ms ++ ns) H ≡ with_moves ns (with_moves ms H)
-with_moves-append [] ns H = refl
-with_moves-append (m ∷ ms) ns H = with_moves-append ms ns (Pool m ∷ H)
-
--- one move more
-pub one_more : (ms : List Move) (i : ℕ) (m d : Move) (H : List Event) → i < length ms → get_or ms i d ≡ m → with_moves (take (i + 1) ms) H ≡ Pool m ∷ with_moves (take i ms) H
-one_more ms i m d H within is =
-    let more : take (i + 1) ms ≡ take i ms ++ m ∷ [] = take_more ms i d within ∙ ap (λ (n : Move). take i ms ++ n ∷ []) is in
-    ap (λ ns. with_moves ns H) more ∙ with_moves-append (take i ms) (m ∷ []) H
+use Rattle.dsql_exchanged.specs.Moves.{lent_by, lent_by_all}
 
 -- what moves leave
 pub record Leaves (H K : List Event) : Type 0 where
@@ -94,7 +83,3 @@ few_drawn (Ticked now ∷ H) = let few = few_drawn H in let same = drawn_control
 few_drawn (SetLimit s n ∷ H) = let few = few_drawn H in let same = drawn_control (Set s n) (pool H) in omega (arith, few, same)
 few_drawn (Replied n reply ∷ H) = let few = few_drawn H in omega (arith, few)
 few_drawn (Ended ∷ H) = let few = few_drawn H in omega (arith, few)
-
--- one move more is noted
-pub next_noted : (ms : List Move) (i : ℕ) (d : Move) (K N H : List Event) → i < length ms → K ≡ with_moves (take i ms) H → N ≡ Pool (get_or ms i d) ∷ K → N ≡ with_moves (take (i + 1) ms) H
-next_noted ms i d K N H within so_far next = next ∙ ap (λ (L : List Event). Pool (get_or ms i d) ∷ L) so_far ∙ sym (one_more ms i (get_or ms i d) d H within refl)

@@ -11,9 +11,9 @@ use Rattle.dsql_history.specs.Readers.Course.{caps, has_ended}
 use Rattle.dsql_history.specs.Readers.HandedOut.{handed_out}
 use Rattle.dsql_history.specs.Readers.Unfinished.{unfinished}
 use Rattle.dsql_history.specs.Readers.Works.{works}
-use Rattle.dsql_desk.specs.declared.call.CallRow.{CallRow}
+use Rattle.dsql_calls.specs.declared.call.CallRow.{CallRow}
 use Rattle.dsql_desk.specs.Adding.{is_beside}
-use Rattle.dsql_desk.specs.Calls.{KeepsCalls}
+use Rattle.dsql_calls.specs.Calls.{KeepsCalls}
 use Rattle.dsql_desk.specs.Made.{all_made}
 use Rattle.dsql_desk.proofs.Enders.{ender_of_none}
 

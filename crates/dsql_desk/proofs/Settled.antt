@@ -17,9 +17,9 @@ use Rattle.dsql_history.specs.Readers.HandedOut.{over, rows_by}
 use Rattle.dsql_history.specs.Readers.Tries.{tries}
 use Rattle.dsql_history.specs.Readers.Unfinished.{is_unfinished}
 use Rattle.dsql_history.specs.Readers.Works.{work}
-use Rattle.dsql_desk.specs.declared.call.CallRow.{CallRow}
-use Rattle.dsql_desk.specs.Calls.{KeepsCalls, newest, row_at}
-use Rattle.dsql_desk.specs.Settling.{settled_in, told_beside, told_trying}
+use Rattle.dsql_calls.specs.declared.call.CallRow.{CallRow}
+use Rattle.dsql_calls.specs.Calls.{KeepsCalls, newest, row_at}
+use Rattle.dsql_calls.specs.Settling.{settled_in, told_beside, told_trying}
 use Rattle.dsql_desk.proofs.Kept.{row_call, row_work}
 
 trying_as : (H : List Event) (ts : List Try) → told_trying (db_end H) (newest ts) ≡ told_by_tries H ts

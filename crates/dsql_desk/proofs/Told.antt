@@ -22,10 +22,10 @@ use Rattle.dsql_history.specs.Readers.Works.{is_fetch}
 use Rattle.dsql_history.specs.Rules.Line.{due_for}
 use Rattle.dsql_history.specs.Rules.Stands.{stands, opens, stand, is_waiting}
 use Rattle.dsql_desk.specs.declared.desk.Desk.{Desk}
-use Rattle.dsql_desk.specs.Calls.{newest, row_at}
+use Rattle.dsql_calls.specs.Calls.{newest, row_at}
 use Rattle.dsql_desk.specs.Desk.{past, Stands}
-use Rattle.dsql_desk.specs.Lines.{rows_worked}
-use Rattle.dsql_desk.specs.Settling.{told_trying}
+use Rattle.dsql_calls.specs.Calls.{rows_worked}
+use Rattle.dsql_calls.specs.Settling.{told_trying}
 
 -- others have settled what call n replies, which works on these rows or else asks for a connection
 abbrev pub is_told_over : List Event → ℕ → Bool → Bool → Option ℕ → Bool

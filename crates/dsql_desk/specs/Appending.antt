@@ -2,8 +2,6 @@
 use Rattle.std.specs.Prelude.{ℕ, Bool, true, false, ◌≡◌, ◌<◌, ◌≤◌, ◌+◌, List, [], ◌∷◌, length, Option, Some, None, Result, Ok}
 use Rattle.dsql_journal.specs.declared.entry.Owner.TheVariants.{Call}
 use Rattle.dsql_work.specs.Limits.{most_within_a_step}
-use Rattle.dsql_pool.specs.declared.conn.Place.{Place}
-use Rattle.dsql_pool.specs.declared.conn.Place.TheVariants.{Opening, Closing}
 use Rattle.dsql_pool.specs.declared.moves.Fate.{Fate}
 use Rattle.dsql_pool.specs.declared.moves.Move.TheVariants.{OpenStart, Lend}
 use Rattle.dsql_pool.specs.declared.request.Asked.{Asked}
@@ -23,7 +21,7 @@ use Rattle.dsql_laws.specs.Leaving.{MayLeave}
 use Rattle.dsql_laws.specs.OwedMade.{with_moves}
 use Rattle.dsql_desk.specs.declared.desk.Desk.{Desk}
 use Rattle.dsql_desk.specs.Desk.{past, Stands}
-use Rattle.dsql_desk.specs.Settling.{reply_or}
+use Rattle.dsql_calls.specs.Settling.{reply_or}
 
 -- the event may come next, and there is memory for it and for the moves that it makes due
 pub record MayAppend (desk : Desk) (event : Event) : Type 0 where
@@ -82,12 +80,6 @@ event_asked n _ = None
 -- what call n is to be replied, where that is settled
 abbrev pub reply_now : List Event → ℕ → Reply
 reply_now past n = reply_or (reply_due past n)
-
--- it is being opened or closed
-abbrev pub is_under_way : Option Place → Bool
-is_under_way (Some (Opening wanted)) = true
-is_under_way (Some Closing) = true
-is_under_way _ = false
 
 -- the operation closes the database
 abbrev pub is_close : Op → Bool

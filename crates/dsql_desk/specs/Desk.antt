@@ -11,7 +11,7 @@ use Rattle.dsql_history.specs.Readers.Pool as pools
 use Rattle.dsql_history.specs.Readers.Unfinished as left
 use Rattle.dsql_history.specs.Readers.Works as kinds
 use Rattle.dsql_history.specs.Legal.{Lawful, Calm}
-use Rattle.dsql_desk.specs.Calls.{KeepsCalls}
+use Rattle.dsql_calls.specs.Calls.{KeepsCalls}
 use Rattle.dsql_desk.specs.Made as lines
 use Rattle.dsql_desk.specs.declared.desk.Desk.{Desk}
 

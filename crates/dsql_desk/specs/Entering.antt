@@ -1,5 +1,5 @@
 -- What a call that enters is checked for, and the rows that it is for.
-use Rattle.std.specs.Prelude.{◌≡◌, ℕ, ◌==◌, cond, Bool, true, false, List, [], string_bytes, Option, None, option_map}
+use Rattle.std.specs.Prelude.{◌≡◌, ℕ, ◌==◌, cond, Bool, true, false, List, string_bytes, None, option_map}
 use Rattle.dsql_value.specs.declared.arg.Named.{Named}
 use Rattle.dsql_value.specs.Arguments.{first_fault}
 use Rattle.dsql_course.specs.Made.{or_else}
@@ -10,22 +10,14 @@ use Rattle.dsql_work.specs.Works.{maker}
 use Rattle.dsql_history.specs.declared.event.Event.{Event}
 use Rattle.dsql_history.specs.declared.event.Op.{Op}
 use Rattle.dsql_history.specs.declared.event.Op.TheVariants.{Query}
-use Rattle.dsql_history.specs.declared.reply.Reply.{Reply}
 use Rattle.dsql_history.specs.declared.reply.Reply.TheVariants.{DbClosed}
 use Rattle.dsql_history.specs.Readers.Calls.{told_of}
 use Rattle.dsql_history.specs.Readers.Course.{caps, db_end}
 use Rattle.dsql_history.specs.Readers.HandedOut.{handed_out, rows_by}
 use Rattle.dsql_history.specs.Readers.Unfinished.{is_unfinished}
 use Rattle.dsql_history.specs.Readers.Works.{works}
-use Rattle.dsql_desk.specs.declared.call.CallStart.{CallStart}
-use Rattle.dsql_desk.specs.declared.entering.Checked.{Checked}
-use Rattle.dsql_desk.specs.Starts.{label_made}
-
--- a text with its arguments, and the reply where one of them is refused
-pub record IsChecked (named_ok : Bool) (text : List ℕ) (args : List Named) (it : Checked) : Type 0 where
-  pub same : it.text ≡ text
-  pub params : it.params ≡ accepted (first_fault named_ok args) args
-  pub refused : it.refused ≡ told_of (first_fault named_ok args)
+use Rattle.dsql_calls.specs.declared.call.CallStart.{CallStart}
+use Rattle.dsql_telling.specs.Starts.{label_made}
 
 -- a call that runs a text: a closed database lends to nobody
 pub record StartsText (past : List Event) (text : List ℕ) (args : List Named) (work : Work) (it : CallStart) : Type 0 where
@@ -35,15 +27,6 @@ pub record StartsText (past : List Event) (text : List ℕ) (args : List Named) 
   pub decided : it.decided ≡ or_else (option_map DbClosed (db_end past)) (told_of (first_fault (caps past).named args))
   pub label : option_map string_bytes it.label ≡ label_made work
   pub closes : it.closes ≡ None
-
--- a call that works on rows
-pub record StartsOver (work : Work) (closes : Option ℕ) (decided : Option Reply) (it : CallStart) : Type 0 where
-  pub work_is : it.work ≡ work
-  pub text : it.text ≡ []
-  pub params : it.params ≡ []
-  pub decided_so : it.decided ≡ decided
-  pub label : it.label ≡ None
-  pub closes_so : it.closes ≡ closes
 
 -- the rows of call k have the label, and it has replied
 pub record IsNamed (past : List Event) (label : List ℕ) (k : ℕ) : Type 0 where

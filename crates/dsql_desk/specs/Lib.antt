@@ -1,10 +1,4 @@
-pub mod Exchanged
 pub mod Made
-pub mod Calls
-pub mod Moves
-pub mod Heard
-pub mod Starts
-pub mod Settling
 pub mod Desk
 pub mod Adding
 pub mod Appending

@@ -3,8 +3,8 @@ use Rattle.std.specs.Prelude.{ℕ, List, [], ◌∷◌, ◌++◌, slice_set, sli
 use Rattle.dsql_pool.specs.declared.moves.Move.TheVariants.{OpenStart, Lend}
 use Rattle.dsql_history.specs.declared.event.Event.{Event}
 use Rattle.dsql_history.specs.declared.event.Event.TheVariants.{Heard, Pool}
-use Rattle.dsql_desk.specs.declared.exchanged.Exchanged.{Exchanged}
-use Rattle.dsql_desk.specs.Exchanged.{unheard, then_heard}
+use Rattle.dsql_exchanged.specs.declared.exchanged.Exchanged.{Exchanged}
+use Rattle.dsql_exchanged.specs.Exchanged.{unheard, then_heard}
 
 -- by the number of the connection
 abbrev pub all_made : List Event → List Exchanged

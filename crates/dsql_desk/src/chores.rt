@@ -5,10 +5,10 @@ ghost use Rattle.dsql_history.specs.Readers.Pool.{pool};
 ghost use Rattle.dsql_history.specs.Rules.House.{chore_due, connect_due, is_untidy, shut_due, tidy_due};
 
 use crate::desk::Desk;
-use crate::places;
 use dsql_history::Place;
 use dsql_journal::Owner;
 use dsql_pool::Conn;
+use dsql_pooling::places;
 
 #[tactic(auto, unfolding(crate::specs::Desk::Stands))]
 impl Desk {

@@ -1,14 +1,13 @@
 //! What is kept of the present: that of a run that begins, and its room.
 ghost use Rattle.std.specs.Prelude.{◌≡◌, ◌∷◌, [], IfOk, OnOk};
-ghost use Rattle.dsql_desk.specs.Calls.{nobody};
+ghost use Rattle.dsql_calls.specs.Calls.{nobody};
 ghost use Rattle.dsql_desk.specs.Desk.{past, Stands};
 ghost use Rattle.dsql_history.specs.Rules.Settled.{Settled};
 ghost use Rattle.dsql_history.specs.declared.event.Event.TheVariants.{Run};
 
-use crate::call::CallRow;
-use crate::exchanged::Exchanged;
-use crate::no_room::NoRoom;
+use dsql_calls::{CallRow, NoRoom};
 use dsql_driver::Caps;
+use dsql_exchanged::Exchanged;
 use dsql_history::{CallRecord, DbEnd, Event, Work};
 use dsql_pool::Pool;
 use dsql_rows::RowsTable;

@@ -1,34 +1,24 @@
 //! What is kept of a call that enters.
-ghost use Rattle.std.specs.Option.{option_copied};
-ghost use Rattle.std.specs.Prelude.{◌≡◌, ◌<◌, Some, Err, IfOk, IfSome, IfNone, true, length, string_bytes, option_map};
+ghost use Rattle.std.specs.Prelude.{◌≡◌, ◌<◌, Some, IfOk, IfSome, IfNone, true, length, string_bytes, option_map};
 ghost use Rattle.dsql_work.specs.Limits.{most_within_a_step};
 ghost use Rattle.dsql_desk.specs.Desk.{past, Stands};
-ghost use Rattle.dsql_desk.specs.Entering.{IsChecked, IsNamed, NoneNamed, names_fit, StartsOver, StartsText};
-ghost use Rattle.dsql_desk.specs.Starts.{Starts, label_made};
-ghost use Rattle.dsql_history.specs.Readers.Calls.{fault_reply, refused_with, scan_reply, told_at_entry, told_row};
+ghost use Rattle.dsql_desk.specs.Entering.{IsNamed, NoneNamed, names_fit, StartsText};
+ghost use Rattle.dsql_telling.specs.Starts.{Starts, label_made};
+ghost use Rattle.dsql_history.specs.Readers.Calls.{scan_reply, told_at_entry};
 ghost use Rattle.dsql_history.specs.Readers.HandedOut.{handed_out};
 ghost use Rattle.dsql_history.specs.Readers.Works.{works};
 ghost use Rattle.dsql_history.specs.declared.event.Op.TheVariants as ops;
 ghost use Rattle.dsql_work.specs.Works.{maker};
 ghost use Rattle.dsql_rows.specs.OpenRows.{rows_of, scan_of, was_made};
 
-use crate::call::CallStart;
-use crate::deciding::row_fault;
 use crate::desk::Desk;
-use crate::no_room::NoRoom;
+use dsql_calls::{CallStart, NoRoom};
 use dsql_history::{Op, Reply, Work};
-use dsql_rows::{RowsEnd, RowsFault};
-use dsql_scan::{Dest, RowFault};
-use dsql_value::{ArgFault, Args, Items, Params, Txt, check_args};
+use dsql_rows::RowsFault;
+use dsql_scan::Dest;
+use dsql_telling::starting::{Checked, accept, fault_reply, over_rows, scan_fault};
+use dsql_value::{Args, Txt};
 use std::alloc::Global;
-
-/// A text with its arguments, and the reply where one of them is refused.
-#[derive(Drop)]
-pub struct Checked {
-    pub text: Txt,
-    pub params: Params,
-    pub refused: Option<Reply>,
-}
 
 #[tactic(auto, unfolding(crate::specs::Desk::Stands))]
 impl Desk {
@@ -211,76 +201,4 @@ impl Desk {
             Err(RowsFault::Memory) => Err(NoRoom),
         }
     }
-}
-
-/// A call that runs no text of its own.
-fn over_rows(
-    alloc: Global,
-    work: Work,
-    closes: Option<u32>,
-    decided: Option<Reply>,
-) -> Result<CallStart, NoRoom>
-    ensures { IfOk result (λ it. StartsOver work closes decided it) }
-{
-    Ok(CallStart {
-        work,
-        text: Txt::copy_of(alloc, "")?,
-        params: Items::none(alloc),
-        label: None,
-        closes,
-        decided,
-    })
-}
-
-/// A text with arguments, over a driver that takes names or doesn't.
-fn accept(alloc: Global, named_ok: bool, text: &Txt, args: &Args) -> Result<Checked, NoRoom>
-    ensures { IfOk result (λ it. IsChecked named_ok text.now args.now it) }
-{
-    let text = text.copy()?;
-    match check_args(alloc, -1, named_ok, args.as_slice()) {
-        Ok(params) => Ok(Checked {
-            text,
-            params,
-            refused: None,
-        }),
-        Err(fault) => {
-            let refused = Some(refusal(fault)?);
-            Ok(Checked {
-                text,
-                params: Items::none(alloc),
-                refused,
-            })
-        }
-    }
-}
-
-/// The reply that a refusal of arguments gives.
-fn refusal(fault: ArgFault) -> Result<Reply, NoRoom>
-    ensures reply { IfOk result (λ reply. refused_with fault ≡ Some reply) }
-{
-    match fault {
-        ArgFault::HighBit(number) => Ok(Reply::HighBit(number)),
-        ArgFault::NumArgs { want, got } => Ok(Reply::NumArgs { want, got }),
-        ArgFault::NamedRefused(name) => Ok(Reply::NamedRefused(name)),
-        ArgFault::BadName(name) => Ok(Reply::BadName(name)),
-        ArgFault::Memory => Err(NoRoom),
-    }
-}
-
-/// What rows tell of the fault that ended them, if one did.
-fn fault_reply(ended: Option<&RowsEnd>) -> Result<Reply, NoRoom>
-    ensures { IfOk result (λ reply. reply ≡ fault_reply (option_copied ended.entry)) }
-{
-    match ended {
-        Some(RowsEnd::Failed(text)) => Ok(Reply::Driver(text.copy()?)),
-        Some(RowsEnd::BadConn) => Ok(Reply::BadConn(1)),
-        _ => Ok(Reply::Ok),
-    }
-}
-
-/// What is replied where a row isn't scanned.
-fn scan_fault(fault: RowFault) -> Result<Reply, NoRoom>
-    ensures { IfOk result (λ reply. told_row (Err fault) ≡ Some reply) }
-{
-    row_fault(fault)?.ok_or(NoRoom)
 }

@@ -4,8 +4,8 @@ ghost use Rattle.std.specs.Prelude.{◌≡◌, ◌+◌, ◌∷◌, true, false, 
 ghost use Rattle.dsql_desk.specs.Adding.{opens_or_shuts};
 ghost use Rattle.dsql_desk.specs.Appending.{MayAppend, MayAskNow, MayGiveBack, Asks, event_asked, Appends, GivesBack, Makes, is_close, reply_now};
 ghost use Rattle.dsql_desk.specs.Desk.{past, Stands, Owes};
-ghost use Rattle.dsql_desk.specs.Heard.{Decides, HearsRows};
-ghost use Rattle.dsql_desk.specs.Starts.{Starts};
+ghost use Rattle.dsql_telling.specs.Heard.{Decides, HearsRows};
+ghost use Rattle.dsql_telling.specs.Starts.{Starts};
 ghost use Rattle.dsql_history.specs.Readers.Calls.{reply_due};
 ghost use Rattle.dsql_history.specs.Readers.Controls.{told, told_after};
 ghost use Rattle.dsql_history.specs.Readers.HandedOut.{handed_out};
@@ -15,13 +15,14 @@ ghost use Rattle.dsql_history.specs.Rules.Asking.{ask_outcome};
 ghost use Rattle.dsql_history.specs.Rules.Settled.{Settled};
 ghost use Rattle.dsql_history.specs.declared.event.Op.{Op};
 
-use crate::call::CallStart;
 use crate::desk::Desk;
-use crate::pooling::{answer, ask, close, control_pool, give_back};
+use dsql_calls::CallStart;
+use dsql_calls::settling::first_end;
 use dsql_driver::{DriverAnswer, DriverCall};
 use dsql_history::{Control, DbEnd, Event, Op, Reply};
 use dsql_journal::{Entry, Owner};
 use dsql_pool::{AskFault, Asked, Fate, Move};
+use dsql_pooling::pooling::{answer, ask, close, control_pool, give_back};
 
 #[tactic(auto, unfolding(crate::specs::Desk::Stands, crate::specs::Desk::Owes, dsql_history::specs::Legal::Allowed))]
 impl Desk {
@@ -55,9 +56,7 @@ impl Desk {
         ensures event { past self.new ≡ Event.Entered client call Op.DbClose ∷ past self.old }
     {
         self.add_call(call, client, Op::DbClose, start);
-        if self.closed_by.is_none() {
-            self.closed_by = Some(DbEnd::Close);
-        }
+        self.closed_by = first_end(self.closed_by, DbEnd::Close);
         close(&mut self.pool);
     }
 
@@ -188,9 +187,7 @@ impl Desk {
         ensures event { past self.new ≡ Event.Ended ∷ past self.old }
     {
         self.add_end();
-        if self.closed_by.is_none() {
-            self.closed_by = Some(DbEnd::EndOfRun);
-        }
+        self.closed_by = first_end(self.closed_by, DbEnd::EndOfRun);
         close(&mut self.pool);
     }
 

@@ -2,7 +2,7 @@
 ghost use Rattle.std.specs.Prelude.{◌≡◌, ◌<◌, ◌==◌, is_some, length, find, IfOk};
 ghost use Rattle.dsql_work.specs.Limits.{most_within_a_step};
 ghost use Rattle.dsql_desk.specs.Desk.{past, Stands};
-ghost use Rattle.dsql_desk.specs.Lines.{rows_worked};
+ghost use Rattle.dsql_calls.specs.Calls.{rows_worked};
 ghost use Rattle.dsql_desk.specs.Statements.{statement_of};
 ghost use Rattle.dsql_history.specs.Readers.Calls.{call_record, decided, is_busy, next_call, site, user};
 ghost use Rattle.dsql_history.specs.Readers.Clients.{call_of, client_of};
@@ -19,9 +19,10 @@ ghost use Rattle.dsql_pool.specs.Pooled.{next_tenure};
 ghost use Rattle.dsql_wait.specs.Requests.{waits};
 
 use crate::desk::Desk;
-use crate::statement::Statement;
-use crate::{places, row};
+use dsql_calls::row;
+use dsql_exchanged::Statement;
 use dsql_history::{Aim, Control, Place};
+use dsql_pooling::places;
 use dsql_value::{Items, Memory, Txt};
 use std::alloc::Global;
 

@@ -10,16 +10,14 @@ ghost use Rattle.dsql_history.specs.Readers.Works.{work};
 ghost use Rattle.dsql_history.specs.Rules.Line.{due_for, is_reset_due, is_used, line_of, sent_for, tidying, wish};
 ghost use Rattle.dsql_work.specs.Works.{asks};
 
-use crate::course::Line;
 use crate::desk::Desk;
-use crate::exchanged::Exchanged;
-use crate::statement::Statement;
 use dsql_course::Wish;
 use dsql_driver::DriverCall;
+use dsql_exchanged::{Exchanged, Line, Statement};
 use dsql_history::Place;
 use dsql_journal::Owner;
 
-#[tactic(auto, using(crate::proofs::Lent::line_lent, crate::proofs::Lent::due_by_kind, crate::proofs::Lent::user_by_kind, crate::proofs::Sent::next_is_sent, crate::proofs::Lent::used_by_rows), unfolding(crate::specs::Desk::Stands))]
+#[tactic(auto, using(crate::proofs::Lent::line_lent, crate::proofs::Lent::due_by_kind, crate::proofs::Lent::user_by_kind, dsql_exchanged::proofs::Sent::next_is_sent, crate::proofs::Lent::used_by_rows), unfolding(crate::specs::Desk::Stands))]
 impl Desk {
     /// Whether a driver call of a call is due.
     pub fn is_due(&self, call: u32) -> bool

@@ -1,16 +1,24 @@
 //! Where an unfinished call is, and what others have settled for it.
-ghost use Rattle.std.specs.Prelude.{◌≡◌, true, is_some};
+ghost use Rattle.std.specs.Prelude.{◌≡◌, ◌&&◌, true, not, is_none, is_some};
 ghost use Rattle.std.specs.List.{list_all};
 ghost use Rattle.dsql_desk.specs.Desk.{past, Stands};
-ghost use Rattle.dsql_history.specs.Readers.Calls.{reply_due, told_by_others, told_by_tries};
+ghost use Rattle.dsql_course.specs.Made.{or_else};
+ghost use Rattle.dsql_pool.specs.Calls.{wants};
+ghost use Rattle.dsql_work.specs.Works.{asks};
+ghost use Rattle.dsql_history.specs.declared.record.Stand.TheVariants.{Sends, Replies};
+ghost use Rattle.dsql_history.specs.Readers.Calls.{decided, reply_due, site, told_by_others, told_by_tries};
+ghost use Rattle.dsql_history.specs.Readers.Pool.{pool};
 ghost use Rattle.dsql_history.specs.Readers.Tries.{has_a_try, tries};
 ghost use Rattle.dsql_history.specs.Readers.Unfinished.{is_unfinished, unfinished};
+ghost use Rattle.dsql_history.specs.Readers.Works.{work};
 ghost use Rattle.dsql_history.specs.Rules.Asking.{may_ask};
 ghost use Rattle.dsql_history.specs.Rules.House.{is_quiet};
-ghost use Rattle.dsql_history.specs.Rules.Stands.{is_waiting, stand};
+ghost use Rattle.dsql_history.specs.Rules.Line.{due_for};
+ghost use Rattle.dsql_history.specs.Rules.Stands.{is_waiting, stand, stands};
 
 use crate::desk::Desk;
-use crate::row;
+use dsql_calls::row;
+use dsql_calls::standing::waits_or_opens;
 use dsql_history::Stand;
 
 #[tactic(auto, using(crate::proofs::Told::told_by_kind, crate::proofs::Told::told_kept, crate::proofs::Told::try_kept, crate::proofs::Told::either_some, crate::proofs::Told::waiting_only), unfolding(crate::specs::Desk::Stands))]
@@ -21,12 +29,18 @@ impl Desk {
         requires unfinished { is_unfinished (past self.now) call ≡ true }
         ensures { result ≡ stand (past self.now) call }
     {
-        if self.waits(call) {
-            return Some(Stand::Waits);
+        match waits_or_opens(self.waits(call), self.opening_for(call)) {
+            Some(stand) => Some(stand),
+            None => self.sends_or_replies(call),
         }
-        if let Some(conn) = self.opening_for(call) {
-            return Some(Stand::Opens(conn));
-        }
+    }
+
+    /// Where an unfinished call is that doesn't wait, and for which no connection is being opened.
+    fn sends_or_replies(&self, call: u32) -> Option<Stand>
+        requires stands { Stands self.now }
+        requires unfinished { is_unfinished (past self.now) call ≡ true }
+        ensures { result ≡ or_else (stands (is_some (due_for (past self.now) call)) (Sends (site (past self.now) call))) (stands (is_none (decided (past self.now) call) && is_some (told_by_others (past self.now) call)) Replies) }
+    {
         if self.is_due(call) {
             return Some(Stand::Sends(self.site(call)));
         }
@@ -52,11 +66,7 @@ impl Desk {
         requires { Stands self.now }
         ensures { result ≡ may_ask (past self.now) call }
     {
-        self.is_unfinished(call)
-            && self.asks(call)
-            && self.has_a_try(call)
-            && !self.pool.wants(call)
-            && !self.is_settled(call)
+        self.is_unfinished(call) && self.is_to_ask(call) && !self.is_settled(call)
     }
 
     /// Whether every call has its reply or waits, and there is no chore.
@@ -103,12 +113,12 @@ impl Desk {
         row::is_told_trying(&self.calls, call, self.closed_by)
     }
 
-    /// Whether another try is left to an unfinished call.
-    fn has_a_try(&self, call: u32) -> bool
+    /// Whether an unfinished call asks for a connection, and has a try left for that.
+    fn is_to_ask(&self, call: u32) -> bool
         requires stands { Stands self.now }
         requires unfinished { is_unfinished (past self.now) call ≡ true }
-        ensures { result ≡ has_a_try (tries (past self.now) call) }
+        ensures { result ≡ (asks (work (past self.now) call) && (has_a_try (tries (past self.now) call) && not (wants call (pool (past self.now))))) }
     {
-        row::is_untried(&self.calls, call)
+        row::is_to_ask(&self.calls, call, self.pool.wants(call))
     }
 }

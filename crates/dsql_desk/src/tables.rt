@@ -2,26 +2,26 @@
 ghost use Rattle.std.specs.Prelude.{◌≡◌, true, false, is_some};
 ghost use Rattle.dsql_desk.specs.Adding.{MayAdd, Adds, MayAddMoves, AddsMoves, is_beside, is_refusal, opens_or_shuts};
 ghost use Rattle.dsql_desk.specs.Desk.{past};
-ghost use Rattle.dsql_desk.specs.Heard.{Decides, HearsRows};
-ghost use Rattle.dsql_desk.specs.Settling.{reply_or, settled_in};
-ghost use Rattle.dsql_desk.specs.Calls.{row_at};
-ghost use Rattle.dsql_desk.specs.Starts.{Starts};
+ghost use Rattle.dsql_telling.specs.Heard.{Decides, HearsRows};
+ghost use Rattle.dsql_calls.specs.Settling.{reply_or, settled_in};
+ghost use Rattle.dsql_calls.specs.Calls.{row_at};
+ghost use Rattle.dsql_telling.specs.Starts.{Starts};
 ghost use Rattle.dsql_history.specs.Readers.HandedOut.{handed_out};
 ghost use Rattle.dsql_history.specs.Readers.Works.{work};
 
-use crate::call::{CallRow, CallStart};
 use crate::desk::Desk;
-use crate::exchanges::{note_all_lent, note_exchange, note_lent};
-use crate::labels::note_label;
-use crate::rows::close_rows;
-use crate::settling::{forget, take_reply};
-use crate::telling::tell_answer;
-use crate::tries::{note_tries, note_try};
-use crate::writes::{note, note_moves, put, take_out};
+use dsql_calls::settling::{forget, take_reply};
+use dsql_calls::tries::{note_tries, note_try};
+use dsql_calls::writes::{note, note_moves, put, take_out};
+use dsql_calls::{CallRow, CallStart};
 use dsql_driver::DriverAnswer;
+use dsql_exchanged::exchanges::{note_all_lent, note_exchange, note_lent};
 use dsql_history::{CallRecord, Event, Op, Reply};
 use dsql_journal::Entry;
 use dsql_pool::Move;
+use dsql_telling::labels::note_label;
+use dsql_telling::rows::close_rows;
+use dsql_telling::tell_answer;
 
 #[tactic(auto)]
 impl Desk {

@@ -1,7 +1,7 @@
 -- What a call that enters may have to send.
 use Rattle.std.proofs.Common.{◌≡◌, ◌≢◌, ℕ, ◌<◌, ◌≤◌, List, ◌∷◌, length, ◌⊎◌, inl, inr, IfOk, Ok, Err, refl, sym, ap, ◌∙◌, arith}
 use Rattle.std.specs.Prelude.{Result}
-use Rattle.dsql_desk.specs.declared.no_room.NoRoom.{NoRoom}
+use Rattle.dsql_calls.specs.declared.no_room.NoRoom.{NoRoom}
 use Rattle.dsql_value.specs.declared.value.Param.{Param}
 use Rattle.dsql_work.specs.declared.work.Work.{Work}
 use Rattle.dsql_work.specs.declared.work.Work.TheVariants.{Execute, ReadOne, HandOut, Fetch, Close, Look}
@@ -17,9 +17,9 @@ use Rattle.dsql_history.specs.Readers.Calls.{call_record, entering, next_call, u
 use Rattle.dsql_history.specs.Readers.Works.{work, work_of, works}
 use Rattle.dsql_call_laws.proofs.Works.{as_many, new_record, new_work, old_record, old_work}
 use Rattle.dsql_heard_laws.proofs.Rows.{fetches_old, some_works}
-use Rattle.dsql_desk.specs.declared.call.CallStart.{CallStart}
-use Rattle.dsql_desk.specs.declared.statement.Statement.{Statement}
-use Rattle.dsql_desk.specs.Starts.{Starts}
+use Rattle.dsql_calls.specs.declared.call.CallStart.{CallStart}
+use Rattle.dsql_exchanged.specs.declared.statement.Statement.{Statement}
+use Rattle.dsql_telling.specs.Starts.{Starts}
 use Rattle.dsql_desk.specs.Statements.{statement_of}
 use Rattle.dsql_entering.specs.Entering.{IsSentBy, own_statement}
 

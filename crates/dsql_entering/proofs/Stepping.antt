@@ -35,7 +35,7 @@ use Rattle.dsql_desk.proofs.Known.{unfinished_known}
 use Rattle.dsql_desk.proofs.KeptOfCalls.{lawful_kept}
 use Rattle.dsql_going.specs.Reaching.{CanPay, MayGoOn}
 use Rattle.dsql_going.specs.Stepping.{are_of_unfinished, events_of_a_step, MayStep}
-use Rattle.dsql_desk.specs.declared.statement.Statement.{Statement}
+use Rattle.dsql_exchanged.specs.declared.statement.Statement.{Statement}
 use Rattle.dsql_entering.specs.Entering.{IsSentBy}
 use Rattle.dsql_entering.proofs.Settling.{entered_settled, entry_allowed}
 

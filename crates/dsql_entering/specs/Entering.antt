@@ -4,8 +4,8 @@ use Rattle.dsql_history.specs.declared.event.Event.{Event}
 use Rattle.dsql_history.specs.declared.event.Event.TheVariants.{Entered}
 use Rattle.dsql_history.specs.declared.event.Op.{Op}
 use Rattle.dsql_history.specs.Readers.Calls.{next_call, user}
-use Rattle.dsql_desk.specs.declared.call.CallStart.{CallStart}
-use Rattle.dsql_desk.specs.declared.statement.Statement.{Statement}
+use Rattle.dsql_calls.specs.declared.call.CallStart.{CallStart}
+use Rattle.dsql_exchanged.specs.declared.statement.Statement.{Statement}
 use Rattle.dsql_desk.specs.Statements.{statement_of}
 use Rattle.dsql_work.specs.Line.{aim_of}
 

@@ -2,7 +2,7 @@
 ghost use Rattle.std.specs.Prelude.{◌≡◌, ◌≤◌, ◌+◌, false, length, IfOk};
 ghost use Rattle.dsql_desk.specs.Appending.{Appends, MayAppend};
 ghost use Rattle.dsql_desk.specs.Desk.{past, Stands};
-ghost use Rattle.dsql_desk.specs.Starts.{Starts};
+ghost use Rattle.dsql_telling.specs.Starts.{Starts};
 ghost use Rattle.dsql_entering.specs.Entering.{IsSentBy, own_statement};
 ghost use Rattle.dsql_going.specs.Reaching.{CanPay, HasGoneOn, Reaches};
 ghost use Rattle.dsql_going.specs.Stepping.{events_of_a_step, MayStep};

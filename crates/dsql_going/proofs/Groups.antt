@@ -14,7 +14,7 @@ use Rattle.dsql_history.specs.Rules.Line.{due_for}
 use Rattle.dsql_laws.specs.Asked.{with_asked}
 use Rattle.dsql_steps.specs.Groups.{after_asking, after_settling, asked_so, gone_on, sends_nothing}
 use Rattle.dsql_desk.specs.Appending.{reply_now}
-use Rattle.dsql_desk.specs.Settling.{reply_or}
+use Rattle.dsql_calls.specs.Settling.{reply_or}
 
 silent_or_not : (u d : Bool) → d ≡ true → (u && not d) ≡ false
 silent_or_not true true h = refl

@@ -24,7 +24,7 @@ use Rattle.dsql_laws.proofs.Tests.{both, together, same_itself}
 use Rattle.dsql_call_laws.proofs.Lists.{has-without}
 use Rattle.dsql_other_laws.proofs.Untouched.{used_replied, goes_on_replied, or_second}
 use Rattle.dsql_desk.specs.Appending.{reply_now}
-use Rattle.dsql_desk.specs.Settling.{reply_or}
+use Rattle.dsql_calls.specs.Settling.{reply_or}
 use Rattle.dsql_going.specs.Answers.{sends_unless, why_blocked}
 use Rattle.dsql_going.specs.Reaching.{HasGoneOn}
 use Rattle.dsql_going.specs.declared.next.Next.TheVariants as nexts

@@ -28,7 +28,7 @@ use Rattle.dsql_sending_laws.proofs.Following.{whole_when_unused}
 use Rattle.dsql_heard_laws.proofs.Answered.{beside_heard, goes_on_heard, used_heard}
 use Rattle.dsql_move_laws.proofs.Leaves.{given_settles}
 use Rattle.dsql_steps.specs.Groups.{let_go}
-use Rattle.dsql_desk.specs.declared.statement.Statement.{Statement}
+use Rattle.dsql_exchanged.specs.declared.statement.Statement.{Statement}
 use Rattle.dsql_desk.specs.Statements.{statement_of}
 use Rattle.dsql_hearing.specs.Hearing.{lent_to}
 

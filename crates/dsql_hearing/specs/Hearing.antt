@@ -19,7 +19,7 @@ use Rattle.dsql_call_laws.specs.Bounds.{most_given_back}
 use Rattle.dsql_steps.specs.Groups.{let_go}
 use Rattle.dsql_desk.specs.declared.desk.Desk.{Desk}
 use Rattle.dsql_desk.specs.Desk.{past, Stands}
-use Rattle.dsql_desk.specs.Heard.{Decides, HearsRows}
+use Rattle.dsql_telling.specs.Heard.{Decides, HearsRows}
 use Rattle.dsql_desk.specs.Statements.{statement_of}
 use Rattle.dsql_hearing.specs.declared.hear.Hearing.{Hearing}
 

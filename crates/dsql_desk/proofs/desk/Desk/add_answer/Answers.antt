@@ -1,11 +1,11 @@
-use Rattle.std.proofs.Common.{◌≡◌, [], sym, ap, subst, refl, rules, ◌∙◌}
+use Rattle.std.proofs.Common.{◌≡◌, sym, ap, subst, refl, rules, ◌∙◌}
 use Rattle.std.specs.Prelude.{slice_set, slice_index_or}
 use Rattle.dsql_history.specs.Readers.HandedOut.{handed_out, rows_heard}
 use Rattle.dsql_history.specs.Readers.Works.{work}
-use Rattle.dsql_desk.specs.Calls.{row_at}
+use Rattle.dsql_calls.specs.Calls.{row_at}
 use Rattle.dsql_desk.specs.Desk.{past}
-use Rattle.dsql_desk.specs.Exchanged.{unheard, then_heard}
-use Rattle.dsql_desk.specs.Heard.{Decides, HearsRows}
+use Rattle.dsql_exchanged.specs.Exchanged.{unheard, then_heard}
+use Rattle.dsql_telling.specs.Heard.{Decides, HearsRows}
 use Rattle.dsql_desk.proofs.Kept.{answered_keeps, row_work}
 use Rattle.dsql_desk.proofs.desk.Desk.add_answer.Goals as goal
 

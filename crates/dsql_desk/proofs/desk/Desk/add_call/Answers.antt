@@ -4,10 +4,10 @@ use Rattle.indexmap.specs.IndexMap.{get_by_text}
 use Rattle.dsql_work.specs.Works.{has_label}
 use Rattle.dsql_history.specs.Readers.Works.{works, work_of}
 use Rattle.dsql_desk.specs.Desk.{past}
-use Rattle.dsql_desk.specs.Starts.{closed_rows, label_made, labelled}
+use Rattle.dsql_telling.specs.Starts.{closed_rows, label_made, labelled}
 use Rattle.dsql_desk.proofs.Kept.{added_keeps}
 use Rattle.dsql_desk.proofs.Known.{enters_next}
-use Rattle.dsql_desk.proofs.Labelled.{labelled_pushed}
+use Rattle.dsql_telling.proofs.Labelled.{labelled_pushed}
 use Rattle.dsql_desk.proofs.desk.Desk.add_call.Goals as goal
 
 pub returns : goal.returns

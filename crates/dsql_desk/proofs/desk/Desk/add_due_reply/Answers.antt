@@ -1,9 +1,9 @@
 use Rattle.std.proofs.Common.{◌≡◌, ◌∷◌, reverse, sym, ap, subst, refl, rules, ◌∙◌}
 use Rattle.dsql_pool.specs.Pooled.{without}
 use Rattle.dsql_history.specs.declared.event.Event.TheVariants.{Replied}
-use Rattle.dsql_desk.specs.Calls.{KeepsCalls, row_at}
+use Rattle.dsql_calls.specs.Calls.{KeepsCalls, row_at}
 use Rattle.dsql_desk.specs.Desk.{past}
-use Rattle.dsql_desk.specs.Settling.{reply_or, settled_in}
+use Rattle.dsql_calls.specs.Settling.{reply_or, settled_in}
 use Rattle.dsql_desk.proofs.Kept.{replied_keeps}
 use Rattle.dsql_desk.proofs.desk.Desk.add_due_reply.Goals as goal
 

@@ -1,7 +1,7 @@
 use Rattle.std.proofs.Common.{sym, ap, refl, rules, ◌∙◌}
 use Rattle.std.specs.Prelude.{slice_set, slice_index_or}
 use Rattle.dsql_desk.specs.Desk.{past}
-use Rattle.dsql_desk.specs.Exchanged.{unheard, then_heard}
+use Rattle.dsql_exchanged.specs.Exchanged.{unheard, then_heard}
 use Rattle.dsql_desk.proofs.HouseCalls.{house_keeps, house_rows}
 use Rattle.dsql_desk.proofs.desk.Desk.add_house_answer.Goals as goal
 

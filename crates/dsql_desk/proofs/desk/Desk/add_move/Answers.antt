@@ -1,9 +1,9 @@
 use Rattle.std.proofs.Common.{[], ◌∷◌, sym, ap, subst, refl, rules, ◌∙◌}
 use Rattle.dsql_driver.specs.declared.answer.DriverAnswer.TheVariants.{Bad}
 use Rattle.dsql_history.specs.declared.event.Event.TheVariants.{Pool}
-use Rattle.dsql_desk.specs.Calls.{KeepsCalls}
+use Rattle.dsql_calls.specs.Calls.{KeepsCalls}
 use Rattle.dsql_desk.specs.Desk.{past}
-use Rattle.dsql_desk.specs.Moves.{lent_by}
+use Rattle.dsql_exchanged.specs.Moves.{lent_by}
 use Rattle.dsql_desk.proofs.Kept.{moves_keep, unrefused}
 use Rattle.dsql_desk.proofs.Known.{unfinished_known}
 use Rattle.dsql_desk.proofs.Moves.{made_move}

@@ -1,8 +1,9 @@
 use Rattle.std.proofs.Common.{◌≡◌, length, reverse, sym, ap, subst, refl, arith, ◌∙◌}
 use Rattle.dsql_laws.specs.OwedMade.{with_moves}
-use Rattle.dsql_desk.specs.Calls.{KeepsCalls}
+use Rattle.dsql_calls.specs.Calls.{KeepsCalls}
 use Rattle.dsql_desk.specs.Desk.{past}
-use Rattle.dsql_desk.specs.Moves.{lent_by_all, tried_by_all}
+use Rattle.dsql_exchanged.specs.Moves.{lent_by_all}
+use Rattle.dsql_calls.specs.Tries.{tried_by_all}
 use Rattle.dsql_desk.proofs.Kept.{moves_keep}
 use Rattle.dsql_desk.proofs.Known.{unfinished_known}
 use Rattle.dsql_desk.proofs.Moves.{leaves, made_moves, stays_calm}

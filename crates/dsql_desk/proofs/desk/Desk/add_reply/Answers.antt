@@ -1,7 +1,7 @@
 use Rattle.std.proofs.Common.{◌∷◌, sym, ap, subst, refl, rules, ◌∙◌}
 use Rattle.dsql_pool.specs.Pooled.{without}
 use Rattle.dsql_history.specs.declared.event.Event.TheVariants.{Replied}
-use Rattle.dsql_desk.specs.Calls.{KeepsCalls}
+use Rattle.dsql_calls.specs.Calls.{KeepsCalls}
 use Rattle.dsql_desk.specs.Desk.{past}
 use Rattle.dsql_desk.proofs.Kept.{replied_keeps}
 use Rattle.dsql_desk.proofs.desk.Desk.add_reply.Goals as goal

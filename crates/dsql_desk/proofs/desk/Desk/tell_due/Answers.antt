@@ -5,9 +5,9 @@ use Rattle.dsql_history.specs.Readers.Calls.{reply_due}
 use Rattle.std.specs.Prelude.{is_some}
 use Rattle.dsql_desk.specs.Adding.{MayAdd}
 use Rattle.dsql_desk.specs.Appending.{reply_now}
-use Rattle.dsql_desk.specs.Calls.{row_at}
+use Rattle.dsql_calls.specs.Calls.{row_at}
 use Rattle.dsql_desk.specs.Desk.{past, Stands}
-use Rattle.dsql_desk.specs.Settling.{reply_or, settled_in}
+use Rattle.dsql_calls.specs.Settling.{reply_or, settled_in}
 use Rattle.dsql_desk.proofs.Settled.{settled_as}
 use Rattle.dsql_desk.proofs.desk.Desk.tell_due.Goals as goal
 

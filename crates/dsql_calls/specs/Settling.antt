@@ -1,0 +1,37 @@
+-- What a call's row says that it is to be replied.
+use Rattle.std.specs.Prelude.{false, Option, Some, None, option_map}
+use Rattle.dsql_course.specs.Made.{or_else}
+use Rattle.dsql_work.specs.declared.work.Work.{Work}
+use Rattle.dsql_work.specs.declared.work.Work.TheVariants.{Fetch, Close, Look}
+use Rattle.dsql_history.specs.declared.reply.DbEnd.{DbEnd}
+use Rattle.dsql_history.specs.declared.record.Try.{Try}
+use Rattle.dsql_history.specs.declared.record.Try.TheVariants.{Served, Refused}
+use Rattle.dsql_history.specs.declared.reply.Reply.{Reply}
+use Rattle.dsql_history.specs.declared.reply.Reply.TheVariants as reply
+use Rattle.dsql_history.specs.Readers.Calls.{reply_to}
+use Rattle.dsql_calls.specs.declared.call.CallRow.{CallRow}
+
+-- by its newest try, or by what closed the database
+abbrev pub told_trying : Option DbEnd → Option Try → Option Reply
+told_trying closed None = option_map reply.DbClosed closed
+told_trying closed (Some Served) = None
+told_trying closed (Some (Refused answer)) = reply_to answer
+
+-- by others: rows that it would fetch from have ended, and nothing is left to be closed
+abbrev pub told_beside : Option DbEnd → Work → Option Try → Option Reply
+told_beside closed (Fetch k) tried = Some (reply.Truth false)
+told_beside closed (Close k) tried = Some reply.Ok
+told_beside closed Look tried = None
+told_beside closed work tried = told_trying closed tried
+
+abbrev pub settled_in : Option DbEnd → CallRow → Option Reply
+settled_in closed row = or_else row.call.decided (told_beside closed row.work row.tried)
+
+-- the reply, where one is settled
+abbrev pub reply_or : Option Reply → Reply
+reply_or (Some reply) = reply
+reply_or None = reply.TooMany
+
+-- nothing of it counts any more once it has its reply
+abbrev pub replied : CallRow → CallRow
+replied row = record row { call = record row.call { decided = None }; tried = None }

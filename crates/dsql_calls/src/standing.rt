@@ -1,0 +1,20 @@
+//! Where a call is that has nothing to send.
+ghost use Rattle.std.specs.Prelude.{◌≡◌};
+ghost use Rattle.dsql_course.specs.Made.{or_else};
+ghost use Rattle.dsql_history.specs.Rules.Stands.{opens, stands};
+ghost use Rattle.dsql_history.specs.declared.record.Stand.TheVariants.{Waits};
+
+use dsql_history::Stand;
+
+/// Where a call is, if it waits, or if this connection is being opened for it.
+pub fn waits_or_opens(waits: bool, opening: Option<u32>) -> Option<Stand>
+    ensures { result ≡ or_else (stands waits Waits) (opens opening) }
+{
+    if waits {
+        return Some(Stand::Waits);
+    }
+    match opening {
+        Some(conn) => Some(Stand::Opens(conn)),
+        None => None,
+    }
+}

@@ -1,0 +1,2 @@
+pub mod MovesMade
+pub mod Sent

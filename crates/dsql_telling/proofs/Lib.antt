@@ -1,0 +1,4 @@
+pub mod Beside
+pub mod Closing
+pub mod Fetched
+pub mod Labelled

@@ -1,0 +1,93 @@
+//! What is kept of a call that enters, as far as it is told without the history.
+ghost use Rattle.std.specs.Option.{option_copied};
+ghost use Rattle.std.specs.Prelude.{◌≡◌, Some, Err, IfOk};
+ghost use Rattle.dsql_telling.specs.Starting.{IsChecked, StartsOver};
+ghost use Rattle.dsql_history.specs.Readers.Calls.{fault_reply, refused_with, told_row};
+
+use crate::deciding::row_fault;
+use dsql_calls::{CallStart, NoRoom};
+use dsql_history::{Reply, Work};
+use dsql_rows::RowsEnd;
+use dsql_scan::RowFault;
+use dsql_value::{ArgFault, Args, Items, Params, Txt, check_args};
+use std::alloc::Global;
+
+/// A text with its arguments, and the reply where one of them is refused.
+#[derive(Drop)]
+pub struct Checked {
+    pub text: Txt,
+    pub params: Params,
+    pub refused: Option<Reply>,
+}
+
+/// A call that runs no text of its own.
+pub fn over_rows(
+    alloc: Global,
+    work: Work,
+    closes: Option<u32>,
+    decided: Option<Reply>,
+) -> Result<CallStart, NoRoom>
+    ensures { IfOk result (λ it. StartsOver work closes decided it) }
+{
+    Ok(CallStart {
+        work,
+        text: Txt::copy_of(alloc, "")?,
+        params: Items::none(alloc),
+        label: None,
+        closes,
+        decided,
+    })
+}
+
+/// A text with arguments, over a driver that takes names or doesn't.
+pub fn accept(alloc: Global, named_ok: bool, text: &Txt, args: &Args) -> Result<Checked, NoRoom>
+    ensures { IfOk result (λ it. IsChecked named_ok text.now args.now it) }
+{
+    let text = text.copy()?;
+    match check_args(alloc, -1, named_ok, args.as_slice()) {
+        Ok(params) => Ok(Checked {
+            text,
+            params,
+            refused: None,
+        }),
+        Err(fault) => {
+            let refused = Some(refusal(fault)?);
+            Ok(Checked {
+                text,
+                params: Items::none(alloc),
+                refused,
+            })
+        }
+    }
+}
+
+/// The reply that a refusal of arguments gives.
+fn refusal(fault: ArgFault) -> Result<Reply, NoRoom>
+    ensures reply { IfOk result (λ reply. refused_with fault ≡ Some reply) }
+{
+    match fault {
+        ArgFault::HighBit(number) => Ok(Reply::HighBit(number)),
+        ArgFault::NumArgs { want, got } => Ok(Reply::NumArgs { want, got }),
+        ArgFault::NamedRefused(name) => Ok(Reply::NamedRefused(name)),
+        ArgFault::BadName(name) => Ok(Reply::BadName(name)),
+        ArgFault::Memory => Err(NoRoom),
+    }
+}
+
+/// What rows tell of the fault that ended them, if one did.
+pub fn fault_reply(ended: Option<&RowsEnd>) -> Result<Reply, NoRoom>
+    ensures { IfOk result (λ reply. reply ≡ fault_reply (option_copied ended.entry)) }
+{
+    match ended {
+        Some(RowsEnd::Failed(text)) => Ok(Reply::Driver(text.copy()?)),
+        Some(RowsEnd::BadConn) => Ok(Reply::BadConn(1)),
+        _ => Ok(Reply::Ok),
+    }
+}
+
+/// What is replied where a row isn't scanned.
+pub fn scan_fault(fault: RowFault) -> Result<Reply, NoRoom>
+    ensures { IfOk result (λ reply. told_row (Err fault) ≡ Some reply) }
+{
+    row_fault(fault)?.ok_or(NoRoom)
+}
