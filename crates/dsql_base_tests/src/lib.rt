@@ -1,5 +1,5 @@
-//! Tests of values, drivers, scans, tokens, streams, the driver in memory, the judge of journals and journaled
-//! wires: what no clause of theirs says.
+//! Tests of what no clause says of values, scans, tokens, streams, the driver in memory, journaled wires and tables that no
+//! run uses yet.
 #![tactic(auto)]
 
 #[cfg(test)]
@@ -7,14 +7,12 @@ mod cancel;
 #[cfg(test)]
 mod edge;
 #[cfg(test)]
+mod faults;
+#[cfg(test)]
 mod mem;
-#[cfg(test)]
-mod printed;
-#[cfg(test)]
-mod scan;
 #[cfg(test)]
 mod stream;
 #[cfg(test)]
-mod value;
+mod tables;
 #[cfg(test)]
 mod wire;

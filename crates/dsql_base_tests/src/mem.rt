@@ -1,4 +1,4 @@
-//! The driver in memory: in one session, over two wires and in a thread.
+//! The driver in memory: in one session, and in a thread.
 
 use dsql_driver::{Answered, DriverAnswer, DriverCall, Fleet, Input, Level, Planned, Wire};
 use dsql_mem::{MemFleet, Session, Store, apply};
@@ -38,26 +38,6 @@ fn a_rollback_finds_memory(rt: HostRuntime) -> Result<(), Fail> {
     Ok(())
 }
 
-/// How many keys a text that is executed on a wire touched.
-fn touched<W: Wire>(wire: &mut W, alloc: Global, text: &str) -> Result<i64, Fail> {
-    match wire.call(&exec(alloc, text)?).answer {
-        DriverAnswer::Result { affected, .. } => Ok(affected),
-        _ => Err("it was refused")?,
-    }
-}
-
-#[test]
-fn two_wires_share_one_store(rt: HostRuntime) -> Result<(), Fail> {
-    let mut fleet = MemFleet::new(rt.clone()?)?;
-    fleet.plan(2, 9, Planned::Bad)?;
-    let mut first = fleet.connect(1)?;
-    let mut second = fleet.connect(2)?;
-    assert_eq!(rt; touched(&mut first, rt.alloc(), "SET a 1")?, 1);
-    assert_eq!(rt; touched(&mut second, rt.alloc(), "DEL a")?, 1);
-    assert_eq!(rt; touched(&mut first, rt.alloc(), "DEL a")?, 0);
-    Ok(())
-}
-
 /// Makes one call on a wire, and gives back the wire and the answer.
 fn visit<W: Wire>(mut wire: W, call: DriverCall) -> (W, Answered) {
     let answered = wire.call(&call);
@@ -67,6 +47,7 @@ fn visit<W: Wire>(mut wire: W, call: DriverCall) -> (W, Answered) {
 #[test]
 fn a_wire_works_in_a_thread(rt: HostRuntime) -> Result<(), Fail> {
     let mut fleet = MemFleet::new(rt.clone()?)?;
+    fleet.plan(1, 9, Planned::Bad)?;
     let wire = fleet.connect(1)?;
     let child = thread::spawn(&rt, move || visit(wire, DriverCall::Commit))?;
     let (wire, answered) = child.join(&rt);
