@@ -1,6 +1,7 @@
 -- What is known of a desk that stands, and what an event leaves.
 use Rattle.std.proofs.Common.{◌≡◌, ℕ, ◌≤◌, ◌<◌, false, List, [], ◌∷◌, length, refl, ap, arith}
 use Rattle.dsql_work.specs.Limits.{most_within_a_step}
+use Rattle.dsql_pool.specs.declared.pool.Pool.{Pool}
 use Rattle.dsql_pool.specs.declared.moves.Outcome.{Outcome}
 use Rattle.dsql_pool.specs.declared.moves.Outcome.TheVariants.{Closes, Serves, Rests}
 use Rattle.dsql_pool.specs.Decisions.{moves_back}
@@ -14,7 +15,7 @@ use Rattle.dsql_history.specs.Readers.Owed.{owed}
 use Rattle.dsql_history.specs.Readers.Pool.{pool}
 use Rattle.dsql_desk.specs.declared.desk.Desk.{Desk}
 use Rattle.dsql_desk.specs.Appending.{is_close}
-use Rattle.dsql_desk.specs.Desk.{past, Stands}
+use Rattle.dsql_desk.specs.Desk.{past, Tables, Stands}
 use Rattle.dsql_desk.proofs.Moves.{few_drawn}
 
 pub few_openings : (d : Desk) → Stands d → length (past d) < most_within_a_step → d.pool.pooled.drawn ≤ most_drawn
@@ -23,6 +24,22 @@ few_openings d s few =
     let drawn = few_drawn (past d) in
     let is : d.pool.pooled.drawn ≡ (pool (past d)).drawn = ap (λ p. p.drawn) s.pool in
     omega (arith, drawn, is, few)
+
+-- the tables stand beside another pool
+pub beside_pool : (d : Desk) (other : Pool) → Tables d → Tables (record d { pool = other })
+beside_pool d other t =
+    record {
+      lawful = t.lawful;
+      calm = t.calm;
+      caps = t.caps;
+      ended = t.ended;
+      made = t.made;
+      calls = t.calls;
+      unfinished = t.unfinished;
+      labels = t.labels;
+      rows = t.rows;
+      room = record { history = t.room.history; made = t.room.made; calls = t.room.calls; unfinished = t.room.unfinished; labels = t.room.labels; rows = t.room.rows };
+    }
 
 -- what a call leaves that enters and doesn't close the database
 pub record Enters (H : List Event) (client n : ℕ) (op : Op) : Type 0 where

@@ -94,9 +94,10 @@ impl Desk {
 fn nobody(alloc: Global) -> Result<CallRow, NoRoom>
     ensures { IfOk result (λ row. row ≡ nobody) }
 {
+    let text = Txt::copy_of(alloc, "")?;
     let call = CallRecord {
         client: 0,
-        text: Txt::copy_of(alloc, "")?,
+        text,
         params: Items::none(alloc),
         decided: None,
     };

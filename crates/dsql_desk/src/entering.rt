@@ -16,7 +16,7 @@ use dsql_calls::{CallStart, NoRoom};
 use dsql_history::{Op, Reply, Work};
 use dsql_rows::RowsFault;
 use dsql_scan::Dest;
-use dsql_telling::starting::{Checked, accept, fault_reply, over_rows, scan_fault};
+use dsql_telling::starting::{accept, fault_reply, over_rows, over_text, scan_fault};
 use dsql_value::{Args, Txt};
 use std::alloc::Global;
 
@@ -75,23 +75,8 @@ impl Desk {
         requires label { option_map string_bytes label ≡ label_made work }
         ensures { IfOk result (λ it. StartsText (past self.now) text.now args.now work it) }
     {
-        let Checked {
-            text,
-            params,
-            refused,
-        } = accept(alloc, self.caps.named, text, args)?;
-        let decided = match self.closed_by {
-            Some(end) => Some(Reply::DbClosed(end)),
-            None => refused,
-        };
-        Ok(CallStart {
-            work,
-            text,
-            params,
-            label,
-            closes: None,
-            decided,
-        })
+        let checked = accept(alloc, self.caps.named, text, args)?;
+        Ok(over_text(checked, work, label, self.closed_by))
     }
 
     /// `Rows.Next`.

@@ -1,5 +1,5 @@
 //! Questions about calls and connections, each answered in a reader's word.
-ghost use Rattle.std.specs.Prelude.{◌≡◌, ◌<◌, ◌==◌, is_some, length, find, IfOk};
+ghost use Rattle.std.specs.Prelude.{◌≡◌, [], ◌<◌, ◌==◌, is_some, length, find, IfOk};
 ghost use Rattle.dsql_work.specs.Limits.{most_within_a_step};
 ghost use Rattle.dsql_desk.specs.Desk.{past, Stands};
 ghost use Rattle.dsql_calls.specs.Calls.{rows_worked};
@@ -19,7 +19,7 @@ ghost use Rattle.dsql_pool.specs.Pooled.{next_tenure};
 ghost use Rattle.dsql_wait.specs.Requests.{waits};
 
 use crate::desk::Desk;
-use dsql_calls::row;
+use dsql_calls::{CallRow, row};
 use dsql_exchanged::Statement;
 use dsql_history::{Aim, Control, Place};
 use dsql_pooling::places;
@@ -158,16 +158,8 @@ impl Desk {
     {
         let aim = self.aim(call);
         match self.calls.get(call as usize) {
-            Some(row) => {
-                let text = row.call.text.copy()?;
-                let params = row.call.params.clone()?;
-                Ok(Statement { text, params, aim })
-            }
-            None => {
-                let text = Txt::copy_of(alloc, "")?;
-                let params = Items::none(alloc);
-                Ok(Statement { text, params, aim })
-            }
+            Some(row) => statement_in(row, aim),
+            None => no_statement(alloc, aim),
         }
     }
 
@@ -268,4 +260,22 @@ impl Desk {
     {
         self.rows.was_made(call) && !self.rows.is_live(call)
     }
+}
+
+/// A copy of the statement of a row.
+fn statement_in(row: &CallRow, aim: Aim) -> Result<Statement, Memory>
+    ensures { IfOk result (λ s. s ≡ (record { text = row.now.call.text; params = row.now.call.params; aim = aim })) }
+{
+    let text = row.call.text.copy()?;
+    let params = row.call.params.clone()?;
+    Ok(Statement { text, params, aim })
+}
+
+/// The statement of no call.
+fn no_statement(alloc: Global, aim: Aim) -> Result<Statement, Memory>
+    ensures { IfOk result (λ s. s ≡ (record { text = []; params = []; aim = aim })) }
+{
+    let text = Txt::copy_of(alloc, "")?;
+    let params = Items::none(alloc);
+    Ok(Statement { text, params, aim })
 }

@@ -8,4 +8,5 @@ pub mod Stood
 pub mod Sound
 pub mod Following
 pub mod Handed
+pub mod KeptThere
 pub mod Exchanged

@@ -1,3 +1,4 @@
 pub mod UnderWay
 pub mod Kept
+pub mod There
 pub mod Made

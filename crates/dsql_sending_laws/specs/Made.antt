@@ -1,5 +1,5 @@
 -- What was exchanged on each connection since it was lent, as the course of its call sees it, and what is sent next by that.
-use Rattle.std.specs.Prelude.{ℕ, ◌==◌, Bool, ◌||◌, cond, List, [], ◌∷◌, ◌++◌, slice_set, slice_index_or, Option, Some, None}
+use Rattle.std.specs.Prelude.{ℕ, ◌==◌, Bool, ◌||◌, cond, List, [], ◌∷◌, Option, Some, None}
 use Rattle.dsql_driver.specs.Kinds.{is_bad, is_valid}
 use Rattle.dsql_driver.specs.declared.caps.Caps.{Caps}
 use Rattle.dsql_driver.specs.declared.call.DriverCall.{DriverCall}
@@ -7,22 +7,17 @@ use Rattle.dsql_driver.specs.declared.call.DriverCall.TheVariants.{Reset}
 use Rattle.dsql_course.specs.declared.course.Wish.{Wish}
 use Rattle.dsql_course.specs.Made.{Exchange}
 use Rattle.dsql_journal.specs.declared.entry.Entry.{Entry}
-use Rattle.dsql_pool.specs.declared.moves.Move.TheVariants.{OpenStart, Lend}
 use Rattle.dsql_work.specs.Exchanges.{step_of, with_exchange}
 use Rattle.dsql_work.specs.Line.{Asked, body_after}
 use Rattle.dsql_history.specs.declared.event.Event.{Event}
-use Rattle.dsql_history.specs.declared.event.Event.TheVariants.{Heard, Pool}
+use Rattle.dsql_sending_laws.specs.There.{there}
 
--- by the number of the connection; to connect and to shut it are no part of it
-abbrev pub all_made : List Event → List (List Exchange)
-all_made [] = [] ∷ []
-all_made (Pool (OpenStart c n) ∷ before) = all_made before ++ [] ∷ []
-all_made (Pool (Lend c tenure owner n) ∷ before) = slice_set (all_made before) c []
-all_made (Heard e ∷ before) = slice_set (all_made before) e.conn (with_exchange (step_of e.call) e.answer (slice_index_or (all_made before) e.conn []))
-all_made (_ ∷ before) = all_made before
+-- with one entry more; to connect and to shut a connection is no part of it
+abbrev pub with_entry : Entry → List Exchange → List Exchange
+with_entry e made = with_exchange (step_of e.call) e.answer made
 
 abbrev pub made : List Event → ℕ → List Exchange
-made before c = slice_index_or (all_made before) c []
+made before c = there [] with_entry before c
 
 -- what is sent first in a tenure
 abbrev pub first_sent : Caps → Bool → Asked → Wish → List Exchange → Option DriverCall

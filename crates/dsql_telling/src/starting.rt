@@ -1,12 +1,14 @@
 //! What is kept of a call that enters, as far as it is told without the history.
 ghost use Rattle.std.specs.Option.{option_copied};
-ghost use Rattle.std.specs.Prelude.{◌≡◌, Some, Err, IfOk};
+ghost use Rattle.std.specs.Prelude.{◌≡◌, Some, None, Err, IfOk, option_map};
+ghost use Rattle.dsql_course.specs.Made.{or_else};
+ghost use Rattle.dsql_history.specs.declared.reply.Reply.TheVariants.{DbClosed};
 ghost use Rattle.dsql_telling.specs.Starting.{IsChecked, StartsOver};
 ghost use Rattle.dsql_history.specs.Readers.Calls.{fault_reply, refused_with, told_row};
 
 use crate::deciding::row_fault;
 use dsql_calls::{CallStart, NoRoom};
-use dsql_history::{Reply, Work};
+use dsql_history::{DbEnd, Reply, Work};
 use dsql_rows::RowsEnd;
 use dsql_scan::RowFault;
 use dsql_value::{ArgFault, Args, Items, Params, Txt, check_args};
@@ -18,6 +20,39 @@ pub struct Checked {
     pub text: Txt,
     pub params: Params,
     pub refused: Option<Reply>,
+}
+
+/// A call that runs a text, where this closed the database, if something did.
+pub fn over_text(
+    checked: Checked,
+    work: Work,
+    label: Option<String>,
+    closed_by: Option<DbEnd>,
+) -> CallStart
+    ensures work { result.work ≡ work }
+    ensures text { result.text ≡ checked.text }
+    ensures params { result.params ≡ checked.params }
+    ensures decided { result.decided ≡ or_else (option_map DbClosed closed_by) checked.refused }
+    ensures label { result.label ≡ label }
+    ensures closes { result.closes ≡ None }
+{
+    let Checked {
+        text,
+        params,
+        refused,
+    } = checked;
+    let decided = match closed_by {
+        Some(end) => Some(Reply::DbClosed(end)),
+        None => refused,
+    };
+    CallStart {
+        work,
+        text,
+        params,
+        label,
+        closes: None,
+        decided,
+    }
 }
 
 /// A call that runs no text of its own.

@@ -9,7 +9,7 @@ use Rattle.dsql_laws.specs.Asked.{with_asked}
 use Rattle.dsql_laws.proofs.AskedAllowed.{asked_lawful}
 use Rattle.dsql_desk.specs.Appending.{event_asked}
 use Rattle.dsql_desk.specs.Desk.{past, Stands}
-use Rattle.dsql_desk.proofs.Present.{few_openings}
+use Rattle.dsql_desk.proofs.Present.{beside_pool, few_openings}
 use Rattle.dsql_desk.proofs.Asking.{may_request, numbered, asked_leaves, asked_calm, asked_pool, one_came}
 use Rattle.dsql_desk.proofs.desk.Desk.ask.Goals as goal
 
@@ -35,18 +35,7 @@ add_move-requires-clause-may c =
     = ap (event_asked n) (sym out) ∙ (sym c.event_asked.ensures ∙ (c.in-Some-Pool.is ∙ ap (λ e. Some e) c.in-Some-Pool.field-0-is)) in
     let p : Pool c.in-Some-Pool.it ∷ H ≡ with_asked n a H = one_came n a (Pool c.in-Some-Pool.it) H came in
     record {
-      tables = record {
-        lawful = t.lawful;
-        calm = t.calm;
-        caps = t.caps;
-        ended = t.ended;
-        made = t.made;
-        calls = t.calls;
-        unfinished = t.unfinished;
-        labels = t.labels;
-        rows = t.rows;
-        room = record { history = t.room.history; made = t.room.made; calls = t.room.calls; unfinished = t.room.unfinished; labels = t.room.labels; rows = t.room.rows };
-      };
+      tables = beside_pool c.args.self.now c.ask-outcome.new.pool t;
       lawful = subst (λ K. Lawful K) (sym p) (asked_lawful H n t.lawful c.requires.owing c.requires.asks);
       calm = subst (λ K. Calm K) (sym p) (asked_calm n a H t.calm);
       paid = c.requires.paid;

@@ -12,7 +12,7 @@ use Rattle.dsql_desk.specs.Adding.{IsAnswerBefore}
 use Rattle.dsql_desk.specs.Desk.{past, Stands}
 use Rattle.dsql_desk.proofs.Kept.{back_unrefused}
 use Rattle.dsql_desk.proofs.Moves.{leaves}
-use Rattle.dsql_desk.proofs.Present.{few_openings, some_move}
+use Rattle.dsql_desk.proofs.Present.{beside_pool, few_openings, some_move}
 use Rattle.dsql_desk.proofs.desk.Desk.give_back.Goals as goal
 
 pub give_back-requires-clause-drawn : goal.give_back-requires-clause-drawn
@@ -30,18 +30,7 @@ add_moves-requires c =
     = c.give_back.ensures.moves ∙ (ap (λ q. moves_given_back c.args.fate conn q) s.pool ∙ ap (λ f. moves_given_back f conn (pool H)) c.requires.fate) in
     let many : length c.give_back.new.pool.moves ≡ length (given_back H conn) = ap length all in
     record {
-      tables = record {
-        lawful = t.lawful;
-        calm = t.calm;
-        caps = t.caps;
-        ended = t.ended;
-        made = t.made;
-        calls = t.calls;
-        unfinished = t.unfinished;
-        labels = t.labels;
-        rows = t.rows;
-        room = record { history = t.room.history; made = t.room.made; calls = t.room.calls; unfinished = t.room.unfinished; labels = t.room.labels; rows = t.room.rows };
-      };
+      tables = beside_pool c.args.self.now c.give_back.new.pool t;
       lawful = subst (λ ms. Lawful (with_moves ms H)) (sym all) (back_lawful H conn t.lawful c.requires.leaves);
       answered = subst (λ ms. IsAnswerBefore Bad ms H) (sym all) (back_unrefused conn (pool H) (when_given_back (fate H conn) conn (pool H)) H);
       paid = omega (arith, many, c.requires.paid);
