@@ -1,23 +1,41 @@
-//! What a run gives, as one text.
+//! What a run gives.
 
 use crate::driver::ToldFleet;
 use dsql_driver::{Fleet, ListClock, OpenGate, SliceSource, Source, VecSink};
 use dsql_run::sqlrun;
-use dsql_value::Txt;
+use dsql_value::{Memory, Txt};
 use std::alloc::Global;
-use std::test::Fail;
 
-/// The words that play a script.
-pub(super) const PLAY: &[&str] = &["play"];
-
-/// A run's status, its notes and its report.
-pub(super) fn outcome(
-    alloc: Global,
+/// What a run gives: its status, its notes and its report.
+#[derive(Drop)]
+pub(super) struct Ran {
     status: u8,
-    notes: &str,
-    report: &str,
-) -> Result<String, Fail> {
-    Ok(format!(in alloc; "status {status}\n{notes}{report}")?)
+    notes: VecSink,
+    report: VecSink,
+}
+
+impl Ran {
+    /// It ended with this status, and wrote just this.
+    pub(super) fn is(&self, status: u8, notes: &str, report: &str) -> bool {
+        self.has(status, notes) && self.report.bytes() == report.as_bytes()
+    }
+
+    /// It stopped for want of memory: its report, of which nothing is said but that it is a beginning of this one.
+    pub(super) fn lacked_memory(&self, report: &str) -> bool {
+        self.has(5, "sqlrun: out of memory\n") && report.as_bytes().starts_with(self.report.bytes())
+    }
+
+    fn has(&self, status: u8, notes: &str) -> bool {
+        self.status == status && self.notes.bytes() == notes.as_bytes()
+    }
+}
+
+fn words_of(alloc: Global, words: &[&str]) -> Result<Vec<Txt>, Memory> {
+    let mut called = Vec::new(alloc);
+    for word in words {
+        called.push(Txt::copy_of(alloc, word)?)?;
+    }
+    Ok(called)
 }
 
 /// Runs the program over these streams and this driver.
@@ -25,36 +43,34 @@ pub(super) fn run_over<S: Source, F: Fleet>(
     alloc: Global,
     words: &[&str],
     input: &mut S,
-    output: &mut VecSink,
-    notes: &mut VecSink,
+    mut report: VecSink,
+    mut notes: VecSink,
     fleet: &mut F,
-) -> Result<String, Fail> {
-    let mut called = Vec::new(alloc);
-    for word in words {
-        called.push(Txt::copy_of(alloc, word)?)?;
-    }
+) -> Result<Ran, Memory> {
+    let called = words_of(alloc, words)?;
     let mut clock = ListClock::new(Vec::new(alloc));
     let status = sqlrun(
-        alloc, &called, input, output, notes, fleet, &mut clock, &OpenGate,
+        alloc,
+        &called,
+        input,
+        &mut report,
+        &mut notes,
+        fleet,
+        &mut clock,
+        &OpenGate,
     );
-    let notes = str::from_utf8(notes.bytes())?;
-    outcome(alloc, status, notes, str::from_utf8(output.bytes())?)
+    Ok(Ran {
+        status,
+        notes,
+        report,
+    })
 }
 
-/// Plays a script over streams that don't fail, and this driver.
-pub(super) fn play_over<F: Fleet>(
-    alloc: Global,
-    script: &str,
-    fleet: &mut F,
-) -> Result<String, Fail> {
-    let mut input = SliceSource::new(script.as_bytes(), 4096, &[]);
-    let mut output = VecSink::new(alloc, 4096, Vec::new(alloc));
-    let mut notes = VecSink::new(alloc, 4096, Vec::new(alloc));
-    run_over(alloc, PLAY, &mut input, &mut output, &mut notes, fleet)
-}
-
-/// Plays a script over a driver that answers as a report tells.
-pub(super) fn play_as_told(alloc: Global, script: &str, told: &str) -> Result<String, Fail> {
+/// Plays a script over streams that don't fail, and a driver that answers as a report tells.
+pub(super) fn play_as_told(alloc: Global, script: &str, told: &str) -> Result<Ran, Memory> {
     let mut fleet = ToldFleet::new(alloc, told);
-    play_over(alloc, script, &mut fleet)
+    let mut input = SliceSource::new(script.as_bytes(), 4096, &[]);
+    let report = VecSink::new(alloc, 4096, Vec::new(alloc));
+    let notes = VecSink::new(alloc, 4096, Vec::new(alloc));
+    run_over(alloc, &["play"], &mut input, report, notes, &mut fleet)
 }

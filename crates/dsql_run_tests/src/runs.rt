@@ -2,7 +2,7 @@
 
 ghost use Rattle.std.specs.Prelude.{◌<◌};
 
-use crate::outcome::{PLAY, outcome, run_over};
+use crate::outcome::run_over;
 use dsql_driver::{SliceSource, VecSink};
 use dsql_mem::MemFleet;
 use std::alloc::Global;
@@ -18,8 +18,6 @@ const TWO: &str = "c1 exec db [\"SET a 1\"]\nc1 exec db [\"SET a 2\"]\n";
 
 /// Two calls, the second without its line feed.
 const UNFINISHED: &str = "c1 exec db [\"SET a 1\"]\nc1 exec db [\"SET a 2\"]";
-
-const LABEL_TWICE: &str = "c1 query r db [\"GET a\"]\nc2 query r db [\"GET a\"]\n";
 
 const REPORT_OF_NONE: &str =
     r#"["run",1,["fast_exec","fast_query","begin_options","pinger","resetter","validator"]]
@@ -65,30 +63,14 @@ const REPORT_OF_TWO: &str =
 ["gone",1]
 "#;
 
-const REPORT_OF_OPEN_ROWS: &str =
-    r#"["run",1,["fast_exec","fast_query","begin_options","pinger","resetter","validator"]]
-["enter",1,1,"query r db",["GET a"]]
-["open",1,1]
-["heard",1,1,"house",0,0,["connect"],["done"]]
-["lend",1,2,"call:1"]
-["heard",1,2,"call:1",1,0,["query","GET a",[]],["cursor",1,["value"]]]
-["reply",1,["ok","rows",["value"]]]
-["ended"]
-["heard",1,2,"call:1",0,0,["close_rows",1],["done"]]
-["heard",1,2,"call:1",0,0,["valid"],["done"]]
-["close",1,"db_closed"]
-["heard",1,3,"house",0,0,["shut"],["done"]]
-["gone",1]
-"#;
-
-/// A script, how many bytes its streams take at once, and at which turns they fail.
+/// A script, how many bytes its streams take at once, and the turns at which they fail; 0 is none.
 #[derive(Clone, Copy, Drop)]
 struct Streams<'a> {
     script: &'a [u8],
     piece: usize,
-    read: &'a [u64],
-    write: &'a [u64],
-    note: &'a [u64],
+    read: u64,
+    write: u64,
+    note: u64,
 }
 
 /// Streams of a script that don't fail.
@@ -96,75 +78,62 @@ fn unfailing(script: &[u8], piece: usize) -> Streams<'_> {
     Streams {
         script,
         piece,
-        read: &[],
-        write: &[],
-        note: &[],
+        read: 0,
+        write: 0,
+        note: 0,
     }
 }
 
-/// An empty sink that fails at these writes.
-fn sink(alloc: Global, piece: usize, failing: &[u64]) -> Result<VecSink, Fail>
+/// How a run ends: its status, its note and its report.
+type End<'a> = (u8, &'a str, &'a str);
+
+/// An empty sink that fails at this write.
+fn sink(alloc: Global, piece: usize, turn: u64) -> Result<VecSink, Fail>
     requires { 0 < piece }
 {
     let mut turns = Vec::new(alloc);
-    turns.extend_from_slice(failing)?;
+    turns.push(turn)?;
     Ok(VecSink::new(alloc, piece, turns))
 }
 
-/// What a run over these streams gives.
-fn run<R: AllocGlobal + Wait + Clone + Drop + Send>(
+/// Whether a run over these streams ends so.
+fn ends<R: AllocGlobal + Wait + Clone + Drop + Send>(
     rt: &R,
     words: &[&str],
-    streams: &Streams,
-) -> Result<String, Fail> {
+    streams: Streams<'_>,
+    end: End<'_>,
+) -> Result<bool, Fail> {
     let alloc = rt.alloc();
     let piece = streams.piece.max(1);
-    let mut input = SliceSource::new(streams.script, piece, streams.read);
-    let mut output = sink(alloc, piece, streams.write)?;
-    let mut notes = sink(alloc, piece, streams.note)?;
+    let failing = [streams.read];
+    let mut input = SliceSource::new(streams.script, piece, &failing);
+    let report = sink(alloc, piece, streams.write)?;
+    let notes = sink(alloc, piece, streams.note)?;
     let mut fleet = MemFleet::new(rt.clone()?)?;
-    run_over(
-        alloc,
-        words,
-        &mut input,
-        &mut output,
-        &mut notes,
-        &mut fleet,
-    )
+    let ran = run_over(alloc, words, &mut input, report, notes, &mut fleet)?;
+    let (status, note, report) = end;
+    Ok(ran.is(status, note, report))
+}
+
+/// Whether a script that is played over these streams ends so.
+fn plays<R: AllocGlobal + Wait + Clone + Drop + Send>(
+    rt: &R,
+    streams: Streams<'_>,
+    end: End<'_>,
+) -> Result<bool, Fail> {
+    ends(rt, &["play"], streams, end)
 }
 
 #[test]
 fn other_words_get_the_usage(rt: HostRuntime) -> Result<(), Fail> {
-    let usage = "status 2\nsqlrun: usage: sqlrun play [--summary] | race | gen N\n";
+    let usage = "sqlrun: usage: sqlrun play [--summary] | race | gen N\n";
+    let streams = unfailing(b"", 4096);
     let words: [&[&str]; 3] = [&["play", "--"], &["gen", "0"], &[]];
     for called in words {
-        let got = run(&rt, called, &unfailing(ONE.as_bytes(), 4096))?;
-        assert_eq!(rt; got.as_str(), usage, "{called:?}");
+        assert!(rt; ends(&rt, called, streams, (2, usage, ""))?, "{called:?}");
     }
-    let failing = Streams {
-        note: &[1],
-        ..unfailing(b"", 4096)
-    };
-    assert_eq!(rt; run(&rt, &[], &failing)?.as_str(), "status 4\n");
-    Ok(())
-}
-
-#[test]
-fn a_refused_line_ends_the_run(rt: HostRuntime) -> Result<(), Fail> {
-    for (script, note, report) in [
-        (CUT, "sqlrun: line 2: not JSON\n", REPORT_OF_ONE),
-        (
-            LABEL_TWICE,
-            "sqlrun: line 2: label taken\n",
-            REPORT_OF_OPEN_ROWS,
-        ),
-    ] {
-        let want = outcome(rt.alloc(), 7, note, report)?;
-        for piece in [1, 100, 4096] {
-            let got = run(&rt, PLAY, &unfailing(script.as_bytes(), piece))?;
-            assert_eq!(rt; got.as_str(), want.as_str(), "by {piece}");
-        }
-    }
+    let failing = Streams { note: 1, ..streams };
+    assert!(rt; ends(&rt, &[], failing, (4, "", ""))?);
     Ok(())
 }
 
@@ -209,53 +178,65 @@ const HOSTILE: &[(&str, &[(u8, usize)], &str)] = &[
     ),
 ];
 
+/// Whether the line of such a script is refused with this note, or none is.
+fn is_refused<R: AllocGlobal + Wait + Clone + Drop + Send>(
+    rt: &R,
+    script: &[u8],
+    note: &str,
+) -> Result<bool, Fail> {
+    let end = (if note.is_empty() { 0 } else { 7 }, note, REPORT_OF_NONE);
+    Ok(plays(rt, unfailing(script, 1), end)? && plays(rt, unfailing(script, 4096), end)?)
+}
+
 #[test]
 fn hostile_lines_are_refused_by_their_first_fault(rt: HostRuntime) -> Result<(), Fail> {
     for (head, runs, note) in HOSTILE {
         let script = filled(rt.alloc(), head, runs)?;
-        let status = if note.is_empty() { 0 } else { 7 };
-        let want = outcome(rt.alloc(), status, note, REPORT_OF_NONE)?;
-        for piece in [1, 4096] {
-            let got = run(&rt, PLAY, &unfailing(&script, piece))?;
-            assert_eq!(rt; got.as_str(), want.as_str(), "{head} {runs:?} by {piece}");
-        }
+        assert!(rt; is_refused(&rt, &script, note)?, "{head} {runs:?}");
     }
     Ok(())
 }
 
-/// How many lines end among the bytes that so many reads take.
-fn ended_among(script: &str, piece: usize, reads: usize) -> usize {
-    let taken = script.bytes().take(piece.saturating_mul(reads));
-    taken.filter(|byte| *byte == b'\n').count()
+/// How a run of two calls ends where the read behind so many bytes fails, if it comes to that. The script has so many
+/// bytes, and the line feed of its second call, if it has one, is behind so many.
+fn end_of_read(taken: usize, piece: usize, len: usize, second: usize) -> End<'static> {
+    let fault = "sqlrun: read fault\n";
+    if taken >= len.saturating_add(piece) {
+        (0, "", REPORT_OF_TWO)
+    } else if taken < ONE.len() {
+        (3, fault, REPORT_OF_NONE)
+    } else if taken < second {
+        (3, fault, REPORT_OF_ONE)
+    } else {
+        (3, fault, REPORT_OF_TWO)
+    }
 }
 
-/// What a run of these two calls gives whose kth read fails, if it comes to that.
-fn want_of_read(alloc: Global, script: &str, piece: usize, k: usize) -> Result<String, Fail> {
-    let reads = k.saturating_sub(1);
-    if piece.saturating_mul(reads) >= script.len().saturating_add(piece) {
-        return outcome(alloc, 0, "", REPORT_OF_TWO);
-    }
-    let report = match ended_among(script, piece, reads) {
-        0 => REPORT_OF_NONE,
-        1 => REPORT_OF_ONE,
-        _ => REPORT_OF_TWO,
+/// Whether a run of two calls whose kth read fails, if it comes to that, ends behind whole lines.
+fn ends_behind_whole_lines<R: AllocGlobal + Wait + Clone + Drop + Send>(
+    rt: &R,
+    script: &str,
+    second: usize,
+    piece: usize,
+    k: u64,
+) -> Result<bool, Fail> {
+    let taken = piece.saturating_mul(k.saturating_sub(1) as usize);
+    let failing = Streams {
+        read: k,
+        ..unfailing(script.as_bytes(), piece)
     };
-    outcome(alloc, 3, "sqlrun: read fault\n", report)
+    plays(rt, failing, end_of_read(taken, piece, script.len(), second))
 }
 
 #[test]
 fn a_read_that_fails_ends_the_run_behind_whole_lines(rt: HostRuntime) -> Result<(), Fail> {
-    for script in [TWO, UNFINISHED] {
+    for (script, second) in [(TWO, TWO.len()), (UNFINISHED, usize::MAX)] {
         for piece in [1, 7, 4096] {
             for k in 1..=50 {
-                let read = [k as u64];
-                let failing = Streams {
-                    read: &read,
-                    ..unfailing(script.as_bytes(), piece)
-                };
-                let want = want_of_read(rt.alloc(), script, piece, k)?;
-                let got = run(&rt, PLAY, &failing)?;
-                assert_eq!(rt; got.as_str(), want.as_str(), "read {k} by {piece}");
+                assert!(rt;
+                    ends_behind_whole_lines(&rt, script, second, piece, k)?,
+                    "read {k} by {piece}"
+                );
             }
         }
     }
@@ -267,65 +248,104 @@ fn front(text: &str, count: usize) -> &str {
     text.get(..count).unwrap_or(text)
 }
 
-/// Scripts of one call, at which read its source fails, and how the run ends.
-const ENDS: &[(&str, &[u64], u8, &str)] = &[
-    (ONE, &[], 0, ""),
-    (ONE, &[24], 3, "sqlrun: read fault\n"),
-    (CUT, &[], 7, "sqlrun: line 2: not JSON\n"),
+/// Scripts of one call, at which read their source fails, and how the run ends.
+const ENDS: &[(&str, u64, u8, &str)] = &[
+    (ONE, 0, 0, ""),
+    (ONE, 24, 3, "sqlrun: read fault\n"),
+    (CUT, 0, 7, "sqlrun: line 2: not JSON\n"),
 ];
+
+/// Streams of a script that take one byte at once, and of which the source fails at this read.
+fn bytewise(script: &str, read: u64) -> Streams<'_> {
+    Streams {
+        read,
+        ..unfailing(script.as_bytes(), 1)
+    }
+}
+
+#[test]
+fn a_whole_report_is_followed_by_its_note(rt: HostRuntime) -> Result<(), Fail> {
+    for (script, read, status, note) in ENDS {
+        let end = (*status, *note, REPORT_OF_ONE);
+        assert!(rt; plays(&rt, bytewise(script, *read), end)?, "{script}");
+    }
+    Ok(())
+}
+
+/// Whether a write behind so many bytes that fails leaves just these.
+fn leaves_a_beginning<R: AllocGlobal + Wait + Clone + Drop + Send>(
+    rt: &R,
+    script: &str,
+    read: u64,
+    written: usize,
+) -> Result<bool, Fail> {
+    let failing = Streams {
+        write: (written as u64).saturating_add(1),
+        ..bytewise(script, read)
+    };
+    let end = (4, "sqlrun: write fault\n", front(REPORT_OF_ONE, written));
+    plays(rt, failing, end)
+}
 
 #[test]
 fn a_write_that_fails_leaves_a_beginning(rt: HostRuntime) -> Result<(), Fail> {
-    for (script, read, status, note) in ENDS {
-        for written in 0..=REPORT_OF_ONE.len() {
-            let report = front(REPORT_OF_ONE, written);
-            let want = if written < REPORT_OF_ONE.len() {
-                outcome(rt.alloc(), 4, "sqlrun: write fault\n", report)?
-            } else {
-                outcome(rt.alloc(), *status, note, report)?
-            };
-            let write = [written as u64 + 1];
-            let failing = Streams {
-                read,
-                write: &write,
-                ..unfailing(script.as_bytes(), 1)
-            };
-            let got = run(&rt, PLAY, &failing)?;
-            assert_eq!(rt; got.as_str(), want.as_str(), "{script} behind {written}");
+    for (script, read, _, _) in ENDS {
+        for written in 0..REPORT_OF_ONE.len() {
+            assert!(rt;
+                leaves_a_beginning(&rt, script, *read, written)?,
+                "{script} behind {written}"
+            );
         }
     }
     Ok(())
 }
 
+/// Whether the write of the events from this one on is the one of this number.
+fn is_in_write<R: AllocGlobal + Wait + Clone + Drop + Send>(
+    rt: &R,
+    event: &str,
+    write: u64,
+) -> Result<bool, Fail> {
+    let written = REPORT_OF_ONE.find(event).ok_or("no such event")?;
+    let failing = Streams {
+        write,
+        ..unfailing(ONE.as_bytes(), 4096)
+    };
+    let end = (4, "sqlrun: write fault\n", front(REPORT_OF_ONE, written));
+    plays(rt, failing, end)
+}
+
 #[test]
 fn events_of_a_line_are_written_in_one_piece(rt: HostRuntime) -> Result<(), Fail> {
-    for (write, next) in [(1, "[\"run\""), (2, "[\"enter\""), (3, "[\"ended\"")] {
-        let written = REPORT_OF_ONE.find(next).ok_or("no such event")?;
-        let report = front(REPORT_OF_ONE, written);
-        let want = outcome(rt.alloc(), 4, "sqlrun: write fault\n", report)?;
-        let failing = Streams {
-            write: &[write],
-            ..unfailing(ONE.as_bytes(), 4096)
-        };
-        let got = run(&rt, PLAY, &failing)?;
-        assert_eq!(rt; got.as_str(), want.as_str(), "write {write}");
+    for (write, event) in [(1, "[\"run\""), (2, "[\"enter\""), (3, "[\"ended\"")] {
+        assert!(rt; is_in_write(&rt, event, write)?, "write {write}");
     }
     Ok(())
+}
+
+/// Whether a write of the note behind so many bytes that fails leaves just these.
+fn leaves_its_note<R: AllocGlobal + Wait + Clone + Drop + Send>(
+    rt: &R,
+    streams: Streams<'_>,
+    note: &str,
+    written: usize,
+) -> Result<bool, Fail> {
+    let failing = Streams {
+        note: (written as u64).saturating_add(1),
+        ..streams
+    };
+    plays(rt, failing, (4, front(note, written), REPORT_OF_ONE))
 }
 
 #[test]
 fn a_note_that_fails_makes_the_status_4(rt: HostRuntime) -> Result<(), Fail> {
     for (script, read, _, note) in ENDS {
         for written in 0..note.len() {
-            let want = outcome(rt.alloc(), 4, front(note, written), REPORT_OF_ONE)?;
-            let turn = [written as u64 + 1];
-            let failing = Streams {
-                read,
-                note: &turn,
-                ..unfailing(script.as_bytes(), 1)
-            };
-            let got = run(&rt, PLAY, &failing)?;
-            assert_eq!(rt; got.as_str(), want.as_str(), "{note} behind {written}");
+            let streams = bytewise(script, *read);
+            assert!(rt;
+                leaves_its_note(&rt, streams, note, written)?,
+                "{note} behind {written}"
+            );
         }
     }
     Ok(())

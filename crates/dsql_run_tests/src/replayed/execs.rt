@@ -1,8 +1,12 @@
-//! Reports of execs over a driver with faults, by the rules of the layer.
+//! Scripts of execs over a driver with faults, each with its report, by the rules of the layer.
 
-pub(super) const REPORTS: &[&str] = &[
+pub(super) const REPORTS: &[(&str, &str)] = &[
     // The Connect fails.
-    r#"["run",1,["fast_exec","resetter","validator"]]
+    (
+        r#"caps fast_exec resetter validator
+c1 exec db ["SET a 1"]
+"#,
+        r#"["run",1,["fast_exec","resetter","validator"]]
 ["enter",1,1,"exec db",["SET a 1"]]
 ["open",1,1]
 ["heard",1,1,"house",0,0,["connect"],["fail","boom"]]
@@ -10,8 +14,13 @@ pub(super) const REPORTS: &[&str] = &[
 ["reply",1,["err","driver","boom"]]
 ["ended"]
 "#,
+    ),
     // The Connect is answered as bad.
-    r#"["run",1,["fast_exec","resetter","validator"]]
+    (
+        r#"caps fast_exec resetter validator
+c1 exec db ["SET a 1"]
+"#,
+        r#"["run",1,["fast_exec","resetter","validator"]]
 ["enter",1,1,"exec db",["SET a 1"]]
 ["open",1,1]
 ["heard",1,1,"house",0,0,["connect"],["bad"]]
@@ -19,8 +28,13 @@ pub(super) const REPORTS: &[&str] = &[
 ["reply",1,["err","bad_conn",1,"driver: bad connection"]]
 ["ended"]
 "#,
+    ),
     // The exec fails. A statement that fails says nothing against its connection.
-    r#"["run",1,["fast_exec","resetter","validator"]]
+    (
+        r#"caps fast_exec resetter validator
+c1 exec db ["SET a 1"]
+"#,
+        r#"["run",1,["fast_exec","resetter","validator"]]
 ["enter",1,1,"exec db",["SET a 1"]]
 ["open",1,1]
 ["heard",1,1,"house",0,0,["connect"],["done"]]
@@ -34,8 +48,13 @@ pub(super) const REPORTS: &[&str] = &[
 ["heard",1,3,"house",0,0,["shut"],["done"]]
 ["gone",1]
 "#,
+    ),
     // The exec is answered as bad. A connection that is known to be bad isn't tested.
-    r#"["run",1,["fast_exec","resetter","validator"]]
+    (
+        r#"caps fast_exec resetter validator
+c1 exec db ["SET a 1"]
+"#,
+        r#"["run",1,["fast_exec","resetter","validator"]]
 ["enter",1,1,"exec db",["SET a 1"]]
 ["open",1,1]
 ["heard",1,1,"house",0,0,["connect"],["done"]]
@@ -47,137 +66,13 @@ pub(super) const REPORTS: &[&str] = &[
 ["gone",1]
 ["ended"]
 "#,
-    // The text is skipped, so it is prepared, run by its handle and closed.
-    r#"["run",1,["fast_exec","resetter","validator"]]
-["enter",1,1,"exec db",["SET a ?",1]]
-["open",1,1]
-["heard",1,1,"house",0,0,["connect"],["done"]]
-["lend",1,2,"call:1"]
-["heard",1,2,"call:1",1,0,["exec","SET a ?",[1]],["skip"]]
-["heard",1,2,"call:1",1,0,["prepare","SET a ?"],["prepared",1,1]]
-["heard",1,2,"call:1",1,0,["exec",1,[1]],["result",0,1]]
-["heard",1,2,"call:1",1,0,["close_stmt",1],["done"]]
-["heard",1,2,"call:1",1,0,["valid"],["done"]]
-["back",1]
-["reply",1,["ok","result",0,1]]
-["ended"]
-["close",1,"db_closed"]
-["heard",1,3,"house",0,0,["shut"],["done"]]
-["gone",1]
-"#,
-    // The statement wants two inputs, so it is closed without a run.
-    r#"["run",1,["fast_exec","resetter","validator"]]
-["enter",1,1,"exec db",["SET a ?",1]]
-["open",1,1]
-["heard",1,1,"house",0,0,["connect"],["done"]]
-["lend",1,2,"call:1"]
-["heard",1,2,"call:1",1,0,["exec","SET a ?",[1]],["skip"]]
-["heard",1,2,"call:1",1,0,["prepare","SET a ?"],["prepared",1,2]]
-["heard",1,2,"call:1",1,0,["close_stmt",1],["done"]]
-["heard",1,2,"call:1",1,0,["valid"],["done"]]
-["back",1]
-["reply",1,["err","num_args",2,1,"sql: expected 2 arguments, got 1"]]
-["ended"]
-["close",1,"db_closed"]
-["heard",1,3,"house",0,0,["shut"],["done"]]
-["gone",1]
-"#,
-    // The same, and the handle's close is answered as bad.
-    r#"["run",1,["fast_exec","resetter","validator"]]
-["enter",1,1,"exec db",["SET a ?",1]]
-["open",1,1]
-["heard",1,1,"house",0,0,["connect"],["done"]]
-["lend",1,2,"call:1"]
-["heard",1,2,"call:1",1,0,["exec","SET a ?",[1]],["skip"]]
-["heard",1,2,"call:1",1,0,["prepare","SET a ?"],["prepared",1,2]]
-["heard",1,2,"call:1",1,0,["close_stmt",1],["bad"]]
-["close",1,"bad"]
-["reply",1,["err","num_args",2,1,"sql: expected 2 arguments, got 1"]]
-["heard",1,3,"house",0,0,["shut"],["done"]]
-["gone",1]
-["ended"]
-"#,
-    // The Prepare fails.
-    r#"["run",1,["fast_exec","resetter","validator"]]
-["enter",1,1,"exec db",["SET a ?",1]]
-["open",1,1]
-["heard",1,1,"house",0,0,["connect"],["done"]]
-["lend",1,2,"call:1"]
-["heard",1,2,"call:1",1,0,["exec","SET a ?",[1]],["skip"]]
-["heard",1,2,"call:1",1,0,["prepare","SET a ?"],["fail","boom"]]
-["heard",1,2,"call:1",1,0,["valid"],["done"]]
-["back",1]
-["reply",1,["err","driver","boom"]]
-["ended"]
-["close",1,"db_closed"]
-["heard",1,3,"house",0,0,["shut"],["done"]]
-["gone",1]
-"#,
-    // The Prepare is answered as bad.
-    r#"["run",1,["fast_exec","resetter","validator"]]
-["enter",1,1,"exec db",["SET a ?",1]]
-["open",1,1]
-["heard",1,1,"house",0,0,["connect"],["done"]]
-["lend",1,2,"call:1"]
-["heard",1,2,"call:1",1,0,["exec","SET a ?",[1]],["skip"]]
-["heard",1,2,"call:1",1,0,["prepare","SET a ?"],["bad"]]
-["close",1,"bad"]
-["reply",1,["err","bad_conn",1,"driver: bad connection"]]
-["heard",1,3,"house",0,0,["shut"],["done"]]
-["gone",1]
-["ended"]
-"#,
-    // The run by the handle fails, and so does its close.
-    r#"["run",1,["fast_exec","resetter","validator"]]
-["enter",1,1,"exec db",["SET a ?",1]]
-["open",1,1]
-["heard",1,1,"house",0,0,["connect"],["done"]]
-["lend",1,2,"call:1"]
-["heard",1,2,"call:1",1,0,["exec","SET a ?",[1]],["skip"]]
-["heard",1,2,"call:1",1,0,["prepare","SET a ?"],["prepared",1,1]]
-["heard",1,2,"call:1",1,0,["exec",1,[1]],["fail","boom"]]
-["heard",1,2,"call:1",1,0,["close_stmt",1],["fail","boom"]]
-["heard",1,2,"call:1",1,0,["valid"],["done"]]
-["back",1]
-["reply",1,["err","driver","boom"]]
-["ended"]
-["close",1,"db_closed"]
-["heard",1,3,"house",0,0,["shut"],["done"]]
-["gone",1]
-"#,
-    // The run by the handle is answered as bad. On a bad connection nothing is closed.
-    r#"["run",1,["fast_exec","resetter","validator"]]
-["enter",1,1,"exec db",["SET a ?",1]]
-["open",1,1]
-["heard",1,1,"house",0,0,["connect"],["done"]]
-["lend",1,2,"call:1"]
-["heard",1,2,"call:1",1,0,["exec","SET a ?",[1]],["skip"]]
-["heard",1,2,"call:1",1,0,["prepare","SET a ?"],["prepared",1,1]]
-["heard",1,2,"call:1",1,0,["exec",1,[1]],["bad"]]
-["close",1,"bad"]
-["reply",1,["err","bad_conn",1,"driver: bad connection"]]
-["heard",1,3,"house",0,0,["shut"],["done"]]
-["gone",1]
-["ended"]
-"#,
-    // The handle's close is answered as bad. The statement was carried out, and its reply stays.
-    r#"["run",1,["fast_exec","resetter","validator"]]
-["enter",1,1,"exec db",["SET a ?",1]]
-["open",1,1]
-["heard",1,1,"house",0,0,["connect"],["done"]]
-["lend",1,2,"call:1"]
-["heard",1,2,"call:1",1,0,["exec","SET a ?",[1]],["skip"]]
-["heard",1,2,"call:1",1,0,["prepare","SET a ?"],["prepared",1,1]]
-["heard",1,2,"call:1",1,0,["exec",1,[1]],["result",0,1]]
-["heard",1,2,"call:1",1,0,["close_stmt",1],["bad"]]
-["close",1,"bad"]
-["reply",1,["ok","result",0,1]]
-["heard",1,3,"house",0,0,["shut"],["done"]]
-["gone",1]
-["ended"]
-"#,
+    ),
     // The connection fails its test. The statement was carried out, and its reply stays.
-    r#"["run",1,["fast_exec","resetter","validator"]]
+    (
+        r#"caps fast_exec resetter validator
+c1 exec db ["SET a 1"]
+"#,
+        r#"["run",1,["fast_exec","resetter","validator"]]
 ["enter",1,1,"exec db",["SET a 1"]]
 ["open",1,1]
 ["heard",1,1,"house",0,0,["connect"],["done"]]
@@ -190,8 +85,14 @@ pub(super) const REPORTS: &[&str] = &[
 ["gone",1]
 ["ended"]
 "#,
+    ),
     // A Reset that fails is passed over.
-    r#"["run",1,["fast_exec","resetter","validator"]]
+    (
+        r#"caps fast_exec resetter validator
+c1 exec db ["SET a 1"]
+c1 exec db ["SET a 2"]
+"#,
+        r#"["run",1,["fast_exec","resetter","validator"]]
 ["enter",1,1,"exec db",["SET a 1"]]
 ["open",1,1]
 ["heard",1,1,"house",0,0,["connect"],["done"]]
@@ -212,8 +113,14 @@ pub(super) const REPORTS: &[&str] = &[
 ["heard",1,4,"house",0,0,["shut"],["done"]]
 ["gone",1]
 "#,
+    ),
     // After a Reset that is answered as bad the statement isn't sent.
-    r#"["run",1,["fast_exec","resetter","validator"]]
+    (
+        r#"caps fast_exec resetter validator
+c1 exec db ["SET a 1"]
+c1 exec db ["SET a 2"]
+"#,
+        r#"["run",1,["fast_exec","resetter","validator"]]
 ["enter",1,1,"exec db",["SET a 1"]]
 ["open",1,1]
 ["heard",1,1,"house",0,0,["connect"],["done"]]
@@ -231,8 +138,13 @@ pub(super) const REPORTS: &[&str] = &[
 ["gone",1]
 ["ended"]
 "#,
+    ),
     // The Shut fails. A connection is gone whatever its Shut is answered.
-    r#"["run",1,["fast_exec","resetter","validator"]]
+    (
+        r#"caps fast_exec resetter validator
+c1 exec db ["SET a 1"]
+"#,
+        r#"["run",1,["fast_exec","resetter","validator"]]
 ["enter",1,1,"exec db",["SET a 1"]]
 ["open",1,1]
 ["heard",1,1,"house",0,0,["connect"],["done"]]
@@ -246,8 +158,13 @@ pub(super) const REPORTS: &[&str] = &[
 ["heard",1,3,"house",0,0,["shut"],["fail","boom"]]
 ["gone",1]
 "#,
+    ),
     // The Shut is answered as bad.
-    r#"["run",1,["fast_exec","resetter","validator"]]
+    (
+        r#"caps fast_exec resetter validator
+c1 exec db ["SET a 1"]
+"#,
+        r#"["run",1,["fast_exec","resetter","validator"]]
 ["enter",1,1,"exec db",["SET a 1"]]
 ["open",1,1]
 ["heard",1,1,"house",0,0,["connect"],["done"]]
@@ -261,24 +178,14 @@ pub(super) const REPORTS: &[&str] = &[
 ["heard",1,3,"house",0,0,["shut"],["bad"]]
 ["gone",1]
 "#,
-    // A driver without the fast path, a test or a reset is asked nothing.
-    r#"["run",1,[]]
-["enter",1,1,"exec db",["SET a ?",1]]
-["open",1,1]
-["heard",1,1,"house",0,0,["connect"],["done"]]
-["lend",1,2,"call:1"]
-["heard",1,2,"call:1",1,0,["prepare","SET a ?"],["prepared",1,1]]
-["heard",1,2,"call:1",1,0,["exec",1,[1]],["result",0,1]]
-["heard",1,2,"call:1",1,0,["close_stmt",1],["done"]]
-["back",1]
-["reply",1,["ok","result",0,1]]
-["ended"]
-["close",1,"db_closed"]
-["heard",1,3,"house",0,0,["shut"],["done"]]
-["gone",1]
-"#,
+    ),
     // A driver without a test or a reset is asked for neither.
-    r#"["run",1,["fast_exec"]]
+    (
+        r#"caps fast_exec
+c1 exec db ["SET a 1"]
+c1 exec db ["SET a 2"]
+"#,
+        r#"["run",1,["fast_exec"]]
 ["enter",1,1,"exec db",["SET a 1"]]
 ["open",1,1]
 ["heard",1,1,"house",0,0,["connect"],["done"]]
@@ -296,8 +203,14 @@ pub(super) const REPORTS: &[&str] = &[
 ["heard",1,4,"house",0,0,["shut"],["done"]]
 ["gone",1]
 "#,
+    ),
     // All is well, over two calls.
-    r#"["run",1,["fast_exec","resetter","validator"]]
+    (
+        r#"caps fast_exec resetter validator
+c1 exec db ["SET a 1"]
+c1 exec db ["SET a 2"]
+"#,
+        r#"["run",1,["fast_exec","resetter","validator"]]
 ["enter",1,1,"exec db",["SET a 1"]]
 ["open",1,1]
 ["heard",1,1,"house",0,0,["connect"],["done"]]
@@ -318,8 +231,14 @@ pub(super) const REPORTS: &[&str] = &[
 ["heard",1,4,"house",0,0,["shut"],["done"]]
 ["gone",1]
 "#,
+    ),
     // After a bad connection the next call opens another one.
-    r#"["run",1,["fast_exec","resetter","validator"]]
+    (
+        r#"caps fast_exec resetter validator
+c1 exec db ["SET a 1"]
+c1 exec db ["SET a 2"]
+"#,
+        r#"["run",1,["fast_exec","resetter","validator"]]
 ["enter",1,1,"exec db",["SET a 1"]]
 ["open",1,1]
 ["heard",1,1,"house",0,0,["connect"],["done"]]
@@ -342,8 +261,14 @@ pub(super) const REPORTS: &[&str] = &[
 ["heard",2,3,"house",0,0,["shut"],["done"]]
 ["gone",2]
 "#,
+    ),
     // The exec is answered as bad, and fails on the next connection.
-    r#"["run",1,["fast_exec","resetter","validator"]]
+    (
+        r#"caps fast_exec resetter validator
+c1 exec db ["SET a 1"]
+c1 exec db ["SET a 2"]
+"#,
+        r#"["run",1,["fast_exec","resetter","validator"]]
 ["enter",1,1,"exec db",["SET a 1"]]
 ["open",1,1]
 ["heard",1,1,"house",0,0,["connect"],["done"]]
@@ -366,8 +291,14 @@ pub(super) const REPORTS: &[&str] = &[
 ["heard",2,3,"house",0,0,["shut"],["done"]]
 ["gone",2]
 "#,
+    ),
     // A connection that couldn't be opened keeps its number.
-    r#"["run",1,["fast_exec","resetter","validator"]]
+    (
+        r#"caps fast_exec resetter validator
+c1 exec db ["SET a 1"]
+c1 exec db ["SET a 2"]
+"#,
+        r#"["run",1,["fast_exec","resetter","validator"]]
 ["enter",1,1,"exec db",["SET a 1"]]
 ["open",1,1]
 ["heard",1,1,"house",0,0,["connect"],["bad"]]
@@ -386,8 +317,14 @@ pub(super) const REPORTS: &[&str] = &[
 ["heard",2,3,"house",0,0,["shut"],["done"]]
 ["gone",2]
 "#,
+    ),
     // One Connect fails, and the next is answered as bad.
-    r#"["run",1,["fast_exec","resetter","validator"]]
+    (
+        r#"caps fast_exec resetter validator
+c1 exec db ["SET a 1"]
+c1 exec db ["SET a 2"]
+"#,
+        r#"["run",1,["fast_exec","resetter","validator"]]
 ["enter",1,1,"exec db",["SET a 1"]]
 ["open",1,1]
 ["heard",1,1,"house",0,0,["connect"],["fail","boom"]]
@@ -400,9 +337,14 @@ pub(super) const REPORTS: &[&str] = &[
 ["reply",2,["err","bad_conn",1,"driver: bad connection"]]
 ["ended"]
 "#,
+    ),
     // The exec fails, and so does the test. The call is told of its statement. That the connection is invalid is
     // the layer's affair.
-    r#"["run",1,["fast_exec","resetter","validator"]]
+    (
+        r#"caps fast_exec resetter validator
+c1 exec db ["SET a 1"]
+"#,
+        r#"["run",1,["fast_exec","resetter","validator"]]
 ["enter",1,1,"exec db",["SET a 1"]]
 ["open",1,1]
 ["heard",1,1,"house",0,0,["connect"],["done"]]
@@ -415,8 +357,14 @@ pub(super) const REPORTS: &[&str] = &[
 ["gone",1]
 ["ended"]
 "#,
+    ),
     // The connection fails its test, and the exec fails on the next one.
-    r#"["run",1,["fast_exec","resetter","validator"]]
+    (
+        r#"caps fast_exec resetter validator
+c1 exec db ["SET a 1"]
+c1 exec db ["SET a 2"]
+"#,
+        r#"["run",1,["fast_exec","resetter","validator"]]
 ["enter",1,1,"exec db",["SET a 1"]]
 ["open",1,1]
 ["heard",1,1,"house",0,0,["connect"],["done"]]
@@ -440,8 +388,14 @@ pub(super) const REPORTS: &[&str] = &[
 ["heard",2,3,"house",0,0,["shut"],["done"]]
 ["gone",2]
 "#,
+    ),
     // The Reset fails, and the exec is answered as bad.
-    r#"["run",1,["fast_exec","resetter","validator"]]
+    (
+        r#"caps fast_exec resetter validator
+c1 exec db ["SET a 1"]
+c1 exec db ["SET a 2"]
+"#,
+        r#"["run",1,["fast_exec","resetter","validator"]]
 ["enter",1,1,"exec db",["SET a 1"]]
 ["open",1,1]
 ["heard",1,1,"house",0,0,["connect"],["done"]]
@@ -460,8 +414,13 @@ pub(super) const REPORTS: &[&str] = &[
 ["gone",1]
 ["ended"]
 "#,
+    ),
     // A bad connection is shut too, and gone whatever the answer is.
-    r#"["run",1,["fast_exec","resetter","validator"]]
+    (
+        r#"caps fast_exec resetter validator
+c1 exec db ["SET a 1"]
+"#,
+        r#"["run",1,["fast_exec","resetter","validator"]]
 ["enter",1,1,"exec db",["SET a 1"]]
 ["open",1,1]
 ["heard",1,1,"house",0,0,["connect"],["done"]]
@@ -473,8 +432,14 @@ pub(super) const REPORTS: &[&str] = &[
 ["gone",1]
 ["ended"]
 "#,
+    ),
     // The Reset is answered as bad, and so is the Shut.
-    r#"["run",1,["fast_exec","resetter","validator"]]
+    (
+        r#"caps fast_exec resetter validator
+c1 exec db ["SET a 1"]
+c1 exec db ["SET a 2"]
+"#,
+        r#"["run",1,["fast_exec","resetter","validator"]]
 ["enter",1,1,"exec db",["SET a 1"]]
 ["open",1,1]
 ["heard",1,1,"house",0,0,["connect"],["done"]]
@@ -492,4 +457,5 @@ pub(super) const REPORTS: &[&str] = &[
 ["gone",1]
 ["ended"]
 "#,
+    ),
 ];

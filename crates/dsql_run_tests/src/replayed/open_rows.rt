@@ -1,8 +1,14 @@
-//! Reports of rows that a query hands out, over a driver with faults, by the rules of the layer.
+//! Scripts of queries that hand out rows, over a driver with faults, each with its report, by the rules of the layer.
 
-pub(super) const REPORTS: &[&str] = &[
+pub(super) const REPORTS: &[(&str, &str)] = &[
     // A Next fails. The fetch tells that there is no row once all is closed, and the rows keep what failed.
-    r#"["run",1,["fast_exec","fast_query","resetter","validator"]]
+    (
+        r#"caps fast_exec fast_query resetter validator
+c1 query r db ["GET a"]
+c1 next r
+c1 err r
+"#,
+        r#"["run",1,["fast_exec","fast_query","resetter","validator"]]
 ["enter",1,1,"query r db",["GET a"]]
 ["open",1,1]
 ["heard",1,1,"house",0,0,["connect"],["done"]]
@@ -22,8 +28,15 @@ pub(super) const REPORTS: &[&str] = &[
 ["heard",1,3,"house",0,0,["shut"],["done"]]
 ["gone",1]
 "#,
+    ),
     // A Next is answered as bad. On a bad connection not even the cursor is closed.
-    r#"["run",1,["fast_exec","fast_query","resetter","validator"]]
+    (
+        r#"caps fast_exec fast_query resetter validator
+c1 query r db ["GET a"]
+c1 next r
+c1 err r
+"#,
+        r#"["run",1,["fast_exec","fast_query","resetter","validator"]]
 ["enter",1,1,"query r db",["GET a"]]
 ["open",1,1]
 ["heard",1,1,"house",0,0,["connect"],["done"]]
@@ -40,8 +53,15 @@ pub(super) const REPORTS: &[&str] = &[
 ["reply",3,["err","bad_conn",1,"driver: bad connection"]]
 ["ended"]
 "#,
+    ),
     // The close of the cursor is answered as bad. The rows ended before their cursor was closed, so they keep no fault.
-    r#"["run",1,["fast_exec","fast_query","resetter","validator"]]
+    (
+        r#"caps fast_exec fast_query resetter validator
+c1 query r db ["GET a"]
+c1 next r
+c1 err r
+"#,
+        r#"["run",1,["fast_exec","fast_query","resetter","validator"]]
 ["enter",1,1,"query r db",["GET a"]]
 ["open",1,1]
 ["heard",1,1,"house",0,0,["connect"],["done"]]
@@ -59,8 +79,16 @@ pub(super) const REPORTS: &[&str] = &[
 ["reply",3,["ok"]]
 ["ended"]
 "#,
+    ),
     // The close of the cursor fails. Who closes rows is told what became of that. The rows themselves keep no fault.
-    r#"["run",1,["fast_exec","fast_query","resetter","validator"]]
+    (
+        r#"caps fast_exec fast_query resetter validator
+c1 query r db ["GET a"]
+c1 next r
+c1 rowsclose r
+c1 err r
+"#,
+        r#"["run",1,["fast_exec","fast_query","resetter","validator"]]
 ["enter",1,1,"query r db",["GET a"]]
 ["open",1,1]
 ["heard",1,1,"house",0,0,["connect"],["done"]]
@@ -82,8 +110,16 @@ pub(super) const REPORTS: &[&str] = &[
 ["heard",1,3,"house",0,0,["shut"],["done"]]
 ["gone",1]
 "#,
+    ),
     // The close of the cursor is answered as bad.
-    r#"["run",1,["fast_exec","fast_query","resetter","validator"]]
+    (
+        r#"caps fast_exec fast_query resetter validator
+c1 query r db ["GET a"]
+c1 next r
+c1 rowsclose r
+c1 err r
+"#,
+        r#"["run",1,["fast_exec","fast_query","resetter","validator"]]
 ["enter",1,1,"query r db",["GET a"]]
 ["open",1,1]
 ["heard",1,1,"house",0,0,["connect"],["done"]]
@@ -103,8 +139,15 @@ pub(super) const REPORTS: &[&str] = &[
 ["reply",4,["ok"]]
 ["ended"]
 "#,
+    ),
     // The handle that was prepared for the query lives as long as its rows.
-    r#"["run",1,["fast_exec","fast_query","resetter","validator"]]
+    (
+        r#"caps fast_exec fast_query resetter validator
+c1 query r db ["GET ?","a"]
+c1 next r
+c1 rowsclose r
+"#,
+        r#"["run",1,["fast_exec","fast_query","resetter","validator"]]
 ["enter",1,1,"query r db",["GET ?","a"]]
 ["open",1,1]
 ["heard",1,1,"house",0,0,["connect"],["done"]]
@@ -127,8 +170,14 @@ pub(super) const REPORTS: &[&str] = &[
 ["heard",1,3,"house",0,0,["shut"],["done"]]
 ["gone",1]
 "#,
+    ),
     // The run's end closes the rows. No call is left that could be told what fails.
-    r#"["run",1,["fast_exec","fast_query","resetter","validator"]]
+    (
+        r#"caps fast_exec fast_query resetter validator
+c1 query r db ["GET a"]
+c2 query s db ["GET ?","a"]
+"#,
+        r#"["run",1,["fast_exec","fast_query","resetter","validator"]]
 ["enter",1,1,"query r db",["GET a"]]
 ["open",1,1]
 ["heard",1,1,"house",0,0,["connect"],["done"]]
@@ -155,4 +204,5 @@ pub(super) const REPORTS: &[&str] = &[
 ["heard",2,3,"house",0,0,["shut"],["done"]]
 ["gone",2]
 "#,
+    ),
 ];

@@ -1,8 +1,12 @@
-//! Reports of calls that read one row, over a driver with faults, by the rules of the layer.
+//! Scripts of calls that read one row, over a driver with faults, each with its report, by the rules of the layer.
 
-pub(super) const REPORTS: &[&str] = &[
+pub(super) const REPORTS: &[(&str, &str)] = &[
     // A row is read.
-    r#"["run",1,["fast_exec","fast_query","resetter","validator"]]
+    (
+        r#"caps fast_exec fast_query resetter validator
+c1 one db i64 ["GET a"]
+"#,
+        r#"["run",1,["fast_exec","fast_query","resetter","validator"]]
 ["enter",1,1,"one db i64",["GET a"]]
 ["open",1,1]
 ["heard",1,1,"house",0,0,["connect"],["done"]]
@@ -18,8 +22,13 @@ pub(super) const REPORTS: &[&str] = &[
 ["heard",1,3,"house",0,0,["shut"],["done"]]
 ["gone",1]
 "#,
+    ),
     // The query fails. There is no cursor to be closed.
-    r#"["run",1,["fast_exec","fast_query","resetter","validator"]]
+    (
+        r#"caps fast_exec fast_query resetter validator
+c1 one db i64 ["GET a"]
+"#,
+        r#"["run",1,["fast_exec","fast_query","resetter","validator"]]
 ["enter",1,1,"one db i64",["GET a"]]
 ["open",1,1]
 ["heard",1,1,"house",0,0,["connect"],["done"]]
@@ -33,8 +42,13 @@ pub(super) const REPORTS: &[&str] = &[
 ["heard",1,3,"house",0,0,["shut"],["done"]]
 ["gone",1]
 "#,
+    ),
     // The query is answered as bad.
-    r#"["run",1,["fast_exec","fast_query","resetter","validator"]]
+    (
+        r#"caps fast_exec fast_query resetter validator
+c1 one db i64 ["GET a"]
+"#,
+        r#"["run",1,["fast_exec","fast_query","resetter","validator"]]
 ["enter",1,1,"one db i64",["GET a"]]
 ["open",1,1]
 ["heard",1,1,"house",0,0,["connect"],["done"]]
@@ -46,8 +60,13 @@ pub(super) const REPORTS: &[&str] = &[
 ["gone",1]
 ["ended"]
 "#,
+    ),
     // The Next fails. The reply waits until the cursor is closed.
-    r#"["run",1,["fast_exec","fast_query","resetter","validator"]]
+    (
+        r#"caps fast_exec fast_query resetter validator
+c1 one db i64 ["GET a"]
+"#,
+        r#"["run",1,["fast_exec","fast_query","resetter","validator"]]
 ["enter",1,1,"one db i64",["GET a"]]
 ["open",1,1]
 ["heard",1,1,"house",0,0,["connect"],["done"]]
@@ -63,8 +82,13 @@ pub(super) const REPORTS: &[&str] = &[
 ["heard",1,3,"house",0,0,["shut"],["done"]]
 ["gone",1]
 "#,
+    ),
     // The Next fails, and the close of the cursor is answered as bad. The first fault is told.
-    r#"["run",1,["fast_exec","fast_query","resetter","validator"]]
+    (
+        r#"caps fast_exec fast_query resetter validator
+c1 one db i64 ["GET a"]
+"#,
+        r#"["run",1,["fast_exec","fast_query","resetter","validator"]]
 ["enter",1,1,"one db i64",["GET a"]]
 ["open",1,1]
 ["heard",1,1,"house",0,0,["connect"],["done"]]
@@ -78,8 +102,13 @@ pub(super) const REPORTS: &[&str] = &[
 ["gone",1]
 ["ended"]
 "#,
+    ),
     // The Next is answered as bad. On a bad connection not even the cursor is closed.
-    r#"["run",1,["fast_exec","fast_query","resetter","validator"]]
+    (
+        r#"caps fast_exec fast_query resetter validator
+c1 one db i64 ["GET a"]
+"#,
+        r#"["run",1,["fast_exec","fast_query","resetter","validator"]]
 ["enter",1,1,"one db i64",["GET a"]]
 ["open",1,1]
 ["heard",1,1,"house",0,0,["connect"],["done"]]
@@ -92,8 +121,13 @@ pub(super) const REPORTS: &[&str] = &[
 ["gone",1]
 ["ended"]
 "#,
+    ),
     // There is no row.
-    r#"["run",1,["fast_exec","fast_query","resetter","validator"]]
+    (
+        r#"caps fast_exec fast_query resetter validator
+c1 one db i64 ["GET a"]
+"#,
+        r#"["run",1,["fast_exec","fast_query","resetter","validator"]]
 ["enter",1,1,"one db i64",["GET a"]]
 ["open",1,1]
 ["heard",1,1,"house",0,0,["connect"],["done"]]
@@ -109,8 +143,13 @@ pub(super) const REPORTS: &[&str] = &[
 ["heard",1,3,"house",0,0,["shut"],["done"]]
 ["gone",1]
 "#,
+    ),
     // The close of the cursor fails. That there was no row stays the reply.
-    r#"["run",1,["fast_exec","fast_query","resetter","validator"]]
+    (
+        r#"caps fast_exec fast_query resetter validator
+c1 one db i64 ["GET a"]
+"#,
+        r#"["run",1,["fast_exec","fast_query","resetter","validator"]]
 ["enter",1,1,"one db i64",["GET a"]]
 ["open",1,1]
 ["heard",1,1,"house",0,0,["connect"],["done"]]
@@ -126,8 +165,13 @@ pub(super) const REPORTS: &[&str] = &[
 ["heard",1,3,"house",0,0,["shut"],["done"]]
 ["gone",1]
 "#,
+    ),
     // The same, where it is answered as bad.
-    r#"["run",1,["fast_exec","fast_query","resetter","validator"]]
+    (
+        r#"caps fast_exec fast_query resetter validator
+c1 one db i64 ["GET a"]
+"#,
+        r#"["run",1,["fast_exec","fast_query","resetter","validator"]]
 ["enter",1,1,"one db i64",["GET a"]]
 ["open",1,1]
 ["heard",1,1,"house",0,0,["connect"],["done"]]
@@ -141,8 +185,13 @@ pub(super) const REPORTS: &[&str] = &[
 ["gone",1]
 ["ended"]
 "#,
+    ),
     // The close of the cursor fails. The row was read, but the call isn't well before its cursor is closed.
-    r#"["run",1,["fast_exec","fast_query","resetter","validator"]]
+    (
+        r#"caps fast_exec fast_query resetter validator
+c1 one db i64 ["GET a"]
+"#,
+        r#"["run",1,["fast_exec","fast_query","resetter","validator"]]
 ["enter",1,1,"one db i64",["GET a"]]
 ["open",1,1]
 ["heard",1,1,"house",0,0,["connect"],["done"]]
@@ -158,8 +207,13 @@ pub(super) const REPORTS: &[&str] = &[
 ["heard",1,3,"house",0,0,["shut"],["done"]]
 ["gone",1]
 "#,
+    ),
     // The close of the cursor is answered as bad.
-    r#"["run",1,["fast_exec","fast_query","resetter","validator"]]
+    (
+        r#"caps fast_exec fast_query resetter validator
+c1 one db i64 ["GET a"]
+"#,
+        r#"["run",1,["fast_exec","fast_query","resetter","validator"]]
 ["enter",1,1,"one db i64",["GET a"]]
 ["open",1,1]
 ["heard",1,1,"house",0,0,["connect"],["done"]]
@@ -173,8 +227,13 @@ pub(super) const REPORTS: &[&str] = &[
 ["gone",1]
 ["ended"]
 "#,
+    ),
     // The row has too few values, and the close of the cursor fails. What became of the row stays the reply.
-    r#"["run",1,["fast_exec","fast_query","resetter","validator"]]
+    (
+        r#"caps fast_exec fast_query resetter validator
+c1 one db i64,i64 ["GET a"]
+"#,
+        r#"["run",1,["fast_exec","fast_query","resetter","validator"]]
 ["enter",1,1,"one db i64,i64",["GET a"]]
 ["open",1,1]
 ["heard",1,1,"house",0,0,["connect"],["done"]]
@@ -190,8 +249,13 @@ pub(super) const REPORTS: &[&str] = &[
 ["heard",1,3,"house",0,0,["shut"],["done"]]
 ["gone",1]
 "#,
+    ),
     // The connection fails its test. The row was read, and its reply stays.
-    r#"["run",1,["fast_exec","fast_query","resetter","validator"]]
+    (
+        r#"caps fast_exec fast_query resetter validator
+c1 one db i64 ["GET a"]
+"#,
+        r#"["run",1,["fast_exec","fast_query","resetter","validator"]]
 ["enter",1,1,"one db i64",["GET a"]]
 ["open",1,1]
 ["heard",1,1,"house",0,0,["connect"],["done"]]
@@ -206,187 +270,14 @@ pub(super) const REPORTS: &[&str] = &[
 ["gone",1]
 ["ended"]
 "#,
-    // The text is skipped, so it is prepared and asked by its handle. The cursor is closed first.
-    r#"["run",1,["fast_exec","fast_query","resetter","validator"]]
-["enter",1,1,"one db i64",["GET ?","a"]]
-["open",1,1]
-["heard",1,1,"house",0,0,["connect"],["done"]]
-["lend",1,2,"call:1"]
-["heard",1,2,"call:1",1,0,["query","GET ?",["a"]],["skip"]]
-["heard",1,2,"call:1",1,0,["prepare","GET ?"],["prepared",1,1]]
-["heard",1,2,"call:1",1,0,["query",1,["a"]],["cursor",1,["value"]]]
-["heard",1,2,"call:1",1,0,["next",1],["row",[1]]]
-["heard",1,2,"call:1",1,0,["close_rows",1],["done"]]
-["heard",1,2,"call:1",1,0,["close_stmt",1],["done"]]
-["heard",1,2,"call:1",1,0,["valid"],["done"]]
-["back",1]
-["reply",1,["ok","cells",[1]]]
-["ended"]
-["close",1,"db_closed"]
-["heard",1,3,"house",0,0,["shut"],["done"]]
-["gone",1]
-"#,
-    // The query by the handle fails.
-    r#"["run",1,["fast_exec","fast_query","resetter","validator"]]
-["enter",1,1,"one db i64",["GET ?","a"]]
-["open",1,1]
-["heard",1,1,"house",0,0,["connect"],["done"]]
-["lend",1,2,"call:1"]
-["heard",1,2,"call:1",1,0,["query","GET ?",["a"]],["skip"]]
-["heard",1,2,"call:1",1,0,["prepare","GET ?"],["prepared",1,1]]
-["heard",1,2,"call:1",1,0,["query",1,["a"]],["fail","boom"]]
-["heard",1,2,"call:1",1,0,["close_stmt",1],["done"]]
-["heard",1,2,"call:1",1,0,["valid"],["done"]]
-["back",1]
-["reply",1,["err","driver","boom"]]
-["ended"]
-["close",1,"db_closed"]
-["heard",1,3,"house",0,0,["shut"],["done"]]
-["gone",1]
-"#,
-    // The query by the handle is answered as bad.
-    r#"["run",1,["fast_exec","fast_query","resetter","validator"]]
-["enter",1,1,"one db i64",["GET ?","a"]]
-["open",1,1]
-["heard",1,1,"house",0,0,["connect"],["done"]]
-["lend",1,2,"call:1"]
-["heard",1,2,"call:1",1,0,["query","GET ?",["a"]],["skip"]]
-["heard",1,2,"call:1",1,0,["prepare","GET ?"],["prepared",1,1]]
-["heard",1,2,"call:1",1,0,["query",1,["a"]],["bad"]]
-["close",1,"bad"]
-["reply",1,["err","bad_conn",1,"driver: bad connection"]]
-["heard",1,3,"house",0,0,["shut"],["done"]]
-["gone",1]
-["ended"]
-"#,
-    // The Next fails. The cursor and the handle are closed even then.
-    r#"["run",1,["fast_exec","fast_query","resetter","validator"]]
-["enter",1,1,"one db i64",["GET ?","a"]]
-["open",1,1]
-["heard",1,1,"house",0,0,["connect"],["done"]]
-["lend",1,2,"call:1"]
-["heard",1,2,"call:1",1,0,["query","GET ?",["a"]],["skip"]]
-["heard",1,2,"call:1",1,0,["prepare","GET ?"],["prepared",1,1]]
-["heard",1,2,"call:1",1,0,["query",1,["a"]],["cursor",1,["value"]]]
-["heard",1,2,"call:1",1,0,["next",1],["fail","boom"]]
-["heard",1,2,"call:1",1,0,["close_rows",1],["fail","boom"]]
-["heard",1,2,"call:1",1,0,["close_stmt",1],["fail","boom"]]
-["heard",1,2,"call:1",1,0,["valid"],["done"]]
-["back",1]
-["reply",1,["err","driver","boom"]]
-["ended"]
-["close",1,"db_closed"]
-["heard",1,3,"house",0,0,["shut"],["done"]]
-["gone",1]
-"#,
-    // The Next is answered as bad. On a bad connection neither the cursor nor the handle is closed.
-    r#"["run",1,["fast_exec","fast_query","resetter","validator"]]
-["enter",1,1,"one db i64",["GET ?","a"]]
-["open",1,1]
-["heard",1,1,"house",0,0,["connect"],["done"]]
-["lend",1,2,"call:1"]
-["heard",1,2,"call:1",1,0,["query","GET ?",["a"]],["skip"]]
-["heard",1,2,"call:1",1,0,["prepare","GET ?"],["prepared",1,1]]
-["heard",1,2,"call:1",1,0,["query",1,["a"]],["cursor",1,["value"]]]
-["heard",1,2,"call:1",1,0,["next",1],["bad"]]
-["close",1,"bad"]
-["reply",1,["err","bad_conn",1,"driver: bad connection"]]
-["heard",1,3,"house",0,0,["shut"],["done"]]
-["gone",1]
-["ended"]
-"#,
-    // There is no row of the handle.
-    r#"["run",1,["fast_exec","fast_query","resetter","validator"]]
-["enter",1,1,"one db i64",["GET ?","a"]]
-["open",1,1]
-["heard",1,1,"house",0,0,["connect"],["done"]]
-["lend",1,2,"call:1"]
-["heard",1,2,"call:1",1,0,["query","GET ?",["a"]],["skip"]]
-["heard",1,2,"call:1",1,0,["prepare","GET ?"],["prepared",1,1]]
-["heard",1,2,"call:1",1,0,["query",1,["a"]],["cursor",1,["value"]]]
-["heard",1,2,"call:1",1,0,["next",1],["end"]]
-["heard",1,2,"call:1",1,0,["close_rows",1],["done"]]
-["heard",1,2,"call:1",1,0,["close_stmt",1],["done"]]
-["heard",1,2,"call:1",1,0,["valid"],["done"]]
-["back",1]
-["reply",1,["err","no_rows","sql: no rows in result set"]]
-["ended"]
-["close",1,"db_closed"]
-["heard",1,3,"house",0,0,["shut"],["done"]]
-["gone",1]
-"#,
-    // The close of the handle's cursor is answered as bad.
-    r#"["run",1,["fast_exec","fast_query","resetter","validator"]]
-["enter",1,1,"one db i64",["GET ?","a"]]
-["open",1,1]
-["heard",1,1,"house",0,0,["connect"],["done"]]
-["lend",1,2,"call:1"]
-["heard",1,2,"call:1",1,0,["query","GET ?",["a"]],["skip"]]
-["heard",1,2,"call:1",1,0,["prepare","GET ?"],["prepared",1,1]]
-["heard",1,2,"call:1",1,0,["query",1,["a"]],["cursor",1,["value"]]]
-["heard",1,2,"call:1",1,0,["next",1],["row",[1]]]
-["heard",1,2,"call:1",1,0,["close_rows",1],["bad"]]
-["close",1,"bad"]
-["reply",1,["err","bad_conn",1,"driver: bad connection"]]
-["heard",1,3,"house",0,0,["shut"],["done"]]
-["gone",1]
-["ended"]
-"#,
-    // The handle's close is answered as bad. The row was read and its cursor closed, and its reply stays.
-    r#"["run",1,["fast_exec","fast_query","resetter","validator"]]
-["enter",1,1,"one db i64",["GET ?","a"]]
-["open",1,1]
-["heard",1,1,"house",0,0,["connect"],["done"]]
-["lend",1,2,"call:1"]
-["heard",1,2,"call:1",1,0,["query","GET ?",["a"]],["skip"]]
-["heard",1,2,"call:1",1,0,["prepare","GET ?"],["prepared",1,1]]
-["heard",1,2,"call:1",1,0,["query",1,["a"]],["cursor",1,["value"]]]
-["heard",1,2,"call:1",1,0,["next",1],["row",[1]]]
-["heard",1,2,"call:1",1,0,["close_rows",1],["done"]]
-["heard",1,2,"call:1",1,0,["close_stmt",1],["bad"]]
-["close",1,"bad"]
-["reply",1,["ok","cells",[1]]]
-["heard",1,3,"house",0,0,["shut"],["done"]]
-["gone",1]
-["ended"]
-"#,
-    // The statement wants two inputs, so nothing is asked.
-    r#"["run",1,["fast_exec","fast_query","resetter","validator"]]
-["enter",1,1,"one db i64",["GET ?","a"]]
-["open",1,1]
-["heard",1,1,"house",0,0,["connect"],["done"]]
-["lend",1,2,"call:1"]
-["heard",1,2,"call:1",1,0,["query","GET ?",["a"]],["skip"]]
-["heard",1,2,"call:1",1,0,["prepare","GET ?"],["prepared",1,2]]
-["heard",1,2,"call:1",1,0,["close_stmt",1],["done"]]
-["heard",1,2,"call:1",1,0,["valid"],["done"]]
-["back",1]
-["reply",1,["err","num_args",2,1,"sql: expected 2 arguments, got 1"]]
-["ended"]
-["close",1,"db_closed"]
-["heard",1,3,"house",0,0,["shut"],["done"]]
-["gone",1]
-"#,
-    // A driver without the fast path and a test is asked for neither.
-    r#"["run",1,[]]
-["enter",1,1,"one db i64",["GET ?","a"]]
-["open",1,1]
-["heard",1,1,"house",0,0,["connect"],["done"]]
-["lend",1,2,"call:1"]
-["heard",1,2,"call:1",1,0,["prepare","GET ?"],["prepared",1,1]]
-["heard",1,2,"call:1",1,0,["query",1,["a"]],["cursor",1,["value"]]]
-["heard",1,2,"call:1",1,0,["next",1],["row",[1]]]
-["heard",1,2,"call:1",1,0,["close_rows",1],["done"]]
-["heard",1,2,"call:1",1,0,["close_stmt",1],["done"]]
-["back",1]
-["reply",1,["ok","cells",[1]]]
-["ended"]
-["close",1,"db_closed"]
-["heard",1,3,"house",0,0,["shut"],["done"]]
-["gone",1]
-"#,
+    ),
     // The Next fails, and then all is well. The faults are told to the one call that met them.
-    r#"["run",1,["fast_exec","fast_query","resetter","validator"]]
+    (
+        r#"caps fast_exec fast_query resetter validator
+c1 one db i64 ["GET a"]
+c1 exec db ["SET a 1"]
+"#,
+        r#"["run",1,["fast_exec","fast_query","resetter","validator"]]
 ["enter",1,1,"one db i64",["GET a"]]
 ["open",1,1]
 ["heard",1,1,"house",0,0,["connect"],["done"]]
@@ -409,4 +300,5 @@ pub(super) const REPORTS: &[&str] = &[
 ["heard",1,4,"house",0,0,["shut"],["done"]]
 ["gone",1]
 "#,
+    ),
 ];

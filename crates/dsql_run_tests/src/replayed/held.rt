@@ -1,20 +1,16 @@
-//! Reports of held calls over a driver that fails. They are written from the rules, and the driver answers as they tell.
+//! Scripts of held calls over a driver with faults, each with its report, by the rules of the layer.
 
-use crate::outcome::{outcome, play_as_told};
-use std::test::Fail;
-
-#[test]
-fn a_bad_answer_lets_the_connection_go_that_a_held_close_waits_for(
-    rt: HostRuntime,
-) -> Result<(), Fail> {
-    let script = r#"caps fast_query resetter validator
+pub(super) const REPORTS: &[(&str, &str)] = &[
+    // A bad answer lets the connection go for which a held close waits.
+    (
+        r#"caps fast_query resetter validator
 c1 query r db ["GET a"]
 start c2 next r
 start c3 rowsclose r
 step c2
 step c3
-"#;
-    let report = r#"["run",1,["fast_query","resetter","validator"]]
+"#,
+        r#"["run",1,["fast_query","resetter","validator"]]
 ["enter",1,1,"query r db",["GET a"]]
 ["open",1,1]
 ["heard",1,1,"house",0,0,["connect"],["done"]]
@@ -30,28 +26,19 @@ step c3
 ["heard",1,3,"house",0,0,["shut"],["done"]]
 ["gone",1]
 ["ended"]
-"#;
-    let want = outcome(rt.alloc(), 0, "", report)?;
-    assert_eq!(rt;
-        play_as_told(rt.alloc(), script, report)?.as_str(),
-        want.as_str()
-    );
-    Ok(())
-}
-
-/// Another one is opened for the call that waits, and the held call is told by its step alone.
-#[test]
-fn a_refused_connection_falls_to_the_held_call_it_was_opened_for(
-    rt: HostRuntime,
-) -> Result<(), Fail> {
-    let script = r#"caps fast_exec
+"#,
+    ),
+    // A connection that is refused falls to the held call for which it was opened. Another one is opened for the
+    // call that waits, and the held call is told by its step alone.
+    (
+        r#"caps fast_exec
 maxopen 1
 start c1 exec db ["SET a 1"]
 c2 exec db ["SET b 1"]
 c2 stats
 step c1
-"#;
-    let report = r#"["run",1,["fast_exec"]]
+"#,
+        r#"["run",1,["fast_exec"]]
 ["set","maxopen",1]
 ["enter",1,1,"exec db",["SET a 1"]]
 ["open",1,1]
@@ -72,21 +59,11 @@ step c1
 ["close",2,"db_closed"]
 ["heard",2,3,"house",0,0,["shut"],["done"]]
 ["gone",2]
-"#;
-    let want = outcome(rt.alloc(), 0, "", report)?;
-    assert_eq!(rt;
-        play_as_told(rt.alloc(), script, report)?.as_str(),
-        want.as_str()
-    );
-    Ok(())
-}
-
-/// The connection is bad, so one is opened for those that wait. That is refused, which the first of them is told.
-#[test]
-fn a_connection_refused_for_the_list_falls_to_the_oldest_that_waits(
-    rt: HostRuntime,
-) -> Result<(), Fail> {
-    let script = r#"caps fast_exec
+"#,
+    ),
+    // The connection is bad, so one is opened for those that wait. That is refused, which the first of them is told.
+    (
+        r#"caps fast_exec
 maxopen 1
 start c1 exec db ["SET a 1"]
 step house
@@ -96,8 +73,8 @@ step c1
 step c1
 # the others go on
 step c2
-"#;
-    let report = r#"["run",1,["fast_exec"]]
+"#,
+        r#"["run",1,["fast_exec"]]
 ["set","maxopen",1]
 ["enter",1,1,"exec db",["SET a 1"]]
 ["open",1,1]
@@ -126,26 +103,19 @@ step c2
 ["close",3,"db_closed"]
 ["heard",3,3,"house",0,0,["shut"],["done"]]
 ["gone",3]
-"#;
-    let want = outcome(rt.alloc(), 0, "", report)?;
-    assert_eq!(rt;
-        play_as_told(rt.alloc(), script, report)?.as_str(),
-        want.as_str()
-    );
-    Ok(())
-}
-
-#[test]
-fn an_invalid_connection_is_not_lent_to_who_waits(rt: HostRuntime) -> Result<(), Fail> {
-    let script = r#"caps fast_exec validator
+"#,
+    ),
+    // A connection that fails its test is not lent to who waits.
+    (
+        r#"caps fast_exec validator
 maxopen 1
 start c1 exec db ["SET a 1"]
 c2 exec db ["SET b 1"]
 step c1
 step c1
 step c1
-"#;
-    let report = r#"["run",1,["fast_exec","validator"]]
+"#,
+        r#"["run",1,["fast_exec","validator"]]
 ["set","maxopen",1]
 ["enter",1,1,"exec db",["SET a 1"]]
 ["open",1,1]
@@ -170,21 +140,12 @@ step c1
 ["close",2,"db_closed"]
 ["heard",2,3,"house",0,0,["shut"],["done"]]
 ["gone",2]
-"#;
-    let want = outcome(rt.alloc(), 0, "", report)?;
-    assert_eq!(rt;
-        play_as_told(rt.alloc(), script, report)?.as_str(),
-        want.as_str()
-    );
-    Ok(())
-}
-
-/// The close had ended the rows when the fetch failed, so no fault did.
-#[test]
-fn a_fetch_that_fails_behind_a_close_is_told_that_no_row_is_left(
-    rt: HostRuntime,
-) -> Result<(), Fail> {
-    let script = r#"caps fast_exec fast_query
+"#,
+    ),
+    // A fetch that fails behind a close is told that no row is left. The close had ended the rows when the fetch
+    // failed, so no fault did.
+    (
+        r#"caps fast_exec fast_query
 maxopen 1
 c1 query r db ["GET a"]
 start c2 next r
@@ -194,8 +155,8 @@ step c2
 c1 err r
 step c4
 step c4
-"#;
-    let report = r#"["run",1,["fast_exec","fast_query"]]
+"#,
+        r#"["run",1,["fast_exec","fast_query"]]
 ["set","maxopen",1]
 ["enter",1,1,"query r db",["GET a"]]
 ["open",1,1]
@@ -222,11 +183,6 @@ step c4
 ["close",1,"db_closed"]
 ["heard",1,4,"house",0,0,["shut"],["done"]]
 ["gone",1]
-"#;
-    let want = outcome(rt.alloc(), 0, "", report)?;
-    assert_eq!(rt;
-        play_as_told(rt.alloc(), script, report)?.as_str(),
-        want.as_str()
-    );
-    Ok(())
-}
+"#,
+    ),
+];
