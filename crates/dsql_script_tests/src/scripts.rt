@@ -1,146 +1,153 @@
-//! Transcripts of readers: lines of a script, and below them, behind `= `, what is told of each.
+//! Transcripts of readers: a title, and then, behind `= `, what is told of each of the lines below it.
 
-use crate::reports::lines_of;
-use dsql_driver::Caps;
 use dsql_history::{Control, Event, Op};
 use dsql_reader::{Reader, ScriptLine};
+use dsql_report::event_line;
+use dsql_value::{Memory, Txt};
 use std::alloc::Global;
+use std::process::Abort;
 use std::test::Fail;
 
 /// Calls, each told as the line of a report.
-const CALLS: &str = r#"c9 exec db [""]
+const CALLS: &str = r#"Calls
 = ["enter",9,1,"exec db",[""]]
-c64 exec db [ "a [\"b\"] \u00e9" ]
+c9 exec db [""]
 = ["enter",64,1,"exec db",["a [\"b\"] é"]]
-c1 exec db ["é ["]
+c64 exec db [ "a [\"b\"] \u00e9" ]
 = ["enter",1,1,"exec db",["é ["]]
-c1 exec db ["a",null,true,"b",9223372036854775807,-9223372036854775808,9223372036854775808,18446744073709551615]
+c1 exec db ["é ["]
 = ["enter",1,1,"exec db",["a",null,true,"b",9223372036854775807,-9223372036854775808,9223372036854775808,18446744073709551615]]
-c1 exec db ["a",{"i8":-128},{"i16":32767},{"i32":-2147483648},{"u8":255},{"u16":65535},{"u32":4294967295},{"u64":0}]
+c1 exec db ["a",null,true,"b",9223372036854775807,-9223372036854775808,9223372036854775808,18446744073709551615]
 = ["enter",1,1,"exec db",["a",{"i8":-128},{"i16":32767},{"i32":-2147483648},{"u8":255},{"u16":65535},{"u32":4294967295},{"u64":0}]]
-c1 exec db ["a",{"u64":9223372036854775807},{"u64":9223372036854775808},{"bytes":"00ff"},{"time":-1}]
+c1 exec db ["a",{"i8":-128},{"i16":32767},{"i32":-2147483648},{"u8":255},{"u16":65535},{"u32":4294967295},{"u64":0}]
 = ["enter",1,1,"exec db",["a",{"u64":9223372036854775807},9223372036854775808,{"bytes":"00ff"},{"time":-1}]]
-c1 exec db ["a",{"null_text":"b"},{"null_text":null},{"null_i64":5},{"null_i32":null},{"null_i16":5},{"null_u8":255}]
+c1 exec db ["a",{"u64":9223372036854775807},{"u64":9223372036854775808},{"bytes":"00ff"},{"time":-1}]
 = ["enter",1,1,"exec db",["a",{"null_text":"b"},{"null_text":null},{"null_i64":5},{"null_i32":null},{"null_i16":5},{"null_u8":255}]]
-c1 exec db ["a",{"null_bool":false},{"null_time":9},{"name":"x","arg":{"u8":1}}]
+c1 exec db ["a",{"null_text":"b"},{"null_text":null},{"null_i64":5},{"null_i32":null},{"null_i16":5},{"null_u8":255}]
 = ["enter",1,1,"exec db",["a",{"null_bool":false},{"null_time":9},{"arg":{"u8":1},"name":"x"}]]
-c1 one db text,bytes,bool,i8,i16,i32,i64,u8,u16,u32,u64,time,any ["a"]
+c1 exec db ["a",{"null_bool":false},{"null_time":9},{"name":"x","arg":{"u8":1}}]
 = ["enter",1,1,"one db text,bytes,bool,i8,i16,i32,i64,u8,u16,u32,u64,time,any",["a"]]
-c1 one db null:text,null:i64,null:i32,null:i16,null:u8,null:bool,null:time ["a",1]
+c1 one db text,bytes,bool,i8,i16,i32,i64,u8,u16,u32,u64,time,any ["a"]
 = ["enter",1,1,"one db null:text,null:i64,null:i32,null:i16,null:u8,null:bool,null:time",["a",1]]
+c1 one db null:text,null:i64,null:i32,null:i16,null:u8,null:bool,null:time ["a",1]
 "#;
 
 /// Labels, each made once and by a line that is taken, and named by later lines.
-const LABELS: &str = r#"c1 query r x ["a"]
+const LABELS: &str = r#"Labels
+= unknown label
+c1 query r x ["a"]
 c1 query r db @k ["a"]
-= unknown label
-c1 query r db [
 = not JSON
-c1 scan r i64
+c1 query r db [
 = unknown label
-c1 query r db ["a",1]
+c1 scan r i64
 = ["enter",1,1,"query r db",["a",1]]
-c2 query r db ["a"]
+c1 query r db ["a",1]
 = label taken
+c2 query r db ["a"]
+= unknown label
 c1 query r r ["a"]
 c1 one r i64 ["a"]
 start c1 exec r ["a"]
-= unknown label
-start c3 query r db ["a"]
 = label taken
-c2 next r
+start c3 query r db ["a"]
 = ["enter",2,1,"next r"]
-c1 scan r text,null:i64
+c2 next r
 = ["enter",1,1,"scan r text,null:i64"]
-c1 err r
+c1 scan r text,null:i64
 = ["enter",1,1,"err r"]
-c1 rowsclose r
+c1 err r
 = ["enter",1,1,"rowsclose r"]
-c1 next r
+c1 rowsclose r
 = ["enter",1,1,"next r"]
-c1 next s
+c1 next r
 = unknown label
-c1 query abcdefghijklmnopqrstuvwxyz_01234 db ["a"]
+c1 next s
 = ["enter",1,1,"query abcdefghijklmnopqrstuvwxyz_01234 db",["a"]]
-c1 next abcdefghijklmnopqrstuvwxyz_01234
+c1 query abcdefghijklmnopqrstuvwxyz_01234 db ["a"]
 = ["enter",1,1,"next abcdefghijklmnopqrstuvwxyz_01234"]
+c1 next abcdefghijklmnopqrstuvwxyz_01234
 "#;
 
 /// What stands before the lines of clients.
-const HEAD: &str = r#"# a comment
+const HEAD: &str = r#"The head of a script
+= skipped
+# a comment
 
 #c1 exec x [
-= skipped
+= wrong shape
 version
 version 01
 version 1 1
 version 1 [
-= wrong shape
-version 1
 = version 1
 version 1
 = no such word
+version 1
+= wrong shape
 caps named fast_exec
 caps Named
 caps named named
 caps 
 caps []
-= wrong shape
-caps fast_exec fast_query begin_options named pinger resetter validator
 = ["run",1,["fast_exec","fast_query","begin_options","named","pinger","resetter","validator"]]
+caps fast_exec fast_query begin_options named pinger resetter validator
+= no such word
 caps
 version 1
-= no such word
 "#;
 
 /// Limits, a moment, calls that are held, steps, and calls without further words.
-const SEVERAL_CLIENTS: &str = r#"maxopen 0
+const SEVERAL_CLIENTS: &str = r#"Several clients
 = ["set","maxopen",0]
-maxidle -9223372036854775808
+maxopen 0
 = ["set","maxidle",-9223372036854775808]
-maxlife 9223372036854775807
+maxidle -9223372036854775808
 = ["set","maxlife",9223372036854775807]
-maxidletime 0
+maxlife 9223372036854775807
 = ["set","maxidletime",0]
-tick 18446744073709551615
+maxidletime 0
 = ["tick",18446744073709551615]
+tick 18446744073709551615
+= no such word
 version 1
 caps
-= no such word
-start c64 exec db ["a",1]
 = held ["enter",64,1,"exec db",["a",1]]
-start c1 one db i64,any ["a"]
+start c64 exec db ["a",1]
 = held ["enter",1,1,"one db i64,any",["a"]]
-start c2 query r db ["a"]
+start c1 one db i64,any ["a"]
 = held ["enter",2,1,"query r db",["a"]]
-start c2 next r
+start c2 query r db ["a"]
 = held ["enter",2,1,"next r"]
-start c1 scan r i64
+start c2 next r
 = held ["enter",1,1,"scan r i64"]
-start c1 rowsclose r
+start c1 scan r i64
 = held ["enter",1,1,"rowsclose r"]
-start c1 err r
+start c1 rowsclose r
 = held ["enter",1,1,"err r"]
-start c1 dbclose
+start c1 err r
 = held ["enter",1,1,"dbclose"]
-start c1 stats
+start c1 dbclose
 = held ["enter",1,1,"stats"]
-c3 dbclose
+start c1 stats
 = ["enter",3,1,"dbclose"]
-c3 stats
+c3 dbclose
 = ["enter",3,1,"stats"]
-step c1
+c3 stats
 = step of client 1
-step c64
+step c1
 = step of client 64
-step house
+step c64
 = step of the layer
-#step c1
+step house
 = skipped
+#step c1
 "#;
 
 /// Lines for several clients that aren't read.
-const OTHER_LINES: &str = r#"maxconns 5
+const OTHER_LINES: &str = r#"Lines for several clients that are refused
+= no such word
+maxconns 5
 Maxopen 5
 maxopen5
 maxlifetime 100
@@ -158,7 +165,7 @@ c1 step
 c1 maxopen 5
 c1 Stats
 c1 close
-= no such word
+= wrong shape
 maxopen --5
 maxopen 5 
 maxopen  5
@@ -183,15 +190,16 @@ step houses
 step house c1
 step c1 ["a"]
 c1 stats 
-= wrong shape
-start c1 exec db ["a",]
 = not JSON
-start c1 scan r i64
+start c1 exec db ["a",]
 = unknown label
+start c1 scan r i64
 "#;
 
 /// Calls that aren't read, since their words begin no form or aren't those of one.
-const OTHER_WORDS: &str = r#"[
+const OTHER_WORDS: &str = r#"Words that are refused
+= no such word
+[
  ["a"]
  
  # c
@@ -208,7 +216,7 @@ c1 ["x"]
 c1 Exec db ["x"]
 c1 nexts r
 c1  exec db ["x"]
-= no such word
+= wrong shape
 c1 exec
 c1 exec ["x"]
 c1 exec db["x"]
@@ -239,15 +247,16 @@ c1 scan r
 c1 scan r i64,
 c1 scan r i64 ["a"]
 c1 rowsclose @r
-= wrong shape
 "#;
 
 /// Calls that aren't read, since their array isn't one of a call.
-const OTHER_ARRAYS: &str = r#"c1 exec x ["a"] x
+const OTHER_ARRAYS: &str = r#"Arrays that are refused
+= not JSON
+c1 exec x ["a"] x
 c1 exec x ["a",]
 c1 exec x ["a]
 c1 exec x ["a",1e400]
-= not JSON
+= wrong shape
 c1 exec x []
 c1 exec x [["a"]]
 c1 exec x ["a",1e2]
@@ -279,62 +288,66 @@ c1 exec x ["a",{"name":"x","arg":[]}]
 c1 exec x ["a",{"name":"x","arg":{"name":"y","arg":1}}]
 c1 exec x ["a",{"name":"x","arg":1,"u8":1}]
 c1 exec x ["a",0,0,0,0,0,0,0,0,0,0,0,0,0,0,0,0,0,0,0,0,0,0,0,0,0,0,0,0,0,0,0,0,0,1.5]
-= wrong shape
+= unknown label
 c1 exec x ["a",0,0,0,0,0,0,0,0,0,0,0,0,0,0,0,0,0,0,0,0,0,0,0,0,0,0,0,0,0,0,0,0]
 c1 one x i8,i8,i8,i8,i8,i8,i8,i8,i8,i8,i8,i8,i8,i8,i8,i8,i8,i8,i8,i8,i8,i8,i8,i8,i8,i8,i8,i8,i8,i8,i8,i8 ["a"]
-= unknown label
 "#;
 
-/// The line of a report that shows what a driver can do.
-fn caps_line(alloc: Global, caps: Caps) -> Result<String, Fail> {
-    lines_of(alloc, &[Event::Run { version: 1, caps }])
+/// The line of a report that shows a call.
+fn call_line(alloc: Global, client: u8, op: Op) -> Result<Txt, Memory> {
+    event_line(alloc, &Event::Entered { client, n: 1, op })
 }
 
-/// The line of a report that shows a call, behind a word where it is held.
-fn call_line(alloc: Global, client: u8, op: Op, held: bool) -> Result<String, Fail> {
-    let line = lines_of(alloc, &[Event::Entered { client, n: 1, op }])?;
-    if held {
-        return Ok(format!(in alloc; "held {line}")?);
-    }
-    Ok(line)
+/// The text behind the word of a held call.
+fn held_line(alloc: Global, line: &str) -> Result<Txt, Memory> {
+    let mut text = String::from_str(alloc, "held ")?;
+    text.push_str(line)?;
+    Ok(Txt::new(text))
 }
 
-/// What a reader makes of a line: a call, a limit, a moment and what a driver can do as the line of a report, and a
-/// refusal as its reason.
-fn told(alloc: Global, reader: &mut Reader, line: &str) -> Result<String, Fail> {
-    match reader.read_line(alloc, line.as_bytes()) {
-        Ok(ScriptLine::Skip) => Ok(String::from_str(alloc, "skipped\n")?),
-        Ok(ScriptLine::Version(version)) => Ok(format!(in alloc; "version {version}\n")?),
-        Ok(ScriptLine::UseCaps(caps)) => caps_line(alloc, caps),
-        Ok(ScriptLine::Control(Control::Tick(now))) => lines_of(alloc, &[Event::Ticked(now)]),
-        Ok(ScriptLine::Control(Control::Set(setting, n))) => lines_of(
-            alloc,
-            &[Event::SetLimit(setting, n)],
-        ),
-        Ok(ScriptLine::Client { client, op, held }) => call_line(alloc, client, op, held),
-        Ok(ScriptLine::Step(client)) => Ok(format!(in alloc; "step of client {client}\n")?),
-        Ok(ScriptLine::StepHouse) => Ok(String::from_str(alloc, "step of the layer\n")?),
-        Err(fault) => Ok(format!(in alloc; "{fault}\n")?),
-    }
-}
-
-/// The transcript of one reader that reads the lines of this one. What is told of several lines in a row stands once.
-fn read_again(alloc: Global, transcript: &str) -> Result<String, Fail> {
-    let mut reader = Reader::new(alloc);
-    let mut made = String::new(alloc);
-    let mut last = String::new(alloc);
-    for line in transcript.lines() {
-        if !line.starts_with("= ") {
-            let next = told(alloc, &mut reader, line)?;
-            if !last.is_empty() && next.as_str() != last.as_str() {
-                write!(made, "= {last}")?;
-            }
-            last = next;
-            write!(made, "{line}\n")?;
+/// What is told of what a line says: of a call, a limit, a moment and what a driver can do the line of a report.
+fn told_of(alloc: Global, read: ScriptLine) -> Result<Txt, Memory> {
+    match read {
+        ScriptLine::Skip => Txt::copy_of(alloc, "skipped"),
+        ScriptLine::Version(version) => Ok(Txt::new(format!(in alloc; "version {version}")?)),
+        ScriptLine::UseCaps(caps) => event_line(alloc, &Event::Run { version: 1, caps }),
+        ScriptLine::Control(Control::Tick(now)) => event_line(alloc, &Event::Ticked(now)),
+        ScriptLine::Control(Control::Set(setting, n)) => {
+            event_line(alloc, &Event::SetLimit(setting, n))
         }
+        ScriptLine::Client { client, op, held } => {
+            let line = call_line(alloc, client, op)?;
+            if held {
+                held_line(alloc, line.as_str())
+            } else {
+                Ok(line)
+            }
+        }
+        ScriptLine::Step(client) => Ok(Txt::new(format!(in alloc; "step of client {client}")?)),
+        ScriptLine::StepHouse => Txt::copy_of(alloc, "step of the layer"),
     }
-    write!(made, "= {last}")?;
-    Ok(made)
+}
+
+/// What is told of the next line of a reader, and where it is refused the reason.
+fn told(alloc: Global, reader: &mut Reader, line: &str) -> Result<Txt, Memory> {
+    match reader.read_line(alloc, line.as_bytes()) {
+        Ok(read) => told_of(alloc, read),
+        Err(fault) => Ok(Txt::new(fault.to_string(alloc)?)),
+    }
+}
+
+/// Of each of these lines this is told.
+fn assert_told(
+    rt: &(impl Abort + AllocGlobal),
+    reader: &mut Reader,
+    lines: &str,
+    want: &str,
+) -> Result<(), Fail> {
+    for line in lines.lines() {
+        let told = told(rt.alloc(), reader, line)?;
+        assert!(rt; told.as_str().trim_end() == want, "{line}");
+    }
+    Ok(())
 }
 
 #[test]
@@ -348,8 +361,11 @@ fn transcripts_are_those_of_a_reader(rt: HostRuntime) -> Result<(), Fail> {
         OTHER_ARRAYS,
         OTHER_LINES,
     ] {
-        let again = read_again(rt.alloc(), transcript)?;
-        assert_eq!(rt; again.as_str(), transcript);
+        let mut reader = Reader::new(rt.alloc());
+        for part in transcript.split("\n= ") {
+            let (want, lines) = part.split_once('\n').unwrap_or((part, ""));
+            assert_told(&rt, &mut reader, lines, want)?;
+        }
     }
     Ok(())
 }
