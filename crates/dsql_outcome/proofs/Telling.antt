@@ -2,7 +2,7 @@
 use Rattle.std.proofs.Common.{◌≡◌, ◌≢◌, ◌⊎◌, ℕ, Bool, true, List, Option, refl, ap, sym, subst, ◌∙◌, inl, inr}
 use Rattle.std.specs.Prelude.{Result, Ok, Err}
 use Rattle.dsql_driver.specs.Streams.{HasRisen, has_risen}
-use Rattle.dsql_reader.specs.declared.fault.LineFault.{LineFault}
+use Rattle.dsql_forms.specs.declared.fault.LineFault.{LineFault}
 use Rattle.dsql_outcome.specs.Notes.{note_of, status_of, is_status, failed_status, Tells}
 use Rattle.dsql_show.specs.Report.{with_text}
 use Rattle.dsql_outcome.specs.Headline.{Seen, SeenNotes, Ran, NotBegun, PlaysAndTells, PlaysWhole, RefusesWords}

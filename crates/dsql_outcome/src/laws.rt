@@ -10,7 +10,7 @@ ghost use Rattle.dsql_history.specs.declared.event.Event.TheVariants.{Run};
 ghost use Rattle.dsql_follows.specs.declared.line.Line.{Line};
 ghost use Rattle.dsql_follows.specs.Follows.{after};
 ghost use Rattle.dsql_follows.specs.Sentences.{Part};
-ghost use Rattle.dsql_reader.specs.declared.fault.LineFault.{LineFault};
+ghost use Rattle.dsql_forms.specs.declared.fault.LineFault.{LineFault};
 ghost use Rattle.dsql_show.specs.Report.{Shows, with_text};
 ghost use Rattle.dsql_script_source.specs.Plays.{Plays};
 ghost use Rattle.dsql_script_source.specs.Script.{Said, SaysFirst};

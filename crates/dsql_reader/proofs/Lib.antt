@@ -1,13 +1,4 @@
-pub mod Members
-pub mod Words
-pub mod Labels
-pub mod ScriptArrays
-pub mod ScriptClients
-pub mod ScriptLimits
-pub mod ScriptMoments
+pub mod MadeLabels
 pub mod ScriptCaps
 pub mod ScriptTexts
 pub mod ScriptForms
-pub mod ScriptOnLiterals
-pub mod ScriptCalls
-pub mod LoneTexts

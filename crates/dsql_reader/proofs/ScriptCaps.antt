@@ -2,7 +2,7 @@
 use Rattle.std.proofs.Common.{◌≡◌, ℕ, List, true, false, Some, None, refl}
 use Rattle.std.specs.Cmp.Lexicographic.{pointwise}
 use Rattle.std.specs.Str.{bytes_eq}
-use Rattle.dsql_report.specs.Lines.{caps_names}
+use Rattle.dsql_spelling.specs.CapsNames.{caps_names}
 use Rattle.dsql_reader.specs.ScriptHead.{caps_among, caps_of}
 
 pub caps_of_names : (words : List (List ℕ)) → pointwise bytes_eq (caps_names (caps_among words)) words ≡ true → caps_of words ≡ Some (caps_among words)

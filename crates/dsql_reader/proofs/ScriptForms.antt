@@ -1,18 +1,10 @@
 -- Lines by their first word, which a program has behind a reference.
-use Rattle.std.proofs.Common.{◌≡◌, ◌≢◌, ℕ, ◌≤◌, ◌-◌, List, [], ◌∷◌, false, map, length, get_or, take, drop, Option, Some, None, codes, refl, inl, inr, arith, Bor}
-use Rattle.std.specs.Str.{bytes_eq}
-use Rattle.std.proofs.lemmas.Bool.{cases_Bool}
+use Rattle.std.proofs.Common.{◌≡◌, ◌≢◌, ℕ, ◌≤◌, ◌-◌, List, [], ◌∷◌, false, length, get_or, take, drop, Option, Some, None, codes, refl, arith, Bor}
 use Rattle.std.proofs.lemmas.List.{take_all}
-use Rattle.std.proofs.lemmas.Slice.Eq.{bytes_eq-Decides}
 use Rattle.dsql_reader.specs.declared.script.Head.{Head}
 use Rattle.dsql_history.specs.declared.event.Setting.TheVariants.{MaxOpen, MaxIdle, MaxLife, MaxIdleTime}
+use Rattle.dsql_script_calls.proofs.LineWords.{texts, other_word}
 use Rattle.dsql_reader.specs.ScriptLines.{form_of, limit_alone, set_line, moment_alone, tick_line, step_line, client_line}
-
-pub other_word : (a b : List ℕ) → a ≢ b → bytes_eq a b ≡ false
-other_word a b other = elim (cases_Bool (bytes_eq a b)) [ inl is ↦ absurd (other ((bytes_eq-Decides a b).0 is)) | inr is ↦ is ]
-
-abbrev pub texts : List (Bor (List ℕ)) → List (List ℕ)
-texts words = map (λ w. w.now) words
 
 -- Behind the first word are the others.
 

@@ -7,7 +7,7 @@ use Rattle.std.proofs.Math.Seq.{split_at, take-append_seam}
 use Rattle.std.proofs.lemmas.List.{drop_all, get_or_push}
 use Rattle.std.proofs.lemmas.Bool.{cases_Bool, eqb-true, le-ltb}
 use Rattle.std.proofs.lemmas.Str.{IsUtf8-from_is_utf8, is_utf8-from_IsUtf8}
-use Rattle.dsql_reader.specs.declared.fault.LineFault.TheVariants.{NotUtf8}
+use Rattle.dsql_forms.specs.declared.fault.LineFault.TheVariants.{NotUtf8}
 use Rattle.dsql_reader.specs.declared.script.Head.{Head}
 use Rattle.dsql_reader.specs.ScriptLines.{line_of, text_of, most_bytes}
 

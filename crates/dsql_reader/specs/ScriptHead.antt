@@ -10,7 +10,7 @@ use Rattle.dsql_reader.specs.declared.script.Head.{Head}
 use Rattle.dsql_reader.specs.declared.script.Head.TheVariants.{First, AfterVersion, Begun}
 use Rattle.dsql_reader.specs.declared.script.ScriptLine.{ScriptLine}
 use Rattle.dsql_reader.specs.declared.script.ScriptLine.TheVariants.{Skip, Version, Client}
-use Rattle.dsql_report.specs.Lines.{caps_names}
+use Rattle.dsql_spelling.specs.CapsNames.{caps_names}
 
 -- how many lines were read, whether a version line or a caps line may still stand, and the labels that these lines made,
 -- in the order of the lines

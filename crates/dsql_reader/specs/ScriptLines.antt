@@ -9,17 +9,17 @@ use Rattle.dsql_history.specs.declared.event.Op.TheVariants as op
 use Rattle.dsql_history.specs.declared.event.Setting.{Setting}
 use Rattle.dsql_history.specs.declared.event.Setting.TheVariants.{MaxOpen, MaxIdle, MaxLife, MaxIdleTime}
 use Rattle.dsql_history.specs.declared.event.Control.TheVariants.{Tick, Set}
-use Rattle.dsql_reader.specs.declared.fault.What.TheVariants.{Lines}
-use Rattle.dsql_reader.specs.declared.fault.LineFault.{LineFault}
-use Rattle.dsql_reader.specs.declared.fault.LineFault.TheVariants.{TooLong, NotUtf8, NoSuchWord, BadShape, UnknownLabel, LabelTaken, TooMany}
+use Rattle.dsql_forms.specs.declared.fault.What.TheVariants.{Lines}
+use Rattle.dsql_forms.specs.declared.fault.LineFault.{LineFault}
+use Rattle.dsql_forms.specs.declared.fault.LineFault.TheVariants.{TooLong, NotUtf8, NoSuchWord, BadShape, UnknownLabel, LabelTaken, TooMany}
 use Rattle.dsql_reader.specs.declared.script.ScriptLine.{ScriptLine}
 use Rattle.dsql_reader.specs.declared.script.ScriptLine.TheVariants.{Skip, Version, UseCaps, Client, Step, StepHouse}
 use Rattle.dsql_reader.specs.declared.script.ScriptLine.TheVariants as script
 use Rattle.dsql_reader.specs.declared.script.Head.{Head}
 use Rattle.dsql_reader.specs.declared.script.Head.TheVariants.{First, Begun}
-use Rattle.dsql_reader.specs.ScriptCalls.{CallReading, call_of}
+use Rattle.dsql_script_calls.specs.ScriptCalls.{CallReading, call_of}
 use Rattle.dsql_reader.specs.ScriptHead.{Progress, is_version, caps_of}
-use Rattle.dsql_reader.specs.ScriptWords.{begins_with, words_of, array_of, limit_of, moment_of, client_of}
+use Rattle.dsql_script_calls.specs.ScriptWords.{begins_with, words_of, array_of, limit_of, moment_of, client_of}
 
 -- a line or the fault for which it is refused
 abbrev pub Reading : Type 0

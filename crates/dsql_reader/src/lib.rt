@@ -1,13 +1,12 @@
 //! The reader of scripts: what each line asks of the clients, the limits, the clock and the driver, and why a line is refused.
 #![tactic(auto)]
 
-mod fault;
+mod body;
+mod head;
+mod labels;
 mod reader;
 mod script;
 
-pub use fault::{LineFault, What};
-pub use reader::{
-    Reader, worked_label_lines, worked_limit_lines, worked_one_lines, worked_script_lines,
-    worked_start_lines, worked_step_lines, worked_tick_lines,
-};
+pub use dsql_forms::{LineFault, What};
+pub use reader::Reader;
 pub use script::ScriptLine;

@@ -2,32 +2,17 @@ ghost use Rattle.std.specs.Prelude.{◌≡◌, ◌≢◌, ◌≤◌, map, Ok, Er
 ghost use Rattle.std.specs.Option.{option_copied};
 ghost use Rattle.std.specs.Str.Lines.{strip_carriage_return};
 ghost use Rattle.dsql_reader.specs.ScriptHead.{Progress, unread, after};
-ghost use Rattle.dsql_reader.specs.Outcomes.{IsReading};
+ghost use Rattle.dsql_forms.specs.Outcomes.{IsReading};
 ghost use Rattle.dsql_reader.specs.ScriptLines.{read_of, line_of, text_of, form_of, most_lines};
 
-mod args;
-mod array;
-mod body;
-mod calls;
-mod dests;
-mod forms;
-mod head;
-mod labels;
-mod rows;
-mod targets;
-mod words;
-mod worked;
-
-use crate::fault::{LineFault, What};
+use crate::labels::Labels;
 use crate::script::{Head, ScriptLine};
+use crate::{body, head};
+use dsql_forms::{LineFault, What};
 use dsql_history::Setting;
-use labels::Labels;
+use dsql_script_calls::{split_array, split_words};
 use std::alloc::Global;
 use std::marker::Model;
-pub use worked::{
-    worked_label_lines, worked_limit_lines, worked_one_lines, worked_script_lines,
-    worked_start_lines, worked_step_lines, worked_tick_lines,
-};
 
 /// How many lines a script may have.
 const MAX_LINES: u16 = 10_000;
@@ -74,7 +59,7 @@ const MAX_BYTES: usize = 4_096;
 /// | `NullText` and its like | `{"null_text":V}`, and `null_i64`, `null_i32`, `null_i16`, `null_u8`, |
 /// | | `null_bool`, `null_time`; V is `null` or what the form holds |
 /// | with a name | `{"name":"x","arg":A}`, A an argument without a name |
-#[derive(Debug, Drop)]
+#[derive(Drop)]
 pub struct Reader {
     lines: u16,
     head: Head,
@@ -152,8 +137,8 @@ fn read_text(alloc: Global, head: Head, text: &str) -> Result<ScriptLine, LineFa
     if text.is_empty() || text.starts_with('#') {
         return Ok(ScriptLine::Skip);
     }
-    let (before, array) = words::split_array(text);
-    let words = words::split_words(alloc, before)?;
+    let (before, array) = split_array(text);
+    let words = split_words(alloc, before)?;
     read_form(alloc, head, &words, array)
 }
 

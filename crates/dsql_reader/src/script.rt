@@ -35,7 +35,7 @@ pub enum ScriptLine {
 }
 
 /// Which of the lines that stand before all others may still come.
-#[derive(Clone, Copy, Debug, PartialEq, Eq)]
+#[derive(Clone, Copy, PartialEq, Eq)]
 pub enum Head {
     /// A version line or a caps line, since there were none but skipped lines.
     First,

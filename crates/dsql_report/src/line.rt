@@ -3,22 +3,12 @@ ghost use Rattle.std.specs.Prelude.{◌≡◌, ◌++◌, IfOk, OnOk, OnErr, IsUt
 ghost use Rattle.serde_json.specs.Written.{compact_text};
 ghost use Rattle.dsql_report.specs.Lines.{json_of, line_of};
 
-mod args;
-mod calls;
 mod events;
-mod laws;
-mod ops;
-mod parts;
-mod replies;
-mod values;
 
 use dsql_history::Event;
 use dsql_value::{Memory, Txt};
 use events::write_event;
 use json::Writer;
-pub use laws::{
-    worked_argument_lines, worked_lines, worked_pool_lines, worked_row_lines, worked_rows_lines,
-};
 use std::alloc::{AllocError, Global};
 use std::mem;
 

@@ -5,14 +5,14 @@ use Rattle.std.specs.Str.{bytes_eq, is_utf8}
 use Rattle.std.specs.Str.Lines.{strip_carriage_return}
 use Rattle.dsql_history.specs.declared.event.Setting.{Setting}
 use Rattle.dsql_history.specs.declared.event.Setting.TheVariants.{MaxOpen, MaxIdle, MaxLife, MaxIdleTime}
-use Rattle.dsql_reader.specs.declared.fault.What.TheVariants.{Lines}
-use Rattle.dsql_reader.specs.declared.fault.LineFault.{LineFault}
-use Rattle.dsql_reader.specs.declared.fault.LineFault.TheVariants.{TooLong, NotUtf8, TooMany}
+use Rattle.dsql_forms.specs.declared.fault.What.TheVariants.{Lines}
+use Rattle.dsql_forms.specs.declared.fault.LineFault.{LineFault}
+use Rattle.dsql_forms.specs.declared.fault.LineFault.TheVariants.{TooLong, NotUtf8, TooMany}
 use Rattle.dsql_reader.specs.declared.script.Head.TheVariants.{Begun}
 use Rattle.dsql_reader.specs.declared.script.ScriptLine.{ScriptLine}
 use Rattle.dsql_reader.specs.declared.script.ScriptLine.TheVariants.{Skip, Version, UseCaps, StepHouse}
-use Rattle.dsql_reader.specs.ScriptWords.{words_of, array_of, client_of}
-use Rattle.dsql_reader.specs.ScriptCalls.{CallReading, call_of}
+use Rattle.dsql_script_calls.specs.ScriptWords.{words_of, array_of, client_of}
+use Rattle.dsql_script_calls.specs.ScriptCalls.{CallReading, call_of}
 use Rattle.dsql_reader.specs.ScriptHead.{Progress, after}
 use Rattle.dsql_reader.specs.ScriptLines.{Reading, client_call, call_by_client, client_line, start_line, limit_alone, set_or_fault, set_line, moment_alone, tick_or_fault, tick_line, step_or_fault, step_line, version_line, caps_line, form_of, is_skipped, text_of, line_of, line_fault, unless_fault, among_labels, read_of, most_bytes, most_lines}
 use Rattle.dsql_script_source.specs.Script.{Script}

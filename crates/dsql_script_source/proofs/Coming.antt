@@ -3,7 +3,7 @@ use Rattle.std.proofs.Common.{◌≡◌, ◌⊎◌, ◌∙◌, inl, inr, ℕ, tr
 use Rattle.std.specs.Prelude.{option_map, IfSome, IfOk, IfErr, Result, Ok, Err}
 use Rattle.std.proofs.lemmas.Option.{same_Some}
 use Rattle.dsql_stream.specs.Lines.{all_lines, ahead, SawTheEnd}
-use Rattle.dsql_reader.specs.declared.fault.LineFault.{LineFault}
+use Rattle.dsql_forms.specs.declared.fault.LineFault.{LineFault}
 use Rattle.dsql_reader.specs.declared.script.Head.TheVariants.{Begun}
 use Rattle.dsql_reader.specs.declared.script.ScriptLine.{ScriptLine}
 use Rattle.dsql_reader.specs.declared.script.ScriptLine.TheVariants.{Skip, Version}

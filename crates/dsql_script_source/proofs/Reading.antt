@@ -4,8 +4,8 @@ use Rattle.std.specs.Prelude.{if◌then◌else◌, nat_le, option_map, Ok, Err}
 use Rattle.std.proofs.lemmas.Bool.{cases_lt, lt-ltb}
 use Rattle.dsql_stream.specs.Lines.{first_line, all_lines, HandsOut, HandsOutLine}
 use Rattle.dsql_stream.proofs.AllLines.{all_lines-first, cut_where_long}
-use Rattle.dsql_reader.specs.declared.fault.What.TheVariants.{Lines}
-use Rattle.dsql_reader.specs.declared.fault.LineFault.TheVariants.{TooLong, TooMany}
+use Rattle.dsql_forms.specs.declared.fault.What.TheVariants.{Lines}
+use Rattle.dsql_forms.specs.declared.fault.LineFault.TheVariants.{TooLong, TooMany}
 use Rattle.dsql_reader.specs.declared.script.ScriptLine.{ScriptLine}
 use Rattle.dsql_reader.specs.ScriptHead.{Progress, after as after_line}
 use Rattle.dsql_reader.specs.ScriptLines.{read_of, most_bytes, most_lines}

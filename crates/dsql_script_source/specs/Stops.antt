@@ -1,6 +1,6 @@
 -- What stops a script, and what is told of it.
 use Rattle.std.specs.Prelude.{ℕ, Bool, true, false, List, ◌++◌, Result, Ok, Err, codes, decimal}
-use Rattle.dsql_reader.specs.Faults.{reason_of}
+use Rattle.dsql_forms.specs.Faults.{reason_of}
 use Rattle.dsql_stream.specs.declared.lines.ReadFault.{ReadFault}
 use Rattle.dsql_stream.specs.declared.lines.ReadFault.TheVariants.{Failed as NoRead, Memory as NoMemory}
 use Rattle.dsql_script_source.specs.declared.stop.Stop.{Stop}

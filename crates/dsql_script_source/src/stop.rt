@@ -8,7 +8,7 @@ use std::error::Error;
 use std::fmt;
 
 /// Why a run stops before its script's end.
-#[derive(Clone, Copy, Debug, PartialEq, Eq)]
+#[derive(Clone, Copy, Debug)]
 pub enum Stop {
     /// The source failed.
     Read,

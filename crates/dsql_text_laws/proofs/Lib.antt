@@ -9,4 +9,5 @@ pub mod ReadTexts
 pub mod ReadLines
 pub mod ReadClients
 pub mod ReadLimits
+pub mod ScriptOnLiterals
 pub mod ReadMoments

@@ -4,8 +4,8 @@ use Rattle.std.proofs.lemmas.Bool.{ne_eqb, and_right, or_parts}
 use Rattle.std.proofs.lemmas.List.Splits.{slice_split_none, slice_split_at}
 use Rattle.dsql_reader.specs.declared.script.Head.{Head}
 use Rattle.dsql_reader.specs.ScriptLines.{form_of, is_skipped, text_of}
-use Rattle.dsql_reader.specs.ScriptWords.{begins_with, before_array, array_of, space, spaced_words}
-use Rattle.dsql_reader.proofs.ScriptClients.{begins_not}
+use Rattle.dsql_script_calls.specs.ScriptWords.{begins_with, before_array, array_of, space, spaced_words}
+use Rattle.dsql_script_calls.proofs.ScriptClients.{begins_not}
 use Rattle.dsql_text_laws.proofs.WordBytes.{Lacks, bracket, none_of}
 
 abbrev is_space : ℕ → Bool

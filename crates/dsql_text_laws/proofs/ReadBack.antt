@@ -8,8 +8,8 @@ use Rattle.dsql_value.specs.declared.arg.Arg.{Arg}
 use Rattle.dsql_value.specs.declared.arg.Arg.TheVariants.{Nil, I8, I16, I32, I64, U8, U16, U32, U64, Bool, Text, Bytes, Time, NullText, NullI64, NullI32, NullI16, NullU8, NullBool, NullTime}
 use Rattle.dsql_value.specs.declared.arg.Named.{Named}
 use Rattle.dsql_value.specs.Arguments.{largest_int}
-use Rattle.dsql_report.specs.LineArgs.{arg_data, argument_data, statement_data}
-use Rattle.dsql_reader.specs.ScriptArgs.{argument, arg_of_data, named_of_data, args_of, call_of_data}
+use Rattle.dsql_spelling.specs.LineArgs.{arg_data, argument_data, statement_data}
+use Rattle.dsql_forms.specs.ScriptArgs.{argument, arg_of_data, named_of_data, args_of, call_of_data}
 use Rattle.dsql_text_laws.specs.ReadBack.{IsInRange}
 use Rattle.dsql_text_laws.proofs.ReadNumbers.{i8_between, i16_between, i32_between, is_up_to, as_i64_signed, as_i64_unsigned}
 use Rattle.dsql_text_laws.proofs.ReadBytes.{bytes_are_read_back}

@@ -5,7 +5,7 @@ use Rattle.std.specs.List.{list_any}
 use Rattle.std.specs.Result.{result_ok}
 use Rattle.hex.specs.Hex.{lower_digits, encode_with, encode_lower, IsBytes}
 use Rattle.hex.proofs.HexLemmas.{decode_of-encode_lower}
-use Rattle.dsql_reader.specs.ScriptArgs.{bytes_of}
+use Rattle.dsql_forms.specs.ScriptArgs.{bytes_of}
 
 neither : (a b : Bool) → (a || b) ≡ false → (a ≡ false) × (b ≡ false)
 neither true b e = cc

@@ -8,15 +8,15 @@ use Rattle.dsql_scan.specs.declared.dest.Dest.{Dest}
 use Rattle.dsql_scan.specs.declared.dest.Dest.TheVariants.{Text}
 use Rattle.dsql_history.specs.declared.event.Op.{Op}
 use Rattle.dsql_history.specs.declared.event.Op.TheVariants.{Exec, Query, One, Next, Scan, RowsClose, Err, DbClose, Stats}
-use Rattle.dsql_report.specs.Dests.{dest_word, dests_word, dest_of, dests_of_words, dests_of, comma}
-use Rattle.dsql_report.specs.Lines.{op_words, op_data}
+use Rattle.dsql_spelling.specs.Dests.{dest_word, dests_word, dest_of, dests_of_words, dests_of, comma}
+use Rattle.dsql_report_calls.specs.LineOps.{op_words, op_data}
 use Rattle.dsql_reader.specs.declared.script.Head.{Head}
 use Rattle.dsql_reader.specs.declared.script.ScriptLine.TheVariants.{Client}
-use Rattle.dsql_reader.specs.ScriptArgs.{most_args}
-use Rattle.dsql_reader.specs.ScriptCalls.{call_of}
+use Rattle.dsql_forms.specs.ScriptArgs.{most_args}
+use Rattle.dsql_script_calls.specs.ScriptCalls.{call_of}
 use Rattle.dsql_reader.specs.ScriptLines.{Reading, client_line, form_of, label_fault, unless_fault, among_labels}
-use Rattle.dsql_reader.specs.ScriptWords.{client_of, spaced_words, space, is_name}
-use Rattle.dsql_reader.proofs.ScriptForms.{other_word}
+use Rattle.dsql_script_calls.specs.ScriptWords.{client_of, spaced_words, space, is_name}
+use Rattle.dsql_script_calls.proofs.LineWords.{other_word}
 use Rattle.dsql_text_laws.specs.ReadBack.{MayBeAsked, Spells, line_words}
 use Rattle.dsql_text_laws.proofs.ReadBack.{call_is_read_back}
 use Rattle.dsql_text_laws.proofs.LineParts.{alone, behind_it}

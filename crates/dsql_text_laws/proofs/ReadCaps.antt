@@ -6,7 +6,7 @@ use Rattle.std.specs.Str.{bytes_eq}
 use Rattle.std.proofs.lemmas.List.Folds.{list_any-append}
 use Rattle.std.proofs.lemmas.Slice.Eq.{bytes_eq-Decides}
 use Rattle.dsql_driver.specs.declared.caps.Caps.{Caps}
-use Rattle.dsql_report.specs.Lines.{name_if, caps_names}
+use Rattle.dsql_spelling.specs.CapsNames.{name_if, caps_names}
 use Rattle.dsql_reader.specs.ScriptHead.{has_word, caps_among, caps_of}
 use Rattle.dsql_reader.proofs.ScriptCaps.{caps_of_names}
 

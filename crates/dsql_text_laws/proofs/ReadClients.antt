@@ -2,9 +2,9 @@
 use Rattle.std.proofs.Common.{◌≡◌, ℕ, zero, suc, ◌<◌, ◌≤◌, ◌^◌, ◌++◌, true, codes, decimal, Some, refl, ◌∙◌, arith}
 use Rattle.std.proofs.lemmas.Fmt.{decimal_nonempty, digits_decimal, digits_value-decimal, first_decimal, decimal_digit}
 use Rattle.serde_json.specs.Written.{compact_text}
-use Rattle.dsql_report.specs.LineValues.{natural}
-use Rattle.dsql_reader.specs.ScriptWords.{is_number, client_of}
-use Rattle.dsql_reader.proofs.ScriptClients.{own, number_from_digits, client_up_to, client_up_to_within}
+use Rattle.dsql_spelling.specs.LineValues.{natural}
+use Rattle.dsql_script_calls.specs.ScriptWords.{is_number, client_of}
+use Rattle.dsql_script_calls.proofs.ScriptClients.{own, number_from_digits, client_up_to, client_up_to_within}
 
 pub decimal_is_number : (n : ℕ) → n < 2 ^ 64 → is_number (decimal n) ≡ true
 decimal_is_number zero small = rw (decimal_digit 0 (omega arith)) refl

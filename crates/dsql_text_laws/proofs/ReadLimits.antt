@@ -10,13 +10,13 @@ use Rattle.serde_json.specs.Written.{compact_text}
 use Rattle.dsql_history.specs.declared.event.Setting.{Setting}
 use Rattle.dsql_history.specs.declared.event.Setting.TheVariants.{MaxOpen, MaxIdle, MaxLife, MaxIdleTime}
 use Rattle.dsql_history.specs.declared.event.Control.TheVariants.{Set}
-use Rattle.dsql_report.specs.LineValues.{integer}
+use Rattle.dsql_spelling.specs.LineValues.{integer}
 use Rattle.dsql_report.specs.Lines.{limit_word}
 use Rattle.dsql_reader.specs.declared.script.Head.{Head}
 use Rattle.dsql_reader.specs.declared.script.ScriptLine.TheVariants as script
 use Rattle.dsql_reader.specs.ScriptLines.{form_of, is_skipped, text_of}
-use Rattle.dsql_reader.specs.ScriptWords.{limit_of, space, spaced_words}
-use Rattle.dsql_reader.proofs.ScriptClients.{own, begins_not}
+use Rattle.dsql_script_calls.specs.ScriptWords.{limit_of, space, spaced_words}
+use Rattle.dsql_script_calls.proofs.ScriptClients.{own, begins_not}
 use Rattle.dsql_text_laws.specs.ReadBack.{limit_text}
 use Rattle.dsql_text_laws.proofs.LineParts.{is_told, without_array, alone}
 use Rattle.dsql_text_laws.proofs.ReadClients.{decimal_is_number}

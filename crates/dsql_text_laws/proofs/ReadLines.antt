@@ -3,12 +3,12 @@ use Rattle.std.proofs.Common.{◌≡◌, ℕ, List, [], ◌∷◌, ◌++◌, Boo
 use Rattle.serde_json.specs.Written.{compact_text}
 use Rattle.dsql_history.specs.declared.event.Op.{Op}
 use Rattle.dsql_history.specs.declared.event.Op.TheVariants.{Exec, Query, One, Next, Scan, RowsClose, Err, DbClose, Stats}
-use Rattle.dsql_report.specs.Dests.{dests_word}
-use Rattle.dsql_report.specs.Lines.{op_words, op_data}
+use Rattle.dsql_spelling.specs.Dests.{dests_word}
+use Rattle.dsql_report_calls.specs.LineOps.{op_words, op_data}
 use Rattle.dsql_reader.specs.declared.script.Head.{Head}
 use Rattle.dsql_reader.specs.declared.script.ScriptLine.TheVariants.{Client}
 use Rattle.dsql_reader.specs.ScriptLines.{form_of, is_skipped, text_of, label_fault, among_labels}
-use Rattle.dsql_reader.specs.ScriptWords.{client_of, space, spaced_words}
+use Rattle.dsql_script_calls.specs.ScriptWords.{client_of, space, spaced_words}
 use Rattle.dsql_text_laws.specs.ReadBack.{MayBeAsked, Spells, line_words, held_text, line_text}
 use Rattle.dsql_text_laws.proofs.LineParts.{behind_it, is_told, with_array, without_array}
 use Rattle.dsql_text_laws.proofs.ReadCalls.{call_is_asked_back}

@@ -5,12 +5,12 @@ use Rattle.std.proofs.lemmas.Bool.{lt-ltb}
 use Rattle.std.proofs.lemmas.Fmt.{digits_decimal, digits_value-decimal}
 use Rattle.serde_json.specs.Written.{compact_text}
 use Rattle.dsql_history.specs.declared.event.Control.TheVariants.{Tick}
-use Rattle.dsql_report.specs.LineValues.{natural}
+use Rattle.dsql_spelling.specs.LineValues.{natural}
 use Rattle.dsql_reader.specs.declared.script.Head.{Head}
 use Rattle.dsql_reader.specs.declared.script.ScriptLine.TheVariants as script
 use Rattle.dsql_reader.specs.ScriptLines.{form_of, text_of}
-use Rattle.dsql_reader.specs.ScriptWords.{moment_of, space, spaced_words}
-use Rattle.dsql_reader.proofs.ScriptClients.{own}
+use Rattle.dsql_script_calls.specs.ScriptWords.{moment_of, space, spaced_words}
+use Rattle.dsql_script_calls.proofs.ScriptClients.{own}
 use Rattle.dsql_text_laws.specs.ReadBack.{moment_text}
 use Rattle.dsql_text_laws.proofs.LineParts.{is_told, without_array, alone}
 use Rattle.dsql_text_laws.proofs.ReadClients.{decimal_is_number}

@@ -4,7 +4,7 @@ use Rattle.std.specs.Int.{w8, w16, w32, w64}
 use Rattle.std.proofs.lemmas.Bool.{le-leb, lt-ltb}
 use Rattle.serde_json.specs.Data.{unsigned}
 use Rattle.serde_json.specs.Find.{as_i64, of_integer}
-use Rattle.dsql_reader.specs.ScriptArgs.{between, up_to}
+use Rattle.dsql_forms.specs.ScriptArgs.{between, up_to}
 
 pub i8_between : (n : ℤ) → FitsSigned w8 n → between (negsuc 127) (pos 127) n ≡ Some n
 i8_between (pos n) fits = let few : n ≤ 127 = omega (arith, fits.sfits) in rw (le-leb n 127 few) refl

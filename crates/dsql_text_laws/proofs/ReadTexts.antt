@@ -23,8 +23,8 @@ use Rattle.dsql_value.specs.declared.arg.Arg.{Arg}
 use Rattle.dsql_value.specs.declared.arg.Arg.TheVariants.{Nil, I8, I16, I32, I64, U8, U16, U32, U64, Bool, Text, Bytes, Time, NullText, NullI64, NullI32, NullI16, NullU8, NullBool, NullTime}
 use Rattle.dsql_value.specs.declared.arg.Named.{Named}
 use Rattle.dsql_value.specs.Arguments.{largest_int}
-use Rattle.dsql_report.specs.LineArgs.{arg_data, named_arg_data, argument_data, statement_data}
-use Rattle.dsql_report.specs.LineValues.{under, natural, integer}
+use Rattle.dsql_spelling.specs.LineArgs.{arg_data, named_arg_data, argument_data, statement_data}
+use Rattle.dsql_spelling.specs.LineValues.{under, natural, integer}
 use Rattle.dsql_text_laws.specs.ReadBack.{IsInRange}
 
 -- what is written for the data is read as this data, and nests no deeper than so

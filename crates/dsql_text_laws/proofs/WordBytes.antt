@@ -8,9 +8,9 @@ use Rattle.std.proofs.lemmas.Bool.{eqb-true, ne_eqb, and_parts, or_parts, cases_
 use Rattle.std.proofs.lemmas.List.Folds.{list_any-append}
 use Rattle.dsql_scan.specs.declared.dest.Dest.{Dest}
 use Rattle.dsql_scan.specs.declared.dest.Dest.TheVariants.{Text}
-use Rattle.dsql_report.specs.Dests.{dest_word, dests_word, comma}
-use Rattle.dsql_reader.specs.ScriptWords.{space, client_of, client_number, is_number, is_name, is_name_byte, is_database, most_name_rest}
-use Rattle.dsql_reader.proofs.ScriptClients.{digits_of_number}
+use Rattle.dsql_spelling.specs.Dests.{dest_word, dests_word, comma}
+use Rattle.dsql_script_calls.specs.ScriptWords.{space, client_of, client_number, is_number, is_name, is_name_byte, is_database, most_name_rest}
+use Rattle.dsql_script_calls.proofs.ScriptClients.{digits_of_number}
 
 -- the bracket that begins an array
 abbrev pub bracket : ℕ

@@ -1,1 +1,3 @@
 pub mod ReadBack
+pub mod OneExec
+pub mod WorkedLines

@@ -14,17 +14,19 @@ use Rattle.dsql_history.specs.declared.event.Op.{Op}
 use Rattle.dsql_history.specs.declared.event.Op.TheVariants.{Exec, Query, One, Next, Scan, RowsClose, Err, DbClose, Stats}
 use Rattle.dsql_history.specs.declared.event.Setting.{Setting}
 use Rattle.dsql_history.specs.declared.event.Control.TheVariants.{Tick, Set}
-use Rattle.dsql_report.specs.Dests.{dests_word, dests_of}
-use Rattle.dsql_report.specs.LineArgs.{arg_data, argument_data, statement_data}
-use Rattle.dsql_report.specs.LineValues.{natural, integer}
-use Rattle.dsql_report.specs.Lines.{caps_names, limit_word, op_words, op_data}
+use Rattle.dsql_spelling.specs.Dests.{dests_word, dests_of}
+use Rattle.dsql_spelling.specs.LineArgs.{arg_data, argument_data, statement_data}
+use Rattle.dsql_spelling.specs.LineValues.{natural, integer}
+use Rattle.dsql_spelling.specs.CapsNames.{caps_names}
+use Rattle.dsql_report_calls.specs.LineOps.{op_words, op_data}
+use Rattle.dsql_report.specs.Lines.{limit_word}
 use Rattle.dsql_reader.specs.declared.script.Head.{Head}
 use Rattle.dsql_reader.specs.declared.script.ScriptLine.TheVariants.{Client}
 use Rattle.dsql_reader.specs.declared.script.ScriptLine.TheVariants as script
-use Rattle.dsql_reader.specs.ScriptArgs.{arg_of_data, named_of_data, call_of_data, most_args}
+use Rattle.dsql_forms.specs.ScriptArgs.{arg_of_data, named_of_data, call_of_data, most_args}
 use Rattle.dsql_reader.specs.ScriptHead.{caps_of}
 use Rattle.dsql_reader.specs.ScriptLines.{form_of, text_of, label_fault, among_labels}
-use Rattle.dsql_reader.specs.ScriptWords.{client_of, is_name, spaced_words}
+use Rattle.dsql_script_calls.specs.ScriptWords.{client_of, is_name, spaced_words}
 
 -- the argument's numbers are numbers of its type
 abbrev pub IsInRange : Arg → Type 0

@@ -2,7 +2,18 @@
 //! moment is read in a script as what it was made of. Each law is the contract of a function that does nothing.
 #![tactic(auto)]
 
+mod worked_reports;
+mod worked_scripts;
+
 ghost use Rattle.dsql_text_laws.specs.ReadBack.{ReadsArgumentsBack, ReadsCallsBack, ReadsCapsBack, ReadsLimitsBack, ReadsMomentsBack};
+
+pub use worked_reports::{
+    worked_argument_lines, worked_lines, worked_pool_lines, worked_row_lines, worked_rows_lines,
+};
+pub use worked_scripts::{
+    worked_label_lines, worked_limit_lines, worked_one_lines, worked_script_lines,
+    worked_start_lines, worked_step_lines, worked_tick_lines,
+};
 
 /// The array that a report shows for a call is read in a script as just this call: its text and its
 /// arguments, each of the same form, with the same name and content.

@@ -1,21 +1,19 @@
 //! Events as JSON.
 ghost use Rattle.std.specs.Prelude.{◌≡◌, ◌≤◌, ◌++◌, [], ◌∷◌, codes, decimal, length, map};
 ghost use Rattle.serde_json.specs.Data.{string};
-ghost use Rattle.dsql_report.specs.LineValues.{worded, natural, texts_data};
-ghost use Rattle.dsql_report.specs.Lines.{owner_word, cause_word, limit_word, caps_names, move_data, entry_data, json_of};
-ghost use Rattle.dsql_report.specs.Spelling.{Spells};
+ghost use Rattle.dsql_spelling.specs.LineValues.{worded, natural, texts_data};
+ghost use Rattle.dsql_spelling.specs.CapsNames.{caps_names};
+ghost use Rattle.dsql_report.specs.Lines.{owner_word, cause_word, limit_word, move_data, entry_data, json_of};
+ghost use Rattle.dsql_spelling.specs.Spelling.{Spells};
 
-use crate::caps::caps_names;
-use crate::line::calls::{write_answer, write_call};
-use crate::line::ops::write_entered;
-use crate::line::parts::{
-    begin, begin_numbered, write_integer, write_natural, write_numbered, write_word,
-};
-use crate::line::replies::write_reply;
 use arrayvec::ArrayString;
 use dsql_driver::Caps;
 use dsql_history::{CloseCause, Event, Move, Reply, Setting};
 use dsql_journal::{Entry, Owner};
+use dsql_report_calls::{write_answer, write_call, write_entered, write_reply};
+use dsql_spelling::{
+    begin, begin_numbered, write_caps, write_integer, write_natural, write_numbered, write_word,
+};
 use itoa::Buffer;
 use json::Writer;
 use std::alloc::{AllocError, Global};
@@ -61,26 +59,6 @@ fn word_of(cause: CloseCause) -> &'static str
         CloseCause::DbClosed => "db_closed",
         CloseCause::Discarded => "discarded",
     }
-}
-
-/// Names as an array of strings, in order.
-#[tactic(auto, using(crate::proofs::Spelled::spelled))]
-fn write_names(json: &mut Writer, names: &[&str]) -> Result<(), AllocError>
-    ensures { Spells result json.old json.new (texts_data (map (λ n. n.now) names.now)) }
-{
-    json.begin_array()?;
-    for name in names {
-        json.string(name)?;
-    }
-    json.end_array()
-}
-
-/// The names of what a driver can do, in a fixed order.
-fn write_caps(alloc: Global, json: &mut Writer, caps: &Caps) -> Result<(), AllocError>
-    ensures { Spells result json.old json.new (texts_data (caps_names caps.now)) }
-{
-    let names = caps_names(alloc, caps)?;
-    write_names(json, names.as_slice())
 }
 
 /// A connection that begins to be opened or couldn't be, and a call, or 0 for none.

@@ -3,8 +3,8 @@ use Rattle.std.specs.Str.{IsUtf8}
 use Rattle.std.proofs.lemmas.Result.{on_ok_weaker}
 use Rattle.serde_json.specs.Written.{compact_text}
 use Rattle.dsql_report.specs.Lines.{json_of}
-use Rattle.dsql_report.specs.Spelling.{tokens_of}
-use Rattle.dsql_report.proofs.Spelled.{written-text, written-utf8}
+use Rattle.dsql_spelling.specs.Spelling.{tokens_of}
+use Rattle.dsql_spelling.proofs.Spelled.{written-text, written-utf8}
 use Rattle.dsql_report.proofs.line.append_array.Goals as goal
 
 pub returns-clause-ok : goal.returns-clause-ok

@@ -1,0 +1,3 @@
+pub mod LineCalls
+pub mod LineOps
+pub mod LineReplies

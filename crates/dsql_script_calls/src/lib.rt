@@ -1,0 +1,12 @@
+//! The calls of clients in a script, by the words of their lines and the arrays behind them.
+#![tactic(auto)]
+
+mod args;
+mod array;
+mod calls;
+mod rows;
+mod targets;
+mod words;
+
+pub use calls::read_call;
+pub use words::{client, limit, moment, split_array, split_words};

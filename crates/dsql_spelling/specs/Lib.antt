@@ -1,0 +1,5 @@
+pub mod Spelling
+pub mod LineValues
+pub mod LineArgs
+pub mod Dests
+pub mod CapsNames
