@@ -29,4 +29,3 @@ fits_unheard heard old new slots h = λ telling fit c. subst (λ (entries : List
 -- nor where the history is the same
 pub fits_same : {W : Type 0} (heard : W → Option WireTold) (old new : List Event) (slots : List (Option (Journaled W))) → new ≡ old → KeepsFit heard old new slots slots
 fits_same heard old new slots same = λ telling fit. subst (λ (past : List Event). WiresFit heard telling past slots) (sym same) fit
-

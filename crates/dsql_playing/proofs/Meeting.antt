@@ -18,4 +18,3 @@ met_at m p line none at = record {
   kept = λ client. kept_same m line client (none client) ∙ at.kept client;
   held = λ client busy. held_same m line client (none client) ∙ at.held client busy;
 }
-

@@ -133,4 +133,3 @@ pub wakes : (shows : Bool) (m : Moment) (n : ℕ) (next : Next) (before after : 
     → Wakes shows m n before after
 wakes true m n next before after grew same w at = wake_shows m n next before after w at (grew refl)
 wakes false m n next before after grew same w at = (same refl, wake_sends m n next before after w at (same refl))
-
