@@ -4,3 +4,4 @@ pub mod FollowedSteps
 pub mod Edits
 pub mod Strayed
 pub mod StrayedEnds
+pub mod Times

@@ -4,3 +4,4 @@
 
 pub mod followed;
 pub mod strayed;
+pub mod times;

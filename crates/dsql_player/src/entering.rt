@@ -1,4 +1,4 @@
-//! Calls enter, a limit is set, and the run ends.
+//! Calls enter, a limit or the moment is set, and the run ends.
 ghost use Rattle.std.specs.Prelude.{◌≡◌, ◌<◌, ◌∷◌, true, false, length, IfOk, OnOk};
 ghost use Rattle.dsql_journal.specs.Readers.{is_empty};
 ghost use Rattle.dsql_history.specs.Readers.Calls.{is_busy};

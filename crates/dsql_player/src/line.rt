@@ -19,8 +19,8 @@ use dsql_playing::Halt;
 use dsql_seats::KeptLine;
 use dsql_wires::Wires;
 
-/// Carries a line of the script out. After a client's call or a limit all goes on until nobody may; a call that is held
-/// only enters, and a single step is just one.
+/// Carries a line of the script out. After a client's call, a limit or a moment all goes on until nobody may; a call that is
+/// held only enters, and a single step is just one.
 ///
 /// After an `Err` the run can't go on: its wires are given back by `retire_all`.
 pub fn carry_line<F: Fleet>(
