@@ -45,6 +45,14 @@ lines_over (Err Memory) ran unfailed = absurd (cc ran)
 lines_over (Err (Refused number fault)) ran unfailed = tt
 lines_over (Err Full) ran unfailed = absurd (cc ran)
 
+ends_ran : (r : Result (Unit {0}) Stop) → IsLinesEnd r → ran_out r ≡ true
+ends_ran (Ok done) over = refl
+ends_ran (Err Read) over = refl
+ends_ran (Err Write) over = refl
+ends_ran (Err Memory) over = absurd over
+ends_ran (Err (Refused number fault)) over = refl
+ends_ran (Err Full) over = absurd over
+
 not_wanting : (played : Result (Unit {0}) Stop) → ran_out played ≡ true → wanted_memory played ≡ false
 not_wanting (Ok done) ran = refl
 not_wanting (Err Read) ran = refl
@@ -87,27 +95,27 @@ played_ran : (played ended final : Result (Unit {0}) Stop) (rest : Playing) (pas
 played_ran played ended final rest past e ran = subst (λ r. ran_out r ≡ true) (e.same ran) ran
 
 -- it was ended, and follows its lines and the script's end
-ended_follows : (played ended final : Result (Unit {0}) Stop) (before left : Option (List ℕ)) (asked : Option Caps) (run : Event) (rest : Playing) (past : List Event) (w mid : Option (List ℕ)) → Ends played ended final rest past
-    → (l : LinesPlayed played before left asked run rest w mid) → ran_out ended ≡ true → (all : FollowsAll run l.lines past) × (all.played.parts ≡ l.parts)
-ended_follows played ended final before left asked run rest past w mid e l ran =
+ended_follows : (played ended final : Result (Unit {0}) Stop) (before left : Option (List ℕ)) (k : ℕ) (asked : Option Caps) (run : Event) (rest : Playing) (past : List Event) (w mid : Option (List ℕ)) → Ends played ended final rest past
+    → (l : LinesPlayed played before left k asked run rest w mid) → ran_out ended ≡ true → (all : FollowsAll run l.lines past) × (all.played.parts ≡ l.parts)
+ended_follows played ended final before left k asked run rest past w mid e l ran =
     let through = played_ran played ended final rest past e ran in
     end_follows run l.lines l.parts rest.past past (l.follows through) (e.carries ran (after run l.parts) (l.at through))
 
-ended_short : (played ended final : Result (Unit {0}) Stop) (before left : Option (List ℕ)) (asked : Option Caps) (run : Event) (rest : Playing) (past : List Event) (w mid : Option (List ℕ)) → Ends played ended final rest past
-    → (l : LinesPlayed played before left asked run rest w mid) → ran_out ended ≡ false → StopsShort run l.lines past
-ended_short played ended final before left asked run rest past w mid e l out = by (ran_out played) refl
+ended_short : (played ended final : Result (Unit {0}) Stop) (before left : Option (List ℕ)) (k : ℕ) (asked : Option Caps) (run : Event) (rest : Playing) (past : List Event) (w mid : Option (List ℕ)) → Ends played ended final rest past
+    → (l : LinesPlayed played before left k asked run rest w mid) → ran_out ended ≡ false → StopsShort run l.lines past
+ended_short played ended final before left k asked run rest past w mid e l out = by (ran_out played) refl
   where
     by : (b : Bool) → ran_out played ≡ b → StopsShort run l.lines past
     by true ran = end_stops_short run l.lines l.parts rest.past past (l.follows ran) (e.stops ran out (after run l.parts) (l.at ran))
     by false short = subst (λ h. StopsShort run l.lines h) (sym (e.stays short)) (l.short short)
 
-either_short : (played ended final : Result (Unit {0}) Stop) (before left : Option (List ℕ)) (asked : Option Caps) (run : Event) (rest : Playing) (past : List Event) (w mid : Option (List ℕ)) → Ends played ended final rest past
-    → (l : LinesPlayed played before left asked run rest w mid) → StopsShort run l.lines past
-either_short played ended final before left asked run rest past w mid e l = by (ran_out ended) refl
+either_short : (played ended final : Result (Unit {0}) Stop) (before left : Option (List ℕ)) (k : ℕ) (asked : Option Caps) (run : Event) (rest : Playing) (past : List Event) (w mid : Option (List ℕ)) → Ends played ended final rest past
+    → (l : LinesPlayed played before left k asked run rest w mid) → StopsShort run l.lines past
+either_short played ended final before left k asked run rest past w mid e l = by (ran_out ended) refl
   where
     by : (b : Bool) → ran_out ended ≡ b → StopsShort run l.lines past
-    by true ran = all_stops_short run l.lines past (ended_follows played ended final before left asked run rest past w mid e l ran).0
-    by false out = ended_short played ended final before left asked run rest past w mid e l out
+    by true ran = all_stops_short run l.lines past (ended_follows played ended final before left k asked run rest past w mid e l ran).0
+    by false out = ended_short played ended final before left k asked run rest past w mid e l out
 
 -- what is told of a run that ran out is that of one that was ended
 final_ran : (ended final : Result (Unit {0}) Stop) → Finishes ended final → ran_out final ≡ true → ran_out ended ≡ true
@@ -128,12 +136,12 @@ pub record WrittenBy (played final : Result (Unit {0}) Stop) (w mid now : Option
   pub unwritten : is_write_fault played ≡ true → now ≡ mid
   pub stops : is_write_fault played ≡ false → final ≡ Err Write → StopsBetween w (text_of (oldest n past)) (text_of past) now
 
-cut_by : (failing : Bool) (played ended final : Result (Unit {0}) Stop) (before left : Option (List ℕ)) (asked : Option Caps) (source_failed : Bool) (run : Event) (rest : Playing) (past : List Event) (w mid now : Option (List ℕ)) (n : ℕ)
-    → is_write_fault played ≡ failing → ran_out played ≡ true → final ≡ Err Write → Ends played ended final rest past → (l : LinesPlayed played before left asked run rest w mid) → (played ≡ Err Read → source_failed ≡ true)
+cut_by : (failing : Bool) (played ended final : Result (Unit {0}) Stop) (before left : Option (List ℕ)) (k : ℕ) (asked : Option Caps) (source_failed : Bool) (run : Event) (rest : Playing) (past : List Event) (w mid now : Option (List ℕ)) (n : ℕ)
+    → is_write_fault played ≡ failing → ran_out played ≡ true → final ≡ Err Write → Ends played ended final rest past → (l : LinesPlayed played before left k asked run rest w mid) → (played ≡ Err Read → source_failed ≡ true)
     → WrittenBy played final w mid now n rest.past past → CutAtLine w run l.parts now ⊎ CutAtEnd before left asked l.lines source_failed w (told run l.parts) past now
-cut_by true played ended final before left asked source_failed run rest past w mid now n is ran failed e l caused by =
+cut_by true played ended final before left k asked source_failed run rest past w mid now n is ran failed e l caused by =
     inl (subst (λ held. CutAtLine w run l.parts held) (sym (by.unwritten is)) (l.cut (failed_is played is)))
-cut_by false played ended final before left asked source_failed run rest past w mid now n is ran failed e l caused by =
+cut_by false played ended final before left k asked source_failed run rest past w mid now n is ran failed e l caused by =
     let over = lines_over played ran is in
     inr (record {
       played = played;
@@ -144,22 +152,30 @@ cut_by false played ended final before left asked source_failed run rest past w 
       written = subst (λ h. StopsBetween w (text_of h) (text_of past) now) (l.follows ran).is (stops_after_older w now n rest.past past e.extends (by.shown over) (by.stops is failed));
     })
 
+-- what is told of lines that came to an end is what ended them
+lines_ended : (played ended final : Result (Unit {0}) Stop) → (ran_out ended ≡ true → ended ≡ played) → Finishes ended final → IsLinesEnd final → IsLinesEnd played
+lines_ended played ended final same (inl is) over =
+    let it : IsLinesEnd ended = subst IsLinesEnd is over in subst IsLinesEnd (same (ends_ran ended it)) it
+lines_ended played ended final same (inr (inl memory)) over = absurd {A = IsLinesEnd played} (subst IsLinesEnd memory over)
+lines_ended played ended final same (inr (inr write)) over = absurd {A = IsLinesEnd played} (subst IsLinesEnd write.0 over)
+
 -- the lines that were played of a script to the run's end
-pub script_played : (played ended final : Result (Unit {0}) Stop) (before left : Option (List ℕ)) (asked : Option Caps) (source_failed : Bool) (run : Event) (rest : Playing) (past : List Event) (w mid now : Option (List ℕ)) (n : ℕ)
-    → Ends played ended final rest past → LinesPlayed played before left asked run rest w mid → (played ≡ Err Read → source_failed ≡ true) → WrittenBy played final w mid now n rest.past past
-    → ScriptPlayed final before left asked source_failed run past w now
-script_played played ended final before left asked source_failed run rest past w mid now n e l caused by = record {
+pub script_played : (played ended final : Result (Unit {0}) Stop) (before left : Option (List ℕ)) (k : ℕ) (asked : Option Caps) (source_failed : Bool) (run : Event) (rest : Playing) (past : List Event) (w mid now : Option (List ℕ)) (n : ℕ)
+    → Ends played ended final rest past → LinesPlayed played before left k asked run rest w mid → (played ≡ Err Read → source_failed ≡ true) → WrittenBy played final w mid now n rest.past past
+    → ScriptPlayed final before left k asked source_failed run past w now
+script_played played ended final before left k asked source_failed run rest past w mid now n e l caused by = record {
   lines = l.lines;
+  counted = λ over. l.counted (lines_ended played ended final e.same e.finishes over);
   plays = plays_finished played ended final before left _ e.same e.finishes l.plays;
   read = λ done. l.read (done_played played ended final e.same e.finishes done);
-  follows = λ ran. (ended_follows played ended final before left asked run rest past w mid e l (final_ran ended final e.finishes ran)).0;
-  short = λ out. either_short played ended final before left asked run rest past w mid e l;
+  follows = λ ran. (ended_follows played ended final before left k asked run rest past w mid e l (final_ran ended final e.finishes ran)).0;
+  short = λ out. either_short played ended final before left k asked run rest past w mid e l;
   cut = λ failed.
       let ran = so_ran ended final e.finishes failed in
-      let follows = ended_follows played ended final before left asked run rest past w mid e l ran in
+      let follows = ended_follows played ended final before left k asked run rest past w mid e l ran in
       record {
         all = follows.0;
         cut = subst (λ parts. CutAtLine w run parts now ⊎ CutAtEnd before left asked l.lines source_failed w (told run parts) past now) (sym follows.1)
-            (cut_by (is_write_fault played) played ended final before left asked source_failed run rest past w mid now n refl (played_ran played ended final rest past e ran) failed e l caused by);
+            (cut_by (is_write_fault played) played ended final before left k asked source_failed run rest past w mid now n refl (played_ran played ended final rest past e ran) failed e l caused by);
       };
 }

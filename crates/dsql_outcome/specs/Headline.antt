@@ -27,7 +27,7 @@ use Rattle.dsql_script_source.specs.declared.stop.Stop.{Stop}
 use Rattle.dsql_script_source.specs.declared.stop.Stop.TheVariants.{Read, Write, Memory, Full}
 use Rattle.dsql_outcome.specs.Followed.{FollowsAll, StopsShort}
 use Rattle.dsql_outcome.specs.Notes.{Tells, usage_note}
-use Rattle.dsql_outcome.specs.Runs.{ran_out, no_write_failed, Writes, CutShort}
+use Rattle.dsql_outcome.specs.Runs.{ran_out, no_write_failed, IsLinesEnd, Writes, CutShort}
 
 -- what is seen of the outside before a run and after it
 pub record Seen : Type 0 where
@@ -75,6 +75,12 @@ pub record Ran (stopped : Result Unit Stop) (before after : Seen) : Type 0 where
   pub read_well : no_read_failed stopped ≡ true → after.read_faults ≡ before.read_faults
   pub written_well : no_write_failed stopped ≡ true → after.write_faults ≡ before.write_faults
   pub full : stopped ≡ Err Full → most_events ≤ length history
+
+-- A run with this history, of whose script so many lines were read where these came to an end.
+pub record RanSo (stopped : Result Unit Stop) (before after : Seen) (past : List Event) (read_lines : ℕ) : Type 0 where
+  pub ran : Ran stopped before after
+  pub is : ran.history ≡ past
+  pub counted : IsLinesEnd stopped → length ran.lines ≡ read_lines
 
 -- There was no memory for the run's first event: nothing was written, no write failed, and the fleet wasn't asked for a connection.
 pub record NotBegun (stopped : Result Unit Stop) (before after : Seen) : Type 0 where

@@ -22,7 +22,7 @@ use Rattle.dsql_report.specs.Lines.{text_of}
 use Rattle.dsql_show.specs.Report.{with_text, StopsBetween}
 use Rattle.dsql_script_source.specs.Plays.{Plays, saying}
 use Rattle.dsql_script_source.specs.Position.{Position}
-use Rattle.dsql_script_source.specs.Reading.{ReadTo}
+use Rattle.dsql_script_source.specs.Reading.{ReadTo, came}
 use Rattle.dsql_script_source.specs.Script.{is_skip}
 use Rattle.dsql_script_source.specs.Stops.{is_read_fault, no_read_failed}
 use Rattle.dsql_script_source.specs.declared.stop.Stop.{Stop}
@@ -46,6 +46,7 @@ pub record IsOver (past : List Event) : Type 0 where
 -- The first lines of a script ask for this, and so many of them are skipped as they are played; then comes what was read.
 pub record HasHead (first : Result (Option ScriptLine) Stop) (before : Option (List ℕ)) (reader : Position) (left : Option (List ℕ)) (asked : Option Caps) (skipped : List Line) : Type 0 where
   pub silent : list_all is_skip skipped ≡ true
+  pub counted : length skipped + came first ≡ reader.reader.lines
   pub reads : ReadTo first before reader left (saying asked skipped)
 
 -- What was written of a line where all of the history before it was, and how many events were shown.
@@ -61,10 +62,11 @@ pub record WritesLines (stopped : Result Unit Stop) (past : List Event) (held : 
   pub within : count ≤ length past
   pub wrote : Wrote stopped held count past holds
 
--- The lines that were played of a script, whose parts the history follows, or where the run stopped in them. Where the sink failed, it was at the last of them.
-pub record LinesPlayed (stopped : Result Unit Stop) (before left : Option (List ℕ)) (asked : Option Caps) (run : Event) (player : Playing) (w now : Option (List ℕ)) : Type 0 where
+-- The lines that were played of a script, of which so many were read, whose parts the history follows, or where the run stopped in them. Where the sink failed, it was at the last of them.
+pub record LinesPlayed (stopped : Result Unit Stop) (before left : Option (List ℕ)) (read_lines : ℕ) (asked : Option Caps) (run : Event) (player : Playing) (w now : Option (List ℕ)) : Type 0 where
   pub lines : List Line
   pub parts : List Part
+  pub counted : IsLinesEnd stopped → length lines ≡ read_lines
   pub plays : Plays stopped before left (saying asked lines)
   pub read : stopped ≡ Ok tt → IfSome left (λ bytes. bytes ≡ [])
   pub follows : ran_out stopped ≡ true → FollowsSoFar run lines parts player.past
@@ -72,9 +74,10 @@ pub record LinesPlayed (stopped : Result Unit Stop) (before left : Option (List 
   pub short : ran_out stopped ≡ false → StopsShort run lines player.past
   pub cut : stopped ≡ Err Write → CutAtLine w run parts now
 
--- The lines that were played of a script to the run's end, and what of it the history follows.
-pub record ScriptPlayed (stopped : Result Unit Stop) (before left : Option (List ℕ)) (asked : Option Caps) (source_failed : Bool) (run : Event) (past : List Event) (w now : Option (List ℕ)) : Type 0 where
+-- The lines that were played of a script to the run's end, of which so many were read, and what of it the history follows.
+pub record ScriptPlayed (stopped : Result Unit Stop) (before left : Option (List ℕ)) (read_lines : ℕ) (asked : Option Caps) (source_failed : Bool) (run : Event) (past : List Event) (w now : Option (List ℕ)) : Type 0 where
   pub lines : List Line
+  pub counted : IsLinesEnd stopped → length lines ≡ read_lines
   pub plays : Plays stopped before left (saying asked lines)
   pub read : stopped ≡ Ok tt → IfSome left (λ bytes. bytes ≡ [])
   pub follows : ran_out stopped ≡ true → FollowsAll run lines past

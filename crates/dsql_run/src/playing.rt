@@ -1,11 +1,11 @@
 //! A script is played from its first line to its end.
-ghost use Rattle.std.specs.Prelude.{◌≡◌, ◌≤◌, ℕ, Bool, List, [], ◌∷◌, Option, None, true, false, length, Err, is_some};
+ghost use Rattle.std.specs.Prelude.{◌≡◌, ◌≤◌, ℕ, Bool, List, [], ◌∷◌, Option, None, true, false, length, Err, is_some, IfSome};
 ghost use Rattle.dsql_driver.specs.declared.caps.Caps.{Caps};
 ghost use Rattle.dsql_driver.specs.Streams.{HasRisen, has_risen};
 ghost use Rattle.dsql_history.specs.declared.event.Event.TheVariants.{Run};
 ghost use Rattle.dsql_follows.specs.declared.line.Line.{Line};
 ghost use Rattle.dsql_follows.specs.Moments.{just_begun};
-ghost use Rattle.dsql_outcome.specs.Headline.{IsPlayed, seen};
+ghost use Rattle.dsql_outcome.specs.Headline.{IsPlayed, RanSo, seen};
 ghost use Rattle.dsql_outcome.specs.Playing.{HasHead, IsOver, LinesPlayed, ReadsLater, RunsOn, ScriptPlayed, WritesLines, WritesWell};
 ghost use Rattle.dsql_outcome.specs.Runs.{Between, Writes, is_write_fault, ran_out};
 ghost use Rattle.dsql_playing.specs.Playing.{IsAt, IsReady};
@@ -45,7 +45,7 @@ fn play_lines<S: Source, K: Sink, F: Fleet>(
     requires shown { shown.old ≡ 0 }
     requires first { IsHeadRead first script.old.reader }
     ensures between { ran_out result ≡ true → Between F.Wire.told (is_some (F.told fleet.new)) player.new wires.new }
-    ensures lines { (before : Option (List ℕ)) (asked : Option Caps) (skipped : List Line) → HasHead first before script.old (S.left input.old) asked skipped → LinesPlayed result before (S.left input.new) asked (Run 1 (F.ability fleet.old)) player.new (K.written output.old) (K.written output.new) }
+    ensures lines { (before : Option (List ℕ)) (asked : Option Caps) (skipped : List Line) → HasHead first before script.old (S.left input.old) asked skipped → LinesPlayed result before (S.left input.new) script.new.reader.lines asked (Run 1 (F.ability fleet.old)) player.new (K.written output.old) (K.written output.new) }
     ensures told { ran_out result ≡ true → F.told fleet.new ≡ with_told (F.told fleet.old) player.new.past }
     ensures asked { TellsAtMost (F.told fleet.old) (F.told fleet.new) player.old.past player.new.past }
     ensures writes { WritesLines result player.new.past (K.written output.old) shown.new (K.written output.new) }
@@ -87,7 +87,7 @@ fn play_from<S: Source, K: Sink, F: Fleet>(
     requires ready { IsReady player.old }
     requires first { IsHeadRead first script.old.reader }
     ensures on { RunsOn F.Fleet fleet.old fleet.new player.old.past player.new.past }
-    ensures script { (before : Option (List ℕ)) (asked : Option Caps) (skipped : List Line) (failed : Bool) → HasHead first before script.old (S.left input.old) asked skipped → (first ≡ Err Stop.Read → failed ≡ true) → (HasRisen (S.faults input.old) (S.faults input.new) → failed ≡ true) → ScriptPlayed result before (S.left input.new) asked failed (Run 1 (F.ability fleet.old)) player.new.past (K.written output.old) (K.written output.new) }
+    ensures script { (before : Option (List ℕ)) (asked : Option Caps) (skipped : List Line) (failed : Bool) → HasHead first before script.old (S.left input.old) asked skipped → (first ≡ Err Stop.Read → failed ≡ true) → (HasRisen (S.faults input.old) (S.faults input.new) → failed ≡ true) → ScriptPlayed result before (S.left input.new) script.new.reader.lines asked failed (Run 1 (F.ability fleet.old)) player.new.past (K.written output.old) (K.written output.new) }
     ensures over { ran_out result ≡ true → IsOver player.new.past }
     ensures writes { Writes result (has_risen (K.faults output.old) (K.faults output.new)) (K.written output.old) player.new.past (K.written output.new) }
     ensures told { ran_out result ≡ true → F.told fleet.new ≡ with_told (F.told fleet.old) player.new.past }
@@ -142,6 +142,10 @@ pub(crate) fn play_keeping<S: Source, K: Sink, F: Fleet>(
     ensures ran { IsPlayed result.stopped
         (seen S.Source K.Sink F.Fleet input.old output.old fleet.old)
         (seen S.Source K.Sink F.Fleet input.new output.new fleet.new) }
+    ensures kept { IfSome result.kept (λ kept. RanSo result.stopped
+        (seen S.Source K.Sink F.Fleet input.old output.old fleet.old)
+        (seen S.Source K.Sink F.Fleet input.new output.new fleet.new) kept.player.past kept.script.reader.lines) }
+    ensures none { result.kept ≡ None → result.stopped ≡ Err Stop.Memory }
 {
     let Ok(script) = ScriptReader::new(alloc) else {
         return Played::not_begun();

@@ -1,6 +1,7 @@
 -- What reading one more line of a script comes to.
-use Rattle.std.proofs.Common.{◌≡◌, ◌⊎◌, ◌∙◌, inl, inr, ℕ, true, false, List, [], Option, Some, None, refl, ap}
+use Rattle.std.proofs.Common.{◌≡◌, ◌⊎◌, ◌∙◌, inl, inr, ℕ, ◌+◌, true, false, List, [], ◌∷◌, ◌++◌, length, Option, Some, None, refl, ap, sym, arith}
 use Rattle.std.specs.Prelude.{option_map, IfSome, IfOk, IfErr, Result, Ok, Err}
+use Rattle.std.proofs.lemmas.List.{length-append}
 use Rattle.std.proofs.lemmas.Option.{same_Some}
 use Rattle.dsql_stream.specs.Lines.{all_lines, ahead, SawTheEnd}
 use Rattle.dsql_forms.specs.declared.fault.LineFault.{LineFault}
@@ -10,9 +11,9 @@ use Rattle.dsql_reader.specs.declared.script.ScriptLine.TheVariants.{Skip, Versi
 use Rattle.dsql_reader.specs.ScriptHead.{Progress, after}
 use Rattle.dsql_reader.specs.ScriptLines.{read_of}
 use Rattle.dsql_script_source.specs.Position.{Position}
-use Rattle.dsql_script_source.specs.Script.{Script, Said, nothing, said_of, then, is_silent, script_of, whole, refused_at, with_said, SaysFirst}
+use Rattle.dsql_script_source.specs.Script.{Script, Said, nothing, line_as_played, said_of, then, is_silent, script_of, whole, refused_at, with_said, SaysFirst}
 use Rattle.dsql_script_source.specs.Plays.{ReadsUpTo, Plays}
-use Rattle.dsql_script_source.specs.Reading.{HasRead, ReadTo, ReadsOn, TakesLine, DropsUnfinished, StopsReading, to_come, is_body}
+use Rattle.dsql_script_source.specs.Reading.{HasRead, ReadTo, ReadsOn, TakesLine, DropsUnfinished, StopsReading, NoLine, came, to_come, is_body}
 use Rattle.dsql_script_source.specs.declared.stop.Stop.{Stop}
 use Rattle.dsql_script_source.specs.declared.stop.Stop.TheVariants.{Read, Write, Memory, Refused, Full}
 use Rattle.dsql_script_source.proofs.Saying.{then-nothing, with_both, silent_then}
@@ -81,6 +82,12 @@ pub record TakesNext (result : Result (Option ScriptLine) Stop) (old new : Posit
   pub is : IfOk result (λ one. IfSome one (λ line. read_of old.reader bytes ≡ Ok line))
   pub sees : SawTheEnd old.lines left → SawTheEnd new.lines rest
 
+one_more_line : (says : Said) (line : ScriptLine) (old new : Progress) → length says.lines ≡ old.lines → new ≡ after old line → length (says.lines ++ line_as_played line ∷ []) ≡ new.lines
+one_more_line says line old new counted placed =
+    let more = length-append says.lines (line_as_played line ∷ []) in
+    let now : new.lines ≡ old.lines + 1 = ap (λ (p : Progress). p.lines) placed in
+    omega (arith, more, now, counted)
+
 read_a_line : (before : Option (List ℕ)) (old new : Position) (left rest : Option (List ℕ)) (bytes : List ℕ) (says : Said) (line : ScriptLine) → HasRead before old left says → TakesNext (Ok (Some line)) old new left rest bytes
     → HasRead before new rest (then says (said_of line))
 read_a_line before old new left rest bytes says line h t = record {
@@ -88,6 +95,7 @@ read_a_line before old new left rest bytes says line h t = record {
   lines = reads_line old.lines.ended new.lines.ended before (ahead old.lines left) (ahead new.lines rest) bytes old.reader new.reader line says t.ended h.lines t.taken t.placed;
   begun = begun_on says old.reader new.reader line h.begun (λ begun. body_lines old.reader bytes line begun t.is) t.placed;
   sees = t.sees h.sees;
+  counted = one_more_line says line old.reader new.reader h.counted t.placed;
 }
 
 read_no_line : (before : Option (List ℕ)) (old new : Position) (left rest : Option (List ℕ)) (bytes : List ℕ) (says : Said) (stop : Stop) → HasRead before old left says → TakesNext (Err stop) old new left rest bytes
@@ -102,3 +110,10 @@ pub reads_to : (result : Result (Option ScriptLine) Stop) (before : Option (List
 reads_to (Ok (Some line)) before old new left rest bytes says h t = read_a_line before old new left rest bytes says line h t
 reads_to (Ok None) before old new left rest bytes says h t = (script_ends before rest (to_come old left) says h.script t.read, t.end refl h.sees)
 reads_to (Err stop) before old new left rest bytes says h t = read_no_line before old new left rest bytes says stop h t
+
+-- and how many lines that makes
+pub counts_to : (result : Result (Option ScriptLine) Stop) (before : Option (List ℕ)) (old new : Position) (left : Option (List ℕ)) (says : Said) → HasRead before old left says
+    → IfOk result (λ one. IfSome one (λ line. new.reader ≡ after old.reader line)) → NoLine result old.reader new.reader → length says.lines + came result ≡ new.reader.lines
+counts_to (Ok (Some line)) before old new left says h placed stays = ap (λ k. k + 1) h.counted ∙ sym (ap (λ (p : Progress). p.lines) placed)
+counts_to (Ok None) before old new left says h placed stays = let same = ap (λ (p : Progress). p.lines) stays in let counted = h.counted in omega (arith, same, counted)
+counts_to (Err stop) before old new left says h placed stays = let same = ap (λ (p : Progress). p.lines) stays in let counted = h.counted in omega (arith, same, counted)

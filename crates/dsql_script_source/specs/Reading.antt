@@ -1,5 +1,5 @@
 -- How far a script has been read.
-use Rattle.std.specs.Prelude.{ℕ, ◌≡◌, ◌≢◌, ◌≤◌, ◌+◌, Bool, true, false, All, List, [], ◌∷◌, ◌++◌, ◌⊎◌, Option, Some, None, IfSome, IfOk, IfErr, option_map, Result, Ok, Err}
+use Rattle.std.specs.Prelude.{ℕ, ◌≡◌, ◌≢◌, ◌≤◌, ◌+◌, Bool, true, false, All, List, [], ◌∷◌, ◌++◌, length, ◌⊎◌, Option, Some, None, IfSome, IfOk, IfErr, option_map, Result, Ok, Err}
 use Rattle.std.specs.List.{list_all}
 use Rattle.dsql_driver.specs.declared.caps.Caps.{Caps}
 use Rattle.dsql_driver.specs.Wires.{Preferred, preferred_after}
@@ -100,6 +100,12 @@ pub record HasRead (before : Option (List ℕ)) (reader : Position) (left : Opti
   pub lines : ReadSoFar reader.lines.ended before (ahead reader.lines left) reader.reader says
   pub begun : (is_silent says ≡ true) ⊎ (reader.reader.head ≡ Begun)
   pub sees : SawTheEnd reader.lines left
+  pub counted : length says.lines ≡ reader.reader.lines
+
+-- how many lines this came to
+abbrev pub came : Result (Option ScriptLine) Stop → ℕ
+came (Ok (Some line)) = 1
+came _ = 0
 
 -- What reading one more line came to, behind lines that say this: a line, the script's end, or a stop.
 abbrev pub ReadTo : Result (Option ScriptLine) Stop → Option (List ℕ) → Position → Option (List ℕ) → Said → Type 0
@@ -143,6 +149,7 @@ pub record ReadsHead (before : Option (List ℕ)) (result : Result (Option Scrip
   pub silent : list_all is_skip lines ≡ true
   pub reads : ReadTo result before reader left (saying asked lines)
   pub prefers : Prefers asked preferred_before preferred_after ability_before ability_after
+  pub counted : length lines + came result ≡ reader.reader.lines
 
 -- The line that stands before those of the body that are still to be read, if there is one, or what stopped the reading.
 pub record IsHeadRead (read : Result (Option ScriptLine) Stop) (place : Progress) : Type 0 where

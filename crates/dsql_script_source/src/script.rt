@@ -1,11 +1,11 @@
-ghost use Rattle.std.specs.Prelude.{◌≡◌, ◌+◌, ◌≤◌, ℕ, List, Option, true, false, [], None, IfOk, IfErr, IfSome, is_some};
+ghost use Rattle.std.specs.Prelude.{◌≡◌, ◌+◌, ◌≤◌, ℕ, List, Option, true, false, [], None, IfOk, IfErr, IfSome, is_some, length};
 ghost use Rattle.dsql_stream.specs.Faults.{CountsFaults};
 ghost use Rattle.dsql_stream.specs.Lines.{ahead, SawTheEnd};
 ghost use Rattle.dsql_reader.specs.ScriptHead.{unread, after};
 ghost use Rattle.dsql_reader.specs.ScriptLines.{most_lines, read_of};
 ghost use Rattle.dsql_reader.specs.declared.script.Head.{Head};
 ghost use Rattle.dsql_script_source.specs.Position.{position};
-ghost use Rattle.dsql_script_source.specs.Reading.{HasRead, ReadTo, IsBodyLine, ends_head, NoLine, to_come, ReadsOn, TakesLine, DropsUnfinished, StopsReading, IsRefusal};
+ghost use Rattle.dsql_script_source.specs.Reading.{HasRead, ReadTo, IsBodyLine, ends_head, NoLine, to_come, ReadsOn, TakesLine, DropsUnfinished, StopsReading, IsRefusal, came};
 ghost use Rattle.dsql_script_source.specs.Script.{Said, nothing};
 ghost use Rattle.dsql_script_source.specs.Stops.{is_read_fault, IsReadStop};
 ghost use Rattle.dsql_script_source.specs.declared.stop.Stop.TheVariants.{Read};
@@ -66,6 +66,7 @@ impl ScriptReader {
         ensures body { self.old.reader.head ≡ Head.Begun → IfOk result IsBodyLine }
         ensures begun { self.old.reader.head ≡ Head.Begun → self.new.reader.head ≡ Head.Begun }
         ensures headed { IfOk result (λ line. IfSome line (λ says. ends_head says ≡ true → self.new.reader.head ≡ Head.Begun)) }
+        ensures counted { (before : Option (List ℕ)) (says : Said) → HasRead before self.old (S.left input.old) says → length says.lines + came result ≡ self.new.reader.lines }
         ensures numbered { IfOk result (λ line. IfSome line (λ _. self.new.reader.lines ≡ self.old.reader.lines + 1)) }
         ensures few { IfOk result (λ line. IfSome line (λ _. self.new.reader.lines ≤ most_lines)) }
         ensures readable { IfErr result IsReadStop }
@@ -79,6 +80,13 @@ impl ScriptReader {
             &mut self.line,
             input,
         )
+    }
+
+    /// How many lines were read.
+    pub fn count(&self) -> u16
+        ensures { result ≡ self.now.reader.lines }
+    {
+        self.reader.lines()
     }
 }
 

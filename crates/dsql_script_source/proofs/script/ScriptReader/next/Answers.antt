@@ -1,6 +1,6 @@
 use Rattle.dsql_script_source.specs.Position.{position}
 use Rattle.dsql_script_source.specs.Reading.{to_come}
-use Rattle.dsql_script_source.proofs.Coming.{reads_to}
+use Rattle.dsql_script_source.proofs.Coming.{reads_to, counts_to}
 use Rattle.dsql_script_source.proofs.Body.{body_of_read, begun_of_read, headed_of_read, counted_of_read, readable_stops}
 use Rattle.dsql_script_source.proofs.script.ScriptReader.next.Goals as goal
 
@@ -19,6 +19,12 @@ returns-clause-reads g c =
       is = c.take_line.ensures.is;
       sees = c.take_line.ensures.sees;
     }))
+
+pub returns-clause-counted : goal.returns-clause-counted
+returns-clause-counted g c =
+    rw (← c.self.view_is)
+    (λ before says h. counts_to c.take_line.result before (position c.self.inside.lines c.self.inside.reader) (position c.take_line.new.lines c.take_line.new.reader) (g.S.Source.left c.args.input.now) says h c.take_line.ensures.placed
+    c.take_line.ensures.stays)
 
 pub returns-clause-body : goal.returns-clause-body
 returns-clause-body g c = rw (← c.self.view_is) (λ begun. body_of_read c.take_line.result c.self.inside.reader c.take_line.new.line.items begun c.take_line.ensures.is)

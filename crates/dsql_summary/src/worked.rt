@@ -1,0 +1,6 @@
+ghost use Rattle.dsql_summary.specs.Worked.{WorkedSummaries};
+
+/// Worked summaries.
+pub fn worked_summaries()
+    ensures { WorkedSummaries }
+{}
