@@ -6,6 +6,12 @@ ghost use Rattle.dsql_generator.specs.Script.{block_of, client_of, step_at, word
 use itoa::Buffer;
 use std::alloc::AllocError;
 
+/// How many lines a block has.
+const BLOCK: u32 = 8;
+
+/// How many clients take turns.
+const CLIENTS: u32 = 64;
+
 /// What the lines of a block do, one after another.
 #[derive(Clone, Copy)]
 pub(crate) enum Step {
@@ -48,15 +54,15 @@ fn block_of(line: u32) -> u32
     requires { 1 ≤ line }
     ensures { result ≡ block_of line }
 {
-    (line - 1) / 8 + 1
+    (line - 1) / BLOCK + 1
 }
 
-/// The client of a block. Sixty-four take turns.
+/// The client of a block.
 fn client_of(block: u32) -> u32
     requires { 1 ≤ block }
     ensures { result ≡ client_of block }
 {
-    (block - 1) % 64 + 1
+    (block - 1) % CLIENTS + 1
 }
 
 /// Appends texts one after another.
@@ -112,7 +118,11 @@ pub(crate) fn append_line(line: u32, lines: &mut Vec<u8>) -> Result<(), AllocErr
     let mut block_digits = Buffer::new();
     let mut client_digits = Buffer::new();
     append_all(&["c", client_digits.format(client_of(block))], lines)?;
-    append_words(step_at((line - 1) % 8), block_digits.format(block), lines)?;
+    append_words(
+        step_at((line - 1) % BLOCK),
+        block_digits.format(block),
+        lines,
+    )?;
     lines.push(b'\n')?;
     Ok(())
 }

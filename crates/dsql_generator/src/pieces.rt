@@ -55,10 +55,11 @@ fn spell(first: u32, last: u32, lines: &mut Vec<u8>) -> Result<(), Memory>
     Ok(())
 }
 
-/// Writes a script of this many lines.
+/// Writes a script of this many lines. At the first write that fails it gives up, and what was written
+/// until then stays.
 pub fn generate<K: Sink>(alloc: Global, lines: u32, output: &mut K) -> Result<(), GenerateFault>
     ensures ok { OnOk result (K.written output.new ≡ with_text (K.written output.old) (generated lines)) }
-    ensures err { OnErr result (ShowsFront (K.written output.old) (generated lines) (K.written output.new)) }
+    ensures front { OnErr result (ShowsFront (K.written output.old) (generated lines) (K.written output.new)) }
     ensures faults { CountsFaults (is_sink_fault result) (K.faults output.old) (K.faults output.new) }
 {
     let mut piece = Vec::new(alloc);

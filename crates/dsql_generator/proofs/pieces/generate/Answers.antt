@@ -6,13 +6,13 @@ use Rattle.dsql_generator.specs.declared.pieces.GenerateFault.TheVariants as fau
 use Rattle.dsql_generator.proofs.ScriptLemmas.{front_of_shorter, front_in_piece}
 use Rattle.dsql_generator.proofs.pieces.generate.Goals as goal
 
-pub returns-in_err-spell-clause-err : goal.returns-in_err-spell-clause-err
-returns-in_err-spell-clause-err g c =
+pub returns-in_err-spell-clause-front : goal.returns-in_err-spell-clause-front
+returns-in_err-spell-clause-front g c =
     let is : c.from_residual.result ≡ Err faults.Memory = err_is c.from_residual.result faults.Memory c.from_residual.ensures.1 in
     rw is (front_of_shorter (g.K.Sink.written c.args.output.now) (g.K.Sink.written c.loop-written.output) c.loop-written.written c.args.lines c.loop-written.invariant.within c.loop-written.invariant.holds)
 
-pub returns-in_err-write_whole-clause-err : goal.returns-in_err-write_whole-clause-err
-returns-in_err-write_whole-clause-err g c =
+pub returns-in_err-write_whole-clause-front : goal.returns-in_err-write_whole-clause-front
+returns-in_err-write_whole-clause-front g c =
     let is : c.from_residual-in_err-write_whole.result ≡ Err faults.Failed = err_is c.from_residual-in_err-write_whole.result faults.Failed c.from_residual-in_err-write_whole.ensures.1 in
     let done = c.loop-written.written in
     let next = done + c.min.result in
