@@ -6,3 +6,4 @@ pub mod Finished
 pub mod Ending
 pub mod Asking
 pub mod Telling
+pub mod Summed

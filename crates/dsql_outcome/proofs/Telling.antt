@@ -79,7 +79,7 @@ failed_status_is_known Memory shows.Failed = refl
 failed_status_is_known (Refused number fault) shows.Failed = refl
 failed_status_is_known Full shows.Failed = refl
 
-told_is_known : (stopped : Result (Unit {0}) Stop) (risen : Bool) (w now : Option (List ℕ)) (status : ℕ) → Tells stopped risen w now status → is_status status ≡ true
+pub told_is_known : (stopped : Result (Unit {0}) Stop) (risen : Bool) (w now : Option (List ℕ)) (status : ℕ) → Tells stopped risen w now status → is_status status ≡ true
 told_is_known (Ok done) risen w now status told = rw told.0 refl
 told_is_known (Err stop) risen w now status (inl all) = rw all.status_is (status_is_known stop)
 told_is_known (Err stop) risen w now status (inr part) = rw part.status_is (failed_status_is_known stop part.fault)

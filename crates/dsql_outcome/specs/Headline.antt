@@ -107,8 +107,8 @@ pub record PlaysAndTells (before after : Seen) (notes_before notes_after : SeenN
   pub ran : IsPlayed stopped before after
   pub told : Tells stopped (has_risen notes_before.faults notes_after.faults) notes_before.written notes_after.written status
 
--- The whole of a script was played: its report is the text of one legal history, which follows the script, and nothing was told.
-pub record PlaysWhole (before after : Seen) (notes_before notes_after : SeenNotes) : Type 0 where
+-- The whole of a script was played: one legal history follows the script, what was written is this text of it, and nothing was told.
+pub record PlaysWholeAs (text : List Line → List Event → List ℕ) (before after : Seen) (notes_before notes_after : SeenNotes) : Type 0 where
   pub history : List Event
   pub asked : Option Caps
   pub lines : List Line
@@ -121,11 +121,19 @@ pub record PlaysWhole (before after : Seen) (notes_before notes_after : SeenNote
   pub replied : unfinished history ≡ []
   pub empty : open_count (pool history) ≡ 0
   pub read : IfSome after.left (λ bytes. bytes ≡ [])
-  pub written : after.written ≡ with_text before.written (text_of history)
+  pub written : after.written ≡ with_text before.written (text lines history)
   pub told : after.told ≡ with_told before.told history
   pub read_well : after.read_faults ≡ before.read_faults
   pub written_well : after.write_faults ≡ before.write_faults
   pub untold : notes_after.written ≡ notes_before.written
+
+-- the report of a history
+abbrev pub report : List Line → List Event → List ℕ
+report lines history = text_of history
+
+-- The whole of a script was played, and its report is the text of the history.
+abbrev pub PlaysWhole : Seen → Seen → SeenNotes → SeenNotes → Type 0
+PlaysWhole before after notes_before notes_after = PlaysWholeAs report before after notes_before notes_after
 
 -- Words that aren't accepted are told, or the notes failed.
 pub record RefusesWords (notes_before notes_after : SeenNotes) (status : ℕ) : Type 0 where

@@ -9,11 +9,6 @@ use Rattle.dsql_script_source.specs.Stops.{stop_text}
 use Rattle.dsql_script_source.specs.declared.stop.Stop.{Stop}
 use Rattle.dsql_script_source.specs.declared.stop.Stop.TheVariants.{Read, Write, Memory, Refused, Full}
 
--- the program's words ask for a script to be played
-abbrev pub is_play : List (List ℕ) → Bool
-is_play (word ∷ []) = bytes_eq word (codes "play")
-is_play _ = false
-
 -- the line that tells what stopped a run
 abbrev pub note_of : Stop → List ℕ
 note_of stop = codes "sqlrun: " ++ stop_text stop ++ 10 ∷ []

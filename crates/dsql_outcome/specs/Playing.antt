@@ -1,5 +1,5 @@
 -- What the parts of playing a script leave behind.
-use Rattle.std.specs.Prelude.{ℕ, ◌≡◌, ◌≤◌, ◌⊎◌, Bool, true, false, List, [], length, Option, IfSome, Result, Ok, Err, OnOk}
+use Rattle.std.specs.Prelude.{ℕ, ◌≡◌, ◌≤◌, ◌+◌, ◌⊎◌, Bool, true, false, List, [], length, Option, IfSome, Result, Ok, Err, OnOk}
 use Rattle.std.specs.List.{list_all}
 use Rattle.dsql_driver.specs.declared.caps.Caps.{Caps}
 use Rattle.dsql_driver.specs.declared.wire.Fleet.{Ghosts}

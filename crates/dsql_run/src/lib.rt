@@ -3,9 +3,11 @@
 
 mod carrying;
 mod closing;
+mod generating;
 mod playing;
 mod program;
 mod showing;
+mod summing;
 
 pub use dsql_outcome::tell;
 pub use dsql_script_source::Stop;

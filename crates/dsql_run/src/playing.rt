@@ -5,7 +5,7 @@ ghost use Rattle.dsql_driver.specs.Streams.{HasRisen, has_risen};
 ghost use Rattle.dsql_history.specs.declared.event.Event.TheVariants.{Run};
 ghost use Rattle.dsql_follows.specs.declared.line.Line.{Line};
 ghost use Rattle.dsql_follows.specs.Moments.{just_begun};
-ghost use Rattle.dsql_outcome.specs.Headline.{IsPlayed, RanSo, seen};
+ghost use Rattle.dsql_outcome.specs.Headline.{IsPlayed, NotBegun, RanSo, seen};
 ghost use Rattle.dsql_outcome.specs.Playing.{HasHead, IsOver, LinesPlayed, ReadsLater, RunsOn, ScriptPlayed, WritesLines, WritesWell};
 ghost use Rattle.dsql_outcome.specs.Runs.{Between, Writes, is_write_fault, ran_out};
 ghost use Rattle.dsql_playing.specs.Playing.{IsAt, IsReady};
@@ -109,8 +109,8 @@ fn play_from<S: Source, K: Sink, F: Fleet>(
 /// What a run keeps until it is over: its history with the tables over it, and what was read of the script.
 #[derive(Drop)]
 pub(crate) struct Kept {
-    player: Player,
-    script: ScriptReader,
+    pub(crate) player: Player,
+    pub(crate) script: ScriptReader,
 }
 
 /// A run that was played: what stopped it, and what it kept, if it began.
@@ -145,7 +145,9 @@ pub(crate) fn play_keeping<S: Source, K: Sink, F: Fleet>(
     ensures kept { IfSome result.kept (λ kept. RanSo result.stopped
         (seen S.Source K.Sink F.Fleet input.old output.old fleet.old)
         (seen S.Source K.Sink F.Fleet input.new output.new fleet.new) kept.player.past kept.script.reader.lines) }
-    ensures none { result.kept ≡ None → result.stopped ≡ Err Stop.Memory }
+    ensures none { result.kept ≡ None → NotBegun result.stopped
+        (seen S.Source K.Sink F.Fleet input.old output.old fleet.old)
+        (seen S.Source K.Sink F.Fleet input.new output.new fleet.new) }
 {
     let Ok(script) = ScriptReader::new(alloc) else {
         return Played::not_begun();

@@ -1,24 +1,21 @@
-ghost use Rattle.std.specs.Prelude.{◌≡◌, ◌≢◌, ◌⊎◌, true, false};
+ghost use Rattle.std.specs.Prelude.{◌≡◌, ◌≢◌, ◌⊎◌, true, false, Some, None, is_some};
 ghost use Rattle.dsql_driver.specs.Streams.{HasRisen};
-ghost use Rattle.dsql_outcome.specs.Notes.{is_play, is_status};
+ghost use Rattle.dsql_generator.specs.Script.{generated};
+ghost use Rattle.dsql_show.specs.Report.{with_text};
+ghost use Rattle.dsql_outcome.specs.declared.words.Command.TheVariants.{Play, Summarize};
+ghost use Rattle.dsql_outcome.specs.Notes.{is_status};
 ghost use Rattle.dsql_outcome.specs.Headline.{seen, seen_notes, PlaysAndTells, PlaysWhole, RefusesWords};
+ghost use Rattle.dsql_outcome.specs.Summing.{GeneratesAndTells, IfGenerates, SumsUpAndTells, SumsUpWhole, plays_a_script};
+ghost use Rattle.dsql_outcome.specs.Words.{command_of};
 
+use crate::generating::generate_lines;
 use crate::playing::{Played, play_keeping};
+use crate::summing::sum_up;
 use dsql_driver::{Clock, Fleet, Gate, Sink, Source};
-use dsql_outcome::{tell, tell_usage};
+use dsql_outcome::{Command, command_of, tell, tell_usage};
 use dsql_value::Txt;
 use std::alloc::Global;
 use std::mem;
-
-/// Whether the program's words ask for a script to be played.
-fn is_play(words: &[Txt]) -> bool
-    ensures { result ≡ is_play words.now }
-{
-    match words {
-        [word] => word.as_str() == "play",
-        _ => false,
-    }
-}
 
 /// Plays a script from its first event to its end, and tells what stopped it, if anything did.
 fn run<S: Source, K: Sink, E: Sink, F: Fleet>(
@@ -43,11 +40,12 @@ fn run<S: Source, K: Sink, E: Sink, F: Fleet>(
 
 /// Runs the program: `words` are what it was called with, without its name, and the answer is its exit
 /// status. The words `play` play the script that the source gives, and write the run's report to the
-/// output.
+/// output; `play --summary` writes its summary in place of the report; `gen N`, with N from 1 to 10,000, writes so many
+/// lines of a script.
 ///
 /// | status | when | what the notes get |
 /// |---|---|---|
-/// | 0 | the script was read to its end and played | nothing |
+/// | 0 | the script was read to its end and played, or generated | nothing |
 /// | 2 | the words aren't accepted; nothing is read or written | `sqlrun: usage: sqlrun play [--summary] \| race \| gen N` |
 /// | 3 | the source failed | `sqlrun: read fault` |
 /// | 4 | the output failed, or the notes did | `sqlrun: write fault` |
@@ -55,9 +53,9 @@ fn run<S: Source, K: Sink, E: Sink, F: Fleet>(
 /// | 7 | the line L is refused | `sqlrun: line L: REASON` |
 /// | 10 | the run has 4,000,000 events | `sqlrun: too many events` |
 ///
-/// After a read fault or a refused line the run is ended as at the script's end. After a write fault
-/// the run is still ended, and the output holds a beginning of its report. Where the output didn't fail the
-/// status is 4 only if the notes did.
+/// After a read fault or a refused line the run is ended as at the script's end, and its summary is that of the lines
+/// before. After a write fault the run is still ended, and the output holds a beginning of its report. Where the output
+/// didn't fail the status is 4 only if the notes did. At the statuses 5 and 10 no summary is written.
 ///
 /// The memory that the run kept is left to the end of the process, as is fit for a program that ends then;
 /// `play` gives it back.
@@ -72,32 +70,49 @@ pub fn sqlrun<S: Source, K: Sink, E: Sink, F: Fleet, C: Clock, G: Gate>(
     _gate: &G,
 ) -> u8
     // The report of a script that was played to its end is the text of one legal history.
-    ensures headline { is_play words.now ≡ true → result ≡ 0 → PlaysWhole
+    ensures headline { command_of words.now ≡ Some Play → result ≡ 0 → PlaysWhole
         (seen S.Source K.Sink F.Fleet input.old output.old fleet.old)
         (seen S.Source K.Sink F.Fleet input.new output.new fleet.new)
         (seen_notes E.Sink notes.old) (seen_notes E.Sink notes.new) }
 
     // At each status the report is the text of one legal history, or a beginning of it.
-    ensures ran { is_play words.now ≡ true → PlaysAndTells
+    ensures ran { command_of words.now ≡ Some Play → PlaysAndTells
         (seen S.Source K.Sink F.Fleet input.old output.old fleet.old)
         (seen S.Source K.Sink F.Fleet input.new output.new fleet.new)
         (seen_notes E.Sink notes.old) (seen_notes E.Sink notes.new) result }
-    ensures accepted { is_play words.now ≡ true → result ≢ 2 }
+
+    // The summary of a script that was played to its end is that of one legal history, and at each status it is one of such a
+    // history, or a beginning of it.
+    ensures summary { command_of words.now ≡ Some Summarize → result ≡ 0 → SumsUpWhole
+        (seen S.Source K.Sink F.Fleet input.old output.old fleet.old)
+        (seen S.Source K.Sink F.Fleet input.new output.new fleet.new)
+        (seen_notes E.Sink notes.old) (seen_notes E.Sink notes.new) }
+    ensures summed { command_of words.now ≡ Some Summarize → SumsUpAndTells
+        (seen S.Source K.Sink F.Fleet input.old output.old fleet.old)
+        (seen S.Source K.Sink F.Fleet input.new output.new fleet.new)
+        (seen_notes E.Sink notes.old) (seen_notes E.Sink notes.new) result }
+
+    // A generated script has the lines that it should have. Nothing is read, and the fleet isn't asked for anything.
+    ensures lines { IfGenerates (command_of words.now) (λ n. result ≡ 0 → K.written output.new ≡ with_text (K.written output.old) (generated n)) }
+    ensures generated { IfGenerates (command_of words.now) (λ n. GeneratesAndTells n (seen_notes K.Sink output.old) (seen_notes K.Sink output.new) (seen_notes E.Sink notes.old) (seen_notes E.Sink notes.new) result) }
+    ensures unread { plays_a_script (command_of words.now) ≡ false → input.new ≡ input.old }
+    ensures unopened { plays_a_script (command_of words.now) ≡ false → fleet.new ≡ fleet.old }
 
     // What a status says of the streams, whatever they tell.
     ensures known { is_status result ≡ true }
-    ensures silent { is_play words.now ≡ true → result ≡ 0 → notes.new ≡ notes.old }
-    ensures read_fault { is_play words.now ≡ true → result ≡ 3 → HasRisen (S.faults input.old) (S.faults input.new) }
-    ensures write_fault { is_play words.now ≡ true → result ≡ 4 → HasRisen (K.faults output.old) (K.faults output.new) ⊎ HasRisen (E.faults notes.old) (E.faults notes.new) }
+    ensures accepted { is_some (command_of words.now) ≡ true → result ≢ 2 }
+    ensures silent { is_some (command_of words.now) ≡ true → result ≡ 0 → notes.new ≡ notes.old }
+    ensures read_fault { plays_a_script (command_of words.now) ≡ true → result ≡ 3 → HasRisen (S.faults input.old) (S.faults input.new) }
+    ensures write_fault { is_some (command_of words.now) ≡ true → result ≡ 4 → HasRisen (K.faults output.old) (K.faults output.new) ⊎ HasRisen (E.faults notes.old) (E.faults notes.new) }
 
     // Words that aren't accepted.
-    ensures refused { is_play words.now ≡ false → RefusesWords (seen_notes E.Sink notes.old) (seen_notes E.Sink notes.new) result }
-    ensures unread { is_play words.now ≡ false → input.new ≡ input.old }
-    ensures unwritten { is_play words.now ≡ false → output.new ≡ output.old }
-    ensures unopened { is_play words.now ≡ false → fleet.new ≡ fleet.old }
+    ensures refused { command_of words.now ≡ None → RefusesWords (seen_notes E.Sink notes.old) (seen_notes E.Sink notes.new) result }
+    ensures unwritten { command_of words.now ≡ None → output.new ≡ output.old }
 {
-    if is_play(words) {
-        return run(alloc, input, output, notes, fleet);
+    match command_of(words) {
+        Some(Command::Play) => run(alloc, input, output, notes, fleet),
+        Some(Command::Summarize) => sum_up(alloc, input, output, notes, fleet),
+        Some(Command::Generate(lines)) => generate_lines(alloc, lines, output, notes),
+        None => tell_usage(notes),
     }
-    tell_usage(notes)
 }

@@ -350,3 +350,36 @@ fn a_note_that_fails_makes_the_status_4(rt: HostRuntime) -> Result<(), Fail> {
     }
     Ok(())
 }
+
+const SUMMARY_OF_ONE: &str = "[\"summary\",1,1,1,4,1,0]\n";
+
+#[test]
+fn a_summary_stands_in_place_of_a_report(rt: HostRuntime) -> Result<(), Fail> {
+    let words = ["play", "--summary"];
+    for (script, read, status, note) in ENDS {
+        let streams = bytewise(script, *read);
+        let end = (*status, *note, SUMMARY_OF_ONE);
+        assert!(rt; ends(&rt, &words, streams, end)?, "{script}");
+        let failing = Streams {
+            write: 9,
+            ..streams
+        };
+        let cut = (4, "sqlrun: write fault\n", front(SUMMARY_OF_ONE, 8));
+        assert!(rt; ends(&rt, &words, failing, cut)?, "{script}");
+    }
+    Ok(())
+}
+
+#[test]
+fn a_script_is_generated_and_nothing_is_read(rt: HostRuntime) -> Result<(), Fail> {
+    let lines = "c1 begin x1 db\nc1 exec x1 [\"SET ? ?\",\"u1\",\"Ann\"]\n";
+    let streams = bytewise(ONE, 1);
+    assert!(rt; ends(&rt, &["gen", "2"], streams, (0, "", lines))?);
+    let failing = Streams {
+        write: 5,
+        ..streams
+    };
+    let cut = (4, "sqlrun: write fault\n", front(lines, 4));
+    assert!(rt; ends(&rt, &["gen", "2"], failing, cut)?);
+    Ok(())
+}

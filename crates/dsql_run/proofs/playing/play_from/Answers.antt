@@ -32,7 +32,7 @@ returns-clause-on g c = record {
 
 pub returns-clause-script : goal.returns-clause-script
 returns-clause-script g c = λ before asked skipped failed head first_failed risen_failed.
-    script_played c.play_lines-played.result c.close-ended.result c.finish.result before (g.S.Source.left c.play_lines-played.new.input) asked failed (Run 1 (g.F.Fleet.ability c.args.fleet.now)) c.play_lines-played.new.player c.close-ended.new.player.past
+    script_played c.play_lines-played.result c.close-ended.result c.finish.result before (g.S.Source.left c.play_lines-played.new.input) c.play_lines-played.new.script.reader.lines asked failed (Run 1 (g.F.Fleet.ability c.args.fleet.now)) c.play_lines-played.new.player c.close-ended.new.player.past
     (g.K.Sink.written c.args.output.now) (g.K.Sink.written c.play_lines-played.new.output) (g.K.Sink.written c.finish.new.output) c.play_lines-played.new.shown
     (record {
       same = c.close-ended.ensures.same;

@@ -30,7 +30,7 @@ returns-in_err-show_history-clause-lines g c = λ before asked skipped head.
     let is : c.from_residual.result ≡ Err stop = err_is c.from_residual.result stop c.from_residual.ensures.1 in
     let w = g.K.Sink.written c.args.output.now in
     rw is
-    (first_stops stop c.args.first before c.args.script.now (g.S.Source.left c.args.input.now) (g.S.Source.left c.args.input.now) asked skipped (g.F.Fleet.ability c.args.fleet.now) c.args.player.now w (g.K.Sink.written c.show_history.new.output)
+    (first_stops stop c.args.first before c.args.script.now (g.S.Source.left c.args.input.now) (g.S.Source.left c.args.input.now) c.args.script.now.reader.lines asked skipped (g.F.Fleet.ability c.args.fleet.now) c.args.player.now w (g.K.Sink.written c.show_history.new.output)
     (show_stops stop c.in_err-show_history.ensures.kinds) c.requires.first.body c.requires.begun c.requires.at head
     (first_cut w (g.K.Sink.written c.show_history.new.output) c.args.shown.now c.args.player.now.past (g.F.Fleet.ability c.args.fleet.now) c.requires.shown c.requires.begun
     (c.in_err-show_history.ensures.stops w (rw c.requires.shown (sym (no_text w))))))
@@ -78,7 +78,7 @@ returns-in_err-play_line-clause-lines g c = λ before asked skipped head.
     let start : g.K.Sink.written c.show_history.new.output ≡ with_text w (text_of c.args.player.now.past) = c.in_ok-show_history.ensures.shows w (rw c.requires.shown (sym (no_text w))) in
     let body : is_body c.in-Some.line ≡ true = rw c.in-Some.is at c.loop-next.invariant.body in
     rw is
-    (line_ends stop c.loop-next.next before c.loop-next.script (g.S.Source.left c.loop-next.input) (g.S.Source.left c.loop-next.input) asked (Run 1 (g.F.Fleet.ability c.args.fleet.now)) c.in-Some.line c.loop-next.player c.play_line.new.player
+    (line_ends stop c.loop-next.next before c.loop-next.script (g.S.Source.left c.loop-next.input) (g.S.Source.left c.loop-next.input) c.loop-next.script.reader.lines asked (Run 1 (g.F.Fleet.ability c.args.fleet.now)) c.in-Some.line c.loop-next.player c.play_line.new.player
     w (g.K.Sink.written c.play_line.new.output) c.in_err-play_line.ensures.kinds c.in-Some.is body (c.loop-next.invariant.so_far before asked skipped head)
     (λ ran. subst (λ line. (m : Moment) → IsAt m c.loop-next.player → Carries m line c.loop-next.player c.play_line.new.player) c.line_as_played.ensures (c.in_err-play_line.ensures.carries ran))
     (λ out. subst (λ line. (m : Moment) → IsAt m c.loop-next.player → StopsInLine m line c.loop-next.player.past c.play_line.new.player.past) c.line_as_played.ensures (c.in_err-play_line.ensures.stops out))
@@ -132,7 +132,7 @@ returns-in_err-next-2-clause-lines g c = λ before asked skipped head.
     (line_so_far c.loop-next.next (Err stop) before c.loop-next.script c.next.new.self (g.S.Source.left c.loop-next.input) (g.S.Source.left c.next.new.input) asked (Run 1 (g.F.Fleet.ability c.args.fleet.now)) c.in-Some.line
     c.loop-next.player c.play_line.new.player c.in-Some.is body (c.loop-next.invariant.so_far before asked skipped head)
     (subst (λ line. (m : Moment) → IsAt m c.loop-next.player → Carries m line c.loop-next.player c.play_line.new.player) c.line_as_played.ensures (c.in_ok-play_line.ensures.carries refl))
-    (λ lines read. c.in_err-next-2.ensures.reads before (saying asked lines) read)))
+    (λ lines read. c.in_err-next-2.ensures.reads before (saying asked lines) read) (λ lines read. c.in_err-next-2.ensures.counted before (saying asked lines) read)))
 
 pub returns-in_err-next-2-clause-writes : goal.returns-in_err-next-2-clause-writes
 returns-in_err-next-2-clause-writes g c =
@@ -192,7 +192,7 @@ loop-next-preserved g c =
           line_so_far c.loop-next.next (Ok c.in_ok-next-2.next) before c.loop-next.script c.next.new.self (g.S.Source.left c.loop-next.input) (g.S.Source.left c.next.new.input) asked (Run 1 (g.F.Fleet.ability c.args.fleet.now)) c.in-Some.line
           c.loop-next.player c.play_line.new.player c.in-Some.is body (c.loop-next.invariant.so_far before asked skipped head)
           (subst (λ line. (m : Moment) → IsAt m c.loop-next.player → Carries m line c.loop-next.player c.play_line.new.player) c.line_as_played.ensures (c.in_ok-play_line.ensures.carries refl))
-          (λ lines read. c.in_ok-next-2.ensures.reads before (saying asked lines) read);
+          (λ lines read. c.in_ok-next-2.ensures.reads before (saying asked lines) read) (λ lines read. c.in_ok-next-2.ensures.counted before (saying asked lines) read);
       body = c.in_ok-next-2.ensures.body begun;
       headed = always_headed c.in_ok-next-2.next c.next.new.self.reader (c.in_ok-next-2.ensures.begun begun);
       few = c.in_ok-next-2.ensures.few;

@@ -1,0 +1,99 @@
+-- What was written of a summary.
+use Rattle.std.proofs.Common.{◌≡◌, ◌⊎◌, ◌<◌, ℕ, Bool, true, false, List, [], length, Option, Some, None, refl, ap, sym, subst, ◌∙◌, inl, inr, arith}
+use Rattle.std.specs.Prelude.{IfSome, Result, Ok, Err, ◌++◌, option_map}
+use Rattle.std.proofs.lemmas.List.{append-nil}
+use Rattle.dsql_driver.specs.Streams.{HasRisen}
+use Rattle.dsql_follows.specs.declared.line.Line.{Line}
+use Rattle.dsql_history.specs.declared.event.Event.{Event}
+use Rattle.dsql_show.specs.Report.{with_text, ShowsFront}
+use Rattle.dsql_summary.specs.Summary.{line_of, summary_of}
+use Rattle.dsql_script_source.specs.declared.stop.Stop.{Stop}
+use Rattle.dsql_script_source.specs.declared.stop.Stop.TheVariants.{Read, Write, Memory, Refused, Full}
+use Rattle.dsql_outcome.specs.Headline.{Seen, IsPlayed, NotBegun, Ran, RanSo}
+use Rattle.dsql_outcome.specs.Runs.{Finishes, IsLinesEnd, is_write_fault}
+use Rattle.dsql_outcome.specs.Summing.{NotSummarized, Summarized, WritesPiece, summary, unreported}
+use Rattle.dsql_run.specs.declared.playing.Kept.{Kept}
+
+-- nothing is a beginning of each text
+none_shown : (w : Option (List ℕ)) (text : List ℕ) → ShowsFront w text w
+none_shown w text = record { front = []; begins = record { rest = text; parts = refl }; written = same w }
+  where
+    same : (w : Option (List ℕ)) → w ≡ with_text w []
+    same None = refl
+    same (Some bytes) = ap Some (sym (append-nil bytes))
+
+-- the whole text, where the lines came to an end
+pub whole_piece : (r : Result (Unit {0}) Stop) (text : List ℕ) (w now : Option (List ℕ)) → IsLinesEnd r → now ≡ with_text w text → WritesPiece r text w now
+whole_piece (Ok done) text w now over is = is
+whole_piece (Err Read) text w now over is = is
+whole_piece (Err Write) text w now over is = absurd over
+whole_piece (Err Memory) text w now over is = absurd over
+whole_piece (Err (Refused number fault)) text w now over is = is
+whole_piece (Err Full) text w now over is = absurd over
+
+-- and else nothing
+pub no_piece : (r : Result (Unit {0}) Stop) (text : List ℕ) (w : Option (List ℕ)) → (IsLinesEnd r → ⊥) → WritesPiece r text w w
+no_piece (Ok done) text w cut = absurd (cut tt)
+no_piece (Err Read) text w cut = absurd (cut tt)
+no_piece (Err Write) text w cut = none_shown w text
+no_piece (Err Memory) text w cut = refl
+no_piece (Err (Refused number fault)) text w cut = absurd (cut tt)
+no_piece (Err Full) text w cut = refl
+
+-- what nobody keeps is written without a fault
+pub no_write_fault : (stopped : Result (Unit {0}) Stop) (before after : Seen) → IsPlayed stopped (unreported before) (unreported after) → is_write_fault stopped ≡ false
+no_write_fault (Ok done) before after played = refl
+no_write_fault (Err Read) before after played = refl
+no_write_fault (Err Write) before after (inl ran) = absurd (never (ran.write_fault refl))
+  where
+    never : HasRisen 0 0 → ⊥
+    never risen = cc risen
+no_write_fault (Err Write) before after (inr none) = absurd (cc none.memory)
+no_write_fault (Err Memory) before after played = refl
+no_write_fault (Err (Refused number fault)) before after played = refl
+no_write_fault (Err Full) before after played = refl
+
+-- the text is that of the lines that were read, where a piece of it was written
+so_many : (stopped told : Result (Unit {0}) Stop) (before after : Seen) (past : List Event) (lines : ℕ) → Finishes stopped told → (r : RanSo stopped (unreported before) (unreported after) past lines)
+    → WritesPiece told (line_of (summary_of lines past)) before.written after.written → WritesPiece told (summary r.ran.lines r.ran.history) before.written after.written
+so_many stopped told before after past lines finishes r writes = by told stopped finishes r.counted (no_write_fault stopped before after (inl r.ran)) writes
+  where
+    same : length r.ran.lines ≡ lines → line_of (summary_of lines past) ≡ summary r.ran.lines r.ran.history
+    same counted = ap (λ n. line_of (summary_of n past)) (sym counted) ∙ ap (λ h. line_of (summary_of (length r.ran.lines) h)) (sym r.is)
+
+    ends : (played : Result (Unit {0}) Stop) → Finishes played (Err Write) → is_write_fault played ≡ false → IsLinesEnd played
+    ends (Ok done) f unfailed = tt
+    ends (Err Read) f unfailed = tt
+    ends (Err Write) f unfailed = absurd (cc unfailed)
+    ends (Err Memory) (inl is) unfailed = absurd (cc is)
+    ends (Err Memory) (inr (inl is)) unfailed = absurd (cc is)
+    ends (Err Memory) (inr (inr write)) unfailed = absurd (cc write.1)
+    ends (Err (Refused number fault)) f unfailed = tt
+    ends (Err Full) (inl is) unfailed = absurd (cc is)
+    ends (Err Full) (inr (inl is)) unfailed = absurd (cc is)
+    ends (Err Full) (inr (inr write)) unfailed = absurd (cc write.1)
+
+    over : (now played : Result (Unit {0}) Stop) → Finishes played now → IsLinesEnd now → IsLinesEnd played
+    over now played (inl is) end = subst IsLinesEnd is end
+    over now played (inr (inl is)) end = absurd {A = IsLinesEnd played} (subst IsLinesEnd is end)
+    over now played (inr (inr write)) end = absurd {A = IsLinesEnd played} (subst IsLinesEnd write.0 end)
+
+    by : (now played : Result (Unit {0}) Stop) → Finishes played now → (IsLinesEnd played → length r.ran.lines ≡ lines) → is_write_fault played ≡ false → WritesPiece now (line_of (summary_of lines past)) before.written after.written
+        → WritesPiece now (summary r.ran.lines r.ran.history) before.written after.written
+    by (Ok done) played f counted unfailed w = subst (λ text. WritesPiece (Ok done) text before.written after.written) (same (counted (over (Ok done) played f tt))) w
+    by (Err Read) played f counted unfailed w = subst (λ text. WritesPiece (Err Read) text before.written after.written) (same (counted (over (Err Read) played f tt))) w
+    by (Err Write) played f counted unfailed w = subst (λ text. WritesPiece (Err Write) text before.written after.written) (same (counted (ends played f unfailed))) w
+    by (Err Memory) played f counted unfailed w = w
+    by (Err (Refused number fault)) played f counted unfailed w =
+        subst (λ text. WritesPiece (Err (Refused number fault)) text before.written after.written) (same (counted (over (Err (Refused number fault)) played f tt))) w
+    by (Err Full) played f counted unfailed w = w
+
+-- a run was summed up, or it hadn't begun
+pub summed : (kept : Option Kept) (stopped told : Result (Unit {0}) Stop) (before after : Seen) → Finishes stopped told → IfSome kept (λ k. RanSo stopped (unreported before) (unreported after) k.player.past k.script.reader.lines)
+    → IfSome kept (λ k. WritesPiece told (line_of (summary_of k.script.reader.lines k.player.past)) before.written after.written) → (kept ≡ None → NotBegun stopped (unreported before) (unreported after)) → (kept ≡ None → told ≡ stopped)
+    → (kept ≡ None → after.written ≡ before.written) → Summarized stopped told before after ⊎ NotSummarized told before after
+summed (Some k) stopped told before after finishes ran writes none stays unwritten =
+    inl (record { ran = ran.ran; written = so_many stopped told before after k.player.past k.script.reader.lines finishes ran writes })
+summed None stopped told before after finishes ran writes none stays unwritten =
+    let not_begun = none refl in
+    inr (record { memory = stays refl ∙ not_begun.memory; unwritten = unwritten refl; unopened = not_begun.unopened })

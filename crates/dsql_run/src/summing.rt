@@ -1,0 +1,92 @@
+//! A script is played for its summary.
+ghost use Rattle.std.specs.Prelude.{◌≡◌, None, true, false, IfSome};
+ghost use Rattle.dsql_driver.specs.Streams.{HasRisen};
+ghost use Rattle.dsql_outcome.specs.Headline.{seen, seen_notes};
+ghost use Rattle.dsql_outcome.specs.Runs.{Finishes, IsLinesEnd, is_write_fault, no_write_failed};
+ghost use Rattle.dsql_outcome.specs.Summing.{SumsUpAndTells, WritesPiece};
+ghost use Rattle.dsql_summary.specs.Summary.{line_of, summary_of};
+
+use crate::playing::{Kept, Played, play_keeping};
+use dsql_driver::{Failed, Fleet, Sink, Source};
+use dsql_outcome::tell;
+use dsql_script_source::Stop;
+use dsql_stream::write_whole;
+use dsql_summary::{summary_line, summary_of};
+use std::alloc::Global;
+use std::mem;
+
+/// A sink that takes all and keeps nothing.
+#[derive(Drop)]
+struct Unkept;
+
+impl Sink for Unkept {
+    ghost written = { λ _. None };
+
+    ghost faults = { λ _. 0 };
+
+    fn write(&mut self, piece: &[u8]) -> Result<usize, Failed> {
+        Ok(piece.len())
+    }
+}
+
+/// Plays a script without its report, and writes its summary where its lines came to an end. What stopped it is told, if
+/// anything did.
+pub(crate) fn sum_up<S: Source, K: Sink, E: Sink, F: Fleet>(
+    alloc: Global,
+    input: &mut S,
+    output: &mut K,
+    notes: &mut E,
+    fleet: &mut F,
+) -> u8
+    ensures summed { SumsUpAndTells
+        (seen S.Source K.Sink F.Fleet input.old output.old fleet.old)
+        (seen S.Source K.Sink F.Fleet input.new output.new fleet.new)
+        (seen_notes E.Sink notes.old) (seen_notes E.Sink notes.new) result }
+    ensures silent { result ≡ 0 → notes.new ≡ notes.old }
+{
+    let mut unkept = Unkept;
+    let Played { stopped, kept } = play_keeping(alloc, input, &mut unkept, fleet);
+    let told = write_summary(alloc, stopped, &kept, output);
+
+    // As with a report, all memory is given back at once as the process ends.
+    mem::forget(kept);
+    tell(alloc, &told, notes)
+}
+
+/// Whether a script's lines came to an end.
+fn lines_ended(stopped: &Result<(), Stop>) -> bool
+    ensures over { result ≡ true → IsLinesEnd stopped.now }
+    ensures cut { result ≡ false → IsLinesEnd stopped.now → ⊥ }
+{
+    !matches!(stopped, Err(Stop::Write | Stop::Memory | Stop::Full))
+}
+
+/// Writes the summary of a run whose script's lines came to an end.
+fn write_summary<K: Sink>(
+    alloc: Global,
+    stopped: Result<(), Stop>,
+    kept: &Option<Kept>,
+    output: &mut K,
+) -> Result<(), Stop>
+    ensures finishes { Finishes stopped result }
+    ensures written { IfSome kept.now (λ kept. WritesPiece result (line_of (summary_of kept.script.reader.lines kept.player.past)) (K.written output.old) (K.written output.new)) }
+    ensures none { kept.now ≡ None → output.new ≡ output.old }
+    ensures stays { kept.now ≡ None → result ≡ stopped }
+    ensures caused { result ≡ Err Stop.Write → is_write_fault stopped ≡ false → HasRisen (K.faults output.old) (K.faults output.new) }
+    ensures faultless { no_write_failed result ≡ true → K.faults output.new ≡ K.faults output.old }
+{
+    let Some(kept) = kept else {
+        return stopped;
+    };
+    if !lines_ended(&stopped) {
+        return stopped;
+    }
+    let lines = u64::from(kept.script.count());
+    let Ok(line) = summary_line(alloc, &summary_of(lines, kept.player.history())) else {
+        return Err(Stop::Memory);
+    };
+    match write_whole(output, line.as_bytes()) {
+        Ok(()) => stopped,
+        Err(_) => Err(Stop::Write),
+    }
+}
