@@ -2,6 +2,7 @@
 use Rattle.std.proofs.Common.{refl}
 use Rattle.std.specs.Fmt.{digits}
 use Rattle.dsql_mem.specs.Worked.{WorkedNumbers, WorkedTexts, WorkedHandles, WorkedQueries, WorkedTransactions}
+use Rattle.dsql_mem.specs.WorkedPlans.{WorkedPlans}
 
 pub worked_numbers : WorkedNumbers
 unfolding digits
@@ -67,4 +68,25 @@ worked_transactions = record {
   committed = refl;
   begun_twice = refl;
   reset = refl;
+}
+
+pub worked_plans : WorkedPlans
+unfolding digits
+worked_plans = record {
+  bad = refl;
+  fail = refl;
+  invalid = refl;
+  bad_test = refl;
+  failed_test = refl;
+  invalid_ping = refl;
+  replaced = refl;
+  unfit = refl;
+  replaced_on_wire = refl;
+  not_written = refl;
+  still_open = refl;
+  refused = refl;
+  failed = refl;
+  invalid_connect = refl;
+  other_wire = refl;
+  taken = refl;
 }

@@ -1,4 +1,5 @@
 pub mod EffectLemmas
 pub mod Examples
+pub mod PlanLemmas
 pub mod RollbackLaw
 pub mod WireLemmas

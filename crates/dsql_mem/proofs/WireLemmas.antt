@@ -1,19 +1,18 @@
 -- What a wire is after a call that it carried out on some map, or for which memory was wanting.
-use Rattle.std.proofs.Common.{◌≡◌, ◌⊎◌, ℕ, true, false, refl, ap, ◌∙◌, inl, inr}
+use Rattle.std.proofs.Common.{◌≡◌, ◌⊎◌, ℕ, true, false, Option, refl, ap, ◌∙◌, inl, inr}
 use Rattle.dsql_driver.specs.Fits.{fits_of, is_memory}
 use Rattle.dsql_driver.specs.Wires.{WireTold, with_call, KeepsHandles, KeepsCursors}
 use Rattle.dsql_driver.specs.declared.answer.DriverAnswer.{DriverAnswer}
 use Rattle.dsql_driver.specs.declared.answer.DriverAnswer.TheVariants.{Done, Prepared, Result, Cursor, Row, End, Invalid, Skip, Bad, Fail, Memory}
 use Rattle.dsql_driver.specs.declared.call.DriverCall.{DriverCall}
-use Rattle.dsql_mem.specs.Effect.{effect}
 use Rattle.dsql_store.specs.Entries.{Entries}
 use Rattle.dsql_session.specs.Session.{SessionState, IsSound, handles_of, cursors_of}
-use Rattle.dsql_mem.specs.Wire.{WireState, CarriesOut, after_call, faults_after}
-use Rattle.dsql_mem.proofs.EffectLemmas.{effect-IsLawful}
+use Rattle.dsql_mem.specs.Wire.{WireState, CarriesOut, effect_unless, fault_in_place, after_call, faults_after}
+use Rattle.dsql_mem.proofs.PlanLemmas.{comes_of-IsLawful}
 
 -- a wire that took a call's answer and noted it is the wire after the call
-pub changed_by_parts : (store : Entries) (call noted : DriverCall) (before : WireState) (session : SessionState) (told : WireTold) (faults : ℕ) (answer note : DriverAnswer) → session ≡ (effect store before.session call).session → answer ≡ (effect store before.session call).answer → note ≡ (effect store before.session call).answer → noted ≡ call → told ≡ with_call (noted, note) before.told → faults ≡ faults_after before.faults answer → record { session = session; told = told; faults = faults } ≡ after_call store before call
-changed_by_parts store call noted before session heard faults answer note s a n c h f = rw (h, f, s, a, n, c) refl
+pub changed_by_parts : (store : Entries) (call noted : DriverCall) (before : WireState) (fault : Option DriverAnswer) (session : SessionState) (told : WireTold) (faults : ℕ) (answer note : DriverAnswer) → fault ≡ fault_in_place before call → session ≡ (effect_unless fault store before.session call).session → answer ≡ (effect_unless fault store before.session call).answer → note ≡ (effect_unless fault store before.session call).answer → noted ≡ call → told ≡ with_call (noted, note) before.told → faults ≡ faults_after before.faults answer → record { session = session; told = told; planned = before.planned; faults = faults } ≡ after_call store before call
+changed_by_parts store call noted before fault session heard faults answer note d s a n c h f = rw (h, f, s, a, n, c, d) refl
 
 -- Memory, or another answer
 memory-or_not : (answer : DriverAnswer) → (answer ≡ Memory) ⊎ (is_memory answer ≡ false)
@@ -39,7 +38,7 @@ pub heard-fits : (store : Entries) (call : DriverCall) (answer : DriverAnswer) (
 heard-fits store call answer before after h = elim (memory-or_not answer) [
   | inl e ↦ ap (fits_of call) e
   | inr other ↦
-      let law = effect-IsLawful store before.session call h.sound in
+      let law = comes_of-IsLawful store before call h.sound in
       ap (fits_of call) (h.carried_out other).answered ∙ law.fits
 ]
 
@@ -49,7 +48,7 @@ heard-handles store call answer before after h = elim (memory-or_not answer) [
       let stays : after ≡ before = h.stays (ap is_memory e) in
       rw e (ap (λ (w : WireState). handles_of w.session) stays)
   | inr other ↦
-      let law = effect-IsLawful store before.session call h.sound in
+      let law = comes_of-IsLawful store before call h.sound in
       rw ((h.carried_out other).answered, (h.carried_out other).changed) law.handles
 ]
 
@@ -59,6 +58,6 @@ heard-cursors store call answer before after h = elim (memory-or_not answer) [
       let stays : after ≡ before = h.stays (ap is_memory e) in
       rw e (ap (λ (w : WireState). cursors_of w.session) stays)
   | inr other ↦
-      let law = effect-IsLawful store before.session call h.sound in
+      let law = comes_of-IsLawful store before call h.sound in
       rw ((h.carried_out other).answered, (h.carried_out other).changed) law.cursors
 ]

@@ -3,6 +3,7 @@ ghost use Rattle.dsql_driver.specs.Fits.{is_memory};
 ghost use Rattle.dsql_session.specs.Calls.{shown};
 ghost use Rattle.dsql_session.specs.Copies.{copies_of};
 ghost use Rattle.dsql_mem.specs.Effect.{effect, carried_out, taken_back};
+ghost use Rattle.dsql_mem.specs.Wire.{effect_unless};
 
 use dsql_driver::{Answered, DriverAnswer, DriverCall};
 use dsql_session::{Copies, Found, NO_TRANSACTION, Outcome, Session};
@@ -57,6 +58,26 @@ pub(crate) fn step(
         DriverCall::Begin { .. } => session.begin(alloc),
         DriverCall::Commit => session.commit(alloc),
         DriverCall::Rollback => roll_back(alloc, store, session),
+    }
+}
+
+/// Answers a call with the fault that stands in its place, or else carries it out.
+pub(crate) fn step_unless(
+    fault: Option<DriverAnswer>,
+    alloc: Global,
+    store: &mut Store,
+    session: &mut Session,
+    call: &DriverCall,
+) -> Result<Copies, Memory>
+    ensures answer { IfOk result (λ copies. copies ≡ copies_of (effect_unless fault store.old session.old call.now).answer) }
+    ensures store { OnOk result (store.new ≡ (effect_unless fault store.old session.old call.now).store) }
+    ensures session { OnOk result (session.new ≡ (effect_unless fault store.old session.old call.now).session) }
+    ensures store_stays { OnErr result (store.new ≡ store.old) }
+    ensures session_stays { OnErr result (session.new ≡ session.old) }
+{
+    match fault {
+        Some(fault) => Copies::of(fault),
+        None => step(alloc, store, session, call),
     }
 }
 

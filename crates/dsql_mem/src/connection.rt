@@ -1,14 +1,13 @@
-ghost use Rattle.std.specs.Prelude.{◌≡◌, ◌≤◌, true, false, IfOk, OnOk, OnErr};
+ghost use Rattle.std.specs.Prelude.{◌≡◌, ◌≤◌, true, false, if◌then◌else◌, IfOk, OnOk, OnErr};
 ghost use Rattle.dsql_driver.specs.Fits.{is_memory};
-ghost use Rattle.dsql_driver.specs.Wires.{with_plan};
-ghost use Rattle.dsql_mem.specs.Effect.{effect};
 ghost use Rattle.dsql_store.specs.Entries.{AreAscending};
 ghost use Rattle.dsql_mem.specs.Log.{told_of};
 ghost use Rattle.dsql_session.specs.Session.{IsSound};
-ghost use Rattle.dsql_mem.specs.Wire.{new_wire, after_call, faults_after, CarriesOut};
+ghost use Rattle.dsql_mem.specs.Wire.{new_wire, fault_in_place, comes_of, after_call, after_plan, faults_after, CarriesOut};
 
-use crate::calls::step;
+use crate::calls::step_unless;
 use crate::log::Log;
+use crate::plans::{Plan, copied, fault_at};
 use crate::roll::Roll;
 use dsql_driver::{Answered, DriverAnswer, DriverCall, Planned};
 use dsql_session::{Copies, Session};
@@ -17,12 +16,13 @@ use dsql_value::Memory;
 use std::alloc::Global;
 use std::marker::Model;
 
-/// What a wire has for itself: its session, what it was asked, its count of faults, and the room for its
-/// entry on a roll.
+/// What a wire has for itself: its session, what it was asked, the faults that are planned for its calls,
+/// its count of faults, and the room for its entry on a roll.
 #[derive(Drop)]
 pub(crate) struct Connection {
     session: Session,
     log: Log,
+    planned: Vec<Plan>,
     faults: u64,
     room: Box<Roll>,
 }
@@ -33,19 +33,20 @@ impl Model for Connection {
 
     ghost Value = { WireState };
 
-    ghost view = { λ c. record { session = c.session; told = told_of c.log; faults = c.faults } };
+    ghost view = { λ c. record { session = c.session; told = told_of c.log; planned = c.planned.items; faults = c.faults } };
 }
 
 impl Connection {
-    /// A connection that has heard just its Connect.
-    pub(crate) fn new(alloc: Global, number: u32) -> Result<Connection, Memory>
-        ensures { IfOk result (λ connection. connection ≡ new_wire number) }
+    /// A connection that has heard just its Connect, with what its fleet planned for it.
+    pub(crate) fn new(alloc: Global, number: u32, planned: Vec<Plan>) -> Result<Connection, Memory>
+        ensures { IfOk result (λ connection. connection ≡ new_wire number planned.items) }
     {
         let log = Log::new(alloc, number)?;
         let room = Box::new(alloc, Roll::Empty)?;
         Ok(Connection {
             session: Session::new(alloc),
             log,
+            planned,
             faults: 0,
             room,
         })
@@ -58,13 +59,14 @@ impl Connection {
         self.session.vouch();
     }
 
-    /// Carries out a call on a store, and answers Memory where memory is wanting.
+    /// Answers a call on a store, with Memory where memory is wanting.
     pub(crate) fn answer(&mut self, alloc: Global, store: &mut Store, call: &DriverCall) -> Answered
         ensures copied { result.copy ≡ result.answer }
         ensures carried_out { is_memory result.answer ≡ false → CarriesOut store.old call.now result.answer self.old self.new }
         ensures sound { IsSound self.old.session }
         ensures ascending { AreAscending store.old }
         ensures stays { is_memory result.answer ≡ true → self.new ≡ self.old }
+        ensures store { store.new ≡ (if is_memory result.answer then store.old else (comes_of store.old self.old call.now).store) }
         ensures counted { self.old.faults ≤ self.new.faults }
     {
         self.vouch();
@@ -78,33 +80,54 @@ impl Connection {
         }
     }
 
-    /// Carries out a call on a store and notes it. All the room for both is taken first.
+    /// The fault that stands in the place of its next call, if one does.
+    fn fault(&self, call: &DriverCall) -> Result<Option<DriverAnswer>, Memory>
+        ensures { IfOk result (λ fault. fault ≡ fault_in_place self.now call.now) }
+    {
+        let nth = self.log.calls.len() + 1;
+        fault_at(nth, call, self.planned.as_slice())
+    }
+
+    /// Answers a call on a store and notes it. All the room for both is taken first.
     fn hear(
         &mut self,
         alloc: Global,
         store: &mut Store,
         call: &DriverCall,
     ) -> Result<Answered, Memory>
-        ensures answer { IfOk result (λ answered. answered.answer ≡ (effect store.old self.old.session call.now).answer) }
+        ensures answer { IfOk result (λ answered. answered.answer ≡ (comes_of store.old self.old call.now).answer) }
         ensures copied { IfOk result (λ answered. answered.copy ≡ answered.answer) }
         ensures ok { OnOk result (self.new ≡ after_call store.old self.old call.now) }
         ensures err { OnErr result (self.new ≡ self.old) }
+        ensures store { OnOk result (store.new ≡ (comes_of store.old self.old call.now).store) }
+        ensures store_stays { OnErr result (store.new ≡ store.old) }
         ensures counted { self.old.faults ≤ self.new.faults }
     {
+        let fault = self.fault(call)?;
         self.log.calls.reserve(1)?;
         let noted = call.clone()?;
-        let Copies { answer, copy, note } = step(alloc, store, &mut self.session, call)?;
+        let Copies { answer, copy, note } = step_unless(
+            fault,
+            alloc,
+            store,
+            &mut self.session,
+            call,
+        )?;
         self.faults = faults_after(self.faults, &answer);
         self.log.calls.push_reserved((noted, note));
         Ok(Answered { answer, copy })
     }
 
-    /// Enters a fault that is planned.
+    /// Enters a fault that is planned. All the room is taken first.
     pub(crate) fn plan(&mut self, nth: u32, what: Planned) -> Result<(), Memory>
-        ensures ok { OnOk result (self.new ≡ record self.old { told = with_plan (nth, what) self.old.told }) }
+        ensures ok { OnOk result (self.new ≡ after_plan (nth, what) self.old) }
         ensures err { OnErr result (self.new ≡ self.old) }
     {
-        self.log.plan(nth, what)
+        let noted = copied(&what)?;
+        self.planned.reserve(1)?;
+        self.log.plan(nth, noted)?;
+        self.planned.push_reserved((nth, what));
+        Ok(())
     }
 
     /// What it was asked, and its room on a roll.
@@ -117,7 +140,7 @@ impl Connection {
 }
 
 /// A count of faults after an answer. At its last value it stands still.
-fn faults_after(faults: u64, answer: &DriverAnswer) -> u64
+pub(crate) fn faults_after(faults: u64, answer: &DriverAnswer) -> u64
     ensures count { result ≡ faults_after faults answer.now }
     ensures counted { faults ≤ result }
 {

@@ -1,11 +1,12 @@
-ghost use Rattle.std.specs.Prelude.{◌≡◌, ◌≤◌, [], Some, true, false, is_some, length, min, IfOk, IfErr, IfSome};
-ghost use Rattle.dsql_driver.specs.Fits.{is_fault};
+ghost use Rattle.std.specs.Prelude.{◌≡◌, ◌≤◌, [], Some, true, false, is_some, length, min, unwrap_or, IfOk, IfErr, IfSome, OnOk, OnErr};
+ghost use Rattle.dsql_driver.specs.Fits.{is_fault, is_memory};
 ghost use Rattle.dsql_driver.specs.Streams.{HasRisen};
-ghost use Rattle.dsql_driver.specs.Wires.{answer_of, connected_after, newly_told, is_fault_of};
+ghost use Rattle.dsql_driver.specs.Wires.{answer_of, connected_after, newly_told, plans_after, is_fault_of};
 ghost use Rattle.dsql_session.specs.Session.{handles_of, cursors_of};
-ghost use Rattle.dsql_mem.specs.Wire.{ability_of, faults_of, new_fleet, new_wire};
+ghost use Rattle.dsql_mem.specs.Wire.{ability_of, faults_after, new_fleet, new_wire, after_wire_plan, planned_for, connect_fault};
 
-use crate::log::Plan;
+use crate::connection::faults_after;
+use crate::plans::{Plan, Refusal, connect_refusal, plans_for};
 use crate::roll::Roll;
 use crate::wire::MemWire;
 use dsql_driver::{Caps, DriverAnswer, Fleet, Planned, Refused};
@@ -35,6 +36,7 @@ pub struct MemFleet<R: AllocGlobal + Wait + Clone + Drop + Send> {
     connects: Vec<(u32, DriverAnswer)>,
     plans: Vec<(u32, Plan)>,
     retired: Roll,
+    faults: u64,
 }
 
 impl<R: AllocGlobal + Wait + Clone + Drop + Send> Model for MemFleet<R> {
@@ -43,7 +45,7 @@ impl<R: AllocGlobal + Wait + Clone + Drop + Send> Model for MemFleet<R> {
 
     ghost Value = { FleetState };
 
-    ghost view = { λ f. record { preferred = record { last = f.preferred; times = f.preferences }; told = record { connects = f.connects.items; plans = f.plans.items; retired = retired_of f.retired } } };
+    ghost view = { λ f. record { preferred = record { last = f.preferred; times = f.preferences }; told = record { connects = f.connects.items; plans = f.plans.items; retired = retired_of f.retired }; faults = f.faults } };
 }
 
 impl<R: AllocGlobal + Wait + Clone + Drop + Send> MemFleet<R> {
@@ -61,6 +63,7 @@ impl<R: AllocGlobal + Wait + Clone + Drop + Send> MemFleet<R> {
             connects: Vec::new(alloc),
             plans: Vec::new(alloc),
             retired: Roll::Empty,
+            faults: 0,
         })
     }
 
@@ -81,7 +84,7 @@ impl<R: AllocGlobal + Wait + Clone + Drop + Send> Fleet for MemFleet<R> {
 
     ghost told = { λ f. Some f.told };
 
-    ghost faults = { faults_of };
+    ghost faults = { λ f. f.faults };
 
     fn caps(&self) -> Caps {
         self.preferred.unwrap_or(DEFAULT_CAPS)
@@ -92,8 +95,17 @@ impl<R: AllocGlobal + Wait + Clone + Drop + Send> Fleet for MemFleet<R> {
         self.preferences = self.preferences.saturating_add(1);
     }
 
-    // It keeps the plan, and carries none out yet.
-    fn plan(&mut self, wire: u32, nth: u32, what: Planned) -> Result<(), Memory> {
+    fn plan(&mut self, wire: u32, nth: u32, what: Planned) -> Result<(), Memory>
+        ensures told { OnOk result (Some self.new.told ≡ plans_after (wire, (nth, what)) (Some self.old.told)) }
+        ensures err { OnErr result (Some self.new.told ≡ Some self.old.told) }
+        ensures ability { ability_of self.new ≡ ability_of self.old }
+        ensures preferred { self.new.preferred ≡ self.old.preferred }
+        ensures faultless { self.new.faults ≡ self.old.faults }
+
+        // Nothing else of it changes.
+        ensures planned { OnOk result (self.new ≡ after_wire_plan (wire, (nth, what)) self.old) }
+        ensures stays { OnErr result (self.new ≡ self.old) }
+    {
         self.plans.push((wire, (nth, what)))?;
         Ok(())
     }
@@ -106,27 +118,36 @@ impl<R: AllocGlobal + Wait + Clone + Drop + Send> Fleet for MemFleet<R> {
         ensures cursors { IfOk result (λ w. cursors_of w.session ≡ []) }
         ensures ability { ability_of self.new ≡ ability_of self.old }
         ensures preferred { self.new.preferred ≡ self.old.preferred }
-        ensures counted { faults_of self.old ≤ faults_of self.new }
-        ensures caused { IfErr result (λ r. is_fault_of r ≡ true → HasRisen (faults_of self.old) (faults_of self.new)) }
-        ensures faultless { is_fault (answer_of result) ≡ false → faults_of self.new ≡ faults_of self.old }
+        ensures counted { self.old.faults ≤ self.new.faults }
+        ensures caused { IfErr result (λ r. is_fault_of r ≡ true → HasRisen self.old.faults self.new.faults) }
+        ensures faultless { is_fault (answer_of result) ≡ false → self.new.faults ≡ self.old.faults }
 
-        // A fleet in memory says more: the wire's session is new, so no transaction is open in it.
-        ensures fresh { IfOk result (λ w. w ≡ new_wire number) }
+        // A fleet in memory says more: the Connect is refused by the fault that was planned in its place, or
+        // the wire's session is new, so no transaction is open in it, and what is planned for the wire goes
+        // with it.
+        ensures planned { is_memory (answer_of result) ≡ false → answer_of result ≡ unwrap_or (connect_fault number self.old) DriverAnswer.Done }
+        ensures fresh { IfOk result (λ w. w ≡ new_wire number (planned_for number self.old)) }
+        ensures faults { self.new.faults ≡ faults_after self.old.faults (answer_of result) }
     {
-        let Ok(rt) = self.rt.clone() else {
-            return Err(Refused::Memory);
-        };
-        let Ok(store) = Arc::try_clone(&self.store) else {
-            return Err(Refused::Memory);
-        };
         if self.connects.reserve(1).is_err() {
             return Err(Refused::Memory);
         }
-        match MemWire::new(rt, store, number) {
-            Ok(wire) => {
-                self.connects.push_reserved((number, DriverAnswer::Done));
-                Ok(wire)
+        let Ok(plans) = plans_for(self.rt.alloc(), number, self.plans.as_slice()) else {
+            return Err(Refused::Memory);
+        };
+        match connect_refusal(plans.as_slice()) {
+            Ok(Some(Refusal { refused, answer })) => {
+                self.faults = faults_after(self.faults, &answer);
+                self.connects.push_reserved((number, answer));
+                Err(refused)
             }
+            Ok(None) => match MemWire::open(&self.rt, &self.store, number, plans) {
+                Ok(wire) => {
+                    self.connects.push_reserved((number, DriverAnswer::Done));
+                    Ok(wire)
+                }
+                Err(Memory) => Err(Refused::Memory),
+            },
             Err(Memory) => Err(Refused::Memory),
         }
     }

@@ -7,6 +7,7 @@ mod connection;
 mod fleet;
 pub mod laws;
 mod log;
+mod plans;
 mod roll;
 mod wire;
 pub mod worked;

@@ -2,15 +2,13 @@ ghost use Rattle.std.specs.Prelude.{◌≡◌, IfOk, OnOk, OnErr};
 ghost use Rattle.dsql_driver.specs.Wires.{newly_told, with_plan};
 ghost use Rattle.dsql_mem.specs.Log.{told_of};
 
+use crate::plans::Plan;
 use dsql_driver::{DriverAnswer, DriverCall, Planned};
 use dsql_value::Memory;
 use std::alloc::Global;
 
 /// A call that a wire heard, with its answer.
 pub(crate) type Told = (DriverCall, DriverAnswer);
-
-/// A fault in place of the answer to the nth call on a wire.
-pub(crate) type Plan = (u32, Planned);
 
 /// What a wire was asked: its number, the calls that it heard, and the faults that were planned on it,
 /// oldest first.

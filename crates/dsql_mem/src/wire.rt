@@ -5,10 +5,11 @@ ghost use Rattle.dsql_driver.specs.Wires.{told_after, with_plan, KeepsHandles, K
 ghost use Rattle.dsql_store.specs.Entries.{Entries, AreAscending};
 ghost use Rattle.dsql_mem.specs.Log.{told_of};
 ghost use Rattle.dsql_session.specs.Session.{handles_of, cursors_of};
-ghost use Rattle.dsql_mem.specs.Wire.{new_wire, CarriesOut};
+ghost use Rattle.dsql_mem.specs.Wire.{new_wire, after_plan, CarriesOut};
 
 use crate::connection::Connection;
 use crate::log::Log;
+use crate::plans::Plan;
 use crate::roll::Roll;
 use dsql_driver::{Answered, DriverCall, Planned, Wire};
 use dsql_store::Store;
@@ -32,19 +33,28 @@ impl<R: AllocGlobal + Wait + Drop> Model for MemWire<R> {
     ghost view = { λ w. w.connection };
 }
 
-impl<R: AllocGlobal + Wait + Drop> MemWire<R> {
-    /// A wire that has heard just its Connect.
-    pub(crate) fn new(rt: R, store: Arc<Mutex<Store>>, number: u32) -> Result<MemWire<R>, Memory>
-        ensures { IfOk result (λ wire. wire ≡ new_wire number) }
+impl<R: AllocGlobal + Wait + Clone + Drop> MemWire<R> {
+    /// A wire that has heard just its Connect, with what its fleet planned for it.
+    pub(crate) fn open(
+        rt: &R,
+        store: &Arc<Mutex<Store>>,
+        number: u32,
+        planned: Vec<Plan>,
+    ) -> Result<MemWire<R>, Memory>
+        ensures { IfOk result (λ wire. wire ≡ new_wire number planned.items) }
     {
-        let connection = Connection::new(rt.alloc(), number)?;
+        let connection = Connection::new(rt.alloc(), number, planned)?;
+        let store = Arc::try_clone(store)?;
+        let rt = rt.clone()?;
         Ok(MemWire {
             rt,
             store,
             connection,
         })
     }
+}
 
+impl<R: AllocGlobal + Wait + Drop> MemWire<R> {
     /// What it was asked, and its room on a roll.
     pub(crate) fn into_parts(self) -> (Log, Box<Roll>)
         ensures { told_of result.0 ≡ self.told }
@@ -73,8 +83,8 @@ impl<R: AllocGlobal + Wait + Drop> Wire for MemWire<R> {
         ensures caused { is_fault result.answer ≡ true → HasRisen self.old.faults self.new.faults }
         ensures faultless { is_fault result.answer ≡ false → self.new.faults ≡ self.old.faults }
 
-        // A wire in memory says more: its answer, and what it is afterwards. The store is some store, since
-        // other wires write to it too.
+        // A wire in memory says more: its answer, which is a planned fault where one stands in the call's
+        // place, and what it is afterwards. The store is some store, since other wires write to it too.
         ensures carried_out { is_memory result.answer ≡ false → (store : Entries) × AreAscending store × CarriesOut store call.now result.answer self.old self.new }
         ensures stays { is_memory result.answer ≡ true → self.new ≡ self.old }
     {
@@ -82,7 +92,6 @@ impl<R: AllocGlobal + Wait + Drop> Wire for MemWire<R> {
         self.connection.answer(self.rt.alloc(), &mut store, call)
     }
 
-    // It keeps the plan, and carries none out yet.
     fn plan(&mut self, nth: u32, what: Planned) -> Result<(), Memory>
         ensures told { OnOk result (Some self.new.told ≡ Some (with_plan (nth, what) self.old.told)) }
         ensures err { OnErr result (Some self.new.told ≡ Some self.old.told) }
@@ -91,7 +100,8 @@ impl<R: AllocGlobal + Wait + Drop> Wire for MemWire<R> {
         ensures faultless { self.new.faults ≡ self.old.faults }
 
         // Nothing else of it changes.
-        ensures session { self.new.session ≡ self.old.session }
+        ensures planned { OnOk result (self.new ≡ after_plan (nth, what) self.old) }
+        ensures stays { OnErr result (self.new ≡ self.old) }
     {
         self.connection.plan(nth, what)
     }

@@ -1,6 +1,7 @@
 //! Worked calls, as examples of the definitions.
 
 ghost use Rattle.dsql_mem.specs.Worked.{WorkedNumbers, WorkedTexts, WorkedHandles, WorkedQueries, WorkedTransactions};
+ghost use Rattle.dsql_mem.specs.WorkedPlans.{WorkedPlans};
 
 /// Numbers are told by their spelling, and worked calls have the effects that they should have.
 pub fn worked_calls()
@@ -9,4 +10,5 @@ pub fn worked_calls()
     ensures handles { WorkedHandles }
     ensures queries { WorkedQueries }
     ensures transactions { WorkedTransactions }
+    ensures plans { WorkedPlans }
 {}

@@ -1,0 +1,114 @@
+//! Faults that are planned in place of calls' answers.
+
+ghost use Rattle.std.specs.Prelude.{◌≡◌, IfOk, IfSome, option_map};
+ghost use Rattle.std.specs.Option.{option_copied};
+ghost use Rattle.dsql_driver.specs.Fits.{fits_of};
+ghost use Rattle.dsql_driver.specs.Wires.{answer_of};
+ghost use Rattle.dsql_mem.specs.Plans.{answer_planned, planned_at, fault_at, plans_for};
+
+use dsql_driver::{DriverAnswer, DriverCall, Planned, Refused};
+use dsql_value::Memory;
+use std::alloc::Global;
+
+/// A fault in place of the answer to the nth call on a wire.
+pub(crate) type Plan = (u32, Planned);
+
+/// A copy of a planned fault.
+pub(crate) fn copied(what: &Planned) -> Result<Planned, Memory>
+    ensures { IfOk result (λ copy. copy ≡ what.now) }
+{
+    Ok(match what {
+        Planned::Bad => Planned::Bad,
+        Planned::Fail(text) => Planned::Fail(text.clone()?),
+        Planned::Invalid => Planned::Invalid,
+    })
+}
+
+/// The plans for the wire of this number among a fleet's, oldest first.
+pub(crate) fn plans_for(
+    alloc: Global,
+    number: u32,
+    plans: &[(u32, Plan)],
+) -> Result<Vec<Plan>, Memory>
+    ensures { IfOk result (λ own. own.items ≡ plans_for number plans.now) }
+{
+    let mut own = Vec::new(alloc);
+    for (wire, (nth, what)) in plans {
+        if *wire == number {
+            own.push((*nth, copied(what)?))?;
+        }
+    }
+    Ok(own)
+}
+
+/// What was planned last for the nth call.
+fn planned_at(nth: usize, plans: &[Plan]) -> Option<&Planned>
+    ensures { option_copied result ≡ planned_at nth plans.now }
+{
+    let (_, what) = plans.iter().rev().find(|(call, _)| *call as usize == nth)?;
+    Some(what)
+}
+
+/// Whether the fault may be answered to this call.
+fn may_answer(what: &Planned, call: &DriverCall) -> bool
+    ensures { result ≡ fits_of call.now (answer_planned what.now) }
+{
+    let is_test = matches!(call, DriverCall::Valid);
+    match what {
+        Planned::Bad | Planned::Fail(_) => !is_test,
+        Planned::Invalid => is_test,
+    }
+}
+
+/// The answer that a planned fault is.
+fn answer_planned(what: &Planned) -> Result<DriverAnswer, Memory>
+    ensures { IfOk result (λ answer. answer ≡ answer_planned what.now) }
+{
+    Ok(match what {
+        Planned::Bad => DriverAnswer::Bad,
+        Planned::Fail(text) => DriverAnswer::Fail(text.clone()?),
+        Planned::Invalid => DriverAnswer::Invalid,
+    })
+}
+
+/// The fault that stands in the place of the nth call, if one was planned for it that fits it.
+pub(crate) fn fault_at(
+    nth: usize,
+    call: &DriverCall,
+    plans: &[Plan],
+) -> Result<Option<DriverAnswer>, Memory>
+    ensures { IfOk result (λ fault. fault ≡ fault_at nth call.now plans.now) }
+{
+    let Some(what) = planned_at(nth, plans) else {
+        return Ok(None);
+    };
+    if may_answer(what, call) {
+        Ok(Some(answer_planned(what)?))
+    } else {
+        Ok(None)
+    }
+}
+
+/// Why a Connect is refused, and the answer that tells of it.
+pub(crate) struct Refusal {
+    pub(crate) refused: Refused,
+    pub(crate) answer: DriverAnswer,
+}
+
+/// The refusal that was planned in place of a wire's Connect, if one was that fits it.
+pub(crate) fn connect_refusal(plans: &[Plan]) -> Result<Option<Refusal>, Memory>
+    ensures planned { IfOk result (λ refusal. option_map (λ r. r.answer) refusal ≡ fault_at 1 DriverCall.Connect plans.now) }
+    ensures told { IfOk result (λ refusal. IfSome refusal (λ r. answer_of {W = Unit {0}} (Err r.refused) ≡ r.answer)) }
+{
+    match planned_at(1, plans) {
+        Some(Planned::Bad) => Ok(Some(Refusal {
+            refused: Refused::Bad,
+            answer: DriverAnswer::Bad,
+        })),
+        Some(Planned::Fail(text)) => Ok(Some(Refusal {
+            refused: Refused::Fail(text.clone()?),
+            answer: DriverAnswer::Fail(text.clone()?),
+        })),
+        Some(Planned::Invalid) | None => Ok(None),
+    }
+}
