@@ -1,0 +1,71 @@
+//! The driver: it opens connections to the fixed table.
+
+ghost use Rattle.std.specs.Prelude.{None};
+ghost use Rattle.fixed_answers.specs.Fleet.{own_caps};
+
+use crate::wire::FixedWire;
+use dsql_driver::{Caps, Fleet, Planned, Refused};
+use dsql_value::Memory;
+use std::alloc::Global;
+
+/// A text is executed and asked at once, and nothing else can be done.
+const CAPS: Caps = Caps {
+    fast_exec: true,
+    fast_query: true,
+    begin_options: false,
+    named: false,
+    pinger: false,
+    resetter: false,
+    validator: false,
+};
+
+/// The driver. It keeps what it was asked to be able to do, and how often, since the layer counts that.
+#[derive(Drop)]
+pub(crate) struct FixedFleet {
+    alloc: Global,
+    preferred: Option<Caps>,
+    preferences: u64,
+}
+
+impl FixedFleet {
+    /// A driver that was asked for nothing yet.
+    pub(crate) fn new(alloc: Global) -> FixedFleet {
+        FixedFleet {
+            alloc,
+            preferred: None,
+            preferences: 0,
+        }
+    }
+}
+
+impl Fleet for FixedFleet {
+    type Wire = FixedWire;
+
+    ghost ability = { λ _. own_caps };
+
+    ghost preferred = { λ f. record { last = f.preferred; times = f.preferences } };
+
+    ghost told = { λ _. None };
+
+    ghost faults = { λ _. 0 };
+
+    fn caps(&self) -> Caps {
+        CAPS
+    }
+
+    // What it can do stays what it is.
+    fn prefer(&mut self, caps: Caps) {
+        self.preferred = Some(caps);
+        self.preferences = self.preferences.saturating_add(1);
+    }
+
+    fn plan(&mut self, _wire: u32, _nth: u32, _what: Planned) -> Result<(), Memory> {
+        Ok(())
+    }
+
+    fn connect(&mut self, _number: u32) -> Result<FixedWire, Refused> {
+        Ok(FixedWire::new(self.alloc))
+    }
+
+    fn retire(&mut self, _number: u32, _wire: FixedWire) {}
+}
