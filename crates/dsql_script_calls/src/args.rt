@@ -13,7 +13,7 @@ use std::alloc::Global;
 pub const MAX_ARGS: usize = 32;
 
 /// The text and the arguments of a call, out of its array.
-pub fn read_call(alloc: Global, array: &Value) -> Result<(Txt, Args), LineFault>
+pub fn read_statement(alloc: Global, array: &Value) -> Result<(Txt, Args), LineFault>
     ensures { IsShaped result (call_of_data (view array.now)) }
 {
     let Value::Array(items) = array else {
@@ -99,7 +99,7 @@ fn read_named(
 }
 
 /// An argument without a name.
-fn read_arg(alloc: Global, value: &Value) -> Result<Arg, LineFault>
+pub fn read_arg(alloc: Global, value: &Value) -> Result<Arg, LineFault>
     ensures { IsShaped result (arg_of_data (view value.now)) }
 {
     match value {

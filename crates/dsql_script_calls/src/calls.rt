@@ -175,7 +175,7 @@ fn read_statement(
         return call_with(verb, target, tokens, text, Items::none(alloc));
     }
     let value = array::read_array(alloc, array)?;
-    let (text, args) = args::read_call(alloc, &value)?;
+    let (text, args) = args::read_statement(alloc, &value)?;
     call_with(verb, target, tokens, text, args)
 }
 

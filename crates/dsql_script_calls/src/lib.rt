@@ -8,5 +8,7 @@ mod rows;
 mod targets;
 mod words;
 
+pub use args::{read_arg, read_statement};
+pub use array::read_array;
 pub use calls::read_call;
 pub use words::{client, limit, moment, split_array, split_words};

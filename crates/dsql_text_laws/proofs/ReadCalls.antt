@@ -46,17 +46,17 @@ dests_are_read_back (dest ∷ dests) some = ap dests_of_words (words_of_dests de
 abbrev after_word : List ℕ → List (List ℕ) → List (List ℕ)
 after_word word words = word ∷ words
 
-words_of_one : (dests : List Dest) → spaced_words (codes "one db " ++ dests_word dests) ≡ codes "one" ∷ codes "db" ∷ dests_word dests ∷ []
+pub words_of_one : (dests : List Dest) → spaced_words (codes "one db " ++ dests_word dests) ≡ codes "one" ∷ codes "db" ∷ dests_word dests ∷ []
 words_of_one dests = ap (λ (words : List (List ℕ)). codes "one" ∷ codes "db" ∷ words) (alone (dests_word dests) (dests_lack_space dests))
 
-words_of_query : (label : List ℕ) → is_name label ≡ true → spaced_words (codes "query " ++ (label ++ codes " db")) ≡ codes "query" ∷ label ∷ codes "db" ∷ []
+pub words_of_query : (label : List ℕ) → is_name label ≡ true → spaced_words (codes "query " ++ (label ++ codes " db")) ≡ codes "query" ∷ label ∷ codes "db" ∷ []
 words_of_query label name = ap (after_word (codes "query")) (behind_it label (codes "db") (label_lacks space label refl name))
 
-words_of_scan : (rows : List ℕ) (dests : List Dest) → is_name rows ≡ true → spaced_words (codes "scan " ++ (rows ++ (codes " " ++ dests_word dests))) ≡ codes "scan" ∷ rows ∷ dests_word dests ∷ []
+pub words_of_scan : (rows : List ℕ) (dests : List Dest) → is_name rows ≡ true → spaced_words (codes "scan " ++ (rows ++ (codes " " ++ dests_word dests))) ≡ codes "scan" ∷ rows ∷ dests_word dests ∷ []
 words_of_scan rows dests name =
     ap (after_word (codes "scan")) (behind_it rows (dests_word dests) (label_lacks space rows refl name) ∙ ap (after_word rows) (alone (dests_word dests) (dests_lack_space dests)))
 
-words_of_rows : (rows : List ℕ) → is_name rows ≡ true → spaced_words rows ≡ rows ∷ []
+pub words_of_rows : (rows : List ℕ) → is_name rows ≡ true → spaced_words rows ≡ rows ∷ []
 words_of_rows rows name = alone rows (label_lacks space rows refl name)
 
 call_is_read : (op : Op) (array : Option (List ℕ)) → MayBeAsked op → Spells array (op_data op) → call_of (spaced_words (op_words op)) array ≡ Ok op

@@ -35,7 +35,7 @@ resetter caps = simp (list_any-append, has_word-name_if, and-true, and-false, or
 validator : (caps : Caps) → has_word (caps_names caps) (codes "validator") ≡ caps.validator
 validator caps = simp (list_any-append, has_word-name_if, and-true, and-false, false-or)
 
-among_its_names : (caps : Caps) → caps_among (caps_names caps) ≡ caps
+pub among_its_names : (caps : Caps) → caps_among (caps_names caps) ≡ caps
 among_its_names caps = rw (fast_exec caps, fast_query caps, begin_options caps, named caps, pinger caps, resetter caps, validator caps) refl
 
 same_words : (words : List (List ℕ)) → pointwise bytes_eq words words ≡ true

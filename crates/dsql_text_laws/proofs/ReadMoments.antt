@@ -16,7 +16,7 @@ use Rattle.dsql_text_laws.proofs.LineParts.{is_told, without_array, alone}
 use Rattle.dsql_text_laws.proofs.ReadClients.{decimal_is_number}
 use Rattle.dsql_text_laws.proofs.WordBytes.{Lacks, bracket, lacks_digits}
 
-number_is_read : (now : ℕ) → now < 2 ^ 64 → moment_of (compact_text (natural now)) ≡ Some now
+pub number_is_read : (now : ℕ) → now < 2 ^ 64 → moment_of (compact_text (natural now)) ≡ Some now
 number_is_read now small = rw (decimal_is_number now small, digits_value-decimal own now small, lt-ltb now (2 ^ 64) small) refl
 
 number_lacks : (c now : ℕ) → is_ascii_digit c ≡ false → now < 2 ^ 64 → Lacks c (compact_text (natural now))

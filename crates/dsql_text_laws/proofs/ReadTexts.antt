@@ -33,16 +33,16 @@ pub record IsRead (most : ℕ) (d : Data) : Type 0 where
   pub same : of_json (outline d) ≡ Some d
   pub nests : depth (outline d) ≤ most
 
-text_is_read : (d : Data) → IsRead max_depth d → read (compact_text d) ≡ Some d
+pub text_is_read : (d : Data) → IsRead max_depth d → read (compact_text d) ≡ Some d
 text_is_read d is =
     let written : tokens (compact_text d) ≡ json_tokens (outline d) = ap tokens (sym (print-outline d)) ∙ tokens-print (json_tokens (outline d)) (ArePrintable-json_tokens (outline d) is.numbers) in
     ap (λ (ts : List Token). option_and_then of_json (option_and_then (λ p. if_last p.0 p.1) (value max_depth ts))) (written ∙ sym (append-nil (json_tokens (outline d))))
     ∙ ap (λ o. option_and_then of_json (option_and_then (λ p. if_last p.0 p.1) o)) (value-json_tokens (outline d) max_depth [] is.nests) ∙ is.same
 
-deeper : (few most : ℕ) (d : Data) → few ≤ most → IsRead few d → IsRead most d
+pub deeper : (few most : ℕ) (d : Data) → few ≤ most → IsRead few d → IsRead most d
 deeper few most d more is = record { numbers = is.numbers; same = is.same; nests = omega (arith, is.nests) }
 
-integer_is_read : (n : ℤ) → FitsSigned w64 n → IsRead 0 (integer n)
+pub integer_is_read : (n : ℤ) → FitsSigned w64 n → IsRead 0 (integer n)
 integer_is_read (pos n) fits =
     let few : n < 2 ^ 63 = omega (arith, fits.sfits) in
     let small : n < 2 ^ 64 = omega arith in
@@ -51,25 +51,25 @@ integer_is_read (negsuc n) fits =
     let few : n < 2 ^ 63 = omega (arith, fits.sfits) in
     record { numbers = IsNumber-signed_decimal (negsuc n) few; same = ap (option_map number) (number_of-negative n few); nests = omega arith }
 
-natural_is_read : (n : ℕ) → n < 2 ^ 64 → IsRead 0 (natural n)
+pub natural_is_read : (n : ℕ) → n < 2 ^ 64 → IsRead 0 (natural n)
 natural_is_read n small = record { numbers = IsNumber-decimal n small; same = ap (option_map number) (number_of-decimal n small); nests = omega arith }
 
-string_is_read : (text : List ℕ) → IsRead 0 (string text)
+pub string_is_read : (text : List ℕ) → IsRead 0 (string text)
 string_is_read text = record { numbers = tt; same = refl; nests = omega arith }
 
-boolean_is_read : (b : _) → IsRead 0 (boolean b)
+pub boolean_is_read : (b : _) → IsRead 0 (boolean b)
 boolean_is_read b = record { numbers = tt; same = refl; nests = omega arith }
 
-null_is_read : IsRead 0 null
+pub null_is_read : IsRead 0 null
 null_is_read = record { numbers = tt; same = refl; nests = omega arith }
 
-under_is_read : (name : List ℕ) (d : Data) → IsRead 0 d → IsRead 1 (under name d)
+pub under_is_read : (name : List ℕ) (d : Data) → IsRead 0 d → IsRead 1 (under name d)
 under_is_read name d is = record { numbers = (is.numbers, tt); same = rw is.same refl; nests = omega (arith, is.nests) }
 
-alone_is_read : (d : Data) → IsRead 0 d → IsRead 1 d
+pub alone_is_read : (d : Data) → IsRead 0 d → IsRead 1 d
 alone_is_read d is = deeper 0 1 d (omega arith) is
 
-arg_is_read : (arg : Arg) → IsInRange arg → IsRead 1 (arg_data arg)
+pub arg_is_read : (arg : Arg) → IsInRange arg → IsRead 1 (arg_data arg)
 arg_is_read Nil _ = alone_is_read null null_is_read
 arg_is_read (I8 n) fits = under_is_read _ (integer n) (integer_is_read n (sfits_widen tt fits))
 arg_is_read (I16 n) fits = under_is_read _ (integer n) (integer_is_read n (sfits_widen tt fits))
@@ -101,7 +101,7 @@ arg_is_read (NullBool (Some b)) _ = under_is_read _ (boolean b) (boolean_is_read
 arg_is_read (NullTime None) _ = under_is_read _ null null_is_read
 arg_is_read (NullTime (Some n)) fits = under_is_read _ (integer n) (integer_is_read n fits)
 
-named_is_read : (name : Option (List ℕ)) (d : Data) → IsRead 1 d → IsRead 2 (named_arg_data name d)
+pub named_is_read : (name : Option (List ℕ)) (d : Data) → IsRead 1 d → IsRead 2 (named_arg_data name d)
 named_is_read None d is = deeper 1 2 d (omega arith) is
 named_is_read (Some name) d is = record { numbers = (is.numbers, (tt, tt)); same = rw is.same refl; nests = omega (arith, is.nests) }
 

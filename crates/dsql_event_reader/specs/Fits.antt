@@ -1,0 +1,151 @@
+-- The events that a program can hold and a line tells: each number fits its type, each label is one, and a row is read
+-- into some destination.
+use Rattle.std.specs.Prelude.{ℕ, ◌<◌, ◌^◌, List, length, FitsSigned, All}
+use Rattle.std.specs.Int.{w32, w64}
+use Rattle.hex.specs.Hex.{IsBytes}
+use Rattle.dsql_value.specs.declared.arg.Named.{Named}
+use Rattle.dsql_value.specs.declared.value.Value.{Value}
+use Rattle.dsql_value.specs.declared.value.Value.TheVariants as value
+use Rattle.dsql_value.specs.declared.value.Param.{Param}
+use Rattle.dsql_scan.specs.declared.cell.Cell.{Cell}
+use Rattle.dsql_scan.specs.declared.cell.Cell.TheVariants as cell
+use Rattle.dsql_scan.specs.declared.dest.Dest.{Dest}
+use Rattle.dsql_driver.specs.declared.call.Input.{Input}
+use Rattle.dsql_driver.specs.declared.call.Input.TheVariants as input
+use Rattle.dsql_driver.specs.declared.call.DriverCall.{DriverCall}
+use Rattle.dsql_driver.specs.declared.call.DriverCall.TheVariants as call
+use Rattle.dsql_driver.specs.declared.answer.DriverAnswer.{DriverAnswer}
+use Rattle.dsql_driver.specs.declared.answer.DriverAnswer.TheVariants as answer
+use Rattle.dsql_journal.specs.declared.entry.Owner.{Owner}
+use Rattle.dsql_journal.specs.declared.entry.Owner.TheVariants as owner
+use Rattle.dsql_journal.specs.declared.entry.Entry.{Entry}
+use Rattle.dsql_journal.specs.Kinds.{number_of}
+use Rattle.dsql_pool.specs.declared.moves.Move.{Move}
+use Rattle.dsql_pool.specs.declared.moves.Move.TheVariants.{OpenStart, Lend, Back, CloseStart, Gone, Fell}
+use Rattle.dsql_pool.specs.declared.stats.Stats.{Stats}
+use Rattle.dsql_history.specs.declared.event.Op.{Op}
+use Rattle.dsql_history.specs.declared.event.Op.TheVariants as op
+use Rattle.dsql_history.specs.declared.reply.Reply.{Reply}
+use Rattle.dsql_history.specs.declared.reply.Reply.TheVariants as reply
+use Rattle.dsql_history.specs.declared.event.Event.{Event}
+use Rattle.dsql_history.specs.declared.event.Event.TheVariants.{Run, Entered, Heard, Pool, Waits, Ticked, SetLimit, Replied, Ended}
+use Rattle.dsql_text_laws.specs.ReadBack.{IsInRange, IsLabel}
+
+-- a number of 32 bits, and an unsigned one of 64
+abbrev pub IsNumber : ℕ → Type 0
+IsNumber n = n < 2 ^ 32
+
+abbrev pub IsLong : ℕ → Type 0
+IsLong n = n < 2 ^ 64
+
+abbrev pub OwnerFits : Owner → Type 0
+OwnerFits (owner.Call n) = IsNumber n
+OwnerFits (owner.Tx n) = IsNumber n
+OwnerFits (owner.Pin n) = IsNumber n
+OwnerFits owner.House = Unit {0}
+
+abbrev pub MoveFits : Move → Type 0
+MoveFits (OpenStart conn call) = IsNumber conn × IsNumber call
+MoveFits (Lend conn tenure owner call) = IsNumber conn × IsNumber tenure × OwnerFits owner
+MoveFits (Back conn) = IsNumber conn
+MoveFits (CloseStart conn cause) = IsNumber conn
+MoveFits (Gone conn) = IsNumber conn
+MoveFits (Fell conn call) = IsNumber conn × IsNumber call
+
+abbrev pub ValueFits : Value → Type 0
+ValueFits value.Nil = Unit {0}
+ValueFits (value.Int n) = FitsSigned w64 n
+ValueFits (value.Bool b) = Unit {0}
+ValueFits (value.Bytes bytes) = IsBytes bytes
+ValueFits (value.Text text) = Unit {0}
+ValueFits (value.Time n) = FitsSigned w64 n
+
+abbrev pub ParamFits : Param → Type 0
+ParamFits p = ValueFits p.value
+
+abbrev pub CellFits : Cell → Type 0
+CellFits cell.Null = Unit {0}
+CellFits (cell.Text text) = Unit {0}
+CellFits (cell.Bytes bytes) = IsBytes bytes
+CellFits (cell.Bool b) = Unit {0}
+CellFits (cell.Int n) = FitsSigned w64 n
+CellFits (cell.Uint n) = IsLong n
+CellFits (cell.Time n) = FitsSigned w64 n
+
+abbrev pub InputFits : Input → Type 0
+InputFits (input.Text text) = Unit {0}
+InputFits (input.Handle handle) = IsNumber handle
+
+abbrev pub CallFits : DriverCall → Type 0
+CallFits (call.CloseStmt handle) = IsNumber handle
+CallFits (call.Exec input params) = InputFits input × All ParamFits params
+CallFits (call.Query input params) = InputFits input × All ParamFits params
+CallFits (call.Next rows) = IsNumber rows
+CallFits (call.CloseRows rows) = IsNumber rows
+CallFits _ = Unit {0}
+
+abbrev pub AnswerFits : DriverAnswer → Type 0
+AnswerFits (answer.Prepared handle inputs) = IsNumber handle × FitsSigned w32 inputs
+AnswerFits (answer.Result last affected) = FitsSigned w64 last × FitsSigned w64 affected
+AnswerFits (answer.Cursor rows columns) = IsNumber rows
+AnswerFits (answer.Row values) = All ValueFits values
+AnswerFits _ = Unit {0}
+
+abbrev pub EntryFits : Entry → Type 0
+EntryFits e = IsNumber e.conn × IsNumber e.tenure × OwnerFits e.owner × IsNumber e.call_no × IsNumber e.tx × CallFits e.call × AnswerFits e.answer
+
+abbrev pub ArgsFit : List Named → Type 0
+ArgsFit args = All (λ named. IsInRange named.arg) args
+
+-- some destination is named
+abbrev pub DestsFit : List Dest → Type 0
+DestsFit dests = 0 < length dests
+
+abbrev pub OpFits : Op → Type 0
+OpFits (op.Exec text args) = ArgsFit args
+OpFits (op.Query label text args) = IsLabel label × ArgsFit args
+OpFits (op.One dests text args) = DestsFit dests × ArgsFit args
+OpFits (op.Next rows) = IsLabel rows
+OpFits (op.Scan rows dests) = IsLabel rows × DestsFit dests
+OpFits (op.RowsClose rows) = IsLabel rows
+OpFits (op.Err rows) = IsLabel rows
+OpFits op.DbClose = Unit {0}
+OpFits op.Stats = Unit {0}
+
+abbrev pub StatsFit : Stats → Type 0
+StatsFit s =
+    (IsLong s.max_open_connections × IsLong s.open_connections × IsLong s.in_use)
+    × (IsLong s.idle × IsLong s.wait_count × IsLong s.wait_duration)
+    × (IsLong s.max_idle_closed × IsLong s.max_idle_time_closed × IsLong s.max_lifetime_closed)
+
+abbrev pub ReplyFits : Reply → Type 0
+ReplyFits (reply.Result last affected) = FitsSigned w64 last × FitsSigned w64 affected
+ReplyFits (reply.Cells cells) = All CellFits cells
+ReplyFits (reply.BadConn tries) = IsNumber tries
+ReplyFits (reply.NumArgs want got) = IsNumber want × IsNumber got
+ReplyFits (reply.HighBit n) = IsLong n
+ReplyFits (reply.DestCount want got) = IsNumber want × IsNumber got
+ReplyFits (reply.Scan column fault) = IsNumber column
+ReplyFits (reply.Stats stats) = StatsFit stats
+ReplyFits _ = Unit {0}
+
+abbrev pub Fits : Event → Type 0
+Fits (Run version caps) = version < 2 ^ 8
+Fits (Entered client n op) = (client < 2 ^ 8) × IsNumber n × OpFits op
+Fits (Heard entry) = EntryFits entry
+Fits (Pool move) = MoveFits move
+Fits (Waits n) = IsNumber n
+Fits (Ticked now) = IsLong now
+Fits (SetLimit setting n) = FitsSigned w64 n
+Fits (Replied n reply) = IsNumber n × ReplyFits reply
+Fits Ended = Unit {0}
+
+-- A line shows no call of a lending but that of which its owner tells.
+abbrev pub shown_move : Move → Move
+shown_move (Lend conn tenure owner call) = Lend conn tenure owner (number_of owner)
+shown_move move = move
+
+-- the event as its line shows it
+abbrev pub shown : Event → Event
+shown (Pool move) = Pool (shown_move move)
+shown e = e

@@ -1,0 +1,69 @@
+-- The moves of connections, and who holds one.
+use Rattle.std.specs.Prelude.{ℕ, List, length, codes, drop, if◌then◌else◌, Option, Some, None, option_map, option_and_then}
+use Rattle.std.specs.Option.{option_or}
+use Rattle.std.specs.Str.{bytes_eq}
+use Rattle.serde_json.specs.Data.{Data}
+use Rattle.dsql_journal.specs.declared.entry.Owner.{Owner}
+use Rattle.dsql_journal.specs.declared.entry.Owner.TheVariants.{Call, Tx, Pin, House}
+use Rattle.dsql_journal.specs.Kinds.{number_of}
+use Rattle.dsql_pool.specs.declared.moves.CloseCause.{CloseCause}
+use Rattle.dsql_pool.specs.declared.moves.CloseCause.TheVariants as cause
+use Rattle.dsql_pool.specs.declared.moves.Move.{Move}
+use Rattle.dsql_pool.specs.declared.moves.Move.TheVariants.{OpenStart, Lend, Back, CloseStart, Gone, Fell}
+use Rattle.dsql_script_calls.specs.ScriptWords.{begins_with, moment_of}
+use Rattle.dsql_event_reader.specs.Parts.{word_sized, number_at, text_at}
+
+-- the number that digits are, where it has 32 bits
+abbrev pub numbered : List ℕ → Option ℕ
+numbered digits = option_and_then word_sized (moment_of digits)
+
+-- the number behind the word for a kind of owner
+abbrev pub number_behind : List ℕ → List ℕ → Option ℕ
+number_behind kind word = if begins_with word kind then numbered (drop (length kind) word) else None
+
+-- who holds a connection
+abbrev pub owner_of : List ℕ → Option Owner
+owner_of word =
+    if bytes_eq word (codes "house") then Some House
+    else option_or (option_map Call (number_behind (codes "call:") word))
+    (option_or (option_map Tx (number_behind (codes "tx:") word)) (option_map Pin (number_behind (codes "pin:") word)))
+
+abbrev pub owner_at : ℕ → Data → Option Owner
+owner_at i d = option_and_then owner_of (text_at i d)
+
+abbrev pub cause_of : List ℕ → Option CloseCause
+cause_of word =
+    if bytes_eq word (codes "bad") then Some cause.Bad
+    else if bytes_eq word (codes "invalid") then Some cause.Invalid
+    else if bytes_eq word (codes "over_limit") then Some cause.OverLimit
+    else if bytes_eq word (codes "idle_full") then Some cause.IdleFull
+    else if bytes_eq word (codes "lifetime") then Some cause.Lifetime
+    else if bytes_eq word (codes "idle_time") then Some cause.IdleTime
+    else if bytes_eq word (codes "db_closed") then Some cause.DbClosed
+    else if bytes_eq word (codes "discarded") then Some cause.Discarded
+    else None
+
+-- a lending is for the call of which the owner tells, or for none
+abbrev pub lending : ℕ → ℕ → Owner → Move
+lending conn tenure owner = Lend conn tenure owner (number_of owner)
+
+abbrev pub lend_of : Data → Option Move
+lend_of d = option_and_then (λ conn. option_and_then (λ tenure. option_map (lending conn tenure) (owner_at 3 d)) (number_at 2 d)) (number_at 1 d)
+
+abbrev pub close_of : Data → Option Move
+close_of d = option_and_then (λ conn. option_map (CloseStart conn) (option_and_then cause_of (text_at 2 d))) (number_at 1 d)
+
+-- a move of a connection and a call
+abbrev pub opening_of : (ℕ → ℕ → Move) → Data → Option Move
+opening_of move d = option_and_then (λ conn. option_map (move conn) (number_at 2 d)) (number_at 1 d)
+
+-- a move by its word
+abbrev pub move_by : List ℕ → Data → Option Move
+move_by word d =
+    if bytes_eq word (codes "open") then opening_of OpenStart d
+    else if bytes_eq word (codes "lend") then lend_of d
+    else if bytes_eq word (codes "back") then option_map Back (number_at 1 d)
+    else if bytes_eq word (codes "close") then close_of d
+    else if bytes_eq word (codes "gone") then option_map Gone (number_at 1 d)
+    else if bytes_eq word (codes "fell") then opening_of Fell d
+    else None

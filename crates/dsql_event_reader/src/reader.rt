@@ -1,0 +1,74 @@
+ghost use Rattle.std.specs.Prelude.{◌≡◌, ◌≢◌, ◌∷◌, ◌++◌, [], IfOk, IfErr};
+ghost use Rattle.std.specs.Str.{bytes_eq};
+ghost use Rattle.dsql_forms.specs.Outcomes.{IsReading};
+ghost use Rattle.dsql_report.specs.Lines.{line_of};
+ghost use Rattle.dsql_event_reader.specs.Events.{if_spelled, text_event, reading_of};
+ghost use Rattle.dsql_event_reader.specs.Refusals.{Tells, Refuses};
+
+use crate::events;
+use dsql_forms::LineFault;
+use dsql_history::Event;
+use dsql_report::append_line;
+use dsql_script_calls::read_array;
+use std::alloc::Global;
+
+/// How many bytes a line may have before its line feed.
+const MAX_BYTES: usize = 65_536;
+
+/// The event that a line of a report tells. The line comes without its line feed, and is read only as it is
+/// spelled: one that says the same in another way is refused.
+///
+/// A line is refused for the first of these: it has more than 65,536 bytes (`TooLong`), its bytes aren't UTF-8
+/// (`NotUtf8`), it isn't read as JSON (`BadJson`), no event is spelled so (`BadShape`). Want of memory may come
+/// in place of any other answer.
+pub fn read_event(alloc: Global, line: &[u8]) -> Result<Event, LineFault>
+    ensures told { IfOk result (λ e. Tells line.now e) }
+    ensures refused { IfErr result (λ f. f ≢ LineFault.Memory → Refuses f line.now) }
+    ensures reading { IsReading result (reading_of line.now) }
+{
+    read_bytes(alloc, line)
+}
+
+fn read_bytes(alloc: Global, line: &[u8]) -> Result<Event, LineFault>
+    ensures { IsReading result (reading_of line.now) }
+{
+    if line.len() > MAX_BYTES {
+        return Err(LineFault::TooLong);
+    }
+    let Ok(text) = str::from_utf8(line) else {
+        return Err(LineFault::NotUtf8);
+    };
+    read_text(alloc, text)
+}
+
+fn read_text(alloc: Global, text: &str) -> Result<Event, LineFault>
+    ensures { IsReading result (text_event text.now) }
+{
+    let array = read_array(alloc, text)?;
+    let event = events::read_event(alloc, &array)?;
+    if_spelled(alloc, text, event)
+}
+
+/// The event, if this is its line without the line feed.
+fn if_spelled(alloc: Global, text: &str, event: Event) -> Result<Event, LineFault>
+    ensures { IsReading result (if_spelled text.now event) }
+{
+    if !is_line(alloc, text, &event)? {
+        return Err(LineFault::BadShape);
+    }
+    Ok(event)
+}
+
+/// Whether a text and a line feed are an event's line.
+fn is_line(alloc: Global, text: &str, event: &Event) -> Result<bool, LineFault>
+    ensures is { IfOk result (λ is. is ≡ bytes_eq (line_of event.now) (text.now ++ 10 ∷ [])) }
+    ensures memory { IfErr result (λ f. f ≡ LineFault.Memory) }
+{
+    let mut line = Vec::from_slice(alloc, text.as_bytes())?;
+    line.push(b'\n')?;
+    let mut told = Vec::new(alloc);
+    if append_line(alloc, event, &mut told).is_err() {
+        return Err(LineFault::Memory);
+    }
+    Ok(told == line)
+}
