@@ -1,7 +1,7 @@
 -- A line that is an event's is read as this event, and what is known of a line that is refused.
-use Rattle.std.proofs.Common.{◌≡◌, ◌≢◌, ◌⊎◌, ℕ, ◌≤◌, List, [], ◌∷◌, ◌++◌, false, ◌<◌, length, Option, Some, None, Ok, Err, IfOk, IfErr, refl, ap, sym, subst, ◌∙◌, inl, inr, arith}
+use Rattle.std.proofs.Common.{◌≡◌, ◌≢◌, ◌⊎◌, ℕ, ◌≤◌, List, [], ◌∷◌, ◌++◌, true, ◌&&◌, false, ◌<◌, length, Option, Some, None, Ok, Err, IfOk, IfErr, refl, ap, sym, subst, ◌∙◌, inl, inr, arith}
 use Rattle.std.specs.Str.{IsUtf8, bytes_eq, is_utf8}
-use Rattle.std.proofs.lemmas.Bool.{cases_Bool, cases_lt, lt-ltb, le-ltb}
+use Rattle.std.proofs.lemmas.Bool.{cases_Bool, cases_lt, and_parts, lt-ltb, le-ltb}
 use Rattle.std.proofs.lemmas.List.{append_cancel_right}
 use Rattle.std.proofs.lemmas.Slice.Eq.{bytes_eq-Decides}
 use Rattle.std.proofs.lemmas.Str.{IsUtf8-from_is_utf8, is_utf8-from_IsUtf8}
@@ -18,7 +18,7 @@ use Rattle.dsql_forms.specs.Outcomes.{IsReading}
 use Rattle.dsql_report.specs.Lines.{move_data, json_of, line_of}
 use Rattle.dsql_text_laws.proofs.ReadTexts.{deeper, text_is_read}
 use Rattle.dsql_event_reader.specs.Events.{Reading, event_of, if_spelled, of_event, of_data, text_event, most_bytes, reading_of}
-use Rattle.dsql_event_reader.specs.Fits.{Fits, shown_move, shown}
+use Rattle.dsql_event_reader.specs.Fits.{is_named, Fits, shown_move, shown}
 use Rattle.dsql_event_reader.specs.Refusals.{IsLine, Tells, Refuses}
 use Rattle.dsql_event_reader.proofs.EventsBack.{event_is_read_back, event_is_read}
 
@@ -33,15 +33,20 @@ same_data (Pool move) = same_move move
 same_data Ended = refl
 same_data _ = refl
 
-spelled : (text : List ℕ) (e : Event) → IsLine text e → if_spelled text e ≡ Ok e
-spelled text e is = rw ((bytes_eq-Decides (line_of e) (text ++ 10 ∷ [])).1 is) refl
+spelled : (text : List ℕ) (e : Event) → is_named e ≡ true → IsLine text e → if_spelled text e ≡ Ok e
+spelled text e named is = rw (named, (bytes_eq-Decides (line_of e) (text ++ 10 ∷ [])).1 is) refl
+
+same_names : (e : Event) → is_named (shown e) ≡ is_named e
+same_names (Pool move) = refl
+same_names Ended = refl
+same_names _ = refl
 
 pub text_is_read_back : (e : Event) → Fits e → (text : List ℕ) → IsLine text e → text_event text ≡ Ok (shown e)
 text_is_read_back e fits text is =
     let own : compact_text (json_of e) ≡ text = append_cancel_right (compact_text (json_of e)) text (10 ∷ []) is in
-    let seen : read text ≡ Some (json_of e) = ap read (sym own) ∙ text_is_read (json_of e) (deeper 5 max_depth (json_of e) (omega arith) (event_is_read e fits)) in
+    let seen : read text ≡ Some (json_of e) = ap read (sym own) ∙ text_is_read (json_of e) (deeper 5 max_depth (json_of e) (omega arith) (event_is_read e fits.1)) in
     let line : IsLine text (shown e) = ap (λ d. compact_text d ++ 10 ∷ []) (same_data e) ∙ is in
-    ap (of_data text) seen ∙ ap (of_event text) (event_is_read_back e fits) ∙ spelled text (shown e) line
+    ap (of_data text) seen ∙ ap (of_event text) (event_is_read_back e fits.0 fits.1) ∙ spelled text (shown e) (same_names e ∙ fits.0) line
 
 -- a line that is short enough, by whether it is text
 
@@ -63,9 +68,12 @@ same_fault : (f g : LineFault) → ◌≡◌ {A = Reading} (Err f) (Err g) → f
 same_fault f g e = cc
 
 module _ (line : List ℕ) where
-  by_spelling : (e : Event) (r : Reading) → if_spelled line e ≡ r → ((r ≡ Ok e) × IsLine line e) ⊎ (r ≡ Err BadShape)
-  by_spelling e r is = elim (cases_Bool (bytes_eq (line_of e) (line ++ 10 ∷ []))) [
-    | inl same ↦ let ok : if_spelled line e ≡ Ok e = rw same refl in inl (sym is ∙ ok, (bytes_eq-Decides (line_of e) (line ++ 10 ∷ [])).0 same)
+  by_spelling : (e : Event) (r : Reading) → if_spelled line e ≡ r → ((r ≡ Ok e) × IsLine line e × (is_named e ≡ true)) ⊎ (r ≡ Err BadShape)
+  by_spelling e r is = elim (cases_Bool (is_named e && bytes_eq (line_of e) (line ++ 10 ∷ []))) [
+    | inl both ↦
+        let ok : if_spelled line e ≡ Ok e = rw both refl in
+        let parts = and_parts (is_named e) (bytes_eq (line_of e) (line ++ 10 ∷ [])) both in
+        inl (sym is ∙ ok, (bytes_eq-Decides (line_of e) (line ++ 10 ∷ [])).0 parts.1, parts.0)
     | inr other ↦ let bad : if_spelled line e ≡ Err BadShape = rw other refl in inr (sym is ∙ bad)
   ]
 
@@ -73,14 +81,18 @@ module _ (line : List ℕ) where
   of_event_fault None f is = cc
   of_event_fault (Some e) f is = elim (by_spelling e (Err f) is) [ inl ok ↦ let clash = ok.0 in absurd cc | inr bad ↦ same_fault f BadShape bad ]
 
-  of_event_line : (o : Option Event) (e : Event) → of_event line o ≡ Ok e → IsLine line e
+  -- the line is the event's, whose labels are names
+  abbrev Told : Event → Type 0
+  Told e = IsLine line e × (is_named e ≡ true)
+
+  of_event_line : (o : Option Event) (e : Event) → of_event line o ≡ Ok e → Told e
   of_event_line None e is = absurd cc
   of_event_line (Some e') e is = elim (by_spelling e' (Ok e) is) [
-    | inl ok ↦ let same : e ≡ e' = cc in subst (λ x. IsLine line x) (sym same) ok.1
+    | inl ok ↦ let same : e ≡ e' = cc in subst Told (sym same) (ok.1, ok.2)
     | inr bad ↦ absurd cc
   ]
 
-  of_data_line : (o : Option Data) (e : Event) → of_data line o ≡ Ok e → IsLine line e
+  of_data_line : (o : Option Data) (e : Event) → of_data line o ≡ Ok e → Told e
   of_data_line None e is = absurd cc
   of_data_line (Some d) e is = of_event_line (event_of d) e is
 
@@ -117,7 +129,9 @@ module _ (line : List ℕ) where
   telling e is = elim (cases_lt most_bytes (length line)) [
     | inl more ↦ let clash = sym (long more) ∙ is in absurd cc
     | inr few ↦ elim (cases_Bool (is_utf8 line)) [
-      | inl text ↦ (few, of_data_line (read line) e (sym (text_is_its_event line few (IsUtf8-from_is_utf8 line text)) ∙ is))
+      | inl text ↦
+          let told = of_data_line (read line) e (sym (text_is_its_event line few (IsUtf8-from_is_utf8 line text)) ∙ is) in
+          (few, told.0, told.1)
       | inr not ↦
           let bytes : ¬ (IsUtf8 line) = λ utf8. let clash = is_utf8-from_IsUtf8 line utf8 in absurd cc in
           let clash = sym (bytes_are_refused line few bytes) ∙ is in

@@ -1,5 +1,5 @@
 -- The event that a line of a report tells.
-use Rattle.std.specs.Prelude.{ℕ, ◌++◌, ◌∷◌, [], List, length, codes, nat_lt, if◌then◌else◌, Option, Some, None, option_map, option_and_then, Result, Ok, Err}
+use Rattle.std.specs.Prelude.{ℕ, ◌&&◌, ◌++◌, ◌∷◌, [], List, length, codes, nat_lt, if◌then◌else◌, Option, Some, None, option_map, option_and_then, Result, Ok, Err}
 use Rattle.std.specs.Str.{bytes_eq, is_utf8}
 use Rattle.serde_json.specs.Data.{Data}
 use Rattle.serde_json.specs.Find.{at, as_str}
@@ -16,6 +16,7 @@ use Rattle.dsql_forms.specs.declared.fault.LineFault.{LineFault}
 use Rattle.dsql_forms.specs.declared.fault.LineFault.TheVariants.{TooLong, NotUtf8, BadJson, BadShape}
 use Rattle.dsql_report.specs.Lines.{line_of}
 use Rattle.dsql_reader.specs.ScriptHead.{caps_among}
+use Rattle.dsql_event_reader.specs.Fits.{is_named}
 use Rattle.dsql_event_reader.specs.Parts.{natural_at, number_at, byte_at, integer_at, text_at, list_at}
 use Rattle.dsql_event_reader.specs.Moves.{owner_at, move_by}
 use Rattle.dsql_event_reader.specs.DriverForms.{call_of, answer_of}
@@ -81,9 +82,9 @@ event_of d = option_and_then (λ word. event_by word d) (text_at 0 d)
 abbrev pub Reading : Type 0
 Reading = Result Event LineFault
 
--- an event, if this is its line without the line feed
+-- an event, if its labels are names and this is its line without the line feed
 abbrev pub if_spelled : List ℕ → Event → Reading
-if_spelled text e = if bytes_eq (line_of e) (text ++ 10 ∷ []) then Ok e else Err BadShape
+if_spelled text e = if is_named e && bytes_eq (line_of e) (text ++ 10 ∷ []) then Ok e else Err BadShape
 
 abbrev pub of_event : List ℕ → Option Event → Reading
 of_event text None = Err BadShape

@@ -1,6 +1,5 @@
--- The events that a program can hold and a line tells: each number fits its type, each label is one, and a row is read
--- into some destination.
-use Rattle.std.specs.Prelude.{ℕ, ◌<◌, ◌^◌, List, length, FitsSigned, All}
+-- The events that a line tells: each label is a name, a row is read into some destination, and each number is of its type.
+use Rattle.std.specs.Prelude.{◌≡◌, ℕ, ◌<◌, ◌^◌, ◌==◌, ◌&&◌, Bool, true, not, List, length, FitsSigned, All}
 use Rattle.std.specs.Int.{w32, w64}
 use Rattle.hex.specs.Hex.{IsBytes}
 use Rattle.dsql_value.specs.declared.arg.Named.{Named}
@@ -29,7 +28,8 @@ use Rattle.dsql_history.specs.declared.reply.Reply.{Reply}
 use Rattle.dsql_history.specs.declared.reply.Reply.TheVariants as reply
 use Rattle.dsql_history.specs.declared.event.Event.{Event}
 use Rattle.dsql_history.specs.declared.event.Event.TheVariants.{Run, Entered, Heard, Pool, Waits, Ticked, SetLimit, Replied, Ended}
-use Rattle.dsql_text_laws.specs.ReadBack.{IsInRange, IsLabel}
+use Rattle.dsql_script_calls.specs.ScriptWords.{is_name}
+use Rattle.dsql_text_laws.specs.ReadBack.{IsInRange as IsArgInRange}
 
 -- a number of 32 bits, and an unsigned one of 64
 abbrev pub IsNumber : ℕ → Type 0
@@ -95,22 +95,34 @@ abbrev pub EntryFits : Entry → Type 0
 EntryFits e = IsNumber e.conn × IsNumber e.tenure × OwnerFits e.owner × IsNumber e.call_no × IsNumber e.tx × CallFits e.call × AnswerFits e.answer
 
 abbrev pub ArgsFit : List Named → Type 0
-ArgsFit args = All (λ named. IsInRange named.arg) args
+ArgsFit args = All (λ named. IsArgInRange named.arg) args
 
--- some destination is named
-abbrev pub DestsFit : List Dest → Type 0
-DestsFit dests = 0 < length dests
+-- there is a destination
+abbrev pub has_dests : List Dest → Bool
+has_dests dests = not (length dests == 0)
+
+-- a call's label, if it has one, is a name, and it has a destination, if it is to have some
+abbrev pub is_named_op : Op → Bool
+is_named_op (op.Exec text args) = true
+is_named_op (op.Query label text args) = is_name label
+is_named_op (op.One dests text args) = has_dests dests
+is_named_op (op.Next rows) = is_name rows
+is_named_op (op.Scan rows dests) = is_name rows && has_dests dests
+is_named_op (op.RowsClose rows) = is_name rows
+is_named_op (op.Err rows) = is_name rows
+is_named_op op.DbClose = true
+is_named_op op.Stats = true
+
+-- the same of the call that an event enters
+abbrev pub is_named : Event → Bool
+is_named (Entered client n op) = is_named_op op
+is_named _ = true
 
 abbrev pub OpFits : Op → Type 0
 OpFits (op.Exec text args) = ArgsFit args
-OpFits (op.Query label text args) = IsLabel label × ArgsFit args
-OpFits (op.One dests text args) = DestsFit dests × ArgsFit args
-OpFits (op.Next rows) = IsLabel rows
-OpFits (op.Scan rows dests) = IsLabel rows × DestsFit dests
-OpFits (op.RowsClose rows) = IsLabel rows
-OpFits (op.Err rows) = IsLabel rows
-OpFits op.DbClose = Unit {0}
-OpFits op.Stats = Unit {0}
+OpFits (op.Query label text args) = ArgsFit args
+OpFits (op.One dests text args) = ArgsFit args
+OpFits _ = Unit {0}
 
 abbrev pub StatsFit : Stats → Type 0
 StatsFit s =
@@ -129,18 +141,22 @@ ReplyFits (reply.Scan column fault) = IsNumber column
 ReplyFits (reply.Stats stats) = StatsFit stats
 ReplyFits _ = Unit {0}
 
-abbrev pub Fits : Event → Type 0
-Fits (Run version caps) = version < 2 ^ 8
-Fits (Entered client n op) = (client < 2 ^ 8) × IsNumber n × OpFits op
-Fits (Heard entry) = EntryFits entry
-Fits (Pool move) = MoveFits move
-Fits (Waits n) = IsNumber n
-Fits (Ticked now) = IsLong now
-Fits (SetLimit setting n) = FitsSigned w64 n
-Fits (Replied n reply) = IsNumber n × ReplyFits reply
-Fits Ended = Unit {0}
+-- Each number of an event is of its type. So it is in every event that a program holds.
+abbrev pub IsInRange : Event → Type 0
+IsInRange (Run version caps) = version < 2 ^ 8
+IsInRange (Entered client n op) = (client < 2 ^ 8) × IsNumber n × OpFits op
+IsInRange (Heard entry) = EntryFits entry
+IsInRange (Pool move) = MoveFits move
+IsInRange (Waits n) = IsNumber n
+IsInRange (Ticked now) = IsLong now
+IsInRange (SetLimit setting n) = FitsSigned w64 n
+IsInRange (Replied n reply) = IsNumber n × ReplyFits reply
+IsInRange Ended = Unit {0}
 
--- A line shows no call of a lending but that of which its owner tells.
+abbrev pub Fits : Event → Type 0
+Fits e = (is_named e ≡ true) × IsInRange e
+
+-- A line doesn't show for which call a connection is lent: it is read as the number of its owner.
 abbrev pub shown_move : Move → Move
 shown_move (Lend conn tenure owner call) = Lend conn tenure owner (number_of owner)
 shown_move move = move

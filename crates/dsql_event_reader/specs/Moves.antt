@@ -43,7 +43,7 @@ cause_of word =
     else if bytes_eq word (codes "discarded") then Some cause.Discarded
     else None
 
--- a lending is for the call of which the owner tells, or for none
+-- a lending, for which call isn't shown
 abbrev pub lending : ℕ → ℕ → Owner → Move
 lending conn tenure owner = Lend conn tenure owner (number_of owner)
 

@@ -7,6 +7,7 @@ mod driver_calls;
 mod events;
 mod laws;
 mod moves;
+mod named;
 mod parts;
 mod reader;
 mod replies;

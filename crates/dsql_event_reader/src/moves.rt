@@ -62,7 +62,7 @@ fn cause_of(word: &str) -> Option<CloseCause>
     }
 }
 
-/// A connection that is lent. The call isn't shown: it is the one of which the owner tells.
+/// A connection that is lent. For which call isn't shown: it is read as the number of the owner.
 fn read_lend(line: &Value) -> Option<Move>
     ensures { result ≡ move_form.lend_of (view line.now) }
 {

@@ -6,6 +6,7 @@ ghost use Rattle.dsql_event_reader.specs.Events.{if_spelled, text_event, reading
 ghost use Rattle.dsql_event_reader.specs.Refusals.{Tells, Refuses};
 
 use crate::events;
+use crate::named::is_named;
 use dsql_forms::LineFault;
 use dsql_history::Event;
 use dsql_report::append_line;
@@ -19,8 +20,8 @@ const MAX_BYTES: usize = 65_536;
 /// spelled: one that says the same in another way is refused.
 ///
 /// A line is refused for the first of these: it has more than 65,536 bytes (`TooLong`), its bytes aren't UTF-8
-/// (`NotUtf8`), it isn't read as JSON (`BadJson`), no event is spelled so (`BadShape`). Want of memory may come
-/// in place of any other answer.
+/// (`NotUtf8`), it isn't read as JSON (`BadJson`), it isn't the line of an event whose labels are names
+/// (`BadShape`). Want of memory may come in place of any other answer.
 pub fn read_event(alloc: Global, line: &[u8]) -> Result<Event, LineFault>
     ensures told { IfOk result (λ e. Tells line.now e) }
     ensures refused { IfErr result (λ f. f ≢ LineFault.Memory → Refuses f line.now) }
@@ -49,11 +50,11 @@ fn read_text(alloc: Global, text: &str) -> Result<Event, LineFault>
     if_spelled(alloc, text, event)
 }
 
-/// The event, if this is its line without the line feed.
+/// The event, if its labels are names and this is its line without the line feed.
 fn if_spelled(alloc: Global, text: &str, event: Event) -> Result<Event, LineFault>
     ensures { IsReading result (if_spelled text.now event) }
 {
-    if !is_line(alloc, text, &event)? {
+    if !is_named(&event) || !is_line(alloc, text, &event)? {
         return Err(LineFault::BadShape);
     }
     Ok(event)

@@ -11,4 +11,4 @@ mod words;
 pub use args::{read_arg, read_statement};
 pub use array::read_array;
 pub use calls::read_call;
-pub use words::{client, limit, moment, split_array, split_words};
+pub use words::{client, is_name, limit, moment, split_array, split_words};
