@@ -48,6 +48,13 @@ text_is_read_back e fits text is =
     let line : IsLine text (shown e) = ap (λ d. compact_text d ++ 10 ∷ []) (same_data e) ∙ is in
     ap (of_data text) seen ∙ ap (of_event text) (event_is_read_back e fits.0 fits.1) ∙ spelled text (shown e) (same_names e ∙ fits.0) line
 
+pub line_tells_its_event : (e f : Event) → Fits e → Fits f → line_of e ≡ line_of f → shown e ≡ shown f
+line_tells_its_event e f fits other same =
+    let text = compact_text (json_of e) in
+    let first : text_event text ≡ Ok (shown e) = text_is_read_back e fits text refl in
+    let second : text_event text ≡ Ok (shown f) = text_is_read_back f other text (sym same) in
+    cc
+
 -- a line that is short enough, by whether it is text
 
 pub text_is_its_event : (line : List ℕ) → length line ≤ most_bytes → IsUtf8 line → reading_of line ≡ text_event line

@@ -28,3 +28,7 @@ Refuses _ line = ⊥
 -- a line that is an event's, and isn't too long, is read as this event
 abbrev pub ReadsEventsBack : Type 0
 ReadsEventsBack = (e : Event) → Fits e → (line : List ℕ) → IsLine line e → length line ≤ most_bytes → IsUtf8 line → reading_of line ≡ Ok (shown e)
+
+-- two events with one line are shown as one
+abbrev pub LinesTellEvents : Type 0
+LinesTellEvents = (e f : Event) → Fits e → Fits f → line_of e ≡ line_of f → shown e ≡ shown f

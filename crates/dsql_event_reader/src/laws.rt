@@ -7,13 +7,19 @@ ghost use Rattle.dsql_history.specs.declared.event.Setting.TheVariants.{MaxOpen}
 ghost use Rattle.dsql_history.specs.declared.event.Event.TheVariants.{Entered, Pool, SetLimit, Ended};
 ghost use Rattle.dsql_forms.specs.declared.fault.LineFault.TheVariants.{TooLong, NotUtf8, BadJson, BadShape};
 ghost use Rattle.dsql_event_reader.specs.Events.{reading_of};
-ghost use Rattle.dsql_event_reader.specs.Refusals.{ReadsEventsBack};
+ghost use Rattle.dsql_event_reader.specs.Refusals.{ReadsEventsBack, LinesTellEvents};
 
 /// The line of an event, if it isn't too long, is read as this event. The one thing that a line doesn't
 /// show is for which call a connection is lent, which is read as the number of its owner, and as 0 where the
 /// owner is the layer itself.
 pub fn spelled_events_are_read_back()
     ensures { ReadsEventsBack }
+{}
+
+/// Two events that fit and have the same line, of any length, differ at most in the call for which a
+/// connection is lent.
+pub fn lines_tell_their_events()
+    ensures { LinesTellEvents }
 {}
 
 /// Lines, each with what is read of it.

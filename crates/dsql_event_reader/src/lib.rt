@@ -14,5 +14,5 @@ mod replies;
 mod values;
 
 pub use dsql_forms::LineFault;
-pub use laws::{spelled_events_are_read_back, worked_event_lines};
+pub use laws::{lines_tell_their_events, spelled_events_are_read_back, worked_event_lines};
 pub use reader::read_event;
