@@ -1,3 +1,4 @@
+use dsql_driver::Planned;
 use dsql_history::{Control, Op};
 
 /// What a line of a script asks for.
@@ -7,6 +8,8 @@ pub enum Line {
     Skip,
     /// A limit is set, or the present moment.
     Control(Control),
+    /// A fault is planned in place of the answer to the nth call of a connection.
+    Fault { conn: u32, nth: u32, what: Planned },
     /// A client makes a call.
     Client { client: u8, op: Op },
     /// A client makes a call, which is held: it goes on by single steps alone, until the script ends.
