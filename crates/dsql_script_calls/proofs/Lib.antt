@@ -4,5 +4,7 @@ pub mod ScriptArrays
 pub mod ScriptClients
 pub mod ScriptLimits
 pub mod ScriptMoments
+pub mod ScriptOrdinals
 pub mod ScriptCalls
 pub mod LoneTexts
+pub mod ScriptTexts

@@ -14,7 +14,7 @@ use Rattle.dsql_script_calls.specs.ScriptWords.{is_number, from_zero, below_zero
 use Rattle.dsql_script_calls.proofs.ScriptClients.{own, number_from_digits, digits_of_number, begins_not}
 
 -- digits that don't begin with `0` aren't those of 0
-some_value : (digits : List ℕ) → all_ascii_digits digits ≡ true → 0 < length digits → get_or digits 0 0 ≢ 48 → 1 ≤ digits_value 10 digits
+pub some_value : (digits : List ℕ) → all_ascii_digits digits ≡ true → 0 < length digits → get_or digits 0 0 ≢ 48 → 1 ≤ digits_value 10 digits
 some_value [] all some other = absurd (omega arith)
 some_value (first ∷ rest) all some other =
     let digit = digit_at (first ∷ rest) 0 (own.to (first ∷ rest) all) some in

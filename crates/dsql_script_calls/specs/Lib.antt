@@ -1,2 +1,3 @@
 pub mod ScriptWords
+pub mod ScriptTexts
 pub mod ScriptCalls

@@ -53,6 +53,12 @@ moment_of word =
     let now = digits_value 10 word in
     if is_number word && nat_lt now (2 ^ 64) then Some now else None
 
+-- the number of a connection, or of one of its calls: from 1 on, and it fits a u32
+abbrev pub ordinal_of : List ℕ → Option ℕ
+ordinal_of word =
+    let n = digits_value 10 word in
+    if is_number word && nat_le 1 n && nat_lt n (2 ^ 32) then Some n else None
+
 -- the number of a client, which is from 1 to 64
 abbrev pub client_number : List ℕ → Option ℕ
 client_number digits =

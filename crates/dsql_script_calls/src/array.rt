@@ -2,10 +2,14 @@ ghost use Rattle.std.specs.Prelude.{◌≡◌, ◌≢◌, ℕ, Ok, Err, IfOk, If
 ghost use Rattle.std.specs.List.{list_all};
 ghost use Rattle.json.specs.Run.{is_plain};
 ghost use Rattle.serde_json.specs.Data as value;
+ghost use Rattle.serde_json.specs.Find.{as_str};
 ghost use Rattle.serde_json.specs.Read.{read};
-ghost use Rattle.serde_json.specs.View.{view};
+ghost use Rattle.serde_json.specs.View.{view, items_view};
+ghost use Rattle.dsql_forms.specs.Outcomes.{IsShaped, IsReading};
+ghost use Rattle.dsql_script_calls.specs.ScriptTexts.{only_item, only_text, text_in};
 
 use dsql_forms::LineFault;
+use dsql_value::Txt;
 use serde_json::Value;
 use std::alloc::Global;
 
@@ -45,5 +49,43 @@ pub fn read_array(alloc: Global, array: &str) -> Result<Value, LineFault>
         Ok(value) => Ok(value),
         Err(e) if e.is_memory() => Err(LineFault::Memory),
         Err(_) => Err(LineFault::BadJson),
+    }
+}
+
+/// The text that an array holds alone.
+pub fn read_text(alloc: Global, array: &str) -> Result<Txt, LineFault>
+    ensures { IsReading result (text_in array.now) }
+{
+    let value = read_array(alloc, array)?;
+    read_only_text(&value)
+}
+
+/// The text that a value is an array of.
+fn read_only_text(array: &Value) -> Result<Txt, LineFault>
+    ensures { IsShaped result (only_text (view array.now)) }
+{
+    let Value::Array(items) = array else {
+        return Err(LineFault::BadShape);
+    };
+    read_only_item(items.as_slice())
+}
+
+/// The text that stands among items alone.
+fn read_only_item(items: &[Value]) -> Result<Txt, LineFault>
+    ensures { IsShaped result (only_item (items_view items.now)) }
+{
+    if items.len() != 1 {
+        return Err(LineFault::BadShape);
+    }
+    read_string(&items[0])
+}
+
+/// The text that a value is.
+fn read_string(value: &Value) -> Result<Txt, LineFault>
+    ensures { IsShaped result (as_str (view value.now)) }
+{
+    match value {
+        Value::String(text) => Ok(Txt::new(text.clone()?)),
+        _ => Err(LineFault::BadShape),
     }
 }

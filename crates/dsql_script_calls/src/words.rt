@@ -1,7 +1,7 @@
 ghost use Rattle.std.specs.Prelude.{◌≡◌, ◌==◌, IfOk, List, map};
 ghost use Rattle.std.specs.Option.{option_copied};
 ghost use Rattle.std.specs.List.{slice_split, list_all};
-ghost use Rattle.dsql_script_calls.specs.ScriptWords.{space, before_array, array_of, limit_of, moment_of, client_of, client_number, is_name, is_target, is_token, is_database, is_name_byte};
+ghost use Rattle.dsql_script_calls.specs.ScriptWords.{space, before_array, array_of, limit_of, moment_of, ordinal_of, client_of, client_number, is_name, is_target, is_token, is_database, is_name_byte};
 
 use std::alloc::{AllocError, Global};
 
@@ -60,6 +60,17 @@ pub fn moment(word: &str) -> Option<u64>
     }
     // `parse` takes a plus, which isn't spelled here
     if word.starts_with('+') {
+        return None;
+    }
+    word.parse().ok()
+}
+
+/// The number of a connection, or of one of its calls, that a word is: from 1 on.
+pub fn ordinal(word: &str) -> Option<u32>
+    ensures { result ≡ ordinal_of word.now }
+{
+    // `parse` takes a leading zero and a plus, which aren't spelled here
+    if word.starts_with('0') || word.starts_with('+') {
         return None;
     }
     word.parse().ok()
