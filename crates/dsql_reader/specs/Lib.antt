@@ -1,2 +1,3 @@
 pub mod ScriptHead
+pub mod ScriptPlans
 pub mod ScriptLines

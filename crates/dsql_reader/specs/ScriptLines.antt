@@ -19,6 +19,7 @@ use Rattle.dsql_reader.specs.declared.script.Head.{Head}
 use Rattle.dsql_reader.specs.declared.script.Head.TheVariants.{First, Begun}
 use Rattle.dsql_script_calls.specs.ScriptCalls.{CallReading, call_of}
 use Rattle.dsql_reader.specs.ScriptHead.{Progress, is_version, caps_of}
+use Rattle.dsql_reader.specs.ScriptPlans.{plan_line}
 use Rattle.dsql_script_calls.specs.ScriptWords.{begins_with, words_of, array_of, limit_of, moment_of, client_of}
 
 -- a line or the fault for which it is refused
@@ -112,6 +113,7 @@ form_of head (first ∷ words) array =
     else if bytes_eq first (codes "maxlife") then set_line MaxLife words array
     else if bytes_eq first (codes "maxidletime") then set_line MaxIdleTime words array
     else if bytes_eq first (codes "tick") then tick_line words array
+    else if bytes_eq first (codes "fault") then plan_line words array
     else if bytes_eq first (codes "start") then start_line words array
     else if bytes_eq first (codes "step") then step_line words array
     else client_line false first words array

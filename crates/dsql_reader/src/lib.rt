@@ -4,6 +4,7 @@
 mod body;
 mod head;
 mod labels;
+mod plan;
 mod reader;
 mod script;
 

@@ -7,7 +7,7 @@ ghost use Rattle.dsql_reader.specs.ScriptLines.{read_of, line_of, text_of, form_
 
 use crate::labels::Labels;
 use crate::script::{Head, ScriptLine};
-use crate::{body, head};
+use crate::{body, head, plan};
 use dsql_forms::{LineFault, What};
 use dsql_history::Setting;
 use dsql_script_calls::{split_array, split_words};
@@ -28,12 +28,14 @@ const MAX_BYTES: usize = 4_096;
 /// a JSON array begins at the first such `[` and runs to the line's end. Before all lines that aren't
 /// skipped may stand `version 1`, and before all but that `caps` with the names of what the driver can
 /// do, each once and in the order of a report. Any other line that isn't skipped sets a limit,
-/// tells the present moment, is a client's call, or asks for one step.
+/// tells the present moment, plans a fault, is a client's call, or asks for one step.
 ///
 /// `maxopen N`, `maxidle N`, `maxlife D` and `maxidletime D` set a limit. N and D are decimal numbers
 /// that fit an `i64`, without a leading zero; one below zero has a minus before it. D is in nanoseconds.
 /// `tick NOW` tells the present moment, in nanoseconds: NOW is a decimal number that fits a `u64`,
-/// without a sign and without a leading zero. A client's call is `cN` and the words of the call, N from
+/// without a sign and without a leading zero. `fault W N bad`, `fault W N invalid` and `fault W N fail` plan
+/// a fault in place of the answer to the Nth call of connection W: W and N are such numbers that fit a
+/// `u32`, and aren't 0. Only `fail` has an array, which holds its text and nothing else. A client's call is `cN` and the words of the call, N from
 /// 1 to 64 without a leading zero. Where `start` stands before them, the call is held. `step cN` asks for
 /// one step of a client, and `step house` for one of the layer itself.
 ///
@@ -163,6 +165,7 @@ fn read_form(
         "maxlife" => body::read_set(Setting::MaxLife, rest, array),
         "maxidletime" => body::read_set(Setting::MaxIdleTime, rest, array),
         "tick" => body::read_tick(rest, array),
+        "fault" => plan::read_plan(alloc, rest, array),
         "start" => body::read_start(alloc, rest, array),
         "step" => body::read_step(rest, array),
         client => body::read_client(alloc, false, client, rest, array),

@@ -1,4 +1,4 @@
-use dsql_driver::Caps;
+use dsql_driver::{Caps, Planned};
 use dsql_history::{Control, Op};
 
 /// What one line of a script says.
@@ -14,6 +14,10 @@ pub enum ScriptLine {
     /// A limit is set, or the present moment. The line is `maxopen N`, `maxidle N`, `maxlife D`,
     /// `maxidletime D` or `tick NOW`.
     Control(Control),
+    /// A fault is planned in place of the answer to the nth call of a connection, its Connect being the
+    /// first. The line is `fault CONN NTH bad`, `fault CONN NTH invalid` or `fault CONN NTH fail ["TEXT"]`,
+    /// with numbers from 1 on that fit a `u32`.
+    Fault { conn: u32, nth: u32, what: Planned },
     /// A client, numbered from 1 to 64, makes a call. The line is one of these:
     ///
     /// | line | call in Go |

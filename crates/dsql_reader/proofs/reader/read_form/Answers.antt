@@ -1,5 +1,5 @@
 use Rattle.std.specs.Option.{option_copied}
-use Rattle.dsql_reader.proofs.ScriptForms.{form_of_maxopen, form_of_maxidle, form_of_maxlife, form_of_maxidletime, form_of_tick, form_of_step, form_of_client}
+use Rattle.dsql_reader.proofs.ScriptForms.{form_of_maxopen, form_of_maxidle, form_of_maxlife, form_of_maxidletime, form_of_tick, form_of_fault, form_of_step, form_of_client}
 use Rattle.dsql_reader.proofs.reader.read_form.Goals as goal
 
 pub returns-in-maxopen : goal.returns-in-maxopen
@@ -27,6 +27,11 @@ returns-in-tick c =
     let tick = form_of_tick c.args.head c.args.words.now (option_copied c.args.array) _ c.in-len1-up.len_at_least c.in-tick.is in
     rw tick c.read_tick.ensures
 
+pub returns-in-fault : goal.returns-in-fault
+returns-in-fault c =
+    let plan = form_of_fault c.args.head c.args.words.now (option_copied c.args.array) _ c.in-len1-up.len_at_least c.in-fault.is in
+    rw plan c.read_plan.ensures
+
 pub returns-in-step : goal.returns-in-step
 returns-in-step c =
     let step = form_of_step c.args.head c.args.words.now (option_copied c.args.array) _ c.in-len1-up.len_at_least c.in-step.is in
@@ -35,5 +40,5 @@ returns-in-step c =
 pub returns-in_default-first : goal.returns-in_default-first
 returns-in_default-first c =
     let not = c.in_default-first in
-    let client = form_of_client c.args.head c.args.words.now (option_copied c.args.array) _ c.in-len1-up.len_at_least not.not-version not.not-caps not.not-maxopen not.not-maxidle not.not-maxlife not.not-maxidletime not.not-tick not.not-start not.not-step in
+    let client = form_of_client c.args.head c.args.words.now (option_copied c.args.array) _ c.in-len1-up.len_at_least not.not-version not.not-caps not.not-maxopen not.not-maxidle not.not-maxlife not.not-maxidletime not.not-tick not.not-fault not.not-start not.not-step in
     rw client c.read_client.ensures
