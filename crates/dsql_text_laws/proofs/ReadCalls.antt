@@ -101,6 +101,7 @@ clients_line head false word words client array is = rw (
   other word (codes "maxlife") client is refl,
   other word (codes "maxidletime") client is refl,
   other word (codes "tick") client is refl,
+  other word (codes "fault") client is refl,
   other word (codes "start") client is refl,
   other word (codes "step") client is refl,
 ) refl

@@ -2,6 +2,7 @@ ghost use Rattle.std.specs.Prelude.{◌≡◌, ◌∷◌, ◌++◌, [], pos, neg
 ghost use Rattle.dsql_value.specs.declared.arg.Arg.TheVariants as arg;
 ghost use Rattle.dsql_value.specs.WorkedArguments.{plain, named_one};
 ghost use Rattle.dsql_scan.specs.declared.dest.Dest.TheVariants as dest;
+ghost use Rattle.dsql_driver.specs.declared.wire.Planned.TheVariants.{Bad, Fail, Invalid};
 ghost use Rattle.dsql_history.specs.declared.event.Op.TheVariants.{Exec, One};
 ghost use Rattle.dsql_history.specs.declared.event.Op.TheVariants as op;
 ghost use Rattle.dsql_history.specs.declared.event.Setting.TheVariants.{MaxOpen, MaxIdle, MaxLife, MaxIdleTime};
@@ -137,6 +138,39 @@ pub fn worked_tick_lines()
     ensures unwanted_array { read_of unread (codes "tick 1 []") ≡ Err BadShape }
     ensures held { read_of unread (codes "start tick 1") ≡ Err NoSuchWord }
     ensures no_version_behind { read_of (after unread (script.Control (Tick 5))) (codes "version 1") ≡ Err NoSuchWord }
+{}
+
+/// Lines that plan a fault, each with what is read of it.
+pub fn worked_fault_lines()
+    ensures bad { read_of unread (codes "fault 1 2 bad") ≡ Ok (script.Fault 1 2 Bad) }
+    ensures invalid { read_of (progress 7 Begun) (codes "fault 3 1 invalid\r") ≡ Ok (script.Fault 3 1 Invalid) }
+    ensures fail { read_of unread (codes "fault 2 5 fail [\"down\"]") ≡ Ok (script.Fault 2 5 (Fail (codes "down"))) }
+    ensures no_words { read_of (progress 1 AfterVersion) (codes "fault 1 1 fail [ \"\" ] ") ≡ Ok (script.Fault 1 1 (Fail (codes ""))) }
+    ensures last { read_of unread (codes "fault 4294967295 4294967295 bad") ≡ Ok (script.Fault 4294967295 4294967295 Bad) }
+    ensures no_connection { read_of unread (codes "fault 0 1 bad") ≡ Err BadShape }
+    ensures no_call { read_of unread (codes "fault 1 0 bad") ≡ Err BadShape }
+    ensures connection_too_large { read_of unread (codes "fault 4294967296 1 bad") ≡ Err BadShape }
+    ensures call_too_large { read_of unread (codes "fault 1 4294967296 bad") ≡ Err BadShape }
+    ensures leading_zero { read_of unread (codes "fault 01 1 bad") ≡ Err BadShape }
+    ensures plus { read_of unread (codes "fault 1 +1 bad") ≡ Err BadShape }
+    ensures below_zero { read_of unread (codes "fault -1 1 bad") ≡ Err BadShape }
+    ensures alone { read_of unread (codes "fault") ≡ Err BadShape }
+    ensures no_word { read_of unread (codes "fault 1 2") ≡ Err BadShape }
+    ensures empty_word { read_of unread (codes "fault 1 2 ") ≡ Err BadShape }
+    ensures two_words { read_of unread (codes "fault 1 2 bad bad") ≡ Err BadShape }
+    ensures other_word { read_of unread (codes "fault 1 2 skip") ≡ Err BadShape }
+    ensures upper_case { read_of unread (codes "fault 1 2 Bad") ≡ Err BadShape }
+    ensures no_array { read_of unread (codes "fault 1 2 fail") ≡ Err BadShape }
+    ensures bad_array { read_of unread (codes "fault 1 2 bad [\"down\"]") ≡ Err BadShape }
+    ensures invalid_array { read_of unread (codes "fault 1 2 invalid [") ≡ Err BadShape }
+    ensures numbers_first { read_of unread (codes "fault 0 2 fail [") ≡ Err BadShape }
+    ensures not_json { read_of unread (codes "fault 1 2 fail [\"down\",]") ≡ Err BadJson }
+    ensures no_text { read_of unread (codes "fault 1 2 fail []") ≡ Err BadShape }
+    ensures two_texts { read_of unread (codes "fault 1 2 fail [\"down\",\"up\"]") ≡ Err BadShape }
+    ensures not_a_text { read_of unread (codes "fault 1 2 fail [1]") ≡ Err BadShape }
+    ensures inner_array { read_of unread (codes "fault 1 2 fail [[\"down\"]]") ≡ Err BadShape }
+    ensures held { read_of unread (codes "start fault 1 2 bad") ≡ Err NoSuchWord }
+    ensures no_version_behind { read_of (after unread (script.Fault 1 2 Bad)) (codes "version 1") ≡ Err NoSuchWord }
 {}
 
 /// Lines of calls that are held, each with what is read of it.
