@@ -11,9 +11,10 @@ use Rattle.dsql_forms.specs.declared.fault.LineFault.TheVariants.{TooLong, NotUt
 use Rattle.dsql_reader.specs.declared.script.Head.TheVariants.{Begun}
 use Rattle.dsql_reader.specs.declared.script.ScriptLine.{ScriptLine}
 use Rattle.dsql_reader.specs.declared.script.ScriptLine.TheVariants.{Skip, Version, UseCaps, StepHouse}
-use Rattle.dsql_script_calls.specs.ScriptWords.{words_of, array_of, client_of}
+use Rattle.dsql_script_calls.specs.ScriptWords.{words_of, array_of, ordinal_of, client_of}
 use Rattle.dsql_script_calls.specs.ScriptCalls.{CallReading, call_of}
 use Rattle.dsql_reader.specs.ScriptHead.{Progress, after}
+use Rattle.dsql_reader.specs.ScriptPlans.{PlannedReading, planned_of, plan_at, plan_line}
 use Rattle.dsql_reader.specs.ScriptLines.{Reading, client_call, call_by_client, client_line, start_line, limit_alone, set_or_fault, set_line, moment_alone, tick_or_fault, tick_line, step_or_fault, step_line, version_line, caps_line, form_of, is_skipped, text_of, line_of, line_fault, unless_fault, among_labels, read_of, most_bytes, most_lines}
 use Rattle.dsql_script_source.specs.Script.{Script}
 use Rattle.dsql_script_source.specs.Reading.{StopsReading, is_body, ends_head, IsBodyLine, NoLine}
@@ -59,6 +60,19 @@ body_tick (Some now) = refl
 body_tick_line : (words : List (List ℕ)) (array : Option (List ℕ)) → Body (tick_line words array)
 body_tick_line words array = body_tick (moment_alone words array)
 
+body_plan_at : (conn nth : Option ℕ) (planned : PlannedReading) → Body (plan_at conn nth planned)
+body_plan_at None nth planned = tt
+body_plan_at (Some conn) None planned = tt
+body_plan_at (Some conn) (Some nth) (Ok what) = refl
+body_plan_at (Some conn) (Some nth) (Err fault) = tt
+
+body_plan_line : (words : List (List ℕ)) (array : Option (List ℕ)) → Body (plan_line words array)
+body_plan_line [] array = tt
+body_plan_line (conn ∷ []) array = tt
+body_plan_line (conn ∷ nth ∷ []) array = tt
+body_plan_line (conn ∷ nth ∷ what ∷ []) array = body_plan_at (ordinal_of conn) (ordinal_of nth) (planned_of what array)
+body_plan_line (conn ∷ nth ∷ what ∷ more ∷ words) array = tt
+
 body_step : (client : Option ℕ) → Body (step_or_fault client)
 body_step None = tt
 body_step (Some client) = refl
@@ -75,7 +89,8 @@ body_form_of (first ∷ words) array =
     let client = client_line false first words array in
     let step = if bytes_eq first (codes "step") then step_line words array else client in
     let start = if bytes_eq first (codes "start") then start_line words array else step in
-    let tick = if bytes_eq first (codes "tick") then tick_line words array else start in
+    let plan = if bytes_eq first (codes "fault") then plan_line words array else start in
+    let tick = if bytes_eq first (codes "tick") then tick_line words array else plan in
     let idle_time = if bytes_eq first (codes "maxidletime") then set_line MaxIdleTime words array else tick in
     let life = if bytes_eq first (codes "maxlife") then set_line MaxLife words array else idle_time in
     let idle = if bytes_eq first (codes "maxidle") then set_line MaxIdle words array else life in
@@ -87,9 +102,10 @@ body_form_of (first ∷ words) array =
     (either (bytes_eq first (codes "maxidle")) (set_line MaxIdle words array) life (body_set_line MaxIdle words array)
     (either (bytes_eq first (codes "maxlife")) (set_line MaxLife words array) idle_time (body_set_line MaxLife words array)
     (either (bytes_eq first (codes "maxidletime")) (set_line MaxIdleTime words array) tick (body_set_line MaxIdleTime words array)
-    (either (bytes_eq first (codes "tick")) (tick_line words array) start (body_tick_line words array)
+    (either (bytes_eq first (codes "tick")) (tick_line words array) plan (body_tick_line words array)
+    (either (bytes_eq first (codes "fault")) (plan_line words array) start (body_plan_line words array)
     (either (bytes_eq first (codes "start")) (start_line words array) step (body_start_line words array)
-    (either (bytes_eq first (codes "step")) (step_line words array) client (body_step_line words array) (body_client_line false first words array)))))))))
+    (either (bytes_eq first (codes "step")) (step_line words array) client (body_step_line words array) (body_client_line false first words array))))))))))
 
 body_text : (text : List ℕ) → Body (text_of Begun text)
 body_text text = either (is_skipped text) (Ok Skip) (form_of Begun (words_of text) (array_of text)) refl (body_form_of (words_of text) (array_of text))

@@ -26,6 +26,7 @@ line_as_played Skip = played.Skip
 line_as_played (Version version) = played.Skip
 line_as_played (UseCaps caps) = played.Skip
 line_as_played (script.Control control) = played.Control control
+line_as_played (script.Fault conn nth what) = played.Fault conn nth what
 line_as_played (Client client op true) = played.Start client op
 line_as_played (Client client op false) = played.Client client op
 line_as_played (Step client) = played.Step client

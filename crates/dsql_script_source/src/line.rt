@@ -12,6 +12,7 @@ pub fn line_as_played(line: ScriptLine) -> Line
     match line {
         ScriptLine::Skip | ScriptLine::Version(_) | ScriptLine::UseCaps(_) => Line::Skip,
         ScriptLine::Control(control) => Line::Control(control),
+        ScriptLine::Fault { conn, nth, what } => Line::Fault { conn, nth, what },
         ScriptLine::Client {
             client,
             op,
