@@ -1,5 +1,6 @@
 //! Transcripts of readers: a title, and then, behind `= `, what is told of each of the lines below it.
 
+use dsql_driver::Planned;
 use dsql_history::{Control, Event, Op};
 use dsql_reader::{Reader, ScriptLine};
 use dsql_report::event_line;
@@ -97,7 +98,7 @@ caps
 version 1
 "#;
 
-/// Limits, a moment, calls that are held, steps, and calls without further words.
+/// Limits, a moment, plans, calls that are held, steps, and calls without further words.
 const SEVERAL_CLIENTS: &str = r#"Several clients
 = ["set","maxopen",0]
 maxopen 0
@@ -109,6 +110,12 @@ maxlife 9223372036854775807
 maxidletime 0
 = ["tick",18446744073709551615]
 tick 18446744073709551615
+= call 2 of connection 1: bad
+fault 1 2 bad
+= call 1 of connection 4294967295: invalid
+fault 4294967295 1 invalid
+= call 4294967295 of connection 3: fail é "["
+fault 3 4294967295 fail [ "\u00e9 \"[\"" ]
 = no such word
 version 1
 caps
@@ -151,6 +158,7 @@ maxconns 5
 Maxopen 5
 maxopen5
 maxlifetime 100
+faults 1 2 bad
 start 
 start [
 start step c1
@@ -177,6 +185,11 @@ maxopen ٣
 maxidle [5]
 maxidle
 maxidle 18446744073709551616
+fault 1 1  bad
+fault c1 1 bad
+fault ١ 1 bad
+fault 18446744073709551616 1 bad
+fault 1 1 fail "down"
 start c1 stats 
 start c1 dbclose r
 start c1 next
@@ -192,6 +205,7 @@ step c1 ["a"]
 c1 stats 
 = not JSON
 start c1 exec db ["a",]
+fault 1 1 fail ["a"] ["b"]
 = unknown label
 start c1 scan r i64
 "#;
@@ -305,6 +319,19 @@ fn held_line(alloc: Global, line: &str) -> Result<Txt, Memory> {
     Ok(Txt::new(text))
 }
 
+/// What is told of a plan.
+fn plan_line(alloc: Global, conn: u32, nth: u32, what: Planned) -> Result<Txt, Memory> {
+    let plan = match what {
+        Planned::Bad => format!(in alloc; "call {nth} of connection {conn}: bad")?,
+        Planned::Invalid => format!(in alloc; "call {nth} of connection {conn}: invalid")?,
+        Planned::Fail(text) => {
+            let text = text.as_str();
+            format!(in alloc; "call {nth} of connection {conn}: fail {text}")?
+        }
+    };
+    Ok(Txt::new(plan))
+}
+
 /// What is told of what a line says: of a call, a limit, a moment and what a driver can do the line of a report.
 fn told_of(alloc: Global, read: ScriptLine) -> Result<Txt, Memory> {
     match read {
@@ -315,6 +342,7 @@ fn told_of(alloc: Global, read: ScriptLine) -> Result<Txt, Memory> {
         ScriptLine::Control(Control::Set(setting, n)) => {
             event_line(alloc, &Event::SetLimit(setting, n))
         }
+        ScriptLine::Fault { conn, nth, what } => plan_line(alloc, conn, nth, what),
         ScriptLine::Client { client, op, held } => {
             let line = call_line(alloc, client, op)?;
             if held {
