@@ -1,6 +1,6 @@
 //! The driver: it opens connections to the fixed table.
 
-ghost use Rattle.std.specs.Prelude.{None};
+ghost use Rattle.std.specs.Prelude.{◌≡◌, None};
 ghost use Rattle.fixed_answers.specs.Fleet.{own_caps};
 
 use crate::wire::FixedWire;
@@ -29,7 +29,10 @@ pub(crate) struct FixedFleet {
 
 impl FixedFleet {
     /// A driver that was asked for nothing yet.
-    pub(crate) fn new(alloc: Global) -> FixedFleet {
+    pub(crate) fn new(alloc: Global) -> FixedFleet
+        ensures last { result.preferred ≡ None }
+        ensures times { result.preferences ≡ 0 }
+    {
         FixedFleet {
             alloc,
             preferred: None,
