@@ -12,7 +12,7 @@ use Rattle.dsql_history.specs.declared.record.Stand.TheVariants.{Waits, Opens, S
 use Rattle.dsql_history.specs.Rules.Stands.{stand}
 use Rattle.dsql_follows.specs.declared.line.Line.{Line}
 use Rattle.dsql_follows.specs.declared.line.Line.TheVariants as lines
-use Rattle.dsql_follows.specs.declared.line.Line.TheVariants.{Skip, Client, Start, Step, StepHouse}
+use Rattle.dsql_follows.specs.declared.line.Line.TheVariants.{Skip, Fault, Client, Start, Step, StepHouse}
 use Rattle.dsql_history.specs.Readers.Clients.{call_of, is_free, client_of}
 use Rattle.dsql_history.specs.Rules.Flights.{is_in_flight}
 use Rattle.dsql_follows.specs.Moments.{Moment, Passed, met, at_end, stepping, begins_step, at_rest, rested, walk, kept}
@@ -161,6 +161,8 @@ is_entered_somewhere true client (x ∷ xs) h k = refl
 no_step_more : (m : Moment) (line : Line) (zs : List Event) (e : Event) (qe : List Event) → m.released ≡ false
     → FollowsLine m (record { line = line; events = zs ++ e ∷ qe }) → FollowsLine m (record { line = line; events = qe }) → begins_step (walk (met line m) qe).now e ≡ false
 no_step_more m Skip zs e qe r f g = runs_no_further (met Skip m) false zs e qe f.in_turn (λ k. absurd cc) (released_after (met Skip m) qe ∙ r) g.run_out
+no_step_more m (Fault conn nth what) zs e qe r f g =
+    runs_no_further (met (Fault conn nth what) m) false zs e qe f.in_turn (λ k. absurd cc) (released_after (met (Fault conn nth what) m) qe ∙ r) g.run_out
 no_step_more m (lines.Control control) zs e qe r f g =
     runs_no_further (met (lines.Control control) m) true zs e qe f.in_turn (λ k. is_set_somewhere control (passed (met (lines.Control control) m) qe) g.set)
     (released_after (met (lines.Control control) m) qe ∙ r) g.run_out

@@ -15,7 +15,7 @@ use Rattle.dsql_laws.proofs.OwedAllowed.{or_first, or_second}
 use Rattle.dsql_laws.proofs.Tests.{same_itself, together}
 use Rattle.dsql_follows.specs.declared.line.Line.{Line}
 use Rattle.dsql_follows.specs.declared.line.Line.TheVariants as lines
-use Rattle.dsql_follows.specs.declared.line.Line.TheVariants.{Skip, Client, Start}
+use Rattle.dsql_follows.specs.declared.line.Line.TheVariants.{Skip, Fault, Client, Start}
 use Rattle.dsql_follows.specs.Moments.{Moment, Passed, at_end, met}
 use Rattle.dsql_follows.specs.Same.{same_setting}
 use Rattle.dsql_follows.specs.Turns.{comes_in_turn, has_run_out}
@@ -99,6 +99,7 @@ runs_further m line events more now after r h turn =
 
 enters_none : (m : Moment) (line : Line) → runs_on line ≡ true → has_own_step m line ≡ false → BeginsAsItShould m (part_of line [])
 enters_none m Skip on own = record { entered = refl; set = refl }
+enters_none m (Fault conn nth what) on own = record { entered = refl; set = refl }
 enters_none m (Client client op) on own = record { entered = or_first (not (enters_now m client)) false (ap not own); set = refl }
 enters_none m line on own = absurd cc
 
@@ -182,6 +183,7 @@ followed m line events now r out started stepped tidied after =
 pub runs_done : (m : Moment) (line : Line) (events : List Event) (now : Moment) → RunsOn m line events now → runs_on line ≡ true → has_run_out now ≡ true
     → FollowsTo m line events now
 runs_done m Skip events now r on out = followed m Skip events now r out refl refl refl r.steps.now_is
+runs_done m (Fault conn nth what) events now r on out = followed m (Fault conn nth what) events now r out refl refl refl r.steps.now_is
 runs_done m (lines.Control control) events now r on out = followed m (lines.Control control) events now r out refl refl refl r.steps.now_is
 runs_done m (Client client op) events now r on out = followed m (Client client op) events now r out refl refl refl r.steps.now_is
 runs_done m line events now r on out = absurd cc

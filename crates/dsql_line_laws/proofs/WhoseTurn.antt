@@ -11,7 +11,7 @@ use Rattle.dsql_laws.proofs.OwedAllowed.{or_first, or_second}
 use Rattle.dsql_laws.proofs.Tests.{both, same_itself, same_number, together}
 use Rattle.dsql_follows.specs.declared.line.Line.{Line}
 use Rattle.dsql_follows.specs.declared.line.Line.TheVariants as lines
-use Rattle.dsql_follows.specs.declared.line.Line.TheVariants.{Skip, Client, Start, Step, StepHouse}
+use Rattle.dsql_follows.specs.declared.line.Line.TheVariants.{Skip, Fault, Client, Start, Step, StepHouse}
 use Rattle.dsql_follows.specs.Moments.{Moment, is_held, kept, lines_of}
 use Rattle.dsql_follows.specs.Turns.{can_move, clients, first_chore, has_run_out, is_it, is_turn_of, least, may_go, next_client, with_client}
 use Rattle.dsql_follows.specs.Follows.{is_done}
@@ -46,6 +46,7 @@ is_client [] k some = absurd (omega (arith, some))
 is_client (Client client op ∷ earlier) k some = its_or_others client k (client == k) (Client client op) earlier refl (is_client earlier k) some
 is_client (Start client op ∷ earlier) k some = its_or_others client k (client == k) (Start client op) earlier refl (is_client earlier k) some
 is_client (Skip ∷ earlier) k some = is_client earlier k some
+is_client (Fault conn nth what ∷ earlier) k some = is_client earlier k some
 is_client (lines.Control control ∷ earlier) k some = is_client earlier k some
 is_client (Step client ∷ earlier) k some = is_client earlier k some
 is_client (StepHouse ∷ earlier) k some = is_client earlier k some
