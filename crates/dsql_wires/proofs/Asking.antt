@@ -16,11 +16,13 @@ use Rattle.dsql_history.specs.declared.event.Event.{Event}
 use Rattle.dsql_history.specs.declared.event.Event.TheVariants.{Heard}
 use Rattle.dsql_history.specs.Readers.Journals.{journal}
 use Rattle.dsql_wires.specs.Asked.{Answers, Performs, Connects}
+use Rattle.dsql_wires.specs.Plans.{Made, plans_on}
 use Rattle.dsql_wires.specs.Told.{hears_nothing, fleet_told, FleetTells, retired_slot}
-use Rattle.dsql_wires.specs.WiresFit.{slot, HoldsWire, FitsAt, WiresFit, HearsEntry, OpensWire}
+use Rattle.dsql_wires.specs.WiresFit.{slot, HoldsWire, FitsAt, WiresFit, HearsEntry, KeepsPlans, OpensWire}
 use Rattle.dsql_wires.proofs.Permits.{conn_of_answered, sent_wired}
 use Rattle.dsql_wires.proofs.Reading.{unheard_told, answered_told, shut_told, connect_told, slot_told}
-use Rattle.dsql_wires.proofs.Telling.{tells_connect}
+use Rattle.dsql_wires.proofs.Plans.{answered_plans, heard_plans, opened_plans, shut_plans, unheard_plans}
+use Rattle.dsql_wires.proofs.Telling.{tells_connect, tells_none}
 use Rattle.dsql_wires.proofs.Wiring.{holds_here, holds_heard, held_fits, unheard_fits, answered_fits, shut_fits, opened_fits}
 
 -- an entry that an answer makes of a permit is of its connection and its call
@@ -71,11 +73,23 @@ performed_fits heard telling p e more past before after h opens shuts quiet fit 
     unheard_fits heard telling more (Heard e ∷ past) after quiet
     (answered_fits heard telling past e before after (ap is_connect of.call ∙ opens) (ap is_shut of.call ∙ shuts) (others_of p e before after of h.others) (noted_of heard p e before after of h.noted) fit)
 
-pub performed_told : (p : Permit) (e : Entry) (more past : List Event) → e ≡ answered p e.answer → is_connect p.call ≡ false → is_shut p.call ≡ false → list_all hears_nothing more ≡ true
-    → fleet_told (more ++ Heard e ∷ past) ≡ fleet_told past
-performed_told p e more past is opens shuts quiet =
+pub performed_told : (made : List Made) (p : Permit) (e : Entry) (more past : List Event) → e ≡ answered p e.answer → is_connect p.call ≡ false → is_shut p.call ≡ false → list_all hears_nothing more ≡ true
+    → fleet_told made (more ++ Heard e ∷ past) ≡ fleet_told made past
+performed_told made p e more past is opens shuts quiet =
     let of = is_of p e is in
-    unheard_told more (Heard e ∷ past) quiet ∙ answered_told past e (ap is_connect of.call ∙ opens) (ap is_shut of.call ∙ shuts)
+    unheard_told made more (Heard e ∷ past) quiet ∙ answered_told made past e (ap is_connect of.call ∙ opens) (ap is_shut of.call ∙ shuts)
+
+pub performed_plans : {W : Type 0} (heard : W → Option WireTold) (p : Permit) (e : Entry) (more past : List Event) (before after : List (Option (Journaled W))) → Performs heard p e before after → list_all hears_nothing more ≡ true
+    → KeepsPlans heard past (more ++ Heard e ∷ past) before after
+performed_plans heard p e more past before after h quiet made fit =
+    let of = is_of p e h.entry in
+    unheard_plans heard made more (Heard e ∷ past) after quiet
+    (answered_plans heard past e before after (others_of p e before after of h.others) (noted_of heard p e before after of h.noted) made fit)
+
+pub performed_tells : {W : Type 0} (heard : W → Option WireTold) (p : Permit) (e : Entry) (more past : List Event) (before after : List (Option (Journaled W))) (fleet : Option FleetTold) → Performs heard p e before after
+    → is_connect p.call ≡ false → is_shut p.call ≡ false → list_all hears_nothing more ≡ true → FleetTells heard [] fleet fleet past (more ++ Heard e ∷ past) before after
+performed_tells heard p e more past before after fleet h opens shuts quiet =
+    tells_none heard fleet past (more ++ Heard e ∷ past) before after (λ made. performed_told made p e more past h.entry opens shuts quiet) (performed_plans heard p e more past before after h quiet)
 
 -- A Shut was answered.
 pub wire_heard : {W : Type 0} (heard : W → Option WireTold) (e : Entry) (before after : Option (Journaled W)) → HearsEntry heard e before after → IsSome after
@@ -91,18 +105,24 @@ gone_fits {W} heard telling p e more past before mid after h shuts taken quiet f
     unheard_fits heard telling more (Heard e ∷ past) after quiet
     (shut_fits heard telling past e before mid after (ap is_shut of.call ∙ shuts) (others_of p e before mid of h.others) here fit)
 
-pub gone_tells : {W : Type 0} (heard : W → Option WireTold) (p : Permit) (e : Entry) (more past : List Event) (before mid : List (Option (Journaled W))) (fleet : Option FleetTold) → Performs heard p e before mid
-    → is_shut p.call ≡ true → IfSome (slot mid p.conn) (λ w. IfSome (heard w.wire) (TellsOf w.conn w.journal)) → list_all hears_nothing more ≡ true → WiresFit heard (is_some fleet) past before
-    → FleetTells fleet (retired_slot heard p.conn (slot mid p.conn) fleet) past (more ++ Heard e ∷ past)
-gone_tells heard p e more past before mid fleet h shuts exactly quiet fit =
+pub gone_tells : {W : Type 0} (heard : W → Option WireTold) (p : Permit) (e : Entry) (more past : List Event) (before mid after : List (Option (Journaled W))) (fleet : Option FleetTold) → Performs heard p e before mid
+    → is_shut p.call ≡ true → after ≡ set mid p.conn None → IfSome (slot mid p.conn) (λ w. IfSome (heard w.wire) (TellsOf w.conn w.journal)) → list_all hears_nothing more ≡ true
+    → WiresFit heard (is_some fleet) past before → FleetTells heard [] fleet (retired_slot heard p.conn (slot mid p.conn) fleet) past (more ++ Heard e ∷ past) before after
+gone_tells heard p e more past before mid after fleet h shuts taken exactly quiet fit =
     let of = is_of p e h.entry in
     let now : List Event = more ++ Heard e ∷ past in
-    let holds : HoldsWire heard (is_some fleet) e.conn (e ∷ journal past e.conn) (slot mid e.conn) = holds_heard heard (is_some fleet) past e before mid fit (noted_of heard p e before mid of h.noted) in
-    let tells : FleetTells fleet (retired_slot heard e.conn (slot mid e.conn) fleet) past now =
-    slot_told heard e.conn (e ∷ journal past e.conn) (slot mid e.conn) fleet past now holds
+    let noted : HearsEntry heard e (slot before e.conn) (slot mid e.conn) = noted_of heard p e before mid of h.noted in
+    let holds : HoldsWire heard (is_some fleet) e.conn (e ∷ journal past e.conn) (slot mid e.conn) = holds_heard heard (is_some fleet) past e before mid fit noted in
+    let here : after ≡ set mid e.conn None = subst (λ (n : ℕ). after ≡ set mid n None) (sym of.conn) taken in
+    let keeps : KeepsPlans heard past now before after =
+    λ made plans. unheard_plans heard made more (Heard e ∷ past) after quiet (shut_plans heard past e before mid after (others_of p e before mid of h.others) here made plans) in
+    let tells : FleetTells heard [] fleet (retired_slot heard e.conn (slot mid e.conn) fleet) past now before after =
+    slot_told heard e.conn (e ∷ journal past e.conn) (slot mid e.conn) fleet past now before after holds
     (subst (λ (n : ℕ). IfSome (slot mid n) (λ w. IfSome (heard w.wire) (TellsOf w.conn w.journal))) (sym of.conn) exactly)
-    (unheard_told more (Heard e ∷ past) quiet ∙ shut_told past e (ap is_shut of.call ∙ shuts)) in
-    subst (λ (n : ℕ). FleetTells fleet (retired_slot heard n (slot mid n) fleet) past now) of.conn tells
+    (λ made plans. heard_plans heard e (plans_on made e.conn) (slot before e.conn) (slot mid e.conn) noted (plans e.conn).told)
+    (λ made. unheard_told made more (Heard e ∷ past) quiet ∙ shut_told made past e (ap is_shut of.call ∙ shuts))
+    keeps in
+    subst (λ (n : ℕ). FleetTells heard [] fleet (retired_slot heard n (slot mid n) fleet) past now before after) of.conn tells
 
 -- A Connect was answered.
 pub connected_fits : {W : Type 0} (heard : W → Option WireTold) (telling : Bool) (p : Permit) (e : Entry) (more past : List Event) (before after : List (Option (Journaled W))) → Connects heard telling p e before after
@@ -116,10 +136,15 @@ connected_fits heard telling p e more past before after h opens nothing quiet fi
     (subst (λ (n : ℕ). OpensWire heard telling e (slot after n)) (sym of.conn) h.wire)
     fit)
 
-pub connected_tells : (p : Permit) (e : Entry) (more past : List Event) (fleet : Option FleetTold) → e ≡ answered p e.answer → is_memory e.answer ≡ false → is_connect p.call ≡ true → list_all hears_nothing more ≡ true
-    → FleetTells fleet (connected_after p.conn e.answer fleet) past (more ++ Heard e ∷ past)
-connected_tells p e more past fleet is no_want opens quiet =
-    let of = is_of p e is in
+pub connected_tells : {W : Type 0} (heard : W → Option WireTold) (telling : Bool) (p : Permit) (e : Entry) (more past : List Event) (before after : List (Option (Journaled W))) (fleet : Option FleetTold)
+    → Connects heard telling p e before after → is_memory e.answer ≡ false → is_connect p.call ≡ true → journal past p.conn ≡ [] → list_all hears_nothing more ≡ true
+    → FleetTells heard [] fleet (connected_after p.conn e.answer fleet) past (more ++ Heard e ∷ past) before after
+connected_tells heard telling p e more past before after fleet h no_want opens nothing quiet =
+    let of = is_of p e h.entry in
     let now : List Event = more ++ Heard e ∷ past in
-    subst (λ (n : ℕ). FleetTells fleet (connected_after n e.answer fleet) past now) of.conn
-    (tells_connect e.conn e.answer fleet past now no_want (unheard_told more (Heard e ∷ past) quiet ∙ connect_told past e (ap is_connect of.call ∙ opens)))
+    let unplanned = subst (λ (n : ℕ). IfSome (slot after n) (λ w. IfSome (heard w.wire) (λ told. told.plans ≡ []))) (sym of.conn) h.unplanned in
+    let keeps : KeepsPlans heard past now before after =
+    λ made plans. unheard_plans heard made more (Heard e ∷ past) after quiet
+    (opened_plans heard past e before after (ap (journal past) of.conn ∙ nothing) (others_of p e before after of h.others) unplanned made plans) in
+    subst (λ (n : ℕ). FleetTells heard [] fleet (connected_after n e.answer fleet) past now before after) of.conn
+    (tells_connect heard e.conn e.answer fleet past now before after no_want (λ made. unheard_told made more (Heard e ∷ past) quiet ∙ connect_told made past e (ap is_connect of.call ∙ opens)) keeps)

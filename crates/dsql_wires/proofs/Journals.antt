@@ -14,10 +14,10 @@ use Rattle.dsql_history.specs.Readers.Journals.{journal}
 use Rattle.dsql_wires.specs.Told.{hears_nothing}
 use Rattle.dsql_wires.specs.WiresFit.{was_opened, is_wired}
 
-same_to_itself : (n : ℕ) → (n == n) ≡ true
+pub same_to_itself : (n : ℕ) → (n == n) ≡ true
 same_to_itself n = grind (arith, nat_tests)
 
-other_number : (n m : ℕ) → n ≢ m → (n == m) ≡ false
+pub other_number : (n m : ℕ) → n ≢ m → (n == m) ≡ false
 other_number n m h = grind (arith, nat_tests)
 
 pub same_or_not : (n m : ℕ) → (n ≡ m) ⊎ (n ≢ m)

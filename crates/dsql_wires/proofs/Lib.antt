@@ -3,6 +3,8 @@ pub mod Journals
 pub mod Wiring
 pub mod Telling
 pub mod Reading
+pub mod Plans
+pub mod Planned
 pub mod Permits
 pub mod Asking
 pub mod Extending

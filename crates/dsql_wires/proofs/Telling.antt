@@ -1,5 +1,5 @@
 -- What a fleet tells adds up as a history goes on.
-use Rattle.std.proofs.Common.{◌≡◌, ℕ, Bool, true, false, List, [], ◌∷◌, ◌++◌, length, Option, Some, None, refl, sym, ◌∙◌, ap, subst, append_assoc, arith}
+use Rattle.std.proofs.Common.{◌≡◌, ◌⊎◌, inl, inr, ℕ, Bool, true, false, List, [], ◌∷◌, ◌++◌, length, Option, Some, None, refl, sym, ◌∙◌, ap, subst, append_assoc, arith}
 use Rattle.std.specs.Prelude.{option_map, is_some, IfSome}
 use Rattle.std.proofs.lemmas.List.{append-nil}
 use Rattle.dsql_driver.specs.Fits.{is_memory}
@@ -7,7 +7,9 @@ use Rattle.dsql_driver.specs.Wires.{WireTold, FleetTold, RetiredWire, with_conne
 use Rattle.dsql_driver.specs.declared.answer.DriverAnswer.{DriverAnswer}
 use Rattle.dsql_driver.specs.declared.answer.DriverAnswer.TheVariants.{Memory}
 use Rattle.dsql_history.specs.declared.event.Event.{Event}
+use Rattle.dsql_wires.specs.Plans.{Made}
 use Rattle.dsql_wires.specs.Told.{fleet_told, FleetTells, told_then, with_told, TellsAtMost, LeavesAtMost, SameAsked, retired_slot, retired_from}
+use Rattle.dsql_wires.specs.WiresFit.{KeepsPlans, PlansFit}
 use Rattle.dsql_wire.specs.Journaled.{Journaled}
 
 -- a wire that tells tells just this, and it tells where all do
@@ -16,18 +18,23 @@ pub record HasTold (telling : Bool) (told : Option WireTold) (all : WireTold) : 
   pub tells : telling ≡ true → is_some told ≡ true
 
 -- the fleet isn't asked
-pub tells_none : (before : Option FleetTold) (old new : List Event) → fleet_told new ≡ fleet_told old → FleetTells before before old new
-tells_none before old new same = record { told = λ t h. h ∙ ap (λ more. option_map (told_then more) t) (sym same); telling = refl }
+pub tells_none : {W : Type 0} (heard : W → Option WireTold) (before : Option FleetTold) (old new : List Event) (slots now : List (Option (Journaled W))) → ((made : List Made) → fleet_told made new ≡ fleet_told made old)
+    → KeepsPlans heard old new slots now → FleetTells heard [] before before old new slots now
+tells_none heard before old new slots now same keeps = record {
+  told = λ made t j. record { fleet = j.fleet ∙ ap (λ more. option_map (told_then more) t) (sym (same made)); wires = keeps made j.wires };
+  telling = refl;
+}
 
 -- what was told before is told, and then what came since
-pub tells_then : (before between after : Option FleetTold) (old mid new : List Event) → FleetTells before between old mid → FleetTells between after mid new → FleetTells before after old new
-tells_then before between after old mid new f g = record { told = λ t h. g.told t (f.told t h); telling = g.telling ∙ f.telling }
+pub tells_then : {W : Type 0} (heard : W → Option WireTold) (more : List Made) (before between after : Option FleetTold) (old mid new : List Event) (slots halfway now : List (Option (Journaled W)))
+    → FleetTells heard more before between old mid slots halfway → FleetTells heard [] between after mid new halfway now → FleetTells heard more before after old new slots now
+tells_then heard more before between after old mid new slots halfway now f g = record { told = λ made t j. g.told (more ++ made) t (f.told made t j); telling = g.telling ∙ f.telling }
 
 connect_then : (c : ℕ) (a : DriverAnswer) (more : FleetTold) (t : Option FleetTold)
     → option_map (with_connects ((c, a) ∷ [])) (option_map (told_then more) t) ≡ option_map (told_then (with_connects ((c, a) ∷ []) more)) t
 connect_then c a more None = refl
 connect_then c a more (Some first) =
-    ap (λ cs. Some (record { connects = cs; plans = first.plans; retired = first.retired ++ more.retired })) (append_assoc first.connects more.connects ((c, a) ∷ []))
+    ap (λ cs. Some (record { connects = cs; plans = first.plans ++ more.plans; retired = first.retired ++ more.retired })) (append_assoc first.connects more.connects ((c, a) ∷ []))
 
 heard_answer : (c : ℕ) (a : DriverAnswer) (t : Option FleetTold) → is_memory a ≡ false → connected_after c a t ≡ option_map (with_connects ((c, a) ∷ [])) t
 heard_answer c Memory t h = absurd cc
@@ -39,10 +46,14 @@ some_asked c _ None = refl
 some_asked c _ (Some told) = refl
 
 -- the fleet was asked for one Connect, which was heard
-pub tells_connect : (c : ℕ) (a : DriverAnswer) (before : Option FleetTold) (old new : List Event) → is_memory a ≡ false
-    → fleet_told new ≡ with_connects ((c, a) ∷ []) (fleet_told old) → FleetTells before (connected_after c a before) old new
-tells_connect c a before old new heard same = record {
-  told = λ t h. heard_answer c a before heard ∙ ap (option_map (with_connects ((c, a) ∷ []))) h ∙ connect_then c a (fleet_told old) t ∙ ap (λ more. option_map (told_then more) t) (sym same);
+pub tells_connect : {W : Type 0} (heard : W → Option WireTold) (c : ℕ) (a : DriverAnswer) (before : Option FleetTold) (old new : List Event) (slots now : List (Option (Journaled W))) → is_memory a ≡ false
+    → ((made : List Made) → fleet_told made new ≡ with_connects ((c, a) ∷ []) (fleet_told made old)) → KeepsPlans heard old new slots now → FleetTells heard [] before (connected_after c a before) old new slots now
+tells_connect heard c a before old new slots now no_want same keeps = record {
+  told = λ made t j. record {
+    fleet =
+        heard_answer c a before no_want ∙ ap (option_map (with_connects ((c, a) ∷ []))) j.fleet ∙ connect_then c a (fleet_told made old) t ∙ ap (λ more. option_map (told_then more) t) (sym (same made));
+    wires = keeps made j.wires;
+  };
   telling = some_asked c a before;
 }
 
@@ -58,20 +69,27 @@ gone_then c told all (Some b) None more h e = absurd cc
 gone_then c None all (Some b) (Some first) more h e = let k : false ≡ true = h.tells refl in absurd cc
 gone_then c (Some told) all (Some b) (Some first) more h e =
     let is : b ≡ told_then more first = cc in
-    rw (is, h.exactly) (ap (λ (rs : List RetiredWire). Some (record { connects = first.connects ++ more.connects; plans = first.plans; retired = rs })) (append_assoc first.retired more.retired ((c, all) ∷ [])))
+    rw (is, h.exactly) (ap (λ (rs : List RetiredWire). Some (record { connects = first.connects ++ more.connects; plans = first.plans ++ more.plans; retired = rs })) (append_assoc first.retired more.retired ((c, all) ∷ [])))
 
-telling_gone : (c : ℕ) (told : Option WireTold) (all : WireTold) (before : Option FleetTold) → HasTold (is_some before) told all → is_some (retired_after c told before) ≡ is_some before
-telling_gone c None all None h = refl
-telling_gone c (Some told) all None h = refl
-telling_gone c None all (Some b) h = let k : false ≡ true = h.tells refl in absurd cc
-telling_gone c (Some told) all (Some b) h = refl
+telling_gone : (c : ℕ) (told : Option WireTold) (before : Option FleetTold) → (is_some before ≡ true → is_some told ≡ true) → is_some (retired_after c told before) ≡ is_some before
+telling_gone c None None h = refl
+telling_gone c (Some told) None h = refl
+telling_gone c None (Some b) h = let k : false ≡ true = h refl in absurd cc
+telling_gone c (Some told) (Some b) h = refl
 
 -- connection c is gone, and its wire was given back
-pub tells_gone : (c : ℕ) (told : Option WireTold) (all : WireTold) (before : Option FleetTold) (old new : List Event) → HasTold (is_some before) told all
-    → fleet_told new ≡ with_retired ((c, all) ∷ []) (fleet_told old) → FleetTells before (retired_after c told before) old new
-tells_gone c told all before old new h same = record {
-  told = λ t e. gone_then c told all before t (fleet_told old) h e ∙ ap (λ more. option_map (told_then more) t) (sym same);
-  telling = telling_gone c told all before h;
+pub tells_gone : {W : Type 0} (heard : W → Option WireTold) (c : ℕ) (told : Option WireTold) (all : List Made → WireTold) (before : Option FleetTold) (old new : List Event) (slots now : List (Option (Journaled W)))
+    → (is_some before ≡ true → is_some told ≡ true) → ((made : List Made) → PlansFit heard made old slots → IfSome told (λ t. t ≡ all made))
+    → ((made : List Made) → fleet_told made new ≡ with_retired ((c, all made) ∷ []) (fleet_told made old)) → KeepsPlans heard old new slots now
+    → FleetTells heard [] before (retired_after c told before) old new slots now
+tells_gone heard c told all before old new slots now tells exactly same keeps = record {
+  told = λ made t j. record {
+    fleet =
+        gone_then c told (all made) before t (fleet_told made old) (record { exactly = exactly made j.wires; tells = tells }) j.fleet
+        ∙ ap (λ more. option_map (told_then more) t) (sym (same made));
+    wires = keeps made j.wires;
+  };
+  telling = telling_gone c told before tells;
 }
 
 pub no_more : (t : Option FleetTold) → t ≡ option_map (with_connects []) t
@@ -79,19 +97,45 @@ no_more None = refl
 no_more (Some told) = ap (λ cs. Some (record told { connects = cs })) (sym (append-nil told.connects))
 
 -- what is told is told at most
-pub at_most : (before after : Option FleetTold) (old new : List Event) → FleetTells before after old new → TellsAtMost before after old new
-at_most before after old new f = record { more = []; few = omega arith; told = λ t h. f.told t h ∙ no_more (with_told t new) }
+pub at_most : {W : Type 0} (heard : W → Option WireTold) (more : List Made) (before after : Option FleetTold) (old new : List Event) (slots now : List (Option (Journaled W))) → FleetTells heard more before after old new slots now
+    → TellsAtMost heard more before after old new slots
+at_most heard more before after old new slots now f = record {
+  more = [];
+  few = omega arith;
+  planned = more;
+  which = inl refl;
+  told = λ made t j. (f.told made t j).fleet ∙ no_more (with_told (more ++ made) t new);
+}
 
-pub tells_then_at_most : (before between after : Option FleetTold) (old mid new : List Event) → FleetTells before between old mid → TellsAtMost between after mid new → TellsAtMost before after old new
-tells_then_at_most before between after old mid new f g = record { more = g.more; few = g.few; told = λ t h. g.told t (f.told t h) }
+-- where nothing is planned any more
+none_planned : (planned : List Made) → (planned ≡ []) ⊎ (planned ≡ []) → planned ≡ []
+none_planned planned (inl h) = h
+none_planned planned (inr h) = h
+
+pub tells_then_at_most : {W : Type 0} (heard : W → Option WireTold) (more : List Made) (before between after : Option FleetTold) (old mid new : List Event) (slots halfway : List (Option (Journaled W)))
+    → FleetTells heard more before between old mid slots halfway → TellsAtMost heard [] between after mid new halfway → TellsAtMost heard more before after old new slots
+tells_then_at_most heard more before between after old mid new slots halfway f g = record {
+  more = g.more;
+  few = g.few;
+  planned = more;
+  which = inl refl;
+  told = λ made t j. g.told (more ++ made) t (f.told made t j) ∙ ap (λ planned. option_map (with_connects g.more) (with_told (planned ++ (more ++ made)) t new)) (none_planned g.planned g.which);
+}
 
 -- the fleet was asked for a Connect whose answer couldn't be taken in
-pub at_most_one : (c : ℕ) (a : DriverAnswer) (before : Option FleetTold) (old : List Event) → is_memory a ≡ false → TellsAtMost before (connected_after c a before) old old
-at_most_one c a before old heard = record {
+pub at_most_one : {W : Type 0} (heard : W → Option WireTold) (c : ℕ) (a : DriverAnswer) (before : Option FleetTold) (old : List Event) (slots : List (Option (Journaled W))) → is_memory a ≡ false
+    → TellsAtMost heard [] before (connected_after c a before) old old slots
+at_most_one heard c a before old slots no_want = record {
   more = (c, a) ∷ [];
   few = omega arith;
-  told = λ t h. heard_answer c a before heard ∙ ap (option_map (with_connects ((c, a) ∷ []))) h;
+  planned = [];
+  which = inl refl;
+  told = λ made t j. heard_answer c a before no_want ∙ ap (option_map (with_connects ((c, a) ∷ []))) j.fleet;
 }
+
+-- the fleet wasn't asked, and what was to be planned wasn't
+pub at_most_none : {W : Type 0} (heard : W → Option WireTold) (planning : List Made) (before : Option FleetTold) (old : List Event) (slots : List (Option (Journaled W))) → TellsAtMost heard planning before before old old slots
+at_most_none heard planning before old slots = record { more = []; few = omega arith; planned = []; which = inr refl; told = λ made t j. j.fleet ∙ no_more (with_told made t old) }
 
 pub same_both : (t : Option FleetTold) → SameAsked t t
 same_both None = tt
@@ -117,5 +161,11 @@ pub retired_same : {W : Type 0} (tells : W → Option WireTold) (slots : List (O
 retired_same tells slots t = same_retired tells slots t t (same_both t)
 
 -- the wires that are left were given back
-pub leaves : (before between after : Option FleetTold) (old new : List Event) → TellsAtMost before between old new → SameAsked between after → LeavesAtMost before after old new
-leaves before between after old new f same = record { more = f.more; few = f.few; asked = λ t h. subst (λ (told : Option FleetTold). SameAsked told after) (f.told t h) same }
+pub leaves : {W : Type 0} (heard : W → Option WireTold) (before between after : Option FleetTold) (old new : List Event) (slots : List (Option (Journaled W))) → TellsAtMost heard [] before between old new slots
+    → SameAsked between after → LeavesAtMost heard before after old new slots
+leaves heard before between after old new slots f same = record {
+  more = f.more;
+  few = f.few;
+  asked = λ made t j. subst (λ (told : Option FleetTold). SameAsked told after)
+      (f.told made t j ∙ ap (λ planned. option_map (with_connects f.more) (with_told (planned ++ made) t new)) (none_planned f.planned f.which)) same;
+}

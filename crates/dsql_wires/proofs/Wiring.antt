@@ -1,6 +1,6 @@
 -- Wires that fit a history fit the next one too.
 use Rattle.std.proofs.Common.{◌≡◌, ◌≢◌, inl, inr, ℕ, Bool, true, false, List, [], ◌∷◌, ◌++◌, Option, Some, None, refl, sym, ◌∙◌, ap, subst, set}
-use Rattle.std.specs.Prelude.{is_some, IfSome, IsSomeAnd, MatchBool}
+use Rattle.std.specs.Prelude.{is_some, IsSomeAnd, MatchBool}
 use Rattle.std.specs.List.{list_all}
 use Rattle.dsql_driver.specs.Kinds.{is_connect, is_shut}
 use Rattle.dsql_driver.specs.Wires.{WireTold, told_after}
@@ -24,12 +24,6 @@ some_told call Memory told = refl
 some_told call _ None = refl
 some_told call _ (Some told) = refl
 
--- and it plans no fault
-still_unplanned : (call : DriverCall) (answer : DriverAnswer) (told : Option WireTold) → IfSome told (λ t. t.plans ≡ []) → IfSome (told_after call answer told) (λ t. t.plans ≡ [])
-still_unplanned call Memory told h = h
-still_unplanned call _ None h = tt
-still_unplanned call _ (Some told) h = h
-
 -- a wire has heard one entry more
 holds_more : {W : Type 0} (heard : W → Option WireTold) (telling : Bool) (e : Entry) (c : ℕ) (entries : List Entry) (before after : Option (Journaled W)) → HoldsWire heard telling c entries before
     → HearsEntry heard e before after → HoldsWire heard telling c (e ∷ entries) after
@@ -38,7 +32,6 @@ holds_more heard telling e c entries (Some b) None h t = absurd t
 holds_more heard telling e c entries (Some b) (Some a) h t = record {
   conn = t.conn ∙ h.conn;
   journal = t.journal ∙ ap (λ j. e ∷ j) h.journal;
-  unplanned = subst (λ (told : Option WireTold). IfSome told (λ t. t.plans ≡ [])) (sym t.told) (still_unplanned e.call e.answer (heard b.wire) h.unplanned);
   tells = λ all. ap is_some t.told ∙ some_told e.call e.answer (heard b.wire) ∙ h.tells all;
 }
 
@@ -51,7 +44,7 @@ none_here : {W : Type 0} (heard : W → Option WireTold) (telling : Bool) (c : �
 none_here heard telling c entries w none is = subst (λ (b : Bool). MatchBool b (HoldsWire heard telling c entries w) (w ≡ None)) (sym none) is
 
 -- a slot that isn't empty is that of a connection with a wire
-some_wired : {W : Type 0} (heard : W → Option WireTold) (telling : Bool) (c : ℕ) (entries : List Entry) (w : Option (Journaled W)) (wired : Bool) → is_some w ≡ true
+pub some_wired : {W : Type 0} (heard : W → Option WireTold) (telling : Bool) (c : ℕ) (entries : List Entry) (w : Option (Journaled W)) (wired : Bool) → is_some w ≡ true
     → MatchBool wired (HoldsWire heard telling c entries w) (w ≡ None) → HoldsWire heard telling c entries w
 some_wired heard telling c entries w true some fit = fit
 some_wired heard telling c entries w false some fit = let clash : true ≡ false = sym some ∙ ap is_some fit in absurd cc
@@ -60,7 +53,7 @@ heard_some : {W : Type 0} (heard : W → Option WireTold) (e : Entry) (before af
 heard_some heard e None after h = absurd h
 heard_some heard e (Some b) after h = refl
 
-holds_wired : {W : Type 0} (heard : W → Option WireTold) (telling : Bool) (c : ℕ) (entries : List Entry) (w : Option (Journaled W)) (wired : Bool) → is_wired entries ≡ wired
+pub holds_wired : {W : Type 0} (heard : W → Option WireTold) (telling : Bool) (c : ℕ) (entries : List Entry) (w : Option (Journaled W)) (wired : Bool) → is_wired entries ≡ wired
     → HoldsWire heard telling c entries w → MatchBool wired (HoldsWire heard telling c entries w) (w ≡ None) → is_wired entries ≡ true
 holds_wired heard telling c entries w true is holds fit = is
 holds_wired heard telling c entries None false is holds fit = absurd holds
@@ -83,7 +76,7 @@ held_fits {W} heard telling c entries e (Some w) fit fits =
     subst (λ (j : List Entry). fits_at_its_place j e ≡ true) holds.journal fits
 
 -- Only the slot and the journal of connection d change.
-fit_but_one : {W : Type 0} (heard : W → Option WireTold) (telling : Bool) (past now : List Event) (before after : List (Option (Journaled W))) (d : ℕ)
+pub fit_but_one : {W : Type 0} (heard : W → Option WireTold) (telling : Bool) (past now : List Event) (before after : List (Option (Journaled W))) (d : ℕ)
     → ((c : ℕ) → c ≢ d → journal now c ≡ journal past c) → ((c : ℕ) → c ≢ d → slot after c ≡ slot before c)
     → WiresFit heard telling past before → FitsAt heard telling d (journal now d) (slot after d) → WiresFit heard telling now after
 fit_but_one {W} heard telling past now before after d journals slots fit here =
@@ -145,15 +138,24 @@ opened_fits heard telling past e before after opens nothing others wire fit =
     (subst (λ (j : List Entry). FitsAt heard telling e.conn j (slot after e.conn)) (sym alone)
     (subst (λ (b : Bool). MatchBool b (HoldsWire heard telling e.conn (e ∷ []) (slot after e.conn)) (slot after e.conn ≡ None)) (sym (opened_wired e opens)) wire))
 
-still_held : {W : Type 0} (heard : W → Option WireTold) (telling : Bool) (c : ℕ) (entries : List Entry) (before after : Journaled W) (wired : Bool) → SameHeard heard before after
+-- A wire has heard what it had, whatever was planned on it.
+pub record SameButPlans {W : Type 0} (heard : W → Option WireTold) (before after : Journaled W) : Type 0 where
+  pub conn : after.conn ≡ before.conn
+  pub journal : after.journal ≡ before.journal
+  pub telling : is_some (heard after.wire) ≡ is_some (heard before.wire)
+
+still_held : {W : Type 0} (heard : W → Option WireTold) (telling : Bool) (c : ℕ) (entries : List Entry) (before after : Journaled W) (wired : Bool) → SameButPlans heard before after
     → MatchBool wired (HoldsWire heard telling c entries (Some before)) (Some before ≡ None) → MatchBool wired (HoldsWire heard telling c entries (Some after)) (Some after ≡ None)
 still_held heard telling c entries before after true same h = record {
   conn = same.conn ∙ h.conn;
   journal = same.journal ∙ h.journal;
-  unplanned = subst (λ (told : Option WireTold). IfSome told (λ t. t.plans ≡ [])) (sym same.told) h.unplanned;
-  tells = λ all. ap is_some same.told ∙ h.tells all;
+  tells = λ all. same.telling ∙ h.tells all;
 }
 still_held heard telling c entries before after false same h = absurd cc
+
+pub fits_at_still : {W : Type 0} (heard : W → Option WireTold) (telling : Bool) (c : ℕ) (entries : List Entry) (before after : Journaled W) → SameButPlans heard before after → FitsAt heard telling c entries (Some before)
+    → FitsAt heard telling c entries (Some after)
+fits_at_still heard telling c entries before after same h = still_held heard telling c entries before after (is_wired entries) same h
 
 -- A wire that has heard what it had goes back into its slot.
 pub still_fits : {W : Type 0} (heard : W → Option WireTold) (ws : List (Option (Journaled W))) (i : ℕ) (before after : Journaled W) → slot ws i ≡ Some before → SameHeard heard before after
@@ -161,6 +163,7 @@ pub still_fits : {W : Type 0} (heard : W → Option WireTold) (ws : List (Option
 still_fits {W} heard ws i before after is same = λ past telling fit.
     let J = journal past i in
     let had : FitsAt heard telling i J (Some before) = subst (λ (w : Option (Journaled W)). FitsAt heard telling i J w) is (fit i) in
-    let has : FitsAt heard telling i J (Some after) = still_held heard telling i J before after (is_wired J) same had in
+    let has : FitsAt heard telling i J (Some after) =
+    fits_at_still heard telling i J before after (record { conn = same.conn; journal = same.journal; telling = ap is_some same.told }) had in
     fit_but_one heard telling past past ws (set ws i (Some after)) i (λ c n. refl) (slot_elsewhere ws i (Some after)) fit
     (subst (λ (w : Option (Journaled W)). FitsAt heard telling i J w) (sym (set_wire ws i before after is)) has)

@@ -1,3 +1,4 @@
+pub mod Plans
 pub mod WiresFit
 pub mod Asked
 pub mod Told

@@ -3,12 +3,13 @@ use Rattle.std.specs.Prelude.{ℕ, ◌≡◌, Bool, true, not, ◌&&◌, List, [
 use Rattle.std.specs.List.{list_any}
 use Rattle.dsql_driver.specs.Fits.{is_done}
 use Rattle.dsql_driver.specs.Kinds.{is_connect}
-use Rattle.dsql_driver.specs.Wires.{WireTold, told_after}
+use Rattle.dsql_driver.specs.Wires.{WireTold, Plan, told_after, planned_after}
 use Rattle.dsql_journal.specs.declared.entry.Entry.{Entry}
 use Rattle.dsql_journal.specs.Readers.{was_shut}
 use Rattle.dsql_history.specs.declared.event.Event.{Event}
 use Rattle.dsql_history.specs.Readers.Journals.{journal}
 use Rattle.dsql_wire.specs.Journaled.{Journaled}
+use Rattle.dsql_wires.specs.Plans.{Made, plans_on}
 
 -- the wire of connection c, if it has one
 abbrev pub slot : {W : Type 0} → List (Option W) → ℕ → Option W
@@ -22,11 +23,10 @@ was_opened entries = list_any (λ x. is_connect x.call && is_done x.answer) entr
 abbrev pub is_wired : List Entry → Bool
 is_wired entries = was_opened entries && not (was_shut entries)
 
--- A wire of connection c with just this journal, which tells where all do; what it tells is its journal then, and no fault was planned on it.
+-- A wire of connection c with just this journal, which tells where all do; what it tells is its journal then.
 pub record IsWireOf {W : Type 0} (heard : W → Option WireTold) (telling : Bool) (c : ℕ) (entries : List Entry) (wire : Journaled W) : Type 0 where
   pub conn : wire.conn ≡ c
   pub journal : wire.journal ≡ entries
-  pub unplanned : IfSome (heard wire.wire) (λ told. told.plans ≡ [])
   pub tells : telling ≡ true → is_some (heard wire.wire) ≡ true
 
 -- there is a wire, and it is one of connection c with just this journal
@@ -41,6 +41,19 @@ FitsAt heard telling c entries wire = MatchBool (is_wired entries) (HoldsWire he
 -- Each connection that was opened and not shut has its wire, whose journal is the connection's. No other has one.
 abbrev pub WiresFit : {W : Type 0} → (W → Option WireTold) → Bool → List Event → List (Option (Journaled W)) → Type 0
 WiresFit heard telling past slots = (c : ℕ) → FitsAt heard telling c (journal past c) (slot slots c)
+
+-- a fault that is planned for connection c after this history
+abbrev pub made_at : ℕ → Plan → List Event → Made
+made_at c plan past = record { wired = is_wired (journal past c); conn = c; plan = plan }
+
+-- What is in a connection's slot fits the plans that were made on its wire: a wire that tells tells just these, and before anything was heard of the connection there were none.
+pub record PlansAt {W : Type 0} (heard : W → Option WireTold) (plans : List Plan) (entries : List Entry) (wire : Option (Journaled W)) : Type 0 where
+  pub unheard : entries ≡ [] → plans ≡ []
+  pub told : IfSome wire (λ w. IfSome (heard w.wire) (λ told. told.plans ≡ plans))
+
+-- Each wire that tells tells just the plans that were made on it.
+abbrev pub PlansFit : {W : Type 0} → (W → Option WireTold) → List Made → List Event → List (Option (Journaled W)) → Type 0
+PlansFit heard made past slots = (c : ℕ) → PlansAt heard (plans_on made c) (journal past c) (slot slots c)
 
 -- a wire hears one entry more
 pub record Hears {W : Type 0} (heard : W → Option WireTold) (e : Entry) (before after : Journaled W) : Type 0 where
@@ -59,6 +72,17 @@ pub record SameHeard {W : Type 0} (heard : W → Option WireTold) (before after 
   pub journal : after.journal ≡ before.journal
   pub told : heard after.wire ≡ heard before.wire
 
+-- a fault is planned on a wire
+pub record HearsPlan {W : Type 0} (heard : W → Option WireTold) (plan : Plan) (before after : Journaled W) : Type 0 where
+  pub conn : after.conn ≡ before.conn
+  pub journal : after.journal ≡ before.journal
+  pub told : heard after.wire ≡ planned_after plan (heard before.wire)
+
+-- a fault is planned on the wire in a slot
+abbrev pub HearsPlanIn : {W : Type 0} → (W → Option WireTold) → Plan → Option (Journaled W) → Option (Journaled W) → Type 0
+HearsPlanIn heard plan (Some before) (Some after) = HearsPlan heard plan before after
+HearsPlanIn heard plan _ _ = ⊥
+
 -- where the Connect was answered Done there is a new wire, whose journal is that entry, and else none
 abbrev pub OpensWire : {W : Type 0} → (W → Option WireTold) → Bool → Entry → Option (Journaled W) → Type 0
 OpensWire heard telling e wire = MatchBool (is_done e.answer) (HoldsWire heard telling e.conn (e ∷ []) wire) (wire ≡ None)
@@ -66,3 +90,7 @@ OpensWire heard telling e wire = MatchBool (is_done e.answer) (HoldsWire heard t
 -- wires that fit the old history fit the new one afterwards, whether all tell or not
 abbrev pub KeepsFit : {W : Type 0} → (W → Option WireTold) → List Event → List Event → List (Option (Journaled W)) → List (Option (Journaled W)) → Type 0
 KeepsFit heard old new before after = (telling : Bool) → WiresFit heard telling old before → WiresFit heard telling new after
+
+-- where each wire told just the plans that were made on it, it does afterwards
+abbrev pub KeepsPlans : {W : Type 0} → (W → Option WireTold) → List Event → List Event → List (Option (Journaled W)) → List (Option (Journaled W)) → Type 0
+KeepsPlans heard old new before after = (made : List Made) → PlansFit heard made old before → PlansFit heard made new after

@@ -1,5 +1,5 @@
 //! A connection is opened, and its wire put into its slot.
-ghost use Rattle.std.specs.Prelude.{◌≡◌, ◌≢◌, ℕ, [], true, None, is_some, IfOk, OnOk, OnErr};
+ghost use Rattle.std.specs.Prelude.{◌≡◌, ◌≢◌, ℕ, [], true, None, is_some, IfOk, IfSome, OnOk, OnErr};
 ghost use Rattle.dsql_driver.specs.Wires.{connected_after};
 ghost use Rattle.dsql_wire.specs.Opening.{opens};
 ghost use Rattle.dsql_wires.specs.Asked.{Answers};
@@ -25,6 +25,8 @@ pub fn connect_wire<F: Fleet>(
     ensures others { OnOk result ((c : ℕ) → c ≢ permit.conn → slot wires.new c ≡ slot wires.old c) }
     ensures wire { IfOk result
         (λ heard. OpensWire F.Wire.told (is_some (F.told fleet.old)) heard (slot wires.new permit.conn)) }
+    ensures unplanned { OnOk result
+        (IfSome (slot wires.new permit.conn) (λ w. IfSome (F.Wire.told w.wire) (λ told. told.plans ≡ []))) }
     ensures asked { IfOk result
         (λ heard. F.told fleet.new ≡ connected_after permit.conn heard.answer (F.told fleet.old)) }
     ensures same { OnErr result ((c : ℕ) → slot wires.new c ≡ slot wires.old c) }
@@ -48,6 +50,8 @@ fn open_wire<F: Fleet>(
     ensures heard { IfOk result (λ opened. Answers permit [] opened.heard) }
     ensures wire { IfOk result
         (λ opened. OpensWire F.Wire.told (is_some (F.told fleet.old)) opened.heard opened.wire) }
+    ensures unplanned { IfOk result
+        (λ opened. IfSome opened.wire (λ w. IfSome (F.Wire.told w.wire) (λ told. told.plans ≡ []))) }
     ensures asked { IfOk result
         (λ opened. F.told fleet.new ≡ connected_after permit.conn opened.heard.answer (F.told fleet.old)) }
     ensures unasked { OnErr result (F.told fleet.new ≡ F.told fleet.old) }

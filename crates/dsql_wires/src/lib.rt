@@ -4,9 +4,11 @@
 
 mod connecting;
 pub mod laws;
+mod planning;
 mod retiring;
 mod wires;
 
 pub use connecting::connect_wire;
+pub use planning::plan;
 pub use retiring::{retire, retire_all};
 pub use wires::Wires;

@@ -1,4 +1,4 @@
-ghost use Rattle.std.specs.Prelude.{◌≡◌, ◌≢◌, ◌<◌, ℕ, true, false, Bool, List, [], ◌∷◌, length, vec_len, ◌≤◌, ◌^◌, slice_set, Option, Some, None, IfOk, OnOk, OnErr, IsSome, IsSomeAnd};
+ghost use Rattle.std.specs.Prelude.{◌≡◌, ◌≢◌, ◌<◌, ℕ, true, false, Bool, List, [], ◌∷◌, length, vec_len, ◌≤◌, ◌^◌, slice_set, Option, Some, None, is_some, IfOk, OnOk, OnErr, IsSome, IsSomeAnd};
 ghost use Rattle.dsql_driver.specs.Fits.{is_memory};
 ghost use Rattle.dsql_driver.specs.declared.caps.Caps.{Caps};
 ghost use Rattle.dsql_journal.specs.HandlesAndCursors.{fits_at_its_place};
@@ -6,9 +6,9 @@ ghost use Rattle.dsql_tenure.specs.Judged.{answered};
 ghost use Rattle.dsql_wire.specs.Journaled.{MayBeSent};
 ghost use Rattle.dsql_history.specs.declared.event.Event.{Event};
 ghost use Rattle.dsql_history.specs.declared.event.Event.TheVariants.{Run};
-ghost use Rattle.dsql_wires.specs.WiresFit.{slot, WiresFit, KeepsFit, Hears, HearsEntry, SameHeard};
+ghost use Rattle.dsql_wires.specs.WiresFit.{slot, WiresFit, PlansFit, KeepsFit, Hears, HearsEntry, HearsPlan, HearsPlanIn, SameHeard};
 
-use dsql_driver::Wire;
+use dsql_driver::{Planned, Wire};
 use dsql_journal::Permit;
 use dsql_value::Memory;
 use dsql_wire::{Heard, JournaledWire, WireFault};
@@ -39,6 +39,7 @@ impl<W: Wire> Wires<W> {
         ensures empty { result ≡ [] }
         ensures fitting { (telling : Bool) (version : ℕ) (caps : Caps)
             → WiresFit W.told telling (Run version caps ∷ []) result }
+        ensures unplanned { (version : ℕ) (caps : Caps) → PlansFit W.told [] (Run version caps ∷ []) result }
     {
         Wires {
             alloc,
@@ -95,6 +96,28 @@ impl<W: Wire> Wires<W> {
         ensures after { self.new ≡ slice_set self.old number None }
     {
         self.slots[number as usize].take().unwrap()
+    }
+
+    /// Whether this connection has a wire.
+    pub(crate) fn has(&self, number: u32) -> bool
+        ensures { result ≡ is_some (slot self.now number) }
+    {
+        match self.slots.get(number as usize) {
+            Some(slot) => slot.is_some(),
+            None => false,
+        }
+    }
+
+    /// Plans a fault in place of the answer to the nth call on the wire of this connection.
+    pub(crate) fn plan(&mut self, number: u32, nth: u32, what: Planned) -> Result<(), Memory>
+        requires { IsSome (slot self.old number) }
+        ensures planned { OnOk result (HearsPlanIn W.told (nth, what) (slot self.old number) (slot self.new number)) }
+        ensures others { (c : ℕ) → c ≢ number → slot self.new c ≡ slot self.old c }
+    {
+        match &mut self.slots[number as usize] {
+            Some(wire) => plan_on(wire, nth, what),
+            None => unreachable!(),
+        }
     }
 
     /// The slots, in the order of the connections' numbers.
@@ -156,4 +179,11 @@ fn perform_on<W: Wire>(wire: &mut JournaledWire<W>, permit: Permit) -> Result<He
         Err(WireFault::Memory(_)) => Err(Memory),
         Err(WireFault::Stray(_)) => unreachable!(),
     }
+}
+
+/// Plans a fault on a wire.
+fn plan_on<W: Wire>(wire: &mut JournaledWire<W>, nth: u32, what: Planned) -> Result<(), Memory>
+    ensures planned { OnOk result (HearsPlan W.told (nth, what) wire.old wire.new) }
+{
+    wire.plan(nth, what)
 }

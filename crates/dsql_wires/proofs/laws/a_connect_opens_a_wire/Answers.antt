@@ -9,7 +9,7 @@ pub returns-clause-wires : goal.returns-clause-wires
 returns-clause-wires g c = connected_fits g.W.Wire.told
 
 pub returns-clause-tells : goal.returns-clause-tells
-returns-clause-tells g c = connected_tells
+returns-clause-tells g c = connected_tells g.W.Wire.told
 
 pub returns-clause-unheard : goal.returns-clause-unheard
-returns-clause-unheard g c = λ n answer past fleet heard. at_most_one n answer fleet past heard
+returns-clause-unheard g c = λ n answer past fleet slots heard. at_most_one g.W.Wire.told n answer fleet past slots heard

@@ -1,7 +1,4 @@
-use Rattle.std.proofs.Common.{◌∷◌, ◌++◌}
-use Rattle.dsql_history.specs.declared.event.Event.TheVariants.{Heard}
-use Rattle.dsql_wires.proofs.Asking.{wire_fits, performed_fits, performed_told}
-use Rattle.dsql_wires.proofs.Telling.{tells_none}
+use Rattle.dsql_wires.proofs.Asking.{wire_fits, performed_fits, performed_told, performed_tells}
 use Rattle.dsql_wires.proofs.laws.an_answer_keeps_the_wires.Goals as goal
 
 pub returns-clause-fits : goal.returns-clause-fits
@@ -14,4 +11,4 @@ pub returns-clause-told : goal.returns-clause-told
 returns-clause-told g c = performed_told
 
 pub returns-clause-tells : goal.returns-clause-tells
-returns-clause-tells g c = λ fleet p e more past is opens shuts quiet. tells_none fleet past (more ++ Heard e ∷ past) (performed_told p e more past is opens shuts quiet)
+returns-clause-tells g c = performed_tells g.W.Wire.told

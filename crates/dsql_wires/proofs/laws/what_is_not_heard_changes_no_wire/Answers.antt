@@ -2,6 +2,7 @@ use Rattle.std.proofs.Common.{◌++◌}
 use Rattle.dsql_wires.proofs.Journals.{unheard_event, unheard}
 use Rattle.dsql_wires.proofs.Wiring.{event_fits, unheard_fits}
 use Rattle.dsql_wires.proofs.Reading.{unheard_event_told, unheard_told}
+use Rattle.dsql_wires.proofs.Plans.{unheard_plans}
 use Rattle.dsql_wires.proofs.Telling.{tells_none}
 use Rattle.dsql_wires.proofs.laws.what_is_not_heard_changes_no_wire.Goals as goal
 
@@ -24,4 +25,5 @@ pub returns-clause-all_told : goal.returns-clause-all_told
 returns-clause-all_told g c = unheard_told
 
 pub returns-clause-tells : goal.returns-clause-tells
-returns-clause-tells g c = λ fleet more past quiet. tells_none fleet past (more ++ past) (unheard_told more past quiet)
+returns-clause-tells g c = λ fleet more past slots quiet.
+    tells_none g.W.Wire.told fleet past (more ++ past) slots slots (λ made. unheard_told made more past quiet) (λ made. unheard_plans g.W.Wire.told made more past slots quiet)
