@@ -28,8 +28,9 @@ use Rattle.dsql_turn_laws.specs.Turns.{flies}
 use Rattle.dsql_turn_laws.proofs.Leave.{leave_opens_none, leave_shuts_none}
 use Rattle.dsql_wire.specs.Journaled.{Journaled}
 use Rattle.dsql_wires.specs.Asked.{Performs}
+use Rattle.dsql_wires.specs.Plans.{Made}
 use Rattle.dsql_wires.specs.Told.{fleet_told}
-use Rattle.dsql_wires.specs.WiresFit.{KeepsFit, WiresFit, slot}
+use Rattle.dsql_wires.specs.WiresFit.{KeepsFit, KeepsPlans, WiresFit, slot}
 use Rattle.dsql_wires.proofs.Asking.{wire_fits}
 use Rattle.dsql_player.specs.Keeping.{SameCourse}
 use Rattle.dsql_playing.specs.Acts.{Hands}
@@ -37,7 +38,7 @@ use Rattle.dsql_playing.specs.Playing.{IsReady, KeepsLines, Playing}
 use Rattle.dsql_playing.specs.Stepping.{HearsAnswer, leave_of}
 use Rattle.dsql_playing.proofs.Answering.{Answered, HasLeave, answered_grouped, answered_hears, answered_ready, may_be_heard}
 use Rattle.dsql_playing.proofs.Grouped.{Grouped, grows}
-use Rattle.dsql_playing.proofs.Hearing.{answer_fits, answer_told}
+use Rattle.dsql_playing.proofs.Hearing.{answer_fits, answer_plans, answer_told}
 use Rattle.dsql_playing.proofs.Whose.{end_step}
 
 -- A client has this leave now, and nothing else that clients have at hand changed.
@@ -144,5 +145,8 @@ module _ {W : Type 0} (told : W → Option WireTold) (permit : Permit) (e : Entr
   pub asks_wires : KeepsFit told before.past after.past wires now
   asks_wires = answer_fits told permit e before.past after.past e.call_no group wires now a.performs opens_none shuts_none
 
-  pub asks_told : fleet_told after.past ≡ fleet_told before.past
+  pub asks_plans : KeepsPlans told before.past after.past wires now
+  asks_plans = answer_plans told permit e before.past after.past e.call_no group wires now a.performs
+
+  pub asks_told : (made : List Made) → fleet_told made after.past ≡ fleet_told made before.past
   asks_told = answer_told permit e before.past after.past e.call_no group a.performs.entry opens_none shuts_none

@@ -1,5 +1,5 @@
 -- The script's end is carried out.
-use Rattle.std.proofs.Common.{◌≡◌, ℕ, Bool, true, false, List, Option, None, refl, ap, ◌∙◌}
+use Rattle.std.proofs.Common.{◌≡◌, ℕ, Bool, true, false, List, [], Option, None, refl, ap, ◌∙◌}
 use Rattle.std.specs.Prelude.{Result, Ok, Err, OnOk}
 use Rattle.dsql_driver.specs.Wires.{WireTold}
 use Rattle.dsql_driver.specs.declared.wire.Fleet.{Ghosts}
@@ -9,15 +9,16 @@ use Rattle.dsql_history.specs.Legal.{Legal}
 use Rattle.dsql_end_laws.specs.Over.{IsOver}
 use Rattle.dsql_follows.specs.Moments.{Moment, at_end}
 use Rattle.dsql_wire.specs.Journaled.{Journaled}
-use Rattle.dsql_wires.specs.Told.{FleetTells, SameAbility, fleet_told}
+use Rattle.dsql_wires.specs.Told.{FleetTells, SameAbility}
 use Rattle.dsql_wires.specs.WiresFit.{WiresFit, slot}
 use Rattle.dsql_playing.specs.declared.halt.Halt.{Halt}
 use Rattle.dsql_playing.specs.Acts.{ComesToEnd}
-use Rattle.dsql_playing.specs.Carried.{CarriesEnd, KeepsRun}
+use Rattle.dsql_playing.specs.Carried.{CarriesEnd, HearsNothing, KeepsRun}
 use Rattle.dsql_playing.specs.Playing.{IsAt, IsReady, Playing}
 use Rattle.dsql_playing.specs.Stepping.{IsEnd, RunsOut, TakesStep, goes}
 use Rattle.dsql_playing.proofs.Emptied.{emptied}
 use Rattle.dsql_playing.proofs.Ending.{is_quiet_then}
+use Rattle.dsql_playing.proofs.Hearing.{hears_none}
 use Rattle.dsql_playing.proofs.Keeping.{run_after, run_stays, run_then}
 use Rattle.dsql_playing.proofs.LastPart.{all_over, end_begun, end_done, end_ended, end_on}
 use Rattle.dsql_player.specs.Keeping.{SameCourse}
@@ -60,16 +61,17 @@ pub gone_out : (m : Moment) (old over new : Playing) → ComesToEnd m old over �
 gone_out m old over new comes runs out = end_done m old new out.ready out.released out.ended out.none out.nobody (end_on m old over new comes runs)
 
 -- What the fleet tells adds up.
-pub run_through : {A F W : Type 0} (fleet : Ghosts F W) (heard : W → Option WireTold) (result : Result A Halt) (before between after : F) (old begun far over new : Playing) (slots : List (Option (Journaled W)))
-    → begun.past ≡ old.past → FleetTells (fleet.told before) (fleet.told between) begun.past far.past → SameAbility fleet before between → fleet_told over.past ≡ fleet_told far.past
-    → KeepsRun fleet heard result between after over new slots → KeepsRun fleet heard result before after old new slots
-run_through fleet heard result before between after old begun far over new slots same told able silent r =
-    run_after fleet heard result before after old begun new slots (ap fleet_told same)
-    (run_then fleet heard result before between after begun far new slots told able (run_after fleet heard result between after far over new slots silent r))
+pub run_through : {A F W : Type 0} (fleet : Ghosts F W) (heard : W → Option WireTold) (result : Result A Halt) (before between after : F) (old begun far over new : Playing) (slots halfway now : List (Option (Journaled W)))
+    → begun.past ≡ old.past → FleetTells heard [] (fleet.told before) (fleet.told between) begun.past far.past slots halfway → SameAbility fleet before between → HearsNothing far.past over.past
+    → KeepsRun fleet heard result between after over new halfway now → KeepsRun fleet heard result before after old new slots now
+run_through fleet heard result before between after old begun far over new slots halfway now same told able silent r =
+    run_after fleet heard result before after old begun new slots now (hears_none old.past begun.past same)
+    (run_then [] fleet heard result before between after begun far new slots halfway now told able (run_after fleet heard result between after far over new halfway now silent r))
 
 -- The run couldn't end, and nothing came of that.
-pub run_halts : {A F W : Type 0} (fleet : Ghosts F W) (heard : W → Option WireTold) (halt : Halt) (before between : F) (old begun far over : Playing) (slots : List (Option (Journaled W)))
-    → begun.past ≡ old.past → FleetTells (fleet.told before) (fleet.told between) begun.past far.past → SameAbility fleet before between → fleet_told over.past ≡ fleet_told far.past → Legal over.past
-    → KeepsRun {A = A} fleet heard (Err halt) before between old over slots
-run_halts fleet heard halt before between old begun far over slots same told able silent legal =
-    run_through fleet heard (Err halt) before between between old begun far far over slots same told able refl (run_stays fleet heard (Err halt) between far over slots refl silent legal)
+pub run_halts : {A F W : Type 0} (fleet : Ghosts F W) (heard : W → Option WireTold) (halt : Halt) (before between : F) (old begun far over : Playing) (slots halfway : List (Option (Journaled W)))
+    → begun.past ≡ old.past → FleetTells heard [] (fleet.told before) (fleet.told between) begun.past far.past slots halfway → SameAbility fleet before between → HearsNothing far.past over.past → Legal over.past
+    → KeepsRun {A = A} fleet heard (Err halt) before between old over slots halfway
+run_halts fleet heard halt before between old begun far over slots halfway same told able silent legal =
+    run_through fleet heard (Err halt) before between between old begun far far over slots halfway halfway same told able (hears_none far.past far.past refl)
+    (run_stays fleet heard (Err halt) between far over halfway halfway refl silent legal)

@@ -210,7 +210,7 @@ admit_acts client lines p old seats is ready k =
     subst (λ (q : Playing). ActsUnheard (Ok false) q (record p { seats = seats })) is
     (record {
       ready = kept_ready p client lines seats (subst IsReady (sym is) ready) k;
-      unheard = record { journals = λ c. refl; told = refl };
+      unheard = record { journals = λ c. refl; told = λ made. refl };
       fails = record { same = tt; memory = tt };
       legal = subst (λ (q : Playing). Legal q.past) (sym is) ready.legal;
     })

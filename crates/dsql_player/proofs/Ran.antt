@@ -16,15 +16,16 @@ use Rattle.dsql_follows.specs.Moments.{Moment}
 use Rattle.dsql_follows.specs.Turns.{is_turn_of}
 use Rattle.dsql_seats.specs.Seats.{seat}
 use Rattle.dsql_wire.specs.Journaled.{Journaled}
+use Rattle.dsql_wires.specs.Plans.{Made}
 use Rattle.dsql_wires.specs.Told.{fleet_told}
-use Rattle.dsql_wires.specs.WiresFit.{KeepsFit}
+use Rattle.dsql_wires.specs.WiresFit.{KeepsFit, KeepsPlans}
 use Rattle.dsql_playing.specs.declared.halt.Halt.{Halt}
 use Rattle.dsql_playing.specs.declared.halt.Halt.TheVariants as halts
 use Rattle.dsql_playing.specs.Carried.{KeepsWires}
 use Rattle.dsql_playing.specs.Playing.{IsAt, IsReady, Playing}
 use Rattle.dsql_playing.specs.Acts.{RunsTo}
 use Rattle.dsql_playing.specs.Stepping.{GoesOn, HearsAnswer, InTurn, IsEntryOf, IsFirstToGo, MakesChore, RunsOut, RunsSoFar, TakesStep, Wakes, goes}
-use Rattle.dsql_playing.proofs.Fitting.{fits_unheard}
+use Rattle.dsql_playing.proofs.Fitting.{fits_unheard, plans_unheard}
 use Rattle.dsql_playing.proofs.Going.{ran_out, so_far}
 use Rattle.dsql_playing.proofs.MayGo.{goes_busy, goes_free}
 use Rattle.dsql_playing.proofs.Standing.{answer_taken, has_lines, has_lines_before, landed_alike}
@@ -46,6 +47,7 @@ pub keeps_unheard : {A W : Type 0} (heard : W → Option WireTold) (result : Res
 keeps_unheard heard result old new slots a = record {
   ready = a.ready;
   wires = always result (fits_unheard heard old.past new.past slots a.unheard);
+  plans = always result (plans_unheard heard old.past new.past slots a.unheard);
   told = always result a.unheard.told;
   legal = a.legal;
 }
@@ -56,7 +58,8 @@ pub keeps_from : {A W : Type 0} (heard : W → Option WireTold) (result : Result
 keeps_from heard result old mid new before after same k = record {
   ready = k.ready;
   wires = subst (λ (h : List Event). OnOk result (KeepsFit heard h new.past before after)) same k.wires;
-  told = subst (λ (h : List Event). OnOk result (fleet_told new.past ≡ fleet_told h)) same k.told;
+  plans = subst (λ (h : List Event). OnOk result (KeepsPlans heard h new.past before after)) same k.plans;
+  told = subst (λ (h : List Event). OnOk result ((made : List Made) → fleet_told made new.past ≡ fleet_told made h)) same k.told;
   legal = k.legal;
 }
 

@@ -1,8 +1,9 @@
 -- Single steps are carried out, and lines begin.
-use Rattle.std.proofs.Common.{◌≡◌, ℕ, ◌<◌, Bool, true, false, not, cond, List, Option, Some, None, length, refl, sym, ap, subst, ◌∙◌}
+use Rattle.std.proofs.Common.{◌≡◌, ℕ, ◌<◌, Bool, true, false, not, cond, List, Option, Some, None, [], ◌∷◌, length, refl, sym, ap, subst, ◌∙◌}
 use Rattle.std.specs.Prelude.{Result, Ok, Err, IfErr, is_some, is_none, slice_get}
 use Rattle.dsql_driver.specs.Wires.{WireTold}
 use Rattle.dsql_driver.specs.declared.wire.Fleet.{Ghosts}
+use Rattle.dsql_driver.specs.declared.wire.Planned.{Planned}
 use Rattle.dsql_journal.specs.Readers.{is_empty}
 use Rattle.dsql_history.specs.declared.event.Event.{Event}
 use Rattle.dsql_history.specs.declared.event.Op.{Op}
@@ -16,7 +17,7 @@ use Rattle.dsql_engine.specs.Core.{Core, blocked_for, unfinished_of}
 use Rattle.dsql_going.specs.declared.next.Why.{Why}
 use Rattle.dsql_follows.specs.declared.line.Line.{Line}
 use Rattle.dsql_follows.specs.declared.line.Line.TheVariants as lines
-use Rattle.dsql_follows.specs.declared.line.Line.TheVariants.{Client, Skip, Start, Step, StepHouse}
+use Rattle.dsql_follows.specs.declared.line.Line.TheVariants.{Client, Fault, Skip, Start, Step, StepHouse}
 use Rattle.dsql_follows.specs.Moments.{Moment}
 use Rattle.dsql_follows.specs.Sentences.{runs_on}
 use Rattle.dsql_seats.specs.Seats.{Seat, seat}
@@ -27,11 +28,12 @@ use Rattle.dsql_playing.specs.declared.halt.Halt.{Halt}
 use Rattle.dsql_playing.specs.declared.halt.Halt.TheVariants as halts
 use Rattle.dsql_playing.specs.Acts.{Begun}
 use Rattle.dsql_playing.specs.Carried.{Carries, KeepsRun, KeepsWires}
+use Rattle.dsql_playing.specs.Planned.{plans_of}
 use Rattle.dsql_playing.specs.Playing.{IsAt, IsReady, Playing}
 use Rattle.dsql_playing.specs.Stepping.{HearsAnswer, IsAnswerTo, MakesChore, TakesStep, Wakes}
-use Rattle.dsql_playing.proofs.Fitting.{fits_unheard}
+use Rattle.dsql_playing.proofs.Fitting.{fits_unheard, plans_unheard}
 use Rattle.dsql_playing.proofs.Keeping.{run_goes}
-use Rattle.dsql_playing.proofs.Lines.{begun_skip}
+use Rattle.dsql_playing.proofs.Lines.{begun_fault, begun_skip}
 use Rattle.dsql_playing.proofs.MayGo.{kept_first, moves_of}
 use Rattle.dsql_playing.proofs.Singles.{answer_steps, chore_steps, flies_ready, idle_house_steps, itself_steps, leave_steps}
 use Rattle.dsql_playing.proofs.Standing.{answer_taken, has_lines}
@@ -40,16 +42,16 @@ use Rattle.dsql_player.specs.Keeping.{ActsUnheard}
 -- Where nothing was heard the wires fit as before.
 
 pub wires_unheard : {A W : Type 0} (heard : W → Option WireTold) (result : Result A Halt) (old new : Playing) (slots : List (Option (Journaled W))) → ActsUnheard result old new → KeepsWires heard result old new slots slots
-wires_unheard heard (Ok x) old new slots a = record { ready = a.ready; wires = fits_unheard heard old.past new.past slots a.unheard; told = a.unheard.told; legal = a.legal }
-wires_unheard heard (Err e) old new slots a = record { ready = tt; wires = tt; told = tt; legal = a.legal }
+wires_unheard heard (Ok x) old new slots a = record { ready = a.ready; wires = fits_unheard heard old.past new.past slots a.unheard; plans = plans_unheard heard old.past new.past slots a.unheard; told = a.unheard.told; legal = a.legal }
+wires_unheard heard (Err e) old new slots a = record { ready = tt; wires = tt; plans = tt; told = tt; legal = a.legal }
 
 pub woken_wires : {A B W : Type 0} (heard : W → Option WireTold) (x : A) (y : B) (old new : Playing) (slots : List (Option (Journaled W))) → ActsUnheard {A = A} (Ok x) old new → KeepsWires {A = B} heard (Ok y) old new slots slots
-woken_wires heard x y old new slots a = record { ready = a.ready; wires = fits_unheard heard old.past new.past slots a.unheard; told = a.unheard.told; legal = a.legal }
+woken_wires heard x y old new slots a = record { ready = a.ready; wires = fits_unheard heard old.past new.past slots a.unheard; plans = plans_unheard heard old.past new.past slots a.unheard; told = a.unheard.told; legal = a.legal }
 
 -- and the fleet has nothing to tell
 pub run_unheard : {A B F W : Type 0} (fleet : Ghosts F W) (heard : W → Option WireTold) (x : A) (y : B) (now : F) (old new : Playing) (slots : List (Option (Journaled W)))
-    → WiresFit heard (is_some (fleet.told now)) old.past slots → ActsUnheard {A = A} (Ok x) old new → KeepsRun {A = B} fleet heard (Ok y) now now old new slots
-run_unheard fleet heard x y now old new slots fit a = run_goes fleet heard y now old new slots slots fit a.ready (fits_unheard heard old.past new.past slots a.unheard) a.unheard.told a.legal
+    → WiresFit heard (is_some (fleet.told now)) old.past slots → ActsUnheard {A = A} (Ok x) old new → KeepsRun {A = B} fleet heard (Ok y) now now old new slots slots
+run_unheard fleet heard x y now old new slots fit a = run_goes fleet heard y now old new slots slots fit a.ready (fits_unheard heard old.past new.past slots a.unheard) (plans_unheard heard old.past new.past slots a.unheard) a.unheard.told a.legal
 
 -- A call makes a single step.
 
@@ -110,25 +112,28 @@ house_stepped false m old new makes at = subst (λ (p : Playing). Carries m Step
 
 -- Lines that run on.
 
-pub is_skip : (line : Line) → runs_on line ≡ true → ((control : Control) → line ≡ lines.Control control → ⊥) → ((client : ℕ) (op : Op) → line ≡ Client client op → ⊥) → line ≡ Skip
-is_skip Skip runs not_control not_client = refl
-is_skip (lines.Control control) runs not_control not_client = absurd (not_control control refl)
-is_skip (Client client op) runs not_control not_client = absurd (not_client client op refl)
-is_skip (Start client op) runs not_control not_client = absurd cc
-is_skip (Step client) runs not_control not_client = absurd cc
-is_skip StepHouse runs not_control not_client = absurd cc
+-- nothing is done by itself at a line that is skipped, or that plans a fault
+pub skipped : (line : Line) (m : Moment) (p : Playing) → runs_on line ≡ true → ((control : Control) → line ≡ lines.Control control → ⊥) → ((client : ℕ) (op : Op) → line ≡ Client client op → ⊥) → IsAt m p → Begun m line p p
+skipped Skip m p runs not_control not_client at = begun_skip m p at
+skipped (Fault conn nth what) m p runs not_control not_client at = begun_fault m conn nth what p at
+skipped (lines.Control control) m p runs not_control not_client at = absurd (not_control control refl)
+skipped (Client client op) m p runs not_control not_client at = absurd (not_client client op refl)
+skipped (Start client op) m p runs not_control not_client at = absurd cc
+skipped (Step client) m p runs not_control not_client at = absurd cc
+skipped StepHouse m p runs not_control not_client at = absurd cc
 
 pub runs_then : (line : Line) → ((client : ℕ) (op : Op) → line ≡ Start client op → ⊥) → ((client : ℕ) → line ≡ Step client → ⊥) → (line ≡ StepHouse → ⊥) → runs_on line ≡ true
 runs_then Skip not_start not_step not_house = refl
+runs_then (Fault conn nth what) not_start not_step not_house = refl
 runs_then (lines.Control control) not_start not_step not_house = refl
 runs_then (Client client op) not_start not_step not_house = refl
 runs_then (Start client op) not_start not_step not_house = absurd (not_start client op refl)
 runs_then (Step client) not_start not_step not_house = absurd (not_step client refl)
 runs_then StepHouse not_start not_step not_house = absurd (not_house refl)
 
--- nothing is done where a line is skipped
-pub skipped : (line : Line) (m : Moment) (p : Playing) → line ≡ Skip → IsAt m p → Begun m line p p
-skipped line m p is at = subst (λ (it : Line). Begun m it p p) (sym is) (begun_skip m p at)
+pub plans_none : (line : Line) (past : List Event) → ((conn nth : ℕ) (what : Planned) → line ≡ Fault conn nth what → ⊥) → plans_of line past ≡ []
+plans_none (Fault conn nth what) past none = absurd (none conn nth what refl)
+plans_none _ past none = refl
 
 -- A want of memory isn't a full run.
 pub not_full : {A : Type 0} (result : Result A Halt) (P : Type 0) → IfErr result (λ halt. halt ≡ halts.Memory) → result ≡ Err halts.Full → P

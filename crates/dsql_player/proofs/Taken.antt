@@ -214,24 +214,25 @@ module _ (core now : Core) (seats : List Seat) (released : Bool) (p : Playing) (
 -- The run is kept.
 
 pub none_run : {A F W : Type 0} (fleet : Ghosts F W) (heard : W → Option WireTold) (x : A) (now : F) (old mid : Playing) (slots : List (Option (Journaled W)))
-    → IsReady old → MakesChore false old mid → WiresFit heard (is_some (fleet.told now)) old.past slots → KeepsRun fleet heard (Ok x) now now old mid slots
+    → IsReady old → MakesChore false old mid → WiresFit heard (is_some (fleet.told now)) old.past slots → KeepsRun fleet heard (Ok x) now now old mid slots slots
 none_run fleet heard x now old mid slots ready made fit =
-    subst (λ (p : Playing). KeepsRun fleet heard (Ok x) now now old p slots) (sym made.0)
-    (run_goes fleet heard x now old old slots slots fit ready (λ telling its. its) refl ready.legal)
+    subst (λ (p : Playing). KeepsRun fleet heard (Ok x) now now old p slots slots) (sym made.0)
+    (run_goes fleet heard x now old old slots slots fit ready (λ telling its. its) (λ made its. its) (λ made. refl) ready.legal)
 
 -- in a part that goes on from the same history
-pub first_run : {A B F W : Type 0} (fleet : Ghosts F W) (heard : W → Option WireTold) (x : A) (y : B) (before after : F) (old mid new : Playing) (slots : List (Option (Journaled W)))
-    → mid.past ≡ old.past → KeepsRun fleet heard (Ok x) before after mid new slots → KeepsRun fleet heard (Ok y) before after old new slots
-first_run fleet heard x y before after old mid new slots same r = record {
+pub first_run : {A B F W : Type 0} (fleet : Ghosts F W) (heard : W → Option WireTold) (x : A) (y : B) (before after : F) (old mid new : Playing) (slots now : List (Option (Journaled W)))
+    → mid.past ≡ old.past → KeepsRun fleet heard (Ok x) before after mid new slots now → KeepsRun fleet heard (Ok y) before after old new slots now
+first_run fleet heard x y before after old mid new slots now same r = record {
   ready = r.ready;
-  told = subst (λ (H : List Event). FleetTells (fleet.told before) (fleet.told after) H new.past) same r.told;
+  told = subst (λ (H : List Event). FleetTells heard [] (fleet.told before) (fleet.told after) H new.past slots now) same r.told;
   asked = tt;
   wires = r.wires;
   able = r.able;
   legal = r.legal;
 }
 
-pub first_stops : {A F W : Type 0} (fleet : Ghosts F W) (heard : W → Option WireTold) (result : Result A Halt) (before after : F) (old mid new : Playing) (slots : List (Option (Journaled W)))
-    → IsErr result → mid.past ≡ old.past → TellsAtMost (fleet.told before) (fleet.told after) mid.past new.past → SameAbility fleet before after → Legal new.past → KeepsRun fleet heard result before after old new slots
-first_stops fleet heard result before after old mid new slots err same asked able legal =
-    run_stops fleet heard result before after old new slots err (subst (λ (H : List Event). TellsAtMost (fleet.told before) (fleet.told after) H new.past) same asked) able legal
+pub first_stops : {A F W : Type 0} (fleet : Ghosts F W) (heard : W → Option WireTold) (result : Result A Halt) (before after : F) (old mid new : Playing) (slots now : List (Option (Journaled W)))
+    → IsErr result → mid.past ≡ old.past → TellsAtMost heard [] (fleet.told before) (fleet.told after) mid.past new.past slots → SameAbility fleet before after → Legal new.past
+    → KeepsRun fleet heard result before after old new slots now
+first_stops fleet heard result before after old mid new slots now err same asked able legal =
+    run_stops [] fleet heard result before after old new slots now err (subst (λ (H : List Event). TellsAtMost heard [] (fleet.told before) (fleet.told after) H new.past slots) same asked) able legal

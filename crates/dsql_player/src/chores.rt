@@ -33,7 +33,7 @@ impl Player {
         requires wires { WiresFit F.Wire.told (is_some (F.told fleet.old)) self.old.past wires.old }
         ensures makes { IfOk result (λ made. MakesChore made self.old self.new) }
         ensures course { OnOk result (SameCourse self.old self.new) }
-        ensures run { KeepsRun F.Fleet F.Wire.told result fleet.old fleet.new self.old self.new wires.new }
+        ensures run { KeepsRun F.Fleet F.Wire.told result fleet.old fleet.new self.old self.new wires.old wires.new }
         ensures fails { FailsForMemory result self.old.past self.new.past }
     {
         match self.engine.chore()? {
@@ -55,7 +55,7 @@ impl Player {
         requires to_make { IsToMake self.old permit }
         requires wires { WiresFit F.Wire.told (is_some (F.told fleet.old)) self.old.past wires.old }
         ensures taken { OnOk result (IsTaken permit self.old self.new) }
-        ensures run { KeepsRun F.Fleet F.Wire.told result fleet.old fleet.new self.old self.new wires.new }
+        ensures run { KeepsRun F.Fleet F.Wire.told result fleet.old fleet.new self.old self.new wires.old wires.new }
         ensures fails { FailsForMemory result self.old.past self.new.past }
     {
         match permit.call {
@@ -76,7 +76,7 @@ impl Player {
         requires opens { is_connect permit.call ≡ true }
         requires wires { WiresFit F.Wire.told (is_some (F.told fleet.old)) self.old.past wires.old }
         ensures taken { OnOk result (IsTaken permit self.old self.new) }
-        ensures run { KeepsRun F.Fleet F.Wire.told result fleet.old fleet.new self.old self.new wires.new }
+        ensures run { KeepsRun F.Fleet F.Wire.told result fleet.old fleet.new self.old self.new wires.old wires.new }
         ensures fails { FailsForMemory result self.old.past self.new.past }
     {
         let heard = connect_wire(wires, fleet, permit)?;
@@ -94,7 +94,7 @@ impl Player {
         requires shuts { is_shut permit.call ≡ true }
         requires wires { WiresFit F.Wire.told (is_some (F.told fleet.old)) self.old.past wires.old }
         ensures taken { OnOk result (IsTaken permit self.old self.new) }
-        ensures run { KeepsRun F.Fleet F.Wire.told result fleet.old fleet.new self.old self.new wires.new }
+        ensures run { KeepsRun F.Fleet F.Wire.told result fleet.old fleet.new self.old self.new wires.old wires.new }
         ensures fails { FailsForMemory result self.old.past self.new.past }
     {
         let conn = permit.conn;
@@ -115,7 +115,7 @@ impl Player {
         requires shuts { is_shut permit.call ≡ false }
         requires wires { WiresFit F.Wire.told (is_some (F.told fleet.old)) self.old.past wires.old }
         ensures taken { OnOk result (IsTaken permit self.old self.new) }
-        ensures run { KeepsRun F.Fleet F.Wire.told result fleet.old fleet.new self.old self.new wires.new }
+        ensures run { KeepsRun F.Fleet F.Wire.told result fleet.old fleet.new self.old self.new wires.old wires.new }
         ensures fails { FailsForMemory result self.old.past self.new.past }
     {
         self.ask(wires, permit)

@@ -6,21 +6,24 @@ ghost use Rattle.dsql_player.specs.Keeping.{ActsUnheard, SameCourse};
 ghost use Rattle.dsql_end_laws.specs.Over.{IsOver};
 ghost use Rattle.dsql_follows.specs.Moments.{Moment, at_end};
 ghost use Rattle.dsql_follows.specs.Sentences.{runs_on};
+ghost use Rattle.dsql_follows.specs.declared.line.Line.TheVariants.{Fault};
 ghost use Rattle.dsql_playing.specs.Acts.{Begun, ComesToEnd};
-ghost use Rattle.dsql_playing.specs.Carried.{Carries, CarriesEnd, KeepsRun, StopsInEnd, StopsInLine};
+ghost use Rattle.dsql_playing.specs.Carried.{Carries, CarriesEnd, KeepsRun, KeepsRunPlanning, StopsInEnd, StopsInLine};
+ghost use Rattle.dsql_playing.specs.Planned.{plans_of};
 ghost use Rattle.dsql_playing.specs.Playing.{IsAt, IsReady};
 ghost use Rattle.dsql_steps.specs.Groups.{most_events};
 ghost use Rattle.dsql_wires.specs.WiresFit.{WiresFit, slot};
 
 use crate::player::Player;
-use dsql_driver::Fleet;
+use dsql_driver::{Fleet, Planned};
 use dsql_follows::Line;
 use dsql_playing::Halt;
 use dsql_seats::KeptLine;
-use dsql_wires::Wires;
+use dsql_wires::{Wires, plan};
 
-/// Carries a line of the script out. After a client's call, a limit or a moment all goes on until nobody may; a call that is
-/// held only enters, and a single step is just one.
+/// Carries a line of the script out. After a client's call, a limit, a moment or a fault all goes on until nobody may; a call
+/// that is held only enters, and a single step is just one. A fault is planned on the wire of its connection where it has one,
+/// and else with the fleet.
 ///
 /// After an `Err` the run can't go on: its wires are given back by `retire_all`.
 pub fn carry_line<F: Fleet>(
@@ -34,7 +37,7 @@ pub fn carry_line<F: Fleet>(
     ensures carries { OnOk result ((m : Moment) → IsAt m player.old → Carries m line player.old player.new) }
     ensures stops { OnErr result ((m : Moment) → IsAt m player.old → StopsInLine m line player.old.past player.new.past) }
     ensures course { OnOk result (SameCourse player.old player.new) }
-    ensures run { KeepsRun F.Fleet F.Wire.told result fleet.old fleet.new player.old player.new wires.new }
+    ensures run { KeepsRunPlanning (plans_of line player.old.past) F.Fleet F.Wire.told result fleet.old fleet.new player.old player.new wires.old wires.new }
     ensures full { result ≡ Err Halt.Full → most_events ≤ length player.new.past }
 {
     player.check_room()?;
@@ -45,11 +48,33 @@ pub fn carry_line<F: Fleet>(
         }
         Line::Step { client } => player.step_client(wires, client),
         Line::StepHouse => player.step_house(wires, fleet),
+        Line::Fault { conn, nth, what } => carry_fault(player, wires, fleet, conn, nth, what),
         line => {
             player.begin(line)?;
             player.run_on(wires, fleet)
         }
     }
+}
+
+/// Plans a fault, on the wire of its connection where it has one, and else with the fleet. Then all goes on until nobody may.
+fn carry_fault<F: Fleet>(
+    player: &mut Player,
+    wires: &mut Wires<F::Wire>,
+    fleet: &mut F,
+    conn: u32,
+    nth: u32,
+    what: Planned,
+) -> Result<(), Halt>
+    requires ready { IsReady player.old }
+    requires wires { WiresFit F.Wire.told (is_some (F.told fleet.old)) player.old.past wires.old }
+    ensures carries { OnOk result ((m : Moment) → IsAt m player.old → Carries m (Fault conn nth what) player.old player.new) }
+    ensures stops { OnErr result ((m : Moment) → IsAt m player.old → StopsInLine m (Fault conn nth what) player.old.past player.new.past) }
+    ensures course { OnOk result (SameCourse player.old player.new) }
+    ensures run { KeepsRunPlanning (plans_of (Fault conn nth what) player.old.past) F.Fleet F.Wire.told result fleet.old fleet.new player.old player.new wires.old wires.new }
+    ensures full { result ≡ Err Halt.Full → most_events ≤ length player.new.past }
+{
+    plan(wires, fleet, conn, nth, what)?;
+    player.run_on(wires, fleet)
 }
 
 /// Carries the script's end out: no call is held any more, all goes on, the run ends, and all goes on again until nobody
@@ -70,7 +95,7 @@ pub fn carry_end<F: Fleet>(
     ensures ended { OnOk result (has_ended player.new.past ≡ true) }
     ensures quiet { OnOk result (is_quiet player.new.past ≡ true) }
     ensures empty { OnOk result ((c : ℕ) → slot wires.new c ≡ None) }
-    ensures run { KeepsRun F.Fleet F.Wire.told result fleet.old fleet.new player.old player.new wires.new }
+    ensures run { KeepsRun F.Fleet F.Wire.told result fleet.old fleet.new player.old player.new wires.old wires.new }
     ensures full { result ≡ Err Halt.Full → most_events ≤ length player.new.past }
 {
     player.release();

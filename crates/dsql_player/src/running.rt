@@ -31,7 +31,7 @@ impl Player {
         ensures no_chore { OnOk result (chore_due self.new.past ≡ None) }
         ensures nobody { OnOk result ((client : ℕ) → goes self.new client ≡ false) }
         ensures course { OnOk result (SameCourse self.old self.new) }
-        ensures run { KeepsRun F.Fleet F.Wire.told result fleet.old fleet.new self.old self.new wires.new }
+        ensures run { KeepsRun F.Fleet F.Wire.told result fleet.old fleet.new self.old self.new wires.old wires.new }
         ensures full { result ≡ Err Halt.Full → most_events ≤ length self.new.past }
     {
         while self.go_on(wires, fleet)? {}
@@ -47,7 +47,7 @@ impl Player {
         ensures room { OnOk result (length self.old.past < most_events) }
         ensures same { OnErr result (self.new.past ≡ self.old.past) }
         ensures course { OnOk result (SameCourse self.old self.new) }
-        ensures run { KeepsRun F.Fleet F.Wire.told result fleet.old fleet.new self.old self.new wires.new }
+        ensures run { KeepsRun F.Fleet F.Wire.told result fleet.old fleet.new self.old self.new wires.old wires.new }
         ensures full { result ≡ Err Halt.Full → most_events ≤ length self.new.past }
     {
         self.check_room()?;

@@ -71,7 +71,7 @@ impl Player {
         requires wires { WiresFit F.Wire.told (is_some (F.told fleet.old)) self.old.past wires.old }
         ensures carries { OnOk result ((m : Moment) → IsAt m self.old → Carries m StepHouse self.old self.new) }
         ensures course { OnOk result (SameCourse self.old self.new) }
-        ensures run { KeepsRun F.Fleet F.Wire.told result fleet.old fleet.new self.old self.new wires.new }
+        ensures run { KeepsRun F.Fleet F.Wire.told result fleet.old fleet.new self.old self.new wires.old wires.new }
         ensures fails { FailsForMemory result self.old.past self.new.past }
     {
         self.make_first_chore(wires, fleet)?;

@@ -6,12 +6,13 @@ use Rattle.dsql_journal.specs.declared.entry.Entry.{Entry}
 use Rattle.dsql_history.specs.declared.event.Event.{Event}
 use Rattle.dsql_history.specs.Readers.Journals.{journal}
 use Rattle.dsql_wire.specs.Journaled.{Journaled}
-use Rattle.dsql_wires.specs.WiresFit.{FitsAt, HoldsWire, KeepsFit, WiresFit, is_wired, slot}
+use Rattle.dsql_wires.specs.WiresFit.{FitsAt, HoldsWire, KeepsFit, KeepsPlans, PlansFit, WiresFit, is_wired, slot}
+use Rattle.dsql_wires.proofs.Plans.{alike_plans}
 use Rattle.dsql_playing.specs.Carried.{HearsNothing}
 
 untelling_wire : {W : Type 0} (heard : W → Option WireTold) (telling : Bool) (c : ℕ) (entries : List Entry) (wire : Option (Journaled W)) → HoldsWire heard telling c entries wire → HoldsWire heard false c entries wire
 untelling_wire heard telling c entries None h = absurd h
-untelling_wire heard telling c entries (Some w) h = record { conn = h.conn; journal = h.journal; unplanned = h.unplanned; tells = λ t. absurd cc }
+untelling_wire heard telling c entries (Some w) h = record { conn = h.conn; journal = h.journal; tells = λ t. absurd cc }
 
 untelling_at : {W : Type 0} (heard : W → Option WireTold) (telling : Bool) (c : ℕ) (entries : List Entry) (wire : Option (Journaled W)) (b : Bool)
     → MatchBool b (HoldsWire heard telling c entries wire) (wire ≡ None) → MatchBool b (HoldsWire heard false c entries wire) (wire ≡ None)
@@ -29,3 +30,10 @@ fits_unheard heard old new slots h = λ telling fit c. subst (λ (entries : List
 -- nor where the history is the same
 pub fits_same : {W : Type 0} (heard : W → Option WireTold) (old new : List Event) (slots : List (Option (Journaled W))) → new ≡ old → KeepsFit heard old new slots slots
 fits_same heard old new slots same = λ telling fit. subst (λ (past : List Event). WiresFit heard telling past slots) (sym same) fit
+
+-- And so are the plans on them.
+pub plans_unheard : {W : Type 0} (heard : W → Option WireTold) (old new : List Event) (slots : List (Option (Journaled W))) → HearsNothing old new → KeepsPlans heard old new slots slots
+plans_unheard heard old new slots h = alike_plans heard old new slots h.journals
+
+pub plans_same : {W : Type 0} (heard : W → Option WireTold) (old new : List Event) (slots : List (Option (Journaled W))) → new ≡ old → KeepsPlans heard old new slots slots
+plans_same heard old new slots same = λ made fit. subst (λ (past : List Event). PlansFit heard made past slots) (sym same) fit

@@ -15,8 +15,9 @@ use Rattle.dsql_tenure.specs.Judged.{answered}
 use Rattle.dsql_wire.specs.Journaled.{Journaled}
 use Rattle.dsql_wires.specs.Asked.{Performs}
 use Rattle.dsql_wires.specs.Told.{fleet_told, hears_nothing}
-use Rattle.dsql_wires.specs.WiresFit.{KeepsFit, WiresFit}
-use Rattle.dsql_wires.proofs.Asking.{performed_fits, performed_told}
+use Rattle.dsql_wires.specs.Plans.{Made}
+use Rattle.dsql_wires.specs.WiresFit.{KeepsFit, KeepsPlans, PlansFit, WiresFit}
+use Rattle.dsql_wires.proofs.Asking.{performed_fits, performed_plans, performed_told}
 use Rattle.dsql_wires.proofs.Journals.{unheard}
 use Rattle.dsql_wires.proofs.Reading.{unheard_told}
 use Rattle.dsql_playing.specs.Carried.{HearsNothing}
@@ -34,7 +35,7 @@ all_quiet n (e ∷ more) h =
     together (hears_nothing e) (list_all hears_nothing more) (later_quiet n e a.0) (all_quiet n more a.1)
 
 pub hears_none : (past history : List Event) → history ≡ past → HearsNothing past history
-hears_none past history same = subst (HearsNothing past) (sym same) (record { journals = λ c. refl; told = refl })
+hears_none past history same = subst (HearsNothing past) (sym same) (record { journals = λ c. refl; told = λ made. refl })
 
 pub step_quiet : (past history : List Event) (first : Event) (n : ℕ) → Grouped past history first n → hears_nothing first ≡ true → HearsNothing past history
 step_quiet past history first n g none =
@@ -42,7 +43,7 @@ step_quiet past history first n g none =
     let each : list_all hears_nothing (more ++ first ∷ []) ≡ true =
     list_all-append hears_nothing more (first ∷ []) ∙ together (list_all hears_nothing more) _ (all_quiet n more g.group.later) (together (hears_nothing first) true none refl) in
     let quiet : list_all hears_nothing g.events ≡ true = ap (list_all hears_nothing) g.group.whole ∙ each in
-    subst (HearsNothing past) (sym g.grown) (record { journals = λ c. unheard g.events past c quiet; told = unheard_told g.events past quiet })
+    subst (HearsNothing past) (sym g.grown) (record { journals = λ c. unheard g.events past c quiet; told = λ made. unheard_told made g.events past quiet })
 
 pub itself_quiet : (n : ℕ) (e : Event) → goes_by_itself n e ≡ true → hears_nothing e ≡ true
 itself_quiet n (Heard e) h = absurd cc
@@ -59,8 +60,14 @@ module _ {W : Type 0} (heard : W → Option WireTold) (permit : Permit) (e : Ent
       subst (λ H. WiresFit heard telling H after) (sym (answer_grown past history e n g))
       (performed_fits heard telling permit e g.group.more past before after performs opens shuts (all_quiet n g.group.more g.group.later) fit)
 
+  -- which plans no fault
+  pub answer_plans : (before after : List (Option (Journaled W))) → Performs heard permit e before after → KeepsPlans heard past history before after
+  answer_plans before after performs = λ made fit.
+      subst (λ H. PlansFit heard made H after) (sym (answer_grown past history e n g))
+      (performed_plans heard permit e g.group.more past before after performs (all_quiet n g.group.more g.group.later) made fit)
+
 -- and the fleet has nothing to tell of it
 pub answer_told : (permit : Permit) (e : Entry) (past history : List Event) (n : ℕ) → Grouped past history (Heard e) n → e ≡ answered permit e.answer → is_connect permit.call ≡ false → is_shut permit.call ≡ false
-    → fleet_told history ≡ fleet_told past
-answer_told permit e past history n g is opens shuts =
-    ap fleet_told (answer_grown past history e n g) ∙ performed_told permit e g.group.more past is opens shuts (all_quiet n g.group.more g.group.later)
+    → (made : List Made) → fleet_told made history ≡ fleet_told made past
+answer_told permit e past history n g is opens shuts made =
+    ap (fleet_told made) (answer_grown past history e n g) ∙ performed_told made permit e g.group.more past is opens shuts (all_quiet n g.group.more g.group.later)

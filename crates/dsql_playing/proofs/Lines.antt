@@ -1,12 +1,13 @@
 -- Lines that run on are carried out.
 use Rattle.std.proofs.Common.{◌≡◌, ℕ, Bool, true, false, List, [], ◌++◌, inl, inr, refl, sym, ap, subst, ◌∙◌, append_assoc}
+use Rattle.dsql_driver.specs.declared.wire.Planned.{Planned}
 use Rattle.dsql_history.specs.declared.event.Event.{Event}
 use Rattle.dsql_history.specs.declared.event.Op.{Op}
 use Rattle.dsql_history.specs.declared.event.Control.{Control}
 use Rattle.dsql_history.specs.Readers.Controls.{told_after}
 use Rattle.dsql_follows.specs.declared.line.Line.{Line}
 use Rattle.dsql_follows.specs.declared.line.Line.TheVariants as lines
-use Rattle.dsql_follows.specs.declared.line.Line.TheVariants.{Client, Skip}
+use Rattle.dsql_follows.specs.declared.line.Line.TheVariants.{Client, Fault, Skip}
 use Rattle.dsql_follows.specs.Moments.{Moment, met}
 use Rattle.dsql_follows.specs.Sentences.{has_own_step, runs_on}
 use Rattle.dsql_line_laws.proofs.OnTheRun.{nothing_so_far, runs_done, runs_from_entry, runs_from_control, runs_from_nothing, runs_further, runs_so_far}
@@ -26,6 +27,9 @@ begun_bare m line old mid at runs none same now =
 
 pub begun_skip : (m : Moment) (p : Playing) → IsAt m p → Begun m Skip p p
 begun_skip m p at = begun_bare m Skip p p at refl refl refl (met_at m p Skip (λ client. refl) at)
+
+pub begun_fault : (m : Moment) (conn nth : ℕ) (what : Planned) (p : Playing) → IsAt m p → Begun m (Fault conn nth what) p p
+begun_fault m conn nth what p at = begun_bare m (Fault conn nth what) p p at refl refl refl (met_at m p (Fault conn nth what) (λ client. refl) at)
 
 pub begun_control : (m : Moment) (control : Control) (old mid : Playing) → IsAt m old
     → ((now : Moment) → IsAt now old → TakesStep now old mid (IsTold old.past control)) → Begun m (lines.Control control) old mid

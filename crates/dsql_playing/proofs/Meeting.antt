@@ -1,9 +1,8 @@
 -- A line is read, or the script is at its end, and the player is at that moment.
-use Rattle.std.proofs.Common.{◌≡◌, ℕ, ◌<◌, false, ap, ◌∙◌}
+use Rattle.std.proofs.Common.{◌≡◌, ℕ, false, ap, ◌∙◌}
 use Rattle.dsql_follows.specs.declared.line.Line.{Line}
 use Rattle.dsql_follows.specs.Moments.{Moment, is_line_of, met}
 use Rattle.dsql_line_laws.proofs.KeptLines.{all_made_met, held_same, kept_same}
-use Rattle.dsql_seats.specs.Seats.{released}
 use Rattle.dsql_playing.specs.Playing.{Playing, IsAt}
 
 -- a line of no client

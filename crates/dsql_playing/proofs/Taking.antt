@@ -1,6 +1,5 @@
 -- The steps that the player takes, seen from the moment at which it stood.
-use Rattle.std.proofs.Common.{◌≡◌, ◌≢◌, ◌<◌, ◌⊎◌, inl, inr, ℕ, ◌==◌, Bool, true, false, not, ◌&&◌, ◌||◌, cond, List, Option, Some, None, is_none, is_some, refl, ap, sym, subst, ◌∙◌}
-use Rattle.std.specs.Prelude.{ℤ}
+use Rattle.std.proofs.Common.{◌≡◌, ◌≢◌, ◌⊎◌, inl, inr, ℕ, ◌==◌, Bool, true, false, not, ◌&&◌, ◌||◌, cond, List, Option, Some, None, is_none, is_some, refl, ap, sym, subst, ◌∙◌}
 use Rattle.dsql_course.specs.Made.{or_else}
 use Rattle.dsql_wait.specs.Requests.{waits}
 use Rattle.dsql_pool.specs.Places.{is_for}

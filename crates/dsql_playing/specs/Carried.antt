@@ -10,31 +10,37 @@ use Rattle.dsql_follows.specs.Moments.{Moment, met, at_end}
 use Rattle.dsql_follows.specs.Sentences.{Part, after_part, enters_at_once, runs_in_turn, runs_on, sets_at_once}
 use Rattle.dsql_follows.specs.Follows.{MakesSteps, FollowsLine, FollowsEnd, ends_in_turn}
 use Rattle.dsql_wire.specs.Journaled.{Journaled}
+use Rattle.dsql_wires.specs.Plans.{Made}
 use Rattle.dsql_wires.specs.Told.{fleet_told, FleetTells, TellsAtMost, SameAbility}
-use Rattle.dsql_wires.specs.WiresFit.{KeepsFit, WiresFit}
+use Rattle.dsql_wires.specs.WiresFit.{KeepsFit, KeepsPlans, WiresFit}
 use Rattle.dsql_playing.specs.declared.halt.Halt.{Halt}
 use Rattle.dsql_playing.specs.Playing.{Playing, IsAt, IsReady}
 
--- A part of a run is carried out: the fleet tells of the new history, and the wires fit it. Where it can't be, the fleet was asked for one Connect more at most.
-pub record KeepsRun {A F W : Type 0} (fleet : Ghosts F W) (heard : W → Option WireTold) (result : Result A Halt) (before after : F) (old new : Playing) (slots : List (Option (Journaled W))) : Type 0 where
+-- A part of a run is carried out, in which these faults are planned: the fleet and the wires tell of the new history and of these plans, and the wires fit it. Where it can't be, the fleet was asked for one Connect more at most, and all of the plans were made or none.
+pub record KeepsRunPlanning {A F W : Type 0} (plans : List Made) (fleet : Ghosts F W) (heard : W → Option WireTold) (result : Result A Halt) (before after : F) (old new : Playing) (slots now : List (Option (Journaled W))) : Type 0 where
   pub ready : OnOk result (IsReady new)
-  pub told : OnOk result (FleetTells (fleet.told before) (fleet.told after) old.past new.past)
-  pub asked : OnErr result (TellsAtMost (fleet.told before) (fleet.told after) old.past new.past)
-  pub wires : OnOk result (WiresFit heard (is_some (fleet.told after)) new.past slots)
+  pub told : OnOk result (FleetTells heard plans (fleet.told before) (fleet.told after) old.past new.past slots now)
+  pub asked : OnErr result (TellsAtMost heard plans (fleet.told before) (fleet.told after) old.past new.past slots)
+  pub wires : OnOk result (WiresFit heard (is_some (fleet.told after)) new.past now)
   pub able : SameAbility fleet before after
   pub legal : Legal new.past
+
+-- a part of a run in which no fault is planned
+abbrev pub KeepsRun : {A F W : Type 0} → Ghosts F W → (W → Option WireTold) → Result A Halt → F → F → Playing → Playing → List (Option (Journaled W)) → List (Option (Journaled W)) → Type 0
+KeepsRun fleet heard result before after old new slots now = KeepsRunPlanning [] fleet heard result before after old new slots now
 
 -- A part of a run in which no connection is opened or shut: its wires fit the new history, and the fleet has nothing to tell of it.
 pub record KeepsWires {A W : Type 0} (heard : W → Option WireTold) (result : Result A Halt) (old new : Playing) (before after : List (Option (Journaled W))) : Type 0 where
   pub ready : OnOk result (IsReady new)
   pub wires : OnOk result (KeepsFit heard old.past new.past before after)
-  pub told : OnOk result (fleet_told new.past ≡ fleet_told old.past)
+  pub plans : OnOk result (KeepsPlans heard old.past new.past before after)
+  pub told : OnOk result ((made : List Made) → fleet_told made new.past ≡ fleet_told made old.past)
   pub legal : Legal new.past
 
 -- nothing was heard from one history to the other
 pub record HearsNothing (old new : List Event) : Type 0 where
   pub journals : (c : ℕ) → journal new c ≡ journal old c
-  pub told : fleet_told new ≡ fleet_told old
+  pub told : (made : List Made) → fleet_told made new ≡ fleet_told made old
 
 -- a line with these events
 abbrev pub part : Line → List Event → Part

@@ -3,3 +3,4 @@ pub mod Stepping
 pub mod Acts
 pub mod Chores
 pub mod Carried
+pub mod Planned

@@ -1,6 +1,7 @@
 //! Lines that are carried out, and the script's end. A history is read newest first.
 
 ghost use Rattle.std.specs.Prelude.{◌≡◌, ℕ, Bool, List, Option, true, false, None};
+ghost use Rattle.dsql_driver.specs.declared.wire.Planned.{Planned};
 ghost use Rattle.dsql_journal.specs.Readers.{is_empty};
 ghost use Rattle.dsql_history.specs.declared.event.Event.{Event};
 ghost use Rattle.dsql_history.specs.declared.event.Op.{Op};
@@ -14,14 +15,14 @@ ghost use Rattle.dsql_history.specs.Legal.{Lawful};
 ghost use Rattle.dsql_end_laws.specs.Over.{IsOver};
 ghost use Rattle.dsql_follows.specs.declared.line.Line.{Line};
 ghost use Rattle.dsql_follows.specs.declared.line.Line.TheVariants as lines;
-ghost use Rattle.dsql_follows.specs.declared.line.Line.TheVariants.{Client, Skip, Start, Step, StepHouse};
+ghost use Rattle.dsql_follows.specs.declared.line.Line.TheVariants.{Client, Fault, Skip, Start, Step, StepHouse};
 ghost use Rattle.dsql_follows.specs.Moments.{Moment, at_end};
 ghost use Rattle.dsql_follows.specs.Sentences.{runs_on};
 ghost use Rattle.dsql_seats.specs.Seats.{seat};
 ghost use Rattle.dsql_wire.specs.Journaled.{Journaled};
 ghost use Rattle.dsql_step_laws.specs.Steps.{goes_by_itself};
 ghost use Rattle.dsql_wires.specs.Told.{hears_nothing};
-ghost use Rattle.dsql_wires.specs.WiresFit.{KeepsFit, WiresFit, slot};
+ghost use Rattle.dsql_wires.specs.WiresFit.{KeepsFit, KeepsPlans, WiresFit, slot};
 ghost use Rattle.dsql_playing.specs.Acts.{Begun, ComesToEnd};
 ghost use Rattle.dsql_playing.specs.Carried.{Carries, CarriesEnd, HearsNothing, StopsInEnd, StopsInLine};
 ghost use Rattle.dsql_playing.specs.Playing.{IsAt, IsReady, Playing};
@@ -33,6 +34,7 @@ use dsql_driver::Wire;
 /// Where that has to stop, what came of it is a beginning of that: its own step first, and whole steps, each in its turn.
 pub fn a_line_is_carried_out()
     ensures skipped { (m : Moment) (p : Playing) → IsAt m p → Begun m Skip p p }
+    ensures planned { (m : Moment) (p : Playing) (conn nth : ℕ) (what : Planned) → IsAt m p → Begun m (Fault conn nth what) p p }
     ensures control { (m : Moment) (control : Control) (old mid : Playing) → IsAt m old → ((now : Moment) → IsAt now old → TakesStep now old mid (IsTold old.past control)) → Begun m (lines.Control control) old mid }
     ensures admitted { (m : Moment) (client : ℕ) (op : Op) (old mid : Playing) (entered : Bool) → IsAt m old → Admits entered m client (record { op = op; held = false }) old mid → Begun m (Client client op) old mid }
     ensures done { (m : Moment) (line : Line) (old mid new : Playing) → Begun m line old mid → runs_on line ≡ true → ((now : Moment) → IsAt now mid → RunsOut now mid new) → Carries m line old new }
@@ -68,4 +70,5 @@ pub fn the_end_is_carried_out<W: Wire>()
 pub fn what_is_not_heard_keeps_the_wires<W: Wire>()
     ensures itself { (n : ℕ) (e : Event) → goes_by_itself n e ≡ true → hears_nothing e ≡ true }
     ensures wires { (old new : List Event) (slots : List (Option (Journaled W))) → HearsNothing old new → KeepsFit W.told old new slots slots }
+    ensures plans { (old new : List Event) (slots : List (Option (Journaled W))) → HearsNothing old new → KeepsPlans W.told old new slots slots }
 {}

@@ -3,7 +3,7 @@ use Rattle.std.specs.Prelude.{OnOk}
 use Rattle.std.proofs.lemmas.Result.{err_from_is_err_and, on_ok_weaker, on_err_weaker}
 use Rattle.dsql_history.specs.Readers.Course.{has_ended}
 use Rattle.dsql_playing.specs.Acts.{ComesToEnd}
-use Rattle.dsql_wires.specs.Told.{fleet_told}
+use Rattle.dsql_playing.proofs.Hearing.{hears_none}
 use Rattle.dsql_playing.proofs.Keeping.{run_after}
 use Rattle.dsql_playing.proofs.Fitting.{fits_same, fits_unheard}
 use Rattle.dsql_playing.proofs.LastPart.{end_begun, end_stays, end_stops}
@@ -48,7 +48,7 @@ returns-in_err-run_on g c =
       quiet = tt;
       empty = tt;
       run =
-          run_after g.F.Fleet g.F.Wire.Wire.told _ c.args.fleet.now c.run_on.new.fleet old begun new c.run_on.new.wires (ap fleet_told c.release.ensures.past)
+          run_after g.F.Fleet g.F.Wire.Wire.told _ c.args.fleet.now c.run_on.new.fleet old begun new c.args.wires.now c.run_on.new.wires (hears_none old.past begun.past c.release.ensures.past)
           (record { ready = tt; told = tt; asked = e.run.asked; wires = tt; able = e.run.able; legal = e.run.legal });
       full = λ h. e.full (cc (h, p.2));
     })
@@ -72,7 +72,7 @@ returns-in_err-end_run g c =
       ended = tt;
       quiet = tt;
       empty = tt;
-      run = run_halts g.F.Fleet g.F.Wire.Wire.told _ c.args.fleet.now c.run_on.new.fleet old begun far over c.run_on.new.wires c.release.ensures.past done.run.told done.run.able e.act.unheard.told e.act.legal;
+      run = run_halts g.F.Fleet g.F.Wire.Wire.told _ c.args.fleet.now c.run_on.new.fleet old begun far over c.args.wires.now c.run_on.new.wires c.release.ensures.past done.run.told done.run.able e.act.unheard e.act.legal;
       full = λ h. absurd (cc (h, p.2, e.act.fails.memory));
     })
 
@@ -156,5 +156,5 @@ returns-clause-empty g c =
 
 pub returns-clause-run : goal.returns-clause-run
 returns-clause-run g c =
-    run_through g.F.Fleet g.F.Wire.Wire.told c.run_on-2.result c.args.fleet.now c.run_on.new.fleet c.run_on-2.new.fleet c.args.player.now c.release.new.self c.run_on.new.self c.end_run.new.self c.run_on-2.new.self c.run_on-2.new.wires
-    c.release.ensures.past c.in_ok-run_on.ensures.run.told c.in_ok-run_on.ensures.run.able c.end_run.ensures.act.unheard.told c.run_on-2.ensures.run
+    run_through g.F.Fleet g.F.Wire.Wire.told c.run_on-2.result c.args.fleet.now c.run_on.new.fleet c.run_on-2.new.fleet c.args.player.now c.release.new.self c.run_on.new.self c.end_run.new.self c.run_on-2.new.self c.args.wires.now c.run_on.new.wires
+    c.run_on-2.new.wires c.release.ensures.past c.in_ok-run_on.ensures.run.told c.in_ok-run_on.ensures.run.able c.end_run.ensures.act.unheard c.run_on-2.ensures.run

@@ -2,10 +2,10 @@ use Rattle.std.proofs.Common.{◌≡◌, refl, true}
 use Rattle.std.proofs.lemmas.Result.{err_from_is_err_and, on_ok_weaker, on_err_weaker}
 use Rattle.dsql_follows.specs.Sentences.{runs_on}
 use Rattle.dsql_playing.proofs.Fitting.{fits_unheard, untelling}
-use Rattle.dsql_playing.proofs.Keeping.{run_after, run_of_wires, run_stays}
+use Rattle.dsql_playing.proofs.Keeping.{run_after, run_of_wires, run_unplanned}
 use Rattle.dsql_playing.proofs.Lines.{begun_done, begun_stops, stops_at_once}
 use Rattle.dsql_playing.proofs.Singles.{started}
-use Rattle.dsql_player.proofs.Stepped.{not_full, run_unheard, runs_then}
+use Rattle.dsql_player.proofs.Stepped.{not_full, plans_none, run_unheard, runs_then}
 use Rattle.dsql_player.proofs.line.carry_line.Goals as goal
 
 pub returns-in_err-check_room : goal.returns-in_err-check_room
@@ -17,7 +17,7 @@ returns-in_err-check_room g c =
       carries = tt;
       stops = λ m at. stops_at_once m c.args.line old old.past refl at;
       course = tt;
-      run = run_stays g.F.Fleet g.F.Wire.Wire.told _ c.args.fleet.now old old c.args.wires.now refl refl c.in_err-check_room.ensures.legal;
+      run = run_unplanned _ g.F.Fleet g.F.Wire.Wire.told _ c.args.fleet.now old old c.args.wires.now c.args.wires.now refl refl c.in_err-check_room.ensures.legal;
       full = λ h. c.in_err-check_room.ensures.full;
     })
 
@@ -31,7 +31,7 @@ returns-in_err-admit-in-Start g c =
       carries = tt;
       stops = λ m at. stops_at_once m c.args.line old c.admit.new.self.past e.act.fails.same at;
       course = tt;
-      run = run_stays g.F.Fleet g.F.Wire.Wire.told _ c.args.fleet.now old c.admit.new.self c.args.wires.now refl e.act.unheard.told e.act.legal;
+      run = run_unplanned _ g.F.Fleet g.F.Wire.Wire.told _ c.args.fleet.now old c.admit.new.self c.args.wires.now c.args.wires.now refl e.act.fails.same e.act.legal;
       full = λ h. absurd (cc (h, p.2, e.act.fails.memory));
     })
 
@@ -42,7 +42,7 @@ returns-in_ok-admit-in-Start-clause-carries g c =
 
 pub returns-in_ok-admit-in-Start-clause-run : goal.returns-in_ok-admit-in-Start-clause-run
 returns-in_ok-admit-in-Start-clause-run g c =
-    run_unheard g.F.Fleet g.F.Wire.Wire.told _ _ c.args.fleet.now c.args.player.now c.admit.new.self c.args.wires.now c.requires.wires c.in_ok-admit-in-Start.ensures.act
+    rw c.in-Start.is (run_unheard g.F.Fleet g.F.Wire.Wire.told _ _ c.args.fleet.now c.args.player.now c.admit.new.self c.args.wires.now c.requires.wires c.in_ok-admit-in-Start.ensures.act)
 
 pub step_client-requires-clause-wires : goal.step_client-requires-clause-wires
 step_client-requires-clause-wires g c = untelling g.F.Wire.Wire.told _ c.args.player.now.past c.args.wires.now c.requires.wires
@@ -56,8 +56,9 @@ returns-in-Step-clause-stops g c =
 
 pub returns-in-Step-clause-run : goal.returns-in-Step-clause-run
 returns-in-Step-clause-run g c =
-    run_of_wires g.F.Fleet g.F.Wire.Wire.told c.step_client.result c.args.fleet.now c.args.player.now c.step_client.new.self c.args.wires.now c.step_client.new.wires c.requires.wires c.step_client.ensures.run
-    c.step_client.ensures.fails.same
+    rw c.in-Step.is
+    (run_of_wires g.F.Fleet g.F.Wire.Wire.told c.step_client.result c.args.fleet.now c.args.player.now c.step_client.new.self c.args.wires.now c.step_client.new.wires c.requires.wires c.step_client.ensures.run
+    c.step_client.ensures.fails.same)
 
 pub returns-in-Step-clause-full : goal.returns-in-Step-clause-full
 returns-in-Step-clause-full g c = not_full c.step_client.result _ c.step_client.ensures.fails.memory
@@ -68,6 +69,9 @@ returns-in-StepHouse-clause-carries g c = rw c.in-StepHouse.is c.step_house.ensu
 pub returns-in-StepHouse-clause-stops : goal.returns-in-StepHouse-clause-stops
 returns-in-StepHouse-clause-stops g c =
     on_err_weaker c.step_house.result (λ same m at. stops_at_once m c.args.line c.args.player.now c.step_house.new.self.past same at) c.step_house.ensures.fails.same
+
+pub returns-in-StepHouse-clause-run : goal.returns-in-StepHouse-clause-run
+returns-in-StepHouse-clause-run g c = rw c.in-StepHouse.is c.step_house.ensures.run
 
 pub returns-in-StepHouse-clause-full : goal.returns-in-StepHouse-clause-full
 returns-in-StepHouse-clause-full g c = not_full c.step_house.result _ c.step_house.ensures.fails.memory
@@ -89,7 +93,7 @@ returns-in_err-begin-in_default g c =
       carries = tt;
       stops = λ m at. stops_at_once m c.args.line old c.begin.new.self.past e.act.fails.same at;
       course = tt;
-      run = run_stays g.F.Fleet g.F.Wire.Wire.told _ c.args.fleet.now old c.begin.new.self c.args.wires.now refl e.act.unheard.told e.act.legal;
+      run = run_unplanned _ g.F.Fleet g.F.Wire.Wire.told _ c.args.fleet.now old c.begin.new.self c.args.wires.now c.args.wires.now refl e.act.fails.same e.act.legal;
       full = λ h. absurd (cc (h, p.2, e.act.fails.memory));
     })
 
@@ -109,4 +113,9 @@ returns-in_ok-begin-in_default-clause-stops g c =
 
 pub returns-in_ok-begin-in_default-clause-run : goal.returns-in_ok-begin-in_default-clause-run
 returns-in_ok-begin-in_default-clause-run g c =
-    run_after g.F.Fleet g.F.Wire.Wire.told c.run_on.result c.args.fleet.now c.run_on.new.fleet c.args.player.now c.begin.new.self c.run_on.new.self c.run_on.new.wires c.begin.ensures.act.unheard.told c.run_on.ensures.run
+    rw (plans_none c.args.line c.args.player.now.past (λ conn nth what is. c.in_default.not-Fault conn nth what is))
+    (run_after g.F.Fleet g.F.Wire.Wire.told c.run_on.result c.args.fleet.now c.run_on.new.fleet c.args.player.now c.begin.new.self c.run_on.new.self c.args.wires.now c.run_on.new.wires c.begin.ensures.act.unheard
+    c.run_on.ensures.run)
+
+pub returns-in-Fault : goal.returns-in-Fault
+returns-in-Fault g c = rw c.in-Fault.is c.carry_fault.ensures

@@ -1,7 +1,7 @@
 use Rattle.std.proofs.Common.{◌≡◌}
 use Rattle.std.proofs.lemmas.Result.{on_ok_weaker}
 use Rattle.dsql_playing.proofs.Lines.{begun_client, begun_control}
-use Rattle.dsql_player.proofs.Stepped.{is_skip, skipped}
+use Rattle.dsql_player.proofs.Stepped.{skipped}
 use Rattle.dsql_player.proofs.player.Player.begin.Goals as goal
 
 pub returns-in-Control-clause-begins : goal.returns-in-Control-clause-begins
@@ -15,4 +15,4 @@ returns-in-Client-clause-begins c =
 
 pub returns-clause-begins : goal.returns-clause-begins
 returns-clause-begins c = λ m at.
-    skipped c.args.line m c.args.self.now (is_skip c.args.line c.requires.runs (λ control is. c.in_default.not-Control control is) (λ client op is. c.in_default.not-Client client op is)) at
+    skipped c.args.line m c.args.self.now c.requires.runs (λ control is. c.in_default.not-Control control is) (λ client op is. c.in_default.not-Client client op is) at

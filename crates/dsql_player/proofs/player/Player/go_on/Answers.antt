@@ -1,11 +1,11 @@
-use Rattle.std.proofs.Common.{◌<◌, false, true, length, refl, ap, sym, subst, ◌∙◌}
+use Rattle.std.proofs.Common.{◌<◌, false, true, [], length, refl, ap, sym, subst, ◌∙◌}
 use Rattle.std.proofs.lemmas.Result.{err_from_is_err_and}
 use Rattle.dsql_history.specs.Rules.House.{chore_due}
 use Rattle.dsql_steps.specs.Groups.{most_events}
-use Rattle.dsql_wires.specs.Told.{fleet_told}
 use Rattle.dsql_playing.specs.Playing.{Playing}
 use Rattle.dsql_playing.specs.Stepping.{MakesChore}
 use Rattle.dsql_playing.proofs.Fitting.{untelling}
+use Rattle.dsql_playing.proofs.Hearing.{hears_none}
 use Rattle.dsql_playing.proofs.Keeping.{run_goes, run_stays, run_then}
 use Rattle.dsql_player.proofs.Ran.{course_then, goes_after, goes_by_chore, goes_no_more}
 use Rattle.dsql_player.proofs.player.Player.go_on.Goals as goal
@@ -20,7 +20,7 @@ returns-in_err-check_room g c =
       room = tt;
       same = refl;
       course = tt;
-      run = run_stays g.F.Fleet g.F.Wire.Wire.told _ c.args.fleet.now old old c.args.wires.now refl refl c.in_err-check_room.ensures.legal;
+      run = run_stays g.F.Fleet g.F.Wire.Wire.told _ c.args.fleet.now old old c.args.wires.now c.args.wires.now refl (hears_none old.past old.past refl) c.in_err-check_room.ensures.legal;
       full = λ h. c.in_err-check_room.ensures.full;
     })
 
@@ -95,8 +95,8 @@ returns-in_err-go_on_with-in-Some g c =
       same = e.fails.same ∙ ap (λ (p : Playing). p.past) made.0;
       course = tt;
       run =
-          run_then g.F.Fleet g.F.Wire.Wire.told _ c.args.fleet.now c.make_first_chore.new.fleet c.make_first_chore.new.fleet old mid new c.go_on_with.new.wires done.run.told done.run.able
-          (run_stays g.F.Fleet g.F.Wire.Wire.told _ c.make_first_chore.new.fleet mid new c.go_on_with.new.wires refl (ap fleet_told e.fails.same) e.run.legal);
+          run_then [] g.F.Fleet g.F.Wire.Wire.told _ c.args.fleet.now c.make_first_chore.new.fleet c.make_first_chore.new.fleet old mid new c.args.wires.now c.make_first_chore.new.wires c.go_on_with.new.wires done.run.told done.run.able
+          (run_stays g.F.Fleet g.F.Wire.Wire.told _ c.make_first_chore.new.fleet mid new c.make_first_chore.new.wires c.go_on_with.new.wires refl (hears_none mid.past new.past e.fails.same) e.run.legal);
       full = λ h. absurd (cc (h, p.2, e.fails.memory));
     })
 
@@ -114,8 +114,8 @@ returns-in_ok-go_on_with-in-Some g c =
       same = tt;
       course = course_then old mid new done.course more.course;
       run =
-          run_then g.F.Fleet g.F.Wire.Wire.told _ c.args.fleet.now c.make_first_chore.new.fleet c.make_first_chore.new.fleet old mid new c.go_on_with.new.wires done.run.told done.run.able
-          (run_goes g.F.Fleet g.F.Wire.Wire.told _ c.make_first_chore.new.fleet mid new c.make_first_chore.new.wires c.go_on_with.new.wires done.run.wires more.run.ready more.run.wires more.run.told more.run.legal);
+          run_then [] g.F.Fleet g.F.Wire.Wire.told _ c.args.fleet.now c.make_first_chore.new.fleet c.make_first_chore.new.fleet old mid new c.args.wires.now c.make_first_chore.new.wires c.go_on_with.new.wires done.run.told done.run.able
+          (run_goes g.F.Fleet g.F.Wire.Wire.told _ c.make_first_chore.new.fleet mid new c.make_first_chore.new.wires c.go_on_with.new.wires done.run.wires more.run.ready more.run.wires more.run.plans more.run.told more.run.legal);
       full = λ h. absurd cc;
     }
 

@@ -11,7 +11,7 @@ use Rattle.dsql_steps.specs.Groups.{after_heard, most_events}
 use Rattle.dsql_playing.specs.Playing.{Playing}
 use Rattle.dsql_playing.specs.Stepping.{leave_of}
 use Rattle.dsql_playing.proofs.Answering.{HasLeave, leave_at, wire_takes}
-use Rattle.dsql_player.proofs.Asked.{Asks, Given, answer_heard, asks_course, asks_grows, asks_hears, asks_ready, asks_told, asks_wires, given_again, had_none}
+use Rattle.dsql_player.proofs.Asked.{Asks, Given, answer_heard, asks_course, asks_grows, asks_hears, asks_plans, asks_ready, asks_told, asks_wires, given_again, had_none}
 use Rattle.dsql_player.proofs.player.Player.make_call.Goals as goal
 
 pub unreachable-requires : goal.unreachable-requires
@@ -34,7 +34,7 @@ returns-in_err-heard g c =
       hears = rw p.1 tt;
       grows = rw p.1 tt;
       course = rw p.1 tt;
-      run = record { ready = rw p.1 tt; wires = rw p.1 tt; told = rw p.1 tt; legal = subst (λ (H : List Event). Legal H) (sym past) c.requires.ready.legal };
+      run = record { ready = rw p.1 tt; wires = rw p.1 tt; plans = rw p.1 tt; told = rw p.1 tt; legal = subst (λ (H : List Event). Legal H) (sym past) c.requires.ready.legal };
       fails = record { same = rw p.1 past; memory = rw p.1 p.2 };
     }
 
@@ -57,7 +57,7 @@ returns-in_err-next g c =
       hears = rw p.1 tt;
       grows = rw p.1 tt;
       course = rw p.1 tt;
-      run = record { ready = rw p.1 tt; wires = rw p.1 tt; told = rw p.1 tt; legal = c.heard.ensures.legal };
+      run = record { ready = rw p.1 tt; wires = rw p.1 tt; plans = rw p.1 tt; told = rw p.1 tt; legal = c.heard.ensures.legal };
       fails = record { same = rw p.1 (ap (λ (x : Core). x.past) c.in_err-next.ensures.err ∙ past); memory = rw p.1 p.2 };
     }
 
@@ -104,6 +104,7 @@ returns g c =
       run = record {
         ready = asks_ready g.W.Wire.told permit e next me old new c.args.wires.now c.perform.new.self a;
         wires = asks_wires g.W.Wire.told permit e next me old new c.args.wires.now c.perform.new.self a;
+        plans = asks_plans g.W.Wire.told permit e next me old new c.args.wires.now c.perform.new.self a;
         told = asks_told g.W.Wire.told permit e next me old new c.args.wires.now c.perform.new.self a;
         legal = c.heard.ensures.legal;
       };

@@ -3,10 +3,10 @@ use Rattle.std.proofs.lemmas.Result.{err_from_is_err_and}
 use Rattle.dsql_history.specs.declared.event.Event.{Event}
 use Rattle.dsql_history.specs.Readers.Course.{has_ended}
 use Rattle.dsql_history.specs.Legal.{Legal}
-use Rattle.dsql_wires.specs.Told.{fleet_told}
 use Rattle.dsql_wires.specs.WiresFit.{WiresFit}
 use Rattle.dsql_playing.specs.Chores.{IsToMake}
 use Rattle.dsql_playing.specs.Playing.{Playing}
+use Rattle.dsql_playing.proofs.Hearing.{hears_none}
 use Rattle.dsql_playing.proofs.Keeping.{run_stays}
 use Rattle.dsql_player.proofs.Taken.{SameButChore, at_err, core_looked, first_course, first_makes, first_none, first_run, first_sent, first_stops, none_run, player_of}
 use Rattle.dsql_player.proofs.player.Player.make_first_chore.Goals as goal
@@ -48,7 +48,7 @@ returns-in_ok-make_chore-in-Send-clause-run g c =
     let s = c.self.inside in
     let old : Playing = c.args.self.now in
     let mid : Playing = player_of c.chore.new.self s.seats s.released in
-    first_run g.F.Fleet g.F.Wire.Wire.told _ _ c.args.fleet.now c.make_chore.new.fleet old mid c.make_chore.new.self c.make_chore.new.wires (c.chore.ensures.past ∙ ap (λ (p : Playing). p.past) c.self.view_is)
+    first_run g.F.Fleet g.F.Wire.Wire.told _ _ c.args.fleet.now c.make_chore.new.fleet old mid c.make_chore.new.self c.args.wires.now c.make_chore.new.wires (c.chore.ensures.past ∙ ap (λ (p : Playing). p.past) c.self.view_is)
     c.in_ok-make_chore-in-Send.ensures.run
 
 pub returns-in_default-clause-makes : goal.returns-in_default-clause-makes
@@ -75,8 +75,8 @@ returns-in_err-permit-clause-run g c =
     let s = c.self.inside in
     let same : c.chore.new.self.past ≡ c.args.self.now.past = c.chore.ensures.past ∙ ap (λ (p : Playing). p.past) c.self.view_is in
     let q = err_from_is_err_and c.from_residual.result c.from_residual.ensures.1 in
-    run_stays g.F.Fleet g.F.Wire.Wire.told c.from_residual.result c.args.fleet.now c.args.self.now (player_of c.chore.new.self s.seats s.released) c.args.wires.now (at_err c.from_residual.result q.0 q.1)
-    (ap fleet_told same) (subst Legal (sym same) c.requires.ready.legal)
+    run_stays g.F.Fleet g.F.Wire.Wire.told c.from_residual.result c.args.fleet.now c.args.self.now (player_of c.chore.new.self s.seats s.released) c.args.wires.now c.args.wires.now (at_err c.from_residual.result q.0 q.1)
+    (hears_none c.args.self.now.past c.chore.new.self.past same) (subst Legal (sym same) c.requires.ready.legal)
 
 pub returns-in_err-make_chore-in-Send-clause-run : goal.returns-in_err-make_chore-in-Send-clause-run
 returns-in_err-make_chore-in-Send-clause-run g c =
@@ -84,4 +84,4 @@ returns-in_err-make_chore-in-Send-clause-run g c =
     let q = err_from_is_err_and c.from_residual-in_err-make_chore-in-Send.result c.from_residual-in_err-make_chore-in-Send.ensures.1 in
     let r = c.in_err-make_chore-in-Send.ensures.run in
     first_stops g.F.Fleet g.F.Wire.Wire.told c.from_residual-in_err-make_chore-in-Send.result c.args.fleet.now c.make_chore.new.fleet c.args.self.now (player_of c.chore.new.self s.seats s.released) c.make_chore.new.self
-    c.make_chore.new.wires (at_err c.from_residual-in_err-make_chore-in-Send.result q.0 q.1) (c.chore.ensures.past ∙ ap (λ (p : Playing). p.past) c.self.view_is) r.asked r.able r.legal
+    c.args.wires.now c.make_chore.new.wires (at_err c.from_residual-in_err-make_chore-in-Send.result q.0 q.1) (c.chore.ensures.past ∙ ap (λ (p : Playing). p.past) c.self.view_is) r.asked r.able r.legal

@@ -1,11 +1,12 @@
-use Rattle.std.proofs.Common.{◌≡◌, is_some}
+use Rattle.std.proofs.Common.{◌≡◌, [], is_some}
 use Rattle.std.proofs.lemmas.Result.{err_from_is_err_and, on_ok_weaker}
 use Rattle.dsql_journal.specs.declared.entry.Permit.{Permit}
 use Rattle.dsql_tenure.specs.Judged.{answered}
 use Rattle.dsql_wires.proofs.Asking.{connect_fits, no_wire}
 use Rattle.dsql_playing.specs.Acts.{TakesAnswer}
 use Rattle.dsql_playing.proofs.Housekeeping.{made_so}
-use Rattle.dsql_player.proofs.Opened.{opened_run, unasked_run}
+use Rattle.dsql_playing.proofs.Keeping.{run_unasked}
+use Rattle.dsql_player.proofs.Opened.{opened_run}
 use Rattle.dsql_player.proofs.Taken.{at_err}
 use Rattle.dsql_player.proofs.player.Player.open.Goals as goal
 
@@ -43,12 +44,12 @@ returns-clause-run g c =
     let now = c.hear.new.self in
     opened_run g.F.Fleet g.F.Wire.Wire.told c.hear.result c.args.fleet.now c.connect_wire.new.fleet c.args.permit e p now c.args.wires.now c.connect_wire.new.wires c.requires.to_make
     c.requires.opens c.requires.wires
-    (record { answers = c.in_ok-heard.ensures.heard; others = c.in_ok-heard.ensures.others; wire = c.in_ok-heard.ensures.wire; told = c.in_ok-heard.ensures.asked; able = c.connect_wire.ensures.able })
+    (record { answers = c.in_ok-heard.ensures.heard; others = c.in_ok-heard.ensures.others; wire = c.in_ok-heard.ensures.wire; unplanned = c.in_ok-heard.ensures.unplanned; told = c.in_ok-heard.ensures.asked; able = c.connect_wire.ensures.able })
     (on_ok_weaker c.hear.result (λ (takes : (permit : Permit) → e ≡ answered permit e.answer → TakesAnswer permit e p now). takes c.args.permit c.in_ok-heard.ensures.heard.entry) c.hear.ensures.takes)
     c.hear.ensures.fails.same c.hear.ensures.legal
 
 pub returns-in_err-heard-clause-run : goal.returns-in_err-heard-clause-run
 returns-in_err-heard-clause-run g c =
     let q = err_from_is_err_and c.from_residual.result c.from_residual.ensures.1 in
-    unasked_run g.F.Fleet g.F.Wire.Wire.told c.from_residual.result c.args.fleet.now c.connect_wire.new.fleet c.args.self.now c.connect_wire.new.wires (at_err c.from_residual.result q.0 q.1) c.in_err-heard.ensures.unasked
+    run_unasked [] g.F.Fleet g.F.Wire.Wire.told c.from_residual.result c.args.fleet.now c.connect_wire.new.fleet c.args.self.now c.args.wires.now c.connect_wire.new.wires (at_err c.from_residual.result q.0 q.1) c.in_err-heard.ensures.unasked
     c.connect_wire.ensures.able c.requires.to_make.ready.legal

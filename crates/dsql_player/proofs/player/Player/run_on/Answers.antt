@@ -1,4 +1,4 @@
-use Rattle.std.proofs.Common.{false, true, arith, refl, subst}
+use Rattle.std.proofs.Common.{false, true, [], arith, refl, subst}
 use Rattle.std.proofs.lemmas.Result.{err_from_is_err_and}
 use Rattle.dsql_playing.specs.Stepping.{GoesOn}
 use Rattle.dsql_playing.proofs.Going.{runs_more, runs_none}
@@ -14,7 +14,7 @@ loop-init g c =
       ready = c.requires.ready;
       runs = λ m at. runs_none m p at;
       course = record { ended = refl; released = refl };
-      told = tells_none (g.F.Fleet.told c.args.fleet.now) p.past p.past refl;
+      told = tells_none g.F.Wire.Wire.told (g.F.Fleet.told c.args.fleet.now) p.past p.past c.args.wires.now c.args.wires.now (λ made. refl) (λ made its. its);
       wires = c.requires.wires;
       able = able_same g.F.Fleet c.args.fleet.now;
     }
@@ -37,7 +37,9 @@ loop-preserved g c =
       ready = more.run.ready;
       runs = λ m at. runs_more m old mid new (done.runs m at) step.1;
       course = course_then old mid new done.course more.course;
-      told = tells_then (g.F.Fleet.told c.args.fleet.now) (g.F.Fleet.told c.loop.fleet) (g.F.Fleet.told c.go_on.new.fleet) old.past mid.past new.past done.told more.run.told;
+      told =
+          tells_then g.F.Wire.Wire.told [] (g.F.Fleet.told c.args.fleet.now) (g.F.Fleet.told c.loop.fleet) (g.F.Fleet.told c.go_on.new.fleet) old.past mid.past new.past c.args.wires.now c.loop.wires c.go_on.new.wires
+          done.told more.run.told;
       wires = more.run.wires;
       able = able_then g.F.Fleet c.args.fleet.now c.loop.fleet c.go_on.new.fleet done.able more.run.able;
     }
@@ -68,7 +70,7 @@ returns-in_err-go_on g c =
       nobody = tt;
       course = tt;
       run =
-          run_then g.F.Fleet g.F.Wire.Wire.told _ c.args.fleet.now c.loop.fleet c.go_on.new.fleet old mid new c.go_on.new.wires done.told done.able
+          run_then [] g.F.Fleet g.F.Wire.Wire.told _ c.args.fleet.now c.loop.fleet c.go_on.new.fleet old mid new c.args.wires.now c.loop.wires c.go_on.new.wires done.told done.able
           (record { ready = tt; told = tt; asked = more.run.asked; wires = tt; able = more.run.able; legal = more.run.legal });
       full = λ h. more.full (cc (h, p.2));
     })
@@ -88,7 +90,7 @@ returns g c =
       nobody = still_nobody mid new last;
       course = course_then old mid new done.course more.course;
       run =
-          run_then g.F.Fleet g.F.Wire.Wire.told _ c.args.fleet.now c.loop.fleet c.go_on.new.fleet old mid new c.go_on.new.wires done.told done.able
+          run_then [] g.F.Fleet g.F.Wire.Wire.told _ c.args.fleet.now c.loop.fleet c.go_on.new.fleet old mid new c.args.wires.now c.loop.wires c.go_on.new.wires done.told done.able
           (record { ready = more.run.ready; told = more.run.told; asked = tt; wires = more.run.wires; able = more.run.able; legal = more.run.legal });
       full = λ h. absurd cc;
     }

@@ -1,4 +1,4 @@
-use Rattle.std.proofs.Common.{◌-◌, length, is_some}
+use Rattle.std.proofs.Common.{◌-◌, [], length, is_some}
 use Rattle.dsql_follows.specs.Moments.{Moment}
 use Rattle.dsql_steps.specs.Groups.{most_events}
 use Rattle.dsql_wires.specs.Told.{FleetTells, SameAbility}
@@ -13,7 +13,7 @@ invariant-loop g l = record {
   ready : IsReady l.self;
   runs : (m : Moment) → IsAt m l.fn.self → RunsTo m l.fn.self l.self;
   course : SameCourse l.fn.self l.self;
-  told : FleetTells (g.F.Fleet.told l.fn.fleet) (g.F.Fleet.told l.fleet) l.fn.self.past l.self.past;
+  told : FleetTells g.F.Wire.Wire.told [] (g.F.Fleet.told l.fn.fleet) (g.F.Fleet.told l.fleet) l.fn.self.past l.self.past l.fn.wires l.wires;
   wires : WiresFit g.F.Wire.Wire.told (is_some (g.F.Fleet.told l.fleet)) l.self.past l.wires;
   able : SameAbility g.F.Fleet l.fn.fleet l.fleet;
 }

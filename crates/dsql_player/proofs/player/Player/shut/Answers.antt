@@ -1,11 +1,11 @@
-use Rattle.std.proofs.Common.{is_some, ap, rules}
+use Rattle.std.proofs.Common.{is_some, rules}
 use Rattle.std.specs.Prelude.{IsSome}
 use Rattle.std.proofs.lemmas.Result.{err_from_is_err_and}
-use Rattle.dsql_wires.specs.Told.{fleet_told}
 use Rattle.dsql_wires.specs.WiresFit.{slot}
 use Rattle.dsql_wires.proofs.Asking.{wire_heard}
 use Rattle.dsql_wires.proofs.Journals.{shut_only}
 use Rattle.dsql_playing.proofs.Fitting.{untelling}
+use Rattle.dsql_playing.proofs.Hearing.{hears_none}
 use Rattle.dsql_playing.proofs.Keeping.{run_stays}
 use Rattle.dsql_player.proofs.Shut.{shut_run}
 use Rattle.dsql_player.proofs.Taken.{at_err}
@@ -37,4 +37,5 @@ returns-clause-run g c =
 pub returns-in_err-ask-clause-run : goal.returns-in_err-ask-clause-run
 returns-in_err-ask-clause-run g c =
     let q = err_from_is_err_and c.from_residual.result c.from_residual.ensures.1 in
-    run_stays g.F.Fleet g.F.Wire.Wire.told c.from_residual.result c.args.fleet.now c.args.self.now c.ask.new.self c.ask.new.wires (at_err c.from_residual.result q.0 q.1) (ap fleet_told c.in_err-ask.ensures.fails.same) c.ask.ensures.legal
+    run_stays g.F.Fleet g.F.Wire.Wire.told c.from_residual.result c.args.fleet.now c.args.self.now c.ask.new.self c.args.wires.now c.ask.new.wires (at_err c.from_residual.result q.0 q.1)
+    (hears_none c.args.self.now.past c.ask.new.self.past c.in_err-ask.ensures.fails.same) c.ask.ensures.legal
