@@ -166,8 +166,6 @@ no_step_more m (Fault conn nth what) zs e qe r f g =
 no_step_more m (lines.Control control) zs e qe r f g =
     runs_no_further (met (lines.Control control) m) true zs e qe f.in_turn (λ k. is_set_somewhere control (passed (met (lines.Control control) m) qe) g.set)
     (released_after (met (lines.Control control) m) qe ∙ r) g.run_out
-no_step_more m (lines.Fault conn nth what) zs e qe r f g =
-    runs_no_further (met (lines.Fault conn nth what) m) false zs e qe f.in_turn (λ k. absurd cc) (released_after (met (lines.Fault conn nth what) m) qe ∙ r) g.run_out
 no_step_more m (Client client op) zs e qe r f g =
     runs_no_further (met (Client client op) m) (enters_now m client) zs e qe f.in_turn
     (is_entered_somewhere (enters_now m client) client (passed (met (Client client op) m) qe) g.entered)

@@ -7,67 +7,33 @@ use Rattle.dsql_driver.specs.Wires.{FleetTold, WireTold}
 use Rattle.dsql_history.specs.declared.event.Event.{Event}
 use Rattle.dsql_history.specs.declared.event.Event.TheVariants.{Run}
 use Rattle.dsql_wire.specs.Journaled.{Journaled}
-use Rattle.dsql_wires.specs.Told.{with_told, TellsAtMost, LeavesAtMost, AsksAtMost, SameAsked, retired_from}
-use Rattle.dsql_wires.proofs.Telling.{no_more, same_both, leaves, retired_same}
+use Rattle.dsql_wires.specs.Plans.{Made}
+use Rattle.dsql_wires.specs.Told.{with_told, AsksAtMost, SameAsked, retired_from}
+use Rattle.dsql_wires.proofs.Telling.{no_more, same_both, retired_same}
 use Rattle.dsql_script_source.specs.Stops.{is_read_fault, no_read_failed}
 use Rattle.dsql_script_source.specs.declared.stop.Stop.{Stop}
 use Rattle.dsql_script_source.specs.declared.stop.Stop.TheVariants.{Read, Write, Memory, Refused, Full}
 use Rattle.dsql_outcome.specs.Runs.{ran_out, no_write_failed, is_write_fault, Finishes}
 
-pub none_told : (t : Option FleetTold) (caps : Caps) → with_told t (Run 1 caps ∷ []) ≡ t
+-- as a run begins, the fleet tells what it told
+pub none_told : (t : Option FleetTold) (caps : Caps) → with_told [] t (Run 1 caps ∷ []) ≡ t
 none_told None caps = refl
 none_told (Some told) caps =
-    ap (λ cs. Some (record { connects = cs; plans = told.plans; retired = told.retired ++ [] })) (append-nil told.connects)
+    ap (λ cs. Some (record { connects = cs; plans = told.plans ++ []; retired = told.retired ++ [] })) (append-nil told.connects)
+    ∙ ap (λ ps. Some (record { connects = told.connects; plans = ps; retired = told.retired ++ [] })) (append-nil told.plans)
     ∙ ap (λ rs. Some (record { connects = told.connects; plans = told.plans; retired = rs })) (append-nil told.retired)
 
-asks_of_leaves : (before after : Option FleetTold) (caps : Caps) (past : List Event) → LeavesAtMost before after (Run 1 caps ∷ []) past → AsksAtMost before after past
-asks_of_leaves before after caps past l = record { more = l.more; few = l.few; asked = l.asked before (sym (none_told before caps)) }
-
-asks_of_told : (before after : Option FleetTold) (past : List Event) → after ≡ with_told before past → AsksAtMost before after past
-asks_of_told before after past is = record {
+-- a fleet that told exactly of a history was asked for no more
+pub asks_of_told : (made : List Made) (before after : Option FleetTold) (past : List Event) → after ≡ with_told made before past → AsksAtMost made before after past
+asks_of_told made before after past is = record {
   more = [];
   few = omega arith;
-  asked = subst (λ (told : Option FleetTold). SameAsked told after) (is ∙ no_more (with_told before past)) (same_both after);
-}
-
-leaves_since : (before mid after : Option FleetTold) (rest past : List Event) → mid ≡ with_told before rest → LeavesAtMost mid after rest past → AsksAtMost before after past
-leaves_since before mid after rest past is l = record { more = l.more; few = l.few; asked = l.asked before is }
-
--- a run that told exactly of its history told at most of it
-pub told_at_most : (before after : Option FleetTold) (caps : Caps) (old past : List Event) → old ≡ Run 1 caps ∷ [] → after ≡ with_told before past → TellsAtMost before after old past
-told_at_most before after caps old past begun is = record {
-  more = [];
-  few = omega arith;
-  told = λ t h. is
-      ∙ ap (λ k. with_told k past) (h ∙ subst (λ (start : List Event). with_told t start ≡ t) (sym begun) (none_told t caps))
-      ∙ no_more (with_told t past);
+  asked = subst (λ (told : Option FleetTold). SameAsked told after) (is ∙ no_more (with_told made before past)) (same_both after);
 }
 
 -- the wires that are left are given back, and nothing more is asked for
 pub given_back : {W : Type 0} (tells : W → Option WireTold) (slots : List (Option (Journaled W))) (before after : Option FleetTold) → after ≡ retired_from tells slots before → SameAsked before after
 given_back tells slots before after is = subst (λ (told : Option FleetTold). SameAsked before told) (sym is) (retired_same tells slots before)
-
--- what the lines were played with, and what became of it at the end
-pub record Asked (played ended : Result (Unit {0}) Stop) (before mid after : Option FleetTold) (caps : Caps) (rest past : List Event) : Type 0 where
-  pub lines : TellsAtMost before mid (Run 1 caps ∷ []) rest
-  pub all : ran_out played ≡ true → mid ≡ with_told before rest
-  pub end : ran_out ended ≡ true → (t : Option FleetTold) → mid ≡ with_told t rest → after ≡ with_told t past
-  pub same : ran_out ended ≡ true → ended ≡ played
-  pub left : ran_out played ≡ true → ran_out ended ≡ false → LeavesAtMost mid after rest past
-  pub given_back : ran_out played ≡ false → SameAsked mid after
-  pub stays : ran_out played ≡ false → past ≡ rest
-
-asks_by : (p e : Bool) (played ended : Result (Unit {0}) Stop) (before mid after : Option FleetTold) (caps : Caps) (rest past : List Event) → ran_out played ≡ p → ran_out ended ≡ e → Asked played ended before mid after caps rest past
-    → AsksAtMost before after past
-asks_by p true played ended before mid after caps rest past is ran a =
-    let all : mid ≡ with_told before rest = a.all (subst (λ (r : Result (Unit {0}) Stop). ran_out r ≡ true) (a.same ran) ran) in
-    asks_of_told before after past (a.end ran before all)
-asks_by true false played ended before mid after caps rest past is ran a = leaves_since before mid after rest past (a.all is) (a.left is ran)
-asks_by false false played ended before mid after caps rest past is ran a =
-    subst (λ (h : List Event). AsksAtMost before after h) (sym (a.stays is)) (asks_of_leaves before after caps rest (leaves before mid after (Run 1 caps ∷ []) rest a.lines (a.given_back is)))
-
-pub asks : (played ended : Result (Unit {0}) Stop) (before mid after : Option FleetTold) (caps : Caps) (rest past : List Event) → Asked played ended before mid after caps rest past → AsksAtMost before after past
-asks played ended before mid after caps rest past a = asks_by (ran_out played) (ran_out ended) played ended before mid after caps rest past refl refl a
 
 read_ran : (r : Result (Unit {0}) Stop) → no_read_failed r ≡ true → ran_out r ≡ true
 read_ran (Ok done) h = refl

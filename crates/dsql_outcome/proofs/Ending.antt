@@ -2,10 +2,13 @@
 use Rattle.std.proofs.Common.{◌≡◌, ◌⊎◌, ℕ, ◌≤◌, Bool, true, false, List, [], Option, length, refl, ap, sym, subst, ◌∙◌, inl, inr}
 use Rattle.std.specs.Prelude.{Result, Ok, Err}
 use Rattle.dsql_driver.specs.declared.caps.Caps.{Caps}
+use Rattle.dsql_driver.specs.Wires.{FleetTold}
 use Rattle.dsql_history.specs.declared.event.Event.{Event}
 use Rattle.dsql_follows.specs.Moments.{Moment}
 use Rattle.dsql_follows.specs.Follows.{after, told}
 use Rattle.dsql_wires.specs.Extends.{Extends}
+use Rattle.dsql_wires.specs.Told.{FleetTellsOn, LeavesAtMost, SameAsked, with_told}
+use Rattle.dsql_playing.specs.Planned.{plans_made}
 use Rattle.dsql_playing.specs.Carried.{CarriesEnd, StopsInEnd}
 use Rattle.dsql_playing.specs.Playing.{Playing, IsAt}
 use Rattle.dsql_report.specs.Lines.{text_of}
@@ -14,10 +17,12 @@ use Rattle.dsql_script_source.specs.Plays.{Plays}
 use Rattle.dsql_script_source.specs.Script.{Said}
 use Rattle.dsql_script_source.specs.declared.stop.Stop.{Stop}
 use Rattle.dsql_script_source.specs.declared.stop.Stop.TheVariants.{Read, Write, Memory, Refused, Full}
-use Rattle.dsql_outcome.specs.Followed.{FollowsAll, StopsShort}
+use Rattle.dsql_outcome.specs.Followed.{FollowsAll}
+use Rattle.dsql_outcome.specs.Lent.{Lent, StopsAsking}
 use Rattle.dsql_outcome.specs.Runs.{CutAtEnd, CutAtLine, Finishes, IsLinesEnd, Wrote, is_write_fault, ran_out, wanted_memory}
 use Rattle.dsql_outcome.specs.Playing.{LinesPlayed, ScriptPlayed}
-use Rattle.dsql_outcome.proofs.Following.{all_stops_short, end_follows, end_stops_short}
+use Rattle.dsql_outcome.proofs.Asking.{asks_of_told}
+use Rattle.dsql_outcome.proofs.Following.{all_planning, end_follows, end_planning}
 use Rattle.dsql_outcome.proofs.Saying.{plays_first}
 use Rattle.dsql_outcome.proofs.Finished.{shows_of_wrote, wrote_older}
 use Rattle.dsql_outcome.proofs.Writing.{stops_after_older}
@@ -95,27 +100,52 @@ played_ran : (played ended final : Result (Unit {0}) Stop) (rest : Playing) (pas
 played_ran played ended final rest past e ran = subst (λ r. ran_out r ≡ true) (e.same ran) ran
 
 -- it was ended, and follows its lines and the script's end
-ended_follows : (played ended final : Result (Unit {0}) Stop) (before left : Option (List ℕ)) (k : ℕ) (asked : Option Caps) (run : Event) (rest : Playing) (past : List Event) (w mid : Option (List ℕ)) → Ends played ended final rest past
-    → (l : LinesPlayed played before left k asked run rest w mid) → ran_out ended ≡ true → (all : FollowsAll run l.lines past) × (all.played.parts ≡ l.parts)
-ended_follows played ended final before left k asked run rest past w mid e l ran =
+ended_follows : {W : Type 0} (played ended final : Result (Unit {0}) Stop) (before left : Option (List ℕ)) (k : ℕ) (asked : Option Caps) (run : Event) (rest : Playing) (past : List Event) (w mid : Option (List ℕ)) (lent : Lent W) → Ends played ended final rest past
+    → (l : LinesPlayed played before left k asked run rest w mid lent) → ran_out ended ≡ true → (all : FollowsAll run l.lines past) × (all.played.parts ≡ l.parts)
+ended_follows played ended final before left k asked run rest past w mid lent e l ran =
     let through = played_ran played ended final rest past e ran in
     end_follows run l.lines l.parts rest.past past (l.follows through) (e.carries ran (after run l.parts) (l.at through))
 
-ended_short : (played ended final : Result (Unit {0}) Stop) (before left : Option (List ℕ)) (k : ℕ) (asked : Option Caps) (run : Event) (rest : Playing) (past : List Event) (w mid : Option (List ℕ)) → Ends played ended final rest past
-    → (l : LinesPlayed played before left k asked run rest w mid) → ran_out ended ≡ false → StopsShort run l.lines past
-ended_short played ended final before left k asked run rest past w mid e l out = by (ran_out played) refl
-  where
-    by : (b : Bool) → ran_out played ≡ b → StopsShort run l.lines past
-    by true ran = end_stops_short run l.lines l.parts rest.past past (l.follows ran) (e.stops ran out (after run l.parts) (l.at ran))
-    by false short = subst (λ h. StopsShort run l.lines h) (sym (e.stays short)) (l.short short)
+-- What the fleet was asked for as a run was ended.
+pub record EndsAsking {W : Type 0} (played ended : Result (Unit {0}) Stop) (lent : Lent W) (after : Option FleetTold) (rest past : List Event) : Type 0 where
+  pub end : ran_out ended ≡ true → FleetTellsOn lent.heard lent.now after rest past lent.slots
+  pub left : ran_out played ≡ true → ran_out ended ≡ false → LeavesAtMost lent.heard lent.now after rest past lent.slots
+  pub given_back : ran_out played ≡ false → SameAsked lent.now after
 
-either_short : (played ended final : Result (Unit {0}) Stop) (before left : Option (List ℕ)) (k : ℕ) (asked : Option Caps) (run : Event) (rest : Playing) (past : List Event) (w mid : Option (List ℕ)) → Ends played ended final rest past
-    → (l : LinesPlayed played before left k asked run rest w mid) → StopsShort run l.lines past
-either_short played ended final before left k asked run rest past w mid e l = by (ran_out ended) refl
+ended_short : {W : Type 0} (played ended final : Result (Unit {0}) Stop) (before left : Option (List ℕ)) (k : ℕ) (asked : Option Caps) (run : Event) (rest : Playing) (past : List Event) (w mid : Option (List ℕ)) (lent : Lent W)
+    (told_after : Option FleetTold) → Ends played ended final rest past → EndsAsking played ended lent told_after rest.past past
+    → (l : LinesPlayed played before left k asked run rest w mid lent) → ran_out ended ≡ false → StopsAsking run l.lines past lent.first told_after
+ended_short played ended final before left k asked run rest past w mid lent told_after e a l out = by (ran_out played) refl
   where
-    by : (b : Bool) → ran_out ended ≡ b → StopsShort run l.lines past
-    by true ran = all_stops_short run l.lines past (ended_follows played ended final before left k asked run rest past w mid e l ran).0
-    by false out = ended_short played ended final before left k asked run rest past w mid e l out
+    by : (b : Bool) → ran_out played ≡ b → StopsAsking run l.lines past lent.first told_after
+    by true ran =
+        let leaves = a.left ran out in
+        record {
+          made = plans_made run l.parts;
+          stops = end_planning run l.lines l.parts rest.past past (l.follows ran) (e.stops ran out (after run l.parts) (l.at ran));
+          asks = record { more = leaves.more; few = leaves.few; asked = leaves.asked (plans_made run l.parts) lent.first (l.told ran) };
+        }
+    by false short =
+        let s = l.short short in
+        subst (λ h. StopsAsking run l.lines h lent.first told_after) (sym (e.stays short))
+        (record { made = s.made; stops = s.stops; asks = record { more = s.more; few = s.few; asked = subst (λ told. SameAsked told told_after) s.told (a.given_back short) } })
+
+either_short : {W : Type 0} (played ended final : Result (Unit {0}) Stop) (before left : Option (List ℕ)) (k : ℕ) (asked : Option Caps) (run : Event) (rest : Playing) (past : List Event) (w mid : Option (List ℕ)) (lent : Lent W)
+    (told_after : Option FleetTold) → Ends played ended final rest past → EndsAsking played ended lent told_after rest.past past → (l : LinesPlayed played before left k asked run rest w mid lent)
+    → StopsAsking run l.lines past lent.first told_after
+either_short played ended final before left k asked run rest past w mid lent told_after e a l = by (ran_out ended) refl
+  where
+    by : (b : Bool) → ran_out ended ≡ b → StopsAsking run l.lines past lent.first told_after
+    by true ran =
+        let all = ended_follows played ended final before left k asked run rest past w mid lent e l ran in
+        record {
+          made = plans_made run all.0.played.parts;
+          stops = all_planning run l.lines past all.0;
+          asks = asks_of_told (plans_made run all.0.played.parts) lent.first told_after past
+              (subst (λ parts. told_after ≡ with_told (plans_made run parts) lent.first past) (sym all.1)
+              (a.end ran (plans_made run l.parts) lent.first (l.told (played_ran played ended final rest past e ran))));
+        }
+    by false out = ended_short played ended final before left k asked run rest past w mid lent told_after e a l out
 
 -- what is told of a run that ran out is that of one that was ended
 final_ran : (ended final : Result (Unit {0}) Stop) → Finishes ended final → ran_out final ≡ true → ran_out ended ≡ true
@@ -136,12 +166,12 @@ pub record WrittenBy (played final : Result (Unit {0}) Stop) (w mid now : Option
   pub unwritten : is_write_fault played ≡ true → now ≡ mid
   pub stops : is_write_fault played ≡ false → final ≡ Err Write → StopsBetween w (text_of (oldest n past)) (text_of past) now
 
-cut_by : (failing : Bool) (played ended final : Result (Unit {0}) Stop) (before left : Option (List ℕ)) (k : ℕ) (asked : Option Caps) (source_failed : Bool) (run : Event) (rest : Playing) (past : List Event) (w mid now : Option (List ℕ)) (n : ℕ)
-    → is_write_fault played ≡ failing → ran_out played ≡ true → final ≡ Err Write → Ends played ended final rest past → (l : LinesPlayed played before left k asked run rest w mid) → (played ≡ Err Read → source_failed ≡ true)
+cut_by : {W : Type 0} (failing : Bool) (played ended final : Result (Unit {0}) Stop) (before left : Option (List ℕ)) (k : ℕ) (asked : Option Caps) (source_failed : Bool) (run : Event) (rest : Playing) (past : List Event) (w mid now : Option (List ℕ)) (n : ℕ) (lent : Lent W)
+    → is_write_fault played ≡ failing → ran_out played ≡ true → final ≡ Err Write → Ends played ended final rest past → (l : LinesPlayed played before left k asked run rest w mid lent) → (played ≡ Err Read → source_failed ≡ true)
     → WrittenBy played final w mid now n rest.past past → CutAtLine w run l.parts now ⊎ CutAtEnd before left asked l.lines source_failed w (told run l.parts) past now
-cut_by true played ended final before left k asked source_failed run rest past w mid now n is ran failed e l caused by =
+cut_by true played ended final before left k asked source_failed run rest past w mid now n lent is ran failed e l caused by =
     inl (subst (λ held. CutAtLine w run l.parts held) (sym (by.unwritten is)) (l.cut (failed_is played is)))
-cut_by false played ended final before left k asked source_failed run rest past w mid now n is ran failed e l caused by =
+cut_by false played ended final before left k asked source_failed run rest past w mid now n lent is ran failed e l caused by =
     let over = lines_over played ran is in
     inr (record {
       played = played;
@@ -160,22 +190,27 @@ lines_ended played ended final same (inr (inl memory)) over = absurd {A = IsLine
 lines_ended played ended final same (inr (inr write)) over = absurd {A = IsLinesEnd played} (subst IsLinesEnd write.0 over)
 
 -- the lines that were played of a script to the run's end
-pub script_played : (played ended final : Result (Unit {0}) Stop) (before left : Option (List ℕ)) (k : ℕ) (asked : Option Caps) (source_failed : Bool) (run : Event) (rest : Playing) (past : List Event) (w mid now : Option (List ℕ)) (n : ℕ)
-    → Ends played ended final rest past → LinesPlayed played before left k asked run rest w mid → (played ≡ Err Read → source_failed ≡ true) → WrittenBy played final w mid now n rest.past past
-    → ScriptPlayed final before left k asked source_failed run past w now
-script_played played ended final before left k asked source_failed run rest past w mid now n e l caused by = record {
+pub script_played : {W : Type 0} (played ended final : Result (Unit {0}) Stop) (before left : Option (List ℕ)) (k : ℕ) (asked : Option Caps) (source_failed : Bool) (run : Event) (rest : Playing) (past : List Event) (w mid now : Option (List ℕ)) (n : ℕ)
+    (lent : Lent W) (told_after : Option FleetTold) → Ends played ended final rest past → EndsAsking played ended lent told_after rest.past past → LinesPlayed played before left k asked run rest w mid lent
+    → (played ≡ Err Read → source_failed ≡ true) → WrittenBy played final w mid now n rest.past past
+    → ScriptPlayed final before left k asked source_failed run past w now lent.first told_after
+script_played played ended final before left k asked source_failed run rest past w mid now n lent told_after e a l caused by = record {
   lines = l.lines;
   counted = λ over. l.counted (lines_ended played ended final e.same e.finishes over);
   plays = plays_finished played ended final before left _ e.same e.finishes l.plays;
   read = λ done. l.read (done_played played ended final e.same e.finishes done);
-  follows = λ ran. (ended_follows played ended final before left k asked run rest past w mid e l (final_ran ended final e.finishes ran)).0;
-  short = λ out. either_short played ended final before left k asked run rest past w mid e l;
+  follows = λ ran. (ended_follows played ended final before left k asked run rest past w mid lent e l (final_ran ended final e.finishes ran)).0;
+  told = λ ran.
+      let through = final_ran ended final e.finishes ran in
+      subst (λ parts. told_after ≡ with_told (plans_made run parts) lent.first past) (sym (ended_follows played ended final before left k asked run rest past w mid lent e l through).1)
+      (a.end through (plans_made run l.parts) lent.first (l.told (played_ran played ended final rest past e through)));
+  short = λ out. either_short played ended final before left k asked run rest past w mid lent told_after e a l;
   cut = λ failed.
       let ran = so_ran ended final e.finishes failed in
-      let follows = ended_follows played ended final before left k asked run rest past w mid e l ran in
+      let follows = ended_follows played ended final before left k asked run rest past w mid lent e l ran in
       record {
         all = follows.0;
         cut = subst (λ parts. CutAtLine w run parts now ⊎ CutAtEnd before left asked l.lines source_failed w (told run parts) past now) (sym follows.1)
-            (cut_by (is_write_fault played) played ended final before left k asked source_failed run rest past w mid now n refl (played_ran played ended final rest past e ran) failed e l caused by);
+            (cut_by (is_write_fault played) played ended final before left k asked source_failed run rest past w mid now n lent refl (played_ran played ended final rest past e ran) failed e l caused by);
       };
 }

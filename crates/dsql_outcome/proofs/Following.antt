@@ -1,5 +1,5 @@
 -- The history of a run follows the lines that were carried out.
-use Rattle.std.proofs.Common.{◌≡◌, ℕ, ◌≤◌, true, false, ◌&&◌, List, [], ◌∷◌, ◌++◌, refl, sym, ap, subst, ◌∙◌, arith, inl, inr}
+use Rattle.std.proofs.Common.{◌≡◌, ◌⊎◌, ℕ, ◌≤◌, true, false, ◌&&◌, List, [], ◌∷◌, ◌++◌, refl, sym, ap, subst, ◌∙◌, arith, inl, inr}
 use Rattle.std.specs.Prelude.{reverse, map}
 use Rattle.std.specs.List.{list_all}
 use Rattle.std.proofs.lemmas.Bool.{and_from, and_parts}
@@ -15,9 +15,12 @@ use Rattle.dsql_follows.specs.Sentences.{Part, after_part}
 use Rattle.dsql_follows.specs.Turns.{clients, has_run_out}
 use Rattle.dsql_follows.specs.Follows.{FollowsLine, FollowsLines, after, told}
 use Rattle.dsql_playing.specs.Carried.{Carries, CarriesEnd, StopsInEnd, StopsInLine, part}
+use Rattle.dsql_wires.specs.Plans.{Made}
+use Rattle.dsql_playing.specs.Planned.{plans_made, plans_of}
 use Rattle.dsql_playing.specs.Playing.{Playing, IsAt}
 use Rattle.dsql_script_source.specs.Script.{is_skip}
 use Rattle.dsql_outcome.specs.Followed.{FollowsAll, FollowsSoFar, StopsShort, lines_of}
+use Rattle.dsql_outcome.specs.Lent.{StopsPlanning}
 
 -- Lines that were skipped before the run began.
 
@@ -94,6 +97,15 @@ begun_behind_at caps lines p skipped at = record {
   held = λ client busy. rw (none_of lines client skipped) (at.held client busy);
 }
 
+-- lines that were skipped plan nothing
+blank_plans : (run : Event) (lines : List Line) → list_all is_skip lines ≡ true → plans_made run (blank lines) ≡ []
+blank_plans run [] skipped = refl
+blank_plans run (Skip ∷ earlier) skipped = blank_plans run earlier skipped
+blank_plans run (_ ∷ earlier) skipped = absurd (cc skipped)
+
+pub skipped_plans : (run : Event) (skipped : List Line) → list_all is_skip skipped ≡ true → plans_made run (blank (reverse skipped)) ≡ []
+skipped_plans run skipped silent = blank_plans run (reverse skipped) (skipped_in_reverse skipped silent)
+
 -- The run has just begun, behind lines that were skipped.
 
 pub begun_follows : (caps : Caps) (skipped : List Line) (past : List Event) → list_all is_skip skipped ≡ true → past ≡ Run 1 caps ∷ [] → FollowsSoFar (Run 1 caps) skipped (blank (reverse skipped)) past
@@ -121,36 +133,65 @@ line_follows run lines parts line old new f c = record {
   is = c.grows ∙ ap (λ before. c.events ++ before) f.is;
 }
 
+-- The run stopped in the line, whose fault was planned, or wasn't.
+pub line_stops_planning : (run : Event) (lines : List Line) (parts : List Part) (line : Line) (old new : List Event) (planned : List Made) → FollowsSoFar run lines parts old → StopsInLine (after run parts) line old new
+    → (planned ≡ plans_of line old) ⊎ (planned ≡ []) → StopsPlanning run (lines ++ line ∷ []) new (planned ++ plans_made run parts)
+line_stops_planning run lines parts line old new planned f s which = record {
+  short = record {
+    parts = parts;
+    more = s.events;
+    follows = f.follows;
+    is = s.grows ∙ ap (λ before. s.events ++ before) f.is;
+    stops = inl (record { line = line; is_of = its; begins = s.begins; steps = s.steps; in_turn = s.in_turn });
+  };
+  last = planned;
+  which = elim which [
+    | inl is ↦ inr (record { line = line; is_of = its; are = is ∙ ap (plans_of line) f.is })
+    | inr none ↦ inl none
+  ];
+  all = refl;
+}
+  where
+    its : reverse (lines ++ line ∷ []) ≡ line ∷ lines_of parts
+    its = reverse-append lines (line ∷ []) ∙ ap (λ more. line ∷ more) (sym f.is_of)
+
 pub line_stops_short : (run : Event) (lines : List Line) (parts : List Part) (line : Line) (old new : List Event) → FollowsSoFar run lines parts old → StopsInLine (after run parts) line old new
     → StopsShort run (lines ++ line ∷ []) new
-line_stops_short run lines parts line old new f s = record {
-  parts = parts;
-  more = s.events;
-  follows = f.follows;
-  is = s.grows ∙ ap (λ before. s.events ++ before) f.is;
-  stops = inl (record { line = line; is_of = reverse-append lines (line ∷ []) ∙ ap (λ more. line ∷ more) (sym f.is_of); begins = s.begins; steps = s.steps; in_turn = s.in_turn });
-}
+line_stops_short run lines parts line old new f s = (line_stops_planning run lines parts line old new [] f s (inr refl)).short
 
 -- a line that was carried out has whole steps so far
 pub carried_stops : (m : Moment) (line : Line) (old new : Playing) → Carries m line old new → StopsInLine m line old.past new.past
 carried_stops m line old new c = record { events = c.events; grows = c.grows; begins = inr (inr c.follows); steps = c.follows.steps; in_turn = c.follows.in_turn }
 
 -- the run stopped between two lines
+pub rest_planning : (caps : Caps) (lines : List Line) (parts : List Part) (past : List Event) → FollowsSoFar (Run 1 caps) lines parts past → StopsPlanning (Run 1 caps) lines past (plans_made (Run 1 caps) parts)
+rest_planning caps lines [] past f = record {
+  short = record {
+    parts = [];
+    more = [];
+    follows = f.follows;
+    is = f.is;
+    stops = inr (record { is_of = f.is_of; steps = record { begins = refl; whole = refl; ordered = refl }; in_turn = refl });
+  };
+  last = [];
+  which = inl refl;
+  all = refl;
+}
+rest_planning caps lines (p ∷ earlier) past f = record {
+  short = record {
+    parts = earlier;
+    more = p.events;
+    follows = f.follows.0;
+    is = f.is;
+    stops = inl (record { line = p.line; is_of = sym f.is_of; begins = inr (inr f.follows.1); steps = f.follows.1.steps; in_turn = f.follows.1.in_turn });
+  };
+  last = plans_of p.line (told (Run 1 caps) earlier);
+  which = inr (record { line = p.line; is_of = sym f.is_of; are = refl });
+  all = refl;
+}
+
 pub stops_at_rest : (caps : Caps) (lines : List Line) (parts : List Part) (past : List Event) → FollowsSoFar (Run 1 caps) lines parts past → StopsShort (Run 1 caps) lines past
-stops_at_rest caps lines [] past f = record {
-  parts = [];
-  more = [];
-  follows = f.follows;
-  is = f.is;
-  stops = inr (record { is_of = f.is_of; steps = record { begins = refl; whole = refl; ordered = refl }; in_turn = refl });
-}
-stops_at_rest caps lines (p ∷ earlier) past f = record {
-  parts = earlier;
-  more = p.events;
-  follows = f.follows.0;
-  is = f.is;
-  stops = inl (record { line = p.line; is_of = sym f.is_of; begins = inr (inr f.follows.1); steps = f.follows.1.steps; in_turn = f.follows.1.in_turn });
-}
+stops_at_rest caps lines parts past f = (rest_planning caps lines parts past f).short
 
 -- The script's end.
 
@@ -167,23 +208,39 @@ end_follows run lines parts old new f c = (
   refl,
 )
 
-pub end_stops_short : (run : Event) (lines : List Line) (parts : List Part) (old new : List Event) → FollowsSoFar run lines parts old → StopsInEnd (after run parts) old new → StopsShort run lines new
-end_stops_short run lines parts old new f s = record {
-  parts = parts;
-  more = s.events;
-  follows = f.follows;
-  is = s.grows ∙ ap (λ before. s.events ++ before) f.is;
-  stops = inr (record { is_of = f.is_of; steps = s.steps; in_turn = s.in_turn });
+pub end_planning : (run : Event) (lines : List Line) (parts : List Part) (old new : List Event) → FollowsSoFar run lines parts old → StopsInEnd (after run parts) old new → StopsPlanning run lines new (plans_made run parts)
+end_planning run lines parts old new f s = record {
+  short = record {
+    parts = parts;
+    more = s.events;
+    follows = f.follows;
+    is = s.grows ∙ ap (λ before. s.events ++ before) f.is;
+    stops = inr (record { is_of = f.is_of; steps = s.steps; in_turn = s.in_turn });
+  };
+  last = [];
+  which = inl refl;
+  all = refl;
 }
 
+pub end_stops_short : (run : Event) (lines : List Line) (parts : List Part) (old new : List Event) → FollowsSoFar run lines parts old → StopsInEnd (after run parts) old new → StopsShort run lines new
+end_stops_short run lines parts old new f s = (end_planning run lines parts old new f s).short
+
 -- a history that follows all lines and the end has whole steps so far
-pub all_stops_short : (run : Event) (lines : List Line) (past : List Event) → FollowsAll run lines past → StopsShort run lines past
-all_stops_short run lines past a =
-    subst (λ first. StopsShort first lines past) a.begins
+pub all_planning : (run : Event) (lines : List Line) (past : List Event) → (a : FollowsAll run lines past) → StopsPlanning run lines past (plans_made run a.played.parts)
+all_planning run lines past a =
+    subst (λ first. StopsPlanning first lines past (plans_made first a.played.parts)) a.begins
     (record {
-      parts = a.played.parts;
-      more = a.played.last;
-      follows = a.follows.lines;
-      is = sym a.is;
-      stops = inr (record { is_of = a.is_of; steps = a.follows.end.steps; in_turn = a.follows.end.in_turn });
+      short = record {
+        parts = a.played.parts;
+        more = a.played.last;
+        follows = a.follows.lines;
+        is = sym a.is;
+        stops = inr (record { is_of = a.is_of; steps = a.follows.end.steps; in_turn = a.follows.end.in_turn });
+      };
+      last = [];
+      which = inl refl;
+      all = refl;
     })
+
+pub all_stops_short : (run : Event) (lines : List Line) (past : List Event) → FollowsAll run lines past → StopsShort run lines past
+all_stops_short run lines past a = (all_planning run lines past a).short

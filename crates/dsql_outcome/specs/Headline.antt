@@ -16,7 +16,8 @@ use Rattle.dsql_history.specs.Readers.Unfinished.{unfinished}
 use Rattle.dsql_history.specs.Rules.House.{is_quiet}
 use Rattle.dsql_follows.specs.declared.line.Line.{Line}
 use Rattle.dsql_steps.specs.Groups.{most_events}
-use Rattle.dsql_wires.specs.Told.{with_told, AsksAtMost}
+use Rattle.dsql_wires.specs.Told.{with_told}
+use Rattle.dsql_playing.specs.Planned.{plans_made}
 use Rattle.dsql_report.specs.Lines.{text_of}
 use Rattle.dsql_show.specs.Report.{with_text, ShowsFront}
 use Rattle.dsql_script_source.specs.Plays.{Plays, saying}
@@ -25,7 +26,8 @@ use Rattle.dsql_script_source.specs.Script.{Says, whole}
 use Rattle.dsql_script_source.specs.Stops.{no_read_failed}
 use Rattle.dsql_script_source.specs.declared.stop.Stop.{Stop}
 use Rattle.dsql_script_source.specs.declared.stop.Stop.TheVariants.{Read, Write, Memory, Full}
-use Rattle.dsql_outcome.specs.Followed.{FollowsAll, StopsShort}
+use Rattle.dsql_outcome.specs.Followed.{FollowsAll}
+use Rattle.dsql_outcome.specs.Lent.{StopsAsking}
 use Rattle.dsql_outcome.specs.Notes.{Tells, usage_note}
 use Rattle.dsql_outcome.specs.Runs.{ran_out, no_write_failed, IsLinesEnd, Writes, CutShort}
 
@@ -51,7 +53,7 @@ seen source sink fleet input output lent = record {
   preferred = fleet.preferred lent;
 }
 
--- A run of a script: one legal history, what stopped it, the lines of the script that it has and that the history follows, and what was asked for, written, read, asked of the fleet and given back to it.
+-- A run of a script: one legal history, what stopped it, the lines of the script that it has and that the history follows, and what was asked for, written, read, asked of the fleet, planned with it and on its wires, and given back to it.
 pub record Ran (stopped : Result Unit Stop) (before after : Seen) : Type 0 where
   pub history : List Event
   pub asked : Option Caps
@@ -59,7 +61,7 @@ pub record Ran (stopped : Result Unit Stop) (before after : Seen) : Type 0 where
   pub legal : Legal history
   pub plays : Plays stopped before.left after.left (saying asked lines)
   pub follows : ran_out stopped ≡ true → FollowsAll (Run 1 after.ability) lines history
-  pub short : ran_out stopped ≡ false → StopsShort (Run 1 after.ability) lines history
+  pub short : ran_out stopped ≡ false → StopsAsking (Run 1 after.ability) lines history before.told after.told
   pub prefers : Prefers asked before.preferred after.preferred before.ability after.ability
   pub ended : ran_out stopped ≡ true → has_ended history ≡ true
   pub quiet : ran_out stopped ≡ true → is_quiet history ≡ true
@@ -68,8 +70,7 @@ pub record Ran (stopped : Result Unit Stop) (before after : Seen) : Type 0 where
   pub writes : Writes stopped (has_risen before.write_faults after.write_faults) before.written history after.written
   pub cut : stopped ≡ Err Write → CutShort before.left after.left asked lines (has_risen before.read_faults after.read_faults) before.written (Run 1 after.ability) history after.written
   pub empty : ran_out stopped ≡ true → open_count (pool history) ≡ 0
-  pub told : ran_out stopped ≡ true → after.told ≡ with_told before.told history
-  pub asks : AsksAtMost before.told after.told history
+  pub told : (ran : ran_out stopped ≡ true) → after.told ≡ with_told (plans_made (Run 1 after.ability) (follows ran).played.parts) before.told history
   pub read_fault : stopped ≡ Err Read → HasRisen before.read_faults after.read_faults
   pub write_fault : stopped ≡ Err Write → HasRisen before.write_faults after.write_faults
   pub read_well : no_read_failed stopped ≡ true → after.read_faults ≡ before.read_faults
@@ -107,7 +108,7 @@ pub record PlaysAndTells (before after : Seen) (notes_before notes_after : SeenN
   pub ran : IsPlayed stopped before after
   pub told : Tells stopped (has_risen notes_before.faults notes_after.faults) notes_before.written notes_after.written status
 
--- The whole of a script was played: one legal history follows the script, what was written is this text of it, and nothing was told.
+-- The whole of a script was played: one legal history follows the script, what was written is this text of it, the fleet tells just that history and the faults that the script's lines plan, and nothing was told.
 pub record PlaysWholeAs (text : List Line → List Event → List ℕ) (before after : Seen) (notes_before notes_after : SeenNotes) : Type 0 where
   pub history : List Event
   pub asked : Option Caps
@@ -122,7 +123,7 @@ pub record PlaysWholeAs (text : List Line → List Event → List ℕ) (before a
   pub empty : open_count (pool history) ≡ 0
   pub read : IfSome after.left (λ bytes. bytes ≡ [])
   pub written : after.written ≡ with_text before.written (text lines history)
-  pub told : after.told ≡ with_told before.told history
+  pub told : after.told ≡ with_told (plans_made (Run 1 after.ability) follows.played.parts) before.told history
   pub read_well : after.read_faults ≡ before.read_faults
   pub written_well : after.write_faults ≡ before.write_faults
   pub untold : notes_after.written ≡ notes_before.written

@@ -5,3 +5,4 @@ pub mod Headline
 pub mod Playing
 pub mod Words
 pub mod Summing
+pub mod Lent

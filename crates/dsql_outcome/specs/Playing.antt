@@ -4,6 +4,7 @@ use Rattle.std.specs.List.{list_all}
 use Rattle.dsql_driver.specs.declared.caps.Caps.{Caps}
 use Rattle.dsql_driver.specs.declared.wire.Fleet.{Ghosts}
 use Rattle.dsql_driver.specs.Streams.{HasRisen}
+use Rattle.dsql_driver.specs.Wires.{FleetTold}
 use Rattle.dsql_pool.specs.Pooled.{open_count}
 use Rattle.dsql_history.specs.declared.event.Event.{Event}
 use Rattle.dsql_history.specs.Legal.{Legal}
@@ -15,7 +16,8 @@ use Rattle.dsql_follows.specs.declared.line.Line.{Line}
 use Rattle.dsql_follows.specs.Sentences.{Part}
 use Rattle.dsql_follows.specs.Follows.{after}
 use Rattle.dsql_wires.specs.Extends.{Extends}
-use Rattle.dsql_wires.specs.Told.{SameAbility}
+use Rattle.dsql_wires.specs.Told.{SameAbility, with_told}
+use Rattle.dsql_playing.specs.Planned.{plans_made}
 use Rattle.dsql_playing.specs.Playing.{Playing, IsAt}
 use Rattle.dsql_reader.specs.declared.script.ScriptLine.{ScriptLine}
 use Rattle.dsql_report.specs.Lines.{text_of}
@@ -27,7 +29,8 @@ use Rattle.dsql_script_source.specs.Script.{is_skip}
 use Rattle.dsql_script_source.specs.Stops.{is_read_fault, no_read_failed}
 use Rattle.dsql_script_source.specs.declared.stop.Stop.{Stop}
 use Rattle.dsql_script_source.specs.declared.stop.Stop.TheVariants.{Read, Write}
-use Rattle.dsql_outcome.specs.Followed.{FollowsAll, FollowsSoFar, StopsShort}
+use Rattle.dsql_outcome.specs.Followed.{FollowsAll, FollowsSoFar}
+use Rattle.dsql_outcome.specs.Lent.{Lent, StopsAsking, StopsTelling, TellsOf}
 use Rattle.dsql_outcome.specs.Runs.{ran_out, no_write_failed, CutAtLine, CutShort, IsLinesEnd, Wrote}
 
 -- a run goes on: its history is legal, and its fleet can do what it could
@@ -62,8 +65,8 @@ pub record WritesLines (stopped : Result Unit Stop) (past : List Event) (held : 
   pub within : count ≤ length past
   pub wrote : Wrote stopped held count past holds
 
--- The lines that were played of a script, of which so many were read, whose parts the history follows, or where the run stopped in them. Where the sink failed, it was at the last of them.
-pub record LinesPlayed (stopped : Result Unit Stop) (before left : Option (List ℕ)) (read_lines : ℕ) (asked : Option Caps) (run : Event) (player : Playing) (w now : Option (List ℕ)) : Type 0 where
+-- The lines that were played of a script, of which so many were read, whose parts the history follows and whose plans the fleet and the wires tell, or where the run stopped in them. Where the sink failed, it was at the last of them.
+pub record LinesPlayed {W : Type 0} (stopped : Result Unit Stop) (before left : Option (List ℕ)) (read_lines : ℕ) (asked : Option Caps) (run : Event) (player : Playing) (w now : Option (List ℕ)) (lent : Lent W) : Type 0 where
   pub lines : List Line
   pub parts : List Part
   pub counted : IsLinesEnd stopped → length lines ≡ read_lines
@@ -71,17 +74,19 @@ pub record LinesPlayed (stopped : Result Unit Stop) (before left : Option (List 
   pub read : stopped ≡ Ok tt → IfSome left (λ bytes. bytes ≡ [])
   pub follows : ran_out stopped ≡ true → FollowsSoFar run lines parts player.past
   pub at : ran_out stopped ≡ true → IsAt (after run parts) player
-  pub short : ran_out stopped ≡ false → StopsShort run lines player.past
+  pub told : ran_out stopped ≡ true → TellsOf lent (plans_made run parts) player.past
+  pub short : ran_out stopped ≡ false → StopsTelling run lines player.past lent.first lent.now
   pub cut : stopped ≡ Err Write → CutAtLine w run parts now
 
--- The lines that were played of a script to the run's end, of which so many were read, and what of it the history follows.
-pub record ScriptPlayed (stopped : Result Unit Stop) (before left : Option (List ℕ)) (read_lines : ℕ) (asked : Option Caps) (source_failed : Bool) (run : Event) (past : List Event) (w now : Option (List ℕ)) : Type 0 where
+-- The lines that were played of a script to the run's end, of which so many were read, what of it the history follows, and what the fleet tells of it.
+pub record ScriptPlayed (stopped : Result Unit Stop) (before left : Option (List ℕ)) (read_lines : ℕ) (asked : Option Caps) (source_failed : Bool) (run : Event) (past : List Event) (w now : Option (List ℕ)) (lent_before lent_after : Option FleetTold) : Type 0 where
   pub lines : List Line
   pub counted : IsLinesEnd stopped → length lines ≡ read_lines
   pub plays : Plays stopped before left (saying asked lines)
   pub read : stopped ≡ Ok tt → IfSome left (λ bytes. bytes ≡ [])
   pub follows : ran_out stopped ≡ true → FollowsAll run lines past
-  pub short : ran_out stopped ≡ false → StopsShort run lines past
+  pub told : (ran : ran_out stopped ≡ true) → lent_after ≡ with_told (plans_made run (follows ran).played.parts) lent_before past
+  pub short : ran_out stopped ≡ false → StopsAsking run lines past lent_before lent_after
   pub cut : stopped ≡ Err Write → CutShort before left asked lines source_failed w run past now
 
 -- A source's count of faults as the lines behind the first ones are played. A fault came as the first ones were read, or later.

@@ -18,10 +18,13 @@ ghost use Rattle.dsql_script_source.specs.Stops.{no_read_failed};
 ghost use Rattle.dsql_script_source.specs.declared.stop.Stop.{Stop as Stopped};
 ghost use Rattle.dsql_script_source.specs.declared.stop.Stop.TheVariants.{Read, Write, Refused, Full};
 ghost use Rattle.dsql_wires.specs.Extends.{Extends};
-ghost use Rattle.dsql_wires.specs.Told.{TellsAtMost, with_told};
+ghost use Rattle.dsql_wires.specs.Plans.{Made};
+ghost use Rattle.dsql_wires.specs.Told.{AsksAtMost, with_told};
 ghost use Rattle.dsql_playing.specs.Carried.{Carries, StopsInEnd, StopsInLine, part};
+ghost use Rattle.dsql_playing.specs.Planned.{plans_made, plans_of};
 ghost use Rattle.dsql_playing.specs.Playing.{Playing};
 ghost use Rattle.dsql_outcome.specs.Followed.{FollowsAll, FollowsSoFar, StopsShort};
+ghost use Rattle.dsql_outcome.specs.Lent.{StopsPlanning};
 ghost use Rattle.dsql_outcome.specs.Headline.{PlaysAndTells, PlaysWhole, Seen, SeenNotes};
 ghost use Rattle.dsql_outcome.specs.Words.{WorkedWords};
 ghost use Rattle.dsql_outcome.specs.Notes.{note_of, is_status, Tells};
@@ -46,13 +49,15 @@ pub fn a_status_tells_what_was_done()
 {}
 
 /// A history that follows the lines so far follows one more that is carried out. Where the run stops in a line, between
-/// two lines or in the script's end, what came is whole steps, and so it is of a whole run.
+/// two lines or in the script's end, what came is whole steps, and so it is of a whole run. Where it stops in a line, that
+/// line's fault was planned, or wasn't.
 pub fn lines_follow_one_after_another()
     ensures line { (run : Event) (lines : List Line) (parts : List Part) (line : Line) (old new : Playing) → FollowsSoFar run lines parts old.past → (c : Carries (after run parts) line old new) → FollowsSoFar run (lines ++ line ∷ []) (part line c.events ∷ parts) new.past }
     ensures stops { (run : Event) (lines : List Line) (parts : List Part) (line : Line) (old new : List Event) → FollowsSoFar run lines parts old → StopsInLine (after run parts) line old new → StopsShort run (lines ++ line ∷ []) new }
     ensures rests { (caps : Caps) (lines : List Line) (parts : List Part) (past : List Event) → FollowsSoFar (Run 1 caps) lines parts past → StopsShort (Run 1 caps) lines past }
     ensures ends { (run : Event) (lines : List Line) (parts : List Part) (old new : List Event) → FollowsSoFar run lines parts old → StopsInEnd (after run parts) old new → StopsShort run lines new }
     ensures all { (run : Event) (lines : List Line) (past : List Event) → FollowsAll run lines past → StopsShort run lines past }
+    ensures plans { (run : Event) (lines : List Line) (parts : List Part) (line : Line) (old new : List Event) (planned : List Made) → FollowsSoFar run lines parts old → StopsInLine (after run parts) line old new → (planned ≡ plans_of line old) ⊎ (planned ≡ []) → StopsPlanning run (lines ++ line ∷ []) new (planned ++ plans_made run parts) }
 {}
 
 /// What a run has of its script, whatever stopped it, the script says first; and so it stays however the run is finished.
@@ -68,7 +73,7 @@ pub fn what_was_written_and_read()
     ensures shown { (played ended final : Result (Unit {0}) Stopped) (w mid : Option (List ℕ)) (n : ℕ) (rest past : List Event) → (ran_out ended ≡ true → ended ≡ played) → Finishes ended final → final ≡ Err Write → is_write_fault played ≡ false → Extends rest past → n ≤ length rest → Wrote played w n rest mid → Shows w n past mid }
     ensures read { (played ended final : Result (Unit {0}) Stopped) → (ran_out ended ≡ true → ended ≡ played) → Finishes ended final → no_read_failed final ≡ true → no_read_failed played ≡ true }
     ensures written { (played ended final : Result (Unit {0}) Stopped) → (ran_out ended ≡ true → ended ≡ played) → Finishes ended final → no_write_failed final ≡ true → no_write_failed played ≡ true }
-    ensures told { (before after : Option FleetTold) (caps : Caps) (old past : List Event) → old ≡ Run 1 caps ∷ [] → after ≡ with_told before past → TellsAtMost before after old past }
+    ensures told { (made : List Made) (before after : Option FleetTold) (past : List Event) → after ≡ with_told made before past → AsksAtMost made before after past }
 {}
 
 /// What stops a line isn't the end of the lines.

@@ -3,7 +3,8 @@ use Rattle.std.proofs.Common.{◌≡◌, false, List, [], ◌∷◌, Option, ref
 use Rattle.std.specs.Prelude.{Err, IfErr, Result}
 use Rattle.std.proofs.lemmas.Result.{IfErr-at_err}
 use Rattle.dsql_driver.specs.declared.caps.Caps.{Caps}
-use Rattle.dsql_driver.specs.Wires.{FleetTold}
+use Rattle.dsql_driver.specs.Wires.{WireTold}
+use Rattle.dsql_driver.specs.declared.wire.Fleet.{Ghosts}
 use Rattle.dsql_history.specs.declared.event.Event.{Event}
 use Rattle.dsql_history.specs.declared.event.Event.TheVariants.{Run}
 use Rattle.dsql_follows.specs.declared.line.Line.{Line}
@@ -15,7 +16,10 @@ use Rattle.dsql_playing.specs.declared.halt.Halt.TheVariants as halts
 use Rattle.dsql_script_source.specs.declared.stop.Stop.{Stop}
 use Rattle.dsql_script_source.specs.declared.stop.Stop.TheVariants.{Full}
 use Rattle.dsql_wires.specs.Extends.{Extends}
-use Rattle.dsql_wires.specs.Told.{TellsAtMost, with_told}
+use Rattle.dsql_wire.specs.Journaled.{Journaled}
+use Rattle.dsql_wires.specs.Told.{with_told}
+use Rattle.dsql_wires.specs.WiresFit.{PlansFit}
+use Rattle.dsql_outcome.specs.Lent.{TellsOf, lent}
 use Rattle.dsql_outcome.specs.Runs.{IsPlayStop, IsShowStop, is_write_fault, ran_out, stop_of_halt}
 use Rattle.dsql_outcome.proofs.Asking.{none_told}
 
@@ -68,13 +72,10 @@ halted_full stop halt r is same full =
 pub shown_unfilled : (r : Result (Unit {0}) Stop) → IfErr r IsShowStop → r ≡ Err Full → ⊥
 shown_unfilled r kind full = IfErr-at_err IsShowStop full kind
 
--- The fleet was asked for what a history tells, and then for a little more.
-pub at_most_since : (before mid after : Option FleetTold) (caps : Caps) (old rest past : List Event) → old ≡ Run 1 caps ∷ [] → mid ≡ with_told before rest → TellsAtMost mid after rest past → TellsAtMost before after old past
-at_most_since before mid after caps old rest past begun is a = record {
-  more = a.more;
-  few = a.few;
-  told = λ t h. a.told t (is ∙ ap (λ k. with_told k rest) (h ∙ subst (λ (start : List Event). with_told t start ≡ t) (sym begun) (none_told t caps)));
+-- As a run begins the fleet and its wires tell just that it has begun, and no plan.
+pub begins_telling : {F W : Type 0} (fleet : Ghosts F W) (heard : W → Option WireTold) (first : F) (slots : List (Option (Journaled W))) (caps : Caps) (past : List Event) → past ≡ Run 1 caps ∷ [] → PlansFit heard [] past slots
+    → TellsOf (lent fleet heard first first slots) [] past
+begins_telling fleet heard first slots caps past begun fit = record {
+  fleet = subst (λ (start : List Event). fleet.told first ≡ with_told [] (fleet.told first) start) (sym begun) (sym (none_told (fleet.told first) caps));
+  wires = fit;
 }
-
-pub told_at_first : (t : Option FleetTold) (caps : Caps) (past : List Event) → past ≡ Run 1 caps ∷ [] → t ≡ with_told t past
-told_at_first t caps past begun = subst (λ (start : List Event). t ≡ with_told t start) (sym begun) (sym (none_told t caps))

@@ -10,6 +10,7 @@ ghost use Rattle.dsql_outcome.specs.Followed.{FollowsSoFar, StopsShort};
 ghost use Rattle.dsql_outcome.specs.Playing.{RunsOn, WritesLine};
 ghost use Rattle.dsql_outcome.specs.Runs.{Between, IsPlayStop, is_write_fault, ran_out};
 ghost use Rattle.dsql_playing.specs.Carried.{Carries, StopsInLine};
+ghost use Rattle.dsql_playing.specs.Planned.{plans_of};
 ghost use Rattle.dsql_playing.specs.Playing.{IsAt};
 ghost use Rattle.dsql_steps.specs.Groups.{most_events};
 ghost use Rattle.dsql_stream.specs.Faults.{CountsFaults};
@@ -41,8 +42,8 @@ pub(crate) fn play_line<K: Sink, F: Fleet>(
     ensures carries { ran_out result ≡ true → (m : Moment) → IsAt m player.old → Carries m line player.old player.new }
     ensures stops { ran_out result ≡ false → (m : Moment) → IsAt m player.old → StopsInLine m line player.old.past player.new.past }
     ensures short { ran_out result ≡ false → (caps : Caps) (lines : List Said) (parts : List Part) → FollowsSoFar (Run 1 caps) lines parts player.old.past → IsAt (after (Run 1 caps) parts) player.old → StopsShort (Run 1 caps) (lines ++ line ∷ []) player.new.past }
-    ensures told { ran_out result ≡ true → FleetTells (F.told fleet.old) (F.told fleet.new) player.old.past player.new.past }
-    ensures asked { TellsAtMost (F.told fleet.old) (F.told fleet.new) player.old.past player.new.past }
+    ensures told { ran_out result ≡ true → FleetTells F.Wire.told (plans_of line player.old.past) (F.told fleet.old) (F.told fleet.new) player.old.past player.new.past wires.old wires.new }
+    ensures asked { TellsAtMost F.Wire.told (plans_of line player.old.past) (F.told fleet.old) (F.told fleet.new) player.old.past player.new.past wires.old }
     ensures writes { WritesLine result player.old.past player.new.past (K.written output.old) shown.new (K.written output.new) }
     ensures kinds { IfErr result IsPlayStop }
     ensures faults { CountsFaults (is_write_fault result) (K.faults output.old) (K.faults output.new) }

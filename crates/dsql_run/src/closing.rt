@@ -10,7 +10,7 @@ ghost use Rattle.dsql_playing.specs.Playing.{IsAt};
 ghost use Rattle.dsql_report.specs.Lines.{text_of};
 ghost use Rattle.dsql_show.specs.Report.{Shows, StopsBetween, oldest};
 ghost use Rattle.dsql_steps.specs.Groups.{most_events};
-ghost use Rattle.dsql_wires.specs.Told.{LeavesAtMost, SameAsked, TellsOn};
+ghost use Rattle.dsql_wires.specs.Told.{FleetTellsOn, LeavesAtMost, SameAsked};
 
 use crate::showing::show_rest;
 use dsql_driver::{Fleet, Sink};
@@ -28,8 +28,8 @@ fn end_run<F: Fleet>(player: &mut Player, wires: Wires<F::Wire>, fleet: &mut F) 
     ensures carries { OnOk result ((m : Moment) → IsAt m player.old → CarriesEnd m player.old.past player.new.past) }
     ensures stops { OnErr result ((m : Moment) → IsAt m player.old → StopsInEnd m player.old.past player.new.past) }
     ensures over { OnOk result (IsOver player.new.past) }
-    ensures told { OnOk result (TellsOn (F.told fleet.old) (F.told fleet.new) player.old.past player.new.past) }
-    ensures asked { OnErr result (LeavesAtMost (F.told fleet.old) (F.told fleet.new) player.old.past player.new.past) }
+    ensures told { OnOk result (FleetTellsOn F.Wire.told (F.told fleet.old) (F.told fleet.new) player.old.past player.new.past wires) }
+    ensures asked { OnErr result (LeavesAtMost F.Wire.told (F.told fleet.old) (F.told fleet.new) player.old.past player.new.past wires) }
     ensures full { result ≡ Err Stop.Full → most_events ≤ length player.new.past }
     ensures on { RunsOn F.Fleet fleet.old fleet.new player.old.past player.new.past }
 {
@@ -61,8 +61,8 @@ pub(crate) fn close<F: Fleet>(
     ensures carries { ran_out result ≡ true → (m : Moment) → IsAt m player.old → CarriesEnd m player.old.past player.new.past }
     ensures stops { ran_out played ≡ true → ran_out result ≡ false → (m : Moment) → IsAt m player.old → StopsInEnd m player.old.past player.new.past }
     ensures over { ran_out result ≡ true → IsOver player.new.past }
-    ensures told { ran_out result ≡ true → TellsOn (F.told fleet.old) (F.told fleet.new) player.old.past player.new.past }
-    ensures asked { ran_out played ≡ true → ran_out result ≡ false → LeavesAtMost (F.told fleet.old) (F.told fleet.new) player.old.past player.new.past }
+    ensures told { ran_out result ≡ true → FleetTellsOn F.Wire.told (F.told fleet.old) (F.told fleet.new) player.old.past player.new.past wires }
+    ensures asked { ran_out played ≡ true → ran_out result ≡ false → LeavesAtMost F.Wire.told (F.told fleet.old) (F.told fleet.new) player.old.past player.new.past wires }
     ensures unasked { ran_out played ≡ false → SameAsked (F.told fleet.old) (F.told fleet.new) }
     ensures stays { ran_out played ≡ false → player.new.past ≡ player.old.past }
     ensures full { result ≡ Err Stop.Full → most_events ≤ length player.new.past }

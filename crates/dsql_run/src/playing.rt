@@ -6,6 +6,7 @@ ghost use Rattle.dsql_history.specs.declared.event.Event.TheVariants.{Run};
 ghost use Rattle.dsql_follows.specs.declared.line.Line.{Line};
 ghost use Rattle.dsql_follows.specs.Moments.{just_begun};
 ghost use Rattle.dsql_outcome.specs.Headline.{IsPlayed, NotBegun, RanSo, seen};
+ghost use Rattle.dsql_outcome.specs.Lent.{lent};
 ghost use Rattle.dsql_outcome.specs.Playing.{HasHead, IsOver, LinesPlayed, ReadsLater, RunsOn, ScriptPlayed, WritesLines, WritesWell};
 ghost use Rattle.dsql_outcome.specs.Runs.{Between, Writes, is_write_fault, ran_out};
 ghost use Rattle.dsql_playing.specs.Playing.{IsAt, IsReady};
@@ -13,7 +14,7 @@ ghost use Rattle.dsql_script_source.specs.Reading.{IsHeadRead};
 ghost use Rattle.dsql_script_source.specs.Stops.{is_read_fault, no_read_failed};
 ghost use Rattle.dsql_steps.specs.Groups.{most_events};
 ghost use Rattle.dsql_stream.specs.Faults.{CountsFaults};
-ghost use Rattle.dsql_wires.specs.Told.{AsksAtMost, TellsAtMost, with_told};
+ghost use Rattle.dsql_wires.specs.WiresFit.{PlansFit};
 
 use crate::carrying::play_line;
 use crate::closing::{close, finish};
@@ -42,12 +43,11 @@ fn play_lines<S: Source, K: Sink, F: Fleet>(
     requires begun { player.old.past ≡ Run 1 (F.ability fleet.old) ∷ [] }
     requires at { IsAt (just_begun (Run 1 (F.ability fleet.old))) player.old }
     requires between { Between F.Wire.told (is_some (F.told fleet.old)) player.old wires.old }
+    requires unplanned { PlansFit F.Wire.told [] player.old.past wires.old }
     requires shown { shown.old ≡ 0 }
     requires first { IsHeadRead first script.old.reader }
     ensures between { ran_out result ≡ true → Between F.Wire.told (is_some (F.told fleet.new)) player.new wires.new }
-    ensures lines { (before : Option (List ℕ)) (asked : Option Caps) (skipped : List Line) → HasHead first before script.old (S.left input.old) asked skipped → LinesPlayed result before (S.left input.new) script.new.reader.lines asked (Run 1 (F.ability fleet.old)) player.new (K.written output.old) (K.written output.new) }
-    ensures told { ran_out result ≡ true → F.told fleet.new ≡ with_told (F.told fleet.old) player.new.past }
-    ensures asked { TellsAtMost (F.told fleet.old) (F.told fleet.new) player.old.past player.new.past }
+    ensures lines { (before : Option (List ℕ)) (asked : Option Caps) (skipped : List Line) → HasHead first before script.old (S.left input.old) asked skipped → LinesPlayed result before (S.left input.new) script.new.reader.lines asked (Run 1 (F.ability fleet.old)) player.new (K.written output.old) (K.written output.new) (lent F.Fleet F.Wire.told fleet.old fleet.new wires.new) }
     ensures writes { WritesLines result player.new.past (K.written output.old) shown.new (K.written output.new) }
     ensures reads { ReadsLater first result (S.faults input.old) (S.faults input.new) }
     ensures read_well { is_read_fault result ≡ false → S.faults input.new ≡ S.faults input.old }
@@ -87,11 +87,9 @@ fn play_from<S: Source, K: Sink, F: Fleet>(
     requires ready { IsReady player.old }
     requires first { IsHeadRead first script.old.reader }
     ensures on { RunsOn F.Fleet fleet.old fleet.new player.old.past player.new.past }
-    ensures script { (before : Option (List ℕ)) (asked : Option Caps) (skipped : List Line) (failed : Bool) → HasHead first before script.old (S.left input.old) asked skipped → (first ≡ Err Stop.Read → failed ≡ true) → (HasRisen (S.faults input.old) (S.faults input.new) → failed ≡ true) → ScriptPlayed result before (S.left input.new) script.new.reader.lines asked failed (Run 1 (F.ability fleet.old)) player.new.past (K.written output.old) (K.written output.new) }
+    ensures script { (before : Option (List ℕ)) (asked : Option Caps) (skipped : List Line) (failed : Bool) → HasHead first before script.old (S.left input.old) asked skipped → (first ≡ Err Stop.Read → failed ≡ true) → (HasRisen (S.faults input.old) (S.faults input.new) → failed ≡ true) → ScriptPlayed result before (S.left input.new) script.new.reader.lines asked failed (Run 1 (F.ability fleet.old)) player.new.past (K.written output.old) (K.written output.new) (F.told fleet.old) (F.told fleet.new) }
     ensures over { ran_out result ≡ true → IsOver player.new.past }
     ensures writes { Writes result (has_risen (K.faults output.old) (K.faults output.new)) (K.written output.old) player.new.past (K.written output.new) }
-    ensures told { ran_out result ≡ true → F.told fleet.new ≡ with_told (F.told fleet.old) player.new.past }
-    ensures asked { AsksAtMost (F.told fleet.old) (F.told fleet.new) player.new.past }
     ensures reads { ReadsLater first result (S.faults input.old) (S.faults input.new) }
     ensures read_well { no_read_failed result ≡ true → S.faults input.new ≡ S.faults input.old }
     ensures written_well { WritesWell result (K.faults output.old) (K.faults output.new) }

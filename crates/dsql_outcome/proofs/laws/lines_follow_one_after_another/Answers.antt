@@ -1,4 +1,4 @@
-use Rattle.dsql_outcome.proofs.Following.{all_stops_short, end_stops_short, line_follows, line_stops_short, stops_at_rest}
+use Rattle.dsql_outcome.proofs.Following.{all_stops_short, end_stops_short, line_follows, line_stops_planning, line_stops_short, stops_at_rest}
 use Rattle.dsql_outcome.proofs.laws.lines_follow_one_after_another.Goals as goal
 
 pub returns-clause-line : goal.returns-clause-line
@@ -15,3 +15,6 @@ returns-clause-ends c = end_stops_short
 
 pub returns-clause-all : goal.returns-clause-all
 returns-clause-all c = all_stops_short
+
+pub returns-clause-plans : goal.returns-clause-plans
+returns-clause-plans c = line_stops_planning

@@ -5,6 +5,7 @@ use Rattle.dsql_follows.specs.Follows.{after}
 use Rattle.dsql_follows.specs.Sentences.{after_part}
 use Rattle.dsql_wires.proofs.Telling.{at_most}
 use Rattle.dsql_playing.specs.Carried.{part}
+use Rattle.dsql_playing.specs.Planned.{plans_of}
 use Rattle.dsql_outcome.proofs.Following.{carried_stops, line_stops_short}
 use Rattle.dsql_outcome.proofs.Writing.{shown_kinds}
 use Rattle.dsql_run.proofs.Going.{line_extends, stop_extends, halted, halted_full, halted_plays, halted_writes, shown_unfilled}
@@ -95,7 +96,8 @@ returns-in-Ok-clause-told g c = λ ran. c.in-Ok.ensures.run.told
 
 pub returns-in-Ok-clause-asked : goal.returns-in-Ok-clause-asked
 returns-in-Ok-clause-asked g c =
-    at_most (g.F.Fleet.told c.args.fleet.now) (g.F.Fleet.told c.carry_line.new.fleet) c.args.player.now.past c.carry_line.new.player.past c.in-Ok.ensures.run.told
+    at_most g.F.Wire.Wire.told (plans_of c.args.line c.args.player.now.past) (g.F.Fleet.told c.args.fleet.now) (g.F.Fleet.told c.carry_line.new.fleet) c.args.player.now.past c.carry_line.new.player.past c.args.wires.now c.carry_line.new.wires
+    c.in-Ok.ensures.run.told
 
 pub returns-in-Ok-clause-writes : goal.returns-in-Ok-clause-writes
 returns-in-Ok-clause-writes g c =

@@ -20,9 +20,12 @@ returns-in-Ok-clause-on g c = record {
   legal = c.carry_end.ensures.run.legal;
 }
 
+pub returns-in-Ok-clause-told : goal.returns-in-Ok-clause-told
+returns-in-Ok-clause-told g c = λ made told just. (c.in-Ok.ensures.run.told.told made told just).fleet
+
 pub returns-in-Err-clause-asked : goal.returns-in-Err-clause-asked
 returns-in-Err-clause-asked g c =
-    leaves _ _ _ _ _ c.in-Err.ensures.run.asked
+    leaves g.F.Wire.Wire.told _ _ _ _ _ _ c.in-Err.ensures.run.asked
     (given_back g.F.Wire.Wire.told (reverse c.carry_end.new.wires) (g.F.Fleet.told c.carry_end.new.fleet) (g.F.Fleet.told c.retire_all.new.fleet) c.retire_all.ensures.retired)
 
 pub returns-in-Err-clause-on : goal.returns-in-Err-clause-on

@@ -3,8 +3,9 @@ use Rattle.dsql_history.specs.declared.event.Event.TheVariants.{Run}
 use Rattle.dsql_follows.specs.Moments.{just_begun}
 use Rattle.dsql_wires.proofs.Extending.{extends_then}
 use Rattle.dsql_playing.proofs.Keeping.{able_then}
+use Rattle.dsql_outcome.specs.Lent.{lent}
 use Rattle.dsql_outcome.specs.Runs.{is_write_fault}
-use Rattle.dsql_outcome.proofs.Asking.{asks, read_played, written_played, not_read, not_written}
+use Rattle.dsql_outcome.proofs.Asking.{read_played, written_played, not_read, not_written}
 use Rattle.dsql_outcome.proofs.Ending.{script_played, shown_before_end}
 use Rattle.dsql_outcome.proofs.Finished.{all_risen, wrote_older, writes_more}
 use Rattle.dsql_run.proofs.Written.{grown}
@@ -18,6 +19,9 @@ play_lines-played-requires-clause-between g c κs within = record {
   moment = just_begun (Run 1 (g.F.Fleet.ability c.args.fleet.now));
   at = c.requires.at;
 }
+
+pub play_lines-played-requires-clause-unplanned : goal.play_lines-played-requires-clause-unplanned
+play_lines-played-requires-clause-unplanned g c κs within = rw c.requires.begun (c.new-wires.ensures.unplanned 1 (g.F.Fleet.ability c.args.fleet.now))
 
 pub finish-requires-clause-within : goal.finish-requires-clause-within
 finish-requires-clause-within g c =
@@ -34,6 +38,7 @@ pub returns-clause-script : goal.returns-clause-script
 returns-clause-script g c = λ before asked skipped failed head first_failed risen_failed.
     script_played c.play_lines-played.result c.close-ended.result c.finish.result before (g.S.Source.left c.play_lines-played.new.input) c.play_lines-played.new.script.reader.lines asked failed (Run 1 (g.F.Fleet.ability c.args.fleet.now)) c.play_lines-played.new.player c.close-ended.new.player.past
     (g.K.Sink.written c.args.output.now) (g.K.Sink.written c.play_lines-played.new.output) (g.K.Sink.written c.finish.new.output) c.play_lines-played.new.shown
+    (lent g.F.Fleet g.F.Wire.Wire.told c.args.fleet.now c.play_lines-played.new.fleet c.play_lines-played.new.wires) (g.F.Fleet.told c.close-ended.new.fleet)
     (record {
       same = c.close-ended.ensures.same;
       finishes = c.finish.ensures.result;
@@ -42,6 +47,7 @@ returns-clause-script g c = λ before asked skipped failed head first_failed ris
       stops = c.close-ended.ensures.stops;
       stays = c.close-ended.ensures.stays;
     })
+    (record { end = c.close-ended.ensures.told; left = c.close-ended.ensures.asked; given_back = c.close-ended.ensures.unasked })
     (c.play_lines-played.ensures.lines before asked skipped head)
     (λ fault. elim (c.play_lines-played.ensures.reads.caused fault) [ inl first ↦ first_failed first | inr risen ↦ risen_failed risen ])
     (record {
@@ -59,20 +65,6 @@ returns-clause-writes g c =
     (all_risen c.play_lines-played.result (g.K.Sink.faults c.args.output.now) (g.K.Sink.faults c.play_lines-played.new.output) (g.K.Sink.faults c.finish.new.output) c.play_lines-played.ensures.faults.counted c.finish.ensures.counted (λ is. c.play_lines-played.ensures.faults.caused (ap is_write_fault is)))
     (c.finish.ensures.wrote (g.K.Sink.written c.args.output.now)
     (wrote_older c.play_lines-played.result (g.K.Sink.written c.args.output.now) (g.K.Sink.written c.play_lines-played.new.output) c.play_lines-played.new.shown c.play_lines-played.new.player.past c.close-ended.new.player.past c.close-ended.ensures.on.extends c.play_lines-played.ensures.writes.within c.play_lines-played.ensures.writes.wrote))
-
-pub returns-clause-asked : goal.returns-clause-asked
-returns-clause-asked g c =
-    asks c.play_lines-played.result c.close-ended.result (g.F.Fleet.told c.args.fleet.now) (g.F.Fleet.told c.play_lines-played.new.fleet) (g.F.Fleet.told c.close-ended.new.fleet) (g.F.Fleet.ability c.args.fleet.now)
-    c.play_lines-played.new.player.past c.close-ended.new.player.past
-    (record {
-      lines = rw (← c.requires.begun) c.play_lines-played.ensures.asked;
-      all = c.play_lines-played.ensures.told;
-      end = c.close-ended.ensures.told;
-      same = c.close-ended.ensures.same;
-      left = c.close-ended.ensures.asked;
-      given_back = c.close-ended.ensures.unasked;
-      stays = c.close-ended.ensures.stays;
-    })
 
 pub returns-clause-read_well : goal.returns-clause-read_well
 returns-clause-read_well g c = λ well.

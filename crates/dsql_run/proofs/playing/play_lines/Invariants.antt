@@ -7,9 +7,9 @@ use Rattle.dsql_report.specs.Lines.{text_of}
 use Rattle.dsql_reader.specs.ScriptLines.{most_lines}
 use Rattle.dsql_reader.specs.declared.script.Head.{Head}
 use Rattle.dsql_wires.specs.Extends.{Extends}
-use Rattle.dsql_wires.specs.Told.{with_told}
 use Rattle.dsql_show.specs.Report.{with_text}
 use Rattle.dsql_script_source.specs.Reading.{IsBodyLine}
+use Rattle.dsql_outcome.specs.Lent.{lent}
 use Rattle.dsql_outcome.specs.Playing.{HasHead}
 use Rattle.dsql_outcome.specs.Runs.{Between}
 use Rattle.dsql_outcome.proofs.Lines.{LinesSoFar}
@@ -22,9 +22,8 @@ decreases-loop-next g l = (10001 - l.script.reader.lines) + one_if l.next
 abbrev pub invariant-loop-next : goal.invariant-loop-next
 invariant-loop-next g l = record {
   between : Between g.F.Wire.Wire.told (is_some (g.F.Fleet.told l.fleet)) l.player l.wires;
-  told : g.F.Fleet.told l.fleet ≡ with_told (g.F.Fleet.told l.initial.fleet) l.player.past;
   so_far : (before : Option (List ℕ)) (asked : Option Caps) (skipped : List Line) → HasHead l.fn.first before l.fn.script (g.S.Source.left l.fn.input) asked skipped
-      → LinesSoFar (Ok l.next) before l.script (g.S.Source.left l.input) asked (Run 1 (g.F.Fleet.ability l.fn.fleet)) l.player;
+      → LinesSoFar (Ok l.next) before l.script (g.S.Source.left l.input) asked (Run 1 (g.F.Fleet.ability l.fn.fleet)) l.player (lent g.F.Fleet g.F.Wire.Wire.told l.fn.fleet l.fleet l.wires);
   body : IsBodyLine l.next;
   headed : IfSome l.next (λ _. l.script.reader.head ≡ Head.Begun);
   few : IfSome l.next (λ _. l.script.reader.lines ≤ most_lines);
