@@ -14,7 +14,7 @@ use Rattle.dsql_spelling.specs.LineArgs.{arg_data, argument_data, statement_data
 use Rattle.dsql_report_calls.specs.LineOps.{entered_data}
 use Rattle.dsql_report.specs.Lines.{limit_word, json_of}
 use Rattle.dsql_script_calls.specs.ScriptWords.{is_name}
-use Rattle.dsql_text_laws.specs.ReadBack.{IsInRange as IsArgInRange}
+use Rattle.dsql_text_laws.specs.ReadBack.{IsInRange}
 use Rattle.dsql_text_laws.proofs.ReadBack.{call_is_read_back as statement_is_read_back}
 use Rattle.dsql_text_laws.proofs.ReadCalls.{dests_are_read_back, words_of_one, words_of_query, words_of_scan, words_of_rows}
 use Rattle.dsql_text_laws.proofs.ReadCaps.{among_its_names}
@@ -22,7 +22,7 @@ use Rattle.dsql_text_laws.proofs.ReadNumbers.{as_i64_signed}
 use Rattle.dsql_text_laws.proofs.ReadTexts.{IsRead, deeper, arg_is_read, named_is_read as named_arg_is_read}
 use Rattle.dsql_event_reader.specs.Asked.{op_of, op_in}
 use Rattle.dsql_event_reader.specs.Events.{setting_of, event_of}
-use Rattle.dsql_event_reader.specs.Fits.{ArgsFit, OpFits, has_dests, is_named_op, is_named, IsInRange, shown}
+use Rattle.dsql_event_reader.specs.Fits.{ArgsFit, OpFits, has_dests, is_named_op, is_named, NumbersFit, shown}
 use Rattle.dsql_event_reader.proofs.DriverBack.{call_is_read_back, call_is_read, answer_is_read_back, answer_is_read}
 use Rattle.dsql_event_reader.proofs.MovesBack.{in_word, owner_is_read_back, move_is_read_back, move_is_read}
 use Rattle.dsql_event_reader.proofs.RepliesBack.{reply_is_read_back, reply_is_read}
@@ -57,11 +57,11 @@ op_is_read_back client n (op.Err rows) named fits =
 op_is_read_back client n op.DbClose named fits = refl
 op_is_read_back client n op.Stats named fits = refl
 
-named_is_read : (named : Named) → IsArgInRange named.arg → IsRead 3 (argument_data named)
+named_is_read : (named : Named) → IsInRange named.arg → IsRead 3 (argument_data named)
 named_is_read named fits = deeper 2 3 (argument_data named) (omega arith) (named_arg_is_read named.name (arg_data named.arg) (arg_is_read named.arg fits))
 
 statement_is_read : (text : List ℕ) (args : List Named) → ArgsFit args → IsRead 4 (statement_data text args)
-statement_is_read text args fit = list_is_read (also (string_spelled 3 text) (mapped_are_read 3 argument_data (λ named. IsArgInRange named.arg) named_is_read args fit))
+statement_is_read text args fit = list_is_read (also (string_spelled 3 text) (mapped_are_read 3 argument_data (λ named. IsInRange named.arg) named_is_read args fit))
 
 entered_is_read : (client n : ℕ) (o : Op) → client < 2 ^ 8 → n < 2 ^ 32 → OpFits o → IsRead 5 (entered_data client n o)
 entered_is_read client n (op.Exec text args) few small fits = list_is_read (also (string_spelled 4 _) (also (natural_spelled 4 client (omega arith)) (also (number_spelled 4 n small) (also (string_spelled 4 _) (also (statement_is_read text args fits) no_more)))))
@@ -80,7 +80,7 @@ setting_is_read_back : (s : Setting) → setting_of (limit_word s) ≡ Some s
 setting_is_read_back MaxOpen = refl
 setting_is_read_back _ = refl
 
-pub event_is_read_back : (e : Event) → is_named e ≡ true → IsInRange e → event_of (json_of e) ≡ Some (shown e)
+pub event_is_read_back : (e : Event) → is_named e ≡ true → NumbersFit e → event_of (json_of e) ≡ Some (shown e)
 event_is_read_back (Run version caps) named fits = rw (in_byte version fits, texts_are_read_back (caps_names caps), among_its_names caps) refl
 event_is_read_back (Entered client n o) named fits = rw (in_byte client fits.0, in_word n fits.1, op_is_read_back client n o named fits.2) refl
 event_is_read_back (Heard entry) named fits =
@@ -92,7 +92,7 @@ event_is_read_back (SetLimit setting n) named fits = rw (setting_is_read_back se
 event_is_read_back (Replied n reply) named fits = rw (in_word n fits.0, reply_is_read_back reply fits.1) refl
 event_is_read_back Ended named fits = refl
 
-pub event_is_read : (e : Event) → IsInRange e → IsRead 5 (json_of e)
+pub event_is_read : (e : Event) → NumbersFit e → IsRead 5 (json_of e)
 event_is_read (Run version caps) fits = list_is_read (also (string_spelled 4 _) (also (natural_spelled 4 version (omega arith)) (also (list_is_read (texts_are_read 3 (caps_names caps))) no_more)))
 event_is_read (Entered client n o) fits = entered_is_read client n o fits.0 fits.1 fits.2
 event_is_read (Heard entry) fits =

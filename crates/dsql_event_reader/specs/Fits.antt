@@ -29,7 +29,7 @@ use Rattle.dsql_history.specs.declared.reply.Reply.TheVariants as reply
 use Rattle.dsql_history.specs.declared.event.Event.{Event}
 use Rattle.dsql_history.specs.declared.event.Event.TheVariants.{Run, Entered, Heard, Pool, Waits, Ticked, SetLimit, Replied, Ended}
 use Rattle.dsql_script_calls.specs.ScriptWords.{is_name}
-use Rattle.dsql_text_laws.specs.ReadBack.{IsInRange as IsArgInRange}
+use Rattle.dsql_text_laws.specs.ReadBack.{IsInRange}
 
 -- a number of 32 bits, and an unsigned one of 64
 abbrev pub IsNumber : ℕ → Type 0
@@ -95,7 +95,7 @@ abbrev pub EntryFits : Entry → Type 0
 EntryFits e = IsNumber e.conn × IsNumber e.tenure × OwnerFits e.owner × IsNumber e.call_no × IsNumber e.tx × CallFits e.call × AnswerFits e.answer
 
 abbrev pub ArgsFit : List Named → Type 0
-ArgsFit args = All (λ named. IsArgInRange named.arg) args
+ArgsFit args = All (λ named. IsInRange named.arg) args
 
 -- there is a destination
 abbrev pub has_dests : List Dest → Bool
@@ -142,19 +142,19 @@ ReplyFits (reply.Stats stats) = StatsFit stats
 ReplyFits _ = Unit {0}
 
 -- Each number of an event is of its type. So it is in every event that a program holds.
-abbrev pub IsInRange : Event → Type 0
-IsInRange (Run version caps) = version < 2 ^ 8
-IsInRange (Entered client n op) = (client < 2 ^ 8) × IsNumber n × OpFits op
-IsInRange (Heard entry) = EntryFits entry
-IsInRange (Pool move) = MoveFits move
-IsInRange (Waits n) = IsNumber n
-IsInRange (Ticked now) = IsLong now
-IsInRange (SetLimit setting n) = FitsSigned w64 n
-IsInRange (Replied n reply) = IsNumber n × ReplyFits reply
-IsInRange Ended = Unit {0}
+abbrev pub NumbersFit : Event → Type 0
+NumbersFit (Run version caps) = version < 2 ^ 8
+NumbersFit (Entered client n op) = (client < 2 ^ 8) × IsNumber n × OpFits op
+NumbersFit (Heard entry) = EntryFits entry
+NumbersFit (Pool move) = MoveFits move
+NumbersFit (Waits n) = IsNumber n
+NumbersFit (Ticked now) = IsLong now
+NumbersFit (SetLimit setting n) = FitsSigned w64 n
+NumbersFit (Replied n reply) = IsNumber n × ReplyFits reply
+NumbersFit Ended = Unit {0}
 
 abbrev pub Fits : Event → Type 0
-Fits e = (is_named e ≡ true) × IsInRange e
+Fits e = (is_named e ≡ true) × NumbersFit e
 
 -- A line doesn't show for which call a connection is lent: it is read as the number of its owner.
 abbrev pub shown_move : Move → Move
