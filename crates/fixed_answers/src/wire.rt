@@ -107,7 +107,7 @@ impl Wire for FixedWire {
         }
     }
 
-    // Nothing is planned on it: that is for drivers that are to fail in tests.
+    // A planned fault is passed over: it is for drivers that are to fail in tests.
     fn plan(&mut self, _nth: u32, _what: Planned) -> Result<(), Memory> {
         Ok(())
     }
