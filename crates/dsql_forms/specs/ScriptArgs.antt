@@ -11,6 +11,7 @@ use Rattle.serde_json.specs.Find.{as_i64, as_u64, as_str}
 use Rattle.dsql_value.specs.declared.arg.Arg.{Arg}
 use Rattle.dsql_value.specs.declared.arg.Arg.TheVariants as arg
 use Rattle.dsql_value.specs.declared.arg.Named.{Named}
+use Rattle.dsql_forms.specs.declared.forms.TheConstants.{MAX_ARGS}
 
 -- a whole number is an I64 where it fits, and else a U64
 abbrev pub number_arg : Num → Option Arg
@@ -137,4 +138,4 @@ call_of_data _ = None
 
 -- how many arguments a call may have, and how many destinations
 abbrev pub most_args : ℕ
-most_args = 32
+most_args = MAX_ARGS

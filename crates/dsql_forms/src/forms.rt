@@ -12,6 +12,9 @@ use hex::FromHexError;
 use serde_json::{Number, Value};
 use std::alloc::Global;
 
+/// How many arguments a call may have, and how many destinations.
+pub const MAX_ARGS: usize = 32;
+
 /// A whole number that stands alone.
 pub fn number_arg(number: &Number) -> Option<Arg>
     ensures { result ≡ number_arg (number_view number.now) }

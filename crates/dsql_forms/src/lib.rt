@@ -7,4 +7,4 @@ mod forms;
 
 pub use dests::read_dests;
 pub use fault::{LineFault, What};
-pub use forms::{number_arg, read_form};
+pub use forms::{MAX_ARGS, number_arg, read_form};

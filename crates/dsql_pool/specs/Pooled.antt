@@ -5,6 +5,7 @@ use Rattle.dsql_wait.specs.declared.request.Request.{Request}
 use Rattle.dsql_pool.specs.declared.conn.Place.{Place}
 use Rattle.dsql_pool.specs.declared.conn.Conn.{Conn}
 use Rattle.dsql_pool.specs.declared.moves.Move.{Move}
+use Rattle.dsql_pool.specs.declared.pool.TheConstants.{MOST_OPEN}
 use Rattle.dsql_pool.specs.declared.stats.Counts.{Counts}
 use Rattle.dsql_pool.specs.declared.stats.Stats.{Stats}
 use Rattle.dsql_pool.specs.Counted.{no_counts}
@@ -63,7 +64,7 @@ next_tenure p c = lends_of c p.conns + 2
 
 -- the most connections that are open at a time, whatever the limits
 abbrev pub most_open : ℕ
-most_open = 1000
+most_open = MOST_OPEN
 
 -- the most moves of a call beside its closings of idle connections: one, and the openings that are due
 abbrev pub most_other_moves : ℕ

@@ -24,7 +24,7 @@ use std::marker::Model;
 pub const MOST_OPEN: u32 = 1000;
 
 // Beside the closings of all idle connections a call makes one move and the openings that are due.
-const MOST_OTHER_MOVES: usize = 1001;
+const MOST_OTHER_MOVES: usize = MOST_OPEN as usize + 1;
 
 /// The pool. Contracts see it as one value, the moves that its newest call made, for how many more calls
 /// there is memory, and for how many moves of one call.

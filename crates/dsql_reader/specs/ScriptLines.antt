@@ -12,6 +12,7 @@ use Rattle.dsql_history.specs.declared.event.Control.TheVariants.{Tick, Set}
 use Rattle.dsql_forms.specs.declared.fault.What.TheVariants.{Lines}
 use Rattle.dsql_forms.specs.declared.fault.LineFault.{LineFault}
 use Rattle.dsql_forms.specs.declared.fault.LineFault.TheVariants.{TooLong, NotUtf8, NoSuchWord, BadShape, UnknownLabel, LabelTaken, TooMany}
+use Rattle.dsql_reader.specs.declared.reader.TheConstants.{MAX_BYTES, MAX_LINES}
 use Rattle.dsql_reader.specs.declared.script.ScriptLine.{ScriptLine}
 use Rattle.dsql_reader.specs.declared.script.ScriptLine.TheVariants.{Skip, Version, UseCaps, Client, Step, StepHouse}
 use Rattle.dsql_reader.specs.declared.script.ScriptLine.TheVariants as script
@@ -127,7 +128,7 @@ text_of head text = if is_skipped text then Ok Skip else form_of head (words_of 
 
 -- how many bytes a line may have before its line feed
 abbrev pub most_bytes : ℕ
-most_bytes = 4096
+most_bytes = MAX_BYTES
 
 -- a line before which few enough were read
 abbrev pub line_of : Head → List ℕ → Reading
@@ -135,7 +136,7 @@ line_of head line = if nat_lt most_bytes (length line) then Err TooLong else (if
 
 -- how many lines a script may have
 abbrev pub most_lines : ℕ
-most_lines = 10000
+most_lines = MAX_LINES
 
 -- the label stands among these
 abbrev pub is_among : List (List ℕ) → List ℕ → Bool

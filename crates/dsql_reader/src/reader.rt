@@ -17,7 +17,8 @@ use std::marker::Model;
 /// How many lines a script may have.
 const MAX_LINES: u16 = 10_000;
 
-/// How many bytes a line may have before its line feed.
+/// How many bytes a line may have before its line feed. `LONGEST` of dsql_stream says the same, so that
+/// no line is read that was cut.
 const MAX_BYTES: usize = 4_096;
 
 /// A reader of scripts, line by line. Contracts see the number of lines that it has read, which

@@ -5,7 +5,7 @@ use Rattle.std.specs.Str.Parse.{ParsesUnsigned, digits_value}
 use Rattle.std.proofs.lemmas.Bool.{ne_eqb, and_parts, and_right, lt-leb, ltb-true, lt-ltb, le-leb, cases_Bool, cases_lt}
 use Rattle.std.proofs.lemmas.Result.{OkIff-at_ok, OkIff-at_err}
 use Rattle.std.proofs.lemmas.Str.Parse.{IsNumeralModel, numerals_by_value, tells_all_ascii_digits, parse_plain}
-use Rattle.dsql_script_calls.specs.ScriptWords.{begins_with, is_number, client_number, client_of, is_token}
+use Rattle.dsql_script_calls.specs.ScriptWords.{begins_with, is_number, client_number, client_of, is_token, most_clients}
 
 or_true : (b : Bool) → (b || true) ≡ true
 or_true true = refl
@@ -36,7 +36,7 @@ digits_of_number digits is =
 
 -- what is made of a number that was read
 abbrev pub client_up_to : ℕ → Option ℕ
-client_up_to n = cond (leb 1 n && leb n 64) (Some n) None
+client_up_to n = cond (leb 1 n && leb n most_clients) (Some n) None
 
 numbered : (digits : List ℕ) → is_number digits ≡ true → client_number digits ≡ client_up_to (digits_value 10 digits)
 numbered digits is = rw is refl
@@ -44,11 +44,11 @@ numbered digits is = rw is refl
 unnumbered : (digits : List ℕ) → is_number digits ≡ false → client_number digits ≡ None
 unnumbered digits is = rw is refl
 
-pub client_up_to_within : (n : ℕ) → 1 ≤ n → n ≤ 64 → client_up_to n ≡ Some n
-client_up_to_within n some few = rw (le-leb 1 n some, le-leb n 64 few) refl
+pub client_up_to_within : (n : ℕ) → 1 ≤ n → n ≤ most_clients → client_up_to n ≡ Some n
+client_up_to_within n some few = rw (le-leb 1 n some, le-leb n most_clients few) refl
 
-too_large : (n : ℕ) → 64 < n → client_up_to n ≡ None
-too_large n large = rw (lt-leb n 64 large, and_right (leb 1 n) false refl) refl
+too_large : (n : ℕ) → most_clients < n → client_up_to n ≡ None
+too_large n large = rw (lt-leb n most_clients large, and_right (leb 1 n) false refl) refl
 
 pub own : IsNumeralModel (λ ds. all_ascii_digits ds ≡ true) (digits_value 10)
 own = numerals_by_value _ tells_all_ascii_digits
@@ -64,7 +64,7 @@ client_number-err digits r x h plus e =
     let refused = OkIff-at_err r _ _ x (parse_plain own 8 digits r h plus) e in
     elim (cases_Bool (is_number digits)) [
       | inl is ↦ let parts = digits_of_number digits is in
-          let large : 64 < digits_value 10 digits = elim (cases_lt 64 (digits_value 10 digits)) [ inl more ↦ more | inr few ↦ absurd (refused (parts.0, parts.1, omega arith)) ] in
+          let large : most_clients < digits_value 10 digits = elim (cases_lt most_clients (digits_value 10 digits)) [ inl more ↦ more | inr few ↦ absurd (refused (parts.0, parts.1, omega arith)) ] in
           numbered digits is ∙ too_large (digits_value 10 digits) large
       | inr not ↦ unnumbered digits not
     ]

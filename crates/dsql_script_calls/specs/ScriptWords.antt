@@ -4,6 +4,7 @@ use Rattle.std.specs.Char.{is_ascii_digit, is_ascii_lowercase}
 use Rattle.std.specs.List.{list_all, slice_split, starts_with}
 use Rattle.std.specs.Str.{all_ascii_digits, bytes_eq}
 use Rattle.std.specs.Str.Parse.{digits_value}
+use Rattle.dsql_script_calls.specs.declared.words.TheConstants.{CLIENTS, MAX_NAME_REST}
 
 abbrev pub space : ℕ
 space = 32
@@ -59,11 +60,15 @@ ordinal_of word =
     let n = digits_value 10 word in
     if is_number word && nat_le 1 n && nat_lt n (2 ^ 32) then Some n else None
 
--- the number of a client, which is from 1 to 64
+-- how many clients there are
+abbrev pub most_clients : ℕ
+most_clients = CLIENTS
+
+-- the number of a client, which is from 1 to so many
 abbrev pub client_number : List ℕ → Option ℕ
 client_number digits =
     let client = digits_value 10 digits in
-    if is_number digits && nat_le 1 client && nat_le client 64 then Some client else None
+    if is_number digits && nat_le 1 client && nat_le client most_clients then Some client else None
 
 -- the client that a word names: `c` and its number
 abbrev pub client_of : List ℕ → Option ℕ
@@ -78,7 +83,7 @@ is_database word = bytes_eq word (codes "db")
 
 -- how many bytes a name may have behind its first
 abbrev pub most_name_rest : ℕ
-most_name_rest = 31
+most_name_rest = MAX_NAME_REST
 
 -- the name of a label or a token: a lower-case letter and so many bytes more, and not the database's
 abbrev pub is_name : List ℕ → Bool

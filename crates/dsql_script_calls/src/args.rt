@@ -9,9 +9,6 @@ use dsql_value::{Arg, Args, Items, Named, Txt};
 use serde_json::{Map, Value};
 use std::alloc::Global;
 
-/// How many arguments a call may have, and how many destinations.
-pub const MAX_ARGS: usize = 32;
-
 /// The text and the arguments of a call, out of its array.
 pub fn read_statement(alloc: Global, array: &Value) -> Result<(Txt, Args), LineFault>
     ensures { IsShaped result (call_of_data (view array.now)) }

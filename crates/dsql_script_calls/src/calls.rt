@@ -6,9 +6,8 @@ ghost use Rattle.dsql_forms.specs.Outcomes.{IsReading};
 ghost use Rattle.dsql_script_calls.specs.ScriptWords.{label_of};
 ghost use Rattle.dsql_script_calls.specs.ScriptCalls.{call_of, call_by, lone_call, exec_of, query_of, query_as, one_of, one_into, statement_of, call_of_parts, names_database};
 
-use crate::args::{self, MAX_ARGS};
-use crate::{array, rows, targets};
-use dsql_forms::{LineFault, What, read_dests};
+use crate::{args, array, rows, targets};
+use dsql_forms::{LineFault, MAX_ARGS, What, read_dests};
 use dsql_history::Op;
 use dsql_scan::Dests;
 use dsql_value::{Args, Items, Txt};

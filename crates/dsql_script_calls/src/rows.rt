@@ -6,9 +6,8 @@ ghost use Rattle.dsql_forms.specs.Outcomes.{IsShaped, IsReading};
 ghost use Rattle.dsql_script_calls.specs.ScriptWords.{label_of};
 ghost use Rattle.dsql_script_calls.specs.ScriptCalls.{rows_call_by, rows_of, scan_of, scan_into};
 
-use crate::args::MAX_ARGS;
 use crate::words;
-use dsql_forms::{LineFault, What, read_dests};
+use dsql_forms::{LineFault, MAX_ARGS, What, read_dests};
 use dsql_history::Op;
 use dsql_value::Txt;
 use std::alloc::Global;

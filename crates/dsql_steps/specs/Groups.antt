@@ -22,6 +22,7 @@ use Rattle.dsql_history.specs.Rules.Asking.{may_ask, ask_outcome}
 use Rattle.dsql_history.specs.Rules.Line.{due_for, is_used}
 use Rattle.dsql_laws.specs.Asked.{with_asked}
 use Rattle.dsql_laws.specs.OwedMade.{with_moves}
+use Rattle.dsql_steps.specs.declared.limits.TheConstants.{MAX_EVENTS}
 
 -- the moves come that the pool owes
 abbrev pub with_owed : List Event → List Event
@@ -74,4 +75,4 @@ after_end past = with_owed (Ended ∷ past)
 
 -- a run stops at so many events
 abbrev pub most_events : ℕ
-most_events = 4000000
+most_events = MAX_EVENTS

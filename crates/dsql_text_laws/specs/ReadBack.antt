@@ -26,7 +26,7 @@ use Rattle.dsql_reader.specs.declared.script.ScriptLine.TheVariants as script
 use Rattle.dsql_forms.specs.ScriptArgs.{arg_of_data, named_of_data, call_of_data, most_args}
 use Rattle.dsql_reader.specs.ScriptHead.{caps_of}
 use Rattle.dsql_reader.specs.ScriptLines.{form_of, text_of, label_fault, among_labels}
-use Rattle.dsql_script_calls.specs.ScriptWords.{client_of, is_name, spaced_words}
+use Rattle.dsql_script_calls.specs.ScriptWords.{client_of, is_name, spaced_words, most_clients}
 
 -- the argument's numbers are numbers of its type
 abbrev pub IsInRange : Arg → Type 0
@@ -100,7 +100,7 @@ line_text held word op = (held_text held ++ (word ++ (codes " " ++ op_words op))
 -- lines made the label that it names, or didn't make the one that it makes. So is a line of these words and the array that
 -- a report shows. A client's word is `c` and the number that a report shows for it.
 pub record ReadsCallsBack : Type 0 where
-  pub client : (client : ℕ) → 1 ≤ client → client ≤ 64 → client_of (codes "c" ++ compact_text (natural client)) ≡ Some client
+  pub client : (client : ℕ) → 1 ≤ client → client ≤ most_clients → client_of (codes "c" ++ compact_text (natural client)) ≡ Some client
   pub dests : (dests : List Dest) → 0 < length dests → dests_of (dests_word dests) ≡ Some dests
   pub call : (head : Head) (labels : List (List ℕ)) (held : Bool) (word : List ℕ) (client : ℕ) (op : Op) (array : Option (List ℕ)) → client_of word ≡ Some client → MayBeAsked op → label_fault labels op ≡ None → Spells array (op_data op)
       → among_labels labels (form_of head (line_words held word (op_words op)) array) ≡ Ok (Client client op held)

@@ -17,10 +17,8 @@ use dsql_flights::Flights;
 use dsql_going::Why;
 use dsql_history::{Event, Op, Stand};
 use dsql_journal::Entry;
+use dsql_steps::MAX_EVENTS;
 use std::marker::Model;
-
-/// How many events a run may have.
-const MAX_EVENTS: usize = 4_000_000;
 
 /// A run that has as many events as a run may have. Contracts see their number.
 #[derive(Debug, Drop)]
