@@ -23,7 +23,7 @@ use Rattle.dsql_tenure.proofs.Lists.{list_all-map, list_any-map, list_all-filter
 
 -- the entry with an answer that differs in its contents alone
 abbrev pub like : Entry → Entry
-like e = record e { answer = answer_like (outcome_of e.answer) }
+like entry = record entry { answer = answer_like (outcome_of entry.answer) }
 
 body-answer : (o : Owner) (before : List Entry) (e : Entry) (a : DriverAnswer)
     → keeps_body o before (record e { answer = a }) ≡ keeps_body o before (record e { answer = answer_like (outcome_of a) })

@@ -165,7 +165,7 @@ not_house m House k = sym k
 
 -- the Rollback of transaction m in the tenure under way
 abbrev pub rolled : Entry → ℕ → Entry
-rolled e m = record { conn = e.conn; tenure = e.tenure; owner = e.owner; call_no = 0; tx = m; call = Rollback; answer = Done }
+rolled entry number = record { conn = entry.conn; tenure = entry.tenure; owner = entry.owner; call_no = 0; tx = number; call = Rollback; answer = Done }
 
 module _ (before : List Entry) (e : Entry) (h : IsJournalPrefix (e ∷ before)) (m : ℕ) (is : has m (open_in (e ∷ before)) ≡ true) (some : m ≢ 0)
     (bad : went_bad (e ∷ before) ≡ true) (not_shut : was_shut (e ∷ before) ≡ false) (not_refused : was_refused (e ∷ before) ≡ false) where

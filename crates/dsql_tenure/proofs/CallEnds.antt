@@ -49,7 +49,7 @@ all_wide (c ∷ cs) = all_wide cs
 
 -- it has an owner for its transaction, which is that of its tenure
 abbrev owned_in : Entry → Entry → Bool
-owned_in e x = ((x.tx == 0) || (is_tx_number x.tx x.owner || is_pin x.owner)) && (not (x.tenure == e.tenure) || same_owner x.owner e.owner)
+owned_in entry other = ((other.tx == 0) || (is_tx_number other.tx other.owner || is_pin other.owner)) && (not (other.tenure == entry.tenure) || same_owner other.owner entry.owner)
 
 module _ (before : List Entry) (e : Entry) (p : Partly before e) (n : ℕ) (is : e.owner ≡ Call n) where
   call_is : is_call e.owner ≡ true

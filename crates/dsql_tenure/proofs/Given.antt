@@ -27,11 +27,11 @@ eqb-refl n = grind (arith, nat_tests)
 
 -- the entry gave this handle
 abbrev pub gave_handle : LiveHandle → Entry → Bool
-gave_handle h x = is_number (given_handle x.answer) h.number && ((x.tenure == h.tenure) && ((x.tx == h.tx) && same_owner x.owner h.owner))
+gave_handle handle entry = is_number (given_handle entry.answer) handle.number && ((entry.tenure == handle.tenure) && ((entry.tx == handle.tx) && same_owner entry.owner handle.owner))
 
 -- the entry gave this cursor
 abbrev pub gave_cursor : LiveCursor → Entry → Bool
-gave_cursor c x = is_number (given_cursor x.answer) c.number && ((x.tenure == c.tenure) && (x.tx == c.tx))
+gave_cursor cursor entry = is_number (given_cursor entry.answer) cursor.number && ((entry.tenure == cursor.tenure) && (entry.tx == cursor.tx))
 
 or_first : (a b : Bool) → a ≡ true → (a || b) ≡ true
 or_first true b h = refl

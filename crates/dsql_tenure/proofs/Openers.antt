@@ -28,7 +28,7 @@ use Rattle.dsql_tenure.proofs.WholeAtOnce.{mayfollow}
 
 -- a text or a handle is run, and not skipped
 abbrev pub runs : DriverCall → DriverAnswer → Bool
-runs q a = runs_text q && not (is_skip a) || runs_handle q
+runs call answer = runs_text call && not (is_skip answer) || runs_handle call
 
 pub cursor-runs : (q : DriverCall) (a : DriverAnswer) → fits_of q a ≡ true → is_some (given_cursor a) ≡ true → runs q a ≡ true
 cursor-runs q (Cursor rows columns) f g = of_cursor q f
@@ -141,8 +141,8 @@ unopened before e h is run = go (list_any (λ c. c.tenure == e.tenure) (cursors 
 
 -- one cursor at most is of the tenure
 abbrev pub one_of : ℕ → List LiveCursor → Bool
-one_of t [] = true
-one_of t (c ∷ cs) = cond (c.tenure == t) (not (list_any (λ x. x.tenure == t) cs)) (one_of t cs)
+one_of tenure [] = true
+one_of tenure (cursor ∷ cursors) = cond (cursor.tenure == tenure) (not (list_any (λ x. x.tenure == tenure) cursors)) (one_of tenure cursors)
 
 none-one : (t : ℕ) (cs : List LiveCursor) → list_any (λ c. c.tenure == t) cs ≡ false → one_of t cs ≡ true
 none-one t [] h = refl

@@ -78,7 +78,7 @@ found p gave q journal so (x ∷ xs) given is =
 
 -- a handle that the last tenure gave, and that is live, is that tenure's
 abbrev of_here : ℕ → ℕ → LiveHandle → Bool
-of_here n t h = not (h.number == n) || (h.tenure == t)
+of_here number tenure handle = not (handle.number == number) || (handle.tenure == tenure)
 
 handles_after-here : (n : ℕ) (e : Entry) (q : DriverCall) (a : DriverAnswer) (live : List LiveHandle)
     → list_all (of_here n e.tenure) live ≡ true → list_all (of_here n e.tenure) (handles_after e q a live) ≡ true
@@ -139,12 +139,12 @@ same_test false true h k = k refl
 same_test false false h k = refl
 
 -- the parts of what is said of handles and cursors that say what is live, and where
-pub record Served (before : List Entry) (e : Entry) : Type 0 where
-  pub handle : if_any (handle_of e.call) (λ n. list_any (λ h. h.number == n) (handles before)) ≡ true
-  pub handle_tx : if_any (handle_of e.call) (λ n. list_all (λ h. not (h.number == n) || (h.tx == e.tx)) (handles before)) ≡ true
-  pub handle_tenure : if_any (handle_of e.call) (λ n. list_all (λ h. not (h.number == n) || (not (is_call h.owner) ⇒ h.tenure == e.tenure)) (handles before)) ≡ true
-  pub cursor : if_any (cursor_of e.call) (λ n. list_any (λ c. c.number == n) (cursors before)) ≡ true
-  pub cursor_tenure : if_any (cursor_of e.call) (λ n. list_all (λ c. not (c.number == n) || (c.tenure == e.tenure)) (cursors before)) ≡ true
+pub record Served (before : List Entry) (entry : Entry) : Type 0 where
+  pub handle : if_any (handle_of entry.call) (λ n. list_any (λ h. h.number == n) (handles before)) ≡ true
+  pub handle_tx : if_any (handle_of entry.call) (λ n. list_all (λ h. not (h.number == n) || (h.tx == entry.tx)) (handles before)) ≡ true
+  pub handle_tenure : if_any (handle_of entry.call) (λ n. list_all (λ h. not (h.number == n) || (not (is_call h.owner) ⇒ h.tenure == entry.tenure)) (handles before)) ≡ true
+  pub cursor : if_any (cursor_of entry.call) (λ n. list_any (λ c. c.number == n) (cursors before)) ≡ true
+  pub cursor_tenure : if_any (cursor_of entry.call) (λ n. list_all (λ c. not (c.number == n) || (c.tenure == entry.tenure)) (cursors before)) ≡ true
 
 not_not : (b : Bool) → not (not b) ≡ b
 not_not true = refl

@@ -24,23 +24,23 @@ use Rattle.dsql_tenure.proofs.BadEnds.{both_false, same_owners}
 use Rattle.dsql_tenure.proofs.RollsBack.{one_more, bad-has_whole_end}
 
 -- nothing was answered Bad, and the tenure under way isn't whole
-pub record Partly (before : List Entry) (e : Entry) : Type 0 where
-  pub beginning : IsJournalPrefix (e ∷ before)
-  pub not_refused : was_refused (e ∷ before) ≡ false
-  pub not_shut : was_shut (e ∷ before) ≡ false
-  pub not_bad : went_bad (e ∷ before) ≡ false
-  pub partly : is_whole_tenure e.tenure (e ∷ before) ≡ false
+pub record Partly (before : List Entry) (entry : Entry) : Type 0 where
+  pub beginning : IsJournalPrefix (entry ∷ before)
+  pub not_refused : was_refused (entry ∷ before) ≡ false
+  pub not_shut : was_shut (entry ∷ before) ≡ false
+  pub not_bad : went_bad (entry ∷ before) ≡ false
+  pub partly : is_whole_tenure entry.tenure (entry ∷ before) ≡ false
 
 -- a call of the tenure under way, answered Bad
 abbrev pub spoiled : Entry → ℕ → DriverCall → Entry
-spoiled e tx call = record { conn = e.conn; tenure = e.tenure; owner = e.owner; call_no = e.call_no; tx = tx; call = call; answer = Bad }
+spoiled entry tx call = record { conn = entry.conn; tenure = entry.tenure; owner = entry.owner; call_no = entry.call_no; tx = tx; call = call; answer = Bad }
 
 -- such a call is none of these
-pub record Works (q : DriverCall) : Type 0 where
-  pub connect : is_connect q ≡ false
-  pub reset : is_reset q ≡ false
-  pub valid : is_valid q ≡ false
-  pub fails : may_fail q ≡ true
+pub record Works (call : DriverCall) : Type 0 where
+  pub connect : is_connect call ≡ false
+  pub reset : is_reset call ≡ false
+  pub valid : is_valid call ≡ false
+  pub fails : may_fail call ≡ true
 
 none_bad : (before : List Entry) (e : Entry) → went_bad (e ∷ before) ≡ false → bad_tenure (e ∷ before) ≡ None
 none_bad before e good =

@@ -28,13 +28,13 @@ use Rattle.dsql_tenure.specs.Sent.{may_send}
 use Rattle.dsql_tenure.proofs.Standing.{beginning-more}
 
 abbrev with_answer : Entry → DriverAnswer → Entry
-with_answer e a = record e { answer = a }
+with_answer entry answer = record entry { answer = answer }
 
 -- an answer that leaves the rules as another does
-record Alike (e : Entry) (a b : DriverAnswer) : Type 0 where
-  refused : (is_begin e.call && is_failure a) ≡ (is_begin e.call && is_failure b)
-  begins : e.tx ≢ 0 → (is_begin e.call && is_done a) ≡ (is_begin e.call && is_done b)
-  closes : is_close_stmt e.call ≡ true → is_bad a ≡ false
+record Alike (entry : Entry) (first second : DriverAnswer) : Type 0 where
+  refused : (is_begin entry.call && is_failure first) ≡ (is_begin entry.call && is_failure second)
+  begins : entry.tx ≢ 0 → (is_begin entry.call && is_done first) ≡ (is_begin entry.call && is_done second)
+  closes : is_close_stmt entry.call ≡ true → is_bad first ≡ false
 
 rows_first : (c a b x : Bool) → (c ≡ true → a ≡ false) → (c ⇒ a || x) ≡ true → (c ⇒ b || x) ≡ true
 rows_first true a b x none h = last b x (drop_first a x (none refl) h)

@@ -95,7 +95,7 @@ ping-place _ h = grind (arith, h)
 
 -- a place p may come after a place q
 abbrev after_place : ℕ → ℕ → Bool
-after_place q p = nat_lt q p || ((q == 4) && (p == 4))
+after_place last next = nat_lt last next || ((last == 4) && (next == 4))
 
 after_max : (a b p : ℕ) → (after_place a p && after_place b p) ≡ after_place (max a b) p
 after_max a b p = go (nat_lt a b) refl

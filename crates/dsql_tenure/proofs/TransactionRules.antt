@@ -30,11 +30,11 @@ use Rattle.dsql_tenure.proofs.Places.{open-last, one_tenure, has_ended-last, who
 use Rattle.dsql_tenure.proofs.Owned.{Served, found}
 
 -- what a CloseStmt is
-pub record OnlyCloses (q : DriverCall) : Type 0 where
-  pub work : is_work q ≡ true
-  pub begin : is_begin q ≡ false
-  pub ending : is_ending q ≡ false
-  pub in_body : not (is_reset q || is_valid q) ≡ true
+pub record OnlyCloses (call : DriverCall) : Type 0 where
+  pub work : is_work call ≡ true
+  pub begin : is_begin call ≡ false
+  pub ending : is_ending call ≡ false
+  pub in_body : not (is_reset call || is_valid call) ≡ true
 
 pub close-only : (q : DriverCall) → is_close_stmt q ≡ true → OnlyCloses q
 close-only (CloseStmt n) h = record { work = refl; begin = refl; ending = refl; in_body = refl }
@@ -47,7 +47,7 @@ close-names _ h = grind (arith, h)
 
 -- a handle of a transaction wasn't prepared by a call on the database
 abbrev of_no_call : LiveHandle → Bool
-of_no_call h = (h.tx == 0) || not (is_call h.owner)
+of_no_call handle = (handle.tx == 0) || not (is_call handle.owner)
 
 outside_if_call : (o : Owner) (before : List Entry) (e : Entry) → KeepsBody o before e → is_call o ≡ true → (e.tx == 0) ≡ true
 outside_if_call (Call n) before e k is = k.no_transaction
@@ -76,9 +76,9 @@ handles-no_call (e ∷ before) h =
     handles_after-no_call e e.call e.answer (handles before) (λ body is. outside_if_call e.owner before e (m.tenure.in_body body) is) (handles-no_call before p.1)
 
 -- what the order of a whole journal says of tenures
-pub record Rises (before : List Entry) (e : Entry) : Type 0 where
-  pub rising : nat_lt e.tenure (last_tenure before) ≡ false
-  pub whole : nat_lt (last_tenure before) e.tenure ≡ true → is_whole_tenure (last_tenure before) before ≡ true
+pub record Rises (before : List Entry) (entry : Entry) : Type 0 where
+  pub rising : nat_lt entry.tenure (last_tenure before) ≡ false
+  pub whole : nat_lt (last_tenure before) entry.tenure ≡ true → is_whole_tenure (last_tenure before) before ≡ true
 
 pub rises : (before : List Entry) (e : Entry) → keeps_whole_journal before e ≡ true → Rises before e
 rises before e h =
@@ -95,7 +95,7 @@ never_empty (m ∷ ns) n h k = grind (arith, h)
 
 -- a handle of number n may be closed by the entry, which stands in a transaction
 abbrev tested : ℕ → Entry → LiveHandle → Bool
-tested n e x = (not (x.number == n) || (x.tx == e.tx)) && ((not (x.number == n) || (not (is_call x.owner) ⇒ x.tenure == e.tenure)) && of_no_call x)
+tested number entry handle = (not (handle.number == number) || (handle.tx == entry.tx)) && ((not (handle.number == number) || (not (is_call handle.owner) ⇒ handle.tenure == entry.tenure)) && of_no_call handle)
 
 module _ (before : List Entry) (e : Entry) (h : IsJournalPrefix before) (r : Rises before e) (some : e.tx ≢ 0) where
   -- where its transaction is open, the tenure goes on

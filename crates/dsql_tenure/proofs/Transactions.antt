@@ -24,13 +24,13 @@ use Rattle.dsql_tenure.specs.Open.{open_in}
 use Rattle.dsql_tenure.proofs.Lists.{has-filter}
 
 -- what a Begin isn't
-pub record OnlyBegins (q : DriverCall) : Type 0 where
-  pub ping : is_ping q ≡ false
-  pub work : is_work q ≡ false
-  pub placed : nat_lt 0 (place q) ≡ false
-  pub house : (is_connect q || is_close_stmt q || is_shut q) ≡ false
-  pub ending : is_ending q ≡ false
-  pub in_body : not (is_reset q || is_valid q) ≡ true
+pub record OnlyBegins (call : DriverCall) : Type 0 where
+  pub ping : is_ping call ≡ false
+  pub work : is_work call ≡ false
+  pub placed : nat_lt 0 (place call) ≡ false
+  pub house : (is_connect call || is_close_stmt call || is_shut call) ≡ false
+  pub ending : is_ending call ≡ false
+  pub in_body : not (is_reset call || is_valid call) ≡ true
 
 pub begin-only : (q : DriverCall) → is_begin q ≡ true → OnlyBegins q
 begin-only (Begin level read_only) h = record { ping = refl; work = refl; placed = refl; house = refl; ending = refl; in_body = refl }

@@ -31,10 +31,10 @@ use Rattle.dsql_tenure.proofs.Openers.{runs, cursor-runs, number-some}
 
 -- in transaction n's own tenure, an entry that works with statements and rows is of the transaction
 abbrev pub works_in : Owner → Entry → Bool
-works_in (Tx n) x = is_work x.call ⇒ not (n == 0) && (x.tx == n)
-works_in (Call n) x = true
-works_in (Pin n) x = true
-works_in House x = true
+works_in (Tx number) entry = is_work entry.call ⇒ not (number == 0) && (entry.tx == number)
+works_in (Call number) entry = true
+works_in (Pin number) entry = true
+works_in House entry = true
 
 work-body : (q : DriverCall) → is_work q ≡ true → not (is_reset q || is_valid q) ≡ true
 work-body q h = go (is_reset q || is_valid q) refl
@@ -95,21 +95,21 @@ prepared-work q _ f g = grind (arith, g)
 
 -- an entry's answer fits, it works where its owner does, and has the owner of its tenure
 abbrev pub ruled : Entry → Entry → Bool
-ruled e x = (fits_of x.call x.answer && not (is_memory x.answer)) && (works_in x.owner x && (not (x.tenure == e.tenure) || same_owner x.owner e.owner))
+ruled entry other = (fits_of other.call other.answer && not (is_memory other.answer)) && (works_in other.owner other && (not (other.tenure == entry.tenure) || same_owner other.owner entry.owner))
 
 -- an entry of transaction n in tenure t, and one that gave handle k
 abbrev pub stands : ℕ → ℕ → Entry → Bool
-stands n t x = (x.tx == n) && (x.tenure == t)
+stands number tenure entry = (entry.tx == number) && (entry.tenure == tenure)
 
 abbrev pub gives : ℕ → ℕ → ℕ → Entry → Bool
-gives n t k x = (x.tx == n) && ((x.tenure == t) && is_number (given_handle x.answer) k)
+gives number tenure handle entry = (entry.tx == number) && ((entry.tenure == tenure) && is_number (given_handle entry.answer) handle)
 
 -- if it is of tenure t, a cursor or handle is of transaction n, as is what gave it
 abbrev pub cursor_of_it : ℕ → ℕ → List Entry → LiveCursor → Bool
-cursor_of_it n t journal c = not (c.tenure == t) || ((not (n == 0) && (c.tx == n)) && list_any (stands n t) journal)
+cursor_of_it number tenure journal cursor = not (cursor.tenure == tenure) || ((not (number == 0) && (cursor.tx == number)) && list_any (stands number tenure) journal)
 
 abbrev pub handle_of_it : ℕ → ℕ → List Entry → LiveHandle → Bool
-handle_of_it n t journal l = not (l.tenure == t) || ((not (n == 0) && (l.tx == n)) && list_any (gives n t l.number) journal)
+handle_of_it number tenure journal handle = not (handle.tenure == tenure) || ((not (number == 0) && (handle.tx == number)) && list_any (gives number tenure handle.number) journal)
 
 module _ (before : List Entry) (e : Entry) (h : IsJournalPrefix (e ∷ before)) (n : ℕ) (is : e.owner ≡ Tx n) where
   all_ruled : list_all (ruled e) (e ∷ before) ≡ true

@@ -23,5 +23,5 @@ answer_like is.Other = End
 
 -- an entry that it stands for
 abbrev pub entry_like : Asked → Entry
-entry_like a =
-    record { conn = a.conn; tenure = a.tenure; owner = a.owner; call_no = a.call_no; tx = a.tx; call = a.call.now; answer = answer_like a.outcome }
+entry_like asked =
+    record { conn = asked.conn; tenure = asked.tenure; owner = asked.owner; call_no = asked.call_no; tx = asked.tx; call = asked.call.now; answer = answer_like asked.outcome }

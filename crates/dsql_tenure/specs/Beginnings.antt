@@ -13,28 +13,28 @@ use Rattle.dsql_tenure.specs.declared.fault.Phase.TheVariants.{Before, Between, 
 
 -- it is a beginning of a whole journal of connection c
 abbrev pub is_beginning_of : ℕ → List Entry → Bool
-is_beginning_of c journal = is_journal_prefix journal && list_all (λ x. x.conn == c) journal
+is_beginning_of conn journal = is_journal_prefix journal && list_all (λ x. x.conn == conn) journal
 
 abbrev pub IsBeginningOf : ℕ → List Entry → Type 0
-IsBeginningOf c journal = IsTrue (is_beginning_of c journal)
+IsBeginningOf conn journal = IsTrue (is_beginning_of conn journal)
 
 -- after a Bad answer a tenure of this owner can have a further entry: what ends its transaction, or a pinned connection's own
 abbrev pub can_grow_when_bad : Owner → List Entry → Bool
-can_grow_when_bad (Tx n) journal = has n (begun journal) && not (has n (ended journal))
-can_grow_when_bad (Pin n) journal = true
-can_grow_when_bad (Call n) journal = false
+can_grow_when_bad (Tx number) journal = has number (begun journal) && not (has number (ended journal))
+can_grow_when_bad (Pin number) journal = true
+can_grow_when_bad (Call number) journal = false
 can_grow_when_bad House journal = false
 
 -- the last tenure can have a further entry
 abbrev pub can_grow : List Entry → Bool
 can_grow [] = false
-can_grow (e ∷ before) =
-    let journal : List Entry = e ∷ before in
-    not (list_any (λ x. is_valid x.call) (of_tenure e.tenure journal))
-    && not (list_any (λ x. is_reset x.call && is_bad x.answer) (of_tenure e.tenure journal))
-    && (if went_bad journal then can_grow_when_bad e.owner journal else not (is_house e.owner))
+can_grow (entry ∷ before) =
+    let journal : List Entry = entry ∷ before in
+    not (list_any (λ x. is_valid x.call) (of_tenure entry.tenure journal))
+    && not (list_any (λ x. is_reset x.call && is_bad x.answer) (of_tenure entry.tenure journal))
+    && (if went_bad journal then can_grow_when_bad entry.owner journal else not (is_house entry.owner))
 
 -- no Connect was heard yet, Shut was heard, the last tenure can grow, or none can
 abbrev pub phase : List Entry → Phase
 phase [] = Before
-phase (e ∷ before) = if is_shut e.call then After else if can_grow (e ∷ before) then Inside else Between
+phase (entry ∷ before) = if is_shut entry.call then After else if can_grow (entry ∷ before) then Inside else Between

@@ -4,5 +4,5 @@ use Rattle.dsql_journal.specs.declared.entry.Entry.{Entry}
 use Rattle.dsql_driver.specs.Kinds.{is_bad}
 
 abbrev pub bad_with : Option ℕ → Entry → Option ℕ
-bad_with (Some n) e = Some n
-bad_with None e = if is_bad e.answer then Some e.tenure else None
+bad_with (Some tenure) entry = Some tenure
+bad_with None entry = if is_bad entry.answer then Some entry.tenure else None

@@ -42,17 +42,17 @@ finished_by _ _ = None
 
 -- with a handle that is given, and without one that is closed
 abbrev pub handles_with : Option ℕ → Option ℕ → Entry → List Handle → List Handle
-handles_with (Some n) closed e hs = record { number = n; tenure = e.tenure; owner = e.owner; tx = e.tx } ∷ hs
-handles_with None (Some n) e hs = filter (λ h. not (h.number == n)) hs
-handles_with None None e hs = hs
+handles_with (Some number) closed entry handles = record { number = number; tenure = entry.tenure; owner = entry.owner; tx = entry.tx } ∷ handles
+handles_with None (Some number) entry handles = filter (λ h. not (h.number == number)) handles
+handles_with None None entry handles = handles
 
 -- a cursor, over if it has that number
 abbrev pub over_if : ℕ → kept.Cursor → kept.Cursor
-over_if n c = if c.number == n then record c { over = true } else c
+over_if number cursor = if cursor.number == number then record cursor { over = true } else cursor
 
 -- with a cursor that is given, without one that is closed, and with the rows of one over
 abbrev pub cursors_with : Option ℕ → Option ℕ → Option ℕ → Entry → List kept.Cursor → List kept.Cursor
-cursors_with (Some n) freed finished e cs = record { number = n; tenure = e.tenure; tx = e.tx; columns = columns_of e.answer; over = false } ∷ cs
-cursors_with None (Some n) finished e cs = filter (λ c. not (c.number == n)) cs
-cursors_with None None (Some n) e cs = map (over_if n) cs
-cursors_with None None None e cs = cs
+cursors_with (Some number) freed finished entry cursors = record { number = number; tenure = entry.tenure; tx = entry.tx; columns = columns_of entry.answer; over = false } ∷ cursors
+cursors_with None (Some number) finished entry cursors = filter (λ c. not (c.number == number)) cursors
+cursors_with None None (Some number) entry cursors = map (over_if number) cursors
+cursors_with None None None entry cursors = cursors

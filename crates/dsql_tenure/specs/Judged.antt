@@ -20,9 +20,9 @@ pub record Judged : Type 0 where
 
 -- why an entry wasn't taken: with it the journal is no beginning of a whole one, or it is one and there was no memory
 abbrev pub Refuses : Judged → Entry → JudgeFault → Type 0
-Refuses judge e (Stray where_it_stands tenure) =
-    (is_beginning_of judge.conn (e ∷ judge.journal) ≡ false) × (where_it_stands ≡ phase judge.journal) × (tenure ≡ last_tenure judge.journal)
-Refuses judge e Memory = IsBeginningOf judge.conn (e ∷ judge.journal) × (judge.spare ≡ 0)
+Refuses judge entry (Stray where_it_stands tenure) =
+    (is_beginning_of judge.conn (entry ∷ judge.journal) ≡ false) × (where_it_stands ≡ phase judge.journal) × (tenure ≡ last_tenure judge.journal)
+Refuses judge entry Memory = IsBeginningOf judge.conn (entry ∷ judge.journal) × (judge.spare ≡ 0)
 
 -- the entry that an answer makes of a permit; a Begin that wasn't answered Done makes no transaction
 abbrev pub answered : Permit → DriverAnswer → Entry

@@ -10,21 +10,21 @@ use Rattle.dsql_journal.specs.WholeJournal.{keeps_whole_journal}
 use Rattle.dsql_tenure.specs.declared.tables.Cursor.{Cursor}
 
 abbrev pub may_be_asked : List Entry → Entry → Bool
-may_be_asked before e =
-    keeps_whole_journal before e
-    && keeps_tenure before e
-    && keeps_transaction before e
-    && keeps_handles_and_cursors before e
+may_be_asked before entry =
+    keeps_whole_journal before entry
+    && keeps_tenure before entry
+    && keeps_transaction before entry
+    && keeps_handles_and_cursors before entry
 
 -- the table of shapes has this answer for its call, and it isn't want of memory
 abbrev pub is_answer : Entry → Bool
-is_answer e = is_heard e && is_fitting e
+is_answer entry = is_heard entry && is_fitting entry
 
 -- a handle or cursor that it gives isn't live already
 abbrev pub gives_new : List Entry → Entry → Bool
-gives_new before e = gives_new_handle before e && gives_new_cursor before e
+gives_new before entry = gives_new_handle before entry && gives_new_cursor before entry
 
 -- a cursor has as many columns as a Row has values
 abbrev pub is_as_wide : DriverAnswer → Cursor → Bool
-is_as_wide (Row values) c = c.columns == length values
-is_as_wide _ c = true
+is_as_wide (Row values) cursor = cursor.columns == length values
+is_as_wide _ cursor = true

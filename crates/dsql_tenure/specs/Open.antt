@@ -9,21 +9,21 @@ use Rattle.dsql_driver.specs.Fits.{is_done}
 
 -- the open ones after an entry
 abbrev pub open_after : Entry → List ℕ → List ℕ
-open_after e ns = if begins e then (e.tx ∷ ns) else if is_ending e.call then filter (λ m. not (m == e.tx)) ns else ns
+open_after entry numbers = if begins entry then (entry.tx ∷ numbers) else if is_ending entry.call then filter (λ m. not (m == entry.tx)) numbers else numbers
 
 -- A transaction is open where its Begin stands before, and no Commit or Rollback of it after that, whatever that was answered. Newest first.
 abbrev pub open_in : List Entry → List ℕ
 open_in [] = []
-open_in (e ∷ before) = open_after e (open_in before)
+open_in (entry ∷ before) = open_after entry (open_in before)
 
 -- it begins a transaction whose number is new
 abbrev pub begins_anew : List Entry → Entry → Bool
-begins_anew before e = is_done e.answer && (e.call_no == e.tx) && not (has e.tx (begun before))
+begins_anew before entry = is_done entry.answer && (entry.call_no == entry.tx) && not (has entry.tx (begun before))
 
 -- its transaction is open, and it works in it or ends it
 abbrev pub goes_on_open : List Entry → Entry → Bool
-goes_on_open before e = (is_work e.call || is_ending e.call) && has e.tx (open_in before) && ends_without_cursors before e
+goes_on_open before entry = (is_work entry.call || is_ending entry.call) && has entry.tx (open_in before) && ends_without_cursors before entry
 
 -- an entry with that number of a transaction may come
 abbrev pub keeps_number : List Entry → Entry → Bool
-keeps_number before e = if is_begin e.call then begins_anew before e else (is_close_stmt e.call || goes_on_open before e)
+keeps_number before entry = if is_begin entry.call then begins_anew before entry else (is_close_stmt entry.call || goes_on_open before entry)

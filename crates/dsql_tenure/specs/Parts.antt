@@ -14,40 +14,40 @@ goes_on before = follows_no_refusal before && follows_no_shut before
 
 -- Connect is the first entry, in tenure 1, and only the first
 abbrev pub begins_well : List Entry → Entry → Bool
-begins_well before e = connects_first before e && starts_with_tenure_one before e
+begins_well before entry = connects_first before entry && starts_with_tenure_one before entry
 
 -- tenures are numbered upward, and the last one is whole before another begins
 abbrev pub rises : List Entry → Entry → Bool
-rises before e = has_rising_tenure before e && follows_whole_tenure before e
+rises before entry = has_rising_tenure before entry && follows_whole_tenure before entry
 
 abbrev pub keeps_order : List Entry → Entry → Bool
-keeps_order before e = goes_on before && begins_well before e && rises before e
+keeps_order before entry = goes_on before && begins_well before entry && rises before entry
 
 -- what a Bad or Invalid answer leaves
 abbrev pub keeps_bad : List Entry → Entry → Bool
-keeps_bad before e = tidies_nothing_bad before e && stays_in_bad_tenure before e && shuts_after_invalid before e
+keeps_bad before entry = tidies_nothing_bad before entry && stays_in_bad_tenure before entry && shuts_after_invalid before entry
 
 -- the handle that is named, if any, is live and may be used there
 abbrev pub keeps_handle : List Entry → Entry → Bool
-keeps_handle before e =
-    has_live_handle before e
-    && has_transaction_of_handle before e
-    && uses_handle_in_its_tenure before e
-    && uses_handle_in_call_tenures before e
+keeps_handle before entry =
+    has_live_handle before entry
+    && has_transaction_of_handle before entry
+    && uses_handle_in_its_tenure before entry
+    && uses_handle_in_call_tenures before entry
 
 -- the cursor that is named, if any, is live and may be used there
 abbrev pub keeps_cursor : List Entry → Entry → Bool
-keeps_cursor before e =
-    has_live_cursor before e
-    && fetches_before_the_end before e
-    && has_transaction_of_cursor before e
-    && uses_cursor_in_its_tenure before e
+keeps_cursor before entry =
+    has_live_cursor before entry
+    && fetches_before_the_end before entry
+    && has_transaction_of_cursor before entry
+    && uses_cursor_in_its_tenure before entry
 
 -- a handle may be used by an entry
 abbrev pub serves_handle : Handle → Entry → Bool
-serves_handle h e =
-    (h.tx == e.tx) && (if is_call h.owner then (is_call e.owner || is_house e.owner && is_close_stmt e.call) else (h.tenure == e.tenure))
+serves_handle handle entry =
+    (handle.tx == entry.tx) && (if is_call handle.owner then (is_call entry.owner || is_house entry.owner && is_close_stmt entry.call) else (handle.tenure == entry.tenure))
 
 -- a cursor may be used by an entry
 abbrev pub serves_cursor : Cursor → Entry → Bool
-serves_cursor c e = (is_next e.call ⇒ not c.over) && (c.tx == e.tx) && (c.tenure == e.tenure)
+serves_cursor cursor entry = (is_next entry.call ⇒ not cursor.over) && (cursor.tx == entry.tx) && (cursor.tenure == entry.tenure)

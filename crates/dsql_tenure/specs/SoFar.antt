@@ -13,19 +13,19 @@ use Rattle.dsql_tenure.specs.declared.so_far.SoFar.{SoFar}
 -- the highest place that an entry has
 abbrev pub last_place : List Entry → ℕ
 last_place [] = 0
-last_place (e ∷ earlier) = max (place e.call) (last_place earlier)
+last_place (entry ∷ earlier) = max (place entry.call) (last_place earlier)
 
 -- with one Prepare more, which gave this
 abbrev pub prepared_with : Option ℕ → Prepared → Prepared
-prepared_with (Some h) Nothing = Handle h
-prepared_with (Some h) (Handle k) = if h == k then Handle k else Otherwise
-prepared_with (Some h) Otherwise = Otherwise
+prepared_with (Some handle) Nothing = Handle handle
+prepared_with (Some handle) (Handle other) = if handle == other then Handle other else Otherwise
+prepared_with (Some handle) Otherwise = Otherwise
 prepared_with None others = Otherwise
 
 -- the handles that its Prepares gave
 abbrev pub prepared : List Entry → Prepared
 prepared [] = Nothing
-prepared (e ∷ earlier) = if is_prepare e.call then prepared_with (given_handle e.answer) (prepared earlier) else prepared earlier
+prepared (entry ∷ earlier) = if is_prepare entry.call then prepared_with (given_handle entry.answer) (prepared earlier) else prepared earlier
 
 -- all that is kept of it
 abbrev pub so_far : List Entry → SoFar

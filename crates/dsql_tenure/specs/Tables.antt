@@ -14,39 +14,39 @@ use Rattle.dsql_tenure.specs.declared.tables.Tables.{Tables}
 
 -- the entries so far, the newest first
 abbrev pub past : Tables → List Entry
-past t = t.past.entries
+past tables = tables.past.entries
 
 -- what is kept of a live handle
 abbrev pub kept_handle : LiveHandle → Handle
-kept_handle h = record { number = h.number; tenure = h.tenure; owner = h.owner; tx = h.tx }
+kept_handle handle = record { number = handle.number; tenure = handle.tenure; owner = handle.owner; tx = handle.tx }
 
 -- what is kept of a live cursor
 abbrev pub kept_cursor : LiveCursor → Cursor
-kept_cursor c = record { number = c.number; tenure = c.tenure; tx = c.tx; columns = c.columns; over = c.over }
+kept_cursor cursor = record { number = cursor.number; tenure = cursor.tenure; tx = cursor.tx; columns = cursor.columns; over = cursor.over }
 
 -- each table has room for as many entries as were paid for
-pub record HasRoom (t : Tables) : Type 0 where
-  pub handles : vec_len t.handles + t.room ≤ vec_capacity t.handles
-  pub cursors : vec_len t.cursors + t.room ≤ vec_capacity t.cursors
-  pub unended : vec_len t.unended + t.room ≤ vec_capacity t.unended
-  pub begun : t.room ≤ spare t.begun
+pub record HasRoom (tables : Tables) : Type 0 where
+  pub handles : vec_len tables.handles + tables.room ≤ vec_capacity tables.handles
+  pub cursors : vec_len tables.cursors + tables.room ≤ vec_capacity tables.cursors
+  pub unended : vec_len tables.unended + tables.room ≤ vec_capacity tables.unended
+  pub begun : tables.room ≤ spare tables.begun
 
-pub record Keeps (t : Tables) : Type 0 where
-  pub prefix : IsJournalPrefix (past t)
-  pub one : IsTrue (list_all (λ x. x.conn == t.conn) (past t))
-  pub tenure : t.tenure ≡ told.last_tenure (past t)
-  pub so_far : t.so_far ≡ tenures.so_far (told.of_tenure (told.last_tenure (past t)) (past t))
-  pub refused : t.refused ≡ told.was_refused (past t)
-  pub shut : t.shut ≡ told.was_shut (past t)
-  pub bad_tenure : t.bad_tenure ≡ told.bad_tenure (past t)
-  pub invalid : t.invalid ≡ told.went_invalid (past t)
-  pub handles : t.handles.items ≡ map kept_handle (told.handles (past t))
-  pub cursors : t.cursors.items ≡ map kept_cursor (told.cursors (past t))
-  pub unended : t.unended.items ≡ open_in (past t)
-  pub begun : (n : ℕ) → contains nat_eq t.begun n ≡ told.has n (told.begun (past t))
-  pub count : index_set_len t.begun ≡ length (told.begun (past t))
-  pub room : HasRoom t
+pub record Keeps (tables : Tables) : Type 0 where
+  pub prefix : IsJournalPrefix (past tables)
+  pub one : IsTrue (list_all (λ x. x.conn == tables.conn) (past tables))
+  pub tenure : tables.tenure ≡ told.last_tenure (past tables)
+  pub so_far : tables.so_far ≡ tenures.so_far (told.of_tenure (told.last_tenure (past tables)) (past tables))
+  pub refused : tables.refused ≡ told.was_refused (past tables)
+  pub shut : tables.shut ≡ told.was_shut (past tables)
+  pub bad_tenure : tables.bad_tenure ≡ told.bad_tenure (past tables)
+  pub invalid : tables.invalid ≡ told.went_invalid (past tables)
+  pub handles : tables.handles.items ≡ map kept_handle (told.handles (past tables))
+  pub cursors : tables.cursors.items ≡ map kept_cursor (told.cursors (past tables))
+  pub unended : tables.unended.items ≡ open_in (past tables)
+  pub begun : (n : ℕ) → contains nat_eq tables.begun n ≡ told.has n (told.begun (past tables))
+  pub count : index_set_len tables.begun ≡ length (told.begun (past tables))
+  pub room : HasRoom tables
 
 -- what the judge carries from one entry to the next, and doesn't look into
 unfoldable pub Stands : Tables → Type 0
-Stands t = Keeps t
+Stands tables = Keeps tables

@@ -14,65 +14,65 @@ use Rattle.dsql_tenure.specs.declared.so_far.SoFar.{SoFar}
 
 -- the owner is the one that it has, if it has one
 abbrev pub has_owner : Option Owner → Owner → Bool
-has_owner None o = true
-has_owner (Some w) o = same_owner w o
+has_owner None owner = true
+has_owner (Some known) owner = same_owner known owner
 
 -- the House sends a single entry, for no call and in no transaction
 abbrev pub keeps_house : SoFar → Entry → Bool
-keeps_house s e =
-    is_house e.owner ⇒ is_none s.owner && (is_connect e.call || is_close_stmt e.call || is_shut e.call) && (e.call_no == 0) && (e.tx == 0)
+keeps_house so_far entry =
+    is_house entry.owner ⇒ is_none so_far.owner && (is_connect entry.call || is_close_stmt entry.call || is_shut entry.call) && (entry.call_no == 0) && (entry.tx == 0)
 
 -- the owner, the House, a Reset at the head, and nothing after a Valid
 abbrev pub keeps_shape : SoFar → Entry → Bool
-keeps_shape s e = has_owner s.owner e.owner && keeps_house s e && (is_reset e.call ⇒ is_none s.owner) && not s.tested
+keeps_shape so_far entry = has_owner so_far.owner entry.owner && keeps_house so_far entry && (is_reset entry.call ⇒ is_none so_far.owner) && not so_far.tested
 
 -- a call on the database pings, or works in its order
 abbrev pub goes_in_order : SoFar → Entry → Bool
-goes_in_order s e =
-    if is_ping e.call then not s.worked else (nat_lt 0 (place e.call) && not s.pinged && (nat_lt s.place (place e.call) || is_next e.call && (s.place == 4)))
+goes_in_order so_far entry =
+    if is_ping entry.call then not so_far.worked else (nat_lt 0 (place entry.call) && not so_far.pinged && (nat_lt so_far.place (place entry.call) || is_next entry.call && (so_far.place == 4)))
 
 -- the handle may be run after such Prepares
 abbrev pub allows : Prepared → ℕ → Bool
-allows Nothing n = true
-allows (Handle h) n = h == n
-allows Otherwise n = false
+allows Nothing number = true
+allows (Handle handle) number = handle == number
+allows Otherwise number = false
 
 -- it prepares or runs a handle only after a skip
 abbrev pub follows_skip : SoFar → Entry → Bool
-follows_skip s e = is_prepare e.call || runs_handle e.call ⇒ not s.ran
+follows_skip so_far entry = is_prepare entry.call || runs_handle entry.call ⇒ not so_far.ran
 
 -- it runs its own handle
 abbrev pub runs_own : SoFar → Entry → Bool
-runs_own s e = runs_handle e.call ⇒ if_any (handle_of e.call) (allows s.prepared)
+runs_own so_far entry = runs_handle entry.call ⇒ if_any (handle_of entry.call) (allows so_far.prepared)
 
 -- both, and it sends nothing more after a Bad
 abbrev pub runs_well : SoFar → Entry → Bool
-runs_well s e = follows_skip s e && runs_own s e && not s.bad
+runs_well so_far entry = follows_skip so_far entry && runs_own so_far entry && not so_far.bad
 
 -- the live handle that it closes was prepared in this tenure
 abbrev pub closes_own : List Entry → Entry → Bool
-closes_own before e =
-    is_close_stmt e.call ⇒ if_any (handle_of e.call) (λ n. list_all (λ h. not (h.number == n) || (h.tenure == e.tenure)) (handles before))
+closes_own before entry =
+    is_close_stmt entry.call ⇒ if_any (handle_of entry.call) (λ n. list_all (λ h. not (h.number == n) || (h.tenure == entry.tenure)) (handles before))
 
 -- the body of a tenure of a call on the database
 abbrev pub keeps_call : SoFar → List Entry → Entry → Bool
-keeps_call s before e = goes_in_order s e && closes_own before e && runs_well s e && closes_rows_first before e && is_outside_transactions e
+keeps_call so_far before entry = goes_in_order so_far entry && closes_own before entry && runs_well so_far entry && closes_rows_first before entry && is_outside_transactions entry
 
 -- the body of a tenure of transaction n
 abbrev pub keeps_tx : SoFar → ℕ → Entry → Bool
-keeps_tx s n e = not s.worked && is_refused_begin e || not (n == 0) && (e.tx == n) && not s.refused
+keeps_tx so_far number entry = not so_far.worked && is_refused_begin entry || not (number == 0) && (entry.tx == number) && not so_far.refused
 
 -- the body of a tenure
 abbrev pub keeps_body : SoFar → Owner → List Entry → Entry → Bool
-keeps_body s (Call n) before e = keeps_call s before e
-keeps_body s (Tx n) before e = keeps_tx s n e
-keeps_body s (Pin n) before e = is_pin_body e
-keeps_body s House before e = true
+keeps_body so_far (Call number) before entry = keeps_call so_far before entry
+keeps_body so_far (Tx number) before entry = keeps_tx so_far number entry
+keeps_body so_far (Pin number) before entry = is_pin_body entry
+keeps_body so_far House before entry = true
 
 -- tests in no transaction, nothing after a Reset answered Bad, and the body
 abbrev pub keeps_tests_and_body : SoFar → List Entry → Entry → Bool
-keeps_tests_and_body s before e = (is_reset e.call || is_valid e.call ⇒ e.tx == 0) && not s.fell && (is_body e ⇒ keeps_body s e.owner before e)
+keeps_tests_and_body so_far before entry = (is_reset entry.call || is_valid entry.call ⇒ entry.tx == 0) && not so_far.fell && (is_body entry ⇒ keeps_body so_far entry.owner before entry)
 
 -- it is whole at its Valid, and the rest
 abbrev pub keeps_rest : SoFar → List Entry → Entry → Bool
-keeps_rest s before e = is_whole_at_valid before e && keeps_tests_and_body s before e
+keeps_rest so_far before entry = is_whole_at_valid before entry && keeps_tests_and_body so_far before entry

@@ -121,7 +121,7 @@ impl Tables {
             return !owner.is_house();
         }
         match owner {
-            Owner::Tx(n) => self.is_open(n),
+            Owner::Tx(number) => self.is_open(number),
             Owner::Pin(_) => true,
             Owner::Call(_) | Owner::House => false,
         }
@@ -148,7 +148,7 @@ impl Tables {
         ensures { result ≡ handles.gives_new_handle (past self.now) entry.now }
     {
         match entry.answer.given_handle() {
-            Some(n) => !has_handle(&self.handles, n),
+            Some(number) => !has_handle(&self.handles, number),
             None => true,
         }
     }
@@ -158,7 +158,7 @@ impl Tables {
         ensures { result ≡ handles.gives_new_cursor (past self.now) entry.now }
     {
         match entry.answer.given_cursor() {
-            Some(n) => !has_cursor(&self.cursors, n),
+            Some(number) => !has_cursor(&self.cursors, number),
             None => true,
         }
     }
@@ -169,7 +169,7 @@ impl Tables {
         ensures { result ≡ handles.has_width_of_cursor (past self.now) entry.now }
     {
         match entry.call.cursor() {
-            Some(n) => is_as_wide(&self.cursors, n, &entry.answer),
+            Some(number) => is_as_wide(&self.cursors, number, &entry.answer),
             None => true,
         }
     }
@@ -183,20 +183,18 @@ fn is_answer(entry: &Entry) -> bool
 }
 
 /// Each live cursor of that number has as many columns as the answer has values, if it is a Row.
-fn is_as_wide(cursors: &[Cursor], n: u32, answer: &DriverAnswer) -> bool
-    ensures { result ≡ list_all (λ c. not (c.number == n) || may.is_as_wide answer.now c) cursors.now }
+fn is_as_wide(cursors: &[Cursor], number: u32, answer: &DriverAnswer) -> bool
+    ensures { result ≡ list_all (λ c. not (c.number == number) || may.is_as_wide answer.now c) cursors.now }
 {
     match answer {
-        DriverAnswer::Row(values) => has_columns(cursors, n, values.as_slice().len()),
+        DriverAnswer::Row(values) => has_columns(cursors, number, values.as_slice().len()),
         _ => true,
     }
 }
 
 /// Each live cursor of that number has so many columns.
-fn has_columns(cursors: &[Cursor], n: u32, columns: usize) -> bool
-    ensures { result ≡ list_all (λ c. not (c.number == n) || (c.columns == columns)) cursors.now }
+fn has_columns(cursors: &[Cursor], number: u32, columns: usize) -> bool
+    ensures { result ≡ list_all (λ c. not (c.number == number) || (c.columns == columns)) cursors.now }
 {
-    cursors
-        .iter()
-        .all(|c| c.number != n || c.columns == columns)
+    cursors.iter().all(|cursor| cursor.number != number || cursor.columns == columns)
 }

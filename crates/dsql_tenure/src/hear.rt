@@ -87,7 +87,7 @@ fn bad_with(first: Option<u32>, entry: &Entry) -> Option<u32>
     ensures { result ≡ bad_with first entry.now }
 {
     match first {
-        Some(n) => Some(n),
+        Some(tenure) => Some(tenure),
         None if entry.answer.is_bad() => Some(entry.tenure),
         None => None,
     }

@@ -90,12 +90,12 @@ pub fn hear_handles(handles: &mut Vec<Handle>, entry: &Entry)
     }
 }
 
-fn drop_handle(handles: &mut Vec<Handle>, n: u32)
-    ensures items { handles.new.items ≡ filter (λ h. not (h.number == n)) handles.old.items }
+fn drop_handle(handles: &mut Vec<Handle>, number: u32)
+    ensures items { handles.new.items ≡ filter (λ h. not (h.number == number)) handles.old.items }
     ensures len { vec_len handles.new ≤ vec_len handles.old }
     ensures capacity { vec_capacity handles.new ≡ vec_capacity handles.old }
 {
-    handles.retain(|h| h.number != n);
+    handles.retain(|handle| handle.number != number);
 }
 
 /// A cursor that was given is live, one that was closed isn't, and one with no further row is over.
@@ -122,20 +122,20 @@ pub fn hear_cursors(cursors: &mut Vec<Cursor>, entry: &Entry)
     }
 }
 
-fn drop_cursor(cursors: &mut Vec<Cursor>, n: u32)
-    ensures items { cursors.new.items ≡ filter (λ c. not (c.number == n)) cursors.old.items }
+fn drop_cursor(cursors: &mut Vec<Cursor>, number: u32)
+    ensures items { cursors.new.items ≡ filter (λ c. not (c.number == number)) cursors.old.items }
     ensures len { vec_len cursors.new ≤ vec_len cursors.old }
     ensures capacity { vec_capacity cursors.new ≡ vec_capacity cursors.old }
 {
-    cursors.retain(|c| c.number != n);
+    cursors.retain(|cursor| cursor.number != number);
 }
 
 impl Cursor {
     /// The same, over if it has that number.
-    fn over_if(self, n: u32) -> Cursor
-        ensures { result ≡ heard.over_if n self }
+    fn over_if(self, number: u32) -> Cursor
+        ensures { result ≡ heard.over_if number self }
     {
-        if self.number == n {
+        if self.number == number {
             Cursor { over: true, ..self }
         } else {
             self
@@ -143,19 +143,19 @@ impl Cursor {
     }
 }
 
-fn end_cursor(cursors: &mut Vec<Cursor>, n: u32)
-    ensures items { cursors.new.items ≡ map (heard.over_if n) cursors.old.items }
+fn end_cursor(cursors: &mut Vec<Cursor>, number: u32)
+    ensures items { cursors.new.items ≡ map (heard.over_if number) cursors.old.items }
     ensures len { vec_len cursors.new ≡ vec_len cursors.old }
     ensures capacity { vec_capacity cursors.new ≡ vec_capacity cursors.old }
 {
-    end_each(cursors.as_mut_slice(), n);
+    end_each(cursors.as_mut_slice(), number);
 }
 
-fn end_each(cursors: &mut [Cursor], n: u32)
-    ensures { cursors.new ≡ map (heard.over_if n) cursors.old }
+fn end_each(cursors: &mut [Cursor], number: u32)
+    ensures { cursors.new ≡ map (heard.over_if number) cursors.old }
 {
-    for c in cursors.iter_mut() {
-        *c = c.over_if(n);
+    for cursor in cursors.iter_mut() {
+        *cursor = cursor.over_if(number);
     }
 }
 
@@ -180,20 +180,20 @@ pub fn begins(entry: &Entry) -> bool
     entry.call.is_begin() && entry.answer.is_done()
 }
 
-fn drop_number(numbers: &mut Vec<u32>, n: u32)
-    ensures items { numbers.new.items ≡ filter (λ m. not (m == n)) numbers.old.items }
+fn drop_number(numbers: &mut Vec<u32>, number: u32)
+    ensures items { numbers.new.items ≡ filter (λ m. not (m == number)) numbers.old.items }
     ensures len { vec_len numbers.new ≤ vec_len numbers.old }
     ensures capacity { vec_capacity numbers.new ≡ vec_capacity numbers.old }
 {
-    numbers.retain(|m| *m != n);
+    numbers.retain(|other| *other != number);
 }
 
 /// Puts an element first, where there is room.
-fn put_first<T: Drop>(v: &mut Vec<T>, x: T)
-    requires { vec_len v.old < vec_capacity v.old }
-    ensures items { v.new.items ≡ x ∷ v.old.items }
-    ensures len { vec_len v.new ≡ vec_len v.old + 1 }
-    ensures capacity { vec_capacity v.new ≡ vec_capacity v.old }
+fn put_first<T: Drop>(values: &mut Vec<T>, value: T)
+    requires { vec_len values.old < vec_capacity values.old }
+    ensures items { values.new.items ≡ value ∷ values.old.items }
+    ensures len { vec_len values.new ≡ vec_len values.old + 1 }
+    ensures capacity { vec_capacity values.new ≡ vec_capacity values.old }
 {
-    let _ = v.insert(0, x);
+    let _ = values.insert(0, value);
 }

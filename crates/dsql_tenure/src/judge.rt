@@ -23,9 +23,9 @@ impl Model for Judge {
 
     ghost use Rattle.dsql_tenure.specs.Tables.{past, Stands};
 
-    ghost view = { λ j. record { conn = j.tables.conn; journal = past j.tables; spare = j.tables.room } };
+    ghost view = { λ judge. record { conn = judge.tables.conn; journal = past judge.tables; spare = judge.tables.room } };
 
-    ghost invariant = { λ j. Stands j.tables };
+    ghost invariant = { λ judge. Stands judge.tables };
 }
 
 impl Judge {

@@ -34,35 +34,36 @@ impl Tables {
     }
 
     /// The tenure could end here.
-    pub fn is_whole_tenure(&self, n: u32) -> bool
+    pub fn is_whole_tenure(&self, number: u32) -> bool
         requires stands { Stands self.now }
-        requires last { last_tenure (past self.now) ≤ n }
-        ensures { result ≡ tenure.is_whole_tenure n (past self.now) }
+        requires last { last_tenure (past self.now) ≤ number }
+        ensures { result ≡ tenure.is_whole_tenure number (past self.now) }
     {
-        self.has_ended_transactions(n)
-            && (self.went_bad() || self.has_closed_cursors(n) && self.has_closed_handles(n))
+        self.has_ended_transactions(number)
+            && (self.went_bad()
+                || self.has_closed_cursors(number) && self.has_closed_handles(number))
     }
 
-    fn has_ended_transactions(&self, n: u32) -> bool
+    fn has_ended_transactions(&self, number: u32) -> bool
         requires stands { Stands self.now }
-        requires last { last_tenure (past self.now) ≤ n }
-        ensures { result ≡ tenure.has_ended_transactions n (past self.now) }
+        requires last { last_tenure (past self.now) ≤ number }
+        ensures { result ≡ tenure.has_ended_transactions number (past self.now) }
     {
-        n != self.tenure || self.unended.as_slice().is_empty()
+        number != self.tenure || self.unended.as_slice().is_empty()
     }
 
-    pub fn has_closed_cursors(&self, n: u32) -> bool
+    pub fn has_closed_cursors(&self, number: u32) -> bool
         requires { Stands self.now }
-        ensures { result ≡ tenure.has_closed_cursors n (past self.now) }
+        ensures { result ≡ tenure.has_closed_cursors number (past self.now) }
     {
-        no_cursor_of_tenure(&self.cursors, n)
+        no_cursor_of_tenure(&self.cursors, number)
     }
 
-    fn has_closed_handles(&self, n: u32) -> bool
+    fn has_closed_handles(&self, number: u32) -> bool
         requires { Stands self.now }
-        ensures { result ≡ tenure.has_closed_handles n (past self.now) }
+        ensures { result ≡ tenure.has_closed_handles number (past self.now) }
     {
-        only_call_handles_of_tenure(&self.handles, n)
+        only_call_handles_of_tenure(&self.handles, number)
     }
 
     /// All that is said of the order of a whole journal.
@@ -133,7 +134,7 @@ impl Tables {
         ensures { result ≡ whole.stays_in_bad_tenure (past self.now) (entry_like asked.now) }
     {
         match self.bad_tenure {
-            Some(n) => asked.tenure == n || asked.call.is_shut(),
+            Some(tenure) => asked.tenure == tenure || asked.call.is_shut(),
             None => true,
         }
     }
@@ -158,7 +159,7 @@ impl Tables {
         ensures { result ≡ keeps_handle (past self.now) (entry_like asked.now) }
     {
         match asked.call.handle() {
-            Some(n) => serves_handle(&self.handles, n, asked),
+            Some(number) => serves_handle(&self.handles, number, asked),
             None => true,
         }
     }
@@ -168,7 +169,7 @@ impl Tables {
         ensures { result ≡ keeps_cursor (past self.now) (entry_like asked.now) }
     {
         match asked.call.cursor() {
-            Some(n) => serves_cursor(&self.cursors, n, asked),
+            Some(number) => serves_cursor(&self.cursors, number, asked),
             None => true,
         }
     }
@@ -202,43 +203,47 @@ impl Cursor {
 }
 
 /// The handle of that number is live and may be used there.
-fn serves_handle(handles: &[Handle], n: u32, asked: &Asked<'_>) -> bool
-    ensures { result ≡ (list_any (λ h. h.number == n) handles.now && list_all (λ h. not (h.number == n) || part.serves_handle h (entry_like asked.now)) handles.now) }
+fn serves_handle(handles: &[Handle], number: u32, asked: &Asked<'_>) -> bool
+    ensures { result ≡ (list_any (λ h. h.number == number) handles.now && list_all (λ h. not (h.number == number) || part.serves_handle h (entry_like asked.now)) handles.now) }
 {
-    has_handle(handles, n) && each_handle_serves(handles, n, asked)
+    has_handle(handles, number) && each_handle_serves(handles, number, asked)
 }
 
 /// The handle of that number is live.
-pub fn has_handle(handles: &[Handle], n: u32) -> bool
-    ensures { result ≡ list_any (λ h. h.number == n) handles.now }
+pub fn has_handle(handles: &[Handle], number: u32) -> bool
+    ensures { result ≡ list_any (λ h. h.number == number) handles.now }
 {
-    handles.iter().any(|h| h.number == n)
+    handles.iter().any(|handle| handle.number == number)
 }
 
-fn each_handle_serves(handles: &[Handle], n: u32, asked: &Asked<'_>) -> bool
-    ensures { result ≡ list_all (λ h. not (h.number == n) || part.serves_handle h (entry_like asked.now)) handles.now }
+fn each_handle_serves(handles: &[Handle], number: u32, asked: &Asked<'_>) -> bool
+    ensures { result ≡ list_all (λ h. not (h.number == number) || part.serves_handle h (entry_like asked.now)) handles.now }
 {
-    handles.iter().all(|h| h.number != n || h.serves(asked))
+    handles
+        .iter()
+        .all(|handle| handle.number != number || handle.serves(asked))
 }
 
 /// The cursor of that number is live and may be used there.
-fn serves_cursor(cursors: &[Cursor], n: u32, asked: &Asked<'_>) -> bool
-    ensures { result ≡ (list_any (λ c. c.number == n) cursors.now && list_all (λ c. not (c.number == n) || part.serves_cursor c (entry_like asked.now)) cursors.now) }
+fn serves_cursor(cursors: &[Cursor], number: u32, asked: &Asked<'_>) -> bool
+    ensures { result ≡ (list_any (λ c. c.number == number) cursors.now && list_all (λ c. not (c.number == number) || part.serves_cursor c (entry_like asked.now)) cursors.now) }
 {
-    has_cursor(cursors, n) && each_cursor_serves(cursors, n, asked)
+    has_cursor(cursors, number) && each_cursor_serves(cursors, number, asked)
 }
 
 /// The cursor of that number is live.
-pub fn has_cursor(cursors: &[Cursor], n: u32) -> bool
-    ensures { result ≡ list_any (λ c. c.number == n) cursors.now }
+pub fn has_cursor(cursors: &[Cursor], number: u32) -> bool
+    ensures { result ≡ list_any (λ c. c.number == number) cursors.now }
 {
-    cursors.iter().any(|c| c.number == n)
+    cursors.iter().any(|cursor| cursor.number == number)
 }
 
-fn each_cursor_serves(cursors: &[Cursor], n: u32, asked: &Asked<'_>) -> bool
-    ensures { result ≡ list_all (λ c. not (c.number == n) || part.serves_cursor c (entry_like asked.now)) cursors.now }
+fn each_cursor_serves(cursors: &[Cursor], number: u32, asked: &Asked<'_>) -> bool
+    ensures { result ≡ list_all (λ c. not (c.number == number) || part.serves_cursor c (entry_like asked.now)) cursors.now }
 {
-    cursors.iter().all(|c| c.number != n || c.serves(asked))
+    cursors
+        .iter()
+        .all(|cursor| cursor.number != number || cursor.serves(asked))
 }
 
 /// A Reset, Valid, CloseStmt or CloseRows.
@@ -252,15 +257,17 @@ fn tidies(asked: &Asked<'_>) -> bool
 }
 
 /// No cursor of that tenure is live.
-fn no_cursor_of_tenure(cursors: &[Cursor], n: u32) -> bool
-    ensures { result ≡ list_all (λ c. not (c.tenure == n)) cursors.now }
+fn no_cursor_of_tenure(cursors: &[Cursor], number: u32) -> bool
+    ensures { result ≡ list_all (λ c. not (c.tenure == number)) cursors.now }
 {
-    cursors.iter().all(|c| c.tenure != n)
+    cursors.iter().all(|cursor| cursor.tenure != number)
 }
 
 /// Of that tenure no handle is live but those that calls on the database prepared.
-fn only_call_handles_of_tenure(handles: &[Handle], n: u32) -> bool
-    ensures { result ≡ list_all (λ h. not (h.tenure == n) || kind.is_call h.owner) handles.now }
+fn only_call_handles_of_tenure(handles: &[Handle], number: u32) -> bool
+    ensures { result ≡ list_all (λ h. not (h.tenure == number) || kind.is_call h.owner) handles.now }
 {
-    handles.iter().all(|h| h.tenure != n || h.owner.is_call())
+    handles
+        .iter()
+        .all(|handle| handle.tenure != number || handle.owner.is_call())
 }

@@ -20,12 +20,12 @@ impl Tables {
     ghost use Rattle.dsql_tenure.specs.SoFar.{so_far};
 
     /// What is kept of the last tenure, or of one that is to come.
-    pub fn so_far_of(&self, n: u32) -> SoFar
+    pub fn so_far_of(&self, number: u32) -> SoFar
         requires stands { Stands self.now }
-        requires last { last_tenure (past self.now) ≤ n }
-        ensures { result ≡ so_far (of_tenure n (past self.now)) }
+        requires last { last_tenure (past self.now) ≤ number }
+        ensures { result ≡ so_far (of_tenure number (past self.now)) }
     {
-        if n == self.tenure {
+        if number == self.tenure {
             self.so_far
         } else {
             SoFar::nothing()
@@ -81,7 +81,7 @@ impl Tables {
     {
         match asked.owner {
             Owner::Call(_) => self.keeps_call(so_far, asked),
-            Owner::Tx(n) => so_far.keeps_tx(n, asked),
+            Owner::Tx(number) => so_far.keeps_tx(number, asked),
             Owner::Pin(_) => is_pin_body(asked),
             Owner::House => true,
         }
@@ -107,7 +107,7 @@ impl Tables {
             return true;
         }
         match asked.call.handle() {
-            Some(n) => is_of_tenure(&self.handles, n, asked.tenure),
+            Some(number) => is_of_tenure(&self.handles, number, asked.tenure),
             None => true,
         }
     }
@@ -179,37 +179,38 @@ impl SoFar {
         ensures { result ≡ part.runs_own self.now (entry_like asked.now) }
     {
         match (asked.call.runs_handle(), asked.call.handle()) {
-            (true, Some(n)) => self.prepared.allows(n),
+            (true, Some(number)) => self.prepared.allows(number),
             _ => true,
         }
     }
 
     /// The tenure of transaction n has one refused Begin and nothing else, or only entries of transaction n.
-    fn keeps_tx(&self, n: u32, asked: &Asked<'_>) -> bool
-        ensures { result ≡ part.keeps_tx self.now n (entry_like asked.now) }
+    fn keeps_tx(&self, number: u32, asked: &Asked<'_>) -> bool
+        ensures { result ≡ part.keeps_tx self.now number (entry_like asked.now) }
     {
-        !self.worked && is_refused_begin(asked) || n != 0 && asked.tx == n && !self.refused
+        !self.worked && is_refused_begin(asked)
+            || number != 0 && asked.tx == number && !self.refused
     }
 }
 
 impl Prepared {
     /// The handle may be run.
-    fn allows(self, n: u32) -> bool
-        ensures { result ≡ part.allows self n }
+    fn allows(self, number: u32) -> bool
+        ensures { result ≡ part.allows self number }
     {
         match self {
             Prepared::Nothing => true,
-            Prepared::Handle(handle) => handle == n,
+            Prepared::Handle(handle) => handle == number,
             Prepared::Otherwise => false,
         }
     }
 }
 
 /// Each live handle of that number is of that tenure.
-fn is_of_tenure(handles: &[Handle], n: u32, tenure: u32) -> bool
-    ensures { result ≡ list_all (λ h. not (h.number == n) || (h.tenure == tenure)) handles.now }
+fn is_of_tenure(handles: &[Handle], number: u32, tenure: u32) -> bool
+    ensures { result ≡ list_all (λ h. not (h.number == number) || (h.tenure == tenure)) handles.now }
 {
-    handles.iter().all(|h| h.number != n || h.tenure == tenure)
+    handles.iter().all(|handle| handle.number != number || handle.tenure == tenure)
 }
 
 /// A Connect, CloseStmt or Shut.

@@ -50,11 +50,11 @@ impl Tables {
             && !self.has_begun(asked.tx)
     }
 
-    fn has_begun(&self, n: u32) -> bool
+    fn has_begun(&self, number: u32) -> bool
         requires { Stands self.now }
-        ensures { result ≡ has n (begun (past self.now)) }
+        ensures { result ≡ has number (begun (past self.now)) }
     {
-        self.begun.contains(&n)
+        self.begun.contains(&number)
     }
 
     fn goes_on_open(&self, asked: &Asked<'_>) -> bool
@@ -67,11 +67,11 @@ impl Tables {
     }
 
     /// The transaction has no Commit or Rollback.
-    pub fn is_open(&self, n: u32) -> bool
+    pub fn is_open(&self, number: u32) -> bool
         requires { Stands self.now }
-        ensures { result ≡ has n (open_in (past self.now)) }
+        ensures { result ≡ has number (open_in (past self.now)) }
     {
-        has_number(&self.unended, n)
+        has_number(&self.unended, number)
     }
 
     fn ends_without_cursors(&self, asked: &Asked<'_>) -> bool
@@ -81,24 +81,24 @@ impl Tables {
         !asked.call.is_ending() || self.went_bad() || self.has_no_cursor_of(asked.tx)
     }
 
-    fn has_no_cursor_of(&self, n: u32) -> bool
+    fn has_no_cursor_of(&self, number: u32) -> bool
         requires { Stands self.now }
-        ensures { result ≡ list_all (λ c. not (c.tx == n)) (cursors (past self.now)) }
+        ensures { result ≡ list_all (λ c. not (c.tx == number)) (cursors (past self.now)) }
     {
-        no_cursor_of_transaction(&self.cursors, n)
+        no_cursor_of_transaction(&self.cursors, number)
     }
 }
 
 /// The number is in the list.
-fn has_number(numbers: &[u32], n: u32) -> bool
-    ensures { result ≡ has n numbers.now }
+fn has_number(numbers: &[u32], number: u32) -> bool
+    ensures { result ≡ has number numbers.now }
 {
-    numbers.iter().any(|m| *m == n)
+    numbers.iter().any(|other| *other == number)
 }
 
 /// No cursor of that transaction is live.
-fn no_cursor_of_transaction(cursors: &[Cursor], n: u32) -> bool
-    ensures { result ≡ list_all (λ c. not (c.tx == n)) cursors.now }
+fn no_cursor_of_transaction(cursors: &[Cursor], number: u32) -> bool
+    ensures { result ≡ list_all (λ c. not (c.tx == number)) cursors.now }
 {
-    cursors.iter().all(|c| c.tx != n)
+    cursors.iter().all(|cursor| cursor.tx != number)
 }

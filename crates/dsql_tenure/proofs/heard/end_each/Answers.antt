@@ -5,11 +5,11 @@ use Rattle.dsql_tenure.specs.declared.tables.Cursor.{Cursor}
 use Rattle.dsql_tenure.specs.Heard.{over_if}
 use Rattle.dsql_tenure.proofs.heard.end_each.Goals as goal
 
-pub loop-c-preserved : goal.loop-c-preserved
-loop-c-preserved c =
+pub loop-cursor-preserved : goal.loop-cursor-preserved
+loop-cursor-preserved c =
     let none : Cursor = record { number = 0; tenure = 0; tx = 0; columns = 0; over = false } in
-    let at : c.loop-c.c-index < length c.args.cursors.now = omega arith in
-    let within : c.loop-c.c-index < length c.loop-c.cursors = omega arith in
-    ap (λ (x : Cursor). set c.loop-c.cursors c.loop-c.c-index x) c.over_if.ensures
-    ∙ map_over_more (over_if c.args.n) c.args.cursors.now c.loop-c.cursors c.loop-c.c-index (get_or c.loop-c.cursors c.loop-c.c-index none) at c.loop-c.invariant
-    (get_or_default c.loop-c.cursors c.loop-c.c-index none _ within)
+    let at : c.loop-cursor.cursor-index < length c.args.cursors.now = omega arith in
+    let within : c.loop-cursor.cursor-index < length c.loop-cursor.cursors = omega arith in
+    ap (λ (x : Cursor). set c.loop-cursor.cursors c.loop-cursor.cursor-index x) c.over_if.ensures
+    ∙ map_over_more (over_if c.args.number) c.args.cursors.now c.loop-cursor.cursors c.loop-cursor.cursor-index (get_or c.loop-cursor.cursors c.loop-cursor.cursor-index none) at c.loop-cursor.invariant
+    (get_or_default c.loop-cursor.cursors c.loop-cursor.cursor-index none _ within)

@@ -13,5 +13,5 @@ returns-in-Some c =
     let e = entry_like c.args.asked.now in
     let closes : is_close_stmt c.args.asked.now.call.now ≡ true = grind (arith, c.is_close_stmt.ensures, c.if-not-is_close_stmt.false) in
     c.is_of_tenure.ensures
-    ∙ ap (λ (hs : List Handle). list_all (λ h. not (h.number == c.in-Some.n) || (h.tenure == e.tenure)) hs) c.deref.ensures.value
-    ∙ closes_own_by t c.requires e c.in-Some.n closes (sym c.in-Some.ensures)
+    ∙ ap (λ (hs : List Handle). list_all (λ h. not (h.number == c.in-Some.number) || (h.tenure == e.tenure)) hs) c.deref.ensures.value
+    ∙ closes_own_by t c.requires e c.in-Some.number closes (sym c.in-Some.ensures)

@@ -8,5 +8,5 @@ use Rattle.dsql_tenure.proofs.tables.Tables.has_closed_handles.Goals as goal
 pub returns : goal.returns
 returns c =
     c.only_call_handles_of_tenure.ensures
-    ∙ ap (λ (hs : List Handle). list_all (λ x. not (x.tenure == c.args.n) || is_call x.owner) hs) c.deref.ensures.value
-    ∙ closed_handles c.args.self.now c.requires c.args.n
+    ∙ ap (λ (hs : List Handle). list_all (λ x. not (x.tenure == c.args.number) || is_call x.owner) hs) c.deref.ensures.value
+    ∙ closed_handles c.args.self.now c.requires c.args.number

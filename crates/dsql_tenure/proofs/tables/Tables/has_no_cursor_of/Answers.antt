@@ -7,5 +7,5 @@ use Rattle.dsql_tenure.proofs.tables.Tables.has_no_cursor_of.Goals as goal
 pub returns : goal.returns
 returns c =
     c.no_cursor_of_transaction.ensures
-    ∙ ap (λ (cs : List Cursor). list_all (λ x. not (x.tx == c.args.n)) cs) c.deref.ensures.value
-    ∙ no_cursor_of c.args.self.now c.requires c.args.n
+    ∙ ap (λ (cs : List Cursor). list_all (λ x. not (x.tx == c.args.number)) cs) c.deref.ensures.value
+    ∙ no_cursor_of c.args.self.now c.requires c.args.number

@@ -11,6 +11,6 @@ returns-in-Some c =
     let t = c.args.self.now in
     let e = entry_like c.args.asked.now in
     c.serves_handle.ensures
-    ∙ ap (λ (hs : List Handle). list_any (λ h. h.number == c.in-Some.n) hs && list_all (λ h. not (h.number == c.in-Some.n) || serves_handle h e) hs) c.deref.ensures.value
-    ∙ handle_served t c.requires e c.in-Some.n
+    ∙ ap (λ (hs : List Handle). list_any (λ h. h.number == c.in-Some.number) hs && list_all (λ h. not (h.number == c.in-Some.number) || serves_handle h e) hs) c.deref.ensures.value
+    ∙ handle_served t c.requires e c.in-Some.number
     ∙ rw (← c.in-Some.ensures) refl

@@ -9,9 +9,9 @@ use Rattle.dsql_tenure.specs.Tables.{past}
 use Rattle.dsql_tenure.proofs.Keeping.{keeps_of}
 use Rattle.dsql_tenure.proofs.tables.Tables.so_far_of.Goals as goal
 
-pub returns-else-n-self : goal.returns-else-n-self
-returns-else-n-self c =
+pub returns-else-number-self : goal.returns-else-number-self
+returns-else-number-self c =
     let t = c.args.self.now in
     let last = (keeps_of t c.requires.stands).tenure in
-    let above : last_tenure (past t) < c.args.n = grind (arith, nat_tests, last, c.requires.last, c.if-n-self.false) in
-    c.nothing.ensures ∙ ap (λ (xs : List Entry). so_far xs) (sym (of_tenure-new c.args.n (past t) (keeps_of t c.requires.stands).prefix above))
+    let above : last_tenure (past t) < c.args.number = grind (arith, nat_tests, last, c.requires.last, c.if-number-self.false) in
+    c.nothing.ensures ∙ ap (λ (xs : List Entry). so_far xs) (sym (of_tenure-new c.args.number (past t) (keeps_of t c.requires.stands).prefix above))
