@@ -34,7 +34,7 @@ use Rattle.dsql_history.specs.Rules.Order.{follows}
 use Rattle.dsql_history.specs.Legal.{Lawful}
 use Rattle.dsql_laws.proofs.Journals.{keeps_journals_of}
 use Rattle.dsql_work_laws.proofs.CallLines.{sent_entry}
-use Rattle.dsql_work_laws.proofs.CallJournals.{may_follow-shut}
+use Rattle.dsql_work_laws.proofs.ServedCalls.{may_follow-shut}
 use Rattle.dsql_work_laws.proofs.Lines.{some_of, sent_entry_of, due_while, may_follow-due}
 use Rattle.dsql_work_laws.proofs.Standing.{done_whole, good_now}
 use Rattle.dsql_sending_laws.specs.UnderWay.{StaysWithItsCall}

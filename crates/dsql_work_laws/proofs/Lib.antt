@@ -1,5 +1,9 @@
 pub mod KeptRows
 pub mod CallLines
+pub mod CallSteps
+pub mod ServedCalls
+pub mod CallSends
+pub mod CallBodies
 pub mod CallJournals
 pub mod MadeLines
 pub mod MadeNext

@@ -25,8 +25,11 @@ use Rattle.dsql_work.specs.Journals.{ends_invalid}
 use Rattle.dsql_work.specs.Exchanges.{exchanges, step_of, with_exchange}
 use Rattle.dsql_work.specs.Line.{Asked, line_after, body_after, is_due}
 use Rattle.dsql_work_laws.proofs.KeptRows.{keeps_rows}
-use Rattle.dsql_work_laws.proofs.CallLines.{Step, Start, WasReset, WasSkipped, WasPrepared, HasRows, HasRead, WasRun, WasDone, WasTested, WasDropped, IsOther, step, step_after, goes, SoFar, sent_entry, so_far-start, so_far-next, is_sent}
-use Rattle.dsql_work_laws.proofs.CallJournals.{Served, served_of, served_sent, Sends, may_follow-sent}
+use Rattle.dsql_work_laws.proofs.CallLines.{Step, Start, WasReset, WasSkipped, WasPrepared, HasRows, HasRead, WasRun, WasDone, WasTested, WasDropped, IsOther, step, step_after, goes, SoFar, sent_entry, so_far-start, is_sent}
+use Rattle.dsql_work_laws.proofs.CallSteps.{so_far-next}
+use Rattle.dsql_work_laws.proofs.ServedCalls.{Served, served_of, served_sent}
+use Rattle.dsql_work_laws.proofs.CallSends.{Sends}
+use Rattle.dsql_work_laws.proofs.CallJournals.{may_follow-sent}
 use Rattle.dsql_work_laws.proofs.MadeLines.{MadeAt, is_ended, ended_by, is_clean, clean_when_done, goes_body}
 use Rattle.dsql_work_laws.proofs.MadeNext.{made_next, made_reset}
 

@@ -1,8 +1,6 @@
 -- What was exchanged with one driver call more.
-use Rattle.std.proofs.Common.{◌≡◌, ℕ, ℤ, Bool, true, false, cond, not, ◌==◌, ◌&&◌, if◌then◌else◌, List, [], ◌∷◌, length, Option, Some, None, refl, ap, ◌∙◌}
+use Rattle.std.proofs.Common.{◌≡◌, ℕ, ℤ, Bool, true, false, cond, not, ◌&&◌, if◌then◌else◌, List, [], ◌∷◌, length, Option, Some, None, refl, ap, ◌∙◌}
 use Rattle.std.specs.Prelude.{option_map}
-use native.Mathlib.Omega.{arith}
-use Rattle.std.proofs.lemmas.Bool.Decides.{nat_tests}
 use Rattle.dsql_value.specs.declared.value.Param.{Param}
 use Rattle.dsql_driver.specs.Fits.{fits_of, is_memory}
 use Rattle.dsql_driver.specs.declared.caps.Caps.{Caps}
@@ -26,15 +24,13 @@ use Rattle.dsql_work.specs.declared.work.Aim.TheVariants as aims
 use Rattle.dsql_work.specs.Line.{Asked, course_of, sent_as, test_of, handed, body_after, is_due}
 use Rattle.dsql_work_laws.proofs.CallLines.{Step, Start, WasReset, WasSkipped, WasPrepared, HasRows, HasRead, WasRun, WasDone, step_after, freed_after, left_of, goes}
 use Rattle.dsql_work_laws.proofs.MadeLines.{next_of, asking, MadeHandle, MadeRows, MadeRun, MadeAt, SendsRow, is_ended, body_before, executes, queries, first_of, goes_body}
+use Rattle.dsql_work_laws.proofs.Rows.{same_number}
 
 impossible : false ≡ true → ⊥
 impossible h = cc
 
 never : true ≡ false → ⊥
 never h = cc
-
-equal : (n m : ℕ) → (n == m) ≡ true → n ≡ m
-equal n m h = grind (arith, nat_tests, h)
 
 -- what queries its text executes nothing
 not_executed : aims.ReadOne ≡ aims.Execute → ⊥
@@ -331,27 +327,27 @@ body_next can text params aim w Start (Prepare t) a made m h g fit = prepared_ne
 body_next can text params aim w WasReset (Prepare t) a made m h g fit = prepared_next can text params aim WasReset t a made (rw m refl) (rw m refl) (rw m refl) (rw m refl) fit
 body_next can text params aim w WasSkipped (Prepare t) a made m h g fit = prepared_next can text params aim WasSkipped t a made (rw m refl) (rw m refl) (rw m refl) (rw m refl) fit
 body_next can text params aim w (WasPrepared given) (Exec (Handle handle) ps) a made m h g fit =
-    let is : given ≡ handle = equal given handle g in
+    let is : given ≡ handle = same_number given handle g in
     handle_executed can text params aim w (WasPrepared given) handle ps a made (rw is at m) h fit
 body_next can text params aim w (WasPrepared given) (Query (Handle handle) ps) a made m h g fit =
-    let is : given ≡ handle = equal given handle g in
+    let is : given ≡ handle = same_number given handle g in
     handle_queried can text params aim w (WasPrepared given) handle ps a made (rw is at m) h fit
 body_next can text params aim w (WasPrepared given) (CloseStmt handle) a made m h g fit = handle_closed can text params aim (WasPrepared given) handle a made fit (none_handed aim made m.none)
 body_next can text params aim w (WasRun given) (CloseStmt handle) a made m h g fit = handle_closed can text params aim (WasRun given) handle a made fit m.is_over
 body_next can text params aim w (HasRows own given) (Next rows) a made m h g fit =
-    let is : given ≡ rows = equal given rows g in
+    let is : given ≡ rows = same_number given rows g in
     rw is (first_fetched can text params aim own rows a made (rw is at m) fit)
 body_next can text params aim w (HasRows own given) (CloseRows rows) a made m h g fit =
-    let is : given ≡ rows = equal given rows g in
+    let is : given ≡ rows = same_number given rows g in
     rw is (rows_freed can text params aim (HasRows own rows) own rows false (due.Next rows) a made refl (rw is at m) fit)
 body_next can text params aim w (HasRead own given false) (Next rows) a made m h g fit =
-    let is : given ≡ rows = equal given rows g in
+    let is : given ≡ rows = same_number given rows g in
     rw is (next_fetched can text params aim own rows a made (rw is at m) fit)
 body_next can text params aim w (HasRead own given true) (CloseRows rows) a made m h g fit =
-    let is : given ≡ rows = equal given rows g in
+    let is : given ≡ rows = same_number given rows g in
     rw is (rows_freed can text params aim (HasRead own rows true) own rows true (due.CloseRows rows) a made refl (rw is at m) fit)
 body_next can text params aim w (HasRead own given false) (CloseRows rows) a made m h g fit =
-    let is : given ≡ rows = equal given rows g in
+    let is : given ≡ rows = same_number given rows g in
     rw is (rows_freed can text params aim (HasRead own rows false) own rows false (due.CloseRows rows) a made refl (rw is at m) fit)
 body_next can text params aim w WasDone Valid Bad made m h g fit = tt
 body_next can text params aim w WasDone Valid a made m h g fit = tt

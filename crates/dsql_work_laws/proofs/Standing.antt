@@ -28,7 +28,7 @@ use Rattle.dsql_work.specs.Exchanges.{exchanges}
 use Rattle.dsql_work.specs.Line.{Asked, line_after, is_due}
 use Rattle.dsql_work_laws.proofs.KeptRows.{keeps_rows}
 use Rattle.dsql_work_laws.proofs.Rows.{same_number}
-use Rattle.dsql_work_laws.proofs.CallJournals.{Served, served_of, plain_of}
+use Rattle.dsql_work_laws.proofs.ServedCalls.{Served, served_of, plain_of}
 use Rattle.dsql_work_laws.proofs.MadeLines.{MadeAt}
 use Rattle.dsql_work_laws.proofs.Lines.{Serves, serves_first, serves_on, sent_of, ends_bad, none_left, sent_entry_of, entry_with, same_parts}
 
