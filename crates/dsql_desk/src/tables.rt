@@ -109,7 +109,7 @@ impl Desk {
         self.paid -= count;
     }
 
-    /// A limit is set, or a call begins to wait.
+    /// A limit is set, a moment is ticked, or a call begins to wait.
     pub(crate) fn add_beside(&mut self, event: Event)
         requires may { MayAdd self.old event }
         requires beside { is_beside event ≡ true }

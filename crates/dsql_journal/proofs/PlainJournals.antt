@@ -7,13 +7,13 @@ use Rattle.std.proofs.lemmas.Bool.Decides.{nat_tests}
 use Rattle.dsql_driver.specs.declared.call.DriverCall.TheVariants.{Connect}
 use Rattle.dsql_driver.specs.declared.answer.DriverAnswer.{DriverAnswer}
 use Rattle.dsql_driver.specs.declared.answer.DriverAnswer.TheVariants.{Done, Bad, Fail, Memory}
-use Rattle.dsql_driver.specs.Fits.{fits_of, is_memory, is_failure, is_invalid}
+use Rattle.dsql_driver.specs.Fits.{fits_of, is_memory, is_invalid}
 use Rattle.dsql_journal.specs.declared.entry.Entry.{Entry}
 use Rattle.dsql_journal.specs.Kinds.{◌⇒◌, is_call}
 use Rattle.dsql_driver.specs.Kinds.{is_bad}
 use Rattle.dsql_journal.specs.Readers.{LiveHandle, is_empty, of_tenure, handles, cursors, begun, begins, was_refused, was_shut, went_bad, went_invalid}
 use Rattle.dsql_journal.specs.Tenure.{is_whole_tenure, has_ended_transactions, has_closed_cursors, has_closed_handles}
-use Rattle.dsql_journal.specs.Journal.{may_follow, is_journal_prefix, is_whole, IsJournalPrefix}
+use Rattle.dsql_journal.specs.Journal.{may_follow, is_journal_prefix, IsJournalPrefix}
 use Rattle.dsql_journal.specs.Entries.{connect_entry}
 use Rattle.dsql_journal.proofs.Conjunctions.{join2}
 
@@ -108,8 +108,3 @@ may_follow-connect c Bad fitting heard = refl
 may_follow-connect c (Fail text) fitting heard = refl
 may_follow-connect c Memory fitting heard = grind (arith, heard)
 may_follow-connect c _ fitting heard = grind (arith, fitting)
-
-pub is_whole-refused : (c : ℕ) (answer : DriverAnswer) → is_failure answer ≡ true → is_whole (connect_entry c answer ∷ []) ≡ true
-is_whole-refused c Bad failed = refl
-is_whole-refused c (Fail text) failed = refl
-is_whole-refused c _ failed = grind (arith, failed)

@@ -26,31 +26,31 @@ returns g c =
     let ran : Ran c.play_from-stopped.result
     (seen g.S.Source g.K.Sink g.F.Fleet c.args.input.now c.args.output.now c.args.fleet.now)
     (seen g.S.Source g.K.Sink g.F.Fleet c.play_from-stopped.new.input c.play_from-stopped.new.output c.play_from-stopped.new.fleet) =
-      record {
-        history = c.play_from-stopped.new.player.past;
-        asked = head.asked;
-        lines = script.lines;
-        legal = c.play_from-stopped.ensures.on.legal;
-        plays = script.plays;
-        follows = script.follows;
-        short = script.short;
-        prefers = record { preferred = c.play_from-stopped.ensures.on.able.preferred ∙ head.prefers.preferred; same = λ none. c.play_from-stopped.ensures.on.able.ability ∙ head.prefers.same none };
-        ended = λ ran. (c.play_from-stopped.ensures.over ran).ended;
-        quiet = λ ran. (c.play_from-stopped.ensures.over ran).quiet;
-        replied = λ ran. (c.play_from-stopped.ensures.over ran).replied;
-        read = script.read;
-        writes = c.play_from-stopped.ensures.writes;
-        cut = script.cut;
-        empty = λ ran. (c.play_from-stopped.ensures.over ran).empty;
-        told = script.told;
-        read_fault = λ is. elim (c.play_from-stopped.ensures.reads.caused is) [
-          | inl failed ↦ risen_later (g.S.Source.faults c.args.input.now) (g.S.Source.faults c.read_head-first.new.input) now c.play_from-stopped.ensures.reads.counted (c.read_head-first.ensures.faults.caused (ap is_read_fault failed))
-          | inr risen ↦ risen_earlier (g.S.Source.faults c.args.input.now) (g.S.Source.faults c.read_head-first.new.input) now c.read_head-first.ensures.faults.counted risen
-        ];
-        write_fault = c.play_from-stopped.ensures.written_well.caused;
-        read_well = λ well. c.play_from-stopped.ensures.read_well well ∙ c.read_head-first.ensures.faults.faultless (c.play_from-stopped.ensures.reads.through well);
-        written_well = c.play_from-stopped.ensures.written_well.faultless;
-        full = c.play_from-stopped.ensures.full;
-      }
+    record {
+      history = c.play_from-stopped.new.player.past;
+      asked = head.asked;
+      lines = script.lines;
+      legal = c.play_from-stopped.ensures.on.legal;
+      plays = script.plays;
+      follows = script.follows;
+      short = script.short;
+      prefers = record { preferred = c.play_from-stopped.ensures.on.able.preferred ∙ head.prefers.preferred; same = λ none. c.play_from-stopped.ensures.on.able.ability ∙ head.prefers.same none };
+      ended = λ ran. (c.play_from-stopped.ensures.over ran).ended;
+      quiet = λ ran. (c.play_from-stopped.ensures.over ran).quiet;
+      replied = λ ran. (c.play_from-stopped.ensures.over ran).replied;
+      read = script.read;
+      writes = c.play_from-stopped.ensures.writes;
+      cut = script.cut;
+      empty = λ ran. (c.play_from-stopped.ensures.over ran).empty;
+      told = script.told;
+      read_fault = λ is. elim (c.play_from-stopped.ensures.reads.caused is) [
+        | inl failed ↦ risen_later (g.S.Source.faults c.args.input.now) (g.S.Source.faults c.read_head-first.new.input) now c.play_from-stopped.ensures.reads.counted (c.read_head-first.ensures.faults.caused (ap is_read_fault failed))
+        | inr risen ↦ risen_earlier (g.S.Source.faults c.args.input.now) (g.S.Source.faults c.read_head-first.new.input) now c.read_head-first.ensures.faults.counted risen
+      ];
+      write_fault = c.play_from-stopped.ensures.written_well.caused;
+      read_well = λ well. c.play_from-stopped.ensures.read_well well ∙ c.read_head-first.ensures.faults.faultless (c.play_from-stopped.ensures.reads.through well);
+      written_well = c.play_from-stopped.ensures.written_well.faultless;
+      full = c.play_from-stopped.ensures.full;
+    }
     in
     record { ran = inl ran; kept = record { ran = ran; is = refl; counted = script.counted }; none = λ is. absurd (cc is) }
