@@ -163,7 +163,7 @@ follows-prepare c t n m text a J s fits =
       rows_first = refl;
     }) (names_none c t n m (Prepare text) a J refl refl) fits
 
--- of all that was prepared it is the handle, and it was prepared
+-- each Prepare gave this handle, and one of them did
 given_parts : (handle : ℕ) (L : List Entry) → gave handle L ≡ true
     → (list_all (λ x. is_prepare x.call ⇒ is_number (given_handle x.answer) handle) L ≡ true) × (list_any (λ x. is_number (given_handle x.answer) handle) L ≡ true)
 given_parts handle L h = parts2 (list_all (λ x. is_prepare x.call ⇒ is_number (given_handle x.answer) handle) L) (list_any (λ x. is_number (given_handle x.answer) handle) L) h
