@@ -1,5 +1,5 @@
 -- The history of a run follows the lines that were carried out.
-use Rattle.std.proofs.Common.{◌≡◌, ◌⊎◌, ℕ, ◌≤◌, true, false, ◌&&◌, List, [], ◌∷◌, ◌++◌, refl, sym, ap, subst, ◌∙◌, arith, inl, inr}
+use Rattle.std.proofs.Common.{◌≡◌, ◌⊎◌, ℕ, true, false, List, [], ◌∷◌, ◌++◌, refl, sym, ap, subst, ◌∙◌, arith, inl, inr}
 use Rattle.std.specs.Prelude.{reverse, map}
 use Rattle.std.specs.List.{list_all}
 use Rattle.std.proofs.lemmas.Bool.{and_from, and_parts}
@@ -10,7 +10,7 @@ use Rattle.dsql_history.specs.declared.event.Event.{Event}
 use Rattle.dsql_history.specs.declared.event.Event.TheVariants.{Run}
 use Rattle.dsql_follows.specs.declared.line.Line.{Line}
 use Rattle.dsql_follows.specs.declared.line.Line.TheVariants.{Skip}
-use Rattle.dsql_follows.specs.Moments.{Moment, just_begun, kept, lines_of as lines_of_client}
+use Rattle.dsql_follows.specs.Moments.{Moment, just_begun, lines_of as lines_of_client}
 use Rattle.dsql_follows.specs.Sentences.{Part, after_part}
 use Rattle.dsql_follows.specs.Turns.{clients, has_run_out}
 use Rattle.dsql_follows.specs.Follows.{FollowsLine, FollowsLines, after, told}

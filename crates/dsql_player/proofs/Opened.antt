@@ -1,6 +1,6 @@
 -- The layer opened a connection.
 use Rattle.std.proofs.Common.{◌≡◌, ◌≢◌, ℕ, Bool, true, List, [], ◌∷◌, ◌++◌, Option, is_some, refl, sym, subst}
-use Rattle.std.specs.Prelude.{IfSome, Result, Ok, Err, IsErr, OnOk, OnErr}
+use Rattle.std.specs.Prelude.{IfSome, Result, Ok, Err, OnOk, OnErr}
 use Rattle.std.specs.List.{list_all}
 use Rattle.dsql_driver.specs.Kinds.{is_connect}
 use Rattle.dsql_driver.specs.Wires.{WireTold, FleetTold, connected_after}

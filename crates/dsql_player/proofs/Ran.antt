@@ -20,7 +20,6 @@ use Rattle.dsql_wires.specs.Plans.{Made}
 use Rattle.dsql_wires.specs.Told.{fleet_told}
 use Rattle.dsql_wires.specs.WiresFit.{KeepsFit, KeepsPlans}
 use Rattle.dsql_playing.specs.declared.halt.Halt.{Halt}
-use Rattle.dsql_playing.specs.declared.halt.Halt.TheVariants as halts
 use Rattle.dsql_playing.specs.Carried.{KeepsWires}
 use Rattle.dsql_playing.specs.Playing.{IsAt, IsReady, Playing}
 use Rattle.dsql_playing.specs.Acts.{RunsTo}

@@ -1,5 +1,5 @@
 -- The layer made a call on a connection that is neither opened nor shut by it.
-use Rattle.std.proofs.Common.{◌≡◌, false, List, Option, is_some, refl, ap}
+use Rattle.std.proofs.Common.{◌≡◌, false, List, Option, is_some, refl}
 use Rattle.std.specs.Prelude.{Result, Ok, Err, OnOk, OnErr}
 use Rattle.dsql_driver.specs.Kinds.{is_connect, is_shut}
 use Rattle.dsql_driver.specs.Wires.{WireTold}

@@ -1,4 +1,3 @@
-use Rattle.std.proofs.Common.{◌≡◌}
 use Rattle.std.proofs.lemmas.Result.{on_ok_weaker}
 use Rattle.dsql_playing.proofs.Lines.{begun_client, begun_control}
 use Rattle.dsql_player.proofs.Stepped.{skipped}
