@@ -1,11 +1,11 @@
 -- What the status tells of a run that was asked for its summary, and of a generated script.
-use Rattle.std.proofs.Common.{◌≡◌, ◌⊎◌, ℕ, Bool, true, List, Option, refl, ap, sym, subst, ◌∙◌, inl, inr}
+use Rattle.std.proofs.Common.{◌≡◌, ◌⊎◌, ℕ, true, refl, ap, sym, subst, ◌∙◌, inl, inr}
 use Rattle.std.specs.Prelude.{Result, Ok, Err}
 use Rattle.dsql_driver.specs.Streams.{HasRisen, has_risen}
 use Rattle.dsql_show.specs.Report.{with_text}
 use Rattle.dsql_generator.specs.Script.{generated}
 use Rattle.dsql_script_source.specs.declared.stop.Stop.{Stop}
-use Rattle.dsql_script_source.specs.declared.stop.Stop.TheVariants.{Read, Write, Memory, Refused, Full}
+use Rattle.dsql_script_source.specs.declared.stop.Stop.TheVariants.{Read}
 use Rattle.dsql_outcome.specs.Headline.{Seen, SeenNotes}
 use Rattle.dsql_outcome.specs.Notes.{Tells, is_status}
 use Rattle.dsql_outcome.specs.Runs.{Finishes, no_write_failed}

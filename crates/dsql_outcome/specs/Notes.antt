@@ -1,7 +1,6 @@
 -- What is told of a run, and its status.
-use Rattle.std.specs.Prelude.{ℕ, ◌≡◌, ◌==◌, ◌⊎◌, Bool, true, false, List, [], ◌∷◌, ◌++◌, Option, Result, Ok, Err, codes}
+use Rattle.std.specs.Prelude.{ℕ, ◌≡◌, ◌==◌, ◌⊎◌, Bool, true, List, [], ◌∷◌, ◌++◌, Option, Result, Ok, Err, codes}
 use Rattle.std.specs.List.{list_any}
-use Rattle.std.specs.Str.{bytes_eq}
 use Rattle.dsql_show.specs.Report.{with_text, ShowsFront}
 use Rattle.dsql_show.specs.declared.showing.ShowFault.{ShowFault}
 use Rattle.dsql_show.specs.declared.showing.ShowFault.TheVariants as shows

@@ -1,15 +1,14 @@
 -- What was written of a summary.
-use Rattle.std.proofs.Common.{◌≡◌, ◌⊎◌, ◌<◌, ℕ, Bool, true, false, List, [], length, Option, Some, None, refl, ap, sym, subst, ◌∙◌, inl, inr, arith}
-use Rattle.std.specs.Prelude.{IfSome, Result, Ok, Err, ◌++◌, option_map}
+use Rattle.std.proofs.Common.{◌≡◌, ◌⊎◌, ℕ, false, List, [], length, Option, Some, None, refl, ap, sym, subst, ◌∙◌, inl, inr}
+use Rattle.std.specs.Prelude.{IfSome, Result, Ok, Err}
 use Rattle.std.proofs.lemmas.List.{append-nil}
 use Rattle.dsql_driver.specs.Streams.{HasRisen}
-use Rattle.dsql_follows.specs.declared.line.Line.{Line}
 use Rattle.dsql_history.specs.declared.event.Event.{Event}
 use Rattle.dsql_show.specs.Report.{with_text, ShowsFront}
 use Rattle.dsql_summary.specs.Summary.{line_of, summary_of}
 use Rattle.dsql_script_source.specs.declared.stop.Stop.{Stop}
 use Rattle.dsql_script_source.specs.declared.stop.Stop.TheVariants.{Read, Write, Memory, Refused, Full}
-use Rattle.dsql_outcome.specs.Headline.{Seen, IsPlayed, NotBegun, Ran, RanSo}
+use Rattle.dsql_outcome.specs.Headline.{Seen, IsPlayed, NotBegun, RanSo}
 use Rattle.dsql_outcome.specs.Runs.{Finishes, IsLinesEnd, is_write_fault}
 use Rattle.dsql_outcome.specs.Summing.{NotSummarized, Summarized, WritesPiece, summary, unreported}
 use Rattle.dsql_run.specs.declared.playing.Kept.{Kept}

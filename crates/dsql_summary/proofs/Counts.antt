@@ -1,12 +1,11 @@
 -- How many of a list are counted: in either order, and up to an element.
-use Rattle.std.proofs.Common.{◌≡◌, ℕ, ◌+◌, ◌<◌, ◌≤◌, Bool, true, false, cond, List, [], ◌∷◌, ◌++◌, length, take, get_or, refl, sym, ap, ◌∙◌, arith}
+use Rattle.std.proofs.Common.{◌≡◌, ℕ, ◌+◌, ◌<◌, Bool, true, false, cond, List, [], ◌∷◌, ◌++◌, length, take, get_or, refl, sym, ap, ◌∙◌, arith}
 use Rattle.std.specs.Prelude.{count_by, reverse}
 use Rattle.std.proofs.lemmas.List.{reverse-append}
 use Rattle.std.proofs.lemmas.List.Sums.{count_by-le-length, count_by_more_no, count_by_more_yes, sum_by-append}
 use Rattle.dsql_history.specs.declared.event.Event.{Event}
 use Rattle.dsql_summary.specs.Counting.{IsBelow, one_if, with_event}
 use Rattle.dsql_summary.specs.Summary.{enters, hears, opens, replies_ok, replies_err, summary_of}
-use Rattle.dsql_summary.specs.declared.summary.Summary.{Summary}
 
 first : {X : Type 0} (p : X → Bool) (x : X) (xs : List X) → count_by p (x ∷ xs) ≡ one_if (p x) + count_by p xs
 first {X} p x xs = let split = sum_by-append (λ (y : X). cond (p y) 1 0) (x ∷ []) xs in omega (arith, split)

@@ -1,7 +1,6 @@
-use Rattle.std.proofs.Common.{◌≡◌, ◌≤◌, ◌<◌, ◌+◌, ◌∙◌, ap, sym, subst, refl, length, take, arith, rules}
-use Rattle.std.specs.Prelude.{reverse}
+use Rattle.std.proofs.Common.{◌∙◌, ap, sym, refl, take, arith}
 use Rattle.std.proofs.lemmas.List.{take_all, length-take-le}
-use Rattle.dsql_summary.specs.Counting.{IsBelow, with_event}
+use Rattle.dsql_summary.specs.Counting.{with_event}
 use Rattle.dsql_summary.specs.Summary.{summary_of}
 use Rattle.dsql_summary.proofs.Counts.{one_more, newest_first, below}
 use Rattle.dsql_summary.proofs.summary.summary_of.Goals as goal
