@@ -31,7 +31,8 @@ impl fmt::Display for What {
 /// memory may come in place of any other answer.
 #[derive(Clone, Copy, Debug)]
 pub enum LineFault {
-    /// It has more than 4,096 bytes before its line feed, a carriage return among them.
+    /// It has more bytes before its line feed, a carriage return among them, than it may have: 4,096 in a script,
+    /// and 65,536 in a report.
     TooLong,
     /// Its bytes aren't UTF-8.
     NotUtf8,

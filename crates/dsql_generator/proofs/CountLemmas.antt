@@ -7,6 +7,7 @@ use Rattle.std.specs.Str.Parse.{ParsesUnsigned, digits_value}
 use Rattle.std.proofs.lemmas.Bool.{and_parts, false_from_ne_true, cond-false, leb-true, le-leb}
 use Rattle.std.proofs.lemmas.Fmt.{parse-decimal, decimal_is_IsNumeral}
 use Rattle.std.proofs.lemmas.Slice.Eq.{bytes_eq-Decides}
+use Rattle.dsql_generator.specs.declared.count.TheConstants.{MOST}
 use Rattle.dsql_generator.specs.Counts.{IsCountOf, asked_count}
 
 -- no number is asked for by the word
@@ -20,11 +21,11 @@ parses word n r h is = parse-decimal 32 n word r (omega (arith, is.most)) (omega
 pub asked_count-none : (word : List ℕ) → AsksNone word → asked_count word ≡ None
 asked_count-none word h =
     let n = digits_value 10 word in
-    cond-false (bytes_eq (decimal n) word && (leb 1 n && leb n 10000)) (Some n) None
+    cond-false (bytes_eq (decimal n) word && (leb 1 n && leb n MOST)) (Some n) None
     (false_from_ne_true _ (λ t.
     let both = and_parts _ _ t in
     let within = and_parts _ _ both.1 in
-    h.none n (record { text = sym ((bytes_eq-Decides (decimal n) word).0 both.0); some = leb-true 1 n within.0; most = leb-true n 10000 within.1 })))
+    h.none n (record { text = sym ((bytes_eq-Decides (decimal n) word).0 both.0); some = leb-true 1 n within.0; most = leb-true n MOST within.1 })))
 
 -- a word that `parse` refuses asks for none
 pub AsksNone-refused : {E : Type 0} (word : List ℕ) (r : Result ℕ E) → ParsesUnsigned 32 10 word r → result_ok r ≡ None → AsksNone word
@@ -44,8 +45,8 @@ asked_count-some word n is =
     let value : digits_value 10 word ≡ n = ap (digits_value 10) is.text ∙ (decimal_is_IsNumeral n (omega (arith, is.most))).1 in
     let same : bytes_eq (decimal n) word ≡ true = (bytes_eq-Decides (decimal n) word).1 (sym is.text) in
     let least : leb 1 n ≡ true = le-leb 1 n is.some in
-    let most : leb n 10000 ≡ true = le-leb n 10000 is.most in
-    let P : ℕ → Type 0 = λ m. cond (bytes_eq (decimal m) word && (leb 1 m && leb m 10000)) (Some m) None ≡ Some n in
+    let most : leb n MOST ≡ true = le-leb n MOST is.most in
+    let P : ℕ → Type 0 = λ m. cond (bytes_eq (decimal m) word && (leb 1 m && leb m MOST)) (Some m) None ≡ Some n in
     subst P (sym value) (rw (same, least, most) refl)
 
 pub same_text : (text word spelled : List ℕ) → text ≡ spelled → bytes_eq text word ≡ true → word ≡ spelled
@@ -53,7 +54,7 @@ same_text text word spelled is same = sym ((bytes_eq-Decides text word).0 same) 
 
 -- nor does one that is another text than the number that `parse` reads, or one of a number that is too small or too large
 pub AsksNone-other : {E : Type 0} (word text : List ℕ) (m : ℕ) (r : Result ℕ E) (same : Bool) → ParsesUnsigned 32 10 word r → result_ok r ≡ Some m → text ≡ decimal m → same ≡ bytes_eq text word
-    → (((same ≡ true) × (1 ≤ m) × (10000 < m)) ⊎ (((same ≡ true) × (m < 1)) ⊎ (same ≡ false))) → AsksNone word
+    → (((same ≡ true) × (1 ≤ m) × (MOST < m)) ⊎ (((same ≡ true) × (m < 1)) ⊎ (same ≡ false))) → AsksNone word
 AsksNone-other word text m r same h read is tested other =
     record {
       none = λ n asked.

@@ -2,13 +2,14 @@
 use Rattle.std.specs.Prelude.{ℕ, ◌≡◌, ◌≤◌, ◌&&◌, nat_le, List, Option, Some, None, if◌then◌else◌, decimal}
 use Rattle.std.specs.Str.{bytes_eq}
 use Rattle.std.specs.Str.Parse.{digits_value}
+use Rattle.dsql_generator.specs.declared.count.TheConstants.{MOST}
 
--- the word is the decimal text of this number, from 1 to 10,000
+-- the word is the decimal text of this number, from 1 to the most that may be asked for
 pub record IsCountOf (word : List ℕ) (n : ℕ) : Type 0 where
   pub text : word ≡ decimal n
   pub some : 1 ≤ n
-  pub most : n ≤ 10000
+  pub most : n ≤ MOST
 
 -- the number of lines that a word asks for, if it asks for any
 abbrev pub asked_count : List ℕ → Option ℕ
-asked_count word = let n = digits_value 10 word in if bytes_eq (decimal n) word && (nat_le 1 n && nat_le n 10000) then Some n else None
+asked_count word = let n = digits_value 10 word in if bytes_eq (decimal n) word && (nat_le 1 n && nat_le n MOST) then Some n else None

@@ -1,16 +1,17 @@
 -- The script that is generated: blocks of eight lines, and each block is a transaction of one client.
 use Rattle.std.specs.Prelude.{ℕ, zero, suc, ◌+◌, ◌-◌, ◌/◌, ◌%◌, ◌==◌, if◌then◌else◌, List, [], ◌∷◌, ◌++◌, codes, decimal}
 use Rattle.std.specs.List.{concat}
+use Rattle.dsql_generator.specs.declared.lines.TheConstants.{BLOCK, CLIENTS}
 use Rattle.dsql_generator.specs.declared.lines.Step.{Step}
 use Rattle.dsql_generator.specs.declared.lines.Step.TheVariants.{Begin, SetName, AddOne, SetNull, Query, Next, Scan, Commit}
 
 -- the block in which a line stands; both are counted from 1
 abbrev pub block_of : ℕ → ℕ
-block_of line = (line - 1) / 8 + 1
+block_of line = (line - 1) / BLOCK + 1
 
--- the client of a block: sixty-four take turns
+-- the client of a block: as many take turns as a script may have
 abbrev pub client_of : ℕ → ℕ
-client_of block = (block - 1) % 64 + 1
+client_of block = (block - 1) % CLIENTS + 1
 
 -- the step at a place of a block, counted from 0
 abbrev pub step_at : ℕ → Step
@@ -39,7 +40,7 @@ words_of Commit digits = codes " commit x" ∷ digits ∷ []
 abbrev pub line_text : ℕ → List ℕ
 line_text line =
     codes "c" ++ decimal (client_of (block_of line))
-    ++ concat (words_of (step_at ((line - 1) % 8)) (decimal (block_of line)))
+    ++ concat (words_of (step_at ((line - 1) % BLOCK)) (decimal (block_of line)))
     ++ codes "\n"
 
 -- the bytes of a script of this many lines

@@ -4,6 +4,7 @@ use Rattle.std.specs.List.{list_any}
 use Rattle.std.specs.Str.{bytes_eq, is_utf8}
 use Rattle.std.specs.Str.Lines.{strip_carriage_return}
 use Rattle.dsql_driver.specs.declared.caps.Caps.{Caps}
+use Rattle.dsql_stream.specs.declared.lines.TheConstants.{LONGEST}
 use Rattle.dsql_history.specs.declared.event.Op.{Op}
 use Rattle.dsql_history.specs.declared.event.Op.TheVariants as op
 use Rattle.dsql_history.specs.declared.event.Setting.{Setting}
@@ -12,7 +13,7 @@ use Rattle.dsql_history.specs.declared.event.Control.TheVariants.{Tick, Set}
 use Rattle.dsql_forms.specs.declared.fault.What.TheVariants.{Lines}
 use Rattle.dsql_forms.specs.declared.fault.LineFault.{LineFault}
 use Rattle.dsql_forms.specs.declared.fault.LineFault.TheVariants.{TooLong, NotUtf8, NoSuchWord, BadShape, UnknownLabel, LabelTaken, TooMany}
-use Rattle.dsql_reader.specs.declared.reader.TheConstants.{MAX_BYTES, MAX_LINES}
+use Rattle.dsql_reader.specs.declared.reader.TheConstants.{MAX_LINES}
 use Rattle.dsql_reader.specs.declared.script.ScriptLine.{ScriptLine}
 use Rattle.dsql_reader.specs.declared.script.ScriptLine.TheVariants.{Skip, Version, UseCaps, Client, Step, StepHouse}
 use Rattle.dsql_reader.specs.declared.script.ScriptLine.TheVariants as script
@@ -128,7 +129,7 @@ text_of head text = if is_skipped text then Ok Skip else form_of head (words_of 
 
 -- how many bytes a line may have before its line feed
 abbrev pub most_bytes : ℕ
-most_bytes = MAX_BYTES
+most_bytes = LONGEST
 
 -- a line before which few enough were read
 abbrev pub line_of : Head → List ℕ → Reading

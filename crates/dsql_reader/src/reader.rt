@@ -11,15 +11,12 @@ use crate::{body, head, plan};
 use dsql_forms::{LineFault, What};
 use dsql_history::Setting;
 use dsql_script_calls::{split_array, split_words};
+use dsql_stream::LONGEST;
 use std::alloc::Global;
 use std::marker::Model;
 
 /// How many lines a script may have.
 const MAX_LINES: u16 = 10_000;
-
-/// How many bytes a line may have before its line feed. `LONGEST` of dsql_stream says the same, so that
-/// no line is read that was cut.
-const MAX_BYTES: usize = 4_096;
 
 /// A reader of scripts, line by line. Contracts see the number of lines that it has read, which
 /// counts skipped ones and no refused one, whether a version line or a caps line may still come, and
@@ -118,7 +115,7 @@ impl Reader {
 fn read_bytes(alloc: Global, head: Head, line: &[u8]) -> Result<ScriptLine, LineFault>
     ensures { IsReading result (line_of head line.now) }
 {
-    if line.len() > MAX_BYTES {
+    if line.len() > LONGEST {
         return Err(LineFault::TooLong);
     }
     let Ok(text) = str::from_utf8(line) else {
