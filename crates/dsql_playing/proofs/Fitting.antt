@@ -6,7 +6,7 @@ use Rattle.dsql_journal.specs.declared.entry.Entry.{Entry}
 use Rattle.dsql_history.specs.declared.event.Event.{Event}
 use Rattle.dsql_history.specs.Readers.Journals.{journal}
 use Rattle.dsql_wire.specs.Journaled.{Journaled}
-use Rattle.dsql_wires.specs.WiresFit.{FitsAt, HoldsWire, KeepsFit, KeepsPlans, PlansFit, WiresFit, is_wired, slot}
+use Rattle.dsql_wires.specs.WiresFit.{FitsAt, HoldsWire, KeepsFit, KeepsPlans, WiresFit, is_wired, slot}
 use Rattle.dsql_wires.proofs.Plans.{alike_plans}
 use Rattle.dsql_playing.specs.Carried.{HearsNothing}
 
@@ -34,6 +34,3 @@ fits_same heard old new slots same = λ telling fit. subst (λ (past : List Even
 -- And so are the plans on them.
 pub plans_unheard : {W : Type 0} (heard : W → Option WireTold) (old new : List Event) (slots : List (Option (Journaled W))) → HearsNothing old new → KeepsPlans heard old new slots slots
 plans_unheard heard old new slots h = alike_plans heard old new slots h.journals
-
-pub plans_same : {W : Type 0} (heard : W → Option WireTold) (old new : List Event) (slots : List (Option (Journaled W))) → new ≡ old → KeepsPlans heard old new slots slots
-plans_same heard old new slots same = λ made fit. subst (λ (past : List Event). PlansFit heard made past slots) (sym same) fit

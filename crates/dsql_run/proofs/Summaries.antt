@@ -1,10 +1,9 @@
 -- What was written of a summary.
-use Rattle.std.proofs.Common.{◌≡◌, ◌⊎◌, ℕ, false, List, [], length, Option, Some, None, refl, ap, sym, subst, ◌∙◌, inl, inr}
+use Rattle.std.proofs.Common.{◌≡◌, ◌⊎◌, ℕ, false, List, length, Option, Some, None, refl, ap, sym, subst, ◌∙◌, inl, inr}
 use Rattle.std.specs.Prelude.{IfSome, Result, Ok, Err}
-use Rattle.std.proofs.lemmas.List.{append-nil}
 use Rattle.dsql_driver.specs.Streams.{HasRisen}
 use Rattle.dsql_history.specs.declared.event.Event.{Event}
-use Rattle.dsql_show.specs.Report.{with_text, ShowsFront}
+use Rattle.dsql_show.specs.Report.{with_text}
 use Rattle.dsql_summary.specs.Summary.{line_of, summary_of}
 use Rattle.dsql_script_source.specs.declared.stop.Stop.{Stop}
 use Rattle.dsql_script_source.specs.declared.stop.Stop.TheVariants.{Read, Write, Memory, Refused, Full}
@@ -12,14 +11,6 @@ use Rattle.dsql_outcome.specs.Headline.{Seen, IsPlayed, NotBegun, RanSo}
 use Rattle.dsql_outcome.specs.Runs.{Finishes, IsLinesEnd, is_write_fault}
 use Rattle.dsql_outcome.specs.Summing.{NotSummarized, Summarized, WritesPiece, summary, unreported}
 use Rattle.dsql_run.specs.declared.playing.Kept.{Kept}
-
--- nothing is a beginning of each text
-none_shown : (w : Option (List ℕ)) (text : List ℕ) → ShowsFront w text w
-none_shown w text = record { front = []; begins = record { rest = text; parts = refl }; written = same w }
-  where
-    same : (w : Option (List ℕ)) → w ≡ with_text w []
-    same None = refl
-    same (Some bytes) = ap Some (sym (append-nil bytes))
 
 -- the whole text, where the lines came to an end
 pub whole_piece : (r : Result (Unit {0}) Stop) (text : List ℕ) (w now : Option (List ℕ)) → IsLinesEnd r → now ≡ with_text w text → WritesPiece r text w now
@@ -29,15 +20,6 @@ whole_piece (Err Write) text w now over is = absurd over
 whole_piece (Err Memory) text w now over is = absurd over
 whole_piece (Err (Refused number fault)) text w now over is = is
 whole_piece (Err Full) text w now over is = absurd over
-
--- and else nothing
-pub no_piece : (r : Result (Unit {0}) Stop) (text : List ℕ) (w : Option (List ℕ)) → (IsLinesEnd r → ⊥) → WritesPiece r text w w
-no_piece (Ok done) text w cut = absurd (cut tt)
-no_piece (Err Read) text w cut = absurd (cut tt)
-no_piece (Err Write) text w cut = none_shown w text
-no_piece (Err Memory) text w cut = refl
-no_piece (Err (Refused number fault)) text w cut = absurd (cut tt)
-no_piece (Err Full) text w cut = refl
 
 -- what nobody keeps is written without a fault
 pub no_write_fault : (stopped : Result (Unit {0}) Stop) (before after : Seen) → IsPlayed stopped (unreported before) (unreported after) → is_write_fault stopped ≡ false
