@@ -22,7 +22,7 @@ use Rattle.dsql_text_laws.proofs.ReadNumbers.{as_i64_signed}
 use Rattle.dsql_text_laws.proofs.ReadTexts.{IsRead, deeper, arg_is_read, named_is_read as named_arg_is_read}
 use Rattle.dsql_event_reader.specs.Asked.{op_of, op_in}
 use Rattle.dsql_event_reader.specs.Events.{setting_of, event_of}
-use Rattle.dsql_event_reader.specs.Fits.{ArgsFit, OpFits, has_dests, is_named_op, is_named, NumbersFit, shown}
+use Rattle.dsql_event_reader.specs.Fits.{ArgsFit, OpFits, has_dests, is_client, is_named_op, is_well_formed, NumbersFit, shown}
 use Rattle.dsql_event_reader.proofs.DriverBack.{call_is_read_back, call_is_read, answer_is_read_back, answer_is_read}
 use Rattle.dsql_event_reader.proofs.MovesBack.{in_word, owner_is_read_back, move_is_read_back, move_is_read}
 use Rattle.dsql_event_reader.proofs.RepliesBack.{reply_is_read_back, reply_is_read}
@@ -80,9 +80,9 @@ setting_is_read_back : (s : Setting) → setting_of (limit_word s) ≡ Some s
 setting_is_read_back MaxOpen = refl
 setting_is_read_back _ = refl
 
-pub event_is_read_back : (e : Event) → is_named e ≡ true → NumbersFit e → event_of (json_of e) ≡ Some (shown e)
+pub event_is_read_back : (e : Event) → is_well_formed e ≡ true → NumbersFit e → event_of (json_of e) ≡ Some (shown e)
 event_is_read_back (Run version caps) named fits = rw (in_byte version fits, texts_are_read_back (caps_names caps), among_its_names caps) refl
-event_is_read_back (Entered client n o) named fits = rw (in_byte client fits.0, in_word n fits.1, op_is_read_back client n o named fits.2) refl
+event_is_read_back (Entered client n o) named fits = rw (in_byte client fits.0, in_word n fits.1, op_is_read_back client n o (and_parts (is_client client) (is_named_op o) named).1 fits.2) refl
 event_is_read_back (Heard entry) named fits =
     rw (in_word entry.conn fits.0, in_word entry.tenure fits.1, owner_is_read_back entry.owner fits.2, in_word entry.call_no fits.3, in_word entry.tx fits.4, call_is_read_back entry.call fits.5, answer_is_read_back entry.answer fits.6) refl
 event_is_read_back (Pool move) named fits = move_is_read_back move fits

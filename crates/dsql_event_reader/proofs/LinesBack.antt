@@ -18,7 +18,7 @@ use Rattle.dsql_forms.specs.Outcomes.{IsReading}
 use Rattle.dsql_report.specs.Lines.{move_data, json_of, line_of}
 use Rattle.dsql_text_laws.proofs.ReadTexts.{deeper, text_is_read}
 use Rattle.dsql_event_reader.specs.Events.{Reading, event_of, if_spelled, of_event, of_data, text_event, most_bytes, reading_of}
-use Rattle.dsql_event_reader.specs.Fits.{is_named, Fits, shown_move, shown}
+use Rattle.dsql_event_reader.specs.Fits.{is_well_formed, Fits, shown_move, shown}
 use Rattle.dsql_event_reader.specs.Refusals.{IsLine, Tells, Refuses}
 use Rattle.dsql_event_reader.proofs.EventsBack.{event_is_read_back, event_is_read}
 
@@ -33,10 +33,10 @@ same_data (Pool move) = same_move move
 same_data Ended = refl
 same_data _ = refl
 
-spelled : (text : List ℕ) (e : Event) → is_named e ≡ true → IsLine text e → if_spelled text e ≡ Ok e
+spelled : (text : List ℕ) (e : Event) → is_well_formed e ≡ true → IsLine text e → if_spelled text e ≡ Ok e
 spelled text e named is = rw (named, (bytes_eq-Decides (line_of e) (text ++ 10 ∷ [])).1 is) refl
 
-same_names : (e : Event) → is_named (shown e) ≡ is_named e
+same_names : (e : Event) → is_well_formed (shown e) ≡ is_well_formed e
 same_names (Pool move) = refl
 same_names Ended = refl
 same_names _ = refl
@@ -75,11 +75,11 @@ same_fault : (f g : LineFault) → ◌≡◌ {A = Reading} (Err f) (Err g) → f
 same_fault f g e = cc
 
 module _ (line : List ℕ) where
-  by_spelling : (e : Event) (r : Reading) → if_spelled line e ≡ r → ((r ≡ Ok e) × IsLine line e × (is_named e ≡ true)) ⊎ (r ≡ Err BadShape)
-  by_spelling e r is = elim (cases_Bool (is_named e && bytes_eq (line_of e) (line ++ 10 ∷ []))) [
+  by_spelling : (e : Event) (r : Reading) → if_spelled line e ≡ r → ((r ≡ Ok e) × IsLine line e × (is_well_formed e ≡ true)) ⊎ (r ≡ Err BadShape)
+  by_spelling e r is = elim (cases_Bool (is_well_formed e && bytes_eq (line_of e) (line ++ 10 ∷ []))) [
     | inl both ↦
         let ok : if_spelled line e ≡ Ok e = rw both refl in
-        let parts = and_parts (is_named e) (bytes_eq (line_of e) (line ++ 10 ∷ [])) both in
+        let parts = and_parts (is_well_formed e) (bytes_eq (line_of e) (line ++ 10 ∷ [])) both in
         inl (sym is ∙ ok, (bytes_eq-Decides (line_of e) (line ++ 10 ∷ [])).0 parts.1, parts.0)
     | inr other ↦ let bad : if_spelled line e ≡ Err BadShape = rw other refl in inr (sym is ∙ bad)
   ]
@@ -90,7 +90,7 @@ module _ (line : List ℕ) where
 
   -- the line is the event's, whose labels are names
   abbrev Told : Event → Type 0
-  Told e = IsLine line e × (is_named e ≡ true)
+  Told e = IsLine line e × (is_well_formed e ≡ true)
 
   of_event_line : (o : Option Event) (e : Event) → of_event line o ≡ Ok e → Told e
   of_event_line None e is = absurd cc

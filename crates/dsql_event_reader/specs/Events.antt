@@ -17,7 +17,7 @@ use Rattle.dsql_forms.specs.declared.fault.LineFault.TheVariants.{TooLong, NotUt
 use Rattle.dsql_report.specs.Lines.{line_of}
 use Rattle.dsql_reader.specs.ScriptHead.{caps_among}
 use Rattle.dsql_event_reader.specs.declared.reader.TheConstants.{MAX_BYTES}
-use Rattle.dsql_event_reader.specs.Fits.{is_named}
+use Rattle.dsql_event_reader.specs.Fits.{is_well_formed}
 use Rattle.dsql_event_reader.specs.Parts.{natural_at, number_at, byte_at, integer_at, text_at, list_at}
 use Rattle.dsql_event_reader.specs.Moves.{owner_at, move_by}
 use Rattle.dsql_event_reader.specs.DriverForms.{call_of, answer_of}
@@ -85,7 +85,7 @@ Reading = Result Event LineFault
 
 -- an event, if its labels are names and this is its line without the line feed
 abbrev pub if_spelled : List ℕ → Event → Reading
-if_spelled text e = if is_named e && bytes_eq (line_of e) (text ++ 10 ∷ []) then Ok e else Err BadShape
+if_spelled text e = if is_well_formed e && bytes_eq (line_of e) (text ++ 10 ∷ []) then Ok e else Err BadShape
 
 abbrev pub of_event : List ℕ → Option Event → Reading
 of_event text None = Err BadShape

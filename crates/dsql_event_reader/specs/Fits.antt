@@ -1,5 +1,5 @@
--- The events that a line tells: each label is a name, a row is read into some destination, and each number is of its type.
-use Rattle.std.specs.Prelude.{◌≡◌, ℕ, ◌<◌, ◌^◌, ◌==◌, ◌&&◌, Bool, true, not, List, length, FitsSigned, All}
+-- The events that a line tells: they are well formed, and each number is of its type.
+use Rattle.std.specs.Prelude.{◌≡◌, ℕ, ◌<◌, ◌^◌, ◌==◌, ◌&&◌, nat_le, Bool, true, not, List, length, FitsSigned, All}
 use Rattle.std.specs.Int.{w32, w64}
 use Rattle.hex.specs.Hex.{IsBytes}
 use Rattle.dsql_value.specs.declared.arg.Named.{Named}
@@ -9,6 +9,7 @@ use Rattle.dsql_value.specs.declared.value.Param.{Param}
 use Rattle.dsql_scan.specs.declared.cell.Cell.{Cell}
 use Rattle.dsql_scan.specs.declared.cell.Cell.TheVariants as cell
 use Rattle.dsql_scan.specs.declared.dest.Dest.{Dest}
+use Rattle.dsql_driver.specs.Fits.{is_memory}
 use Rattle.dsql_driver.specs.declared.call.Input.{Input}
 use Rattle.dsql_driver.specs.declared.call.Input.TheVariants as input
 use Rattle.dsql_driver.specs.declared.call.DriverCall.{DriverCall}
@@ -28,7 +29,7 @@ use Rattle.dsql_history.specs.declared.reply.Reply.{Reply}
 use Rattle.dsql_history.specs.declared.reply.Reply.TheVariants as reply
 use Rattle.dsql_history.specs.declared.event.Event.{Event}
 use Rattle.dsql_history.specs.declared.event.Event.TheVariants.{Run, Entered, Heard, Pool, Waits, Ticked, SetLimit, Replied, Ended}
-use Rattle.dsql_script_calls.specs.ScriptWords.{is_name}
+use Rattle.dsql_script_calls.specs.ScriptWords.{is_name, most_clients}
 use Rattle.dsql_text_laws.specs.ReadBack.{IsInRange}
 
 -- a number of 32 bits, and an unsigned one of 64
@@ -113,10 +114,15 @@ is_named_op (op.Err rows) = is_name rows
 is_named_op op.DbClose = true
 is_named_op op.Stats = true
 
--- the same of the call that an event enters
-abbrev pub is_named : Event → Bool
-is_named (Entered client n op) = is_named_op op
-is_named _ = true
+-- the number of a client of a script
+abbrev pub is_client : ℕ → Bool
+is_client client = nat_le 1 client && nat_le client most_clients
+
+-- A report may tell the event: the same of the call that it enters, whose client is one of a script; and an answer that was heard isn't Memory.
+abbrev pub is_well_formed : Event → Bool
+is_well_formed (Entered client n op) = is_client client && is_named_op op
+is_well_formed (Heard entry) = not (is_memory entry.answer)
+is_well_formed _ = true
 
 abbrev pub OpFits : Op → Type 0
 OpFits (op.Exec text args) = ArgsFit args
@@ -154,7 +160,7 @@ NumbersFit (Replied n reply) = IsNumber n × ReplyFits reply
 NumbersFit Ended = Unit {0}
 
 abbrev pub Fits : Event → Type 0
-Fits e = (is_named e ≡ true) × NumbersFit e
+Fits e = (is_well_formed e ≡ true) × NumbersFit e
 
 -- A line doesn't show for which call a connection is lent: it is read as the number of its owner.
 abbrev pub shown_move : Move → Move

@@ -7,7 +7,7 @@ use Rattle.dsql_forms.specs.declared.fault.LineFault.{LineFault}
 use Rattle.dsql_forms.specs.declared.fault.LineFault.TheVariants.{TooLong, NotUtf8, BadJson, BadShape}
 use Rattle.dsql_report.specs.Lines.{line_of}
 use Rattle.dsql_event_reader.specs.Events.{most_bytes, reading_of}
-use Rattle.dsql_event_reader.specs.Fits.{is_named, Fits, shown}
+use Rattle.dsql_event_reader.specs.Fits.{is_well_formed, Fits, shown}
 
 -- the line is the event's, without the line feed
 abbrev pub IsLine : List ℕ → Event → Type 0
@@ -15,7 +15,7 @@ IsLine line e = line_of e ≡ line ++ 10 ∷ []
 
 -- it is short enough, and the event's, whose labels are names
 abbrev pub Tells : List ℕ → Event → Type 0
-Tells line e = (length line ≤ most_bytes) × IsLine line e × (is_named e ≡ true)
+Tells line e = (length line ≤ most_bytes) × IsLine line e × (is_well_formed e ≡ true)
 
 -- the first of these that holds
 abbrev pub Refuses : LineFault → List ℕ → Type 0

@@ -2,7 +2,7 @@
 ghost use Rattle.std.specs.Prelude.{◌≡◌, ◌∷◌, ◌++◌, [], pos, codes, replicate, Ok, Err};
 ghost use Rattle.dsql_journal.specs.declared.entry.Owner.TheVariants.{Call};
 ghost use Rattle.dsql_pool.specs.declared.moves.Move.TheVariants.{Back, Lend};
-ghost use Rattle.dsql_history.specs.declared.event.Op.TheVariants.{Next};
+ghost use Rattle.dsql_history.specs.declared.event.Op.TheVariants.{Next, DbClose};
 ghost use Rattle.dsql_history.specs.declared.event.Setting.TheVariants.{MaxOpen};
 ghost use Rattle.dsql_history.specs.declared.event.Event.TheVariants.{Entered, Pool, SetLimit, Ended};
 ghost use Rattle.dsql_forms.specs.declared.fault.LineFault.TheVariants.{TooLong, NotUtf8, BadJson, BadShape};
@@ -38,5 +38,9 @@ pub fn worked_event_lines()
     ensures more { reading_of (codes "[\"back\",1,2]") ≡ Err BadShape }
     ensures no_word { reading_of (codes "[1]") ≡ Err BadShape }
     ensures no_name { reading_of (codes "[\"enter\",1,2,\"next R\"]") ≡ Err BadShape }
+    ensures memory { reading_of (codes "[\"heard\",1,1,\"house\",0,0,[\"connect\"],[\"memory\"]]") ≡ Err BadShape }
+    ensures no_client { reading_of (codes "[\"enter\",0,1,\"stats\"]") ≡ Err BadShape }
+    ensures client_64 { reading_of (codes "[\"enter\",64,1,\"dbclose\"]") ≡ Ok (Entered 64 1 DbClose) }
+    ensures client_65 { reading_of (codes "[\"enter\",65,1,\"stats\"]") ≡ Err BadShape }
     ensures line_feed { reading_of (codes "[\"ended\"]\n") ≡ Err BadShape }
 {}

@@ -6,7 +6,7 @@ ghost use Rattle.dsql_event_reader.specs.Events.{if_spelled, text_event, reading
 ghost use Rattle.dsql_event_reader.specs.Refusals.{Tells, Refuses};
 
 use crate::events;
-use crate::named::is_named;
+use crate::well_formed::is_well_formed;
 use dsql_forms::LineFault;
 use dsql_history::Event;
 use dsql_report::append_line;
@@ -20,8 +20,10 @@ const MAX_BYTES: usize = 65_536;
 /// spelled: one that says the same in another way is refused.
 ///
 /// A line is refused for the first of these: it has more than 65,536 bytes (`TooLong`), its bytes aren't UTF-8
-/// (`NotUtf8`), it isn't read as JSON (`BadJson`), it isn't the line of an event whose labels are names
-/// (`BadShape`). Want of memory may come in place of any other answer.
+/// (`NotUtf8`), it isn't read as JSON (`BadJson`), it isn't the line of an event that a report may tell
+/// (`BadShape`). There a call is entered by one of 64 clients, its label, if it has one, is a name, its
+/// destinations, if it is to have some, are one or more, and no answer is Memory. Want of memory may come in
+/// place of any other answer.
 pub fn read_event(alloc: Global, line: &[u8]) -> Result<Event, LineFault>
     ensures told { IfOk result (λ e. Tells line.now e) }
     ensures refused { IfErr result (λ f. f ≢ LineFault.Memory → Refuses f line.now) }
@@ -54,7 +56,7 @@ fn read_text(alloc: Global, text: &str) -> Result<Event, LineFault>
 fn if_spelled(alloc: Global, text: &str, event: Event) -> Result<Event, LineFault>
     ensures { IsReading result (if_spelled text.now event) }
 {
-    if !is_named(&event) || !is_line(alloc, text, &event)? {
+    if !is_well_formed(&event) || !is_line(alloc, text, &event)? {
         return Err(LineFault::BadShape);
     }
     Ok(event)

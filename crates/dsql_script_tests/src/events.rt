@@ -24,7 +24,7 @@ const ONE_EXEC: &str =
 
 /// Calls, driver calls and their answers.
 const CALLS: &str =
-    r#"["enter",255,4294967295,"query r_2 db",["a \"é\" \n",null,-1,{"u64":5},{"arg":{"bytes":"00ff"},"name":"x"}]]
+    r#"["enter",64,4294967295,"query r_2 db",["a \"é\" \n",null,-1,{"u64":5},{"arg":{"bytes":"00ff"},"name":"x"}]]
 ["enter",1,2,"one db text,null:time",["",18446744073709551615]]
 ["enter",1,2,"scan r i64"]
 ["enter",1,2,"next r"]
@@ -37,7 +37,7 @@ const CALLS: &str =
 ["heard",1,4,"call:2",3,0,["query",5,[{"name":"x","value":{"time":-1}},null,true,"b",{"bytes":""},-5]],["cursor",7,["value"]]]
 ["heard",1,4,"call:2",3,0,["next",7],["row",[5,null,{"bytes":"0a"},{"time":9}]]]
 ["heard",1,4,"call:2",3,0,["close_rows",7],["bad"]]
-["heard",1,4,"call:2",3,0,["close_stmt",7],["memory"]]
+["heard",1,4,"call:2",3,0,["close_stmt",7],["skip"]]
 "#;
 
 /// Waits, moments, limits and replies.

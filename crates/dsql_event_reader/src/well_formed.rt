@@ -1,9 +1,13 @@
-//! Events whose labels are names, and whose calls have destinations where they are to have some.
+//! Events that are well formed, so that a line of a report may tell them.
 ghost use Rattle.std.specs.Prelude.{◌≡◌};
 ghost use Rattle.dsql_event_reader.specs.Fits as form;
 
+use dsql_driver::DriverAnswer;
 use dsql_history::{Event, Op};
 use dsql_script_calls::is_name;
+
+/// The clients of a script are numbered from 1 up to this.
+const CLIENTS: u8 = 64;
 
 fn is_named_op(op: &Op) -> bool
     ensures { result ≡ form.is_named_op op.now }
@@ -17,13 +21,14 @@ fn is_named_op(op: &Op) -> bool
     }
 }
 
-/// Whether the label of a call that an event enters is a name, if it has one, and whether it has a
-/// destination, if it is to have some.
-pub fn is_named(event: &Event) -> bool
-    ensures { result ≡ form.is_named event.now }
+/// Whether a report may tell the event: a call is entered by a client of a script, its label is a name, if it has one,
+/// and it has a destination, if it is to have some; and what is heard isn't Memory.
+pub fn is_well_formed(event: &Event) -> bool
+    ensures { result ≡ form.is_well_formed event.now }
 {
     match event {
-        Event::Entered { op, .. } => is_named_op(op),
+        Event::Entered { client, op, .. } => 1 <= *client && *client <= CLIENTS && is_named_op(op),
+        Event::Heard(entry) => !matches!(entry.answer, DriverAnswer::Memory),
         _ => true,
     }
 }
