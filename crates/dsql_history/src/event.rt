@@ -22,6 +22,8 @@ pub enum Op {
     RowsClose { rows: Txt },
     /// `Rows.Err`.
     Err { rows: Txt },
+    /// `DB.PingContext`.
+    Ping,
     /// `DB.Close`.
     DbClose,
     /// `DB.Stats`.

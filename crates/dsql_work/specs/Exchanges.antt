@@ -1,7 +1,7 @@
 -- What was exchanged with the driver in a tenure, as the course of a call sees it, newest first.
 use Rattle.std.specs.Prelude.{List, [], ◌∷◌, Option, Some, None}
 use Rattle.dsql_driver.specs.declared.call.DriverCall.{DriverCall}
-use Rattle.dsql_driver.specs.declared.call.DriverCall.TheVariants.{Prepare, Exec, Query, Next, CloseRows, CloseStmt}
+use Rattle.dsql_driver.specs.declared.call.DriverCall.TheVariants.{Ping, Prepare, Exec, Query, Next, CloseRows, CloseStmt}
 use Rattle.dsql_driver.specs.declared.call.Input.TheVariants as input
 use Rattle.dsql_driver.specs.declared.answer.DriverAnswer.{DriverAnswer}
 use Rattle.dsql_driver.specs.declared.answer.DriverAnswer.TheVariants as answers
@@ -22,6 +22,7 @@ step_of (Prepare text) = Some due.Prepare
 step_of (Next rows) = Some (due.Next rows)
 step_of (CloseRows rows) = Some (due.CloseRows rows)
 step_of (CloseStmt handle) = Some (due.CloseStmt handle)
+step_of Ping = Some due.Ping
 step_of _ = None
 
 -- an answer as far as later calls depend on it

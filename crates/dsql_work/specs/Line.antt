@@ -4,7 +4,7 @@ use Rattle.std.specs.Prelude.{ℕ, ◌==◌, Bool, true, false, ◌&&◌, ◌||�
 use Rattle.dsql_value.specs.declared.value.Param.{Param}
 use Rattle.dsql_driver.specs.declared.caps.Caps.{Caps}
 use Rattle.dsql_driver.specs.declared.call.DriverCall.{DriverCall}
-use Rattle.dsql_driver.specs.declared.call.DriverCall.TheVariants.{Reset, Valid, Prepare, Exec, Query, Next, CloseRows, CloseStmt}
+use Rattle.dsql_driver.specs.declared.call.DriverCall.TheVariants.{Reset, Valid, Ping, Prepare, Exec, Query, Next, CloseRows, CloseStmt}
 use Rattle.dsql_driver.specs.declared.call.Input.{Input}
 use Rattle.dsql_driver.specs.declared.call.Input.TheVariants.{Text, Handle}
 use Rattle.dsql_course.specs.declared.course.Course.{Course}
@@ -22,6 +22,7 @@ use Rattle.dsql_work.specs.declared.work.Aim.{Aim}
 use Rattle.dsql_work.specs.declared.work.Aim.TheVariants as aims
 use Rattle.dsql_work.specs.declared.work.Work.{Work}
 use Rattle.dsql_work.specs.declared.work.Work.TheVariants.{ReadOne, HandOut}
+use Rattle.dsql_work.specs.declared.work.Work.TheVariants as works
 use Rattle.dsql_work.specs.Same.{same_params}
 use Rattle.dsql_work.specs.Exchanges.{exchanges}
 
@@ -30,6 +31,7 @@ abbrev pub test_of : Caps → Option DriverCall
 test_of can = cond can.validator (Some Valid) None
 
 -- What a call asks of the driver: a text with parameters, and what becomes of that. It is executed, one row of it is read, or its rows are handed out.
+-- A ping has none.
 pub record Asked : Type 0 where
   pub text : List ℕ
   pub params : List Param
@@ -40,6 +42,7 @@ abbrev pub course_of : Aim → Course
 course_of aims.Execute = courses.Exec
 course_of aims.ReadOne = courses.One
 course_of aims.HandOut = courses.Query
+course_of aims.Ping = courses.Ping
 
 -- the run of a text or a handle
 abbrev pub run_for : Aim → Input → List Param → DriverCall
@@ -61,6 +64,7 @@ sent_as can asked (course.Handle handle) = Some (run_of asked (Handle handle))
 sent_as can asked (course.Next rows) = Some (Next rows)
 sent_as can asked (course.CloseRows rows) = Some (CloseRows rows)
 sent_as can asked (course.CloseStmt handle) = Some (CloseStmt handle)
+sent_as can asked course.Ping = Some Ping
 sent_as can asked _ = test_of can
 
 -- the cursor of rows that are handed out
@@ -90,12 +94,14 @@ line_after can reset_due asked wish (e ∷ earlier) = cond (is_bad e.answer || i
 abbrev pub aim_of : Work → Aim
 aim_of (ReadOne dests) = aims.ReadOne
 aim_of (HandOut label) = aims.HandOut
+aim_of works.Ping = aims.Ping
 aim_of _ = aims.Execute
 
 -- the call is the one that is due
 abbrev pub is_due : Option DriverCall → DriverCall → Bool
 is_due (Some Reset) Reset = true
 is_due (Some Valid) Valid = true
+is_due (Some Ping) Ping = true
 is_due (Some (Prepare text)) (Prepare other) = bytes_eq text other
 is_due (Some (Exec (Text text) params)) (Exec (Text other) others) = bytes_eq text other && same_params params others
 is_due (Some (Exec (Handle handle) params)) (Exec (Handle other) others) = (handle == other) && same_params params others

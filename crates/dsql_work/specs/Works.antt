@@ -1,7 +1,7 @@
 -- What each call has to do.
 use Rattle.std.specs.Prelude.{ℕ, Bool, true, false, List, position, Option, Some, None, bytes_eq}
 use Rattle.dsql_work.specs.declared.work.Work.{Work}
-use Rattle.dsql_work.specs.declared.work.Work.TheVariants.{Execute, ReadOne, HandOut, Fetch, Close}
+use Rattle.dsql_work.specs.declared.work.Work.TheVariants.{Execute, ReadOne, HandOut, Ping, Fetch, Close}
 
 -- it hands out rows under this label
 abbrev pub has_label : List ℕ → Work → Bool
@@ -21,6 +21,7 @@ abbrev pub asks : Work → Bool
 asks Execute = true
 asks (ReadOne dests) = true
 asks (HandOut label) = true
+asks Ping = true
 asks _ = false
 
 -- it hands out rows

@@ -1,7 +1,7 @@
 use dsql_scan::Dests;
 use dsql_value::Txt;
 
-/// What becomes of a text that a call runs.
+/// What a call does with its text.
 #[derive(Clone, Copy, Debug, PartialEq, Eq)]
 pub enum Aim {
     /// It is executed.
@@ -10,6 +10,8 @@ pub enum Aim {
     ReadOne,
     /// It is queried, and the rows are handed out.
     HandOut,
+    /// It has none, and the connection is pinged.
+    Ping,
 }
 
 /// What a call has to do.
@@ -21,6 +23,8 @@ pub enum Work {
     ReadOne(Dests),
     /// It queries a text on a connection of its own, and hands out the rows under this label.
     HandOut(Txt),
+    /// It pings a connection of its own, where the driver can do that.
+    Ping,
     /// It fetches a row of those that this call handed out; 0 if none has the label.
     Fetch(u32),
     /// It closes the rows that this call handed out; 0 if none has the label.

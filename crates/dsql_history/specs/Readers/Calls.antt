@@ -8,7 +8,7 @@ use Rattle.dsql_value.specs.declared.value.Param.{Param}
 use Rattle.dsql_value.specs.Arguments.{first_fault, count_fault}
 use Rattle.dsql_driver.specs.declared.caps.Caps.{Caps}
 use Rattle.dsql_driver.specs.declared.call.DriverCall.{DriverCall}
-use Rattle.dsql_driver.specs.declared.call.DriverCall.TheVariants.{Reset, Prepare, Exec, Query, Next, CloseRows}
+use Rattle.dsql_driver.specs.declared.call.DriverCall.TheVariants.{Reset, Ping, Prepare, Exec, Query, Next, CloseRows}
 use Rattle.dsql_driver.specs.declared.answer.DriverAnswer.{DriverAnswer}
 use Rattle.dsql_driver.specs.declared.answer.DriverAnswer.TheVariants as answers
 use Rattle.dsql_journal.specs.declared.entry.Entry.{Entry}
@@ -23,6 +23,7 @@ use Rattle.dsql_course.specs.Made.{or_else}
 use Rattle.dsql_pool.specs.Pooled.{stats}
 use Rattle.dsql_work.specs.declared.work.Work.{Work}
 use Rattle.dsql_work.specs.declared.work.Work.TheVariants.{ReadOne, HandOut, Fetch, Close, Look}
+use Rattle.dsql_work.specs.declared.work.Work.TheVariants as works_of
 use Rattle.dsql_work.specs.Works.{maker, asks, user_of}
 use Rattle.dsql_work.specs.Calls.{word_of, accepted}
 use Rattle.dsql_history.specs.declared.event.Event.{Event}
@@ -114,6 +115,7 @@ abbrev pub reply_at_entry : Bool → Option Rows → Op → Option Reply
 reply_at_entry named_ok rows (ops.Exec text args) = told_of (first_fault named_ok args)
 reply_at_entry named_ok rows (ops.Query label text args) = told_of (first_fault named_ok args)
 reply_at_entry named_ok rows (ops.One dests text args) = told_of (first_fault named_ok args)
+reply_at_entry named_ok rows ops.Ping = None
 reply_at_entry named_ok rows op = rows_reply rows op
 
 -- the rows that an operation is for, once their query has replied
@@ -160,21 +162,22 @@ closing_decision (answers.Fail text) (Some (Cells cells)) = Some (Driver text)
 closing_decision answers.Bad (Some (Cells cells)) = Some (BadConn 1)
 closing_decision answer earlier = earlier
 
--- what closing a cursor decides for a call that was made to close it
-abbrev pub closed_reply : DriverAnswer → Option Reply
-closed_reply answers.Done = Some reply.Ok
-closed_reply answer = reply_to answer
+-- what an answer decides for a call that asks for no more than this: a close of rows, and a ping
+abbrev pub done_reply : DriverAnswer → Option Reply
+done_reply answers.Done = Some reply.Ok
+done_reply answer = reply_to answer
 
 abbrev pub close_decision : Work → DriverAnswer → Option Reply → Option Reply
-close_decision (Close k) answer earlier = closed_reply answer
+close_decision (Close k) answer earlier = done_reply answer
 close_decision work answer earlier = closing_decision answer earlier
 
--- What is decided for a call with so many parameters and this work. An Exec's answer decides, as does a Query's that fails or hands out rows, a fetch, a
+-- What is decided for a call with so many parameters and this work. An Exec's answer decides, as does a Ping's, a Query's that fails or hands out rows, a fetch, a
 -- Prepare that failed, or that tells of another number of inputs, and a Reset answered Bad. A Reset answered Fail is passed over, and neither a CloseStmt nor a
 -- test decides anything.
 abbrev pub decision : ℕ → Work → DriverCall → DriverAnswer → Option Reply → Option Reply
 decision count work (Exec input params) answer earlier = reply_to answer
 decision count work (Query input params) answer earlier = query_decision work answer
+decision count work Ping answer earlier = done_reply answer
 decision count work (Next rows) answer earlier = fetch_decision work answer
 decision count work (CloseRows rows) answer earlier = close_decision work answer earlier
 decision count work (Prepare text) (answers.Prepared handle inputs) earlier = told_of (count_fault inputs count)
@@ -249,6 +252,14 @@ told_of_work before n it = told_by_tries before (tries before n)
 abbrev pub told_by_others : List Event → ℕ → Option Reply
 told_by_others before n = told_of_work before n (work before n)
 
+-- A driver that can't ping is sent no Ping, so a ping is told as it gets its connection.
+abbrev pub told_as_lent : Caps → Work → List Try → Option Reply
+told_as_lent can works_of.Ping (Served ∷ earlier) = cond can.pinger None (Some reply.Ok)
+told_as_lent can work tries = None
+
+abbrev pub told_at_lending : List Event → ℕ → Option Reply
+told_at_lending before n = told_as_lent (caps before) (work before n) (tries before n)
+
 -- what the call is to be replied once nothing more of it is due, where that is settled
 abbrev pub reply_due : List Event → ℕ → Option Reply
-reply_due before n = or_else (decided before n) (told_by_others before n)
+reply_due before n = or_else (or_else (decided before n) (told_by_others before n)) (told_at_lending before n)

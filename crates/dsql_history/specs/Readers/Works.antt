@@ -1,7 +1,7 @@
 -- What each call has to do.
 use Rattle.std.specs.Prelude.{ℕ, Bool, true, false, List, [], ◌∷◌, ◌++◌, slice_index_or}
 use Rattle.dsql_work.specs.declared.work.Work.{Work}
-use Rattle.dsql_work.specs.declared.work.Work.TheVariants.{Execute, ReadOne, HandOut, Fetch, Close, Look}
+use Rattle.dsql_work.specs.declared.work.Work.TheVariants.{Execute, ReadOne, HandOut, Ping, Fetch, Close, Look}
 use Rattle.dsql_work.specs.Works.{maker}
 use Rattle.dsql_history.specs.declared.event.Event.{Event}
 use Rattle.dsql_history.specs.declared.event.Event.TheVariants.{Entered}
@@ -12,6 +12,7 @@ abbrev pub work_of : List Work → Op → Work
 work_of works (ops.Exec text args) = Execute
 work_of works (ops.Query label text args) = HandOut label
 work_of works (ops.One dests text args) = ReadOne dests
+work_of works ops.Ping = Ping
 work_of works (ops.Next rows) = Fetch (maker works rows)
 work_of works (ops.RowsClose rows) = Close (maker works rows)
 work_of works _ = Look
