@@ -41,6 +41,7 @@ is_sent can (due.Handle handle) = true
 is_sent can (due.Next rows) = true
 is_sent can (due.CloseRows rows) = true
 is_sent can (due.CloseStmt handle) = true
+is_sent can due.Ping = true
 is_sent can _ = can.validator
 
 abbrev pub sends_step : Caps → Option Due → Bool

@@ -89,6 +89,7 @@ fn course_of(aim: Aim) -> Course
         Aim::Execute => Course::Exec,
         Aim::ReadOne => Course::One,
         Aim::HandOut => Course::Query,
+        Aim::Ping => Course::Ping,
     }
 }
 
@@ -104,6 +105,7 @@ fn sent_as(caps: Caps, statement: Statement, due: Due) -> Option<DriverCall>
         Due::Next(rows) => Some(DriverCall::Next(rows)),
         Due::CloseRows(rows) => Some(DriverCall::CloseRows(rows)),
         Due::CloseStmt(handle) => Some(DriverCall::CloseStmt(handle)),
+        Due::Ping => Some(DriverCall::Ping),
         _ => test_of(caps),
     }
 }
@@ -114,7 +116,7 @@ fn run_of(aim: Aim, input: Input, params: Params) -> DriverCall
 {
     match aim {
         Aim::Execute => DriverCall::Exec(input, params),
-        Aim::ReadOne | Aim::HandOut => DriverCall::Query(input, params),
+        Aim::ReadOne | Aim::HandOut | Aim::Ping => DriverCall::Query(input, params),
     }
 }
 
@@ -143,7 +145,7 @@ fn is_sent(caps: Caps, due: Due) -> bool
     ensures { result ≡ is_sent caps due }
 {
     match due {
-        Due::Ping | Due::Begin | Due::Rollback | Due::Over => caps.validator,
+        Due::Begin | Due::Rollback | Due::Over => caps.validator,
         _ => true,
     }
 }

@@ -70,6 +70,7 @@ fn step_of(call: &DriverCall) -> Option<Due>
         DriverCall::Next(rows) => Some(Due::Next(*rows)),
         DriverCall::CloseRows(rows) => Some(Due::CloseRows(*rows)),
         DriverCall::CloseStmt(handle) => Some(Due::CloseStmt(*handle)),
+        DriverCall::Ping => Some(Due::Ping),
         _ => None,
     }
 }
