@@ -13,3 +13,5 @@ pub mod DamagedTimes
 pub mod Reports
 pub mod ReportsOfRows
 pub mod DamagedCourse
+pub mod Pings
+pub mod DamagedPings

@@ -33,6 +33,10 @@ run_untested = Run 1 (record { fast_exec = true; fast_query = true; begin_option
 abbrev pub run_preparing : Event
 run_preparing = Run 1 (record { fast_exec = true; fast_query = false; begin_options = false; named = false; pinger = false; resetter = false; validator = false })
 
+-- the driver can test and reset, but it can't ping
+abbrev pub run_pingless : Event
+run_pingless = Run 1 (record all_caps { pinger = false })
+
 abbrev pub text : List ℕ
 text = codes "SET a 1"
 
@@ -104,6 +108,9 @@ scans k n label = scans_into k n label (dests.Any ∷ [])
 
 abbrev pub asks_for_fault : ℕ → ℕ → List ℕ → Event
 asks_for_fault k n label = Entered k n (ops.Err label)
+
+abbrev pub pings : ℕ → ℕ → Event
+pings k n = Entered k n ops.Ping
 
 abbrev pub asks_for_stats : ℕ → ℕ → Event
 asks_for_stats k n = Entered k n ops.Stats

@@ -5,6 +5,7 @@
 pub mod closing;
 pub mod course;
 pub mod limit;
+pub mod pings;
 pub mod reports;
 pub mod rows;
 pub mod steps;
