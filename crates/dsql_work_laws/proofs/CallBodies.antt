@@ -5,7 +5,7 @@ use native.Mathlib.Omega.{arith}
 use Rattle.std.proofs.lemmas.Bool.Decides.{nat_tests}
 use Rattle.dsql_value.specs.declared.value.Param.{Param}
 use Rattle.dsql_driver.specs.declared.call.DriverCall.{DriverCall}
-use Rattle.dsql_driver.specs.declared.call.DriverCall.TheVariants.{Prepare, Exec, Query, Next, CloseRows, CloseStmt}
+use Rattle.dsql_driver.specs.declared.call.DriverCall.TheVariants.{Ping, Valid, Prepare, Exec, Query, Next, CloseRows, CloseStmt}
 use Rattle.dsql_driver.specs.declared.call.Input.TheVariants.{Text, Handle}
 use Rattle.dsql_driver.specs.declared.answer.DriverAnswer.{DriverAnswer}
 use Rattle.dsql_journal.specs.declared.entry.Entry.{Entry}
@@ -18,7 +18,7 @@ use Rattle.dsql_journal.specs.Journal.{may_follow}
 use Rattle.dsql_journal.specs.Facts.{KeepsHandlesAndCursors}
 use Rattle.dsql_journal.proofs.Conjunctions.{parts2}
 use Rattle.dsql_journal.proofs.PlainJournals.{went_bad-in}
-use Rattle.dsql_work_laws.proofs.CallLines.{Step, Start, WasReset, WasSkipped, WasPrepared, HasRows, HasRead, WasRun, step, goes, level, raised, is_before_end, OneHandle, own_cursor, gave, opened, SoFar, sent_entry}
+use Rattle.dsql_work_laws.proofs.CallLines.{Step, Start, WasReset, WasSkipped, WasPrepared, HasRows, HasRead, WasRun, WasDone, step, goes, level, raised, is_before_end, is_new, is_at_work, OneHandle, own_cursor, gave, opened, SoFar, sent_entry}
 use Rattle.dsql_work_laws.proofs.Rows.{same_number}
 use Rattle.dsql_work_laws.proofs.CallSends.{Sends, follows, names_none, names_handle, names_cursor}
 
@@ -83,6 +83,19 @@ work_call (CloseRows rows) h = (refl, refl, refl, refl, refl)
 work_call (CloseStmt handle) h = (refl, refl, refl, refl, refl)
 work_call _ h = absurd cc
 
+-- where it works on its text it didn't ping
+working : (s : Step) (q : DriverCall) → goes s q ≡ true → works q ≡ true → is_at_work s ≡ true
+working WasDone Valid h work = absurd cc
+working WasDone _ h work = absurd cc
+working Start q h work = refl
+working WasReset q h work = refl
+working WasSkipped q h work = refl
+working (WasPrepared handle) q h work = refl
+working (HasRows own rows) q h work = refl
+working (HasRead own rows over) q h work = refl
+working (WasRun handle) q h work = refl
+working _ q h work = absurd cc
+
 -- what is beyond all that was sent
 beyond : (c t n m : ℕ) (q : DriverCall) (a : DriverAnswer) (J : List Entry) → Sends c t n q J → level (step (of_tenure t J)) < place q
     → goes_in_order J (sent_entry c t n m q a) ≡ true
@@ -96,7 +109,7 @@ follows-work c t n m q a J s work own uses fits =
     follows c t n m q a J s k.0 (rw k.1 refl) (rw k.2 refl)
     (λ _. record {
       kind = rw k.3 k.4;
-      ping_alone = rw k.3 (rw so.unpinged refl);
+      ping_alone = rw k.3 (rw (so.unpinged (working (step (of_tenure t J)) q s.next work)) refl);
       order = own.in_order;
       own_cursor = own.cursor;
       own_close = own.close;
@@ -106,6 +119,31 @@ follows-work c t n m q a J s work own uses fits =
       rows_first = own.rows_first;
       no_transaction = refl;
     }) uses fits
+
+-- A Ping is sent first, or after the Reset.
+first_ping : (s : Step) → goes s Ping ≡ true → is_new s ≡ true
+first_ping Start h = refl
+first_ping WasReset h = refl
+first_ping _ h = absurd cc
+
+pub follows-ping : (c t n m : ℕ) (a : DriverAnswer) (J : List Entry) → Sends c t n Ping J → fits_at_its_place J (sent_entry c t n m Ping a) ≡ true
+    → may_follow J (sent_entry c t n m Ping a) ≡ true
+follows-ping c t n m a J s fits =
+    let so = s.so_far in
+    let alone : filter is_body (of_tenure t J) ≡ [] = so.no_body (first_ping (step (of_tenure t J)) s.next) in
+    follows c t n m Ping a J s refl refl refl
+    (λ _. record {
+      kind = refl;
+      ping_alone = rw alone refl;
+      order = rw alone refl;
+      own_cursor = refl;
+      own_close = refl;
+      skip = refl;
+      own_run = refl;
+      not_after_bad = rw (went_bad-in t J s.good.not_bad) refl;
+      rows_first = refl;
+      no_transaction = refl;
+    }) (names_none c t n m Ping a J refl refl) fits
 
 -- A text is run first, or after the Reset.
 low_text : (u : Step) (q : DriverCall) → runs_text q ≡ true → goes u q ≡ true → level u < 1

@@ -2,7 +2,7 @@
 use Rattle.std.proofs.Common.{◌≡◌, ℕ, true, List, [], refl, ◌∙◌}
 use native.Mathlib.Omega.{arith}
 use Rattle.dsql_driver.specs.declared.call.DriverCall.{DriverCall}
-use Rattle.dsql_driver.specs.declared.call.DriverCall.TheVariants.{Reset, Valid, Prepare, Exec, Query, Next, CloseRows, CloseStmt}
+use Rattle.dsql_driver.specs.declared.call.DriverCall.TheVariants.{Reset, Valid, Ping, Prepare, Exec, Query, Next, CloseRows, CloseStmt}
 use Rattle.dsql_driver.specs.declared.call.Input.TheVariants.{Text, Handle}
 use Rattle.dsql_driver.specs.declared.answer.DriverAnswer.{DriverAnswer}
 use Rattle.dsql_journal.specs.declared.entry.Entry.{Entry}
@@ -10,10 +10,10 @@ use Rattle.dsql_journal.specs.Readers.{of_tenure, cursors}
 use Rattle.dsql_journal.specs.HandlesAndCursors.{fits_at_its_place}
 use Rattle.dsql_journal.specs.Journal.{may_follow}
 use Rattle.dsql_journal.proofs.PlainJournals.{is_whole_tenure-plain}
-use Rattle.dsql_work_laws.proofs.CallLines.{Step, Start, WasDone, step, goes, is_sent, Open, sent_entry}
+use Rattle.dsql_work_laws.proofs.CallLines.{Step, Start, WasReset, WasDone, step, goes, is_sent, Open, sent_entry}
 use Rattle.dsql_work_laws.proofs.ServedCalls.{plain_of}
 use Rattle.dsql_work_laws.proofs.CallSends.{Sends, follows, names_none}
-use Rattle.dsql_work_laws.proofs.CallBodies.{follows-text, follows-query, follows-prepare, follows-run, follows-handle, follows-close, follows-next, follows-free}
+use Rattle.dsql_work_laws.proofs.CallBodies.{follows-ping, follows-text, follows-query, follows-prepare, follows-run, follows-handle, follows-close, follows-next, follows-free}
 
 -- where the Reset is due nothing was heard
 first_reset : (s : Step) → goes s Reset ≡ true → s ≡ Start
@@ -29,6 +29,8 @@ may_follow-reset c t n m a J s fits =
 
 -- where the test is due no cursor is live
 closed_at_valid : (t : ℕ) (s : Step) (J L : List Entry) → goes s Valid ≡ true → Open t s (cursors L) → cursors J ≡ cursors L → cursors J ≡ []
+closed_at_valid t Start J L h is same = same ∙ is
+closed_at_valid t WasReset J L h is same = same ∙ is
 closed_at_valid t WasDone J L h is same = same ∙ is
 closed_at_valid t _ J L h is same = absurd cc
 
@@ -45,6 +47,7 @@ pub may_follow-sent : (c t n m : ℕ) (q : DriverCall) (a : DriverAnswer) (J : L
     → fits_at_its_place J (sent_entry c t n m q a) ≡ true → may_follow J (sent_entry c t n m q a) ≡ true
 may_follow-sent c t n m Reset a J s sent fits = may_follow-reset c t n m a J s fits
 may_follow-sent c t n m Valid a J s sent fits = may_follow-valid c t n m a J s fits
+may_follow-sent c t n m Ping a J s sent fits = follows-ping c t n m a J s fits
 may_follow-sent c t n m (Exec (Text text) params) a J s sent fits = follows-text c t n m text params a J s fits
 may_follow-sent c t n m (Exec (Handle handle) params) a J s sent fits = follows-run c t n m handle params a J s fits
 may_follow-sent c t n m (Query (Text text) params) a J s sent fits = follows-query c t n m text params a J s fits

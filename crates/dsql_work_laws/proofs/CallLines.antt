@@ -1,11 +1,11 @@
--- The tenure of a call on the database that executes a text, reads one row or hands out its rows, newest first: how far it has come, and what is known of it.
+-- The tenure of a call on the database that executes a text, reads one row, hands out its rows or pings, newest first: how far it has come, and what is known of it.
 use Rattle.std.proofs.Common.{◌≡◌, ℕ, ◌≤◌, Bool, true, false, not, ◌==◌, ◌&&◌, List, [], ◌∷◌, Option, None, Some, refl, nat_le}
 use Rattle.std.specs.Prelude.{ℤ}
-use Rattle.std.specs.List.{list_all, list_any}
+use Rattle.std.specs.List.{list_all, list_any, filter}
 use native.Mathlib.Omega.{arith}
 use Rattle.std.proofs.lemmas.Bool.Decides.{nat_tests}
 use Rattle.dsql_driver.specs.declared.call.DriverCall.{DriverCall}
-use Rattle.dsql_driver.specs.declared.call.DriverCall.TheVariants.{Reset, Valid, Prepare, Exec, Query, Next, CloseRows, CloseStmt}
+use Rattle.dsql_driver.specs.declared.call.DriverCall.TheVariants.{Reset, Valid, Ping, Prepare, Exec, Query, Next, CloseRows, CloseStmt}
 use Rattle.dsql_driver.specs.declared.call.Input.TheVariants.{Text, Handle}
 use Rattle.dsql_driver.specs.declared.answer.DriverAnswer.{DriverAnswer}
 use Rattle.dsql_driver.specs.declared.answer.DriverAnswer.TheVariants.{Prepared, Cursor, Skip, Bad}
@@ -15,7 +15,7 @@ use Rattle.dsql_journal.specs.declared.entry.Owner.TheVariants.{Call}
 use Rattle.dsql_journal.specs.Kinds.{◌⇒◌, is_number}
 use Rattle.dsql_driver.specs.Kinds.{is_ping, is_prepare, is_valid, is_over, runs_text, given_handle, given_cursor}
 use Rattle.dsql_journal.specs.Readers.{LiveHandle, LiveCursor, handles, cursors}
-use Rattle.dsql_journal.specs.Tenure.{place}
+use Rattle.dsql_journal.specs.Tenure.{is_body, place}
 
 -- How far the tenure of a call has come: nothing was heard; its Reset was; its text was skipped; its Prepare gave this handle; its run gave this cursor, over
 -- a handle of its own or over none; it was fetched from, and is over or not; only its handle is left to be closed; only a test can come; the test was heard;
@@ -51,6 +51,7 @@ freed_after _ = IsOther
 abbrev pub step_after : Step → DriverCall → DriverAnswer → Step
 step_after s call Bad = WasDropped
 step_after s Reset answer = WasReset
+step_after s Ping answer = WasDone
 step_after s (Exec (Text text) params) Skip = WasSkipped
 step_after s (Exec (Text text) params) answer = WasDone
 step_after s (Query (Text text) params) Skip = WasSkipped
@@ -74,9 +75,13 @@ step (e ∷ earlier) = step_after (step earlier) e.call e.answer
 -- what such a call may send there
 abbrev pub goes : Step → DriverCall → Bool
 goes Start Reset = true
+goes Start Ping = true
+goes Start Valid = true
 goes Start (Exec (Text text) params) = true
 goes Start (Query (Text text) params) = true
 goes Start (Prepare text) = true
+goes WasReset Ping = true
+goes WasReset Valid = true
 goes WasReset (Exec (Text text) params) = true
 goes WasReset (Query (Text text) params) = true
 goes WasReset (Prepare text) = true
@@ -96,6 +101,7 @@ goes _ call = false
 abbrev pub is_sent : DriverCall → Bool
 is_sent Reset = true
 is_sent Valid = true
+is_sent Ping = true
 is_sent (Exec input params) = true
 is_sent (Query input params) = true
 is_sent (Prepare text) = true
@@ -123,12 +129,23 @@ is_before_end WasSkipped = true
 is_before_end (WasPrepared handle) = true
 is_before_end _ = false
 
+-- nothing but its Reset was heard
+abbrev pub is_new : Step → Bool
+is_new Start = true
+is_new WasReset = true
+is_new _ = false
+
 -- nothing was tested or dropped
 abbrev pub is_going : Step → Bool
 is_going WasTested = false
 is_going WasDropped = false
 is_going IsOther = false
 is_going _ = true
+
+-- it may still work on its text, so it didn't ping
+abbrev pub is_at_work : Step → Bool
+is_at_work WasDone = false
+is_at_work s = is_going s
 
 abbrev pub own_handle : ℕ → ℕ → ℕ → ℤ → LiveHandle
 own_handle t n handle inputs = record { number = handle; tenure = t; owner = Call n; tx = 0; inputs = inputs }
@@ -190,13 +207,14 @@ Given _ L = Unit {0}
 -- what is known of a tenure that has come so far
 pub record SoFar (t n : ℕ) (s : Step) (L : List Entry) : Type 0 where
   pub leveled : list_all (λ x. nat_le (place x.call) (level s)) L ≡ true
-  pub unpinged : list_any (λ x. is_ping x.call) L ≡ false
+  pub unpinged : is_at_work s ≡ true → list_any (λ x. is_ping x.call) L ≡ false
   pub untested : is_going s ≡ true → list_any (λ x. is_valid x.call) L ≡ false
   pub skipped : is_before_end s ≡ true → list_all (λ x. runs_text x.call ⇒ is_skip x.answer) L ≡ true
   pub given : Given s L
   pub live : Live t n s (handles L)
   pub open_rows : Open t s (cursors L)
   pub first : s ≡ Start → L ≡ []
+  pub no_body : is_new s ≡ true → filter is_body L ≡ []
 
 -- a driver call that call m sends on connection c, which is lent to call n in tenure t, with its answer
 abbrev pub sent_entry : ℕ → ℕ → ℕ → ℕ → DriverCall → DriverAnswer → Entry
@@ -204,7 +222,7 @@ sent_entry c t n m q a = record { conn = c; tenure = t; owner = Call n; call_no 
 
 pub so_far-start : (t n : ℕ) → SoFar t n Start []
 so_far-start t n =
-    record { leveled = refl; unpinged = refl; untested = λ h. refl; skipped = λ h. refl; given = tt; live = refl; open_rows = refl; first = λ h. refl }
+    record { leveled = refl; unpinged = λ h. refl; untested = λ h. refl; skipped = λ h. refl; given = tt; live = refl; open_rows = refl; first = λ h. refl; no_body = λ h. refl }
 
 pub raised : (p q : ℕ) (L : List Entry) → p ≤ q → list_all (λ x. nat_le (place x.call) p) L ≡ true → list_all (λ x. nat_le (place x.call) q) L ≡ true
 raised p q [] h all = refl

@@ -1,10 +1,10 @@
 -- What a call on the database sends next, with its answer: how far its tenure has come then, and that what is known of it stays known.
 use Rattle.std.proofs.Common.{◌≡◌, ℕ, ◌≤◌, Bool, true, false, not, ◌==◌, ◌&&◌, ◌||◌, List, [], ◌∷◌, Option, None, Some, refl, nat_le, length}
 use Rattle.std.specs.Prelude.{ℤ}
-use Rattle.std.specs.List.{list_all, list_any}
+use Rattle.std.specs.List.{list_all, list_any, filter}
 use native.Mathlib.Omega.{arith}
 use Rattle.dsql_driver.specs.declared.call.DriverCall.{DriverCall}
-use Rattle.dsql_driver.specs.declared.call.DriverCall.TheVariants.{Reset, Valid, Prepare, Exec, Query, Next, CloseRows, CloseStmt}
+use Rattle.dsql_driver.specs.declared.call.DriverCall.TheVariants.{Reset, Valid, Ping, Prepare, Exec, Query, Next, CloseRows, CloseStmt}
 use Rattle.dsql_driver.specs.declared.call.Input.TheVariants.{Text, Handle}
 use Rattle.dsql_driver.specs.declared.answer.DriverAnswer.{DriverAnswer}
 use Rattle.dsql_driver.specs.declared.answer.DriverAnswer.TheVariants.{Prepared, Cursor, Skip, Bad}
@@ -14,30 +14,44 @@ use Rattle.dsql_journal.specs.declared.entry.Entry.{Entry}
 use Rattle.dsql_journal.specs.Kinds.{◌⇒◌, is_number}
 use Rattle.dsql_driver.specs.Kinds.{is_ping, is_prepare, is_valid, is_over, runs_text, given_handle, given_cursor}
 use Rattle.dsql_journal.specs.Readers.{LiveHandle, LiveCursor, handles, handles_after, cursors, cursors_after}
-use Rattle.dsql_journal.specs.Tenure.{place}
+use Rattle.dsql_journal.specs.Tenure.{is_body, place}
 use Rattle.dsql_journal.proofs.Conjunctions.{parts2, join2}
-use Rattle.dsql_work_laws.proofs.CallLines.{Step, Start, WasReset, WasSkipped, WasPrepared, HasRows, HasRead, WasRun, WasDone, WasTested, WasDropped, read_after, left_of, freed_after, step_after, goes, is_sent, level, is_before_end, is_going, own_cursor, LiveOwn, Live, Open, gave, opened, GaveOwn, Given, SoFar, sent_entry, raised}
+use Rattle.dsql_work_laws.proofs.CallLines.{Step, Start, WasReset, WasSkipped, WasPrepared, HasRows, HasRead, WasRun, WasDone, WasTested, WasDropped, read_after, left_of, freed_after, step_after, goes, is_sent, level, is_before_end, is_new, is_going, is_at_work, own_cursor, LiveOwn, Live, Open, gave, opened, GaveOwn, Given, SoFar, sent_entry, raised}
 use Rattle.dsql_work_laws.proofs.Rows.{is_itself, same_number}
 
 or_none : (a b : Bool) → a ≡ false → b ≡ false → a || b ≡ false
 or_none a b h k = grind (arith, h, k)
 
 -- what an entry has to keep, so that the tenure is known as before
-so_far-with : (c t n m : ℕ) (s u : Step) (q : DriverCall) (a : DriverAnswer) (L : List Entry) → SoFar t n s L → level s ≤ level u → nat_le (place q) (level u) ≡ true
-    → is_ping q ≡ false → is_going s ≡ true → (is_going u ≡ true → is_valid q ≡ false)
+so_far-more : (c t n m : ℕ) (s u : Step) (q : DriverCall) (a : DriverAnswer) (L : List Entry) → SoFar t n s L → level s ≤ level u → nat_le (place q) (level u) ≡ true
+    → (is_at_work u ≡ true → (is_at_work s ≡ true) × (is_ping q ≡ false)) → is_going s ≡ true → (is_going u ≡ true → is_valid q ≡ false)
     → (is_before_end u ≡ true → (is_before_end s ≡ true) × ((runs_text q ⇒ is_skip a) ≡ true))
-    → Given u (sent_entry c t n m q a ∷ L) → Live t n u (handles (sent_entry c t n m q a ∷ L)) → Open t u (cursors (sent_entry c t n m q a ∷ L)) → (u ≡ Start → ⊥)
-    → SoFar t n u (sent_entry c t n m q a ∷ L)
-so_far-with c t n m s u q a L so rises here no_ping going no_valid no_run given live rows not_first = record {
+    → Given u (sent_entry c t n m q a ∷ L) → Live t n u (handles (sent_entry c t n m q a ∷ L)) → Open t u (cursors (sent_entry c t n m q a ∷ L))
+    → (is_new u ≡ true → (u ≡ Start → ⊥) × (filter is_body (sent_entry c t n m q a ∷ L) ≡ [])) → SoFar t n u (sent_entry c t n m q a ∷ L)
+so_far-more c t n m s u q a L so rises here no_ping going no_valid no_run given live rows new = record {
   leveled = join2 (nat_le (place q) (level u)) (list_all (λ x. nat_le (place x.call) (level u)) L) here (raised (level s) (level u) L rises so.leveled);
-  unpinged = or_none (is_ping q) (list_any (λ x. is_ping x.call) L) no_ping so.unpinged;
+  unpinged = λ h. let both = no_ping h in or_none (is_ping q) (list_any (λ x. is_ping x.call) L) both.1 (so.unpinged both.0);
   untested = λ h. or_none (is_valid q) (list_any (λ x. is_valid x.call) L) (no_valid h) (so.untested going);
   skipped = λ h. let both = no_run h in join2 (runs_text q ⇒ is_skip a) (list_all (λ x. runs_text x.call ⇒ is_skip x.answer) L) both.1 (so.skipped both.0);
   given = given;
   live = live;
   open_rows = rows;
-  first = λ h. absurd (not_first h);
+  first = λ h. let both = new (rw h refl) in absurd (both.0 h);
+  no_body = λ h. let both = new h in both.1;
 }
+
+going_at_work : (s : Step) → is_at_work s ≡ true → is_going s ≡ true
+going_at_work WasDone h = refl
+going_at_work s h = h
+
+-- the same for an entry of its work
+so_far-with : (c t n m : ℕ) (s u : Step) (q : DriverCall) (a : DriverAnswer) (L : List Entry) → SoFar t n s L → level s ≤ level u → nat_le (place q) (level u) ≡ true
+    → is_ping q ≡ false → is_at_work s ≡ true → (is_going u ≡ true → is_valid q ≡ false)
+    → (is_before_end u ≡ true → (is_before_end s ≡ true) × ((runs_text q ⇒ is_skip a) ≡ true))
+    → Given u (sent_entry c t n m q a ∷ L) → Live t n u (handles (sent_entry c t n m q a ∷ L)) → Open t u (cursors (sent_entry c t n m q a ∷ L)) → (is_new u ≡ true → ⊥)
+    → SoFar t n u (sent_entry c t n m q a ∷ L)
+so_far-with c t n m s u q a L so rises here no_ping working no_valid no_run given live rows not_new =
+    so_far-more c t n m s u q a L so rises here (λ h. (working, no_ping)) (going_at_work s working) no_valid no_run given live rows (λ h. absurd (not_new h))
 
 -- before a Prepare there is none
 none_prepared : (handle : ℕ) (L : List Entry) → list_all (λ x. nat_le (place x.call) 1) L ≡ true → list_all (λ x. is_prepare x.call ⇒ is_number (given_handle x.answer) handle) L ≡ true
@@ -52,35 +66,39 @@ none_prepared handle (x ∷ L) h =
     by_call _ k = refl
 
 -- what may be sent is within the order of a call's work
-going_when : (s : Step) (q : DriverCall) → goes s q ≡ true → (is_going s ≡ true) × (is_ping q ≡ false) × (nat_le (place q) 6 ≡ true) × (level s ≤ 6)
-going_when Start Reset h = (refl, refl, refl, omega arith)
-going_when Start (Exec (Text text) params) h = (refl, refl, refl, omega arith)
-going_when Start (Query (Text text) params) h = (refl, refl, refl, omega arith)
-going_when Start (Prepare text) h = (refl, refl, refl, omega arith)
-going_when WasReset (Exec (Text text) params) h = (refl, refl, refl, omega arith)
-going_when WasReset (Query (Text text) params) h = (refl, refl, refl, omega arith)
-going_when WasReset (Prepare text) h = (refl, refl, refl, omega arith)
-going_when WasSkipped (Prepare text) h = (refl, refl, refl, omega arith)
-going_when (WasPrepared handle) (Exec (Handle other) params) h = (refl, refl, refl, omega arith)
-going_when (WasPrepared handle) (Query (Handle other) params) h = (refl, refl, refl, omega arith)
-going_when (WasPrepared handle) (CloseStmt other) h = (refl, refl, refl, omega arith)
-going_when (HasRows own rows) (Next other) h = (refl, refl, refl, omega arith)
-going_when (HasRows own rows) (CloseRows other) h = (refl, refl, refl, omega arith)
-going_when (HasRead own rows false) (Next other) h = (refl, refl, refl, omega arith)
-going_when (HasRead own rows over) (CloseRows other) h = (refl, refl, refl, omega arith)
-going_when (WasRun handle) (CloseStmt other) h = (refl, refl, refl, omega arith)
-going_when WasDone Valid h = (refl, refl, refl, omega arith)
+going_when : (s : Step) (q : DriverCall) → goes s q ≡ true → (is_going s ≡ true) × (nat_le (place q) 6 ≡ true) × (level s ≤ 6)
+going_when Start Reset h = (refl, refl, omega arith)
+going_when Start Ping h = (refl, refl, omega arith)
+going_when Start Valid h = (refl, refl, omega arith)
+going_when Start (Exec (Text text) params) h = (refl, refl, omega arith)
+going_when Start (Query (Text text) params) h = (refl, refl, omega arith)
+going_when Start (Prepare text) h = (refl, refl, omega arith)
+going_when WasReset Ping h = (refl, refl, omega arith)
+going_when WasReset Valid h = (refl, refl, omega arith)
+going_when WasReset (Exec (Text text) params) h = (refl, refl, omega arith)
+going_when WasReset (Query (Text text) params) h = (refl, refl, omega arith)
+going_when WasReset (Prepare text) h = (refl, refl, omega arith)
+going_when WasSkipped (Prepare text) h = (refl, refl, omega arith)
+going_when (WasPrepared handle) (Exec (Handle other) params) h = (refl, refl, omega arith)
+going_when (WasPrepared handle) (Query (Handle other) params) h = (refl, refl, omega arith)
+going_when (WasPrepared handle) (CloseStmt other) h = (refl, refl, omega arith)
+going_when (HasRows own rows) (Next other) h = (refl, refl, omega arith)
+going_when (HasRows own rows) (CloseRows other) h = (refl, refl, omega arith)
+going_when (HasRead own rows false) (Next other) h = (refl, refl, omega arith)
+going_when (HasRead own rows over) (CloseRows other) h = (refl, refl, omega arith)
+going_when (WasRun handle) (CloseStmt other) h = (refl, refl, omega arith)
+going_when WasDone Valid h = (refl, refl, omega arith)
 going_when _ _ h = absurd cc
 
 -- after a Bad nothing more is sent
 dropped : (c t n m : ℕ) (s : Step) (q : DriverCall) (a : DriverAnswer) (L : List Entry) → SoFar t n s L → goes s q ≡ true → SoFar t n WasDropped (sent_entry c t n m q a ∷ L)
 dropped c t n m s q a L so g =
     let k = going_when s q g in
-    so_far-with c t n m s WasDropped q a L so k.3 k.2 k.1 k.0 (λ h. absurd cc) (λ h. absurd cc) tt tt tt (λ h. absurd cc)
+    so_far-more c t n m s WasDropped q a L so k.2 k.1 (λ h. absurd cc) k.0 (λ h. absurd cc) (λ h. absurd cc) tt tt tt (λ h. absurd cc)
 
 -- A text is run first, or after the Reset: what is known then.
 record Early (t n : ℕ) (s : Step) (L : List Entry) : Type 0 where
-  going : is_going s ≡ true
+  going : is_at_work s ≡ true
   before : is_before_end s ≡ true
   low : level s ≤ 0
   live : handles L ≡ []
@@ -135,7 +153,7 @@ query_done c t n m s text params a L so g none =
 
 -- A text is prepared first, after the Reset, or after a skip: what is known then.
 record Unprepared (t n : ℕ) (s : Step) (L : List Entry) : Type 0 where
-  going : is_going s ≡ true
+  going : is_at_work s ≡ true
   before : is_before_end s ≡ true
   low : level s ≤ 1
   live : handles L ≡ []
@@ -239,7 +257,7 @@ record Closes (t n given rows : ℕ) (s : Step) (own : Option ℕ) (L : List Ent
   is : cursors L ≡ own_cursor t given columns over ∷ []
   same_rows : (given == rows) ≡ true
   low : level s ≤ 4
-  going : is_going s ≡ true
+  going : is_at_work s ≡ true
   gave : GaveOwn own L
   live : LiveOwn t n own (handles L)
 
@@ -293,16 +311,30 @@ close_handle c t n m handle (WasRun given) a L so g =
 close_handle c t n m handle _ a L so g = absurd cc
 
 reset_heard : (c t n m : ℕ) (s : Step) (a : DriverAnswer) (L : List Entry) → SoFar t n s L → goes s Reset ≡ true → SoFar t n WasReset (sent_entry c t n m Reset a ∷ L)
-reset_heard c t n m Start a L so g = so_far-with c t n m Start WasReset Reset a L so (omega arith) refl refl refl (λ h. refl) (λ h. (refl, refl)) tt so.live so.open_rows (λ h. absurd cc)
+reset_heard c t n m Start a L so g =
+    so_far-more c t n m Start WasReset Reset a L so (omega arith) refl (λ h. (refl, refl)) refl (λ h. refl) (λ h. (refl, refl)) tt so.live so.open_rows (λ h. (λ k. absurd cc, so.no_body refl))
 reset_heard c t n m _ a L so g = absurd cc
 
 tested : (c t n m : ℕ) (s : Step) (a : DriverAnswer) (L : List Entry) → SoFar t n s L → goes s Valid ≡ true → SoFar t n WasTested (sent_entry c t n m Valid a ∷ L)
-tested c t n m WasDone a L so g = so_far-with c t n m WasDone WasTested Valid a L so (omega arith) refl refl refl (λ h. absurd cc) (λ h. absurd cc) tt so.live so.open_rows (λ h. absurd cc)
+tested c t n m Start a L so g =
+    so_far-more c t n m Start WasTested Valid a L so (omega arith) refl (λ h. absurd cc) refl (λ h. absurd cc) (λ h. absurd cc) tt so.live so.open_rows (λ h. absurd cc)
+tested c t n m WasReset a L so g =
+    so_far-more c t n m WasReset WasTested Valid a L so (omega arith) refl (λ h. absurd cc) refl (λ h. absurd cc) (λ h. absurd cc) tt so.live so.open_rows (λ h. absurd cc)
+tested c t n m WasDone a L so g =
+    so_far-more c t n m WasDone WasTested Valid a L so (omega arith) refl (λ h. absurd cc) refl (λ h. absurd cc) (λ h. absurd cc) tt so.live so.open_rows (λ h. absurd cc)
 tested c t n m _ a L so g = absurd cc
+
+pinged : (c t n m : ℕ) (s : Step) (a : DriverAnswer) (L : List Entry) → SoFar t n s L → goes s Ping ≡ true → SoFar t n WasDone (sent_entry c t n m Ping a ∷ L)
+pinged c t n m Start a L so g =
+    so_far-more c t n m Start WasDone Ping a L so (omega arith) refl (λ h. absurd cc) refl (λ h. refl) (λ h. absurd cc) tt so.live so.open_rows (λ h. absurd cc)
+pinged c t n m WasReset a L so g =
+    so_far-more c t n m WasReset WasDone Ping a L so (omega arith) refl (λ h. absurd cc) refl (λ h. refl) (λ h. absurd cc) tt so.live so.open_rows (λ h. absurd cc)
+pinged c t n m _ a L so g = absurd cc
 
 sent_when : (s : Step) (q : DriverCall) → goes s q ≡ true → is_sent q ≡ true
 sent_when Start Reset h = refl
 sent_when s Valid h = refl
+sent_when s Ping h = refl
 sent_when s (Exec input params) h = refl
 sent_when s (Query input params) h = refl
 sent_when s (Prepare text) h = refl
@@ -337,5 +369,6 @@ so_far-next c t n m s (Query (Handle handle) params) a L so g = query_run c t n 
 so_far-next c t n m s (Next rows) a L so g = reads c t n m rows s a L so g
 so_far-next c t n m s (CloseRows rows) a L so g = frees c t n m rows s a L so g
 so_far-next c t n m s (CloseStmt handle) a L so g = close_handle c t n m handle s a L so g
+so_far-next c t n m s Ping a L so g = pinged c t n m s a L so g
 so_far-next c t n m s Valid a L so g = tested c t n m s a L so g
 so_far-next c t n m s q a L so g = let k = sent_when s q g in absurd cc

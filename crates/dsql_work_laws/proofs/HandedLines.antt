@@ -5,7 +5,7 @@ use Rattle.dsql_value.specs.declared.value.Param.{Param}
 use Rattle.dsql_driver.specs.Fits.{fits_of, is_memory}
 use Rattle.dsql_driver.specs.declared.caps.Caps.{Caps}
 use Rattle.dsql_driver.specs.declared.call.DriverCall.{DriverCall}
-use Rattle.dsql_driver.specs.declared.call.DriverCall.TheVariants.{Reset, Valid, Prepare, Exec, Query, Next, CloseRows, CloseStmt}
+use Rattle.dsql_driver.specs.declared.call.DriverCall.TheVariants.{Reset, Valid, Ping, Prepare, Exec, Query, Next, CloseRows, CloseStmt}
 use Rattle.dsql_driver.specs.declared.call.Input.{Input}
 use Rattle.dsql_driver.specs.declared.call.Input.TheVariants.{Text, Handle}
 use Rattle.dsql_driver.specs.declared.answer.DriverAnswer.{DriverAnswer}
@@ -27,6 +27,7 @@ use Rattle.dsql_work.specs.declared.work.Aim.{Aim}
 use Rattle.dsql_work.specs.declared.work.Aim.TheVariants as aims
 use Rattle.dsql_work.specs.declared.work.Work.{Work}
 use Rattle.dsql_work.specs.declared.work.Work.TheVariants.{Execute, ReadOne, HandOut, Fetch, Close, Look}
+use Rattle.dsql_work.specs.declared.work.Work.TheVariants as works
 use Rattle.dsql_work.specs.Works.{asks}
 use Rattle.dsql_work.specs.HandedOut.{after_fetch, rows_heard}
 use Rattle.dsql_work.specs.Exchanges.{exchanges, got_of, step_of, with_exchange}
@@ -41,6 +42,7 @@ none_some o a h k = cc
 none_handed : (aim : Aim) (made : List Exchange) (rows : ℕ) → own_cursor made ≡ None → handed aim made ≡ Some rows → ⊥
 none_handed aims.Execute made rows h k = cc
 none_handed aims.ReadOne made rows h k = cc
+none_handed aims.Ping made rows h k = cc
 none_handed aims.HandOut made rows h k = none_some (own_cursor made) rows h k
 
 -- What may be sent over rows that are handed out, where this is wanted of them, and where they are over or not.
@@ -89,7 +91,7 @@ handing : (can : Caps) (text : List ℕ) (params : List Param) (w : Wish) (s : S
     → SentOver q w (rows_are_over made)
 handing can text params w Start made q rows h m e d = absurd (none_some (own_cursor made) rows (ap own_cursor m) h)
 handing can text params w WasReset made q rows h m e d = absurd (none_some (own_cursor made) rows (ap own_cursor m) h)
-handing can text params w WasSkipped made q rows h m e d = absurd (none_some (own_cursor made) rows (ap own_cursor m) h)
+handing can text params w WasSkipped made q rows h m e d = absurd (none_some (own_cursor made) rows (ap own_cursor m.0) h)
 handing can text params w (WasPrepared handle) made q rows h m e d = absurd (none_some (own_cursor made) rows m.none h)
 handing can text params w (HasRows own cursor) made q rows h m e d =
     of_open w cursor q (rows_are_over made) m.is_over (rw (sends_open can text params w own cursor (due.Next cursor) made m) at d)
@@ -108,6 +110,7 @@ over_rows : (can : Caps) (text : List ℕ) (params : List Param) (aim : Aim) (w 
     → MadeAt can (asking text params aim) s made → is_ended s ≡ false → is_due (body_after can (asking text params aim) w made) q ≡ true → SentOver q w (rows_are_over made)
 over_rows can text params aims.Execute w s made q rows h m e d = absurd (cc)
 over_rows can text params aims.ReadOne w s made q rows h m e d = absurd (cc)
+over_rows can text params aims.Ping w s made q rows h m e d = absurd (cc)
 over_rows can text params aims.HandOut w s made q rows h m e d = handing can text params w s made q rows h m e d
 
 -- what is due where rows are handed out
@@ -139,7 +142,7 @@ holding_at : (can : Caps) (text : List ℕ) (params : List Param) (s : Step) (ma
     → MadeAt can (asking text params aims.HandOut) s made → is_ended s ≡ false → is_holding s ≡ true
 holding_at can text params Start made rows h over m e = absurd (none_some (own_cursor made) rows (ap own_cursor m) h)
 holding_at can text params WasReset made rows h over m e = absurd (none_some (own_cursor made) rows (ap own_cursor m) h)
-holding_at can text params WasSkipped made rows h over m e = absurd (none_some (own_cursor made) rows (ap own_cursor m) h)
+holding_at can text params WasSkipped made rows h over m e = absurd (none_some (own_cursor made) rows (ap own_cursor m.0) h)
 holding_at can text params (WasPrepared handle) made rows h over m e = absurd (none_some (own_cursor made) rows m.none h)
 holding_at can text params (HasRows own cursor) made rows h over m e = refl
 holding_at can text params (HasRead own cursor false) made rows h over m e = refl
@@ -153,11 +156,13 @@ holding_at can text params IsOther made rows h over m e = absurd m
 holds_going : (can : Caps) (text : List ℕ) (params : List Param) (aim : Aim) (s : Step) (made : List Exchange) → MadeAt can (asking text params aim) s made → is_ended s ≡ false → Holds aim s made
 holds_going can text params aims.Execute s made m e = λ rows h over. absurd cc
 holds_going can text params aims.ReadOne s made m e = λ rows h over. absurd cc
+holds_going can text params aims.Ping s made m e = λ rows h over. absurd cc
 holds_going can text params aims.HandOut s made m e = λ rows h over. holding_at can text params s made rows h over m e
 
 -- the calls that come before there is a cursor
 abbrev pub is_early : DriverCall → Bool
 is_early Reset = true
+is_early Ping = true
 is_early (Exec input params) = true
 is_early (Query input params) = true
 is_early (Prepare text) = true
@@ -166,7 +171,7 @@ is_early _ = false
 none_early : (can : Caps) (asked : Asked) (s : Step) (made : List Exchange) (q : DriverCall) → MadeAt can asked s made → goes s q ≡ true → is_early q ≡ true → own_cursor made ≡ None
 none_early can asked Start made q m g e = ap own_cursor m
 none_early can asked WasReset made q m g e = ap own_cursor m
-none_early can asked WasSkipped made q m g e = ap own_cursor m
+none_early can asked WasSkipped made q m g e = ap own_cursor m.0
 none_early can asked (WasPrepared handle) made q m g e = m.none
 none_early can asked (HasRows own rows) made (Next other) m g e = absurd cc
 none_early can asked (HasRows own rows) made (CloseRows other) m g e = absurd cc
@@ -193,12 +198,15 @@ closed_over can asked _ made handle rows m g h = absurd cc
 
 tested_over : (can : Caps) (text : List ℕ) (params : List Param) (aim : Aim) (s : Step) (made : List Exchange) (rows : ℕ) → MadeAt can (asking text params aim) s made → goes s Valid ≡ true
     → handed aim made ≡ Some rows → rows_are_over made ≡ true
+tested_over can text params aims.HandOut Start made rows m g h = absurd (none_some (own_cursor made) rows (ap own_cursor m) h)
+tested_over can text params aims.HandOut WasReset made rows m g h = absurd (none_some (own_cursor made) rows (ap own_cursor m) h)
 tested_over can text params aims.HandOut WasDone made rows m g h = is_true (rows_are_over made) (λ open_rows. not_done can text params made rows h open_rows (m wishes.Fetch))
 tested_over can text params aims.HandOut (HasRead own cursor false) made rows m g h = absurd cc
 tested_over can text params aims.HandOut (HasRead own cursor true) made rows m g h = absurd cc
 tested_over can text params aims.HandOut _ made rows m g h = absurd cc
 tested_over can text params aims.Execute s made rows m g h = absurd cc
 tested_over can text params aims.ReadOne s made rows m g h = absurd cc
+tested_over can text params aims.Ping s made rows m g h = absurd cc
 
 -- What is known where a call is sent and answered, in a tenure that has come so far: what was made before it and after it, and what is wanted of the rows.
 pub record SentAt (can : Caps) (asked : Asked) (w : Wish) (s : Step) (made : List Exchange) (q : DriverCall) (a : DriverAnswer) : Type 0 where
@@ -213,6 +221,7 @@ pub record SentAt (can : Caps) (asked : Asked) (w : Wish) (s : Step) (made : Lis
 same_handed : (aim : Aim) (x : Exchange) (made : List Exchange) → given_cursor x.1 ≡ None → handed aim (x ∷ made) ≡ handed aim made
 same_handed aims.Execute x made h = refl
 same_handed aims.ReadOne x made h = refl
+same_handed aims.Ping x made h = refl
 same_handed aims.HandOut x made h = rw h refl
 
 dropped_early : (can : Caps) (asked : Asked) (s : Step) (q : DriverCall) (made : List Exchange) (call : Due) (rows : ℕ) → MadeAt can asked s made → goes s q ≡ true → is_early q ≡ true
@@ -223,6 +232,7 @@ dropped_early can asked s q made call rows m g e h =
 none_dropped : (can : Caps) (asked : Asked) (s : Step) (q : DriverCall) (made : List Exchange) → is_sent q ≡ true → goes s q ≡ true → MadeAt can asked s made
     → Holds asked.aim WasDropped (with_exchange (step_of q) Bad made)
 none_dropped can asked s Reset made k g m = λ rows h over. absurd (none_handed asked.aim made rows (none_early can asked s made Reset m g refl) h)
+none_dropped can asked s Ping made k g m = λ rows h over. absurd (dropped_early can asked s Ping made due.Ping rows m g refl h)
 none_dropped can asked s (Exec (Text text) params) made k g m = λ rows h over. absurd (dropped_early can asked s (Exec (Text text) params) made due.Text rows m g refl h)
 none_dropped can asked s (Exec (Handle handle) params) made k g m = λ rows h over. absurd (dropped_early can asked s (Exec (Handle handle) params) made (due.Handle handle) rows m g refl h)
 none_dropped can asked s (Query (Text text) params) made k g m = λ rows h over. absurd (dropped_early can asked s (Query (Text text) params) made due.Text rows m g refl h)
@@ -259,6 +269,7 @@ start_handed : (aim : Aim) → handed aim [] ≡ None
 start_handed aims.Execute = refl
 start_handed aims.ReadOne = refl
 start_handed aims.HandOut = refl
+start_handed aims.Ping = refl
 
 pub hands_first : (aim : Aim) → HandsOut aim true None Start []
 hands_first aim = record {
@@ -390,6 +401,7 @@ pub hands_itself : (can : Caps) (text : List ℕ) (params : List Param) (it : Wo
 hands_itself can text params (HandOut label) w s made q a n R k fetch close x h = hands_query can text params label w s made q a n R fetch close x h
 hands_itself can text params Execute w s made q a n R k fetch close x h = hands_none aims.Execute (rows_of n R) s (step_after s q a) made (with_exchange (step_of q) a made) refl refl h
 hands_itself can text params (ReadOne dests) w s made q a n R k fetch close x h = hands_none aims.ReadOne (rows_of n R) s (step_after s q a) made (with_exchange (step_of q) a made) refl refl h
+hands_itself can text params works.Ping w s made q a n R k fetch close x h = hands_none aims.Ping (rows_of n R) s (step_after s q a) made (with_exchange (step_of q) a made) refl refl h
 hands_itself can text params (Fetch j) w s made q a n R k fetch close x h = absurd cc
 hands_itself can text params (Close j) w s made q a n R k fetch close x h = absurd cc
 hands_itself can text params Look w s made q a n R k fetch close x h = absurd cc
@@ -462,6 +474,7 @@ held_body can text params aims.HandOut w (HasRead own cursor true) made rows h m
 held_body can text params aims.HandOut w s made rows h m holds wanted = absurd cc
 held_body can text params aims.Execute w s made rows h m holds wanted = absurd cc
 held_body can text params aims.ReadOne w s made rows h m holds wanted = absurd cc
+held_body can text params aims.Ping w s made rows h m holds wanted = absurd cc
 
 ended_holding : (s : Step) (q : DriverCall) (a : DriverAnswer) → is_bad a || is_valid q ≡ true → is_holding (step_after s q a) ≡ true → ⊥
 ended_holding s q Bad h holds = cc

@@ -6,7 +6,7 @@ use Rattle.std.proofs.lemmas.Bool.Decides.{nat_tests}
 use Rattle.dsql_driver.specs.Fits.{fits_of, is_memory, is_invalid}
 use Rattle.dsql_driver.specs.declared.caps.Caps.{Caps}
 use Rattle.dsql_driver.specs.declared.call.DriverCall.{DriverCall}
-use Rattle.dsql_driver.specs.declared.call.DriverCall.TheVariants.{Reset, Valid, Prepare, Exec, Query, Next, CloseRows, CloseStmt}
+use Rattle.dsql_driver.specs.declared.call.DriverCall.TheVariants.{Reset, Valid, Ping, Prepare, Exec, Query, Next, CloseRows, CloseStmt}
 use Rattle.dsql_driver.specs.declared.call.Input.TheVariants.{Text, Handle}
 use Rattle.dsql_driver.specs.declared.answer.DriverAnswer.{DriverAnswer}
 use Rattle.dsql_driver.specs.declared.answer.DriverAnswer.TheVariants.{Invalid, Bad}
@@ -41,6 +41,7 @@ is_over (e ∷ earlier) = is_bad e.answer || is_valid e.call
 pub sent_of : (d : Option DriverCall) (call : DriverCall) → is_due d call ≡ true → is_sent call ≡ true
 sent_of (Some Reset) Reset h = refl
 sent_of (Some Valid) Valid h = refl
+sent_of (Some Ping) Ping h = refl
 sent_of (Some (Prepare text)) (Prepare other) h = refl
 sent_of (Some (Exec (Text text) params)) (Exec (Text other) others) h = refl
 sent_of (Some (Exec (Handle handle) params)) (Exec (Handle other) others) h = refl

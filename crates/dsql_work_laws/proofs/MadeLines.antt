@@ -6,7 +6,7 @@ use Rattle.dsql_value.specs.declared.value.Param.{Param}
 use Rattle.dsql_value.specs.Arguments.{count_fault}
 use Rattle.dsql_driver.specs.declared.caps.Caps.{Caps}
 use Rattle.dsql_driver.specs.declared.call.DriverCall.{DriverCall}
-use Rattle.dsql_driver.specs.declared.call.DriverCall.TheVariants.{Reset, Valid, Prepare, Exec, Query, Next, CloseRows, CloseStmt}
+use Rattle.dsql_driver.specs.declared.call.DriverCall.TheVariants.{Reset, Valid, Ping, Prepare, Exec, Query, Next, CloseRows, CloseStmt}
 use Rattle.dsql_driver.specs.declared.call.Input.{Input}
 use Rattle.dsql_driver.specs.declared.call.Input.TheVariants.{Text, Handle}
 use Rattle.dsql_driver.specs.declared.answer.DriverAnswer.{DriverAnswer}
@@ -32,8 +32,14 @@ use Rattle.dsql_work_laws.proofs.CallLines.{Step, Start, WasReset, WasSkipped, W
 abbrev pub next_of : Caps → Asked → List Exchange → Due
 next_of can asked made = comes_next (course_of asked.aim) can (length asked.params) going_on made
 
+-- it has a text
+abbrev pub has_text : Aim → Bool
+has_text aims.Ping = false
+has_text _ = true
+
 -- its handle was prepared, and nothing came since
 pub record MadeHandle (asked : Asked) (handle : ℕ) (made : List Exchange) : Type 0 where
+  pub texts : has_text asked.aim ≡ true
   pub inputs : ℤ
   pub own : own_handle made ≡ Some (handle, inputs)
   pub none : own_cursor made ≡ None
@@ -44,6 +50,7 @@ pub record MadeHandle (asked : Asked) (handle : ℕ) (made : List Exchange) : Ty
 -- its text is queried
 abbrev pub queries_it : Aim → Bool
 queries_it aims.Execute = false
+queries_it aims.Ping = false
 queries_it _ = true
 
 -- where it reads one row itself, what its course sends next
@@ -70,7 +77,7 @@ pub record MadeRun (can : Caps) (asked : Asked) (handle : ℕ) (made : List Exch
 abbrev pub MadeAt : Caps → Asked → Step → List Exchange → Type 0
 MadeAt can asked Start made = made ≡ []
 MadeAt can asked WasReset made = made ≡ []
-MadeAt can asked WasSkipped made = made ≡ (due.Text, got.Skip) ∷ []
+MadeAt can asked WasSkipped made = (made ≡ (due.Text, got.Skip) ∷ []) × (has_text asked.aim ≡ true)
 MadeAt can asked (WasPrepared handle) made = MadeHandle asked handle made
 MadeAt can asked (HasRows own rows) made = MadeRows can asked own rows false (due.Next rows) made
 MadeAt can asked (HasRead own rows over) made = MadeRows can asked own rows over (due.CloseRows rows) made
@@ -120,6 +127,9 @@ ended_by s (CloseStmt handle) a h = refl
 ended_by s Valid a h = absurd cc
 ended_by s q a h = refl
 
+impossible : false ≡ true → ⊥
+impossible h = cc
+
 -- what is asked, with this aim
 abbrev pub asking : List ℕ → List Param → Aim → Asked
 asking text params aim = record { text = text; params = params; aim = aim }
@@ -129,11 +139,12 @@ no_rows : (aim : Aim) (made : List Exchange) → own_cursor made ≡ None → ha
 no_rows aims.Execute made none = refl
 no_rows aims.ReadOne made none = refl
 no_rows aims.HandOut made none = none
+no_rows aims.Ping made none = refl
 
 pub body_before : (can : Caps) (asked : Asked) (w : Wish) (made : List Exchange) → own_cursor made ≡ None → body_after can asked w made ≡ sent_as can asked (next_of can asked made)
 body_before can asked w made none = rw (no_rows asked.aim made none) refl
 
--- An Exec is sent where the text is executed, and a Query elsewhere.
+-- An Exec is sent where the text is executed, and no Query is.
 pub executes : (can : Caps) (asked : Asked) (d : Due) (input : Input) (params : List Param) → is_due (sent_as can asked d) (Exec input params) ≡ true → asked.aim ≡ aims.Execute
 executes can asked d input params h = by_aim asked.aim d h
   where
@@ -149,28 +160,33 @@ executes can asked d input params h = by_aim asked.aim d h
     by_aim _ (due.Next rows) k = absurd cc
     by_aim _ (due.CloseRows rows) k = absurd cc
     by_aim _ (due.CloseStmt handle) k = absurd cc
+    by_aim _ due.Ping k = absurd cc
     by_aim _ _ k = absurd (not_test can.validator k)
 
-pub queries : (can : Caps) (asked : Asked) (d : Due) (input : Input) (params : List Param) → is_due (sent_as can asked d) (Query input params) ≡ true → queries_it asked.aim ≡ true
-queries can asked d input params h = by_aim asked.aim d h
+pub not_queried : (can : Caps) (text : List ℕ) (own : List Param) (d : Due) (input : Input) (params : List Param)
+    → is_due (sent_as can (asking text own aims.Execute) d) (Query input params) ≡ true → ⊥
+not_queried can text own d input params h = by_call d h
   where
     not_test : (b : Bool) → is_due (cond b (Some Valid) None) (Query input params) ≡ true → ⊥
     not_test true k = cc
     not_test false k = cc
 
-    by_aim : (x : Aim) (e : Due) → is_due (sent_as can (asking asked.text asked.params x) e) (Query input params) ≡ true → queries_it x ≡ true
-    by_aim aims.ReadOne e k = refl
-    by_aim aims.HandOut e k = refl
-    by_aim aims.Execute due.Text k = absurd cc
-    by_aim aims.Execute due.Prepare k = absurd cc
-    by_aim aims.Execute (due.Handle handle) k = absurd cc
-    by_aim aims.Execute (due.Next rows) k = absurd cc
-    by_aim aims.Execute (due.CloseRows rows) k = absurd cc
-    by_aim aims.Execute (due.CloseStmt handle) k = absurd cc
-    by_aim aims.Execute _ k = absurd (not_test can.validator k)
+    by_call : (e : Due) → is_due (sent_as can (asking text own aims.Execute) e) (Query input params) ≡ true → ⊥
+    by_call due.Text k = cc
+    by_call due.Prepare k = cc
+    by_call (due.Handle handle) k = cc
+    by_call (due.Next rows) k = cc
+    by_call (due.CloseRows rows) k = cc
+    by_call (due.CloseStmt handle) k = cc
+    by_call due.Ping k = cc
+    by_call _ k = not_test can.validator k
 
--- What comes first: the text where the driver has the fast way, else the Prepare.
-pub first_of : (can : Caps) (text : List ℕ) (params : List Param) (aim : Aim) → next_of can (asking text params aim) [] ≡ cond (has_fast_way (course_of aim) can) due.Text due.Prepare
+-- What comes first: the text where the driver has the fast way, else the Prepare; for a ping the Ping where the driver can, else nothing.
+abbrev pub first_call : Aim → Caps → Due
+first_call aims.Ping can = cond can.pinger due.Ping due.Over
+first_call aim can = cond (has_fast_way (course_of aim) can) due.Text due.Prepare
+
+pub first_of : (can : Caps) (text : List ℕ) (params : List Param) (aim : Aim) → next_of can (asking text params aim) [] ≡ first_call aim can
 first_of can text params aim = by_aim aim
   where
     executing : (b : Bool) → can.fast_exec ≡ b → next_of can (asking text params aims.Execute) [] ≡ cond b due.Text due.Prepare
@@ -185,14 +201,19 @@ first_of can text params aim = by_aim aim
     handing true is = rw is refl
     handing false is = rw is refl
 
-    by_aim : (x : Aim) → next_of can (asking text params x) [] ≡ cond (has_fast_way (course_of x) can) due.Text due.Prepare
+    pinging : (b : Bool) → can.pinger ≡ b → next_of can (asking text params aims.Ping) [] ≡ cond b due.Ping due.Over
+    pinging true is = rw is refl
+    pinging false is = rw is refl
+
+    by_aim : (x : Aim) → next_of can (asking text params x) [] ≡ first_call x can
     by_aim aims.Execute = executing can.fast_exec refl
     by_aim aims.ReadOne = reading can.fast_query refl
     by_aim aims.HandOut = handing can.fast_query refl
+    by_aim aims.Ping = pinging can.pinger refl
 
 -- and after a skip the Prepare
-pub second_of : (can : Caps) (text : List ℕ) (params : List Param) (aim : Aim) → next_of can (asking text params aim) ((due.Text, got.Skip) ∷ []) ≡ due.Prepare
-second_of can text params aim = by_aim aim
+pub second_of : (can : Caps) (text : List ℕ) (params : List Param) (aim : Aim) → has_text aim ≡ true → next_of can (asking text params aim) ((due.Text, got.Skip) ∷ []) ≡ due.Prepare
+second_of can text params aim texts = by_aim aim texts
   where
     executing : (b : Bool) → can.fast_exec ≡ b → next_of can (asking text params aims.Execute) ((due.Text, got.Skip) ∷ []) ≡ due.Prepare
     executing true is = rw is refl
@@ -206,10 +227,11 @@ second_of can text params aim = by_aim aim
     handing true is = rw is refl
     handing false is = rw is refl
 
-    by_aim : (x : Aim) → next_of can (asking text params x) ((due.Text, got.Skip) ∷ []) ≡ due.Prepare
-    by_aim aims.Execute = executing can.fast_exec refl
-    by_aim aims.ReadOne = reading can.fast_query refl
-    by_aim aims.HandOut = handing can.fast_query refl
+    by_aim : (x : Aim) → has_text x ≡ true → next_of can (asking text params x) ((due.Text, got.Skip) ∷ []) ≡ due.Prepare
+    by_aim aims.Execute k = executing can.fast_exec refl
+    by_aim aims.ReadOne k = reading can.fast_query refl
+    by_aim aims.HandOut k = handing can.fast_query refl
+    by_aim aims.Ping k = absurd cc
 
 -- the handle is run where it takes so many parameters, and else closed
 pub then_handle : (can : Caps) (text : List ℕ) (params : List Param) (aim : Aim) (handle : ℕ) (made : List Exchange) (m : MadeHandle (asking text params aim) handle made)
@@ -229,12 +251,13 @@ then_handle can text params aims.HandOut handle made m = by_count (is_none (coun
     by_count : (c : Bool) → is_none (count_fault m.inputs (length params)) ≡ c → next_of can (asking text params aims.HandOut) made ≡ cond c (due.Handle handle) (due.CloseStmt handle)
     by_count true is = rw (m.good, m.left, m.own, m.none, is) refl
     by_count false is = rw (m.good, m.left, m.own, m.none, is) refl
+then_handle can text params aims.Ping handle made m = absurd (impossible m.texts)
 
-goes_test : (can : Caps) (call : DriverCall) → is_due (test_of can) call ≡ true → goes WasDone call ≡ true
+goes_test : (can : Caps) (call : DriverCall) → is_due (test_of can) call ≡ true → (goes Start call ≡ true) × (goes WasReset call ≡ true) × (goes WasDone call ≡ true)
 goes_test can call h = by_can can.validator call h
   where
-    by_can : (b : Bool) (q : DriverCall) → is_due (cond b (Some Valid) None) q ≡ true → goes WasDone q ≡ true
-    by_can true Valid k = refl
+    by_can : (b : Bool) (q : DriverCall) → is_due (cond b (Some Valid) None) q ≡ true → (goes Start q ≡ true) × (goes WasReset q ≡ true) × (goes WasDone q ≡ true)
+    by_can true Valid k = (refl, refl, refl)
     by_can true _ k = absurd cc
     by_can false q k = absurd cc
 
@@ -250,6 +273,10 @@ goes_run asked text call h = by_aim asked.aim call h
 goes_prepare : (text : List ℕ) (call : DriverCall) → is_due (Some (Prepare text)) call ≡ true → (goes Start call ≡ true) × (goes WasReset call ≡ true) × (goes WasSkipped call ≡ true)
 goes_prepare text (Prepare other) h = (refl, refl, refl)
 goes_prepare text _ h = absurd cc
+
+goes_ping : (call : DriverCall) → is_due (Some Ping) call ≡ true → (goes Start call ≡ true) × (goes WasReset call ≡ true)
+goes_ping Ping h = (refl, refl)
+goes_ping _ h = absurd cc
 
 goes_handle : (asked : Asked) (handle : ℕ) (call : DriverCall) → is_due (Some (run_of asked (Handle handle))) call ≡ true → goes (WasPrepared handle) call ≡ true
 goes_handle asked handle call h = by_aim asked.aim call h
@@ -278,16 +305,26 @@ goes_free own rows (CloseRows other) h = (h, λ over. by_over over)
 goes_free own rows _ h = absurd cc
 
 first_goes : (can : Caps) (asked : Asked) (w : Wish) (call : DriverCall) → is_due (body_after can asked w []) call ≡ true → (goes Start call ≡ true) × (goes WasReset call ≡ true)
-first_goes can asked w call h = by_fast (has_fast_way (course_of asked.aim) can) (rw (body_before can asked w [] refl, first_of can asked.text asked.params asked.aim) at h)
+first_goes can asked w call h = by_aim asked.aim (rw (body_before can asked w [] refl, first_of can asked.text asked.params asked.aim) at h)
   where
     by_fast : (b : Bool) → is_due (sent_as can asked (cond b due.Text due.Prepare)) call ≡ true → (goes Start call ≡ true) × (goes WasReset call ≡ true)
     by_fast true k = goes_run asked asked.text call k
     by_fast false k = let g = goes_prepare asked.text call k in (g.0, g.1)
 
-second_goes : (can : Caps) (asked : Asked) (w : Wish) (call : DriverCall) → is_due (body_after can asked w ((due.Text, got.Skip) ∷ [])) call ≡ true → goes WasSkipped call ≡ true
-second_goes can asked w call h =
+    by_ping : (b : Bool) → is_due (sent_as can asked (cond b due.Ping due.Over)) call ≡ true → (goes Start call ≡ true) × (goes WasReset call ≡ true)
+    by_ping true k = goes_ping call k
+    by_ping false k = let g = goes_test can call k in (g.0, g.1)
+
+    by_aim : (x : Aim) → is_due (sent_as can asked (first_call x can)) call ≡ true → (goes Start call ≡ true) × (goes WasReset call ≡ true)
+    by_aim aims.Ping k = by_ping can.pinger k
+    by_aim aims.Execute k = by_fast (has_fast_way courses.Exec can) k
+    by_aim aims.ReadOne k = by_fast (has_fast_way courses.One can) k
+    by_aim aims.HandOut k = by_fast (has_fast_way courses.Query can) k
+
+second_goes : (can : Caps) (asked : Asked) (w : Wish) (call : DriverCall) → has_text asked.aim ≡ true → is_due (body_after can asked w ((due.Text, got.Skip) ∷ [])) call ≡ true → goes WasSkipped call ≡ true
+second_goes can asked w call texts h =
     let k : is_due (sent_as can asked due.Prepare) call ≡ true =
-    rw (body_before can asked w ((due.Text, got.Skip) ∷ []) refl, second_of can asked.text asked.params asked.aim) at h in
+    rw (body_before can asked w ((due.Text, got.Skip) ∷ []) refl, second_of can asked.text asked.params asked.aim texts) at h in
     let g = goes_prepare asked.text call k in g.2
 
 handle_goes : (can : Caps) (asked : Asked) (w : Wish) (handle : ℕ) (made : List Exchange) (call : DriverCall) → MadeHandle asked handle made → is_due (body_after can asked w made) call ≡ true
@@ -322,18 +359,17 @@ open_goes wishes.Nothing own rows call h = absurd cc
 open_goes wishes.Fetch own rows call h = goes_next own rows call h
 open_goes wishes.Close own rows call h = let g = goes_free own rows call h in (g.0, g.1 false)
 
-impossible : false ≡ true → ⊥
-impossible h = cc
-
 rows_go : (can : Caps) (text : List ℕ) (params : List Param) (aim : Aim) (w : Wish) (own : Option ℕ) (rows : ℕ) (made : List Exchange) (call : DriverCall)
     → MadeRows can (asking text params aim) own rows false (due.Next rows) made → is_due (body_after can (asking text params aim) w made) call ≡ true → goes (HasRows own rows) call ≡ true
 rows_go can text params aims.Execute w own rows made call m h = absurd (impossible m.reads)
+rows_go can text params aims.Ping w own rows made call m h = absurd (impossible m.reads)
 rows_go can text params aims.ReadOne w own rows made call m h = let g = goes_next own rows call (rw m.sends at h) in g.0
 rows_go can text params aims.HandOut w own rows made call m h = let g = open_goes w own rows call (rw (sends_open can text params w own rows (due.Next rows) made m) at h) in g.0
 
 read_go : (can : Caps) (text : List ℕ) (params : List Param) (aim : Aim) (w : Wish) (own : Option ℕ) (rows : ℕ) (over : Bool) (made : List Exchange) (call : DriverCall)
     → MadeRows can (asking text params aim) own rows over (due.CloseRows rows) made → is_due (body_after can (asking text params aim) w made) call ≡ true → goes (HasRead own rows over) call ≡ true
 read_go can text params aims.Execute w own rows over made call m h = absurd (impossible m.reads)
+read_go can text params aims.Ping w own rows over made call m h = absurd (impossible m.reads)
 read_go can text params aims.ReadOne w own rows over made call m h = let g = goes_free own rows call (rw m.sends at h) in g.1 over
 read_go can text params aims.HandOut w own rows true made call m h = let g = goes_free own rows call (rw (sends_over can text params w own rows (due.CloseRows rows) made m) at h) in g.1 true
 read_go can text params aims.HandOut w own rows false made call m h =
@@ -343,12 +379,12 @@ pub goes_body : (can : Caps) (asked : Asked) (w : Wish) (s : Step) (made : List 
     → is_due (body_after can asked w made) call ≡ true → goes s call ≡ true
 goes_body can asked w Start made call e m h = let g = first_goes can asked w call (rw m at h) in g.0
 goes_body can asked w WasReset made call e m h = let g = first_goes can asked w call (rw m at h) in g.1
-goes_body can asked w WasSkipped made call e m h = second_goes can asked w call (rw m at h)
+goes_body can asked w WasSkipped made call e m h = second_goes can asked w call m.1 (rw m.0 at h)
 goes_body can asked w (WasPrepared handle) made call e m h = handle_goes can asked w handle made call m h
 goes_body can asked w (HasRows own rows) made call e m h = rows_go can asked.text asked.params asked.aim w own rows made call m h
 goes_body can asked w (HasRead own rows over) made call e m h = read_go can asked.text asked.params asked.aim w own rows over made call m h
 goes_body can asked w (WasRun handle) made call e m h = let g = goes_close handle call (rw (m.sends w) at h) in g.1
-goes_body can asked w WasDone made call e m h = goes_test can call (rw (m w) at h)
+goes_body can asked w WasDone made call e m h = let g = goes_test can call (rw (m w) at h) in g.2
 goes_body can asked w WasTested made call e m h = absurd cc
 goes_body can asked w WasDropped made call e m h = absurd cc
 goes_body can asked w IsOther made call e m h = absurd m
@@ -379,12 +415,14 @@ open_left can text params w own rows it made m h k = sent_or_kept w rows (rw (se
 rows_left : (can : Caps) (text : List ℕ) (params : List Param) (aim : Aim) (w : Wish) (own : Option ℕ) (rows : ℕ) (made : List Exchange)
     → MadeRows can (asking text params aim) own rows false (due.Next rows) made → is_none (body_after can (asking text params aim) w made) ≡ true → keeps_rows aim w made ≡ false → ⊥
 rows_left can text params aims.Execute w own rows made m h k = impossible m.reads
+rows_left can text params aims.Ping w own rows made m h k = impossible m.reads
 rows_left can text params aims.ReadOne w own rows made m h k = let n = rw m.sends at h in cc
 rows_left can text params aims.HandOut w own rows made m h k = open_left can text params w own rows (due.Next rows) made m h k
 
 read_left : (can : Caps) (text : List ℕ) (params : List Param) (aim : Aim) (w : Wish) (own : Option ℕ) (rows : ℕ) (over : Bool) (made : List Exchange)
     → MadeRows can (asking text params aim) own rows over (due.CloseRows rows) made → is_none (body_after can (asking text params aim) w made) ≡ true → keeps_rows aim w made ≡ false → ⊥
 read_left can text params aims.Execute w own rows over made m h k = impossible m.reads
+read_left can text params aims.Ping w own rows over made m h k = impossible m.reads
 read_left can text params aims.ReadOne w own rows over made m h k = let n = rw m.sends at h in cc
 read_left can text params aims.HandOut w own rows true made m h k = let n = rw (sends_over can text params w own rows (due.CloseRows rows) made m) at h in cc
 read_left can text params aims.HandOut w own rows false made m h k = open_left can text params w own rows (due.CloseRows rows) made m h k

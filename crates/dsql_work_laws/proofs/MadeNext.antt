@@ -1,11 +1,11 @@
 -- What was exchanged with one driver call more.
-use Rattle.std.proofs.Common.{◌≡◌, ℕ, ℤ, Bool, true, false, cond, not, ◌&&◌, if◌then◌else◌, List, [], ◌∷◌, length, Option, Some, None, refl, ap, ◌∙◌}
+use Rattle.std.proofs.Common.{◌≡◌, ℕ, ℤ, Bool, true, false, cond, not, ◌&&◌, ◌||◌, if◌then◌else◌, List, [], ◌∷◌, length, Option, Some, None, refl, ap, ◌∙◌}
 use Rattle.std.specs.Prelude.{option_map}
 use Rattle.dsql_value.specs.declared.value.Param.{Param}
 use Rattle.dsql_driver.specs.Fits.{fits_of, is_memory}
 use Rattle.dsql_driver.specs.declared.caps.Caps.{Caps}
 use Rattle.dsql_driver.specs.declared.call.DriverCall.{DriverCall}
-use Rattle.dsql_driver.specs.declared.call.DriverCall.TheVariants.{Reset, Valid, Prepare, Exec, Query, Next, CloseRows, CloseStmt}
+use Rattle.dsql_driver.specs.declared.call.DriverCall.TheVariants.{Reset, Valid, Ping, Prepare, Exec, Query, Next, CloseRows, CloseStmt}
 use Rattle.dsql_driver.specs.declared.call.Input.TheVariants.{Text, Handle}
 use Rattle.dsql_driver.specs.declared.answer.DriverAnswer.{DriverAnswer}
 use Rattle.dsql_driver.specs.declared.answer.DriverAnswer.TheVariants.{Done, Prepared, Result, Cursor, Row, End, Skip, Bad, Fail}
@@ -17,13 +17,13 @@ use Rattle.dsql_course.specs.declared.call.Got.TheVariants as got
 use Rattle.dsql_course.specs.Made.{Exchange, is_bad as is_bad_got, given_handle, given_cursor, went_bad, own_handle, own_cursor, rows_are_over, has_fast_way}
 use Rattle.dsql_course.specs.Rows.{closing_next}
 use Rattle.dsql_course.proofs.Handed.{rows_are_closed}
-use Rattle.dsql_driver.specs.Kinds.{is_bad, is_over}
+use Rattle.dsql_driver.specs.Kinds.{is_bad, is_valid, is_ping, is_over}
 use Rattle.dsql_work.specs.Exchanges.{step_of, got_of, with_exchange}
 use Rattle.dsql_work.specs.declared.work.Aim.{Aim}
 use Rattle.dsql_work.specs.declared.work.Aim.TheVariants as aims
 use Rattle.dsql_work.specs.Line.{Asked, course_of, sent_as, test_of, handed, body_after, is_due}
 use Rattle.dsql_work_laws.proofs.CallLines.{Step, Start, WasReset, WasSkipped, WasPrepared, HasRows, HasRead, WasRun, WasDone, step_after, freed_after, left_of, goes}
-use Rattle.dsql_work_laws.proofs.MadeLines.{next_of, asking, MadeHandle, MadeRows, MadeRun, MadeAt, SendsRow, is_ended, body_before, executes, queries, first_of, goes_body}
+use Rattle.dsql_work_laws.proofs.MadeLines.{next_of, asking, has_text, MadeHandle, MadeRows, MadeRun, MadeAt, SendsRow, is_ended, body_before, executes, not_queried, first_call, first_of, goes_body}
 use Rattle.dsql_work_laws.proofs.Rows.{same_number}
 
 impossible : false ≡ true → ⊥
@@ -32,18 +32,46 @@ impossible h = cc
 never : true ≡ false → ⊥
 never h = cc
 
--- what queries its text executes nothing
+-- what queries its text executes nothing, and neither does a ping
 not_executed : aims.ReadOne ≡ aims.Execute → ⊥
 not_executed h = cc
 
 not_handed : aims.HandOut ≡ aims.Execute → ⊥
 not_handed h = cc
 
+not_pinged : aims.Ping ≡ aims.Execute → ⊥
+not_pinged h = cc
+
+-- What comes first is a Ping or a test where there is no text.
+first_has_text : (can : Caps) (text : List ℕ) (params : List Param) (aim : Aim) (w : Wish) (q : DriverCall) → is_ping q || is_valid q ≡ false
+    → is_due (body_after can (asking text params aim) w []) q ≡ true → has_text aim ≡ true
+first_has_text can text params aims.Execute w q other h = refl
+first_has_text can text params aims.ReadOne w q other h = refl
+first_has_text can text params aims.HandOut w q other h = refl
+first_has_text can text params aims.Ping w q other h =
+    by_can can.pinger q other (rw (body_before can (asking text params aims.Ping) w [] refl, first_of can text params aims.Ping) at h)
+  where
+    not_test : (b : Bool) (r : DriverCall) → is_ping r || is_valid r ≡ false → is_due (cond b (Some Valid) None) r ≡ true → ⊥
+    not_test true Valid o k = cc
+    not_test true _ o k = cc
+    not_test false r o k = cc
+
+    by_can : (b : Bool) (r : DriverCall) → is_ping r || is_valid r ≡ false → is_due (sent_as can (asking text params aims.Ping) (cond b due.Ping due.Over)) r ≡ true → false ≡ true
+    by_can true Ping o k = absurd cc
+    by_can true _ o k = absurd cc
+    by_can false r o k = absurd (not_test can.validator r o k)
+
 -- A text is run at once only where the driver has the fast way.
-has_fast : (can : Caps) (text : List ℕ) (params : List Param) (aim : Aim) (w : Wish) (q : DriverCall) → ((t : List ℕ) → is_due (Some (Prepare t)) q ≡ false)
+text_first : (can : Caps) (aim : Aim) → has_text aim ≡ true → first_call aim can ≡ cond (has_fast_way (course_of aim) can) due.Text due.Prepare
+text_first can aims.Execute h = refl
+text_first can aims.ReadOne h = refl
+text_first can aims.HandOut h = refl
+text_first can aims.Ping h = absurd cc
+
+has_fast : (can : Caps) (text : List ℕ) (params : List Param) (aim : Aim) (w : Wish) (q : DriverCall) → has_text aim ≡ true → ((t : List ℕ) → is_due (Some (Prepare t)) q ≡ false)
     → is_due (body_after can (asking text params aim) w []) q ≡ true → has_fast_way (course_of aim) can ≡ true
-has_fast can text params aim w q not_prepare h =
-    by_fast (has_fast_way (course_of aim) can) (rw (body_before can (asking text params aim) w [] refl, first_of can text params aim) at h)
+has_fast can text params aim w q texts not_prepare h =
+    by_fast (has_fast_way (course_of aim) can) (rw (body_before can (asking text params aim) w [] refl, first_of can text params aim, text_first can aim texts) at h)
   where
     by_fast : (b : Bool) → is_due (sent_as can (asking text params aim) (cond b due.Text due.Prepare)) q ≡ true → b ≡ true
     by_fast true k = refl
@@ -54,11 +82,13 @@ text_executed : (can : Caps) (text : List ℕ) (params : List Param) (aim : Aim)
     → MadeAt can (asking text params aim) (step_after s (Exec (Text t) ps) a) ((due.Text, got_of a) ∷ [])
 text_executed can text params aims.ReadOne w s t ps a h fit =
     let k = executes can (asking text params aims.ReadOne) (next_of can (asking text params aims.ReadOne) []) (Text t) ps h in absurd (not_executed k)
+text_executed can text params aims.Ping w s t ps a h fit =
+    let k = executes can (asking text params aims.Ping) (next_of can (asking text params aims.Ping) []) (Text t) ps h in absurd (not_pinged k)
 text_executed can text params aims.HandOut w s t ps a h fit =
     let k = executes can (asking text params aims.HandOut) (next_of can (asking text params aims.HandOut) []) (Text t) ps h in absurd (not_handed k)
-text_executed can text params aims.Execute w s t ps (Result last affected) h fit = λ it. rw (has_fast can text params aims.Execute w (Exec (Text t) ps) (λ x. refl) h) refl
-text_executed can text params aims.Execute w s t ps (Fail why) h fit = λ it. rw (has_fast can text params aims.Execute w (Exec (Text t) ps) (λ x. refl) h) refl
-text_executed can text params aims.Execute w s t ps Skip h fit = refl
+text_executed can text params aims.Execute w s t ps (Result last affected) h fit = λ it. rw (has_fast can text params aims.Execute w (Exec (Text t) ps) refl (λ x. refl) h) refl
+text_executed can text params aims.Execute w s t ps (Fail why) h fit = λ it. rw (has_fast can text params aims.Execute w (Exec (Text t) ps) refl (λ x. refl) h) refl
+text_executed can text params aims.Execute w s t ps Skip h fit = (refl, refl)
 text_executed can text params aims.Execute w s t ps Bad h fit = tt
 text_executed can text params aims.Execute w s t ps _ h fit = absurd (impossible fit)
 
@@ -69,8 +99,8 @@ text_gave_rows can args rows = let laws = rows_are_closed in laws.cursor can arg
 text_queried : (can : Caps) (text : List ℕ) (params : List Param) (aim : Aim) (w : Wish) (s : Step) (t : List ℕ) (ps : List Param) (a : DriverAnswer)
     → is_due (body_after can (asking text params aim) w []) (Query (Text t) ps) ≡ true → (fits_of (Query (Text t) ps) a && not (is_memory a)) ≡ true
     → MadeAt can (asking text params aim) (step_after s (Query (Text t) ps) a) ((due.Text, got_of a) ∷ [])
-text_queried can text params aims.Execute w s t ps a h fit =
-    let k = queries can (asking text params aims.Execute) (next_of can (asking text params aims.Execute) []) (Text t) ps h in absurd (impossible k)
+text_queried can text params aims.Execute w s t ps a h fit = absurd (not_queried can text params (next_of can (asking text params aims.Execute) []) (Text t) ps h)
+text_queried can text params aims.Ping w s t ps a h fit = absurd (impossible (first_has_text can text params aims.Ping w (Query (Text t) ps) refl h))
 text_queried can text params aims.ReadOne w s t ps (Cursor rows columns) h fit = record {
   reads = refl;
   handle = refl;
@@ -78,29 +108,30 @@ text_queried can text params aims.ReadOne w s t ps (Cursor rows columns) h fit =
   good = refl;
   is_over = refl;
   closing = text_gave_rows can (length params) rows;
-  sends = rw (has_fast can text params aims.ReadOne w (Query (Text t) ps) (λ x. refl) h) refl;
+  sends = rw (has_fast can text params aims.ReadOne w (Query (Text t) ps) refl (λ x. refl) h) refl;
 }
 text_queried can text params aims.HandOut w s t ps (Cursor rows columns) h fit =
     record { reads = refl; handle = refl; cursor = refl; good = refl; is_over = refl; closing = text_gave_rows can (length params) rows; sends = tt }
-text_queried can text params aims.ReadOne w s t ps (Fail why) h fit = λ it. rw (has_fast can text params aims.ReadOne w (Query (Text t) ps) (λ x. refl) h) refl
-text_queried can text params aims.HandOut w s t ps (Fail why) h fit = λ it. rw (has_fast can text params aims.HandOut w (Query (Text t) ps) (λ x. refl) h) refl
-text_queried can text params aims.ReadOne w s t ps Skip h fit = refl
-text_queried can text params aims.HandOut w s t ps Skip h fit = refl
+text_queried can text params aims.ReadOne w s t ps (Fail why) h fit = λ it. rw (has_fast can text params aims.ReadOne w (Query (Text t) ps) refl (λ x. refl) h) refl
+text_queried can text params aims.HandOut w s t ps (Fail why) h fit = λ it. rw (has_fast can text params aims.HandOut w (Query (Text t) ps) refl (λ x. refl) h) refl
+text_queried can text params aims.ReadOne w s t ps Skip h fit = (refl, refl)
+text_queried can text params aims.HandOut w s t ps Skip h fit = (refl, refl)
 text_queried can text params aims.ReadOne w s t ps Bad h fit = tt
 text_queried can text params aims.HandOut w s t ps Bad h fit = tt
 text_queried can text params aims.ReadOne w s t ps _ h fit = absurd (impossible fit)
 text_queried can text params aims.HandOut w s t ps _ h fit = absurd (impossible fit)
 
 -- the text was prepared where nothing was given before
-prepared_next : (can : Caps) (text : List ℕ) (params : List Param) (aim : Aim) (s : Step) (t : List ℕ) (a : DriverAnswer) (made : List Exchange) → own_handle made ≡ None → own_cursor made ≡ None
+prepared_next : (can : Caps) (text : List ℕ) (params : List Param) (aim : Aim) (s : Step) (t : List ℕ) (a : DriverAnswer) (made : List Exchange) → has_text aim ≡ true → own_handle made ≡ None → own_cursor made ≡ None
     → went_bad made ≡ false → rows_are_over made ≡ false → (fits_of (Prepare t) a && not (is_memory a)) ≡ true
     → MadeAt can (asking text params aim) (step_after s (Prepare t) a) ((due.Prepare, got_of a) ∷ made)
-prepared_next can text params aim s t (Prepared handle inputs) made own none good unread fit = record { inputs = inputs; own = refl; none = none; good = good; unread = unread; left = refl }
-prepared_next can text params aims.Execute s t (Fail why) made own none good unread fit = λ it. rw (good, own) refl
-prepared_next can text params aims.ReadOne s t (Fail why) made own none good unread fit = λ it. rw (good, own, none) refl
-prepared_next can text params aims.HandOut s t (Fail why) made own none good unread fit = λ it. rw (none, good, own, none) refl
-prepared_next can text params aim s t Bad made own none good unread fit = tt
-prepared_next can text params aim s t _ made own none good unread fit = absurd (impossible fit)
+prepared_next can text params aim s t (Prepared handle inputs) made texts own none good unread fit = record { texts = texts; inputs = inputs; own = refl; none = none; good = good; unread = unread; left = refl }
+prepared_next can text params aims.Execute s t (Fail why) made texts own none good unread fit = λ it. rw (good, own) refl
+prepared_next can text params aims.ReadOne s t (Fail why) made texts own none good unread fit = λ it. rw (good, own, none) refl
+prepared_next can text params aims.Ping s t (Fail why) made texts own none good unread fit = absurd (impossible texts)
+prepared_next can text params aims.HandOut s t (Fail why) made texts own none good unread fit = λ it. rw (none, good, own, none) refl
+prepared_next can text params aim s t Bad made texts own none good unread fit = tt
+prepared_next can text params aim s t _ made texts own none good unread fit = absurd (impossible fit)
 
 -- what is due over a handle
 handle_due : (can : Caps) (asked : Asked) (w : Wish) (handle : ℕ) (q : DriverCall) (made : List Exchange) → MadeHandle asked handle made → is_due (body_after can asked w made) q ≡ true
@@ -115,6 +146,7 @@ handle_executed : (can : Caps) (text : List ℕ) (params : List Param) (aim : Ai
     → (fits_of (Exec (Handle handle) ps) a && not (is_memory a)) ≡ true → MadeAt can (asking text params aim) (step_after s (Exec (Handle handle) ps) a) ((due.Handle handle, got_of a) ∷ made)
 handle_executed can text params aims.ReadOne w s handle ps a made m h fit =
     let k = executes can (asking text params aims.ReadOne) (next_of can (asking text params aims.ReadOne) made) (Handle handle) ps h in absurd (not_executed k)
+handle_executed can text params aims.Ping w s handle ps a made m h fit = absurd (impossible m.texts)
 handle_executed can text params aims.HandOut w s handle ps a made m h fit =
     let k = executes can (asking text params aims.HandOut) (next_of can (asking text params aims.HandOut) made) (Handle handle) ps
     (handle_due can (asking text params aims.HandOut) w handle (Exec (Handle handle) ps) made m h) in absurd (not_handed k)
@@ -130,8 +162,8 @@ handle_gave_rows can args handle rows made good = let laws = rows_are_closed in 
 handle_queried : (can : Caps) (text : List ℕ) (params : List Param) (aim : Aim) (w : Wish) (s : Step) (handle : ℕ) (ps : List Param) (a : DriverAnswer) (made : List Exchange)
     → MadeHandle (asking text params aim) handle made → is_due (body_after can (asking text params aim) w made) (Query (Handle handle) ps) ≡ true
     → (fits_of (Query (Handle handle) ps) a && not (is_memory a)) ≡ true → MadeAt can (asking text params aim) (step_after s (Query (Handle handle) ps) a) ((due.Handle handle, got_of a) ∷ made)
-handle_queried can text params aims.Execute w s handle ps a made m h fit =
-    let k = queries can (asking text params aims.Execute) (next_of can (asking text params aims.Execute) made) (Handle handle) ps h in absurd (impossible k)
+handle_queried can text params aims.Execute w s handle ps a made m h fit = absurd (not_queried can text params (next_of can (asking text params aims.Execute) made) (Handle handle) ps h)
+handle_queried can text params aims.Ping w s handle ps a made m h fit = absurd (impossible m.texts)
 handle_queried can text params aims.ReadOne w s handle ps (Cursor rows columns) made m h fit = record {
   reads = refl;
   handle = rw m.own refl;
@@ -177,6 +209,7 @@ then_close : (can : Caps) (params : List Param) (aim : Aim) (rows : ℕ) (answer
     → SendsRow aim can (length params) ((due.Next rows, answer) ∷ made) (due.CloseRows rows)
 then_close can params aims.Execute rows answer made n good cursor = tt
 then_close can params aims.ReadOne rows answer made n good cursor = rw (n.good, good, n.cursor, cursor) refl
+then_close can params aims.Ping rows answer made n good cursor = tt
 then_close can params aims.HandOut rows answer made n good cursor = tt
 
 -- a fetch leaves its cursor, which is over where there was no row
@@ -245,6 +278,7 @@ none_left (Some p) h = absurd cc
 handle_left : (can : Caps) (text : List ℕ) (params : List Param) (aim : Aim) (handle rows : ℕ) (over : Bool) (it : Due) (answer : Got) (made : List Exchange)
     → MadeRows can (asking text params aim) (Some handle) rows over it made → GaveNothing answer → MadeRun can (asking text params aim) handle ((due.CloseRows rows, answer) ∷ made)
 handle_left can text params aims.Execute handle rows over it answer made m n = absurd (impossible m.reads)
+handle_left can text params aims.Ping handle rows over it answer made m n = absurd (impossible m.reads)
 handle_left can text params aims.ReadOne handle rows over it answer made m n =
     record { sends = λ w. rw (n.good, n.handle, m.good, closing (own_handle made) handle m.handle) refl; is_over = λ r is. absurd cc }
 handle_left can text params aims.HandOut handle rows over it answer made m n =
@@ -258,6 +292,7 @@ handle_left can text params aims.HandOut handle rows over it answer made m n =
 nothing_left : (can : Caps) (text : List ℕ) (params : List Param) (aim : Aim) (rows : ℕ) (over : Bool) (it : Due) (answer : Got) (made : List Exchange)
     → MadeRows can (asking text params aim) None rows over it made → GaveNothing answer → (w : Wish) → body_after can (asking text params aim) w ((due.CloseRows rows, answer) ∷ made) ≡ test_of can
 nothing_left can text params aims.Execute rows over it answer made m n w = absurd (impossible m.reads)
+nothing_left can text params aims.Ping rows over it answer made m n w = absurd (impossible m.reads)
 nothing_left can text params aims.ReadOne rows over it answer made m n w = rw (n.good, n.handle, m.good, none_left (own_handle made) m.handle) refl
 nothing_left can text params aims.HandOut rows over it answer made m n w =
     let laws = rows_are_closed in
@@ -300,6 +335,8 @@ closed_over can text params aims.Execute handle answer made n ends w =
     ap (sent_as can (asking text params aims.Execute)) (over_either_way (went_bad ((due.CloseStmt handle, answer) ∷ made)))
 closed_over can text params aims.ReadOne handle answer made n ends w =
     ap (sent_as can (asking text params aims.ReadOne)) (over_either_way (went_bad ((due.CloseStmt handle, answer) ∷ made)))
+closed_over can text params aims.Ping handle answer made n ends w =
+    ap (sent_as can (asking text params aims.Ping)) (over_either_way (went_bad ((due.CloseStmt handle, answer) ∷ made)))
 closed_over can text params aims.HandOut handle answer made n ends w = handed_closed can text params w handle answer made (own_cursor made) refl n ends
 
 handle_closed : (can : Caps) (text : List ℕ) (params : List Param) (aim : Aim) (s : Step) (handle : ℕ) (a : DriverAnswer) (made : List Exchange) → (fits_of (CloseStmt handle) a && not (is_memory a)) ≡ true
@@ -313,7 +350,23 @@ handle_closed can text params aim s handle _ made fit ends = absurd (impossible 
 none_handed : (aim : Aim) (made : List Exchange) → own_cursor made ≡ None → (rows : ℕ) → handed aim made ≡ Some rows → rows_are_over made ≡ true
 none_handed aims.Execute made none rows is = absurd cc
 none_handed aims.ReadOne made none rows is = absurd cc
+none_handed aims.Ping made none rows is = absurd cc
 none_handed aims.HandOut made none rows is = absurd (no_cursor made rows none is)
+
+-- behind a Ping nothing comes
+over_behind : (can : Caps) (text : List ℕ) (params : List Param) (aim : Aim) (answer : Got) → GaveNothing answer → (w : Wish)
+    → body_after can (asking text params aim) w ((due.Ping, answer) ∷ []) ≡ test_of can
+over_behind can text params aims.Execute answer n w = rw n.good refl
+over_behind can text params aims.ReadOne answer n w = rw n.good refl
+over_behind can text params aims.Ping answer n w = rw n.good refl
+over_behind can text params aims.HandOut answer n w = rw (n.cursor, n.good) refl
+
+pinged_next : (can : Caps) (text : List ℕ) (params : List Param) (aim : Aim) (s : Step) (a : DriverAnswer) → (fits_of Ping a && not (is_memory a)) ≡ true
+    → MadeAt can (asking text params aim) (step_after s Ping a) ((due.Ping, got_of a) ∷ [])
+pinged_next can text params aim s Done fit = over_behind can text params aim got.Done gave_nothing.0
+pinged_next can text params aim s (Fail why) fit = over_behind can text params aim got.Fail gave_nothing.3
+pinged_next can text params aim s Bad fit = tt
+pinged_next can text params aim s _ fit = absurd (impossible fit)
 
 -- what a call of the body leaves, by what it is
 body_next : (can : Caps) (text : List ℕ) (params : List Param) (aim : Aim) (w : Wish) (s : Step) (q : DriverCall) (a : DriverAnswer) (made : List Exchange) → MadeAt can (asking text params aim) s made
@@ -323,9 +376,11 @@ body_next can text params aim w Start (Exec (Text t) ps) a made m h g fit = rw m
 body_next can text params aim w WasReset (Exec (Text t) ps) a made m h g fit = rw m (text_executed can text params aim w WasReset t ps a (rw m at h) fit)
 body_next can text params aim w Start (Query (Text t) ps) a made m h g fit = rw m (text_queried can text params aim w Start t ps a (rw m at h) fit)
 body_next can text params aim w WasReset (Query (Text t) ps) a made m h g fit = rw m (text_queried can text params aim w WasReset t ps a (rw m at h) fit)
-body_next can text params aim w Start (Prepare t) a made m h g fit = prepared_next can text params aim Start t a made (rw m refl) (rw m refl) (rw m refl) (rw m refl) fit
-body_next can text params aim w WasReset (Prepare t) a made m h g fit = prepared_next can text params aim WasReset t a made (rw m refl) (rw m refl) (rw m refl) (rw m refl) fit
-body_next can text params aim w WasSkipped (Prepare t) a made m h g fit = prepared_next can text params aim WasSkipped t a made (rw m refl) (rw m refl) (rw m refl) (rw m refl) fit
+body_next can text params aim w Start (Prepare t) a made m h g fit =
+    prepared_next can text params aim Start t a made (first_has_text can text params aim w (Prepare t) refl (rw m at h)) (rw m refl) (rw m refl) (rw m refl) (rw m refl) fit
+body_next can text params aim w WasReset (Prepare t) a made m h g fit =
+    prepared_next can text params aim WasReset t a made (first_has_text can text params aim w (Prepare t) refl (rw m at h)) (rw m refl) (rw m refl) (rw m refl) (rw m refl) fit
+body_next can text params aim w WasSkipped (Prepare t) a made m h g fit = prepared_next can text params aim WasSkipped t a made m.1 (rw m.0 refl) (rw m.0 refl) (rw m.0 refl) (rw m.0 refl) fit
 body_next can text params aim w (WasPrepared given) (Exec (Handle handle) ps) a made m h g fit =
     let is : given ≡ handle = same_number given handle g in
     handle_executed can text params aim w (WasPrepared given) handle ps a made (rw is at m) h fit
@@ -349,6 +404,12 @@ body_next can text params aim w (HasRead own given true) (CloseRows rows) a made
 body_next can text params aim w (HasRead own given false) (CloseRows rows) a made m h g fit =
     let is : given ≡ rows = same_number given rows g in
     rw is (rows_freed can text params aim (HasRead own rows false) own rows false (due.CloseRows rows) a made refl (rw is at m) fit)
+body_next can text params aim w Start Ping a made m h g fit = rw m (pinged_next can text params aim Start a fit)
+body_next can text params aim w WasReset Ping a made m h g fit = rw m (pinged_next can text params aim WasReset a fit)
+body_next can text params aim w Start Valid Bad made m h g fit = tt
+body_next can text params aim w Start Valid a made m h g fit = tt
+body_next can text params aim w WasReset Valid Bad made m h g fit = tt
+body_next can text params aim w WasReset Valid a made m h g fit = tt
 body_next can text params aim w WasDone Valid Bad made m h g fit = tt
 body_next can text params aim w WasDone Valid a made m h g fit = tt
 body_next can text params aim w Start Reset Bad made m h g fit = tt

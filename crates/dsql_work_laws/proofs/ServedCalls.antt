@@ -4,7 +4,7 @@ use Rattle.std.specs.List.{list_all, filter}
 use native.Mathlib.Omega.{arith}
 use Rattle.std.proofs.lemmas.Bool.Decides.{nat_tests}
 use Rattle.dsql_driver.specs.declared.call.DriverCall.{DriverCall}
-use Rattle.dsql_driver.specs.declared.call.DriverCall.TheVariants.{Reset, Valid, Prepare, Exec, Query, Next, CloseRows, CloseStmt, Shut}
+use Rattle.dsql_driver.specs.declared.call.DriverCall.TheVariants.{Reset, Valid, Ping, Prepare, Exec, Query, Next, CloseRows, CloseStmt, Shut}
 use Rattle.dsql_driver.specs.Fits.{fits_of, is_memory}
 use Rattle.dsql_driver.specs.declared.answer.DriverAnswer.{DriverAnswer}
 use Rattle.dsql_driver.specs.declared.answer.DriverAnswer.TheVariants.{Prepared}
@@ -65,6 +65,7 @@ served_with c t n m q a J s refused shut begin = record {
 pub served_sent : (c t n m : ℕ) (q : DriverCall) (a : DriverAnswer) (J : List Entry) → Served c J → is_sent q ≡ true → Served c (sent_entry c t n m q a ∷ J)
 served_sent c t n m Reset a J s sent = served_with c t n m Reset a J s refl refl refl
 served_sent c t n m Valid a J s sent = served_with c t n m Valid a J s refl refl refl
+served_sent c t n m Ping a J s sent = served_with c t n m Ping a J s refl refl refl
 served_sent c t n m (Exec input params) a J s sent = served_with c t n m (Exec input params) a J s refl refl refl
 served_sent c t n m (Query input params) a J s sent = served_with c t n m (Query input params) a J s refl refl refl
 served_sent c t n m (Prepare text) a J s sent = served_with c t n m (Prepare text) a J s refl refl refl
