@@ -30,7 +30,7 @@ use Rattle.dsql_pool.specs.Rest.{AtRest}
 use Rattle.dsql_pool.proofs.Rows.{all_filter}
 use Rattle.dsql_history.specs.declared.event.Event.{Event}
 use Rattle.dsql_history.specs.declared.event.Event.TheVariants.{Run, Entered, Heard, Pool, Waits, Ticked, SetLimit, Replied, Ended}
-use Rattle.dsql_history.specs.declared.event.Op.TheVariants.{Exec, Query, One, Next, Scan, RowsClose, Err, DbClose, Stats}
+use Rattle.dsql_history.specs.declared.event.Op.TheVariants.{Exec, Query, One, Next, Scan, RowsClose, Err, Ping, DbClose, Stats}
 use Rattle.dsql_history.specs.declared.event.Control.{Control}
 use Rattle.dsql_history.specs.declared.event.Setting.TheVariants.{MaxOpen, MaxIdle, MaxLife, MaxIdleTime}
 use Rattle.dsql_history.specs.declared.event.Control.TheVariants.{Tick, Set}
@@ -71,6 +71,7 @@ own_requests (Entered client n (Next rows) ∷ H) = own_requests H
 own_requests (Entered client n (Scan rows dests) ∷ H) = own_requests H
 own_requests (Entered client n (RowsClose rows) ∷ H) = own_requests H
 own_requests (Entered client n (Err rows) ∷ H) = own_requests H
+own_requests (Entered client n Ping ∷ H) = own_requests H
 own_requests (Entered client n Stats ∷ H) = own_requests H
 own_requests (Heard e ∷ H) = own_requests H
 own_requests (Pool (OpenStart c n) ∷ H) = own_requests H
@@ -197,6 +198,7 @@ able (Entered client n (Next rows) ∷ H) l = refl
 able (Entered client n (Scan rows dests) ∷ H) l = refl
 able (Entered client n (RowsClose rows) ∷ H) l = refl
 able (Entered client n (Err rows) ∷ H) l = refl
+able (Entered client n Ping ∷ H) l = refl
 able (Entered client n Stats ∷ H) l = refl
 able (Heard e ∷ H) l = heard_able H e (place H e.conn) l refl
 able (Pool m ∷ H) l = move_able H m (owed H) (keeps_of H (Pool m) l.1) refl (owed_own H) (able H l.0)

@@ -25,7 +25,7 @@ use Rattle.dsql_pool.proofs.Resting.{asked_rests}
 use Rattle.dsql_work.specs.Works as works
 use Rattle.dsql_history.specs.declared.event.Event.{Event}
 use Rattle.dsql_history.specs.declared.event.Event.TheVariants.{Run, Entered, Heard, Pool, Waits, Ticked, SetLimit, Replied, Ended}
-use Rattle.dsql_history.specs.declared.event.Op.TheVariants.{Exec, Query, One, Next, Scan, RowsClose, Err as Fault, DbClose, Stats}
+use Rattle.dsql_history.specs.declared.event.Op.TheVariants.{Exec, Query, One, Next, Scan, RowsClose, Err as Fault, Ping, DbClose, Stats}
 use Rattle.dsql_history.specs.declared.event.Control.{Control}
 use Rattle.dsql_history.specs.declared.event.Setting.TheVariants.{MaxOpen, MaxIdle, MaxLife, MaxIdleTime}
 use Rattle.dsql_history.specs.declared.event.Control.TheVariants.{Tick, Set}
@@ -184,6 +184,7 @@ rested (Entered client n (Next rows) ∷ H) l = before_event H (Entered client n
 rested (Entered client n (Scan rows dests) ∷ H) l = before_event H (Entered client n (Scan rows dests)) refl l.1 (rested H l.0)
 rested (Entered client n (RowsClose rows) ∷ H) l = before_event H (Entered client n (RowsClose rows)) refl l.1 (rested H l.0)
 rested (Entered client n (Fault rows) ∷ H) l = before_event H (Entered client n (Fault rows)) refl l.1 (rested H l.0)
+rested (Entered client n Ping ∷ H) l = before_event H (Entered client n Ping) refl l.1 (rested H l.0)
 rested (Entered client n Stats ∷ H) l = before_event H (Entered client n Stats) refl l.1 (rested H l.0)
 rested (Heard e ∷ H) l = answered_rests e.answer e.conn (pool H) (place H e.conn) refl (before_event H (Heard e) refl l.1 (rested H l.0))
 rested (Pool m ∷ H) l = move_rests H m (owed H) l.0 (keeps_of H (Pool m) l.1) refl (owed_own H) (rested H l.0)

@@ -28,7 +28,7 @@ use Rattle.dsql_pool.specs.Calls.{then_openings, moves_opened, moves_failed, ope
 use Rattle.dsql_pool.proofs.Frees.{passing}
 use Rattle.dsql_history.specs.declared.event.Event.{Event}
 use Rattle.dsql_history.specs.declared.event.Event.TheVariants.{Run, Entered, Heard, Pool, Waits, Ticked, SetLimit, Replied, Ended}
-use Rattle.dsql_history.specs.declared.event.Op.TheVariants.{Exec, Query, One, Next, Scan, RowsClose, Err, DbClose, Stats}
+use Rattle.dsql_history.specs.declared.event.Op.TheVariants.{Exec, Query, One, Next, Scan, RowsClose, Err, Ping, DbClose, Stats}
 use Rattle.dsql_history.specs.declared.event.Control.{Control}
 use Rattle.dsql_history.specs.declared.event.Setting.TheVariants.{MaxOpen, MaxIdle, MaxLife, MaxIdleTime}
 use Rattle.dsql_history.specs.declared.event.Control.TheVariants.{Tick, Set}
@@ -189,6 +189,7 @@ deserved (Entered client n (Next rows) ∷ H) l = tt
 deserved (Entered client n (Scan rows dests) ∷ H) l = tt
 deserved (Entered client n (RowsClose rows) ∷ H) l = tt
 deserved (Entered client n (Err rows) ∷ H) l = tt
+deserved (Entered client n Ping ∷ H) l = tt
 deserved (Entered client n Stats ∷ H) l = tt
 deserved (Heard e ∷ H) l = answered_deserved e.answer e.conn (pool H) (place H e.conn)
 deserved (Pool m ∷ H) l = move_deserved H m (owed H) (keeps_of H (Pool m) l.1) refl (owed_own H) (deserved H l.0)

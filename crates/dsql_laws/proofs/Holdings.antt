@@ -20,7 +20,7 @@ use Rattle.dsql_pool.proofs.Frees.{count-more}
 use Rattle.dsql_work.specs.Works as works
 use Rattle.dsql_history.specs.declared.event.Event.{Event}
 use Rattle.dsql_history.specs.declared.event.Event.TheVariants.{Run, Entered, Heard, Pool, Waits, Ticked, SetLimit, Replied, Ended}
-use Rattle.dsql_history.specs.declared.event.Op.TheVariants.{Exec, Query, One, Next, Scan, RowsClose, Err, DbClose, Stats}
+use Rattle.dsql_history.specs.declared.event.Op.TheVariants.{Exec, Query, One, Next, Scan, RowsClose, Err, Ping, DbClose, Stats}
 use Rattle.dsql_history.specs.declared.event.Control.{Control}
 use Rattle.dsql_history.specs.declared.event.Setting.TheVariants.{MaxOpen, MaxIdle, MaxLife, MaxIdleTime}
 use Rattle.dsql_history.specs.declared.event.Control.TheVariants.{Tick, Set}
@@ -207,6 +207,7 @@ one_at_most (Entered client m (Next rows) ∷ H) n l some = one_at_most H n l.0 
 one_at_most (Entered client m (Scan rows dests) ∷ H) n l some = one_at_most H n l.0 some
 one_at_most (Entered client m (RowsClose rows) ∷ H) n l some = one_at_most H n l.0 some
 one_at_most (Entered client m (Err rows) ∷ H) n l some = one_at_most H n l.0 some
+one_at_most (Entered client m Ping ∷ H) n l some = one_at_most H n l.0 some
 one_at_most (Entered client m Stats ∷ H) n l some = one_at_most H n l.0 some
 one_at_most (Heard e ∷ H) n l some = one_at_most H n l.0 some
 one_at_most (Pool (OpenStart c k) ∷ H) n l some = opens_one H c k n l.0 (keeps_of H (Pool (OpenStart c k)) l.1) some (one_at_most H n l.0 some)

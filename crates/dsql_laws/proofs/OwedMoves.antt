@@ -20,7 +20,7 @@ use Rattle.dsql_pool.specs.Decisions.{closings_of_setting, falls_to, openings, d
 use Rattle.dsql_pool.specs.Calls.{then_openings, moves_opened, moves_failed, open_set, idle_set, lifetime_set, idle_time_set}
 use Rattle.dsql_history.specs.declared.event.Event.{Event}
 use Rattle.dsql_history.specs.declared.event.Event.TheVariants.{Run, Entered, Heard, Pool, Waits, Ticked, SetLimit, Replied, Ended}
-use Rattle.dsql_history.specs.declared.event.Op.TheVariants.{Exec, Query, One, Next, Scan, RowsClose, Err, DbClose, Stats}
+use Rattle.dsql_history.specs.declared.event.Op.TheVariants.{Exec, Query, One, Next, Scan, RowsClose, Err, Ping, DbClose, Stats}
 use Rattle.dsql_history.specs.declared.event.Control.{Control}
 use Rattle.dsql_history.specs.declared.event.Setting.TheVariants.{MaxOpen, MaxIdle, MaxLife, MaxIdleTime}
 use Rattle.dsql_history.specs.declared.event.Control.TheVariants.{Tick, Set}
@@ -129,6 +129,7 @@ owed_own (Entered client n (Next rows) ∷ H) = refl
 owed_own (Entered client n (Scan rows dests) ∷ H) = refl
 owed_own (Entered client n (RowsClose rows) ∷ H) = refl
 owed_own (Entered client n (Err rows) ∷ H) = refl
+owed_own (Entered client n Ping ∷ H) = refl
 owed_own (Entered client n Stats ∷ H) = refl
 owed_own (Heard e ∷ H) = answered_own e.answer e.conn (pool H) (place H e.conn)
 owed_own (Pool m ∷ H) = left_own H m (owed H) (owed_own H)

@@ -13,7 +13,7 @@ use Rattle.dsql_pool.specs.Moved.{shut}
 use Rattle.dsql_pool.proofs.Frees.{count-more}
 use Rattle.dsql_history.specs.declared.event.Event.{Event}
 use Rattle.dsql_history.specs.declared.event.Event.TheVariants.{Run, Entered, Heard, Pool, Waits, Ticked, SetLimit, Replied, Ended}
-use Rattle.dsql_history.specs.declared.event.Op.TheVariants.{Exec, Query, One, Next, Scan, RowsClose, Err, DbClose, Stats}
+use Rattle.dsql_history.specs.declared.event.Op.TheVariants.{Exec, Query, One, Next, Scan, RowsClose, Err, Ping, DbClose, Stats}
 use Rattle.dsql_history.specs.declared.event.Control.{Control}
 use Rattle.dsql_history.specs.declared.event.Setting.TheVariants.{MaxOpen, MaxIdle, MaxLife, MaxIdleTime}
 use Rattle.dsql_history.specs.declared.event.Control.TheVariants.{Tick, Set}
@@ -86,6 +86,7 @@ lent_tried (Entered client m (Next rows) ∷ H) n l = lent_tried H n l.0
 lent_tried (Entered client m (Scan rows dests) ∷ H) n l = lent_tried H n l.0
 lent_tried (Entered client m (RowsClose rows) ∷ H) n l = lent_tried H n l.0
 lent_tried (Entered client m (Err rows) ∷ H) n l = lent_tried H n l.0
+lent_tried (Entered client m Ping ∷ H) n l = lent_tried H n l.0
 lent_tried (Entered client m Stats ∷ H) n l = lent_tried H n l.0
 lent_tried (Heard e ∷ H) n l = lent_tried H n l.0
 lent_tried (Pool (OpenStart c m) ∷ H) n l = let rest = lent_tried H n l.0 in let same = begun_same n (next_number (pool H)) (wanted_by m) (pool H).conns in omega (arith, rest, same)

@@ -20,11 +20,11 @@ use Rattle.dsql_pool.specs.Moved.{begun, joined, shut}
 use Rattle.dsql_pool.specs.Calls.{wants, moves_asked}
 use Rattle.dsql_pool.proofs.Frees.{passing, count-more, count-cons}
 use Rattle.dsql_work.specs.declared.work.Work.{Work}
-use Rattle.dsql_work.specs.declared.work.Work.TheVariants.{Execute, ReadOne, HandOut, Fetch, Close, Look}
+use Rattle.dsql_work.specs.declared.work.Work.TheVariants.{Execute, ReadOne, HandOut, Ping as Pings, Fetch, Close, Look}
 use Rattle.dsql_work.specs.Works.{asks}
 use Rattle.dsql_history.specs.declared.event.Event.{Event}
 use Rattle.dsql_history.specs.declared.event.Event.TheVariants.{Run, Entered, Heard, Pool, Waits, Ticked, SetLimit, Replied, Ended}
-use Rattle.dsql_history.specs.declared.event.Op.TheVariants.{Exec, Query, One, Next, Scan, RowsClose, Err, DbClose, Stats}
+use Rattle.dsql_history.specs.declared.event.Op.TheVariants.{Exec, Query, One, Next, Scan, RowsClose, Err, Ping, DbClose, Stats}
 use Rattle.dsql_history.specs.declared.event.Control.{Control}
 use Rattle.dsql_history.specs.declared.event.Setting.TheVariants.{MaxOpen, MaxIdle, MaxLife, MaxIdleTime}
 use Rattle.dsql_history.specs.declared.event.Control.TheVariants.{Tick, Set}
@@ -145,6 +145,7 @@ wanting_works (Entered client m (Next rows) ∷ H) n l some now = same_work (wor
 wanting_works (Entered client m (Scan rows dests) ∷ H) n l some now = same_work (works H) (work_of (works H) (Scan rows dests)) n (wanting_works H n l.0 some now)
 wanting_works (Entered client m (RowsClose rows) ∷ H) n l some now = same_work (works H) (work_of (works H) (RowsClose rows)) n (wanting_works H n l.0 some now)
 wanting_works (Entered client m (Err rows) ∷ H) n l some now = same_work (works H) (work_of (works H) (Err rows)) n (wanting_works H n l.0 some now)
+wanting_works (Entered client m Ping ∷ H) n l some now = same_work (works H) (work_of (works H) Ping) n (wanting_works H n l.0 some now)
 wanting_works (Entered client m Stats ∷ H) n l some now = same_work (works H) (work_of (works H) Stats) n (wanting_works H n l.0 some now)
 wanting_works (Heard e ∷ H) n l some now = wanting_works H n l.0 some now
 wanting_works (Pool (OpenStart c k) ∷ H) n l some now = opens_for H c k n l.1 some (wanting_works H n l.0 some) now
@@ -254,6 +255,7 @@ sends_in : (H : List Event) (n : ℕ) (w : Work) → work H n ≡ w → Lawful H
 sends_in H n Execute is l some h = none_wanted n (pool H) (own_line H n l some h)
 sends_in H n (ReadOne dests) is l some h = none_wanted n (pool H) (own_line H n l some h)
 sends_in H n (HandOut label) is l some h = none_wanted n (pool H) (own_line H n l some h)
+sends_in H n Pings is l some h = none_wanted n (pool H) (own_line H n l some h)
 sends_in H n (Fetch k) is l some h = of_another H n l some (ap asks is)
 sends_in H n (Close k) is l some h = of_another H n l some (ap asks is)
 sends_in H n Look is l some h = absurd cc
