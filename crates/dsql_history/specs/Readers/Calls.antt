@@ -1,5 +1,5 @@
 -- The calls of a history.
-use Rattle.std.specs.Prelude.{ℕ, ◌==◌, Bool, true, false, cond, List, [], ◌∷◌, ◌++◌, length, slice_set, slice_index_or, Option, Some, None, option_map, if◌then◌else◌, Ok, Err}
+use Rattle.std.specs.Prelude.{ℕ, ◌==◌, ◌||◌, Bool, true, false, cond, codes, List, [], ◌∷◌, ◌++◌, length, slice_set, slice_index_or, Option, Some, None, option_map, if◌then◌else◌, Ok, Err}
 use Rattle.std.specs.List.{list_any}
 use Rattle.dsql_value.specs.declared.arg.Named.{Named}
 use Rattle.dsql_value.specs.declared.arg.ArgFault.{ArgFault}
@@ -126,10 +126,15 @@ rows_for before op = cond (is_unfinished before (maker (works before) (label_of 
 abbrev pub closed_to : List Event → Op → Option Reply
 closed_to before op = cond (asks (work_of (works before) op)) (option_map DbClosed (db_end before)) None
 
--- What a call is told as it enters, if anything: that the database is closed, where it would ask for a connection, or else what its arguments or its rows give. A close of the database and a question for its statistics are told at once.
+-- A driver that can neither ping nor test a connection is sent nothing for a ping, so a ping is refused.
+abbrev pub ping_refused : Caps → Option Reply
+ping_refused can = cond (can.pinger || can.validator) None (Some (Driver (codes "the driver can neither ping nor test a connection")))
+
+-- What a call is told as it enters, if anything: that the database is closed, where it would ask for a connection, or else what its arguments or its rows give, or what the driver can't do. A close of the database and a question for its statistics are told at once.
 abbrev pub told_at_entry : List Event → Op → Option Reply
 told_at_entry before ops.DbClose = Some reply.Ok
 told_at_entry before ops.Stats = Some (reply.Stats (stats (pool before)))
+told_at_entry before ops.Ping = or_else (closed_to before ops.Ping) (ping_refused (caps before))
 told_at_entry before op = or_else (closed_to before op) (reply_at_entry (caps before).named (rows_for before op) op)
 
 -- the parameters that its arguments become, where none is refused
