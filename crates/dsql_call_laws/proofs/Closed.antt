@@ -24,7 +24,7 @@ use Rattle.dsql_pool.proofs.Frees.{passing}
 use Rattle.dsql_pool.proofs.Rows.{all_filter}
 use Rattle.dsql_history.specs.declared.event.Event.{Event}
 use Rattle.dsql_history.specs.declared.event.Event.TheVariants.{Run, Entered, Heard, Pool, Waits, Ticked, SetLimit, Replied, Ended}
-use Rattle.dsql_history.specs.declared.event.Op.TheVariants.{Exec, Query, One, Next, Scan, RowsClose, Err as Fault, DbClose, Stats}
+use Rattle.dsql_history.specs.declared.event.Op.TheVariants.{Exec, Query, One, Next, Scan, RowsClose, Err as Fault, Ping, DbClose, Stats}
 use Rattle.dsql_history.specs.declared.event.Control.{Control}
 use Rattle.dsql_history.specs.declared.event.Setting.TheVariants.{MaxOpen, MaxIdle, MaxLife, MaxIdleTime}
 use Rattle.dsql_history.specs.declared.event.Control.TheVariants.{Tick, Set}
@@ -133,6 +133,7 @@ closed_shut (Entered client m (Next rows) ∷ H) l h = closed_shut H l.0 h
 closed_shut (Entered client m (Scan rows dests) ∷ H) l h = closed_shut H l.0 h
 closed_shut (Entered client m (RowsClose rows) ∷ H) l h = closed_shut H l.0 h
 closed_shut (Entered client m (Fault rows) ∷ H) l h = closed_shut H l.0 h
+closed_shut (Entered client m Ping ∷ H) l h = closed_shut H l.0 h
 closed_shut (Entered client m Stats ∷ H) l h = closed_shut H l.0 h
 closed_shut (Heard e ∷ H) l h = closed_shut H l.0 h
 closed_shut (Pool (OpenStart c k) ∷ H) l h =
@@ -181,6 +182,7 @@ stays_closed H (Entered client m (Next rows)) h = h
 stays_closed H (Entered client m (Scan rows dests)) h = h
 stays_closed H (Entered client m (RowsClose rows)) h = h
 stays_closed H (Entered client m (Fault rows)) h = h
+stays_closed H (Entered client m Ping) h = h
 stays_closed H (Entered client m Stats) h = h
 stays_closed H (Heard e) h = h
 stays_closed H (Pool (OpenStart c k)) h = h

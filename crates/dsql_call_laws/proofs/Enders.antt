@@ -96,6 +96,7 @@ entered_follows H (ops.One dests text args) R n = same_follows (rows_of n R)
 entered_follows H (ops.Next rows) R n = same_follows (rows_of n R)
 entered_follows H (ops.Scan rows dests) R n = same_follows (rows_of n R)
 entered_follows H (ops.Err rows) R n = same_follows (rows_of n R)
+entered_follows H ops.Ping R n = same_follows (rows_of n R)
 entered_follows H ops.DbClose R n = same_follows (rows_of n R)
 entered_follows H ops.Stats R n = same_follows (rows_of n R)
 

@@ -14,14 +14,14 @@ use Rattle.dsql_pool.specs.Changes.{back, closing}
 use Rattle.dsql_pool.specs.Places.{is_for}
 use Rattle.dsql_pool.specs.Pooled.{next_number}
 use Rattle.dsql_work.specs.declared.work.Work.{Work}
-use Rattle.dsql_work.specs.declared.work.Work.TheVariants.{Execute, ReadOne, HandOut, Fetch, Close, Look}
+use Rattle.dsql_work.specs.declared.work.Work.TheVariants.{Execute, ReadOne, HandOut, Ping as Pings, Fetch, Close, Look}
 use Rattle.dsql_work.specs.Works.{asks}
 use Rattle.dsql_work.specs.Line.{is_due}
 use Rattle.dsql_call_laws.proofs.Lists.{same_or_not}
 use Rattle.dsql_history.specs.declared.event.Event.{Event}
 use Rattle.dsql_history.specs.declared.event.Event.TheVariants.{Run, Entered, Heard, Pool, Waits, Ticked, SetLimit, Replied, Ended}
 use Rattle.dsql_history.specs.declared.event.Op.{Op}
-use Rattle.dsql_history.specs.declared.event.Op.TheVariants.{Exec, Query, One, Next, Scan, RowsClose, Err, DbClose, Stats}
+use Rattle.dsql_history.specs.declared.event.Op.TheVariants.{Exec, Query, One, Next, Scan, RowsClose, Err, Ping, DbClose, Stats}
 use Rattle.dsql_history.specs.declared.event.Control.TheVariants.{Tick, Set}
 use Rattle.dsql_history.specs.declared.record.Stand.TheVariants as stands_at
 use Rattle.dsql_history.specs.declared.record.Try.{Try}
@@ -130,6 +130,7 @@ nothing_due H lent live ends n = by (is_unfinished H n) refl
     none_of Execute u = none_in (is_some (due_in H n Execute)) Execute refl refl u
     none_of (ReadOne dests) u = none_in (is_some (due_in H n (ReadOne dests))) (ReadOne dests) refl refl u
     none_of (HandOut label) u = none_in (is_some (due_in H n (HandOut label))) (HandOut label) refl refl u
+    none_of Pings u = none_in (is_some (due_in H n Pings)) Pings refl refl u
     none_of (Fetch k) u = none_over k u
     none_of (Close k) u = none_over k u
     none_of Look u = refl
@@ -274,6 +275,7 @@ lent_after H (Entered client m (Next rows)) l h o n u = entered_lent H client m 
 lent_after H (Entered client m (Scan rows dests)) l h o n u = entered_lent H client m (Scan rows dests) l o n u
 lent_after H (Entered client m (RowsClose rows)) l h o n u = entered_lent H client m (RowsClose rows) l o n u
 lent_after H (Entered client m (Err rows)) l h o n u = entered_lent H client m (Err rows) l o n u
+lent_after H (Entered client m Ping) l h o n u = entered_lent H client m Ping l o n u
 lent_after H (Entered client m Stats) l h o n u = entered_lent H client m Stats l o n u
 lent_after H (Heard e) l h o n u = o.lent n u
 lent_after H (Pool (OpenStart c k)) l h o n u =

@@ -23,7 +23,7 @@ use Rattle.dsql_pool.specs.Moved.{made, shut, ticked}
 use Rattle.dsql_pool.specs.Pooled.{Pooled, next_number, next_tenure, place_at}
 use Rattle.dsql_history.specs.declared.event.Event.{Event}
 use Rattle.dsql_history.specs.declared.event.Event.TheVariants.{Run, Entered, Heard, Pool, Waits, Ticked, SetLimit, Replied, Ended}
-use Rattle.dsql_history.specs.declared.event.Op.TheVariants.{Exec, Query, One, Next, Scan, RowsClose, Err, DbClose, Stats}
+use Rattle.dsql_history.specs.declared.event.Op.TheVariants.{Exec, Query, One, Next, Scan, RowsClose, Err, Ping, DbClose, Stats}
 use Rattle.dsql_history.specs.declared.event.Control.{Control}
 use Rattle.dsql_history.specs.declared.event.Setting.TheVariants.{MaxOpen, MaxIdle, MaxLife, MaxIdleTime}
 use Rattle.dsql_history.specs.declared.event.Control.TheVariants.{Tick, Set}
@@ -128,6 +128,7 @@ later_falls_none (Entered client n (Next rows) ∷ H) = refl
 later_falls_none (Entered client n (Scan rows dests) ∷ H) = refl
 later_falls_none (Entered client n (RowsClose rows) ∷ H) = refl
 later_falls_none (Entered client n (Err rows) ∷ H) = refl
+later_falls_none (Entered client n Ping ∷ H) = refl
 later_falls_none (Entered client n Stats ∷ H) = refl
 later_falls_none (Heard e ∷ H) = answered_later e.answer e.conn (pool H) (place H e.conn)
 later_falls_none (Pool m ∷ H) = fewer_fall_none (left_of H m (owed H)) (left_falls_none H m (owed H) (later_falls_none H))
@@ -194,6 +195,7 @@ falls H c n a = let k = keeps_of H (Pool (Fell c n)) a in by H k.order k.causes
     by (Entered client m (Scan rows dests) ∷ K) h some = absurd cc
     by (Entered client m (RowsClose rows) ∷ K) h some = absurd cc
     by (Entered client m (Err rows) ∷ K) h some = absurd cc
+    by (Entered client m Ping ∷ K) h some = absurd cc
     by (Entered client m Stats ∷ K) h some = absurd cc
     by (Pool m ∷ K) h some = absurd (first_falls (left_of K m (owed K)) c n (left_falls_none K m (owed K) (later_falls_none K)) h some)
     by (Waits m ∷ K) h some = absurd cc

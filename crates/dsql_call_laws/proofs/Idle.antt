@@ -18,13 +18,13 @@ use Rattle.dsql_pool.specs.Places.{conn_of, is_for, is_idle, is_opening}
 use Rattle.dsql_pool.specs.Pooled.{Pooled, next_number}
 use Rattle.dsql_pool.proofs.Frees.{passing}
 use Rattle.dsql_work.specs.declared.work.Work.{Work}
-use Rattle.dsql_work.specs.declared.work.Work.TheVariants.{Execute, ReadOne, HandOut, Fetch, Close, Look}
+use Rattle.dsql_work.specs.declared.work.Work.TheVariants.{Execute, ReadOne, HandOut, Ping as Pings, Fetch, Close, Look}
 use Rattle.dsql_work.specs.Works.{asks}
 use Rattle.dsql_work.specs.Line.{is_due}
 use Rattle.dsql_call_laws.proofs.Lists.{within_rows}
 use Rattle.dsql_history.specs.declared.event.Event.{Event}
 use Rattle.dsql_history.specs.declared.event.Event.TheVariants.{Run, Entered, Heard, Pool, Waits, Ticked, SetLimit, Replied, Ended}
-use Rattle.dsql_history.specs.declared.event.Op.TheVariants.{Exec, Query, One, Next, Scan, RowsClose, Err, DbClose, Stats}
+use Rattle.dsql_history.specs.declared.event.Op.TheVariants.{Exec, Query, One, Next, Scan, RowsClose, Err, Ping, DbClose, Stats}
 use Rattle.dsql_history.specs.declared.event.Control.TheVariants.{Tick, Set}
 use Rattle.dsql_history.specs.declared.record.Try.{Try}
 use Rattle.dsql_history.specs.Readers.Owed.{owed}
@@ -114,6 +114,7 @@ lent_asks (Entered client m (Next rows) ∷ H) n l some now = old_asks (works H)
 lent_asks (Entered client m (Scan rows dests) ∷ H) n l some now = old_asks (works H) (work_of (works H) (Scan rows dests)) n (lent_asks H n l.0 some now)
 lent_asks (Entered client m (RowsClose rows) ∷ H) n l some now = old_asks (works H) (work_of (works H) (RowsClose rows)) n (lent_asks H n l.0 some now)
 lent_asks (Entered client m (Err rows) ∷ H) n l some now = old_asks (works H) (work_of (works H) (Err rows)) n (lent_asks H n l.0 some now)
+lent_asks (Entered client m Ping ∷ H) n l some now = old_asks (works H) (work_of (works H) Ping) n (lent_asks H n l.0 some now)
 lent_asks (Entered client m Stats ∷ H) n l some now = old_asks (works H) (work_of (works H) Stats) n (lent_asks H n l.0 some now)
 lent_asks (Heard e ∷ H) n l some now = lent_asks H n l.0 some now
 lent_asks (Pool (OpenStart c k) ∷ H) n l some now =
@@ -151,6 +152,7 @@ pub due_lent : (H : List Event) (n : ℕ) (w : Work) → asks w ≡ true → is_
 due_lent H n Execute own h = sends_where_lent H n wishes.Nothing (home H n) (place H (home H n)) refl h
 due_lent H n (ReadOne dests) own h = sends_where_lent H n wishes.Nothing (home H n) (place H (home H n)) refl h
 due_lent H n (HandOut label) own h = sends_where_lent H n wishes.Nothing (home H n) (place H (home H n)) refl h
+due_lent H n Pings own h = sends_where_lent H n wishes.Nothing (home H n) (place H (home H n)) refl h
 due_lent H n (Fetch k) own h = absurd cc
 due_lent H n (Close k) own h = absurd cc
 due_lent H n Look own h = absurd cc

@@ -51,6 +51,7 @@ told_at_once H (ops.Next rows) h = absurd cc
 told_at_once H (ops.RowsClose rows) h = absurd cc
 told_at_once H (ops.Scan rows dests) h = told_of_scan (rows_for H (ops.Scan rows dests)) rows dests
 told_at_once H (ops.Err rows) h = told_of_err (rows_for H (ops.Err rows)) rows
+told_at_once H ops.Ping h = absurd cc
 told_at_once H ops.DbClose h = refl
 told_at_once H ops.Stats h = refl
 

@@ -18,7 +18,7 @@ use Rattle.dsql_pool.specs.declared.conn.Place.{Place}
 use Rattle.dsql_pool.specs.declared.conn.Place.TheVariants.{Idle, Lent, Opening, Closing}
 use Rattle.dsql_pool.specs.Pooled.{next_tenure}
 use Rattle.dsql_work.specs.declared.work.Work.{Work}
-use Rattle.dsql_work.specs.declared.work.Work.TheVariants.{Execute, ReadOne, HandOut, Fetch, Close, Look}
+use Rattle.dsql_work.specs.declared.work.Work.TheVariants.{Execute, ReadOne, HandOut, Ping, Fetch, Close, Look}
 use Rattle.dsql_work.specs.Line.{is_due}
 use Rattle.dsql_history.specs.declared.event.Event.{Event}
 use Rattle.dsql_history.specs.declared.event.Event.TheVariants.{Heard}
@@ -39,6 +39,7 @@ sends_no_look H m Look call h = absurd cc
 sends_no_look H m Execute call h = refl
 sends_no_look H m (ReadOne dests) call h = refl
 sends_no_look H m (HandOut label) call h = refl
+sends_no_look H m Ping call h = refl
 sends_no_look H m (Fetch k) call h = refl
 sends_no_look H m (Close k) call h = refl
 

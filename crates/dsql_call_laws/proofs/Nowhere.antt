@@ -3,13 +3,13 @@ use Rattle.std.proofs.Common.{◌≡◌, ℕ, Bool, true, false, not, ◌&&◌, 
 use Rattle.dsql_course.specs.Made.{or_else}
 use Rattle.dsql_pool.specs.Calls.{wants}
 use Rattle.dsql_work.specs.declared.work.Work.{Work}
-use Rattle.dsql_work.specs.declared.work.Work.TheVariants.{Execute, ReadOne, HandOut, Fetch, Close, Look}
+use Rattle.dsql_work.specs.declared.work.Work.TheVariants.{Execute, ReadOne, HandOut, Ping, Fetch, Close, Look}
 use Rattle.dsql_work.specs.Works.{asks}
 use Rattle.dsql_history.specs.declared.event.Event.{Event}
 use Rattle.dsql_history.specs.declared.record.Try.{Try}
 use Rattle.dsql_history.specs.declared.record.Try.TheVariants.{Served, Refused}
 use Rattle.dsql_history.specs.declared.reply.Reply.{Reply}
-use Rattle.dsql_history.specs.Readers.Calls.{decided, told_by_tries, told_of_work, reply_due}
+use Rattle.dsql_history.specs.Readers.Calls.{decided, told_at_lending, told_by_tries, told_of_work, reply_due}
 use Rattle.dsql_history.specs.Readers.Pool.{pool}
 use Rattle.dsql_history.specs.Readers.Tries.{tries, has_a_try}
 use Rattle.dsql_history.specs.Readers.Unfinished.{is_unfinished}
@@ -21,13 +21,14 @@ use Rattle.dsql_call_laws.proofs.Works.{is_look}
 use Rattle.dsql_call_laws.proofs.Looked.{looked}
 use Rattle.dsql_call_laws.proofs.Refusals.{refusal_told}
 
-own_settled : (o p : Option Reply) → is_some o ≡ true → is_some (or_else o p) ≡ true
-own_settled None p h = absurd cc
-own_settled (Some own) p h = refl
+own_settled : (o p q : Option Reply) → is_some o ≡ true → is_some (or_else (or_else o p) q) ≡ true
+own_settled None p q h = absurd cc
+own_settled (Some own) p q h = refl
 
-pub others_settled : (o p : Option Reply) → is_some p ≡ true → is_some (or_else o p) ≡ true
-others_settled None p h = h
-others_settled (Some own) p h = refl
+pub others_settled : (o p q : Option Reply) → is_some p ≡ true → is_some (or_else (or_else o p) q) ≡ true
+others_settled None None q h = absurd cc
+others_settled None (Some other) q h = refl
+others_settled (Some own) p q h = refl
 
 last_fails : (a b c d : Bool) (o : Option Reply) → (a && (b && (c && (d && is_none o)))) ≡ false → a ≡ true → b ≡ true → c ≡ true → d ≡ true → is_some o ≡ true
 last_fails true true true true (Some reply) h ha hb hc hd = refl
@@ -43,6 +44,7 @@ pub told_own : (H : List Event) (n : ℕ) (w : Work) → asks w ≡ true → tol
 told_own H n Execute own = refl
 told_own H n (ReadOne dests) own = refl
 told_own H n (HandOut label) own = refl
+told_own H n Ping own = refl
 told_own H n (Fetch k) own = absurd cc
 told_own H n (Close k) own = absurd cc
 told_own H n Look own = absurd cc
@@ -53,7 +55,7 @@ unserved H n l own u unwanting may [] is none =
     last_fails (is_unfinished H n) (asks (work H n)) (has_a_try (tries H n)) (not (wants n (pool H))) (reply_due H n) may u own (ap has_a_try is) (ap not unwanting)
 unserved H n l own u unwanting may (Refused answer ∷ earlier) is none =
     let told : told_of_work H n (work H n) ≡ told_by_tries H (Refused answer ∷ earlier) = told_own H n (work H n) own ∙ ap (told_by_tries H) is in
-    others_settled (decided H n) (told_of_work H n (work H n)) (ap (λ o. is_some o) told ∙ refusal_told H n answer earlier l is)
+    others_settled (decided H n) (told_of_work H n (work H n)) (told_at_lending H n) (ap (λ o. is_some o) told ∙ refusal_told H n answer earlier l is)
 unserved H n l own u unwanting may (Served ∷ earlier) is none = absurd cc
 
 pub settled_unserved : (H : List Event) (n : ℕ) → Lawful H → is_unfinished H n ≡ true → wants n (pool H) ≡ false → may_ask H n ≡ false → was_served (tries H n) ≡ false → is_fetch (work H n) ≡ false → is_some (reply_due H n) ≡ true
@@ -66,6 +68,7 @@ settled_unserved H n l u unwanting may none fetchless = by (work H n) refl
     by Execute is = own Execute is refl
     by (ReadOne dests) is = own (ReadOne dests) is refl
     by (HandOut label) is = own (HandOut label) is refl
+    by Ping is = own Ping is refl
     by (Fetch k) is = let clash : true ≡ false = sym (ap is_fetch is) ∙ fetchless in absurd cc
-    by (Close k) is = others_settled (decided H n) (told_of_work H n (work H n)) (ap (λ w. is_some (told_of_work H n w)) is)
-    by Look is = own_settled (decided H n) (told_of_work H n (work H n)) (looked H n l u (ap is_look is))
+    by (Close k) is = others_settled (decided H n) (told_of_work H n (work H n)) (told_at_lending H n) (ap (λ w. is_some (told_of_work H n w)) is)
+    by Look is = own_settled (decided H n) (told_of_work H n (work H n)) (told_at_lending H n) (looked H n l u (ap is_look is))

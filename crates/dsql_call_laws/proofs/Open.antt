@@ -15,7 +15,7 @@ use Rattle.dsql_pool.proofs.Frees.{length-changed, length-gone}
 use Rattle.dsql_pool.proofs.Members.{times-without_other, times-without_same}
 use Rattle.dsql_history.specs.declared.event.Event.{Event}
 use Rattle.dsql_history.specs.declared.event.Event.TheVariants.{Run, Entered, Heard, Pool, Waits, Ticked, SetLimit, Replied, Ended}
-use Rattle.dsql_history.specs.declared.event.Op.TheVariants.{Exec, Query, One, Next, Scan, RowsClose, Err, DbClose, Stats}
+use Rattle.dsql_history.specs.declared.event.Op.TheVariants.{Exec, Query, One, Next, Scan, RowsClose, Err, Ping, DbClose, Stats}
 use Rattle.dsql_history.specs.declared.event.Control.{Control}
 use Rattle.dsql_history.specs.declared.event.Setting.TheVariants.{MaxOpen, MaxIdle, MaxLife, MaxIdleTime}
 use Rattle.dsql_history.specs.declared.event.Control.TheVariants.{Tick, Set}
@@ -61,6 +61,7 @@ few_open (Entered client m (Next rows) ∷ H) l = few_open H l.0
 few_open (Entered client m (Scan rows dests) ∷ H) l = few_open H l.0
 few_open (Entered client m (RowsClose rows) ∷ H) l = few_open H l.0
 few_open (Entered client m (Err rows) ∷ H) l = few_open H l.0
+few_open (Entered client m Ping ∷ H) l = few_open H l.0
 few_open (Entered client m Stats ∷ H) l = few_open H l.0
 few_open (Heard e ∷ H) l = few_open H l.0
 few_open (Pool (OpenStart c m) ∷ H) l = one_more (pool H) c (pool H).conns (opening (next_number (pool H)) (wanted_by m)) (limit_of H (Pool (OpenStart c m)) l.1)

@@ -22,7 +22,7 @@ use Rattle.dsql_pool.specs.Pooled.{Pooled, next_tenure, most_open, place_at}
 use Rattle.dsql_pool.specs.Rest.{AtRest}
 use Rattle.dsql_history.specs.declared.event.Event.{Event}
 use Rattle.dsql_history.specs.declared.event.Event.TheVariants.{Run, Entered, Heard, Pool, Waits, Ticked, SetLimit, Replied, Ended}
-use Rattle.dsql_history.specs.declared.event.Op.TheVariants.{Exec, Query, One, Next, Scan, RowsClose, Err, DbClose, Stats}
+use Rattle.dsql_history.specs.declared.event.Op.TheVariants.{Exec, Query, One, Next, Scan, RowsClose, Err, Ping, DbClose, Stats}
 use Rattle.dsql_history.specs.declared.event.Control.{Control}
 use Rattle.dsql_history.specs.declared.event.Setting.TheVariants.{MaxOpen, MaxIdle, MaxLife, MaxIdleTime}
 use Rattle.dsql_history.specs.declared.event.Control.TheVariants.{Tick, Set}
@@ -153,6 +153,7 @@ next_few H (Entered client n (Next rows)) h k = omega arith
 next_few H (Entered client n (Scan rows dests)) h k = omega arith
 next_few H (Entered client n (RowsClose rows)) h k = omega arith
 next_few H (Entered client n (Err rows)) h k = omega arith
+next_few H (Entered client n Ping) h k = omega arith
 next_few H (Entered client n Stats) h k = omega arith
 next_few H (Heard e) h k = answered_few e.answer e.conn (pool H) (place H e.conn)
 next_few H (Pool m) h k = left_few H m (owed H) k

@@ -81,6 +81,7 @@ entered_ends H (ops.One dests text args) n R h = h
 entered_ends H (ops.Next rows) n R h = h
 entered_ends H (ops.Scan rows dests) n R h = h
 entered_ends H (ops.Err rows) n R h = h
+entered_ends H ops.Ping n R h = h
 entered_ends H ops.DbClose n R h = h
 entered_ends H ops.Stats n R h = h
 
@@ -106,6 +107,7 @@ closes_only H (ops.Query label text args) n was now = absurd (never (sym was ∙
 closes_only H (ops.One dests text args) n was now = absurd (never (sym was ∙ now))
 closes_only H (ops.Scan rows dests) n was now = absurd (never (sym was ∙ now))
 closes_only H (ops.Err rows) n was now = absurd (never (sym was ∙ now))
+closes_only H ops.Ping n was now = absurd (never (sym was ∙ now))
 closes_only H ops.DbClose n was now = absurd (never (sym was ∙ now))
 closes_only H ops.Stats n was now = absurd (never (sym was ∙ now))
 

@@ -12,13 +12,13 @@ use Rattle.dsql_work.specs.Works as works
 use Rattle.dsql_history.specs.declared.event.Event.{Event}
 use Rattle.dsql_history.specs.declared.event.Event.TheVariants.{Run, Entered, Heard, Pool, Waits, Ticked, SetLimit, Replied, Ended}
 use Rattle.dsql_history.specs.declared.event.Op.{Op}
-use Rattle.dsql_history.specs.declared.event.Op.TheVariants.{Exec, Query, One, Next, Scan, RowsClose, Err, DbClose, Stats}
+use Rattle.dsql_history.specs.declared.event.Op.TheVariants.{Exec, Query, One, Next, Scan, RowsClose, Err, Ping, DbClose, Stats}
 use Rattle.dsql_history.specs.declared.event.Control.{Control}
 use Rattle.dsql_history.specs.declared.event.Setting.TheVariants.{MaxOpen, MaxIdle, MaxLife, MaxIdleTime}
 use Rattle.dsql_history.specs.declared.event.Control.TheVariants.{Tick, Set}
 use Rattle.dsql_history.specs.declared.reply.Reply.{Reply}
 use Rattle.dsql_history.specs.Same.{is_first}
-use Rattle.dsql_history.specs.Readers.Calls.{calls, call_record, nobody, decided, reply_due, told_by_others}
+use Rattle.dsql_history.specs.Readers.Calls.{calls, call_record, nobody, decided, reply_due, told_at_lending, told_by_others}
 use Rattle.dsql_history.specs.Readers.Owed.{owed}
 use Rattle.dsql_history.specs.Readers.Pool.{pool, place, request, wanted_by, with_control}
 use Rattle.dsql_history.specs.Readers.Tries.{tries, has_a_try}
@@ -41,9 +41,9 @@ use Rattle.dsql_call_laws.proofs.Untried.{wanting_untried, lends_unwanting}
 never : true ≡ false → ⊥
 never h = cc
 
-neither_settled : (o p : Option Reply) → is_none (or_else o p) ≡ true → o ≡ None
-neither_settled None p h = refl
-neither_settled (Some r) p h = absurd cc
+none_settled : (o p q : Option Reply) → is_none (or_else (or_else o p) q) ≡ true → o ≡ None
+none_settled None p q h = refl
+none_settled (Some r) p q h = absurd cc
 
 asks_undecided : (H : List Event) (n : ℕ) → may_ask H n ≡ true → decided H n ≡ None
 asks_undecided H n may =
@@ -52,7 +52,7 @@ asks_undecided H n may =
     let b = both (works.asks (work H n)) (has_a_try (tries H n) && (not (wants n p) && is_none (reply_due H n))) a.1 in
     let c = both (has_a_try (tries H n)) (not (wants n p) && is_none (reply_due H n)) b.1 in
     let d = both (not (wants n p)) (is_none (reply_due H n)) c.1 in
-    neither_settled (decided H n) (told_by_others H n) d.1
+    none_settled (decided H n) (told_by_others H n) (told_at_lending H n) d.1
 
 same_control : (control : Control) (n : ℕ) (p : Pooled) → wanted n (with_control control p) ≡ wanted n p
 same_control (Tick k) n p = refl
@@ -128,6 +128,7 @@ wanting_undecided (Entered client m (Next rows) ∷ H) n l some now = entered_un
 wanting_undecided (Entered client m (Scan rows dests) ∷ H) n l some now = entered_undecided H client m (Scan rows dests) n l some now (wanting_undecided H n l.0 some now)
 wanting_undecided (Entered client m (RowsClose rows) ∷ H) n l some now = entered_undecided H client m (RowsClose rows) n l some now (wanting_undecided H n l.0 some now)
 wanting_undecided (Entered client m (Err rows) ∷ H) n l some now = entered_undecided H client m (Err rows) n l some now (wanting_undecided H n l.0 some now)
+wanting_undecided (Entered client m Ping ∷ H) n l some now = entered_undecided H client m Ping n l some now (wanting_undecided H n l.0 some now)
 wanting_undecided (Entered client m Stats ∷ H) n l some now = entered_undecided H client m Stats n l some now (wanting_undecided H n l.0 some now)
 wanting_undecided (Heard e ∷ H) n l some now = ap (λ r. r.decided) (other_heard H e n (not_heard H e n l some now)) ∙ wanting_undecided H n l.0 some now
 wanting_undecided (Pool (OpenStart c k) ∷ H) n l some now = opens_undecided H c k n l.1 some (wanting_undecided H n l.0 some) now

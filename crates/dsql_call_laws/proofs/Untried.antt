@@ -21,7 +21,7 @@ use Rattle.dsql_pool.proofs.Frees.{passing, count-cons}
 use Rattle.dsql_work.specs.Works as works
 use Rattle.dsql_history.specs.declared.event.Event.{Event}
 use Rattle.dsql_history.specs.declared.event.Event.TheVariants.{Run, Entered, Heard, Pool, Waits, Ticked, SetLimit, Replied, Ended}
-use Rattle.dsql_history.specs.declared.event.Op.TheVariants.{Exec, Query, One, Next, Scan, RowsClose, Err, DbClose, Stats}
+use Rattle.dsql_history.specs.declared.event.Op.TheVariants.{Exec, Query, One, Next, Scan, RowsClose, Err, Ping, DbClose, Stats}
 use Rattle.dsql_history.specs.declared.event.Control.{Control}
 use Rattle.dsql_history.specs.declared.event.Setting.TheVariants.{MaxOpen, MaxIdle, MaxLife, MaxIdleTime}
 use Rattle.dsql_history.specs.declared.event.Control.TheVariants.{Tick, Set}
@@ -189,6 +189,7 @@ wanting_untried (Entered client m (Next rows) ∷ H) n l some now = wanting_untr
 wanting_untried (Entered client m (Scan rows dests) ∷ H) n l some now = wanting_untried H n l.0 some now
 wanting_untried (Entered client m (RowsClose rows) ∷ H) n l some now = wanting_untried H n l.0 some now
 wanting_untried (Entered client m (Err rows) ∷ H) n l some now = wanting_untried H n l.0 some now
+wanting_untried (Entered client m Ping ∷ H) n l some now = wanting_untried H n l.0 some now
 wanting_untried (Entered client m Stats ∷ H) n l some now = wanting_untried H n l.0 some now
 wanting_untried (Heard e ∷ H) n l some now = wanting_untried H n l.0 some now
 wanting_untried (Pool (OpenStart c k) ∷ H) n l some now = opens_untried H c k n l.1 some (wanting_untried H n l.0 some) now

@@ -1,5 +1,5 @@
 use Rattle.std.proofs.Common.{ap, is_some}
-use Rattle.dsql_history.specs.Readers.Calls.{decided, told_of_work}
+use Rattle.dsql_history.specs.Readers.Calls.{decided, told_at_lending, told_of_work}
 use Rattle.dsql_history.specs.Readers.Works.{work}
 use Rattle.dsql_call_laws.proofs.Works.{is_look}
 use Rattle.dsql_call_laws.proofs.Looked.{looked}
@@ -11,7 +11,7 @@ pub returns-clause-looks : goal.returns-clause-looks
 returns-clause-looks c = λ history n l u look. looked history n l u (ap is_look look)
 
 pub returns-clause-closes : goal.returns-clause-closes
-returns-clause-closes c = λ history n k is. others_settled (decided history n) (told_of_work history n (work history n)) (ap (λ w. is_some (told_of_work history n w)) is)
+returns-clause-closes c = λ history n k is. others_settled (decided history n) (told_of_work history n (work history n)) (told_at_lending history n) (ap (λ w. is_some (told_of_work history n w)) is)
 
 pub returns-clause-refused : goal.returns-clause-refused
 returns-clause-refused c = refusal_told
