@@ -12,7 +12,7 @@ use Rattle.dsql_rows.specs.declared.rows.Rows.{Rows}
 use Rattle.dsql_rows.specs.OpenRows.{is_live}
 use Rattle.dsql_journal.specs.Kinds.{number_of}
 use Rattle.dsql_work.specs.declared.work.Work.{Work}
-use Rattle.dsql_work.specs.declared.work.Work.TheVariants.{Execute, ReadOne, HandOut, Fetch, Close, Look}
+use Rattle.dsql_work.specs.declared.work.Work.TheVariants.{Execute, ReadOne, HandOut, Ping, Fetch, Close, Look}
 use Rattle.dsql_work.specs.Line.{Asked, aim_of, line_after}
 use Rattle.dsql_history.specs.declared.event.Event.{Event}
 use Rattle.dsql_history.specs.declared.event.Event.TheVariants.{Replied}
@@ -60,6 +60,7 @@ in_alike H K m Look a = refl
 in_alike H K m Execute a = a.lines m wishes.Nothing
 in_alike H K m (ReadOne dests) a = a.lines m wishes.Nothing
 in_alike H K m (HandOut label) a = a.lines m wishes.Nothing
+in_alike H K m Ping a = a.lines m wishes.Nothing
 
 pub due_alike : (H K : List Event) (m : ℕ) → Alike H K m → due_for K m ≡ due_for H m
 due_alike H K m a =

@@ -11,7 +11,7 @@ use Rattle.dsql_wait.specs.Requests.{waits}
 use Rattle.dsql_pool.specs.Places.{conn_of, is_for}
 use Rattle.dsql_pool.specs.Pooled.{Pooled, place_at}
 use Rattle.dsql_work.specs.declared.work.Work.{Work}
-use Rattle.dsql_work.specs.declared.work.Work.TheVariants.{Execute, ReadOne, HandOut, Fetch, Close, Look}
+use Rattle.dsql_work.specs.declared.work.Work.TheVariants.{Execute, ReadOne, HandOut, Ping, Fetch, Close, Look}
 use Rattle.dsql_work.specs.Line.{Asked, aim_of, line_after}
 use Rattle.dsql_history.specs.declared.event.Event.{Event}
 use Rattle.dsql_history.specs.declared.event.Event.TheVariants.{Entered}
@@ -60,6 +60,7 @@ leaves H client n (ops.One dests text args) h = record { pool = refl; rows = ref
 leaves H client n (ops.Next rows) h = record { pool = refl; rows = refl; end = refl }
 leaves H client n (ops.Scan rows dests) h = record { pool = refl; rows = refl; end = refl }
 leaves H client n (ops.Err rows) h = record { pool = refl; rows = refl; end = refl }
+leaves H client n ops.Ping h = record { pool = refl; rows = refl; end = refl }
 leaves H client n ops.Stats h = record { pool = refl; rows = refl; end = refl }
 leaves H client n (ops.RowsClose rows) h = absurd cc
 leaves H client n ops.DbClose h = absurd cc
@@ -137,6 +138,7 @@ work_alike H client n op m Look same = refl
 work_alike H client n op m Execute same = tries_alike H (Entered client n op ∷ H) (tries H m) same.end
 work_alike H client n op m (ReadOne dests) same = tries_alike H (Entered client n op ∷ H) (tries H m) same.end
 work_alike H client n op m (HandOut label) same = tries_alike H (Entered client n op ∷ H) (tries H m) same.end
+work_alike H client n op m Ping same = tries_alike H (Entered client n op ∷ H) (tries H m) same.end
 
 abbrev standing : Pooled → ℕ → Option DriverCall → ℕ → Option Reply → Option Reply → Option Stand
 standing p m due there own others =

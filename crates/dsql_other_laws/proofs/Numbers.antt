@@ -13,7 +13,7 @@ use Rattle.dsql_pool.specs.Pooled.{Pooled, next_number}
 use Rattle.dsql_pool.proofs.Rows.{all_filter, all_pass}
 use Rattle.dsql_history.specs.declared.event.Event.{Event}
 use Rattle.dsql_history.specs.declared.event.Event.TheVariants.{Run, Entered, Heard, Pool, Waits, Ticked, SetLimit, Replied, Ended}
-use Rattle.dsql_history.specs.declared.event.Op.TheVariants.{Exec, Query, One, Next, Scan, RowsClose, Err, DbClose, Stats}
+use Rattle.dsql_history.specs.declared.event.Op.TheVariants.{Exec, Query, One, Next, Scan, RowsClose, Err, Ping, DbClose, Stats}
 use Rattle.dsql_history.specs.declared.event.Control.{Control}
 use Rattle.dsql_history.specs.declared.event.Setting.TheVariants.{MaxOpen, MaxIdle, MaxLife, MaxIdleTime}
 use Rattle.dsql_history.specs.declared.event.Control.TheVariants.{Tick, Set}
@@ -75,6 +75,7 @@ numbered (Entered client m (Next rows) ∷ H) = numbered H
 numbered (Entered client m (Scan rows dests) ∷ H) = numbered H
 numbered (Entered client m (RowsClose rows) ∷ H) = numbered H
 numbered (Entered client m (Err rows) ∷ H) = numbered H
+numbered (Entered client m Ping ∷ H) = numbered H
 numbered (Entered client m Stats ∷ H) = numbered H
 numbered (Heard e ∷ H) = numbered H
 numbered (Pool (OpenStart c k) ∷ H) = begun_numbered (pool H) (opening (next_number (pool H)) (wanted_by k)) refl (numbered H)
