@@ -1,8 +1,8 @@
 -- What a call's row says that it is to be replied.
-use Rattle.std.specs.Prelude.{false, Option, Some, None, option_map}
+use Rattle.std.specs.Prelude.{Bool, false, cond, Option, Some, None, option_map}
 use Rattle.dsql_course.specs.Made.{or_else}
 use Rattle.dsql_work.specs.declared.work.Work.{Work}
-use Rattle.dsql_work.specs.declared.work.Work.TheVariants.{Fetch, Close, Look}
+use Rattle.dsql_work.specs.declared.work.Work.TheVariants.{Ping, Fetch, Close, Look}
 use Rattle.dsql_history.specs.declared.reply.DbEnd.{DbEnd}
 use Rattle.dsql_history.specs.declared.record.Try.{Try}
 use Rattle.dsql_history.specs.declared.record.Try.TheVariants.{Served, Refused}
@@ -24,8 +24,14 @@ told_beside closed (Close k) tried = Some reply.Ok
 told_beside closed Look tried = None
 told_beside closed work tried = told_trying closed tried
 
-abbrev pub settled_in : Option DbEnd → CallRow → Option Reply
-settled_in closed row = or_else row.call.decided (told_beside closed row.work row.tried)
+-- by the connection that was lent to it: a ping, where the driver can't
+abbrev pub told_served : Bool → Work → Option Try → Option Reply
+told_served pinger Ping (Some Served) = cond pinger None (Some reply.Ok)
+told_served pinger work tried = None
+
+-- by any of these, over a driver that can ping or can't
+abbrev pub settled_in : Option DbEnd → Bool → CallRow → Option Reply
+settled_in closed pinger row = or_else (or_else row.call.decided (told_beside closed row.work row.tried)) (told_served pinger row.work row.tried)
 
 -- the reply, where one is settled
 abbrev pub reply_or : Option Reply → Reply

@@ -1,6 +1,6 @@
 //! What answers decide for the calls that wait for them.
 ghost use Rattle.std.specs.Prelude.{◌≡◌};
-ghost use Rattle.dsql_history.specs.Readers.Calls.{reply_to, closed_reply, told_of};
+ghost use Rattle.dsql_history.specs.Readers.Calls.{reply_to, done_reply, told_of};
 ghost use Rattle.dsql_value.specs.Arguments.{count_fault};
 
 use dsql_driver::DriverAnswer;
@@ -32,9 +32,9 @@ pub fn count_reply(inputs: i32, count: usize) -> Option<Reply>
     Some(Reply::NumArgs { want, got })
 }
 
-/// The reply of a call that was made to close a cursor.
-pub fn closed_reply(answer: DriverAnswer) -> Option<Reply>
-    ensures { result ≡ closed_reply answer }
+/// The reply of a call that asks for no more than this: a close of rows, and a ping.
+pub fn done_reply(answer: DriverAnswer) -> Option<Reply>
+    ensures { result ≡ done_reply answer }
 {
     match answer {
         DriverAnswer::Done => Some(Reply::Ok),

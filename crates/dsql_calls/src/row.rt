@@ -2,7 +2,7 @@
 ghost use Rattle.std.specs.Prelude.{◌≡◌, ◌&&◌, not, is_none, is_some, length};
 ghost use Rattle.dsql_calls.specs.Calls.{row_at};
 ghost use Rattle.dsql_calls.specs.Calls.{rows_worked};
-ghost use Rattle.dsql_calls.specs.Settling.{told_trying};
+ghost use Rattle.dsql_calls.specs.Settling.{told_served, told_trying};
 ghost use Rattle.dsql_history.specs.Readers.Calls.{reply_to};
 ghost use Rattle.dsql_history.specs.Readers.Works.{is_fetch};
 ghost use Rattle.dsql_work.specs.Works.{asks};
@@ -68,7 +68,7 @@ pub fn asks(rows: &Vec<CallRow>, call: u32) -> bool
     match rows.get(call as usize) {
         Some(row) => matches!(
             row.work,
-            Work::Execute | Work::ReadOne(_) | Work::HandOut(_)
+            Work::Execute | Work::ReadOne(_) | Work::HandOut(_) | Work::Ping
         ),
         None => false,
     }
@@ -95,6 +95,7 @@ pub fn aim_of(rows: &Vec<CallRow>, call: u32) -> Aim
         Some(row) => match &row.work {
             Work::ReadOne(_) => Aim::ReadOne,
             Work::HandOut(_) => Aim::HandOut,
+            Work::Ping => Aim::Ping,
             _ => Aim::Execute,
         },
         None => Aim::Execute,
@@ -129,6 +130,19 @@ pub fn is_told_trying(rows: &Vec<CallRow>, call: u32, closed: Option<DbEnd>) -> 
             Some(Try::Refused(answer)) => is_told_by(answer),
         },
         None => closed.is_some(),
+    }
+}
+
+/// That a connection was lent to it has settled what it replies.
+pub fn is_told_as_lent(rows: &Vec<CallRow>, call: u32, pinger: bool) -> bool
+    ensures { result ≡ is_some (told_served pinger (row_at rows.now.items call).work (row_at rows.now.items call).tried) }
+{
+    match rows.get(call as usize) {
+        Some(row) => match (&row.work, &row.tried) {
+            (Work::Ping, Some(Try::Served)) => !pinger,
+            _ => false,
+        },
+        None => false,
     }
 }
 

@@ -1,7 +1,8 @@
 //! The replies that are settled.
 ghost use Rattle.std.specs.Prelude.{◌≡◌, Some, true, is_some, vec_len, vec_capacity};
 ghost use Rattle.dsql_calls.specs.Calls.{row_at, with_row};
-ghost use Rattle.dsql_calls.specs.Settling.{replied, settled_in, told_beside};
+ghost use Rattle.dsql_calls.specs.Settling.{replied, settled_in, told_beside, told_served};
+ghost use Rattle.dsql_course.specs.Made.{or_else};
 ghost use Rattle.dsql_history.specs.Readers.Course.{or_end};
 
 use crate::call::CallRow;
@@ -32,43 +33,55 @@ pub fn forget(calls: &mut Vec<CallRow>, call: u32)
     }
 }
 
-/// Takes the reply that is settled out of a call's row. The database was closed by this, if it is closed.
-pub fn take_reply(calls: &mut Vec<CallRow>, call: u32, closed_by: Option<DbEnd>) -> Reply
-    requires { is_some (settled_in closed_by (row_at calls.old.items call)) ≡ true }
-    ensures reply { settled_in closed_by (row_at calls.old.items call) ≡ Some result }
+/// Takes the reply that is settled out of a call's row. The database was closed by this, if it is closed, and the driver
+/// can ping or can't.
+pub fn take_reply(
+    calls: &mut Vec<CallRow>,
+    call: u32,
+    closed_by: Option<DbEnd>,
+    pinger: bool,
+) -> Reply
+    requires { is_some (settled_in closed_by pinger (row_at calls.old.items call)) ≡ true }
+    ensures reply { settled_in closed_by pinger (row_at calls.old.items call) ≡ Some result }
     ensures items { calls.new.items ≡ with_row call replied calls.old.items }
     ensures len { vec_len calls.new ≡ vec_len calls.old }
     ensures capacity { vec_capacity calls.new ≡ vec_capacity calls.old }
 {
     let call = call as usize;
     if call < calls.len() {
-        if let Some(reply) = take_settled(&mut calls[call], closed_by) {
+        if let Some(reply) = take_settled(&mut calls[call], closed_by, pinger) {
             return reply;
         }
     }
     unreachable!()
 }
 
-fn take_settled(row: &mut CallRow, closed_by: Option<DbEnd>) -> Option<Reply>
-    ensures reply { result ≡ settled_in closed_by row.old }
+fn take_settled(row: &mut CallRow, closed_by: Option<DbEnd>, pinger: bool) -> Option<Reply>
+    ensures reply { result ≡ settled_in closed_by pinger row.old }
     ensures row { row.new ≡ replied row.old }
 {
     let tried = row.tried.take();
     match row.call.decided.take() {
         Some(reply) => Some(reply),
-        None => told_beside(&row.work, tried, closed_by),
+        None => told_in_row(&row.work, tried, closed_by, pinger),
     }
 }
 
-/// What others have settled for a call with this work and this newest try.
-fn told_beside(work: &Work, tried: Option<Try>, closed_by: Option<DbEnd>) -> Option<Reply>
-    ensures { result ≡ told_beside closed_by work.now tried }
+/// What others have settled for a call with this work and this newest try, or that a connection was lent to it.
+fn told_in_row(
+    work: &Work,
+    tried: Option<Try>,
+    closed_by: Option<DbEnd>,
+    pinger: bool,
+) -> Option<Reply>
+    ensures { result ≡ or_else (told_beside closed_by work.now tried) (told_served pinger work.now tried) }
 {
     match (work, tried) {
         (Work::Fetch(_), _) => Some(Reply::Truth(false)),
         (Work::Close(_), _) => Some(Reply::Ok),
         (Work::Look, _) => None,
         (_, None) => closed_by.map(Reply::DbClosed),
+        (Work::Ping, Some(Try::Served)) if !pinger => Some(Reply::Ok),
         (_, Some(Try::Served)) => None,
         (_, Some(Try::Refused(answer))) => reply_of(answer),
     }
