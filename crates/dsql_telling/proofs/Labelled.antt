@@ -8,7 +8,7 @@ use Rattle.std.proofs.lemmas.Bool.Decides.{nat_tests}
 use Rattle.std.proofs.lemmas.List.Folds.{position_or_len_push}
 use Rattle.std.proofs.lemmas.Slice.Eq.{bytes_eq-Decides}
 use Rattle.dsql_work.specs.declared.work.Work.{Work}
-use Rattle.dsql_work.specs.declared.work.Work.TheVariants.{Execute, ReadOne, HandOut, Fetch, Close, Look}
+use Rattle.dsql_work.specs.declared.work.Work.TheVariants.{Execute, ReadOne, HandOut, Ping, Fetch, Close, Look}
 use Rattle.dsql_work.specs.Works.{has_label}
 use Rattle.dsql_telling.specs.Starts.{label_made, labelled}
 
@@ -42,6 +42,8 @@ labelled_as Execute n label (Some m) = refl
 labelled_as Execute n label None = refl
 labelled_as (ReadOne dests) n label (Some m) = refl
 labelled_as (ReadOne dests) n label None = refl
+labelled_as Ping n label (Some m) = refl
+labelled_as Ping n label None = refl
 labelled_as (Fetch k) n label (Some m) = refl
 labelled_as (Fetch k) n label None = refl
 labelled_as (Close k) n label (Some m) = refl

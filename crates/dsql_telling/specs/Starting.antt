@@ -1,4 +1,4 @@
--- What is made of the text and the arguments of a call that enters, and what is kept of one that works on rows.
+-- What is made of the text and the arguments of a call that enters, and what is kept of one that runs no text.
 use Rattle.std.specs.Prelude.{◌≡◌, ℕ, Bool, List, [], Option, None}
 use Rattle.dsql_value.specs.declared.arg.Named.{Named}
 use Rattle.dsql_value.specs.Arguments.{first_fault}
@@ -15,7 +15,7 @@ pub record IsChecked (named_ok : Bool) (text : List ℕ) (args : List Named) (it
   pub params : it.params ≡ accepted (first_fault named_ok args) args
   pub refused : it.refused ≡ told_of (first_fault named_ok args)
 
--- a call that works on rows
+-- a call that runs no text
 pub record StartsOver (work : Work) (closes : Option ℕ) (decided : Option Reply) (it : CallStart) : Type 0 where
   pub work_is : it.work ≡ work
   pub text : it.text ≡ []

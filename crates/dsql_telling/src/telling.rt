@@ -9,7 +9,7 @@ ghost use Rattle.dsql_work.specs.declared.work.Work.{Work};
 
 use crate::rows::note_rows;
 use dsql_calls::CallRow;
-use dsql_calls::replies::{closed_reply, count_reply, reply_of};
+use dsql_calls::replies::{count_reply, done_reply, reply_of};
 use dsql_driver::{DriverAnswer, DriverCall};
 use dsql_history::{CallRecord, Reply, Work};
 use dsql_journal::Entry;
@@ -80,6 +80,7 @@ fn tell(it: &mut CallRecord, work: &Work, asked: &DriverCall, answer: DriverAnsw
 {
     match asked {
         DriverCall::Exec(_, _) => it.decided = reply_of(answer),
+        DriverCall::Ping => it.decided = done_reply(answer),
         DriverCall::CloseRows(_) => tell_closing(it, work, answer),
         DriverCall::Prepare(_) => tell_prepare(it, answer),
         DriverCall::Reset => {
@@ -96,7 +97,7 @@ fn tell_closing(it: &mut CallRecord, work: &Work, answer: DriverAnswer)
     ensures { it.new ≡ decided_as (close_decision work.now answer it.old.decided) it.old }
 {
     match work {
-        Work::Close(_) => it.decided = closed_reply(answer),
+        Work::Close(_) => it.decided = done_reply(answer),
         _ => tell_closing_of_row(it, answer),
     }
 }
