@@ -12,7 +12,7 @@ use Rattle.dsql_pool.specs.Moved.{begun, shut}
 use Rattle.dsql_pool.proofs.Found.{KeepsNumber, found_changed}
 use Rattle.dsql_history.specs.declared.event.Event.{Event}
 use Rattle.dsql_history.specs.declared.event.Event.TheVariants.{Run, Entered, Heard, Pool, Waits, Ticked, SetLimit, Replied, Ended}
-use Rattle.dsql_history.specs.declared.event.Op.TheVariants.{Exec, Query, One, Next, Scan, RowsClose, Err, DbClose, Stats}
+use Rattle.dsql_history.specs.declared.event.Op.TheVariants.{Exec, Query, One, Ping, Next, Scan, RowsClose, Err, DbClose, Stats}
 use Rattle.dsql_history.specs.declared.event.Control.TheVariants.{Tick, Set}
 use Rattle.dsql_history.specs.Readers.Journals.{journal}
 use Rattle.dsql_history.specs.Readers.Pool.{pool, place, wanted_by}
@@ -79,6 +79,7 @@ born (Entered client n DbClose ∷ H) l = born_with H (Entered client n DbClose)
 born (Entered client n (Exec text args) ∷ H) l = born_with H (Entered client n (Exec text args)) (born H l.0) refl (λ c none. none) (λ c. refl)
 born (Entered client n (Query label text args) ∷ H) l = born_with H (Entered client n (Query label text args)) (born H l.0) refl (λ c none. none) (λ c. refl)
 born (Entered client n (One dests text args) ∷ H) l = born_with H (Entered client n (One dests text args)) (born H l.0) refl (λ c none. none) (λ c. refl)
+born (Entered client n Ping ∷ H) l = born_with H (Entered client n Ping) (born H l.0) refl (λ c none. none) (λ c. refl)
 born (Entered client n (Next rows) ∷ H) l = born_with H (Entered client n (Next rows)) (born H l.0) refl (λ c none. none) (λ c. refl)
 born (Entered client n (Scan rows dests) ∷ H) l = born_with H (Entered client n (Scan rows dests)) (born H l.0) refl (λ c none. none) (λ c. refl)
 born (Entered client n (RowsClose rows) ∷ H) l = born_with H (Entered client n (RowsClose rows)) (born H l.0) refl (λ c none. none) (λ c. refl)

@@ -17,7 +17,7 @@ use Rattle.dsql_pool.specs.Moved.{begun, shut}
 use Rattle.dsql_pool.proofs.Found.{KeepsNumber, found_changed}
 use Rattle.dsql_history.specs.declared.event.Event.{Event}
 use Rattle.dsql_history.specs.declared.event.Event.TheVariants.{Run, Entered, Heard, Pool, Waits, Ticked, SetLimit, Replied, Ended}
-use Rattle.dsql_history.specs.declared.event.Op.TheVariants.{Exec, Query, One, Next, Scan, RowsClose, Err, DbClose, Stats}
+use Rattle.dsql_history.specs.declared.event.Op.TheVariants.{Exec, Query, One, Ping, Next, Scan, RowsClose, Err, DbClose, Stats}
 use Rattle.dsql_history.specs.declared.event.Control.TheVariants.{Tick, Set}
 use Rattle.dsql_history.specs.Readers.Pool.{pool, place, uses, wanted_by}
 use Rattle.dsql_history.specs.Rules.Moves.{moves_from, numbers_lending}
@@ -86,6 +86,7 @@ stays_found H (SetLimit s k) c t n l a is used = inl (ap (conn_of c) (control_co
 stays_found H (Entered client k (Exec text args)) c t n l a is used = inl refl
 stays_found H (Entered client k (Query label text args)) c t n l a is used = inl refl
 stays_found H (Entered client k (One dests text args)) c t n l a is used = inl refl
+stays_found H (Entered client k Ping) c t n l a is used = inl refl
 stays_found H (Entered client k (Next rows)) c t n l a is used = inl refl
 stays_found H (Entered client k (Scan rows dests)) c t n l a is used = inl refl
 stays_found H (Entered client k (RowsClose rows)) c t n l a is used = inl refl
@@ -203,6 +204,7 @@ lent_before H (SetLimit s k) c t n l is = inl (sym (ap (place_of c) (control_con
 lent_before H (Entered client k (Exec text args)) c t n l is = inl is
 lent_before H (Entered client k (Query label text args)) c t n l is = inl is
 lent_before H (Entered client k (One dests text args)) c t n l is = inl is
+lent_before H (Entered client k Ping) c t n l is = inl is
 lent_before H (Entered client k (Next rows)) c t n l is = inl is
 lent_before H (Entered client k (Scan rows dests)) c t n l is = inl is
 lent_before H (Entered client k (RowsClose rows)) c t n l is = inl is

@@ -36,7 +36,7 @@ use Rattle.dsql_work.specs.Works.{asks}
 use Rattle.dsql_history.specs.declared.event.Event.{Event}
 use Rattle.dsql_history.specs.declared.event.Event.TheVariants.{Run, Entered, Heard, Pool, Waits, Ticked, SetLimit, Replied, Ended}
 use Rattle.dsql_history.specs.declared.event.Op.{Op}
-use Rattle.dsql_history.specs.declared.event.Op.TheVariants.{Exec, Query, One, Next, Scan, RowsClose, Err as Fault, DbClose, Stats}
+use Rattle.dsql_history.specs.declared.event.Op.TheVariants.{Exec, Query, One, Ping, Next, Scan, RowsClose, Err as Fault, DbClose, Stats}
 use Rattle.dsql_history.specs.declared.event.Control.{Control}
 use Rattle.dsql_history.specs.declared.event.Setting.TheVariants.{MaxOpen, MaxIdle, MaxLife, MaxIdleTime}
 use Rattle.dsql_history.specs.declared.event.Control.TheVariants.{Tick, Set}
@@ -312,6 +312,7 @@ owned (Entered client n DbClose ∷ H) l =
 owned (Entered client n (Exec text args) ∷ H) l = owned_entered H client n (Exec text args) (owned H l.0) refl refl
 owned (Entered client n (Query label text args) ∷ H) l = owned_entered H client n (Query label text args) (owned H l.0) refl refl
 owned (Entered client n (One dests text args) ∷ H) l = owned_entered H client n (One dests text args) (owned H l.0) refl refl
+owned (Entered client n Ping ∷ H) l = owned_entered H client n Ping (owned H l.0) refl refl
 owned (Entered client n (Next rows) ∷ H) l = owned_entered H client n (Next rows) (owned H l.0) refl refl
 owned (Entered client n (Scan rows dests) ∷ H) l = owned_entered H client n (Scan rows dests) (owned H l.0) refl refl
 owned (Entered client n (RowsClose rows) ∷ H) l = owned_entered H client n (RowsClose rows) (owned H l.0) refl refl

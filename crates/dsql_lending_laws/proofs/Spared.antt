@@ -37,7 +37,7 @@ use Rattle.dsql_pool.proofs.Returning.{when_serves}
 use Rattle.dsql_pool.proofs.Young.{member_is_idle}
 use Rattle.dsql_history.specs.declared.event.Event.{Event}
 use Rattle.dsql_history.specs.declared.event.Event.TheVariants.{Run, Entered, Heard, Pool, Waits, Ticked, SetLimit, Replied, Ended}
-use Rattle.dsql_history.specs.declared.event.Op.TheVariants.{Exec, Query, One, Next, Scan, RowsClose, Err as Fault, DbClose, Stats}
+use Rattle.dsql_history.specs.declared.event.Op.TheVariants.{Exec, Query, One, Ping, Next, Scan, RowsClose, Err as Fault, DbClose, Stats}
 use Rattle.dsql_history.specs.declared.event.Control.{Control}
 use Rattle.dsql_history.specs.declared.event.Setting.TheVariants.{MaxOpen, MaxIdle, MaxLife, MaxIdleTime}
 use Rattle.dsql_history.specs.declared.event.Control.TheVariants.{Tick, Set}
@@ -278,6 +278,7 @@ spared (Entered client n DbClose ∷ H) l = let rest = before_event H (Entered c
 spared (Entered client n (Exec text args) ∷ H) l = refl
 spared (Entered client n (Query label text args) ∷ H) l = refl
 spared (Entered client n (One dests text args) ∷ H) l = refl
+spared (Entered client n Ping ∷ H) l = refl
 spared (Entered client n (Next rows) ∷ H) l = refl
 spared (Entered client n (Scan rows dests) ∷ H) l = refl
 spared (Entered client n (RowsClose rows) ∷ H) l = refl
@@ -471,9 +472,7 @@ answered_first : (answer : DriverAnswer) (c : ℕ) (p : Pooled) (at : Option Pla
 answered_first answer c p (Some (Opening wanted)) is h =
     elim (is_done answer) as (λ b. first_of c (cond b (moves_opened c p) (moves_failed c p)) ≡ true) [ true ↦ opened_first c p (place_at p c) (ap is_opening is) | false ↦ same_itself c ]
 answered_first answer c p (Some Closing) is h = same_itself c
-answered_first answer c p (Some Idle) is h = absurd cc
-answered_first answer c p (Some (Lent t o)) is h = absurd cc
-answered_first answer c p None is h = absurd cc
+answered_first answer c p _ is h = absurd cc
 
 first_follows : (ms : List Move) (e : Event) (c : ℕ) → first_of c ms ≡ true → follows ms e ≡ true → moves c e ≡ true
 first_follows [] e c h f = absurd cc

@@ -13,7 +13,7 @@ use Rattle.dsql_pool.proofs.Frees.{passing}
 use Rattle.dsql_work.specs.Works.{asks}
 use Rattle.dsql_history.specs.declared.event.Event.{Event}
 use Rattle.dsql_history.specs.declared.event.Event.TheVariants.{Run, Entered, Heard, Pool, Waits, Ticked, SetLimit, Replied, Ended}
-use Rattle.dsql_history.specs.declared.event.Op.TheVariants.{Exec, Query, One, Next, Scan, RowsClose, Err, DbClose, Stats}
+use Rattle.dsql_history.specs.declared.event.Op.TheVariants.{Exec, Query, One, Ping, Next, Scan, RowsClose, Err, DbClose, Stats}
 use Rattle.dsql_history.specs.declared.event.Control.TheVariants.{Tick, Set}
 use Rattle.dsql_history.specs.declared.record.Try.{Try}
 use Rattle.dsql_history.specs.declared.record.Try.TheVariants.{Served, Refused}
@@ -137,6 +137,7 @@ wants_no_more H Ended n a some silent none = let few = shut_wants n (pool H) in 
 wants_no_more H (Entered client m (Exec text args)) n a some silent none = none
 wants_no_more H (Entered client m (Query label text args)) n a some silent none = none
 wants_no_more H (Entered client m (One dests text args)) n a some silent none = none
+wants_no_more H (Entered client m Ping) n a some silent none = none
 wants_no_more H (Entered client m (Next rows)) n a some silent none = none
 wants_no_more H (Entered client m (Scan rows dests)) n a some silent none = none
 wants_no_more H (Entered client m (RowsClose rows)) n a some silent none = none

@@ -20,7 +20,7 @@ use Rattle.dsql_pool.specs.Pooled.{next_tenure}
 use Rattle.dsql_work.specs.Journals.{ends_invalid}
 use Rattle.dsql_work.specs.Works.{asks, user_of}
 use Rattle.dsql_work.specs.declared.work.Work.{Work}
-use Rattle.dsql_work.specs.declared.work.Work.TheVariants.{Execute, ReadOne, HandOut, Fetch, Close, Look}
+use Rattle.dsql_work.specs.declared.work.Work.TheVariants.{Execute, ReadOne, HandOut, Ping, Fetch, Close, Look}
 use Rattle.dsql_history.specs.declared.event.Event.{Event}
 use Rattle.dsql_history.specs.declared.event.Event.TheVariants.{Ended}
 use Rattle.dsql_history.specs.Readers.Calls.{user}
@@ -76,6 +76,7 @@ user_is H m n wishes.Nothing own some wants = ap (λ k. user_of (work H k) k) wa
     itself Execute h = refl
     itself (ReadOne dests) h = refl
     itself (HandOut label) h = refl
+    itself Ping h = refl
     itself (Fetch k) h = absurd cc
     itself (Close k) h = absurd cc
     itself Look h = absurd cc

@@ -17,7 +17,7 @@ use Rattle.dsql_rows.specs.OpenRows.{is_live, ended_by, rows_of}
 use Rattle.dsql_rows.proofs.Numbers.{changes_one_number}
 use Rattle.dsql_work.specs.declared.work.Aim.{Aim}
 use Rattle.dsql_work.specs.declared.work.Work.{Work}
-use Rattle.dsql_work.specs.declared.work.Work.TheVariants.{Execute, ReadOne, HandOut, Fetch, Close, Look}
+use Rattle.dsql_work.specs.declared.work.Work.TheVariants.{Execute, ReadOne, HandOut, Ping, Fetch, Close, Look}
 use Rattle.dsql_work.specs.Exchanges.{step_of, with_exchange}
 use Rattle.dsql_work.specs.HandedOut.{Made, after_fetch}
 use Rattle.dsql_work.specs.HandedOut as sequential
@@ -35,6 +35,7 @@ own_rows (HandOut label) m (calls.Query input params) (answers.Cursor cursor col
 own_rows (HandOut label) m q a R k = refl
 own_rows Execute m q a R k = refl
 own_rows (ReadOne dests) m q a R k = refl
+own_rows Ping m q a R k = refl
 own_rows (Fetch n) m q a R k = absurd cc
 own_rows (Close n) m q a R k = absurd cc
 own_rows Look m q a R k = absurd cc

@@ -10,7 +10,7 @@ use Rattle.dsql_pool.specs.declared.moves.Move.TheVariants.{OpenStart, Lend, Bac
 use Rattle.dsql_pool.specs.Places.{conn_of, is_idle, is_opening}
 use Rattle.dsql_history.specs.declared.event.Event.{Event}
 use Rattle.dsql_history.specs.declared.event.Event.TheVariants.{Run, Entered, Heard, Pool, Waits, Ticked, SetLimit, Replied, Ended}
-use Rattle.dsql_history.specs.declared.event.Op.TheVariants.{Exec, Query, One, Next, Scan, RowsClose, Err, DbClose, Stats}
+use Rattle.dsql_history.specs.declared.event.Op.TheVariants.{Exec, Query, One, Ping, Next, Scan, RowsClose, Err, DbClose, Stats}
 use Rattle.dsql_history.specs.declared.event.Control.TheVariants.{Tick, Set}
 use Rattle.dsql_history.specs.Readers.Journals.{heard_in}
 use Rattle.dsql_history.specs.Readers.Pool.{pool, place}
@@ -46,6 +46,7 @@ many_there z f (Entered client n DbClose ∷ H) = many_there z f H
 many_there z f (Entered client n (Exec text args) ∷ H) = many_there z f H
 many_there z f (Entered client n (Query label text args) ∷ H) = many_there z f H
 many_there z f (Entered client n (One dests text args) ∷ H) = many_there z f H
+many_there z f (Entered client n Ping ∷ H) = many_there z f H
 many_there z f (Entered client n (Next rows) ∷ H) = many_there z f H
 many_there z f (Entered client n (Scan rows dests) ∷ H) = many_there z f H
 many_there z f (Entered client n (RowsClose rows) ∷ H) = many_there z f H

@@ -43,7 +43,7 @@ sends_alike : (can : Caps) (text : List ℕ) (params : List Param) (w v : Wish) 
     → is_some (body_after can (asking text params aims.HandOut) v made) ≡ true
 sends_alike can text params w v Start made rows cursor over m e h = absurd (no_cursor made rows (ap own_cursor m) cursor)
 sends_alike can text params w v WasReset made rows cursor over m e h = absurd (no_cursor made rows (ap own_cursor m) cursor)
-sends_alike can text params w v WasSkipped made rows cursor over m e h = absurd (no_cursor made rows (ap own_cursor m) cursor)
+sends_alike can text params w v WasSkipped made rows cursor over m e h = absurd (no_cursor made rows (ap own_cursor m.0) cursor)
 sends_alike can text params w v (WasPrepared handle) made rows cursor over m e h = absurd (no_cursor made rows m.none cursor)
 sends_alike can text params w v (HasRows own it) made rows cursor over m e h = absurd (true_false (rows_are_over made) over m.is_over)
 sends_alike can text params w v (HasRead own it false) made rows cursor over m e h = absurd (true_false (rows_are_over made) over m.is_over)
@@ -59,11 +59,13 @@ handed_alike : (can : Caps) (text : List ℕ) (params : List Param) (aim : Aim) 
 handed_alike can text params aims.HandOut w v s made rows cursor over m e h = sends_alike can text params w v s made rows cursor over m e h
 handed_alike can text params aims.Execute w v s made rows cursor over m e h = absurd cc
 handed_alike can text params aims.ReadOne w v s made rows cursor over m e h = absurd cc
+handed_alike can text params aims.Ping w v s made rows cursor over m e h = absurd cc
 
 none_handed : (aim : Aim) (rows : ℕ) → handed aim [] ≡ Some rows → ⊥
 none_handed aims.Execute rows h = cc
 none_handed aims.ReadOne rows h = cc
 none_handed aims.HandOut rows h = cc
+none_handed aims.Ping rows h = cc
 
 closes_as_well : (can : Caps) (reset : Bool) (asked : Asked) (w : Wish) (L : List Entry) (rows : ℕ) → handed asked.aim (exchanges L) ≡ Some rows → MadeAt can asked (step L) (exchanges L)
     → Holds asked.aim (step L) (exchanges L) → is_some (line_after can reset asked w L) ≡ true → is_some (line_after can reset asked wishes.Close L) ≡ true

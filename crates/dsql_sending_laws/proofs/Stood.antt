@@ -236,6 +236,7 @@ stands_event H (Entered client n ops.DbClose) l s d = stands_closed H (Entered c
 stands_event H (Entered client n (ops.Exec text args)) l s d = stands_quiet H (Entered client n (ops.Exec text args)) l.1 s (λ c. refl) (λ c. refl) d
 stands_event H (Entered client n (ops.Query label text args)) l s d = stands_quiet H (Entered client n (ops.Query label text args)) l.1 s (λ c. refl) (λ c. refl) d
 stands_event H (Entered client n (ops.One dests text args)) l s d = stands_quiet H (Entered client n (ops.One dests text args)) l.1 s (λ c. refl) (λ c. refl) d
+stands_event H (Entered client n ops.Ping) l s d = stands_quiet H (Entered client n ops.Ping) l.1 s (λ c. refl) (λ c. refl) d
 stands_event H (Entered client n (ops.Next rows)) l s d = stands_quiet H (Entered client n (ops.Next rows)) l.1 s (λ c. refl) (λ c. refl) d
 stands_event H (Entered client n (ops.Scan rows dests)) l s d = stands_quiet H (Entered client n (ops.Scan rows dests)) l.1 s (λ c. refl) (λ c. refl) d
 stands_event H (Entered client n (ops.RowsClose rows)) l s d = stands_quiet H (Entered client n (ops.RowsClose rows)) l.1 s (λ c. refl) (λ c. refl) d

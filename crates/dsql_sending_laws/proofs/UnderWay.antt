@@ -9,7 +9,7 @@ use Rattle.dsql_pool.specs.declared.conn.Place.{Place}
 use Rattle.dsql_pool.specs.declared.conn.Place.TheVariants.{Idle, Lent, Opening, Closing}
 use Rattle.dsql_rows.specs.declared.rows.Rows.{Rows}
 use Rattle.dsql_work.specs.declared.work.Work.{Work}
-use Rattle.dsql_work.specs.declared.work.Work.TheVariants.{Execute, ReadOne, HandOut, Fetch, Close, Look}
+use Rattle.dsql_work.specs.declared.work.Work.TheVariants.{Execute, ReadOne, HandOut, Ping, Fetch, Close, Look}
 use Rattle.dsql_work.specs.Works.{user_of}
 use Rattle.dsql_work.specs.Line.{is_due}
 use Rattle.dsql_history.specs.declared.event.Event.{Event}
@@ -118,6 +118,7 @@ call_found : (H : List Event) (m n c t : ℕ) (q : DriverCall) (it : Work) → w
 call_found H m n c t q Execute works some at is due = own_found H m n c t q (site_of H m c Execute works at) is due
 call_found H m n c t q (ReadOne dests) works some at is due = own_found H m n c t q (site_of H m c (ReadOne dests) works at) is due
 call_found H m n c t q (HandOut label) works some at is due = own_found H m n c t q (site_of H m c (HandOut label) works at) is due
+call_found H m n c t q Ping works some at is due = own_found H m n c t q (site_of H m c Ping works at) is due
 call_found H m n c t q (Fetch k) works some at is due = fetch_found H m k n c t q works some (site_of H m c (Fetch k) works at) is due
 call_found H m n c t q (Close k) works some at is due = close_found H m k n c t q works some (site_of H m c (Close k) works at) is due
 call_found H m n c t q Look works some at is due = not_due q due
