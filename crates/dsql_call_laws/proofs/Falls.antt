@@ -1,6 +1,6 @@
 -- To whom a refused connection falls: each that is owed comes first, just after its answer.
 use Rattle.std.proofs.Common.{◌≡◌, ℕ, zero, suc, ◌+◌, ◌-◌, Bool, true, false, not, cond, List, [], ◌∷◌, map, take, Option, Some, None, refl, sym, ap, ◌∙◌}
-use Rattle.std.specs.Prelude.{ℤ, drop, length}
+use Rattle.std.specs.Prelude.{drop, length}
 use Rattle.std.specs.List.{list_all}
 use Rattle.std.proofs.lemmas.List.Folds.{list_all-append}
 use Rattle.dsql_journal.specs.Readers.{is_empty}

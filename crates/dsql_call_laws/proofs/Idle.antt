@@ -94,13 +94,21 @@ wants_opening n c p (Some x) is from one = at x.place refl
     at (Lent t o) there = let clash : true ≡ false = sym from ∙ ap (λ (pl : Place). is_idle (Some pl) || is_opening (Some pl)) there in absurd cc
     at Closing there = let clash : true ≡ false = sym from ∙ ap (λ (pl : Place). is_idle (Some pl) || is_opening (Some pl)) there in absurd cc
 
-lends_asker : (H : List Event) (c t : ℕ) (o : Owner) (n : ℕ) → Lawful H → Allowed H (Pool (Lend c t o n)) → n ≢ 0 → asks (work H n) ≡ true
-lends_asker H c t o n l a some = by (lending_from H c t o n (owed H) (keeps_of H (Pool (Lend c t o n)) a) refl (deserved H l))
+-- who is lent a connection may ask for one, or wants one
+pub lends_from : (H : List Event) (c t : ℕ) (o : Owner) (n : ℕ) → Lawful H → Allowed H (Pool (Lend c t o n)) → (may_ask H n ≡ true) ⊎ (wants n (pool H) ≡ true)
+lends_from H c t o n l a = by (lending_from H c t o n (owed H) (keeps_of H (Pool (Lend c t o n)) a) refl (deserved H l))
   where
-    by : (may_ask H n ≡ true) ⊎ Deserves c n (pool H) → asks (work H n) ≡ true
+    by : (may_ask H n ≡ true) ⊎ Deserves c n (pool H) → (may_ask H n ≡ true) ⊎ (wants n (pool H) ≡ true)
+    by (inl may) = inl may
+    by (inr (inl waited)) = inr (wants_waiting n (pool H) waited)
+    by (inr (inr opened)) = inr (wants_opening n c (pool H) (conn_of c (pool H).conns) refl (moves_of H c t o n a) opened)
+
+pub lends_asker : (H : List Event) (c t : ℕ) (o : Owner) (n : ℕ) → Lawful H → Allowed H (Pool (Lend c t o n)) → n ≢ 0 → asks (work H n) ≡ true
+lends_asker H c t o n l a some = by (lends_from H c t o n l a)
+  where
+    by : (may_ask H n ≡ true) ⊎ (wants n (pool H) ≡ true) → asks (work H n) ≡ true
     by (inl may) = works_alone H n may
-    by (inr (inl waited)) = wants_its_own H n l some (wants_waiting n (pool H) waited)
-    by (inr (inr opened)) = wants_its_own H n l some (wants_opening n c (pool H) (conn_of c (pool H).conns) refl (moves_of H c t o n a) opened)
+    by (inr wanting) = wants_its_own H n l some wanting
 
 pub lent_asks : (H : List Event) (n : ℕ) → Lawful H → n ≢ 0 → 1 ≤ lent_count n (pool H) → asks (work H n) ≡ true
 lent_asks [] n l some now = absurd (omega (arith, now))

@@ -1,6 +1,5 @@
 -- Who wants a connection has settled nothing itself; so where a refusal falls to it, or the database is closed, it is told so.
 use Rattle.std.proofs.Common.{◌≡◌, ◌≢◌, ℕ, ◌≤◌, ◌<◌, ◌==◌, ◌⊎◌, inl, inr, Bool, true, false, not, ◌&&◌, cond, List, [], ◌∷◌, length, Option, Some, None, is_none, refl, sym, ap, subst, ◌∙◌, arith}
-use Rattle.std.specs.Prelude.{ℤ}
 use Rattle.dsql_course.specs.Made.{or_else}
 use Rattle.dsql_journal.specs.declared.entry.Entry.{Entry}
 use Rattle.dsql_pool.specs.declared.moves.Move.TheVariants.{OpenStart, Lend, Back, CloseStart, Gone, Fell}
@@ -45,7 +44,7 @@ none_settled : (o p q : Option Reply) → is_none (or_else (or_else o p) q) ≡ 
 none_settled None p q h = refl
 none_settled (Some r) p q h = absurd cc
 
-asks_undecided : (H : List Event) (n : ℕ) → may_ask H n ≡ true → decided H n ≡ None
+pub asks_undecided : (H : List Event) (n : ℕ) → may_ask H n ≡ true → decided H n ≡ None
 asks_undecided H n may =
     let p = pool H in
     let a = both (is_unfinished H n) (works.asks (work H n) && (has_a_try (tries H n) && (not (wants n p) && is_none (reply_due H n)))) may in

@@ -1,6 +1,6 @@
 -- Who wants a connection has had no try yet.
 use Rattle.std.proofs.Common.{◌≡◌, ◌≢◌, ℕ, ◌+◌, ◌≤◌, ◌==◌, Bool, true, false, not, ◌&&◌, ◌||◌, cond, List, [], ◌∷◌, length, Option, Some, None, is_none, refl, sym, ap, subst, ◌∙◌, arith}
-use Rattle.std.specs.Prelude.{ℤ, count_by}
+use Rattle.std.specs.Prelude.{count_by}
 use Rattle.std.specs.Option.{option_map}
 use Rattle.std.proofs.lemmas.Bool.Decides.{nat_tests}
 use Rattle.dsql_journal.specs.declared.entry.Owner.{Owner}
@@ -38,7 +38,7 @@ use Rattle.dsql_history.specs.Rules.Asking.{may_ask, ask_outcome, is_queued}
 use Rattle.dsql_history.specs.Rules.Moves.{moves_from, numbers_lending}
 use Rattle.dsql_history.specs.Legal.{Allowed, Lawful}
 use Rattle.dsql_laws.specs.Holdings.{waits_of}
-use Rattle.dsql_laws.proofs.Tests.{both}
+use Rattle.dsql_laws.proofs.Tests.{both, same_itself}
 use Rattle.dsql_laws.proofs.OwedMoves.{owed_own}
 use Rattle.dsql_laws.proofs.AtRest.{keeps_of}
 use Rattle.dsql_laws.proofs.Counts.{request-more, left_none, left_fewer, changed_fewer, gone_fewer, request-cons}
@@ -68,10 +68,7 @@ asks_untried H n may =
 lent_passes : (n t moment : ℕ) (o : Owner) (found : Option Conn) → number_of o ≡ n → (is_idle (option_map (λ x. x.place) found) || is_opening (option_map (λ x. x.place) found)) ≡ true
     → passing (is_lent_out n) (option_map (lent t o moment) found) ≡ 1
 lent_passes n t moment o None whose h = absurd cc
-lent_passes n t moment o (Some x) whose h = ap (λ (b : Bool). cond {A = ℕ} b 1 0) (ap (λ k. k == n) whose ∙ itself n)
-  where
-    itself : (k : ℕ) → (k == k) ≡ true
-    itself k = grind (arith, nat_tests)
+lent_passes n t moment o (Some x) whose h = ap (λ (b : Bool). cond {A = ℕ} b 1 0) (ap (λ k. k == n) whose ∙ same_itself n)
 
 lends_one : (H : List Event) (c t : ℕ) (o : Owner) (n : ℕ) → Allowed H (Pool (Lend c t o n)) → 1 ≤ lent_count n (moved (Lend c t o n) (pool H))
 lends_one H c t o n a =
@@ -103,7 +100,34 @@ gone_one q c (x ∷ xs) =
       | false ↦ omega (arith, split, rest, more)
     ]
 
--- to whom a refusal falls wants no connection any more
+opening_passes : (owner : Owner) (k : ℕ) (o : Option Conn) → k ≡ number_of owner → option_map (λ x. x.place) o ≡ Some (Opening (Some owner)) → passing (is_opening_for k) o ≡ 1
+opening_passes owner k None whose at = absurd cc
+opening_passes owner k (Some x) whose at =
+    let there : x.place ≡ Opening (Some owner) = cc in
+    ap (λ (pl : Place). cond {A = ℕ} (is_for k pl) 1 0) there ∙ ap (λ (b : Bool). cond {A = ℕ} b 1 0) (ap (λ j. number_of owner == j) whose ∙ same_itself (number_of owner))
+
+-- to whom a refusal falls wanted a connection
+pub fallen_wanted : (H : List Event) (c n : ℕ) → Allowed H (Pool (Fell c n)) → n ≢ 0 → 1 ≤ wanted n (pool H)
+fallen_wanted H c n a some = let f = falls H c n a in by f.wanted f.opening f.to
+  where
+    by : (w : Option Owner) → place H c ≡ Some (Opening w) → n ≡ falls_to (Some (Opening w)) (pool H) → 1 ≤ wanted n (pool H)
+    by (Some owner) is to =
+        let found = opening_passes owner n (conn_of c (pool H).conns) to is in
+        let counted = found_counts (is_opening_for n) c (pool H).conns in
+        omega (arith, found, counted)
+    by None is to = waited (pool H).waiting refl
+      where
+        waited : (rs : List Request) → (pool H).waiting ≡ rs → 1 ≤ wanted n (pool H)
+        waited [] w = absurd (some (to ∙ ap (λ rs. oldest_call rs) w))
+        waited (r ∷ rs) w =
+            let its : n ≡ r.call = to ∙ ap (λ qs. oldest_call qs) w in
+            let here : (r.call == n) ≡ true = grind (arith, nat_tests, its) in
+            let counted = request-cons n r rs in
+            let first : cond {A = ℕ} (r.call == n) 1 0 ≡ 1 = ap (λ (b : Bool). cond {A = ℕ} b 1 0) here in
+            let all : waits_of n (pool H) ≡ count_by (λ (q : Request). q.call == n) (r ∷ rs) = ap (λ qs. count_by (λ (q : Request). q.call == n) qs) w in
+            omega (arith, counted, first, all)
+
+-- and wants none any more
 pub fallen_unwanting : (H : List Event) (c n : ℕ) → Lawful (Pool (Fell c n) ∷ H) → n ≢ 0 → wanted n (moved (Fell c n) (pool H)) ≡ 0
 fallen_unwanting H c n l some = let f = falls H c n l.1 in by f.wanted f.opening f.to
   where
@@ -112,19 +136,10 @@ fallen_unwanting H c n l some = let f = falls H c n l.1 in by f.wanted f.opening
         let p = pool H in
         let none = left_none n p.waiting in
         let less = gone_one (is_opening_for n) c p.conns in
-        let found = opening_found owner n (conn_of c p.conns) to is in
+        let found = opening_passes owner n (conn_of c p.conns) to is in
         let one = one_at_most H n l.0 some in
         let apart = homes_apart n p.conns in
         omega (arith, none, less, found, one, apart)
-      where
-        itself : (k : ℕ) → (k == k) ≡ true
-        itself k = grind (arith, nat_tests)
-
-        opening_found : (owner : Owner) (k : ℕ) (o : Option Conn) → k ≡ number_of owner → option_map (λ x. x.place) o ≡ Some (Opening (Some owner)) → passing (is_opening_for k) o ≡ 1
-        opening_found owner k None whose at = absurd cc
-        opening_found owner k (Some x) whose at =
-            let there : x.place ≡ Opening (Some owner) = cc in
-            ap (λ (pl : Place). cond {A = ℕ} (is_for k pl) 1 0) there ∙ ap (λ (b : Bool). cond {A = ℕ} b 1 0) (ap (λ j. number_of owner == j) whose ∙ itself (number_of owner))
     by None is to = waited (pool H).waiting refl
       where
         waited : (rs : List Request) → (pool H).waiting ≡ rs → wanted n (moved (Fell c n) (pool H)) ≡ 0
@@ -175,7 +190,7 @@ joins_untried H k n may had now =
     had (omega (arith, more, none, now)))
 
 -- a try of another call
-other_try : (k n : ℕ) (x : Try) (ts : List Try) → (k == n) ≡ false → length (with_try (k == n) x ts) ≡ length ts
+pub other_try : (k n : ℕ) (x : Try) (ts : List Try) → (k == n) ≡ false → length (with_try (k == n) x ts) ≡ length ts
 other_try k n x ts not = ap (λ b. length (with_try b x ts)) not
 
 pub wanting_untried : (H : List Event) (n : ℕ) → Lawful H → n ≢ 0 → 1 ≤ wanted n (pool H) → length (tries H n) ≡ 0

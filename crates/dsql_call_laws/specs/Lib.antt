@@ -1,3 +1,4 @@
 pub mod Bounds
 pub mod Chores
 pub mod Served
+pub mod Pings
