@@ -1,22 +1,12 @@
 -- To whom a refusal falls, and who still waits as the database is closed, stands where it replies.
-use Rattle.std.proofs.Common.{◌≡◌, ◌≢◌, ℕ, ◌≤◌, ◌==◌, Bool, true, false, ◌&&◌, cond, List, [], ◌∷◌, Option, Some, None, is_some, is_none, refl, ap, ◌∙◌, arith}
-use Rattle.std.specs.Prelude.{count_by}
+use Rattle.std.proofs.Common.{◌≡◌, ◌≢◌, ℕ, ◌≤◌, Bool, true, false, ◌&&◌, cond, List, [], ◌∷◌, Option, Some, None, is_some, is_none, refl, ap, ◌∙◌, arith}
 use Rattle.std.specs.List.{list_any}
 use Rattle.std.specs.Option.{option_map}
-use Rattle.std.proofs.lemmas.Bool.Decides.{nat_tests}
 use Rattle.dsql_course.specs.Made.{or_else}
-use Rattle.dsql_journal.specs.declared.entry.Owner.{Owner}
-use Rattle.dsql_journal.specs.Kinds.{number_of}
-use Rattle.dsql_wait.specs.declared.request.Request.{Request}
 use Rattle.dsql_wait.specs.Requests.{waits}
-use Rattle.dsql_pool.specs.declared.conn.Conn.{Conn}
-use Rattle.dsql_pool.specs.declared.conn.Place.{Place}
-use Rattle.dsql_pool.specs.declared.conn.Place.TheVariants.{Opening}
 use Rattle.dsql_pool.specs.declared.moves.Move.TheVariants.{Fell}
 use Rattle.dsql_pool.specs.Calls.{wants}
-use Rattle.dsql_pool.specs.Decisions.{falls_to, oldest_call}
-use Rattle.dsql_pool.specs.Places.{conn_of, is_for}
-use Rattle.dsql_pool.proofs.Frees.{passing}
+use Rattle.dsql_pool.specs.Places.{is_for}
 use Rattle.dsql_work.specs.Works.{asks}
 use Rattle.dsql_history.specs.declared.event.Event.{Event}
 use Rattle.dsql_history.specs.declared.event.Event.TheVariants.{Entered, Pool, Ended}
@@ -29,23 +19,21 @@ use Rattle.dsql_history.specs.declared.reply.Reply.{Reply}
 use Rattle.dsql_history.specs.declared.reply.Reply.TheVariants.{DbClosed}
 use Rattle.dsql_history.specs.Readers.Course.{or_end, db_end}
 use Rattle.dsql_history.specs.Readers.Calls.{site, decided, told_by_tries, told_by_others}
-use Rattle.dsql_history.specs.Readers.Pool.{pool, place, smallest}
+use Rattle.dsql_history.specs.Readers.Pool.{pool, smallest}
 use Rattle.dsql_history.specs.Readers.Tries.{tries, with_try, newest_answer}
 use Rattle.dsql_history.specs.Readers.Unfinished.{is_unfinished}
 use Rattle.dsql_history.specs.Readers.Works.{work}
 use Rattle.dsql_history.specs.Rules.Line.{due_in, due_for}
 use Rattle.dsql_history.specs.Rules.Stands.{stands, opens, stand}
-use Rattle.dsql_history.specs.Legal.{Allowed, Lawful}
-use Rattle.dsql_laws.specs.Holdings.{waits_of}
+use Rattle.dsql_history.specs.Legal.{Lawful}
 use Rattle.dsql_laws.proofs.Tests.{same_itself}
-use Rattle.dsql_laws.proofs.Counts.{request-cons, gone_fewer}
+use Rattle.dsql_laws.proofs.Counts.{gone_fewer}
 use Rattle.dsql_laws.proofs.Tried.{is_lent_out, lent_count, shut_fewer}
 use Rattle.dsql_laws.proofs.Holdings.{one_at_most}
 use Rattle.dsql_laws.proofs.Standing.{neither, none_opens}
-use Rattle.dsql_laws.proofs.Wanting.{is_opening_for, wanted, wants_counts, wants_its_own, wanting_works, homes_apart, found_counts, none_wanted}
+use Rattle.dsql_laws.proofs.Wanting.{wanted, wants_counts, wants_its_own, wanting_works, homes_apart, none_wanted}
 use Rattle.dsql_call_laws.proofs.Works.{enters_next, old_work}
-use Rattle.dsql_call_laws.proofs.Falls.{falls}
-use Rattle.dsql_call_laws.proofs.Untried.{wants_untried, fallen_unwanting}
+use Rattle.dsql_call_laws.proofs.Untried.{wants_untried, fallen_wanted, fallen_unwanting}
 use Rattle.dsql_call_laws.proofs.Refusals.{refusal_told}
 use Rattle.dsql_call_laws.proofs.Closed.{opens_for_none}
 use Rattle.dsql_call_laws.proofs.Idle.{due_lent}
@@ -80,32 +68,6 @@ wanting_unlent H n l some now =
     omega (arith, one, apart, now)
 
 -- a refusal
-
-opening_passes : (owner : Owner) (k : ℕ) (o : Option Conn) → k ≡ number_of owner → option_map (λ x. x.place) o ≡ Some (Opening (Some owner)) → passing (is_opening_for k) o ≡ 1
-opening_passes owner k None whose at = absurd cc
-opening_passes owner k (Some x) whose at =
-    let there : x.place ≡ Opening (Some owner) = cc in
-    ap (λ (pl : Place). cond {A = ℕ} (is_for k pl) 1 0) there ∙ ap (λ (b : Bool). cond {A = ℕ} b 1 0) (ap (λ j. number_of owner == j) whose ∙ same_itself (number_of owner))
-
-fallen_wanted : (H : List Event) (c n : ℕ) → Allowed H (Pool (Fell c n)) → n ≢ 0 → 1 ≤ wanted n (pool H)
-fallen_wanted H c n a some = let f = falls H c n a in by f.wanted f.opening f.to
-  where
-    by : (w : Option Owner) → place H c ≡ Some (Opening w) → n ≡ falls_to (Some (Opening w)) (pool H) → 1 ≤ wanted n (pool H)
-    by (Some owner) is to =
-        let found = opening_passes owner n (conn_of c (pool H).conns) to is in
-        let counted = found_counts (is_opening_for n) c (pool H).conns in
-        omega (arith, found, counted)
-    by None is to = waited (pool H).waiting refl
-      where
-        waited : (rs : List Request) → (pool H).waiting ≡ rs → 1 ≤ wanted n (pool H)
-        waited [] w = absurd (some (to ∙ ap (λ rs. oldest_call rs) w))
-        waited (r ∷ rs) w =
-            let its : n ≡ r.call = to ∙ ap (λ qs. oldest_call qs) w in
-            let here : (r.call == n) ≡ true = grind (arith, nat_tests, its) in
-            let counted = request-cons n r rs in
-            let first : cond {A = ℕ} (r.call == n) 1 0 ≡ 1 = ap (λ (b : Bool). cond {A = ℕ} b 1 0) here in
-            let all : waits_of n (pool H) ≡ count_by (λ (q : Request). q.call == n) (r ∷ rs) = ap (λ qs. count_by (λ (q : Request). q.call == n) qs) w in
-            omega (arith, counted, first, all)
 
 pub fallen_replies : (H : List Event) (c n : ℕ) → Lawful (Pool (Fell c n) ∷ H) → n ≢ 0 → stand (Pool (Fell c n) ∷ H) n ≡ Some stands_at.Replies
 fallen_replies H c n l some =
