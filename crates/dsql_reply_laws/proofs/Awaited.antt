@@ -9,6 +9,7 @@ use Rattle.dsql_driver.specs.declared.call.Input.TheVariants.{Text, Handle}
 use Rattle.dsql_driver.specs.declared.answer.DriverAnswer.{DriverAnswer}
 use Rattle.dsql_driver.specs.declared.answer.DriverAnswer.TheVariants.{Prepared, Cursor, Skip, Bad}
 use Rattle.dsql_driver.specs.Kinds.{is_bad, is_valid}
+use Rattle.dsql_course.specs.declared.course.Course.TheVariants as courses
 use Rattle.dsql_course.specs.declared.call.Due.TheVariants as due
 use Rattle.dsql_course.specs.declared.call.Got.TheVariants as got
 use Rattle.dsql_course.specs.declared.course.Wish.{Wish}
@@ -17,16 +18,21 @@ use Rattle.dsql_journal.specs.declared.entry.Entry.{Entry}
 use Rattle.dsql_work.specs.declared.work.Aim.{Aim}
 use Rattle.dsql_work.specs.declared.work.Aim.TheVariants as aims
 use Rattle.dsql_work.specs.Exchanges.{exchanges, step_of, got_of, with_exchange}
-use Rattle.dsql_work.specs.Line.{Asked, course_of, is_due, sent_as, run_for, body_after, line_after, handed}
+use Rattle.dsql_work.specs.Line.{Asked, is_due, run_of, sent_as, run_for, body_after, line_after, handed}
 use Rattle.dsql_work_laws.proofs.KeptRows.{keeps_rows}
 use Rattle.dsql_work_laws.proofs.CallLines.{Step, Start, WasReset, WasSkipped, WasPrepared, HasRows, HasRead, WasDone, step, step_after, goes}
-use Rattle.dsql_work_laws.proofs.MadeLines.{MadeAt, asking, first_of, second_of, then_handle, body_before, clean_when_done}
+use Rattle.dsql_work_laws.proofs.MadeLines.{MadeAt, asking, has_text, first_call, first_of, second_of, then_handle, body_before, clean_when_done}
 use Rattle.dsql_work_laws.proofs.Lines.{body_due}
 
 -- one row is read by the call itself
 abbrev pub is_one : Aim → Bool
 is_one aims.ReadOne = true
 is_one _ = false
+
+-- an answer decides for it; a ping needs none where the driver can't ping
+abbrev pub needs_answer : Caps → Aim → Bool
+needs_answer can aims.Ping = can.pinger
+needs_answer can _ = true
 
 -- a call with so many parameters, which reads one row itself or doesn't, still comes to an answer that decides
 abbrev pub awaits_after : Bool → DriverCall → DriverAnswer → ℕ → Bool
@@ -76,16 +82,56 @@ none_awaited one L count h = by_value (awaits one L count) (awaiting one L count
     by_value true k = let m : is_awaiting one (step L) ≡ true = k refl in absurd (cc)
     by_value false k = refl
 
-pub testing_step : (one : Bool) (s : Step) → goes s Valid ≡ true → is_awaiting one s ≡ false
-testing_step one WasDone h = refl
-testing_step one (HasRead own rows false) h = absurd cc
-testing_step one _ h = absurd cc
+-- a connection is tested at the end, where an answer is needed
+
+run_not_tested : (asked : Asked) (text : List ℕ) → is_due (Some (run_of asked (Text text))) Valid ≡ true → ⊥
+run_not_tested asked text h = by_aim asked.aim h
+  where
+    by_aim : (x : Aim) → is_due (Some (run_for x (Text text) asked.params)) Valid ≡ true → ⊥
+    by_aim aims.Execute k = cc
+    by_aim aims.ReadOne k = cc
+    by_aim aims.HandOut k = cc
+    by_aim aims.Ping k = cc
+
+first_untested : (can : Caps) (asked : Asked) (w : Wish) → needs_answer can asked.aim ≡ true → is_due (body_after can asked w []) Valid ≡ true → ⊥
+first_untested can asked w needs h = by_aim asked.aim needs (rw (body_before can asked w [] refl, first_of can asked.text asked.params asked.aim) at h)
+  where
+    by_fast : (b : Bool) → is_due (sent_as can asked (cond b due.Text due.Prepare)) Valid ≡ true → ⊥
+    by_fast true k = run_not_tested asked asked.text k
+    by_fast false k = cc
+
+    by_ping : (b : Bool) → b ≡ true → is_due (sent_as can asked (cond b due.Ping due.Over)) Valid ≡ true → ⊥
+    by_ping true can_ping k = cc
+    by_ping false can_ping k = cc
+
+    by_aim : (x : Aim) → needs_answer can x ≡ true → is_due (sent_as can asked (first_call x can)) Valid ≡ true → ⊥
+    by_aim aims.Execute n k = by_fast (has_fast_way courses.Exec can) k
+    by_aim aims.ReadOne n k = by_fast (has_fast_way courses.One can) k
+    by_aim aims.HandOut n k = by_fast (has_fast_way courses.Query can) k
+    by_aim aims.Ping n k = by_ping can.pinger n k
+
+testing_body : (can : Caps) (asked : Asked) (w : Wish) (s : Step) (made : List Exchange) → MadeAt can asked s made → needs_answer can asked.aim ≡ true → goes s Valid ≡ true
+    → is_due (body_after can asked w made) Valid ≡ true → is_awaiting (is_one asked.aim) s ≡ false
+testing_body can asked w Start made m needs g d = absurd (first_untested can asked w needs (rw m at d))
+testing_body can asked w WasReset made m needs g d = absurd (first_untested can asked w needs (rw m at d))
+testing_body can asked w WasDone made m needs g d = refl
+testing_body can asked w (HasRead own rows false) made m needs g d = absurd cc
+testing_body can asked w _ made m needs g d = absurd cc
+
+pub testing : (can : Caps) (reset : Bool) (asked : Asked) (w : Wish) (L : List Entry) → MadeAt can asked (step L) (exchanges L) → needs_answer can asked.aim ≡ true → goes (step L) Valid ≡ true
+    → is_due (line_after can reset asked w L) Valid ≡ true → is_awaiting (is_one asked.aim) (step L) ≡ false
+testing can true asked w [] m needs g d = absurd cc
+testing can false asked w [] m needs g d = absurd (first_untested can asked w needs d)
+testing can reset asked w (e ∷ earlier) m needs g d =
+    let b = body_due can reset asked w e earlier Valid d in
+    testing_body can asked w (step (e ∷ earlier)) (exchanges (e ∷ earlier)) m needs g b.1
 
 -- a cursor is closed once a row was fetched, where the call reads one itself
 freeing_body : (can : Caps) (text : List ℕ) (params : List Param) (aim : Aim) (w : Wish) (s : Step) (made : List Exchange) (rows : ℕ) → MadeAt can (asking text params aim) s made
     → goes s (CloseRows rows) ≡ true → is_due (body_after can (asking text params aim) w made) (CloseRows rows) ≡ true → is_awaiting (is_one aim) s ≡ false
 freeing_body can text params aims.ReadOne w (HasRows own cursor) made rows m g d = let k = rw m.sends at d in absurd cc
 freeing_body can text params aims.HandOut w (HasRows own cursor) made rows m g d = refl
+freeing_body can text params aims.Ping w (HasRows own cursor) made rows m g d = refl
 freeing_body can text params aims.Execute w (HasRows own cursor) made rows m g d = refl
 freeing_body can text params aim w (HasRead own cursor false) made rows m g d = refl
 freeing_body can text params aim w (HasRead own cursor true) made rows m g d = refl
@@ -107,6 +153,7 @@ closes_other can asked handle h true k = by_aim asked.aim k
     by_aim aims.Execute m = absurd cc
     by_aim aims.ReadOne m = absurd cc
     by_aim aims.HandOut m = absurd cc
+    by_aim aims.Ping m = absurd cc
 closes_other can asked handle h false k = refl
 
 abbrev inputs_in : Option (ℕ × ℤ) → ℤ
@@ -140,22 +187,33 @@ closing_awaits can reset asked w one (e ∷ earlier) h made g k =
 
 -- where nothing is due nothing is awaited
 
-some_first : (can : Caps) (asked : Asked) (w : Wish) → is_none (body_after can asked w []) ≡ true → ⊥
-some_first can asked w h = by_fast (has_fast_way (course_of asked.aim) can) (rw (body_before can asked w [] refl, first_of can asked.text asked.params asked.aim) at h)
+some_first : (can : Caps) (asked : Asked) (w : Wish) → needs_answer can asked.aim ≡ true → is_none (body_after can asked w []) ≡ true → ⊥
+some_first can asked w needs h = by_aim asked.aim needs (rw (body_before can asked w [] refl, first_of can asked.text asked.params asked.aim) at h)
   where
     by_fast : (b : Bool) → is_none (sent_as can asked (cond b due.Text due.Prepare)) ≡ true → ⊥
     by_fast true k = cc
     by_fast false k = cc
 
-some_second : (can : Caps) (asked : Asked) (w : Wish) → is_none (body_after can asked w ((due.Text, got.Skip) ∷ [])) ≡ true → ⊥
-some_second can asked w h =
+    by_ping : (b : Bool) → b ≡ true → is_none (sent_as can asked (cond b due.Ping due.Over)) ≡ true → ⊥
+    by_ping true can_ping k = cc
+    by_ping false can_ping k = cc
+
+    by_aim : (x : Aim) → needs_answer can x ≡ true → is_none (sent_as can asked (first_call x can)) ≡ true → ⊥
+    by_aim aims.Execute n k = by_fast (has_fast_way courses.Exec can) k
+    by_aim aims.ReadOne n k = by_fast (has_fast_way courses.One can) k
+    by_aim aims.HandOut n k = by_fast (has_fast_way courses.Query can) k
+    by_aim aims.Ping n k = by_ping can.pinger n k
+
+some_second : (can : Caps) (asked : Asked) (w : Wish) → has_text asked.aim ≡ true → is_none (body_after can asked w ((due.Text, got.Skip) ∷ [])) ≡ true → ⊥
+some_second can asked w texts h =
     let k : is_none (sent_as can asked due.Prepare) ≡ true =
-    rw (body_before can asked w ((due.Text, got.Skip) ∷ []) refl, second_of can asked.text asked.params asked.aim) at h in
+    rw (body_before can asked w ((due.Text, got.Skip) ∷ []) refl, second_of can asked.text asked.params asked.aim texts) at h in
     cc
 
 none_keep : (aim : Aim) (w : Wish) (made : List Exchange) → own_cursor made ≡ None → keeps_rows aim w made ≡ false
 none_keep aims.Execute w made h = refl
 none_keep aims.ReadOne w made h = refl
+none_keep aims.Ping w made h = refl
 none_keep aims.HandOut w made h = rw h refl
 
 done_rows : (can : Caps) (text : List ℕ) (params : List Param) (aim : Aim) (w : Wish) (own : Option ℕ) (rows : ℕ) (made : List Exchange)
@@ -163,41 +221,43 @@ done_rows : (can : Caps) (text : List ℕ) (params : List Param) (aim : Aim) (w 
 done_rows can text params aims.ReadOne w own rows made m h = let k = rw m.sends at h in absurd cc
 done_rows can text params aims.HandOut w own rows made m h = refl
 done_rows can text params aims.Execute w own rows made m h = refl
+done_rows can text params aims.Ping w own rows made m h = refl
 
-done_awaits : (can : Caps) (asked : Asked) (w : Wish) (s : Step) (made : List Exchange) → MadeAt can asked s made → is_none (body_after can asked w made) ≡ true → is_awaiting (is_one asked.aim) s ≡ false
-done_awaits can asked w Start made m h = absurd (some_first can asked w (rw m at h))
-done_awaits can asked w WasReset made m h = absurd (some_first can asked w (rw m at h))
-done_awaits can asked w WasSkipped made m h = absurd (some_second can asked w (rw m at h))
-done_awaits can asked w (WasPrepared handle) made m h = let c = clean_when_done can asked w (WasPrepared handle) made m h (none_keep asked.aim w made m.none) in absurd cc
-done_awaits can asked w (HasRows own rows) made m h = done_rows can asked.text asked.params asked.aim w own rows made m h
-done_awaits can asked w _ made m h = refl
+done_awaits : (can : Caps) (asked : Asked) (w : Wish) (s : Step) (made : List Exchange) → needs_answer can asked.aim ≡ true → MadeAt can asked s made
+    → is_none (body_after can asked w made) ≡ true → is_awaiting (is_one asked.aim) s ≡ false
+done_awaits can asked w Start made needs m h = absurd (some_first can asked w needs (rw m at h))
+done_awaits can asked w WasReset made needs m h = absurd (some_first can asked w needs (rw m at h))
+done_awaits can asked w WasSkipped made needs m h = absurd (some_second can asked w m.1 (rw m.0 at h))
+done_awaits can asked w (WasPrepared handle) made needs m h = let c = clean_when_done can asked w (WasPrepared handle) made m h (none_keep asked.aim w made m.none) in absurd cc
+done_awaits can asked w (HasRows own rows) made needs m h = done_rows can asked.text asked.params asked.aim w own rows made m h
+done_awaits can asked w _ made needs m h = refl
 
 ended_awaits : (one : Bool) (q : DriverCall) (a : DriverAnswer) (count : ℕ) → is_bad a || is_valid q ≡ true → awaits_after one q a count ≡ false
 ended_awaits one q Bad count h = refl
 ended_awaits one Valid a count h = refl
 ended_awaits one q a count h = absurd cc
 
-nothing_awaited : (can : Caps) (reset : Bool) (asked : Asked) (w : Wish) (L : List Entry) → MadeAt can asked (step L) (exchanges L) → is_none (line_after can reset asked w L) ≡ true
+nothing_awaited : (can : Caps) (reset : Bool) (asked : Asked) (w : Wish) (L : List Entry) → needs_answer can asked.aim ≡ true → MadeAt can asked (step L) (exchanges L) → is_none (line_after can reset asked w L) ≡ true
     → awaits (is_one asked.aim) L (length asked.params) ≡ false
-nothing_awaited can true asked w [] made h = absurd cc
-nothing_awaited can false asked w [] made h = absurd (some_first can asked w h)
-nothing_awaited can reset asked w (e ∷ earlier) made h = by_end (is_bad e.answer || is_valid e.call) refl h
+nothing_awaited can true asked w [] needs made h = absurd cc
+nothing_awaited can false asked w [] needs made h = absurd (some_first can asked w needs h)
+nothing_awaited can reset asked w (e ∷ earlier) needs made h = by_end (is_bad e.answer || is_valid e.call) refl h
   where
     by_end : (b : Bool) → is_bad e.answer || is_valid e.call ≡ b → is_none (cond b None (body_after can asked w (exchanges (e ∷ earlier)))) ≡ true
         → awaits (is_one asked.aim) (e ∷ earlier) (length asked.params) ≡ false
     by_end true is k = ended_awaits (is_one asked.aim) e.call e.answer (length asked.params) is
     by_end false is k =
-        none_awaited (is_one asked.aim) (e ∷ earlier) (length asked.params) (done_awaits can asked w (step (e ∷ earlier)) (exchanges (e ∷ earlier)) made k)
+        none_awaited (is_one asked.aim) (e ∷ earlier) (length asked.params) (done_awaits can asked w (step (e ∷ earlier)) (exchanges (e ∷ earlier)) needs made k)
 
 some_when : {A : Type 0} (o : Option A) → (is_none o ≡ true → ⊥) → is_some o ≡ true
 some_when None h = absurd (h refl)
 some_when (Some x) h = refl
 
 -- where an answer is awaited something is due
-pub awaited_due : (can : Caps) (reset : Bool) (asked : Asked) (w : Wish) (L : List Entry) → MadeAt can asked (step L) (exchanges L) → awaits (is_one asked.aim) L (length asked.params) ≡ true
+pub awaited_due : (can : Caps) (reset : Bool) (asked : Asked) (w : Wish) (L : List Entry) → needs_answer can asked.aim ≡ true → MadeAt can asked (step L) (exchanges L) → awaits (is_one asked.aim) L (length asked.params) ≡ true
     → is_some (line_after can reset asked w L) ≡ true
-awaited_due can reset asked w L made h =
-    some_when (line_after can reset asked w L) (λ none. never (awaits (is_one asked.aim) L (length asked.params)) h (nothing_awaited can reset asked w L made none))
+awaited_due can reset asked w L needs made h =
+    some_when (line_after can reset asked w L) (λ none. never (awaits (is_one asked.aim) L (length asked.params)) h (nothing_awaited can reset asked w L needs made none))
   where
     never : (b : Bool) → b ≡ true → b ≡ false → ⊥
     never b x y = cc
@@ -209,9 +269,10 @@ no_cursor made rows h k = cc
 opened_none : (can : Caps) (text : List ℕ) (params : List Param) (aim : Aim) (s : Step) (made : List Exchange) (rows : ℕ) → MadeAt can (asking text params aim) s made → handed aim made ≡ Some rows → is_awaiting (is_one aim) s ≡ false
 opened_none can text params aims.Execute s made rows m h = absurd cc
 opened_none can text params aims.ReadOne s made rows m h = absurd cc
+opened_none can text params aims.Ping s made rows m h = absurd cc
 opened_none can text params aims.HandOut Start made rows m h = absurd (no_cursor made rows (ap own_cursor m) h)
 opened_none can text params aims.HandOut WasReset made rows m h = absurd (no_cursor made rows (ap own_cursor m) h)
-opened_none can text params aims.HandOut WasSkipped made rows m h = absurd (no_cursor made rows (ap own_cursor m) h)
+opened_none can text params aims.HandOut WasSkipped made rows m h = absurd (no_cursor made rows (ap own_cursor m.0) h)
 opened_none can text params aims.HandOut (WasPrepared handle) made rows m h = absurd (no_cursor made rows m.none h)
 opened_none can text params aims.HandOut _ made rows m h = refl
 

@@ -7,11 +7,11 @@ use Rattle.dsql_value.specs.Arguments.{count_fault, largest_count}
 use Rattle.dsql_driver.specs.Fits.{fits_of, is_memory}
 use Rattle.dsql_driver.specs.declared.caps.Caps.{Caps}
 use Rattle.dsql_driver.specs.declared.call.DriverCall.{DriverCall}
-use Rattle.dsql_driver.specs.declared.call.DriverCall.TheVariants.{Reset, Valid, Prepare, Exec, Query, Next, CloseRows, CloseStmt}
+use Rattle.dsql_driver.specs.declared.call.DriverCall.TheVariants.{Reset, Valid, Ping, Prepare, Exec, Query, Next, CloseRows, CloseStmt}
 use Rattle.dsql_driver.specs.declared.call.Input.{Input}
 use Rattle.dsql_driver.specs.declared.call.Input.TheVariants.{Text, Handle}
 use Rattle.dsql_driver.specs.declared.answer.DriverAnswer.{DriverAnswer}
-use Rattle.dsql_driver.specs.declared.answer.DriverAnswer.TheVariants.{Prepared, Result, Cursor, Row, End, Skip, Bad, Fail}
+use Rattle.dsql_driver.specs.declared.answer.DriverAnswer.TheVariants.{Done, Prepared, Result, Cursor, Row, End, Skip, Bad, Fail}
 use Rattle.dsql_scan.specs.declared.dest.Dest.{Dest}
 use Rattle.dsql_course.specs.declared.course.Wish.{Wish}
 use Rattle.dsql_course.specs.declared.course.Wish.TheVariants as wishes
@@ -19,7 +19,7 @@ use Rattle.dsql_course.specs.Made.{Exchange, own_cursor}
 use Rattle.dsql_journal.specs.declared.entry.Entry.{Entry}
 use Rattle.dsql_work.specs.declared.work.Aim.TheVariants as aims
 use Rattle.dsql_work.specs.declared.work.Work.{Work}
-use Rattle.dsql_work.specs.declared.work.Work.TheVariants.{Execute, ReadOne, HandOut, Fetch, Close, Look}
+use Rattle.dsql_work.specs.declared.work.Work.TheVariants.{Execute, ReadOne, HandOut, Ping as Pings, Fetch, Close, Look}
 use Rattle.dsql_work.specs.Works.{asks}
 use Rattle.dsql_work.specs.Exchanges.{exchanges, step_of, with_exchange}
 use Rattle.dsql_work.specs.Line.{Asked, aim_of, is_due, line_after}
@@ -31,7 +31,7 @@ use Rattle.dsql_work_laws.proofs.CallLines.{Step, HasRows, HasRead, step, step_a
 use Rattle.dsql_work_laws.proofs.MadeLines.{MadeAt, queries_it, asking}
 use Rattle.dsql_work_laws.proofs.HandedLines.{SentAt}
 use Rattle.dsql_call_laws.proofs.Looks.{told_any}
-use Rattle.dsql_reply_laws.proofs.Awaited.{is_one, awaits, awaits_after, none_awaited, testing_step, freeing, closing_awaits}
+use Rattle.dsql_reply_laws.proofs.Awaited.{is_one, needs_answer, awaits, awaits_after, none_awaited, testing, freeing, closing_awaits}
 
 impossible : false ≡ true → ⊥
 impossible h = cc
@@ -99,6 +99,7 @@ fetch_settles can text params (HandOut label) w s made rows a own fetch x =
     let over = x.over rows c.1 in
     absurd (fetch over.0)
 fetch_settles can text params Execute w s made rows a own fetch x = let c = cursor_at can (asking text params aims.Execute) s made rows x.next x.before in absurd (impossible c.0)
+fetch_settles can text params Pings w s made rows a own fetch x = let c = cursor_at can (asking text params aims.Ping) s made rows x.next x.before in absurd (impossible c.0)
 fetch_settles can text params (Fetch k) w s made rows a own fetch x = absurd cc
 fetch_settles can text params (Close k) w s made rows a own fetch x = absurd cc
 fetch_settles can text params Look w s made rows a own fetch x = absurd cc
@@ -115,45 +116,50 @@ cursor_settles : (it : Work) (rows : ℕ) (columns : List (List ℕ)) → asks i
 cursor_settles (HandOut label) rows columns own reads = refl
 cursor_settles (ReadOne dests) rows columns own reads = refl
 cursor_settles Execute rows columns own reads = absurd cc
+cursor_settles Pings rows columns own reads = absurd cc
 cursor_settles (Fetch k) rows columns own reads = absurd cc
 cursor_settles (Close k) rows columns own reads = absurd cc
 cursor_settles Look rows columns own reads = absurd cc
 
 -- after a call that is due was answered, either the reply is settled, or another answer decides
 pub settled_on : (can : Caps) (reset : Bool) (text : List ℕ) (params : List Param) (it : Work) (w : Wish) (L : List Entry) (q : DriverCall) (a : DriverAnswer) (d : Option Reply) → asks it ≡ true
-    → (w ≡ wishes.Fetch → ⊥) → SentAt can (asking text params (aim_of it)) w (step L) (exchanges L) q a → is_due (line_after can reset (asking text params (aim_of it)) w L) q ≡ true
+    → needs_answer can (aim_of it) ≡ true → (w ≡ wishes.Fetch → ⊥) → SentAt can (asking text params (aim_of it)) w (step L) (exchanges L) q a → is_due (line_after can reset (asking text params (aim_of it)) w L) q ≡ true
     → is_some d || awaits (is_one (aim_of it)) L (length params) ≡ true → is_some (decision (length params) it q a d) || awaits_after (is_one (aim_of it)) q a (length params) ≡ true
-settled_on can reset text params it w L Reset Bad d own fetch x k before = refl
-settled_on can reset text params it w L Reset a d own fetch x k before = or_true _ _ refl
-settled_on can reset text params it w L (Exec (Text t) ps) (Result last affected) d own fetch x k before = refl
-settled_on can reset text params it w L (Exec (Text t) ps) Skip d own fetch x k before = refl
-settled_on can reset text params it w L (Exec (Text t) ps) Bad d own fetch x k before = refl
-settled_on can reset text params it w L (Exec (Text t) ps) (Fail why) d own fetch x k before = refl
-settled_on can reset text params it w L (Exec (Text t) ps) _ d own fetch x k before = absurd (impossible (misfit _ _ x.fit x.heard))
-settled_on can reset text params it w L (Exec (Handle h) ps) (Result last affected) d own fetch x k before = refl
-settled_on can reset text params it w L (Exec (Handle h) ps) Bad d own fetch x k before = refl
-settled_on can reset text params it w L (Exec (Handle h) ps) (Fail why) d own fetch x k before = refl
-settled_on can reset text params it w L (Exec (Handle h) ps) _ d own fetch x k before = absurd (impossible (misfit _ _ x.fit x.heard))
-settled_on can reset text params it w L (Query input ps) (Cursor rows columns) d own fetch x k before =
+settled_on can reset text params it w L Reset Bad d own needs fetch x k before = refl
+settled_on can reset text params it w L Reset a d own needs fetch x k before = or_true _ _ refl
+settled_on can reset text params it w L Ping Done d own needs fetch x k before = refl
+settled_on can reset text params it w L Ping Bad d own needs fetch x k before = refl
+settled_on can reset text params it w L Ping (Fail why) d own needs fetch x k before = refl
+settled_on can reset text params it w L Ping _ d own needs fetch x k before = absurd (impossible (misfit _ _ x.fit x.heard))
+settled_on can reset text params it w L (Exec (Text t) ps) (Result last affected) d own needs fetch x k before = refl
+settled_on can reset text params it w L (Exec (Text t) ps) Skip d own needs fetch x k before = refl
+settled_on can reset text params it w L (Exec (Text t) ps) Bad d own needs fetch x k before = refl
+settled_on can reset text params it w L (Exec (Text t) ps) (Fail why) d own needs fetch x k before = refl
+settled_on can reset text params it w L (Exec (Text t) ps) _ d own needs fetch x k before = absurd (impossible (misfit _ _ x.fit x.heard))
+settled_on can reset text params it w L (Exec (Handle h) ps) (Result last affected) d own needs fetch x k before = refl
+settled_on can reset text params it w L (Exec (Handle h) ps) Bad d own needs fetch x k before = refl
+settled_on can reset text params it w L (Exec (Handle h) ps) (Fail why) d own needs fetch x k before = refl
+settled_on can reset text params it w L (Exec (Handle h) ps) _ d own needs fetch x k before = absurd (impossible (misfit _ _ x.fit x.heard))
+settled_on can reset text params it w L (Query input ps) (Cursor rows columns) d own needs fetch x k before =
     cursor_settles it rows columns own (opened_reads can (asking text params (aim_of it)) (step L) (exchanges L) input ps rows columns x.after)
-settled_on can reset text params it w L (Query (Text t) ps) Skip d own fetch x k before = or_true _ _ refl
-settled_on can reset text params it w L (Query input ps) Bad d own fetch x k before = or_some _ _ (query_decides it Bad refl)
-settled_on can reset text params it w L (Query input ps) (Fail why) d own fetch x k before = or_some _ _ (query_decides it (Fail why) refl)
-settled_on can reset text params it w L (Query (Text t) ps) _ d own fetch x k before = absurd (impossible (misfit _ _ x.fit x.heard))
-settled_on can reset text params it w L (Query (Handle h) ps) _ d own fetch x k before = absurd (impossible (misfit _ _ x.fit x.heard))
-settled_on can reset text params it w L (Prepare t) (Prepared handle inputs) d own fetch x k before = counted inputs (length params)
-settled_on can reset text params it w L (Prepare t) Bad d own fetch x k before = refl
-settled_on can reset text params it w L (Prepare t) (Fail why) d own fetch x k before = refl
-settled_on can reset text params it w L (Prepare t) _ d own fetch x k before = absurd (impossible (misfit _ _ x.fit x.heard))
-settled_on can reset text params it w L (Next rows) a d own fetch x k before = or_some _ _ (fetch_settles can text params it w (step L) (exchanges L) rows a own fetch x)
-settled_on can reset text params it w L (CloseRows rows) a d own fetch x k before =
+settled_on can reset text params it w L (Query (Text t) ps) Skip d own needs fetch x k before = or_true _ _ refl
+settled_on can reset text params it w L (Query input ps) Bad d own needs fetch x k before = or_some _ _ (query_decides it Bad refl)
+settled_on can reset text params it w L (Query input ps) (Fail why) d own needs fetch x k before = or_some _ _ (query_decides it (Fail why) refl)
+settled_on can reset text params it w L (Query (Text t) ps) _ d own needs fetch x k before = absurd (impossible (misfit _ _ x.fit x.heard))
+settled_on can reset text params it w L (Query (Handle h) ps) _ d own needs fetch x k before = absurd (impossible (misfit _ _ x.fit x.heard))
+settled_on can reset text params it w L (Prepare t) (Prepared handle inputs) d own needs fetch x k before = counted inputs (length params)
+settled_on can reset text params it w L (Prepare t) Bad d own needs fetch x k before = refl
+settled_on can reset text params it w L (Prepare t) (Fail why) d own needs fetch x k before = refl
+settled_on can reset text params it w L (Prepare t) _ d own needs fetch x k before = absurd (impossible (misfit _ _ x.fit x.heard))
+settled_on can reset text params it w L (Next rows) a d own needs fetch x k before = or_some _ _ (fetch_settles can text params it w (step L) (exchanges L) rows a own fetch x)
+settled_on can reset text params it w L (CloseRows rows) a d own needs fetch x k before =
     or_some _ _ (close_keeps it a d own
     (first_only (is_some d) (awaits (is_one (aim_of it)) L (length params)) before
     (none_awaited (is_one (aim_of it)) L (length params) (freeing can reset (asking text params (aim_of it)) w L rows x.before x.next k))))
-settled_on can reset text params it w L (CloseStmt h) a d own fetch x k before =
+settled_on can reset text params it w L (CloseStmt h) a d own needs fetch x k before =
     or_some _ _ (first_only (is_some d) (awaits (is_one (aim_of it)) L (length params)) before
     (closing_awaits can reset (asking text params (aim_of it)) w (is_one (aim_of it)) L h x.before x.next k))
-settled_on can reset text params it w L Valid a d own fetch x k before =
+settled_on can reset text params it w L Valid a d own needs fetch x k before =
     or_some _ _ (first_only (is_some d) (awaits (is_one (aim_of it)) L (length params)) before
-    (none_awaited (is_one (aim_of it)) L (length params) (testing_step (is_one (aim_of it)) (step L) x.next)))
-settled_on can reset text params it w L q a d own fetch x k before = absurd (impossible x.sent)
+    (none_awaited (is_one (aim_of it)) L (length params) (testing can reset (asking text params (aim_of it)) w L x.before needs x.next k)))
+settled_on can reset text params it w L q a d own needs fetch x k before = absurd (impossible x.sent)

@@ -16,7 +16,7 @@ use Rattle.dsql_history.specs.declared.event.Op.TheVariants as ops
 use Rattle.dsql_history.specs.declared.reply.Reply.{Reply}
 use Rattle.dsql_history.specs.declared.reply.Reply.TheVariants.{Truth}
 use Rattle.dsql_history.specs.Readers.Course.{caps}
-use Rattle.dsql_history.specs.Readers.Calls.{calls, call_record, decided, rows_for, rows_reply, told_at_entry, told_of_work, reply_due}
+use Rattle.dsql_history.specs.Readers.Calls.{calls, call_record, decided, rows_for, rows_reply, told_at_entry, told_of_work, told_at_lending, reply_due}
 use Rattle.dsql_history.specs.Readers.HandedOut.{rows_by, live, over, are_live, ender}
 use Rattle.dsql_history.specs.Readers.Journals.{heard_in}
 use Rattle.dsql_history.specs.Readers.Pool.{place, home}
@@ -65,6 +65,7 @@ entering_finds H (ops.Next label) k it =
 entering_finds H (ops.Exec text args) k it = absurd cc
 entering_finds H (ops.Query label text args) k it = absurd cc
 entering_finds H (ops.One dests text args) k it = absurd cc
+entering_finds H ops.Ping k it = absurd cc
 entering_finds H (ops.Scan rows dests) k it = absurd cc
 entering_finds H (ops.RowsClose rows) k it = absurd cc
 entering_finds H (ops.Err rows) k it = absurd cc
@@ -143,9 +144,9 @@ fetch_due H n k r l u it is lives none =
     in
     ap (λ d. is_some d) its ∙ fetch_sends H k r l is lives
 
-pub own_settled : (o p : Option Reply) → is_some o ≡ true → is_some (or_else o p) ≡ true
-own_settled None p h = absurd cc
-own_settled (Some own) p h = refl
+pub own_settled : (o p q : Option Reply) → is_some o ≡ true → is_some (or_else (or_else o p) q) ≡ true
+own_settled None p q h = absurd cc
+own_settled (Some own) p q h = refl
 
 pub fetch_replies : (H : List Event) (n k : ℕ) → Lawful H → is_unfinished H n ≡ true → work H n ≡ Fetch k → is_some (due_for H n) ≡ false → is_some (reply_due H n) ≡ true
 fetch_replies H n k l u it none = by (finds H n k l u it)
@@ -153,14 +154,14 @@ fetch_replies H n k l u it none = by (finds H n k l u it)
     never : (b : Bool) → b ≡ true → b ≡ false → ⊥
     never b x y = cc
 
-    undecided : (r : Rows) → rows_by H k ≡ Some r → is_live r ≡ true → (o : Option Reply) → decided H n ≡ o → is_some (or_else o (told_of_work H n (work H n))) ≡ true
+    undecided : (r : Rows) → rows_by H k ≡ Some r → is_live r ≡ true → (o : Option Reply) → decided H n ≡ o → is_some (or_else (or_else o (told_of_work H n (work H n))) (told_at_lending H n)) ≡ true
     undecided r is lives (Some reply) d = refl
     undecided r is lives None d = absurd (never (is_some (due_for H n)) (fetch_due H n k r l u it is lives d) none)
 
     with_rows : (r : Rows) (b : Bool) → rows_by H k ≡ Some r → is_live r ≡ b → is_some (reply_due H n) ≡ true
     with_rows r true is lives = undecided r is lives (decided H n) refl
     with_rows r false is ended =
-        others_settled (decided H n) (told_of_work H n (work H n))
+        others_settled (decided H n) (told_of_work H n (work H n)) (told_at_lending H n)
         (ap (λ w. is_some (told_of_work H n w)) it ∙ ap (λ o. is_some (cond (over o) (Some (Truth false)) None)) is ∙ ap (λ b. is_some (cond (not b) (Some (Truth false)) None)) ended)
 
     made : (o : Option Rows) → rows_by H k ≡ o → is_some o ≡ true → is_some (reply_due H n) ≡ true
@@ -168,5 +169,5 @@ fetch_replies H n k l u it none = by (finds H n k l u it)
     made (Some r) is h = with_rows r (is_live r) is refl
 
     by : Finds H n k → is_some (reply_due H n) ≡ true
-    by (inl d) = own_settled (decided H n) (told_of_work H n (work H n)) d
+    by (inl d) = own_settled (decided H n) (told_of_work H n (work H n)) (told_at_lending H n) d
     by (inr some) = made (rows_by H k) refl some
