@@ -89,6 +89,7 @@ same_op (ops.Next rows) (ops.Next other) = bytes_eq rows other
 same_op (ops.Scan rows dests) (ops.Scan other places) = bytes_eq rows other && same_dests dests places
 same_op (ops.RowsClose rows) (ops.RowsClose other) = bytes_eq rows other
 same_op (ops.Err rows) (ops.Err other) = bytes_eq rows other
+same_op ops.Ping ops.Ping = true
 same_op ops.DbClose ops.DbClose = true
 same_op ops.Stats ops.Stats = true
 same_op _ _ = false
