@@ -15,7 +15,7 @@ use Rattle.dsql_rows.proofs.Numbers.{changes_one_number}
 use Rattle.dsql_pool.specs.declared.conn.Place.TheVariants.{Lent}
 use Rattle.dsql_pool.specs.Places.{conn_of}
 use Rattle.dsql_work.specs.declared.work.Work.{Work}
-use Rattle.dsql_work.specs.declared.work.Work.TheVariants.{Execute, ReadOne, HandOut, Fetch, Close, Look}
+use Rattle.dsql_work.specs.declared.work.Work.TheVariants.{Execute, ReadOne, HandOut, Ping, Fetch, Close, Look}
 use Rattle.dsql_work.specs.HandedOut.{Made}
 use Rattle.dsql_work.specs.Works.{asks, maker, user_of}
 use Rattle.dsql_work.specs.Line.{is_due}
@@ -117,6 +117,7 @@ sender_now H e t k P l may is h layer own others = by (e.call_no == 0) refl (due
     works Execute it user some d = own user
     works (ReadOne dests) it user some d = own user
     works (HandOut label) it user some d = own user
+    works Ping it user some d = own user
     works (Fetch j) it user some d =
         others some (inl (it ∙ ap Fetch user)) (ap (λ i. is_some (sent_for H i (wish H e.call_no i))) (sym user) ∙ some_due (sent_for H j (wish H e.call_no j)) e.call d)
     works (Close j) it user some d =
@@ -198,6 +199,7 @@ own_heard (HandOut label) m (calls.Query input params) (answers.Cursor cursor co
 own_heard (HandOut label) m q a R k own h = h
 own_heard Execute m q a R k own h = h
 own_heard (ReadOne dests) m q a R k own h = h
+own_heard Ping m q a R k own h = h
 own_heard (Fetch j) m q a R k own h = absurd cc
 own_heard (Close j) m q a R k own h = absurd cc
 own_heard Look m q a R k own h = absurd cc

@@ -10,7 +10,7 @@ use Rattle.dsql_wait.specs.Requests.{waits}
 use Rattle.dsql_pool.specs.Places.{is_for}
 use Rattle.dsql_pool.specs.Pooled.{Pooled}
 use Rattle.dsql_work.specs.declared.work.Work.{Work}
-use Rattle.dsql_work.specs.declared.work.Work.TheVariants.{Execute, ReadOne, HandOut, Fetch, Close, Look}
+use Rattle.dsql_work.specs.declared.work.Work.TheVariants.{Execute, ReadOne, HandOut, Ping, Fetch, Close, Look}
 use Rattle.dsql_work.specs.Works.{asks}
 use Rattle.dsql_history.specs.declared.event.Event.{Event}
 use Rattle.dsql_history.specs.declared.record.Stand.{Stand}
@@ -81,6 +81,7 @@ own_due : (H : List Event) (m : ℕ) (it : Work) → asks it ≡ true → due_in
 own_due H m Execute own = refl
 own_due H m (ReadOne dests) own = refl
 own_due H m (HandOut label) own = refl
+own_due H m Ping own = refl
 own_due H m (Fetch k) own = absurd cc
 own_due H m (Close k) own = absurd cc
 own_due H m Look own = absurd cc
@@ -221,6 +222,7 @@ settling_stays H e m l s h = by (work H m) refl
     by Execute is = own Execute is refl
     by (ReadOne dests) is = own (ReadOne dests) is refl
     by (HandOut label) is = own (HandOut label) is refl
+    by Ping is = own Ping is refl
     by (Fetch k) is = fetches k is (decided H m) refl
     by (Close k) is = ends k is (decided H m) refl
     by Look is = nothing (is_none (decided H m)) (was Look is)
