@@ -13,7 +13,7 @@ use Rattle.dsql_pool.specs.Pooled.{Pooled, next_number, next_tenure}
 use Rattle.dsql_work.specs.Works.{asks}
 use Rattle.dsql_history.specs.declared.event.Event.{Event}
 use Rattle.dsql_history.specs.declared.event.Event.TheVariants.{Run, Entered, Heard, Pool, Waits, Ticked, SetLimit, Replied, Ended}
-use Rattle.dsql_history.specs.declared.event.Op.TheVariants.{Exec, Query, One, Next, Scan, RowsClose, Err as Fault, DbClose, Stats}
+use Rattle.dsql_history.specs.declared.event.Op.TheVariants.{Exec, Query, One, Next, Scan, RowsClose, Err as Fault, Ping, DbClose, Stats}
 use Rattle.dsql_history.specs.declared.event.Control.{Control}
 use Rattle.dsql_history.specs.declared.event.Setting.TheVariants.{MaxOpen, MaxIdle, MaxLife, MaxIdleTime}
 use Rattle.dsql_history.specs.declared.event.Control.TheVariants.{Tick, Set}
@@ -22,7 +22,7 @@ use Rattle.dsql_history.specs.declared.reply.DbEnd.{DbEnd}
 use Rattle.dsql_history.specs.declared.reply.DbEnd.TheVariants as ends
 use Rattle.dsql_history.specs.declared.reply.Reply.{Reply}
 use Rattle.dsql_history.specs.declared.reply.Reply.TheVariants.{DbClosed}
-use Rattle.dsql_history.specs.Readers.Calls.{decided, told_by_tries, told_by_others, reply_due}
+use Rattle.dsql_history.specs.Readers.Calls.{decided, told_at_lending, told_by_others, told_by_tries, reply_due}
 use Rattle.dsql_history.specs.Readers.Course.{db_end, or_end}
 use Rattle.dsql_history.specs.Readers.Owed.{owed}
 use Rattle.dsql_history.specs.Readers.Pool.{pool, request, with_control}
@@ -64,6 +64,7 @@ closed_end (Entered client m (Next rows) ∷ H) h = closed_end H h
 closed_end (Entered client m (Scan rows dests) ∷ H) h = closed_end H h
 closed_end (Entered client m (RowsClose rows) ∷ H) h = closed_end H h
 closed_end (Entered client m (Fault rows) ∷ H) h = closed_end H h
+closed_end (Entered client m Ping ∷ H) h = closed_end H h
 closed_end (Entered client m Stats ∷ H) h = closed_end H h
 closed_end (Heard e ∷ H) h = closed_end H h
 closed_end (Pool (OpenStart c k) ∷ H) h = closed_end H h
@@ -95,7 +96,7 @@ asks_an_open_one H n may closed =
     let c = both (has_a_try (tries H n)) (not (wants n (pool H)) && is_none (reply_due H n)) b.1 in
     let d = both (not (wants n (pool H))) (is_none (reply_due H n)) c.1 in
     let told : is_some (told_by_others H n) ≡ true = ap (λ o. is_some o) (told_own H n (work H n) b.0) ∙ some_told H (tries H n) c.0 (closed_end H closed) in
-    neither (reply_due H n) (others_settled (decided H n) (told_by_others H n) told) d.1
+    neither (reply_due H n) (others_settled (decided H n) (told_by_others H n) (told_at_lending H n) told) d.1
   where
     neither : (o : Option Reply) → is_some o ≡ true → is_none o ≡ true → ⊥
     neither None h k = cc

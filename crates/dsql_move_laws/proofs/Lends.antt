@@ -1,8 +1,13 @@
 -- Who is lent a connection sends there at once, and nothing else changes.
-use Rattle.std.proofs.Common.{◌≡◌, ◌≢◌, ℕ, ◌==◌, ◌⊎◌, inl, inr, Bool, true, false, not, ◌&&◌, ◌||◌, cond, List, [], ◌∷◌, Option, Some, None, is_some, is_none, refl, sym, ap, ◌∙◌}
+use Rattle.std.proofs.Common.{◌≡◌, ◌≢◌, ℕ, ◌==◌, ◌⊎◌, inl, inr, Bool, true, false, not, ◌&&◌, ◌||◌, cond, List, [], ◌∷◌, Option, Some, None, is_some, is_none, refl, sym, ap, ◌∙◌, arith, ◌+◌}
 use Rattle.std.specs.Prelude.{length}
+use Rattle.dsql_driver.specs.declared.caps.Caps.{Caps}
+use Rattle.dsql_driver.specs.declared.call.DriverCall.TheVariants.{Valid}
+use Rattle.dsql_course.specs.declared.call.Due.TheVariants as due
+use Rattle.dsql_course.specs.declared.course.Course.TheVariants as courses
 use Rattle.dsql_course.specs.declared.course.Wish.{Wish}
 use Rattle.dsql_course.specs.declared.course.Wish.TheVariants as wishes
+use Rattle.dsql_course.specs.Made.{has_fast_way}
 use Rattle.dsql_journal.specs.declared.entry.Owner.{Owner}
 use Rattle.dsql_journal.specs.declared.entry.Owner.TheVariants.{Call}
 use Rattle.dsql_journal.specs.Kinds.{number_of}
@@ -14,12 +19,15 @@ use Rattle.dsql_pool.specs.declared.conn.Place.TheVariants.{Idle, Lent, Opening,
 use Rattle.dsql_pool.specs.declared.moves.Move.TheVariants.{Lend}
 use Rattle.dsql_pool.specs.Changes.{lent}
 use Rattle.dsql_pool.specs.Places.{is_for, is_idle, is_opening}
+use Rattle.dsql_work.specs.declared.work.Aim.{Aim}
+use Rattle.dsql_work.specs.declared.work.Aim.TheVariants as aims
 use Rattle.dsql_work.specs.declared.work.Work.{Work}
-use Rattle.dsql_work.specs.declared.work.Work.TheVariants.{Execute, ReadOne, HandOut, Fetch, Close, Look}
+use Rattle.dsql_work.specs.declared.work.Work.TheVariants.{Execute, ReadOne, HandOut, Ping, Fetch, Close, Look}
 use Rattle.dsql_work.specs.Exchanges.{exchanges}
 use Rattle.dsql_work.specs.Works.{asks, user_of}
-use Rattle.dsql_work.specs.Line.{aim_of, handed}
+use Rattle.dsql_work.specs.Line.{Asked, aim_of, body_after, handed, line_after, sent_as}
 use Rattle.dsql_work_laws.proofs.HandedLines.{cursor_of}
+use Rattle.dsql_work_laws.proofs.MadeLines.{body_before, first_call, first_of}
 use Rattle.dsql_history.specs.declared.event.Event.{Event}
 use Rattle.dsql_history.specs.declared.event.Event.TheVariants.{Pool}
 use Rattle.dsql_history.specs.declared.record.Stand.TheVariants as stands_at
@@ -38,17 +46,18 @@ use Rattle.dsql_history.specs.Rules.Stands.{stand}
 use Rattle.dsql_history.specs.Legal.{Lawful}
 use Rattle.dsql_laws.proofs.Numbered.{unfinished_from_one}
 use Rattle.dsql_laws.proofs.Standing.{stands_sending, stands_waiting}
-use Rattle.dsql_laws.proofs.Tests.{second, same_number, other_number}
+use Rattle.dsql_laws.proofs.Tests.{second, same_itself, same_number, other_number}
+use Rattle.dsql_call_laws.specs.Pings.{answers_pings}
 use Rattle.dsql_call_laws.proofs.Lists.{same_or_not}
+use Rattle.dsql_call_laws.proofs.Pinged.{is_able, tried_able}
 use Rattle.dsql_call_laws.proofs.Untried.{moves_of}
 use Rattle.dsql_lending_laws.proofs.Found.{changed_place}
-use Rattle.dsql_lending_laws.proofs.Owners.{at_home, lent_asks}
+use Rattle.dsql_lending_laws.proofs.Owners.{at_home, lent_asks, lent_number}
 use Rattle.dsql_lending_laws.proofs.Rows.{ender_over}
 use Rattle.dsql_sending_laws.proofs.Answered.{same_lent}
 use Rattle.dsql_sending_laws.proofs.Invariant.{fresh_lending}
 use Rattle.dsql_sending_laws.proofs.Lines.{line_here}
 use Rattle.dsql_sending_laws.proofs.Sound.{sound}
-use Rattle.dsql_reply_laws.proofs.Awaited.{is_one, awaits, awaited_due}
 use Rattle.dsql_other_laws.proofs.Untouched.{or_second}
 use Rattle.dsql_heard_laws.proofs.Answered.{lent_used}
 use Rattle.dsql_heard_laws.proofs.Settling.{all_within}
@@ -82,6 +91,7 @@ none_handed : (it : Work) → handed (aim_of it) [] ≡ None
 none_handed Execute = refl
 none_handed (ReadOne dests) = refl
 none_handed (HandOut label) = refl
+none_handed Ping = refl
 none_handed (Fetch k) = refl
 none_handed (Close k) = refl
 none_handed Look = refl
@@ -92,18 +102,61 @@ no_rows H c t n l =
     let hands = s.hands c t n (lent_there H c t n l) in
     no_cursor (rows_by H n) (hands.cursors ∙ (ap (λ L. handed (aim_of (work H n)) (exchanges L)) (unheard H c t n l) ∙ none_handed (work H n)))
 
+-- the driver is sent something for it
+abbrev is_answered : Caps → Aim → Bool
+is_answered can aims.Ping = answers_pings can
+is_answered can _ = true
+
+first_due : (can : Caps) (asked : Asked) (w : Wish) → is_answered can asked.aim ≡ true → is_some (body_after can asked w []) ≡ true
+first_due can asked w answered = rw (body_before can asked w [] refl, first_of can asked.text asked.params asked.aim) (by_aim asked.aim answered)
+  where
+    by_fast : (b : Bool) → is_some (sent_as can asked (cond b due.Text due.Prepare)) ≡ true
+    by_fast true = refl
+    by_fast false = refl
+
+    by_ping : (p v : Bool) → can.validator ≡ v → (p || v) ≡ true → is_some (sent_as can asked (cond p due.Ping due.Over)) ≡ true
+    by_ping true v is h = refl
+    by_ping false true is h = ap (λ b. is_some (cond b (Some Valid) None)) is
+    by_ping false false is h = absurd cc
+
+    by_aim : (x : Aim) → is_answered can x ≡ true → is_some (sent_as can asked (first_call x can)) ≡ true
+    by_aim aims.Execute h = by_fast (has_fast_way courses.Exec can)
+    by_aim aims.ReadOne h = by_fast (has_fast_way courses.One can)
+    by_aim aims.HandOut h = by_fast (has_fast_way courses.Query can)
+    by_aim aims.Ping h = by_ping can.pinger can.validator refl h
+
+-- who is lent a connection has a driver that is sent something for it
+
+answered_aim : (can : Caps) (it : Work) → is_able can it ≡ true → is_answered can (aim_of it) ≡ true
+answered_aim can Execute h = refl
+answered_aim can (ReadOne dests) h = refl
+answered_aim can (HandOut label) h = refl
+answered_aim can Ping h = h
+answered_aim can (Fetch k) h = refl
+answered_aim can (Close k) h = refl
+answered_aim can Look h = refl
+
+lent_answered : (H : List Event) (c t n : ℕ) → Lawful (lends H c t n) → is_answered (caps H) (aim_of (work H n)) ≡ true
+lent_answered H c t n l =
+    let K = lends H c t n in
+    let newest : length (tries K n) ≡ length (tries H n) + 1 = ap (λ b. length (with_try b Served (tries H n))) (same_itself n) ∙ omega arith in
+    answered_aim (caps H) (work H n) (tried_able K n l (lent_number K c t n l (lent_there H c t n l)) (omega (arith, newest)))
+
 sends_first : (H : List Event) (c t n : ℕ) (w : Wish) → Lawful (lends H c t n) → is_some (line_of (lends H c t n) n w) ≡ true
 sends_first H c t n w l =
     let K = lends H c t n in
-    let s = sound K l in
-    let at = lent_there H c t n l in
-    ap (λ d. is_some d) (line_here K c t n w l at)
-    ∙ awaited_due (caps K) (is_reset_due K c) (asked_by K n) w (heard_in K c t) (s.made c t n at) (ap (λ L. awaits (is_one (asked_by H n).aim) L (length (asked_by H n).params)) (unheard H c t n l))
+    ap (λ d. is_some d) (line_here K c t n w l (lent_there H c t n l))
+    ∙ (ap (λ L. is_some (line_after (caps K) (is_reset_due K c) (asked_by K n) w L)) (unheard H c t n l) ∙ by (is_reset_due K c))
+  where
+    by : (b : Bool) → is_some (line_after (caps H) b (asked_by H n) w []) ≡ true
+    by true = refl
+    by false = first_due (caps H) (asked_by H n) w (lent_answered H c t n l)
 
 own_due : (H : List Event) (n : ℕ) (it : Work) → asks it ≡ true → due_in H n it ≡ line_of H n wishes.Nothing
 own_due H n Execute own = refl
 own_due H n (ReadOne dests) own = refl
 own_due H n (HandOut label) own = refl
+own_due H n Ping own = refl
 own_due H n (Fetch k) own = absurd cc
 own_due H n (Close k) own = absurd cc
 own_due H n Look own = absurd cc
@@ -121,6 +174,7 @@ own_user : (it : Work) (n : ℕ) → asks it ≡ true → user_of it n ≡ n
 own_user Execute n own = refl
 own_user (ReadOne dests) n own = refl
 own_user (HandOut label) n own = refl
+own_user Ping n own = refl
 own_user (Fetch k) n own = absurd cc
 own_user (Close k) n own = absurd cc
 own_user Look n own = absurd cc

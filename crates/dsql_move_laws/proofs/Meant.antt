@@ -32,7 +32,7 @@ use Rattle.dsql_pool.specs.Pooled.{Pooled, next_number, next_tenure, place_at}
 use Rattle.dsql_pool.proofs.Found.{found_changed}
 use Rattle.dsql_history.specs.declared.event.Event.{Event}
 use Rattle.dsql_history.specs.declared.event.Event.TheVariants.{Run, Entered, Heard, Pool, Waits, Ticked, SetLimit, Replied, Ended}
-use Rattle.dsql_history.specs.declared.event.Op.TheVariants.{Exec, Query, One, Next, Scan, RowsClose, Err, DbClose, Stats}
+use Rattle.dsql_history.specs.declared.event.Op.TheVariants.{Exec, Query, One, Next, Scan, RowsClose, Err, Ping, DbClose, Stats}
 use Rattle.dsql_history.specs.declared.event.Control.{Control}
 use Rattle.dsql_history.specs.declared.event.Setting.TheVariants.{MaxOpen, MaxIdle, MaxLife, MaxIdleTime}
 use Rattle.dsql_history.specs.declared.event.Control.TheVariants.{Tick, Set}
@@ -198,6 +198,7 @@ owed_well (Entered client n (Next rows) ∷ H) l = refl
 owed_well (Entered client n (Scan rows dests) ∷ H) l = refl
 owed_well (Entered client n (RowsClose rows) ∷ H) l = refl
 owed_well (Entered client n (Err rows) ∷ H) l = refl
+owed_well (Entered client n Ping ∷ H) l = refl
 owed_well (Entered client n Stats ∷ H) l = refl
 owed_well (Heard e ∷ H) l = answered_well e.answer e.conn (pool H) (place H e.conn)
 owed_well (Pool m ∷ H) l = move_well H m (owed H) (keeps_of H (Pool m) l.1) refl (owed_own H) (owed_well H l.0)

@@ -20,7 +20,7 @@ use Rattle.dsql_pool.specs.Changes.{lent, back, closing}
 use Rattle.dsql_pool.specs.Places.{conn_of, is_for}
 use Rattle.dsql_pool.specs.Pooled.{next_number}
 use Rattle.dsql_work.specs.declared.work.Work.{Work}
-use Rattle.dsql_work.specs.declared.work.Work.TheVariants.{Execute, ReadOne, HandOut, Fetch, Close, Look}
+use Rattle.dsql_work.specs.declared.work.Work.TheVariants.{Execute, ReadOne, HandOut, Ping, Fetch, Close, Look}
 use Rattle.dsql_work.specs.Line.{line_after}
 use Rattle.dsql_history.specs.declared.event.Event.{Event}
 use Rattle.dsql_history.specs.declared.event.Event.TheVariants.{Pool}
@@ -181,6 +181,7 @@ due_moved H m j own over = ap (λ d. cond (is_unfinished H j) d None) (by (work 
     by Execute = own
     by (ReadOne dests) = own
     by (HandOut label) = own
+    by Ping = own
     by (Fetch k) = over k
     by (Close k) = over k
     by Look = refl
@@ -208,6 +209,7 @@ told_same H m j same = by (work H j)
     by Execute = own
     by (ReadOne dests) = own
     by (HandOut label) = own
+    by Ping = own
     by (Fetch k) = refl
     by (Close k) = refl
     by Look = refl

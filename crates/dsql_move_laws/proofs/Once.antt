@@ -13,7 +13,7 @@ use Rattle.dsql_pool.proofs.Found.{KeepsNumber, found_changed}
 use Rattle.dsql_pool.proofs.Placed.{found_map}
 use Rattle.dsql_history.specs.declared.event.Event.{Event}
 use Rattle.dsql_history.specs.declared.event.Event.TheVariants.{Run, Entered, Heard, Pool, Waits, Ticked, SetLimit, Replied, Ended}
-use Rattle.dsql_history.specs.declared.event.Op.TheVariants.{Exec, Query, One, Next, Scan, RowsClose, Err, DbClose, Stats}
+use Rattle.dsql_history.specs.declared.event.Op.TheVariants.{Exec, Query, One, Next, Scan, RowsClose, Err, Ping, DbClose, Stats}
 use Rattle.dsql_history.specs.declared.event.Control.TheVariants.{Tick, Set}
 use Rattle.dsql_history.specs.Readers.Pool.{pool, wanted_by}
 use Rattle.dsql_laws.proofs.Able.{keeps_number}
@@ -108,6 +108,7 @@ once (Entered client m (Next rows) ∷ H) = once H
 once (Entered client m (Scan rows dests) ∷ H) = once H
 once (Entered client m (RowsClose rows) ∷ H) = once H
 once (Entered client m (Err rows) ∷ H) = once H
+once (Entered client m Ping ∷ H) = once H
 once (Entered client m Stats ∷ H) = once H
 once (Heard e ∷ H) = once H
 once (Pool (OpenStart c k) ∷ H) = more_once (pool H).conns (opening (next_number (pool H)) (wanted_by k)) (ap (λ o. is_none o) (none_next H)) (once H)

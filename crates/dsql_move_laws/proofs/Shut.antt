@@ -20,7 +20,7 @@ use Rattle.dsql_pool.specs.Moved.{shut}
 use Rattle.dsql_pool.specs.Places.{conn_of, is_for}
 use Rattle.dsql_pool.specs.Pooled.{Pooled}
 use Rattle.dsql_work.specs.declared.work.Work.{Work}
-use Rattle.dsql_work.specs.declared.work.Work.TheVariants.{Execute, ReadOne, HandOut, Fetch, Close, Look}
+use Rattle.dsql_work.specs.declared.work.Work.TheVariants.{Execute, ReadOne, HandOut, Ping, Fetch, Close, Look}
 use Rattle.dsql_work.specs.Line.{line_after}
 use Rattle.dsql_history.specs.declared.event.Event.{Event}
 use Rattle.dsql_history.specs.declared.event.Event.TheVariants.{Entered, Ended}
@@ -192,6 +192,7 @@ told_still H client n j it h = by it h
     by Execute k = tried (tries H j) k
     by (ReadOne dests) k = tried (tries H j) k
     by (HandOut label) k = tried (tries H j) k
+    by Ping k = tried (tries H j) k
     by (Fetch i) k = k
     by (Close i) k = k
     by Look k = k
