@@ -54,6 +54,7 @@ op_is_read_back client n (op.RowsClose rows) named fits =
     ap (λ words. op_of (codes "rowsclose" ∷ words) (entered_data client n (op.RowsClose rows))) (words_of_rows rows named)
 op_is_read_back client n (op.Err rows) named fits =
     ap (λ words. op_of (codes "err" ∷ words) (entered_data client n (op.Err rows))) (words_of_rows rows named)
+op_is_read_back client n op.Ping named fits = refl
 op_is_read_back client n op.DbClose named fits = refl
 op_is_read_back client n op.Stats named fits = refl
 
@@ -71,6 +72,7 @@ entered_is_read client n (op.Next rows) few small fits = list_is_read (also (str
 entered_is_read client n (op.Scan rows dests) few small fits = list_is_read (also (string_spelled 4 _) (also (natural_spelled 4 client (omega arith)) (also (number_spelled 4 n small) (also (string_spelled 4 _) no_more))))
 entered_is_read client n (op.RowsClose rows) few small fits = list_is_read (also (string_spelled 4 _) (also (natural_spelled 4 client (omega arith)) (also (number_spelled 4 n small) (also (string_spelled 4 _) no_more))))
 entered_is_read client n (op.Err rows) few small fits = list_is_read (also (string_spelled 4 _) (also (natural_spelled 4 client (omega arith)) (also (number_spelled 4 n small) (also (string_spelled 4 _) no_more))))
+entered_is_read client n op.Ping few small fits = list_is_read (also (string_spelled 4 _) (also (natural_spelled 4 client (omega arith)) (also (number_spelled 4 n small) (also (string_spelled 4 _) no_more))))
 entered_is_read client n op.DbClose few small fits = list_is_read (also (string_spelled 4 _) (also (natural_spelled 4 client (omega arith)) (also (number_spelled 4 n small) (also (string_spelled 4 _) no_more))))
 entered_is_read client n op.Stats few small fits = list_is_read (also (string_spelled 4 _) (also (natural_spelled 4 client (omega arith)) (also (number_spelled 4 n small) (also (string_spelled 4 _) no_more))))
 

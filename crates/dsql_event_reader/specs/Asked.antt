@@ -6,7 +6,7 @@ use Rattle.serde_json.specs.Find.{at}
 use Rattle.dsql_value.specs.declared.arg.Named.{Named}
 use Rattle.dsql_scan.specs.declared.dest.Dest.{Dest}
 use Rattle.dsql_history.specs.declared.event.Op.{Op}
-use Rattle.dsql_history.specs.declared.event.Op.TheVariants.{Exec, Query, One, Next, Scan, RowsClose, Err, DbClose, Stats}
+use Rattle.dsql_history.specs.declared.event.Op.TheVariants.{Exec, Query, One, Next, Scan, RowsClose, Err, Ping, DbClose, Stats}
 use Rattle.dsql_spelling.specs.Dests.{dests_of}
 use Rattle.dsql_forms.specs.ScriptArgs.{call_of_data}
 use Rattle.dsql_script_calls.specs.ScriptWords.{spaced_words}
@@ -42,6 +42,7 @@ op_by verb words d =
     else if bytes_eq verb (codes "scan") then scan_of (slice_get words 1) (dests_in 2 words)
     else if bytes_eq verb (codes "rowsclose") then option_map RowsClose (slice_get words 1)
     else if bytes_eq verb (codes "err") then option_map Err (slice_get words 1)
+    else if bytes_eq verb (codes "ping") then Some Ping
     else if bytes_eq verb (codes "dbclose") then Some DbClose
     else if bytes_eq verb (codes "stats") then Some Stats
     else None

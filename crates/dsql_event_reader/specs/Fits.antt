@@ -111,6 +111,7 @@ is_named_op (op.Next rows) = is_name rows
 is_named_op (op.Scan rows dests) = is_name rows && has_dests dests
 is_named_op (op.RowsClose rows) = is_name rows
 is_named_op (op.Err rows) = is_name rows
+is_named_op op.Ping = true
 is_named_op op.DbClose = true
 is_named_op op.Stats = true
 

@@ -99,6 +99,7 @@ fn read_by(alloc: Global, verb: &str, words: &[&str], line: &Value) -> Result<Op
             let rows = copy_word(alloc, words, 1)?;
             Ok(Op::Err { rows })
         }
+        "ping" => Ok(Op::Ping),
         "dbclose" => Ok(Op::DbClose),
         "stats" => Ok(Op::Stats),
         _ => Err(LineFault::BadShape),

@@ -13,7 +13,7 @@ fn is_named_op(op: &Op) -> bool
     ensures { result ≡ form.is_named_op op.now }
 {
     match op {
-        Op::Exec { .. } | Op::DbClose | Op::Stats => true,
+        Op::Exec { .. } | Op::Ping | Op::DbClose | Op::Stats => true,
         Op::Query { label, .. } => is_name(label.as_str()),
         Op::One { dests, .. } => !dests.as_slice().is_empty(),
         Op::Next { rows } | Op::RowsClose { rows } | Op::Err { rows } => is_name(rows.as_str()),

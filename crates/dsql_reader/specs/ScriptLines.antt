@@ -159,6 +159,7 @@ label_fault labels (op.Next rows) = unless_made labels rows
 label_fault labels (op.Scan rows dests) = unless_made labels rows
 label_fault labels (op.RowsClose rows) = unless_made labels rows
 label_fault labels (op.Err rows) = unless_made labels rows
+label_fault labels op.Ping = None
 label_fault labels op.DbClose = None
 label_fault labels op.Stats = None
 

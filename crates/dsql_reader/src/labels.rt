@@ -54,7 +54,7 @@ impl Labels {
         ensures unchanged { OnErr result (self.new ≡ self.old) }
     {
         match op {
-            Op::Exec { .. } | Op::One { .. } | Op::DbClose | Op::Stats => Ok(()),
+            Op::Exec { .. } | Op::One { .. } | Op::Ping | Op::DbClose | Op::Stats => Ok(()),
             Op::Query { label, .. } => self.make(alloc, label.as_str()),
             Op::Next { rows } | Op::Scan { rows, .. } | Op::RowsClose { rows } | Op::Err { rows } =>
                 self.find(rows.as_str()),

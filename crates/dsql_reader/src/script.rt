@@ -27,6 +27,7 @@ pub enum ScriptLine {
     /// | `cN query R db ["TEXT",ARGS]` | `DB.QueryContext`, whose rows get the label R |
     /// | `cN next R`, `cN scan R DESTS` | `Rows.Next`, and `Rows.Scan` into these destinations |
     /// | `cN rowsclose R`, `cN err R` | `Rows.Close`, `Rows.Err` |
+    /// | `cN ping db` | `DB.PingContext` |
     /// | `cN dbclose`, `cN stats` | `DB.Close`, `DB.Stats` |
     ///
     /// Where the line stands behind `start`, the call is held: it goes on by single steps alone, until

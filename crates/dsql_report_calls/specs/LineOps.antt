@@ -16,6 +16,7 @@ op_words (op.Next rows) = codes "next " ++ rows
 op_words (op.Scan rows dests) = codes "scan " ++ (rows ++ (codes " " ++ dests_word dests))
 op_words (op.RowsClose rows) = codes "rowsclose " ++ rows
 op_words (op.Err rows) = codes "err " ++ rows
+op_words op.Ping = codes "ping db"
 op_words op.DbClose = codes "dbclose"
 op_words op.Stats = codes "stats"
 
@@ -28,6 +29,7 @@ op_data (op.Next rows) = None
 op_data (op.Scan rows dests) = None
 op_data (op.RowsClose rows) = None
 op_data (op.Err rows) = None
+op_data op.Ping = None
 op_data op.DbClose = None
 op_data op.Stats = None
 

@@ -58,6 +58,7 @@ fn write_words(alloc: Global, json: &mut Writer, op: &Op) -> Result<(), AllocErr
         }
         Op::RowsClose { rows } => labelled(alloc, "rowsclose ", rows)?,
         Op::Err { rows } => labelled(alloc, "err ", rows)?,
+        Op::Ping => return json.string("ping db"),
         Op::DbClose => return json.string("dbclose"),
         Op::Stats => return json.string("stats"),
     };
@@ -84,6 +85,7 @@ fn write_array(alloc: Global, json: &mut Writer, op: &Op) -> Result<(), AllocErr
         | Op::Scan { rows: _, dests: _ }
         | Op::RowsClose { rows: _ }
         | Op::Err { rows: _ }
+        | Op::Ping
         | Op::DbClose
         | Op::Stats => Ok(()),
     }

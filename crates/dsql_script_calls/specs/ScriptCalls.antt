@@ -45,8 +45,8 @@ dest_count _ = 0
 abbrev pub has_too_many : Verb → List Named → Bool
 has_too_many verb args = nat_lt most_args (length args) || nat_lt most_args (dest_count verb)
 
--- A text is carried out on no label, since each stands for rows, and no line makes a token: so one that is named beside the
--- database or in its place isn't there.
+-- A text is carried out on no label and none is pinged, since each stands for rows, and no line makes a token: so one that is
+-- named beside the database or in its place isn't there.
 abbrev pub call_on : Bool → Op → CallReading
 call_on true op = Ok op
 call_on false op = Err UnknownLabel
@@ -87,6 +87,16 @@ query_as (Some label) target tokens array = statement_of (Query label) target to
 abbrev pub query_of : List (List ℕ) → Option (List ℕ) → CallReading
 query_of (label ∷ target ∷ tokens) array = query_as (label_of label) target tokens array
 query_of _ array = Err BadShape
+
+-- a ping by what it is made on and the words after that, and no array
+abbrev pub ping_on : List ℕ → List (List ℕ) → Option (List ℕ) → CallReading
+ping_on target tokens (Some array) = Err BadShape
+ping_on target tokens None = if has_target target tokens then call_on (names_database target tokens) op.Ping else Err BadShape
+
+-- a ping by the words after it
+abbrev pub ping_of : List (List ℕ) → Option (List ℕ) → CallReading
+ping_of [] array = Err BadShape
+ping_of (target ∷ tokens) array = ping_on target tokens array
 
 -- the label of the rows that a call is made on, by the words after it: the label alone, and no array
 abbrev pub rows_of : List (List ℕ) → Option (List ℕ) → Option (List ℕ)
@@ -131,6 +141,7 @@ call_by verb words array =
     if bytes_eq verb (codes "exec") then exec_of words array
     else if bytes_eq verb (codes "query") then query_of words array
     else if bytes_eq verb (codes "one") then one_of words array
+    else if bytes_eq verb (codes "ping") then ping_of words array
     else if bytes_eq verb (codes "dbclose") then lone_call op.DbClose words array
     else if bytes_eq verb (codes "stats") then lone_call op.Stats words array
     else rows_call_by verb words array

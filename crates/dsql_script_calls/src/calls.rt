@@ -4,7 +4,7 @@ ghost use Rattle.std.specs.Option.{option_copied};
 ghost use Rattle.dsql_spelling.specs.Dests.{dests_of};
 ghost use Rattle.dsql_forms.specs.Outcomes.{IsReading};
 ghost use Rattle.dsql_script_calls.specs.ScriptWords.{label_of};
-ghost use Rattle.dsql_script_calls.specs.ScriptCalls.{call_of, call_by, lone_call, exec_of, query_of, query_as, one_of, one_into, statement_of, call_of_parts, names_database};
+ghost use Rattle.dsql_script_calls.specs.ScriptCalls.{call_of, call_by, lone_call, ping_of, ping_on, exec_of, query_of, query_as, one_of, one_into, statement_of, call_of_parts, names_database};
 
 use crate::{args, array, rows, targets};
 use dsql_forms::{LineFault, MAX_ARGS, What, read_dests};
@@ -74,6 +74,7 @@ fn read_call_by(
         "exec" => read_exec(alloc, words, array),
         "query" => read_query(alloc, words, array),
         "one" => read_one(alloc, words, array),
+        "ping" => read_ping(words, array),
         "dbclose" => read_lone(Op::DbClose, words, array),
         "stats" => read_lone(Op::Stats, words, array),
         _ => rows::read_call(alloc, verb, words, array),
@@ -89,6 +90,31 @@ fn read_lone(op: Op, words: &[&str], array: Option<&str>) -> Result<Op, LineFaul
         return Err(LineFault::BadShape);
     }
     Ok(op)
+}
+
+/// Reads a ping by the words after it.
+fn read_ping(words: &[&str], array: Option<&str>) -> Result<Op, LineFault>
+    ensures { IsReading result
+        (ping_of (map (λ w. w.now) words.now) (option_copied array.entry)) }
+{
+    match words {
+        [target, tokens @ ..] => read_ping_on(target, tokens, array),
+        [] => Err(LineFault::BadShape),
+    }
+}
+
+/// Reads a ping by what it is made on and the words after that.
+fn read_ping_on(target: &str, tokens: &[&str], array: Option<&str>) -> Result<Op, LineFault>
+    ensures { IsReading result (ping_on target.now
+        (map (λ w. w.now) tokens.now) (option_copied array.entry)) }
+{
+    if array.is_some() || !targets::has_target(target, tokens) {
+        return Err(LineFault::BadShape);
+    }
+    if !targets::names_database(target, tokens) {
+        return Err(LineFault::UnknownLabel);
+    }
+    Ok(Op::Ping)
 }
 
 /// Reads an exec by the words after it.

@@ -30,6 +30,7 @@ const CALLS: &str =
 ["enter",1,2,"next r"]
 ["enter",1,2,"rowsclose r"]
 ["enter",1,2,"err r"]
+["enter",1,2,"ping db"]
 ["enter",1,2,"dbclose"]
 ["enter",1,2,"stats"]
 ["heard",1,4,"tx:2",3,2,["prepare","a"],["prepared",8,-1]]

@@ -133,6 +133,8 @@ start c1 scan r i64
 start c1 rowsclose r
 = held ["enter",1,1,"err r"]
 start c1 err r
+= held ["enter",1,1,"ping db"]
+start c1 ping db
 = held ["enter",1,1,"dbclose"]
 start c1 dbclose
 = held ["enter",1,1,"stats"]

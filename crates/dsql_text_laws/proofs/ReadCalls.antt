@@ -7,7 +7,7 @@ use Rattle.std.proofs.lemmas.List.Splits.{slice_split_none, slice_split_at}
 use Rattle.dsql_scan.specs.declared.dest.Dest.{Dest}
 use Rattle.dsql_scan.specs.declared.dest.Dest.TheVariants.{Text}
 use Rattle.dsql_history.specs.declared.event.Op.{Op}
-use Rattle.dsql_history.specs.declared.event.Op.TheVariants.{Exec, Query, One, Next, Scan, RowsClose, Err, DbClose, Stats}
+use Rattle.dsql_history.specs.declared.event.Op.TheVariants.{Exec, Query, One, Next, Scan, RowsClose, Err, Ping, DbClose, Stats}
 use Rattle.dsql_spelling.specs.Dests.{dest_word, dests_word, dest_of, dests_of_words, dests_of, comma}
 use Rattle.dsql_report_calls.specs.LineOps.{op_words, op_data}
 use Rattle.dsql_reader.specs.declared.script.Head.{Head}
@@ -81,6 +81,8 @@ call_is_read (RowsClose rows) None may seen = ap (λ words. call_of (codes "rows
 call_is_read (RowsClose rows) (Some array) may seen = absurd seen
 call_is_read (Err rows) None may seen = ap (λ words. call_of (codes "err" ∷ words) None) (words_of_rows rows may) ∙ rw may refl
 call_is_read (Err rows) (Some array) may seen = absurd seen
+call_is_read Ping None may seen = refl
+call_is_read Ping (Some array) may seen = absurd seen
 call_is_read DbClose None may seen = refl
 call_is_read DbClose (Some array) may seen = absurd seen
 call_is_read Stats None may seen = refl

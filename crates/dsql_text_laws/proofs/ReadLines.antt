@@ -2,7 +2,7 @@
 use Rattle.std.proofs.Common.{◌≡◌, ℕ, List, [], ◌∷◌, ◌++◌, Bool, true, false, codes, Option, Some, None, Ok, option_map, append-nil, refl, ap, sym, ◌∙◌}
 use Rattle.serde_json.specs.Written.{compact_text}
 use Rattle.dsql_history.specs.declared.event.Op.{Op}
-use Rattle.dsql_history.specs.declared.event.Op.TheVariants.{Exec, Query, One, Next, Scan, RowsClose, Err, DbClose, Stats}
+use Rattle.dsql_history.specs.declared.event.Op.TheVariants.{Exec, Query, One, Next, Scan, RowsClose, Err, Ping, DbClose, Stats}
 use Rattle.dsql_spelling.specs.Dests.{dests_word}
 use Rattle.dsql_report_calls.specs.LineOps.{op_words, op_data}
 use Rattle.dsql_reader.specs.declared.script.Head.{Head}
@@ -32,6 +32,7 @@ op_lacks (Next rows) may = label_lacks bracket rows refl may
 op_lacks (Scan rows dests) may = lacks_both bracket rows (codes " " ++ dests_word dests) (label_lacks bracket rows refl may.0) (dests_lack_bracket dests)
 op_lacks (RowsClose rows) may = label_lacks bracket rows refl may
 op_lacks (Err rows) may = label_lacks bracket rows refl may
+op_lacks Ping may = refl
 op_lacks DbClose may = refl
 op_lacks Stats may = refl
 
@@ -76,6 +77,7 @@ text_is_line head held word client (Next rows) is may = plain head held word cli
 text_is_line head held word client (Scan rows dests) is may = plain head held word client (Scan rows dests) is may
 text_is_line head held word client (RowsClose rows) is may = plain head held word client (RowsClose rows) is may
 text_is_line head held word client (Err rows) is may = plain head held word client (Err rows) is may
+text_is_line head held word client Ping is may = plain head held word client Ping is may
 text_is_line head held word client DbClose is may = plain head held word client DbClose is may
 text_is_line head held word client Stats is may = plain head held word client Stats is may
 
@@ -87,6 +89,7 @@ shown_is_read (Next rows) may = tt
 shown_is_read (Scan rows dests) may = tt
 shown_is_read (RowsClose rows) may = tt
 shown_is_read (Err rows) may = tt
+shown_is_read Ping may = tt
 shown_is_read DbClose may = tt
 shown_is_read Stats may = tt
 

@@ -11,7 +11,7 @@ use Rattle.dsql_value.specs.declared.arg.Named.{Named}
 use Rattle.dsql_driver.specs.declared.caps.Caps.{Caps}
 use Rattle.dsql_scan.specs.declared.dest.Dest.{Dest}
 use Rattle.dsql_history.specs.declared.event.Op.{Op}
-use Rattle.dsql_history.specs.declared.event.Op.TheVariants.{Exec, Query, One, Next, Scan, RowsClose, Err, DbClose, Stats}
+use Rattle.dsql_history.specs.declared.event.Op.TheVariants.{Exec, Query, One, Next, Scan, RowsClose, Err, Ping, DbClose, Stats}
 use Rattle.dsql_history.specs.declared.event.Setting.{Setting}
 use Rattle.dsql_history.specs.declared.event.Control.TheVariants.{Tick, Set}
 use Rattle.dsql_spelling.specs.Dests.{dests_word, dests_of}
@@ -70,6 +70,7 @@ MayBeAsked (Next rows) = IsLabel rows
 MayBeAsked (Scan rows dests) = IsLabel rows × MayBeFilled dests
 MayBeAsked (RowsClose rows) = IsLabel rows
 MayBeAsked (Err rows) = IsLabel rows
+MayBeAsked Ping = Unit {0}
 MayBeAsked DbClose = Unit {0}
 MayBeAsked Stats = Unit {0}
 

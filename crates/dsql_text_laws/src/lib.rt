@@ -12,7 +12,8 @@ pub use worked_reports::{
 };
 pub use worked_scripts::{
     worked_fault_lines, worked_label_lines, worked_limit_lines, worked_one_lines,
-    worked_script_lines, worked_start_lines, worked_step_lines, worked_tick_lines,
+    worked_ping_lines, worked_script_lines, worked_start_lines, worked_step_lines,
+    worked_tick_lines,
 };
 
 /// The array that a report shows for a call is read in a script as just this call: its text and its

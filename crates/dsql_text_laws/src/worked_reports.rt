@@ -102,7 +102,7 @@ pub fn worked_rows_lines()
 {}
 
 /// Calls wait, moments come, limits are set, connections are opened for a call or for the waiting list and closed for each
-/// cause, and replies tell of a pool that is full, of a closed database and of statistics.
+/// cause, a connection is pinged, and replies tell of a pool that is full, of a closed database and of statistics.
 pub fn worked_pool_lines()
     ensures wait { line_of (event.Waits 3) ≡ codes "[\"wait\",3]\n" }
     ensures max_open { line_of (event.SetLimit setting.MaxOpen (pos 2))
@@ -126,6 +126,7 @@ pub fn worked_pool_lines()
     ensures idle_time { close_line cause.IdleTime ≡ codes "[\"close\",2,\"idle_time\"]\n" }
     ensures db_closed { close_line cause.DbClosed ≡ codes "[\"close\",2,\"db_closed\"]\n" }
     ensures discarded { close_line cause.Discarded ≡ codes "[\"close\",2,\"discarded\"]\n" }
+    ensures ping { entered_line op.Ping ≡ codes "[\"enter\",1,4,\"ping db\"]\n" }
     ensures db_close { entered_line op.DbClose ≡ codes "[\"enter\",1,4,\"dbclose\"]\n" }
     ensures stats { entered_line op.Stats ≡ codes "[\"enter\",1,4,\"stats\"]\n" }
     ensures too_many { reply_line reply.TooMany

@@ -197,6 +197,24 @@ pub fn worked_start_lines()
     ensures no_caps_behind { read_of (after unread (Client 1 op.Stats true)) (codes "caps") ≡ Err NoSuchWord }
 {}
 
+/// Lines that ping, each with what is read of it.
+pub fn worked_ping_lines()
+    ensures ping { read_of unread (codes "c1 ping db") ≡ Ok (Client 1 op.Ping false) }
+    ensures last_client { read_of (progress 9999 Begun) (codes "c64 ping db\r") ≡ Ok (Client 64 op.Ping false) }
+    ensures held { read_of unread (codes "start c2 ping db") ≡ Ok (Client 2 op.Ping true) }
+    ensures alone { read_of unread (codes "c1 ping") ≡ Err BadShape }
+    ensures empty_word { read_of unread (codes "c1 ping ") ≡ Err BadShape }
+    ensures upper_case { read_of unread (codes "c1 ping Db") ≡ Err BadShape }
+    ensures two_words { read_of unread (codes "c1 ping db db") ≡ Err BadShape }
+    ensures three_words { read_of unread (codes "c1 ping db @k @k") ≡ Err BadShape }
+    ensures unwanted_array { read_of unread (codes "c1 ping db [\"a\"]") ≡ Err BadShape }
+    ensures array_before_label { read_of unread (codes "c1 ping x [") ≡ Err BadShape }
+    ensures label { read_of unread (codes "c1 ping x") ≡ Err UnknownLabel }
+    ensures rows { read_of (progress_past (codes "r" ∷ [])) (codes "c1 ping r") ≡ Err UnknownLabel }
+    ensures token { read_of unread (codes "c1 ping db @k") ≡ Err UnknownLabel }
+    ensures no_version_behind { read_of (after unread (Client 1 op.Ping false)) (codes "version 1") ≡ Err NoSuchWord }
+{}
+
 /// Lines of steps, and of calls whose word stands alone, each with what is read of it.
 pub fn worked_step_lines()
     ensures step { read_of unread (codes "step c2") ≡ Ok (Step 2) }
