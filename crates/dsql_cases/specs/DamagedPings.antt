@@ -6,7 +6,8 @@ use Rattle.dsql_pool.specs.declared.moves.CloseCause.TheVariants as causes
 use Rattle.dsql_history.specs.declared.event.Event.{Event}
 use Rattle.dsql_history.specs.declared.event.Event.TheVariants.{Replied}
 use Rattle.dsql_history.specs.declared.reply.Reply.TheVariants as replies
-use Rattle.dsql_cases.specs.Words.{executes, open_start, back, close, sent}
+use Rattle.dsql_cases.specs.Words.{executes, pings, open_start, back, close, sent}
+use Rattle.dsql_cases.specs.Begun.{started}
 use Rattle.dsql_cases.specs.Pings.{lent_to_a_ping, lent_to_a_ping_in_vain, executed_before}
 
 -- a Ping is sent twice
@@ -22,6 +23,14 @@ abbrev pub a_connection_is_tested_before_its_ping : List Event
 a_connection_is_tested_before_its_ping =
     lent_to_a_ping
     ++ sent 1 2 1 1 Valid answers.Done
+    ∷ []
+
+-- the driver can neither ping nor test, and a connection is opened for a ping
+abbrev pub a_connection_is_opened_for_a_ping_in_vain : List Event
+a_connection_is_opened_for_a_ping_in_vain =
+    started
+    ++ pings 1 1
+    ∷ open_start 1 1
     ∷ []
 
 -- a used connection is pinged before it is reset

@@ -7,8 +7,8 @@ use Rattle.dsql_history.specs.declared.event.Event.{Event}
 use Rattle.dsql_history.specs.declared.event.Event.TheVariants.{Waits, Replied, Ended}
 use Rattle.dsql_history.specs.declared.reply.DbEnd.TheVariants as db_ends
 use Rattle.dsql_history.specs.declared.reply.Reply.TheVariants as replies
-use Rattle.dsql_cases.specs.Words.{run, run_pingless, text, exec, one_changed, told_one_changed, executes, pings, closes_db, open_start, lend, back, close, gone, fell, house, sent}
-use Rattle.dsql_cases.specs.Begun.{started, held}
+use Rattle.dsql_cases.specs.Words.{run, run_pingless, text, exec, one_changed, told_one_changed, executes, pings, closes_db, sets_open, open_start, lend, back, close, gone, fell, house, sent}
+use Rattle.dsql_cases.specs.Begun.{started}
 
 -- a connection is lent to a ping, where the driver can
 abbrev pub lent_to_a_ping : List Event
@@ -57,16 +57,12 @@ a_driver_that_cannot_ping_is_sent_none =
     ∷ gone 1
     ∷ []
 
--- it can't test either, and nothing is sent
-abbrev pub a_driver_that_can_do_nothing_is_sent_nothing : List Event
-a_driver_that_can_do_nothing_is_sent_nothing =
+-- it can't test either, and the ping is refused as it enters
+abbrev pub a_driver_that_can_do_neither_gets_no_ping : List Event
+a_driver_that_can_do_neither_gets_no_ping =
     started
     ++ pings 1 1
-    ∷ open_start 1 1
-    ∷ house 1 1 Connect answers.Done
-    ∷ lend 1 2 1
-    ∷ back 1
-    ∷ Replied 1 replies.Ok
+    ∷ Replied 1 (replies.Driver (codes "the driver can neither ping nor test a connection"))
     ∷ []
 
 -- the test finds the connection invalid, which the ping isn't told
@@ -153,15 +149,51 @@ a_ping_gets_no_connection =
     ∷ Replied 1 (replies.Driver (codes "down"))
     ∷ []
 
--- a ping waits, and is told that the database was closed; one that enters later is told so at once
+-- an exec has the one connection that may be open, and a ping waits for it
+abbrev pub a_ping_waits : List Event
+a_ping_waits =
+    run_pingless
+    ∷ sets_open 1
+    ∷ executes 1 1
+    ∷ open_start 1 1
+    ∷ house 1 1 Connect answers.Done
+    ∷ lend 1 2 1
+    ∷ pings 2 2
+    ∷ Waits 2
+    ∷ []
+
+-- it is served once that is back, and tests it
+abbrev pub a_ping_that_waited_is_served : List Event
+a_ping_that_waited_is_served =
+    a_ping_waits
+    ++ sent 1 2 1 1 (exec text) one_changed
+    ∷ sent 1 2 1 1 Valid answers.Done
+    ∷ back 1
+    ∷ lend 1 3 2
+    ∷ Replied 1 told_one_changed
+    ∷ sent 1 3 2 2 Reset answers.Done
+    ∷ sent 1 3 2 2 Valid answers.Done
+    ∷ back 1
+    ∷ Replied 2 replies.Ok
+    ∷ []
+
+-- the database is closed meanwhile, which the ping is told; one that enters later is told so at once
 abbrev pub pings_of_a_closed_database : List Event
 pings_of_a_closed_database =
-    held
-    ++ pings 2 2
-    ∷ Waits 2
-    ∷ closes_db 3 3
+    a_ping_waits
+    ++ closes_db 3 3
     ∷ Replied 3 replies.Ok
     ∷ Replied 2 (replies.DbClosed db_ends.Close)
     ∷ pings 2 4
     ∷ Replied 4 (replies.DbClosed db_ends.Close)
+    ∷ []
+
+-- where the driver can do neither, the close is told
+abbrev pub a_close_is_told_first : List Event
+a_close_is_told_first =
+    started
+    ++ closes_db 1 1
+    ∷ Replied 1 replies.Ok
+    ∷ pings 1 2
+    ∷ Replied 2 (replies.DbClosed db_ends.Close)
     ∷ []
