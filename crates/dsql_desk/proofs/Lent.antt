@@ -8,7 +8,7 @@ use Rattle.dsql_rows.specs.OpenRows.{is_live}
 use Rattle.dsql_pool.specs.declared.conn.Place.{Place}
 use Rattle.dsql_pool.specs.declared.conn.Place.TheVariants.{Idle, Lent, Opening, Closing}
 use Rattle.dsql_work.specs.declared.work.Work.{Work}
-use Rattle.dsql_work.specs.declared.work.Work.TheVariants.{Execute, ReadOne, HandOut, Fetch, Close, Look}
+use Rattle.dsql_work.specs.declared.work.Work.TheVariants.{Execute, ReadOne, HandOut, Ping, Fetch, Close, Look}
 use Rattle.dsql_work.specs.Works.{asks, user_of}
 use Rattle.dsql_work.specs.Line.{line_after}
 use Rattle.dsql_history.specs.declared.event.Event.{Event}
@@ -47,6 +47,7 @@ pub due_by_kind : (H : List Event) (m : ℕ) (it : Work) → due_in H m it ≡ d
 due_by_kind H m Execute = refl
 due_by_kind H m (ReadOne dests) = refl
 due_by_kind H m (HandOut label) = refl
+due_by_kind H m Ping = refl
 due_by_kind H m (Fetch k) = refl
 due_by_kind H m (Close k) = refl
 due_by_kind H m Look = refl
@@ -55,6 +56,7 @@ pub user_by_kind : (it : Work) (n : ℕ) → user_of it n ≡ or_itself (rows_wo
 user_by_kind Execute n = refl
 user_by_kind (ReadOne dests) n = refl
 user_by_kind (HandOut label) n = refl
+user_by_kind Ping n = refl
 user_by_kind (Fetch k) n = refl
 user_by_kind (Close k) n = refl
 user_by_kind Look n = refl

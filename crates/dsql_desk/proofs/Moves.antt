@@ -6,7 +6,7 @@ use Rattle.dsql_pool.specs.declared.moves.Move.TheVariants.{OpenStart, Lend, Bac
 use Rattle.dsql_pool.specs.Pooled.{Pooled}
 use Rattle.dsql_history.specs.declared.event.Event.{Event}
 use Rattle.dsql_history.specs.declared.event.Event.TheVariants.{Run, Entered, Heard, Pool, Waits, Ticked, SetLimit, Replied, Ended}
-use Rattle.dsql_history.specs.declared.event.Op.TheVariants.{Exec, Query, One, Next, Scan, RowsClose, Err, DbClose, Stats}
+use Rattle.dsql_history.specs.declared.event.Op.TheVariants.{Exec, Query, One, Next, Scan, RowsClose, Err, Ping, DbClose, Stats}
 use Rattle.dsql_history.specs.declared.event.Control.{Control}
 use Rattle.dsql_history.specs.declared.event.Setting.TheVariants.{MaxOpen, MaxIdle, MaxLife, MaxIdleTime}
 use Rattle.dsql_history.specs.declared.event.Control.TheVariants.{Tick, Set}
@@ -70,6 +70,7 @@ few_drawn (Entered client n (Next rows) ∷ H) = let few = few_drawn H in omega 
 few_drawn (Entered client n (Scan rows dests) ∷ H) = let few = few_drawn H in omega (arith, few)
 few_drawn (Entered client n (RowsClose rows) ∷ H) = let few = few_drawn H in omega (arith, few)
 few_drawn (Entered client n (Err rows) ∷ H) = let few = few_drawn H in omega (arith, few)
+few_drawn (Entered client n Ping ∷ H) = let few = few_drawn H in omega (arith, few)
 few_drawn (Entered client n Stats ∷ H) = let few = few_drawn H in omega (arith, few)
 few_drawn (Heard e ∷ H) = let few = few_drawn H in omega (arith, few)
 few_drawn (Pool (OpenStart c n) ∷ H) = let few = few_drawn H in omega (arith, few)

@@ -9,7 +9,7 @@ use Rattle.dsql_pool.specs.Pooled.{Pooled, most_drawn}
 use Rattle.dsql_history.specs.declared.event.Event.{Event}
 use Rattle.dsql_history.specs.declared.event.Event.TheVariants.{Entered}
 use Rattle.dsql_history.specs.declared.event.Op.{Op}
-use Rattle.dsql_history.specs.declared.event.Op.TheVariants.{Exec, Query, One, Next, Scan, RowsClose, Err, DbClose, Stats}
+use Rattle.dsql_history.specs.declared.event.Op.TheVariants.{Exec, Query, One, Next, Scan, RowsClose, Err, Ping, DbClose, Stats}
 use Rattle.dsql_history.specs.Readers.Course.{db_end}
 use Rattle.dsql_history.specs.Readers.Owed.{owed}
 use Rattle.dsql_history.specs.Readers.Pool.{pool}
@@ -55,6 +55,7 @@ enters H client n (Next rows) other = record { owing = refl; closed_by = refl; p
 enters H client n (Scan rows dests) other = record { owing = refl; closed_by = refl; pool = refl }
 enters H client n (RowsClose rows) other = record { owing = refl; closed_by = refl; pool = refl }
 enters H client n (Err rows) other = record { owing = refl; closed_by = refl; pool = refl }
+enters H client n Ping other = record { owing = refl; closed_by = refl; pool = refl }
 enters H client n DbClose other = absurd cc
 enters H client n Stats other = record { owing = refl; closed_by = refl; pool = refl }
 

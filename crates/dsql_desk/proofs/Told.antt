@@ -4,7 +4,7 @@ use Rattle.dsql_course.specs.Made.{or_else}
 use Rattle.dsql_wait.specs.Requests.{waits}
 use Rattle.dsql_pool.specs.Places.{is_for}
 use Rattle.dsql_work.specs.declared.work.Work.{Work}
-use Rattle.dsql_work.specs.declared.work.Work.TheVariants.{Execute, ReadOne, HandOut, Fetch, Close, Look}
+use Rattle.dsql_work.specs.declared.work.Work.TheVariants.{Execute, ReadOne, HandOut, Ping, Fetch, Close, Look}
 use Rattle.dsql_work.specs.Works.{asks}
 use Rattle.dsql_history.specs.declared.event.Event.{Event}
 use Rattle.dsql_history.specs.declared.record.Stand.TheVariants.{Waits, Sends, Replies}
@@ -12,20 +12,22 @@ use Rattle.dsql_history.specs.declared.record.Try.{Try}
 use Rattle.dsql_history.specs.declared.record.Try.TheVariants.{Served, Refused}
 use Rattle.dsql_history.specs.declared.reply.Reply.{Reply}
 use Rattle.dsql_history.specs.declared.reply.Reply.TheVariants.{Truth}
-use Rattle.dsql_history.specs.Readers.Calls.{decided, site, told_by_others, told_by_tries, told_of_work}
-use Rattle.dsql_history.specs.Readers.Course.{db_end}
+use Rattle.dsql_history.specs.Readers.Calls.{decided, site, told_as_lent, told_at_lending, told_by_others, told_by_tries, told_of_work}
+use Rattle.dsql_history.specs.Readers.Course.{caps, db_end}
 use Rattle.dsql_history.specs.Readers.HandedOut.{over, rows_by}
 use Rattle.dsql_history.specs.Readers.Pool.{pool, smallest}
 use Rattle.dsql_history.specs.Readers.Tries.{has_a_try, tries}
 use Rattle.dsql_history.specs.Readers.Unfinished.{is_unfinished}
-use Rattle.dsql_history.specs.Readers.Works.{is_fetch}
+use Rattle.dsql_history.specs.Readers.Works.{is_fetch, work}
 use Rattle.dsql_history.specs.Rules.Line.{due_for}
 use Rattle.dsql_history.specs.Rules.Stands.{stands, opens, stand, is_waiting}
 use Rattle.dsql_desk.specs.declared.desk.Desk.{Desk}
 use Rattle.dsql_calls.specs.Calls.{newest, row_at}
 use Rattle.dsql_desk.specs.Desk.{past, Stands}
 use Rattle.dsql_calls.specs.Calls.{rows_worked}
-use Rattle.dsql_calls.specs.Settling.{told_trying}
+use Rattle.dsql_calls.specs.Settling.{told_served, told_trying}
+use Rattle.dsql_driver.specs.declared.caps.Caps.{Caps}
+use Rattle.dsql_desk.proofs.KeptOfCalls.{work_kept}
 
 -- others have settled what call n replies, which works on these rows or else asks for a connection
 abbrev pub is_told_over : List Event → ℕ → Bool → Bool → Option ℕ → Bool
@@ -40,6 +42,7 @@ pub told_by_kind : (H : List Event) (n : ℕ) (it : Work) → is_some (told_of_w
 told_by_kind H n Execute = refl
 told_by_kind H n (ReadOne dests) = refl
 told_by_kind H n (HandOut label) = refl
+told_by_kind H n Ping = refl
 told_by_kind H n (Fetch k) = cond_some (over (rows_by H k)) (Truth false)
 told_by_kind H n (Close k) = refl
 told_by_kind H n Look = refl
@@ -62,14 +65,34 @@ pub try_kept : (d : Desk) (n : ℕ) → Stands d → is_unfinished (past d) n �
 unfolding Stands
 try_kept d n s under_way = ap (λ (tried : Option Try). is_none tried) (s.tables.calls.tried n under_way) ∙ sym (untried (tries (past d) n))
 
+-- what a lending tells, by the newest try
+pub served_as : (can : Caps) (it : Work) (ts : List Try) → told_served can.pinger it (newest ts) ≡ told_as_lent can it ts
+served_as can Ping [] = refl
+served_as can Ping (Served ∷ earlier) = refl
+served_as can Ping (Refused answer ∷ earlier) = refl
+served_as can Execute ts = refl
+served_as can (ReadOne dests) ts = refl
+served_as can (HandOut label) ts = refl
+served_as can (Fetch k) ts = refl
+served_as can (Close k) ts = refl
+served_as can Look ts = refl
+
+pub lent_kept : (d : Desk) (n : ℕ) → Stands d → is_unfinished (past d) n ≡ true → told_served d.caps.pinger (row_at d.calls.items n).work (row_at d.calls.items n).tried ≡ told_at_lending (past d) n
+unfolding Stands
+lent_kept d n s under_way =
+    let row = row_at d.calls.items n in
+    ap (λ (can : Caps). told_served can.pinger row.work row.tried) s.tables.caps
+    ∙ ap (λ (w : Work). told_served (caps (past d)).pinger w row.tried) (work_kept d n s)
+    ∙ ap (λ (tried : Option Try). told_served (caps (past d)).pinger (work (past d) n) tried) (s.tables.calls.tried n under_way)
+    ∙ served_as (caps (past d)) (work (past d) n) (tries (past d) n)
+
 pub either_some : (a b : Option Reply) → is_some (or_else a b) ≡ is_some a || is_some b
 either_some None b = refl
 either_some (Some reply) b = refl
 
-pub either_none : (a b : Option Reply) → is_none (or_else a b) ≡ not (is_some a || is_some b)
-either_none None None = refl
-either_none None (Some reply) = refl
-either_none (Some reply) b = refl
+pub none_or_some : (told : Option Reply) → is_none told ≡ not (is_some told)
+none_or_some None = refl
+none_or_some (Some reply) = refl
 
 waits_or : (b d r : Bool) (o : Option ℕ) (c : ℕ) → is_waiting (or_else (stands b Waits) (or_else (opens o) (or_else (stands d (Sends c)) (stands r Replies)))) ≡ b
 waits_or true d r o c = refl

@@ -6,7 +6,7 @@ ghost use Rattle.dsql_course.specs.Made.{or_else};
 ghost use Rattle.dsql_pool.specs.Calls.{wants};
 ghost use Rattle.dsql_work.specs.Works.{asks};
 ghost use Rattle.dsql_history.specs.declared.record.Stand.TheVariants.{Sends, Replies};
-ghost use Rattle.dsql_history.specs.Readers.Calls.{decided, reply_due, site, told_by_others, told_by_tries};
+ghost use Rattle.dsql_history.specs.Readers.Calls.{decided, reply_due, site, told_at_lending, told_by_others, told_by_tries};
 ghost use Rattle.dsql_history.specs.Readers.Pool.{pool};
 ghost use Rattle.dsql_history.specs.Readers.Tries.{has_a_try, tries};
 ghost use Rattle.dsql_history.specs.Readers.Unfinished.{is_unfinished, unfinished};
@@ -21,7 +21,7 @@ use dsql_calls::row;
 use dsql_calls::standing::waits_or_opens;
 use dsql_history::Stand;
 
-#[tactic(auto, using(crate::proofs::Told::told_by_kind, crate::proofs::Told::told_kept, crate::proofs::Told::try_kept, crate::proofs::Told::either_some, crate::proofs::Told::waiting_only), unfolding(crate::specs::Desk::Stands))]
+#[tactic(auto, using(crate::proofs::Told::told_by_kind, crate::proofs::Told::told_kept, crate::proofs::Told::lent_kept, crate::proofs::Told::try_kept, crate::proofs::Told::either_some, crate::proofs::Told::waiting_only), unfolding(crate::specs::Desk::Stands))]
 impl Desk {
     /// Where an unfinished call is.
     pub fn stand(&self, call: u32) -> Option<Stand>
@@ -57,11 +57,11 @@ impl Desk {
         requires unfinished { is_unfinished (past self.now) call ≡ true }
         ensures { result ≡ is_some (reply_due (past self.now) call) }
     {
-        self.has_decided(call) || self.is_told(call)
+        self.has_decided(call) || self.is_told(call) || self.is_told_as_lent(call)
     }
 
     /// Whether a call is to ask for a connection.
-    #[tactic(auto, using(crate::proofs::Told::either_none), unfolding(crate::specs::Desk::Stands))]
+    #[tactic(auto, using(crate::proofs::Told::none_or_some), unfolding(crate::specs::Desk::Stands))]
     pub fn may_ask(&self, call: u32) -> bool
         requires { Stands self.now }
         ensures { result ≡ may_ask (past self.now) call }
@@ -111,6 +111,15 @@ impl Desk {
         ensures { result ≡ is_some (told_by_tries (past self.now) (tries (past self.now) call)) }
     {
         row::is_told_trying(&self.calls, call, self.closed_by)
+    }
+
+    /// Whether an unfinished call was told what it replies as a connection was lent to it.
+    fn is_told_as_lent(&self, call: u32) -> bool
+        requires stands { Stands self.now }
+        requires unfinished { is_unfinished (past self.now) call ≡ true }
+        ensures { result ≡ is_some (told_at_lending (past self.now) call) }
+    {
+        row::is_told_as_lent(&self.calls, call, self.caps.pinger)
     }
 
     /// Whether an unfinished call asks for a connection, and has a try left for that.

@@ -132,11 +132,11 @@ impl Desk {
 
     /// A call has the reply that its row tells.
     pub(crate) fn add_due_reply(&mut self, call: u32)
-        requires may { MayAdd self.old (Event.Replied call (reply_or (settled_in self.old.closed_by (row_at self.old.calls.items call)))) }
-        requires due { is_some (settled_in self.old.closed_by (row_at self.old.calls.items call)) ≡ true }
-        ensures { Adds self.old self.new (Event.Replied call (reply_or (settled_in self.old.closed_by (row_at self.old.calls.items call)))) }
+        requires may { MayAdd self.old (Event.Replied call (reply_or (settled_in self.old.closed_by self.old.caps.pinger (row_at self.old.calls.items call)))) }
+        requires due { is_some (settled_in self.old.closed_by self.old.caps.pinger (row_at self.old.calls.items call)) ≡ true }
+        ensures { Adds self.old self.new (Event.Replied call (reply_or (settled_in self.old.closed_by self.old.caps.pinger (row_at self.old.calls.items call)))) }
     {
-        let reply = take_reply(&mut self.calls, call, self.closed_by);
+        let reply = take_reply(&mut self.calls, call, self.closed_by, self.caps.pinger);
         self.paid -= 1;
         note(&mut self.history, Event::Replied { n: call, reply });
         take_out(&mut self.unfinished, call);

@@ -19,7 +19,7 @@ add_due_reply-requires-clause-may c =
     let n = c.args.call in
     let may = c.requires.may in
     let s = may.stands in
-    let same : settled_in d.closed_by (row_at d.calls.items n) ≡ reply_due H n = settled_as H n d.closed_by d.calls.items s.tables.calls s.closed_by may.allowed.numbers c.requires.due in
+    let same : settled_in d.closed_by d.caps.pinger (row_at d.calls.items n) ≡ reply_due H n = settled_as H n d.closed_by d.caps d.calls.items s.tables.calls s.closed_by s.tables.caps may.allowed.numbers c.requires.due in
     subst (λ told. MayAdd d (Replied n (reply_or told))) (sym same)
     (record { tables = s.tables; lawful = (s.tables.lawful, may.allowed); calm = (s.tables.calm, λ outside. absurd cc); paid = omega (arith, may.paid) })
 
@@ -28,7 +28,7 @@ unfolding Stands Allowed
 add_due_reply-requires-clause-due c =
     let d = c.args.self.now in
     let s = c.requires.may.stands in
-    ap (λ told. is_some told) (settled_as (past d) c.args.call d.closed_by d.calls.items s.tables.calls s.closed_by c.requires.may.allowed.numbers c.requires.due) ∙ c.requires.due
+    ap (λ told. is_some told) (settled_as (past d) c.args.call d.closed_by d.caps d.calls.items s.tables.calls s.closed_by s.tables.caps c.requires.may.allowed.numbers c.requires.due) ∙ c.requires.due
 
 pub returns : goal.returns
 unfolding Stands Allowed
@@ -39,7 +39,7 @@ returns c =
     let may = c.requires.may in
     let s = may.stands in
     let added = c.add_due_reply.ensures in
-    let same : settled_in d.closed_by (row_at d.calls.items n) ≡ reply_due H n = settled_as H n d.closed_by d.calls.items s.tables.calls s.closed_by may.allowed.numbers c.requires.due in
+    let same : settled_in d.closed_by d.caps.pinger (row_at d.calls.items n) ≡ reply_due H n = settled_as H n d.closed_by d.caps d.calls.items s.tables.calls s.closed_by s.tables.caps may.allowed.numbers c.requires.due in
     let p : past c.add_due_reply.new.self ≡ Replied n (reply_now H n) ∷ H = added.event ∙ ap (λ told. Replied n (reply_or told) ∷ H) same in
     record {
       stands = record {
