@@ -70,5 +70,6 @@ op_itself (ops.Next rows) = bytes_itself rows
 op_itself (ops.Scan rows dests) = together (bytes_eq rows rows) _ (bytes_itself rows) (dests_itself dests)
 op_itself (ops.RowsClose rows) = bytes_itself rows
 op_itself (ops.Err rows) = bytes_itself rows
+op_itself ops.Ping = refl
 op_itself ops.DbClose = refl
 op_itself ops.Stats = refl

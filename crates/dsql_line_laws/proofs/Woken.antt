@@ -12,7 +12,7 @@ use Rattle.dsql_history.specs.declared.record.Stand.{Stand}
 use Rattle.dsql_history.specs.declared.record.Stand.TheVariants as stands_at
 use Rattle.dsql_history.specs.declared.reply.Reply.{Reply}
 use Rattle.dsql_history.specs.Legal.{Lawful}
-use Rattle.dsql_history.specs.Readers.Calls.{decided, reply_due, site, told_by_others}
+use Rattle.dsql_history.specs.Readers.Calls.{decided, reply_due, site, told_at_lending, told_by_others}
 use Rattle.dsql_history.specs.Readers.Pool.{pool, smallest}
 use Rattle.dsql_history.specs.Readers.Unfinished.{is_unfinished, unfinished}
 use Rattle.dsql_history.specs.Rules.Flights.{is_blocked, is_in_flight}
@@ -86,7 +86,9 @@ goes_replying H n u due told =
     let a = both (is_none (decided H n)) (is_some (told_by_others H n)) told in
     let r = some_is (told_by_others H n) a.1 in
     let sends : sends_nothing H n ≡ true = together (is_unfinished H n) (not (is_some (due_for H n))) u (ap not due) in
-    let settled : reply_due H n ≡ Some r.0 = ap (λ o. or_else o (told_by_others H n)) (none_is (decided H n) a.0) ∙ r.1 in
+    let settled : reply_due H n ≡ Some r.0 =
+    ap (λ o. or_else (or_else o (told_by_others H n)) (told_at_lending H n)) (none_is (decided H n) a.0) ∙ ap (λ o. or_else o (told_at_lending H n)) r.1
+    in
     (r.0, ap (λ b. cond b (after_settling n (reply_due H n) H) H) sends ∙ ap (λ o. after_settling n o H) settled)
 
 -- its reply alone is one step
