@@ -8,7 +8,7 @@ use Rattle.dsql_rows.specs.OpenRows.{is_live}
 use Rattle.dsql_pool.specs.declared.conn.Place.TheVariants.{Lent}
 use Rattle.dsql_pool.specs.declared.moves.Move.TheVariants.{Lend}
 use Rattle.dsql_work.specs.declared.work.Work.{Work}
-use Rattle.dsql_work.specs.declared.work.Work.TheVariants.{Execute, ReadOne, HandOut, Fetch, Close, Look}
+use Rattle.dsql_work.specs.declared.work.Work.TheVariants.{Execute, ReadOne, HandOut, Ping, Fetch, Close, Look}
 use Rattle.dsql_work.specs.Works.{asks}
 use Rattle.dsql_history.specs.declared.event.Event.{Event}
 use Rattle.dsql_history.specs.declared.event.Event.TheVariants.{Run, Entered, Heard, Pool, Waits, Ticked, SetLimit, Replied, Ended}
@@ -70,6 +70,7 @@ own_due : (H : List Event) (n : ℕ) (it : Work) → asks it ≡ true → due_in
 own_due H n Execute own = refl
 own_due H n (ReadOne dests) own = refl
 own_due H n (HandOut label) own = refl
+own_due H n Ping own = refl
 own_due H n (Fetch k) own = absurd cc
 own_due H n (Close k) own = absurd cc
 own_due H n Look own = absurd cc

@@ -4,6 +4,7 @@ use Rattle.std.specs.Prelude.{count_by, find}
 use Rattle.std.specs.List.{list_any}
 use Rattle.std.specs.Option.{option_map}
 use Rattle.dsql_course.specs.Made.{or_else}
+use Rattle.dsql_driver.specs.declared.caps.Caps.{Caps}
 use Rattle.dsql_journal.specs.declared.entry.Owner.{Owner}
 use Rattle.dsql_wait.specs.Requests.{waits}
 use Rattle.dsql_pool.specs.declared.conn.Conn.{Conn}
@@ -12,6 +13,8 @@ use Rattle.dsql_pool.specs.Calls.{wants}
 use Rattle.dsql_pool.specs.Places.{is_for}
 use Rattle.dsql_pool.specs.Pooled.{Pooled}
 use Rattle.dsql_pool.proofs.Frees.{count-cons}
+use Rattle.dsql_work.specs.declared.work.Work.{Work}
+use Rattle.dsql_work.specs.declared.work.Work.TheVariants.{Execute, ReadOne, HandOut, Ping, Fetch, Close, Look}
 use Rattle.dsql_work.specs.Works.{asks}
 use Rattle.dsql_history.specs.declared.event.Event.{Event}
 use Rattle.dsql_history.specs.declared.event.Event.TheVariants.{Run, Entered, Heard, Pool, Waits, Ticked, SetLimit, Replied, Ended}
@@ -20,8 +23,8 @@ use Rattle.dsql_history.specs.declared.reply.DbEnd.{DbEnd}
 use Rattle.dsql_history.specs.declared.reply.Reply.{Reply}
 use Rattle.dsql_history.specs.declared.reply.Reply.TheVariants.{DbClosed, TooMany}
 use Rattle.dsql_history.specs.Same.{is_reply}
-use Rattle.dsql_history.specs.Readers.Calls.{reply_due, told_by_others, told_by_tries}
-use Rattle.dsql_history.specs.Readers.Course.{db_end}
+use Rattle.dsql_history.specs.Readers.Calls.{reply_due, told_as_lent, told_at_lending, told_by_others, told_by_tries}
+use Rattle.dsql_history.specs.Readers.Course.{caps, db_end}
 use Rattle.dsql_history.specs.Readers.Pool.{pool, smallest}
 use Rattle.dsql_history.specs.Readers.Tries.{has_a_try, tries}
 use Rattle.dsql_history.specs.Readers.Unfinished.{is_unfinished}
@@ -135,12 +138,30 @@ closed_by_some : (o : Option DbEnd) → is_some (option_map DbClosed o) ≡ true
 closed_by_some None h = absurd cc
 closed_by_some (Some end) h = refl
 
+untried_untold : (can : Caps) (it : Work) → told_as_lent can it [] ≡ None
+untried_untold can Execute = refl
+untried_untold can (ReadOne dests) = refl
+untried_untold can (HandOut label) = refl
+untried_untold can Ping = refl
+untried_untold can (Fetch k) = refl
+untried_untold can (Close k) = refl
+untried_untold can Look = refl
+
+or_none : (o : Option Reply) → is_some (or_else o None) ≡ is_some o
+or_none None = refl
+or_none (Some r) = refl
+
 -- nothing is settled that it replies, as long as the database is open
 wanting_silent : (H : List Event) (n : ℕ) → Lawful H → n ≢ 0 → 1 ≤ wanted n (pool H) → is_some (reply_due H n) ≡ true → ⊥
 wanting_silent H n l some now settled =
     let own = wanting_works H n l some now in
     let untried = wants_untried H n l some (counted_wants n (pool H) now) in
-    let others : is_some (told_by_others H n) ≡ true = sym (ap (λ (o : Option Reply). is_some (or_else o (told_by_others H n))) (wanting_undecided H n l some now)) ∙ settled in
+    let unlent : told_at_lending H n ≡ None = ap (told_as_lent (caps H) (work H n)) untried ∙ untried_untold (caps H) (work H n) in
+    let others : is_some (told_by_others H n) ≡ true =
+    sym (ap (λ (o : Option Reply). is_some (or_else (or_else o (told_by_others H n)) (told_at_lending H n))) (wanting_undecided H n l some now)
+    ∙ (ap (λ (o : Option Reply). is_some (or_else (told_by_others H n) o)) unlent ∙ or_none (told_by_others H n)))
+    ∙ settled
+    in
     let told : told_by_others H n ≡ told_by_tries H [] = told_own H n (work H n) own ∙ ap (told_by_tries H) untried in
     let end : is_some (db_end H) ≡ true = closed_by_some (db_end H) (sym (ap (λ (o : Option Reply). is_some o) told) ∙ others) in
     let none = closed_to_all H n l (end_closes H end) in
