@@ -33,8 +33,8 @@ pub fn forget(calls: &mut Vec<CallRow>, call: u32)
     }
 }
 
-/// Takes the reply that is settled out of a call's row. The database was closed by this, if it is closed, and the driver
-/// can ping or can't.
+/// Takes the reply that is settled out of a call's row. The database was closed by this, if it is closed, and
+/// the driver can ping or can't.
 pub fn take_reply(
     calls: &mut Vec<CallRow>,
     call: u32,
