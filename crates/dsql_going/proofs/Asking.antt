@@ -23,7 +23,7 @@ use Rattle.dsql_pool.specs.Decisions.{are_too_many, last, may_open, takes_idle}
 use Rattle.dsql_pool.specs.Places.{is_for}
 use Rattle.dsql_pool.specs.Pooled.{next_number, next_tenure}
 use Rattle.dsql_work.specs.declared.work.Work.{Work}
-use Rattle.dsql_work.specs.declared.work.Work.TheVariants.{Execute, ReadOne, HandOut, Fetch, Close, Look}
+use Rattle.dsql_work.specs.declared.work.Work.TheVariants.{Execute, ReadOne, HandOut, Ping, Fetch, Close, Look}
 use Rattle.dsql_work.specs.Works.{asks}
 use Rattle.dsql_history.specs.declared.event.Event.{Event}
 use Rattle.dsql_history.specs.declared.event.Event.TheVariants.{Pool, Waits}
@@ -91,6 +91,7 @@ own_line : (H : List Event) (n : ℕ) (it : Work) → asks it ≡ true → due_i
 own_line H n Execute own = refl
 own_line H n (ReadOne dests) own = refl
 own_line H n (HandOut label) own = refl
+own_line H n Ping own = refl
 own_line H n (Fetch k) own = absurd cc
 own_line H n (Close k) own = absurd cc
 own_line H n Look own = absurd cc

@@ -7,7 +7,7 @@ use Rattle.dsql_journal.specs.declared.entry.Owner.TheVariants.{Call, Tx, Pin, H
 use Rattle.dsql_pool.specs.declared.conn.Place.{Place}
 use Rattle.dsql_pool.specs.declared.conn.Place.TheVariants.{Idle, Lent, Opening, Closing}
 use Rattle.dsql_work.specs.declared.work.Work.{Work}
-use Rattle.dsql_work.specs.declared.work.Work.TheVariants.{Execute, ReadOne, HandOut, Fetch, Close, Look}
+use Rattle.dsql_work.specs.declared.work.Work.TheVariants.{Execute, ReadOne, HandOut, Ping, Fetch, Close, Look}
 use Rattle.dsql_work.specs.Works.{user_of}
 use Rattle.dsql_history.specs.declared.event.Event.{Event}
 use Rattle.dsql_history.specs.Readers.Calls.{site}
@@ -44,6 +44,7 @@ due_home : (H : List Event) (m : ℕ) (it : Work) → is_some (due_in H m it) �
 due_home H m Execute h = line_home H m wishes.Nothing h
 due_home H m (ReadOne dests) h = line_home H m wishes.Nothing h
 due_home H m (HandOut label) h = line_home H m wishes.Nothing h
+due_home H m Ping h = line_home H m wishes.Nothing h
 due_home H m (Fetch k) h = sent_home H k (wish H m k) h
 due_home H m (Close k) h = sent_home H k (wish H m k) h
 due_home H m Look h = absurd cc
