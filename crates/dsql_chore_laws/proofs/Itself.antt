@@ -81,10 +81,8 @@ test_itself can = by can.validator
 run_itself : (params : List Param) (aim : Aim) (input : Input) → is_itself (Some (run_for aim input params)) ≡ true
 run_itself params aims.Execute (Text text) = together (bytes_eq text text) (same_params params params) (bytes_same text) (params_same params)
 run_itself params aims.Execute (Handle handle) = together (handle == handle) (same_params params params) (same_itself handle) (params_same params)
-run_itself params aims.ReadOne (Text text) = together (bytes_eq text text) (same_params params params) (bytes_same text) (params_same params)
-run_itself params aims.ReadOne (Handle handle) = together (handle == handle) (same_params params params) (same_itself handle) (params_same params)
-run_itself params aims.HandOut (Text text) = together (bytes_eq text text) (same_params params params) (bytes_same text) (params_same params)
-run_itself params aims.HandOut (Handle handle) = together (handle == handle) (same_params params params) (same_itself handle) (params_same params)
+run_itself params _ (Text text) = together (bytes_eq text text) (same_params params params) (bytes_same text) (params_same params)
+run_itself params _ (Handle handle) = together (handle == handle) (same_params params params) (same_itself handle) (params_same params)
 
 sent_itself : (can : Caps) (asked : Asked) (d : Due) → is_itself (sent_as can asked d) ≡ true
 sent_itself can asked due.Text = run_itself asked.params asked.aim (Text asked.text)
@@ -93,6 +91,7 @@ sent_itself can asked (due.Handle handle) = run_itself asked.params asked.aim (H
 sent_itself can asked (due.Next rows) = same_itself rows
 sent_itself can asked (due.CloseRows rows) = same_itself rows
 sent_itself can asked (due.CloseStmt handle) = same_itself handle
+sent_itself can asked due.Ping = refl
 sent_itself can asked _ = test_itself can
 
 over_itself : (can : Caps) (asked : Asked) (d : Option Due) → is_itself (sent_over can asked d) ≡ true

@@ -26,7 +26,7 @@ use Rattle.dsql_pool.specs.declared.conn.Place.TheVariants.{Idle, Lent, Opening,
 use Rattle.dsql_work.specs.declared.work.Aim.{Aim}
 use Rattle.dsql_work.specs.declared.work.Aim.TheVariants as aims
 use Rattle.dsql_work.specs.declared.work.Work.{Work}
-use Rattle.dsql_work.specs.declared.work.Work.TheVariants.{Execute, ReadOne, HandOut, Fetch, Close, Look}
+use Rattle.dsql_work.specs.declared.work.Work.TheVariants.{Execute, ReadOne, HandOut, Ping, Fetch, Close, Look}
 use Rattle.dsql_work.specs.Exchanges.{exchanges}
 use Rattle.dsql_work.specs.Line.{Asked, body_after, body_with, course_of, going_on, handed, is_due, line_after, run_for, sent_as, sent_over, test_of}
 use Rattle.dsql_work.specs.Same.{same_name, same_params, same_truth, same_value}
@@ -83,10 +83,8 @@ own_test can = by can.validator
 own_run : (params : List Param) (aim : Aim) (input : Input) → is_own (Some (run_for aim input params)) ≡ true
 own_run params aims.Execute (Text text) = rw (bytes_itself text) (params_itself params)
 own_run params aims.Execute (Handle handle) = rw (same_itself handle) (params_itself params)
-own_run params aims.ReadOne (Text text) = rw (bytes_itself text) (params_itself params)
-own_run params aims.ReadOne (Handle handle) = rw (same_itself handle) (params_itself params)
-own_run params aims.HandOut (Text text) = rw (bytes_itself text) (params_itself params)
-own_run params aims.HandOut (Handle handle) = rw (same_itself handle) (params_itself params)
+own_run params _ (Text text) = rw (bytes_itself text) (params_itself params)
+own_run params _ (Handle handle) = rw (same_itself handle) (params_itself params)
 
 own_sent : (can : Caps) (asked : Asked) (d : Due) → is_own (sent_as can asked d) ≡ true
 own_sent can asked due.Text = own_run asked.params asked.aim (Text asked.text)
@@ -95,6 +93,7 @@ own_sent can asked (due.Handle handle) = own_run asked.params asked.aim (Handle 
 own_sent can asked (due.Next rows) = same_itself rows
 own_sent can asked (due.CloseRows rows) = same_itself rows
 own_sent can asked (due.CloseStmt handle) = same_itself handle
+own_sent can asked due.Ping = refl
 own_sent can asked _ = own_test can
 
 own_over : (can : Caps) (asked : Asked) (d : Option Due) → is_own (sent_over can asked d) ≡ true
@@ -143,6 +142,7 @@ own_in : (H : List Event) (m : ℕ) (it : Work) → is_own (due_in H m it) ≡ t
 own_in H m Execute = own_line H m wishes.Nothing
 own_in H m (ReadOne dests) = own_line H m wishes.Nothing
 own_in H m (HandOut label) = own_line H m wishes.Nothing
+own_in H m Ping = own_line H m wishes.Nothing
 own_in H m (Fetch k) = own_for H k (wish H m k)
 own_in H m (Close k) = own_for H k (wish H m k)
 own_in H m Look = refl

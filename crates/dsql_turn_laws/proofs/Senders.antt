@@ -9,7 +9,7 @@ use Rattle.dsql_pool.specs.declared.conn.Place.TheVariants.{Idle, Lent, Opening,
 use Rattle.dsql_pool.specs.declared.moves.Move.TheVariants.{Lend}
 use Rattle.dsql_pool.specs.Calls.{wants}
 use Rattle.dsql_work.specs.declared.work.Work.{Work}
-use Rattle.dsql_work.specs.declared.work.Work.TheVariants.{Execute, ReadOne, HandOut, Fetch, Close, Look}
+use Rattle.dsql_work.specs.declared.work.Work.TheVariants.{Execute, ReadOne, HandOut, Ping, Fetch, Close, Look}
 use Rattle.dsql_work.specs.Works.{asks, user_of}
 use Rattle.dsql_history.specs.declared.event.Event.{Event}
 use Rattle.dsql_history.specs.declared.event.Event.TheVariants.{Run, Entered, Heard, Pool, Waits, Ticked, SetLimit, Replied, Ended}
@@ -221,6 +221,7 @@ own_user : (it : Work) (n : ℕ) → asks it ≡ true → user_of it n ≡ n
 own_user Execute n h = refl
 own_user (ReadOne dests) n h = refl
 own_user (HandOut label) n h = refl
+own_user Ping n h = refl
 own_user (Fetch k) n h = absurd cc
 own_user (Close k) n h = absurd cc
 own_user Look n h = absurd cc
