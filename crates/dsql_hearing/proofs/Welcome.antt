@@ -18,7 +18,7 @@ use Rattle.dsql_pool.specs.declared.conn.Place.TheVariants.{Idle, Lent, Opening,
 use Rattle.dsql_pool.specs.Places.{is_lent}
 use Rattle.dsql_pool.specs.Pooled.{next_tenure}
 use Rattle.dsql_work.specs.declared.work.Work.{Work}
-use Rattle.dsql_work.specs.declared.work.Work.TheVariants.{Execute, ReadOne, HandOut, Fetch, Close, Look}
+use Rattle.dsql_work.specs.declared.work.Work.TheVariants.{Execute, ReadOne, HandOut, Ping, Fetch, Close, Look}
 use Rattle.dsql_history.specs.declared.event.Event.{Event}
 use Rattle.dsql_history.specs.declared.event.Event.TheVariants.{Heard}
 use Rattle.dsql_history.specs.Readers.HandedOut.{handed_out}
@@ -159,6 +159,7 @@ rows_lent H e (HandOut label) q l may works call = tt
 rows_lent H e (Fetch k) q l may works call = tt
 rows_lent H e Execute q l may works call = tt
 rows_lent H e (ReadOne dests) q l may works call = tt
+rows_lent H e Ping q l may works call = tt
 rows_lent H e (Close k) q l may works call = tt
 rows_lent H e Look q l may works call = tt
 
