@@ -4,7 +4,7 @@ use Rattle.std.specs.Prelude.{Result}
 use Rattle.dsql_calls.specs.declared.no_room.NoRoom.{NoRoom}
 use Rattle.dsql_value.specs.declared.value.Param.{Param}
 use Rattle.dsql_work.specs.declared.work.Work.{Work}
-use Rattle.dsql_work.specs.declared.work.Work.TheVariants.{Execute, ReadOne, HandOut, Fetch, Close, Look}
+use Rattle.dsql_work.specs.declared.work.Work.TheVariants.{Execute, ReadOne, HandOut, Ping, Fetch, Close, Look}
 use Rattle.dsql_work.specs.declared.work.Aim.{Aim}
 use Rattle.dsql_work.specs.Works.{maker, user_of}
 use Rattle.dsql_work.specs.Line.{aim_of}
@@ -76,6 +76,7 @@ uses_itself (Close k) n fetches closes = absurd (closes k refl)
 uses_itself Execute n fetches closes = refl
 uses_itself (ReadOne dests) n fetches closes = refl
 uses_itself (HandOut label) n fetches closes = refl
+uses_itself Ping n fetches closes = refl
 uses_itself Look n fetches closes = refl
 
 -- any other sends its own

@@ -4,7 +4,7 @@ use Rattle.dsql_journal.specs.Readers.{has, is_empty}
 use Rattle.dsql_history.specs.declared.event.Event.{Event}
 use Rattle.dsql_history.specs.declared.event.Event.TheVariants.{Entered}
 use Rattle.dsql_history.specs.declared.event.Op.{Op}
-use Rattle.dsql_history.specs.declared.event.Op.TheVariants.{Exec, Query, One, Next, Scan, RowsClose, Err, DbClose, Stats}
+use Rattle.dsql_history.specs.declared.event.Op.TheVariants.{Exec, Query, One, Next, Scan, RowsClose, Err, Ping, DbClose, Stats}
 use Rattle.dsql_history.specs.Readers.Calls.{is_busy, next_call}
 use Rattle.dsql_history.specs.Readers.Owed.{owed}
 use Rattle.dsql_history.specs.Readers.Unfinished.{unfinished}
@@ -77,4 +77,5 @@ entered_settled H client n (One dests text args) l s = plain_settled H client n 
 entered_settled H client n (Next rows) l s = plain_settled H client n (Next rows) l s refl refl
 entered_settled H client n (Scan rows dests) l s = plain_settled H client n (Scan rows dests) l s refl refl
 entered_settled H client n (Err rows) l s = plain_settled H client n (Err rows) l s refl refl
+entered_settled H client n Ping l s = plain_settled H client n Ping l s refl refl
 entered_settled H client n Stats l s = plain_settled H client n Stats l s refl refl

@@ -53,6 +53,7 @@ fn aim_of(work: &Work) -> Aim
     match work {
         Work::ReadOne(_) => Aim::ReadOne,
         Work::HandOut(_) => Aim::HandOut,
+        Work::Ping => Aim::Ping,
         _ => Aim::Execute,
     }
 }
