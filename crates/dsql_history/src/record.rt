@@ -7,6 +7,8 @@ use dsql_value::{Params, Txt};
 pub enum Try {
     /// A connection was lent to it.
     Served,
+    /// The connection that was lent to it turned out to be bad before anything was decided.
+    Lost,
     /// One couldn't be opened, and the driver's answer fell to it.
     Refused(DriverAnswer),
 }
@@ -29,6 +31,8 @@ pub enum Stand {
     Sends(u32),
     /// Others have settled what it replies, at its next step.
     Replies,
+    /// A connection that was to be opened for it was bad, and it asks again at its next step.
+    Asks,
 }
 
 /// How far a call has come.

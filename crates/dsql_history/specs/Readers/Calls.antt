@@ -1,5 +1,5 @@
 -- The calls of a history.
-use Rattle.std.specs.Prelude.{ℕ, ◌==◌, ◌||◌, Bool, true, false, cond, codes, List, [], ◌∷◌, ◌++◌, length, slice_set, slice_index_or, Option, Some, None, option_map, if◌then◌else◌, Ok, Err}
+use Rattle.std.specs.Prelude.{ℕ, ◌==◌, nat_lt, ◌||◌, Bool, true, false, cond, codes, List, [], ◌∷◌, ◌++◌, length, slice_set, slice_index_or, Option, Some, None, option_map, if◌then◌else◌, Ok, Err}
 use Rattle.std.specs.List.{list_any}
 use Rattle.dsql_value.specs.declared.arg.Named.{Named}
 use Rattle.dsql_value.specs.declared.arg.ArgFault.{ArgFault}
@@ -39,7 +39,7 @@ use Rattle.dsql_history.specs.declared.reply.Reply.TheVariants.{Result, Truth, C
 use Rattle.dsql_history.specs.Readers.Course.{caps, db_end}
 use Rattle.dsql_history.specs.Readers.Unfinished.{unfinished, is_unfinished}
 use Rattle.dsql_history.specs.Readers.Works.{works, work, work_of}
-use Rattle.dsql_history.specs.Readers.Tries.{tries}
+use Rattle.dsql_history.specs.Readers.Tries.{tries, most_tries, try_number, has_a_try}
 use Rattle.dsql_history.specs.Readers.Pool.{pool, home}
 use Rattle.dsql_history.specs.Readers.HandedOut.{rows_by, over}
 
@@ -141,54 +141,59 @@ told_at_entry before op = or_else (closed_to before op) (reply_at_entry (caps be
 abbrev pub params_at_entry : Caps → Op → List Param
 params_at_entry can op = accepted (first_fault can.named (arguments op)) (arguments op)
 
--- the reply that a deciding answer gives; a Skip decides nothing
-abbrev pub reply_to : DriverAnswer → Option Reply
-reply_to (answers.Result last affected) = Some (Result last affected)
-reply_to (answers.Fail text) = Some (Driver text)
-reply_to answers.Bad = Some (BadConn 1)
-reply_to _ = None
+-- what a bad connection gives a call in this try: nothing as long as it has another one
+abbrev pub bad_reply : ℕ → Option Reply
+bad_reply number = cond (nat_lt number most_tries) None (Some (BadConn number))
+
+-- the reply that a deciding answer gives in this try; a Skip decides nothing
+abbrev pub reply_to : ℕ → DriverAnswer → Option Reply
+reply_to number (answers.Result last affected) = Some (Result last affected)
+reply_to number (answers.Fail text) = Some (Driver text)
+reply_to number answers.Bad = bad_reply number
+reply_to number _ = None
 
 -- a query that hands out rows tells their columns
-abbrev pub query_decision : Work → DriverAnswer → Option Reply
-query_decision (HandOut label) (answers.Cursor cursor columns) = Some (reply.Rows columns)
-query_decision work answer = reply_to answer
+abbrev pub query_decision : ℕ → Work → DriverAnswer → Option Reply
+query_decision number (HandOut label) (answers.Cursor cursor columns) = Some (reply.Rows columns)
+query_decision number work answer = reply_to number answer
 
 -- What a fetch decides: the row that was to be read, or whether there was one. No row at all is an answer too.
-abbrev pub fetch_decision : Work → DriverAnswer → Option Reply
-fetch_decision (ReadOne dests) (answers.Row values) = told_row (row_of values dests)
-fetch_decision (Fetch k) (answers.Row values) = Some (Truth true)
-fetch_decision (Fetch k) answer = Some (Truth false)
-fetch_decision work answers.End = Some NoRows
-fetch_decision work answer = reply_to answer
+abbrev pub fetch_decision : ℕ → Work → DriverAnswer → Option Reply
+fetch_decision number (ReadOne dests) (answers.Row values) = told_row (row_of values dests)
+fetch_decision number (Fetch k) (answers.Row values) = Some (Truth true)
+fetch_decision number (Fetch k) answer = Some (Truth false)
+fetch_decision number work answers.End = Some NoRows
+fetch_decision number work answer = reply_to number answer
 
--- Where a row was scanned, its reply waits for its cursor to be closed. Where that fails the failure is told instead.
-abbrev pub closing_decision : DriverAnswer → Option Reply → Option Reply
-closing_decision (answers.Fail text) (Some (Cells cells)) = Some (Driver text)
-closing_decision answers.Bad (Some (Cells cells)) = Some (BadConn 1)
-closing_decision answer earlier = earlier
+-- Where a row was scanned, its reply waits for its cursor to be closed. Where that fails the failure is told instead, and there is no other try, since the row was read.
+abbrev pub closing_decision : ℕ → DriverAnswer → Option Reply → Option Reply
+closing_decision number (answers.Fail text) (Some (Cells cells)) = Some (Driver text)
+closing_decision number answers.Bad (Some (Cells cells)) = Some (BadConn number)
+closing_decision number answer earlier = earlier
 
--- what an answer decides for a call that asks for no more than this: a close of rows, and a ping
-abbrev pub done_reply : DriverAnswer → Option Reply
-done_reply answers.Done = Some reply.Ok
-done_reply answer = reply_to answer
+-- What an answer decides for a call that asks for no more than this, a close of rows or a ping: there is no other try.
+abbrev pub done_reply : ℕ → DriverAnswer → Option Reply
+done_reply number answers.Done = Some reply.Ok
+done_reply number answers.Bad = Some (BadConn number)
+done_reply number answer = reply_to number answer
 
-abbrev pub close_decision : Work → DriverAnswer → Option Reply → Option Reply
-close_decision (Close k) answer earlier = done_reply answer
-close_decision work answer earlier = closing_decision answer earlier
+abbrev pub close_decision : ℕ → Work → DriverAnswer → Option Reply → Option Reply
+close_decision number (Close k) answer earlier = done_reply number answer
+close_decision number work answer earlier = closing_decision number answer earlier
 
--- What is decided for a call with so many parameters and this work. An Exec's answer decides, as does a Ping's, a Query's that fails or hands out rows, a fetch, a
--- Prepare that failed, or that tells of another number of inputs, and a Reset answered Bad. A Reset answered Fail is passed over, and neither a CloseStmt nor a
--- test decides anything.
-abbrev pub decision : ℕ → Work → DriverCall → DriverAnswer → Option Reply → Option Reply
-decision count work (Exec input params) answer earlier = reply_to answer
-decision count work (Query input params) answer earlier = query_decision work answer
-decision count work Ping answer earlier = done_reply answer
-decision count work (Next rows) answer earlier = fetch_decision work answer
-decision count work (CloseRows rows) answer earlier = close_decision work answer earlier
-decision count work (Prepare text) (answers.Prepared handle inputs) earlier = told_of (count_fault inputs count)
-decision count work (Prepare text) answer earlier = reply_to answer
-decision count work Reset answers.Bad earlier = Some (BadConn 1)
-decision count work _ answer earlier = earlier
+-- What is decided for a call in this try, with so many parameters and this work. An Exec's answer decides, as does a Ping's, a Query's that fails or hands out rows, a fetch, a
+-- Prepare that failed, or that tells of another number of inputs, and a Reset answered Bad. A Bad decides only where no other try is left. A Reset answered Fail is passed over, and
+-- neither a CloseStmt nor a test decides anything.
+abbrev pub decision : ℕ → ℕ → Work → DriverCall → DriverAnswer → Option Reply → Option Reply
+decision number count work (Exec input params) answer earlier = reply_to number answer
+decision number count work (Query input params) answer earlier = query_decision number work answer
+decision number count work Ping answer earlier = done_reply number answer
+decision number count work (Next rows) answer earlier = fetch_decision number work answer
+decision number count work (CloseRows rows) answer earlier = close_decision number work answer earlier
+decision number count work (Prepare text) (answers.Prepared handle inputs) earlier = told_of (count_fault inputs count)
+decision number count work (Prepare text) answer earlier = reply_to number answer
+decision number count work Reset answers.Bad earlier = bad_reply number
+decision number count work _ answer earlier = earlier
 
 -- there is no call 0
 abbrev pub nobody : CallRecord
@@ -206,15 +211,15 @@ entering before client op =
       decided = told_at_entry before op;
     }
 
--- a call with this work after an answer to it; the layer's own calls are nobody's
-abbrev pub decided_by : Work → Entry → CallRecord → CallRecord
-decided_by work e r = cond (e.call_no == 0) r (record r { decided = decision (length r.params) work e.call e.answer r.decided })
+-- a call with this work after an answer to it in this try; the layer's own calls are nobody's
+abbrev pub decided_by : ℕ → Work → Entry → CallRecord → CallRecord
+decided_by number work e r = cond (e.call_no == 0) r (record r { decided = decision number (length r.params) work e.call e.answer r.decided })
 
 -- each call, by its number
 abbrev pub calls : List Event → List CallRecord
 calls [] = nobody ∷ []
 calls (Entered client n op ∷ before) = calls before ++ entering before client op ∷ []
-calls (Heard e ∷ before) = with_record e.call_no (decided_by (work before e.call_no) e) (calls before)
+calls (Heard e ∷ before) = with_record e.call_no (decided_by (try_number (tries before e.call_no)) (work before e.call_no) e) (calls before)
 calls (Replied n reply ∷ before) = with_record n (λ r. record r { decided = None }) (calls before)
 calls (_ ∷ before) = calls before
 
@@ -241,11 +246,14 @@ site before m = home before (user before m)
 abbrev pub decided : List Event → ℕ → Option Reply
 decided before n = (call_record before n).decided
 
--- what a call is told that waits for a connection, or for which one was opened: the refusal that fell to it, or that the database is closed
+-- the refusal of a connection in this try
+abbrev pub refusal_reply : ℕ → List Try → Option Reply
+refusal_reply number (Refused answer ∷ earlier) = reply_to number answer
+refusal_reply number tries = None
+
+-- What a call is told that waits for a connection, or for which one was opened: that the database is closed, as long as it has a try left, or else the refusal that fell to it.
 abbrev pub told_by_tries : List Event → List Try → Option Reply
-told_by_tries before [] = option_map DbClosed (db_end before)
-told_by_tries before (Served ∷ earlier) = None
-told_by_tries before (Refused answer ∷ earlier) = reply_to answer
+told_by_tries before tries = cond (has_a_try tries) (option_map DbClosed (db_end before)) (refusal_reply (try_number tries) tries)
 
 -- What others have settled for call n: for a fetch of rows that they ended, that there is no row; for a close, that nothing is left to be closed.
 abbrev pub told_of_work : List Event → ℕ → Work → Option Reply

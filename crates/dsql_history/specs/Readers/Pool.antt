@@ -13,6 +13,7 @@ use Rattle.dsql_journal.specs.Kinds.{number_of}
 use Rattle.dsql_pool.specs.Pooled.{Pooled, fresh, place_at}
 use Rattle.dsql_pool.specs.Moved.{moved, begun, joined, shut, ticked}
 use Rattle.dsql_pool.specs.Calls.{open_set, idle_set, lifetime_set, idle_time_set}
+use Rattle.dsql_history.specs.Readers.Tries.{tries, asks_last}
 use Rattle.dsql_history.specs.declared.event.Event.{Event}
 use Rattle.dsql_history.specs.declared.event.Event.TheVariants.{Entered, Pool, Waits, Ticked, SetLimit, Ended}
 use Rattle.dsql_history.specs.declared.event.Op.TheVariants.{DbClose}
@@ -21,13 +22,13 @@ use Rattle.dsql_history.specs.declared.event.Setting.TheVariants.{MaxOpen, MaxId
 use Rattle.dsql_history.specs.declared.event.Control.{Control}
 use Rattle.dsql_history.specs.declared.event.Control.TheVariants.{Tick, Set}
 
--- the request of call n at a moment; as long as a call has one try it is no last one
-abbrev pub request_at : ℕ → ℕ → Request
-request_at n moment = record { call = n; owner = Call n; last = false; token = None; asked = moment }
+-- the request of call n at a moment, and whether it is for its last try
+abbrev pub request_at : Bool → ℕ → ℕ → Request
+request_at last n moment = record { call = n; owner = Call n; last = last; token = None; asked = moment }
 
 -- it joins those that wait
-abbrev pub joins : ℕ → Pooled → Pooled
-joins n p = joined (request_at n p.moment) p
+abbrev pub joins : Bool → ℕ → Pooled → Pooled
+joins last n p = joined (request_at last n p.moment) p
 
 -- for whom a connection is opened that is opened for call n, which is 0 for no call of its own
 abbrev pub wanted_by : ℕ → Option Owner
@@ -53,7 +54,7 @@ abbrev pub pool : List Event → Pooled
 pool [] = fresh
 pool (Entered client n DbClose ∷ before) = shut (pool before)
 pool (Pool move ∷ before) = with_move move (pool before)
-pool (Waits n ∷ before) = joins n (pool before)
+pool (Waits n ∷ before) = joins (asks_last (tries before n)) n (pool before)
 pool (Ticked now ∷ before) = with_control (Tick now) (pool before)
 pool (SetLimit setting n ∷ before) = with_control (Set setting n) (pool before)
 pool (Ended ∷ before) = shut (pool before)
@@ -61,7 +62,7 @@ pool (_ ∷ before) = pool before
 
 -- the request that call n makes now
 abbrev pub request : List Event → ℕ → Request
-request before n = request_at n (pool before).moment
+request before n = request_at (asks_last (tries before n)) n (pool before).moment
 
 -- where connection c stands, if it is open
 abbrev pub place : List Event → ℕ → Option Place

@@ -15,15 +15,19 @@ use Rattle.dsql_history.specs.declared.event.Event.TheVariants.{Waits, Pool}
 use Rattle.dsql_history.specs.Same.{is_first}
 use Rattle.dsql_history.specs.Readers.Works.{work}
 use Rattle.dsql_history.specs.Readers.Tries.{tries, has_a_try}
-use Rattle.dsql_history.specs.Readers.Pool.{pool, request}
+use Rattle.dsql_history.specs.Readers.Pool.{pool, request, smallest, is_home}
 use Rattle.dsql_history.specs.Readers.Owed.{owed}
 use Rattle.dsql_history.specs.Readers.Calls.{reply_due}
 use Rattle.dsql_history.specs.Readers.Unfinished.{is_unfinished}
 
+-- the call has a try left, and no connection of an earlier one
+abbrev pub may_try : List Event → ℕ → Bool
+may_try before n = has_a_try (tries before n) && is_none (smallest (is_home n) (pool before))
+
 -- the call works on a connection of its own, has a try left and nothing to come of an earlier one, and nothing is settled that it replies
 abbrev pub may_ask : List Event → ℕ → Bool
 may_ask before n =
-    is_unfinished before n && (asks (work before n) && (has_a_try (tries before n) && (not (wants n (pool before)) && is_none (reply_due before n))))
+    is_unfinished before n && (asks (work before n) && (may_try before n && (not (wants n (pool before)) && is_none (reply_due before n))))
 
 -- what the pool answers it
 abbrev pub ask_outcome : List Event → ℕ → Result Asked AskFault
