@@ -15,3 +15,5 @@ pub mod ReportsOfRows
 pub mod DamagedCourse
 pub mod Pings
 pub mod DamagedPings
+pub mod Tries
+pub mod DamagedTries

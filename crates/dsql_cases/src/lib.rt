@@ -10,4 +10,5 @@ pub mod reports;
 pub mod rows;
 pub mod steps;
 pub mod times;
+pub mod tries;
 pub mod waiting;
