@@ -27,13 +27,13 @@ pub fn legal_tries()
 
 /// Why histories with a damaged try are refused.
 pub fn refused_tries()
-    ensures a_fourth_try { is_refused_at 23 keeps_asking a_fourth_try ≡ true }
-    ensures the_third_try_takes_an_idle_one { is_refused_at 36 keeps_asking the_third_try_takes_an_idle_one ≡ true }
+    ensures a_fourth_try { is_refused_at 22 keeps_asking a_fourth_try ≡ true }
+    ensures the_third_try_takes_an_idle_one { is_refused_at 37 keeps_asking the_third_try_takes_an_idle_one ≡ true }
     ensures the_next_try_comes_before_the_close { is_refused_at 7 keeps_asking the_next_try_comes_before_the_close ≡ true }
     ensures a_text_that_failed_is_sent_again { is_refused_at 7 keeps_line a_text_that_failed_is_sent_again ≡ true }
     ensures a_failure_is_tried_again { is_refused_at 6 keeps_asking a_failure_is_tried_again ≡ true }
     ensures the_first_bad_one_is_told { is_refused_at 8 keeps_replies the_first_bad_one_is_told ≡ true }
-    ensures a_third_bad_one_is_told_as_the_second { is_refused_at 23 keeps_replies a_third_bad_one_is_told_as_the_second ≡ true }
+    ensures a_third_bad_one_is_told_as_the_second { is_refused_at 22 keeps_replies a_third_bad_one_is_told_as_the_second ≡ true }
     ensures another_enters_before_the_next_try { is_unsettled_after 7 goes_on another_enters_before_the_next_try ≡ true }
     ensures a_refused_call_gives_up { is_refused_at 9 keeps_replies a_refused_call_gives_up ≡ true }
     ensures a_ping_is_sent_on_another_connection { is_refused_at 8 keeps_asking a_ping_is_sent_on_another_connection ≡ true }
