@@ -40,6 +40,7 @@ use Rattle.dsql_history.specs.Rules.Order.{follows}
 use Rattle.dsql_history.specs.Rules.Asking.{may_ask, ask_outcome, is_asked_for, unless_owed, is_queued, keeps_asking}
 use Rattle.dsql_history.specs.Rules.Causes.{is_owed, is_given_back, keeps_causes}
 use Rattle.dsql_history.specs.Legal.{Allowed, Lawful}
+use Rattle.dsql_laws.proofs.Asker.{asker}
 use Rattle.dsql_laws.proofs.Tests.{both, second, other_number, move_is}
 use Rattle.dsql_laws.proofs.OwedMoves.{is_own, are_own, own_moved, owed_own}
 use Rattle.dsql_laws.proofs.Numbered.{unfinished_from_one}
@@ -140,10 +141,6 @@ leaves_rests H c m is h =
 pub asks_now : (H : List Event) (n : ℕ) (m : Move) → owed H ≡ [] → unless_owed H n m ≡ true → is_asked_for H n m ≡ true
 asks_now H n m none h = second (not (is_empty (owed H))) (is_asked_for H n m) (ap (λ ms. not (is_empty ms)) none) h
 
-asker : (H : List Event) (n : ℕ) → may_ask H n ≡ true → is_unfinished H n ≡ true
-asker H n h =
-    let a = both (is_unfinished H n) (works.asks (work H n) && (has_a_try (tries H n) && (not (wants n (pool H)) && is_none (reply_due H n)))) h in a.0
-
 pub owes : (H : List Event) → owed H ≡ [] → is_owed H ≡ false
 owes H none = ap (λ ms. not (is_empty ms)) none
 
@@ -152,7 +149,7 @@ unowed_rests : (H : List Event) (m : Move) → Lawful H → Keeps H (Pool m) →
 unowed_rests H (OpenStart c n) l k none h =
     let is = asks_now H n (OpenStart c n) none k.asking in
     let a = both (may_ask H n) (is_first (moves_asked (request H n) (ask_outcome H n)) (OpenStart c n)) is in
-    let some : n ≢ 0 = unfinished_from_one H n l (asker H n a.0) in
+    let some : n ≢ 0 = unfinished_from_one H n l (asker H n a.0).unfinished in
     let begins : AtRest (begun (Some (Call n)) (pool H)) = opening_rests (request H n) (pool H) (ask_outcome H n) c n a.1 (asked_rests (request H n) (pool H) h) in
     subst (λ w. AtRest (begun w (pool H))) (sym (wanted_is n some)) begins
 unowed_rests H (Lend c t o n) l k none h =

@@ -1,6 +1,6 @@
 -- How many connections and requests pass a test, under each change.
 use Rattle.std.proofs.Common.{◌≡◌, ℕ, ◌+◌, ◌≤◌, ◌==◌, Bool, true, false, not, ◌||◌, cond, List, [], ◌∷◌, ◌++◌, map, Option, Some, None, refl, ap, ◌∙◌, arith}
-use Rattle.std.specs.Prelude.{count_by}
+use Rattle.std.specs.Prelude.{count_by, find}
 use Rattle.std.specs.List.{list_any}
 use Rattle.std.specs.Option.{option_map}
 use Rattle.std.proofs.lemmas.List.Sums.{sum_by-cons, sum_by-append}
@@ -124,3 +124,21 @@ passes_else q r s (x ∷ xs) h none =
       | true ↦ λ k m. absurd cc
       | false ↦ λ k m. let first = k refl in let rest = passes_else q r s xs h m in omega (arith, first, rest, left, right)
     ] here none
+
+-- what isn't found isn't counted
+
+pub unmapped : {A B : Type 0} (f : A → B) (o : Option A) → option_map f o ≡ None → o ≡ None
+unmapped f None h = refl
+unmapped f (Some a) h = absurd cc
+
+pub uncounted : (q : Conn → Bool) (conns : List Conn) → find q conns ≡ None → count_by q conns ≡ 0
+uncounted q [] h = refl
+uncounted q (x ∷ xs) h = by (uncounted q xs) (q x) refl h
+  where
+    by : (find q xs ≡ None → count_by q xs ≡ 0) → (b : Bool) → q x ≡ b → cond b (Some x) (find q xs) ≡ None → count_by q (x ∷ xs) ≡ 0
+    by rest true is k = absurd cc
+    by rest false is k =
+        let none = rest k in
+        let split = count-cons q x xs in
+        let here : cond {A = ℕ} (q x) 1 0 ≡ 0 = ap (λ (b : Bool). cond {A = ℕ} b 1 0) is in
+        omega (arith, none, split, here)

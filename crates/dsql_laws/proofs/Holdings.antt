@@ -1,6 +1,6 @@
 -- A call has at most one thing in the pool: a request that waits, an opening, or a connection.
 use Rattle.std.proofs.Common.{◌≡◌, ◌≢◌, ℕ, ◌+◌, ◌≤◌, ◌==◌, Bool, true, false, not, ◌&&◌, ◌||◌, cond, List, [], ◌∷◌, Option, Some, None, refl, sym, ap, subst, ◌∙◌, ◌⊎◌, inl, inr, is_none, arith, length}
-use Rattle.std.specs.Prelude.{ℤ}
+use Rattle.std.specs.Prelude.{ℤ, find}
 use Rattle.std.specs.List.{list_any}
 use Rattle.dsql_journal.specs.declared.entry.Owner.{Owner}
 use Rattle.dsql_journal.specs.declared.entry.Owner.TheVariants.{Call}
@@ -36,10 +36,11 @@ use Rattle.dsql_history.specs.Rules.Order.{follows}
 use Rattle.dsql_history.specs.Rules.Asking.{may_ask, ask_outcome, is_asked_for, is_queued}
 use Rattle.dsql_history.specs.Legal.{Lawful}
 use Rattle.dsql_laws.specs.Holdings.{waits_of, homes_of, holdings}
+use Rattle.dsql_laws.proofs.Asker.{asker}
 use Rattle.dsql_laws.proofs.Tests.{both, same_number, move_is}
 use Rattle.dsql_laws.proofs.OwedMoves.{is_own, are_own, owed_own}
 use Rattle.dsql_laws.proofs.AtRest.{Keeps, keeps_of, asks_now}
-use Rattle.dsql_laws.proofs.Counts.{request-more, left_none, left_fewer, waits_none, waits_some, changed_fewer, changed_one_more, changed_same, gone_fewer, mapped_fewer, passes_else}
+use Rattle.dsql_laws.proofs.Counts.{request-more, left_none, left_fewer, uncounted, unmapped, waits_none, waits_some, changed_fewer, changed_one_more, changed_same, gone_fewer, mapped_fewer, passes_else}
 use Rattle.dsql_laws.proofs.Tried.{is_lent_out, lent_count, lent_tried, lends_to}
 use Rattle.dsql_laws.proofs.Deserved.{is_home_of, Deserves, AllDeserved, deserved}
 
@@ -50,10 +51,6 @@ not_true false h = refl
 neither : (a b : Bool) → (a || b) ≡ false → (a ≡ false) × (b ≡ false)
 neither true b h = absurd cc
 neither false b h = (refl, h)
-
-no_tries : (ts : List Try) → has_a_try ts ≡ true → length ts ≡ 0
-no_tries [] h = refl
-no_tries (t ∷ ts) h = absurd cc
 
 -- what isn't being opened for the call is its home only where it is lent to it
 pub lent_home : (n : ℕ) (x : Conn) → is_for n x.place ≡ false → cond {A = ℕ} (is_home_of n x) 1 0 ≤ cond {A = ℕ} (is_lent_out n x) 1 0
@@ -71,16 +68,11 @@ lent_home n x none = at x.place refl
 nothing_held : (H : List Event) (n : ℕ) → Lawful H → may_ask H n ≡ true → holdings n (pool H) ≡ 0
 nothing_held H n l may =
     let p = pool H in
-    let a = both (is_unfinished H n) (works.asks (work H n) && (has_a_try (tries H n) && (not (wants n p) && is_none (reply_due H n)))) may in
-    let b = both (works.asks (work H n)) (has_a_try (tries H n) && (not (wants n p) && is_none (reply_due H n))) a.1 in
-    let c = both (has_a_try (tries H n)) (not (wants n p) && is_none (reply_due H n)) b.1 in
-    let d = both (not (wants n p)) (is_none (reply_due H n)) c.1 in
-    let unwanting = neither (waits n p.waiting) (list_any (λ conn. is_for n conn.place) p.conns) (not_true (wants n p) d.0) in
+    let asks = asker H n may in
+    let unwanting = neither (waits n p.waiting) (list_any (λ conn. is_for n conn.place) p.conns) asks.unwanting in
     let waiting : waits_of n p ≡ 0 = waits_none n p.waiting unwanting.0 in
-    let few : homes_of n p ≤ lent_count n p = passes_else (λ conn. is_for n conn.place) (is_home_of n) (is_lent_out n) p.conns (lent_home n) unwanting.1 in
-    let tried = lent_tried H n l in
-    let none = no_tries (tries H n) c.0 in
-    omega (arith, waiting, few, tried, none)
+    let homeless : homes_of n p ≡ 0 = uncounted (is_home_of n) p.conns (unmapped (λ conn. conn.number) (find (is_home_of n) p.conns) asks.homeless) in
+    omega (arith, waiting, homeless)
 
 -- an opening for a call comes of its asking
 pub opening_asked : (H : List Event) (c n : ℕ) (ms : List Move) → Keeps H (Pool (OpenStart c n)) → owed H ≡ ms → are_own ms ≡ true → n ≢ 0 → is_asked_for H n (OpenStart c n) ≡ true

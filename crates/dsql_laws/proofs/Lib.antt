@@ -1,4 +1,5 @@
 pub mod Tests
+pub mod Asker
 pub mod Splits
 pub mod OwedMoves
 pub mod Numbered

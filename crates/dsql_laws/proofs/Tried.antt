@@ -1,5 +1,5 @@
 -- A connection that is lent to a call is one of its tries.
-use Rattle.std.proofs.Common.{◌≡◌, ℕ, ◌+◌, ◌≤◌, ◌==◌, Bool, true, false, cond, List, [], ◌∷◌, length, ◌++◌, refl, sym, ap, ◌∙◌, Option, arith}
+use Rattle.std.proofs.Common.{◌≡◌, ℕ, ◌+◌, ◌≤◌, ◌==◌, Bool, true, false, ◌&&◌, cond, List, [], ◌∷◌, length, ◌++◌, refl, sym, ap, ◌∙◌, Option, arith}
 use Rattle.std.specs.Prelude.{ℤ, count_by}
 use Rattle.dsql_journal.specs.declared.entry.Owner.{Owner}
 use Rattle.dsql_pool.specs.declared.conn.Conn.{Conn}
@@ -18,9 +18,10 @@ use Rattle.dsql_history.specs.declared.event.Control.{Control}
 use Rattle.dsql_history.specs.declared.event.Setting.TheVariants.{MaxOpen, MaxIdle, MaxLife, MaxIdleTime}
 use Rattle.dsql_history.specs.declared.event.Control.TheVariants.{Tick, Set}
 use Rattle.dsql_history.specs.declared.record.Try.{Try}
-use Rattle.dsql_history.specs.declared.record.Try.TheVariants.{Served, Refused}
+use Rattle.dsql_history.specs.declared.record.Try.TheVariants.{Served, Lost, Refused}
 use Rattle.dsql_history.specs.Readers.Pool.{pool, wanted_by, with_control}
-use Rattle.dsql_history.specs.Readers.Tries.{tries, with_try, newest_answer}
+use Rattle.dsql_history.specs.Readers.Tries.{tries, with_try, newest_answer, loses, lost}
+use Rattle.dsql_history.specs.Readers.Works.{work}
 use Rattle.dsql_history.specs.Rules.Moves.{moves_from, numbers_lending}
 use Rattle.dsql_history.specs.Legal.{Allowed, Lawful}
 use Rattle.dsql_laws.proofs.Tests.{both, same_number}
@@ -68,6 +69,14 @@ more_tries : (b : Bool) (t : Try) (now : ℕ) (ts : List Try) → now ≤ length
 more_tries true t now ts h = omega (arith, h)
 more_tries false t now ts h = h
 
+-- a try that is lost stays one
+pub as_many : (b : Bool) (ts : List Try) → length (cond b (lost ts) ts) ≡ length ts
+as_many true [] = refl
+as_many true (Served ∷ ts) = refl
+as_many true (Lost ∷ ts) = refl
+as_many true (Refused answer ∷ ts) = refl
+as_many false ts = refl
+
 pub same_control : (control : Control) (n : ℕ) (p : Pooled) → lent_count n (with_control control p) ≡ lent_count n p
 same_control (Tick k) n p = refl
 same_control (Set MaxOpen k) n p = refl
@@ -88,7 +97,10 @@ lent_tried (Entered client m (RowsClose rows) ∷ H) n l = lent_tried H n l.0
 lent_tried (Entered client m (Err rows) ∷ H) n l = lent_tried H n l.0
 lent_tried (Entered client m Ping ∷ H) n l = lent_tried H n l.0
 lent_tried (Entered client m Stats ∷ H) n l = lent_tried H n l.0
-lent_tried (Heard e ∷ H) n l = lent_tried H n l.0
+lent_tried (Heard e ∷ H) n l =
+    let rest = lent_tried H n l.0 in
+    let same = as_many ((e.call_no == n) && loses (work H n) e) (tries H n) in
+    omega (arith, rest, same)
 lent_tried (Pool (OpenStart c m) ∷ H) n l = let rest = lent_tried H n l.0 in let same = begun_same n (next_number (pool H)) (wanted_by m) (pool H).conns in omega (arith, rest, same)
 lent_tried (Pool (Lend c t o m) ∷ H) n l =
     let rest = lent_tried H n l.0 in

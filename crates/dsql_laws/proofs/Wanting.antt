@@ -39,6 +39,7 @@ use Rattle.dsql_history.specs.Rules.Asking.{may_ask, ask_outcome, is_queued}
 use Rattle.dsql_history.specs.Rules.Line.{line_at, line_of, due_in, due_for}
 use Rattle.dsql_history.specs.Legal.{Allowed, Lawful}
 use Rattle.dsql_laws.specs.Holdings.{waits_of}
+use Rattle.dsql_laws.proofs.Asker.{asker}
 use Rattle.dsql_laws.proofs.Tests.{both}
 use Rattle.dsql_laws.proofs.OwedMoves.{owed_own}
 use Rattle.dsql_laws.proofs.AtRest.{keeps_of}
@@ -106,9 +107,7 @@ same_control (Set MaxLife k) n p = refl
 same_control (Set MaxIdleTime k) n p = refl
 
 pub works_alone : (H : List Event) (n : ℕ) → may_ask H n ≡ true → asks (work H n) ≡ true
-works_alone H n may =
-    let a = both (is_unfinished H n) (asks (work H n) && (has_a_try (tries H n) && (not (wants n (pool H)) && is_none (reply_due H n)))) may in
-    let b = both (asks (work H n)) (has_a_try (tries H n) && (not (wants n (pool H)) && is_none (reply_due H n))) a.1 in b.0
+works_alone H n may = (asker H n may).own
 
 opens_for : (H : List Event) (c k n : ℕ) → Allowed H (Pool (OpenStart c k)) → n ≢ 0 → (1 ≤ wanted n (pool H) → asks (work H n) ≡ true) → 1 ≤ wanted n (begun (wanted_by k) (pool H)) → asks (work H n) ≡ true
 opens_for H c k n a some had now =
