@@ -5,6 +5,7 @@ use Rattle.dsql_pool.specs.Calls.{wants}
 use Rattle.dsql_work.specs.Works as works
 use Rattle.dsql_history.specs.declared.event.Event.{Event}
 use Rattle.dsql_history.specs.Readers.Calls.{reply_due}
+use Rattle.dsql_history.specs.Readers.HandedOut.{rows_by}
 use Rattle.dsql_history.specs.Readers.Pool.{pool, smallest, is_home}
 use Rattle.dsql_history.specs.Readers.Tries.{tries, has_a_try}
 use Rattle.dsql_history.specs.Readers.Unfinished.{is_unfinished}
@@ -18,6 +19,7 @@ pub record Asker (H : List Event) (n : ℕ) : Type 0 where
   pub own : works.asks (work H n) ≡ true
   pub try_left : has_a_try (tries H n) ≡ true
   pub homeless : smallest (is_home n) (pool H) ≡ None
+  pub rowless : rows_by H n ≡ None
   pub unwanting : wants n (pool H) ≡ false
   pub unsettled : reply_due H n ≡ None
 
@@ -34,13 +36,15 @@ asker H n may =
     let a = both (is_unfinished H n) (works.asks (work H n) && (may_try H n && (not (wants n (pool H)) && is_none (reply_due H n)))) may in
     let b = both (works.asks (work H n)) (may_try H n && (not (wants n (pool H)) && is_none (reply_due H n))) a.1 in
     let c = both (may_try H n) (not (wants n (pool H)) && is_none (reply_due H n)) b.1 in
-    let t = both (has_a_try (tries H n)) (is_none (smallest (is_home n) (pool H))) c.0 in
+    let t = both (has_a_try (tries H n)) (is_none (smallest (is_home n) (pool H)) && is_none (rows_by H n)) c.0 in
+    let free = both (is_none (smallest (is_home n) (pool H))) (is_none (rows_by H n)) t.1 in
     let d = both (not (wants n (pool H))) (is_none (reply_due H n)) c.1 in
     record {
       unfinished = a.0;
       own = b.0;
       try_left = t.0;
-      homeless = none_of (smallest (is_home n) (pool H)) t.1;
+      homeless = none_of (smallest (is_home n) (pool H)) free.0;
+      rowless = none_of (rows_by H n) free.1;
       unwanting = untrue (wants n (pool H)) d.0;
       unsettled = none_of (reply_due H n) d.1;
     }

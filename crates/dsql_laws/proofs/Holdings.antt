@@ -65,7 +65,7 @@ lent_home n x none = at x.place refl
     at Closing is = rw is (omega arith)
 
 -- a call that may ask has nothing yet
-nothing_held : (H : List Event) (n : ℕ) → Lawful H → may_ask H n ≡ true → holdings n (pool H) ≡ 0
+pub nothing_held : (H : List Event) (n : ℕ) → Lawful H → may_ask H n ≡ true → holdings n (pool H) ≡ 0
 nothing_held H n l may =
     let p = pool H in
     let asks = asker H n may in

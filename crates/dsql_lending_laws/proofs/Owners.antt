@@ -50,6 +50,7 @@ use Rattle.dsql_history.specs.Readers.Calls.{reply_due}
 use Rattle.dsql_history.specs.Rules.Asking.{may_ask, ask_outcome, is_queued, is_asked_for}
 use Rattle.dsql_history.specs.Rules.Order.{follows}
 use Rattle.dsql_history.specs.Legal.{Lawful}
+use Rattle.dsql_laws.proofs.Asker.{asker}
 use Rattle.dsql_laws.proofs.Tests.{both, together, move_is, same_number, same_itself, other_number}
 use Rattle.dsql_laws.proofs.OwedMoves.{owed_own}
 use Rattle.dsql_laws.proofs.Outdated.{outdated_all}
@@ -176,10 +177,9 @@ left_well f H (Fell c n) [] h all = refl
 
 asker_of : (H : List Event) (n : ℕ) → Lawful H → may_ask H n ≡ true → is_asker H (Call n) ≡ true
 asker_of H n l may =
-    let a = both (is_unfinished H n) (asks (work H n) && (has_a_try (tries H n) && (not (wants n (pool H)) && is_none (reply_due H n)))) may in
-    let b = both (asks (work H n)) (has_a_try (tries H n) && (not (wants n (pool H)) && is_none (reply_due H n))) a.1 in
-    let numbered : not (n == 0) ≡ true = ap not (other_number n 0 (unfinished_from_one H n l a.0)) in
-    together (not (n == 0)) (asks (work H n)) numbered b.0
+    let it = asker H n may in
+    let numbered : not (n == 0) ≡ true = ap not (other_number n 0 (unfinished_from_one H n l it.unfinished)) in
+    together (not (n == 0)) (asks (work H n)) numbered it.own
 
 lent_asker : (H : List Event) (c t : ℕ) (o : Owner) (n : ℕ) → Lawful H → is_asked_for H n (Lend c t o n) ≡ true → is_asker H o ≡ true
 lent_asker H c t o n l is =

@@ -15,6 +15,7 @@ use Rattle.dsql_history.specs.declared.event.Event.TheVariants.{Run, Entered, He
 use Rattle.dsql_history.specs.declared.record.CallRecord.{CallRecord}
 use Rattle.dsql_history.specs.Readers.Calls.{calls, call_record, nobody, with_record, entering, decided_by, decision}
 use Rattle.dsql_history.specs.Readers.Unfinished.{unfinished, is_unfinished}
+use Rattle.dsql_history.specs.Readers.Tries.{tries, try_number}
 use Rattle.dsql_history.specs.Readers.Works.{works, work, work_of}
 use Rattle.dsql_history.specs.Rules.Line.{asked_by, parts}
 use Rattle.dsql_work_laws.proofs.Rows.{read_set, row_old, within_rows, has_push}
@@ -27,7 +28,7 @@ as_many (Entered client n op ∷ H) =
     let other = length-append (calls H) (entering H client op ∷ []) in
     let same = as_many H in
     omega (arith, one, other, same)
-as_many (Heard e ∷ H) = as_many H ∙ sym (length-set (calls H) e.call_no (decided_by (work H e.call_no) e (get_or (calls H) e.call_no nobody)))
+as_many (Heard e ∷ H) = as_many H ∙ sym (length-set (calls H) e.call_no (decided_by (try_number (tries H e.call_no)) (work H e.call_no) e (get_or (calls H) e.call_no nobody)))
 as_many (Replied n reply ∷ H) = as_many H ∙ sym (length-set (calls H) n (record (get_or (calls H) n nobody) { decided = None }))
 as_many (Run version can ∷ H) = as_many H
 as_many (Pool m ∷ H) = as_many H
@@ -70,9 +71,9 @@ asked_row cs m n f aim k =
       | inr w ↦ ap (λ r. stated r aim) w.1
     ]
 
-stated_heard : (it : Work) (e : Entry) (aim : Aim) (r : CallRecord) → stated (decided_by it e r) aim ≡ stated r aim
-stated_heard it e aim r =
-    elim (e.call_no == 0) as (λ b. stated (cond b r (record r { decided = decision (length r.params) it e.call e.answer r.decided })) aim ≡ stated r aim) [ true ↦ refl | false ↦ refl ]
+stated_heard : (number : ℕ) (it : Work) (e : Entry) (aim : Aim) (r : CallRecord) → stated (decided_by number it e r) aim ≡ stated r aim
+stated_heard number it e aim r =
+    elim (e.call_no == 0) as (λ b. stated (cond b r (record r { decided = decision number (length r.params) it e.call e.answer r.decided })) aim ≡ stated r aim) [ true ↦ refl | false ↦ refl ]
 
 stated_same : (r s : CallRecord) (x y : Work) → r ≡ s → x ≡ y → stated r (aim_of x) ≡ stated s (aim_of y)
 stated_same r s x y same is = rw (same, is) refl
@@ -84,7 +85,9 @@ asked_stays H (Entered client m op) n busy =
     stated_same (call_record (Entered client m op ∷ H) n) (call_record H n) (work (Entered client m op ∷ H) n) (work H n)
     (row_old (calls H) (entering H client op) n nobody (λ is. absurd (omega (arith, less, rows, is))))
     (old_work (works H) (work_of (works H) op) n less)
-asked_stays H (Heard e) n busy = asked_row (calls H) e.call_no n (decided_by (work H e.call_no) e) (aim_of (work H n)) (stated_heard (work H e.call_no) e (aim_of (work H n)))
+asked_stays H (Heard e) n busy =
+    let number = try_number (tries H e.call_no) in
+    asked_row (calls H) e.call_no n (decided_by number (work H e.call_no) e) (aim_of (work H n)) (stated_heard number (work H e.call_no) e (aim_of (work H n)))
 asked_stays H (Replied m reply) n busy = asked_row (calls H) m n (λ r. record r { decided = None }) (aim_of (work H n)) (λ r. refl)
 asked_stays H (Run version can) n busy = refl
 asked_stays H (Pool move) n busy = refl

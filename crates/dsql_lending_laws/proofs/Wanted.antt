@@ -1,5 +1,5 @@
 -- A call to which a connection was lent wants no other.
-use Rattle.std.proofs.Common.{◌≡◌, ◌≢◌, ℕ, ◌≤◌, ◌==◌, inl, inr, Bool, true, false, not, ◌&&◌, ◌||◌, cond, List, [], ◌∷◌, length, Option, Some, None, is_none, refl, sym, ap, subst, ◌∙◌, arith}
+use Rattle.std.proofs.Common.{◌≡◌, ◌≢◌, ℕ, ◌≤◌, ◌==◌, inl, inr, Bool, true, false, not, ◌&&◌, ◌||◌, cond, List, [], ◌∷◌, length, Option, Some, None, is_none, is_some, refl, sym, ap, subst, ◌∙◌, arith}
 use Rattle.dsql_journal.specs.declared.entry.Owner.{Owner}
 use Rattle.dsql_journal.specs.declared.entry.Owner.TheVariants.{Call}
 use Rattle.dsql_pool.specs.declared.conn.Conn.{Conn}
@@ -19,6 +19,7 @@ use Rattle.dsql_history.specs.declared.record.Try.{Try}
 use Rattle.dsql_history.specs.declared.record.Try.TheVariants.{Served, Refused}
 use Rattle.dsql_history.specs.Same.{is_first}
 use Rattle.dsql_history.specs.Readers.Calls.{reply_due}
+use Rattle.dsql_history.specs.Readers.HandedOut.{rows_by}
 use Rattle.dsql_history.specs.Readers.Owed.{owed}
 use Rattle.dsql_history.specs.Readers.Pool.{pool, place, request, wanted_by}
 use Rattle.dsql_history.specs.Readers.Tries.{tries, has_a_try, with_try, newest_answer}
@@ -27,12 +28,13 @@ use Rattle.dsql_history.specs.Readers.Works.{work}
 use Rattle.dsql_history.specs.Rules.Asking.{may_ask, ask_outcome, is_queued}
 use Rattle.dsql_history.specs.Legal.{Allowed, Lawful}
 use Rattle.dsql_laws.proofs.Tests.{both}
+use Rattle.dsql_laws.proofs.Asker.{asker}
 use Rattle.dsql_laws.proofs.AtRest.{keeps_of}
 use Rattle.dsql_laws.proofs.OwedMoves.{owed_own}
 use Rattle.dsql_laws.proofs.Counts.{request-more, left_fewer, waits_some, changed_fewer, gone_fewer}
 use Rattle.dsql_laws.proofs.Deserved.{is_home_of, Deserves, deserved}
 use Rattle.dsql_laws.proofs.Tried.{is_lent_out, lent_count, lent_tried}
-use Rattle.dsql_laws.proofs.Holdings.{by_call, opening_asked, one_at_most, lending_from}
+use Rattle.dsql_laws.proofs.Holdings.{by_call, nothing_held, opening_asked, one_at_most, lending_from}
 use Rattle.dsql_laws.proofs.Wanting.{wanted, is_opening_for, shut_wants, begun_wants, wanted_opening, same_control, homes_apart, found_counts, lent_found}
 use Rattle.dsql_lending_laws.proofs.Found.{place_in}
 use Rattle.dsql_lending_laws.proofs.Owners.{lent_number}
@@ -56,38 +58,16 @@ lent_wants_none H c t n l is =
     let apart = homes_apart n (pool H).conns in
     omega (arith, once, one, apart)
 
--- who has tried may not ask
+-- who has a connection, or has made rows, may not ask
+pub lent_may_not_ask : (H : List Event) (c t n : ℕ) → Lawful H → place H c ≡ Some (Lent t (Call n)) → may_ask H n ≡ true → ⊥
+lent_may_not_ask H c t n l is may =
+    let once = lent_once H c t n is in
+    let none = nothing_held H n l may in
+    let apart = homes_apart n (pool H).conns in
+    absurd (omega (arith, once, none, apart))
 
-has_no_try : (ts : List Try) → 1 ≤ length ts → has_a_try ts ≡ true → ⊥
-has_no_try [] h k = omega (arith, h)
-has_no_try (t ∷ ts) h k = cc
-
-pub tried_may_not_ask : (H : List Event) (n : ℕ) → 1 ≤ length (tries H n) → may_ask H n ≡ true → ⊥
-tried_may_not_ask H n tried may =
-    let a = both (is_unfinished H n) (asks (work H n) && (has_a_try (tries H n) && (not (wants n (pool H)) && is_none (reply_due H n)))) may in
-    let b = both (asks (work H n)) (has_a_try (tries H n) && (not (wants n (pool H)) && is_none (reply_due H n))) a.1 in
-    let c = both (has_a_try (tries H n)) (not (wants n (pool H)) && is_none (reply_due H n)) b.1 in
-    has_no_try (tries H n) tried c.0
-
-more : (b : Bool) (t : Try) (ts : List Try) → 1 ≤ length ts → 1 ≤ length (with_try b t ts)
-more true t ts h = omega arith
-more false t ts h = h
-
-pub still_tried : (H : List Event) (e : Event) (n : ℕ) → 1 ≤ length (tries H n) → 1 ≤ length (tries (e ∷ H) n)
-still_tried H (Pool (Lend c t o m)) n h = more (m == n) Served (tries H n) h
-still_tried H (Pool (Fell c m)) n h = more (m == n) (Refused (newest_answer H)) (tries H n) h
-still_tried H (Pool (OpenStart c m)) n h = h
-still_tried H (Pool (Back c)) n h = h
-still_tried H (Pool (CloseStart c why)) n h = h
-still_tried H (Pool (Gone c)) n h = h
-still_tried H (Run version can) n h = h
-still_tried H (Entered client m op) n h = h
-still_tried H (Heard e) n h = h
-still_tried H (Waits m) n h = h
-still_tried H (Ticked now) n h = h
-still_tried H (SetLimit s k) n h = h
-still_tried H (Replied m reply) n h = h
-still_tried H Ended n h = h
+pub rows_may_not_ask : (H : List Event) (n : ℕ) → is_some (rows_by H n) ≡ true → may_ask H n ≡ true → ⊥
+rows_may_not_ask H n some may = let k : is_some (rows_by H n) ≡ false = ap (λ o. is_some o) (asker H n may).rowless in cc
 
 -- A call that may not ask comes to want nothing that it didn't.
 

@@ -73,6 +73,11 @@ has_a_try (newest ∷ earlier) = is_over newest && nat_lt (length (newest ∷ ea
 abbrev pub asks_last : List Try → Bool
 asks_last tries = length tries + 1 == most_tries
 
+-- the call's newest try was served, and isn't lost
+abbrev pub was_served : List Try → Bool
+was_served (Served ∷ earlier) = true
+was_served tries = false
+
 -- a connection that was to be opened for the call fell to it
 abbrev pub was_refused : List Try → Bool
 was_refused (Refused answer ∷ earlier) = true

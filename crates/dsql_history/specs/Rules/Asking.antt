@@ -18,11 +18,12 @@ use Rattle.dsql_history.specs.Readers.Tries.{tries, has_a_try}
 use Rattle.dsql_history.specs.Readers.Pool.{pool, request, smallest, is_home}
 use Rattle.dsql_history.specs.Readers.Owed.{owed}
 use Rattle.dsql_history.specs.Readers.Calls.{reply_due}
+use Rattle.dsql_history.specs.Readers.HandedOut.{rows_by}
 use Rattle.dsql_history.specs.Readers.Unfinished.{is_unfinished}
 
--- the call has a try left, and no connection of an earlier one
+-- the call has a try left, and nothing of an earlier one: neither a connection nor rows
 abbrev pub may_try : List Event → ℕ → Bool
-may_try before n = has_a_try (tries before n) && is_none (smallest (is_home n) (pool before))
+may_try before n = has_a_try (tries before n) && (is_none (smallest (is_home n) (pool before)) && is_none (rows_by before n))
 
 -- the call works on a connection of its own, has a try left and nothing to come of an earlier one, and nothing is settled that it replies
 abbrev pub may_ask : List Event → ℕ → Bool
