@@ -32,7 +32,6 @@ use Rattle.dsql_history.specs.Readers.Calls.{call_record}
 use Rattle.dsql_history.specs.Readers.HandedOut.{handed_out, rows_by, rows_heard, live, are_live}
 use Rattle.dsql_history.specs.Readers.Journals.{journal, heard_in}
 use Rattle.dsql_history.specs.Readers.Pool.{pool, place, home}
-use Rattle.dsql_history.specs.Readers.Tries.{tries}
 use Rattle.dsql_history.specs.Readers.Works.{works, work, work_of}
 use Rattle.dsql_history.specs.Rules.Line.{asked_by, is_reset_due, sends_from}
 use Rattle.dsql_history.specs.Rules.Moves.{hears_in, is_house_entry}
@@ -52,7 +51,7 @@ use Rattle.dsql_sending_laws.proofs.Lines.{MadeIn, HandsIn, line_in}
 use Rattle.dsql_lending_laws.proofs.Stays.{as_many, asked_stays}
 use Rattle.dsql_sending_laws.proofs.UnderWay.{UnderWay, Wants, WorksOn}
 use Rattle.dsql_sending_laws.proofs.Hands.{hands_own, hands_fetching, hands_closing, others_heard}
-use Rattle.dsql_lending_laws.proofs.Wanted.{lent_has_tried, lent_wants_none}
+use Rattle.dsql_lending_laws.proofs.Wanted.{lent_wants_none}
 use Rattle.dsql_sending_laws.proofs.Standing.{lends, lent_works}
 use Rattle.dsql_sending_laws.proofs.Invariant.{Sound, made_stays}
 
@@ -285,12 +284,6 @@ lives_heard H e l a s n h =
     let at = at_home H e.conn e.tenure u.holder l u.lent in
     record { tenure = e.tenure; lent = ap (λ k. place H (home H k)) same ∙ ap (place H) at ∙ u.lent ∙ ap (λ k. Some (Lent e.tenure (Call k))) (sym same) })
     (λ rows. s.lives n (ap live (sym rows) ∙ h))
-
-pub tried_heard : (H : List Event) (e : Entry) → Lawful H → Allowed H (Heard e) → Sound H → (n : ℕ) → is_some (rows_by (Heard e ∷ H) n) ≡ true → 1 ≤ length (tries H n)
-tried_heard H e l a s n h =
-    of_rows H e n (1 ≤ length (tries H n)) l a s
-    (λ u same. subst (λ k. 1 ≤ length (tries H k)) (sym same) (lent_has_tried H e.conn e.tenure u.holder l u.lent))
-    (λ rows. s.tried n (ap is_some (sym rows) ∙ h))
 
 pub content_heard : (H : List Event) (e : Entry) → Lawful H → Allowed H (Heard e) → Sound H → (n : ℕ) → n ≢ 0 → is_some (rows_by (Heard e ∷ H) n) ≡ true → wanted n (pool H) ≡ 0
 content_heard H e l a s n some h =

@@ -34,7 +34,6 @@ use Rattle.dsql_history.specs.Readers.Course.{caps}
 use Rattle.dsql_history.specs.Readers.HandedOut.{handed_out, rows_by, rows_entered, live, over, are_live}
 use Rattle.dsql_history.specs.Readers.Journals.{journal, heard_in}
 use Rattle.dsql_history.specs.Readers.Pool.{pool, place, home, uses}
-use Rattle.dsql_history.specs.Readers.Tries.{tries}
 use Rattle.dsql_history.specs.Readers.Unfinished.{is_unfinished}
 use Rattle.dsql_history.specs.Readers.Works.{works, work}
 use Rattle.dsql_history.specs.Rules.Line.{asked_by, is_reset_due, is_used, is_due_at, parts, may_come}
@@ -58,7 +57,7 @@ use Rattle.dsql_sending_laws.proofs.UnderWay.{UnderWay, Wants, WorksOn, due_unde
 use Rattle.dsql_lending_laws.proofs.Lent.{move_facts, stays_lent, uses_stay, lent_before}
 use Rattle.dsql_lending_laws.proofs.Spared.{was_heard, was_opened, opened_when}
 use Rattle.dsql_sending_laws.proofs.Standing.{StandsIn, lends, rests_from}
-use Rattle.dsql_lending_laws.proofs.Wanted.{tried_may_not_ask, lent_nothing}
+use Rattle.dsql_lending_laws.proofs.Wanted.{rows_may_not_ask, lent_nothing}
 
 pub record Sound (H : List Event) : Type 0 where
   -- what was heard of each connection fits where it stands
@@ -68,8 +67,7 @@ pub record Sound (H : List Event) : Type 0 where
   pub hands : (c t n : ℕ) → place H c ≡ Some (Lent t (Call n)) → HandsIn H c t n
   -- live rows keep their connection
   pub lives : (n : ℕ) → are_live H n ≡ true → KeepsItsConnection H n
-  -- who made rows has had its connection
-  pub tried : (n : ℕ) → is_some (rows_by H n) ≡ true → 1 ≤ length (tries H n)
+  -- who made rows wants no other connection
   pub content : (n : ℕ) → n ≢ 0 → is_some (rows_by H n) ≡ true → wanted n (pool H) ≡ 0
   pub coming : (e : Entry) → may_come H e ≡ true → UnderWay H e
 
@@ -222,7 +220,7 @@ unmade H c t n k l a some s = by (rows_by H n) refl
     by None is = is
     by (Some r) is =
         let were : is_some (rows_by H n) ≡ true = ap is_some is in
-        absurd (lent_nothing H c t (Call n) n l (subst (λ j. Allowed H (Pool (Lend c t (Call n) j))) same a) (tried_may_not_ask H n (s.tried n were)) (s.content n some were))
+        absurd (lent_nothing H c t (Call n) n l (subst (λ j. Allowed H (Pool (Lend c t (Call n) j))) same a) (rows_may_not_ask H n were) (s.content n some were))
 
 made_none : (can : Caps) (asked : Asked) (L : List Entry) → L ≡ [] → MadeAt can asked (step L) (exchanges L)
 made_none can asked L none = rw none refl

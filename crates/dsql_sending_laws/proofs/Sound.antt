@@ -6,9 +6,9 @@ use Rattle.dsql_history.specs.declared.event.Event.TheVariants.{Run, Entered, He
 use Rattle.dsql_history.specs.Readers.HandedOut.{rows_by}
 use Rattle.dsql_history.specs.Legal.{Lawful}
 use Rattle.dsql_sending_laws.proofs.Lines.{live_used}
-use Rattle.dsql_lending_laws.proofs.Wanted.{tried_may_not_ask, still_tried, wants_no_more}
+use Rattle.dsql_lending_laws.proofs.Wanted.{rows_may_not_ask, wants_no_more}
 use Rattle.dsql_sending_laws.proofs.Invariant.{Sound, is_answer, rows_turn, turned_some, turned_live, made_quiet, hands_quiet, still_has, comes}
-use Rattle.dsql_sending_laws.proofs.Answered.{made_heard, hands_heard, lives_heard, tried_heard, content_heard}
+use Rattle.dsql_sending_laws.proofs.Answered.{made_heard, hands_heard, lives_heard, content_heard}
 use Rattle.dsql_sending_laws.proofs.Stood.{stands_event}
 
 start : Sound []
@@ -17,7 +17,6 @@ start = record {
   made = λ c t n is. absurd cc;
   hands = λ c t n is. absurd cc;
   lives = λ n h. absurd cc;
-  tried = λ n h. absurd cc;
   content = λ n some h. absurd cc;
   coming = λ e h. absurd cc;
 }
@@ -28,10 +27,9 @@ quiet H e l none s = record {
   made = made_quiet H e l none s;
   hands = hands_quiet H e l none s;
   lives = λ n h. let were = turned_live (rows_by H n) (rows_by (e ∷ H) n) (rows_turn H e n none) h in still_has H e n l (live_used H n were) (s.lives n were);
-  tried = λ n h. still_tried H e n (s.tried n (turned_some (rows_by H n) (rows_by (e ∷ H) n) (rows_turn H e n none) h));
   content = λ n some h.
       let were = turned_some (rows_by H n) (rows_by (e ∷ H) n) (rows_turn H e n none) h in
-      wants_no_more H e n l.1 some (tried_may_not_ask H n (s.tried n were)) (s.content n some were);
+      wants_no_more H e n l.1 some (rows_may_not_ask H n were) (s.content n some were);
   coming = comes H e l s;
 }
 
@@ -41,7 +39,6 @@ answered H e l s = record {
   made = made_heard H e l.0 l.1 s;
   hands = hands_heard H e l.0 l.1 s;
   lives = λ n h. let it = lives_heard H e l.0 l.1 s n h in record { tenure = it.tenure; lent = it.lent };
-  tried = tried_heard H e l.0 l.1 s;
   content = content_heard H e l.0 l.1 s;
   coming = comes H (Heard e) l s;
 }
