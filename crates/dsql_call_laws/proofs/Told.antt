@@ -25,6 +25,11 @@ use Rattle.dsql_history.specs.Readers.Unfinished.{is_unfinished}
 use Rattle.dsql_history.specs.Readers.Works.{work}
 use Rattle.dsql_history.specs.Rules.Asking.{may_ask, ask_outcome, is_queued}
 use Rattle.dsql_history.specs.Legal.{Allowed, Lawful}
+use Rattle.dsql_laws.proofs.Asker.{asker}
+use Rattle.dsql_lending_laws.proofs.Wanted.{lent_wants_none}
+use Rattle.dsql_sending_laws.proofs.UnderWay.{UnderWay}
+use Rattle.dsql_sending_laws.proofs.Answered.{answer_of, own_call}
+use Rattle.dsql_sending_laws.proofs.Sound.{sound}
 use Rattle.dsql_laws.proofs.Tests.{both, other_number}
 use Rattle.dsql_laws.proofs.OwedMoves.{owed_own}
 use Rattle.dsql_laws.proofs.AtRest.{keeps_of}
@@ -35,7 +40,7 @@ use Rattle.dsql_call_laws.proofs.Lists.{read_set}
 use Rattle.dsql_call_laws.proofs.Works.{enters_next, old_record, other_heard}
 use Rattle.dsql_call_laws.proofs.Looks.{heard_there, comes}
 use Rattle.dsql_call_laws.proofs.Idle.{no_work_yet, came_of}
-use Rattle.dsql_call_laws.proofs.Untried.{wanting_untried, lends_unwanting}
+use Rattle.dsql_call_laws.proofs.Untried.{lends_unwanting}
 
 never : true ≡ false → ⊥
 never h = cc
@@ -46,12 +51,7 @@ none_settled (Some r) p q h = absurd cc
 
 pub asks_undecided : (H : List Event) (n : ℕ) → may_ask H n ≡ true → decided H n ≡ None
 asks_undecided H n may =
-    let p = pool H in
-    let a = both (is_unfinished H n) (works.asks (work H n) && (has_a_try (tries H n) && (not (wants n p) && is_none (reply_due H n)))) may in
-    let b = both (works.asks (work H n)) (has_a_try (tries H n) && (not (wants n p) && is_none (reply_due H n))) a.1 in
-    let c = both (has_a_try (tries H n)) (not (wants n p) && is_none (reply_due H n)) b.1 in
-    let d = both (not (wants n p)) (is_none (reply_due H n)) c.1 in
-    none_settled (decided H n) (told_by_others H n) (told_at_lending H n) d.1
+    none_settled (decided H n) (told_by_others H n) (told_at_lending H n) (ap (λ o. is_none o) (asker H n may).unsettled)
 
 same_control : (control : Control) (n : ℕ) (p : Pooled) → wanted n (with_control control p) ≡ wanted n p
 same_control (Tick k) n p = refl
@@ -88,13 +88,15 @@ joins_undecided H k n may had now =
 -- nothing is heard of it, and it isn't the one that enters
 
 not_heard : (H : List Event) (e : Entry) (n : ℕ) → Lawful (Heard e ∷ H) → n ≢ 0 → 1 ≤ wanted n (pool H) → n ≢ e.call_no
-not_heard H e n l some now same =
-    let there = heard_there H e l.1 in
-    let number : (e.call_no == 0) ≡ false = other_number e.call_no 0 (λ none. some (same ∙ none)) in
-    let s = came_of H e l.0 (comes H e (place H e.conn) there.sets there.line number) number in
-    let tried = s.tried (ap (λ k. works.asks (work H k)) (sym same) ∙ wanting_works H n l.0 some now) in
-    let none : length (tries H e.call_no) ≡ 0 = ap (λ k. length (tries H k)) (sym same) ∙ wanting_untried H n l.0 some now in
-    absurd (omega (arith, tried, none))
+not_heard H e n l some now same = by (answer_of H e l.1 (sound H l.0))
+  where
+    by : UnderWay H e ⊎ (e.call_no ≡ 0) → ⊥
+    by (inl u) =
+        let own : works.asks (work H e.call_no) ≡ true = ap (λ k. works.asks (work H k)) (sym same) ∙ wanting_works H n l.0 some now in
+        let whose : n ≡ u.holder = same ∙ own_call H e.call_no u.holder u.wish u.wants own in
+        let none : wanted n (pool H) ≡ 0 = ap (λ k. wanted k (pool H)) whose ∙ lent_wants_none H e.conn e.tenure u.holder l.0 u.lent in
+        absurd (omega (arith, none, now))
+    by (inr layer) = some (same ∙ layer)
 
 pub not_entering : (H : List Event) (client m : ℕ) (op : Op) (n : ℕ) → Lawful (Entered client m op ∷ H) → n ≢ 0 → 1 ≤ wanted n (pool H) → n ≢ m
 not_entering H client m op n l some now same =

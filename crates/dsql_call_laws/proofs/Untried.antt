@@ -51,18 +51,6 @@ pub moves_of : (H : List Event) (c t : ℕ) (o : Owner) (n : ℕ) → Allowed H 
 unfolding Allowed
 moves_of H c t o n a = let s = both (moves_from (pool H) (Lend c t o n)) (numbers_lending (pool H) (Lend c t o n)) a.sets in s.0
 
-untried : (ts : List Try) → has_a_try ts ≡ true → length ts ≡ 0
-untried [] h = refl
-untried (t ∷ ts) h = absurd cc
-
-asks_untried : (H : List Event) (n : ℕ) → may_ask H n ≡ true → length (tries H n) ≡ 0
-asks_untried H n may =
-    let p = pool H in
-    let a = both (is_unfinished H n) (works.asks (work H n) && (has_a_try (tries H n) && (not (wants n p) && is_none (reply_due H n)))) may in
-    let b = both (works.asks (work H n)) (has_a_try (tries H n) && (not (wants n p) && is_none (reply_due H n))) a.1 in
-    let c = both (has_a_try (tries H n)) (not (wants n p) && is_none (reply_due H n)) b.1 in
-    untried (tries H n) c.0
-
 -- a connection that is found and lent counts as its call's
 
 lent_passes : (n t moment : ℕ) (o : Owner) (found : Option Conn) → number_of o ≡ n → (is_idle (option_map (λ x. x.place) found) || is_opening (option_map (λ x. x.place) found)) ≡ true
@@ -164,27 +152,27 @@ same_control (Set MaxIdle k) n p = refl
 same_control (Set MaxLife k) n p = refl
 same_control (Set MaxIdleTime k) n p = refl
 
-asked_untried : (H : List Event) (k n : ℕ) → (k ≡ n) → may_ask H k ≡ true → length (tries H n) ≡ 0
-asked_untried H k n same may = subst (λ m. length (tries H m) ≡ 0) same (asks_untried H k may)
+asked_with_try : (H : List Event) (k n : ℕ) → (k ≡ n) → may_ask H k ≡ true → has_a_try (tries H n) ≡ true
+asked_with_try H k n same may = subst (λ m. has_a_try (tries H m) ≡ true) same (asker H k may).try_left
 
-opens_untried : (H : List Event) (c k n : ℕ) → Allowed H (Pool (OpenStart c k)) → n ≢ 0 → (1 ≤ wanted n (pool H) → length (tries H n) ≡ 0) → 1 ≤ wanted n (begun (wanted_by k) (pool H)) → length (tries H n) ≡ 0
-opens_untried H c k n a some had now =
+opens_with_try : (H : List Event) (c k n : ℕ) → Allowed H (Pool (OpenStart c k)) → n ≢ 0 → (1 ≤ wanted n (pool H) → has_a_try (tries H n) ≡ true) → 1 ≤ wanted n (begun (wanted_by k) (pool H)) → has_a_try (tries H n) ≡ true
+opens_with_try H c k n a some had now =
     let more = begun_wants n (wanted_by k) (pool H) in
     let opens = wanted_opening k n some in
-    by_call k n (length (tries H n) ≡ 0)
+    by_call k n (has_a_try (tries H n) ≡ true)
     (λ is.
     let asked = opening_asked H c k (owed H) (keeps_of H (Pool (OpenStart c k)) a) refl (owed_own H) (λ none. some (sym is ∙ none)) in
     let b = both (may_ask H k) (is_first (moves_asked (request H k) (ask_outcome H k)) (OpenStart c k)) asked in
-    asked_untried H k n is b.0)
+    asked_with_try H k n is b.0)
     (λ not.
     let none : cond {A = ℕ} (k == n) 1 0 ≡ 0 = ap (λ (b : Bool). cond {A = ℕ} b 1 0) not in
     had (omega (arith, more, opens, none, now)))
 
-joins_untried : (H : List Event) (k n : ℕ) → may_ask H k ≡ true → (1 ≤ wanted n (pool H) → length (tries H n) ≡ 0) → 1 ≤ wanted n (joined (request H k) (pool H)) → length (tries H n) ≡ 0
-joins_untried H k n may had now =
+joins_with_try : (H : List Event) (k n : ℕ) → may_ask H k ≡ true → (1 ≤ wanted n (pool H) → has_a_try (tries H n) ≡ true) → 1 ≤ wanted n (joined (request H k) (pool H)) → has_a_try (tries H n) ≡ true
+joins_with_try H k n may had now =
     let more = request-more n (request H k) (pool H).waiting in
-    by_call k n (length (tries H n) ≡ 0)
-    (λ is. asked_untried H k n is may)
+    by_call k n (has_a_try (tries H n) ≡ true)
+    (λ is. asked_with_try H k n is may)
     (λ not.
     let none : cond {A = ℕ} (k == n) 1 0 ≡ 0 = ap (λ (b : Bool). cond {A = ℕ} b 1 0) not in
     had (omega (arith, more, none, now)))
@@ -193,23 +181,23 @@ joins_untried H k n may had now =
 pub other_try : (k n : ℕ) (x : Try) (ts : List Try) → (k == n) ≡ false → length (with_try (k == n) x ts) ≡ length ts
 other_try k n x ts not = ap (λ b. length (with_try b x ts)) not
 
-pub wanting_untried : (H : List Event) (n : ℕ) → Lawful H → n ≢ 0 → 1 ≤ wanted n (pool H) → length (tries H n) ≡ 0
-wanting_untried [] n l some now = refl
-wanting_untried (Run version can ∷ H) n l some now = wanting_untried H n l.0 some now
-wanting_untried (Entered client m DbClose ∷ H) n l some now = let few = shut_wants n (pool H) in wanting_untried H n l.0 some (omega (arith, few, now))
-wanting_untried (Entered client m (Exec text args) ∷ H) n l some now = wanting_untried H n l.0 some now
-wanting_untried (Entered client m (Query label text args) ∷ H) n l some now = wanting_untried H n l.0 some now
-wanting_untried (Entered client m (One dests text args) ∷ H) n l some now = wanting_untried H n l.0 some now
-wanting_untried (Entered client m (Next rows) ∷ H) n l some now = wanting_untried H n l.0 some now
-wanting_untried (Entered client m (Scan rows dests) ∷ H) n l some now = wanting_untried H n l.0 some now
-wanting_untried (Entered client m (RowsClose rows) ∷ H) n l some now = wanting_untried H n l.0 some now
-wanting_untried (Entered client m (Err rows) ∷ H) n l some now = wanting_untried H n l.0 some now
-wanting_untried (Entered client m Ping ∷ H) n l some now = wanting_untried H n l.0 some now
-wanting_untried (Entered client m Stats ∷ H) n l some now = wanting_untried H n l.0 some now
-wanting_untried (Heard e ∷ H) n l some now = wanting_untried H n l.0 some now
-wanting_untried (Pool (OpenStart c k) ∷ H) n l some now = opens_untried H c k n l.1 some (wanting_untried H n l.0 some) now
-wanting_untried (Pool (Lend c t o k) ∷ H) n l some now =
-    by_call k n (length (tries (Pool (Lend c t o k) ∷ H) n) ≡ 0)
+pub wanting_has_try : (H : List Event) (n : ℕ) → Lawful H → n ≢ 0 → 1 ≤ wanted n (pool H) → has_a_try (tries H n) ≡ true
+wanting_has_try [] n l some now = refl
+wanting_has_try (Run version can ∷ H) n l some now = wanting_has_try H n l.0 some now
+wanting_has_try (Entered client m DbClose ∷ H) n l some now = let few = shut_wants n (pool H) in wanting_has_try H n l.0 some (omega (arith, few, now))
+wanting_has_try (Entered client m (Exec text args) ∷ H) n l some now = wanting_has_try H n l.0 some now
+wanting_has_try (Entered client m (Query label text args) ∷ H) n l some now = wanting_has_try H n l.0 some now
+wanting_has_try (Entered client m (One dests text args) ∷ H) n l some now = wanting_has_try H n l.0 some now
+wanting_has_try (Entered client m (Next rows) ∷ H) n l some now = wanting_has_try H n l.0 some now
+wanting_has_try (Entered client m (Scan rows dests) ∷ H) n l some now = wanting_has_try H n l.0 some now
+wanting_has_try (Entered client m (RowsClose rows) ∷ H) n l some now = wanting_has_try H n l.0 some now
+wanting_has_try (Entered client m (Err rows) ∷ H) n l some now = wanting_has_try H n l.0 some now
+wanting_has_try (Entered client m Ping ∷ H) n l some now = wanting_has_try H n l.0 some now
+wanting_has_try (Entered client m Stats ∷ H) n l some now = wanting_has_try H n l.0 some now
+wanting_has_try (Heard e ∷ H) n l some now = heard_with_try ((e.call_no == n) && loses (work H n) e) (tries H n) (wanting_has_try H n l.0 some now)
+wanting_has_try (Pool (OpenStart c k) ∷ H) n l some now = opens_with_try H c k n l.1 some (wanting_has_try H n l.0 some) now
+wanting_has_try (Pool (Lend c t o k) ∷ H) n l some now =
+    by_call k n (has_a_try (tries (Pool (Lend c t o k) ∷ H) n) ≡ true)
     (λ is.
     let own : k ≢ 0 = λ none. some (sym is ∙ none) in
     let none : wanted n (moved (Lend c t o k) (pool H)) ≡ 0 = subst (λ m. wanted m (moved (Lend c t o k) (pool H)) ≡ 0) is (lends_unwanting H c t o k l own) in
@@ -217,16 +205,16 @@ wanting_untried (Pool (Lend c t o k) ∷ H) n l some now =
     (λ not.
     let waits = left_fewer n k (pool H).waiting in
     let few = changed_fewer (is_opening_for n) c (lent t o (pool H).moment) (pool H).conns (λ x. refl) in
-    other_try k n Served (tries H n) not ∙ wanting_untried H n l.0 some (omega (arith, waits, few, now)))
-wanting_untried (Pool (Back c) ∷ H) n l some now =
+    other_try k n Served (tries H n) not ∙ wanting_has_try H n l.0 some (omega (arith, waits, few, now)))
+wanting_has_try (Pool (Back c) ∷ H) n l some now =
     let few = changed_fewer (is_opening_for n) c (back (pool H).moment) (pool H).conns (λ x. refl) in
-    wanting_untried H n l.0 some (omega (arith, few, now))
-wanting_untried (Pool (CloseStart c why) ∷ H) n l some now =
+    wanting_has_try H n l.0 some (omega (arith, few, now))
+wanting_has_try (Pool (CloseStart c why) ∷ H) n l some now =
     let few = changed_fewer (is_opening_for n) c closing (pool H).conns (λ x. refl) in
-    wanting_untried H n l.0 some (omega (arith, few, now))
-wanting_untried (Pool (Gone c) ∷ H) n l some now = let few = gone_fewer (is_opening_for n) c (pool H).conns in wanting_untried H n l.0 some (omega (arith, few, now))
-wanting_untried (Pool (Fell c k) ∷ H) n l some now =
-    by_call k n (length (tries (Pool (Fell c k) ∷ H) n) ≡ 0)
+    wanting_has_try H n l.0 some (omega (arith, few, now))
+wanting_has_try (Pool (Gone c) ∷ H) n l some now = let few = gone_fewer (is_opening_for n) c (pool H).conns in wanting_has_try H n l.0 some (omega (arith, few, now))
+wanting_has_try (Pool (Fell c k) ∷ H) n l some now =
+    by_call k n (has_a_try (tries (Pool (Fell c k) ∷ H) n) ≡ true)
     (λ is.
     let own : k ≢ 0 = λ none. some (sym is ∙ none) in
     let none : wanted n (moved (Fell c k) (pool H)) ≡ 0 = subst (λ m. wanted m (moved (Fell c k) (pool H)) ≡ 0) is (fallen_unwanting H c k l own) in
@@ -234,19 +222,15 @@ wanting_untried (Pool (Fell c k) ∷ H) n l some now =
     (λ not.
     let waits = left_fewer n k (pool H).waiting in
     let few = gone_fewer (is_opening_for n) c (pool H).conns in
-    other_try k n (Refused (newest_answer H)) (tries H n) not ∙ wanting_untried H n l.0 some (omega (arith, waits, few, now)))
-wanting_untried (Waits k ∷ H) n l some now =
+    other_try k n (Refused (newest_answer H)) (tries H n) not ∙ wanting_has_try H n l.0 some (omega (arith, waits, few, now)))
+wanting_has_try (Waits k ∷ H) n l some now =
     let keeps = keeps_of H (Waits k) l.1 in
     let a = both (may_ask H k) (is_queued (ask_outcome H k)) keeps.asking in
-    joins_untried H k n a.0 (wanting_untried H n l.0 some) now
-wanting_untried (Ticked moment ∷ H) n l some now = let same = same_control (Tick moment) n (pool H) in wanting_untried H n l.0 some (omega (arith, same, now))
-wanting_untried (SetLimit s k ∷ H) n l some now = let same = same_control (Set s k) n (pool H) in wanting_untried H n l.0 some (omega (arith, same, now))
-wanting_untried (Replied m reply ∷ H) n l some now = wanting_untried H n l.0 some now
-wanting_untried (Ended ∷ H) n l some now = let few = shut_wants n (pool H) in wanting_untried H n l.0 some (omega (arith, few, now))
+    joins_with_try H k n a.0 (wanting_has_try H n l.0 some) now
+wanting_has_try (Ticked moment ∷ H) n l some now = let same = same_control (Tick moment) n (pool H) in wanting_has_try H n l.0 some (omega (arith, same, now))
+wanting_has_try (SetLimit s k ∷ H) n l some now = let same = same_control (Set s k) n (pool H) in wanting_has_try H n l.0 some (omega (arith, same, now))
+wanting_has_try (Replied m reply ∷ H) n l some now = wanting_has_try H n l.0 some now
+wanting_has_try (Ended ∷ H) n l some now = let few = shut_wants n (pool H) in wanting_has_try H n l.0 some (omega (arith, few, now))
 
-none_tried : (ts : List Try) → length ts ≡ 0 → ts ≡ []
-none_tried [] h = refl
-none_tried (t ∷ ts) h = absurd (omega (arith, h))
-
-pub wants_untried : (H : List Event) (n : ℕ) → Lawful H → n ≢ 0 → wants n (pool H) ≡ true → tries H n ≡ []
-wants_untried H n l some h = none_tried (tries H n) (wanting_untried H n l some (wants_counts n (pool H) h))
+pub wants_has_try : (H : List Event) (n : ℕ) → Lawful H → n ≢ 0 → wants n (pool H) ≡ true → has_a_try (tries H n) ≡ true
+wants_has_try H n l some h = wanting_has_try H n l some (wants_counts n (pool H) h)

@@ -32,7 +32,7 @@ use Rattle.dsql_history.specs.declared.event.Op.{Op}
 use Rattle.dsql_history.specs.declared.event.Op.TheVariants as ops
 use Rattle.dsql_history.specs.declared.record.CallRecord.{CallRecord}
 use Rattle.dsql_history.specs.declared.record.Try.{Try}
-use Rattle.dsql_history.specs.declared.record.Try.TheVariants.{Served, Refused}
+use Rattle.dsql_history.specs.declared.record.Try.TheVariants.{Served, Lost, Refused}
 use Rattle.dsql_history.specs.declared.reply.Reply.{Reply}
 use Rattle.dsql_history.specs.declared.reply.Reply.TheVariants as reply
 use Rattle.dsql_history.specs.declared.reply.Reply.TheVariants.{Result, Truth, Cells, Driver, BadConn, NumArgs, HighBit, NamedRefused, BadName, Absent, RowsClosed, NoNextYet, NoRows, DestCount, Scan, DbClosed}
@@ -246,14 +246,15 @@ site before m = home before (user before m)
 abbrev pub decided : List Event → ℕ → Option Reply
 decided before n = (call_record before n).decided
 
--- the refusal of a connection in this try
-abbrev pub refusal_reply : ℕ → List Try → Option Reply
-refusal_reply number (Refused answer ∷ earlier) = reply_to number answer
-refusal_reply number tries = None
+-- what the newest try tells, where it is the last one: the refusal that fell to the call, or that its connection was bad
+abbrev pub last_told : ℕ → List Try → Option Reply
+last_told number (Refused answer ∷ earlier) = reply_to number answer
+last_told number (Lost ∷ earlier) = bad_reply number
+last_told number tries = None
 
--- What a call is told that waits for a connection, or for which one was opened: that the database is closed, as long as it has a try left, or else the refusal that fell to it.
+-- What a call is told that has no connection: that the database is closed, as long as it has a try left, or else what its newest try tells.
 abbrev pub told_by_tries : List Event → List Try → Option Reply
-told_by_tries before tries = cond (has_a_try tries) (option_map DbClosed (db_end before)) (refusal_reply (try_number tries) tries)
+told_by_tries before tries = cond (has_a_try tries) (option_map DbClosed (db_end before)) (last_told (try_number tries) tries)
 
 -- What others have settled for call n: for a fetch of rows that they ended, that there is no row; for a close, that nothing is left to be closed.
 abbrev pub told_of_work : List Event → ℕ → Work → Option Reply

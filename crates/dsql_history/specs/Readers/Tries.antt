@@ -1,5 +1,5 @@
 -- The tries of a call to get a connection that serves it.
-use Rattle.std.specs.Prelude.{ℕ, ◌==◌, ◌+◌, nat_lt, max, Bool, true, false, ◌&&◌, cond, List, [], ◌∷◌, length}
+use Rattle.std.specs.Prelude.{ℕ, ◌==◌, ◌+◌, nat_lt, Bool, true, false, ◌&&◌, cond, List, [], ◌∷◌, length}
 use Rattle.dsql_driver.specs.declared.call.DriverCall.{DriverCall}
 use Rattle.dsql_driver.specs.declared.call.DriverCall.TheVariants.{Reset, Prepare, Exec, Query, Next}
 use Rattle.dsql_driver.specs.declared.answer.DriverAnswer.{DriverAnswer}
@@ -56,7 +56,8 @@ tries (_ ∷ before) n = tries before n
 
 -- the number of the newest try; a call that has had none is in its first
 abbrev pub try_number : List Try → ℕ
-try_number tries = max 1 (length tries)
+try_number [] = 1
+try_number (newest ∷ earlier) = length (newest ∷ earlier)
 
 -- it came to nothing, since a connection was bad
 abbrev pub is_over : Try → Bool
