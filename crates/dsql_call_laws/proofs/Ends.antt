@@ -34,7 +34,7 @@ use Rattle.dsql_history.specs.Readers.Works.{works, work, work_of, is_fetch}
 use Rattle.dsql_history.specs.Readers.Calls.{site, decided, told_by_others}
 use Rattle.dsql_history.specs.Rules.Course.{ends_once, begins_with_run}
 use Rattle.dsql_history.specs.Rules.House.{has_no_chore, is_quiet}
-use Rattle.dsql_history.specs.Rules.Stands.{stands, opens, stand, is_waiting}
+use Rattle.dsql_history.specs.Rules.Stands.{stands, opens, stand, is_waiting, asks_again}
 use Rattle.dsql_history.specs.Rules.Line.{wish_as, wish, sent_for, due_in, due_for, is_due_at, parts, may_come}
 use Rattle.dsql_history.specs.Legal.{Allowed, Lawful}
 use Rattle.dsql_rows.specs.OpenRows.{rows_of}
@@ -43,10 +43,10 @@ use Rattle.dsql_laws.proofs.Numbered.{some_calls, unfinished_from_one}
 use Rattle.dsql_laws.proofs.Counts.{waits_some, changed_fewer, gone_fewer}
 use Rattle.dsql_laws.proofs.Tried.{is_lent_out, lent_count, shut_fewer, begun_same, same_control}
 use Rattle.dsql_laws.proofs.Holdings.{one_at_most}
-use Rattle.dsql_laws.proofs.Wanting.{homes_apart, wants_its_own}
+use Rattle.dsql_laws.proofs.Wanting.{homes_apart, wants_its_own, wants_counts}
 use Rattle.dsql_call_laws.proofs.Works.{as_many, enters_next, old_unfinished, still_unfinished}
 use Rattle.dsql_call_laws.proofs.Looks.{due_there, heard_there, comes}
-use Rattle.dsql_call_laws.proofs.Untried.{wants_untried}
+use Rattle.dsql_call_laws.proofs.Senders.{sender_wants_none}
 use Rattle.dsql_call_laws.proofs.Closed.{ended_closed, lends_none}
 use Rattle.dsql_call_laws.proofs.Rows.{is_worker, ender_works, none_at_end, entering_revives_none}
 use Rattle.dsql_call_laws.proofs.Idle.{lent_asks, no_work_yet, due_lent, came_of}
@@ -60,12 +60,14 @@ some_of (Some q) call h = refl
 
 -- as the run ends each call that has no reply waits
 
-pub waits_only : (w d r : Bool) (o : Option ℕ) (c : ℕ) → is_waiting (or_else (stands w stands_at.Waits) (or_else (opens o) (or_else (stands d (stands_at.Sends c)) (stands r stands_at.Replies)))) ≡ true → w ≡ true
-waits_only true d r o c h = refl
-waits_only false d r (Some k) c h = absurd cc
-waits_only false true r None c h = absurd cc
-waits_only false false true None c h = absurd cc
-waits_only false false false None c h = absurd cc
+pub waits_only : (w d r a : Bool) (o : Option ℕ) (c : ℕ)
+    → is_waiting (or_else (stands w stands_at.Waits) (or_else (opens o) (or_else (stands d (stands_at.Sends c)) (or_else (stands r stands_at.Replies) (stands a stands_at.Asks))))) ≡ true → w ≡ true
+waits_only true d r a o c h = refl
+waits_only false d r a (Some k) c h = absurd cc
+waits_only false true r a None c h = absurd cc
+waits_only false false true a None c h = absurd cc
+waits_only false false false true None c h = absurd cc
+waits_only false false false false None c h = absurd cc
 
 all_has : (q : ℕ → Bool) (ns : List ℕ) (n : ℕ) → list_all q ns ≡ true → has n ns ≡ true → q n ≡ true
 all_has q [] n h k = absurd cc
@@ -86,7 +88,7 @@ waits_at_end : (H : List Event) (n : ℕ) → Allowed H Ended → is_unfinished 
 waits_at_end H n a u =
     let b = both (list_all (λ m. is_waiting (stand H m)) (unfinished H)) (has_no_chore H) (quiet_at_end H a) in
     let its = all_has (λ m. is_waiting (stand H m)) (unfinished H) n b.0 u in
-    waits_only (waits n (pool H).waiting) (is_some (due_for H n)) (is_none (decided H n) && is_some (told_by_others H n)) (smallest (is_for n) (pool H)) (site H n) its
+    waits_only (waits n (pool H).waiting) (is_some (due_for H n)) (is_none (decided H n) && is_some (told_by_others H n)) (asks_again H n) (smallest (is_for n) (pool H)) (site H n) its
 
 wants_at_end : (H : List Event) (n : ℕ) → Allowed H Ended → is_unfinished H n ≡ true → wants n (pool H) ≡ true
 wants_at_end H n a u = ap (λ b. b || list_any (λ conn. is_for n conn.place) (pool H).conns) (waits_at_end H n a u)
@@ -194,9 +196,9 @@ ends_layer H l e h = by (e.call_no == 0) refl
         let n = e.call_no in
         let some : n ≢ 0 = unfinished_from_one H n l.0 s.unfinished in
         let wanting = wants_at_end H n l.1 s.unfinished in
-        let tried = s.tried (wants_its_own H n l.0 some wanting) in
-        let none : length (tries H n) ≡ 0 = ap (λ (ts : List Try). length ts) (wants_untried H n l.0 some wanting) in
-        absurd (omega (arith, tried, none))
+        let none = sender_wants_none H e l.0 h (wants_its_own H n l.0 some wanting) in
+        let wanted_one = wants_counts n (pool H) wanting in
+        absurd (omega (arith, none, wanted_one))
 
 over_at_end : (H : List Event) → Lawful (Ended ∷ H) → Over (Ended ∷ H)
 over_at_end H l = record {

@@ -29,7 +29,7 @@ use Rattle.dsql_history.specs.declared.event.Control.TheVariants.{Tick, Set}
 use Rattle.dsql_history.specs.declared.record.Try.{Try}
 use Rattle.dsql_history.specs.Readers.Owed.{owed}
 use Rattle.dsql_history.specs.Readers.Pool.{pool, place, home, wanted_by, is_home}
-use Rattle.dsql_history.specs.Readers.Tries.{tries, with_try}
+use Rattle.dsql_history.specs.Readers.Tries.{tries, with_try, loses}
 use Rattle.dsql_history.specs.Readers.Unfinished.{is_unfinished}
 use Rattle.dsql_history.specs.Readers.Works.{works, work, work_of}
 use Rattle.dsql_history.specs.Readers.Calls.{calls}
@@ -40,7 +40,7 @@ use Rattle.dsql_laws.proofs.Tests.{both}
 use Rattle.dsql_laws.proofs.AtRest.{keeps_of}
 use Rattle.dsql_laws.proofs.Counts.{changed_fewer, gone_fewer}
 use Rattle.dsql_laws.proofs.Deserved.{is_home_of, Deserves, deserved}
-use Rattle.dsql_laws.proofs.Tried.{is_lent_out, lent_count, lends_to, lent_tried, shut_fewer, begun_same, same_control}
+use Rattle.dsql_laws.proofs.Tried.{is_lent_out, lent_count, lends_to, lent_tried, lost_count, shut_fewer, begun_same, same_control}
 use Rattle.dsql_laws.proofs.Holdings.{by_call, lending_from}
 use Rattle.dsql_laws.proofs.Wanting.{works_alone, wants_its_own, sends_where_lent}
 use Rattle.dsql_call_laws.proofs.Works.{work_stays, as_many, stays_unfinished, enters_unfinished}
@@ -194,7 +194,7 @@ more_tries false x ts h = h
 tries_stay : (H : List Event) (e : Event) (n : ℕ) → 1 ≤ length (tries H n) → 1 ≤ length (tries (e ∷ H) n)
 tries_stay H (Run version can) n h = h
 tries_stay H (Entered client m op) n h = h
-tries_stay H (Heard e) n h = h
+tries_stay H (Heard e) n h = let same = lost_count ((e.call_no == n) && loses (work H n) e) (tries H n) in omega (arith, same, h)
 tries_stay H (Pool (OpenStart c k)) n h = h
 tries_stay H (Pool (Lend c t o k)) n h = more_tries (k == n) _ (tries H n) h
 tries_stay H (Pool (Back c)) n h = h

@@ -5,6 +5,7 @@ pub mod Works
 pub mod Looks
 pub mod Looked
 pub mod Falls
+pub mod Senders
 pub mod Refusals
 pub mod Untried
 pub mod Closed

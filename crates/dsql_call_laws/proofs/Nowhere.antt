@@ -1,5 +1,5 @@
 -- Who can't ask, wants no connection and was lent none has its reply settled.
-use Rattle.std.proofs.Common.{◌≡◌, ℕ, Bool, true, false, not, ◌&&◌, List, [], ◌∷◌, Option, Some, None, is_some, is_none, refl, sym, ap, ◌∙◌}
+use Rattle.std.proofs.Common.{◌≡◌, ℕ, Bool, true, false, not, ◌&&◌, cond, List, [], ◌∷◌, option_map, Option, Some, None, is_some, is_none, refl, sym, ap, ◌∙◌}
 use Rattle.dsql_course.specs.Made.{or_else}
 use Rattle.dsql_pool.specs.Calls.{wants}
 use Rattle.dsql_work.specs.declared.work.Work.{Work}
@@ -7,19 +7,23 @@ use Rattle.dsql_work.specs.declared.work.Work.TheVariants.{Execute, ReadOne, Han
 use Rattle.dsql_work.specs.Works.{asks}
 use Rattle.dsql_history.specs.declared.event.Event.{Event}
 use Rattle.dsql_history.specs.declared.record.Try.{Try}
-use Rattle.dsql_history.specs.declared.record.Try.TheVariants.{Served, Refused}
+use Rattle.dsql_history.specs.declared.record.Try.TheVariants.{Served, Lost, Refused}
 use Rattle.dsql_history.specs.declared.reply.Reply.{Reply}
-use Rattle.dsql_history.specs.Readers.Calls.{decided, told_at_lending, told_by_tries, told_of_work, reply_due}
-use Rattle.dsql_history.specs.Readers.Pool.{pool}
-use Rattle.dsql_history.specs.Readers.Tries.{tries, has_a_try}
+use Rattle.dsql_history.specs.declared.reply.Reply.TheVariants.{DbClosed}
+use Rattle.dsql_history.specs.Readers.Calls.{decided, last_told, told_at_lending, told_by_tries, told_of_work, reply_due}
+use Rattle.dsql_history.specs.Readers.Course.{db_end}
+use Rattle.dsql_history.specs.Readers.HandedOut.{rows_by}
+use Rattle.dsql_history.specs.Readers.Pool.{pool, smallest, is_home}
+use Rattle.dsql_history.specs.Readers.Tries.{tries, try_number, has_a_try, was_served}
 use Rattle.dsql_history.specs.Readers.Unfinished.{is_unfinished}
 use Rattle.dsql_history.specs.Readers.Works.{work, is_fetch}
-use Rattle.dsql_history.specs.Rules.Asking.{may_ask}
+use Rattle.dsql_history.specs.Rules.Asking.{may_try, may_ask}
 use Rattle.dsql_history.specs.Legal.{Lawful}
-use Rattle.dsql_call_laws.specs.Served.{was_served}
+use Rattle.dsql_laws.proofs.Tests.{together}
+use Rattle.dsql_call_laws.specs.Nothing.{HasNothing}
 use Rattle.dsql_call_laws.proofs.Works.{is_look}
 use Rattle.dsql_call_laws.proofs.Looked.{looked}
-use Rattle.dsql_call_laws.proofs.Refusals.{refusal_told}
+use Rattle.dsql_call_laws.proofs.Refusals.{refusal_told, loss_told}
 
 own_settled : (o p q : Option Reply) → is_some o ≡ true → is_some (or_else (or_else o p) q) ≡ true
 own_settled None p q h = absurd cc
@@ -49,20 +53,35 @@ told_own H n (Fetch k) own = absurd cc
 told_own H n (Close k) own = absurd cc
 told_own H n Look own = absurd cc
 
-unserved : (H : List Event) (n : ℕ) → Lawful H → asks (work H n) ≡ true → is_unfinished H n ≡ true → wants n (pool H) ≡ false → may_ask H n ≡ false → (ts : List Try) → tries H n ≡ ts → was_served ts ≡ false
-    → is_some (reply_due H n) ≡ true
-unserved H n l own u unwanting may [] is none =
-    last_fails (is_unfinished H n) (asks (work H n)) (has_a_try (tries H n)) (not (wants n (pool H))) (reply_due H n) may u own (ap has_a_try is) (ap not unwanting)
-unserved H n l own u unwanting may (Refused answer ∷ earlier) is none =
-    let told : told_of_work H n (work H n) ≡ told_by_tries H (Refused answer ∷ earlier) = told_own H n (work H n) own ∙ ap (told_by_tries H) is in
-    others_settled (decided H n) (told_of_work H n (work H n)) (told_at_lending H n) (ap (λ o. is_some o) told ∙ refusal_told H n answer earlier l is)
-unserved H n l own u unwanting may (Served ∷ earlier) is none = absurd cc
+may_try_with : (H : List Event) (n : ℕ) → HasNothing H n → has_a_try (tries H n) ≡ true → may_try H n ≡ true
+may_try_with H n none left =
+    together (has_a_try (tries H n)) (is_none (smallest (is_home n) (pool H)) && is_none (rows_by H n)) left
+    (together (is_none (smallest (is_home n) (pool H))) (is_none (rows_by H n)) (ap (λ o. is_none o) none.homeless) (ap (λ o. is_none o) none.rowless))
 
-pub settled_unserved : (H : List Event) (n : ℕ) → Lawful H → is_unfinished H n ≡ true → wants n (pool H) ≡ false → may_ask H n ≡ false → was_served (tries H n) ≡ false → is_fetch (work H n) ≡ false → is_some (reply_due H n) ≡ true
-settled_unserved H n l u unwanting may none fetchless = by (work H n) refl
+told_last : (H : List Event) (n : ℕ) (ts : List Try) → Lawful H → tries H n ≡ ts → has_a_try ts ≡ false → was_served ts ≡ false → is_some (last_told (try_number ts) ts) ≡ true
+told_last H n [] l is last none = absurd cc
+told_last H n (Served ∷ earlier) l is last none = absurd cc
+told_last H n (Lost ∷ earlier) l is last none = loss_told earlier last
+told_last H n (Refused answer ∷ earlier) l is last none = refusal_told H n answer earlier l is last
+
+unserved : (H : List Event) (n : ℕ) → Lawful H → asks (work H n) ≡ true → is_unfinished H n ≡ true → HasNothing H n → may_ask H n ≡ false → was_served (tries H n) ≡ false
+    → is_some (reply_due H n) ≡ true
+unserved H n l own u nothing may none = by (has_a_try (tries H n)) refl
+  where
+    by : (b : Bool) → has_a_try (tries H n) ≡ b → is_some (reply_due H n) ≡ true
+    by true left =
+        last_fails (is_unfinished H n) (asks (work H n)) (may_try H n) (not (wants n (pool H))) (reply_due H n) may u own (may_try_with H n nothing left) (ap not nothing.unwanting)
+    by false last =
+        let told : told_of_work H n (work H n) ≡ last_told (try_number (tries H n)) (tries H n) =
+            told_own H n (work H n) own ∙ ap (λ b. cond b (option_map DbClosed (db_end H)) (last_told (try_number (tries H n)) (tries H n))) last
+        in
+        others_settled (decided H n) (told_of_work H n (work H n)) (told_at_lending H n) (ap (λ o. is_some o) told ∙ told_last H n (tries H n) l refl last none)
+
+pub settled_unserved : (H : List Event) (n : ℕ) → Lawful H → is_unfinished H n ≡ true → HasNothing H n → may_ask H n ≡ false → was_served (tries H n) ≡ false → is_fetch (work H n) ≡ false → is_some (reply_due H n) ≡ true
+settled_unserved H n l u nothing may none fetchless = by (work H n) refl
   where
     own : (w : Work) → work H n ≡ w → asks w ≡ true → is_some (reply_due H n) ≡ true
-    own w is asking = unserved H n l (ap asks is ∙ asking) u unwanting may (tries H n) refl none
+    own w is asking = unserved H n l (ap asks is ∙ asking) u nothing may none
 
     by : (w : Work) → work H n ≡ w → is_some (reply_due H n) ≡ true
     by Execute is = own Execute is refl

@@ -23,11 +23,13 @@ use Rattle.dsql_history.specs.Readers.Calls.{calls, closed_to, decided, reply_du
 use Rattle.dsql_history.specs.Readers.Course.{caps}
 use Rattle.dsql_history.specs.Readers.Owed.{owed}
 use Rattle.dsql_history.specs.Readers.Pool.{pool, place, request, wanted_by}
-use Rattle.dsql_history.specs.Readers.Tries.{tries, has_a_try, newest_answer}
+use Rattle.dsql_history.specs.Readers.Tries.{tries, has_a_try, newest_answer, loses}
 use Rattle.dsql_history.specs.Readers.Unfinished.{is_unfinished}
 use Rattle.dsql_history.specs.Readers.Works.{works, work, work_of}
 use Rattle.dsql_history.specs.Rules.Asking.{may_ask, ask_outcome, is_queued}
 use Rattle.dsql_history.specs.Legal.{Allowed, Lawful}
+use Rattle.dsql_laws.proofs.Asker.{asker}
+use Rattle.dsql_laws.proofs.Tried.{lost_count}
 use Rattle.dsql_laws.proofs.Tests.{both, other_number}
 use Rattle.dsql_laws.proofs.OwedMoves.{owed_own}
 use Rattle.dsql_laws.proofs.AtRest.{keeps_of}
@@ -39,7 +41,7 @@ use Rattle.dsql_call_laws.proofs.Idle.{came_of, lends_asker, lends_from, no_work
 use Rattle.dsql_call_laws.proofs.Lists.{same_or_not}
 use Rattle.dsql_call_laws.proofs.Looks.{comes, heard_there}
 use Rattle.dsql_call_laws.proofs.Told.{asks_undecided, not_entering}
-use Rattle.dsql_call_laws.proofs.Untried.{fallen_wanted, other_try}
+use Rattle.dsql_call_laws.proofs.Untried.{fallen_wanted, other_count}
 use Rattle.dsql_call_laws.proofs.Works.{enters_next, new_record, new_work, old_record, old_unfinished, old_work, other_heard, other_replied, still_unfinished}
 
 -- the driver is sent something for this work
@@ -63,8 +65,7 @@ record Able (H : List Event) (n : ℕ) : Type 0 where
   tried : 1 ≤ length (tries H n) → (asks (work H n) ≡ true) × (is_able (caps H) (work H n) ≡ true)
 
 asks_able : (H : List Event) (n : ℕ) → Able H n → may_ask H n ≡ true → is_able (caps H) (work H n) ≡ true
-asks_able H n s may =
-    let a = both (is_unfinished H n) (asks (work H n) && (has_a_try (tries H n) && (not (wants n (pool H)) && is_none (reply_due H n)))) may in s.undecided a.0 (asks_undecided H n may)
+asks_able H n s may = s.undecided (asker H n may).unfinished (asks_undecided H n may)
 
 -- A call that enters.
 
@@ -129,7 +130,11 @@ able_entered H client m op n l some s = by (same_or_not n m)
 -- An answer.
 
 able_heard : (H : List Event) (e : Entry) (n : ℕ) → Lawful (Heard e ∷ H) → n ≢ 0 → Able H n → Able (Heard e ∷ H) n
-able_heard H e n l some s = record { undecided = λ u none. by (same_or_not n e.call_no) u none; wanting = s.wanting; tried = s.tried }
+able_heard H e n l some s = record {
+  undecided = λ u none. by (same_or_not n e.call_no) u none;
+  wanting = s.wanting;
+  tried = λ now. let same = lost_count ((e.call_no == n) && loses (work H n) e) (tries H n) in s.tried (omega (arith, same, now));
+}
   where
     sends : n ≡ e.call_no → asks (work H n) ≡ true → 1 ≤ length (tries H n)
     sends same own =
@@ -175,7 +180,7 @@ tried_lent : (H : List Event) (c t : ℕ) (o : Owner) (k n : ℕ) → Lawful (Po
 tried_lent H c t o k n l some s now =
     by_call k n (Tries H n)
     (λ is. (subst (λ i. asks (work H i) ≡ true) is (lends_asker H c t o k l.0 l.1 (λ none. some (sym is ∙ none))), by is (lends_from H c t o k l.0 l.1)))
-    (λ not. let same = other_try k n Served (tries H n) not in s.tried (omega (arith, same, now)))
+    (λ not. let same = other_count k n Served (tries H n) not in s.tried (omega (arith, same, now)))
   where
     by : (k ≡ n) → (may_ask H k ≡ true) ⊎ (wants k (pool H) ≡ true) → is_able (caps H) (work H n) ≡ true
     by is (inl may) = asks_able H n s (subst (λ i. may_ask H i ≡ true) is may)
@@ -187,7 +192,7 @@ tried_fallen H c k n l some s now =
     (λ is.
     let wanting : 1 ≤ wanted n (pool H) = subst (λ i. 1 ≤ wanted i (pool H)) is (fallen_wanted H c k l.1 (λ none. some (sym is ∙ none))) in
     (wanting_works H n l.0 some wanting, s.wanting wanting))
-    (λ not. let same = other_try k n (Refused (newest_answer H)) (tries H n) not in s.tried (omega (arith, same, now)))
+    (λ not. let same = other_count k n (Refused (newest_answer H)) (tries H n) not in s.tried (omega (arith, same, now)))
 
 tried_moved : (H : List Event) (m : Move) (n : ℕ) → Lawful (Pool m ∷ H) → n ≢ 0 → Able H n → 1 ≤ length (tries (Pool m ∷ H) n) → Tries H n
 tried_moved H (Lend c t o k) n l some s now = tried_lent H c t o k n l some s now

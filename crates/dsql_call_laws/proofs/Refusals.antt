@@ -1,9 +1,10 @@
 -- A refused connection tells its call why.
-use Rattle.std.proofs.Common.{◌≡◌, ℕ, ◌==◌, ◌⊎◌, inl, inr, Bool, true, false, not, ◌&&◌, cond, List, [], ◌∷◌, Option, Some, None, is_some, refl, subst}
+use Rattle.std.proofs.Common.{◌≡◌, ℕ, ◌==◌, ◌⊎◌, inl, inr, Bool, true, false, not, ◌&&◌, cond, List, [], ◌∷◌, length, Option, Some, None, is_some, refl, ap, subst}
+use Rattle.std.specs.Prelude.{nat_lt}
 use Rattle.dsql_driver.specs.declared.answer.DriverAnswer.{DriverAnswer}
 use Rattle.dsql_driver.specs.declared.answer.DriverAnswer.TheVariants.{Bad, Fail}
 use Rattle.dsql_driver.specs.Fits.{is_done, is_failure}
-use Rattle.dsql_driver.specs.Kinds.{is_connect}
+use Rattle.dsql_driver.specs.Kinds.{is_connect, is_bad}
 use Rattle.dsql_journal.specs.declared.entry.Entry.{Entry}
 use Rattle.dsql_journal.specs.Readers.{is_empty}
 use Rattle.dsql_journal.specs.Facts.{MayFollow}
@@ -16,12 +17,15 @@ use Rattle.dsql_pool.specs.Pooled.{place_at}
 use Rattle.dsql_history.specs.declared.event.Event.{Event}
 use Rattle.dsql_history.specs.declared.event.Event.TheVariants.{Run, Entered, Heard, Pool, Waits, Ticked, SetLimit, Replied, Ended}
 use Rattle.dsql_history.specs.declared.record.Try.{Try}
-use Rattle.dsql_history.specs.declared.record.Try.TheVariants.{Served, Refused}
-use Rattle.dsql_history.specs.Readers.Calls.{reply_to}
+use Rattle.dsql_history.specs.declared.record.Try.TheVariants.{Served, Lost, Refused}
+use Rattle.dsql_history.specs.declared.reply.Reply.{Reply}
+use Rattle.dsql_history.specs.declared.reply.Reply.TheVariants.{BadConn}
+use Rattle.dsql_history.specs.Readers.Calls.{reply_to, bad_reply}
 use Rattle.dsql_history.specs.Readers.Journals.{journal}
 use Rattle.dsql_history.specs.Readers.Owed.{answered}
 use Rattle.dsql_history.specs.Readers.Pool.{pool, place}
-use Rattle.dsql_history.specs.Readers.Tries.{tries, with_try, newest_answer}
+use Rattle.dsql_history.specs.Readers.Tries.{tries, with_try, newest_answer, loses, lost, has_a_try, most_tries}
+use Rattle.dsql_history.specs.Readers.Works.{work}
 use Rattle.dsql_history.specs.Rules.Moves.{hears_in, is_house_entry}
 use Rattle.dsql_history.specs.Rules.Order.{follows}
 use Rattle.dsql_history.specs.Legal.{Allowed, Lawful}
@@ -34,32 +38,26 @@ hears : (H : List Event) (e : Entry) → Allowed H (Heard e) → MayHear H e
 unfolding Allowed
 hears H e a = record { sets = a.sets; follows = a.journals }
 
--- a Connect that failed tells its call why
-failure_told : (a : DriverAnswer) → is_failure a ≡ true → is_some (reply_to a) ≡ true
-failure_told Bad h = refl
-failure_told (Fail text) h = refl
-failure_told _ h = absurd cc
-
 connect_told : (H : List Event) (e : Entry) (c n : ℕ) (at : Option Place) → MayHear H e → place H e.conn ≡ at → follows (answered e.answer e.conn (pool H) at) (Pool (Fell c n)) ≡ true
-    → not (is_empty (answered e.answer e.conn (pool H) at)) ≡ true → is_some (reply_to e.answer) ≡ true
+    → not (is_empty (answered e.answer e.conn (pool H) at)) ≡ true → is_failure e.answer ≡ true
 connect_told H e c n (Some (Opening wanted)) may is h some = by (is_done e.answer) refl h some
   where
     sets : hears_in (pool H) (Some (Opening wanted)) e ≡ true
     sets = subst (λ at. hears_in (pool H) at e ≡ true) is may.sets
 
     by : (b : Bool) → is_done e.answer ≡ b → follows (cond b (moves_opened e.conn (pool H)) (moves_failed e.conn (pool H))) (Pool (Fell c n)) ≡ true
-        → not (is_empty (cond b (moves_opened e.conn (pool H)) (moves_failed e.conn (pool H)))) ≡ true → is_some (reply_to e.answer) ≡ true
+        → not (is_empty (cond b (moves_opened e.conn (pool H)) (moves_failed e.conn (pool H)))) ≡ true → is_failure e.answer ≡ true
     by true done k first = absurd (first_falls (moves_opened e.conn (pool H)) c n (opened_falls_none e.conn (pool H) (place_at (pool H) e.conn)) k first)
     by false undone k first =
         let connects = both (is_connect e.call) ((e.tenure == 1) && is_house_entry e) sets in
         let m : MayFollow (journal H e.conn) e = MayFollow-of (journal H e.conn) e may.follows in
-        failure_told e.answer (connect_fails e.call e.answer connects.0 m.answer.fitting m.answer.heard undone)
+        connect_fails e.call e.answer connects.0 m.answer.fitting m.answer.heard undone
 connect_told H e c n (Some Closing) may is h some = absurd cc
 connect_told H e c n (Some Idle) may is h some = absurd cc
 connect_told H e c n (Some (Lent t o)) may is h some = absurd cc
 connect_told H e c n None may is h some = absurd cc
 
-newest_told : (H : List Event) (c n : ℕ) → Lawful H → Allowed H (Pool (Fell c n)) → is_some (reply_to (newest_answer H)) ≡ true
+newest_told : (H : List Event) (c n : ℕ) → Lawful H → Allowed H (Pool (Fell c n)) → is_failure (newest_answer H) ≡ true
 newest_told [] c n l a = refl
 newest_told (Heard e ∷ H) c n l a =
     let keeps = keeps_of (Heard e ∷ H) (Pool (Fell c n)) a in
@@ -77,27 +75,53 @@ tried_now : (b : Bool) (x : Try) (a : DriverAnswer) (before earlier : List Try) 
 tried_now true x a before earlier is = inl cc
 tried_now false x a before earlier is = inr is
 
-pub refusal_told : (H : List Event) (n : ℕ) (a : DriverAnswer) (earlier : List Try) → Lawful H → tries H n ≡ Refused a ∷ earlier → is_some (reply_to a) ≡ true
-refusal_told [] n a earlier l is = absurd cc
-refusal_told (Run version can ∷ H) n a earlier l is = refusal_told H n a earlier l.0 is
-refusal_told (Entered client m op ∷ H) n a earlier l is = refusal_told H n a earlier l.0 is
-refusal_told (Heard e ∷ H) n a earlier l is = refusal_told H n a earlier l.0 is
-refusal_told (Pool (OpenStart c m) ∷ H) n a earlier l is = refusal_told H n a earlier l.0 is
-refusal_told (Pool (Lend c t o m) ∷ H) n a earlier l is = by (refusal_told H n a earlier l.0) (tried_now (m == n) Served a (tries H n) earlier is)
+-- a refusal isn't lost
+refused_before : (b : Bool) (ts : List Try) (a : DriverAnswer) (earlier : List Try) → cond b (lost ts) ts ≡ Refused a ∷ earlier → ts ≡ Refused a ∷ earlier
+refused_before true [] a earlier is = is
+refused_before true (Served ∷ ts) a earlier is = absurd cc
+refused_before true (Lost ∷ ts) a earlier is = is
+refused_before true (Refused b ∷ ts) a earlier is = is
+refused_before false ts a earlier is = is
+
+-- a Connect that failed fell to the call
+pub refusal_failed : (H : List Event) (n : ℕ) (a : DriverAnswer) (earlier : List Try) → Lawful H → tries H n ≡ Refused a ∷ earlier → is_failure a ≡ true
+refusal_failed [] n a earlier l is = absurd cc
+refusal_failed (Run version can ∷ H) n a earlier l is = refusal_failed H n a earlier l.0 is
+refusal_failed (Entered client m op ∷ H) n a earlier l is = refusal_failed H n a earlier l.0 is
+refusal_failed (Heard e ∷ H) n a earlier l is = refusal_failed H n a earlier l.0 (refused_before ((e.call_no == n) && loses (work H n) e) (tries H n) a earlier is)
+refusal_failed (Pool (OpenStart c m) ∷ H) n a earlier l is = refusal_failed H n a earlier l.0 is
+refusal_failed (Pool (Lend c t o m) ∷ H) n a earlier l is = by (refusal_failed H n a earlier l.0) (tried_now (m == n) Served a (tries H n) earlier is)
   where
-    by : (tries H n ≡ Refused a ∷ earlier → is_some (reply_to a) ≡ true) → (Served ≡ Refused a) ⊎ (tries H n ≡ Refused a ∷ earlier) → is_some (reply_to a) ≡ true
+    by : (tries H n ≡ Refused a ∷ earlier → is_failure a ≡ true) → (Served ≡ Refused a) ⊎ (tries H n ≡ Refused a ∷ earlier) → is_failure a ≡ true
     by rest (inl other) = absurd cc
     by rest (inr k) = rest k
-refusal_told (Pool (Back c) ∷ H) n a earlier l is = refusal_told H n a earlier l.0 is
-refusal_told (Pool (CloseStart c why) ∷ H) n a earlier l is = refusal_told H n a earlier l.0 is
-refusal_told (Pool (Gone c) ∷ H) n a earlier l is = refusal_told H n a earlier l.0 is
-refusal_told (Pool (Fell c m) ∷ H) n a earlier l is = by (refusal_told H n a earlier l.0) (tried_now (m == n) (Refused (newest_answer H)) a (tries H n) earlier is)
+refusal_failed (Pool (Back c) ∷ H) n a earlier l is = refusal_failed H n a earlier l.0 is
+refusal_failed (Pool (CloseStart c why) ∷ H) n a earlier l is = refusal_failed H n a earlier l.0 is
+refusal_failed (Pool (Gone c) ∷ H) n a earlier l is = refusal_failed H n a earlier l.0 is
+refusal_failed (Pool (Fell c m) ∷ H) n a earlier l is = by (refusal_failed H n a earlier l.0) (tried_now (m == n) (Refused (newest_answer H)) a (tries H n) earlier is)
   where
-    by : (tries H n ≡ Refused a ∷ earlier → is_some (reply_to a) ≡ true) → (Refused (newest_answer H) ≡ Refused a) ⊎ (tries H n ≡ Refused a ∷ earlier) → is_some (reply_to a) ≡ true
-    by rest (inl now) = let same : newest_answer H ≡ a = cc in subst (λ b. is_some (reply_to b) ≡ true) same (newest_told H c m l.0 l.1)
+    by : (tries H n ≡ Refused a ∷ earlier → is_failure a ≡ true) → (Refused (newest_answer H) ≡ Refused a) ⊎ (tries H n ≡ Refused a ∷ earlier) → is_failure a ≡ true
+    by rest (inl now) = let same : newest_answer H ≡ a = cc in subst (λ b. is_failure b ≡ true) same (newest_told H c m l.0 l.1)
     by rest (inr k) = rest k
-refusal_told (Waits m ∷ H) n a earlier l is = refusal_told H n a earlier l.0 is
-refusal_told (Ticked now ∷ H) n a earlier l is = refusal_told H n a earlier l.0 is
-refusal_told (SetLimit s k ∷ H) n a earlier l is = refusal_told H n a earlier l.0 is
-refusal_told (Replied m reply ∷ H) n a earlier l is = refusal_told H n a earlier l.0 is
-refusal_told (Ended ∷ H) n a earlier l is = refusal_told H n a earlier l.0 is
+refusal_failed (Waits m ∷ H) n a earlier l is = refusal_failed H n a earlier l.0 is
+refusal_failed (Ticked now ∷ H) n a earlier l is = refusal_failed H n a earlier l.0 is
+refusal_failed (SetLimit s k ∷ H) n a earlier l is = refusal_failed H n a earlier l.0 is
+refusal_failed (Replied m reply ∷ H) n a earlier l is = refusal_failed H n a earlier l.0 is
+refusal_failed (Ended ∷ H) n a earlier l is = refusal_failed H n a earlier l.0 is
+
+-- The last try tells why it came to nothing.
+
+bad_told : (k : ℕ) → nat_lt k most_tries ≡ false → is_some (bad_reply k) ≡ true
+bad_told k last = ap (λ b. is_some (cond {A = Option Reply} b None (Some (BadConn k)))) last
+
+pub refusal_told : (H : List Event) (n : ℕ) (a : DriverAnswer) (earlier : List Try) → Lawful H → tries H n ≡ Refused a ∷ earlier → has_a_try (Refused a ∷ earlier) ≡ false
+    → is_some (reply_to (length (Refused a ∷ earlier)) a) ≡ true
+refusal_told H n a earlier l is last = by a (refusal_failed H n a earlier l is) last
+  where
+    by : (b : DriverAnswer) → is_failure b ≡ true → (is_bad b && nat_lt (length (Refused a ∷ earlier)) most_tries) ≡ false → is_some (reply_to (length (Refused a ∷ earlier)) b) ≡ true
+    by Bad f k = bad_told (length (Refused a ∷ earlier)) k
+    by (Fail text) f k = refl
+    by _ f k = absurd cc
+
+pub loss_told : (earlier : List Try) → has_a_try (Lost ∷ earlier) ≡ false → is_some (bad_reply (length (Lost ∷ earlier))) ≡ true
+loss_told earlier last = bad_told (length (Lost ∷ earlier)) last

@@ -26,10 +26,7 @@ use Rattle.dsql_history.specs.Readers.Works.{work}
 use Rattle.dsql_history.specs.Rules.Asking.{may_ask, ask_outcome, is_queued}
 use Rattle.dsql_history.specs.Legal.{Allowed, Lawful}
 use Rattle.dsql_laws.proofs.Asker.{asker}
-use Rattle.dsql_lending_laws.proofs.Wanted.{lent_wants_none}
-use Rattle.dsql_sending_laws.proofs.UnderWay.{UnderWay}
-use Rattle.dsql_sending_laws.proofs.Answered.{answer_of, own_call}
-use Rattle.dsql_sending_laws.proofs.Sound.{sound}
+use Rattle.dsql_call_laws.proofs.Senders.{sender_wants_none}
 use Rattle.dsql_laws.proofs.Tests.{both, other_number}
 use Rattle.dsql_laws.proofs.OwedMoves.{owed_own}
 use Rattle.dsql_laws.proofs.AtRest.{keeps_of}
@@ -88,15 +85,12 @@ joins_undecided H k n may had now =
 -- nothing is heard of it, and it isn't the one that enters
 
 not_heard : (H : List Event) (e : Entry) (n : ℕ) → Lawful (Heard e ∷ H) → n ≢ 0 → 1 ≤ wanted n (pool H) → n ≢ e.call_no
-not_heard H e n l some now same = by (answer_of H e l.1 (sound H l.0))
-  where
-    by : UnderWay H e ⊎ (e.call_no ≡ 0) → ⊥
-    by (inl u) =
-        let own : works.asks (work H e.call_no) ≡ true = ap (λ k. works.asks (work H k)) (sym same) ∙ wanting_works H n l.0 some now in
-        let whose : n ≡ u.holder = same ∙ own_call H e.call_no u.holder u.wish u.wants own in
-        let none : wanted n (pool H) ≡ 0 = ap (λ k. wanted k (pool H)) whose ∙ lent_wants_none H e.conn e.tenure u.holder l.0 u.lent in
-        absurd (omega (arith, none, now))
-    by (inr layer) = some (same ∙ layer)
+not_heard H e n l some now same =
+    let there = heard_there H e l.1 in
+    let number : (e.call_no == 0) ≡ false = other_number e.call_no 0 (λ none. some (same ∙ none)) in
+    let own : works.asks (work H e.call_no) ≡ true = ap (λ k. works.asks (work H k)) (sym same) ∙ wanting_works H n l.0 some now in
+    let none = sender_wants_none H e l.0 (comes H e (place H e.conn) there.sets there.line number) own in
+    absurd (omega (arith, ap (λ k. wanted k (pool H)) same, none, now))
 
 pub not_entering : (H : List Event) (client m : ℕ) (op : Op) (n : ℕ) → Lawful (Entered client m op ∷ H) → n ≢ 0 → 1 ≤ wanted n (pool H) → n ≢ m
 not_entering H client m op n l some now same =

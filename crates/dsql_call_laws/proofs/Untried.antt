@@ -26,18 +26,19 @@ use Rattle.dsql_history.specs.declared.event.Control.{Control}
 use Rattle.dsql_history.specs.declared.event.Setting.TheVariants.{MaxOpen, MaxIdle, MaxLife, MaxIdleTime}
 use Rattle.dsql_history.specs.declared.event.Control.TheVariants.{Tick, Set}
 use Rattle.dsql_history.specs.declared.record.Try.{Try}
-use Rattle.dsql_history.specs.declared.record.Try.TheVariants.{Served, Refused}
+use Rattle.dsql_history.specs.declared.record.Try.TheVariants.{Served, Lost, Refused}
 use Rattle.dsql_history.specs.Same.{is_first}
 use Rattle.dsql_history.specs.Readers.Calls.{reply_due}
 use Rattle.dsql_history.specs.Readers.Owed.{owed}
 use Rattle.dsql_history.specs.Readers.Pool.{pool, place, request, wanted_by, with_control}
-use Rattle.dsql_history.specs.Readers.Tries.{tries, with_try, newest_answer, has_a_try}
+use Rattle.dsql_history.specs.Readers.Tries.{tries, with_try, newest_answer, loses, lost, has_a_try}
 use Rattle.dsql_history.specs.Readers.Unfinished.{is_unfinished}
 use Rattle.dsql_history.specs.Readers.Works.{work}
 use Rattle.dsql_history.specs.Rules.Asking.{may_ask, ask_outcome, is_queued}
 use Rattle.dsql_history.specs.Rules.Moves.{moves_from, numbers_lending}
 use Rattle.dsql_history.specs.Legal.{Allowed, Lawful}
 use Rattle.dsql_laws.specs.Holdings.{waits_of}
+use Rattle.dsql_laws.proofs.Asker.{asker}
 use Rattle.dsql_laws.proofs.Tests.{both, same_itself}
 use Rattle.dsql_laws.proofs.OwedMoves.{owed_own}
 use Rattle.dsql_laws.proofs.AtRest.{keeps_of}
@@ -178,8 +179,19 @@ joins_with_try H k n may had now =
     had (omega (arith, more, none, now)))
 
 -- a try of another call
-pub other_try : (k n : ℕ) (x : Try) (ts : List Try) → (k == n) ≡ false → length (with_try (k == n) x ts) ≡ length ts
-other_try k n x ts not = ap (λ b. length (with_try b x ts)) not
+pub other_try : (k n : ℕ) (x : Try) (ts : List Try) → (k == n) ≡ false → has_a_try (with_try (k == n) x ts) ≡ has_a_try ts
+other_try k n x ts not = ap (λ b. has_a_try (with_try b x ts)) not
+
+pub other_count : (k n : ℕ) (x : Try) (ts : List Try) → (k == n) ≡ false → length (with_try (k == n) x ts) ≡ length ts
+other_count k n x ts not = ap (λ b. length (with_try b x ts)) not
+
+-- what has a try left wasn't served, and isn't lost
+heard_with_try : (b : Bool) (ts : List Try) → has_a_try ts ≡ true → has_a_try (cond b (lost ts) ts) ≡ true
+heard_with_try true [] h = h
+heard_with_try true (Served ∷ ts) h = absurd cc
+heard_with_try true (Lost ∷ ts) h = h
+heard_with_try true (Refused answer ∷ ts) h = h
+heard_with_try false ts h = h
 
 pub wanting_has_try : (H : List Event) (n : ℕ) → Lawful H → n ≢ 0 → 1 ≤ wanted n (pool H) → has_a_try (tries H n) ≡ true
 wanting_has_try [] n l some now = refl

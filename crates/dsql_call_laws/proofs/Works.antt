@@ -14,6 +14,7 @@ use Rattle.dsql_history.specs.declared.event.Event.TheVariants.{Run, Entered, He
 use Rattle.dsql_history.specs.declared.event.Op.{Op}
 use Rattle.dsql_history.specs.declared.reply.Reply.{Reply}
 use Rattle.dsql_history.specs.Readers.Unfinished.{unfinished, is_unfinished}
+use Rattle.dsql_history.specs.Readers.Tries.{tries, try_number}
 use Rattle.dsql_history.specs.Readers.Works.{works, work, work_of}
 use Rattle.dsql_history.specs.Readers.Calls.{calls, call_record, next_call, is_busy, nobody, entering, decided_by}
 use Rattle.dsql_history.specs.Legal.{Allowed}
@@ -75,7 +76,7 @@ pub old_work : (H : List Event) (client n : ℕ) (op : Op) (m : ℕ) → n ≡ l
 old_work H client n op m new apart = row_old (works H) (work_of (works H) op) m Look (λ same. apart (same ∙ (as_many H ∙ sym new)))
 
 pub other_heard : (H : List Event) (e : Entry) (m : ℕ) → m ≢ e.call_no → call_record (Heard e ∷ H) m ≡ call_record H m
-other_heard H e m apart = row_off (calls H) e.call_no (decided_by (work H e.call_no) e (call_record H e.call_no)) m nobody apart
+other_heard H e m apart = row_off (calls H) e.call_no (decided_by (try_number (tries H e.call_no)) (work H e.call_no) e (call_record H e.call_no)) m nobody apart
 
 pub other_replied : (H : List Event) (n : ℕ) (reply : Reply) (m : ℕ) → m ≢ n → call_record (Replied n reply ∷ H) m ≡ call_record H m
 other_replied H n reply m apart = row_off (calls H) n (record (call_record H n) { decided = None }) m nobody apart

@@ -1,4 +1,4 @@
 pub mod Bounds
 pub mod Chores
-pub mod Served
+pub mod Nothing
 pub mod Pings

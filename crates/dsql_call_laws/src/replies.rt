@@ -1,6 +1,6 @@
 //! Which calls have their reply settled, and which have had a try. A history is read newest first.
 
-ghost use Rattle.std.specs.Prelude.{◌≡◌, ◌≢◌, [], ◌∷◌, ℕ, true, false, List, None, is_some};
+ghost use Rattle.std.specs.Prelude.{◌≡◌, ◌≢◌, ◌∷◌, ℕ, true, false, List, None, is_some, length};
 ghost use Rattle.dsql_driver.specs.declared.answer.DriverAnswer.{DriverAnswer};
 ghost use Rattle.dsql_pool.specs.Calls.{wants};
 ghost use Rattle.dsql_work.specs.declared.work.Work.TheVariants.{Close, Look};
@@ -10,26 +10,26 @@ ghost use Rattle.dsql_history.specs.declared.record.Try.TheVariants.{Refused};
 ghost use Rattle.dsql_history.specs.Readers.Calls.{decided, reply_due, reply_to};
 ghost use Rattle.dsql_history.specs.Readers.HandedOut.{ender, over, rows_by};
 ghost use Rattle.dsql_history.specs.Readers.Pool.{pool};
-ghost use Rattle.dsql_history.specs.Readers.Tries.{tries};
+ghost use Rattle.dsql_history.specs.Readers.Tries.{has_a_try, tries, was_served};
 ghost use Rattle.dsql_history.specs.Readers.Unfinished.{is_unfinished};
 ghost use Rattle.dsql_history.specs.Readers.Works.{is_fetch, work};
 ghost use Rattle.dsql_history.specs.Rules.Asking.{may_ask};
 ghost use Rattle.dsql_history.specs.Legal.{Lawful};
-ghost use Rattle.dsql_call_laws.specs.Served.{was_served};
+ghost use Rattle.dsql_call_laws.specs.Nothing.{HasNothing};
 
 /// A call that looks at what is there has settled its reply as it entered, and keeps it. Of a close something is
-/// always settled. A refusal that fell to a call tells it why. So a call that may not ask, wants no connection and
-/// was lent none has its reply settled, unless it fetches a row.
+/// always settled. A refusal that fell to a call in its last try tells it why. So a call that may not ask, has nothing and
+/// wasn't served has its reply settled, unless it fetches a row.
 pub fn who_sends_nothing_replies()
     ensures looks { (history : List Event) (n : ℕ) → Lawful history → is_unfinished history n ≡ true → work history n ≡ Look → is_some (decided history n) ≡ true }
     ensures closes { (history : List Event) (n k : ℕ) → work history n ≡ Close k → is_some (reply_due history n) ≡ true }
-    ensures refused { (history : List Event) (n : ℕ) (answer : DriverAnswer) (earlier : List Try) → Lawful history → tries history n ≡ Refused answer ∷ earlier → is_some (reply_to answer) ≡ true }
-    ensures unserved { (history : List Event) (n : ℕ) → Lawful history → is_unfinished history n ≡ true → wants n (pool history) ≡ false → may_ask history n ≡ false → was_served (tries history n) ≡ false → is_fetch (work history n) ≡ false → is_some (reply_due history n) ≡ true }
+    ensures refused { (history : List Event) (n : ℕ) (answer : DriverAnswer) (earlier : List Try) → Lawful history → tries history n ≡ Refused answer ∷ earlier → has_a_try (Refused answer ∷ earlier) ≡ false → is_some (reply_to (length (Refused answer ∷ earlier)) answer) ≡ true }
+    ensures unserved { (history : List Event) (n : ℕ) → Lawful history → is_unfinished history n ≡ true → HasNothing history n → may_ask history n ≡ false → was_served (tries history n) ≡ false → is_fetch (work history n) ≡ false → is_some (reply_due history n) ≡ true }
 {}
 
-/// Who wants a connection has had no try yet, and has settled nothing itself. Rows that nothing has ended have no call that ended them.
+/// Who wants a connection has a try left, and has settled nothing itself. Rows that nothing has ended have no call that ended them.
 pub fn what_has_not_come_yet()
-    ensures tries { (history : List Event) (n : ℕ) → Lawful history → n ≢ 0 → wants n (pool history) ≡ true → tries history n ≡ [] }
+    ensures tries { (history : List Event) (n : ℕ) → Lawful history → n ≢ 0 → wants n (pool history) ≡ true → has_a_try (tries history n) ≡ true }
     ensures undecided { (history : List Event) (n : ℕ) → Lawful history → n ≢ 0 → wants n (pool history) ≡ true → decided history n ≡ None }
     ensures ender { (history : List Event) (n : ℕ) → over (rows_by history n) ≡ false → ender history n ≡ 0 }
 {}

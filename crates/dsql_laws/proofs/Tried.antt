@@ -70,12 +70,12 @@ more_tries true t now ts h = omega (arith, h)
 more_tries false t now ts h = h
 
 -- a try that is lost stays one
-pub as_many : (b : Bool) (ts : List Try) → length (cond b (lost ts) ts) ≡ length ts
-as_many true [] = refl
-as_many true (Served ∷ ts) = refl
-as_many true (Lost ∷ ts) = refl
-as_many true (Refused answer ∷ ts) = refl
-as_many false ts = refl
+pub lost_count : (b : Bool) (ts : List Try) → length (cond b (lost ts) ts) ≡ length ts
+lost_count true [] = refl
+lost_count true (Served ∷ ts) = refl
+lost_count true (Lost ∷ ts) = refl
+lost_count true (Refused answer ∷ ts) = refl
+lost_count false ts = refl
 
 pub same_control : (control : Control) (n : ℕ) (p : Pooled) → lent_count n (with_control control p) ≡ lent_count n p
 same_control (Tick k) n p = refl
@@ -99,7 +99,7 @@ lent_tried (Entered client m Ping ∷ H) n l = lent_tried H n l.0
 lent_tried (Entered client m Stats ∷ H) n l = lent_tried H n l.0
 lent_tried (Heard e ∷ H) n l =
     let rest = lent_tried H n l.0 in
-    let same = as_many ((e.call_no == n) && loses (work H n) e) (tries H n) in
+    let same = lost_count ((e.call_no == n) && loses (work H n) e) (tries H n) in
     omega (arith, rest, same)
 lent_tried (Pool (OpenStart c m) ∷ H) n l = let rest = lent_tried H n l.0 in let same = begun_same n (next_number (pool H)) (wanted_by m) (pool H).conns in omega (arith, rest, same)
 lent_tried (Pool (Lend c t o m) ∷ H) n l =

@@ -147,7 +147,7 @@ asks_not it jt a is b = let k : asks jt ≡ true = ap asks (sym is) ∙ a in nev
     never : (c : Bool) → c ≡ true → c ≡ false → ⊥
     never c x y = cc
 
-own_call : (H : List Event) (m n : ℕ) (w : Wish) → Wants H m n w → asks (work H m) ≡ true → m ≡ n
+pub own_call : (H : List Event) (m n : ℕ) (w : Wish) → Wants H m n w → asks (work H m) ≡ true → m ≡ n
 own_call H m n wishes.Nothing wants own = wants
 own_call H m n wishes.Fetch wants own = absurd (asks_not (work H m) (Fetch n) own wants.0 refl)
 own_call H m n wishes.Close wants own = absurd (asks_not (work H m) (work H m) own refl (on_rows H m n wants.0))

@@ -1,10 +1,10 @@
-use Rattle.dsql_call_laws.proofs.Untried.{wants_untried}
+use Rattle.dsql_call_laws.proofs.Untried.{wants_has_try}
 use Rattle.dsql_call_laws.proofs.Told.{wants_undecided}
 use Rattle.dsql_call_laws.proofs.Enders.{unended}
 use Rattle.dsql_call_laws.proofs.replies.what_has_not_come_yet.Goals as goal
 
 pub returns-clause-tries : goal.returns-clause-tries
-returns-clause-tries c = wants_untried
+returns-clause-tries c = wants_has_try
 
 pub returns-clause-undecided : goal.returns-clause-undecided
 returns-clause-undecided c = wants_undecided
