@@ -77,11 +77,11 @@ unserved H n l own u nothing may none = by (has_a_try (tries H n)) refl
         in
         others_settled (decided H n) (told_of_work H n (work H n)) (told_at_lending H n) (ap (λ o. is_some o) told ∙ told_last H n (tries H n) l refl last none)
 
-pub settled_unserved : (H : List Event) (n : ℕ) → Lawful H → is_unfinished H n ≡ true → HasNothing H n → may_ask H n ≡ false → was_served (tries H n) ≡ false → is_fetch (work H n) ≡ false → is_some (reply_due H n) ≡ true
+pub settled_unserved : (H : List Event) (n : ℕ) → Lawful H → is_unfinished H n ≡ true → (asks (work H n) ≡ true → HasNothing H n) → may_ask H n ≡ false → was_served (tries H n) ≡ false → is_fetch (work H n) ≡ false → is_some (reply_due H n) ≡ true
 settled_unserved H n l u nothing may none fetchless = by (work H n) refl
   where
     own : (w : Work) → work H n ≡ w → asks w ≡ true → is_some (reply_due H n) ≡ true
-    own w is asking = unserved H n l (ap asks is ∙ asking) u nothing may none
+    own w is asking = let its = ap asks is ∙ asking in unserved H n l its u (nothing its) may none
 
     by : (w : Work) → work H n ≡ w → is_some (reply_due H n) ≡ true
     by Execute is = own Execute is refl

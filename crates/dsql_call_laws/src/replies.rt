@@ -3,6 +3,7 @@
 ghost use Rattle.std.specs.Prelude.{◌≡◌, ◌≢◌, ◌∷◌, ℕ, true, false, List, None, is_some, length};
 ghost use Rattle.dsql_driver.specs.declared.answer.DriverAnswer.{DriverAnswer};
 ghost use Rattle.dsql_pool.specs.Calls.{wants};
+ghost use Rattle.dsql_work.specs.Works.{asks};
 ghost use Rattle.dsql_work.specs.declared.work.Work.TheVariants.{Close, Look};
 ghost use Rattle.dsql_history.specs.declared.event.Event.{Event};
 ghost use Rattle.dsql_history.specs.declared.record.Try.{Try};
@@ -24,7 +25,7 @@ pub fn who_sends_nothing_replies()
     ensures looks { (history : List Event) (n : ℕ) → Lawful history → is_unfinished history n ≡ true → work history n ≡ Look → is_some (decided history n) ≡ true }
     ensures closes { (history : List Event) (n k : ℕ) → work history n ≡ Close k → is_some (reply_due history n) ≡ true }
     ensures refused { (history : List Event) (n : ℕ) (answer : DriverAnswer) (earlier : List Try) → Lawful history → tries history n ≡ Refused answer ∷ earlier → has_a_try (Refused answer ∷ earlier) ≡ false → is_some (reply_to (length (Refused answer ∷ earlier)) answer) ≡ true }
-    ensures unserved { (history : List Event) (n : ℕ) → Lawful history → is_unfinished history n ≡ true → HasNothing history n → may_ask history n ≡ false → was_served (tries history n) ≡ false → is_fetch (work history n) ≡ false → is_some (reply_due history n) ≡ true }
+    ensures unserved { (history : List Event) (n : ℕ) → Lawful history → is_unfinished history n ≡ true → (asks (work history n) ≡ true → HasNothing history n) → may_ask history n ≡ false → was_served (tries history n) ≡ false → is_fetch (work history n) ≡ false → is_some (reply_due history n) ≡ true }
 {}
 
 /// Who wants a connection has a try left, and has settled nothing itself. Rows that nothing has ended have no call that ended them.

@@ -4,6 +4,7 @@ use native.Mathlib.Omega.{arith}
 use Rattle.dsql_value.specs.declared.value.Param.{Param}
 use Rattle.dsql_value.specs.declared.arg.ArgFault.TheVariants.{NumArgs}
 use Rattle.dsql_value.specs.Arguments.{count_fault, largest_count}
+use Rattle.dsql_driver.specs.Kinds.{is_bad}
 use Rattle.dsql_driver.specs.Fits.{fits_of, is_memory}
 use Rattle.dsql_driver.specs.declared.caps.Caps.{Caps}
 use Rattle.dsql_driver.specs.declared.call.DriverCall.{DriverCall}
@@ -25,6 +26,7 @@ use Rattle.dsql_work.specs.Exchanges.{exchanges, step_of, with_exchange}
 use Rattle.dsql_work.specs.Line.{Asked, aim_of, is_due, line_after}
 use Rattle.dsql_history.specs.declared.reply.Reply.{Reply}
 use Rattle.dsql_history.specs.declared.reply.Reply.TheVariants.{Cells}
+use Rattle.dsql_history.specs.Readers.Tries.{is_tried}
 use Rattle.dsql_history.specs.Readers.Calls.{decision, fetch_decision, query_decision, close_decision, closing_decision, reply_to, told_of}
 use Rattle.dsql_work_laws.proofs.Rows.{same_number}
 use Rattle.dsql_work_laws.proofs.CallLines.{Step, HasRows, HasRead, step, step_after, goes}
@@ -55,30 +57,30 @@ counted (pos want) count = by_test (want == count)
     by_test false = refl
 
 -- a fetch decides
-row_decides : (dests : List Dest) (rows : ℕ) (a : DriverAnswer) → fits_of (Next rows) a ≡ true → is_memory a ≡ false → is_some (fetch_decision (ReadOne dests) a) ≡ true
-row_decides dests rows (Row values) fit heard = told_any values dests
-row_decides dests rows End fit heard = refl
-row_decides dests rows Bad fit heard = refl
-row_decides dests rows (Fail why) fit heard = refl
-row_decides dests rows _ fit heard = absurd cc
+row_decides : (number : ℕ) (dests : List Dest) (rows : ℕ) (a : DriverAnswer) → fits_of (Next rows) a ≡ true → is_memory a ≡ false → is_bad a ≡ false → is_some (fetch_decision number (ReadOne dests) a) ≡ true
+row_decides number dests rows (Row values) fit heard good = told_any values dests
+row_decides number dests rows End fit heard good = refl
+row_decides number dests rows Bad fit heard good = absurd cc
+row_decides number dests rows (Fail why) fit heard good = refl
+row_decides number dests rows _ fit heard good = absurd cc
 
 -- what is decided stays decided as the rows are closed
 
-closing_decides : (a : DriverAnswer) (d : Option Reply) → is_some d ≡ true → is_some (closing_decision a d) ≡ true
-closing_decides a None h = absurd cc
-closing_decides (Fail why) (Some (Cells cells)) h = refl
-closing_decides Bad (Some (Cells cells)) h = refl
-closing_decides a (Some reply) h = refl
+closing_decides : (number : ℕ) (a : DriverAnswer) (d : Option Reply) → is_some d ≡ true → is_some (closing_decision number a d) ≡ true
+closing_decides number a None h = absurd cc
+closing_decides number (Fail why) (Some (Cells cells)) h = refl
+closing_decides number Bad (Some (Cells cells)) h = refl
+closing_decides number a (Some reply) h = refl
 
-close_keeps : (it : Work) (a : DriverAnswer) (d : Option Reply) → asks it ≡ true → is_some d ≡ true → is_some (close_decision it a d) ≡ true
-close_keeps (Close k) a d own h = absurd cc
-close_keeps it a d own h = closing_decides a d h
+close_keeps : (number : ℕ) (it : Work) (a : DriverAnswer) (d : Option Reply) → asks it ≡ true → is_some d ≡ true → is_some (close_decision number it a d) ≡ true
+close_keeps number (Close k) a d own h = absurd cc
+close_keeps number it a d own h = closing_decides number a d h
 
 -- an answer to a query that would decide for any call decides for each
-query_decides : (it : Work) (a : DriverAnswer) → is_some (reply_to a) ≡ true → is_some (query_decision it a) ≡ true
-query_decides (HandOut label) (Cursor rows columns) h = refl
-query_decides (HandOut label) a h = h
-query_decides it a h = h
+query_decides : (number : ℕ) (it : Work) (a : DriverAnswer) → is_some (reply_to number a) ≡ true → is_some (query_decision number it a) ≡ true
+query_decides number (HandOut label) (Cursor rows columns) h = refl
+query_decides number (HandOut label) a h = h
+query_decides number it a h = h
 
 misfit : (fit memory : Bool) → fit ≡ true → memory ≡ false → fit && not memory ≡ true
 misfit fit memory h k = grind (arith, h, k)
@@ -91,18 +93,18 @@ cursor_at can asked (HasRead own cursor false) made rows g m = (m.reads, m.curso
 cursor_at can asked (HasRead own cursor true) made rows g m = absurd cc
 cursor_at can asked _ made rows g m = absurd cc
 
-fetch_settles : (can : Caps) (text : List ℕ) (params : List Param) (it : Work) (w : Wish) (s : Step) (made : List Exchange) (rows : ℕ) (a : DriverAnswer) → asks it ≡ true → (w ≡ wishes.Fetch → ⊥)
-    → SentAt can (asking text params (aim_of it)) w s made (Next rows) a → is_some (fetch_decision it a) ≡ true
-fetch_settles can text params (ReadOne dests) w s made rows a own fetch x = row_decides dests rows a x.fit x.heard
-fetch_settles can text params (HandOut label) w s made rows a own fetch x =
+fetch_settles : (number : ℕ) (can : Caps) (text : List ℕ) (params : List Param) (it : Work) (w : Wish) (s : Step) (made : List Exchange) (rows : ℕ) (a : DriverAnswer) → asks it ≡ true → (w ≡ wishes.Fetch → ⊥)
+    → SentAt can (asking text params (aim_of it)) w s made (Next rows) a → (is_tried it (Next rows) && is_bad a) ≡ false → is_some (fetch_decision number it a) ≡ true
+fetch_settles number can text params (ReadOne dests) w s made rows a own fetch x good = row_decides number dests rows a x.fit x.heard good
+fetch_settles number can text params (HandOut label) w s made rows a own fetch x good =
     let c = cursor_at can (asking text params aims.HandOut) s made rows x.next x.before in
     let over = x.over rows c.1 in
     absurd (fetch over.0)
-fetch_settles can text params Execute w s made rows a own fetch x = let c = cursor_at can (asking text params aims.Execute) s made rows x.next x.before in absurd (impossible c.0)
-fetch_settles can text params Pings w s made rows a own fetch x = let c = cursor_at can (asking text params aims.Ping) s made rows x.next x.before in absurd (impossible c.0)
-fetch_settles can text params (Fetch k) w s made rows a own fetch x = absurd cc
-fetch_settles can text params (Close k) w s made rows a own fetch x = absurd cc
-fetch_settles can text params Look w s made rows a own fetch x = absurd cc
+fetch_settles number can text params Execute w s made rows a own fetch x good = let c = cursor_at can (asking text params aims.Execute) s made rows x.next x.before in absurd (impossible c.0)
+fetch_settles number can text params Pings w s made rows a own fetch x good = let c = cursor_at can (asking text params aims.Ping) s made rows x.next x.before in absurd (impossible c.0)
+fetch_settles number can text params (Fetch k) w s made rows a own fetch x good = absurd cc
+fetch_settles number can text params (Close k) w s made rows a own fetch x good = absurd cc
+fetch_settles number can text params Look w s made rows a own fetch x good = absurd cc
 
 -- the run of a query that gives a cursor: rows that are handed out decide, and a call that reads one row awaits that
 
@@ -111,55 +113,55 @@ opened_reads : (can : Caps) (asked : Asked) (s : Step) (made : List Exchange) (i
 opened_reads can asked s made (Text t) ps rows columns m = m.reads
 opened_reads can asked s made (Handle handle) ps rows columns m = m.reads
 
-cursor_settles : (it : Work) (rows : ℕ) (columns : List (List ℕ)) → asks it ≡ true → queries_it (aim_of it) ≡ true
-    → is_some (query_decision it (Cursor rows columns)) || is_one (aim_of it) ≡ true
-cursor_settles (HandOut label) rows columns own reads = refl
-cursor_settles (ReadOne dests) rows columns own reads = refl
-cursor_settles Execute rows columns own reads = absurd cc
-cursor_settles Pings rows columns own reads = absurd cc
-cursor_settles (Fetch k) rows columns own reads = absurd cc
-cursor_settles (Close k) rows columns own reads = absurd cc
-cursor_settles Look rows columns own reads = absurd cc
+cursor_settles : (number : ℕ) (it : Work) (rows : ℕ) (columns : List (List ℕ)) → asks it ≡ true → queries_it (aim_of it) ≡ true
+    → is_some (query_decision number it (Cursor rows columns)) || is_one (aim_of it) ≡ true
+cursor_settles number (HandOut label) rows columns own reads = refl
+cursor_settles number (ReadOne dests) rows columns own reads = refl
+cursor_settles number Execute rows columns own reads = absurd cc
+cursor_settles number Pings rows columns own reads = absurd cc
+cursor_settles number (Fetch k) rows columns own reads = absurd cc
+cursor_settles number (Close k) rows columns own reads = absurd cc
+cursor_settles number Look rows columns own reads = absurd cc
 
 -- after a call that is due was answered, either the reply is settled, or another answer decides
-pub settled_on : (can : Caps) (reset : Bool) (text : List ℕ) (params : List Param) (it : Work) (w : Wish) (L : List Entry) (q : DriverCall) (a : DriverAnswer) (d : Option Reply) → asks it ≡ true
+pub settled_on : (number : ℕ) (can : Caps) (reset : Bool) (text : List ℕ) (params : List Param) (it : Work) (w : Wish) (L : List Entry) (q : DriverCall) (a : DriverAnswer) (d : Option Reply) → asks it ≡ true
     → needs_answer can (aim_of it) ≡ true → (w ≡ wishes.Fetch → ⊥) → SentAt can (asking text params (aim_of it)) w (step L) (exchanges L) q a → is_due (line_after can reset (asking text params (aim_of it)) w L) q ≡ true
-    → is_some d || awaits (is_one (aim_of it)) L (length params) ≡ true → is_some (decision (length params) it q a d) || awaits_after (is_one (aim_of it)) q a (length params) ≡ true
-settled_on can reset text params it w L Reset Bad d own needs fetch x k before = refl
-settled_on can reset text params it w L Reset a d own needs fetch x k before = or_true _ _ refl
-settled_on can reset text params it w L Ping Done d own needs fetch x k before = refl
-settled_on can reset text params it w L Ping Bad d own needs fetch x k before = refl
-settled_on can reset text params it w L Ping (Fail why) d own needs fetch x k before = refl
-settled_on can reset text params it w L Ping _ d own needs fetch x k before = absurd (impossible (misfit _ _ x.fit x.heard))
-settled_on can reset text params it w L (Exec (Text t) ps) (Result last affected) d own needs fetch x k before = refl
-settled_on can reset text params it w L (Exec (Text t) ps) Skip d own needs fetch x k before = refl
-settled_on can reset text params it w L (Exec (Text t) ps) Bad d own needs fetch x k before = refl
-settled_on can reset text params it w L (Exec (Text t) ps) (Fail why) d own needs fetch x k before = refl
-settled_on can reset text params it w L (Exec (Text t) ps) _ d own needs fetch x k before = absurd (impossible (misfit _ _ x.fit x.heard))
-settled_on can reset text params it w L (Exec (Handle h) ps) (Result last affected) d own needs fetch x k before = refl
-settled_on can reset text params it w L (Exec (Handle h) ps) Bad d own needs fetch x k before = refl
-settled_on can reset text params it w L (Exec (Handle h) ps) (Fail why) d own needs fetch x k before = refl
-settled_on can reset text params it w L (Exec (Handle h) ps) _ d own needs fetch x k before = absurd (impossible (misfit _ _ x.fit x.heard))
-settled_on can reset text params it w L (Query input ps) (Cursor rows columns) d own needs fetch x k before =
-    cursor_settles it rows columns own (opened_reads can (asking text params (aim_of it)) (step L) (exchanges L) input ps rows columns x.after)
-settled_on can reset text params it w L (Query (Text t) ps) Skip d own needs fetch x k before = or_true _ _ refl
-settled_on can reset text params it w L (Query input ps) Bad d own needs fetch x k before = or_some _ _ (query_decides it Bad refl)
-settled_on can reset text params it w L (Query input ps) (Fail why) d own needs fetch x k before = or_some _ _ (query_decides it (Fail why) refl)
-settled_on can reset text params it w L (Query (Text t) ps) _ d own needs fetch x k before = absurd (impossible (misfit _ _ x.fit x.heard))
-settled_on can reset text params it w L (Query (Handle h) ps) _ d own needs fetch x k before = absurd (impossible (misfit _ _ x.fit x.heard))
-settled_on can reset text params it w L (Prepare t) (Prepared handle inputs) d own needs fetch x k before = counted inputs (length params)
-settled_on can reset text params it w L (Prepare t) Bad d own needs fetch x k before = refl
-settled_on can reset text params it w L (Prepare t) (Fail why) d own needs fetch x k before = refl
-settled_on can reset text params it w L (Prepare t) _ d own needs fetch x k before = absurd (impossible (misfit _ _ x.fit x.heard))
-settled_on can reset text params it w L (Next rows) a d own needs fetch x k before = or_some _ _ (fetch_settles can text params it w (step L) (exchanges L) rows a own fetch x)
-settled_on can reset text params it w L (CloseRows rows) a d own needs fetch x k before =
-    or_some _ _ (close_keeps it a d own
+    → is_some d || awaits (is_one (aim_of it)) L (length params) ≡ true → (is_tried it q && is_bad a) ≡ false → is_some (decision number (length params) it q a d) || awaits_after (is_one (aim_of it)) q a (length params) ≡ true
+settled_on number can reset text params it w L Reset Bad d own needs fetch x k before good = absurd cc
+settled_on number can reset text params it w L Reset a d own needs fetch x k before good = or_true _ _ refl
+settled_on number can reset text params it w L Ping Done d own needs fetch x k before good = refl
+settled_on number can reset text params it w L Ping Bad d own needs fetch x k before good = refl
+settled_on number can reset text params it w L Ping (Fail why) d own needs fetch x k before good = refl
+settled_on number can reset text params it w L Ping _ d own needs fetch x k before good = absurd (impossible (misfit _ _ x.fit x.heard))
+settled_on number can reset text params it w L (Exec (Text t) ps) (Result last affected) d own needs fetch x k before good = refl
+settled_on number can reset text params it w L (Exec (Text t) ps) Skip d own needs fetch x k before good = refl
+settled_on number can reset text params it w L (Exec (Text t) ps) Bad d own needs fetch x k before good = absurd cc
+settled_on number can reset text params it w L (Exec (Text t) ps) (Fail why) d own needs fetch x k before good = refl
+settled_on number can reset text params it w L (Exec (Text t) ps) _ d own needs fetch x k before good = absurd (impossible (misfit _ _ x.fit x.heard))
+settled_on number can reset text params it w L (Exec (Handle h) ps) (Result last affected) d own needs fetch x k before good = refl
+settled_on number can reset text params it w L (Exec (Handle h) ps) Bad d own needs fetch x k before good = absurd cc
+settled_on number can reset text params it w L (Exec (Handle h) ps) (Fail why) d own needs fetch x k before good = refl
+settled_on number can reset text params it w L (Exec (Handle h) ps) _ d own needs fetch x k before good = absurd (impossible (misfit _ _ x.fit x.heard))
+settled_on number can reset text params it w L (Query input ps) (Cursor rows columns) d own needs fetch x k before good =
+    cursor_settles number it rows columns own (opened_reads can (asking text params (aim_of it)) (step L) (exchanges L) input ps rows columns x.after)
+settled_on number can reset text params it w L (Query (Text t) ps) Skip d own needs fetch x k before good = or_true _ _ refl
+settled_on number can reset text params it w L (Query input ps) Bad d own needs fetch x k before good = absurd cc
+settled_on number can reset text params it w L (Query input ps) (Fail why) d own needs fetch x k before good = or_some _ _ (query_decides number it (Fail why) refl)
+settled_on number can reset text params it w L (Query (Text t) ps) _ d own needs fetch x k before good = absurd (impossible (misfit _ _ x.fit x.heard))
+settled_on number can reset text params it w L (Query (Handle h) ps) _ d own needs fetch x k before good = absurd (impossible (misfit _ _ x.fit x.heard))
+settled_on number can reset text params it w L (Prepare t) (Prepared handle inputs) d own needs fetch x k before good = counted inputs (length params)
+settled_on number can reset text params it w L (Prepare t) Bad d own needs fetch x k before good = absurd cc
+settled_on number can reset text params it w L (Prepare t) (Fail why) d own needs fetch x k before good = refl
+settled_on number can reset text params it w L (Prepare t) _ d own needs fetch x k before good = absurd (impossible (misfit _ _ x.fit x.heard))
+settled_on number can reset text params it w L (Next rows) a d own needs fetch x k before good = or_some _ _ (fetch_settles number can text params it w (step L) (exchanges L) rows a own fetch x good)
+settled_on number can reset text params it w L (CloseRows rows) a d own needs fetch x k before good =
+    or_some _ _ (close_keeps number it a d own
     (first_only (is_some d) (awaits (is_one (aim_of it)) L (length params)) before
     (none_awaited (is_one (aim_of it)) L (length params) (freeing can reset (asking text params (aim_of it)) w L rows x.before x.next k))))
-settled_on can reset text params it w L (CloseStmt h) a d own needs fetch x k before =
+settled_on number can reset text params it w L (CloseStmt h) a d own needs fetch x k before good =
     or_some _ _ (first_only (is_some d) (awaits (is_one (aim_of it)) L (length params)) before
     (closing_awaits can reset (asking text params (aim_of it)) w (is_one (aim_of it)) L h x.before x.next k))
-settled_on can reset text params it w L Valid a d own needs fetch x k before =
+settled_on number can reset text params it w L Valid a d own needs fetch x k before good =
     or_some _ _ (first_only (is_some d) (awaits (is_one (aim_of it)) L (length params)) before
     (none_awaited (is_one (aim_of it)) L (length params) (testing can reset (asking text params (aim_of it)) w L x.before needs x.next k)))
-settled_on can reset text params it w L q a d own needs fetch x k before = absurd (impossible x.sent)
+settled_on number can reset text params it w L q a d own needs fetch x k before good = absurd (impossible x.sent)

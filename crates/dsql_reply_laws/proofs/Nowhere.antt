@@ -1,28 +1,92 @@
 -- Who has nothing to send, wants no connection and may not ask for one has its reply settled.
-use Rattle.std.proofs.Common.{◌≡◌, ℕ, Bool, true, false, List, is_some, refl, ap}
+use Rattle.std.proofs.Common.{◌≡◌, ℕ, ◌==◌, Bool, true, false, ◌||◌, cond, List, [], ◌∷◌, Option, Some, None, is_some, refl, sym, ap, ◌∙◌}
+use Rattle.std.specs.Prelude.{find, option_map}
+use Rattle.std.specs.List.{list_all, list_any}
+use Rattle.dsql_course.specs.declared.course.Wish.TheVariants as wishes
+use Rattle.dsql_journal.specs.Kinds.{number_of}
+use Rattle.dsql_wait.specs.Requests.{waits}
+use Rattle.dsql_pool.specs.declared.conn.Conn.{Conn}
+use Rattle.dsql_pool.specs.declared.conn.Place.{Place}
+use Rattle.dsql_pool.specs.declared.conn.Place.TheVariants.{Idle, Lent, Opening, Closing}
+use Rattle.dsql_pool.specs.Places.{is_for}
+use Rattle.dsql_rows.specs.declared.rows.Rows.{Rows}
 use Rattle.dsql_pool.specs.Calls.{wants}
 use Rattle.dsql_work.specs.declared.work.Work.{Work}
-use Rattle.dsql_work.specs.declared.work.Work.TheVariants.{Fetch}
+use Rattle.dsql_work.specs.declared.work.Work.TheVariants.{Execute, ReadOne, HandOut, Ping, Fetch, Close, Look}
+use Rattle.dsql_work.specs.Works.{asks}
 use Rattle.dsql_history.specs.declared.event.Event.{Event}
 use Rattle.dsql_history.specs.Readers.Calls.{reply_due}
-use Rattle.dsql_history.specs.Readers.Pool.{pool}
-use Rattle.dsql_history.specs.Readers.Tries.{tries}
+use Rattle.dsql_history.specs.Readers.HandedOut.{rows_by, live}
+use Rattle.dsql_history.specs.Readers.Pool.{pool, is_home}
+use Rattle.dsql_history.specs.Readers.Tries.{tries, was_served}
 use Rattle.dsql_history.specs.Readers.Unfinished.{is_unfinished}
 use Rattle.dsql_history.specs.Readers.Works.{work, is_fetch}
 use Rattle.dsql_history.specs.Rules.Asking.{may_ask}
-use Rattle.dsql_history.specs.Rules.Line.{due_for}
+use Rattle.dsql_history.specs.Rules.Line.{due_in, due_for, line_of, rest_with, is_used}
+use Rattle.dsql_history.specs.Rules.Settled.{is_in_use, uses_what_is_lent}
 use Rattle.dsql_history.specs.Legal.{Lawful}
-use Rattle.dsql_call_laws.specs.Served.{was_served}
+use Rattle.dsql_laws.proofs.Tests.{both, same_number}
+use Rattle.dsql_laws.proofs.Numbered.{unfinished_from_one}
+use Rattle.dsql_call_laws.specs.Nothing.{HasNothing}
 use Rattle.dsql_call_laws.proofs.Nowhere.{settled_unserved}
 use Rattle.dsql_reply_laws.proofs.Served.{served_replies}
+use Rattle.dsql_reply_laws.proofs.Handed.{never, neither, rows_served}
 use Rattle.dsql_reply_laws.proofs.Fetches.{fetch_replies}
 
-pub nowhere_replies : (H : List Event) (n : ℕ) → Lawful H → is_unfinished H n ≡ true → is_some (due_for H n) ≡ false → wants n (pool H) ≡ false → may_ask H n ≡ false → is_some (reply_due H n) ≡ true
-nowhere_replies H n l u none unwanting may = by (work H n) refl
+own_line : (H : List Event) (n : ℕ) (w : Work) → asks w ≡ true → due_in H n w ≡ line_of H n wishes.Nothing
+own_line H n Execute own = refl
+own_line H n (ReadOne dests) own = refl
+own_line H n (HandOut label) own = refl
+own_line H n Ping own = refl
+own_line H n (Fetch k) own = absurd cc
+own_line H n (Close k) own = absurd cc
+own_line H n Look own = absurd cc
+
+-- a call that has made no rows and has nothing to send uses no connection
+unused : (H : List Event) (n : ℕ) → is_unfinished H n ≡ true → asks (work H n) ≡ true → is_some (due_for H n) ≡ false → rows_by H n ≡ None → is_used H n ≡ false
+unused H n u own none rowless =
+    let line : is_some (line_of H n wishes.Nothing) ≡ false = ap (λ d. is_some d) (sym (own_line H n (work H n) own)) ∙ ap (λ (b : Bool). is_some (cond b (due_in H n (work H n)) None)) (sym u) ∙ none in
+    ap (λ o. live o || is_some (rest_with H n o)) rowless ∙ line
+
+-- where what is lent is in use, such a call has no connection
+lent_used : (H : List Event) (n : ℕ) (conns : List Conn) → list_all (λ conn. is_in_use H conn.place) conns ≡ true → is_used H n ≡ false → list_any (λ conn. is_for n conn.place) conns ≡ false
+    → find (λ conn. is_home n conn.place) conns ≡ None
+lent_used H n [] used free unwanted = refl
+lent_used H n (x ∷ xs) used free unwanted =
+    let a = both (is_in_use H x.place) (list_all (λ conn. is_in_use H conn.place) xs) used in
+    let b = neither (is_for n x.place) (list_any (λ conn. is_for n conn.place) xs) unwanted in
+    ap (λ c. cond c (Some x) (find (λ conn. is_home n conn.place) xs)) (at x.place a.0 b.0) ∙ lent_used H n xs a.1 free b.1
+  where
+    at : (p : Place) → is_in_use H p ≡ true → is_for n p ≡ false → is_home n p ≡ false
+    at (Lent t owner) u f = by (number_of owner == n) refl
+      where
+        by : (c : Bool) → (number_of owner == n) ≡ c → (number_of owner == n) ≡ false
+        by false is = is
+        by true is = let its : is_used H n ≡ true = ap (λ k. is_used H k) (sym (same_number (number_of owner) n is)) ∙ u in absurd (never (is_used H n) its free)
+    at Idle u f = f
+    at (Opening wanted) u f = f
+    at Closing u f = f
+
+has_nothing : (H : List Event) (n : ℕ) → Lawful H → is_unfinished H n ≡ true → is_some (due_for H n) ≡ false → wants n (pool H) ≡ false → uses_what_is_lent H ≡ true → was_served (tries H n) ≡ false
+    → asks (work H n) ≡ true → HasNothing H n
+has_nothing H n l u none unwanting used unserved own =
+    let p = pool H in
+    let rowless = made_none (rows_by H n) refl in
+    let free = unused H n u own none rowless in
+    let apart = neither (waits n p.waiting) (list_any (λ conn. is_for n conn.place) p.conns) unwanting in
+    record { unwanting = unwanting; homeless = ap (option_map (λ conn. conn.number)) (lent_used H n p.conns used free apart.1); rowless = rowless }
+  where
+    made_none : (o : Option Rows) → rows_by H n ≡ o → rows_by H n ≡ None
+    made_none None is = is
+    made_none (Some r) is = absurd (never (was_served (tries H n)) (rows_served H n l (unfinished_from_one H n l u) (ap is_some is)) unserved)
+
+pub nowhere_replies : (H : List Event) (n : ℕ) → Lawful H → is_unfinished H n ≡ true → is_some (due_for H n) ≡ false → wants n (pool H) ≡ false → uses_what_is_lent H ≡ true → may_ask H n ≡ false
+    → is_some (reply_due H n) ≡ true
+nowhere_replies H n l u none unwanting used may = by (work H n) refl
   where
     by_try : (b : Bool) → was_served (tries H n) ≡ b → is_fetch (work H n) ≡ false → is_some (reply_due H n) ≡ true
     by_try true served fetchless = served_replies H n l u served none
-    by_try false served fetchless = settled_unserved H n l u unwanting may served fetchless
+    by_try false served fetchless = settled_unserved H n l u (has_nothing H n l u none unwanting used served) may served fetchless
 
     by : (w : Work) → work H n ≡ w → is_some (reply_due H n) ≡ true
     by (Fetch k) is = fetch_replies H n k l u is none

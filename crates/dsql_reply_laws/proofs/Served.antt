@@ -24,7 +24,7 @@ use Rattle.dsql_work.specs.Line.{Asked, aim_of, handed, is_due}
 use Rattle.dsql_history.specs.declared.event.Event.{Event}
 use Rattle.dsql_history.specs.declared.event.Event.TheVariants.{Run, Entered, Heard, Pool, Waits, Ticked, SetLimit, Replied, Ended}
 use Rattle.dsql_history.specs.declared.record.Try.{Try}
-use Rattle.dsql_history.specs.declared.record.Try.TheVariants.{Served, Refused}
+use Rattle.dsql_history.specs.declared.record.Try.TheVariants.{Served, Lost, Refused}
 use Rattle.dsql_history.specs.declared.reply.Reply.{Reply}
 use Rattle.dsql_history.specs.declared.reply.Reply.TheVariants as reply
 use Rattle.dsql_history.specs.Readers.Course.{caps}
@@ -32,7 +32,7 @@ use Rattle.dsql_history.specs.Readers.Calls.{calls, call_record, nobody, decided
 use Rattle.dsql_history.specs.Readers.HandedOut.{rows_by}
 use Rattle.dsql_history.specs.Readers.Journals.{heard_in}
 use Rattle.dsql_history.specs.Readers.Pool.{pool, place}
-use Rattle.dsql_history.specs.Readers.Tries.{tries, with_try, newest_answer}
+use Rattle.dsql_history.specs.Readers.Tries.{tries, try_number, with_try, newest_answer, loses, lost, was_served}
 use Rattle.dsql_history.specs.Readers.Unfinished.{is_unfinished}
 use Rattle.dsql_history.specs.Readers.Works.{work}
 use Rattle.dsql_history.specs.Rules.Course.{begins_with_run, goes_forward, ends_once}
@@ -41,7 +41,7 @@ use Rattle.dsql_history.specs.Legal.{Allowed, Lawful}
 use Rattle.dsql_work_laws.proofs.Rows.{same_or_not, row_at}
 use Rattle.dsql_work_laws.proofs.HandedLines.{SentAt, cursor_of}
 use Rattle.dsql_work_laws.proofs.CallLines.{step}
-use Rattle.dsql_laws.proofs.Tests.{both, same_number, other_number}
+use Rattle.dsql_laws.proofs.Tests.{both, same_number, other_number, same_itself}
 use Rattle.dsql_laws.proofs.Numbered.{unfinished_from_one}
 use Rattle.dsql_laws.proofs.Tried.{lends_to}
 use Rattle.dsql_lending_laws.proofs.Found.{place_in}
@@ -53,7 +53,6 @@ use Rattle.dsql_sending_laws.proofs.UnderWay.{UnderWay, Wants}
 use Rattle.dsql_sending_laws.proofs.Invariant.{Sound, is_answer, heard_same, fresh_lending, over_made}
 use Rattle.dsql_sending_laws.proofs.Answered.{lent_under_way, sent_at, answer_of, heard_here, heard_off, same_lent, asks_not}
 use Rattle.dsql_sending_laws.proofs.Sound.{sound}
-use Rattle.dsql_call_laws.specs.Served.{was_served}
 use Rattle.dsql_call_laws.proofs.Works.{enters_next, old_record, other_heard, other_replied, old_unfinished, still_unfinished}
 use Rattle.dsql_call_laws.proofs.Idle.{no_work_yet}
 use Rattle.dsql_reply_laws.proofs.Awaited.{is_one, needs_answer, awaits, awaited_due, handed_awaits}
@@ -86,6 +85,18 @@ lends_its H c t o m l =
     let its : o ≡ Call m = call_of o (owner_is_call (Pool (Lend c t o m) ∷ H) c t o l there) ∙ ap Call (sym (lends_to H c t o m l.1)) in
     there ∙ ap (λ p. Some (Lent t p)) its
 
+-- what was served before an answer, and still is, wasn't lost to that
+pub still_served : (b : Bool) (ts : List Try) → was_served (cond b (lost ts) ts) ≡ true → (b ≡ false) × (was_served ts ≡ true)
+still_served true [] h = absurd cc
+still_served true (Served ∷ ts) h = absurd cc
+still_served true (Lost ∷ ts) h = absurd cc
+still_served true (Refused answer ∷ ts) h = absurd cc
+still_served false ts h = (refl, h)
+
+not_both : (a b : Bool) → a ≡ true → (a && b) ≡ false → b ≡ false
+not_both true b h k = k
+not_both false b h k = absurd cc
+
 -- a call that was served works on a connection of its own
 pub served_asks : (H : List Event) (n : ℕ) → Lawful H → was_served (tries H n) ≡ true → asks (work H n) ≡ true
 served_asks [] n l h = absurd cc
@@ -93,7 +104,7 @@ served_asks (Run version can ∷ H) n l h = served_asks H n l.0 h
 served_asks (Entered client m op ∷ H) n l h =
     let own = served_asks H n l.0 h in
     ap asks (work_stays H (Entered client m op) n (not_looking (work H n) own)) ∙ own
-served_asks (Heard e ∷ H) n l h = served_asks H n l.0 h
+served_asks (Heard e ∷ H) n l h = served_asks H n l.0 (still_served ((e.call_no == n) && loses (work H n) e) (tries H n) h).1
 served_asks (Pool (OpenStart c m) ∷ H) n l h = served_asks H n l.0 h
 served_asks (Pool (Lend c t o m) ∷ H) n l h = by (served_asks H n l.0) (m == n) refl h
   where
@@ -187,19 +198,19 @@ either false b h = inr h
 
 -- its record after an answer to it
 own_record : (H : List Event) (e : Entry) → asks (work H e.call_no) ≡ true → e.call_no ≢ 0
-    → decided (Heard e ∷ H) e.call_no ≡ decision (length (call_record H e.call_no).params) (work H e.call_no) e.call e.answer (decided H e.call_no)
+    → decided (Heard e ∷ H) e.call_no ≡ decision (try_number (tries H e.call_no)) (length (call_record H e.call_no).params) (work H e.call_no) e.call e.answer (decided H e.call_no)
 own_record H e own some =
     let m = e.call_no in
     let less = has_entered H m (not_looking (work H m) own) in
     let rows = as_many H in
-    let new = decided_by (work H m) e (call_record H m) in
+    let new = decided_by (try_number (tries H m)) (work H m) e (call_record H m) in
     let here : call_record (Heard e ∷ H) m ≡ new = row_at (calls H) m new nobody (omega (arith, less, rows)) in
     let of_call : (m == 0) ≡ false = other_number m 0 some in
     ap (λ r. r.decided) here
-    ∙ ap (λ (b : Bool). (cond b (call_record H m) (record (call_record H m) { decided = decision (length (call_record H m).params) (work H m) e.call e.answer (decided H m) })).decided) of_call
+    ∙ ap (λ (b : Bool). (cond b (call_record H m) (record (call_record H m) { decided = decision (try_number (tries H m)) (length (call_record H m).params) (work H m) e.call e.answer (decided H m) })).decided) of_call
 
-settles_own : (H : List Event) (e : Entry) (l : Lawful (Heard e ∷ H)) → (u : UnderWay H e) → asks (work H e.call_no) ≡ true → e.call_no ≢ 0 → Needs H e.call_no → Settles H e.call_no → Settles (Heard e ∷ H) e.call_no
-settles_own H e l u own some needs before = by (either (is_some after) (awaits one (e ∷ L) (length asked.params)) settled)
+settles_own : (H : List Event) (e : Entry) (l : Lawful (Heard e ∷ H)) → (u : UnderWay H e) → asks (work H e.call_no) ≡ true → e.call_no ≢ 0 → Needs H e.call_no → loses (work H e.call_no) e ≡ false → Settles H e.call_no → Settles (Heard e ∷ H) e.call_no
+settles_own H e l u own some needs good before = by (either (is_some after) (awaits one (e ∷ L) (length asked.params)) settled)
   where
     s : Sound H
     s = sound H l.0
@@ -217,7 +228,7 @@ settles_own H e l u own some needs before = by (either (is_some after) (awaits o
     L = heard_in H e.conn e.tenure
 
     after : Option Reply
-    after = decision (length asked.params) (work H e.call_no) e.call e.answer (decided H e.call_no)
+    after = decision (try_number (tries H e.call_no)) (length asked.params) (work H e.call_no) e.call e.answer (decided H e.call_no)
 
     nothing : u.wish ≡ wishes.Nothing
     nothing = own_wish H e.call_no u.holder u.wish u.wants own some
@@ -237,9 +248,9 @@ settles_own H e l u own some needs before = by (either (is_some after) (awaits o
 
     settled : (is_some after || awaits one (e ∷ L) (length asked.params)) ≡ true
     settled =
-        settled_on (caps H) (is_reset_due H e.conn) asked.text asked.params (work H e.call_no) u.wish L e.call e.answer (decided H e.call_no) own needs (λ fetch. unlike (sym nothing ∙ fetch))
+        settled_on (try_number (tries H e.call_no)) (caps H) (is_reset_due H e.conn) asked.text asked.params (work H e.call_no) u.wish L e.call e.answer (decided H e.call_no) own needs (λ fetch. unlike (sym nothing ∙ fetch))
         (subst (λ k. SentAt (caps H) (asked_by H k) u.wish (step L) (exchanges L) e.call e.answer) (sym its) (sent_at H e l.1 s u))
-        (subst (λ k. is_due (line_in H e.conn e.tenure k u.wish) e.call ≡ true) (sym its) u.due) (some_or (is_some (decided H e.call_no)) (awaits one L (length asked.params)) (still before))
+        (subst (λ k. is_due (line_in H e.conn e.tenure k u.wish) e.call ≡ true) (sym its) u.due) (some_or (is_some (decided H e.call_no)) (awaits one L (length asked.params)) (still before)) good
       where
         unlike : wishes.Nothing ≡ wishes.Fetch → ⊥
         unlike h = cc
@@ -283,16 +294,19 @@ settles_other H e n l apart needs (inr a) = by (same_or_not e.conn a.conn)
         absurd (with_rows H n s a (rows_by H n) refl (subst (λ k. is_some (rows_by H k) ≡ true) one.1 rows))
     by (inr off) = inr (still_awaits H (Heard e) n l s needs a (heard_off H e a.conn a.tenure off))
 
-settles_heard : (H : List Event) (e : Entry) (n : ℕ) → Lawful (Heard e ∷ H) → is_unfinished H n ≡ true → asks (work H n) ≡ true → Needs H n → Settles H n → Settles (Heard e ∷ H) n
-settles_heard H e n l u own needs before = by (same_or_not n e.call_no)
+settles_heard : (H : List Event) (e : Entry) (n : ℕ) → Lawful (Heard e ∷ H) → is_unfinished H n ≡ true → asks (work H n) ≡ true → Needs H n → ((e.call_no == n) && loses (work H n) e) ≡ false → Settles H n → Settles (Heard e ∷ H) n
+settles_heard H e n l u own needs good before = by (same_or_not n e.call_no)
   where
     some : n ≢ 0
     some = unfinished_from_one H n l.0 u
 
+    kept : n ≡ e.call_no → loses (work H e.call_no) e ≡ false
+    kept same = not_both (e.call_no == n) (loses (work H e.call_no) e) (ap (λ k. e.call_no == k) same ∙ same_itself e.call_no) (ap (λ k. (e.call_no == n) && loses (work H k) e) (sym same) ∙ good)
+
     sends : n ≡ e.call_no → UnderWay H e ⊎ (e.call_no ≡ 0) → Settles (Heard e ∷ H) n
     sends same (inl way) =
         subst (λ k. Settles (Heard e ∷ H) k) (sym same)
-        (settles_own H e l way (subst (λ k. asks (work H k) ≡ true) same own) (λ none. some (same ∙ none)) (subst (λ k. Needs H k) same needs)
+        (settles_own H e l way (subst (λ k. asks (work H k) ≡ true) same own) (λ none. some (same ∙ none)) (subst (λ k. Needs H k) same needs) (kept same)
         (subst (λ k. Settles H k) same before))
     sends same (inr layer) = absurd (some (same ∙ layer))
 
@@ -323,7 +337,9 @@ settles (Entered client m op ∷ H) n l u h needs =
     let apart = not_entering H n m new own in
     let needed : Needs H n = ap (λ it. needs_answer (caps H) (aim_of it)) (sym (work_stays H (Entered client m op) n (not_looking (work H n) own))) ∙ needs in
     settles_quiet H (Entered client m op) n l refl (old_record H client m op n new apart) needed (settles H n l.0 (sym (old_unfinished H client m op n apart) ∙ u) h needed)
-settles (Heard e ∷ H) n l u h needs = settles_heard H e n l u (served_asks H n l.0 h) needs (settles H n l.0 u h needs)
+settles (Heard e ∷ H) n l u h needs =
+    let kept = still_served ((e.call_no == n) && loses (work H n) e) (tries H n) h in
+    settles_heard H e n l u (served_asks H n l.0 kept.1) needs kept.0 (settles H n l.0 u kept.1 needs)
 settles (Pool (OpenStart c m) ∷ H) n l u h needs = settles_quiet H (Pool (OpenStart c m)) n l refl refl needs (settles H n l.0 u h needs)
 settles (Pool (Lend c t o m) ∷ H) n l u h needs = by (settles H n l.0 u) (m == n) refl h
   where
@@ -371,6 +387,7 @@ served_decides H n l u h needs none = by (settles H n l u h needs)
 -- a ping is told as it gets its connection, where it needs no answer
 told_lent : (can : Caps) (it : Work) (ts : List Try) → needs_answer can (aim_of it) ≡ false → was_served ts ≡ true → is_some (told_as_lent can it ts) ≡ true
 told_lent can Ping (Served ∷ earlier) needless h = ap (λ (b : Bool). is_some (cond b None (Some reply.Ok))) needless
+told_lent can Ping (Lost ∷ earlier) needless h = absurd cc
 told_lent can Ping (Refused answer ∷ earlier) needless h = absurd cc
 told_lent can Ping [] needless h = absurd cc
 told_lent can Execute ts needless h = absurd cc

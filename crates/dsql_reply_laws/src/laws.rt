@@ -6,13 +6,13 @@ ghost use Rattle.dsql_work.specs.declared.work.Work.TheVariants.{Fetch};
 ghost use Rattle.dsql_history.specs.declared.event.Event.{Event};
 ghost use Rattle.dsql_history.specs.Readers.Calls.{reply_due};
 ghost use Rattle.dsql_history.specs.Readers.Pool.{pool};
-ghost use Rattle.dsql_history.specs.Readers.Tries.{tries};
+ghost use Rattle.dsql_history.specs.Readers.Tries.{tries, was_served};
 ghost use Rattle.dsql_history.specs.Readers.Unfinished.{is_unfinished};
 ghost use Rattle.dsql_history.specs.Readers.Works.{work};
 ghost use Rattle.dsql_history.specs.Rules.Asking.{may_ask};
 ghost use Rattle.dsql_history.specs.Rules.Line.{due_for};
+ghost use Rattle.dsql_history.specs.Rules.Settled.{uses_what_is_lent};
 ghost use Rattle.dsql_history.specs.Legal.{Lawful};
-ghost use Rattle.dsql_call_laws.specs.Served.{was_served};
 
 /// A call that was lent a connection, and has nothing more to send there, has its reply settled: by an answer, or for a
 /// ping that was sent none by the lending. So has a fetch that has nothing to send. So a call that has nothing to send,
@@ -20,5 +20,5 @@ ghost use Rattle.dsql_call_laws.specs.Served.{was_served};
 pub fn who_is_nowhere_replies()
     ensures served { (history : List Event) (n : ℕ) → Lawful history → is_unfinished history n ≡ true → was_served (tries history n) ≡ true → is_some (due_for history n) ≡ false → is_some (reply_due history n) ≡ true }
     ensures fetches { (history : List Event) (n k : ℕ) → Lawful history → is_unfinished history n ≡ true → work history n ≡ Fetch k → is_some (due_for history n) ≡ false → is_some (reply_due history n) ≡ true }
-    ensures nowhere { (history : List Event) (n : ℕ) → Lawful history → is_unfinished history n ≡ true → is_some (due_for history n) ≡ false → wants n (pool history) ≡ false → may_ask history n ≡ false → is_some (reply_due history n) ≡ true }
+    ensures nowhere { (history : List Event) (n : ℕ) → Lawful history → is_unfinished history n ≡ true → is_some (due_for history n) ≡ false → wants n (pool history) ≡ false → uses_what_is_lent history ≡ true → may_ask history n ≡ false → is_some (reply_due history n) ≡ true }
 {}
