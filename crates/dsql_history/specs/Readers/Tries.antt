@@ -79,7 +79,7 @@ abbrev pub was_served : List Try → Bool
 was_served (Served ∷ earlier) = true
 was_served tries = false
 
--- a connection that was to be opened for the call fell to it
-abbrev pub was_refused : List Try → Bool
-was_refused (Refused answer ∷ earlier) = true
-was_refused tries = false
+-- a connection that was to be opened for the call was bad and fell to it, and it has another try
+abbrev pub asks_again : List Try → Bool
+asks_again (Refused answer ∷ earlier) = has_a_try (Refused answer ∷ earlier)
+asks_again tries = false

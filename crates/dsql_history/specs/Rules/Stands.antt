@@ -7,9 +7,8 @@ use Rattle.dsql_history.specs.declared.event.Event.{Event}
 use Rattle.dsql_history.specs.declared.record.Stand.{Stand}
 use Rattle.dsql_history.specs.declared.record.Stand.TheVariants.{Waits, Opens, Sends, Replies, Asks}
 use Rattle.dsql_history.specs.Readers.Pool.{pool, smallest}
-use Rattle.dsql_history.specs.Readers.Tries.{tries, was_refused}
+use Rattle.dsql_history.specs.Readers.Tries.{tries, asks_again}
 use Rattle.dsql_history.specs.Readers.Calls.{site, decided, told_by_others}
-use Rattle.dsql_history.specs.Rules.Asking.{may_ask}
 use Rattle.dsql_history.specs.Rules.Line.{due_for}
 
 abbrev pub stands : Bool → Stand → Option Stand
@@ -20,10 +19,6 @@ abbrev pub opens : Option ℕ → Option Stand
 opens None = None
 opens (Some c) = Some (Opens c)
 
--- a connection that was to be opened for the call was bad, and it may ask again
-abbrev pub asks_again : List Event → ℕ → Bool
-asks_again before n = was_refused (tries before n) && may_ask before n
-
 -- Where call n is: it waits, or a connection is being opened for it, or a driver call of it is due, or others have settled what it replies, or it asks again after a refusal. It is nowhere where it has to ask else, or has settled its reply itself: that comes in the same step.
 abbrev pub stand : List Event → ℕ → Option Stand
 stand before n =
@@ -31,7 +26,7 @@ stand before n =
     (or_else (opens (smallest (is_for n) (pool before)))
     (or_else (stands (is_some (due_for before n)) (Sends (site before n)))
     (or_else (stands (is_none (decided before n) && is_some (told_by_others before n)) Replies)
-    (stands (asks_again before n) Asks))))
+    (stands (asks_again (tries before n)) Asks))))
 
 -- it waits
 abbrev pub is_waiting : Option Stand → Bool
