@@ -1,3 +1,4 @@
 pub mod CallRows
+pub mod KeptTries
 pub mod MovesMade
 pub mod Noted

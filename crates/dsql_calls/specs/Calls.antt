@@ -1,5 +1,5 @@
 -- What is kept of each call, against what the history tells.
-use Rattle.std.specs.Prelude.{ℕ, ◌≡◌, true, List, [], ◌∷◌, map, slice_set, slice_index_or, Option, Some, None}
+use Rattle.std.specs.Prelude.{ℕ, ◌≡◌, true, List, map, slice_set, slice_index_or, Option, Some, None}
 use Rattle.dsql_work.specs.declared.work.Work.{Work}
 use Rattle.dsql_work.specs.declared.work.Work.TheVariants.{Fetch, Close, Look}
 use Rattle.dsql_history.specs.declared.event.Event.{Event}
@@ -11,10 +11,11 @@ use Rattle.dsql_history.specs.Readers.Tries.{tries}
 use Rattle.dsql_history.specs.Readers.Unfinished.{is_unfinished}
 use Rattle.dsql_history.specs.Readers.Works as kinds
 use Rattle.dsql_calls.specs.declared.call.CallRow.{CallRow}
+use Rattle.dsql_calls.specs.Tried.{untried, kept, one_more}
 
 -- there is no call 0
 abbrev pub nobody : CallRow
-nobody = record { call = told.nobody; work = Look; tried = None; ender = 0 }
+nobody = record { call = told.nobody; work = Look; tried = untried; ender = 0 }
 
 -- what is kept of call n
 abbrev pub row_at : List CallRow → ℕ → CallRow
@@ -27,8 +28,9 @@ with_row n change rows = slice_set rows n (change (row_at rows n))
 abbrev pub with_call : (CallRecord → CallRecord) → CallRow → CallRow
 with_call change row = record row { call = change row.call }
 
-abbrev pub with_tried : Try → CallRow → CallRow
-with_tried it row = record row { tried = Some it }
+-- with one try more
+abbrev pub with_try : Try → CallRow → CallRow
+with_try it row = record row { tried = one_more it row.tried }
 
 abbrev pub with_ender : ℕ → CallRow → CallRow
 with_ender n row = record row { ender = n }
@@ -39,14 +41,9 @@ rows_worked (Fetch k) = Some k
 rows_worked (Close k) = Some k
 rows_worked _ = None
 
--- the newest try
-abbrev pub newest : List Try → Option Try
-newest [] = None
-newest (it ∷ earlier) = Some it
-
--- What is kept of the calls, by their numbers. A call's try counts as long as it has no reply.
+-- What is kept of the calls, by their numbers. A call's tries count as long as it has no reply.
 pub record KeepsCalls (past : List Event) (rows : List CallRow) : Type 0 where
   pub calls : map (λ row. row.call) rows ≡ told.calls past
   pub works : map (λ row. row.work) rows ≡ kinds.works past
-  pub tried : (n : ℕ) → is_unfinished past n ≡ true → (row_at rows n).tried ≡ newest (tries past n)
+  pub tried : (n : ℕ) → is_unfinished past n ≡ true → (row_at rows n).tried ≡ kept (tries past n)
   pub ender : (n : ℕ) → (row_at rows n).ender ≡ given.ender past n

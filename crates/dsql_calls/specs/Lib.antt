@@ -1,3 +1,4 @@
+pub mod Tried
 pub mod Calls
-pub mod Tries
 pub mod Settling
+pub mod Tries

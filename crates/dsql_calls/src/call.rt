@@ -1,4 +1,5 @@
-use dsql_history::{CallRecord, Reply, Try, Work};
+use crate::tried::Tried;
+use dsql_history::{CallRecord, Reply, Work};
 use dsql_value::{Params, Txt};
 
 /// What is kept of a call.
@@ -8,8 +9,8 @@ pub struct CallRow {
     pub call: CallRecord,
     /// What it has to do.
     pub work: Work,
-    /// Its newest try to get a connection, as long as it has no reply.
-    pub tried: Option<Try>,
+    /// Its tries to get a connection, as long as it has no reply.
+    pub tried: Tried,
     /// The call that ended the rows that it handed out; 0 for none, and for the end of the run.
     pub ender: u32,
 }

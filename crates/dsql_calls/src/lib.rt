@@ -7,8 +7,10 @@ pub mod replies;
 pub mod row;
 pub mod settling;
 pub mod standing;
+mod tried;
 pub mod tries;
 pub mod writes;
 
 pub use call::{CallRow, CallStart};
 pub use no_room::NoRoom;
+pub use tried::{MOST_TRIES, Tried};

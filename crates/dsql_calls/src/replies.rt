@@ -1,19 +1,31 @@
 //! What answers decide for the calls that wait for them.
 ghost use Rattle.std.specs.Prelude.{◌≡◌};
-ghost use Rattle.dsql_history.specs.Readers.Calls.{reply_to, done_reply, told_of};
+ghost use Rattle.dsql_history.specs.Readers.Calls.{bad_reply, reply_to, done_reply, told_of};
 ghost use Rattle.dsql_value.specs.Arguments.{count_fault};
 
+use crate::tried::MOST_TRIES;
 use dsql_driver::DriverAnswer;
 use dsql_history::Reply;
 
-/// The reply that a deciding answer gives.
-pub fn reply_of(answer: DriverAnswer) -> Option<Reply>
-    ensures { result ≡ reply_to answer }
+/// What a bad connection gives a call in the try of this number: nothing as long as it has another one.
+pub fn bad_reply(number: u32) -> Option<Reply>
+    ensures { result ≡ bad_reply number }
+{
+    if number < MOST_TRIES {
+        None
+    } else {
+        Some(Reply::BadConn(number))
+    }
+}
+
+/// The reply that a deciding answer gives in the try of this number.
+pub fn reply_of(number: u32, answer: DriverAnswer) -> Option<Reply>
+    ensures { result ≡ reply_to number answer }
 {
     match answer {
         DriverAnswer::Result { last, affected } => Some(Reply::Result { last, affected }),
         DriverAnswer::Fail(text) => Some(Reply::Driver(text)),
-        DriverAnswer::Bad => Some(Reply::BadConn(1)),
+        DriverAnswer::Bad => bad_reply(number),
         _ => None,
     }
 }
@@ -32,12 +44,13 @@ pub fn count_reply(inputs: i32, count: usize) -> Option<Reply>
     Some(Reply::NumArgs { want, got })
 }
 
-/// The reply of a call that asks for no more than this: a close of rows, and a ping.
-pub fn done_reply(answer: DriverAnswer) -> Option<Reply>
-    ensures { result ≡ done_reply answer }
+/// The reply of a call that asks for no more than this, a close of rows or a ping: there is no other try.
+pub fn done_reply(number: u32, answer: DriverAnswer) -> Option<Reply>
+    ensures { result ≡ done_reply number answer }
 {
     match answer {
         DriverAnswer::Done => Some(Reply::Ok),
-        other => reply_of(other),
+        DriverAnswer::Bad => Some(Reply::BadConn(number)),
+        other => reply_of(number, other),
     }
 }

@@ -1,14 +1,15 @@
 //! What is read off the row of a call.
-ghost use Rattle.std.specs.Prelude.{◌≡◌, ◌&&◌, not, is_none, is_some, length};
-ghost use Rattle.dsql_calls.specs.Calls.{row_at};
-ghost use Rattle.dsql_calls.specs.Calls.{rows_worked};
-ghost use Rattle.dsql_calls.specs.Settling.{told_served, told_trying};
+ghost use Rattle.std.specs.Prelude.{◌≡◌, is_some, length};
+ghost use Rattle.dsql_calls.specs.Calls.{row_at, rows_worked};
+ghost use Rattle.dsql_calls.specs.Settling.{told_last, told_served, told_trying};
+ghost use Rattle.dsql_calls.specs.Tried.{has_another, is_refused, next_is_last};
 ghost use Rattle.dsql_history.specs.Readers.Calls.{reply_to};
 ghost use Rattle.dsql_history.specs.Readers.Works.{is_fetch};
 ghost use Rattle.dsql_work.specs.Works.{asks};
 ghost use Rattle.dsql_work.specs.Line.{aim_of};
 
 use crate::call::CallRow;
+use crate::tried::{MOST_TRIES, Tried};
 use dsql_driver::DriverAnswer;
 use dsql_history::{Aim, DbEnd, Try, Work};
 
@@ -102,43 +103,52 @@ pub fn aim_of(rows: &Vec<CallRow>, call: u32) -> Aim
     }
 }
 
-/// It has had no try.
-pub fn is_untried(rows: &Vec<CallRow>, call: u32) -> bool
-    ensures { result ≡ is_none (row_at rows.now.items call).tried }
+/// It has another try.
+pub fn has_another_try(rows: &Vec<CallRow>, call: u32) -> bool
+    ensures { result ≡ has_another (row_at rows.now.items call).tried }
 {
     match rows.get(call as usize) {
-        Some(row) => row.tried.is_none(),
+        Some(row) => row.tried.has_another(),
         None => true,
     }
 }
 
-/// It asks for a connection, has had no try, and wants none yet.
-pub fn is_to_ask(rows: &Vec<CallRow>, call: u32, wants: bool) -> bool
-    ensures { result ≡ (asks (row_at rows.now.items call).work && (is_none (row_at rows.now.items call).tried && not wants)) }
+/// Its next try is the last.
+pub fn asks_last(rows: &Vec<CallRow>, call: u32) -> bool
+    ensures { result ≡ next_is_last (row_at rows.now.items call).tried }
 {
-    asks(rows, call) && is_untried(rows, call) && !wants
+    match rows.get(call as usize) {
+        Some(row) => row.tried.next_is_last(),
+        None => false,
+    }
 }
 
-/// Its newest try, or what closed the database where it had none, has settled what it replies.
+/// A connection that was to be opened for it fell to it in its newest try.
+pub fn was_refused(rows: &Vec<CallRow>, call: u32) -> bool
+    ensures { result ≡ is_refused (row_at rows.now.items call).tried.newest }
+{
+    match rows.get(call as usize) {
+        Some(row) => matches!(&row.tried.newest, Some(Try::Refused(_))),
+        None => false,
+    }
+}
+
+/// Its newest try, or what closed the database where it has another one, has settled what it replies.
 pub fn is_told_trying(rows: &Vec<CallRow>, call: u32, closed: Option<DbEnd>) -> bool
     ensures { result ≡ is_some (told_trying closed (row_at rows.now.items call).tried) }
 {
     match rows.get(call as usize) {
-        Some(row) => match &row.tried {
-            None => closed.is_some(),
-            Some(Try::Served) => false,
-            Some(Try::Refused(answer)) => is_told_by(answer),
-        },
-        None => closed.is_some(),
+        Some(row) if !row.tried.has_another() => is_told_by(&row.tried),
+        _ => closed.is_some(),
     }
 }
 
 /// That a connection was lent to it has settled what it replies.
 pub fn is_told_as_lent(rows: &Vec<CallRow>, call: u32, pinger: bool) -> bool
-    ensures { result ≡ is_some (told_served pinger (row_at rows.now.items call).work (row_at rows.now.items call).tried) }
+    ensures { result ≡ is_some (told_served pinger (row_at rows.now.items call).work (row_at rows.now.items call).tried.newest) }
 {
     match rows.get(call as usize) {
-        Some(row) => match (&row.work, &row.tried) {
+        Some(row) => match (&row.work, &row.tried.newest) {
             (Work::Ping, Some(Try::Served)) => !pinger,
             _ => false,
         },
@@ -146,12 +156,24 @@ pub fn is_told_as_lent(rows: &Vec<CallRow>, call: u32, pinger: bool) -> bool
     }
 }
 
-/// The answer gives a reply.
-fn is_told_by(answer: &DriverAnswer) -> bool
-    ensures { result ≡ is_some (reply_to answer.now) }
+/// The newest of these tries, which is the last one, gives a reply.
+fn is_told_by(tried: &Tried) -> bool
+    ensures { result ≡ is_some (told_last tried.now.count tried.now.newest) }
 {
-    matches!(
-        answer,
-        DriverAnswer::Result { .. } | DriverAnswer::Fail(_) | DriverAnswer::Bad
-    )
+    match &tried.newest {
+        Some(Try::Refused(answer)) => gives_reply(tried.count, answer),
+        Some(Try::Lost) => tried.count >= MOST_TRIES,
+        _ => false,
+    }
+}
+
+/// The answer gives a reply in the try of this number.
+fn gives_reply(number: u32, answer: &DriverAnswer) -> bool
+    ensures { result ≡ is_some (reply_to number answer.now) }
+{
+    match answer {
+        DriverAnswer::Result { .. } | DriverAnswer::Fail(_) => true,
+        DriverAnswer::Bad => number >= MOST_TRIES,
+        _ => false,
+    }
 }

@@ -1,13 +1,15 @@
 //! The replies that are settled.
 ghost use Rattle.std.specs.Prelude.{◌≡◌, Some, true, is_some, vec_len, vec_capacity};
 ghost use Rattle.dsql_calls.specs.Calls.{row_at, with_row};
-ghost use Rattle.dsql_calls.specs.Settling.{replied, settled_in, told_beside, told_served};
+ghost use Rattle.dsql_calls.specs.Settling.{replied, settled_in, told_beside, told_served, told_trying};
 ghost use Rattle.dsql_course.specs.Made.{or_else};
 ghost use Rattle.dsql_history.specs.Readers.Course.{or_end};
 
 use crate::call::CallRow;
-use crate::replies::reply_of;
+use crate::replies::{bad_reply, reply_of};
+use crate::tried::Tried;
 use dsql_history::{DbEnd, Reply, Try, Work};
+use std::mem::replace;
 
 /// What closed the database first, once this has closed it.
 pub fn first_end(closed_by: Option<DbEnd>, end: DbEnd) -> Option<DbEnd>
@@ -29,7 +31,7 @@ pub fn forget(calls: &mut Vec<CallRow>, call: u32)
     if call < calls.len() {
         let row = &mut calls[call];
         row.call.decided = None;
-        row.tried = None;
+        row.tried = Tried::new();
     }
 }
 
@@ -60,29 +62,37 @@ fn take_settled(row: &mut CallRow, closed_by: Option<DbEnd>, pinger: bool) -> Op
     ensures reply { result ≡ settled_in closed_by pinger row.old }
     ensures row { row.new ≡ replied row.old }
 {
-    let tried = row.tried.take();
+    let tried = replace(&mut row.tried, Tried::new());
     match row.call.decided.take() {
         Some(reply) => Some(reply),
         None => told_in_row(&row.work, tried, closed_by, pinger),
     }
 }
 
-/// What others have settled for a call with this work and this newest try, or that a connection was lent to it.
-fn told_in_row(
-    work: &Work,
-    tried: Option<Try>,
-    closed_by: Option<DbEnd>,
-    pinger: bool,
-) -> Option<Reply>
-    ensures { result ≡ or_else (told_beside closed_by work.now tried) (told_served pinger work.now tried) }
+/// What others have settled for a call with this work and these tries, or that a connection was lent to it.
+fn told_in_row(work: &Work, tried: Tried, closed_by: Option<DbEnd>, pinger: bool) -> Option<Reply>
+    ensures { result ≡ or_else (told_beside closed_by work.now tried) (told_served pinger work.now tried.newest) }
 {
-    match (work, tried) {
+    match (work, &tried.newest) {
         (Work::Fetch(_), _) => Some(Reply::Truth(false)),
         (Work::Close(_), _) => Some(Reply::Ok),
         (Work::Look, _) => None,
-        (_, None) => closed_by.map(Reply::DbClosed),
         (Work::Ping, Some(Try::Served)) if !pinger => Some(Reply::Ok),
-        (_, Some(Try::Served)) => None,
-        (_, Some(Try::Refused(answer))) => reply_of(answer),
+        _ => told_trying(tried, closed_by),
+    }
+}
+
+/// What a call with these tries is told that has no connection.
+fn told_trying(tried: Tried, closed_by: Option<DbEnd>) -> Option<Reply>
+    ensures { result ≡ told_trying closed_by tried }
+{
+    if tried.has_another() {
+        return closed_by.map(Reply::DbClosed);
+    }
+    let number = tried.count;
+    match tried.newest {
+        Some(Try::Refused(answer)) => reply_of(number, answer),
+        Some(Try::Lost) => bad_reply(number),
+        _ => None,
     }
 }

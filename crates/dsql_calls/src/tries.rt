@@ -1,6 +1,6 @@
 //! The tries of calls to get a connection.
 ghost use Rattle.std.specs.Prelude.{◌≡◌, vec_len, vec_capacity};
-ghost use Rattle.dsql_calls.specs.Calls.{with_row, with_tried};
+ghost use Rattle.dsql_calls.specs.Calls.{with_row, with_try};
 ghost use Rattle.dsql_calls.specs.Tries.{tried_by, tried_by_all};
 
 use crate::call::CallRow;
@@ -16,8 +16,8 @@ pub fn note_try(calls: &mut Vec<CallRow>, it: Move, answer: DriverAnswer)
     ensures capacity { vec_capacity calls.new ≡ vec_capacity calls.old }
 {
     match it {
-        Move::Lend { call, .. } => set_tried(calls, call, Try::Served),
-        Move::Fell { call, .. } => set_tried(calls, call, Try::Refused(answer)),
+        Move::Lend { call, .. } => add_try(calls, call, Try::Served),
+        Move::Fell { call, .. } => add_try(calls, call, Try::Refused(answer)),
         _ => {}
     }
 }
@@ -34,13 +34,13 @@ pub fn note_tries(calls: &mut Vec<CallRow>, moves: &[Move], answer: DriverAnswer
     }
 }
 
-fn set_tried(calls: &mut Vec<CallRow>, call: u32, it: Try)
-    ensures items { calls.new.items ≡ with_row call (with_tried it) calls.old.items }
+fn add_try(calls: &mut Vec<CallRow>, call: u32, it: Try)
+    ensures items { calls.new.items ≡ with_row call (with_try it) calls.old.items }
     ensures len { vec_len calls.new ≡ vec_len calls.old }
     ensures capacity { vec_capacity calls.new ≡ vec_capacity calls.old }
 {
     let call = call as usize;
     if call < calls.len() {
-        calls[call].tried = Some(it);
+        calls[call].tried.add(it);
     }
 }

@@ -1,0 +1,53 @@
+-- What is kept of the tries of a call tells what they tell.
+use Rattle.std.proofs.Common.{◌≡◌, ℕ, ◌+◌, ◌<◌, List, [], ◌∷◌, length, Some, refl, ap, arith}
+use Rattle.std.specs.Prelude.{min}
+use Rattle.dsql_history.specs.declared.event.Event.{Event}
+use Rattle.dsql_history.specs.declared.record.Try.{Try}
+use Rattle.dsql_history.specs.declared.record.Try.TheVariants.{Served, Lost, Refused}
+use Rattle.dsql_history.specs.Readers.Calls.{told_by_tries}
+use Rattle.dsql_history.specs.Readers.Course.{db_end}
+use Rattle.dsql_history.specs.Readers.Tries.{try_number, has_a_try, asks_last, was_refused, lost}
+use Rattle.dsql_calls.specs.declared.tried.Tried.{Tried}
+use Rattle.dsql_calls.specs.Settling.{told_trying}
+use Rattle.dsql_calls.specs.Tried.{kept, one_more, newest_lost, number, has_another, next_is_last, is_refused, most_counted}
+
+pub kept_number : (ts : List Try) → number (kept ts) ≡ try_number ts
+kept_number [] = refl
+kept_number (t ∷ ts) = refl
+
+pub kept_another : (ts : List Try) → has_another (kept ts) ≡ has_a_try ts
+kept_another [] = refl
+kept_another (t ∷ ts) = refl
+
+pub kept_last : (ts : List Try) → next_is_last (kept ts) ≡ asks_last ts
+kept_last [] = refl
+kept_last (t ∷ ts) = refl
+
+pub kept_refused : (ts : List Try) → is_refused (kept ts).newest ≡ was_refused ts
+kept_refused [] = refl
+kept_refused (Served ∷ ts) = refl
+kept_refused (Lost ∷ ts) = refl
+kept_refused (Refused answer ∷ ts) = refl
+
+pub kept_lost : (ts : List Try) → newest_lost (kept ts) ≡ kept (lost ts)
+kept_lost [] = refl
+kept_lost (Served ∷ ts) = refl
+kept_lost (Lost ∷ ts) = refl
+kept_lost (Refused answer ∷ ts) = refl
+
+counted : (ts : List Try) → (kept ts).count ≡ length ts
+counted [] = refl
+counted (t ∷ ts) = refl
+
+pub kept_more : (it : Try) (ts : List Try) → length ts < most_counted → one_more it (kept ts) ≡ kept (it ∷ ts)
+kept_more it ts few =
+    let same = counted ts in
+    let count : min ((kept ts).count + 1) most_counted ≡ length (it ∷ ts) = omega (arith, same, few) in
+    let of_count : ℕ → Tried = λ k. record { newest = Some it; count = k } in
+    ap of_count count
+
+pub kept_told : (H : List Event) (ts : List Try) → told_trying (db_end H) (kept ts) ≡ told_by_tries H ts
+kept_told H [] = refl
+kept_told H (Served ∷ ts) = refl
+kept_told H (Lost ∷ ts) = refl
+kept_told H (Refused answer ∷ ts) = refl
