@@ -8,7 +8,7 @@ use Rattle.dsql_history.specs.declared.event.Event.TheVariants.{Run, Entered, He
 use Rattle.dsql_history.specs.declared.event.Op.{Op}
 use Rattle.dsql_history.specs.declared.event.Control.{Control}
 use Rattle.dsql_history.specs.declared.record.Stand.{Stand}
-use Rattle.dsql_history.specs.declared.record.Stand.TheVariants.{Waits, Opens, Sends, Replies}
+use Rattle.dsql_history.specs.declared.record.Stand.TheVariants.{Waits, Opens, Sends, Replies, Asks}
 use Rattle.dsql_history.specs.Rules.Stands.{stand}
 use Rattle.dsql_follows.specs.declared.line.Line.{Line}
 use Rattle.dsql_follows.specs.declared.line.Line.TheVariants as lines
@@ -90,6 +90,7 @@ stops_waking n None = stops_both (λ xs. is_one_step xs) (λ xs. goes_on_by_itse
 stops_waking n (Some Waits) = stops_both (λ xs. is_one_step xs) (λ xs. goes_on_by_itself n (oldest xs)) stops_one
 stops_waking n (Some (Opens c)) = stops_both (λ xs. is_one_step xs) (λ xs. goes_on_by_itself n (oldest xs)) stops_one
 stops_waking n (Some Replies) = stops_both (λ xs. is_one_step xs) (λ xs. goes_on_by_itself n (oldest xs)) stops_one
+stops_waking n (Some Asks) = stops_both (λ xs. is_one_step xs) (λ xs. goes_on_by_itself n (oldest xs)) stops_one
 
 stops_of_call : (m : Moment) (n : ℕ) → Stops (λ xs. steps_call m xs n)
 stops_of_call m n =
