@@ -32,7 +32,7 @@ use Rattle.dsql_call_laws.proofs.Lists.{same_or_not}
 use Rattle.dsql_call_laws.proofs.Untried.{moves_of}
 use Rattle.dsql_lending_laws.proofs.Found.{place_in, changed_place, gone_at}
 use Rattle.dsql_lending_laws.proofs.Owners.{owner_is_call}
-use Rattle.dsql_other_laws.proofs.Answered.{fallen_replies}
+use Rattle.dsql_other_laws.proofs.Answered.{fallen_somewhere}
 use Rattle.dsql_other_laws.proofs.ControlMoves.{are_quiet, all_quiet}
 use Rattle.dsql_heard_laws.proofs.Answered.{lent_used}
 use Rattle.dsql_move_laws.proofs.Lends.{open_place, still_waits, all_used, somewhere_lent}
@@ -143,7 +143,7 @@ fell_carried H c n l =
         → Left H (Fell c n) j ⊎ (is_some (stand (Pool (Fell c n) ∷ H) j) ≡ true)
     by w is to j u due (inl same) =
         let some : n ≢ 0 = subst (λ i. i ≢ 0) same (unfinished_from_one H j l.0 u) in
-        inr (ap (λ i. is_some (stand (Pool (Fell c n) ∷ H) i)) same ∙ ap (λ s. is_some s) (fallen_replies H c n l some))
+        inr (ap (λ i. is_some (stand (Pool (Fell c n) ∷ H) i)) same ∙ fallen_somewhere H c n l some)
     by w is to j u due (inr apart) = inl (record {
       waits = still_waits j n (pool H).waiting apart;
       unopened = unopened_at H c j (Opening w) is (for_another w j to apart);

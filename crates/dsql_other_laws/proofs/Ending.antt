@@ -10,6 +10,7 @@ use Rattle.dsql_pool.specs.Moved.{shut}
 use Rattle.dsql_pool.specs.Places.{is_for}
 use Rattle.dsql_pool.specs.Pooled.{Pooled}
 use Rattle.dsql_pool.proofs.Placed.{Placed, placed_map}
+use Rattle.dsql_history.specs.Readers.Tries.{tries, asks_again}
 use Rattle.dsql_history.specs.declared.event.Event.{Event}
 use Rattle.dsql_history.specs.declared.event.Event.TheVariants.{Ended}
 use Rattle.dsql_history.specs.Readers.Calls.{site, decided, told_by_others}
@@ -42,7 +43,7 @@ told_of_end H l m h = by (m == 0) refl
     wanting : wants m (pool H) ≡ true
     wanting =
         ap (λ b. b || list_any (λ conn. is_for m conn.place) (pool H).conns)
-        (waits_only (waits m (pool H).waiting) (is_some (due_for H m)) (is_none (decided H m) && is_some (told_by_others H m)) (smallest (is_for m) (pool H)) (site H m) h)
+        (waits_only (waits m (pool H).waiting) (is_some (due_for H m)) (is_none (decided H m) && is_some (told_by_others H m)) (asks_again (tries H m)) (smallest (is_for m) (pool H)) (site H m) h)
 
     by : (b : Bool) → (m == 0) ≡ b → (b || is_some (stand (Ended ∷ H) m)) ≡ true
     by true is = refl

@@ -28,10 +28,10 @@ use Rattle.dsql_history.specs.Readers.Course.{caps, db_end}
 use Rattle.dsql_history.specs.Readers.Journals.{heard_in}
 use Rattle.dsql_history.specs.Readers.HandedOut.{handed_out, live, over}
 use Rattle.dsql_history.specs.Readers.Pool.{pool, place, home, is_home, or_none, smallest}
-use Rattle.dsql_history.specs.Readers.Tries.{tries}
+use Rattle.dsql_history.specs.Readers.Tries.{tries, try_number, has_a_try, asks_again}
 use Rattle.dsql_history.specs.Readers.Unfinished.{unfinished}
 use Rattle.dsql_history.specs.Readers.Works.{work}
-use Rattle.dsql_history.specs.Readers.Calls.{calls, call_record, site, decided, told_by_tries, told_of_work, told_by_others}
+use Rattle.dsql_history.specs.Readers.Calls.{calls, call_record, site, decided, told_by_tries, told_of_work, told_by_others, last_told}
 use Rattle.dsql_history.specs.Rules.Line.{asked_by, line_at, line_of, due_for}
 use Rattle.dsql_history.specs.Rules.Settled.{uses_what_is_lent, goes_on_but}
 use Rattle.dsql_history.specs.Rules.Stands.{stands, opens, stand}
@@ -127,9 +127,7 @@ used_entered H client n op l plain =
 -- where each other call stands
 
 pub tries_alike : (H K : List Event) (ts : List Try) → db_end K ≡ db_end H → told_by_tries K ts ≡ told_by_tries H ts
-tries_alike H K [] same = ap (option_map DbClosed) same
-tries_alike H K (Served ∷ earlier) same = refl
-tries_alike H K (Refused a ∷ earlier) same = refl
+tries_alike H K ts same = ap (λ end. cond (has_a_try ts) (option_map DbClosed end) (last_told (try_number ts) ts)) same
 
 work_alike : (H : List Event) (client n : ℕ) (op : Op) (m : ℕ) (it : Work) → Leaves H (Entered client n op ∷ H) → told_of_work (Entered client n op ∷ H) m it ≡ told_of_work H m it
 work_alike H client n op m (Fetch k) same = ap (λ R. cond (over (rows_of k R)) (Some (Truth false)) None) same.rows
@@ -140,10 +138,10 @@ work_alike H client n op m (ReadOne dests) same = tries_alike H (Entered client 
 work_alike H client n op m (HandOut label) same = tries_alike H (Entered client n op ∷ H) (tries H m) same.end
 work_alike H client n op m Ping same = tries_alike H (Entered client n op ∷ H) (tries H m) same.end
 
-abbrev standing : Pooled → ℕ → Option DriverCall → ℕ → Option Reply → Option Reply → Option Stand
-standing p m due there own others =
+abbrev standing : Pooled → ℕ → Option DriverCall → ℕ → Option Reply → Option Reply → Bool → Option Stand
+standing p m due there own others again =
     or_else (stands (waits m p.waiting) stands_at.Waits)
-    (or_else (opens (smallest (is_for m) p)) (or_else (stands (is_some due) (stands_at.Sends there)) (stands (is_none own && is_some others) stands_at.Replies)))
+    (or_else (opens (smallest (is_for m) p)) (or_else (stands (is_some due) (stands_at.Sends there)) (or_else (stands (is_none own && is_some others) stands_at.Replies) (stands again stands_at.Asks))))
 
 wherever : (w : Bool) (o : Option ℕ) (d : Option DriverCall) (a b : ℕ) (r : Option Stand) → is_some (or_else (stands w stands_at.Waits) (or_else (opens o) (or_else (stands (is_some d) (stands_at.Sends a)) r)))
     ≡ is_some (or_else (stands w stands_at.Waits) (or_else (opens o) (or_else (stands (is_some d) (stands_at.Sends b)) r)))
@@ -159,11 +157,11 @@ stand_entered H client n op m l plain apart =
     let new = enters_next H client n op l.1 in
     let p = pool H in
     let told : told_by_others K m ≡ told_by_others H m = work_alike H client n op m (work K m) k ∙ ap (told_of_work H m) (old_work H client n op m new apart) in
-    ap (λ q. is_some (standing q m (due_for K m) (site K m) (decided K m) (told_by_others K m))) k.pool
-    ∙ (ap (λ d. is_some (standing p m d (site K m) (decided K m) (told_by_others K m))) (due_entered H client n op m l plain apart)
-    ∙ (ap (λ r. is_some (standing p m (due_for H m) (site K m) r.decided (told_by_others K m))) (old_record H client n op m new apart)
-    ∙ (ap (λ o. is_some (standing p m (due_for H m) (site K m) (decided H m) o)) told
-    ∙ wherever (waits m p.waiting) (smallest (is_for m) p) (due_for H m) (site K m) (site H m) (stands (is_none (decided H m) && is_some (told_by_others H m)) stands_at.Replies))))
+    ap (λ q. is_some (standing q m (due_for K m) (site K m) (decided K m) (told_by_others K m) (asks_again (tries H m)))) k.pool
+    ∙ (ap (λ d. is_some (standing p m d (site K m) (decided K m) (told_by_others K m) (asks_again (tries H m)))) (due_entered H client n op m l plain apart)
+    ∙ (ap (λ r. is_some (standing p m (due_for H m) (site K m) r.decided (told_by_others K m) (asks_again (tries H m)))) (old_record H client n op m new apart)
+    ∙ (ap (λ o. is_some (standing p m (due_for H m) (site K m) (decided H m) o (asks_again (tries H m)))) told
+    ∙ wherever (waits m p.waiting) (smallest (is_for m) p) (due_for H m) (site K m) (site H m) (or_else (stands (is_none (decided H m) && is_some (told_by_others H m)) stands_at.Replies) (stands (asks_again (tries H m)) stands_at.Asks)))))
 
 pub goes_on_entered : (H : List Event) (client n : ℕ) (op : Op) → Lawful (Entered client n op ∷ H) → is_plain op ≡ true → goes_on_but n H ≡ true → goes_on_but n (Entered client n op ∷ H) ≡ true
 goes_on_entered H client n op l plain h =

@@ -19,6 +19,7 @@ use Rattle.dsql_pool.specs.Changes.{opening}
 use Rattle.dsql_pool.specs.Places.{conn_of, is_for}
 use Rattle.dsql_pool.specs.Pooled.{Pooled, next_number}
 use Rattle.dsql_work.specs.Line.{line_after}
+use Rattle.dsql_history.specs.Readers.Tries.{tries, asks_again}
 use Rattle.dsql_history.specs.declared.event.Event.{Event}
 use Rattle.dsql_history.specs.declared.event.Event.TheVariants.{Pool}
 use Rattle.dsql_history.specs.declared.record.Stand.{Stand}
@@ -196,7 +197,7 @@ still_somewhere false None None rest more h = h
 still_somewhere false (Some c) None rest more h = let clash : false ≡ true = more refl in absurd cc
 
 abbrev pub otherwise : List Event → ℕ → Option DriverCall → Option Stand
-otherwise H m due = or_else (stands (is_some due) (stands_at.Sends (site H m))) (stands (is_none (decided H m) && is_some (told_by_others H m)) stands_at.Replies)
+otherwise H m due = or_else (stands (is_some due) (stands_at.Sends (site H m))) (or_else (stands (is_none (decided H m) && is_some (told_by_others H m)) stands_at.Replies) (stands (asks_again (tries H m)) stands_at.Asks))
 
 site_opens : (H : List Event) (c k m : ℕ) (d : Option DriverCall) → is_some (otherwise (opens_for H c k) m d) ≡ is_some (otherwise H m d)
 site_opens H c k m None = refl

@@ -9,6 +9,7 @@ use Rattle.dsql_wait.specs.declared.request.Request.{Request}
 use Rattle.dsql_wait.specs.Requests.{waits}
 use Rattle.dsql_pool.specs.Places.{is_for}
 use Rattle.dsql_pool.specs.Pooled.{without}
+use Rattle.dsql_history.specs.Readers.Tries.{tries, asks_again}
 use Rattle.dsql_history.specs.declared.event.Event.{Event}
 use Rattle.dsql_history.specs.declared.event.Event.TheVariants.{Waits, Replied}
 use Rattle.dsql_history.specs.declared.event.Control.{Control}
@@ -88,24 +89,24 @@ used_control H (Set MaxIdleTime k) = lent_alike H (told (Set MaxIdleTime k) ∷ 
 
 -- where each call stands
 
-abbrev standing : Bool → Option ℕ → Option DriverCall → ℕ → Option Reply → Option Reply → Option Stand
-standing waiting opening due there own others =
+abbrev standing : Bool → Option ℕ → Option DriverCall → ℕ → Option Reply → Option Reply → Bool → Option Stand
+standing waiting opening due there own others again =
     or_else (stands waiting stands_at.Waits)
-    (or_else (opens opening) (or_else (stands (is_some due) (stands_at.Sends there)) (stands (is_none own && is_some others) stands_at.Replies)))
+    (or_else (opens opening) (or_else (stands (is_some due) (stands_at.Sends there)) (or_else (stands (is_none own && is_some others) stands_at.Replies) (stands again stands_at.Asks))))
 
 stand_replied : (H : List Event) (n : ℕ) (reply : Reply) (m : ℕ) → m ≢ n → stand (Replied n reply ∷ H) m ≡ stand H m
 stand_replied H n reply m apart =
     let w = waits m (pool H).waiting in
     let o = smallest (is_for m) (pool H) in
-    ap (λ d. standing w o d (site H m) (decided (Replied n reply ∷ H) m) (told_by_others H m)) (due_replied H n reply m apart)
-    ∙ ap (λ x. standing w o (due_for H m) (site H m) x (told_by_others H m)) (ap (λ r. r.decided) (other_replied H n reply m apart))
+    ap (λ d. standing w o d (site H m) (decided (Replied n reply ∷ H) m) (told_by_others H m) (asks_again (tries H m))) (due_replied H n reply m apart)
+    ∙ ap (λ x. standing w o (due_for H m) (site H m) x (told_by_others H m) (asks_again (tries H m))) (ap (λ r. r.decided) (other_replied H n reply m apart))
 
 pub stand_control : (H : List Event) (control : Control) (m : ℕ) → stand (told control ∷ H) m ≡ stand H m
-stand_control H (Tick k) m = ap (λ d. standing (waits m (pool H).waiting) (smallest (is_for m) (pool H)) d (site H m) (decided H m) (told_by_others H m)) (due_control H (Tick k) m)
-stand_control H (Set MaxOpen k) m = ap (λ d. standing (waits m (pool H).waiting) (smallest (is_for m) (pool H)) d (site H m) (decided H m) (told_by_others H m)) (due_control H (Set MaxOpen k) m)
-stand_control H (Set MaxIdle k) m = ap (λ d. standing (waits m (pool H).waiting) (smallest (is_for m) (pool H)) d (site H m) (decided H m) (told_by_others H m)) (due_control H (Set MaxIdle k) m)
-stand_control H (Set MaxLife k) m = ap (λ d. standing (waits m (pool H).waiting) (smallest (is_for m) (pool H)) d (site H m) (decided H m) (told_by_others H m)) (due_control H (Set MaxLife k) m)
-stand_control H (Set MaxIdleTime k) m = ap (λ d. standing (waits m (pool H).waiting) (smallest (is_for m) (pool H)) d (site H m) (decided H m) (told_by_others H m)) (due_control H (Set MaxIdleTime k) m)
+stand_control H (Tick k) m = ap (λ d. standing (waits m (pool H).waiting) (smallest (is_for m) (pool H)) d (site H m) (decided H m) (told_by_others H m) (asks_again (tries H m))) (due_control H (Tick k) m)
+stand_control H (Set MaxOpen k) m = ap (λ d. standing (waits m (pool H).waiting) (smallest (is_for m) (pool H)) d (site H m) (decided H m) (told_by_others H m) (asks_again (tries H m))) (due_control H (Set MaxOpen k) m)
+stand_control H (Set MaxIdle k) m = ap (λ d. standing (waits m (pool H).waiting) (smallest (is_for m) (pool H)) d (site H m) (decided H m) (told_by_others H m) (asks_again (tries H m))) (due_control H (Set MaxIdle k) m)
+stand_control H (Set MaxLife k) m = ap (λ d. standing (waits m (pool H).waiting) (smallest (is_for m) (pool H)) d (site H m) (decided H m) (told_by_others H m) (asks_again (tries H m))) (due_control H (Set MaxLife k) m)
+stand_control H (Set MaxIdleTime k) m = ap (λ d. standing (waits m (pool H).waiting) (smallest (is_for m) (pool H)) d (site H m) (decided H m) (told_by_others H m) (asks_again (tries H m))) (due_control H (Set MaxIdleTime k) m)
 
 waits_more : (m : ℕ) (rs : List Request) (r : Request) → waits m rs ≡ true → waits m (rs ++ r ∷ []) ≡ true
 waits_more m [] r h = absurd cc
@@ -132,10 +133,10 @@ stand_waits : (H : List Event) (n m : ℕ) → is_some (stand H m) ≡ true → 
 stand_waits H n m h =
     let w = waits m ((pool H).waiting ++ request H n ∷ []) in
     let o = smallest (is_for m) (pool H) in
-    let same = ap (λ d. is_some (standing w o d (site H m) (decided H m) (told_by_others H m))) (due_waits H n m) in
+    let same = ap (λ d. is_some (standing w o d (site H m) (decided H m) (told_by_others H m) (asks_again (tries H m)))) (due_waits H n m) in
     same
     ∙ still_somewhere (waits m (pool H).waiting) w
-    (or_else (opens o) (or_else (stands (is_some (due_for H m)) (stands_at.Sends (site H m))) (stands (is_none (decided H m) && is_some (told_by_others H m)) stands_at.Replies)))
+    (or_else (opens o) (or_else (stands (is_some (due_for H m)) (stands_at.Sends (site H m))) (or_else (stands (is_none (decided H m) && is_some (told_by_others H m)) stands_at.Replies) (stands (asks_again (tries H m)) stands_at.Asks))))
     (waits_more m (pool H).waiting (request H n)) h
 
 itself_waits : (H : List Event) (n : ℕ) → is_some (stand (Waits n ∷ H) n) ≡ true
@@ -143,7 +144,7 @@ itself_waits H n = by (waits n ((pool H).waiting ++ request H n ∷ [])) (waits_
   where
     by : (b : Bool) → b ≡ true
         → is_some (or_else (stands b stands_at.Waits) (or_else (opens (smallest (is_for n) (pool H))) (or_else (stands (is_some (due_for (Waits n ∷ H) n)) (stands_at.Sends (site H n)))
-        (stands (is_none (decided H n) && is_some (told_by_others H n)) stands_at.Replies)))) ≡ true
+        (or_else (stands (is_none (decided H n) && is_some (told_by_others H n)) stands_at.Replies) (stands (asks_again (tries H n)) stands_at.Asks))))) ≡ true
     by true h = refl
     by false h = absurd cc
 

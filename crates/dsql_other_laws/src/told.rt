@@ -1,6 +1,6 @@
 //! Who is told something without having sent anything. A history is read newest first.
 
-ghost use Rattle.std.specs.Prelude.{◌≡◌, ◌≢◌, ◌∷◌, ℕ, true, List, Some};
+ghost use Rattle.std.specs.Prelude.{◌≡◌, ◌≢◌, ◌∷◌, ℕ, true, is_some, List, Some};
 ghost use Rattle.dsql_pool.specs.declared.moves.Move.TheVariants.{Fell};
 ghost use Rattle.dsql_pool.specs.Calls.{wants};
 ghost use Rattle.dsql_history.specs.declared.event.Event.{Event};
@@ -14,10 +14,10 @@ ghost use Rattle.dsql_history.specs.Rules.Stands.{stand};
 ghost use Rattle.dsql_history.specs.Legal.{Lawful};
 ghost use Rattle.dsql_laws.specs.OwedMade.{with_moves};
 
-/// To whom a refused connection falls stands where it replies. So does who wants a connection as a call closes the
-/// database, or as the run ends.
+/// To whom a refused connection falls is somewhere: it is told why, or asks again. Who wants a connection as a call closes the
+/// database, or as the run ends, stands where it replies.
 pub fn who_is_told_stands_where_it_replies()
-    ensures refused { (history : List Event) (c n : ℕ) → Lawful (Pool (Fell c n) ∷ history) → n ≢ 0 → stand (Pool (Fell c n) ∷ history) n ≡ Some Replies }
+    ensures refused { (history : List Event) (c n : ℕ) → Lawful (Pool (Fell c n) ∷ history) → n ≢ 0 → is_some (stand (Pool (Fell c n) ∷ history) n) ≡ true }
     ensures closed { (history : List Event) (client m n : ℕ) → Lawful (Entered client m DbClose ∷ history) → n ≢ 0 → wants n (pool history) ≡ true → stand (Entered client m DbClose ∷ history) n ≡ Some Replies }
     ensures ended { (history : List Event) (n : ℕ) → Lawful (Ended ∷ history) → n ≢ 0 → wants n (pool history) ≡ true → stand (Ended ∷ history) n ≡ Some Replies }
 {}
