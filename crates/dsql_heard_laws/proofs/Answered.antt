@@ -1,5 +1,5 @@
 -- An answer on a lent connection leaves each other call somewhere, and each other connection in use.
-use Rattle.std.proofs.Common.{◌≡◌, ◌≢◌, ℕ, ◌==◌, ◌⊎◌, inl, inr, Bool, true, false, ◌||◌, cond, List, [], ◌∷◌, Option, Some, None, is_some, refl, sym, ap, subst, ◌∙◌}
+use Rattle.std.proofs.Common.{◌≡◌, ◌≢◌, ℕ, ◌==◌, ◌⊎◌, inl, inr, Bool, true, false, ◌||◌, cond, List, [], ◌∷◌, Option, Some, None, is_some, refl, sym, ap, subst, ◌∙◌, ◌&&◌}
 use Rattle.std.specs.List.{list_all}
 use Rattle.std.specs.Option.{option_map}
 use Rattle.dsql_course.specs.declared.course.Wish.{Wish}
@@ -17,6 +17,7 @@ use Rattle.dsql_pool.specs.declared.conn.Place.TheVariants.{Idle, Lent, Opening,
 use Rattle.dsql_pool.specs.Places.{conn_of}
 use Rattle.dsql_pool.proofs.Rows.{found_passes}
 use Rattle.dsql_work.specs.Line.{line_after}
+use Rattle.dsql_history.specs.Readers.Tries.{tries, loses, lost}
 use Rattle.dsql_history.specs.declared.event.Event.{Event}
 use Rattle.dsql_history.specs.declared.event.Event.TheVariants.{Heard}
 use Rattle.dsql_history.specs.Readers.Course.{caps}
@@ -93,7 +94,7 @@ heard_left H e t k m l is u apart = record {
   unfinished = u;
   its_work = refl;
   decided = ap (λ r. r.decided) (other_heard H e m apart);
-  tried = refl;
+  tried = ap (λ b. cond (b && loses (work H m) e) (lost (tries H m)) (tries H m)) (other_number e.call_no m (λ same. apart (sym same)));
   end = refl;
   own = λ asking. line_beside H e t k m wishes.Nothing l is (λ same. apart (sym (not_own same)));
   closing = λ j w. line_beside H e t k j wishes.Close l is (λ same. apart (sym (closer_alone H e t k m l.0 may is (record { number = w.number; unfinished = w.unfinished; works = subst (λ i. WorksOn (work H m) i) same w.works; settled = w.settled; ended = ap (ender H) (sym same) ∙ w.ended }))));
@@ -118,7 +119,7 @@ goes_on_heard H e t k l is h = all_within (λ m. (m == 0) || is_some (stand H m)
         by true its = refl
         by false its =
             let left = heard_left H e t k m l is u (apart_of m e.call_no its) in
-            stays_somewhere H (Heard e ∷ H) m refl (settling_stays H (Heard e) m l left) some
+            stays_somewhere H (Heard e ∷ H) m refl left.tried (settling_stays H (Heard e) m l left) some
 
 -- what is lent is in use
 

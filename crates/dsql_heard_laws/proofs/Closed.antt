@@ -63,7 +63,7 @@ goes_on_closing H client n label l h =
         by true its = refl
         by false its =
             let left = closing_left H client n label m l u (apart_of m n its) in
-            stays_somewhere H (Entered client n (RowsClose label) ∷ H) m refl (settling_stays H (Entered client n (RowsClose label)) m l left) some
+            stays_somewhere H (Entered client n (RowsClose label) ∷ H) m refl left.tried (settling_stays H (Entered client n (RowsClose label)) m l left) some
 
 -- what is lent is in use as before
 

@@ -21,7 +21,7 @@ use Rattle.dsql_history.specs.Readers.Calls.{site, decided, told_by_tries, told_
 use Rattle.dsql_history.specs.Readers.Course.{db_end}
 use Rattle.dsql_history.specs.Readers.HandedOut.{rows_by, live, over, are_live, ended_at, ender}
 use Rattle.dsql_history.specs.Readers.Pool.{pool, smallest}
-use Rattle.dsql_history.specs.Readers.Tries.{tries}
+use Rattle.dsql_history.specs.Readers.Tries.{tries, asks_again}
 use Rattle.dsql_history.specs.Readers.Unfinished.{is_unfinished}
 use Rattle.dsql_history.specs.Readers.Works.{work, is_fetch}
 use Rattle.dsql_history.specs.Rules.Line.{line_of, wish_as, wish, sent_for, due_in, due_for}
@@ -42,32 +42,42 @@ use Rattle.dsql_heard_laws.proofs.Closers.{HasEnded}
 abbrev pub is_settling : List Event → ℕ → Bool
 is_settling H m = is_some (due_for H m) || (is_none (decided H m) && is_some (told_by_others H m))
 
-abbrev standing : Pooled → ℕ → Bool → ℕ → Bool → Option Stand
-standing p m due there replies =
-    or_else (stands (waits m p.waiting) stands_at.Waits) (or_else (opens (smallest (is_for m) p)) (or_else (stands due (stands_at.Sends there)) (stands replies stands_at.Replies)))
+abbrev standing : Pooled → ℕ → Bool → ℕ → Bool → Bool → Option Stand
+standing p m due there replies again =
+    or_else (stands (waits m p.waiting) stands_at.Waits) (or_else (opens (smallest (is_for m) p)) (or_else (stands due (stands_at.Sends there)) (or_else (stands replies stands_at.Replies) (stands again stands_at.Asks))))
 
-pub somewhere : (w : Bool) (o : Option ℕ) (d r : Bool) (c : ℕ) → is_some (or_else (stands w stands_at.Waits) (or_else (opens o) (or_else (stands d (stands_at.Sends c)) (stands r stands_at.Replies))))
-    ≡ (w || (is_some o || (d || r)))
-somewhere true o d r c = refl
-somewhere false (Some k) d r c = refl
-somewhere false None true r c = refl
-somewhere false None false true c = refl
-somewhere false None false false c = refl
+pub somewhere : (w : Bool) (o : Option ℕ) (d r a : Bool) (c : ℕ)
+    → is_some (or_else (stands w stands_at.Waits) (or_else (opens o) (or_else (stands d (stands_at.Sends c)) (or_else (stands r stands_at.Replies) (stands a stands_at.Asks))))) ≡ (w || (is_some o || ((d || r) || a)))
+somewhere true o d r a c = refl
+somewhere false (Some k) d r a c = refl
+somewhere false None true r a c = refl
+somewhere false None false true a c = refl
+somewhere false None false false true c = refl
+somewhere false None false false false c = refl
 
 carried : (a b c d : Bool) → (c ≡ true → d ≡ true) → (a || (b || c)) ≡ true → (a || (b || d)) ≡ true
 carried true b c d more h = refl
 carried false true c d more h = refl
 carried false false c d more h = more h
 
-pub stays_somewhere : (H K : List Event) (m : ℕ) → pool K ≡ pool H → (is_settling H m ≡ true → is_settling K m ≡ true) → is_some (stand H m) ≡ true → is_some (stand K m) ≡ true
-stays_somewhere H K m same more h =
+-- who asks again does so wherever its tries stay
+either_stays : (c d a : Bool) → (c ≡ true → d ≡ true) → (c || a) ≡ true → (d || a) ≡ true
+either_stays c true a more h = refl
+either_stays true false a more h = let clash : false ≡ true = more refl in absurd cc
+either_stays false false a more h = h
+
+pub stays_somewhere : (H K : List Event) (m : ℕ) → pool K ≡ pool H → tries K m ≡ tries H m → (is_settling H m ≡ true → is_settling K m ≡ true) → is_some (stand H m) ≡ true → is_some (stand K m) ≡ true
+stays_somewhere H K m same tried more h =
     let w = waits m (pool H).waiting in
     let o = smallest (is_for m) (pool H) in
+    let a = asks_again (tries H m) in
     let replied = is_none (decided H m) && is_some (told_by_others H m) in
     let replies = is_none (decided K m) && is_some (told_by_others K m) in
-    ap (λ p. is_some (standing p m (is_some (due_for K m)) (site K m) replies)) same
-    ∙ (somewhere w o (is_some (due_for K m)) replies (site K m)
-    ∙ carried w (is_some o) (is_settling H m) (is_settling K m) more (sym (somewhere w o (is_some (due_for H m)) replied (site H m)) ∙ h))
+    ap (λ p. is_some (standing p m (is_some (due_for K m)) (site K m) replies (asks_again (tries K m)))) same
+    ∙ (ap (λ ts. is_some (standing (pool H) m (is_some (due_for K m)) (site K m) replies (asks_again ts))) tried
+    ∙ (somewhere w o (is_some (due_for K m)) replies a (site K m)
+    ∙ carried w (is_some o) (is_settling H m || a) (is_settling K m || a) (either_stays (is_settling H m) (is_settling K m) a more)
+    (sym (somewhere w o (is_some (due_for H m)) replied a (site H m)) ∙ h)))
 
 -- by what it has to do
 

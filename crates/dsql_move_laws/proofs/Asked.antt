@@ -22,17 +22,18 @@ use Rattle.dsql_history.specs.declared.reply.DbEnd.{DbEnd}
 use Rattle.dsql_history.specs.declared.reply.DbEnd.TheVariants as ends
 use Rattle.dsql_history.specs.declared.reply.Reply.{Reply}
 use Rattle.dsql_history.specs.declared.reply.Reply.TheVariants.{DbClosed}
-use Rattle.dsql_history.specs.Readers.Calls.{decided, told_at_lending, told_by_others, told_by_tries, reply_due}
+use Rattle.dsql_history.specs.Readers.Calls.{decided, told_at_lending, told_by_others, told_by_tries, reply_due, last_told}
 use Rattle.dsql_history.specs.Readers.Course.{db_end, or_end}
 use Rattle.dsql_history.specs.Readers.Owed.{owed}
 use Rattle.dsql_history.specs.Readers.Pool.{pool, request, with_control}
-use Rattle.dsql_history.specs.Readers.Tries.{tries, has_a_try}
+use Rattle.dsql_history.specs.Readers.Tries.{tries, has_a_try, try_number}
 use Rattle.dsql_history.specs.Readers.Unfinished.{is_unfinished}
 use Rattle.dsql_history.specs.Readers.Works.{work}
 use Rattle.dsql_history.specs.Rules.Asking.{may_ask, ask_outcome, is_too_many}
 use Rattle.dsql_history.specs.Rules.Settled.{uses_what_is_lent, goes_on, goes_on_but}
 use Rattle.dsql_history.specs.Legal.{Lawful}
 use Rattle.dsql_laws.specs.Asked.{with_asked}
+use Rattle.dsql_laws.proofs.Asker.{asker}
 use Rattle.dsql_laws.proofs.AskedAllowed.{asked_lawful}
 use Rattle.dsql_laws.proofs.Tests.{both}
 use Rattle.dsql_call_laws.proofs.Nowhere.{others_settled, told_own}
@@ -82,25 +83,22 @@ closed_end (Ended ∷ H) h = ended_by_now (db_end H) ends.EndOfRun
 -- who asks a closed database is told so, and so doesn't ask
 
 some_told : (H : List Event) (ts : List Try) → has_a_try ts ≡ true → is_some (db_end H) ≡ true → is_some (told_by_tries H ts) ≡ true
-some_told H [] try some = by (db_end H) some
+some_told H ts left some = ap (λ b. is_some (cond b (option_map DbClosed (db_end H)) (last_told (try_number ts) ts))) left ∙ by (db_end H) some
   where
     by : (o : Option DbEnd) → is_some o ≡ true → is_some (option_map DbClosed o) ≡ true
     by None h = absurd cc
     by (Some end) h = refl
-some_told H (t ∷ ts) try some = absurd cc
 
 pub asks_an_open_one : (H : List Event) (n : ℕ) → may_ask H n ≡ true → (pool H).closed ≡ true → ⊥
 asks_an_open_one H n may closed =
-    let a = both (is_unfinished H n) (asks (work H n) && (has_a_try (tries H n) && (not (wants n (pool H)) && is_none (reply_due H n)))) may in
-    let b = both (asks (work H n)) (has_a_try (tries H n) && (not (wants n (pool H)) && is_none (reply_due H n))) a.1 in
-    let c = both (has_a_try (tries H n)) (not (wants n (pool H)) && is_none (reply_due H n)) b.1 in
-    let d = both (not (wants n (pool H))) (is_none (reply_due H n)) c.1 in
-    let told : is_some (told_by_others H n) ≡ true = ap (λ o. is_some o) (told_own H n (work H n) b.0) ∙ some_told H (tries H n) c.0 (closed_end H closed) in
-    neither (reply_due H n) (others_settled (decided H n) (told_by_others H n) (told_at_lending H n) told) d.1
+    let it = asker H n may in
+    let told : is_some (told_by_others H n) ≡ true = ap (λ o. is_some o) (told_own H n (work H n) it.own) ∙ some_told H (tries H n) it.try_left (closed_end H closed) in
+    let settled = others_settled (decided H n) (told_by_others H n) (told_at_lending H n) told in
+    let none : is_some (reply_due H n) ≡ false = ap (λ o. is_some o) it.unsettled in
+    never (is_some (reply_due H n)) settled none
   where
-    neither : (o : Option Reply) → is_some o ≡ true → is_none o ≡ true → ⊥
-    neither None h k = cc
-    neither (Some r) h k = cc
+    never : (b : Bool) → b ≡ true → b ≡ false → ⊥
+    never b x y = cc
 
 pub closed_only : (closed takes many may : Bool) (it : Asked) (c : ℕ) → (it ≡ asked.Closed → ⊥) → cond closed (Ok asked.Closed) (cond takes (Ok it) (cond many (Err TooMany) (cond may (Ok (asked.Opening c)) (Ok asked.Queued)))) ≡ Ok asked.Closed → closed ≡ true
 closed_only true takes many may it c other is = refl

@@ -1,5 +1,5 @@
 -- An answer of the layer's own, with the moves that it makes due, carries all that is settled.
-use Rattle.std.proofs.Common.{◌≡◌, ℕ, ◌⊎◌, inl, inr, Bool, true, false, cond, List, [], ◌∷◌, Option, Some, None, refl, sym, ap, ◌∙◌}
+use Rattle.std.proofs.Common.{◌≡◌, ℕ, ◌⊎◌, inl, inr, Bool, true, false, cond, List, [], ◌∷◌, Option, Some, None, refl, sym, ap, ◌∙◌, ◌&&◌}
 use Rattle.dsql_driver.specs.declared.answer.DriverAnswer.{DriverAnswer}
 use Rattle.dsql_driver.specs.Fits.{is_done}
 use Rattle.dsql_course.specs.declared.course.Wish.{Wish}
@@ -20,6 +20,7 @@ use Rattle.dsql_pool.specs.Moved.{made}
 use Rattle.dsql_pool.specs.Places.{is_lent}
 use Rattle.dsql_pool.specs.Pooled.{Pooled, next_number, next_tenure, place_at}
 use Rattle.dsql_work.specs.Line.{line_after}
+use Rattle.dsql_history.specs.Readers.Tries.{tries, loses, lost}
 use Rattle.dsql_history.specs.declared.event.Event.{Event}
 use Rattle.dsql_history.specs.declared.event.Event.TheVariants.{Heard, Pool}
 use Rattle.dsql_history.specs.Readers.Course.{caps}
@@ -75,7 +76,7 @@ same_rows H e j l off = of_rows H e j (rows_by (Heard e ∷ H) j ≡ rows_by H j
 heard_carried : (H : List Event) (e : Entry) → Lawful (Heard e ∷ H) → IsUnlent H e.conn → Carried H (Heard e ∷ H)
 heard_carried H e l off = record {
   used = λ h. lent_alike H (Heard e ∷ H) refl (λ n. used_alike H (Heard e ∷ H) n (same_rows H e n l off) (λ k w. line_elsewhere H e k w l off)) ∙ h;
-  somewhere = λ k h. goes_on_each H (Heard e ∷ H) k refl (λ j u so. stays_somewhere H (Heard e ∷ H) j refl (settling_stays H (Heard e) j l (left j u)) so) h;
+  somewhere = λ k h. goes_on_each H (Heard e ∷ H) k refl (λ j u so. stays_somewhere H (Heard e ∷ H) j refl (left j u).tried (settling_stays H (Heard e) j l (left j u)) so) h;
 }
   where
     left : (j : ℕ) → is_unfinished H j ≡ true → Left H (Heard e) j
@@ -85,7 +86,7 @@ heard_carried H e l off = record {
       unfinished = u;
       its_work = refl;
       decided = ap (λ r. r.decided) (other_heard H e j (λ same. let some = unfinished_from_one H j l.0 u in some (same ∙ by_the_layer H e l off)));
-      tried = refl;
+      tried = ap (λ b. cond (b && loses (work H j) e) (lost (tries H j)) (tries H j)) (other_number e.call_no j (λ same. let some = unfinished_from_one H j l.0 u in some (sym same ∙ by_the_layer H e l off)));
       end = refl;
       own = λ asking. line_elsewhere H e j wishes.Nothing l off;
       closing = λ k w. line_elsewhere H e k wishes.Close l off;

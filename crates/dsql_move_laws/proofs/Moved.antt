@@ -29,7 +29,7 @@ use Rattle.dsql_history.specs.Readers.Course.{caps}
 use Rattle.dsql_history.specs.Readers.HandedOut.{rows_by, are_live}
 use Rattle.dsql_history.specs.Readers.Journals.{heard_in}
 use Rattle.dsql_history.specs.Readers.Pool.{pool, place, home, smallest, wanted_by}
-use Rattle.dsql_history.specs.Readers.Tries.{tries}
+use Rattle.dsql_history.specs.Readers.Tries.{tries, asks_again}
 use Rattle.dsql_history.specs.Readers.Unfinished.{unfinished, is_unfinished}
 use Rattle.dsql_history.specs.Readers.Works.{work, is_fetch}
 use Rattle.dsql_history.specs.Rules.Line.{is_reset_due, asked_by, line_at, line_of, wish_as, wish, sent_for, due_in, due_for, rest_with, is_used}
@@ -195,9 +195,9 @@ each_of true b c false false f p q r h = let clash : false ≡ true = p refl in 
 each_of false true c false false f p q r h = let clash : false ≡ true = q refl in absurd cc
 each_of false false c false false f p q r h = r h
 
-pub stands_somewhere : (H : List Event) (j : ℕ) → is_some (stand H j) ≡ (waits j (pool H).waiting || (is_some (smallest (is_for j) (pool H)) || is_settling H j))
+pub stands_somewhere : (H : List Event) (j : ℕ) → is_some (stand H j) ≡ (waits j (pool H).waiting || (is_some (smallest (is_for j) (pool H)) || (is_settling H j || asks_again (tries H j))))
 stands_somewhere H j =
-    somewhere (waits j (pool H).waiting) (smallest (is_for j) (pool H)) (is_some (due_for H j)) (is_none (decided H j) && is_some (told_by_others H j)) (site H j)
+    somewhere (waits j (pool H).waiting) (smallest (is_for j) (pool H)) (is_some (due_for H j)) (is_none (decided H j) && is_some (told_by_others H j)) (asks_again (tries H j)) (site H j)
 
 told_same : (H : List Event) (m : Move) (j : ℕ) → tries (Pool m ∷ H) j ≡ tries H j → told_by_others (Pool m ∷ H) j ≡ told_by_others H j
 told_same H m j same = by (work H j)
@@ -250,8 +250,8 @@ stays_somewhere H m j a s h =
     ap (λ d. is_some d || (is_none (decided H j) && is_some (told_by_others K j))) s.due ∙ ap (λ o. is_some (due_for H j) || (is_none (decided H j) && is_some o)) (told_same H m j s.tried)
     in
     stands_somewhere K j
-    ∙ each_of (waits j (pool H).waiting) (is_some (smallest (is_for j) (pool H))) (is_settling H j) (waits j (pool K).waiting) (is_some (smallest (is_for j) (pool K))) (is_settling K j) s.waits
-    (opening_stays H m j a s.unopened) (λ k. settling ∙ k) (sym (stands_somewhere H j) ∙ h)
+    ∙ each_of (waits j (pool H).waiting) (is_some (smallest (is_for j) (pool H))) (is_settling H j || asks_again (tries H j)) (waits j (pool K).waiting) (is_some (smallest (is_for j) (pool K))) (is_settling K j || asks_again (tries K j)) s.waits
+    (opening_stays H m j a s.unopened) (λ k. ap (λ b. b || asks_again (tries K j)) settling ∙ ap (λ ts. is_settling H j || asks_again ts) s.tried ∙ k) (sym (stands_somewhere H j) ∙ h)
 
 -- who was somewhere is so after it, where each unfinished call is that was
 pub goes_on_each : (H K : List Event) (k : ℕ) → unfinished K ≡ unfinished H → ((j : ℕ) → is_unfinished H j ≡ true → is_some (stand H j) ≡ true → is_some (stand K j) ≡ true) → goes_on_but k H ≡ true
