@@ -6,10 +6,11 @@ use Rattle.dsql_history.specs.declared.record.Try.{Try}
 use Rattle.dsql_history.specs.declared.record.Try.TheVariants.{Served, Lost, Refused}
 use Rattle.dsql_history.specs.Readers.Calls.{told_by_tries}
 use Rattle.dsql_history.specs.Readers.Course.{db_end}
-use Rattle.dsql_history.specs.Readers.Tries.{try_number, has_a_try, asks_last, was_refused, lost}
+use Rattle.dsql_history.specs.Readers.Tries.{try_number, has_a_try, asks_last, asks_again, lost}
 use Rattle.dsql_calls.specs.declared.tried.Tried.{Tried}
 use Rattle.dsql_calls.specs.Settling.{told_trying}
-use Rattle.dsql_calls.specs.Tried.{kept, one_more, newest_lost, number, has_another, next_is_last, is_refused, most_counted}
+use Rattle.dsql_calls.specs.Tried as of_row
+use Rattle.dsql_calls.specs.Tried.{kept, one_more, newest_lost, number, has_another, next_is_last, most_counted}
 
 pub kept_number : (ts : List Try) → number (kept ts) ≡ try_number ts
 kept_number [] = refl
@@ -23,11 +24,11 @@ pub kept_last : (ts : List Try) → next_is_last (kept ts) ≡ asks_last ts
 kept_last [] = refl
 kept_last (t ∷ ts) = refl
 
-pub kept_refused : (ts : List Try) → is_refused (kept ts).newest ≡ was_refused ts
-kept_refused [] = refl
-kept_refused (Served ∷ ts) = refl
-kept_refused (Lost ∷ ts) = refl
-kept_refused (Refused answer ∷ ts) = refl
+pub kept_again : (ts : List Try) → of_row.asks_again (kept ts) ≡ asks_again ts
+kept_again [] = refl
+kept_again (Served ∷ ts) = refl
+kept_again (Lost ∷ ts) = refl
+kept_again (Refused answer ∷ ts) = refl
 
 pub kept_lost : (ts : List Try) → newest_lost (kept ts) ≡ kept (lost ts)
 kept_lost [] = refl

@@ -49,12 +49,11 @@ has_another tried = leaves_another tried.count tried.newest
 abbrev pub next_is_last : Tried → Bool
 next_is_last tried = tried.count + 1 == most_tries
 
--- the newest try was served, and isn't lost
-abbrev pub is_served : Option Try → Bool
-is_served (Some Served) = true
-is_served newest = false
-
 -- the newest try was refused
 abbrev pub is_refused : Option Try → Bool
 is_refused (Some (Refused answer)) = true
 is_refused newest = false
+
+-- a connection that was to be opened was bad, and another try is left
+abbrev pub asks_again : Tried → Bool
+asks_again tried = is_refused tried.newest && has_another tried

@@ -2,7 +2,7 @@
 ghost use Rattle.std.specs.Prelude.{◌≡◌, is_some, length};
 ghost use Rattle.dsql_calls.specs.Calls.{row_at, rows_worked};
 ghost use Rattle.dsql_calls.specs.Settling.{told_last, told_served, told_trying};
-ghost use Rattle.dsql_calls.specs.Tried.{has_another, is_refused, next_is_last};
+ghost use Rattle.dsql_calls.specs.Tried.{asks_again, has_another, next_is_last};
 ghost use Rattle.dsql_history.specs.Readers.Calls.{reply_to};
 ghost use Rattle.dsql_history.specs.Readers.Works.{is_fetch};
 ghost use Rattle.dsql_work.specs.Works.{asks};
@@ -123,12 +123,12 @@ pub fn asks_last(rows: &Vec<CallRow>, call: u32) -> bool
     }
 }
 
-/// A connection that was to be opened for it fell to it in its newest try.
-pub fn was_refused(rows: &Vec<CallRow>, call: u32) -> bool
-    ensures { result ≡ is_refused (row_at rows.now.items call).tried.newest }
+/// A connection that was to be opened for it was bad, and it has another try.
+pub fn asks_again(rows: &Vec<CallRow>, call: u32) -> bool
+    ensures { result ≡ asks_again (row_at rows.now.items call).tried }
 {
     match rows.get(call as usize) {
-        Some(row) => matches!(&row.tried.newest, Some(Try::Refused(_))),
+        Some(row) => row.tried.asks_again(),
         None => false,
     }
 }

@@ -1,6 +1,6 @@
 //! The tries of one call.
 ghost use Rattle.std.specs.Prelude.{◌≡◌};
-ghost use Rattle.dsql_calls.specs.Tried.{has_another, newest_lost, next_is_last, number, one_more, untried};
+ghost use Rattle.dsql_calls.specs.Tried.{asks_again, has_another, newest_lost, next_is_last, number, one_more, untried};
 ghost use Rattle.dsql_history.specs.Readers.Tries.{is_over};
 
 use dsql_driver::DriverAnswer;
@@ -54,6 +54,13 @@ impl Tried {
         ensures { result ≡ next_is_last self.now }
     {
         self.count == MOST_TRIES - 1
+    }
+
+    /// Whether the newest one was refused, and another one is left.
+    pub fn asks_again(&self) -> bool
+        ensures { result ≡ asks_again self.now }
+    {
+        matches!(&self.newest, Some(Try::Refused(_))) && self.has_another()
     }
 
     /// One more is made.
