@@ -61,7 +61,7 @@ carried false true c d more h = refl
 carried false false c d more h = more h
 
 -- who asks again does so wherever its tries stay
-either_stays : (c d a : Bool) → (c ≡ true → d ≡ true) → (c || a) ≡ true → (d || a) ≡ true
+pub either_stays : (c d a : Bool) → (c ≡ true → d ≡ true) → (c || a) ≡ true → (d || a) ≡ true
 either_stays c true a more h = refl
 either_stays true false a more h = let clash : false ≡ true = more refl in absurd cc
 either_stays false false a more h = h

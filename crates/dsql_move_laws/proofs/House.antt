@@ -20,6 +20,7 @@ use Rattle.dsql_pool.specs.Moved.{made}
 use Rattle.dsql_pool.specs.Places.{is_lent}
 use Rattle.dsql_pool.specs.Pooled.{Pooled, next_number, next_tenure, place_at}
 use Rattle.dsql_work.specs.Line.{line_after}
+use Rattle.dsql_history.specs.Readers.Works.{work}
 use Rattle.dsql_history.specs.Readers.Tries.{tries, loses, lost}
 use Rattle.dsql_history.specs.declared.event.Event.{Event}
 use Rattle.dsql_history.specs.declared.event.Event.TheVariants.{Heard, Pool}
@@ -32,6 +33,7 @@ use Rattle.dsql_history.specs.Readers.Unfinished.{is_unfinished}
 use Rattle.dsql_history.specs.Rules.Line.{is_reset_due, asked_by, line_of}
 use Rattle.dsql_history.specs.Legal.{Lawful}
 use Rattle.dsql_laws.specs.OwedMade.{with_moves}
+use Rattle.dsql_laws.proofs.Tests.{other_number}
 use Rattle.dsql_laws.proofs.Numbered.{unfinished_from_one}
 use Rattle.dsql_laws.proofs.OwedAllowed.{next_allowed, all_lawful}
 use Rattle.dsql_call_laws.proofs.Works.{other_heard}

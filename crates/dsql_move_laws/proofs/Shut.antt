@@ -30,13 +30,13 @@ use Rattle.dsql_history.specs.declared.record.Try.TheVariants.{Served, Refused}
 use Rattle.dsql_history.specs.declared.reply.DbEnd.{DbEnd}
 use Rattle.dsql_history.specs.declared.reply.DbEnd.TheVariants as ends
 use Rattle.dsql_history.specs.declared.reply.Reply.TheVariants.{DbClosed}
-use Rattle.dsql_history.specs.Readers.Calls.{decided, next_call, told_by_tries, told_of_work, told_by_others}
+use Rattle.dsql_history.specs.Readers.Calls.{decided, next_call, told_by_tries, told_of_work, told_by_others, last_told}
 use Rattle.dsql_history.specs.Readers.Course.{caps, db_end, or_end}
 use Rattle.dsql_history.specs.Readers.HandedOut.{handed_out, rows_by, live}
 use Rattle.dsql_history.specs.Readers.Journals.{heard_in}
 use Rattle.dsql_history.specs.Readers.Owed.{owed}
 use Rattle.dsql_history.specs.Readers.Pool.{pool, place, smallest}
-use Rattle.dsql_history.specs.Readers.Tries.{tries}
+use Rattle.dsql_history.specs.Readers.Tries.{tries, try_number, has_a_try, asks_again}
 use Rattle.dsql_history.specs.Readers.Unfinished.{unfinished, is_unfinished}
 use Rattle.dsql_history.specs.Readers.Works.{work}
 use Rattle.dsql_history.specs.Rules.Line.{is_reset_due, asked_by, line_of, due_for, rest_with, is_used}
@@ -64,7 +64,7 @@ use Rattle.dsql_other_laws.proofs.Untouched.{apart_of}
 use Rattle.dsql_heard_laws.proofs.Alone.{either}
 use Rattle.dsql_heard_laws.proofs.Answered.{lent_used}
 use Rattle.dsql_heard_laws.proofs.Rows.{live_line}
-use Rattle.dsql_heard_laws.proofs.Settling.{is_settling, all_within}
+use Rattle.dsql_heard_laws.proofs.Settling.{is_settling, either_stays, all_within}
 use Rattle.dsql_move_laws.proofs.Asked.{ended_by_now}
 use Rattle.dsql_move_laws.proofs.Carried.{quiet_carried}
 use Rattle.dsql_move_laws.proofs.Moved.{LentTo, lent_or_silent, stands_somewhere}
@@ -184,9 +184,11 @@ told_still H client n j it h = by it h
     K = Entered client n DbClose ∷ H
 
     tried : (ts : List Try) → is_some (told_by_tries H ts) ≡ true → is_some (told_by_tries K ts) ≡ true
-    tried [] k = some_close (or_end (db_end H) ends.Close) (ended_by_now (db_end H) ends.Close)
-    tried (Served ∷ ts) k = k
-    tried (Refused a ∷ ts) k = k
+    tried ts k = by_try (has_a_try ts) k
+      where
+        by_try : (b : Bool) → is_some (cond b (option_map DbClosed (db_end H)) (last_told (try_number ts) ts)) ≡ true → is_some (cond b (option_map DbClosed (db_end K)) (last_told (try_number ts) ts)) ≡ true
+        by_try true j = some_close (or_end (db_end H) ends.Close) (ended_by_now (db_end H) ends.Close)
+        by_try false j = j
 
     by : (v : Work) → is_some (told_of_work H j v) ≡ true → is_some (told_of_work K j v) ≡ true
     by Execute k = tried (tries H j) k
@@ -237,12 +239,13 @@ close_stands H client n j l some apart h = by (wants j (pool H)) refl
     by true is = ap (λ s. is_some s) (shut_out_replies H client n j l some is)
     by false is =
         let none = neither (waits j (pool H).waiting) (list_any (λ conn. is_for j conn.place) (pool H).conns) is in
-        let settling : is_settling H j ≡ true =
-        sym (stands_somewhere H j ∙ (ap (λ b. b || (is_some (smallest (is_for j) (pool H)) || is_settling H j)) none.0 ∙ ap (λ o. is_some o || is_settling H j) (none_opens j (pool H) none.1))) ∙ h
+        let again = asks_again (tries H j) in
+        let settling : (is_settling H j || again) ≡ true =
+        sym (stands_somewhere H j ∙ (ap (λ b. b || (is_some (smallest (is_for j) (pool H)) || (is_settling H j || again))) none.0 ∙ ap (λ o. is_some o || (is_settling H j || again)) (none_opens j (pool H) none.1))) ∙ h
         in
         stands_somewhere K j
-        ∙ or_second (waits j (pool K).waiting) (is_some (smallest (is_for j) (pool K)) || is_settling K j)
-        (or_second (is_some (smallest (is_for j) (pool K))) (is_settling K j) (settling_still H client n j l apart settling))
+        ∙ or_second (waits j (pool K).waiting) (is_some (smallest (is_for j) (pool K)) || (is_settling K j || again))
+        (or_second (is_some (smallest (is_for j) (pool K))) (is_settling K j || again) (either_stays (is_settling H j) (is_settling K j) again (settling_still H client n j l apart) settling))
 
 close_goes_on : (H : List Event) (client n : ℕ) → Lawful (Entered client n DbClose ∷ H) → goes_on H ≡ true → goes_on_but n (Entered client n DbClose ∷ H) ≡ true
 close_goes_on H client n l h =
