@@ -1,9 +1,7 @@
 //! Scripts over a driver that answers as a report tells, which give this very report.
 
 mod execs;
-mod held;
 mod open_rows;
-mod prepared_execs;
 mod prepared_rows;
 mod single_rows;
 
@@ -12,13 +10,11 @@ use dsql_value::Memory;
 use std::alloc::Global;
 use std::test::Fail;
 
-const ALL: [&[(&str, &str)]; 6] = [
+const ALL: [&[(&str, &str)]; 4] = [
     execs::REPORTS,
-    prepared_execs::REPORTS,
     single_rows::REPORTS,
     prepared_rows::REPORTS,
     open_rows::REPORTS,
-    held::REPORTS,
 ];
 
 /// Whether a script gives this report.
