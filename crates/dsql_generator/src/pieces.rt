@@ -1,6 +1,6 @@
 //! A generated script is written to a sink, piece by piece.
-ghost use Rattle.std.specs.Prelude.{◌≡◌, ◌≤◌, ◌++◌, OnOk, OnErr};
-ghost use Rattle.dsql_stream.specs.Faults.{CountsFaults};
+ghost use Rattle.std.specs.Prelude.{◌≡◌, ◌≤◌, ◌++◌, OnOk, OnErr, true};
+ghost use Rattle.dsql_stream.specs.Faults.{CountsFaults, GivenUp};
 ghost use Rattle.dsql_show.specs.Report.{ShowsFront, with_text};
 ghost use Rattle.dsql_generator.specs.Script.{generated};
 ghost use Rattle.dsql_generator.specs.Faults.{is_sink_fault};
@@ -61,6 +61,7 @@ pub fn generate<K: Sink>(alloc: Global, lines: u32, output: &mut K) -> Result<()
     ensures ok { OnOk result (K.written output.new ≡ with_text (K.written output.old) (generated lines)) }
     ensures front { OnErr result (ShowsFront (K.written output.old) (generated lines) (K.written output.new)) }
     ensures faults { CountsFaults (is_sink_fault result) (K.faults output.old) (K.faults output.new) }
+    ensures given_up { is_sink_fault result ≡ true → GivenUp K.Sink output.old output.new }
 {
     let mut piece = Vec::new(alloc);
     let mut written = 0;

@@ -1,6 +1,6 @@
-ghost use Rattle.std.specs.Prelude.{◌≡◌, ◌<◌, ◌≤◌, ℕ, List, [], Option, OnOk, OnErr, length, reverse};
+ghost use Rattle.std.specs.Prelude.{◌≡◌, ◌<◌, ◌≤◌, ℕ, List, [], Option, OnOk, OnErr, length, reverse, true};
 ghost use Rattle.dsql_report.specs.Lines.{text_of};
-ghost use Rattle.dsql_stream.specs.Faults.{CountsFaults};
+ghost use Rattle.dsql_stream.specs.Faults.{CountsFaults, GivenUp};
 ghost use Rattle.dsql_show.specs.Report.{Shows, StopsBetween, is_sink_fault, oldest, with_text};
 ghost use Rattle.dsql_show.specs.declared.showing.ShowFault.TheVariants as faults;
 
@@ -88,6 +88,7 @@ fn show_events<K: Sink>(
     ensures ok { OnOk result (K.written output.new ≡ with_text (K.written output.old) (text_of (reverse events.now))) }
     ensures err { OnErr result (StopsBetween (K.written output.old) [] (text_of (reverse events.now)) (K.written output.new)) }
     ensures faults { CountsFaults (is_sink_fault result) (K.faults output.old) (K.faults output.new) }
+    ensures given_up { is_sink_fault result ≡ true → GivenUp K.Sink output.old output.new }
 {
     spell(alloc, events, lines)?;
     write_whole(output, lines.as_slice())?;
@@ -107,6 +108,7 @@ pub fn show<K: Sink>(
     ensures shows { OnOk result ((w : Option (List ℕ)) → Shows w shown.old (reverse history.now) (K.written output.old) → K.written output.new ≡ with_text w (text_of (reverse history.now))) }
     ensures stops { OnErr result ((w : Option (List ℕ)) → Shows w shown.old (reverse history.now) (K.written output.old) → StopsBetween w (text_of (oldest shown.old (reverse history.now))) (text_of (reverse history.now)) (K.written output.new)) }
     ensures faults { CountsFaults (is_sink_fault result) (K.faults output.old) (K.faults output.new) }
+    ensures given_up { is_sink_fault result ≡ true → GivenUp K.Sink output.old output.new }
 {
     show_events(alloc, &history[shown.count..], &mut shown.lines, output)?;
     shown.count = history.len();

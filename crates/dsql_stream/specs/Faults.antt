@@ -1,5 +1,6 @@
--- How often a stream failed.
+-- How often a stream failed, and that nothing comes after a fault.
 use Rattle.std.specs.Prelude.{◌≡◌, ℕ, ◌≤◌, Bool, true, false}
+use Rattle.dsql_driver.specs.declared.stream.Sink.{Ghosts}
 use Rattle.dsql_driver.specs.Streams.{HasRisen}
 
 -- a stream's count of faults, by whether a fault of it stopped what was done
@@ -7,3 +8,9 @@ pub record CountsFaults (faulty : Bool) (before after : ℕ) : Type 0 where
   pub caused : faulty ≡ true → HasRisen before after
   pub counted : before ≤ after
   pub faultless : faulty ≡ false → after ≡ before
+
+-- A sink that failed was given up: it holds what it held as it last stood without a fault.
+pub record GivenUp {K : Type 0} (sink : Ghosts K) (before after : K) : Type 0 where
+  pub last : K
+  pub well : sink.faults last ≡ sink.faults before
+  pub kept : sink.written after ≡ sink.written last

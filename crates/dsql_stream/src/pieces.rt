@@ -1,5 +1,6 @@
-ghost use Rattle.std.specs.Prelude.{◌≡◌, ◌<◌, ◌≤◌, ◌++◌, [], OnOk, IfErr, length, take, option_map};
+ghost use Rattle.std.specs.Prelude.{◌≡◌, ◌<◌, ◌≤◌, ◌++◌, [], OnOk, OnErr, IfErr, length, take, option_map};
 ghost use Rattle.dsql_driver.specs.Streams.{HasRisen};
+ghost use Rattle.dsql_stream.specs.Faults.{GivenUp};
 
 use dsql_driver::{Failed, Sink};
 use thiserror::Error;
@@ -22,6 +23,7 @@ pub fn write_whole<K: Sink>(sink: &mut K, piece: &[u8]) -> Result<(), Cut>
     ensures cut { IfErr result (λ cut. cut.written < length piece.now) }
     ensures front { IfErr result (λ cut. K.written sink.new ≡ option_map (λ w. w ++ take cut.written piece.now) (K.written sink.old)) }
     ensures caused { IfErr result (λ _. HasRisen (K.faults sink.old) (K.faults sink.new)) }
+    ensures given_up { OnErr result (GivenUp K.Sink sink.old sink.new) }
 
     ensures counted { K.faults sink.old ≤ K.faults sink.new }
     ensures faultless { OnOk result (K.faults sink.new ≡ K.faults sink.old) }
