@@ -8,7 +8,7 @@ use crate::call::Due;
 use crate::course::Course;
 
 /// A step of a course.
-#[derive(Clone, Copy)]
+#[derive(Clone, Copy, PartialEq, Eq)]
 pub(crate) enum Step {
     RunText,
     PrepareText,

@@ -8,10 +8,12 @@ use dsql_desk::{Desk, NoRoom};
 use dsql_flights::Flights;
 use dsql_hearing::{Hearing, ready_for};
 use dsql_journal::Entry;
+use dsql_pool::MOST_OPEN;
 use std::alloc::Global;
 
-/// How many events a step appends at most.
-const EVENTS_OF_A_STEP: u32 = 2_005;
+/// How many events a step appends at most: as many moves as openings and closings may become due at once, and five more, as
+/// for its first event and its reply.
+const EVENTS_OF_A_STEP: u32 = 2 * MOST_OPEN + 5;
 
 /// Takes the memory for the events of a step, and for a driver call that begins in it.
 pub fn pay(desk: &mut Desk, flights: &mut Flights) -> Result<(), NoRoom>

@@ -6,7 +6,7 @@ use Rattle.dsql_history.specs.declared.event.Event.{Event}
 use Rattle.dsql_history.specs.declared.record.Flight.{Flight}
 use Rattle.dsql_history.specs.Readers.Unfinished.{is_unfinished}
 use Rattle.dsql_history.specs.Rules.Settled.{Settled}
-use Rattle.dsql_call_laws.specs.Bounds.{most_moves}
+use Rattle.dsql_call_laws.specs.Bounds.{most_moves, most_given_back}
 use Rattle.dsql_flights.specs.UnderWay.{UnderWay}
 use Rattle.dsql_going.specs.declared.next.Next.{Next}
 use Rattle.dsql_going.specs.declared.next.Next.TheVariants.{Quiet}
@@ -16,9 +16,13 @@ use Rattle.dsql_going.specs.Reaching.{HasGoneOn}
 abbrev pub are_of_unfinished : List Event → List Flight → Bool
 are_of_unfinished past flights = list_all (λ flight. is_unfinished past flight.call) flights
 
+-- a call that goes on by itself makes a request and what comes of it, or replies
+abbrev pub most_going_on : ℕ
+most_going_on = 2
+
 -- a step appends no more than its first event, the moves that it makes due, those of a connection that is given back, and what a call that goes on adds
 abbrev pub events_of_a_step : ℕ
-events_of_a_step = most_moves + 5
+events_of_a_step = most_moves + (1 + most_given_back + most_going_on)
 
 -- a step may begin
 pub record MayStep (past : List Event) (flights : UnderWay) : Type 0 where

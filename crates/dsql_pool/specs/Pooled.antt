@@ -1,6 +1,7 @@
 -- The pool as one value, and what is read off it.
 use Rattle.std.specs.Prelude.{ℕ, Bool, false, not, ◌==◌, ◌&&◌, nat_le, cond, ◌+◌, ◌-◌, List, [], Option, length, filter, count_by}
 use Rattle.dsql_time.specs.declared.Limits.{Limits}
+use Rattle.dsql_time.specs.Limits.{standard_max_idle}
 use Rattle.dsql_wait.specs.declared.request.Request.{Request}
 use Rattle.dsql_pool.specs.declared.conn.Place.{Place}
 use Rattle.dsql_pool.specs.declared.conn.Conn.{Conn}
@@ -35,9 +36,9 @@ pub record Table : Type 0 where
   pub spare : ℕ
   pub capacity : ℕ
 
--- two idle connections are kept, and nothing else is limited
+-- a few idle connections are kept, and nothing else is limited
 abbrev pub standard : Limits
-standard = record { max_open = 0; max_idle = 2; lifetime = 0; idle_time = 0 }
+standard = record { max_open = 0; max_idle = standard_max_idle; lifetime = 0; idle_time = 0 }
 
 -- a pool in which nothing has happened
 abbrev pub fresh : Pooled

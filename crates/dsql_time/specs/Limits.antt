@@ -1,5 +1,6 @@
 -- The numbers that bound a pool, and when a connection has outlived one of them.
 use Rattle.std.specs.Prelude.{ℕ, ℤ, pos, negsuc, ◌+◌, min, Bool, ◌&&◌, nat_lt, ◌==◌, if◌then◌else◌}
+use Rattle.dsql_time.specs.declared.TheConstants.{STANDARD_MAX_IDLE}
 
 -- a number of connections or a duration as it was set; nothing at or below zero counts
 abbrev pub positive_part : ℤ → ℕ
@@ -8,6 +9,10 @@ positive_part (negsuc n) = 0
 
 abbrev pub largest_count : ℕ
 largest_count = 4294967295
+
+-- how many idle connections are kept where no other number was set
+abbrev pub standard_max_idle : ℕ
+standard_max_idle = STANDARD_MAX_IDLE
 
 -- how many connections the number n stands for
 abbrev pub count_limit : ℤ → ℕ

@@ -4,7 +4,7 @@
 #![tactic(auto)]
 
 ghost use Rattle.std.specs.Prelude.{◌≡◌};
-ghost use Rattle.dsql_time.specs.Limits.{count_limit, duration_limit, has_expired, has_idled_out, idle_limit};
+ghost use Rattle.dsql_time.specs.Limits.{count_limit, duration_limit, has_expired, has_idled_out, idle_limit, standard_max_idle};
 
 pub mod laws;
 
@@ -21,18 +21,22 @@ pub struct Limits {
     pub idle_time: u64,
 }
 
+/// How many idle connections are kept where no other number was set. After the default that Go's documentation gives at
+/// `DB.SetMaxIdleConns`.
+pub const STANDARD_MAX_IDLE: u32 = 2;
+
 /// The limits of a pool on which nothing was set: two idle connections are kept, and nothing else is
 /// limited. After the defaults that Go's documentation gives at `DB.SetMaxIdleConns` and
 /// `DB.SetMaxOpenConns`.
 pub fn standard() -> Limits
     ensures open { result.max_open ≡ 0 }
-    ensures idle { result.max_idle ≡ 2 }
+    ensures idle { result.max_idle ≡ standard_max_idle }
     ensures lifetime { result.lifetime ≡ 0 }
     ensures idle_time { result.idle_time ≡ 0 }
 {
     Limits {
         max_open: 0,
-        max_idle: 2,
+        max_idle: STANDARD_MAX_IDLE,
         lifetime: 0,
         idle_time: 0,
     }
