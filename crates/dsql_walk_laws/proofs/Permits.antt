@@ -4,7 +4,7 @@ use Rattle.std.specs.List.{list_any}
 use Rattle.std.proofs.lemmas.List.Folds.{list_any-append}
 use Rattle.dsql_history.specs.declared.record.Flight.{Flight}
 use Rattle.dsql_history.specs.declared.record.Stand.{Stand}
-use Rattle.dsql_history.specs.declared.record.Stand.TheVariants.{Waits, Opens, Sends, Replies}
+use Rattle.dsql_history.specs.declared.record.Stand.TheVariants.{Waits, Opens, Sends, Replies, Asks}
 use Rattle.dsql_history.specs.Readers.Unfinished.{is_unfinished}
 use Rattle.dsql_history.specs.Rules.Flights.{is_in_flight, has_flight, is_blocked, permitted, with_flight}
 use Rattle.dsql_history.specs.Rules.Stands.{stand}
@@ -35,6 +35,7 @@ permitted_grows n (Some (Sends c)) flights = grown_by n c flights (is_in_flight 
 permitted_grows n (Some Waits) flights = grown_none flights
 permitted_grows n (Some (Opens c)) flights = grown_none flights
 permitted_grows n (Some Replies) flights = grown_none flights
+permitted_grows n (Some Asks) flights = grown_none flights
 permitted_grows n None flights = grown_none flights
 
 -- A call whose permit is in flight, or can't be, gets no other.
@@ -83,6 +84,7 @@ permitted_twice n (Some (Sends c)) flights = rw (full_then n c flights) refl
 permitted_twice n (Some Waits) flights = refl
 permitted_twice n (Some (Opens c)) flights = refl
 permitted_twice n (Some Replies) flights = refl
+permitted_twice n (Some Asks) flights = refl
 permitted_twice n None flights = refl
 
 rest_stays : (n : ℕ) (at : Option Stand) (before after : List Flight) → Grown before after → permitted n at before ≡ before → permitted n at after ≡ after
@@ -90,6 +92,7 @@ rest_stays n (Some (Sends c)) before after g same = rw (full_stays n c before af
 rest_stays n (Some Waits) before after g same = refl
 rest_stays n (Some (Opens c)) before after g same = refl
 rest_stays n (Some Replies) before after g same = refl
+rest_stays n (Some Asks) before after g same = refl
 rest_stays n None before after g same = refl
 
 pub blocked_stays : (n : ℕ) (at : Option Stand) (before after : List Flight) → Grown before after → is_blocked before n at ≡ true → is_blocked after n at ≡ true
@@ -97,6 +100,7 @@ blocked_stays n (Some (Sends c)) before after g h = any_stays (λ flight. (fligh
 blocked_stays n (Some Waits) before after g h = refl
 blocked_stays n (Some (Opens c)) before after g h = refl
 blocked_stays n (Some Replies) before after g h = h
+blocked_stays n (Some Asks) before after g h = h
 blocked_stays n None before after g h = h
 
 -- A call is in flight, has its reply, or is blocked, and stays so where more are in flight and as many blocked.
