@@ -15,20 +15,20 @@ use dsql_journal::Owner;
 use dsql_pool::{AskFault, Asked, Fate, Place, Pool};
 use dsql_wait::Request;
 
-/// A call asks for a connection.
-pub fn ask(pool: &mut Pool, call: u32) -> Result<Asked, AskFault>
+/// A call asks for a connection, in its last try or in an earlier one.
+pub fn ask(pool: &mut Pool, call: u32, last: bool) -> Result<Asked, AskFault>
     requires room { 0 < pool.old.spare }
-    requires request { MayAsk (request_at call pool.old.pooled.moment) pool.old.pooled }
+    requires request { MayAsk (request_at last call pool.old.pooled.moment) pool.old.pooled }
     requires drawn { pool.old.pooled.drawn ≤ most_drawn }
-    ensures outcome { result ≡ ask_outcome (request_at call pool.old.pooled.moment) pool.old.pooled }
-    ensures pooled { pool.new.pooled ≡ asks (request_at call pool.old.pooled.moment) pool.old.pooled }
+    ensures outcome { result ≡ ask_outcome (request_at last call pool.old.pooled.moment) pool.old.pooled }
+    ensures pooled { pool.new.pooled ≡ asks (request_at last call pool.old.pooled.moment) pool.old.pooled }
     ensures spare { pool.old.spare ≤ pool.new.spare + 1 }
 {
     let asked = pool.moment();
     let request = Request {
         call,
         owner: Owner::Call(call),
-        last: false,
+        last,
         token: None,
         asked,
     };
