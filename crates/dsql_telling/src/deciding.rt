@@ -1,6 +1,7 @@
 //! What an answer to a Query or a Next decides for its call, and what it says of its connection.
 ghost use Rattle.std.specs.Prelude.{◌≡◌, ◌≢◌, Err, IfOk, OnOk};
 ghost use Rattle.dsql_calls.specs.Calls.{row_at};
+ghost use Rattle.dsql_calls.specs.Tried.{number};
 ghost use Rattle.dsql_telling.specs.Heard.{Decides};
 ghost use Rattle.dsql_history.specs.Readers.Calls.{fetch_decision, query_decision, told_row};
 ghost use Rattle.dsql_history.specs.Readers.Owed.{fate_when};
@@ -25,21 +26,26 @@ pub fn decided_by(
     rows: &Vec<CallRow>,
     entry: &Entry,
 ) -> Result<Option<Reply>, NoRoom>
-    ensures { IfOk result (λ reply. Decides (row_at rows.now.items entry.now.call_no).work entry.now entry.now.answer reply) }
+    ensures { IfOk result (λ reply. Decides (number (row_at rows.now.items entry.now.call_no).tried) (row_at rows.now.items entry.now.call_no).work entry.now entry.now.answer reply) }
 {
     match rows.get(entry.call_no as usize) {
-        Some(row) => decided_in(alloc, &row.work, entry),
-        None => decided_in(alloc, &Work::Look, entry),
+        Some(row) => decided_in(alloc, row.tried.number(), &row.work, entry),
+        None => decided_in(alloc, 1, &Work::Look, entry),
     }
 }
 
-/// The same for a call that has this to do.
-fn decided_in(alloc: Global, work: &Work, entry: &Entry) -> Result<Option<Reply>, NoRoom>
-    ensures { IfOk result (λ reply. Decides work.now entry.now entry.now.answer reply) }
+/// The same for a call that has this to do, in the try of this number.
+fn decided_in(
+    alloc: Global,
+    number: u32,
+    work: &Work,
+    entry: &Entry,
+) -> Result<Option<Reply>, NoRoom>
+    ensures { IfOk result (λ reply. Decides number work.now entry.now entry.now.answer reply) }
 {
     match &entry.call {
-        DriverCall::Next(_) => fetch_decision(alloc, work, &entry.answer),
-        DriverCall::Query(_, _) => query_decision(work, &entry.answer),
+        DriverCall::Next(_) => fetch_decision(alloc, number, work, &entry.answer),
+        DriverCall::Query(_, _) => query_decision(number, work, &entry.answer),
         _ => Ok(None),
     }
 }
@@ -55,13 +61,14 @@ pub fn fate_of(answer: &DriverAnswer) -> Fate
     }
 }
 
-/// What a fetch decides for a call that has this to do.
+/// What a fetch decides in this try for a call that has this to do.
 fn fetch_decision(
     alloc: Global,
+    number: u32,
     work: &Work,
     answer: &DriverAnswer,
 ) -> Result<Option<Reply>, NoRoom>
-    ensures { IfOk result (λ reply. reply ≡ fetch_decision work.now answer.now) }
+    ensures { IfOk result (λ reply. reply ≡ fetch_decision number work.now answer.now) }
 {
     match (work, answer) {
         (Work::ReadOne(dests), DriverAnswer::Row(values)) => {
@@ -69,19 +76,19 @@ fn fetch_decision(
         }
         (Work::Fetch(_), answer) => Ok(Some(Reply::Truth(matches!(answer, DriverAnswer::Row(_))))),
         (_, DriverAnswer::End) => Ok(Some(Reply::NoRows)),
-        (_, answer) => Ok(reply_of(answer.clone()?)),
+        (_, answer) => Ok(reply_of(number, answer.clone()?)),
     }
 }
 
-/// What the answer to a Query decides for a call that has this to do.
-fn query_decision(work: &Work, answer: &DriverAnswer) -> Result<Option<Reply>, NoRoom>
-    ensures { IfOk result (λ reply. reply ≡ query_decision work.now answer.now) }
+/// What the answer to a Query decides in this try for a call that has this to do.
+fn query_decision(number: u32, work: &Work, answer: &DriverAnswer) -> Result<Option<Reply>, NoRoom>
+    ensures { IfOk result (λ reply. reply ≡ query_decision number work.now answer.now) }
 {
     match (work, answer) {
         (Work::HandOut(_), DriverAnswer::Cursor { columns, .. }) => {
             Ok(Some(Reply::Rows(columns.clone()?)))
         }
-        (_, answer) => Ok(reply_of(answer.clone()?)),
+        (_, answer) => Ok(reply_of(number, answer.clone()?)),
     }
 }
 

@@ -1,15 +1,17 @@
 //! What an answer tells its call, and the rows.
 ghost use Rattle.std.specs.Prelude.{◌≡◌, ◌+◌, ◌<◌, ◌≤◌, ℕ, true, false, List, vec_len, vec_capacity};
 ghost use Rattle.dsql_calls.specs.Calls.{row_at};
-ghost use Rattle.dsql_telling.specs.Heard.{Decides, HearsRows, calls_after, calls_told, deciding, decided_as, is_fetch_or_query};
+ghost use Rattle.dsql_calls.specs.Tried.{number};
+ghost use Rattle.dsql_telling.specs.Heard.{Decides, HearsRows, calls_after, calls_told, deciding, decided_as, is_fetch_or_query, tries_after};
 ghost use Rattle.dsql_history.specs.Readers.Calls.{close_decision, closing_decision};
 ghost use Rattle.dsql_history.specs.Readers.HandedOut.{rows_heard};
+ghost use Rattle.dsql_history.specs.Readers.Tries.{is_tried, loses};
 ghost use Rattle.dsql_driver.specs.declared.call.DriverCall.TheVariants.{Prepare};
 ghost use Rattle.dsql_work.specs.declared.work.Work.{Work};
 
 use crate::rows::note_rows;
-use dsql_calls::CallRow;
-use dsql_calls::replies::{count_reply, done_reply, reply_of};
+use dsql_calls::replies::{bad_reply, count_reply, done_reply, reply_of};
+use dsql_calls::{CallRow, Tried};
 use dsql_driver::{DriverAnswer, DriverCall};
 use dsql_history::{CallRecord, Reply, Work};
 use dsql_journal::Entry;
@@ -25,10 +27,10 @@ pub fn tell_answer(
     copy: DriverAnswer,
     reply: Option<Reply>,
 )
-    requires decides { Decides (row_at calls.old.items entry.now.call_no).work entry.now copy reply }
+    requires decides { Decides (number (row_at calls.old.items entry.now.call_no).tried) (row_at calls.old.items entry.now.call_no).work entry.now copy reply }
     requires rows { HearsRows (row_at calls.old.items entry.now.call_no).work entry.now.call_no entry.now.call rows.old.rows }
     requires room { 0 < rows.old.spare }
-    ensures items { calls.new.items ≡ calls_after (row_at calls.old.items entry.now.call_no).work entry.now.call_no entry.now.call entry.now.answer rows.old.rows (calls_told (row_at calls.old.items entry.now.call_no).work entry.now calls.old.items) }
+    ensures items { calls.new.items ≡ calls_after (row_at calls.old.items entry.now.call_no).work entry.now.call_no entry.now.call entry.now.answer rows.old.rows (calls_told (number (row_at calls.old.items entry.now.call_no).tried) (row_at calls.old.items entry.now.call_no).work entry.now calls.old.items) }
     ensures len { vec_len calls.new ≡ vec_len calls.old }
     ensures capacity { vec_capacity calls.new ≡ vec_capacity calls.old }
     ensures rows { rows.new.rows ≡ rows_heard (row_at calls.old.items entry.now.call_no).work entry.now.call_no entry.now.call entry.now.answer rows.old.rows }
@@ -45,15 +47,17 @@ pub fn tell_answer(
 
 /// Tells the call of a Query or a Next what is decided for it; there is no call 0.
 fn decide(calls: &mut Vec<CallRow>, entry: &Entry, reply: Option<Reply>)
-    requires decides { Decides (row_at calls.old.items entry.now.call_no).work entry.now entry.now.answer reply }
+    requires decides { Decides (number (row_at calls.old.items entry.now.call_no).tried) (row_at calls.old.items entry.now.call_no).work entry.now entry.now.answer reply }
     requires query { is_fetch_or_query entry.now.call ≡ true }
-    ensures items { calls.new.items ≡ calls_told (row_at calls.old.items entry.now.call_no).work entry.now calls.old.items }
+    ensures items { calls.new.items ≡ calls_told (number (row_at calls.old.items entry.now.call_no).tried) (row_at calls.old.items entry.now.call_no).work entry.now calls.old.items }
     ensures len { vec_len calls.new ≡ vec_len calls.old }
     ensures capacity { vec_capacity calls.new ≡ vec_capacity calls.old }
 {
     let call = entry.call_no as usize;
     if call != 0 && call < calls.len() {
-        calls[call].call.decided = reply;
+        let row = &mut calls[call];
+        row.call.decided = reply;
+        tell_try(&mut row.tried, &row.work, entry);
     }
 }
 
@@ -62,69 +66,102 @@ fn decide(calls: &mut Vec<CallRow>, entry: &Entry, reply: Option<Reply>)
 fn tell_entry(calls: &mut Vec<CallRow>, entry: &Entry, copy: DriverAnswer)
     requires other { is_fetch_or_query entry.now.call ≡ false }
     requires same { copy ≡ entry.now.answer }
-    ensures items { calls.new.items ≡ calls_told (row_at calls.old.items entry.now.call_no).work entry.now calls.old.items }
+    ensures items { calls.new.items ≡ calls_told (number (row_at calls.old.items entry.now.call_no).tried) (row_at calls.old.items entry.now.call_no).work entry.now calls.old.items }
     ensures len { vec_len calls.new ≡ vec_len calls.old }
     ensures capacity { vec_capacity calls.new ≡ vec_capacity calls.old }
 {
     let call = entry.call_no as usize;
     if call != 0 && call < calls.len() {
         let row = &mut calls[call];
-        tell(&mut row.call, &row.work, &entry.call, copy);
+        let number = row.tried.number();
+        tell(&mut row.call, number, &row.work, &entry.call, copy);
+        tell_try(&mut row.tried, &row.work, entry);
     }
 }
 
-/// Tells a call with this work what one of its driver calls was answered, which is no Query and no Next.
-fn tell(it: &mut CallRecord, work: &Work, asked: &DriverCall, answer: DriverAnswer)
+/// Tells the tries of a call with this work what one of its driver calls was answered.
+fn tell_try(tried: &mut Tried, work: &Work, entry: &Entry)
+    ensures { tried.new ≡ tries_after work.now entry.now tried.old }
+{
+    if loses(work, entry) {
+        tried.lose();
+    }
+}
+
+/// The answer says that the connection of this try is bad.
+fn loses(work: &Work, entry: &Entry) -> bool
+    ensures { result ≡ loses work.now entry.now }
+{
+    is_tried(work, &entry.call) && matches!(&entry.answer, DriverAnswer::Bad)
+}
+
+/// A call with this work sends it before anything is decided, and it may be sent again.
+fn is_tried(work: &Work, call: &DriverCall) -> bool
+    ensures { result ≡ is_tried work.now call.now }
+{
+    match call {
+        DriverCall::Reset
+        | DriverCall::Prepare(_)
+        | DriverCall::Exec(_, _)
+        | DriverCall::Query(_, _) => true,
+        DriverCall::Next(_) => matches!(work, Work::ReadOne(_)),
+        _ => false,
+    }
+}
+
+/// Tells a call with this work what one of its driver calls was answered in this try, which is no Query and no
+/// Next.
+fn tell(it: &mut CallRecord, number: u32, work: &Work, asked: &DriverCall, answer: DriverAnswer)
     requires other { is_fetch_or_query asked.now ≡ false }
-    ensures { it.new ≡ deciding work.now asked.now answer it.old }
+    ensures { it.new ≡ deciding number work.now asked.now answer it.old }
 {
     match asked {
-        DriverCall::Exec(_, _) => it.decided = reply_of(answer),
-        DriverCall::Ping => it.decided = done_reply(answer),
-        DriverCall::CloseRows(_) => tell_closing(it, work, answer),
-        DriverCall::Prepare(_) => tell_prepare(it, answer),
+        DriverCall::Exec(_, _) => it.decided = reply_of(number, answer),
+        DriverCall::Ping => it.decided = done_reply(number, answer),
+        DriverCall::CloseRows(_) => tell_closing(it, number, work, answer),
+        DriverCall::Prepare(_) => tell_prepare(it, number, answer),
         DriverCall::Reset => {
             if let DriverAnswer::Bad = answer {
-                it.decided = Some(Reply::BadConn(1));
+                it.decided = bad_reply(number);
             }
         }
         _ => {}
     }
 }
 
-/// Tells a call what its CloseRows was answered.
-fn tell_closing(it: &mut CallRecord, work: &Work, answer: DriverAnswer)
-    ensures { it.new ≡ decided_as (close_decision work.now answer it.old.decided) it.old }
+/// Tells a call what its CloseRows was answered in this try.
+fn tell_closing(it: &mut CallRecord, number: u32, work: &Work, answer: DriverAnswer)
+    ensures { it.new ≡ decided_as (close_decision number work.now answer it.old.decided) it.old }
 {
     match work {
-        Work::Close(_) => it.decided = done_reply(answer),
-        _ => tell_closing_of_row(it, answer),
+        Work::Close(_) => it.decided = done_reply(number, answer),
+        _ => tell_closing_of_row(it, number, answer),
     }
 }
 
 /// Tells a call that the cursor of its row was closed: where that failed, it is told in place of the row.
 #[tactic(auto, using(crate::proofs::Closing::closing_other, crate::proofs::Closing::closing_failed, crate::proofs::Closing::closing_bad, crate::proofs::Closing::closing_well))]
-fn tell_closing_of_row(it: &mut CallRecord, answer: DriverAnswer)
-    ensures { it.new ≡ decided_as (closing_decision answer it.old.decided) it.old }
+fn tell_closing_of_row(it: &mut CallRecord, number: u32, answer: DriverAnswer)
+    ensures { it.new ≡ decided_as (closing_decision number answer it.old.decided) it.old }
 {
     if !matches!(&it.decided, Some(Reply::Cells(_))) {
         return;
     }
     match answer {
         DriverAnswer::Fail(text) => it.decided = Some(Reply::Driver(text)),
-        DriverAnswer::Bad => it.decided = Some(Reply::BadConn(1)),
+        DriverAnswer::Bad => it.decided = Some(Reply::BadConn(number)),
         _ => {}
     }
 }
 
-/// Tells a call what its Prepare was answered.
-fn tell_prepare(it: &mut CallRecord, answer: DriverAnswer)
-    ensures { (work : Work) (text : List ℕ) → it.new ≡ deciding work (Prepare text) answer it.old }
+/// Tells a call what its Prepare was answered in this try.
+fn tell_prepare(it: &mut CallRecord, number: u32, answer: DriverAnswer)
+    ensures { (work : Work) (text : List ℕ) → it.new ≡ deciding number work (Prepare text) answer it.old }
 {
     match answer {
         DriverAnswer::Prepared { inputs, .. } => {
             it.decided = count_reply(inputs, it.params.as_slice().len());
         }
-        _ => it.decided = reply_of(answer),
+        _ => it.decided = reply_of(number, answer),
     }
 }

@@ -1,8 +1,8 @@
 use Rattle.std.proofs.Common.{sym, ap, subst, ◌∙◌, refl}
-use Rattle.dsql_history.specs.Readers.Calls.{decided_by}
 use Rattle.dsql_calls.specs.declared.call.CallRow.{CallRow}
-use Rattle.dsql_calls.specs.Calls.{row_at, with_call}
-use Rattle.dsql_telling.specs.Heard.{HearsRows}
+use Rattle.dsql_calls.specs.Calls.{row_at}
+use Rattle.dsql_calls.specs.Tried.{number}
+use Rattle.dsql_telling.specs.Heard.{HearsRows, told_in}
 use Rattle.dsql_calls.proofs.CallRows.{same_at}
 use Rattle.dsql_telling.proofs.telling.tell_answer.Goals as goal
 
@@ -13,4 +13,4 @@ note_rows-requires-clause-rows c =
     let calls = c.args.calls.now.items in
     let w = (row_at calls n).work in
     subst (λ it. HearsRows it n e.call c.args.rows.now.rows)
-    (sym (ap (λ rs. (row_at rs n).work) c.decide.ensures.items ∙ same_at (λ (row : CallRow). row.work) (with_call (decided_by w e)) n calls n (λ row. refl))) c.requires.rows
+    (sym (ap (λ rs. (row_at rs n).work) c.decide.ensures.items ∙ same_at (λ (row : CallRow). row.work) (told_in (number (row_at calls n).tried) w e) n calls n (λ row. refl))) c.requires.rows
