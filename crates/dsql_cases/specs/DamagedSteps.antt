@@ -59,7 +59,7 @@ a_bad_connection_closes_after_another_entered =
     ∷ asks_for_fault 2 2 (codes "zz")
     ∷ Replied 2 (replies.Absent (codes "zz"))
     ∷ close 1 causes.Bad
-    ∷ Replied 1 (replies.BadConn 1)
+    ∷ open_start 2 1
     ∷ []
 
 -- a query has its cursor and no reply while another is served
@@ -150,19 +150,6 @@ a_call_that_asks_is_overtaken_by_another =
     ∷ executes 2 2
     ∷ open_start 1 1
     ∷ open_start 2 2
-    ∷ []
-
--- a second try
-abbrev pub a_second_try : List Event
-a_second_try =
-    started
-    ++ executes 1 1
-    ∷ open_start 1 1
-    ∷ house 1 1 Connect answers.Done
-    ∷ lend 1 2 1
-    ∷ sent 1 2 1 1 (exec text) answers.Bad
-    ∷ close 1 causes.Bad
-    ∷ open_start 2 1
     ∷ []
 
 -- a fetch of absent rows is not told, and their connection is being opened

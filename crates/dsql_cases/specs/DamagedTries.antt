@@ -1,13 +1,12 @@
 -- Histories damaged at a further try. Each is oldest first.
 use Rattle.std.specs.Prelude.{List, [], ◌∷◌, ◌++◌, codes}
-use Rattle.dsql_driver.specs.declared.call.DriverCall.TheVariants.{Connect, Ping}
+use Rattle.dsql_driver.specs.declared.call.DriverCall.TheVariants.{Connect}
 use Rattle.dsql_driver.specs.declared.answer.DriverAnswer.TheVariants as answers
-use Rattle.dsql_pool.specs.declared.moves.CloseCause.TheVariants as causes
 use Rattle.dsql_history.specs.declared.event.Event.{Event}
 use Rattle.dsql_history.specs.declared.event.Event.TheVariants.{Replied}
 use Rattle.dsql_history.specs.declared.reply.Reply.TheVariants as replies
-use Rattle.dsql_cases.specs.Words.{run, exec, text, executes, pings, open_start, lend, back, close, fell, house, sent}
-use Rattle.dsql_cases.specs.Tries.{once_bad, thrice_bad, refused_twice, three_idle}
+use Rattle.dsql_cases.specs.Words.{run, exec, text, executes, closes_db, open_start, lend, fell, house, sent}
+use Rattle.dsql_cases.specs.Tries.{once_bad, thrice_bad, refused_once, refused_twice, three_idle}
 
 -- an exec is lent its first connection
 abbrev pub lent_once : List Event
@@ -61,22 +60,10 @@ another_enters_before_the_next_try = once_bad ++ executes 2 2 ∷ []
 abbrev pub a_refused_call_gives_up : List Event
 a_refused_call_gives_up = refused_twice ++ Replied 1 (replies.BadConn 2) ∷ []
 
-abbrev pub a_ping_is_sent_on_another_connection : List Event
-a_ping_is_sent_on_another_connection =
-    run
-    ∷ pings 1 1
-    ∷ open_start 1 1
-    ∷ house 1 1 Connect answers.Done
-    ∷ lend 1 2 1
-    ∷ sent 1 2 1 1 Ping answers.Bad
-    ∷ close 1 causes.Bad
+abbrev pub a_refused_call_asks_a_closed_database : List Event
+a_refused_call_asks_a_closed_database =
+    refused_once
+    ++ closes_db 2 2
+    ∷ Replied 2 replies.Ok
     ∷ open_start 2 1
-    ∷ []
-
--- it has a bad connection while it asks again
-abbrev pub a_bad_one_is_kept_for_the_next_try : List Event
-a_bad_one_is_kept_for_the_next_try =
-    lent_once
-    ++ sent 1 2 1 1 (exec text) answers.Bad
-    ∷ back 1
     ∷ []

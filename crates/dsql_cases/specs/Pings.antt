@@ -127,15 +127,21 @@ a_used_connection_is_reset_and_pinged =
     ∷ gone 1
     ∷ []
 
--- the reset finds it bad, and no Ping is sent
+-- the reset finds it bad, and another one is pinged
 abbrev pub a_reset_finds_the_connection_bad : List Event
 a_reset_finds_the_connection_bad =
     executed_before
     ++ sent 1 3 2 2 Reset answers.Bad
     ∷ close 1 causes.Bad
-    ∷ Replied 2 (replies.BadConn 1)
+    ∷ open_start 2 2
     ∷ house 1 4 Shut answers.Done
     ∷ gone 1
+    ∷ house 2 1 Connect answers.Done
+    ∷ lend 2 2 2
+    ∷ sent 2 2 2 2 Ping answers.Done
+    ∷ sent 2 2 2 2 Valid answers.Done
+    ∷ back 2
+    ∷ Replied 2 replies.Ok
     ∷ []
 
 -- no connection can be opened for a ping

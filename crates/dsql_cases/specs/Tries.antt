@@ -77,14 +77,19 @@ the_third_try_is_bad =
     ∷ []
 
 -- three connections are refused as bad, one after another
-abbrev pub refused_twice : List Event
-refused_twice =
+abbrev pub refused_once : List Event
+refused_once =
     run
     ∷ executes 1 1
     ∷ open_start 1 1
     ∷ house 1 1 Connect answers.Bad
     ∷ fell 1 1
-    ∷ open_start 2 1
+    ∷ []
+
+abbrev pub refused_twice : List Event
+refused_twice =
+    refused_once
+    ++ open_start 2 1
     ∷ house 2 1 Connect answers.Bad
     ∷ fell 2 1
     ∷ []
@@ -102,12 +107,8 @@ three_are_refused =
 -- the second one fails, which is told at once
 abbrev pub the_second_is_refused_for_good : List Event
 the_second_is_refused_for_good =
-    run
-    ∷ executes 1 1
-    ∷ open_start 1 1
-    ∷ house 1 1 Connect answers.Bad
-    ∷ fell 1 1
-    ∷ open_start 2 1
+    refused_once
+    ++ open_start 2 1
     ∷ house 2 1 Connect (answers.Fail (codes "no"))
     ∷ fell 2 1
     ∷ Replied 1 (replies.Driver (codes "no"))
@@ -117,15 +118,26 @@ the_second_is_refused_for_good =
 -- the database is closed before the call asks again
 abbrev pub closed_before_the_second_try : List Event
 closed_before_the_second_try =
-    run
-    ∷ executes 1 1
-    ∷ open_start 1 1
-    ∷ house 1 1 Connect answers.Bad
-    ∷ fell 1 1
-    ∷ closes_db 2 2
+    refused_once
+    ++ closes_db 2 2
     ∷ Replied 2 replies.Ok
     ∷ Replied 1 (replies.DbClosed ends.Close)
     ∷ Ended
+    ∷ []
+
+-- the database is closed while the driver has the text, and then the connection turns out to be bad
+abbrev pub closed_before_the_first_one_is_lost : List Event
+closed_before_the_first_one_is_lost =
+    run
+    ∷ executes 1 1
+    ∷ open_start 1 1
+    ∷ house 1 1 Connect answers.Done
+    ∷ lend 1 2 1
+    ∷ closes_db 2 2
+    ∷ Replied 2 replies.Ok
+    ∷ sent 1 2 1 1 (exec text) answers.Bad
+    ∷ close 1 causes.Bad
+    ∷ Replied 1 (replies.DbClosed ends.Close)
     ∷ []
 
 -- three connections are idle, of which an exec finds two bad

@@ -77,7 +77,7 @@ a_refused_one_makes_room_for_another_opening =
     ∷ lend 2 2 2
     ∷ []
 
--- a bad one makes room once it is gone
+-- a bad one makes room once it is gone, and who lost it waits behind the other
 abbrev pub a_bad_one_makes_room_once_it_is_gone : List Event
 a_bad_one_makes_room_once_it_is_gone =
     limited
@@ -89,12 +89,19 @@ a_bad_one_makes_room_once_it_is_gone =
     ∷ Waits 2
     ∷ sent 1 2 1 1 (exec text) answers.Bad
     ∷ close 1 causes.Bad
-    ∷ Replied 1 (replies.BadConn 1)
+    ∷ Waits 1
     ∷ house 1 3 Shut answers.Done
     ∷ gone 1
     ∷ open_start 2 0
     ∷ house 2 1 Connect answers.Done
     ∷ lend 2 2 2
+    ∷ sent 2 2 2 2 (exec text) one_changed
+    ∷ back 2
+    ∷ lend 2 3 1
+    ∷ Replied 2 told_one_changed
+    ∷ sent 2 3 1 1 (exec text) one_changed
+    ∷ back 2
+    ∷ Replied 1 told_one_changed
     ∷ []
 
 -- the connection goes to one that waits though none may be idle
