@@ -72,7 +72,7 @@ closing_decides number (Fail why) (Some (Cells cells)) h = refl
 closing_decides number Bad (Some (Cells cells)) h = refl
 closing_decides number a (Some reply) h = refl
 
-close_keeps : (number : ℕ) (it : Work) (a : DriverAnswer) (d : Option Reply) → asks it ≡ true → is_some d ≡ true → is_some (close_decision number it a d) ≡ true
+pub close_keeps : (number : ℕ) (it : Work) (a : DriverAnswer) (d : Option Reply) → asks it ≡ true → is_some d ≡ true → is_some (close_decision number it a d) ≡ true
 close_keeps number (Close k) a d own h = absurd cc
 close_keeps number it a d own h = closing_decides number a d h
 
@@ -93,7 +93,7 @@ cursor_at can asked (HasRead own cursor false) made rows g m = (m.reads, m.curso
 cursor_at can asked (HasRead own cursor true) made rows g m = absurd cc
 cursor_at can asked _ made rows g m = absurd cc
 
-fetch_settles : (number : ℕ) (can : Caps) (text : List ℕ) (params : List Param) (it : Work) (w : Wish) (s : Step) (made : List Exchange) (rows : ℕ) (a : DriverAnswer) → asks it ≡ true → (w ≡ wishes.Fetch → ⊥)
+pub fetch_settles : (number : ℕ) (can : Caps) (text : List ℕ) (params : List Param) (it : Work) (w : Wish) (s : Step) (made : List Exchange) (rows : ℕ) (a : DriverAnswer) → asks it ≡ true → (w ≡ wishes.Fetch → ⊥)
     → SentAt can (asking text params (aim_of it)) w s made (Next rows) a → (is_tried it (Next rows) && is_bad a) ≡ false → is_some (fetch_decision number it a) ≡ true
 fetch_settles number can text params (ReadOne dests) w s made rows a own fetch x good = row_decides number dests rows a x.fit x.heard good
 fetch_settles number can text params (HandOut label) w s made rows a own fetch x good =
@@ -108,7 +108,7 @@ fetch_settles number can text params Look w s made rows a own fetch x good = abs
 
 -- the run of a query that gives a cursor: rows that are handed out decide, and a call that reads one row awaits that
 
-opened_reads : (can : Caps) (asked : Asked) (s : Step) (made : List Exchange) (input : Input) (ps : List Param) (rows : ℕ) (columns : List (List ℕ))
+pub opened_reads : (can : Caps) (asked : Asked) (s : Step) (made : List Exchange) (input : Input) (ps : List Param) (rows : ℕ) (columns : List (List ℕ))
     → MadeAt can asked (step_after s (Query input ps) (Cursor rows columns)) (with_exchange (step_of (Query input ps)) (Cursor rows columns) made) → queries_it asked.aim ≡ true
 opened_reads can asked s made (Text t) ps rows columns m = m.reads
 opened_reads can asked s made (Handle handle) ps rows columns m = m.reads

@@ -180,7 +180,7 @@ settles_lent H c t o m l =
 
 -- An answer.
 
-own_wish : (H : List Event) (m n : ℕ) (w : Wish) → Wants H m n w → asks (work H m) ≡ true → m ≢ 0 → w ≡ wishes.Nothing
+pub own_wish : (H : List Event) (m n : ℕ) (w : Wish) → Wants H m n w → asks (work H m) ≡ true → m ≢ 0 → w ≡ wishes.Nothing
 own_wish H m n wishes.Nothing wants own some = refl
 own_wish H m n wishes.Fetch wants own some = absurd (asks_not (work H m) (Fetch n) own wants.0 refl)
 own_wish H m n wishes.Close (inl layer, over) own some = absurd (some layer)
@@ -197,7 +197,7 @@ either true b h = inl refl
 either false b h = inr h
 
 -- its record after an answer to it
-own_record : (H : List Event) (e : Entry) → asks (work H e.call_no) ≡ true → e.call_no ≢ 0
+pub own_record : (H : List Event) (e : Entry) → asks (work H e.call_no) ≡ true → e.call_no ≢ 0
     → decided (Heard e ∷ H) e.call_no ≡ decision (try_number (tries H e.call_no)) (length (call_record H e.call_no).params) (work H e.call_no) e.call e.answer (decided H e.call_no)
 own_record H e own some =
     let m = e.call_no in
