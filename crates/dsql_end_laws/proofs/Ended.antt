@@ -23,6 +23,7 @@ use Rattle.dsql_history.specs.Readers.Course.{has_ended}
 use Rattle.dsql_history.specs.Readers.HandedOut.{are_live, ender, live, over, rows_by}
 use Rattle.dsql_history.specs.Readers.Journals.{journal}
 use Rattle.dsql_history.specs.Readers.Pool.{place, pool, smallest}
+use Rattle.dsql_history.specs.Readers.Tries.{asks_again, tries}
 use Rattle.dsql_history.specs.Readers.Unfinished.{is_unfinished, unfinished}
 use Rattle.dsql_history.specs.Rules.House.{has_no_chore, is_untidy}
 use Rattle.dsql_history.specs.Rules.Line.{due_for, is_used, line_of, tidying}
@@ -45,7 +46,7 @@ use Rattle.dsql_end_laws.proofs.Senders.{attended, needed_over}
 
 none_waits : (H : List Event) (n : ℕ) → (pool H).waiting ≡ [] → is_waiting (stand H n) ≡ true → ⊥
 none_waits H n none h =
-    let waiting = waits_only (waits n (pool H).waiting) (is_some (due_for H n)) (is_none (decided H n) && is_some (told_by_others H n)) (smallest (is_for n) (pool H)) (site H n) h in
+    let waiting = waits_only (waits n (pool H).waiting) (is_some (due_for H n)) (is_none (decided H n) && is_some (told_by_others H n)) (asks_again (tries H n)) (smallest (is_for n) (pool H)) (site H n) h in
     let clash : false ≡ true = sym (ap (waits n) none) ∙ waiting in
     cc
 

@@ -14,6 +14,7 @@ use Rattle.dsql_history.specs.declared.record.Flight.{Flight}
 use Rattle.dsql_history.specs.declared.record.Stand.TheVariants as stands_at
 use Rattle.dsql_history.specs.Readers.Calls.{decided, site, told_by_others}
 use Rattle.dsql_history.specs.Readers.Pool.{pool, smallest}
+use Rattle.dsql_history.specs.Readers.Tries.{asks_again, tries}
 use Rattle.dsql_history.specs.Readers.Unfinished.{is_unfinished, unfinished}
 use Rattle.dsql_history.specs.Rules.Flights.{is_blocked, is_in_flight, may_move}
 use Rattle.dsql_history.specs.Rules.House.{chore_due, connect_due, has_no_chore, is_quiet, shut_due, tidy_due}
@@ -96,15 +97,16 @@ opens_none H n none =
     ap (option_map (λ (x : Conn). x.number)) (found_wider (λ (x : Conn). is_for n x.place) opening (pool H).conns (opened_opens n) (unnumbered (find opening (pool H).conns) none))
 
 -- who stands somewhere, is blocked by no other and waits for no opening waits for a connection
-blocked_waits : (n : ℕ) (w d r : Bool) (o : Option ℕ) (c : ℕ) → o ≡ None
-    → is_some (or_else (stands w stands_at.Waits) (or_else (opens o) (or_else (stands d (stands_at.Sends c)) (stands r stands_at.Replies)))) ≡ true
-    → is_blocked [] n (or_else (stands w stands_at.Waits) (or_else (opens o) (or_else (stands d (stands_at.Sends c)) (stands r stands_at.Replies)))) ≡ true
-    → is_waiting (or_else (stands w stands_at.Waits) (or_else (opens o) (or_else (stands d (stands_at.Sends c)) (stands r stands_at.Replies)))) ≡ true
-blocked_waits n true d r o c none some h = refl
-blocked_waits n false d r (Some k) c none some h = absurd cc
-blocked_waits n false true r None c none some h = absurd cc
-blocked_waits n false false true None c none some h = absurd cc
-blocked_waits n false false false None c none some h = absurd cc
+blocked_waits : (n : ℕ) (w d r a : Bool) (o : Option ℕ) (c : ℕ) → o ≡ None
+    → is_some (or_else (stands w stands_at.Waits) (or_else (opens o) (or_else (stands d (stands_at.Sends c)) (or_else (stands r stands_at.Replies) (stands a stands_at.Asks))))) ≡ true
+    → is_blocked [] n (or_else (stands w stands_at.Waits) (or_else (opens o) (or_else (stands d (stands_at.Sends c)) (or_else (stands r stands_at.Replies) (stands a stands_at.Asks))))) ≡ true
+    → is_waiting (or_else (stands w stands_at.Waits) (or_else (opens o) (or_else (stands d (stands_at.Sends c)) (or_else (stands r stands_at.Replies) (stands a stands_at.Asks))))) ≡ true
+blocked_waits n true d r a o c none some h = refl
+blocked_waits n false d r a (Some k) c none some h = absurd cc
+blocked_waits n false true r a None c none some h = absurd cc
+blocked_waits n false false true a None c none some h = absurd cc
+blocked_waits n false false false true None c none some h = absurd cc
+blocked_waits n false false false false None c none some h = absurd cc
 
 pub quiet_where_run_out : (H : List Event) (flights : List Flight) → Lawful H → Settled H → HasRunOut H flights → is_quiet H ≡ true
 quiet_where_run_out H flights l settled out =
@@ -114,5 +116,5 @@ quiet_where_run_out H flights l settled out =
     each : (n : ℕ) → is_unfinished H n ≡ true → ((n == 0) || is_some (stand H n)) ≡ true → is_waiting (stand H n) ≡ true
     each n u so =
         let chores = no_chore H out.idle in
-        blocked_waits n (waits n (pool H).waiting) (is_some (due_for H n)) (is_none (decided H n) && is_some (told_by_others H n)) (smallest (is_for n) (pool H)) (site H n) (opens_none H n chores.connect)
+        blocked_waits n (waits n (pool H).waiting) (is_some (due_for H n)) (is_none (decided H n) && is_some (told_by_others H n)) (asks_again (tries H n)) (smallest (is_for n) (pool H)) (site H n) (opens_none H n chores.connect)
         (second (n == 0) (is_some (stand H n)) (other_number n 0 (unfinished_from_one H n l u)) so) (blocked_alone H flights n out u)

@@ -26,7 +26,7 @@ use Rattle.dsql_laws.proofs.Tried.{lends_to}
 use Rattle.dsql_lending_laws.proofs.Lent.{lent_before, Lends}
 use Rattle.dsql_lending_laws.proofs.Owners.{lent_asks, lent_number}
 use Rattle.dsql_lending_laws.proofs.Rows.{ender_over, rows_kept}
-use Rattle.dsql_lending_laws.proofs.Wanted.{lent_nothing, tried_may_not_ask}
+use Rattle.dsql_lending_laws.proofs.Wanted.{lent_nothing, rows_may_not_ask}
 use Rattle.dsql_sending_laws.proofs.Invariant.{over_made}
 use Rattle.dsql_sending_laws.proofs.Sound.{sound}
 use Rattle.dsql_sending_laws.proofs.UnderWay.{WorksOn}
@@ -172,7 +172,7 @@ lent_unended : (H : List Event) (c t n : ℕ) → Lawful H → Allowed H (Pool (
 lent_unended H c t n l a some ended =
     let s = sound H l in
     let made = over_made (rows_by H n) (ender_over H n ended) in
-    lent_nothing H c t (Call n) n l a (tried_may_not_ask H n (s.tried n made)) (s.content n some made)
+    lent_nothing H c t (Call n) n l a (rows_may_not_ask H n made) (s.content n some made)
 
 ended_next : (H : List Event) (e : Event) → Lawful (e ∷ H) → Attended H → (c t n : ℕ) → place (e ∷ H) c ≡ Some (Lent t (Call n)) → ender (e ∷ H) n ≢ 0 → is_unfinished (e ∷ H) (ender (e ∷ H) n) ≡ true
 ended_next H e l a c t n is some = by (are_live H n) (are_live K n) refl refl

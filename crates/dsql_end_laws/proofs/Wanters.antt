@@ -1,6 +1,6 @@
 -- Who wants a connection, and who is lent one, has no reply yet.
-use Rattle.std.proofs.Common.{◌≡◌, ◌≢◌, ℕ, zero, suc, ◌≤◌, ◌⊎◌, inl, inr, Bool, true, false, not, ◌&&◌, ◌||◌, cond, List, [], ◌∷◌, Option, Some, None, is_some, is_none, refl, sym, ap, subst, ◌∙◌, arith}
-use Rattle.std.specs.Prelude.{count_by, find}
+use Rattle.std.proofs.Common.{◌≡◌, ◌≢◌, ℕ, zero, suc, ◌≤◌, ◌⊎◌, inl, inr, Bool, true, false, ◌&&◌, ◌||◌, cond, List, [], ◌∷◌, Option, Some, None, is_some, is_none, refl, sym, ap, subst, ◌∙◌, arith}
+use Rattle.std.specs.Prelude.{find}
 use Rattle.std.specs.List.{list_any}
 use Rattle.std.specs.Option.{option_map}
 use Rattle.dsql_course.specs.Made.{or_else}
@@ -12,21 +12,21 @@ use Rattle.dsql_pool.specs.declared.moves.Move.TheVariants.{Lend}
 use Rattle.dsql_pool.specs.Calls.{wants}
 use Rattle.dsql_pool.specs.Places.{is_for}
 use Rattle.dsql_pool.specs.Pooled.{Pooled}
-use Rattle.dsql_pool.proofs.Frees.{count-cons}
 use Rattle.dsql_work.specs.declared.work.Work.{Work}
 use Rattle.dsql_work.specs.declared.work.Work.TheVariants.{Execute, ReadOne, HandOut, Ping, Fetch, Close, Look}
-use Rattle.dsql_work.specs.Works.{asks}
 use Rattle.dsql_history.specs.declared.event.Event.{Event}
 use Rattle.dsql_history.specs.declared.event.Event.TheVariants.{Run, Entered, Heard, Pool, Waits, Ticked, SetLimit, Replied, Ended}
 use Rattle.dsql_history.specs.declared.event.Op.TheVariants.{DbClose}
+use Rattle.dsql_history.specs.declared.record.Try.{Try}
+use Rattle.dsql_history.specs.declared.record.Try.TheVariants.{Lost, Refused, Served}
 use Rattle.dsql_history.specs.declared.reply.DbEnd.{DbEnd}
 use Rattle.dsql_history.specs.declared.reply.Reply.{Reply}
 use Rattle.dsql_history.specs.declared.reply.Reply.TheVariants.{DbClosed, TooMany}
 use Rattle.dsql_history.specs.Same.{is_reply}
-use Rattle.dsql_history.specs.Readers.Calls.{reply_due, told_as_lent, told_at_lending, told_by_others, told_by_tries}
+use Rattle.dsql_history.specs.Readers.Calls.{last_told, reply_due, told_as_lent, told_at_lending, told_by_others}
 use Rattle.dsql_history.specs.Readers.Course.{caps, db_end}
 use Rattle.dsql_history.specs.Readers.Pool.{pool, smallest}
-use Rattle.dsql_history.specs.Readers.Tries.{has_a_try, tries}
+use Rattle.dsql_history.specs.Readers.Tries.{has_a_try, tries, try_number}
 use Rattle.dsql_history.specs.Readers.Unfinished.{is_unfinished}
 use Rattle.dsql_history.specs.Readers.Works.{work}
 use Rattle.dsql_history.specs.Rules.Asking.{ask_outcome, is_too_many, may_ask}
@@ -34,7 +34,8 @@ use Rattle.dsql_history.specs.Rules.Line.{due_for}
 use Rattle.dsql_history.specs.Rules.Replies.{has_cause, is_told_too_many}
 use Rattle.dsql_history.specs.Rules.Settled.{is_settled_but}
 use Rattle.dsql_history.specs.Legal.{Allowed, Lawful}
-use Rattle.dsql_laws.proofs.Counts.{waits_none}
+use Rattle.dsql_laws.proofs.Asker.{asker}
+use Rattle.dsql_laws.proofs.Counts.{uncounted, waits_none}
 use Rattle.dsql_laws.proofs.Standing.{neither, none_opens}
 use Rattle.dsql_laws.proofs.Tests.{both, other_number}
 use Rattle.dsql_laws.proofs.Wanting.{is_opening_for, wanted, wanting_works}
@@ -42,25 +43,13 @@ use Rattle.dsql_call_laws.proofs.Closed.{closed_shut, opens_for_none, stays_clos
 use Rattle.dsql_call_laws.proofs.Lists.{same_or_not}
 use Rattle.dsql_call_laws.proofs.Nowhere.{told_own}
 use Rattle.dsql_call_laws.proofs.Told.{wanting_undecided}
-use Rattle.dsql_call_laws.proofs.Untried.{wants_untried}
+use Rattle.dsql_call_laws.proofs.Untried.{wanting_has_try}
 use Rattle.dsql_call_laws.proofs.Works.{enters_unfinished, stays_unfinished}
 use Rattle.dsql_lending_laws.proofs.Cases.{true_false}
 use Rattle.dsql_lending_laws.proofs.Wanted.{lent_nothing, wants_no_more}
 use Rattle.dsql_end_laws.proofs.RunOut.{unnumbered}
 
 -- who wants something is counted
-
-uncounted : (q : Conn → Bool) (conns : List Conn) → find q conns ≡ None → count_by q conns ≡ 0
-uncounted q [] h = refl
-uncounted q (x ∷ xs) h = by (uncounted q xs) (q x) refl h
-  where
-    by : (find q xs ≡ None → count_by q xs ≡ 0) → (b : Bool) → q x ≡ b → cond b (Some x) (find q xs) ≡ None → count_by q (x ∷ xs) ≡ 0
-    by rest true is k = absurd cc
-    by rest false is k =
-        let none = rest k in
-        let split = count-cons q x xs in
-        let here : cond {A = ℕ} (q x) 1 0 ≡ 0 = ap (λ (b : Bool). cond {A = ℕ} b 1 0) is in
-        omega (arith, none, split, here)
 
 none_counted : (n : ℕ) (p : Pooled) → waits n p.waiting ≡ false → smallest (is_for n) p ≡ None → wanted n p ≡ 0
 none_counted n p unwaiting unopened =
@@ -122,30 +111,22 @@ asked_in_vain : (H : List Event) (n : ℕ) (reply : Reply) → is_told_too_many 
 asked_in_vain H n TooMany h = let b = both (may_ask H n) (is_too_many (ask_outcome H n)) h in b.0
 asked_in_vain H n reply h = absurd cc
 
-asks_unwanting : (H : List Event) (n : ℕ) → may_ask H n ≡ true → wants n (pool H) ≡ false
-asks_unwanting H n may =
-    let a = both (is_unfinished H n) (asks (work H n) && (has_a_try (tries H n) && (not (wants n (pool H)) && is_none (reply_due H n)))) may in
-    let b = both (asks (work H n)) (has_a_try (tries H n) && (not (wants n (pool H)) && is_none (reply_due H n))) a.1 in
-    let c = both (has_a_try (tries H n)) (not (wants n (pool H)) && is_none (reply_due H n)) b.1 in
-    let d = both (not (wants n (pool H))) (is_none (reply_due H n)) c.1 in
-    is_not (wants n (pool H)) d.0
-  where
-    is_not : (b : Bool) → not b ≡ true → b ≡ false
-    is_not true h = absurd cc
-    is_not false h = refl
-
 closed_by_some : (o : Option DbEnd) → is_some (option_map DbClosed o) ≡ true → is_some o ≡ true
 closed_by_some None h = absurd cc
 closed_by_some (Some end) h = refl
 
-untried_untold : (can : Caps) (it : Work) → told_as_lent can it [] ≡ None
-untried_untold can Execute = refl
-untried_untold can (ReadOne dests) = refl
-untried_untold can (HandOut label) = refl
-untried_untold can Ping = refl
-untried_untold can (Fetch k) = refl
-untried_untold can (Close k) = refl
-untried_untold can Look = refl
+-- a ping is told nothing as it is lent a connection, as long as it has a try left
+untold : (can : Caps) (it : Work) (ts : List Try) → has_a_try ts ≡ true → told_as_lent can it ts ≡ None
+untold can Execute ts left = refl
+untold can (ReadOne dests) ts left = refl
+untold can (HandOut label) ts left = refl
+untold can Ping [] left = refl
+untold can Ping (Served ∷ earlier) left = absurd cc
+untold can Ping (Lost ∷ earlier) left = refl
+untold can Ping (Refused answer ∷ earlier) left = refl
+untold can (Fetch k) ts left = refl
+untold can (Close k) ts left = refl
+untold can Look ts left = refl
 
 or_none : (o : Option Reply) → is_some (or_else o None) ≡ is_some o
 or_none None = refl
@@ -155,14 +136,16 @@ or_none (Some r) = refl
 wanting_silent : (H : List Event) (n : ℕ) → Lawful H → n ≢ 0 → 1 ≤ wanted n (pool H) → is_some (reply_due H n) ≡ true → ⊥
 wanting_silent H n l some now settled =
     let own = wanting_works H n l some now in
-    let untried = wants_untried H n l some (counted_wants n (pool H) now) in
-    let unlent : told_at_lending H n ≡ None = ap (told_as_lent (caps H) (work H n)) untried ∙ untried_untold (caps H) (work H n) in
+    let left = wanting_has_try H n l some now in
+    let unlent : told_at_lending H n ≡ None = untold (caps H) (work H n) (tries H n) left in
     let others : is_some (told_by_others H n) ≡ true =
     sym (ap (λ (o : Option Reply). is_some (or_else (or_else o (told_by_others H n)) (told_at_lending H n))) (wanting_undecided H n l some now)
     ∙ (ap (λ (o : Option Reply). is_some (or_else (told_by_others H n) o)) unlent ∙ or_none (told_by_others H n)))
     ∙ settled
     in
-    let told : told_by_others H n ≡ told_by_tries H [] = told_own H n (work H n) own ∙ ap (told_by_tries H) untried in
+    let told : told_by_others H n ≡ option_map DbClosed (db_end H) =
+    told_own H n (work H n) own ∙ ap (λ (b : Bool). cond b (option_map DbClosed (db_end H)) (last_told (try_number (tries H n)) (tries H n))) left
+    in
     let end : is_some (db_end H) ≡ true = closed_by_some (db_end H) (sym (ap (λ (o : Option Reply). is_some o) told) ∙ others) in
     let none = closed_to_all H n l (end_closes H end) in
     absurd (omega (arith, now, none))
@@ -172,19 +155,16 @@ replies_wanting_none H n reply l some a now = let r = replies_now H n reply a in
   where
     by : (b : Bool) → is_reply (reply_due H n) reply ≡ b → (b || is_told_too_many H n reply) ≡ true → ⊥
     by true is h = wanting_silent H n l some now (some_reply (reply_due H n) reply is)
-    by false is h = true_false (wants n (pool H)) (counted_wants n (pool H) now) (asks_unwanting H n (asked_in_vain H n reply h))
+    by false is h = true_false (wants n (pool H)) (counted_wants n (pool H) now) (asker H n (asked_in_vain H n reply h)).unwanting
 
 -- Who wants a connection has no reply.
-
-asks_unfinished : (H : List Event) (n : ℕ) → may_ask H n ≡ true → is_unfinished H n ≡ true
-asks_unfinished H n may = let a = both (is_unfinished H n) (asks (work H n) && (has_a_try (tries H n) && (not (wants n (pool H)) && is_none (reply_due H n)))) may in a.0
 
 -- who may ask or wants something has no reply
 asks_or_wants : (H : List Event) (n : ℕ) → (1 ≤ wanted n (pool H) → is_unfinished H n ≡ true) → ((may_ask H n ≡ true → ⊥) → wanted n (pool H) ≡ 0 → ⊥) → is_unfinished H n ≡ true
 asks_or_wants H n had neither_one = by (may_ask H n) (wanted n (pool H)) refl refl
   where
     by : (b : Bool) (k : ℕ) → may_ask H n ≡ b → wanted n (pool H) ≡ k → is_unfinished H n ≡ true
-    by true k may so_many = asks_unfinished H n may
+    by true k may so_many = (asker H n may).unfinished
     by false zero may so_many = absurd (neither_one (λ asks. true_false (may_ask H n) asks may) so_many)
     by false (suc k) may so_many = had (omega (arith, so_many))
 

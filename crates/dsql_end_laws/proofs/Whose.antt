@@ -11,6 +11,7 @@ use Rattle.dsql_history.specs.declared.record.CallRecord.{CallRecord}
 use Rattle.dsql_history.specs.Readers.Calls.{calls, decided_by, decision, entering, is_busy, next_call, nobody, with_record}
 use Rattle.dsql_history.specs.Readers.Clients.{call_of, client_of, is_free}
 use Rattle.dsql_history.specs.Readers.Pool.{or_none}
+use Rattle.dsql_history.specs.Readers.Tries.{tries, try_number}
 use Rattle.dsql_history.specs.Readers.Unfinished.{is_unfinished, unfinished}
 use Rattle.dsql_history.specs.Readers.Works.{work}
 use Rattle.dsql_history.specs.Legal.{Allowed, Lawful}
@@ -32,13 +33,13 @@ with_client xs n m f keeps = elim (read_set xs n (f (slice_index_or xs n nobody)
   | inr off ↦ ap (λ (r : CallRecord). r.client) off.1
 ]
 
-decided_client : (it : Work) (e : Entry) (r : CallRecord) → (decided_by it e r).client ≡ r.client
-decided_client it e r =
-    elim (e.call_no == 0) as (λ b. (cond b r (record r { decided = decision (length r.params) it e.call e.answer r.decided })).client ≡ r.client) [ true ↦ refl | false ↦ refl ]
+decided_client : (number : ℕ) (it : Work) (e : Entry) (r : CallRecord) → (decided_by number it e r).client ≡ r.client
+decided_client number it e r =
+    elim (e.call_no == 0) as (λ b. (cond b r (record r { decided = decision number (length r.params) it e.call e.answer r.decided })).client ≡ r.client) [ true ↦ refl | false ↦ refl ]
 
 pub same_client : (H : List Event) (e : Event) (m : ℕ) → is_entry e ≡ false → client_of (e ∷ H) m ≡ client_of H m
 same_client H (Entered client n op) m h = absurd cc
-same_client H (Heard e) m h = with_client (calls H) e.call_no m (decided_by (work H e.call_no) e) (decided_client (work H e.call_no) e)
+same_client H (Heard e) m h = with_client (calls H) e.call_no m (decided_by (try_number (tries H e.call_no)) (work H e.call_no) e) (decided_client (try_number (tries H e.call_no)) (work H e.call_no) e)
 same_client H (Replied n reply) m h = with_client (calls H) n m (λ r. record r { decided = None }) (λ r. refl)
 same_client H (Run version can) m h = refl
 same_client H (Pool move) m h = refl
