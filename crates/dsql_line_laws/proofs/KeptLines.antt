@@ -32,7 +32,7 @@ kept_more m line k all its = ap (drop (made_by m.past k)) (its_lines line m.line
 pub kept_same : (m : Moment) (line : Line) (k : ℕ) → is_line_of k line ≡ false → kept (met line m) k ≡ kept m k
 kept_same m line k other = ap (drop (made_by m.past k)) (same_lines line m.lines k other)
 
-none_of : {X : Type 0} (xs : List X) → is_empty xs ≡ true → xs ≡ []
+pub none_of : {X : Type 0} (xs : List X) → is_empty xs ≡ true → xs ≡ []
 none_of [] h = refl
 none_of (x ∷ xs) h = absurd cc
 

@@ -7,7 +7,7 @@ use Rattle.dsql_history.specs.declared.event.Event.{Event}
 use Rattle.dsql_history.specs.declared.event.Event.TheVariants.{Heard}
 use Rattle.dsql_history.specs.declared.record.Flight.{Flight}
 use Rattle.dsql_history.specs.declared.record.Stand.{Stand}
-use Rattle.dsql_history.specs.declared.record.Stand.TheVariants.{Waits, Opens, Sends, Replies}
+use Rattle.dsql_history.specs.declared.record.Stand.TheVariants.{Waits, Opens, Sends, Replies, Asks}
 use Rattle.dsql_history.specs.Rules.Flights.{has_flight, is_in_flight, permitted, without_flight}
 use Rattle.dsql_history.specs.Rules.Stands.{stand}
 use Rattle.dsql_laws.proofs.Tests.{same_itself}
@@ -41,6 +41,7 @@ without_permit n None flights = refl
 without_permit n (Some Waits) flights = refl
 without_permit n (Some (Opens c)) flights = refl
 without_permit n (Some Replies) flights = refl
+without_permit n (Some Asks) flights = refl
 
 permit_lands : (m : Moment) (n : ℕ) (first : Event) (e : Entry) → first ≡ Heard e → e.call_no ≡ n → landed first (takes_permit n m).flights ≡ landed first m.flights
 permit_lands m n first e heard number =

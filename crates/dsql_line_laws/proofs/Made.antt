@@ -11,6 +11,7 @@ use Rattle.dsql_history.specs.declared.record.CallRecord.{CallRecord}
 use Rattle.dsql_history.specs.Readers.Calls.{calls, decided_by, decision, nobody, with_record}
 use Rattle.dsql_history.specs.Readers.Clients.{call_of, client_of, is_free, made_by}
 use Rattle.dsql_history.specs.Readers.Pool.{or_none}
+use Rattle.dsql_history.specs.Readers.Tries.{tries, try_number}
 use Rattle.dsql_history.specs.Readers.Unfinished.{is_unfinished, unfinished}
 use Rattle.dsql_history.specs.Readers.Works.{work}
 use Rattle.dsql_history.specs.Legal.{Lawful}
@@ -53,12 +54,12 @@ with_client xs n m f keeps = elim (read_set xs n (f (slice_index_or xs n nobody)
   | inr off ↦ ap (λ (r : CallRecord). r.client) off.1
 ]
 
-decided_client : (it : Work) (e : Entry) (r : CallRecord) → (decided_by it e r).client ≡ r.client
-decided_client it e r =
-    elim (e.call_no == 0) as (λ b. (cond b r (record r { decided = decision (length r.params) it e.call e.answer r.decided })).client ≡ r.client) [ true ↦ refl | false ↦ refl ]
+decided_client : (number : ℕ) (it : Work) (e : Entry) (r : CallRecord) → (decided_by number it e r).client ≡ r.client
+decided_client number it e r =
+    elim (e.call_no == 0) as (λ b. (cond b r (record r { decided = decision number (length r.params) it e.call e.answer r.decided })).client ≡ r.client) [ true ↦ refl | false ↦ refl ]
 
 heard_client : (H : List Event) (e : Entry) (n : ℕ) → client_of (Heard e ∷ H) n ≡ client_of H n
-heard_client H e n = with_client (calls H) e.call_no n (decided_by (work H e.call_no) e) (decided_client (work H e.call_no) e)
+heard_client H e n = with_client (calls H) e.call_no n (decided_by (try_number (tries H e.call_no)) (work H e.call_no) e) (decided_client (try_number (tries H e.call_no)) (work H e.call_no) e)
 
 -- Who has an unfinished call has made one.
 

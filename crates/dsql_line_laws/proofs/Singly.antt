@@ -215,6 +215,7 @@ wakes_shown n ps None h a b = together (is_one_step ps) _ a b
 wakes_shown n ps (Some stands.Waits) h a b = together (is_one_step ps) _ a b
 wakes_shown n ps (Some (stands.Opens c)) h a b = together (is_one_step ps) _ a b
 wakes_shown n ps (Some stands.Replies) h a b = together (is_one_step ps) _ a b
+wakes_shown n ps (Some stands.Asks) h a b = together (is_one_step ps) _ a b
 
 from_inside : (n : ℕ) (e : Event) → goes_by_itself n e ≡ true → is_from_outside e ≡ false
 from_inside n (Replied k reply) h = refl

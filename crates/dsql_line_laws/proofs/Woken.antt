@@ -1,33 +1,52 @@
 -- What a call does that may move, and of which no driver call is under way.
-use Rattle.std.proofs.Common.{◌≡◌, ℕ, ◌==◌, ◌⊎◌, inl, inr, Bool, true, false, not, ◌&&◌, ◌||◌, cond, List, [], ◌∷◌, Option, Some, None, is_none, is_some, refl, sym, ap, ◌∙◌}
+use Rattle.std.proofs.Common.{◌≡◌, ℕ, ◌==◌, ◌⊎◌, inl, inr, Bool, true, false, not, ◌&&◌, ◌||◌, cond, List, [], ◌∷◌, length, Option, Some, None, Ok, Err, is_none, is_some, refl, sym, ap, ◌∙◌, arith}
+use Rattle.std.specs.Prelude.{find}
 use Rattle.std.specs.List.{list_all}
 use Rattle.dsql_course.specs.Made.{or_else}
 use Rattle.dsql_journal.specs.Readers.{has}
+use Rattle.dsql_journal.specs.declared.entry.Owner.TheVariants.{Call}
 use Rattle.dsql_wait.specs.Requests.{waits}
+use Rattle.dsql_pool.specs.Decisions.{are_too_many, last, may_open, takes_idle}
 use Rattle.dsql_pool.specs.Places.{is_for}
+use Rattle.dsql_pool.specs.Calls.{wants}
+use Rattle.dsql_pool.specs.declared.conn.Conn.{Conn}
+use Rattle.dsql_pool.specs.Pooled.{Pooled, next_number, next_tenure}
+use Rattle.dsql_pool.specs.declared.moves.Move.TheVariants.{OpenStart, Lend}
+use Rattle.dsql_pool.specs.declared.request.AskFault.TheVariants.{TooMany}
+use Rattle.dsql_pool.specs.declared.request.Asked.TheVariants as asked
 use Rattle.dsql_history.specs.declared.event.Event.{Event}
-use Rattle.dsql_history.specs.declared.event.Event.TheVariants.{Replied}
+use Rattle.dsql_history.specs.declared.event.Event.TheVariants.{Pool, Replied, Waits}
 use Rattle.dsql_history.specs.declared.record.Flight.{Flight}
 use Rattle.dsql_history.specs.declared.record.Stand.{Stand}
 use Rattle.dsql_history.specs.declared.record.Stand.TheVariants as stands_at
 use Rattle.dsql_history.specs.declared.reply.Reply.{Reply}
+use Rattle.dsql_history.specs.declared.reply.Reply.TheVariants as replies
 use Rattle.dsql_history.specs.Legal.{Lawful}
-use Rattle.dsql_history.specs.Readers.Calls.{decided, reply_due, site, told_at_lending, told_by_others}
-use Rattle.dsql_history.specs.Readers.Pool.{pool, smallest}
+use Rattle.dsql_history.specs.Readers.Calls.{decided, reply_due, site, told_by_others}
+use Rattle.dsql_history.specs.Readers.Owed.{owed}
+use Rattle.dsql_history.specs.Readers.Pool.{pool, request, smallest}
+use Rattle.dsql_history.specs.Readers.Tries.{asks_again, tries}
 use Rattle.dsql_history.specs.Readers.Unfinished.{is_unfinished, unfinished}
+use Rattle.dsql_history.specs.Rules.Asking.{ask_outcome, may_ask}
 use Rattle.dsql_history.specs.Rules.Flights.{is_blocked, is_in_flight}
 use Rattle.dsql_history.specs.Rules.Line.{due_for}
 use Rattle.dsql_history.specs.Rules.Settled.{Settled}
 use Rattle.dsql_history.specs.Rules.Stands.{opens, stand, stands}
+use Rattle.dsql_laws.proofs.Counts.{uncounted, unmapped, waits_none}
 use Rattle.dsql_laws.proofs.Numbered.{unfinished_from_one}
-use Rattle.dsql_laws.proofs.Tests.{both, other_number, same_itself, same_number, second, together}
-use Rattle.dsql_follows.specs.Moments.{Moment, Walk, at_rest, begins_step, goes_over, rested, with_event}
+use Rattle.dsql_laws.proofs.Tests.{both, other_number, same_number, second, together}
+use Rattle.dsql_laws.proofs.Wanting.{is_opening_for, none_wanted}
+use Rattle.dsql_reply_laws.proofs.Nowhere.{nowhere_replies}
+use Rattle.dsql_move_laws.proofs.Asked.{asks_an_open_one}
+use Rattle.dsql_follows.specs.Moments.{Moment}
 use Rattle.dsql_follows.specs.Splits.{is_sending}
 use Rattle.dsql_follows.specs.Turns.{can_move}
-use Rattle.dsql_follows.specs.Sentences.{is_one_step, is_whole, oldest}
-use Rattle.dsql_steps.specs.Groups.{after_settling, gone_on, sends_nothing}
-use Rattle.dsql_step_laws.specs.Steps.{IsAtRest, IsStep}
+use Rattle.dsql_follows.specs.Sentences.{is_whole}
+use Rattle.dsql_steps.specs.Groups.{after_settling, asked_so, gone_on, sends_nothing}
+use Rattle.dsql_step_laws.specs.Steps.{GoesByItself, IsAtRest}
+use Rattle.dsql_step_laws.proofs.Groups.{goes_on_by_one}
 use Rattle.dsql_line_laws.specs.Waking.{GoesOn, OnlySends}
+use Rattle.dsql_line_laws.proofs.KeptLines.{none_of}
 
 -- it didn't step last
 pub stepped_earlier : (m : Moment) (n : ℕ) → is_whole m ≡ true → can_move m n ≡ true → is_in_flight n m.flights ≡ false → (n == m.stepper) ≡ false
@@ -42,26 +61,25 @@ stepped_earlier m n whole moves parked = by (n == m.stepper) refl
         absurd cc
     by false is = refl
 
--- Where it stands: a driver call is due, or others have settled what it replies.
+-- Where it stands: a driver call is due, or none is, and it wants no connection.
 
-abbrev standing : Bool → Option ℕ → Bool → ℕ → Bool → Option Stand
-standing w o d c r = or_else (stands w stands_at.Waits) (or_else (opens o) (or_else (stands d (stands_at.Sends c)) (stands r stands_at.Replies)))
+abbrev standing : Bool → Option ℕ → Bool → ℕ → Bool → Bool → Option Stand
+standing w o d c r a = or_else (stands w stands_at.Waits) (or_else (opens o) (or_else (stands d (stands_at.Sends c)) (or_else (stands r stands_at.Replies) (stands a stands_at.Asks))))
 
-unblocked : (flights : List Flight) (n : ℕ) (w : Bool) (o : Option ℕ) (d : Bool) (c : ℕ) (r : Bool) → is_blocked flights n (standing w o d c r) ≡ false → is_some (standing w o d c r) ≡ true
-    → ((d ≡ true) × (standing w o d c r ≡ Some (stands_at.Sends c))) ⊎ ((d ≡ false) × (r ≡ true) × (standing w o d c r ≡ Some stands_at.Replies))
-unblocked flights n true o d c r free some = absurd cc
-unblocked flights n false (Some k) d c r free some = absurd cc
-unblocked flights n false None true c r free some = inl (refl, refl)
-unblocked flights n false None false c true free some = inr (refl, refl, refl)
-unblocked flights n false None false c false free some = absurd cc
+unblocked : (flights : List Flight) (n : ℕ) (w : Bool) (o : Option ℕ) (d : Bool) (c : ℕ) (r a : Bool) → is_blocked flights n (standing w o d c r a) ≡ false → is_some (standing w o d c r a) ≡ true
+    → ((d ≡ true) × (standing w o d c r a ≡ Some (stands_at.Sends c))) ⊎ ((w ≡ false) × (o ≡ None) × (d ≡ false) × (is_sending (standing w o d c r a) ≡ false))
+unblocked flights n true o d c r a free some = absurd cc
+unblocked flights n false (Some k) d c r a free some = absurd cc
+unblocked flights n false None true c r a free some = inl (refl, refl)
+unblocked flights n false None false c true a free some = inr (refl, refl, refl, refl)
+unblocked flights n false None false c false true free some = inr (refl, refl, refl, refl)
+unblocked flights n false None false c false false free some = absurd cc
 
-none_is : {X : Type 0} (o : Option X) → is_none o ≡ true → o ≡ None
-none_is None h = refl
-none_is (Some x) h = absurd cc
-
-some_is : {X : Type 0} (o : Option X) → is_some o ≡ true → (x : X) × (o ≡ Some x)
-some_is None h = absurd cc
-some_is (Some x) h = (x, refl)
+unwanting : (n : ℕ) (p : Pooled) → waits n p.waiting ≡ false → smallest (is_for n) p ≡ None → wants n p ≡ false
+unwanting n p unwaiting unopened =
+    let waiting = waits_none n p.waiting unwaiting in
+    let opening = uncounted (is_opening_for n) p.conns (unmapped (λ (x : Conn). x.number) (find (is_opening_for n) p.conns) unopened) in
+    none_wanted n p (omega (arith, waiting, opening))
 
 all_has : (q : ℕ → Bool) (ns : List ℕ) (n : ℕ) → list_all q ns ≡ true → has n ns ≡ true → q n ≡ true
 all_has q [] n h k = absurd cc
@@ -81,32 +99,53 @@ goes_silent H n u due =
     let sends : sends_nothing H n ≡ false = ap (λ b. b && not (is_some (due_for H n))) u ∙ ap not due in
     ap (λ b. cond b (after_settling n (reply_due H n) H) H) sends
 
-goes_replying : (H : List Event) (n : ℕ) → is_unfinished H n ≡ true → is_some (due_for H n) ≡ false → (is_none (decided H n) && is_some (told_by_others H n)) ≡ true → (reply : Reply) × (gone_on n H ≡ Replied n reply ∷ H)
-goes_replying H n u due told =
-    let a = both (is_none (decided H n)) (is_some (told_by_others H n)) told in
-    let r = some_is (told_by_others H n) a.1 in
-    let sends : sends_nothing H n ≡ true = together (is_unfinished H n) (not (is_some (due_for H n))) u (ap not due) in
-    let settled : reply_due H n ≡ Some r.0 =
-    ap (λ o. or_else (or_else o (told_by_others H n)) (told_at_lending H n)) (none_is (decided H n) a.0) ∙ ap (λ o. or_else o (told_at_lending H n)) r.1
-    in
-    (r.0, ap (λ b. cond b (after_settling n (reply_due H n) H) H) sends ∙ ap (λ o. after_settling n o H) settled)
+goes_settled : (H : List Event) (n : ℕ) (due : Option Reply) → is_unfinished H n ≡ true → is_some (due_for H n) ≡ false → reply_due H n ≡ due → gone_on n H ≡ after_settling n due H
+goes_settled H n due u silent is =
+    let sends : sends_nothing H n ≡ true = together (is_unfinished H n) (not (is_some (due_for H n))) u (ap not silent) in
+    ap (λ b. cond b (after_settling n (reply_due H n) H) H) sends ∙ ap (λ o. after_settling n o H) is
 
--- its reply alone is one step
-reply_step : (m : Moment) (n : ℕ) (reply : Reply) → IsAtRest m → (n == m.stepper) ≡ false → IsStep m (Replied n reply) n (Replied n reply ∷ [])
-reply_step m n reply rest apart =
-    let e = Replied n reply in
-    let w : Walk = record { now = m; passed = [] } in
-    let b : begins_step m e ≡ true = ap not apart in
-    let free : rested true m ≡ m = ap (λ it. record m { flights = it.flights }) rest in
-    record {
-      one = ap (λ begins. is_one_step (goes_over e begins w).passed) b;
-      oldest = ap (λ begins. oldest (goes_over e begins w).passed) b ∙ ap (λ before. Some (record { event = e; before = before; begins = true })) free;
-      now = ap at_rest (ap (λ begins. (goes_over e begins w).now) b ∙ ap (λ it. with_event e it) free);
-    }
+-- an event more is another history
+longer : (e : Event) (H : List Event) → e ∷ H ≡ H → ⊥
+longer e H same = let k : length (e ∷ H) ≡ length H = ap (λ (es : List Event). length es) same in absurd (omega (arith, k))
+
+-- what an open database answers comes
+answer_comes : (n : ℕ) (H : List Event) (closed takes many may : Bool) (c t k : ℕ) → closed ≡ false
+    → asked_so n (cond closed (Ok asked.Closed) (cond takes (Ok (asked.Lent c t)) (cond many (Err TooMany) (cond may (Ok (asked.Opening k)) (Ok asked.Queued))))) H ≡ H → ⊥
+answer_comes n H true takes many may c t k unclosed same = absurd cc
+answer_comes n H false true many may c t k unclosed same = longer (Pool (Lend c t (Call n) n)) H same
+answer_comes n H false false true may c t k unclosed same = longer (Replied n replies.TooMany) H same
+answer_comes n H false false false true c t k unclosed same = longer (Pool (OpenStart k n)) H same
+answer_comes n H false false false false c t k unclosed same = longer (Waits n) H same
+
+-- who has nothing due and wants no connection replies what is settled, or asks and is answered
+moves_more : (H : List Event) (n : ℕ) → Lawful H → Settled H → is_unfinished H n ≡ true → is_some (due_for H n) ≡ false → wants n (pool H) ≡ false → gone_on n H ≡ H → ⊥
+moves_more H n l settled u silent free same = by (reply_due H n) refl
+  where
+    p : Pooled
+    p = pool H
+
+    is_open : (b : Bool) → (b ≡ true → ⊥) → b ≡ false
+    is_open true never = absurd (never refl)
+    is_open false never = refl
+
+    asks : reply_due H n ≡ None → (b : Bool) → may_ask H n ≡ b → ⊥
+    asks none true may =
+        let went : gone_on n H ≡ asked_so n (ask_outcome H n) H = goes_settled H n None u silent none ∙ ap (λ b. cond b (asked_so n (ask_outcome H n) H) H) may in
+        answer_comes n H p.closed (takes_idle (request H n) p) (are_too_many p) (may_open p) (last p.idle) (next_tenure p (last p.idle)) (next_number p)
+        (is_open p.closed (asks_an_open_one H n may)) (sym went ∙ same)
+    asks none false may =
+        let clash : true ≡ false = sym (nowhere_replies H n l u silent free settled.used may) ∙ ap (λ o. is_some o) none in
+        cc
+
+    by : (o : Option Reply) → reply_due H n ≡ o → ⊥
+    by (Some reply) is = longer (Replied n reply) H (sym (goes_settled H n (Some reply) u silent is) ∙ same)
+    by None is = asks is (may_ask H n) refl
 
 pub sends_or_goes : (m : Moment) (n : ℕ) → IsAtRest m → is_whole m ≡ true → Lawful m.past → Settled m.past → can_move m n ≡ true → is_in_flight n m.flights ≡ false → OnlySends m.past n ⊎ GoesOn m n
 sends_or_goes m n rest whole lawful settled moves parked =
-    by (unblocked m.flights n (waits n (pool H).waiting) (smallest (is_for n) (pool H)) (is_some (due_for H n)) (site H n) (is_none (decided H n) && is_some (told_by_others H n)) free (is_somewhere H n lawful settled unfinished_it))
+    by
+    (unblocked m.flights n (waits n (pool H).waiting) (smallest (is_for n) (pool H)) (is_some (due_for H n)) (site H n) (is_none (decided H n) && is_some (told_by_others H n)) (asks_again (tries H n)) free
+    (is_somewhere H n lawful settled unfinished_it))
   where
     H : List Event
     H = m.past
@@ -124,11 +163,13 @@ sends_or_goes m n rest whole lawful settled moves parked =
     free : is_blocked m.flights n (stand H n) ≡ false
     free = turned (is_blocked m.flights n (stand H n)) (second (is_in_flight n m.flights) (not (is_blocked m.flights n (stand H n))) parked able.1)
 
+    goes_on : is_sending (stand H n) ≡ false → (gone_on n H ≡ H → ⊥) → (gone_on n H ≡ H) ⊎ GoesByItself m n (gone_on n H) → OnlySends H n ⊎ GoesOn m n
+    goes_on stands more (inl same) = absurd (more same)
+    goes_on stands more (inr goes) = inr (record { stands = stands; goes = goes })
+
     by : ((is_some (due_for H n) ≡ true) × (stand H n ≡ Some (stands_at.Sends (site H n))))
-        ⊎ ((is_some (due_for H n) ≡ false) × ((is_none (decided H n) && is_some (told_by_others H n)) ≡ true) × (stand H n ≡ Some stands_at.Replies)) → OnlySends H n ⊎ GoesOn m n
+        ⊎ ((waits n (pool H).waiting ≡ false) × (smallest (is_for n) (pool H) ≡ None) × (is_some (due_for H n) ≡ false) × (is_sending (stand H n) ≡ false)) → OnlySends H n ⊎ GoesOn m n
     by (inl sends) = inl (record { conn = site H n; stands = sends.1; silent = goes_silent H n unfinished_it sends.0 })
-    by (inr replies) =
-        let r = goes_replying H n unfinished_it replies.0 replies.1 in
-        let e = Replied n r.0 in
-        let step = reply_step m n r.0 rest (stepped_earlier m n whole moves parked) in
-        inr (record { stands = ap is_sending replies.2; goes = record { first = e; itself = same_itself n; step = record { events = e ∷ []; group = r.1; step = step } } })
+    by (inr goes) =
+        goes_on goes.3 (moves_more H n lawful settled unfinished_it goes.2 (unwanting n (pool H) goes.0 goes.1))
+        (goes_on_by_one m n rest (none_of (owed H) settled.nothing_owed) (stepped_earlier m n whole moves parked))
