@@ -1,44 +1,43 @@
 -- What comes of a call that asks, and what it leaves.
-use Rattle.std.proofs.Common.{◌≡◌, ◌≢◌, ℕ, Bool, true, false, not, ◌&&◌, List, ◌∷◌, Option, Some, None, refl, sym, ap, is_none, arith}
+use Rattle.std.proofs.Common.{◌≡◌, ◌≢◌, ℕ, Bool, true, List, ◌∷◌, Option, Some, None, refl, sym, ap, ◌∙◌, arith}
 use Rattle.std.specs.Prelude.{Result, Ok, Err}
 use Rattle.dsql_journal.specs.declared.entry.Owner.TheVariants.{Call}
 use Rattle.dsql_pool.specs.declared.request.Asked.{Asked}
 use Rattle.dsql_pool.specs.declared.request.Asked.TheVariants as asked
 use Rattle.dsql_pool.specs.declared.request.AskFault.{AskFault}
 use Rattle.dsql_pool.specs.Moved.{begun}
-use Rattle.dsql_pool.specs.Calls.{MayAsk, after_asked, wants}
-use Rattle.dsql_work.specs.Works.{asks}
+use Rattle.dsql_pool.specs.Calls.{MayAsk, after_asked, asks, wants}
+use Rattle.dsql_pool.specs.Decisions as pools
+use Rattle.dsql_pool.specs.Pooled.{Pooled}
 use Rattle.dsql_history.specs.declared.event.Event.{Event}
-use Rattle.dsql_history.specs.Readers.Pool.{pool, request, wanted_by}
-use Rattle.dsql_history.specs.Readers.Tries.{tries, has_a_try}
-use Rattle.dsql_history.specs.Readers.Works.{work}
-use Rattle.dsql_history.specs.Readers.Calls.{reply_due}
-use Rattle.dsql_history.specs.Readers.Unfinished.{is_unfinished}
-use Rattle.dsql_history.specs.Rules.Asking.{may_ask}
+use Rattle.dsql_history.specs.Readers.Pool.{pool, request, request_at, wanted_by}
+use Rattle.dsql_history.specs.Readers.Tries.{tries, asks_last}
+use Rattle.dsql_history.specs.Rules.Asking.{may_ask, ask_outcome}
 use Rattle.dsql_history.specs.Legal.{Lawful, Calm}
 use Rattle.dsql_laws.specs.Asked.{with_asked}
-use Rattle.dsql_laws.proofs.Tests.{both, other_number}
+use Rattle.dsql_laws.proofs.Asker.{asker}
+use Rattle.dsql_laws.proofs.Tests.{other_number}
 use Rattle.dsql_laws.proofs.Numbered.{unfinished_from_one}
 use Rattle.dsql_desk.specs.Appending.{event_asked}
 use Rattle.dsql_desk.proofs.Moves.{Leaves}
 
-not_true : (b : Bool) → not b ≡ true → b ≡ false
-not_true true h = absurd cc
-not_true false h = refl
-
 pub numbered : (H : List Event) (n : ℕ) → Lawful H → may_ask H n ≡ true → n ≢ 0
-numbered H n l may =
-    let a = both (is_unfinished H n) (asks (work H n) && (has_a_try (tries H n) && (not (wants n (pool H)) && is_none (reply_due H n)))) may in
-    unfinished_from_one H n l a.0
+numbered H n l may = unfinished_from_one H n l (asker H n may).unfinished
 
-pub may_request : (H : List Event) (n : ℕ) → Lawful H → may_ask H n ≡ true → MayAsk (request H n) (pool H)
-may_request H n l may =
-    let a = both (is_unfinished H n) (asks (work H n) && (has_a_try (tries H n) && (not (wants n (pool H)) && is_none (reply_due H n)))) may in
-    let b = both (asks (work H n)) (has_a_try (tries H n) && (not (wants n (pool H)) && is_none (reply_due H n))) a.1 in
-    let d = both (has_a_try (tries H n)) (not (wants n (pool H)) && is_none (reply_due H n)) b.1 in
-    let e = both (not (wants n (pool H))) (is_none (reply_due H n)) d.1 in
+-- the call may make its request of this pool, where this tells whether its next try is the last
+pub may_request : (H : List Event) (n : ℕ) (last : Bool) (p : Pooled) → Lawful H → may_ask H n ≡ true → last ≡ asks_last (tries H n) → p ≡ pool H → MayAsk (request_at last n p.moment) p
+may_request H n last p l may is_last is_pool =
     let some = numbered H n l may in
-    record { owner = refl; call = refl; numbered = omega (arith, some); new = not_true (wants n (pool H)) e.0; asked = refl }
+    record { owner = refl; call = refl; numbered = omega (arith, some); new = ap (wants n) is_pool ∙ (asker H n may).unwanting; asked = refl }
+
+-- what the pool answers, and what it makes of the request
+pub answered_as : (H : List Event) (n : ℕ) (last : Bool) (p : Pooled) → last ≡ asks_last (tries H n) → p ≡ pool H → pools.ask_outcome (request_at last n p.moment) p ≡ ask_outcome H n
+answered_as H n last p is_last is_pool =
+    ap (λ (b : Bool). pools.ask_outcome (request_at b n p.moment) p) is_last ∙ ap (λ (q : Pooled). pools.ask_outcome (request_at (asks_last (tries H n)) n q.moment) q) is_pool
+
+pub asks_as : (H : List Event) (n : ℕ) (last : Bool) (p : Pooled) → last ≡ asks_last (tries H n) → p ≡ pool H → asks (request_at last n p.moment) p ≡ asks (request H n) (pool H)
+asks_as H n last p is_last is_pool =
+    ap (λ (b : Bool). asks (request_at b n p.moment) p) is_last ∙ ap (λ (q : Pooled). asks (request_at (asks_last (tries H n)) n q.moment) q) is_pool
 
 pub asked_leaves : (n : ℕ) (a : Result Asked AskFault) (H : List Event) → Leaves H (with_asked n a H)
 asked_leaves n (Ok (asked.Lent c t)) H = record { caps = refl; db_end = refl; has_ended = refl; unfinished = refl; works = refl; handed_out = refl }

@@ -14,20 +14,18 @@ use Rattle.dsql_work.specs.declared.work.Work.TheVariants.{HandOut, Fetch}
 use Rattle.dsql_work.specs.HandedOut.{Made}
 use Rattle.dsql_history.specs.declared.event.Event.{Event}
 use Rattle.dsql_history.specs.declared.event.Event.TheVariants.{Heard}
-use Rattle.dsql_history.specs.declared.record.CallRecord.{CallRecord}
-use Rattle.dsql_history.specs.Readers.Calls.{decided_by}
 use Rattle.dsql_history.specs.Readers.HandedOut.{handed_out}
 use Rattle.dsql_history.specs.Readers.Owed.{answered}
 use Rattle.dsql_history.specs.Readers.Works.{work}
 use Rattle.dsql_history.specs.Rules.Moves.{hears_in, is_house_entry}
+use Rattle.dsql_history.specs.Legal.{Lawful}
 use Rattle.dsql_laws.proofs.Tests.{both}
 use Rattle.dsql_calls.specs.declared.call.CallRow.{CallRow}
 use Rattle.dsql_desk.specs.Adding.{opens_or_shuts}
 use Rattle.dsql_calls.specs.Calls.{KeepsCalls, nobody, row_at}
-use Rattle.dsql_telling.specs.Heard.{HearsRows, calls_after, calls_told, is_fetch_or_query}
+use Rattle.dsql_telling.specs.Heard.{HearsRows, calls_after, calls_told, is_fetch_or_query, told_in}
 use Rattle.dsql_telling.proofs.Beside.{rows_beside, calls_beside}
 use Rattle.dsql_desk.proofs.Kept.{heard_keeps}
-use Rattle.dsql_desk.proofs.MadeKnown.{made_known}
 
 hears_nothing : (w : Work) (n : ℕ) (q : DriverCall) (made : Made) → opens_or_shuts q ≡ true → HearsRows w n q made
 hears_nothing (HandOut label) n Connect made opens = tt
@@ -43,17 +41,17 @@ is_no_query Connect opens = refl
 is_no_query Shut opens = refl
 is_no_query q opens = absurd cc
 
-nobody_told : (w : Work) (e : Entry) (rows : List CallRow) → e.call_no ≡ 0 → calls_told w e rows ≡ rows
-nobody_told w e rows house =
-    let none : decided_by w e (row_at rows e.call_no).call ≡ (row_at rows e.call_no).call = rw house refl in
-    ap (λ (r : CallRecord). slice_set rows e.call_no (record (row_at rows e.call_no) { call = r })) none ∙ set-get_or rows e.call_no nobody
+nobody_told : (w : Work) (k : ℕ) (e : Entry) (rows : List CallRow) → e.call_no ≡ 0 → calls_told k w e rows ≡ rows
+nobody_told w k e rows house =
+    let none : told_in k w e (row_at rows e.call_no) ≡ row_at rows e.call_no = rw house refl in
+    ap (slice_set rows e.call_no) none ∙ set-get_or rows e.call_no nobody
 
-pub house_keeps : (H : List Event) (e : Entry) (rows : List CallRow) → opens_or_shuts e.call ≡ true → e.call_no ≡ 0 → KeepsCalls H rows → KeepsCalls (Heard e ∷ H) rows
-house_keeps H e rows opens house k =
+pub house_keeps : (H : List Event) (e : Entry) (rows : List CallRow) → Lawful H → opens_or_shuts e.call ≡ true → e.call_no ≡ 0 → KeepsCalls H rows → KeepsCalls (Heard e ∷ H) rows
+house_keeps H e rows l opens house k =
     let w = work H e.call_no in
-    let same : calls_after w e.call_no e.call e.answer (handed_out H) (calls_told w e rows) ≡ rows
-    = calls_beside w e.call_no e.call e.answer (handed_out H) (calls_told w e rows) (is_no_query e.call opens) ∙ nobody_told w e rows house in
-    subst (λ (rs : List CallRow). KeepsCalls (Heard e ∷ H) rs) same (heard_keeps H e w rows refl (hears_nothing w e.call_no e.call (handed_out H) opens) (made_known H) k)
+    let same : calls_after w e.call_no e.call e.answer (handed_out H) (calls_told 1 w e rows) ≡ rows
+    = calls_beside w e.call_no e.call e.answer (handed_out H) (calls_told 1 w e rows) (is_no_query e.call opens) ∙ nobody_told w 1 e rows house in
+    subst (λ (rs : List CallRow). KeepsCalls (Heard e ∷ H) rs) same (heard_keeps H e w 1 rows l refl (λ some. absurd (some house)) (hears_nothing w e.call_no e.call (handed_out H) opens) k)
 
 pub house_rows : (H : List Event) (e : Entry) → opens_or_shuts e.call ≡ true → handed_out (Heard e ∷ H) ≡ handed_out H
 house_rows H e opens = rows_beside (work H e.call_no) e.call_no e.call e.answer (handed_out H) (is_no_query e.call opens)

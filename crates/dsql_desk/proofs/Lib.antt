@@ -5,8 +5,9 @@ pub mod Enders
 pub mod EndedRows
 pub mod Known
 pub mod MadeKnown
-pub mod Falling
 pub mod Untried
+pub mod FewTries
+pub mod HeardOf
 pub mod Kept
 pub mod HouseCalls
 pub mod OtherEvents

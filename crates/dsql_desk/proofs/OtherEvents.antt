@@ -1,6 +1,6 @@
 -- Events that concern no table, and the end of the run.
 use Rattle.std.proofs.Common.{◌≡◌, ℕ, true, List, ◌∷◌, refl, sym, ◌∙◌}
-use Rattle.std.specs.Prelude.{ℤ, position}
+use Rattle.std.specs.Prelude.{position}
 use Rattle.dsql_work.specs.Works.{has_label}
 use Rattle.dsql_history.specs.declared.event.Event.{Event}
 use Rattle.dsql_history.specs.declared.event.Event.TheVariants.{Waits, Ticked, SetLimit, Ended}

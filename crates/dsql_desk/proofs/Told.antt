@@ -1,5 +1,5 @@
 -- What others have settled for a call, and where a call waits.
-use Rattle.std.proofs.Common.{◌≡◌, ℕ, Bool, true, false, not, ◌||◌, ◌&&◌, cond, List, [], ◌∷◌, refl, sym, ap, ◌∙◌, Option, None, Some, is_none, is_some}
+use Rattle.std.proofs.Common.{◌≡◌, ℕ, Bool, true, false, not, ◌||◌, ◌&&◌, cond, List, [], ◌∷◌, refl, ap, ◌∙◌, Option, None, Some, is_none, is_some}
 use Rattle.dsql_course.specs.Made.{or_else}
 use Rattle.dsql_wait.specs.Requests.{waits}
 use Rattle.dsql_pool.specs.Places.{is_for}
@@ -7,24 +7,28 @@ use Rattle.dsql_work.specs.declared.work.Work.{Work}
 use Rattle.dsql_work.specs.declared.work.Work.TheVariants.{Execute, ReadOne, HandOut, Ping, Fetch, Close, Look}
 use Rattle.dsql_work.specs.Works.{asks}
 use Rattle.dsql_history.specs.declared.event.Event.{Event}
-use Rattle.dsql_history.specs.declared.record.Stand.TheVariants.{Waits, Sends, Replies}
+use Rattle.dsql_history.specs.declared.record.Stand.TheVariants.{Waits, Sends, Replies, Asks}
 use Rattle.dsql_history.specs.declared.record.Try.{Try}
-use Rattle.dsql_history.specs.declared.record.Try.TheVariants.{Served, Refused}
+use Rattle.dsql_history.specs.declared.record.Try.TheVariants.{Served, Lost, Refused}
 use Rattle.dsql_history.specs.declared.reply.Reply.{Reply}
 use Rattle.dsql_history.specs.declared.reply.Reply.TheVariants.{Truth}
 use Rattle.dsql_history.specs.Readers.Calls.{decided, site, told_as_lent, told_at_lending, told_by_others, told_by_tries, told_of_work}
-use Rattle.dsql_history.specs.Readers.Course.{caps, db_end}
+use Rattle.dsql_history.specs.Readers.Course.{caps}
 use Rattle.dsql_history.specs.Readers.HandedOut.{over, rows_by}
 use Rattle.dsql_history.specs.Readers.Pool.{pool, smallest}
-use Rattle.dsql_history.specs.Readers.Tries.{has_a_try, tries}
+use Rattle.dsql_history.specs.Readers.Tries.{asks_again, asks_last, has_a_try, tries}
 use Rattle.dsql_history.specs.Readers.Unfinished.{is_unfinished}
 use Rattle.dsql_history.specs.Readers.Works.{is_fetch, work}
 use Rattle.dsql_history.specs.Rules.Line.{due_for}
 use Rattle.dsql_history.specs.Rules.Stands.{stands, opens, stand, is_waiting}
 use Rattle.dsql_desk.specs.declared.desk.Desk.{Desk}
-use Rattle.dsql_calls.specs.Calls.{newest, row_at}
+use Rattle.dsql_calls.specs.declared.tried.Tried.{Tried}
+use Rattle.dsql_calls.specs.Calls.{row_at, rows_worked}
+use Rattle.dsql_calls.specs.Tried.{kept, has_another, next_is_last}
+use Rattle.dsql_calls.specs.Tried as of_row
+use Rattle.dsql_calls.proofs.KeptTries.{kept_told, kept_another, kept_again, kept_last}
+use Rattle.dsql_rows.specs.declared.rows.Rows.{Rows}
 use Rattle.dsql_desk.specs.Desk.{past, Stands}
-use Rattle.dsql_calls.specs.Calls.{rows_worked}
 use Rattle.dsql_calls.specs.Settling.{told_served, told_trying}
 use Rattle.dsql_driver.specs.declared.caps.Caps.{Caps}
 use Rattle.dsql_desk.proofs.KeptOfCalls.{work_kept}
@@ -47,28 +51,33 @@ told_by_kind H n (Fetch k) = cond_some (over (rows_by H k)) (Truth false)
 told_by_kind H n (Close k) = refl
 told_by_kind H n Look = refl
 
-told_by_newest : (H : List Event) (ts : List Try) → told_by_tries H ts ≡ told_trying (db_end H) (newest ts)
-told_by_newest H [] = refl
-told_by_newest H (Served ∷ earlier) = refl
-told_by_newest H (Refused answer ∷ earlier) = refl
-
-untried : (ts : List Try) → has_a_try ts ≡ is_none (newest ts)
-untried [] = refl
-untried (it ∷ earlier) = refl
-
 pub told_kept : (d : Desk) (n : ℕ) → Stands d → is_unfinished (past d) n ≡ true → told_trying d.closed_by (row_at d.calls.items n).tried ≡ told_by_tries (past d) (tries (past d) n)
 unfolding Stands
 told_kept d n s under_way =
-    ap (λ (tried : Option Try). told_trying d.closed_by tried) (s.tables.calls.tried n under_way) ∙ ap (λ end. told_trying end (newest (tries (past d) n))) s.closed_by ∙ sym (told_by_newest (past d) (tries (past d) n))
+    ap (λ (tried : Tried). told_trying d.closed_by tried) (s.tables.calls.tried n under_way) ∙ ap (λ end. told_trying end (kept (tries (past d) n))) s.closed_by ∙ kept_told (past d) (tries (past d) n)
 
-pub try_kept : (d : Desk) (n : ℕ) → Stands d → is_unfinished (past d) n ≡ true → is_none (row_at d.calls.items n).tried ≡ has_a_try (tries (past d) n)
+pub another_kept : (d : Desk) (n : ℕ) → Stands d → is_unfinished (past d) n ≡ true → has_another (row_at d.calls.items n).tried ≡ has_a_try (tries (past d) n)
 unfolding Stands
-try_kept d n s under_way = ap (λ (tried : Option Try). is_none tried) (s.tables.calls.tried n under_way) ∙ sym (untried (tries (past d) n))
+another_kept d n s under_way = ap has_another (s.tables.calls.tried n under_way) ∙ kept_another (tries (past d) n)
+
+pub again_kept : (d : Desk) (n : ℕ) → Stands d → is_unfinished (past d) n ≡ true → of_row.asks_again (row_at d.calls.items n).tried ≡ asks_again (tries (past d) n)
+unfolding Stands
+again_kept d n s under_way = ap of_row.asks_again (s.tables.calls.tried n under_way) ∙ kept_again (tries (past d) n)
+
+pub last_kept : (d : Desk) (n : ℕ) → Stands d → is_unfinished (past d) n ≡ true → next_is_last (row_at d.calls.items n).tried ≡ asks_last (tries (past d) n)
+unfolding Stands
+last_kept d n s under_way = ap next_is_last (s.tables.calls.tried n under_way) ∙ kept_last (tries (past d) n)
+
+-- rows that weren't made are none
+pub unmade : (rows : Option Rows) → is_none rows ≡ not (is_some rows)
+unmade None = refl
+unmade (Some rows) = refl
 
 -- what a lending tells, by the newest try
-pub served_as : (can : Caps) (it : Work) (ts : List Try) → told_served can.pinger it (newest ts) ≡ told_as_lent can it ts
+pub served_as : (can : Caps) (it : Work) (ts : List Try) → told_served can.pinger it (kept ts).newest ≡ told_as_lent can it ts
 served_as can Ping [] = refl
 served_as can Ping (Served ∷ earlier) = refl
+served_as can Ping (Lost ∷ earlier) = refl
 served_as can Ping (Refused answer ∷ earlier) = refl
 served_as can Execute ts = refl
 served_as can (ReadOne dests) ts = refl
@@ -77,13 +86,13 @@ served_as can (Fetch k) ts = refl
 served_as can (Close k) ts = refl
 served_as can Look ts = refl
 
-pub lent_kept : (d : Desk) (n : ℕ) → Stands d → is_unfinished (past d) n ≡ true → told_served d.caps.pinger (row_at d.calls.items n).work (row_at d.calls.items n).tried ≡ told_at_lending (past d) n
+pub lent_kept : (d : Desk) (n : ℕ) → Stands d → is_unfinished (past d) n ≡ true → told_served d.caps.pinger (row_at d.calls.items n).work (row_at d.calls.items n).tried.newest ≡ told_at_lending (past d) n
 unfolding Stands
 lent_kept d n s under_way =
     let row = row_at d.calls.items n in
-    ap (λ (can : Caps). told_served can.pinger row.work row.tried) s.tables.caps
-    ∙ ap (λ (w : Work). told_served (caps (past d)).pinger w row.tried) (work_kept d n s)
-    ∙ ap (λ (tried : Option Try). told_served (caps (past d)).pinger (work (past d) n) tried) (s.tables.calls.tried n under_way)
+    ap (λ (can : Caps). told_served can.pinger row.work row.tried.newest) s.tables.caps
+    ∙ ap (λ (w : Work). told_served (caps (past d)).pinger w row.tried.newest) (work_kept d n s)
+    ∙ ap (λ (tried : Tried). told_served (caps (past d)).pinger (work (past d) n) tried.newest) (s.tables.calls.tried n under_way)
     ∙ served_as (caps (past d)) (work (past d) n) (tries (past d) n)
 
 pub either_some : (a b : Option Reply) → is_some (or_else a b) ≡ is_some a || is_some b
@@ -94,13 +103,14 @@ pub none_or_some : (told : Option Reply) → is_none told ≡ not (is_some told)
 none_or_some None = refl
 none_or_some (Some reply) = refl
 
-waits_or : (b d r : Bool) (o : Option ℕ) (c : ℕ) → is_waiting (or_else (stands b Waits) (or_else (opens o) (or_else (stands d (Sends c)) (stands r Replies)))) ≡ b
-waits_or true d r o c = refl
-waits_or false d r (Some k) c = refl
-waits_or false true r None c = refl
-waits_or false false true None c = refl
-waits_or false false false None c = refl
+waits_or : (b d r a : Bool) (o : Option ℕ) (c : ℕ) → is_waiting (or_else (stands b Waits) (or_else (opens o) (or_else (stands d (Sends c)) (or_else (stands r Replies) (stands a Asks))))) ≡ b
+waits_or true d r a o c = refl
+waits_or false d r a (Some k) c = refl
+waits_or false true r a None c = refl
+waits_or false false true a None c = refl
+waits_or false false false true None c = refl
+waits_or false false false false None c = refl
 
 pub waiting_only : (H : List Event) (n : ℕ) → is_waiting (stand H n) ≡ waits n (pool H).waiting
 waiting_only H n =
-    waits_or (waits n (pool H).waiting) (is_some (due_for H n)) (is_none (decided H n) && is_some (told_by_others H n)) (smallest (is_for n) (pool H)) (site H n)
+    waits_or (waits n (pool H).waiting) (is_some (due_for H n)) (is_none (decided H n) && is_some (told_by_others H n)) (asks_again (tries H n)) (smallest (is_for n) (pool H)) (site H n)

@@ -1,5 +1,7 @@
 -- What the event methods of the desk ask for, and what they leave.
 use Rattle.std.specs.Prelude.{ℕ, Bool, true, false, ◌≡◌, ◌<◌, ◌≤◌, ◌+◌, List, [], ◌∷◌, length, Option, Some, None, Result, Ok}
+use Rattle.dsql_driver.specs.declared.answer.DriverAnswer.{DriverAnswer}
+use Rattle.dsql_journal.specs.declared.entry.Entry.{Entry}
 use Rattle.dsql_journal.specs.declared.entry.Owner.TheVariants.{Call}
 use Rattle.dsql_work.specs.Limits.{most_within_a_step}
 use Rattle.dsql_pool.specs.declared.moves.Fate.{Fate}
@@ -14,6 +16,9 @@ use Rattle.dsql_history.specs.declared.event.Op.TheVariants.{DbClose}
 use Rattle.dsql_history.specs.declared.reply.Reply.{Reply}
 use Rattle.dsql_history.specs.Readers.Calls.{reply_due}
 use Rattle.dsql_history.specs.Readers.Owed.{fate, given_back, owed}
+use Rattle.dsql_history.specs.Readers.Tries.{tries, try_number}
+use Rattle.dsql_history.specs.Readers.Unfinished.{is_unfinished}
+use Rattle.dsql_history.specs.Readers.Works.{work}
 use Rattle.dsql_history.specs.Rules.Asking.{may_ask, ask_outcome}
 use Rattle.dsql_history.specs.Legal.{Allowed}
 use Rattle.dsql_laws.specs.Asked.{with_asked}
@@ -22,6 +27,7 @@ use Rattle.dsql_laws.specs.OwedMade.{with_moves}
 use Rattle.dsql_desk.specs.declared.desk.Desk.{Desk}
 use Rattle.dsql_desk.specs.Desk.{past, Stands}
 use Rattle.dsql_calls.specs.Settling.{reply_or}
+use Rattle.dsql_telling.specs.Heard.{Decides}
 
 -- the event may come next, and there is memory for it and for the moves that it makes due
 pub record MayAppend (desk : Desk) (event : Event) : Type 0 where
@@ -29,6 +35,11 @@ pub record MayAppend (desk : Desk) (event : Event) : Type 0 where
   pub paid : length (owed (event ∷ past desk)) < desk.paid
   pub allowed : Allowed (past desk) event
   pub few : length (past desk) < most_within_a_step
+
+-- what the answer to a Query or a Next decides for its call, as long as that has no reply, beside a copy of the answer
+pub record DecidesNow (past : List Event) (entry : Entry) (copy : DriverAnswer) (reply : Option Reply) : Type 0 where
+  pub same : copy ≡ entry.answer
+  pub decides : is_unfinished past entry.call_no ≡ true → Decides (try_number (tries past entry.call_no)) (work past entry.call_no) entry copy reply
 
 -- the event came, and then the moves that it made due
 pub record Appends (old new : Desk) (added : Event) : Type 0 where

@@ -5,7 +5,7 @@ ghost use Rattle.dsql_desk.specs.Desk.{past, Stands};
 ghost use Rattle.dsql_history.specs.Rules.Settled.{Settled};
 ghost use Rattle.dsql_history.specs.declared.event.Event.TheVariants.{Run};
 
-use dsql_calls::{CallRow, NoRoom};
+use dsql_calls::{CallRow, NoRoom, Tried};
 use dsql_driver::Caps;
 use dsql_exchanged::Exchanged;
 use dsql_history::{CallRecord, DbEnd, Event, Work};
@@ -104,7 +104,7 @@ fn nobody(alloc: Global) -> Result<CallRow, NoRoom>
     Ok(CallRow {
         call,
         work: Work::Look,
-        tried: None,
+        tried: Tried::new(),
         ender: 0,
     })
 }

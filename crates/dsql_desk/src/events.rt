@@ -2,9 +2,9 @@
 //! pool makes of it.
 ghost use Rattle.std.specs.Prelude.{◌≡◌, ◌+◌, ◌∷◌, true, false, is_some};
 ghost use Rattle.dsql_desk.specs.Adding.{opens_or_shuts};
-ghost use Rattle.dsql_desk.specs.Appending.{MayAppend, MayAskNow, MayGiveBack, Asks, event_asked, Appends, GivesBack, Makes, is_close, reply_now};
+ghost use Rattle.dsql_desk.specs.Appending.{MayAppend, MayAskNow, MayGiveBack, Asks, event_asked, Appends, DecidesNow, GivesBack, Makes, is_close, reply_now};
 ghost use Rattle.dsql_desk.specs.Desk.{past, Stands, Owes};
-ghost use Rattle.dsql_telling.specs.Heard.{Decides, HearsRows};
+ghost use Rattle.dsql_telling.specs.Heard.{HearsRows};
 ghost use Rattle.dsql_telling.specs.Starts.{Starts};
 ghost use Rattle.dsql_history.specs.Readers.Calls.{reply_due};
 ghost use Rattle.dsql_history.specs.Readers.Controls.{told, told_after};
@@ -89,7 +89,7 @@ impl Desk {
         requires may { MayAppend self.old (Event.Heard entry) }
         requires settled { Settled (past self.old) }
         requires lent { opens_or_shuts entry.call ≡ false }
-        requires decides { Decides (work (past self.old) entry.call_no) entry copy reply }
+        requires decides { DecidesNow (past self.old) entry copy reply }
         requires rows { HearsRows (work (past self.old) entry.call_no) entry.call_no entry.call (handed_out (past self.old)) }
         ensures { Appends self.old self.new (Event.Heard entry) }
     {
@@ -101,7 +101,7 @@ impl Desk {
     pub fn hear(&mut self, entry: Entry, copy: DriverAnswer, reply: Option<Reply>)
         requires may { MayAppend self.old (Event.Heard entry) }
         requires settled { Settled (past self.old) }
-        requires decides { Decides (work (past self.old) entry.call_no) entry copy reply }
+        requires decides { DecidesNow (past self.old) entry copy reply }
         requires rows { HearsRows (work (past self.old) entry.call_no) entry.call_no entry.call (handed_out (past self.old)) }
         ensures { Appends self.old self.new (Event.Heard entry) }
     {
@@ -120,7 +120,8 @@ impl Desk {
         ensures outcome { result ≡ ask_outcome (past self.old) call }
         ensures asks { Asks self.old self.new call }
     {
-        let outcome = ask(&mut self.pool, call);
+        let last = self.asks_last(call);
+        let outcome = ask(&mut self.pool, call, last);
         match event_asked(call, outcome) {
             Some(Event::Pool(it)) => self.add_move(it),
             Some(event) => self.add_beside(event),

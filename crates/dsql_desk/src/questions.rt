@@ -125,7 +125,8 @@ impl Desk {
         }
     }
 
-    fn lent_or_opened(&self, call: u32) -> Option<u32>
+    /// The connection that is lent to a call or is being opened for it, if one is.
+    pub(crate) fn lent_or_opened(&self, call: u32) -> Option<u32>
         requires { Stands self.now }
         ensures { result ≡ smallest (is_home call) (pool (past self.now)) }
     {

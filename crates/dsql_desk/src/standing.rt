@@ -5,13 +5,13 @@ ghost use Rattle.dsql_desk.specs.Desk.{past, Stands};
 ghost use Rattle.dsql_course.specs.Made.{or_else};
 ghost use Rattle.dsql_pool.specs.Calls.{wants};
 ghost use Rattle.dsql_work.specs.Works.{asks};
-ghost use Rattle.dsql_history.specs.declared.record.Stand.TheVariants.{Sends, Replies};
+ghost use Rattle.dsql_history.specs.declared.record.Stand.TheVariants.{Asks, Sends, Replies};
 ghost use Rattle.dsql_history.specs.Readers.Calls.{decided, reply_due, site, told_at_lending, told_by_others, told_by_tries};
 ghost use Rattle.dsql_history.specs.Readers.Pool.{pool};
-ghost use Rattle.dsql_history.specs.Readers.Tries.{has_a_try, tries};
+ghost use Rattle.dsql_history.specs.Readers.Tries.{asks_again, asks_last, tries};
 ghost use Rattle.dsql_history.specs.Readers.Unfinished.{is_unfinished, unfinished};
 ghost use Rattle.dsql_history.specs.Readers.Works.{work};
-ghost use Rattle.dsql_history.specs.Rules.Asking.{may_ask};
+ghost use Rattle.dsql_history.specs.Rules.Asking.{may_ask, may_try};
 ghost use Rattle.dsql_history.specs.Rules.House.{is_quiet};
 ghost use Rattle.dsql_history.specs.Rules.Line.{due_for};
 ghost use Rattle.dsql_history.specs.Rules.Stands.{is_waiting, stand, stands};
@@ -21,7 +21,7 @@ use dsql_calls::row;
 use dsql_calls::standing::waits_or_opens;
 use dsql_history::Stand;
 
-#[tactic(auto, using(crate::proofs::Told::told_by_kind, crate::proofs::Told::told_kept, crate::proofs::Told::lent_kept, crate::proofs::Told::try_kept, crate::proofs::Told::either_some, crate::proofs::Told::waiting_only), unfolding(crate::specs::Desk::Stands))]
+#[tactic(auto, using(crate::proofs::Told::told_by_kind, crate::proofs::Told::told_kept, crate::proofs::Told::lent_kept, crate::proofs::Told::another_kept, crate::proofs::Told::again_kept, crate::proofs::Told::last_kept, crate::proofs::Told::unmade, crate::proofs::Told::either_some, crate::proofs::Told::waiting_only), unfolding(crate::specs::Desk::Stands))]
 impl Desk {
     /// Where an unfinished call is.
     pub fn stand(&self, call: u32) -> Option<Stand>
@@ -31,21 +31,24 @@ impl Desk {
     {
         match waits_or_opens(self.waits(call), self.opening_for(call)) {
             Some(stand) => Some(stand),
-            None => self.sends_or_replies(call),
+            None => self.goes_on(call),
         }
     }
 
     /// Where an unfinished call is that doesn't wait, and for which no connection is being opened.
-    fn sends_or_replies(&self, call: u32) -> Option<Stand>
+    fn goes_on(&self, call: u32) -> Option<Stand>
         requires stands { Stands self.now }
         requires unfinished { is_unfinished (past self.now) call ≡ true }
-        ensures { result ≡ or_else (stands (is_some (due_for (past self.now) call)) (Sends (site (past self.now) call))) (stands (is_none (decided (past self.now) call) && is_some (told_by_others (past self.now) call)) Replies) }
+        ensures { result ≡ or_else (stands (is_some (due_for (past self.now) call)) (Sends (site (past self.now) call))) (or_else (stands (is_none (decided (past self.now) call) && is_some (told_by_others (past self.now) call)) Replies) (stands (asks_again (tries (past self.now) call)) Asks)) }
     {
         if self.is_due(call) {
             return Some(Stand::Sends(self.site(call)));
         }
         if !self.has_decided(call) && self.is_told(call) {
-            Some(Stand::Replies)
+            return Some(Stand::Replies);
+        }
+        if self.asks_again(call) {
+            Some(Stand::Asks)
         } else {
             None
         }
@@ -122,12 +125,41 @@ impl Desk {
         row::is_told_as_lent(&self.calls, call, self.caps.pinger)
     }
 
-    /// Whether an unfinished call asks for a connection, and has a try left for that.
+    /// Whether an unfinished call asks for a connection, has a try left for that, and has and wants none.
     fn is_to_ask(&self, call: u32) -> bool
         requires stands { Stands self.now }
         requires unfinished { is_unfinished (past self.now) call ≡ true }
-        ensures { result ≡ (asks (work (past self.now) call) && (has_a_try (tries (past self.now) call) && not (wants call (pool (past self.now))))) }
+        ensures { result ≡ (asks (work (past self.now) call) && (may_try (past self.now) call && not (wants call (pool (past self.now))))) }
     {
-        row::is_to_ask(&self.calls, call, self.pool.wants(call))
+        self.asks(call) && self.may_try(call) && !self.pool.wants(call)
+    }
+
+    /// Whether an unfinished call has a try left, and nothing of an earlier one.
+    fn may_try(&self, call: u32) -> bool
+        requires stands { Stands self.now }
+        requires unfinished { is_unfinished (past self.now) call ≡ true }
+        ensures { result ≡ may_try (past self.now) call }
+    {
+        row::has_another_try(&self.calls, call)
+            && self.lent_or_opened(call).is_none()
+            && !self.rows.was_made(call)
+    }
+
+    /// Whether an unfinished call asks again after a refusal.
+    fn asks_again(&self, call: u32) -> bool
+        requires stands { Stands self.now }
+        requires unfinished { is_unfinished (past self.now) call ≡ true }
+        ensures { result ≡ asks_again (tries (past self.now) call) }
+    {
+        row::asks_again(&self.calls, call)
+    }
+
+    /// Whether the next try of an unfinished call is its last.
+    pub(crate) fn asks_last(&self, call: u32) -> bool
+        requires stands { Stands self.now }
+        requires unfinished { is_unfinished (past self.now) call ≡ true }
+        ensures { result ≡ asks_last (tries (past self.now) call) }
+    {
+        row::asks_last(&self.calls, call)
     }
 }

@@ -1,8 +1,9 @@
 //! What each event makes of the history and of the tables. The pool is left to the event methods.
 ghost use Rattle.std.specs.Prelude.{◌≡◌, true, false, is_some};
 ghost use Rattle.dsql_desk.specs.Adding.{MayAdd, Adds, MayAddMoves, AddsMoves, is_beside, is_refusal, opens_or_shuts};
+ghost use Rattle.dsql_desk.specs.Appending.{DecidesNow};
 ghost use Rattle.dsql_desk.specs.Desk.{past};
-ghost use Rattle.dsql_telling.specs.Heard.{Decides, HearsRows};
+ghost use Rattle.dsql_telling.specs.Heard.{HearsRows};
 ghost use Rattle.dsql_calls.specs.Settling.{reply_or, settled_in};
 ghost use Rattle.dsql_calls.specs.Calls.{row_at};
 ghost use Rattle.dsql_telling.specs.Starts.{Starts};
@@ -13,7 +14,7 @@ use crate::desk::Desk;
 use dsql_calls::settling::{forget, take_reply};
 use dsql_calls::tries::{note_tries, note_try};
 use dsql_calls::writes::{note, note_moves, put, take_out};
-use dsql_calls::{CallRow, CallStart};
+use dsql_calls::{CallRow, CallStart, Tried};
 use dsql_driver::DriverAnswer;
 use dsql_exchanged::exchanges::{note_all_lent, note_exchange, note_lent};
 use dsql_history::{CallRecord, Event, Op, Reply};
@@ -50,7 +51,7 @@ impl Desk {
                     decided: start.decided,
                 },
                 work: start.work,
-                tried: None,
+                tried: Tried::new(),
                 ender: 0,
             },
         );
@@ -63,7 +64,7 @@ impl Desk {
     /// Query or a Next decides.
     pub(crate) fn add_answer(&mut self, entry: Entry, copy: DriverAnswer, reply: Option<Reply>)
         requires may { MayAdd self.old (Event.Heard entry) }
-        requires decides { Decides (work (past self.old) entry.call_no) entry copy reply }
+        requires decides { DecidesNow (past self.old) entry copy reply }
         requires rows { HearsRows (work (past self.old) entry.call_no) entry.call_no entry.call (handed_out (past self.old)) }
         ensures { Adds self.old self.new (Event.Heard entry) }
     {

@@ -5,14 +5,15 @@ use Rattle.dsql_history.specs.Readers.Works.{work}
 use Rattle.dsql_calls.specs.Calls.{row_at}
 use Rattle.dsql_desk.specs.Desk.{past}
 use Rattle.dsql_exchanged.specs.Exchanged.{unheard, then_heard}
-use Rattle.dsql_telling.specs.Heard.{Decides, HearsRows}
-use Rattle.dsql_desk.proofs.Kept.{answered_keeps, row_work}
+use Rattle.dsql_telling.specs.Heard.{HearsRows}
+use Rattle.dsql_desk.proofs.Kept.{answered_keeps, decides_in_row, row_work}
 use Rattle.dsql_desk.proofs.desk.Desk.add_answer.Goals as goal
 
 pub tell_answer-requires-clause-decides : goal.tell_answer-requires-clause-decides
 tell_answer-requires-clause-decides c =
     let d = c.args.self.now in
-    subst (λ w. Decides w c.args.entry c.args.copy c.args.reply) (sym (row_work (past d) d.calls.items c.args.entry.call_no c.requires.may.tables.calls)) c.requires.decides
+    let may = c.requires.may in
+    decides_in_row (past d) c.args.entry d.calls.items c.args.copy c.args.reply may.lawful may.tables.calls c.requires.decides
 
 pub tell_answer-requires-clause-rows : goal.tell_answer-requires-clause-rows
 tell_answer-requires-clause-rows c =
@@ -39,7 +40,7 @@ returns c =
         caps = rw p t.caps;
         ended = rw p t.ended;
         made = rw p (c.note_exchange.ensures.items ∙ ap (λ xs. slice_set xs e.conn (then_heard e (slice_index_or xs e.conn unheard))) t.made);
-        calls = rw p (answered_keeps H e d.calls.items _ _ c.requires.rows t.calls t.rows c.tell_answer.ensures.items);
+        calls = rw p (answered_keeps H e d.calls.items _ _ may.lawful c.requires.rows t.calls t.rows c.tell_answer.ensures.items);
         unfinished = rw p t.unfinished;
         labels = rw p t.labels;
         rows = rw p (c.tell_answer.ensures.rows ∙ (ap (λ w. rows_heard w n e.call e.answer d.rows.rows) is ∙ ap (rows_heard (work H n) n e.call e.answer) t.rows));

@@ -5,7 +5,6 @@ use Rattle.dsql_calls.specs.Calls.{KeepsCalls}
 use Rattle.dsql_desk.specs.Desk.{past}
 use Rattle.dsql_exchanged.specs.Moves.{lent_by}
 use Rattle.dsql_desk.proofs.Kept.{moves_keep, unrefused}
-use Rattle.dsql_desk.proofs.Known.{unfinished_known}
 use Rattle.dsql_desk.proofs.Moves.{made_move}
 use Rattle.dsql_desk.proofs.desk.Desk.add_move.Goals as goal
 
@@ -27,7 +26,7 @@ returns c =
         calls =
             rw p
             (subst (λ rs. KeepsCalls (Pool it ∷ H) rs) (sym c.note_try.ensures.items)
-            (moves_keep (it ∷ []) H d.calls.items Bad (λ n left. unfinished_known H n t.lawful left) (unrefused it H c.requires.other) t.calls));
+            (moves_keep (it ∷ []) H d.calls.items Bad may.lawful (unrefused it H c.requires.other) t.calls));
         unfinished = rw p t.unfinished;
         labels = rw p t.labels;
         rows = rw p t.rows;

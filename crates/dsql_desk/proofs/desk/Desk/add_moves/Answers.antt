@@ -5,7 +5,6 @@ use Rattle.dsql_desk.specs.Desk.{past}
 use Rattle.dsql_exchanged.specs.Moves.{lent_by_all}
 use Rattle.dsql_calls.specs.Tries.{tried_by_all}
 use Rattle.dsql_desk.proofs.Kept.{moves_keep}
-use Rattle.dsql_desk.proofs.Known.{unfinished_known}
 use Rattle.dsql_desk.proofs.Moves.{leaves, made_moves, stays_calm}
 use Rattle.dsql_desk.proofs.desk.Desk.add_moves.Goals as goal
 
@@ -31,7 +30,7 @@ returns c =
         calls =
             rw p
             (subst (λ rs. KeepsCalls (with_moves ms H) rs) (sym (c.note_tries.ensures.items ∙ ap (λ ns. tried_by_all c.args.answer ns d.calls.items) c.moves.ensures))
-            (moves_keep ms H d.calls.items c.args.answer (λ n left. unfinished_known H n t.lawful left) may.answered t.calls));
+            (moves_keep ms H d.calls.items c.args.answer may.lawful may.answered t.calls));
         unfinished = rw p (t.unfinished ∙ sym rest.unfinished);
         labels = rw p (rw rest.works t.labels);
         rows = rw p (t.rows ∙ sym rest.handed_out);
