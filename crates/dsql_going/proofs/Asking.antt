@@ -1,23 +1,20 @@
 -- What comes of a call that asks for a connection.
-use Rattle.std.proofs.Common.{◌≡◌, ℕ, ◌≤◌, ◌==◌, Bool, true, false, not, ◌&&◌, ◌||◌, cond, List, [], ◌∷◌, ◌++◌, length, Option, Some, None, is_some, is_none, refl, sym, ap, ◌∙◌}
+use Rattle.std.proofs.Common.{◌≡◌, ℕ, ◌==◌, Bool, true, false, ◌&&◌, ◌||◌, cond, List, [], ◌∷◌, ◌++◌, Some, None, is_some, refl, sym, ap, ◌∙◌, arith}
 use Rattle.std.specs.Prelude.{Result, Ok, Err}
 use Rattle.std.specs.List.{list_any}
 use Rattle.std.proofs.lemmas.List.Folds.{list_any-append}
-use Rattle.dsql_course.specs.declared.course.Wish.{Wish}
 use Rattle.dsql_course.specs.declared.course.Wish.TheVariants as wishes
-use Rattle.dsql_journal.specs.declared.entry.Owner.TheVariants.{Call, Tx, Pin, House}
+use Rattle.dsql_journal.specs.declared.entry.Owner.TheVariants.{Call}
 use Rattle.dsql_journal.specs.Readers.{is_empty}
 use Rattle.dsql_wait.specs.declared.request.Request.{Request}
 use Rattle.dsql_wait.specs.Requests.{waits}
 use Rattle.dsql_pool.specs.declared.conn.Conn.{Conn}
-use Rattle.dsql_pool.specs.declared.conn.Place.{Place}
-use Rattle.dsql_pool.specs.declared.conn.Place.TheVariants.{Idle, Lent, Opening, Closing}
+use Rattle.dsql_pool.specs.declared.conn.Place.TheVariants.{Opening}
 use Rattle.dsql_pool.specs.declared.moves.Move.TheVariants.{OpenStart, Lend}
 use Rattle.dsql_pool.specs.declared.request.Asked.{Asked}
 use Rattle.dsql_pool.specs.declared.request.Asked.TheVariants as asked
 use Rattle.dsql_pool.specs.declared.request.AskFault.{AskFault}
 use Rattle.dsql_pool.specs.declared.request.AskFault.TheVariants as faults
-use Rattle.dsql_pool.specs.Calls.{wants}
 use Rattle.dsql_pool.specs.Changes.{opening}
 use Rattle.dsql_pool.specs.Decisions.{are_too_many, last, may_open, takes_idle}
 use Rattle.dsql_pool.specs.Places.{is_for}
@@ -28,64 +25,31 @@ use Rattle.dsql_work.specs.Works.{asks}
 use Rattle.dsql_history.specs.declared.event.Event.{Event}
 use Rattle.dsql_history.specs.declared.event.Event.TheVariants.{Pool, Waits}
 use Rattle.dsql_history.specs.declared.record.Stand.TheVariants as stands_at
-use Rattle.dsql_history.specs.Readers.Calls.{reply_due}
 use Rattle.dsql_history.specs.Readers.Owed.{left_of, owed}
 use Rattle.dsql_history.specs.Readers.Pool.{home, place, pool, request, smallest, wanted_by}
-use Rattle.dsql_history.specs.Readers.Tries.{has_a_try, tries}
-use Rattle.dsql_history.specs.Readers.Unfinished.{is_unfinished}
 use Rattle.dsql_history.specs.Readers.Works.{work}
 use Rattle.dsql_history.specs.Rules.Asking.{may_ask, ask_outcome, is_too_many}
-use Rattle.dsql_history.specs.Rules.Line.{due_for, due_in, line_at, line_of}
+use Rattle.dsql_history.specs.Rules.Line.{due_for, due_in, line_of}
 use Rattle.dsql_history.specs.Rules.Settled.{Settled, goes_on_but, is_settled_but, owes_nothing, uses_what_is_lent}
 use Rattle.dsql_history.specs.Rules.Stands.{stand}
 use Rattle.dsql_history.specs.Legal.{Lawful}
 use Rattle.dsql_laws.specs.Asked.{with_asked}
+use Rattle.dsql_laws.proofs.Asker.{Asker, asker}
+use Rattle.dsql_laws.proofs.Holdings.{nothing_held}
 use Rattle.dsql_laws.proofs.Numbered.{unfinished_from_one}
 use Rattle.dsql_laws.proofs.Standing.{stands_waiting}
-use Rattle.dsql_laws.proofs.Tests.{both, other_number, same_itself, same_number}
-use Rattle.dsql_lending_laws.proofs.Wanted.{lent_has_tried, tried_may_not_ask}
+use Rattle.dsql_laws.proofs.Tests.{both, other_number, same_itself}
+use Rattle.dsql_laws.proofs.Wanting.{homes_apart, sends_where_lent}
 use Rattle.dsql_other_laws.proofs.Untouched.{or_second}
 use Rattle.dsql_move_laws.proofs.Asked.{asks_an_open_one, closed_only, no_memory, asked_goes_on, asked_used}
 use Rattle.dsql_going.proofs.Replying.{settled_owes}
 use Rattle.dsql_going.proofs.Standing.{number_in, opens_somewhere}
 
--- a call that may ask has no reply, works on a connection of its own, and wants none yet
-record Asking (H : List Event) (n : ℕ) : Type 0 where
-  unfinished : is_unfinished H n ≡ true
-  own : asks (work H n) ≡ true
-  unwanting : wants n (pool H) ≡ false
-
-not_true : (b : Bool) → not b ≡ true → b ≡ false
-not_true true h = absurd cc
-not_true false h = refl
-
-who_asks : (H : List Event) (n : ℕ) → may_ask H n ≡ true → Asking H n
-who_asks H n may =
-    let a = both (is_unfinished H n) (asks (work H n) && (has_a_try (tries H n) && (not (wants n (pool H)) && is_none (reply_due H n)))) may in
-    let b = both (asks (work H n)) (has_a_try (tries H n) && (not (wants n (pool H)) && is_none (reply_due H n))) a.1 in
-    let d = both (has_a_try (tries H n)) (not (wants n (pool H)) && is_none (reply_due H n)) b.1 in
-    let e = both (not (wants n (pool H))) (is_none (reply_due H n)) d.1 in
-    record { unfinished = a.0; own = b.0; unwanting = not_true (wants n (pool H)) e.0 }
-
 unwaiting : (a b : Bool) → (a || b) ≡ false → a ≡ false
 unwaiting true b h = absurd cc
 unwaiting false b h = refl
 
--- it has nothing to send, since it was lent no connection
-
-lent_tried : (H : List Event) (n : ℕ) (w : Wish) (c : ℕ) (at : Option Place) → Lawful H → place H c ≡ at → is_some (line_at H n w c at) ≡ true → 1 ≤ length (tries H n)
-lent_tried H n w c (Some (Lent t (Call m))) l is h = by (m == n) refl h
-  where
-    by : (b : Bool) → (m == n) ≡ b → is_some (line_at H n w c (Some (Lent t (Call m)))) ≡ true → 1 ≤ length (tries H n)
-    by true same k = lent_has_tried H c t n l (is ∙ ap (λ j. Some (Lent t (Call j))) (same_number m n same))
-    by false other k = let none : is_some (line_at H n w c (Some (Lent t (Call m)))) ≡ false = rw other refl in let clash : true ≡ false = sym k ∙ none in absurd cc
-lent_tried H n w c (Some (Lent t (Tx m))) l is h = absurd cc
-lent_tried H n w c (Some (Lent t (Pin m))) l is h = absurd cc
-lent_tried H n w c (Some (Lent t House)) l is h = absurd cc
-lent_tried H n w c (Some Idle) l is h = absurd cc
-lent_tried H n w c (Some (Opening o)) l is h = absurd cc
-lent_tried H n w c (Some Closing) l is h = absurd cc
-lent_tried H n w c None l is h = absurd cc
+-- it has nothing to send, since it has no connection
 
 own_line : (H : List Event) (n : ℕ) (it : Work) → asks it ≡ true → due_in H n it ≡ line_of H n wishes.Nothing
 own_line H n Execute own = refl
@@ -99,15 +63,19 @@ own_line H n Look own = absurd cc
 pub asking_silent : (H : List Event) (n : ℕ) → Lawful H → may_ask H n ≡ true → is_some (due_for H n) ≡ false
 asking_silent H n l may = by (is_some (due_for H n)) refl
   where
-    a : Asking H n
-    a = who_asks H n may
+    a : Asker H n
+    a = asker H n may
 
     mine : due_for H n ≡ line_of H n wishes.Nothing
     mine = ap (λ (b : Bool). cond b (due_in H n (work H n)) None) a.unfinished ∙ own_line H n (work H n) a.own
 
     by : (b : Bool) → is_some (due_for H n) ≡ b → is_some (due_for H n) ≡ false
     by false is = is
-    by true is = absurd (tried_may_not_ask H n (lent_tried H n wishes.Nothing (home H n) (place H (home H n)) l refl (sym (ap (λ d. is_some d) mine) ∙ is)) may)
+    by true is =
+        let lent = sends_where_lent H n wishes.Nothing (home H n) (place H (home H n)) refl (sym (ap (λ d. is_some d) mine) ∙ is) in
+        let none = nothing_held H n l may in
+        let apart = homes_apart n (pool H).conns in
+        absurd (omega (arith, lent, none, apart))
 
 -- it isn't told that the database is closed, nor that there is no memory
 
@@ -144,7 +112,7 @@ settled_asked H n l h may few =
 pub stands_opened : (H : List Event) (n c : ℕ) → Lawful (Pool (OpenStart c n) ∷ H) → may_ask H n ≡ true
     → stand (Pool (OpenStart c n) ∷ H) n ≡ Some (stands_at.Opens (number_in (smallest (is_for n) (pool (Pool (OpenStart c n) ∷ H)))))
 stands_opened H n c l may =
-    let a = who_asks H n may in
+    let a = asker H n may in
     let p = pool H in
     let x = opening (next_number p) (wanted_by n) in
     let some = unfinished_from_one H n l.0 a.unfinished in

@@ -14,6 +14,7 @@ use Rattle.dsql_history.specs.declared.record.Stand.{Stand}
 use Rattle.dsql_history.specs.declared.record.Stand.TheVariants as stands_at
 use Rattle.dsql_history.specs.Readers.Calls.{site, decided, told_by_others, reply_due}
 use Rattle.dsql_history.specs.Readers.Pool.{pool, smallest}
+use Rattle.dsql_history.specs.Readers.Tries.{asks_again, tries}
 use Rattle.dsql_history.specs.Readers.Unfinished.{unfinished, is_unfinished}
 use Rattle.dsql_history.specs.Rules.Asking.{may_ask}
 use Rattle.dsql_history.specs.Rules.Flights.{has_flight, is_in_flight, is_taken, permitted}
@@ -71,20 +72,22 @@ taken_stays n c flights taken = rw (or_second (is_in_flight n flights) (has_flig
 
 -- nothing of it is due, so it gets no permit
 
-unsent : (w : Bool) (o : Option ℕ) (there n : ℕ) (last : Bool) (flights : List Flight)
-    → permitted n (or_else (stands w stands_at.Waits) (or_else (opens o) (or_else (stands false (stands_at.Sends there)) (stands last stands_at.Replies)))) flights ≡ flights
-unsent true o there n last flights = refl
-unsent false (Some c) there n last flights = refl
-unsent false None there n true flights = refl
-unsent false None there n false flights = refl
+unsent : (w : Bool) (o : Option ℕ) (there n : ℕ) (told again : Bool) (flights : List Flight)
+    → permitted n (or_else (stands w stands_at.Waits) (or_else (opens o) (or_else (stands false (stands_at.Sends there)) (or_else (stands told stands_at.Replies) (stands again stands_at.Asks))))) flights ≡ flights
+unsent true o there n told again flights = refl
+unsent false (Some c) there n told again flights = refl
+unsent false None there n true again flights = refl
+unsent false None there n false true flights = refl
+unsent false None there n false false flights = refl
 
 pub unsent_flights : (K : List Event) (n : ℕ) (flights : List Flight) → is_some (due_for K n) ≡ false → permitted n (stand K n) flights ≡ flights
 unsent_flights K n flights silent =
     let w = waits n (pool K).waiting in
     let o = smallest (is_for n) (pool K) in
-    let last = is_none (decided K n) && is_some (told_by_others K n) in
-    ap (λ (b : Bool). permitted n (or_else (stands w stands_at.Waits) (or_else (opens o) (or_else (stands b (stands_at.Sends (site K n))) (stands last stands_at.Replies)))) flights) silent
-    ∙ unsent w o (site K n) n last flights
+    let told = is_none (decided K n) && is_some (told_by_others K n) in
+    let again = asks_again (tries K n) in
+    ap (λ (b : Bool). permitted n (or_else (stands w stands_at.Waits) (or_else (opens o) (or_else (stands b (stands_at.Sends (site K n))) (or_else (stands told stands_at.Replies) (stands again stands_at.Asks))))) flights) silent
+    ∙ unsent w o (site K n) n told again flights
 
 -- all is settled where the call itself is somewhere
 
@@ -106,12 +109,16 @@ settled_itself H n h there =
 
 -- who has nothing to send, nothing to reply and may not ask wants a connection
 
-pub wanting : (H : List Event) (n : ℕ) → Lawful H → is_unfinished H n ≡ true → is_some (due_for H n) ≡ false → is_some (reply_due H n) ≡ false → may_ask H n ≡ false → wants n (pool H) ≡ true
-wanting H n l u silent unsettled may = by (wants n (pool H)) refl
+pub wanting : (H : List Event) (n : ℕ) → Lawful H → is_settled_but n H ≡ true → is_unfinished H n ≡ true → is_some (due_for H n) ≡ false → is_some (reply_due H n) ≡ false → may_ask H n ≡ false
+    → wants n (pool H) ≡ true
+wanting H n l settled u silent unsettled may = by (wants n (pool H)) refl
   where
+    used : uses_what_is_lent H ≡ true
+    used = (both (uses_what_is_lent H) (goes_on_but n H) (both (owes_nothing H) (uses_what_is_lent H && goes_on_but n H) settled).1).0
+
     by : (b : Bool) → wants n (pool H) ≡ b → wants n (pool H) ≡ true
     by true is = is
-    by false is = let clash : true ≡ false = sym (nowhere_replies H n l u silent is may) ∙ unsettled in absurd cc
+    by false is = let clash : true ≡ false = sym (nowhere_replies H n l u silent is used may) ∙ unsettled in absurd cc
 
 found_opening : (q : Conn → Bool) (xs : List Conn) → list_any q xs ≡ true → is_some (option_map (λ (x : Conn). x.number) (find q xs)) ≡ true
 found_opening q [] h = absurd cc

@@ -100,7 +100,7 @@ returns-clause-reaches c =
     let untold : is_some (reply_due H n) ≡ false = sym c.is_settled.ensures ∙ c.if-is_settled.false in
     let may : may_ask H n ≡ false = sym c.may_ask.ensures ∙ c.if-may_ask.false in
     let unwaiting : waits n (pool H).waiting ≡ false = sym c.waits.ensures ∙ c.if-waits.false in
-    let at = opens_somewhere H n l u unwaiting (wanting H n l u silent untold may) in
+    let at = opens_somewhere H n l u unwaiting (wanting H n l c.requires.may.settled u silent untold may) in
     record {
       stands = c.requires.pays.stands;
       settled = settled_itself H n c.requires.may.settled (ap (λ it. is_some it) at);
@@ -118,5 +118,5 @@ returns-clause-goes c =
     let untold : is_some (reply_due H n) ≡ false = sym c.is_settled.ensures ∙ c.if-is_settled.false in
     let may : may_ask H n ≡ false = sym c.may_ask.ensures ∙ c.if-may_ask.false in
     let unwaiting : waits n (pool H).waiting ≡ false = sym c.waits.ensures ∙ c.if-waits.false in
-    let at = opens_somewhere H n l u unwaiting (wanting H n l u silent untold may) in
+    let at = opens_somewhere H n l u unwaiting (wanting H n l c.requires.may.settled u silent untold may) in
     goes_blocked H n c.args.flights.now.flights (Some (Opens (number_in (smallest (is_for n) (pool H))))) Opening u at refl refl
