@@ -18,8 +18,9 @@ use Rattle.dsql_history.specs.Legal.{Allowed}
 use Rattle.dsql_call_laws.specs.Bounds.{most_given_back}
 use Rattle.dsql_steps.specs.Groups.{let_go}
 use Rattle.dsql_desk.specs.declared.desk.Desk.{Desk}
+use Rattle.dsql_desk.specs.Appending.{DecidesNow}
 use Rattle.dsql_desk.specs.Desk.{past, Stands}
-use Rattle.dsql_telling.specs.Heard.{Decides, HearsRows}
+use Rattle.dsql_telling.specs.Heard.{HearsRows}
 use Rattle.dsql_desk.specs.Statements.{statement_of}
 use Rattle.dsql_hearing.specs.declared.hear.Hearing.{Hearing}
 
@@ -33,7 +34,7 @@ pub record IsWelcome (past : List Event) (e : Entry) : Type 0 where
 -- all that the step over an answer needs: the statement of the call to which the connection is lent, and what the answer decides
 pub record IsReadyFor (past : List Event) (e : Entry) (ready : Hearing) : Type 0 where
   pub statement : ready.statement ≡ statement_of past (number_of e.owner)
-  pub decides : Decides (work past e.call_no) e ready.copy ready.reply
+  pub decides : DecidesNow past e ready.copy ready.reply
 
 -- the answer may come next, at a free moment, and all is ready for it
 pub record MayHear (past : List Event) (e : Entry) (ready : Hearing) : Type 0 where
