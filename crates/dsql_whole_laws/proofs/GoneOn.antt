@@ -9,7 +9,7 @@ use Rattle.dsql_pool.specs.declared.conn.Place.TheVariants.{Lent}
 use Rattle.dsql_history.specs.declared.event.Event.{Event}
 use Rattle.dsql_history.specs.declared.record.Flight.{Flight}
 use Rattle.dsql_history.specs.declared.record.Stand.{Stand}
-use Rattle.dsql_history.specs.declared.record.Stand.TheVariants.{Waits, Opens, Sends, Replies}
+use Rattle.dsql_history.specs.declared.record.Stand.TheVariants.{Waits, Opens, Sends, Replies, Asks}
 use Rattle.dsql_history.specs.Readers.Calls.{site}
 use Rattle.dsql_history.specs.Readers.Pool.{place}
 use Rattle.dsql_history.specs.Readers.Unfinished.{is_unfinished}
@@ -39,6 +39,7 @@ blocked_why flights n (Some (Sends c)) why h = by (is_taken n c flights) refl h
     by true is k = is
     by false is k = absurd cc
 blocked_why flights n (Some Replies) why h = absurd cc
+blocked_why flights n (Some Asks) why h = absurd cc
 blocked_why flights n None why h = absurd cc
 
 untaken : (flights : List Flight) (n c : ℕ) → why_blocked flights n (Some (Sends c)) ≡ None → is_taken n c flights ≡ false
