@@ -5,3 +5,4 @@ pub mod Edits
 pub mod Strayed
 pub mod StrayedEnds
 pub mod Times
+pub mod Tries

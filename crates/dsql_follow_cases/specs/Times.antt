@@ -1,5 +1,5 @@
 -- Runs in which time passes: two that follow their script, and damaged ones.
-use Rattle.std.specs.Prelude.{ℕ, [], ◌∷◌, pos, negsuc}
+use Rattle.std.specs.Prelude.{[], ◌∷◌, pos, negsuc}
 use Rattle.dsql_pool.specs.declared.moves.CloseCause.TheVariants as causes
 use Rattle.dsql_history.specs.declared.event.Event.TheVariants.{Waits, Replied, Ended, SetLimit}
 use Rattle.dsql_history.specs.declared.event.Setting.TheVariants.{MaxLife, MaxIdleTime}

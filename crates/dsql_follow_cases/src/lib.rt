@@ -5,3 +5,4 @@
 pub mod followed;
 pub mod strayed;
 pub mod times;
+pub mod tries;
