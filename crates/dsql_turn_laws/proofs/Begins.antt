@@ -3,6 +3,7 @@ use Rattle.std.proofs.Common.{◌≡◌, ◌≢◌, ℕ, ◌⊎◌, inl, inr, Bo
 use Rattle.std.specs.List.{list_any}
 use Rattle.std.specs.Option.{option_map}
 use Rattle.std.proofs.lemmas.List.Folds.{list_all-append}
+use Rattle.dsql_course.specs.Made.{or_else}
 use Rattle.dsql_driver.specs.declared.call.DriverCall.{DriverCall}
 use Rattle.dsql_journal.specs.declared.entry.Owner.TheVariants as owners
 use Rattle.dsql_wait.specs.Requests.{waits}
@@ -13,9 +14,10 @@ use Rattle.dsql_pool.specs.declared.conn.Place.TheVariants.{Idle, Lent, Opening,
 use Rattle.dsql_history.specs.declared.event.Event.{Event}
 use Rattle.dsql_history.specs.declared.record.Flight.{Flight}
 use Rattle.dsql_history.specs.declared.record.Stand.{Stand}
-use Rattle.dsql_history.specs.declared.record.Stand.TheVariants.{Waits, Opens, Sends, Replies}
+use Rattle.dsql_history.specs.declared.record.Stand.TheVariants.{Waits, Opens, Sends, Replies, Asks}
 use Rattle.dsql_history.specs.Readers.Calls.{decided, site, told_by_others}
 use Rattle.dsql_history.specs.Readers.Pool.{place, pool}
+use Rattle.dsql_history.specs.Readers.Tries.{asks_again, tries}
 use Rattle.dsql_history.specs.Readers.Unfinished.{is_unfinished}
 use Rattle.dsql_history.specs.Rules.Flights.{has_flight, is_in_flight, permitted}
 use Rattle.dsql_history.specs.Rules.Line.{due_for}
@@ -51,6 +53,7 @@ known_permitted H n (Some (Sends c)) flights u h = known_more H n c (is_in_fligh
 known_permitted H n (Some Waits) flights u h = h
 known_permitted H n (Some (Opens c)) flights u h = h
 known_permitted H n (Some Replies) flights u h = h
+known_permitted H n (Some Asks) flights u h = h
 known_permitted H n None flights u h = h
 
 known_stand : (H : List Event) (n : ℕ) (flights : List Flight) → are_of_unfinished H flights ≡ true → are_of_unfinished H (permitted n (stand H n) flights) ≡ true
@@ -83,8 +86,8 @@ more_flying H n flights f = record {
 abbrev settled_there : List Event → ℕ → Bool
 settled_there H n = is_none (decided H n) && is_some (told_by_others H n)
 
--- who wants no connection stands where a driver call of it is due, or where it replies
-stands_content : (H : List Event) (n : ℕ) → wants n (pool H) ≡ false → is_some (due_for H n) ≡ false → stand H n ≡ stands (settled_there H n) Replies
+-- who wants no connection stands where a driver call of it is due, or where it replies or asks again
+stands_content : (H : List Event) (n : ℕ) → wants n (pool H) ≡ false → is_some (due_for H n) ≡ false → stand H n ≡ or_else (stands (settled_there H n) Replies) (stands (asks_again (tries H n)) Asks)
 stands_content H n content silent =
     let w = neither (waits n (pool H).waiting) (list_any (λ conn. is_for n conn.place) (pool H).conns) content in
     rw (w.0, none_opens n (pool H) w.1, silent) refl
@@ -103,16 +106,17 @@ none_sent n c (Some (Opening wanted)) = refl
 none_sent n c (Some Closing) = refl
 none_sent n c None = refl
 
--- where it replies it hasn't gone on
-none_next : (H : List Event) (n : ℕ) (flights : List Flight) (b : Bool) → is_some (due_for H n) ≡ false → sends_unless H n (why_blocked flights n (stands b Replies)) ≡ None
-none_next H n flights b silent = by b
+-- where it replies or asks again it hasn't gone on
+none_next : (H : List Event) (n : ℕ) (flights : List Flight) (told again : Bool) → is_some (due_for H n) ≡ false → sends_unless H n (why_blocked flights n (or_else (stands told Replies) (stands again Asks))) ≡ None
+none_next H n flights told again silent = by told again
   where
     no_leave : permit_for H n ≡ None
     no_leave = ap (sent_at n (site H n) (place H (site H n))) (none_of (due_for H n) silent) ∙ none_sent n (site H n) (place H (site H n))
 
-    by : (b : Bool) → sends_unless H n (why_blocked flights n (stands b Replies)) ≡ None
-    by true = ap (option_map nexts.Send) no_leave
-    by false = ap (option_map nexts.Send) no_leave
+    by : (told again : Bool) → sends_unless H n (why_blocked flights n (or_else (stands told Replies) (stands again Asks))) ≡ None
+    by true again = ap (option_map nexts.Send) no_leave
+    by false true = ap (option_map nexts.Send) no_leave
+    by false false = ap (option_map nexts.Send) no_leave
 
 pub due_once_gone : (H : List Event) (n : ℕ) (before : List Flight) (next : Next) → is_unfinished H n ≡ true → wants n (pool H) ≡ false → next_for H before n ≡ Some next → is_some (due_for H n) ≡ true
 due_once_gone H n before next u content answers = by (is_some (due_for H n)) refl
@@ -122,7 +126,7 @@ due_once_gone H n before next u content answers = by (is_some (due_for H n)) ref
     by false silent =
         let it : sends_unless H n (why_blocked before n (stand H n)) ≡ Some next = ap (λ (b : Bool). cond b (sends_unless H n (why_blocked before n (stand H n))) (Some (nexts.Reply n))) (sym u) ∙ answers in
         let none : sends_unless H n (why_blocked before n (stand H n)) ≡ None =
-        ap (λ at. sends_unless H n (why_blocked before n at)) (stands_content H n content silent) ∙ none_next H n before (settled_there H n) silent
+        ap (λ at. sends_unless H n (why_blocked before n at)) (stands_content H n content silent) ∙ none_next H n before (settled_there H n) (asks_again (tries H n)) silent
         in
         let clash : None ≡ Some next = sym none ∙ it in
         absurd cc

@@ -5,7 +5,7 @@ use Rattle.dsql_journal.specs.declared.entry.Permit.{Permit}
 use Rattle.dsql_history.specs.declared.event.Event.{Event}
 use Rattle.dsql_history.specs.declared.record.Flight.{Flight}
 use Rattle.dsql_history.specs.declared.record.Stand.{Stand}
-use Rattle.dsql_history.specs.declared.record.Stand.TheVariants.{Waits, Opens, Sends, Replies}
+use Rattle.dsql_history.specs.declared.record.Stand.TheVariants.{Waits, Opens, Sends, Replies, Asks}
 use Rattle.dsql_history.specs.Readers.Unfinished.{is_unfinished}
 use Rattle.dsql_history.specs.Rules.Flights.{is_taken, permitted}
 use Rattle.dsql_history.specs.Rules.Line.{due_for}
@@ -40,6 +40,7 @@ same_where_it_stands H n (Some (Sends c)) before next h still = by (is_taken n c
     by true taken k = taken_stays n c before taken
     by false taken k = sends_nothing_still (permit_for H n) next k still
 same_where_it_stands H n (Some Replies) before next h still = refl
+same_where_it_stands H n (Some Asks) before next h still = refl
 same_where_it_stands H n None before next h still = refl
 
 same_when_still : (H : List Event) (before after : List Flight) (n : ℕ) (next : Next) → is_still next ≡ true → HasGoneOn H before after n next → after ≡ before

@@ -5,7 +5,7 @@ use Rattle.std.proofs.lemmas.Bool.Decides.{nat_tests}
 use Rattle.std.proofs.lemmas.List.Folds.{list_any-append}
 use Rattle.dsql_history.specs.declared.record.Flight.{Flight}
 use Rattle.dsql_history.specs.declared.record.Stand.{Stand}
-use Rattle.dsql_history.specs.declared.record.Stand.TheVariants.{Waits, Opens, Sends, Replies}
+use Rattle.dsql_history.specs.declared.record.Stand.TheVariants.{Waits, Opens, Sends, Replies, Asks}
 use Rattle.dsql_history.specs.Rules.Flights.{has_flight, is_in_flight, is_taken, permitted, without_flight}
 use Rattle.dsql_laws.proofs.Standing.{neither}
 use Rattle.dsql_laws.proofs.Tests.{both, same_number}
@@ -137,6 +137,7 @@ apart_permitted n (Some (Sends c)) flights apart = by (is_in_flight n flights ||
 apart_permitted n (Some Waits) flights apart = apart
 apart_permitted n (Some (Opens c)) flights apart = apart
 apart_permitted n (Some Replies) flights apart = apart
+apart_permitted n (Some Asks) flights apart = apart
 apart_permitted n None flights apart = apart
 
 -- what is under way stays so
@@ -149,6 +150,7 @@ flies_on m d n (Some (Sends c)) flights h = by (is_in_flight n flights || has_fl
 flies_on m d n (Some Waits) flights h = h
 flies_on m d n (Some (Opens c)) flights h = h
 flies_on m d n (Some Replies) flights h = h
+flies_on m d n (Some Asks) flights h = h
 flies_on m d n None flights h = h
 
 -- and only this call's is new
@@ -163,6 +165,7 @@ flew_before m d n (Some (Sends c)) flights apart h = by (is_in_flight n flights 
 flew_before m d n (Some Waits) flights apart h = h
 flew_before m d n (Some (Opens c)) flights apart h = h
 flew_before m d n (Some Replies) flights apart h = h
+flew_before m d n (Some Asks) flights apart h = h
 flew_before m d n None flights apart h = h
 
 -- where neither the call nor the connection has one it begins, behind all others
