@@ -12,7 +12,7 @@ use Rattle.dsql_history.specs.declared.event.Event.{Event}
 use Rattle.dsql_history.specs.declared.event.Event.TheVariants.{Pool, Replied}
 use Rattle.dsql_history.specs.declared.record.Flight.{Flight}
 use Rattle.dsql_history.specs.declared.record.Stand.{Stand}
-use Rattle.dsql_history.specs.declared.record.Stand.TheVariants.{Waits, Opens, Sends, Replies}
+use Rattle.dsql_history.specs.declared.record.Stand.TheVariants.{Waits, Opens, Sends, Replies, Asks}
 use Rattle.dsql_history.specs.declared.reply.Reply.{Reply}
 use Rattle.dsql_history.specs.declared.reply.Reply.TheVariants.{TooMany}
 use Rattle.dsql_history.specs.Readers.Calls.{reply_due}
@@ -105,6 +105,7 @@ permitted_fly K n (Some (Sends c)) flights u h = begins_to_fly K n c (is_in_flig
 permitted_fly K n (Some Waits) flights u h = h
 permitted_fly K n (Some (Opens c)) flights u h = h
 permitted_fly K n (Some Replies) flights u h = h
+permitted_fly K n (Some Asks) flights u h = h
 permitted_fly K n None flights u h = h
 
 pub gone_flies : (K : List Event) (n : ℕ) (before after : List Flight) (next : Next) → HasGoneOn K before after n next → are_of_unfinished K before ≡ true → are_of_unfinished K after ≡ true
