@@ -6,7 +6,7 @@ use Rattle.dsql_journal.specs.Readers.{is_empty}
 use Rattle.dsql_history.specs.declared.event.Event.{Event}
 use Rattle.dsql_history.specs.declared.record.Flight.{Flight}
 use Rattle.dsql_history.specs.declared.record.Stand.{Stand}
-use Rattle.dsql_history.specs.declared.record.Stand.TheVariants.{Waits, Opens, Sends, Replies}
+use Rattle.dsql_history.specs.declared.record.Stand.TheVariants.{Waits, Opens, Sends, Replies, Asks}
 use Rattle.dsql_history.specs.Readers.Calls.{is_busy}
 use Rattle.dsql_history.specs.Readers.Clients.{call_of}
 use Rattle.dsql_history.specs.Readers.Unfinished.{is_unfinished}
@@ -35,6 +35,7 @@ unblocked flights n (Some (Sends c)) = by (is_taken n c flights)
 unblocked flights n (Some Waits) = refl
 unblocked flights n (Some (Opens c)) = refl
 unblocked flights n (Some Replies) = refl
+unblocked flights n (Some Asks) = refl
 unblocked flights n None = refl
 
 call_moves : (past : List Event) (flights : List Flight) (n : ℕ) → is_unfinished past n ≡ true → is_none (blocked_call past flights n) ≡ may_move past flights n

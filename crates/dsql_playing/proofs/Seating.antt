@@ -9,7 +9,7 @@ use Rattle.dsql_journal.specs.Permits.{entry_of}
 use Rattle.dsql_history.specs.declared.event.Event.{Event}
 use Rattle.dsql_history.specs.declared.record.Flight.{Flight}
 use Rattle.dsql_history.specs.declared.record.Stand.{Stand}
-use Rattle.dsql_history.specs.declared.record.Stand.TheVariants.{Waits, Opens, Sends, Replies}
+use Rattle.dsql_history.specs.declared.record.Stand.TheVariants.{Waits, Opens, Sends, Replies, Asks}
 use Rattle.dsql_history.specs.Readers.Calls.{is_busy}
 use Rattle.dsql_history.specs.Readers.Clients.{call_of}
 use Rattle.dsql_history.specs.Readers.Unfinished.{is_unfinished}
@@ -62,6 +62,7 @@ parked_on m n (Some (Sends c)) flights apart h = parked_with m n c flights apart
 parked_on m n (Some Waits) flights apart h = h
 parked_on m n (Some (Opens c)) flights apart h = h
 parked_on m n (Some Replies) flights apart h = h
+parked_on m n (Some Asks) flights apart h = h
 parked_on m n None flights apart h = h
 
 parked_landed : (m n : ℕ) (flights : List Flight) → is_in_flight m flights ≡ false → is_in_flight m (without_flight n flights) ≡ false

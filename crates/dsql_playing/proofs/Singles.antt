@@ -7,11 +7,12 @@ use Rattle.dsql_history.specs.declared.event.Event.{Event}
 use Rattle.dsql_history.specs.declared.event.Op.{Op}
 use Rattle.dsql_history.specs.declared.record.Flight.{Flight}
 use Rattle.dsql_history.specs.declared.record.Stand.{Stand}
-use Rattle.dsql_history.specs.declared.record.Stand.TheVariants.{Waits, Opens, Sends, Replies}
+use Rattle.dsql_history.specs.declared.record.Stand.TheVariants.{Waits, Opens, Sends, Replies, Asks}
 use Rattle.dsql_history.specs.Legal.{Lawful}
 use Rattle.dsql_history.specs.Readers.Calls.{decided, is_busy, reply_due, site, told_by_others}
 use Rattle.dsql_history.specs.Readers.Clients.{call_of}
 use Rattle.dsql_history.specs.Readers.Pool.{pool, smallest}
+use Rattle.dsql_history.specs.Readers.Tries.{asks_again, tries}
 use Rattle.dsql_history.specs.Readers.Unfinished.{is_unfinished}
 use Rattle.dsql_history.specs.Rules.Flights.{is_in_flight, may_move, permitted}
 use Rattle.dsql_history.specs.Rules.House.{chore_due}
@@ -108,6 +109,7 @@ sends_there n (Some (Sends c)) flights none some = (c, refl)
 sends_there n (Some Waits) flights none some = absurd cc
 sends_there n (Some (Opens c)) flights none some = absurd cc
 sends_there n (Some Replies) flights none some = absurd cc
+sends_there n (Some Asks) flights none some = absurd cc
 sends_there n None flights none some = absurd cc
 
 flies_with_leave : (past : List Event) (flights : List Flight) (n : ℕ) (permit : Option Permit) → is_some permit ≡ true → FitsCall past flights n permit → is_in_flight n flights ≡ true
@@ -127,16 +129,17 @@ parked_ready p client ready none = parked_without p.past p.flights (call_of p.pa
 
 -- Where a driver call is due going on by itself shows nothing.
 
-standing_due : (w d r : Bool) (o : Option ℕ) (s c : ℕ) → or_else (stands w Waits) (or_else (opens o) (or_else (stands d (Sends s)) (stands r Replies))) ≡ Some (Sends c) → d ≡ true
-standing_due true d r o s c h = absurd cc
-standing_due false d r (Some k) s c h = absurd cc
-standing_due false true r None s c h = refl
-standing_due false false true None s c h = absurd cc
-standing_due false false false None s c h = absurd cc
+standing_due : (w d r a : Bool) (o : Option ℕ) (s c : ℕ) → or_else (stands w Waits) (or_else (opens o) (or_else (stands d (Sends s)) (or_else (stands r Replies) (stands a Asks)))) ≡ Some (Sends c) → d ≡ true
+standing_due true d r a o s c h = absurd cc
+standing_due false d r a (Some k) s c h = absurd cc
+standing_due false true r a None s c h = refl
+standing_due false false true a None s c h = absurd cc
+standing_due false false false true None s c h = absurd cc
+standing_due false false false false None s c h = absurd cc
 
 sends_due : (past : List Event) (n c : ℕ) → stand past n ≡ Some (Sends c) → is_some (due_for past n) ≡ true
 sends_due past n c h =
-    standing_due (waits n (pool past).waiting) (is_some (due_for past n)) (is_none (decided past n) && is_some (told_by_others past n)) (smallest (is_for n) (pool past)) (site past n) c h
+    standing_due (waits n (pool past).waiting) (is_some (due_for past n)) (is_none (decided past n) && is_some (told_by_others past n)) (asks_again (tries past n)) (smallest (is_for n) (pool past)) (site past n) c h
 
 unless : {A : Type 0} (u due : Bool) (gone past : A) → due ≡ true → cond (u && not due) gone past ≡ past
 unless true true gone past h = refl
@@ -151,6 +154,7 @@ sending_at past n (Some (Sends c)) is h = sends_due past n c is
 sending_at past n (Some Waits) is h = absurd cc
 sending_at past n (Some (Opens c)) is h = absurd cc
 sending_at past n (Some Replies) is h = absurd cc
+sending_at past n (Some Asks) is h = absurd cc
 sending_at past n None is h = absurd cc
 
 -- so a call that shows it stands elsewhere

@@ -4,7 +4,7 @@ use Rattle.dsql_history.specs.declared.event.Event.{Event}
 use Rattle.dsql_history.specs.declared.event.Event.TheVariants.{Entered, Heard}
 use Rattle.dsql_history.specs.declared.record.Flight.{Flight}
 use Rattle.dsql_history.specs.declared.record.Stand.{Stand}
-use Rattle.dsql_history.specs.declared.record.Stand.TheVariants.{Waits, Opens, Sends, Replies}
+use Rattle.dsql_history.specs.declared.record.Stand.TheVariants.{Waits, Opens, Sends, Replies, Asks}
 use Rattle.dsql_history.specs.Readers.Calls.{is_busy}
 use Rattle.dsql_history.specs.Readers.Clients.{is_free}
 use Rattle.dsql_history.specs.Rules.Flights.{has_flight, is_in_flight, may_move, permitted, without_flight}
@@ -61,6 +61,7 @@ landed_alike n (Some (Sends c)) flights = by (is_in_flight n flights || has_flig
 landed_alike n (Some Waits) flights = refl
 landed_alike n (Some (Opens c)) flights = refl
 landed_alike n (Some Replies) flights = refl
+landed_alike n (Some Asks) flights = refl
 landed_alike n None flights = refl
 
 -- the call has gone as far as it can

@@ -12,6 +12,7 @@ use Rattle.dsql_history.specs.declared.record.Stand.TheVariants as stands_at
 use Rattle.dsql_history.specs.Readers.Calls.{decided, is_busy, site, told_by_others}
 use Rattle.dsql_history.specs.Readers.Controls.{told, taken, told_after}
 use Rattle.dsql_history.specs.Readers.Pool.{pool, smallest}
+use Rattle.dsql_history.specs.Readers.Tries.{asks_again, tries}
 use Rattle.dsql_history.specs.Readers.Works.{work}
 use Rattle.dsql_history.specs.Rules.Flights.{is_in_flight, may_move, permitted}
 use Rattle.dsql_history.specs.Rules.Line.{due_for, due_in}
@@ -38,17 +39,18 @@ use Rattle.dsql_playing.specs.Acts.{Woken}
 
 -- Nobody sends anything.
 
-sends_none : (w due r : Bool) (o : Option ℕ) (c : ℕ) (flights : List Flight) → due ≡ false
-    → permitted 0 (or_else (stands w stands_at.Waits) (or_else (opens o) (or_else (stands due (stands_at.Sends c)) (stands r stands_at.Replies)))) flights ≡ flights
-sends_none w true r o c flights h = absurd cc
-sends_none true false r o c flights h = refl
-sends_none false false r (Some d) c flights h = refl
-sends_none false false true None c flights h = refl
-sends_none false false false None c flights h = refl
+sends_none : (w due r a : Bool) (o : Option ℕ) (c : ℕ) (flights : List Flight) → due ≡ false
+    → permitted 0 (or_else (stands w stands_at.Waits) (or_else (opens o) (or_else (stands due (stands_at.Sends c)) (or_else (stands r stands_at.Replies) (stands a stands_at.Asks))))) flights ≡ flights
+sends_none w true r a o c flights h = absurd cc
+sends_none true false r a o c flights h = refl
+sends_none false false r a (Some d) c flights h = refl
+sends_none false false true a None c flights h = refl
+sends_none false false false true None c flights h = refl
+sends_none false false false false None c flights h = refl
 
 pub nobody_sends : (H : List Event) (flights : List Flight) → Lawful H → permitted 0 (stand H 0) flights ≡ flights
 nobody_sends H flights l =
-    sends_none (waits 0 (pool H).waiting) (is_some (due_for H 0)) (is_none (decided H 0) && is_some (told_by_others H 0)) (smallest (is_for 0) (pool H)) (site H 0) flights
+    sends_none (waits 0 (pool H).waiting) (is_some (due_for H 0)) (is_none (decided H 0) && is_some (told_by_others H 0)) (asks_again (tries H 0)) (smallest (is_for 0) (pool H)) (site H 0) flights
     (ap (λ b. is_some (cond b (due_in H 0 (work H 0)) None)) (nobody H 0 l refl))
 
 -- Steps of nobody.
