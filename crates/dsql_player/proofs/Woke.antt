@@ -8,7 +8,7 @@ use Rattle.dsql_history.specs.declared.event.Event.{Event}
 use Rattle.dsql_history.specs.declared.event.Event.TheVariants.{Ended}
 use Rattle.dsql_history.specs.declared.record.Flight.{Flight}
 use Rattle.dsql_history.specs.declared.record.Stand.{Stand}
-use Rattle.dsql_history.specs.declared.record.Stand.TheVariants.{Waits, Opens, Sends, Replies}
+use Rattle.dsql_history.specs.declared.record.Stand.TheVariants.{Waits, Opens, Sends, Replies, Asks}
 use Rattle.dsql_history.specs.Readers.Calls.{is_busy}
 use Rattle.dsql_history.specs.Readers.Clients.{call_of}
 use Rattle.dsql_history.specs.Readers.Course.{has_ended}
@@ -51,6 +51,7 @@ no_reason flights n (Some Waits) h = absurd cc
 no_reason flights n (Some (Opens c)) h = absurd cc
 no_reason flights n (Some (Sends c)) h = ap (λ b. cond b (Some (Turn c)) None) h
 no_reason flights n (Some Replies) h = refl
+no_reason flights n (Some Asks) h = refl
 no_reason flights n None h = refl
 
 sent : (permit : Option Permit) (next : Next) → option_map Send permit ≡ Some next → is_some (leave_of next) ≡ true
