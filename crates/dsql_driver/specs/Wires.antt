@@ -25,11 +25,15 @@ LiveCursor = ℕ × ℕ
 abbrev pub Plan : Type 0
 Plan = ℕ × Planned
 
+-- a fault that was planned on a wire, behind how many calls that the wire had heard by then
+abbrev pub PlanMade : Type 0
+PlanMade = ℕ × Plan
+
 -- What a wire tells: its number, the calls that it heard with their answers, and the faults that were planned on it, each oldest first.
 pub record WireTold : Type 0 where
   pub number : ℕ
   pub calls : List Told
-  pub plans : List Plan
+  pub plans : List PlanMade
 
 -- a Connect that was asked for, by the connection's number, with its answer
 abbrev pub Connected : Type 0
@@ -39,6 +43,10 @@ Connected = ℕ × DriverAnswer
 abbrev pub WirePlan : Type 0
 WirePlan = ℕ × Plan
 
+-- a fault that was planned with a fleet, behind how many Connects that the fleet had told by then
+abbrev pub WirePlanMade : Type 0
+WirePlanMade = ℕ × WirePlan
+
 -- a wire that was given back under this number, with what it tells
 abbrev pub RetiredWire : Type 0
 RetiredWire = ℕ × WireTold
@@ -46,7 +54,7 @@ RetiredWire = ℕ × WireTold
 -- What a fleet tells: the Connects that it was asked for, the faults that were planned, and the wires that it was given back, each oldest first.
 pub record FleetTold : Type 0 where
   pub connects : List Connected
-  pub plans : List WirePlan
+  pub plans : List WirePlanMade
   pub retired : List RetiredWire
 
 -- which capabilities a fleet was asked for last, and how often it was asked; the count stands still at its last value
@@ -66,8 +74,9 @@ abbrev pub told_after : DriverCall → DriverAnswer → Option WireTold → Opti
 told_after call Memory told = told
 told_after call answer told = option_map (with_call (call, answer)) told
 
+-- a fault is planned behind the calls that were heard so far
 abbrev pub with_plan : Plan → WireTold → WireTold
-with_plan plan told = record told { plans = told.plans ++ plan ∷ [] }
+with_plan plan told = record told { plans = told.plans ++ (length told.calls, plan) ∷ [] }
 
 -- what a wire tells once one more fault was planned on it
 abbrev pub planned_after : Plan → Option WireTold → Option WireTold
@@ -88,8 +97,9 @@ abbrev pub connected_after : ℕ → DriverAnswer → Option FleetTold → Optio
 connected_after number Memory told = told
 connected_after number answer told = option_map (with_connects ((number, answer) ∷ [])) told
 
+-- a fault is planned behind the Connects that were told so far
 abbrev pub with_wire_plan : WirePlan → FleetTold → FleetTold
-with_wire_plan plan told = record told { plans = told.plans ++ plan ∷ [] }
+with_wire_plan plan told = record told { plans = told.plans ++ (length told.connects, plan) ∷ [] }
 
 -- what a fleet tells once one more fault was planned
 abbrev pub plans_after : WirePlan → Option FleetTold → Option FleetTold

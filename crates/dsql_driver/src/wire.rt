@@ -34,8 +34,8 @@ pub struct Answered {
 
 /// One open connection to a database, as Go's `driver.Conn` with its statements, rows and transactions.
 pub trait Wire {
-    /// Its number, the calls that it heard with their answers, and the faults that were planned on it,
-    /// where the wire tells.
+    /// Its number, the calls that it heard with their answers, and the faults that were planned on it, each
+    /// with how many calls had been heard by then, where the wire tells.
     ghost told: { Self → Option WireTold };
     /// How often it answered Bad, Fail or Invalid.
     ghost faults: { Self → ℕ };
@@ -56,7 +56,8 @@ pub trait Wire {
         ensures caused { is_fault result.answer ≡ true → HasRisen (faults self.old) (faults self.new) }
         ensures faultless { is_fault result.answer ≡ false → faults self.new ≡ faults self.old };
 
-    /// Plans a fault in place of the answer to the nth call on this wire, its Connect being the first.
+    /// Plans a fault in place of the answer to the nth call on this wire, its Connect being the first. It is
+    /// told as planned behind the calls that were heard so far.
     fn plan(&mut self, nth: u32, what: Planned) -> Result<(), Memory>
         ensures told { OnOk result (told self.new ≡ planned_after (nth, what) (told self.old)) }
         ensures err { OnErr result (told self.new ≡ told self.old) }
@@ -74,8 +75,8 @@ pub trait Fleet {
     ghost ability: { Self → Caps };
     /// The capabilities that were asked for last, if any were, and how often any were.
     ghost preferred: { Self → Preferred };
-    /// The Connects that it was asked for, the faults that were planned, and the wires that it was given
-    /// back, where the fleet tells.
+    /// The Connects that it was asked for, the faults that were planned, each with how many Connects had been
+    /// told by then, and the wires that it was given back, where the fleet tells.
     ghost told: { Self → Option FleetTold };
     /// How often a Connect was refused as Bad or Fail.
     ghost faults: { Self → ℕ };
@@ -91,7 +92,7 @@ pub trait Fleet {
         ensures faultless { faults self.new ≡ faults self.old };
 
     /// Plans a fault in place of the answer to the nth call on a wire that isn't connected yet, its
-    /// Connect being the first.
+    /// Connect being the first. It is told as planned behind the Connects that were told so far.
     fn plan(&mut self, wire: u32, nth: u32, what: Planned) -> Result<(), Memory>
         ensures told { OnOk result (told self.new ≡ plans_after (wire, (nth, what)) (told self.old)) }
         ensures err { OnErr result (told self.new ≡ told self.old) }
