@@ -1,7 +1,7 @@
 -- Faults that are planned in place of calls' answers.
 use Rattle.std.specs.Prelude.{ℕ, ◌==◌, List, map, filter, reverse, find, Option, Some, None, option_map, option_and_then, if◌then◌else◌}
 use Rattle.dsql_driver.specs.Fits.{fits_of}
-use Rattle.dsql_driver.specs.Wires.{Plan, WirePlan}
+use Rattle.dsql_driver.specs.Wires.{Plan, WirePlanMade}
 use Rattle.dsql_driver.specs.declared.answer.DriverAnswer.{DriverAnswer}
 use Rattle.dsql_driver.specs.declared.answer.DriverAnswer.TheVariants as answers
 use Rattle.dsql_driver.specs.declared.call.DriverCall.{DriverCall}
@@ -27,5 +27,5 @@ abbrev pub fault_at : ℕ → DriverCall → List Plan → Option DriverAnswer
 fault_at nth call plans = option_and_then (fault_for call) (planned_at nth plans)
 
 -- a fleet's plans for the wire of this number
-abbrev pub plans_for : ℕ → List WirePlan → List Plan
-plans_for number plans = map (λ plan. plan.1) (filter (λ plan. plan.0 == number) plans)
+abbrev pub plans_for : ℕ → List WirePlanMade → List Plan
+plans_for number plans = map (λ made. made.1.1) (filter (λ made. made.1.0 == number) plans)

@@ -1,6 +1,6 @@
 -- Worked plans: what wires answer for which faults are planned.
-use Rattle.std.specs.Prelude.{◌≡◌, List, [], ◌∷◌, Some, None, codes}
-use Rattle.dsql_driver.specs.Wires.{Plan, WirePlan}
+use Rattle.std.specs.Prelude.{◌≡◌, List, [], ◌∷◌, map, Some, None, codes}
+use Rattle.dsql_driver.specs.Wires.{Plan, WirePlan, WirePlanMade}
 use Rattle.dsql_driver.specs.declared.answer.DriverAnswer.{DriverAnswer}
 use Rattle.dsql_driver.specs.declared.answer.DriverAnswer.TheVariants as answers
 use Rattle.dsql_driver.specs.declared.call.DriverCall.{DriverCall}
@@ -20,9 +20,13 @@ answers_on store wire (call ∷ calls) = let after = comes_of store wire call in
 abbrev pub answers_with : List Plan → List DriverCall → List DriverAnswer
 answers_with plans calls = answers_on [] (new_wire 1 plans) calls
 
--- a fleet of which this was planned
+-- a plan that was made before any Connect
+abbrev pub made_first : WirePlan → WirePlanMade
+made_first plan = (0, plan)
+
+-- a fleet with which this was planned before any Connect
 abbrev pub fleet_with : List WirePlan → FleetState
-fleet_with plans = record new_fleet { told = record { connects = []; plans = plans; retired = [] } }
+fleet_with plans = record new_fleet { told = record { connects = []; plans = map made_first plans; retired = [] } }
 
 pub record WorkedPlans : Type 0 where
   -- a fault stands in the place of one call, and the call after it is carried out
@@ -38,6 +42,9 @@ pub record WorkedPlans : Type 0 where
   pub unfit : answers_with ((2, Bad) ∷ (2, Invalid) ∷ []) (Ping ∷ []) ≡ answers.Done ∷ []
   -- and what is planned on a wire replaces what its fleet planned for it
   pub replaced_on_wire : answers_on [] (after_plan (2, Bad) (new_wire 1 ((2, Fail (codes "no")) ∷ []))) (Ping ∷ []) ≡ answers.Bad ∷ []
+  -- a plan is told behind the calls that were heard by then, and one for a call that is over has no effect
+  pub told_behind : (after_plan (2, Bad) (after_call [] (new_wire 1 []) Ping)).told.plans ≡ (2, (2, Bad)) ∷ []
+  pub too_late : answers_on [] (after_plan (2, Bad) (after_call [] (new_wire 1 []) Ping)) (Ping ∷ []) ≡ answers.Done ∷ []
   -- nothing is written in the place of a fault
   pub not_written :
       answers_with ((2, Bad) ∷ []) (tell (codes "SET a 1") ∷ ask (codes "GET a") ∷ Next 1 ∷ [])

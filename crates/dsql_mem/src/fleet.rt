@@ -6,7 +6,7 @@ ghost use Rattle.dsql_session.specs.Session.{handles_of, cursors_of};
 ghost use Rattle.dsql_mem.specs.Wire.{ability_of, faults_after, new_fleet, new_wire, after_wire_plan, planned_for, connect_fault};
 
 use crate::connection::faults_after;
-use crate::plans::{Plan, Refusal, connect_refusal, plans_for};
+use crate::plans::{Refusal, WirePlanMade, connect_refusal, plans_for};
 use crate::roll::Roll;
 use crate::wire::MemWire;
 use dsql_driver::{Caps, DriverAnswer, Fleet, Planned, Refused};
@@ -34,7 +34,7 @@ pub struct MemFleet<R: AllocGlobal + Wait + Clone + Drop + Send> {
     preferred: Option<Caps>,
     preferences: u64,
     connects: Vec<(u32, DriverAnswer)>,
-    plans: Vec<(u32, Plan)>,
+    plans: Vec<WirePlanMade>,
     retired: Roll,
     faults: u64,
 }
@@ -106,7 +106,8 @@ impl<R: AllocGlobal + Wait + Clone + Drop + Send> Fleet for MemFleet<R> {
         ensures planned { OnOk result (self.new ≡ after_wire_plan (wire, (nth, what)) self.old) }
         ensures stays { OnErr result (self.new ≡ self.old) }
     {
-        self.plans.push((wire, (nth, what)))?;
+        self.plans
+            .push((self.connects.len(), (wire, (nth, what))))?;
         Ok(())
     }
 

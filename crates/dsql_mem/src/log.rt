@@ -2,7 +2,7 @@ ghost use Rattle.std.specs.Prelude.{◌≡◌, IfOk, OnOk, OnErr};
 ghost use Rattle.dsql_driver.specs.Wires.{newly_told, with_plan};
 ghost use Rattle.dsql_mem.specs.Log.{told_of};
 
-use crate::plans::Plan;
+use crate::plans::PlanMade;
 use dsql_driver::{DriverAnswer, DriverCall, Planned};
 use dsql_value::Memory;
 use std::alloc::Global;
@@ -10,13 +10,13 @@ use std::alloc::Global;
 /// A call that a wire heard, with its answer.
 pub(crate) type Told = (DriverCall, DriverAnswer);
 
-/// What a wire was asked: its number, the calls that it heard, and the faults that were planned on it,
-/// oldest first.
+/// What a wire was asked: its number, the calls that it heard, and the faults that were planned on it, each
+/// with how many calls had been heard by then, oldest first.
 #[derive(Drop)]
 pub(crate) struct Log {
     pub(crate) number: u32,
     pub(crate) calls: Vec<Told>,
-    pub(crate) plans: Vec<Plan>,
+    pub(crate) plans: Vec<PlanMade>,
 }
 
 impl Log {
@@ -33,12 +33,12 @@ impl Log {
         })
     }
 
-    /// Enters a fault that is planned.
+    /// Enters a fault that is planned, behind the calls that were heard so far.
     pub(crate) fn plan(&mut self, nth: u32, what: Planned) -> Result<(), Memory>
         ensures ok { OnOk result (told_of self.new ≡ with_plan (nth, what) (told_of self.old)) }
         ensures err { OnErr result (told_of self.new ≡ told_of self.old) }
     {
-        self.plans.push((nth, what))?;
+        self.plans.push((self.calls.len(), (nth, what)))?;
         Ok(())
     }
 }

@@ -13,6 +13,13 @@ use std::alloc::Global;
 /// A fault in place of the answer to the nth call on a wire.
 pub(crate) type Plan = (u32, Planned);
 
+/// A fault that was planned on a wire, behind how many calls that the wire had heard by then.
+pub(crate) type PlanMade = (usize, Plan);
+
+/// A fault that was planned with a fleet for the wire of this number, behind how many Connects that the fleet
+/// had told by then.
+pub(crate) type WirePlanMade = (usize, (u32, Plan));
+
 /// A copy of a planned fault.
 pub(crate) fn copied(what: &Planned) -> Result<Planned, Memory>
     ensures { IfOk result (λ copy. copy ≡ what.now) }
@@ -28,12 +35,12 @@ pub(crate) fn copied(what: &Planned) -> Result<Planned, Memory>
 pub(crate) fn plans_for(
     alloc: Global,
     number: u32,
-    plans: &[(u32, Plan)],
+    plans: &[WirePlanMade],
 ) -> Result<Vec<Plan>, Memory>
     ensures { IfOk result (λ own. own.items ≡ plans_for number plans.now) }
 {
     let mut own = Vec::new(alloc);
-    for (wire, (nth, what)) in plans {
+    for (_, (wire, (nth, what))) in plans {
         if *wire == number {
             own.push((*nth, copied(what)?))?;
         }

@@ -22,8 +22,8 @@ use dsql_seats::KeptLine;
 use dsql_wires::{Wires, plan};
 
 /// Carries a line of the script out. After a client's call, a limit, a moment or a fault all goes on until nobody may; a call
-/// that is held only enters, and a single step is just one. A fault is planned on the wire of its connection where it has one,
-/// and else with the fleet.
+/// that is held only enters, and a single step is just one. A fault is planned before its line goes on: on the wire of its
+/// connection, where it has one, and else with the fleet.
 ///
 /// After an `Err` the run can't go on: its wires are given back by `retire_all`.
 pub fn carry_line<F: Fleet>(
@@ -56,7 +56,8 @@ pub fn carry_line<F: Fleet>(
     }
 }
 
-/// Plans a fault, on the wire of its connection where it has one, and else with the fleet. Then all goes on until nobody may.
+/// Plans a fault, on the wire of its connection where it has one, and else with the fleet. Then all goes on until nobody may,
+/// so that nothing was heard since the line before as the fault is planned.
 fn carry_fault<F: Fleet>(
     player: &mut Player,
     wires: &mut Wires<F::Wire>,
@@ -78,7 +79,7 @@ fn carry_fault<F: Fleet>(
 }
 
 /// Carries the script's end out: no call is held any more, all goes on, the run ends, and all goes on again until nobody
-/// may. Then every connection was shut and its wire given back, so that the table of wires may be destroyed.
+/// may. Then every connection was shut and its wire given back, and `retire_all` gives back none.
 ///
 /// After an `Err` the wires that are left are given back by `retire_all`.
 pub fn carry_end<F: Fleet>(

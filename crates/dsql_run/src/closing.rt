@@ -34,15 +34,11 @@ fn end_run<F: Fleet>(player: &mut Player, wires: Wires<F::Wire>, fleet: &mut F) 
     ensures on { RunsOn F.Fleet fleet.old fleet.new player.old.past player.new.past }
 {
     let mut wires = wires;
-    match carry_end(player, &mut wires, fleet) {
-        Ok(()) => {
-            wires.destroy();
-            Ok(())
-        }
-        Err(halt) => {
-            retire_all(wires, fleet);
-            Err(stop_of_halt(halt))
-        }
+    let carried = carry_end(player, &mut wires, fleet);
+    retire_all(wires, fleet);
+    match carried {
+        Ok(()) => Ok(()),
+        Err(halt) => Err(stop_of_halt(halt)),
     }
 }
 

@@ -101,11 +101,13 @@ impl<W: Wire> JournaledWire<W> {
         self.journal.entries()
     }
 
-    /// Plans a fault in place of the answer to the nth call on this wire, its Connect being the first.
+    /// Plans a fault in place of the answer to the nth call on this wire, its Connect being the first. What it
+    /// told before, if it tells, was just its journal.
     pub fn plan(&mut self, nth: u32, what: Planned) -> Result<(), Memory>
         ensures journal { self.new.journal ≡ self.old.journal }
         ensures conn { self.new.conn ≡ self.old.conn }
         ensures told { OnOk result (W.told self.new.wire ≡ planned_after (nth, what) (W.told self.old.wire)) }
+        ensures exact { IfSome (W.told self.old.wire) (TellsOf self.old.conn self.old.journal) }
         ensures err { OnErr result (W.told self.new.wire ≡ W.told self.old.wire) }
         ensures faultless { W.faults self.new.wire ≡ W.faults self.old.wire }
     {

@@ -2,7 +2,7 @@
 use Rattle.std.proofs.Common.{◌≡◌, ◌≢◌, inl, inr, ℕ, true, List, [], ◌∷◌, ◌++◌, Option, Some, None, refl, sym, ◌∙◌, ap, subst, set}
 use Rattle.std.specs.Prelude.{IfSome}
 use Rattle.std.specs.List.{list_all}
-use Rattle.dsql_driver.specs.Wires.{WireTold, Plan, told_after}
+use Rattle.dsql_driver.specs.Wires.{WireTold, PlanMade, told_after}
 use Rattle.dsql_driver.specs.declared.call.DriverCall.{DriverCall}
 use Rattle.dsql_driver.specs.declared.answer.DriverAnswer.{DriverAnswer}
 use Rattle.dsql_driver.specs.declared.answer.DriverAnswer.TheVariants.{Memory}
@@ -18,12 +18,12 @@ use Rattle.dsql_wires.proofs.Journals.{same_or_not, journal_here, journal_elsewh
 use Rattle.dsql_wires.proofs.Slots.{slot_elsewhere, set_default}
 
 -- a call plans no fault
-same_plans : (call : DriverCall) (answer : DriverAnswer) (plans : List Plan) (told : Option WireTold) → IfSome told (λ t. t.plans ≡ plans) → IfSome (told_after call answer told) (λ t. t.plans ≡ plans)
+same_plans : (call : DriverCall) (answer : DriverAnswer) (plans : List PlanMade) (told : Option WireTold) → IfSome told (λ t. t.plans ≡ plans) → IfSome (told_after call answer told) (λ t. t.plans ≡ plans)
 same_plans call Memory plans told h = h
 same_plans call _ plans None h = tt
 same_plans call _ plans (Some told) h = h
 
-pub heard_plans : {W : Type 0} (heard : W → Option WireTold) (e : Entry) (plans : List Plan) (before after : Option (Journaled W)) → HearsEntry heard e before after
+pub heard_plans : {W : Type 0} (heard : W → Option WireTold) (e : Entry) (plans : List PlanMade) (before after : Option (Journaled W)) → HearsEntry heard e before after
     → IfSome before (λ w. IfSome (heard w.wire) (λ told. told.plans ≡ plans)) → IfSome after (λ w. IfSome (heard w.wire) (λ told. told.plans ≡ plans))
 heard_plans heard e plans None after t h = absurd t
 heard_plans heard e plans (Some b) None t h = absurd t
@@ -79,4 +79,4 @@ pub opened_plans : {W : Type 0} (heard : W → Option WireTold) (past : List Eve
     → IfSome (slot after e.conn) (λ w. IfSome (heard w.wire) (λ told. told.plans ≡ [])) → KeepsPlans heard past (Heard e ∷ past) before after
 opened_plans heard past e before after nothing others unplanned made fit =
     entry_plans heard made past e before after others fit
-    (subst (λ (plans : List Plan). IfSome (slot after e.conn) (λ w. IfSome (heard w.wire) (λ told. told.plans ≡ plans))) (sym ((fit e.conn).unheard nothing)) unplanned)
+    (subst (λ (plans : List PlanMade). IfSome (slot after e.conn) (λ w. IfSome (heard w.wire) (λ told. told.plans ≡ plans))) (sym ((fit e.conn).unheard nothing)) unplanned)

@@ -3,7 +3,7 @@ use Rattle.std.proofs.Common.{◌≡◌, ℕ, true, false, List, [], ◌∷◌, 
 use Rattle.std.specs.Prelude.{is_some, IfSome}
 use Rattle.std.specs.List.{list_all}
 use Rattle.dsql_driver.specs.Kinds.{is_connect, is_shut}
-use Rattle.dsql_driver.specs.Wires.{WireTold, FleetTold, Plan, with_connects, with_retired}
+use Rattle.dsql_driver.specs.Wires.{WireTold, FleetTold, PlanMade, with_connects, with_retired}
 use Rattle.dsql_journal.specs.declared.entry.Entry.{Entry}
 use Rattle.dsql_journal.proofs.Conjunctions.{parts2}
 use Rattle.dsql_history.specs.declared.event.Event.{Event}
@@ -40,7 +40,7 @@ pub connect_told : (made : List Made) (past : List Event) (e : Entry) → is_con
 connect_told made past e opens = rw opens refl
 
 -- a wire with this journal and these plans tells just them, if it tells
-pub told_whole : (told : Option WireTold) (c : ℕ) (plans : List Plan) (entries : List Entry) → IfSome told (TellsOf c entries) → IfSome told (λ t. t.plans ≡ plans) → IfSome told (λ t. t ≡ tells_of c plans entries)
+pub told_whole : (told : Option WireTold) (c : ℕ) (plans : List PlanMade) (entries : List Entry) → IfSome told (TellsOf c entries) → IfSome told (λ t. t.plans ≡ plans) → IfSome told (λ t. t ≡ tells_of c plans entries)
 told_whole None c plans entries h all = tt
 told_whole (Some told) c plans entries h all =
     ap (λ n. record { number = n; calls = told.calls; plans = told.plans }) h.number

@@ -1,5 +1,5 @@
 -- What a fleet tells adds up as a history goes on.
-use Rattle.std.proofs.Common.{◌≡◌, ◌⊎◌, inl, inr, ℕ, Bool, true, false, List, [], ◌∷◌, ◌++◌, length, Option, Some, None, refl, sym, ◌∙◌, ap, subst, append_assoc, arith}
+use Rattle.std.proofs.Common.{◌≡◌, ◌⊎◌, inl, inr, ℕ, Bool, true, false, List, [], ◌∷◌, ◌++◌, map, length, Option, Some, None, refl, sym, ◌∙◌, ap, subst, append_assoc, arith}
 use Rattle.std.specs.Prelude.{option_map, is_some, IfSome}
 use Rattle.std.proofs.lemmas.List.{append-nil}
 use Rattle.dsql_driver.specs.Fits.{is_memory}
@@ -8,7 +8,7 @@ use Rattle.dsql_driver.specs.declared.answer.DriverAnswer.{DriverAnswer}
 use Rattle.dsql_driver.specs.declared.answer.DriverAnswer.TheVariants.{Memory}
 use Rattle.dsql_history.specs.declared.event.Event.{Event}
 use Rattle.dsql_wires.specs.Plans.{Made}
-use Rattle.dsql_wires.specs.Told.{fleet_told, FleetTells, told_then, with_told, TellsAtMost, LeavesAtMost, SameAsked, retired_slot, retired_from}
+use Rattle.dsql_wires.specs.Told.{behind, fleet_told, FleetTells, told_then, with_told, TellsAtMost, LeavesAtMost, SameAsked, retired_slot, retired_from}
 use Rattle.dsql_wires.specs.WiresFit.{KeepsPlans, PlansFit}
 use Rattle.dsql_wire.specs.Journaled.{Journaled}
 
@@ -34,7 +34,7 @@ connect_then : (c : ℕ) (a : DriverAnswer) (more : FleetTold) (t : Option Fleet
     → option_map (with_connects ((c, a) ∷ [])) (option_map (told_then more) t) ≡ option_map (told_then (with_connects ((c, a) ∷ []) more)) t
 connect_then c a more None = refl
 connect_then c a more (Some first) =
-    ap (λ cs. Some (record { connects = cs; plans = first.plans ++ more.plans; retired = first.retired ++ more.retired })) (append_assoc first.connects more.connects ((c, a) ∷ []))
+    ap (λ cs. Some (record { connects = cs; plans = first.plans ++ map (behind (length first.connects)) more.plans; retired = first.retired ++ more.retired })) (append_assoc first.connects more.connects ((c, a) ∷ []))
 
 heard_answer : (c : ℕ) (a : DriverAnswer) (t : Option FleetTold) → is_memory a ≡ false → connected_after c a t ≡ option_map (with_connects ((c, a) ∷ [])) t
 heard_answer c Memory t h = absurd cc
@@ -69,7 +69,7 @@ gone_then c told all (Some b) None more h e = absurd cc
 gone_then c None all (Some b) (Some first) more h e = let k : false ≡ true = h.tells refl in absurd cc
 gone_then c (Some told) all (Some b) (Some first) more h e =
     let is : b ≡ told_then more first = cc in
-    rw (is, h.exactly) (ap (λ (rs : List RetiredWire). Some (record { connects = first.connects ++ more.connects; plans = first.plans ++ more.plans; retired = rs })) (append_assoc first.retired more.retired ((c, all) ∷ [])))
+    rw (is, h.exactly) (ap (λ (rs : List RetiredWire). Some (record { connects = first.connects ++ more.connects; plans = first.plans ++ map (behind (length first.connects)) more.plans; retired = rs })) (append_assoc first.retired more.retired ((c, all) ∷ [])))
 
 telling_gone : (c : ℕ) (told : Option WireTold) (before : Option FleetTold) → (is_some before ≡ true → is_some told ≡ true) → is_some (retired_after c told before) ≡ is_some before
 telling_gone c None None h = refl

@@ -1,7 +1,7 @@
 -- What wires and a fleet tell of a history. All of it is read off what was heard.
-use Rattle.std.specs.Prelude.{ℕ, ◌≡◌, ◌≤◌, ◌⊎◌, Bool, true, false, cond, List, [], ◌∷◌, ◌++◌, length, Option, Some, None, is_some, IfSome, option_map}
+use Rattle.std.specs.Prelude.{ℕ, ◌+◌, ◌≡◌, ◌≤◌, ◌⊎◌, Bool, true, false, cond, List, [], ◌∷◌, ◌++◌, map, length, Option, Some, None, is_some, IfSome, option_map}
 use Rattle.dsql_driver.specs.Kinds.{is_connect, is_shut}
-use Rattle.dsql_driver.specs.Wires.{WireTold, FleetTold, Connected, Plan, with_connects, with_retired, retired_after}
+use Rattle.dsql_driver.specs.Wires.{WireTold, FleetTold, Connected, PlanMade, WirePlanMade, with_connects, with_retired, retired_after}
 use Rattle.dsql_driver.specs.declared.wire.Fleet.{Ghosts}
 use Rattle.dsql_journal.specs.declared.entry.Entry.{Entry}
 use Rattle.dsql_history.specs.declared.event.Event.{Event}
@@ -18,7 +18,7 @@ hears_nothing (Heard e) = false
 hears_nothing _ = true
 
 -- what the wire of connection c tells, whose journal this is, and on which these faults were planned
-abbrev pub tells_of : ℕ → List Plan → List Entry → WireTold
+abbrev pub tells_of : ℕ → List PlanMade → List Entry → WireTold
 tells_of c plans entries = record { number = c; calls = told_of entries; plans = plans }
 
 -- A Connect comes to what a fleet tells, with its answer. A Shut does with the wire that was shut, whatever it was answered, and no other call does.
@@ -33,9 +33,17 @@ fleet_told made [] = record { connects = []; plans = fleet_plans made; retired =
 fleet_told made (Heard e ∷ before) = with_heard made e (journal before e.conn) (fleet_told made before)
 fleet_told made (_ ∷ before) = fleet_told made before
 
+-- a plan behind so many Connects more
+abbrev pub behind : ℕ → WirePlanMade → WirePlanMade
+behind connects made = (connects + made.0, made.1)
+
 -- what a fleet tells that told one thing first, and was then asked for more
 abbrev pub told_then : FleetTold → FleetTold → FleetTold
-told_then more first = record { connects = first.connects ++ more.connects; plans = first.plans ++ more.plans; retired = first.retired ++ more.retired }
+told_then more first = record {
+  connects = first.connects ++ more.connects;
+  plans = first.plans ++ map (behind (length first.connects)) more.plans;
+  retired = first.retired ++ more.retired;
+}
 
 -- what a fleet tells of a history and of the faults that were planned, where it told so much as the history began
 abbrev pub with_told : List Made → Option FleetTold → List Event → Option FleetTold

@@ -2,6 +2,7 @@
 ghost use Rattle.std.specs.Prelude.{◌≡◌, OnOk, OnErr};
 ghost use Rattle.dsql_wires.specs.Asked.{Plans};
 ghost use Rattle.dsql_wires.specs.Told.{SameAbility};
+ghost use Rattle.dsql_wires.specs.WiresFit.{SameWires};
 
 use crate::wires::Wires;
 use dsql_driver::{Fleet, Planned};
@@ -19,6 +20,7 @@ pub fn plan<F: Fleet>(
     ensures plans { OnOk result
         (Plans F.Wire.told conn (nth, what) (F.told fleet.old) (F.told fleet.new) wires.old wires.new) }
     ensures unplanned { OnErr result (F.told fleet.new ≡ F.told fleet.old) }
+    ensures same { OnErr result (SameWires F.Wire.told wires.old wires.new) }
     ensures able { SameAbility F.Fleet fleet.old fleet.new }
 {
     if wires.has(conn) {

@@ -1,5 +1,5 @@
 //! Wires are given back to their fleet.
-ghost use Rattle.std.specs.Prelude.{◌≡◌, reverse, slice_set, Some, None, IsSome, IfSome};
+ghost use Rattle.std.specs.Prelude.{ℕ, ◌≡◌, reverse, slice_set, Some, None, IsSome, IfSome};
 ghost use Rattle.dsql_driver.specs.Wires.{retired_after};
 ghost use Rattle.dsql_wire.specs.Told.{TellsOf};
 ghost use Rattle.dsql_wires.specs.Told.{SameAbility, retired_from, retired_slot};
@@ -22,10 +22,12 @@ pub fn retire<F: Fleet>(wires: &mut Wires<F::Wire>, fleet: &mut F, conn: u32)
     give_back(wires.take(conn), conn, fleet);
 }
 
-/// Gives every wire that is left back to the fleet, the largest number first.
+/// Gives every wire that is left back to the fleet, the largest number first. Where none is left the fleet
+/// tells what it told.
 pub fn retire_all<F: Fleet>(wires: Wires<F::Wire>, fleet: &mut F)
     ensures retired { F.told fleet.new
         ≡ retired_from F.Wire.told (reverse wires) (F.told fleet.old) }
+    ensures unasked { ((c : ℕ) → slot wires c ≡ None) → F.told fleet.new ≡ F.told fleet.old }
     ensures able { SameAbility F.Fleet fleet.old fleet.new }
 {
     let mut slots = wires.into_slots();

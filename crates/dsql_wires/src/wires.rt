@@ -6,7 +6,7 @@ ghost use Rattle.dsql_tenure.specs.Judged.{answered};
 ghost use Rattle.dsql_wire.specs.Journaled.{MayBeSent};
 ghost use Rattle.dsql_history.specs.declared.event.Event.{Event};
 ghost use Rattle.dsql_history.specs.declared.event.Event.TheVariants.{Run};
-ghost use Rattle.dsql_wires.specs.WiresFit.{slot, WiresFit, PlansFit, KeepsFit, Hears, HearsEntry, HearsPlan, HearsPlanIn, SameHeard};
+ghost use Rattle.dsql_wires.specs.WiresFit.{slot, WiresFit, PlansFit, KeepsFit, Hears, HearsEntry, HearsPlan, HearsPlanIn, SameHeard, SameWires};
 
 use dsql_driver::{Planned, Wire};
 use dsql_journal::Permit;
@@ -113,6 +113,7 @@ impl<W: Wire> Wires<W> {
         requires { IsSome (slot self.old number) }
         ensures planned { OnOk result (HearsPlanIn W.told (nth, what) (slot self.old number) (slot self.new number)) }
         ensures others { (c : ℕ) → c ≢ number → slot self.new c ≡ slot self.old c }
+        ensures err { OnErr result (SameWires W.told self.old self.new) }
     {
         match &mut self.slots[number as usize] {
             Some(wire) => plan_on(wire, nth, what),
@@ -127,23 +128,6 @@ impl<W: Wire> Wires<W> {
     {
         let Wires { slots, alloc: _ } = self;
         slots
-    }
-
-    /// Lets a table go whose wires are all gone.
-    pub fn destroy(self)
-        requires { (c : ℕ) → slot self c ≡ None }
-    {
-        let Wires {
-            mut slots,
-            alloc: _,
-        } = self;
-        while let Some(slot) = slots.pop() {
-            match slot {
-                None => {}
-                Some(_) => unreachable!(),
-            }
-        }
-        slots.destroy_empty();
     }
 
     /// Makes one driver call on the wire of its connection, whose journal lets it be sent.
@@ -184,6 +168,7 @@ fn perform_on<W: Wire>(wire: &mut JournaledWire<W>, permit: Permit) -> Result<He
 /// Plans a fault on a wire.
 fn plan_on<W: Wire>(wire: &mut JournaledWire<W>, nth: u32, what: Planned) -> Result<(), Memory>
     ensures planned { OnOk result (HearsPlan W.told (nth, what) wire.old wire.new) }
+    ensures err { OnErr result (SameHeard W.told wire.old wire.new) }
 {
     wire.plan(nth, what)
 }
