@@ -5,7 +5,6 @@ pub mod Telling
 pub mod Reading
 pub mod Plans
 pub mod Planned
-pub mod Staying
 pub mod NoneLeft
 pub mod Permits
 pub mod Asking
