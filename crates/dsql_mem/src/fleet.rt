@@ -106,8 +106,7 @@ impl<R: AllocGlobal + Wait + Clone + Drop + Send> Fleet for MemFleet<R> {
         ensures planned { OnOk result (self.new ≡ after_wire_plan (wire, (nth, what)) self.old) }
         ensures stays { OnErr result (self.new ≡ self.old) }
     {
-        self.plans
-            .push((self.connects.len(), (wire, (nth, what))))?;
+        self.plans.push((self.connects.len(), (wire, (nth, what))))?;
         Ok(())
     }
 
