@@ -3,7 +3,6 @@ use Rattle.std.specs.Prelude.{ℕ, ◌≡◌, true, List, map, slice_set, slice_
 use Rattle.dsql_work.specs.declared.work.Work.{Work}
 use Rattle.dsql_work.specs.declared.work.Work.TheVariants.{Fetch, Close, Look}
 use Rattle.dsql_history.specs.declared.event.Event.{Event}
-use Rattle.dsql_history.specs.declared.record.CallRecord.{CallRecord}
 use Rattle.dsql_history.specs.declared.record.Try.{Try}
 use Rattle.dsql_history.specs.Readers.Calls as told
 use Rattle.dsql_history.specs.Readers.HandedOut as given
@@ -24,9 +23,6 @@ row_at rows n = slice_index_or rows n nobody
 -- the calls with the row of call n changed
 abbrev pub with_row : ℕ → (CallRow → CallRow) → List CallRow → List CallRow
 with_row n change rows = slice_set rows n (change (row_at rows n))
-
-abbrev pub with_call : (CallRecord → CallRecord) → CallRow → CallRow
-with_call change row = record row { call = change row.call }
 
 -- with one try more
 abbrev pub with_try : Try → CallRow → CallRow
