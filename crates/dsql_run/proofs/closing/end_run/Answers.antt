@@ -1,3 +1,4 @@
+use Rattle.std.proofs.Common.{◌∙◌}
 use Rattle.std.specs.Prelude.{reverse}
 use Rattle.dsql_wires.proofs.Telling.{leaves}
 use Rattle.dsql_outcome.proofs.Asking.{given_back}
@@ -15,22 +16,22 @@ returns-in-Ok-clause-over g c = record {
 
 pub returns-in-Ok-clause-on : goal.returns-in-Ok-clause-on
 returns-in-Ok-clause-on g c = record {
-  extends = end_extends c.requires.between.moment c.args.player.now.past c.carry_end.new.player.past (c.in-Ok.ensures.carries c.requires.between.moment c.requires.between.at);
-  able = c.carry_end.ensures.run.able;
-  legal = c.carry_end.ensures.run.legal;
+  extends = end_extends c.requires.between.moment c.args.player.now.past c.carry_end-carried.new.player.past (c.in-Ok.ensures.carries c.requires.between.moment c.requires.between.at);
+  able = able_then g.F.Fleet c.args.fleet.now c.carry_end-carried.new.fleet c.retire_all.new.fleet c.carry_end-carried.ensures.run.able c.retire_all.ensures.able;
+  legal = c.carry_end-carried.ensures.run.legal;
 }
 
 pub returns-in-Ok-clause-told : goal.returns-in-Ok-clause-told
-returns-in-Ok-clause-told g c = λ made told just. (c.in-Ok.ensures.run.told.told made told just).fleet
+returns-in-Ok-clause-told g c = λ made told just. c.retire_all.ensures.unasked c.in-Ok.ensures.empty ∙ (c.in-Ok.ensures.run.told.told made told just).fleet
 
 pub returns-in-Err-clause-asked : goal.returns-in-Err-clause-asked
 returns-in-Err-clause-asked g c =
     leaves g.F.Wire.Wire.told _ _ _ _ _ _ c.in-Err.ensures.run.asked
-    (given_back g.F.Wire.Wire.told (reverse c.carry_end.new.wires) (g.F.Fleet.told c.carry_end.new.fleet) (g.F.Fleet.told c.retire_all.new.fleet) c.retire_all.ensures.retired)
+    (given_back g.F.Wire.Wire.told (reverse c.carry_end-carried.new.wires) (g.F.Fleet.told c.carry_end-carried.new.fleet) (g.F.Fleet.told c.retire_all.new.fleet) c.retire_all.ensures.retired)
 
 pub returns-in-Err-clause-on : goal.returns-in-Err-clause-on
 returns-in-Err-clause-on g c = record {
-  extends = end_stop_extends c.requires.between.moment c.args.player.now.past c.carry_end.new.player.past (c.in-Err.ensures.stops c.requires.between.moment c.requires.between.at);
-  able = able_then g.F.Fleet c.args.fleet.now c.carry_end.new.fleet c.retire_all.new.fleet c.carry_end.ensures.run.able c.retire_all.ensures.able;
-  legal = c.carry_end.ensures.run.legal;
+  extends = end_stop_extends c.requires.between.moment c.args.player.now.past c.carry_end-carried.new.player.past (c.in-Err.ensures.stops c.requires.between.moment c.requires.between.at);
+  able = able_then g.F.Fleet c.args.fleet.now c.carry_end-carried.new.fleet c.retire_all.new.fleet c.carry_end-carried.ensures.run.able c.retire_all.ensures.able;
+  legal = c.carry_end-carried.ensures.run.legal;
 }
