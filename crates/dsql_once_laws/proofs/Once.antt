@@ -104,6 +104,21 @@ statement_own H e l u h some = by u.wish refl u.wants
     by wishes.Fetch is wants = no_rows (rows_by H u.holder) refl wants.1
     by wishes.Close is wants = no_rows (rows_by H u.holder) refl (over_made (rows_by H u.holder) wants.1)
 
+zero_or : (k : ℕ) → k ≤ 1 → (1 ≤ k → ⊥) → k ≡ 0
+zero_or k most none = elim (nat_case k) [ inl nothing ↦ nothing | inr more ↦ absurd (none more) ]
+
+-- it is sent only as long as no server may have carried one out
+none_before : (H : List Event) (e : Entry) → Lawful (Heard e ∷ H) → e.call_no ≢ 0 → (u : UnderWay H e) → Once H e.call_no → is_statement e.call ≡ true → reads_one (work H e.call_no) ≡ false → carried_out H e.call_no ≡ 0
+none_before H e l some u o statement one = zero_or (carried_out H e.call_no) (o.few one) (λ more.
+    let before = o.spent one more in
+    never (is_before_end (step (heard_in H e.conn e.tenure))) (sends_before_end (step (heard_in H e.conn e.tenure)) e.call x.next statement) (before.past_it e.conn e.tenure there))
+  where
+    x : SentAt (caps H) (asked_by H u.holder) u.wish (step (heard_in H e.conn e.tenure)) (exchanges (heard_in H e.conn e.tenure)) e.call e.answer
+    x = sent_at H e l.1 (sound H l.0) u
+
+    there : place H e.conn ≡ Some (Lent e.tenure (Call e.call_no))
+    there = u.lent ∙ ap (λ k. Some (Lent e.tenure (Call k))) (sym (own_call H e.call_no u.holder u.wish u.wants (statement_own H e l u statement some)))
+
 -- An answer.
 
 count_other : (H : List Event) (e : Entry) (n : ℕ) → n ≢ e.call_no → carried_out (Heard e ∷ H) n ≡ carried_out H n
@@ -179,14 +194,9 @@ heard_own H e l some u o = by (may_be_carried_out e) refl
         let counted : carried_out K n ≡ carried_out H n + 1 = count_same H e ∙ ap (λ b. cond b (carried_out H n + 1) (carried_out H n)) carried in
         let own = statement_own H e l u (first_of (is_statement e.call) _ carried) some in
         let x = sent own in
-        let first : reads_one (work H n) ≡ false → carried_out H n ≡ 0 =
-        λ one. zero_or (carried_out H n) (o.few one) (λ more.
-        let before = o.spent one more in
-        never (is_before_end (step (heard_in H e.conn e.tenure))) (sends_before_end (step (heard_in H e.conn e.tenure)) e.call x.next (first_of (is_statement e.call) _ carried)) (before.past_it e.conn e.tenure (there own)))
-        in
         record {
           own = λ some_out. own;
-          few = λ one. let none = first one in omega (arith, counted, none);
+          few = λ one. let none = none_before H e l some u o (first_of (is_statement e.call) _ carried) one in omega (arith, counted, none);
           spent = λ one some_out. record {
             settled = λ unfinished. ap is_some (own_record H e own some) ∙ carried_decides (try_number (tries H n)) (length (call_record H n).params) (caps H) (asked_by H n).text (asked_by H n).params (work H n) u.wish (step (heard_in H e.conn e.tenure)) (exchanges (heard_in H e.conn e.tenure)) e.call e.answer (decided H n) own one x carried;
             content = ap (λ k. wanted k (pool H)) (its own) ∙ lent_wants_none H e.conn e.tenure u.holder l.0 u.lent;
@@ -197,9 +207,6 @@ heard_own H e l some u o = by (may_be_carried_out e) refl
         first_of : (a b : Bool) → (a && b) ≡ true → a ≡ true
         first_of true b h = refl
         first_of false b h = absurd cc
-
-        zero_or : (k : ℕ) → k ≤ 1 → (1 ≤ k → ⊥) → k ≡ 0
-        zero_or k most none = elim (nat_case k) [ inl nothing ↦ nothing | inr more ↦ absurd (none more) ]
     by false idle =
         let counted : carried_out K n ≡ carried_out H n = count_same H e ∙ ap (λ b. cond b (carried_out H n + 1) (carried_out H n)) idle in
         record {
@@ -293,3 +300,6 @@ once (Ended ∷ H) n l some = once_on H (Ended) n l refl some refl (λ own. refl
 
 pub carried_out_once : (H : List Event) (n : ℕ) → Lawful H → n ≢ 0 → reads_one (work H n) ≡ false → carried_out H n ≤ 1
 carried_out_once H n l some one = let o = once H n l some in o.few one
+
+pub sent_first : (H : List Event) (e : Entry) → Lawful (Heard e ∷ H) → e.call_no ≢ 0 → is_statement e.call ≡ true → reads_one (work H e.call_no) ≡ false → carried_out H e.call_no ≡ 0
+sent_first H e l some statement one = elim (answer_of H e l.1 (sound H l.0)) [ inl u ↦ none_before H e l some u (once H e.call_no l.0 some) statement one | inr layer ↦ absurd (some layer) ]
