@@ -73,7 +73,7 @@ unserved H n l own u nothing may none = by (has_a_try (tries H n)) refl
         last_fails (is_unfinished H n) (asks (work H n)) (may_try H n) (not (wants n (pool H))) (reply_due H n) may u own (may_try_with H n nothing left) (ap not nothing.unwanting)
     by false last =
         let told : told_of_work H n (work H n) ≡ last_told (try_number (tries H n)) (tries H n) =
-            told_own H n (work H n) own ∙ ap (λ b. cond b (option_map DbClosed (db_end H)) (last_told (try_number (tries H n)) (tries H n))) last
+        told_own H n (work H n) own ∙ ap (λ b. cond b (option_map DbClosed (db_end H)) (last_told (try_number (tries H n)) (tries H n))) last
         in
         others_settled (decided H n) (told_of_work H n (work H n)) (told_at_lending H n) (ap (λ o. is_some o) told ∙ told_last H n (tries H n) l refl last none)
 

@@ -101,8 +101,8 @@ fallen_somewhere H c n l some = by (has_a_try (Refused (newest_answer H) ∷ tri
         let none = wanting_unlent H n l.0 some now in
         let unlent : lent_count n (pool K) ≡ 0 = omega (arith, few, none) in
         let told : told_by_others K n ≡ last_told (length (Refused (newest_answer H) ∷ tries H n)) (Refused (newest_answer H) ∷ tries H n) =
-            told_own K n (work K n) own ∙ ap (told_by_tries K) newest
-            ∙ ap (λ b. cond b (option_map DbClosed (db_end K)) (last_told (length (Refused (newest_answer H) ∷ tries H n)) (Refused (newest_answer H) ∷ tries H n))) last
+        told_own K n (work K n) own ∙ ap (told_by_tries K) newest
+        ∙ ap (λ b. cond b (option_map DbClosed (db_end K)) (last_told (length (Refused (newest_answer H) ∷ tries H n)) (Refused (newest_answer H) ∷ tries H n))) last
         in
         ap (λ s. is_some s)
         (replies_only (waits n (pool K).waiting) (is_some (due_for K n)) (asks_again (tries K n)) (smallest (is_for n) (pool K)) (site K n) (decided K n) (told_by_others K n) unwanting.0 (none_opens n (pool K) unwanting.1)
