@@ -1,5 +1,5 @@
 ghost use Rattle.std.specs.Prelude.{◌≡◌, ◌≢◌, ℕ, Err, length, min};
-ghost use Rattle.dsql_scan.specs.Rows.{IsRow, in_32_bits, row_of};
+ghost use Rattle.dsql_scan.specs.Rows.{IsRow, answers_of, cells_of, in_32_bits, row_of};
 
 use crate::cell::{Cell, Cells};
 use crate::column::scan;
@@ -23,6 +23,14 @@ pub fn scan_row(alloc: Global, values: &[Value], dests: &[Dest]) -> Result<Cells
             got: in_32_bits(dests.len()),
         });
     }
+    scan_columns(alloc, values, dests)
+}
+
+/// What the values become in the destinations at their places, or else the first fault.
+fn scan_columns(alloc: Global, values: &[Value], dests: &[Dest]) -> Result<Cells, RowFault>
+    ensures answer { IsRow result (cells_of 0 (answers_of values.now dests.now)) }
+    ensures fault_is_not_memory { (index : ℕ) → result ≢ Err (RowFault.At index ScanFault.Memory) }
+{
     let mut cells: Vec<Cell> = Vec::new(alloc);
     for (value, dest) in values.iter().zip(dests) {
         let cell = match scan(alloc, value, *dest) {

@@ -1,9 +1,11 @@
 -- Where a journal stands, by the tables.
-use Rattle.std.proofs.Common.{◌≡◌, ℕ, Bool, true, false, not, ◌&&◌, ◌||◌, ◌==◌, Some, List, [], ◌∷◌, refl, sym, ◌∙◌, ap}
+use Rattle.std.proofs.Common.{◌≡◌, ℕ, Bool, true, false, not, ◌&&◌, ◌||◌, ◌==◌, Some, None, List, [], ◌∷◌, refl, sym, ◌∙◌, ap}
+use Rattle.std.specs.Prelude.{if◌then◌else◌}
 use Rattle.std.specs.List.{list_all, list_any}
 use native.Mathlib.Omega.{arith}
 use Rattle.dsql_driver.specs.Fits.{is_failure}
 use Rattle.dsql_journal.specs.declared.entry.Entry.{Entry}
+use Rattle.dsql_journal.specs.declared.entry.Owner.{Owner}
 use Rattle.dsql_journal.specs.declared.entry.Owner.TheVariants.{Tx}
 use Rattle.dsql_driver.specs.Kinds.{is_valid, is_reset, is_bad, is_shut, is_connect}
 use Rattle.dsql_journal.specs.Readers.{has, of_tenure, last_tenure, last_owner, went_bad, was_shut, was_refused}
@@ -11,11 +13,12 @@ use Rattle.dsql_journal.specs.Journal.{may_follow, is_journal_prefix, is_whole, 
 use Rattle.dsql_journal.specs.Facts.{MayFollow}
 use Rattle.dsql_journal.proofs.Conjunctions.{parts2, join2}
 use Rattle.dsql_journal.proofs.Sentences.{MayFollow-of}
-use Rattle.dsql_tenure.specs.declared.fault.Phase.TheVariants.{After}
+use Rattle.dsql_tenure.specs.declared.fault.Phase.TheVariants.{Before, Between, Inside, After}
 use Rattle.dsql_tenure.specs.declared.tables.Tables.{Tables}
 use Rattle.dsql_tenure.specs.Beginnings.{is_beginning_of, IsBeginningOf, can_grow, phase}
 use Rattle.dsql_tenure.specs.Open.{open_in}
 use Rattle.dsql_tenure.specs.Tables.{past, Stands}
+use Rattle.dsql_tenure.proofs.Given.{eqb-refl}
 use Rattle.dsql_tenure.proofs.Keeping.{keeps_of}
 use Rattle.dsql_tenure.proofs.Transactions.{has-open}
 
@@ -76,6 +79,22 @@ grows-open n (e ∷ before) h owner tested fell bad =
     let own : e.owner ≡ Tx n = cc in
     has-open n (e ∷ before) h ∙ rw (tested, fell, bad, own) refl
 
+-- the owner of the last tenure is that of the last entry
+owner-last : (journal : List Entry) → last_owner (of_tenure (last_tenure journal) journal) ≡ last_owner journal
+owner-last [] = refl
+owner-last (e ∷ before) = rw (eqb-refl e.tenure) refl
+
+-- a journal that no one owns hasn't begun
+nothing-owned : (journal : List Entry) → last_owner journal ≡ None → Before ≡ phase journal
+nothing-owned [] none = refl
+nothing-owned (e ∷ before) none = cc
+
+-- where the journal stands, if it goes on
+phase-open : (journal : List Entry) (owner : Owner) → IsJournalPrefix journal → last_owner journal ≡ Some owner → was_shut journal ≡ false
+    → phase journal ≡ (if can_grow journal then Inside else Between)
+phase-open [] owner h own open_still = cc
+phase-open (e ∷ before) owner h own open_still = rw (sym (shut-last before e h) ∙ open_still) refl
+
 module _ (t : Tables) (s : Stands t) where
   pub stands-beginning : IsBeginningOf t.conn (past t)
   stands-beginning = join2 (is_journal_prefix (past t)) (list_all (λ x. x.conn == t.conn) (past t)) (keeps_of t s).prefix (keeps_of t s).one
@@ -89,6 +108,17 @@ module _ (t : Tables) (s : Stands t) where
       go : (j : List Entry) → IsJournalPrefix j → was_shut j ≡ true → After ≡ phase j
       go [] h is = grind (arith, is)
       go (e ∷ before) h is = rw (sym (shut-last before e h) ∙ is) refl
+
+  pub stands-owner : t.so_far.owner ≡ last_owner (past t)
+  stands-owner = ap (λ x. x.owner) (keeps_of t s).so_far ∙ owner-last (past t)
+
+  pub stands-before : t.so_far.owner ≡ None → Before ≡ phase (past t)
+  stands-before none = nothing-owned (past t) (sym stands-owner ∙ none)
+
+  -- a journal that goes on is inside a tenure that can grow, or else between two
+  pub stands-open : (owner : Owner) (grows : Bool) → t.so_far.owner ≡ Some owner → t.shut ≡ false → can_grow (past t) ≡ grows → (if grows then Inside else Between) ≡ phase (past t)
+  stands-open owner grows own open_still is =
+      sym (phase-open (past t) owner (keeps_of t s).prefix (sym stands-owner ∙ own) (sym (keeps_of t s).shut ∙ open_still) ∙ ap (λ b. if b then Inside else Between) is)
 
   pub stands-grows : (n : ℕ) → last_owner (past t) ≡ Some (Tx n) → t.so_far.tested ≡ false → t.so_far.fell ≡ false → went_bad (past t) ≡ true → has n (open_in (past t)) ≡ can_grow (past t)
   stands-grows n owner tested fell bad =
