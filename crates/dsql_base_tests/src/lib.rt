@@ -1,5 +1,4 @@
-//! Tests of what no clause says of values, scans, tokens, streams, the driver in memory, journaled wires and tables that no
-//! run uses yet.
+//! Tests of what no clause says of values, scans, tokens, streams, the driver in memory and tables that no run uses yet.
 #![tactic(auto)]
 
 #[cfg(test)]
@@ -11,8 +10,4 @@ mod faults;
 #[cfg(test)]
 mod mem;
 #[cfg(test)]
-mod stream;
-#[cfg(test)]
 mod tables;
-#[cfg(test)]
-mod wire;

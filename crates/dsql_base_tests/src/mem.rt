@@ -1,8 +1,6 @@
-//! The driver in memory: in one session, in a thread, and with planned faults.
+//! The driver in memory: in one session, and in a thread.
 
-use dsql_driver::{
-    Answered, DriverAnswer, DriverCall, Fleet, Input, Level, Planned, Refused, Wire,
-};
+use dsql_driver::{DriverAnswer, DriverCall, Fleet, Input, Level, Wire};
 use dsql_mem::{MemFleet, Session, Store, apply};
 use dsql_value::{Items, Memory, Txt};
 use std::alloc::Global;
@@ -40,37 +38,12 @@ fn a_rollback_finds_memory(rt: HostRuntime) -> Result<(), Fail> {
     Ok(())
 }
 
-/// Makes one call on a wire, and gives back the wire and the answer.
-fn visit<W: Wire>(mut wire: W, call: DriverCall) -> (W, Answered) {
-    let answered = wire.call(&call);
-    (wire, answered)
-}
-
 #[test]
 fn a_wire_works_in_a_thread(rt: HostRuntime) -> Result<(), Fail> {
     let mut fleet = MemFleet::new(rt.clone()?)?;
-    fleet.plan(1, 9, Planned::Bad)?;
-    let wire = fleet.connect(1)?;
-    let child = thread::spawn(&rt, move || visit(wire, DriverCall::Commit))?;
-    let (wire, answered) = child.join(&rt);
-    fleet.retire(1, wire);
+    let mut wire = fleet.connect(1)?;
+    let child = thread::spawn(&rt, move || wire.call(&DriverCall::Commit))?;
+    let answered = child.join(&rt);
     assert!(rt; matches!(answered.answer, DriverAnswer::Fail(_)));
-    Ok(())
-}
-
-#[test]
-fn planned_faults_are_answered(rt: HostRuntime) -> Result<(), Fail> {
-    let mut fleet = MemFleet::new(rt.clone()?)?;
-    let text = Txt::copy_of(rt.alloc(), "no")?;
-    fleet.plan(1, 1, Planned::Bad)?;
-    fleet.plan(2, 2, Planned::Fail(text))?;
-    fleet.plan(2, 3, Planned::Invalid)?;
-    let refused = fleet.connect(1);
-    assert!(rt; matches!(refused, Err(Refused::Bad)));
-    let (wire, failed) = visit(fleet.connect(2)?, DriverCall::Ping);
-    let (wire, judged) = visit(wire, DriverCall::Valid);
-    fleet.retire(2, wire);
-    assert!(rt; matches!(failed.answer, DriverAnswer::Fail(_)));
-    assert!(rt; matches!(judged.answer, DriverAnswer::Invalid));
     Ok(())
 }

@@ -13,14 +13,15 @@ use dsql_driver::{Answered, Caps, DriverAnswer, DriverCall, Fleet, Input, Planne
 use dsql_value::{Columns, Items, Memory, Txt, Value, Values};
 use std::alloc::Global;
 
-const NO_CAPS: Caps = Caps {
-    fast_exec: false,
-    fast_query: false,
-    begin_options: false,
+/// What the driver can do where a script asks for nothing else.
+const CAPS: Caps = Caps {
+    fast_exec: true,
+    fast_query: true,
+    begin_options: true,
     named: false,
-    pinger: false,
-    resetter: false,
-    validator: false,
+    pinger: true,
+    resetter: true,
+    validator: true,
 };
 
 /// What a driver answers.
@@ -65,22 +66,29 @@ pub(super) struct ToldWire {
     opened: bool,
 }
 
+/// How an entry of a report ends, and what is answered there.
+const ANSWERS: [(&str, ToldAnswer); 11] = [
+    ("\"done\"]]", ToldAnswer::Done),
+    ("\"result\",0,1]]", ToldAnswer::Ran),
+    ("\"skip\"]]", ToldAnswer::Skip),
+    ("\"prepared\",1,1]]", ToldAnswer::Gave(1)),
+    ("\"prepared\",1,2]]", ToldAnswer::Gave(2)),
+    ("\"cursor\",1,[\"value\"]]]", ToldAnswer::Cursor),
+    ("\"row\",[1]]]", ToldAnswer::Row),
+    ("\"end\"]]", ToldAnswer::End),
+    ("\"invalid\"]]", ToldAnswer::Invalid),
+    ("\"bad\"]]", ToldAnswer::Bad),
+    ("\"fail\",\"boom\"]]", ToldAnswer::Boom),
+];
+
 /// What is answered where an entry of a report ends so.
 fn told_answer(end: &str) -> Option<ToldAnswer> {
-    match end {
-        "\"done\"]]" => Some(ToldAnswer::Done),
-        "\"result\",0,1]]" => Some(ToldAnswer::Ran),
-        "\"skip\"]]" => Some(ToldAnswer::Skip),
-        "\"prepared\",1,1]]" => Some(ToldAnswer::Gave(1)),
-        "\"prepared\",1,2]]" => Some(ToldAnswer::Gave(2)),
-        "\"cursor\",1,[\"value\"]]]" => Some(ToldAnswer::Cursor),
-        "\"row\",[1]]]" => Some(ToldAnswer::Row),
-        "\"end\"]]" => Some(ToldAnswer::End),
-        "\"invalid\"]]" => Some(ToldAnswer::Invalid),
-        "\"bad\"]]" => Some(ToldAnswer::Bad),
-        "\"fail\",\"boom\"]]" => Some(ToldAnswer::Boom),
-        _ => None,
+    for (told, answer) in ANSWERS {
+        if told == end {
+            return Some(answer);
+        }
     }
+    None
 }
 
 /// What a report tells that a connection answered.
@@ -307,7 +315,7 @@ impl<'a> ToldFleet<'a> {
     pub(super) fn new(alloc: Global, report: &'a str) -> ToldFleet<'a> {
         ToldFleet {
             alloc,
-            caps: NO_CAPS,
+            caps: CAPS,
             report,
         }
     }

@@ -1,4 +1,4 @@
-//! Tests of whole runs: over memory with streams that fail, and over a driver whose answers a report tells.
+//! Tests of whole runs over a driver whose answers a report tells, and over streams that fail.
 #![tactic(auto)]
 
 #[cfg(test)]

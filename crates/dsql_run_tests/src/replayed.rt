@@ -34,11 +34,15 @@ fn scripts_give_the_reports_that_their_driver_tells(rt: HostRuntime) -> Result<(
 
 /// Whether a driver that lacks memory at any one answer stops the run there.
 fn stops_at_each_answer(alloc: Global, script: &str, report: &str) -> Result<bool, Memory> {
-    for (place, _) in report.match_indices("[\"heard\"") {
-        let told = report.get(..place).unwrap_or(report);
-        if !play_as_told(alloc, script, told)?.lacked_memory(report) {
-            return Ok(false);
+    let mut before = 0usize;
+    for line in report.lines() {
+        if line.starts_with("[\"heard\"") {
+            let told = report.get(..before).unwrap_or(report);
+            if !play_as_told(alloc, script, told)?.lacked_memory(report) {
+                return Ok(false);
+            }
         }
+        before = before.saturating_add(line.len()).saturating_add(1);
     }
     Ok(true)
 }

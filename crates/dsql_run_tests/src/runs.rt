@@ -1,12 +1,11 @@
-//! Runs over the driver in memory: words and lines that are refused, and streams that fail at each turn.
+//! Runs whose driver does all well: words and lines that are refused, and streams that fail at each turn.
 
 ghost use Rattle.std.specs.Prelude.{◌<◌};
 
+use crate::driver::ToldFleet;
 use crate::outcome::run_over;
 use dsql_driver::{SliceSource, VecSink};
-use dsql_mem::MemFleet;
 use std::alloc::Global;
-use std::sync::Wait;
 use std::test::Fail;
 
 const ONE: &str = "c1 exec db [\"SET a 1\"]\n";
@@ -91,49 +90,49 @@ type End<'a> = (u8, &'a str, &'a str);
 fn sink(alloc: Global, piece: usize, turn: u64) -> Result<VecSink, Fail>
     requires { 0 < piece }
 {
-    let mut turns = Vec::new(alloc);
-    turns.push(turn)?;
+    let turns = vec![in alloc; turn]?;
     Ok(VecSink::new(alloc, piece, turns))
 }
 
 /// Whether a run over these streams ends so.
-fn ends<R: AllocGlobal + Wait + Clone + Drop + Send>(
-    rt: &R,
-    words: &[&str],
-    streams: Streams<'_>,
-    end: End<'_>,
-) -> Result<bool, Fail> {
-    let alloc = rt.alloc();
+fn ends(alloc: Global, words: &[&str], streams: Streams<'_>, end: End<'_>) -> Result<bool, Fail> {
     let piece = streams.piece.max(1);
     let failing = [streams.read];
     let mut input = SliceSource::new(streams.script, piece, &failing);
     let report = sink(alloc, piece, streams.write)?;
     let notes = sink(alloc, piece, streams.note)?;
-    let mut fleet = MemFleet::new(rt.clone()?)?;
+    let mut fleet = ToldFleet::new(alloc, REPORT_OF_TWO);
     let ran = run_over(alloc, words, &mut input, report, notes, &mut fleet)?;
     let (status, note, report) = end;
     Ok(ran.is(status, note, report))
 }
 
 /// Whether a script that is played over these streams ends so.
-fn plays<R: AllocGlobal + Wait + Clone + Drop + Send>(
-    rt: &R,
-    streams: Streams<'_>,
-    end: End<'_>,
-) -> Result<bool, Fail> {
-    ends(rt, &["play"], streams, end)
+fn plays(alloc: Global, streams: Streams<'_>, end: End<'_>) -> Result<bool, Fail> {
+    ends(alloc, &["play"], streams, end)
+}
+
+/// Whether these words get the usage.
+fn get_usage(alloc: Global, words: &[&str]) -> Result<bool, Fail> {
+    let usage = "sqlrun: usage: sqlrun play [--summary] | race | gen N\n";
+    ends(alloc, words, unfailing(b"", 4096), (2, usage, ""))
 }
 
 #[test]
 fn other_words_get_the_usage(rt: HostRuntime) -> Result<(), Fail> {
-    let usage = "sqlrun: usage: sqlrun play [--summary] | race | gen N\n";
-    let streams = unfailing(b"", 4096);
-    let words: [&[&str]; 3] = [&["play", "--"], &["gen", "0"], &[]];
-    for called in words {
-        assert!(rt; ends(&rt, called, streams, (2, usage, ""))?, "{called:?}");
-    }
-    let failing = Streams { note: 1, ..streams };
-    assert!(rt; ends(&rt, &[], failing, (4, "", ""))?);
+    assert!(rt; get_usage(rt.alloc(), &["play", "--"])?);
+    assert!(rt; get_usage(rt.alloc(), &["gen", "0"])?);
+    assert!(rt; get_usage(rt.alloc(), &[])?);
+    Ok(())
+}
+
+#[test]
+fn a_usage_that_fails_makes_the_status_4(rt: HostRuntime) -> Result<(), Fail> {
+    let failing = Streams {
+        note: 1,
+        ..unfailing(b"", 4096)
+    };
+    assert!(rt; ends(rt.alloc(), &[], failing, (4, "", ""))?);
     Ok(())
 }
 
@@ -179,20 +178,16 @@ const HOSTILE: &[(&str, &[(u8, usize)], &str)] = &[
 ];
 
 /// Whether the line of such a script is refused with this note, or none is.
-fn is_refused<R: AllocGlobal + Wait + Clone + Drop + Send>(
-    rt: &R,
-    script: &[u8],
-    note: &str,
-) -> Result<bool, Fail> {
+fn is_refused(alloc: Global, script: &[u8], note: &str) -> Result<bool, Fail> {
     let end = (if note.is_empty() { 0 } else { 7 }, note, REPORT_OF_NONE);
-    Ok(plays(rt, unfailing(script, 1), end)? && plays(rt, unfailing(script, 4096), end)?)
+    Ok(plays(alloc, unfailing(script, 1), end)? && plays(alloc, unfailing(script, 4096), end)?)
 }
 
 #[test]
 fn hostile_lines_are_refused_by_their_first_fault(rt: HostRuntime) -> Result<(), Fail> {
     for (head, runs, note) in HOSTILE {
         let script = filled(rt.alloc(), head, runs)?;
-        assert!(rt; is_refused(&rt, &script, note)?, "{head} {runs:?}");
+        assert!(rt; is_refused(rt.alloc(), &script, note)?, "{head} {runs:?}");
     }
     Ok(())
 }
@@ -213,8 +208,8 @@ fn end_of_read(taken: usize, piece: usize, len: usize, second: usize) -> End<'st
 }
 
 /// Whether a run of two calls whose kth read fails, if it comes to that, ends behind whole lines.
-fn ends_behind_whole_lines<R: AllocGlobal + Wait + Clone + Drop + Send>(
-    rt: &R,
+fn ends_behind_whole_lines(
+    alloc: Global,
     script: &str,
     second: usize,
     piece: usize,
@@ -225,7 +220,11 @@ fn ends_behind_whole_lines<R: AllocGlobal + Wait + Clone + Drop + Send>(
         read: k,
         ..unfailing(script.as_bytes(), piece)
     };
-    plays(rt, failing, end_of_read(taken, piece, script.len(), second))
+    plays(
+        alloc,
+        failing,
+        end_of_read(taken, piece, script.len(), second),
+    )
 }
 
 #[test]
@@ -234,7 +233,7 @@ fn a_read_that_fails_ends_the_run_behind_whole_lines(rt: HostRuntime) -> Result<
         for piece in [1, 7, 4096] {
             for k in 1..=50 {
                 assert!(rt;
-                    ends_behind_whole_lines(&rt, script, second, piece, k)?,
+                    ends_behind_whole_lines(rt.alloc(), script, second, piece, k)?,
                     "read {k} by {piece}"
                 );
             }
@@ -248,11 +247,11 @@ fn front(text: &str, count: usize) -> &str {
     text.get(..count).unwrap_or(text)
 }
 
-/// Scripts of one call, at which read their source fails, and how the run ends.
-const ENDS: &[(&str, u64, u8, &str)] = &[
-    (ONE, 0, 0, ""),
-    (ONE, 24, 3, "sqlrun: read fault\n"),
-    (CUT, 0, 7, "sqlrun: line 2: not JSON\n"),
+/// Scripts of one call, at which read their source fails, and what is noted.
+const ENDS: &[(&str, u64, &str)] = &[
+    (ONE, 0, ""),
+    (ONE, 24, "sqlrun: read fault\n"),
+    (CUT, 0, "sqlrun: line 2: not JSON\n"),
 ];
 
 /// Streams of a script that take one byte at once, and of which the source fails at this read.
@@ -263,18 +262,9 @@ fn bytewise(script: &str, read: u64) -> Streams<'_> {
     }
 }
 
-#[test]
-fn a_whole_report_is_followed_by_its_note(rt: HostRuntime) -> Result<(), Fail> {
-    for (script, read, status, note) in ENDS {
-        let end = (*status, *note, REPORT_OF_ONE);
-        assert!(rt; plays(&rt, bytewise(script, *read), end)?, "{script}");
-    }
-    Ok(())
-}
-
 /// Whether a write behind so many bytes that fails leaves just these.
-fn leaves_a_beginning<R: AllocGlobal + Wait + Clone + Drop + Send>(
-    rt: &R,
+fn leaves_a_beginning(
+    alloc: Global,
     script: &str,
     read: u64,
     written: usize,
@@ -284,15 +274,15 @@ fn leaves_a_beginning<R: AllocGlobal + Wait + Clone + Drop + Send>(
         ..bytewise(script, read)
     };
     let end = (4, "sqlrun: write fault\n", front(REPORT_OF_ONE, written));
-    plays(rt, failing, end)
+    plays(alloc, failing, end)
 }
 
 #[test]
 fn a_write_that_fails_leaves_a_beginning(rt: HostRuntime) -> Result<(), Fail> {
-    for (script, read, _, _) in ENDS {
+    for (script, read, _) in ENDS {
         for written in 0..REPORT_OF_ONE.len() {
             assert!(rt;
-                leaves_a_beginning(&rt, script, *read, written)?,
+                leaves_a_beginning(rt.alloc(), script, *read, written)?,
                 "{script} behind {written}"
             );
         }
@@ -301,31 +291,27 @@ fn a_write_that_fails_leaves_a_beginning(rt: HostRuntime) -> Result<(), Fail> {
 }
 
 /// Whether the write of the events from this one on is the one of this number.
-fn is_in_write<R: AllocGlobal + Wait + Clone + Drop + Send>(
-    rt: &R,
-    event: &str,
-    write: u64,
-) -> Result<bool, Fail> {
+fn is_in_write(alloc: Global, event: &str, write: u64) -> Result<bool, Fail> {
     let written = REPORT_OF_ONE.find(event).ok_or("no such event")?;
     let failing = Streams {
         write,
         ..unfailing(ONE.as_bytes(), 4096)
     };
     let end = (4, "sqlrun: write fault\n", front(REPORT_OF_ONE, written));
-    plays(rt, failing, end)
+    plays(alloc, failing, end)
 }
 
 #[test]
 fn events_of_a_line_are_written_in_one_piece(rt: HostRuntime) -> Result<(), Fail> {
     for (write, event) in [(1, "[\"run\""), (2, "[\"enter\""), (3, "[\"ended\"")] {
-        assert!(rt; is_in_write(&rt, event, write)?, "write {write}");
+        assert!(rt; is_in_write(rt.alloc(), event, write)?, "write {write}");
     }
     Ok(())
 }
 
 /// Whether a write of the note behind so many bytes that fails leaves just these.
-fn leaves_its_note<R: AllocGlobal + Wait + Clone + Drop + Send>(
-    rt: &R,
+fn leaves_its_note(
+    alloc: Global,
     streams: Streams<'_>,
     note: &str,
     written: usize,
@@ -334,16 +320,16 @@ fn leaves_its_note<R: AllocGlobal + Wait + Clone + Drop + Send>(
         note: (written as u64).saturating_add(1),
         ..streams
     };
-    plays(rt, failing, (4, front(note, written), REPORT_OF_ONE))
+    plays(alloc, failing, (4, front(note, written), REPORT_OF_ONE))
 }
 
 #[test]
 fn a_note_that_fails_makes_the_status_4(rt: HostRuntime) -> Result<(), Fail> {
-    for (script, read, _, note) in ENDS {
+    for (script, read, note) in ENDS {
         for written in 0..note.len() {
             let streams = bytewise(script, *read);
             assert!(rt;
-                leaves_its_note(&rt, streams, note, written)?,
+                leaves_its_note(rt.alloc(), streams, note, written)?,
                 "{note} behind {written}"
             );
         }
@@ -351,35 +337,24 @@ fn a_note_that_fails_makes_the_status_4(rt: HostRuntime) -> Result<(), Fail> {
     Ok(())
 }
 
-const SUMMARY_OF_ONE: &str = "[\"summary\",1,1,1,4,1,0]\n";
-
 #[test]
-fn a_summary_stands_in_place_of_a_report(rt: HostRuntime) -> Result<(), Fail> {
-    let words = ["play", "--summary"];
-    for (script, read, status, note) in ENDS {
-        let streams = bytewise(script, *read);
-        let end = (*status, *note, SUMMARY_OF_ONE);
-        assert!(rt; ends(&rt, &words, streams, end)?, "{script}");
-        let failing = Streams {
-            write: 9,
-            ..streams
-        };
-        let cut = (4, "sqlrun: write fault\n", front(SUMMARY_OF_ONE, 8));
-        assert!(rt; ends(&rt, &words, failing, cut)?, "{script}");
-    }
+fn a_summary_that_fails_leaves_a_beginning(rt: HostRuntime) -> Result<(), Fail> {
+    let failing = Streams {
+        write: 9,
+        ..bytewise(ONE, 0)
+    };
+    let cut = (4, "sqlrun: write fault\n", "[\"summar");
+    assert!(rt; ends(rt.alloc(), &["play", "--summary"], failing, cut)?);
     Ok(())
 }
 
 #[test]
-fn a_script_is_generated_and_nothing_is_read(rt: HostRuntime) -> Result<(), Fail> {
-    let lines = "c1 begin x1 db\nc1 exec x1 [\"SET ? ?\",\"u1\",\"Ann\"]\n";
-    let streams = bytewise(ONE, 1);
-    assert!(rt; ends(&rt, &["gen", "2"], streams, (0, "", lines))?);
+fn a_generated_script_that_fails_leaves_a_beginning(rt: HostRuntime) -> Result<(), Fail> {
     let failing = Streams {
         write: 5,
-        ..streams
+        ..bytewise(ONE, 1)
     };
-    let cut = (4, "sqlrun: write fault\n", front(lines, 4));
-    assert!(rt; ends(&rt, &["gen", "2"], failing, cut)?);
+    let cut = (4, "sqlrun: write fault\n", "c1 b");
+    assert!(rt; ends(rt.alloc(), &["gen", "2"], failing, cut)?);
     Ok(())
 }

@@ -5,21 +5,22 @@ use dsql_report::append_line;
 use std::alloc::{AllocError, Global};
 use std::test::Fail;
 
-/// A run of one client, from its first line to its last.
-const ONE_EXEC: &str =
-    r#"["run",1,["fast_exec","fast_query","begin_options","pinger","resetter","validator"]]
-["enter",1,1,"exec db",["SET a 1"]]
-["open",1,1]
-["heard",1,1,"house",0,0,["connect"],["done"]]
-["lend",1,2,"call:1"]
-["heard",1,2,"call:1",1,0,["exec","SET a 1",[]],["result",0,1]]
-["heard",1,2,"call:1",1,0,["valid"],["done"]]
-["back",1]
-["reply",1,["ok","result",0,1]]
+/// How a run begins and ends, what becomes of connections, and what is asked of them.
+const RUN: &str = r#"["run",1,["named","resetter"]]
+["enter",2,7,"exec db",["a"]]
+["open",2,7]
+["heard",2,1,"house",0,0,["connect"],["done"]]
+["lend",4294967295,4294967295,"tx:4294967295"]
+["lend",4294967295,4294967295,"pin:4294967295"]
+["lend",4294967295,4294967295,"house"]
+["lend",2,2,"call:7"]
+["heard",2,2,"call:7",7,0,["exec","a",[]],["result",-1,3]]
+["heard",2,2,"call:7",7,0,["valid"],["invalid"]]
+["back",2]
 ["ended"]
-["close",1,"db_closed"]
-["heard",1,3,"house",0,0,["shut"],["done"]]
-["gone",1]
+["close",2,"invalid"]
+["heard",2,3,"house",0,0,["shut"],["done"]]
+["gone",2]
 "#;
 
 /// Calls, driver calls and their answers.
@@ -33,8 +34,8 @@ const CALLS: &str =
 ["enter",1,2,"ping db"]
 ["enter",1,2,"dbclose"]
 ["enter",1,2,"stats"]
-["heard",1,4,"tx:2",3,2,["prepare","a"],["prepared",8,-1]]
-["heard",1,4,"pin:2",3,2,["begin","repeatable_read",true],["fail","down"]]
+["heard",1,4,"tx:2",3,2,["prepare","a \"b\" \\ \n \u0001 é"],["prepared",8,-1]]
+["heard",1,4,"tx:2",3,2,["begin","repeatable_read",true],["fail","down"]]
 ["heard",1,4,"call:2",3,0,["query",5,[{"name":"x","value":{"time":-1}},null,true,"b",{"bytes":""},-5]],["cursor",7,["value"]]]
 ["heard",1,4,"call:2",3,0,["next",7],["row",[5,null,{"bytes":"0a"},{"time":9}]]]
 ["heard",1,4,"call:2",3,0,["close_rows",7],["bad"]]
@@ -55,6 +56,11 @@ const REPLIES: &str = r#"["wait",4294967295]
 ["reply",5,["err","bad_conn",1,"driver: bad connection"]]
 ["reply",5,["err","num_args",1,2,"sql: expected 1 arguments, got 2"]]
 ["reply",5,["err","high_bit",9223372036854775808,"sql: unsigned value has its high bit set"]]
+["reply",5,["err","rows_closed","failed","sql: Rows are closed"]]
+["reply",5,["err","rows_closed","bad","sql: Rows are closed"]]
+["reply",5,["err","rows_closed","end","sql: Rows are closed"]]
+["reply",5,["err","rows_closed","tx","sql: Rows are closed"]]
+["reply",5,["err","rows_closed","canceled","sql: Rows are closed"]]
 ["reply",5,["err","rows_closed","deadline","sql: Rows are closed"]]
 ["reply",5,["err","scan",0,"not_a_number","sql: scan of column 0: not_a_number"]]
 ["reply",5,["err","too_many",1000,"sql: too many open connections"]]
@@ -86,7 +92,7 @@ fn told(alloc: Global, lines: &str) -> Result<String, Fail> {
 
 #[test]
 fn lines_are_read_back(rt: HostRuntime) -> Result<(), Fail> {
-    for lines in [ONE_EXEC, CALLS, REPLIES] {
+    for lines in [RUN, CALLS, REPLIES] {
         let told = told(rt.alloc(), lines)?;
         assert_eq!(rt; told.as_str(), lines);
     }

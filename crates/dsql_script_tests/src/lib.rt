@@ -1,9 +1,7 @@
-//! Tests of scripts and reports: that lines of each kind are read and spelled at all, and how they read.
+//! Tests of scripts and reports: that lines of each kind are read and spelled at all, and why some are refused.
 #![tactic(auto)]
 
 #[cfg(test)]
 mod events;
-#[cfg(test)]
-mod reports;
 #[cfg(test)]
 mod scripts;

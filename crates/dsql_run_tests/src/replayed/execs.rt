@@ -1,34 +1,6 @@
 //! Scripts of execs over a driver with faults, each with its report, by the rules of the layer.
 
 pub(super) const REPORTS: &[(&str, &str)] = &[
-    // All is well, over two calls.
-    (
-        r#"caps fast_exec resetter validator
-c1 exec db ["SET a 1"]
-c1 exec db ["SET a 2"]
-"#,
-        r#"["run",1,["fast_exec","resetter","validator"]]
-["enter",1,1,"exec db",["SET a 1"]]
-["open",1,1]
-["heard",1,1,"house",0,0,["connect"],["done"]]
-["lend",1,2,"call:1"]
-["heard",1,2,"call:1",1,0,["exec","SET a 1",[]],["result",0,1]]
-["heard",1,2,"call:1",1,0,["valid"],["done"]]
-["back",1]
-["reply",1,["ok","result",0,1]]
-["enter",1,2,"exec db",["SET a 2"]]
-["lend",1,3,"call:2"]
-["heard",1,3,"call:2",2,0,["reset"],["done"]]
-["heard",1,3,"call:2",2,0,["exec","SET a 2",[]],["result",0,1]]
-["heard",1,3,"call:2",2,0,["valid"],["done"]]
-["back",1]
-["reply",2,["ok","result",0,1]]
-["ended"]
-["close",1,"db_closed"]
-["heard",1,4,"house",0,0,["shut"],["done"]]
-["gone",1]
-"#,
-    ),
     // The statement wants two inputs, so it is closed without a run.
     (
         r#"caps fast_exec resetter validator
