@@ -1,2 +1,5 @@
 mod Steps
+mod Spent
 mod Once
+mod RowSteps
+mod Counted

@@ -1,5 +1,5 @@
 -- A statement is sent before the end of a tenure's work, and ends it where a server may have carried it out.
-use Rattle.std.proofs.Common.{◌≡◌, ℕ, ◌⊎◌, Bool, true, false, not, ◌&&◌, ◌||◌, List, Option, Some, None, is_some, refl, sym, ◌∙◌, arith}
+use Rattle.std.proofs.Common.{◌≡◌, ℕ, Bool, true, false, not, ◌&&◌, ◌||◌, List, Option, Some, None, is_some, refl, sym, ◌∙◌, arith}
 use Rattle.dsql_value.specs.declared.value.Param.{Param}
 use Rattle.dsql_driver.specs.declared.caps.Caps.{Caps}
 use Rattle.dsql_driver.specs.declared.call.DriverCall.{DriverCall}
@@ -7,8 +7,7 @@ use Rattle.dsql_driver.specs.declared.call.DriverCall.TheVariants.{Reset, Valid,
 use Rattle.dsql_driver.specs.declared.call.Input.{Input}
 use Rattle.dsql_driver.specs.declared.call.Input.TheVariants.{Text, Handle}
 use Rattle.dsql_driver.specs.declared.answer.DriverAnswer.{DriverAnswer}
-use Rattle.dsql_driver.specs.declared.answer.DriverAnswer.TheVariants.{Done, Prepared, Result, Cursor, Row, End, Invalid, Skip, Bad, Fail, Memory}
-use Rattle.dsql_driver.specs.Fits.{fits_of, is_memory}
+use Rattle.dsql_driver.specs.declared.answer.DriverAnswer.TheVariants.{Done, Result, Cursor, Skip, Bad, Fail}
 use Rattle.dsql_driver.specs.Kinds.{is_bad}
 use Rattle.dsql_course.specs.declared.course.Wish.{Wish}
 use Rattle.dsql_course.specs.declared.course.Wish.TheVariants as wishes
@@ -18,13 +17,12 @@ use Rattle.dsql_work.specs.declared.work.Work.TheVariants.{Execute, ReadOne, Han
 use Rattle.dsql_work.specs.declared.work.Work.TheVariants as works
 use Rattle.dsql_work.specs.Works.{asks}
 use Rattle.dsql_work.specs.Line.{aim_of}
-use Rattle.dsql_work.specs.Exchanges.{step_of, with_exchange}
 use Rattle.dsql_history.specs.declared.reply.Reply.{Reply}
 use Rattle.dsql_history.specs.Readers.Calls.{decision}
 use Rattle.dsql_history.specs.Readers.Tries.{is_tried}
-use Rattle.dsql_work_laws.proofs.CallLines.{Step, Start, WasReset, WasSkipped, WasPrepared, HasRows, HasRead, WasRun, WasDone, WasTested, WasDropped, IsOther, step_after, goes, is_before_end, left_of, read_after}
-use Rattle.dsql_work_laws.proofs.MadeLines.{MadeAt, queries_it, asking}
-use Rattle.dsql_work_laws.proofs.HandedLines.{SentAt, SentOver}
+use Rattle.dsql_work_laws.proofs.CallLines.{Step, Start, WasReset, WasSkipped, WasPrepared, HasRows, HasRead, WasRun, WasDone, WasTested, WasDropped, IsOther, step_after, goes, is_before_end, left_of}
+use Rattle.dsql_work_laws.proofs.MadeLines.{queries_it, asking}
+use Rattle.dsql_work_laws.proofs.HandedLines.{SentAt, opens_rows}
 use Rattle.dsql_reply_laws.proofs.Decides.{fetch_settles, close_keeps, opened_reads}
 use Rattle.dsql_once_laws.specs.Once.{is_statement, is_skip, reads_one}
 
@@ -79,7 +77,7 @@ stays_ended WasSkipped q a g h = absurd cc
 stays_ended (WasPrepared handle) q a g h = absurd cc
 stays_ended s q a g h = absurd cc
 
--- what was carried out decides, but for a call that reads one row
+-- what was carried out decides, but for the cursor of a call that reads one row
 
 impossible : false ≡ true → ⊥
 impossible h = cc
@@ -97,7 +95,7 @@ handed_decides (Fetch k) number count rows columns q d own one reads input param
 handed_decides (Close k) number count rows columns q d own one reads input params = absurd cc
 handed_decides Look number count rows columns q d own one reads input params = absurd cc
 
-pub carried_decides : (number count : ℕ) (can : Caps) (text : List ℕ) (params : List Param) (it : Work) (w : Wish) (s : Step) (made : List Exchange) (q : DriverCall) (a : DriverAnswer) (d : Option Reply) → asks it ≡ true → reads_one it ≡ false
+pub carried_decides : (number count : ℕ) (can : Caps) (text : List ℕ) (params : List Param) (it : Work) (w : Wish) (s : Step) (made : List Exchange) (q : DriverCall) (a : DriverAnswer) (d : Option Reply) → asks it ≡ true → (opens_rows q a ≡ true → reads_one it ≡ false)
     → SentAt can (asking text params (aim_of it)) w s made q a → (is_statement q && not (is_bad a || is_skip a)) ≡ true → is_some (decision number count it q a d) ≡ true
 carried_decides number count can text params it w s made Ping Done d own one x h = refl
 carried_decides number count can text params it w s made Ping (Fail why) d own one x h = refl
@@ -113,7 +111,7 @@ carried_decides number count can text params it w s made (Exec (Handle t) ps) (F
 carried_decides number count can text params it w s made (Exec (Handle t) ps) Bad d own one x h = absurd cc
 carried_decides number count can text params it w s made (Exec (Handle t) ps) _ d own one x h = absurd (impossible (misfit _ _ x.fit x.heard))
 carried_decides number count can text params it w s made (Query input ps) (Cursor rows columns) d own one x h =
-    handed_decides it number count rows columns (Query input ps) d own one (opened_reads can (asking text params (aim_of it)) s made input ps rows columns x.after) input ps
+    handed_decides it number count rows columns (Query input ps) d own (one refl) (opened_reads can (asking text params (aim_of it)) s made input ps rows columns x.after) input ps
 carried_decides number count can text params it w s made (Query input ps) (Fail why) d own one x h = failed it
   where
     failed : (jt : Work) → is_some (decision number count jt (Query input ps) (Fail why) d) ≡ true
@@ -156,21 +154,21 @@ late_only WasTested q g h = absurd cc
 late_only WasDropped q g h = absurd cc
 late_only IsOther q g h = absurd cc
 
--- and what is sent later leaves it decided
+-- and what is sent later leaves it decided, but for a fetch of a call that reads one row
 
-untried_next : (it : Work) (rows : ℕ) (a : DriverAnswer) → reads_one it ≡ false → (is_tried it (Next rows) && is_bad a) ≡ false
+pub untried_next : (it : Work) (rows : ℕ) (a : DriverAnswer) → reads_one it ≡ false → (is_tried it (Next rows) && is_bad a) ≡ false
 untried_next (ReadOne dests) rows a one = absurd cc
 untried_next it rows a one = refl
 
-pub stays_decided : (number count : ℕ) (can : Caps) (text : List ℕ) (params : List Param) (it : Work) (w : Wish) (s : Step) (made : List Exchange) (q : DriverCall) (a : DriverAnswer) (d : Option Reply) → asks it ≡ true → reads_one it ≡ false
-    → (w ≡ wishes.Fetch → ⊥) → SentAt can (asking text params (aim_of it)) w s made q a → is_before_end s ≡ false → is_some d ≡ true → is_some (decision number count it q a d) ≡ true
-stays_decided number count can text params it w s made (Next rows) a d own one fetch x over h = fetch_settles number can text params it w s made rows a own fetch x (untried_next it rows a one)
-stays_decided number count can text params it w s made (CloseRows rows) a d own one fetch x over h = close_keeps number it a d own h
-stays_decided number count can text params it w s made (CloseStmt handle) a d own one fetch x over h = h
-stays_decided number count can text params it w s made Valid a d own one fetch x over h = h
-stays_decided number count can text params it w s made Reset a d own one fetch x over h = absurd (not_late Reset refl (late_only s Reset x.next over))
-stays_decided number count can text params it w s made Ping a d own one fetch x over h = absurd (not_late Ping refl (late_only s Ping x.next over))
-stays_decided number count can text params it w s made (Prepare t) a d own one fetch x over h = absurd (not_late (Prepare t) refl (late_only s (Prepare t) x.next over))
-stays_decided number count can text params it w s made (Exec input ps) a d own one fetch x over h = absurd (not_late (Exec input ps) refl (late_only s (Exec input ps) x.next over))
-stays_decided number count can text params it w s made (Query input ps) a d own one fetch x over h = absurd (not_late (Query input ps) refl (late_only s (Query input ps) x.next over))
-stays_decided number count can text params it w s made _ a d own one fetch x over h = absurd (impossible x.sent)
+pub stays_decided : (number count : ℕ) (can : Caps) (text : List ℕ) (params : List Param) (it : Work) (w : Wish) (s : Step) (made : List Exchange) (q : DriverCall) (a : DriverAnswer) (d : Option Reply) → asks it ≡ true
+    → ((rows : ℕ) → q ≡ Next rows → (is_tried it (Next rows) && is_bad a) ≡ false) → (w ≡ wishes.Fetch → ⊥) → SentAt can (asking text params (aim_of it)) w s made q a → is_before_end s ≡ false → is_some d ≡ true → is_some (decision number count it q a d) ≡ true
+stays_decided number count can text params it w s made (Next rows) a d own good fetch x over h = fetch_settles number can text params it w s made rows a own fetch x (good rows refl)
+stays_decided number count can text params it w s made (CloseRows rows) a d own good fetch x over h = close_keeps number it a d own h
+stays_decided number count can text params it w s made (CloseStmt handle) a d own good fetch x over h = h
+stays_decided number count can text params it w s made Valid a d own good fetch x over h = h
+stays_decided number count can text params it w s made Reset a d own good fetch x over h = absurd (not_late Reset refl (late_only s Reset x.next over))
+stays_decided number count can text params it w s made Ping a d own good fetch x over h = absurd (not_late Ping refl (late_only s Ping x.next over))
+stays_decided number count can text params it w s made (Prepare t) a d own good fetch x over h = absurd (not_late (Prepare t) refl (late_only s (Prepare t) x.next over))
+stays_decided number count can text params it w s made (Exec input ps) a d own good fetch x over h = absurd (not_late (Exec input ps) refl (late_only s (Exec input ps) x.next over))
+stays_decided number count can text params it w s made (Query input ps) a d own good fetch x over h = absurd (not_late (Query input ps) refl (late_only s (Query input ps) x.next over))
+stays_decided number count can text params it w s made _ a d own good fetch x over h = absurd (impossible x.sent)
