@@ -24,17 +24,16 @@ use Rattle.dsql_history.specs.declared.event.Op.{Op}
 use Rattle.dsql_history.specs.declared.event.Op.TheVariants.{Exec, Query, One, Next, Scan, RowsClose, Err, Ping, DbClose, Stats}
 use Rattle.dsql_history.specs.declared.event.Control.TheVariants.{Tick, Set}
 use Rattle.dsql_history.specs.declared.record.Stand.TheVariants as stands_at
-use Rattle.dsql_history.specs.declared.record.Try.{Try}
 use Rattle.dsql_history.specs.Readers.Course.{has_ended}
 use Rattle.dsql_history.specs.Readers.HandedOut.{rows_heard, handed_out, live, are_live, ended_at, ender}
 use Rattle.dsql_history.specs.Readers.Pool.{pool, place, wanted_by, smallest}
 use Rattle.dsql_history.specs.Readers.Tries.{tries, asks_again}
 use Rattle.dsql_history.specs.Readers.Unfinished.{unfinished, is_unfinished}
 use Rattle.dsql_history.specs.Readers.Works.{works, work, work_of, is_fetch}
-use Rattle.dsql_history.specs.Readers.Calls.{site, decided, told_by_others}
+use Rattle.dsql_history.specs.Readers.Calls.{site, decided}
 use Rattle.dsql_history.specs.Rules.Course.{ends_once, begins_with_run}
 use Rattle.dsql_history.specs.Rules.House.{has_no_chore, is_quiet}
-use Rattle.dsql_history.specs.Rules.Stands.{stands, opens, stand, is_waiting}
+use Rattle.dsql_history.specs.Rules.Stands.{has_to_reply, stands, opens, stand, is_waiting}
 use Rattle.dsql_history.specs.Rules.Line.{wish_as, wish, sent_for, due_in, due_for, is_due_at, parts, may_come}
 use Rattle.dsql_history.specs.Legal.{Allowed, Lawful}
 use Rattle.dsql_rows.specs.OpenRows.{rows_of}
@@ -88,7 +87,7 @@ waits_at_end : (H : List Event) (n : ℕ) → Allowed H Ended → is_unfinished 
 waits_at_end H n a u =
     let b = both (list_all (λ m. is_waiting (stand H m)) (unfinished H)) (has_no_chore H) (quiet_at_end H a) in
     let its = all_has (λ m. is_waiting (stand H m)) (unfinished H) n b.0 u in
-    waits_only (waits n (pool H).waiting) (is_some (due_for H n)) (is_none (decided H n) && is_some (told_by_others H n)) (asks_again (tries H n)) (smallest (is_for n) (pool H)) (site H n) its
+    waits_only (waits n (pool H).waiting) (is_some (due_for H n)) (has_to_reply H n) (asks_again (tries H n)) (smallest (is_for n) (pool H)) (site H n) its
 
 wants_at_end : (H : List Event) (n : ℕ) → Allowed H Ended → is_unfinished H n ≡ true → wants n (pool H) ≡ true
 wants_at_end H n a u = ap (λ b. b || list_any (λ conn. is_for n conn.place) (pool H).conns) (waits_at_end H n a u)

@@ -16,4 +16,4 @@ pub mod Tidying
 pub mod Enders
 pub mod Nowhere
 pub mod Told
-pub mod Pinged
+pub mod Wanters

@@ -1,4 +1,3 @@
 pub mod Bounds
 pub mod Chores
 pub mod Nothing
-pub mod Pings

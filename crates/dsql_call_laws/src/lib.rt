@@ -1,10 +1,9 @@
 //! Laws of the calls of lawful histories of several clients: how many moves are owed at most, which calls have
-//! their reply settled, which drivers are pinged, what holds once the run has ended, and what the layer tidies up.
+//! their reply settled, what holds once the run has ended, and what the layer tidies up.
 //! Each law is the contract of a function that does nothing.
 #![tactic(auto)]
 
 pub mod bounds;
 pub mod chores;
 pub mod ended;
-pub mod pings;
 pub mod replies;

@@ -6,9 +6,8 @@ use Rattle.dsql_pool.specs.declared.moves.CloseCause.TheVariants as causes
 use Rattle.dsql_history.specs.declared.event.Event.{Event}
 use Rattle.dsql_history.specs.declared.event.Event.TheVariants.{Replied}
 use Rattle.dsql_history.specs.declared.reply.Reply.TheVariants as replies
-use Rattle.dsql_cases.specs.Words.{executes, pings, open_start, back, close, sent}
-use Rattle.dsql_cases.specs.Begun.{started}
-use Rattle.dsql_cases.specs.Pings.{lent_to_a_ping, lent_to_a_ping_in_vain, executed_before}
+use Rattle.dsql_cases.specs.Words.{executes, open_start, back, close, sent}
+use Rattle.dsql_cases.specs.Pings.{lent_to_a_ping, lent_to_a_ping_in_vain, rests_with_a_connection, executed_before}
 
 -- a Ping is sent twice
 abbrev pub a_ping_is_sent_twice : List Event
@@ -25,12 +24,33 @@ a_connection_is_tested_before_its_ping =
     ++ sent 1 2 1 1 Valid answers.Done
     ∷ []
 
--- the driver can neither ping nor test, and a connection is opened for a ping
-abbrev pub a_connection_is_opened_for_a_ping_in_vain : List Event
-a_connection_is_opened_for_a_ping_in_vain =
-    started
-    ++ pings 1 1
-    ∷ open_start 1 1
+-- the driver can neither ping nor test, and the call replies with its connection
+abbrev pub a_ping_replies_with_its_connection : List Event
+a_ping_replies_with_its_connection =
+    rests_with_a_connection
+    ++ Replied 1 replies.Ok
+    ∷ []
+
+-- the driver can't test, and the connection is tested
+abbrev pub a_resting_connection_is_tested : List Event
+a_resting_connection_is_tested =
+    rests_with_a_connection
+    ++ sent 1 2 1 1 Valid answers.Done
+    ∷ []
+
+-- a failure is told that nobody answered
+abbrev pub a_resting_ping_is_told_a_failure : List Event
+a_resting_ping_is_told_a_failure =
+    rests_with_a_connection
+    ++ back 1
+    ∷ Replied 1 (replies.Driver (codes "no"))
+    ∷ []
+
+-- a good connection with which a ping rested is closed
+abbrev pub a_resting_connection_is_closed : List Event
+a_resting_connection_is_closed =
+    rests_with_a_connection
+    ++ close 1 causes.Bad
     ∷ []
 
 -- a used connection is pinged before it is reset

@@ -57,12 +57,66 @@ a_driver_that_cannot_ping_is_sent_none =
     ∷ gone 1
     ∷ []
 
--- it can't test either, and the ping is refused as it enters
-abbrev pub a_driver_that_can_do_neither_gets_no_ping : List Event
-a_driver_that_can_do_neither_gets_no_ping =
+-- it can't test either: nothing is sent on the connection that is lent to a ping
+abbrev pub rests_with_a_connection : List Event
+rests_with_a_connection =
     started
     ++ pings 1 1
-    ∷ Replied 1 (replies.Driver (codes "the driver can neither ping nor test a connection"))
+    ∷ open_start 1 1
+    ∷ house 1 1 Connect answers.Done
+    ∷ lend 1 2 1
+    ∷ []
+
+-- in a step of its own it gives that back and replies
+abbrev pub a_ping_rests_with_its_connection : List Event
+a_ping_rests_with_its_connection =
+    rests_with_a_connection
+    ++ back 1
+    ∷ Replied 1 replies.Ok
+    ∷ Ended
+    ∷ close 1 causes.DbClosed
+    ∷ house 1 3 Shut answers.Done
+    ∷ gone 1
+    ∷ []
+
+-- another call may come before that
+abbrev pub a_call_comes_while_a_ping_rests : List Event
+a_call_comes_while_a_ping_rests =
+    rests_with_a_connection
+    ++ executes 2 2
+    ∷ open_start 2 2
+    ∷ back 1
+    ∷ Replied 1 replies.Ok
+    ∷ []
+
+-- where an idle connection is lent to a ping, it replies in the same step
+abbrev pub a_ping_rests_with_an_idle_connection : List Event
+a_ping_rests_with_an_idle_connection =
+    rests_with_a_connection
+    ++ back 1
+    ∷ Replied 1 replies.Ok
+    ∷ pings 1 2
+    ∷ lend 1 3 2
+    ∷ back 1
+    ∷ Replied 2 replies.Ok
+    ∷ []
+
+-- two pings have one connection after each other
+abbrev pub a_ping_waits_for_one_that_rests : List Event
+a_ping_waits_for_one_that_rests =
+    started
+    ++ sets_open 1
+    ∷ pings 1 1
+    ∷ open_start 1 1
+    ∷ pings 2 2
+    ∷ Waits 2
+    ∷ house 1 1 Connect answers.Done
+    ∷ lend 1 2 1
+    ∷ back 1
+    ∷ lend 1 3 2
+    ∷ Replied 1 replies.Ok
+    ∷ back 1
+    ∷ Replied 2 replies.Ok
     ∷ []
 
 -- the test finds the connection invalid, which the ping isn't told

@@ -1,5 +1,5 @@
 -- What others have settled for a call, and where a call waits.
-use Rattle.std.proofs.Common.{◌≡◌, ℕ, Bool, true, false, not, ◌||◌, ◌&&◌, cond, List, [], ◌∷◌, refl, ap, ◌∙◌, Option, None, Some, is_none, is_some}
+use Rattle.std.proofs.Common.{◌≡◌, ℕ, Bool, true, false, not, ◌||◌, ◌&&◌, cond, List, [], ◌∷◌, refl, sym, ap, ◌∙◌, Option, None, Some, is_none, is_some}
 use Rattle.dsql_course.specs.Made.{or_else}
 use Rattle.dsql_wait.specs.Requests.{waits}
 use Rattle.dsql_pool.specs.Places.{is_for}
@@ -11,8 +11,8 @@ use Rattle.dsql_history.specs.declared.record.Stand.TheVariants.{Waits, Sends, R
 use Rattle.dsql_history.specs.declared.record.Try.{Try}
 use Rattle.dsql_history.specs.declared.record.Try.TheVariants.{Served, Lost, Refused}
 use Rattle.dsql_history.specs.declared.reply.Reply.{Reply}
-use Rattle.dsql_history.specs.declared.reply.Reply.TheVariants.{Truth}
-use Rattle.dsql_history.specs.Readers.Calls.{decided, site, told_as_lent, told_at_lending, told_by_others, told_by_tries, told_of_work}
+use Rattle.dsql_history.specs.declared.reply.Reply.TheVariants.{Truth, Ok}
+use Rattle.dsql_history.specs.Readers.Calls.{asks_nothing, rests, site, told_as_lent, told_at_lending, told_by_tries, told_of_work}
 use Rattle.dsql_history.specs.Readers.Course.{caps}
 use Rattle.dsql_history.specs.Readers.HandedOut.{over, rows_by}
 use Rattle.dsql_history.specs.Readers.Pool.{pool, smallest}
@@ -20,7 +20,7 @@ use Rattle.dsql_history.specs.Readers.Tries.{asks_again, asks_last, has_a_try, t
 use Rattle.dsql_history.specs.Readers.Unfinished.{is_unfinished}
 use Rattle.dsql_history.specs.Readers.Works.{is_fetch, work}
 use Rattle.dsql_history.specs.Rules.Line.{due_for}
-use Rattle.dsql_history.specs.Rules.Stands.{stands, opens, stand, is_waiting}
+use Rattle.dsql_history.specs.Rules.Stands.{stands, opens, stand, has_to_reply, is_waiting}
 use Rattle.dsql_desk.specs.declared.desk.Desk.{Desk}
 use Rattle.dsql_calls.specs.declared.tried.Tried.{Tried}
 use Rattle.dsql_calls.specs.Calls.{row_at, rows_worked}
@@ -95,6 +95,35 @@ lent_kept d n s under_way =
     ∙ ap (λ (tried : Tried). told_served (caps (past d)).pinger (work (past d) n) tried.newest) (s.tables.calls.tried n under_way)
     ∙ served_as (caps (past d)) (work (past d) n) (tries (past d) n)
 
+no_more : (b : Bool) → false ≡ b && false
+no_more true = refl
+no_more false = refl
+
+-- A ping rests with its connection where the lending tells it, over a driver that can't test one.
+idle_as : (can : Caps) (it : Work) (ts : List Try) → asks_nothing can it ts ≡ not can.validator && is_some (told_as_lent can it ts)
+idle_as can Ping [] = no_more (not can.validator)
+idle_as can Ping (Served ∷ earlier) = by can.pinger can.validator
+  where
+    by : (p v : Bool) → not (p || v) ≡ not v && is_some (cond p None (Some Ok))
+    by true v = no_more (not v)
+    by false true = refl
+    by false false = refl
+idle_as can Ping (Lost ∷ earlier) = no_more (not can.validator)
+idle_as can Ping (Refused answer ∷ earlier) = no_more (not can.validator)
+idle_as can Execute ts = no_more (not can.validator)
+idle_as can (ReadOne dests) ts = no_more (not can.validator)
+idle_as can (HandOut label) ts = no_more (not can.validator)
+idle_as can (Fetch k) ts = no_more (not can.validator)
+idle_as can (Close k) ts = no_more (not can.validator)
+idle_as can Look ts = no_more (not can.validator)
+
+pub rests_kept : (d : Desk) (n : ℕ) → Stands d → is_unfinished (past d) n ≡ true → rests (past d) n ≡ not d.caps.validator && is_some (told_at_lending (past d) n)
+unfolding Stands
+rests_kept d n s under_way =
+    ap (λ b. b && asks_nothing (caps (past d)) (work (past d) n) (tries (past d) n)) under_way
+    ∙ idle_as (caps (past d)) (work (past d) n) (tries (past d) n)
+    ∙ ap (λ (can : Caps). not can.validator && is_some (told_at_lending (past d) n)) (sym s.tables.caps)
+
 pub either_some : (a b : Option Reply) → is_some (or_else a b) ≡ is_some a || is_some b
 either_some None b = refl
 either_some (Some reply) b = refl
@@ -113,4 +142,4 @@ waits_or false false false false None c = refl
 
 pub waiting_only : (H : List Event) (n : ℕ) → is_waiting (stand H n) ≡ waits n (pool H).waiting
 waiting_only H n =
-    waits_or (waits n (pool H).waiting) (is_some (due_for H n)) (is_none (decided H n) && is_some (told_by_others H n)) (asks_again (tries H n)) (smallest (is_for n) (pool H)) (site H n)
+    waits_or (waits n (pool H).waiting) (is_some (due_for H n)) (has_to_reply H n) (asks_again (tries H n)) (smallest (is_for n) (pool H)) (site H n)

@@ -16,7 +16,7 @@ use dsql_calls::{CallStart, NoRoom};
 use dsql_history::{Op, Reply, Work};
 use dsql_rows::RowsFault;
 use dsql_scan::Dest;
-use dsql_telling::starting::{accept, fault_reply, over_rows, over_text, ping_refused, scan_fault};
+use dsql_telling::starting::{accept, fault_reply, over_rows, over_text, scan_fault};
 use dsql_value::{Args, Txt};
 use std::alloc::Global;
 
@@ -39,7 +39,10 @@ impl Desk {
                 let work = Work::ReadOne(dests.clone()?);
                 self.entering_text(alloc, text, args, work, None)
             }
-            Op::Ping => self.entering_ping(alloc),
+            Op::Ping => {
+                let decided = self.closed_by.map(Reply::DbClosed);
+                over_rows(alloc, Work::Ping, None, decided)
+            }
             Op::Next { rows } => self.entering_next(alloc, rows),
             Op::Scan { rows, dests } => self.entering_scan(alloc, rows, dests.as_slice()),
             Op::RowsClose { rows } => self.entering_close(alloc, rows),
@@ -78,26 +81,6 @@ impl Desk {
     {
         let checked = accept(alloc, self.caps.named, text, args)?;
         Ok(over_text(checked, work, label, self.closed_by))
-    }
-
-    /// `DB.PingContext`.
-    fn entering_ping(&self, alloc: Global) -> Result<CallStart, NoRoom>
-        requires { Stands self.now }
-        ensures { IfOk result (λ it. Starts (past self.now) ops.Ping it) }
-    {
-        let decided = self.told_pinging(alloc)?;
-        over_rows(alloc, Work::Ping, None, decided)
-    }
-
-    /// What a call is told at once that is to ping.
-    fn told_pinging(&self, alloc: Global) -> Result<Option<Reply>, NoRoom>
-        requires { Stands self.now }
-        ensures { IfOk result (λ told. told ≡ told_at_entry (past self.now) ops.Ping) }
-    {
-        match self.closed_by {
-            Some(end) => Ok(Some(Reply::DbClosed(end))),
-            None => ping_refused(alloc, self.caps),
-        }
     }
 
     /// `Rows.Next`.

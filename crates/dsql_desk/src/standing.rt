@@ -1,12 +1,12 @@
 //! Where an unfinished call is, and what others have settled for it.
-ghost use Rattle.std.specs.Prelude.{◌≡◌, ◌&&◌, true, not, is_none, is_some};
+ghost use Rattle.std.specs.Prelude.{◌≡◌, ◌&&◌, true, not, is_some};
 ghost use Rattle.std.specs.List.{list_all};
 ghost use Rattle.dsql_desk.specs.Desk.{past, Stands};
 ghost use Rattle.dsql_course.specs.Made.{or_else};
 ghost use Rattle.dsql_pool.specs.Calls.{wants};
 ghost use Rattle.dsql_work.specs.Works.{asks};
 ghost use Rattle.dsql_history.specs.declared.record.Stand.TheVariants.{Asks, Sends, Replies};
-ghost use Rattle.dsql_history.specs.Readers.Calls.{decided, reply_due, site, told_at_lending, told_by_others, told_by_tries};
+ghost use Rattle.dsql_history.specs.Readers.Calls.{reply_due, rests, rests_with, site, told_at_lending, told_by_others, told_by_tries};
 ghost use Rattle.dsql_history.specs.Readers.Pool.{pool};
 ghost use Rattle.dsql_history.specs.Readers.Tries.{asks_again, asks_last, tries};
 ghost use Rattle.dsql_history.specs.Readers.Unfinished.{is_unfinished, unfinished};
@@ -14,14 +14,14 @@ ghost use Rattle.dsql_history.specs.Readers.Works.{work};
 ghost use Rattle.dsql_history.specs.Rules.Asking.{may_ask, may_try};
 ghost use Rattle.dsql_history.specs.Rules.House.{is_quiet};
 ghost use Rattle.dsql_history.specs.Rules.Line.{due_for};
-ghost use Rattle.dsql_history.specs.Rules.Stands.{is_waiting, stand, stands};
+ghost use Rattle.dsql_history.specs.Rules.Stands.{has_to_reply, is_waiting, stand, stands};
 
 use crate::desk::Desk;
 use dsql_calls::row;
 use dsql_calls::standing::waits_or_opens;
 use dsql_history::Stand;
 
-#[tactic(auto, using(crate::proofs::Told::told_by_kind, crate::proofs::Told::told_kept, crate::proofs::Told::lent_kept, crate::proofs::Told::another_kept, crate::proofs::Told::again_kept, crate::proofs::Told::last_kept, crate::proofs::Told::unmade, crate::proofs::Told::either_some, crate::proofs::Told::waiting_only), unfolding(crate::specs::Desk::Stands))]
+#[tactic(auto, using(crate::proofs::Told::told_by_kind, crate::proofs::Told::told_kept, crate::proofs::Told::lent_kept, crate::proofs::Told::rests_kept, crate::proofs::Told::another_kept, crate::proofs::Told::again_kept, crate::proofs::Told::last_kept, crate::proofs::Told::unmade, crate::proofs::Told::either_some, crate::proofs::Told::waiting_only), unfolding(crate::specs::Desk::Stands))]
 impl Desk {
     /// Where an unfinished call is.
     pub fn stand(&self, call: u32) -> Option<Stand>
@@ -39,16 +39,47 @@ impl Desk {
     fn goes_on(&self, call: u32) -> Option<Stand>
         requires stands { Stands self.now }
         requires unfinished { is_unfinished (past self.now) call ≡ true }
-        ensures { result ≡ or_else (stands (is_some (due_for (past self.now) call)) (Sends (site (past self.now) call))) (or_else (stands (is_none (decided (past self.now) call) && is_some (told_by_others (past self.now) call)) Replies) (stands (asks_again (tries (past self.now) call)) Asks)) }
+        ensures { result ≡ or_else (stands (is_some (due_for (past self.now) call)) (Sends (site (past self.now) call))) (or_else (stands (has_to_reply (past self.now) call) Replies) (stands (asks_again (tries (past self.now) call)) Asks)) }
     {
         if self.is_due(call) {
             return Some(Stand::Sends(self.site(call)));
         }
-        if !self.has_decided(call) && self.is_told(call) {
+        if self.has_to_reply(call) {
             return Some(Stand::Replies);
         }
         if self.asks_again(call) {
             Some(Stand::Asks)
+        } else {
+            None
+        }
+    }
+
+    /// Whether others have settled what an unfinished call replies, or it rests with its connection.
+    fn has_to_reply(&self, call: u32) -> bool
+        requires stands { Stands self.now }
+        requires unfinished { is_unfinished (past self.now) call ≡ true }
+        ensures { result ≡ has_to_reply (past self.now) call }
+    {
+        self.rests(call) || (!self.has_decided(call) && self.is_told(call))
+    }
+
+    /// Whether an unfinished call rests with its connection, for which it has to send nothing.
+    pub fn rests(&self, call: u32) -> bool
+        requires stands { Stands self.now }
+        requires unfinished { is_unfinished (past self.now) call ≡ true }
+        ensures { result ≡ rests (past self.now) call }
+    {
+        !self.caps.validator && self.is_told_as_lent(call)
+    }
+
+    /// The connection with which an unfinished call rests, if it does.
+    pub fn rests_with(&self, call: u32) -> Option<u32>
+        requires stands { Stands self.now }
+        requires unfinished { is_unfinished (past self.now) call ≡ true }
+        ensures { result ≡ rests_with (past self.now) call }
+    {
+        if self.rests(call) {
+            self.lent_or_opened(call)
         } else {
             None
         }

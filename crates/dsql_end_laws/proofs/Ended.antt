@@ -1,6 +1,5 @@
 -- Once the run has ended and has run out, no call is left, no connection is open, and each journal is whole.
-use Rattle.std.proofs.Common.{◌≡◌, ◌≢◌, ℕ, ◌==◌, ◌⊎◌, inl, inr, Bool, true, false, not, ◌&&◌, ◌||◌, cond, List, [], ◌∷◌, length, Option, Some, None, is_some, is_none, refl, sym, ap, ◌∙◌}
-use Rattle.std.specs.Prelude.{find}
+use Rattle.std.proofs.Common.{◌≡◌, ◌≢◌, ℕ, ◌==◌, ◌⊎◌, inl, inr, Bool, true, false, not, ◌&&◌, ◌||◌, cond, List, [], ◌∷◌, length, Option, Some, None, is_some, refl, sym, ap, ◌∙◌}
 use Rattle.std.specs.List.{list_all}
 use Rattle.std.specs.Option.{option_map}
 use Rattle.dsql_course.specs.declared.course.Wish.TheVariants as wishes
@@ -18,7 +17,7 @@ use Rattle.dsql_pool.specs.Places.{conn_of, is_closing, is_for, is_idle, is_open
 use Rattle.dsql_pool.specs.Rest.{times}
 use Rattle.dsql_history.specs.declared.event.Event.{Event}
 use Rattle.dsql_history.specs.declared.record.Flight.{Flight}
-use Rattle.dsql_history.specs.Readers.Calls.{decided, site, told_by_others}
+use Rattle.dsql_history.specs.Readers.Calls.{rests, site}
 use Rattle.dsql_history.specs.Readers.Course.{has_ended}
 use Rattle.dsql_history.specs.Readers.HandedOut.{are_live, ender, live, over, rows_by}
 use Rattle.dsql_history.specs.Readers.Journals.{journal}
@@ -27,7 +26,7 @@ use Rattle.dsql_history.specs.Readers.Tries.{asks_again, tries}
 use Rattle.dsql_history.specs.Readers.Unfinished.{is_unfinished, unfinished}
 use Rattle.dsql_history.specs.Rules.House.{has_no_chore, is_untidy}
 use Rattle.dsql_history.specs.Rules.Line.{due_for, is_used, line_of, tidying}
-use Rattle.dsql_history.specs.Rules.Stands.{is_waiting, stand}
+use Rattle.dsql_history.specs.Rules.Stands.{has_to_reply, is_waiting, stand}
 use Rattle.dsql_history.specs.Legal.{Lawful, Legal}
 use Rattle.dsql_laws.proofs.AtRest.{rests_owing_nothing}
 use Rattle.dsql_laws.proofs.Tests.{both, same_itself, together}
@@ -36,17 +35,17 @@ use Rattle.dsql_call_laws.proofs.Closed.{closed_shut, ended_closed}
 use Rattle.dsql_call_laws.proofs.Ends.{over_once_ended, waits_only}
 use Rattle.dsql_call_laws.proofs.Lists.{same_or_not}
 use Rattle.dsql_heard_laws.proofs.Answered.{lent_used}
-use Rattle.dsql_pool.proofs.Rows.{found_passes}
 use Rattle.dsql_end_laws.specs.Over.{HasRunOut, IsOver}
 use Rattle.dsql_end_laws.proofs.Left.{IsKnown, known}
-use Rattle.dsql_end_laws.proofs.RunOut.{no_chore, NoChore, quiet_where_run_out, unnumbered}
+use Rattle.dsql_end_laws.proofs.Resting.{found_there, kept_so, resting_unfinished}
+use Rattle.dsql_end_laws.proofs.RunOut.{no_chore, NoChore, quiet_where_run_out}
 use Rattle.dsql_end_laws.proofs.Senders.{attended, needed_over}
 
 -- each call has its reply: who has none waits, which nobody does for a closed database
 
 none_waits : (H : List Event) (n : ℕ) → (pool H).waiting ≡ [] → is_waiting (stand H n) ≡ true → ⊥
 none_waits H n none h =
-    let waiting = waits_only (waits n (pool H).waiting) (is_some (due_for H n)) (is_none (decided H n) && is_some (told_by_others H n)) (asks_again (tries H n)) (smallest (is_for n) (pool H)) (site H n) h in
+    let waiting = waits_only (waits n (pool H).waiting) (is_some (due_for H n)) (has_to_reply H n) (asks_again (tries H n)) (smallest (is_for n) (pool H)) (site H n) h in
     let clash : false ≡ true = sym (ap (waits n) none) ∙ waiting in
     cc
 
@@ -59,28 +58,6 @@ all_replied H flights legal ended out =
     let b = both (list_all (λ n. is_waiting (stand H n)) (unfinished H)) (has_no_chore H) (quiet_where_run_out H flights legal.lawful legal.settled out) in
     let shut = closed_shut H legal.lawful (ended_closed H ended) in
     none_left (λ n. is_waiting (stand H n)) (unfinished H) b.0 (λ n waiting. none_waits H n shut.waiting waiting)
-
--- where a connection stands so, one is found that does
-
-none_passes : (q : Conn → Bool) (conns : List Conn) → find q conns ≡ None → list_all (λ x. not (q x)) conns ≡ true
-none_passes q [] h = refl
-none_passes q (x ∷ xs) h = by (none_passes q xs) (q x) h
-  where
-    by : (find q xs ≡ None → list_all (λ y. not (q y)) xs ≡ true) → (b : Bool) → cond b (Some x) (find q xs) ≡ None → (not b && list_all (λ y. not (q y)) xs) ≡ true
-    by rest true k = absurd cc
-    by rest false k = rest k
-
-found_there : (H : List Event) (test : Place → Bool) (c : ℕ) (p : Place) → place H c ≡ Some p → test p ≡ true → smallest test (pool H) ≡ None → ⊥
-found_there H test c p is passes none = by (conn_of c (pool H).conns) refl is
-  where
-    by : (o : Option Conn) → conn_of c (pool H).conns ≡ o → option_map (λ (x : Conn). x.place) o ≡ Some p → ⊥
-    by None found at = cc
-    by (Some x) found at =
-        let there : x.place ≡ p = cc in
-        let all = none_passes (λ (y : Conn). test y.place) (pool H).conns (unnumbered (find (λ (y : Conn). test y.place) (pool H).conns) none) in
-        let fails : not (test x.place) ≡ true = found_passes (λ (y : Conn). not (test y.place)) c x (pool H).conns all found in
-        let clash : false ≡ true = sym (ap not (ap test there ∙ passes)) ∙ fails in
-        cc
 
 -- what is known once it has run out
 record Ends (H : List Event) : Type 0 where
@@ -122,7 +99,9 @@ none_lent_to : (H : List Event) (c t n : ℕ) → Ends H → place H c ≡ Some 
 none_lent_to H c t n ends is = by (rows_by H n) refl
   where
     used : is_used H n ≡ true
-    used = let settled = ends.legal.settled in lent_used H c t (Call n) settled.used is
+    used =
+        let settled = ends.legal.settled in
+        kept_so (is_used H n) (rests H n) (lent_used H c t (Call n) settled.used is) (λ it. not_unfinished H n ends.replied (resting_unfinished H n it))
 
     dead : are_live H n ≡ false
     dead = let o = over_once_ended H ends.lawful ends.ended in o.live n

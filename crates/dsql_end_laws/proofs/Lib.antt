@@ -2,7 +2,7 @@ pub mod Finds
 pub mod Whose
 pub mod Steps
 pub mod RunOut
-pub mod Wanters
+pub mod Resting
 pub mod Enders
 pub mod Senders
 pub mod Left

@@ -12,7 +12,7 @@ use Rattle.dsql_pool.specs.Places.{is_for, is_opening}
 use Rattle.dsql_history.specs.declared.event.Event.{Event}
 use Rattle.dsql_history.specs.declared.record.Flight.{Flight}
 use Rattle.dsql_history.specs.declared.record.Stand.TheVariants as stands_at
-use Rattle.dsql_history.specs.Readers.Calls.{decided, site, told_by_others}
+use Rattle.dsql_history.specs.Readers.Calls.{site}
 use Rattle.dsql_history.specs.Readers.Pool.{pool, smallest}
 use Rattle.dsql_history.specs.Readers.Tries.{asks_again, tries}
 use Rattle.dsql_history.specs.Readers.Unfinished.{is_unfinished, unfinished}
@@ -20,10 +20,11 @@ use Rattle.dsql_history.specs.Rules.Flights.{is_blocked, is_in_flight, may_move}
 use Rattle.dsql_history.specs.Rules.House.{chore_due, connect_due, has_no_chore, is_quiet, shut_due, tidy_due}
 use Rattle.dsql_history.specs.Rules.Line.{due_for}
 use Rattle.dsql_history.specs.Rules.Settled.{Settled}
-use Rattle.dsql_history.specs.Rules.Stands.{is_waiting, opens, stand, stands}
+use Rattle.dsql_history.specs.Rules.Stands.{has_to_reply, is_waiting, opens, stand, stands}
 use Rattle.dsql_history.specs.Legal.{Lawful}
 use Rattle.dsql_laws.proofs.Numbered.{unfinished_from_one}
 use Rattle.dsql_laws.proofs.Tests.{both, other_number, same_itself, second, together}
+use Rattle.dsql_call_laws.proofs.Wanters.{unnumbered}
 use Rattle.dsql_heard_laws.proofs.Settling.{all_within}
 use Rattle.dsql_end_laws.specs.Over.{HasRunOut}
 
@@ -87,10 +88,6 @@ opened_opens n x = by x.place
     by (Lent t o) h = absurd cc
     by Closing h = absurd cc
 
-pub unnumbered : (o : Option Conn) → option_map (λ (x : Conn). x.number) o ≡ None → o ≡ None
-unnumbered None h = refl
-unnumbered (Some x) h = absurd cc
-
 opens_none : (H : List Event) (n : ℕ) → connect_due H ≡ None → smallest (is_for n) (pool H) ≡ None
 opens_none H n none =
     let opening : Conn → Bool = λ (x : Conn). is_opening (Some x.place) in
@@ -116,5 +113,5 @@ quiet_where_run_out H flights l settled out =
     each : (n : ℕ) → is_unfinished H n ≡ true → ((n == 0) || is_some (stand H n)) ≡ true → is_waiting (stand H n) ≡ true
     each n u so =
         let chores = no_chore H out.idle in
-        blocked_waits n (waits n (pool H).waiting) (is_some (due_for H n)) (is_none (decided H n) && is_some (told_by_others H n)) (asks_again (tries H n)) (smallest (is_for n) (pool H)) (site H n) (opens_none H n chores.connect)
+        blocked_waits n (waits n (pool H).waiting) (is_some (due_for H n)) (has_to_reply H n) (asks_again (tries H n)) (smallest (is_for n) (pool H)) (site H n) (opens_none H n chores.connect)
         (second (n == 0) (is_some (stand H n)) (other_number n 0 (unfinished_from_one H n l u)) so) (blocked_alone H flights n out u)

@@ -13,7 +13,7 @@ use Rattle.dsql_work.specs.Works.{asks}
 use Rattle.dsql_history.specs.declared.event.Event.{Event}
 use Rattle.dsql_history.specs.declared.event.Event.TheVariants.{Run, Entered, Heard, Pool, Waits, Ticked, SetLimit, Replied, Ended}
 use Rattle.dsql_history.specs.declared.reply.Reply.{Reply}
-use Rattle.dsql_history.specs.Readers.Calls.{decided}
+use Rattle.dsql_history.specs.Readers.Calls.{decided, rests}
 use Rattle.dsql_history.specs.Readers.HandedOut.{are_live, caller, ended_at, ender, live, over, rows_by}
 use Rattle.dsql_history.specs.Readers.Pool.{place}
 use Rattle.dsql_history.specs.Readers.Unfinished.{is_unfinished, unfinished}
@@ -35,8 +35,9 @@ use Rattle.dsql_call_laws.proofs.Looks.{comes, heard_there}
 use Rattle.dsql_laws.proofs.OwedAllowed.{or_second}
 use Rattle.dsql_sending_laws.proofs.Following.{stays_with_its_call}
 use Rattle.dsql_heard_laws.proofs.Answered.{lent_used}
+use Rattle.dsql_end_laws.proofs.Resting.{kept_so, rests_none_over, rests_not}
 use Rattle.dsql_end_laws.proofs.Enders.{ender_now, ender_works_on}
-use Rattle.dsql_end_laws.proofs.Wanters.{lends_unfinished, replies_now, still_without_reply}
+use Rattle.dsql_call_laws.proofs.Wanters.{lends_unfinished, replies_now, still_without_reply}
 
 -- what a connection in use that is lent to call n still needs
 
@@ -94,20 +95,20 @@ none_due None None same h k = cc
 none_due None (Some call) same h k = cc
 none_due (Some call) e same h k = cc
 
--- what is lent is in use as a call replies
-replied_used : (H : List Event) (n : ℕ) (reply : Reply) (c t k : ℕ) → Allowed H (Replied n reply) → place H c ≡ Some (Lent t (Call k)) → is_used H k ≡ true
-replied_used H n reply c t k a is =
+-- what is lent is in use as a call replies, unless its call rests with it
+replied_used : (H : List Event) (n : ℕ) (reply : Reply) (c t k : ℕ) → Allowed H (Replied n reply) → place H c ≡ Some (Lent t (Call k)) → (rests H k ≡ true → ⊥) → is_used H k ≡ true
+replied_used H n reply c t k a is busy =
     let r = replies_now H n reply a in
     let b = both (owes_nothing H) (uses_what_is_lent H && goes_on_but n H) r.settled in
     let d = both (uses_what_is_lent H) (goes_on_but n H) b.1 in
-    lent_used H c t (Call k) d.0 is
+    kept_so (is_used H k) (rests H k) (lent_used H c t (Call k) d.0 is) busy
 
 -- the call itself has made rows as it replies
 replies_with_rows : (H : List Event) (c t n : ℕ) (reply : Reply) → Lawful H → Allowed H (Replied n reply) → place H c ≡ Some (Lent t (Call n)) → rows_by H n ≡ None → ⊥
 replies_with_rows H c t n reply l a is none =
     let r = replies_now H n reply a in
     none_due (due_for H n) (line_of H n wishes.Nothing) (due_of H n r.unfinished ∙ own_due H n (work H n) (lent_asks H c t n l is)) r.done
-    (needed_unmade H n none (replied_used H n reply c t n a is))
+    (needed_unmade H n none (replied_used H n reply c t n a is (rests_not H c t n is r.gave)))
 
 -- the call that ended the rows has closed them
 replies_when_closed : (H : List Event) (c t n : ℕ) (reply : Reply) → Lawful H → Allowed H (Replied (ender H n) reply) → place H c ≡ Some (Lent t (Call n)) → ender H n ≢ 0 → ⊥
@@ -115,7 +116,7 @@ replies_when_closed H c t n reply l a is some =
     let m = ender H n in
     let r = replies_now H m reply a in
     none_due (due_for H m) (line_of H n wishes.Close) (due_of H m r.unfinished ∙ closing_due H m n (work H m) (ender_works_on H n l some) refl) r.done
-    (needed_over H n (ender_over H n some) (replied_used H m reply c t n a is))
+    (needed_over H n (ender_over H n some) (replied_used H m reply c t n a is (λ it. rests_none_over H n l it (ender_over H n some))))
 
 pub record Attended (H : List Event) : Type 0 where
   pub unmade : (c t n : ℕ) → place H c ≡ Some (Lent t (Call n)) → rows_by H n ≡ None → is_unfinished H n ≡ true

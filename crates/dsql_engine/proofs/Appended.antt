@@ -138,5 +138,5 @@ control_may desk control pays begun settled = record {
   stands = pays.stands;
   paid = step_pays (past desk) (told_after (past desk) control) desk.paid (lawful_kept desk pays.stands) settled pays.paid;
   allowed = control_allowed (past desk) control begun settled;
-  few = pays.few;
+  few = let room = pays.few in omega (arith, room);
 }

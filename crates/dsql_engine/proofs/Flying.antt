@@ -15,16 +15,18 @@ use Rattle.dsql_history.specs.declared.record.Stand.{Stand}
 use Rattle.dsql_history.specs.declared.record.Stand.TheVariants.{Waits, Opens, Sends, Replies, Asks}
 use Rattle.dsql_history.specs.declared.reply.Reply.{Reply}
 use Rattle.dsql_history.specs.declared.reply.Reply.TheVariants.{TooMany}
-use Rattle.dsql_history.specs.Readers.Calls.{reply_due}
+use Rattle.dsql_history.specs.Readers.Calls.{rests, rests_with, reply_due}
+use Rattle.dsql_history.specs.Readers.Owed.{given_back}
 use Rattle.dsql_history.specs.Readers.Unfinished.{unfinished, is_unfinished}
 use Rattle.dsql_history.specs.Rules.Asking.{ask_outcome, may_ask}
 use Rattle.dsql_history.specs.Rules.Flights.{has_flight, is_in_flight, permitted}
 use Rattle.dsql_history.specs.Rules.Line.{due_for}
 use Rattle.dsql_history.specs.Rules.Stands.{stand}
+use Rattle.dsql_laws.specs.Asked.{with_asked}
 use Rattle.dsql_laws.specs.OwedMade.{with_moves}
 use Rattle.dsql_laws.proofs.Tests.{both, together, other_number, same_itself}
 use Rattle.dsql_call_laws.proofs.Lists.{has-without}
-use Rattle.dsql_steps.specs.Groups.{after_settling, asked_so, gone_on, sends_nothing}
+use Rattle.dsql_steps.specs.Groups.{after_reply, given_up, unless_resting, after_settling, asked_so, gone_on, sends_nothing}
 use Rattle.dsql_going.specs.Reaching.{HasGoneOn}
 use Rattle.dsql_going.specs.Stepping.{are_of_unfinished}
 use Rattle.dsql_going.specs.declared.next.Next.{Next}
@@ -36,17 +38,32 @@ pub begun_moved : (ms : List Move) (H : List Event) → is_empty H ≡ false →
 begun_moved [] H begun = begun
 begun_moved (m ∷ ms) H begun = begun_moved ms (Pool m ∷ H) refl
 
-begun_asked : (n : ℕ) (a : Result Asked AskFault) (H : List Event) → is_empty H ≡ false → is_empty (asked_so n a H) ≡ false
-begun_asked n (Ok (asked.Lent c t)) H begun = refl
-begun_asked n (Ok (asked.Opening c)) H begun = refl
-begun_asked n (Ok asked.Queued) H begun = refl
-begun_asked n (Ok asked.Closed) H begun = begun
-begun_asked n (Err faults.TooMany) H begun = refl
-begun_asked n (Err faults.Memory) H begun = begun
-
 pub either_begun : (b : Bool) (K H : List Event) → is_empty K ≡ false → is_empty H ≡ false → is_empty (cond b K H) ≡ false
 either_begun true K H k h = k
 either_begun false K H k h = h
+
+begun_given : (o : Option ℕ) (H : List Event) → is_empty H ≡ false → is_empty (given_up o H) ≡ false
+begun_given None H begun = begun
+begun_given (Some c) H begun = begun_moved (given_back H c) H begun
+
+begun_reply : (n : ℕ) (o : Option Reply) (H : List Event) → is_empty H ≡ false → is_empty (after_reply n o H) ≡ false
+begun_reply n None H begun = begun
+begun_reply n (Some reply) H begun = refl
+
+begun_resting : (n : ℕ) (H : List Event) → is_empty H ≡ false → is_empty (unless_resting n H) ≡ false
+begun_resting n H begun = either_begun (sends_nothing H n && rests H n) (after_reply n (reply_due H n) H) H (begun_reply n (reply_due H n) H begun) begun
+
+begun_with : (n : ℕ) (a : Result Asked AskFault) (H : List Event) → is_empty H ≡ false → is_empty (with_asked n a H) ≡ false
+begun_with n (Ok (asked.Lent c t)) H begun = refl
+begun_with n (Ok (asked.Opening c)) H begun = refl
+begun_with n (Ok asked.Queued) H begun = refl
+begun_with n (Ok asked.Closed) H begun = begun
+begun_with n (Err why) H begun = begun
+
+begun_asked : (n : ℕ) (a : Result Asked AskFault) (H : List Event) → is_empty H ≡ false → is_empty (asked_so n a H) ≡ false
+begun_asked n (Err faults.TooMany) H begun = refl
+begun_asked n (Err faults.Memory) H begun = begun_resting n (with_asked n (Err faults.Memory) H) (begun_with n (Err faults.Memory) H begun)
+begun_asked n (Ok it) H begun = begun_resting n (with_asked n (Ok it) H) (begun_with n (Ok it) H begun)
 
 begun_settling : (n : ℕ) (o : Option Reply) (H : List Event) → is_empty H ≡ false → is_empty (after_settling n o H) ≡ false
 begun_settling n (Some reply) H begun = refl
@@ -60,20 +77,39 @@ begun_gone n H begun = either_begun (sends_nothing H n) (after_settling n (reply
 replied_others : (H : List Event) (n : ℕ) (reply : Reply) (m : ℕ) → m ≢ n → is_unfinished (Replied n reply ∷ H) m ≡ is_unfinished H m
 replied_others H n reply m apart = has-without m n (unfinished H) ∙ ap (λ b. not b && has m (unfinished H)) (other_number m n apart)
 
-asked_others : (n : ℕ) (a : Result Asked AskFault) (H : List Event) (m : ℕ) → m ≢ n → is_unfinished (asked_so n a H) m ≡ is_unfinished H m
-asked_others n (Ok (asked.Lent c t)) H m apart = refl
-asked_others n (Ok (asked.Opening c)) H m apart = refl
-asked_others n (Ok asked.Queued) H m apart = refl
-asked_others n (Ok asked.Closed) H m apart = refl
-asked_others n (Err faults.TooMany) H m apart = replied_others H n TooMany m apart
-asked_others n (Err faults.Memory) H m apart = refl
+moved_others : (ms : List Move) (H : List Event) (m : ℕ) → is_unfinished (with_moves ms H) m ≡ is_unfinished H m
+moved_others [] H m = refl
+moved_others (move ∷ ms) H m = moved_others ms (Pool move ∷ H) m
+
+given_others : (o : Option ℕ) (H : List Event) (m : ℕ) → is_unfinished (given_up o H) m ≡ is_unfinished H m
+given_others None H m = refl
+given_others (Some c) H m = moved_others (given_back H c) H m
 
 either_others : (b : Bool) (K H : List Event) (m : ℕ) → is_unfinished K m ≡ is_unfinished H m → is_unfinished (cond b K H) m ≡ is_unfinished H m
 either_others true K H m same = same
 either_others false K H m same = refl
 
+reply_others : (n : ℕ) (o : Option Reply) (H : List Event) (m : ℕ) → m ≢ n → is_unfinished (after_reply n o H) m ≡ is_unfinished H m
+reply_others n None H m apart = refl
+reply_others n (Some reply) H m apart = replied_others (given_up (rests_with H n) H) n reply m apart ∙ given_others (rests_with H n) H m
+
+resting_others : (n : ℕ) (H : List Event) (m : ℕ) → m ≢ n → is_unfinished (unless_resting n H) m ≡ is_unfinished H m
+resting_others n H m apart = either_others (sends_nothing H n && rests H n) (after_reply n (reply_due H n) H) H m (reply_others n (reply_due H n) H m apart)
+
+with_others : (n : ℕ) (a : Result Asked AskFault) (H : List Event) (m : ℕ) → is_unfinished (with_asked n a H) m ≡ is_unfinished H m
+with_others n (Ok (asked.Lent c t)) H m = refl
+with_others n (Ok (asked.Opening c)) H m = refl
+with_others n (Ok asked.Queued) H m = refl
+with_others n (Ok asked.Closed) H m = refl
+with_others n (Err why) H m = refl
+
+asked_others : (n : ℕ) (a : Result Asked AskFault) (H : List Event) (m : ℕ) → m ≢ n → is_unfinished (asked_so n a H) m ≡ is_unfinished H m
+asked_others n (Err faults.TooMany) H m apart = replied_others H n TooMany m apart
+asked_others n (Err faults.Memory) H m apart = resting_others n (with_asked n (Err faults.Memory) H) m apart ∙ with_others n (Err faults.Memory) H m
+asked_others n (Ok it) H m apart = resting_others n (with_asked n (Ok it) H) m apart ∙ with_others n (Ok it) H m
+
 settling_others : (n : ℕ) (o : Option Reply) (H : List Event) (m : ℕ) → m ≢ n → is_unfinished (after_settling n o H) m ≡ is_unfinished H m
-settling_others n (Some reply) H m apart = replied_others H n reply m apart
+settling_others n (Some reply) H m apart = reply_others n (Some reply) H m apart
 settling_others n None H m apart = either_others (may_ask H n) (asked_so n (ask_outcome H n) H) H m (asked_others n (ask_outcome H n) H m apart)
 
 pub gone_others : (n : ℕ) (H : List Event) (m : ℕ) → m ≢ n → is_unfinished (gone_on n H) m ≡ is_unfinished H m

@@ -1,5 +1,5 @@
 -- How much longer a history is after a step, so that the end may come after it.
-use Rattle.std.proofs.Common.{◌≡◌, ◌≤◌, ◌<◌, ◌+◌, arith, ℕ, Bool, true, false, cond, List, [], ◌∷◌, length, Option, Some, None, subst, sym, ◌∙◌}
+use Rattle.std.proofs.Common.{◌≡◌, ◌≤◌, ◌<◌, ◌+◌, ◌&&◌, arith, ℕ, Bool, true, false, cond, List, [], ◌∷◌, length, Option, Some, None, subst, sym, ◌∙◌}
 use Rattle.std.specs.Prelude.{Result, Ok, Err}
 use Rattle.dsql_journal.specs.declared.entry.Entry.{Entry}
 use Rattle.dsql_journal.specs.declared.entry.Owner.TheVariants.{Call, Tx, Pin, House}
@@ -16,47 +16,61 @@ use Rattle.dsql_history.specs.declared.event.Op.{Op}
 use Rattle.dsql_history.specs.declared.event.Control.{Control}
 use Rattle.dsql_history.specs.Readers.Controls.{told_after}
 use Rattle.dsql_history.specs.declared.reply.Reply.{Reply}
-use Rattle.dsql_history.specs.Readers.Calls.{next_call, reply_due}
-use Rattle.dsql_history.specs.Readers.Owed.{owed}
+use Rattle.dsql_history.specs.Readers.Calls.{next_call, reply_due, rests, rests_with}
+use Rattle.dsql_history.specs.Readers.Owed.{given_back, owed}
 use Rattle.dsql_history.specs.Readers.Pool.{place}
 use Rattle.dsql_history.specs.Rules.Asking.{ask_outcome, may_ask}
 use Rattle.dsql_history.specs.Rules.Settled.{Settled}
 use Rattle.dsql_history.specs.Legal.{Lawful}
+use Rattle.dsql_laws.specs.Asked.{with_asked}
 use Rattle.dsql_laws.specs.OwedMade.{with_moves}
-use Rattle.dsql_call_laws.specs.Bounds.{most_moves}
-use Rattle.dsql_call_laws.proofs.Owed.{few_next}
+use Rattle.dsql_call_laws.specs.Bounds.{most_given_back, most_moves}
+use Rattle.dsql_call_laws.proofs.Owed.{few_given_back, few_next}
 use Rattle.dsql_desk.proofs.Moves.{leaves}
-use Rattle.dsql_going.specs.Stepping.{events_of_a_step}
+use Rattle.dsql_going.specs.Stepping.{events_of_a_step, most_going_on}
 use Rattle.dsql_hearing.proofs.Letting.{few_let_go}
-use Rattle.dsql_steps.specs.Groups.{after_control, after_end, after_enter, after_heard, after_settling, asked_so, gone_on, heard_at, let_go, most_events, sends_nothing, with_owed}
+use Rattle.dsql_steps.specs.Groups.{after_control, after_end, after_enter, after_heard, after_reply, after_settling, asked_so, given_up, gone_on, heard_at, let_go, most_events, sends_nothing, unless_resting, with_owed}
 use Rattle.dsql_engine.specs.Core.{HasRoomForEnd}
 
--- a call that goes on adds an event at most
-
-asked_adds_one : (n : ℕ) (a : Result Asked AskFault) (H : List Event) → length (asked_so n a H) ≤ length H + 1
-asked_adds_one n (Ok (asked.Lent c t)) H = omega arith
-asked_adds_one n (Ok (asked.Opening c)) H = omega arith
-asked_adds_one n (Ok asked.Queued) H = omega arith
-asked_adds_one n (Ok asked.Closed) H = omega arith
-asked_adds_one n (Err faults.TooMany) H = omega arith
-asked_adds_one n (Err faults.Memory) H = omega arith
-
-either_adds_one : (b : Bool) (K H : List Event) → length K ≤ length H + 1 → length (cond b K H) ≤ length H + 1
-either_adds_one true K H few = few
-either_adds_one false K H few = omega arith
-
-settling_adds_one : (n : ℕ) (o : Option Reply) (H : List Event) → length (after_settling n o H) ≤ length H + 1
-settling_adds_one n (Some reply) H = omega arith
-settling_adds_one n None H = either_adds_one (may_ask H n) (asked_so n (ask_outcome H n) H) H (asked_adds_one n (ask_outcome H n) H)
-
-gone_adds_one : (n : ℕ) (H : List Event) → length (gone_on n H) ≤ length H + 1
-gone_adds_one n H = either_adds_one (sends_nothing H n) (after_settling n (reply_due H n) H) H (settling_adds_one n (reply_due H n) H)
-
--- an event adds itself and the moves that it makes due
+-- moves add themselves
 
 moves_add : (ms : List Move) (H : List Event) → length (with_moves ms H) ≡ length ms + length H
 moves_add [] H = omega arith
 moves_add (m ∷ ms) H = let rest = moves_add ms (Pool m ∷ H) in omega (arith, rest)
+
+-- a call that goes on adds few
+
+either_adds : (b : Bool) (K H : List Event) (k : ℕ) → length K ≤ length H + k → length (cond b K H) ≤ length H + k
+either_adds true K H k few = few
+either_adds false K H k few = omega arith
+
+given_up_adds : (o : Option ℕ) (H : List Event) → length (given_up o H) ≤ length H + most_given_back
+given_up_adds None H = omega arith
+given_up_adds (Some c) H = let longer = moves_add (given_back H c) H in let few = few_given_back H c in omega (arith, longer, few)
+
+reply_adds : (n : ℕ) (o : Option Reply) (H : List Event) → length (after_reply n o H) ≤ length H + (most_given_back + 1)
+reply_adds n None H = omega arith
+reply_adds n (Some reply) H = let few = given_up_adds (rests_with H n) H in omega (arith, few)
+
+resting_adds : (n : ℕ) (H : List Event) → length (unless_resting n H) ≤ length H + (most_given_back + 1)
+resting_adds n H = either_adds (sends_nothing H n && rests H n) (after_reply n (reply_due H n) H) H (most_given_back + 1) (reply_adds n (reply_due H n) H)
+
+asked_adds : (n : ℕ) (a : Result Asked AskFault) (H : List Event) → length (asked_so n a H) ≤ length H + most_going_on
+asked_adds n (Ok (asked.Lent c t)) H = let few = resting_adds n (with_asked n (Ok (asked.Lent c t)) H) in omega (arith, few)
+asked_adds n (Ok (asked.Opening c)) H = let few = resting_adds n (with_asked n (Ok (asked.Opening c)) H) in omega (arith, few)
+asked_adds n (Ok asked.Queued) H = let few = resting_adds n (with_asked n (Ok asked.Queued) H) in omega (arith, few)
+asked_adds n (Ok asked.Closed) H = let few = resting_adds n H in omega (arith, few)
+asked_adds n (Err faults.TooMany) H = omega arith
+asked_adds n (Err faults.Memory) H = let few = resting_adds n H in omega (arith, few)
+
+settling_adds : (n : ℕ) (o : Option Reply) (H : List Event) → length (after_settling n o H) ≤ length H + most_going_on
+settling_adds n (Some reply) H = let few = reply_adds n (Some reply) H in omega (arith, few)
+settling_adds n None H = either_adds (may_ask H n) (asked_so n (ask_outcome H n) H) H most_going_on (asked_adds n (ask_outcome H n) H)
+
+gone_adds : (n : ℕ) (H : List Event) → length (gone_on n H) ≤ length H + most_going_on
+gone_adds n H = either_adds (sends_nothing H n) (after_settling n (reply_due H n) H) H most_going_on (settling_adds n (reply_due H n) H)
+
+-- an event adds itself and the moves that it makes due
 
 event_adds_few : (H : List Event) (e : Event) → Lawful H → Settled H → length (with_owed (e ∷ H)) ≤ length H + 1 + most_moves
 event_adds_few H e l settled =
@@ -70,7 +84,7 @@ entered_adds_few : (H : List Event) (client : ℕ) (op : Op) → Lawful H → Se
 entered_adds_few H client op l settled =
     let e = Entered client (next_call H) op in
     let entered = event_adds_few H e l settled in
-    let gone = gone_adds_one (next_call H) (with_owed (e ∷ H)) in
+    let gone = gone_adds (next_call H) (with_owed (e ∷ H)) in
     omega (arith, entered, gone)
 
 rest_adds_few : (H : List Event) (e : Event) → Lawful H → Settled H → length (with_owed (e ∷ H)) ≤ length H + events_of_a_step
@@ -80,7 +94,7 @@ heard_at_adds_few : (H : List Event) (e : Entry) (at : Option Place) → Lawful 
 heard_at_adds_few H e (Some (Lent t (Call n))) l settled =
     let K = Heard e ∷ H in
     let left = few_let_go K e.conn n in
-    let gone = gone_adds_one e.call_no (let_go e.conn n K) in
+    let gone = gone_adds e.call_no (let_go e.conn n K) in
     omega (arith, left, gone)
 heard_at_adds_few H e (Some (Lent t (Tx n))) l settled = rest_adds_few H (Heard e) l settled
 heard_at_adds_few H e (Some (Lent t (Pin n))) l settled = rest_adds_few H (Heard e) l settled
@@ -96,7 +110,7 @@ room_after : (H K G : List Event) → K ≡ G → length G ≤ length H + events
 room_after H K G is few short = subst (λ (P : List Event). HasRoomForEnd P) (sym is) (λ running. omega (arith, few, short))
 
 pub room_after_gone : (H K : List Event) (n : ℕ) → K ≡ gone_on n H → length H < most_events → HasRoomForEnd K
-room_after_gone H K n is short = let one = gone_adds_one n H in room_after H K (gone_on n H) is (omega (arith, one)) short
+room_after_gone H K n is short = let one = gone_adds n H in room_after H K (gone_on n H) is (omega (arith, one)) short
 
 pub room_after_enter : (H K : List Event) (client : ℕ) (op : Op) → K ≡ after_enter H client op → Lawful H → Settled H → length H < most_events → HasRoomForEnd K
 room_after_enter H K client op is l settled short = room_after H K (after_enter H client op) is (entered_adds_few H client op l settled) short

@@ -1,6 +1,5 @@
 pub mod Legality
 pub mod Busy
-pub mod Settling
 pub mod Flying
 pub mod Chores
 pub mod Appended

@@ -11,9 +11,9 @@ use dsql_journal::Entry;
 use dsql_pool::MOST_OPEN;
 use std::alloc::Global;
 
-/// How many events a step appends at most: as many moves as openings and closings may become due at once, and five more, as
-/// for its first event and its reply.
-const EVENTS_OF_A_STEP: u32 = 2 * MOST_OPEN + 5;
+/// How many events a step appends at most: as many moves as openings and closings may become due at once, and seven more, as
+/// for its first event, for connections that are given back, and its reply.
+const EVENTS_OF_A_STEP: u32 = 2 * MOST_OPEN + 7;
 
 /// Takes the memory for the events of a step, and for a driver call that begins in it.
 pub fn pay(desk: &mut Desk, flights: &mut Flights) -> Result<(), NoRoom>

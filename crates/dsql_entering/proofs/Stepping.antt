@@ -34,7 +34,7 @@ use Rattle.dsql_desk.specs.Statements.{statement_of}
 use Rattle.dsql_desk.proofs.Known.{unfinished_known}
 use Rattle.dsql_desk.proofs.KeptOfCalls.{lawful_kept}
 use Rattle.dsql_going.specs.Reaching.{CanPay, MayGoOn}
-use Rattle.dsql_going.specs.Stepping.{are_of_unfinished, events_of_a_step, MayStep}
+use Rattle.dsql_going.specs.Stepping.{most_going_on, are_of_unfinished, events_of_a_step, MayStep}
 use Rattle.dsql_exchanged.specs.declared.statement.Statement.{Statement}
 use Rattle.dsql_entering.specs.Entering.{IsSentBy}
 use Rattle.dsql_entering.proofs.Settling.{entered_settled, entry_allowed}
@@ -82,11 +82,11 @@ may_append desk flights client n op next pays may free =
       stands = pays.stands;
       paid = let paid = pays.paid in omega (arith, few, paid);
       allowed = entry_allowed (past desk) client n op next may.begun free may.settled;
-      few = pays.few;
+      few = let room = pays.few in omega (arith, room);
     }
 
 -- there is memory for what the call goes on with
-pub may_pay : (old new : Desk) (flights : UnderWay) (client n : ℕ) (op : Op) → CanPay old events_of_a_step → length (past old) + events_of_a_step ≤ most_within_a_step → MayStep (past old) flights → Appends old new (Entered client n op) → CanPay new 2
+pub may_pay : (old new : Desk) (flights : UnderWay) (client n : ℕ) (op : Op) → CanPay old events_of_a_step → length (past old) + events_of_a_step ≤ most_within_a_step → MayStep (past old) flights → Appends old new (Entered client n op) → CanPay new most_going_on
 may_pay old new flights client n op pays short may appends =
     let K = Entered client n op ∷ past old in
     let few : length (owed K) ≤ most_moves = few_next (past old) (Entered client n op) (lawful_kept old pays.stands) may.settled.nothing_owed in

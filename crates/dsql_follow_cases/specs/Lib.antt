@@ -6,3 +6,4 @@ pub mod Strayed
 pub mod StrayedEnds
 pub mod Times
 pub mod Tries
+pub mod Pings

@@ -3,6 +3,7 @@
 #![tactic(auto)]
 
 pub mod followed;
+pub mod pings;
 pub mod strayed;
 pub mod times;
 pub mod tries;

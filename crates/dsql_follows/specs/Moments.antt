@@ -1,12 +1,17 @@
 -- A moment of a run: what happened, whose step it was, which permits are in flight, and which lines were read.
-use Rattle.std.specs.Prelude.{ℕ, ◌==◌, ◌-◌, Bool, true, false, not, ◌&&◌, ◌||◌, cond, List, [], ◌∷◌, ◌++◌, drop, slice_index_or}
+use Rattle.std.specs.Prelude.{ℕ, ◌==◌, ◌-◌, Bool, true, false, not, ◌&&◌, ◌||◌, cond, List, [], ◌∷◌, ◌++◌, drop, slice_index_or, Option, Some}
 use Rattle.dsql_journal.specs.Readers.{is_empty}
+use Rattle.dsql_journal.specs.Kinds.{number_of}
+use Rattle.dsql_pool.specs.declared.conn.Place.{Place}
+use Rattle.dsql_pool.specs.declared.conn.Place.TheVariants.{Lent, Opening}
 use Rattle.dsql_pool.specs.declared.moves.Move.{Move}
-use Rattle.dsql_pool.specs.declared.moves.Move.TheVariants.{OpenStart, Lend}
+use Rattle.dsql_pool.specs.declared.moves.Move.TheVariants.{OpenStart, Lend, Back, CloseStart}
 use Rattle.dsql_history.specs.declared.event.Event.{Event}
 use Rattle.dsql_history.specs.declared.event.Event.TheVariants.{Run, Entered, Heard, Pool, Waits, Ticked, SetLimit, Replied, Ended}
 use Rattle.dsql_history.specs.declared.record.Flight.{Flight}
+use Rattle.dsql_history.specs.Readers.Pool.{place}
 use Rattle.dsql_history.specs.Readers.Owed.{owed}
+use Rattle.dsql_history.specs.Readers.Calls.{rests}
 use Rattle.dsql_history.specs.Rules.Course.{is_run, is_from_outside}
 use Rattle.dsql_history.specs.Rules.Flights.{permitted, without_flight}
 use Rattle.dsql_history.specs.Rules.Stands.{stand}
@@ -37,11 +42,19 @@ at_end m = record m { released = true }
 
 -- Steps.
 
--- whose step it is with a move that the pool doesn't owe: of a call that asks, or else of the one that was under way
-abbrev pub mover : ℕ → Move → ℕ
-mover m (OpenStart c n) = n
-mover m (Lend c tenure owner n) = n
-mover m move = m
+-- whose step it is as a connection in this place leaves its call: of a call that rested, whose it is, or else of the one that was under way
+abbrev pub leaver : List Event → ℕ → Option Place → ℕ
+leaver past m (Some (Lent tenure owner)) = cond (rests past (number_of owner)) (number_of owner) m
+leaver past m (Some (Opening (Some owner))) = cond (rests past (number_of owner)) (number_of owner) m
+leaver past m _ = m
+
+-- whose step it is with a move that the pool doesn't owe: of a call that asks, or of one that gives back the connection with which it rested, or else of the one that was under way
+abbrev pub mover : List Event → ℕ → Move → ℕ
+mover past m (OpenStart c n) = n
+mover past m (Lend c tenure owner n) = n
+mover past m (Back c) = leaver past m (place past c)
+mover past m (CloseStart c cause) = leaver past m (place past c)
+mover past m move = m
 
 -- Whose step it is with this event more. A call asks and replies in its own steps alone, and what the pool owes comes in the step that made it due.
 abbrev pub stepping : Moment → Event → ℕ
@@ -49,7 +62,7 @@ stepping m (Entered client n op) = n
 stepping m (Heard e) = e.call_no
 stepping m (Waits n) = n
 stepping m (Replied n reply) = n
-stepping m (Pool move) = cond (is_empty (owed m.past)) (mover m.stepper move) m.stepper
+stepping m (Pool move) = cond (is_empty (owed m.past)) (mover m.past m.stepper move) m.stepper
 stepping m (Run version caps) = 0
 stepping m (Ticked now) = 0
 stepping m (SetLimit setting n) = 0

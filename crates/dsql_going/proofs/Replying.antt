@@ -16,7 +16,7 @@ use Rattle.dsql_history.specs.Rules.Asking.{may_ask, ask_outcome, is_too_many}
 use Rattle.dsql_history.specs.Rules.Course.{keeps_course}
 use Rattle.dsql_history.specs.Rules.Line.{due_for}
 use Rattle.dsql_history.specs.Rules.Order.{follows}
-use Rattle.dsql_history.specs.Rules.Replies.{has_cause, is_told_too_many}
+use Rattle.dsql_history.specs.Rules.Replies.{gave_back, has_cause, is_told_too_many}
 use Rattle.dsql_history.specs.Rules.Settled.{Settled, goes_on_but, is_settled_but, owes_nothing, uses_what_is_lent}
 use Rattle.dsql_history.specs.Rules.Stands.{stand}
 use Rattle.dsql_history.specs.Legal.{Allowed}
@@ -46,9 +46,9 @@ course_of_reply : (H : List Event) (n : ℕ) (r : Reply) → is_unfinished H n �
 course_of_reply [] n r u = absurd cc
 course_of_reply (e ∷ H) n r u = refl
 
-pub reply_allowed : (H : List Event) (n : ℕ) (r : Reply) → is_unfinished H n ≡ true → is_some (due_for H n) ≡ false → has_cause H n r ≡ true → is_settled_but n H ≡ true → Allowed H (Replied n r)
+pub reply_allowed : (H : List Event) (n : ℕ) (r : Reply) → is_unfinished H n ≡ true → is_some (due_for H n) ≡ false → gave_back H n ≡ true → has_cause H n r ≡ true → is_settled_but n H ≡ true → Allowed H (Replied n r)
 unfolding Allowed
-reply_allowed H n r u silent cause settled = record {
+reply_allowed H n r u silent gave cause settled = record {
   course = course_of_reply H n r u;
   numbers = u;
   sets = refl;
@@ -59,8 +59,8 @@ reply_allowed H n r u silent cause settled = record {
   line = refl;
   journals = refl;
   replies =
-      together (is_none (due_for H n)) (has_cause H n r && is_settled_but n H) (none_is (due_for H n) silent)
-      (together (has_cause H n r) (is_settled_but n H) cause settled);
+      together (is_none (due_for H n)) (gave_back H n && (has_cause H n r && is_settled_but n H)) (none_is (due_for H n) silent)
+      (together (gave_back H n) (has_cause H n r && is_settled_but n H) gave (together (has_cause H n r) (is_settled_but n H) cause settled));
 }
 
 -- why it replies
@@ -77,23 +77,21 @@ many_cause H n may many = or_second (is_reply (reply_due H n) TooMany) (may_ask 
 
 -- what is so after it
 
-pub settled_replied : (H : List Event) (n : ℕ) (r : Reply) → is_settled_but n H ≡ true → Settled (Replied n r ∷ H)
-settled_replied H n r h =
+pub settled_replied : (H : List Event) (n : ℕ) (r : Reply) → gave_back H n ≡ true → is_settled_but n H ≡ true → Settled (Replied n r ∷ H)
+settled_replied H n r gave h =
     let a = both (owes_nothing H) (uses_what_is_lent H && goes_on_but n H) h in
     let b = both (uses_what_is_lent H) (goes_on_but n H) a.1 in
-    record { nothing_owed = refl; used = used_replied H n r ∙ b.0; somewhere = goes_on_replied H n r b.1 }
+    record { nothing_owed = refl; used = used_replied H n r gave ∙ b.0; somewhere = goes_on_replied H n r b.1 }
 
-replied_finished : (H : List Event) (n : ℕ) (r : Reply) → is_unfinished (Replied n r ∷ H) n ≡ false
+pub replied_finished : (H : List Event) (n : ℕ) (r : Reply) → is_unfinished (Replied n r ∷ H) n ≡ false
 replied_finished H n r = has-without n n (unfinished H) ∙ ap (λ b. not b && has n (unfinished H)) (same_itself n)
 
+-- who has its reply is told so next
+pub goes_finished : (K : List Event) (n : ℕ) (flights : List Flight) → is_unfinished K n ≡ false → HasGoneOn K flights flights n (nexts.Reply n)
+goes_finished K n flights done = record {
+  answers = ap (λ (b : Bool). cond b (sends_unless K n (why_blocked flights n (stand K n))) (Some (nexts.Reply n))) done;
+  flights = sym (unsent_flights K n flights (rw done refl));
+}
+
 pub goes_replying : (H : List Event) (n : ℕ) (r : Reply) (flights : List Flight) → HasGoneOn (Replied n r ∷ H) flights flights n (nexts.Reply n)
-goes_replying H n r flights =
-    let K = Replied n r ∷ H in
-    let done = replied_finished H n r in
-    record {
-      answers = ap (λ (b : Bool). cond b (sends_unless K n (why_blocked flights n (stand K n))) (Some (nexts.Reply n))) done;
-      flights = sym (unsent_flights K n flights (silent K done));
-    }
-  where
-    silent : (K : List Event) → is_unfinished K n ≡ false → is_some (due_for K n) ≡ false
-    silent K done = rw done refl
+goes_replying H n r flights = goes_finished (Replied n r ∷ H) n flights (replied_finished H n r)

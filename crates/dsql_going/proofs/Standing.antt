@@ -1,5 +1,5 @@
 -- Where a call stands that goes on, and what becomes of its flights.
-use Rattle.std.proofs.Common.{◌≡◌, ℕ, ◌==◌, Bool, true, false, not, ◌&&◌, ◌||◌, cond, List, [], ◌∷◌, Option, Some, None, is_some, is_none, refl, sym, ap, subst, ◌∙◌}
+use Rattle.std.proofs.Common.{◌≡◌, ℕ, ◌==◌, Bool, true, false, not, ◌&&◌, ◌||◌, cond, List, [], ◌∷◌, Option, Some, None, is_some, refl, sym, ap, subst, ◌∙◌}
 use Rattle.std.specs.Prelude.{find}
 use Rattle.std.specs.List.{list_any}
 use Rattle.std.specs.Option.{option_map}
@@ -12,7 +12,7 @@ use Rattle.dsql_history.specs.declared.event.Event.{Event}
 use Rattle.dsql_history.specs.declared.record.Flight.{Flight}
 use Rattle.dsql_history.specs.declared.record.Stand.{Stand}
 use Rattle.dsql_history.specs.declared.record.Stand.TheVariants as stands_at
-use Rattle.dsql_history.specs.Readers.Calls.{site, decided, told_by_others, reply_due}
+use Rattle.dsql_history.specs.Readers.Calls.{site, reply_due}
 use Rattle.dsql_history.specs.Readers.Pool.{pool, smallest}
 use Rattle.dsql_history.specs.Readers.Tries.{asks_again, tries}
 use Rattle.dsql_history.specs.Readers.Unfinished.{unfinished, is_unfinished}
@@ -20,7 +20,7 @@ use Rattle.dsql_history.specs.Rules.Asking.{may_ask}
 use Rattle.dsql_history.specs.Rules.Flights.{has_flight, is_in_flight, is_taken, permitted}
 use Rattle.dsql_history.specs.Rules.Line.{due_for}
 use Rattle.dsql_history.specs.Rules.Settled.{Settled, goes_on, goes_on_but, is_settled_but, owes_nothing, uses_what_is_lent}
-use Rattle.dsql_history.specs.Rules.Stands.{opens, stand, stands}
+use Rattle.dsql_history.specs.Rules.Stands.{has_to_reply, opens, stand, stands}
 use Rattle.dsql_history.specs.Legal.{Lawful}
 use Rattle.dsql_laws.proofs.Numbered.{unfinished_from_one}
 use Rattle.dsql_laws.proofs.Standing.{stands_opening}
@@ -84,7 +84,7 @@ pub unsent_flights : (K : List Event) (n : ℕ) (flights : List Flight) → is_s
 unsent_flights K n flights silent =
     let w = waits n (pool K).waiting in
     let o = smallest (is_for n) (pool K) in
-    let told = is_none (decided K n) && is_some (told_by_others K n) in
+    let told = has_to_reply K n in
     let again = asks_again (tries K n) in
     ap (λ (b : Bool). permitted n (or_else (stands w stands_at.Waits) (or_else (opens o) (or_else (stands b (stands_at.Sends (site K n))) (or_else (stands told stands_at.Replies) (stands again stands_at.Asks))))) flights) silent
     ∙ unsent w o (site K n) n told again flights

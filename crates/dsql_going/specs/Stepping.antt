@@ -16,9 +16,9 @@ use Rattle.dsql_going.specs.Reaching.{HasGoneOn}
 abbrev pub are_of_unfinished : List Event → List Flight → Bool
 are_of_unfinished past flights = list_all (λ flight. is_unfinished past flight.call) flights
 
--- a call that goes on by itself makes a request and what comes of it, or replies
+-- a call that goes on by itself asks, where it has to, gives back what it rests with, and replies
 abbrev pub most_going_on : ℕ
-most_going_on = 2
+most_going_on = 1 + (most_given_back + 1)
 
 -- a step appends no more than its first event, the moves that it makes due, those of a connection that is given back, and what a call that goes on adds
 abbrev pub events_of_a_step : ℕ

@@ -1,26 +1,29 @@
 //! A call goes on as far as it can by itself.
-ghost use Rattle.std.specs.Prelude.{◌≡◌, ◌<◌, Some, is_some, true, false};
+ghost use Rattle.std.specs.Prelude.{◌≡◌, ◌<◌, ◌+◌, Some, is_some, true, false};
 ghost use Rattle.dsql_desk.specs.Desk.{past, Stands};
 ghost use Rattle.dsql_desk.specs.Statements.{statement_of};
-ghost use Rattle.dsql_steps.specs.Groups.{gone_on, asked_so};
-ghost use Rattle.dsql_going.specs.Reaching.{CanPay, Reaches, MayGoOn, HasGoneOn};
-ghost use Rattle.dsql_history.specs.Readers.Calls.{user};
+ghost use Rattle.dsql_call_laws.specs.Bounds.{most_given_back};
+ghost use Rattle.dsql_steps.specs.Groups.{after_reply, asked_so, gone_on, unless_resting};
+ghost use Rattle.dsql_going.specs.Reaching.{CanPay, GivesUp, Reaches, MayGoOn, HasGoneOn};
+ghost use Rattle.dsql_going.specs.Stepping.{most_going_on};
+ghost use Rattle.dsql_history.specs.Readers.Calls.{reply_due, rests, user};
 ghost use Rattle.dsql_history.specs.Readers.Unfinished.{is_unfinished};
 ghost use Rattle.dsql_history.specs.Rules.Flights.{is_in_flight};
 ghost use Rattle.dsql_history.specs.Rules.Asking.{may_ask, ask_outcome};
 ghost use Rattle.dsql_history.specs.Rules.Line.{due_for};
+ghost use Rattle.dsql_history.specs.Rules.Settled.{Settled, is_settled_but};
 
 use crate::next::{Next, Why};
 use crate::permits::call_permit;
 use dsql_desk::{Desk, Statement};
 use dsql_flights::Flights;
 use dsql_history::Reply;
-use dsql_pool::{AskFault, Asked};
+use dsql_pool::{AskFault, Asked, Fate};
 
 /// A call that has no reply goes on: it sends what is due, or replies what is settled, or asks for a
 /// connection, or waits on.
 pub fn go_on(desk: &mut Desk, flights: &mut Flights, call: u32, statement: Statement) -> Next
-    requires pays { CanPay desk.old 2 }
+    requires pays { CanPay desk.old most_going_on }
     requires may { MayGoOn (past desk.old) flights.old call }
     requires statement { statement ≡ statement_of (past desk.old) (user (past desk.old) call) }
     ensures reaches { Reaches desk.new (gone_on call (past desk.old)) }
@@ -30,8 +33,7 @@ pub fn go_on(desk: &mut Desk, flights: &mut Flights, call: u32, statement: State
         return send(desk, flights, call, statement);
     }
     if desk.is_settled(call) {
-        desk.tell_due(call);
-        return Next::Reply(call);
+        return reply(desk, call);
     }
     if desk.may_ask(call) {
         return ask(desk, flights, call, statement);
@@ -61,9 +63,56 @@ fn send(desk: &Desk, flights: &mut Flights, call: u32, statement: Statement) -> 
     Next::Send(call_permit(desk, conn, call, statement))
 }
 
-/// A call asks for a connection. Where one is lent to it it sends.
+/// A call replies what is settled, once it gave back the connection with which it rests, if it does.
+fn reply(desk: &mut Desk, call: u32) -> Next
+    requires pays { CanPay desk.old (most_given_back + 1) }
+    requires settled { is_settled_but call (past desk.old) ≡ true }
+    requires unfinished { is_unfinished (past desk.old) call ≡ true }
+    requires silent { is_some (due_for (past desk.old) call) ≡ false }
+    requires due { is_some (reply_due (past desk.old) call) ≡ true }
+    ensures reaches { Reaches desk.new (after_reply call (reply_due (past desk.old) call) (past desk.old)) }
+    ensures finished { is_unfinished (past desk.new) call ≡ false }
+    ensures next { result ≡ Next.Reply call }
+{
+    give_up(desk, call);
+    desk.tell_due(call);
+    Next::Reply(call)
+}
+
+/// A call that rests with its connection gives that back.
+fn give_up(desk: &mut Desk, call: u32)
+    requires pays { CanPay desk.old (most_given_back + 1) }
+    requires settled { is_settled_but call (past desk.old) ≡ true }
+    requires unfinished { is_unfinished (past desk.old) call ≡ true }
+    requires silent { is_some (due_for (past desk.old) call) ≡ false }
+    requires due { is_some (reply_due (past desk.old) call) ≡ true }
+    ensures { GivesUp desk.old desk.new call }
+{
+    if let Some(conn) = desk.rests_with(call) {
+        desk.give_back(conn, Fate::Good);
+    }
+}
+
+/// A call that was lent a connection just now sends what is due there, or replies where it rests with it.
+fn go_on_lent(desk: &mut Desk, flights: &mut Flights, call: u32, statement: Statement) -> Next
+    requires pays { CanPay desk.old (most_given_back + 1) }
+    requires may { MayGoOn (past desk.old) flights.old call }
+    requires settled { Settled (past desk.old) }
+    requires rests { is_some (due_for (past desk.old) call) ≡ false → rests (past desk.old) call ≡ true }
+    requires statement { statement ≡ statement_of (past desk.old) (user (past desk.old) call) }
+    ensures reaches { Reaches desk.new (unless_resting call (past desk.old)) }
+    ensures goes { HasGoneOn (past desk.new) flights.old.flights flights.new.flights call result }
+{
+    if desk.is_due(call) {
+        send(desk, flights, call, statement)
+    } else {
+        reply(desk, call)
+    }
+}
+
+/// A call asks for a connection.
 fn ask(desk: &mut Desk, flights: &mut Flights, call: u32, statement: Statement) -> Next
-    requires pays { CanPay desk.old 2 }
+    requires pays { CanPay desk.old most_going_on }
     requires may { MayGoOn (past desk.old) flights.old call }
     requires asks { may_ask (past desk.old) call ≡ true }
     requires statement { statement ≡ statement_of (past desk.old) (user (past desk.old) call) }
@@ -71,7 +120,7 @@ fn ask(desk: &mut Desk, flights: &mut Flights, call: u32, statement: Statement) 
     ensures goes { HasGoneOn (past desk.new) flights.old.flights flights.new.flights call result }
 {
     match desk.ask(call) {
-        Ok(Asked::Lent { .. }) => send(desk, flights, call, statement),
+        Ok(Asked::Lent { .. }) => go_on_lent(desk, flights, call, statement),
         Ok(Asked::Opening(_)) => Next::Blocked(Why::Opening),
         Ok(Asked::Queued) => Next::Blocked(Why::Connection),
         Ok(Asked::Closed) => unreachable!(),

@@ -22,11 +22,11 @@ use Rattle.dsql_laws.proofs.Tests.{together, second, same_itself, other_number}
 use Rattle.dsql_sending_laws.proofs.Invariant.{Turned, rows_turn}
 use Rattle.dsql_call_laws.proofs.Rows.{ended_live}
 use Rattle.dsql_call_laws.proofs.Works.{enters_next, old_record, old_work, old_unfinished}
-use Rattle.dsql_other_laws.proofs.Alike.{used_alike, lent_alike}
-use Rattle.dsql_other_laws.proofs.Entries.{entered_lines}
+use Rattle.dsql_other_laws.proofs.Alike.{used_alike}
+use Rattle.dsql_other_laws.proofs.Entries.{entered_lines, lent_as_entered}
 use Rattle.dsql_other_laws.proofs.Untouched.{apart_of}
 use Rattle.dsql_heard_laws.proofs.Rows.{live_line}
-use Rattle.dsql_heard_laws.proofs.Settling.{Left, settling_stays, stays_somewhere, all_within}
+use Rattle.dsql_heard_laws.proofs.Settling.{Left, rests_left, settling_stays, stays_somewhere, all_within}
 
 -- each other call is somewhere
 
@@ -63,7 +63,7 @@ goes_on_closing H client n label l h =
         by true its = refl
         by false its =
             let left = closing_left H client n label m l u (apart_of m n its) in
-            stays_somewhere H (Entered client n (RowsClose label) ∷ H) m refl left.tried (settling_stays H (Entered client n (RowsClose label)) m l left) some
+            stays_somewhere H (Entered client n (RowsClose label) ∷ H) m refl left.tried (rests_left H (Entered client n (RowsClose label)) m refl left) (settling_stays H (Entered client n (RowsClose label)) m l left) some
 
 -- what is lent is in use as before
 
@@ -96,4 +96,5 @@ closed_used H client n label j l = by (rows_turn H (Entered client n (RowsClose 
     by (inr w) = ends (rows_by H j) w.0 refl w.1
 
 pub used_closing : (H : List Event) (client n : ℕ) (label : List ℕ) → Lawful (Entered client n (RowsClose label) ∷ H) → uses_what_is_lent (Entered client n (RowsClose label) ∷ H) ≡ uses_what_is_lent H
-used_closing H client n label l = lent_alike H (Entered client n (RowsClose label) ∷ H) refl (λ j. closed_used H client n label j l)
+used_closing H client n label l =
+    lent_as_entered H client n (RowsClose label) l refl (λ j. closed_used H client n label j l)

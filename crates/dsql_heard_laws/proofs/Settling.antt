@@ -17,15 +17,15 @@ use Rattle.dsql_history.specs.declared.record.Stand.{Stand}
 use Rattle.dsql_history.specs.declared.record.Stand.TheVariants as stands_at
 use Rattle.dsql_history.specs.declared.reply.Reply.{Reply}
 use Rattle.dsql_history.specs.declared.reply.Reply.TheVariants.{Truth}
-use Rattle.dsql_history.specs.Readers.Calls.{site, decided, told_by_tries, told_of_work, told_by_others}
-use Rattle.dsql_history.specs.Readers.Course.{db_end}
+use Rattle.dsql_history.specs.Readers.Calls.{site, decided, told_by_tries, told_of_work, told_by_others, asks_nothing, rests}
+use Rattle.dsql_history.specs.Readers.Course.{caps, db_end}
 use Rattle.dsql_history.specs.Readers.HandedOut.{rows_by, live, over, are_live, ended_at, ender}
 use Rattle.dsql_history.specs.Readers.Pool.{pool, smallest}
 use Rattle.dsql_history.specs.Readers.Tries.{tries, asks_again}
 use Rattle.dsql_history.specs.Readers.Unfinished.{is_unfinished}
 use Rattle.dsql_history.specs.Readers.Works.{work, is_fetch}
 use Rattle.dsql_history.specs.Rules.Line.{line_of, wish_as, wish, sent_for, due_in, due_for}
-use Rattle.dsql_history.specs.Rules.Stands.{stands, opens, stand}
+use Rattle.dsql_history.specs.Rules.Stands.{stands, opens, stand, has_to_reply}
 use Rattle.dsql_history.specs.Legal.{Lawful}
 use Rattle.dsql_laws.proofs.OwedAllowed.{or_first, or_second}
 use Rattle.dsql_laws.proofs.Tests.{both, together, same_itself, other_number}
@@ -66,18 +66,42 @@ either_stays c true a more h = refl
 either_stays true false a more h = let clash : false ≡ true = more refl in absurd cc
 either_stays false false a more h = h
 
-pub stays_somewhere : (H K : List Event) (m : ℕ) → pool K ≡ pool H → tries K m ≡ tries H m → (is_settling H m ≡ true → is_settling K m ≡ true) → is_some (stand H m) ≡ true → is_some (stand K m) ≡ true
-stays_somewhere H K m same tried more h =
-    let w = waits m (pool H).waiting in
-    let o = smallest (is_for m) (pool H) in
-    let a = asks_again (tries H m) in
-    let replied = is_none (decided H m) && is_some (told_by_others H m) in
-    let replies = is_none (decided K m) && is_some (told_by_others K m) in
-    ap (λ p. is_some (standing p m (is_some (due_for K m)) (site K m) replies (asks_again (tries K m)))) same
-    ∙ (ap (λ ts. is_some (standing (pool H) m (is_some (due_for K m)) (site K m) replies (asks_again ts))) tried
-    ∙ (somewhere w o (is_some (due_for K m)) replies a (site K m)
-    ∙ carried w (is_some o) (is_settling H m || a) (is_settling K m || a) (either_stays (is_settling H m) (is_settling K m) a more)
-    (sym (somewhere w o (is_some (due_for H m)) replied a (site H m)) ∙ h)))
+pub settled_first : (d s t : Bool) → (d || (s || t)) ≡ ((d || t) || s)
+settled_first true s t = refl
+settled_first false true true = refl
+settled_first false true false = refl
+settled_first false false true = refl
+settled_first false false false = refl
+
+pub stays_somewhere : (H K : List Event) (m : ℕ) → pool K ≡ pool H → tries K m ≡ tries H m → rests K m ≡ rests H m → (is_settling H m ≡ true → is_settling K m ≡ true) → is_some (stand H m) ≡ true
+    → is_some (stand K m) ≡ true
+stays_somewhere H K m same tried rested more h =
+    ap (λ p. is_some (standing p m (is_some (due_for K m)) (site K m) (has_to_reply K m) (asks_again (tries K m)))) same
+    ∙ (ap (λ ts. is_some (standing (pool H) m (is_some (due_for K m)) (site K m) (has_to_reply K m) (asks_again ts))) tried
+    ∙ (somewhere w o (is_some (due_for K m)) (has_to_reply K m) a (site K m)
+    ∙ carried w (is_some o) (replies H || a) (replies K || a) (either_stays (replies H) (replies K) a goes_on)
+    (sym (somewhere w o (is_some (due_for H m)) (has_to_reply H m) a (site H m)) ∙ h)))
+  where
+    w : Bool
+    w = waits m (pool H).waiting
+
+    o : Option ℕ
+    o = smallest (is_for m) (pool H)
+
+    a : Bool
+    a = asks_again (tries H m)
+
+    replies : List Event → Bool
+    replies G = is_some (due_for G m) || has_to_reply G m
+
+    told : List Event → Bool
+    told G = is_none (decided G m) && is_some (told_by_others G m)
+
+    goes_on : replies H ≡ true → replies K ≡ true
+    goes_on g =
+        settled_first (is_some (due_for K m)) (rests K m) (told K)
+        ∙ (ap (λ s. is_settling K m || s) rested
+        ∙ either_stays (is_settling H m) (is_settling K m) (rests H m) more (sym (settled_first (is_some (due_for H m)) (rests H m) (told H)) ∙ g))
 
 -- by what it has to do
 
@@ -130,6 +154,13 @@ pub record Left (H : List Event) (e : Event) (m : ℕ) : Type 0 where
   pub end : db_end (e ∷ H) ≡ db_end H
   pub own : asks (work H m) ≡ true → line_of (e ∷ H) m wishes.Nothing ≡ line_of H m wishes.Nothing
   pub closing : (k : ℕ) → HasEnded H m k → line_of (e ∷ H) k wishes.Close ≡ line_of H k wishes.Close
+
+-- it rests as before
+pub rests_left : (H : List Event) (e : Event) (m : ℕ) → caps (e ∷ H) ≡ caps H → Left H e m → rests (e ∷ H) m ≡ rests H m
+rests_left H e m same s =
+    ap (λ b. b && asks_nothing (caps (e ∷ H)) (work (e ∷ H) m) (tries (e ∷ H) m)) (s.unfinished ∙ sym s.before)
+    ∙ (ap (λ can. is_unfinished H m && asks_nothing can (work (e ∷ H) m) (tries (e ∷ H) m)) same
+    ∙ (ap (λ it. is_unfinished H m && asks_nothing (caps H) it (tries (e ∷ H) m)) s.its_work ∙ ap (λ ts. is_unfinished H m && asks_nothing (caps H) (work H m) ts) s.tried))
 
 own_settling : (H : List Event) (e : Event) (m : ℕ) (it : Work) → Left H e m → work H m ≡ it → asks it ≡ true → settling_in (e ∷ H) m it ≡ settling_in H m it
 own_settling H e m it s is own =

@@ -1,5 +1,5 @@
 -- What is so after an answer on a lent connection, and once that was let go.
-use Rattle.std.proofs.Common.{◌≡◌, ◌≢◌, ℕ, ◌+◌, ◌≤◌, ◌<◌, ◌==◌, Bool, true, cond, List, [], ◌∷◌, length, Some, refl, sym, ap, subst, ◌∙◌, arith}
+use Rattle.std.proofs.Common.{◌≡◌, ◌≢◌, ℕ, ◌+◌, ◌≤◌, ◌==◌, Bool, true, cond, List, [], ◌∷◌, length, Some, refl, sym, ap, subst, ◌∙◌, arith}
 use Rattle.dsql_work.specs.Limits.{most_within_a_step}
 use Rattle.dsql_journal.specs.declared.entry.Entry.{Entry}
 use Rattle.dsql_history.specs.declared.event.Event.{Event}
@@ -19,7 +19,7 @@ use Rattle.dsql_desk.specs.Desk.{past, Stands}
 use Rattle.dsql_going.specs.declared.next.Next.{Next}
 use Rattle.dsql_going.specs.declared.next.Next.TheVariants.{Quiet}
 use Rattle.dsql_going.specs.Reaching.{CanPay, HasGoneOn}
-use Rattle.dsql_going.specs.Stepping.{events_of_a_step, GoesOnOrRests, Rests}
+use Rattle.dsql_going.specs.Stepping.{most_going_on, events_of_a_step, GoesOnOrRests, Rests}
 use Rattle.dsql_hearing.specs.declared.hear.Hearing.{Hearing}
 use Rattle.dsql_hearing.specs.Hearing.{LetsGo, MayHear, lent_to}
 use Rattle.dsql_hearing.proofs.Letting.{LentTo, few_let_go, lent_place, none_owed, settled_let_go}
@@ -31,8 +31,8 @@ pub record IsHeard (old new : Desk) (e : Entry) (n : ℕ) : Type 0 where
   pub at : LentTo (place (past old) e.conn) n
   pub came : past new ≡ Heard e ∷ past old
   pub settled : is_settled_but e.call_no (let_go e.conn n (Heard e ∷ past old)) ≡ true
-  pub paid : most_given_back + 2 ≤ new.paid
-  pub few : length (past new) + most_given_back < most_within_a_step
+  pub paid : most_given_back + most_going_on ≤ new.paid
+  pub few : length (past new) + (most_given_back + most_going_on) ≤ most_within_a_step
 
 pub heard_there : (old new : Desk) (e : Entry) (ready : Hearing) (n : ℕ) → CanPay old events_of_a_step → length (past old) + events_of_a_step ≤ most_within_a_step → MayHear (past old) e ready
     → lent_to (place (past old) e.conn) ≡ Some n → Appends old new (Heard e) → IsHeard old new e n
@@ -64,7 +64,7 @@ can_give_back old new e n h stands = record { stands = stands; paid = let paid =
 -- and then let go
 pub record IsLeft (old new : Desk) (e : Entry) (n : ℕ) : Type 0 where
   pub came : past new ≡ let_go e.conn n (Heard e ∷ past old)
-  pub pays : CanPay new 2
+  pub pays : CanPay new most_going_on
   pub settled : is_settled_but e.call_no (past new) ≡ true
 
 pub left_there : (old heard new : Desk) (e : Entry) (n : ℕ) → IsHeard old heard e n → LetsGo heard new e.conn n → IsLeft old new e n

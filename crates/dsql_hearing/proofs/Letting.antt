@@ -1,31 +1,30 @@
 -- An answer on a lent connection, and what is let go after it.
-use Rattle.std.proofs.Common.{◌≡◌, ℕ, ◌+◌, ◌≤◌, Bool, true, false, ◌&&◌, cond, List, [], ◌∷◌, length, Option, Some, None, refl, sym, ap, ◌∙◌, arith}
+use Rattle.std.proofs.Common.{◌≡◌, ℕ, ◌+◌, ◌≤◌, Bool, true, false, ◌||◌, cond, List, [], ◌∷◌, length, Option, Some, None, refl, sym, ap, ◌∙◌, arith}
 use Rattle.dsql_journal.specs.declared.entry.Entry.{Entry}
 use Rattle.dsql_journal.specs.declared.entry.Owner.TheVariants.{Call, Tx, Pin, House}
-use Rattle.dsql_journal.specs.Readers.{is_empty}
 use Rattle.dsql_pool.specs.declared.conn.Place.{Place}
 use Rattle.dsql_pool.specs.declared.conn.Place.TheVariants.{Idle, Lent, Opening, Closing}
 use Rattle.dsql_pool.specs.declared.moves.Move.{Move}
 use Rattle.dsql_work.specs.Line.{Asked}
 use Rattle.dsql_history.specs.declared.event.Event.{Event}
 use Rattle.dsql_history.specs.declared.event.Event.TheVariants.{Heard, Pool}
-use Rattle.dsql_history.specs.Readers.Calls.{user}
+use Rattle.dsql_history.specs.Readers.Calls.{rests, user}
 use Rattle.dsql_history.specs.Readers.Owed.{answered, given_back, owed}
 use Rattle.dsql_history.specs.Readers.Pool.{place, pool}
 use Rattle.dsql_history.specs.Readers.Unfinished.{is_unfinished}
 use Rattle.dsql_history.specs.Rules.Line.{is_used, may_come, sends_from}
-use Rattle.dsql_history.specs.Rules.Settled.{Settled, goes_on_but, is_settled_but, owes_nothing, uses_what_is_lent}
+use Rattle.dsql_history.specs.Rules.Settled.{Settled, goes_on_but, is_settled_but}
 use Rattle.dsql_history.specs.Legal.{Allowed, Lawful}
 use Rattle.dsql_laws.specs.Leaving.{MayLeave}
 use Rattle.dsql_laws.specs.OwedMade.{with_moves}
 use Rattle.dsql_laws.proofs.GivenBack.{back_made}
-use Rattle.dsql_laws.proofs.Tests.{together}
 use Rattle.dsql_call_laws.specs.Bounds.{most_given_back}
 use Rattle.dsql_call_laws.proofs.Owed.{few_given_back}
 use Rattle.dsql_lending_laws.proofs.Owners.{lent_asks}
 use Rattle.dsql_lending_laws.proofs.Stays.{asked_stays}
 use Rattle.dsql_sending_laws.proofs.Following.{whole_when_unused}
 use Rattle.dsql_heard_laws.proofs.Answered.{beside_heard, goes_on_heard, used_heard}
+use Rattle.dsql_move_laws.proofs.GivenUp.{settled_from}
 use Rattle.dsql_move_laws.proofs.Leaves.{given_settles}
 use Rattle.dsql_steps.specs.Groups.{let_go}
 use Rattle.dsql_exchanged.specs.declared.statement.Statement.{Statement}
@@ -73,10 +72,6 @@ may_leave H e n l at unused = record {
 
 -- all but the call of the answer is settled once the connection was let go
 
-settled_from : (G : List Event) (n : ℕ) → owed G ≡ [] → uses_what_is_lent G ≡ true → goes_on_but n G ≡ true → is_settled_but n G ≡ true
-settled_from G n none used somewhere =
-    together (owes_nothing G) (uses_what_is_lent G && goes_on_but n G) (ap is_empty none) (together (uses_what_is_lent G) (goes_on_but n G) used somewhere)
-
 pub settled_let_go : (H : List Event) (e : Entry) (n : ℕ) → Lawful (Heard e ∷ H) → Settled H → LentTo (place H e.conn) n → is_settled_but e.call_no (let_go e.conn n (Heard e ∷ H)) ≡ true
 settled_let_go H e n l s at = by (is_used (Heard e ∷ H) n) refl
   where
@@ -87,7 +82,7 @@ settled_let_go H e n l s at = by (is_used (Heard e ∷ H) n) refl
     others = goes_on_heard H e at.tenure n l at.there s.somewhere
 
     by : (b : Bool) → is_used K n ≡ b → is_settled_but e.call_no (cond b K (with_moves (given_back K e.conn) K)) ≡ true
-    by true used = settled_from K e.call_no (none_owed H e n at) (used_heard H e at.tenure n l at.there s.used used) others
+    by true used = settled_from K e.call_no (none_owed H e n at) (used_heard H e at.tenure n l at.there s.used (ap (λ b. b || rests K n) used)) others
     by false unused =
         let may = may_leave H e n l at unused in
         let left = given_settles K e.conn l may in

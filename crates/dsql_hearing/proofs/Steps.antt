@@ -49,7 +49,7 @@ may_append desk e ready pays may = record {
       let paid = pays.paid in
       omega (arith, few, paid);
   allowed = may.allowed;
-  few = pays.few;
+  few = let room = pays.few in omega (arith, room);
 }
 
 -- where the connection isn't lent to a call

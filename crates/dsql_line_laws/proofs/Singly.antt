@@ -26,10 +26,9 @@ use Rattle.dsql_follows.specs.Sentences.{after_part, carries, enters_at_once, en
 use Rattle.dsql_step_laws.specs.Steps.{IsAtRest, IsStep, goes_by_itself, stepped}
 use Rattle.dsql_walk_laws.specs.Whole.{Steps}
 use Rattle.dsql_walk_laws.proofs.AddedUp.{no_steps, steps_made}
-use Rattle.dsql_walk_laws.proofs.Later.{first_and_more}
+use Rattle.dsql_walk_laws.proofs.Later.{step_is_its}
 use Rattle.dsql_line_laws.specs.Running.{FollowsTo}
 use Rattle.dsql_line_laws.proofs.AddedUp.{one_step}
-use Rattle.dsql_line_laws.proofs.InTurn.{steps_beginning}
 use Rattle.dsql_line_laws.proofs.Made.{its_call}
 use Rattle.dsql_line_laws.proofs.OnTheRun.{entry_first, part_of}
 
@@ -236,8 +235,7 @@ call_goes m client n first events rest whole busy its parked moves silent itself
     let there = met (Step client) m in
     let ps = passed there events in
     let steps = one m (Step client) first n events rest whole s (enters_none there n first itself) after in
-    let g = first_and_more there first n events s in
-    let its_step : (stepping there first == n) ≡ true = ap (λ k. k == n) (steps_beginning there n first itself g.begun) ∙ same_itself n in
+    let its_step : (stepping there first == n) ≡ true = ap (λ k. k == n) (step_is_its there first n events s) ∙ same_itself n in
     let goes : goes_on_by_itself n (oldest ps) ≡ true =
     ap (goes_on_by_itself n) s.oldest ∙ together (not (is_from_outside first)) (stepping there first == n) (ap not (from_inside n first itself)) its_step in
     stepping_once m client events (stepped there first n events) (stepped there first n events) steps

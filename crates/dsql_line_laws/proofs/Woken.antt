@@ -1,5 +1,5 @@
 -- What a call does that may move, and of which no driver call is under way.
-use Rattle.std.proofs.Common.{◌≡◌, ℕ, ◌==◌, ◌⊎◌, inl, inr, Bool, true, false, not, ◌&&◌, ◌||◌, cond, List, [], ◌∷◌, length, Option, Some, None, Ok, Err, is_none, is_some, refl, sym, ap, ◌∙◌, arith}
+use Rattle.std.proofs.Common.{◌≡◌, ℕ, ◌≤◌, ◌+◌, ◌==◌, ◌⊎◌, inl, inr, Bool, true, false, not, ◌&&◌, ◌||◌, cond, List, [], ◌∷◌, length, Option, Some, None, Ok, Err, is_some, refl, sym, ap, ◌∙◌, arith}
 use Rattle.std.specs.Prelude.{find}
 use Rattle.std.specs.List.{list_all}
 use Rattle.dsql_course.specs.Made.{or_else}
@@ -11,6 +11,7 @@ use Rattle.dsql_pool.specs.Places.{is_for}
 use Rattle.dsql_pool.specs.Calls.{wants}
 use Rattle.dsql_pool.specs.declared.conn.Conn.{Conn}
 use Rattle.dsql_pool.specs.Pooled.{Pooled, next_number, next_tenure}
+use Rattle.dsql_pool.specs.declared.moves.Move.{Move}
 use Rattle.dsql_pool.specs.declared.moves.Move.TheVariants.{OpenStart, Lend}
 use Rattle.dsql_pool.specs.declared.request.AskFault.TheVariants.{TooMany}
 use Rattle.dsql_pool.specs.declared.request.Asked.TheVariants as asked
@@ -22,8 +23,8 @@ use Rattle.dsql_history.specs.declared.record.Stand.TheVariants as stands_at
 use Rattle.dsql_history.specs.declared.reply.Reply.{Reply}
 use Rattle.dsql_history.specs.declared.reply.Reply.TheVariants as replies
 use Rattle.dsql_history.specs.Legal.{Lawful}
-use Rattle.dsql_history.specs.Readers.Calls.{decided, reply_due, site, told_by_others}
-use Rattle.dsql_history.specs.Readers.Owed.{owed}
+use Rattle.dsql_history.specs.Readers.Calls.{reply_due, rests, rests_with, site}
+use Rattle.dsql_history.specs.Readers.Owed.{given_back, owed}
 use Rattle.dsql_history.specs.Readers.Pool.{pool, request, smallest}
 use Rattle.dsql_history.specs.Readers.Tries.{asks_again, tries}
 use Rattle.dsql_history.specs.Readers.Unfinished.{is_unfinished, unfinished}
@@ -31,7 +32,8 @@ use Rattle.dsql_history.specs.Rules.Asking.{ask_outcome, may_ask}
 use Rattle.dsql_history.specs.Rules.Flights.{is_blocked, is_in_flight}
 use Rattle.dsql_history.specs.Rules.Line.{due_for}
 use Rattle.dsql_history.specs.Rules.Settled.{Settled}
-use Rattle.dsql_history.specs.Rules.Stands.{opens, stand, stands}
+use Rattle.dsql_history.specs.Rules.Stands.{has_to_reply, opens, stand, stands}
+use Rattle.dsql_laws.specs.OwedMade.{with_moves}
 use Rattle.dsql_laws.proofs.Counts.{uncounted, unmapped, waits_none}
 use Rattle.dsql_laws.proofs.Numbered.{unfinished_from_one}
 use Rattle.dsql_laws.proofs.Tests.{both, other_number, same_number, second, together}
@@ -42,7 +44,7 @@ use Rattle.dsql_follows.specs.Moments.{Moment}
 use Rattle.dsql_follows.specs.Splits.{is_sending}
 use Rattle.dsql_follows.specs.Turns.{can_move}
 use Rattle.dsql_follows.specs.Sentences.{is_whole}
-use Rattle.dsql_steps.specs.Groups.{after_settling, asked_so, gone_on, sends_nothing}
+use Rattle.dsql_steps.specs.Groups.{after_reply, after_settling, asked_so, given_up, gone_on, sends_nothing, unless_resting}
 use Rattle.dsql_step_laws.specs.Steps.{GoesByItself, IsAtRest}
 use Rattle.dsql_step_laws.proofs.Groups.{goes_on_by_one}
 use Rattle.dsql_line_laws.specs.Waking.{GoesOn, OnlySends}
@@ -108,14 +110,44 @@ goes_settled H n due u silent is =
 longer : (e : Event) (H : List Event) → e ∷ H ≡ H → ⊥
 longer e H same = let k : length (e ∷ H) ≡ length H = ap (λ (es : List Event). length es) same in absurd (omega (arith, k))
 
+moves_grow : (ms : List Move) (H : List Event) → length H ≤ length (with_moves ms H)
+moves_grow [] H = omega arith
+moves_grow (m ∷ ms) H = let rest = moves_grow ms (Pool m ∷ H) in let one : length (Pool m ∷ H) ≡ length H + 1 = omega arith in omega (arith, rest, one)
+
+giving_grows : (o : Option ℕ) (H : List Event) → length H ≤ length (given_up o H)
+giving_grows None H = omega arith
+giving_grows (Some c) H = moves_grow (given_back H c) H
+
+replying_grows : (n : ℕ) (due : Option Reply) (H : List Event) → length H ≤ length (after_reply n due H)
+replying_grows n None H = omega arith
+replying_grows n (Some reply) H = let before = giving_grows (rests_with H n) H in omega (arith, before)
+
+resting_grows : (n : ℕ) (H : List Event) (b : Bool) → length H ≤ length (cond b (after_reply n (reply_due H n) H) H)
+resting_grows n H true = replying_grows n (reply_due H n) H
+resting_grows n H false = omega arith
+
+-- a reply comes
+replies_more : (n : ℕ) (reply : Reply) (H : List Event) → after_reply n (Some reply) H ≡ H → ⊥
+replies_more n reply H same =
+    let before = giving_grows (rests_with H n) H in
+    let k : length (after_reply n (Some reply) H) ≡ length H = ap (λ (es : List Event). length es) same in
+    absurd (omega (arith, before, k))
+
+-- so it does where the call goes on at once
+longer_still : (n : ℕ) (e : Event) (H : List Event) → unless_resting n (e ∷ H) ≡ H → ⊥
+longer_still n e H same =
+    let more : length (e ∷ H) ≤ length (unless_resting n (e ∷ H)) = resting_grows n (e ∷ H) (sends_nothing (e ∷ H) n && rests (e ∷ H) n) in
+    let k : length (unless_resting n (e ∷ H)) ≡ length H = ap (λ (es : List Event). length es) same in
+    absurd (omega (arith, more, k))
+
 -- what an open database answers comes
 answer_comes : (n : ℕ) (H : List Event) (closed takes many may : Bool) (c t k : ℕ) → closed ≡ false
     → asked_so n (cond closed (Ok asked.Closed) (cond takes (Ok (asked.Lent c t)) (cond many (Err TooMany) (cond may (Ok (asked.Opening k)) (Ok asked.Queued))))) H ≡ H → ⊥
 answer_comes n H true takes many may c t k unclosed same = absurd cc
-answer_comes n H false true many may c t k unclosed same = longer (Pool (Lend c t (Call n) n)) H same
+answer_comes n H false true many may c t k unclosed same = longer_still n (Pool (Lend c t (Call n) n)) H same
 answer_comes n H false false true may c t k unclosed same = longer (Replied n replies.TooMany) H same
-answer_comes n H false false false true c t k unclosed same = longer (Pool (OpenStart k n)) H same
-answer_comes n H false false false false c t k unclosed same = longer (Waits n) H same
+answer_comes n H false false false true c t k unclosed same = longer_still n (Pool (OpenStart k n)) H same
+answer_comes n H false false false false c t k unclosed same = longer_still n (Waits n) H same
 
 -- who has nothing due and wants no connection replies what is settled, or asks and is answered
 moves_more : (H : List Event) (n : ℕ) → Lawful H → Settled H → is_unfinished H n ≡ true → is_some (due_for H n) ≡ false → wants n (pool H) ≡ false → gone_on n H ≡ H → ⊥
@@ -138,13 +170,13 @@ moves_more H n l settled u silent free same = by (reply_due H n) refl
         cc
 
     by : (o : Option Reply) → reply_due H n ≡ o → ⊥
-    by (Some reply) is = longer (Replied n reply) H (sym (goes_settled H n (Some reply) u silent is) ∙ same)
+    by (Some reply) is = replies_more n reply H (sym (goes_settled H n (Some reply) u silent is) ∙ same)
     by None is = asks is (may_ask H n) refl
 
 pub sends_or_goes : (m : Moment) (n : ℕ) → IsAtRest m → is_whole m ≡ true → Lawful m.past → Settled m.past → can_move m n ≡ true → is_in_flight n m.flights ≡ false → OnlySends m.past n ⊎ GoesOn m n
 sends_or_goes m n rest whole lawful settled moves parked =
     by
-    (unblocked m.flights n (waits n (pool H).waiting) (smallest (is_for n) (pool H)) (is_some (due_for H n)) (site H n) (is_none (decided H n) && is_some (told_by_others H n)) (asks_again (tries H n)) free
+    (unblocked m.flights n (waits n (pool H).waiting) (smallest (is_for n) (pool H)) (is_some (due_for H n)) (site H n) (has_to_reply H n) (asks_again (tries H n)) free
     (is_somewhere H n lawful settled unfinished_it))
   where
     H : List Event

@@ -9,11 +9,10 @@ ghost use Rattle.dsql_history.specs.declared.event.Op.{Op};
 ghost use Rattle.dsql_history.specs.Legal.{Lawful};
 ghost use Rattle.dsql_history.specs.Readers.Clients.{call_of, client_of, is_free, made_by};
 ghost use Rattle.dsql_history.specs.Readers.Course.{has_ended};
-ghost use Rattle.dsql_history.specs.Readers.Owed.{owed};
 ghost use Rattle.dsql_history.specs.Readers.Unfinished.{is_unfinished, unfinished};
 ghost use Rattle.dsql_history.specs.Rules.Flights.{is_in_flight};
 ghost use Rattle.dsql_follows.specs.Follows.{is_done};
-ghost use Rattle.dsql_follows.specs.Moments.{Moment, kept};
+ghost use Rattle.dsql_follows.specs.Moments.{Moment, kept, stepping};
 ghost use Rattle.dsql_follows.specs.Turns.{comes_in_turn, first_chore, has_run_out, is_turn_of, may_go};
 ghost use Rattle.dsql_step_laws.specs.Steps.{IsStep, goes_by_itself};
 ghost use Rattle.dsql_line_laws.specs.Running.{AllMade};
@@ -45,7 +44,7 @@ pub fn what_comes_in_turn()
     ensures chore { (m : Moment) (first : Event) (e : Entry) → first ≡ Heard e → e.call_no ≡ 0 → first_chore m ≡ Some e.conn → comes_in_turn m first ≡ true }
     ensures answer { (m : Moment) (first : Event) (e : Entry) → first ≡ Heard e → e.call_no ≢ 0 → is_turn_of m (client_of m.past e.call_no) ≡ true → is_unfinished m.past e.call_no ≡ true → comes_in_turn m first ≡ true }
     ensures entry { (m : Moment) (first : Event) (client n : ℕ) (op : Op) → first ≡ Entered client n op → is_turn_of m client ≡ true → is_free m.past client ≡ true → comes_in_turn m first ≡ true }
-    ensures itself { (m : Moment) (first : Event) (n : ℕ) → goes_by_itself n first ≡ true → owed m.past ≡ [] → is_turn_of m (client_of m.past n) ≡ true → is_in_flight n m.flights ≡ false → comes_in_turn m first ≡ true }
+    ensures itself { (m : Moment) (first : Event) (n : ℕ) → goes_by_itself n first ≡ true → stepping m first ≡ n → is_turn_of m (client_of m.past n) ≡ true → is_in_flight n m.flights ≡ false → comes_in_turn m first ≡ true }
     ensures end { (m : Moment) (first : Event) → first ≡ Ended → m.released ≡ true → has_ended m.past ≡ false → has_run_out m ≡ true → comes_in_turn m first ≡ true }
 {}
 

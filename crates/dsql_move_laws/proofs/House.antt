@@ -1,5 +1,5 @@
 -- An answer of the layer's own, with the moves that it makes due, carries all that is settled.
-use Rattle.std.proofs.Common.{◌≡◌, ℕ, ◌⊎◌, inl, inr, Bool, true, false, cond, List, [], ◌∷◌, Option, Some, None, refl, sym, ap, ◌∙◌, ◌&&◌}
+use Rattle.std.proofs.Common.{◌≡◌, ℕ, ◌⊎◌, inl, inr, Bool, true, false, cond, List, [], ◌∷◌, Option, Some, None, refl, sym, ap, ◌∙◌, ◌&&◌, ◌||◌, ◌==◌}
 use Rattle.dsql_driver.specs.declared.answer.DriverAnswer.{DriverAnswer}
 use Rattle.dsql_driver.specs.Fits.{is_done}
 use Rattle.dsql_course.specs.declared.course.Wish.{Wish}
@@ -20,6 +20,7 @@ use Rattle.dsql_pool.specs.Moved.{made}
 use Rattle.dsql_pool.specs.Places.{is_lent}
 use Rattle.dsql_pool.specs.Pooled.{Pooled, next_number, next_tenure, place_at}
 use Rattle.dsql_work.specs.Line.{line_after}
+use Rattle.dsql_history.specs.Readers.Calls.{asks_nothing, rests}
 use Rattle.dsql_history.specs.Readers.Works.{work}
 use Rattle.dsql_history.specs.Readers.Tries.{tries, loses, lost}
 use Rattle.dsql_history.specs.declared.event.Event.{Event}
@@ -30,7 +31,7 @@ use Rattle.dsql_history.specs.Readers.Journals.{heard_in}
 use Rattle.dsql_history.specs.Readers.Owed.{answered, owed}
 use Rattle.dsql_history.specs.Readers.Pool.{pool, place}
 use Rattle.dsql_history.specs.Readers.Unfinished.{is_unfinished}
-use Rattle.dsql_history.specs.Rules.Line.{is_reset_due, asked_by, line_of}
+use Rattle.dsql_history.specs.Rules.Line.{is_reset_due, asked_by, line_of, is_used}
 use Rattle.dsql_history.specs.Legal.{Lawful}
 use Rattle.dsql_laws.specs.OwedMade.{with_moves}
 use Rattle.dsql_laws.proofs.Tests.{other_number}
@@ -45,7 +46,7 @@ use Rattle.dsql_sending_laws.proofs.Sound.{sound}
 use Rattle.dsql_sending_laws.proofs.UnderWay.{UnderWay}
 use Rattle.dsql_other_laws.proofs.Alike.{used_alike, lent_alike}
 use Rattle.dsql_other_laws.proofs.ControlMoves.{openings_quiet}
-use Rattle.dsql_heard_laws.proofs.Settling.{Left, settling_stays, stays_somewhere}
+use Rattle.dsql_heard_laws.proofs.Settling.{Left, rests_left, settling_stays, stays_somewhere}
 use Rattle.dsql_move_laws.proofs.Carried.{Carried, carried_itself, carried_on, quiet_carried, IsUnlent, lend_carried, back_carried, close_carried, gone_carried, fell_carried}
 use Rattle.dsql_move_laws.proofs.Moved.{LentTo, lent_or_silent, goes_on_each}
 
@@ -75,10 +76,20 @@ line_elsewhere H e j w l off = by (lent_or_silent H j) (lent_or_silent (Heard e 
 same_rows : (H : List Event) (e : Entry) (j : ℕ) → Lawful (Heard e ∷ H) → IsUnlent H e.conn → rows_by (Heard e ∷ H) j ≡ rows_by H j
 same_rows H e j l off = of_rows H e j (rows_by (Heard e ∷ H) j ≡ rows_by H j) l.0 l.1 (sound H l.0) (λ u same. absurd (off e.tenure (Call u.holder) u.lent)) (λ same. same)
 
+-- an answer to the layer leaves who rests
+rests_elsewhere : (H : List Event) (e : Entry) (n : ℕ) → Lawful (Heard e ∷ H) → IsUnlent H e.conn → rests (Heard e ∷ H) n ≡ rests H n
+rests_elsewhere H e n l off = by (is_unfinished H n) refl
+  where
+    by : (b : Bool) → is_unfinished H n ≡ b → rests (Heard e ∷ H) n ≡ rests H n
+    by false u = ap (λ b. b && asks_nothing (caps H) (work H n) (tries (Heard e ∷ H) n)) u ∙ sym (ap (λ b. b && asks_nothing (caps H) (work H n) (tries H n)) u)
+    by true u =
+        let apart : (e.call_no == n) ≡ false = other_number e.call_no n (λ same. let some = unfinished_from_one H n l.0 u in some (sym same ∙ by_the_layer H e l off)) in
+        ap (λ b. is_unfinished H n && asks_nothing (caps H) (work H n) (cond (b && loses (work H n) e) (lost (tries H n)) (tries H n))) apart
+
 heard_carried : (H : List Event) (e : Entry) → Lawful (Heard e ∷ H) → IsUnlent H e.conn → Carried H (Heard e ∷ H)
 heard_carried H e l off = record {
-  used = λ h. lent_alike H (Heard e ∷ H) refl (λ n. used_alike H (Heard e ∷ H) n (same_rows H e n l off) (λ k w. line_elsewhere H e k w l off)) ∙ h;
-  somewhere = λ k h. goes_on_each H (Heard e ∷ H) k refl (λ j u so. stays_somewhere H (Heard e ∷ H) j refl (left j u).tried (settling_stays H (Heard e) j l (left j u)) so) h;
+  used = λ h. lent_alike H (Heard e ∷ H) refl (λ n. ap (λ b. b || rests (Heard e ∷ H) n) (used_alike H (Heard e ∷ H) n (same_rows H e n l off) (λ k w. line_elsewhere H e k w l off)) ∙ ap (λ b. is_used H n || b) (rests_elsewhere H e n l off)) ∙ h;
+  somewhere = λ k h. goes_on_each H (Heard e ∷ H) k refl (λ j u so. stays_somewhere H (Heard e ∷ H) j refl (left j u).tried (rests_left H (Heard e) j refl (left j u)) (settling_stays H (Heard e) j l (left j u)) so) h;
 }
   where
     left : (j : ℕ) → is_unfinished H j ≡ true → Left H (Heard e) j

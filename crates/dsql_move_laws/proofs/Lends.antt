@@ -1,6 +1,6 @@
 -- Who is lent a connection sends there at once, and nothing else changes.
-use Rattle.std.proofs.Common.{◌≡◌, ◌≢◌, ℕ, ◌==◌, ◌⊎◌, inl, inr, Bool, true, false, not, ◌&&◌, ◌||◌, cond, List, [], ◌∷◌, Option, Some, None, is_some, is_none, refl, sym, ap, ◌∙◌, arith, ◌+◌}
-use Rattle.std.specs.Prelude.{length}
+use Rattle.std.proofs.Common.{◌≡◌, ◌≢◌, ℕ, ◌==◌, ◌⊎◌, inl, inr, Bool, true, false, not, ◌&&◌, ◌||◌, cond, List, [], ◌∷◌, Option, Some, None, is_some, is_none, refl, sym, ap, ◌∙◌}
+use Rattle.std.specs.List.{list_any}
 use Rattle.dsql_driver.specs.declared.caps.Caps.{Caps}
 use Rattle.dsql_driver.specs.declared.call.DriverCall.TheVariants.{Valid}
 use Rattle.dsql_course.specs.declared.call.Due.TheVariants as due
@@ -31,26 +31,26 @@ use Rattle.dsql_work_laws.proofs.MadeLines.{body_before, first_call, first_of}
 use Rattle.dsql_history.specs.declared.event.Event.{Event}
 use Rattle.dsql_history.specs.declared.event.Event.TheVariants.{Pool}
 use Rattle.dsql_history.specs.declared.record.Stand.TheVariants as stands_at
+use Rattle.dsql_history.specs.declared.record.Try.{Try}
 use Rattle.dsql_history.specs.declared.record.Try.TheVariants.{Served}
-use Rattle.dsql_history.specs.Readers.Calls.{decided, site}
+use Rattle.dsql_history.specs.Readers.Calls.{asks_nothing, rests, told_by_others, decided, site}
 use Rattle.dsql_history.specs.Readers.Course.{caps}
 use Rattle.dsql_history.specs.Readers.HandedOut.{rows_by, live, over, are_live, ender}
 use Rattle.dsql_history.specs.Readers.Journals.{heard_in}
-use Rattle.dsql_history.specs.Readers.Pool.{pool, place, home}
-use Rattle.dsql_history.specs.Readers.Tries.{tries, with_try}
+use Rattle.dsql_history.specs.Readers.Pool.{smallest, pool, place, home}
+use Rattle.dsql_history.specs.Readers.Tries.{asks_again, tries, with_try}
 use Rattle.dsql_history.specs.Readers.Unfinished.{unfinished, is_unfinished}
 use Rattle.dsql_history.specs.Readers.Works.{work, is_fetch}
 use Rattle.dsql_history.specs.Rules.Line.{is_reset_due, asked_by, line_of, wish_as, wish, sent_for, due_in, due_for, rest_with, is_used}
-use Rattle.dsql_history.specs.Rules.Settled.{uses_what_is_lent, goes_on, goes_on_but}
-use Rattle.dsql_history.specs.Rules.Stands.{stand}
+use Rattle.dsql_history.specs.Rules.Settled.{is_kept, uses_what_is_lent, goes_on, goes_on_but}
+use Rattle.dsql_history.specs.Rules.Stands.{has_to_reply, stand}
 use Rattle.dsql_history.specs.Legal.{Lawful}
 use Rattle.dsql_laws.proofs.Numbered.{unfinished_from_one}
-use Rattle.dsql_laws.proofs.Standing.{stands_sending, stands_waiting}
+use Rattle.dsql_laws.proofs.Standing.{neither, none_opens, stands_sending, stands_waiting}
 use Rattle.dsql_laws.proofs.Tests.{second, same_itself, same_number, other_number}
-use Rattle.dsql_call_laws.specs.Pings.{answers_pings}
 use Rattle.dsql_call_laws.proofs.Lists.{same_or_not}
-use Rattle.dsql_call_laws.proofs.Pinged.{is_able, tried_able}
-use Rattle.dsql_call_laws.proofs.Untried.{moves_of}
+use Rattle.dsql_call_laws.proofs.Wanters.{lends_unfinished}
+use Rattle.dsql_call_laws.proofs.Untried.{moves_of, lends_unwanting}
 use Rattle.dsql_lending_laws.proofs.Found.{changed_place}
 use Rattle.dsql_lending_laws.proofs.Owners.{at_home, lent_asks, lent_number}
 use Rattle.dsql_lending_laws.proofs.Rows.{ender_over}
@@ -58,6 +58,11 @@ use Rattle.dsql_sending_laws.proofs.Answered.{same_lent}
 use Rattle.dsql_sending_laws.proofs.Invariant.{fresh_lending}
 use Rattle.dsql_sending_laws.proofs.Lines.{line_here}
 use Rattle.dsql_sending_laws.proofs.Sound.{sound}
+use Rattle.dsql_lending_laws.proofs.Cases.{true_false}
+use Rattle.dsql_laws.proofs.OwedAllowed.{or_first}
+use Rattle.dsql_laws.proofs.Wanting.{none_wanted}
+use Rattle.dsql_other_laws.specs.Told.{where_told}
+use Rattle.dsql_other_laws.proofs.Answered.{rests_there, replies_first}
 use Rattle.dsql_other_laws.proofs.Untouched.{or_second}
 use Rattle.dsql_heard_laws.proofs.Answered.{lent_used}
 use Rattle.dsql_heard_laws.proofs.Settling.{all_within}
@@ -83,7 +88,7 @@ unlent_before H c t n u j l is =
 unheard : (H : List Event) (c t n : ℕ) → Lawful (lends H c t n) → heard_in H c t ≡ []
 unheard H c t n l = let s = sound H l.0 in fresh_lending H c t (Call n) n l.0 l.1 (s.stands c)
 
-no_cursor : (o : Option Rows) → cursor_of o ≡ None → o ≡ None
+pub no_cursor : (o : Option Rows) → cursor_of o ≡ None → o ≡ None
 no_cursor None h = refl
 no_cursor (Some rows) h = absurd cc
 
@@ -104,7 +109,7 @@ no_rows H c t n l =
 
 -- the driver is sent something for it
 abbrev is_answered : Caps → Aim → Bool
-is_answered can aims.Ping = answers_pings can
+is_answered can aims.Ping = can.pinger || can.validator
 is_answered can _ = true
 
 first_due : (can : Caps) (asked : Asked) (w : Wish) → is_answered can asked.aim ≡ true → is_some (body_after can asked w []) ≡ true
@@ -125,32 +130,38 @@ first_due can asked w answered = rw (body_before can asked w [] refl, first_of c
     by_aim aims.HandOut h = by_fast (has_fast_way courses.Query can)
     by_aim aims.Ping h = by_ping can.pinger can.validator refl h
 
--- who is lent a connection has a driver that is sent something for it
+-- who doesn't rest with what it was lent has a driver that is sent something for it
 
-answered_aim : (can : Caps) (it : Work) → is_able can it ≡ true → is_answered can (aim_of it) ≡ true
-answered_aim can Execute h = refl
-answered_aim can (ReadOne dests) h = refl
-answered_aim can (HandOut label) h = refl
-answered_aim can Ping h = h
-answered_aim can (Fetch k) h = refl
-answered_aim can (Close k) h = refl
-answered_aim can Look h = refl
+answered_unless : (can : Caps) (it : Work) (ts : List Try) → asks_nothing can it (Served ∷ ts) ≡ false → is_answered can (aim_of it) ≡ true
+answered_unless can Execute ts h = refl
+answered_unless can (ReadOne dests) ts h = refl
+answered_unless can (HandOut label) ts h = refl
+answered_unless can Ping ts h = by (can.pinger || can.validator) h
+  where
+    by : (b : Bool) → not b ≡ false → b ≡ true
+    by true k = refl
+    by false k = absurd cc
+answered_unless can (Fetch k) ts h = refl
+answered_unless can (Close k) ts h = refl
+answered_unless can Look ts h = refl
 
-lent_answered : (H : List Event) (c t n : ℕ) → Lawful (lends H c t n) → is_answered (caps H) (aim_of (work H n)) ≡ true
-lent_answered H c t n l =
-    let K = lends H c t n in
-    let newest : length (tries K n) ≡ length (tries H n) + 1 = ap (λ b. length (with_try b Served (tries H n))) (same_itself n) ∙ omega arith in
-    answered_aim (caps H) (work H n) (tried_able K n l (lent_number K c t n l (lent_there H c t n l)) (omega (arith, newest)))
+newest_lent : (H : List Event) (c t n : ℕ) → tries (lends H c t n) n ≡ Served ∷ tries H n
+newest_lent H c t n = ap (λ b. with_try b Served (tries H n)) (same_itself n)
 
-sends_first : (H : List Event) (c t n : ℕ) (w : Wish) → Lawful (lends H c t n) → is_some (line_of (lends H c t n) n w) ≡ true
-sends_first H c t n w l =
+lent_answered : (H : List Event) (c t n : ℕ) → is_unfinished H n ≡ true → rests (lends H c t n) n ≡ false → is_answered (caps H) (aim_of (work H n)) ≡ true
+lent_answered H c t n u h =
+    answered_unless (caps H) (work H n) (tries H n)
+    (sym (ap (λ (b : Bool). b && asks_nothing (caps H) (work H n) (tries (lends H c t n) n)) u ∙ ap (asks_nothing (caps H) (work H n)) (newest_lent H c t n)) ∙ h)
+
+sends_first : (H : List Event) (c t n : ℕ) (w : Wish) → Lawful (lends H c t n) → is_answered (caps H) (aim_of (work H n)) ≡ true → is_some (line_of (lends H c t n) n w) ≡ true
+sends_first H c t n w l answered =
     let K = lends H c t n in
     ap (λ d. is_some d) (line_here K c t n w l (lent_there H c t n l))
     ∙ (ap (λ L. is_some (line_after (caps K) (is_reset_due K c) (asked_by K n) w L)) (unheard H c t n l) ∙ by (is_reset_due K c))
   where
     by : (b : Bool) → is_some (line_after (caps H) b (asked_by H n) w []) ≡ true
     by true = refl
-    by false = first_due (caps H) (asked_by H n) w (lent_answered H c t n l)
+    by false = first_due (caps H) (asked_by H n) w answered
 
 own_due : (H : List Event) (n : ℕ) (it : Work) → asks it ≡ true → due_in H n it ≡ line_of H n wishes.Nothing
 own_due H n Execute own = refl
@@ -161,14 +172,25 @@ own_due H n (Fetch k) own = absurd cc
 own_due H n (Close k) own = absurd cc
 own_due H n Look own = absurd cc
 
-pub due_lent : (H : List Event) (c t n : ℕ) → Lawful (lends H c t n) → is_unfinished H n ≡ true → is_some (due_for (lends H c t n) n) ≡ true
-due_lent H c t n l u =
+pub due_lent : (H : List Event) (c t n : ℕ) → Lawful (lends H c t n) → is_unfinished H n ≡ true → rests (lends H c t n) n ≡ false → is_some (due_for (lends H c t n) n) ≡ true
+due_lent H c t n l u restless =
     let K = lends H c t n in
     ap (λ (b : Bool). is_some (cond b (due_in K n (work H n)) None)) u
-    ∙ (ap (λ d. is_some d) (own_due K n (work H n) (lent_asks K c t n l (lent_there H c t n l))) ∙ sends_first H c t n wishes.Nothing l)
+    ∙ (ap (λ d. is_some d) (own_due K n (work H n) (lent_asks K c t n l (lent_there H c t n l))) ∙ sends_first H c t n wishes.Nothing l (lent_answered H c t n u restless))
 
-pub used_lent : (H : List Event) (c t n : ℕ) → Lawful (lends H c t n) → is_used (lends H c t n) n ≡ true
-used_lent H c t n l = ap (λ o. live o || is_some (rest_with (lends H c t n) n o)) (no_rows H c t n l) ∙ sends_first H c t n wishes.Nothing l
+used_lent : (H : List Event) (c t n : ℕ) → Lawful (lends H c t n) → is_unfinished H n ≡ true → rests (lends H c t n) n ≡ false → is_used (lends H c t n) n ≡ true
+used_lent H c t n l u restless =
+    ap (λ o. live o || is_some (rest_with (lends H c t n) n o)) (no_rows H c t n l) ∙ sends_first H c t n wishes.Nothing l (lent_answered H c t n u restless)
+
+pub unfinished_lent : (H : List Event) (c t n : ℕ) → Lawful (lends H c t n) → is_unfinished H n ≡ true
+unfinished_lent H c t n l = lends_unfinished H c t (Call n) n l.0 l.1 (lent_number (lends H c t n) c t n l (lent_there H c t n l))
+
+pub kept_lent : (H : List Event) (c t n : ℕ) → Lawful (lends H c t n) → is_kept (lends H c t n) n ≡ true
+kept_lent H c t n l = by (rests (lends H c t n) n) refl
+  where
+    by : (b : Bool) → rests (lends H c t n) n ≡ b → is_kept (lends H c t n) n ≡ true
+    by true is = or_second (is_used (lends H c t n) n) (rests (lends H c t n) n) is
+    by false is = or_first (is_used (lends H c t n) n) (rests (lends H c t n) n) (used_lent H c t n l (unfinished_lent H c t n l) is)
 
 own_user : (it : Work) (n : ℕ) → asks it ≡ true → user_of it n ≡ n
 own_user Execute n own = refl
@@ -179,12 +201,34 @@ own_user (Fetch k) n own = absurd cc
 own_user (Close k) n own = absurd cc
 own_user Look n own = absurd cc
 
-pub stands_lent : (H : List Event) (c t n : ℕ) → Lawful (lends H c t n) → is_unfinished H n ≡ true → stand (lends H c t n) n ≡ Some (stands_at.Sends c)
-stands_lent H c t n l u =
-    let K = lends H c t n in
-    let at = lent_there H c t n l in
-    let there : site K n ≡ c = ap (home K) (own_user (work H n) n (lent_asks K c t n l at)) ∙ at_home K c t n l at in
-    stands_sending K n l (unfinished_from_one H n l.0 u) (due_lent H c t n l u) ∙ ap (λ d. Some (stands_at.Sends d)) there
+-- it sends what is due, or replies where it rests
+pub stands_lent : (H : List Event) (c t n : ℕ) → Lawful (lends H c t n) → stand (lends H c t n) n ≡ Some (cond (is_some (due_for (lends H c t n) n)) (stands_at.Sends c) stands_at.Replies)
+stands_lent H c t n l = by (is_some (due_for (lends H c t n) n)) refl
+  where
+    K : List Event
+    K = lends H c t n
+
+    at : place K c ≡ Some (Lent t (Call n))
+    at = lent_there H c t n l
+
+    u : is_unfinished H n ≡ true
+    u = unfinished_lent H c t n l
+
+    some : n ≢ 0
+    some = unfinished_from_one H n l.0 u
+
+    rested : (b : Bool) → rests K n ≡ b → is_some (due_for K n) ≡ false → stand K n ≡ Some stands_at.Replies
+    rested true is none =
+        let unwanting = neither (waits n (pool K).waiting) (list_any (λ conn. is_for n conn.place) (pool K).conns) (none_wanted n (pool K) (lends_unwanting H c t (Call n) n l some)) in
+        rests_there (waits n (pool K).waiting) (is_some (due_for K n)) (smallest (is_for n) (pool K)) (site K n) (where_told K n) unwanting.0 (none_opens n (pool K) unwanting.1) none
+        ∙ replies_first (has_to_reply K n) (asks_again (tries K n)) (or_first (rests K n) (is_none (decided K n) && is_some (told_by_others K n)) is)
+    rested false is none = absurd (true_false (is_some (due_for K n)) (due_lent H c t n l u is) none)
+
+    by : (b : Bool) → is_some (due_for K n) ≡ b → stand K n ≡ Some (cond b (stands_at.Sends c) stands_at.Replies)
+    by true due =
+        let there : site K n ≡ c = ap (home K) (own_user (work H n) n (lent_asks K c t n l at)) ∙ at_home K c t n l at in
+        stands_sending K n l some due ∙ ap (λ d. Some (stands_at.Sends d)) there
+    by false none = rested (rests K n) refl none
 
 -- the other calls
 
@@ -231,7 +275,7 @@ used_beside H c t n d u j l is = used_off H (Lend c t (Call n) n) d u j l (λ sa
 
 pub all_used : (H : List Event) (c t n : ℕ) → Lawful (lends H c t n) → uses_what_is_lent H ≡ true → uses_what_is_lent (lends H c t n) ≡ true
 all_used H c t n l h =
-    used_moved H (Lend c t (Call n) n) l (λ d u o is apart. lent_used H d u o h is) (λ u o is. ap (is_used (lends H c t n)) (owner (place (lends H c t n) c) u o is (lent_there H c t n l)) ∙ used_lent H c t n l)
+    used_moved H (Lend c t (Call n) n) l (λ d u o is apart. lent_used H d u o h is) (λ u o is. ap (is_kept (lends H c t n)) (owner (place (lends H c t n) c) u o is (lent_there H c t n l)) ∙ kept_lent H c t n l)
   where
     owner : (p : Option Place) (u : ℕ) (o : Owner) → p ≡ Some (Lent u o) → p ≡ Some (Lent t (Call n)) → number_of o ≡ n
     owner p u o a b = let same : Lent u o ≡ Lent t (Call n) = cc in ap owned same
@@ -273,8 +317,7 @@ some_stand H c t n j l u so = by (same_or_not j n)
   where
     by : (j ≡ n) ⊎ (j ≢ n) → is_some (stand (lends H c t n) j) ≡ true
     by (inl same) =
-        let its : is_unfinished H n ≡ true = ap (is_unfinished H) (sym same) ∙ u in
-        ap (λ k. is_some (stand (lends H c t n) k)) same ∙ ap (λ s. is_some s) (stands_lent H c t n l its)
+        ap (λ k. is_some (stand (lends H c t n) k)) same ∙ ap (λ s. is_some s) (stands_lent H c t n l)
     by (inr apart) = stays_somewhere H (Lend c t (Call n) n) j l.1 (lends_left H c t n j l apart) (so apart)
 
 pub itself_lent : (H : List Event) (c t n : ℕ) → Lawful (lends H c t n) → goes_on_but n H ≡ true → goes_on (lends H c t n) ≡ true

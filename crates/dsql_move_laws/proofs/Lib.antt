@@ -7,3 +7,5 @@ pub mod Carried
 pub mod House
 pub mod Leaves
 pub mod Shut
+pub mod Rested
+pub mod GivenUp

@@ -1,5 +1,5 @@
 -- What a move leaves of the connections beside its own, and of the calls that it isn't of.
-use Rattle.std.proofs.Common.{◌≡◌, ◌≢◌, ℕ, ◌==◌, ◌⊎◌, inl, inr, Bool, true, false, ◌&&◌, ◌||◌, cond, List, ◌∷◌, Option, Some, None, is_some, is_none, nat_le, refl, sym, ap, ◌∙◌}
+use Rattle.std.proofs.Common.{◌≡◌, ◌≢◌, ℕ, ◌==◌, ◌⊎◌, inl, inr, Bool, true, false, ◌&&◌, ◌||◌, cond, List, [], ◌∷◌, Option, Some, None, is_some, is_none, nat_le, refl, sym, ap, ◌∙◌, arith}
 use Rattle.std.specs.List.{list_all}
 use Rattle.std.specs.Prelude.{find}
 use Rattle.std.specs.Option.{option_map}
@@ -22,29 +22,38 @@ use Rattle.dsql_pool.specs.Pooled.{next_number}
 use Rattle.dsql_work.specs.declared.work.Work.{Work}
 use Rattle.dsql_work.specs.declared.work.Work.TheVariants.{Execute, ReadOne, HandOut, Ping, Fetch, Close, Look}
 use Rattle.dsql_work.specs.Line.{line_after}
+use Rattle.dsql_driver.specs.declared.caps.Caps.{Caps}
 use Rattle.dsql_history.specs.declared.event.Event.{Event}
+use Rattle.dsql_history.specs.declared.record.Try.{Try}
+use Rattle.dsql_history.specs.declared.record.Try.TheVariants.{Served, Lost, Refused}
 use Rattle.dsql_history.specs.declared.event.Event.TheVariants.{Pool}
-use Rattle.dsql_history.specs.Readers.Calls.{site, decided, told_by_tries, told_of_work, told_by_others}
+use Rattle.dsql_history.specs.Readers.Calls.{asks_nothing, rests, site, decided, told_by_tries, told_of_work, told_by_others}
 use Rattle.dsql_history.specs.Readers.Course.{caps}
 use Rattle.dsql_history.specs.Readers.HandedOut.{rows_by, are_live}
 use Rattle.dsql_history.specs.Readers.Journals.{heard_in}
 use Rattle.dsql_history.specs.Readers.Pool.{pool, place, home, smallest, wanted_by}
-use Rattle.dsql_history.specs.Readers.Tries.{tries, asks_again}
+use Rattle.dsql_history.specs.Readers.Tries.{tries, asks_again, newest_answer, with_try}
 use Rattle.dsql_history.specs.Readers.Unfinished.{unfinished, is_unfinished}
 use Rattle.dsql_history.specs.Readers.Works.{work, is_fetch}
 use Rattle.dsql_history.specs.Rules.Line.{is_reset_due, asked_by, line_at, line_of, wish_as, wish, sent_for, due_in, due_for, rest_with, is_used}
-use Rattle.dsql_history.specs.Rules.Settled.{is_in_use, uses_what_is_lent, goes_on_but}
-use Rattle.dsql_history.specs.Rules.Stands.{stand}
+use Rattle.dsql_history.specs.Rules.Settled.{is_kept, is_in_use, uses_what_is_lent, goes_on_but}
+use Rattle.dsql_history.specs.Rules.Stands.{has_to_reply, stand}
 use Rattle.dsql_history.specs.Legal.{Allowed, Lawful}
-use Rattle.dsql_laws.proofs.Tests.{same_number}
+use Rattle.dsql_laws.proofs.OwedAllowed.{or_first}
+use Rattle.dsql_laws.proofs.Tests.{both, together, same_number, other_number}
+use Rattle.dsql_laws.proofs.Wanting.{wanted}
+use Rattle.dsql_call_laws.proofs.Untried.{fallen_wanted}
 use Rattle.dsql_call_laws.proofs.Enders.{same_ender}
 use Rattle.dsql_call_laws.proofs.Lists.{same_or_not}
 use Rattle.dsql_lending_laws.proofs.Found.{place_in, uses_in, changed_off, gone_off, begun_off}
 use Rattle.dsql_lending_laws.proofs.Lent.{move_facts}
-use Rattle.dsql_lending_laws.proofs.Owners.{owner_is_call}
+use Rattle.dsql_lending_laws.proofs.Owners.{owner_is_call, lent_number}
+use Rattle.dsql_lending_laws.proofs.Wanted.{lent_wants_none}
 use Rattle.dsql_sending_laws.proofs.Lines.{line_here}
 use Rattle.dsql_other_laws.proofs.Entries.{tries_alike}
-use Rattle.dsql_heard_laws.proofs.Settling.{is_settling, somewhere, all_within}
+use Rattle.dsql_other_laws.proofs.Untouched.{or_second}
+use Rattle.dsql_heard_laws.proofs.Alone.{either}
+use Rattle.dsql_heard_laws.proofs.Settling.{is_settling, settled_first, somewhere, all_within}
 use Rattle.dsql_move_laws.specs.Beside.{UsedBeside}
 use Rattle.dsql_move_laws.proofs.Once.{once, all_found, found_number, found_some}
 
@@ -88,28 +97,71 @@ used_same H m j same = ap (λ d. are_live H j || is_some d) (rest_same H m j (ro
 pub used_off : (H : List Event) (m : Move) (d u j : ℕ) → Lawful (Pool m ∷ H) → d ≢ conn_moved m → place H d ≡ Some (Lent u (Call j)) → is_used (Pool m ∷ H) j ≡ is_used H j
 used_off H m d u j l apart at = used_same H m j (λ w. line_off H m d u j w l apart at)
 
-used_owner : (H : List Event) (m : Move) (d u : ℕ) (o : Owner) → Lawful (Pool m ∷ H) → d ≢ conn_moved m → place H d ≡ Some (Lent u o) → is_used (Pool m ∷ H) (number_of o) ≡ is_used H (number_of o)
-used_owner H m d u o l apart at = by o (owner_is_call H d u o l.0 at) at
+-- who rests with a connection beside it does so still
+
+served_rests : (can : Caps) (it : Work) (ts more : List Try) → asks_nothing can it ts ≡ true → asks_nothing can it (Served ∷ more) ≡ true
+served_rests can Ping [] more h = absurd cc
+served_rests can Ping (Served ∷ ts) more h = h
+served_rests can Ping (Lost ∷ ts) more h = absurd cc
+served_rests can Ping (Refused answer ∷ ts) more h = absurd cc
+served_rests can Execute ts more h = absurd cc
+served_rests can (ReadOne dests) ts more h = absurd cc
+served_rests can (HandOut label) ts more h = absurd cc
+served_rests can (Fetch k) ts more h = absurd cc
+served_rests can (Close k) ts more h = absurd cc
+served_rests can Look ts more h = absurd cc
+
+lends_rest : (can : Caps) (it : Work) (b : Bool) (ts : List Try) → asks_nothing can it ts ≡ true → asks_nothing can it (with_try b Served ts) ≡ true
+lends_rest can it true ts h = served_rests can it ts ts h
+lends_rest can it false ts h = h
+
+rests_off : (H : List Event) (m : Move) (d u j : ℕ) → Lawful (Pool m ∷ H) → place H d ≡ Some (Lent u (Call j)) → rests H j ≡ true → rests (Pool m ∷ H) j ≡ true
+rests_off H (Lend c t o n) d u j l at h =
+    let b = both (is_unfinished H j) (asks_nothing (caps H) (work H j) (tries H j)) h in
+    together (is_unfinished H j) (asks_nothing (caps H) (work H j) (with_try (n == j) Served (tries H j))) b.0 (lends_rest (caps H) (work H j) (n == j) (tries H j) b.1)
+rests_off H (Fell c n) d u j l at h = by (same_or_not n j)
   where
-    by : (p : Owner) → is_call p ≡ true → place H d ≡ Some (Lent u p) → is_used (Pool m ∷ H) (number_of p) ≡ is_used H (number_of p)
-    by (Call j) is there = used_off H m d u j l apart there
-    by (Tx j) is there = absurd cc
-    by (Pin j) is there = absurd cc
-    by House is there = absurd cc
+    by : (n ≡ j) ⊎ (n ≢ j) → rests (Pool (Fell c n) ∷ H) j ≡ true
+    by (inl same) =
+        let some : n ≢ 0 = λ none. let one = lent_number H d u j l.0 at in one (sym same ∙ none) in
+        let now = fallen_wanted H c n l.1 some in
+        let none = lent_wants_none H d u j l.0 at in
+        let its : wanted n (pool H) ≡ 0 = ap (λ i. wanted i (pool H)) same ∙ none in
+        absurd (omega (arith, now, its))
+    by (inr apart) = ap (λ b. is_unfinished H j && asks_nothing (caps H) (work H j) (with_try b (Refused (newest_answer H)) (tries H j))) (other_number n j apart) ∙ h
+rests_off H (OpenStart c n) d u j l at h = h
+rests_off H (Back c) d u j l at h = h
+rests_off H (CloseStart c why) d u j l at h = h
+rests_off H (Gone c) d u j l at h = h
+
+kept_off : (H : List Event) (m : Move) (d u j : ℕ) → Lawful (Pool m ∷ H) → d ≢ conn_moved m → place H d ≡ Some (Lent u (Call j)) → is_kept H j ≡ true → is_kept (Pool m ∷ H) j ≡ true
+kept_off H m d u j l apart at h = by (either (is_used H j) (rests H j) h)
+  where
+    by : (is_used H j ≡ true) ⊎ (rests H j ≡ true) → is_kept (Pool m ∷ H) j ≡ true
+    by (inl used) = or_first (is_used (Pool m ∷ H) j) (rests (Pool m ∷ H) j) (used_off H m d u j l apart at ∙ used)
+    by (inr rested) = or_second (is_used (Pool m ∷ H) j) (rests (Pool m ∷ H) j) (rests_off H m d u j l at rested)
+
+kept_owner : (H : List Event) (m : Move) (d u : ℕ) (o : Owner) → Lawful (Pool m ∷ H) → d ≢ conn_moved m → place H d ≡ Some (Lent u o) → is_kept H (number_of o) ≡ true → is_kept (Pool m ∷ H) (number_of o) ≡ true
+kept_owner H m d u o l apart at h = by o (owner_is_call H d u o l.0 at) at h
+  where
+    by : (p : Owner) → is_call p ≡ true → place H d ≡ Some (Lent u p) → is_kept H (number_of p) ≡ true → is_kept (Pool m ∷ H) (number_of p) ≡ true
+    by (Call j) is there was = kept_off H m d u j l apart there was
+    by (Tx j) is there was = absurd cc
+    by (Pin j) is there was = absurd cc
+    by House is there was = absurd cc
 
 -- where each lent connection beside it was in use, and its own is, if it is lent after it, all are
 pub used_moved : (H : List Event) (m : Move) → Lawful (Pool m ∷ H) → UsedBeside H (conn_moved m)
-    → ((u : ℕ) (o : Owner) → place (Pool m ∷ H) (conn_moved m) ≡ Some (Lent u o) → is_used (Pool m ∷ H) (number_of o) ≡ true) → uses_what_is_lent (Pool m ∷ H) ≡ true
+    → ((u : ℕ) (o : Owner) → place (Pool m ∷ H) (conn_moved m) ≡ Some (Lent u o) → is_kept (Pool m ∷ H) (number_of o) ≡ true) → uses_what_is_lent (Pool m ∷ H) ≡ true
 used_moved H m l beside own = all_found (λ conn. is_in_use (Pool m ∷ H) conn.place) (pool (Pool m ∷ H)).conns (once (Pool m ∷ H)) each
   where
     each : (x : Conn) → conn_of x.number (pool (Pool m ∷ H)).conns ≡ Some x → is_in_use (Pool m ∷ H) x.place ≡ true
     each x found = by x.place refl
       where
-        used : (u : ℕ) (o : Owner) → place (Pool m ∷ H) x.number ≡ Some (Lent u o) → (x.number ≡ conn_moved m) ⊎ (x.number ≢ conn_moved m) → is_used (Pool m ∷ H) (number_of o) ≡ true
+        used : (u : ℕ) (o : Owner) → place (Pool m ∷ H) x.number ≡ Some (Lent u o) → (x.number ≡ conn_moved m) ⊎ (x.number ≢ conn_moved m) → is_kept (Pool m ∷ H) (number_of o) ≡ true
         used u o at (inl same) = own u o (sym (ap (place (Pool m ∷ H)) same) ∙ at)
         used u o at (inr apart) =
-            let before : place H x.number ≡ Some (Lent u o) = sym (place_beside H m x.number l.1 apart) ∙ at in
-            used_owner H m x.number u o l apart before ∙ beside x.number u o before apart
+            let before : place H x.number ≡ Some (Lent u o) = sym (place_beside H m x.number l.1 apart) ∙ at in kept_owner H m x.number u o l apart before (beside x.number u o before apart)
 
         by : (p : Place) → x.place ≡ p → is_in_use (Pool m ∷ H) p ≡ true
         by (Lent u o) is = used u o (ap place_in found ∙ ap Some is) (same_or_not x.number (conn_moved m))
@@ -195,11 +247,16 @@ each_of true b c false false f p q r h = let clash : false ≡ true = p refl in 
 each_of false true c false false f p q r h = let clash : false ≡ true = q refl in absurd cc
 each_of false false c false false f p q r h = r h
 
-pub stands_somewhere : (H : List Event) (j : ℕ) → is_some (stand H j) ≡ (waits j (pool H).waiting || (is_some (smallest (is_for j) (pool H)) || (is_settling H j || asks_again (tries H j))))
-stands_somewhere H j =
-    somewhere (waits j (pool H).waiting) (smallest (is_for j) (pool H)) (is_some (due_for H j)) (is_none (decided H j) && is_some (told_by_others H j)) (asks_again (tries H j)) (site H j)
+-- it goes on, or rests
+abbrev pub is_there : List Event → ℕ → Bool
+is_there H j = is_settling H j || rests H j
 
-told_same : (H : List Event) (m : Move) (j : ℕ) → tries (Pool m ∷ H) j ≡ tries H j → told_by_others (Pool m ∷ H) j ≡ told_by_others H j
+pub stands_somewhere : (H : List Event) (j : ℕ) → is_some (stand H j) ≡ (waits j (pool H).waiting || (is_some (smallest (is_for j) (pool H)) || (is_there H j || asks_again (tries H j))))
+stands_somewhere H j =
+    somewhere (waits j (pool H).waiting) (smallest (is_for j) (pool H)) (is_some (due_for H j)) (has_to_reply H j) (asks_again (tries H j)) (site H j)
+    ∙ ap (λ b. waits j (pool H).waiting || (is_some (smallest (is_for j) (pool H)) || (b || asks_again (tries H j)))) (settled_first (is_some (due_for H j)) (rests H j) (is_none (decided H j) && is_some (told_by_others H j)))
+
+pub told_same : (H : List Event) (m : Move) (j : ℕ) → tries (Pool m ∷ H) j ≡ tries H j → told_by_others (Pool m ∷ H) j ≡ told_by_others H j
 told_same H m j same = by (work H j)
   where
     own : told_of_work (Pool m ∷ H) j Execute ≡ told_of_work H j Execute
@@ -249,9 +306,10 @@ stays_somewhere H m j a s h =
     let settling : is_settling K j ≡ is_settling H j =
     ap (λ d. is_some d || (is_none (decided H j) && is_some (told_by_others K j))) s.due ∙ ap (λ o. is_some (due_for H j) || (is_none (decided H j) && is_some o)) (told_same H m j s.tried)
     in
+    let there : is_there K j ≡ is_there H j = ap (λ b. b || rests K j) settling ∙ ap (λ ts. is_settling H j || (is_unfinished H j && asks_nothing (caps H) (work H j) ts)) s.tried in
     stands_somewhere K j
-    ∙ each_of (waits j (pool H).waiting) (is_some (smallest (is_for j) (pool H))) (is_settling H j || asks_again (tries H j)) (waits j (pool K).waiting) (is_some (smallest (is_for j) (pool K))) (is_settling K j || asks_again (tries K j)) s.waits
-    (opening_stays H m j a s.unopened) (λ k. ap (λ b. b || asks_again (tries K j)) settling ∙ ap (λ ts. is_settling H j || asks_again ts) s.tried ∙ k) (sym (stands_somewhere H j) ∙ h)
+    ∙ each_of (waits j (pool H).waiting) (is_some (smallest (is_for j) (pool H))) (is_there H j || asks_again (tries H j)) (waits j (pool K).waiting) (is_some (smallest (is_for j) (pool K))) (is_there K j || asks_again (tries K j)) s.waits
+    (opening_stays H m j a s.unopened) (λ k. ap (λ b. b || asks_again (tries K j)) there ∙ ap (λ ts. is_there H j || asks_again ts) s.tried ∙ k) (sym (stands_somewhere H j) ∙ h)
 
 -- who was somewhere is so after it, where each unfinished call is that was
 pub goes_on_each : (H K : List Event) (k : ℕ) → unfinished K ≡ unfinished H → ((j : ℕ) → is_unfinished H j ≡ true → is_some (stand H j) ≡ true → is_some (stand K j) ≡ true) → goes_on_but k H ≡ true

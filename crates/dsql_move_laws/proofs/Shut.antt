@@ -26,11 +26,10 @@ use Rattle.dsql_history.specs.declared.event.Event.{Event}
 use Rattle.dsql_history.specs.declared.event.Event.TheVariants.{Entered, Ended}
 use Rattle.dsql_history.specs.declared.event.Op.TheVariants.{DbClose}
 use Rattle.dsql_history.specs.declared.record.Try.{Try}
-use Rattle.dsql_history.specs.declared.record.Try.TheVariants.{Served, Refused}
 use Rattle.dsql_history.specs.declared.reply.DbEnd.{DbEnd}
 use Rattle.dsql_history.specs.declared.reply.DbEnd.TheVariants as ends
 use Rattle.dsql_history.specs.declared.reply.Reply.TheVariants.{DbClosed}
-use Rattle.dsql_history.specs.Readers.Calls.{decided, next_call, told_by_tries, told_of_work, told_by_others, last_told}
+use Rattle.dsql_history.specs.Readers.Calls.{rests, decided, next_call, told_by_tries, told_of_work, told_by_others, last_told}
 use Rattle.dsql_history.specs.Readers.Course.{caps, db_end, or_end}
 use Rattle.dsql_history.specs.Readers.HandedOut.{handed_out, rows_by, live}
 use Rattle.dsql_history.specs.Readers.Journals.{heard_in}
@@ -40,7 +39,7 @@ use Rattle.dsql_history.specs.Readers.Tries.{tries, try_number, has_a_try, asks_
 use Rattle.dsql_history.specs.Readers.Unfinished.{unfinished, is_unfinished}
 use Rattle.dsql_history.specs.Readers.Works.{work}
 use Rattle.dsql_history.specs.Rules.Line.{is_reset_due, asked_by, line_of, due_for, rest_with, is_used}
-use Rattle.dsql_history.specs.Rules.Settled.{is_in_use, uses_what_is_lent, goes_on, goes_on_but}
+use Rattle.dsql_history.specs.Rules.Settled.{is_in_use, is_kept, uses_what_is_lent, goes_on, goes_on_but}
 use Rattle.dsql_history.specs.Rules.Stands.{stand}
 use Rattle.dsql_history.specs.Legal.{Lawful}
 use Rattle.dsql_laws.specs.OwedMade.{with_moves}
@@ -61,13 +60,14 @@ use Rattle.dsql_other_laws.proofs.Alike.{due_alike, used_alike}
 use Rattle.dsql_other_laws.proofs.Answered.{shut_out_replies}
 use Rattle.dsql_other_laws.proofs.Ending.{closed_quiet}
 use Rattle.dsql_other_laws.proofs.Untouched.{apart_of}
+use Rattle.dsql_other_laws.proofs.Entries.{rests_entered, rests_earlier}
 use Rattle.dsql_heard_laws.proofs.Alone.{either}
 use Rattle.dsql_heard_laws.proofs.Answered.{lent_used}
 use Rattle.dsql_heard_laws.proofs.Rows.{live_line}
 use Rattle.dsql_heard_laws.proofs.Settling.{is_settling, either_stays, all_within}
 use Rattle.dsql_move_laws.proofs.Asked.{ended_by_now}
 use Rattle.dsql_move_laws.proofs.Carried.{quiet_carried}
-use Rattle.dsql_move_laws.proofs.Moved.{LentTo, lent_or_silent, stands_somewhere}
+use Rattle.dsql_move_laws.proofs.Moved.{LentTo, is_there, lent_or_silent, stands_somewhere}
 use Rattle.dsql_move_laws.proofs.Once.{once, all_found}
 
 -- what closes the database and sends nothing
@@ -125,7 +125,7 @@ shut_line H e j w l s = by (lent_or_silent H j) (lent_or_silent (e ∷ H) j)
 
 -- what is lent
 
-still_used : (H : List Event) (e : Event) → Lawful (e ∷ H) → Shuts H e → ((j : ℕ) → is_used H j ≡ true → is_used (e ∷ H) j ≡ true) → uses_what_is_lent H ≡ true → uses_what_is_lent (e ∷ H) ≡ true
+still_used : (H : List Event) (e : Event) → Lawful (e ∷ H) → Shuts H e → ((j : ℕ) → is_kept H j ≡ true → is_kept (e ∷ H) j ≡ true) → uses_what_is_lent H ≡ true → uses_what_is_lent (e ∷ H) ≡ true
 still_used H e l s so h = all_found (λ conn. is_in_use (e ∷ H) conn.place) (pool (e ∷ H)).conns (once (e ∷ H)) each
   where
     each : (x : Conn) → conn_of x.number (pool (e ∷ H)).conns ≡ Some x → is_in_use (e ∷ H) x.place ≡ true
@@ -138,12 +138,23 @@ still_used H e l s so h = all_found (λ conn. is_in_use (e ∷ H) conn.place) (p
         by Closing is = refl
 
 close_used : (H : List Event) (client n : ℕ) → Lawful (Entered client n DbClose ∷ H) → uses_what_is_lent H ≡ true → uses_what_is_lent (Entered client n DbClose ∷ H) ≡ true
-close_used H client n l h =
-    let K = Entered client n DbClose ∷ H in
-    still_used H (Entered client n DbClose) l (closes_it H client n) (λ j was. used_alike H K j refl (λ k w. shut_line H (Entered client n DbClose) k w l (closes_it H client n)) ∙ was) h
+close_used H client n l h = still_used H (Entered client n DbClose) l (closes_it H client n) each h
+  where
+    K : List Event
+    K = Entered client n DbClose ∷ H
+
+    rested : (j : ℕ) → rests H j ≡ true → rests K j ≡ true
+    rested j was = rests_entered H client n DbClose j l (rests_earlier H client n DbClose j l was) ∙ was
+
+    each : (j : ℕ) → is_kept H j ≡ true → is_kept K j ≡ true
+    each j was = by (either (is_used H j) (rests H j) was)
+      where
+        by : (is_used H j ≡ true) ⊎ (rests H j ≡ true) → is_kept K j ≡ true
+        by (inl used) = or_first (is_used K j) (rests K j) (used_alike H K j refl (λ k w. shut_line H (Entered client n DbClose) k w l (closes_it H client n)) ∙ used)
+        by (inr it) = or_second (is_used K j) (rests K j) (rested j it)
 
 end_used : (H : List Event) → Lawful (Ended ∷ H) → uses_what_is_lent H ≡ true → uses_what_is_lent (Ended ∷ H) ≡ true
-end_used H l h = still_used H Ended l (ends_it H) each h
+end_used H l h = still_used H Ended l (ends_it H) (λ j was. kept j (either (is_used H j) (rests H j) was)) h
   where
     K : List Event
     K = Ended ∷ H
@@ -170,6 +181,10 @@ end_used H l h = still_used H Ended l (ends_it H) each h
         by : (o : Option Rows) → rows_by H j ≡ o → (live o || is_some (rest_with H j o)) ≡ true → is_used K j ≡ true
         by None is k = now j None (rows_at_end_of (handed_out H) j ∙ ap (option_map (ended_by row_ends.EndOfRun)) is) (ap (λ d. is_some d) (line j wishes.Nothing) ∙ k)
         by (Some r) is k = ended j r (is_live r) refl is k
+
+    kept : (j : ℕ) → (is_used H j ≡ true) ⊎ (rests H j ≡ true) → is_kept K j ≡ true
+    kept j (inl used) = or_first (is_used K j) (rests K j) (each j used)
+    kept j (inr it) = or_second (is_used K j) (rests K j) it
 
 -- where the calls stand
 
@@ -240,12 +255,15 @@ close_stands H client n j l some apart h = by (wants j (pool H)) refl
     by false is =
         let none = neither (waits j (pool H).waiting) (list_any (λ conn. is_for j conn.place) (pool H).conns) is in
         let again = asks_again (tries H j) in
-        let settling : (is_settling H j || again) ≡ true =
-        sym (stands_somewhere H j ∙ (ap (λ b. b || (is_some (smallest (is_for j) (pool H)) || (is_settling H j || again))) none.0 ∙ ap (λ o. is_some o || (is_settling H j || again)) (none_opens j (pool H) none.1))) ∙ h
+        let settling : (is_there H j || again) ≡ true =
+        sym (stands_somewhere H j ∙ (ap (λ b. b || (is_some (smallest (is_for j) (pool H)) || (is_there H j || again))) none.0 ∙ ap (λ o. is_some o || (is_there H j || again)) (none_opens j (pool H) none.1))) ∙ h
+        in
+        let there : is_there H j ≡ true → is_there K j ≡ true =
+        λ was. ap (λ b. is_settling K j || b) (rests_entered H client n DbClose j l apart) ∙ either_stays (is_settling H j) (is_settling K j) (rests H j) (settling_still H client n j l apart) was
         in
         stands_somewhere K j
-        ∙ or_second (waits j (pool K).waiting) (is_some (smallest (is_for j) (pool K)) || (is_settling K j || again))
-        (or_second (is_some (smallest (is_for j) (pool K))) (is_settling K j || again) (either_stays (is_settling H j) (is_settling K j) again (settling_still H client n j l apart) settling))
+        ∙ or_second (waits j (pool K).waiting) (is_some (smallest (is_for j) (pool K)) || (is_there K j || again))
+        (or_second (is_some (smallest (is_for j) (pool K))) (is_there K j || again) (either_stays (is_there H j) (is_there K j) again there settling))
 
 close_goes_on : (H : List Event) (client n : ℕ) → Lawful (Entered client n DbClose ∷ H) → goes_on H ≡ true → goes_on_but n (Entered client n DbClose ∷ H) ≡ true
 close_goes_on H client n l h =

@@ -5,8 +5,8 @@ use Rattle.dsql_journal.specs.Kinds.{number_of}
 use Rattle.dsql_pool.specs.declared.conn.Place.TheVariants.{Lent}
 use Rattle.dsql_history.specs.declared.event.Event.{Event}
 use Rattle.dsql_history.specs.Readers.Pool.{place}
-use Rattle.dsql_history.specs.Rules.Line.{is_used}
+use Rattle.dsql_history.specs.Rules.Settled.{is_kept}
 
 -- each lent connection but c is in use
 abbrev pub UsedBeside : List Event → ℕ → Type 0
-UsedBeside history c = (d u : ℕ) (owner : Owner) → place history d ≡ Some (Lent u owner) → d ≢ c → is_used history (number_of owner) ≡ true
+UsedBeside history c = (d u : ℕ) (owner : Owner) → place history d ≡ Some (Lent u owner) → d ≢ c → is_kept history (number_of owner) ≡ true

@@ -26,7 +26,7 @@ use Rattle.dsql_history.specs.Readers.Pool.{pool, place, home}
 use Rattle.dsql_history.specs.Readers.Unfinished.{is_unfinished}
 use Rattle.dsql_history.specs.Readers.Works.{work, is_fetch}
 use Rattle.dsql_history.specs.Rules.Line.{is_reset_due, asked_by, line_at, line_of, wish_as, wish, sent_for, due_in, due_for, rest_with, is_used}
-use Rattle.dsql_history.specs.Rules.Settled.{is_in_use, uses_what_is_lent}
+use Rattle.dsql_history.specs.Rules.Settled.{is_in_use, is_kept, uses_what_is_lent}
 use Rattle.dsql_call_laws.proofs.Lists.{read_set}
 
 -- for call m two histories are alike in what is sent, whatever is wanted of rows
@@ -77,7 +77,7 @@ pub used_alike : (H K : List Event) (n : ℕ) → rows_by K n ≡ rows_by H n �
 used_alike H K n rows same =
     ap (λ o. live o || is_some (rest_with K n o)) rows ∙ ap (λ d. are_live H n || is_some d) (rest_alike H K n (rows_by H n) same)
 
-pub in_use_alike : (H K : List Event) (place : Place) → ((n : ℕ) → is_used K n ≡ is_used H n) → is_in_use K place ≡ is_in_use H place
+pub in_use_alike : (H K : List Event) (place : Place) → ((n : ℕ) → is_kept K n ≡ is_kept H n) → is_in_use K place ≡ is_in_use H place
 in_use_alike H K (Lent t owner) same = same (number_of owner)
 in_use_alike H K Idle same = refl
 in_use_alike H K (Opening o) same = refl
@@ -87,7 +87,7 @@ pub all_alike : (q r : Conn → Bool) (conns : List Conn) → ((x : Conn) → q 
 all_alike q r [] same = refl
 all_alike q r (x ∷ xs) same = ap (λ b. b && list_all q xs) (same x) ∙ ap (λ b. r x && b) (all_alike q r xs same)
 
-pub lent_alike : (H K : List Event) → (pool K).conns ≡ (pool H).conns → ((n : ℕ) → is_used K n ≡ is_used H n) → uses_what_is_lent K ≡ uses_what_is_lent H
+pub lent_alike : (H K : List Event) → (pool K).conns ≡ (pool H).conns → ((n : ℕ) → is_kept K n ≡ is_kept H n) → uses_what_is_lent K ≡ uses_what_is_lent H
 lent_alike H K conns same =
     ap (λ cs. list_all (λ conn. is_in_use K conn.place) cs) conns
     ∙ all_alike (λ conn. is_in_use K conn.place) (λ conn. is_in_use H conn.place) (pool H).conns (λ x. in_use_alike H K x.place same)

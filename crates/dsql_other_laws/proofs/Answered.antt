@@ -1,5 +1,5 @@
 -- To whom a refusal falls, and who still waits as the database is closed, stands where it replies.
-use Rattle.std.proofs.Common.{◌≡◌, ◌≢◌, ℕ, ◌≤◌, Bool, true, false, ◌&&◌, cond, List, [], ◌∷◌, Option, Some, None, is_some, is_none, refl, ap, ◌∙◌, arith, length}
+use Rattle.std.proofs.Common.{◌≡◌, ◌≢◌, ℕ, ◌≤◌, Bool, true, false, ◌&&◌, cond, List, ◌∷◌, Option, Some, None, is_some, is_none, refl, ap, ◌∙◌, arith, length}
 use Rattle.std.specs.List.{list_any}
 use Rattle.std.specs.Option.{option_map}
 use Rattle.dsql_course.specs.Made.{or_else}
@@ -11,6 +11,7 @@ use Rattle.dsql_work.specs.Works.{asks}
 use Rattle.dsql_history.specs.declared.event.Event.{Event}
 use Rattle.dsql_history.specs.declared.event.Event.TheVariants.{Entered, Pool, Ended}
 use Rattle.dsql_history.specs.declared.event.Op.TheVariants.{DbClose}
+use Rattle.dsql_history.specs.declared.record.Stand.{Stand}
 use Rattle.dsql_history.specs.declared.record.Stand.TheVariants as stands_at
 use Rattle.dsql_history.specs.declared.record.Try.TheVariants.{Refused}
 use Rattle.dsql_history.specs.declared.reply.DbEnd.{DbEnd}
@@ -18,13 +19,13 @@ use Rattle.dsql_history.specs.declared.reply.DbEnd.TheVariants as ends
 use Rattle.dsql_history.specs.declared.reply.Reply.{Reply}
 use Rattle.dsql_history.specs.declared.reply.Reply.TheVariants.{DbClosed}
 use Rattle.dsql_history.specs.Readers.Course.{or_end, db_end}
-use Rattle.dsql_history.specs.Readers.Calls.{site, decided, told_by_tries, told_by_others, last_told}
+use Rattle.dsql_history.specs.Readers.Calls.{site, decided, told_by_tries, told_by_others, last_told, rests}
 use Rattle.dsql_history.specs.Readers.Pool.{pool, smallest}
 use Rattle.dsql_history.specs.Readers.Tries.{tries, with_try, newest_answer, try_number, has_a_try, asks_again}
 use Rattle.dsql_history.specs.Readers.Unfinished.{is_unfinished}
 use Rattle.dsql_history.specs.Readers.Works.{work}
 use Rattle.dsql_history.specs.Rules.Line.{due_in, due_for}
-use Rattle.dsql_history.specs.Rules.Stands.{stands, opens, stand}
+use Rattle.dsql_history.specs.Rules.Stands.{stands, opens, has_to_reply, stand}
 use Rattle.dsql_history.specs.Legal.{Lawful}
 use Rattle.dsql_laws.proofs.Tests.{same_itself}
 use Rattle.dsql_laws.proofs.Counts.{gone_fewer}
@@ -32,6 +33,8 @@ use Rattle.dsql_laws.proofs.Tried.{is_lent_out, lent_count, shut_fewer}
 use Rattle.dsql_laws.proofs.Holdings.{one_at_most}
 use Rattle.dsql_laws.proofs.Standing.{neither, none_opens}
 use Rattle.dsql_laws.proofs.Wanting.{wanted, wants_counts, wants_its_own, wanting_works, homes_apart, none_wanted}
+use Rattle.dsql_other_laws.specs.Told.{where_told}
+use Rattle.dsql_other_laws.proofs.Untouched.{or_second}
 use Rattle.dsql_call_laws.proofs.Works.{enters_next, old_work}
 use Rattle.dsql_call_laws.proofs.Untried.{wants_has_try, fallen_wanted, fallen_unwanting}
 use Rattle.dsql_call_laws.proofs.Refusals.{refusal_told}
@@ -40,22 +43,30 @@ use Rattle.dsql_call_laws.proofs.Idle.{due_lent}
 use Rattle.dsql_call_laws.proofs.Nowhere.{told_own}
 use Rattle.dsql_call_laws.proofs.Told.{not_entering, entered_undecided, wanting_undecided, wants_undecided}
 
-replies_only : (w d a : Bool) (o : Option ℕ) (c : ℕ) (own others : Option Reply) → w ≡ false → o ≡ None → d ≡ false → own ≡ None → is_some others ≡ true
-    → or_else (stands w stands_at.Waits) (or_else (opens o) (or_else (stands d (stands_at.Sends c)) (or_else (stands (is_none own && is_some others) stands_at.Replies) (stands a stands_at.Asks)))) ≡ Some stands_at.Replies
-replies_only false false a None c None (Some reply) hw ho hd hown told = refl
-replies_only true d a o c own others hw ho hd hown told = absurd cc
-replies_only false true a o c own others hw ho hd hown told = absurd cc
-replies_only false false a (Some k) c own others hw ho hd hown told = absurd cc
-replies_only false false a None c (Some r) others hw ho hd hown told = absurd cc
-replies_only false false a None c None None hw ho hd hown told = absurd cc
+-- it neither waits nor sends, and none is opened for it
+pub rests_there : (w d : Bool) (o : Option ℕ) (c : ℕ) (there : Option Stand) → w ≡ false → o ≡ None → d ≡ false
+    → or_else (stands w stands_at.Waits) (or_else (opens o) (or_else (stands d (stands_at.Sends c)) there)) ≡ there
+rests_there false false None c there hw ho hd = refl
+rests_there true d o c there hw ho hd = absurd cc
+rests_there false true o c there hw ho hd = absurd cc
+rests_there false false (Some k) c there hw ho hd = absurd cc
 
--- one that asks again is somewhere
-asking_somewhere : (w d r : Bool) (o : Option ℕ) (c : ℕ) → is_some (or_else (stands w stands_at.Waits) (or_else (opens o) (or_else (stands d (stands_at.Sends c)) (or_else (stands r stands_at.Replies) (stands true stands_at.Asks))))) ≡ true
-asking_somewhere true d r o c = refl
-asking_somewhere false d r (Some k) c = refl
-asking_somewhere false true r None c = refl
-asking_somewhere false false true None c = refl
-asking_somewhere false false false None c = refl
+told_only : (own others : Option Reply) → own ≡ None → is_some others ≡ true → (is_none own && is_some others) ≡ true
+told_only None others hown told = told
+told_only (Some reply) others hown told = absurd cc
+
+pub replies_first : (r a : Bool) → r ≡ true → or_else (stands r stands_at.Replies) (stands a stands_at.Asks) ≡ Some stands_at.Replies
+replies_first true a h = refl
+replies_first false a h = absurd cc
+
+asks_last : (r a : Bool) → a ≡ true → is_some (or_else (stands r stands_at.Replies) (stands a stands_at.Asks)) ≡ true
+asks_last true a h = refl
+asks_last false true h = refl
+asks_last false false h = absurd cc
+
+told_replies : (H : List Event) (n : ℕ) → decided H n ≡ None → is_some (told_by_others H n) ≡ true → where_told H n ≡ Some stands_at.Replies
+told_replies H n undecided told =
+    replies_first (has_to_reply H n) (asks_again (tries H n)) (or_second (rests H n) (is_none (decided H n) && is_some (told_by_others H n)) (told_only (decided H n) (told_by_others H n) undecided told))
 
 -- who has no connection sends nothing
 silent : (H : List Event) (n : ℕ) → asks (work H n) ≡ true → lent_count n (pool H) ≡ 0 → is_some (due_for H n) ≡ false
@@ -77,36 +88,39 @@ wanting_unlent H n l some now =
 
 -- a refusal
 
+fallen_newest : (H : List Event) (c n : ℕ) → tries (Pool (Fell c n) ∷ H) n ≡ Refused (newest_answer H) ∷ tries H n
+fallen_newest H c n = ap (λ b. with_try b (Refused (newest_answer H)) (tries H n)) (same_itself n)
+
+pub fallen_there : (H : List Event) (c n : ℕ) → Lawful (Pool (Fell c n) ∷ H) → n ≢ 0 → stand (Pool (Fell c n) ∷ H) n ≡ where_told (Pool (Fell c n) ∷ H) n
+fallen_there H c n l some =
+    let K = Pool (Fell c n) ∷ H in
+    let now = fallen_wanted H c n l.1 some in
+    let own = wanting_works H n l.0 some now in
+    let unwanting = neither (waits n (pool K).waiting) (list_any (λ conn. is_for n conn.place) (pool K).conns) (none_wanted n (pool K) (fallen_unwanting H c n l some)) in
+    let few = gone_fewer (is_lent_out n) c (pool H).conns in
+    let none = wanting_unlent H n l.0 some now in
+    let unlent : lent_count n (pool K) ≡ 0 = omega (arith, few, none) in
+    rests_there (waits n (pool K).waiting) (is_some (due_for K n)) (smallest (is_for n) (pool K)) (site K n) (where_told K n) unwanting.0 (none_opens n (pool K) unwanting.1) (silent K n own unlent)
+
 pub fallen_somewhere : (H : List Event) (c n : ℕ) → Lawful (Pool (Fell c n) ∷ H) → n ≢ 0 → is_some (stand (Pool (Fell c n) ∷ H) n) ≡ true
-fallen_somewhere H c n l some = by (has_a_try (Refused (newest_answer H) ∷ tries H n)) refl
+fallen_somewhere H c n l some = ap (λ s. is_some s) (fallen_there H c n l some) ∙ by (has_a_try (Refused (newest_answer H) ∷ tries H n)) refl
   where
     K : List Event
     K = Pool (Fell c n) ∷ H
 
     newest : tries K n ≡ Refused (newest_answer H) ∷ tries H n
-    newest = ap (λ b. with_try b (Refused (newest_answer H)) (tries H n)) (same_itself n)
+    newest = fallen_newest H c n
 
-    by : (b : Bool) → has_a_try (Refused (newest_answer H) ∷ tries H n) ≡ b → is_some (stand K n) ≡ true
-    by true left =
-        let again : asks_again (tries K n) ≡ true = ap asks_again newest ∙ left in
-        let w = waits n (pool K).waiting in
-        let r = is_none (decided K n) && is_some (told_by_others K n) in
-        ap (λ a. is_some (or_else (stands w stands_at.Waits) (or_else (opens (smallest (is_for n) (pool K))) (or_else (stands (is_some (due_for K n)) (stands_at.Sends (site K n))) (or_else (stands r stands_at.Replies) (stands a stands_at.Asks)))))) again
-        ∙ asking_somewhere w (is_some (due_for K n)) r (smallest (is_for n) (pool K)) (site K n)
+    by : (b : Bool) → has_a_try (Refused (newest_answer H) ∷ tries H n) ≡ b → is_some (where_told K n) ≡ true
+    by true left = asks_last (has_to_reply K n) (asks_again (tries K n)) (ap asks_again newest ∙ left)
     by false last =
         let now = fallen_wanted H c n l.1 some in
         let own = wanting_works H n l.0 some now in
-        let unwanting = neither (waits n (pool K).waiting) (list_any (λ conn. is_for n conn.place) (pool K).conns) (none_wanted n (pool K) (fallen_unwanting H c n l some)) in
-        let few = gone_fewer (is_lent_out n) c (pool H).conns in
-        let none = wanting_unlent H n l.0 some now in
-        let unlent : lent_count n (pool K) ≡ 0 = omega (arith, few, none) in
         let told : told_by_others K n ≡ last_told (length (Refused (newest_answer H) ∷ tries H n)) (Refused (newest_answer H) ∷ tries H n) =
         told_own K n (work K n) own ∙ ap (told_by_tries K) newest
         ∙ ap (λ b. cond b (option_map DbClosed (db_end K)) (last_told (length (Refused (newest_answer H) ∷ tries H n)) (Refused (newest_answer H) ∷ tries H n))) last
         in
-        ap (λ s. is_some s)
-        (replies_only (waits n (pool K).waiting) (is_some (due_for K n)) (asks_again (tries K n)) (smallest (is_for n) (pool K)) (site K n) (decided K n) (told_by_others K n) unwanting.0 (none_opens n (pool K) unwanting.1)
-        (silent K n own unlent) (wanting_undecided H n l.0 some now) (ap (λ o. is_some o) told ∙ refusal_told K n (newest_answer H) (tries H n) l newest last))
+        ap (λ s. is_some s) (told_replies K n (wanting_undecided H n l.0 some now) (ap (λ o. is_some o) told ∙ refusal_told K n (newest_answer H) (tries H n) l newest last))
 
 -- a database that is closed
 
@@ -124,8 +138,8 @@ shut_out_replies H client k n l some h =
     let none = wanting_unlent H n l.0 some now in
     let unlent : lent_count n (pool K) ≡ 0 = omega (arith, few, none) in
     let told : told_by_others K n ≡ option_map DbClosed (db_end K) = told_own K n (work K n) own ∙ ap (λ b. cond b (option_map DbClosed (db_end K)) (last_told (try_number (tries K n)) (tries K n))) (wants_has_try H n l.0 some h) in
-    replies_only (waits n (pool K).waiting) (is_some (due_for K n)) (asks_again (tries K n)) (smallest (is_for n) (pool K)) (site K n) (decided K n) (told_by_others K n) refl (opens_for_none K n l refl) (silent K n own unlent)
-    (entered_undecided H client k DbClose n l some now (wants_undecided H n l.0 some h)) (ap (λ o. is_some o) told ∙ some_end (db_end H) ends.Close)
+    rests_there (waits n (pool K).waiting) (is_some (due_for K n)) (smallest (is_for n) (pool K)) (site K n) (where_told K n) refl (opens_for_none K n l refl) (silent K n own unlent)
+    ∙ told_replies K n (entered_undecided H client k DbClose n l some now (wants_undecided H n l.0 some h)) (ap (λ o. is_some o) told ∙ some_end (db_end H) ends.Close)
 
 pub left_waiting_replies : (H : List Event) (n : ℕ) → Lawful (Ended ∷ H) → n ≢ 0 → wants n (pool H) ≡ true → stand (Ended ∷ H) n ≡ Some stands_at.Replies
 left_waiting_replies H n l some h =
@@ -136,5 +150,5 @@ left_waiting_replies H n l some h =
     let none = wanting_unlent H n l.0 some now in
     let unlent : lent_count n (pool K) ≡ 0 = omega (arith, few, none) in
     let told : told_by_others K n ≡ option_map DbClosed (db_end K) = told_own K n (work K n) own ∙ ap (λ b. cond b (option_map DbClosed (db_end K)) (last_told (try_number (tries K n)) (tries K n))) (wants_has_try H n l.0 some h) in
-    replies_only (waits n (pool K).waiting) (is_some (due_for K n)) (asks_again (tries K n)) (smallest (is_for n) (pool K)) (site K n) (decided K n) (told_by_others K n) refl (opens_for_none K n l refl) (silent K n own unlent)
-    (wants_undecided H n l.0 some h) (ap (λ o. is_some o) told ∙ some_end (db_end H) ends.EndOfRun)
+    rests_there (waits n (pool K).waiting) (is_some (due_for K n)) (smallest (is_for n) (pool K)) (site K n) (where_told K n) refl (opens_for_none K n l refl) (silent K n own unlent)
+    ∙ told_replies K n (wants_undecided H n l.0 some h) (ap (λ o. is_some o) told ∙ some_end (db_end H) ends.EndOfRun)

@@ -18,6 +18,7 @@ use Rattle.dsql_history.specs.declared.event.Event.{Event}
 use Rattle.dsql_history.specs.declared.event.Event.TheVariants.{Pool}
 use Rattle.dsql_history.specs.Readers.Course.{caps}
 use Rattle.dsql_history.specs.Readers.Journals.{heard_in}
+use Rattle.dsql_history.specs.Readers.Calls.{rests}
 use Rattle.dsql_history.specs.Readers.Pool.{pool, place, home, is_home, smallest}
 use Rattle.dsql_history.specs.Readers.Unfinished.{unfinished}
 use Rattle.dsql_history.specs.Rules.Line.{is_reset_due, line_at, line_of, due_for}
@@ -124,7 +125,7 @@ pub used_closes : (H : List Event) (c : ℕ) (why : CloseCause) → place H c �
 used_closes H c why at =
     let K = closes_at H c why in
     let f = found_idle c (pool H).conns (conn_of c (pool H).conns) refl at in
-    same_all (λ conn. is_in_use K conn.place) (λ conn. is_in_use H conn.place) c (pool H).conns f.it (λ y. in_use_alike H K y.place (λ n. used_alike H K n refl (closes_lines H c why at)))
+    same_all (λ conn. is_in_use K conn.place) (λ conn. is_in_use H conn.place) c (pool H).conns f.it (λ y. in_use_alike H K y.place (λ n. ap (λ b. b || rests H n) (used_alike H K n refl (closes_lines H c why at))))
     (λ y. refl) (λ y idle. ap (is_in_use H) idle) f.is f.idle
 
 -- where each call stands

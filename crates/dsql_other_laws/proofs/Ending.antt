@@ -1,5 +1,5 @@
 -- As the run ends each call that has no reply is told that the database is closed.
-use Rattle.std.proofs.Common.{◌≡◌, ◌≢◌, ℕ, ◌==◌, Bool, true, false, ◌&&◌, ◌||◌, List, [], ◌∷◌, is_some, is_none, refl, sym, ap, ◌∙◌}
+use Rattle.std.proofs.Common.{◌≡◌, ◌≢◌, ℕ, ◌==◌, Bool, true, false, ◌||◌, List, [], ◌∷◌, is_some, refl, sym, ap, ◌∙◌}
 use Rattle.std.specs.List.{list_all, list_any}
 use Rattle.std.proofs.lemmas.List.{append-nil}
 use Rattle.dsql_wait.specs.Requests.{waits}
@@ -13,14 +13,14 @@ use Rattle.dsql_pool.proofs.Placed.{Placed, placed_map}
 use Rattle.dsql_history.specs.Readers.Tries.{tries, asks_again}
 use Rattle.dsql_history.specs.declared.event.Event.{Event}
 use Rattle.dsql_history.specs.declared.event.Event.TheVariants.{Ended}
-use Rattle.dsql_history.specs.Readers.Calls.{site, decided, told_by_others}
+use Rattle.dsql_history.specs.Readers.Calls.{site}
 use Rattle.dsql_history.specs.Readers.Owed.{owed}
 use Rattle.dsql_history.specs.Readers.Pool.{pool, smallest}
 use Rattle.dsql_history.specs.Readers.Unfinished.{unfinished}
 use Rattle.dsql_history.specs.Rules.House.{has_no_chore}
 use Rattle.dsql_history.specs.Rules.Line.{due_for}
 use Rattle.dsql_history.specs.Rules.Settled.{goes_on}
-use Rattle.dsql_history.specs.Rules.Stands.{stand, is_waiting}
+use Rattle.dsql_history.specs.Rules.Stands.{has_to_reply, stand, is_waiting}
 use Rattle.dsql_history.specs.Legal.{Lawful}
 use Rattle.dsql_laws.specs.OwedMade.{with_moves}
 use Rattle.dsql_laws.proofs.Tests.{both}
@@ -43,7 +43,7 @@ told_of_end H l m h = by (m == 0) refl
     wanting : wants m (pool H) ≡ true
     wanting =
         ap (λ b. b || list_any (λ conn. is_for m conn.place) (pool H).conns)
-        (waits_only (waits m (pool H).waiting) (is_some (due_for H m)) (is_none (decided H m) && is_some (told_by_others H m)) (asks_again (tries H m)) (smallest (is_for m) (pool H)) (site H m) h)
+        (waits_only (waits m (pool H).waiting) (is_some (due_for H m)) (has_to_reply H m) (asks_again (tries H m)) (smallest (is_for m) (pool H)) (site H m) h)
 
     by : (b : Bool) → (m == 0) ≡ b → (b || is_some (stand (Ended ∷ H) m)) ≡ true
     by true is = refl

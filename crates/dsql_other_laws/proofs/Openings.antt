@@ -1,5 +1,5 @@
 -- An opening that begins touches no call but the one that it is for.
-use Rattle.std.proofs.Common.{◌≡◌, ℕ, ◌==◌, Bool, true, false, ◌&&◌, ◌||◌, cond, List, [], ◌∷◌, ◌++◌, Option, Some, None, is_some, is_none, nat_le, refl, sym, ap, subst, ◌∙◌, arith}
+use Rattle.std.proofs.Common.{◌≡◌, ℕ, ◌==◌, Bool, true, false, ◌&&◌, ◌||◌, cond, List, [], ◌∷◌, ◌++◌, Option, Some, None, is_some, nat_le, refl, sym, ap, subst, ◌∙◌, arith}
 use Rattle.std.specs.Prelude.{find}
 use Rattle.std.specs.List.{list_all}
 use Rattle.std.specs.Option.{option_map, option_map_or, option_or}
@@ -26,12 +26,12 @@ use Rattle.dsql_history.specs.declared.record.Stand.{Stand}
 use Rattle.dsql_history.specs.declared.record.Stand.TheVariants as stands_at
 use Rattle.dsql_history.specs.Readers.Course.{caps}
 use Rattle.dsql_history.specs.Readers.Journals.{heard_in}
-use Rattle.dsql_history.specs.Readers.Calls.{site, decided, told_by_others}
+use Rattle.dsql_history.specs.Readers.Calls.{site, decided, rests}
 use Rattle.dsql_history.specs.Readers.Pool.{pool, place, home, is_home, or_none, smallest, wanted_by}
 use Rattle.dsql_history.specs.Readers.Unfinished.{unfinished}
 use Rattle.dsql_history.specs.Rules.Line.{is_reset_due, line_at, line_of, due_for}
 use Rattle.dsql_history.specs.Rules.Settled.{is_in_use, uses_what_is_lent, goes_on_but, goes_on}
-use Rattle.dsql_history.specs.Rules.Stands.{stands, opens, stand}
+use Rattle.dsql_history.specs.Rules.Stands.{stands, opens, has_to_reply, stand}
 use Rattle.dsql_laws.proofs.Tests.{same_number, same_itself}
 use Rattle.dsql_call_laws.proofs.Enders.{same_ender}
 use Rattle.dsql_other_laws.proofs.Alike.{due_alike, used_alike, in_use_alike, all_alike, line_asked}
@@ -165,7 +165,7 @@ used_opens H c k =
     let conns = (pool H).conns in
     list_all-append (λ (conn : Conn). is_in_use K conn.place) conns (opening (next_number (pool H)) (wanted_by k) ∷ [])
     ∙ (and_true (list_all (λ conn. is_in_use K conn.place) conns)
-    ∙ all_alike (λ conn. is_in_use K conn.place) (λ conn. is_in_use H conn.place) conns (λ x. in_use_alike H K x.place (λ n. used_alike H K n refl (opens_lines H c k))))
+    ∙ all_alike (λ conn. is_in_use K conn.place) (λ conn. is_in_use H conn.place) conns (λ x. in_use_alike H K x.place (λ n. ap (λ b. b || rests H n) (used_alike H K n refl (opens_lines H c k)))))
 
 -- where each call stands
 
@@ -197,7 +197,7 @@ still_somewhere false None None rest more h = h
 still_somewhere false (Some c) None rest more h = let clash : false ≡ true = more refl in absurd cc
 
 abbrev pub otherwise : List Event → ℕ → Option DriverCall → Option Stand
-otherwise H m due = or_else (stands (is_some due) (stands_at.Sends (site H m))) (or_else (stands (is_none (decided H m) && is_some (told_by_others H m)) stands_at.Replies) (stands (asks_again (tries H m)) stands_at.Asks))
+otherwise H m due = or_else (stands (is_some due) (stands_at.Sends (site H m))) (or_else (stands (has_to_reply H m) stands_at.Replies) (stands (asks_again (tries H m)) stands_at.Asks))
 
 site_opens : (H : List Event) (c k m : ℕ) (d : Option DriverCall) → is_some (otherwise (opens_for H c k) m d) ≡ is_some (otherwise H m d)
 site_opens H c k m None = refl

@@ -1,5 +1,6 @@
 -- A reply, a wait and a limit touch no other call, and no connection.
-use Rattle.std.proofs.Common.{◌≡◌, ◌≢◌, ℕ, ◌==◌, Bool, true, false, not, ◌&&◌, ◌||◌, cond, List, [], ◌∷◌, ◌++◌, Option, is_some, is_none, refl, sym, ap, subst, ◌∙◌}
+use Rattle.std.proofs.Common.{◌≡◌, ◌≢◌, ℕ, ◌==◌, Bool, true, false, not, ◌&&◌, ◌||◌, cond, List, [], ◌∷◌, ◌++◌, Option, Some, None, is_some, is_none, refl, sym, ap, subst, ◌∙◌}
+use Rattle.std.specs.Prelude.{find, option_map}
 use Rattle.std.specs.List.{list_all}
 use Rattle.dsql_course.specs.declared.course.Wish.{Wish}
 use Rattle.dsql_course.specs.Made.{or_else}
@@ -7,6 +8,10 @@ use Rattle.dsql_driver.specs.declared.call.DriverCall.{DriverCall}
 use Rattle.dsql_journal.specs.Readers.{has}
 use Rattle.dsql_wait.specs.declared.request.Request.{Request}
 use Rattle.dsql_wait.specs.Requests.{waits}
+use Rattle.dsql_journal.specs.Kinds.{number_of}
+use Rattle.dsql_pool.specs.declared.conn.Conn.{Conn}
+use Rattle.dsql_pool.specs.declared.conn.Place.{Place}
+use Rattle.dsql_pool.specs.declared.conn.Place.TheVariants.{Idle, Lent, Opening, Closing}
 use Rattle.dsql_pool.specs.Places.{is_for}
 use Rattle.dsql_pool.specs.Pooled.{without}
 use Rattle.dsql_history.specs.Readers.Tries.{tries, asks_again}
@@ -18,13 +23,16 @@ use Rattle.dsql_history.specs.declared.event.Control.TheVariants.{Tick, Set}
 use Rattle.dsql_history.specs.declared.record.Stand.{Stand}
 use Rattle.dsql_history.specs.declared.record.Stand.TheVariants as stands_at
 use Rattle.dsql_history.specs.declared.reply.Reply.{Reply}
-use Rattle.dsql_history.specs.Readers.Calls.{site, decided, told_by_others}
+use Rattle.dsql_history.specs.Readers.Calls.{site, decided, told_by_others, asks_nothing, rests}
 use Rattle.dsql_history.specs.Readers.Controls.{told}
-use Rattle.dsql_history.specs.Readers.Pool.{pool, place, home, request, smallest}
+use Rattle.dsql_history.specs.Readers.Pool.{pool, place, home, request, smallest, is_home}
+use Rattle.dsql_history.specs.Readers.Course.{caps}
 use Rattle.dsql_history.specs.Readers.Unfinished.{unfinished, is_unfinished}
-use Rattle.dsql_history.specs.Rules.Line.{line_of, due_for}
-use Rattle.dsql_history.specs.Rules.Settled.{uses_what_is_lent, goes_on_but, goes_on}
-use Rattle.dsql_history.specs.Rules.Stands.{stands, opens, stand}
+use Rattle.dsql_history.specs.Readers.Works.{work}
+use Rattle.dsql_history.specs.Rules.Line.{line_of, due_for, is_used}
+use Rattle.dsql_history.specs.Rules.Replies.{gave_back}
+use Rattle.dsql_history.specs.Rules.Settled.{is_in_use, is_kept, uses_what_is_lent, goes_on_but, goes_on}
+use Rattle.dsql_history.specs.Rules.Stands.{stands, opens, has_to_reply, stand}
 use Rattle.dsql_call_laws.proofs.Lists.{has-without}
 use Rattle.dsql_laws.proofs.Tests.{both, together, same_number, other_number, same_itself}
 use Rattle.dsql_call_laws.proofs.Works.{other_replied}
@@ -74,39 +82,99 @@ due_control H (Set s k) m =
 
 -- what is lent is in use as before
 
-pub used_replied : (H : List Event) (n : ℕ) (reply : Reply) → uses_what_is_lent (Replied n reply ∷ H) ≡ uses_what_is_lent H
-used_replied H n reply = lent_alike H (Replied n reply ∷ H) refl (λ k. used_alike H (Replied n reply ∷ H) k refl (replied_lines H n reply))
+pub apart_of : (m n : ℕ) → (m == n) ≡ false → m ≢ n
+apart_of m n other same = let clash : true ≡ false = sym (ap (λ k. m == k) (sym same) ∙ same_itself m) ∙ other in cc
+
+-- each other call rests as before
+rests_replied : (H : List Event) (n : ℕ) (reply : Reply) (m : ℕ) → m ≢ n → rests (Replied n reply ∷ H) m ≡ rests H m
+rests_replied H n reply m apart = ap (λ b. b && asks_nothing (caps H) (work H m) (tries H m)) (other_unfinished H n reply m apart)
+
+-- who has replied doesn't rest
+restless : (H : List Event) (n : ℕ) (reply : Reply) → rests (Replied n reply ∷ H) n ≡ false
+restless H n reply =
+    ap (λ b. b && asks_nothing (caps H) (work H n) (tries H n)) (has-without n n (unfinished H) ∙ ap (λ b. not b && has n (unfinished H)) (same_itself n))
+
+all_but : (h q r : Conn → Bool) (conns : List Conn) → find h conns ≡ None → ((x : Conn) → h x ≡ false → q x ≡ r x) → list_all q conns ≡ list_all r conns
+all_but h q r [] none same = refl
+all_but h q r (x ∷ xs) none same = by (λ k. all_but h q r xs k same) (h x) refl none
+  where
+    by : (find h xs ≡ None → list_all q xs ≡ list_all r xs) → (b : Bool) → h x ≡ b → cond b (Some x) (find h xs) ≡ None → list_all q (x ∷ xs) ≡ list_all r (x ∷ xs)
+    by rest true is k = absurd cc
+    by rest false is k = ap (λ b. b && list_all q xs) (same x is) ∙ ap (λ b. r x && b) (rest k)
+
+none_found : (o : Option Conn) → is_none (option_map (λ conn. conn.number) o) ≡ true → o ≡ None
+none_found None h = refl
+none_found (Some x) h = absurd cc
+
+pub used_replied : (H : List Event) (n : ℕ) (reply : Reply) → gave_back H n ≡ true → uses_what_is_lent (Replied n reply ∷ H) ≡ uses_what_is_lent H
+used_replied H n reply gave = by (rests H n) refl gave
+  where
+    K : List Event
+    K = Replied n reply ∷ H
+
+    used : (k : ℕ) → is_used K k ≡ is_used H k
+    used k = used_alike H K k refl (replied_lines H n reply)
+
+    kept : (k : ℕ) → rests K k ≡ rests H k → is_kept K k ≡ is_kept H k
+    kept k same = ap (λ b. b || rests K k) (used k) ∙ ap (λ b. is_used H k || b) same
+
+    others : (k : ℕ) → k ≢ n → is_kept K k ≡ is_kept H k
+    others k apart = kept k (rests_replied H n reply k apart)
+
+    beside : (p : Place) → is_home n p ≡ false → is_in_use K p ≡ is_in_use H p
+    beside (Lent t owner) away = others (number_of owner) (apart_of (number_of owner) n away)
+    beside Idle away = refl
+    beside (Opening o) away = refl
+    beside Closing away = refl
+
+    by : (b : Bool) → rests H n ≡ b → is_none (cond b (smallest (is_home n) (pool H)) None) ≡ true → uses_what_is_lent K ≡ uses_what_is_lent H
+    by true is gone =
+        all_but (λ conn. is_home n conn.place) (λ conn. is_in_use K conn.place) (λ conn. is_in_use H conn.place) (pool H).conns
+        (none_found (find (λ conn. is_home n conn.place) (pool H).conns) gone) (λ x. beside x.place)
+    by false is gone = lent_alike H K refl each
+      where
+        each : (k : ℕ) → is_kept K k ≡ is_kept H k
+        each k = of (k == n) refl
+          where
+            of : (c : Bool) → (k == n) ≡ c → is_kept K k ≡ is_kept H k
+            of true same = kept k (ap (rests K) (same_number k n same) ∙ (restless H n reply ∙ (sym is ∙ sym (ap (rests H) (same_number k n same)))))
+            of false other = others k (apart_of k n other)
 
 pub used_waits : (H : List Event) (n : ℕ) → uses_what_is_lent (Waits n ∷ H) ≡ uses_what_is_lent H
-used_waits H n = lent_alike H (Waits n ∷ H) refl (λ k. used_alike H (Waits n ∷ H) k refl (waits_lines H n))
+used_waits H n = lent_alike H (Waits n ∷ H) refl (λ k. ap (λ b. b || rests H k) (used_alike H (Waits n ∷ H) k refl (waits_lines H n)))
 
 pub used_control : (H : List Event) (control : Control) → uses_what_is_lent (told control ∷ H) ≡ uses_what_is_lent H
-used_control H (Tick k) = lent_alike H (told (Tick k) ∷ H) refl (λ n. used_alike H (told (Tick k) ∷ H) n refl (control_lines H (Tick k)))
-used_control H (Set MaxOpen k) = lent_alike H (told (Set MaxOpen k) ∷ H) refl (λ n. used_alike H (told (Set MaxOpen k) ∷ H) n refl (control_lines H (Set MaxOpen k)))
-used_control H (Set MaxIdle k) = lent_alike H (told (Set MaxIdle k) ∷ H) refl (λ n. used_alike H (told (Set MaxIdle k) ∷ H) n refl (control_lines H (Set MaxIdle k)))
-used_control H (Set MaxLife k) = lent_alike H (told (Set MaxLife k) ∷ H) refl (λ n. used_alike H (told (Set MaxLife k) ∷ H) n refl (control_lines H (Set MaxLife k)))
-used_control H (Set MaxIdleTime k) = lent_alike H (told (Set MaxIdleTime k) ∷ H) refl (λ n. used_alike H (told (Set MaxIdleTime k) ∷ H) n refl (control_lines H (Set MaxIdleTime k)))
+used_control H (Tick k) = lent_alike H (told (Tick k) ∷ H) refl (λ n. ap (λ b. b || rests H n) (used_alike H (told (Tick k) ∷ H) n refl (control_lines H (Tick k))))
+used_control H (Set MaxOpen k) = lent_alike H (told (Set MaxOpen k) ∷ H) refl (λ n. ap (λ b. b || rests H n) (used_alike H (told (Set MaxOpen k) ∷ H) n refl (control_lines H (Set MaxOpen k))))
+used_control H (Set MaxIdle k) = lent_alike H (told (Set MaxIdle k) ∷ H) refl (λ n. ap (λ b. b || rests H n) (used_alike H (told (Set MaxIdle k) ∷ H) n refl (control_lines H (Set MaxIdle k))))
+used_control H (Set MaxLife k) = lent_alike H (told (Set MaxLife k) ∷ H) refl (λ n. ap (λ b. b || rests H n) (used_alike H (told (Set MaxLife k) ∷ H) n refl (control_lines H (Set MaxLife k))))
+used_control H (Set MaxIdleTime k) = lent_alike H (told (Set MaxIdleTime k) ∷ H) refl (λ n. ap (λ b. b || rests H n) (used_alike H (told (Set MaxIdleTime k) ∷ H) n refl (control_lines H (Set MaxIdleTime k))))
 
 -- where each call stands
 
-abbrev standing : Bool → Option ℕ → Option DriverCall → ℕ → Option Reply → Option Reply → Bool → Option Stand
-standing waiting opening due there own others again =
+abbrev standing : Bool → Option ℕ → Option DriverCall → ℕ → Bool → Bool → Option Stand
+standing waiting opening due there replies again =
     or_else (stands waiting stands_at.Waits)
-    (or_else (opens opening) (or_else (stands (is_some due) (stands_at.Sends there)) (or_else (stands (is_none own && is_some others) stands_at.Replies) (stands again stands_at.Asks))))
+    (or_else (opens opening) (or_else (stands (is_some due) (stands_at.Sends there)) (or_else (stands replies stands_at.Replies) (stands again stands_at.Asks))))
 
 stand_replied : (H : List Event) (n : ℕ) (reply : Reply) (m : ℕ) → m ≢ n → stand (Replied n reply ∷ H) m ≡ stand H m
 stand_replied H n reply m apart =
+    let K = Replied n reply ∷ H in
     let w = waits m (pool H).waiting in
     let o = smallest (is_for m) (pool H) in
-    ap (λ d. standing w o d (site H m) (decided (Replied n reply ∷ H) m) (told_by_others H m) (asks_again (tries H m))) (due_replied H n reply m apart)
-    ∙ ap (λ x. standing w o (due_for H m) (site H m) x (told_by_others H m) (asks_again (tries H m))) (ap (λ r. r.decided) (other_replied H n reply m apart))
+    let replies : has_to_reply K m ≡ has_to_reply H m =
+    ap (λ b. b || (is_none (decided K m) && is_some (told_by_others H m))) (rests_replied H n reply m apart)
+    ∙ ap (λ x. rests H m || (is_none x && is_some (told_by_others H m))) (ap (λ r. r.decided) (other_replied H n reply m apart))
+    in
+    ap (λ d. standing w o d (site H m) (has_to_reply K m) (asks_again (tries H m))) (due_replied H n reply m apart)
+    ∙ ap (λ b. standing w o (due_for H m) (site H m) b (asks_again (tries H m))) replies
 
 pub stand_control : (H : List Event) (control : Control) (m : ℕ) → stand (told control ∷ H) m ≡ stand H m
-stand_control H (Tick k) m = ap (λ d. standing (waits m (pool H).waiting) (smallest (is_for m) (pool H)) d (site H m) (decided H m) (told_by_others H m) (asks_again (tries H m))) (due_control H (Tick k) m)
-stand_control H (Set MaxOpen k) m = ap (λ d. standing (waits m (pool H).waiting) (smallest (is_for m) (pool H)) d (site H m) (decided H m) (told_by_others H m) (asks_again (tries H m))) (due_control H (Set MaxOpen k) m)
-stand_control H (Set MaxIdle k) m = ap (λ d. standing (waits m (pool H).waiting) (smallest (is_for m) (pool H)) d (site H m) (decided H m) (told_by_others H m) (asks_again (tries H m))) (due_control H (Set MaxIdle k) m)
-stand_control H (Set MaxLife k) m = ap (λ d. standing (waits m (pool H).waiting) (smallest (is_for m) (pool H)) d (site H m) (decided H m) (told_by_others H m) (asks_again (tries H m))) (due_control H (Set MaxLife k) m)
-stand_control H (Set MaxIdleTime k) m = ap (λ d. standing (waits m (pool H).waiting) (smallest (is_for m) (pool H)) d (site H m) (decided H m) (told_by_others H m) (asks_again (tries H m))) (due_control H (Set MaxIdleTime k) m)
+stand_control H (Tick k) m = ap (λ d. standing (waits m (pool H).waiting) (smallest (is_for m) (pool H)) d (site H m) (has_to_reply H m) (asks_again (tries H m))) (due_control H (Tick k) m)
+stand_control H (Set MaxOpen k) m = ap (λ d. standing (waits m (pool H).waiting) (smallest (is_for m) (pool H)) d (site H m) (has_to_reply H m) (asks_again (tries H m))) (due_control H (Set MaxOpen k) m)
+stand_control H (Set MaxIdle k) m = ap (λ d. standing (waits m (pool H).waiting) (smallest (is_for m) (pool H)) d (site H m) (has_to_reply H m) (asks_again (tries H m))) (due_control H (Set MaxIdle k) m)
+stand_control H (Set MaxLife k) m = ap (λ d. standing (waits m (pool H).waiting) (smallest (is_for m) (pool H)) d (site H m) (has_to_reply H m) (asks_again (tries H m))) (due_control H (Set MaxLife k) m)
+stand_control H (Set MaxIdleTime k) m = ap (λ d. standing (waits m (pool H).waiting) (smallest (is_for m) (pool H)) d (site H m) (has_to_reply H m) (asks_again (tries H m))) (due_control H (Set MaxIdleTime k) m)
 
 waits_more : (m : ℕ) (rs : List Request) (r : Request) → waits m rs ≡ true → waits m (rs ++ r ∷ []) ≡ true
 waits_more m [] r h = absurd cc
@@ -133,10 +201,10 @@ stand_waits : (H : List Event) (n m : ℕ) → is_some (stand H m) ≡ true → 
 stand_waits H n m h =
     let w = waits m ((pool H).waiting ++ request H n ∷ []) in
     let o = smallest (is_for m) (pool H) in
-    let same = ap (λ d. is_some (standing w o d (site H m) (decided H m) (told_by_others H m) (asks_again (tries H m)))) (due_waits H n m) in
+    let same = ap (λ d. is_some (standing w o d (site H m) (has_to_reply H m) (asks_again (tries H m)))) (due_waits H n m) in
     same
     ∙ still_somewhere (waits m (pool H).waiting) w
-    (or_else (opens o) (or_else (stands (is_some (due_for H m)) (stands_at.Sends (site H m))) (or_else (stands (is_none (decided H m) && is_some (told_by_others H m)) stands_at.Replies) (stands (asks_again (tries H m)) stands_at.Asks))))
+    (or_else (opens o) (or_else (stands (is_some (due_for H m)) (stands_at.Sends (site H m))) (or_else (stands (has_to_reply H m) stands_at.Replies) (stands (asks_again (tries H m)) stands_at.Asks))))
     (waits_more m (pool H).waiting (request H n)) h
 
 itself_waits : (H : List Event) (n : ℕ) → is_some (stand (Waits n ∷ H) n) ≡ true
@@ -144,7 +212,7 @@ itself_waits H n = by (waits n ((pool H).waiting ++ request H n ∷ [])) (waits_
   where
     by : (b : Bool) → b ≡ true
         → is_some (or_else (stands b stands_at.Waits) (or_else (opens (smallest (is_for n) (pool H))) (or_else (stands (is_some (due_for (Waits n ∷ H) n)) (stands_at.Sends (site H n)))
-        (or_else (stands (is_none (decided H n) && is_some (told_by_others H n)) stands_at.Replies) (stands (asks_again (tries H n)) stands_at.Asks))))) ≡ true
+        (or_else (stands (has_to_reply H n) stands_at.Replies) (stands (asks_again (tries H n)) stands_at.Asks))))) ≡ true
     by true h = refl
     by false h = absurd cc
 
@@ -165,9 +233,6 @@ all_without q r n (m ∷ ms) so h =
       | true ↦ λ is. rest
       | false ↦ λ is. together (r m) (list_all r (without n ms)) (so m is a.0) rest
     ] refl
-
-pub apart_of : (m n : ℕ) → (m == n) ≡ false → m ≢ n
-apart_of m n other same = let clash : true ≡ false = sym (ap (λ k. m == k) (sym same) ∙ same_itself m) ∙ other in cc
 
 pub goes_on_replied : (H : List Event) (n : ℕ) (reply : Reply) → goes_on_but n H ≡ true → goes_on (Replied n reply ∷ H) ≡ true
 goes_on_replied H n reply h =

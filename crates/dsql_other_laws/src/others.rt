@@ -13,6 +13,7 @@ ghost use Rattle.dsql_history.specs.Readers.Controls.{told};
 ghost use Rattle.dsql_history.specs.Readers.Owed.{owed};
 ghost use Rattle.dsql_history.specs.Readers.Pool.{place};
 ghost use Rattle.dsql_history.specs.Rules.Line.{due_for};
+ghost use Rattle.dsql_history.specs.Rules.Replies.{gave_back};
 ghost use Rattle.dsql_history.specs.Rules.Settled.{goes_on, goes_on_but, uses_what_is_lent};
 ghost use Rattle.dsql_history.specs.Legal.{Lawful};
 ghost use Rattle.dsql_laws.specs.OwedMade.{with_moves};
@@ -22,7 +23,7 @@ ghost use Rattle.dsql_other_laws.specs.Entries.{is_plain};
 /// somewhere, each is after it.
 pub fn a_reply_touches_no_other_call()
     ensures due { (history : List Event) (n m : ℕ) (reply : Reply) → m ≢ n → due_for (Replied n reply ∷ history) m ≡ due_for history m }
-    ensures used { (history : List Event) (n : ℕ) (reply : Reply) → uses_what_is_lent (Replied n reply ∷ history) ≡ uses_what_is_lent history }
+    ensures used { (history : List Event) (n : ℕ) (reply : Reply) → gave_back history n ≡ true → uses_what_is_lent (Replied n reply ∷ history) ≡ uses_what_is_lent history }
     ensures others { (history : List Event) (n : ℕ) (reply : Reply) → goes_on_but n history ≡ true → goes_on (Replied n reply ∷ history) ≡ true }
 {}
 

@@ -13,11 +13,14 @@ ghost use Rattle.dsql_history.specs.Rules.Settled.{goes_on};
 ghost use Rattle.dsql_history.specs.Rules.Stands.{stand};
 ghost use Rattle.dsql_history.specs.Legal.{Lawful};
 ghost use Rattle.dsql_laws.specs.OwedMade.{with_moves};
+ghost use Rattle.dsql_other_laws.specs.Told.{where_told};
 
-/// To whom a refused connection falls is somewhere: it is told why, or asks again. Who wants a connection as a call closes the
+/// To whom a refused connection falls is somewhere: it stands where it replies, where others have told it why, or else where it asks
+/// again. Who wants a connection as a call closes the
 /// database, or as the run ends, stands where it replies.
 pub fn who_is_told_stands_where_it_replies()
     ensures refused { (history : List Event) (c n : ℕ) → Lawful (Pool (Fell c n) ∷ history) → n ≢ 0 → is_some (stand (Pool (Fell c n) ∷ history) n) ≡ true }
+    ensures there { (history : List Event) (c n : ℕ) → Lawful (Pool (Fell c n) ∷ history) → n ≢ 0 → stand (Pool (Fell c n) ∷ history) n ≡ where_told (Pool (Fell c n) ∷ history) n }
     ensures closed { (history : List Event) (client m n : ℕ) → Lawful (Entered client m DbClose ∷ history) → n ≢ 0 → wants n (pool history) ≡ true → stand (Entered client m DbClose ∷ history) n ≡ Some Replies }
     ensures ended { (history : List Event) (n : ℕ) → Lawful (Ended ∷ history) → n ≢ 0 → wants n (pool history) ≡ true → stand (Ended ∷ history) n ≡ Some Replies }
 {}

@@ -156,4 +156,4 @@ module _ (permit : Permit) (e : Entry) (next : Next) (client : ℕ) (before afte
   }
 
   pub answered_grouped : Grouped before.past after.past (Heard e) e.call_no
-  answered_grouped = subst (λ H. Grouped before.past H (Heard e) e.call_no) (sym a.past) (hears_grouped before.past e)
+  answered_grouped = subst (λ H. Grouped before.past H (Heard e) e.call_no) (sym a.past) (hears_grouped before.past e (subst (λ H. Lawful H) a.past a.legal.lawful))

@@ -9,14 +9,18 @@ use Rattle.dsql_history.specs.declared.event.Control.{Control}
 use Rattle.dsql_history.specs.Readers.Calls.{next_call}
 use Rattle.dsql_history.specs.Readers.Controls.{told_after}
 use Rattle.dsql_history.specs.Readers.Owed.{owed}
+use Rattle.dsql_history.specs.Readers.Pool.{place}
 use Rattle.dsql_history.specs.Rules.Flights.{permitted}
 use Rattle.dsql_history.specs.Rules.Settled.{Settled}
 use Rattle.dsql_history.specs.Rules.Stands.{stand}
+use Rattle.dsql_history.specs.Legal.{Lawful}
 use Rattle.dsql_laws.proofs.Tests.{other_number}
 use Rattle.dsql_follows.specs.Moments.{Moment}
 use Rattle.dsql_steps.specs.Groups.{after_end, after_enter, after_heard, after_control, gone_on}
-use Rattle.dsql_step_laws.specs.Steps.{IsAtRest, MakesStep, GoesByItself, goes_by_itself}
+use Rattle.dsql_step_laws.specs.Steps.{IsAtRest, MakesStep, GoesByItself, RestsAlone, goes_by_itself}
 use Rattle.dsql_step_laws.proofs.Groups.{end_is_one, enter_is_one, goes_on_by_one, heard_is_one, control_is_one}
+use Rattle.dsql_end_laws.proofs.Resting.{rests_alone}
+use Rattle.dsql_turn_laws.proofs.Later.{heard_later, lawful_older}
 use Rattle.dsql_walk_laws.specs.Groups.{IsGroup}
 use Rattle.dsql_walk_laws.proofs.Later.{step_is_group}
 use Rattle.dsql_walk_laws.proofs.Permits.{permitted_twice}
@@ -41,8 +45,12 @@ grouped_by m first n history s = record { events = s.events; grown = s.group; gr
 pub enters_grouped : (past : List Event) (client : ℕ) (op : Op) → Grouped past (after_enter past client op) (Entered client (next_call past) op) (next_call past)
 enters_grouped past client op = grouped_by (free past) (Entered client (next_call past) op) (next_call past) (after_enter past client op) (enter_is_one (free past) client op (free_rests past))
 
-pub hears_grouped : (past : List Event) (e : Entry) → Grouped past (after_heard past e) (Heard e) e.call_no
-hears_grouped past e = grouped_by (free past) (Heard e) e.call_no (after_heard past e) (heard_is_one (free past) e (free_rests past))
+-- no other call rests with the connection of an answer
+pub hears_alone : (past : List Event) (e : Entry) → Lawful (after_heard past e) → RestsAlone past e
+hears_alone past e l = rests_alone past e (lawful_older e.call_no (Heard e ∷ past) (after_heard past e) (heard_later past e (place past e.conn)) l)
+
+pub hears_grouped : (past : List Event) (e : Entry) → Lawful (after_heard past e) → Grouped past (after_heard past e) (Heard e) e.call_no
+hears_grouped past e l = grouped_by (free past) (Heard e) e.call_no (after_heard past e) (heard_is_one (free past) e (free_rests past) (hears_alone past e l))
 
 pub control_grouped : (past : List Event) (control : Control) → Grouped past (after_control past control) (told_after past control) 0
 control_grouped past control = grouped_by (free past) (told_after past control) 0 (after_control past control) (control_is_one (free past) control (free_rests past))

@@ -28,7 +28,7 @@ use Rattle.dsql_engine.specs.Hearing.{MayBeHeard, is_on, is_under_way}
 use Rattle.dsql_end_laws.proofs.Steps.{step_ended}
 use Rattle.dsql_follows.specs.Moments.{Moment, landed}
 use Rattle.dsql_seats.specs.Seats.{Seat, seat}
-use Rattle.dsql_step_laws.specs.Steps.{MakesStep}
+use Rattle.dsql_step_laws.specs.Steps.{MakesStep, RestsAlone}
 use Rattle.dsql_step_laws.proofs.Groups.{heard_is_one}
 use Rattle.dsql_steps.specs.Groups.{after_heard}
 use Rattle.dsql_tenure.specs.Judged.{answered}
@@ -41,7 +41,7 @@ use Rattle.dsql_playing.specs.Chores.{IsAnswered, IsToMake}
 use Rattle.dsql_playing.specs.Playing.{Playing, IsAt, IsReady, KeepsLines}
 use Rattle.dsql_playing.specs.Stepping.{IsChoreOn, TakesStep}
 use Rattle.dsql_playing.proofs.Answering.{entry_conn, entry_number}
-use Rattle.dsql_playing.proofs.Grouped.{Grouped, hears_grouped}
+use Rattle.dsql_playing.proofs.Grouped.{Grouped, hears_alone, hears_grouped}
 use Rattle.dsql_playing.proofs.Ready.{holds_none, nobody_ready}
 use Rattle.dsql_playing.proofs.Seating.{Goes, SameButFor, nobody_flies, same_flights}
 use Rattle.dsql_playing.proofs.Standing.{HasGoneFar, has_lines, step_taken}
@@ -100,7 +100,7 @@ module _ (permit : Permit) (e : Entry) (before after : Playing) (ready : IsReady
   on_it = entry_conn permit e took.heard
 
   pub chore_group : Grouped before.past after.past (Heard e) 0
-  chore_group = subst (λ (H : List Event). Grouped before.past H (Heard e) 0) (sym took.past) (subst (λ (n : ℕ). Grouped before.past (after_heard before.past e) (Heard e) n) took.layer (hears_grouped before.past e))
+  chore_group = subst (λ (H : List Event). Grouped before.past H (Heard e) 0) (sym took.past) (subst (λ (n : ℕ). Grouped before.past (after_heard before.past e) (Heard e) n) took.layer (hears_grouped before.past e (subst (λ (H : List Event). Lawful H) took.past took.legal.lawful)))
 
   chore_flying : Flying after.past after.flights
   chore_flying =
@@ -149,7 +149,7 @@ module _ (permit : Permit) (e : Entry) (before after : Playing) (ready : IsReady
   pub chore_taken : chore_due before.past ≡ Some permit.conn → (m : Moment) → IsAt m before → TakesStep m before after (IsChoreOn (chore_due before.past))
   chore_taken due m at =
       let n : ℕ = e.call_no in
-      let s : MakesStep m (Heard e) n after.past = subst (λ (H : List Event). MakesStep m (Heard e) n H) (ap (λ (H : List Event). after_heard H e) at.past ∙ sym took.past) (heard_is_one m e at.rest) in
+      let s : MakesStep m (Heard e) n after.past = subst (λ (H : List Event). MakesStep m (Heard e) n H) (ap (λ (H : List Event). after_heard H e) at.past ∙ sym took.past) (heard_is_one m e at.rest (subst (λ (H : List Event). RestsAlone H e) (sym at.past) (hears_alone before.past e (subst (λ (H : List Event). Lawful H) took.past took.legal.lawful)))) in
       let none : is_in_flight 0 m.flights ≡ false = ap (λ (flights : List Flight). is_in_flight 0 flights) at.flights ∙ nobody_flies before.past before.flights ready.legal.lawful ready.flying in
       let fly : permitted n (stand after.past n) (landed (Heard e) m.flights) ≡ after.flights =
       ap (λ (k : ℕ). permitted k (stand after.past k) (without_flight k m.flights)) took.layer

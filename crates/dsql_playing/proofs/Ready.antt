@@ -185,7 +185,7 @@ answer_ready before after me e next ready busy its there is went legal free hand
     base = without_flight e.call_no before.flights
 
     heard : Grouped before.past after.past (Heard e) e.call_no
-    heard = subst (λ H. Grouped before.past H (Heard e) e.call_no) (sym is) (hears_grouped before.past e)
+    heard = subst (λ H. Grouped before.past H (Heard e) e.call_no) (sym is) (hears_grouped before.past e (subst Lawful is legal.lawful))
 
     g : Grouped before.past after.past (Heard e) n
     g = subst (Grouped before.past after.past (Heard e)) its heard

@@ -1,5 +1,5 @@
 -- Single steps are carried out.
-use Rattle.std.proofs.Common.{◌≡◌, ℕ, ◌<◌, Bool, true, false, not, ◌&&◌, cond, List, [], ◌++◌, Option, Some, None, is_some, is_none, length, refl, sym, ap, subst, ◌∙◌, arith}
+use Rattle.std.proofs.Common.{◌≡◌, ℕ, ◌<◌, Bool, true, false, not, ◌&&◌, cond, List, [], ◌++◌, Option, Some, None, is_some, length, refl, sym, ap, subst, ◌∙◌, arith}
 use Rattle.dsql_course.specs.Made.{or_else}
 use Rattle.dsql_journal.specs.declared.entry.Permit.{Permit}
 use Rattle.dsql_journal.specs.Readers.{is_empty}
@@ -9,7 +9,7 @@ use Rattle.dsql_history.specs.declared.record.Flight.{Flight}
 use Rattle.dsql_history.specs.declared.record.Stand.{Stand}
 use Rattle.dsql_history.specs.declared.record.Stand.TheVariants.{Waits, Opens, Sends, Replies, Asks}
 use Rattle.dsql_history.specs.Legal.{Lawful}
-use Rattle.dsql_history.specs.Readers.Calls.{decided, is_busy, reply_due, site, told_by_others}
+use Rattle.dsql_history.specs.Readers.Calls.{is_busy, reply_due, site}
 use Rattle.dsql_history.specs.Readers.Clients.{call_of}
 use Rattle.dsql_history.specs.Readers.Pool.{pool, smallest}
 use Rattle.dsql_history.specs.Readers.Tries.{asks_again, tries}
@@ -17,7 +17,7 @@ use Rattle.dsql_history.specs.Readers.Unfinished.{is_unfinished}
 use Rattle.dsql_history.specs.Rules.Flights.{is_in_flight, may_move, permitted}
 use Rattle.dsql_history.specs.Rules.House.{chore_due}
 use Rattle.dsql_history.specs.Rules.Line.{due_for}
-use Rattle.dsql_history.specs.Rules.Stands.{opens, stand, stands}
+use Rattle.dsql_history.specs.Rules.Stands.{has_to_reply, opens, stand, stands}
 use Rattle.dsql_follows.specs.declared.line.Line.{Line}
 use Rattle.dsql_follows.specs.declared.line.Line.TheVariants.{Start, Step, StepHouse}
 use Rattle.dsql_follows.specs.Moments.{Moment, met, takes_permit}
@@ -139,7 +139,7 @@ standing_due false false false false None s c h = absurd cc
 
 sends_due : (past : List Event) (n c : ℕ) → stand past n ≡ Some (Sends c) → is_some (due_for past n) ≡ true
 sends_due past n c h =
-    standing_due (waits n (pool past).waiting) (is_some (due_for past n)) (is_none (decided past n) && is_some (told_by_others past n)) (asks_again (tries past n)) (smallest (is_for n) (pool past)) (site past n) c h
+    standing_due (waits n (pool past).waiting) (is_some (due_for past n)) (has_to_reply past n) (asks_again (tries past n)) (smallest (is_for n) (pool past)) (site past n) c h
 
 unless : {A : Type 0} (u due : Bool) (gone past : A) → due ≡ true → cond (u && not due) gone past ≡ past
 unless true true gone past h = refl

@@ -17,7 +17,7 @@ use Rattle.dsql_follows.specs.declared.line.Line.TheVariants.{Client, Start}
 use Rattle.dsql_follows.specs.Moments.{Moment, is_held, is_start, kept, landed, takes_permit}
 use Rattle.dsql_follows.specs.Sentences.{is_whole, may_enter}
 use Rattle.dsql_steps.specs.Groups.{after_heard}
-use Rattle.dsql_step_laws.specs.Steps.{IsAtRest, MakesStep, stepped}
+use Rattle.dsql_step_laws.specs.Steps.{IsAtRest, MakesStep, RestsAlone, stepped}
 use Rattle.dsql_step_laws.proofs.Groups.{heard_is_one}
 use Rattle.dsql_walk_laws.specs.Groups.{IsGroup}
 use Rattle.dsql_walk_laws.proofs.Later.{step_is_group}
@@ -29,7 +29,7 @@ use Rattle.dsql_seats.specs.declared.seats.KeptLine.{KeptLine}
 use Rattle.dsql_seats.specs.Seats.{seat}
 use Rattle.dsql_playing.specs.Playing.{HasLinesOf, IsAt, IsAtBut, KeepsLines, Playing, line_kept, lines_kept}
 use Rattle.dsql_playing.specs.Stepping.{HearsAnswer, IsAnswerTo, IsEntryOf, TakesStep}
-use Rattle.dsql_playing.proofs.Grouped.{grouped_by}
+use Rattle.dsql_playing.proofs.Grouped.{grouped_by, hears_alone}
 use Rattle.dsql_playing.proofs.Whose.{busy_alike, busy_before, entry_other}
 
 pub has_lines : (m : Moment) (p : Playing) → IsAt m p → HasLinesOf m p
@@ -124,7 +124,7 @@ pub answer_taken : (m : Moment) (n : ℕ) (before after : Playing) → HasLinesO
     → TakesStep m before after (IsAnswerTo n)
 answer_taken m n before after has rest same l h =
     let e = h.entry in
-    let s : MakesStep m (Heard e) e.call_no after.past = subst (MakesStep m (Heard e) e.call_no) (ap (λ H. after_heard H e) has.past ∙ sym h.heard) (heard_is_one m e rest) in
+    let s : MakesStep m (Heard e) e.call_no after.past = subst (MakesStep m (Heard e) e.call_no) (ap (λ H. after_heard H e) has.past ∙ sym h.heard) (heard_is_one m e rest (subst (λ H. RestsAlone H e) (sym has.past) (hears_alone before.past e (subst Lawful h.heard l)))) in
     let fly : permitted e.call_no (stand after.past e.call_no) (without_flight e.call_no m.flights) ≡ after.flights =
     ap (λ k. permitted k (stand after.past k) (without_flight k m.flights)) h.number ∙ (ap (permitted n (stand after.past n)) same ∙ sym h.went.flights) in
     let far : HasGoneFar after.past after.flights e.call_no = subst (HasGoneFar after.past after.flights) (sym h.number) (call_whole after.past n (without_flight n before.flights) after.flights h.next l h.went) in

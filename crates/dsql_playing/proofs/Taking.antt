@@ -1,5 +1,5 @@
 -- The steps that the player takes, seen from the moment at which it stood.
-use Rattle.std.proofs.Common.{◌≡◌, ◌≢◌, ◌⊎◌, inl, inr, ℕ, ◌==◌, Bool, true, false, not, ◌&&◌, ◌||◌, cond, List, Option, Some, None, is_none, is_some, refl, ap, sym, subst, ◌∙◌}
+use Rattle.std.proofs.Common.{◌≡◌, ◌≢◌, ◌⊎◌, inl, inr, ℕ, ◌==◌, Bool, true, false, not, ◌||◌, cond, List, Option, Some, None, is_some, refl, ap, sym, subst, ◌∙◌}
 use Rattle.dsql_course.specs.Made.{or_else}
 use Rattle.dsql_wait.specs.Requests.{waits}
 use Rattle.dsql_pool.specs.Places.{is_for}
@@ -9,7 +9,7 @@ use Rattle.dsql_history.specs.declared.event.Control.{Control}
 use Rattle.dsql_history.specs.declared.event.Control.TheVariants.{Tick, Set}
 use Rattle.dsql_history.specs.declared.record.Flight.{Flight}
 use Rattle.dsql_history.specs.declared.record.Stand.TheVariants as stands_at
-use Rattle.dsql_history.specs.Readers.Calls.{decided, is_busy, site, told_by_others}
+use Rattle.dsql_history.specs.Readers.Calls.{is_busy, site}
 use Rattle.dsql_history.specs.Readers.Controls.{told, taken, told_after}
 use Rattle.dsql_history.specs.Readers.Pool.{pool, smallest}
 use Rattle.dsql_history.specs.Readers.Tries.{asks_again, tries}
@@ -17,7 +17,7 @@ use Rattle.dsql_history.specs.Readers.Works.{work}
 use Rattle.dsql_history.specs.Rules.Flights.{is_in_flight, may_move, permitted}
 use Rattle.dsql_history.specs.Rules.Line.{due_for, due_in}
 use Rattle.dsql_history.specs.Rules.Settled.{Settled}
-use Rattle.dsql_history.specs.Rules.Stands.{opens, stand, stands}
+use Rattle.dsql_history.specs.Rules.Stands.{has_to_reply, opens, stand, stands}
 use Rattle.dsql_history.specs.Legal.{Lawful}
 use Rattle.dsql_laws.proofs.Tests.{same_number}
 use Rattle.dsql_going.specs.declared.next.Next.{Next}
@@ -50,7 +50,7 @@ sends_none false false false false None c flights h = refl
 
 pub nobody_sends : (H : List Event) (flights : List Flight) → Lawful H → permitted 0 (stand H 0) flights ≡ flights
 nobody_sends H flights l =
-    sends_none (waits 0 (pool H).waiting) (is_some (due_for H 0)) (is_none (decided H 0) && is_some (told_by_others H 0)) (asks_again (tries H 0)) (smallest (is_for 0) (pool H)) (site H 0) flights
+    sends_none (waits 0 (pool H).waiting) (is_some (due_for H 0)) (has_to_reply H 0) (asks_again (tries H 0)) (smallest (is_for 0) (pool H)) (site H 0) flights
     (ap (λ b. is_some (cond b (due_in H 0 (work H 0)) None)) (nobody H 0 l refl))
 
 -- Steps of nobody.

@@ -1,5 +1,5 @@
 -- Who has nothing to send, wants no connection and may not ask for one has its reply settled.
-use Rattle.std.proofs.Common.{◌≡◌, ℕ, ◌==◌, Bool, true, false, ◌||◌, cond, List, [], ◌∷◌, Option, Some, None, is_some, refl, sym, ap, ◌∙◌}
+use Rattle.std.proofs.Common.{◌≡◌, ℕ, ◌==◌, Bool, true, false, ◌&&◌, ◌||◌, cond, List, [], ◌∷◌, Option, Some, None, is_some, refl, sym, ap, ◌∙◌}
 use Rattle.std.specs.Prelude.{find, option_map}
 use Rattle.std.specs.List.{list_all, list_any}
 use Rattle.dsql_course.specs.declared.course.Wish.TheVariants as wishes
@@ -15,7 +15,11 @@ use Rattle.dsql_work.specs.declared.work.Work.{Work}
 use Rattle.dsql_work.specs.declared.work.Work.TheVariants.{Execute, ReadOne, HandOut, Ping, Fetch, Close, Look}
 use Rattle.dsql_work.specs.Works.{asks}
 use Rattle.dsql_history.specs.declared.event.Event.{Event}
-use Rattle.dsql_history.specs.Readers.Calls.{reply_due}
+use Rattle.dsql_history.specs.Readers.Calls.{reply_due, rests, asks_nothing}
+use Rattle.dsql_history.specs.Readers.Course.{caps}
+use Rattle.dsql_history.specs.declared.record.Try.{Try}
+use Rattle.dsql_history.specs.declared.record.Try.TheVariants.{Served, Lost, Refused}
+use Rattle.dsql_driver.specs.declared.caps.Caps.{Caps}
 use Rattle.dsql_history.specs.Readers.HandedOut.{rows_by, live}
 use Rattle.dsql_history.specs.Readers.Pool.{pool, is_home}
 use Rattle.dsql_history.specs.Readers.Tries.{tries, was_served}
@@ -23,7 +27,7 @@ use Rattle.dsql_history.specs.Readers.Unfinished.{is_unfinished}
 use Rattle.dsql_history.specs.Readers.Works.{work, is_fetch}
 use Rattle.dsql_history.specs.Rules.Asking.{may_ask}
 use Rattle.dsql_history.specs.Rules.Line.{due_in, due_for, line_of, rest_with, is_used}
-use Rattle.dsql_history.specs.Rules.Settled.{is_in_use, uses_what_is_lent}
+use Rattle.dsql_history.specs.Rules.Settled.{is_in_use, is_kept, uses_what_is_lent}
 use Rattle.dsql_history.specs.Legal.{Lawful}
 use Rattle.dsql_laws.proofs.Tests.{both, same_number}
 use Rattle.dsql_laws.proofs.Numbered.{unfinished_from_one}
@@ -49,7 +53,7 @@ unused H n u own none rowless =
     ap (λ o. live o || is_some (rest_with H n o)) rowless ∙ line
 
 -- where what is lent is in use, such a call has no connection
-lent_used : (H : List Event) (n : ℕ) (conns : List Conn) → list_all (λ conn. is_in_use H conn.place) conns ≡ true → is_used H n ≡ false → list_any (λ conn. is_for n conn.place) conns ≡ false
+lent_used : (H : List Event) (n : ℕ) (conns : List Conn) → list_all (λ conn. is_in_use H conn.place) conns ≡ true → is_kept H n ≡ false → list_any (λ conn. is_for n conn.place) conns ≡ false
     → find (λ conn. is_home n conn.place) conns ≡ None
 lent_used H n [] used free unwanted = refl
 lent_used H n (x ∷ xs) used free unwanted =
@@ -62,17 +66,37 @@ lent_used H n (x ∷ xs) used free unwanted =
       where
         by : (c : Bool) → (number_of owner == n) ≡ c → (number_of owner == n) ≡ false
         by false is = is
-        by true is = let its : is_used H n ≡ true = ap (λ k. is_used H k) (sym (same_number (number_of owner) n is)) ∙ u in absurd (never (is_used H n) its free)
+        by true is = let its : is_kept H n ≡ true = ap (λ k. is_kept H k) (sym (same_number (number_of owner) n is)) ∙ u in absurd (never (is_kept H n) its free)
     at Idle u f = f
     at (Opening wanted) u f = f
     at Closing u f = f
+
+-- who wasn't served rests with no connection
+untold : (can : Caps) (it : Work) (ts : List Try) → was_served ts ≡ false → asks_nothing can it ts ≡ false
+untold can Ping [] h = refl
+untold can Ping (Served ∷ ts) h = absurd cc
+untold can Ping (Lost ∷ ts) h = refl
+untold can Ping (Refused answer ∷ ts) h = refl
+untold can Execute ts h = refl
+untold can (ReadOne dests) ts h = refl
+untold can (HandOut label) ts h = refl
+untold can (Fetch k) ts h = refl
+untold can (Close k) ts h = refl
+untold can Look ts h = refl
+
+restless : (H : List Event) (n : ℕ) → was_served (tries H n) ≡ false → rests H n ≡ false
+restless H n h = ap (λ b. is_unfinished H n && b) (untold (caps H) (work H n) (tries H n) h) ∙ none (is_unfinished H n)
+  where
+    none : (b : Bool) → (b && false) ≡ false
+    none true = refl
+    none false = refl
 
 has_nothing : (H : List Event) (n : ℕ) → Lawful H → is_unfinished H n ≡ true → is_some (due_for H n) ≡ false → wants n (pool H) ≡ false → uses_what_is_lent H ≡ true → was_served (tries H n) ≡ false
     → asks (work H n) ≡ true → HasNothing H n
 has_nothing H n l u none unwanting used unserved own =
     let p = pool H in
     let rowless = made_none (rows_by H n) refl in
-    let free = unused H n u own none rowless in
+    let free : is_kept H n ≡ false = ap (λ b. b || rests H n) (unused H n u own none rowless) ∙ restless H n unserved in
     let apart = neither (waits n p.waiting) (list_any (λ conn. is_for n conn.place) p.conns) unwanting in
     record { unwanting = unwanting; homeless = ap (option_map (λ conn. conn.number)) (lent_used H n p.conns used free apart.1); rowless = rowless }
   where

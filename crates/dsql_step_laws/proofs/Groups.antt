@@ -1,10 +1,14 @@
 -- What a step appends, as events of one step.
-use Rattle.std.proofs.Common.{◌≡◌, ◌⊎◌, inl, inr, ℕ, ℤ, ◌==◌, Bool, true, false, not, cond, List, [], ◌∷◌, ◌++◌, Option, Some, None, Result, Ok, Err, refl, ap, sym, subst, ◌∙◌}
+use Rattle.std.specs.Prelude.{find}
+use Rattle.std.specs.Option.{option_map}
+use Rattle.std.proofs.Common.{◌≡◌, ◌⊎◌, inl, inr, ℕ, ◌==◌, Bool, true, false, not, ◌&&◌, cond, List, [], ◌∷◌, ◌++◌, Option, Some, None, Result, Ok, Err, refl, ap, sym, subst, ◌∙◌}
 use Rattle.dsql_journal.specs.declared.entry.Entry.{Entry}
 use Rattle.dsql_journal.specs.declared.entry.Owner.TheVariants as owners
+use Rattle.dsql_journal.specs.Kinds.{number_of}
 use Rattle.dsql_journal.specs.Readers.{is_empty}
 use Rattle.dsql_pool.specs.declared.conn.Place.{Place}
-use Rattle.dsql_pool.specs.declared.conn.Place.TheVariants.{Lent}
+use Rattle.dsql_pool.specs.declared.conn.Conn.{Conn}
+use Rattle.dsql_pool.specs.declared.conn.Place.TheVariants.{Idle, Lent, Opening, Closing}
 use Rattle.dsql_pool.specs.declared.moves.CloseCause.{CloseCause}
 use Rattle.dsql_pool.specs.declared.moves.Move.{Move}
 use Rattle.dsql_pool.specs.declared.moves.Move.TheVariants.{OpenStart, Lend, Back, CloseStart}
@@ -23,105 +27,237 @@ use Rattle.dsql_history.specs.declared.event.Control.{Control}
 use Rattle.dsql_history.specs.declared.event.Control.TheVariants.{Tick, Set}
 use Rattle.dsql_history.specs.declared.reply.Reply.{Reply}
 use Rattle.dsql_history.specs.declared.reply.Reply.TheVariants.{TooMany}
-use Rattle.dsql_history.specs.Readers.Calls.{next_call, reply_due}
+use Rattle.dsql_history.specs.Readers.Calls.{next_call, reply_due, rests, rests_with}
+use Rattle.dsql_history.specs.declared.record.Flight.{Flight}
 use Rattle.dsql_history.specs.Readers.Controls.{told_after}
 use Rattle.dsql_history.specs.Readers.Owed.{answered, fate, given_back, left_of, owed}
-use Rattle.dsql_history.specs.Readers.Pool.{place, pool}
+use Rattle.dsql_history.specs.Readers.Pool.{is_home, place, pool, smallest}
 use Rattle.dsql_history.specs.Rules.Asking.{ask_outcome, may_ask}
 use Rattle.dsql_history.specs.Rules.Line.{is_used}
 use Rattle.dsql_laws.specs.OwedMade.{with_moves}
 use Rattle.dsql_laws.proofs.Tests.{same_itself, same_number}
-use Rattle.dsql_follows.specs.Moments.{Moment, begins_step, landed, stepping}
-use Rattle.dsql_steps.specs.Groups.{after_enter, after_end, after_heard, after_control, after_settling, asked_so, gone_on, heard_at, let_go, sends_nothing, with_owed}
-use Rattle.dsql_step_laws.specs.Steps.{IsAtRest, MakesStep, GoesByItself, goes_by_itself}
+use Rattle.dsql_move_laws.proofs.Once.{found_number, once}
+use Rattle.dsql_follows.specs.Moments.{Moment, begins_step, landed, leaver, stepping}
+use Rattle.dsql_steps.specs.Groups.{after_enter, after_end, after_heard, after_control, after_reply, after_settling, asked_so, given_up, gone_on, heard_at, let_go, sends_nothing, unless_resting, with_owed}
+use Rattle.dsql_step_laws.specs.Steps.{IsAtRest, MakesStep, GoesByItself, RestsAlone, goes_by_itself}
 use Rattle.dsql_step_laws.proofs.Going.{Going, going, begun, goes, goes_moving, moves_ahead, whole}
 
--- Who goes on by itself adds one event, or none.
+-- A step of call n that has begun, up to this history. This is known of its first event.
+record Begun (m : Moment) (n : ℕ) (Q : Event → Type 0) (H : List Event) : Type 0 where
+  first : Event
+  has : Q first
+  events : List Event
+  group : H ≡ events ++ m.past
+  going : Going m first n events
 
-record OneMore (n : ℕ) (H : List Event) (K : List Event) : Type 0 where
-  event : Event
-  is : K ≡ event ∷ H
-  itself : goes_by_itself n event ≡ true
+-- no step has begun, and the next event that is the call's begins one
+record Fresh (m : Moment) (n : ℕ) (Q : Event → Type 0) (H : List Event) : Type 0 where
+  rest : IsAtRest m
+  past : H ≡ m.past
+  other : (n == m.stepper) ≡ false
+  has : (e : Event) → goes_by_itself n e ≡ true → stepping m e ≡ n → Q e
 
-asks_one : (n : ℕ) (H : List Event) (outcome : Result Asked AskFault) → (asked_so n outcome H ≡ H) ⊎ OneMore n H (asked_so n outcome H)
-asks_one n H (Ok (asked.Lent c t)) = inr (record { event = Pool (Lend c t (owners.Call n) n); is = refl; itself = same_itself n })
-asks_one n H (Ok (asked.Opening c)) = inr (record { event = Pool (OpenStart c n); is = refl; itself = same_itself n })
-asks_one n H (Ok asked.Queued) = inr (record { event = Waits n; is = refl; itself = same_itself n })
-asks_one n H (Ok asked.Closed) = inl refl
-asks_one n H (Err faults.TooMany) = inr (record { event = Replied n TooMany; is = refl; itself = same_itself n })
-asks_one n H (Err faults.Memory) = inl refl
+-- call n may go on with its step, or begin one
+abbrev Ready : Moment → ℕ → (Event → Type 0) → List Event → Type 0
+Ready m n Q H = Fresh m n Q H ⊎ Begun m n Q H
 
-settles_one : (n : ℕ) (H : List Event) (due : Option Reply) (may : Bool) → may_ask H n ≡ may → (after_settling n due H ≡ H) ⊎ OneMore n H (after_settling n due H)
-settles_one n H (Some reply) may is = inr (record { event = Replied n reply; is = refl; itself = same_itself n })
-settles_one n H None true is = subst (λ b. (cond b (asked_so n (ask_outcome H n) H) H ≡ H) ⊎ OneMore n H (cond b (asked_so n (ask_outcome H n) H) H)) (sym is) (asks_one n H (ask_outcome H n))
-settles_one n H None false is = subst (λ b. (cond b (asked_so n (ask_outcome H n) H) H ≡ H) ⊎ OneMore n H (cond b (asked_so n (ask_outcome H n) H) H)) (sym is) (inl refl)
-
-goes_one_by : (n : ℕ) (H : List Event) (silent : Bool) → sends_nothing H n ≡ silent → (gone_on n H ≡ H) ⊎ OneMore n H (gone_on n H)
-goes_one_by n H true is = subst (λ b. (cond b (after_settling n (reply_due H n) H) H ≡ H) ⊎ OneMore n H (cond b (after_settling n (reply_due H n) H) H)) (sym is) (settles_one n H (reply_due H n) (may_ask H n) refl)
-goes_one_by n H false is = subst (λ b. (cond b (after_settling n (reply_due H n) H) H ≡ H) ⊎ OneMore n H (cond b (after_settling n (reply_due H n) H) H)) (sym is) (inl refl)
-
-goes_one : (n : ℕ) (H : List Event) → (gone_on n H ≡ H) ⊎ OneMore n H (gone_on n H)
-goes_one n H = goes_one_by n H (sends_nothing H n) refl
-
--- whose step it is with such an event, where nothing is owed
-steps_itself : (m : Moment) (n : ℕ) (e : Event) → owed m.past ≡ [] → goes_by_itself n e ≡ true → stepping m e ≡ n
-steps_itself m n (Replied k reply) none h = same_number k n h
-steps_itself m n (Waits k) none h = same_number k n h
-steps_itself m n (Pool (Lend c t o k)) none h = let i : is_empty (owed m.past) ≡ true = ap is_empty none in rw i (same_number k n h)
-steps_itself m n (Pool (OpenStart c k)) none h = let i : is_empty (owed m.past) ≡ true = ap is_empty none in rw i (same_number k n h)
-steps_itself m n e none h = absurd cc
-
-lands_none : (n : ℕ) (e : Event) (m : Moment) → goes_by_itself n e ≡ true → landed e m.flights ≡ m.flights
-lands_none n (Replied k reply) m h = refl
-lands_none n (Waits k) m h = refl
-lands_none n (Pool (Lend c t o k)) m h = refl
-lands_none n (Pool (OpenStart c k)) m h = refl
-lands_none n e m h = absurd cc
+lands_none : (n : ℕ) (e : Event) (flights : List Flight) → goes_by_itself n e ≡ true → landed e flights ≡ flights
+lands_none n (Replied k reply) flights h = refl
+lands_none n (Waits k) flights h = refl
+lands_none n (Pool move) flights h = refl
+lands_none n e flights h = absurd cc
 
 inside : (m : Moment) (n : ℕ) (e : Event) → goes_by_itself n e ≡ true → begins_step m e ≡ not (stepping m e == m.stepper)
 inside m n (Replied k reply) h = refl
 inside m n (Waits k) h = refl
-inside m n (Pool (Lend c t o k)) h = refl
-inside m n (Pool (OpenStart c k)) h = refl
+inside m n (Pool move) h = refl
 inside m n e h = absurd cc
 
--- and then the step is over
-ends_with : (m : Moment) (first : Event) (n : ℕ) (es : List Event) → Going m first n es → owed (es ++ m.past) ≡ [] → MakesStep m first n (gone_on n (es ++ m.past))
-ends_with m first n es g none = by (goes_one n (es ++ m.past))
-  where
-    by : (gone_on n (es ++ m.past) ≡ es ++ m.past) ⊎ OneMore n (es ++ m.past) (gone_on n (es ++ m.past)) → MakesStep m first n (gone_on n (es ++ m.past))
-    by (inl same) = record { events = es; group = same; step = whole m first n es g }
-    by (inr more) =
-        let s : stepping (going m first n es) more.event ≡ n = steps_itself (going m first n es) n more.event none more.itself in
-        let b : begins_step (going m first n es) more.event ≡ false = inside (going m first n es) n more.event more.itself ∙ (ap (λ k. not (k == n)) s ∙ ap not (same_itself n)) in
-        record {
-          events = more.event ∷ es;
-          group = more.is;
-          step = whole m first n (more.event ∷ es) (goes m first n es more.event g b s (lands_none n more.event (going m first n es) more.itself));
-        }
+-- an event of the call begins its step, or goes on with it
+adds : (m : Moment) (n : ℕ) (Q : Event → Type 0) (H : List Event) (e : Event) → Ready m n Q H → goes_by_itself n e ≡ true → ((k : Moment) → k.past ≡ H → stepping k e ≡ n) → Begun m n Q (e ∷ H)
+adds m n Q H e (inl f) it steps =
+    let s : stepping m e ≡ n = steps m (sym f.past) in
+    let b : begins_step m e ≡ true = inside m n e it ∙ (ap (λ k. not (k == m.stepper)) s ∙ ap not f.other) in
+    record {
+      first = e;
+      has = f.has e it s;
+      events = e ∷ [];
+      group = ap (λ K. e ∷ K) f.past;
+      going = subst (λ k. Going m e k (e ∷ [])) s (begun m e f.rest b);
+    }
+adds m n Q H e (inr g) it steps =
+    let now : Moment = going m g.first n g.events in
+    let s : stepping now e ≡ n = steps now (sym g.group) in
+    let b : begins_step now e ≡ false = inside now n e it ∙ (ap (λ k. not (k == n)) s ∙ ap not (same_itself n)) in
+    record {
+      first = g.first;
+      has = g.has;
+      events = e ∷ g.events;
+      group = ap (λ K. e ∷ K) g.group;
+      going = goes m g.first n g.events e g.going b s (lands_none n e (landed g.first m.flights) it);
+    }
 
 -- once all that is owed was made nothing is
 made_all : (H : List Event) (ms : List Move) → owed H ≡ ms → owed (with_moves ms H) ≡ []
 made_all H [] is = is
 made_all H (m ∷ ms) is = made_all (Pool m ∷ H) ms (ap (left_of H m) is)
 
+record Given (m : Moment) (n : ℕ) (Q : Event → Type 0) (H : List Event) : Type 0 where
+  begun : Begun m n Q H
+  none : owed H ≡ []
+
+-- what is owed goes on with a step
+gives_owed : (m : Moment) (n : ℕ) (Q : Event → Type 0) (H : List Event) (ms : List Move) → Begun m n Q H → owed H ≡ ms → Given m n Q (with_moves ms H)
+gives_owed m n Q H ms g due =
+    record {
+      begun =
+          record {
+            first = g.first;
+            has = g.has;
+            events = with_moves ms g.events;
+            group = ap (with_moves ms) g.group ∙ moves_ahead ms g.events m.past;
+            going = goes_moving m g.first n g.events ms g.going (ap owed (sym g.group) ∙ due);
+          };
+      none = made_all H ms due;
+    }
+
+-- a connection is given back, with what that makes due, where its leaving goes on with the step or begins it
+gives_moves : (m : Moment) (n : ℕ) (Q : Event → Type 0) (H : List Event) (c : ℕ) → owed H ≡ [] → Begun m n Q (Pool (Back c) ∷ H) → ((why : CloseCause) → Begun m n Q (Pool (CloseStart c why) ∷ H))
+    → Given m n Q (with_moves (given_back H c) H)
+gives_moves m n Q H c none back closes = by (when_given_back (fate H c) c (pool H)) refl
+  where
+    returning : (later : List Move) → given_back H c ≡ Back c ∷ later → Given m n Q (with_moves (given_back H c) H)
+    returning later is =
+        let due : owed (Pool (Back c) ∷ H) ≡ later = rw (none, is) refl in
+        subst (λ ms. Given m n Q (with_moves ms H)) (sym is) (gives_owed m n Q (Pool (Back c) ∷ H) later back due)
+
+    by : (o : Outcome) → when_given_back (fate H c) c (pool H) ≡ o → Given m n Q (with_moves (given_back H c) H)
+    by (Closes why) is =
+        let all : given_back H c ≡ CloseStart c why ∷ [] = ap (moves_back c (pool H)) is in
+        let due : owed (Pool (CloseStart c why) ∷ H) ≡ [] = rw (none, all) refl in
+        subst (λ ms. Given m n Q (with_moves ms H)) (sym all) (gives_owed m n Q (Pool (CloseStart c why) ∷ H) [] (closes why) due)
+    by Serves is = returning (lends_to_oldest c (next_tenure (pool H) c) (pool H).waiting) (ap (moves_back c (pool H)) is)
+    by Rests is = returning [] (ap (moves_back c (pool H)) is)
+
+-- A call that rests gives back its own connection.
+
+home_leaves : (H : List Event) (n m : ℕ) (p : Place) → rests H n ≡ true → is_home n p ≡ true → leaver H m (Some p) ≡ n
+home_leaves H n m (Lent t o) r h = let same = same_number (number_of o) n h in ap (λ (b : Bool). cond b (number_of o) m) (ap (rests H) same ∙ r) ∙ same
+home_leaves H n m (Opening (Some o)) r h = let same = same_number (number_of o) n h in ap (λ (b : Bool). cond b (number_of o) m) (ap (rests H) same ∙ r) ∙ same
+home_leaves H n m (Opening None) r h = absurd cc
+home_leaves H n m Idle r h = absurd cc
+home_leaves H n m Closing r h = absurd cc
+
+found_leaves : (H : List Event) (n m c : ℕ) (found : Option Conn) → rests H n ≡ true → find (λ (conn : Conn). is_home n conn.place) (pool H).conns ≡ found → option_map (λ (conn : Conn). conn.number) found ≡ Some c
+    → leaver H m (place H c) ≡ n
+found_leaves H n m c None r is at = absurd cc
+found_leaves H n m c (Some x) r is at =
+    let same : x.number ≡ c = cc in
+    let found = found_number (λ (conn : Conn). is_home n conn.place) (pool H).conns x (once H) is in
+    let there : place H c ≡ Some x.place = ap (λ k. place H k) (sym same) ∙ ap (option_map (λ (conn : Conn). conn.place)) found.0 in
+    ap (leaver H m) there ∙ home_leaves H n m x.place r found.1
+
+leaves_own : (H : List Event) (n m c : ℕ) (r : Bool) → rests H n ≡ r → cond r (smallest (is_home n) (pool H)) None ≡ Some c → leaver H m (place H c) ≡ n
+leaves_own H n m c true r at = found_leaves H n m c (find (λ (conn : Conn). is_home n conn.place) (pool H).conns) r refl at
+leaves_own H n m c false r at = absurd cc
+
+-- so it is its step, whosever was under way
+steps_leaving : (H : List Event) (n c : ℕ) (k : Moment) → owed H ≡ [] → rests_with H n ≡ Some c → k.past ≡ H
+    → cond (is_empty (owed k.past)) (leaver k.past k.stepper (place k.past c)) k.stepper ≡ n
+steps_leaving H n c k none at same =
+    ap (λ P. cond (is_empty (owed P)) (leaver P k.stepper (place P c)) k.stepper) same
+    ∙ (ap (λ ms. cond (is_empty ms) (leaver H k.stepper (place H c)) k.stepper) none ∙ leaves_own H n k.stepper c (rests H n) refl at)
+
+gives_own : (m : Moment) (n : ℕ) (Q : Event → Type 0) (H : List Event) (c : ℕ) → Ready m n Q H → owed H ≡ [] → rests_with H n ≡ Some c → Given m n Q (with_moves (given_back H c) H)
+gives_own m n Q H c ready none at =
+    gives_moves m n Q H c none (adds m n Q H (Pool (Back c)) ready refl (λ k same. steps_leaving H n c k none at same))
+    (λ why. adds m n Q H (Pool (CloseStart c why)) ready refl (λ k same. steps_leaving H n c k none at same))
+
+-- Who goes on by itself adds its own events to a step, or nothing.
+
+replies : (m : Moment) (n : ℕ) (Q : Event → Type 0) (H : List Event) (due : Option Reply) → Ready m n Q H → owed H ≡ [] → (after_reply n due H ≡ H) ⊎ Begun m n Q (after_reply n due H)
+replies m n Q H None ready none = inl refl
+replies m n Q H (Some reply) ready none = inr (by (rests_with H n) refl)
+  where
+    told : (K : List Event) → Ready m n Q K → Begun m n Q (Replied n reply ∷ K)
+    told K so_far = adds m n Q K (Replied n reply) so_far (same_itself n) (λ k same. refl)
+
+    by : (o : Option ℕ) → rests_with H n ≡ o → Begun m n Q (Replied n reply ∷ given_up (rests_with H n) H)
+    by None is = subst (λ o. Begun m n Q (Replied n reply ∷ given_up o H)) (sym is) (told H ready)
+    by (Some c) is =
+        let given = gives_own m n Q H c ready none is in
+        subst (λ o. Begun m n Q (Replied n reply ∷ given_up o H)) (sym is) (told (with_moves (given_back H c) H) (inr given.begun))
+
+-- it goes on where it rests
+rests_on : (m : Moment) (n : ℕ) (Q : Event → Type 0) (H : List Event) (b : Bool) → (sends_nothing H n && rests H n) ≡ b → Ready m n Q H → owed H ≡ [] → (unless_resting n H ≡ H) ⊎ Begun m n Q (unless_resting n H)
+rests_on m n Q H true is ready none =
+    subst (λ b. (cond b (after_reply n (reply_due H n) H) H ≡ H) ⊎ Begun m n Q (cond b (after_reply n (reply_due H n) H) H)) (sym is) (replies m n Q H (reply_due H n) ready none)
+rests_on m n Q H false is ready none = subst (λ b. (cond b (after_reply n (reply_due H n) H) H ≡ H) ⊎ Begun m n Q (cond b (after_reply n (reply_due H n) H) H)) (sym is) (inl refl)
+
+still_begun : (m : Moment) (n : ℕ) (Q : Event → Type 0) (H K : List Event) → Begun m n Q H → (K ≡ H) ⊎ Begun m n Q K → Begun m n Q K
+still_begun m n Q H K so_far (inl same) = subst (Begun m n Q) (sym same) so_far
+still_begun m n Q H K so_far (inr more) = more
+
+asks_on : (m : Moment) (n : ℕ) (Q : Event → Type 0) (H : List Event) (outcome : Result Asked AskFault) → Ready m n Q H → owed H ≡ [] → (asked_so n outcome H ≡ H) ⊎ Begun m n Q (asked_so n outcome H)
+asks_on m n Q H outcome ready none = by outcome
+  where
+    asking : (k : Moment) → k.past ≡ H → cond (is_empty (owed k.past)) n k.stepper ≡ n
+    asking k same = ap (λ P. cond (is_empty (owed P)) n k.stepper) same ∙ ap (λ ms. cond (is_empty ms) n k.stepper) none
+
+    goes_so : (K : List Event) → Begun m n Q K → owed K ≡ [] → Begun m n Q (unless_resting n K)
+    goes_so K so_far free = still_begun m n Q K (unless_resting n K) so_far (rests_on m n Q K (sends_nothing K n && rests K n) refl (inr so_far) free)
+
+    by : (outcome : Result Asked AskFault) → (asked_so n outcome H ≡ H) ⊎ Begun m n Q (asked_so n outcome H)
+    by (Ok (asked.Lent c t)) =
+        let e = Pool (Lend c t (owners.Call n) n) in
+        inr (goes_so (e ∷ H) (adds m n Q H e ready (same_itself n) asking) (ap (left_of H (Lend c t (owners.Call n) n)) none))
+    by (Ok (asked.Opening c)) = inr (goes_so (Pool (OpenStart c n) ∷ H) (adds m n Q H (Pool (OpenStart c n)) ready (same_itself n) asking) (ap (left_of H (OpenStart c n)) none))
+    by (Ok asked.Queued) = inr (goes_so (Waits n ∷ H) (adds m n Q H (Waits n) ready (same_itself n) (λ k same. refl)) refl)
+    by (Ok asked.Closed) = rests_on m n Q H (sends_nothing H n && rests H n) refl ready none
+    by (Err faults.TooMany) = inr (adds m n Q H (Replied n TooMany) ready (same_itself n) (λ k same. refl))
+    by (Err faults.Memory) = rests_on m n Q H (sends_nothing H n && rests H n) refl ready none
+
+settles : (m : Moment) (n : ℕ) (Q : Event → Type 0) (H : List Event) (due : Option Reply) (may : Bool) → may_ask H n ≡ may → Ready m n Q H → owed H ≡ [] → (after_settling n due H ≡ H) ⊎ Begun m n Q (after_settling n due H)
+settles m n Q H (Some reply) may is ready none = replies m n Q H (Some reply) ready none
+settles m n Q H None true is ready none =
+    subst (λ b. (cond b (asked_so n (ask_outcome H n) H) H ≡ H) ⊎ Begun m n Q (cond b (asked_so n (ask_outcome H n) H) H)) (sym is) (asks_on m n Q H (ask_outcome H n) ready none)
+settles m n Q H None false is ready none = subst (λ b. (cond b (asked_so n (ask_outcome H n) H) H ≡ H) ⊎ Begun m n Q (cond b (asked_so n (ask_outcome H n) H) H)) (sym is) (inl refl)
+
+goes_by : (m : Moment) (n : ℕ) (Q : Event → Type 0) (H : List Event) (silent : Bool) → sends_nothing H n ≡ silent → Ready m n Q H → owed H ≡ [] → (gone_on n H ≡ H) ⊎ Begun m n Q (gone_on n H)
+goes_by m n Q H true is ready none =
+    subst (λ b. (cond b (after_settling n (reply_due H n) H) H ≡ H) ⊎ Begun m n Q (cond b (after_settling n (reply_due H n) H) H)) (sym is) (settles m n Q H (reply_due H n) (may_ask H n) refl ready none)
+goes_by m n Q H false is ready none = subst (λ b. (cond b (after_settling n (reply_due H n) H) H ≡ H) ⊎ Begun m n Q (cond b (after_settling n (reply_due H n) H) H)) (sym is) (inl refl)
+
+goes_so_far : (m : Moment) (n : ℕ) (Q : Event → Type 0) (H : List Event) → Ready m n Q H → owed H ≡ [] → (gone_on n H ≡ H) ⊎ Begun m n Q (gone_on n H)
+goes_so_far m n Q H ready none = goes_by m n Q H (sends_nothing H n) refl ready none
+
+-- Steps that begin with an event from outside.
+
+-- it begins with this event
+abbrev Is : Event → Event → Type 0
+Is e first = first ≡ e
+
+begins_with : (m : Moment) (e : Event) → IsAtRest m → begins_step m e ≡ true → Begun m (stepping m e) (Is e) (e ∷ m.past)
+begins_with m e rest b = record { first = e; has = refl; events = e ∷ []; group = refl; going = begun m e rest b }
+
+ends : (m : Moment) (e : Event) (n : ℕ) (H : List Event) → Begun m n (Is e) H → MakesStep m e n H
+ends m e n H g = record { events = g.events; group = g.group; step = whole m e n g.events (subst (λ first. Going m first n g.events) g.has g.going) }
+
+-- and then its call goes on as far as it can
+ends_on : (m : Moment) (e : Event) (n : ℕ) (H : List Event) → Given m n (Is e) H → MakesStep m e n (gone_on n H)
+ends_on m e n H g = ends m e n (gone_on n H) (still_begun m n (Is e) H (gone_on n H) g.begun (goes_so_far m n (Is e) H (inr g.begun) g.none))
+
 -- the first event, and all that it makes due
 with_due : (m : Moment) (e : Event) → IsAtRest m → begins_step m e ≡ true → MakesStep m e (stepping m e) (with_owed (e ∷ m.past))
 with_due m e rest b =
-    record {
-      events = with_moves (owed (e ∷ m.past)) (e ∷ []);
-      group = moves_ahead (owed (e ∷ m.past)) (e ∷ []) m.past;
-      step = whole m e (stepping m e) (with_moves (owed (e ∷ m.past)) (e ∷ [])) (goes_moving m e (stepping m e) (e ∷ []) (owed (e ∷ m.past)) (begun m e rest b) refl);
-    }
+    let g = gives_owed m (stepping m e) (Is e) (e ∷ m.past) (owed (e ∷ m.past)) (begins_with m e rest b) refl in
+    ends m e (stepping m e) (with_owed (e ∷ m.past)) g.begun
 
 pub enter_is_one : (m : Moment) (client : ℕ) (op : Op) → IsAtRest m → MakesStep m (Entered client (next_call m.past) op) (next_call m.past) (after_enter m.past client op)
 enter_is_one m client op rest =
     let n = next_call m.past in
     let e = Entered client n op in
-    let es = with_moves (owed (e ∷ m.past)) (e ∷ []) in
-    let ahead : with_owed (e ∷ m.past) ≡ es ++ m.past = moves_ahead (owed (e ∷ m.past)) (e ∷ []) m.past in
-    let none : owed (es ++ m.past) ≡ [] = subst (λ H. owed H ≡ []) ahead (made_all (e ∷ m.past) (owed (e ∷ m.past)) refl) in
-    subst (λ H. MakesStep m e n (gone_on n H)) (sym ahead) (ends_with m e n es (goes_moving m e n (e ∷ []) (owed (e ∷ m.past)) (begun m e rest refl) refl) none)
+    ends_on m e n (with_owed (e ∷ m.past)) (gives_owed m n (Is e) (e ∷ m.past) (owed (e ∷ m.past)) (begins_with m e rest refl) refl)
 
 pub control_is_one : (m : Moment) (control : Control) → IsAtRest m → MakesStep m (told_after m.past control) 0 (after_control m.past control)
 control_is_one m (Tick now) rest = with_due m (told_after m.past (Tick now)) rest refl
@@ -132,80 +268,63 @@ end_is_one m rest = with_due m Ended rest refl
 
 -- The connection of an answer may be given back, and then its call goes on.
 
-record Gives (m : Moment) (first : Event) (n : ℕ) (H : List Event) : Type 0 where
-  events : List Event
-  group : H ≡ events ++ m.past
-  going : Going m first n events
-  none : owed (events ++ m.past) ≡ []
+-- what leaves a call that doesn't rest, or rests as the answer's, goes on with the step of the answer
+module _ (m : Moment) (e : Entry) (rest : IsAtRest m) (t k : ℕ) (is : place m.past e.conn ≡ Some (Lent t (owners.Call k))) (alone : rests (Heard e ∷ m.past) k ≡ true → k ≡ e.call_no) where
+  abbrev H : List Event
+  H = Heard e ∷ m.past
 
--- a connection that is given back goes on with the step of the answer
-gives_first : (m : Moment) (e : Event) (n : ℕ) (es : List Event) (first : Move) (later : List Move) → Going m e n es → owed (es ++ m.past) ≡ [] → stepping (going m e n es) (Pool first) ≡ n → owed (Pool first ∷ es ++ m.past) ≡ later → Gives m e n (with_moves (first ∷ later) (es ++ m.past))
-gives_first m e n es first later g none s due =
-    let b : begins_step (going m e n es) (Pool first) ≡ false = ap (λ k. not (k == n)) s ∙ ap not (same_itself n) in
-    let more : Going m e n (Pool first ∷ es) = goes m e n es (Pool first) g b s refl in
-    let ahead : with_moves later (Pool first ∷ es ++ m.past) ≡ with_moves later (Pool first ∷ es) ++ m.past = moves_ahead later (Pool first ∷ es) m.past in
-    record {
-      events = with_moves later (Pool first ∷ es);
-      group = ahead;
-      going = goes_moving m e n (Pool first ∷ es) later more due;
-      none = subst (λ H. owed H ≡ []) ahead (made_all (Pool first ∷ es ++ m.past) later due);
-    }
+  none : owed H ≡ []
+  none = ap (answered e.answer e.conn (pool m.past)) is
 
-gives_back : (m : Moment) (e : Event) (n : ℕ) (es : List Event) (c : ℕ) (later : List Move) → Going m e n es → owed (es ++ m.past) ≡ [] → given_back (es ++ m.past) c ≡ Back c ∷ later → Gives m e n (with_moves (given_back (es ++ m.past) c) (es ++ m.past))
-gives_back m e n es c later g none is =
-    let i : is_empty (owed (es ++ m.past)) ≡ true = ap is_empty none in
-    let due : owed (Pool (Back c) ∷ es ++ m.past) ≡ later = rw (none, is) refl in
-    subst (λ ms. Gives m e n (with_moves ms (es ++ m.past))) (sym is) (gives_first m e n es (Back c) later g none (rw i refl) due)
+  so_far : Begun m e.call_no (Is (Heard e)) H
+  so_far = begins_with m (Heard e) rest refl
 
-gives_closing : (m : Moment) (e : Event) (n : ℕ) (es : List Event) (c : ℕ) (why : CloseCause) (later : List Move) → Going m e n es → owed (es ++ m.past) ≡ [] → given_back (es ++ m.past) c ≡ CloseStart c why ∷ later → Gives m e n (with_moves (given_back (es ++ m.past) c) (es ++ m.past))
-gives_closing m e n es c why later g none is =
-    let i : is_empty (owed (es ++ m.past)) ≡ true = ap is_empty none in
-    let due : owed (Pool (CloseStart c why) ∷ es ++ m.past) ≡ later = rw (none, is) refl in
-    subst (λ ms. Gives m e n (with_moves ms (es ++ m.past))) (sym is) (gives_first m e n es (CloseStart c why) later g none (rw i refl) due)
+  leaves_step : cond (is_empty (owed H)) (leaver H e.call_no (place H e.conn)) e.call_no ≡ e.call_no
+  leaves_step =
+      ap (λ ms. cond (is_empty ms) (leaver H e.call_no (place H e.conn)) e.call_no) none
+      ∙ (ap (leaver H e.call_no) is ∙ by (rests H k) refl)
+    where
+      by : (r : Bool) → rests H k ≡ r → cond r k e.call_no ≡ e.call_no
+      by true r = alone r
+      by false r = refl
 
-gives_moves : (m : Moment) (e : Event) (n : ℕ) (es : List Event) (c : ℕ) → Going m e n es → owed (es ++ m.past) ≡ [] → Gives m e n (with_moves (given_back (es ++ m.past) c) (es ++ m.past))
-gives_moves m e n es c g none = by (when_given_back (fate H c) c (pool H)) refl
-  where
-    H : List Event
-    H = es ++ m.past
+  leaves : (move : Move) → stepping (going m (Heard e) e.call_no (Heard e ∷ [])) (Pool move) ≡ e.call_no → Begun m e.call_no (Is (Heard e)) (Pool move ∷ H)
+  leaves move s =
+      record {
+        first = Heard e;
+        has = refl;
+        events = Pool move ∷ Heard e ∷ [];
+        group = refl;
+        going = goes m (Heard e) e.call_no (Heard e ∷ []) (Pool move) (begun m (Heard e) rest refl) (ap (λ i. not (i == e.call_no)) s ∙ ap not (same_itself e.call_no)) s refl;
+      }
 
-    by : (o : Outcome) → when_given_back (fate H c) c (pool H) ≡ o → Gives m e n (with_moves (given_back H c) H)
-    by (Closes why) is = gives_closing m e n es c why [] g none (ap (moves_back c (pool H)) is)
-    by Serves is = gives_back m e n es c (lends_to_oldest c (next_tenure (pool H) c) (pool H).waiting) g none (ap (moves_back c (pool H)) is)
-    by Rests is = gives_back m e n es c [] g none (ap (moves_back c (pool H)) is)
+  lets_go : (used : Bool) → is_used H k ≡ used → Given m e.call_no (Is (Heard e)) (let_go e.conn k H)
+  lets_go true used = rw used (record { begun = so_far; none = none })
+  lets_go false used = rw used (gives_moves m e.call_no (Is (Heard e)) H e.conn none (leaves (Back e.conn) leaves_step) (λ why. leaves (CloseStart e.conn why) leaves_step))
 
-lets_go : (m : Moment) (e : Event) (n : ℕ) (es : List Event) (c k : ℕ) (used : Bool) → Going m e n es → owed (es ++ m.past) ≡ [] → is_used (es ++ m.past) k ≡ used → Gives m e n (let_go c k (es ++ m.past))
-lets_go m e n es c k true g none is = rw is (record { events = es; group = refl; going = g; none = none })
-lets_go m e n es c k false g none is = rw is (gives_moves m e n es c g none)
+  heard_lent : MakesStep m (Heard e) e.call_no (gone_on e.call_no (let_go e.conn k H))
+  heard_lent = ends_on m (Heard e) e.call_no (let_go e.conn k H) (lets_go (is_used H k) refl)
 
-heard_lent : (m : Moment) (e : Entry) (k : ℕ) → IsAtRest m → owed (Heard e ∷ m.past) ≡ [] → MakesStep m (Heard e) e.call_no (gone_on e.call_no (let_go e.conn k (Heard e ∷ m.past)))
-heard_lent m e k rest none =
-    let g : Gives m (Heard e) e.call_no (let_go e.conn k (Heard e ∷ m.past)) = lets_go m (Heard e) e.call_no (Heard e ∷ []) e.conn k (is_used (Heard e ∷ m.past) k) (begun m (Heard e) rest refl) none refl in
-    subst (λ H. MakesStep m (Heard e) e.call_no (gone_on e.call_no H)) (sym g.group) (ends_with m (Heard e) e.call_no g.events g.going g.none)
+heard_at_place : (m : Moment) (e : Entry) (at : Option Place) → IsAtRest m → RestsAlone m.past e → place m.past e.conn ≡ at → MakesStep m (Heard e) e.call_no (heard_at at e m.past)
+heard_at_place m e (Some (Lent t (owners.Call k))) rest alone is = heard_lent m e rest t k is (alone t k is)
+heard_at_place m e at rest alone is = with_due m (Heard e) rest refl
 
-heard_at_place : (m : Moment) (e : Entry) (at : Option Place) → IsAtRest m → place m.past e.conn ≡ at → MakesStep m (Heard e) e.call_no (heard_at at e m.past)
-heard_at_place m e (Some (Lent t (owners.Call k))) rest is = heard_lent m e k rest (ap (λ it. answered e.answer e.conn (pool m.past) it) is)
-heard_at_place m e at rest is = with_due m (Heard e) rest refl
-
-pub heard_is_one : (m : Moment) (e : Entry) → IsAtRest m → MakesStep m (Heard e) e.call_no (after_heard m.past e)
-heard_is_one m e rest = heard_at_place m e (place m.past e.conn) rest refl
+pub heard_is_one : (m : Moment) (e : Entry) → IsAtRest m → RestsAlone m.past e → MakesStep m (Heard e) e.call_no (after_heard m.past e)
+heard_is_one m e rest alone = heard_at_place m e (place m.past e.conn) rest alone refl
 
 -- A call that goes on by itself.
 
-goes_alone : (m : Moment) (n : ℕ) (more : OneMore n m.past (gone_on n m.past)) → IsAtRest m → owed m.past ≡ [] → (n == m.stepper) ≡ false → GoesByItself m n (gone_on n m.past)
-goes_alone m n more rest none other =
-    let s : stepping m more.event ≡ n = steps_itself m n more.event none more.itself in
-    let b : begins_step m more.event ≡ true = inside m n more.event more.itself ∙ (ap (λ k. not (k == m.stepper)) s ∙ ap not other) in
-    let g : Going m more.event n (more.event ∷ []) = subst (λ k. Going m more.event k (more.event ∷ [])) s (begun m more.event rest b) in
-    record {
-      first = more.event;
-      itself = more.itself;
-      step = record { events = more.event ∷ []; group = more.is; step = whole m more.event n (more.event ∷ []) g };
-    }
+abbrev Own : Moment → ℕ → Event → Type 0
+Own m n first = (goes_by_itself n first ≡ true) × (stepping m first ≡ n)
 
 pub goes_on_by_one : (m : Moment) (n : ℕ) → IsAtRest m → owed m.past ≡ [] → (n == m.stepper) ≡ false → (gone_on n m.past ≡ m.past) ⊎ GoesByItself m n (gone_on n m.past)
-goes_on_by_one m n rest none other = by (goes_one n m.past)
+goes_on_by_one m n rest none other = by (goes_so_far m n (Own m n) m.past (inl (record { rest = rest; past = refl; other = other; has = λ e it own. (it, own) })) none)
   where
-    by : (gone_on n m.past ≡ m.past) ⊎ OneMore n m.past (gone_on n m.past) → (gone_on n m.past ≡ m.past) ⊎ GoesByItself m n (gone_on n m.past)
+    by : (gone_on n m.past ≡ m.past) ⊎ Begun m n (Own m n) (gone_on n m.past) → (gone_on n m.past ≡ m.past) ⊎ GoesByItself m n (gone_on n m.past)
     by (inl same) = inl same
-    by (inr more) = inr (goes_alone m n more rest none other)
+    by (inr g) = inr (record {
+      first = g.first;
+      itself = g.has.0;
+      own = g.has.1;
+      step = record { events = g.events; group = g.group; step = whole m g.first n g.events g.going };
+    })

@@ -10,13 +10,14 @@ ghost use Rattle.dsql_history.specs.Readers.Controls.{told_after};
 ghost use Rattle.dsql_history.specs.Readers.Owed.{owed};
 ghost use Rattle.dsql_follows.specs.Moments.{Moment};
 ghost use Rattle.dsql_steps.specs.Groups.{after_enter, after_heard, after_control, after_end, gone_on};
-ghost use Rattle.dsql_step_laws.specs.Steps.{IsAtRest, MakesStep, GoesByItself};
+ghost use Rattle.dsql_step_laws.specs.Steps.{IsAtRest, MakesStep, GoesByItself, RestsAlone};
 
 /// A call that enters, an answer, a limit, a moment and the run's end are each one step, with all that comes of it. It is the
-/// step of the call that enters or is answered, and else of nobody.
+/// step of the call that enters or is answered, and else of nobody. So it is of an answer unless another call rests with its
+/// connection.
 pub fn each_step_is_one()
     ensures enter { (m : Moment) (client : ℕ) (op : Op) → IsAtRest m → MakesStep m (Entered client (next_call m.past) op) (next_call m.past) (after_enter m.past client op) }
-    ensures heard { (m : Moment) (e : Entry) → IsAtRest m → MakesStep m (Heard e) e.call_no (after_heard m.past e) }
+    ensures heard { (m : Moment) (e : Entry) → IsAtRest m → RestsAlone m.past e → MakesStep m (Heard e) e.call_no (after_heard m.past e) }
     ensures control { (m : Moment) (control : Control) → IsAtRest m → MakesStep m (told_after m.past control) 0 (after_control m.past control) }
     ensures end { (m : Moment) → IsAtRest m → MakesStep m Ended 0 (after_end m.past) }
 {}

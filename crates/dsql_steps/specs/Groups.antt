@@ -16,7 +16,7 @@ use Rattle.dsql_history.specs.declared.reply.Reply.TheVariants.{TooMany}
 use Rattle.dsql_history.specs.Readers.Unfinished.{is_unfinished}
 use Rattle.dsql_history.specs.Readers.Pool.{place}
 use Rattle.dsql_history.specs.Readers.Owed.{given_back, owed}
-use Rattle.dsql_history.specs.Readers.Calls.{next_call, reply_due}
+use Rattle.dsql_history.specs.Readers.Calls.{next_call, reply_due, rests, rests_with}
 use Rattle.dsql_history.specs.Readers.Controls.{told_after}
 use Rattle.dsql_history.specs.Rules.Asking.{may_ask, ask_outcome}
 use Rattle.dsql_history.specs.Rules.Line.{due_for, is_used}
@@ -28,22 +28,37 @@ use Rattle.dsql_steps.specs.declared.limits.TheConstants.{MAX_EVENTS}
 abbrev pub with_owed : List Event → List Event
 with_owed past = with_moves (owed past) past
 
+-- the connection that is told is given back, if one is
+abbrev pub given_up : Option ℕ → List Event → List Event
+given_up (Some c) past = with_moves (given_back past c) past
+given_up None past = past
+
+-- call n replies this, if anything, and gives back first with what it rests
+abbrev pub after_reply : ℕ → Option Reply → List Event → List Event
+after_reply n (Some reply) past = Replied n reply ∷ given_up (rests_with past n) past
+after_reply n None past = past
+
+-- the call has no reply, and no driver call of it is due
+abbrev pub sends_nothing : List Event → ℕ → Bool
+sends_nothing past n = is_unfinished past n && not (is_some (due_for past n))
+
+-- a call that rests with the connection that it was lent just now goes on at once
+abbrev pub unless_resting : ℕ → List Event → List Event
+unless_resting n past = cond (sends_nothing past n && rests past n) (after_reply n (reply_due past n) past) past
+
 -- call n asked, and this came of it
 abbrev pub asked_so : ℕ → Result Asked AskFault → List Event → List Event
 asked_so n (Err faults.TooMany) past = Replied n TooMany ∷ past
-asked_so n outcome past = with_asked n outcome past
+asked_so n outcome past = unless_resting n (with_asked n outcome past)
 
 -- call n asks for a connection, where it may
 abbrev pub after_asking : ℕ → List Event → List Event
 after_asking n past = cond (may_ask past n) (asked_so n (ask_outcome past n) past) past
 
+-- it replies what is settled, or else asks
 abbrev pub after_settling : ℕ → Option Reply → List Event → List Event
-after_settling n (Some reply) past = Replied n reply ∷ past
 after_settling n None past = after_asking n past
-
--- the call has no reply, and no driver call of it is due
-abbrev pub sends_nothing : List Event → ℕ → Bool
-sends_nothing past n = is_unfinished past n && not (is_some (due_for past n))
+after_settling n due past = after_reply n due past
 
 -- Call n goes on by itself as far as it can. Where no driver call of it is due it replies what is settled, or else asks for a connection where it may. There is no call 0.
 abbrev pub gone_on : ℕ → List Event → List Event

@@ -4,11 +4,10 @@ ghost use Rattle.std.specs.Prelude.{◌≡◌, Some, None, Err, IfOk, option_map
 ghost use Rattle.dsql_course.specs.Made.{or_else};
 ghost use Rattle.dsql_history.specs.declared.reply.Reply.TheVariants.{DbClosed};
 ghost use Rattle.dsql_telling.specs.Starting.{IsChecked, StartsOver};
-ghost use Rattle.dsql_history.specs.Readers.Calls.{fault_reply, ping_refused, refused_with, told_row};
+ghost use Rattle.dsql_history.specs.Readers.Calls.{fault_reply, refused_with, told_row};
 
 use crate::deciding::row_fault;
 use dsql_calls::{CallStart, NoRoom};
-use dsql_driver::Caps;
 use dsql_history::{DbEnd, Reply, Work};
 use dsql_rows::RowsEnd;
 use dsql_scan::RowFault;
@@ -108,17 +107,6 @@ fn refusal(fault: ArgFault) -> Result<Reply, NoRoom>
         ArgFault::BadName(name) => Ok(Reply::BadName(name)),
         ArgFault::Memory => Err(NoRoom),
     }
-}
-
-/// The refusal of a ping, where the driver can neither ping nor test a connection.
-pub fn ping_refused(alloc: Global, caps: Caps) -> Result<Option<Reply>, NoRoom>
-    ensures { IfOk result (λ told. told ≡ ping_refused caps) }
-{
-    if caps.pinger || caps.validator {
-        return Ok(None);
-    }
-    let text = Txt::copy_of(alloc, "the driver can neither ping nor test a connection")?;
-    Ok(Some(Reply::Driver(text)))
 }
 
 /// What rows tell of the fault that ended them, if one did.

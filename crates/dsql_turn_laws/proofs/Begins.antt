@@ -1,5 +1,5 @@
 -- A driver call begins, where its call has gone on.
-use Rattle.std.proofs.Common.{◌≡◌, ◌≢◌, ℕ, ◌⊎◌, inl, inr, Bool, true, false, not, ◌&&◌, ◌||◌, cond, List, [], ◌∷◌, ◌++◌, Option, Some, None, is_none, is_some, refl, sym, ap, subst, ◌∙◌}
+use Rattle.std.proofs.Common.{◌≡◌, ◌≢◌, ℕ, ◌⊎◌, inl, inr, Bool, true, false, not, ◌&&◌, ◌||◌, cond, List, [], ◌∷◌, ◌++◌, Option, Some, None, is_some, refl, sym, ap, subst, ◌∙◌}
 use Rattle.std.specs.List.{list_any}
 use Rattle.std.specs.Option.{option_map}
 use Rattle.std.proofs.lemmas.List.Folds.{list_all-append}
@@ -15,13 +15,13 @@ use Rattle.dsql_history.specs.declared.event.Event.{Event}
 use Rattle.dsql_history.specs.declared.record.Flight.{Flight}
 use Rattle.dsql_history.specs.declared.record.Stand.{Stand}
 use Rattle.dsql_history.specs.declared.record.Stand.TheVariants.{Waits, Opens, Sends, Replies, Asks}
-use Rattle.dsql_history.specs.Readers.Calls.{decided, site, told_by_others}
+use Rattle.dsql_history.specs.Readers.Calls.{site}
 use Rattle.dsql_history.specs.Readers.Pool.{place, pool}
 use Rattle.dsql_history.specs.Readers.Tries.{asks_again, tries}
 use Rattle.dsql_history.specs.Readers.Unfinished.{is_unfinished}
 use Rattle.dsql_history.specs.Rules.Flights.{has_flight, is_in_flight, permitted}
 use Rattle.dsql_history.specs.Rules.Line.{due_for}
-use Rattle.dsql_history.specs.Rules.Stands.{stand, stands}
+use Rattle.dsql_history.specs.Rules.Stands.{has_to_reply, stand, stands}
 use Rattle.dsql_history.specs.Legal.{Lawful}
 use Rattle.dsql_laws.proofs.Numbered.{unfinished_from_one}
 use Rattle.dsql_laws.proofs.Standing.{neither, none_opens, stands_sending}
@@ -83,11 +83,8 @@ more_flying H n flights f = record {
 
 -- Who has gone on, wants no connection and has no reply has something due.
 
-abbrev settled_there : List Event → ℕ → Bool
-settled_there H n = is_none (decided H n) && is_some (told_by_others H n)
-
 -- who wants no connection stands where a driver call of it is due, or where it replies or asks again
-stands_content : (H : List Event) (n : ℕ) → wants n (pool H) ≡ false → is_some (due_for H n) ≡ false → stand H n ≡ or_else (stands (settled_there H n) Replies) (stands (asks_again (tries H n)) Asks)
+stands_content : (H : List Event) (n : ℕ) → wants n (pool H) ≡ false → is_some (due_for H n) ≡ false → stand H n ≡ or_else (stands (has_to_reply H n) Replies) (stands (asks_again (tries H n)) Asks)
 stands_content H n content silent =
     let w = neither (waits n (pool H).waiting) (list_any (λ conn. is_for n conn.place) (pool H).conns) content in
     rw (w.0, none_opens n (pool H) w.1, silent) refl
@@ -126,7 +123,7 @@ due_once_gone H n before next u content answers = by (is_some (due_for H n)) ref
     by false silent =
         let it : sends_unless H n (why_blocked before n (stand H n)) ≡ Some next = ap (λ (b : Bool). cond b (sends_unless H n (why_blocked before n (stand H n))) (Some (nexts.Reply n))) (sym u) ∙ answers in
         let none : sends_unless H n (why_blocked before n (stand H n)) ≡ None =
-        ap (λ at. sends_unless H n (why_blocked before n at)) (stands_content H n content silent) ∙ none_next H n before (settled_there H n) (asks_again (tries H n)) silent
+        ap (λ at. sends_unless H n (why_blocked before n at)) (stands_content H n content silent) ∙ none_next H n before (has_to_reply H n) (asks_again (tries H n)) silent
         in
         let clash : None ≡ Some next = sym none ∙ it in
         absurd cc

@@ -1,5 +1,5 @@
 -- The events of a step behind its first, and those of what comes of it.
-use Rattle.std.proofs.Common.{◌≡◌, ℕ, Bool, true, false, cond, List, [], ◌∷◌, ◌++◌, Option, Some, None, refl, sym, ap, ◌∙◌}
+use Rattle.std.proofs.Common.{◌≡◌, ℕ, Bool, true, false, ◌&&◌, cond, List, [], ◌∷◌, ◌++◌, Option, Some, None, refl, sym, ap, ◌∙◌}
 use Rattle.std.specs.Prelude.{Result, Ok, Err}
 use Rattle.std.specs.List.{list_all}
 use Rattle.std.proofs.lemmas.List.{append_assoc}
@@ -14,17 +14,18 @@ use Rattle.dsql_pool.specs.declared.request.Asked.TheVariants as asked
 use Rattle.dsql_pool.specs.declared.request.AskFault.{AskFault}
 use Rattle.dsql_pool.specs.declared.request.AskFault.TheVariants as faults
 use Rattle.dsql_history.specs.declared.event.Event.{Event}
-use Rattle.dsql_history.specs.declared.event.Event.TheVariants.{Heard, Pool}
+use Rattle.dsql_history.specs.declared.event.Event.TheVariants.{Heard, Pool, Replied}
 use Rattle.dsql_history.specs.declared.reply.Reply.{Reply}
-use Rattle.dsql_history.specs.Readers.Calls.{reply_due}
+use Rattle.dsql_history.specs.Readers.Calls.{rests, rests_with, reply_due}
 use Rattle.dsql_history.specs.Readers.Owed.{given_back, owed}
 use Rattle.dsql_history.specs.Rules.Asking.{ask_outcome, may_ask}
 use Rattle.dsql_history.specs.Rules.Line.{is_used}
 use Rattle.dsql_history.specs.Legal.{Lawful}
+use Rattle.dsql_laws.specs.Asked.{with_asked}
 use Rattle.dsql_laws.specs.OwedMade.{with_moves}
 use Rattle.dsql_laws.proofs.Splits.{Lawful-older}
 use Rattle.dsql_laws.proofs.Tests.{same_itself, together}
-use Rattle.dsql_steps.specs.Groups.{after_settling, asked_so, gone_on, heard_at, let_go, sends_nothing, with_owed}
+use Rattle.dsql_steps.specs.Groups.{after_reply, given_up, unless_resting, after_settling, asked_so, gone_on, heard_at, let_go, sends_nothing, with_owed}
 use Rattle.dsql_walk_laws.specs.Groups.{is_later_of}
 
 -- K is the history with later events of a step of call n
@@ -57,16 +58,32 @@ either_later : (n : ℕ) (b : Bool) (H K L : List Event) → Later n H K → Lat
 either_later n true H K L a b = a
 either_later n false H K L a b = b
 
+given_up_later : (n : ℕ) (o : Option ℕ) (H : List Event) → Later n H (given_up o H)
+given_up_later n None H = none_later n H
+given_up_later n (Some c) H = moves_later n (given_back H c) H
+
+reply_later : (n : ℕ) (due : Option Reply) (H : List Event) → Later n H (after_reply n due H)
+reply_later n None H = none_later n H
+reply_later n (Some reply) H =
+    let G = given_up (rests_with H n) H in joined n H G (Replied n reply ∷ G) (given_up_later n (rests_with H n) H) (one_later n G (Replied n reply) (same_itself n))
+
+resting_later : (n : ℕ) (H : List Event) → Later n H (unless_resting n H)
+resting_later n H = either_later n (sends_nothing H n && rests H n) H (after_reply n (reply_due H n) H) H (reply_later n (reply_due H n) H) (none_later n H)
+
+asked_one : (n : ℕ) (outcome : Result Asked AskFault) (H : List Event) → Later n H (with_asked n outcome H)
+asked_one n (Ok (asked.Lent c t)) H = one_later n H _ refl
+asked_one n (Ok (asked.Opening c)) H = one_later n H _ refl
+asked_one n (Ok asked.Queued) H = one_later n H _ (same_itself n)
+asked_one n (Ok asked.Closed) H = none_later n H
+asked_one n (Err why) H = none_later n H
+
 asked_later : (n : ℕ) (outcome : Result Asked AskFault) (H : List Event) → Later n H (asked_so n outcome H)
-asked_later n (Ok (asked.Lent c t)) H = one_later n H _ refl
-asked_later n (Ok (asked.Opening c)) H = one_later n H _ refl
-asked_later n (Ok asked.Queued) H = one_later n H _ (same_itself n)
-asked_later n (Ok asked.Closed) H = none_later n H
 asked_later n (Err faults.TooMany) H = one_later n H _ (same_itself n)
-asked_later n (Err faults.Memory) H = none_later n H
+asked_later n (Err faults.Memory) H = joined n H (with_asked n (Err faults.Memory) H) (asked_so n (Err faults.Memory) H) (asked_one n (Err faults.Memory) H) (resting_later n (with_asked n (Err faults.Memory) H))
+asked_later n (Ok it) H = joined n H (with_asked n (Ok it) H) (asked_so n (Ok it) H) (asked_one n (Ok it) H) (resting_later n (with_asked n (Ok it) H))
 
 settling_later : (n : ℕ) (due : Option Reply) (H : List Event) → Later n H (after_settling n due H)
-settling_later n (Some reply) H = one_later n H _ (same_itself n)
+settling_later n (Some reply) H = reply_later n (Some reply) H
 settling_later n None H = either_later n (may_ask H n) H (asked_so n (ask_outcome H n) H) H (asked_later n (ask_outcome H n) H) (none_later n H)
 
 -- a call that goes on by itself

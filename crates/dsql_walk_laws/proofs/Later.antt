@@ -1,13 +1,14 @@
 -- Behind a step's first event come moves of the pool, and that its call waits or has its reply.
-use Rattle.std.proofs.Common.{◌≡◌, ℕ, ◌==◌, true, false, not, List, [], ◌∷◌, ◌++◌, Option, Some, None, refl, ap, sym, subst}
+use Rattle.std.proofs.Common.{◌≡◌, ℕ, ◌==◌, true, false, not, List, [], ◌∷◌, ◌++◌, Option, Some, None, refl, ap, sym, subst, ◌∙◌}
 use Rattle.std.specs.List.{list_all}
 use Rattle.std.proofs.lemmas.Bool.{not-false, not-true}
 use Rattle.dsql_history.specs.declared.event.Event.{Event}
 use Rattle.dsql_history.specs.declared.event.Event.TheVariants.{Pool, Waits, Replied}
+use Rattle.dsql_history.specs.declared.record.Flight.{Flight}
 use Rattle.dsql_history.specs.Rules.Course.{is_run, is_from_outside}
 use Rattle.dsql_laws.proofs.Standing.{neither}
 use Rattle.dsql_laws.proofs.Tests.{both, together, same_number}
-use Rattle.dsql_follows.specs.Moments.{Moment, Passed, begins_step, stepping, walk}
+use Rattle.dsql_follows.specs.Moments.{Moment, Passed, begins_step, rested, stepping, walk}
 use Rattle.dsql_follows.specs.Sentences.{passed, begins, later, oldest}
 use Rattle.dsql_journal.specs.Readers.{is_empty}
 use Rattle.dsql_step_laws.specs.Steps.{IsStep}
@@ -26,6 +27,10 @@ is_later m (Waits k) b = not-false (k == m.stepper) b
 is_later m (Replied k reply) b = not-false (k == m.stepper) b
 is_later m e b = absurd cc
 
+-- whose step it is doesn't rest on what is in flight
+steps_alike : (m : Moment) (flights : List Flight) (e : Event) → stepping m e ≡ stepping (record m { flights = flights }) e
+steps_alike m flights e = refl
+
 event_in : Event → Option Passed → Event
 event_in e None = e
 event_in e (Some p) = p.event
@@ -36,6 +41,7 @@ pub record Behind (m : Moment) (first : Event) (events : List Event) : Type 0 wh
   pub whole : events ≡ more ++ first ∷ []
   pub later : list_all (is_later_of (walk m events).now.stepper) more ≡ true
   pub begun : begins_step m first ≡ true
+  pub whose : stepping m first ≡ (walk m events).now.stepper
 
 behind_first : (m : Moment) (first : Event) (before : Moment) (events : List Event) → list_all (λ p. not p.begins) (later (passed m events)) ≡ true
     → oldest (passed m events) ≡ Some (record { event = first; before = before; begins = true }) → Behind m first events
@@ -43,7 +49,13 @@ unfolding event_in
 behind_first m first before [] none o = absurd cc
 behind_first m first before (e ∷ []) none o =
     let same : e ≡ first = ap (event_in e) o in
-    record { more = []; whole = ap (λ it. it ∷ []) same; later = refl; begun = subst (λ it. begins_step m it ≡ true) same (ap begins o) }
+    record {
+      more = [];
+      whole = ap (λ it. it ∷ []) same;
+      later = refl;
+      begun = subst (λ it. begins_step m it ≡ true) same (ap begins o);
+      whose = ap (stepping m) (sym same) ∙ steps_alike m (rested (begins_step m e) m).flights e;
+    }
 behind_first m first before (e ∷ x ∷ rest) none o =
     let w = walk m (x ∷ rest) in
     let a = both (not (begins_step w.now e)) (list_all (λ (p : Passed). not p.begins) (later w.passed)) none in
@@ -55,6 +67,7 @@ behind_first m first before (e ∷ x ∷ rest) none o =
       whole = ap (λ es. e ∷ es) g.whole;
       later = subst (λ n. list_all (is_later_of n) (e ∷ g.more) ≡ true) (sym s) (together (is_later_of w.now.stepper e) _ (is_later w.now e b) g.later);
       begun = g.begun;
+      whose = g.whose ∙ sym s ∙ steps_alike w.now (rested (begins_step w.now e) w.now).flights e;
     }
 
 -- no step begins behind the first event of one
@@ -65,6 +78,10 @@ alone m first n events s =
 
 pub first_and_more : (m : Moment) (first : Event) (n : ℕ) (events : List Event) → IsStep m first n events → Behind m first events
 first_and_more m first n events s = behind_first m first m events (alone m first n events s) s.oldest
+
+-- a step is of the call whose its first event is
+pub step_is_its : (m : Moment) (first : Event) (n : ℕ) (events : List Event) → IsStep m first n events → stepping m first ≡ n
+step_is_its m first n events s = let g = first_and_more m first n events s in g.whose ∙ ap (λ it. it.stepper) s.now
 
 pub step_is_group : (m : Moment) (first : Event) (n : ℕ) (events : List Event) → IsStep m first n events → IsGroup first n events
 step_is_group m first n events s =

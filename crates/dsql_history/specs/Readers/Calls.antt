@@ -1,5 +1,5 @@
 -- The calls of a history.
-use Rattle.std.specs.Prelude.{ℕ, ◌==◌, nat_lt, ◌||◌, Bool, true, false, cond, codes, List, [], ◌∷◌, ◌++◌, length, slice_set, slice_index_or, Option, Some, None, option_map, if◌then◌else◌, Ok, Err}
+use Rattle.std.specs.Prelude.{ℕ, ◌==◌, nat_lt, ◌||◌, Bool, true, false, not, ◌&&◌, cond, List, [], ◌∷◌, ◌++◌, length, slice_set, slice_index_or, Option, Some, None, option_map, if◌then◌else◌, Ok, Err}
 use Rattle.std.specs.List.{list_any}
 use Rattle.dsql_value.specs.declared.arg.Named.{Named}
 use Rattle.dsql_value.specs.declared.arg.ArgFault.{ArgFault}
@@ -40,7 +40,7 @@ use Rattle.dsql_history.specs.Readers.Course.{caps, db_end}
 use Rattle.dsql_history.specs.Readers.Unfinished.{unfinished, is_unfinished}
 use Rattle.dsql_history.specs.Readers.Works.{works, work, work_of}
 use Rattle.dsql_history.specs.Readers.Tries.{tries, most_tries, try_number, has_a_try}
-use Rattle.dsql_history.specs.Readers.Pool.{pool, home}
+use Rattle.dsql_history.specs.Readers.Pool.{pool, smallest, is_home, home}
 use Rattle.dsql_history.specs.Readers.HandedOut.{rows_by, over}
 
 -- the text of an operation's statement, empty where it has none
@@ -126,15 +126,10 @@ rows_for before op = cond (is_unfinished before (maker (works before) (label_of 
 abbrev pub closed_to : List Event → Op → Option Reply
 closed_to before op = cond (asks (work_of (works before) op)) (option_map DbClosed (db_end before)) None
 
--- A driver that can neither ping nor test a connection is sent nothing for a ping, so a ping is refused.
-abbrev pub ping_refused : Caps → Option Reply
-ping_refused can = cond (can.pinger || can.validator) None (Some (Driver (codes "the driver can neither ping nor test a connection")))
-
--- What a call is told as it enters, if anything: that the database is closed, where it would ask for a connection, or else what its arguments or its rows give, or what the driver can't do. A close of the database and a question for its statistics are told at once.
+-- What a call is told as it enters, if anything: that the database is closed, where it would ask for a connection, or else what its arguments or its rows give. A close of the database and a question for its statistics are told at once.
 abbrev pub told_at_entry : List Event → Op → Option Reply
 told_at_entry before ops.DbClose = Some reply.Ok
 told_at_entry before ops.Stats = Some (reply.Stats (stats (pool before)))
-told_at_entry before ops.Ping = or_else (closed_to before ops.Ping) (ping_refused (caps before))
 told_at_entry before op = or_else (closed_to before op) (reply_at_entry (caps before).named (rows_for before op) op)
 
 -- the parameters that its arguments become, where none is refused
@@ -273,6 +268,19 @@ told_as_lent can work tries = None
 
 abbrev pub told_at_lending : List Event → ℕ → Option Reply
 told_at_lending before n = told_as_lent (caps before) (work before n) (tries before n)
+
+-- nothing is asked of the driver for a ping that was lent a connection, where it can neither ping nor test one
+abbrev pub asks_nothing : Caps → Work → List Try → Bool
+asks_nothing can works_of.Ping (Served ∷ earlier) = not (can.pinger || can.validator)
+asks_nothing can work tries = false
+
+-- Such a ping rests with its connection until a step of its own, in which it gives that back and replies.
+abbrev pub rests : List Event → ℕ → Bool
+rests before n = is_unfinished before n && asks_nothing (caps before) (work before n) (tries before n)
+
+-- the connection with which it does
+abbrev pub rests_with : List Event → ℕ → Option ℕ
+rests_with before n = cond (rests before n) (smallest (is_home n) (pool before)) None
 
 -- what the call is to be replied once nothing more of it is due, where that is settled
 abbrev pub reply_due : List Event → ℕ → Option Reply

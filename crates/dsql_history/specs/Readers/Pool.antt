@@ -1,5 +1,5 @@
 -- The pool after a history: connections, requests that wait, limits and counts are its fields.
-use Rattle.std.specs.Prelude.{ℕ, ℤ, ◌==◌, Bool, false, cond, List, [], ◌∷◌, find, Option, Some, None}
+use Rattle.std.specs.Prelude.{ℕ, ℤ, ◌==◌, Bool, cond, List, [], ◌∷◌, find, Option, Some, None}
 use Rattle.std.specs.Option.{option_map, option_map_or}
 use Rattle.dsql_journal.specs.declared.entry.Owner.{Owner}
 use Rattle.dsql_journal.specs.declared.entry.Owner.TheVariants.{Call}

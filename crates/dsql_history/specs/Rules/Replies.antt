@@ -5,7 +5,7 @@ use Rattle.dsql_history.specs.declared.event.Event.TheVariants.{Replied}
 use Rattle.dsql_history.specs.declared.reply.Reply.{Reply}
 use Rattle.dsql_history.specs.declared.reply.Reply.TheVariants.{TooMany}
 use Rattle.dsql_history.specs.Same.{is_reply}
-use Rattle.dsql_history.specs.Readers.Calls.{reply_due}
+use Rattle.dsql_history.specs.Readers.Calls.{reply_due, rests_with}
 use Rattle.dsql_history.specs.Rules.Asking.{may_ask, ask_outcome, is_too_many}
 use Rattle.dsql_history.specs.Rules.Line.{due_for}
 use Rattle.dsql_history.specs.Rules.Settled.{is_settled_but}
@@ -19,7 +19,11 @@ is_told_too_many before n _ = false
 abbrev pub has_cause : List Event → ℕ → Reply → Bool
 has_cause before n reply = is_reply (reply_due before n) reply || is_told_too_many before n reply
 
--- A call replies once it has nothing more to send. Its reply is the last of its step: but for this call all is settled.
+-- a call that rests with a connection gives it back first
+abbrev pub gave_back : List Event → ℕ → Bool
+gave_back before n = is_none (rests_with before n)
+
+-- A call replies once it has nothing more to send, and its connection is back with which it rested. Its reply is the last of its step: but for this call all is settled.
 abbrev pub keeps_replies : List Event → Event → Bool
-keeps_replies before (Replied n reply) = is_none (due_for before n) && (has_cause before n reply && is_settled_but n before)
+keeps_replies before (Replied n reply) = is_none (due_for before n) && (gave_back before n && (has_cause before n reply && is_settled_but n before))
 keeps_replies before _ = true

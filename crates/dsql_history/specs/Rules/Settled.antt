@@ -9,6 +9,7 @@ use Rattle.dsql_history.specs.declared.event.Event.{Event}
 use Rattle.dsql_history.specs.Readers.Unfinished.{unfinished}
 use Rattle.dsql_history.specs.Readers.Pool.{pool}
 use Rattle.dsql_history.specs.Readers.Owed.{owed}
+use Rattle.dsql_history.specs.Readers.Calls.{rests}
 use Rattle.dsql_history.specs.Rules.Line.{is_used}
 use Rattle.dsql_history.specs.Rules.Stands.{stand}
 
@@ -16,9 +17,12 @@ use Rattle.dsql_history.specs.Rules.Stands.{stand}
 abbrev pub owes_nothing : List Event → Bool
 owes_nothing before = is_empty (owed before)
 
--- a lent connection is in use
+-- a lent connection is in use, or its call rests with it
+abbrev pub is_kept : List Event → ℕ → Bool
+is_kept before n = is_used before n || rests before n
+
 abbrev pub is_in_use : List Event → Place → Bool
-is_in_use before (Lent tenure owner) = is_used before (number_of owner)
+is_in_use before (Lent tenure owner) = is_kept before (number_of owner)
 is_in_use before _ = true
 
 abbrev pub uses_what_is_lent : List Event → Bool

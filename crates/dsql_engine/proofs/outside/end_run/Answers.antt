@@ -15,7 +15,7 @@ end-requires-clause-may c =
       stands = c.requires.pays.stands;
       paid = omega (arith, few, paid);
       allowed = end_allowed H c.requires.begun c.requires.settled c.requires.quiet c.requires.running;
-      few = c.requires.pays.few;
+      few = let room = c.requires.pays.few in omega (arith, room);
     }
 
 pub returns : goal.returns

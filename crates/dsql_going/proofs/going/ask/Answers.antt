@@ -1,6 +1,5 @@
-use Rattle.std.proofs.Common.{◌≡◌, ℕ, ◌<◌, ◌∷◌, true, false, length, Some, is_some, refl, sym, ap, subst, ◌∙◌, arith}
+use Rattle.std.proofs.Common.{◌≡◌, ℕ, ◌∷◌, true, false, length, Some, is_some, refl, sym, ap, subst, ◌∙◌, arith}
 use Rattle.std.specs.Prelude.{Ok, Err}
-use Rattle.dsql_work.specs.Limits.{most_within_a_step}
 use Rattle.dsql_journal.specs.declared.entry.Owner.TheVariants.{Call}
 use Rattle.dsql_pool.specs.declared.moves.Move.TheVariants.{OpenStart, Lend}
 use Rattle.dsql_pool.specs.declared.request.Asked.TheVariants as asked
@@ -10,13 +9,14 @@ use Rattle.dsql_history.specs.declared.event.Event.TheVariants.{Pool, Waits, Rep
 use Rattle.dsql_history.specs.declared.record.Stand.TheVariants as stands_at
 use Rattle.dsql_history.specs.declared.reply.Reply.TheVariants.{TooMany}
 use Rattle.dsql_history.specs.Readers.Pool.{pool, smallest}
+use Rattle.dsql_history.specs.Readers.Calls.{rests}
+use Rattle.dsql_history.specs.Readers.Unfinished.{is_unfinished}
 use Rattle.dsql_history.specs.Rules.Asking.{ask_outcome, is_too_many, may_ask}
 use Rattle.dsql_history.specs.Rules.Line.{due_for}
 use Rattle.dsql_history.specs.Rules.Settled.{Settled, is_settled_but}
 use Rattle.dsql_history.specs.Legal.{Allowed, Lawful}
 use Rattle.dsql_laws.specs.Asked.{with_asked}
-use Rattle.dsql_move_laws.proofs.Lends.{due_lent}
-use Rattle.dsql_steps.specs.Groups.{asked_so}
+use Rattle.dsql_steps.specs.Groups.{asked_so, unless_resting}
 use Rattle.dsql_desk.specs.declared.desk.Desk.{Desk}
 use Rattle.dsql_desk.specs.Appending.{Asks}
 use Rattle.dsql_desk.specs.Desk.{past, Stands}
@@ -24,33 +24,78 @@ use Rattle.dsql_going.specs.Reaching.{HasGoneOn, Reaches}
 use Rattle.dsql_going.specs.declared.next.Next.TheVariants as nexts
 use Rattle.dsql_going.specs.declared.next.Why.TheVariants as whys
 use Rattle.dsql_going.proofs.Asking.{asking_silent, never_closed, never_memory, settled_asked, stands_opened, stands_queued}
-use Rattle.dsql_going.proofs.Groups.{asked_group}
+use Rattle.dsql_going.proofs.SettledBut.{settled_but}
+use Rattle.dsql_going.proofs.Resting.{asking_gave, opening_group, queued_group, rests_unless_due}
 use Rattle.dsql_going.proofs.Replying.{goes_replying, many_cause, reply_allowed, settled_replied}
 use Rattle.dsql_going.proofs.Standing.{goes_blocked, number_in}
 use Rattle.dsql_going.proofs.going.ask.Goals as goal
 
--- what is so after a call that asked, unless too many are open
+-- what is so after a call that asked, where none was lent to it and not too many are open
 reaches_asked : (old new : Desk) (n : ℕ) → Stands old → is_settled_but n (past old) ≡ true → may_ask (past old) n ≡ true → is_too_many (ask_outcome (past old) n) ≡ false → Asks old new n
-    → Reaches new (asked_so n (ask_outcome (past old) n) (past old))
+    → asked_so n (ask_outcome (past old) n) (past old) ≡ with_asked n (ask_outcome (past old) n) (past old) → Reaches new (asked_so n (ask_outcome (past old) n) (past old))
 unfolding Stands
-reaches_asked old new n s settled may few asks = record {
+reaches_asked old new n s settled may few asks group = record {
   stands = asks.stands;
   settled = subst (λ K. Settled K) (sym asks.event) (settled_asked (past old) n s.tables.lawful settled may few);
-  group = asks.event ∙ asked_group n (ask_outcome (past old) n) (past old) few;
+  group = asks.event ∙ sym group;
 }
 
-pub send-requires-clause-due : goal.send-requires-clause-due
+-- a connection was lent to it just now
+record IsLent (old new : Desk) (n c t : ℕ) : Type 0 where
+  came : past new ≡ Pool (Lend c t (Call n) n) ∷ past old
+  lawful : Lawful (Pool (Lend c t (Call n) n) ∷ past old)
+
+is_lent : (old new : Desk) (n c t : ℕ) → Asks old new n → ask_outcome (past old) n ≡ Ok (asked.Lent c t) → IsLent old new n c t
 unfolding Stands
-send-requires-clause-due c =
-    let H = past c.args.desk.now in
+is_lent old new n c t asks out =
+    let came : past new ≡ Pool (Lend c t (Call n) n) ∷ past old = asks.event ∙ ap (λ a. with_asked n a (past old)) out in
+    record { came = came; lawful = subst (λ K. Lawful K) came asks.stands.tables.lawful }
+
+pub go_on_lent-requires-clause-pays : goal.go_on_lent-requires-clause-pays
+go_on_lent-requires-clause-pays c =
     let n = c.args.call in
     let asks = c.ask.ensures.asks in
-    let d = c.in-Ok-Lent.field-0-0 in
-    let t = c.in-Ok-Lent.field-0-1 in
-    let out : ask_outcome H n ≡ Ok (asked.Lent d t) = sym c.ask.ensures.outcome ∙ (c.in-Ok-Lent.is ∙ ap (λ it. Ok it) c.in-Ok-Lent.field-0-is) in
-    let came : past c.ask.new.self ≡ Pool (Lend d t (Call n) n) ∷ H = asks.event ∙ ap (λ a. with_asked n a H) out in
-    let l : Lawful (Pool (Lend d t (Call n) n) ∷ H) = subst (λ K. Lawful K) came asks.stands.tables.lawful in
-    subst (λ K. is_some (due_for K n) ≡ true) (sym came) (due_lent H d t n l c.requires.may.unfinished)
+    let out : ask_outcome (past c.args.desk.now) n ≡ Ok (asked.Lent c.in-Ok-Lent.field-0-0 c.in-Ok-Lent.field-0-1) = sym c.ask.ensures.outcome ∙ (c.in-Ok-Lent.is ∙ ap (λ it. Ok it) c.in-Ok-Lent.field-0-is) in
+    let lent = is_lent c.args.desk.now c.ask.new.self n c.in-Ok-Lent.field-0-0 c.in-Ok-Lent.field-0-1 asks out in
+    let longer = ap length lent.came in
+    record {
+      stands = asks.stands;
+      paid = let before = c.requires.pays.paid in let after = asks.paid in omega (arith, before, after);
+      few = let room = c.requires.pays.few in omega (arith, longer, room);
+    }
+
+pub go_on_lent-requires-clause-may : goal.go_on_lent-requires-clause-may
+unfolding Stands
+go_on_lent-requires-clause-may c =
+    let H = past c.args.desk.now in
+    let n = c.args.call in
+    let may = c.requires.may in
+    let asks = c.ask.ensures.asks in
+    let out : ask_outcome H n ≡ Ok (asked.Lent c.in-Ok-Lent.field-0-0 c.in-Ok-Lent.field-0-1) = sym c.ask.ensures.outcome ∙ (c.in-Ok-Lent.is ∙ ap (λ it. Ok it) c.in-Ok-Lent.field-0-is) in
+    let lent = is_lent c.args.desk.now c.ask.new.self n c.in-Ok-Lent.field-0-0 c.in-Ok-Lent.field-0-1 asks out in
+    let all = settled_asked H n c.requires.pays.stands.tables.lawful may.settled c.requires.asks (ap is_too_many out) in
+    record {
+      settled = subst (λ K. is_settled_but n K ≡ true) (sym asks.event) (settled_but (with_asked n (ask_outcome H n) H) n (subst (λ K. Lawful K) asks.event asks.stands.tables.lawful) all);
+      unfinished = ap (λ K. is_unfinished K n) lent.came ∙ may.unfinished;
+      parked = may.parked;
+      spare = may.spare;
+    }
+
+pub go_on_lent-requires-clause-settled : goal.go_on_lent-requires-clause-settled
+unfolding Stands
+go_on_lent-requires-clause-settled c =
+    let H = past c.args.desk.now in
+    let n = c.args.call in
+    let out : ask_outcome H n ≡ Ok (asked.Lent c.in-Ok-Lent.field-0-0 c.in-Ok-Lent.field-0-1) = sym c.ask.ensures.outcome ∙ (c.in-Ok-Lent.is ∙ ap (λ it. Ok it) c.in-Ok-Lent.field-0-is) in
+    subst (λ K. Settled K) (sym c.ask.ensures.asks.event) (settled_asked H n c.requires.pays.stands.tables.lawful c.requires.may.settled c.requires.asks (ap is_too_many out))
+
+pub go_on_lent-requires-clause-rests : goal.go_on_lent-requires-clause-rests
+go_on_lent-requires-clause-rests c = λ silent.
+    let n = c.args.call in
+    let out : ask_outcome (past c.args.desk.now) n ≡ Ok (asked.Lent c.in-Ok-Lent.field-0-0 c.in-Ok-Lent.field-0-1) = sym c.ask.ensures.outcome ∙ (c.in-Ok-Lent.is ∙ ap (λ it. Ok it) c.in-Ok-Lent.field-0-is) in
+    let lent = is_lent c.args.desk.now c.ask.new.self n c.in-Ok-Lent.field-0-0 c.in-Ok-Lent.field-0-1 c.ask.ensures.asks out in
+    ap (λ K. rests K n) lent.came
+    ∙ rests_unless_due (past c.args.desk.now) c.in-Ok-Lent.field-0-0 c.in-Ok-Lent.field-0-1 n lent.lawful (sym (ap (λ K. is_some (due_for K n)) lent.came) ∙ silent)
 
 pub tell-requires : goal.tell-requires
 unfolding Stands
@@ -62,12 +107,12 @@ tell-requires c =
     let out : ask_outcome H n ≡ Err faults.TooMany = sym c.ask.ensures.outcome ∙ (c.in-Err-TooMany.is ∙ ap (λ it. Err it) c.in-Err-TooMany.field-0-is) in
     let same : past c.ask.new.self ≡ H = asks.event ∙ ap (λ a. with_asked n a H) out in
     let allowed : Allowed H (Replied n TooMany)
-    = reply_allowed H n TooMany may.unfinished (asking_silent H n c.requires.pays.stands.tables.lawful c.requires.asks) (many_cause H n c.requires.asks (ap is_too_many out)) may.settled in
+    = reply_allowed H n TooMany may.unfinished (asking_silent H n c.requires.pays.stands.tables.lawful c.requires.asks) (asking_gave H n c.requires.asks) (many_cause H n c.requires.asks (ap is_too_many out)) may.settled in
     record {
       stands = asks.stands;
       paid = let before = c.requires.pays.paid in let after = asks.paid in omega (arith, before, after);
       allowed = subst (λ K. Allowed K (Replied n TooMany)) (sym same) allowed;
-      few = subst (λ K. length K < most_within_a_step) (sym same) c.requires.pays.few;
+      few = let room = c.requires.pays.few in let long = ap length same in omega (arith, room, long);
     }
 
 pub unreachable-requires : goal.unreachable-requires
@@ -79,20 +124,22 @@ unreachable-requires-in-Err-Memory c =
     never_memory (past c.args.desk.now) c.args.call (sym c.ask.ensures.outcome ∙ (c.in-Err-Memory.is ∙ ap (λ it. Err it) c.in-Err-Memory.field-0-is))
 
 pub returns-in-Ok-Lent-clause-reaches : goal.returns-in-Ok-Lent-clause-reaches
-unfolding Stands
 returns-in-Ok-Lent-clause-reaches c =
     let H = past c.args.desk.now in
     let n = c.args.call in
-    let out : ask_outcome H n ≡ Ok c.in-Ok-Lent.field-0 = sym c.ask.ensures.outcome ∙ c.in-Ok-Lent.is in
-    reaches_asked c.args.desk.now c.ask.new.self n c.requires.pays.stands c.requires.may.settled c.requires.asks (ap is_too_many out) c.ask.ensures.asks
+    let out : ask_outcome H n ≡ Ok (asked.Lent c.in-Ok-Lent.field-0-0 c.in-Ok-Lent.field-0-1) = sym c.ask.ensures.outcome ∙ (c.in-Ok-Lent.is ∙ ap (λ it. Ok it) c.in-Ok-Lent.field-0-is) in
+    let r = c.go_on_lent.ensures.reaches in
+    let group = ap (unless_resting n) c.ask.ensures.asks.event ∙ (ap (λ a. unless_resting n (with_asked n a H)) out ∙ sym (ap (λ a. asked_so n a H) out)) in
+    record { stands = r.stands; settled = r.settled; group = r.group ∙ group }
 
 pub returns-in-Ok-Opening-clause-reaches : goal.returns-in-Ok-Opening-clause-reaches
 unfolding Stands
 returns-in-Ok-Opening-clause-reaches c =
     let H = past c.args.desk.now in
     let n = c.args.call in
-    let out : ask_outcome H n ≡ Ok c.in-Ok-Opening.field-0 = sym c.ask.ensures.outcome ∙ c.in-Ok-Opening.is in
-    reaches_asked c.args.desk.now c.ask.new.self n c.requires.pays.stands c.requires.may.settled c.requires.asks (ap is_too_many out) c.ask.ensures.asks
+    let out : ask_outcome H n ≡ Ok (asked.Opening c.in-Ok-Opening.field-0-0) = sym c.ask.ensures.outcome ∙ (c.in-Ok-Opening.is ∙ ap (λ it. Ok it) c.in-Ok-Opening.field-0-is) in
+    let group = ap (λ a. asked_so n a H) out ∙ (opening_group n c.in-Ok-Opening.field-0-0 H c.requires.asks ∙ sym (ap (λ a. with_asked n a H) out)) in
+    reaches_asked c.args.desk.now c.ask.new.self n c.requires.pays.stands c.requires.may.settled c.requires.asks (ap is_too_many out) c.ask.ensures.asks group
 
 pub returns-in-Ok-Opening-clause-goes : goal.returns-in-Ok-Opening-clause-goes
 unfolding Stands
@@ -114,8 +161,9 @@ unfolding Stands
 returns-in-Ok-Queued-clause-reaches c =
     let H = past c.args.desk.now in
     let n = c.args.call in
-    let out : ask_outcome H n ≡ Ok c.in-Ok-Queued.field-0 = sym c.ask.ensures.outcome ∙ c.in-Ok-Queued.is in
-    reaches_asked c.args.desk.now c.ask.new.self n c.requires.pays.stands c.requires.may.settled c.requires.asks (ap is_too_many out) c.ask.ensures.asks
+    let out : ask_outcome H n ≡ Ok asked.Queued = sym c.ask.ensures.outcome ∙ (c.in-Ok-Queued.is ∙ ap (λ it. Ok it) c.in-Ok-Queued.field-0-is) in
+    let group = ap (λ a. asked_so n a H) out ∙ (queued_group n H c.requires.asks ∙ sym (ap (λ a. with_asked n a H) out)) in
+    reaches_asked c.args.desk.now c.ask.new.self n c.requires.pays.stands c.requires.may.settled c.requires.asks (ap is_too_many out) c.ask.ensures.asks group
 
 pub returns-in-Ok-Queued-clause-goes : goal.returns-in-Ok-Queued-clause-goes
 returns-in-Ok-Queued-clause-goes c =
@@ -136,7 +184,7 @@ returns-in-Err-TooMany-clause-reaches c =
     let came : past c.tell.new.self ≡ Replied n TooMany ∷ H = c.tell.ensures.event ∙ ap (λ K. Replied n TooMany ∷ K) same in
     record {
       stands = c.tell.ensures.stands;
-      settled = subst (λ K. Settled K) (sym came) (settled_replied H n TooMany c.requires.may.settled);
+      settled = subst (λ K. Settled K) (sym came) (settled_replied H n TooMany (asking_gave H n c.requires.asks) c.requires.may.settled);
       group = came ∙ sym (ap (λ a. asked_so n a H) out);
     }
 

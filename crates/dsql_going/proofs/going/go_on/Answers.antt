@@ -1,7 +1,6 @@
-use Rattle.std.proofs.Common.{◌≡◌, ◌∷◌, true, false, Some, is_some, refl, sym, ap, subst, ◌∙◌, arith}
+use Rattle.std.proofs.Common.{◌≡◌, true, false, Some, is_some, refl, sym, ap, subst, ◌∙◌, arith}
 use Rattle.dsql_wait.specs.Requests.{waits}
 use Rattle.dsql_pool.specs.Places.{is_for}
-use Rattle.dsql_history.specs.declared.event.Event.TheVariants.{Replied}
 use Rattle.dsql_history.specs.declared.record.Stand.TheVariants.{Opens}
 use Rattle.dsql_history.specs.Readers.Calls.{reply_due}
 use Rattle.dsql_history.specs.Readers.Pool.{pool, smallest}
@@ -9,13 +8,12 @@ use Rattle.dsql_history.specs.Rules.Asking.{may_ask}
 use Rattle.dsql_history.specs.Rules.Line.{due_for}
 use Rattle.dsql_laws.proofs.Numbered.{unfinished_from_one}
 use Rattle.dsql_laws.proofs.Standing.{stands_sending, stands_waiting}
-use Rattle.dsql_desk.specs.Appending.{reply_now}
 use Rattle.dsql_desk.specs.Desk.{past, Stands}
 use Rattle.dsql_going.specs.Reaching.{HasGoneOn}
 use Rattle.dsql_going.specs.declared.next.Next.TheVariants as nexts
 use Rattle.dsql_going.specs.declared.next.Why.TheVariants.{Opening}
 use Rattle.dsql_going.proofs.Groups.{due_group, settled_group, asking_group, waiting_group}
-use Rattle.dsql_going.proofs.Replying.{due_cause, goes_replying, reply_allowed, settled_replied}
+use Rattle.dsql_going.proofs.Replying.{goes_finished}
 use Rattle.dsql_going.proofs.Standing.{goes_blocked, number_in, opens_somewhere, settled_itself, wanting}
 use Rattle.dsql_going.proofs.going.go_on.Goals as goal
 
@@ -30,40 +28,25 @@ returns-then-is_due-clause-reaches c =
     let at = stands_sending H n l (unfinished_from_one H n l c.requires.may.unfinished) due in
     record { stands = s; settled = settled_itself H n c.requires.may.settled (ap (λ it. is_some it) at); group = sym (due_group H n due) }
 
-pub tell_due-requires-clause-may : goal.tell_due-requires-clause-may
-tell_due-requires-clause-may c =
-    let H = past c.args.desk.now in
-    let n = c.args.call in
-    let silent : is_some (due_for H n) ≡ false = sym c.is_due.ensures ∙ c.if-is_due.false in
-    let told : is_some (reply_due H n) ≡ true = sym c.is_settled.ensures ∙ c.if-is_settled.true in
-    record {
-      stands = c.requires.pays.stands;
-      paid = let paid = c.requires.pays.paid in omega (arith, paid);
-      allowed = reply_allowed H n (reply_now H n) c.requires.may.unfinished silent (due_cause H n told) c.requires.may.settled;
-      few = c.requires.pays.few;
-    }
+pub reply-requires-clause-pays : goal.reply-requires-clause-pays
+reply-requires-clause-pays c =
+    let pays = c.requires.pays in
+    record { stands = pays.stands; paid = let paid = pays.paid in omega (arith, paid); few = let room = pays.few in omega (arith, room) }
 
 pub returns-then-is_settled-clause-reaches : goal.returns-then-is_settled-clause-reaches
 returns-then-is_settled-clause-reaches c =
     let H = past c.args.desk.now in
     let n = c.args.call in
-    let K = past c.tell_due.new.self in
     let silent : is_some (due_for H n) ≡ false = sym c.is_due.ensures ∙ c.if-is_due.false in
     let told : is_some (reply_due H n) ≡ true = sym c.is_settled.ensures ∙ c.if-is_settled.true in
-    let came : K ≡ Replied n (reply_now H n) ∷ H = c.tell_due.ensures.event in
-    record {
-      stands = c.tell_due.ensures.stands;
-      settled = rw came (settled_replied H n (reply_now H n) c.requires.may.settled);
-      group = came ∙ sym (settled_group H n c.requires.may.unfinished silent told);
-    }
+    let r = c.reply.ensures.reaches in
+    record { stands = r.stands; settled = r.settled; group = r.group ∙ sym (settled_group H n c.requires.may.unfinished silent told) }
 
 pub returns-then-is_settled-clause-goes : goal.returns-then-is_settled-clause-goes
 returns-then-is_settled-clause-goes c =
-    let H = past c.args.desk.now in
     let n = c.args.call in
     let flights = c.args.flights.now.flights in
-    let came : past c.tell_due.new.self ≡ Replied n (reply_now H n) ∷ H = c.tell_due.ensures.event in
-    subst (λ K. HasGoneOn K flights flights n (nexts.Reply n)) (sym came) (goes_replying H n (reply_now H n) flights)
+    subst (λ next. HasGoneOn (past c.reply.new.desk) flights flights n next) (sym c.reply.ensures.next) (goes_finished (past c.reply.new.desk) n flights c.reply.ensures.finished)
 
 pub returns-then-may_ask-clause-reaches : goal.returns-then-may_ask-clause-reaches
 returns-then-may_ask-clause-reaches c =

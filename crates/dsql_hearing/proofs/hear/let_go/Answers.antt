@@ -15,7 +15,7 @@ give_back-requires c =
       leaves = c.requires.leaves (sym c.is_used.ensures ∙ spared);
       fate = c.requires.told;
       paid = let few = few_given_back K c.args.conn in let paid = c.requires.pays.paid in omega (arith, few, paid);
-      few = c.requires.pays.few;
+      few = let room = c.requires.pays.few in omega (arith, room);
     }
 
 pub returns-then-not-is_used : goal.returns-then-not-is_used

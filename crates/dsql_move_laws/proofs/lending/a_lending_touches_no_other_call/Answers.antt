@@ -1,4 +1,4 @@
-use Rattle.dsql_move_laws.proofs.Lends.{due_lent, stands_lent, used_lent, due_others, used_beside, all_used, itself_lent, somewhere_lent, waits_lent}
+use Rattle.dsql_move_laws.proofs.Lends.{due_lent, stands_lent, kept_lent, unfinished_lent, due_others, used_beside, all_used, itself_lent, somewhere_lent, waits_lent}
 use Rattle.dsql_move_laws.proofs.lending.a_lending_touches_no_other_call.Goals as goal
 
 pub returns-clause-due : goal.returns-clause-due
@@ -11,7 +11,10 @@ pub returns-clause-waits : goal.returns-clause-waits
 returns-clause-waits c = λ history conn t n m. waits_lent history conn t n m
 
 pub returns-clause-used : goal.returns-clause-used
-returns-clause-used c = used_lent
+returns-clause-used c = kept_lent
+
+pub returns-clause-unfinished : goal.returns-clause-unfinished
+returns-clause-unfinished c = unfinished_lent
 
 pub returns-clause-others : goal.returns-clause-others
 returns-clause-others c = λ history conn t n m. due_others history conn t n m

@@ -17,7 +17,7 @@ use Rattle.dsql_engine.proofs.Legality.{legal_kept, legal_of}
 use Rattle.dsql_engine.proofs.Busy.{busy_unfinished}
 use Rattle.dsql_engine.proofs.Flying.{begun_gone, gone_flies, gone_others, others_fly}
 use Rattle.dsql_engine.proofs.Lengths.{room_after_gone}
-use Rattle.dsql_engine.proofs.Settling.{settled_but}
+use Rattle.dsql_going.proofs.SettledBut.{settled_but}
 use Rattle.dsql_engine.proofs.engine.Engine.wake.Goals as goal
 
 pub invariant_of-self : goal.invariant_of-self

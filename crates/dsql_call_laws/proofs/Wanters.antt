@@ -31,7 +31,7 @@ use Rattle.dsql_history.specs.Readers.Unfinished.{is_unfinished}
 use Rattle.dsql_history.specs.Readers.Works.{work}
 use Rattle.dsql_history.specs.Rules.Asking.{ask_outcome, is_too_many, may_ask}
 use Rattle.dsql_history.specs.Rules.Line.{due_for}
-use Rattle.dsql_history.specs.Rules.Replies.{has_cause, is_told_too_many}
+use Rattle.dsql_history.specs.Rules.Replies.{gave_back, has_cause, is_told_too_many}
 use Rattle.dsql_history.specs.Rules.Settled.{is_settled_but}
 use Rattle.dsql_history.specs.Legal.{Allowed, Lawful}
 use Rattle.dsql_laws.proofs.Asker.{asker}
@@ -47,9 +47,12 @@ use Rattle.dsql_call_laws.proofs.Untried.{wanting_has_try}
 use Rattle.dsql_call_laws.proofs.Works.{enters_unfinished, stays_unfinished}
 use Rattle.dsql_lending_laws.proofs.Cases.{true_false}
 use Rattle.dsql_lending_laws.proofs.Wanted.{lent_nothing, wants_no_more}
-use Rattle.dsql_end_laws.proofs.RunOut.{unnumbered}
 
 -- who wants something is counted
+
+pub unnumbered : (o : Option Conn) → option_map (λ (x : Conn). x.number) o ≡ None → o ≡ None
+unnumbered None h = refl
+unnumbered (Some x) h = absurd cc
 
 none_counted : (n : ℕ) (p : Pooled) → waits n p.waiting ≡ false → smallest (is_for n) p ≡ None → wanted n p ≡ 0
 none_counted n p unwaiting unopened =
@@ -93,15 +96,17 @@ closed_to_all H n l closed =
 pub record RepliesNow (H : List Event) (n : ℕ) (reply : Reply) : Type 0 where
   pub unfinished : is_unfinished H n ≡ true
   pub done : is_none (due_for H n) ≡ true
+  pub gave : gave_back H n ≡ true
   pub cause : has_cause H n reply ≡ true
   pub settled : is_settled_but n H ≡ true
 
 pub replies_now : (H : List Event) (n : ℕ) (reply : Reply) → Allowed H (Replied n reply) → RepliesNow H n reply
 unfolding Allowed
 replies_now H n reply a =
-    let b = both (is_none (due_for H n)) (has_cause H n reply && is_settled_but n H) a.replies in
-    let c = both (has_cause H n reply) (is_settled_but n H) b.1 in
-    record { unfinished = a.numbers; done = b.0; cause = c.0; settled = c.1 }
+    let b = both (is_none (due_for H n)) (gave_back H n && (has_cause H n reply && is_settled_but n H)) a.replies in
+    let g = both (gave_back H n) (has_cause H n reply && is_settled_but n H) b.1 in
+    let c = both (has_cause H n reply) (is_settled_but n H) g.1 in
+    record { unfinished = a.numbers; done = b.0; gave = g.0; cause = c.0; settled = c.1 }
 
 some_reply : (o : Option Reply) (reply : Reply) → is_reply o reply ≡ true → is_some o ≡ true
 some_reply None reply h = absurd cc
