@@ -17,8 +17,9 @@ ghost use Rattle.dsql_history.specs.Rules.Stands.{stand};
 ghost use Rattle.dsql_history.specs.Legal.{Lawful};
 
 /// A call that is lent a connection has no reply yet, and has something due there at once, unless it rests with it. So the
-/// connection is in use, and the call sends, or stands where it replies. What is due of each other call stays as it is, as does whether each other lent connection is in use; who waits does so
-/// still, and who was somewhere is so after it, as is the call itself.
+/// connection is in use, and the call sends, or stands where it replies. What is due of each other call stays as it is, as
+/// does whether each other lent connection is in use; who waits does so still, and who was somewhere is so after it, as is
+/// the call itself.
 pub fn a_lending_touches_no_other_call()
     ensures due { (history : List Event) (c t n : ℕ) → Lawful (Pool (Lend c t (Call n) n) ∷ history) → is_unfinished history n ≡ true → rests (Pool (Lend c t (Call n) n) ∷ history) n ≡ false → is_some (due_for (Pool (Lend c t (Call n) n) ∷ history) n) ≡ true }
     ensures stands { (history : List Event) (c t n : ℕ) → Lawful (Pool (Lend c t (Call n) n) ∷ history) → stand (Pool (Lend c t (Call n) n) ∷ history) n ≡ Some (cond (is_some (due_for (Pool (Lend c t (Call n) n) ∷ history) n)) (Sends c) Replies) }

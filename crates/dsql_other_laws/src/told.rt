@@ -15,9 +15,8 @@ ghost use Rattle.dsql_history.specs.Legal.{Lawful};
 ghost use Rattle.dsql_laws.specs.OwedMade.{with_moves};
 ghost use Rattle.dsql_other_laws.specs.Told.{where_told};
 
-/// To whom a refused connection falls is somewhere: it stands where it replies, where others have told it why, or else where it asks
-/// again. Who wants a connection as a call closes the
-/// database, or as the run ends, stands where it replies.
+/// To whom a refused connection falls is somewhere: it stands where it replies, where others have told it why, or else where
+/// it asks again. Who wants a connection as a call closes the database, or as the run ends, stands where it replies.
 pub fn who_is_told_stands_where_it_replies()
     ensures refused { (history : List Event) (c n : ℕ) → Lawful (Pool (Fell c n) ∷ history) → n ≢ 0 → is_some (stand (Pool (Fell c n) ∷ history) n) ≡ true }
     ensures there { (history : List Event) (c n : ℕ) → Lawful (Pool (Fell c n) ∷ history) → n ≢ 0 → stand (Pool (Fell c n) ∷ history) n ≡ where_told (Pool (Fell c n) ∷ history) n }
