@@ -8,9 +8,9 @@ use Rattle.dsql_history.specs.Readers.Works.{work}
 use Rattle.dsql_history.specs.Rules.Line.{may_come}
 use Rattle.dsql_history.specs.Legal.{Lawful}
 use Rattle.dsql_laws.proofs.Wanting.{wanted}
-use Rattle.dsql_lending_laws.proofs.Wanted.{lent_wants_none}
-use Rattle.dsql_sending_laws.proofs.Answered.{own_call}
-use Rattle.dsql_sending_laws.proofs.Sound.{sound}
+use Rattle.dsql_call_laws.proofs.Wanted.{lent_wants_none}
+use Rattle.dsql_call_laws.proofs.Answered.{own_call}
+use Rattle.dsql_call_laws.proofs.Sound.{sound}
 
 pub sender_wants_none : (H : List Event) (e : Entry) → Lawful H → may_come H e ≡ true → asks (work H e.call_no) ≡ true → wanted e.call_no (pool H) ≡ 0
 sender_wants_none H e l comes own =

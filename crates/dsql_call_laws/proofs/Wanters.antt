@@ -45,8 +45,8 @@ use Rattle.dsql_call_laws.proofs.Nowhere.{told_own}
 use Rattle.dsql_call_laws.proofs.Told.{wanting_undecided}
 use Rattle.dsql_call_laws.proofs.Untried.{wanting_has_try}
 use Rattle.dsql_call_laws.proofs.Works.{enters_unfinished, stays_unfinished}
-use Rattle.dsql_lending_laws.proofs.Cases.{true_false}
-use Rattle.dsql_lending_laws.proofs.Wanted.{lent_nothing, wants_no_more}
+use Rattle.dsql_call_laws.proofs.Cases.{true_false}
+use Rattle.dsql_call_laws.proofs.Wanted.{lent_nothing, wants_no_more}
 
 -- who wants something is counted
 

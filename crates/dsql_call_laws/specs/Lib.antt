@@ -1,3 +1,7 @@
+pub mod UnderWay
+pub mod Kept
+pub mod There
+pub mod Made
 pub mod Bounds
 pub mod Chores
 pub mod Nothing

@@ -40,10 +40,10 @@ use Rattle.dsql_history.specs.Rules.Settled.{owes_nothing}
 use Rattle.dsql_history.specs.Legal.{Lawful}
 use Rattle.dsql_laws.proofs.Journals.{keeps_journals_of}
 use Rattle.dsql_laws.proofs.Tests.{same_itself, together}
-use Rattle.dsql_lending_laws.proofs.Spared.{unpressed}
-use Rattle.dsql_sending_laws.proofs.Following.{follows_connect, follows_due, follows_shut}
-use Rattle.dsql_sending_laws.proofs.Sound.{sound}
-use Rattle.dsql_sending_laws.proofs.Standing.{opening_opens}
+use Rattle.dsql_call_laws.proofs.Spared.{unpressed}
+use Rattle.dsql_call_laws.proofs.Following.{follows_connect, follows_due, follows_shut}
+use Rattle.dsql_call_laws.proofs.Sound.{sound}
+use Rattle.dsql_call_laws.proofs.Standing.{opening_opens}
 use Rattle.dsql_call_laws.proofs.Tidying.{tidying_comes, unheld_once_ended}
 use Rattle.dsql_going.specs.Permits.{call_permit, chore_at, chore_permit, house_permit}
 use Rattle.dsql_hearing.specs.Hearing.{IsWelcome}

@@ -16,7 +16,7 @@ use Rattle.dsql_history.specs.Readers.Pool.{place, pool}
 use Rattle.dsql_history.specs.Rules.Line.{may_come, tidying}
 use Rattle.dsql_history.specs.Legal.{Lawful}
 use Rattle.dsql_laws.proofs.Tests.{same_number}
-use Rattle.dsql_sending_laws.proofs.Following.{stays_with_its_call}
+use Rattle.dsql_call_laws.proofs.Following.{stays_with_its_call}
 use Rattle.dsql_call_laws.proofs.Ends.{over_once_ended}
 use Rattle.dsql_going.specs.Permits.{call_permit, chore_at, chore_permit, house_permit}
 use Rattle.dsql_chore_laws.proofs.Itself.{neither, tidying_itself}

@@ -28,7 +28,7 @@ use Rattle.dsql_laws.proofs.Numbered.{some_calls}
 use Rattle.dsql_laws.proofs.Tests.{both, same_number}
 use Rattle.dsql_call_laws.proofs.Lists.{same_or_not}
 use Rattle.dsql_call_laws.proofs.Works.{enters_next, old_work}
-use Rattle.dsql_lending_laws.proofs.Rows.{rows_at_end_of}
+use Rattle.dsql_call_laws.proofs.EndedRows.{rows_at_end_of}
 
 never : true ≡ false → ⊥
 never h = cc

@@ -4,7 +4,7 @@ use Rattle.dsql_journal.specs.declared.entry.Entry.{Entry}
 use Rattle.dsql_history.specs.declared.event.Event.{Event}
 use Rattle.dsql_history.specs.Readers.Journals.{heard_in}
 use Rattle.dsql_history.specs.Legal.{Lawful}
-use Rattle.dsql_sending_laws.proofs.KeptThere.{made_by, kept_there}
+use Rattle.dsql_call_laws.proofs.KeptThere.{made_by, kept_there}
 use Rattle.dsql_exchanged.specs.Exchanged.{unheard, then_heard, exchanged_in}
 use Rattle.dsql_desk.specs.Lines.{IsKept}
 

@@ -1,7 +1,7 @@
 -- What was heard on each connection since it was lent, as the course of its call sees it.
 use Rattle.std.specs.Prelude.{ℕ, List}
 use Rattle.dsql_history.specs.declared.event.Event.{Event}
-use Rattle.dsql_sending_laws.specs.There.{all_there, there}
+use Rattle.dsql_call_laws.specs.There.{all_there, there}
 use Rattle.dsql_exchanged.specs.declared.exchanged.Exchanged.{Exchanged}
 use Rattle.dsql_exchanged.specs.Exchanged.{unheard, then_heard}
 

@@ -30,11 +30,11 @@ use Rattle.dsql_history.specs.Rules.Stands.{has_to_reply, is_waiting, stand}
 use Rattle.dsql_history.specs.Legal.{Lawful, Legal}
 use Rattle.dsql_laws.proofs.AtRest.{rests_owing_nothing}
 use Rattle.dsql_laws.proofs.Tests.{both, same_itself, together}
-use Rattle.dsql_lending_laws.proofs.Owners.{owner_is_call}
+use Rattle.dsql_call_laws.proofs.Owners.{owner_is_call}
 use Rattle.dsql_call_laws.proofs.Closed.{closed_shut, ended_closed}
 use Rattle.dsql_call_laws.proofs.Ends.{over_once_ended, waits_only}
 use Rattle.dsql_call_laws.proofs.Lists.{same_or_not}
-use Rattle.dsql_heard_laws.proofs.Answered.{lent_used}
+use Rattle.dsql_other_laws.proofs.Heard.{lent_used}
 use Rattle.dsql_end_laws.specs.Over.{HasRunOut, IsOver}
 use Rattle.dsql_end_laws.proofs.Left.{IsKnown, known}
 use Rattle.dsql_end_laws.proofs.Resting.{found_there, kept_so, resting_unfinished}

@@ -21,8 +21,8 @@ use Rattle.dsql_history.specs.Legal.{Lawful}
 use Rattle.dsql_call_laws.proofs.Lists.{same_or_not}
 use Rattle.dsql_call_laws.proofs.Rows.{ender_works, is_worker}
 use Rattle.dsql_call_laws.proofs.Works.{enters_next, is_look, new_work, work_stays}
-use Rattle.dsql_lending_laws.proofs.Cases.{true_false}
-use Rattle.dsql_sending_laws.proofs.UnderWay.{WorksOn}
+use Rattle.dsql_call_laws.proofs.Cases.{true_false}
+use Rattle.dsql_call_laws.proofs.UnderWay.{WorksOn}
 
 abbrev lives_in : ℕ → Made → Bool
 lives_in n rows = live (rows_of n rows)

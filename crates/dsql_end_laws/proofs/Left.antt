@@ -20,9 +20,9 @@ use Rattle.dsql_history.specs.Legal.{has_left, Lawful}
 use Rattle.dsql_laws.proofs.OwedAllowed.{or_first, or_second}
 use Rattle.dsql_laws.proofs.Tests.{same_itself, same_number}
 use Rattle.dsql_call_laws.proofs.Lists.{same_or_not}
-use Rattle.dsql_lending_laws.proofs.Born.{heard_open}
-use Rattle.dsql_lending_laws.proofs.Cases.{control_conns}
-use Rattle.dsql_lending_laws.proofs.Found.{changed_off, gone_off, place_in, shut_found}
+use Rattle.dsql_call_laws.proofs.Born.{heard_open}
+use Rattle.dsql_call_laws.proofs.Cases.{control_conns}
+use Rattle.dsql_call_laws.proofs.Found.{changed_off, gone_off, place_in, shut_found}
 
 -- what is open stays so until it leaves
 

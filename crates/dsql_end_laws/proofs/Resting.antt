@@ -21,9 +21,9 @@ use Rattle.dsql_history.specs.Readers.Works.{work}
 use Rattle.dsql_history.specs.Rules.Replies.{gave_back}
 use Rattle.dsql_history.specs.Legal.{Lawful}
 use Rattle.dsql_laws.proofs.Tests.{both, same_itself}
-use Rattle.dsql_lending_laws.proofs.Cases.{true_false}
+use Rattle.dsql_call_laws.proofs.Cases.{true_false}
 use Rattle.dsql_call_laws.proofs.Wanters.{unnumbered}
-use Rattle.dsql_heard_laws.proofs.Alone.{alone, may_be}
+use Rattle.dsql_other_laws.proofs.Alone.{alone, may_be}
 use Rattle.dsql_pool.proofs.Rows.{found_passes}
 use Rattle.dsql_step_laws.specs.Steps.{RestsAlone}
 

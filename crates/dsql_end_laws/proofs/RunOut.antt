@@ -25,7 +25,7 @@ use Rattle.dsql_history.specs.Legal.{Lawful}
 use Rattle.dsql_laws.proofs.Numbered.{unfinished_from_one}
 use Rattle.dsql_laws.proofs.Tests.{both, other_number, same_itself, second, together}
 use Rattle.dsql_call_laws.proofs.Wanters.{unnumbered}
-use Rattle.dsql_heard_laws.proofs.Settling.{all_within}
+use Rattle.dsql_other_laws.proofs.Settling.{all_within}
 use Rattle.dsql_end_laws.specs.Over.{HasRunOut}
 
 -- there is no chore of any kind

@@ -23,18 +23,18 @@ use Rattle.dsql_history.specs.Rules.Settled.{goes_on_but, owes_nothing, uses_wha
 use Rattle.dsql_history.specs.Legal.{Allowed, Lawful}
 use Rattle.dsql_laws.proofs.Tests.{both, other_number, same_itself, second}
 use Rattle.dsql_laws.proofs.Tried.{lends_to}
-use Rattle.dsql_lending_laws.proofs.Lent.{lent_before, Lends}
-use Rattle.dsql_lending_laws.proofs.Owners.{lent_asks, lent_number}
-use Rattle.dsql_lending_laws.proofs.Rows.{ender_over, rows_kept}
-use Rattle.dsql_lending_laws.proofs.Wanted.{lent_nothing, rows_may_not_ask}
-use Rattle.dsql_sending_laws.proofs.Invariant.{over_made}
-use Rattle.dsql_sending_laws.proofs.Sound.{sound}
-use Rattle.dsql_sending_laws.proofs.UnderWay.{WorksOn}
+use Rattle.dsql_call_laws.proofs.Lent.{lent_before, Lends}
+use Rattle.dsql_call_laws.proofs.Owners.{lent_asks, lent_number}
+use Rattle.dsql_call_laws.proofs.EndedRows.{ender_over, rows_kept}
+use Rattle.dsql_call_laws.proofs.Wanted.{lent_nothing, rows_may_not_ask}
+use Rattle.dsql_call_laws.proofs.Invariant.{over_made}
+use Rattle.dsql_call_laws.proofs.Sound.{sound}
+use Rattle.dsql_call_laws.proofs.UnderWay.{WorksOn}
 use Rattle.dsql_call_laws.proofs.Lists.{has_push}
 use Rattle.dsql_call_laws.proofs.Looks.{comes, heard_there}
 use Rattle.dsql_laws.proofs.OwedAllowed.{or_second}
-use Rattle.dsql_sending_laws.proofs.Following.{stays_with_its_call}
-use Rattle.dsql_heard_laws.proofs.Answered.{lent_used}
+use Rattle.dsql_call_laws.proofs.Following.{stays_with_its_call}
+use Rattle.dsql_other_laws.proofs.Heard.{lent_used}
 use Rattle.dsql_end_laws.proofs.Resting.{kept_so, rests_none_over, rests_not}
 use Rattle.dsql_end_laws.proofs.Enders.{ender_now, ender_works_on}
 use Rattle.dsql_call_laws.proofs.Wanters.{lends_unfinished, replies_now, still_without_reply}

@@ -23,7 +23,7 @@ use Rattle.dsql_laws.specs.OwedMade.{with_moves}
 use Rattle.dsql_laws.proofs.OwedAllowed.{owed_made}
 use Rattle.dsql_laws.proofs.Tests.{together}
 use Rattle.dsql_call_laws.proofs.Owed.{few_next}
-use Rattle.dsql_move_laws.proofs.Shut.{ended_used}
+use Rattle.dsql_other_laws.proofs.Shut.{ended_used}
 use Rattle.dsql_other_laws.proofs.Ending.{all_told_of_end}
 use Rattle.dsql_other_laws.proofs.ControlMoves.{control_others, control_used}
 use Rattle.dsql_desk.specs.Appending.{MayAppend}

@@ -14,7 +14,7 @@ use Rattle.dsql_history.specs.declared.event.Event.{Event}
 use Rattle.dsql_history.specs.Readers.Pool.{place, pool, smallest}
 use Rattle.dsql_history.specs.Rules.House.{chore_due, connect_due, is_untidy, shut_due, tidy_due}
 use Rattle.dsql_history.specs.Rules.Line.{tidying}
-use Rattle.dsql_move_laws.proofs.Once.{once, found_number}
+use Rattle.dsql_other_laws.proofs.Once.{once, found_number}
 use Rattle.dsql_going.specs.Permits.{call_permit, chore_at, chore_permit}
 use Rattle.dsql_going.specs.declared.next.Next.TheVariants.{Send, Quiet}
 use Rattle.dsql_engine.specs.Chores.{chore_next}

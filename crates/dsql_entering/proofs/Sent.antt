@@ -16,7 +16,7 @@ use Rattle.dsql_history.specs.declared.record.CallRecord.{CallRecord}
 use Rattle.dsql_history.specs.Readers.Calls.{call_record, entering, next_call, user}
 use Rattle.dsql_history.specs.Readers.Works.{work, work_of, works}
 use Rattle.dsql_call_laws.proofs.Works.{as_many, new_record, new_work, old_record, old_work}
-use Rattle.dsql_heard_laws.proofs.Rows.{fetches_old, some_works}
+use Rattle.dsql_other_laws.proofs.Rows.{fetches_old, some_works}
 use Rattle.dsql_calls.specs.declared.call.CallStart.{CallStart}
 use Rattle.dsql_exchanged.specs.declared.statement.Statement.{Statement}
 use Rattle.dsql_telling.specs.Starts.{Starts}

@@ -19,9 +19,9 @@ use Rattle.dsql_laws.proofs.Tests.{other_number, same_itself, second, together}
 use Rattle.dsql_other_laws.proofs.Entries.{goes_on_entered, used_entered}
 use Rattle.dsql_other_laws.proofs.Untouched.{or_second}
 use Rattle.dsql_other_laws.specs.Entries.{is_plain}
-use Rattle.dsql_heard_laws.proofs.Closed.{goes_on_closing, used_closing}
-use Rattle.dsql_heard_laws.proofs.Settling.{all_within}
-use Rattle.dsql_move_laws.proofs.Shut.{closed_goes_on, closed_used}
+use Rattle.dsql_other_laws.proofs.Closed.{goes_on_closing, used_closing}
+use Rattle.dsql_other_laws.proofs.Settling.{all_within}
+use Rattle.dsql_other_laws.proofs.Shut.{closed_goes_on, closed_used}
 use Rattle.dsql_steps.specs.Groups.{with_owed}
 use Rattle.dsql_going.proofs.Replying.{settled_owes}
 

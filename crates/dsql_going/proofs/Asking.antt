@@ -41,7 +41,7 @@ use Rattle.dsql_laws.proofs.Standing.{stands_waiting}
 use Rattle.dsql_laws.proofs.Tests.{both, other_number, same_itself}
 use Rattle.dsql_laws.proofs.Wanting.{homes_apart, sends_where_lent}
 use Rattle.dsql_other_laws.proofs.Untouched.{or_second}
-use Rattle.dsql_move_laws.proofs.Asked.{asks_an_open_one, closed_only, no_memory, asked_goes_on, asked_used}
+use Rattle.dsql_other_laws.proofs.Asked.{asks_an_open_one, closed_only, no_memory, asked_goes_on, asked_used}
 use Rattle.dsql_going.proofs.Replying.{settled_owes}
 use Rattle.dsql_going.proofs.Standing.{number_in, opens_somewhere}
 

@@ -27,9 +27,9 @@ use Rattle.dsql_history.specs.Legal.{Lawful}
 use Rattle.dsql_laws.specs.Asked.{with_asked}
 use Rattle.dsql_laws.proofs.Asker.{asker}
 use Rattle.dsql_laws.proofs.Tests.{both}
-use Rattle.dsql_move_laws.proofs.GivenUp.{served_tries}
-use Rattle.dsql_move_laws.proofs.Lends.{due_lent, unfinished_lent}
-use Rattle.dsql_move_laws.proofs.Rested.{resting}
+use Rattle.dsql_other_laws.proofs.GivenUp.{served_tries}
+use Rattle.dsql_other_laws.proofs.Lends.{due_lent, unfinished_lent}
+use Rattle.dsql_other_laws.proofs.Rested.{resting}
 use Rattle.dsql_steps.specs.Groups.{after_reply, asked_so, sends_nothing, unless_resting}
 use Rattle.dsql_going.proofs.Groups.{silent_or_not}
 

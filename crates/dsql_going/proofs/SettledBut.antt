@@ -8,7 +8,7 @@ use Rattle.dsql_history.specs.Legal.{Lawful}
 use Rattle.dsql_laws.proofs.Numbered.{unfinished_from_one}
 use Rattle.dsql_laws.proofs.Tests.{other_number, second, together}
 use Rattle.dsql_other_laws.proofs.Untouched.{or_second}
-use Rattle.dsql_heard_laws.proofs.Settling.{all_within}
+use Rattle.dsql_other_laws.proofs.Settling.{all_within}
 
 others_go_on : (H : List Event) (n : ℕ) → Lawful H → Settled H → goes_on_but n H ≡ true
 others_go_on H n l settled = all_within (λ m. (m == 0) || is_some (stand H m)) (λ m. (m == n) || is_some (stand H m)) (unfinished H) each settled.somewhere

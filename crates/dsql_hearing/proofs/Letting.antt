@@ -20,12 +20,12 @@ use Rattle.dsql_laws.specs.OwedMade.{with_moves}
 use Rattle.dsql_laws.proofs.GivenBack.{back_made}
 use Rattle.dsql_call_laws.specs.Bounds.{most_given_back}
 use Rattle.dsql_call_laws.proofs.Owed.{few_given_back}
-use Rattle.dsql_lending_laws.proofs.Owners.{lent_asks}
-use Rattle.dsql_lending_laws.proofs.Stays.{asked_stays}
-use Rattle.dsql_sending_laws.proofs.Following.{whole_when_unused}
-use Rattle.dsql_heard_laws.proofs.Answered.{beside_heard, goes_on_heard, used_heard}
-use Rattle.dsql_move_laws.proofs.GivenUp.{settled_from}
-use Rattle.dsql_move_laws.proofs.Leaves.{given_settles}
+use Rattle.dsql_call_laws.proofs.Owners.{lent_asks}
+use Rattle.dsql_call_laws.proofs.Stays.{asked_stays}
+use Rattle.dsql_call_laws.proofs.Following.{whole_when_unused}
+use Rattle.dsql_other_laws.proofs.Heard.{beside_heard, goes_on_heard, used_heard}
+use Rattle.dsql_other_laws.proofs.GivenUp.{settled_from}
+use Rattle.dsql_other_laws.proofs.Leaves.{given_settles}
 use Rattle.dsql_steps.specs.Groups.{let_go}
 use Rattle.dsql_exchanged.specs.declared.statement.Statement.{Statement}
 use Rattle.dsql_desk.specs.Statements.{statement_of}

@@ -25,8 +25,8 @@ use Rattle.dsql_laws.proofs.Numbered.{unfinished_from_one}
 use Rattle.dsql_laws.proofs.OwedAllowed.{owed_made}
 use Rattle.dsql_laws.proofs.Tests.{both}
 use Rattle.dsql_call_laws.proofs.Owed.{few_next}
-use Rattle.dsql_sending_laws.proofs.Following.{none_bad, stays_with_its_call}
-use Rattle.dsql_move_laws.proofs.House.{answer_carried}
+use Rattle.dsql_call_laws.proofs.Following.{none_bad, stays_with_its_call}
+use Rattle.dsql_other_laws.proofs.House.{answer_carried}
 use Rattle.dsql_steps.specs.Groups.{after_settling, gone_on, heard_at, let_go, with_owed}
 use Rattle.dsql_desk.specs.declared.desk.Desk.{Desk}
 use Rattle.dsql_desk.specs.Appending.{MayAppend}

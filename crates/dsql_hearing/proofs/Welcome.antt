@@ -34,9 +34,9 @@ use Rattle.dsql_history.specs.Rules.Settled.{Settled, goes_on_but, is_settled_bu
 use Rattle.dsql_history.specs.Legal.{Allowed, Lawful}
 use Rattle.dsql_work_laws.proofs.Lines.{call_owner, entry_with, same_parts}
 use Rattle.dsql_laws.proofs.Tests.{both, same_number, together}
-use Rattle.dsql_sending_laws.specs.UnderWay.{StaysWithItsCall}
-use Rattle.dsql_sending_laws.proofs.Following.{follows_connect, follows_due, follows_shut, stays_with_its_call}
-use Rattle.dsql_sending_laws.proofs.Handed.{rows_fetched, rows_new}
+use Rattle.dsql_call_laws.specs.UnderWay.{StaysWithItsCall}
+use Rattle.dsql_call_laws.proofs.Following.{follows_connect, follows_due, follows_shut, stays_with_its_call}
+use Rattle.dsql_call_laws.proofs.Handed.{rows_fetched, rows_new}
 use Rattle.dsql_telling.specs.Heard.{HearsRows}
 use Rattle.dsql_going.proofs.Replying.{settled_owes}
 use Rattle.dsql_hearing.specs.declared.hear.Hearing.{Hearing}

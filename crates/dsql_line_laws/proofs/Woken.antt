@@ -39,7 +39,7 @@ use Rattle.dsql_laws.proofs.Numbered.{unfinished_from_one}
 use Rattle.dsql_laws.proofs.Tests.{both, other_number, same_number, second, together}
 use Rattle.dsql_laws.proofs.Wanting.{is_opening_for, none_wanted}
 use Rattle.dsql_reply_laws.proofs.Nowhere.{nowhere_replies}
-use Rattle.dsql_move_laws.proofs.Asked.{asks_an_open_one}
+use Rattle.dsql_other_laws.proofs.Asked.{asks_an_open_one}
 use Rattle.dsql_follows.specs.Moments.{Moment}
 use Rattle.dsql_follows.specs.Splits.{is_sending}
 use Rattle.dsql_follows.specs.Turns.{can_move}

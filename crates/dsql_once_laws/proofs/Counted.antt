@@ -31,12 +31,12 @@ use Rattle.dsql_work_laws.proofs.Rows.{same_or_not}
 use Rattle.dsql_work_laws.proofs.CallLines.{step, goes, is_before_end}
 use Rattle.dsql_work_laws.proofs.MadeLines.{MadeAt}
 use Rattle.dsql_work_laws.proofs.HandedLines.{cursor_of, opens_rows}
-use Rattle.dsql_lending_laws.proofs.Lent.{stays_lent}
-use Rattle.dsql_sending_laws.proofs.Lines.{line_in, sending_used}
-use Rattle.dsql_sending_laws.proofs.UnderWay.{UnderWay, Wants}
-use Rattle.dsql_sending_laws.proofs.Invariant.{Sound, is_answer, heard_same, wants_nothing}
-use Rattle.dsql_sending_laws.proofs.Answered.{answer_of, own_call, heard_here, heard_off, same_lent, lent_under_way}
-use Rattle.dsql_sending_laws.proofs.Sound.{sound}
+use Rattle.dsql_call_laws.proofs.Lent.{stays_lent}
+use Rattle.dsql_call_laws.proofs.Lines.{line_in, sending_used}
+use Rattle.dsql_call_laws.proofs.UnderWay.{UnderWay, Wants}
+use Rattle.dsql_call_laws.proofs.Invariant.{Sound, is_answer, heard_same, wants_nothing}
+use Rattle.dsql_call_laws.proofs.Answered.{answer_of, own_call, heard_here, heard_off, same_lent, lent_under_way}
+use Rattle.dsql_call_laws.proofs.Sound.{sound}
 use Rattle.dsql_reply_laws.proofs.Awaited.{is_one, needs_answer, awaits, awaited_due}
 use Rattle.dsql_once_laws.specs.Once.{is_statement, may_be_carried_out, carried_out, reads_one}
 use Rattle.dsql_once_laws.specs.Counted.{is_query, fetches_from, loses_row, counted_with, counted}

@@ -15,10 +15,10 @@ use Rattle.dsql_history.specs.Legal.{Lawful}
 use Rattle.dsql_laws.proofs.Tests.{same_itself, other_number}
 use Rattle.dsql_work_laws.proofs.Rows.{same_or_not}
 use Rattle.dsql_work_laws.proofs.CallLines.{step, is_before_end}
-use Rattle.dsql_sending_laws.proofs.UnderWay.{UnderWay}
-use Rattle.dsql_sending_laws.proofs.Invariant.{is_answer}
-use Rattle.dsql_sending_laws.proofs.Answered.{answer_of}
-use Rattle.dsql_sending_laws.proofs.Sound.{sound}
+use Rattle.dsql_call_laws.proofs.UnderWay.{UnderWay}
+use Rattle.dsql_call_laws.proofs.Invariant.{is_answer}
+use Rattle.dsql_call_laws.proofs.Answered.{answer_of}
+use Rattle.dsql_call_laws.proofs.Sound.{sound}
 use Rattle.dsql_once_laws.specs.Once.{is_statement, may_be_carried_out, carried_out, reads_one}
 use Rattle.dsql_once_laws.proofs.Steps.{sends_before_end, ends_it, stays_ended, carried_decides, untried_next}
 use Rattle.dsql_once_laws.proofs.Spent.{Spent, never, statement_own, statement_of, own_sent, own_lent, spent_beside, spent_now, spent_own, spent_on, keeps_call}

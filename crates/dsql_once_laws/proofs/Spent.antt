@@ -33,14 +33,14 @@ use Rattle.dsql_laws.proofs.Wanting.{wanted}
 use Rattle.dsql_work_laws.proofs.Rows.{same_or_not}
 use Rattle.dsql_work_laws.proofs.CallLines.{Step, step, step_after, goes, is_before_end}
 use Rattle.dsql_work_laws.proofs.HandedLines.{SentAt, SentOver, cursor_of}
-use Rattle.dsql_lending_laws.proofs.Lent.{lent_before, Lends}
-use Rattle.dsql_lending_laws.proofs.Owners.{at_home, lent_asks}
-use Rattle.dsql_lending_laws.proofs.Stays.{work_stays, not_looking}
-use Rattle.dsql_lending_laws.proofs.Wanted.{lent_nothing, lent_wants_none, wants_no_more}
-use Rattle.dsql_sending_laws.proofs.UnderWay.{UnderWay, Wants}
-use Rattle.dsql_sending_laws.proofs.Invariant.{Sound, is_answer, heard_same, over_made}
-use Rattle.dsql_sending_laws.proofs.Answered.{own_call, sent_at, heard_here, heard_off, same_lent, lent_under_way}
-use Rattle.dsql_sending_laws.proofs.Sound.{sound}
+use Rattle.dsql_call_laws.proofs.Lent.{lent_before, Lends}
+use Rattle.dsql_call_laws.proofs.Owners.{at_home, lent_asks}
+use Rattle.dsql_call_laws.proofs.Stays.{work_stays, not_looking}
+use Rattle.dsql_call_laws.proofs.Wanted.{lent_nothing, lent_wants_none, wants_no_more}
+use Rattle.dsql_call_laws.proofs.UnderWay.{UnderWay, Wants}
+use Rattle.dsql_call_laws.proofs.Invariant.{Sound, is_answer, heard_same, over_made}
+use Rattle.dsql_call_laws.proofs.Answered.{own_call, sent_at, heard_here, heard_off, same_lent, lent_under_way}
+use Rattle.dsql_call_laws.proofs.Sound.{sound}
 use Rattle.dsql_call_laws.proofs.Told.{asks_undecided}
 use Rattle.dsql_call_laws.proofs.Idle.{no_work_yet}
 use Rattle.dsql_call_laws.proofs.Works.{enters_next, old_record, old_unfinished, other_heard, other_replied, still_unfinished}

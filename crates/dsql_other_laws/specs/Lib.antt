@@ -1,2 +1,4 @@
 pub mod Entries
 pub mod Told
+pub mod Beside
+pub mod GivenUp

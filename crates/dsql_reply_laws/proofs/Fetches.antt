@@ -28,10 +28,10 @@ use Rattle.dsql_work_laws.proofs.Rows.{same_or_not}
 use Rattle.dsql_work_laws.proofs.HandedLines.{cursor_of, held_due}
 use Rattle.dsql_laws.proofs.Tests.{other_number}
 use Rattle.dsql_laws.proofs.Numbered.{unfinished_from_one}
-use Rattle.dsql_lending_laws.proofs.Rows.{rows_kept, live_no_ender}
-use Rattle.dsql_sending_laws.proofs.Lines.{line_here}
-use Rattle.dsql_sending_laws.proofs.Handed.{rows_fetched}
-use Rattle.dsql_sending_laws.proofs.Sound.{sound}
+use Rattle.dsql_call_laws.proofs.EndedRows.{rows_kept, live_no_ender}
+use Rattle.dsql_call_laws.proofs.Lines.{line_here}
+use Rattle.dsql_call_laws.proofs.Handed.{rows_fetched}
+use Rattle.dsql_call_laws.proofs.Sound.{sound}
 use Rattle.dsql_call_laws.proofs.Works.{enters_next, new_record, new_work, old_record, old_work, other_heard, other_replied, old_unfinished, still_unfinished}
 use Rattle.dsql_call_laws.proofs.Looks.{heard_there, comes}
 use Rattle.dsql_call_laws.proofs.Nowhere.{others_settled}

@@ -41,14 +41,14 @@ use Rattle.dsql_laws.proofs.Tried.{lends_to}
 use Rattle.dsql_laws.proofs.Wanting.{wanted}
 use Rattle.dsql_work_laws.proofs.Rows.{same_or_not}
 use Rattle.dsql_work_laws.proofs.HandedLines.{SentOver, due_over, cursor_of}
-use Rattle.dsql_lending_laws.proofs.Lent.{lent_before}
-use Rattle.dsql_lending_laws.proofs.Owners.{at_home, lent_asks, lent_number}
-use Rattle.dsql_lending_laws.proofs.Wanted.{lent_wants_none}
-use Rattle.dsql_sending_laws.proofs.UnderWay.{UnderWay, Wants}
-use Rattle.dsql_sending_laws.proofs.Invariant.{Sound, Turned, is_answer, rows_turn, turned_some, over_made}
-use Rattle.dsql_sending_laws.proofs.Answered.{heard_facts, answer_of, own_call, of_rows}
-use Rattle.dsql_sending_laws.proofs.Following.{none_bad}
-use Rattle.dsql_sending_laws.proofs.Sound.{sound}
+use Rattle.dsql_call_laws.proofs.Lent.{lent_before}
+use Rattle.dsql_call_laws.proofs.Owners.{at_home, lent_asks, lent_number}
+use Rattle.dsql_call_laws.proofs.Wanted.{lent_wants_none}
+use Rattle.dsql_call_laws.proofs.UnderWay.{UnderWay, Wants}
+use Rattle.dsql_call_laws.proofs.Invariant.{Sound, Turned, is_answer, rows_turn, turned_some, over_made}
+use Rattle.dsql_call_laws.proofs.Answered.{heard_facts, answer_of, own_call, of_rows}
+use Rattle.dsql_call_laws.proofs.Following.{none_bad}
+use Rattle.dsql_call_laws.proofs.Sound.{sound}
 use Rattle.dsql_call_laws.proofs.Untried.{fallen_wanted}
 
 pub never : (b : Bool) → b ≡ true → b ≡ false → ⊥

@@ -44,15 +44,15 @@ use Rattle.dsql_work_laws.proofs.CallLines.{step}
 use Rattle.dsql_laws.proofs.Tests.{both, same_number, other_number, same_itself}
 use Rattle.dsql_laws.proofs.Numbered.{unfinished_from_one}
 use Rattle.dsql_laws.proofs.Tried.{lends_to}
-use Rattle.dsql_lending_laws.proofs.Found.{place_in}
-use Rattle.dsql_lending_laws.proofs.Lent.{move_facts, stays_lent}
-use Rattle.dsql_lending_laws.proofs.Owners.{owner_is_call, lent_asks, at_home}
-use Rattle.dsql_lending_laws.proofs.Stays.{as_many, has_entered, not_looking, work_stays, asked_stays}
-use Rattle.dsql_sending_laws.proofs.Lines.{line_in, line_here, sending_used}
-use Rattle.dsql_sending_laws.proofs.UnderWay.{UnderWay, Wants}
-use Rattle.dsql_sending_laws.proofs.Invariant.{Sound, is_answer, heard_same, fresh_lending, over_made}
-use Rattle.dsql_sending_laws.proofs.Answered.{lent_under_way, sent_at, answer_of, heard_here, heard_off, same_lent, asks_not}
-use Rattle.dsql_sending_laws.proofs.Sound.{sound}
+use Rattle.dsql_call_laws.proofs.Found.{place_in}
+use Rattle.dsql_call_laws.proofs.Lent.{move_facts, stays_lent}
+use Rattle.dsql_call_laws.proofs.Owners.{owner_is_call, lent_asks, at_home}
+use Rattle.dsql_call_laws.proofs.Stays.{as_many, has_entered, not_looking, work_stays, asked_stays}
+use Rattle.dsql_call_laws.proofs.Lines.{line_in, line_here, sending_used}
+use Rattle.dsql_call_laws.proofs.UnderWay.{UnderWay, Wants}
+use Rattle.dsql_call_laws.proofs.Invariant.{Sound, is_answer, heard_same, fresh_lending, over_made}
+use Rattle.dsql_call_laws.proofs.Answered.{lent_under_way, sent_at, answer_of, heard_here, heard_off, same_lent, asks_not}
+use Rattle.dsql_call_laws.proofs.Sound.{sound}
 use Rattle.dsql_call_laws.proofs.Works.{enters_next, old_record, other_heard, other_replied, old_unfinished, still_unfinished}
 use Rattle.dsql_call_laws.proofs.Idle.{no_work_yet}
 use Rattle.dsql_reply_laws.proofs.Awaited.{is_one, needs_answer, awaits, awaited_due, handed_awaits}

@@ -36,7 +36,7 @@ use Rattle.dsql_history.specs.Rules.Asking.{ask_outcome, may_ask}
 use Rattle.dsql_history.specs.Rules.Line.{is_used}
 use Rattle.dsql_laws.specs.OwedMade.{with_moves}
 use Rattle.dsql_laws.proofs.Tests.{same_itself, same_number}
-use Rattle.dsql_move_laws.proofs.Once.{found_number, once}
+use Rattle.dsql_other_laws.proofs.Once.{found_number, once}
 use Rattle.dsql_follows.specs.Moments.{Moment, begins_step, landed, leaver, stepping}
 use Rattle.dsql_steps.specs.Groups.{after_enter, after_end, after_heard, after_control, after_reply, after_settling, asked_so, given_up, gone_on, heard_at, let_go, sends_nothing, unless_resting, with_owed}
 use Rattle.dsql_step_laws.specs.Steps.{IsAtRest, MakesStep, GoesByItself, RestsAlone, goes_by_itself}

@@ -14,7 +14,7 @@ use Rattle.dsql_history.specs.Legal.{Lawful}
 use Rattle.dsql_laws.proofs.Numbered.{unfinished_from_one}
 use Rattle.dsql_laws.proofs.Standing.{neither}
 use Rattle.dsql_laws.proofs.Tests.{both, same_number, together}
-use Rattle.dsql_sending_laws.proofs.Invariant.{is_answer}
+use Rattle.dsql_call_laws.proofs.Invariant.{is_answer}
 use Rattle.dsql_call_laws.proofs.Lists.{same_or_not}
 use Rattle.dsql_call_laws.proofs.Works.{as_many, enters_next, enters_unfinished, old_unfinished, stays_unfinished, still_unfinished}
 use Rattle.dsql_going.specs.Stepping.{are_of_unfinished}

@@ -29,12 +29,12 @@ use Rattle.dsql_history.specs.Legal.{Lawful}
 use Rattle.dsql_laws.proofs.Journals.{keeps_journals_of}
 use Rattle.dsql_laws.proofs.Tests.{both, other_number, same_itself, same_number, together}
 use Rattle.dsql_laws.proofs.Welcome.{stays_welcome}
-use Rattle.dsql_lending_laws.proofs.Lent.{stays_lent}
-use Rattle.dsql_sending_laws.proofs.Following.{follows_due}
-use Rattle.dsql_sending_laws.proofs.Invariant.{coming_used}
-use Rattle.dsql_sending_laws.proofs.Lines.{line_in}
-use Rattle.dsql_sending_laws.proofs.Sound.{sound}
-use Rattle.dsql_sending_laws.proofs.UnderWay.{UnderWay}
+use Rattle.dsql_call_laws.proofs.Lent.{stays_lent}
+use Rattle.dsql_call_laws.proofs.Following.{follows_due}
+use Rattle.dsql_call_laws.proofs.Invariant.{coming_used}
+use Rattle.dsql_call_laws.proofs.Lines.{line_in}
+use Rattle.dsql_call_laws.proofs.Sound.{sound}
+use Rattle.dsql_call_laws.proofs.UnderWay.{UnderWay}
 use Rattle.dsql_hearing.specs.Hearing.{IsWelcome}
 use Rattle.dsql_walk_laws.specs.Groups.{is_later_of}
 use Rattle.dsql_turn_laws.specs.Leaves.{IsLeave}

@@ -22,14 +22,14 @@ use Rattle.dsql_history.specs.Legal.{Allowed, Lawful}
 use Rattle.dsql_laws.proofs.Numbered.{some_calls}
 use Rattle.dsql_laws.proofs.Tests.{same_number}
 use Rattle.dsql_laws.proofs.Wanting.{none_wanted, wants_its_own}
-use Rattle.dsql_lending_laws.proofs.Lent.{lent_before}
-use Rattle.dsql_lending_laws.proofs.Owners.{at_home, owner_is_call}
-use Rattle.dsql_lending_laws.proofs.Wanted.{lent_wants_none}
-use Rattle.dsql_sending_laws.specs.UnderWay.{StaysWithItsCall}
-use Rattle.dsql_sending_laws.proofs.Answered.{heard_facts, same_lent}
-use Rattle.dsql_sending_laws.proofs.Following.{stays_with_its_call}
-use Rattle.dsql_sending_laws.proofs.Invariant.{fresh_lending, heard_same, is_answer}
-use Rattle.dsql_sending_laws.proofs.Sound.{sound}
+use Rattle.dsql_call_laws.proofs.Lent.{lent_before}
+use Rattle.dsql_call_laws.proofs.Owners.{at_home, owner_is_call}
+use Rattle.dsql_call_laws.proofs.Wanted.{lent_wants_none}
+use Rattle.dsql_call_laws.specs.UnderWay.{StaysWithItsCall}
+use Rattle.dsql_call_laws.proofs.Answered.{heard_facts, same_lent}
+use Rattle.dsql_call_laws.proofs.Following.{stays_with_its_call}
+use Rattle.dsql_call_laws.proofs.Invariant.{fresh_lending, heard_same, is_answer}
+use Rattle.dsql_call_laws.proofs.Sound.{sound}
 use Rattle.dsql_call_laws.proofs.Lists.{same_or_not}
 use Rattle.dsql_call_laws.proofs.Works.{as_many, enters_next, old_work}
 use Rattle.dsql_desk.proofs.Known.{unfinished_known}

@@ -4,7 +4,7 @@ use Rattle.dsql_history.specs.Readers.Unfinished.{is_unfinished}
 use Rattle.dsql_history.specs.Rules.Line.{due_for}
 use Rattle.dsql_history.specs.Rules.Settled.{is_settled_but}
 use Rattle.dsql_call_laws.proofs.Owed.{few_given_back}
-use Rattle.dsql_move_laws.proofs.GivenUp.{gives_up}
+use Rattle.dsql_other_laws.proofs.GivenUp.{gives_up}
 use Rattle.dsql_steps.specs.Groups.{given_up}
 use Rattle.dsql_desk.specs.Desk.{past, Stands}
 use Rattle.dsql_going.proofs.going.give_up.Goals as goal

@@ -1,6 +1,0 @@
-pub mod Rows
-pub mod Alone
-pub mod Closers
-pub mod Settling
-pub mod Answered
-pub mod Closed

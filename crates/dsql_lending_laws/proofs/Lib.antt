@@ -1,9 +1,0 @@
-pub mod Cases
-pub mod Found
-pub mod Spared
-pub mod Owners
-pub mod Born
-pub mod Lent
-pub mod Wanted
-pub mod Rows
-pub mod Stays
