@@ -2,6 +2,7 @@
 //! left once the run is over. Each law is the contract of a function that does nothing.
 #![tactic(auto)]
 
+pub mod alone;
 pub mod clients;
 pub mod over;
 pub mod quiet;
