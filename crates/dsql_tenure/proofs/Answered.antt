@@ -12,10 +12,10 @@ use Rattle.dsql_driver.specs.Kinds.{given_handle, given_cursor, cursor_of}
 use Rattle.dsql_journal.specs.Readers.{LiveHandle, LiveCursor, is_empty, handles, cursors}
 use Rattle.dsql_journal.specs.HandlesAndCursors.{gives_new_handle, gives_new_cursor, has_width_of_cursor}
 use Rattle.dsql_journal.specs.HandlesAndCursors as rule
-use Rattle.dsql_tenure.specs.declared.tables.Handle.{Handle}
-use Rattle.dsql_tenure.specs.declared.tables.Cursor as kept
+use Rattle.dsql_asked.specs.declared.live.Handle.{Handle}
+use Rattle.dsql_asked.specs.declared.live.Cursor as kept
 use Rattle.dsql_tenure.specs.declared.tables.Tables.{Tables}
-use Rattle.dsql_tenure.specs.Asked.{answer_like, outcome_of}
+use Rattle.dsql_asked.specs.Asked.{answer_like, outcome_of}
 use Rattle.dsql_tenure.specs.MayBeAsked.{may_be_asked, is_as_wide}
 use Rattle.dsql_tenure.specs.Tables.{past, kept_handle, kept_cursor, Stands}
 use Rattle.dsql_tenure.proofs.Keeping.{keeps_of}

@@ -6,10 +6,11 @@ use Rattle.dsql_journal.specs.Kinds.{◌⇒◌, is_call, is_house}
 use Rattle.dsql_driver.specs.Kinds.{is_close_stmt, is_next}
 use Rattle.dsql_journal.specs.Readers.{LiveHandle, LiveCursor, is_empty, handles, cursors}
 use Rattle.dsql_journal.specs.HandlesAndCursors.{keeps_handles_and_cursors, has_live_handle, has_live_cursor, fetches_before_the_end, has_transaction_of_handle, has_transaction_of_cursor, uses_cursor_in_its_tenure, uses_handle_in_its_tenure, uses_handle_in_call_tenures}
-use Rattle.dsql_tenure.specs.declared.tables.Handle.{Handle}
-use Rattle.dsql_tenure.specs.declared.tables.Cursor.{Cursor}
+use Rattle.dsql_asked.specs.declared.live.Handle.{Handle}
+use Rattle.dsql_asked.specs.declared.live.Cursor.{Cursor}
 use Rattle.dsql_tenure.specs.declared.tables.Tables.{Tables}
-use Rattle.dsql_tenure.specs.Parts.{keeps_handle, keeps_cursor, serves_handle, serves_cursor}
+use Rattle.dsql_tenure.specs.Parts.{keeps_handle, keeps_cursor}
+use Rattle.dsql_asked.specs.Live.{serves_handle, serves_cursor}
 use Rattle.dsql_tenure.specs.Tables.{past, kept_handle, kept_cursor, Stands}
 use Rattle.dsql_tenure.proofs.Keeping.{keeps_of}
 use Rattle.dsql_tenure.proofs.Lists.{list_all-map, list_any-map, list_all-same, list_all-and, list_all-filter, is_empty-filter}

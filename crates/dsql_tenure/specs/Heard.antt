@@ -7,8 +7,8 @@ use Rattle.dsql_driver.specs.declared.answer.DriverAnswer.{DriverAnswer}
 use Rattle.dsql_driver.specs.declared.answer.DriverAnswer.TheVariants.{Prepared, Cursor}
 use Rattle.dsql_journal.specs.declared.entry.Entry.{Entry}
 use Rattle.dsql_driver.specs.Kinds.{is_over}
-use Rattle.dsql_tenure.specs.declared.tables.Handle.{Handle}
-use Rattle.dsql_tenure.specs.declared.tables.Cursor as kept
+use Rattle.dsql_asked.specs.declared.live.Handle.{Handle}
+use Rattle.dsql_asked.specs.declared.live.Cursor as kept
 
 -- the handle that a Prepare was answered
 abbrev pub prepared_by : DriverCall → DriverAnswer → Option ℕ

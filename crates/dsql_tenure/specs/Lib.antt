@@ -1,5 +1,4 @@
 pub mod Beginnings
-pub mod Asked
 pub mod SoFar
 pub mod Open
 pub mod Tables

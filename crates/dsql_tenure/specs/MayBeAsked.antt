@@ -7,7 +7,7 @@ use Rattle.dsql_journal.specs.Tenure.{keeps_tenure}
 use Rattle.dsql_journal.specs.Transaction.{keeps_transaction}
 use Rattle.dsql_journal.specs.HandlesAndCursors.{keeps_handles_and_cursors, is_heard, is_fitting, gives_new_handle, gives_new_cursor}
 use Rattle.dsql_journal.specs.WholeJournal.{keeps_whole_journal}
-use Rattle.dsql_tenure.specs.declared.tables.Cursor.{Cursor}
+use Rattle.dsql_asked.specs.declared.live.Cursor.{Cursor}
 
 abbrev pub may_be_asked : List Entry → Entry → Bool
 may_be_asked before entry =

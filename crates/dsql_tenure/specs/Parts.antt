@@ -1,12 +1,8 @@
 -- The rules of a journal in groups, as they are tested together.
-use Rattle.std.specs.Prelude.{Bool, ◌&&◌, ◌||◌, not, ◌==◌, List, if◌then◌else◌}
+use Rattle.std.specs.Prelude.{Bool, ◌&&◌, List}
 use Rattle.dsql_journal.specs.declared.entry.Entry.{Entry}
-use Rattle.dsql_journal.specs.Kinds.{◌⇒◌, is_call, is_house}
-use Rattle.dsql_driver.specs.Kinds.{is_close_stmt, is_next}
 use Rattle.dsql_journal.specs.HandlesAndCursors.{has_live_handle, has_live_cursor, fetches_before_the_end, has_transaction_of_handle, has_transaction_of_cursor, uses_cursor_in_its_tenure, uses_handle_in_its_tenure, uses_handle_in_call_tenures}
 use Rattle.dsql_journal.specs.WholeJournal.{follows_no_refusal, follows_no_shut, follows_whole_tenure, connects_first, starts_with_tenure_one, has_rising_tenure, tidies_nothing_bad, stays_in_bad_tenure, shuts_after_invalid}
-use Rattle.dsql_tenure.specs.declared.tables.Handle.{Handle}
-use Rattle.dsql_tenure.specs.declared.tables.Cursor.{Cursor}
 
 -- there is something left to be heard
 abbrev pub goes_on : List Entry → Bool
@@ -42,12 +38,3 @@ keeps_cursor before entry =
     && fetches_before_the_end before entry
     && has_transaction_of_cursor before entry
     && uses_cursor_in_its_tenure before entry
-
--- a handle may be used by an entry
-abbrev pub serves_handle : Handle → Entry → Bool
-serves_handle handle entry =
-    (handle.tx == entry.tx) && (if is_call handle.owner then (is_call entry.owner || is_house entry.owner && is_close_stmt entry.call) else (handle.tenure == entry.tenure))
-
--- a cursor may be used by an entry
-abbrev pub serves_cursor : Cursor → Entry → Bool
-serves_cursor cursor entry = (is_next entry.call ⇒ not cursor.over) && (cursor.tx == entry.tx) && (cursor.tenure == entry.tenure)

@@ -8,8 +8,8 @@ use Rattle.dsql_journal.specs.Readers.{LiveHandle, LiveCursor}
 use Rattle.dsql_journal.specs.Journal.{IsJournalPrefix}
 use Rattle.dsql_tenure.specs.SoFar as tenures
 use Rattle.dsql_tenure.specs.Open.{open_in}
-use Rattle.dsql_tenure.specs.declared.tables.Handle.{Handle}
-use Rattle.dsql_tenure.specs.declared.tables.Cursor.{Cursor}
+use Rattle.dsql_asked.specs.declared.live.Handle.{Handle}
+use Rattle.dsql_asked.specs.declared.live.Cursor.{Cursor}
 use Rattle.dsql_tenure.specs.declared.tables.Tables.{Tables}
 
 -- the entries so far, the newest first

@@ -7,15 +7,14 @@ ghost use Rattle.dsql_journal.specs.Journal.{may_follow};
 ghost use Rattle.dsql_driver.specs.Kinds.{is_ending, is_connect, is_shut};
 ghost use Rattle.dsql_journal.specs.Permits.{entry_of};
 ghost use Rattle.dsql_journal.specs.Readers.{last_owner};
-ghost use Rattle.dsql_tenure.specs.Asked.{answer_like, entry_like};
+ghost use Rattle.dsql_asked.specs.Asked.{answer_like, entry_like};
 ghost use Rattle.dsql_tenure.specs.Beginnings.{phase, can_grow, is_beginning_of};
 ghost use Rattle.dsql_tenure.specs.MayBeAsked as may;
 ghost use Rattle.dsql_tenure.specs.Sent.{may_send};
 
-use crate::asked::{Asked, Outcome};
 use crate::fault::Phase;
-use crate::rules::{has_cursor, has_handle};
-use crate::tables::{Cursor, Tables};
+use crate::tables::Tables;
+use dsql_asked::{Asked, Cursor, Outcome, has_cursor, has_handle};
 use dsql_driver::{DriverAnswer, fits};
 use dsql_journal::{Entry, Owner, Permit};
 
@@ -65,30 +64,22 @@ impl Tables {
             return false;
         }
         if permit.call.is_valid() {
-            return self.may_be_answered(permit, permit.tx, Outcome::Done);
+            return self.may_be_answered(permit, Outcome::Done);
         }
         if permit.call.is_begin() {
-            return self.may_be_answered(permit, permit.tx, Outcome::Done)
-                && self.may_be_answered(permit, 0, Outcome::Failed);
+            return self.may_be_answered(permit, Outcome::Done)
+                && self.may_be_asked(&Asked::of_refused_begin(permit));
         }
-        self.may_be_answered(permit, permit.tx, Outcome::Failed)
+        self.may_be_answered(permit, Outcome::Failed)
     }
 
-    /// It may come next with this transaction and outcome, if the answer fits at its place.
-    fn may_be_answered(&self, permit: &Permit, tx: u32, outcome: Outcome) -> bool
+    /// It may come next with this outcome, if the answer fits at its place.
+    fn may_be_answered(&self, permit: &Permit, outcome: Outcome) -> bool
         requires stands { Stands self.now }
         requires conn { permit.now.conn ≡ self.now.conn }
-        ensures { result ≡ may.may_be_asked (past self.now) (record (entry_of permit.now (answer_like outcome)) { tx = tx }) }
+        ensures { result ≡ may.may_be_asked (past self.now) (entry_of permit.now (answer_like outcome)) }
     {
-        self.may_be_asked(&Asked {
-            conn: permit.conn,
-            tenure: permit.tenure,
-            owner: permit.owner,
-            call_no: permit.call_no,
-            tx,
-            call: &permit.call,
-            outcome,
-        })
+        self.may_be_asked(&Asked::of_permit(permit, outcome))
     }
 
     /// Where the journal stands.

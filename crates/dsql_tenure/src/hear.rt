@@ -8,7 +8,8 @@ ghost use Rattle.dsql_tenure.specs.Flags.{bad_with};
 ghost use Rattle.indexmap.specs.IndexSet.{contains, spare, index_set_len};
 
 use crate::heard::{begins, hear_cursors, hear_handles, hear_open};
-use crate::tables::{Cursor, Handle, Tables};
+use crate::tables::Tables;
+use dsql_asked::{Cursor, Handle};
 use dsql_journal::Entry;
 use dsql_value::Memory;
 use indexmap::IndexSet;

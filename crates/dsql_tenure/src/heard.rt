@@ -4,7 +4,7 @@ ghost use Rattle.dsql_journal.specs.Readers.{begins};
 ghost use Rattle.dsql_tenure.specs.Heard as heard;
 ghost use Rattle.dsql_tenure.specs.Open.{open_after};
 
-use crate::tables::{Cursor, Handle};
+use dsql_asked::{Cursor, Handle};
 use dsql_driver::{DriverAnswer, DriverCall};
 use dsql_journal::Entry;
 
@@ -130,16 +130,17 @@ fn drop_cursor(cursors: &mut Vec<Cursor>, number: u32)
     cursors.retain(|cursor| cursor.number != number);
 }
 
-impl Cursor {
-    /// The same, over if it has that number.
-    fn over_if(self, number: u32) -> Cursor
-        ensures { result ≡ heard.over_if number self }
-    {
-        if self.number == number {
-            Cursor { over: true, ..self }
-        } else {
-            self
+/// The same cursor, over if it has that number.
+fn over_if(cursor: Cursor, number: u32) -> Cursor
+    ensures { result ≡ heard.over_if number cursor }
+{
+    if cursor.number == number {
+        Cursor {
+            over: true,
+            ..cursor
         }
+    } else {
+        cursor
     }
 }
 
@@ -155,7 +156,7 @@ fn end_each(cursors: &mut [Cursor], number: u32)
     ensures { cursors.new ≡ map (heard.over_if number) cursors.old }
 {
     for cursor in cursors.iter_mut() {
-        *cursor = cursor.over_if(number);
+        *cursor = over_if(*cursor, number);
     }
 }
 

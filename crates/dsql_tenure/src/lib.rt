@@ -3,7 +3,6 @@
 #![tactic(auto)]
 
 mod accepts;
-mod asked;
 mod fault;
 mod hear;
 mod heard;

@@ -4,20 +4,15 @@ ghost use Rattle.std.specs.Prelude.{◌≡◌, ◌<◌, ◌≤◌, ◌&&◌, ◌
 ghost use Rattle.std.specs.List.{list_all, list_any};
 ghost use Rattle.dsql_journal.specs.HandlesAndCursors.{keeps_handles_and_cursors};
 ghost use Rattle.dsql_driver.specs.Kinds as driver_kind;
-ghost use Rattle.dsql_journal.specs.Kinds as kind;
 ghost use Rattle.dsql_journal.specs.Readers as told;
 ghost use Rattle.dsql_journal.specs.Readers.{last_tenure};
 ghost use Rattle.dsql_journal.specs.Tenure as tenure;
 ghost use Rattle.dsql_journal.specs.Transaction as transaction;
 ghost use Rattle.dsql_journal.specs.WholeJournal as whole;
-ghost use Rattle.dsql_tenure.specs.Asked.{entry_like};
-ghost use Rattle.dsql_tenure.specs.Parts as part;
+ghost use Rattle.dsql_asked.specs.Asked.{entry_like};
 
-use crate::asked::{Asked, Outcome};
-use crate::place::place;
-use crate::so_far::{Prepared, SoFar};
-use crate::tables::{Cursor, Handle, Tables};
-use dsql_journal::Owner;
+use crate::tables::Tables;
+use dsql_asked::{Asked, Left, no_cursor_of_tenure, serves_cursor, serves_handle};
 
 /// The order of a whole journal.
 #[tactic(auto, unfolding(crate::specs::Tables::Stands))]
@@ -39,31 +34,21 @@ impl Tables {
         requires last { last_tenure (past self.now) ≤ number }
         ensures { result ≡ tenure.is_whole_tenure number (past self.now) }
     {
-        self.has_ended_transactions(number)
-            && (self.went_bad()
-                || self.has_closed_cursors(number) && self.has_closed_handles(number))
+        let left = Left {
+            last_tenure: self.tenure,
+            transactions: &self.unended,
+            cursors: &self.cursors,
+            handles: &self.handles,
+        };
+        left.could_end(number, self.went_bad())
     }
 
-    fn has_ended_transactions(&self, number: u32) -> bool
-        requires stands { Stands self.now }
-        requires last { last_tenure (past self.now) ≤ number }
-        ensures { result ≡ tenure.has_ended_transactions number (past self.now) }
-    {
-        number != self.tenure || self.unended.as_slice().is_empty()
-    }
-
+    /// No cursor of that tenure is live.
     pub fn has_closed_cursors(&self, number: u32) -> bool
         requires { Stands self.now }
         ensures { result ≡ tenure.has_closed_cursors number (past self.now) }
     {
         no_cursor_of_tenure(&self.cursors, number)
-    }
-
-    fn has_closed_handles(&self, number: u32) -> bool
-        requires { Stands self.now }
-        ensures { result ≡ tenure.has_closed_handles number (past self.now) }
-    {
-        only_call_handles_of_tenure(&self.handles, number)
     }
 
     /// All that is said of the order of a whole journal.
@@ -175,77 +160,6 @@ impl Tables {
     }
 }
 
-impl Handle {
-    ghost use Rattle.dsql_tenure.specs.Parts as part;
-
-    /// It may be used there.
-    fn serves(&self, asked: &Asked<'_>) -> bool
-        ensures { result ≡ part.serves_handle self.now (entry_like asked.now) }
-    {
-        self.tx == asked.tx
-            && if self.owner.is_call() {
-                asked.owner.is_call() || asked.owner.is_house() && asked.call.is_close_stmt()
-            } else {
-                self.tenure == asked.tenure
-            }
-    }
-}
-
-impl Cursor {
-    ghost use Rattle.dsql_tenure.specs.Parts as part;
-
-    /// It may be used there.
-    fn serves(&self, asked: &Asked<'_>) -> bool
-        ensures { result ≡ part.serves_cursor self.now (entry_like asked.now) }
-    {
-        (!asked.call.is_next() || !self.over) && self.tx == asked.tx && self.tenure == asked.tenure
-    }
-}
-
-/// The handle of that number is live and may be used there.
-fn serves_handle(handles: &[Handle], number: u32, asked: &Asked<'_>) -> bool
-    ensures { result ≡ (list_any (λ h. h.number == number) handles.now && list_all (λ h. not (h.number == number) || part.serves_handle h (entry_like asked.now)) handles.now) }
-{
-    has_handle(handles, number) && each_handle_serves(handles, number, asked)
-}
-
-/// The handle of that number is live.
-pub fn has_handle(handles: &[Handle], number: u32) -> bool
-    ensures { result ≡ list_any (λ h. h.number == number) handles.now }
-{
-    handles.iter().any(|handle| handle.number == number)
-}
-
-fn each_handle_serves(handles: &[Handle], number: u32, asked: &Asked<'_>) -> bool
-    ensures { result ≡ list_all (λ h. not (h.number == number) || part.serves_handle h (entry_like asked.now)) handles.now }
-{
-    handles
-        .iter()
-        .all(|handle| handle.number != number || handle.serves(asked))
-}
-
-/// The cursor of that number is live and may be used there.
-fn serves_cursor(cursors: &[Cursor], number: u32, asked: &Asked<'_>) -> bool
-    ensures { result ≡ (list_any (λ c. c.number == number) cursors.now && list_all (λ c. not (c.number == number) || part.serves_cursor c (entry_like asked.now)) cursors.now) }
-{
-    has_cursor(cursors, number) && each_cursor_serves(cursors, number, asked)
-}
-
-/// The cursor of that number is live.
-pub fn has_cursor(cursors: &[Cursor], number: u32) -> bool
-    ensures { result ≡ list_any (λ c. c.number == number) cursors.now }
-{
-    cursors.iter().any(|cursor| cursor.number == number)
-}
-
-fn each_cursor_serves(cursors: &[Cursor], number: u32, asked: &Asked<'_>) -> bool
-    ensures { result ≡ list_all (λ c. not (c.number == number) || part.serves_cursor c (entry_like asked.now)) cursors.now }
-{
-    cursors
-        .iter()
-        .all(|cursor| cursor.number != number || cursor.serves(asked))
-}
-
 /// A Reset, Valid, CloseStmt or CloseRows.
 fn tidies(asked: &Asked<'_>) -> bool
     ensures { result ≡ (driver_kind.is_reset asked.now.call.now || driver_kind.is_valid asked.now.call.now || driver_kind.is_close_stmt asked.now.call.now || driver_kind.is_close_rows asked.now.call.now) }
@@ -254,20 +168,4 @@ fn tidies(asked: &Asked<'_>) -> bool
         || asked.call.is_valid()
         || asked.call.is_close_stmt()
         || asked.call.is_close_rows()
-}
-
-/// No cursor of that tenure is live.
-fn no_cursor_of_tenure(cursors: &[Cursor], number: u32) -> bool
-    ensures { result ≡ list_all (λ c. not (c.tenure == number)) cursors.now }
-{
-    cursors.iter().all(|cursor| cursor.tenure != number)
-}
-
-/// Of that tenure no handle is live but those that calls on the database prepared.
-fn only_call_handles_of_tenure(handles: &[Handle], number: u32) -> bool
-    ensures { result ≡ list_all (λ h. not (h.tenure == number) || kind.is_call h.owner) handles.now }
-{
-    handles
-        .iter()
-        .all(|handle| handle.tenure != number || handle.owner.is_call())
 }

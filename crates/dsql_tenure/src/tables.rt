@@ -3,29 +3,10 @@ ghost use Rattle.std.specs.Prelude.{◌≡◌, ◌+◌, ◌<◌, ◌≤◌, ◌�
 
 use crate::past::Past;
 use crate::so_far::SoFar;
-use dsql_journal::Owner;
+use dsql_asked::{Cursor, Handle};
 use dsql_value::Memory;
 use indexmap::IndexSet;
 use std::alloc::Global;
-
-/// A live handle: by which Prepare it was given.
-#[derive(Clone, Copy)]
-pub struct Handle {
-    pub number: u32,
-    pub tenure: u32,
-    pub owner: Owner,
-    pub tx: u32,
-}
-
-/// A live cursor: by which Query it was given, how many columns it has, and whether its rows are over.
-#[derive(Clone, Copy)]
-pub struct Cursor {
-    pub number: u32,
-    pub tenure: u32,
-    pub tx: u32,
-    pub columns: usize,
-    pub over: bool,
-}
 
 /// What is kept of a journal. No entry of it is: the work of one more grows with what is live.
 #[derive(Drop)]

@@ -5,13 +5,13 @@ ghost use Rattle.dsql_journal.specs.HandlesAndCursors.{keeps_handles_and_cursors
 ghost use Rattle.dsql_driver.specs.Kinds as kind;
 ghost use Rattle.dsql_journal.specs.Readers.{last_tenure, of_tenure};
 ghost use Rattle.dsql_journal.specs.Tenure as rule;
-ghost use Rattle.dsql_tenure.specs.Asked.{entry_like};
+ghost use Rattle.dsql_asked.specs.Asked.{entry_like};
 ghost use Rattle.dsql_tenure.specs.TenureParts as part;
 
-use crate::asked::{Asked, Outcome};
 use crate::place::place;
 use crate::so_far::{Prepared, SoFar};
-use crate::tables::{Handle, Tables};
+use crate::tables::Tables;
+use dsql_asked::{Asked, Handle, Outcome};
 use dsql_journal::Owner;
 
 #[tactic(auto, unfolding(crate::specs::Tables::Stands))]
@@ -188,7 +188,7 @@ impl SoFar {
     fn keeps_tx(&self, number: u32, asked: &Asked<'_>) -> bool
         ensures { result ≡ part.keeps_tx self.now number (entry_like asked.now) }
     {
-        !self.worked && is_refused_begin(asked)
+        !self.worked && asked.is_refused_begin()
             || number != 0 && asked.tx == number && !self.refused
     }
 }
@@ -220,18 +220,9 @@ fn is_house_call(asked: &Asked<'_>) -> bool
     asked.call.is_connect() || asked.call.is_close_stmt() || asked.call.is_shut()
 }
 
-/// A Begin answered Bad or Fail outside transactions.
-fn is_refused_begin(asked: &Asked<'_>) -> bool
-    ensures { result ≡ rule.is_refused_begin (entry_like asked.now) }
-{
-    asked.call.is_begin()
-        && matches!(asked.outcome, Outcome::Bad | Outcome::Failed)
-        && asked.tx == 0
-}
-
 /// On a pinned connection, outside transactions, there are pings, work and refused Begins.
 fn is_pin_body(asked: &Asked<'_>) -> bool
     ensures { result ≡ rule.is_pin_body (entry_like asked.now) }
 {
-    asked.tx != 0 || asked.call.is_ping() || asked.call.is_work() || is_refused_begin(asked)
+    asked.tx != 0 || asked.call.is_ping() || asked.call.is_work() || asked.is_refused_begin()
 }

@@ -5,11 +5,11 @@ ghost use Rattle.dsql_journal.specs.HandlesAndCursors.{keeps_handles_and_cursors
 ghost use Rattle.dsql_journal.specs.Readers.{has, begun, cursors};
 ghost use Rattle.dsql_journal.specs.Transaction as rule;
 ghost use Rattle.dsql_journal.specs.WholeJournal.{keeps_whole_journal as keeps_whole};
-ghost use Rattle.dsql_tenure.specs.Asked.{entry_like};
+ghost use Rattle.dsql_asked.specs.Asked.{entry_like};
 ghost use Rattle.dsql_tenure.specs.Open.{open_in, begins_anew, goes_on_open, keeps_number};
 
-use crate::asked::{Asked, Outcome};
-use crate::tables::{Cursor, Tables};
+use crate::tables::Tables;
+use dsql_asked::{Asked, Cursor, Outcome};
 
 #[tactic(auto, unfolding(crate::specs::Tables::Stands))]
 impl Tables {

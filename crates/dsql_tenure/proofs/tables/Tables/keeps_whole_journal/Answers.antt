@@ -1,6 +1,6 @@
 use Rattle.std.proofs.Common.{◌≡◌, ◌==◌, true, ◌∙◌, ap, sym}
 use Rattle.std.specs.List.{list_all}
-use Rattle.dsql_tenure.specs.Asked.{entry_like}
+use Rattle.dsql_asked.specs.Asked.{entry_like}
 use Rattle.dsql_tenure.specs.Parts.{keeps_order, keeps_bad}
 use Rattle.dsql_tenure.specs.Tables.{past}
 use Rattle.dsql_tenure.proofs.Keeping.{keeps_of}

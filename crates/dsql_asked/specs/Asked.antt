@@ -3,9 +3,9 @@ use Rattle.std.specs.Prelude.{[]}
 use Rattle.dsql_driver.specs.declared.answer.DriverAnswer.{DriverAnswer}
 use Rattle.dsql_driver.specs.declared.answer.DriverAnswer.TheVariants.{Done, End, Bad, Fail}
 use Rattle.dsql_journal.specs.declared.entry.Entry.{Entry}
-use Rattle.dsql_tenure.specs.declared.asked.Outcome.{Outcome}
-use Rattle.dsql_tenure.specs.declared.asked.Outcome.TheVariants as is
-use Rattle.dsql_tenure.specs.declared.asked.Asked.{Asked}
+use Rattle.dsql_asked.specs.declared.asked.Outcome.{Outcome}
+use Rattle.dsql_asked.specs.declared.asked.Outcome.TheVariants as is
+use Rattle.dsql_asked.specs.declared.asked.Asked.{Asked}
 
 -- the outcome that an answer is
 abbrev pub outcome_of : DriverAnswer → Outcome
