@@ -16,7 +16,7 @@ use Rattle.dsql_value.specs.declared.value.Param.{Param}
 use Rattle.dsql_value.specs.declared.value.Value.{Value}
 use Rattle.dsql_value.specs.declared.value.Value.TheVariants as value
 use Rattle.dsql_session.specs.Cursor.{CursorState, columns_of, row_of, next_row}
-use Rattle.dsql_mem.specs.Effect.{Effect, effect, carried_out, in_session, only_answered}
+use Rattle.dsql_mem_calls.specs.Effect.{Effect, effect, carried_out, in_session, only_answered}
 use Rattle.dsql_session.specs.Calls.{executed_in, executed, executed_text, executed_prepared, commanded, added, deleted, summed, number_in, prepared, closed, found, queried, queried_text, queried_prepared, queried_in, opened, given, next_taken, rows_closed, shown, no_such_handle}
 use Rattle.dsql_store.specs.Entries.{Entries, value_at, entry_at, listed}
 use Rattle.dsql_session.specs.Filled.{key_for, value_for, left_after}

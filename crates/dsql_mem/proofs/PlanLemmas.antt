@@ -7,9 +7,9 @@ use Rattle.dsql_driver.specs.declared.wire.Planned.{Planned}
 use Rattle.dsql_driver.specs.declared.wire.Planned.TheVariants.{Bad, Fail, Invalid}
 use Rattle.dsql_store.specs.Entries.{Entries}
 use Rattle.dsql_session.specs.Session.{SessionState, IsSound}
-use Rattle.dsql_mem.specs.Effect.{only_answered}
-use Rattle.dsql_mem.specs.Plans.{answer_planned, planned_at, fault_for}
-use Rattle.dsql_mem.specs.Wire.{WireState, comes_of, effect_unless}
+use Rattle.dsql_mem_calls.specs.Effect.{only_answered, effect_unless}
+use Rattle.dsql_mem_plans.specs.Plans.{answer_planned, planned_at, fault_for}
+use Rattle.dsql_mem.specs.Wire.{WireState, comes_of}
 use Rattle.dsql_mem.proofs.EffectLemmas.{IsLawful, effect-IsLawful}
 
 -- a fault that fits the call suits it

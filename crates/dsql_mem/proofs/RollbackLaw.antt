@@ -10,7 +10,7 @@ use Rattle.dsql_driver.specs.declared.call.DriverCall.TheVariants.{Connect, Rese
 use Rattle.dsql_driver.specs.declared.call.Level.{Level}
 use Rattle.dsql_value.specs.declared.value.Value.{Value}
 use Rattle.dsql_session.specs.Cursor.{next_row}
-use Rattle.dsql_mem.specs.Effect.{effect, carried_out, in_session}
+use Rattle.dsql_mem_calls.specs.Effect.{effect, carried_out, in_session}
 use Rattle.dsql_session.specs.Calls.{Kept, executed_in, prepared, closed, queried_in, shown, given, next_taken, rows_closed, in_transaction}
 use Rattle.dsql_store.specs.Entries.{Entries, AreAscending, value_at, with_state}
 use Rattle.dsql_mem.specs.Laws.{RollbackRestores, leaves_transaction, after_calls}

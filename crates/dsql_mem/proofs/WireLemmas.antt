@@ -7,7 +7,8 @@ use Rattle.dsql_driver.specs.declared.answer.DriverAnswer.TheVariants.{Done, Pre
 use Rattle.dsql_driver.specs.declared.call.DriverCall.{DriverCall}
 use Rattle.dsql_store.specs.Entries.{Entries}
 use Rattle.dsql_session.specs.Session.{SessionState, IsSound, handles_of, cursors_of}
-use Rattle.dsql_mem.specs.Wire.{WireState, CarriesOut, effect_unless, fault_in_place, after_call, faults_after}
+use Rattle.dsql_mem_calls.specs.Effect.{effect_unless}
+use Rattle.dsql_mem.specs.Wire.{WireState, CarriesOut, fault_in_place, after_call, faults_after}
 use Rattle.dsql_mem.proofs.PlanLemmas.{comes_of-IsLawful}
 
 -- a wire that took a call's answer and noted it is the wire after the call

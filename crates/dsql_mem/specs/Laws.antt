@@ -4,7 +4,7 @@ use Rattle.std.specs.List.{list_all}
 use Rattle.dsql_driver.specs.declared.call.DriverCall.{DriverCall}
 use Rattle.dsql_driver.specs.declared.call.DriverCall.TheVariants.{Reset, Begin, Commit, Rollback, Shut}
 use Rattle.dsql_driver.specs.declared.call.Level.{Level}
-use Rattle.dsql_mem.specs.Effect.{effect}
+use Rattle.dsql_mem_calls.specs.Effect.{effect}
 use Rattle.dsql_store.specs.Entries.{Entries, AreAscending, value_at}
 use Rattle.dsql_session.specs.Session.{SessionState}
 

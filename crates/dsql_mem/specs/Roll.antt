@@ -1,7 +1,7 @@
 -- What a roll of retired wires holds.
 use Rattle.std.specs.Prelude.{List, [], ◌∷◌, ◌++◌}
 use Rattle.dsql_driver.specs.Wires.{RetiredWire}
-use Rattle.dsql_mem.specs.Log.{told_of}
+use Rattle.dsql_mem_plans.specs.Log.{told_of}
 use Rattle.dsql_mem.specs.declared.roll.Roll.{Roll, Empty, Wire'}
 
 -- the wires on the roll with what they tell, oldest first

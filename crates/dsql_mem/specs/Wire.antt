@@ -1,5 +1,5 @@
 -- What wires and fleets in memory are.
-use Rattle.std.specs.Prelude.{◌≡◌, ℕ, ◌+◌, true, false, List, [], ◌∷◌, ◌++◌, length, Option, None, Some, unwrap_or, if◌then◌else◌}
+use Rattle.std.specs.Prelude.{◌≡◌, ℕ, ◌+◌, true, false, List, [], ◌∷◌, ◌++◌, length, Option, None, unwrap_or, if◌then◌else◌}
 use Rattle.dsql_driver.specs.Fits.{is_fault}
 use Rattle.dsql_driver.specs.Streams.{one_more}
 use Rattle.dsql_driver.specs.Wires.{WireTold, FleetTold, Plan, WirePlan, Preferred, newly_told, with_call, with_plan, with_wire_plan}
@@ -7,8 +7,8 @@ use Rattle.dsql_driver.specs.declared.answer.DriverAnswer.{DriverAnswer}
 use Rattle.dsql_driver.specs.declared.caps.Caps.{Caps}
 use Rattle.dsql_driver.specs.declared.call.DriverCall.{DriverCall}
 use Rattle.dsql_driver.specs.declared.call.DriverCall.TheVariants.{Connect}
-use Rattle.dsql_mem.specs.Effect.{Effect, effect, only_answered}
-use Rattle.dsql_mem.specs.Plans.{fault_at, plans_for}
+use Rattle.dsql_mem_calls.specs.Effect.{Effect, effect_unless}
+use Rattle.dsql_mem_plans.specs.Plans.{fault_at, plans_for}
 use Rattle.dsql_store.specs.Entries.{Entries}
 use Rattle.dsql_session.specs.Session.{SessionState, new_session}
 
@@ -27,11 +27,6 @@ new_wire number planned = record { session = new_session; told = newly_told numb
 -- the fault that stands in the place of a wire's next call, where one does: the calls that it heard were those before it
 abbrev pub fault_in_place : WireState → DriverCall → Option DriverAnswer
 fault_in_place wire call = fault_at (length wire.told.calls + 1) call wire.planned
-
--- a fault in a call's place is answered, and nothing else happens
-abbrev pub effect_unless : Option DriverAnswer → Entries → SessionState → DriverCall → Effect
-effect_unless None store session call = effect store session call
-effect_unless (Some fault) store session call = only_answered store session fault
 
 -- what comes of a wire's call on a map
 abbrev pub comes_of : Entries → WireState → DriverCall → Effect

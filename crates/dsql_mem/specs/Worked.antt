@@ -9,7 +9,7 @@ use Rattle.dsql_driver.specs.declared.call.Level.TheVariants.{Default}
 use Rattle.dsql_value.specs.declared.value.Param.{Param}
 use Rattle.dsql_value.specs.declared.value.Value.{Value}
 use Rattle.dsql_value.specs.declared.value.Value.TheVariants.{Nil, Int, Text}
-use Rattle.dsql_mem.specs.Effect.{Effect, effect, only_answered}
+use Rattle.dsql_mem_calls.specs.Effect.{Effect, effect, only_answered}
 use Rattle.dsql_session.specs.Calls.{no_such_handle, no_such_statement, not_a_command, not_a_query, wrong_arguments, key_is_not_text, not_a_number, out_of_range, in_transaction, no_transaction, numbers_spent}
 use Rattle.dsql_store.specs.Entries.{Entries, with_value, value_at}
 use Rattle.dsql_session.specs.Number.{number_of}

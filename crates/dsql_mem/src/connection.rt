@@ -1,15 +1,14 @@
 ghost use Rattle.std.specs.Prelude.{◌≡◌, ◌≤◌, true, false, if◌then◌else◌, IfOk, OnOk, OnErr};
 ghost use Rattle.dsql_driver.specs.Fits.{is_memory};
 ghost use Rattle.dsql_store.specs.Entries.{AreAscending};
-ghost use Rattle.dsql_mem.specs.Log.{told_of};
+ghost use Rattle.dsql_mem_plans.specs.Log.{told_of};
 ghost use Rattle.dsql_session.specs.Session.{IsSound};
 ghost use Rattle.dsql_mem.specs.Wire.{new_wire, fault_in_place, comes_of, after_call, after_plan, faults_after, CarriesOut};
 
-use crate::calls::step_unless;
-use crate::log::Log;
-use crate::plans::{Plan, copied, fault_at};
 use crate::roll::Roll;
 use dsql_driver::{Answered, DriverAnswer, DriverCall, Planned};
+use dsql_mem_calls::step_unless;
+use dsql_mem_plans::{Log, Plan, copied, fault_at};
 use dsql_session::{Copies, Session};
 use dsql_store::Store;
 use dsql_value::Memory;
@@ -28,7 +27,7 @@ pub(crate) struct Connection {
 }
 
 impl Model for Connection {
-    ghost use Rattle.dsql_mem.specs.Log.{told_of};
+    ghost use Rattle.dsql_mem_plans.specs.Log.{told_of};
     ghost use Rattle.dsql_mem.specs.Wire.{WireState};
 
     ghost Value = { WireState };
@@ -84,8 +83,7 @@ impl Connection {
     fn fault(&self, call: &DriverCall) -> Result<Option<DriverAnswer>, Memory>
         ensures { IfOk result (λ fault. fault ≡ fault_in_place self.now call.now) }
     {
-        let nth = self.log.calls.len() + 1;
-        fault_at(nth, call, self.planned.as_slice())
+        fault_at(self.log.next_call(), call, self.planned.as_slice())
     }
 
     /// Answers a call on a store and notes it. All the room for both is taken first.

@@ -6,10 +6,10 @@ ghost use Rattle.dsql_session.specs.Session.{handles_of, cursors_of};
 ghost use Rattle.dsql_mem.specs.Wire.{ability_of, faults_after, new_fleet, new_wire, after_wire_plan, planned_for, connect_fault};
 
 use crate::connection::faults_after;
-use crate::plans::{Refusal, WirePlanMade, connect_refusal, plans_for};
 use crate::roll::Roll;
 use crate::wire::MemWire;
 use dsql_driver::{Caps, DriverAnswer, Fleet, Planned, Refused};
+use dsql_mem_plans::{Refusal, WirePlanMade, connect_refusal, plans_for};
 use dsql_store::Store;
 use dsql_value::Memory;
 use std::marker::Model;

@@ -2,17 +2,14 @@
 //! statement is a few words.
 #![tactic(auto)]
 
-mod calls;
 mod connection;
 mod fleet;
 pub mod laws;
-mod log;
-mod plans;
 mod roll;
 mod wire;
 pub mod worked;
 
-pub use calls::apply;
+pub use dsql_mem_calls::apply;
 pub use dsql_session::Session;
 pub use dsql_store::Store;
 pub use fleet::MemFleet;

@@ -1,8 +1,8 @@
 ghost use Rattle.std.specs.Prelude.{◌≡◌, ◌∷◌, [], ◌++◌, length, min};
-ghost use Rattle.dsql_mem.specs.Log.{told_of};
+ghost use Rattle.dsql_mem_plans.specs.Log.{told_of};
 ghost use Rattle.dsql_mem.specs.Roll.{retired_of};
 
-use crate::log::Log;
+use dsql_mem_plans::Log;
 
 /// The wires that were retired, the newest first. Each brings the room for its own entry.
 pub(crate) enum Roll {

@@ -3,15 +3,14 @@ ghost use Rattle.dsql_driver.specs.Fits.{fits_of, is_fault, is_memory};
 ghost use Rattle.dsql_driver.specs.Streams.{HasRisen};
 ghost use Rattle.dsql_driver.specs.Wires.{told_after, with_plan, KeepsHandles, KeepsCursors};
 ghost use Rattle.dsql_store.specs.Entries.{Entries, AreAscending};
-ghost use Rattle.dsql_mem.specs.Log.{told_of};
+ghost use Rattle.dsql_mem_plans.specs.Log.{told_of};
 ghost use Rattle.dsql_session.specs.Session.{handles_of, cursors_of};
 ghost use Rattle.dsql_mem.specs.Wire.{new_wire, after_plan, CarriesOut};
 
 use crate::connection::Connection;
-use crate::log::Log;
-use crate::plans::Plan;
 use crate::roll::Roll;
 use dsql_driver::{Answered, DriverCall, Planned, Wire};
+use dsql_mem_plans::{Log, Plan};
 use dsql_store::Store;
 use dsql_value::Memory;
 use std::marker::Model;

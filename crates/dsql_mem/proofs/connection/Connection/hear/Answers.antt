@@ -1,7 +1,8 @@
 use Rattle.std.proofs.Common.{◌≡◌, List, [], ◌∷◌, ◌++◌, sym, ap, ◌∙◌, rules}
 use Rattle.dsql_driver.specs.Wires.{Told}
-use Rattle.dsql_mem.specs.Log.{told_of}
-use Rattle.dsql_mem.specs.Wire.{WireState, effect_unless, fault_in_place, after_call, faults_after}
+use Rattle.dsql_mem_plans.specs.Log.{told_of}
+use Rattle.dsql_mem_calls.specs.Effect.{effect_unless}
+use Rattle.dsql_mem.specs.Wire.{WireState, fault_in_place, after_call, faults_after}
 use Rattle.dsql_session.specs.declared.copies.Copies.{Copies}
 use Rattle.dsql_mem.proofs.WireLemmas.{changed_by_parts}
 use Rattle.dsql_mem.proofs.connection.Connection.hear.Goals as goal

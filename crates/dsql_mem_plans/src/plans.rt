@@ -4,24 +4,24 @@ ghost use Rattle.std.specs.Prelude.{◌≡◌, IfOk, IfSome, option_map};
 ghost use Rattle.std.specs.Option.{option_copied};
 ghost use Rattle.dsql_driver.specs.Fits.{fits_of};
 ghost use Rattle.dsql_driver.specs.Wires.{answer_of};
-ghost use Rattle.dsql_mem.specs.Plans.{answer_planned, planned_at, fault_at, plans_for};
+ghost use Rattle.dsql_mem_plans.specs.Plans.{answer_planned, planned_at, fault_at, plans_for};
 
 use dsql_driver::{DriverAnswer, DriverCall, Planned, Refused};
 use dsql_value::Memory;
 use std::alloc::Global;
 
 /// A fault in place of the answer to the nth call on a wire.
-pub(crate) type Plan = (u32, Planned);
+pub type Plan = (u32, Planned);
 
 /// A fault that was planned on a wire, behind how many calls that the wire had heard by then.
-pub(crate) type PlanMade = (usize, Plan);
+pub type PlanMade = (usize, Plan);
 
 /// A fault that was planned with a fleet for the wire of this number, behind how many Connects that the fleet
 /// had told by then.
-pub(crate) type WirePlanMade = (usize, (u32, Plan));
+pub type WirePlanMade = (usize, (u32, Plan));
 
 /// A copy of a planned fault.
-pub(crate) fn copied(what: &Planned) -> Result<Planned, Memory>
+pub fn copied(what: &Planned) -> Result<Planned, Memory>
     ensures { IfOk result (λ copy. copy ≡ what.now) }
 {
     Ok(match what {
@@ -32,11 +32,7 @@ pub(crate) fn copied(what: &Planned) -> Result<Planned, Memory>
 }
 
 /// The plans for the wire of this number among a fleet's, oldest first.
-pub(crate) fn plans_for(
-    alloc: Global,
-    number: u32,
-    plans: &[WirePlanMade],
-) -> Result<Vec<Plan>, Memory>
+pub fn plans_for(alloc: Global, number: u32, plans: &[WirePlanMade]) -> Result<Vec<Plan>, Memory>
     ensures { IfOk result (λ own. own.items ≡ plans_for number plans.now) }
 {
     let mut own = Vec::new(alloc);
@@ -79,7 +75,7 @@ fn answer_planned(what: &Planned) -> Result<DriverAnswer, Memory>
 }
 
 /// The fault that stands in the place of the nth call, if one was planned for it that fits it.
-pub(crate) fn fault_at(
+pub fn fault_at(
     nth: usize,
     call: &DriverCall,
     plans: &[Plan],
@@ -97,13 +93,13 @@ pub(crate) fn fault_at(
 }
 
 /// Why a Connect is refused, and the answer that tells of it.
-pub(crate) struct Refusal {
-    pub(crate) refused: Refused,
-    pub(crate) answer: DriverAnswer,
+pub struct Refusal {
+    pub refused: Refused,
+    pub answer: DriverAnswer,
 }
 
 /// The refusal that was planned in place of a wire's Connect, if one was that fits it.
-pub(crate) fn connect_refusal(plans: &[Plan]) -> Result<Option<Refusal>, Memory>
+pub fn connect_refusal(plans: &[Plan]) -> Result<Option<Refusal>, Memory>
     ensures planned { IfOk result (λ refusal. option_map (λ r. r.answer) refusal ≡ fault_at 1 DriverCall.Connect plans.now) }
     ensures told { IfOk result (λ refusal. IfSome refusal (λ r. answer_of {W = Unit {0}} (Err r.refused) ≡ r.answer)) }
 {

@@ -1,5 +1,5 @@
 -- What each call does to a map and a session, and how it is answered.
-use Rattle.std.specs.Prelude.{pos, None, is_some, if◌then◌else◌}
+use Rattle.std.specs.Prelude.{pos, Option, Some, None, is_some, if◌then◌else◌}
 use Rattle.std.specs.Option.{option_map_or}
 use Rattle.dsql_driver.specs.declared.answer.DriverAnswer.{DriverAnswer}
 use Rattle.dsql_driver.specs.declared.answer.DriverAnswer.TheVariants.{Done, Result}
@@ -63,3 +63,8 @@ effect store session (Begin level read_only) = in_session store (begun session)
 effect store session Commit = in_session store (committed session)
 effect store session Rollback =
     if is_some session.undo then taken_back store session else only_answered store session no_transaction
+
+-- a fault in a call's place is answered, and nothing else happens
+abbrev pub effect_unless : Option DriverAnswer → Entries → SessionState → DriverCall → Effect
+effect_unless None store session call = effect store session call
+effect_unless (Some fault) store session call = only_answered store session fault

@@ -1,6 +1,6 @@
 -- What a log of a wire holds.
 use Rattle.dsql_driver.specs.Wires.{WireTold}
-use Rattle.dsql_mem.specs.declared.log.Log.{Log}
+use Rattle.dsql_mem_plans.specs.declared.log.Log.{Log}
 
 -- what a wire with this log tells
 abbrev pub told_of : Log → WireTold

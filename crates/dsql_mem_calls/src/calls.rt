@@ -2,8 +2,7 @@ ghost use Rattle.std.specs.Prelude.{◌≡◌, true, false, IfOk, OnOk, OnErr, i
 ghost use Rattle.dsql_driver.specs.Fits.{is_memory};
 ghost use Rattle.dsql_session.specs.Calls.{shown};
 ghost use Rattle.dsql_session.specs.Copies.{copies_of};
-ghost use Rattle.dsql_mem.specs.Effect.{effect, carried_out, taken_back};
-ghost use Rattle.dsql_mem.specs.Wire.{effect_unless};
+ghost use Rattle.dsql_mem_calls.specs.Effect.{effect, effect_unless, carried_out, taken_back};
 
 use dsql_driver::{Answered, DriverAnswer, DriverCall};
 use dsql_session::{Copies, Found, NO_TRANSACTION, Outcome, Session};
@@ -28,7 +27,7 @@ pub fn apply(alloc: Global, store: &mut Store, session: &mut Session, call: &Dri
 }
 
 /// Carries out one call of a session, and answers with one copy more than `apply`.
-pub(crate) fn step(
+pub fn step(
     alloc: Global,
     store: &mut Store,
     session: &mut Session,
@@ -62,7 +61,7 @@ pub(crate) fn step(
 }
 
 /// Answers a call with the fault that stands in its place, or else carries it out.
-pub(crate) fn step_unless(
+pub fn step_unless(
     fault: Option<DriverAnswer>,
     alloc: Global,
     store: &mut Store,
