@@ -3,6 +3,5 @@ pub mod Runs
 pub mod Notes
 pub mod Headline
 pub mod Playing
-pub mod Words
 pub mod Summing
 pub mod Lent

@@ -8,8 +8,8 @@ use Rattle.dsql_summary.specs.Summary.{line_of, summary_of}
 use Rattle.dsql_generator.specs.Script.{generated}
 use Rattle.dsql_script_source.specs.declared.stop.Stop.{Stop}
 use Rattle.dsql_script_source.specs.declared.stop.Stop.TheVariants.{Write, Memory, Full}
-use Rattle.dsql_outcome.specs.declared.words.Command.{Command}
-use Rattle.dsql_outcome.specs.declared.words.Command.TheVariants.{Play, Summarize, Generate}
+use Rattle.dsql_words.specs.declared.words.Command.{Command}
+use Rattle.dsql_words.specs.declared.words.Command.TheVariants.{Play, Summarize, Generate}
 use Rattle.dsql_outcome.specs.Headline.{Seen, SeenNotes, Ran, PlaysWholeAs}
 use Rattle.dsql_outcome.specs.Notes.{Tells}
 use Rattle.dsql_outcome.specs.Runs.{Finishes, no_write_failed}

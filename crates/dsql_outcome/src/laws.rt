@@ -26,7 +26,6 @@ ghost use Rattle.dsql_playing.specs.Playing.{Playing};
 ghost use Rattle.dsql_outcome.specs.Followed.{FollowsAll, FollowsSoFar, StopsShort};
 ghost use Rattle.dsql_outcome.specs.Lent.{StopsPlanning};
 ghost use Rattle.dsql_outcome.specs.Headline.{PlaysAndTells, PlaysWhole, Seen, SeenNotes};
-ghost use Rattle.dsql_outcome.specs.Words.{WorkedWords};
 ghost use Rattle.dsql_outcome.specs.Notes.{note_of, is_status, Tells};
 ghost use Rattle.dsql_outcome.specs.Runs.{Finishes, IsLinesEnd, IsPlayStop, Writes, Wrote, is_cut, is_write_fault, no_write_failed, ran_out};
 
@@ -79,9 +78,4 @@ pub fn what_was_written_and_read()
 /// What stops a line isn't the end of the lines.
 pub fn no_line_that_stops_ends_the_script()
     ensures { (stop : Stopped) → IsPlayStop stop → IsLinesEnd (Err stop) → ⊥ }
-{}
-
-/// Words that the program accepts, and words that it doesn't.
-pub fn worked_words()
-    ensures { WorkedWords }
 {}

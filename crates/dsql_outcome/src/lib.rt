@@ -5,8 +5,6 @@
 pub mod laws;
 mod notes;
 mod stop;
-mod words;
 
 pub use notes::{tell, tell_usage};
 pub use stop::{stop_of_halt, stop_of_show};
-pub use words::{Command, command_of};

@@ -1,4 +1,1 @@
-pub mod Going
-pub mod Written
-pub mod Heading
 pub mod Summaries

@@ -2,18 +2,19 @@ ghost use Rattle.std.specs.Prelude.{◌≡◌, ◌≢◌, ◌⊎◌, true, false
 ghost use Rattle.dsql_driver.specs.Streams.{HasRisen};
 ghost use Rattle.dsql_generator.specs.Script.{generated};
 ghost use Rattle.dsql_show.specs.Report.{with_text};
-ghost use Rattle.dsql_outcome.specs.declared.words.Command.TheVariants.{Play, Summarize};
+ghost use Rattle.dsql_words.specs.declared.words.Command.TheVariants.{Play, Summarize};
 ghost use Rattle.dsql_outcome.specs.Notes.{is_status};
 ghost use Rattle.dsql_outcome.specs.Headline.{seen, seen_notes, PlaysAndTells, PlaysWhole, RefusesWords};
 ghost use Rattle.dsql_outcome.specs.Summing.{GeneratesAndTells, IfGenerates, SumsUpAndTells, SumsUpWhole, plays_a_script};
-ghost use Rattle.dsql_outcome.specs.Words.{command_of};
+ghost use Rattle.dsql_words.specs.Words.{command_of};
 
 use crate::generating::generate_lines;
-use crate::playing::{Played, play_keeping};
 use crate::summing::sum_up;
 use dsql_driver::{Clock, Fleet, Gate, Sink, Source};
-use dsql_outcome::{Command, command_of, tell, tell_usage};
+use dsql_outcome::{tell, tell_usage};
+use dsql_play::{Played, play_keeping};
 use dsql_value::Txt;
+use dsql_words::{Command, command_of};
 use std::alloc::Global;
 use std::mem;
 
