@@ -2,22 +2,24 @@
 ghost use Rattle.std.specs.Prelude.{◌≡◌, ◌<◌, ◌≤◌, ℕ, Err, None, true, false, is_some, length, OnOk, OnErr};
 ghost use Rattle.dsql_history.specs.Readers.Course.{has_ended};
 ghost use Rattle.dsql_history.specs.Rules.House.{is_quiet};
-ghost use Rattle.dsql_player.specs.Keeping.{ActsUnheard, SameCourse};
+ghost use Rattle.dsql_playing.specs.Keeping.{ActsUnheard, SameCourse};
 ghost use Rattle.dsql_end_laws.specs.Over.{IsOver};
-ghost use Rattle.dsql_follows.specs.Moments.{Moment, at_end};
+ghost use Rattle.dsql_follows.specs.Moments.{Moment};
 ghost use Rattle.dsql_follows.specs.Sentences.{runs_on};
 ghost use Rattle.dsql_follows.specs.declared.line.Line.TheVariants.{Fault};
-ghost use Rattle.dsql_playing.specs.Acts.{Begun, ComesToEnd};
+ghost use Rattle.dsql_playing.specs.Acts.{Begun};
 ghost use Rattle.dsql_playing.specs.Carried.{Carries, CarriesEnd, KeepsRun, KeepsRunPlanning, StopsInEnd, StopsInLine};
 ghost use Rattle.dsql_playing.specs.Planned.{plans_of};
 ghost use Rattle.dsql_playing.specs.Playing.{IsAt, IsReady};
 ghost use Rattle.dsql_steps.specs.Groups.{most_events};
 ghost use Rattle.dsql_wires.specs.WiresFit.{WiresFit, slot};
 
-use crate::player::Player;
+use crate::admitting::admit;
+use crate::running::run_on;
+use crate::single::{step_client, step_house};
 use dsql_driver::{Fleet, Planned};
 use dsql_follows::Line;
-use dsql_playing::Halt;
+use dsql_playing::{Halt, Player};
 use dsql_seats::KeptLine;
 use dsql_wires::{Wires, plan};
 
@@ -43,15 +45,15 @@ pub fn carry_line<F: Fleet>(
     player.check_room()?;
     match line {
         Line::Start { client, op } => {
-            player.admit(client, KeptLine { op, held: true })?;
+            admit(player, client, KeptLine { op, held: true })?;
             Ok(())
         }
-        Line::Step { client } => player.step_client(wires, client),
-        Line::StepHouse => player.step_house(wires, fleet),
+        Line::Step { client } => step_client(player, wires, client),
+        Line::StepHouse => step_house(player, wires, fleet),
         Line::Fault { conn, nth, what } => carry_fault(player, wires, fleet, conn, nth, what),
         line => {
-            player.begin(line)?;
-            player.run_on(wires, fleet)
+            begin(player, line)?;
+            run_on(player, wires, fleet)
         }
     }
 }
@@ -75,7 +77,7 @@ fn carry_fault<F: Fleet>(
     ensures full { result ≡ Err Halt.Full → most_events ≤ length player.new.past }
 {
     plan(wires, fleet, conn, nth, what)?;
-    player.run_on(wires, fleet)
+    run_on(player, wires, fleet)
 }
 
 /// Carries the script's end out: no call is held any more, all goes on, the run ends, and all goes on again until nobody
@@ -100,40 +102,26 @@ pub fn carry_end<F: Fleet>(
     ensures full { result ≡ Err Halt.Full → most_events ≤ length player.new.past }
 {
     player.release();
-    player.run_on(wires, fleet)?;
+    run_on(player, wires, fleet)?;
     player.end_run()?;
-    player.run_on(wires, fleet)
+    run_on(player, wires, fleet)
 }
 
-impl Player {
-    /// A line that runs on makes its own step, if it has one.
-    fn begin(&mut self, line: Line) -> Result<(), Halt>
-        requires ready { IsReady self.old }
-        requires room { length self.old.past < most_events }
-        requires runs { runs_on line ≡ true }
-        ensures begins { OnOk result ((m : Moment) → IsAt m self.old → Begun m line self.old self.new) }
-        ensures course { OnOk result (SameCourse self.old self.new) }
-        ensures act { ActsUnheard result self.old self.new }
-    {
-        match line {
-            Line::Control(control) => self.control(control),
-            Line::Client { client, op } => {
-                self.admit(client, KeptLine { op, held: false })?;
-                Ok(())
-            }
-            _ => Ok(()),
+/// A line that runs on makes its own step, if it has one.
+fn begin(player: &mut Player, line: Line) -> Result<(), Halt>
+    requires ready { IsReady player.old }
+    requires room { length player.old.past < most_events }
+    requires runs { runs_on line ≡ true }
+    ensures begins { OnOk result ((m : Moment) → IsAt m player.old → Begun m line player.old player.new) }
+    ensures course { OnOk result (SameCourse player.old player.new) }
+    ensures act { ActsUnheard result player.old player.new }
+{
+    match line {
+        Line::Control(control) => player.control(control),
+        Line::Client { client, op } => {
+            admit(player, client, KeptLine { op, held: false })?;
+            Ok(())
         }
-    }
-
-    /// The script is at its end, and no call is held any more.
-    fn release(&mut self)
-        requires ready { IsReady self.old }
-        ensures past { self.new.past ≡ self.old.past }
-        ensures released { self.new.released ≡ true }
-        ensures ready { IsReady self.new }
-        ensures at { (m : Moment) → IsAt m self.old → IsAt (at_end m) self.new }
-    {
-        self.seats.release_all();
-        self.released = true;
+        _ => Ok(()),
     }
 }

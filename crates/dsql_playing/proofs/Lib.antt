@@ -19,3 +19,15 @@ pub mod Answering
 pub mod Ending
 pub mod Beginning
 pub mod Housekeeping
+pub mod Asked
+pub mod Woke
+pub mod Taken
+pub mod Tidied
+pub mod Shut
+pub mod Opened
+pub mod Kept
+pub mod Entered
+pub mod Next
+pub mod Ran
+pub mod Stepped
+pub mod Ended

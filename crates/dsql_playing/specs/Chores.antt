@@ -1,5 +1,5 @@
--- The layer's own driver call that is under way.
-use Rattle.std.specs.Prelude.{◌≡◌, ◌<◌, true, Some, None, length}
+-- The layer's own driver calls: the one that comes first, and the one that is under way.
+use Rattle.std.specs.Prelude.{◌≡◌, ◌<◌, true, Option, Some, None, length}
 use Rattle.dsql_journal.specs.declared.entry.Entry.{Entry}
 use Rattle.dsql_journal.specs.declared.entry.Permit.{Permit}
 use Rattle.dsql_journal.specs.HandlesAndCursors.{fits_at_its_place}
@@ -17,6 +17,18 @@ pub record IsToMake (p : Playing) (permit : Permit) : Type 0 where
   pub room : length p.past < most_events
   pub first : chore_due p.past ≡ Some permit.conn
   pub leave : chore_permit p.past permit.conn ≡ Some permit
+
+-- It is as before, but for the layer's own call that is under way.
+pub record SameButChore (old mid : Playing) : Type 0 where
+  pub past : mid.past ≡ old.past
+  pub flights : mid.flights ≡ old.flights
+  pub seats : mid.seats ≡ old.seats
+  pub released : mid.released ≡ old.released
+
+-- The layer's first own call is under way, and this is leave for it; or it has none to make, and nothing was done.
+abbrev pub FindsChore : Option Permit → Playing → Playing → Type 0
+FindsChore (Some permit) before after = IsToMake after permit
+FindsChore None before after = (after ≡ before) × (chore_due before.past ≡ None)
 
 -- It was answered, and the answer fits at its place.
 pub record IsAnswered (p : Playing) (e : Entry) : Type 0 where

@@ -3,4 +3,5 @@ pub mod Stepping
 pub mod Acts
 pub mod Chores
 pub mod Carried
+pub mod Keeping
 pub mod Planned

@@ -7,7 +7,7 @@ use Rattle.dsql_playing.proofs.Hearing.{hears_none}
 use Rattle.dsql_playing.proofs.Keeping.{run_after}
 use Rattle.dsql_playing.proofs.Fitting.{fits_same, fits_unheard}
 use Rattle.dsql_playing.proofs.LastPart.{end_begun, end_stays, end_stops}
-use Rattle.dsql_player.proofs.Ended.{RanOut, empty_out, gone_far, gone_out, gone_over, on_ok2, over_out, quiet_out, ran_out, run_halts, run_through}
+use Rattle.dsql_playing.proofs.Ended.{RanOut, empty_out, gone_far, gone_out, gone_over, on_ok2, over_out, quiet_out, ran_out, run_halts, run_through}
 use Rattle.dsql_player.proofs.line.carry_end.Goals as goal
 
 pub run_on-requires-clause-wires : goal.run_on-requires-clause-wires
@@ -16,27 +16,27 @@ run_on-requires-clause-wires g c = λ κs h. fits_same g.F.Wire.Wire.told c.args
 pub end_run-requires-clause-quiet : goal.end_run-requires-clause-quiet
 end_run-requires-clause-quiet g c =
     let e = c.in_ok-run_on.ensures in
-    let out : RanOut false c.run_on.new.self = record {
+    let out : RanOut false c.run_on.new.player = record {
       ready = e.run.ready;
       released = e.course.released ∙ c.release.ensures.released;
       ended = e.course.ended ∙ (ap has_ended c.release.ensures.past ∙ c.requires.running);
       none = e.no_chore;
       nobody = e.nobody;
     } in
-    quiet_out false c.run_on.new.self out
+    quiet_out false c.run_on.new.player out
 
 pub end_run-requires-clause-running : goal.end_run-requires-clause-running
 end_run-requires-clause-running g c = c.in_ok-run_on.ensures.course.ended ∙ (ap has_ended c.release.ensures.past ∙ c.requires.running)
 
 pub run_on-requires-2-clause-wires : goal.run_on-requires-2-clause-wires
 run_on-requires-2-clause-wires g c = λ κs h.
-    fits_unheard g.F.Wire.Wire.told c.run_on.new.self.past c.end_run.new.self.past c.run_on.new.wires c.end_run.ensures.act.unheard _ c.in_ok-run_on.ensures.run.wires
+    fits_unheard g.F.Wire.Wire.told c.run_on.new.player.past c.end_run.new.self.past c.run_on.new.wires c.end_run.ensures.act.unheard _ c.in_ok-run_on.ensures.run.wires
 
 pub returns-in_err-run_on : goal.returns-in_err-run_on
 returns-in_err-run_on g c =
     let old = c.args.player.now in
     let begun = c.release.new.self in
-    let new = c.run_on.new.self in
+    let new = c.run_on.new.player in
     let e = c.in_err-run_on.ensures in
     let p = err_from_is_err_and c.from_residual.result c.from_residual.ensures.1 in
     rw p.1
@@ -57,7 +57,7 @@ pub returns-in_err-end_run : goal.returns-in_err-end_run
 returns-in_err-end_run g c =
     let old = c.args.player.now in
     let begun = c.release.new.self in
-    let far = c.run_on.new.self in
+    let far = c.run_on.new.player in
     let over = c.end_run.new.self in
     let done = c.in_ok-run_on.ensures in
     let e = c.in_err-end_run.ensures in
@@ -79,7 +79,7 @@ returns-in_err-end_run g c =
 pub returns-clause-carries : goal.returns-clause-carries
 returns-clause-carries g c =
     let e = c.in_ok-run_on.ensures in
-    let out_far : RanOut false c.run_on.new.self = record {
+    let out_far : RanOut false c.run_on.new.player = record {
       ready = e.run.ready;
       released = e.course.released ∙ c.release.ensures.released;
       ended = e.course.ended ∙ (ap has_ended c.release.ensures.past ∙ c.requires.running);
@@ -87,7 +87,7 @@ returns-clause-carries g c =
       nobody = e.nobody;
     } in
     let r = c.run_on-2.result in
-    let new = c.run_on-2.new.self in
+    let new = c.run_on-2.new.player in
     let last = c.run_on-2.ensures in
     let released : c.end_run.new.self.released ≡ true = c.in_ok-end_run.ensures.released ∙ (c.in_ok-run_on.ensures.course.released ∙ c.release.ensures.released) in
     let out : OnOk r (RanOut true new) = ran_out r true c.end_run.new.self new released c.in_ok-end_run.ensures.ended last.run.ready last.course last.no_chore last.nobody in
@@ -95,15 +95,15 @@ returns-clause-carries g c =
     let over = c.end_run.new.self in
     on_ok2 r
     (λ out runs m at.
-    let far : ComesToEnd m old c.run_on.new.self = gone_far m old c.release.new.self c.run_on.new.self c.release.ensures.past c.release.ensures.at e.out at in
-    gone_out m old over new (gone_over m old c.run_on.new.self over out_far c.in_ok-end_run.ensures.ends far) runs out)
+    let far : ComesToEnd m old c.run_on.new.player = gone_far m old c.release.new.self c.run_on.new.player c.release.ensures.past c.release.ensures.at e.out at in
+    gone_out m old over new (gone_over m old c.run_on.new.player over out_far c.in_ok-end_run.ensures.ends far) runs out)
     out
     last.out
 
 pub returns-clause-stops : goal.returns-clause-stops
 returns-clause-stops g c =
     let e = c.in_ok-run_on.ensures in
-    let out_far : RanOut false c.run_on.new.self = record {
+    let out_far : RanOut false c.run_on.new.player = record {
       ready = e.run.ready;
       released = e.course.released ∙ c.release.ensures.released;
       ended = e.course.ended ∙ (ap has_ended c.release.ensures.past ∙ c.requires.running);
@@ -114,14 +114,14 @@ returns-clause-stops g c =
     let over = c.end_run.new.self in
     on_err_weaker c.run_on-2.result
     (λ runs m at.
-    let far : ComesToEnd m old c.run_on.new.self = gone_far m old c.release.new.self c.run_on.new.self c.release.ensures.past c.release.ensures.at e.out at in
-    end_stops m old over c.run_on-2.new.self.past (gone_over m old c.run_on.new.self over out_far c.in_ok-end_run.ensures.ends far) runs)
+    let far : ComesToEnd m old c.run_on.new.player = gone_far m old c.release.new.self c.run_on.new.player c.release.ensures.past c.release.ensures.at e.out at in
+    end_stops m old over c.run_on-2.new.player.past (gone_over m old c.run_on.new.player over out_far c.in_ok-end_run.ensures.ends far) runs)
     c.run_on-2.ensures.so_far
 
 pub returns-clause-over : goal.returns-clause-over
 returns-clause-over g c =
     let r = c.run_on-2.result in
-    let new = c.run_on-2.new.self in
+    let new = c.run_on-2.new.player in
     let last = c.run_on-2.ensures in
     let released : c.end_run.new.self.released ≡ true = c.in_ok-end_run.ensures.released ∙ (c.in_ok-run_on.ensures.course.released ∙ c.release.ensures.released) in
     let out : OnOk r (RanOut true new) = ran_out r true c.end_run.new.self new released c.in_ok-end_run.ensures.ended last.run.ready last.course last.no_chore last.nobody in
@@ -130,7 +130,7 @@ returns-clause-over g c =
 pub returns-clause-ended : goal.returns-clause-ended
 returns-clause-ended g c =
     let r = c.run_on-2.result in
-    let new = c.run_on-2.new.self in
+    let new = c.run_on-2.new.player in
     let last = c.run_on-2.ensures in
     let released : c.end_run.new.self.released ≡ true = c.in_ok-end_run.ensures.released ∙ (c.in_ok-run_on.ensures.course.released ∙ c.release.ensures.released) in
     let out : OnOk r (RanOut true new) = ran_out r true c.end_run.new.self new released c.in_ok-end_run.ensures.ended last.run.ready last.course last.no_chore last.nobody in
@@ -139,7 +139,7 @@ returns-clause-ended g c =
 pub returns-clause-quiet : goal.returns-clause-quiet
 returns-clause-quiet g c =
     let r = c.run_on-2.result in
-    let new = c.run_on-2.new.self in
+    let new = c.run_on-2.new.player in
     let last = c.run_on-2.ensures in
     let released : c.end_run.new.self.released ≡ true = c.in_ok-end_run.ensures.released ∙ (c.in_ok-run_on.ensures.course.released ∙ c.release.ensures.released) in
     let out : OnOk r (RanOut true new) = ran_out r true c.end_run.new.self new released c.in_ok-end_run.ensures.ended last.run.ready last.course last.no_chore last.nobody in
@@ -148,7 +148,7 @@ returns-clause-quiet g c =
 pub returns-clause-empty : goal.returns-clause-empty
 returns-clause-empty g c =
     let r = c.run_on-2.result in
-    let new = c.run_on-2.new.self in
+    let new = c.run_on-2.new.player in
     let last = c.run_on-2.ensures in
     let released : c.end_run.new.self.released ≡ true = c.in_ok-end_run.ensures.released ∙ (c.in_ok-run_on.ensures.course.released ∙ c.release.ensures.released) in
     let out : OnOk r (RanOut true new) = ran_out r true c.end_run.new.self new released c.in_ok-end_run.ensures.ended last.run.ready last.course last.no_chore last.nobody in
@@ -156,5 +156,5 @@ returns-clause-empty g c =
 
 pub returns-clause-run : goal.returns-clause-run
 returns-clause-run g c =
-    run_through g.F.Fleet g.F.Wire.Wire.told c.run_on-2.result c.args.fleet.now c.run_on.new.fleet c.run_on-2.new.fleet c.args.player.now c.release.new.self c.run_on.new.self c.end_run.new.self c.run_on-2.new.self c.args.wires.now c.run_on.new.wires
+    run_through g.F.Fleet g.F.Wire.Wire.told c.run_on-2.result c.args.fleet.now c.run_on.new.fleet c.run_on-2.new.fleet c.args.player.now c.release.new.self c.run_on.new.player c.end_run.new.self c.run_on-2.new.player c.args.wires.now c.run_on.new.wires
     c.run_on-2.new.wires c.release.ensures.past c.in_ok-run_on.ensures.run.told c.in_ok-run_on.ensures.run.able c.end_run.ensures.act.unheard c.run_on-2.ensures.run

@@ -36,13 +36,13 @@ pub returns-clause-carries : goal.returns-clause-carries
 returns-clause-carries g c =
     let old = c.args.player.now in
     let line : Line = Fault c.args.conn c.args.nth c.args.what in
-    on_ok_weaker c.run_on.result (λ out m at. begun_done m line old old c.run_on.new.self (begun_fault m c.args.conn c.args.nth c.args.what old at) refl out) c.run_on.ensures.out
+    on_ok_weaker c.run_on.result (λ out m at. begun_done m line old old c.run_on.new.player (begun_fault m c.args.conn c.args.nth c.args.what old at) refl out) c.run_on.ensures.out
 
 pub returns-clause-stops : goal.returns-clause-stops
 returns-clause-stops g c =
     let old = c.args.player.now in
     let line : Line = Fault c.args.conn c.args.nth c.args.what in
-    on_err_weaker c.run_on.result (λ stops m at. begun_stops m line old old c.run_on.new.self.past (begun_fault m c.args.conn c.args.nth c.args.what old at) refl stops) c.run_on.ensures.so_far
+    on_err_weaker c.run_on.result (λ stops m at. begun_stops m line old old c.run_on.new.player.past (begun_fault m c.args.conn c.args.nth c.args.what old at) refl stops) c.run_on.ensures.so_far
 
 pub returns-clause-run : goal.returns-clause-run
 returns-clause-run g c =
@@ -51,4 +51,4 @@ returns-clause-run g c =
     let tells =
     plan_tells heard (is_some (g.F.Fleet.told c.args.fleet.now)) c.args.conn (c.args.nth, c.args.what) (g.F.Fleet.told c.args.fleet.now) (g.F.Fleet.told c.plan.new.fleet) old.past c.args.wires.now c.plan.new.wires c.requires.wires
     c.in_ok-plan.ensures.plans in
-    run_then _ g.F.Fleet heard c.run_on.result c.args.fleet.now c.plan.new.fleet c.run_on.new.fleet old old c.run_on.new.self c.args.wires.now c.plan.new.wires c.run_on.new.wires tells c.plan.ensures.able c.run_on.ensures.run
+    run_then _ g.F.Fleet heard c.run_on.result c.args.fleet.now c.plan.new.fleet c.run_on.new.fleet old old c.run_on.new.player c.args.wires.now c.plan.new.wires c.run_on.new.wires tells c.plan.ensures.able c.run_on.ensures.run

@@ -5,7 +5,7 @@ use Rattle.dsql_playing.proofs.Fitting.{fits_unheard, untelling}
 use Rattle.dsql_playing.proofs.Keeping.{run_after, run_of_wires, run_unplanned}
 use Rattle.dsql_playing.proofs.Lines.{begun_done, begun_stops, stops_at_once}
 use Rattle.dsql_playing.proofs.Singles.{started}
-use Rattle.dsql_player.proofs.Stepped.{not_full, plans_none, run_unheard, runs_then}
+use Rattle.dsql_playing.proofs.Stepped.{not_full, plans_none, run_unheard, runs_then}
 use Rattle.dsql_player.proofs.line.carry_line.Goals as goal
 
 pub returns-in_err-check_room : goal.returns-in_err-check_room
@@ -29,20 +29,20 @@ returns-in_err-admit-in-Start g c =
     rw p.1
     (record {
       carries = tt;
-      stops = λ m at. stops_at_once m c.args.line old c.admit.new.self.past e.act.fails.same at;
+      stops = λ m at. stops_at_once m c.args.line old c.admit.new.player.past e.act.fails.same at;
       course = tt;
-      run = run_unplanned _ g.F.Fleet g.F.Wire.Wire.told _ c.args.fleet.now old c.admit.new.self c.args.wires.now c.args.wires.now refl e.act.fails.same e.act.legal;
+      run = run_unplanned _ g.F.Fleet g.F.Wire.Wire.told _ c.args.fleet.now old c.admit.new.player c.args.wires.now c.args.wires.now refl e.act.fails.same e.act.legal;
       full = λ h. absurd (cc (h, p.2, e.act.fails.memory));
     })
 
 pub returns-in_ok-admit-in-Start-clause-carries : goal.returns-in_ok-admit-in-Start-clause-carries
 returns-in_ok-admit-in-Start-clause-carries g c =
     rw c.in-Start.is
-    (λ m at. started m c.in-Start.client c.in-Start.op c.args.player.now c.admit.new.self c.in_ok-admit-in-Start.field-0 at (c.in_ok-admit-in-Start.ensures.admits m at))
+    (λ m at. started m c.in-Start.client c.in-Start.op c.args.player.now c.admit.new.player c.in_ok-admit-in-Start.field-0 at (c.in_ok-admit-in-Start.ensures.admits m at))
 
 pub returns-in_ok-admit-in-Start-clause-run : goal.returns-in_ok-admit-in-Start-clause-run
 returns-in_ok-admit-in-Start-clause-run g c =
-    rw c.in-Start.is (run_unheard g.F.Fleet g.F.Wire.Wire.told _ _ c.args.fleet.now c.args.player.now c.admit.new.self c.args.wires.now c.requires.wires c.in_ok-admit-in-Start.ensures.act)
+    rw c.in-Start.is (run_unheard g.F.Fleet g.F.Wire.Wire.told _ _ c.args.fleet.now c.args.player.now c.admit.new.player c.args.wires.now c.requires.wires c.in_ok-admit-in-Start.ensures.act)
 
 pub step_client-requires-clause-wires : goal.step_client-requires-clause-wires
 step_client-requires-clause-wires g c = untelling g.F.Wire.Wire.told _ c.args.player.now.past c.args.wires.now c.requires.wires
@@ -52,12 +52,12 @@ returns-in-Step-clause-carries g c = rw c.in-Step.is c.step_client.ensures.carri
 
 pub returns-in-Step-clause-stops : goal.returns-in-Step-clause-stops
 returns-in-Step-clause-stops g c =
-    on_err_weaker c.step_client.result (λ same m at. stops_at_once m c.args.line c.args.player.now c.step_client.new.self.past same at) c.step_client.ensures.fails.same
+    on_err_weaker c.step_client.result (λ same m at. stops_at_once m c.args.line c.args.player.now c.step_client.new.player.past same at) c.step_client.ensures.fails.same
 
 pub returns-in-Step-clause-run : goal.returns-in-Step-clause-run
 returns-in-Step-clause-run g c =
     rw c.in-Step.is
-    (run_of_wires g.F.Fleet g.F.Wire.Wire.told c.step_client.result c.args.fleet.now c.args.player.now c.step_client.new.self c.args.wires.now c.step_client.new.wires c.requires.wires c.step_client.ensures.run
+    (run_of_wires g.F.Fleet g.F.Wire.Wire.told c.step_client.result c.args.fleet.now c.args.player.now c.step_client.new.player c.args.wires.now c.step_client.new.wires c.requires.wires c.step_client.ensures.run
     c.step_client.ensures.fails.same)
 
 pub returns-in-Step-clause-full : goal.returns-in-Step-clause-full
@@ -68,7 +68,7 @@ returns-in-StepHouse-clause-carries g c = rw c.in-StepHouse.is c.step_house.ensu
 
 pub returns-in-StepHouse-clause-stops : goal.returns-in-StepHouse-clause-stops
 returns-in-StepHouse-clause-stops g c =
-    on_err_weaker c.step_house.result (λ same m at. stops_at_once m c.args.line c.args.player.now c.step_house.new.self.past same at) c.step_house.ensures.fails.same
+    on_err_weaker c.step_house.result (λ same m at. stops_at_once m c.args.line c.args.player.now c.step_house.new.player.past same at) c.step_house.ensures.fails.same
 
 pub returns-in-StepHouse-clause-run : goal.returns-in-StepHouse-clause-run
 returns-in-StepHouse-clause-run g c = rw c.in-StepHouse.is c.step_house.ensures.run
@@ -81,7 +81,7 @@ begin-requires-clause-runs g c =
     runs_then c.args.line (λ client op is. c.in_default.not-Start client op is) (λ client is. c.in_default.not-Step client is) c.in_default.not-StepHouse
 
 pub run_on-requires-clause-wires : goal.run_on-requires-clause-wires
-run_on-requires-clause-wires g c = λ κs h. fits_unheard g.F.Wire.Wire.told c.args.player.now.past c.begin.new.self.past c.args.wires.now c.begin.ensures.act.unheard _ c.requires.wires
+run_on-requires-clause-wires g c = λ κs h. fits_unheard g.F.Wire.Wire.told c.args.player.now.past c.begin.new.player.past c.args.wires.now c.begin.ensures.act.unheard _ c.requires.wires
 
 pub returns-in_err-begin-in_default : goal.returns-in_err-begin-in_default
 returns-in_err-begin-in_default g c =
@@ -91,9 +91,9 @@ returns-in_err-begin-in_default g c =
     rw p.1
     (record {
       carries = tt;
-      stops = λ m at. stops_at_once m c.args.line old c.begin.new.self.past e.act.fails.same at;
+      stops = λ m at. stops_at_once m c.args.line old c.begin.new.player.past e.act.fails.same at;
       course = tt;
-      run = run_unplanned _ g.F.Fleet g.F.Wire.Wire.told _ c.args.fleet.now old c.begin.new.self c.args.wires.now c.args.wires.now refl e.act.fails.same e.act.legal;
+      run = run_unplanned _ g.F.Fleet g.F.Wire.Wire.told _ c.args.fleet.now old c.begin.new.player c.args.wires.now c.args.wires.now refl e.act.fails.same e.act.legal;
       full = λ h. absurd (cc (h, p.2, e.act.fails.memory));
     })
 
@@ -101,20 +101,20 @@ pub returns-in_ok-begin-in_default-clause-carries : goal.returns-in_ok-begin-in_
 returns-in_ok-begin-in_default-clause-carries g c =
     let runs : runs_on c.args.line ≡ true = runs_then c.args.line (λ client op is. c.in_default.not-Start client op is) (λ client is. c.in_default.not-Step client is) c.in_default.not-StepHouse in
     on_ok_weaker c.run_on.result
-    (λ out m at. begun_done m c.args.line c.args.player.now c.begin.new.self c.run_on.new.self (c.in_ok-begin-in_default.ensures.begins m at) runs out)
+    (λ out m at. begun_done m c.args.line c.args.player.now c.begin.new.player c.run_on.new.player (c.in_ok-begin-in_default.ensures.begins m at) runs out)
     c.run_on.ensures.out
 
 pub returns-in_ok-begin-in_default-clause-stops : goal.returns-in_ok-begin-in_default-clause-stops
 returns-in_ok-begin-in_default-clause-stops g c =
     let runs : runs_on c.args.line ≡ true = runs_then c.args.line (λ client op is. c.in_default.not-Start client op is) (λ client is. c.in_default.not-Step client is) c.in_default.not-StepHouse in
     on_err_weaker c.run_on.result
-    (λ stops m at. begun_stops m c.args.line c.args.player.now c.begin.new.self c.run_on.new.self.past (c.in_ok-begin-in_default.ensures.begins m at) runs stops)
+    (λ stops m at. begun_stops m c.args.line c.args.player.now c.begin.new.player c.run_on.new.player.past (c.in_ok-begin-in_default.ensures.begins m at) runs stops)
     c.run_on.ensures.so_far
 
 pub returns-in_ok-begin-in_default-clause-run : goal.returns-in_ok-begin-in_default-clause-run
 returns-in_ok-begin-in_default-clause-run g c =
     rw (plans_none c.args.line c.args.player.now.past (λ conn nth what is. c.in_default.not-Fault conn nth what is))
-    (run_after g.F.Fleet g.F.Wire.Wire.told c.run_on.result c.args.fleet.now c.run_on.new.fleet c.args.player.now c.begin.new.self c.run_on.new.self c.args.wires.now c.run_on.new.wires c.begin.ensures.act.unheard
+    (run_after g.F.Fleet g.F.Wire.Wire.told c.run_on.result c.args.fleet.now c.run_on.new.fleet c.args.player.now c.begin.new.player c.run_on.new.player c.args.wires.now c.run_on.new.wires c.begin.ensures.act.unheard
     c.run_on.ensures.run)
 
 pub returns-in-Fault : goal.returns-in-Fault

@@ -1,0 +1,83 @@
+ghost use Rattle.std.specs.Prelude.{◌≡◌, ◌<◌, ◌≤◌, ◌∷◌, [], true, false, length, reverse, IfOk, OnOk, OnErr};
+ghost use Rattle.dsql_history.specs.declared.event.Event.TheVariants.{Run};
+ghost use Rattle.dsql_history.specs.Legal.{Legal};
+ghost use Rattle.dsql_follows.specs.Moments.{Moment, at_end, just_begun};
+ghost use Rattle.dsql_playing.specs.Playing.{IsAt, IsReady};
+ghost use Rattle.dsql_steps.specs.Groups.{most_events};
+
+use crate::halt::Halt;
+use dsql_driver::Caps;
+use dsql_engine::Engine;
+use dsql_history::Event;
+use dsql_seats::Seats;
+use std::alloc::Global;
+use std::marker::Model;
+
+/// A run of a script: the layer's core, what each client has at hand, and whether the script is at its end, where no
+/// call is held any more. Contracts see it as `Playing`.
+#[derive(Drop)]
+pub struct Player {
+    pub(crate) engine: Engine,
+    pub(crate) seats: Seats,
+    pub(crate) released: bool,
+}
+
+impl Model for Player {
+    ghost use Rattle.dsql_playing.specs.Playing.{Playing};
+
+    ghost Value = { Playing };
+
+    ghost view = { λ p. record { past = p.engine.past; flights = p.engine.flights; chore = p.engine.chore; seats = p.seats; released = p.released } };
+}
+
+impl Player {
+    /// A player whose run has begun, over a driver that can do this.
+    pub fn new(alloc: Global, version: u8, caps: Caps) -> Result<Player, Halt>
+        requires { version ≡ 1 }
+        ensures begun { IfOk result (λ p. p.past ≡ Run version caps ∷ []) }
+        ensures at { IfOk result (λ p. IsAt (just_begun (Run version caps)) p) }
+        ensures ready { IfOk result (λ p. IsReady p) }
+        ensures unreleased { IfOk result (λ p. p.released ≡ false) }
+        ensures memory { OnErr result (result ≡ Err Halt.Memory) }
+    {
+        Ok(Player {
+            engine: Engine::new(alloc, version, caps)?,
+            seats: Seats::new(alloc),
+            released: false,
+        })
+    }
+
+    /// All that happened, oldest first.
+    pub fn history(&self) -> &[Event]
+        ensures events { reverse result.now ≡ self.now.past }
+        ensures legal { Legal self.now.past }
+    {
+        self.engine.history()
+    }
+
+    /// Whether a step may still append events.
+    pub fn check_room(&self) -> Result<(), Halt>
+        ensures ok { OnOk result (length self.now.past < most_events) }
+        ensures full { OnErr result (most_events ≤ length self.now.past) }
+        ensures legal { Legal self.now.past }
+    {
+        // It vouches that the history is legal.
+        let _history = self.engine.history();
+        if self.engine.is_full() {
+            return Err(Halt::Full);
+        }
+        Ok(())
+    }
+
+    /// The script is at its end, and no call is held any more.
+    pub fn release(&mut self)
+        requires ready { IsReady self.old }
+        ensures past { self.new.past ≡ self.old.past }
+        ensures released { self.new.released ≡ true }
+        ensures ready { IsReady self.new }
+        ensures at { (m : Moment) → IsAt m self.old → IsAt (at_end m) self.new }
+    {
+        self.seats.release_all();
+        self.released = true;
+    }
+}
