@@ -21,8 +21,9 @@ use Rattle.dsql_text_laws.proofs.ReadCaps.{among_its_names}
 use Rattle.dsql_text_laws.proofs.ReadNumbers.{as_i64_signed}
 use Rattle.dsql_text_laws.proofs.ReadTexts.{IsRead, deeper, arg_is_read, named_is_read as named_arg_is_read}
 use Rattle.dsql_event_reader.specs.Asked.{op_of, op_in}
+use Rattle.dsql_event_lines.specs.WellFormed.{has_dests, is_client, is_named_op, is_well_formed}
 use Rattle.dsql_event_reader.specs.Events.{setting_of, event_of}
-use Rattle.dsql_event_reader.specs.Fits.{ArgsFit, OpFits, has_dests, is_client, is_named_op, is_well_formed, NumbersFit, shown}
+use Rattle.dsql_event_reader.specs.Fits.{ArgsFit, OpFits, NumbersFit, shown}
 use Rattle.dsql_event_reader.proofs.DriverBack.{call_is_read_back, call_is_read, answer_is_read_back, answer_is_read}
 use Rattle.dsql_event_reader.proofs.MovesBack.{in_word, owner_is_read_back, move_is_read_back, move_is_read}
 use Rattle.dsql_event_reader.proofs.RepliesBack.{reply_is_read_back, reply_is_read}

@@ -1,4 +1,3 @@
-pub mod Behind
 pub mod Spelled
 pub mod ValuesBack
 pub mod MovesBack

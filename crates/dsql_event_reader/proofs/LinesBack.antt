@@ -1,5 +1,6 @@
 -- A line that is an event's is read as this event, and what is known of a line that is refused.
-use Rattle.std.proofs.Common.{◌≡◌, ◌≢◌, ◌⊎◌, ℕ, ◌≤◌, List, [], ◌∷◌, ◌++◌, true, ◌&&◌, false, ◌<◌, length, Option, Some, None, Ok, Err, IfOk, IfErr, refl, ap, sym, subst, ◌∙◌, inl, inr, arith}
+use Rattle.std.proofs.Common.{◌≡◌, ◌≢◌, ◌⊎◌, ℕ, ◌≤◌, List, [], ◌∷◌, ◌++◌, true, ◌&&◌, false, ◌<◌, length, Bool, Option, Some, None, Ok, Err, IfOk, IfErr, refl, ap, sym, subst, ◌∙◌, inl, inr, arith}
+use Rattle.std.specs.Prelude.{◌↔◌, IsTrue}
 use Rattle.std.specs.Str.{IsUtf8, bytes_eq, is_utf8}
 use Rattle.std.proofs.lemmas.Bool.{cases_Bool, cases_lt, and_parts, lt-ltb, le-ltb}
 use Rattle.std.proofs.lemmas.List.{append_cancel_right}
@@ -17,8 +18,10 @@ use Rattle.dsql_forms.specs.declared.fault.LineFault.TheVariants.{TooLong, NotUt
 use Rattle.dsql_forms.specs.Outcomes.{IsReading}
 use Rattle.dsql_report.specs.Lines.{move_data, json_of, line_of}
 use Rattle.dsql_text_laws.proofs.ReadTexts.{deeper, text_is_read}
-use Rattle.dsql_event_reader.specs.Events.{Reading, event_of, if_spelled, of_event, of_data, text_event, most_bytes, reading_of}
-use Rattle.dsql_event_reader.specs.Fits.{is_well_formed, Fits, shown_move, shown}
+use Rattle.dsql_event_lines.specs.Bounds.{most_bytes}
+use Rattle.dsql_event_lines.specs.WellFormed.{is_well_formed}
+use Rattle.dsql_event_reader.specs.Events.{Reading, event_of, if_spelled, of_event, of_data, text_event, reading_of}
+use Rattle.dsql_event_reader.specs.Fits.{Fits, shown_move, shown}
 use Rattle.dsql_event_reader.specs.Refusals.{IsLine, Tells, Refuses}
 use Rattle.dsql_event_reader.proofs.EventsBack.{event_is_read_back, event_is_read}
 
@@ -56,6 +59,12 @@ line_tells_its_event e f fits other same =
     cc
 
 -- a line that is short enough, by whether it is text
+
+pub not_too_long : (line : List ℕ) (is : Bool) → (IsTrue is ↔ (most_bytes < length line)) → is ≡ false → length line ≤ most_bytes
+not_too_long line is tells short = elim (cases_lt most_bytes (length line)) [
+  | inl more ↦ let long = tells.1 more in absurd cc
+  | inr few ↦ few
+]
 
 pub text_is_its_event : (line : List ℕ) → length line ≤ most_bytes → IsUtf8 line → reading_of line ≡ text_event line
 text_is_its_event line few utf8 = rw (le-ltb most_bytes (length line) few, is_utf8-from_IsUtf8 line utf8) refl

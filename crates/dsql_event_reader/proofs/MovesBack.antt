@@ -12,7 +12,7 @@ use Rattle.dsql_script_calls.specs.ScriptWords.{moment_of}
 use Rattle.dsql_report.specs.Lines.{owner_word, cause_word, move_data}
 use Rattle.dsql_text_laws.proofs.ReadMoments.{number_is_read}
 use Rattle.dsql_text_laws.proofs.ReadTexts.{IsRead}
-use Rattle.dsql_event_reader.specs.Moves.{numbered, owner_of, cause_of}
+use Rattle.dsql_event_lines.specs.Moves.{numbered, owner_of, cause_of}
 use Rattle.dsql_event_reader.specs.Events.{event_of}
 use Rattle.dsql_event_reader.specs.Fits.{OwnerFits, MoveFits, shown_move}
 use Rattle.dsql_event_reader.proofs.Spelled.{list_is_read, also, no_more, number_spelled, string_spelled}

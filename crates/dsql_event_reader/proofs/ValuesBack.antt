@@ -14,7 +14,7 @@ use Rattle.dsql_scan.specs.declared.cell.Cell.TheVariants as cell
 use Rattle.dsql_spelling.specs.LineValues.{value_data, named_data, param_data, cell_data}
 use Rattle.dsql_text_laws.proofs.ReadBack.{argument_is_read_back}
 use Rattle.dsql_text_laws.proofs.ReadTexts.{IsRead, deeper, arg_is_read}
-use Rattle.dsql_event_reader.specs.Parts.{each_of}
+use Rattle.dsql_event_lines.specs.Parts.{each_of}
 use Rattle.dsql_event_reader.specs.Values.{value_as, value_of, cell_as, cell_of, parameter, param_by, param_of}
 use Rattle.dsql_event_reader.specs.Fits.{ValueFits, ParamFits, CellFits}
 

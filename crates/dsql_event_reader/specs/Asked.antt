@@ -10,7 +10,7 @@ use Rattle.dsql_history.specs.declared.event.Op.TheVariants.{Exec, Query, One, N
 use Rattle.dsql_spelling.specs.Dests.{dests_of}
 use Rattle.dsql_forms.specs.ScriptArgs.{call_of_data}
 use Rattle.dsql_script_calls.specs.ScriptWords.{spaced_words}
-use Rattle.dsql_event_reader.specs.Parts.{text_at}
+use Rattle.dsql_event_lines.specs.Parts.{text_at}
 
 -- the text and the arguments of a call, in an entered line
 abbrev pub statement_in : Data → Option (List ℕ × List Named)

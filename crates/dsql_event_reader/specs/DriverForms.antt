@@ -12,7 +12,7 @@ use Rattle.dsql_driver.specs.declared.call.DriverCall.{DriverCall}
 use Rattle.dsql_driver.specs.declared.call.DriverCall.TheVariants.{Connect, Reset, Valid, Ping, Prepare, CloseStmt, Exec, Query, Next, CloseRows, Begin, Commit, Rollback, Shut}
 use Rattle.dsql_driver.specs.declared.answer.DriverAnswer.{DriverAnswer}
 use Rattle.dsql_driver.specs.declared.answer.DriverAnswer.TheVariants as answer
-use Rattle.dsql_event_reader.specs.Parts.{word_sized, number_at, integer_at, short_at, truth_at, text_at, list_at}
+use Rattle.dsql_event_lines.specs.Parts.{word_sized, number_at, integer_at, short_at, truth_at, text_at, list_at}
 use Rattle.dsql_event_reader.specs.Values.{value_of, param_of}
 
 abbrev pub level_of : List ℕ → Option Level

@@ -16,10 +16,10 @@ use Rattle.dsql_forms.specs.declared.fault.LineFault.{LineFault}
 use Rattle.dsql_forms.specs.declared.fault.LineFault.TheVariants.{TooLong, NotUtf8, BadJson, BadShape}
 use Rattle.dsql_report.specs.Lines.{line_of}
 use Rattle.dsql_reader.specs.ScriptHead.{caps_among}
-use Rattle.dsql_event_reader.specs.declared.reader.TheConstants.{MAX_BYTES}
-use Rattle.dsql_event_reader.specs.Fits.{is_well_formed}
-use Rattle.dsql_event_reader.specs.Parts.{natural_at, number_at, byte_at, integer_at, text_at, list_at}
-use Rattle.dsql_event_reader.specs.Moves.{owner_at, move_by}
+use Rattle.dsql_event_lines.specs.Bounds.{most_bytes}
+use Rattle.dsql_event_lines.specs.WellFormed.{is_well_formed}
+use Rattle.dsql_event_lines.specs.Parts.{natural_at, number_at, byte_at, integer_at, text_at, list_at}
+use Rattle.dsql_event_lines.specs.Moves.{owner_at, move_by}
 use Rattle.dsql_event_reader.specs.DriverForms.{call_of, answer_of}
 use Rattle.dsql_event_reader.specs.Asked.{op_in}
 use Rattle.dsql_event_reader.specs.ReplyForms.{reply_of}
@@ -97,10 +97,6 @@ of_data text (Some d) = of_event text (event_of d)
 
 abbrev pub text_event : List ℕ → Reading
 text_event text = of_data text (read text)
-
--- how many bytes a line may have before its line feed
-abbrev pub most_bytes : ℕ
-most_bytes = MAX_BYTES
 
 abbrev pub reading_of : List ℕ → Reading
 reading_of line = if nat_lt most_bytes (length line) then Err TooLong else (if is_utf8 line then text_event line else Err NotUtf8)

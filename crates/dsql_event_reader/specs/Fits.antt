@@ -1,5 +1,5 @@
 -- The events that a line tells: they are well formed, and each number is of its type.
-use Rattle.std.specs.Prelude.{◌≡◌, ℕ, ◌<◌, ◌^◌, ◌==◌, ◌&&◌, nat_le, Bool, true, not, List, length, FitsSigned, All}
+use Rattle.std.specs.Prelude.{◌≡◌, ℕ, ◌<◌, ◌^◌, true, List, FitsSigned, All}
 use Rattle.std.specs.Int.{w32, w64}
 use Rattle.hex.specs.Hex.{IsBytes}
 use Rattle.dsql_value.specs.declared.arg.Named.{Named}
@@ -8,8 +8,6 @@ use Rattle.dsql_value.specs.declared.value.Value.TheVariants as value
 use Rattle.dsql_value.specs.declared.value.Param.{Param}
 use Rattle.dsql_scan.specs.declared.cell.Cell.{Cell}
 use Rattle.dsql_scan.specs.declared.cell.Cell.TheVariants as cell
-use Rattle.dsql_scan.specs.declared.dest.Dest.{Dest}
-use Rattle.dsql_driver.specs.Fits.{is_memory}
 use Rattle.dsql_driver.specs.declared.call.Input.{Input}
 use Rattle.dsql_driver.specs.declared.call.Input.TheVariants as input
 use Rattle.dsql_driver.specs.declared.call.DriverCall.{DriverCall}
@@ -29,8 +27,8 @@ use Rattle.dsql_history.specs.declared.reply.Reply.{Reply}
 use Rattle.dsql_history.specs.declared.reply.Reply.TheVariants as reply
 use Rattle.dsql_history.specs.declared.event.Event.{Event}
 use Rattle.dsql_history.specs.declared.event.Event.TheVariants.{Run, Entered, Heard, Pool, Waits, Ticked, SetLimit, Replied, Ended}
-use Rattle.dsql_script_calls.specs.ScriptWords.{is_name, most_clients}
 use Rattle.dsql_text_laws.specs.ReadBack.{IsInRange}
+use Rattle.dsql_event_lines.specs.WellFormed.{is_well_formed}
 
 -- a number of 32 bits, and an unsigned one of 64
 abbrev pub IsNumber : ℕ → Type 0
@@ -97,33 +95,6 @@ EntryFits e = IsNumber e.conn × IsNumber e.tenure × OwnerFits e.owner × IsNum
 
 abbrev pub ArgsFit : List Named → Type 0
 ArgsFit args = All (λ named. IsInRange named.arg) args
-
--- there is a destination
-abbrev pub has_dests : List Dest → Bool
-has_dests dests = not (length dests == 0)
-
--- a call's label, if it has one, is a name, and it has a destination, if it is to have some
-abbrev pub is_named_op : Op → Bool
-is_named_op (op.Exec text args) = true
-is_named_op (op.Query label text args) = is_name label
-is_named_op (op.One dests text args) = has_dests dests
-is_named_op (op.Next rows) = is_name rows
-is_named_op (op.Scan rows dests) = is_name rows && has_dests dests
-is_named_op (op.RowsClose rows) = is_name rows
-is_named_op (op.Err rows) = is_name rows
-is_named_op op.Ping = true
-is_named_op op.DbClose = true
-is_named_op op.Stats = true
-
--- the number of a client of a script
-abbrev pub is_client : ℕ → Bool
-is_client client = nat_le 1 client && nat_le client most_clients
-
--- A report may tell the event: the same of the call that it enters, whose client is one of a script; and an answer that was heard isn't Memory.
-abbrev pub is_well_formed : Event → Bool
-is_well_formed (Entered client n op) = is_client client && is_named_op op
-is_well_formed (Heard entry) = not (is_memory entry.answer)
-is_well_formed _ = true
 
 abbrev pub OpFits : Op → Type 0
 OpFits (op.Exec text args) = ArgsFit args

@@ -1,5 +1,3 @@
-pub mod Parts
-pub mod Moves
 pub mod Values
 pub mod DriverForms
 pub mod Asked

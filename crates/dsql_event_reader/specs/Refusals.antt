@@ -6,8 +6,10 @@ use Rattle.dsql_history.specs.declared.event.Event.{Event}
 use Rattle.dsql_forms.specs.declared.fault.LineFault.{LineFault}
 use Rattle.dsql_forms.specs.declared.fault.LineFault.TheVariants.{TooLong, NotUtf8, BadJson, BadShape}
 use Rattle.dsql_report.specs.Lines.{line_of}
-use Rattle.dsql_event_reader.specs.Events.{most_bytes, reading_of}
-use Rattle.dsql_event_reader.specs.Fits.{is_well_formed, Fits, shown}
+use Rattle.dsql_event_lines.specs.Bounds.{most_bytes}
+use Rattle.dsql_event_lines.specs.WellFormed.{is_well_formed}
+use Rattle.dsql_event_reader.specs.Events.{reading_of}
+use Rattle.dsql_event_reader.specs.Fits.{Fits, shown}
 
 -- the line is the event's, without the line feed
 abbrev pub IsLine : List ℕ → Event → Type 0

@@ -13,7 +13,7 @@ use Rattle.dsql_history.specs.declared.reply.Reply.{Reply}
 use Rattle.dsql_history.specs.declared.reply.Reply.TheVariants as reply
 use Rattle.dsql_history.specs.declared.reply.DbEnd.{DbEnd}
 use Rattle.dsql_history.specs.declared.reply.DbEnd.TheVariants as db_end
-use Rattle.dsql_event_reader.specs.Parts.{natural_at, number_at, integer_at, text_at, list_at}
+use Rattle.dsql_event_lines.specs.Parts.{natural_at, number_at, integer_at, text_at, list_at}
 use Rattle.dsql_event_reader.specs.Values.{cell_of}
 
 abbrev pub over_of : List ℕ → Option RowsOver

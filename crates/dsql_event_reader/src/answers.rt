@@ -4,9 +4,9 @@ ghost use Rattle.serde_json.specs.View.{view};
 ghost use Rattle.dsql_forms.specs.Outcomes.{IsShaped};
 ghost use Rattle.dsql_event_reader.specs.DriverForms as form;
 
-use crate::parts::{copy_at, integer_at, number_at, short_at, text_at};
 use crate::values::{texts_at, values_at};
 use dsql_driver::DriverAnswer;
+use dsql_event_lines::{copy_at, integer_at, number_at, short_at, text_at};
 use dsql_forms::LineFault;
 use serde_json::Value;
 use std::alloc::Global;

@@ -4,7 +4,7 @@ ghost use Rattle.serde_json.specs.View.{view};
 ghost use Rattle.dsql_forms.specs.Outcomes.{IsShaped};
 ghost use Rattle.dsql_event_reader.specs.Asked as form;
 
-use crate::parts::text_at;
+use dsql_event_lines::text_at;
 use dsql_forms::{LineFault, read_dests};
 use dsql_history::Op;
 use dsql_scan::Dests;

@@ -5,9 +5,9 @@ ghost use Rattle.dsql_driver.specs.declared.call.DriverCall.TheVariants as call;
 ghost use Rattle.dsql_forms.specs.Outcomes.{IsShaped};
 ghost use Rattle.dsql_event_reader.specs.DriverForms as form;
 
-use crate::parts::{copy_at, number_at, text_at, truth_at};
 use crate::values::params_at;
 use dsql_driver::{DriverCall, Input, Level};
+use dsql_event_lines::{copy_at, number_at, text_at, truth_at};
 use dsql_forms::LineFault;
 use dsql_value::Txt;
 use serde_json::Value;

@@ -6,12 +6,9 @@ mod asked;
 mod driver_calls;
 mod events;
 mod laws;
-mod moves;
-mod parts;
 mod reader;
 mod replies;
 mod values;
-mod well_formed;
 
 pub use dsql_forms::LineFault;
 pub use laws::{lines_tell_their_events, spelled_events_are_read_back, worked_event_lines};

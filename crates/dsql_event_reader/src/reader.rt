@@ -1,20 +1,14 @@
-ghost use Rattle.std.specs.Prelude.{◌≡◌, ◌≢◌, ◌∷◌, ◌++◌, [], IfOk, IfErr};
-ghost use Rattle.std.specs.Str.{bytes_eq};
+ghost use Rattle.std.specs.Prelude.{◌≢◌, IfOk, IfErr};
 ghost use Rattle.dsql_forms.specs.Outcomes.{IsReading};
-ghost use Rattle.dsql_report.specs.Lines.{line_of};
 ghost use Rattle.dsql_event_reader.specs.Events.{if_spelled, text_event, reading_of};
 ghost use Rattle.dsql_event_reader.specs.Refusals.{Tells, Refuses};
 
 use crate::events;
-use crate::well_formed::is_well_formed;
+use dsql_event_lines::{is_line, is_too_long, is_well_formed};
 use dsql_forms::LineFault;
 use dsql_history::Event;
-use dsql_report::append_line;
 use dsql_script_calls::read_array;
 use std::alloc::Global;
-
-/// How many bytes a line may have before its line feed.
-const MAX_BYTES: usize = 65_536;
 
 /// The event that a line of a report tells. The line comes without its line feed, and is read only as it is
 /// spelled: one that says the same in another way is refused.
@@ -35,7 +29,7 @@ pub fn read_event(alloc: Global, line: &[u8]) -> Result<Event, LineFault>
 fn read_bytes(alloc: Global, line: &[u8]) -> Result<Event, LineFault>
     ensures { IsReading result (reading_of line.now) }
 {
-    if line.len() > MAX_BYTES {
+    if is_too_long(line) {
         return Err(LineFault::TooLong);
     }
     let Ok(text) = str::from_utf8(line) else {
@@ -60,18 +54,4 @@ fn if_spelled(alloc: Global, text: &str, event: Event) -> Result<Event, LineFaul
         return Err(LineFault::BadShape);
     }
     Ok(event)
-}
-
-/// Whether a text and a line feed are an event's line.
-fn is_line(alloc: Global, text: &str, event: &Event) -> Result<bool, LineFault>
-    ensures is { IfOk result (λ is. is ≡ bytes_eq (line_of event.now) (text.now ++ 10 ∷ [])) }
-    ensures memory { IfErr result (λ f. f ≡ LineFault.Memory) }
-{
-    let mut line = Vec::from_slice(alloc, text.as_bytes())?;
-    line.push(b'\n')?;
-    let mut told = Vec::new(alloc);
-    if append_line(alloc, event, &mut told).is_err() {
-        return Err(LineFault::Memory);
-    }
-    Ok(told == line)
 }

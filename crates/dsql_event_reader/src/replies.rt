@@ -6,8 +6,8 @@ ghost use Rattle.dsql_history.specs.declared.reply.Reply.TheVariants as reply;
 ghost use Rattle.dsql_forms.specs.Outcomes.{IsShaped};
 ghost use Rattle.dsql_event_reader.specs.ReplyForms as form;
 
-use crate::parts::{copy_at, integer_at, natural_at, number_at, text_at};
 use crate::values::{cells_at, texts_at};
+use dsql_event_lines::{copy_at, integer_at, natural_at, number_at, text_at};
 use dsql_forms::LineFault;
 use dsql_history::{DbEnd, FaultWord, Reply, Stats};
 use dsql_rows::{Cause, RowsOver};

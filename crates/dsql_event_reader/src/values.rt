@@ -3,10 +3,10 @@ ghost use Rattle.std.specs.Prelude.{◌≡◌, Some};
 ghost use Rattle.serde_json.specs.View.{view, items_view};
 ghost use Rattle.serde_json.specs.Find.{as_str, get};
 ghost use Rattle.dsql_forms.specs.Outcomes.{IsShaped};
-ghost use Rattle.dsql_event_reader.specs.Parts.{each_of, list_at};
+ghost use Rattle.dsql_event_lines.specs.Parts.{each_of, list_at};
 ghost use Rattle.dsql_event_reader.specs.Values as form;
 
-use crate::parts::items_at;
+use dsql_event_lines::items_at;
 use dsql_forms::LineFault;
 use dsql_scan::{Cell, Cells};
 use dsql_script_calls::read_arg;

@@ -1,7 +1,7 @@
 use Rattle.std.proofs.Common.{◌≡◌, ◌++◌, drop, option_map}
 use Rattle.serde_json.specs.Find.{as_str}
 use Rattle.serde_json.specs.View.{items_view}
-use Rattle.dsql_event_reader.specs.Parts.{each_of}
+use Rattle.dsql_event_lines.specs.Parts.{each_of}
 use Rattle.dsql_event_reader.proofs.values.each_text.Given as goal
 
 -- the items are those that were read, and then those that are left

@@ -1,6 +1,6 @@
 use Rattle.std.proofs.Common.{◌≡◌, ◌++◌, drop, option_map}
 use Rattle.serde_json.specs.View.{items_view}
-use Rattle.dsql_event_reader.specs.Parts.{each_of}
+use Rattle.dsql_event_lines.specs.Parts.{each_of}
 use Rattle.dsql_event_reader.specs.Values.{value_of}
 use Rattle.dsql_event_reader.proofs.values.each_value.Given as goal
 

@@ -2,7 +2,7 @@
 ghost use Rattle.std.specs.Prelude.{◌≡◌, option_map};
 ghost use Rattle.serde_json.specs.View.{view, items_view};
 ghost use Rattle.dsql_forms.specs.Outcomes.{IsShaped};
-ghost use Rattle.dsql_event_reader.specs.Parts as part;
+ghost use Rattle.dsql_event_lines.specs.Parts as part;
 
 use dsql_forms::LineFault;
 use dsql_value::Txt;

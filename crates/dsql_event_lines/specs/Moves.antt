@@ -11,7 +11,7 @@ use Rattle.dsql_pool.specs.declared.moves.CloseCause.TheVariants as cause
 use Rattle.dsql_pool.specs.declared.moves.Move.{Move}
 use Rattle.dsql_pool.specs.declared.moves.Move.TheVariants.{OpenStart, Lend, Back, CloseStart, Gone, Fell}
 use Rattle.dsql_script_calls.specs.ScriptWords.{begins_with, moment_of}
-use Rattle.dsql_event_reader.specs.Parts.{word_sized, number_at, text_at}
+use Rattle.dsql_event_lines.specs.Parts.{word_sized, number_at, text_at}
 
 -- the number that digits are, where it has 32 bits
 abbrev pub numbered : List ℕ → Option ℕ

@@ -1,6 +1,6 @@
 use Rattle.std.proofs.Common.{sym, ◌∙◌}
-use Rattle.dsql_event_reader.proofs.Behind.{number_behind-found, number_behind-none}
-use Rattle.dsql_event_reader.proofs.moves.number_behind.Goals as goal
+use Rattle.dsql_event_lines.proofs.Behind.{number_behind-found, number_behind-none}
+use Rattle.dsql_event_lines.proofs.moves.number_behind.Goals as goal
 
 pub returns-in-Some : goal.returns-in-Some
 returns-in-Some c =

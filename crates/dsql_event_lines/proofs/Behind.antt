@@ -3,7 +3,7 @@ use Rattle.std.proofs.Common.{◌≡◌, ◌≢◌, ℕ, List, ◌++◌, true, e
 use Rattle.std.proofs.lemmas.Bool.{cases_Bool, eqb-true, eq-eqb}
 use Rattle.std.proofs.lemmas.Slice.Eq.{starts_is}
 use Rattle.dsql_script_calls.specs.ScriptWords.{begins_with}
-use Rattle.dsql_event_reader.specs.Moves.{numbered, number_behind}
+use Rattle.dsql_event_lines.specs.Moves.{numbered, number_behind}
 
 tells_same : (a b : ℕ) → (eqb a b ≡ true → a ≡ b) × (a ≡ b → eqb a b ≡ true)
 tells_same a b = (eqb-true a b, eq-eqb a b)

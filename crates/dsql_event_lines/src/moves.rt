@@ -1,7 +1,7 @@
 //! The moves of connections, and who holds one.
 ghost use Rattle.std.specs.Prelude.{◌≡◌, codes};
 ghost use Rattle.serde_json.specs.View.{view};
-ghost use Rattle.dsql_event_reader.specs.Moves as move_form;
+ghost use Rattle.dsql_event_lines.specs.Moves as move_form;
 
 use crate::parts::{number_at, text_at};
 use dsql_history::{CloseCause, Move};

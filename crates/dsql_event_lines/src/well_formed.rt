@@ -1,6 +1,6 @@
 //! Events that are well formed, so that a line of a report may tell them.
 ghost use Rattle.std.specs.Prelude.{◌≡◌};
-ghost use Rattle.dsql_event_reader.specs.Fits as form;
+ghost use Rattle.dsql_event_lines.specs.WellFormed as form;
 
 use dsql_driver::DriverAnswer;
 use dsql_history::{Event, Op};
