@@ -1,1 +1,4 @@
+pub mod Going
+pub mod Written
+pub mod Heading
 pub mod Summaries

@@ -10,7 +10,7 @@ use Rattle.dsql_script_source.specs.declared.stop.Stop.TheVariants.{Read, Write,
 use Rattle.dsql_outcome.specs.Headline.{Seen, IsPlayed, NotBegun, RanSo}
 use Rattle.dsql_outcome.specs.Runs.{Finishes, IsLinesEnd, is_write_fault}
 use Rattle.dsql_outcome.specs.Summing.{NotSummarized, Summarized, WritesPiece, summary, unreported}
-use Rattle.dsql_play.specs.declared.playing.Kept.{Kept}
+use Rattle.dsql_run.specs.declared.playing.Kept.{Kept}
 
 -- the whole text, where the lines came to an end
 pub whole_piece : (r : Result (Unit {0}) Stop) (text : List ℕ) (w now : Option (List ℕ)) → IsLinesEnd r → now ≡ with_text w text → WritesPiece r text w now

@@ -9,10 +9,10 @@ ghost use Rattle.dsql_outcome.specs.Summing.{GeneratesAndTells, IfGenerates, Sum
 ghost use Rattle.dsql_words.specs.Words.{command_of};
 
 use crate::generating::generate_lines;
+use crate::playing::{Played, play_keeping};
 use crate::summing::sum_up;
 use dsql_driver::{Clock, Fleet, Gate, Sink, Source};
 use dsql_outcome::{tell, tell_usage};
-use dsql_play::{Played, play_keeping};
 use dsql_value::Txt;
 use dsql_words::{Command, command_of};
 use std::alloc::Global;

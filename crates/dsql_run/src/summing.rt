@@ -6,9 +6,9 @@ ghost use Rattle.dsql_outcome.specs.Runs.{Finishes, IsLinesEnd, is_write_fault, 
 ghost use Rattle.dsql_outcome.specs.Summing.{SumsUpAndTells, WritesPiece};
 ghost use Rattle.dsql_summary.specs.Summary.{line_of, summary_of};
 
+use crate::playing::{Kept, Played, play_keeping};
 use dsql_driver::{Failed, Fleet, Sink, Source};
 use dsql_outcome::tell;
-use dsql_play::{Kept, Played, play_keeping};
 use dsql_script_source::Stop;
 use dsql_stream::write_whole;
 use dsql_summary::{summary_line, summary_of};

@@ -1,0 +1,57 @@
+//! A line is carried out, and its events are written.
+ghost use Rattle.std.specs.Prelude.{◌≡◌, ◌≤◌, ◌++◌, ◌∷◌, [], List, true, false, length, Err, IfErr, is_some};
+ghost use Rattle.dsql_driver.specs.declared.caps.Caps.{Caps};
+ghost use Rattle.dsql_history.specs.declared.event.Event.TheVariants.{Run};
+ghost use Rattle.dsql_follows.specs.declared.line.Line.{Line as Said};
+ghost use Rattle.dsql_follows.specs.Follows.{after};
+ghost use Rattle.dsql_follows.specs.Moments.{Moment};
+ghost use Rattle.dsql_follows.specs.Sentences.{Part};
+ghost use Rattle.dsql_outcome.specs.Followed.{FollowsSoFar, StopsShort};
+ghost use Rattle.dsql_outcome.specs.Playing.{RunsOn, WritesLine};
+ghost use Rattle.dsql_outcome.specs.Runs.{Between, IsPlayStop, is_write_fault, ran_out};
+ghost use Rattle.dsql_playing.specs.Carried.{Carries, StopsInLine};
+ghost use Rattle.dsql_playing.specs.Planned.{plans_of};
+ghost use Rattle.dsql_playing.specs.Playing.{IsAt};
+ghost use Rattle.dsql_steps.specs.Groups.{most_events};
+ghost use Rattle.dsql_stream.specs.Faults.{CountsFaults};
+ghost use Rattle.dsql_wires.specs.Told.{FleetTells, TellsAtMost};
+
+use crate::showing::show_history;
+use dsql_driver::{Fleet, Sink};
+use dsql_follows::Line;
+use dsql_outcome::stop_of_halt;
+use dsql_player::{Player, carry_line};
+use dsql_script_source::Stop;
+use dsql_show::Shown;
+use dsql_wires::Wires;
+use std::alloc::Global;
+
+/// Carries a line out, and writes its events.
+pub(crate) fn play_line<K: Sink, F: Fleet>(
+    alloc: Global,
+    player: &mut Player,
+    wires: &mut Wires<F::Wire>,
+    shown: &mut Shown,
+    output: &mut K,
+    fleet: &mut F,
+    line: Line,
+) -> Result<(), Stop>
+    requires between { Between F.Wire.told (is_some (F.told fleet.old)) player.old wires.old }
+    requires shown { shown.old ≡ length player.old.past }
+    ensures between { ran_out result ≡ true → Between F.Wire.told (is_some (F.told fleet.new)) player.new wires.new }
+    ensures carries { ran_out result ≡ true → (m : Moment) → IsAt m player.old → Carries m line player.old player.new }
+    ensures stops { ran_out result ≡ false → (m : Moment) → IsAt m player.old → StopsInLine m line player.old.past player.new.past }
+    ensures short { ran_out result ≡ false → (caps : Caps) (lines : List Said) (parts : List Part) → FollowsSoFar (Run 1 caps) lines parts player.old.past → IsAt (after (Run 1 caps) parts) player.old → StopsShort (Run 1 caps) (lines ++ line ∷ []) player.new.past }
+    ensures told { ran_out result ≡ true → FleetTells F.Wire.told (plans_of line player.old.past) (F.told fleet.old) (F.told fleet.new) player.old.past player.new.past wires.old wires.new }
+    ensures asked { TellsAtMost F.Wire.told (plans_of line player.old.past) (F.told fleet.old) (F.told fleet.new) player.old.past player.new.past wires.old }
+    ensures writes { WritesLine result player.old.past player.new.past (K.written output.old) shown.new (K.written output.new) }
+    ensures kinds { IfErr result IsPlayStop }
+    ensures faults { CountsFaults (is_write_fault result) (K.faults output.old) (K.faults output.new) }
+    ensures full { result ≡ Err Stop.Full → most_events ≤ length player.new.past }
+    ensures on { RunsOn F.Fleet fleet.old fleet.new player.old.past player.new.past }
+{
+    match carry_line(player, wires, fleet, line) {
+        Ok(()) => show_history(alloc, player, shown, output),
+        Err(halt) => Err(stop_of_halt(halt)),
+    }
+}

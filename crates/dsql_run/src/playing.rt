@@ -1,0 +1,186 @@
+//! A script is played from its first line to its end.
+ghost use Rattle.std.specs.Prelude.{◌≡◌, ◌≤◌, ℕ, Bool, List, [], ◌∷◌, Option, None, true, false, length, Err, is_some, IfSome};
+ghost use Rattle.dsql_driver.specs.declared.caps.Caps.{Caps};
+ghost use Rattle.dsql_driver.specs.Streams.{HasRisen, has_risen};
+ghost use Rattle.dsql_history.specs.declared.event.Event.TheVariants.{Run};
+ghost use Rattle.dsql_follows.specs.declared.line.Line.{Line};
+ghost use Rattle.dsql_follows.specs.Moments.{just_begun};
+ghost use Rattle.dsql_outcome.specs.Headline.{IsPlayed, NotBegun, RanSo, seen};
+ghost use Rattle.dsql_outcome.specs.Lent.{lent};
+ghost use Rattle.dsql_outcome.specs.Playing.{HasHead, IsOver, LinesPlayed, ReadsLater, RunsOn, ScriptPlayed, WritesLines, WritesWell};
+ghost use Rattle.dsql_outcome.specs.Runs.{Between, Writes, is_write_fault, ran_out};
+ghost use Rattle.dsql_playing.specs.Playing.{IsAt, IsReady};
+ghost use Rattle.dsql_script_source.specs.Reading.{IsHeadRead};
+ghost use Rattle.dsql_script_source.specs.Stops.{is_read_fault, no_read_failed};
+ghost use Rattle.dsql_steps.specs.Groups.{most_events};
+ghost use Rattle.dsql_stream.specs.Faults.{CountsFaults};
+ghost use Rattle.dsql_wires.specs.WiresFit.{PlansFit};
+
+use crate::carrying::play_line;
+use crate::closing::close;
+use crate::finishing::finish;
+use crate::showing::show_history;
+use dsql_driver::{Fleet, Sink, Source};
+use dsql_player::Player;
+use dsql_reader::ScriptLine;
+use dsql_script_source::{ScriptReader, Stop, line_as_played, read_head};
+use dsql_show::Shown;
+use dsql_wires::Wires;
+use std::alloc::Global;
+
+/// Plays a script's lines one after another from the first one behind its head on, each as soon as it is read,
+/// and writes what happened.
+fn play_lines<S: Source, K: Sink, F: Fleet>(
+    alloc: Global,
+    player: &mut Player,
+    wires: &mut Wires<F::Wire>,
+    shown: &mut Shown,
+    script: &mut ScriptReader,
+    first: Result<Option<ScriptLine>, Stop>,
+    input: &mut S,
+    output: &mut K,
+    fleet: &mut F,
+) -> Result<(), Stop>
+    requires begun { player.old.past ≡ Run 1 (F.ability fleet.old) ∷ [] }
+    requires at { IsAt (just_begun (Run 1 (F.ability fleet.old))) player.old }
+    requires between { Between F.Wire.told (is_some (F.told fleet.old)) player.old wires.old }
+    requires unplanned { PlansFit F.Wire.told [] player.old.past wires.old }
+    requires shown { shown.old ≡ 0 }
+    requires first { IsHeadRead first script.old.reader }
+    ensures between { ran_out result ≡ true → Between F.Wire.told (is_some (F.told fleet.new)) player.new wires.new }
+    ensures lines { (before : Option (List ℕ)) (asked : Option Caps) (skipped : List Line) → HasHead first before script.old (S.left input.old) asked skipped → LinesPlayed result before (S.left input.new) script.new.reader.lines asked (Run 1 (F.ability fleet.old)) player.new (K.written output.old) (K.written output.new) (lent F.Fleet F.Wire.told fleet.old fleet.new wires.new) }
+    ensures writes { WritesLines result player.new.past (K.written output.old) shown.new (K.written output.new) }
+    ensures reads { ReadsLater first result (S.faults input.old) (S.faults input.new) }
+    ensures read_well { is_read_fault result ≡ false → S.faults input.new ≡ S.faults input.old }
+    ensures faults { CountsFaults (is_write_fault result) (K.faults output.old) (K.faults output.new) }
+    ensures full { result ≡ Err Stop.Full → most_events ≤ length player.new.past }
+    ensures on { RunsOn F.Fleet fleet.old fleet.new player.old.past player.new.past }
+{
+    show_history(alloc, player, shown, output)?;
+    let mut next = first?;
+    while let Some(line) = next {
+        play_line(
+            alloc,
+            player,
+            wires,
+            shown,
+            output,
+            fleet,
+            line_as_played(line),
+        )?;
+        next = script.next(alloc, input)?;
+    }
+    Ok(())
+}
+
+/// Plays a script from its first line behind its head on, and writes the report into the sink.
+fn play_from<S: Source, K: Sink, F: Fleet>(
+    alloc: Global,
+    player: &mut Player,
+    script: &mut ScriptReader,
+    first: Result<Option<ScriptLine>, Stop>,
+    input: &mut S,
+    output: &mut K,
+    fleet: &mut F,
+) -> Result<(), Stop>
+    requires begun { player.old.past ≡ Run 1 (F.ability fleet.old) ∷ [] }
+    requires at { IsAt (just_begun (Run 1 (F.ability fleet.old))) player.old }
+    requires ready { IsReady player.old }
+    requires first { IsHeadRead first script.old.reader }
+    ensures on { RunsOn F.Fleet fleet.old fleet.new player.old.past player.new.past }
+    ensures script { (before : Option (List ℕ)) (asked : Option Caps) (skipped : List Line) (failed : Bool) → HasHead first before script.old (S.left input.old) asked skipped → (first ≡ Err Stop.Read → failed ≡ true) → (HasRisen (S.faults input.old) (S.faults input.new) → failed ≡ true) → ScriptPlayed result before (S.left input.new) script.new.reader.lines asked failed (Run 1 (F.ability fleet.old)) player.new.past (K.written output.old) (K.written output.new) (F.told fleet.old) (F.told fleet.new) }
+    ensures over { ran_out result ≡ true → IsOver player.new.past }
+    ensures writes { Writes result (has_risen (K.faults output.old) (K.faults output.new)) (K.written output.old) player.new.past (K.written output.new) }
+    ensures reads { ReadsLater first result (S.faults input.old) (S.faults input.new) }
+    ensures read_well { no_read_failed result ≡ true → S.faults input.new ≡ S.faults input.old }
+    ensures written_well { WritesWell result (K.faults output.old) (K.faults output.new) }
+    ensures full { result ≡ Err Stop.Full → most_events ≤ length player.new.past }
+{
+    let mut wires = Wires::new(alloc);
+    let mut shown = Shown::none(alloc);
+    let played = play_lines(
+        alloc, player, &mut wires, &mut shown, script, first, input, output, fleet,
+    );
+    let ended = close(player, wires, fleet, played);
+    finish(alloc, player, &mut shown, output, played, ended)
+}
+
+/// What a run keeps until it is over: its history with the tables over it, and what was read of the script.
+#[derive(Drop)]
+pub(crate) struct Kept {
+    pub player: Player,
+    pub script: ScriptReader,
+}
+
+/// A run that was played: what stopped it, and what it kept, if it began.
+#[derive(Drop)]
+pub(crate) struct Played {
+    pub stopped: Result<(), Stop>,
+    pub kept: Option<Kept>,
+}
+
+impl Played {
+    /// A run that there was no memory to begin.
+    fn not_begun() -> Played
+        ensures { result ≡ record { stopped = Err Stop.Memory; kept = None } }
+    {
+        Played {
+            stopped: Err(Stop::Memory),
+            kept: None,
+        }
+    }
+}
+
+/// Plays a script as `play` does, and hands out what the run kept, which is long to give back.
+pub(crate) fn play_keeping<S: Source, K: Sink, F: Fleet>(
+    alloc: Global,
+    input: &mut S,
+    output: &mut K,
+    fleet: &mut F,
+) -> Played
+    ensures ran { IsPlayed result.stopped
+        (seen S.Source K.Sink F.Fleet input.old output.old fleet.old)
+        (seen S.Source K.Sink F.Fleet input.new output.new fleet.new) }
+    ensures kept { IfSome result.kept (λ kept. RanSo result.stopped
+        (seen S.Source K.Sink F.Fleet input.old output.old fleet.old)
+        (seen S.Source K.Sink F.Fleet input.new output.new fleet.new) kept.player.past kept.script.reader.lines) }
+    ensures none { result.kept ≡ None → NotBegun result.stopped
+        (seen S.Source K.Sink F.Fleet input.old output.old fleet.old)
+        (seen S.Source K.Sink F.Fleet input.new output.new fleet.new) }
+{
+    let Ok(script) = ScriptReader::new(alloc) else {
+        return Played::not_begun();
+    };
+    let mut script = script;
+    let first = read_head(alloc, &mut script, input, fleet);
+    let Ok(player) = Player::new(alloc, 1, fleet.caps()) else {
+        return Played::not_begun();
+    };
+    let mut player = player;
+    let stopped = play_from(alloc, &mut player, &mut script, first, input, output, fleet);
+    Played {
+        stopped,
+        kept: Some(Kept { player, script }),
+    }
+}
+
+/// Plays a script from the source to its end, and writes its report into the sink. The run begins at the
+/// first line that is neither skipped nor one of the head, or at the script's end, with what the fleet can do then. It
+/// ends early at the first line that is refused, and where the source or the sink fails; its connections are shut and
+/// given back to the fleet even then.
+///
+/// # Errors
+///
+/// What stopped the script, or the sink's fault, want of memory or too many events where these came later.
+pub fn play<S: Source, K: Sink, F: Fleet>(
+    alloc: Global,
+    input: &mut S,
+    output: &mut K,
+    fleet: &mut F,
+) -> Result<(), Stop>
+    ensures ran { IsPlayed result
+        (seen S.Source K.Sink F.Fleet input.old output.old fleet.old)
+        (seen S.Source K.Sink F.Fleet input.new output.new fleet.new) }
+{
+    play_keeping(alloc, input, output, fleet).stopped
+}

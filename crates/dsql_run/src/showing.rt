@@ -1,0 +1,54 @@
+//! What happened in a run is written as it comes.
+ghost use Rattle.std.specs.Prelude.{◌≡◌, ◌≤◌, ℕ, List, Option, length, OnOk, OnErr, IfErr};
+ghost use Rattle.dsql_history.specs.Legal.{Legal};
+ghost use Rattle.dsql_outcome.specs.Runs.{IsShowStop, is_write_fault};
+ghost use Rattle.dsql_report.specs.Lines.{text_of};
+ghost use Rattle.dsql_show.specs.Report.{Shows, StopsBetween, is_sink_fault, oldest, with_text};
+ghost use Rattle.dsql_stream.specs.Faults.{CountsFaults};
+
+use dsql_driver::Sink;
+use dsql_outcome::stop_of_show;
+use dsql_player::Player;
+use dsql_script_source::Stop;
+use dsql_show::{ShowFault, Shown, show};
+use std::alloc::Global;
+
+/// Writes a run's events that weren't shown yet.
+pub(crate) fn show_rest<K: Sink>(
+    alloc: Global,
+    player: &Player,
+    shown: &mut Shown,
+    output: &mut K,
+) -> Result<(), ShowFault>
+    requires { shown.old ≤ length player.now.past }
+    ensures ok { OnOk result (shown.new ≡ length player.now.past) }
+    ensures within { shown.new ≤ length player.now.past }
+    ensures shows { OnOk result ((w : Option (List ℕ)) → Shows w shown.old player.now.past (K.written output.old) → K.written output.new ≡ with_text w (text_of player.now.past)) }
+    ensures stops { OnErr result ((w : Option (List ℕ)) → Shows w shown.old player.now.past (K.written output.old) → StopsBetween w (text_of (oldest shown.old player.now.past)) (text_of player.now.past) (K.written output.new)) }
+    ensures faults { CountsFaults (is_sink_fault result) (K.faults output.old) (K.faults output.new) }
+    ensures legal { Legal player.now.past }
+{
+    show(alloc, player.history(), shown, output)
+}
+
+/// Writes a run's events that weren't shown yet. What stops that stops the run.
+pub(crate) fn show_history<K: Sink>(
+    alloc: Global,
+    player: &Player,
+    shown: &mut Shown,
+    output: &mut K,
+) -> Result<(), Stop>
+    requires { shown.old ≤ length player.now.past }
+    ensures ok { OnOk result (shown.new ≡ length player.now.past) }
+    ensures within { shown.new ≤ length player.now.past }
+    ensures shows { OnOk result ((w : Option (List ℕ)) → Shows w shown.old player.now.past (K.written output.old) → K.written output.new ≡ with_text w (text_of player.now.past)) }
+    ensures stops { OnErr result ((w : Option (List ℕ)) → Shows w shown.old player.now.past (K.written output.old) → StopsBetween w (text_of (oldest shown.old player.now.past)) (text_of player.now.past) (K.written output.new)) }
+    ensures kinds { IfErr result IsShowStop }
+    ensures faults { CountsFaults (is_write_fault result) (K.faults output.old) (K.faults output.new) }
+    ensures legal { Legal player.now.past }
+{
+    match show_rest(alloc, player, shown, output) {
+        Ok(()) => Ok(()),
+        Err(fault) => Err(stop_of_show(fault)),
+    }
+}
