@@ -9,5 +9,6 @@ mod token;
 mod tokens;
 
 pub use fault::{TokenFault, Unknown};
+pub use table::Names;
 pub use token::Cause;
-pub use tokens::{Names, Tokens};
+pub use tokens::Tokens;

@@ -7,8 +7,11 @@ ghost use Rattle.dsql_cancel.specs.Table.{IsAt, IsGapFor};
 
 use crate::fault::TokenFault;
 use crate::token::{Cause, Token};
-use dsql_value::{Memory, Txt};
+use dsql_value::{Items, Memory, Txt};
 use std::alloc::Global;
+
+/// Names, in order.
+pub type Names = Items<Txt>;
 
 /// Where a name stands, or where it would.
 pub fn place_of(table: &[(Txt, Token)], name: &Txt) -> Result<usize, usize>
@@ -62,12 +65,8 @@ pub fn cancel_in(table: &mut [(Txt, Token)], name: &Txt) -> Option<bool>
 }
 
 /// The names of the tokens that are cancelled at a moment.
-pub fn names_running_out(
-    alloc: Global,
-    table: &[(Txt, Token)],
-    now: u64,
-) -> Result<Vec<Txt>, Memory>
-    ensures ok { IfOk result (λ names. names.items ≡ running_out now table.now) }
+pub fn names_running_out(alloc: Global, table: &[(Txt, Token)], now: u64) -> Result<Names, Memory>
+    ensures ok { IfOk result (λ names. names ≡ running_out now table.now) }
     ensures err { OnErr result (running_out now table.now ≢ []) }
 {
     let mut names = Vec::new(alloc);
@@ -76,7 +75,7 @@ pub fn names_running_out(
             names.push(name.copy()?)?;
         }
     }
-    Ok(names)
+    Ok(Items::new(names)?)
 }
 
 /// Each token as it is from this moment on.

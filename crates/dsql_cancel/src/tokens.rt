@@ -2,14 +2,11 @@ ghost use Rattle.std.specs.Prelude.{◌≡◌, ◌+◌, ◌≤◌, [], length, m
 ghost use Rattle.dsql_cancel.specs.Token.{endless, timed, has_passed};
 
 use crate::fault::{TokenFault, Unknown};
-use crate::table::{add, cancel_in, names_running_out, pass, place_of};
+use crate::table::{Names, add, cancel_in, names_running_out, pass, place_of};
 use crate::token::{Cause, Token};
-use dsql_value::{Items, Memory, Txt};
+use dsql_value::{Memory, Txt};
 use std::alloc::Global;
 use std::marker::Model;
-
-/// Names, in order.
-pub type Names = Items<Txt>;
 
 /// The tokens made so far. Contracts see them as a map from names to tokens, with the present moment, in
 /// nanoseconds, and for how many calls there is memory.
@@ -121,7 +118,7 @@ impl Tokens {
             Ok(names) => {
                 self.moment = moment;
                 pass(self.table.as_mut_slice(), moment);
-                Ok(Items::new(names))
+                Ok(names)
             }
             Err(Memory) => Err(TokenFault::Memory),
         }

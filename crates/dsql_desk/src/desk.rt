@@ -98,7 +98,7 @@ fn nobody(alloc: Global) -> Result<CallRow, NoRoom>
     let call = CallRecord {
         client: 0,
         text,
-        params: Items::none(alloc),
+        params: Items::none(),
         decided: None,
     };
     Ok(CallRow {

@@ -12,8 +12,8 @@ use Rattle.dsql_mem.specs.Wire.{WireState, CarriesOut, fault_in_place, after_cal
 use Rattle.dsql_mem.proofs.PlanLemmas.{comes_of-IsLawful}
 
 -- a wire that took a call's answer and noted it is the wire after the call
-pub changed_by_parts : (store : Entries) (call noted : DriverCall) (before : WireState) (fault : Option DriverAnswer) (session : SessionState) (told : WireTold) (faults : ℕ) (answer note : DriverAnswer) → fault ≡ fault_in_place before call → session ≡ (effect_unless fault store before.session call).session → answer ≡ (effect_unless fault store before.session call).answer → note ≡ (effect_unless fault store before.session call).answer → noted ≡ call → told ≡ with_call (noted, note) before.told → faults ≡ faults_after before.faults answer → record { session = session; told = told; planned = before.planned; faults = faults } ≡ after_call store before call
-changed_by_parts store call noted before fault session heard faults answer note d s a n c h f = rw (h, f, s, a, n, c, d) refl
+pub changed_by_parts : (store : Entries) (call : DriverCall) (before : WireState) (fault : Option DriverAnswer) (session : SessionState) (told : WireTold) (faults : ℕ) (answer : DriverAnswer) → fault ≡ fault_in_place before call → session ≡ (effect_unless fault store before.session call).session → answer ≡ (effect_unless fault store before.session call).answer → told ≡ with_call (call, answer) before.told → faults ≡ faults_after before.faults answer → record { session = session; told = told; planned = before.planned; faults = faults } ≡ after_call store before call
+changed_by_parts store call before fault session heard faults answer d s a h f = rw (h, f, s, a, d) refl
 
 -- Memory, or another answer
 memory-or_not : (answer : DriverAnswer) → (answer ≡ Memory) ⊎ (is_memory answer ≡ false)

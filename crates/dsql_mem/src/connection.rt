@@ -3,13 +3,13 @@ ghost use Rattle.dsql_driver.specs.Fits.{is_memory};
 ghost use Rattle.dsql_store.specs.Entries.{AreAscending};
 ghost use Rattle.dsql_mem_plans.specs.Log.{told_of};
 ghost use Rattle.dsql_session.specs.Session.{IsSound};
-ghost use Rattle.dsql_mem.specs.Wire.{new_wire, fault_in_place, comes_of, after_call, after_plan, faults_after, CarriesOut};
+ghost use Rattle.dsql_mem.specs.Wire.{new_wire, comes_of, after_call, after_plan, faults_after, CarriesOut};
 
 use crate::roll::Roll;
 use dsql_driver::{Answered, DriverAnswer, DriverCall, Planned};
 use dsql_mem_calls::step_unless;
 use dsql_mem_plans::{Log, Plan, copied, fault_at};
-use dsql_session::{Copies, Session};
+use dsql_session::Session;
 use dsql_store::Store;
 use dsql_value::Memory;
 use std::alloc::Global;
@@ -40,7 +40,7 @@ impl Connection {
     pub(crate) fn new(alloc: Global, number: u32, planned: Vec<Plan>) -> Result<Connection, Memory>
         ensures { IfOk result (λ connection. connection ≡ new_wire number planned.items) }
     {
-        let log = Log::new(alloc, number)?;
+        let log = Log::new(alloc, number);
         let room = Box::new(alloc, Roll::Empty)?;
         Ok(Connection {
             session: Session::new(alloc),
@@ -79,14 +79,7 @@ impl Connection {
         }
     }
 
-    /// The fault that stands in the place of its next call, if one does.
-    fn fault(&self, call: &DriverCall) -> Result<Option<DriverAnswer>, Memory>
-        ensures { IfOk result (λ fault. fault ≡ fault_in_place self.now call.now) }
-    {
-        fault_at(self.log.next_call(), call, self.planned.as_slice())
-    }
-
-    /// Answers a call on a store and notes it. All the room for both is taken first.
+    /// Answers a call on a store and notes it.
     fn hear(
         &mut self,
         alloc: Global,
@@ -101,19 +94,12 @@ impl Connection {
         ensures store_stays { OnErr result (store.new ≡ store.old) }
         ensures counted { self.old.faults ≤ self.new.faults }
     {
-        let fault = self.fault(call)?;
-        self.log.calls.reserve(1)?;
-        let noted = call.clone()?;
-        let Copies { answer, copy, note } = step_unless(
-            fault,
-            alloc,
-            store,
-            &mut self.session,
-            call,
-        )?;
-        self.faults = faults_after(self.faults, &answer);
-        self.log.calls.push_reserved((noted, note));
-        Ok(Answered { answer, copy })
+        let nth = self.log.next_call()?;
+        let fault = fault_at(nth, call, self.planned.as_slice())?;
+        let answered = step_unless(fault, alloc, store, &mut self.session, call)?;
+        self.log.note(nth, call, &answered.answer);
+        self.faults = faults_after(self.faults, &answered.answer);
+        Ok(answered)
     }
 
     /// Enters a fault that is planned. All the room is taken first.

@@ -5,7 +5,10 @@ ghost use Rattle.dsql_session.specs.Copies.{copies_of};
 ghost use Rattle.dsql_mem_calls.specs.Effect.{effect, effect_unless, carried_out, taken_back};
 
 use dsql_driver::{Answered, DriverAnswer, DriverCall};
-use dsql_session::{Copies, Found, NO_TRANSACTION, Outcome, Session};
+use dsql_session::{
+    Found, NO_TRANSACTION, Outcome, Session, copies_of, copies_of_done, copies_of_failure,
+    copies_of_result,
+};
 use dsql_store::Store;
 use dsql_value::Memory;
 use std::alloc::Global;
@@ -18,7 +21,7 @@ pub fn apply(alloc: Global, store: &mut Store, session: &mut Session, call: &Dri
     ensures session { session.new ≡ (if is_memory result.answer then session.old else (effect store.old session.old call.now).session) }
 {
     match step(alloc, store, session, call) {
-        Ok(Copies { answer, copy, .. }) => Answered { answer, copy },
+        Ok(answered) => answered,
         Err(Memory) => Answered {
             answer: DriverAnswer::Memory,
             copy: DriverAnswer::Memory,
@@ -26,27 +29,27 @@ pub fn apply(alloc: Global, store: &mut Store, session: &mut Session, call: &Dri
     }
 }
 
-/// Carries out one call of a session, and answers with one copy more than `apply`.
+/// Carries out one call of a session, unless memory is wanting.
 pub fn step(
     alloc: Global,
     store: &mut Store,
     session: &mut Session,
     call: &DriverCall,
-) -> Result<Copies, Memory>
-    ensures answer { IfOk result (λ copies. copies ≡ copies_of (effect store.old session.old call.now).answer) }
+) -> Result<Answered, Memory>
+    ensures answer { IfOk result (λ answered. answered ≡ copies_of (effect store.old session.old call.now).answer) }
     ensures store { OnOk result (store.new ≡ (effect store.old session.old call.now).store) }
     ensures session { OnOk result (session.new ≡ (effect store.old session.old call.now).session) }
     ensures store_stays { OnErr result (store.new ≡ store.old) }
     ensures session_stays { OnErr result (session.new ≡ session.old) }
 {
     match call {
-        DriverCall::Connect | DriverCall::Valid | DriverCall::Ping => Ok(Copies::of_done()),
-        DriverCall::Reset | DriverCall::Shut => take_back(store, session),
+        DriverCall::Connect | DriverCall::Valid | DriverCall::Ping => Ok(copies_of_done()),
+        DriverCall::Reset | DriverCall::Shut => take_back(alloc, store, session),
         DriverCall::Prepare(text) => session.prepare(alloc, text),
         DriverCall::CloseStmt(handle) => session.close(alloc, *handle),
         DriverCall::Exec(input, params) => {
             let outcome = session.execute(alloc, store, input, params.as_slice())?;
-            carry_out(store, session, outcome)
+            carry_out(alloc, store, session, outcome)
         }
         DriverCall::Query(input, params) => {
             let found = session.query(alloc, store, input, params.as_slice())?;
@@ -67,22 +70,27 @@ pub fn step_unless(
     store: &mut Store,
     session: &mut Session,
     call: &DriverCall,
-) -> Result<Copies, Memory>
-    ensures answer { IfOk result (λ copies. copies ≡ copies_of (effect_unless fault store.old session.old call.now).answer) }
+) -> Result<Answered, Memory>
+    ensures answer { IfOk result (λ answered. answered ≡ copies_of (effect_unless fault store.old session.old call.now).answer) }
     ensures store { OnOk result (store.new ≡ (effect_unless fault store.old session.old call.now).store) }
     ensures session { OnOk result (session.new ≡ (effect_unless fault store.old session.old call.now).session) }
     ensures store_stays { OnErr result (store.new ≡ store.old) }
     ensures session_stays { OnErr result (session.new ≡ session.old) }
 {
     match fault {
-        Some(fault) => Copies::of(fault),
+        Some(fault) => copies_of(fault),
         None => step(alloc, store, session, call),
     }
 }
 
 /// Carries out what a command came to, or answers why it can't.
-fn carry_out(store: &mut Store, session: &mut Session, outcome: Outcome) -> Result<Copies, Memory>
-    ensures answer { IfOk result (λ copies. copies ≡ copies_of (carried_out store.old session.old outcome).answer) }
+fn carry_out(
+    alloc: Global,
+    store: &mut Store,
+    session: &mut Session,
+    outcome: Outcome,
+) -> Result<Answered, Memory>
+    ensures answer { IfOk result (λ answered. answered ≡ copies_of (carried_out store.old session.old outcome).answer) }
     ensures store { OnOk result (store.new ≡ (carried_out store.old session.old outcome).store) }
     ensures session { OnOk result (session.new ≡ (carried_out store.old session.old outcome).session) }
     ensures store_stays { OnErr result (store.new ≡ store.old) }
@@ -94,51 +102,51 @@ fn carry_out(store: &mut Store, session: &mut Session, outcome: Outcome) -> Resu
             value,
             affected,
         } => {
-            session.write(store, key, value)?;
-            Ok(Copies::of_result(affected))
+            session.write(alloc, store, &key, value)?;
+            Ok(copies_of_result(affected))
         }
-        Outcome::Refused(answer) => Copies::of(answer),
+        Outcome::Refused(answer) => copies_of(answer),
     }
 }
 
 /// Rolls back the session's transaction, if one is open.
-fn roll_back(alloc: Global, store: &mut Store, session: &mut Session) -> Result<Copies, Memory>
-    ensures answer { IfOk result (λ copies. copies ≡ copies_of (effect store.old session.old DriverCall.Rollback).answer) }
+fn roll_back(alloc: Global, store: &mut Store, session: &mut Session) -> Result<Answered, Memory>
+    ensures answer { IfOk result (λ answered. answered ≡ copies_of (effect store.old session.old DriverCall.Rollback).answer) }
     ensures store { OnOk result (store.new ≡ (effect store.old session.old DriverCall.Rollback).store) }
     ensures session { OnOk result (session.new ≡ (effect store.old session.old DriverCall.Rollback).session) }
     ensures store_stays { OnErr result (store.new ≡ store.old) }
     ensures session_stays { OnErr result (session.new ≡ session.old) }
 {
     if session.in_transaction() {
-        take_back(store, session)
+        take_back(alloc, store, session)
     } else {
-        Copies::of_failure(alloc, NO_TRANSACTION)
+        copies_of_failure(alloc, NO_TRANSACTION)
     }
 }
 
 /// Takes back what the session wrote in its open transaction, if there is one, and ends it.
-fn take_back(store: &mut Store, session: &mut Session) -> Result<Copies, Memory>
-    ensures answer { IfOk result (λ copies. copies ≡ copies_of (taken_back store.old session.old).answer) }
+fn take_back(alloc: Global, store: &mut Store, session: &mut Session) -> Result<Answered, Memory>
+    ensures answer { IfOk result (λ answered. answered ≡ copies_of (taken_back store.old session.old).answer) }
     ensures store { OnOk result (store.new ≡ (taken_back store.old session.old).store) }
     ensures session { OnOk result (session.new ≡ (taken_back store.old session.old).session) }
     ensures store_stays { OnErr result (store.new ≡ store.old) }
     ensures session_stays { OnErr result (session.new ≡ session.old) }
 {
     if let Some(notes) = session.notes() {
-        *store = store.before(notes)?;
+        *store = store.before(alloc, notes)?;
     }
     session.forget();
-    Ok(Copies::of_done())
+    Ok(copies_of_done())
 }
 
 /// Shows what a query found by a cursor, or answers why there is none.
-fn show(alloc: Global, session: &mut Session, found: Found) -> Result<Copies, Memory>
-    ensures answer { IfOk result (λ copies. copies ≡ copies_of (shown session.old found).1) }
+fn show(alloc: Global, session: &mut Session, found: Found) -> Result<Answered, Memory>
+    ensures answer { IfOk result (λ answered. answered ≡ copies_of (shown session.old found).1) }
     ensures session { OnOk result (session.new ≡ (shown session.old found).0) }
     ensures stays { OnErr result (session.new ≡ session.old) }
 {
     match found {
         Found::Rows { shape, entries } => session.open(alloc, shape, entries),
-        Found::Refused(answer) => Copies::of(answer),
+        Found::Refused(answer) => copies_of(answer),
     }
 }

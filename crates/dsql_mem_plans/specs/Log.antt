@@ -4,4 +4,4 @@ use Rattle.dsql_mem_plans.specs.declared.log.Log.{Log}
 
 -- what a wire with this log tells
 abbrev pub told_of : Log → WireTold
-told_of log = record { number = log.number; calls = log.calls.items; plans = log.plans.items }
+told_of log = record { number = log.number; calls = log.heard.calls; plans = log.plans.items }

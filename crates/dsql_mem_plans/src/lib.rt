@@ -2,10 +2,12 @@
 //! which each call has its number.
 #![tactic(auto)]
 
+mod heard;
 mod log;
 mod plans;
 
-pub use log::{Log, Told};
+pub use heard::Heard;
+pub use log::Log;
 pub use plans::{
     Plan, PlanMade, Refusal, WirePlanMade, connect_refusal, copied, fault_at, plans_for,
 };

@@ -1,43 +1,52 @@
 ghost use Rattle.std.specs.Prelude.{◌≡◌, ◌+◌, length, IfOk, OnOk, OnErr};
-ghost use Rattle.dsql_driver.specs.Wires.{newly_told, with_plan};
-ghost use Rattle.dsql_mem_plans.specs.Log.{told_of};
+ghost use Rattle.dsql_driver.specs.Wires.{newly_told, with_call, with_plan};
 
+use crate::heard::Heard;
 use crate::plans::PlanMade;
 use dsql_driver::{DriverAnswer, DriverCall, Planned};
 use dsql_value::Memory;
 use std::alloc::Global;
 
-/// A call that a wire heard, with its answer.
-pub type Told = (DriverCall, DriverAnswer);
-
-/// What a wire was asked: its number, the calls that it heard, and the faults that were planned on it, each
-/// with how many calls had been heard by then, oldest first.
+/// What a wire was asked: its number, how many calls it heard, these with their answers for proofs alone, and
+/// the faults that were planned on it, each with how many calls had been heard by then, oldest first.
 #[derive(Drop)]
 pub struct Log {
     pub number: u32,
-    pub calls: Vec<Told>,
+    pub count: usize,
+    pub heard: Heard,
     pub plans: Vec<PlanMade>,
+    pub ghost counted: { count ≡ length heard.calls },
 }
 
 impl Log {
+    ghost use Rattle.dsql_mem_plans.specs.Log.{told_of};
+
     /// The log of a wire that has heard just its Connect.
-    pub fn new(alloc: Global, number: u32) -> Result<Log, Memory>
-        ensures { IfOk result (λ log. told_of log ≡ newly_told number) }
+    pub fn new(alloc: Global, number: u32) -> Log
+        ensures { told_of result ≡ newly_told number }
     {
-        let mut calls = Vec::new(alloc);
-        calls.push((DriverCall::Connect, DriverAnswer::Done))?;
-        Ok(Log {
+        Log {
             number,
-            calls,
+            count: 1,
+            heard: Heard::new(),
             plans: Vec::new(alloc),
-        })
+        }
     }
 
-    /// The number of the next call that it hears.
-    pub fn next_call(&self) -> usize
-        ensures { result ≡ length (told_of self.now).calls + 1 }
+    /// The number of the next call that it hears. A wire that has heard as many as can be counted wants memory.
+    pub fn next_call(&self) -> Result<usize, Memory>
+        ensures { IfOk result (λ nth. nth ≡ length (told_of self.now).calls + 1) }
     {
-        self.calls.len() + 1
+        self.count.checked_add(1).ok_or(Memory)
+    }
+
+    /// Notes the next call, which has this number, with its answer. It takes no memory.
+    pub fn note(&mut self, nth: usize, call: &DriverCall, answer: &DriverAnswer)
+        requires { nth ≡ length (told_of self.old).calls + 1 }
+        ensures { told_of self.new ≡ with_call (call.now, answer.now) (told_of self.old) }
+    {
+        self.heard = self.heard.then(call, answer);
+        self.count = nth;
     }
 
     /// Enters a fault that is planned, behind the calls that were heard so far.
@@ -45,7 +54,7 @@ impl Log {
         ensures ok { OnOk result (told_of self.new ≡ with_plan (nth, what) (told_of self.old)) }
         ensures err { OnErr result (told_of self.new ≡ told_of self.old) }
     {
-        self.plans.push((self.calls.len(), (nth, what)))?;
+        self.plans.push((self.count, (nth, what)))?;
         Ok(())
     }
 }

@@ -47,7 +47,10 @@ fn scan_columns(alloc: Global, values: &[Value], dests: &[Dest]) -> Result<Cells
             return Err(RowFault::Memory);
         }
     }
-    Ok(Items::new(cells))
+    let Ok(row) = Items::new(cells) else {
+        return Err(RowFault::Memory);
+    };
+    Ok(row)
 }
 
 fn in_32_bits(number: usize) -> u32

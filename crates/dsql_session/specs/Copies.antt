@@ -1,6 +1,6 @@
--- An answer in three copies.
+-- An answer in two copies.
 use Rattle.dsql_driver.specs.declared.answer.DriverAnswer.{DriverAnswer}
-use Rattle.dsql_session.specs.declared.copies.Copies.{Copies}
+use Rattle.dsql_driver.specs.declared.wire.Answered.{Answered}
 
-abbrev pub copies_of : DriverAnswer → Copies
-copies_of answer = record { answer = answer; copy = answer; note = answer }
+abbrev pub copies_of : DriverAnswer → Answered
+copies_of answer = record { answer = answer; copy = answer }

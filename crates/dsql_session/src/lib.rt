@@ -12,7 +12,7 @@ mod query;
 mod session;
 mod statement;
 
-pub use copies::Copies;
+pub use copies::{copies_of, copies_of_done, copies_of_failure, copies_of_result};
 pub use cursor::Shape;
 pub use execute::Outcome;
 pub use failures::NO_TRANSACTION;

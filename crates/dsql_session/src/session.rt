@@ -3,11 +3,11 @@ ghost use Rattle.std.specs.List.{position};
 ghost use Rattle.dsql_session.specs.Cursor.{with_advanced};
 ghost use Rattle.dsql_session.specs.Session.{without_handle, without_cursor};
 
-use crate::copies::Copies;
+use crate::copies::{copies_of, copies_of_done, copies_of_failure};
 use crate::cursor::{Cursor, Shape};
 use crate::failures::{NO_SUCH_HANDLE, NO_SUCH_STATEMENT, NUMBERS_SPENT};
 use crate::statement::Statement;
-use dsql_driver::DriverAnswer;
+use dsql_driver::{Answered, DriverAnswer};
 use dsql_store::{Entry, Note};
 use dsql_value::{Items, Memory, Txt};
 use std::alloc::Global;
@@ -103,48 +103,48 @@ impl Session {
     }
 
     /// Prepares a text: its statement gets the next handle.
-    pub fn prepare(&mut self, alloc: Global, text: &Txt) -> Result<Copies, Memory>
-        ensures answer { IfOk result (λ copies. copies ≡ copies_of (prepared self.old text.now (statement_of text.now)).1) }
+    pub fn prepare(&mut self, alloc: Global, text: &Txt) -> Result<Answered, Memory>
+        ensures answer { IfOk result (λ answered. answered ≡ copies_of (prepared self.old text.now (statement_of text.now)).1) }
         ensures session { OnOk result (self.new ≡ (prepared self.old text.now (statement_of text.now)).0) }
         ensures stays { OnErr result (self.new ≡ self.old) }
     {
         match Statement::parse(text.as_str()) {
             Some(statement) => self.give_handle(alloc, text, statement.inputs()),
-            None => Copies::of_failure(alloc, NO_SUCH_STATEMENT),
+            None => copies_of_failure(alloc, NO_SUCH_STATEMENT),
         }
     }
 
     /// Gives a statement with so many inputs the next handle.
-    fn give_handle(&mut self, alloc: Global, text: &Txt, inputs: u8) -> Result<Copies, Memory>
-        ensures answer { IfOk result (λ copies. copies ≡ copies_of (handle_given self.old text.now inputs).1) }
+    fn give_handle(&mut self, alloc: Global, text: &Txt, inputs: u8) -> Result<Answered, Memory>
+        ensures answer { IfOk result (λ answered. answered ≡ copies_of (handle_given self.old text.now inputs).1) }
         ensures session { OnOk result (self.new ≡ (handle_given self.old text.now inputs).0) }
         ensures stays { OnErr result (self.new ≡ self.old) }
     {
         let last = self.last_handle;
         if last == u32::MAX {
-            return Copies::of_failure(alloc, NUMBERS_SPENT);
+            return copies_of_failure(alloc, NUMBERS_SPENT);
         }
         let handle = last + 1;
         let inputs = i32::from(inputs);
         let text = text.copy()?;
         self.statements.reserve(1)?;
-        let copies = Copies::of(DriverAnswer::Prepared { handle, inputs })?;
+        let copies = copies_of(DriverAnswer::Prepared { handle, inputs })?;
         self.statements.push_reserved(Prepared { handle, text });
         self.last_handle = handle;
         Ok(copies)
     }
 
     /// Closes a handle.
-    pub fn close(&mut self, alloc: Global, handle: u32) -> Result<Copies, Memory>
-        ensures answer { IfOk result (λ copies. copies ≡ copies_of (closed self.old handle).1) }
+    pub fn close(&mut self, alloc: Global, handle: u32) -> Result<Answered, Memory>
+        ensures answer { IfOk result (λ answered. answered ≡ copies_of (closed self.old handle).1) }
         ensures session { OnOk result (self.new ≡ (closed self.old handle).0) }
         ensures stays { OnErr result (self.new ≡ self.old) }
     {
         if !self.is_live(handle) {
-            return Copies::of_failure(alloc, NO_SUCH_HANDLE);
+            return copies_of_failure(alloc, NO_SUCH_HANDLE);
         }
         take_out(&mut self.statements, handle);
-        Ok(Copies::of_done())
+        Ok(copies_of_done())
     }
 
     /// Opens a cursor: gives it the next number.
@@ -153,19 +153,19 @@ impl Session {
         alloc: Global,
         shape: Shape,
         entries: Items<Entry>,
-    ) -> Result<Copies, Memory>
-        ensures answer { IfOk result (λ copies. copies ≡ copies_of (opened self.old shape entries).1) }
+    ) -> Result<Answered, Memory>
+        ensures answer { IfOk result (λ answered. answered ≡ copies_of (opened self.old shape entries).1) }
         ensures session { OnOk result (self.new ≡ (opened self.old shape entries).0) }
         ensures stays { OnErr result (self.new ≡ self.old) }
     {
         let last = self.last_cursor;
         if last == u32::MAX {
-            return Copies::of_failure(alloc, NUMBERS_SPENT);
+            return copies_of_failure(alloc, NUMBERS_SPENT);
         }
         let rows = last + 1;
         self.cursors.reserve(1)?;
         let columns = shape.columns(alloc)?;
-        let copies = Copies::of(DriverAnswer::Cursor { rows, columns })?;
+        let copies = copies_of(DriverAnswer::Cursor { rows, columns })?;
         self.cursors
             .push_reserved(Cursor::new(rows, shape, entries));
         self.last_cursor = rows;
@@ -173,33 +173,33 @@ impl Session {
     }
 
     /// Takes a cursor's next row.
-    pub fn take_row(&mut self, alloc: Global, rows: u32) -> Result<Copies, Memory>
-        ensures answer { IfOk result (λ copies. copies ≡ copies_of (next_taken self.old rows).1) }
+    pub fn take_row(&mut self, alloc: Global, rows: u32) -> Result<Answered, Memory>
+        ensures answer { IfOk result (λ answered. answered ≡ copies_of (next_taken self.old rows).1) }
         ensures session { OnOk result (self.new ≡ (next_taken self.old rows).0) }
         ensures stays { OnErr result (self.new ≡ self.old) }
     {
         let Some(cursor) = self.cursor(rows) else {
-            return Copies::of_failure(alloc, NO_SUCH_HANDLE);
+            return copies_of_failure(alloc, NO_SUCH_HANDLE);
         };
         let Some(row) = cursor.next_row(alloc)? else {
-            return Copies::of(DriverAnswer::End);
+            return copies_of(DriverAnswer::End);
         };
-        let copies = Copies::of(DriverAnswer::Row(row))?;
+        let copies = copies_of(DriverAnswer::Row(row))?;
         advance(&mut self.cursors, rows);
         Ok(copies)
     }
 
     /// Closes a cursor.
-    pub fn close_rows(&mut self, alloc: Global, rows: u32) -> Result<Copies, Memory>
-        ensures answer { IfOk result (λ copies. copies ≡ copies_of (rows_closed self.old rows).1) }
+    pub fn close_rows(&mut self, alloc: Global, rows: u32) -> Result<Answered, Memory>
+        ensures answer { IfOk result (λ answered. answered ≡ copies_of (rows_closed self.old rows).1) }
         ensures session { OnOk result (self.new ≡ (rows_closed self.old rows).0) }
         ensures stays { OnErr result (self.new ≡ self.old) }
     {
         if !self.is_open(rows) {
-            return Copies::of_failure(alloc, NO_SUCH_HANDLE);
+            return copies_of_failure(alloc, NO_SUCH_HANDLE);
         }
         take_out_cursor(&mut self.cursors, rows);
-        Ok(Copies::of_done())
+        Ok(copies_of_done())
     }
 }
 

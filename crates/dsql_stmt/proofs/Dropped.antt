@@ -10,7 +10,7 @@ use Rattle.dsql_stmt.proofs.Counts.{count_by-filter, uncounted, unfound, lookup-
 use Rattle.dsql_stmt.proofs.Places.{both, all_of, place_is}
 use Rattle.dsql_stmt.proofs.OneEach.{one_handle_each}
 use Rattle.dsql_stmt.proofs.HandedOut.{pair_of, contains_first, contains_later, only}
-use Rattle.dsql_stmt.proofs.Handles.{seen}
+use Rattle.dsql_stmt.proofs.Seen.{seen}
 
 -- it is one of these
 abbrev pub is_among : List (ℕ × ℕ) → Live → Bool

@@ -3,6 +3,6 @@ pub mod Closes
 pub mod Counts
 pub mod Dropped
 pub mod HandedOut
-pub mod Handles
 pub mod OneEach
 pub mod Places
+pub mod Seen

@@ -22,7 +22,7 @@ pub fn one_handle_for_each()
 {}
 
 /// A handle is live from where it was prepared, of that statement on that connection alone.
-#[tactic(auto, using(crate::proofs::Handles::prepared_is_live))]
+#[tactic(auto, using(crate::proofs::Seen::prepared_is_live))]
 pub fn what_is_prepared_is_live()
     ensures { PreparedIsLive }
 {}
@@ -34,7 +34,7 @@ pub fn a_close_hands_out_the_live_handles()
 {}
 
 /// A handle that is dropped isn't live any more, and no other is lost by it.
-#[tactic(auto, using(crate::proofs::Handles::drops_one_handle))]
+#[tactic(auto, using(crate::proofs::Seen::drops_one_handle))]
 pub fn a_drop_of_one_handle()
     ensures { DropsOneHandle }
 {}
@@ -47,7 +47,7 @@ pub fn nothing_is_live_once_all_was_dropped()
 {}
 
 /// A lost connection takes with it exactly its handles.
-#[tactic(auto, using(crate::proofs::Handles::loses_one_connection))]
+#[tactic(auto, using(crate::proofs::Seen::loses_one_connection))]
 pub fn a_lost_connection_takes_its_handles()
     ensures { LosesOneConnection }
 {}

@@ -59,9 +59,9 @@ impl Store {
         match self.get(key) {
             Some(value) => {
                 let entry = (Txt::copy_of(alloc, key)?, value.clone()?);
-                Ok(Items::new(vec![in alloc; entry]?))
+                Ok(Items::new(vec![in alloc; entry]?)?)
             }
-            None => Ok(Items::none(alloc)),
+            None => Ok(Items::none()),
         }
     }
 
@@ -75,7 +75,7 @@ impl Store {
                 entries.push((Txt::copy_of(alloc, key.as_str())?, value.clone()?))?;
             }
         }
-        Ok(Items::new(entries))
+        Ok(Items::new(entries)?)
     }
 
     /// A copy of the value of a key, if it has one.
@@ -99,25 +99,26 @@ impl Store {
     }
 
     /// Gives the key this value, or takes it out where there is none.
-    pub fn write(&mut self, key: Txt, value: Option<Value>) -> Result<(), Memory>
-        ensures ok { OnOk result (self.new ≡ with_state key value self.old) }
+    pub fn write(&mut self, alloc: Global, key: &str, value: Option<Value>) -> Result<(), Memory>
+        ensures ok { OnOk result (self.new ≡ with_state key.now value self.old) }
         ensures err { OnErr result (self.new ≡ self.old) }
     {
         match value {
-            Some(value) => self.set(key, value),
+            Some(value) => self.set(alloc, key, value),
             None => {
-                self.remove(key.as_str());
+                self.remove(key);
                 Ok(())
             }
         }
     }
 
     /// Gives the key this value.
-    fn set(&mut self, key: Txt, value: Value) -> Result<(), Memory>
-        ensures ok { OnOk result (self.new ≡ with_value key value self.old) }
+    fn set(&mut self, alloc: Global, key: &str, value: Value) -> Result<(), Memory>
+        ensures ok { OnOk result (self.new ≡ with_value key.now value self.old) }
         ensures err { OnErr result (self.new ≡ self.old) }
     {
-        self.values.insert(key.into_string(), value)?;
+        let key = String::from_str(alloc, key)?;
+        self.values.insert(key, value)?;
         Ok(())
     }
 
@@ -130,15 +131,14 @@ impl Store {
 
     /// The store as it was before the writes that were noted, the oldest note first. This is a new one,
     /// so that this one stays as it is where memory is wanting.
-    pub fn before(&self, notes: &[Note]) -> Result<Store, Memory>
+    pub fn before(&self, alloc: Global, notes: &[Note]) -> Result<Store, Memory>
         ensures { IfOk result (λ store. store ≡ rolled_back (reverse notes.now) self.now) }
     {
         let mut restored = self.copy()?;
         let mut left = notes;
         while let Some((newest, older)) = left.split_last() {
-            let key = newest.key.copy()?;
             let value = newest.value.clone()?;
-            restored.write(key, value)?;
+            restored.write(alloc, newest.key.as_str(), value)?;
             left = older;
         }
         Ok(restored)

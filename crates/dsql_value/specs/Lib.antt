@@ -1,3 +1,4 @@
+pub mod Shared
 pub mod Arguments
 pub mod ArgumentLaws
 pub mod WorkedArguments

@@ -1,60 +1,71 @@
-ghost use Rattle.std.specs.Prelude.{◌≡◌, List, []};
-ghost use Rattle.std.specs.List.{AllZip};
+ghost use Rattle.std.specs.Prelude.{◌≡◌, ◌≢◌, List, [], IfOk, OnErr};
+ghost use Rattle.dsql_value.specs.Shared.{items_of};
 
 use std::alloc::{AllocError, Global};
 use std::marker::Model;
+use std::sync::ArcSlice;
 
-/// A list of things, which contracts see as just that. It is made from a vector and gives it back
-/// without taking memory.
-#[derive(Debug, Drop)]
+/// A list of things, which contracts see as just that. Its copies share the things.
+#[derive(Debug)]
 pub struct Items<T> {
-    items: Vec<T>,
+    items: Option<ArcSlice<T>>,
 }
 
 impl<T> Model for Items<T> {
     ghost Value = { List T };
 
-    ghost view = { λ i. i.items.items };
+    ghost view = { λ i. items_of i.items };
 }
 
 impl<T> Items<T> {
     /// No things. It takes no memory.
-    pub fn none(alloc: Global) -> Items<T>
+    pub fn none() -> Items<T>
         ensures { result ≡ [] }
     {
-        Items {
-            items: Vec::new(alloc),
-        }
-    }
-
-    /// The things of a vector.
-    pub fn new(items: Vec<T>) -> Items<T>
-        ensures { result ≡ items.items }
-    {
-        Items { items }
+        Items { items: None }
     }
 
     /// The things in their order.
     pub fn as_slice(&self) -> &[T]
         ensures { result.now ≡ self.now }
     {
-        &self.items
-    }
-
-    /// The vector of the things.
-    pub fn into_vec(self) -> Vec<T>
-        ensures { result.items ≡ self }
-    {
-        let Items { items } = self;
-        items
+        match &self.items {
+            Some(items) => items.as_slice(),
+            None => &[],
+        }
     }
 }
 
-impl<T: Clone> Clone for Items<T> {
-    ghost is_clone = { λ x y. AllZip T.is_clone x y };
+impl<T: Drop> Items<T> {
+    /// The things of a vector. That there are none takes no memory.
+    pub fn new(items: Vec<T>) -> Result<Items<T>, AllocError>
+        ensures ok { IfOk result (λ it. it ≡ items.items) }
+        ensures err { OnErr result (items.items ≢ []) }
+    {
+        if items.is_empty() {
+            return Ok(Items::none());
+        }
+        let items = Some(ArcSlice::from_vec(items)?);
+        Ok(Items { items })
+    }
+}
+
+// By hand, so that to drop a list is one call for who does it.
+impl<T: Drop> Drop for Items<T> {
+    fn drop(self) {
+        let Items { items } = self;
+        drop(items);
+    }
+}
+
+impl<T: Drop> Clone for Items<T> {
+    ghost is_clone = { λ x y. y ≡ x };
 
     fn clone(&self) -> Result<Items<T>, AllocError> {
-        let items = self.items.clone()?;
+        let items = match &self.items {
+            Some(items) => Some(items.clone()?),
+            None => None,
+        };
         Ok(Items { items })
     }
 }

@@ -1,5 +1,5 @@
 -- What calls are answered: each answer fits its call, and tells of the cursors as it should.
-use Rattle.std.proofs.Common.{◌≡◌, ℕ, zero, suc, List, [], ◌∷◌, length, Bool, true, false, cond, Option, Some, None, nat_lt, ap, refl, ◌∙◌, inl, inr}
+use Rattle.std.proofs.Common.{arith, ◌≡◌, ◌≤◌, ℕ, zero, suc, List, [], ◌∷◌, length, Bool, true, false, cond, Option, Some, None, nat_lt, ap, refl, ◌∙◌, inl, inr}
 use Rattle.std.specs.Prelude.{⊤}
 use Rattle.std.specs.List.{slice_get}
 use Rattle.dsql_driver.specs.Fits.{fits_of, is_memory}
@@ -9,7 +9,7 @@ use Rattle.dsql_driver.specs.declared.call.DriverCall.TheVariants.{Connect, Rese
 use Rattle.dsql_driver.specs.declared.call.Input.TheVariants.{Text, Handle}
 use Rattle.dsql_value.specs.declared.value.Param.{Param}
 use Rattle.dsql_value.specs.declared.value.Value.{Value}
-use Rattle.fixed_answers.specs.Answers.{Effect, effect, queried, row_given, row_taken, largest_number}
+use Rattle.fixed_answers.specs.Answers.{Effect, effect, no_parameters, queried, row_given, row_taken, largest_number}
 use Rattle.fixed_answers.specs.Cursors.{CursorsState, cursor_of, are_within, live_cursors}
 use Rattle.fixed_answers.specs.Table.{table}
 use Rattle.fixed_answers.specs.declared.cursors.OpenCursor.{OpenCursor}
@@ -33,6 +33,11 @@ queried-IsLawful cursors text [] h =
     (record { fits = refl; answered = refl; handles = refl; cursors = (refl, new-number cursors.last cursors.live h) })
     (record { fits = refl; answered = refl; handles = refl; cursors = refl })
 queried-IsLawful cursors text (param ∷ params) h = record { fits = refl; answered = refl; handles = refl; cursors = refl }
+
+-- a text is asked with parameters
+pub refused_query : (cursors : CursorsState) (params : List Param) → 1 ≤ length params → (queried cursors params).answer ≡ no_parameters
+refused_query cursors [] h = absurd (omega (arith, h))
+refused_query cursors (param ∷ params) h = refl
 
 -- a row of the table has a value for each column
 abbrev HasTwo : Option (List Value) → Type 0

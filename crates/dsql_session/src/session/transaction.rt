@@ -5,8 +5,9 @@ ghost use Rattle.std.specs.Prelude.{◌≡◌, ◌∷◌, ◌++◌, [], OnOk, On
 ghost use Rattle.dsql_store.specs.Entries.{value_at, with_state};
 
 use super::Session;
-use crate::copies::Copies;
+use crate::copies::{copies_of_done, copies_of_failure};
 use crate::failures::{IN_TRANSACTION, NO_TRANSACTION};
+use dsql_driver::Answered;
 use dsql_store::{Note, Store};
 use dsql_value::{Memory, Txt, Value};
 use std::alloc::Global;
@@ -35,29 +36,29 @@ impl Session {
     }
 
     /// Begins a transaction.
-    pub fn begin(&mut self, alloc: Global) -> Result<Copies, Memory>
-        ensures answer { IfOk result (λ copies. copies ≡ copies_of (begun self.old).1) }
+    pub fn begin(&mut self, alloc: Global) -> Result<Answered, Memory>
+        ensures answer { IfOk result (λ answered. answered ≡ copies_of (begun self.old).1) }
         ensures session { OnOk result (self.new ≡ (begun self.old).0) }
         ensures stays { OnErr result (self.new ≡ self.old) }
     {
         if self.in_transaction() {
-            return Copies::of_failure(alloc, IN_TRANSACTION);
+            return copies_of_failure(alloc, IN_TRANSACTION);
         }
         self.undo = Some(Vec::new(alloc));
-        Ok(Copies::of_done())
+        Ok(copies_of_done())
     }
 
     /// Ends a transaction, and leaves what it wrote.
-    pub fn commit(&mut self, alloc: Global) -> Result<Copies, Memory>
-        ensures answer { IfOk result (λ copies. copies ≡ copies_of (committed self.old).1) }
+    pub fn commit(&mut self, alloc: Global) -> Result<Answered, Memory>
+        ensures answer { IfOk result (λ answered. answered ≡ copies_of (committed self.old).1) }
         ensures session { OnOk result (self.new ≡ (committed self.old).0) }
         ensures stays { OnErr result (self.new ≡ self.old) }
     {
         if !self.in_transaction() {
-            return Copies::of_failure(alloc, NO_TRANSACTION);
+            return copies_of_failure(alloc, NO_TRANSACTION);
         }
         self.forget();
-        Ok(Copies::of_done())
+        Ok(copies_of_done())
     }
 
     /// Ends a transaction, if one is open, and drops its notes.
@@ -68,34 +69,41 @@ impl Session {
     }
 
     /// Writes to a store for this session, and notes what the key was if a transaction is open.
-    pub fn write(&mut self, store: &mut Store, key: Txt, value: Option<Value>) -> Result<(), Memory>
-        ensures store { OnOk result (store.new ≡ with_state key value store.old) }
-        ensures session { OnOk result (self.new ≡ noted (record { key = key; value = value_at key store.old }) self.old) }
+    pub fn write(
+        &mut self,
+        alloc: Global,
+        store: &mut Store,
+        key: &Txt,
+        value: Option<Value>,
+    ) -> Result<(), Memory>
+        ensures store { OnOk result (store.new ≡ with_state key.now value store.old) }
+        ensures session { OnOk result (self.new ≡ noted (record { key = key.now; value = value_at key.now store.old }) self.old) }
         ensures store_stays { OnErr result (store.new ≡ store.old) }
         ensures session_stays { OnErr result (self.new ≡ self.old) }
     {
         match &mut self.undo {
-            Some(notes) => write_noted(notes, store, key, value),
-            None => store.write(key, value),
+            Some(notes) => write_noted(alloc, notes, store, key, value),
+            None => store.write(alloc, key.as_str(), value),
         }
     }
 }
 
 /// Writes to a store, and notes what the key was. The room for the note is taken first.
 fn write_noted(
+    alloc: Global,
     notes: &mut Vec<Note>,
     store: &mut Store,
-    key: Txt,
+    key: &Txt,
     value: Option<Value>,
 ) -> Result<(), Memory>
-    ensures store { OnOk result (store.new ≡ with_state key value store.old) }
-    ensures notes { OnOk result (notes.new.items ≡ notes.old.items ++ record { key = key; value = value_at key store.old } ∷ []) }
+    ensures store { OnOk result (store.new ≡ with_state key.now value store.old) }
+    ensures notes { OnOk result (notes.new.items ≡ notes.old.items ++ record { key = key.now; value = value_at key.now store.old } ∷ []) }
     ensures store_stays { OnErr result (store.new ≡ store.old) }
     ensures notes_stay { OnErr result (notes.new.items ≡ notes.old.items) }
 {
     notes.reserve(1)?;
-    let note = store.note(&key)?;
-    store.write(key, value)?;
+    let note = store.note(key)?;
+    store.write(alloc, key.as_str(), value)?;
     notes.push_reserved(note);
     Ok(())
 }
