@@ -13,7 +13,7 @@ use Rattle.dsql_mem.proofs.PlanLemmas.{comes_of-IsLawful}
 
 -- a wire that took a call's answer and noted it is the wire after the call
 pub changed_by_parts : (store : Entries) (call : DriverCall) (before : WireState) (fault : Option DriverAnswer) (session : SessionState) (told : WireTold) (faults : ℕ) (answer : DriverAnswer) → fault ≡ fault_in_place before call → session ≡ (effect_unless fault store before.session call).session → answer ≡ (effect_unless fault store before.session call).answer → told ≡ with_call (call, answer) before.told → faults ≡ faults_after before.faults answer → record { session = session; told = told; planned = before.planned; faults = faults } ≡ after_call store before call
-changed_by_parts store call before fault session heard faults answer d s a h f = rw (h, f, s, a, d) refl
+changed_by_parts store call before fault session told faults answer d s a h f = rw (h, f, s, a, d) refl
 
 -- Memory, or another answer
 memory-or_not : (answer : DriverAnswer) → (answer ≡ Memory) ⊎ (is_memory answer ≡ false)

@@ -79,7 +79,7 @@ impl Connection {
         }
     }
 
-    /// Answers a call on a store and notes it.
+    /// Answers a call on a store and notes it. Nothing can fail once the call was carried out.
     fn hear(
         &mut self,
         alloc: Global,

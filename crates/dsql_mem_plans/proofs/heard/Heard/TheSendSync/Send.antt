@@ -1,4 +1,4 @@
--- A journal for proofs owns nothing, so it may go to another thread.
+-- What a wire heard is a value for proofs: it owns nothing, so it may go to another thread.
 use denote.Param.Send.{IsSend, owning_send, sendable}
 use Rattle.dsql_mem_plans.specs.contracts.heard.Heard.{the_row, the_type}
 
