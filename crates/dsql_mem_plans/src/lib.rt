@@ -2,11 +2,11 @@
 //! which each call has its number.
 #![tactic(auto)]
 
-mod heard;
+mod heard_calls;
 mod log;
 mod plans;
 
-pub use heard::Heard;
+pub use heard_calls::HeardCalls;
 pub use log::Log;
 pub use plans::{
     Plan, PlanMade, Refusal, WirePlanMade, connect_refusal, copied, fault_at, plans_for,

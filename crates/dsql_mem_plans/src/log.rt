@@ -1,7 +1,7 @@
-ghost use Rattle.std.specs.Prelude.{◌≡◌, ◌+◌, length, IfOk, OnOk, OnErr};
+ghost use Rattle.std.specs.Prelude.{◌≡◌, ◌+◌, ◌≤◌, length, IfOk, OnOk, OnErr};
 ghost use Rattle.dsql_driver.specs.Wires.{newly_told, with_call, with_plan};
 
-use crate::heard::Heard;
+use crate::heard_calls::HeardCalls;
 use crate::plans::PlanMade;
 use dsql_driver::{DriverAnswer, DriverCall, Planned};
 use dsql_value::Memory;
@@ -13,7 +13,7 @@ use std::alloc::Global;
 pub struct Log {
     pub number: u32,
     pub count: usize,
-    pub heard: Heard,
+    pub heard: HeardCalls,
     pub plans: Vec<PlanMade>,
     pub ghost counted: { count ≡ length heard.calls },
 }
@@ -28,14 +28,15 @@ impl Log {
         Log {
             number,
             count: 1,
-            heard: Heard::new(),
+            heard: HeardCalls::new(),
             plans: Vec::new(alloc),
         }
     }
 
-    /// The number of the next call that it hears. A wire that has heard as many as can be counted wants memory.
+    /// The number of the next call that it hears. Only a wire that has heard as many as can be counted wants memory.
     pub fn next_call(&self) -> Result<usize, Memory>
-        ensures { IfOk result (λ nth. nth ≡ length (told_of self.now).calls + 1) }
+        ensures ok { IfOk result (λ nth. nth ≡ length (told_of self.now).calls + 1) }
+        ensures full { OnErr result (usize.MAX ≤ length (told_of self.now).calls) }
     {
         self.count.checked_add(1).ok_or(Memory)
     }
@@ -49,7 +50,8 @@ impl Log {
         self.count = nth;
     }
 
-    /// Enters a fault that is planned, behind the calls that were heard so far.
+    /// Enters a fault that is planned, behind the calls that were heard so far. Want of memory, the only error,
+    /// leaves the log as it was.
     pub fn plan(&mut self, nth: u32, what: Planned) -> Result<(), Memory>
         ensures ok { OnOk result (told_of self.new ≡ with_plan (nth, what) (told_of self.old)) }
         ensures err { OnErr result (told_of self.new ≡ told_of self.old) }

@@ -20,7 +20,7 @@ pub type PlanMade = (usize, Plan);
 /// had told by then.
 pub type WirePlanMade = (usize, (u32, Plan));
 
-/// A copy of a planned fault.
+/// A copy of a planned fault. Want of memory is the only error, here and below.
 pub fn copied(what: &Planned) -> Result<Planned, Memory>
     ensures { IfOk result (λ copy. copy ≡ what.now) }
 {

@@ -26,11 +26,11 @@ use denote.Triple.Walked.{says, Stays, walk_of, ends_at, walk_Meets}
 use Rattle.dsql_driver.specs.declared.answer.DriverAnswer.TheVariants.{Done}
 use Rattle.dsql_driver.specs.declared.call.DriverCall.TheVariants.{Connect}
 use Rattle.dsql_mem_plans.proofs.Walks.{none, none_made}
-use Rattle.dsql_mem_plans.specs.contracts.heard.Heard as Heard
-use Rattle.dsql_mem_plans.specs.contracts.heard.Heard.new as F
-use Rattle.dsql_mem_plans.specs.contracts.heard.Heard.new.Key.{name as #self}
-use Rattle.dsql_mem_plans.proofs.heard.Heard.new.Statement as stated
-use Rattle.dsql_mem_plans.proofs.heard.Heard.new.Code as code
+use Rattle.dsql_mem_plans.specs.contracts.heard_calls.HeardCalls as HeardCalls
+use Rattle.dsql_mem_plans.specs.contracts.heard_calls.HeardCalls.new as F
+use Rattle.dsql_mem_plans.specs.contracts.heard_calls.HeardCalls.new.Key.{name as #self}
+use Rattle.dsql_mem_plans.proofs.heard_calls.HeardCalls.new.Statement as stated
+use Rattle.dsql_mem_plans.proofs.heard_calls.HeardCalls.new.Code as code
 
 abbrev function : Fn
 function = code.function
@@ -58,7 +58,7 @@ module _ {M : Type 1} {𝓤 : Ura M} (𝓛 : Logic 𝓤) (at_mem : Memory → SP
     walks =
         let a = z.0.3 in
         let vss = z.0.4 in
-        let heard : (Heard.the_row).Denot = record { calls = (Connect, Done) ∷ [] } in
+        let heard : (HeardCalls.the_row).Denot = record { calls = (Connect, Done) ∷ [] } in
         qed 𝓛 ((raw toks ⊛ ‵ (owns (types_at ended.signature.params z.0.0) a vss)) ∷ raw ((held z.0.0 a).requires z.1) ∷ []) ∵
         keep ! (0 ∷ []) $ split ! $ move ! (1 ∷ []) $ drop ! $
         enter ! C Λ function [] Post $ alloc_all ! (λ l. pass_all ! refl tt $

@@ -26,13 +26,13 @@ use denote.Triple.Spec.{Meets, triple_of}
 use denote.Triple.Table.{entered}
 use denote.Triple.Walked.{says, Stays, stay_dropped, walk_of, ends_at, walk_Meets, Goes-dropped}
 use Rattle.dsql_mem_plans.proofs.Walks.{none, none_made}
-use Rattle.dsql_mem_plans.specs.contracts.heard.Heard as Heard
+use Rattle.dsql_mem_plans.specs.contracts.heard_calls.HeardCalls as HeardCalls
 use Rattle.dsql_driver.specs.contracts.call.DriverCall as DriverCall
 use Rattle.dsql_driver.specs.contracts.answer.DriverAnswer as DriverAnswer
-use Rattle.dsql_mem_plans.specs.contracts.heard.Heard.then as F
-use Rattle.dsql_mem_plans.specs.contracts.heard.Heard.then.Key.{name as #self}
-use Rattle.dsql_mem_plans.proofs.heard.Heard.then.Statement as stated
-use Rattle.dsql_mem_plans.proofs.heard.Heard.then.Code as code
+use Rattle.dsql_mem_plans.specs.contracts.heard_calls.HeardCalls.then as F
+use Rattle.dsql_mem_plans.specs.contracts.heard_calls.HeardCalls.then.Key.{name as #self}
+use Rattle.dsql_mem_plans.proofs.heard_calls.HeardCalls.then.Statement as stated
+use Rattle.dsql_mem_plans.proofs.heard_calls.HeardCalls.then.Code as code
 
 abbrev function : Fn
 function = code.function
@@ -63,7 +63,7 @@ module _ {M : Type 1} {𝓤 : Ura M} (𝓛 : Logic 𝓤) (at_mem : Memory → SP
         let u : Val = vptr a.0.ref_ptr.0 a.0.ref_ptr.1 in
         let v : Val = vptr a.1.0.ref_ptr.0 a.1.0.ref_ptr.1 in
         let w : Val = vptr a.1.1.0.ref_ptr.0 a.1.1.0.ref_ptr.1 in
-        let heard : (Heard.the_row).Denot = record { calls = a.0.now.calls ++ (a.1.0.now, a.1.1.0.now) ∷ [] } in
+        let heard : (HeardCalls.the_row).Denot = record { calls = a.0.now.calls ++ (a.1.0.now, a.1.1.0.now) ∷ [] } in
         qed 𝓛 ((raw toks ⊛ ‵ (owns (types_at ended.signature.params z.0.0) a vss)) ∷ raw ((held z.0.0 a).requires z.1) ∷ []) ∵
         keep ! (0 ∷ []) $ split ! $ move ! (1 ∷ []) $ fsplit ! $ fsplit ! $ feq_l ! (λ is₀. drop ! $ fsplit ! $ fsplit ! $ feq_l ! (λ is₁. drop ! $ fsplit ! $ fsplit ! $ feq_l ! (λ is₂. drop ! $ drop ! $
         regoal ! (λ (us : List Val). prop (WpFn 𝓤 H C Λ function (us ++ (vss.1.0 ++ (vss.1.1.0 ++ []))) Post)) is₀ refl $
@@ -78,7 +78,7 @@ module _ {M : Type 1} {𝓤 : Ura M} (𝓛 : Logic 𝓤) (at_mem : Memory → SP
 
   meets : (𝓣 : Tables 𝓤 H) → Meets 𝓛 ended.signature (WpFn 𝓤 H 𝓣.C 𝓣.Λ function) (closing 𝓛 ended held)
   meets 𝓣 =
-      walk_Meets 𝓛 ended stayed (Goes-dropped 𝓛 3 (RefOf (0 ∷ []) tt (plain (λ _. Heard.the_row)) (λ _. tt)) yes (λ κs x f. refl), (Goes-dropped 𝓛 3 (RefOf (1 ∷ []) tt (plain (λ _. DriverCall.the_row)) (λ _. tt)) yes (λ κs x f. refl), (Goes-dropped 𝓛 3 (RefOf (2 ∷ []) tt (plain (λ _. DriverAnswer.the_row)) (λ _. tt)) yes (λ κs x f. refl), tt))) held
+      walk_Meets 𝓛 ended stayed (Goes-dropped 𝓛 3 (RefOf (0 ∷ []) tt (plain (λ _. HeardCalls.the_row)) (λ _. tt)) yes (λ κs x f. refl), (Goes-dropped 𝓛 3 (RefOf (1 ∷ []) tt (plain (λ _. DriverCall.the_row)) (λ _. tt)) yes (λ κs x f. refl), (Goes-dropped 𝓛 3 (RefOf (2 ∷ []) tt (plain (λ _. DriverAnswer.the_row)) (λ _. tt)) yes (λ κs x f. refl), tt))) held
       (WpFn 𝓤 H 𝓣.C 𝓣.Λ function) (WpFn-mono 𝓤 H 𝓛.laws 𝓣 function) (walks 𝓣.C 𝓣.Λ)
 
 pub then_spec : {M : Type 1} → stated.statement M

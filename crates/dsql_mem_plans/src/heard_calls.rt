@@ -11,29 +11,29 @@ use std::marker::Model;
 /// The calls that a wire heard with their answers, the oldest first. It takes no memory, and its methods do
 /// nothing at run time.
 #[derive(Drop)]
-pub struct Heard {
+pub struct HeardCalls {
     pub ghost calls: { List Told },
 }
 
-impl Model for Heard {
+impl Model for HeardCalls {
     ghost also_owns = { λ _. ftrue };
 }
 
-impl Heard {
+impl HeardCalls {
     /// Just the Connect with which a wire begins.
-    pub fn new() -> Heard
+    pub fn new() -> HeardCalls
         ensures { result.calls ≡ (Connect, Done) ∷ [] }
     {
-        Heard {}
+        HeardCalls {}
     }
 
     /// The same with one call more.
-    pub fn then(&self, _call: &DriverCall, _answer: &DriverAnswer) -> Heard
+    pub fn then(&self, _call: &DriverCall, _answer: &DriverAnswer) -> HeardCalls
         ensures { result.calls ≡ self.now.calls ++ (_call.now, _answer.now) ∷ [] }
     {
-        Heard {}
+        HeardCalls {}
     }
 }
 
 // It owns nothing.
-unsafe impl Send for Heard {}
+unsafe impl Send for HeardCalls {}
