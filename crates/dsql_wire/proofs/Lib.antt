@@ -3,3 +3,4 @@ pub mod Lists
 pub mod Fitting
 pub mod Keeping
 pub mod Opens
+pub mod Calling

@@ -1,3 +1,4 @@
 pub mod Told
 pub mod Journaled
 pub mod Opening
+pub mod Calling

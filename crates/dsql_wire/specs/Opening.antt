@@ -14,9 +14,8 @@ use Rattle.dsql_wire.specs.Journaled.{MayBeSent}
 abbrev pub opens : Permit → Bool
 opens p = is_connect p.call && is_house p.owner && (p.tenure == 1) && (p.call_no == 0) && (p.tx == 0)
 
--- A permit that may come first, twice, and a journal of its connection that nothing was heard of, with memory for an entry.
-pub record IsReady (permit : Permit) (noted : Permit) (journal : Judged) : Type 0 where
-  pub twice : noted ≡ permit
+-- A permit that may come first, and a journal of its connection that nothing was heard of, with memory for an entry.
+pub record IsReady (permit : Permit) (journal : Judged) : Type 0 where
   pub conn : journal.conn ≡ permit.conn
   pub nothing : journal.journal ≡ []
   pub room : 0 < journal.spare

@@ -3,8 +3,8 @@ ghost use Rattle.std.specs.Prelude.{◌≡◌};
 use dsql_journal::Entry;
 use std::marker::Model;
 
-/// An entry that a driver's answer made. It is made only by `connect` and `JournaledWire::perform`, and
-/// never copied. Contracts see the entry.
+/// An entry that a driver's answer made. It is made only as a fleet is asked for a connection and as a wire makes a call,
+/// and never copied. Contracts see the entry.
 #[derive(Drop)]
 pub struct Heard {
     entry: Entry,

@@ -9,10 +9,12 @@ pub mod laws;
 mod opening;
 mod permit;
 mod request;
+mod thin;
 mod wire;
 
 pub use fault::WireFault;
 pub use heard::Heard;
-pub use opening::connect;
-pub use request::Opened;
+pub use opening::{Opened, connect, connect_thin};
+pub use request::OpenedThin;
+pub use thin::{RetiredThin, ThinWire};
 pub use wire::{JournaledWire, Retired};

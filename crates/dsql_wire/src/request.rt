@@ -9,24 +9,23 @@ use crate::fault::WireFault;
 use crate::heard::Heard;
 use crate::journal::JudgedJournal;
 use crate::permit::answered;
-use crate::wire::JournaledWire;
+use crate::thin::ThinWire;
 use dsql_driver::{DriverAnswer, Refused, Wire};
 use dsql_journal::Permit;
 use std::alloc::Global;
 use std::marker::Model;
 
 /// A connection that was asked for, with what was heard of it. Where the driver refused there is no wire.
-pub struct Opened<W: Wire> {
-    pub wire: Option<JournaledWire<W>>,
+pub struct OpenedThin<W: Wire> {
+    pub wire: Option<ThinWire<W>>,
     pub heard: Heard,
 }
 
-/// A connection that may be asked for: its permit, twice, and its journal with room for the first entry.
-/// Contracts see the permit.
+/// A connection that may be asked for: its permit, and its journal with room for the first entry. Contracts see the
+/// permit.
 #[derive(Drop)]
 pub(crate) struct Request {
     permit: Permit,
-    noted: Permit,
     journal: JudgedJournal,
 }
 
@@ -38,7 +37,7 @@ impl Model for Request {
 
     ghost view = { λ r. r.permit };
 
-    ghost invariant = { λ r. IsReady r.permit r.noted r.journal };
+    ghost invariant = { λ r. IsReady r.permit r.journal };
 }
 
 impl Request {
@@ -54,25 +53,29 @@ impl Request {
         if !journal.may_send(&permit) {
             return Err(WireFault::Stray(permit));
         }
-        match journal.make_room(&permit) {
-            Ok(noted) => Ok(Request {
-                permit,
-                noted,
-                journal,
-            }),
+        match journal.make_room() {
+            Ok(()) => Ok(Request { permit, journal }),
             Err(_) => Err(WireFault::Memory(permit)),
         }
     }
 
-    /// The connection's number.
-    pub(crate) fn number(&self) -> u32
-        ensures { result ≡ self.now.conn }
+    /// The permit.
+    pub(crate) fn permit(&self) -> &Permit
+        ensures { result.now ≡ self.now }
     {
-        self.permit.conn
+        &self.permit
+    }
+
+    /// The permit, where the connection isn't asked for.
+    pub(crate) fn into_permit(self) -> Permit
+        ensures { result ≡ self }
+    {
+        let Request { permit, .. } = self;
+        permit
     }
 
     /// It was opened with this wire.
-    pub(crate) fn opened<W: Wire>(self, wire: W) -> Opened<W>
+    pub(crate) fn opened<W: Wire>(self, wire: W) -> OpenedThin<W>
         requires told { IfSome (W.told wire) (λ told. told ≡ newly_told self.conn) }
         requires handles { W.handles wire ≡ [] }
         requires cursors { W.cursors wire ≡ [] }
@@ -84,18 +87,18 @@ impl Request {
     {
         let Request {
             permit,
-            noted,
             mut journal,
         } = self;
-        journal.note(answered(noted, DriverAnswer::Done));
-        Opened {
-            wire: Some(JournaledWire::of(wire, journal)),
-            heard: Heard::new(answered(permit, DriverAnswer::Done)),
+        let entry = answered(permit, DriverAnswer::Done);
+        journal.note(&entry);
+        OpenedThin {
+            wire: Some(ThinWire::of(wire, journal)),
+            heard: Heard::new(entry),
         }
     }
 
     /// The driver refused. Want of memory is no answer.
-    pub(crate) fn refused<W: Wire>(self, refused: Refused) -> Result<Opened<W>, WireFault>
+    pub(crate) fn refused<W: Wire>(self, refused: Refused) -> Result<OpenedThin<W>, WireFault>
         ensures none { IfOk result (λ opened. opened.wire ≡ None) }
         ensures answer { IfOk result (λ opened. refusal_of refused ≡ Some opened.heard.answer) }
         ensures entry { IfOk result (λ opened. opened.heard ≡ entry_of self opened.heard.answer) }
@@ -105,7 +108,7 @@ impl Request {
     {
         let Request { permit, .. } = self;
         match refusal(refused) {
-            Some(answer) => Ok(Opened {
+            Some(answer) => Ok(OpenedThin {
                 wire: None,
                 heard: Heard::new(answered(permit, answer)),
             }),

@@ -1,38 +1,35 @@
-ghost use Rattle.std.specs.Prelude.{◌≡◌, ◌≤◌, ◌∷◌, true, false, reverse, IfOk, IfErr, IfSome, OnOk, OnErr, IsErrOf};
-ghost use Rattle.dsql_driver.specs.Fits.{is_fault};
-ghost use Rattle.dsql_driver.specs.Streams.{HasRisen};
-ghost use Rattle.dsql_driver.specs.Wires.{told_after, planned_after};
-ghost use Rattle.dsql_journal.specs.HandlesAndCursors.{fits_at_its_place};
+ghost use Rattle.std.specs.Prelude.{◌≡◌, ◌<◌, false, reverse, vec_capacity, vec_len, IfOk, IfSome, OnErr, OnOk};
+ghost use Rattle.dsql_driver.specs.Wires.{planned_after};
 ghost use Rattle.dsql_journal.specs.Readers.{is_empty};
 ghost use Rattle.dsql_tenure.specs.Beginnings.{IsBeginningOf};
-ghost use Rattle.dsql_tenure.specs.Judged.{answered as entry_of};
+ghost use Rattle.dsql_wire.specs.Calling.{Calls};
 ghost use Rattle.dsql_wire.specs.Told.{TellsOf};
-ghost use Rattle.dsql_wire.specs.Journaled.{Agrees, MayBeSent, permit_of};
 
 use crate::fault::WireFault;
 use crate::heard::Heard;
-use crate::journal::JudgedJournal;
-use crate::permit::{answered, is_memory};
-use dsql_driver::{Answered, Planned, Wire};
+use crate::permit::{answered, copy_of};
+use crate::thin::{HeardTwice, RetiredThin, ThinWire};
+use dsql_driver::{Planned, Wire};
 use dsql_journal::{Entry, Permit};
 use dsql_value::Memory;
 use std::marker::Model;
 
-/// A driver's wire with its connection's journal. Contracts see the connection's number, the journal, the
-/// newest entry first, and the driver's wire. It can't be dropped, but retired.
+/// A driver's wire with its connection's journal, which is kept. Contracts see the connection's number, the journal,
+/// the newest entry first, and the driver's wire. It can't be dropped, but retired.
 pub struct JournaledWire<W: Wire> {
-    wire: W,
-    journal: JudgedJournal,
+    thin: ThinWire<W>,
+    entries: Vec<Entry>,
 }
 
 impl<W: Wire> Model for JournaledWire<W> {
-    ghost use Rattle.dsql_wire.specs.Journaled.{Journaled, Agrees};
+    ghost use Rattle.std.specs.Prelude.{◌≡◌, reverse};
+    ghost use Rattle.dsql_wire.specs.Journaled.{Journaled};
 
     ghost Value = { Journaled W };
 
-    ghost view = { λ j. record { conn = j.journal.conn; journal = j.journal.journal; wire = j.wire } };
+    ghost view = { λ j. j.thin };
 
-    ghost invariant = { λ j. Agrees (W.told j.wire) (W.handles j.wire) (W.cursors j.wire) j.journal.conn j.journal.journal };
+    ghost invariant = { λ j. j.thin.journal ≡ reverse j.entries.items };
 }
 
 /// What is left of a journaled wire: its connection's number, the journal, oldest first, and the driver's
@@ -44,51 +41,31 @@ pub struct Retired<W> {
 }
 
 impl<W: Wire> JournaledWire<W> {
-    /// The wire of a connection of which just this journal was heard.
-    pub(crate) fn of(wire: W, journal: JudgedJournal) -> JournaledWire<W>
-        requires { Agrees (W.told wire) (W.handles wire) (W.cursors wire) journal.conn journal.journal }
-        ensures conn { result.conn ≡ journal.conn }
-        ensures journal { result.journal ≡ journal.journal }
-        ensures wire { result.wire ≡ wire }
+    /// The wire of a connection of which just these entries were heard, oldest first.
+    pub(crate) fn of(thin: ThinWire<W>, entries: Vec<Entry>) -> JournaledWire<W>
+        requires { thin.journal ≡ reverse entries.items }
+        ensures { result ≡ thin }
     {
-        JournaledWire { wire, journal }
+        JournaledWire { thin, entries }
     }
 
     /// Makes one driver call with leave of the journal's judge, and notes the entry that its answer makes.
     pub fn perform(&mut self, permit: Permit) -> Result<Heard, WireFault>
-        ensures entry { IfOk result (λ heard. heard ≡ entry_of permit heard.answer) }
-        ensures fits { IfOk result (λ heard. fits_at_its_place self.old.journal heard ≡ true) }
-        ensures noted { IfOk result (λ heard. self.new.journal ≡ heard ∷ self.old.journal) }
-        ensures told { IfOk result
-            (λ heard. W.told self.new.wire ≡ told_after permit.call heard.answer (W.told self.old.wire)) }
-        ensures ok { OnOk result (MayBeSent self.old.conn self.old.journal permit) }
-        ensures handed_back { IfErr result (λ fault. permit_of fault ≡ permit) }
-        ensures stray { IsErrOf result (WireFault.Stray permit)
-            → ¬ MayBeSent self.old.conn self.old.journal permit }
-        ensures untouched { IsErrOf result (WireFault.Stray permit) → self.new ≡ self.old }
-        ensures memory { IsErrOf result (WireFault.Memory permit)
-            → MayBeSent self.old.conn self.old.journal permit }
-        ensures err { OnErr result (self.new.journal ≡ self.old.journal) }
-        ensures untold { OnErr result (W.told self.new.wire ≡ W.told self.old.wire) }
-        ensures conn { self.new.conn ≡ self.old.conn }
-        ensures counted { W.faults self.old.wire ≤ W.faults self.new.wire }
-        ensures caused { IfOk result (λ heard. is_fault heard.answer ≡ true
-            → HasRisen (W.faults self.old.wire) (W.faults self.new.wire)) }
-        ensures faultless { IfOk result (λ heard. is_fault heard.answer ≡ false
-            → W.faults self.new.wire ≡ W.faults self.old.wire) }
+        ensures { Calls (λ heard. heard) W.Wire permit self.old self.new result }
     {
-        if !self.journal.may_send(&permit) {
+        if !self.thin.may_send(&permit) {
             return Err(WireFault::Stray(permit));
         }
-        let Ok(noted) = self.journal.make_room(&permit) else {
+        let Ok(noted) = make_room(&mut self.entries, &permit) else {
             return Err(WireFault::Memory(permit));
         };
-        let Answered { answer, copy } = self.wire.call(&permit.call);
-        if is_memory(&answer) {
-            return Err(WireFault::Memory(permit));
+        match self.thin.call(permit) {
+            Ok(HeardTwice { heard, copy }) => {
+                self.entries.push_reserved(answered(noted, copy));
+                Ok(heard)
+            }
+            Err(fault) => Err(fault),
         }
-        self.journal.note(answered(noted, copy));
-        Ok(Heard::new(answered(permit, answer)))
     }
 
     /// The journal, oldest first.
@@ -98,7 +75,9 @@ impl<W: Wire> JournaledWire<W> {
         ensures started { is_empty self.now.journal ≡ false }
         ensures told { IfSome (W.told self.now.wire) (TellsOf self.now.conn self.now.journal) }
     {
-        self.journal.entries()
+        // It vouches for the journal.
+        let _number = self.thin.number();
+        &self.entries
     }
 
     /// Plans a fault in place of the answer to the nth call on this wire, its Connect being the first. What it
@@ -111,7 +90,7 @@ impl<W: Wire> JournaledWire<W> {
         ensures err { OnErr result (W.told self.new.wire ≡ W.told self.old.wire) }
         ensures faultless { W.faults self.new.wire ≡ W.faults self.old.wire }
     {
-        self.wire.plan(nth, what)
+        self.thin.plan(nth, what)
     }
 
     /// Gives the driver's wire back with what was heard on it. It takes no memory.
@@ -122,12 +101,23 @@ impl<W: Wire> JournaledWire<W> {
         ensures beginning { IsBeginningOf self.conn self.journal }
         ensures told { IfSome (W.told self.wire) (TellsOf self.conn self.journal) }
     {
-        let JournaledWire { wire, journal } = self;
-        let (number, journal) = journal.into_parts();
+        let JournaledWire { thin, entries } = self;
+        let RetiredThin { number, wire } = thin.retire();
         Retired {
             number,
-            journal,
+            journal: entries,
             wire,
         }
     }
+}
+
+/// Takes the memory for one entry more, and gives a second permit for it.
+pub(crate) fn make_room(entries: &mut Vec<Entry>, permit: &Permit) -> Result<Permit, Memory>
+    ensures copied { IfOk result (λ copy. copy ≡ permit.now) }
+    ensures room { OnOk result (vec_len entries.new < vec_capacity entries.new) }
+    ensures items { entries.new.items ≡ entries.old.items }
+{
+    let copy = copy_of(permit)?;
+    entries.reserve(1)?;
+    Ok(copy)
 }

@@ -10,7 +10,7 @@ use crate::wires::Wires;
 use dsql_driver::Fleet;
 use dsql_journal::Permit;
 use dsql_value::Memory;
-use dsql_wire::{Heard, Opened, WireFault, connect};
+use dsql_wire::{Heard, OpenedThin, WireFault, connect_thin};
 use std::alloc::Global;
 
 /// Connects a new wire, and puts it into its slot, if the driver doesn't refuse.
@@ -35,7 +35,7 @@ pub fn connect_wire<F: Fleet>(
 {
     let number = permit.conn;
     wires.make_room(number)?;
-    let Opened { wire, heard } = open_wire(wires.alloc(), fleet, permit)?;
+    let OpenedThin { wire, heard } = open_wire(wires.alloc(), fleet, permit)?;
     wires.put_any(number, wire);
     Ok(heard)
 }
@@ -45,7 +45,7 @@ fn open_wire<F: Fleet>(
     alloc: Global,
     fleet: &mut F,
     permit: Permit,
-) -> Result<Opened<F::Wire>, Memory>
+) -> Result<OpenedThin<F::Wire>, Memory>
     requires { opens permit ≡ true }
     ensures heard { IfOk result (λ opened. Answers permit [] opened.heard) }
     ensures wire { IfOk result
@@ -57,7 +57,7 @@ fn open_wire<F: Fleet>(
     ensures unasked { OnErr result (F.told fleet.new ≡ F.told fleet.old) }
     ensures able { SameAbility F.Fleet fleet.old fleet.new }
 {
-    match connect(alloc, fleet, permit) {
+    match connect_thin(alloc, fleet, permit) {
         Ok(opened) => Ok(opened),
         Err(WireFault::Memory(_)) => Err(Memory),
         Err(WireFault::Stray(_)) => unreachable!(),

@@ -7,7 +7,7 @@ ghost use Rattle.dsql_wires.specs.WiresFit.{slot};
 
 use crate::wires::Wires;
 use dsql_driver::Fleet;
-use dsql_wire::{JournaledWire, Retired};
+use dsql_wire::{RetiredThin, ThinWire};
 
 /// Gives the wire of this connection back to the fleet. What it tells, if it tells, is just its journal.
 pub fn retire<F: Fleet>(wires: &mut Wires<F::Wire>, fleet: &mut F, conn: u32)
@@ -38,7 +38,7 @@ pub fn retire_all<F: Fleet>(wires: Wires<F::Wire>, fleet: &mut F)
 }
 
 /// Gives the wire of this connection back, if there is one.
-fn retire_slot<F: Fleet>(slot: Option<JournaledWire<F::Wire>>, number: u32, fleet: &mut F)
+fn retire_slot<F: Fleet>(slot: Option<ThinWire<F::Wire>>, number: u32, fleet: &mut F)
     ensures retired { F.told fleet.new
         ≡ retired_slot F.Wire.told number slot (F.told fleet.old) }
     ensures able { SameAbility F.Fleet fleet.old fleet.new }
@@ -50,16 +50,12 @@ fn retire_slot<F: Fleet>(slot: Option<JournaledWire<F::Wire>>, number: u32, flee
 }
 
 /// Gives a wire back under this number.
-fn give_back<F: Fleet>(wire: JournaledWire<F::Wire>, number: u32, fleet: &mut F)
+fn give_back<F: Fleet>(wire: ThinWire<F::Wire>, number: u32, fleet: &mut F)
     ensures retired { F.told fleet.new
         ≡ retired_after number (F.Wire.told wire.wire) (F.told fleet.old) }
     ensures exact { IfSome (F.Wire.told wire.wire) (TellsOf wire.conn wire.journal) }
     ensures able { SameAbility F.Fleet fleet.old fleet.new }
 {
-    let Retired {
-        number: _,
-        journal: _,
-        wire,
-    } = wire.retire();
+    let RetiredThin { number: _, wire } = wire.retire();
     fleet.retire(number, wire);
 }

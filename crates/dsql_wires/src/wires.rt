@@ -11,15 +11,15 @@ ghost use Rattle.dsql_wires.specs.WiresFit.{slot, WiresFit, PlansFit, KeepsFit, 
 use dsql_driver::{Planned, Wire};
 use dsql_journal::Permit;
 use dsql_value::Memory;
-use dsql_wire::{Heard, JournaledWire, WireFault};
+use dsql_wire::{Heard, ThinWire, WireFault};
 use std::alloc::{AllocError, Global};
 use std::marker::Model;
 
-/// The wires of a run's connections with their journals, by the connections' numbers. A wire is never
+/// The wires of a run's connections with their judges, by the connections' numbers. A wire is never
 /// dropped: it is retired. Contracts see the list of the slots.
 pub struct Wires<W: Wire> {
     alloc: Global,
-    slots: Vec<Option<JournaledWire<W>>>,
+    slots: Vec<Option<ThinWire<W>>>,
 }
 
 impl<W: Wire> Model for Wires<W> {
@@ -65,7 +65,7 @@ impl<W: Wire> Wires<W> {
     }
 
     /// Puts the wire of this connection into its slot.
-    pub(crate) fn put(&mut self, number: u32, wire: JournaledWire<W>)
+    pub(crate) fn put(&mut self, number: u32, wire: ThinWire<W>)
         requires room { number < length self.old }
         requires empty { slot self.old number ≡ None }
         ensures { self.new ≡ slice_set self.old number (Some wire) }
@@ -77,7 +77,7 @@ impl<W: Wire> Wires<W> {
     }
 
     /// The same, if there is a wire.
-    pub(crate) fn put_any(&mut self, number: u32, wire: Option<JournaledWire<W>>)
+    pub(crate) fn put_any(&mut self, number: u32, wire: Option<ThinWire<W>>)
         requires room { number < length self.old }
         requires empty { slot self.old number ≡ None }
         ensures here { slot self.new number ≡ wire }
@@ -90,7 +90,7 @@ impl<W: Wire> Wires<W> {
     }
 
     /// Takes the wire of this connection out of its slot.
-    pub(crate) fn take(&mut self, number: u32) -> JournaledWire<W>
+    pub(crate) fn take(&mut self, number: u32) -> ThinWire<W>
         requires { IsSome (slot self.old number) }
         ensures wire { slot self.old number ≡ Some result }
         ensures after { self.new ≡ slice_set self.old number None }
@@ -122,7 +122,7 @@ impl<W: Wire> Wires<W> {
     }
 
     /// The slots, in the order of the connections' numbers.
-    pub(crate) fn into_slots(self) -> Vec<Option<JournaledWire<W>>>
+    pub(crate) fn into_slots(self) -> Vec<Option<ThinWire<W>>>
         ensures slots { result.items ≡ self }
         ensures few { vec_len result ≤ 2 ^ 32 }
     {
@@ -150,7 +150,7 @@ impl<W: Wire> Wires<W> {
 }
 
 /// Makes one driver call on a wire whose journal lets it be sent.
-fn perform_on<W: Wire>(wire: &mut JournaledWire<W>, permit: Permit) -> Result<Heard, Memory>
+fn perform_on<W: Wire>(wire: &mut ThinWire<W>, permit: Permit) -> Result<Heard, Memory>
     requires { MayBeSent wire.old.conn wire.old.journal permit }
     ensures entry { IfOk result (λ heard. heard ≡ answered permit heard.answer) }
     ensures fits { IfOk result (λ heard. fits_at_its_place wire.old.journal heard ≡ true) }
@@ -166,7 +166,7 @@ fn perform_on<W: Wire>(wire: &mut JournaledWire<W>, permit: Permit) -> Result<He
 }
 
 /// Plans a fault on a wire.
-fn plan_on<W: Wire>(wire: &mut JournaledWire<W>, nth: u32, what: Planned) -> Result<(), Memory>
+fn plan_on<W: Wire>(wire: &mut ThinWire<W>, nth: u32, what: Planned) -> Result<(), Memory>
     ensures planned { OnOk result (HearsPlan W.told (nth, what) wire.old wire.new) }
     ensures err { OnErr result (SameHeard W.told wire.old wire.new) }
 {

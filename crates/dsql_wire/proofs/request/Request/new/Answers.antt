@@ -12,7 +12,6 @@ pub invariant_of-result : goal.invariant_of-result
 invariant_of-result c =
     let allowed : c.may_send.result ≡ true = grind (arith, c.if-not-may_send.false) in
     record {
-      twice = c.in-Ok.ensures.copied;
       conn = c.in-Ok.ensures.conn ∙ c.new-journal.ensures.conn;
       nothing = c.in-Ok.ensures.journal ∙ c.new-journal.ensures.journal;
       room = c.in-Ok.ensures.room;

@@ -1,6 +1,5 @@
-use Rattle.std.proofs.Common.{◌≡◌, ◌∷◌, [], refl, ◌∙◌, ap}
+use Rattle.std.proofs.Common.{◌≡◌, ◌∷◌, [], refl, ◌∙◌}
 use Rattle.dsql_driver.specs.declared.answer.DriverAnswer.TheVariants.{Done}
-use Rattle.dsql_journal.specs.declared.entry.Permit.{Permit}
 use Rattle.dsql_tenure.specs.Judged.{answered}
 use Rattle.dsql_wire.proofs.Fitting.{same_beginning}
 use Rattle.dsql_wire.proofs.Opens.{begins_done, fits_done, agrees_new}
@@ -9,17 +8,17 @@ use Rattle.dsql_wire.proofs.request.Request.opened.Goals as goal
 pub note-requires-clause-follows : goal.note-requires-clause-follows
 note-requires-clause-follows g c =
     let r = c.self.invariant in
-    same_beginning _ _ _ _ _ _ r.conn (c.answered.ensures ∙ ap (λ (p : Permit). answered p Done) r.twice) r.nothing (begins_done c.self.inside.permit r.may)
+    same_beginning _ _ _ _ _ _ r.conn c.answered-entry.ensures r.nothing (begins_done c.self.inside.permit r.may)
 
 pub of-requires : goal.of-requires
 of-requires g c =
     let r = c.self.invariant in
-    let is : c.answered.result ≡ answered c.self.inside.permit Done = c.answered.ensures ∙ ap (λ (p : Permit). answered p Done) r.twice in
+    let is : c.answered-entry.result ≡ answered c.self.inside.permit Done = c.answered-entry.ensures in
     let grows : c.note.new.self.journal ≡ answered c.self.inside.permit Done ∷ [] = c.note.ensures.journal ∙ rw (is, r.nothing) refl in
     let conn : c.note.new.self.conn ≡ c.self.inside.permit.conn = c.note.ensures.conn ∙ r.conn in
     rw (grows, conn) (agrees_new _ _ _ c.self.inside.permit r.may (rw (← c.self.view_is) at c.requires.told))
 
 pub returns-clause-fits : goal.returns-clause-fits
 returns-clause-fits g c =
-    let is : c.new.result ≡ answered c.self.inside.permit Done = c.new.ensures ∙ c.answered-2.ensures in
+    let is : c.new.result ≡ answered c.self.inside.permit Done = c.new.ensures ∙ c.answered-entry.ensures in
     rw is (fits_done c.self.inside.permit c.self.invariant.may)
