@@ -1,13 +1,14 @@
 -- An answer to the layer itself, where it opened a connection or closed it.
-use Rattle.std.proofs.Common.{◌≡◌, ℕ, ◌==◌, true, false, ◌&&◌, List, [], ◌∷◌, Option, Some, refl, sym, ap, ◌∙◌, subst}
+use Rattle.std.proofs.Common.{◌≡◌, ℕ, ◌==◌, true, false, not, ◌&&◌, ◌||◌, List, [], ◌∷◌, Option, Some, None, refl, sym, ap, ◌∙◌, subst}
 use Rattle.std.specs.Prelude.{slice_set}
 use Rattle.std.proofs.lemmas.List.{set-get_or}
 use Rattle.dsql_driver.specs.declared.call.DriverCall.{DriverCall}
 use Rattle.dsql_driver.specs.declared.call.DriverCall.TheVariants.{Connect, Shut}
 use Rattle.dsql_driver.specs.Kinds.{is_connect, is_shut}
 use Rattle.dsql_journal.specs.declared.entry.Entry.{Entry}
+use Rattle.dsql_journal.specs.Kinds.{is_house, same_owner}
 use Rattle.dsql_pool.specs.declared.conn.Place.{Place}
-use Rattle.dsql_pool.specs.declared.conn.Place.TheVariants.{Opening, Closing}
+use Rattle.dsql_pool.specs.declared.conn.Place.TheVariants.{Idle, Lent, Opening, Closing}
 use Rattle.dsql_pool.specs.Pooled.{Pooled, next_tenure}
 use Rattle.dsql_work.specs.declared.work.Work.{Work}
 use Rattle.dsql_work.specs.declared.work.Work.TheVariants.{HandOut, Fetch}
@@ -19,7 +20,7 @@ use Rattle.dsql_history.specs.Readers.Owed.{answered}
 use Rattle.dsql_history.specs.Readers.Works.{work}
 use Rattle.dsql_history.specs.Rules.Moves.{hears_in, is_house_entry}
 use Rattle.dsql_history.specs.Legal.{Lawful}
-use Rattle.dsql_laws.proofs.Tests.{both}
+use Rattle.dsql_laws.proofs.Tests.{both, same_number}
 use Rattle.dsql_calls.specs.declared.call.CallRow.{CallRow}
 use Rattle.dsql_desk.specs.Adding.{opens_or_shuts}
 use Rattle.dsql_calls.specs.Calls.{KeepsCalls, nobody, row_at}
@@ -73,3 +74,26 @@ lent_owes_none e p (Some Closing) hears other =
     let o = opens_none e.call other in
     absurd (let no : false ≡ true = sym o.1 ∙ b.0 in cc)
 lent_owes_none e p at hears other = refl
+
+-- what opens or shuts a connection is heard by the layer itself, for no call
+
+house_number : (e : Entry) → is_house_entry e ≡ true → e.call_no ≡ 0
+house_number e house = same_number e.call_no 0 (both (is_house e.owner) (e.call_no == 0) house).1
+
+opens_one : (q : DriverCall) → opens_or_shuts q ≡ true → (is_connect q || is_shut q) ≡ true
+opens_one Connect opens = refl
+opens_one Shut opens = refl
+opens_one q opens = absurd cc
+
+pub opened_for_no_call : (e : Entry) (p : Pooled) (at : Option Place) → hears_in p at e ≡ true → opens_or_shuts e.call ≡ true → e.call_no ≡ 0
+opened_for_no_call e p (Some (Opening wanted)) hears opens =
+    let rest = both (is_connect e.call) ((e.tenure == 1) && is_house_entry e) hears in
+    house_number e (both (e.tenure == 1) (is_house_entry e) rest.1).1
+opened_for_no_call e p (Some Closing) hears opens =
+    let rest = both (is_shut e.call) ((e.tenure == next_tenure p e.conn) && is_house_entry e) hears in
+    house_number e (both (e.tenure == next_tenure p e.conn) (is_house_entry e) rest.1).1
+opened_for_no_call e p (Some (Lent tenure owner)) hears opens =
+    let lent = (both (not (is_connect e.call || is_shut e.call)) ((e.tenure == tenure) && same_owner e.owner owner) hears).0 in
+    absurd (let no : false ≡ true = sym (ap (λ b. not b) (opens_one e.call opens)) ∙ lent in cc)
+opened_for_no_call e p (Some Idle) hears opens = absurd cc
+opened_for_no_call e p None hears opens = absurd cc

@@ -11,7 +11,7 @@ use Rattle.dsql_history.specs.Readers.Tries.{newest_answer}
 use Rattle.dsql_history.specs.Legal.{Lawful, Calm}
 use Rattle.dsql_laws.specs.OwedMade.{with_moves}
 use Rattle.dsql_desk.specs.declared.desk.Desk.{Desk}
-use Rattle.dsql_desk.specs.Desk.{past, Tables}
+use Rattle.dsql_desk.specs.Desk.{trimmed, past, Tables}
 
 -- the tables stand, the event may come next, and there is memory for it
 pub record MayAdd (desk : Desk) (event : Event) : Type 0 where
@@ -24,6 +24,7 @@ pub record MayAdd (desk : Desk) (event : Event) : Type 0 where
 pub record Adds (old new : Desk) (added : Event) : Type 0 where
   pub tables : Tables new
   pub event : past new ≡ added ∷ past old
+  pub trimmed : trimmed new ≡ trimmed old
   pub paid : new.paid + 1 ≡ old.paid
   pub closed_by : new.closed_by ≡ old.closed_by
   pub pool : new.pool ≡ old.pool
@@ -44,6 +45,7 @@ pub record MayAddMoves (desk : Desk) (moves : List Move) (answer : DriverAnswer)
 pub record AddsMoves (old new : Desk) (moves : List Move) : Type 0 where
   pub tables : Tables new
   pub came : past new ≡ with_moves moves (past old)
+  pub trimmed : trimmed new ≡ trimmed old
   pub paid : new.paid + length moves ≡ old.paid
   pub closed_by : new.closed_by ≡ old.closed_by
   pub pool : new.pool ≡ old.pool

@@ -25,7 +25,7 @@ use Rattle.dsql_laws.specs.Asked.{with_asked}
 use Rattle.dsql_laws.specs.Leaving.{MayLeave}
 use Rattle.dsql_laws.specs.OwedMade.{with_moves}
 use Rattle.dsql_desk.specs.declared.desk.Desk.{Desk}
-use Rattle.dsql_desk.specs.Desk.{past, Stands}
+use Rattle.dsql_desk.specs.Desk.{trimmed, past, Stands}
 use Rattle.dsql_calls.specs.Settling.{reply_or}
 use Rattle.dsql_telling.specs.Heard.{Decides}
 
@@ -46,12 +46,14 @@ pub record Appends (old new : Desk) (added : Event) : Type 0 where
   pub stands : Stands new
   pub paid : new.paid + length (owed (added ∷ past old)) + 1 ≡ old.paid
   pub event : past new ≡ with_moves (owed (added ∷ past old)) (added ∷ past old)
+  pub trimmed : trimmed new ≡ trimmed old
 
 -- the moves came that were owed
 pub record Makes (old new : Desk) : Type 0 where
   pub stands : Stands new
   pub paid : new.paid + length (owed (past old)) ≡ old.paid
   pub moves : past new ≡ with_moves (owed (past old)) (past old)
+  pub trimmed : trimmed new ≡ trimmed old
 
 -- connection c may leave its call, of which its journal tells this, and there is memory for the moves that this makes
 pub record MayGiveBack (desk : Desk) (c : ℕ) (told : Fate) : Type 0 where
@@ -66,6 +68,7 @@ pub record GivesBack (old new : Desk) (c : ℕ) : Type 0 where
   pub stands : Stands new
   pub paid : new.paid + length (given_back (past old) c) ≡ old.paid
   pub moves : past new ≡ with_moves (given_back (past old) c) (past old)
+  pub trimmed : trimmed new ≡ trimmed old
 
 -- call n may ask for a connection, and there is memory for what comes of it
 pub record MayAskNow (desk : Desk) (n : ℕ) : Type 0 where
@@ -80,6 +83,7 @@ pub record Asks (old new : Desk) (n : ℕ) : Type 0 where
   pub stands : Stands new
   pub paid : new.paid + 1 ≡ old.paid
   pub event : past new ≡ with_asked n (ask_outcome (past old) n) (past old)
+  pub trimmed : trimmed new ≡ trimmed old
 
 -- the event that comes of call n's asking, if one does
 abbrev pub event_asked : ℕ → Result Asked AskFault → Option Event

@@ -17,11 +17,15 @@ use Rattle.dsql_desk.specs.declared.desk.Desk.{Desk}
 
 -- the events so far, the newest first
 abbrev pub past : Desk → List Event
-past d = reverse d.history.items
+past d = d.history.past
+
+-- how many of them, the oldest, were trimmed
+abbrev pub trimmed : Desk → ℕ
+trimmed d = d.history.trimmed
 
 -- each table has room for as many events as were paid for
 pub record HasRoom (d : Desk) : Type 0 where
-  pub history : vec_len d.history + d.paid ≤ vec_capacity d.history
+  pub history : d.paid ≤ d.history.spare
   pub made : vec_len d.made + d.paid ≤ vec_capacity d.made
   pub calls : vec_len d.calls + d.paid ≤ vec_capacity d.calls
   pub unfinished : vec_len d.unfinished + d.paid ≤ vec_capacity d.unfinished

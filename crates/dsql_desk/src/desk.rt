@@ -1,12 +1,13 @@
 //! What is kept of the present: that of a run that begins, and its room.
-ghost use Rattle.std.specs.Prelude.{◌≡◌, ◌∷◌, [], IfOk, OnOk};
+ghost use Rattle.std.specs.Prelude.{◌≡◌, ◌≤◌, ◌∷◌, [], length, IfOk, OnOk};
 ghost use Rattle.dsql_calls.specs.Calls.{nobody};
-ghost use Rattle.dsql_desk.specs.Desk.{past, Stands};
+ghost use Rattle.dsql_desk.specs.Desk.{trimmed, past, Stands};
 ghost use Rattle.dsql_history.specs.Rules.Settled.{Settled};
 ghost use Rattle.dsql_history.specs.declared.event.Event.TheVariants.{Run};
 
 use dsql_calls::{CallRow, NoRoom, Tried};
 use dsql_driver::Caps;
+use dsql_event_log::EventLog;
 use dsql_exchanged::Exchanged;
 use dsql_history::{CallRecord, DbEnd, Event, Work};
 use dsql_pool::Pool;
@@ -18,8 +19,8 @@ use std::alloc::Global;
 /// What is kept of the present, beside the history.
 #[derive(Drop)]
 pub struct Desk {
-    /// All that happened, the oldest first.
-    pub history: Vec<Event>,
+    /// All that happened.
+    pub history: EventLog,
     pub caps: Caps,
     /// What closed the database, if something did.
     pub closed_by: Option<DbEnd>,
@@ -47,10 +48,12 @@ impl Desk {
         requires { version ≡ 1 }
         ensures stands { IfOk result (λ d. Stands d) }
         ensures past { IfOk result (λ d. past d ≡ Run version caps ∷ []) }
+        ensures trimmed { IfOk result (λ d. trimmed d ≡ 0) }
         ensures settled { IfOk result (λ d. Settled (past d)) }
     {
-        let mut history = Vec::new(alloc);
-        history.push(Event::Run { version, caps })?;
+        let mut history = EventLog::new(alloc);
+        history.reserve(1)?;
+        history.note(Event::Run { version, caps });
         let mut made = Vec::new(alloc);
         made.push(Exchanged::new())?;
         let mut calls = Vec::new(alloc);
@@ -70,11 +73,23 @@ impl Desk {
         })
     }
 
+    /// Trims the history: the events so far are kept no more.
+    pub fn trim(&mut self)
+        requires stands { Stands self.old }
+        requires few { length (past self.old) ≤ u32.MAX }
+        ensures stands { Stands self.new }
+        ensures past { past self.new ≡ past self.old }
+        ensures trimmed { trimmed self.new ≡ length (past self.new) }
+    {
+        self.history.trim();
+    }
+
     /// Takes the memory for some events.
     pub fn pay(&mut self, events: u32) -> Result<(), NoRoom>
         requires { Stands self.old }
         ensures stands { Stands self.new }
         ensures past { past self.new ≡ past self.old }
+        ensures trimmed { trimmed self.new ≡ trimmed self.old }
         ensures paid { OnOk result (self.new.paid ≡ events) }
     {
         let count = events as usize;

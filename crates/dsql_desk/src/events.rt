@@ -3,7 +3,7 @@
 ghost use Rattle.std.specs.Prelude.{◌≡◌, ◌+◌, ◌∷◌, true, false, is_some};
 ghost use Rattle.dsql_desk.specs.Adding.{opens_or_shuts};
 ghost use Rattle.dsql_desk.specs.Appending.{MayAppend, MayAskNow, MayGiveBack, Asks, event_asked, Appends, DecidesNow, GivesBack, Makes, is_close, reply_now};
-ghost use Rattle.dsql_desk.specs.Desk.{past, Stands, Owes};
+ghost use Rattle.dsql_desk.specs.Desk.{trimmed, past, Stands, Owes};
 ghost use Rattle.dsql_telling.specs.Heard.{HearsRows};
 ghost use Rattle.dsql_telling.specs.Starts.{Starts};
 ghost use Rattle.dsql_history.specs.Readers.Calls.{reply_due};
@@ -54,6 +54,7 @@ impl Desk {
         ensures owes { Owes self.new }
         ensures paid { self.new.paid + 1 ≡ self.old.paid }
         ensures event { past self.new ≡ Event.Entered client call Op.DbClose ∷ past self.old }
+        ensures trimmed { trimmed self.new ≡ trimmed self.old }
     {
         self.add_call(call, client, Op::DbClose, start);
         self.closed_by = first_end(self.closed_by, DbEnd::Close);
@@ -79,6 +80,7 @@ impl Desk {
         ensures owes { Owes self.new }
         ensures paid { self.new.paid + 1 ≡ self.old.paid }
         ensures event { past self.new ≡ Event.Heard entry ∷ past self.old }
+        ensures trimmed { trimmed self.new ≡ trimmed self.old }
     {
         answer(&mut self.pool, entry.conn, &entry.answer);
         self.add_house_answer(entry);
@@ -146,6 +148,7 @@ impl Desk {
         ensures owes { Owes self.new }
         ensures paid { self.new.paid + 1 ≡ self.old.paid }
         ensures event { past self.new ≡ told control ∷ past self.old }
+        ensures trimmed { trimmed self.new ≡ trimmed self.old }
     {
         self.add_beside(event_told(control));
         control_pool(&mut self.pool, control);
@@ -186,6 +189,7 @@ impl Desk {
         ensures owes { Owes self.new }
         ensures paid { self.new.paid + 1 ≡ self.old.paid }
         ensures event { past self.new ≡ Event.Ended ∷ past self.old }
+        ensures trimmed { trimmed self.new ≡ trimmed self.old }
     {
         self.add_end();
         self.closed_by = first_end(self.closed_by, DbEnd::EndOfRun);

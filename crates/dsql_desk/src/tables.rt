@@ -13,7 +13,7 @@ ghost use Rattle.dsql_history.specs.Readers.Works.{work};
 use crate::desk::Desk;
 use dsql_calls::settling::{forget, take_reply};
 use dsql_calls::tries::{note_tries, note_try};
-use dsql_calls::writes::{note, note_moves, put, take_out};
+use dsql_calls::writes::{put, take_out};
 use dsql_calls::{CallRow, CallStart, Tried};
 use dsql_driver::DriverAnswer;
 use dsql_exchanged::exchanges::{note_all_lent, note_exchange, note_lent};
@@ -33,14 +33,11 @@ impl Desk {
         ensures { Adds self.old self.new (Event.Entered client call op) }
     {
         self.paid -= 1;
-        note(
-            &mut self.history,
-            Event::Entered {
-                client,
-                n: call,
-                op,
-            },
-        );
+        self.history.note(Event::Entered {
+            client,
+            n: call,
+            op,
+        });
         put(
             &mut self.calls,
             CallRow {
@@ -71,7 +68,7 @@ impl Desk {
         self.paid -= 1;
         note_exchange(&mut self.made, &entry);
         tell_answer(&mut self.calls, &mut self.rows, &entry, copy, reply);
-        note(&mut self.history, Event::Heard(entry));
+        self.history.note(Event::Heard(entry));
     }
 
     /// A connection was opened or closed, or couldn't be opened.
@@ -83,7 +80,7 @@ impl Desk {
     {
         self.paid -= 1;
         note_exchange(&mut self.made, &entry);
-        note(&mut self.history, Event::Heard(entry));
+        self.history.note(Event::Heard(entry));
     }
 
     /// The pool moves a connection that wasn't refused.
@@ -95,7 +92,7 @@ impl Desk {
         self.paid -= 1;
         note_try(&mut self.calls, it, DriverAnswer::Bad);
         note_lent(&mut self.made, it);
-        note(&mut self.history, Event::Pool(it));
+        self.history.note(Event::Pool(it));
     }
 
     /// The moves of the pool's newest call come, one after another. This was answered just before the first.
@@ -106,7 +103,7 @@ impl Desk {
         let count = self.pool.moves().len();
         note_tries(&mut self.calls, self.pool.moves(), answer);
         note_all_lent(&mut self.made, self.pool.moves());
-        note_moves(&mut self.history, self.pool.moves());
+        self.history.note_moves(self.pool.moves());
         self.paid -= count;
     }
 
@@ -117,7 +114,7 @@ impl Desk {
         ensures { Adds self.old self.new event }
     {
         self.paid -= 1;
-        note(&mut self.history, event);
+        self.history.note(event);
     }
 
     /// A call has its reply.
@@ -127,7 +124,7 @@ impl Desk {
     {
         self.paid -= 1;
         forget(&mut self.calls, call);
-        note(&mut self.history, Event::Replied { n: call, reply });
+        self.history.note(Event::Replied { n: call, reply });
         take_out(&mut self.unfinished, call);
     }
 
@@ -139,7 +136,7 @@ impl Desk {
     {
         let reply = take_reply(&mut self.calls, call, self.closed_by, self.caps.pinger);
         self.paid -= 1;
-        note(&mut self.history, Event::Replied { n: call, reply });
+        self.history.note(Event::Replied { n: call, reply });
         take_out(&mut self.unfinished, call);
     }
 
@@ -149,7 +146,7 @@ impl Desk {
         ensures { Adds self.old self.new Event.Ended }
     {
         self.paid -= 1;
-        note(&mut self.history, Event::Ended);
+        self.history.note(Event::Ended);
         self.ended = true;
         self.rows.close_all();
     }

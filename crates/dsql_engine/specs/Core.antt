@@ -12,9 +12,10 @@ use Rattle.dsql_going.specs.Answers.{why_blocked}
 use Rattle.dsql_going.specs.Stepping.{events_of_a_step}
 use Rattle.dsql_steps.specs.Groups.{most_events}
 
--- what happened, the newest first; which driver calls of clients' calls are under way, the oldest first; and the connection of the layer's own driver call that is under way, if one is
+-- what happened, the newest first; how many of the events, the oldest, were trimmed; which driver calls of clients' calls are under way, the oldest first; and the connection of the layer's own driver call that is under way, if one is
 pub record Core : Type 0 where
   pub past : List Event
+  pub trimmed : ℕ
   pub flights : List Flight
   pub chore : Option ℕ
 

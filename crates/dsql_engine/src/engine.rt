@@ -26,7 +26,8 @@ use std::alloc::Global;
 use std::marker::Model;
 pub use steps::HeardBack;
 
-/// A run of the layer. Contracts see it as its history, the newest event first, and what is under way.
+/// A run of the layer. Contracts see it as its history, the newest event first, how many of its events were trimmed, and what is
+/// under way.
 #[derive(Drop)]
 pub struct Engine {
     alloc: Global,
@@ -43,11 +44,11 @@ impl Model for Engine {
     ghost use Rattle.dsql_history.specs.Rules.Settled.{Settled};
     ghost use Rattle.dsql_engine.specs.Core.{Core, HasRoomForEnd};
     ghost use Rattle.dsql_going.specs.Stepping.{are_of_unfinished};
-    ghost use Rattle.dsql_desk.specs.Desk.{past, Stands};
+    ghost use Rattle.dsql_desk.specs.Desk.{past, trimmed, Stands};
 
     ghost Value = { Core };
 
-    ghost view = { λ e. record { past = past e.desk; flights = e.flights.flights; chore = e.chore } };
+    ghost view = { λ e. record { past = past e.desk; trimmed = trimmed e.desk; flights = e.flights.flights; chore = e.chore } };
 
     ghost invariant = { λ e. Stands e.desk × Settled (past e.desk) × (is_empty (past e.desk) ≡ false) × (are_of_unfinished (past e.desk) e.flights.flights ≡ true) × HasRoomForEnd (past e.desk) };
 }
@@ -59,6 +60,7 @@ impl Engine {
         requires { version ≡ 1 }
         ensures begun { IfOk result (λ e. e.past ≡ Run version caps ∷ []) }
         ensures free { IfOk result (λ e. (e.flights ≡ []) × (e.chore ≡ None)) }
+        ensures kept { IfOk result (λ e. e.trimmed ≡ 0) }
         ensures legal { IfOk result (λ e. Legal e.past) }
     {
         let desk = Desk::start(alloc, version, caps)?;
@@ -78,6 +80,7 @@ impl Engine {
         ensures group { OnOk result (self.new.past ≡ gone_on (call_of self.old.past client) self.old.past) }
         ensures next { IfOk result (λ next. HasGoneOn self.new.past self.old.flights self.new.flights (call_of self.old.past client) next) }
         ensures chore { self.new.chore ≡ self.old.chore }
+        ensures trimmed { self.new.trimmed ≡ self.old.trimmed }
         ensures err { OnErr result (self.new ≡ self.old) }
         ensures legal { Legal self.new.past }
     {
@@ -94,6 +97,7 @@ impl Engine {
         ensures group { OnOk result (self.new.past ≡ after_control self.old.past control) }
         ensures flights { self.new.flights ≡ self.old.flights }
         ensures chore { self.new.chore ≡ self.old.chore }
+        ensures trimmed { self.new.trimmed ≡ self.old.trimmed }
         ensures err { OnErr result (self.new ≡ self.old) }
         ensures legal { Legal self.new.past }
     {
@@ -109,11 +113,23 @@ impl Engine {
         ensures group { OnOk result (self.new.past ≡ after_end self.old.past) }
         ensures flights { self.new.flights ≡ self.old.flights }
         ensures chore { self.new.chore ≡ self.old.chore }
+        ensures trimmed { self.new.trimmed ≡ self.old.trimmed }
         ensures err { OnErr result (self.new ≡ self.old) }
         ensures legal { Legal self.new.past }
     {
         pay(&mut self.desk, &mut self.flights)?;
         end_run(&mut self.desk);
         Ok(())
+    }
+
+    /// Trims the history: the events so far aren't in the one that is handed out any more.
+    pub fn trim(&mut self)
+        requires room { length self.old.past < most_events }
+        ensures past { self.new.past ≡ self.old.past }
+        ensures flights { self.new.flights ≡ self.old.flights }
+        ensures chore { self.new.chore ≡ self.old.chore }
+        ensures trimmed { self.new.trimmed ≡ length self.new.past }
+    {
+        self.desk.trim();
     }
 }

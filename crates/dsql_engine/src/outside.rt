@@ -4,7 +4,7 @@ ghost use Rattle.dsql_journal.specs.Readers.{is_empty};
 ghost use Rattle.dsql_history.specs.Readers.Course.{has_ended};
 ghost use Rattle.dsql_history.specs.Rules.House.{is_quiet};
 ghost use Rattle.dsql_history.specs.Rules.Settled.{Settled};
-ghost use Rattle.dsql_desk.specs.Desk.{past, Stands};
+ghost use Rattle.dsql_desk.specs.Desk.{trimmed, past, Stands};
 ghost use Rattle.dsql_going.specs.Reaching.{CanPay, Reaches};
 ghost use Rattle.dsql_going.specs.Stepping.{events_of_a_step};
 ghost use Rattle.dsql_steps.specs.Groups.{after_control, after_end};
@@ -19,6 +19,7 @@ pub fn control(desk: &mut Desk, control: Control)
     requires begun { is_empty (past desk.old) ≡ false }
     ensures stands { Stands desk.new }
     ensures group { past desk.new ≡ after_control (past desk.old) control }
+    ensures trimmed { trimmed desk.new ≡ trimmed desk.old }
 {
     desk.control(control);
 }
@@ -30,7 +31,8 @@ pub fn end_run(desk: &mut Desk)
     requires begun { is_empty (past desk.old) ≡ false }
     requires quiet { is_quiet (past desk.old) ≡ true }
     requires running { has_ended (past desk.old) ≡ false }
-    ensures { Reaches desk.new (after_end (past desk.old)) }
+    ensures reaches { Reaches desk.new (after_end (past desk.old)) }
+    ensures trimmed { trimmed desk.new ≡ trimmed desk.old }
 {
     desk.end();
 }

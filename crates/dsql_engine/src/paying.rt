@@ -1,6 +1,6 @@
 //! The memory of a step.
 ghost use Rattle.std.specs.Prelude.{◌≡◌, ◌<◌, IfOk, OnOk};
-ghost use Rattle.dsql_desk.specs.Desk.{past, Stands};
+ghost use Rattle.dsql_desk.specs.Desk.{trimmed, past, Stands};
 ghost use Rattle.dsql_going.specs.Stepping.{events_of_a_step};
 ghost use Rattle.dsql_hearing.specs.Hearing.{IsReadyFor};
 
@@ -20,6 +20,7 @@ pub fn pay(desk: &mut Desk, flights: &mut Flights) -> Result<(), NoRoom>
     requires { Stands desk.old }
     ensures stands { Stands desk.new }
     ensures past { past desk.new ≡ past desk.old }
+    ensures trimmed { trimmed desk.new ≡ trimmed desk.old }
     ensures paid { OnOk result (desk.new.paid ≡ events_of_a_step) }
     ensures flights { flights.new.flights ≡ flights.old.flights }
     ensures spare { OnOk result (0 < flights.new.spare) }
@@ -39,6 +40,7 @@ pub fn prepare(
     requires { Stands desk.old }
     ensures stands { Stands desk.new }
     ensures past { past desk.new ≡ past desk.old }
+    ensures trimmed { trimmed desk.new ≡ trimmed desk.old }
     ensures paid { OnOk result (desk.new.paid ≡ events_of_a_step) }
     ensures flights { flights.new.flights ≡ flights.old.flights }
     ensures spare { OnOk result (0 < flights.new.spare) }

@@ -1,7 +1,7 @@
 //! A client's call enters.
 ghost use Rattle.std.specs.Prelude.{◌≡◌, ◌≤◌, ◌+◌, false, length, IfOk};
 ghost use Rattle.dsql_desk.specs.Appending.{Appends, MayAppend};
-ghost use Rattle.dsql_desk.specs.Desk.{past, Stands};
+ghost use Rattle.dsql_desk.specs.Desk.{trimmed, past, Stands};
 ghost use Rattle.dsql_telling.specs.Starts.{Starts};
 ghost use Rattle.dsql_entering.specs.Entering.{IsSentBy, own_statement};
 ghost use Rattle.dsql_going.specs.Reaching.{CanPay, HasGoneOn, Reaches};
@@ -74,6 +74,7 @@ pub fn enter_call(
     requires starts { Starts (past desk.old) op start }
     requires sent { IsSentBy (past desk.old) op statement }
     ensures reaches { Reaches desk.new (after_enter (past desk.old) client op) }
+    ensures trimmed { trimmed desk.new ≡ trimmed desk.old }
     ensures goes { HasGoneOn (past desk.new) flights.old.flights flights.new.flights (next_call (past desk.old)) result }
 {
     let call = desk.next_call();

@@ -13,7 +13,7 @@ use Rattle.dsql_history.specs.Rules.Stands.{stand}
 use Rattle.dsql_steps.specs.Groups.{given_up}
 use Rattle.dsql_flights.specs.UnderWay.{UnderWay}
 use Rattle.dsql_desk.specs.declared.desk.Desk.{Desk}
-use Rattle.dsql_desk.specs.Desk.{past, Stands}
+use Rattle.dsql_desk.specs.Desk.{trimmed, past, Stands}
 use Rattle.dsql_going.specs.declared.next.Next.{Next}
 use Rattle.dsql_going.specs.Answers.{next_for}
 
@@ -29,6 +29,7 @@ pub record GivesUp (old new : Desk) (n : ℕ) : Type 0 where
   pub paid : 0 < new.paid
   pub few : length (past new) < most_within_a_step
   pub history : past new ≡ given_up (rests_with (past old) n) (past old)
+  pub trimmed : trimmed new ≡ trimmed old
   pub unfinished : is_unfinished (past new) n ≡ true
   pub silent : is_some (due_for (past new) n) ≡ false
   pub gave : gave_back (past new) n ≡ true

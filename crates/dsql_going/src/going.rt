@@ -1,6 +1,6 @@
 //! A call goes on as far as it can by itself.
 ghost use Rattle.std.specs.Prelude.{◌≡◌, ◌<◌, ◌+◌, Some, is_some, true, false};
-ghost use Rattle.dsql_desk.specs.Desk.{past, Stands};
+ghost use Rattle.dsql_desk.specs.Desk.{trimmed, past, Stands};
 ghost use Rattle.dsql_desk.specs.Statements.{statement_of};
 ghost use Rattle.dsql_call_laws.specs.Bounds.{most_given_back};
 ghost use Rattle.dsql_steps.specs.Groups.{after_reply, asked_so, gone_on, unless_resting};
@@ -27,6 +27,7 @@ pub fn go_on(desk: &mut Desk, flights: &mut Flights, call: u32, statement: State
     requires may { MayGoOn (past desk.old) flights.old call }
     requires statement { statement ≡ statement_of (past desk.old) (user (past desk.old) call) }
     ensures reaches { Reaches desk.new (gone_on call (past desk.old)) }
+    ensures trimmed { trimmed desk.new ≡ trimmed desk.old }
     ensures goes { HasGoneOn (past desk.new) flights.old.flights flights.new.flights call result }
 {
     if desk.is_due(call) {
@@ -71,6 +72,7 @@ fn reply(desk: &mut Desk, call: u32) -> Next
     requires silent { is_some (due_for (past desk.old) call) ≡ false }
     requires due { is_some (reply_due (past desk.old) call) ≡ true }
     ensures reaches { Reaches desk.new (after_reply call (reply_due (past desk.old) call) (past desk.old)) }
+    ensures trimmed { trimmed desk.new ≡ trimmed desk.old }
     ensures finished { is_unfinished (past desk.new) call ≡ false }
     ensures next { result ≡ Next.Reply call }
 {
@@ -101,6 +103,7 @@ fn go_on_lent(desk: &mut Desk, flights: &mut Flights, call: u32, statement: Stat
     requires rests { is_some (due_for (past desk.old) call) ≡ false → rests (past desk.old) call ≡ true }
     requires statement { statement ≡ statement_of (past desk.old) (user (past desk.old) call) }
     ensures reaches { Reaches desk.new (unless_resting call (past desk.old)) }
+    ensures trimmed { trimmed desk.new ≡ trimmed desk.old }
     ensures goes { HasGoneOn (past desk.new) flights.old.flights flights.new.flights call result }
 {
     if desk.is_due(call) {
@@ -117,6 +120,7 @@ fn ask(desk: &mut Desk, flights: &mut Flights, call: u32, statement: Statement) 
     requires asks { may_ask (past desk.old) call ≡ true }
     requires statement { statement ≡ statement_of (past desk.old) (user (past desk.old) call) }
     ensures reaches { Reaches desk.new (asked_so call (ask_outcome (past desk.old) call) (past desk.old)) }
+    ensures trimmed { trimmed desk.new ≡ trimmed desk.old }
     ensures goes { HasGoneOn (past desk.new) flights.old.flights flights.new.flights call result }
 {
     match desk.ask(call) {

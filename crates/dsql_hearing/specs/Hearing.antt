@@ -19,7 +19,7 @@ use Rattle.dsql_call_laws.specs.Bounds.{most_given_back}
 use Rattle.dsql_steps.specs.Groups.{let_go}
 use Rattle.dsql_desk.specs.declared.desk.Desk.{Desk}
 use Rattle.dsql_desk.specs.Appending.{DecidesNow}
-use Rattle.dsql_desk.specs.Desk.{past, Stands}
+use Rattle.dsql_desk.specs.Desk.{trimmed, past, Stands}
 use Rattle.dsql_telling.specs.Heard.{HearsRows}
 use Rattle.dsql_desk.specs.Statements.{statement_of}
 use Rattle.dsql_hearing.specs.declared.hear.Hearing.{Hearing}
@@ -53,3 +53,4 @@ pub record LetsGo (old new : Desk) (c n : ℕ) : Type 0 where
   pub stands : Stands new
   pub paid : old.paid ≤ new.paid + most_given_back
   pub history : past new ≡ let_go c n (past old)
+  pub trimmed : trimmed new ≡ trimmed old

@@ -8,7 +8,7 @@ ghost use Rattle.dsql_history.specs.Rules.Flights.{is_in_flight, without_flight}
 ghost use Rattle.dsql_history.specs.Rules.Line.{is_used};
 ghost use Rattle.dsql_laws.specs.Leaving.{MayLeave};
 ghost use Rattle.dsql_call_laws.specs.Bounds.{most_given_back};
-ghost use Rattle.dsql_desk.specs.Desk.{past, Stands};
+ghost use Rattle.dsql_desk.specs.Desk.{trimmed, past, Stands};
 ghost use Rattle.dsql_going.specs.Reaching.{CanPay, Reaches};
 ghost use Rattle.dsql_going.specs.Stepping.{events_of_a_step, MayStep, GoesOnOrRests};
 ghost use Rattle.dsql_hearing.specs.Hearing.{IsWelcome, IsReadyFor, MayHear, LetsGo, lent_to};
@@ -57,6 +57,7 @@ pub fn hear_answer(desk: &mut Desk, flights: &mut Flights, entry: Entry, ready: 
     requires welcome { IsWelcome (past desk.old) entry }
     requires ready { IsReadyFor (past desk.old) entry ready }
     ensures reaches { Reaches desk.new (after_heard (past desk.old) entry) }
+    ensures trimmed { trimmed desk.new ≡ trimmed desk.old }
     ensures goes { GoesOnOrRests (past desk.new) (without_flight entry.call_no flights.old.flights) flights.new.flights entry.call_no result }
 {
     flights.land(entry.call_no);
@@ -74,7 +75,8 @@ fn hear_house(desk: &mut Desk, entry: Entry, ready: Hearing)
     requires pays { CanPay desk.old events_of_a_step }
     requires may { MayHear (past desk.old) entry ready }
     requires house { lent_to (place (past desk.old) entry.conn) ≡ None }
-    ensures { Reaches desk.new (with_owed (Heard entry ∷ past desk.old)) }
+    ensures reaches { Reaches desk.new (with_owed (Heard entry ∷ past desk.old)) }
+    ensures trimmed { trimmed desk.new ≡ trimmed desk.old }
 {
     desk.hear(entry, ready.copy, ready.reply);
 }
@@ -94,6 +96,7 @@ fn hear_lent(
     requires parked { is_in_flight entry.call_no flights.old.flights ≡ false }
     requires spare { 0 < flights.old.spare }
     ensures reaches { Reaches desk.new (gone_on entry.call_no (let_go entry.conn query (Heard entry ∷ past desk.old))) }
+    ensures trimmed { trimmed desk.new ≡ trimmed desk.old }
     ensures goes { GoesOnOrRests (past desk.new) flights.old.flights flights.new.flights entry.call_no result }
 {
     let Hearing {

@@ -17,6 +17,7 @@ impl Engine {
         ensures next { IfOk result (λ next. IsChore self.old.past next self.new) }
         ensures past { self.new.past ≡ self.old.past }
         ensures flights { self.new.flights ≡ self.old.flights }
+        ensures trimmed { self.new.trimmed ≡ self.old.trimmed }
         ensures err { OnErr result (self.new ≡ self.old) }
     {
         let Some(conn) = self.desk.chore_due() else {

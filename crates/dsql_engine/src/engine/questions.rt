@@ -1,5 +1,5 @@
 //! What may be asked of a run.
-ghost use Rattle.std.specs.Prelude.{◌≡◌, ◌≤◌, ◌<◌, ◌&&◌, ◌↔◌, not, true, length, reverse, None, IsTrue, IfSome};
+ghost use Rattle.std.specs.Prelude.{◌≡◌, ◌≤◌, ◌<◌, ◌&&◌, ◌↔◌, not, true, drop, length, reverse, None, IsTrue, IfSome};
 ghost use Rattle.dsql_history.specs.Legal.{Legal};
 ghost use Rattle.dsql_history.specs.Readers.Course.{has_ended};
 ghost use Rattle.dsql_history.specs.Rules.House.{is_quiet};
@@ -110,7 +110,7 @@ impl Engine {
     pub fn is_full(&self) -> bool
         ensures { IsTrue result ↔ (most_events ≤ length self.now.past) }
     {
-        self.desk.history.len() >= MAX_EVENTS
+        self.desk.history.count() >= MAX_EVENTS as u64
     }
 
     /// The number of events, where the history has as many as a run may have.
@@ -121,19 +121,27 @@ impl Engine {
     {
         if self.is_full() {
             Some(Spent {
-                events: self.desk.history.len() as u64,
+                events: self.desk.history.count(),
             })
         } else {
             None
         }
     }
 
-    /// All that happened, oldest first.
+    /// How many events, the oldest, were trimmed.
+    pub fn trimmed(&self) -> u32
+        ensures { result ≡ self.now.trimmed }
+    {
+        self.desk.history.trimmed()
+    }
+
+    /// All that happened and wasn't trimmed, oldest first.
     pub fn history(&self) -> &[Event]
-        ensures events { reverse result.now ≡ self.now.past }
+        ensures events { result.now ≡ drop self.now.trimmed (reverse self.now.past) }
+        ensures within { self.now.trimmed ≤ length self.now.past }
         ensures legal { Legal self.now.past }
     {
-        &self.desk.history
+        self.desk.history.kept()
     }
 }
 

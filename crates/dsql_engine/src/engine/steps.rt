@@ -42,6 +42,7 @@ impl Engine {
         ensures group { OnOk result (self.new.past ≡ after_enter self.old.past client op) }
         ensures next { IfOk result (λ next. HasGoneOn self.new.past self.old.flights self.new.flights (next_call self.old.past) next) }
         ensures chore { self.new.chore ≡ self.old.chore }
+        ensures trimmed { self.new.trimmed ≡ self.old.trimmed }
         ensures err { OnErr result (self.new ≡ self.old) }
         ensures legal { Legal self.new.past }
     {
@@ -67,6 +68,7 @@ impl Engine {
         ensures next { IfOk result (λ next. GoesOnOrRests self.new.past (without_flight heard.call_no self.old.flights) self.new.flights heard.call_no next) }
         ensures chore { OnOk result (self.new.chore ≡ cond (heard.call_no == 0) None self.old.chore) }
         ensures handed_back { IfErr result (λ back. back.heard ≡ heard) }
+        ensures trimmed { self.new.trimmed ≡ self.old.trimmed }
         ensures err { OnErr result (self.new ≡ self.old) }
         ensures legal { Legal self.new.past }
     {

@@ -18,9 +18,9 @@ end-requires-clause-may c =
       few = let room = c.requires.pays.few in omega (arith, room);
     }
 
-pub returns : goal.returns
+pub returns-clause-reaches : goal.returns-clause-reaches
 unfolding Stands
-returns c =
+returns-clause-reaches c =
     let H = past c.args.desk.now in
     let s = c.end.ensures in
     record {

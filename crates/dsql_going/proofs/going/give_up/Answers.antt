@@ -40,6 +40,7 @@ returns-in-Some c =
       paid = let few = few_given_back H conn in let left = c.give_back.ensures.paid in let paid = pays.paid in omega (arith, few, left, paid);
       few = let few = g.few in let room = pays.few in omega (arith, few, longer, room);
       history = came ∙ sym (ap (λ o. given_up o H) is);
+      trimmed = c.give_back.ensures.trimmed;
       unfinished = subst (λ K. is_unfinished K n ≡ true) (sym came) g.unfinished;
       silent = subst (λ K. is_some (due_for K n) ≡ false) (sym came) g.silent;
       gave = ap (λ K. is_none (rests_with K n)) came ∙ ap (λ o. is_none o) g.homeless;

@@ -52,7 +52,7 @@ returns-in-None-clause-reaches c =
     let H = past c.args.desk.now in
     let e = c.args.entry in
     let house : lent_to (place H e.conn) ≡ None = sym (c.lent_to.ensures ∙ ap lent_to c.place.ensures) ∙ c.in-None.is in
-    let r = c.hear_house.ensures in
+    let r = c.hear_house.ensures.reaches in
     record { stands = r.stands; settled = r.settled; group = r.group ∙ sym (house_group H e (place H e.conn) house) }
 
 pub returns-in-None-clause-goes : goal.returns-in-None-clause-goes

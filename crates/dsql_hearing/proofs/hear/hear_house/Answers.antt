@@ -18,9 +18,9 @@ hear-requires-clause-decides c = c.requires.may.prepared.decides
 pub hear-requires-clause-rows : goal.hear-requires-clause-rows
 hear-requires-clause-rows c = c.requires.may.rows
 
-pub returns : goal.returns
+pub returns-clause-reaches : goal.returns-clause-reaches
 unfolding Stands
-returns c =
+returns-clause-reaches c =
     let H = past c.args.desk.now in
     let e = c.args.entry in
     let may = c.requires.may in

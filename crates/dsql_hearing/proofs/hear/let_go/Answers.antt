@@ -1,4 +1,4 @@
-use Rattle.std.proofs.Common.{◌≡◌, Bool, true, false, cond, sym, ap, ◌∙◌, arith}
+use Rattle.std.proofs.Common.{◌≡◌, Bool, true, false, cond, refl, sym, ap, ◌∙◌, arith}
 use Rattle.dsql_history.specs.Readers.Owed.{given_back}
 use Rattle.dsql_history.specs.Rules.Line.{is_used}
 use Rattle.dsql_laws.specs.OwedMade.{with_moves}
@@ -27,6 +27,7 @@ returns-then-not-is_used c =
       stands = c.give_back.ensures.stands;
       paid = let few = few_given_back K c.args.conn in let paid = c.give_back.ensures.paid in omega (arith, few, paid);
       history = c.give_back.ensures.moves ∙ sym (ap (λ (b : Bool). cond b K (with_moves (given_back K c.args.conn) K)) unused);
+      trimmed = c.give_back.ensures.trimmed;
     }
 
 pub returns-else-not-is_used : goal.returns-else-not-is_used
@@ -38,4 +39,5 @@ returns-else-not-is_used c =
       stands = c.requires.pays.stands;
       paid = omega (arith);
       history = sym (ap (λ (b : Bool). cond b K (with_moves (given_back K c.args.conn) K)) used);
+      trimmed = refl;
     }

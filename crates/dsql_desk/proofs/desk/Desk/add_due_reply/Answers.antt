@@ -15,7 +15,7 @@ returns c =
     let reply = reply_or (settled_in d.closed_by d.caps.pinger (row_at d.calls.items n)) in
     let may = c.requires.may in
     let t = may.tables in
-    let p : reverse c.note.new.v.items ≡ Replied n reply ∷ H = c.note.ensures.past ∙ sym (ap (λ told. Replied n (reply_or told) ∷ H) c.take_reply-reply.ensures.reply) in
+    let p : c.note.new.self.past ≡ Replied n reply ∷ H = c.note.ensures.past ∙ sym (ap (λ told. Replied n (reply_or told) ∷ H) c.take_reply-reply.ensures.reply) in
     record {
       tables = record {
         lawful = rw p may.lawful;
@@ -30,6 +30,7 @@ returns c =
         room = search rules;
       };
       event = p;
+      trimmed = c.note.ensures.trimmed;
       paid = search rules;
       closed_by = refl;
       pool = refl;

@@ -18,7 +18,7 @@ returns c =
     let count : length c.moves-count.result.now ≡ length ms = ap length c.moves-count.ensures in
     let lent : length c.moves-2.result.now ≡ length ms = ap length c.moves-2.ensures in
     let noted : length c.moves-3.result.now ≡ length ms = ap length c.moves-3.ensures in
-    let p : reverse c.note_moves.new.v.items ≡ with_moves ms H = c.note_moves.ensures.past ∙ ap (λ ns. with_moves ns H) c.moves-3.ensures in
+    let p : c.note_moves.new.self.past ≡ with_moves ms H = c.note_moves.ensures.past ∙ ap (λ ns. with_moves ns H) c.moves-3.ensures in
     let rest = leaves ms H in
     record {
       tables = record {
@@ -35,7 +35,7 @@ returns c =
         labels = rw p (rw rest.works t.labels);
         rows = rw p (t.rows ∙ sym rest.handed_out);
         room = record {
-          history = omega (arith, c.note_moves.ensures.len, c.note_moves.ensures.capacity, t.room.history, may.paid, count, noted);
+          history = omega (arith, c.note_moves.ensures.spare, t.room.history, may.paid, count, noted);
           made = omega (arith, c.note_all_lent.ensures.len, c.note_all_lent.ensures.capacity, t.room.made, may.paid, count, lent);
           calls = omega (arith, c.note_tries.ensures.len, c.note_tries.ensures.capacity, t.room.calls);
           unfinished = omega (arith, t.room.unfinished);
@@ -44,6 +44,7 @@ returns c =
         };
       };
       came = p;
+      trimmed = c.note_moves.ensures.trimmed;
       paid = omega (arith, may.paid, count);
       closed_by = refl;
       pool = refl;

@@ -29,6 +29,7 @@ returns c =
         room = search rules;
       };
       event = p;
+      trimmed = c.note.ensures.trimmed;
       paid = search rules;
       closed_by = refl;
       pool = refl;

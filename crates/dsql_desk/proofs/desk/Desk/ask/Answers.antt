@@ -65,6 +65,7 @@ returns-in-Some-Pool-clause-asks c =
       };
       paid = added.paid;
       event = p;
+      trimmed = added.trimmed;
     }
 
 pub add_beside-requires-clause-may : goal.add_beside-requires-clause-may

@@ -63,4 +63,5 @@ returns c =
       };
       paid = omega (arith, added.paid, many);
       moves = p;
+      trimmed = added.trimmed;
     }

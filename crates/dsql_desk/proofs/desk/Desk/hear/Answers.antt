@@ -8,4 +8,4 @@ returns-then-opens_or_shuts c =
     let made = c.make_owed.ensures in
     let heard = c.hear_house.ensures in
     let many = ap (λ past. length (owed past)) heard.event in
-    record { stands = made.stands; paid = omega (arith, made.paid, heard.paid, many); event = made.moves ∙ ap (λ past. with_moves (owed past) past) heard.event }
+    record { stands = made.stands; paid = omega (arith, made.paid, heard.paid, many); event = made.moves ∙ ap (λ past. with_moves (owed past) past) heard.event; trimmed = made.trimmed ∙ heard.trimmed }

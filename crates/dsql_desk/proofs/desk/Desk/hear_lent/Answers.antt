@@ -28,4 +28,5 @@ returns c =
       };
       paid = omega (arith, many, added.paid);
       event = p ∙ ap (λ ms. with_moves ms K) (sym none);
+      trimmed = added.trimmed;
     }

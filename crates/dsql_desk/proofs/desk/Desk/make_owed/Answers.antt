@@ -41,4 +41,5 @@ returns c =
       };
       paid = omega (arith, added.paid, many);
       moves = p;
+      trimmed = added.trimmed;
     }

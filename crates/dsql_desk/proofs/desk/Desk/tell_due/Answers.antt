@@ -50,4 +50,5 @@ returns c =
       };
       paid = omega (arith, added.paid);
       event = p;
+      trimmed = added.trimmed;
     }

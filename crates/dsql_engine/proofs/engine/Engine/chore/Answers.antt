@@ -1,5 +1,5 @@
 use Rattle.std.proofs.Common.{◌≡◌, Some, None, sym, subst, ◌∙◌}
-use Rattle.dsql_desk.specs.Desk.{past}
+use Rattle.dsql_desk.specs.Desk.{past, trimmed}
 use Rattle.dsql_engine.proofs.Chores.{chore_given, chore_quiet, chore_sent}
 use Rattle.dsql_history.specs.Rules.House.{chore_due}
 use Rattle.dsql_going.specs.declared.next.Next.TheVariants.{Send, Quiet}
@@ -21,6 +21,6 @@ pub returns-clause-next : goal.returns-clause-next
 returns-clause-next c =
     let H = past c.self.inside.desk in
     let due : chore_due H ≡ Some c.in-Some.conn = sym c.chore_due.ensures ∙ c.in-Some.is in
-    let now : Core = record { past = H; flights = c.self.inside.flights.flights; chore = Some c.in-Some.conn } in
+    let now : Core = record { past = H; trimmed = trimmed c.self.inside.desk; flights = c.self.inside.flights.flights; chore = Some c.in-Some.conn } in
     subst (λ (v : Core). IsChore v.past (Send c.in_ok-permit.permit) now) c.self.view_is
     (record { next_is = chore_sent H c.in-Some.conn c.in_ok-permit.permit due c.in_ok-permit.ensures; chore = sym due })

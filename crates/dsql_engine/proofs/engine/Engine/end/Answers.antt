@@ -37,7 +37,7 @@ end_run-requires-clause-running c = subst (λ (H : List Event). has_ended H ≡ 
 
 pub invariant_of-self-2 : goal.invariant_of-self-2
 invariant_of-self-2 c =
-    let r = c.end_run.ensures in
+    let r = c.end_run.ensures.reaches in
     let K = Ended ∷ past c.pay.new.desk in (
       r.stands,
       r.settled,
@@ -48,7 +48,7 @@ invariant_of-self-2 c =
 
 pub returns-clause-legal : goal.returns-clause-legal
 returns-clause-legal c =
-    let r = c.end_run.ensures in
+    let r = c.end_run.ensures.reaches in
     let K = Ended ∷ past c.pay.new.desk in
     legal_of c.end_run.new.desk r.stands r.settled (rw r.group (begun_moved (owed K) K refl))
 

@@ -1,0 +1,7 @@
+//! The events of a run: the newest ones are kept in memory, and those that were trimmed are known to proofs alone.
+#![tactic(auto)]
+
+mod log;
+mod trimmed;
+
+pub use log::EventLog;
