@@ -1,5 +1,5 @@
 //! A client's line is entered, or kept.
-ghost use Rattle.std.specs.Prelude.{◌<◌, length, IfOk, OnOk};
+ghost use Rattle.std.specs.Prelude.{◌≡◌, ◌<◌, length, IfOk, OnOk};
 ghost use Rattle.dsql_follows.specs.Moments.{Moment};
 ghost use Rattle.dsql_playing.specs.Keeping.{ActsUnheard, SameCourse};
 ghost use Rattle.dsql_playing.specs.Playing.{IsAt, IsReady};
@@ -16,6 +16,7 @@ pub(crate) fn admit(player: &mut Player, client: u8, line: KeptLine) -> Result<b
     ensures admits { IfOk result (λ entered. (m : Moment) → IsAt m player.old → Admits entered m client line player.old player.new) }
     ensures course { OnOk result (SameCourse player.old player.new) }
     ensures act { ActsUnheard result player.old player.new }
+    ensures trimmed { player.new.trimmed ≡ player.old.trimmed }
 {
     if player.has_call(client) || player.has_kept(client) {
         player.keep(client, line)?;

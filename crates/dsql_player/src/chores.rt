@@ -27,6 +27,7 @@ pub(crate) fn make_first_chore<F: Fleet>(
     ensures course { OnOk result (SameCourse player.old player.new) }
     ensures run { KeepsRun F.Fleet F.Wire.told result fleet.old fleet.new player.old player.new wires.old wires.new }
     ensures fails { FailsForMemory result player.old.past player.new.past }
+    ensures trimmed { player.new.trimmed ≡ player.old.trimmed }
 {
     let chore = player.first_chore()?;
     match chore {
@@ -50,6 +51,7 @@ fn make_chore<F: Fleet>(
     ensures taken { OnOk result (IsTaken permit player.old player.new) }
     ensures run { KeepsRun F.Fleet F.Wire.told result fleet.old fleet.new player.old player.new wires.old wires.new }
     ensures fails { FailsForMemory result player.old.past player.new.past }
+    ensures trimmed { player.new.trimmed ≡ player.old.trimmed }
 {
     match permit.call {
         DriverCall::Connect => player.open(wires, fleet, permit),
@@ -71,6 +73,7 @@ fn shut<F: Fleet>(
     ensures taken { OnOk result (IsTaken permit player.old player.new) }
     ensures run { KeepsRun F.Fleet F.Wire.told result fleet.old fleet.new player.old player.new wires.old wires.new }
     ensures fails { FailsForMemory result player.old.past player.new.past }
+    ensures trimmed { player.new.trimmed ≡ player.old.trimmed }
 {
     let conn = permit.conn;
     player.ask(wires, permit)?;

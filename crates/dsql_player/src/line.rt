@@ -41,6 +41,7 @@ pub fn carry_line<F: Fleet>(
     ensures course { OnOk result (SameCourse player.old player.new) }
     ensures run { KeepsRunPlanning (plans_of line player.old.past) F.Fleet F.Wire.told result fleet.old fleet.new player.old player.new wires.old wires.new }
     ensures full { result ≡ Err Halt.Full → most_events ≤ length player.new.past }
+    ensures trimmed { player.new.trimmed ≡ player.old.trimmed }
 {
     player.check_room()?;
     match line {
@@ -75,6 +76,7 @@ fn carry_fault<F: Fleet>(
     ensures course { OnOk result (SameCourse player.old player.new) }
     ensures run { KeepsRunPlanning (plans_of (Fault conn nth what) player.old.past) F.Fleet F.Wire.told result fleet.old fleet.new player.old player.new wires.old wires.new }
     ensures full { result ≡ Err Halt.Full → most_events ≤ length player.new.past }
+    ensures trimmed { player.new.trimmed ≡ player.old.trimmed }
 {
     plan(wires, fleet, conn, nth, what)?;
     run_on(player, wires, fleet)
@@ -100,6 +102,7 @@ pub fn carry_end<F: Fleet>(
     ensures empty { OnOk result ((c : ℕ) → slot wires.new c ≡ None) }
     ensures run { KeepsRun F.Fleet F.Wire.told result fleet.old fleet.new player.old player.new wires.old wires.new }
     ensures full { result ≡ Err Halt.Full → most_events ≤ length player.new.past }
+    ensures trimmed { player.new.trimmed ≡ player.old.trimmed }
 {
     player.release();
     run_on(player, wires, fleet)?;
@@ -115,6 +118,7 @@ fn begin(player: &mut Player, line: Line) -> Result<(), Halt>
     ensures begins { OnOk result ((m : Moment) → IsAt m player.old → Begun m line player.old player.new) }
     ensures course { OnOk result (SameCourse player.old player.new) }
     ensures act { ActsUnheard result player.old player.new }
+    ensures trimmed { player.new.trimmed ≡ player.old.trimmed }
 {
     match line {
         Line::Control(control) => player.control(control),

@@ -29,6 +29,7 @@ pub(crate) fn run_on<F: Fleet>(
     ensures course { OnOk result (SameCourse player.old player.new) }
     ensures run { KeepsRun F.Fleet F.Wire.told result fleet.old fleet.new player.old player.new wires.old wires.new }
     ensures full { result ≡ Err Halt.Full → most_events ≤ length player.new.past }
+    ensures trimmed { player.new.trimmed ≡ player.old.trimmed }
 {
     while go_on(player, wires, fleet)? {}
     Ok(())
@@ -49,6 +50,7 @@ fn go_on<F: Fleet>(
     ensures course { OnOk result (SameCourse player.old player.new) }
     ensures run { KeepsRun F.Fleet F.Wire.told result fleet.old fleet.new player.old player.new wires.old wires.new }
     ensures full { result ≡ Err Halt.Full → most_events ≤ length player.new.past }
+    ensures trimmed { player.new.trimmed ≡ player.old.trimmed }
 {
     player.check_room()?;
     if make_first_chore(player, wires, fleet)? {

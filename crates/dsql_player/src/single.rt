@@ -28,6 +28,7 @@ pub(crate) fn step_client<W: Wire>(
     ensures course { OnOk result (SameCourse player.old player.new) }
     ensures run { KeepsWires W.told result player.old player.new wires.old wires.new }
     ensures fails { FailsForMemory result player.old.past player.new.past }
+    ensures trimmed { player.new.trimmed ≡ player.old.trimmed }
 {
     if player.has_call(client) {
         step_call(player, wires, client)
@@ -48,6 +49,7 @@ fn step_call<W: Wire>(player: &mut Player, wires: &mut Wires<W>, client: u8) -> 
     ensures course { OnOk result (SameCourse player.old player.new) }
     ensures run { KeepsWires W.told result player.old player.new wires.old wires.new }
     ensures fails { FailsForMemory result player.old.past player.new.past }
+    ensures trimmed { player.new.trimmed ≡ player.old.trimmed }
 {
     if player.has_permit(client) {
         return player.make_call(wires, client);
@@ -72,6 +74,7 @@ pub(crate) fn step_house<F: Fleet>(
     ensures course { OnOk result (SameCourse player.old player.new) }
     ensures run { KeepsRun F.Fleet F.Wire.told result fleet.old fleet.new player.old player.new wires.old wires.new }
     ensures fails { FailsForMemory result player.old.past player.new.past }
+    ensures trimmed { player.new.trimmed ≡ player.old.trimmed }
 {
     make_first_chore(player, wires, fleet)?;
     Ok(())

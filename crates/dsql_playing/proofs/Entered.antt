@@ -143,7 +143,7 @@ module _ (client : ℕ) (line : KeptLine) (next : Next) (before after : Playing)
 
 -- the player over this core, whose clients have this at hand
 abbrev pub seen : Core → List Seat → Bool → Playing
-seen core seats released = record { past = core.past; flights = core.flights; chore = core.chore; seats = seats; released = released }
+seen core seats released = record { past = core.past; trimmed = core.trimmed; flights = core.flights; chore = core.chore; seats = seats; released = released }
 
 -- What can't be done for want of memory.
 pub fails_at : {A : Type 0} (result : Result A Halt) (halt : Halt) (old new : List Event) → result ≡ Err halt → halt ≡ halts.Memory → new ≡ old → FailsForMemory result old new

@@ -31,3 +31,4 @@ pub mod Next
 pub mod Ran
 pub mod Stepped
 pub mod Ended
+pub mod Trimming

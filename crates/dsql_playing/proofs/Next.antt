@@ -20,7 +20,7 @@ busy_is e client b h = sym (some_if (is_busy client e.past) (call_of e.past clie
 
 -- a player with this core and these seats
 abbrev pub playing : Core → List Seat → Bool → Playing
-playing e seats released = record { past = e.past; flights = e.flights; chore = e.chore; seats = seats; released = released }
+playing e seats released = record { past = e.past; trimmed = e.trimmed; flights = e.flights; chore = e.chore; seats = seats; released = released }
 
 pub goes_with_call : (e : Core) (seats : List Seat) (released : Bool) (client : ℕ) → is_some (unfinished_of e.past client) ≡ true
     → (not (seat seats client).held && is_none (blocked_for e client)) ≡ goes (playing e seats released) client

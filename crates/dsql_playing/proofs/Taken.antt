@@ -39,12 +39,12 @@ use Rattle.dsql_playing.proofs.Keeping.{run_goes, run_stops}
 use Rattle.dsql_playing.proofs.Seating.{nobody_flies}
 use Rattle.dsql_playing.specs.Keeping.{IsTaken, SameCourse}
 
-abbrev pub playing : List Event → List Flight → Option ℕ → List Seat → Bool → Playing
-playing past flights chore seats released = record { past = past; flights = flights; chore = chore; seats = seats; released = released }
+abbrev pub playing : List Event → ℕ → List Flight → Option ℕ → List Seat → Bool → Playing
+playing past trimmed flights chore seats released = record { past = past; trimmed = trimmed; flights = flights; chore = chore; seats = seats; released = released }
 
 -- what a player is whose core is this
 abbrev pub player_of : Core → List Seat → Bool → Playing
-player_of core seats released = playing core.past core.flights core.chore seats released
+player_of core seats released = playing core.past core.trimmed core.flights core.chore seats released
 
 pub at_err : {T E : Type 0} (r : Result T E) (y : E) → r ≡ Err y → IsErr r
 at_err r y is = ap is_err is
@@ -140,21 +140,22 @@ none_due past (Some c) next none h = absurd (by (chore_permit past c) h)
     by (Some permit) k = let is : next ≡ Send permit = cc in none permit is
 
 -- the core has looked for it
-pub core_looked : (core now : Core) (seats : List Seat) (released : Bool) (p : Playing) → player_of core seats released ≡ p → now.past ≡ core.past → now.flights ≡ core.flights → SameButChore p (player_of now seats released)
-core_looked core now seats released p is past flights =
-    subst (λ (v : Playing). SameButChore v (player_of now seats released)) is (record { past = past; flights = flights; seats = refl; released = refl })
+pub core_looked : (core now : Core) (seats : List Seat) (released : Bool) (p : Playing) → player_of core seats released ≡ p → now.past ≡ core.past → now.trimmed ≡ core.trimmed → now.flights ≡ core.flights → SameButChore p (player_of now seats released)
+core_looked core now seats released p is past trimmed flights =
+    subst (λ (v : Playing). SameButChore v (player_of now seats released)) is (record { past = past; trimmed = trimmed; flights = flights; seats = refl; released = refl })
 
 pub same_playing : (a b : Playing) → SameButChore b a → a.chore ≡ b.chore → a ≡ b
 same_playing a b s chore =
-    ap (λ (x : List Event). playing x a.flights a.chore a.seats a.released) s.past
-    ∙ (ap (λ (x : List Flight). playing b.past x a.chore a.seats a.released) s.flights
-    ∙ (ap (λ (x : Option ℕ). playing b.past b.flights x a.seats a.released) chore
-    ∙ (ap (λ (x : List Seat). playing b.past b.flights b.chore x a.released) s.seats
-    ∙ ap (λ (x : Bool). playing b.past b.flights b.chore b.seats x) s.released)))
+    ap (λ (x : List Event). playing x a.trimmed a.flights a.chore a.seats a.released) s.past
+    ∙ (ap (λ (x : ℕ). playing b.past x a.flights a.chore a.seats a.released) s.trimmed
+    ∙ (ap (λ (x : List Flight). playing b.past b.trimmed x a.chore a.seats a.released) s.flights
+    ∙ (ap (λ (x : Option ℕ). playing b.past b.trimmed b.flights x a.seats a.released) chore
+    ∙ (ap (λ (x : List Seat). playing b.past b.trimmed b.flights b.chore x a.released) s.seats
+    ∙ ap (λ (x : Bool). playing b.past b.trimmed b.flights b.chore b.seats x) s.released))))
 
 module _ (old mid : Playing) (permit : Permit) (ready : IsReady old) (same : SameButChore old mid) where
   freed : record mid { chore = None } ≡ old
-  freed = same_playing (record mid { chore = None }) old (record { past = same.past; flights = same.flights; seats = same.seats; released = same.released }) (sym ready.free)
+  freed = same_playing (record mid { chore = None }) old (record { past = same.past; trimmed = same.trimmed; flights = same.flights; seats = same.seats; released = same.released }) (sym ready.free)
 
   pub first_to_make : mid.chore ≡ chore_due old.past → length old.past < most_events → chore_next old.past (chore_due old.past) ≡ Some (Send permit) → IsToMake mid permit
   first_to_make chore room next =
@@ -191,9 +192,9 @@ none_made old mid next ready same chore is none =
     (same_playing mid old same (chore ∙ (nothing ∙ sym ready.free)), nothing)
 
 module _ (core now : Core) (seats : List Seat) (released : Bool) (p : Playing) (next : Next) (is : player_of core seats released ≡ p) (ready : IsReady p) (chore : IsChore core.past next now) (past : now.past ≡ core.past)
-    (flights : now.flights ≡ core.flights) where
+    (trimmed : now.trimmed ≡ core.trimmed) (flights : now.flights ≡ core.flights) where
   looked : SameButChore p (player_of now seats released)
-  looked = core_looked core now seats released p is past flights
+  looked = core_looked core now seats released p is past trimmed flights
 
   looked_for : IsChore p.past next now
   looked_for = subst (λ (H : List Event). IsChore H next now) (ap (λ (v : Playing). v.past) is) chore

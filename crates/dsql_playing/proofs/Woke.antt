@@ -1,5 +1,5 @@
 -- A client's call goes on by itself.
-use Rattle.std.proofs.Common.{◌≡◌, ◌<◌, ◌⊎◌, inl, inr, ℕ, Bool, true, false, not, ◌&&◌, ◌||◌, cond, List, ◌∷◌, length, Option, Some, None, is_some, refl, ap, sym, subst, ◌∙◌, arith}
+use Rattle.std.proofs.Common.{◌≡◌, ◌<◌, ◌≤◌, ◌+◌, ◌-◌, drop, length-drop, ◌⊎◌, inl, inr, ℕ, Bool, true, false, not, ◌&&◌, ◌||◌, cond, List, ◌∷◌, length, Option, Some, None, is_some, refl, ap, sym, subst, ◌∙◌, arith}
 use Rattle.std.specs.Prelude.{nat_lt, option_map, reverse}
 use Rattle.std.proofs.lemmas.Bool.Decides.{nat_tests}
 use Rattle.std.proofs.lemmas.List.{length-reverse}
@@ -76,7 +76,18 @@ itself_ends_none : (n : ℕ) (e : Event) (past : List Event) → goes_by_itself 
 itself_ends_none n Ended past h = absurd cc
 itself_ends_none n e past h = refl
 
--- A history is as long as it is the other way round.
+-- What is left of a history, the other way round, is as long as the history but for what was trimmed.
+
+pub record StandsFor (first : List Event) (trimmed : ℕ) (past : List Event) : Type 0 where
+  pub rest : first ≡ drop trimmed (reverse past)
+  pub within : trimmed ≤ length past
+
+left : (first : List Event) (trimmed : ℕ) (past : List Event) → StandsFor first trimmed past → length first + trimmed ≡ length past
+left first trimmed past s =
+    let a : length first ≡ length (reverse past) - trimmed = ap length s.rest ∙ length-drop trimmed (reverse past) in
+    let b : length (reverse past) ≡ length past = length-reverse past in
+    let within = s.within in
+    omega (arith, a, b, within)
 
 longer : (a b : ℕ) → nat_lt a b ≡ true → a < b
 longer a b h = grind (arith, nat_tests)
@@ -84,19 +95,19 @@ longer a b h = grind (arith, nat_tests)
 no_longer : (a b : ℕ) → nat_lt a b ≡ false → a < b → ⊥
 no_longer a b h less = grind (arith, nat_tests)
 
-module _ (first second old new : List Event) (old_is : reverse first ≡ old) (new_is : reverse second ≡ new) where
+module _ (first second : List Event) (before after : ℕ) (old new : List Event) (old_is : StandsFor first before old) (new_is : StandsFor second after new) (same : after ≡ before) where
   pub history_longer : nat_lt (length first) (length second) ≡ true → length old < length new
   history_longer h =
-      let a : length old ≡ length first = ap length (sym old_is) ∙ length-reverse first in
-      let b : length new ≡ length second = ap length (sym new_is) ∙ length-reverse second in
+      let a = left first before old old_is in
+      let b = left second after new new_is in
       let less : length first < length second = longer (length first) (length second) h in
-      omega (arith, a, b, less)
+      omega (arith, a, b, less, same)
 
   pub history_no_longer : nat_lt (length first) (length second) ≡ false → length old < length new → ⊥
   history_no_longer h less =
-      let a : length old ≡ length first = ap length (sym old_is) ∙ length-reverse first in
-      let b : length new ≡ length second = ap length (sym new_is) ∙ length-reverse second in
-      let more : length first < length second = omega (arith, a, b, less) in
+      let a = left first before old old_is in
+      let b = left second after new new_is in
+      let more : length first < length second = omega (arith, a, b, less, same) in
       no_longer (length first) (length second) h more
 
 -- A client's call that might move went on by itself, and was handed what came next.

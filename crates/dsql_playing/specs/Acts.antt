@@ -76,4 +76,4 @@ pub record RunsTo (m : Moment) (before after : Playing) : Type 0 where
 
 -- a player of a run that has begun, whose clients have nothing at hand
 abbrev pub begun : ℕ → Caps → List Seat → Playing
-begun version caps seats = record { past = Run version caps ∷ []; flights = []; chore = None; seats = seats; released = false }
+begun version caps seats = record { past = Run version caps ∷ []; trimmed = 0; flights = []; chore = None; seats = seats; released = false }

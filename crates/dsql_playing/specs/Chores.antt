@@ -21,6 +21,7 @@ pub record IsToMake (p : Playing) (permit : Permit) : Type 0 where
 -- It is as before, but for the layer's own call that is under way.
 pub record SameButChore (old mid : Playing) : Type 0 where
   pub past : mid.past ≡ old.past
+  pub trimmed : mid.trimmed ≡ old.trimmed
   pub flights : mid.flights ≡ old.flights
   pub seats : mid.seats ≡ old.seats
   pub released : mid.released ≡ old.released

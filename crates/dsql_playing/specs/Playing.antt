@@ -18,9 +18,10 @@ use Rattle.dsql_turn_laws.specs.Leaves.{IsLeave}
 use Rattle.dsql_turn_laws.specs.Turns.{Flying, flies}
 use Rattle.dsql_line_laws.specs.Running.{AllMade}
 
--- What happened, the newest first; what is under way; what each client has at hand; and whether the script is at its end, which releases the calls that were held.
+-- What happened, the newest first; how many of the events, the oldest, were trimmed; what is under way; what each client has at hand; and whether the script is at its end, which releases the calls that were held.
 pub record Playing : Type 0 where
   pub past : List Event
+  pub trimmed : ℕ
   pub flights : List Flight
   pub chore : Option ℕ
   pub seats : List Seat

@@ -38,6 +38,7 @@ impl Player {
         ensures course { OnOk result (SameCourse self.old self.new) }
         ensures run { KeepsWires W.told result self.old self.new wires.old wires.new }
         ensures fails { FailsForMemory result self.old.past self.new.past }
+        ensures trimmed { self.new.trimmed ≡ self.old.trimmed }
     {
         let Some(permit) = self.seats.take_permit(client) else {
             unreachable!();

@@ -46,6 +46,7 @@ impl Player {
         ensures taken { OnOk result (IsTaken permit self.old self.new) }
         ensures run { KeepsRun F.Fleet F.Wire.told result fleet.old fleet.new self.old self.new wires.old wires.new }
         ensures fails { FailsForMemory result self.old.past self.new.past }
+        ensures trimmed { self.new.trimmed ≡ self.old.trimmed }
     {
         let heard = connect_wire(wires, fleet, permit)?;
         self.hear(heard)
@@ -65,6 +66,7 @@ impl Player {
         ensures taken { OnOk result (IsTaken permit self.old self.new) }
         ensures run { KeepsRun F.Fleet F.Wire.told result fleet.old fleet.new self.old self.new wires.old wires.new }
         ensures fails { FailsForMemory result self.old.past self.new.past }
+        ensures trimmed { self.new.trimmed ≡ self.old.trimmed }
     {
         self.ask(wires, permit)
     }
@@ -77,6 +79,7 @@ impl Player {
         ensures asks { OnOk result (AsksWire W.told permit self.old self.new wires.old wires.new) }
         ensures fails { FailsForMemory result self.old.past self.new.past }
         ensures legal { Legal self.new.past }
+        ensures trimmed { self.new.trimmed ≡ self.old.trimmed }
     {
         let heard = wires.perform(permit)?;
         self.hear(heard)
@@ -88,6 +91,7 @@ impl Player {
         ensures takes { OnOk result ((permit : Leave) → heard ≡ answered permit heard.answer → TakesAnswer permit heard self.old self.new) }
         ensures fails { FailsForMemory result self.old.past self.new.past }
         ensures legal { Legal self.new.past }
+        ensures trimmed { self.new.trimmed ≡ self.old.trimmed }
     {
         self.engine.heard(heard)?;
         Ok(())

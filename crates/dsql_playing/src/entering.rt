@@ -25,6 +25,7 @@ impl Player {
         ensures past { self.new.past ≡ self.old.past }
         ensures course { OnOk result (SameCourse self.old self.new) }
         ensures act { ActsUnheard result self.old self.new }
+        ensures trimmed { self.new.trimmed ≡ self.old.trimmed }
     {
         self.seats.keep(client, line)?;
         Ok(())
@@ -40,6 +41,7 @@ impl Player {
         ensures grows { OnOk result (length self.old.past < length self.new.past) }
         ensures course { OnOk result (SameCourse self.old self.new) }
         ensures act { ActsUnheard result self.old self.new }
+        ensures trimmed { self.new.trimmed ≡ self.old.trimmed }
     {
         match self.seats.take_first(client) {
             Some(line) => self.enter(client, line),
@@ -56,6 +58,7 @@ impl Player {
         ensures grows { OnOk result (length self.old.past < length self.new.past) }
         ensures course { OnOk result (SameCourse self.old self.new) }
         ensures act { ActsUnheard result self.old self.new }
+        ensures trimmed { self.new.trimmed ≡ self.old.trimmed }
     {
         self.seats.seat_client(client)?;
         let KeptLine { op, held } = line;
@@ -72,6 +75,7 @@ impl Player {
         ensures tells { OnOk result ((m : Moment) → IsAt m self.old → TakesStep m self.old self.new (IsTold self.old.past control)) }
         ensures course { OnOk result (SameCourse self.old self.new) }
         ensures act { ActsUnheard result self.old self.new }
+        ensures trimmed { self.new.trimmed ≡ self.old.trimmed }
     {
         Ok(self.engine.control(control)?)
     }
@@ -85,6 +89,7 @@ impl Player {
         ensures ended { OnOk result (has_ended self.new.past ≡ true) }
         ensures released { self.new.released ≡ self.old.released }
         ensures act { ActsUnheard result self.old self.new }
+        ensures trimmed { self.new.trimmed ≡ self.old.trimmed }
     {
         Ok(self.engine.end()?)
     }

@@ -30,6 +30,7 @@ impl Player {
         ensures course { OnOk result (SameCourse self.old self.new) }
         ensures run { KeepsWires W.told result self.old self.new wires.old wires.new }
         ensures fails { FailsForMemory result self.old.past self.new.past }
+        ensures trimmed { self.new.trimmed ≡ self.old.trimmed }
     {
         if !self.has_call(client) {
             self.enter_kept(client)
@@ -55,6 +56,7 @@ impl Player {
         ensures course { OnOk result (SameCourse self.old self.new) }
         ensures run { KeepsWires W.told result self.old self.new wires.old wires.new }
         ensures fails { FailsForMemory result self.old.past self.new.past }
+        ensures trimmed { self.new.trimmed ≡ self.old.trimmed }
     {
         if self.wake(client)? {
             return Ok(());

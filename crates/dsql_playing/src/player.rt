@@ -1,4 +1,4 @@
-ghost use Rattle.std.specs.Prelude.{◌≡◌, ◌<◌, ◌≤◌, ◌∷◌, [], true, false, length, reverse, IfOk, OnOk, OnErr};
+ghost use Rattle.std.specs.Prelude.{◌≡◌, ◌<◌, ◌≤◌, ◌∷◌, [], true, false, drop, length, reverse, IfOk, OnOk, OnErr};
 ghost use Rattle.dsql_history.specs.declared.event.Event.TheVariants.{Run};
 ghost use Rattle.dsql_history.specs.Legal.{Legal};
 ghost use Rattle.dsql_follows.specs.Moments.{Moment, at_end, just_begun};
@@ -27,7 +27,7 @@ impl Model for Player {
 
     ghost Value = { Playing };
 
-    ghost view = { λ p. record { past = p.engine.past; flights = p.engine.flights; chore = p.engine.chore; seats = p.seats; released = p.released } };
+    ghost view = { λ p. record { past = p.engine.past; trimmed = p.engine.trimmed; flights = p.engine.flights; chore = p.engine.chore; seats = p.seats; released = p.released } };
 }
 
 impl Player {
@@ -38,6 +38,7 @@ impl Player {
         ensures at { IfOk result (λ p. IsAt (just_begun (Run version caps)) p) }
         ensures ready { IfOk result (λ p. IsReady p) }
         ensures unreleased { IfOk result (λ p. p.released ≡ false) }
+        ensures kept { IfOk result (λ p. p.trimmed ≡ 0) }
         ensures memory { OnErr result (result ≡ Err Halt.Memory) }
     {
         Ok(Player {
@@ -47,12 +48,40 @@ impl Player {
         })
     }
 
-    /// All that happened, oldest first.
+    /// All that happened and wasn't trimmed, oldest first.
     pub fn history(&self) -> &[Event]
-        ensures events { reverse result.now ≡ self.now.past }
+        ensures events { result.now ≡ drop self.now.trimmed (reverse self.now.past) }
+        ensures within { self.now.trimmed ≤ length self.now.past }
         ensures legal { Legal self.now.past }
     {
         self.engine.history()
+    }
+
+    /// How many events, the oldest, were trimmed.
+    pub fn trimmed(&self) -> u32
+        ensures { result ≡ self.now.trimmed }
+    {
+        self.engine.trimmed()
+    }
+
+    /// Trims the history: the events so far are kept no more, unless there are as many as a run may have.
+    pub fn trim(&mut self)
+        ensures past { self.new.past ≡ self.old.past }
+        ensures flights { self.new.flights ≡ self.old.flights }
+        ensures chore { self.new.chore ≡ self.old.chore }
+        ensures seats { self.new.seats ≡ self.old.seats }
+        ensures released { self.new.released ≡ self.old.released }
+        ensures within { self.new.trimmed ≤ length self.new.past }
+        ensures trimmed { length self.old.past < most_events → self.new.trimmed ≡ length self.new.past }
+        ensures ready { IsReady self.old → IsReady self.new }
+        ensures at { (m : Moment) → IsAt m self.old → IsAt m self.new }
+    {
+        // It vouches that no more were trimmed than there are.
+        let _history = self.engine.history();
+        if self.engine.is_full() {
+            return;
+        }
+        self.engine.trim();
     }
 
     /// Whether a step may still append events.
@@ -74,6 +103,7 @@ impl Player {
         requires ready { IsReady self.old }
         ensures past { self.new.past ≡ self.old.past }
         ensures released { self.new.released ≡ true }
+        ensures trimmed { self.new.trimmed ≡ self.old.trimmed }
         ensures ready { IsReady self.new }
         ensures at { (m : Moment) → IsAt m self.old → IsAt (at_end m) self.new }
     {

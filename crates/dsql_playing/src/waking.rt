@@ -30,6 +30,7 @@ impl Player {
         ensures grows { IfOk result (λ shows. shows ≡ true → length self.old.past < length self.new.past) }
         ensures course { OnOk result (SameCourse self.old self.new) }
         ensures act { ActsUnheard result self.old self.new }
+        ensures trimmed { self.new.trimmed ≡ self.old.trimmed }
     {
         let before = self.engine.history().len();
         let next = self.engine.wake(client)?;

@@ -1,6 +1,7 @@
 -- What was written of a summary.
-use Rattle.std.proofs.Common.{◌≡◌, ◌⊎◌, ℕ, false, List, length, Option, Some, None, refl, ap, sym, subst, ◌∙◌, inl, inr}
-use Rattle.std.specs.Prelude.{IfSome, Result, Ok, Err}
+use Rattle.std.proofs.Common.{◌≡◌, ◌⊎◌, ℕ, false, List, drop, length, Option, Some, None, refl, ap, sym, subst, ◌∙◌, inl, inr}
+use Rattle.std.specs.Prelude.{IfSome, Result, Ok, Err, reverse}
+use Rattle.std.proofs.lemmas.List.{reverse-reverse}
 use Rattle.dsql_driver.specs.Streams.{HasRisen}
 use Rattle.dsql_history.specs.declared.event.Event.{Event}
 use Rattle.dsql_show.specs.Report.{with_text}
@@ -20,6 +21,10 @@ whole_piece (Err Write) text w now over is = absurd over
 whole_piece (Err Memory) text w now over is = absurd over
 whole_piece (Err (Refused number fault)) text w now over is = is
 whole_piece (Err Full) text w now over is = absurd over
+
+-- where no event was trimmed all of the history is left
+pub all_kept : (past kept : List Event) (trimmed : ℕ) → trimmed ≡ 0 → kept ≡ drop trimmed (reverse past) → reverse kept ≡ past
+all_kept past kept trimmed none left = ap reverse (left ∙ ap (λ (n : ℕ). drop n (reverse past)) none) ∙ reverse-reverse past
 
 -- what nobody keeps is written without a fault
 pub no_write_fault : (stopped : Result (Unit {0}) Stop) (before after : Seen) → IsPlayed stopped (unreported before) (unreported after) → is_write_fault stopped ≡ false

@@ -38,6 +38,7 @@ pub(crate) fn play_line<K: Sink, F: Fleet>(
 ) -> Result<(), Stop>
     requires between { Between F.Wire.told (is_some (F.told fleet.old)) player.old wires.old }
     requires shown { shown.old ≡ length player.old.past }
+    requires trimmed { player.old.trimmed ≤ shown.old }
     ensures between { ran_out result ≡ true → Between F.Wire.told (is_some (F.told fleet.new)) player.new wires.new }
     ensures carries { ran_out result ≡ true → (m : Moment) → IsAt m player.old → Carries m line player.old player.new }
     ensures stops { ran_out result ≡ false → (m : Moment) → IsAt m player.old → StopsInLine m line player.old.past player.new.past }
@@ -45,6 +46,8 @@ pub(crate) fn play_line<K: Sink, F: Fleet>(
     ensures told { ran_out result ≡ true → FleetTells F.Wire.told (plans_of line player.old.past) (F.told fleet.old) (F.told fleet.new) player.old.past player.new.past wires.old wires.new }
     ensures asked { TellsAtMost F.Wire.told (plans_of line player.old.past) (F.told fleet.old) (F.told fleet.new) player.old.past player.new.past wires.old }
     ensures writes { WritesLine result player.old.past player.new.past (K.written output.old) shown.new (K.written output.new) }
+    ensures trimmed { player.new.trimmed ≡ player.old.trimmed }
+    ensures least { player.new.trimmed ≤ shown.new }
     ensures kinds { IfErr result IsPlayStop }
     ensures faults { CountsFaults (is_write_fault result) (K.faults output.old) (K.faults output.new) }
     ensures full { result ≡ Err Stop.Full → most_events ≤ length player.new.past }

@@ -24,6 +24,7 @@ fn end_run<F: Fleet>(player: &mut Player, wires: Wires<F::Wire>, fleet: &mut F) 
     ensures over { OnOk result (IsOver player.new.past) }
     ensures told { OnOk result (FleetTellsOn F.Wire.told (F.told fleet.old) (F.told fleet.new) player.old.past player.new.past wires) }
     ensures asked { OnErr result (LeavesAtMost F.Wire.told (F.told fleet.old) (F.told fleet.new) player.old.past player.new.past wires) }
+    ensures trimmed { player.new.trimmed ≡ player.old.trimmed }
     ensures full { result ≡ Err Stop.Full → most_events ≤ length player.new.past }
     ensures on { RunsOn F.Fleet fleet.old fleet.new player.old.past player.new.past }
 {
@@ -55,6 +56,7 @@ pub(crate) fn close<F: Fleet>(
     ensures asked { ran_out played ≡ true → ran_out result ≡ false → LeavesAtMost F.Wire.told (F.told fleet.old) (F.told fleet.new) player.old.past player.new.past wires }
     ensures unasked { ran_out played ≡ false → SameAsked (F.told fleet.old) (F.told fleet.new) }
     ensures stays { ran_out played ≡ false → player.new.past ≡ player.old.past }
+    ensures trimmed { player.new.trimmed ≡ player.old.trimmed }
     ensures full { result ≡ Err Stop.Full → most_events ≤ length player.new.past }
     ensures on { RunsOn F.Fleet fleet.old fleet.new player.old.past player.new.past }
 {

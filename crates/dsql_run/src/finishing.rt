@@ -39,6 +39,7 @@ pub(crate) fn finish<K: Sink>(
     played: Result<(), Stop>,
     ended: Result<(), Stop>,
 ) -> Result<(), Stop>
+    requires trimmed { player.now.trimmed ≤ shown.old }
     requires within { shown.old ≤ length player.now.past }
     requires same { ran_out ended ≡ true → ended ≡ played }
     requires kept { ran_out played ≡ false → ended ≡ played }

@@ -19,7 +19,7 @@ ghost use Rattle.dsql_wires.specs.WiresFit.{PlansFit};
 use crate::carrying::play_line;
 use crate::closing::close;
 use crate::finishing::finish;
-use crate::showing::show_history;
+use crate::showing::{show_history, trim_shown};
 use dsql_driver::{Fleet, Sink, Source};
 use dsql_player::Player;
 use dsql_reader::ScriptLine;
@@ -29,9 +29,10 @@ use dsql_wires::Wires;
 use std::alloc::Global;
 
 /// Plays a script's lines one after another from the first one behind its head on, each as soon as it is read,
-/// and writes what happened.
+/// and writes what happened. What was written is trimmed, unless all of the history is kept.
 fn play_lines<S: Source, K: Sink, F: Fleet>(
     alloc: Global,
+    keeps: bool,
     player: &mut Player,
     wires: &mut Wires<F::Wire>,
     shown: &mut Shown,
@@ -46,10 +47,13 @@ fn play_lines<S: Source, K: Sink, F: Fleet>(
     requires between { Between F.Wire.told (is_some (F.told fleet.old)) player.old wires.old }
     requires unplanned { PlansFit F.Wire.told [] player.old.past wires.old }
     requires shown { shown.old ≡ 0 }
+    requires whole { player.old.trimmed ≡ 0 }
     requires first { IsHeadRead first script.old.reader }
     ensures between { ran_out result ≡ true → Between F.Wire.told (is_some (F.told fleet.new)) player.new wires.new }
     ensures lines { (before : Option (List ℕ)) (asked : Option Caps) (skipped : List Line) → HasHead first before script.old (S.left input.old) asked skipped → LinesPlayed result before (S.left input.new) script.new.reader.lines asked (Run 1 (F.ability fleet.old)) player.new (K.written output.old) (K.written output.new) (lent F.Fleet F.Wire.told fleet.old fleet.new wires.new) }
     ensures writes { WritesLines result player.new.past (K.written output.old) shown.new (K.written output.new) }
+    ensures trimmed { player.new.trimmed ≤ shown.new }
+    ensures kept { keeps ≡ true → player.new.trimmed ≡ 0 }
     ensures reads { ReadsLater first result (S.faults input.old) (S.faults input.new) }
     ensures read_well { is_read_fault result ≡ false → S.faults input.new ≡ S.faults input.old }
     ensures faults { CountsFaults (is_write_fault result) (K.faults output.old) (K.faults output.new) }
@@ -69,13 +73,16 @@ fn play_lines<S: Source, K: Sink, F: Fleet>(
             line_as_played(line),
         )?;
         next = script.next(alloc, input)?;
+        trim_shown(player, keeps);
     }
     Ok(())
 }
 
-/// Plays a script from its first line behind its head on, and writes the report into the sink.
+/// Plays a script from its first line behind its head on, and writes the report into the sink. What was written is trimmed,
+/// unless all of the history is kept.
 fn play_from<S: Source, K: Sink, F: Fleet>(
     alloc: Global,
+    keeps: bool,
     player: &mut Player,
     script: &mut ScriptReader,
     first: Result<Option<ScriptLine>, Stop>,
@@ -86,10 +93,12 @@ fn play_from<S: Source, K: Sink, F: Fleet>(
     requires begun { player.old.past ≡ Run 1 (F.ability fleet.old) ∷ [] }
     requires at { IsAt (just_begun (Run 1 (F.ability fleet.old))) player.old }
     requires ready { IsReady player.old }
+    requires whole { player.old.trimmed ≡ 0 }
     requires first { IsHeadRead first script.old.reader }
     ensures on { RunsOn F.Fleet fleet.old fleet.new player.old.past player.new.past }
     ensures script { (before : Option (List ℕ)) (asked : Option Caps) (skipped : List Line) (failed : Bool) → HasHead first before script.old (S.left input.old) asked skipped → (first ≡ Err Stop.Read → failed ≡ true) → (HasRisen (S.faults input.old) (S.faults input.new) → failed ≡ true) → ScriptPlayed result before (S.left input.new) script.new.reader.lines asked failed (Run 1 (F.ability fleet.old)) player.new.past (K.written output.old) (K.written output.new) (F.told fleet.old) (F.told fleet.new) }
     ensures over { ran_out result ≡ true → IsOver player.new.past }
+    ensures kept { keeps ≡ true → player.new.trimmed ≡ 0 }
     ensures writes { Writes result (has_risen (K.faults output.old) (K.faults output.new)) (K.written output.old) player.new.past (K.written output.new) }
     ensures reads { ReadsLater first result (S.faults input.old) (S.faults input.new) }
     ensures read_well { no_read_failed result ≡ true → S.faults input.new ≡ S.faults input.old }
@@ -99,13 +108,13 @@ fn play_from<S: Source, K: Sink, F: Fleet>(
     let mut wires = Wires::new(alloc);
     let mut shown = Shown::none(alloc);
     let played = play_lines(
-        alloc, player, &mut wires, &mut shown, script, first, input, output, fleet,
+        alloc, keeps, player, &mut wires, &mut shown, script, first, input, output, fleet,
     );
     let ended = close(player, wires, fleet, played);
     finish(alloc, player, &mut shown, output, played, ended)
 }
 
-/// What a run keeps until it is over: its history with the tables over it, and what was read of the script.
+/// What a run keeps until it is over: what of its history wasn't trimmed, with the tables over it, and what was read of the script.
 #[derive(Drop)]
 pub(crate) struct Kept {
     pub player: Player,
@@ -131,9 +140,11 @@ impl Played {
     }
 }
 
-/// Plays a script as `play` does, and hands out what the run kept, which is long to give back.
+/// Plays a script as `play` does, and hands out what the run kept, which is long to give back. Where `keeps` is set that has
+/// the whole history, and else only what wasn't trimmed of it.
 pub(crate) fn play_keeping<S: Source, K: Sink, F: Fleet>(
     alloc: Global,
+    keeps: bool,
     input: &mut S,
     output: &mut K,
     fleet: &mut F,
@@ -144,6 +155,7 @@ pub(crate) fn play_keeping<S: Source, K: Sink, F: Fleet>(
     ensures kept { IfSome result.kept (λ kept. RanSo result.stopped
         (seen S.Source K.Sink F.Fleet input.old output.old fleet.old)
         (seen S.Source K.Sink F.Fleet input.new output.new fleet.new) kept.player.past kept.script.reader.lines) }
+    ensures whole { keeps ≡ true → IfSome result.kept (λ kept. kept.player.trimmed ≡ 0) }
     ensures none { result.kept ≡ None → NotBegun result.stopped
         (seen S.Source K.Sink F.Fleet input.old output.old fleet.old)
         (seen S.Source K.Sink F.Fleet input.new output.new fleet.new) }
@@ -157,7 +169,16 @@ pub(crate) fn play_keeping<S: Source, K: Sink, F: Fleet>(
         return Played::not_begun();
     };
     let mut player = player;
-    let stopped = play_from(alloc, &mut player, &mut script, first, input, output, fleet);
+    let stopped = play_from(
+        alloc,
+        keeps,
+        &mut player,
+        &mut script,
+        first,
+        input,
+        output,
+        fleet,
+    );
     Played {
         stopped,
         kept: Some(Kept { player, script }),
@@ -182,5 +203,5 @@ pub fn play<S: Source, K: Sink, F: Fleet>(
         (seen S.Source K.Sink F.Fleet input.old output.old fleet.old)
         (seen S.Source K.Sink F.Fleet input.new output.new fleet.new) }
 {
-    play_keeping(alloc, input, output, fleet).stopped
+    play_keeping(alloc, false, input, output, fleet).stopped
 }

@@ -32,7 +32,7 @@ fn run<S: Source, K: Sink, E: Sink, F: Fleet>(
         (seen_notes E.Sink notes.old) (seen_notes E.Sink notes.new) result }
     ensures silent { result ≡ 0 → notes.new ≡ notes.old }
 {
-    let Played { stopped, kept } = play_keeping(alloc, input, output, fleet);
+    let Played { stopped, kept } = play_keeping(alloc, false, input, output, fleet);
 
     // The process ends with the run and gives all memory back at once, which takes no time for each event.
     mem::forget(kept);

@@ -1,9 +1,12 @@
-//! What happened in a run is written as it comes.
-ghost use Rattle.std.specs.Prelude.{◌≡◌, ◌≤◌, ℕ, List, Option, length, OnOk, OnErr, IfErr};
+//! What happened in a run is written as it comes, and trimmed where it isn't kept.
+ghost use Rattle.std.specs.Prelude.{◌≡◌, ◌<◌, ◌≤◌, ℕ, List, Option, true, false, length, OnOk, OnErr, IfErr};
 ghost use Rattle.dsql_history.specs.Legal.{Legal};
+ghost use Rattle.dsql_follows.specs.Moments.{Moment};
 ghost use Rattle.dsql_outcome.specs.Runs.{IsShowStop, is_write_fault};
+ghost use Rattle.dsql_playing.specs.Playing.{IsAt, IsReady};
 ghost use Rattle.dsql_report.specs.Lines.{text_of};
 ghost use Rattle.dsql_show.specs.Report.{Shows, StopsBetween, is_sink_fault, oldest, with_text};
+ghost use Rattle.dsql_steps.specs.Groups.{most_events};
 ghost use Rattle.dsql_stream.specs.Faults.{CountsFaults};
 
 use dsql_driver::Sink;
@@ -20,15 +23,17 @@ pub(crate) fn show_rest<K: Sink>(
     shown: &mut Shown,
     output: &mut K,
 ) -> Result<(), ShowFault>
-    requires { shown.old ≤ length player.now.past }
+    requires trimmed { player.now.trimmed ≤ shown.old }
+    requires within { shown.old ≤ length player.now.past }
     ensures ok { OnOk result (shown.new ≡ length player.now.past) }
     ensures within { shown.new ≤ length player.now.past }
+    ensures trimmed { player.now.trimmed ≤ shown.new }
     ensures shows { OnOk result ((w : Option (List ℕ)) → Shows w shown.old player.now.past (K.written output.old) → K.written output.new ≡ with_text w (text_of player.now.past)) }
     ensures stops { OnErr result ((w : Option (List ℕ)) → Shows w shown.old player.now.past (K.written output.old) → StopsBetween w (text_of (oldest shown.old player.now.past)) (text_of player.now.past) (K.written output.new)) }
     ensures faults { CountsFaults (is_sink_fault result) (K.faults output.old) (K.faults output.new) }
     ensures legal { Legal player.now.past }
 {
-    show(alloc, player.history(), shown, output)
+    show(alloc, player.history(), player.trimmed(), shown, output)
 }
 
 /// Writes a run's events that weren't shown yet. What stops that stops the run.
@@ -38,9 +43,11 @@ pub(crate) fn show_history<K: Sink>(
     shown: &mut Shown,
     output: &mut K,
 ) -> Result<(), Stop>
-    requires { shown.old ≤ length player.now.past }
+    requires trimmed { player.now.trimmed ≤ shown.old }
+    requires within { shown.old ≤ length player.now.past }
     ensures ok { OnOk result (shown.new ≡ length player.now.past) }
     ensures within { shown.new ≤ length player.now.past }
+    ensures trimmed { player.now.trimmed ≤ shown.new }
     ensures shows { OnOk result ((w : Option (List ℕ)) → Shows w shown.old player.now.past (K.written output.old) → K.written output.new ≡ with_text w (text_of player.now.past)) }
     ensures stops { OnErr result ((w : Option (List ℕ)) → Shows w shown.old player.now.past (K.written output.old) → StopsBetween w (text_of (oldest shown.old player.now.past)) (text_of player.now.past) (K.written output.new)) }
     ensures kinds { IfErr result IsShowStop }
@@ -50,5 +57,20 @@ pub(crate) fn show_history<K: Sink>(
     match show_rest(alloc, player, shown, output) {
         Ok(()) => Ok(()),
         Err(fault) => Err(stop_of_show(fault)),
+    }
+}
+
+/// Trims a run's events, all of which were shown, unless they are kept or there are as many as a run may have.
+pub(crate) fn trim_shown(player: &mut Player, keeps: bool)
+    requires { player.old.trimmed ≤ length player.old.past }
+    ensures past { player.new.past ≡ player.old.past }
+    ensures within { player.new.trimmed ≤ length player.new.past }
+    ensures kept { keeps ≡ true → player.new.trimmed ≡ player.old.trimmed }
+    ensures trimmed { keeps ≡ false → length player.old.past < most_events → player.new.trimmed ≡ length player.new.past }
+    ensures ready { IsReady player.old → IsReady player.new }
+    ensures at { (m : Moment) → IsAt m player.old → IsAt m player.new }
+{
+    if !keeps {
+        player.trim();
     }
 }

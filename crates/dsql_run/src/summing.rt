@@ -45,7 +45,7 @@ pub(crate) fn sum_up<S: Source, K: Sink, E: Sink, F: Fleet>(
     ensures silent { result ≡ 0 → notes.new ≡ notes.old }
 {
     let mut unkept = Unkept;
-    let Played { stopped, kept } = play_keeping(alloc, input, &mut unkept, fleet);
+    let Played { stopped, kept } = play_keeping(alloc, true, input, &mut unkept, fleet);
     let told = write_summary(alloc, stopped, &kept, output);
 
     // As with a report, all memory is given back at once as the process ends.
@@ -68,6 +68,7 @@ fn write_summary<K: Sink>(
     kept: &Option<Kept>,
     output: &mut K,
 ) -> Result<(), Stop>
+    requires whole { IfSome kept.now (λ kept. kept.player.trimmed ≡ 0) }
     ensures finishes { Finishes stopped result }
     ensures written { IfSome kept.now (λ kept. WritesPiece result (line_of (summary_of kept.script.reader.lines kept.player.past)) (K.written output.old) (K.written output.new)) }
     ensures none { kept.now ≡ None → output.new ≡ output.old }

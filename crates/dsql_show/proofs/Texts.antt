@@ -1,11 +1,11 @@
 -- The lines of a report one after another.
-use Rattle.std.proofs.Common.{◌≡◌, ℕ, ◌-◌, ◌<◌, List, [], ◌∷◌, ◌++◌, Option, Some, None, length, take, drop, refl, sym, ap, ◌∙◌, arith, length-append, length-drop}
+use Rattle.std.proofs.Common.{◌≡◌, ℕ, ◌-◌, ◌<◌, ◌≤◌, ◌+◌, List, [], ◌∷◌, ◌++◌, Option, Some, None, length, take, drop, refl, sym, ap, subst, ◌∙◌, arith, length-append, length-drop}
 use Rattle.std.specs.Prelude.{reverse}
-use Rattle.std.proofs.lemmas.List.{reverse-append, reverse-reverse, append_assoc, append-nil, take-append-drop, take_all}
+use Rattle.std.proofs.lemmas.List.{reverse-append, reverse-reverse, append_assoc, append-nil, drop-drop, length-reverse, take-append-drop, take_all}
 use Rattle.dsql_history.specs.declared.event.Event.{Event}
 use Rattle.serde_json.specs.Written.{compact_text}
 use Rattle.dsql_report.specs.Lines.{json_of, line_of, text_of}
-use Rattle.dsql_show.specs.Report.{with_text, oldest, Shows, StopsBetween}
+use Rattle.dsql_show.specs.Report.{with_text, oldest, IsLeftOf, Shows, StopsBetween}
 
 pub with_both : (w : Option (List ℕ)) (a b : List ℕ) → with_text (with_text w a) b ≡ with_text w (a ++ b)
 with_both None a b = refl
@@ -68,3 +68,29 @@ slice_rest n events = take_all (length events - n) (drop n events) (omega (arith
 pub shows_next : (w now next : Option (List ℕ)) (n : ℕ) (events : List Event) → Shows w n (reverse events) now → next ≡ with_text now (text_of (reverse (drop n events))) → next ≡ with_text w (text_of (reverse events))
 shows_next w now next n events shows is =
     is ∙ rw shows (with_both w (text_of (oldest n (reverse events))) (text_of (reverse (drop n events)))) ∙ ap (with_text w) (sym (text_rest n events))
+
+-- Of the history so many events, the oldest, were trimmed.
+
+pub left_rest : (past kept : List Event) (trimmed n : ℕ) → IsLeftOf past trimmed kept → trimmed ≤ n → drop (n - trimmed) kept ≡ drop n (reverse past)
+left_rest past kept trimmed n left more =
+    ap (drop (n - trimmed)) left.rest ∙ (drop-drop (n - trimmed) trimmed (reverse past) ∙ ap (λ (k : ℕ). drop k (reverse past)) (omega (arith, more)))
+
+-- all of the history is what was trimmed and what is left
+pub left_length : (past kept : List Event) (trimmed : ℕ) → IsLeftOf past trimmed kept → trimmed + length kept ≡ length past
+left_length past kept trimmed left = omega (arith, ap length left.rest, length-drop trimmed (reverse past), length-reverse past, left.within)
+
+module _ (w now next : Option (List ℕ)) (n trimmed : ℕ) (past kept : List Event) (left : IsLeftOf past trimmed kept) (more : trimmed ≤ n) (shows : Shows w n past now) where
+  as_it_came : Shows w n (reverse (reverse past)) now
+  as_it_came = subst (λ (P : List Event). Shows w n P now) (sym (reverse-reverse past)) shows
+
+  -- all events were shown
+  pub shows_left : next ≡ with_text now (text_of (reverse (drop (n - trimmed) kept))) → next ≡ with_text w (text_of past)
+  shows_left is =
+      subst (λ (P : List Event). next ≡ with_text w (text_of P)) (reverse-reverse past)
+      (shows_next w now next n (reverse past) as_it_came (subst (λ (es : List Event). next ≡ with_text now (text_of (reverse es))) (left_rest past kept trimmed n left more) is))
+
+  -- the sink stopped at the text of the events that come next
+  pub stops_left : StopsBetween now [] (text_of (reverse (drop (n - trimmed) kept))) next → StopsBetween w (text_of (oldest n past)) (text_of past) next
+  stops_left f =
+      subst (λ (P : List Event). StopsBetween w (text_of (oldest n P)) (text_of P) next) (reverse-reverse past)
+      (stops_next w now next n (reverse past) as_it_came (subst (λ (es : List Event). StopsBetween now [] (text_of (reverse es)) next) (left_rest past kept trimmed n left more) f))

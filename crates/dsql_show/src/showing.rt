@@ -1,7 +1,8 @@
-ghost use Rattle.std.specs.Prelude.{◌≡◌, ◌<◌, ◌≤◌, ℕ, List, [], Option, OnOk, OnErr, length, reverse, true};
+ghost use Rattle.std.specs.Prelude.{◌≡◌, ◌<◌, ◌≤◌, ◌+◌, ℕ, List, [], Option, OnOk, OnErr, length, reverse, true};
+ghost use Rattle.dsql_history.specs.declared.event.Event.{Event as Happened};
 ghost use Rattle.dsql_report.specs.Lines.{text_of};
 ghost use Rattle.dsql_stream.specs.Faults.{CountsFaults, GivenUp};
-ghost use Rattle.dsql_show.specs.Report.{Shows, StopsBetween, is_sink_fault, oldest, with_text};
+ghost use Rattle.dsql_show.specs.Report.{IsLeftOf, Shows, StopsBetween, is_sink_fault, oldest, with_text};
 ghost use Rattle.dsql_show.specs.declared.showing.ShowFault.TheVariants as faults;
 
 use dsql_driver::Sink;
@@ -95,22 +96,27 @@ fn show_events<K: Sink>(
     Ok(())
 }
 
-/// Writes the lines of a history's events that weren't shown, oldest first, and counts those that are.
+/// Writes the lines of a history's events that weren't shown, oldest first, and counts those that are. Of the history only
+/// these events are kept: so many, the oldest, were trimmed, and they were shown.
 pub fn show<K: Sink>(
     alloc: Global,
-    history: &[Event],
+    kept: &[Event],
+    trimmed: u32,
     shown: &mut Shown,
     output: &mut K,
 ) -> Result<(), ShowFault>
-    requires { shown.old ≤ length history.now }
-    ensures ok { OnOk result (shown.new ≡ length history.now) }
-    ensures within { shown.new ≤ length history.now }
-    ensures shows { OnOk result ((w : Option (List ℕ)) → Shows w shown.old (reverse history.now) (K.written output.old) → K.written output.new ≡ with_text w (text_of (reverse history.now))) }
-    ensures stops { OnErr result ((w : Option (List ℕ)) → Shows w shown.old (reverse history.now) (K.written output.old) → StopsBetween w (text_of (oldest shown.old (reverse history.now))) (text_of (reverse history.now)) (K.written output.new)) }
+    requires trimmed { trimmed ≤ shown.old }
+    requires within { shown.old ≤ trimmed + length kept.now }
+    ensures ok { OnOk result ((past : List Happened) → IsLeftOf past trimmed kept.now → shown.new ≡ length past) }
+    ensures within { (past : List Happened) → IsLeftOf past trimmed kept.now → shown.new ≤ length past }
+    ensures trimmed { trimmed ≤ shown.new }
+    ensures shows { OnOk result ((past : List Happened) → IsLeftOf past trimmed kept.now → (w : Option (List ℕ)) → Shows w shown.old past (K.written output.old) → K.written output.new ≡ with_text w (text_of past)) }
+    ensures stops { OnErr result ((past : List Happened) → IsLeftOf past trimmed kept.now → (w : Option (List ℕ)) → Shows w shown.old past (K.written output.old) → StopsBetween w (text_of (oldest shown.old past)) (text_of past) (K.written output.new)) }
     ensures faults { CountsFaults (is_sink_fault result) (K.faults output.old) (K.faults output.new) }
     ensures given_up { is_sink_fault result ≡ true → GivenUp K.Sink output.old output.new }
 {
-    show_events(alloc, &history[shown.count..], &mut shown.lines, output)?;
-    shown.count = history.len();
+    let shown_of_kept = shown.count - trimmed as usize;
+    show_events(alloc, &kept[shown_of_kept..], &mut shown.lines, output)?;
+    shown.count = trimmed as usize + kept.len();
     Ok(())
 }

@@ -30,6 +30,7 @@ returns-then-has_call c =
       admits = admits_kept client c.args.line old new c.requires.ready waits done.past done.keeps;
       course = done.course;
       act = acts_answer {A = Unit {0}} tt false old new done.act;
+      trimmed = done.trimmed;
     }
 
 pub enter-requires-clause-free : goal.enter-requires-clause-free
@@ -51,4 +52,5 @@ returns c =
       admits = admits_entered client c.args.line old new c.requires.ready (sym c.if-has_call.ensures) none c.in_ok-enter.ensures.enters;
       course = c.in_ok-enter.ensures.course;
       act = acts_answer {A = Unit {0}} tt true old new c.in_ok-enter.ensures.act;
+      trimmed = c.in_ok-enter.ensures.trimmed;
     }

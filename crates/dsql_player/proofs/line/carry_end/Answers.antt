@@ -51,6 +51,7 @@ returns-in_err-run_on g c =
           run_after g.F.Fleet g.F.Wire.Wire.told _ c.args.fleet.now c.run_on.new.fleet old begun new c.args.wires.now c.run_on.new.wires (hears_none old.past begun.past c.release.ensures.past)
           (record { ready = tt; told = tt; asked = e.run.asked; wires = tt; able = e.run.able; legal = e.run.legal });
       full = λ h. e.full (cc (h, p.2));
+      trimmed = e.trimmed ∙ c.release.ensures.trimmed;
     })
 
 pub returns-in_err-end_run : goal.returns-in_err-end_run
@@ -74,6 +75,7 @@ returns-in_err-end_run g c =
       empty = tt;
       run = run_halts g.F.Fleet g.F.Wire.Wire.told _ c.args.fleet.now c.run_on.new.fleet old begun far over c.args.wires.now c.run_on.new.wires c.release.ensures.past done.run.told done.run.able e.act.unheard e.act.legal;
       full = λ h. absurd (cc (h, p.2, e.act.fails.memory));
+      trimmed = e.trimmed ∙ (done.trimmed ∙ c.release.ensures.trimmed);
     })
 
 pub returns-clause-carries : goal.returns-clause-carries

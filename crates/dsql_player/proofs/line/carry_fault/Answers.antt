@@ -20,6 +20,7 @@ returns-in_err-plan g c =
       course = tt;
       run = run_unasked _ g.F.Fleet g.F.Wire.Wire.told _ c.args.fleet.now c.plan.new.fleet old c.args.wires.now c.plan.new.wires refl c.in_err-plan.ensures.unplanned c.plan.ensures.able c.requires.ready.legal;
       full = λ h. absurd (cc (h, p.2));
+      trimmed = refl;
     })
 
 pub run_on-requires-clause-wires : goal.run_on-requires-clause-wires

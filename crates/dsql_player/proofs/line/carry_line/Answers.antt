@@ -19,6 +19,7 @@ returns-in_err-check_room g c =
       course = tt;
       run = run_unplanned _ g.F.Fleet g.F.Wire.Wire.told _ c.args.fleet.now old old c.args.wires.now c.args.wires.now refl refl c.in_err-check_room.ensures.legal;
       full = λ h. c.in_err-check_room.ensures.full;
+      trimmed = refl;
     })
 
 pub returns-in_err-admit-in-Start : goal.returns-in_err-admit-in-Start
@@ -33,6 +34,7 @@ returns-in_err-admit-in-Start g c =
       course = tt;
       run = run_unplanned _ g.F.Fleet g.F.Wire.Wire.told _ c.args.fleet.now old c.admit.new.player c.args.wires.now c.args.wires.now refl e.act.fails.same e.act.legal;
       full = λ h. absurd (cc (h, p.2, e.act.fails.memory));
+      trimmed = e.trimmed;
     })
 
 pub returns-in_ok-admit-in-Start-clause-carries : goal.returns-in_ok-admit-in-Start-clause-carries
@@ -95,6 +97,7 @@ returns-in_err-begin-in_default g c =
       course = tt;
       run = run_unplanned _ g.F.Fleet g.F.Wire.Wire.told _ c.args.fleet.now old c.begin.new.player c.args.wires.now c.args.wires.now refl e.act.fails.same e.act.legal;
       full = λ h. absurd (cc (h, p.2, e.act.fails.memory));
+      trimmed = e.trimmed;
     })
 
 pub returns-in_ok-begin-in_default-clause-carries : goal.returns-in_ok-begin-in_default-clause-carries

@@ -22,6 +22,7 @@ returns-in_err-check_room g c =
       course = tt;
       run = run_stays g.F.Fleet g.F.Wire.Wire.told _ c.args.fleet.now old old c.args.wires.now c.args.wires.now refl (hears_none old.past old.past refl) c.in_err-check_room.ensures.legal;
       full = λ h. c.in_err-check_room.ensures.full;
+      trimmed = refl;
     })
 
 pub make_first_chore-requires-clause-ready : goal.make_first_chore-requires-clause-ready
@@ -45,6 +46,7 @@ returns-in_err-make_first_chore g c =
       course = tt;
       run = record { ready = tt; told = tt; asked = e.run.asked; wires = tt; able = e.run.able; legal = e.run.legal };
       full = λ h. absurd (cc (h, p.2, e.fails.memory));
+      trimmed = e.trimmed;
     })
 
 pub returns-then-branch : goal.returns-then-branch
@@ -60,6 +62,7 @@ returns-then-branch g c =
       course = done.course;
       run = record { ready = done.run.ready; told = done.run.told; asked = tt; wires = done.run.wires; able = done.run.able; legal = done.run.legal };
       full = λ h. absurd cc;
+      trimmed = done.trimmed;
     }
 
 pub next_client-requires : goal.next_client-requires
@@ -98,6 +101,7 @@ returns-in_err-go_on_with-in-Some g c =
           run_then [] g.F.Fleet g.F.Wire.Wire.told _ c.args.fleet.now c.make_first_chore.new.fleet c.make_first_chore.new.fleet old mid new c.args.wires.now c.make_first_chore.new.wires c.go_on_with.new.wires done.run.told done.run.able
           (run_stays g.F.Fleet g.F.Wire.Wire.told _ c.make_first_chore.new.fleet mid new c.make_first_chore.new.wires c.go_on_with.new.wires refl (hears_none mid.past new.past e.fails.same) e.run.legal);
       full = λ h. absurd (cc (h, p.2, e.fails.memory));
+      trimmed = e.trimmed ∙ done.trimmed;
     })
 
 pub returns-in_ok-go_on_with-in-Some : goal.returns-in_ok-go_on_with-in-Some
@@ -117,6 +121,7 @@ returns-in_ok-go_on_with-in-Some g c =
           run_then [] g.F.Fleet g.F.Wire.Wire.told _ c.args.fleet.now c.make_first_chore.new.fleet c.make_first_chore.new.fleet old mid new c.args.wires.now c.make_first_chore.new.wires c.go_on_with.new.wires done.run.told done.run.able
           (run_goes g.F.Fleet g.F.Wire.Wire.told _ c.make_first_chore.new.fleet mid new c.make_first_chore.new.wires c.go_on_with.new.wires done.run.wires more.run.ready more.run.wires more.run.plans more.run.told more.run.legal);
       full = λ h. absurd cc;
+      trimmed = more.trimmed ∙ done.trimmed;
     }
 
 pub returns-in-None : goal.returns-in-None
@@ -132,4 +137,5 @@ returns-in-None g c =
       course = done.course;
       run = record { ready = done.run.ready; told = done.run.told; asked = tt; wires = done.run.wires; able = done.run.able; legal = done.run.legal };
       full = λ h. absurd cc;
+      trimmed = done.trimmed;
     }

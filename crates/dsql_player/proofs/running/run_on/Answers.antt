@@ -1,4 +1,4 @@
-use Rattle.std.proofs.Common.{false, true, [], arith, refl, subst}
+use Rattle.std.proofs.Common.{false, true, [], arith, refl, subst, ◌∙◌}
 use Rattle.std.proofs.lemmas.Result.{err_from_is_err_and}
 use Rattle.dsql_playing.specs.Stepping.{GoesOn}
 use Rattle.dsql_playing.proofs.Going.{runs_more, runs_none}
@@ -17,6 +17,7 @@ loop-init g c =
       told = tells_none g.F.Wire.Wire.told (g.F.Fleet.told c.args.fleet.now) p.past p.past c.args.wires.now c.args.wires.now (λ made. refl) (λ made its. its);
       wires = c.requires.wires;
       able = able_same g.F.Fleet c.args.fleet.now;
+      trimmed = refl;
     }
 
 pub go_on-requires-clause-ready : goal.go_on-requires-clause-ready
@@ -42,6 +43,7 @@ loop-preserved g c =
           done.told more.run.told;
       wires = more.run.wires;
       able = able_then g.F.Fleet c.args.fleet.now c.loop.fleet c.go_on.new.fleet done.able more.run.able;
+      trimmed = more.trimmed ∙ done.trimmed;
     }
 
 pub loop-smaller : goal.loop-smaller
@@ -73,6 +75,7 @@ returns-in_err-go_on g c =
           run_then [] g.F.Fleet g.F.Wire.Wire.told _ c.args.fleet.now c.loop.fleet c.go_on.new.fleet old mid new c.args.wires.now c.loop.wires c.go_on.new.wires done.told done.able
           (record { ready = tt; told = tt; asked = more.run.asked; wires = tt; able = more.run.able; legal = more.run.legal });
       full = λ h. more.full (cc (h, p.2));
+      trimmed = more.trimmed ∙ done.trimmed;
     })
 
 pub returns : goal.returns
@@ -93,4 +96,5 @@ returns g c =
           run_then [] g.F.Fleet g.F.Wire.Wire.told _ c.args.fleet.now c.loop.fleet c.go_on.new.fleet old mid new c.args.wires.now c.loop.wires c.go_on.new.wires done.told done.able
           (record { ready = more.run.ready; told = more.run.told; asked = tt; wires = more.run.wires; able = more.run.able; legal = more.run.legal });
       full = λ h. absurd cc;
+      trimmed = more.trimmed ∙ done.trimmed;
     }

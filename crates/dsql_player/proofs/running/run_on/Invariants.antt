@@ -1,4 +1,4 @@
-use Rattle.std.proofs.Common.{◌-◌, [], length, is_some}
+use Rattle.std.proofs.Common.{◌≡◌, ◌-◌, [], length, is_some}
 use Rattle.dsql_follows.specs.Moments.{Moment}
 use Rattle.dsql_steps.specs.Groups.{most_events}
 use Rattle.dsql_wires.specs.Told.{FleetTells, SameAbility}
@@ -16,6 +16,7 @@ invariant-loop g l = record {
   told : FleetTells g.F.Wire.Wire.told [] (g.F.Fleet.told l.fn.fleet) (g.F.Fleet.told l.fleet) l.fn.player.past l.player.past l.fn.wires l.wires;
   wires : WiresFit g.F.Wire.Wire.told (is_some (g.F.Fleet.told l.fleet)) l.player.past l.wires;
   able : SameAbility g.F.Fleet l.fn.fleet l.fleet;
+  trimmed : l.player.trimmed ≡ l.fn.player.trimmed;
 }
 
 abbrev pub decreases-loop : goal.decreases-loop

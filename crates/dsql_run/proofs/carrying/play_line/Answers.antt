@@ -60,8 +60,8 @@ returns-in-Err-clause-on g c = record {
 
 -- It was, and its events are written.
 
-pub show_history-requires : goal.show_history-requires
-show_history-requires g c =
+pub show_history-requires-clause-within : goal.show_history-requires-clause-within
+show_history-requires-clause-within g c =
     omega (
       arith,
       c.requires.shown,

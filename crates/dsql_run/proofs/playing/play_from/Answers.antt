@@ -34,6 +34,9 @@ returns-clause-on g c = record {
   legal = c.close-ended.ensures.on.legal;
 }
 
+pub returns-clause-kept : goal.returns-clause-kept
+returns-clause-kept g c = λ keeps. c.close-ended.ensures.trimmed ∙ c.play_lines-played.ensures.kept keeps
+
 pub returns-clause-script : goal.returns-clause-script
 returns-clause-script g c = λ before asked skipped failed head first_failed risen_failed.
     script_played c.play_lines-played.result c.close-ended.result c.finish.result before (g.S.Source.left c.play_lines-played.new.input) c.play_lines-played.new.script.reader.lines asked failed (Run 1 (g.F.Fleet.ability c.args.fleet.now)) c.play_lines-played.new.player c.close-ended.new.player.past

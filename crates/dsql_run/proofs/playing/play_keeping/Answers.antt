@@ -53,4 +53,4 @@ returns g c =
       full = c.play_from-stopped.ensures.full;
     }
     in
-    record { ran = inl ran; kept = record { ran = ran; is = refl; counted = script.counted }; none = λ is. absurd (cc is) }
+    record { ran = inl ran; kept = record { ran = ran; is = refl; counted = script.counted }; whole = c.play_from-stopped.ensures.kept; none = λ is. absurd (cc is) }

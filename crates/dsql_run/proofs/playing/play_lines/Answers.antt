@@ -1,6 +1,7 @@
-use Rattle.std.proofs.Common.{◌≡◌, ◌≤◌, ◌∙◌, true, refl, sym, subst, arith, length}
-use Rattle.std.specs.Prelude.{IfSome, Ok, Err}
+use Rattle.std.proofs.Common.{◌≡◌, ◌≤◌, ◌∙◌, true, List, refl, ap, sym, subst, arith, length}
+use Rattle.std.specs.Prelude.{IfSome, Ok, Err, is_some}
 use Rattle.std.proofs.lemmas.Result.{IfOk-at_ok}
+use Rattle.dsql_history.specs.declared.event.Event.{Event}
 use Rattle.dsql_history.specs.declared.event.Event.TheVariants.{Run}
 use Rattle.dsql_reader.specs.ScriptLines.{most_lines}
 use Rattle.dsql_reader.specs.declared.script.Head.TheVariants.{Begun}
@@ -13,6 +14,7 @@ use Rattle.dsql_playing.specs.Playing.{IsAt}
 use Rattle.dsql_script_source.specs.Plays.{saying}
 use Rattle.dsql_script_source.specs.Reading.{IsBodyLine, is_body}
 use Rattle.dsql_script_source.proofs.Errors.{err_is}
+use Rattle.dsql_wires.specs.Extends.{Extends}
 use Rattle.dsql_wires.specs.Told.{FleetTells, TellsAtMost}
 use Rattle.dsql_outcome.specs.Lent.{lent}
 use Rattle.dsql_wires.proofs.Extending.{extends_same, extends_then}
@@ -21,6 +23,7 @@ use Rattle.dsql_outcome.proofs.Ending.{failed_is}
 use Rattle.dsql_outcome.proofs.Lines.{first_cut, first_ends, first_so_far, first_stops, line_ends, line_so_far, play_ends_none, read_ends, script_ends}
 use Rattle.dsql_outcome.proofs.Writing.{all_shown, no_text, show_stops, wrote_at_rest, wrote_shown}
 use Rattle.dsql_run.proofs.Going.{begins_telling}
+use Rattle.dsql_run.proofs.LettingGo.{between_still, so_far_still}
 use Rattle.dsql_run.proofs.Heading.{always_headed, fewer}
 use Rattle.dsql_run.proofs.playing.play_lines.Goals as goal
 
@@ -163,6 +166,8 @@ loop-next-init g c = record {
   headed = IfOk-at_ok (λ line. IfSome line (λ _. c.args.script.now.reader.head ≡ Begun)) c.in_ok-next.was c.requires.first.begun;
   few = IfOk-at_ok (λ line. IfSome line (λ _. c.args.script.now.reader.lines ≤ most_lines)) c.in_ok-next.was c.requires.first.few;
   shown = c.in_ok-show_history.ensures.ok;
+  trimmed = c.show_history.ensures.trimmed;
+  kept = λ keeps. c.requires.whole;
   written = λ w start. start;
   reads = refl;
   writes = refl;
@@ -170,6 +175,9 @@ loop-next-init g c = record {
   ability = refl;
   preferred = refl;
 }
+
+pub trim_shown-requires : goal.trim_shown-requires
+trim_shown-requires g c = omega (arith, c.play_line.ensures.least, c.in_ok-play_line.ensures.writes.shown)
 
 pub loop-next-smaller : goal.loop-next-smaller
 loop-next-smaller g c =
@@ -180,24 +188,32 @@ pub loop-next-preserved : goal.loop-next-preserved
 loop-next-preserved g c =
     let body : is_body c.in-Some.line ≡ true = rw c.in-Some.is at c.loop-next.invariant.body in
     let begun = rw c.in-Some.is at c.loop-next.invariant.headed in
+    let mid = c.play_line.new.player in
+    let new = c.trim_shown.new.player in
+    let same = c.trim_shown.ensures.past in
+    let stays = c.trim_shown.ensures.at in
     record {
-      between = c.in_ok-play_line.ensures.between refl;
+      between = between_still mid new same stays g.F.Wire.Wire.told (is_some (g.F.Fleet.told c.play_line.new.fleet)) c.play_line.new.wires c.trim_shown.ensures.ready (c.in_ok-play_line.ensures.between refl);
       so_far = λ before asked skipped head.
-          line_so_far c.loop-next.next (Ok c.in_ok-next-2.next) before c.loop-next.script c.next.new.self (g.S.Source.left c.loop-next.input) (g.S.Source.left c.next.new.input) asked (Run 1 (g.F.Fleet.ability c.args.fleet.now)) c.in-Some.line
+          so_far_still mid new same stays (Ok c.in_ok-next-2.next) before c.next.new.self (g.S.Source.left c.next.new.input) asked (Run 1 (g.F.Fleet.ability c.args.fleet.now)) (lent g.F.Fleet g.F.Wire.Wire.told c.args.fleet.now c.play_line.new.fleet c.play_line.new.wires)
+          (line_so_far c.loop-next.next (Ok c.in_ok-next-2.next) before c.loop-next.script c.next.new.self (g.S.Source.left c.loop-next.input) (g.S.Source.left c.next.new.input) asked (Run 1 (g.F.Fleet.ability c.args.fleet.now)) c.in-Some.line
           c.loop-next.player c.play_line.new.player (lent g.F.Fleet g.F.Wire.Wire.told c.args.fleet.now c.loop-next.fleet c.loop-next.wires) (lent g.F.Fleet g.F.Wire.Wire.told c.args.fleet.now c.play_line.new.fleet c.play_line.new.wires) c.in-Some.is body (c.loop-next.invariant.so_far before asked skipped head)
           (subst (λ line. (m : Moment) → IsAt m c.loop-next.player → Carries m line c.loop-next.player c.play_line.new.player) c.line_as_played.ensures (c.in_ok-play_line.ensures.carries refl))
           (λ made just. (subst (λ line. FleetTells g.F.Wire.Wire.told (plans_of line c.loop-next.player.past) (g.F.Fleet.told c.loop-next.fleet) (g.F.Fleet.told c.play_line.new.fleet) c.loop-next.player.past c.play_line.new.player.past c.loop-next.wires c.play_line.new.wires)
           c.line_as_played.ensures (c.in_ok-play_line.ensures.told refl)).told made (g.F.Fleet.told c.args.fleet.now) just)
-          (λ lines read. c.in_ok-next-2.ensures.reads before (saying asked lines) read) (λ lines read. c.in_ok-next-2.ensures.counted before (saying asked lines) read);
+          (λ lines read. c.in_ok-next-2.ensures.reads before (saying asked lines) read) (λ lines read. c.in_ok-next-2.ensures.counted before (saying asked lines) read));
       body = c.in_ok-next-2.ensures.body begun;
       headed = always_headed c.in_ok-next-2.next c.next.new.self.reader (c.in_ok-next-2.ensures.begun begun);
       few = c.in_ok-next-2.ensures.few;
-      shown = c.in_ok-play_line.ensures.writes.shown;
-      written = λ w start. all_shown w (g.K.Sink.written c.play_line.new.output) c.play_line.new.shown c.play_line.new.player.past c.in_ok-play_line.ensures.writes.shown
-          (c.in_ok-play_line.ensures.writes.wrote w (c.loop-next.invariant.written w start));
+      shown = c.in_ok-play_line.ensures.writes.shown ∙ ap length (sym same);
+      trimmed = omega (arith, c.in_ok-play_line.ensures.writes.shown, ap length same, c.trim_shown.ensures.within);
+      kept = λ keeps. c.trim_shown.ensures.kept keeps ∙ (c.play_line.ensures.trimmed ∙ c.loop-next.invariant.kept keeps);
+      written = λ w start. subst (λ (past : List Event). g.K.Sink.written c.play_line.new.output ≡ with_text w (text_of past)) (sym same)
+          (all_shown w (g.K.Sink.written c.play_line.new.output) c.play_line.new.shown c.play_line.new.player.past c.in_ok-play_line.ensures.writes.shown
+          (c.in_ok-play_line.ensures.writes.wrote w (c.loop-next.invariant.written w start)));
       reads = c.in_ok-next-2.ensures.faults.faultless refl ∙ c.loop-next.invariant.reads;
       writes = c.in_ok-play_line.ensures.faults.faultless refl ∙ c.loop-next.invariant.writes;
-      extends = extends_then c.args.player.now.past c.loop-next.player.past c.play_line.new.player.past c.loop-next.invariant.extends c.play_line.ensures.on.extends;
+      extends = subst (λ (past : List Event). Extends c.args.player.now.past past) (sym same) (extends_then c.args.player.now.past c.loop-next.player.past mid.past c.loop-next.invariant.extends c.play_line.ensures.on.extends);
       ability = c.play_line.ensures.on.able.ability ∙ c.loop-next.invariant.ability;
       preferred = c.play_line.ensures.on.able.preferred ∙ c.loop-next.invariant.preferred;
     }

@@ -1,4 +1,4 @@
-use Rattle.std.proofs.Common.{◌≡◌, ◌≤◌, ◌-◌, ◌+◌, ℕ, List, Option, length}
+use Rattle.std.proofs.Common.{◌≡◌, ◌≤◌, ◌-◌, ◌+◌, ℕ, true, List, Option, length}
 use Rattle.std.specs.Prelude.{is_some, Ok, IfSome}
 use Rattle.dsql_driver.specs.declared.caps.Caps.{Caps}
 use Rattle.dsql_history.specs.declared.event.Event.TheVariants.{Run}
@@ -28,6 +28,8 @@ invariant-loop-next g l = record {
   headed : IfSome l.next (λ _. l.script.reader.head ≡ Head.Begun);
   few : IfSome l.next (λ _. l.script.reader.lines ≤ most_lines);
   shown : l.shown ≡ length l.player.past;
+  trimmed : l.player.trimmed ≤ l.shown;
+  kept : l.fn.keeps ≡ true → l.player.trimmed ≡ 0;
   written : (w : Option (List ℕ)) → g.K.Sink.written l.initial.output ≡ with_text w (text_of l.initial.player.past) → g.K.Sink.written l.output ≡ with_text w (text_of l.player.past);
   reads : g.S.Source.faults l.input ≡ g.S.Source.faults l.initial.input;
   writes : g.K.Sink.faults l.output ≡ g.K.Sink.faults l.initial.output;

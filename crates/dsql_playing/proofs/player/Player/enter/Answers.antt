@@ -1,4 +1,4 @@
-use Rattle.std.proofs.Common.{◌≡◌, ◌<◌, Bool, false, not, ◌&&◌, length, Option, sym, subst, ap, rules}
+use Rattle.std.proofs.Common.{◌≡◌, ◌<◌, ◌∙◌, Bool, false, not, ◌&&◌, length, Option, sym, subst, ap, rules}
 use Rattle.std.proofs.lemmas.Result.{err_from_is_err_and}
 use Rattle.dsql_journal.specs.declared.entry.Permit.{Permit}
 use Rattle.dsql_history.specs.Readers.Calls.{is_busy}
@@ -55,4 +55,5 @@ returns c =
       grows = entry_longer client line next old new h;
       course = entry_course client line next old new h;
       act = entry_acts client line next old new h;
+      trimmed = c.enter.ensures.trimmed ∙ ap (λ (q : Playing). q.trimmed) c.self.view_is;
     }

@@ -1,4 +1,4 @@
-use Rattle.std.proofs.Common.{◌≡◌, ◌<◌, drop, length, sym, subst, ap, arith, false}
+use Rattle.std.proofs.Common.{◌≡◌, ◌<◌, ◌∙◌, drop, length, sym, subst, ap, arith, false}
 use Rattle.std.specs.Prelude.{OnOk}
 use Rattle.std.proofs.lemmas.Result.{on_ok_weaker}
 use Rattle.dsql_history.specs.Readers.Calls.{is_busy}
@@ -51,4 +51,5 @@ returns c =
       grows = subst (λ (q : Playing). OnOk c.enter.result (length q.past < length new.past)) c.self.view_is c.enter.ensures.grows;
       course = on_ok_weaker c.enter.result (course_since mid old new past released) c.enter.ensures.course;
       act = acts_since c.enter.result mid old new past c.enter.ensures.act;
+      trimmed = c.enter.ensures.trimmed ∙ ap (λ (q : Playing). q.trimmed) c.self.view_is;
     }

@@ -12,7 +12,7 @@ returns-in_err-next c =
     let s = c.self.inside in
     let old : Playing = c.args.self.now in
     let new : Playing = player_of c.chore.new.self s.seats s.released in
-    let same : SameButChore old new = core_looked s.engine c.chore.new.self s.seats s.released old c.self.view_is c.chore.ensures.past c.chore.ensures.flights in
+    let same : SameButChore old new = core_looked s.engine c.chore.new.self s.seats s.released old c.self.view_is c.chore.ensures.past c.chore.ensures.trimmed c.chore.ensures.flights in
     let p = err_from_is_err_and c.from_residual.result c.from_residual.ensures.1 in
     record {
       finds = rw p.1 tt;
@@ -29,10 +29,10 @@ returns c =
     let finds : FindsChore c.leave_of.result old new =
     subst (λ (chore : Option Permit). FindsChore chore old new) (sym c.leave_of.ensures)
     (found next old new
-    (first_sent s.engine c.chore.new.self s.seats s.released old next c.self.view_is c.requires.ready c.in_ok-next.ensures.next c.chore.ensures.past c.chore.ensures.flights c.requires.room)
-    (first_none s.engine c.chore.new.self s.seats s.released old next c.self.view_is c.requires.ready c.in_ok-next.ensures.next c.chore.ensures.past c.chore.ensures.flights)) in
+    (first_sent s.engine c.chore.new.self s.seats s.released old next c.self.view_is c.requires.ready c.in_ok-next.ensures.next c.chore.ensures.past c.chore.ensures.trimmed c.chore.ensures.flights c.requires.room)
+    (first_none s.engine c.chore.new.self s.seats s.released old next c.self.view_is c.requires.ready c.in_ok-next.ensures.next c.chore.ensures.past c.chore.ensures.trimmed c.chore.ensures.flights)) in
     record {
       finds = finds;
-      same = core_looked s.engine c.chore.new.self s.seats s.released old c.self.view_is c.chore.ensures.past c.chore.ensures.flights;
+      same = core_looked s.engine c.chore.new.self s.seats s.released old c.self.view_is c.chore.ensures.past c.chore.ensures.trimmed c.chore.ensures.flights;
       fails = record { same = tt; memory = tt };
     }

@@ -1,4 +1,4 @@
-use Rattle.std.proofs.Common.{◌≡◌, ◌<◌, false, true, List, length, sym, subst}
+use Rattle.std.proofs.Common.{◌≡◌, ◌<◌, ◌∙◌, false, true, List, length, sym, subst}
 use Rattle.std.specs.Prelude.{OnErr, OnOk}
 use Rattle.std.proofs.lemmas.Result.{err_from_is_err_and, on_ok_weaker}
 use Rattle.dsql_history.specs.declared.event.Event.{Event}
@@ -38,6 +38,7 @@ returns-in_err-wake g c =
       course = tt;
       run = record { ready = tt; wires = tt; plans = tt; told = tt; legal = act.legal };
       fails = record { same = act.fails.same; memory = rw p.2 act.fails.memory };
+      trimmed = c.wake.ensures.trimmed;
     })
 
 pub returns-then-branch : goal.returns-then-branch
@@ -54,6 +55,7 @@ returns-then-branch g c =
       course = c.in_ok-wake.ensures.course;
       run = record { ready = act.ready; wires = fits_unheard g.W.Wire.told old.past new.past c.args.wires.now act.unheard; plans = plans_unheard g.W.Wire.told old.past new.past c.args.wires.now act.unheard; told = act.unheard.told; legal = act.legal };
       fails = record { same = tt; memory = tt };
+      trimmed = c.wake.ensures.trimmed;
     }
 
 pub make_call-requires : goal.make_call-requires
@@ -84,4 +86,5 @@ returns g c =
       course = on_ok_weaker c.make_call.result (course_then old mid new c.in_ok-wake.ensures.course) made.course;
       run = keeps_from g.W.Wire.told c.make_call.result old mid new c.args.wires.now c.make_call.new.wires same made.run;
       fails = record { same = subst (λ (past : List Event). OnErr c.make_call.result (new.past ≡ past)) same made.fails.same; memory = made.fails.memory };
+      trimmed = made.trimmed ∙ c.wake.ensures.trimmed;
     }

@@ -39,6 +39,7 @@ returns-then-not-has_call g c =
       course = done.course;
       run = keeps_unheard g.W.Wire.told c.enter_kept.result old new c.args.wires.now done.act;
       fails = done.act.fails;
+      trimmed = done.trimmed;
     }
 
 pub returns-then-has_permit : goal.returns-then-has_permit
@@ -53,6 +54,7 @@ returns-then-has_permit g c =
       course = made.course;
       run = made.run;
       fails = made.fails;
+      trimmed = made.trimmed;
     }
 
 pub returns-else-has_permit : goal.returns-else-has_permit

@@ -17,6 +17,7 @@ returns-in_err-keep c =
       past = past;
       course = rw p.1 tt;
       act = failed c.from_residual.result p.0 c.args.self.now (seen c.self.inside.engine c.keep.new.self c.self.inside.released) p.1 p.2 past c.requires.ready;
+      trimmed = ap (λ (q : Playing). q.trimmed) c.self.view_is;
     }
 
 pub returns : goal.returns
@@ -30,4 +31,5 @@ returns c =
       past = ap (λ (q : Playing). q.past) c.self.view_is;
       course = record { ended = ap (λ (q : Playing). has_ended q.past) c.self.view_is; released = ap (λ (q : Playing). q.released) c.self.view_is };
       act = keeps_acts client lines p c.args.self.now c.keep.new.self c.self.view_is c.requires.ready k;
+      trimmed = ap (λ (q : Playing). q.trimmed) c.self.view_is;
     }

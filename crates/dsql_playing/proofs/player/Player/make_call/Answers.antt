@@ -36,6 +36,7 @@ returns-in_err-heard g c =
       course = rw p.1 tt;
       run = record { ready = rw p.1 tt; wires = rw p.1 tt; plans = rw p.1 tt; told = rw p.1 tt; legal = subst (λ (H : List Event). Legal H) (sym past) c.requires.ready.legal };
       fails = record { same = rw p.1 past; memory = rw p.1 p.2 };
+      trimmed = ap (λ (q : Playing). q.trimmed) c.self.view_is;
     }
 
 pub heard-requires-clause-may : goal.heard-requires-clause-may
@@ -59,6 +60,7 @@ returns-in_err-next g c =
       course = rw p.1 tt;
       run = record { ready = rw p.1 tt; wires = rw p.1 tt; plans = rw p.1 tt; told = rw p.1 tt; legal = c.heard.ensures.legal };
       fails = record { same = rw p.1 (ap (λ (x : Core). x.past) c.in_err-next.ensures.err ∙ past); memory = rw p.1 p.2 };
+      trimmed = c.heard.ensures.trimmed ∙ ap (λ (q : Playing). q.trimmed) c.self.view_is;
     }
 
 pub hand-requires : goal.hand-requires
@@ -77,7 +79,7 @@ returns g c =
     let permit = c.in-Some.permit in
     let e = c.in_ok-heard.heard in
     let next = c.in_ok-next.next in
-    let new : Playing = record { past = c.heard.new.self.past; flights = c.heard.new.self.flights; chore = c.heard.new.self.chore; seats = c.hand.new.self; released = c.self.inside.released } in
+    let new : Playing = record { past = c.heard.new.self.past; trimmed = c.heard.new.self.trimmed; flights = c.heard.new.self.flights; chore = c.heard.new.self.chore; seats = c.hand.new.self; released = c.self.inside.released } in
     let seen = ap (λ (p : Playing). (seat p.seats me).permit) c.self.view_is in
     let has : HasLeave old me permit = leave_at old me permit c.requires.ready (sym seen ∙ (sym c.take_permit.ensures.permit ∙ c.in-Some.is)) in
     let taken : Given me None c.self.inside.seats c.take_permit.new.self = record { here = c.take_permit.ensures.after; others = c.take_permit.ensures.others; many = c.take_permit.ensures.count } in
@@ -109,4 +111,5 @@ returns g c =
         legal = c.heard.ensures.legal;
       };
       fails = record { same = tt; memory = tt };
+      trimmed = c.heard.ensures.trimmed ∙ ap (λ (q : Playing). q.trimmed) c.self.view_is;
     }

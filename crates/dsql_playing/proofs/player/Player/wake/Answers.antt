@@ -11,7 +11,7 @@ use Rattle.dsql_playing.specs.Playing.{Playing}
 use Rattle.dsql_playing.specs.Stepping.{leave_of}
 use Rattle.dsql_playing.proofs.Hearing.{hears_none}
 use Rattle.dsql_playing.proofs.Asked.{Given}
-use Rattle.dsql_playing.proofs.Woke.{WakesUp, history_longer, history_no_longer, woke_course, woke_leave, woke_quiet, woke_ready, woke_same, woke_wakes}
+use Rattle.dsql_playing.proofs.Woke.{StandsFor, WakesUp, history_longer, history_no_longer, woke_course, woke_leave, woke_quiet, woke_ready, woke_same, woke_wakes}
 use Rattle.dsql_playing.proofs.player.Player.wake.Goals as goal
 
 pub wake-requires-clause-unfinished : goal.wake-requires-clause-unfinished
@@ -41,6 +41,7 @@ returns-in_err-next c =
         fails = record { same = rw p.1 as_before; memory = rw p.1 p.2 };
         legal = c.wake.ensures.legal;
       };
+      trimmed = c.wake.ensures.trimmed ∙ ap (λ (q : Playing). q.trimmed) c.self.view_is;
     }
 
 pub hand-requires : goal.hand-requires
@@ -51,7 +52,7 @@ returns c =
     let old = c.args.self.now in
     let me = c.args.client in
     let next = c.in_ok-next.next in
-    let new : Playing = record { past = c.wake.new.self.past; flights = c.wake.new.self.flights; chore = c.wake.new.self.chore; seats = c.hand.new.self; released = c.self.inside.released } in
+    let new : Playing = record { past = c.wake.new.self.past; trimmed = c.wake.new.self.trimmed; flights = c.wake.new.self.flights; chore = c.wake.new.self.chore; seats = c.hand.new.self; released = c.self.inside.released } in
     let handed : Given me c.leave_of.result c.self.inside.seats c.hand.new.self = record { here = c.hand.ensures.permit; others = c.hand.ensures.others; many = c.hand.ensures.count } in
     let leave_is : Given me (leave_of next) c.self.inside.seats c.hand.new.self = subst (λ (o : Option Permit). Given me o c.self.inside.seats c.hand.new.self) c.leave_of.ensures handed in
     let w : WakesUp next me old new =
@@ -67,11 +68,14 @@ returns c =
       released = ap (λ (p : Playing). p.released) c.self.view_is;
       given = subst (λ (p : Playing). Given me (leave_of next) p.seats c.hand.new.self) c.self.view_is leave_is;
     } in
-    let events = c.history-before.ensures.events ∙ ap (λ (p : Playing). p.past) c.self.view_is in
+    let before : StandsFor c.history-before.result.now old.trimmed old.past =
+    subst (λ (p : Playing). StandsFor c.history-before.result.now p.trimmed p.past) c.self.view_is (record { rest = c.history-before.ensures.events; within = c.history-before.ensures.within }) in
+    let after : StandsFor c.history.result.now new.trimmed new.past = record { rest = c.history.ensures.events; within = c.history.ensures.within } in
+    let trimmed : new.trimmed ≡ old.trimmed = c.wake.ensures.trimmed ∙ ap (λ (p : Playing). p.trimmed) c.self.view_is in
     let shown : Bool = nat_lt (length c.history-before.result.now) (length c.history.result.now) in
-    let grew : shown ≡ true → length old.past < length new.past = history_longer c.history-before.result.now c.history.result.now old.past new.past events c.history.ensures.events in
+    let grew : shown ≡ true → length old.past < length new.past = history_longer c.history-before.result.now c.history.result.now old.trimmed new.trimmed old.past new.past before after trimmed in
     let as_before : shown ≡ false → new.past ≡ old.past =
-    λ h. woke_same next me old new w (history_no_longer c.history-before.result.now c.history.result.now old.past new.past events c.history.ensures.events h) in
+    λ h. woke_same next me old new w (history_no_longer c.history-before.result.now c.history.result.now old.trimmed new.trimmed old.past new.past before after trimmed h) in
     record {
       wakes = λ m at. woke_wakes next me old new w shown grew as_before m at;
       group = w.past;
@@ -85,4 +89,5 @@ returns c =
         fails = record { same = tt; memory = tt };
         legal = c.wake.ensures.legal;
       };
+      trimmed = trimmed;
     }
