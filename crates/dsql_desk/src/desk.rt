@@ -19,7 +19,7 @@ use std::alloc::Global;
 /// What is kept of the present, beside the history.
 #[derive(Drop)]
 pub struct Desk {
-    /// All that happened.
+    /// All that happened, of which the oldest may be trimmed.
     pub history: EventLog,
     pub caps: Caps,
     /// What closed the database, if something did.
@@ -80,6 +80,7 @@ impl Desk {
         ensures stands { Stands self.new }
         ensures past { past self.new ≡ past self.old }
         ensures trimmed { trimmed self.new ≡ length (past self.new) }
+        ensures paid { self.new.paid ≡ self.old.paid }
     {
         self.history.trim();
     }

@@ -73,6 +73,7 @@ impl Player {
         ensures released { self.new.released ≡ self.old.released }
         ensures within { self.new.trimmed ≤ length self.new.past }
         ensures trimmed { length self.old.past < most_events → self.new.trimmed ≡ length self.new.past }
+        ensures full { most_events ≤ length self.old.past → self.new.trimmed ≡ self.old.trimmed }
         ensures ready { IsReady self.old → IsReady self.new }
         ensures at { (m : Moment) → IsAt m self.old → IsAt m self.new }
     {

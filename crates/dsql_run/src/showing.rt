@@ -60,7 +60,7 @@ pub(crate) fn show_history<K: Sink>(
     }
 }
 
-/// Trims a run's events, all of which were shown, unless they are kept or there are as many as a run may have.
+/// Trims a run's events, unless they are kept or there are as many as a run may have.
 pub(crate) fn trim_shown(player: &mut Player, keeps: bool)
     requires { player.old.trimmed ≤ length player.old.past }
     ensures past { player.new.past ≡ player.old.past }

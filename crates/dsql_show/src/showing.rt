@@ -108,6 +108,7 @@ pub fn show<K: Sink>(
     requires trimmed { trimmed ≤ shown.old }
     requires within { shown.old ≤ trimmed + length kept.now }
     ensures ok { OnOk result ((past : List Happened) → IsLeftOf past trimmed kept.now → shown.new ≡ length past) }
+    ensures err { OnErr result (shown.new ≡ shown.old) }
     ensures within { (past : List Happened) → IsLeftOf past trimmed kept.now → shown.new ≤ length past }
     ensures trimmed { trimmed ≤ shown.new }
     ensures shows { OnOk result ((past : List Happened) → IsLeftOf past trimmed kept.now → (w : Option (List ℕ)) → Shows w shown.old past (K.written output.old) → K.written output.new ≡ with_text w (text_of past)) }

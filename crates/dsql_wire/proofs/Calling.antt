@@ -28,6 +28,7 @@ refused f wire p old may_not = record {
   counted = le_refl _;
   caused = tt;
   faultless = tt;
+  refused = refl;
 }
 
 -- the fault, or another where there is none
@@ -59,4 +60,5 @@ failed f g wire p old was new fault same calls =
       counted = calls.counted;
       caused = tt;
       faultless = tt;
+      refused = calls.refused;
     })

@@ -30,6 +30,7 @@ pub record Calls {A W : Type 0} (entry_of : A → Entry) (wire : wires.Ghosts W)
   pub counted : wire.faults old.wire ≤ wire.faults new.wire
   pub caused : IfOk result (λ it. is_fault (entry_of it).answer ≡ true → HasRisen (wire.faults old.wire) (wire.faults new.wire))
   pub faultless : IfOk result (λ it. is_fault (entry_of it).answer ≡ false → wire.faults new.wire ≡ wire.faults old.wire)
+  pub refused : OnErr result (wire.faults new.wire ≡ wire.faults old.wire)
 
 -- The fleet was asked for a connection, and what it answered made one entry, or it wasn't asked. Of what is answered these functions give the entry and the wire, whose journal is just that entry.
 pub record Opens {A F W : Type 0} (entry_of : A → Entry) (wire_of : A → Option (Journaled W)) (fleet : fleets.Ghosts F W) (heard : W → Option WireTold) (permit : Permit) (old new : F) (result : Result A WireFault) : Type 0 where

@@ -1,4 +1,4 @@
--- What contracts see of a journaled wire, and what holds of each.
+-- What contracts see of a wire with its journal, whether that is kept or not, and what holds of each.
 use Rattle.std.specs.Prelude.{ℕ, ◌≡◌, Bool, true, false, ◌&&◌, ◌==◌, List, Option, IfSome}
 use Rattle.std.specs.List.{list_any, list_all}
 use Rattle.dsql_driver.specs.Wires as wires
@@ -12,7 +12,7 @@ use Rattle.dsql_wire.specs.Told.{TellsOf}
 use Rattle.dsql_wire.specs.declared.fault.WireFault.{WireFault}
 use Rattle.dsql_wire.specs.declared.fault.WireFault.TheVariants.{Stray, Memory}
 
--- a journaled wire: its connection, the connection's journal, the newest entry first, and the driver's wire
+-- a wire with its journal: its connection, the connection's journal, the newest entry first, and the driver's wire
 pub record Journaled (W : Type 0) : Type 0 where
   pub conn : ℕ
   pub journal : List Entry

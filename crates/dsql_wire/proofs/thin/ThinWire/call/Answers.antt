@@ -57,6 +57,7 @@ returns-clause-calls g c =
       counted = rw (← c.self.view_is) w.counted;
       caused = λ fault. subst (λ (j : Journaled _). HasRisen (g.W.Wire.faults j.wire) (g.W.Wire.faults c.call-answer.new.self)) c.self.view_is (w.caused (ap is_fault (sym made.answer) ∙ fault));
       faultless = λ faultless. w.faultless (ap is_fault (sym made.answer) ∙ faultless) ∙ ap (λ (j : Journaled _). g.W.Wire.faults j.wire) c.self.view_is;
+      refused = tt;
     }
 
 pub returns-clause-copied : goal.returns-clause-copied
