@@ -8,6 +8,8 @@ mod edge;
 #[cfg(test)]
 mod faults;
 #[cfg(test)]
+mod journals;
+#[cfg(test)]
 mod mem;
 #[cfg(test)]
 mod tables;
