@@ -9,7 +9,7 @@ use std::thread;
 
 fn exec(alloc: Global, text: &str) -> Result<DriverCall, Memory> {
     let text = Txt::copy_of(alloc, text)?;
-    Ok(DriverCall::Exec(Input::Text(text), Items::none()))
+    Ok(DriverCall::Exec(Input::Text(text), Items::none(alloc)))
 }
 
 const BEGIN: DriverCall = DriverCall::Begin {

@@ -25,7 +25,7 @@ fn there_is_memory_for_pins(rt: HostRuntime) -> Result<(), Memory> {
 
 #[test]
 fn there_is_memory_for_rows(rt: HostRuntime) -> Result<(), Memory> {
-    RowsTable::new(rt.alloc()).begin_rows(5, 2, Items::none())
+    RowsTable::new(rt.alloc()).begin_rows(5, 2, Items::none(rt.alloc()))
 }
 
 /// The first call asks a new pool.

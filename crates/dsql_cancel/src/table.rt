@@ -75,7 +75,7 @@ pub fn names_running_out(alloc: Global, table: &[(Txt, Token)], now: u64) -> Res
             names.push(name.copy()?)?;
         }
     }
-    Ok(Items::new(names)?)
+    Ok(Items::new(names))
 }
 
 /// Each token as it is from this moment on.

@@ -114,7 +114,7 @@ fn nobody(alloc: Global) -> Result<CallRow, NoRoom>
     let call = CallRecord {
         client: 0,
         text,
-        params: Items::none(),
+        params: Items::none(alloc),
         decided: None,
     };
     Ok(CallRow {

@@ -3,7 +3,6 @@ ghost use Rattle.std.specs.Prelude.{◌≡◌, ◌<◌, Some, IfOk, IfSome, IfNo
 ghost use Rattle.dsql_work.specs.Limits.{most_within_a_step};
 ghost use Rattle.dsql_desk.specs.Desk.{past, Stands};
 ghost use Rattle.dsql_desk.specs.Entering.{IsNamed, NoneNamed, names_fit, StartsText};
-ghost use Rattle.dsql_telling.specs.Starting.{StartsOver};
 ghost use Rattle.dsql_telling.specs.Starts.{Starts, label_made};
 ghost use Rattle.dsql_history.specs.Readers.Calls.{scan_reply, told_at_entry};
 ghost use Rattle.dsql_history.specs.Readers.HandedOut.{handed_out};
@@ -42,16 +41,16 @@ impl Desk {
             }
             Op::Ping => {
                 let decided = self.closed_by.map(Reply::DbClosed);
-                self.over_rows(alloc, Work::Ping, None, decided)
+                Ok(over_rows(alloc, Work::Ping, None, decided))
             }
             Op::Next { rows } => self.entering_next(alloc, rows),
             Op::Scan { rows, dests } => self.entering_scan(alloc, rows, dests.as_slice()),
             Op::RowsClose { rows } => self.entering_close(alloc, rows),
             Op::Err { rows } => self.entering_err(alloc, rows),
-            Op::DbClose => self.over_rows(alloc, Work::Look, None, Some(Reply::Ok)),
+            Op::DbClose => Ok(over_rows(alloc, Work::Look, None, Some(Reply::Ok))),
             Op::Stats => {
                 let stats = Reply::Stats(self.pool.stats());
-                self.over_rows(alloc, Work::Look, None, Some(stats))
+                Ok(over_rows(alloc, Work::Look, None, Some(stats)))
             }
         }
     }
@@ -84,23 +83,6 @@ impl Desk {
         Ok(over_text(checked, work, label, self.closed_by))
     }
 
-    /// What is kept of a call that runs no text. Its empty text is shared with the row of no call.
-    fn over_rows(
-        &self,
-        alloc: Global,
-        work: Work,
-        closes: Option<u32>,
-        decided: Option<Reply>,
-    ) -> Result<CallStart, NoRoom>
-        ensures { IfOk result (λ it. StartsOver work closes decided it) }
-    {
-        let text = match self.calls.first() {
-            Some(nobody) if nobody.call.text.as_str().is_empty() => nobody.call.text.copy()?,
-            _ => Txt::copy_of(alloc, "")?,
-        };
-        Ok(over_rows(text, work, closes, decided))
-    }
-
     /// `Rows.Next`.
     fn entering_next(&self, alloc: Global, label: &Txt) -> Result<CallStart, NoRoom>
         requires stands { Stands self.now }
@@ -112,7 +94,7 @@ impl Desk {
             Some(query) if self.rows.is_live(query) => None,
             Some(_) => Some(Reply::Truth(false)),
         };
-        self.over_rows(alloc, Work::Fetch(self.maker(label)), None, decided)
+        Ok(over_rows(alloc, Work::Fetch(self.maker(label)), None, decided))
     }
 
     /// `Rows.Close`.
@@ -124,7 +106,7 @@ impl Desk {
     {
         let closes = self.rows_named(label);
         let decided = self.told_closing(label, closes)?;
-        self.over_rows(alloc, Work::Close(self.maker(label)), closes, decided)
+        Ok(over_rows(alloc, Work::Close(self.maker(label)), closes, decided))
     }
 
     /// What a call is told at once that is to close the rows of the label, which are those of this call, if there
@@ -152,7 +134,7 @@ impl Desk {
             None => Reply::Absent(label.copy()?),
             Some(query) => self.scan_reply(query, dests)?,
         };
-        self.over_rows(alloc, Work::Look, None, Some(reply))
+        Ok(over_rows(alloc, Work::Look, None, Some(reply)))
     }
 
     /// `Rows.Err`.
@@ -165,7 +147,7 @@ impl Desk {
             None => Reply::Absent(label.copy()?),
             Some(query) => fault_reply(self.rows.ended(query))?,
         };
-        self.over_rows(alloc, Work::Look, None, Some(reply))
+        Ok(over_rows(alloc, Work::Look, None, Some(reply)))
     }
 
     /// The first call whose rows have the label, 0 where there is none.

@@ -277,6 +277,6 @@ fn no_statement(alloc: Global, aim: Aim) -> Result<Statement, Memory>
     ensures { IfOk result (λ s. s ≡ (record { text = []; params = []; aim = aim })) }
 {
     let text = Txt::copy_of(alloc, "")?;
-    let params = Items::none();
+    let params = Items::none(alloc);
     Ok(Statement { text, params, aim })
 }

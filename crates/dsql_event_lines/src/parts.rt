@@ -66,7 +66,7 @@ pub fn copy_at(alloc: Global, line: &Value, place: usize) -> Result<Txt, LineFau
     ensures { IsShaped result (part.text_at place (view line.now)) }
 {
     let text = text_at(line, place).ok_or(LineFault::BadShape)?;
-    Ok(Txt::new(String::from_str(alloc, text)?)?)
+    Ok(Txt::new(String::from_str(alloc, text)?))
 }
 
 /// The items of an array.

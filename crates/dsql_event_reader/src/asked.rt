@@ -25,7 +25,7 @@ fn copy_word(alloc: Global, words: &[&str], place: usize) -> Result<Txt, LineFau
     ensures { IsShaped result (slice_get (map (λ w. w.now) words.now) place) }
 {
     let word = word_at(words, place).ok_or(LineFault::BadShape)?;
-    Ok(Txt::new(String::from_str(alloc, word)?)?)
+    Ok(Txt::new(String::from_str(alloc, word)?))
 }
 
 /// The destinations that a word is.

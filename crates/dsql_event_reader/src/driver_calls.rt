@@ -34,7 +34,7 @@ fn read_input(input: &Value) -> Result<Input, LineFault>
     ensures { IsShaped result (form.input_of (view input.now)) }
 {
     match input {
-        Value::String(text) => Ok(Input::Text(Txt::new(text.clone()?)?)),
+        Value::String(text) => Ok(Input::Text(Txt::new(text.clone()?))),
         Value::Number(number) => {
             let handle = number.as_u64().ok_or(LineFault::BadShape)?;
             let handle = u32::try_from(handle).ok().ok_or(LineFault::BadShape)?;

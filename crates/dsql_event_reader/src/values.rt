@@ -80,7 +80,7 @@ fn read_named(alloc: Global, name: &Json, param: &Json) -> Result<Param, LineFau
     };
     let value = param.get("value").ok_or(LineFault::BadShape)?;
     let value = read_value(alloc, value)?;
-    let name = Some(Txt::new(name.clone()?)?);
+    let name = Some(Txt::new(name.clone()?));
     Ok(Param { name, value })
 }
 
@@ -88,7 +88,7 @@ fn read_text(text: &Json) -> Result<Txt, LineFault>
     ensures { IsShaped result (as_str (view text.now)) }
 {
     match text {
-        Json::String(text) => Ok(Txt::new(text.clone()?)?),
+        Json::String(text) => Ok(Txt::new(text.clone()?)),
         _ => Err(LineFault::BadShape),
     }
 }
@@ -101,7 +101,7 @@ fn each_param(alloc: Global, items: &[Json]) -> Result<Params, LineFault>
     for item in items {
         params.push(read_param(alloc, item)?)?;
     }
-    Ok(Items::new(params)?)
+    Ok(Items::new(params))
 }
 
 /// Values in order.
@@ -112,7 +112,7 @@ fn each_value(alloc: Global, items: &[Json]) -> Result<Values, LineFault>
     for item in items {
         values.push(read_value(alloc, item)?)?;
     }
-    Ok(Items::new(values)?)
+    Ok(Items::new(values))
 }
 
 /// Cells in order.
@@ -123,7 +123,7 @@ fn each_cell(alloc: Global, items: &[Json]) -> Result<Cells, LineFault>
     for item in items {
         cells.push(read_cell(alloc, item)?)?;
     }
-    Ok(Items::new(cells)?)
+    Ok(Items::new(cells))
 }
 
 /// Texts in order.
@@ -134,7 +134,7 @@ fn each_text(alloc: Global, items: &[Json]) -> Result<Columns, LineFault>
     for item in items {
         texts.push(read_text(item)?)?;
     }
-    Ok(Items::new(texts)?)
+    Ok(Items::new(texts))
 }
 
 /// The parameters in an array at a place of a line.

@@ -33,7 +33,7 @@ fn read_each(alloc: Global, words: &[&str]) -> Result<Dests, LineFault>
     for word in words {
         dests.push(dest_of(word).ok_or(LineFault::BadShape)?)?;
     }
-    Ok(Items::new(dests)?)
+    Ok(Items::new(dests))
 }
 
 /// The destination that a word names.

@@ -113,7 +113,7 @@ fn text_form(alloc: Global, form: &str, text: &str) -> Result<Arg, LineFault>
 {
     match form {
         "bytes" => Ok(Arg::Bytes(read_bytes(alloc, text)?)),
-        "null_text" => Ok(Arg::NullText(Some(Txt::new(String::from_str(alloc, text)?)?))),
+        "null_text" => Ok(Arg::NullText(Some(Txt::new(String::from_str(alloc, text)?)))),
         _ => Err(LineFault::BadShape),
     }
 }
@@ -126,7 +126,7 @@ fn read_bytes(alloc: Global, digits: &str) -> Result<Bin, LineFault>
         return Err(LineFault::BadShape);
     }
     match hex::decode(alloc, digits.as_bytes()) {
-        Ok(bytes) => Ok(Bin::new(bytes)?),
+        Ok(bytes) => Ok(Bin::new(bytes)),
         Err(FromHexError::OutOfMemory) => Err(LineFault::Memory),
         Err(_) => Err(LineFault::BadShape),
     }

@@ -45,7 +45,7 @@ pub fn event_line(alloc: Global, event: &Event) -> Result<Txt, Memory>
 {
     let mut line = Vec::new(alloc);
     append_line(alloc, event, &mut line)?;
-    Ok(Txt::new(String::from_utf8(line).unwrap())?)
+    Ok(Txt::new(String::from_utf8(line).unwrap()))
 }
 
 /// Appends the line of an event to those that a buffer holds, as [`event_line`] tells it. The line is in

@@ -124,13 +124,13 @@ fn one_column(alloc: Global) -> Result<Columns, Memory>
     ensures { IfOk result (λ columns. length columns ≡ 1) }
 {
     let value = Txt::copy_of(alloc, "value")?;
-    Ok(Items::new(vec![in alloc; value]?)?)
+    Ok(Items::new(vec![in alloc; value]?))
 }
 
 fn one_value(alloc: Global) -> Result<Values, Memory>
     ensures { IfOk result (λ values. length values ≡ 1) }
 {
-    Ok(Items::new(vec![in alloc; Value::Int(1)]?)?)
+    Ok(Items::new(vec![in alloc; Value::Int(1)]?))
 }
 
 /// The answer to a call that reads rows, but for its cursor. Other calls aren't known.

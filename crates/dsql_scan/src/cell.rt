@@ -1,6 +1,6 @@
 ghost use Rattle.std.specs.Prelude.{◌≡◌};
 
-use dsql_value::{Bin, Items, Txt};
+use dsql_value::{Bin, Faithful, Items, Txt};
 use std::alloc::AllocError;
 
 /// What a destination holds after a scan. `Int` is in a signed destination and `Uint` in an unsigned one,
@@ -30,6 +30,10 @@ impl Clone for Cell {
             Cell::Time(moment) => Cell::Time(*moment),
         })
     }
+}
+
+impl Faithful for Cell {
+    ghost same = { λ _ _ is. is };
 }
 
 /// The cells of one row, one for each column.

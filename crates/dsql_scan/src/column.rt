@@ -141,8 +141,8 @@ fn scan_bytes(alloc: Global, value: &Value) -> Result<Cell, ScanFault>
             });
         }
     };
-    match bytes.and_then(Bin::new) {
-        Ok(bytes) => Ok(Cell::Bytes(bytes)),
+    match bytes {
+        Ok(bytes) => Ok(Cell::Bytes(Bin::new(bytes))),
         Err(_) => Err(ScanFault::Memory),
     }
 }

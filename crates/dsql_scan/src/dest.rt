@@ -1,4 +1,4 @@
-use dsql_value::Items;
+use dsql_value::{Faithful, Items};
 
 /// Where a value is scanned to: the type of a variable that Go's `Rows.Scan` is given a pointer to.
 /// `Any` is `*any`, which takes each value as it is. The Null destinations are those of `NullString`,
@@ -25,6 +25,10 @@ pub enum Dest {
     NullU8,
     NullBool,
     NullTime,
+}
+
+impl Faithful for Dest {
+    ghost same = { λ _ _ is. is };
 }
 
 /// The kinds of a driver's values.

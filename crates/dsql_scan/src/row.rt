@@ -47,10 +47,7 @@ fn scan_columns(alloc: Global, values: &[Value], dests: &[Dest]) -> Result<Cells
             return Err(RowFault::Memory);
         }
     }
-    let Ok(row) = Items::new(cells) else {
-        return Err(RowFault::Memory);
-    };
-    Ok(row)
+    Ok(Items::new(cells))
 }
 
 fn in_32_bits(number: usize) -> u32

@@ -18,7 +18,7 @@ pub fn read_statement(alloc: Global, array: &Value) -> Result<(Txt, Args), LineF
     };
     match items.as_slice() {
         [Value::String(text), rest @ ..] => {
-            let text = Txt::new(text.clone()?)?;
+            let text = Txt::new(text.clone()?);
             let args = read_args(alloc, rest)?;
             Ok((text, args))
         }
@@ -34,7 +34,7 @@ fn read_args(alloc: Global, items: &[Value]) -> Result<Args, LineFault>
     for item in items {
         args.push(read_argument(alloc, item)?)?;
     }
-    Ok(Items::new(args)?)
+    Ok(Items::new(args))
 }
 
 /// An argument with its name, if it has one.
@@ -91,7 +91,7 @@ fn read_named(
         return Err(LineFault::BadShape);
     };
     let arg = read_arg(alloc, arg)?;
-    let name = Some(Txt::new(name.clone()?)?);
+    let name = Some(Txt::new(name.clone()?));
     Ok(Named { name, arg })
 }
 
@@ -103,7 +103,7 @@ pub fn read_arg(alloc: Global, value: &Value) -> Result<Arg, LineFault>
         Value::Null => Ok(Arg::Nil),
         Value::Bool(truth) => Ok(Arg::Bool(*truth)),
         Value::Number(number) => number_arg(number).ok_or(LineFault::BadShape),
-        Value::String(text) => Ok(Arg::Text(Txt::new(text.clone()?)?)),
+        Value::String(text) => Ok(Arg::Text(Txt::new(text.clone()?))),
         Value::Array(_) => Err(LineFault::BadShape),
         Value::Object(members) => read_object(alloc, members),
     }

@@ -85,7 +85,7 @@ fn read_string(value: &Value) -> Result<Txt, LineFault>
     ensures { IsShaped result (as_str (view value.now)) }
 {
     match value {
-        Value::String(text) => Ok(Txt::new(text.clone()?)?),
+        Value::String(text) => Ok(Txt::new(text.clone()?)),
         _ => Err(LineFault::BadShape),
     }
 }

@@ -196,8 +196,8 @@ fn read_statement(
     }
     let array = array.ok_or(LineFault::BadShape)?;
     if let Some(text) = array::lone_text(array) {
-        let text = Txt::new(String::from_str(alloc, text)?)?;
-        return call_with(verb, target, tokens, text, Items::none());
+        let text = Txt::new(String::from_str(alloc, text)?);
+        return call_with(verb, target, tokens, text, Items::none(alloc));
     }
     let value = array::read_array(alloc, array)?;
     let (text, args) = args::read_statement(alloc, &value)?;

@@ -19,7 +19,7 @@ pub fn read_label(alloc: Global, word: &str) -> Result<Txt, LineFault>
     if !words::is_name(word) {
         return Err(LineFault::BadShape);
     }
-    Ok(Txt::new(String::from_str(alloc, word)?)?)
+    Ok(Txt::new(String::from_str(alloc, word)?))
 }
 
 /// Reads a call on rows by its first word and those after it.

@@ -23,7 +23,7 @@ impl Shape {
             Shape::Values => vec![in alloc; value]?,
             Shape::Entries => vec![in alloc; Txt::copy_of(alloc, "key")?, value]?,
         };
-        Ok(Items::new(names)?)
+        Ok(Items::new(names))
     }
 
     /// The row of an entry.
@@ -36,7 +36,7 @@ impl Shape {
             Shape::Values => vec![in alloc; value]?,
             Shape::Entries => vec![in alloc; Value::Text(key.copy()?), value]?,
         };
-        Ok(Items::new(values)?)
+        Ok(Items::new(values))
     }
 }
 

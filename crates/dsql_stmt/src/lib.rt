@@ -3,13 +3,11 @@
 #![tactic(auto)]
 
 mod fault;
-mod handles;
 pub mod laws;
 mod lists;
 mod stmt;
 mod table;
 
 pub use fault::StmtClosed;
-pub use handles::Handles;
 pub use stmt::Home;
-pub use table::Stmts;
+pub use table::{Handles, Stmts};

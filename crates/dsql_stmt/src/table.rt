@@ -3,13 +3,15 @@ ghost use Rattle.std.specs.Option.{option_map};
 ghost use Rattle.dsql_stmt.specs.Statements.{handles_of};
 
 use crate::fault::StmtClosed;
-use crate::handles::Handles;
 use crate::lists::{Lists, Pairs};
 use crate::stmt::{Home, Prepared, Stmt};
-use dsql_value::{Memory, Txt};
+use dsql_value::{Items, Memory, Txt};
 use indexmap::IndexMap;
 use std::alloc::Global;
 use std::marker::Model;
+
+/// Connections, each with a handle that is live there.
+pub type Handles = Items<(u32, u32)>;
 
 /// The statements that were added, and their live handles. Contracts see the statements by their numbers in
 /// the order in which they were added, the live handles in the order in which they were prepared, and for how
@@ -170,7 +172,7 @@ impl Stmts {
         ensures again { option_map is_open (stmt_of n self.old.stmts) ≡ Some false → self.old.spare ≤ self.new.spare }
     {
         if self.stmt(n).closed.is_some() {
-            return Ok(Handles::none(self.alloc));
+            return Ok(Items::none(self.alloc));
         }
         let list = self.lists.take();
         let handles = pairs_of(n, &self.live, list)?;
@@ -178,7 +180,7 @@ impl Stmts {
             Some(stmt) => stmt.close(call),
             None => unreachable!(),
         }
-        Ok(Handles::new(handles))
+        Ok(Items::new(handles))
     }
 
     /// A handle was closed on its connection: it isn't live any more. It takes no memory, nor does

@@ -59,9 +59,9 @@ impl Store {
         match self.get(key) {
             Some(value) => {
                 let entry = (Txt::copy_of(alloc, key)?, value.clone()?);
-                Ok(Items::new(vec![in alloc; entry]?)?)
+                Ok(Items::new(vec![in alloc; entry]?))
             }
-            None => Ok(Items::none()),
+            None => Ok(Items::none(alloc)),
         }
     }
 
@@ -75,7 +75,7 @@ impl Store {
                 entries.push((Txt::copy_of(alloc, key.as_str())?, value.clone()?))?;
             }
         }
-        Ok(Items::new(entries)?)
+        Ok(Items::new(entries))
     }
 
     /// A copy of the value of a key, if it has one.

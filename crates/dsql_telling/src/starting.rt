@@ -1,6 +1,6 @@
 //! What is kept of a call that enters, as far as it is told without the history.
 ghost use Rattle.std.specs.Option.{option_copied};
-ghost use Rattle.std.specs.Prelude.{◌≡◌, [], Some, None, Err, IfOk, option_map};
+ghost use Rattle.std.specs.Prelude.{◌≡◌, Some, None, Err, IfOk, option_map};
 ghost use Rattle.dsql_course.specs.Made.{or_else};
 ghost use Rattle.dsql_history.specs.declared.reply.Reply.TheVariants.{DbClosed};
 ghost use Rattle.dsql_telling.specs.Starting.{IsChecked, StartsOver};
@@ -55,15 +55,19 @@ pub fn over_text(
     }
 }
 
-/// A call that runs no text of its own, with an empty text.
-pub fn over_rows(text: Txt, work: Work, closes: Option<u32>, decided: Option<Reply>) -> CallStart
-    requires { text ≡ [] }
+/// A call that runs no text of its own. It takes no memory.
+pub fn over_rows(
+    alloc: Global,
+    work: Work,
+    closes: Option<u32>,
+    decided: Option<Reply>,
+) -> CallStart
     ensures { StartsOver work closes decided result }
 {
     CallStart {
         work,
-        text,
-        params: Items::none(),
+        text: Txt::new(String::new(alloc)),
+        params: Items::none(alloc),
         label: None,
         closes,
         decided,
@@ -85,7 +89,7 @@ pub fn accept(alloc: Global, named_ok: bool, text: &Txt, args: &Args) -> Result<
             let refused = Some(refusal(fault)?);
             Ok(Checked {
                 text,
-                params: Items::none(),
+                params: Items::none(alloc),
                 refused,
             })
         }

@@ -1,4 +1,3 @@
-pub mod Shared
 pub mod Arguments
 pub mod ArgumentLaws
 pub mod WorkedArguments

@@ -68,7 +68,7 @@ fn accepted_params(alloc: Global, named_ok: bool, list: &[Named]) -> Result<Para
     for named in list {
         params.push(accepted_param(named_ok, named)?)?;
     }
-    Ok(Items::new(params)?)
+    Ok(Items::new(params))
 }
 
 fn accepted_param(named_ok: bool, named: &Named) -> Result<Param, ArgFault>

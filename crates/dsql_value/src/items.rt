@@ -1,52 +1,56 @@
-ghost use Rattle.std.specs.Prelude.{◌≡◌, ◌≢◌, List, [], IfOk, OnErr};
-ghost use Rattle.dsql_value.specs.Shared.{items_of};
+ghost use Rattle.std.specs.Prelude.{◌≡◌, List, []};
 
 use std::alloc::{AllocError, Global};
 use std::marker::Model;
-use std::sync::ArcSlice;
 
-/// A list of things, which contracts see as just that. Its copies share the things.
+/// A thing whose clone equals it.
+pub trait Faithful: Clone {
+    ghost same: { (x y : Self) → Self.is_clone x y → y ≡ x };
+}
+
+/// A list of things, which contracts see as just that. It is made from a vector and gives it back
+/// without taking memory.
 #[derive(Debug)]
 pub struct Items<T> {
-    items: Option<ArcSlice<T>>,
+    items: Vec<T>,
 }
 
 impl<T> Model for Items<T> {
     ghost Value = { List T };
 
-    ghost view = { λ i. items_of i.items };
+    ghost view = { λ i. i.items.items };
 }
 
 impl<T> Items<T> {
     /// No things. It takes no memory.
-    pub fn none() -> Items<T>
+    pub fn none(alloc: Global) -> Items<T>
         ensures { result ≡ [] }
     {
-        Items { items: None }
+        Items {
+            items: Vec::new(alloc),
+        }
+    }
+
+    /// The things of a vector.
+    pub fn new(items: Vec<T>) -> Items<T>
+        ensures { result ≡ items.items }
+    {
+        Items { items }
     }
 
     /// The things in their order.
     pub fn as_slice(&self) -> &[T]
         ensures { result.now ≡ self.now }
     {
-        match &self.items {
-            Some(items) => items.as_slice(),
-            None => &[],
-        }
+        &self.items
     }
-}
 
-impl<T: Drop> Items<T> {
-    /// The things of a vector. That there are none takes no memory.
-    pub fn new(items: Vec<T>) -> Result<Items<T>, AllocError>
-        ensures ok { IfOk result (λ it. it ≡ items.items) }
-        ensures err { OnErr result (items.items ≢ []) }
+    /// The vector of the things.
+    pub fn into_vec(self) -> Vec<T>
+        ensures { result.items ≡ self }
     {
-        if items.is_empty() {
-            return Ok(Items::none());
-        }
-        let items = Some(ArcSlice::from_vec(items)?);
-        Ok(Items { items })
+        let Items { items } = self;
+        items
     }
 }
 
@@ -58,14 +62,11 @@ impl<T: Drop> Drop for Items<T> {
     }
 }
 
-impl<T: Drop> Clone for Items<T> {
+impl<T: Faithful> Clone for Items<T> {
     ghost is_clone = { λ x y. y ≡ x };
 
     fn clone(&self) -> Result<Items<T>, AllocError> {
-        let items = match &self.items {
-            Some(items) => Some(items.clone()?),
-            None => None,
-        };
+        let items = self.items.clone()?;
         Ok(Items { items })
     }
 }

@@ -13,7 +13,7 @@ mod value;
 
 pub use arg::{Arg, ArgFault, Args, Named};
 pub use check::{check_args, driver_value};
-pub use items::Items;
+pub use items::{Faithful, Items};
 pub use memory::Memory;
 pub use text::{Bin, Txt};
 pub use value::{Columns, Param, Params, Value, Values};

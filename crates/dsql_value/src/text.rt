@@ -1,37 +1,35 @@
 ghost use Rattle.std.specs.Prelude.{◌≡◌, List, ℕ, string_bytes, IfOk};
-ghost use Rattle.std.specs.Arc.{arc_slice_items, arc_str_bytes};
 
+use crate::items::Faithful;
 use crate::memory::Memory;
 use std::alloc::{AllocError, Global};
 use std::marker::Model;
-use std::sync::{ArcSlice, ArcStr};
 
-/// A text in UTF-8, as Go's `string` holds one. Contracts see it as the list of its bytes, which its copies share.
+/// A text in UTF-8, as Go's `string` holds one. Contracts see it as the list of its bytes.
 #[derive(Debug, Drop)]
 pub struct Txt {
-    text: ArcStr,
+    text: String,
 }
 
 impl Model for Txt {
     ghost Value = { List ℕ };
 
-    ghost view = { λ t. arc_str_bytes t.text };
+    ghost view = { λ t. string_bytes t.text };
 }
 
 impl Txt {
-    /// The text of a string.
-    pub fn new(text: String) -> Result<Txt, AllocError>
-        ensures { IfOk result (λ t. t ≡ string_bytes text) }
+    /// The text of a string. It takes no memory.
+    pub fn new(text: String) -> Txt
+        ensures { result ≡ string_bytes text }
     {
-        let text = ArcStr::from_string(text)?;
-        Ok(Txt { text })
+        Txt { text }
     }
 
     /// A copy of a text.
     pub fn copy_of(alloc: Global, text: &str) -> Result<Txt, Memory>
         ensures { IfOk result (λ t. t ≡ text.now) }
     {
-        let text = ArcStr::from_str(alloc, text)?;
+        let text = String::from_str(alloc, text)?;
         Ok(Txt { text })
     }
 
@@ -49,6 +47,14 @@ impl Txt {
     {
         self.text.as_str()
     }
+
+    /// The string of the text. It takes no memory.
+    pub fn into_string(self) -> String
+        ensures { string_bytes result ≡ self }
+    {
+        let Txt { text } = self;
+        text
+    }
 }
 
 impl Clone for Txt {
@@ -60,6 +66,10 @@ impl Clone for Txt {
     }
 }
 
+impl Faithful for Txt {
+    ghost same = { λ _ _ is. is };
+}
+
 pub(crate) fn copy_of_optional(text: &Option<Txt>) -> Result<Option<Txt>, AllocError>
     ensures { IfOk result (λ t. t ≡ text.now) }
 {
@@ -69,32 +79,39 @@ pub(crate) fn copy_of_optional(text: &Option<Txt>) -> Result<Option<Txt>, AllocE
     }
 }
 
-/// Bytes that may be no text, as Go's `[]byte` holds them. Contracts see them as a list, which its copies share.
+/// Bytes that may be no text, as Go's `[]byte` holds them. Contracts see them as a list.
 #[derive(Debug, Drop)]
 pub struct Bin {
-    bytes: ArcSlice<u8>,
+    bytes: Vec<u8>,
 }
 
 impl Model for Bin {
     ghost Value = { List ℕ };
 
-    ghost view = { λ b. arc_slice_items b.bytes };
+    ghost view = { λ b. b.bytes.items };
 }
 
 impl Bin {
-    /// The bytes of a vector.
-    pub fn new(bytes: Vec<u8>) -> Result<Bin, AllocError>
-        ensures { IfOk result (λ b. b ≡ bytes.items) }
+    /// The bytes of a vector. It takes no memory.
+    pub fn new(bytes: Vec<u8>) -> Bin
+        ensures { result ≡ bytes.items }
     {
-        let bytes = ArcSlice::from_vec(bytes)?;
-        Ok(Bin { bytes })
+        Bin { bytes }
     }
 
     /// The bytes themselves.
     pub fn as_slice(&self) -> &[u8]
         ensures { result.now ≡ self.now }
     {
-        self.bytes.as_slice()
+        &self.bytes
+    }
+
+    /// The vector of the bytes. It takes no memory.
+    pub fn into_vec(self) -> Vec<u8>
+        ensures { result.items ≡ self }
+    {
+        let Bin { bytes } = self;
+        bytes
     }
 }
 

@@ -1,6 +1,6 @@
 ghost use Rattle.std.specs.Prelude.{◌≡◌};
 
-use crate::items::Items;
+use crate::items::{Faithful, Items};
 use crate::text::{Bin, Txt, copy_of_optional};
 use std::alloc::AllocError;
 
@@ -30,6 +30,10 @@ impl Clone for Value {
     }
 }
 
+impl Faithful for Value {
+    ghost same = { λ _ _ is. is };
+}
+
 /// A value for a statement's input, with its name if it has one, as Go's `driver.NamedValue`.
 #[derive(Debug, Drop)]
 pub struct Param {
@@ -45,6 +49,10 @@ impl Clone for Param {
         let value = self.value.clone()?;
         Ok(Param { name, value })
     }
+}
+
+impl Faithful for Param {
+    ghost same = { λ _ _ is. is };
 }
 
 /// The parameters of one driver call, in order.

@@ -12,7 +12,7 @@ pub(crate) fn columns(alloc: Global) -> Result<Columns, Memory>
 {
     let city = Txt::copy_of(alloc, "city")?;
     let founded = Txt::copy_of(alloc, "founded")?;
-    Ok(Items::new(vec![in alloc; city, founded]?)?)
+    Ok(Items::new(vec![in alloc; city, founded]?))
 }
 
 /// The row in this place, counted from 0, if there is one.
@@ -27,5 +27,5 @@ pub(crate) fn row(alloc: Global, place: u64) -> Result<Option<Values>, Memory>
     };
     let city = Value::Text(Txt::copy_of(alloc, name)?);
     let values = vec![in alloc; city, Value::Int(year)]?;
-    Ok(Some(Items::new(values)?))
+    Ok(Some(Items::new(values)))
 }

@@ -20,7 +20,7 @@ fn words<R: Env + AllocGlobal>(rt: &R) -> Result<Vec<Txt>, Memory> {
     match env::args(rt) {
         Ok(args) => {
             for word in args.skip(1) {
-                words.push(Txt::new(word)?)?;
+                words.push(Txt::new(word))?;
             }
             Ok(words)
         }

@@ -28,4 +28,4 @@ returns-clause-answer c =
     let values = c.args.values.now in
     let dests = c.args.dests.now in
     let t = zip_end values dests c.loop-value.yielded c.into_iter-value-iterator.result c.loop-value.value-iterator c.next.new.self c.next.result (search rules) (search rules) c.loop-value.yielded_by c.in-None.is c.next.ensures.steps in
-    all-scanned values dests _ _ c.loop-value.invariant t ∙ ap Ok (sym c.in-Ok-new.ensures.ok)
+    all-scanned values dests _ _ c.loop-value.invariant t ∙ ap Ok (sym c.new.ensures)
