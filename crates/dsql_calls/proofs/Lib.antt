@@ -1,4 +1,3 @@
 pub mod CallRows
 pub mod KeptTries
 pub mod MovesMade
-pub mod Noted

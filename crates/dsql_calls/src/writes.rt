@@ -1,9 +1,6 @@
 //! Writes to one table, which were paid for before or take no memory: they can't fail.
-ghost use Rattle.std.specs.Prelude.{◌≡◌, ◌+◌, ◌<◌, ◌≤◌, ◌∷◌, ◌++◌, [], length, reverse, vec_len, vec_capacity};
+ghost use Rattle.std.specs.Prelude.{◌≡◌, ◌+◌, ◌<◌, ◌≤◌, ◌∷◌, ◌++◌, [], vec_len, vec_capacity};
 ghost use Rattle.dsql_pool.specs.Pooled.{without};
-ghost use Rattle.dsql_laws.specs.OwedMade.{with_moves};
-
-use dsql_history::{Event, Move};
 
 /// Adds an element where there is room.
 pub fn put<T: Drop>(v: &mut Vec<T>, x: T)
@@ -13,28 +10,6 @@ pub fn put<T: Drop>(v: &mut Vec<T>, x: T)
     ensures capacity { vec_capacity v.new ≡ vec_capacity v.old }
 {
     v.push_reserved(x);
-}
-
-/// Adds an event to a history.
-pub fn note(v: &mut Vec<Event>, e: Event)
-    requires { vec_len v.old < vec_capacity v.old }
-    ensures past { reverse v.new.items ≡ e ∷ reverse v.old.items }
-    ensures len { vec_len v.new ≡ vec_len v.old + 1 }
-    ensures capacity { vec_capacity v.new ≡ vec_capacity v.old }
-{
-    put(v, e);
-}
-
-/// Adds moves of the pool to a history, one after another.
-pub fn note_moves(v: &mut Vec<Event>, moves: &[Move])
-    requires { vec_len v.old + length moves.now ≤ vec_capacity v.old }
-    ensures past { reverse v.new.items ≡ with_moves moves.now (reverse v.old.items) }
-    ensures len { vec_len v.new ≡ vec_len v.old + length moves.now }
-    ensures capacity { vec_capacity v.new ≡ vec_capacity v.old }
-{
-    for made in moves {
-        note(v, Event::Pool(*made));
-    }
 }
 
 /// Takes a number out of a list.

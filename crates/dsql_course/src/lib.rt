@@ -6,7 +6,6 @@ mod call;
 mod course;
 pub mod laws;
 mod line;
-mod past;
 mod progress;
 mod step;
 

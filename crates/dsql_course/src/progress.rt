@@ -8,15 +8,15 @@ ghost use Rattle.dsql_course.specs.Summary.{last_call, is_settled};
 use crate::call::{Due, Got};
 use crate::course::{Course, Wish};
 use crate::line::{Found, Plan};
-use crate::past::{Made, Past};
 use dsql_driver::Caps;
+use dsql_past::Past;
 use std::marker::Model;
 
 /// How far a course has come: what its calls have made, as far as later ones depend on it. Contracts see
 /// the calls themselves with their answers, the newest first. It takes no memory.
 #[derive(Drop)]
 pub struct Progress {
-    past: Past,
+    past: Past<(Due, Got)>,
     last: Option<Due>,
     handle: Option<(u32, i32)>,
     cursor: Option<u32>,
@@ -33,11 +33,11 @@ impl Model for Progress {
 
     ghost Value = { List Exchange };
 
-    ghost view = { λ p. p.past.exchanges };
+    ghost view = { λ p. p.past.items };
 
     ghost use Rattle.dsql_course.specs.Summary.{Summary};
 
-    ghost invariant = { λ p. Summary p.past.exchanges p.last p.handle p.cursor p.skipped p.done p.settled p.over p.bad };
+    ghost invariant = { λ p. Summary p.past.items p.last p.handle p.cursor p.skipped p.done p.settled p.over p.bad };
 }
 
 #[tactic(auto, using(crate::proofs::Summaries::summary_with))]
@@ -64,7 +64,7 @@ impl Progress {
         ensures { result ≡ (call, got) ∷ self.now }
     {
         Progress {
-            past: self.past.then(&Made { call, got }),
+            past: self.past.then_pair(&call, &got),
             last: Some(call),
             handle: given_handle(got).or(self.handle),
             cursor: given_cursor(got).or(self.cursor),

@@ -2,6 +2,5 @@
 #![tactic(auto)]
 
 mod log;
-mod trimmed;
 
 pub use log::EventLog;

@@ -1,9 +1,9 @@
-ghost use Rattle.std.specs.Prelude.{◌≡◌, ◌<◌, ◌≤◌, ◌+◌, ◌-◌, ◌∷◌, [], drop, length, reverse, IfOk, OnOk};
+ghost use Rattle.std.specs.Prelude.{◌≡◌, ◌<◌, ◌≤◌, ◌+◌, ◌-◌, ◌∷◌, [], length, OnOk};
+ghost use Rattle.dsql_history.specs.Trimmed.{IsLeftOf};
 ghost use Rattle.dsql_laws.specs.OwedMade.{with_moves};
 
-use crate::trimmed::{Kept, Trimmed};
-use dsql_calls::writes::{note, note_moves};
 use dsql_history::{Event, Move};
+use dsql_past::Past;
 use std::alloc::{AllocError, Global};
 use std::marker::Model;
 
@@ -11,10 +11,10 @@ use std::marker::Model;
 /// is memory.
 #[derive(Drop)]
 pub struct EventLog {
-    oldest: Trimmed,
+    oldest: Past<Event>,
     /// How many were trimmed.
     trimmed: u32,
-    kept: Kept,
+    kept: Vec<Event>,
 }
 
 impl Model for EventLog {
@@ -23,9 +23,9 @@ impl Model for EventLog {
 
     ghost Value = { Logged };
 
-    ghost view = { λ l. record { past = reverse l.kept.events.items ++ l.oldest.events; trimmed = length l.oldest.events; spare = vec_capacity l.kept.events - vec_len l.kept.events } };
+    ghost view = { λ l. record { past = reverse l.kept.items ++ l.oldest.items; trimmed = length l.oldest.items; spare = vec_capacity l.kept - vec_len l.kept } };
 
-    ghost invariant = { λ l. l.trimmed ≡ length l.oldest.events };
+    ghost invariant = { λ l. l.trimmed ≡ length l.oldest.items };
 }
 
 impl EventLog {
@@ -35,11 +35,9 @@ impl EventLog {
         ensures trimmed { result.trimmed ≡ 0 }
     {
         EventLog {
-            oldest: Trimmed::none(),
+            oldest: Past::new(),
             trimmed: 0,
-            kept: Kept {
-                events: Vec::new(alloc),
-            },
+            kept: Vec::new(alloc),
         }
     }
 
@@ -50,7 +48,7 @@ impl EventLog {
         ensures past { self.new.past ≡ self.old.past }
         ensures trimmed { self.new.trimmed ≡ self.old.trimmed }
     {
-        self.kept.events.reserve(events)
+        self.kept.reserve(events)
     }
 
     /// Adds an event for which there is memory.
@@ -60,7 +58,7 @@ impl EventLog {
         ensures trimmed { self.new.trimmed ≡ self.old.trimmed }
         ensures spare { self.new.spare + 1 ≡ self.old.spare }
     {
-        note(&mut self.kept.events, event);
+        self.kept.push_reserved(event);
     }
 
     /// Adds moves of the pool for which there is memory, one after another.
@@ -70,15 +68,16 @@ impl EventLog {
         ensures trimmed { self.new.trimmed ≡ self.old.trimmed }
         ensures spare { self.new.spare + length moves.now ≡ self.old.spare }
     {
-        note_moves(&mut self.kept.events, moves);
+        for made in moves {
+            self.note(Event::Pool(*made));
+        }
     }
 
     /// The events that weren't trimmed, the oldest first.
     pub fn kept(&self) -> &[Event]
-        ensures kept { result.now ≡ drop self.now.trimmed (reverse self.now.past) }
-        ensures all { length result.now + self.now.trimmed ≡ length self.now.past }
+        ensures { IsLeftOf self.now.past self.now.trimmed result.now }
     {
-        &self.kept.events
+        &self.kept
     }
 
     /// How many events were trimmed.
@@ -92,7 +91,7 @@ impl EventLog {
     pub fn count(&self) -> u64
         ensures { result ≡ length self.now.past }
     {
-        u64::from(self.trimmed) + self.kept.events.len() as u64
+        u64::from(self.trimmed) + self.kept.len() as u64
     }
 
     /// Trims all events: they are kept no more.
@@ -102,8 +101,8 @@ impl EventLog {
         ensures trimmed { self.new.trimmed ≡ length self.new.past }
         ensures spare { self.old.spare ≤ self.new.spare }
     {
-        self.oldest = self.oldest.with(&self.kept);
-        self.trimmed += self.kept.events.len() as u32;
-        self.kept.events.clear();
+        self.oldest = self.oldest.then_all(&self.kept);
+        self.trimmed += self.kept.len() as u32;
+        self.kept.clear();
     }
 }

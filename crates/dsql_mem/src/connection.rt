@@ -94,10 +94,10 @@ impl Connection {
         ensures store_stays { OnErr result (store.new ≡ store.old) }
         ensures counted { self.old.faults ≤ self.new.faults }
     {
-        let nth = self.log.next_call()?;
-        let fault = fault_at(nth, call, self.planned.as_slice())?;
+        self.log.has_room()?;
+        let fault = fault_at(self.log.next_call(), call, self.planned.as_slice())?;
         let answered = step_unless(fault, alloc, store, &mut self.session, call)?;
-        self.log.note(nth, call, &answered.answer);
+        self.log.note(call, &answered.answer);
         self.faults = faults_after(self.faults, &answered.answer);
         Ok(answered)
     }

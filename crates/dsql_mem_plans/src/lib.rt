@@ -2,11 +2,9 @@
 //! which each call has its number.
 #![tactic(auto)]
 
-mod heard_calls;
 mod log;
 mod plans;
 
-pub use heard_calls::HeardCalls;
 pub use log::Log;
 pub use plans::{
     Plan, PlanMade, Refusal, WirePlanMade, connect_refusal, copied, fault_at, plans_for,

@@ -1,9 +1,10 @@
-ghost use Rattle.std.specs.Prelude.{◌≡◌, ◌+◌, ◌≤◌, length, IfOk, OnOk, OnErr};
+ghost use Rattle.std.specs.Prelude.{◌≡◌, ◌+◌, ◌<◌, ◌≤◌, length, OnOk, OnErr};
+ghost use Rattle.std.below.core.specs.declared.int.usize.TheConstants.{MAX};
 ghost use Rattle.dsql_driver.specs.Wires.{newly_told, with_call, with_plan};
 
-use crate::heard_calls::HeardCalls;
 use crate::plans::PlanMade;
 use dsql_driver::{DriverAnswer, DriverCall, Planned};
+use dsql_past::Past;
 use dsql_value::Memory;
 use std::alloc::Global;
 
@@ -13,9 +14,9 @@ use std::alloc::Global;
 pub struct Log {
     pub number: u32,
     pub count: usize,
-    pub heard: HeardCalls,
+    pub heard: Past<(DriverCall, DriverAnswer)>,
     pub plans: Vec<PlanMade>,
-    pub ghost counted: { count ≡ length heard.calls },
+    pub ghost counted: { (count ≡ length heard.items) × (count < MAX) },
 }
 
 impl Log {
@@ -28,26 +29,37 @@ impl Log {
         Log {
             number,
             count: 1,
-            heard: HeardCalls::new(),
+            heard: Past::new().then_pair(&DriverCall::Connect, &DriverAnswer::Done),
             plans: Vec::new(alloc),
         }
     }
 
-    /// The number of the next call that it hears. Only a wire that has heard as many as can be counted wants memory.
-    pub fn next_call(&self) -> Result<usize, Memory>
-        ensures ok { IfOk result (λ nth. nth ≡ length (told_of self.now).calls + 1) }
-        ensures full { OnErr result (usize.MAX ≤ length (told_of self.now).calls) }
+    /// The number of the next call that it hears.
+    pub fn next_call(&self) -> usize
+        ensures { result ≡ length (told_of self.now).calls + 1 }
     {
-        self.count.checked_add(1).ok_or(Memory)
+        self.count + 1
     }
 
-    /// Notes the next call, which has this number, with its answer. It takes no memory.
-    pub fn note(&mut self, nth: usize, call: &DriverCall, answer: &DriverAnswer)
-        requires { nth ≡ length (told_of self.old).calls + 1 }
+    /// Whether there is room for the next call. Only a wire that has heard as many as can be counted wants memory.
+    pub fn has_room(&self) -> Result<(), Memory>
+        ensures ok { OnOk result (length (told_of self.now).calls + 1 < usize.MAX) }
+        ensures err { OnErr result (usize.MAX ≤ length (told_of self.now).calls + 1) }
+    {
+        if self.next_call() < usize::MAX {
+            Ok(())
+        } else {
+            Err(Memory)
+        }
+    }
+
+    /// Notes the next call, for which there is room, with its answer. It takes no memory.
+    pub fn note(&mut self, call: &DriverCall, answer: &DriverAnswer)
+        requires { length (told_of self.old).calls + 1 < usize.MAX }
         ensures { told_of self.new ≡ with_call (call.now, answer.now) (told_of self.old) }
     {
-        self.heard = self.heard.then(call, answer);
-        self.count = nth;
+        self.heard = self.heard.then_pair(call, answer);
+        self.count += 1;
     }
 
     /// Enters a fault that is planned, behind the calls that were heard so far. Want of memory, the only error,

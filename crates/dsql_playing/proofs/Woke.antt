@@ -1,5 +1,5 @@
 -- A client's call goes on by itself.
-use Rattle.std.proofs.Common.{◌≡◌, ◌<◌, ◌≤◌, ◌+◌, ◌-◌, drop, length-drop, ◌⊎◌, inl, inr, ℕ, Bool, true, false, not, ◌&&◌, ◌||◌, cond, List, ◌∷◌, length, Option, Some, None, is_some, refl, ap, sym, subst, ◌∙◌, arith}
+use Rattle.std.proofs.Common.{◌≡◌, ◌<◌, ◌+◌, ◌-◌, length-drop, ◌⊎◌, inl, inr, ℕ, Bool, true, false, not, ◌&&◌, ◌||◌, cond, List, ◌∷◌, length, Option, Some, None, is_some, refl, ap, sym, subst, ◌∙◌, arith}
 use Rattle.std.specs.Prelude.{nat_lt, option_map, reverse}
 use Rattle.std.proofs.lemmas.Bool.Decides.{nat_tests}
 use Rattle.std.proofs.lemmas.List.{length-reverse}
@@ -16,6 +16,7 @@ use Rattle.dsql_history.specs.Readers.Unfinished.{is_unfinished}
 use Rattle.dsql_history.specs.Rules.Flights.{is_blocked, is_in_flight, may_move}
 use Rattle.dsql_history.specs.Rules.Stands.{stand}
 use Rattle.dsql_history.specs.Legal.{Legal}
+use Rattle.dsql_history.specs.Trimmed.{IsLeftOf}
 use Rattle.dsql_going.specs.Answers.{next_for, sends_unless, why_blocked}
 use Rattle.dsql_going.specs.Permits.{permit_for}
 use Rattle.dsql_going.specs.Reaching.{HasGoneOn}
@@ -78,13 +79,9 @@ itself_ends_none n e past h = refl
 
 -- What is left of a history, the other way round, is as long as the history but for what was trimmed.
 
-pub record StandsFor (first : List Event) (trimmed : ℕ) (past : List Event) : Type 0 where
-  pub rest : first ≡ drop trimmed (reverse past)
-  pub within : trimmed ≤ length past
-
-left : (first : List Event) (trimmed : ℕ) (past : List Event) → StandsFor first trimmed past → length first + trimmed ≡ length past
-left first trimmed past s =
-    let a : length first ≡ length (reverse past) - trimmed = ap length s.rest ∙ length-drop trimmed (reverse past) in
+left : (kept : List Event) (trimmed : ℕ) (past : List Event) → IsLeftOf past trimmed kept → length kept + trimmed ≡ length past
+left kept trimmed past s =
+    let a : length kept ≡ length (reverse past) - trimmed = ap length s.rest ∙ length-drop trimmed (reverse past) in
     let b : length (reverse past) ≡ length past = length-reverse past in
     let within = s.within in
     omega (arith, a, b, within)
@@ -95,7 +92,7 @@ longer a b h = grind (arith, nat_tests)
 no_longer : (a b : ℕ) → nat_lt a b ≡ false → a < b → ⊥
 no_longer a b h less = grind (arith, nat_tests)
 
-module _ (first second : List Event) (before after : ℕ) (old new : List Event) (old_is : StandsFor first before old) (new_is : StandsFor second after new) (same : after ≡ before) where
+module _ (first second : List Event) (before after : ℕ) (old new : List Event) (old_is : IsLeftOf old before first) (new_is : IsLeftOf new after second) (same : after ≡ before) where
   pub history_longer : nat_lt (length first) (length second) ≡ true → length old < length new
   history_longer h =
       let a = left first before old old_is in

@@ -1,6 +1,7 @@
-ghost use Rattle.std.specs.Prelude.{◌≡◌, ◌<◌, ◌≤◌, ◌∷◌, [], true, false, drop, length, reverse, IfOk, OnOk, OnErr};
+ghost use Rattle.std.specs.Prelude.{◌≡◌, ◌<◌, ◌≤◌, ◌∷◌, [], true, false, length, reverse, IfOk, OnOk, OnErr};
 ghost use Rattle.dsql_history.specs.declared.event.Event.TheVariants.{Run};
 ghost use Rattle.dsql_history.specs.Legal.{Legal};
+ghost use Rattle.dsql_history.specs.Trimmed.{IsLeftOf};
 ghost use Rattle.dsql_follows.specs.Moments.{Moment, at_end, just_begun};
 ghost use Rattle.dsql_playing.specs.Playing.{IsAt, IsReady};
 ghost use Rattle.dsql_steps.specs.Groups.{most_events};
@@ -50,8 +51,8 @@ impl Player {
 
     /// All that happened and wasn't trimmed, oldest first.
     pub fn history(&self) -> &[Event]
-        ensures events { result.now ≡ drop self.now.trimmed (reverse self.now.past) }
-        ensures within { self.now.trimmed ≤ length self.now.past }
+        ensures left { IsLeftOf self.now.past self.now.trimmed result.now }
+        ensures all { self.now.trimmed ≡ 0 → result.now ≡ reverse self.now.past }
         ensures legal { Legal self.now.past }
     {
         self.engine.history()

@@ -2,4 +2,4 @@ pub mod Going
 pub mod Written
 pub mod Heading
 pub mod Summaries
-pub mod LettingGo
+pub mod Trimming

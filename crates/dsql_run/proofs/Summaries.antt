@@ -1,5 +1,5 @@
 -- What was written of a summary.
-use Rattle.std.proofs.Common.{◌≡◌, ◌⊎◌, ℕ, false, List, drop, length, Option, Some, None, refl, ap, sym, subst, ◌∙◌, inl, inr}
+use Rattle.std.proofs.Common.{◌≡◌, ◌⊎◌, ℕ, false, List, length, Option, Some, None, refl, ap, sym, subst, ◌∙◌, inl, inr}
 use Rattle.std.specs.Prelude.{IfSome, Result, Ok, Err, reverse}
 use Rattle.std.proofs.lemmas.List.{reverse-reverse}
 use Rattle.dsql_driver.specs.Streams.{HasRisen}
@@ -23,8 +23,8 @@ whole_piece (Err (Refused number fault)) text w now over is = is
 whole_piece (Err Full) text w now over is = absurd over
 
 -- where no event was trimmed all of the history is left
-pub all_kept : (past kept : List Event) (trimmed : ℕ) → trimmed ≡ 0 → kept ≡ drop trimmed (reverse past) → reverse kept ≡ past
-all_kept past kept trimmed none left = ap reverse (left ∙ ap (λ (n : ℕ). drop n (reverse past)) none) ∙ reverse-reverse past
+pub all_kept : (past kept : List Event) → kept ≡ reverse past → reverse kept ≡ past
+all_kept past kept all = ap reverse all ∙ reverse-reverse past
 
 -- what nobody keeps is written without a fault
 pub no_write_fault : (stopped : Result (Unit {0}) Stop) (before after : Seen) → IsPlayed stopped (unreported before) (unreported after) → is_write_fault stopped ≡ false

@@ -5,7 +5,8 @@ use Rattle.std.proofs.lemmas.List.{reverse-append, reverse-reverse, append_assoc
 use Rattle.dsql_history.specs.declared.event.Event.{Event}
 use Rattle.serde_json.specs.Written.{compact_text}
 use Rattle.dsql_report.specs.Lines.{json_of, line_of, text_of}
-use Rattle.dsql_show.specs.Report.{with_text, oldest, IsLeftOf, Shows, StopsBetween}
+use Rattle.dsql_history.specs.Trimmed.{IsLeftOf}
+use Rattle.dsql_show.specs.Report.{with_text, oldest, Shows, StopsBetween}
 
 pub with_both : (w : Option (List ℕ)) (a b : List ℕ) → with_text (with_text w a) b ≡ with_text w (a ++ b)
 with_both None a b = refl

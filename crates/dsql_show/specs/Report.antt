@@ -1,5 +1,5 @@
 -- What was written of a report.
-use Rattle.std.specs.Prelude.{ℕ, ◌≡◌, ◌<◌, ◌≤◌, Bool, true, false, List, ◌++◌, length, drop, take, reverse, Option, option_map, Result, Err}
+use Rattle.std.specs.Prelude.{ℕ, ◌≡◌, ◌<◌, Bool, true, false, List, ◌++◌, length, take, reverse, Option, option_map, Result, Err}
 use Rattle.dsql_history.specs.declared.event.Event.{Event}
 use Rattle.dsql_report.specs.Lines.{text_of}
 use Rattle.dsql_show.specs.declared.showing.ShowFault.{ShowFault}
@@ -17,11 +17,6 @@ with_text w text = option_map (λ bytes. bytes ++ text) w
 -- the first events of a history, which comes newest first
 abbrev pub oldest : ℕ → List Event → List Event
 oldest n past = reverse (take n (reverse past))
-
--- these events, the oldest first, are what is left of a history of which so many, the oldest, were trimmed
-pub record IsLeftOf (past : List Event) (trimmed : ℕ) (kept : List Event) : Type 0 where
-  pub rest : kept ≡ drop trimmed (reverse past)
-  pub within : trimmed ≤ length past
 
 -- where a sink told w at first, it tells the text of the first n events behind it
 abbrev pub Shows : Option (List ℕ) → ℕ → List Event → Option (List ℕ) → Type 0

@@ -2,7 +2,8 @@ ghost use Rattle.std.specs.Prelude.{◌≡◌, ◌<◌, ◌≤◌, ◌+◌, ℕ,
 ghost use Rattle.dsql_history.specs.declared.event.Event.{Event as Happened};
 ghost use Rattle.dsql_report.specs.Lines.{text_of};
 ghost use Rattle.dsql_stream.specs.Faults.{CountsFaults, GivenUp};
-ghost use Rattle.dsql_show.specs.Report.{IsLeftOf, Shows, StopsBetween, is_sink_fault, oldest, with_text};
+ghost use Rattle.dsql_history.specs.Trimmed.{IsLeftOf};
+ghost use Rattle.dsql_show.specs.Report.{Shows, StopsBetween, is_sink_fault, oldest, with_text};
 ghost use Rattle.dsql_show.specs.declared.showing.ShowFault.TheVariants as faults;
 
 use dsql_driver::Sink;

@@ -14,7 +14,7 @@ use Rattle.dsql_tenure.specs.declared.tables.Tables.{Tables}
 
 -- the entries so far, the newest first
 abbrev pub past : Tables → List Entry
-past tables = tables.past.entries
+past tables = tables.past.items
 
 -- what is kept of a live handle
 abbrev pub kept_handle : LiveHandle → Handle

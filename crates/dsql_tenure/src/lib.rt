@@ -8,7 +8,6 @@ mod hear;
 mod heard;
 mod judge;
 pub mod laws;
-mod past;
 mod place;
 mod rules;
 mod so_far;

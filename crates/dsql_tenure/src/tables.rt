@@ -1,9 +1,10 @@
 //! What a judge keeps of the journal so far.
 ghost use Rattle.std.specs.Prelude.{◌≡◌, ◌+◌, ◌<◌, ◌≤◌, ◌∷◌, [], OnOk, OnErr};
 
-use crate::past::Past;
 use crate::so_far::SoFar;
 use dsql_asked::{Cursor, Handle};
+use dsql_journal::Entry;
+use dsql_past::Past;
 use dsql_value::Memory;
 use indexmap::IndexSet;
 use std::alloc::Global;
@@ -12,7 +13,7 @@ use std::alloc::Global;
 #[derive(Drop)]
 pub struct Tables {
     /// The journal itself, for proofs alone.
-    pub past: Past,
+    pub past: Past<Entry>,
     pub conn: u32,
     /// The number of the last tenure, and what is kept of it.
     pub tenure: u32,

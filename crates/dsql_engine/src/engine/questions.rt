@@ -1,6 +1,7 @@
 //! What may be asked of a run.
-ghost use Rattle.std.specs.Prelude.{◌≡◌, ◌≤◌, ◌<◌, ◌&&◌, ◌↔◌, not, true, drop, length, reverse, None, IsTrue, IfSome};
+ghost use Rattle.std.specs.Prelude.{◌≡◌, ◌≤◌, ◌<◌, ◌&&◌, ◌↔◌, not, true, length, reverse, None, IsTrue, IfSome};
 ghost use Rattle.dsql_history.specs.Legal.{Legal};
+ghost use Rattle.dsql_history.specs.Trimmed.{IsLeftOf};
 ghost use Rattle.dsql_history.specs.Readers.Course.{has_ended};
 ghost use Rattle.dsql_history.specs.Rules.House.{is_quiet};
 ghost use Rattle.dsql_history.specs.Readers.Unfinished.{is_unfinished};
@@ -137,8 +138,8 @@ impl Engine {
 
     /// All that happened and wasn't trimmed, oldest first.
     pub fn history(&self) -> &[Event]
-        ensures events { result.now ≡ drop self.now.trimmed (reverse self.now.past) }
-        ensures within { self.now.trimmed ≤ length self.now.past }
+        ensures left { IsLeftOf self.now.past self.now.trimmed result.now }
+        ensures all { self.now.trimmed ≡ 0 → result.now ≡ reverse self.now.past }
         ensures legal { Legal self.now.past }
     {
         self.desk.history.kept()

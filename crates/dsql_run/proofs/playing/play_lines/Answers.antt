@@ -23,7 +23,7 @@ use Rattle.dsql_outcome.proofs.Ending.{failed_is}
 use Rattle.dsql_outcome.proofs.Lines.{first_cut, first_ends, first_so_far, first_stops, line_ends, line_so_far, play_ends_none, read_ends, script_ends}
 use Rattle.dsql_outcome.proofs.Writing.{all_shown, no_text, show_stops, wrote_at_rest, wrote_shown}
 use Rattle.dsql_run.proofs.Going.{begins_telling}
-use Rattle.dsql_run.proofs.LettingGo.{between_still, so_far_still}
+use Rattle.dsql_run.proofs.Trimming.{between_still, so_far_still}
 use Rattle.dsql_run.proofs.Heading.{always_headed, fewer}
 use Rattle.dsql_run.proofs.playing.play_lines.Goals as goal
 

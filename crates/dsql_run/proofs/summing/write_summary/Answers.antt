@@ -13,7 +13,7 @@ returns-in-Ok-write_whole-clause-written g c =
     let w = g.K.Sink.written c.args.output.now in
     let text : c.as_bytes.result.now ≡ line_of (summary_of lines past) =
     c.as_bytes.ensures.value
-    ∙ (c.in-Ok.ensures ∙ ap line_of (c.summary_of.ensures ∙ (ap (λ n. summary_of n (reverse c.history.result.now)) (c.from-lines.ensures ∙ c.count.ensures) ∙ ap (summary_of lines) (all_kept past c.history.result.now c.in-Some.kept.player.trimmed (rw c.in-Some.is at c.requires.whole) c.history.ensures.events))))
+    ∙ (c.in-Ok.ensures ∙ ap line_of (c.summary_of.ensures ∙ (ap (λ n. summary_of n (reverse c.history.result.now)) (c.from-lines.ensures ∙ c.count.ensures) ∙ ap (summary_of lines) (all_kept past c.history.result.now (c.history.ensures.all (rw c.in-Some.is at c.requires.whole))))))
     in
     rw c.in-Some.is (whole_piece c.args.stopped (line_of (summary_of lines past)) w (g.K.Sink.written c.write_whole.new.sink) (c.if-not-lines_ended.ensures.over refl) (c.in-Ok-write_whole.ensures.ok ∙ ap (with_text w) text))
 
@@ -23,7 +23,7 @@ returns-clause-written g c =
     let past = c.in-Some.kept.player.past in
     let text : c.as_bytes.result.now ≡ line_of (summary_of lines past) =
     c.as_bytes.ensures.value
-    ∙ (c.in-Ok.ensures ∙ ap line_of (c.summary_of.ensures ∙ (ap (λ n. summary_of n (reverse c.history.result.now)) (c.from-lines.ensures ∙ c.count.ensures) ∙ ap (summary_of lines) (all_kept past c.history.result.now c.in-Some.kept.player.trimmed (rw c.in-Some.is at c.requires.whole) c.history.ensures.events))))
+    ∙ (c.in-Ok.ensures ∙ ap line_of (c.summary_of.ensures ∙ (ap (λ n. summary_of n (reverse c.history.result.now)) (c.from-lines.ensures ∙ c.count.ensures) ∙ ap (summary_of lines) (all_kept past c.history.result.now (c.history.ensures.all (rw c.in-Some.is at c.requires.whole))))))
     in
     rw c.in-Some.is
     (record {

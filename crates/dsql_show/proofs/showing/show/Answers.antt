@@ -2,7 +2,8 @@ use Rattle.std.proofs.Common.{◌≡◌, ◌-◌, ◌≤◌, ℕ, List, [], Opti
 use Rattle.std.specs.Prelude.{Err, reverse}
 use Rattle.dsql_history.specs.declared.event.Event.{Event}
 use Rattle.dsql_report.specs.Lines.{text_of}
-use Rattle.dsql_show.specs.Report.{with_text, oldest, IsLeftOf, Shows, StopsBetween}
+use Rattle.dsql_history.specs.Trimmed.{IsLeftOf}
+use Rattle.dsql_show.specs.Report.{with_text, oldest, Shows, StopsBetween}
 use Rattle.dsql_show.proofs.Errors.{err_is}
 use Rattle.dsql_show.proofs.Texts.{left_length, shows_left, stops_left, slice_rest}
 use Rattle.dsql_show.proofs.showing.show.Goals as goal

@@ -1,12 +1,10 @@
-use Rattle.std.proofs.Common.{◌++◌, reverse, ap, ◌∙◌}
-use Rattle.dsql_laws.specs.OwedMade.{with_moves}
-use Rattle.dsql_event_log.specs.Log.{Logged}
-use Rattle.dsql_event_log.proofs.Moves.{moves_before}
+use Rattle.std.proofs.Common.{arith, ◌∙◌}
+use Rattle.dsql_event_log.proofs.Moves.{next_noted}
 use Rattle.dsql_event_log.proofs.log.EventLog.note_moves.Goals as goal
 
-pub returns-clause-past : goal.returns-clause-past
-returns-clause-past c =
-    let ms = c.args.moves.now in
-    let oldest = c.self.inside.oldest.events in
-    ap (λ H. H ++ oldest) c.note_moves.ensures.past
-    ∙ (moves_before ms (reverse c.self.inside.kept.events.items) oldest ∙ ap (λ (l : Logged). with_moves ms l.past) c.self.view_is)
+pub loop-made-preserved : goal.loop-made-preserved
+loop-made-preserved c = (
+  next_noted _ _ _ _ _ _ c.loop-made-test.true c.loop-made.invariant.0 c.note.ensures.past,
+  c.note.ensures.trimmed ∙ c.loop-made.invariant.1,
+  omega (arith, c.note.ensures.spare, c.loop-made.invariant.2),
+)

@@ -11,7 +11,7 @@ pub returns-clause-ok : goal.returns-clause-ok
 returns-clause-ok c =
     let before : WireState = record { session = c.self.inside.session; told = told_of c.self.inside.log; planned = c.self.inside.planned.items; faults = c.self.inside.faults } in
     let planned : c.as_slice.result.now ≡ c.self.inside.planned.items = search rules in
-    let due : c.in_ok-fault.fault ≡ fault_in_place before c.args.call.now = c.in_ok-fault.ensures ∙ ap (fault_at c.in_ok-nth.nth c.args.call.now) planned ∙ ap (λ nth. fault_at nth c.args.call.now c.self.inside.planned.items) c.in_ok-nth.ensures.ok in
+    let due : c.in_ok-fault.fault ≡ fault_in_place before c.args.call.now = c.in_ok-fault.ensures ∙ ap (fault_at c.next_call.result c.args.call.now) planned ∙ ap (λ nth. fault_at nth c.args.call.now c.self.inside.planned.items) c.next_call.ensures in
     let answered : c.in_ok-answered.answered.answer ≡ (effect_unless c.in_ok-fault.fault c.args.store.now c.self.inside.session c.args.call.now).answer = ap (λ (k : Answered). k.answer) c.in_ok-answered.ensures.answer in
     let counted : c.faults_after-self-inside.result ≡ faults_after c.self.inside.faults c.in_ok-answered.answered.answer = search rules in
     changed_by_parts c.args.store.now c.args.call.now before c.in_ok-fault.fault

@@ -11,7 +11,8 @@ use Rattle.dsql_playing.specs.Playing.{Playing}
 use Rattle.dsql_playing.specs.Stepping.{leave_of}
 use Rattle.dsql_playing.proofs.Hearing.{hears_none}
 use Rattle.dsql_playing.proofs.Asked.{Given}
-use Rattle.dsql_playing.proofs.Woke.{StandsFor, WakesUp, history_longer, history_no_longer, woke_course, woke_leave, woke_quiet, woke_ready, woke_same, woke_wakes}
+use Rattle.dsql_history.specs.Trimmed.{IsLeftOf}
+use Rattle.dsql_playing.proofs.Woke.{WakesUp, history_longer, history_no_longer, woke_course, woke_leave, woke_quiet, woke_ready, woke_same, woke_wakes}
 use Rattle.dsql_playing.proofs.player.Player.wake.Goals as goal
 
 pub wake-requires-clause-unfinished : goal.wake-requires-clause-unfinished
@@ -68,9 +69,9 @@ returns c =
       released = ap (λ (p : Playing). p.released) c.self.view_is;
       given = subst (λ (p : Playing). Given me (leave_of next) p.seats c.hand.new.self) c.self.view_is leave_is;
     } in
-    let before : StandsFor c.history-before.result.now old.trimmed old.past =
-    subst (λ (p : Playing). StandsFor c.history-before.result.now p.trimmed p.past) c.self.view_is (record { rest = c.history-before.ensures.events; within = c.history-before.ensures.within }) in
-    let after : StandsFor c.history.result.now new.trimmed new.past = record { rest = c.history.ensures.events; within = c.history.ensures.within } in
+    let before : IsLeftOf old.past old.trimmed c.history-before.result.now =
+    subst (λ (p : Playing). IsLeftOf p.past p.trimmed c.history-before.result.now) c.self.view_is c.history-before.ensures.left in
+    let after : IsLeftOf new.past new.trimmed c.history.result.now = c.history.ensures.left in
     let trimmed : new.trimmed ≡ old.trimmed = c.wake.ensures.trimmed ∙ ap (λ (p : Playing). p.trimmed) c.self.view_is in
     let shown : Bool = nat_lt (length c.history-before.result.now) (length c.history.result.now) in
     let grew : shown ≡ true → length old.past < length new.past = history_longer c.history-before.result.now c.history.result.now old.trimmed new.trimmed old.past new.past before after trimmed in
