@@ -1,15 +1,17 @@
--- What a driver call on a wire leaves, and what asking for a connection leaves, whether the journal's entries are kept or not.
+-- What a driver call on a wire leaves, what asking for a connection leaves, and what planning a fault leaves, whether the journal's entries are kept or not.
 use Rattle.std.specs.Prelude.{◌≡◌, ◌≤◌, ◌∷◌, [], true, false, Option, Result, IfOk, IfErr, IfSome, OnOk, OnErr, IsErrOf, is_some}
 use Rattle.dsql_driver.specs.Fits.{is_done, is_fault}
 use Rattle.dsql_driver.specs.Streams.{HasRisen}
-use Rattle.dsql_driver.specs.Wires.{WireTold, connected_after, newly_told, told_after}
+use Rattle.dsql_driver.specs.Wires.{Plan, WireTold, connected_after, newly_told, planned_after, told_after}
 use Rattle.dsql_driver.specs.declared.wire.Fleet as fleets
 use Rattle.dsql_driver.specs.declared.wire.Wire as wires
 use Rattle.dsql_journal.specs.HandlesAndCursors.{fits_at_its_place}
 use Rattle.dsql_journal.specs.declared.entry.Entry.{Entry}
 use Rattle.dsql_journal.specs.declared.entry.Permit.{Permit}
 use Rattle.dsql_tenure.specs.Judged.{answered}
+use Rattle.dsql_value.specs.declared.memory.Memory.{Memory}
 use Rattle.dsql_wire.specs.Journaled.{Journaled, MayBeSent, permit_of}
+use Rattle.dsql_wire.specs.Told.{TellsOf}
 use Rattle.dsql_wire.specs.declared.fault.WireFault.{WireFault}
 use Rattle.dsql_wire.specs.declared.fault.WireFault.TheVariants as faults
 
@@ -54,3 +56,12 @@ pub record Opens {A F W : Type 0} (entry_of : A → Entry) (wire_of : A → Opti
   pub caused : IfOk result (λ it. is_fault (entry_of it).answer ≡ true → HasRisen (fleet.faults old) (fleet.faults new))
   pub faultless : IfOk result (λ it. is_fault (entry_of it).answer ≡ false → fleet.faults new ≡ fleet.faults old)
   pub refused : OnErr result (fleet.faults new ≡ fleet.faults old)
+
+-- A fault was planned on a wire, or memory was wanting. What the wire told before, if it tells, was just its journal.
+pub record PlansFault {W : Type 0} (wire : wires.Ghosts W) (plan : Plan) (old new : Journaled W) (result : Result (Unit {0}) Memory) : Type 0 where
+  pub journal : new.journal ≡ old.journal
+  pub conn : new.conn ≡ old.conn
+  pub told : OnOk result (wire.told new.wire ≡ planned_after plan (wire.told old.wire))
+  pub exact : IfSome (wire.told old.wire) (TellsOf old.conn old.journal)
+  pub err : OnErr result (wire.told new.wire ≡ wire.told old.wire)
+  pub faultless : wire.faults new.wire ≡ wire.faults old.wire

@@ -79,11 +79,13 @@ impl Request {
         requires told { IfSome (W.told wire) (λ told. told ≡ newly_told self.conn) }
         requires handles { W.handles wire ≡ [] }
         requires cursors { W.cursors wire ≡ [] }
-        ensures entry { result.heard ≡ entry_of self DriverAnswer.Done }
+        ensures entry { result.heard ≡ entry_of self result.heard.answer }
+        ensures answer { result.heard.answer ≡ DriverAnswer.Done }
         ensures fits { fits_at_its_place [] result.heard ≡ true }
         ensures wire { IsSomeAnd result.wire (λ w. w.wire ≡ wire) }
         ensures conn { IfSome result.wire (λ w. w.conn ≡ self.conn) }
         ensures noted { IfSome result.wire (λ w. w.journal ≡ result.heard ∷ []) }
+        ensures may { MayBeSent self.conn [] self }
     {
         let Request {
             permit,
@@ -105,6 +107,7 @@ impl Request {
         ensures fits { IfOk result (λ opened. fits_at_its_place [] opened.heard ≡ true) }
         ensures memory { IfErr result (λ fault. fault ≡ WireFault.Memory self) }
         ensures none_made { OnErr result (refusal_of refused ≡ None) }
+        ensures may { MayBeSent self.conn [] self }
     {
         let Request { permit, .. } = self;
         match refusal(refused) {

@@ -1,8 +1,7 @@
-ghost use Rattle.std.specs.Prelude.{◌≡◌, ◌<◌, false, reverse, vec_capacity, vec_len, IfOk, IfSome, OnErr, OnOk};
-ghost use Rattle.dsql_driver.specs.Wires.{planned_after};
+ghost use Rattle.std.specs.Prelude.{◌≡◌, ◌<◌, false, reverse, vec_capacity, vec_len, IfOk, IfSome, OnOk};
 ghost use Rattle.dsql_journal.specs.Readers.{is_empty};
 ghost use Rattle.dsql_tenure.specs.Beginnings.{IsBeginningOf};
-ghost use Rattle.dsql_wire.specs.Calling.{Calls};
+ghost use Rattle.dsql_wire.specs.Calling.{Calls, PlansFault};
 ghost use Rattle.dsql_wire.specs.Told.{TellsOf};
 
 use crate::fault::WireFault;
@@ -80,15 +79,9 @@ impl<W: Wire> JournaledWire<W> {
         &self.entries
     }
 
-    /// Plans a fault in place of the answer to the nth call on this wire, its Connect being the first. What it
-    /// told before, if it tells, was just its journal.
+    /// Plans a fault in place of the answer to the nth call on this wire, its Connect being the first.
     pub fn plan(&mut self, nth: u32, what: Planned) -> Result<(), Memory>
-        ensures journal { self.new.journal ≡ self.old.journal }
-        ensures conn { self.new.conn ≡ self.old.conn }
-        ensures told { OnOk result (W.told self.new.wire ≡ planned_after (nth, what) (W.told self.old.wire)) }
-        ensures exact { IfSome (W.told self.old.wire) (TellsOf self.old.conn self.old.journal) }
-        ensures err { OnErr result (W.told self.new.wire ≡ W.told self.old.wire) }
-        ensures faultless { W.faults self.new.wire ≡ W.faults self.old.wire }
+        ensures { PlansFault W.Wire (nth, what) self.old self.new result }
     {
         self.thin.plan(nth, what)
     }
