@@ -1,6 +1,5 @@
 -- On truth values, and on what no setting changes.
 use Rattle.std.proofs.Common.{◌≡◌, Bool, true, false, refl}
-use Rattle.std.specs.Prelude.{ℤ}
 use Rattle.dsql_pool.specs.Pooled.{Pooled}
 use Rattle.dsql_history.specs.declared.event.Control.{Control}
 use Rattle.dsql_history.specs.declared.event.Setting.TheVariants.{MaxOpen, MaxIdle, MaxLife, MaxIdleTime}

@@ -1,6 +1,6 @@
 -- Connections are lent to calls, and opened for them: each works on a connection of its own.
-use Rattle.std.proofs.Common.{◌≡◌, ◌≢◌, ℕ, zero, suc, ◌+◌, ◌-◌, ◌≤◌, ◌==◌, Bool, true, false, not, ◌&&◌, cond, List, [], ◌∷◌, ◌++◌, map, Option, Some, None, is_none, refl, sym, ap, subst, ◌∙◌, arith}
-use Rattle.std.specs.Prelude.{ℤ, drop, take, length, find, count_by, Result, Ok, Err}
+use Rattle.std.proofs.Common.{◌≡◌, ◌≢◌, ℕ, zero, suc, ◌+◌, ◌-◌, ◌≤◌, ◌==◌, Bool, true, false, not, ◌&&◌, cond, List, [], ◌∷◌, ◌++◌, map, Option, Some, None, refl, sym, ap, subst, ◌∙◌, arith}
+use Rattle.std.specs.Prelude.{drop, take, length, find, count_by, Result, Ok, Err}
 use Rattle.std.specs.List.{list_all}
 use Rattle.std.specs.Option.{option_map}
 use Rattle.std.proofs.lemmas.List.Folds.{list_all-append}
@@ -29,7 +29,7 @@ use Rattle.dsql_pool.specs.Places.{conn_of}
 use Rattle.dsql_pool.specs.Pooled.{Pooled, place_at, next_tenure, next_number}
 use Rattle.dsql_pool.specs.Moved.{made, begun, shut, ticked}
 use Rattle.dsql_pool.specs.Decisions.{closings_of_setting, falls_to, openings, due_openings, lends_to_oldest, moves_back, moves_unwanted, when_given_back, when_unwanted, when_opened}
-use Rattle.dsql_pool.specs.Calls.{wants, then_openings, moves_opened, moves_failed, moves_asked, open_set, idle_set, lifetime_set, idle_time_set}
+use Rattle.dsql_pool.specs.Calls.{then_openings, moves_opened, moves_failed, moves_asked, open_set, idle_set, lifetime_set, idle_time_set}
 use Rattle.dsql_pool.proofs.Rows.{all_pass, all_filter, all_map, all_changed, found_passes}
 use Rattle.dsql_pool.proofs.Frees.{passing, count-cons}
 use Rattle.dsql_work.specs.Works.{asks}
@@ -43,10 +43,7 @@ use Rattle.dsql_history.specs.declared.event.Control.TheVariants.{Tick, Set}
 use Rattle.dsql_history.specs.Same.{is_first}
 use Rattle.dsql_history.specs.Readers.Pool.{pool, place, home, request, wanted_by, with_move, with_control, is_home, or_none}
 use Rattle.dsql_history.specs.Readers.Owed.{fate, given_back, answered, controlled, left_of, owed}
-use Rattle.dsql_history.specs.Readers.Unfinished.{is_unfinished}
 use Rattle.dsql_history.specs.Readers.Works.{work, works, work_of}
-use Rattle.dsql_history.specs.Readers.Tries.{tries, has_a_try}
-use Rattle.dsql_history.specs.Readers.Calls.{reply_due}
 use Rattle.dsql_history.specs.Rules.Asking.{may_ask, ask_outcome, is_queued, is_asked_for}
 use Rattle.dsql_history.specs.Rules.Order.{follows}
 use Rattle.dsql_history.specs.Legal.{Lawful}

@@ -1,5 +1,5 @@
 -- Who has a driver call under way of its own has its connection.
-use Rattle.std.proofs.Common.{◌≡◌, ℕ, true, List, ap, ◌∙◌}
+use Rattle.std.proofs.Common.{◌≡◌, true, List, ap, ◌∙◌}
 use Rattle.dsql_journal.specs.declared.entry.Entry.{Entry}
 use Rattle.dsql_work.specs.Works.{asks}
 use Rattle.dsql_history.specs.declared.event.Event.{Event}

@@ -1,5 +1,5 @@
 -- Who wants a connection has settled nothing itself; so where a refusal falls to it, or the database is closed, it is told so.
-use Rattle.std.proofs.Common.{◌≡◌, ◌≢◌, ℕ, ◌≤◌, ◌<◌, ◌==◌, ◌⊎◌, inl, inr, Bool, true, false, not, ◌&&◌, cond, List, [], ◌∷◌, length, Option, Some, None, is_none, refl, sym, ap, subst, ◌∙◌, arith}
+use Rattle.std.proofs.Common.{◌≡◌, ◌≢◌, ℕ, ◌≤◌, ◌<◌, ◌==◌, ◌⊎◌, inl, inr, Bool, true, false, not, cond, List, [], ◌∷◌, length, Option, Some, None, is_none, refl, sym, ap, subst, ◌∙◌, arith}
 use Rattle.dsql_course.specs.Made.{or_else}
 use Rattle.dsql_journal.specs.declared.entry.Entry.{Entry}
 use Rattle.dsql_pool.specs.declared.moves.Move.TheVariants.{OpenStart, Lend, Back, CloseStart, Gone, Fell}
@@ -17,11 +17,9 @@ use Rattle.dsql_history.specs.declared.event.Setting.TheVariants.{MaxOpen, MaxId
 use Rattle.dsql_history.specs.declared.event.Control.TheVariants.{Tick, Set}
 use Rattle.dsql_history.specs.declared.reply.Reply.{Reply}
 use Rattle.dsql_history.specs.Same.{is_first}
-use Rattle.dsql_history.specs.Readers.Calls.{calls, call_record, nobody, decided, reply_due, told_at_lending, told_by_others}
+use Rattle.dsql_history.specs.Readers.Calls.{calls, call_record, nobody, decided, told_at_lending, told_by_others}
 use Rattle.dsql_history.specs.Readers.Owed.{owed}
 use Rattle.dsql_history.specs.Readers.Pool.{pool, place, request, wanted_by, with_control}
-use Rattle.dsql_history.specs.Readers.Tries.{tries, has_a_try}
-use Rattle.dsql_history.specs.Readers.Unfinished.{is_unfinished}
 use Rattle.dsql_history.specs.Readers.Works.{work}
 use Rattle.dsql_history.specs.Rules.Asking.{may_ask, ask_outcome, is_queued}
 use Rattle.dsql_history.specs.Legal.{Allowed, Lawful}
@@ -36,7 +34,7 @@ use Rattle.dsql_laws.proofs.Wanting.{is_opening_for, wanted, wants_counts, wanti
 use Rattle.dsql_call_laws.proofs.Lists.{read_set}
 use Rattle.dsql_call_laws.proofs.Works.{enters_next, old_record, other_heard}
 use Rattle.dsql_call_laws.proofs.Looks.{heard_there, comes}
-use Rattle.dsql_call_laws.proofs.Idle.{no_work_yet, came_of}
+use Rattle.dsql_call_laws.proofs.Idle.{no_work_yet}
 use Rattle.dsql_call_laws.proofs.Untried.{lends_unwanting}
 
 never : true ≡ false → ⊥

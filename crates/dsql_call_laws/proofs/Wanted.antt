@@ -1,5 +1,5 @@
 -- A call to which a connection was lent wants no other.
-use Rattle.std.proofs.Common.{◌≡◌, ◌≢◌, ℕ, ◌≤◌, ◌==◌, inl, inr, Bool, true, false, not, ◌&&◌, ◌||◌, cond, List, [], ◌∷◌, length, Option, Some, None, is_none, is_some, refl, sym, ap, subst, ◌∙◌, arith}
+use Rattle.std.proofs.Common.{◌≡◌, ◌≢◌, ℕ, ◌≤◌, ◌==◌, inl, inr, Bool, true, false, not, ◌||◌, cond, List, ◌∷◌, length, Option, Some, None, is_some, refl, sym, ap, subst, ◌∙◌, arith}
 use Rattle.dsql_journal.specs.declared.entry.Owner.{Owner}
 use Rattle.dsql_journal.specs.declared.entry.Owner.TheVariants.{Call}
 use Rattle.dsql_pool.specs.declared.conn.Conn.{Conn}
@@ -10,21 +10,15 @@ use Rattle.dsql_pool.specs.Changes.{lent, back, closing}
 use Rattle.dsql_pool.specs.Places.{conn_of, is_idle, is_opening}
 use Rattle.dsql_pool.specs.Calls.{wants, moves_asked}
 use Rattle.dsql_pool.proofs.Frees.{passing}
-use Rattle.dsql_work.specs.Works.{asks}
 use Rattle.dsql_history.specs.declared.event.Event.{Event}
 use Rattle.dsql_history.specs.declared.event.Event.TheVariants.{Run, Entered, Heard, Pool, Waits, Ticked, SetLimit, Replied, Ended}
 use Rattle.dsql_history.specs.declared.event.Op.TheVariants.{Exec, Query, One, Ping, Next, Scan, RowsClose, Err, DbClose, Stats}
 use Rattle.dsql_history.specs.declared.event.Control.TheVariants.{Tick, Set}
-use Rattle.dsql_history.specs.declared.record.Try.{Try}
-use Rattle.dsql_history.specs.declared.record.Try.TheVariants.{Served, Refused}
 use Rattle.dsql_history.specs.Same.{is_first}
-use Rattle.dsql_history.specs.Readers.Calls.{reply_due}
 use Rattle.dsql_history.specs.Readers.HandedOut.{rows_by}
 use Rattle.dsql_history.specs.Readers.Owed.{owed}
 use Rattle.dsql_history.specs.Readers.Pool.{pool, place, request, wanted_by}
-use Rattle.dsql_history.specs.Readers.Tries.{tries, has_a_try, with_try, newest_answer}
-use Rattle.dsql_history.specs.Readers.Unfinished.{is_unfinished}
-use Rattle.dsql_history.specs.Readers.Works.{work}
+use Rattle.dsql_history.specs.Readers.Tries.{tries}
 use Rattle.dsql_history.specs.Rules.Asking.{may_ask, ask_outcome, is_queued}
 use Rattle.dsql_history.specs.Legal.{Allowed, Lawful}
 use Rattle.dsql_laws.proofs.Tests.{both}

@@ -1,5 +1,5 @@
 -- What is kept of the present, each against what the history tells.
-use Rattle.std.specs.Prelude.{◌≡◌, ◌+◌, ◌≤◌, ℕ, List, length, position, reverse, vec_len, vec_capacity}
+use Rattle.std.specs.Prelude.{◌≡◌, ◌+◌, ◌≤◌, ℕ, List, length, position, vec_len, vec_capacity}
 use Rattle.indexmap.specs.IndexMap.{get_by_text, spare}
 use Rattle.dsql_pool.specs.Moved.{made}
 use Rattle.dsql_work.specs.Works.{has_label}

@@ -57,7 +57,7 @@ impl Desk {
         let mut made = Vec::new(alloc);
         made.push(Exchanged::new())?;
         let mut calls = Vec::new(alloc);
-        calls.push(nobody(alloc)?)?;
+        calls.push(nobody(alloc))?;
         Ok(Desk {
             history,
             caps,
@@ -107,20 +107,19 @@ impl Desk {
 }
 
 // The row of no call.
-fn nobody(alloc: Global) -> Result<CallRow, NoRoom>
-    ensures { IfOk result (λ row. row ≡ nobody) }
+fn nobody(alloc: Global) -> CallRow
+    ensures { result ≡ nobody }
 {
-    let text = Txt::copy_of(alloc, "")?;
     let call = CallRecord {
         client: 0,
-        text,
+        text: Txt::new(String::new(alloc)),
         params: Items::none(alloc),
         decided: None,
     };
-    Ok(CallRow {
+    CallRow {
         call,
         work: Work::Look,
         tried: Tried::new(),
         ender: 0,
-    })
+    }
 }

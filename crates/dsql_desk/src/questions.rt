@@ -160,7 +160,7 @@ impl Desk {
         let aim = self.aim(call);
         match self.calls.get(call as usize) {
             Some(row) => statement_in(row, aim),
-            None => no_statement(alloc, aim),
+            None => Ok(no_statement(alloc, aim)),
         }
     }
 
@@ -273,10 +273,10 @@ fn statement_in(row: &CallRow, aim: Aim) -> Result<Statement, Memory>
 }
 
 /// The statement of no call.
-fn no_statement(alloc: Global, aim: Aim) -> Result<Statement, Memory>
-    ensures { IfOk result (λ s. s ≡ (record { text = []; params = []; aim = aim })) }
+fn no_statement(alloc: Global, aim: Aim) -> Statement
+    ensures { result ≡ (record { text = []; params = []; aim = aim }) }
 {
-    let text = Txt::copy_of(alloc, "")?;
+    let text = Txt::new(String::new(alloc));
     let params = Items::none(alloc);
-    Ok(Statement { text, params, aim })
+    Statement { text, params, aim }
 }

@@ -1,6 +1,5 @@
 -- What holds of a call that may ask for a connection.
 use Rattle.std.proofs.Common.{◌≡◌, ℕ, Bool, true, false, not, ◌&&◌, List, Option, Some, None, is_none, refl}
-use Rattle.dsql_pool.specs.declared.conn.Conn.{Conn}
 use Rattle.dsql_pool.specs.Calls.{wants}
 use Rattle.dsql_work.specs.Works as works
 use Rattle.dsql_history.specs.declared.event.Event.{Event}

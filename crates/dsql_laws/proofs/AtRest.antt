@@ -1,5 +1,5 @@
 -- The pool of a lawful history, once it has made what it owes, is at rest.
-use Rattle.std.proofs.Common.{◌≡◌, ◌≢◌, ℕ, ℤ, ◌==◌, Bool, true, false, not, ◌&&◌, cond, List, [], ◌∷◌, refl, sym, ap, subst, ◌∙◌, Option, Some, None, is_none}
+use Rattle.std.proofs.Common.{◌≡◌, ◌≢◌, ℕ, ◌==◌, Bool, true, false, not, cond, List, [], ◌∷◌, refl, sym, ap, subst, ◌∙◌, Option, Some, None}
 use Rattle.std.specs.Prelude.{drop, Result, Ok, Err}
 use Rattle.dsql_driver.specs.declared.answer.DriverAnswer.{DriverAnswer}
 use Rattle.dsql_driver.specs.Fits.{is_done}
@@ -17,7 +17,7 @@ use Rattle.dsql_pool.specs.declared.request.AskFault.{AskFault}
 use Rattle.dsql_pool.specs.Places.{is_lent}
 use Rattle.dsql_pool.specs.Pooled.{Pooled, place_at}
 use Rattle.dsql_pool.specs.Moved.{made, moved, begun, joined}
-use Rattle.dsql_pool.specs.Calls.{moves_asked, after_asked, moves_opened, moves_failed, wants}
+use Rattle.dsql_pool.specs.Calls.{moves_asked, after_asked, moves_opened, moves_failed}
 use Rattle.dsql_pool.specs.Rest.{AtRest}
 use Rattle.dsql_pool.specs.Runs as call
 use Rattle.dsql_pool.proofs.AfterCalls.{rests_after_each_call}
@@ -31,10 +31,6 @@ use Rattle.dsql_history.specs.declared.event.Setting.TheVariants.{MaxOpen, MaxId
 use Rattle.dsql_history.specs.declared.event.Control.TheVariants.{Tick, Set}
 use Rattle.dsql_history.specs.Same.{is_first}
 use Rattle.dsql_history.specs.Readers.Pool.{pool, place, request, with_move, with_control, wanted_by}
-use Rattle.dsql_history.specs.Readers.Works.{work}
-use Rattle.dsql_history.specs.Readers.Tries.{tries, has_a_try}
-use Rattle.dsql_history.specs.Readers.Calls.{reply_due}
-use Rattle.dsql_history.specs.Readers.Unfinished.{is_unfinished}
 use Rattle.dsql_history.specs.Readers.Owed.{fate, given_back, answered, controlled, leaving, left_of, owed}
 use Rattle.dsql_history.specs.Rules.Order.{follows}
 use Rattle.dsql_history.specs.Rules.Asking.{may_ask, ask_outcome, is_asked_for, unless_owed, is_queued, keeps_asking}

@@ -1,6 +1,6 @@
 -- A call has at most one thing in the pool: a request that waits, an opening, or a connection.
-use Rattle.std.proofs.Common.{◌≡◌, ◌≢◌, ℕ, ◌+◌, ◌≤◌, ◌==◌, Bool, true, false, not, ◌&&◌, ◌||◌, cond, List, [], ◌∷◌, Option, Some, None, refl, sym, ap, subst, ◌∙◌, ◌⊎◌, inl, inr, is_none, arith, length}
-use Rattle.std.specs.Prelude.{ℤ, find}
+use Rattle.std.proofs.Common.{◌≡◌, ◌≢◌, ℕ, ◌+◌, ◌≤◌, ◌==◌, Bool, true, false, not, ◌||◌, cond, List, [], ◌∷◌, Option, Some, None, refl, sym, ap, subst, ◌∙◌, ◌⊎◌, inl, inr, arith}
+use Rattle.std.specs.Prelude.{find}
 use Rattle.std.specs.List.{list_any}
 use Rattle.dsql_journal.specs.declared.entry.Owner.{Owner}
 use Rattle.dsql_journal.specs.declared.entry.Owner.TheVariants.{Call}
@@ -15,7 +15,7 @@ use Rattle.dsql_pool.specs.Places.{is_for}
 use Rattle.dsql_journal.specs.Kinds.{number_of}
 use Rattle.dsql_pool.specs.Pooled.{Pooled, next_number}
 use Rattle.dsql_pool.specs.Moved.{moved, begun, joined, shut}
-use Rattle.dsql_pool.specs.Calls.{wants, moves_asked}
+use Rattle.dsql_pool.specs.Calls.{moves_asked}
 use Rattle.dsql_pool.proofs.Frees.{count-more}
 use Rattle.dsql_work.specs.Works as works
 use Rattle.dsql_history.specs.declared.event.Event.{Event}
@@ -24,14 +24,9 @@ use Rattle.dsql_history.specs.declared.event.Op.TheVariants.{Exec, Query, One, N
 use Rattle.dsql_history.specs.declared.event.Control.{Control}
 use Rattle.dsql_history.specs.declared.event.Setting.TheVariants.{MaxOpen, MaxIdle, MaxLife, MaxIdleTime}
 use Rattle.dsql_history.specs.declared.event.Control.TheVariants.{Tick, Set}
-use Rattle.dsql_history.specs.declared.record.Try.{Try}
 use Rattle.dsql_history.specs.Same.{is_first}
 use Rattle.dsql_history.specs.Readers.Pool.{pool, request, wanted_by, with_control, is_home}
 use Rattle.dsql_history.specs.Readers.Owed.{owed}
-use Rattle.dsql_history.specs.Readers.Works.{work}
-use Rattle.dsql_history.specs.Readers.Tries.{tries, has_a_try}
-use Rattle.dsql_history.specs.Readers.Calls.{reply_due}
-use Rattle.dsql_history.specs.Readers.Unfinished.{is_unfinished}
 use Rattle.dsql_history.specs.Rules.Order.{follows}
 use Rattle.dsql_history.specs.Rules.Asking.{may_ask, ask_outcome, is_asked_for, is_queued}
 use Rattle.dsql_history.specs.Legal.{Lawful}
@@ -40,8 +35,8 @@ use Rattle.dsql_laws.proofs.Asker.{asker}
 use Rattle.dsql_laws.proofs.Tests.{both, same_number, move_is}
 use Rattle.dsql_laws.proofs.OwedMoves.{is_own, are_own, owed_own}
 use Rattle.dsql_laws.proofs.AtRest.{Keeps, keeps_of, asks_now}
-use Rattle.dsql_laws.proofs.Counts.{request-more, left_none, left_fewer, uncounted, unmapped, waits_none, waits_some, changed_fewer, changed_one_more, changed_same, gone_fewer, mapped_fewer, passes_else}
-use Rattle.dsql_laws.proofs.Tried.{is_lent_out, lent_count, lent_tried, lends_to}
+use Rattle.dsql_laws.proofs.Counts.{request-more, left_none, left_fewer, uncounted, unmapped, waits_none, waits_some, changed_fewer, changed_one_more, changed_same, gone_fewer, mapped_fewer}
+use Rattle.dsql_laws.proofs.Tried.{is_lent_out, lends_to}
 use Rattle.dsql_laws.proofs.Deserved.{is_home_of, Deserves, AllDeserved, deserved}
 
 not_true : (b : Bool) → not b ≡ true → b ≡ false

@@ -1,6 +1,6 @@
 -- The moves that the pool owes: its own openings are for no request of their own.
 use Rattle.std.proofs.Common.{◌≡◌, ℕ, zero, suc, ◌==◌, ◌+◌, ◌-◌, Bool, true, false, cond, List, [], ◌∷◌, refl, ◌∙◌, Option, Some, None}
-use Rattle.std.specs.Prelude.{ℤ, map, drop, take, length}
+use Rattle.std.specs.Prelude.{map, drop, take, length}
 use Rattle.std.specs.List.{list_all}
 use Rattle.std.proofs.lemmas.List.Folds.{list_all-append}
 use Rattle.dsql_driver.specs.declared.answer.DriverAnswer.{DriverAnswer}

@@ -1,6 +1,6 @@
 -- A connection that is lent to a call is one of its tries.
 use Rattle.std.proofs.Common.{◌≡◌, ℕ, ◌+◌, ◌≤◌, ◌==◌, Bool, true, false, ◌&&◌, cond, List, [], ◌∷◌, length, ◌++◌, refl, sym, ap, ◌∙◌, Option, arith}
-use Rattle.std.specs.Prelude.{ℤ, count_by}
+use Rattle.std.specs.Prelude.{count_by}
 use Rattle.dsql_journal.specs.declared.entry.Owner.{Owner}
 use Rattle.dsql_pool.specs.declared.conn.Conn.{Conn}
 use Rattle.dsql_pool.specs.declared.conn.Place.{Place}

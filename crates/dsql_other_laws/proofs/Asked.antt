@@ -1,13 +1,12 @@
 -- A call that asks is somewhere after it, unless too many are open.
-use Rattle.std.proofs.Common.{◌≡◌, ℕ, Bool, true, false, not, ◌&&◌, cond, List, [], ◌∷◌, Option, Some, None, is_some, is_none, refl, sym, ap, ◌∙◌}
-use Rattle.std.specs.Prelude.{ℤ, Result, Ok, Err}
+use Rattle.std.proofs.Common.{◌≡◌, ℕ, Bool, true, false, cond, List, [], ◌∷◌, Option, Some, None, is_some, refl, sym, ap, ◌∙◌}
+use Rattle.std.specs.Prelude.{Result, Ok, Err}
 use Rattle.std.specs.Option.{option_map}
 use Rattle.dsql_pool.specs.declared.moves.Move.TheVariants.{OpenStart, Lend, Back, CloseStart, Gone, Fell}
 use Rattle.dsql_pool.specs.declared.request.Asked.{Asked}
 use Rattle.dsql_pool.specs.declared.request.Asked.TheVariants as asked
 use Rattle.dsql_pool.specs.declared.request.AskFault.{AskFault}
 use Rattle.dsql_pool.specs.declared.request.AskFault.TheVariants.{TooMany, Memory}
-use Rattle.dsql_pool.specs.Calls.{wants}
 use Rattle.dsql_pool.specs.Decisions.{takes_idle, are_too_many, may_open, last}
 use Rattle.dsql_pool.specs.Pooled.{Pooled, next_number, next_tenure}
 use Rattle.dsql_work.specs.Works.{asks}
@@ -27,7 +26,6 @@ use Rattle.dsql_history.specs.Readers.Course.{db_end, or_end}
 use Rattle.dsql_history.specs.Readers.Owed.{owed}
 use Rattle.dsql_history.specs.Readers.Pool.{pool, request, with_control}
 use Rattle.dsql_history.specs.Readers.Tries.{tries, has_a_try, try_number}
-use Rattle.dsql_history.specs.Readers.Unfinished.{is_unfinished}
 use Rattle.dsql_history.specs.Readers.Works.{work}
 use Rattle.dsql_history.specs.Rules.Asking.{may_ask, ask_outcome, is_too_many}
 use Rattle.dsql_history.specs.Rules.Settled.{uses_what_is_lent, goes_on, goes_on_but}
@@ -35,7 +33,6 @@ use Rattle.dsql_history.specs.Legal.{Lawful}
 use Rattle.dsql_laws.specs.Asked.{with_asked}
 use Rattle.dsql_laws.proofs.Asker.{asker}
 use Rattle.dsql_laws.proofs.AskedAllowed.{asked_lawful}
-use Rattle.dsql_laws.proofs.Tests.{both}
 use Rattle.dsql_call_laws.proofs.Nowhere.{others_settled, told_own}
 use Rattle.dsql_other_laws.proofs.Openings.{used_opens, goes_on_opens}
 use Rattle.dsql_other_laws.proofs.Untouched.{used_waits, goes_on_waits}

@@ -1,7 +1,7 @@
 -- A connection that was opened for a call is lent to that call alone.
 use Rattle.std.proofs.Common.{◌≡◌, ℕ, zero, suc, ◌+◌, ◌==◌, Bool, true, false, ◌&&◌, cond, List, [], ◌∷◌, ◌++◌, map, length, ◌-◌, Option, Some, None, refl, sym, ap, subst, ◌∙◌}
 use Rattle.std.specs.List.{list_all}
-use Rattle.std.specs.Prelude.{ℤ, Result, Ok, Err, drop, take}
+use Rattle.std.specs.Prelude.{Result, Ok, Err, drop, take}
 use Rattle.std.specs.Option.{option_map}
 use Rattle.dsql_journal.specs.Readers.{is_empty}
 use Rattle.dsql_driver.specs.declared.answer.DriverAnswer.{DriverAnswer}

@@ -1,5 +1,5 @@
 -- Who is lent a connection that isn't known to be bad, or has made rows, was served by its newest try.
-use Rattle.std.proofs.Common.{◌≡◌, ◌≢◌, ℕ, ◌≤◌, ◌==◌, ◌⊎◌, inl, inr, Bool, true, false, ◌&&◌, ◌||◌, cond, List, [], ◌∷◌, Option, Some, None, is_some, refl, sym, ap, subst, ◌∙◌, arith}
+use Rattle.std.proofs.Common.{◌≡◌, ◌≢◌, ℕ, ◌==◌, ◌⊎◌, inl, inr, Bool, true, false, ◌&&◌, ◌||◌, cond, List, [], ◌∷◌, Option, Some, None, is_some, refl, sym, ap, subst, ◌∙◌, arith}
 use Rattle.std.specs.Prelude.{option_map}
 use Rattle.dsql_driver.specs.Kinds.{is_bad}
 use Rattle.dsql_driver.specs.declared.call.DriverCall.{DriverCall}
@@ -45,7 +45,7 @@ use Rattle.dsql_call_laws.proofs.Lent.{lent_before}
 use Rattle.dsql_call_laws.proofs.Owners.{at_home, lent_asks, lent_number}
 use Rattle.dsql_call_laws.proofs.Wanted.{lent_wants_none}
 use Rattle.dsql_call_laws.proofs.UnderWay.{UnderWay, Wants}
-use Rattle.dsql_call_laws.proofs.Invariant.{Sound, Turned, is_answer, rows_turn, turned_some, over_made}
+use Rattle.dsql_call_laws.proofs.Invariant.{Sound, is_answer, rows_turn, turned_some, over_made}
 use Rattle.dsql_call_laws.proofs.Answered.{heard_facts, answer_of, own_call, of_rows}
 use Rattle.dsql_call_laws.proofs.Following.{none_bad}
 use Rattle.dsql_call_laws.proofs.Sound.{sound}

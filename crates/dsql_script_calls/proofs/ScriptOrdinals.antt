@@ -1,5 +1,5 @@
 -- The number of a connection or of one of its calls, from what std says of `parse`.
-use Rattle.std.proofs.Common.{◌≡◌, ◌≢◌, ℕ, ◌≤◌, ◌^◌, List, true, false, ◌&&◌, cond, get_or, leb, ltb, Option, Some, None, Result, Ok, Err, refl, ap, inl, inr, arith}
+use Rattle.std.proofs.Common.{◌≡◌, ◌≢◌, ℕ, ◌≤◌, ◌^◌, List, true, false, ◌&&◌, cond, get_or, leb, ltb, Option, Some, None, Result, Ok, Err, refl, ap, inl, inr}
 use Rattle.std.specs.Result.{result_ok}
 use Rattle.std.specs.Str.Parse.{ParsesUnsigned, digits_value}
 use Rattle.std.proofs.lemmas.Bool.{and_right, le-leb, lt-ltb, le-ltb, cases_Bool, cases_lt}

@@ -1,4 +1,4 @@
-use Rattle.std.proofs.Common.{◌≡◌, ◌∷◌, reverse, sym, ap, subst, refl, rules, ◌∙◌}
+use Rattle.std.proofs.Common.{◌≡◌, ◌∷◌, sym, ap, subst, refl, rules, ◌∙◌}
 use Rattle.dsql_pool.specs.Pooled.{without}
 use Rattle.dsql_history.specs.declared.event.Event.TheVariants.{Replied}
 use Rattle.dsql_calls.specs.Calls.{KeepsCalls, row_at}

@@ -1,4 +1,4 @@
-use Rattle.std.proofs.Common.{◌≡◌, length, reverse, sym, ap, subst, refl, arith, ◌∙◌}
+use Rattle.std.proofs.Common.{◌≡◌, length, sym, ap, subst, refl, arith, ◌∙◌}
 use Rattle.dsql_laws.specs.OwedMade.{with_moves}
 use Rattle.dsql_calls.specs.Calls.{KeepsCalls}
 use Rattle.dsql_desk.specs.Desk.{past}
