@@ -13,3 +13,5 @@ mod journals;
 mod mem;
 #[cfg(test)]
 mod tables;
+#[cfg(test)]
+mod values;
