@@ -16,11 +16,23 @@ use std::marker::Model;
 
 /// A run of a script: the layer's core, what each client has at hand, and whether the script is at its end, where no
 /// call is held any more. Contracts see it as `Playing`.
-#[derive(Drop)]
 pub struct Player {
     pub(crate) engine: Engine,
     pub(crate) seats: Seats,
     pub(crate) released: bool,
+}
+
+// By hand, so that to drop a player is one call for who does it.
+impl Drop for Player {
+    fn drop(self) {
+        let Player {
+            engine,
+            seats,
+            released: _released,
+        } = self;
+        drop(engine);
+        drop(seats);
+    }
 }
 
 impl Model for Player {
