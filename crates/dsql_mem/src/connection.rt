@@ -94,7 +94,7 @@ impl Connection {
         ensures store_stays { OnErr result (store.new ≡ store.old) }
         ensures counted { self.old.faults ≤ self.new.faults }
     {
-        self.log.has_room()?;
+        self.log.check_room()?;
         let fault = fault_at(self.log.next_call(), call, self.planned.as_slice())?;
         let answered = step_unless(fault, alloc, store, &mut self.session, call)?;
         self.log.note(call, &answered.answer);

@@ -41,8 +41,9 @@ impl Log {
         self.count + 1
     }
 
-    /// Whether there is room for the next call. Only a wire that has heard as many as can be counted wants memory.
-    pub fn has_room(&self) -> Result<(), Memory>
+    /// There is room for the next call. Want of memory is the only error, and only of a wire that has heard as many calls
+    /// as can be counted.
+    pub fn check_room(&self) -> Result<(), Memory>
         ensures ok { OnOk result (length (told_of self.now).calls + 1 < usize.MAX) }
         ensures err { OnErr result (usize.MAX ≤ length (told_of self.now).calls + 1) }
     {
