@@ -4,4 +4,3 @@ pub mod Adding
 pub mod Appending
 pub mod Entering
 pub mod Lines
-pub mod Statements

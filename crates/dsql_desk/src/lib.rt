@@ -14,5 +14,5 @@ mod tables;
 
 pub use desk::Desk;
 pub use dsql_calls::{CallRow, CallStart, NoRoom};
-pub use dsql_exchanged::{Exchanged, Stage, Statement};
+pub use dsql_exchanged::{BareCall, Exchanged, Leave, Stage, Statement};
 pub use dsql_telling::fate_of;

@@ -1,9 +1,9 @@
 //! Questions about calls and connections, each answered in a reader's word.
-ghost use Rattle.std.specs.Prelude.{◌≡◌, [], ◌<◌, ◌==◌, is_some, length, find, IfOk};
+ghost use Rattle.std.specs.Prelude.{◌≡◌, ◌<◌, ◌==◌, is_some, length, find, IfOk};
 ghost use Rattle.dsql_work.specs.Limits.{most_within_a_step};
 ghost use Rattle.dsql_desk.specs.Desk.{past, Stands};
 ghost use Rattle.dsql_calls.specs.Calls.{rows_worked};
-ghost use Rattle.dsql_desk.specs.Statements.{statement_of};
+ghost use Rattle.dsql_exchanged.specs.Filled.{refilled};
 ghost use Rattle.dsql_history.specs.Readers.Calls.{call_record, decided, is_busy, next_call, site, user};
 ghost use Rattle.dsql_history.specs.Readers.Clients.{call_of, client_of};
 ghost use Rattle.dsql_history.specs.Readers.Controls.{taken};
@@ -11,7 +11,8 @@ ghost use Rattle.dsql_history.specs.Readers.HandedOut.{are_live, ender, over, ro
 ghost use Rattle.dsql_history.specs.Readers.Pool.{home, is_home, place, pool, smallest};
 ghost use Rattle.dsql_history.specs.Readers.Unfinished.{is_unfinished, unfinished};
 ghost use Rattle.dsql_history.specs.Readers.Works.{is_fetch, work};
-ghost use Rattle.dsql_history.specs.Rules.Line.{is_reset_due};
+ghost use Rattle.dsql_history.specs.Rules.Line.{asked_by, is_reset_due};
+ghost use Rattle.dsql_journal.specs.Kinds.{number_of};
 ghost use Rattle.dsql_work.specs.Works.{asks};
 ghost use Rattle.dsql_work.specs.Line.{aim_of};
 ghost use Rattle.dsql_pool.specs.Places.{is_for};
@@ -19,9 +20,10 @@ ghost use Rattle.dsql_pool.specs.Pooled.{next_tenure};
 ghost use Rattle.dsql_wait.specs.Requests.{waits};
 
 use crate::desk::Desk;
-use dsql_calls::{CallRow, row};
-use dsql_exchanged::Statement;
+use dsql_calls::row;
+use dsql_exchanged::{Leave, Statement};
 use dsql_history::{Aim, Control, Place};
+use dsql_journal::Permit;
 use dsql_pooling::places;
 use dsql_value::{Items, Memory, Txt};
 use std::alloc::Global;
@@ -152,15 +154,26 @@ impl Desk {
         }
     }
 
-    /// A copy of a call's statement.
-    pub fn statement(&self, alloc: Global, call: u32) -> Result<Statement, Memory>
+    /// The statement of a call, for proofs alone.
+    pub fn statement(&self, call: u32) -> Statement
         requires { Stands self.now }
-        ensures { IfOk result (λ s. s ≡ statement_of (past self.now) call) }
+        ensures { result ≡ asked_by (past self.now) call }
     {
         let aim = self.aim(call);
         match self.calls.get(call as usize) {
-            Some(row) => statement_in(row, aim),
-            None => Ok(no_statement(alloc, aim)),
+            Some(row) => Statement::of(&row.call.text, &row.call.params, aim),
+            None => Statement::none(aim),
+        }
+    }
+
+    /// The permit for which this is leave, with copies of what is asked for the call to which its connection is lent.
+    pub fn permit(&self, alloc: Global, leave: &Leave) -> Result<Permit, Memory>
+        requires { Stands self.now }
+        ensures { IfOk result (λ permit. permit ≡ record leave.now { call = refilled (asked_by (past self.now) (number_of leave.now.owner)).text (asked_by (past self.now) (number_of leave.now.owner)).params leave.now.call }) }
+    {
+        match self.calls.get(leave.owner().number() as usize) {
+            Some(row) => leave.permit(&row.call.text, &row.call.params),
+            None => leave.permit(&Txt::new(String::new(alloc)), &Items::none(alloc)),
         }
     }
 
@@ -261,22 +274,4 @@ impl Desk {
     {
         self.rows.was_made(call) && !self.rows.is_live(call)
     }
-}
-
-/// A copy of the statement of a row.
-fn statement_in(row: &CallRow, aim: Aim) -> Result<Statement, Memory>
-    ensures { IfOk result (λ s. s ≡ (record { text = row.now.call.text; params = row.now.call.params; aim = aim })) }
-{
-    let text = row.call.text.copy()?;
-    let params = row.call.params.clone()?;
-    Ok(Statement { text, params, aim })
-}
-
-/// The statement of no call.
-fn no_statement(alloc: Global, aim: Aim) -> Statement
-    ensures { result ≡ (record { text = []; params = []; aim = aim }) }
-{
-    let text = Txt::new(String::new(alloc));
-    let params = Items::none(alloc);
-    Statement { text, params, aim }
 }

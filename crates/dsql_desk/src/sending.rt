@@ -1,40 +1,38 @@
 //! What is sent next on the connections that are lent to calls.
-ghost use Rattle.std.specs.Prelude.{◌≡◌, ◌==◌, ◌&&◌, Some, is_some};
+ghost use Rattle.std.specs.Prelude.{◌≡◌, ◌==◌, ◌&&◌, Some, is_some, option_map};
 ghost use Rattle.dsql_desk.specs.Desk.{past, Stands};
 ghost use Rattle.dsql_desk.specs.Lines.{due_over, lent_to, line_on, or_itself};
-ghost use Rattle.dsql_desk.specs.Statements.{statement_of};
+ghost use Rattle.dsql_exchanged.specs.Filled.{filled};
 ghost use Rattle.dsql_history.specs.Readers.Calls.{user};
 ghost use Rattle.dsql_history.specs.Readers.Course.{caps};
 ghost use Rattle.dsql_history.specs.Readers.HandedOut.{ender, over, rows_by};
 ghost use Rattle.dsql_history.specs.Readers.Works.{work};
-ghost use Rattle.dsql_history.specs.Rules.Line.{due_for, is_reset_due, is_used, line_of, sent_for, tidying, wish};
+ghost use Rattle.dsql_history.specs.Rules.Line.{asked_by, due_for, is_reset_due, is_used, line_of, sent_for, tidying, wish};
 ghost use Rattle.dsql_work.specs.Works.{asks};
 
 use crate::desk::Desk;
 use dsql_course::Wish;
-use dsql_driver::DriverCall;
-use dsql_exchanged::{Exchanged, Line, Statement};
+use dsql_exchanged::{BareCall, Exchanged, Line};
 use dsql_history::Place;
 use dsql_journal::Owner;
 
-#[tactic(auto, using(crate::proofs::Lent::line_lent, crate::proofs::Lent::due_by_kind, crate::proofs::Lent::user_by_kind, dsql_exchanged::proofs::Sent::next_is_sent, crate::proofs::Lent::used_by_rows), unfolding(crate::specs::Desk::Stands))]
+#[tactic(auto, using(crate::proofs::Lent::line_lent, crate::proofs::Lent::due_by_kind, crate::proofs::Lent::user_by_kind, crate::proofs::Lent::is_filled, crate::proofs::Lent::next_there, crate::proofs::Lent::used_by_rows), unfolding(crate::specs::Desk::Stands))]
 impl Desk {
     /// Whether a driver call of a call is due.
     pub fn is_due(&self, call: u32) -> bool
         requires { Stands self.now }
         ensures { result ≡ is_some (due_for (past self.now) call) }
     {
-        self.is_unfinished(call) && self.is_due_over(call, self.rows_worked(call))
+        self.due(call).is_some()
     }
 
-    /// The driver call of a call that is due, where the statement is of the call whose connection it uses.
-    pub fn driver_call(&self, call: u32, statement: Statement) -> Option<DriverCall>
-        requires stands { Stands self.now }
-        requires statement { statement ≡ statement_of (past self.now) (user (past self.now) call) }
-        ensures { result ≡ due_for (past self.now) call }
+    /// The driver call of a call that is due. Its text and its parameters are those of the call whose connection it uses.
+    pub fn due(&self, call: u32) -> Option<BareCall>
+        requires { Stands self.now }
+        ensures { option_map (filled (asked_by (past self.now) (user (past self.now) call))) result ≡ due_for (past self.now) call }
     {
         if self.is_unfinished(call) {
-            self.call_due_over(call, self.rows_worked(call), statement)
+            self.due_over(call, self.rows_worked(call))
         } else {
             None
         }
@@ -45,17 +43,16 @@ impl Desk {
         requires { Stands self.now }
         ensures { result ≡ is_some (tidying (past self.now) call) }
     {
-        self.are_left_over(call) && self.sends(call, Wish::Close)
+        self.tidying(call).is_some()
     }
 
-    /// What the layer itself sends next to close the rows of a call, of which this is the statement.
-    pub fn tidying_call(&self, call: u32, statement: Statement) -> Option<DriverCall>
-        requires stands { Stands self.now }
-        requires statement { statement ≡ statement_of (past self.now) call }
-        ensures { result ≡ tidying (past self.now) call }
+    /// What the layer itself sends next to close the rows of a call.
+    pub fn tidying(&self, call: u32) -> Option<BareCall>
+        requires { Stands self.now }
+        ensures { option_map (filled (asked_by (past self.now) call)) result ≡ tidying (past self.now) call }
     {
         if self.are_left_over(call) {
-            self.next_sent(call, Wish::Close, statement)
+            self.next(call, Wish::Close)
         } else {
             None
         }
@@ -98,33 +95,16 @@ impl Desk {
         }
     }
 
-    /// Whether a call sends something, over these rows or else by itself.
-    fn is_due_over(&self, call: u32, rows: Option<u32>) -> bool
-        requires { Stands self.now }
-        ensures { result ≡ is_some (due_over (past self.now) call (asks (work (past self.now) call)) rows) }
-    {
-        match rows {
-            Some(query) => self.sends_over(query, self.wish(call, query)),
-            None => self.asks(call) && self.sends(call, Wish::Nothing),
-        }
-    }
-
     /// What a call sends, over these rows or else by itself.
-    fn call_due_over(
-        &self,
-        call: u32,
-        rows: Option<u32>,
-        statement: Statement,
-    ) -> Option<DriverCall>
-        requires stands { Stands self.now }
-        requires statement { statement ≡ statement_of (past self.now) (or_itself rows call) }
-        ensures { result ≡ due_over (past self.now) call (asks (work (past self.now) call)) rows }
+    fn due_over(&self, call: u32, rows: Option<u32>) -> Option<BareCall>
+        requires { Stands self.now }
+        ensures { option_map (filled (asked_by (past self.now) (or_itself rows call))) result ≡ due_over (past self.now) call (asks (work (past self.now) call)) rows }
     {
         match rows {
-            Some(query) => self.call_over(query, self.wish(call, query), statement),
+            Some(query) => self.sent_over(query, self.wish(call, query)),
             None => {
                 if self.asks(call) {
-                    self.next_sent(call, Wish::Nothing, statement)
+                    self.next(call, Wish::Nothing)
                 } else {
                     None
                 }
@@ -132,28 +112,15 @@ impl Desk {
         }
     }
 
-    /// Whether something is sent over the rows of a call, of which this is wanted.
-    fn sends_over(&self, query: u32, wish: Wish) -> bool
-        requires { Stands self.now }
-        ensures { result ≡ is_some (sent_for (past self.now) query wish) }
-    {
-        match wish {
-            Wish::Nothing => false,
-            Wish::Fetch => self.sends(query, Wish::Fetch),
-            Wish::Close => self.sends(query, Wish::Close),
-        }
-    }
-
     /// What is sent over the rows of a call, of which this is wanted.
-    fn call_over(&self, query: u32, wish: Wish, statement: Statement) -> Option<DriverCall>
-        requires stands { Stands self.now }
-        requires statement { statement ≡ statement_of (past self.now) query }
-        ensures { result ≡ sent_for (past self.now) query wish }
+    fn sent_over(&self, query: u32, wish: Wish) -> Option<BareCall>
+        requires { Stands self.now }
+        ensures { option_map (filled (asked_by (past self.now) query)) result ≡ sent_for (past self.now) query wish }
     {
         match wish {
             Wish::Nothing => None,
-            Wish::Fetch => self.next_sent(query, Wish::Fetch, statement),
-            Wish::Close => self.next_sent(query, Wish::Close, statement),
+            Wish::Fetch => self.next(query, Wish::Fetch),
+            Wish::Close => self.next(query, Wish::Close),
         }
     }
 
@@ -162,20 +129,16 @@ impl Desk {
         requires { Stands self.now }
         ensures { result ≡ is_some (line_of (past self.now) call wish) }
     {
-        match self.lent_to(call) {
-            Some(conn) => self.sends_on(conn, call, wish),
-            None => false,
-        }
+        self.next(call, wish).is_some()
     }
 
     /// What is sent next on the connection that is lent to a call.
-    fn next_sent(&self, call: u32, wish: Wish, statement: Statement) -> Option<DriverCall>
-        requires stands { Stands self.now }
-        requires statement { statement ≡ statement_of (past self.now) call }
-        ensures { result ≡ line_of (past self.now) call wish }
+    fn next(&self, call: u32, wish: Wish) -> Option<BareCall>
+        requires { Stands self.now }
+        ensures { option_map (filled (asked_by (past self.now) call)) result ≡ line_of (past self.now) call wish }
     {
         match self.lent_to(call) {
-            Some(conn) => self.next_on(conn, call, wish, statement),
+            Some(conn) => self.next_on(conn, call, wish),
             None => None,
         }
     }
@@ -194,28 +157,16 @@ impl Desk {
         }
     }
 
-    fn sends_on(&self, conn: u32, call: u32, wish: Wish) -> bool
+    fn next_on(&self, conn: u32, call: u32, wish: Wish) -> Option<BareCall>
         requires { Stands self.now }
-        ensures { result ≡ is_some (line_on (past self.now) call wish (Some conn)) }
+        ensures { option_map (filled (asked_by (past self.now) call)) result ≡ line_on (past self.now) call wish (Some conn) }
     {
         let line = self.line(conn, wish);
         let aim = self.aim(call);
         let count = self.params(call);
         match self.made.get(conn as usize) {
-            Some(heard) => line.sends(aim, count, heard),
-            None => line.sends(aim, count, &Exchanged::new()),
-        }
-    }
-
-    fn next_on(&self, conn: u32, call: u32, wish: Wish, statement: Statement) -> Option<DriverCall>
-        requires stands { Stands self.now }
-        requires statement { statement ≡ statement_of (past self.now) call }
-        ensures { result ≡ line_on (past self.now) call wish (Some conn) }
-    {
-        let line = self.line(conn, wish);
-        match self.made.get(conn as usize) {
-            Some(heard) => line.next(statement, heard),
-            None => line.next(statement, &Exchanged::new()),
+            Some(heard) => line.next(aim, count, heard),
+            None => line.next(aim, count, &Exchanged::new()),
         }
     }
 

@@ -75,7 +75,7 @@ begun_heard H e = begun_heard_at H e (place H e.conn)
 
 heard_others : (H : List Event) (e : Entry) (at : Option Place) (m : ℕ) → m ≢ e.call_no → is_unfinished (heard_at at e H) m ≡ is_unfinished H m
 heard_others H e (Some (Lent t (Call n))) m apart =
-    let same = same_let_go (Heard e ∷ H) e.conn n in gone_others e.call_no (let_go e.conn n (Heard e ∷ H)) m apart ∙ same.unfinished m
+    gone_others e.call_no (let_go e.conn n (Heard e ∷ H)) m apart ∙ same_let_go (Heard e ∷ H) e.conn n m
 heard_others H e (Some (Lent t (Tx n))) m apart = moved_same (owed (Heard e ∷ H)) (Heard e ∷ H) m
 heard_others H e (Some (Lent t (Pin n))) m apart = moved_same (owed (Heard e ∷ H)) (Heard e ∷ H) m
 heard_others H e (Some (Lent t House)) m apart = moved_same (owed (Heard e ∷ H)) (Heard e ∷ H) m

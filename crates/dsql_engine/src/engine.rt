@@ -11,6 +11,7 @@ ghost use Rattle.dsql_steps.specs.Groups.{after_control, after_end, gone_on, mos
 
 mod chores;
 mod questions;
+mod sending;
 mod steps;
 
 use crate::control_fault::ControlFault;
@@ -85,9 +86,8 @@ impl Engine {
         ensures legal { Legal self.new.past }
     {
         let call = self.desk.call_of(client);
-        let statement = self.desk.statement(self.alloc, self.desk.user(call))?;
         pay(&mut self.desk, &mut self.flights)?;
-        Ok(go_on(&mut self.desk, &mut self.flights, call, statement))
+        Ok(go_on(&mut self.desk, &mut self.flights, call))
     }
 
     /// A limit is set, or the present moment, and the pool keeps to it. Time never goes back: a moment before the present

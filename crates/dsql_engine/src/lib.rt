@@ -9,6 +9,6 @@ mod paying;
 mod permits;
 
 pub use control_fault::ControlFault;
-pub use dsql_desk::NoRoom;
+pub use dsql_desk::{Leave, NoRoom};
 pub use dsql_going::{Next, Why};
 pub use engine::{Engine, HeardBack, Spent};

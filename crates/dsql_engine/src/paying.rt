@@ -1,14 +1,14 @@
 //! The memory of a step.
 ghost use Rattle.std.specs.Prelude.{◌≡◌, ◌<◌, IfOk, OnOk};
+ghost use Rattle.dsql_desk.specs.Appending.{DecidesNow};
 ghost use Rattle.dsql_desk.specs.Desk.{trimmed, past, Stands};
 ghost use Rattle.dsql_going.specs.Stepping.{events_of_a_step};
-ghost use Rattle.dsql_hearing.specs.Hearing.{IsReadyFor};
 
 use dsql_desk::{Desk, NoRoom};
 use dsql_flights::Flights;
-use dsql_hearing::{Hearing, ready_for};
-use dsql_journal::Entry;
+use dsql_hearing::Hearing;
 use dsql_pool::MOST_OPEN;
+use dsql_wire::Heard;
 use std::alloc::Global;
 
 /// How many events a step appends at most: as many moves as openings and closings may become due at once, and seven more, as
@@ -35,7 +35,7 @@ pub fn prepare(
     desk: &mut Desk,
     flights: &mut Flights,
     alloc: Global,
-    entry: &Entry,
+    heard: &mut Heard,
 ) -> Result<Hearing, NoRoom>
     requires { Stands desk.old }
     ensures stands { Stands desk.new }
@@ -44,9 +44,11 @@ pub fn prepare(
     ensures paid { OnOk result (desk.new.paid ≡ events_of_a_step) }
     ensures flights { flights.new.flights ≡ flights.old.flights }
     ensures spare { OnOk result (0 < flights.new.spare) }
-    ensures ready { IfOk result (IsReadyFor (past desk.old) entry.now) }
+    ensures heard { heard.new ≡ heard.old }
+    ensures decides { IfOk result (λ ready. DecidesNow (past desk.old) heard.old ready.copy ready.reply) }
 {
-    let ready = ready_for(desk, alloc, entry)?;
+    let reply = desk.reply_decided(alloc, heard.entry())?;
     pay(desk, flights)?;
-    Ok(ready)
+    let copy = heard.take_second()?;
+    Ok(Hearing { copy, reply })
 }

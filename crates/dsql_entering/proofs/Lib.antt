@@ -1,3 +1,2 @@
-pub mod Sent
 pub mod Settling
 pub mod Stepping

@@ -1,11 +1,5 @@
 -- A call enters in a step, and may go on.
 use Rattle.std.proofs.Common.{◌≡◌, ◌≢◌, ℕ, ◌+◌, ◌≤◌, ◌==◌, Bool, true, false, ◌||◌, List, [], ◌∷◌, length, refl, sym, ap, subst, ◌∙◌, arith}
-use Rattle.std.specs.Prelude.{slice_index_or}
-use Rattle.dsql_work.specs.declared.work.Work.{Work}
-use Rattle.dsql_work.specs.declared.work.Work.TheVariants.{Look}
-use Rattle.dsql_work.specs.Works.{user_of}
-use Rattle.dsql_work.specs.Line.{aim_of}
-use Rattle.dsql_history.specs.declared.record.CallRecord.{CallRecord}
 use Rattle.dsql_work.specs.Limits.{most_within_a_step}
 use Rattle.dsql_journal.specs.Readers.{has}
 use Rattle.dsql_pool.specs.declared.moves.Move.{Move}
@@ -13,10 +7,9 @@ use Rattle.dsql_history.specs.declared.event.Event.{Event}
 use Rattle.dsql_history.specs.declared.event.Event.TheVariants.{Entered, Pool}
 use Rattle.dsql_history.specs.declared.event.Op.{Op}
 use Rattle.dsql_history.specs.declared.record.Flight.{Flight}
-use Rattle.dsql_history.specs.Readers.Calls.{calls, is_busy, next_call, nobody, user}
+use Rattle.dsql_history.specs.Readers.Calls.{is_busy, next_call}
 use Rattle.dsql_history.specs.Readers.Owed.{owed}
 use Rattle.dsql_history.specs.Readers.Unfinished.{unfinished, is_unfinished}
-use Rattle.dsql_history.specs.Readers.Works.{works}
 use Rattle.dsql_history.specs.Rules.Flights.{is_in_flight}
 use Rattle.dsql_history.specs.Legal.{Lawful}
 use Rattle.dsql_laws.specs.OwedMade.{with_moves}
@@ -30,24 +23,13 @@ use Rattle.dsql_flights.specs.UnderWay.{UnderWay}
 use Rattle.dsql_desk.specs.declared.desk.Desk.{Desk}
 use Rattle.dsql_desk.specs.Appending.{Appends, MayAppend}
 use Rattle.dsql_desk.specs.Desk.{past}
-use Rattle.dsql_desk.specs.Statements.{statement_of}
 use Rattle.dsql_desk.proofs.Known.{unfinished_known}
 use Rattle.dsql_desk.proofs.KeptOfCalls.{lawful_kept}
 use Rattle.dsql_going.specs.Reaching.{CanPay, MayGoOn}
 use Rattle.dsql_going.specs.Stepping.{most_going_on, are_of_unfinished, events_of_a_step, MayStep}
-use Rattle.dsql_exchanged.specs.declared.statement.Statement.{Statement}
-use Rattle.dsql_entering.specs.Entering.{IsSentBy}
 use Rattle.dsql_entering.proofs.Settling.{entered_settled, entry_allowed}
 
 -- moves change no call
-
-pub same_calls : (ms : List Move) (H : List Event) → calls (with_moves ms H) ≡ calls H
-same_calls [] H = refl
-same_calls (m ∷ ms) H = same_calls ms (Pool m ∷ H)
-
-pub same_works : (ms : List Move) (H : List Event) → works (with_moves ms H) ≡ works H
-same_works [] H = refl
-same_works (m ∷ ms) H = same_works ms (Pool m ∷ H)
 
 same_unfinished : (ms : List Move) (H : List Event) → unfinished (with_moves ms H) ≡ unfinished H
 same_unfinished [] H = refl
@@ -111,23 +93,3 @@ may_go_on old new flights client n op next pays may free appends =
       parked = parked H n flights.flights (ap (is_unfinished H) next ∙ next_is_new H l) may.known;
       spare = may.spare;
     })
-
--- what it may have to send stays the same as the moves come
-
-abbrev stated : List CallRecord → List Work → ℕ → Statement
-stated records all n =
-    record {
-      text = (slice_index_or records (user_of (slice_index_or all n Look) n) nobody).text;
-      params = (slice_index_or records (user_of (slice_index_or all n Look) n) nobody).params;
-      aim = aim_of (slice_index_or all (user_of (slice_index_or all n Look) n) Look);
-    }
-
-same_sent : (ms : List Move) (K : List Event) (n : ℕ) → statement_of K (user K n) ≡ statement_of (with_moves ms K) (user (with_moves ms K) n)
-same_sent ms K n =
-    ap (λ (records : List CallRecord). stated records (works K) n) (sym (same_calls ms K)) ∙ ap (λ (all : List Work). stated (calls (with_moves ms K)) all n) (sym (same_works ms K))
-
-pub sent_then : (old new : Desk) (client n : ℕ) (op : Op) (statement : Statement) → n ≡ next_call (past old) → IsSentBy (past old) op statement → Appends old new (Entered client n op) → statement ≡ statement_of (past new) (user (past new) n)
-sent_then old new client n op statement next sent appends =
-    let K = Entered client n op ∷ past old in
-    let first : statement ≡ statement_of K (user K n) = subst (λ (k : ℕ). statement ≡ statement_of (Entered client k op ∷ past old) (user (Entered client k op ∷ past old) k)) (sym next) (sent client) in
-    first ∙ (same_sent (owed K) K n ∙ ap (λ (P : List Event). statement_of P (user P n)) (sym appends.event))

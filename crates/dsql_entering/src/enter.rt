@@ -1,62 +1,20 @@
 //! A client's call enters.
-ghost use Rattle.std.specs.Prelude.{◌≡◌, ◌≤◌, ◌+◌, false, length, IfOk};
+ghost use Rattle.std.specs.Prelude.{◌≡◌, ◌≤◌, ◌+◌, false, length};
 ghost use Rattle.dsql_desk.specs.Appending.{Appends, MayAppend};
-ghost use Rattle.dsql_desk.specs.Desk.{trimmed, past, Stands};
+ghost use Rattle.dsql_desk.specs.Desk.{trimmed, past};
 ghost use Rattle.dsql_telling.specs.Starts.{Starts};
-ghost use Rattle.dsql_entering.specs.Entering.{IsSentBy, own_statement};
 ghost use Rattle.dsql_going.specs.Reaching.{CanPay, HasGoneOn, Reaches};
 ghost use Rattle.dsql_going.specs.Stepping.{events_of_a_step, MayStep};
 ghost use Rattle.dsql_history.specs.Readers.Calls.{is_busy, next_call};
 ghost use Rattle.dsql_history.specs.Rules.Settled.{Settled};
 ghost use Rattle.dsql_history.specs.declared.event.Event.TheVariants.{Entered};
 ghost use Rattle.dsql_work.specs.Limits.{most_within_a_step};
-ghost use Rattle.dsql_work.specs.Line.{aim_of};
 ghost use Rattle.dsql_steps.specs.Groups.{after_enter};
 
-use dsql_desk::{CallStart, Desk, NoRoom, Statement};
+use dsql_desk::{CallStart, Desk};
 use dsql_flights::Flights;
 use dsql_going::{Next, go_on};
-use dsql_history::{Aim, Op, Work};
-use std::alloc::Global;
-
-/// What a call that enters may have to send: its own statement, or that of the query on whose rows it works.
-pub fn statement_for(
-    desk: &Desk,
-    alloc: Global,
-    op: &Op,
-    start: &CallStart,
-) -> Result<Statement, NoRoom>
-    requires stands { Stands desk.now }
-    requires starts { Starts (past desk.now) op.now start.now }
-    ensures { IfOk result (λ statement. IsSentBy (past desk.now) op.now statement) }
-{
-    match &start.work {
-        Work::Fetch(query) | Work::Close(query) => Ok(desk.statement(alloc, *query)?),
-        _ => own_statement(start),
-    }
-}
-
-/// The statement of the call itself.
-fn own_statement(start: &CallStart) -> Result<Statement, NoRoom>
-    ensures { IfOk result (λ statement. statement ≡ own_statement start.now) }
-{
-    let text = start.text.copy()?;
-    let params = start.params.clone()?;
-    let aim = aim_of(&start.work);
-    Ok(Statement { text, params, aim })
-}
-
-/// What becomes of its text.
-fn aim_of(work: &Work) -> Aim
-    ensures { result ≡ aim_of work.now }
-{
-    match work {
-        Work::ReadOne(_) => Aim::ReadOne,
-        Work::HandOut(_) => Aim::HandOut,
-        Work::Ping => Aim::Ping,
-        _ => Aim::Execute,
-    }
-}
+use dsql_history::Op;
 
 /// A call enters, with what is kept of it, and goes on.
 pub fn enter_call(
@@ -65,21 +23,19 @@ pub fn enter_call(
     client: u8,
     op: Op,
     start: CallStart,
-    statement: Statement,
 ) -> Next
     requires pays { CanPay desk.old events_of_a_step }
     requires few { length (past desk.old) + events_of_a_step ≤ most_within_a_step }
     requires may { MayStep (past desk.old) flights.old }
     requires free { is_busy client (past desk.old) ≡ false }
     requires starts { Starts (past desk.old) op start }
-    requires sent { IsSentBy (past desk.old) op statement }
     ensures reaches { Reaches desk.new (after_enter (past desk.old) client op) }
     ensures trimmed { trimmed desk.new ≡ trimmed desk.old }
     ensures goes { HasGoneOn (past desk.new) flights.old.flights flights.new.flights (next_call (past desk.old)) result }
 {
     let call = desk.next_call();
     note_entry(desk, call, client, op, start);
-    go_on(desk, flights, call, statement)
+    go_on(desk, flights, call)
 }
 
 /// A call enters, and the moves come that this makes due.

@@ -3,4 +3,4 @@
 
 mod enter;
 
-pub use enter::{enter_call, statement_for};
+pub use enter::enter_call;

@@ -1,2 +1,4 @@
 pub mod MovesMade
 pub mod Sent
+pub mod Filled
+pub mod Carried

@@ -1,5 +1,6 @@
--- What is sent next, told from what was heard, and whether anything is.
-use Rattle.std.proofs.Common.{◌≡◌, ℕ, Bool, true, false, cond, List, [], ◌∷◌, length, refl, ap, ◌∙◌, Option, None, Some, is_some}
+-- What is sent next, told from what was heard.
+use Rattle.std.proofs.Common.{◌≡◌, ℕ, Bool, true, false, cond, List, [], ◌∷◌, length, refl, sym, ap, ◌∙◌, Option, None, Some}
+use Rattle.std.specs.Option.{option_map}
 use Rattle.dsql_driver.specs.declared.caps.Caps.{Caps}
 use Rattle.dsql_driver.specs.declared.call.DriverCall.TheVariants.{Valid}
 use Rattle.dsql_course.specs.declared.call.Due.{Due}
@@ -9,11 +10,13 @@ use Rattle.dsql_course.specs.Made.{Exchange}
 use Rattle.dsql_journal.specs.declared.entry.Entry.{Entry}
 use Rattle.dsql_work.specs.Exchanges.{exchanges, step_of, with_exchange}
 use Rattle.dsql_work.specs.Line.{Asked, handed, test_of, sent_as, sent_over, body_with, body_after, line_after}
+use Rattle.dsql_exchanged.specs.declared.bare.BareCall.TheVariants as bare
 use Rattle.dsql_exchanged.specs.declared.exchanged.Exchanged.{Exchanged}
 use Rattle.dsql_exchanged.specs.declared.exchanged.Stage.{Stage}
 use Rattle.dsql_exchanged.specs.declared.exchanged.Stage.TheVariants.{Fresh, Going, Over}
 use Rattle.dsql_exchanged.specs.Exchanged.{exchanged_in, ends_line}
-use Rattle.dsql_exchanged.specs.Lines.{line_at_stage, line_told, step_with, step_after, is_sent, sends_step, sends_at_stage, sends_next}
+use Rattle.dsql_exchanged.specs.Lines.{line_at_stage, line_told, step_with, step_after, bare_of, bare_step, bare_at_stage, bare_told}
+use Rattle.dsql_exchanged.specs.Filled.{filled}
 
 exchanged_made : (entries : List Entry) → (exchanged_in entries).made ≡ exchanges entries
 exchanged_made [] = refl
@@ -32,41 +35,43 @@ body_with_step : (can : Caps) (asked : Asked) (wish : Wish) (made : List Exchang
 body_with_step can asked wish made None = refl
 body_with_step can asked wish made (Some rows) = refl
 
-pub body_by_step : (can : Caps) (asked : Asked) (wish : Wish) (made : List Exchange) → body_after can asked wish made ≡ sent_over can asked (step_after can asked.aim (length asked.params) wish made)
+body_by_step : (can : Caps) (asked : Asked) (wish : Wish) (made : List Exchange) → body_after can asked wish made ≡ sent_over can asked (step_after can asked.aim (length asked.params) wish made)
 body_by_step can asked wish made = body_with_step can asked wish made (handed asked.aim made)
 
-test_sent : (can : Caps) → is_some (test_of can) ≡ can.validator
-test_sent can = by_test can.validator
+test_filled : (can : Caps) (asked : Asked) → option_map (filled asked) (cond can.validator (Some bare.Valid) None) ≡ test_of can
+test_filled can asked = by_test can.validator
   where
-    by_test : (b : Bool) → is_some (cond b (Some Valid) None) ≡ b
+    by_test : (b : Bool) → option_map (filled asked) (cond b (Some bare.Valid) None) ≡ cond b (Some Valid) None
     by_test true = refl
     by_test false = refl
 
-step_is_sent : (can : Caps) (asked : Asked) (call : Due) → is_some (sent_as can asked call) ≡ is_sent can call
-step_is_sent can asked due.Text = refl
-step_is_sent can asked due.Prepare = refl
-step_is_sent can asked (due.Handle handle) = refl
-step_is_sent can asked (due.Next rows) = refl
-step_is_sent can asked (due.CloseRows rows) = refl
-step_is_sent can asked (due.CloseStmt handle) = refl
-step_is_sent can asked due.Ping = refl
-step_is_sent can asked due.Begin = test_sent can
-step_is_sent can asked due.Rollback = test_sent can
-step_is_sent can asked due.Over = test_sent can
+step_filled : (can : Caps) (asked : Asked) (call : Due) → option_map (filled asked) (bare_of can call) ≡ sent_as can asked call
+step_filled can asked due.Text = refl
+step_filled can asked due.Prepare = refl
+step_filled can asked (due.Handle handle) = refl
+step_filled can asked (due.Next rows) = refl
+step_filled can asked (due.CloseRows rows) = refl
+step_filled can asked (due.CloseStmt handle) = refl
+step_filled can asked due.Ping = refl
+step_filled can asked due.Begin = test_filled can asked
+step_filled can asked due.Rollback = test_filled can asked
+step_filled can asked due.Over = test_filled can asked
 
-any_is_sent : (can : Caps) (asked : Asked) (call : Option Due) → is_some (sent_over can asked call) ≡ sends_step can call
-any_is_sent can asked None = refl
-any_is_sent can asked (Some call) = step_is_sent can asked call
+any_filled : (can : Caps) (asked : Asked) (call : Option Due) → option_map (filled asked) (bare_step can call) ≡ sent_over can asked call
+any_filled can asked None = refl
+any_filled can asked (Some call) = step_filled can asked call
 
-body_is_sent : (can : Caps) (asked : Asked) (wish : Wish) (made : List Exchange) → is_some (body_after can asked wish made) ≡ sends_step can (step_after can asked.aim (length asked.params) wish made)
-body_is_sent can asked wish made = ap is_some (body_by_step can asked wish made) ∙ any_is_sent can asked (step_after can asked.aim (length asked.params) wish made)
+body_filled : (can : Caps) (asked : Asked) (wish : Wish) (made : List Exchange) → option_map (filled asked) (bare_step can (step_after can asked.aim (length asked.params) wish made)) ≡ body_after can asked wish made
+body_filled can asked wish made = any_filled can asked (step_after can asked.aim (length asked.params) wish made) ∙ sym (body_by_step can asked wish made)
 
-line_is_sent : (can : Caps) (reset_due : Bool) (asked : Asked) (wish : Wish) (made : List Exchange) (stage : Stage)
-    → is_some (line_at_stage can reset_due asked wish made stage) ≡ sends_at_stage can reset_due asked.aim (length asked.params) wish made stage
-line_is_sent can true asked wish made Fresh = refl
-line_is_sent can false asked wish made Fresh = body_is_sent can asked wish made
-line_is_sent can reset_due asked wish made Going = body_is_sent can asked wish made
-line_is_sent can reset_due asked wish made Over = refl
+line_filled : (can : Caps) (reset_due : Bool) (asked : Asked) (wish : Wish) (made : List Exchange) (stage : Stage)
+    → option_map (filled asked) (bare_at_stage can reset_due asked.aim (length asked.params) wish made stage) ≡ line_at_stage can reset_due asked wish made stage
+line_filled can true asked wish made Fresh = refl
+line_filled can false asked wish made Fresh = body_filled can asked wish made
+line_filled can reset_due asked wish made Going = body_filled can asked wish made
+line_filled can reset_due asked wish made Over = refl
 
-pub next_is_sent : (can : Caps) (reset_due : Bool) (asked : Asked) (wish : Wish) (it : Exchanged) → is_some (line_told can reset_due asked wish it) ≡ sends_next can reset_due asked.aim (length asked.params) wish it
-next_is_sent can reset_due asked wish it = line_is_sent can reset_due asked wish it.made it.stage
+-- what is sent next, filled with what is asked
+pub told_filled : (can : Caps) (reset_due : Bool) (asked : Asked) (wish : Wish) (it : Exchanged)
+    → option_map (filled asked) (bare_told can reset_due asked.aim (length asked.params) wish it) ≡ line_told can reset_due asked wish it
+told_filled can reset_due asked wish it = line_filled can reset_due asked wish it.made it.stage

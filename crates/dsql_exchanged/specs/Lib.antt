@@ -1,4 +1,4 @@
 pub mod Exchanged
 pub mod Moves
 pub mod Lines
-pub mod Statements
+pub mod Filled

@@ -1,5 +1,5 @@
 -- What is sent next on a connection, told from what was heard there since it was lent.
-use Rattle.std.specs.Prelude.{ℕ, Bool, true, false, ◌||◌, cond, List, Option, Some, None}
+use Rattle.std.specs.Prelude.{ℕ, Bool, cond, List, Option, Some, None}
 use Rattle.dsql_driver.specs.declared.caps.Caps.{Caps}
 use Rattle.dsql_driver.specs.declared.call.DriverCall.{DriverCall}
 use Rattle.dsql_driver.specs.declared.call.DriverCall.TheVariants.{Reset}
@@ -11,6 +11,8 @@ use Rattle.dsql_course.specs.Line.{comes_next}
 use Rattle.dsql_course.specs.Rows.{rows_next}
 use Rattle.dsql_work.specs.declared.work.Aim.{Aim}
 use Rattle.dsql_work.specs.Line.{Asked, going_on, course_of, handed, body_after}
+use Rattle.dsql_exchanged.specs.declared.bare.BareCall.{BareCall}
+use Rattle.dsql_exchanged.specs.declared.bare.BareCall.TheVariants as bare
 use Rattle.dsql_exchanged.specs.declared.exchanged.Exchanged.{Exchanged}
 use Rattle.dsql_exchanged.specs.declared.exchanged.Stage.{Stage}
 use Rattle.dsql_exchanged.specs.declared.exchanged.Stage.TheVariants.{Fresh, Going, Over}
@@ -33,26 +35,26 @@ step_with can aim count wish made (Some rows) = rows_next wish can count made ro
 abbrev pub step_after : Caps → Aim → ℕ → Wish → List Exchange → Option Due
 step_after can aim count wish made = step_with can aim count wish made (handed aim made)
 
--- a driver call is sent for that call of the course; at the end of it the connection is tested
-abbrev pub is_sent : Caps → Due → Bool
-is_sent can due.Text = true
-is_sent can due.Prepare = true
-is_sent can (due.Handle handle) = true
-is_sent can (due.Next rows) = true
-is_sent can (due.CloseRows rows) = true
-is_sent can (due.CloseStmt handle) = true
-is_sent can due.Ping = true
-is_sent can _ = can.validator
+-- the driver call that is a call of a course; at the end of it the connection is tested
+abbrev pub bare_of : Caps → Due → Option BareCall
+bare_of can due.Text = Some bare.Text
+bare_of can due.Prepare = Some bare.Prepare
+bare_of can (due.Handle handle) = Some (bare.Handle handle)
+bare_of can (due.Next rows) = Some (bare.Next rows)
+bare_of can (due.CloseRows rows) = Some (bare.CloseRows rows)
+bare_of can (due.CloseStmt handle) = Some (bare.CloseStmt handle)
+bare_of can due.Ping = Some bare.Ping
+bare_of can _ = cond can.validator (Some bare.Valid) None
 
-abbrev pub sends_step : Caps → Option Due → Bool
-sends_step can None = false
-sends_step can (Some call) = is_sent can call
+abbrev pub bare_step : Caps → Option Due → Option BareCall
+bare_step can None = None
+bare_step can (Some call) = bare_of can call
 
-abbrev pub sends_at_stage : Caps → Bool → Aim → ℕ → Wish → List Exchange → Stage → Bool
-sends_at_stage can reset_due aim count wish made Fresh = reset_due || sends_step can (step_after can aim count wish made)
-sends_at_stage can reset_due aim count wish made Going = sends_step can (step_after can aim count wish made)
-sends_at_stage can reset_due aim count wish made Over = false
+abbrev pub bare_at_stage : Caps → Bool → Aim → ℕ → Wish → List Exchange → Stage → Option BareCall
+bare_at_stage can reset_due aim count wish made Fresh = cond reset_due (Some bare.Reset) (bare_step can (step_after can aim count wish made))
+bare_at_stage can reset_due aim count wish made Going = bare_step can (step_after can aim count wish made)
+bare_at_stage can reset_due aim count wish made Over = None
 
--- something is sent next, whatever the text and the parameters
-abbrev pub sends_next : Caps → Bool → Aim → ℕ → Wish → Exchanged → Bool
-sends_next can reset_due aim count wish it = sends_at_stage can reset_due aim count wish it.made it.stage
+-- what is sent next, whatever the text and the parameters
+abbrev pub bare_told : Caps → Bool → Aim → ℕ → Wish → Exchanged → Option BareCall
+bare_told can reset_due aim count wish it = bare_at_stage can reset_due aim count wish it.made it.stage

@@ -6,3 +6,4 @@ pub mod Replying
 pub mod Leaves
 pub mod Asking
 pub mod SettledBut
+pub mod Carried

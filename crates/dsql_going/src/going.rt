@@ -1,7 +1,7 @@
 //! A call goes on as far as it can by itself.
 ghost use Rattle.std.specs.Prelude.{◌≡◌, ◌<◌, ◌+◌, Some, is_some, true, false};
 ghost use Rattle.dsql_desk.specs.Desk.{trimmed, past, Stands};
-ghost use Rattle.dsql_desk.specs.Statements.{statement_of};
+ghost use Rattle.dsql_exchanged.specs.Filled.{filled};
 ghost use Rattle.dsql_call_laws.specs.Bounds.{most_given_back};
 ghost use Rattle.dsql_steps.specs.Groups.{after_reply, asked_so, gone_on, unless_resting};
 ghost use Rattle.dsql_going.specs.Reaching.{CanPay, GivesUp, Reaches, MayGoOn, HasGoneOn};
@@ -10,34 +10,33 @@ ghost use Rattle.dsql_history.specs.Readers.Calls.{reply_due, rests, user};
 ghost use Rattle.dsql_history.specs.Readers.Unfinished.{is_unfinished};
 ghost use Rattle.dsql_history.specs.Rules.Flights.{is_in_flight};
 ghost use Rattle.dsql_history.specs.Rules.Asking.{may_ask, ask_outcome};
-ghost use Rattle.dsql_history.specs.Rules.Line.{due_for};
+ghost use Rattle.dsql_history.specs.Rules.Line.{asked_by, due_for};
 ghost use Rattle.dsql_history.specs.Rules.Settled.{Settled, is_settled_but};
 
 use crate::next::{Next, Why};
-use crate::permits::call_permit;
-use dsql_desk::{Desk, Statement};
+use crate::permits::leave_for;
+use dsql_desk::{BareCall, Desk};
 use dsql_flights::Flights;
 use dsql_history::Reply;
 use dsql_pool::{AskFault, Asked, Fate};
 
 /// A call that has no reply goes on: it sends what is due, or replies what is settled, or asks for a
 /// connection, or waits on.
-pub fn go_on(desk: &mut Desk, flights: &mut Flights, call: u32, statement: Statement) -> Next
+pub fn go_on(desk: &mut Desk, flights: &mut Flights, call: u32) -> Next
     requires pays { CanPay desk.old most_going_on }
     requires may { MayGoOn (past desk.old) flights.old call }
-    requires statement { statement ≡ statement_of (past desk.old) (user (past desk.old) call) }
     ensures reaches { Reaches desk.new (gone_on call (past desk.old)) }
     ensures trimmed { trimmed desk.new ≡ trimmed desk.old }
     ensures goes { HasGoneOn (past desk.new) flights.old.flights flights.new.flights call result }
 {
-    if desk.is_due(call) {
-        return send(desk, flights, call, statement);
+    if let Some(due) = desk.due(call) {
+        return send(desk, flights, call, due);
     }
     if desk.is_settled(call) {
         return reply(desk, call);
     }
     if desk.may_ask(call) {
-        return ask(desk, flights, call, statement);
+        return ask(desk, flights, call);
     }
     if desk.waits(call) {
         Next::Blocked(Why::Connection)
@@ -47,13 +46,12 @@ pub fn go_on(desk: &mut Desk, flights: &mut Flights, call: u32, statement: State
 }
 
 /// The driver call of a call that is due is sent, unless another's is under way on its connection.
-fn send(desk: &Desk, flights: &mut Flights, call: u32, statement: Statement) -> Next
+fn send(desk: &Desk, flights: &mut Flights, call: u32, due: BareCall) -> Next
     requires stands { Stands desk.now }
     requires unfinished { is_unfinished (past desk.now) call ≡ true }
-    requires due { is_some (due_for (past desk.now) call) ≡ true }
+    requires due { Some (filled (asked_by (past desk.now) (user (past desk.now) call)) due) ≡ due_for (past desk.now) call }
     requires parked { is_in_flight call flights.old.flights ≡ false }
     requires spare { 0 < flights.old.spare }
-    requires statement { statement ≡ statement_of (past desk.now) (user (past desk.now) call) }
     ensures { HasGoneOn (past desk.now) flights.old.flights flights.new.flights call result }
 {
     let conn = desk.site(call);
@@ -61,7 +59,7 @@ fn send(desk: &Desk, flights: &mut Flights, call: u32, statement: Statement) -> 
         return Next::Blocked(Why::Turn(conn));
     }
     flights.begin(call, conn);
-    Next::Send(call_permit(desk, conn, call, statement))
+    Next::Send(leave_for(desk, conn, call, due))
 }
 
 /// A call replies what is settled, once it gave back the connection with which it rests, if it does.
@@ -96,35 +94,32 @@ fn give_up(desk: &mut Desk, call: u32)
 }
 
 /// A call that was lent a connection just now sends what is due there, or replies where it rests with it.
-fn go_on_lent(desk: &mut Desk, flights: &mut Flights, call: u32, statement: Statement) -> Next
+fn go_on_lent(desk: &mut Desk, flights: &mut Flights, call: u32) -> Next
     requires pays { CanPay desk.old (most_given_back + 1) }
     requires may { MayGoOn (past desk.old) flights.old call }
     requires settled { Settled (past desk.old) }
     requires rests { is_some (due_for (past desk.old) call) ≡ false → rests (past desk.old) call ≡ true }
-    requires statement { statement ≡ statement_of (past desk.old) (user (past desk.old) call) }
     ensures reaches { Reaches desk.new (unless_resting call (past desk.old)) }
     ensures trimmed { trimmed desk.new ≡ trimmed desk.old }
     ensures goes { HasGoneOn (past desk.new) flights.old.flights flights.new.flights call result }
 {
-    if desk.is_due(call) {
-        send(desk, flights, call, statement)
-    } else {
-        reply(desk, call)
+    match desk.due(call) {
+        Some(due) => send(desk, flights, call, due),
+        None => reply(desk, call),
     }
 }
 
 /// A call asks for a connection.
-fn ask(desk: &mut Desk, flights: &mut Flights, call: u32, statement: Statement) -> Next
+fn ask(desk: &mut Desk, flights: &mut Flights, call: u32) -> Next
     requires pays { CanPay desk.old most_going_on }
     requires may { MayGoOn (past desk.old) flights.old call }
     requires asks { may_ask (past desk.old) call ≡ true }
-    requires statement { statement ≡ statement_of (past desk.old) (user (past desk.old) call) }
     ensures reaches { Reaches desk.new (asked_so call (ask_outcome (past desk.old) call) (past desk.old)) }
     ensures trimmed { trimmed desk.new ≡ trimmed desk.old }
     ensures goes { HasGoneOn (past desk.new) flights.old.flights flights.new.flights call result }
 {
     match desk.ask(call) {
-        Ok(Asked::Lent { .. }) => go_on_lent(desk, flights, call, statement),
+        Ok(Asked::Lent { .. }) => go_on_lent(desk, flights, call),
         Ok(Asked::Opening(_)) => Next::Blocked(Why::Opening),
         Ok(Asked::Queued) => Next::Blocked(Why::Connection),
         Ok(Asked::Closed) => unreachable!(),

@@ -1,4 +1,4 @@
-use dsql_journal::Permit;
+use dsql_desk::Leave;
 
 /// Why a call can't move.
 #[derive(Clone, Copy, Debug, PartialEq, Eq)]
@@ -15,7 +15,7 @@ pub enum Why {
 #[derive(Drop)]
 pub enum Next {
     /// This driver call is to be made, and its answer brought back.
-    Send(Permit),
+    Send(Leave),
     /// The call can't move.
     Blocked(Why),
     /// The call of this number has its reply.

@@ -5,10 +5,9 @@ use Rattle.dsql_journal.specs.declared.entry.Owner.TheVariants.{Call, Tx, Pin, H
 use Rattle.dsql_pool.specs.declared.conn.Place.{Place}
 use Rattle.dsql_pool.specs.declared.conn.Place.TheVariants.{Idle, Lent, Opening, Closing}
 use Rattle.dsql_pool.specs.declared.moves.Move.{Move}
-use Rattle.dsql_work.specs.Line.{Asked}
 use Rattle.dsql_history.specs.declared.event.Event.{Event}
 use Rattle.dsql_history.specs.declared.event.Event.TheVariants.{Heard, Pool}
-use Rattle.dsql_history.specs.Readers.Calls.{rests, user}
+use Rattle.dsql_history.specs.Readers.Calls.{rests}
 use Rattle.dsql_history.specs.Readers.Owed.{answered, given_back, owed}
 use Rattle.dsql_history.specs.Readers.Pool.{place, pool}
 use Rattle.dsql_history.specs.Readers.Unfinished.{is_unfinished}
@@ -20,15 +19,11 @@ use Rattle.dsql_laws.specs.OwedMade.{with_moves}
 use Rattle.dsql_laws.proofs.GivenBack.{back_made}
 use Rattle.dsql_call_laws.specs.Bounds.{most_given_back}
 use Rattle.dsql_call_laws.proofs.Owed.{few_given_back}
-use Rattle.dsql_call_laws.proofs.Owners.{lent_asks}
-use Rattle.dsql_call_laws.proofs.Stays.{asked_stays}
 use Rattle.dsql_call_laws.proofs.Following.{whole_when_unused}
 use Rattle.dsql_other_laws.proofs.Heard.{beside_heard, goes_on_heard, used_heard}
 use Rattle.dsql_other_laws.proofs.GivenUp.{settled_from}
 use Rattle.dsql_other_laws.proofs.Leaves.{given_settles}
 use Rattle.dsql_steps.specs.Groups.{let_go}
-use Rattle.dsql_exchanged.specs.declared.statement.Statement.{Statement}
-use Rattle.dsql_desk.specs.Statements.{statement_of}
 use Rattle.dsql_hearing.specs.Hearing.{lent_to}
 
 -- a connection that is lent to a call
@@ -103,26 +98,15 @@ few_let_go K c n = by (is_used K n)
     by true = omega (arith)
     by false = let longer = length_moves (given_back K c) K in let few = few_given_back K c in omega (arith, longer, few)
 
--- what is asked of the driver for a call, whose connection it uses, and whether it has no reply
-pub record SameCalls (K G : List Event) : Type 0 where
-  pub asked : (n : ℕ) → statement_of G n ≡ statement_of K n
-  pub whose : (n : ℕ) → user G n ≡ user K n
-  pub unfinished : (n : ℕ) → is_unfinished G n ≡ is_unfinished K n
+-- whether a call has no reply
 
-moves_same : (ms : List Move) (K : List Event) → SameCalls K (with_moves ms K)
-moves_same [] K = record { asked = λ n. refl; whose = λ n. refl; unfinished = λ n. refl }
-moves_same (m ∷ ms) K = let rest = moves_same ms (Pool m ∷ K) in record { asked = rest.asked; whose = rest.whose; unfinished = rest.unfinished }
+moves_same : (ms : List Move) (K : List Event) (n : ℕ) → is_unfinished (with_moves ms K) n ≡ is_unfinished K n
+moves_same [] K n = refl
+moves_same (m ∷ ms) K n = moves_same ms (Pool m ∷ K) n
 
-pub same_let_go : (K : List Event) (c n : ℕ) → SameCalls K (let_go c n K)
-same_let_go K c n = by (is_used K n)
+pub same_let_go : (K : List Event) (c k n : ℕ) → is_unfinished (let_go c k K) n ≡ is_unfinished K n
+same_let_go K c k n = by (is_used K k)
   where
-    by : (b : Bool) → SameCalls K (cond b K (with_moves (given_back K c) K))
-    by true = record { asked = λ n. refl; whose = λ n. refl; unfinished = λ n. refl }
-    by false = moves_same (given_back K c) K
-
-abbrev as_statement : Asked → Statement
-as_statement it = record { text = it.text; params = it.params; aim = it.aim }
-
--- an answer leaves the statement of a call to which a connection is lent
-pub statement_stays : (H : List Event) (e : Entry) (c t n : ℕ) → Lawful H → place H c ≡ Some (Lent t (Call n)) → statement_of (Heard e ∷ H) n ≡ statement_of H n
-statement_stays H e c t n l is = ap as_statement (asked_stays H (Heard e) n (lent_asks H c t n l is))
+    by : (b : Bool) → is_unfinished (cond b K (with_moves (given_back K c) K)) n ≡ is_unfinished K n
+    by true = refl
+    by false = moves_same (given_back K c) K n

@@ -4,7 +4,6 @@ use Rattle.dsql_driver.specs.Fits.{is_invalid}
 use Rattle.dsql_driver.specs.Kinds.{is_bad}
 use Rattle.dsql_journal.specs.declared.entry.Entry.{Entry}
 use Rattle.dsql_journal.specs.declared.entry.Owner.TheVariants.{Call, Tx, Pin, House}
-use Rattle.dsql_journal.specs.Kinds.{number_of}
 use Rattle.dsql_journal.specs.Readers.{is_empty}
 use Rattle.dsql_pool.specs.declared.conn.Place.{Place}
 use Rattle.dsql_pool.specs.declared.conn.Place.TheVariants.{Idle, Lent, Opening, Closing}
@@ -12,7 +11,7 @@ use Rattle.dsql_pool.specs.Places.{is_lent}
 use Rattle.dsql_history.specs.declared.event.Event.{Event}
 use Rattle.dsql_history.specs.declared.event.Event.TheVariants.{Heard}
 use Rattle.dsql_history.specs.declared.record.Flight.{Flight}
-use Rattle.dsql_history.specs.Readers.Calls.{reply_due, user}
+use Rattle.dsql_history.specs.Readers.Calls.{reply_due}
 use Rattle.dsql_history.specs.Readers.Owed.{fate, fate_when}
 use Rattle.dsql_history.specs.Readers.Pool.{place, pool}
 use Rattle.dsql_history.specs.Readers.Unfinished.{is_unfinished}
@@ -31,14 +30,13 @@ use Rattle.dsql_steps.specs.Groups.{after_settling, gone_on, heard_at, let_go, w
 use Rattle.dsql_desk.specs.declared.desk.Desk.{Desk}
 use Rattle.dsql_desk.specs.Appending.{MayAppend}
 use Rattle.dsql_desk.specs.Desk.{past, Stands}
-use Rattle.dsql_desk.specs.Statements.{statement_of}
 use Rattle.dsql_desk.proofs.Fates.{fate_heard}
 use Rattle.dsql_going.specs.Reaching.{CanPay}
 use Rattle.dsql_going.specs.Stepping.{events_of_a_step}
 use Rattle.dsql_hearing.specs.declared.hear.Hearing.{Hearing}
 use Rattle.dsql_hearing.specs.Hearing.{IsWelcome, MayHear, lent_to}
-use Rattle.dsql_hearing.proofs.Letting.{LentTo, comes_there, same_let_go, statement_stays}
-use Rattle.dsql_hearing.proofs.Welcome.{house_number, owner_there}
+use Rattle.dsql_hearing.proofs.Letting.{LentTo, comes_there, same_let_go}
+use Rattle.dsql_hearing.proofs.Welcome.{house_number}
 
 pub may_append : (desk : Desk) (e : Entry) (ready : Hearing) → CanPay desk events_of_a_step → MayHear (past desk) e ready → MayAppend desk (Heard e)
 unfolding Stands
@@ -130,18 +128,7 @@ allowed_sets H e a = a.sets
 pub unfinished_on : (H : List Event) (e : Entry) (n : ℕ) → Lawful H → Allowed H (Heard e) → LentTo (place H e.conn) n → e.call_no ≢ 0 → is_unfinished (let_go e.conn n (Heard e ∷ H)) e.call_no ≡ true
 unfinished_on H e n l a at some =
     let it = stays_with_its_call H e l (comes_there H e n a at) in
-    let same = same_let_go (Heard e ∷ H) e.conn n in
-    same.unfinished e.call_no ∙ it.unfinished some
-
-pub statement_on : (H : List Event) (e : Entry) (n : ℕ) → Lawful H → Allowed H (Heard e) → LentTo (place H e.conn) n → e.call_no ≢ 0
-    → statement_of (let_go e.conn n (Heard e ∷ H)) (user (let_go e.conn n (Heard e ∷ H)) e.call_no) ≡ statement_of H (number_of e.owner)
-statement_on H e n l a at some =
-    let G = let_go e.conn n (Heard e ∷ H) in
-    let it = stays_with_its_call H e l (comes_there H e n a at) in
-    let same = same_let_go (Heard e ∷ H) e.conn n in
-    let whose : user G e.call_no ≡ it.holder = same.whose e.call_no ∙ it.used some in
-    ap (statement_of G) whose
-    ∙ (same.asked it.holder ∙ (statement_stays H e e.conn e.tenure it.holder l it.lent ∙ ap (λ o. statement_of H (number_of o)) (sym (owner_there H e it (allowed_sets H e a)))))
+    same_let_go (Heard e ∷ H) e.conn n e.call_no ∙ it.unfinished some
 
 -- no driver call of it is under way any more
 pub landed_apart : (n : ℕ) (flights : List Flight) → is_in_flight n (without_flight n flights) ≡ false

@@ -40,7 +40,8 @@ use Rattle.dsql_call_laws.proofs.Handed.{rows_fetched, rows_new}
 use Rattle.dsql_telling.specs.Heard.{HearsRows}
 use Rattle.dsql_going.proofs.Replying.{settled_owes}
 use Rattle.dsql_hearing.specs.declared.hear.Hearing.{Hearing}
-use Rattle.dsql_hearing.specs.Hearing.{IsReadyFor, IsWelcome, MayHear}
+use Rattle.dsql_desk.specs.Appending.{DecidesNow}
+use Rattle.dsql_hearing.specs.Hearing.{IsWelcome, MayHear}
 
 pub settled_all : (H : List Event) → Settled H → is_settled_but 0 H ≡ true
 settled_all H s = together (owes_nothing H) (uses_what_is_lent H && goes_on_but 0 H) s.nothing_owed (together (uses_what_is_lent H) (goes_on_but 0 H) s.used s.somewhere)
@@ -185,12 +186,12 @@ rows_at H e (Some Closing) l none hears sends =
 rows_at H e (Some Idle) l none hears sends = absurd cc
 rows_at H e None l none hears sends = absurd cc
 
-pub may_hear : (H : List Event) (e : Entry) (ready : Hearing) → Lawful H → Settled H → is_empty H ≡ false → IsWelcome H e → IsReadyFor H e ready → MayHear H e ready
+pub may_hear : (H : List Event) (e : Entry) (ready : Hearing) → Lawful H → Settled H → is_empty H ≡ false → IsWelcome H e → DecidesNow H e ready.copy ready.reply → MayHear H e ready
 may_hear H e ready l s begun w r = record {
   settled = s;
   allowed = allowed_heard H e l s begun w;
   rows = rows_at H e (place H e.conn) l w.none w.sets w.line;
-  prepared = r;
+  decides = r;
 }
 
 pub house_number : (H : List Event) (e : Entry) (at : Option Place) → e.tx ≡ 0 → is_lent at ≡ false → hears_in (pool H) at e ≡ true → e.call_no ≡ 0

@@ -1,9 +1,8 @@
--- Which answers may be heard, what is ready for them, and what is let go after them.
+-- Which answers may be heard, and what is let go after them.
 use Rattle.std.specs.Prelude.{◌≡◌, ◌+◌, ◌≤◌, ℕ, true, List, Option, Some, None}
 use Rattle.dsql_journal.specs.declared.entry.Entry.{Entry}
 use Rattle.dsql_journal.specs.declared.entry.Owner.TheVariants.{Call}
 use Rattle.dsql_journal.specs.HandlesAndCursors.{fits_at_its_place}
-use Rattle.dsql_journal.specs.Kinds.{number_of}
 use Rattle.dsql_pool.specs.declared.conn.Place.{Place}
 use Rattle.dsql_pool.specs.declared.conn.Place.TheVariants.{Lent}
 use Rattle.dsql_history.specs.declared.event.Event.{Event}
@@ -21,7 +20,6 @@ use Rattle.dsql_desk.specs.declared.desk.Desk.{Desk}
 use Rattle.dsql_desk.specs.Appending.{DecidesNow}
 use Rattle.dsql_desk.specs.Desk.{trimmed, past, Stands}
 use Rattle.dsql_telling.specs.Heard.{HearsRows}
-use Rattle.dsql_desk.specs.Statements.{statement_of}
 use Rattle.dsql_hearing.specs.declared.hear.Hearing.{Hearing}
 
 -- The answer is of a driver call that may be heard now, and fits at its place in the journal. What the answer is doesn't matter else.
@@ -31,17 +29,12 @@ pub record IsWelcome (past : List Event) (e : Entry) : Type 0 where
   pub none : e.tx ≡ 0
   pub fits : fits_at_its_place (journal past e.conn) e ≡ true
 
--- all that the step over an answer needs: the statement of the call to which the connection is lent, and what the answer decides
-pub record IsReadyFor (past : List Event) (e : Entry) (ready : Hearing) : Type 0 where
-  pub statement : ready.statement ≡ statement_of past (number_of e.owner)
-  pub decides : DecidesNow past e ready.copy ready.reply
-
--- the answer may come next, at a free moment, and all is ready for it
+-- the answer may come next, at a free moment, and all is ready for the step over it
 pub record MayHear (past : List Event) (e : Entry) (ready : Hearing) : Type 0 where
   pub settled : Settled past
   pub allowed : Allowed past (Heard e)
   pub rows : HearsRows (work past e.call_no) e.call_no e.call (handed_out past)
-  pub prepared : IsReadyFor past e ready
+  pub decides : DecidesNow past e ready.copy ready.reply
 
 -- the call to which a connection in this place is lent, if it is to a call
 abbrev pub lent_to : Option Place → Option ℕ

@@ -1,5 +1,5 @@
 //! A driver's answer is taken in.
-ghost use Rattle.std.specs.Prelude.{◌≡◌, ◌∷◌, ◌+◌, ◌≤◌, ◌<◌, false, length, IfOk, Some, None};
+ghost use Rattle.std.specs.Prelude.{◌≡◌, ◌∷◌, ◌+◌, ◌≤◌, ◌<◌, false, length, Some, None};
 ghost use Rattle.dsql_work.specs.Limits.{most_within_a_step};
 ghost use Rattle.dsql_history.specs.declared.event.Event.TheVariants.{Heard};
 ghost use Rattle.dsql_history.specs.Readers.Owed.{fate};
@@ -8,45 +8,28 @@ ghost use Rattle.dsql_history.specs.Rules.Flights.{is_in_flight, without_flight}
 ghost use Rattle.dsql_history.specs.Rules.Line.{is_used};
 ghost use Rattle.dsql_laws.specs.Leaving.{MayLeave};
 ghost use Rattle.dsql_call_laws.specs.Bounds.{most_given_back};
-ghost use Rattle.dsql_desk.specs.Desk.{trimmed, past, Stands};
+ghost use Rattle.dsql_desk.specs.Appending.{DecidesNow};
+ghost use Rattle.dsql_desk.specs.Desk.{trimmed, past};
 ghost use Rattle.dsql_going.specs.Reaching.{CanPay, Reaches};
 ghost use Rattle.dsql_going.specs.Stepping.{events_of_a_step, MayStep, GoesOnOrRests};
-ghost use Rattle.dsql_hearing.specs.Hearing.{IsWelcome, IsReadyFor, MayHear, LetsGo, lent_to};
+ghost use Rattle.dsql_hearing.specs.Hearing.{IsWelcome, MayHear, LetsGo, lent_to};
 ghost use Rattle.dsql_steps.specs.Groups.{after_heard, gone_on, let_go, with_owed};
 
-use dsql_desk::{Desk, NoRoom, Statement, fate_of};
+use dsql_desk::{Desk, fate_of};
 use dsql_driver::DriverAnswer;
 use dsql_flights::Flights;
 use dsql_going::{Next, go_on};
 use dsql_history::Reply;
 use dsql_journal::{Entry, Owner};
 use dsql_pool::{Fate, Place};
-use std::alloc::Global;
 
 /// What the step over an answer needs, with the memory that it takes.
 #[derive(Drop)]
 pub struct Hearing {
     /// The answer once more.
     pub copy: DriverAnswer,
-    /// The statement of the call to which the connection is lent.
-    pub statement: Statement,
     /// What the answer to a Query or a Next decides.
     pub reply: Option<Reply>,
-}
-
-/// Makes all ready that the step over this answer needs.
-pub fn ready_for(desk: &Desk, alloc: Global, entry: &Entry) -> Result<Hearing, NoRoom>
-    requires { Stands desk.now }
-    ensures { IfOk result (IsReadyFor (past desk.now) entry.now) }
-{
-    let copy = entry.answer.clone()?;
-    let statement = desk.statement(alloc, entry.owner.number())?;
-    let reply = desk.reply_decided(alloc, entry)?;
-    Ok(Hearing {
-        copy,
-        statement,
-        reply,
-    })
 }
 
 /// A driver's answer is taken in, for which all is ready.
@@ -55,7 +38,7 @@ pub fn hear_answer(desk: &mut Desk, flights: &mut Flights, entry: Entry, ready: 
     requires few { length (past desk.old) + events_of_a_step ≤ most_within_a_step }
     requires may { MayStep (past desk.old) flights.old }
     requires welcome { IsWelcome (past desk.old) entry }
-    requires ready { IsReadyFor (past desk.old) entry ready }
+    requires decides { DecidesNow (past desk.old) entry ready.copy ready.reply }
     ensures reaches { Reaches desk.new (after_heard (past desk.old) entry) }
     ensures trimmed { trimmed desk.new ≡ trimmed desk.old }
     ensures goes { GoesOnOrRests (past desk.new) (without_flight entry.call_no flights.old.flights) flights.new.flights entry.call_no result }
@@ -99,11 +82,7 @@ fn hear_lent(
     ensures trimmed { trimmed desk.new ≡ trimmed desk.old }
     ensures goes { GoesOnOrRests (past desk.new) flights.old.flights flights.new.flights entry.call_no result }
 {
-    let Hearing {
-        copy,
-        statement,
-        reply,
-    } = ready;
+    let Hearing { copy, reply } = ready;
     let conn = entry.conn;
     let call = entry.call_no;
     let told = fate_of(&entry.answer);
@@ -112,7 +91,7 @@ fn hear_lent(
     if call == 0 {
         Next::Quiet
     } else {
-        go_on(desk, flights, call, statement)
+        go_on(desk, flights, call)
     }
 }
 

@@ -3,4 +3,4 @@
 
 mod hear;
 
-pub use hear::{Hearing, hear_answer, ready_for};
+pub use hear::{Hearing, hear_answer};

@@ -51,7 +51,7 @@ fn step_call<W: Wire>(player: &mut Player, wires: &mut Wires<W>, client: u8) -> 
     ensures fails { FailsForMemory result player.old.past player.new.past }
     ensures trimmed { player.new.trimmed ≡ player.old.trimmed }
 {
-    if player.has_permit(client) {
+    if player.has_leave(client) {
         return player.make_call(wires, client);
     }
     if !player.may_move(client) {

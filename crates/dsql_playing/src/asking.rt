@@ -12,16 +12,15 @@ ghost use Rattle.dsql_wires.specs.WiresFit.{WiresFit};
 use crate::halt::Halt;
 use crate::player::Player;
 use dsql_driver::Wire;
-use dsql_engine::Next;
-use dsql_journal::Permit;
+use dsql_engine::{Leave, Next};
 use dsql_wires::Wires;
 
 /// The leave for a driver call that comes of a step, if any does.
-pub(crate) fn leave_of(next: Next) -> Option<Permit>
+pub(crate) fn leave_of(next: Next) -> Option<Leave>
     ensures { result ≡ leave_of next }
 {
     match next {
-        Next::Send(permit) => Some(permit),
+        Next::Send(leave) => Some(leave),
         _ => None,
     }
 }
@@ -40,9 +39,10 @@ impl Player {
         ensures fails { FailsForMemory result self.old.past self.new.past }
         ensures trimmed { self.new.trimmed ≡ self.old.trimmed }
     {
-        let Some(permit) = self.seats.take_permit(client) else {
+        let Some(leave) = self.seats.take_leave(client) else {
             unreachable!();
         };
+        let permit = self.engine.permit(&leave)?;
         let heard = wires.perform(permit)?;
         let next = self.engine.heard(heard)?;
         self.seats.hand(client, leave_of(next));

@@ -1,7 +1,7 @@
 //! The layer's own driver calls: which one comes first, and what it comes to on the wire of its connection.
-ghost use Rattle.std.specs.Prelude.{◌≡◌, ◌<◌, true, false, is_some, length, IfOk, OnOk};
+ghost use Rattle.std.specs.Prelude.{◌≡◌, ◌<◌, true, false, is_some, length, IfOk, OnErr, OnOk};
 ghost use Rattle.dsql_driver.specs.Kinds.{is_connect, is_shut};
-ghost use Rattle.dsql_journal.specs.declared.entry.Permit.{Permit as Leave};
+ghost use Rattle.dsql_journal.specs.declared.entry.Permit.{Permit as Permitted};
 ghost use Rattle.dsql_history.specs.Legal.{Legal};
 ghost use Rattle.dsql_playing.specs.Acts.{TakesAnswer};
 ghost use Rattle.dsql_playing.specs.Carried.{KeepsRun};
@@ -16,17 +16,40 @@ use crate::asking::leave_of;
 use crate::halt::Halt;
 use crate::player::Player;
 use dsql_driver::{Fleet, Wire};
+use dsql_engine::Leave;
 use dsql_journal::Permit;
 use dsql_wire::Heard;
 use dsql_wires::{Wires, connect_wire};
 
 impl Player {
-    /// Leave for the layer's first own call, if there is one. It is under way from then on.
+    /// The permit for the layer's first own call, if there is one. It is under way from then on. After an error nothing has
+    /// changed.
     pub fn first_chore(&mut self) -> Result<Option<Permit>, Halt>
         requires ready { IsReady self.old }
         requires room { length self.old.past < most_events }
         ensures finds { IfOk result (λ chore. FindsChore chore self.old self.new) }
         ensures same { SameButChore self.old self.new }
+        ensures err { OnErr result (self.new ≡ self.old) }
+        ensures fails { FailsForMemory result self.old.past self.new.past }
+    {
+        let Some(leave) = self.first_leave()? else {
+            return Ok(None);
+        };
+        match self.engine.permit(&leave) {
+            Ok(permit) => Ok(Some(permit)),
+            Err(fault) => {
+                self.engine.put_off_chore();
+                Err(fault.into())
+            }
+        }
+    }
+
+    fn first_leave(&mut self) -> Result<Option<Leave>, Halt>
+        requires ready { IsReady self.old }
+        requires room { length self.old.past < most_events }
+        ensures finds { IfOk result (λ chore. FindsChore chore self.old self.new) }
+        ensures same { SameButChore self.old self.new }
+        ensures err { OnErr result (self.new ≡ self.old) }
         ensures fails { FailsForMemory result self.old.past self.new.past }
     {
         let next = self.engine.chore()?;
@@ -88,7 +111,7 @@ impl Player {
     /// The answer to the layer's call is taken in.
     fn hear(&mut self, heard: Heard) -> Result<(), Halt>
         requires answered { IsAnswered self.old heard }
-        ensures takes { OnOk result ((permit : Leave) → heard ≡ answered permit heard.answer → TakesAnswer permit heard self.old self.new) }
+        ensures takes { OnOk result ((permit : Permitted) → heard ≡ answered permit heard.answer → TakesAnswer permit heard self.old self.new) }
         ensures fails { FailsForMemory result self.old.past self.new.past }
         ensures legal { Legal self.new.past }
         ensures trimmed { self.new.trimmed ≡ self.old.trimmed }

@@ -34,7 +34,7 @@ impl Player {
     {
         if !self.has_call(client) {
             self.enter_kept(client)
-        } else if self.has_permit(client) {
+        } else if self.has_leave(client) {
             self.make_call(wires, client)
         } else {
             self.go_on_parked(wires, client)

@@ -24,10 +24,10 @@ impl Player {
     }
 
     /// Whether the client has leave for a driver call.
-    pub fn has_permit(&self, client: u8) -> bool
+    pub fn has_leave(&self, client: u8) -> bool
         ensures { result ≡ is_some (seat self.now.seats client).permit }
     {
-        self.seats.has_permit(client)
+        self.seats.has_leave(client)
     }
 
     /// Whether the client's call may move.

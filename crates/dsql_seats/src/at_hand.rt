@@ -3,7 +3,7 @@ ghost use Rattle.std.specs.Prelude.{◌≡◌, ◌∷◌, ◌++◌, [], None, dr
 ghost use Rattle.dsql_seats.specs.Seats.{empty_seat};
 
 use crate::seats::KeptLine;
-use dsql_journal::Permit;
+use dsql_exchanged::Leave;
 use dsql_value::Memory;
 use std::alloc::Global;
 use std::collections::VecDeque;
@@ -12,7 +12,7 @@ use std::marker::Model;
 /// What one client has at hand. Contracts see its seat.
 #[derive(Drop)]
 pub(crate) struct AtHand {
-    permit: Option<Permit>,
+    leave: Option<Leave>,
     kept: VecDeque<KeptLine>,
     held: bool,
 }
@@ -22,7 +22,7 @@ impl Model for AtHand {
 
     ghost Value = { Seat };
 
-    ghost view = { λ a. record { permit = a.permit; kept = a.kept.items; held = a.held } };
+    ghost view = { λ a. record { permit = a.leave; kept = a.kept.items; held = a.held } };
 }
 
 impl AtHand {
@@ -31,7 +31,7 @@ impl AtHand {
         ensures { result ≡ empty_seat }
     {
         AtHand {
-            permit: None,
+            leave: None,
             kept: VecDeque::new(alloc),
             held: false,
         }
@@ -55,18 +55,18 @@ impl AtHand {
     }
 
     /// Puts this leave in the place of the one that is there.
-    pub(crate) fn hand(&mut self, permit: Option<Permit>)
-        ensures { self.new ≡ record self.old { permit = permit } }
+    pub(crate) fn hand(&mut self, leave: Option<Leave>)
+        ensures { self.new ≡ record self.old { permit = leave } }
     {
-        self.permit = permit;
+        self.leave = leave;
     }
 
     /// Takes the leave out, if there is one.
-    pub(crate) fn take_permit(&mut self) -> Option<Permit>
+    pub(crate) fn take_leave(&mut self) -> Option<Leave>
         ensures permit { result ≡ self.old.permit }
         ensures after { self.new ≡ record self.old { permit = None } }
     {
-        self.permit.take()
+        self.leave.take()
     }
 
     /// Says whether the client's call is held.
@@ -77,10 +77,10 @@ impl AtHand {
     }
 
     /// There is leave for a driver call.
-    pub(crate) fn has_permit(&self) -> bool
+    pub(crate) fn has_leave(&self) -> bool
         ensures { result ≡ is_some self.now.permit }
     {
-        self.permit.is_some()
+        self.leave.is_some()
     }
 
     /// A line is kept.

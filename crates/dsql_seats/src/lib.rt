@@ -5,6 +5,6 @@
 mod at_hand;
 mod seats;
 
+pub use dsql_exchanged::Leave;
 pub use dsql_history::Op;
-pub use dsql_journal::Permit;
 pub use seats::{KeptLine, Seats};

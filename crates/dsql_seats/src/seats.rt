@@ -3,8 +3,8 @@ ghost use Rattle.std.specs.Prelude.{◌≡◌, ◌≢◌, ◌<◌, ◌≤◌, �
 ghost use Rattle.dsql_seats.specs.Seats.{empty_seat, seat, released};
 
 use crate::at_hand::AtHand;
+use dsql_exchanged::Leave;
 use dsql_history::Op;
-use dsql_journal::Permit;
 use dsql_value::Memory;
 use std::alloc::Global;
 use std::marker::Model;
@@ -81,23 +81,23 @@ impl Seats {
     }
 
     /// Hands the client the leave for its call's next driver call, or none, in the place of what it had.
-    pub fn hand(&mut self, client: u8, permit: Option<Permit>)
+    pub fn hand(&mut self, client: u8, leave: Option<Leave>)
         requires { client < length self.old }
-        ensures permit { seat self.new client ≡ record (seat self.old client) { permit = permit } }
+        ensures permit { seat self.new client ≡ record (seat self.old client) { permit = leave } }
         ensures others { (c : ℕ) → c ≢ client → seat self.new c ≡ seat self.old c }
         ensures count { length self.new ≡ length self.old }
     {
-        self.seats[client as usize].hand(permit);
+        self.seats[client as usize].hand(leave);
     }
 
     /// Takes the client's leave, if it has one.
-    pub fn take_permit(&mut self, client: u8) -> Option<Permit>
+    pub fn take_leave(&mut self, client: u8) -> Option<Leave>
         ensures permit { result ≡ (seat self.old client).permit }
         ensures after { seat self.new client ≡ record (seat self.old client) { permit = None } }
         ensures others { (c : ℕ) → c ≢ client → seat self.new c ≡ seat self.old c }
         ensures count { length self.new ≡ length self.old }
     {
-        self.seats.get_mut(client as usize)?.take_permit()
+        self.seats.get_mut(client as usize)?.take_leave()
     }
 
     /// Says whether the client's call is held.
@@ -119,12 +119,12 @@ impl Seats {
     }
 
     /// The client has leave for a driver call.
-    pub fn has_permit(&self, client: u8) -> bool
+    pub fn has_leave(&self, client: u8) -> bool
         ensures { result ≡ is_some (seat self.now client).permit }
     {
         self.seats
             .get(client as usize)
-            .is_some_and(|at_hand| at_hand.has_permit())
+            .is_some_and(|at_hand| at_hand.has_leave())
     }
 
     /// A line of the client is kept.

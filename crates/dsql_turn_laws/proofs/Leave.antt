@@ -11,7 +11,7 @@ use Rattle.dsql_journal.specs.declared.entry.Owner.TheVariants.{Call}
 use Rattle.dsql_journal.specs.declared.entry.Permit.{Permit}
 use Rattle.dsql_journal.specs.HandlesAndCursors.{fits_at_its_place}
 use Rattle.dsql_journal.specs.Journal.{may_follow}
-use Rattle.dsql_journal.specs.Kinds.{same_owner}
+use Rattle.dsql_journal.specs.Kinds.{number_of, same_owner}
 use Rattle.dsql_journal.specs.Permits.{entry_of}
 use Rattle.dsql_tenure.specs.Beginnings.{is_beginning_of}
 use Rattle.dsql_tenure.specs.Judged.{answered}
@@ -23,13 +23,16 @@ use Rattle.dsql_history.specs.declared.event.Event.{Event}
 use Rattle.dsql_history.specs.declared.event.Event.TheVariants.{Run, Entered, Heard, Pool, Waits, Ticked, SetLimit, Replied, Ended}
 use Rattle.dsql_history.specs.Readers.Journals.{journal}
 use Rattle.dsql_history.specs.Readers.Pool.{place, pool}
-use Rattle.dsql_history.specs.Rules.Line.{parts, sends_from}
+use Rattle.dsql_history.specs.Rules.Line.{asked_by, parts, sends_from}
 use Rattle.dsql_history.specs.Rules.Moves.{hears_in}
 use Rattle.dsql_history.specs.Legal.{Lawful}
 use Rattle.dsql_laws.proofs.Journals.{keeps_journals_of}
 use Rattle.dsql_laws.proofs.Tests.{both, other_number, same_itself, same_number, together}
 use Rattle.dsql_laws.proofs.Welcome.{stays_welcome}
 use Rattle.dsql_call_laws.proofs.Lent.{stays_lent}
+use Rattle.dsql_call_laws.proofs.Owners.{lent_asks}
+use Rattle.dsql_call_laws.proofs.Stays.{asked_stays}
+use Rattle.dsql_exchanged.specs.Filled.{Carries}
 use Rattle.dsql_call_laws.proofs.Following.{follows_due}
 use Rattle.dsql_call_laws.proofs.Invariant.{coming_used}
 use Rattle.dsql_call_laws.proofs.Lines.{line_in}
@@ -69,9 +72,13 @@ leave_over H x p l leave apart =
     let u = under_way H p l.0 leave in
     let used = coming_used H (entry_of p Done) l.0 (sound H l.0) u in
     let there : place (x ∷ H) p.conn ≡ Some (Lent p.tenure (Call u.holder)) = stays_lent H x p.conn p.tenure u.holder l.0 l.1 u.lent used in
+    let whose : number_of p.owner ≡ u.holder = ap number_of (leave_of_owner H p leave u) in
+    let asked : asked_by H (number_of p.owner) ≡ asked_by (x ∷ H) (number_of p.owner) =
+    ap (asked_by H) whose ∙ (sym (asked_stays H x u.holder (lent_asks H p.conn p.tenure u.holder l.0 u.lent)) ∙ ap (asked_by (x ∷ H)) (sym whose)) in
     record {
       of_a_call = leave.of_a_call;
       none = leave.none;
+      carries = subst (λ it. Carries it p.call) asked leave.carries;
       lent = there ∙ ap (λ o. Some (Lent p.tenure o)) (sym (leave_of_owner H p leave u));
       comes = λ answer. stays_welcome H x (entry_of p answer) (parts_alike x p answer Done ∙ apart) (leave.comes answer);
     }

@@ -5,6 +5,7 @@ use Rattle.dsql_driver.specs.declared.call.DriverCall.{DriverCall}
 use Rattle.dsql_driver.specs.declared.answer.DriverAnswer.{DriverAnswer}
 use Rattle.dsql_journal.specs.declared.entry.Owner.TheVariants as owners
 use Rattle.dsql_journal.specs.declared.entry.Permit.{Permit}
+use Rattle.dsql_journal.specs.Kinds.{number_of}
 use Rattle.dsql_journal.specs.Permits.{entry_of}
 use Rattle.dsql_pool.specs.declared.conn.Place.{Place}
 use Rattle.dsql_pool.specs.declared.conn.Place.TheVariants.{Idle, Lent, Opening, Closing}
@@ -17,7 +18,7 @@ use Rattle.dsql_history.specs.Readers.Pool.{place}
 use Rattle.dsql_history.specs.Readers.Unfinished.{is_unfinished}
 use Rattle.dsql_history.specs.Readers.Works.{work}
 use Rattle.dsql_history.specs.Rules.Flights.{has_flight, is_in_flight, is_taken, permitted}
-use Rattle.dsql_history.specs.Rules.Line.{due_for, due_from, due_in, has_turn, holder, holder_at, if_sending, is_at, is_due_at, tidying}
+use Rattle.dsql_history.specs.Rules.Line.{asked_by, due_for, due_from, due_in, has_turn, holder, holder_at, if_sending, is_at, is_due_at, tidying}
 use Rattle.dsql_history.specs.Rules.Stands.{stand}
 use Rattle.dsql_history.specs.Legal.{Lawful}
 use Rattle.dsql_laws.proofs.Numbered.{unfinished_from_one}
@@ -26,6 +27,8 @@ use Rattle.dsql_laws.proofs.Tests.{other_number, same_itself, together}
 use Rattle.dsql_laws.proofs.Welcome.{due_may_come}
 use Rattle.dsql_call_laws.proofs.Lists.{same_or_not}
 use Rattle.dsql_other_laws.proofs.Untouched.{or_second}
+use Rattle.dsql_exchanged.specs.Filled.{Carries}
+use Rattle.dsql_going.proofs.Carried.{permit_carried}
 use Rattle.dsql_going.specs.Answers.{sends_unless, why_blocked}
 use Rattle.dsql_going.specs.Permits.{call_permit, permit_for, sent_at}
 use Rattle.dsql_going.specs.Reaching.{HasGoneOn}
@@ -181,6 +184,7 @@ leads_for H before after n c permit l f parked now s at g = subst (λ (p : Permi
         of_a_call = some;
         none = refl;
         lent = g.lent;
+        carries = subst (λ p. Carries (asked_by H (number_of p.owner)) p.call) g.is (permit_carried H n permit s.given);
         comes = λ answer.
             due_may_come H (entry_of (call_permit c g.tenure g.owner n g.call) answer)
             (ap (λ at. is_due_at H at (entry_of (call_permit c g.tenure g.owner n g.call) answer)) g.lent ∙ due_now H n c g.tenure g.owner g.call answer some at g.due turn);

@@ -1,6 +1,8 @@
-ghost use Rattle.std.specs.Prelude.{◌≡◌};
+ghost use Rattle.std.specs.Prelude.{◌≡◌, IfOk};
 
+use dsql_driver::DriverAnswer;
 use dsql_journal::Entry;
+use dsql_value::Memory;
 use std::marker::Model;
 
 /// An entry that a driver's answer made. It is made only as a fleet is asked for a connection and as a wire makes a call,
@@ -8,21 +10,40 @@ use std::marker::Model;
 #[derive(Drop)]
 pub struct Heard {
     entry: Entry,
+    /// The driver's second answer, until it is taken. There is none where a journal keeps it, or a fleet refused.
+    second: Option<DriverAnswer>,
 }
 
 impl Model for Heard {
+    ghost use Rattle.std.specs.Prelude.{◌≡◌, IfSome};
     ghost use Rattle.dsql_journal.specs.declared.entry.Entry.{Entry};
 
     ghost Value = { Entry };
 
     ghost view = { λ h. h.entry };
+
+    ghost invariant = { λ h. IfSome h.second (λ answer. answer ≡ h.entry.answer) };
 }
 
 impl Heard {
     pub(crate) fn new(entry: Entry) -> Heard
         ensures { result ≡ entry }
     {
-        Heard { entry }
+        Heard {
+            entry,
+            second: None,
+        }
+    }
+
+    /// The same with the driver's second answer.
+    pub(crate) fn with_second(self, second: DriverAnswer) -> Heard
+        requires { second ≡ self.answer }
+        ensures { result ≡ self }
+    {
+        Heard {
+            entry: self.into_entry(),
+            second: Some(second),
+        }
     }
 
     /// The entry.
@@ -36,7 +57,18 @@ impl Heard {
     pub fn into_entry(self) -> Entry
         ensures { result ≡ self }
     {
-        let Heard { entry } = self;
+        let Heard { entry, second: _ } = self;
         entry
+    }
+
+    /// The answer once more, to be kept: the driver's second one where it is there, and else a copy.
+    pub fn take_second(&mut self) -> Result<DriverAnswer, Memory>
+        ensures second { IfOk result (λ second. second ≡ self.old.answer) }
+        ensures same { self.new ≡ self.old }
+    {
+        match self.second.take() {
+            Some(second) => Ok(second),
+            None => Ok(self.entry.answer.clone()?),
+        }
     }
 }

@@ -90,8 +90,8 @@ impl<W: Wire> ThinWire<W> {
         if !self.may_send(&permit) {
             return Err(WireFault::Stray(permit));
         }
-        let HeardTwice { heard, copy: _ } = self.call(permit)?;
-        Ok(heard)
+        let HeardTwice { heard, copy } = self.call(permit)?;
+        Ok(heard.with_second(copy))
     }
 
     /// Plans a fault in place of the answer to the nth call on this wire, its Connect being the first.

@@ -4,7 +4,7 @@ ghost use Rattle.dsql_engine.specs.Chores.{IsChore};
 ghost use Rattle.dsql_steps.specs.Groups.{most_events};
 
 use crate::engine::Engine;
-use crate::permits::chore_permit;
+use crate::permits::chore_leave;
 use dsql_desk::NoRoom;
 use dsql_going::Next;
 
@@ -23,8 +23,18 @@ impl Engine {
         let Some(conn) = self.desk.chore_due() else {
             return Ok(Next::Quiet);
         };
-        let permit = chore_permit(&self.desk, self.alloc, conn)?;
+        let leave = chore_leave(&self.desk, conn);
         self.chore = Some(conn);
-        Ok(Next::Send(permit))
+        Ok(Next::Send(leave))
+    }
+
+    /// The layer's own driver call that is under way isn't made after all.
+    pub fn put_off_chore(&mut self)
+        ensures chore { self.new.chore ≡ None }
+        ensures past { self.new.past ≡ self.old.past }
+        ensures flights { self.new.flights ≡ self.old.flights }
+        ensures trimmed { self.new.trimmed ≡ self.old.trimmed }
+    {
+        self.chore = None;
     }
 }

@@ -11,7 +11,7 @@ ghost use Rattle.dsql_steps.specs.Groups.{after_enter, after_heard, most_events}
 use crate::engine::Engine;
 use crate::paying::{pay, prepare};
 use dsql_desk::NoRoom;
-use dsql_entering::{enter_call, statement_for};
+use dsql_entering::enter_call;
 use dsql_going::Next;
 use dsql_hearing::hear_answer;
 use dsql_history::Op;
@@ -47,16 +47,8 @@ impl Engine {
         ensures legal { Legal self.new.past }
     {
         let start = self.desk.entering(self.alloc, &op)?;
-        let statement = statement_for(&self.desk, self.alloc, &op, &start)?;
         pay(&mut self.desk, &mut self.flights)?;
-        Ok(enter_call(
-            &mut self.desk,
-            &mut self.flights,
-            client,
-            op,
-            start,
-            statement,
-        ))
+        Ok(enter_call(&mut self.desk, &mut self.flights, client, op, start))
     }
 
     /// A driver's answer is taken in, of a driver call that is under way. It is handed back where there is no
@@ -72,7 +64,8 @@ impl Engine {
         ensures err { OnErr result (self.new ≡ self.old) }
         ensures legal { Legal self.new.past }
     {
-        match prepare(&mut self.desk, &mut self.flights, self.alloc, heard.entry()) {
+        let mut heard = heard;
+        match prepare(&mut self.desk, &mut self.flights, self.alloc, &mut heard) {
             Ok(ready) => {
                 let entry = heard.into_entry();
                 self.chore = chore_after(entry.call_no, self.chore);

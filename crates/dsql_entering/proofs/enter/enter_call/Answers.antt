@@ -3,7 +3,7 @@ use Rattle.dsql_history.specs.declared.event.Event.TheVariants.{Entered}
 use Rattle.dsql_desk.specs.Desk.{past}
 use Rattle.dsql_going.specs.Reaching.{HasGoneOn}
 use Rattle.dsql_steps.specs.Groups.{gone_on, with_owed}
-use Rattle.dsql_entering.proofs.Stepping.{may_append, may_go_on, may_pay, sent_then}
+use Rattle.dsql_entering.proofs.Stepping.{may_append, may_go_on, may_pay}
 use Rattle.dsql_entering.proofs.enter.enter_call.Goals as goal
 
 pub note_entry-requires-clause-may : goal.note_entry-requires-clause-may
@@ -17,10 +17,6 @@ go_on-requires-clause-pays c =
 pub go_on-requires-clause-may : goal.go_on-requires-clause-may
 go_on-requires-clause-may c =
     may_go_on c.args.desk.now c.note_entry.new.desk c.args.flights.now c.args.client c.next_call-call.result c.args.op c.next_call-call.ensures c.requires.pays c.requires.may c.requires.free c.note_entry.ensures
-
-pub go_on-requires-clause-statement : goal.go_on-requires-clause-statement
-go_on-requires-clause-statement c =
-    sent_then c.args.desk.now c.note_entry.new.desk c.args.client c.next_call-call.result c.args.op c.args.statement c.next_call-call.ensures c.requires.sent c.note_entry.ensures
 
 pub returns-clause-reaches : goal.returns-clause-reaches
 returns-clause-reaches c =

@@ -1,4 +1,4 @@
-use Rattle.std.proofs.Common.{◌≡◌, Bool, true, false, cond, None, Some, ap, sym, ◌∙◌}
+use Rattle.std.proofs.Common.{◌≡◌, Bool, true, false, cond, None, Some, is_some, ap, sym, ◌∙◌}
 use Rattle.dsql_history.specs.declared.record.Stand.TheVariants.{Sends}
 use Rattle.dsql_history.specs.Rules.Flights.{is_taken}
 use Rattle.dsql_history.specs.Rules.Stands.{stand}
@@ -17,7 +17,7 @@ returns-then-is_taken c =
     let flights = c.args.flights.now.flights in
     let conn = c.site-conn.result in
     let l = c.requires.stands.tables.lawful in
-    let at : stand H n ≡ Some (Sends conn) = stands_sending H n l (unfinished_from_one H n l c.requires.unfinished) c.requires.due ∙ ap (λ d. Some (Sends d)) (sym c.site-conn.ensures) in
+    let at : stand H n ≡ Some (Sends conn) = stands_sending H n l (unfinished_from_one H n l c.requires.unfinished) (ap (λ o. is_some o) (sym c.requires.due)) ∙ ap (λ d. Some (Sends d)) (sym c.site-conn.ensures) in
     let taken : is_taken n conn flights ≡ true = sym c.is_taken.ensures ∙ c.if-is_taken.true in
     goes_blocked H n flights (Some (Sends conn)) (Turn conn) c.requires.unfinished at (ap (λ (b : Bool). cond b (Some (Turn conn)) None) taken) (taken_stays n conn flights taken)
 
@@ -29,6 +29,6 @@ returns c =
     let before = c.args.flights.now.flights in
     let conn = c.site-conn.result in
     let l = c.requires.stands.tables.lawful in
-    let at : stand H n ≡ Some (Sends conn) = stands_sending H n l (unfinished_from_one H n l c.requires.unfinished) c.requires.due ∙ ap (λ d. Some (Sends d)) (sym c.site-conn.ensures) in
+    let at : stand H n ≡ Some (Sends conn) = stands_sending H n l (unfinished_from_one H n l c.requires.unfinished) (ap (λ o. is_some o) (sym c.requires.due)) ∙ ap (λ d. Some (Sends d)) (sym c.site-conn.ensures) in
     let free : is_taken n conn before ≡ false = sym c.is_taken.ensures ∙ c.if-is_taken.false in
-    goes_sending H n conn before c.begin.new.self.flights c.call_permit.result c.requires.unfinished at free c.begin.ensures.flights c.call_permit.ensures
+    goes_sending H n conn before c.begin.new.self.flights c.leave_for.result c.requires.unfinished at free c.begin.ensures.flights c.leave_for.ensures

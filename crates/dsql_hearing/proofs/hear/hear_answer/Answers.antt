@@ -13,7 +13,7 @@ use Rattle.dsql_hearing.proofs.hear.hear_answer.Goals as goal
 pub hear_lent-requires-clause-may : goal.hear_lent-requires-clause-may
 unfolding Stands
 hear_lent-requires-clause-may c =
-    may_hear (past c.args.desk.now) c.args.entry c.args.ready c.requires.pays.stands.tables.lawful c.requires.may.settled c.requires.may.begun c.requires.welcome c.requires.ready
+    may_hear (past c.args.desk.now) c.args.entry c.args.ready c.requires.pays.stands.tables.lawful c.requires.may.settled c.requires.may.begun c.requires.welcome c.requires.decides
 
 pub hear_lent-requires-clause-lent : goal.hear_lent-requires-clause-lent
 hear_lent-requires-clause-lent c = sym (c.lent_to.ensures ∙ ap lent_to c.place.ensures) ∙ c.in-Some.is
@@ -42,7 +42,7 @@ returns-in-Some-clause-goes c =
 pub hear_house-requires-clause-may : goal.hear_house-requires-clause-may
 unfolding Stands
 hear_house-requires-clause-may c =
-    may_hear (past c.args.desk.now) c.args.entry c.args.ready c.requires.pays.stands.tables.lawful c.requires.may.settled c.requires.may.begun c.requires.welcome c.requires.ready
+    may_hear (past c.args.desk.now) c.args.entry c.args.ready c.requires.pays.stands.tables.lawful c.requires.may.settled c.requires.may.begun c.requires.welcome c.requires.decides
 
 pub hear_house-requires-clause-house : goal.hear_house-requires-clause-house
 hear_house-requires-clause-house c = sym (c.lent_to.ensures ∙ ap lent_to c.place.ensures) ∙ c.in-None.is

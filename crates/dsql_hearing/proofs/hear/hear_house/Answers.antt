@@ -13,7 +13,7 @@ pub hear-requires-clause-settled : goal.hear-requires-clause-settled
 hear-requires-clause-settled c = c.requires.may.settled
 
 pub hear-requires-clause-decides : goal.hear-requires-clause-decides
-hear-requires-clause-decides c = c.requires.may.prepared.decides
+hear-requires-clause-decides c = c.requires.may.decides
 
 pub hear-requires-clause-rows : goal.hear-requires-clause-rows
 hear-requires-clause-rows c = c.requires.may.rows

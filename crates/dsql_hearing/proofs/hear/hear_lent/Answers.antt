@@ -1,7 +1,6 @@
 use Rattle.std.proofs.Common.{◌≡◌, ◌≢◌, ◌∷◌, true, false, sym, ap, subst, ◌∙◌, arith}
 use Rattle.std.proofs.lemmas.Bool.Decides.{nat_tests}
 use Rattle.dsql_history.specs.declared.event.Event.TheVariants.{Heard}
-use Rattle.dsql_history.specs.Readers.Calls.{user}
 use Rattle.dsql_history.specs.Readers.Owed.{fate}
 use Rattle.dsql_history.specs.Readers.Unfinished.{is_unfinished}
 use Rattle.dsql_history.specs.Rules.Line.{is_used}
@@ -9,10 +8,9 @@ use Rattle.dsql_history.specs.Legal.{Lawful}
 use Rattle.dsql_laws.specs.Leaving.{MayLeave}
 use Rattle.dsql_steps.specs.Groups.{gone_on, let_go}
 use Rattle.dsql_desk.specs.Desk.{past, Stands}
-use Rattle.dsql_desk.specs.Statements.{statement_of}
 use Rattle.dsql_hearing.proofs.Lent.{can_give_back, goes_unless_zero, heard_there, left_there, rests_at_zero}
 use Rattle.dsql_hearing.proofs.Letting.{may_leave}
-use Rattle.dsql_hearing.proofs.Steps.{fate_there, may_append, nobody_goes, settled_nobody, statement_on, unfinished_on}
+use Rattle.dsql_hearing.proofs.Steps.{fate_there, may_append, nobody_goes, settled_nobody, unfinished_on}
 use Rattle.dsql_hearing.proofs.hear.hear_lent.Goals as goal
 
 pub hear-requires-clause-may : goal.hear-requires-clause-may
@@ -22,7 +20,7 @@ pub hear-requires-clause-settled : goal.hear-requires-clause-settled
 hear-requires-clause-settled c = c.requires.may.settled
 
 pub hear-requires-clause-decides : goal.hear-requires-clause-decides
-hear-requires-clause-decides c = c.requires.may.prepared.decides
+hear-requires-clause-decides c = c.requires.may.decides
 
 pub hear-requires-clause-rows : goal.hear-requires-clause-rows
 hear-requires-clause-rows c = c.requires.may.rows
@@ -92,17 +90,6 @@ go_on-requires-clause-may c =
       parked = c.requires.parked;
       spare = c.requires.spare;
     }
-
-pub go_on-requires-clause-statement : goal.go_on-requires-clause-statement
-go_on-requires-clause-statement c =
-    let H = past c.args.desk.now in
-    let e = c.args.entry in
-    let n = c.args.query in
-    let h = heard_there c.args.desk.now c.hear.new.self e c.args.ready n c.requires.pays c.requires.few c.requires.may c.requires.lent c.hear.ensures in
-    let left = left_there c.args.desk.now c.hear.new.self c.let_go.new.desk e n h c.let_go.ensures in
-    let some : e.call_no ≢ 0 = λ is. grind (arith, nat_tests, c.if-call-eq0.false, is) in
-    c.requires.may.prepared.statement
-    ∙ (sym (statement_on H e n h.before c.requires.may.allowed h.at some) ∙ ap (λ P. statement_of P (user P e.call_no)) (sym left.came))
 
 pub returns-else-call-eq0-clause-reaches : goal.returns-else-call-eq0-clause-reaches
 returns-else-call-eq0-clause-reaches c =

@@ -7,8 +7,8 @@ use Rattle.dsql_engine.specs.Chores.{IsChore}
 use Rattle.dsql_engine.specs.Core.{Core}
 use Rattle.dsql_engine.proofs.engine.Engine.chore.Goals as goal
 
-pub chore_permit-requires-clause-due : goal.chore_permit-requires-clause-due
-chore_permit-requires-clause-due c = chore_given (past c.self.inside.desk) c.in-Some.conn (sym c.chore_due.ensures ∙ c.in-Some.is)
+pub chore_leave-leave-requires-clause-due : goal.chore_leave-leave-requires-clause-due
+chore_leave-leave-requires-clause-due c = chore_given (past c.self.inside.desk) c.in-Some.conn (sym c.chore_due.ensures ∙ c.in-Some.is)
 
 pub returns-in_default-clause-next : goal.returns-in_default-clause-next
 returns-in_default-clause-next c =
@@ -22,5 +22,5 @@ returns-clause-next c =
     let H = past c.self.inside.desk in
     let due : chore_due H ≡ Some c.in-Some.conn = sym c.chore_due.ensures ∙ c.in-Some.is in
     let now : Core = record { past = H; trimmed = trimmed c.self.inside.desk; flights = c.self.inside.flights.flights; chore = Some c.in-Some.conn } in
-    subst (λ (v : Core). IsChore v.past (Send c.in_ok-permit.permit) now) c.self.view_is
-    (record { next_is = chore_sent H c.in-Some.conn c.in_ok-permit.permit due c.in_ok-permit.ensures; chore = sym due })
+    subst (λ (v : Core). IsChore v.past (Send c.chore_leave-leave.result) now) c.self.view_is
+    (record { next_is = chore_sent H c.in-Some.conn c.chore_leave-leave.result due c.chore_leave-leave.ensures; chore = sym due })

@@ -18,9 +18,6 @@ use Rattle.dsql_engine.proofs.engine.Engine.enter.Goals as goal
 pub returns-in_err-start-clause-legal : goal.returns-in_err-start-clause-legal
 returns-in_err-start-clause-legal c = subst (λ (v : Core). Legal v.past) c.self.view_is (legal_of c.self.inside.desk c.self.invariant.0 c.self.invariant.1 c.self.invariant.2)
 
-pub returns-in_err-statement-clause-legal : goal.returns-in_err-statement-clause-legal
-returns-in_err-statement-clause-legal c = subst (λ (v : Core). Legal v.past) c.self.view_is (legal_of c.self.inside.desk c.self.invariant.0 c.self.invariant.1 c.self.invariant.2)
-
 pub returns-in_err-pay-clause-legal : goal.returns-in_err-pay-clause-legal
 returns-in_err-pay-clause-legal c = legal_kept c.self.inside.desk c.pay.new.desk c.pay.ensures.stands c.pay.ensures.past c.self.invariant.1 c.self.invariant.2
 

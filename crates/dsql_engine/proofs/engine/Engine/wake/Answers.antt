@@ -10,7 +10,6 @@ use Rattle.dsql_desk.proofs.KeptOfCalls.{lawful_kept}
 use Rattle.dsql_going.specs.Stepping.{are_of_unfinished}
 use Rattle.dsql_steps.specs.Groups.{gone_on, most_events}
 use Rattle.dsql_engine.specs.Core.{Core}
-use Rattle.dsql_history.specs.Legal.{Legal}
 use Rattle.dsql_history.specs.declared.record.Flight.{Flight}
 use Rattle.dsql_going.specs.Reaching.{HasGoneOn}
 use Rattle.dsql_engine.proofs.Legality.{legal_kept, legal_of}
@@ -61,9 +60,6 @@ invariant_of-self-2 c =
       gone_flies (past c.go_on.new.desk) n before c.go_on.new.flights.flights c.go_on.result c.go_on.ensures.goes (subst (λ K. are_of_unfinished K before ≡ true) (sym r.group) others),
       room_after_gone H (past c.go_on.new.desk) n r.group short,
     )
-
-pub returns-in_err-statement-clause-legal : goal.returns-in_err-statement-clause-legal
-returns-in_err-statement-clause-legal c = subst (λ (v : Core). Legal v.past) c.self.view_is (legal_of c.self.inside.desk c.self.invariant.0 c.self.invariant.1 c.self.invariant.2)
 
 pub returns-in_err-pay-clause-legal : goal.returns-in_err-pay-clause-legal
 returns-in_err-pay-clause-legal c = legal_kept c.self.inside.desk c.pay.new.desk c.pay.ensures.stands c.pay.ensures.past c.self.invariant.1 c.self.invariant.2

@@ -11,12 +11,12 @@ enter_kept-requires g c =
     record { ready = c.requires.ready; room = c.requires.room; free = free; kept = kept_to_go c.args.self.now c.args.client c.requires.first free }
 
 pub make_call-requires : goal.make_call-requires
-make_call-requires g c = record { ready = c.requires.ready; room = c.requires.room; leave = sym c.has_permit.ensures ∙ c.if-has_permit.true; wires = c.requires.wires }
+make_call-requires g c = record { ready = c.requires.ready; room = c.requires.room; leave = sym c.has_leave.ensures ∙ c.if-has_leave.true; wires = c.requires.wires }
 
 pub go_on_parked-requires : goal.go_on_parked-requires
 go_on_parked-requires g c =
     let old = c.args.self.now in
-    let leave : is_some (seat old.seats c.args.client).permit ≡ false = sym c.has_permit.ensures ∙ c.if-has_permit.false in
+    let leave : is_some (seat old.seats c.args.client).permit ≡ false = sym c.has_leave.ensures ∙ c.if-has_leave.false in
     record {
       ready = c.requires.ready;
       room = c.requires.room;
@@ -42,8 +42,8 @@ returns-then-not-has_call g c =
       trimmed = done.trimmed;
     }
 
-pub returns-then-has_permit : goal.returns-then-has_permit
-returns-then-has_permit g c =
+pub returns-then-has_leave : goal.returns-then-has_leave
+returns-then-has_leave g c =
     let old = c.args.self.now in
     let new = c.make_call.new.self in
     let made = c.make_call.ensures in
@@ -57,5 +57,5 @@ returns-then-has_permit g c =
       trimmed = made.trimmed;
     }
 
-pub returns-else-has_permit : goal.returns-else-has_permit
-returns-else-has_permit g c = c.go_on_parked.ensures
+pub returns-else-has_leave : goal.returns-else-has_leave
+returns-else-has_leave g c = c.go_on_parked.ensures

@@ -1,8 +1,11 @@
-use Rattle.std.proofs.Common.{◌≡◌, ◌<◌, ◌==◌, ◌∙◌, cond, List, length, Option, None, ap, sym, subst, arith}
+use Rattle.std.proofs.Common.{◌≡◌, ◌<◌, ◌==◌, ◌∙◌, cond, List, length, Option, Some, None, ap, sym, subst, arith}
 use Rattle.std.proofs.lemmas.Result.{err_from_is_err_and}
 use Rattle.dsql_journal.specs.declared.entry.Permit.{Permit}
 use Rattle.dsql_history.specs.declared.event.Event.{Event}
 use Rattle.dsql_history.specs.Rules.Flights.{without_flight}
+use Rattle.dsql_history.specs.Rules.Line.{asked_by}
+use Rattle.dsql_journal.specs.Kinds.{number_of}
+use Rattle.dsql_exchanged.specs.Filled.{Carries}
 use Rattle.dsql_history.specs.Legal.{Legal}
 use Rattle.dsql_engine.specs.Core.{Core}
 use Rattle.dsql_going.specs.Stepping.{GoesOnOrRests}
@@ -17,19 +20,40 @@ use Rattle.dsql_playing.proofs.player.Player.make_call.Goals as goal
 pub unreachable-requires : goal.unreachable-requires
 unreachable-requires g c =
     let seen = ap (λ (p : Playing). (seat p.seats c.args.client).permit) c.self.view_is in
-    had_none (seat c.args.self.now.seats c.args.client).permit (sym seen ∙ (sym c.take_permit.ensures.permit ∙ c.in_default.is)) c.requires.leave
+    had_none (seat c.args.self.now.seats c.args.client).permit (sym seen ∙ (sym c.take_leave.ensures.permit ∙ c.in_default.is)) c.requires.leave
+
+pub permit-requires : goal.permit-requires
+permit-requires g c =
+    let old = c.args.self.now in
+    let leave = c.in-Some.leave in
+    let seen = ap (λ (p : Playing). (seat p.seats c.args.client).permit) c.self.view_is in
+    let has : HasLeave old c.args.client leave = leave_at old c.args.client leave c.requires.ready (sym seen ∙ (sym c.take_leave.ensures.permit ∙ c.in-Some.is)) in
+    subst (λ (p : Playing). Carries (asked_by p.past (number_of leave.owner)) leave.call) (sym c.self.view_is) has.leave.carries
+
+pub returns-in_err-permit : goal.returns-in_err-permit
+returns-in_err-permit g c =
+    let past = ap (λ (p : Playing). p.past) c.self.view_is in
+    let p = err_from_is_err_and c.from_residual.result c.from_residual.ensures.1 in
+    record {
+      hears = rw p.1 tt;
+      grows = rw p.1 tt;
+      course = rw p.1 tt;
+      run = record { ready = rw p.1 tt; wires = rw p.1 tt; plans = rw p.1 tt; told = rw p.1 tt; legal = subst (λ (H : List Event). Legal H) (sym past) c.requires.ready.legal };
+      fails = record { same = rw p.1 past; memory = rw p.1 p.2 };
+      trimmed = ap (λ (q : Playing). q.trimmed) c.self.view_is;
+    }
 
 pub perform-requires : goal.perform-requires
 perform-requires g c =
     let old = c.args.self.now in
     let seen = ap (λ (p : Playing). (seat p.seats c.args.client).permit) c.self.view_is in
-    let has : HasLeave old c.args.client c.in-Some.permit = leave_at old c.args.client c.in-Some.permit c.requires.ready (sym seen ∙ (sym c.take_permit.ensures.permit ∙ c.in-Some.is)) in
-    wire_takes g.W.Wire.told old c.args.client c.in-Some.permit c.args.wires.now c.requires.ready.legal.lawful has c.requires.wires
+    let has : HasLeave old c.args.client c.in_ok-permit.permit = leave_at old c.args.client c.in_ok-permit.permit c.requires.ready (sym seen ∙ (sym c.take_leave.ensures.permit ∙ (c.in-Some.is ∙ ap (λ (l : Permit). Some l) (sym c.in_ok-permit.ensures)))) in
+    wire_takes g.W.Wire.told old c.args.client c.in_ok-permit.permit c.args.wires.now c.requires.ready.legal.lawful has c.requires.wires
 
 pub returns-in_err-heard : goal.returns-in_err-heard
 returns-in_err-heard g c =
     let past = ap (λ (p : Playing). p.past) c.self.view_is in
-    let p = err_from_is_err_and c.from_residual.result c.from_residual.ensures.1 in
+    let p = err_from_is_err_and c.from_residual-in_err-heard.result c.from_residual-in_err-heard.ensures.1 in
     record {
       hears = rw p.1 tt;
       grows = rw p.1 tt;
@@ -43,8 +67,8 @@ pub heard-requires-clause-may : goal.heard-requires-clause-may
 heard-requires-clause-may g c =
     let old = c.args.self.now in
     let seen = ap (λ (p : Playing). (seat p.seats c.args.client).permit) c.self.view_is in
-    let has : HasLeave old c.args.client c.in-Some.permit = leave_at old c.args.client c.in-Some.permit c.requires.ready (sym seen ∙ (sym c.take_permit.ensures.permit ∙ c.in-Some.is)) in
-    answer_heard g.W.Wire.told old c.args.client c.in-Some.permit c.in_ok-heard.heard c.args.wires.now c.self.inside.engine (ap (λ (p : Playing). p.past) c.self.view_is) (ap (λ (p : Playing). p.flights) c.self.view_is)
+    let has : HasLeave old c.args.client c.in_ok-permit.permit = leave_at old c.args.client c.in_ok-permit.permit c.requires.ready (sym seen ∙ (sym c.take_leave.ensures.permit ∙ (c.in-Some.is ∙ ap (λ (l : Permit). Some l) (sym c.in_ok-permit.ensures)))) in
+    answer_heard g.W.Wire.told old c.args.client c.in_ok-permit.permit c.in_ok-heard.heard c.args.wires.now c.self.inside.engine (ap (λ (p : Playing). p.past) c.self.view_is) (ap (λ (p : Playing). p.flights) c.self.view_is)
     c.requires.ready.legal.lawful has c.requires.wires c.in_ok-heard.ensures.entry c.in_ok-heard.ensures.fits
 
 pub heard-requires-clause-room : goal.heard-requires-clause-room
@@ -67,26 +91,26 @@ pub hand-requires : goal.hand-requires
 hand-requires g c =
     let old = c.args.self.now in
     let seen = ap (λ (p : Playing). (seat p.seats c.args.client).permit) c.self.view_is in
-    let has : HasLeave old c.args.client c.in-Some.permit = leave_at old c.args.client c.in-Some.permit c.requires.ready (sym seen ∙ (sym c.take_permit.ensures.permit ∙ c.in-Some.is)) in
+    let has : HasLeave old c.args.client c.in_ok-permit.permit = leave_at old c.args.client c.in_ok-permit.permit c.requires.ready (sym seen ∙ (sym c.take_leave.ensures.permit ∙ (c.in-Some.is ∙ ap (λ (l : Permit). Some l) (sym c.in_ok-permit.ensures)))) in
     let seated : c.args.client < length old.seats = has.room in
-    let same : length c.take_permit.new.self ≡ length old.seats = c.take_permit.ensures.count ∙ ap (λ (p : Playing). length p.seats) c.self.view_is in
+    let same : length c.take_leave.new.self ≡ length old.seats = c.take_leave.ensures.count ∙ ap (λ (p : Playing). length p.seats) c.self.view_is in
     omega (arith, same, seated)
 
 pub returns : goal.returns
 returns g c =
     let old = c.args.self.now in
     let me = c.args.client in
-    let permit = c.in-Some.permit in
+    let permit = c.in_ok-permit.permit in
     let e = c.in_ok-heard.heard in
     let next = c.in_ok-next.next in
     let new : Playing = record { past = c.heard.new.self.past; trimmed = c.heard.new.self.trimmed; flights = c.heard.new.self.flights; chore = c.heard.new.self.chore; seats = c.hand.new.self; released = c.self.inside.released } in
     let seen = ap (λ (p : Playing). (seat p.seats me).permit) c.self.view_is in
-    let has : HasLeave old me permit = leave_at old me permit c.requires.ready (sym seen ∙ (sym c.take_permit.ensures.permit ∙ c.in-Some.is)) in
-    let taken : Given me None c.self.inside.seats c.take_permit.new.self = record { here = c.take_permit.ensures.after; others = c.take_permit.ensures.others; many = c.take_permit.ensures.count } in
-    let handed : Given me c.leave_of.result c.take_permit.new.self c.hand.new.self = record { here = c.hand.ensures.permit; others = c.hand.ensures.others; many = c.hand.ensures.count } in
+    let has : HasLeave old me permit = leave_at old me permit c.requires.ready (sym seen ∙ (sym c.take_leave.ensures.permit ∙ (c.in-Some.is ∙ ap (λ (l : Permit). Some l) (sym c.in_ok-permit.ensures)))) in
+    let taken : Given me None c.self.inside.seats c.take_leave.new.self = record { here = c.take_leave.ensures.after; others = c.take_leave.ensures.others; many = c.take_leave.ensures.count } in
+    let handed : Given me c.leave_of.result c.take_leave.new.self c.hand.new.self = record { here = c.hand.ensures.permit; others = c.hand.ensures.others; many = c.hand.ensures.count } in
     let given : Given me (leave_of next) old.seats c.hand.new.self =
-    given_again me None (leave_of next) old.seats c.take_permit.new.self c.hand.new.self (subst (λ (p : Playing). Given me None p.seats c.take_permit.new.self) c.self.view_is taken)
-    (subst (λ (o : Option Permit). Given me o c.take_permit.new.self c.hand.new.self) c.leave_of.ensures handed) in
+    given_again me None (leave_of next) old.seats c.take_leave.new.self c.hand.new.self (subst (λ (p : Playing). Given me None p.seats c.take_leave.new.self) c.self.view_is taken)
+    (subst (λ (o : Option Permit). Given me o c.take_leave.new.self c.hand.new.self) c.leave_of.ensures handed) in
     let a : Asks g.W.Wire.told permit e next me old new c.args.wires.now c.perform.new.self =
     record {
       ready = c.requires.ready;

@@ -1,0 +1,20 @@
+//! Driver calls for which there is leave.
+ghost use Rattle.std.specs.Prelude.{◌≡◌, IfOk};
+ghost use Rattle.dsql_exchanged.specs.Filled.{Carries};
+ghost use Rattle.dsql_history.specs.Rules.Line.{asked_by};
+ghost use Rattle.dsql_journal.specs.Kinds.{number_of};
+
+use crate::engine::Engine;
+use dsql_desk::{Leave, NoRoom};
+use dsql_journal::Permit;
+
+#[tactic(auto)]
+impl Engine {
+    /// The permit for which this is leave, once its driver call is to be made: what that sends of its statement is copied now.
+    pub fn permit(&self, leave: &Leave) -> Result<Permit, NoRoom>
+        requires { Carries (asked_by self.now.past (number_of leave.now.owner)) leave.now.call }
+        ensures { IfOk result (λ permit. permit ≡ leave.now) }
+    {
+        Ok(self.desk.permit(self.alloc, leave)?)
+    }
+}
