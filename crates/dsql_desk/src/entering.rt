@@ -13,7 +13,7 @@ ghost use Rattle.dsql_rows.specs.OpenRows.{rows_of, scan_of, was_made};
 
 use crate::desk::Desk;
 use dsql_calls::{CallStart, NoRoom};
-use dsql_history::{Op, Reply, Work};
+use dsql_history::{Label, Op, Reply, Work};
 use dsql_rows::RowsFault;
 use dsql_scan::Dest;
 use dsql_telling::starting::{accept, fault_reply, over_rows, over_text, scan_fault};
@@ -31,7 +31,7 @@ impl Desk {
         match op {
             Op::Exec { text, args } => self.entering_text(alloc, text, args, Work::Execute, None),
             Op::Query { label, text, args } => {
-                let work = Work::HandOut(label.copy()?);
+                let work = Work::HandOut(Label::of(label));
                 let label = Some(String::from_str(alloc, label.as_str())?);
                 self.entering_text(alloc, text, args, work, label)
             }

@@ -7,7 +7,7 @@ mod record;
 mod reply;
 
 pub use dsql_pool::{CloseCause, Move, Place, Stats};
-pub use dsql_work::{Aim, FaultWord, Work};
+pub use dsql_work::{Aim, FaultWord, Label, Work};
 pub use event::{Control, Event, Op, Setting};
 pub use record::{CallRecord, Flight, Stand, Try};
 pub use reply::{DbEnd, Reply};

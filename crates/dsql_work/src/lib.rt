@@ -2,7 +2,9 @@
 #![tactic(auto)]
 
 mod fault_word;
+mod label;
 mod work;
 
 pub use fault_word::FaultWord;
+pub use label::Label;
 pub use work::{Aim, Work};

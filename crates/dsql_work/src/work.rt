@@ -1,5 +1,5 @@
+use crate::label::Label;
 use dsql_scan::Dests;
-use dsql_value::Txt;
 
 /// What a call does with its text.
 #[derive(Clone, Copy, Debug, PartialEq, Eq)]
@@ -15,14 +15,14 @@ pub enum Aim {
 }
 
 /// What a call has to do.
-#[derive(Debug, Drop)]
+#[derive(Drop)]
 pub enum Work {
     /// It executes a text on a connection of its own.
     Execute,
     /// It queries a text on a connection of its own, and reads one row into these destinations.
     ReadOne(Dests),
     /// It queries a text on a connection of its own, and hands out the rows under this label.
-    HandOut(Txt),
+    HandOut(Label),
     /// It pings a connection of its own, where the driver can do that.
     Ping,
     /// It fetches a row of those that this call handed out; 0 if none has the label.
