@@ -1,5 +1,5 @@
 -- What is sent on the connection that is lent to a call, and for whose rows.
-use Rattle.std.proofs.Common.{◌≡◌, ℕ, ◌==◌, Bool, true, false, ◌||◌, not, cond, List, length, refl, sym, ap, ◌∙◌, Option, None, Some, is_some}
+use Rattle.std.proofs.Common.{◌≡◌, ℕ, ◌==◌, Bool, true, false, ◌||◌, not, cond, List, refl, sym, ap, ◌∙◌, Option, None, Some, is_some}
 use Rattle.std.specs.Option.{option_map}
 use Rattle.dsql_course.specs.declared.course.Wish.{Wish}
 use Rattle.dsql_course.specs.declared.course.Wish.TheVariants as wishes
@@ -11,7 +11,6 @@ use Rattle.dsql_pool.specs.declared.conn.Place.TheVariants.{Idle, Lent, Opening,
 use Rattle.dsql_work.specs.declared.work.Work.{Work}
 use Rattle.dsql_work.specs.declared.work.Work.TheVariants.{Execute, ReadOne, HandOut, Ping, Fetch, Close, Look}
 use Rattle.dsql_work.specs.Works.{asks, user_of}
-use Rattle.dsql_work.specs.declared.work.Aim.{Aim}
 use Rattle.dsql_work.specs.Line.{Asked, line_after}
 use Rattle.dsql_history.specs.declared.event.Event.{Event}
 use Rattle.dsql_history.specs.Readers.Course.{caps}
@@ -25,11 +24,11 @@ use Rattle.dsql_exchanged.specs.declared.bare.BareCall.{BareCall}
 use Rattle.dsql_exchanged.specs.Filled.{filled}
 use Rattle.dsql_exchanged.specs.declared.course.Line.{Line}
 use Rattle.dsql_exchanged.specs.declared.exchanged.Exchanged.{Exchanged}
-use Rattle.dsql_exchanged.specs.Lines.{bare_told, line_told}
+use Rattle.dsql_exchanged.specs.Lines.{line_told}
 use Rattle.dsql_calls.specs.Calls.{rows_worked}
 use Rattle.dsql_history.specs.Legal.{Lawful}
 use Rattle.dsql_desk.proofs.HeardThere.{kept_lent}
-use Rattle.dsql_exchanged.proofs.Sent.{told_as_heard, told_filled}
+use Rattle.dsql_exchanged.proofs.Sent.{told_as_heard}
 
 lent_here : (H : List Event) (n : ℕ) (wish : Wish) (c : ℕ) (p : Option Place) → IsKept H → place H c ≡ p → line_at H n wish c p ≡ line_on H n wish (lent_at n c p)
 lent_here H n wish c None kept is = refl
@@ -83,12 +82,7 @@ used_by_rows H n (Some rows) = by_end (is_live rows)
     by_end false = refl
 
 -- what is sent on a connection, told from what the line there goes by
-pub next_there : (H : List Event) (c n : ℕ) (wish : Wish) (line : Line) (aim : Aim) (count : ℕ) (heard : Exchanged) (sent : Option BareCall)
-    → line ≡ record { caps = caps H; reset_due = is_reset_due H c; wish = wish } → aim ≡ (asked_by H n).aim → count ≡ length (asked_by H n).params → heard ≡ made H c
-    → sent ≡ bare_told line.caps line.reset_due aim count line.wish heard → option_map (filled (asked_by H n)) sent ≡ line_on H n wish (Some c)
-next_there H c n wish line aim count heard sent by_line by_aim by_count by_heard is =
-    let asked = asked_by H n in
-    let as_line : Line = record { caps = caps H; reset_due = is_reset_due H c; wish = wish } in
-    let told : Line → Aim → ℕ → Exchanged → Option BareCall = λ l a k it. bare_told l.caps l.reset_due a k l.wish it in
-    ap (option_map (filled asked)) (is ∙ (ap (λ l. told l aim count heard) by_line ∙ (ap (λ a. told as_line a count heard) by_aim ∙ (ap (λ k. told as_line asked.aim k heard) by_count ∙ ap (told as_line asked.aim (length asked.params)) by_heard))))
-    ∙ told_filled (caps H) (is_reset_due H c) asked wish (made H c)
+pub next_there : (H : List Event) (c n : ℕ) (wish : Wish) (line : Line) (heard : Exchanged) (sent : Option BareCall) → line ≡ record { caps = caps H; reset_due = is_reset_due H c; wish = wish } → heard ≡ made H c
+    → option_map (filled (asked_by H n)) sent ≡ line_told line.caps line.reset_due (asked_by H n) line.wish heard → option_map (filled (asked_by H n)) sent ≡ line_on H n wish (Some c)
+next_there H c n wish line heard sent by_line by_heard is =
+    is ∙ (ap (λ l. line_told l.caps l.reset_due (asked_by H n) l.wish heard) by_line ∙ ap (λ it. line_told (caps H) (is_reset_due H c) (asked_by H n) wish it) by_heard)

@@ -10,6 +10,8 @@ use Rattle.dsql_course.specs.Made.{Exchange}
 use Rattle.dsql_journal.specs.declared.entry.Entry.{Entry}
 use Rattle.dsql_work.specs.Exchanges.{exchanges, step_of, with_exchange}
 use Rattle.dsql_work.specs.Line.{Asked, handed, test_of, sent_as, sent_over, body_with, body_after, line_after}
+use Rattle.dsql_work.specs.declared.work.Aim.{Aim}
+use Rattle.dsql_exchanged.specs.declared.bare.BareCall.{BareCall}
 use Rattle.dsql_exchanged.specs.declared.bare.BareCall.TheVariants as bare
 use Rattle.dsql_exchanged.specs.declared.exchanged.Exchanged.{Exchanged}
 use Rattle.dsql_exchanged.specs.declared.exchanged.Stage.{Stage}
@@ -72,6 +74,12 @@ line_filled can reset_due asked wish made Going = body_filled can asked wish mad
 line_filled can reset_due asked wish made Over = refl
 
 -- what is sent next, filled with what is asked
-pub told_filled : (can : Caps) (reset_due : Bool) (asked : Asked) (wish : Wish) (it : Exchanged)
+told_filled : (can : Caps) (reset_due : Bool) (asked : Asked) (wish : Wish) (it : Exchanged)
     → option_map (filled asked) (bare_told can reset_due asked.aim (length asked.params) wish it) ≡ line_told can reset_due asked wish it
 told_filled can reset_due asked wish it = line_filled can reset_due asked wish it.made it.stage
+
+pub told_so : (can : Caps) (reset_due : Bool) (aim : Aim) (count : ℕ) (wish : Wish) (it : Exchanged) (sent : Option BareCall) → sent ≡ bare_told can reset_due aim count wish it
+    → (asked : Asked) → asked.aim ≡ aim → length asked.params ≡ count → option_map (filled asked) sent ≡ line_told can reset_due asked wish it
+told_so can reset_due aim count wish it sent is asked by_aim by_count =
+    let told : Aim → ℕ → Option BareCall = λ a k. bare_told can reset_due a k wish it in
+    ap (option_map (filled asked)) (is ∙ (ap (λ a. told a count) (sym by_aim) ∙ ap (told asked.aim) (sym by_count))) ∙ told_filled can reset_due asked wish it

@@ -1,7 +1,8 @@
 //! The driver calls of a call's course.
-ghost use Rattle.std.specs.Prelude.{◌≡◌, Option};
-ghost use Rattle.dsql_exchanged.specs.Lines.{bare_of, bare_told, step_after};
-ghost use Rattle.dsql_work.specs.Line.{course_of, handed};
+ghost use Rattle.std.specs.Prelude.{◌≡◌, length, option_map};
+ghost use Rattle.dsql_exchanged.specs.Filled.{filled};
+ghost use Rattle.dsql_exchanged.specs.Lines.{bare_of, bare_told, line_told, step_after};
+ghost use Rattle.dsql_work.specs.Line.{Asked, course_of, handed};
 
 use crate::bare::BareCall;
 use crate::exchanged::{Exchanged, Stage};
@@ -19,8 +20,14 @@ pub struct Line {
 }
 
 impl Line {
-    /// What is sent next for a statement with this aim and so many parameters, where this was heard.
+    /// What is sent next, where this was heard, for each statement with this aim and so many parameters.
     pub fn next(self, aim: Aim, count: usize, heard: &Exchanged) -> Option<BareCall>
+        ensures { (asked : Asked) → asked.aim ≡ aim → length asked.params ≡ count → option_map (filled asked) result ≡ line_told self.caps self.reset_due asked self.wish heard.now }
+    {
+        self.bare_next(aim, count, heard)
+    }
+
+    fn bare_next(self, aim: Aim, count: usize, heard: &Exchanged) -> Option<BareCall>
         ensures { result ≡ bare_told self.caps self.reset_due aim count self.wish heard.now }
     {
         match heard.stage {
