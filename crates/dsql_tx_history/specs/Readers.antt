@@ -1,0 +1,13 @@
+pub mod Course
+pub mod Unfinished
+pub mod Works
+pub mod Journals
+pub mod Tries
+pub mod Pool
+pub mod Owed
+pub mod Transactions
+pub mod HandedOut
+pub mod Lines
+pub mod Decisions
+pub mod Calls
+pub mod Clients

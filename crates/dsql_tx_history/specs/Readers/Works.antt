@@ -1,0 +1,125 @@
+-- What each call has to do, where, and which call's connection it uses.
+use Rattle.std.specs.Prelude.{ℕ, ◌==◌, Bool, true, false, List, [], ◌∷◌, ◌++◌, position, slice_index_or, bytes_eq}
+use Rattle.dsql_journal.specs.declared.entry.Owner.{Owner}
+use Rattle.dsql_journal.specs.declared.entry.Owner.TheVariants as owners
+use Rattle.dsql_work.specs.declared.work.Aim.{Aim}
+use Rattle.dsql_work.specs.declared.work.Aim.TheVariants as aims
+use Rattle.dsql_work.specs.Works.{or_zero}
+use Rattle.dsql_tx_history.specs.declared.event.Event.{Event}
+use Rattle.dsql_tx_history.specs.declared.event.Event.TheVariants.{Entered}
+use Rattle.dsql_tx_history.specs.declared.event.Op.{Op}
+use Rattle.dsql_tx_history.specs.declared.event.Op.TheVariants as ops
+use Rattle.dsql_tx_history.specs.declared.event.Target.{Target}
+use Rattle.dsql_tx_history.specs.declared.event.Target.TheVariants as targets
+use Rattle.dsql_tx_history.specs.declared.work.Scope.{Scope}
+use Rattle.dsql_tx_history.specs.declared.work.Scope.TheVariants.{Db, Tx}
+use Rattle.dsql_tx_history.specs.declared.work.Work.{Work}
+use Rattle.dsql_tx_history.specs.declared.work.Work.TheVariants.{Execute, ReadOne, HandOut, Begin, End, Ping, Fetch, Close, Look}
+
+-- it hands out rows under this label
+abbrev pub hands_out_as : List ℕ → Work → Bool
+hands_out_as label (HandOut scope own) = bytes_eq own label
+hands_out_as label _ = false
+
+-- it begins a transaction under this label
+abbrev pub begins_as : List ℕ → Work → Bool
+begins_as label (Begin own level read_only) = bytes_eq own label
+begins_as label _ = false
+
+-- the first call whose rows have the label, 0 where there is none
+abbrev pub rows_maker : List Work → List ℕ → ℕ
+rows_maker works label = or_zero (position (hands_out_as label) works)
+
+-- the first call whose transaction has the label, 0 where there is none
+abbrev pub tx_maker : List Work → List ℕ → ℕ
+tx_maker works label = or_zero (position (begins_as label) works)
+
+abbrev pub scope_of : List Work → Target → Scope
+scope_of works targets.Db = Db
+scope_of works (targets.Label tx) = Tx (tx_maker works tx)
+
+abbrev pub work_of : List Work → Op → Work
+work_of works (ops.Exec target text args) = Execute (scope_of works target)
+work_of works (ops.Query label target text args) = HandOut (scope_of works target) label
+work_of works (ops.One target dests text args) = ReadOne (scope_of works target) dests
+work_of works (ops.Begin label level read_only) = Begin label level read_only
+work_of works (ops.Commit tx) = End (tx_maker works tx)
+work_of works (ops.Rollback tx) = End (tx_maker works tx)
+work_of works ops.Ping = Ping
+work_of works (ops.Next rows) = Fetch (rows_maker works rows)
+work_of works (ops.RowsClose rows) = Close (rows_maker works rows)
+work_of works _ = Look
+
+-- the work of each call, by its number; there is no call 0
+abbrev pub works : List Event → List Work
+works [] = Look ∷ []
+works (Entered client n op ∷ before) = works before ++ work_of (works before) op ∷ []
+works (_ ∷ before) = works before
+
+abbrev pub work : List Event → ℕ → Work
+work before n = slice_index_or (works before) n Look
+
+-- where its statement is carried out; for rows and transactions themselves this says nothing
+abbrev pub scope : Work → Scope
+scope (Execute it) = it
+scope (ReadOne it dests) = it
+scope (HandOut it label) = it
+scope _ = Db
+
+-- it works in transaction k
+abbrev pub is_in : ℕ → Scope → Bool
+is_in k (Tx n) = n == k
+is_in k Db = false
+
+-- it asks for a connection of its own
+abbrev pub asks_in : Scope → Bool
+asks_in Db = true
+asks_in (Tx k) = false
+
+abbrev pub asks : Work → Bool
+asks (Execute it) = asks_in it
+asks (ReadOne it dests) = asks_in it
+asks (HandOut it label) = asks_in it
+asks (Begin label level read_only) = true
+asks Ping = true
+asks _ = false
+
+-- it hands out rows in transaction k
+abbrev pub hands_out_in : ℕ → Work → Bool
+hands_out_in k (HandOut it label) = is_in k it
+hands_out_in k _ = false
+
+-- it fetches a row
+abbrev pub is_fetch : Work → Bool
+is_fetch (Fetch k) = true
+is_fetch _ = false
+
+-- what becomes of its text
+abbrev pub aim_of : Work → Aim
+aim_of (ReadOne it dests) = aims.ReadOne
+aim_of (HandOut it label) = aims.HandOut
+aim_of Ping = aims.Ping
+aim_of _ = aims.Execute
+
+-- the call to which a connection is lent for the statement of call n: itself, or the one that began its transaction
+abbrev pub borrower_in : Scope → ℕ → ℕ
+borrower_in Db n = n
+borrower_in (Tx k) n = k
+
+-- The call to which the connection is lent that call n uses: for rows that of their query, for a transaction the one that began it.
+abbrev pub borrower : List Event → ℕ → ℕ
+borrower before n = borrower_of before (work before n) n
+  where
+    borrower_of : List Event → Work → ℕ → ℕ
+    borrower_of before (Fetch k) n = borrower_in (scope (work before k)) k
+    borrower_of before (Close k) n = borrower_in (scope (work before k)) k
+    borrower_of before (End k) n = k
+    borrower_of before it n = borrower_in (scope it) n
+
+-- the owner of the tenures of call n: a transaction that it begins, or else itself
+abbrev pub owner_as : Work → ℕ → Owner
+owner_as (Begin label level read_only) n = owners.Tx n
+owner_as it n = owners.Call n
+
+abbrev pub owner_of : List Event → ℕ → Owner
+owner_of before n = owner_as (work before n) n

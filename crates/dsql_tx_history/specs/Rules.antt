@@ -1,0 +1,15 @@
+pub mod Course
+pub mod Numbers
+pub mod Moves
+pub mod Limit
+pub mod Asking
+pub mod Order
+pub mod Causes
+pub mod Sent
+pub mod Ending
+pub mod Line
+pub mod Journals
+pub mod Stands
+pub mod House
+pub mod Settled
+pub mod Replies

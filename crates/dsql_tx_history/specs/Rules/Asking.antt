@@ -1,0 +1,58 @@
+-- What a call that asks for a connection makes.
+use Rattle.std.specs.Prelude.{ℕ, Bool, true, false, not, ◌&&◌, ◌||◌, List, Result, Ok, Err, is_none}
+use Rattle.dsql_journal.specs.Readers.{is_empty}
+use Rattle.dsql_pool.specs.declared.moves.Move.{Move}
+use Rattle.dsql_pool.specs.declared.moves.Move.TheVariants.{OpenStart, Lend}
+use Rattle.dsql_pool.specs.declared.request.Asked.{Asked}
+use Rattle.dsql_pool.specs.declared.request.Asked.TheVariants.{Queued}
+use Rattle.dsql_pool.specs.declared.request.AskFault.{AskFault}
+use Rattle.dsql_pool.specs.declared.request.AskFault.TheVariants.{TooMany}
+use Rattle.dsql_pool.specs.Decisions as pools
+use Rattle.dsql_pool.specs.Calls.{wants, moves_asked}
+use Rattle.dsql_tx_history.specs.declared.event.Event.{Event}
+use Rattle.dsql_tx_history.specs.declared.event.Event.TheVariants.{Waits, Pool}
+use Rattle.dsql_history.specs.Same.{is_first}
+use Rattle.dsql_history.specs.Readers.Tries.{has_a_try}
+use Rattle.dsql_history.specs.Readers.Pool.{smallest, is_home}
+use Rattle.dsql_tx_history.specs.Readers.Works.{work, asks}
+use Rattle.dsql_tx_history.specs.Readers.Tries.{tries}
+use Rattle.dsql_tx_history.specs.Readers.Pool.{pool, request}
+use Rattle.dsql_tx_history.specs.Readers.Owed.{owed}
+use Rattle.dsql_tx_history.specs.Readers.Calls.{reply_due}
+use Rattle.dsql_tx_history.specs.Readers.HandedOut.{rows_by}
+use Rattle.dsql_tx_history.specs.Readers.Unfinished.{is_unfinished}
+
+-- the call has a try left, and nothing of an earlier one: neither a connection nor rows
+abbrev pub may_try : List Event → ℕ → Bool
+may_try before n = has_a_try (tries before n) && (is_none (smallest (is_home n) (pool before)) && is_none (rows_by before n))
+
+-- the call works on a connection of its own, has a try left and nothing to come of an earlier one, and nothing is settled that it replies
+abbrev pub may_ask : List Event → ℕ → Bool
+may_ask before n =
+    is_unfinished before n && (asks (work before n) && (may_try before n && (not (wants n (pool before)) && is_none (reply_due before n))))
+
+-- what the pool answers it
+abbrev pub ask_outcome : List Event → ℕ → Result Asked AskFault
+ask_outcome before n = pools.ask_outcome (request before n) (pool before)
+
+abbrev pub is_queued : Result Asked AskFault → Bool
+is_queued (Ok Queued) = true
+is_queued _ = false
+
+abbrev pub is_too_many : Result Asked AskFault → Bool
+is_too_many (Err TooMany) = true
+is_too_many _ = false
+
+-- call n asks, and this move comes of it
+abbrev pub is_asked_for : List Event → ℕ → Move → Bool
+is_asked_for before n move = may_ask before n && is_first (moves_asked (request before n) (ask_outcome before n)) move
+
+-- a lending or an opening that the pool doesn't owe comes of a call that asks
+abbrev pub unless_owed : List Event → ℕ → Move → Bool
+unless_owed before n move = not (is_empty (owed before)) || is_asked_for before n move
+
+abbrev pub keeps_asking : List Event → Event → Bool
+keeps_asking before (Pool (OpenStart c n)) = unless_owed before n (OpenStart c n)
+keeps_asking before (Pool (Lend c tenure owner n)) = unless_owed before n (Lend c tenure owner n)
+keeps_asking before (Waits n) = may_ask before n && is_queued (ask_outcome before n)
+keeps_asking before _ = true

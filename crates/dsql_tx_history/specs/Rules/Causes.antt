@@ -1,0 +1,25 @@
+-- What becomes of a connection that is given back, and that all else which moves is owed.
+use Rattle.std.specs.Prelude.{ℕ, Bool, true, not, ◌&&◌, ◌||◌, List}
+use Rattle.dsql_journal.specs.Readers.{is_empty}
+use Rattle.dsql_pool.specs.declared.moves.Move.{Move}
+use Rattle.dsql_pool.specs.declared.moves.Move.TheVariants.{Back, CloseStart, Gone, Fell}
+use Rattle.dsql_pool.specs.Places.{is_lent}
+use Rattle.dsql_tx_history.specs.declared.event.Event.{Event}
+use Rattle.dsql_tx_history.specs.declared.event.Event.TheVariants.{Pool}
+use Rattle.dsql_history.specs.Same.{is_first}
+use Rattle.dsql_tx_history.specs.Readers.Pool.{place}
+use Rattle.dsql_tx_history.specs.Readers.Owed.{given_back, owed}
+
+-- it is lent, and this move comes of its being given back
+abbrev pub is_given_back : List Event → ℕ → Move → Bool
+is_given_back before c move = is_lent (place before c) && is_first (given_back before c) move
+
+abbrev pub is_owed : List Event → Bool
+is_owed before = not (is_empty (owed before))
+
+abbrev pub keeps_causes : List Event → Event → Bool
+keeps_causes before (Pool (Back c)) = is_owed before || is_given_back before c (Back c)
+keeps_causes before (Pool (CloseStart c cause)) = is_owed before || is_given_back before c (CloseStart c cause)
+keeps_causes before (Pool (Gone c)) = is_owed before
+keeps_causes before (Pool (Fell c n)) = is_owed before
+keeps_causes before _ = true
