@@ -1,0 +1,193 @@
+-- The pool of a lawful history, once it has made what it owes, is at rest.
+use Rattle.std.proofs.Common.{◌≡◌, ◌≢◌, ℕ, ◌==◌, Bool, true, false, not, cond, List, [], ◌∷◌, refl, sym, ap, subst, ◌∙◌, Option, Some, None}
+use Rattle.std.specs.Prelude.{drop, Result, Ok, Err}
+use Rattle.dsql_driver.specs.declared.answer.DriverAnswer.{DriverAnswer}
+use Rattle.dsql_driver.specs.Fits.{is_done}
+use Rattle.dsql_journal.specs.declared.entry.Owner.{Owner}
+use Rattle.dsql_journal.specs.Readers.{is_empty}
+use Rattle.dsql_wait.specs.declared.request.Request.{Request}
+use Rattle.dsql_pool.specs.declared.conn.Place.{Place}
+use Rattle.dsql_pool.specs.declared.conn.Place.TheVariants.{Idle, Lent, Opening, Closing}
+use Rattle.dsql_pool.specs.declared.moves.Move.{Move}
+use Rattle.dsql_pool.specs.declared.moves.Move.TheVariants.{OpenStart, Lend, Back, CloseStart, Gone, Fell}
+use Rattle.dsql_pool.specs.declared.request.Asked.{Asked}
+use Rattle.dsql_pool.specs.declared.request.Asked.TheVariants as asked
+use Rattle.dsql_pool.specs.declared.request.AskFault.{AskFault}
+use Rattle.dsql_pool.specs.Places.{is_lent}
+use Rattle.dsql_pool.specs.Pooled.{Pooled, place_at}
+use Rattle.dsql_pool.specs.Moved.{made, moved, begun, joined}
+use Rattle.dsql_pool.specs.Calls.{moves_asked, after_asked, moves_opened, moves_failed}
+use Rattle.dsql_pool.specs.Rest.{AtRest}
+use Rattle.dsql_pool.specs.Runs as call
+use Rattle.dsql_pool.proofs.AfterCalls.{rests_after_each_call}
+use Rattle.dsql_pool.proofs.Resting.{asked_rests}
+use Rattle.dsql_history.specs.declared.event.Control.{Control}
+use Rattle.dsql_history.specs.declared.event.Setting.TheVariants.{MaxOpen, MaxIdle, MaxLife, MaxIdleTime}
+use Rattle.dsql_history.specs.declared.event.Control.TheVariants.{Tick, Set}
+use Rattle.dsql_history.specs.Same.{is_first}
+use Rattle.dsql_history.specs.Readers.Pool.{with_control}
+use Rattle.dsql_history.specs.Readers.Owed.{answered, controlled}
+use Rattle.dsql_tx_history.specs.declared.event.Event.{Event}
+use Rattle.dsql_tx_history.specs.declared.event.Event.TheVariants.{Run, Entered, Heard, Pool, Waits, Ticked, SetLimit, Replied, Ended}
+use Rattle.dsql_tx_history.specs.declared.event.Op.TheVariants.{DbClose}
+use Rattle.dsql_tx_history.specs.Readers.Works.{owner_of}
+use Rattle.dsql_tx_history.specs.Readers.Pool.{pool, place, request, with_move, wanted_by}
+use Rattle.dsql_tx_history.specs.Readers.Owed.{fate, given_back, leaving, left_of, owed}
+use Rattle.dsql_tx_history.specs.Rules.Order.{follows}
+use Rattle.dsql_tx_history.specs.Rules.Asking.{may_ask, ask_outcome, is_asked_for, unless_owed, is_queued, keeps_asking}
+use Rattle.dsql_tx_history.specs.Rules.Causes.{is_owed, is_given_back, keeps_causes}
+use Rattle.dsql_tx_history.specs.Legal.{Allowed, Lawful}
+use Rattle.dsql_laws.proofs.Tests.{both, second, other_number, move_is}
+use Rattle.dsql_laws.proofs.OwedMoves.{is_own, are_own}
+use Rattle.dsql_tx_laws.proofs.Asker.{asker}
+use Rattle.dsql_tx_laws.proofs.OwedMoves.{own_moved, owed_own}
+use Rattle.dsql_tx_laws.proofs.Numbered.{unfinished_from_one}
+
+-- the pool once it has made what it owes
+abbrev pub Rested : List Event → Type 0
+Rested H = AtRest (made (owed H) (pool H))
+
+-- what is known of an event that may come
+pub record Keeps (H : List Event) (e : Event) : Type 0 where
+  pub order : follows (owed H) e ≡ true
+  pub asking : keeps_asking H e ≡ true
+  pub causes : keeps_causes H e ≡ true
+
+pub keeps_of : (H : List Event) (e : Event) → Allowed H e → Keeps H e
+unfolding Allowed
+keeps_of H e a = record { order = a.order; asking = a.asking; causes = a.causes }
+
+rests_when : (p : Pooled) (ms : List Move) → ms ≡ [] → AtRest (made ms p) → AtRest p
+rests_when p ms none h = subst (λ ns. AtRest (made ns p)) none h
+
+abbrev is_move : Event → Bool
+is_move (Pool m) = true
+is_move _ = false
+
+-- what isn't a move comes only where nothing is owed
+nothing_owed : (ms : List Move) (e : Event) → is_move e ≡ false → follows ms e ≡ true → ms ≡ []
+nothing_owed [] e not_move h = refl
+nothing_owed (m ∷ ms) (Pool k) not_move h = absurd cc
+nothing_owed (m ∷ ms) (Run version can) not_move h = absurd cc
+nothing_owed (m ∷ ms) (Entered client n op) not_move h = absurd cc
+nothing_owed (m ∷ ms) (Heard e) not_move h = absurd cc
+nothing_owed (m ∷ ms) (Waits n) not_move h = absurd cc
+nothing_owed (m ∷ ms) (Ticked now) not_move h = absurd cc
+nothing_owed (m ∷ ms) (SetLimit s n) not_move h = absurd cc
+nothing_owed (m ∷ ms) (Replied n reply) not_move h = absurd cc
+nothing_owed (m ∷ ms) Ended not_move h = absurd cc
+
+-- where an event comes that isn't a move, the pool was at rest before it
+pub before_event : (H : List Event) (e : Event) → is_move e ≡ false → Allowed H e → Rested H → AtRest (pool H)
+before_event H e not_move a h = let k = keeps_of H e a in rests_when (pool H) (owed H) (nothing_owed (owed H) e not_move k.order) h
+
+answered_rests : (answer : DriverAnswer) (c : ℕ) (p : Pooled) (at : Option Place) → place_at p c ≡ at → AtRest p → AtRest (made (answered answer c p at) p)
+answered_rests answer c p (Some (Opening wanted)) is h =
+    let opened : AtRest (made (moves_opened c p) p) = rests_after_each_call.after_a_call (call.Opened c) p h (rw is refl) in
+    let failed : AtRest (made (moves_failed c p) p) = rests_after_each_call.after_a_call (call.OpenFailed c) p h (rw is refl) in
+    elim (is_done answer) as (λ b. AtRest (made (cond b (moves_opened c p) (moves_failed c p)) p)) [ true ↦ opened | false ↦ failed ]
+answered_rests answer c p (Some Closing) is h = rests_after_each_call.after_a_call (call.GoneFrom c) p h (rw is refl)
+answered_rests answer c p (Some Idle) is h = h
+answered_rests answer c p (Some (Lent t owner)) is h = h
+answered_rests answer c p None is h = h
+
+control_rests : (control : Control) (p : Pooled) → AtRest p → AtRest (made (controlled control p) (with_control control p))
+control_rests (Tick n) p h = rests_after_each_call.after_a_call (call.Tick n) p h tt
+control_rests (Set MaxOpen n) p h = rests_after_each_call.after_a_call (call.SetOpen n) p h tt
+control_rests (Set MaxIdle n) p h = rests_after_each_call.after_a_call (call.SetIdle n) p h tt
+control_rests (Set MaxLife n) p h = rests_after_each_call.after_a_call (call.SetLifetime n) p h tt
+control_rests (Set MaxIdleTime n) p h = rests_after_each_call.after_a_call (call.SetIdleTime n) p h tt
+
+queued_rests : (r : Request) (p : Pooled) (a : Result Asked AskFault) → is_queued a ≡ true → AtRest (after_asked r a p) → AtRest (joined r p)
+queued_rests r p (Ok asked.Queued) is h = h
+queued_rests r p (Ok (asked.Lent c t)) is h = absurd cc
+queued_rests r p (Ok (asked.Opening c)) is h = absurd cc
+queued_rests r p (Ok asked.Closed) is h = absurd cc
+queued_rests r p (Err why) is h = absurd cc
+
+-- a lending that came of asking is the pool's
+lent_rests : (r : Request) (p : Pooled) (a : Result Asked AskFault) (c t : ℕ) (o : Owner) (n : ℕ) → is_first (moves_asked r a) (Lend c t o n) ≡ true → AtRest (after_asked r a p) → AtRest (moved (Lend c t o n) p)
+lent_rests r p (Ok (asked.Lent d u)) c t o n is h = subst (λ m. AtRest (moved m p)) (move_is (Lend d u r.owner r.call) (Lend c t o n) is) h
+lent_rests r p (Ok asked.Queued) c t o n is h = absurd cc
+lent_rests r p (Ok (asked.Opening d)) c t o n is h = absurd cc
+lent_rests r p (Ok asked.Closed) c t o n is h = absurd cc
+lent_rests r p (Err why) c t o n is h = absurd cc
+
+-- an opening that came of asking is for its request
+opening_rests : (r : Request) (p : Pooled) (a : Result Asked AskFault) (c n : ℕ) → is_first (moves_asked r a) (OpenStart c n) ≡ true → AtRest (after_asked r a p) → AtRest (begun (Some r.owner) p)
+opening_rests r p (Ok (asked.Opening d)) c n is h = h
+opening_rests r p (Ok asked.Queued) c n is h = absurd cc
+opening_rests r p (Ok (asked.Lent d u)) c n is h = absurd cc
+opening_rests r p (Ok asked.Closed) c n is h = absurd cc
+opening_rests r p (Err why) c n is h = absurd cc
+
+wanted_is : (H : List Event) (n : ℕ) → n ≢ 0 → wanted_by H n ≡ Some (owner_of H n)
+wanted_is H n some = let other : (n == 0) ≡ false = other_number n 0 some in rw other refl
+
+-- what was made first, and then the rest
+first_made : (ms : List Move) (m : Move) (p : Pooled) → is_first ms m ≡ true → made (drop 1 ms) (moved m p) ≡ made ms p
+first_made [] m p is = absurd cc
+first_made (k ∷ ms) m p is = ap (λ j. made ms (moved j p)) (sym (move_is k m is))
+
+leaves_rests : (H : List Event) (c : ℕ) (m : Move) → is_given_back H c m ≡ true → AtRest (pool H) → AtRest (made (drop 1 (given_back H c)) (moved m (pool H)))
+leaves_rests H c m is h =
+    let a = both (is_lent (place H c)) (is_first (given_back H c) m) is in
+    let rest : AtRest (made (given_back H c) (pool H)) = rests_after_each_call.after_a_call (call.GiveBack (fate H c) c) (pool H) h a.0 in
+    subst AtRest (sym (first_made (given_back H c) m (pool H) a.1)) rest
+
+-- asking and what is given back, where nothing is owed
+pub asks_now : (H : List Event) (n : ℕ) (m : Move) → owed H ≡ [] → unless_owed H n m ≡ true → is_asked_for H n m ≡ true
+asks_now H n m none h = second (not (is_empty (owed H))) (is_asked_for H n m) (ap (λ ms. not (is_empty ms)) none) h
+
+pub owes : (H : List Event) → owed H ≡ [] → is_owed H ≡ false
+owes H none = ap (λ ms. not (is_empty ms)) none
+
+-- a move that isn't owed leaves the pool at rest but for what it owes then
+unowed_rests : (H : List Event) (m : Move) → Lawful H → Keeps H (Pool m) → owed H ≡ [] → AtRest (pool H) → AtRest (made (drop 1 (leaving H m)) (with_move H m (pool H)))
+unowed_rests H (OpenStart c n) l k none h =
+    let is = asks_now H n (OpenStart c n) none k.asking in
+    let a = both (may_ask H n) (is_first (moves_asked (request H n) (ask_outcome H n)) (OpenStart c n)) is in
+    let some : n ≢ 0 = unfinished_from_one H n l (asker H n a.0).unfinished in
+    let begins : AtRest (begun (Some (owner_of H n)) (pool H)) = opening_rests (request H n) (pool H) (ask_outcome H n) c n a.1 (asked_rests (request H n) (pool H) h) in
+    subst (λ w. AtRest (begun w (pool H))) (sym (wanted_is H n some)) begins
+unowed_rests H (Lend c t o n) l k none h =
+    let is = asks_now H n (Lend c t o n) none k.asking in
+    let a = both (may_ask H n) (is_first (moves_asked (request H n) (ask_outcome H n)) (Lend c t o n)) is in
+    lent_rests (request H n) (pool H) (ask_outcome H n) c t o n a.1 (asked_rests (request H n) (pool H) h)
+unowed_rests H (Back c) l k none h = leaves_rests H c (Back c) (second (is_owed H) (is_given_back H c (Back c)) (owes H none) k.causes) h
+unowed_rests H (CloseStart c why) l k none h = leaves_rests H c (CloseStart c why) (second (is_owed H) (is_given_back H c (CloseStart c why)) (owes H none) k.causes) h
+unowed_rests H (Gone c) l k none h = let clash : true ≡ false = sym k.causes ∙ owes H none in absurd cc
+unowed_rests H (Fell c n) l k none h = let clash : true ≡ false = sym k.causes ∙ owes H none in absurd cc
+
+move_rests : (H : List Event) (m : Move) (ms : List Move) → Lawful H → Keeps H (Pool m) → owed H ≡ ms → are_own ms ≡ true → AtRest (made ms (pool H)) → AtRest (made (left_of H m ms) (with_move H m (pool H)))
+move_rests H m [] l k is own h = unowed_rests H m l k is h
+move_rests H m (due ∷ later) l k is own h =
+    let made_it : follows (due ∷ later) (Pool m) ≡ true = subst (λ ns. follows ns (Pool m) ≡ true) is k.order in
+    let same : due ≡ m = move_is due m made_it in
+    let a = both (is_own due) (are_own later) own in
+    let begun_so : with_move H due (pool H) ≡ moved due (pool H) = own_moved H due (pool H) a.0 in
+    subst (λ j. AtRest (made later (with_move H j (pool H)))) same (subst (λ q. AtRest (made later q)) (sym begun_so) h)
+
+pub rested : (H : List Event) → Lawful H → Rested H
+rested [] l = rests_after_each_call.at_first
+rested (Run version can ∷ H) l = before_event H (Run version can) refl l.1 (rested H l.0)
+rested (Entered client n DbClose ∷ H) l = rests_after_each_call.after_a_call call.Close (pool H) (before_event H (Entered client n DbClose) refl l.1 (rested H l.0)) tt
+rested (Entered client n op ∷ H) l = before_event H (Entered client n op) refl l.1 (rested H l.0)
+rested (Heard e ∷ H) l = answered_rests e.answer e.conn (pool H) (place H e.conn) refl (before_event H (Heard e) refl l.1 (rested H l.0))
+rested (Pool m ∷ H) l = move_rests H m (owed H) l.0 (keeps_of H (Pool m) l.1) refl (owed_own H) (rested H l.0)
+rested (Waits n ∷ H) l =
+    let k = keeps_of H (Waits n) l.1 in
+    let a = both (may_ask H n) (is_queued (ask_outcome H n)) k.asking in
+    queued_rests (request H n) (pool H) (ask_outcome H n) a.1 (asked_rests (request H n) (pool H) (before_event H (Waits n) refl l.1 (rested H l.0)))
+rested (Ticked now ∷ H) l = control_rests (Tick now) (pool H) (before_event H (Ticked now) refl l.1 (rested H l.0))
+rested (SetLimit s n ∷ H) l = control_rests (Set s n) (pool H) (before_event H (SetLimit s n) refl l.1 (rested H l.0))
+rested (Replied n reply ∷ H) l = before_event H (Replied n reply) refl l.1 (rested H l.0)
+rested (Ended ∷ H) l = rests_after_each_call.after_a_call call.Close (pool H) (before_event H Ended refl l.1 (rested H l.0)) tt
+
+-- so it is at rest wherever it owes nothing
+pub rests_owing_nothing : (H : List Event) → Lawful H → is_empty (owed H) ≡ true → AtRest (pool H)
+rests_owing_nothing H l none = rests_when (pool H) (owed H) (empty (owed H) none) (rested H l)
+  where
+    empty : (ms : List Move) → is_empty ms ≡ true → ms ≡ []
+    empty [] is = refl
+    empty (m ∷ ms) is = absurd cc

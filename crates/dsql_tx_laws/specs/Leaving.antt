@@ -1,0 +1,21 @@
+-- A connection that may leave its call or its transaction.
+use Rattle.std.specs.Prelude.{ℕ, ◌≡◌, true, false, List, [], Some}
+use Rattle.dsql_journal.specs.declared.entry.Owner.{Owner}
+use Rattle.dsql_journal.specs.Kinds.{is_house, number_of}
+use Rattle.dsql_journal.specs.Tenure.{is_whole_tenure}
+use Rattle.dsql_pool.specs.declared.conn.Place.TheVariants.{Lent}
+use Rattle.dsql_tx_history.specs.declared.event.Event.{Event}
+use Rattle.dsql_tx_history.specs.Readers.Journals.{journal}
+use Rattle.dsql_tx_history.specs.Readers.Owed.{owed}
+use Rattle.dsql_tx_history.specs.Readers.Pool.{place}
+use Rattle.dsql_tx_history.specs.Rules.Line.{is_used}
+
+-- nothing is owed, and connection c is lent to a call or a transaction, isn't in use any more, and its tenure is whole
+pub record MayLeave (history : List Event) (c : ℕ) : Type 0 where
+  pub owing : owed history ≡ []
+  pub tenure : ℕ
+  pub owner : Owner
+  pub lent : place history c ≡ Some (Lent tenure owner)
+  pub owned : is_house owner ≡ false
+  pub unused : is_used history (number_of owner) ≡ false
+  pub whole : is_whole_tenure tenure (journal history c) ≡ true

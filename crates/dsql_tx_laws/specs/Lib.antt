@@ -1,0 +1,4 @@
+pub mod Splits
+pub mod OwedMade
+pub mod Leaving
+pub mod Asked
