@@ -1,0 +1,5 @@
+pub mod Words
+pub mod Edits
+pub mod Block
+pub mod Followed
+pub mod Strayed
