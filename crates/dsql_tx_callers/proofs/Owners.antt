@@ -4,7 +4,6 @@ use Rattle.std.specs.Prelude.{Result, Ok, Err}
 use Rattle.dsql_journal.specs.declared.entry.Owner.{Owner}
 use Rattle.dsql_journal.specs.declared.entry.Owner.TheVariants.{Call, Tx, Pin, House}
 use Rattle.dsql_journal.specs.Kinds.{number_of}
-use Rattle.dsql_journal.specs.Readers.{is_empty}
 use Rattle.dsql_pool.specs.declared.conn.Place.TheVariants.{Lent, Opening}
 use Rattle.dsql_pool.specs.declared.moves.CloseCause.TheVariants.{DbClosed}
 use Rattle.dsql_pool.specs.declared.moves.Move.{Move}
@@ -16,9 +15,10 @@ use Rattle.dsql_pool.specs.Changes.{lent, back, closing}
 use Rattle.dsql_pool.specs.Moved.{shut}
 use Rattle.dsql_pool.specs.Decisions.{when_given_back}
 use Rattle.dsql_pool.specs.Calls.{moves_asked, wants}
-use Rattle.dsql_laws.proofs.Tests.{both, second, move_is}
+use Rattle.dsql_laws.proofs.Tests.{both, move_is}
 use Rattle.dsql_history.specs.declared.event.Control.TheVariants.{Tick, Set}
 use Rattle.dsql_history.specs.Same.{is_first}
+use Rattle.dsql_tx_laws.proofs.AtRest.{asks_now, asked_so, queued_so}
 use Rattle.dsql_tx_history.specs.declared.event.Event.{Event}
 use Rattle.dsql_tx_history.specs.declared.event.Event.TheVariants.{Run, Entered, Heard, Pool, Waits, Ticked, SetLimit, Replied, Ended}
 use Rattle.dsql_tx_history.specs.declared.event.Op.{Op}
@@ -30,7 +30,7 @@ use Rattle.dsql_tx_history.specs.Readers.Owed.{fate, given_back, left_of, owed}
 use Rattle.dsql_tx_history.specs.Readers.Pool.{pool, place, request, wanted_by, with_move}
 use Rattle.dsql_tx_history.specs.Readers.Unfinished.{is_unfinished}
 use Rattle.dsql_tx_history.specs.Readers.Works.{work, asks, owner_as, owner_of}
-use Rattle.dsql_tx_history.specs.Rules.Asking.{may_try, may_ask, ask_outcome, is_queued, is_asked_for, unless_owed, keeps_asking}
+use Rattle.dsql_tx_history.specs.Rules.Asking.{may_try, may_ask, ask_outcome, is_asked_for, keeps_asking}
 use Rattle.dsql_tx_history.specs.Rules.Order.{follows}
 use Rattle.dsql_tx_history.specs.Legal.{Allowed, Lawful}
 use Rattle.dsql_tx_callers.proofs.Works.{asks_still}
@@ -78,13 +78,9 @@ asker_of H n may =
     let b = both (asks (work H n)) (may_try H n && (not (wants n (pool H)) && is_none (reply_due H n))) a.1 in
     owner_asker H n b.0
 
--- a move that isn't owed comes of a call that asks
-asks_now : (H : List Event) (n : ℕ) (m : Move) → owed H ≡ [] → unless_owed H n m ≡ true → is_asked_for H n m ≡ true
-asks_now H n m none h = second (not (is_empty (owed H))) (is_asked_for H n m) (ap (λ ms. not (is_empty ms)) none) h
-
 lent_asker : (H : List Event) (c t : ℕ) (o : Owner) (n : ℕ) → is_asked_for H n (Lend c t o n) ≡ true → is_asker H o ≡ true
 lent_asker H c t o n is =
-    let a = both (may_ask H n) (is_first (moves_asked (request H n) (ask_outcome H n)) (Lend c t o n)) is in
+    let a = asked_so H n (Lend c t o n) is in
     by (ask_outcome H n) a.1 (asker_of H n a.0)
   where
     same_owner_of : (d u k : ℕ) (q : Owner) → Lend d u q k ≡ Lend c t o n → q ≡ o
@@ -124,7 +120,7 @@ opening_asker H c n k owing = by (owed H) refl owing
 
     by : (ms : List Move) → owed H ≡ ms → are_well (is_asker H) ms ≡ true → is_owned (is_asker H) (Opening (wanted_by H n)) ≡ true
     by [] is h =
-        let a = both (may_ask H n) (is_first (moves_asked (request H n) (ask_outcome H n)) (OpenStart c n)) (asks_now H n (OpenStart c n) is k.asking) in
+        let a = asked_so H n (OpenStart c n) (asks_now H n (OpenStart c n) is k.asking) in
         asked_for (n == 0) (asker_of H n a.0)
     by (due ∷ later) is h = for_none (n == 0) (well_of_due H (OpenStart c n) due later k is h)
 
@@ -180,7 +176,7 @@ owned (Pool m ∷ H) l = owned_move H m (keeps_of H (Pool m) l.1) (owned H l.0)
 owned (Waits n ∷ H) l =
     let s = owned H l.0 in
     let keeps = keeps_of H (Waits n) l.1 in
-    let a = both (may_ask H n) (is_queued (ask_outcome H n)) keeps.asking in
+    let a = queued_so H n keeps.asking in
     record { conns = s.conns; waiting = joined_asked (is_asker H) (request H n) (pool H).waiting (asker_of H n a.0) s.waiting; owing = refl }
 owned (Ticked now ∷ H) l =
     let s = owned H l.0 in

@@ -8,7 +8,7 @@ use Rattle.dsql_tx.specs.declared.end.TxEnd.TheVariants as ends
 use Rattle.dsql_tx_history.specs.declared.event.Event.{Event}
 use Rattle.dsql_tx_history.specs.declared.event.Event.TheVariants.{Replied, Ended}
 use Rattle.dsql_tx_history.specs.declared.reply.Reply.TheVariants as replies
-use Rattle.dsql_tx_cases.specs.Words.{run, run_plain, x, exec, begin, one_changed, told_one_changed, begins, executes, executes_in, commits, rolls_back, open_start, lend_tx, lend, back, close, house, within, beside}
+use Rattle.dsql_tx_cases.specs.Words.{run, run_plain, x, exec, begin, one_changed, told_one_changed, begins, executes, executes_in, commits, rolls_back, open_start, lend_tx, lend, back, close, house, within, beside, fell, asks_for_stats}
 use Rattle.dsql_tx_cases.specs.Begun.{begun, begun_twice, waiting, passed_on, queried_twice}
 
 -- a call on the database sends in a transaction
@@ -226,4 +226,16 @@ the_end_of_the_run_leaves_it =
     begun
     ++ Ended
     ∷ close 1 causes.DbClosed
+    ∷ []
+
+-- a call whose connection couldn't be opened asks again in the step of another, whose statistics don't count that
+abbrev pub one_asks_in_the_step_of_another : List Event
+one_asks_in_the_step_of_another =
+    run_plain
+    ∷ executes 1 1
+    ∷ open_start 1 1
+    ∷ house 1 1 calls.Connect answers.Bad
+    ∷ fell 1 1
+    ∷ asks_for_stats 2 2
+    ∷ open_start 2 1
     ∷ []

@@ -11,7 +11,7 @@ use Rattle.dsql_driver.specs.declared.answer.DriverAnswer.TheVariants as answers
 use Rattle.dsql_journal.specs.declared.entry.Owner.TheVariants.{Call, House}
 use Rattle.dsql_journal.specs.declared.entry.Owner.TheVariants as owners
 use Rattle.dsql_pool.specs.declared.moves.CloseCause.{CloseCause}
-use Rattle.dsql_pool.specs.declared.moves.Move.TheVariants.{OpenStart, Lend, Back, CloseStart, Gone}
+use Rattle.dsql_pool.specs.declared.moves.Move.TheVariants.{OpenStart, Lend, Back, CloseStart, Gone, Fell}
 use Rattle.dsql_work.specs.Caps.{all_caps}
 use Rattle.dsql_tx_history.specs.declared.event.Event.{Event}
 use Rattle.dsql_tx_history.specs.declared.event.Event.TheVariants.{Run, Entered, Heard, Pool}
@@ -115,7 +115,13 @@ rolls_back k n tx = Entered k n (ops.Rollback tx)
 abbrev pub closes_db : ℕ → ℕ → Event
 closes_db k n = Entered k n ops.DbClose
 
+abbrev pub asks_for_stats : ℕ → ℕ → Event
+asks_for_stats k n = Entered k n ops.Stats
+
 -- connections
+
+abbrev pub fell : ℕ → ℕ → Event
+fell c n = Pool (Fell c n)
 
 abbrev pub open_start : ℕ → ℕ → Event
 open_start c n = Pool (OpenStart c n)

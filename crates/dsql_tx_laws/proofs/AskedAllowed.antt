@@ -20,7 +20,8 @@ use Rattle.dsql_tx_history.specs.declared.event.Event.{Event}
 use Rattle.dsql_tx_history.specs.declared.event.Event.TheVariants.{Pool, Waits}
 use Rattle.dsql_tx_history.specs.Readers.Pool.{pool, request}
 use Rattle.dsql_tx_history.specs.Readers.Owed.{owed}
-use Rattle.dsql_tx_history.specs.Rules.Asking.{may_ask, ask_outcome, is_asked_for, is_queued, unless_owed}
+use Rattle.dsql_tx_history.specs.Rules.Asking.{may_ask, ask_outcome, asks_by_itself, is_asked_for, is_queued, unless_owed}
+use Rattle.dsql_tx_history.specs.Rules.Settled.{is_settled_but}
 use Rattle.dsql_tx_history.specs.Rules.Course.{keeps_course}
 use Rattle.dsql_tx_history.specs.Readers.Works.{owner_of}
 use Rattle.dsql_tx_history.specs.Rules.Order.{follows, keeps_order}
@@ -50,18 +51,18 @@ begun_asking (last ∷ older) n e may h = h last older refl
 none_owed : (H : List Event) (e : Event) → owed H ≡ [] → keeps_order H e ≡ true
 none_owed H e none = ap (λ ms. follows ms e) none
 
-comes_of_asking : (H : List Event) (n : ℕ) (m : Move) (a : Result Asked AskFault) → ask_outcome H n ≡ a → may_ask H n ≡ true → moves_asked (request H n) a ≡ m ∷ [] → unless_owed H n m ≡ true
+comes_of_asking : (H : List Event) (n : ℕ) (m : Move) (a : Result Asked AskFault) → ask_outcome H n ≡ a → asks_by_itself H n ≡ true → moves_asked (request H n) a ≡ m ∷ [] → unless_owed H n m ≡ true
 comes_of_asking H n m a outcome may moves =
     or_second (not (is_empty (owed H))) (is_asked_for H n m)
-    (together (may_ask H n) (is_first (moves_asked (request H n) (ask_outcome H n)) m) may
+    (together (asks_by_itself H n) (is_first (moves_asked (request H n) (ask_outcome H n)) m) may
     (ap (λ b. is_first (moves_asked (request H n) b) m) outcome ∙ (ap (λ ms. is_first ms m) moves ∙ move_itself m)))
 
 course_of_move : (H : List Event) (n : ℕ) (m : Move) → may_ask H n ≡ true → keeps_course H (Pool m) ≡ true
 course_of_move H n m may = begun_asking H n (Pool m) may (λ last older is. rw is refl)
 
-lend_allowed : (H : List Event) (n c t : ℕ) → Lawful H → owed H ≡ [] → may_ask H n ≡ true → ask_outcome H n ≡ Ok (asked.Lent c t) → Allowed H (Pool (Lend c t (owner_of H n) n))
+lend_allowed : (H : List Event) (n c t : ℕ) → Lawful H → owed H ≡ [] → may_ask H n ≡ true → is_settled_but n H ≡ true → ask_outcome H n ≡ Ok (asked.Lent c t) → Allowed H (Pool (Lend c t (owner_of H n) n))
 unfolding Allowed
-lend_allowed H n c t l none may outcome =
+lend_allowed H n c t l none may settled outcome =
     let p = pool H in
     let rest = rests_owing_nothing H l (ap is_empty none) in
     let takes = lends_idle (request H n) p c t p.closed (takes_idle (request H n) p) rest refl outcome in
@@ -74,7 +75,7 @@ lend_allowed H n c t l none may outcome =
           together (is_idle (place_at p c) || is_opening (place_at p c)) ((t == next_tenure p c) && (n == number_of (owner_of H n))) (ap (λ b. b || is_opening (place_at p c)) takes.idle)
           (together (t == next_tenure p c) (n == number_of (owner_of H n)) tenure own);
       limit = refl;
-      asking = comes_of_asking H n (Lend c t (owner_of H n) n) (Ok (asked.Lent c t)) outcome may refl;
+      asking = comes_of_asking H n (Lend c t (owner_of H n) n) (Ok (asked.Lent c t)) outcome (together (may_ask H n) (is_settled_but n H) may settled) refl;
       order = none_owed H (Pool (Lend c t (owner_of H n) n)) none;
       causes = refl;
       line = refl;
@@ -82,9 +83,9 @@ lend_allowed H n c t l none may outcome =
       replies = refl;
     }
 
-open_allowed : (H : List Event) (n c : ℕ) → owed H ≡ [] → may_ask H n ≡ true → ask_outcome H n ≡ Ok (asked.Opening c) → Allowed H (Pool (OpenStart c n))
+open_allowed : (H : List Event) (n c : ℕ) → owed H ≡ [] → may_ask H n ≡ true → is_settled_but n H ≡ true → ask_outcome H n ≡ Ok (asked.Opening c) → Allowed H (Pool (OpenStart c n))
 unfolding Allowed
-open_allowed H n c none may outcome =
+open_allowed H n c none may settled outcome =
     let p = pool H in
     let number = opens_next p c (last p.idle) (next_tenure p (last p.idle)) p.closed (takes_idle (request H n) p) outcome in
     let within = asks_within (request H n) p c p.closed (takes_idle (request H n) p) outcome in
@@ -94,7 +95,7 @@ open_allowed H n c none may outcome =
       numbers = refl;
       sets = together (c == next_number p) true (subst (λ d. (c == d) ≡ true) number (same_itself c)) refl;
       limit = below;
-      asking = comes_of_asking H n (OpenStart c n) (Ok (asked.Opening c)) outcome may refl;
+      asking = comes_of_asking H n (OpenStart c n) (Ok (asked.Opening c)) outcome (together (may_ask H n) (is_settled_but n H) may settled) refl;
       order = none_owed H (Pool (OpenStart c n)) none;
       causes = refl;
       line = refl;
@@ -102,15 +103,15 @@ open_allowed H n c none may outcome =
       replies = refl;
     }
 
-wait_allowed : (H : List Event) (n : ℕ) → owed H ≡ [] → may_ask H n ≡ true → ask_outcome H n ≡ Ok asked.Queued → Allowed H (Waits n)
+wait_allowed : (H : List Event) (n : ℕ) → owed H ≡ [] → may_ask H n ≡ true → is_settled_but n H ≡ true → ask_outcome H n ≡ Ok asked.Queued → Allowed H (Waits n)
 unfolding Allowed
-wait_allowed H n none may outcome =
+wait_allowed H n none may settled outcome =
     record {
       course = begun_asking H n (Waits n) may (λ last older is. rw is refl);
       numbers = refl;
       sets = refl;
       limit = refl;
-      asking = together (may_ask H n) (is_queued (ask_outcome H n)) may (ap is_queued outcome);
+      asking = together (asks_by_itself H n) (is_queued (ask_outcome H n)) (together (may_ask H n) (is_settled_but n H) may settled) (ap is_queued outcome);
       order = none_owed H (Waits n) none;
       causes = refl;
       line = refl;
@@ -118,12 +119,12 @@ wait_allowed H n none may outcome =
       replies = refl;
     }
 
-pub asked_lawful : (H : List Event) (n : ℕ) → Lawful H → owed H ≡ [] → may_ask H n ≡ true → Lawful (with_asked n (ask_outcome H n) H)
-asked_lawful H n l none may = by (ask_outcome H n) refl
+pub asked_lawful : (H : List Event) (n : ℕ) → Lawful H → owed H ≡ [] → may_ask H n ≡ true → is_settled_but n H ≡ true → Lawful (with_asked n (ask_outcome H n) H)
+asked_lawful H n l none may settled = by (ask_outcome H n) refl
   where
     by : (a : Result Asked AskFault) → ask_outcome H n ≡ a → Lawful (with_asked n a H)
-    by (Ok (asked.Lent c t)) is = (l, lend_allowed H n c t l none may is)
-    by (Ok (asked.Opening c)) is = (l, open_allowed H n c none may is)
-    by (Ok asked.Queued) is = (l, wait_allowed H n none may is)
+    by (Ok (asked.Lent c t)) is = (l, lend_allowed H n c t l none may settled is)
+    by (Ok (asked.Opening c)) is = (l, open_allowed H n c none may settled is)
+    by (Ok asked.Queued) is = (l, wait_allowed H n none may settled is)
     by (Ok asked.Closed) is = l
     by (Err why) is = l

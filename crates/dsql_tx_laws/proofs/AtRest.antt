@@ -34,7 +34,8 @@ use Rattle.dsql_tx_history.specs.Readers.Works.{owner_of}
 use Rattle.dsql_tx_history.specs.Readers.Pool.{pool, place, request, with_move, wanted_by}
 use Rattle.dsql_tx_history.specs.Readers.Owed.{fate, given_back, leaving, left_of, owed}
 use Rattle.dsql_tx_history.specs.Rules.Order.{follows}
-use Rattle.dsql_tx_history.specs.Rules.Asking.{may_ask, ask_outcome, is_asked_for, unless_owed, is_queued, keeps_asking}
+use Rattle.dsql_tx_history.specs.Rules.Asking.{may_ask, ask_outcome, asks_by_itself, is_asked_for, unless_owed, is_queued, keeps_asking}
+use Rattle.dsql_tx_history.specs.Rules.Settled.{is_settled_but}
 use Rattle.dsql_tx_history.specs.Rules.Causes.{is_owed, is_given_back, keeps_causes}
 use Rattle.dsql_tx_history.specs.Legal.{Allowed, Lawful}
 use Rattle.dsql_laws.proofs.Tests.{both, second, other_number, move_is}
@@ -139,6 +140,17 @@ leaves_rests H c m is h =
 pub asks_now : (H : List Event) (n : ℕ) (m : Move) → owed H ≡ [] → unless_owed H n m ≡ true → is_asked_for H n m ≡ true
 asks_now H n m none h = second (not (is_empty (owed H))) (is_asked_for H n m) (ap (λ ms. not (is_empty ms)) none) h
 
+-- who asks, so or for a wait, may, and what comes of it is what the pool decides
+pub asked_so : (H : List Event) (n : ℕ) (m : Move) → is_asked_for H n m ≡ true → (may_ask H n ≡ true) × (is_first (moves_asked (request H n) (ask_outcome H n)) m ≡ true)
+asked_so H n m is =
+    let b = both (asks_by_itself H n) (is_first (moves_asked (request H n) (ask_outcome H n)) m) is in
+    ((both (may_ask H n) (is_settled_but n H) b.0).0, b.1)
+
+pub queued_so : (H : List Event) (n : ℕ) → keeps_asking H (Waits n) ≡ true → (may_ask H n ≡ true) × (is_queued (ask_outcome H n) ≡ true)
+queued_so H n is =
+    let b = both (asks_by_itself H n) (is_queued (ask_outcome H n)) is in
+    ((both (may_ask H n) (is_settled_but n H) b.0).0, b.1)
+
 pub owes : (H : List Event) → owed H ≡ [] → is_owed H ≡ false
 owes H none = ap (λ ms. not (is_empty ms)) none
 
@@ -146,13 +158,13 @@ owes H none = ap (λ ms. not (is_empty ms)) none
 unowed_rests : (H : List Event) (m : Move) → Lawful H → Keeps H (Pool m) → owed H ≡ [] → AtRest (pool H) → AtRest (made (drop 1 (leaving H m)) (with_move H m (pool H)))
 unowed_rests H (OpenStart c n) l k none h =
     let is = asks_now H n (OpenStart c n) none k.asking in
-    let a = both (may_ask H n) (is_first (moves_asked (request H n) (ask_outcome H n)) (OpenStart c n)) is in
+    let a = asked_so H n (OpenStart c n) is in
     let some : n ≢ 0 = unfinished_from_one H n l (asker H n a.0).unfinished in
     let begins : AtRest (begun (Some (owner_of H n)) (pool H)) = opening_rests (request H n) (pool H) (ask_outcome H n) c n a.1 (asked_rests (request H n) (pool H) h) in
     subst (λ w. AtRest (begun w (pool H))) (sym (wanted_is H n some)) begins
 unowed_rests H (Lend c t o n) l k none h =
     let is = asks_now H n (Lend c t o n) none k.asking in
-    let a = both (may_ask H n) (is_first (moves_asked (request H n) (ask_outcome H n)) (Lend c t o n)) is in
+    let a = asked_so H n (Lend c t o n) is in
     lent_rests (request H n) (pool H) (ask_outcome H n) c t o n a.1 (asked_rests (request H n) (pool H) h)
 unowed_rests H (Back c) l k none h = leaves_rests H c (Back c) (second (is_owed H) (is_given_back H c (Back c)) (owes H none) k.causes) h
 unowed_rests H (CloseStart c why) l k none h = leaves_rests H c (CloseStart c why) (second (is_owed H) (is_given_back H c (CloseStart c why)) (owes H none) k.causes) h
@@ -177,7 +189,7 @@ rested (Heard e ∷ H) l = answered_rests e.answer e.conn (pool H) (place H e.co
 rested (Pool m ∷ H) l = move_rests H m (owed H) l.0 (keeps_of H (Pool m) l.1) refl (owed_own H) (rested H l.0)
 rested (Waits n ∷ H) l =
     let k = keeps_of H (Waits n) l.1 in
-    let a = both (may_ask H n) (is_queued (ask_outcome H n)) k.asking in
+    let a = queued_so H n k.asking in
     queued_rests (request H n) (pool H) (ask_outcome H n) a.1 (asked_rests (request H n) (pool H) (before_event H (Waits n) refl l.1 (rested H l.0)))
 rested (Ticked now ∷ H) l = control_rests (Tick now) (pool H) (before_event H (Ticked now) refl l.1 (rested H l.0))
 rested (SetLimit s n ∷ H) l = control_rests (Set s n) (pool H) (before_event H (SetLimit s n) refl l.1 (rested H l.0))

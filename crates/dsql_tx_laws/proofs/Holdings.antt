@@ -14,12 +14,10 @@ use Rattle.dsql_pool.specs.Places.{is_for}
 use Rattle.dsql_journal.specs.Kinds.{number_of}
 use Rattle.dsql_pool.specs.Pooled.{Pooled, next_number}
 use Rattle.dsql_pool.specs.Moved.{moved, begun, joined, shut}
-use Rattle.dsql_pool.specs.Calls.{moves_asked}
 use Rattle.dsql_pool.proofs.Frees.{count-more}
 use Rattle.dsql_history.specs.declared.event.Control.{Control}
 use Rattle.dsql_history.specs.declared.event.Setting.TheVariants.{MaxOpen, MaxIdle, MaxLife, MaxIdleTime}
 use Rattle.dsql_history.specs.declared.event.Control.TheVariants.{Tick, Set}
-use Rattle.dsql_history.specs.Same.{is_first}
 use Rattle.dsql_history.specs.Readers.Pool.{with_control, is_home}
 use Rattle.dsql_tx_history.specs.declared.event.Event.{Event}
 use Rattle.dsql_tx_history.specs.declared.event.Event.TheVariants.{Run, Entered, Heard, Pool, Waits, Ticked, SetLimit, Replied, Ended}
@@ -28,7 +26,7 @@ use Rattle.dsql_tx_history.specs.Readers.Pool.{pool, request, wanted_by}
 use Rattle.dsql_tx_history.specs.Readers.Owed.{owed}
 use Rattle.dsql_tx_history.specs.Readers.Works.{owner_of}
 use Rattle.dsql_tx_history.specs.Rules.Order.{follows}
-use Rattle.dsql_tx_history.specs.Rules.Asking.{may_ask, ask_outcome, is_asked_for, is_queued}
+use Rattle.dsql_tx_history.specs.Rules.Asking.{may_ask, is_asked_for}
 use Rattle.dsql_tx_history.specs.Legal.{Lawful}
 use Rattle.dsql_laws.specs.Holdings.{waits_of, homes_of, holdings}
 use Rattle.dsql_laws.proofs.Holdings.{by_call}
@@ -40,7 +38,7 @@ use Rattle.dsql_laws.proofs.Deserved.{is_home_of, Deserves, AllDeserved}
 use Rattle.dsql_tx_laws.proofs.Owners.{owner_number}
 use Rattle.dsql_tx_laws.proofs.Asker.{asker}
 use Rattle.dsql_tx_laws.proofs.OwedMoves.{owed_own}
-use Rattle.dsql_tx_laws.proofs.AtRest.{Keeps, keeps_of, asks_now}
+use Rattle.dsql_tx_laws.proofs.AtRest.{Keeps, keeps_of, asks_now, asked_so, queued_so}
 use Rattle.dsql_tx_laws.proofs.Tried.{lends_to}
 use Rattle.dsql_tx_laws.proofs.Deserved.{deserved}
 
@@ -72,7 +70,7 @@ opening_asked H c n (due ∷ later) k is own some =
 pub lending_from : (H : List Event) (c t : ℕ) (o : Owner) (n : ℕ) (ms : List Move) → Keeps H (Pool (Lend c t o n)) → owed H ≡ ms → AllDeserved ms (pool H) → (may_ask H n ≡ true) ⊎ Deserves c n (pool H)
 lending_from H c t o n [] k is h =
     let asked = asks_now H n (Lend c t o n) is k.asking in
-    let a = both (may_ask H n) (is_first (moves_asked (request H n) (ask_outcome H n)) (Lend c t o n)) asked in
+    let a = asked_so H n (Lend c t o n) asked in
     inl a.0
 lending_from H c t o n (due ∷ later) k is h =
     let made_it : follows (due ∷ later) (Pool (Lend c t o n)) ≡ true = subst (λ ns. follows ns (Pool (Lend c t o n)) ≡ true) is k.order in
@@ -114,7 +112,7 @@ opens_one H c k n l keeps some had =
     by_call k n (holdings n (begun (wanted_by H k) (pool H)) ≤ 1)
     (λ is.
     let asked = opening_asked H c k (owed H) keeps refl (owed_own H) (λ none. some (sym is ∙ none)) in
-    let a = both (may_ask H k) (is_first (moves_asked (request H k) (ask_outcome H k)) (OpenStart c k)) asked in
+    let a = asked_so H k (OpenStart c k) asked in
     let none : holdings n (pool H) ≡ 0 = subst (λ m. holdings m (pool H) ≡ 0) is (nothing_held H k l a.0) in
     let most : cond {A = ℕ} (k == n) 1 0 ≤ 1 = one_most (k == n) in
     omega (arith, more, home, none, most))
@@ -200,7 +198,7 @@ one_at_most (Pool (Fell c k) ∷ H) n l some =
     omega (arith, had, few, waits)
 one_at_most (Waits k ∷ H) n l some =
     let keeps = keeps_of H (Waits k) l.1 in
-    let a = both (may_ask H k) (is_queued (ask_outcome H k)) keeps.asking in
+    let a = queued_so H k keeps.asking in
     joins_one H k n l.0 a.0 (one_at_most H n l.0 some)
 one_at_most (Ticked now ∷ H) n l some = let had = one_at_most H n l.0 some in let same = same_control (Tick now) n (pool H) in omega (arith, had, same)
 one_at_most (SetLimit s k ∷ H) n l some = let had = one_at_most H n l.0 some in let same = same_control (Set s k) n (pool H) in omega (arith, had, same)

@@ -13,10 +13,9 @@ use Rattle.dsql_pool.specs.declared.moves.Move.TheVariants.{OpenStart, Lend, Bac
 use Rattle.dsql_pool.specs.Changes.{lent, back, closing}
 use Rattle.dsql_pool.specs.Places.{conn_of, is_for}
 use Rattle.dsql_pool.specs.Moved.{begun, joined}
-use Rattle.dsql_pool.specs.Calls.{wants, moves_asked}
+use Rattle.dsql_pool.specs.Calls.{wants}
 use Rattle.dsql_pool.proofs.Frees.{passing}
 use Rattle.dsql_history.specs.declared.event.Control.TheVariants.{Tick, Set}
-use Rattle.dsql_history.specs.Same.{is_first}
 use Rattle.dsql_tx_history.specs.declared.work.Scope.TheVariants.{Db, Tx}
 use Rattle.dsql_tx_history.specs.declared.work.Work.{Work}
 use Rattle.dsql_tx_history.specs.declared.work.Work.TheVariants.{Execute, ReadOne, HandOut, Begin, End, Ping as Pings, Fetch, Close, Look}
@@ -28,19 +27,18 @@ use Rattle.dsql_tx_history.specs.Readers.Pool.{pool, place, request, wanted_by}
 use Rattle.dsql_tx_history.specs.Readers.Owed.{owed}
 use Rattle.dsql_tx_history.specs.Readers.Calls.{site}
 use Rattle.dsql_tx_history.specs.Readers.Unfinished.{is_unfinished}
-use Rattle.dsql_tx_history.specs.Rules.Asking.{may_ask, ask_outcome, is_queued}
+use Rattle.dsql_tx_history.specs.Rules.Asking.{may_ask}
 use Rattle.dsql_tx_history.specs.Rules.Sent.{line_at, line_of}
 use Rattle.dsql_tx_history.specs.Rules.Line.{due_in, due_for}
 use Rattle.dsql_tx_history.specs.Legal.{Allowed, Lawful}
 use Rattle.dsql_laws.proofs.Wanting.{is_opening_for, wanted, wants_counts, shut_wants, begun_wants, same_control, homes_apart, found_counts, none_wanted}
-use Rattle.dsql_laws.proofs.Tests.{both}
 use Rattle.dsql_laws.proofs.Counts.{request-more, left_fewer, changed_fewer, gone_fewer}
 use Rattle.dsql_laws.proofs.Tried.{is_lent_out, lent_count}
 use Rattle.dsql_laws.proofs.Holdings.{by_call}
 use Rattle.dsql_tx_laws.proofs.Owners.{owner_number}
 use Rattle.dsql_tx_laws.proofs.Asker.{asker}
 use Rattle.dsql_tx_laws.proofs.OwedMoves.{owed_own}
-use Rattle.dsql_tx_laws.proofs.AtRest.{keeps_of}
+use Rattle.dsql_tx_laws.proofs.AtRest.{keeps_of, asked_so, queued_so}
 use Rattle.dsql_tx_laws.proofs.Holdings.{opening_asked, one_at_most}
 
 -- a call with work of its own has entered, and keeps it
@@ -64,7 +62,7 @@ opens_for H c k n a some had now =
     by_call k n (asks (work H n) ≡ true)
     (λ is.
     let asked = opening_asked H c k (owed H) (keeps_of H (Pool (OpenStart c k)) a) refl (owed_own H) (λ none. some (sym is ∙ none)) in
-    let b = both (may_ask H k) (is_first (moves_asked (request H k) (ask_outcome H k)) (OpenStart c k)) asked in
+    let b = asked_so H k (OpenStart c k) asked in
     subst (λ m. asks (work H m) ≡ true) is (works_alone H k b.0))
     (λ not.
     let none : cond {A = ℕ} (k == n) 1 0 ≡ 0 = ap (λ (b : Bool). cond {A = ℕ} b 1 0) not in
@@ -105,7 +103,7 @@ wanting_works (Pool (Fell c k) ∷ H) n l some now =
     wanting_works H n l.0 some (omega (arith, waits, few, now))
 wanting_works (Waits k ∷ H) n l some now =
     let keeps = keeps_of H (Waits k) l.1 in
-    let a = both (may_ask H k) (is_queued (ask_outcome H k)) keeps.asking in
+    let a = queued_so H k keeps.asking in
     joins_for H k n a.0 (wanting_works H n l.0 some) now
 wanting_works (Ticked moment ∷ H) n l some now = let same = same_control (Tick moment) n (pool H) in wanting_works H n l.0 some (omega (arith, same, now))
 wanting_works (SetLimit s k ∷ H) n l some now = let same = same_control (Set s k) n (pool H) in wanting_works H n l.0 some (omega (arith, same, now))

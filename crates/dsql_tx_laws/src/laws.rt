@@ -21,7 +21,7 @@ ghost use Rattle.dsql_tx_history.specs.Readers.Unfinished.{is_unfinished};
 ghost use Rattle.dsql_tx_history.specs.Rules.Asking.{may_ask, ask_outcome};
 ghost use Rattle.dsql_tx_history.specs.Rules.Line.{due_for, is_due_at, may_come, parts};
 ghost use Rattle.dsql_tx_history.specs.Rules.Stands.{stand};
-ghost use Rattle.dsql_tx_history.specs.Rules.Settled.{Settled, owes_nothing};
+ghost use Rattle.dsql_tx_history.specs.Rules.Settled.{is_settled_but, Settled, owes_nothing};
 ghost use Rattle.dsql_tx_history.specs.Legal.{Allowed, Calm, KeepsJournals, Lawful, Legal};
 ghost use Rattle.dsql_tx_history.specs.Computed.{is_allowed, is_calm, is_lawful, is_legal, is_settled};
 ghost use Rattle.dsql_laws.specs.Holdings.{holdings};
@@ -76,9 +76,10 @@ pub fn what_is_given_back_is_allowed()
     ensures pool { (history : List Event) (conn : ℕ) → pool (with_moves (given_back history conn) history) ≡ made (given_back history conn) (pool history) }
 {}
 
-/// Where nothing is owed, what comes of a call that may ask is allowed: a lending, an opening, or that it waits.
+/// Where nothing is owed and but for a call all is settled, what comes of that call is allowed where it may ask: a lending, an
+/// opening, or that it waits.
 pub fn what_is_asked_for_is_allowed()
-    ensures { (history : List Event) (n : ℕ) → Lawful history → owed history ≡ [] → may_ask history n ≡ true → Lawful (with_asked n (ask_outcome history n) history) }
+    ensures { (history : List Event) (n : ℕ) → Lawful history → owed history ≡ [] → may_ask history n ≡ true → is_settled_but n history ≡ true → Lawful (with_asked n (ask_outcome history n) history) }
 {}
 
 /// Each connection's journal is a beginning of a whole one, and whole once the connection has left.

@@ -21,6 +21,7 @@ use Rattle.dsql_tx_history.specs.Readers.Owed.{owed}
 use Rattle.dsql_tx_history.specs.Readers.Calls.{reply_due}
 use Rattle.dsql_tx_history.specs.Readers.HandedOut.{rows_by}
 use Rattle.dsql_tx_history.specs.Readers.Unfinished.{is_unfinished}
+use Rattle.dsql_tx_history.specs.Rules.Settled.{is_settled_but}
 
 -- the call has a try left, and nothing of an earlier one: neither a connection nor rows
 abbrev pub may_try : List Event → ℕ → Bool
@@ -43,9 +44,13 @@ abbrev pub is_too_many : Result Asked AskFault → Bool
 is_too_many (Err TooMany) = true
 is_too_many _ = false
 
+-- Call n may ask, and but for this call all is settled, so that it asks in a step of its own.
+abbrev pub asks_by_itself : List Event → ℕ → Bool
+asks_by_itself before n = may_ask before n && is_settled_but n before
+
 -- call n asks, and this move comes of it
 abbrev pub is_asked_for : List Event → ℕ → Move → Bool
-is_asked_for before n move = may_ask before n && is_first (moves_asked (request before n) (ask_outcome before n)) move
+is_asked_for before n move = asks_by_itself before n && is_first (moves_asked (request before n) (ask_outcome before n)) move
 
 -- a lending or an opening that the pool doesn't owe comes of a call that asks
 abbrev pub unless_owed : List Event → ℕ → Move → Bool
@@ -54,5 +59,5 @@ unless_owed before n move = not (is_empty (owed before)) || is_asked_for before 
 abbrev pub keeps_asking : List Event → Event → Bool
 keeps_asking before (Pool (OpenStart c n)) = unless_owed before n (OpenStart c n)
 keeps_asking before (Pool (Lend c tenure owner n)) = unless_owed before n (Lend c tenure owner n)
-keeps_asking before (Waits n) = may_ask before n && is_queued (ask_outcome before n)
+keeps_asking before (Waits n) = asks_by_itself before n && is_queued (ask_outcome before n)
 keeps_asking before _ = true
