@@ -8,7 +8,7 @@ use Rattle.dsql_tx.specs.declared.end.TxEnd.TheVariants as ends
 use Rattle.dsql_tx_history.specs.declared.event.Event.{Event}
 use Rattle.dsql_tx_history.specs.declared.event.Event.TheVariants.{Replied, Ended}
 use Rattle.dsql_tx_history.specs.declared.reply.Reply.TheVariants as replies
-use Rattle.dsql_tx_cases.specs.Words.{run, run_plain, x, exec, begin, one_changed, told_one_changed, begins, executes, executes_in, commits, rolls_back, open_start, lend_tx, lend, back, close, house, within, beside, fell, asks_for_stats}
+use Rattle.dsql_tx_cases.specs.Words.{r, s, run, run_plain, x, exec, begin, one_changed, told_one_changed, begins, executes, executes_in, commits, rolls_back, open_start, lend_tx, lend, back, close, house, within, beside, fell, asks_for_stats, pings, closes_db, closes, fetches}
 use Rattle.dsql_tx_cases.specs.Begun.{begun, begun_twice, waiting, passed_on, queried_twice}
 
 -- a call on the database sends in a transaction
@@ -238,4 +238,54 @@ one_asks_in_the_step_of_another =
     ∷ fell 1 1
     ∷ asks_for_stats 2 2
     ∷ open_start 2 1
+    ∷ []
+
+-- a ping that rests with its connection gives it back in the step of another, whose statistics don't count that
+abbrev pub a_ping_gives_back_in_the_step_of_another : List Event
+a_ping_gives_back_in_the_step_of_another =
+    run_plain
+    ∷ pings 1 1
+    ∷ open_start 1 1
+    ∷ house 1 1 calls.Connect answers.Done
+    ∷ lend 1 2 1
+    ∷ asks_for_stats 2 2
+    ∷ back 1
+    ∷ []
+
+-- a ping that gave its connection back replies a step later
+abbrev pub a_ping_that_gave_back_lingers : List Event
+a_ping_that_gave_back_lingers =
+    run_plain
+    ∷ pings 1 1
+    ∷ open_start 1 1
+    ∷ house 1 1 calls.Connect answers.Done
+    ∷ lend 1 2 1
+    ∷ back 1
+    ∷ asks_for_stats 2 2
+    ∷ []
+
+-- a close of rows that has nothing to send, since their connection is bad, replies a step later
+abbrev pub a_close_that_sends_nothing_lingers : List Event
+a_close_that_sends_nothing_lingers =
+    queried_twice
+    ++ fetches 1 4 r
+    ∷ within 1 2 1 4 (calls.Next 1) answers.Bad
+    ∷ Replied 4 (replies.Truth false)
+    ∷ closes 1 5 s
+    ∷ asks_for_stats 2 6
+    ∷ []
+
+-- a begin whose connection was bad is told a step later that the database is closed
+abbrev pub a_begin_is_told_later_of_the_close : List Event
+a_begin_is_told_later_of_the_close =
+    run_plain
+    ∷ begins 1 1 x
+    ∷ open_start 1 1
+    ∷ house 1 1 calls.Connect answers.Done
+    ∷ lend_tx 1 2 1
+    ∷ closes_db 2 2
+    ∷ Replied 2 replies.Ok
+    ∷ beside 1 2 1 1 begin answers.Bad
+    ∷ close 1 causes.Bad
+    ∷ house 1 3 calls.Shut answers.Done
     ∷ []

@@ -115,6 +115,9 @@ rolls_back k n tx = Entered k n (ops.Rollback tx)
 abbrev pub closes_db : ℕ → ℕ → Event
 closes_db k n = Entered k n ops.DbClose
 
+abbrev pub pings : ℕ → ℕ → Event
+pings k n = Entered k n ops.Ping
+
 abbrev pub asks_for_stats : ℕ → ℕ → Event
 asks_for_stats k n = Entered k n ops.Stats
 

@@ -48,7 +48,7 @@ use Rattle.dsql_laws.proofs.AbleMoves.{connect_fails}
 use Rattle.dsql_laws.proofs.OwedAllowed.{or_second}
 use Rattle.dsql_laws.proofs.Able.{is_able, are_able, is_own_request, open_set_able, idle_set_able, outdated_able, closed_able, opened_able, failed_able, gone_able, back_able}
 use Rattle.dsql_tx_laws.proofs.OwedMoves.{own_moved, owed_own}
-use Rattle.dsql_tx_laws.proofs.AtRest.{Keeps, keeps_of, owes, rested, before_event}
+use Rattle.dsql_tx_laws.proofs.AtRest.{Keeps, keeps_of, owes, rested, before_event, given_so}
 use Rattle.dsql_tx_laws.proofs.Owners.{owner_number}
 use Rattle.dsql_tx_laws.proofs.Journals.{keeps_journals_of}
 
@@ -151,7 +151,7 @@ rest_able J c p o (k ∷ ms) m is first own h = subst (λ j. are_able J ms (move
 
 leaving_able : (H : List Event) (c : ℕ) (m : Move) → is_given_back H c m ≡ true → are_able (journal H) (drop 1 (given_back H c)) (moved m (pool H)) ≡ true
 leaving_able H c m is =
-    let a = both (is_lent (place H c)) (is_first (given_back H c) m) is in
+    let a = given_so H c m is in
     rest_able (journal H) c (pool H) (when_given_back (fate H c) c (pool H)) (given_back H c) m refl a.1 (own_requests H) a.0
 
 unowed_able : (H : List Event) (m : Move) → Keeps H (Pool m) → owed H ≡ [] → are_able (journal H) (drop 1 (leaving H m)) (with_move H m (pool H)) ≡ true

@@ -1,5 +1,5 @@
 -- The pool of a lawful history, once it has made what it owes, is at rest.
-use Rattle.std.proofs.Common.{◌≡◌, ◌≢◌, ℕ, ◌==◌, Bool, true, false, not, cond, List, [], ◌∷◌, refl, sym, ap, subst, ◌∙◌, Option, Some, None}
+use Rattle.std.proofs.Common.{◌&&◌, ◌≡◌, ◌≢◌, ℕ, ◌==◌, Bool, true, false, not, cond, List, [], ◌∷◌, refl, sym, ap, subst, ◌∙◌, Option, Some, None}
 use Rattle.std.specs.Prelude.{drop, Result, Ok, Err}
 use Rattle.dsql_driver.specs.declared.answer.DriverAnswer.{DriverAnswer}
 use Rattle.dsql_driver.specs.Fits.{is_done}
@@ -36,7 +36,7 @@ use Rattle.dsql_tx_history.specs.Readers.Owed.{fate, given_back, leaving, left_o
 use Rattle.dsql_tx_history.specs.Rules.Order.{follows}
 use Rattle.dsql_tx_history.specs.Rules.Asking.{may_ask, ask_outcome, asks_by_itself, is_asked_for, unless_owed, is_queued, keeps_asking}
 use Rattle.dsql_tx_history.specs.Rules.Settled.{is_settled_but}
-use Rattle.dsql_tx_history.specs.Rules.Causes.{is_owed, is_given_back, keeps_causes}
+use Rattle.dsql_tx_history.specs.Rules.Causes.{goes_in_turn, is_owed, is_given_back, keeps_causes}
 use Rattle.dsql_tx_history.specs.Legal.{Allowed, Lawful}
 use Rattle.dsql_laws.proofs.Tests.{both, second, other_number, move_is}
 use Rattle.dsql_laws.proofs.OwedMoves.{is_own, are_own}
@@ -130,9 +130,15 @@ first_made : (ms : List Move) (m : Move) (p : Pooled) → is_first ms m ≡ true
 first_made [] m p is = absurd cc
 first_made (k ∷ ms) m p is = ap (λ j. made ms (moved j p)) (sym (move_is k m is))
 
+-- what is given back is lent, and goes by what the pool decides
+pub given_so : (H : List Event) (c : ℕ) (m : Move) → is_given_back H c m ≡ true → (is_lent (place H c) ≡ true) × (is_first (given_back H c) m ≡ true)
+given_so H c m is =
+    let b = both (is_lent (place H c)) (goes_in_turn H (place H c) && is_first (given_back H c) m) is in
+    (b.0, (both (goes_in_turn H (place H c)) (is_first (given_back H c) m) b.1).1)
+
 leaves_rests : (H : List Event) (c : ℕ) (m : Move) → is_given_back H c m ≡ true → AtRest (pool H) → AtRest (made (drop 1 (given_back H c)) (moved m (pool H)))
 leaves_rests H c m is h =
-    let a = both (is_lent (place H c)) (is_first (given_back H c) m) is in
+    let a = given_so H c m is in
     let rest : AtRest (made (given_back H c) (pool H)) = rests_after_each_call.after_a_call (call.GiveBack (fate H c) c) (pool H) h a.0 in
     subst AtRest (sym (first_made (given_back H c) m (pool H) a.1)) rest
 

@@ -19,7 +19,7 @@ use Rattle.dsql_pool.specs.declared.moves.Move.{Move}
 use Rattle.dsql_pool.specs.declared.moves.Move.TheVariants.{OpenStart, Lend, Back, CloseStart, Gone, Fell}
 use Rattle.dsql_pool.specs.declared.moves.Outcome.{Outcome}
 use Rattle.dsql_pool.specs.declared.moves.Outcome.TheVariants.{Closes, Serves, Rests}
-use Rattle.dsql_pool.specs.Places.{conn_of, is_lent}
+use Rattle.dsql_pool.specs.Places.{conn_of}
 use Rattle.dsql_journal.specs.Kinds.{number_of}
 use Rattle.dsql_pool.specs.Pooled.{Pooled, place_at, next_tenure, next_number}
 use Rattle.dsql_pool.specs.Moved.{made, moved, shut, ticked}
@@ -45,7 +45,7 @@ use Rattle.dsql_laws.proofs.Deserved.{is_home_of, AllDeserved}
 use Rattle.dsql_laws.proofs.Outdated.{outdated_all}
 use Rattle.dsql_laws.proofs.OwedMoves.{is_own, are_own}
 use Rattle.dsql_tx_laws.proofs.OwedMoves.{own_moved, owed_own}
-use Rattle.dsql_tx_laws.proofs.AtRest.{Keeps, keeps_of, owes}
+use Rattle.dsql_tx_laws.proofs.AtRest.{Keeps, keeps_of, owes, given_so}
 
 after_first : (m : Move) (ms : List Move) (p : Pooled) → AllDeserved (m ∷ ms) p → AllDeserved ms (moved m p)
 after_first (Lend c t o n) ms p h = h.1
@@ -148,7 +148,7 @@ rest_deserved (k ∷ ms) m p is h = subst (λ j. AllDeserved ms (moved j p)) (mo
 
 leaving_deserved : (H : List Event) (c : ℕ) (m : Move) → is_given_back H c m ≡ true → AllDeserved (drop 1 (given_back H c)) (moved m (pool H))
 leaving_deserved H c m is =
-    let a = both (is_lent (place H c)) (is_first (given_back H c) m) is in
+    let a = given_so H c m is in
     rest_deserved (given_back H c) m (pool H) a.1 (back_deserved c (pool H) (when_given_back (fate H c) c (pool H)))
 
 unowed_deserved : (H : List Event) (m : Move) → Keeps H (Pool m) → owed H ≡ [] → AllDeserved (drop 1 (leaving H m)) (with_move H m (pool H))

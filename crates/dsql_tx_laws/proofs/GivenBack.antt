@@ -1,5 +1,5 @@
 -- The moves of a connection that is given back are allowed one after another.
-use Rattle.std.proofs.Common.{◌≡◌, ℕ, true, not, ◌||◌, List, [], ◌∷◌, refl, sym, ap, subst, ◌∙◌}
+use Rattle.std.proofs.Common.{◌&&◌, ◌≡◌, ℕ, true, not, ◌||◌, List, [], ◌∷◌, refl, sym, ap, subst, ◌∙◌}
 use Rattle.std.specs.Prelude.{drop}
 use Rattle.dsql_journal.specs.Kinds.{is_house, number_of}
 use Rattle.dsql_pool.specs.declared.moves.CloseCause.{CloseCause}
@@ -16,7 +16,7 @@ use Rattle.dsql_tx_history.specs.declared.event.Event.{Event}
 use Rattle.dsql_tx_history.specs.declared.event.Event.TheVariants.{Pool}
 use Rattle.dsql_tx_history.specs.Readers.Pool.{pool, place}
 use Rattle.dsql_tx_history.specs.Readers.Owed.{fate, given_back, left_of, owed}
-use Rattle.dsql_tx_history.specs.Rules.Causes.{is_owed, is_given_back}
+use Rattle.dsql_tx_history.specs.Rules.Causes.{goes_in_turn, is_owed, is_given_back}
 use Rattle.dsql_tx_history.specs.Rules.Course.{keeps_course}
 use Rattle.dsql_tx_history.specs.Rules.Journals.{leaves_whole}
 use Rattle.dsql_tx_history.specs.Rules.Line.{is_used, leaves_from}
@@ -51,7 +51,8 @@ lent_now H c may = ap is_lent may.lent
 cause_now : (H : List Event) (c : ℕ) (m : Move) (ms : List Move) → MayLeave H c → given_back H c ≡ m ∷ ms → (is_owed H || is_given_back H c m) ≡ true
 cause_now H c m ms may is =
     or_second (is_owed H) (is_given_back H c m)
-    (together (is_lent (place H c)) (is_first (given_back H c) m) (lent_now H c may) (ap (λ ns. is_first ns m) is ∙ move_itself m))
+    (together (is_lent (place H c)) (goes_in_turn H (place H c) && is_first (given_back H c) m) (lent_now H c may)
+    (together (goes_in_turn H (place H c)) (is_first (given_back H c) m) may.turn (ap (λ ns. is_first ns m) is ∙ move_itself m)))
 
 back_allowed : (H : List Event) (c : ℕ) (ms : List Move) → MayLeave H c → given_back H c ≡ Back c ∷ ms → Allowed H (Pool (Back c))
 unfolding Allowed

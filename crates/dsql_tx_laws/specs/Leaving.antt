@@ -8,14 +8,16 @@ use Rattle.dsql_tx_history.specs.declared.event.Event.{Event}
 use Rattle.dsql_tx_history.specs.Readers.Journals.{journal}
 use Rattle.dsql_tx_history.specs.Readers.Owed.{owed}
 use Rattle.dsql_tx_history.specs.Readers.Pool.{place}
+use Rattle.dsql_tx_history.specs.Rules.Causes.{goes_in_turn}
 use Rattle.dsql_tx_history.specs.Rules.Line.{is_used}
 
--- nothing is owed, and connection c is lent to a call or a transaction, isn't in use any more, and its tenure is whole
+-- nothing is owed, and connection c is lent to a call or a transaction, isn't in use any more, and its tenure is whole; where a call rests with it, all else is settled
 pub record MayLeave (history : List Event) (c : ℕ) : Type 0 where
   pub owing : owed history ≡ []
   pub tenure : ℕ
   pub owner : Owner
   pub lent : place history c ≡ Some (Lent tenure owner)
   pub owned : is_house owner ≡ false
+  pub turn : goes_in_turn history (place history c) ≡ true
   pub unused : is_used history (number_of owner) ≡ false
   pub whole : is_whole_tenure tenure (journal history c) ≡ true
