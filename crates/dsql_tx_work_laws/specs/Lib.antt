@@ -1,0 +1,4 @@
+pub mod Tenures
+pub mod Orderly
+pub mod Sent
+pub mod Worked
