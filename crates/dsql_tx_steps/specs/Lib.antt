@@ -1,0 +1,3 @@
+pub mod Controls
+pub mod Groups
+pub mod Worked
