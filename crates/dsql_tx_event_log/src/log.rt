@@ -1,5 +1,5 @@
 ghost use Rattle.std.specs.Prelude.{◌≡◌, ◌<◌, ◌≤◌, ◌+◌, ◌-◌, ◌∷◌, [], length, OnOk};
-ghost use Rattle.dsql_tx_event_log.specs.Trimmed.{IsLeftOf};
+ghost use Rattle.dsql_tx_history.specs.Trimmed.{IsLeftOf};
 ghost use Rattle.dsql_tx_laws.specs.OwedMade.{with_moves};
 
 use dsql_past::Past;

@@ -18,7 +18,7 @@ use Rattle.dsql_tx_follows.specs.declared.line.Line.TheVariants.{Client, Start, 
 use Rattle.dsql_tx_follows.specs.Same.{same_op}
 use Rattle.dsql_follows.specs.Same.{same_setting}
 use Rattle.dsql_tx_history.specs.Readers.Clients.{call_of, is_free}
-use Rattle.dsql_tx_follows.specs.Controls.{taken}
+use Rattle.dsql_tx_history.specs.Readers.Controls.{taken}
 use Rattle.dsql_history.specs.declared.record.Flight.{Flight}
 use Rattle.dsql_history.specs.Rules.Flights.{is_in_flight}
 use Rattle.dsql_tx_follows.specs.Moments.{Moment, Passed, met, stepping, begins_step, takes_permit, walk, after_events, kept}

@@ -11,3 +11,4 @@ pub mod Lines
 pub mod Decisions
 pub mod Calls
 pub mod Clients
+pub mod Controls

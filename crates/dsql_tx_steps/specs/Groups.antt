@@ -21,7 +21,7 @@ use Rattle.dsql_tx_history.specs.Rules.Asking.{may_ask, ask_outcome}
 use Rattle.dsql_tx_history.specs.Rules.Line.{due_for, is_used}
 use Rattle.dsql_tx_laws.specs.Asked.{with_asked}
 use Rattle.dsql_tx_laws.specs.OwedMade.{with_moves}
-use Rattle.dsql_tx_steps.specs.Controls.{told_after}
+use Rattle.dsql_tx_history.specs.Readers.Controls.{told_after}
 
 -- the moves come that the pool owes
 abbrev pub with_owed : List Event → List Event
