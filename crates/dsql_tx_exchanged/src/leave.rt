@@ -1,0 +1,79 @@
+//! Leave for driver calls.
+ghost use Rattle.std.specs.Prelude.{◌≡◌, IfOk};
+ghost use Rattle.dsql_exchanged.specs.Filled.{refilled};
+ghost use Rattle.dsql_tx_exchanged.specs.Filled.{filled};
+
+use crate::bare::BareCall;
+use crate::statement::Statement;
+use dsql_journal::{Owner, Permit};
+use dsql_value::{Memory, Params, Txt};
+use std::marker::Model;
+
+/// Leave for a driver call, whose text and parameters are copied only once it is made. It takes no memory. Contracts see the
+/// permit with both.
+#[derive(Drop)]
+pub struct Leave {
+    conn: u32,
+    tenure: u32,
+    owner: Owner,
+    call_no: u32,
+    tx: u32,
+    bare: BareCall,
+    statement: Statement,
+}
+
+impl Model for Leave {
+    ghost use Rattle.dsql_tx_exchanged.specs.Filled.{filled};
+    ghost use Rattle.dsql_journal.specs.declared.entry.Permit.{Permit};
+
+    ghost Value = { Permit };
+
+    ghost view = { λ l. record { conn = l.conn; tenure = l.tenure; owner = l.owner; call_no = l.call_no; tx = l.tx; call = filled l.statement l.bare } };
+}
+
+#[tactic(auto, using(crate::proofs::Filled::filled_anew))]
+impl Leave {
+    /// Leave for this driver call of a statement, in this transaction; 0 for none.
+    pub fn new(
+        conn: u32,
+        tenure: u32,
+        owner: Owner,
+        call_no: u32,
+        tx: u32,
+        bare: BareCall,
+        statement: Statement,
+    ) -> Leave
+        ensures { result ≡ (record { conn = conn; tenure = tenure; owner = owner; call_no = call_no; tx = tx; call = filled statement bare }) }
+    {
+        Leave {
+            conn,
+            tenure,
+            owner,
+            call_no,
+            tx,
+            bare,
+            statement,
+        }
+    }
+
+    /// For whom its connection is lent.
+    pub fn owner(&self) -> Owner
+        ensures { result ≡ self.now.owner }
+    {
+        self.owner
+    }
+
+    /// The permit, with copies of this text and of these parameters where its driver call has them.
+    pub fn permit(&self, text: &Txt, params: &Params) -> Result<Permit, Memory>
+        ensures { IfOk result (λ permit. permit ≡ record self.now { call = refilled text.now params.now self.now.call }) }
+    {
+        Ok(Permit {
+            conn: self.conn,
+            tenure: self.tenure,
+            owner: self.owner,
+            call_no: self.call_no,
+            tx: self.tx,
+            call: self.bare.filled(self.statement.aim(), text, params)?,
+        })
+    }
+}
