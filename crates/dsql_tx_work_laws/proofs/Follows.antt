@@ -48,7 +48,7 @@ own_tx (Call n) k h = absurd cc
 own_tx (Pin n) k h = absurd cc
 own_tx House k h = absurd cc
 
-all_own : (k : ℕ) (L : List Entry) → list_all (λ x. is_tx_number k x.owner) L ≡ true → list_all (λ x. same_owner x.owner (Tx k)) L ≡ true
+pub all_own : (k : ℕ) (L : List Entry) → list_all (λ x. is_tx_number k x.owner) L ≡ true → list_all (λ x. same_owner x.owner (Tx k)) L ≡ true
 all_own k [] h = refl
 all_own k (x ∷ L) h =
     let p = parts2 (is_tx_number k x.owner) (list_all (λ y. is_tx_number k y.owner) L) h in
@@ -67,7 +67,7 @@ or_shut (Some n) t shut h = rw h refl
 last_of : (a b : Bool) (c d : Bool) → a ≡ false → b ≡ false → c || d ≡ true → a || b || c || d ≡ true
 last_of a b c d ha hb h = rw (ha, hb) h
 
-fits_of_place : (J : List Entry) (e : Entry) → fits_at_its_place J e ≡ true → FitsAtItsPlace J e
+pub fits_of_place : (J : List Entry) (e : Entry) → fits_at_its_place J e ≡ true → FitsAtItsPlace J e
 fits_of_place J e h =
     let p = parts5 (is_heard e) (is_fitting e) (gives_new_handle J e) (gives_new_cursor J e) (has_width_of_cursor J e) h in
     record { heard = p.0; fitting = p.1; new_handle = p.2; new_cursor = p.3; width = p.4 }

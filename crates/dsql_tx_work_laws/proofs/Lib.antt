@@ -16,6 +16,7 @@ pub mod Follows
 pub mod Uses
 pub mod Inside
 pub mod Examples
+pub mod BeginExamples
 pub mod SharedCursors
 pub mod SharedHandles
 pub mod Orders
@@ -28,3 +29,9 @@ pub mod LinesKept
 pub mod OwnHandles
 pub mod WholeTenures
 pub mod About
+pub mod Quiet
+pub mod EndTests
+pub mod BeginLines
+pub mod Unbegun
+pub mod BeginFollows
+pub mod BeginKeeps

@@ -12,11 +12,11 @@ use Rattle.dsql_driver.specs.Fits.{fits_of, is_done, is_failure, is_invalid}
 use Rattle.dsql_driver.specs.Kinds.{is_bad, is_begin, is_ending, is_reset, is_shut, is_valid}
 use Rattle.dsql_journal.specs.declared.entry.Entry.{Entry}
 use Rattle.dsql_journal.specs.Kinds.{◌⇒◌, if_any}
-use Rattle.dsql_journal.specs.Readers.{begins, is_empty, of_tenure, of_transaction, went_bad, went_invalid, bad_tenure, was_shut}
+use Rattle.dsql_journal.specs.Readers.{begins, is_empty, last_tenure, of_tenure, of_transaction, went_bad, went_invalid, bad_tenure, was_shut}
 use Rattle.dsql_journal.specs.Tenure.{body, earlier, is_body, is_refused_begin, is_tx_body}
 use Rattle.dsql_journal.specs.Facts.{MayFollow}
 use Rattle.dsql_journal.proofs.Conjunctions.{if_so, parts2, join2}
-use Rattle.dsql_tx_work_laws.specs.Tenures.{IsBegun, GoesOn}
+use Rattle.dsql_tx_work_laws.specs.Tenures.{IsBegun, IsOfTransaction, GoesOn}
 use Rattle.dsql_tx_work_laws.proofs.Numbers.{same_number, is_itself, impossible, true_false, not_true, neither, neither_of}
 use Rattle.dsql_tx_work_laws.proofs.Entries.{newest, tx_of_begin}
 use Rattle.dsql_tx_work_laws.proofs.OneTenure.{begun_when, stands, all_stand}
@@ -127,7 +127,7 @@ no_bad_reset k t (e ∷ J) s =
     by_tenure false is h rest = rest
 
 -- only a Valid is answered Invalid
-invalid_only : (q : DriverCall) (a : DriverAnswer) → fits_of q a ≡ true → is_valid q ≡ false → is_invalid a ≡ false
+pub invalid_only : (q : DriverCall) (a : DriverAnswer) → fits_of q a ≡ true → is_valid q ≡ false → is_invalid a ≡ false
 invalid_only Valid a fit h = absurd cc
 invalid_only (Exec (Text text) params) Invalid fit h = absurd (impossible fit)
 invalid_only (Exec (Handle handle) params) Invalid fit h = absurd (impossible fit)
@@ -137,9 +137,9 @@ invalid_only q Invalid fit h = absurd (impossible fit)
 invalid_only q _ fit h = refl
 
 -- what the newest entry says of answers that tell that the connection is bad
-record Known (t : ℕ) (J : List Entry) : Type 0 where
-  not_invalid : went_invalid J ≡ false
-  bad_here : if_any (bad_tenure J) (λ n. t == n) ≡ true
+pub record Known (t : ℕ) (J : List Entry) : Type 0 where
+  pub not_invalid : went_invalid J ≡ false
+  pub bad_here : if_any (bad_tenure J) (λ n. t == n) ≡ true
 
 not_if : (b c : Bool) → b ⇒ c ≡ true → c ≡ false → b ≡ false
 not_if true c h k = absurd (true_false c h k)
@@ -164,16 +164,15 @@ known_first t e J m at untested unshut = record {
     by_bad false true h = rw at (is_itself t)
     by_bad false false h = refl
 
-known : (c k t : ℕ) (J : List Entry) → GoesOn c k t J → Known t J
-known c k t [] s = let b = s.begun in absurd (impossible b.begun)
-known c k t (e ∷ J) s =
-    let b = s.begun in
-    let w = newest k t e J b.tenure in
-    let at : e.tenure ≡ t = s.under_way in
+-- so it is in a tenure of a transaction that is under way, where nothing was tested or shut
+pub known : (k t : ℕ) (J : List Entry) → IsOfTransaction k t J → is_empty J ≡ false → last_tenure J ≡ t → list_any (λ x. is_valid x.call) (of_tenure t J) ≡ false → was_shut J ≡ false → Known t J
+known k t [] s some at untested unshut = absurd cc
+known k t (e ∷ J) s some at untested unshut =
+    let w = newest k t e J s in
     let here : (e.tenure == t) ≡ true = rw at (is_itself t) in
-    let untested = neither (is_valid e.call) (list_any (λ x. is_valid x.call) (of_tenure t J)) (rw here at s.not_tested) in
-    let unshut = neither (is_shut e.call) (was_shut J) s.not_shut in
-    known_first t e J w.may at untested.0 unshut.0
+    let no_test = neither (is_valid e.call) (list_any (λ x. is_valid x.call) (of_tenure t J)) (rw here at untested) in
+    let no_shut = neither (is_shut e.call) (was_shut J) unshut in
+    known_first t e J w.may at no_test.0 no_shut.0
 
 -- none in the tenure passes the test, and so none of the transaction, which stands in it alone
 none_in : (test : Entry → Bool) (k t : ℕ) (xs : List Entry) → list_all (λ x. (x.tx == k) ⇒ (x.tenure == t)) xs ≡ true → list_any test (of_tenure t xs) ≡ false
@@ -203,7 +202,7 @@ any_some : (t : ℕ) (xs : List Entry) → list_any (λ x. x.tenure == t) xs ≡
 any_some t [] h = absurd (impossible h)
 any_some t (x ∷ xs) h = refl
 
-filter_some : (test : Entry → Bool) (xs : List Entry) → is_empty (filter test xs) ≡ false → is_empty xs ≡ false
+pub filter_some : (test : Entry → Bool) (xs : List Entry) → is_empty (filter test xs) ≡ false → is_empty xs ≡ false
 filter_some test [] h = absurd cc
 filter_some test (x ∷ xs) h = refl
 
@@ -222,11 +221,13 @@ pub record Standing (k t : ℕ) (J : List Entry) : Type 0 where
 pub standing : (c k t : ℕ) (J : List Entry) → GoesOn c k t J → Standing k t J
 standing c k t J s =
     let st = stands k t J s.begun in
-    let kn = known c k t J s in
     let one = none_in (λ x. is_ending x.call) k t J (all_stand k t J s.begun) s.not_ended in
     let some : is_empty (of_transaction k J) ≡ false = any_some t (of_transaction k J) st.some in
+    let opened : is_empty J ≡ false = filter_some (λ x. x.tx == k) J some in
+    let b = s.begun in
+    let kn = known k t J b.tenure opened s.under_way s.not_tested s.not_shut in
     record {
-      opened = filter_some (λ x. x.tx == k) J some;
+      opened = opened;
       numbered = st.numbered;
       some = some;
       one_tenure = one.1;

@@ -2,5 +2,6 @@
 //! connection, and that what they send next may follow there.
 #![tactic(auto)]
 
+pub mod begins;
 pub mod laws;
 pub mod worked;
