@@ -143,7 +143,7 @@ last_told again number tries = None
 abbrev pub told_by_tries : List Event → Work → List Try → Option Reply
 told_by_tries before work tries = cond (has_a_try tries) (db_refused before) (last_told (tries_again work (try_number tries)) (try_number tries) tries)
 
--- call n has sent something in the tenure that it works in
+-- call n has sent something on the connection that it uses
 abbrev pub has_begun_to_send : List Event → ℕ → Bool
 has_begun_to_send before n = has_sent n (journal before (site before n))
 
