@@ -1,6 +1,7 @@
 -- Driver calls with and without the text and the parameters of a statement.
+use Rattle.std.specs.Prelude.{Bool, true, false}
 use Rattle.dsql_driver.specs.declared.call.DriverCall.{DriverCall}
-use Rattle.dsql_driver.specs.declared.call.DriverCall.TheVariants.{Connect, Reset, Valid, Ping, Prepare, Next, CloseRows, CloseStmt, Begin, Commit, Rollback, Shut}
+use Rattle.dsql_driver.specs.declared.call.DriverCall.TheVariants.{Connect, Reset, Valid, Ping, Prepare, Exec, Query, Next, CloseRows, CloseStmt, Begin, Commit, Rollback, Shut}
 use Rattle.dsql_driver.specs.declared.call.Input.TheVariants.{Text, Handle}
 use Rattle.dsql_work.specs.Line.{Asked, run_of}
 use Rattle.dsql_exchanged.specs.declared.bare.BareCall.{BareCall as PlainCall}
@@ -38,3 +39,17 @@ as_bare (plain.CloseRows rows) = bare.CloseRows rows
 as_bare (plain.CloseStmt handle) = bare.CloseStmt handle
 as_bare plain.Valid = bare.Valid
 as_bare plain.Shut = bare.Shut
+
+-- it is for a statement, so that a text or parameters are copied for it
+abbrev pub has_statement : BareCall → Bool
+has_statement bare.Text = true
+has_statement bare.Prepare = true
+has_statement (bare.Handle handle) = true
+has_statement _ = false
+
+-- the driver call has a text or parameters
+abbrev pub carries_statement : DriverCall → Bool
+carries_statement (Exec input params) = true
+carries_statement (Query input params) = true
+carries_statement (Prepare text) = true
+carries_statement _ = false

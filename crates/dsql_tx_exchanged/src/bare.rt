@@ -1,6 +1,6 @@
 //! Driver calls without the text and the parameters of their statement.
-ghost use Rattle.std.specs.Prelude.{◌≡◌, IfOk};
-ghost use Rattle.dsql_tx_exchanged.specs.Filled.{filled, as_bare};
+ghost use Rattle.std.specs.Prelude.{◌≡◌, true, IfOk, OnErr};
+ghost use Rattle.dsql_tx_exchanged.specs.Filled.{filled, as_bare, has_statement};
 ghost use Rattle.dsql_work.specs.Line.{run_for};
 
 use dsql_driver::{DriverCall, Input, Level};
@@ -30,9 +30,10 @@ pub enum BareCall {
 }
 
 impl BareCall {
-    /// The driver call, with copies of the text and of the parameters where it has them.
+    /// The driver call, with copies of the text and of the parameters where it has them; else it takes no memory.
     pub fn filled(self, aim: Aim, text: &Txt, params: &Params) -> Result<DriverCall, Memory>
-        ensures { IfOk result (λ call. call ≡ filled (record { text = text.now; params = params.now; aim = aim }) self) }
+        ensures ok { IfOk result (λ call. call ≡ filled (record { text = text.now; params = params.now; aim = aim }) self) }
+        ensures err { OnErr result (has_statement self ≡ true) }
     {
         Ok(match self {
             BareCall::Connect => DriverCall::Connect,

@@ -1,7 +1,7 @@
 //! Leave for driver calls.
-ghost use Rattle.std.specs.Prelude.{◌≡◌, IfOk};
+ghost use Rattle.std.specs.Prelude.{◌≡◌, true, IfOk, OnErr};
 ghost use Rattle.dsql_exchanged.specs.Filled.{refilled};
-ghost use Rattle.dsql_tx_exchanged.specs.Filled.{filled};
+ghost use Rattle.dsql_tx_exchanged.specs.Filled.{filled, carries_statement};
 
 use crate::bare::BareCall;
 use crate::statement::Statement;
@@ -23,7 +23,7 @@ pub struct Leave {
 }
 
 impl Model for Leave {
-    ghost use Rattle.dsql_tx_exchanged.specs.Filled.{filled};
+    ghost use Rattle.dsql_tx_exchanged.specs.Filled.{filled, carries_statement};
     ghost use Rattle.dsql_journal.specs.declared.entry.Permit.{Permit};
 
     ghost Value = { Permit };
@@ -31,7 +31,7 @@ impl Model for Leave {
     ghost view = { λ l. record { conn = l.conn; tenure = l.tenure; owner = l.owner; call_no = l.call_no; tx = l.tx; call = filled l.statement l.bare } };
 }
 
-#[tactic(auto, using(crate::proofs::Filled::filled_anew))]
+#[tactic(auto, using(crate::proofs::Filled::filled_anew, crate::proofs::Filled::carries))]
 impl Leave {
     /// Leave for this driver call of a statement, in this transaction; 0 for none.
     pub fn new(
@@ -63,9 +63,10 @@ impl Leave {
         self.owner
     }
 
-    /// The permit, with copies of this text and of these parameters where its driver call has them.
+    /// The permit, with copies of this text and of these parameters where its driver call has them; else it takes no memory.
     pub fn permit(&self, text: &Txt, params: &Params) -> Result<Permit, Memory>
-        ensures { IfOk result (λ permit. permit ≡ record self.now { call = refilled text.now params.now self.now.call }) }
+        ensures ok { IfOk result (λ permit. permit ≡ record self.now { call = refilled text.now params.now self.now.call }) }
+        ensures err { OnErr result (carries_statement self.now.call ≡ true) }
     {
         Ok(Permit {
             conn: self.conn,
