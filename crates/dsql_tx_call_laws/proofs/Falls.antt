@@ -36,12 +36,12 @@ use Rattle.dsql_tx_history.specs.Rules.Order.{follows}
 use Rattle.dsql_tx_history.specs.Legal.{Allowed}
 use Rattle.dsql_tx_laws.proofs.AtRest.{keeps_of}
 
-abbrev is_no_fall : Move → Bool
+abbrev pub is_no_fall : Move → Bool
 is_no_fall (Fell c n) = false
 is_no_fall _ = true
 
 -- no refused connection falls to a call by these moves
-abbrev are_no_falls : List Move → Bool
+abbrev pub are_no_falls : List Move → Bool
 are_no_falls ms = list_all is_no_fall ms
 
 openings_fall_none : (k c : ℕ) → are_no_falls (openings k c) ≡ true
@@ -54,7 +54,7 @@ then_fall_none ms p h =
     let c = next_number (made ms p) in
     list_all-append is_no_fall ms (openings k c) ∙ together (are_no_falls ms) (are_no_falls (openings k c)) h (openings_fall_none k c)
 
-closings_fall_none : (why : CloseCause) (cs : List ℕ) → are_no_falls (map (λ c. CloseStart c why) cs) ≡ true
+pub closings_fall_none : (why : CloseCause) (cs : List ℕ) → are_no_falls (map (λ c. CloseStart c why) cs) ≡ true
 closings_fall_none why [] = refl
 closings_fall_none why (c ∷ cs) = closings_fall_none why cs
 
@@ -113,12 +113,12 @@ answered_later answer c p (Some Idle) = refl
 answered_later answer c p (Some (Lent t owner)) = refl
 answered_later answer c p None = refl
 
-left_falls_none : (H : List Event) (m : Move) (ms : List Move) → are_no_falls (drop 1 ms) ≡ true → are_no_falls (left_of H m ms) ≡ true
+pub left_falls_none : (H : List Event) (m : Move) (ms : List Move) → are_no_falls (drop 1 ms) ≡ true → are_no_falls (left_of H m ms) ≡ true
 left_falls_none H m [] h = fewer_fall_none (leaving H m) (leaving_falls_none H m)
 left_falls_none H m (due ∷ later) h = h
 
 -- none falls behind the first of the moves that are owed
-later_falls_none : (H : List Event) → are_no_falls (drop 1 (owed H)) ≡ true
+pub later_falls_none : (H : List Event) → are_no_falls (drop 1 (owed H)) ≡ true
 later_falls_none [] = refl
 later_falls_none (Run version can ∷ H) = refl
 later_falls_none (Entered client n DbClose ∷ H) = fewer_fall_none (owed (Entered client n DbClose ∷ H)) (closings_fall_none DbClosed (shut (pool H)).idle)

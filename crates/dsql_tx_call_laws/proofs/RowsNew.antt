@@ -98,7 +98,7 @@ new_unwanting H e l a some = by (wanted e.call_no (pool H)) refl
 quiet : (H : List Event) (e : Event) (n : ℕ) → Lawful (e ∷ H) → n ≢ 0 → is_answer e ≡ false → is_some (rows_by (e ∷ H) n) ≡ true → (is_some (rows_by H n) ≡ true → wanted n (pool H) ≡ 0) → wanted n (pool (e ∷ H)) ≡ 0
 quiet H e n l some none h rest = let were = were_made H e n none h in wants_no_more H e n l.1 some (rows_may_not_ask H n were) (rest were)
 
-content : (H : List Event) (n : ℕ) → Lawful H → n ≢ 0 → is_some (rows_by H n) ≡ true → wanted n (pool H) ≡ 0
+pub content : (H : List Event) (n : ℕ) → Lawful H → n ≢ 0 → is_some (rows_by H n) ≡ true → wanted n (pool H) ≡ 0
 content [] n l some h = absurd cc
 content (Heard e ∷ H) n l some h = by (content H n l.0 some) (some_heard H (work H e.call_no) e.call_no e.call e.answer n (handed_out H) h)
   where

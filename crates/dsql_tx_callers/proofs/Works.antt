@@ -18,7 +18,7 @@ use Rattle.dsql_tx_history.specs.declared.work.Work.TheVariants.{Execute, ReadOn
 use Rattle.dsql_tx_history.specs.Readers.Works.{works, work, work_of, hands_out_as, scope, asks_in, asks, borrower_in, borrower}
 
 -- the calls whose rows it is for are among the first n
-abbrev RefersWithin : ℕ → Work → Type 0
+abbrev pub RefersWithin : ℕ → Work → Type 0
 RefersWithin n (Fetch k) = k < n
 RefersWithin n (Close k) = k < n
 RefersWithin n _ = Unit {0}
@@ -73,7 +73,7 @@ new_refers H ops.DbClose = tt
 new_refers H ops.Stats = tt
 
 -- a call is for rows of an earlier one
-refers_within : (H : List Event) (m : ℕ) → RefersWithin (length (works H)) (work H m)
+pub refers_within : (H : List Event) (m : ℕ) → RefersWithin (length (works H)) (work H m)
 refers_within [] zero = tt
 refers_within [] (suc m) = tt
 refers_within (Entered client n op ∷ H) m =
