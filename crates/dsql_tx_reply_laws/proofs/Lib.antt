@@ -1,0 +1,12 @@
+pub mod Decides
+pub mod Records
+pub mod Begins
+pub mod Awaiting
+pub mod Served
+pub mod InnerAwaits
+pub mod InnerOver
+pub mod InnerDecides
+pub mod Inner
+pub mod InnerHeard
+pub mod InnerReplies
+pub mod InsideReplies

@@ -1,0 +1,9 @@
+use Rattle.dsql_tx_reply_laws.proofs.Served.{served_replies}
+use Rattle.dsql_tx_reply_laws.proofs.InsideReplies.{inside_replies}
+use Rattle.dsql_tx_reply_laws.proofs.laws.who_is_nowhere_replies.Goals as goal
+
+pub returns-clause-served : goal.returns-clause-served
+returns-clause-served c = served_replies
+
+pub returns-clause-inside : goal.returns-clause-inside
+returns-clause-inside c = inside_replies

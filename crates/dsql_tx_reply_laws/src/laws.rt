@@ -1,0 +1,20 @@
+//! Laws of calls that have nothing to do but to reply. A history is read newest first.
+
+ghost use Rattle.std.specs.Prelude.{◌≡◌, ℕ, true, false, List, is_some};
+ghost use Rattle.dsql_history.specs.Readers.Tries.{was_served};
+ghost use Rattle.dsql_tx_history.specs.declared.event.Event.{Event};
+ghost use Rattle.dsql_tx_history.specs.declared.work.Scope.TheVariants.{Tx};
+ghost use Rattle.dsql_tx_history.specs.Readers.Calls.{reply_due};
+ghost use Rattle.dsql_tx_history.specs.Readers.Tries.{tries};
+ghost use Rattle.dsql_tx_history.specs.Readers.Unfinished.{is_unfinished};
+ghost use Rattle.dsql_tx_history.specs.Readers.Works.{scope, work};
+ghost use Rattle.dsql_tx_history.specs.Rules.Line.{due_for};
+ghost use Rattle.dsql_tx_history.specs.Legal.{Lawful};
+
+/// A call that was lent a connection, and has nothing more to send there, has its reply settled: by an answer, or for a
+/// ping that was sent none by the lending. So has a call in a transaction that has nothing to send: by an answer, as it
+/// entered, or by the end of its transaction.
+pub fn who_is_nowhere_replies()
+    ensures served { (history : List Event) (n : ℕ) → Lawful history → is_unfinished history n ≡ true → was_served (tries history n) ≡ true → is_some (due_for history n) ≡ false → is_some (reply_due history n) ≡ true }
+    ensures inside { (history : List Event) (n k : ℕ) → Lawful history → is_unfinished history n ≡ true → scope (work history n) ≡ Tx k → is_some (due_for history n) ≡ false → is_some (reply_due history n) ≡ true }
+{}
