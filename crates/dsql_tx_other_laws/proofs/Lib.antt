@@ -1,0 +1,15 @@
+pub mod Alike
+pub mod Untouched
+pub mod Numbers
+pub mod Homes
+pub mod Openings
+pub mod Closings
+pub mod ControlMoves
+pub mod Entries
+pub mod OwnSteps
+pub mod Answered
+pub mod Ending
+pub mod Wanters
+pub mod Lends
+pub mod LentBeside
+pub mod LentOthers

@@ -1,0 +1,7 @@
+//! Laws of lawful histories of several clients with transactions: what an event and the moves of the pool leave of the
+//! other calls. Each law is the contract of a function that does nothing.
+#![tactic(auto)]
+
+pub mod lending;
+pub mod others;
+pub mod told;
