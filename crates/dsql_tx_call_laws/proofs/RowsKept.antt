@@ -37,12 +37,12 @@ use Rattle.dsql_tx_call_laws.proofs.Ends.{zero_work}
 use Rattle.dsql_tx_call_laws.proofs.Rows.{none_at_end}
 
 -- a connection is lent to this call, or to the transaction that it began
-record Borrows (H : List Event) (k : ℕ) : Type 0 where
-  conn : ℕ
-  tenure : ℕ
-  owner : Owner
-  number : number_of owner ≡ k
-  lent : place H conn ≡ Some (Lent tenure owner)
+pub record Borrows (H : List Event) (k : ℕ) : Type 0 where
+  pub conn : ℕ
+  pub tenure : ℕ
+  pub owner : Owner
+  pub number : number_of owner ≡ k
+  pub lent : place H conn ≡ Some (Lent tenure owner)
 
 borrows_on : (H : List Event) (e : Event) (k : ℕ) → Lawful (e ∷ H) → is_used H k ≡ true → Borrows H k → Borrows (e ∷ H) k
 borrows_on H e k l used b = record {
@@ -54,7 +54,7 @@ borrows_on H e k l used b = record {
 }
 
 -- a transaction that goes on keeps its connection
-tx_borrows : (H : List Event) (k : ℕ) → Lawful H → goes_on H k ≡ true → Borrows H k
+pub tx_borrows : (H : List Event) (k : ℕ) → Lawful H → goes_on H k ≡ true → Borrows H k
 tx_borrows [] k l h = absurd cc
 tx_borrows (e ∷ H) k l h = by (tx_borrows H k l.0) (went_on H e k h)
   where

@@ -172,7 +172,7 @@ answer_held H e c t own l is some rest = by (same_or_not e.conn c)
     by (inl same) = here same
     by (inr apart) = there apart (some_heard H (work H e.call_no) e.call_no e.call e.answer (number_of own) (handed_out H) some)
 
-held : (H : List Event) (c t : ℕ) (own : Owner) → Lawful H → place H c ≡ Some (Lent t own) → is_some (rows_by H (number_of own)) ≡ true → holds (heard_in H c t) ≡ true
+pub held : (H : List Event) (c t : ℕ) (own : Owner) → Lawful H → place H c ≡ Some (Lent t own) → is_some (rows_by H (number_of own)) ≡ true → holds (heard_in H c t) ≡ true
 held [] c t own l is some = absurd cc
 held (e ∷ H) c t own l is some = by (held H c t own l.0) (lent_before H e c t own l.0 is)
   where

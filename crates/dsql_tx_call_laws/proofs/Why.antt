@@ -107,7 +107,7 @@ closes_now H c t own k l is x =
     ap (λ b. is_some (cond b (line_of H k wishes.Close) None)) x.over
     ∙ ap (λ d. is_some d) (line_here H c t own k wishes.Close l is (inside_uses H k (number_of own) (scoped (work H k) (number_of own) x.hands))) ∙ x.sends
 
-ending_some : (H : List Event) (c t : ℕ) (own : Owner) (end : TxEnd) → Lawful H → place H c ≡ Some (Lent t own) → tx_end H (number_of own) ≡ Some end → Left H c t own → is_some (ending H (number_of own)) ≡ true
+pub ending_some : (H : List Event) (c t : ℕ) (own : Owner) (end : TxEnd) → Lawful H → place H c ≡ Some (Lent t own) → tx_end H (number_of own) ≡ Some end → Left H c t own → is_some (ending H (number_of own)) ≡ true
 ending_some H c t own end l is ended left = ap (λ d. is_some d) here ∙ by left
   where
     it : Option DriverCall
