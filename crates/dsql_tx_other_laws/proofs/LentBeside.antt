@@ -76,7 +76,7 @@ owner_at at t u o p a b = let same : Some (Lent t o) ≡ Some (Lent u p) = sym a
 not_lent : (at : Option Place) (t : ℕ) (o : Owner) → is_lent at ≡ false → at ≡ Some (Lent t o) → ⊥
 not_lent at t o out is = let clash : true ≡ false = sym (ap is_lent is) ∙ out in cc
 
-free_before : (H : List Event) (c t : ℕ) (own : Owner) (n u : ℕ) (o : Owner) → Lawful (lends H c t own n) → place H c ≡ Some (Lent u o) → ⊥
+pub free_before : (H : List Event) (c t : ℕ) (own : Owner) (n u : ℕ) (o : Owner) → Lawful (lends H c t own n) → place H c ≡ Some (Lent u o) → ⊥
 free_before H c t own n u o l is = let clash : false ≡ true = ap (λ at. is_idle at || is_opening at) (sym is) ∙ moves_of H c t own n l.1 in cc
 
 conn_beside : (H : List Event) (c t : ℕ) (own : Owner) (n d : ℕ) → d ≢ c → conn_of d (pool (lends H c t own n)).conns ≡ conn_of d (pool H).conns
@@ -227,7 +227,7 @@ used_still H c t own n j l h = third (goes_on H j) (are_live H j) (is_some (rest
     by true x = ap (λ d. is_some d) (ending_same H c t own n j l) ∙ x
     by false x = rest_still H c t own n j (rows_by H j) l x
 
-rests_other : (H : List Event) (c t : ℕ) (own : Owner) (n j : ℕ) → j ≢ n → rests (lends H c t own n) j ≡ rests H j
+pub rests_other : (H : List Event) (c t : ℕ) (own : Owner) (n j : ℕ) → j ≢ n → rests (lends H c t own n) j ≡ rests H j
 rests_other H c t own n j apart = ap (λ b. is_unfinished H j && asks_nothing (caps H) (work H j) (with_try b Served (tries H j))) (other_number n j (λ same. apart (sym same)))
 
 second_of : (a b c d : Bool) → (a ≡ true → c ≡ true) → (b ≡ true → d ≡ true) → (a || b) ≡ true → (c || d) ≡ true

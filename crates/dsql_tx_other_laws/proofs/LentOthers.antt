@@ -99,7 +99,7 @@ same_user H m j its hands = by (work H j) refl hands its
     by it is h w = absurd cc
 
 -- a call in a transaction that wasn't begun sends nothing
-unbegun_silent : (H : List Event) (m n c : ℕ) → Lawful H → is_begun H n ≡ false → scope (work H m) ≡ Tx n → has_sent m (journal H c) ≡ false
+pub unbegun_silent : (H : List Event) (m n c : ℕ) → Lawful H → is_begun H n ≡ false → scope (work H m) ≡ Tx n → has_sent m (journal H c) ≡ false
 unbegun_silent H m n c l unbegun is = by (has_sent m (journal H c)) refl
   where
     never : true ≡ false → ⊥

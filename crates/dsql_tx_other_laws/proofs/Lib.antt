@@ -13,3 +13,6 @@ pub mod Wanters
 pub mod Lends
 pub mod LentBeside
 pub mod LentOthers
+pub mod Meant
+pub mod LentStands
+pub mod Asked

@@ -13,13 +13,14 @@ ghost use Rattle.dsql_tx_history.specs.Readers.Calls.{rests};
 ghost use Rattle.dsql_tx_history.specs.Readers.Pool.{place, pool};
 ghost use Rattle.dsql_tx_history.specs.Readers.Unfinished.{is_unfinished};
 ghost use Rattle.dsql_tx_history.specs.Rules.Line.{due_for, is_used};
-ghost use Rattle.dsql_tx_history.specs.Rules.Settled.{is_kept, uses_what_is_lent};
+ghost use Rattle.dsql_tx_history.specs.Rules.Settled.{goes_on, goes_on_but, is_kept, uses_what_is_lent};
 ghost use Rattle.dsql_tx_history.specs.Rules.Stands.{is_own_step, stand};
 ghost use Rattle.dsql_tx_history.specs.Legal.{Lawful};
 
 /// A call that is lent a connection has no reply yet, and has something due there at once, unless it rests with it. So the
 /// connection is in use, and the call sends, or stands where it replies, unless it rests in a step of its own. Who waits
-/// does so still. What is due of each other call stays as it is, and each other lent connection is in use as before.
+/// does so still. What is due of each other call stays as it is, and each other lent connection is in use as before. Who
+/// was somewhere is so after it, as is the call itself, unless it rests in a step of its own.
 pub fn a_lending_touches_no_other_call()
     ensures due { (history : List Event) (c t n : ℕ) (owner : Owner) → Lawful (Pool (Lend c t owner n) ∷ history) → is_unfinished history n ≡ true → rests (Pool (Lend c t owner n) ∷ history) n ≡ false → is_some (due_for (Pool (Lend c t owner n) ∷ history) n) ≡ true }
     ensures stands { (history : List Event) (c t n : ℕ) (owner : Owner) → Lawful (Pool (Lend c t owner n) ∷ history) → (rests (Pool (Lend c t owner n) ∷ history) n ≡ true → is_own_step (Pool (Lend c t owner n) ∷ history) n ≡ false) → stand (Pool (Lend c t owner n) ∷ history) n ≡ Some (cond (is_some (due_for (Pool (Lend c t owner n) ∷ history) n)) (Sends c) Replies) }
@@ -29,4 +30,6 @@ pub fn a_lending_touches_no_other_call()
     ensures others { (history : List Event) (c t n m : ℕ) (owner : Owner) → Lawful (Pool (Lend c t owner n) ∷ history) → m ≢ n → due_for (Pool (Lend c t owner n) ∷ history) m ≡ due_for history m }
     ensures beside { (history : List Event) (c t n d u : ℕ) (owner beside : Owner) → Lawful (Pool (Lend c t owner n) ∷ history) → place history d ≡ Some (Lent u beside) → is_used (Pool (Lend c t owner n) ∷ history) (number_of beside) ≡ is_used history (number_of beside) }
     ensures all { (history : List Event) (c t n : ℕ) (owner : Owner) → Lawful (Pool (Lend c t owner n) ∷ history) → uses_what_is_lent history ≡ true → uses_what_is_lent (Pool (Lend c t owner n) ∷ history) ≡ true }
+    ensures itself { (history : List Event) (c t n : ℕ) (owner : Owner) → Lawful (Pool (Lend c t owner n) ∷ history) → (rests (Pool (Lend c t owner n) ∷ history) n ≡ true → is_own_step (Pool (Lend c t owner n) ∷ history) n ≡ false) → goes_on_but n history ≡ true → goes_on (Pool (Lend c t owner n) ∷ history) ≡ true }
+    ensures somewhere { (history : List Event) (c t n k : ℕ) (owner : Owner) → Lawful (Pool (Lend c t owner n) ∷ history) → (rests (Pool (Lend c t owner n) ∷ history) n ≡ true → is_own_step (Pool (Lend c t owner n) ∷ history) n ≡ false) → goes_on_but k history ≡ true → goes_on_but k (Pool (Lend c t owner n) ∷ history) ≡ true }
 {}

@@ -1,6 +1,7 @@
 use Rattle.dsql_tx_other_laws.proofs.Lends.{due_lent, stands_lent, waits_lent, kept_lent, unfinished_lent}
 use Rattle.dsql_tx_other_laws.proofs.LentBeside.{used_beside, all_used}
 use Rattle.dsql_tx_other_laws.proofs.LentOthers.{due_others}
+use Rattle.dsql_tx_other_laws.proofs.LentStands.{itself_lent, somewhere_lent}
 use Rattle.dsql_tx_other_laws.proofs.lending.a_lending_touches_no_other_call.Goals as goal
 
 pub returns-clause-due : goal.returns-clause-due
@@ -26,3 +27,9 @@ returns-clause-all c = λ history conn t n owner. all_used history conn t owner 
 
 pub returns-clause-others : goal.returns-clause-others
 returns-clause-others c = λ history conn t n m owner. due_others history conn t owner n m
+
+pub returns-clause-itself : goal.returns-clause-itself
+returns-clause-itself c = λ history conn t n owner. itself_lent history conn t owner n
+
+pub returns-clause-somewhere : goal.returns-clause-somewhere
+returns-clause-somewhere c = λ history conn t n k owner. somewhere_lent history conn t owner n k
