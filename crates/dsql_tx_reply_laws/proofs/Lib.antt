@@ -10,3 +10,6 @@ pub mod Inner
 pub mod InnerHeard
 pub mod InnerReplies
 pub mod InsideReplies
+pub mod EndKinds
+pub mod EndSends
+pub mod EndReplies

@@ -4,6 +4,7 @@ ghost use Rattle.std.specs.Prelude.{◌≡◌, ℕ, true, false, List, is_some};
 ghost use Rattle.dsql_history.specs.Readers.Tries.{was_served};
 ghost use Rattle.dsql_tx_history.specs.declared.event.Event.{Event};
 ghost use Rattle.dsql_tx_history.specs.declared.work.Scope.TheVariants.{Tx};
+ghost use Rattle.dsql_tx_history.specs.declared.work.Work.TheVariants.{End};
 ghost use Rattle.dsql_tx_history.specs.Readers.Calls.{reply_due};
 ghost use Rattle.dsql_tx_history.specs.Readers.Tries.{tries};
 ghost use Rattle.dsql_tx_history.specs.Readers.Unfinished.{is_unfinished};
@@ -13,8 +14,9 @@ ghost use Rattle.dsql_tx_history.specs.Legal.{Lawful};
 
 /// A call that was lent a connection, and has nothing more to send there, has its reply settled: by an answer, or for a
 /// ping that was sent none by the lending. So has a call in a transaction that has nothing to send: by an answer, as it
-/// entered, or by the end of its transaction.
+/// entered, or by the end of its transaction. So has a commit or a rollback: as it entered, or by its answer.
 pub fn who_is_nowhere_replies()
     ensures served { (history : List Event) (n : ℕ) → Lawful history → is_unfinished history n ≡ true → was_served (tries history n) ≡ true → is_some (due_for history n) ≡ false → is_some (reply_due history n) ≡ true }
     ensures inside { (history : List Event) (n k : ℕ) → Lawful history → is_unfinished history n ≡ true → scope (work history n) ≡ Tx k → is_some (due_for history n) ≡ false → is_some (reply_due history n) ≡ true }
+    ensures ends { (history : List Event) (n k : ℕ) → Lawful history → is_unfinished history n ≡ true → work history n ≡ End k → is_some (due_for history n) ≡ false → is_some (reply_due history n) ≡ true }
 {}

@@ -1,4 +1,5 @@
 use Rattle.dsql_tx_reply_laws.proofs.Served.{served_replies}
+use Rattle.dsql_tx_reply_laws.proofs.EndReplies.{end_replies}
 use Rattle.dsql_tx_reply_laws.proofs.InsideReplies.{inside_replies}
 use Rattle.dsql_tx_reply_laws.proofs.laws.who_is_nowhere_replies.Goals as goal
 
@@ -7,3 +8,6 @@ returns-clause-served c = served_replies
 
 pub returns-clause-inside : goal.returns-clause-inside
 returns-clause-inside c = inside_replies
+
+pub returns-clause-ends : goal.returns-clause-ends
+returns-clause-ends c = end_replies
