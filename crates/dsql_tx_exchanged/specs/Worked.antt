@@ -14,6 +14,8 @@ use Rattle.dsql_journal.specs.declared.entry.Owner.TheVariants.{Tx}
 use Rattle.dsql_tx.specs.declared.end.TxEnd.TheVariants as ends
 use Rattle.dsql_work.specs.declared.work.Aim.TheVariants as aims
 use Rattle.dsql_exchanged.specs.Exchanged.{exchanged_in}
+use Rattle.dsql_work.specs.Line.{Asked}
+use Rattle.dsql_tx_exchanged.specs.Turns.{ComesInTurn, BeginsInTurn}
 use Rattle.dsql_tx_history.specs.Readers.Lines.{line_among}
 use Rattle.dsql_tx_exchanged.specs.declared.bare.BareCall.{BareCall}
 use Rattle.dsql_tx_exchanged.specs.declared.bare.BareCall.TheVariants as bare
@@ -100,3 +102,12 @@ pub record WorkedEnd : Type 0 where
   pub test : bare_ending can ends.Commit (ending_in (sent_by 7 calls.Commit (answers.Fail []) ∷ closed)) ≡ Some bare.Valid
   pub bad : bare_ending can ends.Commit (ending_in (sent_by 7 calls.Commit answers.Bad ∷ closed)) ≡ None
   pub over : bare_ending can ends.Commit (ending_in (sent_by 7 calls.Valid answers.Done ∷ sent_by 7 calls.Commit answers.Done ∷ closed)) ≡ None
+
+-- what call 2 asks
+abbrev pub asked : Asked
+asked = record { text = []; params = []; aim = aims.HandOut }
+
+-- these lines came about as the laws of lines want it
+pub record WorkedTurns : Type 0 where
+  pub inside : ComesInTurn can asked (line_among 2 closed)
+  pub begin : BeginsInTurn can (calls.Begin levels.Default false) (begun_as answers.Done)

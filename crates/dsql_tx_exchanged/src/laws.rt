@@ -17,7 +17,7 @@ ghost use Rattle.dsql_tx_exchanged.specs.Ending.{ending_in};
 ghost use Rattle.dsql_tx_exchanged.specs.Heard.{heard_line, none_given_again};
 ghost use Rattle.dsql_tx_exchanged.specs.Inside.{inside_told};
 ghost use Rattle.dsql_tx_exchanged.specs.Turns.{BeginsInTurn, ComesInTurn};
-ghost use Rattle.dsql_tx_exchanged.specs.Worked.{WorkedBegin, WorkedInside, WorkedHeard, WorkedEnd};
+ghost use Rattle.dsql_tx_exchanged.specs.Worked.{WorkedBegin, WorkedInside, WorkedHeard, WorkedEnd, WorkedTurns};
 ghost use Rattle.dsql_tx_history.specs.declared.event.Event.{Event};
 ghost use Rattle.dsql_tx_history.specs.Readers.Lines.{has_cursor, has_handle};
 ghost use Rattle.dsql_tx_history.specs.Rules.Ending.{end_after};
@@ -79,4 +79,9 @@ pub fn worked_call_in_a_transaction()
 /// A worked end of a transaction.
 pub fn worked_end()
     ensures { WorkedEnd }
+{}
+
+/// A worked begin and a worked call in a transaction, of which each entry was next.
+pub fn worked_turns()
+    ensures { WorkedTurns }
 {}

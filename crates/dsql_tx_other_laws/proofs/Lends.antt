@@ -73,7 +73,7 @@ use Rattle.dsql_tx_call_laws.proofs.Untried.{moves_of, lends_unwanting}
 use Rattle.dsql_tx_other_laws.specs.Told.{where_told}
 use Rattle.dsql_tx_other_laws.proofs.Numbers.{none_zero}
 use Rattle.dsql_tx_other_laws.proofs.OwnSteps.{replies_apart}
-use Rattle.dsql_tx_other_laws.proofs.Wanters.{lends_unfinished}
+use Rattle.dsql_tx_call_laws.proofs.Wanters.{lends_unfinished}
 
 abbrev pub lends : List Event → ℕ → ℕ → Owner → ℕ → List Event
 lends H c t own n = Pool (Lend c t own n) ∷ H

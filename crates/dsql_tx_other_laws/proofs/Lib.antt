@@ -9,7 +9,6 @@ pub mod Entries
 pub mod OwnSteps
 pub mod Answered
 pub mod Ending
-pub mod Wanters
 pub mod Lends
 pub mod LentBeside
 pub mod LentOthers

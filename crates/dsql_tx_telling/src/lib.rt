@@ -4,6 +4,7 @@
 
 mod deciding;
 pub mod ending;
+pub mod laws;
 pub mod rows;
 pub mod starting;
 mod telling;
