@@ -1,6 +1,7 @@
 //! What is read off the row of a call.
-ghost use Rattle.std.specs.Prelude.{◌≡◌, ℕ, is_some, length};
+ghost use Rattle.std.specs.Prelude.{◌≡◌, ℕ, false, is_some, length};
 ghost use Rattle.dsql_calls.specs.Tried.{asks_again, has_another, next_is_last, number};
+ghost use Rattle.dsql_journal.specs.Kinds.{is_house, number_of};
 ghost use Rattle.dsql_tx_calls.specs.Calls.{borrower, borrower_as, options_of, row_at, rows_worked, tx_worked};
 ghost use Rattle.dsql_tx_calls.specs.Settling.{told_last, told_served, told_trying};
 ghost use Rattle.dsql_tx_history.specs.Readers.Decisions.{reply_to};
@@ -96,7 +97,9 @@ pub fn scope_of(rows: &Vec<CallRow>, call: u32) -> Scope
 
 /// The owner of its tenures: a transaction that it begins, or else itself.
 pub fn owner_of(rows: &Vec<CallRow>, call: u32) -> Owner
-    ensures { result ≡ owner_as (row_at rows.now.items call).work call }
+    ensures owner { result ≡ owner_as (row_at rows.now.items call).work call }
+    ensures not_the_layer { is_house result ≡ false }
+    ensures number { number_of result ≡ call }
 {
     match rows.get(call as usize) {
         Some(row) => works::owner_as(&row.work, call),

@@ -1,5 +1,6 @@
 //! What is read off the work of a call.
-ghost use Rattle.std.specs.Prelude.{◌≡◌};
+ghost use Rattle.std.specs.Prelude.{◌≡◌, false};
+ghost use Rattle.dsql_journal.specs.Kinds.{is_house, number_of};
 ghost use Rattle.dsql_tx_history.specs.Readers.Tries.{tries_again};
 ghost use Rattle.dsql_tx_history.specs.Readers.Works.{aim_of, asks, borrower_in, hands_out_in, is_in, owner_as, scope};
 
@@ -64,7 +65,9 @@ pub fn borrower_in(scope: Scope, call: u32) -> u32
 
 /// The owner of the tenures of a call with this work: a transaction that it begins, or else itself.
 pub fn owner_as(work: &Work, call: u32) -> Owner
-    ensures { result ≡ owner_as work.now call }
+    ensures owner { result ≡ owner_as work.now call }
+    ensures not_the_layer { is_house result ≡ false }
+    ensures number { number_of result ≡ call }
 {
     match work {
         Work::Begin { .. } => Owner::Tx(call),
