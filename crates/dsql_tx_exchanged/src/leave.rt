@@ -63,6 +63,13 @@ impl Leave {
         self.owner
     }
 
+    /// Whose driver call it is leave for, 0 for the layer.
+    pub fn call_no(&self) -> u32
+        ensures { result ≡ self.now.call_no }
+    {
+        self.call_no
+    }
+
     /// The permit, with copies of this text and of these parameters where its driver call has them; else it takes no memory.
     pub fn permit(&self, text: &Txt, params: &Params) -> Result<Permit, Memory>
         ensures ok { IfOk result (λ permit. permit ≡ record self.now { call = refilled text.now params.now self.now.call }) }
