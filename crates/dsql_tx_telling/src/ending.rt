@@ -100,7 +100,7 @@ fn end_made(rows: &mut RowsTable, query: u32) -> bool
 }
 
 /// How many calls have a number.
-fn numbered(calls: &Vec<CallRow>) -> u32
+pub fn numbered(calls: &Vec<CallRow>) -> u32
     ensures { result ≡ numbered (works_of calls.now.items) }
 {
     u32::try_from(calls.len()).unwrap_or(u32::MAX)
