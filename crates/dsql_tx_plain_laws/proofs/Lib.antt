@@ -1,0 +1,11 @@
+pub mod Live
+pub mod Alone
+pub mod Transactions
+pub mod Quiet
+pub mod FirstTenures
+pub mod Follows
+pub mod Serves
+pub mod Standing
+pub mod CallTenures
+pub mod Examples
+pub mod CallsLive
