@@ -13,3 +13,6 @@ pub mod InsideReplies
 pub mod EndKinds
 pub mod EndSends
 pub mod EndReplies
+pub mod RowsTold
+pub mod Fetches
+pub mod Nowhere

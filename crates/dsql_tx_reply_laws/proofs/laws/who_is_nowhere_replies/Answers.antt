@@ -1,6 +1,8 @@
 use Rattle.dsql_tx_reply_laws.proofs.Served.{served_replies}
 use Rattle.dsql_tx_reply_laws.proofs.EndReplies.{end_replies}
+use Rattle.dsql_tx_reply_laws.proofs.Fetches.{fetch_replies}
 use Rattle.dsql_tx_reply_laws.proofs.InsideReplies.{inside_replies}
+use Rattle.dsql_tx_reply_laws.proofs.Nowhere.{nowhere_replies}
 use Rattle.dsql_tx_reply_laws.proofs.laws.who_is_nowhere_replies.Goals as goal
 
 pub returns-clause-served : goal.returns-clause-served
@@ -11,3 +13,9 @@ returns-clause-inside c = inside_replies
 
 pub returns-clause-ends : goal.returns-clause-ends
 returns-clause-ends c = end_replies
+
+pub returns-clause-fetches : goal.returns-clause-fetches
+returns-clause-fetches c = fetch_replies
+
+pub returns-clause-nowhere : goal.returns-clause-nowhere
+returns-clause-nowhere c = nowhere_replies
