@@ -69,7 +69,7 @@ sent_alike H K k wishes.Nothing same = refl
 sent_alike H K k wishes.Fetch same = same wishes.Fetch
 sent_alike H K k wishes.Close same = same wishes.Close
 
-none_sent : (H : List Event) (k : ℕ) (w : Wish) → ((v : Wish) → line_of H k v ≡ None) → sent_for H k w ≡ None
+pub none_sent : (H : List Event) (k : ℕ) (w : Wish) → ((v : Wish) → line_of H k v ≡ None) → sent_for H k w ≡ None
 none_sent H k wishes.Nothing none = refl
 none_sent H k wishes.Fetch none = none wishes.Fetch
 none_sent H k wishes.Close none = none wishes.Close

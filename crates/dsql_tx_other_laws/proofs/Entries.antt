@@ -79,10 +79,10 @@ leaves H client n op h = record { pool = refl; rows = refl; txs = refl; end = re
 
 -- each other call uses the connection that it used
 
-next_work : (H : List Event) (client n : ℕ) (op : Op) → Lawful (Entered client n op ∷ H) → n ≡ length (works H)
+pub next_work : (H : List Event) (client n : ℕ) (op : Op) → Lawful (Entered client n op ∷ H) → n ≡ length (works H)
 next_work H client n op l = enters_next H client n op l.1 ∙ sym (as_many H)
 
-same_borrower : (H : List Event) (client n : ℕ) (op : Op) (j : ℕ) → Lawful (Entered client n op ∷ H) → j ≢ n → borrower (Entered client n op ∷ H) j ≡ borrower H j
+pub same_borrower : (H : List Event) (client n : ℕ) (op : Op) (j : ℕ) → Lawful (Entered client n op ∷ H) → j ≢ n → borrower (Entered client n op ∷ H) j ≡ borrower H j
 same_borrower H client n op j l apart = by (within_rows (works H) j Look)
   where
     by : (j < length (works H)) ⊎ ((length (works H) ≤ j) × (work H j ≡ Look)) → borrower (Entered client n op ∷ H) j ≡ borrower H j
@@ -103,7 +103,7 @@ asked_same r s it jt same is = ap (λ x. stated x it) same ∙ ap (stated s) is
 abbrev home_in : ℕ → Pooled → ℕ
 home_in n p = or_none (smallest (is_home n) p)
 
-other_line : (H : List Event) (client n : ℕ) (op : Op) (j : ℕ) (w : Wish) → Lawful (Entered client n op ∷ H) → j ≢ n → pool (Entered client n op ∷ H) ≡ pool H → line_of (Entered client n op ∷ H) j w ≡ line_of H j w
+pub other_line : (H : List Event) (client n : ℕ) (op : Op) (j : ℕ) (w : Wish) → Lawful (Entered client n op ∷ H) → j ≢ n → pool (Entered client n op ∷ H) ≡ pool H → line_of (Entered client n op ∷ H) j w ≡ line_of H j w
 other_line H client n op j w l apart same =
     let K = Entered client n op ∷ H in
     let new = enters_next H client n op l.1 in
@@ -123,7 +123,7 @@ other_line H client n op j w l apart same =
 
 -- the lines in which each other call sends are those of others
 
-concerned_old : (H : List Event) (m n j : ℕ) → n ≡ length (works H) → m ≢ n → Concerns H m j → j ≢ n
+pub concerned_old : (H : List Event) (m n j : ℕ) → n ≡ length (works H) → m ≢ n → Concerns H m j → j ≢ n
 concerned_old H m n j new apart (inl same) is = apart (sym same ∙ is)
 concerned_old H m n j new apart (inr (inl its)) is = let r : j < length (works H) = subst (RefersWithin (length (works H))) its (refers_within H m) in absurd (omega (arith, r, is, new))
 concerned_old H m n j new apart (inr (inr its)) is = let r : j < length (works H) = subst (RefersWithin (length (works H))) its (refers_within H m) in absurd (omega (arith, r, is, new))
@@ -134,7 +134,7 @@ over_some : (o : Option Rows) → over o ≡ true → is_some o ≡ true
 over_some None h = absurd cc
 over_some (Some r) h = refl
 
-over_old : (H : List Event) (client n : ℕ) (op : Op) (j : ℕ) → Lawful (Entered client n op ∷ H) → are_over H j ≡ true → j ≢ n
+pub over_old : (H : List Event) (client n : ℕ) (op : Op) (j : ℕ) → Lawful (Entered client n op ∷ H) → are_over H j ≡ true → j ≢ n
 over_old H client n op j l h is =
     let makes = rows_hand_out H j (over_some (rows_by H j) h) in
     let new = enters_next H client n op l.1 in
@@ -145,7 +145,7 @@ over_old H client n op j l h is =
 abbrev first_none : Bool → Option DriverCall
 first_none b = or_else (cond b None None) None
 
-first_push : (H : List Event) (k n : ℕ) (ws : List Work) (it : Work) → closing H (n + length ws) ≡ None → first_closing H k n (ws ++ it ∷ []) ≡ first_closing H k n ws
+pub first_push : (H : List Event) (k n : ℕ) (ws : List Work) (it : Work) → closing H (n + length ws) ≡ None → first_closing H k n (ws ++ it ∷ []) ≡ first_closing H k n ws
 first_push H k n [] it none =
     let same : n + 0 ≡ n = omega arith in
     ap (λ d. or_else (cond (hands_out_in k it) d None) None) (sym (ap (closing H) same) ∙ none) ∙ nothing (hands_out_in k it)
@@ -179,7 +179,7 @@ entered_ends H client n op j l k =
     by true is = absurd (over_old H client n op n l is refl)
     by false is = refl
 
-sent_entered : (H : List Event) (client n : ℕ) (op : Op) (m : ℕ) → Lawful (Entered client n op ∷ H) → pool (Entered client n op ∷ H) ≡ pool H → m ≢ n → has_begun_to_send (Entered client n op ∷ H) m ≡ has_begun_to_send H m
+pub sent_entered : (H : List Event) (client n : ℕ) (op : Op) (m : ℕ) → Lawful (Entered client n op ∷ H) → pool (Entered client n op ∷ H) ≡ pool H → m ≢ n → has_begun_to_send (Entered client n op ∷ H) m ≡ has_begun_to_send H m
 sent_entered H client n op m l same apart =
     ap (λ i. has_sent m (journal H (home (Entered client n op ∷ H) i))) (same_borrower H client n op m l apart)
     ∙ ap (λ p. has_sent m (journal H (home_in (borrower H m) p))) same

@@ -54,26 +54,26 @@ use Rattle.dsql_tx_other_laws.proofs.Lends.{lends, lent_there, lent_some, lent_u
 
 -- a place is lent, or isn't
 
-record LentAt (at : Option Place) : Type 0 where
-  tenure : ℕ
-  owner : Owner
-  is : at ≡ Some (Lent tenure owner)
+pub record LentAt (at : Option Place) : Type 0 where
+  pub tenure : ℕ
+  pub owner : Owner
+  pub is : at ≡ Some (Lent tenure owner)
 
-lent_or_not : (at : Option Place) → LentAt at ⊎ (is_lent at ≡ false)
+pub lent_or_not : (at : Option Place) → LentAt at ⊎ (is_lent at ≡ false)
 lent_or_not (Some (Lent t o)) = inl (record { tenure = t; owner = o; is = refl })
 lent_or_not (Some Idle) = inr refl
 lent_or_not (Some (Opening o)) = inr refl
 lent_or_not (Some Closing) = inr refl
 lent_or_not None = inr refl
 
-owner_at : (at : Option Place) (t u : ℕ) (o p : Owner) → at ≡ Some (Lent t o) → at ≡ Some (Lent u p) → number_of o ≡ number_of p
+pub owner_at : (at : Option Place) (t u : ℕ) (o p : Owner) → at ≡ Some (Lent t o) → at ≡ Some (Lent u p) → number_of o ≡ number_of p
 owner_at at t u o p a b = let same : Some (Lent t o) ≡ Some (Lent u p) = sym a ∙ b in ap number same
   where
     number : Option Place → ℕ
     number (Some (Lent v x)) = number_of x
     number q = 0
 
-not_lent : (at : Option Place) (t : ℕ) (o : Owner) → is_lent at ≡ false → at ≡ Some (Lent t o) → ⊥
+pub not_lent : (at : Option Place) (t : ℕ) (o : Owner) → is_lent at ≡ false → at ≡ Some (Lent t o) → ⊥
 not_lent at t o out is = let clash : true ≡ false = sym (ap is_lent is) ∙ out in cc
 
 pub free_before : (H : List Event) (c t : ℕ) (own : Owner) (n u : ℕ) (o : Owner) → Lawful (lends H c t own n) → place H c ≡ Some (Lent u o) → ⊥
@@ -124,7 +124,7 @@ other_home H c t own n j l apart = by (lent_or_not (place H (home H j)))
 
 -- who is lent it had none, and has no rows
 
-unlent_before : (H : List Event) (c t : ℕ) (own : Owner) (n d u : ℕ) (o : Owner) → Lawful (lends H c t own n) → place H d ≡ Some (Lent u o) → number_of o ≢ n
+pub unlent_before : (H : List Event) (c t : ℕ) (own : Owner) (n d u : ℕ) (o : Owner) → Lawful (lends H c t own n) → place H d ≡ Some (Lent u o) → number_of o ≢ n
 unlent_before H c t own n d u o l is same =
     lent_nothing H c t own n l.0 l.1 (λ may. lent_may_not_ask H d u o l.0 is (ap (may_ask H) same ∙ may)) (sym (ap (λ k. wanted k (pool H)) same) ∙ lent_wants_none H d u o l.0 is)
 
@@ -160,7 +160,7 @@ rows_elsewhere H c t own n j l some uses = by (work H j) refl (rows_hand_out H j
 pub other_line : (H : List Event) (c t : ℕ) (own : Owner) (n j : ℕ) (w : Wish) → Lawful (lends H c t own n) → borrower H j ≢ n → line_of (lends H c t own n) j w ≡ line_of H j w
 other_line H c t own n j w l apart = line_by_home H (Lend c t own n) j w (other_home H c t own n (borrower H j) l apart)
 
-over_some : (o : Option Rows) → over o ≡ true → is_some o ≡ true
+pub over_some : (o : Option Rows) → over o ≡ true → is_some o ≡ true
 over_some None h = absurd cc
 over_some (Some r) h = refl
 

@@ -66,11 +66,11 @@ beside_alike H c t own n m l apart rows = record {
 
 -- rows that weren't made
 
-none_made : (o : Option Rows) → is_some o ≡ false → o ≡ None
+pub none_made : (o : Option Rows) → is_some o ≡ false → o ≡ None
 none_made None h = refl
 none_made (Some r) h = absurd cc
 
-no_wish : (L : List Event) (m j : ℕ) → m ≢ 0 → rows_by L j ≡ None → wish L m j ≡ wishes.Nothing
+pub no_wish : (L : List Event) (m j : ℕ) → m ≢ 0 → rows_by L j ≡ None → wish L m j ≡ wishes.Nothing
 no_wish L m j some none =
     let unended_so : ender L j ≡ 0 = unended L j (ap over none) in
     ap (λ e. wish_as ((e == m) && rest) (is_fetch (work L m) && (are_live L j && is_none (decided L m)))) unended_so
@@ -90,7 +90,7 @@ unmade H c t own n m j some none =
     ap (sent_for (lends H c t own n) j) (no_wish (lends H c t own n) m j some gone) ∙ sym (ap (sent_for H j) (no_wish H m j some gone))
 
 -- whose rows they are uses the same connection
-same_user : (H : List Event) (m j : ℕ) → (work H m ≡ Fetch j) ⊎ (work H m ≡ Close j) → hands_out (work H j) ≡ true → borrower H m ≡ borrower H j
+pub same_user : (H : List Event) (m j : ℕ) → (work H m ≡ Fetch j) ⊎ (work H m ≡ Close j) → hands_out (work H j) ≡ true → borrower H m ≡ borrower H j
 same_user H m j its hands = by (work H j) refl hands its
   where
     by : (it : Work) → work H j ≡ it → hands_out it ≡ true → (work H m ≡ Fetch j) ⊎ (work H m ≡ Close j) → borrower H m ≡ borrower H j
@@ -109,7 +109,7 @@ unbegun_silent H m n c l unbegun is = by (has_sent m (journal H c)) refl
     by false h = refl
     by true h = let i = inside H l in absurd (never (sym (i.sent m n c h is) ∙ unbegun))
 
-nothing_in : (L : List Event) (m n : ℕ) → has_begun_to_send L m ≡ false → is_begun L n ≡ false → due_inside L m (Tx n) ≡ None
+pub nothing_in : (L : List Event) (m n : ℕ) → has_begun_to_send L m ≡ false → is_begun L n ≡ false → due_inside L m (Tx n) ≡ None
 nothing_in L m n unsent unbegun =
     ap (λ b. cond (b || (goes_on L n && is_none (decided L m))) (line_of L m wishes.Nothing) None) unsent
     ∙ ap (λ b. cond ((b && not (is_over L n)) && is_none (decided L m)) (line_of L m wishes.Nothing) None) unbegun

@@ -48,7 +48,7 @@ use Rattle.dsql_tx_other_laws.proofs.Untouched.{standing, still_standing, has_st
 
 -- the connection isn't found for another call, before or after
 
-found_same : (q : Conn → Bool) (c : ℕ) (f : Conn → Conn) (conns : List Conn) → ((x : Conn) → conn_of c conns ≡ Some x → q x ≡ false) → ((x : Conn) → q (f x) ≡ false) → find q (changed c f conns) ≡ find q conns
+pub found_same : (q : Conn → Bool) (c : ℕ) (f : Conn → Conn) (conns : List Conn) → ((x : Conn) → conn_of c conns ≡ Some x → q x ≡ false) → ((x : Conn) → q (f x) ≡ false) → find q (changed c f conns) ≡ find q conns
 found_same q c f [] before after = refl
 found_same q c f (x ∷ xs) before after = by (x.number == c) before (found_same q c f xs)
   where
@@ -83,7 +83,7 @@ opening_same : (H : List Event) (c t : ℕ) (own : Owner) (n j : ℕ) → Lawful
 opening_same H c t own n j l apart =
     ap (option_map (λ (conn : Conn). conn.number)) (found_same (λ conn. is_for j conn.place) c (lent t own (pool H).moment) (pool H).conns (not_for H c t own n j l apart) (λ x. refl))
 
-home_same : (H : List Event) (c t : ℕ) (own : Owner) (n j : ℕ) → Lawful (lends H c t own n) → j ≢ n → smallest (is_home j) (pool (lends H c t own n)) ≡ smallest (is_home j) (pool H)
+pub home_same : (H : List Event) (c t : ℕ) (own : Owner) (n j : ℕ) → Lawful (lends H c t own n) → j ≢ n → smallest (is_home j) (pool (lends H c t own n)) ≡ smallest (is_home j) (pool H)
 home_same H c t own n j l apart =
     ap (option_map (λ (conn : Conn). conn.number))
     (found_same (λ conn. is_home j conn.place) c (lent t own (pool H).moment) (pool H).conns (not_home H c t own n j l apart)
@@ -104,7 +104,7 @@ fewer_sent H c t own n m k l is h = by (same_or_not k n)
     by (inl same) = absurd (never (sym (unbegun_silent H m k (site (lends H c t own n) m) l.0 (ap (is_begun H) same ∙ lent_unbegun H c t own n l) is) ∙ h))
     by (inr away) = sym (ap (λ d. has_sent m (journal H d)) (homes (λ uses. away (sym (inside_uses H m k is) ∙ uses)))) ∙ h
 
-tries_same : (H : List Event) (c t : ℕ) (own : Owner) (n m : ℕ) → m ≢ n → tries (lends H c t own n) m ≡ tries H m
+pub tries_same : (H : List Event) (c t : ℕ) (own : Owner) (n m : ℕ) → m ≢ n → tries (lends H c t own n) m ≡ tries H m
 tries_same H c t own n m apart = ap (λ b. with_try b Served (tries H m)) (other_number n m (λ same. apart (sym same)))
 
 told_inside : (H : List Event) (c t : ℕ) (own : Owner) (n m : ℕ) (w : Work) (s : Scope) → Lawful (lends H c t own n) → m ≢ n → scope (work H m) ≡ s → is_some (told_in H m w s) ≡ true → is_some (told_in (lends H c t own n) m w s) ≡ true
@@ -149,7 +149,7 @@ own_still H c t own n m apart h = by (is_empty (owed H)) (sym (ap (λ b. cond (i
     by true x = absurd cc
     by false x = x
 
-stand_other : (H : List Event) (c t : ℕ) (own : Owner) (n m : ℕ) → Lawful (lends H c t own n) → m ≢ n → is_some (stand H m) ≡ true → is_some (stand (lends H c t own n) m) ≡ true
+pub stand_other : (H : List Event) (c t : ℕ) (own : Owner) (n m : ℕ) → Lawful (lends H c t own n) → m ≢ n → is_some (stand H m) ≡ true → is_some (stand (lends H c t own n) m) ≡ true
 stand_other H c t own n m l apart h =
     let K = lends H c t own n in
     ap (λ ts. is_some (standing (waits m (pool K).waiting) (smallest (is_for m) (pool K)) (due_for K m) (site K m) (has_to_reply K m) (asks_again ts))) (tries_same H c t own n m apart)
