@@ -1,0 +1,17 @@
+pub mod Elsewhere
+pub mod Once
+pub mod Heard
+pub mod Due
+pub mod Entering
+pub mod Settled
+pub mod Deciding
+pub mod Turns
+pub mod Lost
+pub mod Beside
+pub mod SendsOn
+pub mod OwnSent
+pub mod OwnRows
+pub mod Others
+pub mod Layer
+pub mod Apart
+pub mod House
