@@ -1,0 +1,12 @@
+pub mod SameOps
+pub mod Made
+pub mod KeptLines
+pub mod Stepped
+pub mod WhoseTurn
+pub mod InTurn
+pub mod AddedUp
+pub mod OnTheRun
+pub mod Singly
+pub mod Refused
+pub mod Woken
+pub mod Landed
