@@ -1,0 +1,10 @@
+pub mod Whose
+pub mod Steps
+pub mod RunOut
+pub mod Resting
+pub mod Enders
+pub mod Senders
+pub mod OwnEnds
+pub mod EndsHeard
+pub mod Left
+pub mod Ended
