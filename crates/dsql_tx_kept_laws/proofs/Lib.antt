@@ -1,0 +1,4 @@
+pub mod Listening
+pub mod OfConnections
+pub mod NothingAgain
+pub mod OfCalls
