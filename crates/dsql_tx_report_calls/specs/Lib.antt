@@ -1,0 +1,2 @@
+pub mod LineOps
+pub mod LineReplies
