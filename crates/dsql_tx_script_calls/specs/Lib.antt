@@ -1,0 +1,2 @@
+pub mod ScriptBegins
+pub mod ScriptCalls
