@@ -1,0 +1,3 @@
+pub mod MadeLabels
+pub mod ScriptTexts
+pub mod ScriptForms

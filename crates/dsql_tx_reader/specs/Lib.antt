@@ -1,0 +1,3 @@
+pub mod ScriptLabels
+pub mod ScriptHead
+pub mod ScriptLines
