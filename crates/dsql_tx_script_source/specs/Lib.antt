@@ -1,0 +1,4 @@
+pub mod Script
+pub mod Plays
+pub mod Position
+pub mod Reading

@@ -1,0 +1,98 @@
+-- What a script says: what its driver can do and its lines as they are played, up to the first one that is refused.
+use Rattle.std.specs.Prelude.{ℕ, ◌≡◌, ◌+◌, ◌&&◌, Bool, true, false, List, [], ◌∷◌, ◌++◌, ◌⊎◌, Option, Some, None, IfSome, Ok, Err, is_none}
+use Rattle.std.specs.List.{list_all}
+use Rattle.dsql_driver.specs.declared.caps.Caps.{Caps}
+use Rattle.dsql_tx_follows.specs.declared.line.Line.{Line}
+use Rattle.dsql_tx_follows.specs.declared.line.Line.TheVariants as played
+use Rattle.dsql_forms.specs.declared.fault.LineFault.{LineFault}
+use Rattle.dsql_tx_reader.specs.declared.script.ScriptLine.{ScriptLine}
+use Rattle.dsql_tx_reader.specs.declared.script.ScriptLine.TheVariants.{Skip, Version, UseCaps, Client, Step, StepHouse}
+use Rattle.dsql_tx_reader.specs.declared.script.ScriptLine.TheVariants as script
+use Rattle.dsql_tx_reader.specs.ScriptHead.{Progress, unread, after}
+use Rattle.dsql_tx_reader.specs.ScriptLines.{Reading, read_of}
+use Rattle.dsql_stream.specs.Lines.{all_lines}
+use Rattle.dsql_script_source.specs.Script.{later}
+
+-- what lines say: what their caps line asks for, if there is one, and what they ask for, oldest first
+pub record Said : Type 0 where
+  pub caps : Option Caps
+  pub lines : List Line
+
+abbrev pub nothing : Said
+nothing = record { caps = None; lines = [] }
+
+-- a line as it is played
+abbrev pub line_as_played : ScriptLine → Line
+line_as_played Skip = played.Skip
+line_as_played (Version version) = played.Skip
+line_as_played (UseCaps caps) = played.Skip
+line_as_played (script.Control control) = played.Control control
+line_as_played (script.Fault conn nth what) = played.Fault conn nth what
+line_as_played (Client client op true) = played.Start client op
+line_as_played (Client client op false) = played.Client client op
+line_as_played (Step client) = played.Step client
+line_as_played StepHouse = played.StepHouse
+
+-- what a line asks the driver for
+abbrev pub caps_asked : ScriptLine → Option Caps
+caps_asked (UseCaps caps) = Some caps
+caps_asked _ = None
+
+abbrev pub said_of : ScriptLine → Said
+said_of line = record { caps = caps_asked line; lines = line_as_played line ∷ [] }
+
+-- what lines say, and then what other ones say
+abbrev pub then : Said → Said → Said
+then first more = record { caps = later first.caps more.caps; lines = first.lines ++ more.lines }
+
+abbrev pub is_skip : Line → Bool
+is_skip played.Skip = true
+is_skip _ = false
+
+-- No line among them is a caps line, and all are skipped as they are played.
+abbrev pub is_silent : Said → Bool
+is_silent says = is_none says.caps && list_all is_skip says.lines
+
+-- what lines say up to the first one that is refused, and that one, if there is one
+pub record Script : Type 0 where
+  pub says : Said
+  pub refused : Option (ℕ × LineFault)
+
+-- no line is refused
+abbrev pub whole : Said → Script
+whole says = record { says = says; refused = None }
+
+-- a script whose first line is refused
+abbrev pub refused_at : ℕ → LineFault → Script
+refused_at number fault = record { says = nothing; refused = Some (number, fault) }
+
+-- a script behind lines that say this
+abbrev pub with_said : Said → Script → Script
+with_said says rest = record { says = then says rest.says; refused = rest.refused }
+
+-- a line of this number, and what stands behind it
+abbrev pub with_line : ℕ → Reading → (ScriptLine → Script) → Script
+with_line number (Ok line) rest = with_said (said_of line) (rest line)
+with_line number (Err fault) rest = refused_at number fault
+
+-- what these lines say, where the script was read so far before them
+abbrev pub script_from : Progress → List (List ℕ) → Script
+script_from before [] = whole nothing
+script_from before (line ∷ more) = with_line (before.lines + 1) (read_of before line) (λ says. script_from (after before says) more)
+
+abbrev pub script_of : List ℕ → Script
+script_of bytes = script_from unread (all_lines bytes)
+
+-- where the bytes are known, this is what they say
+abbrev pub Says : Option (List ℕ) → Script → Type 0
+Says bytes script = IfSome bytes (λ b. script_of b ≡ script)
+
+-- What lines say begins with this. Unless this is silent, nothing more is asked of the driver behind it.
+pub record BeginsSaying (front all : Said) : Type 0 where
+  pub rest : Said
+  pub parts : all ≡ then front rest
+  pub asked : (is_silent front ≡ true) ⊎ (rest.caps ≡ None)
+
+-- where the bytes are known, they say this first
+abbrev pub SaysFirst : Option (List ℕ) → Said → Type 0
+SaysFirst bytes says = IfSome bytes (λ b. BeginsSaying says (script_of b).says)
