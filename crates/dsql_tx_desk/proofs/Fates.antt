@@ -1,0 +1,23 @@
+-- What an answer says of its connection.
+use Rattle.std.proofs.Common.{◌≡◌, Bool, true, false, cond, List, ◌∷◌, ◌||◌, refl, ap, ◌∙◌}
+use Rattle.dsql_driver.specs.Fits.{is_invalid}
+use Rattle.dsql_driver.specs.Kinds.{is_bad}
+use Rattle.dsql_journal.specs.declared.entry.Entry.{Entry}
+use Rattle.dsql_journal.specs.Readers.{went_bad}
+use Rattle.dsql_work.specs.Journals.{ends_invalid}
+use Rattle.dsql_tx_history.specs.declared.event.Event.{Event}
+use Rattle.dsql_tx_history.specs.declared.event.Event.TheVariants.{Heard}
+use Rattle.dsql_tx_history.specs.Readers.Journals.{journal}
+use Rattle.dsql_history.specs.Readers.Owed.{fate_when}
+use Rattle.dsql_tx_history.specs.Readers.Owed.{fate}
+use Rattle.dsql_laws.proofs.Tests.{same_itself}
+
+or_no : (a b : Bool) → b ≡ false → a || b ≡ a
+or_no true b h = refl
+or_no false b h = h
+
+-- the newest answer tells it, where no earlier one was bad
+pub fate_heard : (H : List Event) (e : Entry) → went_bad (journal H e.conn) ≡ false → fate (Heard e ∷ H) e.conn ≡ fate_when (is_bad e.answer) (is_invalid e.answer)
+fate_heard H e good =
+    ap (λ (b : Bool). fate_when (went_bad (cond b (e ∷ journal H e.conn) (journal H e.conn))) (ends_invalid (cond b (e ∷ journal H e.conn) (journal H e.conn)))) (same_itself e.conn)
+    ∙ ap (λ (b : Bool). fate_when b (is_invalid e.answer)) (or_no (is_bad e.answer) (went_bad (journal H e.conn)) good)
