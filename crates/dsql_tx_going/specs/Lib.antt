@@ -1,0 +1,4 @@
+pub mod Permits
+pub mod Answers
+pub mod Reaching
+pub mod Stepping
