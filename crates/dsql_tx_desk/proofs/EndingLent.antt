@@ -7,6 +7,7 @@ use Rattle.dsql_journal.specs.Readers.{went_bad}
 use Rattle.dsql_laws.proofs.Tests.{same_itself}
 use Rattle.dsql_pool.specs.declared.conn.Place.{Place}
 use Rattle.dsql_pool.specs.declared.conn.Place.TheVariants.{Idle, Lent, Opening, Closing}
+use Rattle.dsql_pool.specs.Places.{is_lent}
 use Rattle.dsql_tx.specs.declared.end.TxEnd.{TxEnd}
 use Rattle.dsql_tx_exchanged.specs.Ending.{ending_in}
 use Rattle.dsql_tx_history.specs.declared.event.Event.{Event}
@@ -64,3 +65,11 @@ ends_on H k c end l ended lent =
           ∙ (ap (λ b. cond b (or_else first (end_after H (went_bad (journal H c)) end heard)) None) same
           ∙ ap (λ b. or_else first (end_after H b end heard)) (sym (kept_bad H c it.tenure it.owner l it.at)))));
     }
+
+-- what is known of a connection that is lent is what its journal tells
+pub known_bad : (H : List Event) (c : ℕ) (at : Option Place) → Lawful H → place H c ≡ at → is_lent at ≡ true → (there_at H c).ending.bad ≡ went_bad (journal H c)
+known_bad H c (Some (Lent t own)) l is lent = kept_bad H c t own l is
+known_bad H c (Some Idle) l is lent = absurd cc
+known_bad H c (Some (Opening wanted)) l is lent = absurd cc
+known_bad H c (Some Closing) l is lent = absurd cc
+known_bad H c None l is lent = absurd cc

@@ -130,7 +130,7 @@ impl Desk {
     }
 
     /// Whether a connection is known to be bad since it was lent.
-    fn is_bad(&self, conn: u32) -> bool
+    pub(crate) fn is_bad(&self, conn: u32) -> bool
         requires { Stands self.now }
         ensures { result ≡ (there_at (past self.now) conn).ending.bad }
     {

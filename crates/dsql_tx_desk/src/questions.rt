@@ -1,5 +1,6 @@
 //! Questions about calls and connections, each answered in a reader's word.
-ghost use Rattle.std.specs.Prelude.{◌≡◌, ◌<◌, ◌==◌, is_some, length, find, IfOk};
+ghost use Rattle.std.specs.Prelude.{◌≡◌, ◌<◌, ◌==◌, true, is_some, length, find, IfOk};
+ghost use Rattle.dsql_journal.specs.Readers.{went_bad};
 ghost use Rattle.dsql_work.specs.Limits.{most_within_a_step};
 ghost use Rattle.dsql_tx_desk.specs.Desk.{past, Stands};
 ghost use Rattle.dsql_tx_calls.specs.Calls.{options_of, rows_worked, tx_worked};
@@ -9,11 +10,12 @@ ghost use Rattle.dsql_tx_history.specs.Readers.Clients.{call_of, client_of};
 ghost use Rattle.dsql_tx_history.specs.Readers.Controls.{taken};
 ghost use Rattle.dsql_tx_history.specs.Readers.HandedOut.{are_live, are_over, ender};
 ghost use Rattle.dsql_history.specs.Readers.Pool.{is_home, smallest};
+ghost use Rattle.dsql_tx_history.specs.Readers.Journals.{journal};
 ghost use Rattle.dsql_tx_history.specs.Readers.Pool.{home, place, pool};
 ghost use Rattle.dsql_tx_history.specs.Readers.Unfinished.{is_unfinished, unfinished};
 ghost use Rattle.dsql_tx_history.specs.Readers.Works.{aim_of, asks, borrower, is_fetch, owner_of, scope, work};
 ghost use Rattle.dsql_tx_history.specs.Rules.Sent.{asked_by, is_reset_due};
-ghost use Rattle.dsql_pool.specs.Places.{is_for};
+ghost use Rattle.dsql_pool.specs.Places.{is_for, is_lent};
 ghost use Rattle.dsql_pool.specs.Pooled.{next_tenure};
 ghost use Rattle.dsql_wait.specs.Requests.{waits};
 
@@ -105,6 +107,15 @@ impl Desk {
         ensures { result ≡ place (past self.now) conn }
     {
         self.pool.place(conn)
+    }
+
+    /// Whether a connection that is lent is known to be bad.
+    pub fn is_known_bad(&self, conn: u32) -> bool
+        requires stands { Stands self.now }
+        requires lent { is_lent (place (past self.now) conn) ≡ true }
+        ensures { result ≡ went_bad (journal (past self.now) conn) }
+    {
+        self.is_bad(conn)
     }
 
     /// The number of a connection's next tenure.

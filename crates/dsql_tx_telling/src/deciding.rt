@@ -1,5 +1,5 @@
 //! What an answer to a Query or a Next decides for its call.
-ghost use Rattle.std.specs.Prelude.{◌≡◌, ◌≢◌, Err, IfOk, OnOk};
+ghost use Rattle.std.specs.Prelude.{◌≡◌, ◌≢◌, Err, IfOk, OnErr, OnOk};
 ghost use Rattle.dsql_tx_calls.specs.Calls.{row_at};
 ghost use Rattle.dsql_calls.specs.Tried.{number};
 ghost use Rattle.dsql_tx_telling.specs.Heard.{Decides};
@@ -108,6 +108,7 @@ fn row_reply(alloc: Global, values: &[Value], dests: &[Dest]) -> Result<Option<R
 pub fn row_fault(fault: RowFault) -> Result<Option<Reply>, NoRoom>
     ensures reply { IfOk result (λ reply. reply ≡ told_row (Err fault)) }
     ensures memory { OnOk result (fault ≢ RowFault.Memory) }
+    ensures full { OnErr result (fault ≡ RowFault.Memory) }
 {
     match fault {
         RowFault::DestCount { want, got } => Ok(Some(Reply::DestCount { want, got })),

@@ -1,6 +1,6 @@
 //! What is kept of a call that enters, as far as it is told without the history.
 ghost use Rattle.std.specs.Option.{option_copied};
-ghost use Rattle.std.specs.Prelude.{◌≡◌, true, Some, None, Err, IfOk, option_map};
+ghost use Rattle.std.specs.Prelude.{◌≡◌, true, Some, None, Err, IfOk, OnErr, option_map};
 ghost use Rattle.dsql_course.specs.Made.{or_else};
 ghost use Rattle.dsql_numbered.specs.Numbered.{thing_of, was_made};
 ghost use Rattle.dsql_tx_history.specs.Readers.Calls.{done_with};
@@ -162,7 +162,8 @@ fn options_refused(begin_options: bool, level: Level, read_only: bool) -> Option
 /// What a call on the transaction of a label is told at once: that none is there, or that it has ended.
 pub fn told_on(txs: &Txs, tx: Option<u32>, label: &Txt) -> Result<Option<Reply>, NoRoom>
     requires { IsBegun tx txs.now.txs }
-    ensures { IfOk result (λ reply. reply ≡ told_on label.now tx txs.now.txs) }
+    ensures told { IfOk result (λ reply. reply ≡ told_on label.now tx txs.now.txs) }
+    ensures full { OnErr result (tx ≡ None) }
 {
     match tx {
         None => Ok(Some(Reply::Absent(label.copy()?))),

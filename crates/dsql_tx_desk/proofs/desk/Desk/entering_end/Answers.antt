@@ -10,4 +10,4 @@ returns c =
     let H = past c.args.self.now in
     let label = c.args.label.now in
     starts_end H label c.args.by c.tx_maker-tx.result c.ending_of-ends.result c.in_ok-told.told c.over_end.result c.over_end.ensures c.tx_maker-tx.ensures c.ending_of-ends.ensures
-    (c.in_ok-told.ensures ∙ (ap (told_on label c.tx_named.result) c.requires.tables.txs ∙ told_named H label c.tx_named.result c.tx_named.ensures))
+    (c.in_ok-told.ensures.told ∙ (ap (told_on label c.tx_named.result) c.requires.tables.txs ∙ told_named H label c.tx_named.result c.tx_named.ensures))

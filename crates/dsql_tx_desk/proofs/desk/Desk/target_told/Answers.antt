@@ -6,4 +6,4 @@ pub returns-in-Label : goal.returns-in-Label
 unfolding Stands
 returns-in-Label c =
     let d = c.args.self.now in
-    told_target (past d) c.args.target.now c.in-Label.tx c.tx_named.result d.txs.txs c.told_on.result c.in-Label.is c.tx_named.ensures c.requires.tables.txs c.told_on.ensures
+    told_target (past d) c.args.target.now c.in-Label.tx c.tx_named.result d.txs.txs c.told_on.result c.in-Label.is c.tx_named.ensures c.requires.tables.txs c.told_on.ensures.told
