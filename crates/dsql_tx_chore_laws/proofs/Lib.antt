@@ -1,0 +1,4 @@
+pub mod Itself
+pub mod Tidied
+pub mod Made
+pub mod Placed
