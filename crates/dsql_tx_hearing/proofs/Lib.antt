@@ -1,0 +1,4 @@
+pub mod Welcome
+pub mod Letting
+pub mod Steps
+pub mod Lent
