@@ -1,0 +1,12 @@
+mod Stated
+mod Steps
+mod Spent
+mod Once
+mod Ran
+mod Inside
+mod Carried
+mod RowSteps
+mod Few
+mod Counted
+mod Begun
+mod Ended

@@ -1,0 +1,4 @@
+pub mod Once
+pub mod Counted
+pub mod Transactions
+pub mod Worked
