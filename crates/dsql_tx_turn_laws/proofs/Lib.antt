@@ -1,0 +1,11 @@
+pub mod Due
+pub mod Senders
+pub mod Flights
+pub mod Answered
+pub mod Leave
+pub mod Later
+pub mod Keeping
+pub mod Begins
+pub mod Steps
+pub mod Turning
+pub mod Blocked
