@@ -1,0 +1,11 @@
+pub mod Slots
+pub mod Journals
+pub mod Wiring
+pub mod Telling
+pub mod Reading
+pub mod Plans
+pub mod Planned
+pub mod NoneLeft
+pub mod Permits
+pub mod Asking
+pub mod Extending

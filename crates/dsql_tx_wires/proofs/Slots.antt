@@ -1,0 +1,36 @@
+-- The slots of wires: what stands in one after a write, and what an entry makes of it.
+use Rattle.std.proofs.Common.{◌≡◌, ◌≢◌, ℕ, zero, suc, List, [], ◌∷◌, get_or, set, Option, Some, None, refl, sym, ◌∙◌}
+use Rattle.std.specs.Prelude.{IsSomeAnd}
+use Rattle.std.proofs.lemmas.List.{get_or-set_other}
+use Rattle.dsql_driver.specs.Wires.{WireTold}
+use Rattle.dsql_journal.specs.declared.entry.Entry.{Entry}
+use Rattle.dsql_wire.specs.Journaled.{Journaled}
+use Rattle.dsql_tx_wires.specs.WiresFit.{slot, Hears, HearsEntry}
+
+pub slot_elsewhere : {W : Type 0} (ws : List (Option W)) (d : ℕ) (w : Option W) (c : ℕ) → c ≢ d → slot (set ws d w) c ≡ slot ws c
+slot_elsewhere ws d w c n = get_or-set_other ws d c w None n
+
+-- what a list has at a place where it is given what it has beyond its end
+pub set_default : {A : Type 0} (xs : List A) (i : ℕ) (d : A) → get_or (set xs i d) i d ≡ d
+set_default [] i d = refl
+set_default (x ∷ xs) zero d = refl
+set_default (x ∷ xs) (suc i) d = set_default xs i d
+
+-- the wire of a slot that has one
+pub wire_here : {W : Type 0} (ws : List (Option W)) (i : ℕ) (x : Option W) (P : W → Type 0) (w : W) → IsSomeAnd (slot ws i) P → x ≡ get_or ws i x → x ≡ Some w → slot ws i ≡ Some w
+wire_here [] i x P w some at is = absurd some
+wire_here (y ∷ ws) zero x P w some at is = sym at ∙ is
+wire_here (y ∷ ws) (suc i) x P w some at is = wire_here ws i x P w some at is
+
+-- it hears one entry more, and goes back into its slot
+pub heard_here : {W : Type 0} (told : W → Option WireTold) (e : Entry) (ws : List (Option (Journaled W))) (i : ℕ) (before after : Journaled W) → slot ws i ≡ Some before → Hears told e before after
+    → HearsEntry told e (slot ws i) (slot (set ws i (Some after)) i)
+heard_here told e [] i before after is h = absurd cc
+heard_here told e (y ∷ ws) zero before after is h = rw is h
+heard_here told e (y ∷ ws) (suc i) before after is h = heard_here told e ws i before after is h
+
+-- a write at the place of a wire
+pub set_wire : {W : Type 0} (ws : List (Option W)) (i : ℕ) (before after : W) → slot ws i ≡ Some before → slot (set ws i (Some after)) i ≡ Some after
+set_wire [] i before after is = absurd cc
+set_wire (y ∷ ws) zero before after is = refl
+set_wire (y ∷ ws) (suc i) before after is = set_wire ws i before after is

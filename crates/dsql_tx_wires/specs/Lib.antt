@@ -1,0 +1,5 @@
+pub mod Plans
+pub mod WiresFit
+pub mod Asked
+pub mod Told
+pub mod Extends
