@@ -1,0 +1,4 @@
+pub mod AskedBack
+pub mod RepliesBack
+pub mod EventsBack
+pub mod LinesBack

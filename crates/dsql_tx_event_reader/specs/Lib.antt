@@ -1,0 +1,5 @@
+pub mod Asked
+pub mod ReplyForms
+pub mod Fits
+pub mod Events
+pub mod Refusals
