@@ -4,12 +4,12 @@ use Rattle.std.specs.Prelude.{Result, Ok, Err}
 use Rattle.std.proofs.lemmas.List.{append-nil}
 use Rattle.dsql_driver.specs.declared.caps.Caps.{Caps}
 use Rattle.dsql_driver.specs.Wires.{FleetTold, WireTold}
-use Rattle.dsql_history.specs.declared.event.Event.{Event}
-use Rattle.dsql_history.specs.declared.event.Event.TheVariants.{Run}
+use Rattle.dsql_tx_history.specs.declared.event.Event.{Event}
+use Rattle.dsql_tx_history.specs.declared.event.Event.TheVariants.{Run}
 use Rattle.dsql_wire.specs.Journaled.{Journaled}
-use Rattle.dsql_wires.specs.Plans.{Made}
-use Rattle.dsql_wires.specs.Told.{with_told, AsksAtMost, SameAsked, retired_from}
-use Rattle.dsql_wires.proofs.Telling.{no_more, same_both, retired_same}
+use Rattle.dsql_tx_wires.specs.Plans.{Made}
+use Rattle.dsql_tx_wires.specs.Told.{with_told, AsksAtMost, SameAsked, retired_from}
+use Rattle.dsql_tx_wires.proofs.Telling.{no_more, same_both, retired_same}
 use Rattle.dsql_script_source.specs.Stops.{is_read_fault, no_read_failed}
 use Rattle.dsql_script_source.specs.declared.stop.Stop.{Stop}
 use Rattle.dsql_script_source.specs.declared.stop.Stop.TheVariants.{Read, Write, Memory, Refused, Full}

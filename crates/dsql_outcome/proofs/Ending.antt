@@ -3,18 +3,19 @@ use Rattle.std.proofs.Common.{◌≡◌, ◌⊎◌, ℕ, ◌≤◌, Bool, true, 
 use Rattle.std.specs.Prelude.{Result, Ok, Err}
 use Rattle.dsql_driver.specs.declared.caps.Caps.{Caps}
 use Rattle.dsql_driver.specs.Wires.{FleetTold}
-use Rattle.dsql_history.specs.declared.event.Event.{Event}
-use Rattle.dsql_follows.specs.Moments.{Moment}
-use Rattle.dsql_follows.specs.Follows.{after, told}
-use Rattle.dsql_wires.specs.Extends.{Extends}
-use Rattle.dsql_wires.specs.Told.{FleetTellsOn, LeavesAtMost, SameAsked, with_told}
-use Rattle.dsql_playing.specs.Planned.{plans_made}
-use Rattle.dsql_playing.specs.Carried.{CarriesEnd, StopsInEnd}
-use Rattle.dsql_playing.specs.Playing.{Playing, IsAt}
-use Rattle.dsql_report.specs.Lines.{text_of}
-use Rattle.dsql_show.specs.Report.{oldest, Shows, StopsBetween}
-use Rattle.dsql_script_source.specs.Plays.{Plays}
-use Rattle.dsql_script_source.specs.Script.{Said}
+use Rattle.dsql_tx_history.specs.declared.event.Event.{Event}
+use Rattle.dsql_tx_follows.specs.Moments.{Moment}
+use Rattle.dsql_tx_follows.specs.Follows.{after, told}
+use Rattle.dsql_tx_wires.specs.Extends.{Extends}
+use Rattle.dsql_tx_wires.specs.Told.{FleetTellsOn, LeavesAtMost, SameAsked, with_told}
+use Rattle.dsql_tx_playing.specs.Planned.{plans_made}
+use Rattle.dsql_tx_playing.specs.Carried.{CarriesEnd, StopsInEnd}
+use Rattle.dsql_tx_playing.specs.Playing.{Playing, IsAt}
+use Rattle.dsql_tx_report.specs.Lines.{text_of}
+use Rattle.dsql_tx_show.specs.Report.{oldest, Shows}
+use Rattle.dsql_show.specs.Report.{StopsBetween}
+use Rattle.dsql_tx_script_source.specs.Plays.{Plays}
+use Rattle.dsql_tx_script_source.specs.Script.{Said}
 use Rattle.dsql_script_source.specs.declared.stop.Stop.{Stop}
 use Rattle.dsql_script_source.specs.declared.stop.Stop.TheVariants.{Read, Write, Memory, Refused, Full}
 use Rattle.dsql_outcome.specs.Followed.{FollowsAll}

@@ -4,10 +4,11 @@ use Rattle.std.specs.Prelude.{Result, Ok, Err, nat_lt, nat_le}
 use Rattle.std.proofs.lemmas.Bool.{lt-ltb, ltb-true, le-leb, leb-true}
 use Rattle.std.proofs.lemmas.List.{append-nil}
 use Rattle.dsql_driver.specs.Streams.{HasRisen, has_risen, last_count}
-use Rattle.dsql_history.specs.declared.event.Event.{Event}
-use Rattle.dsql_wires.specs.Extends.{Extends}
-use Rattle.dsql_report.specs.Lines.{text_of}
-use Rattle.dsql_show.specs.Report.{with_text, Shows, ShowsFront}
+use Rattle.dsql_tx_history.specs.declared.event.Event.{Event}
+use Rattle.dsql_tx_wires.specs.Extends.{Extends}
+use Rattle.dsql_tx_report.specs.Lines.{text_of}
+use Rattle.dsql_show.specs.Report.{with_text, ShowsFront}
+use Rattle.dsql_tx_show.specs.Report.{Shows}
 use Rattle.dsql_script_source.specs.declared.stop.Stop.{Stop}
 use Rattle.dsql_script_source.specs.declared.stop.Stop.TheVariants.{Read, Write, Memory, Refused, Full}
 use Rattle.dsql_outcome.specs.Runs.{ran_out, is_write_fault, is_cut, wanted_memory, Wrote, Writes}

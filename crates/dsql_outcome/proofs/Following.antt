@@ -6,19 +6,19 @@ use Rattle.std.proofs.lemmas.Bool.{and_from, and_parts}
 use Rattle.std.proofs.lemmas.List.{reverse-append}
 use Rattle.std.proofs.lemmas.List.Folds.{list_all-append}
 use Rattle.dsql_driver.specs.declared.caps.Caps.{Caps}
-use Rattle.dsql_history.specs.declared.event.Event.{Event}
-use Rattle.dsql_history.specs.declared.event.Event.TheVariants.{Run}
-use Rattle.dsql_follows.specs.declared.line.Line.{Line}
-use Rattle.dsql_follows.specs.declared.line.Line.TheVariants.{Skip}
-use Rattle.dsql_follows.specs.Moments.{Moment, just_begun, lines_of as lines_of_client}
-use Rattle.dsql_follows.specs.Sentences.{Part, after_part}
-use Rattle.dsql_follows.specs.Turns.{clients, has_run_out}
-use Rattle.dsql_follows.specs.Follows.{FollowsLine, FollowsLines, after, told}
-use Rattle.dsql_playing.specs.Carried.{Carries, CarriesEnd, StopsInEnd, StopsInLine, part}
-use Rattle.dsql_wires.specs.Plans.{Made}
-use Rattle.dsql_playing.specs.Planned.{plans_made, plans_of}
-use Rattle.dsql_playing.specs.Playing.{Playing, IsAt}
-use Rattle.dsql_script_source.specs.Script.{is_skip}
+use Rattle.dsql_tx_history.specs.declared.event.Event.{Event}
+use Rattle.dsql_tx_history.specs.declared.event.Event.TheVariants.{Run}
+use Rattle.dsql_tx_follows.specs.declared.line.Line.{Line}
+use Rattle.dsql_tx_follows.specs.declared.line.Line.TheVariants.{Skip}
+use Rattle.dsql_tx_follows.specs.Moments.{Moment, just_begun, lines_of as lines_of_client}
+use Rattle.dsql_tx_follows.specs.Sentences.{Part, after_part}
+use Rattle.dsql_tx_follows.specs.Turns.{clients, has_run_out}
+use Rattle.dsql_tx_follows.specs.Follows.{FollowsLine, FollowsLines, after, told}
+use Rattle.dsql_tx_playing.specs.Carried.{Carries, CarriesEnd, StopsInEnd, StopsInLine, part}
+use Rattle.dsql_tx_wires.specs.Plans.{Made}
+use Rattle.dsql_tx_playing.specs.Planned.{plans_made, plans_of}
+use Rattle.dsql_tx_playing.specs.Playing.{Playing, IsAt}
+use Rattle.dsql_tx_script_source.specs.Script.{is_skip}
 use Rattle.dsql_outcome.specs.Followed.{FollowsAll, FollowsSoFar, StopsShort, lines_of}
 use Rattle.dsql_outcome.specs.Lent.{StopsPlanning}
 

@@ -3,25 +3,26 @@ use Rattle.std.proofs.Common.{◌≡◌, ℕ, ◌+◌, Bool, true, false, List, 
 use Rattle.std.specs.Prelude.{reverse, IfErr, IfOk, IfSome, Result, Ok, Err}
 use Rattle.dsql_driver.specs.declared.caps.Caps.{Caps}
 use Rattle.dsql_driver.specs.Wires.{FleetTold}
-use Rattle.dsql_history.specs.declared.event.Event.{Event}
-use Rattle.dsql_history.specs.declared.event.Event.TheVariants.{Run}
-use Rattle.dsql_follows.specs.declared.line.Line.{Line}
-use Rattle.dsql_follows.specs.Moments.{Moment, just_begun}
-use Rattle.dsql_follows.specs.Sentences.{Part}
-use Rattle.dsql_follows.specs.Follows.{after, told}
-use Rattle.dsql_playing.specs.Carried.{Carries, StopsInLine, part}
-use Rattle.dsql_wires.specs.Plans.{Made}
-use Rattle.dsql_wires.specs.Told.{TellsAtMost, with_told}
-use Rattle.dsql_wires.proofs.Telling.{no_more}
-use Rattle.dsql_playing.specs.Planned.{plans_made, plans_of}
-use Rattle.dsql_playing.specs.Playing.{Playing, IsAt}
-use Rattle.dsql_reader.specs.declared.script.ScriptLine.{ScriptLine}
-use Rattle.dsql_report.specs.Lines.{text_of}
-use Rattle.dsql_show.specs.Report.{StopsBetween, oldest}
-use Rattle.dsql_script_source.specs.Plays.{Plays, saying}
-use Rattle.dsql_script_source.specs.Position.{Position}
-use Rattle.dsql_script_source.specs.Reading.{HasRead, IsBodyLine, ReadTo, came, is_body}
-use Rattle.dsql_script_source.specs.Script.{line_as_played}
+use Rattle.dsql_tx_history.specs.declared.event.Event.{Event}
+use Rattle.dsql_tx_history.specs.declared.event.Event.TheVariants.{Run}
+use Rattle.dsql_tx_follows.specs.declared.line.Line.{Line}
+use Rattle.dsql_tx_follows.specs.Moments.{Moment, just_begun}
+use Rattle.dsql_tx_follows.specs.Sentences.{Part}
+use Rattle.dsql_tx_follows.specs.Follows.{after, told}
+use Rattle.dsql_tx_playing.specs.Carried.{Carries, StopsInLine, part}
+use Rattle.dsql_tx_wires.specs.Plans.{Made}
+use Rattle.dsql_tx_wires.specs.Told.{TellsAtMost, with_told}
+use Rattle.dsql_tx_wires.proofs.Telling.{no_more}
+use Rattle.dsql_tx_playing.specs.Planned.{plans_made, plans_of}
+use Rattle.dsql_tx_playing.specs.Playing.{Playing, IsAt}
+use Rattle.dsql_tx_reader.specs.declared.script.ScriptLine.{ScriptLine}
+use Rattle.dsql_tx_report.specs.Lines.{text_of}
+use Rattle.dsql_show.specs.Report.{StopsBetween}
+use Rattle.dsql_tx_show.specs.Report.{oldest}
+use Rattle.dsql_tx_script_source.specs.Plays.{Plays, saying}
+use Rattle.dsql_tx_script_source.specs.Position.{Position}
+use Rattle.dsql_tx_script_source.specs.Reading.{HasRead, IsBodyLine, ReadTo, came, is_body}
+use Rattle.dsql_tx_script_source.specs.Script.{line_as_played}
 use Rattle.dsql_script_source.specs.Stops.{IsReadStop}
 use Rattle.dsql_script_source.specs.declared.stop.Stop.{Stop}
 use Rattle.dsql_script_source.specs.declared.stop.Stop.TheVariants.{Read, Write, Memory, Refused, Full}

@@ -5,17 +5,17 @@ use Rattle.std.specs.List.{list_all}
 use Rattle.std.proofs.lemmas.Bool.{and_from, and_parts}
 use Rattle.std.proofs.lemmas.List.Folds.{list_all-append}
 use Rattle.dsql_driver.specs.declared.caps.Caps.{Caps}
-use Rattle.dsql_follows.specs.declared.line.Line.{Line}
-use Rattle.dsql_reader.specs.declared.script.ScriptLine.{ScriptLine}
-use Rattle.dsql_script_source.specs.Plays.{Plays, saying}
-use Rattle.dsql_script_source.specs.Position.{Position}
-use Rattle.dsql_script_source.specs.Reading.{HasRead, ReadTo, IsBodyLine, is_body}
-use Rattle.dsql_script_source.specs.Script.{Said, SaysFirst, is_silent, is_skip, line_as_played, nothing, said_of, then}
+use Rattle.dsql_tx_follows.specs.declared.line.Line.{Line}
+use Rattle.dsql_tx_reader.specs.declared.script.ScriptLine.{ScriptLine}
+use Rattle.dsql_tx_script_source.specs.Plays.{Plays, saying}
+use Rattle.dsql_tx_script_source.specs.Position.{Position}
+use Rattle.dsql_tx_script_source.specs.Reading.{HasRead, ReadTo, IsBodyLine, is_body}
+use Rattle.dsql_tx_script_source.specs.Script.{Said, SaysFirst, is_silent, is_skip, line_as_played, nothing, said_of, then}
 use Rattle.dsql_script_source.specs.declared.stop.Stop.{Stop}
 use Rattle.dsql_script_source.specs.declared.stop.Stop.TheVariants.{Read, Write, Memory, Refused, Full}
-use Rattle.dsql_script_source.proofs.Coming.{first_of_read_so_far}
-use Rattle.dsql_script_source.proofs.Saying.{body_asks_none, body_says, then-nothing, then-then}
-use Rattle.dsql_script_source.proofs.WholeLines.{first_of_read}
+use Rattle.dsql_tx_script_source.proofs.Coming.{first_of_read_so_far}
+use Rattle.dsql_tx_script_source.proofs.Saying.{body_asks_none, body_says, then-nothing, then-then}
+use Rattle.dsql_tx_script_source.proofs.WholeLines.{first_of_read}
 use Rattle.dsql_outcome.specs.Runs.{IsPlayStop}
 
 -- what a run has of its script whatever became of its report

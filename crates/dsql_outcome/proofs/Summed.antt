@@ -4,6 +4,7 @@ use Rattle.std.specs.Prelude.{Result, Ok, Err}
 use Rattle.dsql_driver.specs.Streams.{HasRisen, has_risen}
 use Rattle.dsql_show.specs.Report.{with_text}
 use Rattle.dsql_generator.specs.Script.{generated}
+use Rattle.dsql_tx_apart.proofs.Histories.{all_apart}
 use Rattle.dsql_script_source.specs.declared.stop.Stop.{Stop}
 use Rattle.dsql_script_source.specs.declared.stop.Stop.TheVariants.{Read}
 use Rattle.dsql_outcome.specs.Headline.{Seen, SeenNotes}
@@ -21,6 +22,7 @@ summed_of_ran (Ok done) (Ok all) before after one two is out untold well s = rec
   asked = s.ran.asked;
   lines = s.ran.lines;
   legal = s.ran.legal;
+  apart = all_apart s.ran.history s.ran.legal.lawful;
   says = s.ran.plays;
   follows = s.ran.follows refl;
   prefers = s.ran.prefers;

@@ -3,6 +3,7 @@ use Rattle.std.proofs.Common.{◌≡◌, ◌⊎◌, ℕ, Bool, true, List, Optio
 use Rattle.std.specs.Prelude.{Result, Ok, Err}
 use Rattle.dsql_driver.specs.Streams.{HasRisen, has_risen}
 use Rattle.dsql_forms.specs.declared.fault.LineFault.{LineFault}
+use Rattle.dsql_tx_apart.proofs.Histories.{all_apart}
 use Rattle.dsql_outcome.specs.Notes.{note_of, status_of, is_status, failed_status, Tells}
 use Rattle.dsql_show.specs.Report.{with_text}
 use Rattle.dsql_outcome.specs.Headline.{Seen, SeenNotes, Ran, NotBegun, PlaysAndTells, PlaysWhole, RefusesWords}
@@ -38,6 +39,7 @@ whole_of_ran (Ok done) before after one two is untold r = record {
   asked = r.asked;
   lines = r.lines;
   legal = r.legal;
+  apart = all_apart r.history r.legal.lawful;
   says = r.plays;
   follows = r.follows refl;
   prefers = r.prefers;

@@ -2,13 +2,14 @@
 use Rattle.std.proofs.Common.{◌≡◌, ℕ, ◌≤◌, List, [], ◌++◌, Option, Some, None, length, take, drop, refl, sym, ap, ◌∙◌, arith}
 use Rattle.std.specs.Prelude.{reverse, IfErr, OnErr, OnOk, Result, Ok, Err}
 use Rattle.std.proofs.lemmas.List.{append_assoc, append-nil, reverse-append, reverse-reverse, length-reverse, take-append-le, take-append-drop, take_all}
-use Rattle.dsql_history.specs.declared.event.Event.{Event}
-use Rattle.dsql_wires.specs.Extends.{Extends}
-use Rattle.dsql_playing.specs.declared.halt.Halt.{Halt}
-use Rattle.dsql_playing.specs.declared.halt.Halt.TheVariants as halts
-use Rattle.dsql_report.specs.Lines.{text_of}
-use Rattle.dsql_show.specs.Report.{with_text, oldest, Shows, ShowsFront, StopsBetween}
-use Rattle.dsql_show.proofs.Texts.{text_on}
+use Rattle.dsql_tx_history.specs.declared.event.Event.{Event}
+use Rattle.dsql_tx_wires.specs.Extends.{Extends}
+use Rattle.dsql_tx_playing.specs.declared.halt.Halt.{Halt}
+use Rattle.dsql_tx_playing.specs.declared.halt.Halt.TheVariants as halts
+use Rattle.dsql_tx_report.specs.Lines.{text_of}
+use Rattle.dsql_show.specs.Report.{with_text, ShowsFront, StopsBetween}
+use Rattle.dsql_tx_show.specs.Report.{oldest, Shows}
+use Rattle.dsql_tx_show.proofs.Texts.{text_on}
 use Rattle.dsql_script_source.specs.declared.stop.Stop.{Stop}
 use Rattle.dsql_script_source.specs.declared.stop.Stop.TheVariants.{Read, Write, Memory, Refused, Full}
 use Rattle.dsql_outcome.specs.Runs.{IsPlayStop, IsShowStop, Wrote, stop_of_halt}

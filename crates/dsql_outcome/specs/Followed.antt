@@ -1,11 +1,11 @@
 -- A history that follows lines.
 use Rattle.std.specs.Prelude.{◌≡◌, ◌⊎◌, true, List, ◌∷◌, ◌++◌, reverse, map}
-use Rattle.dsql_history.specs.declared.event.Event.{Event}
-use Rattle.dsql_follows.specs.declared.line.Line.{Line}
-use Rattle.dsql_follows.specs.Moments.{met, at_end}
-use Rattle.dsql_follows.specs.Sentences.{Part, runs_in_turn}
-use Rattle.dsql_follows.specs.Follows.{Played, MakesSteps, FollowsLines, Follows, ends_in_turn, after, told, script, history}
-use Rattle.dsql_playing.specs.Carried.{IsBeginningOf, part}
+use Rattle.dsql_tx_history.specs.declared.event.Event.{Event}
+use Rattle.dsql_tx_follows.specs.declared.line.Line.{Line}
+use Rattle.dsql_tx_follows.specs.Moments.{met, at_end}
+use Rattle.dsql_tx_follows.specs.Sentences.{Part, runs_in_turn}
+use Rattle.dsql_tx_follows.specs.Follows.{Played, MakesSteps, FollowsLines, Follows, ends_in_turn, after, told, script, history}
+use Rattle.dsql_tx_playing.specs.Carried.{IsBeginningOf, part}
 
 -- the lines of these parts, the last one first
 abbrev pub lines_of : List Part → List Line

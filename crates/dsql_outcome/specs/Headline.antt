@@ -7,22 +7,23 @@ use Rattle.dsql_driver.specs.declared.wire.Fleet as fleets
 use Rattle.dsql_driver.specs.Streams.{HasRisen, has_risen}
 use Rattle.dsql_driver.specs.Wires.{FleetTold, Preferred}
 use Rattle.dsql_pool.specs.Pooled.{open_count}
-use Rattle.dsql_history.specs.declared.event.Event.{Event}
-use Rattle.dsql_history.specs.declared.event.Event.TheVariants.{Run}
-use Rattle.dsql_history.specs.Legal.{Legal}
-use Rattle.dsql_history.specs.Readers.Course.{has_ended}
-use Rattle.dsql_history.specs.Readers.Pool.{pool}
-use Rattle.dsql_history.specs.Readers.Unfinished.{unfinished}
-use Rattle.dsql_history.specs.Rules.House.{is_quiet}
-use Rattle.dsql_follows.specs.declared.line.Line.{Line}
+use Rattle.dsql_tx_history.specs.declared.event.Event.{Event}
+use Rattle.dsql_tx_history.specs.declared.event.Event.TheVariants.{Run}
+use Rattle.dsql_tx_history.specs.Legal.{Legal}
+use Rattle.dsql_tx_apart.specs.Apart.{AreApart}
+use Rattle.dsql_tx_history.specs.Readers.Course.{has_ended}
+use Rattle.dsql_tx_history.specs.Readers.Pool.{pool}
+use Rattle.dsql_tx_history.specs.Readers.Unfinished.{unfinished}
+use Rattle.dsql_tx_history.specs.Rules.House.{is_quiet}
+use Rattle.dsql_tx_follows.specs.declared.line.Line.{Line}
 use Rattle.dsql_steps.specs.Groups.{most_events}
-use Rattle.dsql_wires.specs.Told.{with_told}
-use Rattle.dsql_playing.specs.Planned.{plans_made}
-use Rattle.dsql_report.specs.Lines.{text_of}
+use Rattle.dsql_tx_wires.specs.Told.{with_told}
+use Rattle.dsql_tx_playing.specs.Planned.{plans_made}
+use Rattle.dsql_tx_report.specs.Lines.{text_of}
 use Rattle.dsql_show.specs.Report.{with_text, ShowsFront}
-use Rattle.dsql_script_source.specs.Plays.{Plays, saying}
+use Rattle.dsql_tx_script_source.specs.Plays.{Plays, saying}
 use Rattle.dsql_script_source.specs.Reading.{Prefers}
-use Rattle.dsql_script_source.specs.Script.{Says, whole}
+use Rattle.dsql_tx_script_source.specs.Script.{Says, whole}
 use Rattle.dsql_script_source.specs.Stops.{no_read_failed}
 use Rattle.dsql_script_source.specs.declared.stop.Stop.{Stop}
 use Rattle.dsql_script_source.specs.declared.stop.Stop.TheVariants.{Read, Write, Memory, Full}
@@ -108,12 +109,13 @@ pub record PlaysAndTells (before after : Seen) (notes_before notes_after : SeenN
   pub ran : IsPlayed stopped before after
   pub told : Tells stopped (has_risen notes_before.faults notes_after.faults) notes_before.written notes_after.written status
 
--- The whole of a script was played: one legal history follows the script, what was written is this text of it, the fleet tells just that history and the faults that the script's lines plan, and nothing was told.
+-- The whole of a script was played: one legal history, which keeps callers apart, follows the script, what was written is this text of it, the fleet tells just that history and the faults that the script's lines plan, and nothing was told.
 pub record PlaysWholeAs (text : List Line → List Event → List ℕ) (before after : Seen) (notes_before notes_after : SeenNotes) : Type 0 where
   pub history : List Event
   pub asked : Option Caps
   pub lines : List Line
   pub legal : Legal history
+  pub apart : AreApart history
   pub says : Says before.left (whole (saying asked lines))
   pub follows : FollowsAll (Run 1 after.ability) lines history
   pub prefers : Prefers asked before.preferred after.preferred before.ability after.ability

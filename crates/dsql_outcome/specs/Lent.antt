@@ -3,13 +3,13 @@ use Rattle.std.specs.Prelude.{◌≡◌, ◌≤◌, ◌⊎◌, List, [], ◌∷�
 use Rattle.dsql_driver.specs.Wires.{WireTold, FleetTold, Connected, with_connects}
 use Rattle.dsql_driver.specs.declared.wire.Fleet.{Ghosts}
 use Rattle.dsql_wire.specs.Journaled.{Journaled}
-use Rattle.dsql_history.specs.declared.event.Event.{Event}
-use Rattle.dsql_follows.specs.declared.line.Line.{Line}
-use Rattle.dsql_follows.specs.Sentences.{Part}
-use Rattle.dsql_follows.specs.Follows.{told}
-use Rattle.dsql_wires.specs.Plans.{Made}
-use Rattle.dsql_wires.specs.Told.{AsksAtMost, TellsJust, with_told}
-use Rattle.dsql_playing.specs.Planned.{plans_of, plans_made}
+use Rattle.dsql_tx_history.specs.declared.event.Event.{Event}
+use Rattle.dsql_tx_follows.specs.declared.line.Line.{Line}
+use Rattle.dsql_tx_follows.specs.Sentences.{Part}
+use Rattle.dsql_tx_follows.specs.Follows.{told}
+use Rattle.dsql_tx_wires.specs.Plans.{Made}
+use Rattle.dsql_tx_wires.specs.Told.{AsksAtMost, TellsJust, with_told}
+use Rattle.dsql_tx_playing.specs.Planned.{plans_of, plans_made}
 use Rattle.dsql_outcome.specs.Followed.{StopsShort, lines_of}
 
 -- a fleet that is lent to a run: what it told as that began, and what it tells now, with its wires

@@ -6,26 +6,26 @@ use Rattle.dsql_driver.specs.declared.wire.Fleet.{Ghosts}
 use Rattle.dsql_driver.specs.Streams.{HasRisen}
 use Rattle.dsql_driver.specs.Wires.{FleetTold}
 use Rattle.dsql_pool.specs.Pooled.{open_count}
-use Rattle.dsql_history.specs.declared.event.Event.{Event}
-use Rattle.dsql_history.specs.Legal.{Legal}
-use Rattle.dsql_history.specs.Readers.Course.{has_ended}
-use Rattle.dsql_history.specs.Readers.Pool.{pool}
-use Rattle.dsql_history.specs.Readers.Unfinished.{unfinished}
-use Rattle.dsql_history.specs.Rules.House.{is_quiet}
-use Rattle.dsql_follows.specs.declared.line.Line.{Line}
-use Rattle.dsql_follows.specs.Sentences.{Part}
-use Rattle.dsql_follows.specs.Follows.{after}
-use Rattle.dsql_wires.specs.Extends.{Extends}
-use Rattle.dsql_wires.specs.Told.{SameAbility, with_told}
-use Rattle.dsql_playing.specs.Planned.{plans_made}
-use Rattle.dsql_playing.specs.Playing.{Playing, IsAt}
-use Rattle.dsql_reader.specs.declared.script.ScriptLine.{ScriptLine}
-use Rattle.dsql_report.specs.Lines.{text_of}
+use Rattle.dsql_tx_history.specs.declared.event.Event.{Event}
+use Rattle.dsql_tx_history.specs.Legal.{Legal}
+use Rattle.dsql_tx_history.specs.Readers.Course.{has_ended}
+use Rattle.dsql_tx_history.specs.Readers.Pool.{pool}
+use Rattle.dsql_tx_history.specs.Readers.Unfinished.{unfinished}
+use Rattle.dsql_tx_history.specs.Rules.House.{is_quiet}
+use Rattle.dsql_tx_follows.specs.declared.line.Line.{Line}
+use Rattle.dsql_tx_follows.specs.Sentences.{Part}
+use Rattle.dsql_tx_follows.specs.Follows.{after}
+use Rattle.dsql_tx_wires.specs.Extends.{Extends}
+use Rattle.dsql_tx_wires.specs.Told.{SameAbility, with_told}
+use Rattle.dsql_tx_playing.specs.Planned.{plans_made}
+use Rattle.dsql_tx_playing.specs.Playing.{Playing, IsAt}
+use Rattle.dsql_tx_reader.specs.declared.script.ScriptLine.{ScriptLine}
+use Rattle.dsql_tx_report.specs.Lines.{text_of}
 use Rattle.dsql_show.specs.Report.{with_text, StopsBetween}
-use Rattle.dsql_script_source.specs.Plays.{Plays, saying}
-use Rattle.dsql_script_source.specs.Position.{Position}
-use Rattle.dsql_script_source.specs.Reading.{ReadTo, came}
-use Rattle.dsql_script_source.specs.Script.{is_skip}
+use Rattle.dsql_tx_script_source.specs.Plays.{Plays, saying}
+use Rattle.dsql_tx_script_source.specs.Position.{Position}
+use Rattle.dsql_tx_script_source.specs.Reading.{ReadTo, came}
+use Rattle.dsql_tx_script_source.specs.Script.{is_skip}
 use Rattle.dsql_script_source.specs.Stops.{is_read_fault, no_read_failed}
 use Rattle.dsql_script_source.specs.declared.stop.Stop.{Stop}
 use Rattle.dsql_script_source.specs.declared.stop.Stop.TheVariants.{Read, Write}

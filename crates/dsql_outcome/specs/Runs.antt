@@ -4,22 +4,23 @@ use Rattle.std.specs.List.{list_all}
 use Rattle.dsql_driver.specs.declared.caps.Caps.{Caps}
 use Rattle.dsql_driver.specs.Wires.{WireTold}
 use Rattle.dsql_wire.specs.Journaled.{Journaled}
-use Rattle.dsql_history.specs.declared.event.Event.{Event}
-use Rattle.dsql_history.specs.Readers.Course.{has_ended}
-use Rattle.dsql_follows.specs.declared.line.Line.{Line}
-use Rattle.dsql_follows.specs.Moments.{Moment}
-use Rattle.dsql_follows.specs.Sentences.{Part}
-use Rattle.dsql_follows.specs.Follows.{told}
-use Rattle.dsql_wires.specs.WiresFit.{WiresFit}
-use Rattle.dsql_playing.specs.declared.halt.Halt.{Halt}
-use Rattle.dsql_playing.specs.declared.halt.Halt.TheVariants as halts
-use Rattle.dsql_playing.specs.Playing.{Playing, IsAt, IsReady}
-use Rattle.dsql_report.specs.Lines.{text_of}
-use Rattle.dsql_show.specs.Report.{with_text, Shows, ShowsFront, StopsBetween}
+use Rattle.dsql_tx_history.specs.declared.event.Event.{Event}
+use Rattle.dsql_tx_history.specs.Readers.Course.{has_ended}
+use Rattle.dsql_tx_follows.specs.declared.line.Line.{Line}
+use Rattle.dsql_tx_follows.specs.Moments.{Moment}
+use Rattle.dsql_tx_follows.specs.Sentences.{Part}
+use Rattle.dsql_tx_follows.specs.Follows.{told}
+use Rattle.dsql_tx_wires.specs.WiresFit.{WiresFit}
+use Rattle.dsql_tx_playing.specs.declared.halt.Halt.{Halt}
+use Rattle.dsql_tx_playing.specs.declared.halt.Halt.TheVariants as halts
+use Rattle.dsql_tx_playing.specs.Playing.{Playing, IsAt, IsReady}
+use Rattle.dsql_tx_report.specs.Lines.{text_of}
+use Rattle.dsql_show.specs.Report.{with_text, ShowsFront, StopsBetween}
+use Rattle.dsql_tx_show.specs.Report.{Shows}
 use Rattle.dsql_show.specs.declared.showing.ShowFault.{ShowFault}
 use Rattle.dsql_show.specs.declared.showing.ShowFault.TheVariants as shows
-use Rattle.dsql_script_source.specs.Plays.{Plays, saying}
-use Rattle.dsql_script_source.specs.Script.{is_skip}
+use Rattle.dsql_tx_script_source.specs.Plays.{Plays, saying}
+use Rattle.dsql_tx_script_source.specs.Script.{is_skip}
 use Rattle.dsql_script_source.specs.declared.stop.Stop.{Stop}
 use Rattle.dsql_script_source.specs.declared.stop.Stop.TheVariants.{Read, Write, Memory, Refused, Full}
 use Rattle.dsql_outcome.specs.Followed.{FollowsAll, lines_of}

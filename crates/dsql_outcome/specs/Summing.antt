@@ -1,10 +1,11 @@
 -- What a run is that is asked for its summary in place of its report, and what a generated script is.
 use Rattle.std.specs.Prelude.{ℕ, ◌≡◌, ◌⊎◌, Bool, true, false, List, length, Option, Some, None, Result, Ok, Err}
 use Rattle.dsql_driver.specs.Streams.{HasRisen, has_risen}
-use Rattle.dsql_history.specs.declared.event.Event.{Event}
-use Rattle.dsql_follows.specs.declared.line.Line.{Line}
+use Rattle.dsql_tx_history.specs.declared.event.Event.{Event}
+use Rattle.dsql_tx_follows.specs.declared.line.Line.{Line}
 use Rattle.dsql_show.specs.Report.{with_text, ShowsFront}
-use Rattle.dsql_summary.specs.Summary.{line_of, summary_of}
+use Rattle.dsql_summary.specs.Summary.{line_of}
+use Rattle.dsql_tx_summary.specs.Summary.{summary_of}
 use Rattle.dsql_generator.specs.Script.{generated}
 use Rattle.dsql_script_source.specs.declared.stop.Stop.{Stop}
 use Rattle.dsql_script_source.specs.declared.stop.Stop.TheVariants.{Write, Memory, Full}

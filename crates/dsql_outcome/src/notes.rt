@@ -5,9 +5,9 @@ ghost use Rattle.dsql_outcome.specs.Headline.{seen_notes, RefusesWords};
 ghost use Rattle.dsql_outcome.specs.Notes.{note_of, status_of, failed_status, Tells};
 
 use dsql_driver::Sink;
-use dsql_script_source::Stop;
-use dsql_show::ShowFault;
 use dsql_stream::write_whole;
+use dsql_tx_script_source::Stop;
+use dsql_tx_show::ShowFault;
 use dsql_value::Memory;
 use std::alloc::Global;
 

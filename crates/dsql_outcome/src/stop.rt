@@ -2,9 +2,9 @@
 ghost use Rattle.std.specs.Prelude.{◌≡◌};
 ghost use Rattle.dsql_outcome.specs.Runs.{stop_of_halt, stop_of_show};
 
-use dsql_playing::Halt;
-use dsql_script_source::Stop;
-use dsql_show::ShowFault;
+use dsql_tx_playing::Halt;
+use dsql_tx_script_source::Stop;
+use dsql_tx_show::ShowFault;
 
 /// What stops a run that can't be carried on.
 pub fn stop_of_halt(halt: Halt) -> Stop

@@ -1,13 +1,13 @@
 //! A client's line is entered, or kept.
 ghost use Rattle.std.specs.Prelude.{◌≡◌, ◌<◌, length, IfOk, OnOk};
-ghost use Rattle.dsql_follows.specs.Moments.{Moment};
-ghost use Rattle.dsql_playing.specs.Keeping.{ActsUnheard, SameCourse};
-ghost use Rattle.dsql_playing.specs.Playing.{IsAt, IsReady};
-ghost use Rattle.dsql_playing.specs.Stepping.{Admits};
+ghost use Rattle.dsql_tx_follows.specs.Moments.{Moment};
+ghost use Rattle.dsql_tx_playing.specs.Keeping.{ActsUnheard, SameCourse};
+ghost use Rattle.dsql_tx_playing.specs.Playing.{IsAt, IsReady};
+ghost use Rattle.dsql_tx_playing.specs.Stepping.{Admits};
 ghost use Rattle.dsql_steps.specs.Groups.{most_events};
 
-use dsql_playing::{Halt, Player};
-use dsql_seats::KeptLine;
+use dsql_tx_playing::{Halt, Player};
+use dsql_tx_seats::KeptLine;
 
 /// A line of a client is entered where the client is free and has no line kept, and else it is kept. Says which.
 pub(crate) fn admit(player: &mut Player, client: u8, line: KeptLine) -> Result<bool, Halt>

@@ -1,18 +1,18 @@
 //! The layer's own driver calls are made: connections are opened and shut, and rows tidied up that nobody ended.
 ghost use Rattle.std.specs.Prelude.{◌≡◌, ◌<◌, true, is_some, length, IfOk, OnOk};
 ghost use Rattle.dsql_driver.specs.Kinds.{is_shut};
-ghost use Rattle.dsql_playing.specs.Carried.{KeepsRun};
-ghost use Rattle.dsql_playing.specs.Chores.{IsToMake};
-ghost use Rattle.dsql_playing.specs.Keeping.{FailsForMemory, IsTaken, SameCourse};
-ghost use Rattle.dsql_playing.specs.Playing.{IsReady};
-ghost use Rattle.dsql_playing.specs.Stepping.{MakesChore};
+ghost use Rattle.dsql_tx_playing.specs.Carried.{KeepsRun};
+ghost use Rattle.dsql_tx_playing.specs.Chores.{IsToMake};
+ghost use Rattle.dsql_tx_playing.specs.Keeping.{FailsForMemory, IsTaken, SameCourse};
+ghost use Rattle.dsql_tx_playing.specs.Playing.{IsReady};
+ghost use Rattle.dsql_tx_playing.specs.Stepping.{MakesChore};
 ghost use Rattle.dsql_steps.specs.Groups.{most_events};
-ghost use Rattle.dsql_wires.specs.WiresFit.{WiresFit};
+ghost use Rattle.dsql_tx_wires.specs.WiresFit.{WiresFit};
 
 use dsql_driver::{DriverCall, Fleet};
 use dsql_journal::Permit;
-use dsql_playing::{Halt, Player};
-use dsql_wires::{Wires, retire};
+use dsql_tx_playing::{Halt, Player};
+use dsql_tx_wires::{Wires, retire};
 
 /// The layer's first own call is made, if there is one. Says whether there was.
 pub(crate) fn make_first_chore<F: Fleet>(

@@ -8,5 +8,5 @@ mod line;
 mod running;
 mod single;
 
-pub use dsql_playing::{Halt, Player};
+pub use dsql_tx_playing::{Halt, Player};
 pub use line::{carry_end, carry_line};

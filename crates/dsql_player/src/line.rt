@@ -1,27 +1,27 @@
 //! Lines are carried out, and the script's end.
 ghost use Rattle.std.specs.Prelude.{◌≡◌, ◌<◌, ◌≤◌, ℕ, Err, None, true, false, is_some, length, OnOk, OnErr};
-ghost use Rattle.dsql_history.specs.Readers.Course.{has_ended};
-ghost use Rattle.dsql_history.specs.Rules.House.{is_quiet};
-ghost use Rattle.dsql_playing.specs.Keeping.{ActsUnheard, SameCourse};
-ghost use Rattle.dsql_end_laws.specs.Over.{IsOver};
-ghost use Rattle.dsql_follows.specs.Moments.{Moment};
-ghost use Rattle.dsql_follows.specs.Sentences.{runs_on};
-ghost use Rattle.dsql_follows.specs.declared.line.Line.TheVariants.{Fault};
-ghost use Rattle.dsql_playing.specs.Acts.{Begun};
-ghost use Rattle.dsql_playing.specs.Carried.{Carries, CarriesEnd, KeepsRun, KeepsRunPlanning, StopsInEnd, StopsInLine};
-ghost use Rattle.dsql_playing.specs.Planned.{plans_of};
-ghost use Rattle.dsql_playing.specs.Playing.{IsAt, IsReady};
+ghost use Rattle.dsql_tx_history.specs.Readers.Course.{has_ended};
+ghost use Rattle.dsql_tx_history.specs.Rules.House.{is_quiet};
+ghost use Rattle.dsql_tx_playing.specs.Keeping.{ActsUnheard, SameCourse};
+ghost use Rattle.dsql_tx_end_laws.specs.Over.{IsOver};
+ghost use Rattle.dsql_tx_follows.specs.Moments.{Moment};
+ghost use Rattle.dsql_tx_follows.specs.Sentences.{runs_on};
+ghost use Rattle.dsql_tx_follows.specs.declared.line.Line.TheVariants.{Fault};
+ghost use Rattle.dsql_tx_playing.specs.Acts.{Begun};
+ghost use Rattle.dsql_tx_playing.specs.Carried.{Carries, CarriesEnd, KeepsRun, KeepsRunPlanning, StopsInEnd, StopsInLine};
+ghost use Rattle.dsql_tx_playing.specs.Planned.{plans_of};
+ghost use Rattle.dsql_tx_playing.specs.Playing.{IsAt, IsReady};
 ghost use Rattle.dsql_steps.specs.Groups.{most_events};
-ghost use Rattle.dsql_wires.specs.WiresFit.{WiresFit, slot};
+ghost use Rattle.dsql_tx_wires.specs.WiresFit.{WiresFit, slot};
 
 use crate::admitting::admit;
 use crate::running::run_on;
 use crate::single::{step_client, step_house};
 use dsql_driver::{Fleet, Planned};
-use dsql_follows::Line;
-use dsql_playing::{Halt, Player};
-use dsql_seats::KeptLine;
-use dsql_wires::{Wires, plan};
+use dsql_tx_follows::Line;
+use dsql_tx_playing::{Halt, Player};
+use dsql_tx_seats::KeptLine;
+use dsql_tx_wires::{Wires, plan};
 
 /// Carries a line of the script out. After a client's call, a limit, a moment or a fault all goes on until nobody may; a call
 /// that is held only enters, and a single step is just one. A fault is planned before its line goes on: on the wire of its

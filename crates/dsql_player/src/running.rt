@@ -1,18 +1,18 @@
 //! The run goes on, each step in its turn.
 ghost use Rattle.std.specs.Prelude.{◌≡◌, ◌<◌, ◌≤◌, ℕ, Err, None, false, is_some, length, IfOk, OnOk, OnErr};
-ghost use Rattle.dsql_history.specs.Rules.House.{chore_due};
-ghost use Rattle.dsql_follows.specs.Moments.{Moment};
-ghost use Rattle.dsql_playing.specs.Carried.{KeepsRun};
-ghost use Rattle.dsql_playing.specs.Keeping.{SameCourse};
-ghost use Rattle.dsql_playing.specs.Playing.{IsAt, IsReady};
-ghost use Rattle.dsql_playing.specs.Stepping.{GoesOn, RunsOut, RunsSoFar, goes};
+ghost use Rattle.dsql_tx_history.specs.Rules.House.{chore_due};
+ghost use Rattle.dsql_tx_follows.specs.Moments.{Moment};
+ghost use Rattle.dsql_tx_playing.specs.Carried.{KeepsRun};
+ghost use Rattle.dsql_tx_playing.specs.Keeping.{SameCourse};
+ghost use Rattle.dsql_tx_playing.specs.Playing.{IsAt, IsReady};
+ghost use Rattle.dsql_tx_playing.specs.Stepping.{GoesOn, RunsOut, RunsSoFar, goes};
 ghost use Rattle.dsql_steps.specs.Groups.{most_events};
-ghost use Rattle.dsql_wires.specs.WiresFit.{WiresFit};
+ghost use Rattle.dsql_tx_wires.specs.WiresFit.{WiresFit};
 
 use crate::chores::make_first_chore;
 use dsql_driver::Fleet;
-use dsql_playing::{Halt, Player};
-use dsql_wires::Wires;
+use dsql_tx_playing::{Halt, Player};
+use dsql_tx_wires::Wires;
 
 /// The run goes on until nobody may.
 pub(crate) fn run_on<F: Fleet>(

@@ -1,18 +1,18 @@
 //! Single steps.
 ghost use Rattle.std.specs.Prelude.{◌≡◌, ◌<◌, true, false, is_some, length, OnOk};
-ghost use Rattle.dsql_history.specs.Readers.Calls.{is_busy};
-ghost use Rattle.dsql_follows.specs.Moments.{Moment};
-ghost use Rattle.dsql_follows.specs.declared.line.Line.TheVariants.{Step, StepHouse};
-ghost use Rattle.dsql_playing.specs.Carried.{Carries, KeepsRun, KeepsWires};
-ghost use Rattle.dsql_playing.specs.Keeping.{FailsForMemory, SameCourse};
-ghost use Rattle.dsql_playing.specs.Playing.{IsAt, IsReady};
+ghost use Rattle.dsql_tx_history.specs.Readers.Calls.{is_busy};
+ghost use Rattle.dsql_tx_follows.specs.Moments.{Moment};
+ghost use Rattle.dsql_tx_follows.specs.declared.line.Line.TheVariants.{Step, StepHouse};
+ghost use Rattle.dsql_tx_playing.specs.Carried.{Carries, KeepsRun, KeepsWires};
+ghost use Rattle.dsql_tx_playing.specs.Keeping.{FailsForMemory, SameCourse};
+ghost use Rattle.dsql_tx_playing.specs.Playing.{IsAt, IsReady};
 ghost use Rattle.dsql_steps.specs.Groups.{most_events};
-ghost use Rattle.dsql_wires.specs.WiresFit.{WiresFit};
+ghost use Rattle.dsql_tx_wires.specs.WiresFit.{WiresFit};
 
 use crate::chores::make_first_chore;
 use dsql_driver::{Fleet, Wire};
-use dsql_playing::{Halt, Player};
-use dsql_wires::Wires;
+use dsql_tx_playing::{Halt, Player};
+use dsql_tx_wires::Wires;
 
 /// The client makes one step: its first line that is kept is entered, or the answer to its driver call is brought
 /// back, or its call goes on, if one of these can be.

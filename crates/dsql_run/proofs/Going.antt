@@ -5,20 +5,20 @@ use Rattle.std.proofs.lemmas.Result.{IfErr-at_err}
 use Rattle.dsql_driver.specs.declared.caps.Caps.{Caps}
 use Rattle.dsql_driver.specs.Wires.{WireTold}
 use Rattle.dsql_driver.specs.declared.wire.Fleet.{Ghosts}
-use Rattle.dsql_history.specs.declared.event.Event.{Event}
-use Rattle.dsql_history.specs.declared.event.Event.TheVariants.{Run}
-use Rattle.dsql_follows.specs.declared.line.Line.{Line}
-use Rattle.dsql_follows.specs.Moments.{Moment}
-use Rattle.dsql_playing.specs.Carried.{Carries, CarriesEnd, StopsInEnd, StopsInLine}
-use Rattle.dsql_playing.specs.Playing.{Playing}
-use Rattle.dsql_playing.specs.declared.halt.Halt.{Halt}
-use Rattle.dsql_playing.specs.declared.halt.Halt.TheVariants as halts
+use Rattle.dsql_tx_history.specs.declared.event.Event.{Event}
+use Rattle.dsql_tx_history.specs.declared.event.Event.TheVariants.{Run}
+use Rattle.dsql_tx_follows.specs.declared.line.Line.{Line}
+use Rattle.dsql_tx_follows.specs.Moments.{Moment}
+use Rattle.dsql_tx_playing.specs.Carried.{Carries, CarriesEnd, StopsInEnd, StopsInLine}
+use Rattle.dsql_tx_playing.specs.Playing.{Playing}
+use Rattle.dsql_tx_playing.specs.declared.halt.Halt.{Halt}
+use Rattle.dsql_tx_playing.specs.declared.halt.Halt.TheVariants as halts
 use Rattle.dsql_script_source.specs.declared.stop.Stop.{Stop}
 use Rattle.dsql_script_source.specs.declared.stop.Stop.TheVariants.{Full}
-use Rattle.dsql_wires.specs.Extends.{Extends}
+use Rattle.dsql_tx_wires.specs.Extends.{Extends}
 use Rattle.dsql_wire.specs.Journaled.{Journaled}
-use Rattle.dsql_wires.specs.Told.{with_told}
-use Rattle.dsql_wires.specs.WiresFit.{PlansFit}
+use Rattle.dsql_tx_wires.specs.Told.{with_told}
+use Rattle.dsql_tx_wires.specs.WiresFit.{PlansFit}
 use Rattle.dsql_outcome.specs.Lent.{TellsOf, lent}
 use Rattle.dsql_outcome.specs.Runs.{IsPlayStop, IsShowStop, is_write_fault, ran_out, stop_of_halt}
 use Rattle.dsql_outcome.proofs.Asking.{none_told}

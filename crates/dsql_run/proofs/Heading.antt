@@ -1,11 +1,11 @@
 -- What was read of a script, line by line.
 use Rattle.std.proofs.Common.{◌≡◌, ℕ, ◌+◌, ◌-◌, ◌<◌, ◌≤◌, arith, Option, Some, None, ap}
 use Rattle.std.specs.Prelude.{Ok, IfSome}
-use Rattle.dsql_reader.specs.declared.script.ScriptLine.{ScriptLine}
-use Rattle.dsql_reader.specs.declared.script.Head.TheVariants.{Begun}
-use Rattle.dsql_reader.specs.ScriptHead.{Progress}
-use Rattle.dsql_reader.specs.ScriptLines.{most_lines}
-use Rattle.dsql_script_source.specs.Reading.{NoLine}
+use Rattle.dsql_tx_reader.specs.declared.script.ScriptLine.{ScriptLine}
+use Rattle.dsql_tx_reader.specs.declared.script.Head.TheVariants.{Begun}
+use Rattle.dsql_tx_reader.specs.ScriptHead.{Progress}
+use Rattle.dsql_tx_reader.specs.ScriptLines.{most_lines}
+use Rattle.dsql_tx_script_source.specs.Reading.{NoLine}
 
 -- one for a line
 abbrev pub one_if : Option ScriptLine → ℕ

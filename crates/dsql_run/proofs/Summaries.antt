@@ -3,9 +3,10 @@ use Rattle.std.proofs.Common.{◌≡◌, ◌⊎◌, ℕ, false, List, length, Op
 use Rattle.std.specs.Prelude.{IfSome, Result, Ok, Err, reverse}
 use Rattle.std.proofs.lemmas.List.{reverse-reverse}
 use Rattle.dsql_driver.specs.Streams.{HasRisen}
-use Rattle.dsql_history.specs.declared.event.Event.{Event}
+use Rattle.dsql_tx_history.specs.declared.event.Event.{Event}
 use Rattle.dsql_show.specs.Report.{with_text}
-use Rattle.dsql_summary.specs.Summary.{line_of, summary_of}
+use Rattle.dsql_summary.specs.Summary.{line_of}
+use Rattle.dsql_tx_summary.specs.Summary.{summary_of}
 use Rattle.dsql_script_source.specs.declared.stop.Stop.{Stop}
 use Rattle.dsql_script_source.specs.declared.stop.Stop.TheVariants.{Read, Write, Memory, Refused, Full}
 use Rattle.dsql_outcome.specs.Headline.{Seen, IsPlayed, NotBegun, RanSo}

@@ -3,17 +3,17 @@ use Rattle.std.proofs.Common.{◌≡◌, ℕ, Bool, false, List, Option, sym, su
 use Rattle.std.specs.Prelude.{Result}
 use Rattle.dsql_driver.specs.declared.caps.Caps.{Caps}
 use Rattle.dsql_driver.specs.Wires.{WireTold}
-use Rattle.dsql_history.specs.declared.event.Event.{Event}
-use Rattle.dsql_history.specs.Readers.Course.{has_ended}
-use Rattle.dsql_follows.specs.Moments.{Moment}
-use Rattle.dsql_follows.specs.Follows.{after}
-use Rattle.dsql_playing.specs.Planned.{plans_made}
-use Rattle.dsql_playing.specs.Playing.{IsAt, IsReady, Playing}
-use Rattle.dsql_reader.specs.declared.script.ScriptLine.{ScriptLine}
-use Rattle.dsql_script_source.specs.Position.{Position}
+use Rattle.dsql_tx_history.specs.declared.event.Event.{Event}
+use Rattle.dsql_tx_history.specs.Readers.Course.{has_ended}
+use Rattle.dsql_tx_follows.specs.Moments.{Moment}
+use Rattle.dsql_tx_follows.specs.Follows.{after}
+use Rattle.dsql_tx_playing.specs.Planned.{plans_made}
+use Rattle.dsql_tx_playing.specs.Playing.{IsAt, IsReady, Playing}
+use Rattle.dsql_tx_reader.specs.declared.script.ScriptLine.{ScriptLine}
+use Rattle.dsql_tx_script_source.specs.Position.{Position}
 use Rattle.dsql_script_source.specs.declared.stop.Stop.{Stop}
 use Rattle.dsql_wire.specs.Journaled.{Journaled}
-use Rattle.dsql_wires.specs.WiresFit.{WiresFit}
+use Rattle.dsql_tx_wires.specs.WiresFit.{WiresFit}
 use Rattle.dsql_outcome.specs.Followed.{FollowsSoFar}
 use Rattle.dsql_outcome.specs.Lent.{Lent, TellsOf}
 use Rattle.dsql_outcome.specs.Runs.{Between}

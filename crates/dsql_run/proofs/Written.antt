@@ -3,12 +3,13 @@ use Rattle.std.proofs.Common.{◌≡◌, ℕ, ◌≤◌, List, Option, length, s
 use Rattle.std.specs.Prelude.{Err, Result, IfErr, OnErr, OnOk}
 use Rattle.std.proofs.lemmas.List.{length-append}
 use Rattle.std.proofs.lemmas.Result.{IfErr-at_err, on_err_weaker, on_ok_weaker}
-use Rattle.dsql_history.specs.declared.event.Event.{Event}
-use Rattle.dsql_playing.specs.declared.halt.Halt.{Halt}
-use Rattle.dsql_report.specs.Lines.{text_of}
-use Rattle.dsql_show.specs.Report.{with_text, oldest, Shows, StopsBetween}
+use Rattle.dsql_tx_history.specs.declared.event.Event.{Event}
+use Rattle.dsql_tx_playing.specs.declared.halt.Halt.{Halt}
+use Rattle.dsql_tx_report.specs.Lines.{text_of}
+use Rattle.dsql_show.specs.Report.{with_text, StopsBetween}
+use Rattle.dsql_tx_show.specs.Report.{oldest, Shows}
 use Rattle.dsql_script_source.specs.declared.stop.Stop.{Stop}
-use Rattle.dsql_wires.specs.Extends.{Extends}
+use Rattle.dsql_tx_wires.specs.Extends.{Extends}
 use Rattle.dsql_outcome.specs.Playing.{WritesLine}
 use Rattle.dsql_outcome.specs.Runs.{IsShowStop, Wrote, is_write_fault, stop_of_halt}
 use Rattle.dsql_outcome.proofs.Writing.{shows_older_all, stops_after_older, wrote_halted, wrote_shown}

@@ -1,29 +1,29 @@
 //! A line is carried out, and its events are written.
 ghost use Rattle.std.specs.Prelude.{◌≡◌, ◌≤◌, ◌++◌, ◌∷◌, [], List, true, false, length, Err, IfErr, is_some};
 ghost use Rattle.dsql_driver.specs.declared.caps.Caps.{Caps};
-ghost use Rattle.dsql_history.specs.declared.event.Event.TheVariants.{Run};
-ghost use Rattle.dsql_follows.specs.declared.line.Line.{Line as Said};
-ghost use Rattle.dsql_follows.specs.Follows.{after};
-ghost use Rattle.dsql_follows.specs.Moments.{Moment};
-ghost use Rattle.dsql_follows.specs.Sentences.{Part};
+ghost use Rattle.dsql_tx_history.specs.declared.event.Event.TheVariants.{Run};
+ghost use Rattle.dsql_tx_follows.specs.declared.line.Line.{Line as Said};
+ghost use Rattle.dsql_tx_follows.specs.Follows.{after};
+ghost use Rattle.dsql_tx_follows.specs.Moments.{Moment};
+ghost use Rattle.dsql_tx_follows.specs.Sentences.{Part};
 ghost use Rattle.dsql_outcome.specs.Followed.{FollowsSoFar, StopsShort};
 ghost use Rattle.dsql_outcome.specs.Playing.{RunsOn, WritesLine};
 ghost use Rattle.dsql_outcome.specs.Runs.{Between, IsPlayStop, is_write_fault, ran_out};
-ghost use Rattle.dsql_playing.specs.Carried.{Carries, StopsInLine};
-ghost use Rattle.dsql_playing.specs.Planned.{plans_of};
-ghost use Rattle.dsql_playing.specs.Playing.{IsAt};
+ghost use Rattle.dsql_tx_playing.specs.Carried.{Carries, StopsInLine};
+ghost use Rattle.dsql_tx_playing.specs.Planned.{plans_of};
+ghost use Rattle.dsql_tx_playing.specs.Playing.{IsAt};
 ghost use Rattle.dsql_steps.specs.Groups.{most_events};
 ghost use Rattle.dsql_stream.specs.Faults.{CountsFaults};
-ghost use Rattle.dsql_wires.specs.Told.{FleetTells, TellsAtMost};
+ghost use Rattle.dsql_tx_wires.specs.Told.{FleetTells, TellsAtMost};
 
 use crate::showing::show_history;
 use dsql_driver::{Fleet, Sink};
-use dsql_follows::Line;
 use dsql_outcome::stop_of_halt;
 use dsql_player::{Player, carry_line};
-use dsql_script_source::Stop;
-use dsql_show::Shown;
-use dsql_wires::Wires;
+use dsql_tx_follows::Line;
+use dsql_tx_script_source::Stop;
+use dsql_tx_show::Shown;
+use dsql_tx_wires::Wires;
 use std::alloc::Global;
 
 /// Carries a line out, and writes its events.

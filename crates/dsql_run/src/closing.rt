@@ -1,19 +1,19 @@
 //! The end of a run.
 ghost use Rattle.std.specs.Prelude.{◌≡◌, ◌≤◌, true, false, length, OnOk, OnErr, is_some};
-ghost use Rattle.dsql_history.specs.Legal.{Legal};
-ghost use Rattle.dsql_follows.specs.Moments.{Moment};
+ghost use Rattle.dsql_tx_history.specs.Legal.{Legal};
+ghost use Rattle.dsql_tx_follows.specs.Moments.{Moment};
 ghost use Rattle.dsql_outcome.specs.Playing.{IsOver, RunsOn};
 ghost use Rattle.dsql_outcome.specs.Runs.{Between, ran_out};
-ghost use Rattle.dsql_playing.specs.Carried.{CarriesEnd, StopsInEnd};
-ghost use Rattle.dsql_playing.specs.Playing.{IsAt};
+ghost use Rattle.dsql_tx_playing.specs.Carried.{CarriesEnd, StopsInEnd};
+ghost use Rattle.dsql_tx_playing.specs.Playing.{IsAt};
 ghost use Rattle.dsql_steps.specs.Groups.{most_events};
-ghost use Rattle.dsql_wires.specs.Told.{FleetTellsOn, LeavesAtMost, SameAsked};
+ghost use Rattle.dsql_tx_wires.specs.Told.{FleetTellsOn, LeavesAtMost, SameAsked};
 
 use dsql_driver::Fleet;
 use dsql_outcome::stop_of_halt;
 use dsql_player::{Player, carry_end};
-use dsql_script_source::Stop;
-use dsql_wires::{Wires, retire_all};
+use dsql_tx_script_source::Stop;
+use dsql_tx_wires::{Wires, retire_all};
 
 /// Ends the run, which shuts every connection and retires its wire.
 fn end_run<F: Fleet>(player: &mut Player, wires: Wires<F::Wire>, fleet: &mut F) -> Result<(), Stop>

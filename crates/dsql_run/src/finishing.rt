@@ -2,14 +2,15 @@
 ghost use Rattle.std.specs.Prelude.{◌≡◌, ◌≤◌, ◌||◌, ℕ, List, Option, true, false, length};
 ghost use Rattle.dsql_driver.specs.Streams.{HasRisen, has_risen};
 ghost use Rattle.dsql_outcome.specs.Runs.{Finishes, Writes, Wrote, is_cut, is_write_fault, later_stop, no_write_failed, ran_out};
-ghost use Rattle.dsql_report.specs.Lines.{text_of};
-ghost use Rattle.dsql_show.specs.Report.{Shows, StopsBetween, oldest};
+ghost use Rattle.dsql_tx_report.specs.Lines.{text_of};
+ghost use Rattle.dsql_tx_show.specs.Report.{Shows, oldest};
+ghost use Rattle.dsql_show.specs.Report.{StopsBetween};
 
 use crate::showing::show_rest;
 use dsql_driver::Sink;
 use dsql_player::Player;
-use dsql_script_source::Stop;
-use dsql_show::{ShowFault, Shown};
+use dsql_tx_script_source::Stop;
+use dsql_tx_show::{ShowFault, Shown};
 use std::alloc::Global;
 
 /// Whether nothing more is to be written: a write failed, or there was no memory.

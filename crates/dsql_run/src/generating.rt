@@ -6,7 +6,7 @@ ghost use Rattle.dsql_outcome.specs.Summing.{GeneratesAndTells};
 use dsql_driver::Sink;
 use dsql_generator::{GenerateFault, generate};
 use dsql_outcome::tell;
-use dsql_script_source::Stop;
+use dsql_tx_script_source::Stop;
 use std::alloc::Global;
 
 /// Writes so many lines of a script, and tells what stopped that, if anything did.

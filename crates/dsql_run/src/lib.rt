@@ -12,6 +12,6 @@ mod showing;
 mod summing;
 
 pub use dsql_outcome::tell;
-pub use dsql_script_source::Stop;
+pub use dsql_tx_script_source::Stop;
 pub use playing::play;
 pub use program::sqlrun;

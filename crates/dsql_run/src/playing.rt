@@ -2,19 +2,19 @@
 ghost use Rattle.std.specs.Prelude.{◌≡◌, ◌≤◌, ℕ, Bool, List, [], ◌∷◌, Option, None, true, false, length, Err, is_some, IfSome};
 ghost use Rattle.dsql_driver.specs.declared.caps.Caps.{Caps};
 ghost use Rattle.dsql_driver.specs.Streams.{HasRisen, has_risen};
-ghost use Rattle.dsql_history.specs.declared.event.Event.TheVariants.{Run};
-ghost use Rattle.dsql_follows.specs.declared.line.Line.{Line};
-ghost use Rattle.dsql_follows.specs.Moments.{just_begun};
+ghost use Rattle.dsql_tx_history.specs.declared.event.Event.TheVariants.{Run};
+ghost use Rattle.dsql_tx_follows.specs.declared.line.Line.{Line};
+ghost use Rattle.dsql_tx_follows.specs.Moments.{just_begun};
 ghost use Rattle.dsql_outcome.specs.Headline.{IsPlayed, NotBegun, RanSo, seen};
 ghost use Rattle.dsql_outcome.specs.Lent.{lent};
 ghost use Rattle.dsql_outcome.specs.Playing.{HasHead, IsOver, LinesPlayed, ReadsLater, RunsOn, ScriptPlayed, WritesLines, WritesWell};
 ghost use Rattle.dsql_outcome.specs.Runs.{Between, Writes, is_write_fault, ran_out};
-ghost use Rattle.dsql_playing.specs.Playing.{IsAt, IsReady};
-ghost use Rattle.dsql_script_source.specs.Reading.{IsHeadRead};
+ghost use Rattle.dsql_tx_playing.specs.Playing.{IsAt, IsReady};
+ghost use Rattle.dsql_tx_script_source.specs.Reading.{IsHeadRead};
 ghost use Rattle.dsql_script_source.specs.Stops.{is_read_fault, no_read_failed};
 ghost use Rattle.dsql_steps.specs.Groups.{most_events};
 ghost use Rattle.dsql_stream.specs.Faults.{CountsFaults};
-ghost use Rattle.dsql_wires.specs.WiresFit.{PlansFit};
+ghost use Rattle.dsql_tx_wires.specs.WiresFit.{PlansFit};
 
 use crate::carrying::play_line;
 use crate::closing::close;
@@ -22,10 +22,10 @@ use crate::finishing::finish;
 use crate::showing::{show_history, trim_shown};
 use dsql_driver::{Fleet, Sink, Source};
 use dsql_player::Player;
-use dsql_reader::ScriptLine;
-use dsql_script_source::{ScriptReader, Stop, line_as_played, read_head};
-use dsql_show::Shown;
-use dsql_wires::Wires;
+use dsql_tx_reader::ScriptLine;
+use dsql_tx_script_source::{ScriptReader, Stop, line_as_played, read_head};
+use dsql_tx_show::Shown;
+use dsql_tx_wires::Wires;
 use std::alloc::Global;
 
 /// Plays a script's lines one after another from the first one behind its head on, each as soon as it is read,

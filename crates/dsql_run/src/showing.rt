@@ -1,19 +1,20 @@
 //! What happened in a run is written as it comes, and trimmed where it isn't kept.
 ghost use Rattle.std.specs.Prelude.{◌≡◌, ◌<◌, ◌≤◌, ℕ, List, Option, true, false, length, OnOk, OnErr, IfErr};
-ghost use Rattle.dsql_history.specs.Legal.{Legal};
-ghost use Rattle.dsql_follows.specs.Moments.{Moment};
+ghost use Rattle.dsql_tx_history.specs.Legal.{Legal};
+ghost use Rattle.dsql_tx_follows.specs.Moments.{Moment};
 ghost use Rattle.dsql_outcome.specs.Runs.{IsShowStop, is_write_fault};
-ghost use Rattle.dsql_playing.specs.Playing.{IsAt, IsReady};
-ghost use Rattle.dsql_report.specs.Lines.{text_of};
-ghost use Rattle.dsql_show.specs.Report.{Shows, StopsBetween, is_sink_fault, oldest, with_text};
+ghost use Rattle.dsql_tx_playing.specs.Playing.{IsAt, IsReady};
+ghost use Rattle.dsql_tx_report.specs.Lines.{text_of};
+ghost use Rattle.dsql_tx_show.specs.Report.{Shows, oldest};
+ghost use Rattle.dsql_show.specs.Report.{StopsBetween, is_sink_fault, with_text};
 ghost use Rattle.dsql_steps.specs.Groups.{most_events};
 ghost use Rattle.dsql_stream.specs.Faults.{CountsFaults};
 
 use dsql_driver::Sink;
 use dsql_outcome::stop_of_show;
 use dsql_player::Player;
-use dsql_script_source::Stop;
-use dsql_show::{ShowFault, Shown, show};
+use dsql_tx_script_source::Stop;
+use dsql_tx_show::{ShowFault, Shown, show};
 use std::alloc::Global;
 
 /// Writes a run's events that weren't shown yet.

@@ -4,14 +4,15 @@ ghost use Rattle.dsql_driver.specs.Streams.{HasRisen};
 ghost use Rattle.dsql_outcome.specs.Headline.{seen, seen_notes};
 ghost use Rattle.dsql_outcome.specs.Runs.{Finishes, IsLinesEnd, is_write_fault, no_write_failed};
 ghost use Rattle.dsql_outcome.specs.Summing.{SumsUpAndTells, WritesPiece};
-ghost use Rattle.dsql_summary.specs.Summary.{line_of, summary_of};
+ghost use Rattle.dsql_summary.specs.Summary.{line_of};
+ghost use Rattle.dsql_tx_summary.specs.Summary.{summary_of};
 
 use crate::playing::{Kept, Played, play_keeping};
 use dsql_driver::{Failed, Fleet, Sink, Source};
 use dsql_outcome::tell;
-use dsql_script_source::Stop;
 use dsql_stream::write_whole;
-use dsql_summary::{summary_line, summary_of};
+use dsql_tx_script_source::Stop;
+use dsql_tx_summary::{summary_line, summary_of};
 use std::alloc::Global;
 use std::mem;
 

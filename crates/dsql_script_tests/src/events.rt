@@ -1,7 +1,7 @@
 //! Lines of reports that are read: of each form, and why some are refused.
 
-use dsql_event_reader::read_event;
-use dsql_report::append_line;
+use dsql_tx_event_reader::read_event;
+use dsql_tx_report::append_line;
 use std::alloc::{AllocError, Global};
 use std::test::Fail;
 
@@ -31,6 +31,10 @@ const CALLS: &str =
 ["enter",1,2,"next r"]
 ["enter",1,2,"rowsclose r"]
 ["enter",1,2,"err r"]
+["enter",1,2,"begin x_1 db level=linearizable ro"]
+["enter",1,2,"exec x_1",["a"]]
+["enter",1,2,"commit x_1"]
+["enter",1,2,"rollback x_1"]
 ["enter",1,2,"ping db"]
 ["enter",1,2,"dbclose"]
 ["enter",1,2,"stats"]
@@ -65,6 +69,9 @@ const REPLIES: &str = r#"["wait",4294967295]
 ["reply",5,["err","scan",0,"not_a_number","sql: scan of column 0: not_a_number"]]
 ["reply",5,["err","too_many",1000,"sql: too many open connections"]]
 ["reply",5,["err","db_closed","end","sql: database is closed"]]
+["reply",5,["err","tx_done","rollback","sql: transaction has already been committed or rolled back"]]
+["reply",5,["err","isolation","snapshot","sql: driver does not support non-default isolation level"]]
+["reply",5,["err","read_only","sql: driver does not support read-only transactions"]]
 "#;
 
 /// Lines that no event has, each with why it is refused.

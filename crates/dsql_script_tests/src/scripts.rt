@@ -1,6 +1,6 @@
 //! Transcripts of readers: a title, and then, behind `= `, what is told of each of the lines below it.
 
-use dsql_reader::Reader;
+use dsql_tx_reader::Reader;
 use std::alloc::{AllocError, Global};
 use std::process::Abort;
 use std::test::Fail;
@@ -33,6 +33,25 @@ c1 next r
 = unknown label
 c1 next s
 = taken
+c1 begin x db level=snapshot ro
+c2 exec x ["a"]
+start c2 query q x ["a"]
+= unknown label
+c1 next x
+c1 exec q ["a"]
+c1 commit r
+c1 begin y x
+c1 begin y db @k
+c1 rollback y
+= label taken
+c1 begin r db
+c1 query x x ["a"]
+= wrong shape
+c1 begin y db ro level=snapshot
+c1 begin y db level=default
+c1 commit x []
+= taken
+c1 rollback x
 c1 query abcdefghijklmnopqrstuvwxyz_01234 db ["a"]
 c1 next abcdefghijklmnopqrstuvwxyz_01234
 "#;

@@ -1,1 +1,1 @@
-mod Histories
+pub mod Histories

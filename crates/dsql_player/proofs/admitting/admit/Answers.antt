@@ -1,11 +1,11 @@
 use Rattle.std.proofs.Common.{◌≡◌, ◌∙◌, ◌⊎◌, inl, inr, sym, true, false}
 use Rattle.std.proofs.lemmas.Result.{err_from_is_err_and}
 use Rattle.dsql_journal.specs.Readers.{is_empty}
-use Rattle.dsql_history.specs.Readers.Calls.{is_busy}
-use Rattle.dsql_seats.specs.Seats.{seat}
-use Rattle.dsql_playing.proofs.Entered.{acts_answer, failed}
-use Rattle.dsql_playing.proofs.Kept.{admits_entered, admits_kept}
-use Rattle.dsql_playing.proofs.Stepped.{flipped}
+use Rattle.dsql_tx_history.specs.Readers.Calls.{is_busy}
+use Rattle.dsql_tx_seats.specs.Seats.{seat}
+use Rattle.dsql_tx_playing.proofs.Entered.{acts_answer, failed}
+use Rattle.dsql_tx_playing.proofs.Kept.{admits_entered, admits_kept}
+use Rattle.dsql_tx_playing.proofs.Stepped.{flipped}
 use Rattle.dsql_player.proofs.admitting.admit.Goals as goal
 use Rattle.dsql_player.proofs.admitting.admit.Goals.{then-has_call-via-then-has_call, then-has_call-via-else-has_call+then-has_kept}
 

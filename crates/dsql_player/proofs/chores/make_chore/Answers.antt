@@ -1,6 +1,6 @@
 use Rattle.std.proofs.Common.{ap}
 use Rattle.dsql_driver.specs.Kinds.{is_connect, is_shut}
-use Rattle.dsql_playing.proofs.Tidied.{no_connect, no_shut}
+use Rattle.dsql_tx_playing.proofs.Tidied.{no_connect, no_shut}
 use Rattle.dsql_player.proofs.chores.make_chore.Goals as goal
 
 pub open-requires-clause-opens : goal.open-requires-clause-opens

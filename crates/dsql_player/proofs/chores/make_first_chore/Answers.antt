@@ -1,16 +1,16 @@
 use Rattle.std.proofs.Common.{◌∙◌, List, Option, false, is_some, sym, ap, subst}
 use Rattle.std.proofs.lemmas.Result.{err_from_is_err_and}
 use Rattle.dsql_journal.specs.declared.entry.Permit.{Permit}
-use Rattle.dsql_history.specs.declared.event.Event.{Event}
-use Rattle.dsql_history.specs.Readers.Course.{has_ended}
-use Rattle.dsql_history.specs.Legal.{Legal}
-use Rattle.dsql_wires.specs.WiresFit.{WiresFit}
-use Rattle.dsql_playing.specs.Chores.{FindsChore, IsToMake}
-use Rattle.dsql_playing.specs.Stepping.{MakesChore}
-use Rattle.dsql_playing.proofs.Entered.{fails_at}
-use Rattle.dsql_playing.proofs.Hearing.{hears_none}
-use Rattle.dsql_playing.proofs.Keeping.{run_stays}
-use Rattle.dsql_playing.proofs.Taken.{at_err, first_course, first_makes, first_run, first_stops, none_run}
+use Rattle.dsql_tx_history.specs.declared.event.Event.{Event}
+use Rattle.dsql_tx_history.specs.Readers.Course.{has_ended}
+use Rattle.dsql_tx_history.specs.Legal.{Legal}
+use Rattle.dsql_tx_wires.specs.WiresFit.{WiresFit}
+use Rattle.dsql_tx_playing.specs.Chores.{FindsChore, IsToMake}
+use Rattle.dsql_tx_playing.specs.Stepping.{MakesChore}
+use Rattle.dsql_tx_playing.proofs.Entered.{fails_at}
+use Rattle.dsql_tx_playing.proofs.Hearing.{hears_none}
+use Rattle.dsql_tx_playing.proofs.Keeping.{run_stays}
+use Rattle.dsql_tx_playing.proofs.Taken.{at_err, first_course, first_makes, first_run, first_stops, none_run}
 use Rattle.dsql_player.proofs.chores.make_first_chore.Goals as goal
 
 pub make_chore-requires-clause-to_make : goal.make_chore-requires-clause-to_make

@@ -1,14 +1,14 @@
 use Rattle.std.proofs.Common.{is_some, rules}
 use Rattle.std.specs.Prelude.{IsSome}
 use Rattle.std.proofs.lemmas.Result.{err_from_is_err_and}
-use Rattle.dsql_wires.specs.WiresFit.{slot}
-use Rattle.dsql_wires.proofs.Asking.{wire_heard}
-use Rattle.dsql_wires.proofs.Journals.{shut_only}
-use Rattle.dsql_playing.proofs.Fitting.{untelling}
-use Rattle.dsql_playing.proofs.Hearing.{hears_none}
-use Rattle.dsql_playing.proofs.Keeping.{run_stays}
-use Rattle.dsql_playing.proofs.Shut.{shut_run}
-use Rattle.dsql_playing.proofs.Taken.{at_err}
+use Rattle.dsql_tx_wires.specs.WiresFit.{slot}
+use Rattle.dsql_tx_wires.proofs.Asking.{wire_heard}
+use Rattle.dsql_tx_wires.proofs.Journals.{shut_only}
+use Rattle.dsql_tx_playing.proofs.Fitting.{untelling}
+use Rattle.dsql_tx_playing.proofs.Hearing.{hears_none}
+use Rattle.dsql_tx_playing.proofs.Keeping.{run_stays}
+use Rattle.dsql_tx_playing.proofs.Shut.{shut_run}
+use Rattle.dsql_tx_playing.proofs.Taken.{at_err}
 use Rattle.dsql_player.proofs.chores.shut.Goals as goal
 
 pub ask-requires-clause-opens : goal.ask-requires-clause-opens

@@ -1,6 +1,6 @@
 use Rattle.std.proofs.lemmas.Result.{on_ok_weaker}
-use Rattle.dsql_playing.proofs.Lines.{begun_client, begun_control}
-use Rattle.dsql_playing.proofs.Stepped.{skipped}
+use Rattle.dsql_tx_playing.proofs.Lines.{begun_client, begun_control}
+use Rattle.dsql_tx_playing.proofs.Stepped.{skipped}
 use Rattle.dsql_player.proofs.line.begin.Goals as goal
 
 pub returns-in-Control-clause-begins : goal.returns-in-Control-clause-begins

@@ -1,13 +1,13 @@
 use Rattle.std.proofs.Common.{◌≡◌, true, false, ap, ◌∙◌}
 use Rattle.std.specs.Prelude.{OnOk}
 use Rattle.std.proofs.lemmas.Result.{err_from_is_err_and, on_ok_weaker, on_err_weaker}
-use Rattle.dsql_history.specs.Readers.Course.{has_ended}
-use Rattle.dsql_playing.specs.Acts.{ComesToEnd}
-use Rattle.dsql_playing.proofs.Hearing.{hears_none}
-use Rattle.dsql_playing.proofs.Keeping.{run_after}
-use Rattle.dsql_playing.proofs.Fitting.{fits_same, fits_unheard}
-use Rattle.dsql_playing.proofs.LastPart.{end_begun, end_stays, end_stops}
-use Rattle.dsql_playing.proofs.Ended.{RanOut, empty_out, gone_far, gone_out, gone_over, on_ok2, over_out, quiet_out, ran_out, run_halts, run_through}
+use Rattle.dsql_tx_history.specs.Readers.Course.{has_ended}
+use Rattle.dsql_tx_playing.specs.Acts.{ComesToEnd}
+use Rattle.dsql_tx_playing.proofs.Hearing.{hears_none}
+use Rattle.dsql_tx_playing.proofs.Keeping.{run_after}
+use Rattle.dsql_tx_playing.proofs.Fitting.{fits_same, fits_unheard}
+use Rattle.dsql_tx_playing.proofs.LastPart.{end_begun, end_stays, end_stops}
+use Rattle.dsql_tx_playing.proofs.Ended.{RanOut, empty_out, gone_far, gone_out, gone_over, on_ok2, over_out, quiet_out, ran_out, run_halts, run_through}
 use Rattle.dsql_player.proofs.line.carry_end.Goals as goal
 
 pub run_on-requires-clause-wires : goal.run_on-requires-clause-wires

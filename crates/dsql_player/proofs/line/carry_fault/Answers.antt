@@ -1,11 +1,11 @@
 use Rattle.std.proofs.Common.{Bool, is_some, refl, sym, subst}
 use Rattle.std.proofs.lemmas.Result.{err_from_is_err_and, on_ok_weaker, on_err_weaker}
-use Rattle.dsql_follows.specs.declared.line.Line.{Line}
-use Rattle.dsql_follows.specs.declared.line.Line.TheVariants.{Fault}
-use Rattle.dsql_wires.specs.WiresFit.{WiresFit}
-use Rattle.dsql_wires.proofs.Planned.{plan_fits, plan_tells}
-use Rattle.dsql_playing.proofs.Keeping.{run_then, run_unasked}
-use Rattle.dsql_playing.proofs.Lines.{begun_done, begun_fault, begun_stops, stops_at_once}
+use Rattle.dsql_tx_follows.specs.declared.line.Line.{Line}
+use Rattle.dsql_tx_follows.specs.declared.line.Line.TheVariants.{Fault}
+use Rattle.dsql_tx_wires.specs.WiresFit.{WiresFit}
+use Rattle.dsql_tx_wires.proofs.Planned.{plan_fits, plan_tells}
+use Rattle.dsql_tx_playing.proofs.Keeping.{run_then, run_unasked}
+use Rattle.dsql_tx_playing.proofs.Lines.{begun_done, begun_fault, begun_stops, stops_at_once}
 use Rattle.dsql_player.proofs.line.carry_fault.Goals as goal
 
 pub returns-in_err-plan : goal.returns-in_err-plan

@@ -1,11 +1,11 @@
 use Rattle.std.proofs.Common.{◌≡◌, refl, true}
 use Rattle.std.proofs.lemmas.Result.{err_from_is_err_and, on_ok_weaker, on_err_weaker}
-use Rattle.dsql_follows.specs.Sentences.{runs_on}
-use Rattle.dsql_playing.proofs.Fitting.{fits_unheard, untelling}
-use Rattle.dsql_playing.proofs.Keeping.{run_after, run_of_wires, run_unplanned}
-use Rattle.dsql_playing.proofs.Lines.{begun_done, begun_stops, stops_at_once}
-use Rattle.dsql_playing.proofs.Singles.{started}
-use Rattle.dsql_playing.proofs.Stepped.{not_full, plans_none, run_unheard, runs_then}
+use Rattle.dsql_tx_follows.specs.Sentences.{runs_on}
+use Rattle.dsql_tx_playing.proofs.Fitting.{fits_unheard, untelling}
+use Rattle.dsql_tx_playing.proofs.Keeping.{run_after, run_of_wires, run_unplanned}
+use Rattle.dsql_tx_playing.proofs.Lines.{begun_done, begun_stops, stops_at_once}
+use Rattle.dsql_tx_playing.proofs.Singles.{started}
+use Rattle.dsql_tx_playing.proofs.Stepped.{not_full, plans_none, run_unheard, runs_then}
 use Rattle.dsql_player.proofs.line.carry_line.Goals as goal
 
 pub returns-in_err-check_room : goal.returns-in_err-check_room

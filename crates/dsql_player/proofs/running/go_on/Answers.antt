@@ -1,13 +1,13 @@
 use Rattle.std.proofs.Common.{◌<◌, false, true, [], length, refl, ap, sym, subst, ◌∙◌}
 use Rattle.std.proofs.lemmas.Result.{err_from_is_err_and}
-use Rattle.dsql_history.specs.Rules.House.{chore_due}
+use Rattle.dsql_tx_history.specs.Rules.House.{chore_due}
 use Rattle.dsql_steps.specs.Groups.{most_events}
-use Rattle.dsql_playing.specs.Playing.{Playing}
-use Rattle.dsql_playing.specs.Stepping.{MakesChore}
-use Rattle.dsql_playing.proofs.Fitting.{untelling}
-use Rattle.dsql_playing.proofs.Hearing.{hears_none}
-use Rattle.dsql_playing.proofs.Keeping.{run_goes, run_stays, run_then}
-use Rattle.dsql_playing.proofs.Ran.{course_then, goes_after, goes_by_chore, goes_no_more}
+use Rattle.dsql_tx_playing.specs.Playing.{Playing}
+use Rattle.dsql_tx_playing.specs.Stepping.{MakesChore}
+use Rattle.dsql_tx_playing.proofs.Fitting.{untelling}
+use Rattle.dsql_tx_playing.proofs.Hearing.{hears_none}
+use Rattle.dsql_tx_playing.proofs.Keeping.{run_goes, run_stays, run_then}
+use Rattle.dsql_tx_playing.proofs.Ran.{course_then, goes_after, goes_by_chore, goes_no_more}
 use Rattle.dsql_player.proofs.running.go_on.Goals as goal
 
 pub returns-in_err-check_room : goal.returns-in_err-check_room

@@ -1,10 +1,10 @@
 use Rattle.std.proofs.Common.{false, true, [], arith, refl, subst, ◌∙◌}
 use Rattle.std.proofs.lemmas.Result.{err_from_is_err_and}
-use Rattle.dsql_playing.specs.Stepping.{GoesOn}
-use Rattle.dsql_playing.proofs.Going.{runs_more, runs_none}
-use Rattle.dsql_playing.proofs.Keeping.{able_same, able_then, run_then}
-use Rattle.dsql_wires.proofs.Telling.{tells_none, tells_then}
-use Rattle.dsql_playing.proofs.Ran.{course_then, out_after, so_far_as, still_due, still_nobody}
+use Rattle.dsql_tx_playing.specs.Stepping.{GoesOn}
+use Rattle.dsql_tx_playing.proofs.Going.{runs_more, runs_none}
+use Rattle.dsql_tx_playing.proofs.Keeping.{able_same, able_then, run_then}
+use Rattle.dsql_tx_wires.proofs.Telling.{tells_none, tells_then}
+use Rattle.dsql_tx_playing.proofs.Ran.{course_then, out_after, so_far_as, still_due, still_nobody}
 use Rattle.dsql_player.proofs.running.run_on.Goals as goal
 
 pub loop-init : goal.loop-init

@@ -1,11 +1,11 @@
 use Rattle.std.proofs.Common.{◌≡◌, ◌-◌, [], length, is_some}
-use Rattle.dsql_follows.specs.Moments.{Moment}
+use Rattle.dsql_tx_follows.specs.Moments.{Moment}
 use Rattle.dsql_steps.specs.Groups.{most_events}
-use Rattle.dsql_wires.specs.Told.{FleetTells, SameAbility}
-use Rattle.dsql_wires.specs.WiresFit.{WiresFit}
-use Rattle.dsql_playing.specs.Acts.{RunsTo}
-use Rattle.dsql_playing.specs.Playing.{IsAt, IsReady}
-use Rattle.dsql_playing.specs.Keeping.{SameCourse}
+use Rattle.dsql_tx_wires.specs.Told.{FleetTells, SameAbility}
+use Rattle.dsql_tx_wires.specs.WiresFit.{WiresFit}
+use Rattle.dsql_tx_playing.specs.Acts.{RunsTo}
+use Rattle.dsql_tx_playing.specs.Playing.{IsAt, IsReady}
+use Rattle.dsql_tx_playing.specs.Keeping.{SameCourse}
 use Rattle.dsql_player.proofs.running.run_on.Given as goal
 
 abbrev pub invariant-loop : goal.invariant-loop

@@ -1,10 +1,11 @@
 use Rattle.std.proofs.Common.{◌≡◌, ◌∙◌, true, false, is_some, sym}
 use Rattle.std.proofs.lemmas.Result.{on_ok_weaker}
-use Rattle.dsql_history.specs.Readers.Clients.{call_of}
-use Rattle.dsql_history.specs.Rules.Flights.{is_in_flight, may_move}
-use Rattle.dsql_seats.specs.Seats.{seat}
-use Rattle.dsql_playing.proofs.Singles.{blocked_steps, parked_ready}
-use Rattle.dsql_playing.proofs.Stepped.{answered_steps, woken_steps, woken_wires}
+use Rattle.dsql_tx_history.specs.Readers.Clients.{call_of}
+use Rattle.dsql_history.specs.Rules.Flights.{is_in_flight}
+use Rattle.dsql_tx_end_laws.specs.Over.{may_move}
+use Rattle.dsql_tx_seats.specs.Seats.{seat}
+use Rattle.dsql_tx_playing.proofs.Singles.{blocked_steps, parked_ready}
+use Rattle.dsql_tx_playing.proofs.Stepped.{answered_steps, woken_steps, woken_wires}
 use Rattle.dsql_player.proofs.single.step_call.Goals as goal
 
 pub make_call-requires-clause-leave : goal.make_call-requires-clause-leave

@@ -1,10 +1,10 @@
 use Rattle.std.proofs.Common.{◌≡◌, ◌∙◌, true, false, sym}
 use Rattle.std.proofs.lemmas.Result.{on_ok_weaker}
 use Rattle.dsql_journal.specs.Readers.{is_empty}
-use Rattle.dsql_history.specs.Readers.Calls.{is_busy}
-use Rattle.dsql_seats.specs.Seats.{seat}
-use Rattle.dsql_playing.proofs.Singles.{entry_steps, idle_steps}
-use Rattle.dsql_playing.proofs.Stepped.{flipped, wires_unheard}
+use Rattle.dsql_tx_history.specs.Readers.Calls.{is_busy}
+use Rattle.dsql_tx_seats.specs.Seats.{seat}
+use Rattle.dsql_tx_playing.proofs.Singles.{entry_steps, idle_steps}
+use Rattle.dsql_tx_playing.proofs.Stepped.{flipped, wires_unheard}
 use Rattle.dsql_player.proofs.single.step_client.Goals as goal
 
 pub step_call-requires-clause-busy : goal.step_call-requires-clause-busy

@@ -1,4 +1,4 @@
-use Rattle.dsql_playing.proofs.Stepped.{house_stepped}
+use Rattle.dsql_tx_playing.proofs.Stepped.{house_stepped}
 use Rattle.dsql_player.proofs.single.step_house.Goals as goal
 
 pub returns-clause-carries : goal.returns-clause-carries

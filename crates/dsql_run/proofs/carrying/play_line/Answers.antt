@@ -1,11 +1,11 @@
 use Rattle.std.proofs.Common.{refl, sym, ap, ◌∙◌, arith}
 use Rattle.std.specs.Prelude.{Err}
-use Rattle.dsql_history.specs.declared.event.Event.TheVariants.{Run}
-use Rattle.dsql_follows.specs.Follows.{after}
-use Rattle.dsql_follows.specs.Sentences.{after_part}
-use Rattle.dsql_wires.proofs.Telling.{at_most}
-use Rattle.dsql_playing.specs.Carried.{part}
-use Rattle.dsql_playing.specs.Planned.{plans_of}
+use Rattle.dsql_tx_history.specs.declared.event.Event.TheVariants.{Run}
+use Rattle.dsql_tx_follows.specs.Follows.{after}
+use Rattle.dsql_tx_follows.specs.Sentences.{after_part}
+use Rattle.dsql_tx_wires.proofs.Telling.{at_most}
+use Rattle.dsql_tx_playing.specs.Carried.{part}
+use Rattle.dsql_tx_playing.specs.Planned.{plans_of}
 use Rattle.dsql_outcome.proofs.Following.{carried_stops, line_stops_short}
 use Rattle.dsql_outcome.proofs.Writing.{shown_kinds}
 use Rattle.dsql_run.proofs.Going.{line_extends, stop_extends, halted, halted_full, halted_plays, halted_writes, shown_unfilled}

@@ -1,8 +1,8 @@
 use Rattle.std.proofs.Common.{◌∙◌, ap, inl, inr, refl, arith, is_some, rules}
-use Rattle.dsql_history.specs.declared.event.Event.TheVariants.{Run}
-use Rattle.dsql_follows.specs.Moments.{just_begun}
-use Rattle.dsql_wires.proofs.Extending.{extends_then}
-use Rattle.dsql_playing.proofs.Keeping.{able_then}
+use Rattle.dsql_tx_history.specs.declared.event.Event.TheVariants.{Run}
+use Rattle.dsql_tx_follows.specs.Moments.{just_begun}
+use Rattle.dsql_tx_wires.proofs.Extending.{extends_then}
+use Rattle.dsql_tx_playing.proofs.Keeping.{able_then}
 use Rattle.dsql_outcome.specs.Lent.{lent}
 use Rattle.dsql_outcome.specs.Runs.{is_write_fault}
 use Rattle.dsql_outcome.proofs.Asking.{read_played, written_played, not_read, not_written}

@@ -1,8 +1,8 @@
 use Rattle.std.proofs.Common.{◌∙◌, ap, inl, inr, refl}
 use Rattle.dsql_driver.specs.Streams.{has_risen}
-use Rattle.dsql_history.specs.declared.event.Event.TheVariants.{Run}
-use Rattle.dsql_script_source.specs.Script.{nothing}
-use Rattle.dsql_script_source.specs.Reading.{HasRead, ReadsHead}
+use Rattle.dsql_tx_history.specs.declared.event.Event.TheVariants.{Run}
+use Rattle.dsql_tx_script_source.specs.Script.{nothing}
+use Rattle.dsql_tx_script_source.specs.Reading.{HasRead, ReadsHead}
 use Rattle.dsql_script_source.specs.Stops.{is_read_fault}
 use Rattle.dsql_outcome.specs.Headline.{Ran, seen}
 use Rattle.dsql_outcome.specs.Playing.{ScriptPlayed}

@@ -1,23 +1,23 @@
 use Rattle.std.proofs.Common.{◌≡◌, ◌≤◌, ◌∙◌, true, List, refl, ap, sym, subst, arith, length}
 use Rattle.std.specs.Prelude.{IfSome, Ok, Err, is_some}
 use Rattle.std.proofs.lemmas.Result.{IfOk-at_ok}
-use Rattle.dsql_history.specs.declared.event.Event.{Event}
-use Rattle.dsql_history.specs.declared.event.Event.TheVariants.{Run}
-use Rattle.dsql_reader.specs.ScriptLines.{most_lines}
-use Rattle.dsql_reader.specs.declared.script.Head.TheVariants.{Begun}
-use Rattle.dsql_report.specs.Lines.{text_of}
+use Rattle.dsql_tx_history.specs.declared.event.Event.{Event}
+use Rattle.dsql_tx_history.specs.declared.event.Event.TheVariants.{Run}
+use Rattle.dsql_tx_reader.specs.ScriptLines.{most_lines}
+use Rattle.dsql_tx_reader.specs.declared.script.Head.TheVariants.{Begun}
+use Rattle.dsql_tx_report.specs.Lines.{text_of}
 use Rattle.dsql_show.specs.Report.{with_text}
-use Rattle.dsql_follows.specs.Moments.{Moment}
-use Rattle.dsql_playing.specs.Carried.{Carries, StopsInLine}
-use Rattle.dsql_playing.specs.Planned.{plans_of}
-use Rattle.dsql_playing.specs.Playing.{IsAt}
-use Rattle.dsql_script_source.specs.Plays.{saying}
-use Rattle.dsql_script_source.specs.Reading.{IsBodyLine, is_body}
+use Rattle.dsql_tx_follows.specs.Moments.{Moment}
+use Rattle.dsql_tx_playing.specs.Carried.{Carries, StopsInLine}
+use Rattle.dsql_tx_playing.specs.Planned.{plans_of}
+use Rattle.dsql_tx_playing.specs.Playing.{IsAt}
+use Rattle.dsql_tx_script_source.specs.Plays.{saying}
+use Rattle.dsql_tx_script_source.specs.Reading.{IsBodyLine, is_body}
 use Rattle.dsql_script_source.proofs.Errors.{err_is}
-use Rattle.dsql_wires.specs.Extends.{Extends}
-use Rattle.dsql_wires.specs.Told.{FleetTells, TellsAtMost}
+use Rattle.dsql_tx_wires.specs.Extends.{Extends}
+use Rattle.dsql_tx_wires.specs.Told.{FleetTells, TellsAtMost}
 use Rattle.dsql_outcome.specs.Lent.{lent}
-use Rattle.dsql_wires.proofs.Extending.{extends_same, extends_then}
+use Rattle.dsql_tx_wires.proofs.Extending.{extends_same, extends_then}
 use Rattle.dsql_outcome.specs.Runs.{IsLinesEnd, ran_out}
 use Rattle.dsql_outcome.proofs.Ending.{failed_is}
 use Rattle.dsql_outcome.proofs.Lines.{first_cut, first_ends, first_so_far, first_stops, line_ends, line_so_far, play_ends_none, read_ends, script_ends}

@@ -1,14 +1,14 @@
 use Rattle.std.proofs.Common.{◌≡◌, ◌≤◌, ◌-◌, ◌+◌, ℕ, true, List, Option, length}
 use Rattle.std.specs.Prelude.{is_some, Ok, IfSome}
 use Rattle.dsql_driver.specs.declared.caps.Caps.{Caps}
-use Rattle.dsql_history.specs.declared.event.Event.TheVariants.{Run}
-use Rattle.dsql_follows.specs.declared.line.Line.{Line}
-use Rattle.dsql_report.specs.Lines.{text_of}
-use Rattle.dsql_reader.specs.ScriptLines.{most_lines}
-use Rattle.dsql_reader.specs.declared.script.Head.{Head}
-use Rattle.dsql_wires.specs.Extends.{Extends}
+use Rattle.dsql_tx_history.specs.declared.event.Event.TheVariants.{Run}
+use Rattle.dsql_tx_follows.specs.declared.line.Line.{Line}
+use Rattle.dsql_tx_report.specs.Lines.{text_of}
+use Rattle.dsql_tx_reader.specs.ScriptLines.{most_lines}
+use Rattle.dsql_tx_reader.specs.declared.script.Head.{Head}
+use Rattle.dsql_tx_wires.specs.Extends.{Extends}
 use Rattle.dsql_show.specs.Report.{with_text}
-use Rattle.dsql_script_source.specs.Reading.{IsBodyLine}
+use Rattle.dsql_tx_script_source.specs.Reading.{IsBodyLine}
 use Rattle.dsql_outcome.specs.Lent.{lent}
 use Rattle.dsql_outcome.specs.Playing.{HasHead}
 use Rattle.dsql_outcome.specs.Runs.{Between}

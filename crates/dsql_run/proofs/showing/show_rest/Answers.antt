@@ -1,8 +1,8 @@
 use Rattle.std.proofs.Common.{◌≡◌, ◌≤◌, ℕ, List, arith, subst, sym}
 use Rattle.std.proofs.lemmas.Result.{on_err_weaker, on_ok_weaker}
-use Rattle.dsql_history.specs.declared.event.Event.{Event}
-use Rattle.dsql_history.specs.Trimmed.{IsLeftOf}
-use Rattle.dsql_show.proofs.Texts.{left_length}
+use Rattle.dsql_tx_history.specs.declared.event.Event.{Event}
+use Rattle.dsql_tx_history.specs.Trimmed.{IsLeftOf}
+use Rattle.dsql_tx_show.proofs.Texts.{left_length}
 use Rattle.dsql_run.proofs.showing.show_rest.Goals as goal
 
 -- what a player hands out is left of its history

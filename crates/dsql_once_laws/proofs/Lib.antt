@@ -1,5 +1,0 @@
-mod Steps
-mod Spent
-mod Once
-mod RowSteps
-mod Counted
