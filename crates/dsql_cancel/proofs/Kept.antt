@@ -1,10 +1,9 @@
--- What keeps the names in byte order, and every deadline that has passed a cause.
+-- Each change keeps the names in byte order, and keeps every token whose deadline has passed cancelled.
 use Rattle.std.proofs.Common.{◌≡◌, ℕ, Bool, true, false, ◌&&◌, cond, T, List, [], ◌∷◌, ◌++◌, take, drop, map, filter, length, Option, Some, None, Result, Ok, Err, OnOk, OnErr, refl, sym, ap, subst, ◌∙◌}
 use Rattle.std.proofs.Math.Seq.{take-append_seam}
 use Rattle.std.specs.declared.cmp.Ordering.{Ordering}
 use Rattle.std.specs.declared.cmp.Ordering.TheVariants.{Less, Equal, Greater}
-use Rattle.std.specs.Ordering.{is_lt}
-use Rattle.std.specs.Ordering.{eq_by_cmp}
+use Rattle.std.specs.Ordering.{is_lt, eq_by_cmp}
 use Rattle.std.specs.Option.{OnSome, IfNone}
 use Rattle.std.specs.Cmp.Lexicographic.{nat_list_cmp_total}
 use Rattle.std.specs.FinMap.Entries.{below_all, is_sorted, is_sorted-put, put, by_order}
@@ -19,7 +18,7 @@ module _ {K X : Type 0} (R : K → K → Ordering) (g : K × X → X) where
   below_map x [] = refl
   below_map x (e ∷ es) = ap (λ b. is_lt (R x e.0) && b) (below_map x es)
 
-  -- new values leave the order of the keys
+  -- New values leave the order of the keys.
   pub sorted_map : (es : List (K × X)) → is_sorted R (map (λ e. (e.0, g e)) es) ≡ is_sorted R es
   sorted_map [] = refl
   sorted_map (e ∷ es) = ap (λ b. b && is_sorted R (map (λ x. (x.0, g x)) es)) (below_map e.0 es) ∙ ap (λ b. below_all R e.0 es && b) (sorted_map es)
@@ -34,7 +33,7 @@ first_late now e es h =
 none_more : (now : ℕ) (e : Name × Token) (es : Named) → runs_out now e.1 ≡ false → running_out now es ≡ [] → running_out now (e ∷ es) ≡ []
 none_more now e es p h = ap (λ b. map (λ (x : Name × Token). x.0) (cond b (e ∷ filter (λ x. runs_out now x.1) es) (filter (λ x. runs_out now x.1) es))) p ∙ h
 
--- where each token changes to one that doesn't run out, none does
+-- If each token that doesn't run out changes to one that doesn't, none runs out after the change.
 pub none_late_map : (now : ℕ) (g : Name × Token → Token) → ((e : Name × Token) → runs_out now e.1 ≡ false → runs_out now (g e) ≡ false) → (es : Named) → running_out now es ≡ [] → running_out now (map (λ e. (e.0, g e)) es) ≡ []
 none_late_map now g keeps [] h = refl
 none_late_map now g keeps (e ∷ es) h =
@@ -55,7 +54,7 @@ none_late_put now name t p (e ∷ es) h =
       | Greater ↦ none_more now e (put byte_order name t es) parts.0 (none_late_put now name t p es parts.1)
     ]
 
--- a token that has run out at a moment is cancelled from then on
+-- From a moment on, a token doesn't run out at that moment again.
 pub at_moment_late : (now : ℕ) (t : Token) → runs_out now (one.at_moment now t) ≡ false
 at_moment_late now t = elim (runs_out now t) as (λ b. runs_out now t ≡ b → runs_out now (cond b (stopped Deadline t) t) ≡ false) [ true ↦ λ e. refl | false ↦ λ e. e ] refl
 
@@ -96,7 +95,7 @@ kept_at_moment es now then kept =
       none_late = none_late_all now g (λ e. at_moment_late now e.1) es;
     }
 
--- after a call that may be refused
+-- The tokens stay kept after an addition, whether it succeeds or fails.
 pub kept_after_put : {T E : Type 0} (name : Name) (t : Token) (old new : Named) (now : ℕ) (r : Result T E) → OnOk r (new ≡ with_token name t old) → OnErr r (new ≡ old) → runs_out now t ≡ false → IsKept old now → IsKept new now
 kept_after_put name t old new now (Ok x) ok err p kept = subst (λ es. IsKept es now) (sym ok) (kept_with name t old now p kept)
 kept_after_put name t old new now (Err e) ok err p kept = subst (λ es. IsKept es now) (sym err) kept
@@ -105,6 +104,6 @@ pub kept_after_cancel : {T : Type 0} (name : Name) (old new : Named) (now : ℕ)
 kept_after_cancel name old new now (Some x) ok none kept = subst (λ es. IsKept es now) (sym ok) (kept_canceled name old now kept)
 kept_after_cancel name old new now None ok none kept = subst (λ es. IsKept es now) (sym none) kept
 
--- a slice of a whole vector, written back
+-- Writing back a slice of a whole vector makes it the vector's items.
 pub written_back : (new old : Named) (n : ℕ) → n ≡ length new → take n (new ++ drop (length new) old) ≡ new
 written_back new old n e = rw e (take-append_seam new (drop (length new) old))

@@ -1,7 +1,7 @@
--- What the map answers after a change.
+-- What the map answers after a change: each change acts on the token that a look-up finds.
 use Rattle.std.proofs.Common.{◌≡◌, ◌≢◌, ℕ, Bool, true, false, cond, [], ◌∷◌, map, filter, Option, Some, None, Ok, Result, refl, sym, ap, ◌∙◌}
 use Rattle.std.specs.declared.cmp.Ordering.{Ordering}
-use Rattle.std.specs.declared.cmp.Ordering.TheVariants.{Less, Equal, Greater}
+use Rattle.std.specs.declared.cmp.Ordering.TheVariants.{Less, Equal}
 use Rattle.std.specs.Ordering.{is_eq, is_lt, eq_by_cmp}
 use Rattle.std.specs.Option.{option_map, ok_or}
 use Rattle.std.specs.Cmp.{IsTotalOrder, tied_itself}
@@ -27,9 +27,8 @@ same_name : (name : Name) → eq_by_cmp byte_order name name ≡ true
 same_name name = ap is_eq (tied_itself total name)
 
 by_order_equal : (r : Ordering) → is_eq r ≡ true → r ≡ Equal
-by_order_equal Less h = cc
 by_order_equal Equal h = refl
-by_order_equal Greater h = cc
+by_order_equal _ h = cc
 
 other_name : (name other : Name) → other ≢ name → eq_by_cmp byte_order other name ≡ false
 other_name name other differs =
@@ -46,7 +45,7 @@ token_of-at_moment name now (e ∷ es) =
       | false ↦ token_of-at_moment name now es
     ]
 
--- what a name's token becomes where `name` is cancelled
+-- Returns what the token of the name `other` becomes if `name` is cancelled.
 after_cancel : (name other : Name) → Token → Token
 after_cancel name other token = cond (eq_by_cmp byte_order name other) (one.stopped Canceled token) token
 
@@ -83,7 +82,7 @@ changes_one_name = record {
 abbrev cause_in : Option Token → Result (Option Cause) Unknown
 cause_in o = ok_or {E = Unknown} (option_map (λ (t : Token). t.cause) o) (record {})
 
--- a change that keeps a cause that is there
+-- A change that keeps each token's cause keeps the cause that a look-up finds.
 keeps_cause : (f : Token → Token) (o : Option Token) (why : Cause) → ((t : Token) → t.cause ≡ Some why → (f t).cause ≡ Some why) → cause_in o ≡ Ok (Some why) → cause_in (option_map f o) ≡ Ok (Some why)
 keeps_cause f (Some t) why keeps h = ap (λ (c : Option Cause). Ok c) (keeps t (cc h))
 keeps_cause f None why keeps h = cc
@@ -112,8 +111,7 @@ first_cause_stays = record {
 
 is_less : (r : Ordering) → is_lt r ≡ true → r ≡ Less
 is_less Less h = refl
-is_less Equal h = cc
-is_less Greater h = cc
+is_less _ h = cc
 
 names_above : (now : ℕ) (name : Name) (es : Named) → below_all byte_order name es ≡ true → AllByRecursion (λ y. byte_order name y ≡ Less) (running_out now es)
 names_above now name [] h = tt

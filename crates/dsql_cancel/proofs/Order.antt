@@ -1,4 +1,4 @@
--- Lists of entries whose keys rise in a total order.
+-- Lists of entries whose keys rise in a total order, and how their keys compare.
 use Rattle.std.proofs.Common.{◌≡◌, ℕ, zero, suc, ◌<◌, Bool, true, false, ◌&&◌, List, [], ◌∷◌, length, get_or, refl, sym, ap, ◌∙◌, arith, add-one}
 use Rattle.std.specs.declared.cmp.Ordering.{Ordering}
 use Rattle.std.specs.declared.cmp.Ordering.TheVariants.{Less, Equal, Greater}
@@ -18,8 +18,7 @@ right false b h = cc
 
 less : (r : Ordering) → is_lt r ≡ true → r ≡ Less
 less Less h = refl
-less Equal h = cc
-less Greater h = cc
+less _ h = cc
 
 module _ {K : Type 0} {R : K → K → Ordering} (o : IsTotalOrder R) where
   pub from_less : (x y : K) → R x y ≡ Less → R y x ≡ Greater
@@ -31,7 +30,7 @@ module _ {K : Type 0} {R : K → K → Ordering} (o : IsTotalOrder R) where
   pub from_greater : (x y : K) → R x y ≡ Greater → R y x ≡ Less
   from_greater x y e = o.antisymm y x ∙ ap ordering_reverse e
 
-  -- what is below one of two equal keys is below the other
+  -- A key below one of two equal keys is below the other.
   pub less_tied : (x y z : K) → R x y ≡ Less → R y z ≡ Equal → R x z ≡ Less
   less_tied x y z p e = sym (alike_right o y z x e) ∙ p
 
@@ -52,6 +51,6 @@ module _ {K X : Type 0} {R : K → K → Ordering} (o : IsTotalOrder R) where
   adjacent (e ∷ es) zero d h lt = ap is_lt (from_less o e.0 (get_or es zero d).0 (below_at e.0 es zero d (first_below e es h) (omega arith)))
   adjacent (e ∷ es) (suc i) d h lt = adjacent es i d (rest_sorted e es h) (omega arith)
 
-  -- the comparisons with a key rise along the list, as a binary search asks
+  -- The comparisons with a key rise along the list, as a binary search requires.
   pub comparisons_rise : (es : List (K × X)) (q : K) → is_sorted R es ≡ true → IsNonDecreasingBy (λ (e : K × X). ordering_index (R e.0 q)) es
   comparisons_rise es q h = searchable_from_sorted o (λ e. e.0) es q (λ k d low high. rw add-one (adjacent es k d h (omega arith)))

@@ -1,4 +1,5 @@
--- What stands at the place that a search finds, and what an edit there makes of the list.
+-- What stands at the place that a search finds, and what an edit there makes of the list. The proofs go by
+-- induction on the list.
 use Rattle.std.proofs.Common.{◌≡◌, ℕ, zero, suc, ◌<◌, ◌≤◌, true, cond, List, [], ◌∷◌, map, length, get_or, set, Some, None, refl, sym, ap, ◌∙◌, arith}
 use Rattle.std.specs.declared.cmp.Ordering.{Ordering}
 use Rattle.std.specs.declared.cmp.Ordering.TheVariants.{Less, Equal, Greater}
@@ -9,7 +10,7 @@ use Rattle.std.specs.FinMap.Entries.{below_all, is_sorted, find, put, by_order}
 use Rattle.dsql_cancel.proofs.Order.{from_less, from_equal, from_greater, less_tied, first_below, rest_sorted, below_at, right}
 
 module _ {K X : Type 0} {R : K → K → Ordering} (o : IsTotalOrder R) where
-  -- a key below one that equals q is below q
+  -- A key below one that equals q is below q.
   above_first : (q : K) (e : K × X) (es : List (K × X)) (i : ℕ) → is_sorted R (e ∷ es) ≡ true → i < length es → HoldsAt (λ x. R x.0 q ≡ Equal) es i → R q e.0 ≡ Greater
   above_first q e es i s lt at = from_less o e.0 q (less_tied o e.0 (get_or es i e).0 q (below_at o e.0 es i e (first_below o e es s) lt) (at e))
 
@@ -20,11 +21,11 @@ module _ {K X : Type 0} {R : K → K → Ordering} (o : IsTotalOrder R) where
       ap (λ r. cond (is_eq r) (Some e.1) (find R q es)) (above_first q e es i s (omega arith) at)
       ∙ find_at q es i (rest_sorted o e es s) (omega arith) at d
 
-  -- the change of the value at a key
+  -- Returns the list with the value at a key changed.
   abbrev pub changed_at : (X → X) → K → List (K × X) → List (K × X)
   changed_at f q es = map (λ e. (e.0, cond (eq_by_cmp R q e.0) (f e.1) e.1)) es
 
-  -- no key that is above q changes
+  -- A key above q doesn't change.
   unchanged_above : (f : X → X) (q : K) (es : List (K × X)) (x : K) → R x q ≡ Equal → below_all R x es ≡ true → changed_at f q es ≡ es
   unchanged_above f q [] x t h = refl
   unchanged_above f q (e ∷ es) x t h =
@@ -33,7 +34,7 @@ module _ {K X : Type 0} {R : K → K → Ordering} (o : IsTotalOrder R) where
       ap (λ r. (e.0, cond (is_eq r) (f e.1) e.1) ∷ changed_at f q es) same
       ∙ ap (λ r. e ∷ r) (unchanged_above f q es x t (right (is_lt (R x e.0)) (below_all R x es) h))
 
-  -- writing at the place of a key changes that key alone
+  -- Writing at the place of a key changes that key alone.
   pub set_at : (f : X → X) (q : K) (es : List (K × X)) (i : ℕ) → is_sorted R es ≡ true → i < length es → HoldsAt (λ x. R x.0 q ≡ Equal) es i → (d : K × X) → set es i ((get_or es i d).0, f (get_or es i d).1) ≡ changed_at f q es
   set_at f q [] i s lt at d = absurd (omega arith)
   set_at f q (e ∷ es) zero s lt at d =
@@ -43,7 +44,7 @@ module _ {K X : Type 0} {R : K → K → Ordering} (o : IsTotalOrder R) where
       ap (λ r. e ∷ r) (set_at f q es i (rest_sorted o e es s) (omega arith) at d)
       ∙ ap (λ r. (e.0, cond (is_eq r) (f e.1) e.1) ∷ changed_at f q es) (sym (above_first q e es i s (omega arith) at))
 
-  -- a key with a gap isn't found
+  -- A key with a gap isn't found.
   pub find_gap : (q : K) (es : List (K × X)) (i : ℕ) → AllWithin (λ x. R x.0 q ≡ Less) es 0 i → AllWithin (λ x. R x.0 q ≡ Greater) es i (length es) → find R q es ≡ None
   find_gap q [] i lows highs = refl
   find_gap q (e ∷ es) zero lows highs =
@@ -53,7 +54,7 @@ module _ {K X : Type 0} {R : K → K → Ordering} (o : IsTotalOrder R) where
       ap (λ r. cond (is_eq r) (Some e.1) (find R q es)) (from_less o e.0 q (lows zero e (omega arith) (omega arith)))
       ∙ find_gap q es i (λ k d low high. lows (suc k) d (omega arith) (omega arith)) (λ k d low high. highs (suc k) d (omega arith) (omega arith))
 
-  -- a key and its value go into the gap
+  -- Inserting a key and its value in the key's gap puts them into the list.
   pub insert_gap : (q : K) (v : X) (es : List (K × X)) (i : ℕ) → i ≤ length es → AllWithin (λ x. R x.0 q ≡ Less) es 0 i → AllWithin (λ x. R x.0 q ≡ Greater) es i (length es) → insert es i (q, v) ≡ put R q v es
   insert_gap q v [] zero le lows highs = refl
   insert_gap q v [] (suc i) le lows highs = absurd (omega arith)

@@ -1,4 +1,5 @@
--- What a search for a name finds, and what an edit at its place makes of the tokens.
+-- What a search for a name finds, and what an edit at its place makes of the tokens. Both follow from the
+-- names' order.
 use Rattle.std.proofs.Common.{◌≡◌, ◌≢◌, ℕ, zero, suc, ◌+◌, ◌<◌, true, false, cond, [], ◌∷◌, ◌++◌, map, filter, length, get_or, set, take, Some, None, Result, Ok, Err, IfOk, IfErr, OnOk, OnErr, add-one, refl, ap, ◌∙◌, arith}
 use Rattle.std.specs.Cmp.{IsTotalOrder}
 use Rattle.std.specs.Cmp.Lexicographic.{nat_list_cmp_total}
@@ -18,7 +19,7 @@ use Rattle.dsql_cancel.proofs.Places.{find_at, set_at, find_gap, insert_gap}
 pub byte_order_total : IsTotalOrder byte_order
 byte_order_total = nat_list_cmp_total
 
--- a binary search by name ends at the name, or at the gap for it
+-- A binary search by name ends at the name, or at the gap for it.
 pub searched : (name : Name) (es : Named) → is_sorted byte_order es ≡ true → (r : Result ℕ ℕ) → IsSearchInRange r (length es) → IsBinarySearchResult (λ (e : Name × Token). byte_order e.0 name) es r → record { found : IfOk r (IsAt es name); absent : IfErr r (IsGapFor es name) }
 searched name es s (Ok i) range is = record { found = record { in_range = range; same = is }; absent = tt }
 searched name es s (Err i) range is = record { found = tt; absent = record { in_range = range; parted = is (comparisons_rise byte_order_total es name s) } }
@@ -50,7 +51,7 @@ no_cause_in_gap name es i gap = ap (λ o. ok_or (option_map (λ (t : Token). t.c
 pub with_token_in_gap : (name : Name) (t : Token) (es : Named) (i : ℕ) → IsGapFor es name i → insert es i (name, t) ≡ with_token name t es
 with_token_in_gap name t es i gap = insert_gap byte_order_total name t es i gap.in_range gap.parted.0 gap.parted.1
 
--- one token more is looked at
+-- The names among one more token are the names so far, and that token's if it runs out.
 pub running_more : (now : ℕ) (es : Named) (i : ℕ) (d : Name × Token) → i < length es → running_out now (take (suc i) es) ≡ running_out now (take i es) ++ cond (runs_out now (get_or es i d).1) ((get_or es i d).0 ∷ []) []
 running_more now [] i d lt = absurd (omega arith)
 running_more now (e ∷ es) zero d lt =
@@ -68,7 +69,7 @@ running_then now es i d lt h = rw add-one (running_more now es i d lt ∙ ap (λ
 pub running_else : (now : ℕ) (es : Named) (i : ℕ) (d : Name × Token) → i < length es → runs_out now (get_or es i d).1 ≡ false → running_out now (take (i + 1) es) ≡ running_out now (take i es)
 running_else now es i d lt h = rw add-one (running_more now es i d lt ∙ ap (λ b. running_out now (take i es) ++ cond b ((get_or es i d).0 ∷ []) []) h ∙ append-nil (running_out now (take i es)))
 
--- where one token runs out, there is a name
+-- If a token runs out, there is a name.
 pub some_runs_out : (now : ℕ) (es : Named) (i : ℕ) (d : Name × Token) → i < length es → runs_out now (get_or es i d).1 ≡ true → running_out now es ≢ []
 some_runs_out now [] i d lt h none = omega arith
 some_runs_out now (e ∷ es) zero d lt h none = cc (ap (λ b. map (λ (x : Name × Token). x.0) (cond b (e ∷ filter (λ x. runs_out now x.1) es) (filter (λ x. runs_out now x.1) es))) h)

@@ -1,38 +1,38 @@
--- What becomes of one token.
+-- A token and its changes.
 use Rattle.std.specs.Prelude.{ℕ, Bool, false, ◌&&◌, nat_le, Option, Some, None, is_none, unwrap_or, if◌then◌else◌}
 use Rattle.dsql_cancel.specs.declared.token.Token.{Token}
 use Rattle.dsql_cancel.specs.declared.token.Cause.{Cause}
 use Rattle.dsql_cancel.specs.declared.token.Cause.TheVariants.{Deadline}
 
--- a token that has no deadline, and isn't cancelled
+-- Returns a token that has no deadline and isn't cancelled.
 abbrev pub endless : Token
 endless = record { deadline = None; cause = None }
 
--- a deadline has passed at its own moment and from then on
+-- Is true if a deadline has passed. It has at its own moment and from then on.
 abbrev pub has_passed : ℕ → ℕ → Bool
 has_passed at now = nat_le at now
 
--- a token that is made with a deadline; one that has passed cancels it at once
+-- Returns a token that is made with a deadline. If the deadline has passed, it cancels the token at once.
 abbrev pub timed : ℕ → ℕ → Token
 timed at now = record { deadline = Some at; cause = if has_passed at now then Some Deadline else None }
 
--- it isn't cancelled
+-- Is true if the token isn't cancelled.
 abbrev pub runs : Token → Bool
 runs token = is_none token.cause
 
--- there is a deadline, and it has passed
+-- Is true if there is a deadline and it has passed.
 abbrev pub is_over : ℕ → Option ℕ → Bool
 is_over now (Some at) = has_passed at now
 is_over now None = false
 
--- it isn't cancelled, and its deadline has passed
+-- Is true if the token isn't cancelled and its deadline has passed.
 abbrev pub runs_out : ℕ → Token → Bool
 runs_out now token = runs token && is_over now token.deadline
 
--- it is cancelled; a first cause stays
+-- Returns the token, cancelled. A first cause stays.
 abbrev pub stopped : Cause → Token → Token
 stopped why token = record { deadline = token.deadline; cause = Some (unwrap_or token.cause why) }
 
--- where it has run out, it is cancelled by its deadline
+-- Returns the token from this moment on. If it has run out, its deadline cancels it.
 abbrev pub at_moment : ℕ → Token → Token
 at_moment now token = if runs_out now token then stopped Deadline token else token

@@ -1,4 +1,4 @@
--- Worked tokens: a token `a` whose deadline is 9, one `b` whose deadline is 10, and one `c` without.
+-- Worked tokens: `a` with the deadline 9, `b` with the deadline 10, and `c` without one.
 use Rattle.std.specs.Prelude.{◌≡◌, true, false, [], ◌∷◌, None, Some, Ok, Err, codes}
 use Rattle.dsql_cancel.specs.declared.token.Cause.TheVariants.{Canceled, Deadline}
 use Rattle.dsql_cancel.specs.Token.{endless, timed}
@@ -14,7 +14,10 @@ pub record WorkedMoments : Type 0 where
   pub once : running_out 10 (at_moment 9 three) ≡ codes "b" ∷ []
   pub not_if_canceled : running_out 10 (canceled (codes "a") three) ≡ codes "b" ∷ []
   pub passed_at_once : running_out 0 (with_token (codes "a") (timed 0 0) []) ≡ []
-  pub capitals_first : running_out 1 (with_token (codes "a") (timed 1 0) (with_token (codes "ab") (timed 1 0) (with_token (codes "B") (timed 1 0) []))) ≡ codes "B" ∷ codes "a" ∷ codes "ab" ∷ []
+  pub capitals_first : running_out 1
+      (with_token (codes "a") (timed 1 0)
+      (with_token (codes "ab") (timed 1 0) (with_token (codes "B") (timed 1 0) [])))
+      ≡ codes "B" ∷ codes "a" ∷ codes "ab" ∷ []
 
 pub record WorkedCauses : Type 0 where
   pub none_yet : cause_of (codes "a") three ≡ Ok None

@@ -1,11 +1,11 @@
 use thiserror::Error;
 
-/// No token of that name was made.
+/// The failure that no token with this name was made.
 #[derive(Clone, Copy, Debug, Error)]
 #[error("no token has this name")]
 pub struct Unknown;
 
-/// Why a token wasn't made or cancelled. Nothing changed.
+/// Why a call on the tokens failed. The call changed nothing.
 #[derive(Clone, Copy, Debug, Error)]
 pub enum TokenFault {
     #[error("no token has this name")]

@@ -1,5 +1,5 @@
-//! Tokens by which calls are cancelled, as a `context.Context` of Go's package `context`: by a call of its
-//! cancel function, or by a deadline that has passed.
+//! Tokens by which calls are cancelled, as a `context.Context` of Go's package `context`. A call of its cancel
+//! function cancels a token, and so does a deadline that has passed.
 #![tactic(auto)]
 
 mod fault;

@@ -1,4 +1,4 @@
-//! Tokens in a table in the byte order of their names.
+//! A table of tokens in the byte order of their names.
 ghost use Rattle.std.specs.Prelude.{◌≡◌, ◌≢◌, ◌+◌, ◌-◌, ◌≤◌, [], true, false, IsTrue, IfOk, IfErr, IfSome, OnOk, OnErr, OnSome, IfNone, vec_len, vec_capacity};
 ghost use Rattle.std.specs.FinMap.{is_sorted};
 ghost use Rattle.dsql_cancel.specs.Registry.{byte_order, was_made, with_token, canceled, at_moment, running_out};
@@ -13,7 +13,7 @@ use std::alloc::Global;
 /// Names, in order.
 pub type Names = Items<Txt>;
 
-/// Where a name stands, or where it would.
+/// Returns the place of a name, or fails with the place where it would stand.
 pub fn place_of(table: &[(Txt, Token)], name: &Txt) -> Result<usize, usize>
     requires { IsTrue (is_sorted byte_order table.now) }
     ensures found { IfOk result (IsAt table.now name.now) }
@@ -29,7 +29,8 @@ pub fn add(table: &mut Vec<(Txt, Token)>, name: Txt, token: Token) -> Result<(),
     ensures ok { OnOk result (table.new.items ≡ with_token name token table.old.items) }
     ensures fresh { OnOk result (was_made name table.old.items ≡ false) }
     ensures exists { IfErr result (λ e. e ≡ TokenFault.TokenExists → was_made name table.old.items ≡ true) }
-    ensures full { IfErr result (λ e. e ≡ TokenFault.Memory → (was_made name table.old.items ≡ false) × (vec_capacity table.old ≤ vec_len table.old)) }
+    ensures full { IfErr result (λ e. e ≡ TokenFault.Memory → (was_made name table.old.items ≡ false)
+        × (vec_capacity table.old ≤ vec_len table.old)) }
     ensures known { IfErr result (λ e. e ≢ TokenFault.NoToken) }
     ensures err { OnErr result (table.new.items ≡ table.old.items) }
     ensures room { vec_capacity table.old - vec_len table.old ≤ vec_capacity table.new - vec_len table.new + 1 }
@@ -44,7 +45,7 @@ pub fn add(table: &mut Vec<(Txt, Token)>, name: Txt, token: Token) -> Result<(),
     }
 }
 
-/// Cancels the token of a name, and says whether it ran; None where there is none.
+/// Cancels the token with this name, and returns whether it ran. Returns `None` if there is none.
 pub fn cancel_in(table: &mut [(Txt, Token)], name: &Txt) -> Option<bool>
     requires { IsTrue (is_sorted byte_order table.old) }
     ensures after { OnSome result (table.new ≡ canceled name.now table.old) }
@@ -64,7 +65,7 @@ pub fn cancel_in(table: &mut [(Txt, Token)], name: &Txt) -> Option<bool>
     }
 }
 
-/// The names of the tokens that are cancelled at a moment.
+/// Returns the names of the tokens that their deadlines cancel at this moment.
 pub fn names_running_out(alloc: Global, table: &[(Txt, Token)], now: u64) -> Result<Names, Memory>
     ensures ok { IfOk result (λ names. names ≡ running_out now table.now) }
     ensures err { OnErr result (running_out now table.now ≢ []) }
@@ -78,7 +79,7 @@ pub fn names_running_out(alloc: Global, table: &[(Txt, Token)], now: u64) -> Res
     Ok(Items::new(names))
 }
 
-/// Each token as it is from this moment on.
+/// Changes each token to what it is from this moment on.
 pub fn pass(table: &mut [(Txt, Token)], now: u64)
     ensures { table.new ≡ at_moment now table.old }
 {

@@ -8,8 +8,7 @@ pub enum Cause {
     Deadline,
 }
 
-/// What a token is at a moment: its deadline in nanoseconds, if it has one, and why it is cancelled, if it
-/// is.
+/// A token at a moment: its deadline in nanoseconds, if it has one, and why it is cancelled, if it is.
 #[derive(Clone, Copy)]
 pub struct Token {
     pub deadline: Option<u64>,
@@ -17,7 +16,7 @@ pub struct Token {
 }
 
 impl Token {
-    /// A token without a deadline.
+    /// Returns a token without a deadline.
     pub fn endless() -> Token
         ensures { result ≡ token.endless }
     {
@@ -27,7 +26,7 @@ impl Token {
         }
     }
 
-    /// A token that is made with a deadline.
+    /// Returns a token with the deadline `at`, made at the moment `now`.
     pub fn timed(at: u64, now: u64) -> Token
         ensures { result ≡ token.timed at now }
     {
@@ -42,14 +41,14 @@ impl Token {
         }
     }
 
-    /// The token isn't cancelled.
+    /// Returns true if the token isn't cancelled.
     pub fn runs(&self) -> bool
         ensures { result ≡ token.runs self.now }
     {
         self.cause.is_none()
     }
 
-    /// The token is cancelled at this moment, by its deadline.
+    /// Returns true if the deadline cancels the token at this moment.
     pub fn runs_out(&self, now: u64) -> bool
         ensures { result ≡ token.runs_out now self.now }
     {
@@ -59,7 +58,7 @@ impl Token {
         }
     }
 
-    /// The token, cancelled. A first cause stays.
+    /// Returns the token, cancelled. A first cause stays.
     pub fn stopped(self, why: Cause) -> Token
         ensures { result ≡ token.stopped why self }
     {
@@ -70,7 +69,7 @@ impl Token {
         }
     }
 
-    /// The token as it is from this moment on.
+    /// Returns the token as it is from this moment on.
     pub fn at_moment(self, now: u64) -> Token
         ensures { result ≡ token.at_moment now self }
     {

@@ -8,7 +8,7 @@ use dsql_value::{Memory, Txt};
 use std::alloc::Global;
 use std::marker::Model;
 
-/// The tokens made so far. Contracts see them as a map from names to tokens, with the present moment, in
+/// The tokens made so far. Contracts see them as a map from names to tokens, with the present moment in
 /// nanoseconds, and for how many calls there is memory.
 #[derive(Drop)]
 pub struct Tokens {
@@ -22,7 +22,11 @@ impl Model for Tokens {
 
     ghost Value = { Registry };
 
-    ghost view = { λ t. record { tokens = t.table.items; moment = t.moment; spare = vec_capacity t.table - vec_len t.table } };
+    ghost view = { λ t. record {
+      tokens = t.table.items;
+      moment = t.moment;
+      spare = vec_capacity t.table - vec_len t.table;
+    } };
 
     ghost invariant = { λ t. IsKept t.table.items t.moment };
 }
@@ -32,7 +36,7 @@ impl Tokens {
     ghost use Rattle.dsql_cancel.specs.Registry.{was_made, with_token, canceled, at_moment, running_out, cause_of, IsKept, RefusesMake, RefusesTick};
     ghost use Rattle.dsql_cancel.specs.Registry as registry;
 
-    /// No tokens, at the moment 0. It takes no memory.
+    /// Returns no tokens, at the moment 0. It takes no memory.
     pub fn new(alloc: Global) -> Tokens
         ensures tokens { result.tokens ≡ [] }
         ensures moment { result.moment ≡ 0 }
@@ -55,7 +59,8 @@ impl Tokens {
         self.put(name, Token::endless())
     }
 
-    /// Makes a token that is cancelled at the moment `at`, in nanoseconds, and says whether that is at once.
+    /// Makes a token that is cancelled at the moment `at`, in nanoseconds. Returns true if it is cancelled at
+    /// once.
     pub fn make_deadline(&mut self, name: Txt, at: u64) -> Result<bool, TokenFault>
         ensures ok { OnOk result (self.new.tokens ≡ with_token name (timed at self.old.moment) self.old.tokens) }
         ensures fresh { OnOk result (was_made name self.old.tokens ≡ false) }
@@ -84,8 +89,8 @@ impl Tokens {
         add(&mut self.table, name, made)
     }
 
-    /// Cancels a token, and says whether this call did: a token that was cancelled before keeps its cause. It
-    /// takes no memory.
+    /// Cancels a token. Returns true if this call cancelled it: a token that was cancelled before keeps its
+    /// cause. It takes no memory.
     pub fn cancel(&mut self, name: &Txt) -> Result<bool, TokenFault>
         ensures ok { OnOk result (self.new.tokens ≡ canceled name.now self.old.tokens) }
         ensures made { OnOk result (was_made name.now self.old.tokens ≡ true) }
@@ -102,8 +107,8 @@ impl Tokens {
         }
     }
 
-    /// The present moment becomes `now`, in nanoseconds, if it isn't later. Answers the names of the tokens
-    /// whose deadlines cancel them now, in byte order.
+    /// Moves the present moment to `now`, in nanoseconds, unless it is later already. Returns the names of the
+    /// tokens that their deadlines cancel at the present moment, in byte order.
     pub fn tick(&mut self, alloc: Global, now: u64) -> Result<Names, TokenFault>
         ensures ok { OnOk result (self.new.tokens ≡ at_moment (max self.old.moment now) self.old.tokens) }
         ensures names { IfOk result (λ names. names ≡ running_out (max self.old.moment now) self.old.tokens) }
@@ -124,7 +129,8 @@ impl Tokens {
         }
     }
 
-    /// Why a token is cancelled, if it is. The deadline of one that isn't hasn't passed.
+    /// Returns why a token is cancelled, or `None` if it isn't. The deadline of one that isn't cancelled hasn't
+    /// passed.
     pub fn cause(&self, name: &Txt) -> Result<Option<Cause>, Unknown>
         ensures cause { result ≡ cause_of name.now self.now.tokens }
         ensures kept { IsKept self.now.tokens self.now.moment }
@@ -135,7 +141,7 @@ impl Tokens {
         }
     }
 
-    /// Takes memory for so many calls more, up to and with the first one of `make_deadline`.
+    /// Takes memory for this many more calls, up to and including the first call of `make_deadline`.
     pub fn reserve(&mut self, calls: u32) -> Result<(), Memory>
         ensures ok { OnOk result (calls ≤ self.new.spare) }
         ensures tokens { self.new.tokens ≡ self.old.tokens }
@@ -146,7 +152,7 @@ impl Tokens {
         Ok(())
     }
 
-    /// How many tokens were made.
+    /// Returns how many tokens were made.
     pub fn held(&self) -> u64
         ensures { result ≡ length self.now.tokens }
     {

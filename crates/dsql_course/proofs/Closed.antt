@@ -1,4 +1,4 @@
--- What a line has opened it has closed when it is over.
+-- A line that is over has closed what it opened: a close that is wanted isn't passed by.
 use Rattle.std.proofs.Common.{◌≡◌, ℕ, ◌<◌, ◌≤◌, Bool, true, false, not, ◌&&◌, cond, List, [], ◌∷◌, map, refl, sym, ap, ◌∙◌, subst, Option, Some, None, is_none, inl, inr, lit<, lit≤, arith, rules}
 use Rattle.std.specs.Prelude.{ℤ, Contains}
 use Rattle.std.specs.List.{list_any}
@@ -21,7 +21,7 @@ use Rattle.dsql_course.proofs.Order.{place, call_place, same_step-sound}
 use Rattle.dsql_course.proofs.Taken.{IsAmong, turn_taken, reached}
 use Rattle.dsql_course.proofs.Opened.{none-some, cursors_are_own, handles_are_own}
 
--- these steps are none behind the closing of a handle
+-- Holds if none of these steps comes after the closing of a handle.
 abbrev UpToHandle : List Step → Type 0
 UpToHandle [] = Unit {0}
 UpToHandle (step ∷ later) = (place step < 6) × UpToHandle later
@@ -34,7 +34,7 @@ up_to u (first ∷ later) h among =
       | inr more ↦ up_to u later h.1 more
     ]
 
--- the course closes what it opens
+-- Holds if the step u is one of the course, and none of its steps comes after the closing of a handle.
 record Closes (c : Course) (u : Step) : Type 0 where
   has : IsAmong u (steps c)
   last : UpToHandle (steps c)
@@ -52,7 +52,7 @@ opened : (b : Bool) (o : Option Due) → b ≡ true → cond b o None ≡ o
 opened true o h = refl
 opened false o h = cc
 
--- the step of a call of a line, where that is not before the step u and u is of the course
+-- No step of a line comes after the closing of a handle, if the course closes what it opens.
 at_least : (c : Course) (can : Caps) (args : ℕ) (turn : Turn) (earlier : List Turn) (due : Due) (step u : Step) → IsLine c can args (turn ∷ earlier) → Closes c u → turn.call ≡ due → step_of due ≡ Some step → place step < 6
 at_least c can args turn earlier due step u line closes e is = up_to step (steps c) closes.last (turn_taken c can args turn earlier due step line e is).among
 
@@ -79,7 +79,7 @@ calls_head turn earlier due e =
 calls_tail : (turn : Turn) (earlier : List Turn) (due : Due) → Calls earlier due → Calls (turn ∷ earlier) due
 calls_tail turn earlier due h = Contains-append_right (turn.call ∷ []) (map (λ (t : Turn). t.call) earlier) due h
 
--- closing gives nothing
+-- The close of a cursor gives no cursor.
 close_rows_gives : (c : Course) (due : Due) (answer : Got) (rows : ℕ) → due ≡ call.CloseRows rows → may_get c due answer ≡ true → given_cursor answer ≡ None
 close_rows_gives c due (got.Cursor other) rows is h = let never : may_get c (call.CloseRows rows) (got.Cursor other) ≡ true = subst (λ (d : Due). may_get c d (got.Cursor other) ≡ true) is h in cc
 close_rows_gives c due _ rows is h = refl
@@ -101,7 +101,7 @@ closes_stmt o handle other inputs is h =
     let same : Some (call.CloseStmt handle) ≡ Some (call.CloseStmt other) = subst (λ (p : Option (ℕ × ℤ)). option_map (λ (h : ℕ × ℤ). call.CloseStmt h.0) p ≡ Some (call.CloseStmt other)) is h in
     cc
 
--- a cursor is closed once a later step comes
+-- If a step later than its close comes next, a cursor was closed.
 cursor_closed : (c : Course) (can : Caps) (args : ℕ) (found : Found) (due : Due) (rows : ℕ) (turns : List Turn) → reads_one c ≡ true → IsLine c can args turns → went_bad (map exchange turns) ≡ false → comes_next c can args found (map exchange turns) ≡ due → 4 < call_place due → found.bad ≡ false → own_cursor (map exchange turns) ≡ Some rows → Calls turns (call.CloseRows rows)
 cursor_closed c can args found due rows [] one line good next late fine own = absurd (none-some own)
 cursor_closed c can args found due rows (turn ∷ earlier) one line good next late fine own =
@@ -134,7 +134,7 @@ cursor_closed c can args found due rows (turn ∷ earlier) one line good next la
       | call.Over ↦ λ is. absurd (never_over c turn.call turn.answer is h.answers)
     ] refl
 
--- a handle is closed once nothing comes
+-- If nothing comes any more, a handle that the course lets go was closed.
 handle_closed : (c : Course) (can : Caps) (args : ℕ) (found : Found) (handle : ℕ) (inputs : ℤ) (turns : List Turn) → Closes c CloseHandle → EndsWell c can args found turns → lets_handle_go c found (map exchange turns) ≡ true → own_handle (map exchange turns) ≡ Some (handle, inputs) → Calls turns (call.CloseStmt handle)
 handle_closed c can args found handle inputs [] closes ends goes own = absurd (none-some own)
 handle_closed c can args found handle inputs (turn ∷ earlier) closes ends goes own =

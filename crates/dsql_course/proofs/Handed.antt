@@ -1,4 +1,5 @@
--- Rows that are over, or that are to be closed, are closed.
+-- Rows that are over, or that are to be closed, are closed. The proofs compute what comes after each newest
+-- call.
 use Rattle.std.proofs.Common.{◌≡◌, ℕ, Bool, true, false, not, ◌&&◌, ◌||◌, if◌then◌else◌, List, [], ◌∷◌, refl, ap, ◌∙◌, Some, None}
 use Rattle.dsql_driver.specs.declared.caps.Caps.{Caps}
 use Rattle.dsql_course.specs.declared.course.Wish.TheVariants as wish
@@ -12,7 +13,7 @@ use Rattle.dsql_course.specs.Line.{comes_next}
 use Rattle.dsql_course.specs.Rows.{closing, but_no_handle, closed_with, closing_next, rows_next_if}
 use Rattle.dsql_course.specs.Laws.{RowsAreClosed, RowsOfAnyCourse, uses_rows}
 
--- a text isn't prepared where no more is wanted
+-- A text isn't prepared if no more is wanted.
 unprepared : (fast skipped : Bool) → (not fast || skipped) && false ≡ false
 unprepared true true = refl
 unprepared true false = refl
@@ -54,7 +55,7 @@ and_false : (b : Bool) → b && false ≡ false
 and_false true = refl
 and_false false = refl
 
--- on a connection that is known to be bad nothing is closed
+-- On a connection that is known to be bad nothing is closed.
 nothing_on_bad : (can : Caps) (args : ℕ) (made : List Exchange) → comes_next course.One can args (closing true) made ≡ call.Over
 nothing_on_bad can args [] = rw (and_false can.fast_query, unprepared can.fast_query false) refl
 nothing_on_bad can args ((call.Text, answer) ∷ earlier) =

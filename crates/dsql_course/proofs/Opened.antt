@@ -1,4 +1,5 @@
--- A line is given one cursor and one handle at most.
+-- A line is given one cursor and one handle at most. Only the run of a text or a handle gives a cursor, and a
+-- text that gave one isn't prepared. Only a Prepare gives a handle.
 use Rattle.std.proofs.Common.{◌≡◌, ℕ, ◌<◌, ◌⊎◌, Bool, true, false, not, ◌&&◌, ◌||◌, cond, List, [], ◌∷◌, map, refl, sym, ap, ◌∙◌, subst, Option, Some, None, is_none, inl, inr, arith}
 use Rattle.std.specs.Prelude.{ℤ, All}
 use Rattle.std.proofs.lemmas.Bool.{and_parts, or_cases}
@@ -23,14 +24,7 @@ none-some h = cc
 text_or_prepare : (due : Due) → call_place due < 2 → (due ≡ call.Text) ⊎ (due ≡ call.Prepare)
 text_or_prepare call.Text lt = inl refl
 text_or_prepare call.Prepare lt = inr refl
-text_or_prepare (call.Handle handle) lt = absurd (omega arith)
-text_or_prepare (call.Next rows) lt = absurd (omega arith)
-text_or_prepare (call.CloseRows rows) lt = absurd (omega arith)
-text_or_prepare (call.CloseStmt handle) lt = absurd (omega arith)
-text_or_prepare call.Ping lt = absurd (omega arith)
-text_or_prepare call.Begin lt = absurd (omega arith)
-text_or_prepare call.Rollback lt = absurd (omega arith)
-text_or_prepare call.Over lt = absurd (omega arith)
+text_or_prepare _ lt = absurd (omega arith)
 
 only_text : (due : Due) → call_place due < 1 → due ≡ call.Text
 only_text due lt = elim (text_or_prepare due (omega arith)) [
@@ -38,12 +32,12 @@ only_text due lt = elim (text_or_prepare due (omega arith)) [
   | inr prepare ↦ let one : call_place due ≡ 1 = ap call_place prepare in absurd (omega arith)
 ]
 
--- a text gives no handle
+-- The run of a text gives no handle.
 text_gives : (c : Course) (due : Due) (answer : Got) → due ≡ call.Text → may_get c due answer ≡ true → given_handle answer ≡ None
 text_gives c due (got.Prepared handle inputs) is h = let no : may_get c call.Text (got.Prepared handle inputs) ≡ true = subst (λ (d : Due). may_get c d (got.Prepared handle inputs) ≡ true) is h in cc
 text_gives c due _ is h = refl
 
--- a Prepare gives no cursor
+-- A Prepare gives no cursor.
 prepare_gives : (c : Course) (due : Due) (answer : Got) → due ≡ call.Prepare → may_get c due answer ≡ true → given_cursor answer ≡ None
 prepare_gives c due (got.Cursor rows) is h = let no : may_get c call.Prepare (got.Cursor rows) ≡ true = subst (λ (d : Due). may_get c d (got.Cursor rows) ≡ true) is h in cc
 prepare_gives c due _ is h = refl
@@ -57,17 +51,12 @@ when_holds : (b : Bool) (x y : Due) → when b x ≡ Some y → b ≡ true
 when_holds true x y h = refl
 when_holds false x y h = cc
 
--- a course with a fast way has no live handle
+-- A course with a fast way has no live handle.
 fast_is_new : (c : Course) (can : Caps) → has_fast_way c can ≡ true → live_handle c ≡ None
-fast_is_new course.Exec can h = refl
-fast_is_new course.Query can h = refl
-fast_is_new course.One can h = refl
-fast_is_new course.Prepare can h = refl
 fast_is_new (course.Run reads one live) can h = cc
-fast_is_new course.Ping can h = refl
-fast_is_new course.Begin can h = refl
+fast_is_new _ can h = refl
 
--- where a text was run the course has the fast way
+-- A course that ran a text has the fast way.
 text_taken : (c : Course) (can : Caps) (args : ℕ) (turn : Turn) (earlier : List Turn) → IsLine c can args (turn ∷ earlier) → turn.call ≡ call.Text → has_fast_way c can ≡ true
 text_taken c can args turn earlier line is =
     let h = turn_taken c can args turn earlier call.Text RunText line is refl in
@@ -77,7 +66,7 @@ no_run : (args : ℕ) (stopped : Bool) (o : Option (ℕ × ℤ)) (due : Due) →
 no_run args true o due is h = cc
 no_run args false o due is h = let no : run_with args None ≡ Some due = subst (λ (p : Option (ℕ × ℤ)). run_with args p ≡ Some due) is h in cc
 
--- behind a text alone no handle is run
+-- A line whose only earlier call is the run of a text runs no handle.
 no_handle_run : (c : Course) (can : Caps) (args : ℕ) (turn last : Turn) (handle : ℕ) → IsLine c can args (turn ∷ last ∷ []) → turn.call ≡ call.Handle handle → last.call ≡ call.Text → ⊥
 no_handle_run c can args turn last handle line is text =
     let before = (newest c can args turn (last ∷ []) line).line in
@@ -87,7 +76,7 @@ no_handle_run c can args turn last handle line is text =
     let none : or_else (or_else (given_handle last.answer) None) (live_handle c) ≡ None = ap (λ (o : Option (ℕ × ℤ)). or_else o (live_handle c)) nothing ∙ live in
     no_run args turn.found.stopped _ (call.Handle handle) none h.wants
 
--- what is prepared behind a text was passed on by it
+-- A Prepare right after the run of a text means that the run gave no cursor.
 passed_on : (c : Course) (can : Caps) (args : ℕ) (turn last : Turn) → IsLine c can args (turn ∷ last ∷ []) → turn.call ≡ call.Prepare → last.call ≡ call.Text → given_cursor last.answer ≡ None
 passed_on c can args turn last line is text =
     let before = (newest c can args turn (last ∷ []) line).line in
@@ -102,7 +91,7 @@ passed_on c can args turn last line is text =
       | inr never ↦ absurd (let nothing : false ≡ true = never in cc)
     ]
 
--- a run of a handle has no cursor before it
+-- Before the run of a handle the line has no cursor.
 run_is_first : (c : Course) (can : Caps) (args : ℕ) (turn : Turn) (earlier : List Turn) (handle : ℕ) → IsLine c can args (turn ∷ earlier) → turn.call ≡ call.Handle handle → own_cursor (map exchange earlier) ≡ None
 run_is_first c can args turn [] handle line is = refl
 run_is_first c can args turn (last ∷ []) handle line is =
@@ -135,7 +124,7 @@ run_is_first c can args turn (last ∷ first ∷ other ∷ rest) handle line is 
     let two : call_place turn.call ≡ 2 = ap call_place is in
     absurd (omega arith)
 
--- a text is the first call
+-- Before the run of a text the line has no cursor.
 text_is_first : (c : Course) (can : Caps) (args : ℕ) (turn : Turn) (earlier : List Turn) → IsLine c can args (turn ∷ earlier) → turn.call ≡ call.Text → own_cursor (map exchange earlier) ≡ None
 text_is_first c can args turn [] line is = refl
 text_is_first c can args turn (last ∷ earlier) line is =
@@ -143,7 +132,7 @@ text_is_first c can args turn (last ∷ earlier) line is =
     let zero : call_place turn.call ≡ 0 = ap call_place is in
     absurd (omega arith)
 
--- who gives a cursor
+-- Only the run of a text or of a handle gives a cursor.
 gives_cursor : (c : Course) (due : Due) (rows : ℕ) → may_get c due (got.Cursor rows) ≡ true → (due ≡ call.Text) ⊎ ((handle : ℕ) × (due ≡ call.Handle handle))
 gives_cursor c call.Text rows h = inl refl
 gives_cursor c (call.Handle handle) rows h = inr (handle, refl)
@@ -176,7 +165,7 @@ handle_is_first c can args turn earlier handle inputs line is =
     let small : All (λ t. call_place t.call < 1) earlier = subst (λ (due : Due). All (λ t. call_place t.call < call_place due) earlier) prepare (before_next c can args turn earlier line) in
     texts_give c can args earlier h.line small
 
--- an older cursor stays the line's own
+-- A cursor that the line has stays its own after one more turn.
 older_cursor : (c : Course) (can : Caps) (args : ℕ) (turn : Turn) (earlier : List Turn) (rows : ℕ) → IsLine c can args (turn ∷ earlier) → own_cursor (map exchange earlier) ≡ Some rows → own_cursor (map exchange (turn ∷ earlier)) ≡ Some rows
 older_cursor c can args turn earlier rows line before =
     elim turn.answer as (λ answer. turn.answer ≡ answer → or_else (given_cursor answer) (own_cursor (map exchange earlier)) ≡ Some rows) [
@@ -197,7 +186,7 @@ OwnCursor made turn = (rows : ℕ) → turn.answer ≡ got.Cursor rows → own_c
 abbrev OwnHandle : List Exchange → Turn → Type 0
 OwnHandle made turn = (handle : ℕ) (inputs : ℤ) → turn.answer ≡ got.Prepared handle inputs → own_handle made ≡ Some (handle, inputs)
 
--- the cursor that an answer of a line gives is the line's own
+-- The cursor that an answer of a line gives is the line's own.
 pub cursors_are_own : (c : Course) (can : Caps) (args : ℕ) (turns : List Turn) → IsLine c can args turns → All (λ turn. (rows : ℕ) → turn.answer ≡ got.Cursor rows → own_cursor (map exchange turns) ≡ Some rows) turns
 cursors_are_own c can args [] line = All-nil (OwnCursor [])
 cursors_are_own c can args (turn ∷ earlier) line =
@@ -208,7 +197,7 @@ cursors_are_own c can args (turn ∷ earlier) line =
     (λ t before rows is. older_cursor c can args turn earlier rows line (before rows is))
     earlier (cursors_are_own c can args earlier h.line))
 
--- and so is the handle
+-- The handle that an answer of a line gives is the line's own.
 pub handles_are_own : (c : Course) (can : Caps) (args : ℕ) (turns : List Turn) → IsLine c can args turns → All (λ turn. (handle : ℕ) (inputs : ℤ) → turn.answer ≡ got.Prepared handle inputs → own_handle (map exchange turns) ≡ Some (handle, inputs)) turns
 handles_are_own c can args [] line = All-nil (OwnHandle [])
 handles_are_own c can args (turn ∷ earlier) line =

@@ -1,4 +1,4 @@
--- The calls of a line in the order of their steps.
+-- The calls of a line stand in the order of their steps: what comes next is always a later step.
 use Rattle.std.proofs.Common.{◌≡◌, ◌≢◌, ℕ, ◌<◌, Bool, true, false, cond, List, [], ◌∷◌, map, refl, sym, ap, subst, Option, Some, None, lit<, arith, rules}
 use Rattle.std.specs.Prelude.{ℤ, All}
 use Rattle.std.specs.Option.{option_map}
@@ -16,7 +16,7 @@ use Rattle.dsql_course.specs.Line.{Found, Turn, exchange, when, run_with, or_the
 use Rattle.dsql_course.specs.Laws.{StepsOnce}
 use Rattle.dsql_course.proofs.Turns.{newest}
 
--- the place of a step among all
+-- Returns the place of a step among all.
 abbrev pub place : Step → ℕ
 place RunText = 0
 place PrepareText = 1
@@ -32,16 +32,16 @@ abbrev pub place_of : Option Step → ℕ
 place_of None = 9
 place_of (Some step) = place step
 
--- the place of a call; Over is behind all
+-- Returns the place of a call. Over comes after all others.
 abbrev pub call_place : Due → ℕ
 call_place due = place_of (step_of due)
 
--- all these steps are behind that place
+-- Holds if all these steps come after that place.
 abbrev pub AllBehind : ℕ → List Step → Type 0
 AllBehind n [] = Unit {0}
 AllBehind n (step ∷ later) = (n < place step) × AllBehind n later
 
--- these steps are in order
+-- Holds if these steps are in order.
 abbrev pub InOrder : List Step → Type 0
 InOrder [] = Unit {0}
 InOrder (step ∷ later) = AllBehind (place step) later × InOrder later
@@ -95,7 +95,7 @@ run_is : (args : ℕ) (o : Option (ℕ × ℤ)) (due : Due) → run_with args o 
 run_is args None due h = cc
 run_is args (Some handle) due h = ap step_of (sym (when_is _ (call.Handle handle.0) due h))
 
--- what a step wants is a call of that step
+-- What a step wants is a call of that step.
 pub wanted_is : (c : Course) (can : Caps) (args : ℕ) (found : Found) (made : List Exchange) (step : Step) (due : Due) → wanted c can args found made step ≡ Some due → step_of due ≡ Some step
 wanted_is c can args found made RunText due h = ap step_of (sym (when_is _ call.Text due h))
 wanted_is c can args found made PrepareText due h = ap step_of (sym (when_is _ call.Prepare due h))
@@ -107,7 +107,7 @@ wanted_is c can args found made PingIt due h = ap step_of (sym (when_is _ call.P
 wanted_is c can args found made BeginIt due h = ap step_of (sym (when_is _ call.Begin due h))
 wanted_is c can args found made UndoIt due h = ap step_of (sym (when_is _ call.Rollback due h))
 
--- the first call that is wanted of steps behind a place is behind it
+-- If all steps come after a place, so does the first call that is wanted of them.
 first_behind : (c : Course) (can : Caps) (args : ℕ) (found : Found) (made : List Exchange) (n : ℕ) (all : List Step) → n < 9 → AllBehind n all → n < call_place (first_wanted c can args found made all)
 first_behind c can args found made n [] small h = small
 first_behind c can args found made n (step ∷ later) small h =
@@ -127,20 +127,12 @@ next_behind c can args found x earlier small =
       | false ↦ first_behind c can args found (x ∷ earlier) (call_place x.0) (steps_left c (x ∷ earlier)) small (left_behind c (step_of x.0))
     ]
 
--- a call with an answer is a step
+-- A call that may have an answer takes a step.
 pub answers_place : (c : Course) (due : Due) (answer : Got) → may_get c due answer ≡ true → call_place due < 9
-answers_place c call.Text answer h = lit< tt
-answers_place c call.Prepare answer h = lit< tt
-answers_place c (call.Handle handle) answer h = lit< tt
-answers_place c (call.Next rows) answer h = lit< tt
-answers_place c (call.CloseRows rows) answer h = lit< tt
-answers_place c (call.CloseStmt handle) answer h = lit< tt
-answers_place c call.Ping answer h = lit< tt
-answers_place c call.Begin answer h = lit< tt
-answers_place c call.Rollback answer h = lit< tt
 answers_place c call.Over answer h = cc
+answers_place c _ answer h = lit< tt
 
--- all these calls are before that place
+-- Holds if all these calls come before that place.
 abbrev pub AllBefore : ℕ → List Turn → Type 0
 AllBefore n turns = All (λ turn. call_place turn.call < n) turns
 

@@ -1,4 +1,4 @@
--- What is kept of the calls of a course, with one call more, and what it decides.
+-- The summary of a course's calls with one more call, and what the summary decides.
 use Rattle.std.proofs.Common.{◌≡◌, ℕ, ℤ, Bool, not, ◌&&◌, ◌||◌, Option, Some, None, is_some, List, [], ◌∷◌, refl, ap}
 use Rattle.std.specs.List.{list_any}
 use native.Mathlib.Omega.{arith}

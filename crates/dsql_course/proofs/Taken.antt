@@ -1,4 +1,4 @@
--- Which steps a line takes, and which it passes by.
+-- Which steps a line takes, and which it passes by. A step that is passed by was not wanted.
 use Rattle.std.proofs.Common.{◌≡◌, ℕ, ◌<◌, Bool, true, false, cond, List, [], ◌∷◌, map, refl, sym, ap, ◌∙◌, subst, Some, None, inl, inr, arith}
 use Rattle.std.specs.List.{list_any}
 use Rattle.std.proofs.lemmas.Bool.{or_cases, or_left, or_right}
@@ -12,7 +12,7 @@ use Rattle.dsql_course.specs.Line.{Found, Turn, exchange, or_then, wanted, first
 use Rattle.dsql_course.proofs.Turns.{newest}
 use Rattle.dsql_course.proofs.Order.{place, place_of, call_place, AllBehind, InOrder, in_order, same_step-sound, wanted_is, answers_place}
 
--- the step is one of these
+-- Holds if the step is one of these.
 abbrev pub IsAmong : Step → List Step → Type 0
 IsAmong step all = list_any (same_step step) all ≡ true
 
@@ -27,7 +27,7 @@ same_step-self PingIt = refl
 same_step-self BeginIt = refl
 same_step-self UndoIt = refl
 
--- the step wants this call, and is one of these
+-- Holds if the step wants this call, and is one of these steps.
 pub record Takes (c : Course) (can : Caps) (args : ℕ) (found : Found) (made : List Exchange) (step : Step) (due : Due) (all : List Step) : Type 0 where
   pub wants : wanted c can args found made step ≡ Some due
   pub among : IsAmong step all
@@ -64,7 +64,7 @@ left_among c u (x ∷ earlier) h =
       | Some s ↦ λ among. behind_among s u (steps c) among
     ] h
 
--- the call that comes next is one that a step of the course wants
+-- The call that comes next is one that a step of the course wants.
 pub taken : (c : Course) (can : Caps) (args : ℕ) (found : Found) (made : List Exchange) (due : Due) (step : Step) → comes_next c can args found made ≡ due → step_of due ≡ Some step → Takes c can args found made step due (steps c)
 taken c can args found made due step e is =
     elim (went_bad made) as (λ b. cond b call.Over (first_wanted c can args found made (steps_left c made)) ≡ due → Takes c can args found made step due (steps c)) [
@@ -74,7 +74,7 @@ taken c can args found made due step e is =
           record { wants = h.wants; among = left_among c step made h.among }
     ] e
 
--- so is each call of a line
+-- Each call of a line is one that a step of the course wants.
 pub turn_taken : (c : Course) (can : Caps) (args : ℕ) (turn : Turn) (earlier : List Turn) (due : Due) (step : Step) → IsLine c can args (turn ∷ earlier) → turn.call ≡ due → step_of due ≡ Some step → Takes c can args turn.found (map exchange earlier) step due (steps c)
 turn_taken c can args turn earlier due step line e is = taken c can args turn.found (map exchange earlier) due step (sym (newest c can args turn earlier line).next ∙ e) is
 
@@ -98,7 +98,7 @@ left_in_order : (c : Course) (made : List Exchange) → InOrder (steps_left c ma
 left_in_order c [] = in_order c
 left_in_order c (x ∷ earlier) = elim (step_of x.0) as (λ s. InOrder (behind_call s (steps c))) [ None ↦ tt | Some s ↦ behind_in_order s (steps c) (in_order c) ]
 
--- a step before the first that is taken isn't wanted
+-- A step before the first that is taken isn't wanted.
 passed : (c : Course) (can : Caps) (args : ℕ) (found : Found) (made : List Exchange) (due : Due) (u : Step) (all : List Step) → first_wanted c can args found made all ≡ due → InOrder all → IsAmong u all → place u < call_place due → wanted c can args found made u ≡ None
 passed c can args found made due u [] e order among lt = absurd (let no : false ≡ true = among in cc)
 passed c can args found made due u (first ∷ later) e order among lt =
@@ -139,7 +139,8 @@ stays_left s u (first ∷ later) order here there lt =
           ]
     ] refl
 
--- A step that is wanted where a later call comes next, or none, isn't left: the newest call is that step or a later one.
+-- If a later call comes next, or none, a step that is wanted isn't left: the newest call is that step or a
+-- later one.
 pub reached : (c : Course) (can : Caps) (args : ℕ) (found : Found) (due x : Due) (u : Step) (turn : Turn) (earlier : List Turn) → IsLine c can args (turn ∷ earlier) → went_bad (map exchange (turn ∷ earlier)) ≡ false → comes_next c can args found (map exchange (turn ∷ earlier)) ≡ due → place u < call_place due → IsAmong u (steps c) → wanted c can args found (map exchange (turn ∷ earlier)) u ≡ Some x → call_place turn.call < place u → ⊥
 reached c can args found due x u turn earlier line good next lt among wants before =
     let made = map exchange (turn ∷ earlier) in

@@ -1,4 +1,5 @@
--- What the newest turn of a line says.
+-- What the newest turn of a line says: the earlier turns are a line, its call was the one due, and its answer
+-- fits.
 use Rattle.std.proofs.Common.{◌≡◌, ℕ, true, ◌&&◌, List, ◌∷◌, map, refl, ap}
 use Rattle.std.proofs.lemmas.Bool.{and_parts, eqb-true}
 use Rattle.dsql_driver.specs.declared.caps.Caps.{Caps}

@@ -1,4 +1,4 @@
--- The steps and the knowledge of the program as those of the definitions.
+-- The steps and the knowledge of the program, translated into those of the definitions.
 use Rattle.dsql_course.specs.Steps.{Step, RunText, PrepareText, RunHandle, FetchRow, CloseCursor, CloseHandle, PingIt, BeginIt, UndoIt}
 use Rattle.dsql_course.specs.declared.step.Step.{Step as OwnStep}
 use Rattle.dsql_course.specs.declared.step.Step.TheVariants as own

@@ -5,8 +5,8 @@ use Rattle.dsql_course.specs.declared.course.Course.TheVariants as course
 use Rattle.dsql_course.specs.declared.call.Due.{Due}
 use Rattle.dsql_course.specs.declared.call.Due.TheVariants as call
 
--- A step: the text is run, the text is prepared, a handle is run, a row is fetched, its cursor is closed, the handle is closed,
--- the connection is pinged, a transaction is begun, it is rolled back.
+-- A step: run the text, prepare the text, run a handle, fetch a row, close its cursor, close the handle, ping
+-- the connection, begin a transaction, or roll it back.
 pub data Step : Type 0 where
   RunText : Step
   PrepareText : Step
@@ -18,17 +18,16 @@ pub data Step : Type 0 where
   BeginIt : Step
   UndoIt : Step
 
--- The steps that a course may take, in their order. Each is taken once or not at all.
+-- Returns the steps that a course may take, in their order. Each is taken once or not at all.
 abbrev pub steps : Course → List Step
-steps course.Exec = RunText ∷ PrepareText ∷ RunHandle ∷ CloseHandle ∷ []
-steps course.Query = RunText ∷ PrepareText ∷ RunHandle ∷ CloseHandle ∷ []
 steps course.One = RunText ∷ PrepareText ∷ RunHandle ∷ FetchRow ∷ CloseCursor ∷ CloseHandle ∷ []
 steps course.Prepare = PrepareText ∷ CloseHandle ∷ []
 steps (course.Run reads one live) = PrepareText ∷ RunHandle ∷ FetchRow ∷ CloseCursor ∷ CloseHandle ∷ []
 steps course.Ping = PingIt ∷ []
 steps course.Begin = BeginIt ∷ UndoIt ∷ []
+steps _ = RunText ∷ PrepareText ∷ RunHandle ∷ CloseHandle ∷ []
 
--- the step that a driver call is
+-- Returns the step that a driver call takes.
 abbrev pub step_of : Due → Option Step
 step_of call.Text = Option.Some RunText
 step_of call.Prepare = Option.Some PrepareText
@@ -53,7 +52,7 @@ same_step BeginIt BeginIt = true
 same_step UndoIt UndoIt = true
 same_step _ _ = false
 
--- what stands behind a step
+-- Returns the steps after this one.
 abbrev pub behind : Step → List Step → List Step
 behind step [] = []
 behind step (first ∷ later) = if same_step step first then later else behind step later

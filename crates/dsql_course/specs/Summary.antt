@@ -1,4 +1,4 @@
--- What is kept of the calls of a course, against the calls themselves.
+-- What the program keeps of the calls of a course, compared with the calls themselves.
 use Rattle.std.specs.Prelude.{◌≡◌, ℕ, ℤ, Bool, true, false, Option, Some, None, List, [], ◌∷◌}
 use Rattle.std.specs.List.{list_any}
 use Rattle.dsql_course.specs.declared.call.Due.{Due}
@@ -10,7 +10,7 @@ abbrev pub last_call : List Exchange → Option Due
 last_call [] = None
 last_call (x ∷ earlier) = Some x.0
 
--- the answer settles what the call is replied, whatever its course
+-- Is true if the answer settles the call's reply, whatever its course.
 abbrev pub is_settled : Exchange → Bool
 is_settled (call.Next rows, answer) = true
 is_settled (_, got.Result) = true
@@ -19,7 +19,8 @@ is_settled (call.Prepare, got.Fail) = true
 is_settled (call.Handle handle, got.Fail) = true
 is_settled _ = false
 
-pub record Summary (made : List Exchange) (last : Option Due) (handle : Option (ℕ × ℤ)) (cursor : Option ℕ) (skipped done settled over bad : Bool) : Type 0 where
+pub record Summary (made : List Exchange) (last : Option Due) (handle : Option (ℕ
+    × ℤ)) (cursor : Option ℕ) (skipped done settled over bad : Bool) : Type 0 where
   pub is_last : last ≡ last_call made
   pub is_handle : handle ≡ own_handle made
   pub is_cursor : cursor ≡ own_cursor made

@@ -10,10 +10,28 @@ use Rattle.dsql_course.specs.Made.{Exchange}
 use Rattle.dsql_course.specs.Line.{Found, comes_next}
 
 abbrev pub fast : Caps
-fast = record { fast_exec = true; fast_query = true; begin_options = true; named = false; pinger = true; resetter = true; validator = true }
+fast =
+    record {
+      fast_exec = true;
+      fast_query = true;
+      begin_options = true;
+      named = false;
+      pinger = true;
+      resetter = true;
+      validator = true;
+    }
 
 abbrev pub slow : Caps
-slow = record { fast_exec = false; fast_query = false; begin_options = false; named = false; pinger = false; resetter = false; validator = false }
+slow =
+    record {
+      fast_exec = false;
+      fast_query = false;
+      begin_options = false;
+      named = false;
+      pinger = false;
+      resetter = false;
+      validator = false;
+    }
 
 abbrev pub going_on : Found
 going_on = record { stopped = false; bad = false }
@@ -24,7 +42,7 @@ stopped = record { stopped = true; bad = false }
 abbrev pub bad : Found
 bad = record { stopped = false; bad = true }
 
--- what comes next with no argument, after these exchanges, the newest first
+-- Returns what comes next after these exchanges, newest first, for a call without arguments.
 abbrev pub next : Course → Caps → Found → List Exchange → Due
 next c can found made = comes_next c can 0 found made
 
@@ -38,8 +56,10 @@ pub record WorkedLines : Type 0 where
   pub skipped : next course.Exec fast going_on ((call.Text, got.Skip) ∷ []) ≡ call.Prepare
   pub handle : next course.Exec slow going_on ((call.Prepare, got.Prepared 1 (negsuc 0)) ∷ []) ≡ call.Handle 1
   pub other_number : next course.Exec slow going_on ((call.Prepare, got.Prepared 1 (pos 1)) ∷ []) ≡ call.CloseStmt 1
-  pub failed_run : next course.Exec slow going_on ((call.Handle 1, got.Fail) ∷ (call.Prepare, got.Prepared 1 (pos 0)) ∷ []) ≡ call.CloseStmt 1
-  pub after_bad : next course.Exec slow going_on ((call.Handle 1, got.Bad) ∷ (call.Prepare, got.Prepared 1 (pos 0)) ∷ []) ≡ call.Over
+  pub failed_run : next course.Exec slow going_on
+      ((call.Handle 1, got.Fail) ∷ (call.Prepare, got.Prepared 1 (pos 0)) ∷ []) ≡ call.CloseStmt 1
+  pub after_bad : next course.Exec slow going_on
+      ((call.Handle 1, got.Bad) ∷ (call.Prepare, got.Prepared 1 (pos 0)) ∷ []) ≡ call.Over
   pub rows_keep : next course.Query slow going_on cursor_of_handle ≡ call.Over
   pub one_row : next course.One slow going_on cursor_of_handle ≡ call.Next 2
   pub stopped_rows : next course.One slow stopped cursor_of_handle ≡ call.CloseRows 2

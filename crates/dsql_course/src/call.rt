@@ -1,22 +1,22 @@
-/// A driver call of a call's course, without what it is sent with.
+/// A driver call of a call's course, without the text and arguments that are sent with it.
 #[derive(Clone, Copy)]
 pub enum Due {
-    /// A run of the text.
+    /// Runs the text.
     Text,
-    /// The text is prepared.
+    /// Prepares the text.
     Prepare,
-    /// A run of a handle.
+    /// Runs a handle.
     Handle(u32),
-    /// A row of a cursor is fetched.
+    /// Fetches a row of a cursor.
     Next(u32),
-    /// A cursor is closed.
+    /// Closes a cursor.
     CloseRows(u32),
-    /// A handle is closed.
+    /// Closes a handle.
     CloseStmt(u32),
     Ping,
     Begin,
     Rollback,
-    /// Nothing comes any more.
+    /// No driver call: nothing more comes.
     Over,
 }
 

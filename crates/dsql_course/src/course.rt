@@ -5,16 +5,17 @@ use dsql_driver::Caps;
 /// What a call on the database does with the connection that is lent to it.
 #[derive(Clone, Copy)]
 pub enum Course {
-    /// `DB.ExecContext`: a text is executed.
+    /// `DB.ExecContext`: executes a text.
     Exec,
-    /// `DB.QueryContext`: a text is queried, and the rows keep the connection.
+    /// `DB.QueryContext`: queries a text, and the rows keep the connection.
     Query,
-    /// `DB.QueryRowContext` with its scan: a text is queried, and one row is read.
+    /// `DB.QueryRowContext` with its scan: queries a text and reads one row.
     One,
-    /// `DB.PrepareContext`: a text is prepared, and the handle stays.
+    /// `DB.PrepareContext`: prepares a text, and the handle stays.
     Prepare,
-    /// A run of a statement that was prepared on the database. It reads rows or executes, and reads one row
-    /// or hands the rows out. The connection may have a live handle of it, with its number of inputs.
+    /// A run of a statement that was prepared on the database. If `reads` is true it queries, otherwise it
+    /// executes. If `one` is true too it reads one row itself, otherwise it hands the rows out. `live` is the
+    /// statement's live handle on the connection, if it has one, with the number of its inputs.
     Run {
         reads: bool,
         one: bool,
@@ -29,18 +30,18 @@ pub enum Course {
 /// What is wanted of rows that a query handed out.
 #[derive(Clone, Copy)]
 pub enum Wish {
-    /// Nothing just now.
+    /// Nothing for the moment.
     Nothing,
     /// The next row: `Rows.Next`.
     Fetch,
-    /// That they are closed: `Rows.Close`, or the end of the run.
+    /// Their close: `Rows.Close`, or the end of the run.
     Close,
 }
 
 impl Course {
     ghost use Rattle.dsql_course.specs.Made.{live_handle as live_handle_of, reads_rows as reads_rows_of, reads_one as reads_one_of, has_fast_way as has_fast_way_of};
 
-    /// The handle that a statement has on the connection from earlier.
+    /// Returns the handle that a statement already has on the connection.
     pub(crate) fn live_handle(self) -> Option<(u32, i32)>
         ensures { result ≡ live_handle_of self }
     {
@@ -50,7 +51,7 @@ impl Course {
         }
     }
 
-    /// It asks for rows.
+    /// Returns true if the course asks for rows.
     pub(crate) fn reads_rows(self) -> bool
         ensures { result ≡ reads_rows_of self }
     {
@@ -61,7 +62,7 @@ impl Course {
         }
     }
 
-    /// It reads one row itself, and hands none out.
+    /// Returns true if the course reads one row itself and hands none out.
     pub(crate) fn reads_one(self) -> bool
         ensures { result ≡ reads_one_of self }
     {
@@ -72,7 +73,7 @@ impl Course {
         }
     }
 
-    /// The driver can run its text at once.
+    /// Returns true if the driver can run the course's text at once.
     pub(crate) fn has_fast_way(self, caps: Caps) -> bool
         ensures { result ≡ has_fast_way_of self caps }
     {

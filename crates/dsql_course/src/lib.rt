@@ -1,5 +1,5 @@
-//! The course of a call: which driver calls it makes in one try on the connection that is lent to it, and
-//! in which order.
+//! The course of a call: which driver calls it makes in one try on the connection that is lent to it, and in
+//! which order.
 #![tactic(auto)]
 
 mod call;

@@ -10,7 +10,8 @@ use crate::progress::Progress;
 use crate::step::{self, Step};
 use dsql_driver::Caps;
 
-/// What is known as a call is made: it is stopped, and its connection is known to be bad.
+/// What is known when a driver call is made: whether the call is stopped, and whether its connection is known
+/// to be bad.
 #[derive(Clone, Copy)]
 pub(crate) struct Found {
     pub(crate) stopped: bool,
@@ -26,7 +27,7 @@ pub(crate) struct Plan {
 }
 
 impl Plan {
-    /// The driver call that comes next.
+    /// Returns the driver call that comes next.
     pub(crate) fn comes_next(&self, found: Found, made: &Progress) -> Due
         ensures { result ≡ next_of self.now.course self.now.caps self.now.args (known found) made.now }
     {
@@ -37,7 +38,7 @@ impl Plan {
         }
     }
 
-    /// The call of the first of these steps that is to be taken.
+    /// Returns the driver call of the first of these steps that is to be taken, or `Over` if none is.
     fn first_wanted(&self, found: Found, made: &Progress, steps: &[Step]) -> Due
         ensures { result
             ≡ first_wanted_of
@@ -51,7 +52,7 @@ impl Plan {
         Due::Over
     }
 
-    /// The driver call that a step is where it is to be taken.
+    /// Returns the driver call of a step, or `None` if the step isn't to be taken.
     fn wanted(&self, found: Found, made: &Progress, step: Step) -> Option<Due>
         ensures { result
             ≡ wanted_of self.now.course self.now.caps self.now.args (known found) made.now (meant step) }
@@ -83,7 +84,8 @@ impl Plan {
         self.course.has_fast_way(self.caps)
     }
 
-    /// It is prepared: no handle is at hand, and the text isn't run at once.
+    /// Returns true if the text is to be prepared: the course has no live handle, and the driver doesn't run
+    /// the text at once.
     fn needs_handle(&self, made: &Progress) -> bool
         ensures { result
             ≡ (is_none (live_handle_of self.now.course)
@@ -92,7 +94,7 @@ impl Plan {
         self.course.live_handle().is_none() && (!self.has_fast_way() || made.was_skipped())
     }
 
-    /// The run of the handle, if there is one that takes so many arguments.
+    /// Returns the run of the handle, if there is a handle that takes this many arguments.
     fn run_of_handle(&self, made: &Progress) -> Option<Due>
         ensures { result ≡ run_with self.now.args (or_else (own_handle_of made.now) (live_handle_of self.now.course)) }
     {
@@ -100,7 +102,7 @@ impl Plan {
         takes(inputs, self.args).then_some(Due::Handle(handle))
     }
 
-    /// Its own handle is closed.
+    /// Returns true if the course closes the handle that it prepared itself.
     fn lets_handle_go(&self, found: Found, made: &Progress) -> bool
         ensures { result ≡ lets_handle_go_of self.now.course (known found) made.now }
     {
@@ -113,7 +115,7 @@ impl Plan {
     }
 }
 
-/// The steps behind the last one that was taken.
+/// Returns the steps after the last one that was taken.
 fn steps_left(course: Course, made: &Progress) -> &'static [Step]
     ensures { map meant result.now ≡ steps_left_of course made.now }
 {
@@ -124,7 +126,8 @@ fn steps_left(course: Course, made: &Progress) -> &'static [Step]
     }
 }
 
-/// A handle with so many inputs takes so many arguments; one with -1 takes any number.
+/// Returns true if a handle with this many inputs takes this many arguments. A handle with -1 inputs takes any
+/// number.
 fn takes(inputs: i32, args: usize) -> bool
     ensures { result ≡ is_none (count_fault inputs args) }
 {

@@ -9,11 +9,11 @@ use crate::call::{Due, Got};
 use crate::course::{Course, Wish};
 use crate::line::{Found, Plan};
 use dsql_driver::Caps;
-use dsql_past::Past;
+use dsql_value_past::Past;
 use std::marker::Model;
 
-/// How far a course has come: what its calls have made, as far as later ones depend on it. Contracts see
-/// the calls themselves with their answers, the newest first. It takes no memory.
+/// The progress of a course: what its calls have made, as far as later ones depend on it. Contracts see the
+/// calls themselves with their answers, newest first. It takes no memory.
 #[derive(Drop)]
 pub struct Progress {
     past: Past<(Due, Got)>,
@@ -42,7 +42,7 @@ impl Model for Progress {
 
 #[tactic(auto, using(crate::proofs::Summaries::summary_with))]
 impl Progress {
-    /// No call was made yet.
+    /// Returns the progress of a course that has made no call yet.
     pub fn new() -> Progress
         ensures { result ≡ [] }
     {
@@ -59,7 +59,7 @@ impl Progress {
         }
     }
 
-    /// The same with one call more, and its answer.
+    /// Returns the progress with one more call and its answer.
     pub fn with(&self, call: Due, got: Got) -> Progress
         ensures { result ≡ (call, got) ∷ self.now }
     {
@@ -76,7 +76,7 @@ impl Progress {
         }
     }
 
-    /// The driver call that comes next in one try of a call with so many arguments.
+    /// Returns the driver call that comes next in one try of a call with this many arguments.
     pub fn next(&self, course: Course, caps: Caps, args: usize, stopped: bool, bad: bool) -> Due
         ensures { result ≡ next_of course caps args (record { stopped = stopped; bad = bad }) self.now }
     {
@@ -84,16 +84,16 @@ impl Progress {
         plan.comes_next(Found { stopped, bad }, self)
     }
 
-    /// What comes next over rows with this cursor that a query handed out, where this is wanted of them, and
-    /// their connection isn't known to be bad from elsewhere. `None` where they stay open as they are.
+    /// Returns what comes next for rows with this cursor that a query handed out, if `wish` is wanted of them.
+    /// Their connection isn't known to be bad from elsewhere. Returns `None` if they stay open as they are.
     pub fn next_over_rows(&self, wish: Wish, caps: Caps, args: usize, rows: u32) -> Option<Due>
         ensures { result ≡ rows_next wish caps args self.now rows }
     {
         self.next_over_rows_of(Course::Query, wish, caps, args, false, rows)
     }
 
-    /// The same over the rows that any course handed out: a statement keeps the handle that its run
-    /// prepared. On a connection that is known to be bad rows are fetched, and not closed.
+    /// Returns the same for the rows that any course handed out. A statement keeps the handle that its run
+    /// prepared. If the connection is known to be bad, rows are still fetched, but not closed.
     pub fn next_over_rows_of(
         &self,
         course: Course,
@@ -112,7 +112,7 @@ impl Progress {
         }
     }
 
-    /// What comes next of rows that a course handed out, once they are closed.
+    /// Returns what comes next to close the rows that a course handed out.
     fn closing(&self, course: Course, caps: Caps, args: usize, bad: bool) -> Due
         ensures { result ≡ closing_of course bad caps args self.now }
     {
@@ -123,58 +123,58 @@ impl Progress {
     }
 }
 
-/// Questions to it.
+/// Questions to a progress.
 impl Progress {
-    /// The last call.
+    /// Returns the last call.
     pub(crate) fn last(&self) -> Option<Due>
         ensures { result ≡ last_call self.now }
     {
         self.last
     }
 
-    /// Something was answered Bad.
+    /// Returns true if an answer was Bad.
     pub(crate) fn went_bad(&self) -> bool
         ensures { result ≡ went_bad_of self.now }
     {
         self.bad
     }
 
-    /// The driver passed the text on.
+    /// Returns true if the driver declined to run the text, which must then be prepared.
     pub(crate) fn was_skipped(&self) -> bool
         ensures { result ≡ was_skipped_of self.now }
     {
         self.skipped
     }
 
-    /// Something was answered Done.
+    /// Returns true if an answer was Done.
     pub(crate) fn was_done(&self) -> bool
         ensures { result ≡ list_any (λ x. is_done x.1) self.now }
     {
         self.done
     }
 
-    /// The handle that the course has prepared itself, with its number of inputs.
+    /// Returns the handle that the course prepared itself, with the number of its inputs.
     pub(crate) fn own_handle(&self) -> Option<(u32, i32)>
         ensures { result ≡ own_handle_of self.now }
     {
         self.handle
     }
 
-    /// The cursor that its run gave.
+    /// Returns the cursor that the course's run gave.
     pub fn own_cursor(&self) -> Option<u32>
         ensures { result ≡ own_cursor_of self.now }
     {
         self.cursor
     }
 
-    /// That cursor gives no more rows.
+    /// Returns true if that cursor gives no more rows.
     pub fn rows_are_over(&self) -> bool
         ensures { result ≡ rows_are_over_of self.now }
     {
         self.over
     }
 
-    /// Some answer has settled what the call is replied.
+    /// Returns true if an answer has settled the call's reply.
     #[tactic(auto, using(crate::proofs::Summaries::decided_by))]
     pub(crate) fn was_decided(&self, course: Course) -> bool
         ensures { result ≡ was_decided_of course self.now }
@@ -183,7 +183,7 @@ impl Progress {
     }
 }
 
-/// The handle that an answer gives, with its number of inputs.
+/// Returns the handle that an answer gives, with the number of its inputs.
 fn given_handle(got: Got) -> Option<(u32, i32)>
     ensures { result ≡ given_handle_of got }
 {
@@ -193,7 +193,7 @@ fn given_handle(got: Got) -> Option<(u32, i32)>
     }
 }
 
-/// The cursor that an answer gives.
+/// Returns the cursor that an answer gives.
 fn given_cursor(got: Got) -> Option<u32>
     ensures { result ≡ given_cursor_of got }
 {
@@ -203,7 +203,7 @@ fn given_cursor(got: Got) -> Option<u32>
     }
 }
 
-/// The answer settles what the call is replied, whatever its course.
+/// Returns true if the answer settles the call's reply, whatever its course.
 fn settles(call: Due, got: Got) -> bool
     ensures { result ≡ is_settled (call, got) }
 {
@@ -214,7 +214,7 @@ fn settles(call: Due, got: Got) -> bool
     }
 }
 
-/// After it the cursor gives no more rows.
+/// Returns true if the cursor gives no more rows after this answer.
 fn ends_rows(call: Due, got: Got) -> bool
     ensures { result ≡ ends_rows_of (call, got) }
 {

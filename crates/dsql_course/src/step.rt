@@ -6,6 +6,9 @@ ghost use Rattle.dsql_course.specs.Meant.{meant};
 
 use crate::call::Due;
 use crate::course::Course;
+use Step::{
+    BeginIt, CloseCursor, CloseHandle, FetchRow, PingIt, PrepareText, RunHandle, RunText, UndoIt,
+};
 
 /// A step of a course.
 #[derive(Clone, Copy, PartialEq, Eq)]
@@ -21,11 +24,7 @@ pub(crate) enum Step {
     UndoIt,
 }
 
-use Step::{
-    BeginIt, CloseCursor, CloseHandle, FetchRow, PingIt, PrepareText, RunHandle, RunText, UndoIt,
-};
-
-/// The steps that a course may take, in their order.
+/// Returns the steps that a course may take, in their order.
 pub(crate) fn steps(course: Course) -> &'static [Step]
     ensures { map meant result.now ≡ steps_of course }
 {
@@ -46,7 +45,7 @@ pub(crate) fn steps(course: Course) -> &'static [Step]
     }
 }
 
-/// The step that a driver call is.
+/// Returns the step that a driver call takes, or `None` for `Over`.
 fn step_of_call(call: Due) -> Option<Step>
     ensures { option_map meant result ≡ step_of call }
 {
@@ -64,7 +63,7 @@ fn step_of_call(call: Due) -> Option<Step>
     }
 }
 
-/// What stands behind the step that a driver call is.
+/// Returns the steps after the one that a driver call takes.
 pub(crate) fn behind_call(call: Due, all: &[Step]) -> &[Step]
     ensures { map meant result.now ≡ behind_call_of (step_of call) (map meant all.now) }
 {
@@ -74,7 +73,7 @@ pub(crate) fn behind_call(call: Due, all: &[Step]) -> &[Step]
     }
 }
 
-/// What stands behind a step.
+/// Returns the steps after this one.
 fn behind(step: Step, all: &[Step]) -> &[Step]
     ensures { map meant result.now ≡ behind_of (meant step) (map meant all.now) }
 {

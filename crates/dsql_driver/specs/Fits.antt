@@ -1,4 +1,4 @@
--- Which answers fit which call: the table of shapes. Memory fits every call.
+-- The table of shapes: which answers fit which call. Memory fits every call.
 use Rattle.std.specs.Prelude.{Bool, true, false, ◌||◌, negsuc, int_le}
 use Rattle.dsql_driver.specs.declared.call.DriverCall.{DriverCall}
 use Rattle.dsql_driver.specs.declared.call.DriverCall.TheVariants.{Valid, Prepare, Exec, Query, Next}
@@ -6,7 +6,7 @@ use Rattle.dsql_driver.specs.declared.answer.DriverAnswer.{DriverAnswer}
 use Rattle.dsql_driver.specs.declared.answer.DriverAnswer.TheVariants.{Done, Prepared, Result, Cursor, Row, End, Invalid, Skip, Bad, Fail, Memory}
 use Rattle.dsql_driver.specs.declared.call.Input.TheVariants.{Text, Handle}
 
--- Bad and Fail, which every call but Valid may be answered
+-- Is true if the answer is Bad or Fail. A driver may give these answers to every call except Valid.
 abbrev pub is_failure : DriverAnswer → Bool
 is_failure Bad = true
 is_failure (Fail text) = true
@@ -36,7 +36,8 @@ abbrev pub is_cursor : DriverAnswer → Bool
 is_cursor (Cursor rows columns) = true
 is_cursor _ = false
 
--- a Prepared with -1 inputs, which says that the driver can't tell, or with 0 or more
+-- Is true if the answer is a Prepared with -1, 0 or more inputs. -1 says that the driver doesn't know the
+-- number.
 abbrev pub is_prepared : DriverAnswer → Bool
 is_prepared (Prepared handle inputs) = int_le (negsuc 0) inputs
 is_prepared _ = false
@@ -46,7 +47,8 @@ is_row_or_end (Row values) = true
 is_row_or_end End = true
 is_row_or_end _ = false
 
--- the answer that says that the call was carried out, beside those that say that it wasn't
+-- Is true if the answer fits the call and is neither Memory, Bad nor Fail. Skip and Invalid are among these
+-- answers.
 abbrev pub is_success : DriverCall → DriverAnswer → Bool
 is_success (Prepare text) answer = is_prepared answer
 is_success (Exec (Text text) params) answer = is_result answer || is_skip answer
@@ -57,7 +59,7 @@ is_success (Next rows) answer = is_row_or_end answer
 is_success Valid answer = is_done answer || is_invalid answer
 is_success _ answer = is_done answer
 
--- it may be answered Bad or Fail
+-- Is true if a driver may answer the call with Bad or Fail.
 abbrev pub may_fail : DriverCall → Bool
 may_fail Valid = false
 may_fail _ = true
@@ -68,7 +70,7 @@ fits_of call Bad = may_fail call
 fits_of call (Fail text) = may_fail call
 fits_of call answer = is_success call answer
 
--- an answer that the wire counts as a fault
+-- Is true if the wire counts the answer as a fault.
 abbrev pub is_fault : DriverAnswer → Bool
 is_fault Invalid = true
 is_fault answer = is_failure answer

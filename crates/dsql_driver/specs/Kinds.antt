@@ -1,4 +1,5 @@
--- Kinds of driver calls and answers, as tests, and what they name and give.
+-- The kinds of driver calls and answers, as tests, the handles and cursors that a call names, and those that an
+-- answer gives.
 use Rattle.std.specs.Prelude.{ℕ, Bool, true, false, ◌||◌, Option, Some, None}
 use Rattle.dsql_driver.specs.declared.call.DriverCall.{DriverCall}
 use Rattle.dsql_driver.specs.declared.call.DriverCall.TheVariants.{Connect, Reset, Valid, Ping, Prepare, CloseStmt, Exec, Query, Next, CloseRows, Begin, Commit, Rollback, Shut}
@@ -27,13 +28,13 @@ abbrev pub is_prepare : DriverCall → Bool
 is_prepare (Prepare text) = true
 is_prepare _ = false
 
--- an Exec or Query of a text
+-- Is true if the call is an Exec or Query of a text.
 abbrev pub runs_text : DriverCall → Bool
 runs_text (Exec (Text text) params) = true
 runs_text (Query (Text text) params) = true
 runs_text _ = false
 
--- an Exec or Query of a handle
+-- Is true if the call is an Exec or Query of a handle.
 abbrev pub runs_handle : DriverCall → Bool
 runs_handle (Exec (Handle handle) params) = true
 runs_handle (Query (Handle handle) params) = true
@@ -55,7 +56,7 @@ abbrev pub is_begin : DriverCall → Bool
 is_begin (Begin level read_only) = true
 is_begin _ = false
 
--- a Commit or a Rollback
+-- Is true if the call is a Commit or a Rollback.
 abbrev pub is_ending : DriverCall → Bool
 is_ending Commit = true
 is_ending Rollback = true
@@ -65,7 +66,7 @@ abbrev pub is_shut : DriverCall → Bool
 is_shut Shut = true
 is_shut _ = false
 
--- what statements and their rows are worked with: Prepare, Exec, Query, Next, CloseRows and CloseStmt
+-- Is true if the call works with a statement or its rows: Prepare, Exec, Query, Next, CloseRows and CloseStmt.
 abbrev pub is_work : DriverCall → Bool
 is_work (Prepare text) = true
 is_work (Exec input params) = true
@@ -73,14 +74,14 @@ is_work (Query input params) = true
 is_work (CloseStmt handle) = true
 is_work call = is_next call || is_close_rows call
 
--- the handle that an Exec, Query or CloseStmt names
+-- Returns the handle that an Exec, Query or CloseStmt names.
 abbrev pub handle_of : DriverCall → Option ℕ
 handle_of (Exec (Handle handle) params) = Some handle
 handle_of (Query (Handle handle) params) = Some handle
 handle_of (CloseStmt handle) = Some handle
 handle_of _ = None
 
--- the cursor that a Next or CloseRows names
+-- Returns the cursor that a Next or CloseRows names.
 abbrev pub cursor_of : DriverCall → Option ℕ
 cursor_of (Next rows) = Some rows
 cursor_of (CloseRows rows) = Some rows
@@ -90,17 +91,17 @@ abbrev pub is_bad : DriverAnswer → Bool
 is_bad Bad = true
 is_bad _ = false
 
--- after it a cursor gives no row: End, Fail or Bad
+-- Is true if a cursor gives no row after this answer: End, Fail or Bad.
 abbrev pub is_over : DriverAnswer → Bool
 is_over End = true
 is_over answer = is_failure answer
 
--- the handle that an answer gives
+-- Returns the handle that an answer gives.
 abbrev pub given_handle : DriverAnswer → Option ℕ
 given_handle (Prepared handle inputs) = Some handle
 given_handle _ = None
 
--- the cursor that an answer gives
+-- Returns the cursor that an answer gives.
 abbrev pub given_cursor : DriverAnswer → Option ℕ
 given_cursor (Cursor rows columns) = Some rows
 given_cursor _ = None

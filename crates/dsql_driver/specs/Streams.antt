@@ -1,22 +1,23 @@
 -- Counts of faults, and what a read takes.
 use Rattle.std.specs.Prelude.{ℕ, ◌≡◌, ◌+◌, ◌<◌, ◌≤◌, Bool, ◌||◌, nat_lt, nat_le, IsTrue, List, [], length, min, take, drop, Option, Some, None}
 
--- the last value of a count, at which it stands still
+-- Returns the largest value of a count. A count stays there after reaching it.
 abbrev pub last_count : ℕ
 last_count = 18446744073709551615
 
--- one more than a count, which stands still at its last value
+-- Returns one more than a count, or the largest value if the count is already there.
 abbrev pub one_more : ℕ → ℕ
 one_more n = min (n + 1) last_count
 
--- The count rose. One that stands at its last value counts as risen.
+-- Is true if the count rose. A count at its largest value counts as risen.
 abbrev pub has_risen : ℕ → ℕ → Bool
 has_risen before after = nat_lt before after || nat_le last_count after
 
 abbrev pub HasRisen : ℕ → ℕ → Type 0
 HasRisen before after = IsTrue (has_risen before after)
 
--- the first n bytes that were left are in the buffer's front, and the rest is left; none of a buffer that isn't empty is the end
+-- Holds if the read took the first n bytes that were left into the front of the buffer, and the rest is left.
+-- If the buffer isn't empty, n = 0 means the end.
 pub record TakesFront (n : ℕ) (before : List ℕ) (after : Option (List ℕ)) (buf : List ℕ) : Type 0 where
   pub enough : n ≤ length before
   pub front : take n buf ≡ take n before

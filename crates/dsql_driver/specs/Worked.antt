@@ -1,4 +1,4 @@
--- Worked answers: whether each fits its call.
+-- Worked answers, each with whether it fits its call.
 use Rattle.std.specs.Prelude.{◌≡◌, true, false, negsuc, []}
 use Rattle.dsql_driver.specs.declared.call.DriverCall.TheVariants.{Connect, Valid, Ping, Prepare, Exec, Next}
 use Rattle.dsql_driver.specs.declared.call.Input.TheVariants as input

@@ -5,9 +5,9 @@ use crate::call::{DriverCall, Input};
 use dsql_value::{Columns, Txt, Values};
 use std::alloc::AllocError;
 
-/// What a driver answers to one call. `Skip` is Go's `driver.ErrSkip`, `Bad` its `driver.ErrBadConn`,
-/// `End` the `io.EOF` of Rows' Next, `Invalid` a Validator's no, and `Fail` any other error with its
-/// text. `Memory` is want of memory in the driver itself.
+/// A driver's answer to one call. `Skip` is Go's `driver.ErrSkip`, `Bad` is `driver.ErrBadConn`, and `End` is
+/// the `io.EOF` of Rows' Next. `Invalid` is a Validator's no, and `Fail` is any other error with its text.
+/// `Memory` says that the driver itself ran out of memory.
 #[derive(Drop)]
 pub enum DriverAnswer {
     Done,
@@ -52,7 +52,7 @@ impl Clone for DriverAnswer {
     }
 }
 
-/// Whether this answer may be given to this call at all: the table of shapes.
+/// Returns true if a driver may give this answer to this call: the table of shapes.
 pub fn fits(call: &DriverCall, answer: &DriverAnswer) -> bool
     ensures { result ≡ fits_of call.now answer.now }
 {
@@ -74,7 +74,7 @@ pub fn fits(call: &DriverCall, answer: &DriverAnswer) -> bool
     }
 }
 
-/// Whether the call is one that Done answers.
+/// Returns true if Done is an answer to this call.
 fn is_done_when_well(call: &DriverCall) -> bool
     ensures { result ≡ fits_of call.now DriverAnswer.Done }
 {

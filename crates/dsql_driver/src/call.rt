@@ -21,7 +21,7 @@ impl Clone for Input {
     }
 }
 
-/// How far apart transactions are kept, as Go's `sql.IsolationLevel`.
+/// The isolation level of a transaction, as Go's `sql.IsolationLevel`.
 #[derive(Clone, Copy)]
 pub enum Level {
     Default,
@@ -34,10 +34,10 @@ pub enum Level {
     Linearizable,
 }
 
-/// One call to a driver on one connection. Each is a method of Go's driver interfaces: `Connector`'s
-/// Connect, `SessionResetter`'s ResetSession, `Validator`'s IsValid, `Pinger`'s Ping, `ConnPrepareContext`,
-/// `Stmt`'s Close, the two `ExecerContext` and `StmtExecContext`, the two `QueryerContext` and
-/// `StmtQueryContext`, `Rows`' Next and Close, `ConnBeginTx`, `Tx`'s Commit and Rollback, and `Conn`'s Close.
+/// One call to a driver on one connection. Each is a method of Go's driver interfaces: `Connector`'s Connect,
+/// `SessionResetter`'s ResetSession, `Validator`'s IsValid, `Pinger`'s Ping, `ConnPrepareContext`, `Stmt`'s
+/// Close, the two `ExecerContext` and `StmtExecContext`, the two `QueryerContext` and `StmtQueryContext`,
+/// `Rows`' Next and Close, `ConnBeginTx`, `Tx`'s Commit and Rollback, and `Conn`'s Close.
 #[derive(Drop)]
 pub enum DriverCall {
     Connect,

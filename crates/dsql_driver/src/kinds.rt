@@ -1,4 +1,5 @@
-//! Kinds of driver calls and answers, and what they name and give.
+//! The kinds of driver calls and answers, the handles and cursors that a call names, and those that an answer
+//! gives.
 ghost use Rattle.std.specs.Prelude.{◌≡◌};
 ghost use Rattle.dsql_driver.specs.Fits.{is_done, is_failure, is_skip, is_invalid};
 ghost use Rattle.dsql_driver.specs.Kinds.{is_connect, is_reset, is_valid, is_ping, is_prepare, runs_text, runs_handle, is_next, is_close_rows, is_close_stmt, is_begin, is_ending, is_shut, is_work, handle_of, cursor_of, is_bad, is_over, given_handle, given_cursor};
@@ -7,42 +8,42 @@ use crate::answer::DriverAnswer;
 use crate::call::{DriverCall, Input};
 
 impl DriverCall {
-    /// It opens a connection.
+    /// Returns true if the call opens a connection.
     pub fn is_connect(&self) -> bool
         ensures { result ≡ is_connect self.now }
     {
         matches!(self, DriverCall::Connect)
     }
 
-    /// It makes a connection ready for its next owner.
+    /// Returns true if the call makes a connection ready for its next owner.
     pub fn is_reset(&self) -> bool
         ensures { result ≡ is_reset self.now }
     {
         matches!(self, DriverCall::Reset)
     }
 
-    /// It tests a connection before that goes back.
+    /// Returns true if the call tests a connection before it goes back.
     pub fn is_valid(&self) -> bool
         ensures { result ≡ is_valid self.now }
     {
         matches!(self, DriverCall::Valid)
     }
 
-    /// It asks whether the database answers.
+    /// Returns true if the call asks whether the database answers.
     pub fn is_ping(&self) -> bool
         ensures { result ≡ is_ping self.now }
     {
         matches!(self, DriverCall::Ping)
     }
 
-    /// It prepares a text.
+    /// Returns true if the call prepares a text.
     pub fn is_prepare(&self) -> bool
         ensures { result ≡ is_prepare self.now }
     {
         matches!(self, DriverCall::Prepare(_))
     }
 
-    /// An Exec or Query of a text.
+    /// Returns true if the call is an Exec or Query of a text.
     pub fn runs_text(&self) -> bool
         ensures { result ≡ runs_text self.now }
     {
@@ -52,7 +53,7 @@ impl DriverCall {
         )
     }
 
-    /// An Exec or Query of a handle.
+    /// Returns true if the call is an Exec or Query of a handle.
     pub fn runs_handle(&self) -> bool
         ensures { result ≡ runs_handle self.now }
     {
@@ -62,49 +63,49 @@ impl DriverCall {
         )
     }
 
-    /// It fetches a row.
+    /// Returns true if the call fetches a row.
     pub fn is_next(&self) -> bool
         ensures { result ≡ is_next self.now }
     {
         matches!(self, DriverCall::Next(_))
     }
 
-    /// It closes a cursor.
+    /// Returns true if the call closes a cursor.
     pub fn is_close_rows(&self) -> bool
         ensures { result ≡ is_close_rows self.now }
     {
         matches!(self, DriverCall::CloseRows(_))
     }
 
-    /// It closes a handle.
+    /// Returns true if the call closes a handle.
     pub fn is_close_stmt(&self) -> bool
         ensures { result ≡ is_close_stmt self.now }
     {
         matches!(self, DriverCall::CloseStmt(_))
     }
 
-    /// It begins a transaction.
+    /// Returns true if the call begins a transaction.
     pub fn is_begin(&self) -> bool
         ensures { result ≡ is_begin self.now }
     {
         matches!(self, DriverCall::Begin { .. })
     }
 
-    /// A Commit or a Rollback.
+    /// Returns true if the call is a Commit or a Rollback.
     pub fn is_ending(&self) -> bool
         ensures { result ≡ is_ending self.now }
     {
         matches!(self, DriverCall::Commit | DriverCall::Rollback)
     }
 
-    /// It closes the connection.
+    /// Returns true if the call closes the connection.
     pub fn is_shut(&self) -> bool
         ensures { result ≡ is_shut self.now }
     {
         matches!(self, DriverCall::Shut)
     }
 
-    /// What statements and their rows are worked with.
+    /// Returns true if the call works with a statement or its rows.
     pub fn is_work(&self) -> bool
         ensures { result ≡ is_work self.now }
     {
@@ -119,7 +120,7 @@ impl DriverCall {
         )
     }
 
-    /// The handle that an Exec, Query or CloseStmt names.
+    /// Returns the handle that an Exec, Query or CloseStmt names. Returns `None` if the call names none.
     pub fn handle(&self) -> Option<u32>
         ensures { result ≡ handle_of self.now }
     {
@@ -131,7 +132,7 @@ impl DriverCall {
         }
     }
 
-    /// The cursor that a Next or CloseRows names.
+    /// Returns the cursor that a Next or CloseRows names. Returns `None` for any other call.
     pub fn cursor(&self) -> Option<u32>
         ensures { result ≡ cursor_of self.now }
     {
@@ -143,42 +144,42 @@ impl DriverCall {
 }
 
 impl DriverAnswer {
-    /// The call was carried out, and there is nothing to tell.
+    /// Returns true if the driver carried the call out and has nothing to report.
     pub fn is_done(&self) -> bool
         ensures { result ≡ is_done self.now }
     {
         matches!(self, DriverAnswer::Done)
     }
 
-    /// The connection is bad, and nothing was done on it.
+    /// Returns true if the connection is bad. The driver did nothing on it.
     pub fn is_bad(&self) -> bool
         ensures { result ≡ is_bad self.now }
     {
         matches!(self, DriverAnswer::Bad)
     }
 
-    /// Bad, or another error.
+    /// Returns true if the answer is Bad or another error.
     pub fn is_failure(&self) -> bool
         ensures { result ≡ is_failure self.now }
     {
         matches!(self, DriverAnswer::Bad | DriverAnswer::Fail(_))
     }
 
-    /// The driver passes the text on, to be prepared.
+    /// Returns true if the driver declines to run the text, which must then be prepared.
     pub fn is_skip(&self) -> bool
         ensures { result ≡ is_skip self.now }
     {
         matches!(self, DriverAnswer::Skip)
     }
 
-    /// The test of a connection failed.
+    /// Returns true if the connection failed its test.
     pub fn is_invalid(&self) -> bool
         ensures { result ≡ is_invalid self.now }
     {
         matches!(self, DriverAnswer::Invalid)
     }
 
-    /// After it a cursor gives no row.
+    /// Returns true if a cursor gives no row after this answer.
     pub fn is_over(&self) -> bool
         ensures { result ≡ is_over self.now }
     {
@@ -188,7 +189,7 @@ impl DriverAnswer {
         )
     }
 
-    /// The handle that an answer gives.
+    /// Returns the handle that the answer gives, or `None` if it gives none.
     pub fn given_handle(&self) -> Option<u32>
         ensures { result ≡ given_handle self.now }
     {
@@ -198,7 +199,7 @@ impl DriverAnswer {
         }
     }
 
-    /// The cursor that an answer gives.
+    /// Returns the cursor that the answer gives, or `None` if it gives none.
     pub fn given_cursor(&self) -> Option<u32>
         ensures { result ≡ given_cursor self.now }
     {

@@ -1,5 +1,15 @@
-//! What the layer asks of the outside: a database's driver, the streams that a script comes from and
-//! a report goes to, the clock and the gate. After Go's package `database/sql/driver`.
+//! What the layer asks of the outside: a database's driver, the stream that a script comes from, the stream
+//! that a report goes to, the clock and the gate. After Go's package `database/sql/driver`.
+//!
+//! A fleet opens a connection, the connection answers two driver calls, and the fleet takes it back:
+//!
+//! ```
+//! let mut wire = fleet.connect(1)?;
+//! let pinged = wire.call(&DriverCall::Ping);
+//! let shut = wire.call(&DriverCall::Shut);
+//! fleet.retire(1, wire);
+//! Ok(matches!(pinged.answer, DriverAnswer::Done) && matches!(shut.answer, DriverAnswer::Done))
+//! ```
 #![tactic(auto)]
 
 mod answer;

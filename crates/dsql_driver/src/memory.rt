@@ -7,7 +7,7 @@ use crate::stream::{Failed, Sink, Source};
 use std::alloc::Global;
 use std::marker::Model;
 
-/// A source over bytes in memory, which fails at the reads that it is told to.
+/// A source over bytes in memory. It fails at chosen reads.
 #[derive(Drop)]
 pub struct SliceSource<'a> {
     bytes: &'a [u8],
@@ -23,14 +23,20 @@ impl<'a> Model for SliceSource<'a> {
 
     ghost Value = { Stream };
 
-    ghost view = { λ s. record { bytes = s.bytes.now; piece = s.piece; failing = s.failing.now; turns = s.reads; faults = s.faults } };
+    ghost view = { λ s. record {
+      bytes = s.bytes.now;
+      piece = s.piece;
+      failing = s.failing.now;
+      turns = s.reads;
+      faults = s.faults;
+    } };
 
     ghost invariant = { λ s. 0 < s.piece };
 }
 
 impl<'a> SliceSource<'a> {
-    /// A source of these bytes. A read takes at most `piece` of them, and the kth read, counted from 1,
-    /// fails where k is in `failing`.
+    /// Returns a source of these bytes. A read takes at most `piece` of them. The kth read, counted from 1,
+    /// fails if k is in `failing`.
     pub fn new(bytes: &'a [u8], piece: usize, failing: &'a [u64]) -> SliceSource<'a>
         requires { 0 < piece }
         ensures { result ≡ new_stream bytes.now piece failing.now }
@@ -44,7 +50,7 @@ impl<'a> SliceSource<'a> {
         }
     }
 
-    /// The bytes that are left.
+    /// Returns the bytes that are left.
     pub fn rest(&self) -> &[u8]
         ensures { result.now ≡ self.now.bytes }
     {
@@ -65,7 +71,8 @@ impl<'a> Source for SliceSource<'a> {
         ensures caused { OnErr result (HasRisen self.old.faults self.new.faults) }
         ensures faultless { OnOk result (self.new.faults ≡ self.old.faults) }
 
-        // A source in memory says more: when it fails, how much it takes, and what it is afterwards.
+        // A source in memory promises more: when a read fails, how much it takes, and what the source is
+        // afterwards.
         ensures planned { is_err result ≡ fails_next self.old }
         ensures count { IfOk result (λ n. n ≡ taken_of self.old (length buf.old)) }
         ensures after { self.new ≡ after_read self.old (length buf.old) }
@@ -84,7 +91,7 @@ impl<'a> Source for SliceSource<'a> {
     }
 }
 
-/// A sink that keeps what is written, and fails at the writes that it is told to.
+/// A sink that keeps the bytes written to it. It fails at chosen writes.
 #[derive(Drop)]
 pub struct VecSink {
     bytes: Vec<u8>,
@@ -100,14 +107,20 @@ impl Model for VecSink {
 
     ghost Value = { Stream };
 
-    ghost view = { λ s. record { bytes = s.bytes.items; piece = s.piece; failing = s.failing.items; turns = s.writes; faults = s.faults } };
+    ghost view = { λ s. record {
+      bytes = s.bytes.items;
+      piece = s.piece;
+      failing = s.failing.items;
+      turns = s.writes;
+      faults = s.faults;
+    } };
 
     ghost invariant = { λ s. 0 < s.piece };
 }
 
 impl VecSink {
-    /// An empty sink. A write appends at most `piece` bytes, and the kth write, counted from 1, fails
-    /// where k is in `failing`. A write for whose bytes there is no memory fails too.
+    /// Returns an empty sink. A write appends at most `piece` bytes. The kth write, counted from 1, fails if k
+    /// is in `failing`. A write also fails if there is no memory for its bytes.
     pub fn new(alloc: Global, piece: usize, failing: Vec<u64>) -> VecSink
         requires { 0 < piece }
         ensures { result ≡ new_stream [] piece failing.items }
@@ -121,7 +134,7 @@ impl VecSink {
         }
     }
 
-    /// The bytes that were written.
+    /// Returns the bytes that were written.
     pub fn bytes(&self) -> &[u8]
         ensures { result.now ≡ self.now.bytes }
     {
@@ -143,7 +156,8 @@ impl Sink for VecSink {
         ensures caused { OnErr result (HasRisen self.old.faults self.new.faults) }
         ensures faultless { OnOk result (self.new.faults ≡ self.old.faults) }
 
-        // A sink in memory says more: when it has to fail, how much it appends, and what it is afterwards.
+        // A sink in memory promises more: when a write has to fail, how much it appends, and what the sink is
+        // afterwards.
         ensures planned { fails_next self.old ≡ true → IsErr result }
         ensures count { IfOk result (λ n. n ≡ appended_of self.old (length piece.now)) }
         ensures ok { OnOk result (self.new ≡ after_write self.old piece.now) }
@@ -179,8 +193,8 @@ impl Model for ListClock {
 }
 
 impl ListClock {
-    /// A clock that gives these moments in order and then stays at the last one; at 0 where there are
-    /// none.
+    /// Returns a clock that gives these moments in order and then stays at the last one. If there are none, it
+    /// stays at 0.
     pub fn new(moments: Vec<u64>) -> ListClock
         ensures { result ≡ moments.items }
     {

@@ -25,27 +25,28 @@ pub enum Refused {
     Memory,
 }
 
-/// A driver's answer, twice, so that nothing has to be copied once the driver was called.
+/// A driver's answer, given twice, so that the layer has nothing to copy after a driver call.
 #[derive(Drop)]
 pub struct Answered {
     pub answer: DriverAnswer,
     pub copy: DriverAnswer,
 }
 
-/// One open connection to a database, as Go's `driver.Conn` with its statements, rows and transactions.
+/// One open connection to a database: Go's `driver.Conn` with its statements, rows and transactions.
 pub trait Wire {
-    /// Its number, the calls that it heard with their answers, and the faults that were planned on it, each
-    /// with how many calls had been heard by then, where the wire tells.
+    /// What the wire reports, if it reports at all: its number, the calls that it heard with their answers, and
+    /// the faults that were planned on it. Each planned fault stands with the number of calls that the wire had
+    /// heard by then.
     ghost told: { Self → Option WireTold };
-    /// How often it answered Bad, Fail or Invalid.
+    /// How often the wire answered Bad, Fail or Invalid.
     ghost faults: { Self → ℕ };
-    /// The handles of statements that are live on it.
+    /// The handles of the statements that are live on the wire.
     ghost handles: { Self → List ℕ };
-    /// The cursors that are live on it, with the numbers of their columns.
+    /// The cursors that are live on the wire, each with the number of its columns.
     ghost cursors: { Self → List LiveCursor };
 
-    /// Makes one call to the driver. After an answer of Memory it tells what it told, and its handles and
-    /// cursors are as they were.
+    /// Makes one call to the driver. After the answer Memory the wire's report, its handles and its cursors are
+    /// unchanged.
     fn call(&mut self, call: &DriverCall) -> Answered
         ensures copied { result.copy ≡ result.answer }
         ensures fitting { fits_of call.now result.answer ≡ true }
@@ -56,8 +57,8 @@ pub trait Wire {
         ensures caused { is_fault result.answer ≡ true → HasRisen (faults self.old) (faults self.new) }
         ensures faultless { is_fault result.answer ≡ false → faults self.new ≡ faults self.old };
 
-    /// Plans a fault in place of the answer to the nth call on this wire, its Connect being the first. It is
-    /// told as planned behind the calls that were heard so far.
+    /// Plans a fault in place of the answer to the nth call on this wire. The wire's Connect is the first call.
+    /// The wire's report places the plan after the calls that were heard so far.
     fn plan(&mut self, nth: u32, what: Planned) -> Result<(), Memory>
         ensures told { OnOk result (told self.new ≡ planned_after (nth, what) (told self.old)) }
         ensures err { OnErr result (told self.new ≡ told self.old) }
@@ -66,33 +67,35 @@ pub trait Wire {
         ensures faultless { faults self.new ≡ faults self.old };
 }
 
-/// What opens connections to one database, as Go's `driver.Connector`, and takes them back once they are
+/// A maker of connections to one database, as Go's `driver.Connector`. It also takes a wire back after that was
 /// shut.
 pub trait Fleet {
     type Wire: Wire + Send;
 
-    /// What its driver can do.
+    /// What the fleet's driver can do.
     ghost ability: { Self → Caps };
-    /// The capabilities that were asked for last, if any were, and how often any were.
+    /// The capabilities that were asked for last, if any were, and how often capabilities were asked for.
     ghost preferred: { Self → Preferred };
-    /// The Connects that it was asked for, the faults that were planned, each with how many Connects had been
-    /// told by then, and the wires that it was given back, where the fleet tells.
+    /// What the fleet reports, if it reports at all: the Connects that it was asked for, the faults that were
+    /// planned, and the wires that it was given back. Each planned fault stands with the number of Connects
+    /// that the fleet had reported by then.
     ghost told: { Self → Option FleetTold };
-    /// How often a Connect was refused as Bad or Fail.
+    /// How often the fleet refused a Connect as Bad or Fail.
     ghost faults: { Self → ℕ };
 
-    /// What its driver can do.
+    /// Returns what the fleet's driver can do.
     fn caps(&self) -> Caps
         ensures { result ≡ ability self.now };
 
-    /// Asks for a driver that can do just this.
+    /// Asks for a driver that has exactly these capabilities.
     fn prefer(&mut self, caps: Caps)
         ensures preferred { preferred self.new ≡ preferred_after caps (preferred self.old) }
         ensures told { told self.new ≡ told self.old }
         ensures faultless { faults self.new ≡ faults self.old };
 
-    /// Plans a fault in place of the answer to the nth call on a wire that isn't connected yet, its
-    /// Connect being the first. It is told as planned behind the Connects that were told so far.
+    /// Plans a fault in place of the answer to the nth call on a wire that isn't connected yet. The wire's
+    /// Connect is the first call. The fleet's report places the plan after the Connects that were reported so
+    /// far.
     fn plan(&mut self, wire: u32, nth: u32, what: Planned) -> Result<(), Memory>
         ensures told { OnOk result (told self.new ≡ plans_after (wire, (nth, what)) (told self.old)) }
         ensures err { OnErr result (told self.new ≡ told self.old) }
@@ -100,8 +103,8 @@ pub trait Fleet {
         ensures preferred { preferred self.new ≡ preferred self.old }
         ensures faultless { faults self.new ≡ faults self.old };
 
-    /// Opens a connection. Its wire has its number, has heard just its Connect, answered Done, and has no
-    /// plan of its own, and it tells so where the fleet tells.
+    /// Opens a connection. If its wire reports, it reports this number, its Connect answered Done as the only
+    /// call, and no plan. If the fleet reports, the wire reports too.
     fn connect(&mut self, number: u32) -> Result<Self::Wire, Refused>
         ensures asked { told self.new ≡ connected_after number (answer_of result) (told self.old) }
         ensures new { IfOk result (λ w. IfSome (Self.Wire.told w) (λ told. told ≡ newly_told number)) }
@@ -114,7 +117,7 @@ pub trait Fleet {
         ensures caused { IfErr result (λ r. is_fault_of r ≡ true → HasRisen (faults self.old) (faults self.new)) }
         ensures faultless { is_fault (answer_of result) ≡ false → faults self.new ≡ faults self.old };
 
-    /// Takes a wire back that was shut. Its room was taken when it was connected.
+    /// Takes back a wire that was shut. The room for it was reserved when it was connected.
     fn retire(&mut self, number: u32, wire: Self::Wire)
         ensures told { told self.new ≡ retired_after number (Self.Wire.told wire) (told self.old) }
         ensures ability { ability self.new ≡ ability self.old }

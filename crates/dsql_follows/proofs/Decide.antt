@@ -1,4 +1,4 @@
--- What is computed is what the definitions say.
+-- Proves that the computed tests say what the definitions say. Each test is taken apart into its sentences.
 use Rattle.std.proofs.Common.{◌≡◌, ◌↔◌, true, List, [], ◌∷◌, refl, subst, ap}
 use Rattle.dsql_history.specs.declared.event.Event.{Event}
 use Rattle.dsql_follows.proofs.Bools.{both, together}
@@ -58,7 +58,7 @@ is_end_of m events r =
 pub end_computed : (m : Moment) (events : List Event) → (follows_end m events ≡ true) ↔ FollowsEnd m events
 end_computed m events = (end_of m events, is_end_of m events)
 
--- the judge of the parts is at the moment after them
+-- The judgment of the parts is at the moment after them.
 at_moment : (run : Event) (parts : List Part) → (judged run parts).moment ≡ after run parts
 at_moment run [] = refl
 at_moment run (part ∷ earlier) = ap (λ m. after_part m part) (at_moment run earlier)

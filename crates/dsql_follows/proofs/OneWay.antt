@@ -1,8 +1,9 @@
--- A history follows a script in one way at most, since what came before a line settles its part.
+-- Proves that a history follows a script in at most one way. The argument is that the events before a line
+-- settle the line's part.
 use Rattle.std.proofs.Common.{◌≡◌, ◌⊎◌, inl, inr, ⊎_elim, ℕ, ◌==◌, Bool, true, false, not, ◌&&◌, ◌||◌, cond, List, [], ◌∷◌, ◌++◌, map, Option, Some, None, is_none, refl, ap, sym, ◌∙◌, subst}
 use Rattle.std.proofs.lemmas.List.{append-nil, append_assoc, append_cancel_right}
 use Rattle.std.specs.List.{list_all}
-use Rattle.dsql_journal.specs.Readers.{is_empty}
+use Rattle.dsql_history.specs.journal.Readers.{is_empty}
 use Rattle.dsql_history.specs.declared.event.Event.{Event}
 use Rattle.dsql_history.specs.declared.event.Event.TheVariants.{Run, Entered, Heard, Ticked, SetLimit, Ended}
 use Rattle.dsql_history.specs.declared.event.Op.{Op}
@@ -10,19 +11,19 @@ use Rattle.dsql_history.specs.declared.event.Control.{Control}
 use Rattle.dsql_history.specs.declared.record.Stand.{Stand}
 use Rattle.dsql_history.specs.declared.record.Stand.TheVariants.{Waits, Opens, Sends, Replies, Asks}
 use Rattle.dsql_history.specs.Rules.Stands.{stand}
+use Rattle.dsql_follows.specs.Turns.{is_it, can_move, first_chore, next_client, is_turn_of, has_run_out, comes_in_turn}
 use Rattle.dsql_follows.specs.declared.line.Line.{Line}
 use Rattle.dsql_follows.specs.declared.line.Line.TheVariants as lines
 use Rattle.dsql_follows.specs.declared.line.Line.TheVariants.{Skip, Fault, Client, Start, Step, StepHouse}
 use Rattle.dsql_history.specs.Readers.Clients.{call_of, is_free, client_of}
 use Rattle.dsql_history.specs.Rules.Flights.{is_in_flight}
 use Rattle.dsql_follows.specs.Moments.{Moment, Passed, met, at_end, stepping, begins_step, at_rest, rested, walk, kept}
-use Rattle.dsql_follows.specs.Turns.{can_move, first_chore, next_client, is_it, is_turn_of, has_run_out, comes_in_turn}
 use Rattle.dsql_follows.specs.Sentences.{Part, passed, oldest, later, begins, begins_with_step, come_in_turn, after_part, is_one_step, enters_now, is_entry_of, is_set_in, hears, goes_on_by_itself, wakes, starts_at, steps_at, steps_free, steps_call, carries, tidies_at}
 use Rattle.dsql_follows.specs.Follows.{Played, FollowsLine, FollowsLines, Follows, told, script, history, after}
 use Rattle.dsql_follows.proofs.Bools.{both, not_true, first_false, second_false, either_false}
 use Rattle.dsql_follows.proofs.Walks.{passed_goes_on}
 
--- Where the turn is nobody's, no step comes in its turn.
+-- If nobody has the turn, no step comes in its turn.
 
 nobody : (o : Option ℕ) (n : ℕ) → is_none o ≡ true → is_it o n ≡ false
 nobody None n h = refl
@@ -44,7 +45,7 @@ none_in_turn m (SetLimit setting n) r h = refl
 none_in_turn m (Run version caps) r h = refl
 none_in_turn m e r h = first_false (is_turn_of m (client_of m.past (stepping m e))) _ (no_turn m (client_of m.past (stepping m e)) h)
 
--- Lists.
+-- Facts about lists of events.
 
 all_here : (f : Passed → Bool) (xs : List Passed) (p : Passed) (ys : List Passed) → list_all f (xs ++ p ∷ ys) ≡ true → f p ≡ true
 all_here f [] p ys h = (both (f p) (list_all f ys) h).0
@@ -55,7 +56,8 @@ later_here [] p b ys = refl
 later_here (x ∷ []) p b ys = refl
 later_here (x ∷ z ∷ zs) p b ys = ap (λ l. x ∷ l) (later_here (z ∷ zs) p b ys)
 
--- With an event in front that begins a step, the sentence is false of what else it is true of.
+-- Holds if the sentence stops before a step: if it is true of some events, and true with more events, the first
+-- of these begins no step.
 Stops : (List Passed → Bool) → Type 0
 Stops f = (xs : List Passed) (p : Passed) (ys : List Passed) → f (xs ++ p ∷ ys) ≡ true → f ys ≡ true → p.begins ≡ false
 
@@ -110,7 +112,7 @@ stops_at_house m =
     stops_either (is_none (first_chore m)) (λ xs. is_empty xs) (λ xs. is_one_step xs && carries m (oldest xs)) stops_empty
     (stops_both (λ xs. is_one_step xs) (λ xs. carries m (oldest xs)) stops_one)
 
--- Parts that go on.
+-- Parts that run on.
 
 stops_in : (f : List Passed → Bool) → Stops f → (m : Moment) (zs : List Event) (e : Event) (qe : List Event) → f (passed m (zs ++ e ∷ qe)) ≡ true → f (passed m qe) ≡ true
     → begins_step (walk m qe).now e ≡ false
@@ -120,7 +122,7 @@ stops_in f s m zs e qe h k =
     (subst (λ l. f l ≡ true) (passed_goes_on m zs (e ∷ qe)) h)
     k
 
--- where the turn is nobody's, an event that comes in its turn begins no step
+-- If nobody has the turn, an event that comes in its turn begins no step.
 begins_nothing : (m : Moment) (e : Event) (b : Bool) → not b || comes_in_turn (rested b m) e ≡ true → m.released ≡ false → has_run_out (at_rest m) ≡ true → b ≡ false
 begins_nothing m e false h r k = refl
 begins_nothing m e true h r k =
@@ -158,7 +160,7 @@ is_entered_somewhere false client xs h k = absurd cc
 is_entered_somewhere true client [] h k = absurd cc
 is_entered_somewhere true client (x ∷ xs) h k = refl
 
--- with a step more the line's part doesn't follow, where it follows without
+-- If a part follows its line, a part with one more step doesn't.
 no_step_more : (m : Moment) (line : Line) (zs : List Event) (e : Event) (qe : List Event) → m.released ≡ false
     → FollowsLine m (record { line = line; events = zs ++ e ∷ qe }) → FollowsLine m (record { line = line; events = qe }) → begins_step (walk (met line m) qe).now e ≡ false
 no_step_more m Skip zs e qe r f g = runs_no_further (met Skip m) false zs e qe f.in_turn (λ k. absurd cc) (released_after (met Skip m) qe ∙ r) g.run_out
@@ -175,7 +177,7 @@ no_step_more m (Start client op) zs e qe r f g = stops_in (λ xs. starts_at m xs
 no_step_more m (Step client) zs e qe r f g = stops_in (λ xs. steps_at m xs (Step client)) (stops_at_step m client) (met (Step client) m) zs e qe f.stepped g.stepped
 no_step_more m StepHouse zs e qe r f g = stops_in (λ xs. tidies_at m xs StepHouse) (stops_at_house m) (met StepHouse m) zs e qe f.tidied g.tidied
 
--- What begins with a step.
+-- Parts that begin with a step.
 
 oldest_last : (m : Moment) (xs : List Event) (e : Event) → begins_with_step m (xs ++ e ∷ []) ≡ begins_step m e
 oldest_last m [] e = refl
@@ -212,7 +214,7 @@ abbrev tail : {X : Type 0} → List X → List X
 tail [] = []
 tail (x ∷ xs) = xs
 
--- the first cut is later than the other, or the other way round
+-- Of two cuts of the same events, one is at or before the other.
 cuts : (xs ps ys qs : List Event) → xs ++ ps ≡ ys ++ qs → ((zs : List Event) × (ps ≡ zs ++ qs) × (xs ++ zs ≡ ys)) ⊎ ((zs : List Event) × (qs ≡ zs ++ ps) × (ys ++ zs ≡ xs))
 cuts [] ps ys qs h = inl (ys, h, refl)
 cuts (x ∷ xs) ps [] qs h = inr (x ∷ xs, sym h, refl)
@@ -228,7 +230,8 @@ last_of : (x : Event) (xs : List Event) → (front : List Event) × (e : Event) 
 last_of x [] = ([], x, refl)
 last_of x (y ∷ ys) = let r = last_of y ys in (x ∷ r.0, r.1, ap (λ l. x ∷ l) r.2)
 
--- A part isn't longer than another that follows the same line, where what comes after that begins with a step.
+-- If two parts follow the same line, neither is longer, provided that what comes after the shorter one begins
+-- with a step.
 no_longer : (m : Moment) (line : Line) (zs ps qs xs ys : List Event) → m.released ≡ false → FollowsLine m (record { line = line; events = ps }) → FollowsLine m (record { line = line; events = qs })
     → ps ≡ zs ++ qs → xs ++ zs ≡ ys → begins_with_step (after_part m (record { line = line; events = qs })) ys ≡ true → (ps ≡ qs) × (xs ≡ ys)
 no_longer m line [] ps qs xs ys r f g h k b = (h, sym (append-nil xs) ∙ k)
@@ -279,7 +282,7 @@ same_parts run (p ∷ ps) (q ∷ qs) xs ys f g l h b c =
     let same : p ≡ q = ap (λ k. record { line = k; events = p.events }) line ∙ ap (λ k. record { line = q.line; events = k }) w.0 in
     (ap (λ k. k ∷ ps) same ∙ ap (λ k. q ∷ k) i.0, w.1)
 
--- the first event of a history
+-- Returns the first event of a history.
 abbrev first_of_all : List Event → Event → Event
 first_of_all [] d = d
 first_of_all (e ∷ rest) d = first_of_all rest e

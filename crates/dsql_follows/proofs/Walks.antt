@@ -1,4 +1,4 @@
--- Events that are gone over one after another.
+-- Proves that a walk over events can be made in two stages.
 use Rattle.std.proofs.Common.{◌≡◌, List, [], ◌∷◌, ◌++◌, refl, ap}
 use Rattle.dsql_history.specs.declared.event.Event.{Event}
 use Rattle.dsql_follows.specs.Moments.{Moment, begins_step, rested, with_event, walk}

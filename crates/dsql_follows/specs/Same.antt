@@ -1,16 +1,19 @@
--- The same setting and the same operation, as tests.
+-- Defines tests that two operations are the same, and that two limits are.
 use Rattle.std.specs.Prelude.{ℕ, ◌==◌, Bool, true, false, ◌&&◌, List, [], ◌∷◌, Some, None, bytes_eq}
 use Rattle.std.specs.Ordering.{int_eq}
-use Rattle.dsql_value.specs.declared.arg.Arg.{Arg}
-use Rattle.dsql_value.specs.declared.arg.Arg.TheVariants as args
-use Rattle.dsql_value.specs.declared.arg.Named.{Named}
-use Rattle.dsql_scan.specs.declared.dest.Dest.{Dest}
-use Rattle.dsql_scan.specs.declared.dest.Dest.TheVariants as dests
-use Rattle.dsql_work.specs.Same.{same_truth, same_name}
-use Rattle.dsql_history.specs.declared.event.Op.{Op}
-use Rattle.dsql_history.specs.declared.event.Op.TheVariants as ops
+use Rattle.dsql_history.specs.value.declared.arg.Arg.{Arg}
+use Rattle.dsql_history.specs.value.declared.arg.Arg.TheVariants as args
+use Rattle.dsql_history.specs.value.declared.arg.Named.{Named}
+use Rattle.dsql_history.specs.scan.declared.dest.Dest.{Dest}
+use Rattle.dsql_history.specs.scan.declared.dest.Dest.TheVariants as dests
+use Rattle.dsql_history.specs.works.Same.{same_truth, same_name}
 use Rattle.dsql_history.specs.declared.event.Setting.{Setting}
 use Rattle.dsql_history.specs.declared.event.Setting.TheVariants.{MaxOpen, MaxIdle, MaxLife, MaxIdleTime}
+use Rattle.dsql_history.specs.declared.event.Op.{Op}
+use Rattle.dsql_history.specs.declared.event.Op.TheVariants as ops
+use Rattle.dsql_history.specs.declared.event.Target.{Target}
+use Rattle.dsql_history.specs.declared.event.Target.TheVariants as targets
+use Rattle.dsql_history.specs.Same.{same_level}
 
 abbrev pub same_setting : Setting → Setting → Bool
 same_setting MaxOpen MaxOpen = true
@@ -53,7 +56,7 @@ same_args [] [] = true
 same_args (a ∷ more) (b ∷ others) = same_name a.name b.name && (same_arg a.arg b.arg && same_args more others)
 same_args _ _ = false
 
--- the place of a destination in the list of its kinds
+-- Returns the place of a destination in the list of all kinds of destinations.
 abbrev pub rank : Dest → ℕ
 rank dests.Text = 0
 rank dests.Bytes = 1
@@ -81,14 +84,26 @@ same_dests [] [] = true
 same_dests (a ∷ more) (b ∷ others) = (rank a == rank b) && same_dests more others
 same_dests _ _ = false
 
+abbrev pub same_target : Target → Target → Bool
+same_target targets.Db targets.Db = true
+same_target (targets.Label tx) (targets.Label other) = bytes_eq tx other
+same_target _ _ = false
+
 abbrev pub same_op : Op → Op → Bool
-same_op (ops.Exec text args) (ops.Exec other others) = bytes_eq text other && same_args args others
-same_op (ops.Query label text args) (ops.Query name other others) = bytes_eq label name && (bytes_eq text other && same_args args others)
-same_op (ops.One dests text args) (ops.One places other others) = same_dests dests places && (bytes_eq text other && same_args args others)
+same_op (ops.Exec target text args) (ops.Exec place other others) =
+    same_target target place && (bytes_eq text other && same_args args others)
+same_op (ops.Query label target text args) (ops.Query name place other others) =
+    bytes_eq label name && (same_target target place && (bytes_eq text other && same_args args others))
+same_op (ops.One target dests text args) (ops.One place kinds other others) =
+    same_target target place && (same_dests dests kinds && (bytes_eq text other && same_args args others))
 same_op (ops.Next rows) (ops.Next other) = bytes_eq rows other
-same_op (ops.Scan rows dests) (ops.Scan other places) = bytes_eq rows other && same_dests dests places
+same_op (ops.Scan rows dests) (ops.Scan other kinds) = bytes_eq rows other && same_dests dests kinds
 same_op (ops.RowsClose rows) (ops.RowsClose other) = bytes_eq rows other
 same_op (ops.Err rows) (ops.Err other) = bytes_eq rows other
+same_op (ops.Begin label level read_only) (ops.Begin name other only) =
+    bytes_eq label name && (same_level level other && same_truth read_only only)
+same_op (ops.Commit tx) (ops.Commit other) = bytes_eq tx other
+same_op (ops.Rollback tx) (ops.Rollback other) = bytes_eq tx other
 same_op ops.Ping ops.Ping = true
 same_op ops.DbClose ops.DbClose = true
 same_op ops.Stats ops.Stats = true

@@ -1,10 +1,11 @@
--- How the parts are found where only a script and a history are known. What came before settles each part: a single step's part is one step or none, and a line
--- that runs on does so just until the turn is nobody's. So events are dealt out to the lines, oldest first.
-use Rattle.std.specs.Prelude.{ℕ, Bool, true, false, not, ◌&&◌, ◌||◌, cond, List, [], ◌∷◌, reverse, Option, Some, is_some}
-use Rattle.dsql_journal.specs.Readers.{is_empty}
-use Rattle.dsql_history.specs.declared.event.Event.{Event}
+-- Defines how to find the parts from a script and a history alone. The events before a line settle its part:
+-- the part of a single step is one step or none, and a line that runs on does so exactly until nobody has the
+-- turn. So the events are dealt out to the lines, oldest first.
+use Rattle.std.specs.Prelude.{Bool, true, false, Option, Some, ℕ, not, ◌&&◌, ◌||◌, cond, List, [], ◌∷◌, reverse, is_some}
 use Rattle.dsql_history.specs.declared.record.Stand.{Stand}
 use Rattle.dsql_history.specs.declared.record.Stand.TheVariants.{Sends}
+use Rattle.dsql_history.specs.journal.Readers.{is_empty}
+use Rattle.dsql_history.specs.declared.event.Event.{Event}
 use Rattle.dsql_history.specs.Rules.Stands.{stand}
 use Rattle.dsql_follows.specs.declared.line.Line.{Line}
 use Rattle.dsql_follows.specs.declared.line.Line.TheVariants.{Start, Step, StepHouse}
@@ -19,36 +20,46 @@ abbrev pub is_sending : Option Stand → Bool
 is_sending (Some (Sends c)) = true
 is_sending _ = false
 
--- a step of the call shows: its answer is heard, or it goes on and doesn't only send
+-- Is true if the history shows a step of the call: its answer is heard, or it goes on and doesn't only send.
 abbrev pub shows : Moment → ℕ → Bool
 shows m n = is_in_flight n m.flights || (can_move m n && not (is_sending (stand m.past n)))
 
--- the line's part begins with a step that is settled before it: the line's own, or the single step for which it asks
+-- Is true if the line's part begins with a step that is settled before it: the line's own step, or the single
+-- step that it asks for.
 abbrev pub begins_at_once : Moment → Line → Bool
 begins_at_once m (Start client op) = enters_now m client
-begins_at_once m (Step client) = cond (is_free m.past client) (not (is_empty (kept m client))) (shows m (call_of m.past client))
+begins_at_once m (Step client) =
+    cond (is_free m.past client) (not (is_empty (kept m client))) (shows m (call_of m.past client))
 begins_at_once m StepHouse = is_some (first_chore m)
 begins_at_once m line = has_own_step m line
 
--- the events of a part so far, newest first, and those that are left, oldest first
+-- The events of a part so far, newest first, and the remaining events, oldest first.
 pub record Taken : Type 0 where
   pub part : List Event
   pub left : List Event
 
--- The part takes no more: a step would begin with this event, none is to come at once, and the line doesn't run on or has run out.
+-- Is true if the part takes no more events: a step would begin with this event, no step has to come at once,
+-- and the line doesn't run on or has run out.
 abbrev pub is_full : Bool → Bool → Moment → Event → Bool
 is_full runs at_once m e = begins_step m e && (not at_once && (not runs || has_run_out (at_rest m)))
 
 abbrev pub on : Moment → Event → Moment
 on m e = with_event e (rested (begins_step m e) m)
 
--- the part takes events until it is full; a step is to come at once, or not
+-- Returns the part after it takes events until it is full. The flag `at_once` is true if a step has to come at
+-- once.
 abbrev pub take_part : Bool → Bool → Moment → List Event → List Event → Taken
 take_part runs at_once m part [] = record { part = part; left = [] }
 take_part runs at_once m part (e ∷ later) =
-    elim (is_full runs at_once m e) as (λ it. Taken) [ true ↦ record { part = part; left = e ∷ later } | false ↦ take_part runs false (on m e) (e ∷ part) later ]
+    elim (is_full runs at_once m e) as
+    (λ it. Taken) [
+      | true ↦ record { part = part; left = e ∷ later }
+      | false ↦ take_part runs false (on m e)
+          (e ∷ part) later
+    ]
 
--- what is dealt out: the moment after it, the parts, newest first, and the events that are left, oldest first
+-- The result so far: the moment after the events that are dealt out, the parts, newest first, and the remaining
+-- events, oldest first.
 pub record Dealt : Type 0 where
   pub moment : Moment
   pub parts : List Part
@@ -61,9 +72,10 @@ abbrev pub gives_taken : Line → Taken → Dealt → Dealt
 gives_taken line taken d = gives (record { line = line; events = taken.part }) taken.left d
 
 abbrev pub deal_line : Line → Dealt → Dealt
-deal_line line d = gives_taken line (take_part (runs_on line) (begins_at_once d.moment line) (met line d.moment) [] d.left) d
+deal_line line d =
+    gives_taken line (take_part (runs_on line) (begins_at_once d.moment line) (met line d.moment) [] d.left) d
 
--- the lines oldest first
+-- Returns the result after dealing events to these lines, oldest first.
 abbrev pub deal : List Line → Dealt → Dealt
 deal [] d = d
 deal (line ∷ lines) d = deal lines (deal_line line d)
@@ -71,6 +83,7 @@ deal (line ∷ lines) d = deal lines (deal_line line d)
 abbrev pub as_played : Event → Dealt → Played
 as_played run d = record { run = run; parts = d.parts; last = reverse d.left }
 
--- the parts of a history, of which this is the first event and these are the others, for the lines of a script; all oldest first
+-- Returns the parts of a history for the lines of a script. The history is this first event and these later
+-- ones. The arguments are all oldest first.
 abbrev pub split : List Line → Event → List Event → Played
 split lines run events = as_played run (deal lines (record { moment = just_begun run; parts = []; left = events }))

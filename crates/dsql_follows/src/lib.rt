@@ -1,5 +1,6 @@
-//! Which parts of a history follow which lines of a script: with several clients, lines that are kept, calls that
-//! are held, and single steps.
+//! Defines when a history follows a script, and which part of the history follows which line. A line makes a
+//! client's call, holds it, or makes a single step. The lines of a client whose call is unfinished are kept
+//! until it is free.
 #![tactic(auto)]
 
 pub mod laws;

@@ -1,21 +1,20 @@
-use dsql_driver::Planned;
-use dsql_history::{Control, Op};
+use dsql_history::{Control, Op, Planned};
 
-/// What a line of a script asks for.
+/// An instruction of a script: what one line asks for.
 #[derive(Drop)]
 pub enum Line {
-    /// Nothing: it is empty or a comment, or it was for what comes before the run.
+    /// Nothing: the line is empty or a comment, or it concerns what comes before the run.
     Skip,
-    /// A limit is set, or the present moment.
+    /// Sets a limit or the present moment.
     Control(Control),
-    /// A fault is planned in place of the answer to the nth call of a connection.
+    /// Plans a fault in place of the answer to a connection's nth driver call.
     Fault { conn: u32, nth: u32, what: Planned },
-    /// A client makes a call.
+    /// Makes a call of a client.
     Client { client: u8, op: Op },
-    /// A client makes a call, which is held: it goes on by single steps alone, until the script ends.
+    /// Makes a call of a client and holds it: the call goes on by single steps alone until the script ends.
     Start { client: u8, op: Op },
-    /// A client makes one step.
+    /// Makes one step of a client.
     Step { client: u8 },
-    /// The layer makes one driver call of its own.
+    /// Makes one driver call of the layer's own.
     StepHouse,
 }

@@ -1,4 +1,5 @@
--- The rules computed: tests of an event and of a whole history. Each is true exactly where the record holds.
+-- Defines the rules as computed tests of one event and of a whole history. Each is true exactly if the record
+-- holds.
 use Rattle.std.specs.Prelude.{Bool, true, not, ◌&&◌, ◌||◌, List, [], ◌∷◌}
 use Rattle.dsql_history.specs.declared.event.Event.{Event}
 use Rattle.dsql_history.specs.Readers.Course.{has_begun}
@@ -21,7 +22,9 @@ is_allowed before e =
     && (keeps_sets before e
     && (keeps_limit before e
     && (keeps_asking before e
-    && (keeps_order before e && (keeps_causes before e && (keeps_line before e && (keeps_journals before e && keeps_replies before e))))))))
+    && (keeps_order before e
+    && (keeps_causes before e
+    && (keeps_line before e && (keeps_journals before e && keeps_replies before e))))))))
 
 abbrev pub is_settled : List Event → Bool
 is_settled before = is_settled_but 0 before
@@ -34,6 +37,6 @@ abbrev pub is_calm : List Event → Bool
 is_calm [] = true
 is_calm (e ∷ before) = is_calm before && (not (is_from_outside e) || is_settled before)
 
--- the whole history is legal
+-- Is true if the whole history is legal.
 abbrev pub is_legal : List Event → Bool
 is_legal history = has_begun history && (is_lawful history && (is_calm history && is_settled history))

@@ -1,6 +1,7 @@
--- Which histories are legal. A history is read from its newest event back: `e ∷ before` is e after all of before.
+-- Defines which histories are legal. A history is read from its newest event back: in `e ∷ before`, e happened
+-- after all of before.
 use Rattle.std.specs.Prelude.{ℕ, ◌≡◌, ◌==◌, Bool, true, false, ◌||◌, List, [], ◌∷◌}
-use Rattle.dsql_journal.specs.Journal.{IsJournalPrefix, IsWhole}
+use Rattle.dsql_history_work.specs.journal.Journal.{IsJournalPrefix, IsWhole}
 use Rattle.dsql_pool.specs.declared.moves.Move.TheVariants.{Gone, Fell}
 use Rattle.dsql_history.specs.declared.event.Event.{Event}
 use Rattle.dsql_history.specs.declared.event.Event.TheVariants.{Pool}
@@ -18,7 +19,7 @@ use Rattle.dsql_history.specs.Rules.Journals.{keeps_journals}
 use Rattle.dsql_history.specs.Rules.Replies.{keeps_replies}
 use Rattle.dsql_history.specs.Rules.Settled.{Settled}
 
--- the event keeps each rule, after these
+-- Holds if the event keeps each rule after these events.
 pub record KeepsEach (before : List Event) (e : Event) : Type 0 where
   pub course : keeps_course before e ≡ true
   pub numbers : keeps_numbers before e ≡ true
@@ -31,28 +32,30 @@ pub record KeepsEach (before : List Event) (e : Event) : Type 0 where
   pub journals : keeps_journals before e ≡ true
   pub replies : keeps_replies before e ≡ true
 
--- The event may come after these. It is shut: who needs a rule opens it by `unfolding Allowed`.
+-- Holds if the event may follow these events. The definition doesn't unfold by itself: a proof that needs a
+-- rule opens it by `unfolding Allowed`.
 unfoldable pub Allowed : List Event → Event → Type 0
 Allowed before e = KeepsEach before e
 
--- each event may come after those before it
+-- Holds if each event may follow the events before it.
 abbrev pub Lawful : List Event → Type 0
 Lawful [] = Unit {0}
 Lawful (e ∷ before) = Lawful before × Allowed before e
 
--- the moment before each event from outside is settled
+-- Holds if the history before each event from outside is settled.
 abbrev pub Calm : List Event → Type 0
 Calm [] = Unit {0}
 Calm (e ∷ before) = Calm before × (is_from_outside e ≡ true → Settled before)
 
--- the connection has left the four sets
+-- Is true if the connection has left the four sets.
 abbrev pub has_left : List Event → ℕ → Bool
 has_left [] c = false
 has_left (Pool (Gone d) ∷ before) c = (d == c) || has_left before c
 has_left (Pool (Fell d n) ∷ before) c = (d == c) || has_left before c
 has_left (_ ∷ before) c = has_left before c
 
--- each connection's journal is a beginning of a whole one, and whole where it has left the four sets
+-- Holds if each connection's journal is a prefix of a whole journal, and is whole if the connection has left
+-- the four sets.
 pub record KeepsJournals (history : List Event) : Type 0 where
   pub beginnings : (c : ℕ) → IsJournalPrefix (journal history c)
   pub wholes : (c : ℕ) → has_left history c ≡ true → IsWhole (journal history c)

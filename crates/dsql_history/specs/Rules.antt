@@ -1,3 +1,6 @@
+pub mod Wishes
+pub mod Stands
+pub mod Flights
 pub mod Course
 pub mod Numbers
 pub mod Moves
@@ -5,10 +8,10 @@ pub mod Limit
 pub mod Asking
 pub mod Order
 pub mod Causes
+pub mod Sent
+pub mod Ending
 pub mod Line
 pub mod Journals
-pub mod Stands
 pub mod House
 pub mod Settled
 pub mod Replies
-pub mod Flights

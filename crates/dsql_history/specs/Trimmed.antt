@@ -1,8 +1,8 @@
--- What is left of a history of which the oldest events were trimmed.
+-- Defines what remains of a history after its oldest events are trimmed.
 use Rattle.std.specs.Prelude.{ℕ, ◌≡◌, ◌≤◌, List, drop, length, reverse}
 use Rattle.dsql_history.specs.declared.event.Event.{Event}
 
--- these events, the oldest first, are what is left of a history of which so many, the oldest, were trimmed
+-- Holds if these events, oldest first, remain of a history after this many of its oldest events are trimmed.
 pub record IsLeftOf (past : List Event) (trimmed : ℕ) (kept : List Event) : Type 0 where
   pub rest : kept ≡ drop trimmed (reverse past)
   pub within : trimmed ≤ length past

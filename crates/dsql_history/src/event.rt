@@ -1,34 +1,6 @@
 use crate::reply::Reply;
-use dsql_driver::Caps;
-use dsql_journal::Entry;
+use dsql_history_work::{Args, Caps, Dests, Entry, Level, Txt};
 use dsql_pool::Move;
-use dsql_scan::Dests;
-use dsql_value::{Args, Txt};
-
-/// What a client asks of the layer. Rows that a query hands out are named by its label.
-#[derive(Drop)]
-pub enum Op {
-    /// `DB.ExecContext` of a text with arguments.
-    Exec { text: Txt, args: Args },
-    /// `DB.QueryContext` of a text with arguments. Its rows get this label.
-    Query { label: Txt, text: Txt, args: Args },
-    /// `DB.QueryRowContext` of a text with arguments, and `Row.Scan` into destinations.
-    One { dests: Dests, text: Txt, args: Args },
-    /// `Rows.Next`.
-    Next { rows: Txt },
-    /// `Rows.Scan` into destinations.
-    Scan { rows: Txt, dests: Dests },
-    /// `Rows.Close`.
-    RowsClose { rows: Txt },
-    /// `Rows.Err`.
-    Err { rows: Txt },
-    /// `DB.PingContext`.
-    Ping,
-    /// `DB.Close`.
-    DbClose,
-    /// `DB.Stats`.
-    Stats,
-}
 
 /// A limit that can be set.
 #[derive(Clone, Copy)]
@@ -43,33 +15,102 @@ pub enum Setting {
     MaxIdleTime,
 }
 
-/// What comes to the layer from outside beside the calls of clients.
+/// An input from outside other than a client's call.
 #[derive(Clone, Copy)]
 pub enum Control {
-    /// The present moment, in nanoseconds; time never goes back, so an earlier one counts as the present one.
+    /// The present moment, in nanoseconds. Time never goes back: an earlier moment counts as the present one.
     Tick(u64),
-    /// A limit, and the number that it is set to.
+    /// A limit, and the number to which it is set.
     Set(Setting, i64),
 }
 
-/// One thing that happened in a run.
+/// The object that a call is made on: the database, or the transaction with a label.
+#[derive(Drop)]
+pub enum Target {
+    Db,
+    Label(Txt),
+}
+
+/// An operation that a client asks of the layer. Labels name transactions and the rows that queries hand out.
+#[derive(Drop)]
+pub enum Op {
+    /// `ExecContext` of `DB` or `Tx`, with a text and arguments.
+    Exec {
+        target: Target,
+        text: Txt,
+        args: Args,
+    },
+    /// `QueryContext` of `DB` or `Tx`, with a text and arguments. Its rows get this label.
+    Query {
+        label: Txt,
+        target: Target,
+        text: Txt,
+        args: Args,
+    },
+    /// `QueryRowContext` of `DB` or `Tx`, with a text and arguments, and `Row.Scan` into destinations.
+    One {
+        target: Target,
+        dests: Dests,
+        text: Txt,
+        args: Args,
+    },
+    /// `Rows.Next`.
+    Next {
+        rows: Txt,
+    },
+    /// `Rows.Scan` into destinations.
+    Scan {
+        rows: Txt,
+        dests: Dests,
+    },
+    /// `Rows.Close`.
+    RowsClose {
+        rows: Txt,
+    },
+    /// `Rows.Err`.
+    Err {
+        rows: Txt,
+    },
+    /// `DB.BeginTx` with `sql.TxOptions`. The transaction gets this label.
+    Begin {
+        label: Txt,
+        level: Level,
+        read_only: bool,
+    },
+    /// `Tx.Commit`.
+    Commit {
+        tx: Txt,
+    },
+    /// `Tx.Rollback`.
+    Rollback {
+        tx: Txt,
+    },
+    /// `DB.PingContext`.
+    Ping,
+    /// `DB.Close`.
+    DbClose,
+    /// `DB.Stats`.
+    Stats,
+}
+
+/// An event of a run.
 #[derive(Drop)]
 pub enum Event {
     /// The run began.
     Run { version: u8, caps: Caps },
-    /// A client's call was entered; calls are numbered from 1.
+    /// A client's call entered. Calls are numbered from 1.
     Entered { client: u8, n: u32, op: Op },
-    /// A driver answered.
+    /// A driver answered a driver call.
     Heard(Entry),
-    /// A connection moved.
+    /// The pool moved a connection.
     Pool(Move),
-    /// A call begins to wait for a connection.
+    /// A call began to wait for a connection.
     Waits(u32),
-    /// The present moment is this one, in nanoseconds.
+    /// The clock was set to this moment, in nanoseconds.
     Ticked(u64),
     /// A limit was set to this number.
     SetLimit(Setting, i64),
-    /// A call was answered.
+    /// The layer replied to a call.
     Replied { n: u32, reply: Reply },
     /// The run ended.
     Ended,

@@ -1,49 +1,50 @@
 use crate::reply::Reply;
-use dsql_driver::DriverAnswer;
-use dsql_value::{Params, Txt};
+use dsql_history_work::{DriverAnswer, Params, Txt};
 
-/// A try of a call to get a connection.
+/// The outcome of a call's try to get a connection.
 #[derive(Drop)]
 pub enum Try {
-    /// A connection was lent to it.
+    /// The pool lent the call a connection.
     Served,
-    /// The connection that was lent to it turned out to be bad before anything was decided.
+    /// The pool lent the call a connection that turned out to be bad before anything was decided.
     Lost,
-    /// One couldn't be opened, and the driver's answer fell to it.
+    /// The driver couldn't open a connection for the call, and its answer fell to the call.
     Refused(DriverAnswer),
 }
 
-/// A driver call that is under way: the call that sent it, and the connection on which it is made.
+/// A driver call that is under way: the call that sent it, and the connection on which the layer makes it.
 #[derive(Clone, Copy, Debug, PartialEq, Eq)]
 pub struct Flight {
     pub call: u32,
     pub conn: u32,
 }
 
-/// Where an unfinished call is between two steps.
+/// Where an unfinished call stands between two steps.
 #[derive(Clone, Copy, Debug, PartialEq, Eq)]
 pub enum Stand {
-    /// It waits for a connection.
+    /// The call waits for a connection.
     Waits,
-    /// This connection is being opened for it.
+    /// This connection is being opened for the call.
     Opens(u32),
-    /// A driver call of it is made on this connection, or is to be made once the turn is free.
+    /// A driver call of the call is under way on this connection, or starts as soon as the turn there is free.
     Sends(u32),
-    /// Others have settled what it replies, at its next step.
+    /// The call replies at its next step. Others have settled its reply, or it rests with a connection on which
+    /// it has nothing to send.
     Replies,
-    /// A connection that was to be opened for it was bad, and it asks again at its next step.
+    /// The call asks for a connection again at its next step, because the one to be opened for it was bad.
     Asks,
 }
 
-/// How far a call has come.
+/// The state of a call.
 #[derive(Drop)]
 pub struct CallRecord {
-    /// The client who made it.
+    /// The client that made it.
     pub client: u8,
     /// The text of its statement.
     pub text: Txt,
-    /// The parameters that its arguments become, if none is refused.
+    /// The parameters that its arguments become, if none of them is refused.
     pub params: Params,
-    /// The reply that it has settled itself: as it enters, where it sends nothing, else by its deciding answer.
+    /// The reply that the call itself has settled: as it enters, if it sends nothing, otherwise by its deciding
+    /// answer.
     pub decided: Option<Reply>,
 }

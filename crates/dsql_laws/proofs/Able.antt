@@ -1,36 +1,38 @@
--- Each move that the pool decides on can be made when its turn comes.
+-- Proves that each move which the pool decides on can be made when its turn comes. The argument takes each way
+-- to decide on moves in turn.
 use Rattle.std.proofs.Common.{◌≡◌, ℕ, zero, suc, ◌+◌, ◌-◌, ◌≤◌, ◌==◌, nat_lt, Bool, true, false, not, ◌&&◌, ◌||◌, cond, List, [], ◌∷◌, ◌++◌, length, map, append-nil, Option, Some, None, refl, sym, ap, subst, ◌∙◌, arith}
 use Rattle.std.specs.Prelude.{ℤ, drop, take}
 use Rattle.std.specs.List.{list_all}
 use Rattle.std.specs.Option.{option_map}
 use Rattle.std.proofs.lemmas.Bool.Decides.{nat_tests}
 use Rattle.std.proofs.lemmas.List.{take-append-drop, length-append}
-use Rattle.dsql_journal.specs.declared.entry.Entry.{Entry}
-use Rattle.dsql_journal.specs.Journal.{is_whole}
-use Rattle.dsql_wait.specs.declared.request.Request.{Request}
-use Rattle.dsql_pool.specs.declared.conn.Conn.{Conn}
-use Rattle.dsql_pool.specs.declared.conn.Place.{Place}
-use Rattle.dsql_pool.specs.declared.conn.Place.TheVariants.{Idle, Lent, Opening, Closing}
-use Rattle.dsql_pool.specs.declared.moves.CloseCause.{CloseCause}
-use Rattle.dsql_pool.specs.declared.moves.CloseCause.TheVariants.{IdleFull, DbClosed}
-use Rattle.dsql_pool.specs.declared.moves.Move.{Move}
-use Rattle.dsql_pool.specs.declared.moves.Move.TheVariants.{OpenStart, Lend, Back, CloseStart, Gone, Fell}
-use Rattle.dsql_pool.specs.declared.moves.Outcome.{Outcome}
-use Rattle.dsql_pool.specs.declared.moves.Outcome.TheVariants.{Closes, Serves, Rests}
-use Rattle.dsql_pool.specs.Changes.{opening, back, closing, unwanted}
-use Rattle.dsql_pool.specs.Places.{conn_of, is_lent, is_idle, is_opening, is_closing}
-use Rattle.dsql_journal.specs.Kinds.{number_of}
-use Rattle.dsql_pool.specs.Pooled.{Pooled, place_at, next_tenure, next_number, open_count, most_allowed, without}
-use Rattle.dsql_pool.specs.Rest.{times}
-use Rattle.dsql_pool.specs.Moved.{made, moved, begun, shut}
-use Rattle.dsql_pool.specs.Decisions.{closings_of_setting, closings_of_tick, falls_to, openings, openings_for_waiting, due_openings, lends_to_oldest, moves_back, moves_unwanted, when_unwanted, when_opened}
-use Rattle.dsql_pool.specs.Calls.{then_openings, moves_failed, moves_gone, moves_closed, open_set, idle_set}
-use Rattle.dsql_pool.proofs.Found.{found_changed, lends_stay}
-use Rattle.dsql_pool.proofs.Placed.{Placed, placed_away, placed_map}
+use Rattle.dsql_history.specs.journal.declared.entry.Entry.{Entry}
+use Rattle.dsql_history.specs.journal.Journal.{is_whole}
+use Rattle.dsql_history.specs.wait.declared.request.Request.{Request}
+use Rattle.dsql_history.specs.pool.declared.conn.Conn.{Conn}
+use Rattle.dsql_history.specs.pool.declared.conn.Place.{Place}
+use Rattle.dsql_history.specs.pool.declared.conn.Place.TheVariants.{Idle, Lent, Opening, Closing}
+use Rattle.dsql_history.specs.pool.declared.moves.CloseCause.{CloseCause}
+use Rattle.dsql_history.specs.pool.declared.moves.CloseCause.TheVariants.{IdleFull, DbClosed}
+use Rattle.dsql_history.specs.pool.declared.moves.Move.{Move}
+use Rattle.dsql_history.specs.pool.declared.moves.Move.TheVariants.{OpenStart, Lend, Back, CloseStart, Gone, Fell}
+use Rattle.dsql_history.specs.pool.declared.moves.Outcome.{Outcome}
+use Rattle.dsql_history.specs.pool.declared.moves.Outcome.TheVariants.{Closes, Serves, Rests}
+use Rattle.dsql_history.specs.pool.Changes.{opening, back, closing, unwanted}
+use Rattle.dsql_history.specs.pool.Places.{conn_of, is_lent, is_idle, is_opening, is_closing}
+use Rattle.dsql_history.specs.journal.Kinds.{number_of}
+use Rattle.dsql_history.specs.pool.Pooled.{Pooled, place_at, next_tenure, next_number, open_count, most_allowed, without}
+use Rattle.dsql_history.specs.pool.Rest.{times}
+use Rattle.dsql_history.specs.pool.Moved.{made, moved, begun, shut}
+use Rattle.dsql_history.specs.pool.Decisions.{closings_of_setting, closings_of_tick, falls_to, openings, openings_for_waiting, due_openings, lends_to_oldest, moves_back, moves_unwanted, when_unwanted, when_opened}
+use Rattle.dsql_history.specs.pool.Calls.{then_openings, moves_failed, moves_gone, moves_closed, open_set, idle_set}
+use Rattle.dsql_history.proofs.pool.Found.{found_changed, lends_stay}
+use Rattle.dsql_history.proofs.pool.Placed.{Placed, placed_away, placed_map}
 use Rattle.dsql_laws.proofs.Tests.{both, together, same_itself}
 use Rattle.dsql_laws.proofs.Outdated.{close_idle, outdated_close}
 
--- The move can be made now, of a connection that isn't lent. One that leaves the four sets has a whole journal.
+-- Is true if the move can be made at present and doesn't take a connection away from an owner. A move by which
+-- a connection leaves the four sets also needs a whole journal.
 abbrev pub is_able : (ℕ → List Entry) → Pooled → Move → Bool
 is_able J p (OpenStart c n) = (c == next_number p) && nat_lt (open_count p) (most_allowed p)
 is_able J p (Lend c t o n) = (is_idle (place_at p c) || is_opening (place_at p c)) && ((t == next_tenure p c) && (n == number_of o))
@@ -39,12 +41,12 @@ is_able J p (CloseStart c why) = is_idle (place_at p c) || is_opening (place_at 
 is_able J p (Gone c) = is_closing (place_at p c) && is_whole (J c)
 is_able J p (Fell c n) = is_opening (place_at p c) && is_whole (J c)
 
--- each can when its turn comes
+-- Is true if each of these moves can be made when its turn comes.
 abbrev pub are_able : (ℕ → List Entry) → List Move → Pooled → Bool
 are_able J [] p = true
 are_able J (m ∷ ms) p = is_able J p m && are_able J ms (moved m p)
 
--- the request is its owner's
+-- Is true if the request's call number is its owner's.
 abbrev pub is_own_request : Request → Bool
 is_own_request r = r.call == number_of r.owner
 
@@ -71,7 +73,7 @@ then_able J ms p h =
     let q = made ms p in
     able-append J ms (openings_for_waiting q) p h (openings_able J (due_openings q) (next_number q) q refl (omega arith))
 
--- idle connections that begin to be closed, the longest idle first
+-- Idle connections begin to be closed, the longest idle first.
 
 pub placed_once : (b : Bool) (n : ℕ) → suc n ≡ cond {A = ℕ} b 1 0 → (b ≡ true) × (n ≡ 0)
 placed_once true n h = (refl, omega (arith, h))
@@ -136,7 +138,7 @@ stays_idle x = at x.place refl
 pub closed_able : (J : ℕ → List Entry) (p : Pooled) → Placed p.idle p.conns → are_able J (moves_closed p) (shut p) ≡ true
 closed_able J p h = closings_able J DbClosed p.idle [] (shut p) (sym (append-nil p.idle)) (placed_map unwanted keeps_number stays_idle p.idle p.conns h)
 
--- connections that are opened, refused, shut or given back
+-- Connections are opened, refused, shut or given back.
 
 oldest_able : (J : ℕ → List Entry) (c t : ℕ) (p : Pooled) (rs : List Request) → list_all is_own_request rs ≡ true → (is_idle (place_at p c) || is_opening (place_at p c)) ≡ true → t ≡ next_tenure p c → are_able J (lends_to_oldest c t rs) p ≡ true
 oldest_able J c t p [] own from tenure = refl
@@ -189,7 +191,7 @@ abbrev head_or : Move → List Move → Move
 head_or d [] = d
 head_or d (x ∷ xs) = x
 
--- what comes after the first move of a connection that is given back
+-- As a connection is given back, the moves after the first can be made when their turn comes.
 pub back_able : (J : ℕ → List Entry) (c : ℕ) (p : Pooled) (o : Outcome) (m : Move) (ms : List Move) → moves_back c p o ≡ m ∷ ms → list_all is_own_request p.waiting ≡ true → is_lent (place_at p c) ≡ true → are_able J ms (moved m p) ≡ true
 back_able J c p (Closes why) m ms is own h = subst (λ ns. are_able J ns (moved m p) ≡ true) (ap (drop 1) is) refl
 back_able J c p Rests m ms is own h = subst (λ ns. are_able J ns (moved m p) ≡ true) (ap (drop 1) is) refl

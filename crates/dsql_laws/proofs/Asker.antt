@@ -1,18 +1,19 @@
--- What holds of a call that may ask for a connection.
+-- Proves what holds of a call that may ask for a connection.
 use Rattle.std.proofs.Common.{◌≡◌, ℕ, Bool, true, false, not, ◌&&◌, List, Option, Some, None, is_none, refl}
-use Rattle.dsql_pool.specs.Calls.{wants}
-use Rattle.dsql_work.specs.Works as works
+use Rattle.dsql_history.specs.pool.Calls.{wants}
+use Rattle.dsql_history.specs.Readers.Pool.{smallest, is_home, pool}
+use Rattle.dsql_history.specs.Readers.Tries.{has_a_try, tries}
 use Rattle.dsql_history.specs.declared.event.Event.{Event}
+use Rattle.dsql_history.specs.Readers.Works as works
 use Rattle.dsql_history.specs.Readers.Calls.{reply_due}
 use Rattle.dsql_history.specs.Readers.HandedOut.{rows_by}
-use Rattle.dsql_history.specs.Readers.Pool.{pool, smallest, is_home}
-use Rattle.dsql_history.specs.Readers.Tries.{tries, has_a_try}
 use Rattle.dsql_history.specs.Readers.Unfinished.{is_unfinished}
 use Rattle.dsql_history.specs.Readers.Works.{work}
 use Rattle.dsql_history.specs.Rules.Asking.{may_try, may_ask}
 use Rattle.dsql_laws.proofs.Tests.{both}
 
--- it has no reply, works on a connection of its own, has a try left, and has nothing in the pool; and nothing is settled that it replies
+-- Holds if the call has no reply, works on a connection of its own, and has a try left. It has nothing in the
+-- pool, and its reply isn't settled.
 pub record Asker (H : List Event) (n : ℕ) : Type 0 where
   pub unfinished : is_unfinished H n ≡ true
   pub own : works.asks (work H n) ≡ true

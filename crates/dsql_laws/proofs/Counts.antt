@@ -1,20 +1,19 @@
--- How many connections and requests pass a test, under each change.
+-- Counts the connections and the requests that pass a test, before and after each change.
 use Rattle.std.proofs.Common.{◌≡◌, ℕ, ◌+◌, ◌≤◌, ◌==◌, Bool, true, false, not, ◌||◌, cond, List, [], ◌∷◌, ◌++◌, map, Option, Some, None, refl, ap, ◌∙◌, arith}
 use Rattle.std.specs.Prelude.{count_by, find}
-use Rattle.std.specs.List.{list_any}
 use Rattle.std.specs.Option.{option_map}
 use Rattle.std.proofs.lemmas.List.Sums.{sum_by-cons, sum_by-append}
-use Rattle.dsql_wait.specs.declared.request.Request.{Request}
-use Rattle.dsql_wait.specs.Requests.{waits, without_call}
-use Rattle.dsql_pool.specs.declared.conn.Conn.{Conn}
-use Rattle.dsql_pool.specs.Places.{conn_of}
-use Rattle.dsql_pool.specs.Changes.{changed, gone}
-use Rattle.dsql_pool.proofs.Frees.{passing, count-cons, count-changed}
+use Rattle.dsql_history.specs.wait.declared.request.Request.{Request}
+use Rattle.dsql_history.specs.wait.Requests.{waits, without_call}
+use Rattle.dsql_history.specs.pool.declared.conn.Conn.{Conn}
+use Rattle.dsql_history.specs.pool.Places.{conn_of}
+use Rattle.dsql_history.specs.pool.Changes.{changed, gone}
+use Rattle.dsql_history.proofs.pool.Frees.{passing, count-cons, count-changed}
 
 abbrev one_if : Bool → ℕ
 one_if b = cond b 1 0
 
--- requests
+-- The requests.
 
 abbrev pub is_of_call : ℕ → Request → Bool
 is_of_call n r = r.call == n
@@ -28,7 +27,7 @@ request-more n r rs =
     let last = request-cons n r [] in
     omega (arith, split, last)
 
--- all requests of the call leave
+-- Without a call's requests, none of that call is left.
 pub left_none : (n : ℕ) (rs : List Request) → count_by (is_of_call n) (without_call n rs) ≡ 0
 left_none n [] = refl
 left_none n (r ∷ rs) =
@@ -66,7 +65,7 @@ waits_some n (r ∷ rs) h =
       | false ↦ λ is k. let rest = waits_some n rs k in omega (arith, split, rest)
     ] refl h
 
--- connections
+-- The connections.
 
 pub passing_one : (q : Conn → Bool) (o : Option Conn) → passing q o ≤ 1
 passing_one q None = omega arith
@@ -76,7 +75,7 @@ mapped_none : (q : Conn → Bool) (f : Conn → Conn) (o : Option Conn) → ((x 
 mapped_none q f None h = refl
 mapped_none q f (Some x) h = ap one_if (h x)
 
--- where what is changed passes no longer
+-- If no changed connection passes the test, a change doesn't raise the count.
 pub changed_fewer : (q : Conn → Bool) (c : ℕ) (f : Conn → Conn) (conns : List Conn) → ((x : Conn) → q (f x) ≡ false) → count_by q (changed c f conns) ≤ count_by q conns
 changed_fewer q c f conns h =
     let change = count-changed q c f conns in
@@ -89,7 +88,7 @@ changed_one_more q c f conns =
     let most = passing_one q (option_map f (conn_of c conns)) in
     omega (arith, change, most)
 
--- where the one that is changed passed before
+-- If the connection passed the test before, its change doesn't raise the count.
 pub changed_same : (q : Conn → Bool) (c : ℕ) (f : Conn → Conn) (conns : List Conn) → passing q (conn_of c conns) ≡ 1 → count_by q (changed c f conns) ≤ count_by q conns
 changed_same q c f conns here =
     let change = count-changed q c f conns in
@@ -113,19 +112,7 @@ mapped_fewer q f (x ∷ xs) h =
     let after = count-cons q (f x) (map f xs) in
     omega (arith, rest, here, before, after)
 
--- where none passes a test, all that pass a second one pass a third
-pub passes_else : (q r s : Conn → Bool) (conns : List Conn) → ((x : Conn) → q x ≡ false → one_if (r x) ≤ one_if (s x)) → list_any q conns ≡ false → count_by r conns ≤ count_by s conns
-passes_else q r s [] h none = omega arith
-passes_else q r s (x ∷ xs) h none =
-    let here = h x in
-    let left = count-cons r x xs in
-    let right = count-cons s x xs in
-    elim (q x) as (λ b. (b ≡ false → one_if (r x) ≤ one_if (s x)) → (b || list_any q xs) ≡ false → count_by r (x ∷ xs) ≤ count_by s (x ∷ xs)) [
-      | true ↦ λ k m. absurd cc
-      | false ↦ λ k m. let first = k refl in let rest = passes_else q r s xs h m in omega (arith, first, rest, left, right)
-    ] here none
-
--- what isn't found isn't counted
+-- What isn't found isn't counted.
 
 pub unmapped : {A B : Type 0} (f : A → B) (o : Option A) → option_map f o ≡ None → o ≡ None
 unmapped f None h = refl

@@ -1,4 +1,4 @@
--- What is computed is what the definitions say.
+-- Proves that the computed tests say what the definitions say. Each test is taken apart into its rules.
 use Rattle.std.proofs.Common.{◌≡◌, ◌↔◌, Bool, true, false, not, ◌&&◌, ◌||◌, List, [], ◌∷◌, refl}
 use Rattle.dsql_history.specs.declared.event.Event.{Event}
 use Rattle.dsql_history.specs.Readers.Course.{has_begun}
@@ -89,7 +89,8 @@ is_calm_of (e ∷ before) h =
 pub calm_computed : (history : List Event) → (is_calm history ≡ true) ↔ Calm history
 calm_computed history = (calm_of history, is_calm_of history)
 
--- the journals of a lawful history are kept without being asked for
+-- A history that passes the test is legal. No test of its journals is needed, because those of a lawful history
+-- are kept.
 legal_of : (history : List Event) → is_legal history ≡ true → Legal history
 legal_of history h =
     let a = both (has_begun history) (is_lawful history && (is_calm history && is_settled history)) h in

@@ -1,57 +1,58 @@
--- Each lending that the pool owes is to a call that waits, or for which the connection was opened.
-use Rattle.std.proofs.Common.{◌≡◌, ℕ, zero, suc, ◌+◌, ◌==◌, ◌-◌, Bool, true, false, ◌||◌, cond, List, [], ◌∷◌, length, map, Option, Some, None, refl, sym, ap, subst, ◌∙◌, ◌⊎◌, inl, inr, arith}
+-- Proves that each lending which the pool owes goes to a call that waits, or for which the connection was
+-- opened.
+use Rattle.std.proofs.Common.{◌≡◌, ℕ, Bool, true, List, [], ◌∷◌, ◌⊎◌, zero, suc, ◌+◌, ◌==◌, ◌-◌, false, ◌||◌, cond, length, map, Option, Some, None, refl, sym, ap, subst, ◌∙◌, inl, inr, arith}
+use Rattle.dsql_history.specs.wait.Requests.{waits}
+use Rattle.dsql_history.specs.pool.declared.conn.Conn.{Conn}
+use Rattle.dsql_history.specs.pool.declared.moves.Move.{Move}
+use Rattle.dsql_history.specs.pool.declared.moves.Move.TheVariants.{Lend, OpenStart, Back, CloseStart, Gone, Fell}
+use Rattle.dsql_history.specs.pool.Places.{conn_of}
+use Rattle.dsql_history.specs.pool.Pooled.{Pooled, place_at, next_tenure, next_number}
+use Rattle.dsql_history.specs.pool.Moved.{moved, made, shut, ticked}
+use Rattle.dsql_history.proofs.pool.Frees.{passing}
+use Rattle.dsql_history.specs.Readers.Pool.{place, is_home, with_control, pool, with_move}
 use Rattle.std.specs.Prelude.{drop, take}
 use Rattle.std.specs.List.{list_all}
 use Rattle.std.specs.Option.{option_map}
 use Rattle.std.proofs.lemmas.Bool.Decides.{nat_tests}
 use Rattle.std.proofs.lemmas.List.Folds.{list_all-append}
-use Rattle.dsql_driver.specs.declared.answer.DriverAnswer.{DriverAnswer}
-use Rattle.dsql_driver.specs.Fits.{is_done}
-use Rattle.dsql_journal.specs.declared.entry.Owner.{Owner}
-use Rattle.dsql_wait.specs.declared.request.Request.{Request}
-use Rattle.dsql_wait.specs.Requests.{waits}
-use Rattle.dsql_pool.specs.declared.conn.Conn.{Conn}
-use Rattle.dsql_pool.specs.declared.conn.Place.{Place}
-use Rattle.dsql_pool.specs.declared.conn.Place.TheVariants.{Idle, Lent, Opening, Closing}
-use Rattle.dsql_pool.specs.declared.moves.CloseCause.{CloseCause}
-use Rattle.dsql_pool.specs.declared.moves.CloseCause.TheVariants.{IdleFull, DbClosed}
-use Rattle.dsql_pool.specs.declared.moves.Move.{Move}
-use Rattle.dsql_pool.specs.declared.moves.Move.TheVariants.{OpenStart, Lend, Back, CloseStart, Gone, Fell}
-use Rattle.dsql_pool.specs.declared.moves.Outcome.{Outcome}
-use Rattle.dsql_pool.specs.declared.moves.Outcome.TheVariants.{Closes, Serves, Rests}
-use Rattle.dsql_pool.specs.Places.{conn_of, is_lent}
-use Rattle.dsql_journal.specs.Kinds.{number_of}
-use Rattle.dsql_pool.specs.Pooled.{Pooled, place_at, next_tenure, next_number}
-use Rattle.dsql_pool.specs.Moved.{made, moved, shut, ticked}
-use Rattle.dsql_pool.specs.Decisions.{closings_of_setting, falls_to, openings, due_openings, lends_to_oldest, moves_back, moves_unwanted, when_given_back, when_unwanted, when_opened}
-use Rattle.dsql_pool.specs.Calls.{then_openings, moves_opened, moves_failed, open_set, idle_set, lifetime_set, idle_time_set}
-use Rattle.dsql_pool.proofs.Frees.{passing}
-use Rattle.dsql_history.specs.declared.event.Event.{Event}
-use Rattle.dsql_history.specs.declared.event.Event.TheVariants.{Run, Entered, Heard, Pool, Waits, Ticked, SetLimit, Replied, Ended}
-use Rattle.dsql_history.specs.declared.event.Op.TheVariants.{Exec, Query, One, Next, Scan, RowsClose, Err, Ping, DbClose, Stats}
+use Rattle.dsql_history.specs.driver.declared.answer.DriverAnswer.{DriverAnswer}
+use Rattle.dsql_history.specs.driver.Fits.{is_done}
+use Rattle.dsql_history.specs.journal.declared.entry.Owner.{Owner}
+use Rattle.dsql_history.specs.wait.declared.request.Request.{Request}
+use Rattle.dsql_history.specs.pool.declared.conn.Place.{Place}
+use Rattle.dsql_history.specs.pool.declared.conn.Place.TheVariants.{Idle, Lent, Opening, Closing}
+use Rattle.dsql_history.specs.pool.declared.moves.CloseCause.{CloseCause}
+use Rattle.dsql_history.specs.pool.declared.moves.CloseCause.TheVariants.{IdleFull, DbClosed}
+use Rattle.dsql_history.specs.pool.declared.moves.Outcome.{Outcome}
+use Rattle.dsql_history.specs.pool.declared.moves.Outcome.TheVariants.{Serves}
+use Rattle.dsql_history.specs.journal.Kinds.{number_of}
+use Rattle.dsql_history.specs.pool.Decisions.{closings_of_setting, falls_to, openings, due_openings, lends_to_oldest, moves_back, moves_unwanted, when_given_back, when_unwanted, when_opened}
+use Rattle.dsql_history.specs.pool.Calls.{then_openings, moves_opened, moves_failed, open_set, idle_set, lifetime_set, idle_time_set}
 use Rattle.dsql_history.specs.declared.event.Control.{Control}
 use Rattle.dsql_history.specs.declared.event.Setting.TheVariants.{MaxOpen, MaxIdle, MaxLife, MaxIdleTime}
 use Rattle.dsql_history.specs.declared.event.Control.TheVariants.{Tick, Set}
 use Rattle.dsql_history.specs.Same.{is_first}
-use Rattle.dsql_history.specs.Readers.Pool.{pool, place, with_move, with_control, is_home}
-use Rattle.dsql_history.specs.Readers.Owed.{fate, given_back, answered, controlled, leaving, left_of, owed}
+use Rattle.dsql_history.specs.Readers.Owed.{answered, controlled, fate, given_back, leaving, left_of, owed}
+use Rattle.dsql_history.specs.declared.event.Event.{Event}
+use Rattle.dsql_history.specs.declared.event.Event.TheVariants.{Entered, Heard, Pool, Ticked, SetLimit, Ended}
+use Rattle.dsql_history.specs.declared.event.Op.TheVariants.{DbClose}
 use Rattle.dsql_history.specs.Rules.Order.{follows}
 use Rattle.dsql_history.specs.Rules.Causes.{is_owed, is_given_back}
 use Rattle.dsql_history.specs.Legal.{Lawful}
 use Rattle.dsql_laws.proofs.Tests.{both, second, together, move_is}
 use Rattle.dsql_laws.proofs.Outdated.{outdated_all}
 use Rattle.dsql_laws.proofs.OwedMoves.{is_own, are_own, own_moved, owed_own}
-use Rattle.dsql_laws.proofs.AtRest.{Keeps, keeps_of, owes}
+use Rattle.dsql_laws.proofs.AtRest.{Keeps, keeps_of, owes, given_so}
 
--- it is lent to call n or being opened for it
+-- Is true if the connection is lent to call n or is being opened for it.
 abbrev pub is_home_of : ℕ → Conn → Bool
 is_home_of n x = is_home n x.place
 
--- call n waits, or connection c is being opened for it
+-- Holds if call n waits, or connection c is lent to it or is being opened for it.
 abbrev pub Deserves : ℕ → ℕ → Pooled → Type 0
 Deserves c n p = (waits n p.waiting ≡ true) ⊎ (passing (is_home_of n) (conn_of c p.conns) ≡ 1)
 
--- each lending among these moves is deserved when its turn comes
+-- Holds if each lending among these moves is deserved when its turn comes.
 abbrev pub AllDeserved : List Move → Pooled → Type 0
 AllDeserved [] p = Unit {0}
 AllDeserved (Lend c t o n ∷ ms) p = Deserves c n p × AllDeserved ms (moved (Lend c t o n) p)
@@ -59,11 +60,7 @@ AllDeserved (m ∷ ms) p = AllDeserved ms (moved m p)
 
 after_first : (m : Move) (ms : List Move) (p : Pooled) → AllDeserved (m ∷ ms) p → AllDeserved ms (moved m p)
 after_first (Lend c t o n) ms p h = h.1
-after_first (OpenStart c n) ms p h = h
-after_first (Back c) ms p h = h
-after_first (CloseStart c why) ms p h = h
-after_first (Gone c) ms p h = h
-after_first (Fell c n) ms p h = h
+after_first _ ms p h = h
 
 abbrev is_no_lending : Move → Bool
 is_no_lending (Lend c t o n) = false
@@ -75,11 +72,7 @@ are_no_lendings ms = list_all is_no_lending ms
 without_lendings : (ms : List Move) (p : Pooled) → are_no_lendings ms ≡ true → AllDeserved ms p
 without_lendings [] p h = tt
 without_lendings (Lend c t o n ∷ ms) p h = absurd cc
-without_lendings (OpenStart c n ∷ ms) p h = without_lendings ms (moved (OpenStart c n) p) h
-without_lendings (Back c ∷ ms) p h = without_lendings ms (moved (Back c) p) h
-without_lendings (CloseStart c why ∷ ms) p h = without_lendings ms (moved (CloseStart c why) p) h
-without_lendings (Gone c ∷ ms) p h = without_lendings ms (moved (Gone c) p) h
-without_lendings (Fell c n ∷ ms) p h = without_lendings ms (moved (Fell c n) p) h
+without_lendings (e ∷ ms) p h = without_lendings ms (moved e p) h
 
 openings_lend_none : (k c : ℕ) → are_no_lendings (openings k c) ≡ true
 openings_lend_none zero c = refl
@@ -108,14 +101,12 @@ oldest_deserved c t p (r ∷ rs) is =
     (inl (ap (λ qs. waits r.call qs) is ∙ first), tt)
 
 unwanted_deserved : (c : ℕ) (p : Pooled) (o : Outcome) → AllDeserved (moves_unwanted c p o) p
-unwanted_deserved c p (Closes why) = tt
 unwanted_deserved c p Serves = oldest_deserved c (next_tenure p c) p p.waiting refl
-unwanted_deserved c p Rests = tt
+unwanted_deserved c p _ = tt
 
 back_deserved : (c : ℕ) (p : Pooled) (o : Outcome) → AllDeserved (moves_back c p o) p
-back_deserved c p (Closes why) = tt
 back_deserved c p Serves = oldest_deserved c (next_tenure p c) (moved (Back c) p) p.waiting refl
-back_deserved c p Rests = tt
+back_deserved c p _ = tt
 
 abbrev place_or : Option Place → Place
 place_or None = Idle
@@ -158,10 +149,10 @@ rest_deserved (k ∷ ms) m p is h = subst (λ j. AllDeserved ms (moved j p)) (mo
 
 leaving_deserved : (H : List Event) (c : ℕ) (m : Move) → is_given_back H c m ≡ true → AllDeserved (drop 1 (given_back H c)) (moved m (pool H))
 leaving_deserved H c m is =
-    let a = both (is_lent (place H c)) (is_first (given_back H c) m) is in
+    let a = given_so H c m is in
     rest_deserved (given_back H c) m (pool H) a.1 (back_deserved c (pool H) (when_given_back (fate H c) c (pool H)))
 
-unowed_deserved : (H : List Event) (m : Move) → Keeps H (Pool m) → owed H ≡ [] → AllDeserved (drop 1 (leaving H m)) (with_move m (pool H))
+unowed_deserved : (H : List Event) (m : Move) → Keeps H (Pool m) → owed H ≡ [] → AllDeserved (drop 1 (leaving H m)) (with_move H m (pool H))
 unowed_deserved H (Back c) k none = leaving_deserved H c (Back c) (second (is_owed H) (is_given_back H c (Back c)) (owes H none) k.causes)
 unowed_deserved H (CloseStart c why) k none = leaving_deserved H c (CloseStart c why) (second (is_owed H) (is_given_back H c (CloseStart c why)) (owes H none) k.causes)
 unowed_deserved H (OpenStart c n) k none = tt
@@ -169,32 +160,21 @@ unowed_deserved H (Lend c t o n) k none = tt
 unowed_deserved H (Gone c) k none = tt
 unowed_deserved H (Fell c n) k none = tt
 
-move_deserved : (H : List Event) (m : Move) (ms : List Move) → Keeps H (Pool m) → owed H ≡ ms → are_own ms ≡ true → AllDeserved ms (pool H) → AllDeserved (left_of H m ms) (with_move m (pool H))
+move_deserved : (H : List Event) (m : Move) (ms : List Move) → Keeps H (Pool m) → owed H ≡ ms → are_own ms ≡ true → AllDeserved ms (pool H) → AllDeserved (left_of H m ms) (with_move H m (pool H))
 move_deserved H m [] k is own h = unowed_deserved H m k is
 move_deserved H m (due ∷ later) k is own h =
     let made_it : follows (due ∷ later) (Pool m) ≡ true = subst (λ ns. follows ns (Pool m) ≡ true) is k.order in
     let same : due ≡ m = move_is due m made_it in
     let a = both (is_own due) (are_own later) own in
-    let begun_so : with_move due (pool H) ≡ moved due (pool H) = own_moved due (pool H) a.0 in
-    subst (λ j. AllDeserved later (with_move j (pool H))) same (subst (λ q. AllDeserved later q) (sym begun_so) (after_first due later (pool H) h))
+    let begun_so : with_move H due (pool H) ≡ moved due (pool H) = own_moved H due (pool H) a.0 in
+    subst (λ j. AllDeserved later (with_move H j (pool H))) same (subst (λ q. AllDeserved later q) (sym begun_so) (after_first due later (pool H) h))
 
 pub deserved : (H : List Event) → Lawful H → AllDeserved (owed H) (pool H)
 deserved [] l = tt
-deserved (Run version can ∷ H) l = tt
 deserved (Entered client n DbClose ∷ H) l = without_lendings (owed (Entered client n DbClose ∷ H)) (shut (pool H)) (closings_lend_none DbClosed (shut (pool H)).idle)
-deserved (Entered client n (Exec text args) ∷ H) l = tt
-deserved (Entered client n (Query label text args) ∷ H) l = tt
-deserved (Entered client n (One dests text args) ∷ H) l = tt
-deserved (Entered client n (Next rows) ∷ H) l = tt
-deserved (Entered client n (Scan rows dests) ∷ H) l = tt
-deserved (Entered client n (RowsClose rows) ∷ H) l = tt
-deserved (Entered client n (Err rows) ∷ H) l = tt
-deserved (Entered client n Ping ∷ H) l = tt
-deserved (Entered client n Stats ∷ H) l = tt
 deserved (Heard e ∷ H) l = answered_deserved e.answer e.conn (pool H) (place H e.conn)
 deserved (Pool m ∷ H) l = move_deserved H m (owed H) (keeps_of H (Pool m) l.1) refl (owed_own H) (deserved H l.0)
-deserved (Waits n ∷ H) l = tt
 deserved (Ticked now ∷ H) l = control_deserved (Tick now) (pool H)
 deserved (SetLimit s n ∷ H) l = control_deserved (Set s n) (pool H)
-deserved (Replied n reply ∷ H) l = tt
 deserved (Ended ∷ H) l = without_lendings (owed (Ended ∷ H)) (shut (pool H)) (closings_lend_none DbClosed (shut (pool H)).idle)
+deserved (_ ∷ H) l = tt

@@ -1,34 +1,36 @@
--- The moves of a connection that is given back are allowed one after another.
-use Rattle.std.proofs.Common.{◌≡◌, ℕ, true, not, ◌||◌, List, [], ◌∷◌, refl, sym, ap, subst, ◌∙◌}
+-- Proves that the moves of a connection that is given back are allowed one after another. After the first move
+-- the others are owed, and owed moves are allowed.
+use Rattle.std.proofs.Common.{◌&&◌, ◌≡◌, ℕ, true, not, ◌||◌, List, [], ◌∷◌, refl, sym, ap, subst, ◌∙◌}
 use Rattle.std.specs.Prelude.{drop}
-use Rattle.dsql_journal.specs.Kinds.{is_call, number_of}
-use Rattle.dsql_pool.specs.declared.moves.CloseCause.{CloseCause}
-use Rattle.dsql_pool.specs.declared.moves.Move.{Move}
-use Rattle.dsql_pool.specs.declared.moves.Move.TheVariants.{Back, CloseStart}
-use Rattle.dsql_pool.specs.declared.moves.Outcome.{Outcome}
-use Rattle.dsql_pool.specs.declared.moves.Outcome.TheVariants.{Closes, Serves, Rests}
-use Rattle.dsql_pool.specs.Places.{is_idle, is_lent, is_opening}
-use Rattle.dsql_pool.specs.Pooled.{next_tenure}
-use Rattle.dsql_pool.specs.Moved.{made}
-use Rattle.dsql_pool.specs.Decisions.{lends_to_oldest, moves_back, when_given_back}
+use Rattle.dsql_history.specs.journal.Kinds.{is_house, number_of}
+use Rattle.dsql_history.specs.pool.declared.moves.CloseCause.{CloseCause}
+use Rattle.dsql_history.specs.pool.declared.moves.Move.{Move}
+use Rattle.dsql_history.specs.pool.declared.moves.Move.TheVariants.{Back, CloseStart}
+use Rattle.dsql_history.specs.pool.declared.moves.Outcome.{Outcome}
+use Rattle.dsql_history.specs.pool.declared.moves.Outcome.TheVariants.{Closes, Serves, Rests}
+use Rattle.dsql_history.specs.pool.Places.{is_idle, is_lent, is_opening}
+use Rattle.dsql_history.specs.pool.Pooled.{next_tenure}
+use Rattle.dsql_history.specs.pool.Moved.{made}
+use Rattle.dsql_history.specs.pool.Decisions.{lends_to_oldest, moves_back, when_given_back}
+use Rattle.dsql_history.specs.Same.{is_first}
 use Rattle.dsql_history.specs.declared.event.Event.{Event}
 use Rattle.dsql_history.specs.declared.event.Event.TheVariants.{Pool}
-use Rattle.dsql_history.specs.Same.{is_first}
 use Rattle.dsql_history.specs.Readers.Pool.{pool, place}
 use Rattle.dsql_history.specs.Readers.Owed.{fate, given_back, left_of, owed}
-use Rattle.dsql_history.specs.Rules.Causes.{is_owed, is_given_back}
+use Rattle.dsql_history.specs.Rules.Causes.{goes_in_turn, is_owed, is_given_back}
 use Rattle.dsql_history.specs.Rules.Course.{keeps_course}
 use Rattle.dsql_history.specs.Rules.Journals.{leaves_whole}
 use Rattle.dsql_history.specs.Rules.Line.{is_used, leaves_from}
 use Rattle.dsql_history.specs.Rules.Order.{follows, keeps_order}
 use Rattle.dsql_history.specs.Legal.{Allowed, Lawful}
-use Rattle.dsql_laws.specs.OwedMade.{with_moves}
-use Rattle.dsql_laws.specs.Leaving.{MayLeave}
 use Rattle.dsql_laws.proofs.Tests.{together, move_itself}
 use Rattle.dsql_laws.proofs.OwedMoves.{back_own}
-use Rattle.dsql_laws.proofs.OwedAllowed.{all_lawful, pool_made, or_second}
+use Rattle.dsql_laws.proofs.Truths.{or_second}
+use Rattle.dsql_laws.specs.OwedMade.{with_moves}
+use Rattle.dsql_laws.specs.Leaving.{MayLeave}
+use Rattle.dsql_laws.proofs.OwedAllowed.{all_lawful, pool_made}
 
--- nothing is lent before anything happened
+-- No connection is lent before the run began.
 begun_lending : (H : List Event) (c : ℕ) (m : Move) → is_lent (place H c) ≡ true → keeps_course H (Pool m) ≡ true
 begun_lending [] c m h = absurd cc
 begun_lending (e ∷ H) c m h = refl
@@ -39,7 +41,7 @@ none_owed H m none = ap (λ ms. follows ms (Pool m)) none
 leaves_line : (H : List Event) (c : ℕ) → MayLeave H c → leaves_from H (place H c) ≡ true
 leaves_line H c may =
     subst (λ at. leaves_from H at ≡ true) (sym may.lent)
-    (together (is_call may.owner) (not (is_used H (number_of may.owner))) may.call (ap not may.unused))
+    (together (not (is_house may.owner)) (not (is_used H (number_of may.owner))) (ap not may.owned) (ap not may.unused))
 
 leaves_journal : (H : List Event) (c : ℕ) → MayLeave H c → leaves_whole H c (place H c) ≡ true
 leaves_journal H c may = subst (λ at. leaves_whole H c at ≡ true) (sym may.lent) may.whole
@@ -50,7 +52,8 @@ lent_now H c may = ap is_lent may.lent
 cause_now : (H : List Event) (c : ℕ) (m : Move) (ms : List Move) → MayLeave H c → given_back H c ≡ m ∷ ms → (is_owed H || is_given_back H c m) ≡ true
 cause_now H c m ms may is =
     or_second (is_owed H) (is_given_back H c m)
-    (together (is_lent (place H c)) (is_first (given_back H c) m) (lent_now H c may) (ap (λ ns. is_first ns m) is ∙ move_itself m))
+    (together (is_lent (place H c)) (goes_in_turn H (place H c) && is_first (given_back H c) m) (lent_now H c may)
+    (together (goes_in_turn H (place H c)) (is_first (given_back H c) m) may.turn (ap (λ ns. is_first ns m) is ∙ move_itself m)))
 
 back_allowed : (H : List Event) (c : ℕ) (ms : List Move) → MayLeave H c → given_back H c ≡ Back c ∷ ms → Allowed H (Pool (Back c))
 unfolding Allowed
@@ -87,7 +90,7 @@ close_allowed H c why ms may is =
       replies = refl;
     }
 
--- after the first move the others are owed
+-- After the first move, the others are owed.
 back_owed : (H : List Event) (c : ℕ) (ms : List Move) → owed H ≡ [] → given_back H c ≡ Back c ∷ ms → owed (Pool (Back c) ∷ H) ≡ ms
 back_owed H c ms none is = ap (left_of H (Back c)) none ∙ ap (drop 1) is
 

@@ -1,65 +1,49 @@
--- A call has at most one thing in the pool: a request that waits, an opening, or a connection.
-use Rattle.std.proofs.Common.{◌≡◌, ◌≢◌, ℕ, ◌+◌, ◌≤◌, ◌==◌, Bool, true, false, not, ◌||◌, cond, List, [], ◌∷◌, Option, Some, None, refl, sym, ap, subst, ◌∙◌, ◌⊎◌, inl, inr, arith}
+-- Proves that a call has at most one thing in the pool: a request that waits, an opening, or a connection.
+use Rattle.std.proofs.Common.{◌≡◌, ◌≢◌, ℕ, ◌+◌, ◌≤◌, ◌==◌, Bool, true, false, not, cond, List, [], ◌∷◌, Option, Some, None, refl, sym, ap, subst, ◌∙◌, ◌⊎◌, inl, inr, arith}
 use Rattle.std.specs.Prelude.{find}
 use Rattle.std.specs.List.{list_any}
-use Rattle.dsql_journal.specs.declared.entry.Owner.{Owner}
-use Rattle.dsql_journal.specs.declared.entry.Owner.TheVariants.{Call}
-use Rattle.dsql_wait.specs.Requests.{waits}
-use Rattle.dsql_pool.specs.declared.conn.Conn.{Conn}
-use Rattle.dsql_pool.specs.declared.conn.Place.{Place}
-use Rattle.dsql_pool.specs.declared.conn.Place.TheVariants.{Idle, Lent, Opening, Closing}
-use Rattle.dsql_pool.specs.declared.moves.Move.{Move}
-use Rattle.dsql_pool.specs.declared.moves.Move.TheVariants.{OpenStart, Lend, Back, CloseStart, Gone, Fell}
-use Rattle.dsql_pool.specs.Changes.{opening, lent, back, closing, unwanted}
-use Rattle.dsql_pool.specs.Places.{is_for}
-use Rattle.dsql_journal.specs.Kinds.{number_of}
-use Rattle.dsql_pool.specs.Pooled.{Pooled, next_number}
-use Rattle.dsql_pool.specs.Moved.{moved, begun, joined, shut}
-use Rattle.dsql_pool.specs.Calls.{moves_asked}
-use Rattle.dsql_pool.proofs.Frees.{count-more}
-use Rattle.dsql_work.specs.Works as works
-use Rattle.dsql_history.specs.declared.event.Event.{Event}
-use Rattle.dsql_history.specs.declared.event.Event.TheVariants.{Run, Entered, Heard, Pool, Waits, Ticked, SetLimit, Replied, Ended}
-use Rattle.dsql_history.specs.declared.event.Op.TheVariants.{Exec, Query, One, Next, Scan, RowsClose, Err, Ping, DbClose, Stats}
+use Rattle.dsql_history.specs.journal.declared.entry.Owner.{Owner}
+use Rattle.dsql_history.specs.wait.Requests.{waits}
+use Rattle.dsql_history.specs.pool.declared.conn.Conn.{Conn}
+use Rattle.dsql_history.specs.pool.declared.conn.Place.{Place}
+use Rattle.dsql_history.specs.pool.declared.conn.Place.TheVariants.{Idle, Lent, Opening, Closing}
+use Rattle.dsql_history.specs.pool.declared.moves.Move.{Move}
+use Rattle.dsql_history.specs.pool.declared.moves.Move.TheVariants.{OpenStart, Lend, Back, CloseStart, Gone, Fell}
+use Rattle.dsql_history.specs.pool.Changes.{opening, lent, back, closing, unwanted}
+use Rattle.dsql_history.specs.pool.Places.{is_for}
+use Rattle.dsql_history.specs.journal.Kinds.{number_of}
+use Rattle.dsql_history.specs.pool.Pooled.{Pooled, next_number}
+use Rattle.dsql_history.specs.pool.Moved.{moved, begun, joined, shut}
+use Rattle.dsql_history.proofs.pool.Frees.{count-more}
 use Rattle.dsql_history.specs.declared.event.Control.{Control}
 use Rattle.dsql_history.specs.declared.event.Setting.TheVariants.{MaxOpen, MaxIdle, MaxLife, MaxIdleTime}
 use Rattle.dsql_history.specs.declared.event.Control.TheVariants.{Tick, Set}
-use Rattle.dsql_history.specs.Same.{is_first}
-use Rattle.dsql_history.specs.Readers.Pool.{pool, request, wanted_by, with_control, is_home}
+use Rattle.dsql_history.specs.Readers.Pool.{with_control, is_home, pool, request, wanted_by}
+use Rattle.dsql_history.specs.declared.event.Event.{Event}
+use Rattle.dsql_history.specs.declared.event.Event.TheVariants.{Entered, Pool, Waits, Ticked, SetLimit, Ended}
+use Rattle.dsql_history.specs.declared.event.Op.TheVariants.{DbClose}
 use Rattle.dsql_history.specs.Readers.Owed.{owed}
+use Rattle.dsql_history.specs.Readers.Works.{owner_of}
 use Rattle.dsql_history.specs.Rules.Order.{follows}
-use Rattle.dsql_history.specs.Rules.Asking.{may_ask, ask_outcome, is_asked_for, is_queued}
+use Rattle.dsql_history.specs.Rules.Asking.{may_ask, is_asked_for}
 use Rattle.dsql_history.specs.Legal.{Lawful}
 use Rattle.dsql_laws.specs.Holdings.{waits_of, homes_of, holdings}
-use Rattle.dsql_laws.proofs.Asker.{asker}
+use Rattle.dsql_laws.proofs.ByCall.{by_call}
+use Rattle.dsql_laws.proofs.Places.{neither}
 use Rattle.dsql_laws.proofs.Tests.{both, same_number, move_is}
 use Rattle.dsql_laws.proofs.OwedMoves.{is_own, are_own, owed_own}
-use Rattle.dsql_laws.proofs.AtRest.{Keeps, keeps_of, asks_now}
 use Rattle.dsql_laws.proofs.Counts.{request-more, left_none, left_fewer, uncounted, unmapped, waits_none, waits_some, changed_fewer, changed_one_more, changed_same, gone_fewer, mapped_fewer}
-use Rattle.dsql_laws.proofs.Tried.{is_lent_out, lends_to}
 use Rattle.dsql_laws.proofs.Deserved.{is_home_of, Deserves, AllDeserved, deserved}
+use Rattle.dsql_laws.proofs.Owners.{owner_number}
+use Rattle.dsql_laws.proofs.Asker.{asker}
+use Rattle.dsql_laws.proofs.AtRest.{Keeps, keeps_of, asks_now, asked_so, queued_so}
+use Rattle.dsql_laws.proofs.Tried.{lends_to}
 
 not_true : (b : Bool) → not b ≡ true → b ≡ false
 not_true true h = absurd cc
 not_true false h = refl
 
-neither : (a b : Bool) → (a || b) ≡ false → (a ≡ false) × (b ≡ false)
-neither true b h = absurd cc
-neither false b h = (refl, h)
-
--- what isn't being opened for the call is its home only where it is lent to it
-pub lent_home : (n : ℕ) (x : Conn) → is_for n x.place ≡ false → cond {A = ℕ} (is_home_of n x) 1 0 ≤ cond {A = ℕ} (is_lent_out n x) 1 0
-lent_home n x none = at x.place refl
-  where
-    at : (place : Place) → x.place ≡ place → cond {A = ℕ} (is_home_of n x) 1 0 ≤ cond {A = ℕ} (is_lent_out n x) 1 0
-    at Idle is = rw is (omega arith)
-    at (Lent t o) is = rw is (omega arith)
-    at (Opening wanted) is =
-        let no : cond {A = ℕ} (is_home_of n x) 1 0 ≡ 0 = ap (λ (b : Bool). cond {A = ℕ} b 1 0) (ap (is_home n) is ∙ (ap (is_for n) (sym is) ∙ none)) in
-        omega (arith, no)
-    at Closing is = rw is (omega arith)
-
--- a call that may ask has nothing yet
+-- A call that may ask has nothing in the pool.
 pub nothing_held : (H : List Event) (n : ℕ) → Lawful H → may_ask H n ≡ true → holdings n (pool H) ≡ 0
 nothing_held H n l may =
     let p = pool H in
@@ -69,7 +53,7 @@ nothing_held H n l may =
     let homeless : homes_of n p ≡ 0 = uncounted (is_home_of n) p.conns (unmapped (λ conn. conn.number) (find (is_home_of n) p.conns) asks.homeless) in
     omega (arith, waiting, homeless)
 
--- an opening for a call comes of its asking
+-- An opening for a call follows because the call asks.
 pub opening_asked : (H : List Event) (c n : ℕ) (ms : List Move) → Keeps H (Pool (OpenStart c n)) → owed H ≡ ms → are_own ms ≡ true → n ≢ 0 → is_asked_for H n (OpenStart c n) ≡ true
 opening_asked H c n [] k is own some = asks_now H n (OpenStart c n) is k.asking
 opening_asked H c n (due ∷ later) k is own some =
@@ -79,11 +63,11 @@ opening_asked H c n (due ∷ later) k is own some =
     let none : (n == 0) ≡ true = subst (λ m. is_own m ≡ true) same a.0 in
     absurd (some (same_number n 0 none))
 
--- a lending is deserved, or comes of the call's asking
+-- A lending is deserved, or follows because the call asks.
 pub lending_from : (H : List Event) (c t : ℕ) (o : Owner) (n : ℕ) (ms : List Move) → Keeps H (Pool (Lend c t o n)) → owed H ≡ ms → AllDeserved ms (pool H) → (may_ask H n ≡ true) ⊎ Deserves c n (pool H)
 lending_from H c t o n [] k is h =
     let asked = asks_now H n (Lend c t o n) is k.asking in
-    let a = both (may_ask H n) (is_first (moves_asked (request H n) (ask_outcome H n)) (Lend c t o n)) asked in
+    let a = asked_so H n (Lend c t o n) asked in
     inl a.0
 lending_from H c t o n (due ∷ later) k is h =
     let made_it : follows (due ∷ later) (Pool (Lend c t o n)) ≡ true = subst (λ ns. follows ns (Pool (Lend c t o n)) ≡ true) is k.order in
@@ -106,13 +90,10 @@ shut_holds n p = let few = mapped_fewer (is_home_of n) unwanted p.conns (unlent_
 begun_holds : (n : ℕ) (w : Option Owner) (p : Pooled) → holdings n (begun w p) ≡ holdings n p + cond {A = ℕ} (is_home n (Opening w)) 1 0
 begun_holds n w p = let more = count-more (is_home_of n) (opening (next_number p) w) p.conns in omega (arith, more)
 
-wanted_home : (k n : ℕ) → n ≢ 0 → cond {A = ℕ} (is_home n (Opening (wanted_by k))) 1 0 ≤ cond {A = ℕ} (k == n) 1 0
-wanted_home k n some =
-    elim (k == 0) as (λ b. cond {A = ℕ} (is_home n (Opening (cond b None (Some (Call k))))) 1 0 ≤ cond {A = ℕ} (k == n) 1 0) [ true ↦ omega arith | false ↦ omega arith ]
-
--- one at most, by whether it is this call's
-pub by_call : (k n : ℕ) (P : Type 0) → ((k ≡ n) → P) → ((k == n) ≡ false → P) → P
-by_call k n P same other = elim (k == n) as (λ b. (k == n) ≡ b → P) [ true ↦ λ is. same (same_number k n is) | false ↦ λ is. other is ] refl
+wanted_home : (H : List Event) (k n : ℕ) → n ≢ 0 → cond {A = ℕ} (is_home n (Opening (wanted_by H k))) 1 0 ≤ cond {A = ℕ} (k == n) 1 0
+wanted_home H k n some =
+    let number = owner_number H k in
+    elim (k == 0) as (λ b. cond {A = ℕ} (is_home n (Opening (cond b None (Some (owner_of H k))))) 1 0 ≤ cond {A = ℕ} (k == n) 1 0) [ true ↦ omega arith | false ↦ rw number (omega arith) ]
 
 same_control : (control : Control) (n : ℕ) (p : Pooled) → holdings n (with_control control p) ≡ holdings n p
 same_control (Tick k) n p = refl
@@ -121,14 +102,14 @@ same_control (Set MaxIdle k) n p = refl
 same_control (Set MaxLife k) n p = refl
 same_control (Set MaxIdleTime k) n p = refl
 
-opens_one : (H : List Event) (c k n : ℕ) → Lawful H → Keeps H (Pool (OpenStart c k)) → n ≢ 0 → holdings n (pool H) ≤ 1 → holdings n (begun (wanted_by k) (pool H)) ≤ 1
+opens_one : (H : List Event) (c k n : ℕ) → Lawful H → Keeps H (Pool (OpenStart c k)) → n ≢ 0 → holdings n (pool H) ≤ 1 → holdings n (begun (wanted_by H k) (pool H)) ≤ 1
 opens_one H c k n l keeps some had =
-    let more = begun_holds n (wanted_by k) (pool H) in
-    let home = wanted_home k n some in
-    by_call k n (holdings n (begun (wanted_by k) (pool H)) ≤ 1)
+    let more = begun_holds n (wanted_by H k) (pool H) in
+    let home = wanted_home H k n some in
+    by_call k n (holdings n (begun (wanted_by H k) (pool H)) ≤ 1)
     (λ is.
     let asked = opening_asked H c k (owed H) keeps refl (owed_own H) (λ none. some (sym is ∙ none)) in
-    let a = both (may_ask H k) (is_first (moves_asked (request H k) (ask_outcome H k)) (OpenStart c k)) asked in
+    let a = asked_so H k (OpenStart c k) asked in
     let none : holdings n (pool H) ≡ 0 = subst (λ m. holdings m (pool H) ≡ 0) is (nothing_held H k l a.0) in
     let most : cond {A = ℕ} (k == n) 1 0 ≤ 1 = one_most (k == n) in
     omega (arith, more, home, none, most))
@@ -185,18 +166,7 @@ joins_one H k n l may had =
 
 pub one_at_most : (H : List Event) (n : ℕ) → Lawful H → n ≢ 0 → holdings n (pool H) ≤ 1
 one_at_most [] n l some = omega arith
-one_at_most (Run version can ∷ H) n l some = one_at_most H n l.0 some
 one_at_most (Entered client m DbClose ∷ H) n l some = let had = one_at_most H n l.0 some in let few = shut_holds n (pool H) in omega (arith, had, few)
-one_at_most (Entered client m (Exec text args) ∷ H) n l some = one_at_most H n l.0 some
-one_at_most (Entered client m (Query label text args) ∷ H) n l some = one_at_most H n l.0 some
-one_at_most (Entered client m (One dests text args) ∷ H) n l some = one_at_most H n l.0 some
-one_at_most (Entered client m (Next rows) ∷ H) n l some = one_at_most H n l.0 some
-one_at_most (Entered client m (Scan rows dests) ∷ H) n l some = one_at_most H n l.0 some
-one_at_most (Entered client m (RowsClose rows) ∷ H) n l some = one_at_most H n l.0 some
-one_at_most (Entered client m (Err rows) ∷ H) n l some = one_at_most H n l.0 some
-one_at_most (Entered client m Ping ∷ H) n l some = one_at_most H n l.0 some
-one_at_most (Entered client m Stats ∷ H) n l some = one_at_most H n l.0 some
-one_at_most (Heard e ∷ H) n l some = one_at_most H n l.0 some
 one_at_most (Pool (OpenStart c k) ∷ H) n l some = opens_one H c k n l.0 (keeps_of H (Pool (OpenStart c k)) l.1) some (one_at_most H n l.0 some)
 one_at_most (Pool (Lend c t o k) ∷ H) n l some =
     let had = one_at_most H n l.0 some in
@@ -222,9 +192,9 @@ one_at_most (Pool (Fell c k) ∷ H) n l some =
     omega (arith, had, few, waits)
 one_at_most (Waits k ∷ H) n l some =
     let keeps = keeps_of H (Waits k) l.1 in
-    let a = both (may_ask H k) (is_queued (ask_outcome H k)) keeps.asking in
+    let a = queued_so H k keeps.asking in
     joins_one H k n l.0 a.0 (one_at_most H n l.0 some)
 one_at_most (Ticked now ∷ H) n l some = let had = one_at_most H n l.0 some in let same = same_control (Tick now) n (pool H) in omega (arith, had, same)
 one_at_most (SetLimit s k ∷ H) n l some = let had = one_at_most H n l.0 some in let same = same_control (Set s k) n (pool H) in omega (arith, had, same)
-one_at_most (Replied m reply ∷ H) n l some = one_at_most H n l.0 some
 one_at_most (Ended ∷ H) n l some = let had = one_at_most H n l.0 some in let few = shut_holds n (pool H) in omega (arith, had, few)
+one_at_most (_ ∷ H) n l some = one_at_most H n l.0 some

@@ -1,12 +1,13 @@
--- The journals of a lawful history are beginnings of whole ones, and whole where the connection has left.
+-- Proves that each journal of a lawful history is a prefix of a whole one, and is whole if the connection has
+-- left.
 use Rattle.std.proofs.Common.{◌≡◌, ℕ, ◌==◌, Bool, true, false, ◌||◌, cond, List, [], ◌∷◌, refl, sym, ◌∙◌, subst}
-use Rattle.dsql_journal.specs.declared.entry.Entry.{Entry}
-use Rattle.dsql_journal.specs.Journal.{may_follow, is_whole, IsJournalPrefix}
-use Rattle.dsql_journal.proofs.Beginnings.{may_follow-whole}
-use Rattle.dsql_journal.proofs.PlainJournals.{IsJournalPrefix-with}
-use Rattle.dsql_pool.specs.declared.moves.Move.TheVariants.{OpenStart, Lend, Back, CloseStart, Gone, Fell}
+use Rattle.dsql_history.specs.journal.declared.entry.Entry.{Entry}
+use Rattle.dsql_history.specs.journal.Journal.{may_follow, is_whole, IsJournalPrefix}
+use Rattle.dsql_history.proofs.journal.Beginnings.{may_follow-whole}
+use Rattle.dsql_history.proofs.journal.PlainJournals.{IsJournalPrefix-with}
+use Rattle.dsql_history.specs.pool.declared.moves.Move.TheVariants.{OpenStart, Lend, Back, CloseStart, Gone, Fell}
 use Rattle.dsql_history.specs.declared.event.Event.{Event}
-use Rattle.dsql_history.specs.declared.event.Event.TheVariants.{Run, Entered, Heard, Pool, Waits, Ticked, SetLimit, Replied, Ended}
+use Rattle.dsql_history.specs.declared.event.Event.TheVariants.{Heard, Pool}
 use Rattle.dsql_history.specs.Readers.Journals.{journal}
 use Rattle.dsql_history.specs.Rules.Journals.{keeps_journals}
 use Rattle.dsql_history.specs.Legal.{Allowed, Lawful, has_left, KeepsJournals}
@@ -25,14 +26,7 @@ beginnings [] c l = refl
 beginnings (Heard e ∷ H) c l =
     begins_with (journal H c) e (e.conn == c) (beginnings H c l.0)
     (λ here. let same : e.conn ≡ c = same_number e.conn c here in subst (λ d. may_follow (journal H d) e ≡ true) same (kept H (Heard e) l.1))
-beginnings (Run version can ∷ H) c l = beginnings H c l.0
-beginnings (Entered client n op ∷ H) c l = beginnings H c l.0
-beginnings (Pool m ∷ H) c l = beginnings H c l.0
-beginnings (Waits n ∷ H) c l = beginnings H c l.0
-beginnings (Ticked now ∷ H) c l = beginnings H c l.0
-beginnings (SetLimit s n ∷ H) c l = beginnings H c l.0
-beginnings (Replied n reply ∷ H) c l = beginnings H c l.0
-beginnings (Ended ∷ H) c l = beginnings H c l.0
+beginnings (_ ∷ H) c l = beginnings H c l.0
 
 left_now : (H : List Event) (c d : ℕ) (earlier : Bool) → is_whole (journal H d) ≡ true → (earlier ≡ true → is_whole (journal H c) ≡ true) → (d == c) || earlier ≡ true → is_whole (journal H c) ≡ true
 left_now H c d true whole before h = before refl
@@ -58,13 +52,7 @@ wholes (Pool (OpenStart d n) ∷ H) c l h = wholes H c l.0 h
 wholes (Pool (Lend d t o n) ∷ H) c l h = wholes H c l.0 h
 wholes (Pool (Back d) ∷ H) c l h = wholes H c l.0 h
 wholes (Pool (CloseStart d why) ∷ H) c l h = wholes H c l.0 h
-wholes (Run version can ∷ H) c l h = wholes H c l.0 h
-wholes (Entered client n op ∷ H) c l h = wholes H c l.0 h
-wholes (Waits n ∷ H) c l h = wholes H c l.0 h
-wholes (Ticked now ∷ H) c l h = wholes H c l.0 h
-wholes (SetLimit s n ∷ H) c l h = wholes H c l.0 h
-wholes (Replied n reply ∷ H) c l h = wholes H c l.0 h
-wholes (Ended ∷ H) c l h = wholes H c l.0 h
+wholes (_ ∷ H) c l h = wholes H c l.0 h
 
 pub keeps_journals_of : (H : List Event) → Lawful H → KeepsJournals H
 keeps_journals_of H l = record { beginnings = λ c. beginnings H c l; wholes = λ c left. wholes H c l left }

@@ -1,13 +1,13 @@
--- Calls are numbered from 1: no unfinished call of a lawful history is call 0.
+-- Proves that no unfinished call of a lawful history is call 0. The argument is that calls are numbered from 1.
 use Rattle.std.proofs.Common.{◌≡◌, ◌≢◌, ℕ, ◌≤◌, ◌==◌, Bool, true, false, not, cond, List, [], ◌∷◌, length, length-set, refl, ◌∙◌, arith}
 use Rattle.std.specs.List.{list_all}
 use Rattle.std.proofs.lemmas.Bool.Decides.{nat_tests}
 use Rattle.std.proofs.lemmas.List.Folds.{list_all-append}
 use Rattle.std.proofs.lemmas.List.{length-append}
-use Rattle.dsql_journal.specs.Readers.{has}
-use Rattle.dsql_pool.specs.Pooled.{without}
+use Rattle.dsql_history.specs.journal.Readers.{has}
+use Rattle.dsql_history.specs.pool.Pooled.{without}
 use Rattle.dsql_history.specs.declared.event.Event.{Event}
-use Rattle.dsql_history.specs.declared.event.Event.TheVariants.{Run, Entered, Heard, Pool, Waits, Ticked, SetLimit, Replied, Ended}
+use Rattle.dsql_history.specs.declared.event.Event.TheVariants.{Entered, Heard, Replied}
 use Rattle.dsql_history.specs.declared.event.Op.{Op}
 use Rattle.dsql_history.specs.Readers.Unfinished.{unfinished, is_unfinished}
 use Rattle.dsql_history.specs.Readers.Calls.{calls, entering, next_call, is_busy}
@@ -19,12 +19,7 @@ some_calls [] = omega arith
 some_calls (Entered client n op ∷ H) = let more = length-append (calls H) (entering H client op ∷ []) in omega (arith, more)
 some_calls (Heard e ∷ H) = let so_many = some_calls H in grind (arith, length-set, so_many)
 some_calls (Replied n reply ∷ H) = let so_many = some_calls H in grind (arith, length-set, so_many)
-some_calls (Run version can ∷ H) = some_calls H
-some_calls (Pool m ∷ H) = some_calls H
-some_calls (Waits n ∷ H) = some_calls H
-some_calls (Ticked now ∷ H) = some_calls H
-some_calls (SetLimit s n ∷ H) = some_calls H
-some_calls (Ended ∷ H) = some_calls H
+some_calls (_ ∷ H) = some_calls H
 
 abbrev from_one : ℕ → Bool
 from_one n = not (n == 0)
@@ -54,13 +49,7 @@ numbered (Entered client n op ∷ H) l =
     let above : from_one n ≡ true = grind (arith, nat_tests, number, so_many) in
     list_all-append from_one (unfinished H) (n ∷ []) ∙ together (all_from_one (unfinished H)) (all_from_one (n ∷ [])) (numbered H l.0) (together (from_one n) true above refl)
 numbered (Replied n reply ∷ H) l = without_some n (unfinished H) (numbered H l.0)
-numbered (Run version can ∷ H) l = numbered H l.0
-numbered (Heard e ∷ H) l = numbered H l.0
-numbered (Pool m ∷ H) l = numbered H l.0
-numbered (Waits n ∷ H) l = numbered H l.0
-numbered (Ticked now ∷ H) l = numbered H l.0
-numbered (SetLimit s n ∷ H) l = numbered H l.0
-numbered (Ended ∷ H) l = numbered H l.0
+numbered (_ ∷ H) l = numbered H l.0
 
 not_zero : (n : ℕ) (ns : List ℕ) → all_from_one ns ≡ true → has n ns ≡ true → n ≢ 0
 not_zero n [] h k = absurd cc

@@ -1,45 +1,42 @@
--- The closings of idle connections that are past their time.
+-- Proves that the connections which a tick begins to close are idle. The argument is that each of them stands
+-- among the idle ones, and is closed only once.
 use Rattle.std.proofs.Common.{◌≡◌, ℕ, suc, ◌≤◌, ◌==◌, Bool, true, false, ◌&&◌, cond, List, [], ◌∷◌, Option, Some, None, refl, sym, ap, ◌∙◌, arith}
 use Rattle.std.specs.List.{list_all, filter_map, cons_option}
 use Rattle.std.proofs.lemmas.Bool.Decides.{nat_tests}
-use Rattle.dsql_pool.specs.declared.moves.CloseCause.{CloseCause}
-use Rattle.dsql_pool.specs.declared.moves.Move.{Move}
-use Rattle.dsql_pool.specs.declared.moves.Move.TheVariants.{OpenStart, Lend, Back, CloseStart, Gone, Fell}
-use Rattle.dsql_pool.specs.Places.{conn_of, is_idle}
-use Rattle.dsql_pool.specs.Changes.{closing}
-use Rattle.dsql_pool.specs.Pooled.{Pooled, place_at, without}
-use Rattle.dsql_pool.specs.Rest.{times}
-use Rattle.dsql_pool.specs.Moved.{moved}
-use Rattle.dsql_pool.specs.Decisions.{starts_closing, closing_for, cause_at, closings_of_tick}
-use Rattle.dsql_pool.proofs.Members.{times-without_other}
-use Rattle.dsql_pool.proofs.Placed.{Placed, placed_away}
-use Rattle.dsql_pool.proofs.Settling.{outdated_closes}
+use Rattle.dsql_history.specs.pool.declared.moves.CloseCause.{CloseCause}
+use Rattle.dsql_history.specs.pool.declared.moves.Move.{Move}
+use Rattle.dsql_history.specs.pool.declared.moves.Move.TheVariants.{CloseStart}
+use Rattle.dsql_history.specs.pool.Places.{conn_of, is_idle}
+use Rattle.dsql_history.specs.pool.Changes.{closing}
+use Rattle.dsql_history.specs.pool.Pooled.{Pooled, place_at, without}
+use Rattle.dsql_history.specs.pool.Rest.{times}
+use Rattle.dsql_history.specs.pool.Moved.{moved}
+use Rattle.dsql_history.specs.pool.Decisions.{starts_closing, closing_for, cause_at, closings_of_tick}
+use Rattle.dsql_history.proofs.pool.Members.{times-without_other}
+use Rattle.dsql_history.proofs.pool.Placed.{Placed, placed_away}
+use Rattle.dsql_history.proofs.pool.Settling.{outdated_closes}
 use Rattle.dsql_laws.proofs.Tests.{together, same_number, same_itself}
 
 closings_all : (f : Move → Bool) → ((c : ℕ) (why : CloseCause) → f (CloseStart c why) ≡ true) → (ms : List Move) → list_all starts_closing ms ≡ true → list_all f ms ≡ true
 closings_all f h [] all = refl
 closings_all f h (CloseStart c why ∷ ms) all = together (f (CloseStart c why)) (list_all f ms) (h c why) (closings_all f h ms all)
-closings_all f h (OpenStart c n ∷ ms) all = absurd cc
-closings_all f h (Lend c t o n ∷ ms) all = absurd cc
-closings_all f h (Back c ∷ ms) all = absurd cc
-closings_all f h (Gone c ∷ ms) all = absurd cc
-closings_all f h (Fell c n ∷ ms) all = absurd cc
+closings_all f h (_ ∷ ms) all = absurd cc
 
--- what holds of every closing holds of these
+-- What holds of every start of a closing holds of these moves.
 pub outdated_all : (f : Move → Bool) → ((c : ℕ) (why : CloseCause) → f (CloseStart c why) ≡ true) → (p : Pooled) → list_all f (closings_of_tick p) ≡ true
 outdated_all f h p = closings_all f h (closings_of_tick p) (outdated_closes p)
 
--- it begins to close a connection that is idle
+-- Is true if the move begins to close a connection that is idle.
 abbrev pub closes_idle : Pooled → Move → Bool
 closes_idle p (CloseStart c why) = is_idle (place_at p c)
 closes_idle p _ = false
 
--- each does when its turn comes
+-- Is true if each of these moves does so when its turn comes.
 abbrev pub close_idle : List Move → Pooled → Bool
 close_idle [] p = true
 close_idle (m ∷ ms) p = closes_idle p m && close_idle ms (moved m p)
 
--- they stand among the idle ones at least as often
+-- Holds if each connection occurs among the idle ones at least as often as in the list.
 abbrev Among : List ℕ → Pooled → Type 0
 Among cs p = (d : ℕ) → times d cs ≤ times d p.idle
 
@@ -84,6 +81,6 @@ chosen_close g (c ∷ cs) p placed h =
           together (is_idle (place_at p c)) (close_idle (filter_map (λ d. closing_for d (g d)) cs) (moved (CloseStart c why) p)) first.0 rest
     ]
 
--- those past their time are idle when their turn comes
+-- Connections that are past their time are idle when the turn of their closing comes.
 pub outdated_close : (p : Pooled) → Placed p.idle p.conns → close_idle (closings_of_tick p) p ≡ true
 outdated_close p placed = chosen_close (λ c. cause_at p.limits p.moment (conn_of c p.conns)) p.idle p placed (λ d. omega arith)

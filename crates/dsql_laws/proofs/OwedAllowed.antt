@@ -1,14 +1,15 @@
--- The moves that the pool owes are allowed one after another.
+-- Proves that the moves which the pool owes are allowed one after another. Each of them can be made in its
+-- turn, and so keeps each rule.
 use Rattle.std.proofs.Common.{◌≡◌, ℕ, ◌==◌, nat_lt, Bool, true, false, not, ◌||◌, List, [], ◌∷◌, refl, ap, subst, ◌∙◌, Option, Some, None}
-use Rattle.dsql_journal.specs.Readers.{is_empty}
-use Rattle.dsql_journal.specs.Journal.{is_whole}
-use Rattle.dsql_pool.specs.declared.conn.Place.{Place}
-use Rattle.dsql_pool.specs.declared.conn.Place.TheVariants.{Idle, Lent, Opening, Closing}
-use Rattle.dsql_pool.specs.declared.moves.Move.{Move}
-use Rattle.dsql_pool.specs.declared.moves.Move.TheVariants.{OpenStart, Lend, Back, CloseStart, Gone, Fell}
-use Rattle.dsql_pool.specs.Places.{is_idle, is_lent, is_opening, is_closing}
-use Rattle.dsql_pool.specs.Pooled.{next_number, open_count, most_allowed}
-use Rattle.dsql_pool.specs.Moved.{made, moved}
+use Rattle.dsql_history.specs.journal.Readers.{is_empty}
+use Rattle.dsql_history.specs.journal.Journal.{is_whole}
+use Rattle.dsql_history.specs.pool.declared.conn.Place.{Place}
+use Rattle.dsql_history.specs.pool.declared.conn.Place.TheVariants.{Idle, Lent, Opening, Closing}
+use Rattle.dsql_history.specs.pool.declared.moves.Move.{Move}
+use Rattle.dsql_history.specs.pool.declared.moves.Move.TheVariants.{OpenStart, Lend, Back, CloseStart, Gone, Fell}
+use Rattle.dsql_history.specs.pool.Places.{is_idle, is_lent, is_opening, is_closing}
+use Rattle.dsql_history.specs.pool.Pooled.{next_number, open_count, most_allowed}
+use Rattle.dsql_history.specs.pool.Moved.{made, moved}
 use Rattle.dsql_history.specs.declared.event.Event.{Event}
 use Rattle.dsql_history.specs.declared.event.Event.TheVariants.{Pool}
 use Rattle.dsql_history.specs.Readers.Journals.{journal}
@@ -23,17 +24,14 @@ use Rattle.dsql_history.specs.Rules.Line.{leaves_from, keeps_line}
 use Rattle.dsql_history.specs.Rules.Moves.{keeps_sets}
 use Rattle.dsql_history.specs.Rules.Order.{follows, keeps_order}
 use Rattle.dsql_history.specs.Legal.{Allowed, Lawful}
-use Rattle.dsql_laws.specs.OwedMade.{with_moves}
 use Rattle.dsql_laws.proofs.Tests.{both, together, move_itself}
 use Rattle.dsql_laws.proofs.OwedMoves.{is_own, are_own, own_moved, owed_own}
+use Rattle.dsql_laws.proofs.Truths.{or_first, or_second}
 use Rattle.dsql_laws.proofs.Able.{is_able, are_able}
+use Rattle.dsql_laws.specs.OwedMade.{with_moves}
 use Rattle.dsql_laws.proofs.AbleMoves.{able}
 
-pub or_first : (a b : Bool) → a ≡ true → (a || b) ≡ true
-or_first true b h = refl
-or_first false b h = absurd cc
-
--- nothing is owed before anything happened
+-- Nothing is owed before the run began.
 begun_owing : (H : List Event) (m : Move) (ms : List Move) → owed H ≡ m ∷ ms → keeps_course H (Pool m) ≡ true
 begun_owing [] m ms is = absurd cc
 begun_owing (e ∷ H) m ms is = refl
@@ -41,7 +39,7 @@ begun_owing (e ∷ H) m ms is = refl
 owing : (H : List Event) (m : Move) (ms : List Move) → owed H ≡ m ∷ ms → is_owed H ≡ true
 owing H m ms is = ap (λ ns. not (is_empty ns)) is
 
--- a connection that is idle or being opened isn't lent
+-- A connection that is idle or being opened isn't lent.
 unlent_place : (o : Option Place) → (is_idle o || is_opening o) ≡ true → is_lent o ≡ false
 unlent_place None h = refl
 unlent_place (Some Idle) h = refl
@@ -75,11 +73,7 @@ or_both true b c h = refl
 or_both false b true h = refl
 or_both false b false h = h
 
-pub or_second : (a b : Bool) → b ≡ true → (a || b) ≡ true
-or_second true b h = refl
-or_second false b h = h
-
--- each rule, of a move that can be made and is owed
+-- Each rule, for a move that can be made and is owed.
 
 able_sets : (H : List Event) (m : Move) → is_able (journal H) (pool H) m ≡ true → keeps_sets H (Pool m) ≡ true
 able_sets H (OpenStart c n) h = let a = both (c == next_number (pool H)) (nat_lt (open_count (pool H)) (most_allowed (pool H))) h in together (c == next_number (pool H)) true a.0 refl
@@ -133,7 +127,7 @@ owed_causes H (Fell c n) h = h
 owed_order : (H : List Event) (m : Move) (ms : List Move) → owed H ≡ m ∷ ms → keeps_order H (Pool m) ≡ true
 owed_order H m ms is = ap (λ ns. follows ns (Pool m)) is ∙ move_itself m
 
--- the move that is owed first may come
+-- The move that is owed first may come.
 pub next_allowed : (H : List Event) (m : Move) (ms : List Move) → Lawful H → owed H ≡ m ∷ ms → Allowed H (Pool m)
 unfolding Allowed
 next_allowed H m ms l is =
@@ -153,7 +147,7 @@ next_allowed H m ms l is =
       replies = refl;
     }
 
--- and then the others are owed
+-- After the move that was owed first, the others are owed.
 pub next_owed : (H : List Event) (m : Move) (ms : List Move) → owed H ≡ m ∷ ms → owed (Pool m ∷ H) ≡ ms
 next_owed H m ms is = ap (left_of H m) is
 
@@ -175,7 +169,7 @@ pub pool_made : (H : List Event) (ms : List Move) → are_own ms ≡ true → po
 pool_made H [] own = refl
 pool_made H (m ∷ ms) own =
     let a = both (is_own m) (are_own ms) own in
-    pool_made (Pool m ∷ H) ms a.1 ∙ ap (made ms) (own_moved m (pool H) a.0)
+    pool_made (Pool m ∷ H) ms a.1 ∙ ap (made ms) (own_moved H m (pool H) a.0)
 
 pub owed_pool : (H : List Event) → pool (with_moves (owed H) H) ≡ made (owed H) (pool H)
 owed_pool H = pool_made H (owed H) (owed_own H)

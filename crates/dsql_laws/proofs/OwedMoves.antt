@@ -1,35 +1,35 @@
--- The moves that the pool owes: its own openings are for no request of their own.
-use Rattle.std.proofs.Common.{◌≡◌, ℕ, zero, suc, ◌==◌, ◌+◌, ◌-◌, Bool, true, false, cond, List, [], ◌∷◌, refl, ◌∙◌, Option, Some, None}
-use Rattle.std.specs.Prelude.{map, drop, take, length}
+-- Proves that each opening which the pool owes is for no call: its call number is 0.
+use Rattle.std.proofs.Common.{◌≡◌, ℕ, ◌==◌, Bool, true, List, [], ◌∷◌, refl, zero, suc, ◌+◌, ◌-◌, false, cond, ◌∙◌, Option, Some, None}
 use Rattle.std.specs.List.{list_all}
+use Rattle.dsql_history.specs.wait.declared.request.Request.{Request}
+use Rattle.dsql_history.specs.pool.declared.moves.Move.{Move}
+use Rattle.dsql_history.specs.pool.declared.moves.Move.TheVariants.{OpenStart, Lend, Back, CloseStart, Gone, Fell}
+use Rattle.dsql_history.specs.pool.declared.moves.Outcome.{Outcome}
+use Rattle.dsql_history.specs.pool.declared.moves.Outcome.TheVariants.{Serves}
+use Rattle.dsql_history.specs.pool.Pooled.{Pooled, next_tenure, place_at, next_number}
+use Rattle.dsql_history.specs.pool.Decisions.{lends_to_oldest, moves_back, closings_of_setting, falls_to, openings, due_openings, moves_unwanted, when_given_back, when_unwanted, when_opened}
+use Rattle.std.specs.Prelude.{map, drop, take, length}
 use Rattle.std.proofs.lemmas.List.Folds.{list_all-append}
-use Rattle.dsql_driver.specs.declared.answer.DriverAnswer.{DriverAnswer}
-use Rattle.dsql_driver.specs.Fits.{is_done}
-use Rattle.dsql_wait.specs.declared.request.Request.{Request}
-use Rattle.dsql_pool.specs.declared.conn.Place.{Place}
-use Rattle.dsql_pool.specs.declared.conn.Place.TheVariants.{Idle, Lent, Opening, Closing}
-use Rattle.dsql_pool.specs.declared.moves.CloseCause.{CloseCause}
-use Rattle.dsql_pool.specs.declared.moves.CloseCause.TheVariants.{IdleFull, DbClosed}
-use Rattle.dsql_pool.specs.declared.moves.Move.{Move}
-use Rattle.dsql_pool.specs.declared.moves.Move.TheVariants.{OpenStart, Lend, Back, CloseStart, Gone, Fell}
-use Rattle.dsql_pool.specs.declared.moves.Outcome.{Outcome}
-use Rattle.dsql_pool.specs.declared.moves.Outcome.TheVariants.{Closes, Serves, Rests}
-use Rattle.dsql_pool.specs.Pooled.{Pooled, place_at, next_tenure, next_number}
-use Rattle.dsql_pool.specs.Moved.{made, moved, shut, ticked}
-use Rattle.dsql_pool.specs.Decisions.{closings_of_setting, falls_to, openings, due_openings, lends_to_oldest, moves_back, moves_unwanted, when_given_back, when_unwanted, when_opened}
-use Rattle.dsql_pool.specs.Calls.{then_openings, moves_opened, moves_failed, open_set, idle_set, lifetime_set, idle_time_set}
-use Rattle.dsql_history.specs.declared.event.Event.{Event}
-use Rattle.dsql_history.specs.declared.event.Event.TheVariants.{Run, Entered, Heard, Pool, Waits, Ticked, SetLimit, Replied, Ended}
-use Rattle.dsql_history.specs.declared.event.Op.TheVariants.{Exec, Query, One, Next, Scan, RowsClose, Err, Ping, DbClose, Stats}
+use Rattle.dsql_history.specs.driver.declared.answer.DriverAnswer.{DriverAnswer}
+use Rattle.dsql_history.specs.driver.Fits.{is_done}
+use Rattle.dsql_history.specs.pool.declared.conn.Place.{Place}
+use Rattle.dsql_history.specs.pool.declared.conn.Place.TheVariants.{Idle, Lent, Opening, Closing}
+use Rattle.dsql_history.specs.pool.declared.moves.CloseCause.{CloseCause}
+use Rattle.dsql_history.specs.pool.declared.moves.CloseCause.TheVariants.{IdleFull, DbClosed}
+use Rattle.dsql_history.specs.pool.Moved.{made, moved, shut, ticked}
+use Rattle.dsql_history.specs.pool.Calls.{then_openings, moves_opened, moves_failed, open_set, idle_set, lifetime_set, idle_time_set}
 use Rattle.dsql_history.specs.declared.event.Control.{Control}
 use Rattle.dsql_history.specs.declared.event.Setting.TheVariants.{MaxOpen, MaxIdle, MaxLife, MaxIdleTime}
 use Rattle.dsql_history.specs.declared.event.Control.TheVariants.{Tick, Set}
+use Rattle.dsql_history.specs.Readers.Owed.{answered, controlled, fate, leaving, left_of, owed}
+use Rattle.dsql_history.specs.declared.event.Event.{Event}
+use Rattle.dsql_history.specs.declared.event.Event.TheVariants.{Entered, Heard, Pool, Ticked, SetLimit, Ended}
+use Rattle.dsql_history.specs.declared.event.Op.TheVariants.{DbClose}
 use Rattle.dsql_history.specs.Readers.Pool.{pool, place, with_move}
-use Rattle.dsql_history.specs.Readers.Owed.{fate, answered, controlled, leaving, left_of, owed}
 use Rattle.dsql_laws.proofs.Tests.{both, same_number, together}
 use Rattle.dsql_laws.proofs.Outdated.{outdated_all}
 
--- an opening is for no request of its own
+-- Is true unless the move is an opening for a call.
 abbrev pub is_own : Move → Bool
 is_own (OpenStart c n) = n == 0
 is_own _ = true
@@ -37,13 +37,21 @@ is_own _ = true
 abbrev pub are_own : List Move → Bool
 are_own ms = list_all is_own ms
 
-pub own_moved : (m : Move) (p : Pooled) → is_own m ≡ true → with_move m p ≡ moved m p
-own_moved (OpenStart c n) p h = let none : n ≡ 0 = same_number n 0 h in rw none refl
-own_moved (Lend c t o n) p h = refl
-own_moved (Back c) p h = refl
-own_moved (CloseStart c why) p h = refl
-own_moved (Gone c) p h = refl
-own_moved (Fell c n) p h = refl
+oldest_own : (c t : ℕ) (rs : List Request) → are_own (lends_to_oldest c t rs) ≡ true
+oldest_own c t [] = refl
+oldest_own c t (r ∷ rs) = refl
+
+pub back_own : (c : ℕ) (p : Pooled) (o : Outcome) → are_own (moves_back c p o) ≡ true
+back_own c p Serves = oldest_own c (next_tenure p c) p.waiting
+back_own c p _ = refl
+
+pub own_moved : (H : List Event) (m : Move) (p : Pooled) → is_own m ≡ true → with_move H m p ≡ moved m p
+own_moved H (OpenStart c n) p h = let none : n ≡ 0 = same_number n 0 h in rw none refl
+own_moved H (Lend c t o n) p h = refl
+own_moved H (Back c) p h = refl
+own_moved H (CloseStart c why) p h = refl
+own_moved H (Gone c) p h = refl
+own_moved H (Fell c n) p h = refl
 
 openings_own : (k c : ℕ) → are_own (openings k c) ≡ true
 openings_own zero c = refl
@@ -58,19 +66,9 @@ closings_own : (why : CloseCause) (cs : List ℕ) → are_own (map (λ c. CloseS
 closings_own why [] = refl
 closings_own why (c ∷ cs) = closings_own why cs
 
-oldest_own : (c t : ℕ) (rs : List Request) → are_own (lends_to_oldest c t rs) ≡ true
-oldest_own c t [] = refl
-oldest_own c t (r ∷ rs) = refl
-
-pub back_own : (c : ℕ) (p : Pooled) (o : Outcome) → are_own (moves_back c p o) ≡ true
-back_own c p (Closes why) = refl
-back_own c p Serves = oldest_own c (next_tenure p c) p.waiting
-back_own c p Rests = refl
-
 unwanted_own : (c : ℕ) (p : Pooled) (o : Outcome) → are_own (moves_unwanted c p o) ≡ true
-unwanted_own c p (Closes why) = refl
 unwanted_own c p Serves = oldest_own c (next_tenure p c) p.waiting
-unwanted_own c p Rests = refl
+unwanted_own c p _ = refl
 
 opened_own : (c : ℕ) (p : Pooled) (at : Option Place) → are_own (when_opened at c p) ≡ true
 opened_own c p (Some (Opening (Some owner))) = refl
@@ -120,21 +118,10 @@ left_own H m (due ∷ later) h = let a = both (is_own due) (are_own later) h in 
 
 pub owed_own : (H : List Event) → are_own (owed H) ≡ true
 owed_own [] = refl
-owed_own (Run version can ∷ H) = refl
 owed_own (Entered client n DbClose ∷ H) = closings_own DbClosed (shut (pool H)).idle
-owed_own (Entered client n (Exec text args) ∷ H) = refl
-owed_own (Entered client n (Query label text args) ∷ H) = refl
-owed_own (Entered client n (One dests text args) ∷ H) = refl
-owed_own (Entered client n (Next rows) ∷ H) = refl
-owed_own (Entered client n (Scan rows dests) ∷ H) = refl
-owed_own (Entered client n (RowsClose rows) ∷ H) = refl
-owed_own (Entered client n (Err rows) ∷ H) = refl
-owed_own (Entered client n Ping ∷ H) = refl
-owed_own (Entered client n Stats ∷ H) = refl
 owed_own (Heard e ∷ H) = answered_own e.answer e.conn (pool H) (place H e.conn)
 owed_own (Pool m ∷ H) = left_own H m (owed H) (owed_own H)
-owed_own (Waits n ∷ H) = refl
 owed_own (Ticked now ∷ H) = control_own (Tick now) (pool H)
 owed_own (SetLimit s n ∷ H) = control_own (Set s n) (pool H)
-owed_own (Replied n reply ∷ H) = refl
 owed_own (Ended ∷ H) = closings_own DbClosed (shut (pool H)).idle
+owed_own (_ ∷ H) = refl

@@ -1,4 +1,5 @@
--- Beginnings of lawful histories, and what holds at each event of one.
+-- Proves that each beginning of a lawful history is lawful, and that a history is lawful if each event may
+-- follow the events before it.
 use Rattle.std.proofs.Common.{◌↔◌, List, [], ◌∷◌, ◌++◌, refl, sym, ap, subst}
 use Rattle.dsql_history.specs.declared.event.Event.{Event}
 use Rattle.dsql_history.specs.Legal.{Lawful, Calm}

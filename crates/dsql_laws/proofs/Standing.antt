@@ -1,39 +1,23 @@
--- A call stands in one place: whichever of the first three cases holds, it is the one that counts.
-use Rattle.std.proofs.Common.{◌≡◌, ◌≢◌, ℕ, Bool, true, false, ◌||◌, List, [], ◌∷◌, Some, None, refl, sym, ap, ◌∙◌, is_some, arith}
-use Rattle.std.specs.Prelude.{find}
+-- Proves that a call stands in one place. The first three cases of where a call stands exclude each other, so
+-- that whichever holds is the one that counts.
+use Rattle.std.proofs.Common.{◌≡◌, ◌≢◌, ℕ, Bool, true, false, List, Some, None, refl, sym, ◌∙◌, is_some, arith}
 use Rattle.std.specs.List.{list_any}
-use Rattle.std.specs.Option.{option_map}
-use Rattle.dsql_wait.specs.Requests.{waits}
-use Rattle.dsql_pool.specs.declared.conn.Conn.{Conn}
-use Rattle.dsql_pool.specs.Places.{is_for}
-use Rattle.dsql_pool.specs.Pooled.{Pooled}
-use Rattle.dsql_history.specs.declared.event.Event.{Event}
+use Rattle.dsql_history.specs.wait.Requests.{waits}
+use Rattle.dsql_history.specs.pool.Places.{is_for}
 use Rattle.dsql_history.specs.declared.record.Stand.TheVariants.{Waits, Opens, Sends}
-use Rattle.dsql_history.specs.Readers.Pool.{pool, smallest}
+use Rattle.dsql_history.specs.Readers.Pool.{smallest, pool}
+use Rattle.dsql_history.specs.declared.event.Event.{Event}
 use Rattle.dsql_history.specs.Readers.Calls.{site}
 use Rattle.dsql_history.specs.Rules.Line.{due_for}
 use Rattle.dsql_history.specs.Rules.Stands.{stand}
 use Rattle.dsql_history.specs.Legal.{Lawful}
+use Rattle.dsql_laws.proofs.Places.{none_opens, neither}
 use Rattle.dsql_laws.proofs.Counts.{waits_some}
+use Rattle.dsql_laws.proofs.Wanted.{any_counts, homes_apart}
 use Rattle.dsql_laws.proofs.Holdings.{one_at_most}
-use Rattle.dsql_laws.proofs.Wanting.{any_counts, homes_apart, sends_or_wants}
+use Rattle.dsql_laws.proofs.Wanting.{sends_or_wants}
 
-none_found : (q : Conn → Bool) (conns : List Conn) → list_any q conns ≡ false → find q conns ≡ None
-none_found q [] h = refl
-none_found q (x ∷ xs) h =
-    elim (q x) as (λ b. q x ≡ b → (b || list_any q xs) ≡ false → find q (x ∷ xs) ≡ None) [
-      | true ↦ λ is k. absurd cc
-      | false ↦ λ is k. rw is (none_found q xs k)
-    ] refl h
-
-pub none_opens : (n : ℕ) (p : Pooled) → list_any (λ conn. is_for n conn.place) p.conns ≡ false → smallest (is_for n) p ≡ None
-none_opens n p none = ap (option_map (λ conn. conn.number)) (none_found (λ conn. is_for n conn.place) p.conns none)
-
-pub neither : (a b : Bool) → (a || b) ≡ false → (a ≡ false) × (b ≡ false)
-neither true b h = absurd cc
-neither false b h = (refl, h)
-
--- while a connection is opened for a call it doesn't wait
+-- A call for which a connection is being opened doesn't wait.
 opens_unwaiting : (H : List Event) (n c : ℕ) → Lawful H → n ≢ 0 → smallest (is_for n) (pool H) ≡ Some c → waits n (pool H).waiting ≡ false
 opens_unwaiting H n c l some is = by (waits n (pool H).waiting) refl (list_any (λ conn. is_for n conn.place) (pool H).conns) refl
   where

@@ -1,13 +1,14 @@
--- What tests of sameness say.
+-- Proves that a test of sameness says what it tests. The argument takes the kinds of owners, causes and moves
+-- one by one.
 use Rattle.std.proofs.Common.{◌≡◌, ◌≢◌, ℕ, ◌==◌, Bool, true, false, ◌&&◌, ◌||◌, refl, ap, arith}
 use Rattle.std.proofs.lemmas.Bool.Decides.{nat_tests}
-use Rattle.dsql_journal.specs.declared.entry.Owner.{Owner}
-use Rattle.dsql_journal.specs.declared.entry.Owner.TheVariants.{Call, Tx, Pin, House}
-use Rattle.dsql_journal.specs.Kinds.{same_owner}
-use Rattle.dsql_pool.specs.declared.moves.CloseCause.{CloseCause}
-use Rattle.dsql_pool.specs.declared.moves.CloseCause.TheVariants.{Bad, Invalid, OverLimit, IdleFull, Lifetime, IdleTime, DbClosed, Discarded}
-use Rattle.dsql_pool.specs.declared.moves.Move.{Move}
-use Rattle.dsql_pool.specs.declared.moves.Move.TheVariants.{OpenStart, Lend, Back, CloseStart, Gone, Fell}
+use Rattle.dsql_history.specs.journal.declared.entry.Owner.{Owner}
+use Rattle.dsql_history.specs.journal.declared.entry.Owner.TheVariants.{Call, Tx, Pin, House}
+use Rattle.dsql_history.specs.journal.Kinds.{same_owner}
+use Rattle.dsql_history.specs.pool.declared.moves.CloseCause.{CloseCause}
+use Rattle.dsql_history.specs.pool.declared.moves.CloseCause.TheVariants.{Bad, Invalid, OverLimit, IdleFull, Lifetime, IdleTime, DbClosed, Discarded}
+use Rattle.dsql_history.specs.pool.declared.moves.Move.{Move}
+use Rattle.dsql_history.specs.pool.declared.moves.Move.TheVariants.{OpenStart, Lend, Back, CloseStart, Gone, Fell}
 use Rattle.dsql_history.specs.Same.{same_cause, same_move}
 
 pub both : (a b : Bool) → (a && b) ≡ true → (a ≡ true) × (b ≡ true)
@@ -18,7 +19,7 @@ pub together : (a b : Bool) → a ≡ true → b ≡ true → a && b ≡ true
 together true b h k = k
 together false b h k = absurd cc
 
--- the second of two holds where the first doesn't
+-- If one of two holds and it isn't the first, the second holds.
 pub second : (a b : Bool) → a ≡ false → (a || b) ≡ true → b ≡ true
 second true b f h = absurd cc
 second false b f h = h

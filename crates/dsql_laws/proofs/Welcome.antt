@@ -1,6 +1,6 @@
--- What is under way stays welcome.
+-- Proves that the answer to a driver call that is under way stays welcome.
 use Rattle.std.proofs.Common.{◌≡◌, Bool, true, false, not, ◌&&◌, ◌||◌, List, [], ◌∷◌, refl}
-use Rattle.dsql_journal.specs.declared.entry.Entry.{Entry}
+use Rattle.dsql_history.specs.journal.declared.entry.Entry.{Entry}
 use Rattle.dsql_history.specs.declared.event.Event.{Event}
 use Rattle.dsql_history.specs.Readers.Pool.{place}
 use Rattle.dsql_history.specs.Rules.Line.{is_due_at, parts, may_come}

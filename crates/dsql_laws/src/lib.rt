@@ -1,5 +1,12 @@
-//! What holds of every lawful history of several clients, and that the rules over such histories are
-//! computed: each law is the contract of a function that does nothing.
+//! Proves what holds of every lawful history, and that the rules are computed. Each law is the contract of a
+//! function that does nothing.
 #![tactic(auto)]
 
 pub mod laws;
+
+pub use dsql_history::{
+    Aim, Args, AskFault, Asked, CallRecord, Caps, Conn, Control, DbEnd, Dest, Dests, DriverAnswer,
+    DriverCall, Entry, Event, Fate, Fleet, Flight, Items, Label, Level, MAX_EVENTS, MOST_OPEN,
+    Memory, Move, Op, Owner, Past, Permit, Place, Planned, Pool, Reply, Request, RowsFault,
+    RowsTable, Scope, Setting, Stand, Target, TxEnd, Txs, Txt, Wire, Wish, Work,
+};

@@ -1,4 +1,5 @@
--- What calls are answered: each answer suits its call, and tells of the session's handles and cursors as it should.
+-- The answers to calls. Each answer fits its call and reports the session's handles and cursors as it should.
+-- The proofs go by cases on the call.
 use Rattle.std.proofs.Common.{◌≡◌, ℕ, ℤ, pos, ◌+ℤ◌, ◌==◌, List, [], ◌∷◌, Bool, true, false, cond, not, ◌||◌, Option, Some, None, is_some, option_map, eqb, length, nat_lt, ap, sym, refl, ◌∙◌, inl, inr}
 use Rattle.std.specs.Prelude.{⊤}
 use Rattle.std.specs.List.{slice_get}
@@ -9,30 +10,30 @@ use Rattle.dsql_driver.specs.Wires.{LiveCursor, KeepsHandles, KeepsCursors, has_
 use Rattle.dsql_driver.specs.declared.answer.DriverAnswer.{DriverAnswer}
 use Rattle.dsql_driver.specs.declared.answer.DriverAnswer.TheVariants.{Done, Prepared, Result, Cursor, Row, End, Invalid, Skip, Bad, Fail, Memory}
 use Rattle.dsql_driver.specs.declared.call.DriverCall.{DriverCall}
-use Rattle.dsql_driver.specs.declared.call.DriverCall.TheVariants.{Connect, Reset, Valid, Ping, Prepare, CloseStmt, Exec, Query, Next, CloseRows, Begin, Commit, Rollback, Shut}
+use Rattle.dsql_driver.specs.declared.call.DriverCall.TheVariants.{Connect, Reset, Valid, Ping, Prepare, CloseStmt, Exec, Query, Next, CloseRows, Rollback, Shut}
 use Rattle.dsql_driver.specs.declared.call.Input.{Input}
 use Rattle.dsql_driver.specs.declared.call.Input.TheVariants as input
 use Rattle.dsql_value.specs.declared.value.Param.{Param}
 use Rattle.dsql_value.specs.declared.value.Value.{Value}
 use Rattle.dsql_value.specs.declared.value.Value.TheVariants as value
-use Rattle.dsql_session.specs.Cursor.{CursorState, columns_of, row_of, next_row}
+use Rattle.dsql_mem_session.specs.Cursor.{CursorState, columns_of, row_of, next_row}
 use Rattle.dsql_mem_calls.specs.Effect.{Effect, effect, carried_out, in_session, only_answered}
-use Rattle.dsql_session.specs.Calls.{executed_in, executed, executed_text, executed_prepared, commanded, added, deleted, summed, number_in, prepared, closed, found, queried, queried_text, queried_prepared, queried_in, opened, given, next_taken, rows_closed, shown, no_such_handle}
-use Rattle.dsql_store.specs.Entries.{Entries, value_at, entry_at, listed}
-use Rattle.dsql_session.specs.Filled.{key_for, value_for, left_after}
-use Rattle.dsql_session.specs.Number.{fits_i64}
-use Rattle.dsql_session.specs.Session.{SessionState, IsSound, handles_of, cursors_of, cursor_of, text_of, is_live, is_open, largest_number}
-use Rattle.dsql_session.specs.Statement.{Statement, Set, Add, Del, Get, ListKeys, statement_of, inputs_of, is_query}
-use Rattle.dsql_session.specs.declared.cursor.Shape.{Shape}
-use Rattle.dsql_session.specs.declared.cursor.Shape.TheVariants as shape
-use Rattle.dsql_session.specs.declared.execute.Outcome.{Outcome}
-use Rattle.dsql_session.specs.declared.execute.Outcome.TheVariants.{Write}
-use Rattle.dsql_session.specs.declared.execute.Outcome.TheVariants as outcome
-use Rattle.dsql_session.specs.declared.query.Found.{Found}
-use Rattle.dsql_session.specs.declared.query.Found.TheVariants.{Rows, Refused}
-use Rattle.dsql_session.proofs.SessionLemmas.{reverse-push, reverse-without, handle_of, live_cursor, handle_is_new, cursor_is_new, cursors-advanced, width-cursors}
+use Rattle.dsql_mem_session.specs.Calls.{executed_in, executed, executed_text, executed_prepared, commanded, added, deleted, summed, number_in, prepared, closed, found, queried, queried_text, queried_prepared, queried_in, opened, given, next_taken, rows_closed, shown, no_such_handle}
+use Rattle.dsql_mem_store.specs.Entries.{Entries, value_at, entry_at, listed}
+use Rattle.dsql_mem_session.specs.Filled.{key_for, value_for, left_after}
+use Rattle.dsql_mem_session.specs.Number.{fits_i64}
+use Rattle.dsql_mem_session.specs.Session.{SessionState, IsSound, handles_of, cursors_of, cursor_of, text_of, is_live, is_open, largest_number}
+use Rattle.dsql_mem_session.specs.Statement.{Statement, Set, Add, Del, Get, ListKeys, statement_of, inputs_of, is_query}
+use Rattle.dsql_mem_session.specs.declared.cursor.Shape.{Shape}
+use Rattle.dsql_mem_session.specs.declared.cursor.Shape.TheVariants as shape
+use Rattle.dsql_mem_session.specs.declared.execute.Outcome.{Outcome}
+use Rattle.dsql_mem_session.specs.declared.execute.Outcome.TheVariants.{Write}
+use Rattle.dsql_mem_session.specs.declared.execute.Outcome.TheVariants as outcome
+use Rattle.dsql_mem_session.specs.declared.query.Found.{Found}
+use Rattle.dsql_mem_session.specs.declared.query.Found.TheVariants.{Rows, Refused}
+use Rattle.dsql_mem_session.proofs.SessionLemmas.{reverse-push, reverse-without, handle_of, live_cursor, handle_is_new, cursor_is_new, cursors-advanced, width-cursors}
 
--- both branches have a property
+-- If both branches have a property, the choice between them has it.
 pub cond_both : {A : Type 0} (P : A → Type 0) (b : Bool) (x y : A) → P x → P y → P (cond b x y)
 cond_both P true x y p q = p
 cond_both P false x y p q = q
@@ -41,7 +42,8 @@ pub option_both : {A B : Type 0} (P : B → Type 0) (f : A → B) (o : Option A)
 option_both P f None d p q = q
 option_both P f (Some a) d p q = p a
 
--- the answer suits the call, and the session's handles and cursors are as it tells
+-- Holds if the answer fits the call and isn't Memory, and the session's handles and cursors change as the
+-- answer says.
 pub record IsLawful (session : SessionState) (call : DriverCall) (after : Effect) : Type 0 where
   pub fits : fits_of call after.answer ≡ true
   pub answered : is_memory after.answer ≡ false
@@ -62,12 +64,12 @@ closed-IsLawful store session handle =
     (record { fits = refl; answered = refl; handles = inr (reverse-without handle_of (λ n. not (eqb n handle)) session.statements); cursors = refl })
     (record { fits = refl; answered = refl; handles = inl refl; cursors = refl })
 
--- an Exec or a Query is refused by a Fail, and by Skip where it came as a text
+-- Is true if the answer refuses an Exec or a Query: by a failure, or by Skip if it came as a text.
 abbrev is_refusal : Input → DriverAnswer → Bool
 is_refusal (input.Text text) answer = is_failure answer || is_skip answer
 is_refusal (input.Handle handle) answer = is_failure answer
 
--- an Exec, or a Query
+-- Returns an Exec or a Query.
 abbrev run_of : Bool → Input → List Param → DriverCall
 run_of true i params = Exec i params
 run_of false i params = Query i params
@@ -109,11 +111,7 @@ added-OutcomeFits : (i : Input) (store : Entries) (key : List ℕ) (v : Value) �
 added-OutcomeFits i store key (value.Int by) =
     option_both (OutcomeFits i) (λ number. summed key (number +ℤ by)) (number_in (value_at key store)) _
     (λ number. cond_both (OutcomeFits i) (fits_i64 (number +ℤ by)) _ _ tt (fail-OutcomeFits i _)) (fail-OutcomeFits i _)
-added-OutcomeFits i store key value.Nil = fail-OutcomeFits i _
-added-OutcomeFits i store key (value.Bool b) = fail-OutcomeFits i _
-added-OutcomeFits i store key (value.Bytes b) = fail-OutcomeFits i _
-added-OutcomeFits i store key (value.Text t) = fail-OutcomeFits i _
-added-OutcomeFits i store key (value.Time t) = fail-OutcomeFits i _
+added-OutcomeFits i store key _ = fail-OutcomeFits i _
 
 commanded-OutcomeFits : (i : Input) (store : Entries) (s : Statement) (params : List Param) → OutcomeFits i (commanded store s params)
 commanded-OutcomeFits i store (Set key v) params =
@@ -123,8 +121,7 @@ commanded-OutcomeFits i store (Add key v) params =
     (λ k. added-OutcomeFits i store k (value_for v (left_after key params))) (fail-OutcomeFits i _)
 commanded-OutcomeFits i store (Del key) params =
     option_both (OutcomeFits i) (λ k. deleted store k) (key_for key params) _ (λ k. tt) (fail-OutcomeFits i _)
-commanded-OutcomeFits i store (Get key) params = fail-OutcomeFits i _
-commanded-OutcomeFits i store (ListKeys prefix) params = fail-OutcomeFits i _
+commanded-OutcomeFits i store _ params = fail-OutcomeFits i _
 
 executed-OutcomeFits : (i : Input) (store : Entries) (s : Statement) (params : List Param) → OutcomeFits i (executed store s params)
 executed-OutcomeFits i store s params =
@@ -169,9 +166,7 @@ found-FoundFits i store (Get key) params =
     option_both (FoundFits i) (λ k. Rows shape.Values (entry_at k store)) (key_for key params) _ (λ k. tt) (fail-FoundFits i _)
 found-FoundFits i store (ListKeys prefix) params =
     option_both (FoundFits i) (λ p. Rows shape.Entries (listed p store)) (key_for prefix params) _ (λ k. tt) (fail-FoundFits i _)
-found-FoundFits i store (Set key v) params = fail-FoundFits i _
-found-FoundFits i store (Add key v) params = fail-FoundFits i _
-found-FoundFits i store (Del key) params = fail-FoundFits i _
+found-FoundFits i store _ params = fail-FoundFits i _
 
 queried-FoundFits : (i : Input) (store : Entries) (s : Statement) (params : List Param) → FoundFits i (queried store s params)
 queried-FoundFits i store s params =
@@ -209,7 +204,7 @@ shown-IsLawful : (store : Entries) (session : SessionState) (i : Input) (params 
 shown-IsLawful store session i params (Rows shape entries) h sound = opened-IsLawful store session i params shape entries sound
 shown-IsLawful store session i params (Refused answer) h sound = refused-IsLawful store session false i params answer h
 
--- a row has as many values as its cursor has columns
+-- A row has as many values as its cursor has columns.
 length-next_row : (shape : Shape) (entries : Entries) (row : List Value) → option_map (λ entry. row_of shape entry) (slice_get entries 0) ≡ Some row → length row ≡ length (columns_of shape)
 length-next_row shape.Values [] row h = absurd (none-some row h)
 length-next_row shape.Entries [] row h = absurd (none-some row h)
@@ -254,15 +249,11 @@ effect-IsLawful store session (Query i params) sound =
     shown-IsLawful store session i params (queried_in store session i params) (queried_in-FoundFits store session i params) sound
 effect-IsLawful store session (Next rows) sound = next_taken-IsLawful store session rows sound
 effect-IsLawful store session (CloseRows rows) sound = rows_closed-IsLawful store session rows
-effect-IsLawful store session (Begin level read_only) sound =
-    cond_both (λ kept. IsLawful session (Begin level read_only) (in_session store kept)) (is_some session.undo) _ _
-    (record { fits = refl; answered = refl; handles = refl; cursors = refl })
-    (record { fits = refl; answered = refl; handles = refl; cursors = refl })
-effect-IsLawful store session Commit sound =
-    cond_both (λ kept. IsLawful session Commit (in_session store kept)) (is_some session.undo) _ _
-    (record { fits = refl; answered = refl; handles = refl; cursors = refl })
-    (record { fits = refl; answered = refl; handles = refl; cursors = refl })
 effect-IsLawful store session Rollback sound =
     cond_both (IsLawful session Rollback) (is_some session.undo) _ _
+    (record { fits = refl; answered = refl; handles = refl; cursors = refl })
+    (record { fits = refl; answered = refl; handles = refl; cursors = refl })
+effect-IsLawful store session x sound =
+    cond_both (λ kept. IsLawful session x (in_session store kept)) (is_some session.undo) _ _
     (record { fits = refl; answered = refl; handles = refl; cursors = refl })
     (record { fits = refl; answered = refl; handles = refl; cursors = refl })

@@ -1,4 +1,4 @@
--- Each worked call is judged by computing.
+-- Each worked call holds by computation.
 use Rattle.std.proofs.Common.{refl}
 use Rattle.std.specs.Fmt.{digits}
 use Rattle.dsql_mem.specs.Worked.{WorkedNumbers, WorkedTexts, WorkedHandles, WorkedQueries, WorkedTransactions}

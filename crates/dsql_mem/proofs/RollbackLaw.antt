@@ -1,4 +1,5 @@
--- A rollback restores what was there when the transaction began.
+-- A rollback restores what was there when the transaction began. The session's notes lead the store back, and
+-- each write keeps that so.
 use Rattle.std.proofs.Common.{◌≡◌, ℕ, List, [], ◌∷◌, Bool, true, false, cond, Option, Some, None, is_some, option_map, ap, sym, subst, refl, ◌∙◌}
 use Rattle.std.specs.List.{list_all}
 use Rattle.std.specs.Str.{bytes_eq}
@@ -6,26 +7,26 @@ use Rattle.std.proofs.lemmas.Bool.{and_parts}
 use Rattle.std.proofs.lemmas.Slice.Eq.{bytes_eq-Decides}
 use Rattle.dsql_driver.specs.declared.answer.DriverAnswer.TheVariants.{Done}
 use Rattle.dsql_driver.specs.declared.call.DriverCall.{DriverCall}
-use Rattle.dsql_driver.specs.declared.call.DriverCall.TheVariants.{Connect, Reset, Valid, Ping, Prepare, CloseStmt, Exec, Query, Next, CloseRows, Begin, Commit, Rollback, Shut}
+use Rattle.dsql_driver.specs.declared.call.DriverCall.TheVariants.{Connect, Valid, Ping, Prepare, CloseStmt, Exec, Query, Next, CloseRows, Begin, Rollback}
 use Rattle.dsql_driver.specs.declared.call.Level.{Level}
 use Rattle.dsql_value.specs.declared.value.Value.{Value}
-use Rattle.dsql_session.specs.Cursor.{next_row}
+use Rattle.dsql_mem_session.specs.Cursor.{next_row}
 use Rattle.dsql_mem_calls.specs.Effect.{effect, carried_out, in_session}
-use Rattle.dsql_session.specs.Calls.{Kept, executed_in, prepared, closed, queried_in, shown, given, next_taken, rows_closed, in_transaction}
-use Rattle.dsql_store.specs.Entries.{Entries, AreAscending, value_at, with_state}
+use Rattle.dsql_mem_session.specs.Calls.{Kept, executed_in, prepared, closed, queried_in, shown, given, next_taken, rows_closed, in_transaction}
+use Rattle.dsql_mem_store.specs.Entries.{Entries, AreAscending, value_at, with_state}
 use Rattle.dsql_mem.specs.Laws.{RollbackRestores, leaves_transaction, after_calls}
-use Rattle.dsql_session.specs.Session.{SessionState, cursor_of, is_live, is_open}
-use Rattle.dsql_session.specs.Statement.{Statement, statement_of}
-use Rattle.dsql_store.specs.Undo.{rolled_back}
-use Rattle.dsql_session.specs.declared.execute.Outcome.{Outcome}
-use Rattle.dsql_session.specs.declared.execute.Outcome.TheVariants as outcome
-use Rattle.dsql_store.specs.declared.note.Note.{Note}
-use Rattle.dsql_session.specs.declared.query.Found.{Found}
-use Rattle.dsql_session.specs.declared.query.Found.TheVariants.{Rows, Refused}
-use Rattle.dsql_store.proofs.Ascending.{ascending-with_state}
-use Rattle.dsql_store.proofs.DelLaw.{deletes_one_key}
+use Rattle.dsql_mem_session.specs.Session.{SessionState, cursor_of, is_live, is_open}
+use Rattle.dsql_mem_session.specs.Statement.{Statement, statement_of}
+use Rattle.dsql_mem_store.specs.Undo.{rolled_back}
+use Rattle.dsql_mem_session.specs.declared.execute.Outcome.{Outcome}
+use Rattle.dsql_mem_session.specs.declared.execute.Outcome.TheVariants as outcome
+use Rattle.dsql_mem_store.specs.declared.note.Note.{Note}
+use Rattle.dsql_mem_session.specs.declared.query.Found.{Found}
+use Rattle.dsql_mem_session.specs.declared.query.Found.TheVariants.{Rows, Refused}
+use Rattle.dsql_mem_store.proofs.Ascending.{ascending-with_state}
+use Rattle.dsql_mem_store.proofs.DelLaw.{deletes_one_key}
 use Rattle.dsql_mem.proofs.EffectLemmas.{cond_both, option_both}
-use Rattle.dsql_store.proofs.SetLaw.{sets_one_key}
+use Rattle.dsql_mem_store.proofs.SetLaw.{sets_one_key}
 
 bytes_eq-swap : (xs ys : List ℕ) → bytes_eq xs ys ≡ bytes_eq ys xs
 bytes_eq-swap xs ys = both (bytes_eq xs ys) (bytes_eq ys xs) (λ h. (bytes_eq-Decides ys xs).1 (sym ((bytes_eq-Decides xs ys).0 h))) (λ h. (bytes_eq-Decides xs ys).1 (sym ((bytes_eq-Decides ys xs).0 h))) where
@@ -39,7 +40,7 @@ value_at-with_state q key (Some value) store h = sets_one_key key value store q
 value_at-with_state q key None store h =
     deletes_one_key key store q h ∙ ap (λ b. cond b None (value_at q store)) (bytes_eq-swap key q)
 
--- two stores have the same at each key
+-- Holds if two stores have the same value at each key.
 record Same (s t : Entries) : Type 0 where
   at : (q : List ℕ) → value_at q s ≡ value_at q t
 
@@ -53,7 +54,7 @@ rolled_back-Same (n ∷ notes) s t a b h =
           ∙ sym (value_at-with_state q n.key n.value t b);
     })
 
--- a write is undone by giving the key what it had
+-- Giving the key back the value that it had undoes a write.
 undone : (key : List ℕ) (state : Option Value) (store : Entries) → AreAscending store → Same (with_state key (value_at key store) (with_state key state store)) store
 undone key state store h = record {
   at = λ q. value_at-with_state q key (value_at key store) (with_state key state store) (ascending-with_state key state store h)
@@ -64,7 +65,7 @@ undone key state store h = record {
   merge true x y z h = h refl
   merge false x y z h = refl
 
--- a session's notes lead a store back to what it was
+-- Holds if a session's notes lead a store back to what it was.
 record LeadsBack (store : Entries) (session : SessionState) (origin : Entries) : Type 0 where
   notes : List Note
   noted : session.undo ≡ Some notes
@@ -117,11 +118,7 @@ one_call store session origin (Next rows) l h =
     (option_both (KeepsUndo session) (λ c. given session rows (next_row c)) (cursor_of rows session) _ (λ c. given-KeepsUndo session rows (next_row c)) refl) h
 one_call store session origin (CloseRows rows) l h =
     aside store session origin (rows_closed session rows) (cond_both (KeepsUndo session) (is_open rows session) _ _ refl refl) h
-one_call store session origin Reset l h = cc
-one_call store session origin (Begin level read_only) l h = cc
-one_call store session origin Commit l h = cc
-one_call store session origin Rollback l h = cc
-one_call store session origin Shut l h = cc
+one_call store session origin _ l h = cc
 
 all_calls : (store : Entries) (session : SessionState) (origin : Entries) (calls : List DriverCall) → list_all leaves_transaction calls ≡ true → LeadsBack store session origin → LeadsBack (after_calls store session calls).0 (after_calls store session calls).1 origin
 all_calls store session origin [] l h = h

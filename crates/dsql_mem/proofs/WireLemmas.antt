@@ -1,35 +1,28 @@
--- What a wire is after a call that it carried out on some map, or for which memory was wanting.
+-- What a wire is after a call that it carried out on some map, or for which there was no memory. The answer
+-- decides which of the two it was.
 use Rattle.std.proofs.Common.{◌≡◌, ◌⊎◌, ℕ, true, false, Option, refl, ap, ◌∙◌, inl, inr}
 use Rattle.dsql_driver.specs.Fits.{fits_of, is_memory}
 use Rattle.dsql_driver.specs.Wires.{WireTold, with_call, KeepsHandles, KeepsCursors}
 use Rattle.dsql_driver.specs.declared.answer.DriverAnswer.{DriverAnswer}
-use Rattle.dsql_driver.specs.declared.answer.DriverAnswer.TheVariants.{Done, Prepared, Result, Cursor, Row, End, Invalid, Skip, Bad, Fail, Memory}
+use Rattle.dsql_driver.specs.declared.answer.DriverAnswer.TheVariants.{Memory}
 use Rattle.dsql_driver.specs.declared.call.DriverCall.{DriverCall}
-use Rattle.dsql_store.specs.Entries.{Entries}
-use Rattle.dsql_session.specs.Session.{SessionState, IsSound, handles_of, cursors_of}
+use Rattle.dsql_mem_store.specs.Entries.{Entries}
+use Rattle.dsql_mem_session.specs.Session.{SessionState, IsSound, handles_of, cursors_of}
 use Rattle.dsql_mem_calls.specs.Effect.{effect_unless}
 use Rattle.dsql_mem.specs.Wire.{WireState, CarriesOut, fault_in_place, after_call, faults_after}
 use Rattle.dsql_mem.proofs.PlanLemmas.{comes_of-IsLawful}
 
--- a wire that took a call's answer and noted it is the wire after the call
+-- A wire that took a call's answer and recorded it is the wire after the call.
 pub changed_by_parts : (store : Entries) (call : DriverCall) (before : WireState) (fault : Option DriverAnswer) (session : SessionState) (told : WireTold) (faults : ℕ) (answer : DriverAnswer) → fault ≡ fault_in_place before call → session ≡ (effect_unless fault store before.session call).session → answer ≡ (effect_unless fault store before.session call).answer → told ≡ with_call (call, answer) before.told → faults ≡ faults_after before.faults answer → record { session = session; told = told; planned = before.planned; faults = faults } ≡ after_call store before call
 changed_by_parts store call before fault session told faults answer d s a h f = rw (h, f, s, a, d) refl
 
--- Memory, or another answer
+-- An answer is Memory or another one.
 memory-or_not : (answer : DriverAnswer) → (answer ≡ Memory) ⊎ (is_memory answer ≡ false)
 memory-or_not Memory = inl refl
-memory-or_not Done = inr refl
-memory-or_not (Prepared handle inputs) = inr refl
-memory-or_not (Result last affected) = inr refl
-memory-or_not (Cursor rows columns) = inr refl
-memory-or_not (Row values) = inr refl
-memory-or_not End = inr refl
-memory-or_not Invalid = inr refl
-memory-or_not Skip = inr refl
-memory-or_not Bad = inr refl
-memory-or_not (Fail text) = inr refl
+memory-or_not _ = inr refl
 
--- a wire's answer and what it was before and afterwards
+-- Holds if the wire carried the call out with this answer, or there was no memory and it stayed as it was. Its
+-- session was sound before.
 pub record IsHeard (store : Entries) (call : DriverCall) (answer : DriverAnswer) (before after : WireState) : Type 0 where
   pub carried_out : is_memory answer ≡ false → CarriesOut store call answer before after
   pub sound : IsSound before.session

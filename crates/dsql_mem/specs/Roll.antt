@@ -4,7 +4,7 @@ use Rattle.dsql_driver.specs.Wires.{RetiredWire}
 use Rattle.dsql_mem_plans.specs.Log.{told_of}
 use Rattle.dsql_mem.specs.declared.roll.Roll.{Roll, Empty, Wire'}
 
--- the wires on the roll with what they tell, oldest first
+-- Returns the wires on the roll with their reports, oldest first.
 abbrev pub retired_of : Roll → List RetiredWire
 retired_of Empty = []
 retired_of (Wire' number log place before) = retired_of before ++ (number, told_of log) ∷ []

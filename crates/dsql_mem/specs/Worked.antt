@@ -10,12 +10,12 @@ use Rattle.dsql_value.specs.declared.value.Param.{Param}
 use Rattle.dsql_value.specs.declared.value.Value.{Value}
 use Rattle.dsql_value.specs.declared.value.Value.TheVariants.{Nil, Int, Text}
 use Rattle.dsql_mem_calls.specs.Effect.{Effect, effect, only_answered}
-use Rattle.dsql_session.specs.Calls.{no_such_handle, no_such_statement, not_a_command, not_a_query, wrong_arguments, key_is_not_text, not_a_number, out_of_range, in_transaction, no_transaction, numbers_spent}
-use Rattle.dsql_store.specs.Entries.{Entries, with_value, value_at}
-use Rattle.dsql_session.specs.Number.{number_of}
-use Rattle.dsql_session.specs.Session.{SessionState, new_session}
+use Rattle.dsql_mem_session.specs.Calls.{no_such_handle, no_such_statement, not_a_command, not_a_query, wrong_arguments, key_is_not_text, not_a_number, out_of_range, in_transaction, no_transaction, numbers_spent}
+use Rattle.dsql_mem_store.specs.Entries.{Entries, with_value, value_at}
+use Rattle.dsql_mem_session.specs.Number.{number_of}
+use Rattle.dsql_mem_session.specs.Session.{SessionState, new_session}
 
--- numbers by their spelling
+-- Holds if these words spell these numbers, or none.
 pub record WorkedNumbers : Type 0 where
   pub minus_five : number_of (codes "-5") ≡ Some (negsuc 4)
   pub minus_zero : number_of (codes "-0") ≡ None
@@ -25,23 +25,23 @@ pub record WorkedNumbers : Type 0 where
   pub too_large : number_of (codes "9223372036854775808") ≡ None
   pub smallest : number_of (codes "-9223372036854775808") ≡ Some (negsuc 9223372036854775807)
 
--- a map with a number, the largest number and a text
+-- Returns a map with a number, the largest number and a text.
 abbrev pub sample : Entries
 sample = (codes "b", Int (pos 7)) ∷ (codes "m", Int (pos 9223372036854775807)) ∷ (codes "t", Text (codes "Ann")) ∷ []
 
--- the effect of a text without parameters
+-- Returns the effect of executing a text without parameters.
 abbrev pub executes : List ℕ → Effect
 executes text = effect sample new_session (Exec (input.Text text) [])
 
--- an answer after which all is as it was
+-- Returns the effect of an answer that changes nothing.
 abbrev pub only : DriverAnswer → Effect
 only answer = only_answered sample new_session answer
 
--- the answer to a command that was carried out: no last id, and so many entries affected
+-- Returns the answer to a command that was carried out: no last id, and this many entries affected.
 abbrev pub affected : ℕ → DriverAnswer
 affected n = Result (pos 0) (pos n)
 
--- a command that affected so many entries, and the map afterwards
+-- Returns the effect of a command that affected this many entries and left this map.
 abbrev pub done : ℕ → Entries → Effect
 done n store = only_answered store new_session (affected n)
 
@@ -65,129 +65,140 @@ pub record WorkedTexts : Type 0 where
   pub third_word : executes (codes "DEL a b") ≡ only no_such_statement
   pub other_verb : executes (codes "PUT a 1") ≡ only no_such_statement
 
--- what calls are answered, one after the other, on an empty map and in a new session
+-- Returns the answers to calls, one after the other, on this map and in this session.
 abbrev pub answers_from : Entries → SessionState → List DriverCall → List DriverAnswer
 answers_from store session [] = []
 answers_from store session (call ∷ calls) = let after = effect store session call in
     after.answer ∷ answers_from after.store after.session calls
 
--- a handle is executed with values; names would be passed over
+-- Returns the call that executes a handle with these parameters. Their names are ignored.
 abbrev pub exec : ℕ → List Param → DriverCall
 exec handle params = Exec (input.Handle handle) params
 
--- a parameter without a name, and one with a name
+-- Returns a parameter without a name. `named` returns one with a name.
 abbrev pub unnamed : Value → Param
 unnamed value = record { name = None; value = value }
 
 abbrev pub named : List ℕ → Value → Param
 named name value = record { name = Some name; value = value }
 
--- what a wire is asked without parameters
+-- Returns the call that queries a text without parameters.
 abbrev pub ask : List ℕ → DriverCall
 ask text = Query (input.Text text) []
 
--- the answers to queries
+-- Holds if worked queries have these answers.
 pub record WorkedQueries : Type 0 where
-  -- a key that is there has one row, and one that isn't has none
+  -- A key that is there has one row, and one that isn't has none.
   pub get :
-      answers_from sample new_session (ask (codes "GET b") ∷ Next 1 ∷ Next 1 ∷ Next 1 ∷ ask (codes "GET a") ∷ Next 2 ∷ [])
+      answers_from sample new_session (ask (codes "GET b") ∷ Next 1 ∷ Next 1 ∷ Next 1 ∷ ask
+      (codes "GET a") ∷ Next 2 ∷ [])
       ≡ Cursor 1 (codes "value" ∷ []) ∷ Row (Int (pos 7) ∷ []) ∷ End ∷ End ∷ Cursor 2 (codes "value" ∷ []) ∷ End ∷ []
-  -- the keys with a prefix are listed in their order
+  -- The keys with a prefix are listed in their order.
   pub list :
-      answers_from ((codes "a", Nil) ∷ (codes "ab", Int (pos 1)) ∷ (codes "abc", Int (pos 2)) ∷ (codes "b", Nil) ∷ []) new_session
+      answers_from ((codes "a", Nil) ∷ (codes "ab", Int (pos 1)) ∷ (codes "abc", Int (pos 2)) ∷
+      (codes "b", Nil) ∷ []) new_session
       (ask (codes "LIST ab") ∷ Next 1 ∷ Next 1 ∷ Next 1 ∷ [])
       ≡ Cursor 1 (codes "key" ∷ codes "value" ∷ []) ∷ Row (Text (codes "ab") ∷ Int (pos 1) ∷ [])
       ∷ Row (Text (codes "abc") ∷ Int (pos 2) ∷ []) ∷ End ∷ []
-  -- a cursor shows what was there at its query, whatever is written later, until it is closed
+  -- Until it is closed, a cursor shows what was there at its query, whatever is written later.
   pub moment :
       answers_from [] new_session
-      (Exec (input.Text (codes "SET a 1")) [] ∷ ask (codes "GET a") ∷ Exec (input.Text (codes "DEL a")) [] ∷ Next 1 ∷ CloseRows 1
+      (Exec (input.Text (codes "SET a 1")) [] ∷ ask (codes "GET a") ∷ Exec
+      (input.Text (codes "DEL a")) [] ∷ Next 1 ∷ CloseRows 1
       ∷ Next 1 ∷ CloseRows 1 ∷ ask (codes "GET a") ∷ [])
       ≡ affected 1 ∷ Cursor 1 (codes "value" ∷ []) ∷ affected 1 ∷ Row (Int (pos 1) ∷ []) ∷ Done ∷ no_such_handle
       ∷ no_such_handle ∷ Cursor 2 (codes "value" ∷ []) ∷ []
-  -- a query that was prepared takes its key from a parameter
+  -- A prepared query takes its key from a parameter.
   pub prepared :
       answers_from sample new_session
       (Prepare (codes "GET ?") ∷ Query (input.Handle 1) (unnamed (Text (codes "t")) ∷ []) ∷ Next 1
-      ∷ Query (input.Handle 1) (unnamed (Int (pos 1)) ∷ []) ∷ Query (input.Handle 1) [] ∷ Query (input.Handle 2) [] ∷ [])
+      ∷ Query (input.Handle 1) (unnamed (Int (pos 1)) ∷ []) ∷ Query (input.Handle 1) [] ∷ Query
+      (input.Handle 2) [] ∷ [])
       ≡ Prepared 1 (pos 1) ∷ Cursor 1 (codes "value" ∷ []) ∷ Row (Text (codes "Ann") ∷ []) ∷ key_is_not_text
       ∷ wrong_arguments ∷ no_such_handle ∷ []
-  -- what isn't asked
+  -- A command, a text with inputs, a text that is no statement, and a text with parameters are not queried.
   pub refused :
       answers_from sample new_session
-      (ask (codes "DEL b") ∷ ask (codes "GET ?") ∷ ask (codes "GET") ∷ Query (input.Text (codes "GET b")) (unnamed Nil ∷ []) ∷ Next 1
+      (ask (codes "DEL b") ∷ ask (codes "GET ?") ∷ ask (codes "GET") ∷ Query (input.Text (codes "GET b"))
+      (unnamed Nil ∷ []) ∷ Next 1
       ∷ [])
       ≡ not_a_query ∷ Skip ∷ no_such_statement ∷ Skip ∷ no_such_handle ∷ []
-  -- the numbers of cursors are spent
+  -- The numbers of cursors are spent.
   pub spent :
-      answers_from [] (record new_session { last_cursor = 4294967294 }) (ask (codes "LIST a") ∷ ask (codes "LIST a") ∷ Next 4294967295 ∷ [])
+      answers_from [] (record new_session { last_cursor = 4294967294 })
+      (ask (codes "LIST a") ∷ ask (codes "LIST a") ∷ Next 4294967295 ∷ [])
       ≡ Cursor 4294967295 (codes "key" ∷ codes "value" ∷ []) ∷ numbers_spent ∷ End ∷ []
 
--- what a wire is told without parameters, and a Begin
+-- Returns the call that executes a text without parameters. `begin` is a Begin.
 abbrev pub tell : List ℕ → DriverCall
 tell text = Exec (input.Text text) []
 
 abbrev pub begin : DriverCall
 begin = Begin Default false
 
--- transactions
+-- Holds if worked transactions have these answers.
 pub record WorkedTransactions : Type 0 where
-  -- a key that was written twice has its first value again, one that came is gone, and one that went is back
+  -- A key that was written twice has its first value again, one that was added is gone, and one that was
+  -- deleted is back.
   pub rolled_back :
       answers_from sample new_session
-      (begin ∷ tell (codes "SET b 1") ∷ tell (codes "SET b 2") ∷ tell (codes "SET a 3") ∷ tell (codes "DEL t") ∷ Rollback
+      (begin ∷ tell (codes "SET b 1") ∷ tell (codes "SET b 2") ∷ tell (codes "SET a 3") ∷ tell
+      (codes "DEL t") ∷ Rollback
       ∷ ask (codes "GET b") ∷ Next 1 ∷ ask (codes "GET a") ∷ Next 2 ∷ ask (codes "GET t") ∷ Next 3 ∷ [])
-      ≡ Done ∷ affected 1 ∷ affected 1 ∷ affected 1 ∷ affected 1 ∷ Done ∷ Cursor 1 (codes "value" ∷ []) ∷ Row (Int (pos 7) ∷ [])
+      ≡ Done ∷ affected 1 ∷ affected 1 ∷ affected 1 ∷ affected 1 ∷ Done ∷ Cursor 1 (codes "value" ∷ []) ∷ Row
+      (Int (pos 7) ∷ [])
       ∷ Cursor 2 (codes "value" ∷ []) ∷ End ∷ Cursor 3 (codes "value" ∷ []) ∷ Row (Text (codes "Ann") ∷ []) ∷ []
-  -- what was committed stays
+  -- What was committed stays.
   pub committed :
-      answers_from [] new_session (begin ∷ tell (codes "SET a 1") ∷ Commit ∷ Rollback ∷ ask (codes "GET a") ∷ Next 1 ∷ [])
+      answers_from [] new_session (begin ∷ tell (codes "SET a 1") ∷ Commit ∷ Rollback ∷ ask
+      (codes "GET a") ∷ Next 1 ∷ [])
       ≡ Done ∷ affected 1 ∷ Done ∷ no_transaction ∷ Cursor 1 (codes "value" ∷ []) ∷ Row (Int (pos 1) ∷ []) ∷ []
-  -- a Begin fails in a transaction, and leaves it open
+  -- A Begin fails in a transaction, and leaves it open.
   pub begun_twice :
       answers_from [] new_session (Commit ∷ begin ∷ begin ∷ Rollback ∷ Rollback ∷ [])
       ≡ no_transaction ∷ Done ∷ in_transaction ∷ Done ∷ no_transaction ∷ []
-  -- a Reset rolls back, and leaves handles and cursors as they are
+  -- A Reset rolls back, and leaves handles and cursors as they are.
   pub reset :
       answers_from [] new_session
       (Prepare (codes "GET a") ∷ begin ∷ tell (codes "SET a 1") ∷ Query (input.Handle 1) [] ∷ Reset ∷ Commit ∷ Next 1
       ∷ Query (input.Handle 1) [] ∷ Next 2 ∷ [])
-      ≡ Prepared 1 (pos 0) ∷ Done ∷ affected 1 ∷ Cursor 1 (codes "value" ∷ []) ∷ Done ∷ no_transaction ∷ Row (Int (pos 1) ∷ [])
+      ≡ Prepared 1 (pos 0) ∷ Done ∷ affected 1 ∷ Cursor 1 (codes "value" ∷ []) ∷ Done ∷ no_transaction ∷ Row
+      (Int (pos 1) ∷ [])
       ∷ Cursor 2 (codes "value" ∷ []) ∷ End ∷ []
 
 pub record WorkedHandles : Type 0 where
-  -- the parameters are taken in order
+  -- The parameters are taken in order.
   pub by_order :
       answers_from [] new_session
       (Prepare (codes "SET ? ?") ∷ exec 1 (unnamed (Text (codes "a")) ∷ unnamed (Int (pos 5)) ∷ [])
       ∷ exec 1 (unnamed (Int (pos 5)) ∷ unnamed (Text (codes "a")) ∷ [])
       ∷ exec 1 (named (codes "value") (Text (codes "b")) ∷ named (codes "key") Nil ∷ []) ∷ [])
       ≡ Prepared 1 (pos 2) ∷ affected 1 ∷ key_is_not_text ∷ affected 1 ∷ []
-  -- a handle is over once it is closed, and its number isn't given again
+  -- A closed handle is gone, and its number isn't given again.
   pub closed :
       answers_from [] new_session
       (exec 1 [] ∷ Prepare (codes "DEL a") ∷ exec 1 [] ∷ CloseStmt 1 ∷ exec 1 [] ∷ CloseStmt 1
       ∷ Prepare (codes "DEL a") ∷ [])
       ≡ no_such_handle ∷ Prepared 1 (pos 0) ∷ affected 0 ∷ Done ∷ no_such_handle ∷ no_such_handle
       ∷ Prepared 2 (pos 0) ∷ []
-  -- a value grows by an input
+  -- A value grows by an input.
   pub grows :
       answers_from [] new_session
       (Prepare (codes "ADD a ?") ∷ exec 1 (unnamed (Int (pos 2)) ∷ []) ∷ exec 1 (unnamed (Int (negsuc 4)) ∷ [])
       ∷ exec 1 (unnamed (Text (codes "2")) ∷ []) ∷ exec 1 (unnamed Nil ∷ []) ∷ exec 1 [] ∷ [])
       ≡ Prepared 1 (pos 1) ∷ affected 1 ∷ affected 1 ∷ not_a_number ∷ not_a_number ∷ wrong_arguments ∷ []
-  -- a query isn't executed, nor a command asked
+  -- A query isn't executed, and a command isn't queried.
   pub wrong_way :
       answers_from [] new_session
       (Prepare (codes "GET ?") ∷ exec 1 [] ∷ Prepare (codes "SET a 1") ∷ Query (input.Handle 2) []
       ∷ Query (input.Text (codes "SET a 1")) [] ∷ [])
       ≡ Prepared 1 (pos 1) ∷ not_a_command ∷ Prepared 2 (pos 0) ∷ not_a_query ∷ not_a_query ∷ []
-  -- a text with parameters is passed on, whatever it is
+  -- The driver skips a text with parameters, whatever the text is.
   pub passed_on :
       answers_from [] new_session
       (Exec (input.Text (codes "SET a 1")) (unnamed Nil ∷ []) ∷ Exec (input.Text []) (unnamed Nil ∷ []) ∷ [])
       ≡ Skip ∷ Skip ∷ []
-  -- the numbers of handles are spent
+  -- The numbers of handles are spent.
   pub spent :
       answers_from [] (record new_session { last_handle = 4294967294 })
       (Prepare (codes "DEL a") ∷ Prepare (codes "DEL a") ∷ Prepare (codes "DEL") ∷ [])

@@ -1,22 +1,22 @@
 ghost use Rattle.std.specs.Prelude.{◌≡◌, ◌≤◌, true, false, if◌then◌else◌, IfOk, OnOk, OnErr};
 ghost use Rattle.dsql_driver.specs.Fits.{is_memory};
-ghost use Rattle.dsql_store.specs.Entries.{AreAscending};
+ghost use Rattle.dsql_mem_store.specs.Entries.{AreAscending};
 ghost use Rattle.dsql_mem_plans.specs.Log.{told_of};
-ghost use Rattle.dsql_session.specs.Session.{IsSound};
+ghost use Rattle.dsql_mem_session.specs.Session.{IsSound};
 ghost use Rattle.dsql_mem.specs.Wire.{new_wire, comes_of, after_call, after_plan, faults_after, CarriesOut};
 
 use crate::roll::Roll;
 use dsql_driver::{Answered, DriverAnswer, DriverCall, Planned};
 use dsql_mem_calls::step_unless;
 use dsql_mem_plans::{Log, Plan, copied, fault_at};
-use dsql_session::Session;
-use dsql_store::Store;
+use dsql_mem_session::Session;
+use dsql_mem_store::Store;
 use dsql_value::Memory;
 use std::alloc::Global;
 use std::marker::Model;
 
-/// What a wire has for itself: its session, what it was asked, the faults that are planned for its calls,
-/// its count of faults, and the room for its entry on a roll.
+/// What a wire has for itself: its session, its log, the faults that are planned for its calls, its count of
+/// faults, and the room for its entry on a roll.
 #[derive(Drop)]
 pub(crate) struct Connection {
     session: Session,
@@ -32,11 +32,16 @@ impl Model for Connection {
 
     ghost Value = { WireState };
 
-    ghost view = { λ c. record { session = c.session; told = told_of c.log; planned = c.planned.items; faults = c.faults } };
+    ghost view = { λ c. record {
+      session = c.session;
+      told = told_of c.log;
+      planned = c.planned.items;
+      faults = c.faults;
+    } };
 }
 
 impl Connection {
-    /// A connection that has heard just its Connect, with what its fleet planned for it.
+    /// Returns a connection that has heard only its Connect, with what its fleet planned for it.
     pub(crate) fn new(alloc: Global, number: u32, planned: Vec<Plan>) -> Result<Connection, Memory>
         ensures { IfOk result (λ connection. connection ≡ new_wire number planned.items) }
     {
@@ -51,21 +56,23 @@ impl Connection {
         })
     }
 
-    /// The numbers of its session are in order, as its callers learn by this.
+    /// Does nothing. Its contract shows its callers that the numbers of the connection's session are sound.
     fn vouch(&self)
         ensures { IsSound self.now.session }
     {
         self.session.vouch();
     }
 
-    /// Answers a call on a store, with Memory where memory is wanting.
+    /// Answers a call on a store. It answers Memory if there is no memory.
     pub(crate) fn answer(&mut self, alloc: Global, store: &mut Store, call: &DriverCall) -> Answered
         ensures copied { result.copy ≡ result.answer }
-        ensures carried_out { is_memory result.answer ≡ false → CarriesOut store.old call.now result.answer self.old self.new }
+        ensures carried_out { is_memory result.answer ≡ false
+            → CarriesOut store.old call.now result.answer self.old self.new }
         ensures sound { IsSound self.old.session }
         ensures ascending { AreAscending store.old }
         ensures stays { is_memory result.answer ≡ true → self.new ≡ self.old }
-        ensures store { store.new ≡ (if is_memory result.answer then store.old else (comes_of store.old self.old call.now).store) }
+        ensures store { store.new
+            ≡ (if is_memory result.answer then store.old else (comes_of store.old self.old call.now).store) }
         ensures counted { self.old.faults ≤ self.new.faults }
     {
         self.vouch();
@@ -79,7 +86,7 @@ impl Connection {
         }
     }
 
-    /// Answers a call on a store and notes it. Nothing can fail once the call was carried out.
+    /// Answers a call on a store and records it. Nothing can fail after the call was carried out.
     fn hear(
         &mut self,
         alloc: Global,
@@ -102,7 +109,7 @@ impl Connection {
         Ok(answered)
     }
 
-    /// Enters a fault that is planned. All the room is taken first.
+    /// Records a planned fault. It takes all the room first.
     pub(crate) fn plan(&mut self, nth: u32, what: Planned) -> Result<(), Memory>
         ensures ok { OnOk result (self.new ≡ after_plan (nth, what) self.old) }
         ensures err { OnErr result (self.new ≡ self.old) }
@@ -114,7 +121,7 @@ impl Connection {
         Ok(())
     }
 
-    /// What it was asked, and its room on a roll.
+    /// Returns the connection's log and its room on a roll.
     pub(crate) fn into_parts(self) -> (Log, Box<Roll>)
         ensures { told_of result.0 ≡ self.told }
     {
@@ -123,7 +130,7 @@ impl Connection {
     }
 }
 
-/// A count of faults after an answer. At its last value it stands still.
+/// Returns a count of faults after an answer. The count stays at its largest value after reaching it.
 pub(crate) fn faults_after(faults: u64, answer: &DriverAnswer) -> u64
     ensures count { result ≡ faults_after faults answer.now }
     ensures counted { faults ≤ result }

@@ -2,7 +2,7 @@ ghost use Rattle.std.specs.Prelude.{◌≡◌, ◌≤◌, [], Some, true, false,
 ghost use Rattle.dsql_driver.specs.Fits.{is_fault, is_memory};
 ghost use Rattle.dsql_driver.specs.Streams.{HasRisen};
 ghost use Rattle.dsql_driver.specs.Wires.{answer_of, connected_after, newly_told, plans_after, is_fault_of};
-ghost use Rattle.dsql_session.specs.Session.{handles_of, cursors_of};
+ghost use Rattle.dsql_mem_session.specs.Session.{handles_of, cursors_of};
 ghost use Rattle.dsql_mem.specs.Wire.{ability_of, faults_after, new_fleet, new_wire, after_wire_plan, planned_for, connect_fault};
 
 use crate::connection::faults_after;
@@ -10,12 +10,12 @@ use crate::roll::Roll;
 use crate::wire::MemWire;
 use dsql_driver::{Caps, DriverAnswer, Fleet, Planned, Refused};
 use dsql_mem_plans::{Refusal, WirePlanMade, connect_refusal, plans_for};
-use dsql_store::Store;
+use dsql_mem_store::Store;
 use dsql_value::Memory;
 use std::marker::Model;
 use std::sync::{Arc, Mutex, Wait};
 
-/// What a driver in memory can do by itself: all but named parameters.
+/// What a driver in memory can do by itself: all except named parameters.
 const DEFAULT_CAPS: Caps = Caps {
     fast_exec: true,
     fast_query: true,
@@ -45,11 +45,15 @@ impl<R: AllocGlobal + Wait + Clone + Drop + Send> Model for MemFleet<R> {
 
     ghost Value = { FleetState };
 
-    ghost view = { λ f. record { preferred = record { last = f.preferred; times = f.preferences }; told = record { connects = f.connects.items; plans = f.plans.items; retired = retired_of f.retired }; faults = f.faults } };
+    ghost view = { λ f. record {
+      preferred = record { last = f.preferred; times = f.preferences };
+      told = record { connects = f.connects.items; plans = f.plans.items; retired = retired_of f.retired };
+      faults = f.faults;
+    } };
 }
 
 impl<R: AllocGlobal + Wait + Clone + Drop + Send> MemFleet<R> {
-    /// A fleet with no connection yet. Its store is empty.
+    /// Returns a fleet with no connection yet and an empty store.
     pub fn new(rt: R) -> Result<MemFleet<R>, Memory>
         ensures { IfOk result (λ fleet. fleet ≡ new_fleet) }
     {
@@ -65,13 +69,6 @@ impl<R: AllocGlobal + Wait + Clone + Drop + Send> MemFleet<R> {
             retired: Roll::Empty,
             faults: 0,
         })
-    }
-
-    /// How many wires were retired, at most the last usize.
-    pub fn retired_count(&self) -> usize
-        ensures { result ≡ min (length self.now.told.retired) usize.MAX }
-    {
-        self.retired.count()
     }
 }
 
@@ -102,7 +99,7 @@ impl<R: AllocGlobal + Wait + Clone + Drop + Send> Fleet for MemFleet<R> {
         ensures preferred { self.new.preferred ≡ self.old.preferred }
         ensures faultless { self.new.faults ≡ self.old.faults }
 
-        // Nothing else of it changes.
+        // Nothing else of the fleet changes.
         ensures planned { OnOk result (self.new ≡ after_wire_plan (wire, (nth, what)) self.old) }
         ensures stays { OnErr result (self.new ≡ self.old) }
     {
@@ -122,10 +119,11 @@ impl<R: AllocGlobal + Wait + Clone + Drop + Send> Fleet for MemFleet<R> {
         ensures caused { IfErr result (λ r. is_fault_of r ≡ true → HasRisen self.old.faults self.new.faults) }
         ensures faultless { is_fault (answer_of result) ≡ false → self.new.faults ≡ self.old.faults }
 
-        // A fleet in memory says more: the Connect is refused by the fault that was planned in its place, or
-        // the wire's session is new, so no transaction is open in it, and what is planned for the wire goes
-        // with it.
-        ensures planned { is_memory (answer_of result) ≡ false → answer_of result ≡ unwrap_or (connect_fault number self.old) DriverAnswer.Done }
+        // A fleet in memory promises more. Either it refuses the Connect by the fault that was planned in its
+        // place, or the wire's session is new, so that no transaction is open in it. What is planned for the
+        // wire goes with it.
+        ensures planned { is_memory (answer_of result) ≡ false
+            → answer_of result ≡ unwrap_or (connect_fault number self.old) DriverAnswer.Done }
         ensures fresh { IfOk result (λ w. w ≡ new_wire number (planned_for number self.old)) }
         ensures faults { self.new.faults ≡ faults_after self.old.faults (answer_of result) }
     {

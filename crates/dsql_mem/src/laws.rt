@@ -1,8 +1,8 @@
-//! Laws of transactions. They hold of stores whose keys ascend, as `Store::vouch` says that each store's do.
-
+//! Laws of transactions. They hold for stores whose keys ascend, and `Store::vouch` says that each store's keys
+//! do.
 ghost use Rattle.dsql_mem.specs.Laws.{RollbackRestores};
 
-/// A rollback restores at each key what was there when the transaction began.
+/// States that a rollback restores at each key what was there when the transaction began.
 pub fn a_rollback_restores()
     ensures { RollbackRestores }
 {}

@@ -1,5 +1,5 @@
-//! A database driver in memory, for runs with no database: a store maps texts to values, and each
-//! statement is a few words.
+//! A database driver in memory, for runs without a database. A store maps texts to values, and each statement
+//! is a few words.
 #![tactic(auto)]
 
 mod connection;
@@ -10,7 +10,7 @@ mod wire;
 pub mod worked;
 
 pub use dsql_mem_calls::apply;
-pub use dsql_session::Session;
-pub use dsql_store::Store;
+pub use dsql_mem_session::Session;
+pub use dsql_mem_store::Store;
 pub use fleet::MemFleet;
 pub use wire::MemWire;

@@ -4,7 +4,7 @@ ghost use Rattle.dsql_mem.specs.Roll.{retired_of};
 
 use dsql_mem_plans::Log;
 
-/// The wires that were retired, the newest first. Each brings the room for its own entry.
+/// The wires that were retired, newest first. Each brings the room for its own entry.
 pub(crate) enum Roll {
     Empty,
     Wire {
@@ -15,7 +15,7 @@ pub(crate) enum Roll {
 }
 
 impl Roll {
-    /// Enters a wire, in the room that it brought.
+    /// Enters a wire in the room that it brought.
     pub(crate) fn enter(self, number: u32, log: Log, room: Box<Roll>) -> Roll
         ensures { retired_of result ≡ retired_of self ++ (number, told_of log) ∷ [] }
     {
@@ -28,7 +28,7 @@ impl Roll {
         }
     }
 
-    /// How many wires were entered.
+    /// Returns how many wires were entered, at most `usize::MAX`.
     pub(crate) fn count(&self) -> usize
         ensures { result ≡ min (length (retired_of self.now)) usize.MAX }
     {
@@ -43,7 +43,7 @@ impl Roll {
 }
 
 impl Drop for Roll {
-    // A loop, since a long roll would take as many calls as it has wires.
+    // A loop, since recursion would take as many calls as a long roll has wires.
     fn drop(mut self) {
         loop {
             match self {

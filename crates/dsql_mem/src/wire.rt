@@ -2,21 +2,21 @@ ghost use Rattle.std.specs.Prelude.{◌≡◌, ◌≤◌, Some, true, false, IfO
 ghost use Rattle.dsql_driver.specs.Fits.{fits_of, is_fault, is_memory};
 ghost use Rattle.dsql_driver.specs.Streams.{HasRisen};
 ghost use Rattle.dsql_driver.specs.Wires.{told_after, with_plan, KeepsHandles, KeepsCursors};
-ghost use Rattle.dsql_store.specs.Entries.{Entries, AreAscending};
+ghost use Rattle.dsql_mem_store.specs.Entries.{Entries, AreAscending};
 ghost use Rattle.dsql_mem_plans.specs.Log.{told_of};
-ghost use Rattle.dsql_session.specs.Session.{handles_of, cursors_of};
+ghost use Rattle.dsql_mem_session.specs.Session.{handles_of, cursors_of};
 ghost use Rattle.dsql_mem.specs.Wire.{new_wire, after_plan, CarriesOut};
 
 use crate::connection::Connection;
 use crate::roll::Roll;
 use dsql_driver::{Answered, DriverCall, Planned, Wire};
 use dsql_mem_plans::{Log, Plan};
-use dsql_store::Store;
+use dsql_mem_store::Store;
 use dsql_value::Memory;
 use std::marker::Model;
 use std::sync::{Arc, Mutex, Wait};
 
-/// A connection to a store in memory, which it shares with the other wires of its fleet.
+/// A connection to a store in memory. It shares the store with the other wires of its fleet.
 #[derive(Drop)]
 pub struct MemWire<R: AllocGlobal + Wait + Drop> {
     rt: R,
@@ -33,7 +33,7 @@ impl<R: AllocGlobal + Wait + Drop> Model for MemWire<R> {
 }
 
 impl<R: AllocGlobal + Wait + Clone + Drop> MemWire<R> {
-    /// A wire that has heard just its Connect, with what its fleet planned for it.
+    /// Returns a wire that has heard only its Connect, with what its fleet planned for it.
     pub(crate) fn open(
         rt: &R,
         store: &Arc<Mutex<Store>>,
@@ -54,7 +54,7 @@ impl<R: AllocGlobal + Wait + Clone + Drop> MemWire<R> {
 }
 
 impl<R: AllocGlobal + Wait + Drop> MemWire<R> {
-    /// What it was asked, and its room on a roll.
+    /// Returns the wire's log and its room on a roll.
     pub(crate) fn into_parts(self) -> (Log, Box<Roll>)
         ensures { told_of result.0 ≡ self.told }
     {
@@ -76,15 +76,19 @@ impl<R: AllocGlobal + Wait + Drop> Wire for MemWire<R> {
         ensures copied { result.copy ≡ result.answer }
         ensures fitting { fits_of call.now result.answer ≡ true }
         ensures told { Some self.new.told ≡ told_after call.now result.answer (Some self.old.told) }
-        ensures handles { KeepsHandles call.now result.answer (handles_of self.old.session) (handles_of self.new.session) }
-        ensures cursors { KeepsCursors call.now result.answer (cursors_of self.old.session) (cursors_of self.new.session) }
+        ensures handles { KeepsHandles call.now result.answer (handles_of self.old.session)
+            (handles_of self.new.session) }
+        ensures cursors { KeepsCursors call.now result.answer (cursors_of self.old.session)
+            (cursors_of self.new.session) }
         ensures counted { self.old.faults ≤ self.new.faults }
         ensures caused { is_fault result.answer ≡ true → HasRisen self.old.faults self.new.faults }
         ensures faultless { is_fault result.answer ≡ false → self.new.faults ≡ self.old.faults }
 
-        // A wire in memory says more: its answer, which is a planned fault where one stands in the call's
-        // place, and what it is afterwards. The store is some store, since other wires write to it too.
-        ensures carried_out { is_memory result.answer ≡ false → (store : Entries) × AreAscending store × CarriesOut store call.now result.answer self.old self.new }
+        // A wire in memory promises more: its answer, and what it is afterwards. The answer is the planned
+        // fault if one stands in the call's place. The contract only says that there is a store, since other
+        // wires write to it too.
+        ensures carried_out { is_memory result.answer ≡ false → (store : Entries) × AreAscending store
+            × CarriesOut store call.now result.answer self.old self.new }
         ensures stays { is_memory result.answer ≡ true → self.new ≡ self.old }
     {
         let mut store = self.store.lock(&self.rt);
@@ -98,7 +102,7 @@ impl<R: AllocGlobal + Wait + Drop> Wire for MemWire<R> {
         ensures cursors { cursors_of self.new.session ≡ cursors_of self.old.session }
         ensures faultless { self.new.faults ≡ self.old.faults }
 
-        // Nothing else of it changes.
+        // Nothing else of the wire changes.
         ensures planned { OnOk result (self.new ≡ after_plan (nth, what) self.old) }
         ensures stays { OnErr result (self.new ≡ self.old) }
     {

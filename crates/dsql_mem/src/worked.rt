@@ -1,9 +1,8 @@
 //! Worked calls, as examples of the definitions.
-
 ghost use Rattle.dsql_mem.specs.Worked.{WorkedNumbers, WorkedTexts, WorkedHandles, WorkedQueries, WorkedTransactions};
 ghost use Rattle.dsql_mem.specs.WorkedPlans.{WorkedPlans};
 
-/// Numbers are told by their spelling, and worked calls have the effects that they should have.
+/// States how words spell numbers, and that worked calls have the effects that they should have.
 pub fn worked_calls()
     ensures numbers { WorkedNumbers }
     ensures texts { WorkedTexts }

@@ -1,34 +1,34 @@
--- What each call does to a map and a session, and how it is answered.
+-- What each driver call does to a map and a session, and how it is answered.
 use Rattle.std.specs.Prelude.{pos, Option, Some, None, is_some, if◌then◌else◌}
 use Rattle.std.specs.Option.{option_map_or}
 use Rattle.dsql_driver.specs.declared.answer.DriverAnswer.{DriverAnswer}
 use Rattle.dsql_driver.specs.declared.answer.DriverAnswer.TheVariants.{Done, Result}
 use Rattle.dsql_driver.specs.declared.call.DriverCall.{DriverCall}
-use Rattle.dsql_driver.specs.declared.call.DriverCall.TheVariants.{Connect, Reset, Valid, Ping, Prepare, CloseStmt, Exec, Query, Next, CloseRows, Begin, Commit, Rollback, Shut}
-use Rattle.dsql_store.specs.Entries.{Entries, with_state, value_at}
-use Rattle.dsql_store.specs.Undo.{rolled_back}
-use Rattle.dsql_session.specs.Calls.{Kept, executed_in, queried_in, prepared, closed, shown, next_taken, rows_closed, begun, committed, no_transaction}
-use Rattle.dsql_session.specs.Session.{SessionState, noted}
-use Rattle.dsql_session.specs.Statement.{statement_of}
-use Rattle.dsql_session.specs.declared.execute.Outcome.{Outcome}
-use Rattle.dsql_session.specs.declared.execute.Outcome.TheVariants.{Write}
-use Rattle.dsql_session.specs.declared.execute.Outcome.TheVariants as outcome
+use Rattle.dsql_driver.specs.declared.call.DriverCall.TheVariants.{Reset, Prepare, CloseStmt, Exec, Query, Next, CloseRows, Begin, Commit, Rollback, Shut}
+use Rattle.dsql_mem_store.specs.Entries.{Entries, with_state, value_at}
+use Rattle.dsql_mem_store.specs.Undo.{rolled_back}
+use Rattle.dsql_mem_session.specs.Calls.{Kept, executed_in, queried_in, prepared, closed, shown, next_taken, rows_closed, begun, committed, no_transaction}
+use Rattle.dsql_mem_session.specs.Session.{SessionState, noted}
+use Rattle.dsql_mem_session.specs.Statement.{statement_of}
+use Rattle.dsql_mem_session.specs.declared.execute.Outcome.{Outcome}
+use Rattle.dsql_mem_session.specs.declared.execute.Outcome.TheVariants.{Write}
+use Rattle.dsql_mem_session.specs.declared.execute.Outcome.TheVariants as outcome
 
--- the map and the session after a call, and its answer
+-- The map and the session after a driver call, and its answer.
 pub record Effect : Type 0 where
   pub store : Entries
   pub session : SessionState
   pub answer : DriverAnswer
 
--- nothing changes
+-- Returns the effect of an answer that changes nothing.
 abbrev pub only_answered : Entries → SessionState → DriverAnswer → Effect
 only_answered store session answer = record { store = store; session = session; answer = answer }
 
--- only the session changes
+-- Returns the effect of a driver call that changes only the session.
 abbrev pub in_session : Entries → Kept → Effect
 in_session store kept = record { store = store; session = kept.0; answer = kept.1 }
 
--- a command writes, and the session notes it, or its refusal is answered
+-- Returns the effect of a command: it writes and the session notes it, or its refusal is answered.
 abbrev pub carried_out : Entries → SessionState → Outcome → Effect
 carried_out store session (Write key value count) =
     record {
@@ -38,7 +38,7 @@ carried_out store session (Write key value count) =
     }
 carried_out store session (outcome.Refused answer) = only_answered store session answer
 
--- the open transaction, if there is one, ends, and what it wrote is taken back
+-- Returns the effect of ending the open transaction, if there is one: what it wrote is taken back.
 abbrev pub taken_back : Entries → SessionState → Effect
 taken_back store session =
     record {
@@ -48,9 +48,6 @@ taken_back store session =
     }
 
 abbrev pub effect : Entries → SessionState → DriverCall → Effect
-effect store session Connect = only_answered store session Done
-effect store session Valid = only_answered store session Done
-effect store session Ping = only_answered store session Done
 effect store session Reset = taken_back store session
 effect store session Shut = taken_back store session
 effect store session (Prepare text) = in_session store (prepared session text (statement_of text))
@@ -63,8 +60,10 @@ effect store session (Begin level read_only) = in_session store (begun session)
 effect store session Commit = in_session store (committed session)
 effect store session Rollback =
     if is_some session.undo then taken_back store session else only_answered store session no_transaction
+effect store session _ = only_answered store session Done
 
--- a fault in a call's place is answered, and nothing else happens
+-- Returns the effect of a driver call. If a fault takes its place, the fault is answered and nothing else
+-- happens.
 abbrev pub effect_unless : Option DriverAnswer → Entries → SessionState → DriverCall → Effect
 effect_unless None store session call = effect store session call
 effect_unless (Some fault) store session call = only_answered store session fault

@@ -1,24 +1,26 @@
 ghost use Rattle.std.specs.Prelude.{◌≡◌, true, false, IfOk, OnOk, OnErr, if◌then◌else◌};
 ghost use Rattle.dsql_driver.specs.Fits.{is_memory};
-ghost use Rattle.dsql_session.specs.Calls.{shown};
-ghost use Rattle.dsql_session.specs.Copies.{copies_of};
+ghost use Rattle.dsql_mem_session.specs.Calls.{shown};
+ghost use Rattle.dsql_mem_session.specs.Copies.{copies_of};
 ghost use Rattle.dsql_mem_calls.specs.Effect.{effect, effect_unless, carried_out, taken_back};
 
 use dsql_driver::{Answered, DriverAnswer, DriverCall};
-use dsql_session::{
+use dsql_mem_session::{
     Found, NO_TRANSACTION, Outcome, Session, copies_of, copies_of_done, copies_of_failure,
     copies_of_result,
 };
-use dsql_store::Store;
+use dsql_mem_store::Store;
 use dsql_value::Memory;
 use std::alloc::Global;
 
-/// Carries out one call of a session, as a driver would. An answer of Memory leaves all as it was.
+/// Carries out one driver call of a session, as a driver would. An answer of `Memory` leaves all as it was.
 pub fn apply(alloc: Global, store: &mut Store, session: &mut Session, call: &DriverCall) -> Answered
     ensures copied { result.copy ≡ result.answer }
     ensures answer { is_memory result.answer ≡ false → result.answer ≡ (effect store.old session.old call.now).answer }
-    ensures store { store.new ≡ (if is_memory result.answer then store.old else (effect store.old session.old call.now).store) }
-    ensures session { session.new ≡ (if is_memory result.answer then session.old else (effect store.old session.old call.now).session) }
+    ensures store { store.new
+        ≡ (if is_memory result.answer then store.old else (effect store.old session.old call.now).store) }
+    ensures session { session.new
+        ≡ (if is_memory result.answer then session.old else (effect store.old session.old call.now).session) }
 {
     match step(alloc, store, session, call) {
         Ok(answered) => answered,
@@ -29,7 +31,8 @@ pub fn apply(alloc: Global, store: &mut Store, session: &mut Session, call: &Dri
     }
 }
 
-/// Carries out one call of a session, unless memory is wanting.
+/// Carries out one driver call of a session. Fails with `Memory` if memory is lacking, and then leaves all as
+/// it was.
 pub fn step(
     alloc: Global,
     store: &mut Store,
@@ -63,7 +66,8 @@ pub fn step(
     }
 }
 
-/// Answers a call with the fault that stands in its place, or else carries it out.
+/// Answers a driver call with the fault that takes its place, or otherwise carries it out. Fails with `Memory`
+/// if memory is lacking, and then leaves all as it was.
 pub fn step_unless(
     fault: Option<DriverAnswer>,
     alloc: Global,
@@ -71,7 +75,8 @@ pub fn step_unless(
     session: &mut Session,
     call: &DriverCall,
 ) -> Result<Answered, Memory>
-    ensures answer { IfOk result (λ answered. answered ≡ copies_of (effect_unless fault store.old session.old call.now).answer) }
+    ensures answer { IfOk result (λ answered. answered
+        ≡ copies_of (effect_unless fault store.old session.old call.now).answer) }
     ensures store { OnOk result (store.new ≡ (effect_unless fault store.old session.old call.now).store) }
     ensures session { OnOk result (session.new ≡ (effect_unless fault store.old session.old call.now).session) }
     ensures store_stays { OnErr result (store.new ≡ store.old) }
@@ -83,7 +88,7 @@ pub fn step_unless(
     }
 }
 
-/// Carries out what a command came to, or answers why it can't.
+/// Carries out the outcome of a command, or answers why the command is refused.
 fn carry_out(
     alloc: Global,
     store: &mut Store,
@@ -109,9 +114,10 @@ fn carry_out(
     }
 }
 
-/// Rolls back the session's transaction, if one is open.
+/// Rolls back the session's transaction, or answers with a failure if none is open.
 fn roll_back(alloc: Global, store: &mut Store, session: &mut Session) -> Result<Answered, Memory>
-    ensures answer { IfOk result (λ answered. answered ≡ copies_of (effect store.old session.old DriverCall.Rollback).answer) }
+    ensures answer { IfOk result (λ answered. answered
+        ≡ copies_of (effect store.old session.old DriverCall.Rollback).answer) }
     ensures store { OnOk result (store.new ≡ (effect store.old session.old DriverCall.Rollback).store) }
     ensures session { OnOk result (session.new ≡ (effect store.old session.old DriverCall.Rollback).session) }
     ensures store_stays { OnErr result (store.new ≡ store.old) }
@@ -139,7 +145,7 @@ fn take_back(alloc: Global, store: &mut Store, session: &mut Session) -> Result<
     Ok(copies_of_done())
 }
 
-/// Shows what a query found by a cursor, or answers why there is none.
+/// Opens a cursor on what a query found, or answers why the query is refused.
 fn show(alloc: Global, session: &mut Session, found: Found) -> Result<Answered, Memory>
     ensures answer { IfOk result (λ answered. answered ≡ copies_of (shown session.old found).1) }
     ensures session { OnOk result (session.new ≡ (shown session.old found).0) }

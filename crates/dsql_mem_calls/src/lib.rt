@@ -1,4 +1,4 @@
-//! A driver call carried out on a store and a session, or a fault answered in its place.
+//! Carries out a driver call on a store and a session, or answers with a fault in its place.
 #![tactic(auto)]
 
 mod calls;

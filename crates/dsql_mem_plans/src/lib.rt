@@ -1,5 +1,5 @@
-//! Faults that are planned in place of calls' answers, and the log of what a wire in memory was asked, by
-//! which each call has its number.
+//! Faults that are planned in place of the answers to driver calls, and the log of the driver calls that a wire
+//! in memory has heard. The log gives each driver call its number.
 #![tactic(auto)]
 
 mod log;

@@ -4,12 +4,13 @@ ghost use Rattle.dsql_driver.specs.Wires.{newly_told, with_call, with_plan};
 
 use crate::plans::PlanMade;
 use dsql_driver::{DriverAnswer, DriverCall, Planned};
-use dsql_past::Past;
 use dsql_value::Memory;
+use dsql_value_past::Past;
 use std::alloc::Global;
 
-/// What a wire was asked: its number, how many calls it heard, these with their answers for proofs alone, and
-/// the faults that were planned on it, each with how many calls had been heard by then, oldest first.
+/// What a wire was asked: its number, the count of driver calls that it heard, and these with their answers for
+/// proofs only. It also holds the faults that were planned on the wire, oldest first, each with the count of
+/// driver calls heard by then.
 #[derive(Drop)]
 pub struct Log {
     pub number: u32,
@@ -22,7 +23,7 @@ pub struct Log {
 impl Log {
     ghost use Rattle.dsql_mem_plans.specs.Log.{told_of};
 
-    /// The log of a wire that has heard just its Connect.
+    /// Returns the log of a wire that has heard only its `Connect`.
     pub fn new(alloc: Global, number: u32) -> Log
         ensures { told_of result ≡ newly_told number }
     {
@@ -34,15 +35,15 @@ impl Log {
         }
     }
 
-    /// The number of the next call that it hears.
+    /// Returns the number of the next driver call that the wire hears.
     pub fn next_call(&self) -> usize
         ensures { result ≡ length (told_of self.now).calls + 1 }
     {
         self.count + 1
     }
 
-    /// There is room for the next call. Want of memory is the only error, and only of a wire that has heard as many calls
-    /// as can be counted.
+    /// Returns `Ok` if there is room for the next driver call. Fails with `Memory` only if the wire has heard
+    /// as many driver calls as can be counted.
     pub fn check_room(&self) -> Result<(), Memory>
         ensures ok { OnOk result (length (told_of self.now).calls + 1 < usize.MAX) }
         ensures err { OnErr result (usize.MAX ≤ length (told_of self.now).calls + 1) }
@@ -54,7 +55,7 @@ impl Log {
         }
     }
 
-    /// Notes the next call, for which there is room, with its answer. It takes no memory.
+    /// Notes the next driver call, for which there is room, with its answer. It takes no memory.
     pub fn note(&mut self, call: &DriverCall, answer: &DriverAnswer)
         requires { length (told_of self.old).calls + 1 < usize.MAX }
         ensures { told_of self.new ≡ with_call (call.now, answer.now) (told_of self.old) }
@@ -63,7 +64,7 @@ impl Log {
         self.count += 1;
     }
 
-    /// Enters a fault that is planned, behind the calls that were heard so far. Want of memory, the only error,
+    /// Enters a planned fault after the driver calls that were heard so far. Fails only with `Memory`, and then
     /// leaves the log as it was.
     pub fn plan(&mut self, nth: u32, what: Planned) -> Result<(), Memory>
         ensures ok { OnOk result (told_of self.new ≡ with_plan (nth, what) (told_of self.old)) }

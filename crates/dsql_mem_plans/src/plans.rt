@@ -1,5 +1,4 @@
-//! Faults that are planned in place of calls' answers.
-
+//! Faults that are planned in place of the answers to driver calls.
 ghost use Rattle.std.specs.Prelude.{◌≡◌, IfOk, IfSome, option_map};
 ghost use Rattle.std.specs.Option.{option_copied};
 ghost use Rattle.dsql_driver.specs.Fits.{fits_of};
@@ -10,17 +9,17 @@ use dsql_driver::{DriverAnswer, DriverCall, Planned, Refused};
 use dsql_value::Memory;
 use std::alloc::Global;
 
-/// A fault in place of the answer to the nth call on a wire.
+/// A fault in place of the answer to a wire's driver call of this number.
 pub type Plan = (u32, Planned);
 
-/// A fault that was planned on a wire, behind how many calls that the wire had heard by then.
+/// A fault that was planned on a wire, with the count of driver calls that the wire had heard by then.
 pub type PlanMade = (usize, Plan);
 
-/// A fault that was planned with a fleet for the wire of this number, behind how many Connects that the fleet
-/// had told by then.
+/// A fault that was planned with a fleet for the wire of this number, with the count of `Connect`s that the
+/// fleet had reported by then.
 pub type WirePlanMade = (usize, (u32, Plan));
 
-/// A copy of a planned fault. Want of memory is the only error, here and below.
+/// Returns a copy of a planned fault. The only error, here and below, is a lack of memory.
 pub fn copied(what: &Planned) -> Result<Planned, Memory>
     ensures { IfOk result (λ copy. copy ≡ what.now) }
 {
@@ -31,7 +30,7 @@ pub fn copied(what: &Planned) -> Result<Planned, Memory>
     })
 }
 
-/// The plans for the wire of this number among a fleet's, oldest first.
+/// Returns a fleet's plans for the wire of this number, oldest first.
 pub fn plans_for(alloc: Global, number: u32, plans: &[WirePlanMade]) -> Result<Vec<Plan>, Memory>
     ensures { IfOk result (λ own. own.items ≡ plans_for number plans.now) }
 {
@@ -44,7 +43,7 @@ pub fn plans_for(alloc: Global, number: u32, plans: &[WirePlanMade]) -> Result<V
     Ok(own)
 }
 
-/// What was planned last for the nth call.
+/// Returns what was planned last for driver call number `nth`.
 fn planned_at(nth: usize, plans: &[Plan]) -> Option<&Planned>
     ensures { option_copied result ≡ planned_at nth plans.now }
 {
@@ -52,7 +51,7 @@ fn planned_at(nth: usize, plans: &[Plan]) -> Option<&Planned>
     Some(what)
 }
 
-/// Whether the fault may be answered to this call.
+/// Returns whether the fault may be the answer to this driver call.
 fn may_answer(what: &Planned, call: &DriverCall) -> bool
     ensures { result ≡ fits_of call.now (answer_planned what.now) }
 {
@@ -63,7 +62,7 @@ fn may_answer(what: &Planned, call: &DriverCall) -> bool
     }
 }
 
-/// The answer that a planned fault is.
+/// Returns the answer of a planned fault.
 fn answer_planned(what: &Planned) -> Result<DriverAnswer, Memory>
     ensures { IfOk result (λ answer. answer ≡ answer_planned what.now) }
 {
@@ -74,7 +73,7 @@ fn answer_planned(what: &Planned) -> Result<DriverAnswer, Memory>
     })
 }
 
-/// The fault that stands in the place of the nth call, if one was planned for it that fits it.
+/// Returns the fault that takes the place of driver call number `nth`, if one was planned for it that fits it.
 pub fn fault_at(
     nth: usize,
     call: &DriverCall,
@@ -92,15 +91,16 @@ pub fn fault_at(
     }
 }
 
-/// Why a Connect is refused, and the answer that tells of it.
+/// Why a `Connect` is refused, and the answer that says so.
 pub struct Refusal {
     pub refused: Refused,
     pub answer: DriverAnswer,
 }
 
-/// The refusal that was planned in place of a wire's Connect, if one was that fits it.
+/// Returns the refusal that was planned in place of a wire's `Connect`, if one was planned that fits it.
 pub fn connect_refusal(plans: &[Plan]) -> Result<Option<Refusal>, Memory>
-    ensures planned { IfOk result (λ refusal. option_map (λ r. r.answer) refusal ≡ fault_at 1 DriverCall.Connect plans.now) }
+    ensures planned { IfOk result (λ refusal. option_map (λ r. r.answer) refusal
+        ≡ fault_at 1 DriverCall.Connect plans.now) }
     ensures told { IfOk result (λ refusal. IfSome refusal (λ r. answer_of {W = Unit {0}} (Err r.refused) ≡ r.answer)) }
 {
     match planned_at(1, plans) {

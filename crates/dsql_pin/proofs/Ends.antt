@@ -1,8 +1,8 @@
--- The first end of a pin stays, and it holds what it holds.
+-- Proves that the first end of a pin stays, and that the pin goes on holding what it holds.
 use Rattle.std.proofs.Common.{◌≡◌, ℕ, ◌+◌, ◌-◌, List, [], ◌∷◌, Option, Some, None, refl, arith}
 use Rattle.std.specs.Prelude.{fold}
-use Rattle.dsql_numbered.specs.Numbered.{Numbered, thing_of}
-use Rattle.dsql_numbered.proofs.Kept.{Has, Keeps, kept_beside_new, kept_by_change, kept_by_all}
+use Rattle.dsql_value_numbered.specs.Numbered.{Numbered, thing_of}
+use Rattle.dsql_value_numbered.proofs.Kept.{Has, Keeps, kept_beside_new, kept_by_change, kept_by_all}
 use Rattle.dsql_pin.specs.declared.end.PinEnd.{PinEnd}
 use Rattle.dsql_pin.specs.declared.end.PinEnd.TheVariants.{EndOfRun}
 use Rattle.dsql_pin.specs.declared.pin.Pin.{Pin}

@@ -1,12 +1,13 @@
--- What the table of pins promises, as laws.
+-- Defines what the table of pins promises, as laws.
 use Rattle.std.specs.Prelude.{◌≡◌, ℕ, ◌<◌, true, List, [], ◌∷◌, ◌++◌, Option, Some, None, Ok, Err, fold}
-use Rattle.dsql_numbered.specs.Numbered.{Numbered, thing_of, changed, all_changed}
+use Rattle.dsql_value_numbered.specs.Numbered.{Numbered, thing_of, changed, all_changed}
 use Rattle.dsql_pin.specs.declared.end.PinEnd.{PinEnd}
 use Rattle.dsql_pin.specs.declared.end.PinEnd.TheVariants.{EndOfRun}
 use Rattle.dsql_pin.specs.declared.pin.Pin.{Pin}
 use Rattle.dsql_pin.specs.Pinned.{pin_on, ended_by, admitted, with_one_more, with_one_fewer, is_free}
 
--- what becomes of the table: a connection is pinned, a pin is ended, holds one more or one fewer, or the end of the run ends all
+-- A change of the table: a connection is pinned, a pin is ended, a pin holds one more or one fewer, or the end
+-- of the run ends all pins.
 pub data Change : Type 0 where
   Pins : ℕ → Pin → Change
   Ends : ℕ → PinEnd → Change
@@ -21,7 +22,7 @@ after pins (Holds n) = changed with_one_more n pins
 after pins (Releases n) = changed with_one_fewer n pins
 after pins EndsAll = all_changed (ended_by EndOfRun) pins
 
--- what ended the pin of that number, if there is one and it is ended
+-- Returns what ended the pin, if there is a pin and something has ended it.
 abbrev pub end_in : Option Pin → Option PinEnd
 end_in None = None
 end_in (Some pin) = pin.ended
@@ -29,14 +30,15 @@ end_in (Some pin) = pin.ended
 abbrev pub end_of : ℕ → Numbered Pin → Option PinEnd
 end_of n pins = end_in (thing_of n pins)
 
--- the first end stays, whatever is pinned, held, released and ended later
+-- Holds if the first end of a pin stays, whatever is pinned, held, released and ended later.
 pub record FirstEndStays : Type 0 where
   pub live : (conn : ℕ) → admitted (pin_on conn) ≡ Ok tt
   pub first : (by : PinEnd) (pin : Pin) → pin.ended ≡ None → admitted (ended_by by pin) ≡ Err (record { by = by })
   pub stays : (by later : PinEnd) (pin : Pin) → ended_by later (ended_by by pin) ≡ ended_by by pin
-  pub whatever_comes : (n : ℕ) (by : PinEnd) (pins : Numbered Pin) (later : List Change) → end_of n pins ≡ Some by → end_of n (fold after pins later) ≡ Some by
+  pub whatever_comes : (n : ℕ) (by : PinEnd) (pins : Numbered Pin) (later : List Change) → end_of n pins ≡ Some by
+      → end_of n (fold after pins later) ≡ Some by
 
--- what a pin holds goes on when it ends, and is released one by one
+-- Holds if what a pin holds goes on after the pin ends, and is released one by one.
 pub record HoldsUntilReleased : Type 0 where
   pub goes_on : (by : PinEnd) (pin : Pin) → (ended_by by pin).holds ≡ pin.holds
   pub released : (pin : Pin) → with_one_fewer (with_one_more pin) ≡ pin

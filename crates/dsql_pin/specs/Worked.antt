@@ -1,7 +1,7 @@
--- Worked pins: 2 is pinned on connection 1 and holds two, 6 was closed while it held one.
+-- Defines worked pins: pin 2 is on connection 1 and holds two, and pin 6 was closed while it held one.
 use Rattle.std.specs.Prelude.{◌≡◌, true, false, [], ◌∷◌, Some, None, Ok, Err}
 use Rattle.std.specs.Option.{option_map}
-use Rattle.dsql_numbered.specs.Numbered.{Numbered, thing_of, was_made, changed, all_changed}
+use Rattle.dsql_value_numbered.specs.Numbered.{Numbered, thing_of, was_made, changed, all_changed}
 use Rattle.dsql_pin.specs.declared.end.PinEnd.TheVariants.{Close, BadConn, Discard, EndOfRun}
 use Rattle.dsql_pin.specs.declared.pin.Pin.{Pin}
 use Rattle.dsql_pin.specs.Pinned.{pin_on, ended_by, admitted, with_one_more, with_one_fewer, is_free}

@@ -7,13 +7,13 @@ pub enum PinEnd {
     Close,
     /// The connection was bad.
     BadConn,
-    /// The connection is discarded, since a transaction on it was cancelled.
+    /// The connection is discarded, because a transaction on it was cancelled.
     Discard,
-    /// The run is over.
+    /// The end of the run.
     EndOfRun,
 }
 
-/// The pin was ended before, by this: Go's `sql.ErrConnDone`.
+/// The error that this end had already ended the pin: Go's `sql.ErrConnDone`.
 #[derive(Clone, Copy, Debug, Error)]
 #[error("sql: connection is already closed")]
 pub struct ConnDone {

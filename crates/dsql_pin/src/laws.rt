@@ -1,4 +1,4 @@
-//! Laws of the table of pins, and worked ones: each law is the contract of a function that does nothing.
+//! Laws of the table of pins, and worked pins. Each law is the contract of a function that does nothing.
 ghost use Rattle.dsql_pin.specs.Laws.{FirstEndStays, HoldsUntilReleased};
 ghost use Rattle.dsql_pin.specs.Worked.{WorkedPins};
 
@@ -8,13 +8,13 @@ pub fn the_first_end_stays()
     ensures { FirstEndStays }
 {}
 
-/// A pin holds what it holds until that is released, whatever ends it.
+/// A pin holds what it holds until that is released, whatever ends the pin.
 #[tactic(auto, using(crate::proofs::Ends::holds_until_released))]
 pub fn a_pin_holds_until_it_releases()
     ensures { HoldsUntilReleased }
 {}
 
-/// Worked pins: what is found, what ended them, and what they hold.
+/// Worked pins: which are found, what ended them, and what they hold.
 pub fn worked_pins()
     ensures { WorkedPins }
 {}

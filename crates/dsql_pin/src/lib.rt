@@ -1,5 +1,5 @@
-//! The table of pins: connections that a caller keeps, after `Conn` of Go's package `database/sql`. It says
-//! what each pin holds, and what ended it first.
+//! The table of pins. A pin is a connection that a caller keeps, like a `Conn` of Go's package `database/sql`.
+//! The table records what each pin holds, and what ended it first.
 #![tactic(auto)]
 
 mod end;

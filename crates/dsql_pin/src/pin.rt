@@ -3,7 +3,7 @@ ghost use Rattle.dsql_pin.specs.Pinned.{most_held, admitted, ended_by, with_one_
 
 use crate::end::{ConnDone, PinEnd};
 
-/// A connection that is pinned: how many rows and transactions the pin holds, and what ended it.
+/// A connection that is pinned, with the number of rows and transactions that the pin holds, and what ended it.
 #[derive(Clone, Copy)]
 pub struct Pin {
     pub conn: u32,
@@ -12,7 +12,7 @@ pub struct Pin {
 }
 
 impl Pin {
-    /// Nothing has ended it.
+    /// Fails with `ConnDone` if something has ended the pin.
     pub fn admit(&self) -> Result<(), ConnDone>
         ensures { result ≡ admitted self.now }
     {
@@ -22,7 +22,7 @@ impl Pin {
         }
     }
 
-    /// Ends it, if nothing has.
+    /// Ends the pin, or fails with `ConnDone` if something has already ended it.
     pub fn close(&mut self, by: PinEnd) -> Result<(), ConnDone>
         ensures admits { result ≡ admitted self.old }
         ensures pin { self.new ≡ ended_by by self.old }
@@ -34,7 +34,7 @@ impl Pin {
         admits
     }
 
-    /// It holds one more.
+    /// Makes the pin hold one more.
     pub fn hold(&mut self)
         requires { self.old.holds < most_held }
         ensures { self.new ≡ with_one_more self.old }
@@ -42,7 +42,7 @@ impl Pin {
         self.holds += 1;
     }
 
-    /// It holds one fewer.
+    /// Makes the pin hold one fewer.
     pub fn release(&mut self)
         requires { 0 < self.old.holds }
         ensures { self.new ≡ with_one_fewer self.old }

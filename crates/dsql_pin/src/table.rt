@@ -8,8 +8,8 @@ use indexmap::IndexMap;
 use std::alloc::Global;
 use std::marker::Model;
 
-/// The pins that were made. Contracts see them by their numbers in the order in which they were made, and
-/// for how many calls there is memory.
+/// The pins that were made. Contracts see them with their numbers, in the order in which they were made, and
+/// see for how many more calls there is memory.
 #[derive(Drop)]
 pub struct Pins {
     pins: IndexMap<u32, Pin>,
@@ -25,11 +25,11 @@ impl Model for Pins {
 }
 
 impl Pins {
-    ghost use Rattle.dsql_numbered.specs.Numbered.{thing_of, was_made, changed, all_changed};
+    ghost use Rattle.dsql_value_numbered.specs.Numbered.{thing_of, was_made, changed, all_changed};
     ghost use Rattle.dsql_pin.specs.Pinned.{pin_on, ended_by, admitted, with_one_more, with_one_fewer, is_free, HasRoom, HoldsSome};
     ghost use Rattle.dsql_pin.specs.declared.end.PinEnd.TheVariants.{EndOfRun};
 
-    /// No pins. It takes no memory.
+    /// Returns a table without pins. It takes no memory.
     pub fn new(alloc: Global) -> Pins
         ensures { result.pins ≡ [] }
     {
@@ -38,7 +38,7 @@ impl Pins {
         }
     }
 
-    /// Takes memory for so many calls more.
+    /// Reserves memory for this many more calls.
     pub fn reserve(&mut self, calls: u32) -> Result<(), Memory>
         ensures ok { OnOk result (calls ≤ self.new.spare) }
         ensures pins { self.new.pins ≡ self.old.pins }
@@ -48,21 +48,21 @@ impl Pins {
         Ok(())
     }
 
-    /// How many pins were made.
+    /// Returns the number of pins that were made.
     pub fn held(&self) -> u64
         ensures { result ≡ length self.now.pins }
     {
         self.pins.len() as u64
     }
 
-    /// Whether a pin was made under that number.
+    /// Returns true if a pin was made under that number.
     pub fn was_made(&self, n: u32) -> bool
         ensures { result ≡ was_made n self.now.pins }
     {
         self.pins.contains_key(&n)
     }
 
-    /// Pins a connection.
+    /// Pins a connection under that number.
     pub fn pin(&mut self, n: u32, conn: u32) -> Result<(), Memory>
         requires { was_made n self.old.pins ≡ false }
         ensures ok { OnOk result (self.new.pins ≡ self.old.pins ++ (n, pin_on conn) ∷ []) }
@@ -79,8 +79,8 @@ impl Pins {
         Ok(())
     }
 
-    /// Whether a call on the pin may go on: nothing has ended it. It takes no memory, nor does anything
-    /// below.
+    /// Fails with `ConnDone` if something has ended the pin, so that a call on it can't go on. This takes no
+    /// memory, and neither does any function below.
     pub fn admit(&self, n: u32) -> Result<(), ConnDone>
         requires { was_made n self.now.pins ≡ true }
         ensures { Some result ≡ option_map admitted (thing_of n self.now.pins) }
@@ -88,7 +88,8 @@ impl Pins {
         self.made(n).admit()
     }
 
-    /// Ends the pin, if nothing has: the first end is kept. What it holds goes on.
+    /// Ends the pin, or fails with `ConnDone` if something has already ended it: the first end is kept. What
+    /// the pin holds goes on.
     pub fn close(&mut self, n: u32, by: PinEnd) -> Result<(), ConnDone>
         requires { was_made n self.old.pins ≡ true }
         ensures admits { Some result ≡ option_map admitted (thing_of n self.old.pins) }
@@ -101,7 +102,7 @@ impl Pins {
         }
     }
 
-    /// The end of the run ends all pins that nothing has ended.
+    /// Ends all pins that nothing has ended, at the end of the run.
     pub fn close_all(&mut self)
         ensures pins { self.new.pins ≡ all_changed (ended_by EndOfRun) self.old.pins }
         ensures spare { self.new.spare ≡ self.old.spare }
@@ -111,7 +112,7 @@ impl Pins {
         }
     }
 
-    /// The pin holds one more rows or transaction.
+    /// Makes the pin hold one more rows or transaction.
     pub fn hold(&mut self, n: u32)
         requires made { was_made n self.old.pins ≡ true }
         requires room { HasRoom n self.old.pins }
@@ -124,7 +125,7 @@ impl Pins {
         }
     }
 
-    /// The pin holds one fewer.
+    /// Makes the pin hold one fewer.
     pub fn release(&mut self, n: u32)
         requires made { was_made n self.old.pins ≡ true }
         requires some { HoldsSome n self.old.pins }
@@ -137,7 +138,7 @@ impl Pins {
         }
     }
 
-    /// How many rows and transactions the pin holds.
+    /// Returns the number of rows and transactions that the pin holds.
     pub fn holds(&self, n: u32) -> u32
         requires { was_made n self.now.pins ≡ true }
         ensures { Some result ≡ option_map (λ pin. pin.holds) (thing_of n self.now.pins) }
@@ -145,7 +146,7 @@ impl Pins {
         self.made(n).holds
     }
 
-    /// Whether the pin holds nothing, so that it may be closed.
+    /// Returns true if the pin holds nothing, so that it may be closed.
     pub fn may_close(&self, n: u32) -> bool
         requires { was_made n self.now.pins ≡ true }
         ensures { Some result ≡ option_map is_free (thing_of n self.now.pins) }
@@ -153,7 +154,7 @@ impl Pins {
         self.made(n).holds == 0
     }
 
-    /// The connection that is pinned.
+    /// Returns the connection that is pinned.
     pub fn conn(&self, n: u32) -> u32
         requires { was_made n self.now.pins ≡ true }
         ensures { Some result ≡ option_map (λ pin. pin.conn) (thing_of n self.now.pins) }

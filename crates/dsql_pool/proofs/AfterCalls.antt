@@ -1,12 +1,12 @@
--- The pool is at rest after each call, and so after all of them.
+-- The argument that the pool is at rest after each call, and so after all of them.
 use Rattle.std.proofs.Common.{◌≡◌, ℕ, Bool, true, false, not, ◌&&◌, eqb, cond, List, [], ◌∷◌, length, map, Some, None, refl, sym, ap, arith}
 use Rattle.std.specs.Prelude.{ℤ, nat_le}
 use Rattle.std.specs.List.{list_all}
 use Rattle.std.proofs.lemmas.List.{length-map}
-use Rattle.dsql_journal.specs.Readers.{is_empty}
+use Rattle.dsql_tenure_journal.specs.Readers.{is_empty}
 use Rattle.dsql_wait.specs.declared.request.Request.{Request}
 use Rattle.dsql_pool.specs.declared.conn.Place.{Place}
-use Rattle.dsql_pool.specs.declared.conn.Place.TheVariants.{Idle, Lent, Opening, Closing}
+use Rattle.dsql_pool.specs.declared.conn.Place.TheVariants.{Idle, Opening}
 use Rattle.dsql_pool.specs.declared.conn.Conn.{Conn}
 use Rattle.dsql_pool.specs.Places.{is_idle, is_opening, is_for}
 use Rattle.dsql_pool.specs.Changes.{unwanted, unwanted_by}
@@ -30,17 +30,13 @@ use Rattle.dsql_pool.proofs.Resting as resting
 
 opening_is_busy : (place : Place) → is_opening (Some place) ≡ true → is_idle (Some place) ≡ false
 opening_is_busy Idle h = cc
-opening_is_busy (Lent tenure owner) h = refl
-opening_is_busy (Opening wanted) h = refl
-opening_is_busy Closing h = refl
+opening_is_busy _ h = refl
 
 for_is_busy : (call : ℕ) (place : Place) → is_for call place ≡ true → is_idle (Some place) ≡ false
 for_is_busy call Idle h = cc
-for_is_busy call (Lent tenure owner) h = refl
-for_is_busy call (Opening wanted) h = refl
-for_is_busy call Closing h = refl
+for_is_busy call _ h = refl
 
--- what becomes of openings that aren't wanted is as idle as before
+-- Turning an opening into one for no request leaves a connection as idle as it was.
 as_idle : (test : Bool) (x : Conn) → (test ≡ true → is_idle (Some x.place) ≡ false) → is_idle (Some (cond test (record x { place = Opening None }) x).place) ≡ is_idle (Some x.place)
 as_idle true x busy = sym (busy refl)
 as_idle false x busy = refl

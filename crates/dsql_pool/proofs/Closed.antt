@@ -1,4 +1,4 @@
--- Closings, one after another.
+-- Closings that are made one after another, one more each time.
 use Rattle.std.proofs.Common.{◌≡◌, ℕ, zero, suc, ◌+◌, ◌<◌, true, List, [], ◌∷◌, ◌++◌, length, map, take, get_or, refl, sym, ap, ◌∙◌, arith}
 use Rattle.std.specs.Prelude.{Option, Some, None}
 use Rattle.std.specs.List.{list_all, filter_map, cons_option}
@@ -17,7 +17,7 @@ use Rattle.dsql_pool.specs.Decisions.{starts_closing, closing_for, closing_at, c
 use Rattle.dsql_pool.proofs.Rows.{left_of, right_of}
 use Rattle.dsql_pool.proofs.Due.{made_append}
 
--- one move more
+-- The pool after the first i moves and the next is the pool after the first i + 1.
 pub made_next : (moves : List Move) (i : ℕ) (m d : Move) (p q next : Pooled) → i < length moves → get_or moves i d ≡ m → q ≡ made (take i moves) p → next ≡ moved m q → next ≡ made (take (i + 1) moves) p
 made_next moves i m d p q next within e f g =
     let more : take (i + 1) moves ≡ take i moves ++ m ∷ [] = take_more moves i d within ∙ ap (λ (n : Move). take i moves ++ n ∷ []) e in
@@ -27,7 +27,7 @@ only : (o : Option Move) → cons_option o [] ≡ option_to_list o
 only None = refl
 only (Some m) = refl
 
--- one more, where it is past its time or isn't
+-- One more number adds its closing if it is past its time, and otherwise nothing.
 pub closings_more : (h : ℕ → Option Move) (ns : List ℕ) (i : ℕ) (found : Option Move) → i < length ns → found ≡ h (get_or ns i 0) → filter_map h (take (i + 1) ns) ≡ filter_map h (take i ns) ++ option_to_list found
 closings_more h ns i found within e =
     ap (filter_map h) (take_more ns i 0 within)
@@ -40,7 +40,7 @@ closings_same h ns i found within e none =
     closings_more h ns i found within e
     ∙ (ap (λ (o : Option Move). filter_map h (take i ns) ++ option_to_list o) none ∙ append-nil (filter_map h (take i ns)))
 
--- each of them starts a closing
+-- Each move of such a list starts a closing.
 pub closings_close : (cause : CloseCause) (ns : List ℕ) → list_all starts_closing (map (λ c. CloseStart c cause) ns) ≡ true
 closings_close cause [] = refl
 closings_close cause (n ∷ ns) = closings_close cause ns
@@ -53,7 +53,7 @@ pub outdated_close : (limits : Limits) (moment : ℕ) (conns : List Conn) (ns : 
 outdated_close limits moment conns [] = refl
 outdated_close limits moment conns (n ∷ ns) = one_closes n (cause_at limits moment (conn_of n conns)) (filter_map (closing_at limits moment conns) ns) (outdated_close limits moment conns ns)
 
--- the one at a place starts a closing
+-- The move at a place of such a list starts a closing.
 pub closes_at : (moves : List Move) (i : ℕ) (m d : Move) → i < length moves → get_or moves i d ≡ m → list_all starts_closing moves ≡ true → starts_closing m ≡ true
 closes_at [] i m d within e h = absurd (omega arith)
 closes_at (n ∷ ns) zero m d within e h = ap starts_closing (sym e) ∙ left_of (starts_closing n) (list_all starts_closing ns) h

@@ -1,4 +1,4 @@
--- Openings that begin one after another, and moves after moves.
+-- Openings that begin one after another, and moves made after moves.
 use Rattle.std.proofs.Common.{◌≡◌, ℕ, zero, suc, ◌+◌, ◌<◌, ◌≤◌, true, false, cond, List, [], ◌∷◌, ◌++◌, length, refl, sym, ap, ◌∙◌, arith, append_assoc, length-append}
 use Rattle.std.specs.Prelude.{None}
 use Rattle.std.proofs.lemmas.Bool.Decides.{nat_tests}
@@ -18,7 +18,7 @@ pub made_append : (ms ns : List Move) (p : Pooled) → made (ms ++ ns) p ≡ mad
 made_append [] ns p = refl
 made_append (m ∷ ms) ns p = made_append ms ns (moved m p)
 
--- one more
+-- One opening more stands at the end of the list.
 openings_next : (k c : ℕ) → openings (k + 1) c ≡ openings k c ++ OpenStart (c + k) 0 ∷ []
 openings_next zero c = let same : c + zero ≡ c = omega arith in rw same refl
 openings_next (suc k) c =
@@ -26,7 +26,7 @@ openings_next (suc k) c =
     let number : c + suc k ≡ (c + 1) + k = omega arith in
     rw (step, number) (ap (λ (ms : List Move). OpenStart c 0 ∷ ms) (openings_next k (c + 1)))
 
--- the numbers of the connections go on
+-- After k openings the next number is k higher.
 numbered : (k c : ℕ) (p : Pooled) → next_number (made (openings k c) p) ≡ next_number p + k
 numbered zero c p = omega arith
 numbered (suc k) c p = let rest = numbered k (c + 1) (begun None p) in omega (arith, rest)
@@ -45,7 +45,7 @@ open_so_far (suc k) c p =
 begun_next : (k c : ℕ) (p : Pooled) → begun None (made (openings k c) p) ≡ made (openings (k + 1) c) p
 begun_next k c p = sym (ap (λ (ms : List Move). made ms p) (openings_next k c) ∙ made_append (openings k c) (OpenStart (c + k) 0 ∷ []) p)
 
--- the moves so far, with the next
+-- The moves so far with the next opening are the moves with one opening more.
 pub moves_next : (k : ℕ) (p q : Pooled) (old so_far next : List Move) → q ≡ made (openings k (next_number p)) p → so_far ≡ old ++ openings k (next_number p) → next ≡ so_far ++ OpenStart (next_number q) 0 ∷ [] → next ≡ old ++ openings (k + 1) (next_number p)
 moves_next k p q old so_far next e f g =
     let number : next_number q ≡ next_number p + k = ap next_number e ∙ numbered k (next_number p) p in
@@ -58,7 +58,7 @@ moves_next k p q old so_far next e f g =
 pub pool_next : (k c : ℕ) (p q next : Pooled) → q ≡ made (openings k c) p → next ≡ begun None q → next ≡ made (openings (k + 1) c) p
 pool_next k c p q next e f = f ∙ (ap (begun None) e ∙ begun_next k c p)
 
--- moves, and then the openings that they leave due
+-- The pool after moves and the openings that they leave due is the pool after `then_openings`.
 pub pool_then : (ms : List Move) (p q r : Pooled) → q ≡ made ms p → r ≡ made (openings_for_waiting q) q → r ≡ made (then_openings ms p) p
 pool_then ms p q r e f =
     f ∙ (ap (λ (s : Pooled). made (openings_for_waiting s) s) e ∙ sym (made_append ms (openings_for_waiting (made ms p)) p))
@@ -70,14 +70,14 @@ allowed_most p =
       | false ↦ λ not. omega arith
     ] refl
 
--- one that is due is allowed
+-- An opening that is due is allowed.
 pub due_is_allowed : (k : ℕ) (p : Pooled) → k < due_openings p → open_count p + k < most_allowed p
 due_is_allowed k p due = omega (arith, due)
 
 served_back : (c : ℕ) (p : Pooled) → lends_to_oldest c (next_tenure (moved (Back c) p) c) p.waiting ≡ lends_to_oldest c (next_tenure p c) p.waiting
 served_back c p = ap (λ (n : ℕ). lends_to_oldest c (n + 2) p.waiting) (lends_stay c p.moment p.conns)
 
--- it came back and went to the oldest request
+-- A connection that came back and went to the oldest request makes the moves of `moves_given_back`.
 pub moves_served : (fate : Fate) (c : ℕ) (p q r : Pooled) (none noted all : List Move) → q ≡ p → Serves ≡ when_given_back fate c q → none ≡ [] → noted ≡ none ++ Back c ∷ [] → r ≡ moved (Back c) q → all ≡ noted ++ lends_to_oldest c (next_tenure r c) r.waiting → all ≡ moves_given_back fate c p
 moves_served fate c p q r none noted all e is empty first f g =
     let back : r ≡ moved (Back c) p = f ∙ ap (moved (Back c)) e in

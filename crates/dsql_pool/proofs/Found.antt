@@ -1,4 +1,4 @@
--- What is found under a number once one of the connections has changed.
+-- What is found under a number after one of the connections has changed.
 use Rattle.std.proofs.Common.{◌≡◌, ℕ, Bool, true, false, eqb, cond, List, [], ◌∷◌, Option, Some, None, refl, sym, ap, ◌∙◌}
 use Rattle.std.specs.Option.{option_map, option_map_or}
 use Rattle.std.proofs.lemmas.Bool.{eqb-true, eqb-false, ne_eqb, cond-true}
@@ -6,7 +6,7 @@ use Rattle.dsql_pool.specs.declared.conn.Conn.{Conn}
 use Rattle.dsql_pool.specs.Places.{conn_of, lends_of}
 use Rattle.dsql_pool.specs.Changes.{changed, back}
 
--- a change that leaves each its number
+-- Holds if a change leaves each connection its number.
 abbrev pub KeepsNumber : (Conn → Conn) → Type 0
 KeepsNumber f = (x : Conn) → (f x).number ≡ x.number
 
@@ -32,7 +32,7 @@ lends_back : (moment : ℕ) (o : Option Conn) → option_map_or (λ x. x.lends) 
 lends_back moment None = refl
 lends_back moment (Some x) = refl
 
--- one that comes back was lent as often as before
+-- A connection that comes back was lent as often as before.
 pub lends_stay : (c moment : ℕ) (conns : List Conn) → lends_of c (changed c (back moment) conns) ≡ lends_of c conns
 lends_stay c moment conns =
     ap (λ (o : Option Conn). option_map_or (λ x. x.lends) o 0) (found_changed c (back moment) (λ _. refl) conns) ∙ lends_back moment (conn_of c conns)

@@ -8,7 +8,7 @@ use Rattle.dsql_pool.specs.declared.conn.Conn.{Conn}
 use Rattle.dsql_pool.specs.Places.{conn_of}
 use Rattle.dsql_pool.specs.Changes.{changed, gone}
 
--- 1 where what was found passes
+-- Returns 1 if a connection was found and passes, and otherwise 0.
 abbrev pub passing : (Conn → Bool) → Option Conn → ℕ
 passing q None = 0
 passing q (Some x) = cond (q x) 1 0
@@ -51,6 +51,7 @@ length-gone c (x ∷ xs) =
     let rest = length-gone c xs in
     elim (eqb x.number c) as (λ b. length (cond (not b) (x ∷ gone c xs) (gone c xs)) ≤ length (x ∷ xs)) [ true ↦ omega (arith, rest) | false ↦ omega (arith, rest) ]
 
--- where no more wait in excess and no more are allowed, as many are opened as were enough
+-- If enough were opened and neither excess grows, enough are opened still: not that of the requests over the
+-- openings, nor that of the allowed connections over the open ones.
 pub enough_kept : (w f r o w' f' r' o' : ℕ) → (nat_le w f || nat_le r o) ≡ true → w' + f ≤ w + f' → r' + o ≤ r + o' → (nat_le w' f' || nat_le r' o') ≡ true
 enough_kept w f r o w' f' r' o' h fewer less = grind (arith, nat_tests)

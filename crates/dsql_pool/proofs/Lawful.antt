@@ -11,7 +11,7 @@ use Rattle.dsql_pool.specs.Decisions.{last, takes_idle, are_too_many, may_open, 
 use Rattle.dsql_pool.specs.Laws.{OpensAsAllowed}
 use Rattle.dsql_pool.proofs.Due.{open_so_far, due_is_allowed}
 
--- fewer are open than may be, where no refusal comes and the limit allows one more
+-- If no request is refused and the limit allows one more, fewer connections are open than may be.
 pub may_open_one : (p : Pooled) → are_too_many p ≡ false → may_open p ≡ true → open_count p + 1 ≤ most_allowed p
 may_open_one p few may = grind (arith, nat_tests, few, may)
 

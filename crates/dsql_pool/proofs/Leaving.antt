@@ -21,7 +21,7 @@ use Rattle.dsql_pool.proofs.Placed.{Placed, placed_away}
 use Rattle.dsql_pool.proofs.Young.{Young, IsYoung, mapped}
 use Rattle.dsql_pool.proofs.Frees.{passing, count-changed, length-changed}
 
--- moves that each start a closing, one after another
+-- What holds of no moves and is kept by each closing holds of all lists of closings.
 by_closing : (P : List Move → Pooled → Type 0) → ((p : Pooled) → P [] p) → ((c : ℕ) (cause : CloseCause) (ms : List Move) (p : Pooled) → P ms (moved (CloseStart c cause) p) → P (CloseStart c cause ∷ ms) p) → (moves : List Move) (p : Pooled) → list_all starts_closing moves ≡ true → P moves p
 by_closing P base step [] p h = base p
 by_closing P base step (CloseStart c cause ∷ ms) p h = step c cause ms p (by_closing P base step ms (moved (CloseStart c cause) p) h)
@@ -31,13 +31,13 @@ by_closing P base step (Back c ∷ ms) p h = cc
 by_closing P base step (Gone c ∷ ms) p h = cc
 by_closing P base step (Fell c n ∷ ms) p h = cc
 
--- the connections that moves begin to close
+-- Returns the connections that the moves begin to close.
 abbrev pub out : List Move → List ℕ
 out [] = []
 out (CloseStart c cause ∷ ms) = c ∷ out ms
 out (_ ∷ ms) = out ms
 
--- what closings leave
+-- Holds of what closings leave as it was.
 pub record Leaves (p q : Pooled) : Type 0 where
   pub waiting : q.waiting ≡ p.waiting
   pub limits : q.limits ≡ p.limits
@@ -61,7 +61,7 @@ closings_placed =
 turned : (c d : ℕ) → eqb d c ≡ false → eqb c d ≡ false
 turned c d apart = ne_eqb c d (λ same. eqb-false d c apart (sym same))
 
--- whoever is idle still was so, and wasn't closed
+-- A connection that is idle after the closings was idle before them, and wasn't closed.
 pub still_idle : (moves : List Move) (p : Pooled) → list_all starts_closing moves ≡ true → (d : ℕ) (x : Conn) → conn_of d (made moves p).conns ≡ Some x → is_idle (Some x.place) ≡ true → (conn_of d p.conns ≡ Some x) × (times d (out moves) ≡ 0)
 still_idle =
     by_closing (λ moves p. (d : ℕ) (x : Conn) → conn_of d (made moves p).conns ≡ Some x → is_idle (Some x.place) ≡ true → (conn_of d p.conns ≡ Some x) × (times d (out moves) ≡ 0)) (λ p d x found is. (found, refl))
@@ -87,7 +87,7 @@ pub closed_is_none : (o : Option Conn) → passing free (option_map closing o) �
 closed_is_none None = refl
 closed_is_none (Some x) = refl
 
--- where none of those that close is a free opening, there are as many of these afterwards
+-- If none of the closed connections is a free opening, there are as many free openings after the closings.
 pub as_many_free : (moves : List Move) (p : Pooled) → list_all starts_closing moves ≡ true → ((d : ℕ) → (times d (out moves) ≡ 0 → ⊥) → passing free (conn_of d p.conns) ≡ 0) → count_by free (made moves p).conns ≡ count_by free p.conns
 as_many_free =
     by_closing (λ moves p. ((d : ℕ) → (times d (out moves) ≡ 0 → ⊥) → passing free (conn_of d p.conns) ≡ 0) → count_by free (made moves p).conns ≡ count_by free p.conns) (λ p h. refl)
@@ -112,7 +112,7 @@ pub out-map : (cause : CloseCause) (ns : List ℕ) → out (map (λ c. CloseStar
 out-map cause [] = refl
 out-map cause (n ∷ ns) = ap (λ (ms : List ℕ). n ∷ ms) (out-map cause ns)
 
--- who isn't closed as outdated is young
+-- A listed connection that isn't closed as outdated is within its time.
 pub not_outdated : (limits : Limits) (moment : ℕ) (conns : List Conn) (idle : List ℕ) (d : ℕ) → (times d idle ≡ 0 → ⊥) → times d (out (filter_map (closing_at limits moment conns) idle)) ≡ 0 → IsYoung limits moment (conn_of d conns)
 not_outdated limits moment conns [] d some none = absurd (some refl)
 not_outdated limits moment conns (e ∷ es) d some none =

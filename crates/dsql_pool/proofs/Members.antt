@@ -2,7 +2,7 @@
 use Rattle.std.proofs.Common.{◌≡◌, ℕ, suc, ◌≤◌, Bool, true, false, not, eqb, cond, List, [], ◌∷◌, ◌++◌, length, refl, sym, ap, ◌∙◌, arith}
 use Rattle.std.specs.List.{list_all}
 use Rattle.std.proofs.lemmas.Bool.{eqb-true, eq-eqb, ne_eqb, eqb-false}
-use Rattle.dsql_journal.specs.Readers.{is_empty}
+use Rattle.dsql_tenure_journal.specs.Readers.{is_empty}
 use Rattle.dsql_pool.specs.Pooled.{without}
 use Rattle.dsql_pool.specs.Rest.{times}
 use Rattle.dsql_pool.proofs.Rows.{left_of, right_of, both}
@@ -91,7 +91,7 @@ swapped c d (e ∷ es) =
           ] refl
     ] refl
 
--- all of some numbers are taken out
+-- Returns the list without these numbers.
 abbrev pub without_all : List ℕ → List ℕ → List ℕ
 without_all [] ns = ns
 without_all (c ∷ cs) ns = without_all cs (without c ns)
@@ -100,7 +100,7 @@ out_of : (cs : List ℕ) (c : ℕ) (ns : List ℕ) → without_all cs (without c
 out_of [] c ns = refl
 out_of (d ∷ ds) c ns = ap (without_all ds) (swapped d c ns) ∙ out_of ds c (without d ns)
 
--- once the first ones are taken out, at most the others are left
+-- After the first numbers of a list are taken out, at most the others are left.
 pub first_ones_leave : (cs ns : List ℕ) → length (without_all cs (cs ++ ns)) ≤ length ns
 first_ones_leave [] ns = omega arith
 first_ones_leave (c ∷ cs) ns =

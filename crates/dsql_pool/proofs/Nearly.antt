@@ -1,9 +1,9 @@
--- The pool at rest but for openings that are due, and at rest once they have begun.
+-- The pool that is at rest except for openings that are due, and at rest after they have begun.
 use Rattle.std.proofs.Common.{◌≡◌, ℕ, zero, suc, ◌+◌, ◌-◌, ◌≤◌, Bool, true, false, not, ◌&&◌, ◌||◌, cond, List, [], ◌∷◌, length, None, refl, sym, ap, ◌∙◌, subst, arith, min}
 use Rattle.std.specs.Prelude.{nat_le, filter}
 use Rattle.std.specs.List.{list_all}
 use Rattle.std.proofs.lemmas.Bool.Decides.{nat_tests}
-use Rattle.dsql_journal.specs.Readers.{is_empty}
+use Rattle.dsql_tenure_journal.specs.Readers.{is_empty}
 use Rattle.dsql_time.specs.declared.Limits.{Limits}
 use Rattle.dsql_wait.specs.declared.request.Request.{Request}
 use Rattle.dsql_pool.specs.Changes.{opening}
@@ -17,7 +17,7 @@ use Rattle.dsql_pool.proofs.Young.{Young, young_list, list_young, young_more}
 use Rattle.dsql_pool.proofs.Frees.{count-more}
 use Rattle.dsql_pool.proofs.Leaving.{free}
 
--- all of what holds at rest but that no opening is due
+-- Holds if all holds that holds at rest, except that openings may be due.
 pub record Nearly (p : Pooled) : Type 0 where
   pub placed : IsPlaced p
   pub most : keeps_most p ≡ true
@@ -65,7 +65,7 @@ fewer_requests q (r ∷ rs) =
     let rest = fewer_requests q rs in
     elim (q r) as (λ b. length (cond b (r ∷ filter q rs) (filter q rs)) ≤ length (r ∷ rs)) [ true ↦ omega (arith, rest) | false ↦ omega (arith, rest) ]
 
--- what an opening for none of its own leaves and makes
+-- Holds of what openings for no request of their own leave as it was and what they make.
 pub record Opens (k : ℕ) (p q : Pooled) : Type 0 where
   pub idle : q.idle ≡ p.idle
   pub waiting : q.waiting ≡ p.waiting
@@ -92,7 +92,7 @@ young_openings (suc k) c p h = young_openings k (c + 1) (begun None p) (young_mo
 pub enough_due : (w f r o w' f' r' o' : ℕ) → w' ≡ w → f' ≡ f + min (w - f) (r - o) → r' ≡ r → o' ≡ o + min (w - f) (r - o) → (nat_le w' f' || nat_le r' o') ≡ true
 enough_due w f r o w' f' r' o' same more allowed opened = grind (arith, nat_tests, same, more, allowed, opened)
 
--- once the openings that are due have begun, the pool is at rest
+-- After the openings that are due have begun, the pool is at rest.
 pub opened_rests : (p : Pooled) → Nearly p → AtRest (made (openings_for_waiting p) p)
 opened_rests p h =
     let k = due_openings p in

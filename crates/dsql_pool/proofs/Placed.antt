@@ -1,9 +1,9 @@
--- A connection is among the idle ones once where its place is idle, under each change.
+-- A connection is among the idle ones once if its place is idle, under each change.
 use Rattle.std.proofs.Common.{◌≡◌, ℕ, suc, Bool, true, false, not, eqb, cond, List, [], ◌∷◌, ◌++◌, map, Option, Some, None, refl, sym, ap, ◌∙◌, subst}
 use Rattle.std.specs.Option.{option_map, option_or}
 use Rattle.std.proofs.lemmas.Bool.{eqb-true, eqb-false, ne_eqb, cond-true}
 use Rattle.std.proofs.lemmas.List.Folds.{find-append}
-use Rattle.dsql_journal.specs.declared.entry.Owner.{Owner}
+use Rattle.dsql_tenure_journal.specs.declared.entry.Owner.{Owner}
 use Rattle.dsql_pool.specs.declared.conn.Conn.{Conn}
 use Rattle.dsql_pool.specs.Places.{conn_of, is_idle}
 use Rattle.dsql_pool.specs.Changes.{changed, gone, opening}
@@ -12,14 +12,14 @@ use Rattle.dsql_pool.specs.Rest.{times}
 use Rattle.dsql_pool.proofs.Found.{KeepsNumber, found_changed, found_beside}
 use Rattle.dsql_pool.proofs.Members.{times-without_other, times-without_same, times-more_same, times-more_other}
 
--- what was found is idle
+-- Is true if what was found is idle.
 abbrev pub idle_in : Option Conn → Bool
 idle_in found = is_idle (option_map (λ conn. conn.place) found)
 
 abbrev pub Placed : List ℕ → List Conn → Type 0
 Placed idle conns = (c : ℕ) → times c idle ≡ cond (idle_in (conn_of c conns)) 1 0
 
--- two equal numbers or two different ones
+-- What holds of c and of every number that differs from it holds of all numbers.
 by_number : (P : ℕ → Type 0) (c : ℕ) → P c → ((d : ℕ) → eqb d c ≡ false → P d) → (d : ℕ) → P d
 by_number P c here beside d =
     elim (eqb d c) as (λ b. eqb d c ≡ b → P d) [

@@ -1,4 +1,4 @@
--- The pool is at rest after each call.
+-- The argument that the pool is at rest after each call, by the move that each makes.
 use Rattle.std.proofs.Common.{◌≡◌, ℕ, zero, suc, ◌-◌, ◌<◌, Bool, true, false, not, ◌&&◌, ◌||◌, eqb, cond, List, [], ◌∷◌, ◌++◌, length, get_or, Option, Some, None, refl, sym, ap, ◌∙◌, subst, arith, length-append}
 use Rattle.std.specs.Prelude.{Ok, Err, nat_le}
 use Rattle.std.specs.List.{list_all}
@@ -6,9 +6,9 @@ use Rattle.std.specs.Option.{option_map}
 use Rattle.std.proofs.lemmas.Bool.{eq-eqb}
 use Rattle.std.proofs.lemmas.Bool.Decides.{nat_tests}
 use Rattle.std.proofs.lemmas.List.Folds.{list_all-append}
-use Rattle.dsql_journal.specs.declared.entry.Owner.{Owner}
-use Rattle.dsql_journal.specs.declared.entry.Owner.TheVariants.{House}
-use Rattle.dsql_journal.specs.Readers.{is_empty}
+use Rattle.dsql_tenure_journal.specs.declared.entry.Owner.{Owner}
+use Rattle.dsql_tenure_journal.specs.declared.entry.Owner.TheVariants.{House}
+use Rattle.dsql_tenure_journal.specs.Readers.{is_empty}
 use Rattle.dsql_time.specs.Limits.{has_expired}
 use Rattle.dsql_wait.specs.declared.request.Request.{Request}
 use Rattle.dsql_pool.specs.declared.conn.Place.{Place}
@@ -25,7 +25,7 @@ use Rattle.dsql_pool.specs.declared.moves.Outcome.TheVariants.{Closes, Serves, R
 use Rattle.dsql_pool.specs.declared.request.Asked.TheVariants as asked
 use Rattle.dsql_pool.specs.declared.request.AskFault.TheVariants.{TooMany}
 use Rattle.dsql_pool.specs.Places.{conn_of, is_idle, is_lent, is_opening, is_closing, is_free}
-use Rattle.dsql_journal.specs.Kinds.{number_of}
+use Rattle.dsql_tenure_journal.specs.Kinds.{number_of}
 use Rattle.dsql_pool.specs.Changes.{opening, opened_at, gone}
 use Rattle.dsql_pool.specs.Pooled.{Pooled, place_at, open_count, free_openings, next_number, next_tenure, most_allowed, most_open}
 use Rattle.dsql_pool.specs.Moved.{moved, made, begun, joined}
@@ -44,7 +44,7 @@ use Rattle.dsql_pool.proofs.Stepping.{kept_many, lend_rests, lend_enough, serve_
 use Rattle.dsql_pool.proofs.Returning.{when_rests, when_serves, when_closes, back_rests, served_rests}
 use Rattle.dsql_pool.proofs.Settling as settling
 
--- a place that was found, with its connection
+-- A place that was found is the place of a connection.
 found_at : (o : Option Conn) (place : Place) → option_map (λ x. x.place) o ≡ Some place → (x : Conn) × (o ≡ Some x) × (x.place ≡ place)
 found_at None place e = cc
 found_at (Some x) place e = let same : x.place ≡ place = cc in (x, refl, same)
@@ -54,7 +54,7 @@ passes_none p c place e not_free =
     let x = found_at (conn_of c p.conns) place e in
     ap (passing free) x.1 ∙ (ap (λ (l : Place). cond {A = ℕ} (is_free l) 1 0) x.2 ∙ ap (λ (b : Bool). cond {A = ℕ} b 1 0) not_free)
 
--- one of a list stands in it
+-- A number taken from a list stands in it.
 stands : (ns : List ℕ) (i : ℕ) → i < length ns → times (get_or ns i 0) ns ≡ 0 → ⊥
 stands [] i within none = omega (arith, within)
 stands (n ∷ ns) zero within none = let first : times n (n ∷ ns) ≡ suc (times n ns) = ap (λ (b : Bool). cond b (suc (times n ns)) (times n ns)) (eq-eqb n n refl) in omega (arith, first, none)
@@ -77,7 +77,7 @@ takes_some r p h = second (not r.last) (is_empty p.idle) h
 pub full_where_none_opens : (p : Pooled) → are_too_many p ≡ false → may_open p ≡ false → nat_le (most_allowed p) (open_count p) ≡ true
 full_where_none_opens p few may = grind (arith, nat_tests, few, may)
 
--- an opening begins for a request
+-- The pool is at rest after an opening has begun for a request.
 begun_rests : (owner : Owner) (p : Pooled) → AtRest p → are_too_many p ≡ false → may_open p ≡ true → AtRest (begun (Some owner) p)
 begun_rests owner p h few may =
     let q = begun (Some owner) p in
@@ -108,7 +108,7 @@ waits_rightly r p takes served =
     and_last true false h t = cc
     and_last false b h t = cc
 
--- a request joins those that wait
+-- The pool is at rest after a request has joined those that wait.
 joined_rests : (r : Request) (p : Pooled) → AtRest p → p.closed ≡ false → takes_idle r p ≡ false → nat_le (most_allowed p) (open_count p) ≡ true → AtRest (joined r p)
 joined_rests r p h open_still takes full =
     wholly (joined r p)
@@ -147,7 +147,7 @@ asked_rests r p h =
           ] refl
     ] refl
 
--- one that was opened and isn't wanted is placed
+-- The pool is at rest after a connection that was opened and isn't wanted was placed.
 unwanted_rests : (c : ℕ) (x : Conn) (p : Pooled) (outcome : Outcome) → AtRest p → conn_of c p.conns ≡ Some x → x.place ≡ Opening None → when_good false p ≡ outcome → AtRest (made (moves_unwanted c p outcome) p)
 unwanted_rests c x p (Closes cause) h found at e = close_rests c cause p h (close_enough_still c cause p (when_closes cause p h e))
 unwanted_rests c x p Serves h found at e = served p.waiting refl
@@ -177,7 +177,7 @@ opened_call_rests c p h may = placed (place_at p c) refl may
         let x = found_at (conn_of c p.conns) (Opening None) e in
         unwanted_rests c x.0 p (when_good false p) h x.1 x.2 refl
 
--- one that was lent is placed, where nothing is said against it
+-- The pool is at rest after a lent connection that nothing is said against was placed.
 good_rests : (c : ℕ) (x : Conn) (p : Pooled) (expired : Bool) (outcome : Outcome) (tenure : ℕ) (owner : Owner) → AtRest p → conn_of c p.conns ≡ Some x → x.place ≡ Lent tenure owner → is_expired p (conn_of c p.conns) ≡ expired → when_good expired p ≡ outcome → AtRest (made (moves_back c p outcome) p)
 good_rests c x p expired (Closes cause) tenure owner h found at old e =
     close_rests c cause p h (close_enough c cause p h (ap (passing free) found ∙ ap (λ (l : Place). cond {A = ℕ} (is_free l) 1 0) at))
@@ -216,7 +216,7 @@ given_back_rests fated c p h may = placed (place_at p c) refl may
 pub house_rests : (c tenure : ℕ) (p : Pooled) → AtRest p → is_idle (place_at p c) ≡ true → AtRest (moved (Lend c tenure House 0) p)
 house_rests c tenure p h may = lend_rests c tenure 0 House p h (lend_enough c tenure 0 House p h (settling.idle_not_free (conn_of c p.conns) may))
 
--- a connection that isn't idle is no more
+-- After a connection that isn't idle has gone, the pool is at rest except for openings that are due.
 gone_nearly : (c n : ℕ) (p : Pooled) → AtRest p → is_idle (place_at p c) ≡ false → Nearly (moved (Fell c n) p)
 gone_nearly c n p h busy =
     let q = moved (Fell c n) p in
@@ -254,7 +254,7 @@ busy_closing (Some (Lent tenure owner)) h = cc
 busy_closing (Some (Opening wanted)) h = cc
 busy_closing (Some Closing) h = refl
 
--- moves, and then the openings that they leave due
+-- The pool is at rest after moves and the openings that they leave due.
 pub then_rests : (ms : List Move) (p : Pooled) → Nearly (made ms p) → AtRest (made (ms ++ openings_for_waiting (made ms p)) p)
 then_rests ms p h = subst AtRest (sym (made_append ms (openings_for_waiting (made ms p)) p)) (opened_rests (made ms p) h)
 

@@ -1,11 +1,11 @@
--- The pool at rest once a connection has come back, or was opened for nobody.
+-- The pool at rest after a connection has come back, or was opened for nobody.
 use Rattle.std.proofs.Common.{◌≡◌, ℕ, ◌<◌, ◌≤◌, Bool, true, false, not, ◌&&◌, ◌||◌, eqb, cond, List, [], ◌∷◌, ◌++◌, length, Some, refl, sym, ap, ◌∙◌, subst, arith, length-append}
 use Rattle.std.specs.Prelude.{nat_le, nat_lt}
 use Rattle.std.specs.List.{list_all}
 use Rattle.std.proofs.lemmas.Bool.{eq-eqb}
 use Rattle.std.proofs.lemmas.Bool.Decides.{nat_tests}
-use Rattle.dsql_journal.specs.declared.entry.Owner.{Owner}
-use Rattle.dsql_journal.specs.Readers.{is_empty}
+use Rattle.dsql_tenure_journal.specs.declared.entry.Owner.{Owner}
+use Rattle.dsql_tenure_journal.specs.Readers.{is_empty}
 use Rattle.dsql_time.specs.Limits.{has_expired}
 use Rattle.dsql_wait.specs.declared.request.Request.{Request}
 use Rattle.dsql_pool.specs.declared.conn.Conn.{Conn}
@@ -28,7 +28,7 @@ use Rattle.dsql_pool.proofs.Leaving.{free}
 use Rattle.dsql_pool.proofs.Nearly.{wholly, young_at, le_true, true_le, or_kept, or_left, or_right, fewer_requests}
 use Rattle.dsql_pool.proofs.Stepping.{kept_many, lent_is_none, back_is_none, back_is_young, empty_length}
 
--- what is known where nothing closes a connection and none waits
+-- Holds if nothing closes a connection and no request waits.
 pub record Keeps (p : Pooled) : Type 0 where
   pub nobody : is_empty p.waiting ≡ true
   pub below : nat_lt (length p.idle) p.limits.max_idle ≡ true
@@ -60,7 +60,7 @@ when_rests false p h = (
 over_is_full : (p : Pooled) → is_over_limit p ≡ true → nat_le (most_allowed p) (open_count p) ≡ true
 over_is_full p h = grind (arith, nat_tests)
 
--- where an unwanted one closes, none waits or as many are open as may be
+-- If an unwanted connection closes, no request waits or as many connections are open as may be.
 pub when_closes : (cause : CloseCause) (p : Pooled) → AtRest p → when_good false p ≡ Closes cause → (is_empty p.waiting || nat_le (most_allowed p) (open_count p)) ≡ true
 when_closes cause p rest h =
     elim p.closed as (λ b. (not b || (is_empty p.idle && is_empty p.waiting)) ≡ true → cond b (Closes for.DbClosed) (cond (is_over_limit p) (Closes for.OverLimit) (when_kept p)) ≡ Closes cause → (is_empty p.waiting || nat_le (most_allowed p) (open_count p)) ≡ true) [
@@ -77,7 +77,7 @@ when_closes cause p rest h =
     second true b h = h
     second false b h = cc
 
--- one becomes idle, since none waits
+-- The pool stays at rest when a connection becomes idle, since no request waits.
 pub back_rests : (c : ℕ) (x : Conn) (p : Pooled) → AtRest p → conn_of c p.conns ≡ Some x → is_idle (Some x.place) ≡ false → Keeps p → has_expired (opened_at p.moment x) p.limits.lifetime p.moment ≡ false → AtRest (moved (Back c) p)
 back_rests c x p h found busy keeps young =
     let q = moved (Back c) p in
@@ -118,7 +118,7 @@ came_and_went c (n ∷ ns) =
     let rest = came_and_went c ns in
     (elim (eqb n c) as (λ b. length (cond (not b) (n ∷ without c (ns ++ c ∷ [])) (without c (ns ++ c ∷ []))) ≤ length (n ∷ ns)) [ true ↦ let less = rest.0 in omega (arith, less) | false ↦ let less = rest.0 in omega (arith, less) ], λ h. cc)
 
--- it goes to the oldest request
+-- The pool stays at rest when a connection goes to the oldest request.
 pub served_rests : (c tenure : ℕ) (owner : Owner) (x : Conn) (r : Request) (rs : List Request) (p : Pooled) → p.waiting ≡ r ∷ rs → AtRest p → conn_of c p.conns ≡ Some x → is_idle (Some x.place) ≡ false → free x ≡ false → p.closed ≡ false → AtRest (made (Back c ∷ Lend c tenure owner r.call ∷ []) p)
 served_rests c tenure owner x r rs p waits h found busy not_free open_still =
     let b = moved (Back c) p in
@@ -153,7 +153,7 @@ served_rests c tenure owner x r rs p waits h found busy not_free open_still =
     })
     (enough_kept (length p.waiting) (free_openings p) (most_allowed p) (open_count p) (length q.waiting) (free_openings q) (most_allowed q) (open_count q) h.enough (omega (arith, one, two, none, came, idle_then, was, fewer)) (omega (arith, same, again)))
 
--- where the oldest request gets one, a request waits and the pool is open
+-- If the oldest request gets a connection, a request waits and the pool is open.
 pub when_serves : (expired : Bool) (p : Pooled) → when_good expired p ≡ Serves → (p.closed ≡ false) × (is_empty p.waiting ≡ false)
 when_serves true p h = cc
 when_serves false p h =

@@ -1,4 +1,4 @@
--- Rows of connections: one of them changes, or all of them.
+-- Rows of connections when one of them changes, or all do.
 use Rattle.std.proofs.Common.{◌≡◌, ℕ, suc, ◌+◌, ◌<◌, ◌≤◌, Bool, true, false, not, ◌&&◌, eqb, cond, get_or, List, [], ◌∷◌, ◌++◌, length, map, Option, Some, None, refl, sym, ap, ◌∙◌, subst, arith}
 use Rattle.std.specs.Prelude.{ltb, slice_set, slice_get, filter, IfSome}
 use Rattle.std.specs.List.{list_all, position, position_or_len}
@@ -11,7 +11,7 @@ use Rattle.dsql_pool.specs.declared.conn.Conn.{Conn}
 use Rattle.dsql_pool.specs.Places.{conn_of, is_opening, is_for, is_drawn, AreDrawn}
 use Rattle.dsql_pool.specs.Changes.{changed, gone, unwanted, unwanted_by}
 
--- the place of the first of that number, or the length where there is none
+-- Returns the place of the first connection with this number, or the length if there is none.
 abbrev pub first : ℕ → List Conn → ℕ
 first c conns = position_or_len (λ (conn : Conn). eqb conn.number c) conns
 
@@ -34,7 +34,7 @@ left_alone c f (x ∷ xs) past =
       | false ↦ λ no. ap (λ (ys : List Conn). x ∷ ys) (left_alone c f xs (λ within. no (omega arith)))
     ] past
 
--- a connection takes the place of that of its number
+-- Putting a connection at the place of its number changes the one that has this number.
 pub put_some : (c at : ℕ) (y : Conn) (conns : List Conn) → Some at ≡ position (λ (conn : Conn). eqb conn.number c) conns → slice_set conns at y ≡ changed c (λ _. y) conns
 put_some c at y conns e =
     elim (ltb (first c conns) (length conns)) as (λ b. ltb (first c conns) (length conns) ≡ b → Some at ≡ cond b (Some (first c conns)) None → slice_set conns at y ≡ changed c (λ _. y) conns) [
@@ -51,7 +51,7 @@ put_none c f conns e =
       | false ↦ λ past same. left_alone c f conns (λ within. let lt : ltb (first c conns) (length conns) ≡ true = grind (arith, nat_tests) in cc)
     ] refl e
 
--- what is found under a number has it
+-- What is found under a number has this number.
 pub has_number : (c : ℕ) (x : Conn) (conns : List Conn) → conn_of c conns ≡ Some x → x.number ≡ c
 has_number c x [] e = cc
 has_number c x (y ∷ ys) e =
@@ -68,7 +68,7 @@ put_is_change c f x (y ∷ ys) e =
       | false ↦ λ same. ap (λ (zs : List Conn). y ∷ zs) (put_is_change c f x ys same)
     ] e
 
--- the connection that was found is changed
+-- Putting back a changed connection is changing the connection that was found.
 pub changed_found : (c : ℕ) (f : Conn → Conn) (x : Conn) (conns : List Conn) → Some x ≡ conn_of c conns → (f x).number ≡ x.number → changed (f x).number (λ _. f x) conns ≡ changed c f conns
 changed_found c f x conns e keeps =
     let number = keeps ∙ has_number c x conns (sym e) in
@@ -121,7 +121,7 @@ all_changed p c f (x ∷ xs) step h =
       | false ↦ both (p x) (list_all p (changed c f xs)) here (all_changed p c f xs step rest)
     ]
 
--- more openings and lendings have begun
+-- A bound on lendings and uses still holds after more openings and lendings have begun.
 pub drawn_more : (d e : ℕ) (x : Conn) → d ≤ e → is_drawn d x ≡ true → is_drawn e x ≡ true
 drawn_more d e x le h = grind (arith, nat_tests)
 
@@ -134,7 +134,7 @@ lends_within d x h = grind (arith, nat_tests)
 pub uses_within : (d : ℕ) (x : Conn) → is_drawn d x ≡ true → x.uses ≤ d
 uses_within d x h = grind (arith, nat_tests)
 
--- what is found among all is as all are
+-- What holds of all connections holds of the one that is found.
 pub found_passes : (p : Conn → Bool) (c : ℕ) (x : Conn) (conns : List Conn) → list_all p conns ≡ true → conn_of c conns ≡ Some x → p x ≡ true
 found_passes p c x [] h e = cc
 found_passes p c x (y ∷ ys) h e =
@@ -143,7 +143,7 @@ found_passes p c x (y ∷ ys) h e =
       | false ↦ λ behind. found_passes p c x ys (right_of (p y) (list_all p ys) h) behind
     ] e
 
--- the rows once one of them was put in its place
+-- The rows stay within the counts after one of them was put in its place.
 pub drawn_put : (d e c : ℕ) (y : Conn) (opened : ℕ) (old new : List Conn) → d ≤ e → new ≡ changed c (λ _. y) old → y.lends ≤ e → y.uses ≤ e → AreDrawn old opened d → AreDrawn new opened e
 drawn_put d e c y opened old new le is lends uses h = record {
   counted = let before = h.counted in omega (arith, before, le);
@@ -158,7 +158,7 @@ drawn_on d e opened conns le h = record {
   lent = all_pass (is_drawn d) (is_drawn e) conns (λ x here. drawn_more d e x le here) h.lent;
 }
 
--- the connection at the place of its number
+-- The connection at the place of a number is the one that is found under it.
 pub row_at : (c at : ℕ) (y : Conn) (conns : List Conn) → Some at ≡ position (λ (conn : Conn). eqb conn.number c) conns → y ≡ get_or conns at y → Some y ≡ conn_of c conns
 row_at c at y conns e is =
     elim (ltb (first c conns) (length conns)) as (λ b. ltb (first c conns) (length conns) ≡ b → Some at ≡ cond b (Some (first c conns)) None → Some y ≡ conn_of c conns) [

@@ -2,14 +2,14 @@
 use Rattle.std.proofs.Common.{◌≡◌, ℕ, ◌+◌, ◌≤◌, Bool, true, false, not, ◌&&◌, cond, List, [], ◌∷◌, Option, Some, None, refl, ap, ◌∙◌, arith}
 use Rattle.std.specs.Prelude.{count_by, nat_le, Ok, Err}
 use Rattle.std.proofs.lemmas.List.Sums.{sum_by-append}
-use Rattle.dsql_journal.specs.Readers.{is_empty}
+use Rattle.dsql_tenure_journal.specs.Readers.{is_empty}
 use Rattle.dsql_wait.specs.declared.request.Request.{Request}
 use Rattle.dsql_wait.specs.Requests.{request_of}
 use Rattle.dsql_pool.specs.declared.conn.Place.{Place}
 use Rattle.dsql_pool.specs.declared.moves.CloseCause.{CloseCause}
 use Rattle.dsql_pool.specs.declared.moves.CloseCause.TheVariants as for
 use Rattle.dsql_pool.specs.declared.moves.Move.{Move}
-use Rattle.dsql_pool.specs.declared.moves.Move.TheVariants.{OpenStart, Lend, Back, CloseStart, Gone, Fell}
+use Rattle.dsql_pool.specs.declared.moves.Move.TheVariants.{Lend, Back, CloseStart, Fell}
 use Rattle.dsql_pool.specs.declared.request.Asked.TheVariants as asked
 use Rattle.dsql_pool.specs.declared.request.AskFault.TheVariants.{TooMany}
 use Rattle.dsql_pool.specs.declared.stats.Counts.{Counts}
@@ -22,7 +22,7 @@ use Rattle.dsql_pool.proofs.Nearly.{true_le}
 use Rattle.dsql_pool.proofs.Resting.{full_where_none_opens}
 use Rattle.dsql_pool.proofs.Returning.{when_rests}
 
--- what is known of a request that waits
+-- Holds of a request that waits.
 record Waits (r : Request) (p : Pooled) : Type 0 where
   none_idle : takes_idle r p ≡ false
   all_open : most_allowed p ≤ open_count p
@@ -86,7 +86,7 @@ serves_the_oldest = record {
 counted : (test : Move → Bool) (m : Move) (ms : List Move) → count_by test (m ∷ ms) ≡ cond (test m) 1 0 + count_by test ms
 counted test m ms = let split = sum_by-append (λ (n : Move). cond (test n) 1 0) (m ∷ []) ms in omega (arith, split)
 
--- a figure that counts each move that passes a test counts all of them
+-- A figure that counts each single move that passes a test counts all such moves of a list.
 figure : (test : Move → Bool) (of : Counts → ℕ) → ((m : Move) (p : Pooled) → of p.counts ≤ largest_total → of (moved m p).counts ≡ saturated (of p.counts + cond (test m) 1 0)) → (ms : List Move) (p : Pooled) → of p.counts ≤ largest_total → of (made ms p).counts ≡ saturated (of p.counts + count_by test ms)
 figure test of step [] p most = omega (arith, most)
 figure test of step (m ∷ ms) p most =
@@ -101,66 +101,42 @@ over_idle_full moment None counts = refl
 over_idle_full moment (Some r) counts = refl
 
 closed_idle_full : (c : ℕ) (cause : CloseCause) (counts : Counts) → counts.idle_full ≤ largest_total → (closed_for cause counts).idle_full ≡ saturated (counts.idle_full + cond (is_idle_full (CloseStart c cause)) 1 0)
-closed_idle_full c for.Bad counts most = omega (arith, most)
-closed_idle_full c for.Invalid counts most = omega (arith, most)
-closed_idle_full c for.OverLimit counts most = omega (arith, most)
 closed_idle_full c for.IdleFull counts most = refl
-closed_idle_full c for.Lifetime counts most = omega (arith, most)
-closed_idle_full c for.IdleTime counts most = omega (arith, most)
-closed_idle_full c for.DbClosed counts most = omega (arith, most)
-closed_idle_full c for.Discarded counts most = omega (arith, most)
+closed_idle_full c _ counts most = omega (arith, most)
 
 step_idle_full : (m : Move) (p : Pooled) → p.counts.idle_full ≤ largest_total → (moved m p).counts.idle_full ≡ saturated (p.counts.idle_full + cond (is_idle_full m) 1 0)
-step_idle_full (OpenStart c n) p most = omega (arith, most)
 step_idle_full (Lend c tenure owner n) p most = let same = over_idle_full p.moment (request_of n p.waiting) p.counts in omega (arith, most, same)
-step_idle_full (Back c) p most = omega (arith, most)
 step_idle_full (CloseStart c cause) p most = closed_idle_full c cause p.counts most
-step_idle_full (Gone c) p most = omega (arith, most)
 step_idle_full (Fell c n) p most = let same = over_idle_full p.moment (request_of n p.waiting) p.counts in omega (arith, most, same)
+step_idle_full _ p most = omega (arith, most)
 
 over_idle_time : (moment : ℕ) (o : Option Request) (counts : Counts) → (wait_over moment o counts).idle_time ≡ counts.idle_time
 over_idle_time moment None counts = refl
 over_idle_time moment (Some r) counts = refl
 
 closed_idle_time : (c : ℕ) (cause : CloseCause) (counts : Counts) → counts.idle_time ≤ largest_total → (closed_for cause counts).idle_time ≡ saturated (counts.idle_time + cond (is_idle_time (CloseStart c cause)) 1 0)
-closed_idle_time c for.Bad counts most = omega (arith, most)
-closed_idle_time c for.Invalid counts most = omega (arith, most)
-closed_idle_time c for.OverLimit counts most = omega (arith, most)
-closed_idle_time c for.IdleFull counts most = omega (arith, most)
-closed_idle_time c for.Lifetime counts most = omega (arith, most)
 closed_idle_time c for.IdleTime counts most = refl
-closed_idle_time c for.DbClosed counts most = omega (arith, most)
-closed_idle_time c for.Discarded counts most = omega (arith, most)
+closed_idle_time c _ counts most = omega (arith, most)
 
 step_idle_time : (m : Move) (p : Pooled) → p.counts.idle_time ≤ largest_total → (moved m p).counts.idle_time ≡ saturated (p.counts.idle_time + cond (is_idle_time m) 1 0)
-step_idle_time (OpenStart c n) p most = omega (arith, most)
 step_idle_time (Lend c tenure owner n) p most = let same = over_idle_time p.moment (request_of n p.waiting) p.counts in omega (arith, most, same)
-step_idle_time (Back c) p most = omega (arith, most)
 step_idle_time (CloseStart c cause) p most = closed_idle_time c cause p.counts most
-step_idle_time (Gone c) p most = omega (arith, most)
 step_idle_time (Fell c n) p most = let same = over_idle_time p.moment (request_of n p.waiting) p.counts in omega (arith, most, same)
+step_idle_time _ p most = omega (arith, most)
 
 over_lifetime : (moment : ℕ) (o : Option Request) (counts : Counts) → (wait_over moment o counts).lifetime ≡ counts.lifetime
 over_lifetime moment None counts = refl
 over_lifetime moment (Some r) counts = refl
 
 closed_lifetime : (c : ℕ) (cause : CloseCause) (counts : Counts) → counts.lifetime ≤ largest_total → (closed_for cause counts).lifetime ≡ saturated (counts.lifetime + cond (is_lifetime (CloseStart c cause)) 1 0)
-closed_lifetime c for.Bad counts most = omega (arith, most)
-closed_lifetime c for.Invalid counts most = omega (arith, most)
-closed_lifetime c for.OverLimit counts most = omega (arith, most)
-closed_lifetime c for.IdleFull counts most = omega (arith, most)
 closed_lifetime c for.Lifetime counts most = refl
-closed_lifetime c for.IdleTime counts most = omega (arith, most)
-closed_lifetime c for.DbClosed counts most = omega (arith, most)
-closed_lifetime c for.Discarded counts most = omega (arith, most)
+closed_lifetime c _ counts most = omega (arith, most)
 
 step_lifetime : (m : Move) (p : Pooled) → p.counts.lifetime ≤ largest_total → (moved m p).counts.lifetime ≡ saturated (p.counts.lifetime + cond (is_lifetime m) 1 0)
-step_lifetime (OpenStart c n) p most = omega (arith, most)
 step_lifetime (Lend c tenure owner n) p most = let same = over_lifetime p.moment (request_of n p.waiting) p.counts in omega (arith, most, same)
-step_lifetime (Back c) p most = omega (arith, most)
 step_lifetime (CloseStart c cause) p most = closed_lifetime c cause p.counts most
-step_lifetime (Gone c) p most = omega (arith, most)
 step_lifetime (Fell c n) p most = let same = over_lifetime p.moment (request_of n p.waiting) p.counts in omega (arith, most, same)
+step_lifetime _ p most = omega (arith, most)
 
 over_waits : (moment : ℕ) (o : Option Request) (counts : Counts) → (wait_over moment o counts).waits ≡ counts.waits
 over_waits moment None counts = refl
@@ -177,12 +153,10 @@ closed_waits for.DbClosed counts = refl
 closed_waits for.Discarded counts = refl
 
 step_waits : (m : Move) (p : Pooled) → (moved m p).counts.waits ≡ p.counts.waits
-step_waits (OpenStart c n) p = refl
 step_waits (Lend c tenure owner n) p = over_waits p.moment (request_of n p.waiting) p.counts
-step_waits (Back c) p = refl
 step_waits (CloseStart c cause) p = closed_waits cause p.counts
-step_waits (Gone c) p = refl
 step_waits (Fell c n) p = over_waits p.moment (request_of n p.waiting) p.counts
+step_waits _ p = refl
 
 made_waits : (ms : List Move) (p : Pooled) → (made ms p).counts.waits ≡ p.counts.waits
 made_waits [] p = refl

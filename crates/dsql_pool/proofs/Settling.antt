@@ -1,13 +1,13 @@
--- The pool at rest once idle connections have closed, after a setting, a tick or the close.
+-- The pool at rest after idle connections have closed, at a setting, a tick or the close.
 use Rattle.std.proofs.Common.{◌≡◌, ℕ, zero, suc, ◌-◌, ◌≤◌, Bool, true, false, not, ◌&&◌, eqb, cond, List, [], ◌∷◌, length, take, drop, Option, Some, None, refl, sym, ap, ◌∙◌, subst, arith, length-drop}
 use Rattle.std.specs.Prelude.{nat_le}
 use Rattle.std.specs.List.{list_all, filter_map, cons_option}
 use Rattle.std.proofs.lemmas.List.{take-append-drop}
-use Rattle.dsql_journal.specs.Readers.{is_empty}
+use Rattle.dsql_tenure_journal.specs.Readers.{is_empty}
 use Rattle.dsql_time.specs.declared.Limits.{Limits}
 use Rattle.dsql_wait.specs.declared.request.Request.{Request}
 use Rattle.dsql_pool.specs.declared.conn.Place.{Place}
-use Rattle.dsql_pool.specs.declared.conn.Place.TheVariants.{Idle, Lent, Opening, Closing}
+use Rattle.dsql_pool.specs.declared.conn.Place.TheVariants.{Opening}
 use Rattle.dsql_pool.specs.declared.conn.Conn.{Conn}
 use Rattle.dsql_pool.specs.declared.moves.CloseCause.{CloseCause}
 use Rattle.dsql_pool.specs.declared.moves.CloseCause.TheVariants.{IdleFull, DbClosed}
@@ -35,23 +35,21 @@ none_left_of (c ∷ cs) [] h = none_left_of cs [] refl
 none_left_of (c ∷ cs) (n ∷ ns) h = cc
 
 idle_place_not_free : (place : Place) → is_idle (Some place) ≡ true → is_free place ≡ false
-idle_place_not_free Idle h = refl
-idle_place_not_free (Lent tenure owner) h = refl
 idle_place_not_free (Opening wanted) h = cc
-idle_place_not_free Closing h = refl
+idle_place_not_free _ h = refl
 
 pub idle_not_free : (o : Option Conn) → idle_in o ≡ true → passing free o ≡ 0
 idle_not_free None h = refl
 idle_not_free (Some x) h = ap (λ (b : Bool). cond {A = ℕ} b 1 0) (idle_place_not_free x.place h)
 
--- what closings of idle ones keep, whatever the limits and the time
+-- Holds of what closings of idle connections keep, whatever the limits and the time.
 pub record Settles (p q : Pooled) : Type 0 where
   pub placed : IsPlaced q
   pub most : keeps_most q ≡ true
   pub served : serves_those_that_wait q ≡ true
   pub free : free_openings q ≡ free_openings p
 
--- where all that close are among the idle ones
+-- Closings keep it if all connections that close are among the idle ones.
 pub settles : (moves : List Move) (p : Pooled) → list_all starts_closing moves ≡ true → ((d : ℕ) → (times d (out moves) ≡ 0 → ⊥) → times d p.idle ≡ 0 → ⊥) → IsPlaced p → keeps_most p ≡ true → serves_those_that_wait p ≡ true → Settles p (made moves p)
 settles moves p closes among placed most served =
     let q = made moves p in
@@ -67,7 +65,7 @@ settles moves p closes among placed most served =
       free = as_many_free moves p closes (λ d some. idle_not_free (conn_of d p.conns) (member_is_idle p.idle p.conns d placed (among d some)));
     }
 
--- as many openings are enough as were before
+-- If closings leave as many free openings as before, enough openings are still enough.
 pub settled_enough : (moves : List Move) (p : Pooled) → list_all starts_closing moves ≡ true → free_openings (made moves p) ≡ free_openings p → opens_enough p ≡ true → opens_enough (made moves p) ≡ true
 settled_enough moves p closes free enough =
     let q = made moves p in
@@ -101,7 +99,7 @@ settled_young moves p closes young =
     subst (λ (l : Limits). Young l (made moves p).moment (made moves p).conns) (sym left.limits)
     (subst (λ (m : ℕ). Young p.limits m (made moves p).conns) (sym left.moment) young)
 
--- the first of a list stand in it
+-- The first numbers of a list stand in it.
 among_first : (k : ℕ) (ns : List ℕ) (d : ℕ) → (times d (take k ns) ≡ 0 → ⊥) → times d ns ≡ 0 → ⊥
 among_first zero ns d some none = some refl
 among_first (suc k) [] d some none = some refl
@@ -111,7 +109,7 @@ among_first (suc k) (n ∷ ns) d some none =
       | false ↦ λ s z. among_first k ns d s z
     ] some none
 
--- those past their time stand among the idle ones
+-- The connections past their time stand among the idle ones.
 among_outdated : (limits : Limits) (moment : ℕ) (conns : List Conn) (ns : List ℕ) (d : ℕ) → (times d (out (filter_map (closing_at limits moment conns) ns)) ≡ 0 → ⊥) → times d ns ≡ 0 → ⊥
 among_outdated limits moment conns [] d some none = some refl
 among_outdated limits moment conns (n ∷ ns) d some none =
@@ -136,7 +134,7 @@ surplus_settles p =
     settles (closings_of_setting p) p (surplus_closes p)
     (λ d some. among_first (length p.idle - p.limits.max_idle) p.idle d (λ none. some (ap (times d) (out-map IdleFull (surplus p)) ∙ none)))
 
--- once the surplus has closed, the idle limit is kept
+-- After the surplus has closed, the idle limit is kept.
 pub surplus_few : (p : Pooled) → keeps_idle_limit (made (closings_of_setting p) p) ≡ true
 surplus_few p =
     let k = length p.idle - p.limits.max_idle in
@@ -155,14 +153,14 @@ outdated_closes p = outdated_close p.limits p.moment p.conns p.idle
 pub outdated_settles : (p : Pooled) → IsPlaced p → keeps_most p ≡ true → serves_those_that_wait p ≡ true → Settles p (made (closings_of_tick p) p)
 outdated_settles p = settles (closings_of_tick p) p (outdated_closes p) (λ d some. among_outdated p.limits p.moment p.conns p.idle d some)
 
--- once those past their time have closed, none is past its time
+-- After those past their time have closed, no connection is past its time.
 pub outdated_young : (p : Pooled) → IsPlaced p → Young p.limits p.moment (made (closings_of_tick p) p).conns
 outdated_young p placed =
     λ d x found is.
     let still = still_idle (closings_of_tick p) p (outdated_closes p) d x found is in
     subst (IsYoung p.limits p.moment) still.0 (not_outdated p.limits p.moment p.conns p.idle d (idle_is_member p.idle p.conns d x placed still.0 is) still.1)
 
--- a pool of which only the times may be past, at rest once these have closed
+-- A pool that is at rest except for connections past their time is at rest after these have closed.
 pub outdated_rests : (p : Pooled) → IsPlaced p → keeps_most p ≡ true → opens_enough p ≡ true → serves_those_that_wait p ≡ true → keeps_idle_limit p ≡ true → is_empty_when_closed p ≡ true → AtRest (made (closings_of_tick p) p)
 outdated_rests p placed most enough served few none =
     let settled = outdated_settles p placed most served in
@@ -191,7 +189,7 @@ found_idle : (o : Option Conn) → idle_in o ≡ true → (x : Conn) × (o ≡ S
 found_idle None h = cc
 found_idle (Some x) h = (x, refl, h)
 
--- once all idle ones have closed, none is idle
+-- After all idle connections have closed, none is idle.
 pub all_gone : (p : Pooled) → IsPlaced p → is_empty (made (closings_of_close p) p).idle ≡ true
 all_gone p placed =
     let q = made (closings_of_close p) p in

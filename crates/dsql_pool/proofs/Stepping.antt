@@ -5,8 +5,8 @@ use Rattle.std.specs.List.{list_all}
 use Rattle.std.specs.Option.{option_map}
 use Rattle.std.proofs.lemmas.Bool.{eq-eqb}
 use Rattle.std.proofs.lemmas.Bool.Decides.{nat_tests}
-use Rattle.dsql_journal.specs.declared.entry.Owner.{Owner}
-use Rattle.dsql_journal.specs.Readers.{is_empty}
+use Rattle.dsql_tenure_journal.specs.declared.entry.Owner.{Owner}
+use Rattle.dsql_tenure_journal.specs.Readers.{is_empty}
 use Rattle.dsql_time.specs.declared.Limits.{Limits}
 use Rattle.dsql_time.specs.Limits.{has_expired}
 use Rattle.dsql_wait.specs.declared.request.Request.{Request}
@@ -27,14 +27,14 @@ use Rattle.dsql_pool.proofs.Frees.{passing, count-changed, length-changed, enoug
 use Rattle.dsql_pool.proofs.Leaving.{free, closed_is_none}
 use Rattle.dsql_pool.proofs.Nearly.{wholly, young_at, le_true, true_le, or_kept, and_kept, empty_filter, fewer_requests}
 
--- the requests of others
+-- Is true of the requests of other calls.
 abbrev others : ℕ → Request → Bool
 others call r = not (eqb r.call call)
 
 pub kept_many : (p : Pooled) (n : ℕ) → n ≤ open_count p → nat_le (open_count p) most_open ≡ true → nat_le n most_open ≡ true
 kept_many p n le h = let most = true_le (open_count p) most_open h in le_true n most_open (omega (arith, le, most))
 
--- a connection is lent to an owner for call n
+-- The pool stays at rest when a connection is lent to an owner for call n.
 pub lend_rests : (c tenure n : ℕ) (owner : Owner) (p : Pooled) → AtRest p → opens_enough (moved (Lend c tenure owner n) p) ≡ true → AtRest (moved (Lend c tenure owner n) p)
 lend_rests c tenure n owner p h enough =
     wholly (moved (Lend c tenure owner n) p)
@@ -56,7 +56,7 @@ pub back_is_none : (moment : ℕ) (o : Option Conn) → passing free (option_map
 back_is_none moment None = refl
 back_is_none moment (Some x) = refl
 
--- where one that isn't a free opening is lent
+-- Lending a connection that isn't a free opening leaves enough openings.
 pub lend_enough : (c tenure n : ℕ) (owner : Owner) (p : Pooled) → AtRest p → passing free (conn_of c p.conns) ≡ 0 → opens_enough (moved (Lend c tenure owner n) p) ≡ true
 lend_enough c tenure n owner p h busy =
     let q = moved (Lend c tenure owner n) p in
@@ -66,7 +66,7 @@ lend_enough c tenure n owner p h busy =
     let same = length-changed c (lent tenure owner p.moment) p.conns in
     enough_kept (length p.waiting) (free_openings p) (most_allowed p) (open_count p) (length q.waiting) (free_openings q) (most_allowed q) (open_count q) h.enough (omega (arith, change, none, busy, fewer)) (omega (arith, same))
 
--- where the oldest request gets it
+-- Lending a connection to the oldest request leaves enough openings.
 pub serve_enough : (c tenure : ℕ) (owner : Owner) (p : Pooled) (r : Request) (rs : List Request) → p.waiting ≡ r ∷ rs → AtRest p → opens_enough (moved (Lend c tenure owner r.call) p) ≡ true
 serve_enough c tenure owner p r rs e h =
     let q = moved (Lend c tenure owner r.call) p in
@@ -89,7 +89,7 @@ serve_enough c tenure owner p r rs e h =
         let all = ap length e in
         omega (arith, one, fewer, all)
 
--- a connection begins to be closed
+-- The pool stays at rest when a connection begins to be closed.
 pub close_rests : (c : ℕ) (cause : CloseCause) (p : Pooled) → AtRest p → opens_enough (moved (CloseStart c cause) p) ≡ true → AtRest (moved (CloseStart c cause) p)
 close_rests c cause p h enough =
     wholly (moved (CloseStart c cause) p)
@@ -103,7 +103,7 @@ close_rests c cause p h enough =
     })
     enough
 
--- where one that isn't a free opening begins to be closed
+-- Closing a connection that isn't a free opening leaves enough openings.
 pub close_enough : (c : ℕ) (cause : CloseCause) (p : Pooled) → AtRest p → passing free (conn_of c p.conns) ≡ 0 → opens_enough (moved (CloseStart c cause) p) ≡ true
 close_enough c cause p h busy =
     let q = moved (CloseStart c cause) p in
@@ -112,7 +112,7 @@ close_enough c cause p h busy =
     let same = length-changed c closing p.conns in
     enough_kept (length p.waiting) (free_openings p) (most_allowed p) (open_count p) (length q.waiting) (free_openings q) (most_allowed q) (open_count q) h.enough (omega (arith, change, none, busy)) (omega (arith, same))
 
--- where none waits, or as many are open as may be
+-- Closing a connection leaves enough openings if no request waits or as many are open as may be.
 pub close_enough_still : (c : ℕ) (cause : CloseCause) (p : Pooled) → (is_empty p.waiting || nat_le (most_allowed p) (open_count p)) ≡ true → opens_enough (moved (CloseStart c cause) p) ≡ true
 close_enough_still c cause p h =
     let q = moved (CloseStart c cause) p in
@@ -128,6 +128,6 @@ pub empty_length : {X : Type 0} (xs : List X) → is_empty xs ≡ true → lengt
 empty_length [] h = refl
 empty_length (x ∷ xs) h = cc
 
--- one that comes back now isn't past its time, where its life isn't over
+-- A connection that comes back now isn't past its time if its life isn't over.
 pub back_is_young : (limits : Limits) (moment : ℕ) (x : Conn) → has_expired (opened_at moment x) limits.lifetime moment ≡ false → IsYoung limits moment (Some (back moment x))
 back_is_young limits moment x young = grind (arith, nat_tests)

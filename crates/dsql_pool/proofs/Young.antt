@@ -1,10 +1,10 @@
--- No idle connection is past its time, under each change.
+-- The argument that no idle connection is past its time, under each change.
 use Rattle.std.proofs.Common.{◌≡◌, ℕ, Bool, true, false, eqb, cond, List, [], ◌∷◌, ◌++◌, map, Option, Some, None, refl, sym, ap, ◌∙◌, subst, arith}
 use Rattle.std.specs.Prelude.{is_none}
 use Rattle.std.specs.List.{list_all}
 use Rattle.std.specs.Option.{option_map, option_or}
 use Rattle.std.proofs.lemmas.Bool.{eqb-true}
-use Rattle.dsql_journal.specs.declared.entry.Owner.{Owner}
+use Rattle.dsql_tenure_journal.specs.declared.entry.Owner.{Owner}
 use Rattle.dsql_time.specs.declared.Limits.{Limits}
 use Rattle.dsql_pool.specs.declared.conn.Conn.{Conn}
 use Rattle.dsql_pool.specs.Places.{conn_of, is_idle}
@@ -18,7 +18,7 @@ use Rattle.dsql_pool.proofs.Placed.{Placed, idle_in, found_gone, found_without, 
 abbrev pub IsYoung : Limits → ℕ → Option Conn → Type 0
 IsYoung limits moment found = is_none (cause_at limits moment found) ≡ true
 
--- each idle connection is within its time
+-- Holds if each idle connection is within its time.
 abbrev pub Young : Limits → ℕ → List Conn → Type 0
 Young limits moment conns = (d : ℕ) (x : Conn) → conn_of d conns ≡ Some x → is_idle (Some x.place) ≡ true → IsYoung limits moment (Some x)
 
@@ -38,7 +38,7 @@ young_list limits moment idle conns placed young =
     all_members (λ c. is_none (cause_at limits moment (conn_of c conns))) idle
     (λ d some. if_found limits moment (conn_of d conns) (young d) (member_is_idle idle conns d placed some))
 
--- an idle one is among the idle ones
+-- An idle connection stands among the idle ones.
 pub idle_is_member : (idle : List ℕ) (conns : List Conn) (d : ℕ) (x : Conn) → Placed idle conns → conn_of d conns ≡ Some x → is_idle (Some x.place) ≡ true → times d idle ≡ 0 → ⊥
 idle_is_member idle conns d x placed found is none =
     let one : times d idle ≡ 1 = placed d ∙ (ap (λ (o : Option Conn). cond {A = ℕ} (idle_in o) 1 0) found ∙ ap (λ (b : Bool). cond {A = ℕ} b 1 0) is) in
@@ -50,7 +50,7 @@ list_young limits moment idle conns placed all =
     subst (IsYoung limits moment) found
     (member_passes (λ c. is_none (cause_at limits moment (conn_of c conns))) idle d all (idle_is_member idle conns d x placed found is))
 
--- only connection c differs, and if it is idle it is young
+-- If only connection c differs, and is within its time if it is idle, the idle ones are within theirs.
 pub young_off : (limits : Limits) (moment c : ℕ) (conns then : List Conn) → ((d : ℕ) → eqb d c ≡ false → conn_of d then ≡ conn_of d conns) → ((x : Conn) → conn_of c then ≡ Some x → is_idle (Some x.place) ≡ true → IsYoung limits moment (Some x)) → Young limits moment conns → Young limits moment then
 young_off limits moment c conns then beside here young =
     λ d x found is.
@@ -63,7 +63,7 @@ pub mapped : (f : Conn → Conn) (o : Option Conn) (x : Conn) → option_map f o
 mapped f None x e = cc
 mapped f (Some y) x e = let same : x ≡ f y = cc in (y, refl, same)
 
--- connection c changes, and isn't idle then
+-- The idle connections are within their time after connection c has changed and isn't idle.
 pub young_away : (limits : Limits) (moment c : ℕ) (f : Conn → Conn) (conns : List Conn) → KeepsNumber f → ((x : Conn) → is_idle (Some (f x).place) ≡ false) → Young limits moment conns → Young limits moment (changed c f conns)
 young_away limits moment c f conns keeps never =
     young_off limits moment c conns (changed c f conns) (λ d apart. found_beside c d f keeps conns apart)

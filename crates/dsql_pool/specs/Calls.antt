@@ -1,8 +1,8 @@
--- The moves of each call on the pool, and the pool afterwards.
+-- The moves of each call on the pool, and the pool after it.
 use Rattle.std.specs.Prelude.{ℕ, ℤ, ◌≡◌, ◌<◌, Bool, false, ◌||◌, List, [], ◌∷◌, ◌++◌, Some, Result, Ok}
 use Rattle.std.specs.List.{list_any}
-use Rattle.dsql_journal.specs.declared.entry.Owner.TheVariants.{House}
-use Rattle.dsql_journal.specs.Kinds.{is_house, number_of}
+use Rattle.dsql_tenure_journal.specs.declared.entry.Owner.TheVariants.{House}
+use Rattle.dsql_tenure_journal.specs.Kinds.{is_house, number_of}
 use Rattle.dsql_wait.specs.declared.request.Request.{Request}
 use Rattle.dsql_wait.specs.Requests.{waits}
 use Rattle.dsql_pool.specs.declared.moves.Move.{Move}
@@ -16,11 +16,11 @@ use Rattle.dsql_pool.specs.Pooled.{Pooled, place_at, next_tenure}
 use Rattle.dsql_pool.specs.Moved.{moved, made, begun, joined, limited, with_open, with_idle, with_lifetime, with_idle_time, ticked, shut}
 use Rattle.dsql_pool.specs.Decisions.{ask_outcome, when_given_back, moves_back, when_opened, falls_to, openings_for_waiting, closings_of_setting, closings_of_tick, closings_of_close}
 
--- the call waits, or a connection is being opened for it
+-- Is true if the call waits, or a connection is being opened for it.
 abbrev pub wants : ℕ → Pooled → Bool
 wants call p = waits call p.waiting || list_any (λ conn. is_for call conn.place) p.conns
 
--- the request is one that may be made now: its call is an owner's, and wants nothing yet
+-- Holds if the request may be made now: its call is an owner's, and the call wants nothing yet.
 pub record MayAsk (r : Request) (p : Pooled) : Type 0 where
   pub owner : is_house r.owner ≡ false
   pub call : number_of r.owner ≡ r.call
@@ -28,17 +28,17 @@ pub record MayAsk (r : Request) (p : Pooled) : Type 0 where
   pub new : wants r.call p ≡ false
   pub asked : r.asked ≡ p.moment
 
--- moves, and then the openings that they leave due
+-- Returns the moves, followed by the openings that they leave due.
 abbrev pub then_openings : List Move → Pooled → List Move
 then_openings ms p = ms ++ openings_for_waiting (made ms p)
 
--- the moves of a request that became this
+-- Returns the moves of a request that has this outcome.
 abbrev pub moves_asked : Request → Result Asked AskFault → List Move
 moves_asked r (Ok (asked.Lent c tenure)) = Lend c tenure r.owner r.call ∷ []
 moves_asked r (Ok (asked.Opening c)) = OpenStart c r.call ∷ []
 moves_asked r _ = []
 
--- the pool after a request became this
+-- Returns the pool after a request with this outcome.
 abbrev pub after_asked : Request → Result Asked AskFault → Pooled → Pooled
 after_asked r (Ok (asked.Lent c tenure)) p = moved (Lend c tenure r.owner r.call) p
 after_asked r (Ok (asked.Opening c)) p = begun (Some r.owner) p
@@ -63,7 +63,7 @@ moves_lent_house c p = Lend c (next_tenure p c) House 0 ∷ []
 abbrev pub moves_gone : ℕ → Pooled → List Move
 moves_gone c p = then_openings (Gone c ∷ []) p
 
--- the pool with the open limit set, before the moves that this makes
+-- Returns the pool with the open limit set, before the moves that this causes.
 abbrev pub open_set : ℤ → Pooled → Pooled
 open_set n p = limited (with_open n p.limits) p
 

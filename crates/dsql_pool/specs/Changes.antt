@@ -1,16 +1,17 @@
--- What becomes of one connection.
+-- How a connection changes.
 use Rattle.std.specs.Prelude.{ℕ, ◌==◌, not, cond, ◌+◌, List, [], ◌∷◌, filter, Option, Some, None}
-use Rattle.dsql_journal.specs.declared.entry.Owner.{Owner}
-use Rattle.dsql_journal.specs.Kinds.{is_house}
+use Rattle.dsql_tenure_journal.specs.declared.entry.Owner.{Owner}
+use Rattle.dsql_tenure_journal.specs.Kinds.{is_house}
 use Rattle.dsql_pool.specs.declared.conn.Place.TheVariants.{Idle, Lent, Opening, Closing}
 use Rattle.dsql_pool.specs.declared.conn.Conn.{Conn}
 use Rattle.dsql_pool.specs.Places.{is_opening, is_for}
 
--- the moment at which a connection was opened: now, where it is just leaving opening
+-- Returns the moment at which a connection was opened: the present one if the connection is leaving opening.
 abbrev pub opened_at : ℕ → Conn → ℕ
 opened_at moment conn = cond (is_opening (Some conn.place)) moment conn.created
 
--- a connection of that number begins to be opened, for the request of an owner or for none of its own
+-- Returns a connection of this number that begins to be opened, for the request of an owner or for no request
+-- of its own.
 abbrev pub opening : ℕ → Option Owner → Conn
 opening c wanted = record { number = c; place = Opening wanted; lends = 0; uses = 0; created = 0; returned = 0 }
 
@@ -31,19 +32,19 @@ back moment conn = record conn { place = Idle; created = opened_at moment conn; 
 abbrev pub closing : Conn → Conn
 closing conn = record conn { place = Closing }
 
--- an opening for the request of that call is for none now
+-- Returns the connection, being opened for no request if it was being opened for the request of this call.
 abbrev pub unwanted_by : ℕ → Conn → Conn
 unwanted_by call conn = cond (is_for call conn.place) (record conn { place = Opening None }) conn
 
--- an opening is for no request of its own now
+-- Returns the connection, being opened for no request of its own if it was being opened.
 abbrev pub unwanted : Conn → Conn
 unwanted conn = cond (is_opening (Some conn.place)) (record conn { place = Opening None }) conn
 
--- connection c is another now, if it is open
+-- Returns the connections with connection c changed, if it is open.
 abbrev pub changed : ℕ → (Conn → Conn) → List Conn → List Conn
 changed c change [] = []
 changed c change (conn ∷ conns) = cond (conn.number == c) (change conn ∷ conns) (conn ∷ changed c change conns)
 
--- connection c is open no more
+-- Returns the connections without connection c.
 abbrev pub gone : ℕ → List Conn → List Conn
 gone c conns = filter (λ conn. not (conn.number == c)) conns

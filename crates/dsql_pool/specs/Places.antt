@@ -1,28 +1,30 @@
--- Open connections, and the place of each.
+-- The open connections, and the place of each.
 use Rattle.std.specs.Prelude.{◌≡◌, ℕ, Bool, true, false, ◌&&◌, ◌==◌, ◌≤◌, nat_le, List, find, Option, Some, None}
 use Rattle.std.specs.List.{list_all}
 use Rattle.std.specs.Option.{option_map, option_map_or}
-use Rattle.dsql_journal.specs.Kinds.{number_of}
+use Rattle.dsql_tenure_journal.specs.Kinds.{number_of}
 use Rattle.dsql_pool.specs.declared.conn.Place.{Place}
 use Rattle.dsql_pool.specs.declared.conn.Place.TheVariants.{Idle, Lent, Opening, Closing}
 use Rattle.dsql_pool.specs.declared.conn.Conn.{Conn}
 
--- the open connections in the order in which they began to be opened, how many were opened so far, how many openings and lendings have begun, and for how many connections in all there is memory
+-- What contracts see of the open connections: their list in the order in which they began to be opened, and how
+-- many were opened so far. It also has how many openings and lendings have begun, and for how many connections
+-- in all there is memory.
 pub record Numbered : Type 0 where
   pub conns : List Conn
   pub opened : ℕ
   pub drawn : ℕ
   pub capacity : ℕ
 
--- the connection of a number, if it is open
+-- Returns the connection of a number, if it is open.
 abbrev pub conn_of : ℕ → List Conn → Option Conn
 conn_of c conns = find (λ conn. conn.number == c) conns
 
--- how often it was lent
+-- Returns how often a connection was lent.
 abbrev pub lends_of : ℕ → List Conn → ℕ
 lends_of c conns = option_map_or (λ conn. conn.lends) (conn_of c conns) 0
 
--- its place, if it is open
+-- Returns the place of a connection, if it is open.
 abbrev pub place_of : ℕ → List Conn → Option Place
 place_of c conns = option_map (λ conn. conn.place) (conn_of c conns)
 
@@ -42,21 +44,21 @@ abbrev pub is_closing : Option Place → Bool
 is_closing (Some Closing) = true
 is_closing _ = false
 
--- it is being opened for the request of this call
+-- Is true if the connection is being opened for the request of this call.
 abbrev pub is_for : ℕ → Place → Bool
 is_for call (Opening (Some owner)) = number_of owner == call
 is_for call _ = false
 
--- it is being opened for no request of its own
+-- Is true if the connection is being opened for no request of its own.
 abbrev pub is_free : Place → Bool
 is_free (Opening None) = true
 is_free _ = false
 
--- a connection was lent no oftener than openings and lendings have begun, and used no oftener
+-- Is true if a connection was lent, and used, no oftener than openings and lendings have begun.
 abbrev pub is_drawn : ℕ → Conn → Bool
 is_drawn drawn conn = nat_le conn.lends drawn && nat_le conn.uses drawn
 
--- each opening is counted, and each lending
+-- Holds if each opening and each lending is counted.
 pub record AreDrawn (conns : List Conn) (opened drawn : ℕ) : Type 0 where
   pub counted : opened ≤ drawn
   pub lent : list_all (is_drawn drawn) conns ≡ true

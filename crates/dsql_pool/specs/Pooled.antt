@@ -1,4 +1,4 @@
--- The pool as one value, and what is read off it.
+-- The pool as one value, and what follows from it.
 use Rattle.std.specs.Prelude.{ℕ, Bool, false, not, ◌==◌, ◌&&◌, nat_le, cond, ◌+◌, ◌-◌, List, [], Option, length, filter, count_by}
 use Rattle.dsql_time.specs.declared.Limits.{Limits}
 use Rattle.dsql_time.specs.Limits.{standard_max_idle}
@@ -13,78 +13,92 @@ use Rattle.dsql_pool.specs.Counted.{no_counts}
 use Rattle.dsql_pool.specs.Places.{place_of, lends_of, is_free}
 
 pub record Pooled : Type 0 where
-  -- the open ones, in the order in which they began to be opened
+  -- The open connections, in the order in which they began to be opened.
   pub conns : List Conn
-  -- how many were opened so far; they are numbered from 1
+  -- How many connections were opened so far. They are numbered from 1.
   pub opened : ℕ
-  -- the longest idle first
+  -- The idle connections, the longest idle first.
   pub idle : List ℕ
-  -- the oldest first
+  -- The requests that wait, the oldest first.
   pub waiting : List Request
   pub limits : Limits
-  -- nanoseconds
+  -- The present moment, in nanoseconds.
   pub moment : ℕ
   pub closed : Bool
   pub counts : Counts
-  -- how many openings and lendings have begun
+  -- How many openings and lendings have begun.
   pub drawn : ℕ
 
--- a pool, the moves that its newest call made, for how many more calls there is memory, and for how many moves of one call
+-- A pool, the moves that its newest call made, for how many more calls there is memory, and for how many moves
+-- of one call.
 pub record Table : Type 0 where
   pub pooled : Pooled
   pub moves : List Move
   pub spare : ℕ
   pub capacity : ℕ
 
--- a few idle connections are kept, and nothing else is limited
+-- The standard limits: a few idle connections are kept, and nothing else is limited.
 abbrev pub standard : Limits
 standard = record { max_open = 0; max_idle = standard_max_idle; lifetime = 0; idle_time = 0 }
 
--- a pool in which nothing has happened
+-- A pool in which nothing has happened.
 abbrev pub fresh : Pooled
-fresh = record { conns = []; opened = 0; idle = []; waiting = []; limits = standard; moment = 0; closed = false; counts = no_counts; drawn = 0 }
+fresh =
+    record {
+      conns = [];
+      opened = 0;
+      idle = [];
+      waiting = [];
+      limits = standard;
+      moment = 0;
+      closed = false;
+      counts = no_counts;
+      drawn = 0;
+    }
 
--- the place of a connection, if it is open
+-- Returns the place of a connection, if it is open.
 abbrev pub place_at : Pooled → ℕ → Option Place
 place_at p c = place_of c p.conns
 
 abbrev pub open_count : Pooled → ℕ
 open_count p = length p.conns
 
--- how many are being opened for no request of their own
+-- Returns how many connections are being opened for no request of their own.
 abbrev pub free_openings : Pooled → ℕ
 free_openings p = count_by (λ conn. is_free conn.place) p.conns
 
--- the number that the next opening gets
+-- Returns the number of the next opening.
 abbrev pub next_number : Pooled → ℕ
 next_number p = p.opened + 1
 
--- the number of its next tenure. Its Connect has 1, its kth lending k + 1, and its Shut the number after the last
+-- Returns the number of the next tenure of a connection. Its Connect has 1, its kth lending k + 1, and its Shut
+-- the number after the last.
 abbrev pub next_tenure : Pooled → ℕ → ℕ
 next_tenure p c = lends_of c p.conns + 2
 
--- the most connections that are open at a time, whatever the limits
+-- The most connections that are open at a time, whatever the limits are.
 abbrev pub most_open : ℕ
 most_open = MOST_OPEN
 
--- the most moves of a call beside its closings of idle connections: one, and the openings that are due
+-- The most moves of a call beside its closings of idle connections: one, and the openings that are due.
 abbrev pub most_other_moves : ℕ
 most_other_moves = most_open + 1
 
--- so many openings and lendings may have begun before a call, so that numbers of connections and tenures fit 32 bits
--- behind it too
+-- The most openings and lendings that may have begun before a call, so that the numbers of connections and
+-- tenures fit 32 bits after it too.
 abbrev pub most_drawn : ℕ
 most_drawn = 4000000000
 
--- and within a call they are fewer than these: a tenure's number may be larger than their count by two
+-- The bound below which openings and lendings stay within a call. A tenure's number may exceed their count by
+-- two.
 abbrev pub most_drawn_within_a_call : ℕ
 most_drawn_within_a_call = 4294967290
 
--- the open limit is one that may be reached
+-- Is true if the open limit may be reached.
 abbrev pub is_limited : Pooled → Bool
 is_limited p = nat_le 1 p.limits.max_open && nat_le p.limits.max_open most_open
 
--- how many connections may be open
+-- Returns how many connections may be open.
 abbrev pub most_allowed : Pooled → ℕ
 most_allowed p = cond (is_limited p) p.limits.max_open most_open
 

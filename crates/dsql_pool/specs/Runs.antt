@@ -1,4 +1,4 @@
--- Calls on the pool, one after another, with what they answer.
+-- Calls on the pool, one after another, with their answers.
 use Rattle.std.specs.Prelude.{◌≡◌, ℕ, ℤ, Bool, true, ◌&&◌, List, [], ◌∷◌, Result}
 use Rattle.dsql_wait.specs.declared.request.Request.{Request}
 use Rattle.dsql_pool.specs.declared.moves.Move.{Move}
@@ -35,7 +35,7 @@ pub data Answer : Type 0 where
   Wanted : Bool → Answer
   Shows : Stats → Answer
 
--- the call may be made now
+-- Holds if the call may be made now.
 abbrev pub May : Call → Pooled → Type 0
 May (Ask r) p = calls.MayAsk r p
 May (Opened c) p = is_opening (place_at p c) ≡ true
@@ -61,7 +61,7 @@ answer (Tick now) p = Makes (calls.moves_ticked now p)
 answer Close p = Makes (calls.moves_closed p)
 answer Read p = Shows (stats p)
 
--- the pool after a call
+-- Returns the pool after a call.
 abbrev pub after : Call → Pooled → Pooled
 after (Ask r) p = calls.asks r p
 after (Opened c) p = made (calls.moves_opened c p) p
@@ -78,22 +78,22 @@ after (Tick now) p = made (calls.moves_ticked now p) (ticked now p)
 after Close p = made (calls.moves_closed p) (shut p)
 after Read p = p
 
--- each may be made when its turn comes
+-- Holds if each call may be made after those before it.
 abbrev pub AllMay : List Call → Pooled → Type 0
 AllMay [] p = Unit {0}
 AllMay (call ∷ later) p = May call p × AllMay later (after call p)
 
--- what each call answers
+-- Returns the answer of each call.
 abbrev pub answers : List Call → Pooled → List Answer
 answers [] p = []
 answers (call ∷ later) p = answer call p ∷ answers later (after call p)
 
--- the pool after all calls
+-- Returns the pool after all calls.
 abbrev pub after_all : List Call → Pooled → Pooled
 after_all [] p = p
 after_all (call ∷ later) p = after_all later (after call p)
 
--- the pool is at rest after each call
+-- Is true if the pool is at rest after each call.
 abbrev pub all_rest : List Call → Pooled → Bool
 all_rest [] p = true
 all_rest (call ∷ later) p = is_at_rest (after call p) && all_rest later (after call p)

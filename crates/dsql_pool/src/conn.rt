@@ -2,23 +2,23 @@ ghost use Rattle.std.specs.Prelude.{◌≡◌, ◌<◌, Some};
 ghost use Rattle.dsql_pool.specs.Changes.{opened_at, opening, lent, back, closing, unwanted, unwanted_by};
 ghost use Rattle.dsql_pool.specs.Places.{is_for, is_free};
 
-use dsql_journal::Owner;
+use dsql_tenure_journal::Owner;
 
-/// Where an open connection stands: in one of the four sets.
+/// The place of an open connection: one of the four sets.
 #[derive(Clone, Copy)]
 pub enum Place {
-    /// It waits for a request.
+    /// The connection waits for a request.
     Idle,
-    /// It is lent to this owner, in this tenure.
+    /// The connection is lent to this owner, in this tenure.
     Lent(u32, Owner),
-    /// It is being opened, for the request of this owner or for none of its own.
+    /// The connection is being opened, for the request of this owner or for no request of its own.
     Opening(Option<Owner>),
-    /// It is being closed.
+    /// The connection is being closed.
     Closing,
 }
 
 impl Place {
-    /// It is being opened for the request of this call.
+    /// Returns whether the connection is being opened for the request of this call.
     pub fn is_for(&self, call: u32) -> bool
         ensures { result ≡ is_for call self.now }
     {
@@ -28,7 +28,7 @@ impl Place {
         }
     }
 
-    /// It is being opened for no request of its own.
+    /// Returns whether the connection is being opened for no request of its own.
     pub fn is_free(&self) -> bool
         ensures { result ≡ is_free self.now }
     {
@@ -36,8 +36,10 @@ impl Place {
     }
 }
 
-/// An open connection: its number, its place, how often it was lent, how often to an owner other than the
-/// House, and the moments at which it was opened and last given back, in nanoseconds.
+/// An open connection.
+///
+/// It records its number, its place, how often it was lent, and how often to an owner other than the house. It
+/// also records the moments at which it was opened and last given back, in nanoseconds.
 #[derive(Clone, Copy)]
 pub struct Conn {
     pub number: u32,
@@ -49,7 +51,8 @@ pub struct Conn {
 }
 
 impl Conn {
-    /// One of that number that begins to be opened, for the request of an owner or for none of its own.
+    /// Returns a connection of this number that begins to be opened, for the request of an owner or for no
+    /// request of its own.
     pub fn opening(number: u32, wanted: Option<Owner>) -> Conn
         ensures { result ≡ opening number wanted }
     {
@@ -63,7 +66,7 @@ impl Conn {
         }
     }
 
-    /// The same; an opening for the request of that call is for none now.
+    /// Returns the connection, being opened for no request if it was being opened for the request of this call.
     pub fn unwanted_by(self, call: u32) -> Conn
         ensures { result ≡ unwanted_by call self }
     {
@@ -74,7 +77,7 @@ impl Conn {
         }
     }
 
-    /// The same; an opening is for no request of its own now.
+    /// Returns the connection, being opened for no request of its own if it was being opened.
     pub fn unwanted(self) -> Conn
         ensures { result ≡ unwanted self }
     {
@@ -102,7 +105,7 @@ impl Conn {
         }
     }
 
-    /// The same, lent at this moment.
+    /// Returns the connection, lent at this moment.
     pub fn lent(self, tenure: u32, owner: Owner, moment: u64) -> Conn
         requires lends { self.lends < 4294967295 }
         requires uses { self.uses < 4294967295 }
@@ -122,7 +125,7 @@ impl Conn {
         }
     }
 
-    /// The same, given back at this moment.
+    /// Returns the connection, given back at this moment.
     pub fn back(self, moment: u64) -> Conn
         ensures { result ≡ back moment self }
     {
@@ -134,7 +137,7 @@ impl Conn {
         }
     }
 
-    /// The same, about to be shut.
+    /// Returns the connection, about to be shut.
     pub fn closing(self) -> Conn
         ensures { result ≡ closing self }
     {

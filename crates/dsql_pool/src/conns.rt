@@ -5,14 +5,16 @@ ghost use Rattle.dsql_pool.specs.Pooled.{most_drawn_within_a_call};
 ghost use Rattle.dsql_pool.specs.Changes.{changed, opening, lent, back, closing, gone, unwanted, unwanted_by};
 
 use crate::conn::Conn;
-use dsql_journal::Owner;
+use dsql_tenure_journal::Owner;
 use dsql_value::Memory;
 use std::alloc::Global;
 use std::marker::Model;
 
-/// The open connections. Contracts see them as a list, in the order in which they began to be opened; how
-/// many were opened so far; how many openings and lendings have begun; and for how many connections in all
-/// there is memory.
+/// The open connections.
+///
+/// Contracts see them as a list, in the order in which they began to be opened, and how many were opened so
+/// far. They also see how many openings and lendings have begun, and for how many connections in all there is
+/// memory.
 #[derive(Drop)]
 pub struct Conns {
     rows: Vec<Conn>,
@@ -26,13 +28,18 @@ impl Model for Conns {
 
     ghost Value = { Numbered };
 
-    ghost view = { λ c. record { conns = c.rows.items; opened = c.opened; drawn = c.drawn; capacity = vec_capacity c.rows } };
+    ghost view = { λ c. record {
+      conns = c.rows.items;
+      opened = c.opened;
+      drawn = c.drawn;
+      capacity = vec_capacity c.rows;
+    } };
 
     ghost invariant = { λ c. AreDrawn c.rows.items c.opened c.drawn };
 }
 
 impl Conns {
-    /// No connections. It takes no memory.
+    /// Returns a value without connections. Takes no memory.
     pub fn new(alloc: Global) -> Conns
         ensures conns { result.conns ≡ [] }
         ensures opened { result.opened ≡ 0 }
@@ -45,7 +52,7 @@ impl Conns {
         }
     }
 
-    /// Takes memory for so many connections in all.
+    /// Takes memory for this many connections in all.
     pub fn reserve(&mut self, most: u32) -> Result<(), Memory>
         ensures ok { OnOk result (most ≤ self.new.capacity) }
         ensures full { OnErr result (self.old.capacity < most) }
@@ -59,42 +66,42 @@ impl Conns {
         Ok(())
     }
 
-    /// How many openings and lendings have begun.
+    /// Returns how many openings and lendings have begun.
     pub fn drawn(&self) -> u32
         ensures { result ≡ self.now.drawn }
     {
         self.drawn
     }
 
-    /// How many are open.
+    /// Returns how many connections are open.
     pub fn count(&self) -> u64
         ensures { result ≡ length self.now.conns }
     {
         self.rows.len() as u64
     }
 
-    /// They in their order.
+    /// Returns the connections in their order.
     pub fn rows(&self) -> &[Conn]
         ensures { result.now ≡ self.now.conns }
     {
         self.rows.as_slice()
     }
 
-    /// How many are being opened for no request of their own.
+    /// Returns how many connections are being opened for no request of their own.
     pub fn free_openings(&self) -> u64
         ensures { result ≡ count_by (λ conn. is_free conn.place) self.now.conns }
     {
         self.rows.iter().filter(|conn| conn.place.is_free()).count() as u64
     }
 
-    /// One is being opened for the request of a call.
+    /// Returns whether a connection is being opened for the request of this call.
     pub fn opens_for(&self, call: u32) -> bool
         ensures { result ≡ list_any (λ conn. is_for call conn.place) self.now.conns }
     {
         self.rows.iter().any(|conn| conn.place.is_for(call))
     }
 
-    /// The number that the next one gets.
+    /// Returns the number of the next connection.
     pub fn next_number(&self) -> u32
         requires { self.now.drawn < most_drawn_within_a_call }
         ensures { result ≡ self.now.opened + 1 }
@@ -102,7 +109,7 @@ impl Conns {
         self.opened + 1
     }
 
-    /// The connection of a number, if it is open.
+    /// Returns the connection of this number, if it is open.
     pub fn at(&self, conn: u32) -> Option<Conn>
         ensures conn { result ≡ conn_of conn self.now.conns }
         ensures lends { IfSome result (λ conn. conn.lends ≤ self.now.drawn) }
@@ -111,7 +118,7 @@ impl Conns {
         row_of(&self.rows, conn)
     }
 
-    /// An opening begins, for the request of an owner or for none of its own.
+    /// Begins an opening, for the request of an owner or for no request of its own.
     pub fn begin(&mut self, wanted: Option<Owner>)
         requires room { length self.old.conns < self.old.capacity }
         requires drawn { self.old.drawn < most_drawn_within_a_call }
@@ -126,7 +133,7 @@ impl Conns {
         self.drawn += 1;
     }
 
-    /// A connection is lent, if it is open.
+    /// Lends a connection, if it is open.
     pub fn lend(&mut self, conn: u32, tenure: u32, owner: Owner, moment: u64)
         requires { self.old.drawn < most_drawn_within_a_call }
         ensures conns { self.new.conns ≡ changed conn (lent tenure owner moment) self.old.conns }
@@ -141,7 +148,7 @@ impl Conns {
         }
     }
 
-    /// A connection is given back, if it is open.
+    /// Takes a connection back, if it is open.
     pub fn back(&mut self, conn: u32, moment: u64)
         ensures conns { self.new.conns ≡ changed conn (back moment) self.old.conns }
         ensures opened { self.new.opened ≡ self.old.opened }
@@ -153,7 +160,7 @@ impl Conns {
         }
     }
 
-    /// A connection begins to be closed, if it is open.
+    /// Begins to close a connection, if it is open.
     pub fn close(&mut self, conn: u32)
         ensures conns { self.new.conns ≡ changed conn closing self.old.conns }
         ensures opened { self.new.opened ≡ self.old.opened }
@@ -165,7 +172,7 @@ impl Conns {
         }
     }
 
-    /// A connection is open no more.
+    /// Removes a connection from the open ones.
     pub fn remove(&mut self, conn: u32)
         ensures conns { self.new.conns ≡ gone conn self.old.conns }
         ensures opened { self.new.opened ≡ self.old.opened }
@@ -175,7 +182,7 @@ impl Conns {
         remove_from(&mut self.rows, conn);
     }
 
-    /// What is being opened for the request of a call is so for none now.
+    /// Turns each opening for the request of this call into one for no request.
     pub fn withdraw(&mut self, call: u32)
         ensures conns { self.new.conns ≡ map (unwanted_by call) self.old.conns }
         ensures opened { self.new.opened ≡ self.old.opened }
@@ -185,7 +192,7 @@ impl Conns {
         withdraw_from(&mut self.rows, call);
     }
 
-    /// What is being opened is so for no request of its own now.
+    /// Turns every opening into one for no request of its own.
     pub fn withdraw_all(&mut self)
         ensures conns { self.new.conns ≡ map unwanted self.old.conns }
         ensures opened { self.new.opened ≡ self.old.opened }
@@ -196,7 +203,7 @@ impl Conns {
     }
 }
 
-// The connection takes the place of that of its number.
+// Puts the connection in the place of the one that has its number.
 fn put(rows: &mut Vec<Conn>, conn: Conn)
     ensures rows { rows.new.items ≡ changed conn.number (λ _. conn) rows.old.items }
     ensures capacity { vec_capacity rows.new ≡ vec_capacity rows.old }
@@ -241,7 +248,7 @@ fn row_of(rows: &Vec<Conn>, conn: u32) -> Option<Conn>
     }
 }
 
-// The place of a connection among the rows.
+// Returns the place of a connection among the rows.
 fn place_of(rows: &Vec<Conn>, conn: u32) -> Option<usize>
     ensures place { result ≡ position (λ row. row.number == conn) rows.now.items }
     ensures bound { IfSome result (λ at. at < vec_len rows.now) }

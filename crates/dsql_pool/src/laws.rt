@@ -1,25 +1,26 @@
 //! Laws of the pool: each law is the contract of a function that does nothing.
 ghost use Rattle.dsql_pool.specs.Laws.{FiguresCountTheMoves, OpensAsAllowed, RestsAfterEachCall, ServesTheOldest, WaitsOnlyAtTheLimit};
 
-/// Just after an opening at most as many connections are open as the open limit and the thousand allow.
+/// After an opening has begun, at most as many connections are open as the open limit and the limit of a
+/// thousand allow.
 #[tactic(auto, using(crate::proofs::Lawful::opens_as_allowed))]
 pub fn openings_stay_within_the_room()
     ensures { OpensAsAllowed }
 {}
 
-/// A request waits only where it may take no idle connection and as many are open as may be.
+/// A request waits only if it may take no idle connection and as many connections are open as may be.
 #[tactic(auto, using(crate::proofs::Served::waits_only_at_the_limit))]
 pub fn a_request_waits_only_at_the_limit()
     ensures { WaitsOnlyAtTheLimit }
 {}
 
-/// Who came first is served first.
+/// The request that came first is served first.
 #[tactic(auto, using(crate::proofs::Served::serves_the_oldest))]
 pub fn the_oldest_is_served_first()
     ensures { ServesTheOldest }
 {}
 
-/// What `stats` counts is what the moves say.
+/// The counts of `stats` agree with the moves.
 #[tactic(auto, using(crate::proofs::Served::figures_count_the_moves))]
 pub fn the_figures_count_the_moves()
     ensures { FiguresCountTheMoves }

@@ -1,5 +1,5 @@
-//! A pool of connections: which are open, who holds each of them, who waits for one, and which moves among
-//! the four sets a call makes. After the `connectionOpener`, `conn` and `putConn` of Go's package
+//! A pool of connections: which are open, who holds each of them, who waits for one, and which moves among the
+//! four sets a call makes. It follows the `connectionOpener`, `conn` and `putConn` of Go's package
 //! `database/sql`.
 #![tactic(auto)]
 
@@ -14,7 +14,7 @@ mod stats;
 pub mod worked;
 
 pub use conn::{Conn, Place};
-pub use dsql_journal::Owner;
+pub use dsql_tenure_journal::Owner;
 pub use dsql_time::Limits;
 pub use dsql_wait::Request;
 pub use moves::{CloseCause, Fate, Move, Outcome};

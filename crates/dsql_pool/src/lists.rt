@@ -1,4 +1,4 @@
-//! Lists that a pool keeps and makes.
+//! The lists that a pool keeps and makes.
 ghost use Rattle.std.specs.Prelude.{◌≡◌, ◌+◌, ◌≤◌, [], length, map, vec_len, vec_capacity};
 ghost use Rattle.std.specs.List.{filter_map};
 ghost use Rattle.dsql_pool.specs.Pooled.{without};
@@ -9,7 +9,7 @@ use crate::conns::Conns;
 use crate::moves::{CloseCause, Move};
 use dsql_time::{Limits, expired, idled};
 
-/// Takes a number out.
+/// Removes a number from the list.
 pub fn remove_number(numbers: &mut Vec<u32>, number: u32)
     ensures others { numbers.new.items ≡ without number numbers.old.items }
     ensures fewer { vec_len numbers.new ≤ vec_len numbers.old }
@@ -18,7 +18,7 @@ pub fn remove_number(numbers: &mut Vec<u32>, number: u32)
     numbers.retain(|other| *other != number);
 }
 
-/// Notes the closings of connections, each for the same cause, where there is memory for them.
+/// Notes the closings of these connections, each for the same cause. `moves` must have memory for them.
 pub fn note_closings(conns: &[u32], cause: CloseCause, moves: &mut Vec<Move>)
     requires empty { moves.old.items ≡ [] }
     requires space { length conns.now ≤ vec_capacity moves.old }
@@ -31,8 +31,8 @@ pub fn note_closings(conns: &[u32], cause: CloseCause, moves: &mut Vec<Move>)
     }
 }
 
-/// Notes the closings of those that are past their time under these limits at this moment, where there is
-/// memory for all.
+/// Notes the closings of the idle connections that are past their time under these limits at this moment.
+/// `moves` must have memory for all idle connections.
 pub fn note_outdated(
     conns: &Conns,
     idle: &[u32],

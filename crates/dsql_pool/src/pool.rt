@@ -1,5 +1,3 @@
-ghost use Rattle.std.specs.Prelude.{◌≡◌, ◌+◌, ◌<◌, ◌≤◌, [], length, vec_len, vec_capacity, OnOk, OnErr};
-
 mod asking;
 mod giving_back;
 mod leaving;
@@ -9,6 +7,8 @@ mod questions;
 mod settings;
 mod statistics;
 mod ticks;
+
+ghost use Rattle.std.specs.Prelude.{◌≡◌, ◌+◌, ◌<◌, ◌≤◌, [], length, vec_len, vec_capacity, OnOk, OnErr};
 
 use crate::conn::Place;
 use crate::conns::Conns;
@@ -20,16 +20,19 @@ use dsql_wait::Waiting;
 use std::alloc::Global;
 use std::marker::Model;
 
-/// The most connections that are open at a time, whatever the limits.
+/// The most connections that are open at a time, whatever the limits are.
 pub const MOST_OPEN: u32 = 1000;
 
-// Beside the closings of all idle connections a call makes one move and the openings that are due.
+// The most moves that a call makes beside the closings of all idle connections: one, and the openings that are
+// due.
 const MOST_OTHER_MOVES: usize = MOST_OPEN as usize + 1;
 
-/// The pool. Contracts see it as one value, the moves that its newest call made, for how many more calls
-/// there is memory, and for how many moves of one call.
+/// The pool.
 ///
-/// A call that makes moves keeps them, and `moves` shows them; so it takes no memory after `reserve`.
+/// Contracts see the pool as one value, with the moves that its newest call made. They also see for how many
+/// more calls there is memory, and for how many moves of one call.
+///
+/// A call that makes moves keeps them, and `moves` returns them. So a call takes no memory after `reserve`.
 #[derive(Drop)]
 pub struct Pool {
     conns: Conns,
@@ -69,7 +72,7 @@ impl Model for Pool {
 impl Pool {
     ghost use Rattle.dsql_pool.specs.Pooled.{fresh, open_count, place_at, most_other_moves};
 
-    /// No connections, under the standard limits, at the moment 0. It takes no memory.
+    /// Returns a pool without connections, under the standard limits, at the moment 0. Takes no memory.
     pub fn new(alloc: Global) -> Pool
         ensures pooled { result.pooled ≡ fresh }
         ensures moves { result.moves ≡ [] }
@@ -86,7 +89,7 @@ impl Pool {
         }
     }
 
-    /// Takes memory for so many calls more.
+    /// Takes memory for this many more calls.
     pub fn reserve(&mut self, calls: u32) -> Result<(), Memory>
         ensures ok { OnOk result (calls ≤ self.new.spare) }
         ensures full { OnErr result (self.old.spare < calls) }
@@ -105,7 +108,7 @@ impl Pool {
         reserve_moves(&mut self.moves, most)
     }
 
-    // There is memory for a call, which has made no move yet.
+    // Clears the moves and takes memory for one call.
     fn make_ready(&mut self) -> Result<(), Memory>
         ensures ok { OnOk result (0 < self.new.spare) }
         ensures room { OnOk result (most_other_moves + length self.new.pooled.idle ≤ self.new.capacity) }
@@ -118,28 +121,28 @@ impl Pool {
         self.reserve(1)
     }
 
-    /// How many connections are open, in any of the four sets.
+    /// Returns how many connections are open, in any of the four sets.
     pub fn held(&self) -> u64
         ensures { result ≡ open_count self.now.pooled }
     {
         self.conns.count()
     }
 
-    /// How many openings and lendings have begun.
+    /// Returns how many openings and lendings have begun.
     pub fn drawn(&self) -> u32
         ensures { result ≡ self.now.pooled.drawn }
     {
         self.conns.drawn()
     }
 
-    /// The present moment, in nanoseconds.
+    /// Returns the present moment, in nanoseconds.
     pub fn moment(&self) -> u64
         ensures { result ≡ self.now.pooled.moment }
     {
         self.moment
     }
 
-    /// Where a connection stands, if it is open.
+    /// Returns the place of a connection, if it is open.
     pub fn place(&self, conn: u32) -> Option<Place>
         ensures { result ≡ place_at self.now.pooled conn }
     {
@@ -149,7 +152,7 @@ impl Pool {
         }
     }
 
-    /// The moves that the newest call made, in their order.
+    /// Returns the moves that the newest call made, in their order.
     pub fn moves(&self) -> &[Move]
         ensures { result.now ≡ self.now.moves }
     {
@@ -157,7 +160,7 @@ impl Pool {
     }
 }
 
-// Takes memory for so many moves in all.
+// Takes memory for this many moves in all.
 fn reserve_moves(moves: &mut Vec<Move>, most: usize) -> Result<(), Memory>
     ensures ok { OnOk result (most ≤ vec_capacity moves.new) }
     ensures full { OnErr result (vec_capacity moves.old < most) }

@@ -4,9 +4,11 @@ ghost use Rattle.dsql_pool.specs.Counted.{no_counts, closed_for, one_waits, wait
 use crate::moves::CloseCause;
 use dsql_wait::Request;
 
-/// What was counted so far: requests that had to wait, how long the waits took that ended, in nanoseconds,
-/// and connections closed because enough were idle, for their idle time and for their lifetime. Each stands
-/// still at its type's end.
+/// The counts so far.
+///
+/// They count the requests that had to wait, and the time of the waits that ended, in nanoseconds. They also
+/// count the connections closed because enough were idle, for their idle time and for their lifetime. A count
+/// that has reached the largest value of its type stays there.
 #[derive(Clone, Copy)]
 pub struct Counts {
     pub waits: u64,
@@ -17,7 +19,7 @@ pub struct Counts {
 }
 
 impl Counts {
-    /// Nothing was counted.
+    /// Returns the counts of a pool in which nothing was counted.
     pub fn none() -> Counts
         ensures { result ≡ no_counts }
     {
@@ -30,7 +32,7 @@ impl Counts {
         }
     }
 
-    /// With one more request that waits.
+    /// Returns the counts with one more request that waits.
     pub fn with_one_waiting(self) -> Counts
         ensures { result ≡ one_waits self }
     {
@@ -40,7 +42,7 @@ impl Counts {
         }
     }
 
-    /// With the wait of a request that ends at this moment, if there was one.
+    /// Returns the counts with the wait of this request, if there is one, ended at this moment.
     pub fn with_wait_over(self, moment: u64, request: &Option<Request>) -> Counts
         ensures { result ≡ wait_over moment request.now self }
     {
@@ -53,7 +55,7 @@ impl Counts {
         }
     }
 
-    /// With one more connection that closed for this cause, if it is counted.
+    /// Returns the counts with one more connection closed for this cause, if the cause is counted.
     pub fn with_closed(self, cause: CloseCause) -> Counts
         ensures { result ≡ closed_for cause self }
     {
@@ -75,7 +77,7 @@ impl Counts {
     }
 }
 
-/// The time waited, with the wait of a request that ends at this moment.
+/// Returns the time waited, with the wait of a request that ends at this moment.
 pub fn with_wait(moment: u64, waited: u64, request: &Request) -> u64
     ensures { result ≡ with_wait moment waited request.now }
 {
@@ -85,22 +87,22 @@ pub fn with_wait(moment: u64, waited: u64, request: &Request) -> u64
 /// The nine numbers of Go's `DBStats`.
 #[derive(Clone, Copy)]
 pub struct Stats {
-    /// The open limit, 0 for none.
+    /// The open limit, or 0 if there is none.
     pub max_open_connections: u64,
-    /// The connections in the four sets.
+    /// The number of connections in the four sets.
     pub open_connections: u64,
-    /// All open ones but the idle.
+    /// The number of open connections that aren't idle.
     pub in_use: u64,
-    /// The idle ones.
+    /// The number of idle connections.
     pub idle: u64,
-    /// The requests that had to wait.
+    /// The number of requests that had to wait.
     pub wait_count: u64,
-    /// How long the waits took that ended, in nanoseconds.
+    /// The time of the waits that ended, in nanoseconds.
     pub wait_duration: u64,
-    /// The connections closed because enough were idle.
+    /// The number of connections closed because enough were idle.
     pub max_idle_closed: u64,
-    /// The connections closed for their idle time.
+    /// The number of connections closed for their idle time.
     pub max_idle_time_closed: u64,
-    /// The connections closed for their lifetime.
+    /// The number of connections closed for their lifetime.
     pub max_lifetime_closed: u64,
 }

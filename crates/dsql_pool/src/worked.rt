@@ -1,5 +1,4 @@
-//! Worked values of the pool: each is the contract of a function that does nothing.
-
+//! Worked values of the pool. Each is the contract of a function that does nothing.
 ghost use Rattle.dsql_pool.specs.Worked.Asking.{WorkedAsking, WorkedThousand};
 ghost use Rattle.dsql_pool.specs.Worked.Leaving.{WorkedClose, WorkedLeaving, WorkedRest};
 ghost use Rattle.dsql_pool.specs.Worked.Opening.{WorkedOpenings, WorkedRefusals};
@@ -8,19 +7,19 @@ ghost use Rattle.dsql_pool.specs.Worked.Returning.{WorkedReturns};
 ghost use Rattle.dsql_pool.specs.Worked.Rows.{WorkedRows};
 ghost use Rattle.dsql_pool.specs.Worked.Setting.{WorkedSettings};
 
-/// What a request becomes.
+/// The outcomes of requests.
 pub fn worked_asking()
     ensures few { WorkedAsking }
     ensures thousand { WorkedThousand }
 {}
 
-/// What becomes of a connection that was opened, or couldn't be.
+/// The outcomes of openings that succeed and of openings that fail.
 pub fn worked_openings()
     ensures opened { WorkedOpenings }
     ensures refused { WorkedRefusals }
 {}
 
-/// What becomes of a connection that is given back.
+/// The outcomes of connections that are given back.
 pub fn worked_returns()
     ensures { WorkedReturns }
 {}
@@ -38,7 +37,7 @@ pub fn worked_leaving()
     ensures rest { WorkedRest }
 {}
 
-/// Runs of calls, as they come in whole reports.
+/// Runs of calls, as whole reports record them.
 pub fn worked_rows()
     ensures { WorkedRows }
 {}

@@ -1,14 +1,14 @@
--- Laws of ends, of scans and of numbers.
+-- The laws of ends and of scans follow by evaluation, and those of numbers from the laws of numbered things.
 use Rattle.std.proofs.Common.{◌≡◌, true, cond, List, [], ◌∷◌, Option, Some, None, refl, ap, ◌∙◌}
 use Rattle.std.specs.Prelude.{is_none, fold}
 use Rattle.std.proofs.lemmas.Bool.{cond-true}
 use Rattle.dsql_rows.specs.declared.end.RowsEnd.{RowsEnd}
 use Rattle.dsql_rows.specs.declared.rows.Rows.{Rows}
 use Rattle.dsql_rows.specs.OpenRows.{fresh, is_live, ended_by, scan_of, answer_of}
-use Rattle.dsql_numbered.proofs.Numbers as numbered
+use Rattle.dsql_value_numbered.proofs.Numbers as numbered
 use Rattle.dsql_rows.specs.Laws.{FirstEndStays, ScanReadsTheNewest, ChangesOneNumber}
 
--- rows that were ended once are as they are
+-- Ending rows that have ended changes nothing.
 stays_ended : (by end : RowsEnd) (rows : Rows) → rows.ended ≡ Some end → ended_by by rows ≡ rows
 stays_ended by end rows h = ap (λ (o : Option RowsEnd). cond (is_none o) (record rows { ended = Some by }) rows) h
 

@@ -1,10 +1,10 @@
--- Rows that were made, by their numbers.
+-- Defines a table of rows, by their numbers.
 use Rattle.std.specs.Prelude.{◌≡◌, ◌≢◌, ℕ, ◌==◌, Bool, true, false, if◌then◌else◌, List, length, Option, Some, None, is_none, Result, Ok, Err, MatchResult}
 use Rattle.dsql_value.specs.declared.value.Value.{Value}
 use Rattle.dsql_scan.specs.declared.cell.Cell.{Cell}
 use Rattle.dsql_scan.specs.declared.dest.Dest.{Dest}
 use Rattle.dsql_scan.specs.Rows.{row_of, RowScan}
-use Rattle.dsql_numbered.specs.Numbered as numbered
+use Rattle.dsql_value_numbered.specs.Numbered as numbered
 use Rattle.dsql_rows.specs.declared.end.RowsEnd.{RowsEnd}
 use Rattle.dsql_rows.specs.declared.fault.RowsClosed.{RowsClosed}
 use Rattle.dsql_rows.specs.declared.fault.RowsFault.{RowsFault}
@@ -12,23 +12,23 @@ use Rattle.dsql_rows.specs.declared.fault.RowsFault.TheVariants as fault
 use Rattle.dsql_rows.specs.declared.rows.Rows.{Rows}
 use Rattle.dsql_rows.specs.Ends.{over_of, is_fault}
 
--- rows as they were made
+-- Returns rows as they are made.
 abbrev pub fresh : ℕ → List (List ℕ) → Rows
 fresh cursor columns = record { cursor = cursor; columns = columns; current = None; ended = None }
 
--- nothing has ended them
+-- Is true if nothing has ended the rows.
 abbrev pub is_live : Rows → Bool
 is_live rows = is_none rows.ended
 
--- with these values as the current row
+-- Returns the rows with these values as the current row.
 abbrev pub shown : List Value → Rows → Rows
 shown values rows = record rows { current = Some values }
 
--- ended by this, if nothing has ended them before
+-- Returns the rows ended by this, or unchanged if they have ended before.
 abbrev pub ended_by : RowsEnd → Rows → Rows
 ended_by by rows = if is_live rows then record rows { ended = Some by } else rows
 
--- what ended them, if that is an error
+-- Returns what ended the rows if it is an error, and `None` otherwise.
 abbrev pub told : Option RowsEnd → Option RowsEnd
 told None = None
 told (Some end) = if is_fault end then Some end else None
@@ -36,7 +36,7 @@ told (Some end) = if is_fault end then Some end else None
 abbrev pub told_by : Rows → Option RowsEnd
 told_by rows = told rows.ended
 
--- they were ended, by what this says
+-- Holds if the rows have ended by what this says.
 abbrev pub IsClosedBy : Rows → RowsClosed → Type 0
 IsClosedBy rows closed = (end : RowsEnd) × (rows.ended ≡ Some end) × (closed.by ≡ over_of end)
 
@@ -47,12 +47,12 @@ abbrev pub scan_answer : RowScan → Scanned
 scan_answer (Ok cells) = Ok cells
 scan_answer (Err why) = Err (fault.Scan why)
 
--- what a current row becomes
+-- Returns the cells that a current row becomes in the destinations, or why it can't be scanned.
 abbrev pub current_in : List Dest → Option (List Value) → Scanned
 current_in dests None = Err fault.NoNextYet
 current_in dests (Some values) = scan_answer (row_of values dests)
 
--- what a scan answers: ended rows are looked at first
+-- Returns the result of a scan. It checks first whether the rows have ended.
 abbrev pub answer_of : List Dest → Option RowsEnd → Option (List Value) → Scanned
 answer_of dests (Some end) current = Err (fault.RowsClosed (over_of end))
 answer_of dests None current = current_in dests current
@@ -60,37 +60,38 @@ answer_of dests None current = current_in dests current
 abbrev pub scan_of : Rows → List Dest → Scanned
 scan_of rows dests = answer_of dests rows.ended rows.current
 
--- there is a current row with as many values as there are destinations
+-- Is true if there is a current row with as many values as there are destinations.
 abbrev pub fits : List Dest → Option (List Value) → Bool
 fits dests None = false
 fits dests (Some values) = length values == length dests
 
--- they are live, and their current row has a value for each destination
+-- Is true if the rows are live and their current row has a value for each destination.
 abbrev pub is_readable : List Dest → Rows → Bool
 is_readable dests rows = if is_live rows then fits dests rows.current else false
 
--- a result is that answer, or there was no memory to scan a current row of so many values
+-- Holds if this is the result of a scan. It may also be a lack of memory if the rows are live and their current
+-- row has a value for each destination.
 abbrev pub IsScan : Scanned → Rows → List Dest → Type 0
 IsScan result rows dests =
     MatchResult result (λ cells. scan_of rows dests ≡ Ok cells)
     (λ why. (why ≢ fault.Memory → scan_of rows dests ≡ Err why) × (why ≡ fault.Memory → is_readable dests rows ≡ true))
 
--- the rows by their numbers, in the order in which they were made, and for how many calls there is memory
+-- The rows by their numbers, in the order in which they were made, and for how many more calls there is memory.
 pub record OpenRows : Type 0 where
   pub rows : List (ℕ × Rows)
   pub spare : ℕ
 
--- the rows of that number
+-- Returns the rows of this number, or `None`.
 abbrev pub rows_of : ℕ → List (ℕ × Rows) → Option Rows
 rows_of n rows = numbered.thing_of n rows
 
 abbrev pub was_made : ℕ → List (ℕ × Rows) → Bool
 was_made n rows = numbered.was_made n rows
 
--- the same with the rows of that number changed
+-- Returns the table with the rows of this number changed.
 abbrev pub changed : (Rows → Rows) → ℕ → List (ℕ × Rows) → List (ℕ × Rows)
 changed change n rows = numbered.changed change n rows
 
--- the same with all rows changed
+-- Returns the table with all rows changed.
 abbrev pub all_changed : (Rows → Rows) → List (ℕ × Rows) → List (ℕ × Rows)
 all_changed change rows = numbered.all_changed change rows

@@ -1,4 +1,4 @@
--- Worked ends of rows: what is told of them, and as which error.
+-- Defines worked ends of rows: whether each end is reported as an error, and what a scan then returns.
 use Rattle.std.specs.Prelude.{◌≡◌, [], ◌∷◌, Some, None, Err, codes}
 use Rattle.dsql_cancel.specs.declared.token.Cause.TheVariants.{Canceled, Deadline}
 use Rattle.dsql_rows.specs.declared.end.RowsEnd.TheVariants as end
@@ -21,6 +21,8 @@ pub record WorkedEnds : Type 0 where
   pub failed : told_by (ended_by (end.Failed (codes "lost")) some_rows) ≡ Some (end.Failed (codes "lost"))
   pub bad : told_by (ended_by end.BadConn some_rows) ≡ Some end.BadConn
   pub closed_first : told_by (ended_by (end.Cancel Canceled) (ended_by end.Close some_rows)) ≡ None
-  pub canceled_first : told_by (ended_by end.TxEnded (ended_by (end.Cancel Deadline) some_rows)) ≡ Some (end.Cancel Deadline)
+  pub canceled_first : told_by (ended_by end.TxEnded (ended_by (end.Cancel Deadline) some_rows))
+      ≡ Some (end.Cancel Deadline)
   pub scan_in_ended_transaction : scan_of (ended_by end.TxEnded some_rows) [] ≡ Err (fault.RowsClosed over.TxEnded)
-  pub scan_of_canceled : scan_of (ended_by (end.Cancel Deadline) some_rows) [] ≡ Err (fault.RowsClosed (over.Cancel Deadline))
+  pub scan_of_canceled : scan_of (ended_by (end.Cancel Deadline) some_rows) []
+      ≡ Err (fault.RowsClosed (over.Cancel Deadline))

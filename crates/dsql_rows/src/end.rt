@@ -4,22 +4,22 @@ ghost use Rattle.dsql_rows.specs.Ends.{over_of, is_fault};
 use dsql_cancel::Cause;
 use dsql_value::Txt;
 
-/// What ends rows.
+/// What ended rows.
 #[derive(Drop)]
 pub enum RowsEnd {
-    /// Their `Close`.
+    /// A call of their `Close`.
     Close,
-    /// `Next` came to the end of the rows.
+    /// A `Next` that reached the end of the rows.
     EndOfRows,
-    /// The transaction that they are in was ended.
+    /// The end of the transaction that they are in.
     TxEnded,
-    /// The token of their query was cancelled, for this cause.
+    /// The cancellation of their query's token, for this cause.
     Cancel(Cause),
-    /// The driver told an error, with its text.
+    /// An error of the driver, with its text.
     Failed(Txt),
-    /// The connection was bad.
+    /// A bad connection.
     BadConn,
-    /// The run is over.
+    /// The end of the run.
     EndOfRun,
 }
 
@@ -36,7 +36,7 @@ pub enum RowsOver {
 }
 
 impl RowsEnd {
-    /// The same without the text.
+    /// Returns the end without its text.
     pub fn over(&self) -> RowsOver
         ensures { result ≡ over_of self.now }
     {
@@ -51,7 +51,7 @@ impl RowsEnd {
         }
     }
 
-    /// `Rows.Err` tells it.
+    /// Returns whether `Rows.Err` reports the end.
     pub(crate) fn is_fault(&self) -> bool
         ensures { result ≡ is_fault self.now }
     {

@@ -1,5 +1,5 @@
-//! The table of open results, after `Rows` of Go's package `database/sql`: what was made, its current row,
-//! and what ended it first.
+//! The table of open rows, modelled on `Rows` of Go's package `database/sql`. It keeps the rows that were made,
+//! their current row, and what ended them first.
 #![tactic(auto)]
 
 mod end;

@@ -18,7 +18,7 @@ pub struct Rows {
 }
 
 impl Rows {
-    /// The values become the current row, if nothing has ended the rows.
+    /// Makes the values the current row. Fails with `RowsClosed` if the rows have ended.
     pub fn show(&mut self, values: Values) -> Result<(), RowsClosed>
         ensures ok { OnOk result (self.new ≡ shown values self.old) }
         ensures live { OnOk result (is_live self.old ≡ true) }
@@ -32,7 +32,7 @@ impl Rows {
         Ok(())
     }
 
-    /// What the current row becomes in the destinations.
+    /// Returns the current row as cells of the destinations.
     pub fn scan(&self, alloc: Global, dests: &[Dest]) -> Result<Cells, RowsFault>
         ensures { IsScan result self.now dests.now }
     {
@@ -49,7 +49,7 @@ impl Rows {
         }
     }
 
-    /// Ends the rows, if nothing has, and says whether it did.
+    /// Ends the rows unless they have ended, and returns whether they were live.
     pub fn close(&mut self, by: RowsEnd) -> bool
         ensures live { result ≡ is_live self.old }
         ensures rows { self.new ≡ ended_by by self.old }
@@ -61,7 +61,7 @@ impl Rows {
         live
     }
 
-    /// What ended the rows, if that is told as an error.
+    /// Returns what ended the rows, if it is reported as an error.
     pub fn err(&self) -> Option<&RowsEnd>
         ensures { option_copied result ≡ told_by self.now }
     {

@@ -10,8 +10,8 @@ use indexmap::IndexMap;
 use std::alloc::Global;
 use std::marker::Model;
 
-/// The rows that were made. Contracts see them by their numbers in the order in which they were made, and
-/// for how many calls there is memory.
+/// The rows that were made. Contracts see them by their numbers in the order in which they were made, and for
+/// how many more calls there is memory.
 #[derive(Drop)]
 pub struct RowsTable {
     alloc: Global,
@@ -31,7 +31,7 @@ impl RowsTable {
     ghost use Rattle.dsql_rows.specs.OpenRows.{rows_of, was_made, fresh, is_live, changed, all_changed, shown, ended_by, told_by, IsClosedBy, IsScan};
     ghost use Rattle.dsql_rows.specs.declared.end.RowsEnd.TheVariants.{EndOfRun};
 
-    /// No rows. It takes no memory.
+    /// Returns a table without rows. It takes no memory.
     pub fn new(alloc: Global) -> RowsTable
         ensures { result.rows ≡ [] }
     {
@@ -41,7 +41,7 @@ impl RowsTable {
         }
     }
 
-    /// Takes memory for so many calls more.
+    /// Takes memory for so many more calls.
     pub fn reserve(&mut self, calls: u32) -> Result<(), Memory>
         ensures ok { OnOk result (calls ≤ self.new.spare) }
         ensures rows { self.new.rows ≡ self.old.rows }
@@ -51,21 +51,21 @@ impl RowsTable {
         Ok(())
     }
 
-    /// How many rows were made.
+    /// Returns how many rows were made.
     pub fn held(&self) -> u64
         ensures { result ≡ length self.now.rows }
     {
         self.rows.len() as u64
     }
 
-    /// Whether rows were made under that number.
+    /// Returns whether rows were made under this number.
     pub fn was_made(&self, n: u32) -> bool
         ensures { result ≡ was_made n self.now.rows }
     {
         self.rows.contains_key(&n)
     }
 
-    /// Makes rows over a cursor.
+    /// Makes rows over a cursor under a new number. Fails only if no memory was reserved.
     pub fn begin_rows(&mut self, n: u32, cursor: u32, columns: Columns) -> Result<(), Memory>
         requires { was_made n self.old.rows ≡ false }
         ensures ok { OnOk result (self.new.rows ≡ self.old.rows ++ (n, fresh cursor columns) ∷ []) }
@@ -83,7 +83,8 @@ impl RowsTable {
         Ok(())
     }
 
-    /// The values become the current row, if nothing has ended the rows. It takes no memory, nor does `close`.
+    /// Makes the values the current row. Fails with `RowsClosed` if the rows have ended. Neither this nor
+    /// `close` takes memory.
     pub fn row(&mut self, n: u32, values: Values) -> Result<(), RowsClosed>
         requires { was_made n self.old.rows ≡ true }
         ensures ok { OnOk result (self.new.rows ≡ changed (shown values) n self.old.rows) }
@@ -98,8 +99,8 @@ impl RowsTable {
         }
     }
 
-    /// What the current row becomes in the destinations, after Go's `Rows.Scan`. The row stays current. It
-    /// takes memory for the cells, which `reserve` doesn't take before.
+    /// Returns the current row as cells of the destinations, as Go's `Rows.Scan` does. The row stays current.
+    /// It takes memory for the cells, which `reserve` doesn't provide.
     pub fn scan(&self, n: u32, dests: &[Dest]) -> Result<Cells, RowsFault>
         requires { was_made n self.now.rows ≡ true }
         ensures { IfSome (rows_of n self.now.rows) (λ rows. IsScan result rows dests.now) }
@@ -107,7 +108,7 @@ impl RowsTable {
         self.rows(n).scan(self.alloc, dests)
     }
 
-    /// Ends the rows, if nothing has, and says whether it did: the first end is kept.
+    /// Ends the rows unless they have ended, and returns whether they were live. The first end is kept.
     pub fn close(&mut self, n: u32, by: RowsEnd) -> bool
         requires { was_made n self.old.rows ≡ true }
         ensures live { Some result ≡ option_map is_live (rows_of n self.old.rows) }
@@ -120,7 +121,7 @@ impl RowsTable {
         }
     }
 
-    /// The end of the run ends all rows that nothing has ended. It takes no memory.
+    /// Ends all live rows with the end of the run. It takes no memory.
     pub fn close_all(&mut self)
         ensures rows { self.new.rows ≡ all_changed (ended_by EndOfRun) self.old.rows }
         ensures spare { self.new.spare ≡ self.old.spare }
@@ -130,7 +131,7 @@ impl RowsTable {
         }
     }
 
-    /// Whether nothing has ended the rows.
+    /// Returns whether nothing has ended the rows.
     pub fn is_live(&self, n: u32) -> bool
         requires { was_made n self.now.rows ≡ true }
         ensures { Some result ≡ option_map is_live (rows_of n self.now.rows) }
@@ -138,7 +139,7 @@ impl RowsTable {
         self.rows(n).ended.is_none()
     }
 
-    /// What ended the rows.
+    /// Returns what ended the rows, or `None` if they are live.
     pub fn ended(&self, n: u32) -> Option<&RowsEnd>
         requires { was_made n self.now.rows ≡ true }
         ensures { Some (option_copied result) ≡ option_map (λ rows. rows.ended) (rows_of n self.now.rows) }
@@ -146,7 +147,7 @@ impl RowsTable {
         self.rows(n).ended.as_ref()
     }
 
-    /// What ended the rows, where that is told as an error, as by Go's `Rows.Err`.
+    /// Returns what ended the rows if Go's `Rows.Err` reports it as an error, and `None` otherwise.
     pub fn err(&self, n: u32) -> Option<&RowsEnd>
         requires { was_made n self.now.rows ≡ true }
         ensures { Some (option_copied result) ≡ option_map told_by (rows_of n self.now.rows) }
@@ -154,7 +155,7 @@ impl RowsTable {
         self.rows(n).err()
     }
 
-    /// The cursor of the rows.
+    /// Returns the cursor of the rows.
     pub fn cursor(&self, n: u32) -> u32
         requires { was_made n self.now.rows ≡ true }
         ensures { Some result ≡ option_map (λ rows. rows.cursor) (rows_of n self.now.rows) }
@@ -162,7 +163,7 @@ impl RowsTable {
         self.rows(n).cursor
     }
 
-    /// The names of the rows' columns, in order.
+    /// Returns the names of the rows' columns, in order.
     pub fn columns(&self, n: u32) -> &Columns
         requires { was_made n self.now.rows ≡ true }
         ensures { Some result.now ≡ option_map (λ rows. rows.columns) (rows_of n self.now.rows) }

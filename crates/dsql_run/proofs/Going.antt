@@ -1,27 +1,28 @@
--- How a history goes on as a line or the script's end is carried out, and what stops it.
+-- How a history grows as a line or the script's end is carried out, and what stops it. The argument reads the
+-- growth off each record, and goes through the halts case by case.
 use Rattle.std.proofs.Common.{◌≡◌, false, List, [], ◌∷◌, Option, refl, sym, ap, subst, ◌∙◌}
 use Rattle.std.specs.Prelude.{Err, IfErr, Result}
 use Rattle.std.proofs.lemmas.Result.{IfErr-at_err}
-use Rattle.dsql_driver.specs.declared.caps.Caps.{Caps}
-use Rattle.dsql_driver.specs.Wires.{WireTold}
-use Rattle.dsql_driver.specs.declared.wire.Fleet.{Ghosts}
-use Rattle.dsql_tx_history.specs.declared.event.Event.{Event}
-use Rattle.dsql_tx_history.specs.declared.event.Event.TheVariants.{Run}
-use Rattle.dsql_tx_follows.specs.declared.line.Line.{Line}
-use Rattle.dsql_tx_follows.specs.Moments.{Moment}
-use Rattle.dsql_tx_playing.specs.Carried.{Carries, CarriesEnd, StopsInEnd, StopsInLine}
-use Rattle.dsql_tx_playing.specs.Playing.{Playing}
-use Rattle.dsql_tx_playing.specs.declared.halt.Halt.{Halt}
-use Rattle.dsql_tx_playing.specs.declared.halt.Halt.TheVariants as halts
-use Rattle.dsql_script_source.specs.declared.stop.Stop.{Stop}
-use Rattle.dsql_script_source.specs.declared.stop.Stop.TheVariants.{Full}
-use Rattle.dsql_tx_wires.specs.Extends.{Extends}
-use Rattle.dsql_wire.specs.Journaled.{Journaled}
-use Rattle.dsql_tx_wires.specs.Told.{with_told}
-use Rattle.dsql_tx_wires.specs.WiresFit.{PlansFit}
-use Rattle.dsql_outcome.specs.Lent.{TellsOf, lent}
-use Rattle.dsql_outcome.specs.Runs.{IsPlayStop, IsShowStop, is_write_fault, ran_out, stop_of_halt}
-use Rattle.dsql_outcome.proofs.Asking.{none_told}
+use Rattle.dsql_run_outcome.specs.driver.declared.caps.Caps.{Caps}
+use Rattle.dsql_run_outcome.specs.driver.Wires.{WireTold}
+use Rattle.dsql_run_outcome.specs.driver.declared.wire.Fleet.{Ghosts}
+use Rattle.dsql_run_outcome.specs.history.declared.event.Event.{Event}
+use Rattle.dsql_run_outcome.specs.history.declared.event.Event.TheVariants.{Run}
+use Rattle.dsql_run_outcome.specs.follows.declared.line.Line.{Line}
+use Rattle.dsql_run_outcome.specs.follows.Moments.{Moment}
+use Rattle.dsql_run_outcome.specs.run_player.Carried.{Carries, CarriesEnd, StopsInEnd, StopsInLine}
+use Rattle.dsql_run_outcome.specs.run_player.Playing.{Playing}
+use Rattle.dsql_run_outcome.specs.run_player.declared.halt.Halt.{Halt}
+use Rattle.dsql_run_outcome.specs.run_player.declared.halt.Halt.TheVariants as halts
+use Rattle.dsql_run_outcome.specs.script_source.declared.stop.Stop.{Stop}
+use Rattle.dsql_run_outcome.specs.script_source.declared.stop.Stop.TheVariants.{Full}
+use Rattle.dsql_run_outcome.specs.run_wires.Extends.{Extends}
+use Rattle.dsql_run_outcome.specs.wire.Journaled.{Journaled}
+use Rattle.dsql_run_outcome.specs.run_wires.Told.{with_told}
+use Rattle.dsql_run_outcome.specs.run_wires.WiresFit.{PlansFit}
+use Rattle.dsql_run_outcome.specs.Lent.{TellsOf, lent}
+use Rattle.dsql_run_outcome.specs.Runs.{IsPlayStop, IsShowStop, is_write_fault, ran_out, stop_of_halt}
+use Rattle.dsql_run_outcome.proofs.Asking.{none_told}
 
 pub line_extends : (m : Moment) (line : Line) (old new : Playing) → Carries m line old new → Extends old.past new.past
 line_extends m line old new c = record { added = c.events; whole = c.grows }
@@ -35,7 +36,7 @@ end_extends m old new c = record { added = c.events; whole = c.grows }
 pub end_stop_extends : (m : Moment) (old new : List Event) → StopsInEnd m old new → Extends old new
 end_stop_extends m old new s = record { added = s.events; whole = s.grows }
 
--- What stops a run that can't be carried on.
+-- Which stops a run has if it can't be carried on.
 
 pub halt_plays : (halt : Halt) → IsPlayStop (stop_of_halt halt)
 halt_plays halts.Memory = tt
@@ -53,7 +54,8 @@ pub full_halt : (halt : Halt) → stop_of_halt halt ≡ Full → halt ≡ halts.
 full_halt halts.Memory is = absurd (cc is)
 full_halt halts.Full is = refl
 
--- the same of a stop that is one of these
+-- The stop of a halt doesn't let a run run out, and the lemmas after this one say the same of its other
+-- properties.
 pub halted : (stop : Stop) (halt : Halt) → stop ≡ stop_of_halt halt → ran_out (Err stop) ≡ false
 halted stop halt is = ap (λ s. ran_out (Err s)) is ∙ halt_runs_out halt
 
@@ -68,11 +70,11 @@ halted_full stop halt r is same full =
     let it : stop ≡ Full = cc (sym same ∙ full) in
     full_halt halt (sym is ∙ it)
 
--- events that can't be shown don't fill a run
+-- A run isn't full because its events can't be shown.
 pub shown_unfilled : (r : Result (Unit {0}) Stop) → IfErr r IsShowStop → r ≡ Err Full → ⊥
 shown_unfilled r kind full = IfErr-at_err IsShowStop full kind
 
--- As a run begins the fleet and its wires tell just that it has begun, and no plan.
+-- As a run begins, the fleet and its wires record that it has begun, no more, and no plan.
 pub begins_telling : {F W : Type 0} (fleet : Ghosts F W) (heard : W → Option WireTold) (first : F) (slots : List (Option (Journaled W))) (caps : Caps) (past : List Event) → past ≡ Run 1 caps ∷ [] → PlansFit heard [] past slots
     → TellsOf (lent fleet heard first first slots) [] past
 begins_telling fleet heard first slots caps past begun fit = record {

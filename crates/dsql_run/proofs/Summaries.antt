@@ -1,20 +1,19 @@
--- What was written of a summary.
+-- What was written of a summary. The argument goes through the stops case by case.
 use Rattle.std.proofs.Common.{◌≡◌, ◌⊎◌, ℕ, false, List, length, Option, Some, None, refl, ap, sym, subst, ◌∙◌, inl, inr}
 use Rattle.std.specs.Prelude.{IfSome, Result, Ok, Err, reverse}
 use Rattle.std.proofs.lemmas.List.{reverse-reverse}
-use Rattle.dsql_driver.specs.Streams.{HasRisen}
-use Rattle.dsql_tx_history.specs.declared.event.Event.{Event}
-use Rattle.dsql_show.specs.Report.{with_text}
-use Rattle.dsql_summary.specs.Summary.{line_of}
-use Rattle.dsql_tx_summary.specs.Summary.{summary_of}
-use Rattle.dsql_script_source.specs.declared.stop.Stop.{Stop}
-use Rattle.dsql_script_source.specs.declared.stop.Stop.TheVariants.{Read, Write, Memory, Refused, Full}
-use Rattle.dsql_outcome.specs.Headline.{Seen, IsPlayed, NotBegun, RanSo}
-use Rattle.dsql_outcome.specs.Runs.{Finishes, IsLinesEnd, is_write_fault}
-use Rattle.dsql_outcome.specs.Summing.{NotSummarized, Summarized, WritesPiece, summary, unreported}
+use Rattle.dsql_run_outcome.specs.driver.Streams.{HasRisen}
+use Rattle.dsql_run_outcome.specs.history.declared.event.Event.{Event}
+use Rattle.dsql_run_outcome.specs.script_show.Report.{with_text}
+use Rattle.dsql_run_outcome.specs.script_show.Summary.{line_of, summary_of}
+use Rattle.dsql_run_outcome.specs.script_source.declared.stop.Stop.{Stop}
+use Rattle.dsql_run_outcome.specs.script_source.declared.stop.Stop.TheVariants.{Read, Write, Memory, Refused, Full}
+use Rattle.dsql_run_outcome.specs.Headline.{Seen, IsPlayed, NotBegun, RanSo}
+use Rattle.dsql_run_outcome.specs.Runs.{Finishes, IsLinesEnd, is_write_fault}
+use Rattle.dsql_run_outcome.specs.Summing.{NotSummarized, Summarized, WritesPiece, summary, unreported}
 use Rattle.dsql_run.specs.declared.playing.Kept.{Kept}
 
--- the whole text, where the lines came to an end
+-- If the lines came to an end, the whole text was written.
 pub whole_piece : (r : Result (Unit {0}) Stop) (text : List ℕ) (w now : Option (List ℕ)) → IsLinesEnd r → now ≡ with_text w text → WritesPiece r text w now
 whole_piece (Ok done) text w now over is = is
 whole_piece (Err Read) text w now over is = is
@@ -23,11 +22,11 @@ whole_piece (Err Memory) text w now over is = absurd over
 whole_piece (Err (Refused number fault)) text w now over is = is
 whole_piece (Err Full) text w now over is = absurd over
 
--- where no event was trimmed all of the history is left
+-- If no event was trimmed, the kept events are the whole history.
 pub all_kept : (past kept : List Event) → kept ≡ reverse past → reverse kept ≡ past
 all_kept past kept all = ap reverse all ∙ reverse-reverse past
 
--- what nobody keeps is written without a fault
+-- A run whose report nobody keeps has no write fault.
 pub no_write_fault : (stopped : Result (Unit {0}) Stop) (before after : Seen) → IsPlayed stopped (unreported before) (unreported after) → is_write_fault stopped ≡ false
 no_write_fault (Ok done) before after played = refl
 no_write_fault (Err Read) before after played = refl
@@ -40,7 +39,7 @@ no_write_fault (Err Memory) before after played = refl
 no_write_fault (Err (Refused number fault)) before after played = refl
 no_write_fault (Err Full) before after played = refl
 
--- the text is that of the lines that were read, where a piece of it was written
+-- If a piece of the summary was written, its text counts the lines that were read.
 so_many : (stopped told : Result (Unit {0}) Stop) (before after : Seen) (past : List Event) (lines : ℕ) → Finishes stopped told → (r : RanSo stopped (unreported before) (unreported after) past lines)
     → WritesPiece told (line_of (summary_of lines past)) before.written after.written → WritesPiece told (summary r.ran.lines r.ran.history) before.written after.written
 so_many stopped told before after past lines finishes r writes = by told stopped finishes r.counted (no_write_fault stopped before after (inl r.ran)) writes
@@ -75,7 +74,7 @@ so_many stopped told before after past lines finishes r writes = by told stopped
         subst (λ text. WritesPiece (Err (Refused number fault)) text before.written after.written) (same (counted (over (Err (Refused number fault)) played f tt))) w
     by (Err Full) played f counted unfailed w = w
 
--- a run was summed up, or it hadn't begun
+-- A run was summed up, or it hadn't begun.
 pub summed : (kept : Option Kept) (stopped told : Result (Unit {0}) Stop) (before after : Seen) → Finishes stopped told → IfSome kept (λ k. RanSo stopped (unreported before) (unreported after) k.player.past k.script.reader.lines)
     → IfSome kept (λ k. WritesPiece told (line_of (summary_of k.script.reader.lines k.player.past)) before.written after.written) → (kept ≡ None → NotBegun stopped (unreported before) (unreported after)) → (kept ≡ None → told ≡ stopped)
     → (kept ≡ None → after.written ≡ before.written) → Summarized stopped told before after ⊎ NotSummarized told before after

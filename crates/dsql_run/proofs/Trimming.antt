@@ -1,23 +1,24 @@
--- A run whose events were trimmed is where it was.
+-- Trimming the events of a run changes nothing that holds of its history. The argument carries each record over
+-- to the trimmed player.
 use Rattle.std.proofs.Common.{◌≡◌, ℕ, Bool, false, List, Option, sym, subst}
 use Rattle.std.specs.Prelude.{Result}
-use Rattle.dsql_driver.specs.declared.caps.Caps.{Caps}
-use Rattle.dsql_driver.specs.Wires.{WireTold}
-use Rattle.dsql_tx_history.specs.declared.event.Event.{Event}
-use Rattle.dsql_tx_history.specs.Readers.Course.{has_ended}
-use Rattle.dsql_tx_follows.specs.Moments.{Moment}
-use Rattle.dsql_tx_follows.specs.Follows.{after}
-use Rattle.dsql_tx_playing.specs.Planned.{plans_made}
-use Rattle.dsql_tx_playing.specs.Playing.{IsAt, IsReady, Playing}
-use Rattle.dsql_tx_reader.specs.declared.script.ScriptLine.{ScriptLine}
-use Rattle.dsql_tx_script_source.specs.Position.{Position}
-use Rattle.dsql_script_source.specs.declared.stop.Stop.{Stop}
-use Rattle.dsql_wire.specs.Journaled.{Journaled}
-use Rattle.dsql_tx_wires.specs.WiresFit.{WiresFit}
-use Rattle.dsql_outcome.specs.Followed.{FollowsSoFar}
-use Rattle.dsql_outcome.specs.Lent.{Lent, TellsOf}
-use Rattle.dsql_outcome.specs.Runs.{Between}
-use Rattle.dsql_outcome.proofs.Lines.{LinesSoFar}
+use Rattle.dsql_run_outcome.specs.driver.declared.caps.Caps.{Caps}
+use Rattle.dsql_run_outcome.specs.driver.Wires.{WireTold}
+use Rattle.dsql_run_outcome.specs.history.declared.event.Event.{Event}
+use Rattle.dsql_run_outcome.specs.history.Readers.Course.{has_ended}
+use Rattle.dsql_run_outcome.specs.follows.Moments.{Moment}
+use Rattle.dsql_run_outcome.specs.follows.Follows.{after}
+use Rattle.dsql_run_outcome.specs.run_player.Planned.{plans_made}
+use Rattle.dsql_run_outcome.specs.run_player.Playing.{IsAt, IsReady, Playing}
+use Rattle.dsql_run_outcome.specs.script_reader.declared.script.ScriptLine.{ScriptLine}
+use Rattle.dsql_run_outcome.specs.script_source.Position.{Position}
+use Rattle.dsql_run_outcome.specs.script_source.declared.stop.Stop.{Stop}
+use Rattle.dsql_run_outcome.specs.wire.Journaled.{Journaled}
+use Rattle.dsql_run_outcome.specs.run_wires.WiresFit.{WiresFit}
+use Rattle.dsql_run_outcome.specs.Followed.{FollowsSoFar}
+use Rattle.dsql_run_outcome.specs.Lent.{Lent, TellsOf}
+use Rattle.dsql_run_outcome.specs.Runs.{Between}
+use Rattle.dsql_run_outcome.proofs.Lines.{LinesSoFar}
 
 module _ (old new : Playing) (same : new.past ≡ old.past) (stays : (m : Moment) → IsAt m old → IsAt m new) where
   pub between_still : {W : Type 0} (heard : W → Option WireTold) (telling : Bool) (slots : List (Option (Journaled W))) → (IsReady old → IsReady new) → Between heard telling old slots → Between heard telling new slots

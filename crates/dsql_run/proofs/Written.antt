@@ -1,24 +1,23 @@
--- What was written of a line, by whether it could be carried out.
+-- What was written of a line that was carried out, and of one that couldn't be.
 use Rattle.std.proofs.Common.{◌≡◌, ℕ, ◌≤◌, List, Option, length, sym, ap, subst, ◌∙◌, arith}
 use Rattle.std.specs.Prelude.{Err, Result, IfErr, OnErr, OnOk}
 use Rattle.std.proofs.lemmas.List.{length-append}
 use Rattle.std.proofs.lemmas.Result.{IfErr-at_err, on_err_weaker, on_ok_weaker}
-use Rattle.dsql_tx_history.specs.declared.event.Event.{Event}
-use Rattle.dsql_tx_playing.specs.declared.halt.Halt.{Halt}
-use Rattle.dsql_tx_report.specs.Lines.{text_of}
-use Rattle.dsql_show.specs.Report.{with_text, StopsBetween}
-use Rattle.dsql_tx_show.specs.Report.{oldest, Shows}
-use Rattle.dsql_script_source.specs.declared.stop.Stop.{Stop}
-use Rattle.dsql_tx_wires.specs.Extends.{Extends}
-use Rattle.dsql_outcome.specs.Playing.{WritesLine}
-use Rattle.dsql_outcome.specs.Runs.{IsShowStop, Wrote, is_write_fault, stop_of_halt}
-use Rattle.dsql_outcome.proofs.Writing.{shows_older_all, stops_after_older, wrote_halted, wrote_shown}
+use Rattle.dsql_run_outcome.specs.history.declared.event.Event.{Event}
+use Rattle.dsql_run_outcome.specs.run_player.declared.halt.Halt.{Halt}
+use Rattle.dsql_run_outcome.specs.script_report.Lines.{text_of}
+use Rattle.dsql_run_outcome.specs.script_show.Report.{with_text, StopsBetween, oldest, Shows}
+use Rattle.dsql_run_outcome.specs.script_source.declared.stop.Stop.{Stop}
+use Rattle.dsql_run_outcome.specs.run_wires.Extends.{Extends}
+use Rattle.dsql_run_outcome.specs.Playing.{WritesLine}
+use Rattle.dsql_run_outcome.specs.Runs.{IsShowStop, Wrote, is_write_fault, stop_of_halt}
+use Rattle.dsql_run_outcome.proofs.Writing.{shows_older_all, stops_after_older, wrote_halted, wrote_shown}
 use Rattle.dsql_run.proofs.Going.{halted_writes}
 
 pub grown : (old new : List Event) → Extends old new → length old ≤ length new
 grown old new e = omega (arith, ap length e.whole, length-append e.added old)
 
--- it couldn't be carried out, and nothing more was written
+-- If a line couldn't be carried out, nothing more was written.
 pub line_halted : (stop : Stop) (halt : Halt) (old new : List Event) (held : Option (List ℕ)) (n : ℕ) → stop ≡ stop_of_halt halt → Extends old new → n ≡ length old → WritesLine (Err stop) old new held n held
 line_halted stop halt old new held n is e all = record {
   shown = tt;
@@ -27,7 +26,7 @@ line_halted stop halt old new held n is e all = record {
   cut = λ w shown failed. absurd (cc (sym (ap is_write_fault failed) ∙ halted_writes stop halt is));
 }
 
--- it was carried out, and its events were written, or the sink stopped
+-- If a line was carried out, its events were written, or the sink stopped.
 pub line_shown : (r : Result (Unit {0}) Stop) (old new : List Event) (held holds : Option (List ℕ)) (n count : ℕ) → Extends old new → n ≡ length old → IfErr r IsShowStop → OnOk r (count ≡ length new) → count ≤ length new
     → OnOk r ((w : Option (List ℕ)) → Shows w n new held → holds ≡ with_text w (text_of new)) → OnErr r ((w : Option (List ℕ)) → Shows w n new held → StopsBetween w (text_of (oldest n new)) (text_of new) holds)
     → WritesLine r old new held count holds

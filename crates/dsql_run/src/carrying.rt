@@ -1,32 +1,26 @@
-//! A line is carried out, and its events are written.
+//! Carries out one line of a script and writes its events.
 ghost use Rattle.std.specs.Prelude.{◌≡◌, ◌≤◌, ◌++◌, ◌∷◌, [], List, true, false, length, Err, IfErr, is_some};
-ghost use Rattle.dsql_driver.specs.declared.caps.Caps.{Caps};
-ghost use Rattle.dsql_tx_history.specs.declared.event.Event.TheVariants.{Run};
-ghost use Rattle.dsql_tx_follows.specs.declared.line.Line.{Line as Said};
-ghost use Rattle.dsql_tx_follows.specs.Follows.{after};
-ghost use Rattle.dsql_tx_follows.specs.Moments.{Moment};
-ghost use Rattle.dsql_tx_follows.specs.Sentences.{Part};
-ghost use Rattle.dsql_outcome.specs.Followed.{FollowsSoFar, StopsShort};
-ghost use Rattle.dsql_outcome.specs.Playing.{RunsOn, WritesLine};
-ghost use Rattle.dsql_outcome.specs.Runs.{Between, IsPlayStop, is_write_fault, ran_out};
-ghost use Rattle.dsql_tx_playing.specs.Carried.{Carries, StopsInLine};
-ghost use Rattle.dsql_tx_playing.specs.Planned.{plans_of};
-ghost use Rattle.dsql_tx_playing.specs.Playing.{IsAt};
-ghost use Rattle.dsql_steps.specs.Groups.{most_events};
-ghost use Rattle.dsql_stream.specs.Faults.{CountsFaults};
-ghost use Rattle.dsql_tx_wires.specs.Told.{FleetTells, TellsAtMost};
+ghost use Rattle.dsql_run_outcome.specs.driver.declared.caps.Caps.{Caps};
+ghost use Rattle.dsql_run_outcome.specs.history.declared.event.Event.TheVariants.{Run};
+ghost use Rattle.dsql_run_outcome.specs.follows.declared.line.Line.{Line as Said};
+ghost use Rattle.dsql_run_outcome.specs.follows.Follows.{after};
+ghost use Rattle.dsql_run_outcome.specs.follows.Moments.{Moment};
+ghost use Rattle.dsql_run_outcome.specs.follows.Sentences.{Part};
+ghost use Rattle.dsql_run_outcome.specs.Followed.{FollowsSoFar, StopsShort};
+ghost use Rattle.dsql_run_outcome.specs.Playing.{RunsOn, WritesLine};
+ghost use Rattle.dsql_run_outcome.specs.Runs.{Between, IsPlayStop, is_write_fault, ran_out};
+ghost use Rattle.dsql_run_outcome.specs.run_player.Carried.{Carries, StopsInLine};
+ghost use Rattle.dsql_run_outcome.specs.run_player.Planned.{plans_of};
+ghost use Rattle.dsql_run_outcome.specs.run_player.Playing.{IsAt};
+ghost use Rattle.dsql_run_outcome.specs.laws_steps.Groups.{most_events};
+ghost use Rattle.dsql_run_outcome.specs.stream.Faults.{CountsFaults};
+ghost use Rattle.dsql_run_outcome.specs.run_wires.Told.{FleetTells, TellsAtMost};
 
 use crate::showing::show_history;
-use dsql_driver::{Fleet, Sink};
-use dsql_outcome::stop_of_halt;
-use dsql_player::{Player, carry_line};
-use dsql_tx_follows::Line;
-use dsql_tx_script_source::Stop;
-use dsql_tx_show::Shown;
-use dsql_tx_wires::Wires;
+use dsql_run_outcome::{Fleet, Line, Player, Shown, Sink, Stop, Wires, carry_line, stop_of_halt};
 use std::alloc::Global;
 
-/// Carries a line out, and writes its events.
+/// Carries out a line and writes its events.
 pub(crate) fn play_line<K: Sink, F: Fleet>(
     alloc: Global,
     player: &mut Player,
@@ -41,11 +35,18 @@ pub(crate) fn play_line<K: Sink, F: Fleet>(
     requires trimmed { player.old.trimmed ≤ shown.old }
     ensures between { ran_out result ≡ true → Between F.Wire.told (is_some (F.told fleet.new)) player.new wires.new }
     ensures carries { ran_out result ≡ true → (m : Moment) → IsAt m player.old → Carries m line player.old player.new }
-    ensures stops { ran_out result ≡ false → (m : Moment) → IsAt m player.old → StopsInLine m line player.old.past player.new.past }
-    ensures short { ran_out result ≡ false → (caps : Caps) (lines : List Said) (parts : List Part) → FollowsSoFar (Run 1 caps) lines parts player.old.past → IsAt (after (Run 1 caps) parts) player.old → StopsShort (Run 1 caps) (lines ++ line ∷ []) player.new.past }
-    ensures told { ran_out result ≡ true → FleetTells F.Wire.told (plans_of line player.old.past) (F.told fleet.old) (F.told fleet.new) player.old.past player.new.past wires.old wires.new }
-    ensures asked { TellsAtMost F.Wire.told (plans_of line player.old.past) (F.told fleet.old) (F.told fleet.new) player.old.past player.new.past wires.old }
-    ensures writes { WritesLine result player.old.past player.new.past (K.written output.old) shown.new (K.written output.new) }
+    ensures stops { ran_out result ≡ false → (m : Moment) → IsAt m player.old
+        → StopsInLine m line player.old.past player.new.past }
+    ensures short { ran_out result ≡ false → (caps : Caps) (lines : List Said) (parts : List Part)
+        → FollowsSoFar (Run 1 caps) lines parts player.old.past → IsAt (after (Run 1 caps) parts) player.old
+        → StopsShort (Run 1 caps) (lines ++ line ∷ []) player.new.past }
+    ensures told { ran_out result ≡ true
+        → FleetTells F.Wire.told (plans_of line player.old.past) (F.told fleet.old)
+        (F.told fleet.new) player.old.past player.new.past wires.old wires.new }
+    ensures asked { TellsAtMost F.Wire.told (plans_of line player.old.past) (F.told fleet.old)
+        (F.told fleet.new) player.old.past player.new.past wires.old }
+    ensures writes { WritesLine result player.old.past player.new.past (K.written output.old) shown.new
+        (K.written output.new) }
     ensures trimmed { player.new.trimmed ≡ player.old.trimmed }
     ensures least { player.new.trimmed ≤ shown.new }
     ensures kinds { IfErr result IsPlayStop }

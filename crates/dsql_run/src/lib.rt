@@ -1,5 +1,15 @@
-//! A script's run, from its bytes to the report's bytes, and the program around it: what its words ask for is
-//! done, and told by a note and a status.
+//! Runs a script, from the script's bytes to the report's bytes. The program around it does what its words ask
+//! for, and reports the result by a note and a status.
+//!
+//! A caller plays a script of two lines over a fleet:
+//!
+//! ```
+//! let script = "c1 exec db [\"SET a 1\"]\nc1 exec db [\"SET a 2\"]\n";
+//! let mut input = SliceSource::new(script.as_bytes(), 4096, &[]);
+//! let mut report = VecSink::new(alloc, 4096, Vec::new(alloc));
+//! let played = play(alloc, &mut input, &mut report, fleet);
+//! played.is_ok() && report.bytes().starts_with(b"[\"run\",1,[\"fast_exec\",")
+//! ```
 #![tactic(auto)]
 
 mod carrying;
@@ -11,7 +21,6 @@ mod program;
 mod showing;
 mod summing;
 
-pub use dsql_outcome::tell;
-pub use dsql_tx_script_source::Stop;
+pub use dsql_run_outcome::{Stop, tell};
 pub use playing::play;
 pub use program::sqlrun;

@@ -1,35 +1,33 @@
-//! A script is played from its first line to its end.
+//! Plays a script from its first line to its end.
 ghost use Rattle.std.specs.Prelude.{◌≡◌, ◌≤◌, ℕ, Bool, List, [], ◌∷◌, Option, None, true, false, length, Err, is_some, IfSome};
-ghost use Rattle.dsql_driver.specs.declared.caps.Caps.{Caps};
-ghost use Rattle.dsql_driver.specs.Streams.{HasRisen, has_risen};
-ghost use Rattle.dsql_tx_history.specs.declared.event.Event.TheVariants.{Run};
-ghost use Rattle.dsql_tx_follows.specs.declared.line.Line.{Line};
-ghost use Rattle.dsql_tx_follows.specs.Moments.{just_begun};
-ghost use Rattle.dsql_outcome.specs.Headline.{IsPlayed, NotBegun, RanSo, seen};
-ghost use Rattle.dsql_outcome.specs.Lent.{lent};
-ghost use Rattle.dsql_outcome.specs.Playing.{HasHead, IsOver, LinesPlayed, ReadsLater, RunsOn, ScriptPlayed, WritesLines, WritesWell};
-ghost use Rattle.dsql_outcome.specs.Runs.{Between, Writes, is_write_fault, ran_out};
-ghost use Rattle.dsql_tx_playing.specs.Playing.{IsAt, IsReady};
-ghost use Rattle.dsql_tx_script_source.specs.Reading.{IsHeadRead};
-ghost use Rattle.dsql_script_source.specs.Stops.{is_read_fault, no_read_failed};
-ghost use Rattle.dsql_steps.specs.Groups.{most_events};
-ghost use Rattle.dsql_stream.specs.Faults.{CountsFaults};
-ghost use Rattle.dsql_tx_wires.specs.WiresFit.{PlansFit};
+ghost use Rattle.dsql_run_outcome.specs.driver.declared.caps.Caps.{Caps};
+ghost use Rattle.dsql_run_outcome.specs.driver.Streams.{HasRisen, has_risen};
+ghost use Rattle.dsql_run_outcome.specs.history.declared.event.Event.TheVariants.{Run};
+ghost use Rattle.dsql_run_outcome.specs.follows.declared.line.Line.{Line};
+ghost use Rattle.dsql_run_outcome.specs.follows.Moments.{just_begun};
+ghost use Rattle.dsql_run_outcome.specs.Headline.{IsPlayed, NotBegun, RanSo, seen};
+ghost use Rattle.dsql_run_outcome.specs.Lent.{lent};
+ghost use Rattle.dsql_run_outcome.specs.Playing.{HasHead, IsOver, LinesPlayed, ReadsLater, RunsOn, ScriptPlayed, WritesLines, WritesWell};
+ghost use Rattle.dsql_run_outcome.specs.Runs.{Between, Writes, is_write_fault, ran_out};
+ghost use Rattle.dsql_run_outcome.specs.run_player.Playing.{IsAt, IsReady};
+ghost use Rattle.dsql_run_outcome.specs.script_source.Reading.{IsHeadRead};
+ghost use Rattle.dsql_run_outcome.specs.script_source.Stops.{is_read_fault, no_read_failed};
+ghost use Rattle.dsql_run_outcome.specs.laws_steps.Groups.{most_events};
+ghost use Rattle.dsql_run_outcome.specs.stream.Faults.{CountsFaults};
+ghost use Rattle.dsql_run_outcome.specs.run_wires.WiresFit.{PlansFit};
 
 use crate::carrying::play_line;
 use crate::closing::close;
 use crate::finishing::finish;
 use crate::showing::{show_history, trim_shown};
-use dsql_driver::{Fleet, Sink, Source};
-use dsql_player::Player;
-use dsql_tx_reader::ScriptLine;
-use dsql_tx_script_source::{ScriptReader, Stop, line_as_played, read_head};
-use dsql_tx_show::Shown;
-use dsql_tx_wires::Wires;
+use dsql_run_outcome::{
+    Fleet, Player, ScriptLine, ScriptReader, Shown, Sink, Source, Stop, Wires, line_as_played,
+    read_head,
+};
 use std::alloc::Global;
 
-/// Plays a script's lines one after another from the first one behind its head on, each as soon as it is read,
-/// and writes what happened. What was written is trimmed, unless all of the history is kept.
+/// Plays the lines of a script in order, beginning with the first line after its head, each as soon as it is
+/// read, and writes what happened. Trims what was written, unless the whole history is kept.
 fn play_lines<S: Source, K: Sink, F: Fleet>(
     alloc: Global,
     keeps: bool,
@@ -50,7 +48,11 @@ fn play_lines<S: Source, K: Sink, F: Fleet>(
     requires whole { player.old.trimmed ≡ 0 }
     requires first { IsHeadRead first script.old.reader }
     ensures between { ran_out result ≡ true → Between F.Wire.told (is_some (F.told fleet.new)) player.new wires.new }
-    ensures lines { (before : Option (List ℕ)) (asked : Option Caps) (skipped : List Line) → HasHead first before script.old (S.left input.old) asked skipped → LinesPlayed result before (S.left input.new) script.new.reader.lines asked (Run 1 (F.ability fleet.old)) player.new (K.written output.old) (K.written output.new) (lent F.Fleet F.Wire.told fleet.old fleet.new wires.new) }
+    ensures lines { (before : Option (List ℕ)) (asked : Option Caps) (skipped : List Line)
+        → HasHead first before script.old (S.left input.old) asked skipped
+        → LinesPlayed result before (S.left input.new) script.new.reader.lines asked
+        (Run 1 (F.ability fleet.old)) player.new (K.written output.old) (K.written output.new)
+        (lent F.Fleet F.Wire.told fleet.old fleet.new wires.new) }
     ensures writes { WritesLines result player.new.past (K.written output.old) shown.new (K.written output.new) }
     ensures trimmed { player.new.trimmed ≤ shown.new }
     ensures kept { keeps ≡ true → player.new.trimmed ≡ 0 }
@@ -78,8 +80,8 @@ fn play_lines<S: Source, K: Sink, F: Fleet>(
     Ok(())
 }
 
-/// Plays a script from its first line behind its head on, and writes the report into the sink. What was written is trimmed,
-/// unless all of the history is kept.
+/// Plays a script from the first line after its head, and writes the report to the sink. Trims what was
+/// written, unless the whole history is kept.
 fn play_from<S: Source, K: Sink, F: Fleet>(
     alloc: Global,
     keeps: bool,
@@ -96,10 +98,16 @@ fn play_from<S: Source, K: Sink, F: Fleet>(
     requires whole { player.old.trimmed ≡ 0 }
     requires first { IsHeadRead first script.old.reader }
     ensures on { RunsOn F.Fleet fleet.old fleet.new player.old.past player.new.past }
-    ensures script { (before : Option (List ℕ)) (asked : Option Caps) (skipped : List Line) (failed : Bool) → HasHead first before script.old (S.left input.old) asked skipped → (first ≡ Err Stop.Read → failed ≡ true) → (HasRisen (S.faults input.old) (S.faults input.new) → failed ≡ true) → ScriptPlayed result before (S.left input.new) script.new.reader.lines asked failed (Run 1 (F.ability fleet.old)) player.new.past (K.written output.old) (K.written output.new) (F.told fleet.old) (F.told fleet.new) }
+    ensures script { (before : Option (List ℕ)) (asked : Option Caps) (skipped : List Line) (failed : Bool)
+        → HasHead first before script.old (S.left input.old) asked skipped
+        → (first ≡ Err Stop.Read → failed ≡ true) → (HasRisen (S.faults input.old) (S.faults input.new)
+        → failed ≡ true) → ScriptPlayed result before (S.left input.new) script.new.reader.lines asked failed
+        (Run 1 (F.ability fleet.old)) player.new.past (K.written output.old) (K.written output.new)
+        (F.told fleet.old) (F.told fleet.new) }
     ensures over { ran_out result ≡ true → IsOver player.new.past }
     ensures kept { keeps ≡ true → player.new.trimmed ≡ 0 }
-    ensures writes { Writes result (has_risen (K.faults output.old) (K.faults output.new)) (K.written output.old) player.new.past (K.written output.new) }
+    ensures writes { Writes result (has_risen (K.faults output.old) (K.faults output.new))
+        (K.written output.old) player.new.past (K.written output.new) }
     ensures reads { ReadsLater first result (S.faults input.old) (S.faults input.new) }
     ensures read_well { no_read_failed result ≡ true → S.faults input.new ≡ S.faults input.old }
     ensures written_well { WritesWell result (K.faults output.old) (K.faults output.new) }
@@ -114,14 +122,15 @@ fn play_from<S: Source, K: Sink, F: Fleet>(
     finish(alloc, player, &mut shown, output, played, ended)
 }
 
-/// What a run keeps until it is over: what of its history wasn't trimmed, with the tables over it, and what was read of the script.
+/// What a run keeps until it is over: the part of its history that wasn't trimmed, the tables over it, and what
+/// was read of the script.
 #[derive(Drop)]
 pub(crate) struct Kept {
     pub player: Player,
     pub script: ScriptReader,
 }
 
-/// A run that was played: what stopped it, and what it kept, if it began.
+/// A run that was played: what stopped it, and what it kept if it began.
 #[derive(Drop)]
 pub(crate) struct Played {
     pub stopped: Result<(), Stop>,
@@ -129,7 +138,7 @@ pub(crate) struct Played {
 }
 
 impl Played {
-    /// A run that there was no memory to begin.
+    /// Returns a run that didn't begin for want of memory.
     fn not_begun() -> Played
         ensures { result ≡ record { stopped = Err Stop.Memory; kept = None } }
     {
@@ -140,8 +149,8 @@ impl Played {
     }
 }
 
-/// Plays a script as `play` does, and hands out what the run kept, which is long to give back. Where `keeps` is set that has
-/// the whole history, and else only what wasn't trimmed of it.
+/// Plays a script as `play` does, and returns what the run kept, because freeing it takes long. If `keeps` is
+/// set, this is the whole history; otherwise it is only the part that wasn't trimmed.
 pub(crate) fn play_keeping<S: Source, K: Sink, F: Fleet>(
     alloc: Global,
     keeps: bool,
@@ -185,14 +194,15 @@ pub(crate) fn play_keeping<S: Source, K: Sink, F: Fleet>(
     }
 }
 
-/// Plays a script from the source to its end, and writes its report into the sink. The run begins at the
-/// first line that is neither skipped nor one of the head, or at the script's end, with what the fleet can do then. It
-/// ends early at the first line that is refused, and where the source or the sink fails; its connections are shut and
-/// given back to the fleet even then.
+/// Plays a script from the source to its end, and writes its report to the sink. The run begins at the first
+/// line that is neither skipped nor part of the head, or at the script's end, with what the fleet can do at
+/// that moment. The run ends early at the first line that is refused, and when the source or the sink fails.
+/// Even then its connections are shut and given back to the fleet.
 ///
 /// # Errors
 ///
-/// What stopped the script, or the sink's fault, want of memory or too many events where these came later.
+/// Fails with what stopped the script. If the sink failed, memory was wanting, or the events became too many
+/// after that, fails with the later fault.
 pub fn play<S: Source, K: Sink, F: Fleet>(
     alloc: Global,
     input: &mut S,

@@ -1,22 +1,19 @@
-//! A script is played for its summary.
+//! Plays a script for its summary.
 ghost use Rattle.std.specs.Prelude.{◌≡◌, None, true, false, IfSome};
-ghost use Rattle.dsql_driver.specs.Streams.{HasRisen};
-ghost use Rattle.dsql_outcome.specs.Headline.{seen, seen_notes};
-ghost use Rattle.dsql_outcome.specs.Runs.{Finishes, IsLinesEnd, is_write_fault, no_write_failed};
-ghost use Rattle.dsql_outcome.specs.Summing.{SumsUpAndTells, WritesPiece};
-ghost use Rattle.dsql_summary.specs.Summary.{line_of};
-ghost use Rattle.dsql_tx_summary.specs.Summary.{summary_of};
+ghost use Rattle.dsql_run_outcome.specs.driver.Streams.{HasRisen};
+ghost use Rattle.dsql_run_outcome.specs.Headline.{seen, seen_notes};
+ghost use Rattle.dsql_run_outcome.specs.Runs.{Finishes, IsLinesEnd, is_write_fault, no_write_failed};
+ghost use Rattle.dsql_run_outcome.specs.Summing.{SumsUpAndTells, WritesPiece};
+ghost use Rattle.dsql_run_outcome.specs.script_show.Summary.{line_of, summary_of};
 
 use crate::playing::{Kept, Played, play_keeping};
-use dsql_driver::{Failed, Fleet, Sink, Source};
-use dsql_outcome::tell;
-use dsql_stream::write_whole;
-use dsql_tx_script_source::Stop;
-use dsql_tx_summary::{summary_line, summary_of};
+use dsql_run_outcome::{
+    Failed, Fleet, Sink, Source, Stop, summary_line, summary_of, tell, write_whole,
+};
 use std::alloc::Global;
 use std::mem;
 
-/// A sink that takes all and keeps nothing.
+/// A sink that accepts every byte and keeps nothing.
 #[derive(Drop)]
 struct Unkept;
 
@@ -30,8 +27,8 @@ impl Sink for Unkept {
     }
 }
 
-/// Plays a script without its report, and writes its summary where its lines came to an end. What stopped it is told, if
-/// anything did.
+/// Plays a script without its report, writes its summary if its lines came to an end, and returns a status. If
+/// something stopped the run, notes what it was.
 pub(crate) fn sum_up<S: Source, K: Sink, E: Sink, F: Fleet>(
     alloc: Global,
     input: &mut S,
@@ -49,12 +46,12 @@ pub(crate) fn sum_up<S: Source, K: Sink, E: Sink, F: Fleet>(
     let Played { stopped, kept } = play_keeping(alloc, true, input, &mut unkept, fleet);
     let told = write_summary(alloc, stopped, &kept, output);
 
-    // As with a report, all memory is given back at once as the process ends.
+    // The process frees all memory at once as it ends, as it does after a report.
     mem::forget(kept);
     tell(alloc, &told, notes)
 }
 
-/// Whether a script's lines came to an end.
+/// Is true if the lines of a script came to an end.
 fn lines_ended(stopped: &Result<(), Stop>) -> bool
     ensures over { result ≡ true → IsLinesEnd stopped.now }
     ensures cut { result ≡ false → IsLinesEnd stopped.now → ⊥ }
@@ -62,7 +59,7 @@ fn lines_ended(stopped: &Result<(), Stop>) -> bool
     !matches!(stopped, Err(Stop::Write | Stop::Memory | Stop::Full))
 }
 
-/// Writes the summary of a run whose script's lines came to an end.
+/// Writes the summary of a run if the lines of its script came to an end.
 fn write_summary<K: Sink>(
     alloc: Global,
     stopped: Result<(), Stop>,
@@ -71,10 +68,13 @@ fn write_summary<K: Sink>(
 ) -> Result<(), Stop>
     requires whole { IfSome kept.now (λ kept. kept.player.trimmed ≡ 0) }
     ensures finishes { Finishes stopped result }
-    ensures written { IfSome kept.now (λ kept. WritesPiece result (line_of (summary_of kept.script.reader.lines kept.player.past)) (K.written output.old) (K.written output.new)) }
+    ensures written { IfSome kept.now (λ kept. WritesPiece result
+        (line_of (summary_of kept.script.reader.lines kept.player.past)) (K.written output.old)
+        (K.written output.new)) }
     ensures none { kept.now ≡ None → output.new ≡ output.old }
     ensures stays { kept.now ≡ None → result ≡ stopped }
-    ensures caused { result ≡ Err Stop.Write → is_write_fault stopped ≡ false → HasRisen (K.faults output.old) (K.faults output.new) }
+    ensures caused { result ≡ Err Stop.Write → is_write_fault stopped ≡ false
+        → HasRisen (K.faults output.old) (K.faults output.new) }
     ensures faultless { no_write_failed result ≡ true → K.faults output.new ≡ K.faults output.old }
 {
     let Some(kept) = kept else {

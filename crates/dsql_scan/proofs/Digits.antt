@@ -1,4 +1,5 @@
--- Digits and their number, in the library's words for `parse` and for printed numbers.
+-- The definitions of digits and their number agree with the library's, which `parse` and printed numbers use.
+-- The number is shown to weigh digits as the library does.
 use Rattle.std.proofs.Common.{◌≡◌, ℕ, List, length, true, nat_lt, refl, rules}
 use Rattle.std.specs.Char.{is_ascii_digit}
 use Rattle.std.specs.List.{list_all}
@@ -14,7 +15,7 @@ weighs = record { empty = refl; more = λ c cs h. refl }
 tests : IsDigitsTest (λ ds. list_all is_ascii_digit ds ≡ true)
 tests = search rules
 
--- the digits and the number of the definitions are those of the library
+-- The digits and the number of the definitions are those of the library.
 pub numerals : IsNumeralModel (λ ds. list_all is_ascii_digit ds ≡ true) decimal_value
 numerals = numerals_by_weight (λ ds. list_all is_ascii_digit ds ≡ true) tests decimal_value weighs
 

@@ -14,7 +14,7 @@ use Rattle.dsql_scan.proofs.Digits.{numerals, only_digits, IsNumeral-digits, dec
 pub plain_number-digits : (text : List ℕ) → are_digits text ≡ true → plain_number text ≡ Some (decimal_value text)
 plain_number-digits text h = rw h refl
 
--- a number above the greatest isn't held
+-- An unsigned width doesn't hold a number above its greatest.
 above_unsigned : (greatest n : ℕ) → greatest < n → unsigned_cell greatest n ≡ Err faults.OutOfRange
 above_unsigned greatest n h = grind (arith, nat_tests)
 

@@ -1,4 +1,4 @@
--- Which texts spell numbers, and that decimal texts do.
+-- Which texts spell numbers, by cases on the text's sign, and that decimal texts do.
 use Rattle.std.proofs.Common.{◌≡◌, ℕ, ◌+◌, ◌-◌, ◌*◌, ◌^◌, ◌<◌, ℤ, pos, negsuc, neg_ℤ, suc, Bool, true, false, ◌||◌, leb, List, [], ◌∷◌, ◌++◌, length, get_or, drop, eqb, FitsSigned, w64, Option, Some, None, refl, sym, ap, ◌∙◌, subst, inl, inr, arith, add-one}
 use Rattle.std.proofs.Math.Nat.{pow-suc, mul_assoc}
 use Rattle.std.specs.Char.{IsAsciiDigit, is_ascii_digit}
@@ -46,7 +46,7 @@ are_digits-Spells text n s =
     let all : list_all is_ascii_digit text ≡ true = list_all-from_AllPass is_ascii_digit text (λ k d inside. IsAsciiDigit-is_ascii_digit (get_or text k d) (s.digits k d inside)) in
     rw (lt-ltb 0 (length text) s.some) all
 
--- what is read is spelled
+-- A text that is read as a number spells it.
 plain-spelled : (text : List ℕ) (n : ℕ) → plain_number text ≡ Some n → Spells text n
 plain-spelled text n h =
     elim (cases_Bool (are_digits text)) [
@@ -67,7 +67,7 @@ from_map : {A B : Type 0} (f : A → B) (o : Option A) (y : B) → option_map f 
 from_map f None y h = cc
 from_map f (Some x) y h = (x, refl, cc)
 
--- a text that begins with this byte is the byte and what stands behind it
+-- A text that begins with this byte is the byte followed by the rest of the text.
 first_and_rest : (text : List ℕ) (first : ℕ) → 0 < first → get_or text 0 0 ≡ first → text ≡ first ∷ drop 1 text
 first_and_rest [] first some h = absurd (omega arith)
 first_and_rest (c ∷ rest) first some h = ap (λ x. x ∷ rest) h
@@ -108,7 +108,7 @@ signed-spelled text z h =
           ]
     ]
 
--- digits don't begin with a sign
+-- A text of digits doesn't begin with a sign.
 no_sign : (text : List ℕ) (n sign : ℕ) → Spells text n → sign < 48 → eqb (get_or text 0 0) sign ≡ false
 no_sign text n sign s low =
     let first = s.digits 0 0 s.some in

@@ -1,4 +1,4 @@
--- What holds of the table, column by column.
+-- The laws of the table, proved column by column.
 use Rattle.std.proofs.Common.{◌≡◌, ◌+◌, ℕ, ℤ, pos, negsuc, suc, zero, Bool, true, false, ◌&&◌, cond, if◌then◌else◌, nat_le, ◌==◌, List, [], ◌∷◌, length, map, Option, Some, None, Ok, Err, refl, ap, ◌∙◌, arith, add-zero, zero-add}
 use Rattle.std.specs.Str.{is_utf8}
 use Rattle.std.proofs.lemmas.Bool.{cond-true, cond-false, eq-eqb, ne_eqb}
@@ -25,7 +25,7 @@ only_texts_spell bytes bad = record { plain = plain_number-not bytes bad; signed
 nil-null : (dest : Dest) → takes_null dest ≡ true → scan_of Nil dest ≡ Ok cells.Null
 nil-null dest h = ap (λ t. cond (t && true) (Ok cells.Null) (column_of Nil dest)) h
 
--- a Null destination has its inner one's column
+-- For a value that isn't nil, a Null destination has its inner destination's answer.
 other-inner : (value : Value) (dest : Dest) → is_nil value ≡ false → scan_of value dest ≡ scan_of value (inner_of dest)
 other-inner value dests.NullText h = rw h refl
 other-inner value dests.NullI64 h = rw h refl
@@ -39,7 +39,7 @@ other-inner value _ h = refl
 pub nulls_take_nil : NullsTakeNil
 nulls_take_nil = record { nil = nil-null; other = other-inner }
 
--- an answer that isn't want of memory
+-- Is true if the answer isn't want of memory.
 abbrev is_told : Scan → Bool
 is_told (Err faults.Memory) = false
 is_told _ = true
@@ -117,7 +117,6 @@ any-told (Text text) = refl
 any-told (Time t) = refl
 
 column-told : (value : Value) (dest : Dest) → is_told (column_of value dest) ≡ true
-column-told value dests.Text = text-told value
 column-told value dests.Bytes = bytes-told value
 column-told value dests.Bool = truth-told value
 column-told value dests.I8 = signed-told dests.I8 127 value
@@ -130,13 +129,13 @@ column-told value dests.U32 = unsigned-told dests.U32 4294967295 value
 column-told value dests.U64 = unsigned-told dests.U64 18446744073709551615 value
 column-told value dests.Time = time-told value
 column-told value dests.Any = any-told value
-column-told value dests.NullText = text-told value
 column-told value dests.NullI64 = signed-told dests.I64 9223372036854775807 value
 column-told value dests.NullI32 = signed-told dests.I32 2147483647 value
 column-told value dests.NullI16 = signed-told dests.I16 32767 value
 column-told value dests.NullU8 = unsigned-told dests.U8 255 value
 column-told value dests.NullBool = truth-told value
 column-told value dests.NullTime = time-told value
+column-told value _ = text-told value
 
 pub memory_is_no_answer : MemoryIsNoAnswer
 memory_is_no_answer value dest is =

@@ -1,4 +1,5 @@
--- Bytes that are no text spell neither a number nor a truth.
+-- Bytes that are no text spell neither a number nor a truth. Digits and signs are ASCII, and each spelling of a
+-- truth is UTF-8.
 use Rattle.std.proofs.Common.{◌≡◌, ℕ, ◌<◌, suc, zero, true, false, ◌||◌, List, [], ◌∷◌, eqb, cond, Some, None, Ok, refl, sym, ap, subst, inl, inr, arith}
 use lib.Utf8.{encode}
 use Rattle.std.specs.List.{list_all}
@@ -30,7 +31,7 @@ are_digits-not bytes bad = false_from_ne_true (are_digits bytes) (λ is. bad (Is
 pub plain_number-not : (bytes : List ℕ) → ¬ (IsUtf8 bytes) → plain_number bytes ≡ None
 plain_number-not bytes bad = rw (are_digits-not bytes bad) refl
 
--- a sign is ASCII
+-- A sign is ASCII.
 first_is_sign : (first : ℕ) → (eqb first 43 || eqb first 45) ≡ true → first < 128
 first_is_sign first h = grind (arith, nat_tests)
 

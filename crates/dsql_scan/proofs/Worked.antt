@@ -1,4 +1,4 @@
--- Each worked row is judged by computing.
+-- Each worked row holds by computation.
 use Rattle.std.proofs.Common.{refl}
 use lib.Utf8.{encode}
 use Rattle.std.specs.Str.{is_utf8, chars}

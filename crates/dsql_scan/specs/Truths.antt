@@ -12,16 +12,17 @@ false_spellings = codes "0" ∷ codes "f" ∷ codes "F" ∷ codes "FALSE" ∷ co
 abbrev pub is_among : List (List ℕ) → List ℕ → Bool
 is_among spellings text = list_any (bytes_eq text) spellings
 
--- the truth that a text spells
+-- Returns the truth that a text spells.
 abbrev pub spelled_truth : List ℕ → Option Bool
-spelled_truth text = if is_among true_spellings text then Some true else (if is_among false_spellings text then Some false else None)
+spelled_truth text =
+    if is_among true_spellings text then Some true else (if is_among false_spellings text then Some false else None)
 
--- the truth that a number stands for
+-- Returns the truth that a number stands for.
 abbrev pub number_truth : ℤ → Option Bool
 number_truth (pos n) = if n == 0 then Some false else (if n == 1 then Some true else None)
 number_truth (negsuc n) = None
 
--- how a truth is spelled as a text
+-- Returns the spelling of a truth as a text.
 abbrev pub truth_word : Bool → List ℕ
 truth_word true = codes "true"
 truth_word false = codes "false"

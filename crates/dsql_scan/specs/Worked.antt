@@ -22,7 +22,8 @@ pub record WorkedScans : Type 0 where
   pub one_past_i64_in_u64 : scan_of (Text (codes "9223372036854775808")) dests.U64 ≡ Ok (cells.Uint 9223372036854775808)
   pub nil_as_bytes : scan_of Nil dests.Bytes ≡ Ok cells.Null
   pub thirty_digits : scan_of (Text (codes "999999999999999999999999999999")) dests.I64 ≡ Err faults.OutOfRange
-  pub thirty_digits_and_a_letter : scan_of (Text (codes "99999999999999999999999999999x")) dests.I64 ≡ Err faults.NotANumber
+  pub thirty_digits_and_a_letter : scan_of (Text (codes "99999999999999999999999999999x")) dests.I64
+      ≡ Err faults.NotANumber
   pub leading_zeros : scan_of (Text (codes "-000000000000000000000000000128")) dests.I8 ≡ Ok (cells.Int (negsuc 127))
   pub one_below_i8 : scan_of (Text (codes "-129")) dests.I8 ≡ Err faults.OutOfRange
   pub no_digits : scan_of (Text (codes "+")) dests.I64 ≡ Err faults.NotANumber

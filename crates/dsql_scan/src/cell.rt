@@ -4,7 +4,7 @@ use dsql_value::{Bin, Faithful, Items, Txt};
 use std::alloc::AllocError;
 
 /// What a destination holds after a scan. `Int` is in a signed destination and `Uint` in an unsigned one,
-/// within its width; `Time` counts nanoseconds since 1970. `Null` is in a destination that took a nil.
+/// within its width. `Time` counts nanoseconds since 1970. `Null` is in a destination that took nil.
 #[derive(Debug, Drop)]
 pub enum Cell {
     Null,

@@ -14,8 +14,8 @@ use dsql_value::{Bin, Memory, Txt, Value};
 use itoa::Buffer;
 use std::alloc::Global;
 
-/// What a driver's value becomes in a destination, or why it doesn't, by this table; `specs/Table.antt` has it
-/// as the definition `scan_of`. After Go's `Rows.Scan`.
+/// Returns what a driver's value becomes in a destination, or why it is refused, by this table. In specs/ the
+/// definition `scan_of` is the table. After Go's `Rows.Scan`.
 ///
 /// | from  | text            | bytes       | bool         | signed      | unsigned    | time        | any    |
 /// |-------|-----------------|-------------|--------------|-------------|-------------|-------------|--------|
@@ -26,17 +26,17 @@ use std::alloc::Global;
 /// | Bytes | itself          | itself      | as its text  | as its text | as its text | Unsupported | itself |
 /// | Time  | Unsupported     | Unsupported | NotABool     | NotANumber  | NotANumber  | itself      | itself |
 ///
-/// - True is spelled `1 t T TRUE true True`, and false `0 f F FALSE false False`. Any other text, and any number
-///   but 0 and 1, is `NotABool`.
-/// - A number is spelled by ASCII digits, one or more, after a `+`, a `-` or no sign for a signed destination
-///   and without a sign for an unsigned one. Any other text is `NotANumber`, and so is a number below zero for an
-///   unsigned destination. A number that the width doesn't hold is `OutOfRange`, however long its text is.
-/// - Bytes that aren't UTF-8 are `NotUtf8` for a text, and spell neither a number nor a truth.
-/// - A Null destination takes nil as null, and anything else as the destination inside it does, whose name the
-///   fault has.
+/// - True is spelled `1 t T TRUE true True`, and false `0 f F FALSE false False`.
+/// - For a bool, any other text is `NotABool`, and so is any number except 0 and 1.
+/// - For a signed destination, a number is spelled by one ASCII digit or more after a `+`, a `-` or no sign.
+/// - For an unsigned destination, a number is spelled by one ASCII digit or more without a sign.
+/// - Any other text is `NotANumber`, and so is a number below zero for an unsigned destination.
+/// - A number that the width doesn't hold is `OutOfRange`, however long its text is.
+/// - Bytes that aren't UTF-8 are `NotUtf8` for a text. They spell neither a number nor a truth.
+/// - A Null destination takes nil as null.
+/// - It takes anything else as the destination inside it does, and a fault names that inner destination.
 ///
-/// It takes memory for a cell with a text or bytes in it and for no other, so only such a cell may be refused
-/// as `Memory`.
+/// Only a cell that has a text or bytes in it takes memory, so only such a cell may be refused as `Memory`.
 pub fn scan(alloc: Global, value: &Value, dest: Dest) -> Result<Cell, ScanFault>
     ensures answer { IsScan result (scan_of value.now dest) }
     ensures without_memory { may_take_memory dest ≡ false → result ≡ scan_of value.now dest }
@@ -82,7 +82,7 @@ fn is_nil(value: &Value) -> bool
     matches!(value, Value::Nil)
 }
 
-/// The decimal text of a number.
+/// Returns the decimal text of a number.
 fn decimal(alloc: Global, number: i64) -> Result<Txt, Memory>
     ensures { IfOk result (λ t. t ≡ signed_decimal number) }
 {
@@ -105,7 +105,7 @@ fn scan_text(alloc: Global, value: &Value) -> Result<Cell, ScanFault>
     }
 }
 
-/// Bytes as a text.
+/// Returns bytes as a cell with their text.
 fn decoded(alloc: Global, bytes: &[u8]) -> Result<Cell, ScanFault>
     ensures { IsScan result (decoded bytes.now) }
 {
@@ -115,7 +115,7 @@ fn decoded(alloc: Global, bytes: &[u8]) -> Result<Cell, ScanFault>
     }
 }
 
-/// A text as a cell, if there was memory for it.
+/// Returns a text as a cell, or fails with `Memory` if there was no memory for the text.
 fn text_cell(text: Result<Txt, Memory>) -> Result<Cell, ScanFault>
     ensures { MatchResult text (λ t. result ≡ Ok (Cell.Text t)) (λ _. result ≡ Err ScanFault.Memory) }
 {

@@ -1,8 +1,8 @@
 use dsql_value::{Faithful, Items};
 
-/// Where a value is scanned to: the type of a variable that Go's `Rows.Scan` is given a pointer to.
-/// `Any` is `*any`, which takes each value as it is. The Null destinations are those of `NullString`,
-/// `NullInt64` and their like; they take a nil too.
+/// A destination of a scan: the type of a variable whose pointer Go's `Rows.Scan` is given. `Any` is `*any`,
+/// which takes each value as it is. The Null destinations are those of `NullString`, `NullInt64` and their
+/// like. They also take nil.
 #[derive(Clone, Copy, Debug)]
 pub enum Dest {
     Text,
@@ -31,7 +31,7 @@ impl Faithful for Dest {
     ghost same = { λ _ _ is. is };
 }
 
-/// The kinds of a driver's values.
+/// The kind of a driver's value.
 #[derive(Clone, Copy, Debug)]
 pub enum Kind {
     Nil,

@@ -1,5 +1,5 @@
-//! Scanning of a driver's values into destinations, as `Rows.Scan` and `Row.Scan` of Go's package
-//! `database/sql` do, and its types `NullString`, `NullInt64` and the like.
+//! Scans a driver's values into destinations, as `Rows.Scan` and `Row.Scan` of Go's package `database/sql` do.
+//! Covers that package's types `NullString`, `NullInt64` and the like.
 #![tactic(auto)]
 
 mod cell;

@@ -7,7 +7,7 @@ ghost use Rattle.dsql_scan.specs.Table.{signed_cell, signed_cell_of, unsigned_ce
 use crate::cell::Cell;
 use crate::fault::ScanFault;
 
-/// Whether a text is one ASCII digit or more, and nothing else.
+/// Returns true if a text is one ASCII digit or more, and nothing else.
 fn are_digits(text: &[u8]) -> bool
     ensures { result ≡ are_digits text.now }
 {
@@ -20,7 +20,7 @@ fn has_only_digits(text: &[u8]) -> bool
     text.iter().all(|byte| byte.is_ascii_digit())
 }
 
-/// What stands behind a text's sign, or the whole text where it has none.
+/// Returns what follows a text's sign, or the whole text if it has none.
 fn without_sign(text: &[u8]) -> &[u8]
     ensures { result.now ≡ without_sign text.now }
 {
@@ -30,7 +30,7 @@ fn without_sign(text: &[u8]) -> &[u8]
     }
 }
 
-/// A number as a cell of a signed width, whose greatest number is given.
+/// Returns a number as a cell of the signed width that has this greatest number.
 pub(crate) fn signed_cell(number: i64, greatest: u64) -> Result<Cell, ScanFault>
     ensures { result ≡ signed_cell greatest number }
 {
@@ -43,7 +43,7 @@ pub(crate) fn signed_cell(number: i64, greatest: u64) -> Result<Cell, ScanFault>
     }
 }
 
-/// A number as a cell of an unsigned width, whose greatest number is given.
+/// Returns a number as a cell of the unsigned width that has this greatest number.
 fn unsigned_cell(number: u64, greatest: u64) -> Result<Cell, ScanFault>
     ensures { result ≡ unsigned_cell greatest number }
 {
@@ -54,7 +54,7 @@ fn unsigned_cell(number: u64, greatest: u64) -> Result<Cell, ScanFault>
     }
 }
 
-/// A number that may be below zero as a cell of an unsigned width.
+/// Returns a number that may be below zero as a cell of an unsigned width.
 pub(crate) fn unsigned_cell_of_int(number: i64, greatest: u64) -> Result<Cell, ScanFault>
     ensures { result ≡ unsigned_cell_of_int greatest number }
 {
@@ -64,7 +64,8 @@ pub(crate) fn unsigned_cell_of_int(number: i64, greatest: u64) -> Result<Cell, S
     unsigned_cell(number as u64, greatest)
 }
 
-/// The number that a text spells, as a cell of a signed width: digits after a plus, a minus or no sign.
+/// Returns the number that a text spells, as a cell of a signed width. Its digits stand after a plus, a minus
+/// or no sign.
 pub(crate) fn signed_text(text: &str, greatest: u64) -> Result<Cell, ScanFault>
     requires { greatest < 2 ^ 63 }
     ensures { result ≡ signed_cell_of greatest (signed_number text.now) }
@@ -78,7 +79,7 @@ pub(crate) fn signed_text(text: &str, greatest: u64) -> Result<Cell, ScanFault>
     }
 }
 
-/// The number that bytes spell as a text, as a cell of a signed width.
+/// Returns the number that bytes spell as a text, as a cell of a signed width.
 pub(crate) fn signed_bytes(bytes: &[u8], greatest: u64) -> Result<Cell, ScanFault>
     requires { greatest < 2 ^ 63 }
     ensures { result ≡ signed_cell_of greatest (signed_number bytes.now) }
@@ -89,7 +90,7 @@ pub(crate) fn signed_bytes(bytes: &[u8], greatest: u64) -> Result<Cell, ScanFaul
     }
 }
 
-/// The number that a text spells, as a cell of an unsigned width: digits without a sign.
+/// Returns the number that a text spells, as a cell of an unsigned width. Its digits have no sign.
 pub(crate) fn unsigned_text(text: &str, greatest: u64) -> Result<Cell, ScanFault>
     ensures { result ≡ unsigned_cell_of greatest (plain_number text.now) }
 {
@@ -102,7 +103,7 @@ pub(crate) fn unsigned_text(text: &str, greatest: u64) -> Result<Cell, ScanFault
     }
 }
 
-/// The number that bytes spell as a text, as a cell of an unsigned width.
+/// Returns the number that bytes spell as a text, as a cell of an unsigned width.
 pub(crate) fn unsigned_bytes(bytes: &[u8], greatest: u64) -> Result<Cell, ScanFault>
     ensures { result ≡ unsigned_cell_of greatest (plain_number bytes.now) }
 {

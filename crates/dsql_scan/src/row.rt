@@ -8,9 +8,9 @@ use crate::fault::{RowFault, ScanFault};
 use dsql_value::{Items, Value};
 use std::alloc::Global;
 
-/// What the values of a row become in as many destinations, each by the scan table. Where there are more or
-/// fewer destinations no value is looked at, and otherwise the first value that `scan` refuses is told.
-/// After Go's `Rows.Scan`.
+/// Returns what the values of a row become in as many destinations, each by the scan table. If there are more
+/// or fewer destinations, it reads no value and fails with `DestCount`. Otherwise it fails with the fault of
+/// the first value that `scan` refuses. After Go's `Rows.Scan`.
 pub fn scan_row(alloc: Global, values: &[Value], dests: &[Dest]) -> Result<Cells, RowFault>
     ensures answer { IsRow result (row_of values.now dests.now) }
     ensures dest_count { length values.now ≢ length dests.now
@@ -26,7 +26,7 @@ pub fn scan_row(alloc: Global, values: &[Value], dests: &[Dest]) -> Result<Cells
     scan_columns(alloc, values, dests)
 }
 
-/// What the values become in the destinations at their places, or else the first fault.
+/// Returns what the values become in the destinations at their places, or the first fault.
 fn scan_columns(alloc: Global, values: &[Value], dests: &[Dest]) -> Result<Cells, RowFault>
     ensures answer { IsRow result (cells_of 0 (answers_of values.now dests.now)) }
     ensures fault_is_not_memory { (index : ℕ) → result ≢ Err (RowFault.At index ScanFault.Memory) }

@@ -1,7 +1,7 @@
 ghost use Rattle.std.specs.Prelude.{◌≡◌};
 ghost use Rattle.dsql_scan.specs.Truths.{number_truth, spelled_truth, truth_word};
 
-/// The truth that a text spells, by the spellings of Go's `strconv.ParseBool`.
+/// Returns the truth that a text spells, by the spellings of Go's `strconv.ParseBool`.
 pub(crate) fn truth_in_text(text: &str) -> Option<bool>
     ensures { result ≡ spelled_truth text.now }
 {
@@ -12,7 +12,7 @@ pub(crate) fn truth_in_text(text: &str) -> Option<bool>
     }
 }
 
-/// The truth that bytes spell as a text.
+/// Returns the truth that bytes spell as a text.
 pub(crate) fn truth_in_bytes(bytes: &[u8]) -> Option<bool>
     ensures { result ≡ spelled_truth bytes.now }
 {
@@ -22,7 +22,7 @@ pub(crate) fn truth_in_bytes(bytes: &[u8]) -> Option<bool>
     }
 }
 
-/// The truth that a number stands for.
+/// Returns the truth that a number stands for.
 pub(crate) fn number_truth(number: i64) -> Option<bool>
     ensures { result ≡ number_truth number }
 {
@@ -33,7 +33,7 @@ pub(crate) fn number_truth(number: i64) -> Option<bool>
     }
 }
 
-/// How a truth is spelled.
+/// Returns the spelling of a truth.
 pub(crate) fn truth_word(truth: bool) -> &'static str
     ensures { result.now ≡ truth_word truth }
 {

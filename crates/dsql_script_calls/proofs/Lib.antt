@@ -5,6 +5,7 @@ pub mod ScriptClients
 pub mod ScriptLimits
 pub mod ScriptMoments
 pub mod ScriptOrdinals
-pub mod ScriptCalls
 pub mod LoneTexts
 pub mod ScriptTexts
+pub mod FirstWords
+pub mod Begins

@@ -1,4 +1,4 @@
--- Words of a line, which a program has behind references.
+-- Proves facts about the words of a line, which a program has by reference. The argument compares bytes.
 use Rattle.std.proofs.Common.{◌≡◌, ◌≢◌, ℕ, List, [], ◌∷◌, Bool, false, ◌||◌, ◌&&◌, map, refl, ap, inl, inr, Bor}
 use Rattle.std.specs.Cmp.Lexicographic.{pointwise}
 use Rattle.std.specs.List.{list_any}

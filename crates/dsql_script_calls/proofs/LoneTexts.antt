@@ -1,4 +1,5 @@
--- An array that holds one text alone is read as just that, where the text stands there as it is.
+-- Proves that an array that holds one text alone is read as that text, if the text stands in it without
+-- escapes. The argument goes by the tokens of the array.
 use Rattle.std.proofs.Common.{◌≡◌, ℕ, List, [], ◌∷◌, ◌++◌, true, Option, Some, refl, ap, sym, ◌∙◌}
 use Rattle.std.specs.Prelude.{option_and_then}
 use Rattle.std.specs.List.{list_all}
@@ -13,7 +14,7 @@ use Rattle.json.proofs.Printed.Tokens.{tokens-print}
 use Rattle.serde_json.specs.Data.{Data, array, string, item, no_items}
 use Rattle.serde_json.specs.Read.{read, of_json, max_depth}
 
--- the tokens of such an array
+-- Returns the tokens of an array that holds this text alone.
 abbrev lone : List ℕ → List token.Token
 lone text = token.begin_array ∷ token.string text ∷ token.end_array ∷ []
 
@@ -31,7 +32,7 @@ lone_printed text stays = ap (λ t. 91 ∷ 34 ∷ ((t ++ 34 ∷ []) ++ 93 ∷ []
 lone_tokens : (text : List ℕ) → list_all is_plain text ≡ true → tokens (91 ∷ 34 ∷ ((text ++ 34 ∷ []) ++ 93 ∷ [])) ≡ lone text
 lone_tokens text plain = ap tokens (sym (lone_printed text (plain_stays text plain))) ∙ tokens-print (lone text) (lone_printable text)
 
--- what tokens are read as
+-- Returns the data that these tokens are read as, if any.
 abbrev read_of : List token.Token → Option Data
 read_of ts = option_and_then of_json (option_and_then (λ p. if_last p.0 p.1) (value max_depth ts))
 

@@ -1,11 +1,12 @@
--- Objects of one member, of two, and of any other number.
+-- Proves how objects with one member, with two, and with any other number are read. The argument counts their
+-- members.
 use Rattle.std.proofs.Common.{◌≡◌, ◌≢◌, ◌-◌, List, [], ◌∷◌, length, Some, None, option_map, arith, refl}
 use Rattle.std.specs.Prelude.{slice_get, string_bytes, String}
 use Rattle.std.specs.declared.alloc.Global.{Global}
 use Rattle.serde_json.specs.Data.{member, no_members}
 use Rattle.serde_json.specs.View.{view, members_view}
 use Rattle.serde_json.specs.declared.value.Value.{Value}
-use Rattle.dsql_forms.specs.ScriptArgs.{argument, arg_of_members, named_of_members}
+use Rattle.dsql_script_forms.specs.ScriptArgs.{argument, arg_of_members, named_of_members}
 
 abbrev pub Entry : Type 0
 Entry = String Global × Value

@@ -1,4 +1,5 @@
--- Where the array of a line begins, from where ` [` first stands in it.
+-- Proves where the array of a line begins. The argument goes by the first place at which ` [` stands in the
+-- line.
 use Rattle.std.proofs.Common.{◌≡◌, ℕ, zero, suc, ◌<◌, ◌≤◌, List, [], ◌∷◌, ◌++◌, true, false, length, take, drop, codes, Some, None, refl, ap, inl, inr, arith}
 use Rattle.std.specs.Str.Pattern.{LacksTextAt}
 use Rattle.std.proofs.lemmas.Bool.{cases_Bool}

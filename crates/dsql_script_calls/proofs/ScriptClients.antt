@@ -1,4 +1,5 @@
--- What the words of a line name, from what std says of them.
+-- Proves which client a word names, and which words are no token. The argument rests on what std says of
+-- `parse`.
 use Rattle.std.proofs.Common.{◌≡◌, ◌≢◌, ℕ, ◌<◌, ◌≤◌, List, [], ◌∷◌, Bool, true, false, ◌&&◌, ◌||◌, not, cond, length, get_or, eqb, leb, Option, Some, None, Result, Ok, Err, refl, ap, sym, ◌∙◌, inl, inr, arith}
 use Rattle.std.specs.Str.{all_ascii_digits}
 use Rattle.std.specs.Str.Parse.{ParsesUnsigned, digits_value}
@@ -15,15 +16,15 @@ pub begins_not : (byte : ℕ) (word : List ℕ) → ((rest : List ℕ) → word 
 begins_not byte [] other = refl
 begins_not byte (first ∷ rest) other = rw (ne_eqb byte first (λ e. other rest (ap (λ b. b ∷ rest) (sym e)))) refl
 
--- a word that doesn't begin with `c` names no client
+-- A word that doesn't begin with `c` names no client.
 pub client_of_without : (word : List ℕ) → ((rest : List ℕ) → word ≢ 99 ∷ rest) → client_of word ≡ None
 client_of_without word other = rw (begins_not 99 word other) refl
 
--- a word that doesn't begin with `@` names no token
+-- A word that doesn't begin with `@` names no token.
 pub is_token_without : (word : List ℕ) → ((rest : List ℕ) → word ≢ 64 ∷ rest) → is_token word ≡ false
 is_token_without word other = rw (begins_not 64 word other) refl
 
--- digits that don't begin with `0` are a number
+-- Digits that don't begin with `0` are a number.
 pub number_from_digits : (digits : List ℕ) → get_or digits 0 0 ≢ 48 → all_ascii_digits digits ≡ true → 0 < length digits → is_number digits ≡ true
 number_from_digits digits zero all some =
     let other = begins_not 48 digits (λ rest e. zero (ap (λ ds. get_or ds 0 0) e)) in
@@ -34,7 +35,7 @@ digits_of_number digits is =
     let parts = and_parts _ _ (and_parts _ _ is).0 in
     (parts.0, ltb-true 0 (length digits) parts.1)
 
--- what is made of a number that was read
+-- Returns the client with this number, if there is one.
 abbrev pub client_up_to : ℕ → Option ℕ
 client_up_to n = cond (leb 1 n && leb n most_clients) (Some n) None
 
@@ -53,7 +54,8 @@ too_large n large = rw (lt-leb n most_clients large, and_right (leb 1 n) false r
 pub own : IsNumeralModel (λ ds. all_ascii_digits ds ≡ true) (digits_value 10)
 own = numerals_by_value _ tells_all_ascii_digits
 
--- what `parse` answers at the digits of a client, which don't begin with `0` or `+`
+-- If `parse` reads digits that don't begin with `0` or `+` as n, the digits name client n, unless there is no
+-- such client. If it refuses digits that don't begin with `+`, they name no client.
 pub client_number-ok : {E : Type 0} (digits : List ℕ) (r : Result ℕ E) (n : ℕ) → ParsesUnsigned 8 10 digits r → get_or digits 0 0 ≢ 48 → get_or digits 0 0 ≢ 43 → r ≡ Ok n → client_number digits ≡ client_up_to n
 client_number-ok digits r n h zero plus e =
     let read = OkIff-at_ok r _ _ n (parse_plain own 8 digits r h plus) e in

@@ -1,4 +1,4 @@
--- The number of a limit, from what std says of `parse`.
+-- Proves which number a limit's word is. The argument rests on what std says of `parse`.
 use Rattle.std.proofs.Common.{◌≡◌, ◌≢◌, ℕ, ◌<◌, ◌≤◌, ◌^◌, List, [], ◌∷◌, true, false, ◌&&◌, ◌||◌, cond, length, get_or, eqb, leb, ltb, codes, Option, Some, None, unwrap_or, Result, Ok, Err, refl, ap, inl, inr, arith, Bor}
 use Rattle.std.specs.Option.{MatchOption}
 use Rattle.std.specs.Prelude.{ℤ, pos, neg_ℤ}
@@ -13,7 +13,7 @@ use Rattle.std.proofs.lemmas.Str.Parse.{digit_at, digits_value-take-le, parse_si
 use Rattle.dsql_script_calls.specs.ScriptWords.{is_number, from_zero, below_zero, limit_of}
 use Rattle.dsql_script_calls.proofs.ScriptClients.{own, number_from_digits, digits_of_number, begins_not}
 
--- digits that don't begin with `0` aren't those of 0
+-- Digits that don't begin with `0` aren't the digits of 0.
 pub some_value : (digits : List ℕ) → all_ascii_digits digits ≡ true → 0 < length digits → get_or digits 0 0 ≢ 48 → 1 ≤ digits_value 10 digits
 some_value [] all some other = absurd (omega arith)
 some_value (first ∷ rest) all some other =
@@ -22,7 +22,8 @@ some_value (first ∷ rest) all some other =
     let least : digits_value 10 (first ∷ []) ≤ digits_value 10 (first ∷ rest) = digits_value-take-le 10 (first ∷ rest) 1 (omega arith) in
     omega (arith, digit, value, least, other)
 
--- what is made of a number that was read, and of one behind a minus
+-- Returns the limit with this number, or in `minus_up_to` with its negative. The result is `None` if that
+-- doesn't fit an i64, or if a negative is that of 0.
 abbrev number_up_to : ℕ → Option ℤ
 number_up_to n = cond (ltb n (2 ^ 63)) (Some (pos n)) None
 
@@ -35,7 +36,8 @@ numbered digits is = rw is refl
 minus_numbered : (digits : List ℕ) → is_number digits ≡ true → below_zero digits ≡ minus_up_to (digits_value 10 digits)
 minus_numbered digits is = rw is refl
 
--- what `parse` answers at digits that don't begin with `0`, and at a minus and such digits
+-- A word that doesn't begin with `+`, `-` or `0` is the number that `parse` reads it as. So is a minus with
+-- digits after it that don't begin with `0`.
 pub from_zero-read : {E : Type 0} (word : List ℕ) (r : Result ℤ E) → ParsesSigned w64 10 word r → get_or word 0 0 ≢ 43 → get_or word 0 0 ≢ 45
     → get_or word 0 0 ≢ 48 → result_ok r ≡ from_zero word
 from_zero-read {E = E} word (Ok z) h plus minus other =
@@ -68,7 +70,8 @@ below_zero-read {E = E} digits (Err e) h other =
       | inr not ↦ rw not refl
     ]
 
--- What `strip_prefix` leaves of a word behind a minus: none where the word has no minus.
+-- Holds if `strip_prefix` of a minus gives this for the word: what follows the minus, or `None` if the word has
+-- no minus.
 abbrev pub IsStripped : Bor (List ℕ) → Option (Bor (List ℕ)) → Type 0
 IsStripped word stripped = MatchOption stripped ((rest : List ℕ) → word.now ≢ 45 ∷ rest) (λ x. word.now ≡ 45 ∷ x.now)
 
@@ -76,7 +79,7 @@ without_minus : (word : List ℕ) → ((rest : List ℕ) → word ≢ 45 ∷ res
 without_minus [] none = λ e. absurd (omega arith)
 without_minus (first ∷ rest) none = λ e. none rest (ap (λ b. b ∷ rest) e)
 
--- digits that begin with `0` are no number, unless they are `0`
+-- Digits that begin with `0` are no number, unless they are `0`.
 pub padded : (digits : List ℕ) → get_or digits 0 0 ≡ 48 → digits ≢ codes "0" → is_number digits ≡ false
 padded [] zero other = absurd (omega arith)
 padded (first ∷ []) zero other = absurd (other (ap (λ b. b ∷ []) zero))
@@ -94,17 +97,17 @@ padded_below_zero [] zero = absurd (omega arith)
 padded_below_zero (first ∷ []) zero = rw zero refl
 padded_below_zero (first ∷ second ∷ rest) zero = rw (padded (first ∷ second ∷ rest) zero (λ e. absurd cc)) refl
 
--- a word with a needless 0 is no number
+-- A word with a needless `0` is no limit.
 pub limit_of-padded : (word : Bor (List ℕ)) (stripped : Option (Bor (List ℕ))) → IsStripped word stripped → get_or (unwrap_or stripped word).now 0 0 ≡ 48 → word.now ≢ codes "0" → limit_of word.now ≡ None
 limit_of-padded word None none zero other = rw (begins_not 45 word.now none) (padded_from_zero word.now zero other)
 limit_of-padded word (Some x) is zero other = rw is (padded_below_zero x.now zero)
 
--- and so is one with a plus
+-- A word with a plus is no limit.
 pub limit_of-plus : (word : List ℕ) → get_or word 0 0 ≡ 43 → limit_of word ≡ None
 limit_of-plus [] plus = absurd (omega arith)
 limit_of-plus (first ∷ rest) plus = rw plus refl
 
--- every other word but `0` is what `parse` reads it as
+-- A word is the limit that `parse` reads it as, unless it begins with a plus, or its digits begin with `0`.
 pub limit_of-read : {E : Type 0} (word : Bor (List ℕ)) (stripped : Option (Bor (List ℕ))) (r : Result ℤ E) → IsStripped word stripped → get_or (unwrap_or stripped word).now 0 0 ≢ 48
     → get_or word.now 0 0 ≢ 43 → ParsesSigned w64 10 word.now r → result_ok r ≡ limit_of word.now
 limit_of-read word None r none other plus h =

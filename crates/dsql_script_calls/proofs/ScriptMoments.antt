@@ -1,4 +1,4 @@
--- The moment that a word is, from what std says of `parse`.
+-- Proves which moment a word is. The argument rests on what std says of `parse`.
 use Rattle.std.proofs.Common.{◌≡◌, ◌≢◌, ℕ, ◌≤◌, ◌^◌, List, [], ◌∷◌, true, cond, get_or, ltb, codes, Option, Some, None, Result, Ok, Err, refl, ap, inl, inr, arith}
 use Rattle.std.specs.Result.{result_ok}
 use Rattle.std.specs.Str.Parse.{ParsesUnsigned, digits_value}
@@ -9,23 +9,23 @@ use Rattle.dsql_script_calls.specs.ScriptWords.{is_number, moment_of}
 use Rattle.dsql_script_calls.proofs.ScriptClients.{own, number_from_digits, digits_of_number}
 use Rattle.dsql_script_calls.proofs.ScriptLimits.{padded}
 
--- what is made of a number that was read
+-- Returns the moment with this number, if it fits a u64.
 abbrev moment_up_to : ℕ → Option ℕ
 moment_up_to n = cond (ltb n (2 ^ 64)) (Some n) None
 
 numbered : (word : List ℕ) → is_number word ≡ true → moment_of word ≡ moment_up_to (digits_value 10 word)
 numbered word is = rw is refl
 
--- a word with a needless 0 is no moment
+-- A word with a needless `0` is no moment.
 pub moment_of-padded : (word : List ℕ) → get_or word 0 0 ≡ 48 → word ≢ codes "0" → moment_of word ≡ None
 moment_of-padded word zero other = rw (padded word zero other) refl
 
--- and so is one with a plus
+-- A word with a plus is no moment.
 pub moment_of-plus : (word : List ℕ) → get_or word 0 0 ≡ 43 → moment_of word ≡ None
 moment_of-plus [] plus = absurd (omega arith)
 moment_of-plus (first ∷ rest) plus = rw plus refl
 
--- every other word but `0` is what `parse` reads it as
+-- A word that doesn't begin with `0` or `+` is the moment that `parse` reads it as.
 pub moment_of-read : {E : Type 0} (word : List ℕ) (r : Result ℕ E) → get_or word 0 0 ≢ 48 → get_or word 0 0 ≢ 43 → ParsesUnsigned 64 10 word r → result_ok r ≡ moment_of word
 moment_of-read {E = E} word (Ok n) other plus h =
     let r : Result ℕ E = Ok n in

@@ -1,4 +1,5 @@
--- The number of a connection or of one of its calls, from what std says of `parse`.
+-- Proves which number of a connection, or of one of its driver calls, a word is. The argument rests on what std
+-- says of `parse`.
 use Rattle.std.proofs.Common.{◌≡◌, ◌≢◌, ℕ, ◌≤◌, ◌^◌, List, true, false, ◌&&◌, cond, get_or, leb, ltb, Option, Some, None, Result, Ok, Err, refl, ap, inl, inr}
 use Rattle.std.specs.Result.{result_ok}
 use Rattle.std.specs.Str.Parse.{ParsesUnsigned, digits_value}
@@ -9,14 +10,14 @@ use Rattle.dsql_script_calls.specs.ScriptWords.{is_number, ordinal_of}
 use Rattle.dsql_script_calls.proofs.ScriptClients.{own, number_from_digits, digits_of_number}
 use Rattle.dsql_script_calls.proofs.ScriptLimits.{some_value}
 
--- what is made of a number that was read
+-- Returns the ordinal with this number, if it isn't 0 and fits a u32.
 abbrev ordinal_up_to : ℕ → Option ℕ
 ordinal_up_to n = cond (leb 1 n && ltb n (2 ^ 32)) (Some n) None
 
 numbered : (word : List ℕ) → is_number word ≡ true → ordinal_of word ≡ ordinal_up_to (digits_value 10 word)
 numbered word is = rw is refl
 
--- a word that doesn't begin with `0` or `+` is what `parse` reads it as
+-- A word that doesn't begin with `0` or `+` is the ordinal that `parse` reads it as.
 pub ordinal_of-read : {E : Type 0} (word : List ℕ) (r : Result ℕ E) → get_or word 0 0 ≢ 48 → get_or word 0 0 ≢ 43 → ParsesUnsigned 32 10 word r → result_ok r ≡ ordinal_of word
 ordinal_of-read {E = E} word (Ok n) other plus h =
     let r : Result ℕ E = Ok n in

@@ -1,4 +1,4 @@
--- Items that aren't one alone.
+-- Proves that items other than a single one hold no lone text. The argument counts the items.
 use Rattle.std.proofs.Common.{◌≡◌, ◌≢◌, List, [], ◌∷◌, length, None, refl}
 use Rattle.serde_json.specs.View.{items_view}
 use Rattle.serde_json.specs.declared.value.Value.{Value}

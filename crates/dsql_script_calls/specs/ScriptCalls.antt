@@ -1,43 +1,35 @@
--- What the words of a client's call ask for, with the array behind them, and why they are refused.
-use Rattle.std.specs.Prelude.{ℕ, ◌&&◌, ◌||◌, Bool, true, false, nat_lt, List, [], ◌∷◌, length, codes, if◌then◌else◌, Option, Some, None, Result, Ok, Err}
+-- Defines what the words of a client's call and the array after them ask for, and why they are refused.
+use Rattle.std.specs.Prelude.{ℕ, ◌||◌, Bool, nat_lt, List, [], ◌∷◌, length, codes, if◌then◌else◌, Option, Some, None, Ok, Err}
 use Rattle.std.specs.Str.{bytes_eq}
 use Rattle.serde_json.specs.Data.{Data}
 use Rattle.serde_json.specs.Read.{read}
-use Rattle.dsql_value.specs.declared.arg.Named.{Named}
-use Rattle.dsql_scan.specs.declared.dest.Dest.{Dest}
+use Rattle.dsql_history.specs.value.declared.arg.Named.{Named}
+use Rattle.dsql_history.specs.scan.declared.dest.Dest.{Dest}
+use Rattle.dsql_script_spelling.specs.Dests.{dests_of}
+use Rattle.dsql_script_forms.specs.declared.fault.What.TheVariants.{Args}
+use Rattle.dsql_script_forms.specs.declared.fault.LineFault.TheVariants.{NoSuchWord, BadJson, BadShape, UnknownLabel, TooMany}
+use Rattle.dsql_script_forms.specs.ScriptArgs.{call_of_data, most_args}
+use Rattle.dsql_script_calls.specs.ScriptWords.{is_database, label_of}
+use Rattle.dsql_script_calls.specs.CallTargets.{has_target, names_database, rows_of as label_alone}
+use Rattle.dsql_history.specs.declared.event.Target.{Target}
+use Rattle.dsql_history.specs.declared.event.Target.TheVariants.{Db, Label}
 use Rattle.dsql_history.specs.declared.event.Op.{Op}
 use Rattle.dsql_history.specs.declared.event.Op.TheVariants as op
-use Rattle.dsql_spelling.specs.Dests.{dests_of}
-use Rattle.dsql_forms.specs.declared.fault.What.TheVariants.{Args}
-use Rattle.dsql_forms.specs.declared.fault.LineFault.{LineFault}
-use Rattle.dsql_forms.specs.declared.fault.LineFault.TheVariants.{NoSuchWord, BadJson, BadShape, UnknownLabel, TooMany}
 use Rattle.dsql_script_calls.specs.declared.calls.Verb.{Verb}
 use Rattle.dsql_script_calls.specs.declared.calls.Verb.TheVariants.{Exec, Query, One}
-use Rattle.dsql_forms.specs.ScriptArgs.{call_of_data, most_args}
-use Rattle.dsql_script_calls.specs.ScriptWords.{is_database, label_of, is_target, is_token}
+use Rattle.dsql_script_calls.specs.ScriptBegins.{CallReading, call_on, begin_of}
 
--- a call or the fault for which it is refused
-abbrev pub CallReading : Type 0
-CallReading = Result Op LineFault
+-- Returns the target that a word names: the database, or the transaction with this label.
+abbrev pub target_of : List ℕ → Target
+target_of word = if is_database word then Db else Label word
 
--- what a call is made on, and a token or none
-abbrev pub has_target : List ℕ → List (List ℕ) → Bool
-has_target target [] = is_target target
-has_target target (token ∷ []) = is_target target && is_token token
-has_target target _ = false
+-- Returns the call that asks this of a text with arguments.
+abbrev pub op_of : Verb → Target → List ℕ → List Named → Op
+op_of Exec target text args = op.Exec target text args
+op_of (Query label) target text args = op.Query label target text args
+op_of (One dests) target text args = op.One target dests text args
 
--- it is the database, without a token
-abbrev pub names_database : List ℕ → List (List ℕ) → Bool
-names_database target [] = is_database target
-names_database target _ = false
-
--- what is asked of a text with arguments
-abbrev pub op_of : Verb → List ℕ → List Named → Op
-op_of Exec text args = op.Exec text args
-op_of (Query label) text args = op.Query label text args
-op_of (One dests) text args = op.One dests text args
-
--- how many destinations there are
+-- Returns the number of destinations.
 abbrev pub dest_count : Verb → ℕ
 dest_count (One dests) = length dests
 dest_count _ = 0
@@ -45,27 +37,29 @@ dest_count _ = 0
 abbrev pub has_too_many : Verb → List Named → Bool
 has_too_many verb args = nat_lt most_args (length args) || nat_lt most_args (dest_count verb)
 
--- A text is carried out on no label and none is pinged, since each stands for rows, and no line makes a token: so one that is
--- named beside the database or in its place isn't there.
-abbrev pub call_on : Bool → Op → CallReading
-call_on true op = Ok op
-call_on false op = Err UnknownLabel
+-- Returns the call, or `UnknownLabel` if it names a token, since no line makes a token.
+abbrev pub call_under : List (List ℕ) → Op → CallReading
+call_under [] op = Ok op
+call_under tokens op = Err UnknownLabel
 
--- a call whose array is of the right shape: how many arguments and destinations there are is looked at before what it names
-abbrev pub call_of_parts : Verb → Bool → Option (List ℕ × List Named) → CallReading
-call_of_parts verb names_db None = Err BadShape
-call_of_parts verb names_db (Some (text, args)) = if has_too_many verb args then Err (TooMany Args) else call_on names_db (op_of verb text args)
+-- Returns a call whose array has the right shape. The numbers of arguments and destinations are checked before
+-- the names.
+abbrev pub call_of_parts : Verb → Target → List (List ℕ) → Option (List ℕ × List Named) → CallReading
+call_of_parts verb target tokens None = Err BadShape
+call_of_parts verb target tokens (Some (text, args)) =
+    if has_too_many verb args then Err (TooMany Args) else call_under tokens (op_of verb target text args)
 
-abbrev pub call_of_array : Verb → Bool → Option Data → CallReading
-call_of_array verb names_db None = Err BadJson
-call_of_array verb names_db (Some d) = call_of_parts verb names_db (call_of_data d)
+abbrev pub call_of_array : Verb → Target → List (List ℕ) → Option Data → CallReading
+call_of_array verb target tokens None = Err BadJson
+call_of_array verb target tokens (Some d) = call_of_parts verb target tokens (call_of_data d)
 
--- a call by what it asks, what it is made on, the words after that, and its array
+-- Returns a call by its verb, its target, the words after that, and its array.
 abbrev pub statement_of : Verb → List ℕ → List (List ℕ) → Option (List ℕ) → CallReading
 statement_of verb target tokens None = Err BadShape
-statement_of verb target tokens (Some array) = if has_target target tokens then call_of_array verb (names_database target tokens) (read array) else Err BadShape
+statement_of verb target tokens (Some array) =
+    if has_target target tokens then call_of_array verb (target_of target) tokens (read array) else Err BadShape
 
--- an exec by the words after it and its array
+-- Returns an exec by the words after it and its array.
 abbrev pub exec_of : List (List ℕ) → Option (List ℕ) → CallReading
 exec_of [] array = Err BadShape
 exec_of (target ∷ tokens) array = statement_of Exec target tokens array
@@ -74,7 +68,7 @@ abbrev pub one_into : Option (List Dest) → List ℕ → List (List ℕ) → Op
 one_into None target tokens array = Err BadShape
 one_into (Some dests) target tokens array = statement_of (One dests) target tokens array
 
--- a row that is read into destinations, by the words after `one` and its array
+-- Returns a call that reads one row into destinations, by the words after `one` and its array.
 abbrev pub one_of : List (List ℕ) → Option (List ℕ) → CallReading
 one_of (target ∷ dests ∷ tokens) array = one_into (dests_of dests) target tokens array
 one_of _ array = Err BadShape
@@ -83,59 +77,65 @@ abbrev pub query_as : Option (List ℕ) → List ℕ → List (List ℕ) → Opt
 query_as None target tokens array = Err BadShape
 query_as (Some label) target tokens array = statement_of (Query label) target tokens array
 
--- a query by the words after it and its array: the label that it makes, and what it is made on
+-- Returns a query by its array and the words after it: the label that it makes, and its target.
 abbrev pub query_of : List (List ℕ) → Option (List ℕ) → CallReading
 query_of (label ∷ target ∷ tokens) array = query_as (label_of label) target tokens array
 query_of _ array = Err BadShape
 
--- a ping by what it is made on and the words after that, and no array
+-- Returns a ping by its target and the words after that. It has no array.
 abbrev pub ping_on : List ℕ → List (List ℕ) → Option (List ℕ) → CallReading
 ping_on target tokens (Some array) = Err BadShape
-ping_on target tokens None = if has_target target tokens then call_on (names_database target tokens) op.Ping else Err BadShape
+ping_on target tokens None =
+    if has_target target tokens then call_on (names_database target tokens) op.Ping else Err BadShape
 
--- a ping by the words after it
+-- Returns a ping by the words after it.
 abbrev pub ping_of : List (List ℕ) → Option (List ℕ) → CallReading
 ping_of [] array = Err BadShape
 ping_of (target ∷ tokens) array = ping_on target tokens array
 
--- the label of the rows that a call is made on, by the words after it: the label alone, and no array
-abbrev pub rows_of : List (List ℕ) → Option (List ℕ) → Option (List ℕ)
-rows_of words (Some array) = None
-rows_of (rows ∷ []) None = label_of rows
-rows_of _ None = None
-
--- a call on rows by what is asked of them
-abbrev pub rows_call : (List ℕ → Op) → Option (List ℕ) → CallReading
-rows_call asked None = Err BadShape
-rows_call asked (Some rows) = Ok (asked rows)
+-- Returns a call on rows or on a transaction by its label, or `BadShape` if there is no label.
+abbrev pub label_call : (List ℕ → Op) → Option (List ℕ) → CallReading
+label_call asked None = Err BadShape
+label_call asked (Some label) = Ok (asked label)
 
 abbrev pub scan_into : Option (List ℕ) → Option (List Dest) → CallReading
 scan_into None dests = Err BadShape
 scan_into (Some rows) None = Err BadShape
-scan_into (Some rows) (Some dests) = if nat_lt most_args (length dests) then Err (TooMany Args) else Ok (op.Scan rows dests)
+scan_into (Some rows) (Some dests) =
+    if nat_lt most_args (length dests) then Err (TooMany Args) else Ok (op.Scan rows dests)
 
--- a row that is scanned, by the words after `scan`: the label of the rows and the destinations, and no array
+-- Returns a scan of a row by the words after `scan`: the label of the rows and the destinations. It has no
+-- array.
 abbrev pub scan_of : List (List ℕ) → Option (List ℕ) → CallReading
 scan_of words (Some array) = Err BadShape
 scan_of (rows ∷ dests ∷ []) None = scan_into (label_of rows) (dests_of dests)
 scan_of _ None = Err BadShape
 
--- a call on rows by its first word and those after it
+-- Returns a call on rows by its first word and the words after it.
 abbrev pub rows_call_by : List ℕ → List (List ℕ) → Option (List ℕ) → CallReading
 rows_call_by verb words array =
-    if bytes_eq verb (codes "next") then rows_call op.Next (rows_of words array)
+    if bytes_eq verb (codes "next") then label_call op.Next (label_alone words array)
     else if bytes_eq verb (codes "scan") then scan_of words array
-    else if bytes_eq verb (codes "rowsclose") then rows_call op.RowsClose (rows_of words array)
-    else if bytes_eq verb (codes "err") then rows_call op.Err (rows_of words array)
+    else if bytes_eq verb (codes "rowsclose") then label_call op.RowsClose (label_alone words array)
+    else if bytes_eq verb (codes "err") then label_call op.Err (label_alone words array)
     else Err NoSuchWord
 
--- a call whose word stands alone, by the words after it: none, and no array
+-- Returns a call that begins or ends a transaction, or a call on rows, by its first word and the words after
+-- it.
+abbrev pub tx_call_by : List ℕ → List (List ℕ) → Option (List ℕ) → CallReading
+tx_call_by verb words array =
+    if bytes_eq verb (codes "begin") then begin_of words array
+    else if bytes_eq verb (codes "commit") then label_call op.Commit (label_alone words array)
+    else if bytes_eq verb (codes "rollback") then label_call op.Rollback (label_alone words array)
+    else rows_call_by verb words array
+
+-- Returns a call whose word stands alone: no words and no array may follow.
 abbrev pub lone_call : Op → List (List ℕ) → Option (List ℕ) → CallReading
 lone_call asked words (Some array) = Err BadShape
 lone_call asked [] None = Ok asked
 lone_call asked _ None = Err BadShape
 
--- a call by its first word and those after it
+-- Returns a call by its first word and the words after it.
 abbrev pub call_by : List ℕ → List (List ℕ) → Option (List ℕ) → CallReading
 call_by verb words array =
     if bytes_eq verb (codes "exec") then exec_of words array
@@ -144,9 +144,9 @@ call_by verb words array =
     else if bytes_eq verb (codes "ping") then ping_of words array
     else if bytes_eq verb (codes "dbclose") then lone_call op.DbClose words array
     else if bytes_eq verb (codes "stats") then lone_call op.Stats words array
-    else rows_call_by verb words array
+    else tx_call_by verb words array
 
--- a call by its words
+-- Returns a call by its words.
 abbrev pub call_of : List (List ℕ) → Option (List ℕ) → CallReading
 call_of [] array = Err NoSuchWord
 call_of (verb ∷ words) array = call_by verb words array

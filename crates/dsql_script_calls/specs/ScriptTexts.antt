@@ -1,16 +1,16 @@
--- The text of a line whose array holds nothing else.
+-- Defines the text of an array that holds nothing else.
 use Rattle.std.specs.Prelude.{ℕ, List, Option, Some, None, Result, Ok, Err}
 use Rattle.serde_json.specs.Data.{Data, array, Items, no_items, item}
 use Rattle.serde_json.specs.Find.{as_str}
 use Rattle.serde_json.specs.Read.{read}
-use Rattle.dsql_forms.specs.declared.fault.LineFault.{LineFault}
-use Rattle.dsql_forms.specs.declared.fault.LineFault.TheVariants.{BadJson, BadShape}
+use Rattle.dsql_script_forms.specs.declared.fault.LineFault.{LineFault}
+use Rattle.dsql_script_forms.specs.declared.fault.LineFault.TheVariants.{BadJson, BadShape}
 
--- a text or the fault for which the line is refused
+-- A text, or the fault for which the line is refused.
 abbrev pub TextReading : Type 0
 TextReading = Result (List ℕ) LineFault
 
--- the one item, where it is a text
+-- Returns the text of these items, if they are one text alone.
 abbrev pub only_item : Items → Option (List ℕ)
 only_item (item d no_items) = as_str d
 only_item _ = None
@@ -23,11 +23,11 @@ abbrev pub text_or_fault : Option (List ℕ) → TextReading
 text_or_fault None = Err BadShape
 text_or_fault (Some text) = Ok text
 
--- by what the array is read as, if it is read
+-- Returns the text of an array by the data that it is read as, or `BadJson` if it can't be read.
 abbrev pub text_of_data : Option Data → TextReading
 text_of_data None = Err BadJson
 text_of_data (Some d) = text_or_fault (only_text d)
 
--- the text of an array, as it is written
+-- Returns the text of an array as it is written.
 abbrev pub text_in : List ℕ → TextReading
 text_in written = text_of_data (read written)

@@ -1,15 +1,15 @@
-//! The text and the arguments of a call, out of its array.
+//! Reads the text and the arguments of a call from its array.
 ghost use Rattle.std.specs.Prelude.{None, option_map};
 ghost use Rattle.serde_json.specs.View.{view, items_view, members_view};
-ghost use Rattle.dsql_forms.specs.Outcomes.{IsShaped};
-ghost use Rattle.dsql_forms.specs.ScriptArgs.{argument, arg_of_members, arg_of_data, named_pair, named_of_members, named_of_data, args_of, call_of_data};
+ghost use Rattle.dsql_script_forms.specs.Outcomes.{IsShaped};
+ghost use Rattle.dsql_script_forms.specs.ScriptArgs.{argument, arg_of_members, arg_of_data, named_pair, named_of_members, named_of_data, args_of, call_of_data};
 
-use dsql_forms::{LineFault, number_arg, read_form};
-use dsql_value::{Arg, Args, Items, Named, Txt};
+use dsql_history::{Arg, Args, Items, Named, Txt};
+use dsql_script_forms::{LineFault, number_arg, read_form};
 use serde_json::{Map, Value};
 use std::alloc::Global;
 
-/// The text and the arguments of a call, out of its array.
+/// Reads the text and the arguments of a call from its array.
 pub fn read_statement(alloc: Global, array: &Value) -> Result<(Txt, Args), LineFault>
     ensures { IsShaped result (call_of_data (view array.now)) }
 {
@@ -26,7 +26,7 @@ pub fn read_statement(alloc: Global, array: &Value) -> Result<(Txt, Args), LineF
     }
 }
 
-/// Arguments in order.
+/// Reads arguments in their order.
 fn read_args(alloc: Global, items: &[Value]) -> Result<Args, LineFault>
     ensures { IsShaped result (args_of (items_view items.now)) }
 {
@@ -37,7 +37,7 @@ fn read_args(alloc: Global, items: &[Value]) -> Result<Args, LineFault>
     Ok(Items::new(args))
 }
 
-/// An argument with its name, if it has one.
+/// Reads an argument, with its name if it has one.
 fn read_argument(alloc: Global, value: &Value) -> Result<Named, LineFault>
     ensures { IsShaped result (named_of_data (view value.now)) }
 {
@@ -50,7 +50,7 @@ fn read_argument(alloc: Global, value: &Value) -> Result<Named, LineFault>
     }
 }
 
-/// An argument out of an object: with its name where there are two members.
+/// Reads an argument from an object. The argument has a name if the object has two members.
 fn read_members(alloc: Global, members: &Map<String, Value>) -> Result<Named, LineFault>
     ensures { IsShaped result (named_of_members (members_view members.now.entries)) }
 {
@@ -65,7 +65,7 @@ fn read_members(alloc: Global, members: &Map<String, Value>) -> Result<Named, Li
     }
 }
 
-/// An argument out of an object, without a name.
+/// Reads an argument without a name from an object.
 fn read_nameless(alloc: Global, members: &Map<String, Value>) -> Result<Named, LineFault>
     ensures { IsShaped result
         (option_map (argument None) (arg_of_members (members_view members.now.entries))) }
@@ -74,7 +74,7 @@ fn read_nameless(alloc: Global, members: &Map<String, Value>) -> Result<Named, L
     Ok(Named { name: None, arg })
 }
 
-/// An argument and its name, each under its key.
+/// Reads an argument and its name, each under its key.
 fn read_named(
     alloc: Global,
     first: &str,
@@ -95,7 +95,7 @@ fn read_named(
     Ok(Named { name, arg })
 }
 
-/// An argument without a name.
+/// Reads an argument without a name.
 pub fn read_arg(alloc: Global, value: &Value) -> Result<Arg, LineFault>
     ensures { IsShaped result (arg_of_data (view value.now)) }
 {
@@ -109,7 +109,7 @@ pub fn read_arg(alloc: Global, value: &Value) -> Result<Arg, LineFault>
     }
 }
 
-/// An argument under the name of its form, which is all that its object holds.
+/// Reads an argument from an object whose only member is named after the argument's form.
 fn read_object(alloc: Global, members: &Map<String, Value>) -> Result<Arg, LineFault>
     ensures { IsShaped result (arg_of_members (members_view members.now.entries)) }
 {

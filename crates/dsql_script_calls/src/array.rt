@@ -1,45 +1,20 @@
-ghost use Rattle.std.specs.Prelude.{◌≡◌, ◌≢◌, ℕ, Ok, Err, IfOk, IfErr, IfSome, Some};
-ghost use Rattle.std.specs.List.{list_all};
-ghost use Rattle.json.specs.Run.{is_plain};
+//! Reads the array of a line, and the text of an array that holds nothing else.
+ghost use Rattle.std.specs.Prelude.{◌≡◌, ◌≢◌, Ok, Err, IfOk, IfErr, Some, IfSome};
 ghost use Rattle.serde_json.specs.Data as value;
 ghost use Rattle.serde_json.specs.Find.{as_str};
 ghost use Rattle.serde_json.specs.Read.{read};
 ghost use Rattle.serde_json.specs.View.{view, items_view};
-ghost use Rattle.dsql_forms.specs.Outcomes.{IsShaped, IsReading};
+ghost use Rattle.dsql_script_forms.specs.Outcomes.{IsShaped, IsReading};
 ghost use Rattle.dsql_script_calls.specs.ScriptTexts.{only_item, only_text, text_in};
+ghost use Rattle.std.specs.List.{list_all};
+ghost use Rattle.json.specs.Run.{is_plain};
 
-use dsql_forms::LineFault;
-use dsql_value::Txt;
+use dsql_history::Txt;
+use dsql_script_forms::LineFault;
 use serde_json::Value;
 use std::alloc::Global;
 
-/// The text of an array that holds one text alone, where it stands there as it is.
-pub fn lone_text(array: &str) -> Option<&str>
-    ensures { IfSome result (λ text. read array.now ≡ Some (value.array (value.item (value.string text.now) value.no_items))) }
-{
-    let inside = array.strip_prefix('[')?.strip_suffix(']')?;
-    let text = inside.strip_prefix('"')?.strip_suffix('"')?;
-    if is_plain(text.as_bytes()) {
-        Some(text)
-    } else {
-        None
-    }
-}
-
-/// Whether all bytes stand in a string of JSON as they are.
-fn is_plain(bytes: &[u8]) -> bool
-    ensures { result ≡ list_all is_plain bytes.now }
-{
-    bytes.iter().all(|byte| is_plain_byte(*byte))
-}
-
-fn is_plain_byte(byte: u8) -> bool
-    ensures { result ≡ is_plain byte }
-{
-    byte >= b' ' && byte != b'"' && byte != b'\\'
-}
-
-/// The value of a line's array.
+/// Reads the array of a line. Fails with `BadJson` if it isn't JSON.
 pub fn read_array(alloc: Global, array: &str) -> Result<Value, LineFault>
     ensures ok { IfOk result (λ v. read array.now ≡ Some (view v)) }
     ensures err { IfErr result (λ f. f ≢ LineFault.Memory
@@ -52,7 +27,7 @@ pub fn read_array(alloc: Global, array: &str) -> Result<Value, LineFault>
     }
 }
 
-/// The text that an array holds alone.
+/// Reads the text of an array that holds nothing else.
 pub fn read_text(alloc: Global, array: &str) -> Result<Txt, LineFault>
     ensures { IsReading result (text_in array.now) }
 {
@@ -60,7 +35,7 @@ pub fn read_text(alloc: Global, array: &str) -> Result<Txt, LineFault>
     read_only_text(&value)
 }
 
-/// The text that a value is an array of.
+/// Reads the text of a value that is an array of this text alone.
 fn read_only_text(array: &Value) -> Result<Txt, LineFault>
     ensures { IsShaped result (only_text (view array.now)) }
 {
@@ -70,7 +45,7 @@ fn read_only_text(array: &Value) -> Result<Txt, LineFault>
     read_only_item(items.as_slice())
 }
 
-/// The text that stands among items alone.
+/// Reads the text of items that are one text alone.
 fn read_only_item(items: &[Value]) -> Result<Txt, LineFault>
     ensures { IsShaped result (only_item (items_view items.now)) }
 {
@@ -80,7 +55,7 @@ fn read_only_item(items: &[Value]) -> Result<Txt, LineFault>
     read_string(&items[0])
 }
 
-/// The text that a value is.
+/// Reads a value that is a text.
 fn read_string(value: &Value) -> Result<Txt, LineFault>
     ensures { IsShaped result (as_str (view value.now)) }
 {
@@ -88,4 +63,32 @@ fn read_string(value: &Value) -> Result<Txt, LineFault>
         Value::String(text) => Ok(Txt::new(text.clone()?)),
         _ => Err(LineFault::BadShape),
     }
+}
+
+/// Returns the text of an array that holds only that text, if it stands there without escapes. Returns `None`
+/// otherwise.
+pub fn lone_text(array: &str) -> Option<&str>
+    ensures { IfSome result (λ text. read array.now
+        ≡ Some (value.array (value.item (value.string text.now) value.no_items))) }
+{
+    let inside = array.strip_prefix('[')?.strip_suffix(']')?;
+    let text = inside.strip_prefix('"')?.strip_suffix('"')?;
+    if is_plain(text.as_bytes()) {
+        Some(text)
+    } else {
+        None
+    }
+}
+
+/// Returns whether each byte stands for itself in a JSON string.
+fn is_plain(bytes: &[u8]) -> bool
+    ensures { result ≡ list_all is_plain bytes.now }
+{
+    bytes.iter().all(|byte| is_plain_byte(*byte))
+}
+
+fn is_plain_byte(byte: u8) -> bool
+    ensures { result ≡ is_plain byte }
+{
+    byte >= b' ' && byte != b'"' && byte != b'\\'
 }

@@ -1,26 +1,24 @@
-//! The calls of clients, by the words behind the client.
+//! Reads the calls of clients by the words after the client.
 ghost use Rattle.std.specs.Prelude.{map, Some};
 ghost use Rattle.std.specs.Option.{option_copied};
-ghost use Rattle.dsql_spelling.specs.Dests.{dests_of};
-ghost use Rattle.dsql_forms.specs.Outcomes.{IsReading};
+ghost use Rattle.dsql_script_spelling.specs.Dests.{dests_of};
+ghost use Rattle.dsql_script_forms.specs.Outcomes.{IsReading};
 ghost use Rattle.dsql_script_calls.specs.ScriptWords.{label_of};
-ghost use Rattle.dsql_script_calls.specs.ScriptCalls.{call_of, call_by, lone_call, ping_of, ping_on, exec_of, query_of, query_as, one_of, one_into, statement_of, call_of_parts, names_database};
+ghost use Rattle.dsql_script_calls.specs.ScriptCalls.{call_of, call_by, lone_call, ping_of, ping_on, exec_of, query_of, query_as, one_of, one_into, statement_of, call_of_parts, target_of};
 
-use crate::{args, array, rows, targets};
-use dsql_forms::{LineFault, MAX_ARGS, What, read_dests};
-use dsql_history::Op;
-use dsql_scan::Dests;
-use dsql_value::{Args, Items, Txt};
+use crate::{args, array, labels, targets, transactions};
+use dsql_history::{Args, Dests, Items, Op, Target, Txt};
+use dsql_script_forms::{LineFault, MAX_ARGS, What, read_dests};
 use std::alloc::Global;
 
-/// What a call asks of its text with its arguments.
+/// What a call does with its text and its arguments.
 #[derive(Drop)]
 enum Verb {
-    /// That it is executed.
+    /// It executes the text.
     Exec,
-    /// That it is queried, and its rows get this label.
+    /// It queries the text, and its rows get this label.
     Query(Txt),
-    /// That it is queried, and one row is read into these destinations.
+    /// It queries the text, and reads one row into these destinations.
     One(Dests),
 }
 
@@ -28,7 +26,7 @@ impl Verb {
     ghost use Rattle.std.specs.Prelude.{◌≡◌};
     ghost use Rattle.dsql_script_calls.specs.ScriptCalls.{dest_count, op_of};
 
-    /// How many destinations there are.
+    /// Returns the number of destinations.
     fn dest_count(&self) -> usize
         ensures { result ≡ dest_count self.now }
     {
@@ -38,13 +36,23 @@ impl Verb {
         }
     }
 
-    fn op(self, text: Txt, args: Args) -> Op
-        ensures { result ≡ op_of self text args }
+    fn op(self, target: Target, text: Txt, args: Args) -> Op
+        ensures { result ≡ op_of self target text args }
     {
         match self {
-            Verb::Exec => Op::Exec { text, args },
-            Verb::Query(label) => Op::Query { label, text, args },
-            Verb::One(dests) => Op::One { dests, text, args },
+            Verb::Exec => Op::Exec { target, text, args },
+            Verb::Query(label) => Op::Query {
+                label,
+                target,
+                text,
+                args,
+            },
+            Verb::One(dests) => Op::One {
+                target,
+                dests,
+                text,
+                args,
+            },
         }
     }
 }
@@ -60,7 +68,7 @@ pub fn read_call(alloc: Global, words: &[&str], array: Option<&str>) -> Result<O
     }
 }
 
-/// Reads a call by its first word and those after it.
+/// Reads a call by its first word and the words after it.
 fn read_call_by(
     alloc: Global,
     verb: &str,
@@ -77,11 +85,11 @@ fn read_call_by(
         "ping" => read_ping(words, array),
         "dbclose" => read_lone(Op::DbClose, words, array),
         "stats" => read_lone(Op::Stats, words, array),
-        _ => rows::read_call(alloc, verb, words, array),
+        _ => transactions::read_call(alloc, verb, words, array),
     }
 }
 
-/// A call whose word stands alone, by the words after it.
+/// Reads a call whose word stands alone. Fails if other words or an array follow it.
 fn read_lone(op: Op, words: &[&str], array: Option<&str>) -> Result<Op, LineFault>
     ensures { IsReading result
         (lone_call op (map (λ w. w.now) words.now) (option_copied array.entry)) }
@@ -103,7 +111,7 @@ fn read_ping(words: &[&str], array: Option<&str>) -> Result<Op, LineFault>
     }
 }
 
-/// Reads a ping by what it is made on and the words after that.
+/// Reads a ping by its target and the words after that.
 fn read_ping_on(target: &str, tokens: &[&str], array: Option<&str>) -> Result<Op, LineFault>
     ensures { IsReading result (ping_on target.now
         (map (λ w. w.now) tokens.now) (option_copied array.entry)) }
@@ -139,7 +147,7 @@ fn read_query(alloc: Global, words: &[&str], array: Option<&str>) -> Result<Op, 
     }
 }
 
-/// Reads a query by the word for its label and those after it.
+/// Reads a query by the word for its label and the words after it.
 fn read_query_as(
     alloc: Global,
     label: &str,
@@ -150,7 +158,7 @@ fn read_query_as(
     ensures { IsReading result (query_as (label_of label.now) target.now
         (map (λ w. w.now) tokens.now) (option_copied array.entry)) }
 {
-    let verb = Verb::Query(rows::read_label(alloc, label)?);
+    let verb = Verb::Query(labels::read_label(alloc, label)?);
     read_statement(alloc, verb, target, tokens, array)
 }
 
@@ -165,7 +173,7 @@ fn read_one(alloc: Global, words: &[&str], array: Option<&str>) -> Result<Op, Li
     }
 }
 
-/// Reads a call that reads one row into the destinations that stand in a word.
+/// Reads a call that reads one row into the destinations in a word.
 fn read_into(
     alloc: Global,
     dests: &str,
@@ -180,7 +188,7 @@ fn read_into(
     read_statement(alloc, verb, target, tokens, array)
 }
 
-/// Reads a call by what it asks, what it is made on, the words after that, and its array.
+/// Reads a call by its verb, its target, the words after that, and its array.
 fn read_statement(
     alloc: Global,
     verb: Verb,
@@ -197,29 +205,31 @@ fn read_statement(
     let array = array.ok_or(LineFault::BadShape)?;
     if let Some(text) = array::lone_text(array) {
         let text = Txt::new(String::from_str(alloc, text)?);
-        return call_with(verb, target, tokens, text, Items::none(alloc));
+        return call_with(alloc, verb, target, tokens, text, Items::none(alloc));
     }
     let value = array::read_array(alloc, array)?;
     let (text, args) = args::read_statement(alloc, &value)?;
-    call_with(verb, target, tokens, text, args)
+    call_with(alloc, verb, target, tokens, text, args)
 }
 
-/// The call by what it asks, what it is made on, the words after that, and its text with its arguments.
+/// Returns the call by its verb, its target, the words after that, and its text with its arguments.
 fn call_with(
+    alloc: Global,
     verb: Verb,
     target: &str,
     tokens: &[&str],
     text: Txt,
     args: Args,
 ) -> Result<Op, LineFault>
-    ensures { IsReading result (call_of_parts verb
-        (names_database target.now (map (λ w. w.now) tokens.now)) (Some (text, args))) }
+    ensures { IsReading result (call_of_parts verb (target_of target.now)
+        (map (λ w. w.now) tokens.now) (Some (text, args))) }
 {
     if args.as_slice().len() > MAX_ARGS || verb.dest_count() > MAX_ARGS {
         return Err(LineFault::TooMany(What::Args));
     }
-    if !targets::names_database(target, tokens) {
+    if !tokens.is_empty() {
         return Err(LineFault::UnknownLabel);
     }
-    Ok(verb.op(text, args))
+    let target = targets::target_of(alloc, target)?;
+    Ok(verb.op(target, text, args))
 }

@@ -1,28 +1,17 @@
-//! Calls on the rows that a query handed out.
+//! Reads the calls on rows that a query handed out.
 ghost use Rattle.std.specs.Prelude.{map};
 ghost use Rattle.std.specs.Option.{option_copied};
-ghost use Rattle.dsql_spelling.specs.Dests.{dests_of};
-ghost use Rattle.dsql_forms.specs.Outcomes.{IsShaped, IsReading};
+ghost use Rattle.dsql_script_spelling.specs.Dests.{dests_of};
+ghost use Rattle.dsql_script_forms.specs.Outcomes.{IsReading};
 ghost use Rattle.dsql_script_calls.specs.ScriptWords.{label_of};
-ghost use Rattle.dsql_script_calls.specs.ScriptCalls.{rows_call_by, rows_of, scan_of, scan_into};
+ghost use Rattle.dsql_script_calls.specs.ScriptCalls.{rows_call_by, scan_of, scan_into};
 
-use crate::words;
-use dsql_forms::{LineFault, MAX_ARGS, What, read_dests};
+use crate::labels;
 use dsql_history::Op;
-use dsql_value::Txt;
+use dsql_script_forms::{LineFault, MAX_ARGS, What, read_dests};
 use std::alloc::Global;
 
-/// The label that a word is.
-pub fn read_label(alloc: Global, word: &str) -> Result<Txt, LineFault>
-    ensures { IsShaped result (label_of word.now) }
-{
-    if !words::is_name(word) {
-        return Err(LineFault::BadShape);
-    }
-    Ok(Txt::new(String::from_str(alloc, word)?))
-}
-
-/// Reads a call on rows by its first word and those after it.
+/// Reads a call on rows by its first word and the words after it.
 pub fn read_call(
     alloc: Global,
     verb: &str,
@@ -34,33 +23,19 @@ pub fn read_call(
 {
     match verb {
         "next" => {
-            let rows = read_rows(alloc, words, array)?;
+            let rows = labels::read_label_alone(alloc, words, array)?;
             Ok(Op::Next { rows })
         }
         "scan" => read_scan(alloc, words, array),
         "rowsclose" => {
-            let rows = read_rows(alloc, words, array)?;
+            let rows = labels::read_label_alone(alloc, words, array)?;
             Ok(Op::RowsClose { rows })
         }
         "err" => {
-            let rows = read_rows(alloc, words, array)?;
+            let rows = labels::read_label_alone(alloc, words, array)?;
             Ok(Op::Err { rows })
         }
         _ => Err(LineFault::NoSuchWord),
-    }
-}
-
-/// The label of the rows that a call is made on, by the words after it.
-fn read_rows(alloc: Global, words: &[&str], array: Option<&str>) -> Result<Txt, LineFault>
-    ensures { IsShaped result
-        (rows_of (map (λ w. w.now) words.now) (option_copied array.entry)) }
-{
-    if array.is_some() {
-        return Err(LineFault::BadShape);
-    }
-    match words {
-        [rows] => read_label(alloc, rows),
-        _ => Err(LineFault::BadShape),
     }
 }
 
@@ -78,11 +53,11 @@ fn read_scan(alloc: Global, words: &[&str], array: Option<&str>) -> Result<Op, L
     }
 }
 
-/// Reads a call that scans a row of a label into the destinations that stand in a word.
+/// Reads a call that scans a row of the rows with this label into the destinations in a word.
 fn read_scan_into(alloc: Global, rows: &str, dests: &str) -> Result<Op, LineFault>
     ensures { IsReading result (scan_into (label_of rows.now) (dests_of dests.now)) }
 {
-    let rows = read_label(alloc, rows)?;
+    let rows = labels::read_label(alloc, rows)?;
     let dests = read_dests(alloc, dests)?;
     if dests.as_slice().len() > MAX_ARGS {
         return Err(LineFault::TooMany(What::Args));

@@ -1,17 +1,17 @@
-ghost use Rattle.std.specs.Prelude.{◌≡◌, ◌==◌, IfOk, List, map};
+ghost use Rattle.std.specs.Prelude.{◌≡◌, ◌==◌, IfOk, map};
 ghost use Rattle.std.specs.Option.{option_copied};
 ghost use Rattle.std.specs.List.{slice_split, list_all};
-ghost use Rattle.dsql_script_calls.specs.ScriptWords.{space, before_array, array_of, limit_of, moment_of, ordinal_of, client_of, client_number, is_name, is_target, is_token, is_database, is_name_byte};
+ghost use Rattle.dsql_script_calls.specs.ScriptWords.{space, before_array, array_of, limit_of, moment_of, ordinal_of, client_of, client_number, is_name, is_database, is_name_byte};
 
 use std::alloc::{AllocError, Global};
 
-/// How many clients there are.
+/// The number of clients.
 const CLIENTS: u8 = 64;
 
-/// How many bytes may follow the first one of a name.
+/// The most bytes that a name may have after its first.
 const MAX_NAME_REST: usize = 31;
 
-/// The line's text before its array, and the array, if it has one.
+/// Returns the line's text before its array, and the array if it has one.
 pub fn split_array(text: &str) -> (&str, Option<&str>)
     ensures before { result.0.now ≡ before_array text.now }
     ensures array { option_copied result.1 ≡ array_of text.now }
@@ -22,7 +22,7 @@ pub fn split_array(text: &str) -> (&str, Option<&str>)
     }
 }
 
-/// The words that single spaces part.
+/// Returns the words of a text, which single spaces separate.
 pub fn split_words<'a>(alloc: Global, text: &'a str) -> Result<Vec<&'a str>, AllocError>
     ensures { IfOk result (λ words. map (λ w. w.now) words.items
         ≡ slice_split (λ byte. byte == space) text.now) }
@@ -30,7 +30,7 @@ pub fn split_words<'a>(alloc: Global, text: &'a str) -> Result<Vec<&'a str>, All
     text.split(' ').collect(alloc)
 }
 
-/// The number of a limit that a word is.
+/// Returns the number of a limit that a word is, or `None`.
 pub fn limit(word: &str) -> Option<i64>
     ensures { result ≡ limit_of word.now }
 {
@@ -41,14 +41,14 @@ pub fn limit(word: &str) -> Option<i64>
     if digits.starts_with('0') {
         return None;
     }
-    // `parse` takes a plus, which isn't spelled here
+    // `parse` accepts a plus, but a script doesn't spell one.
     if word.starts_with('+') {
         return None;
     }
     word.parse().ok()
 }
 
-/// The moment that a word is.
+/// Returns the moment that a word is, or `None`.
 pub fn moment(word: &str) -> Option<u64>
     ensures { result ≡ moment_of word.now }
 {
@@ -58,25 +58,26 @@ pub fn moment(word: &str) -> Option<u64>
     if word.starts_with('0') {
         return None;
     }
-    // `parse` takes a plus, which isn't spelled here
+    // `parse` accepts a plus, but a script doesn't spell one.
     if word.starts_with('+') {
         return None;
     }
     word.parse().ok()
 }
 
-/// The number of a connection, or of one of its calls, that a word is: from 1 on.
+/// Returns the number of a connection, or of one of its driver calls, that a word is, or `None`. These are
+/// numbered from 1.
 pub fn ordinal(word: &str) -> Option<u32>
     ensures { result ≡ ordinal_of word.now }
 {
-    // `parse` takes a leading zero and a plus, which aren't spelled here
+    // `parse` accepts a leading zero and a plus, but a script spells neither.
     if word.starts_with('0') || word.starts_with('+') {
         return None;
     }
     word.parse().ok()
 }
 
-/// The client that a word names.
+/// Returns the client that a word names, or `None`.
 pub fn client(word: &str) -> Option<u8>
     ensures { result ≡ client_of word.now }
 {
@@ -101,7 +102,7 @@ fn client_from(digits: &str) -> Option<u8>
     Some(client)
 }
 
-/// Whether a word is the name of a label or a token.
+/// Returns whether a word may name a label or a token.
 pub fn is_name(word: &str) -> bool
     ensures { result ≡ is_name word.now }
 {
@@ -128,26 +129,9 @@ fn is_name_byte(byte: u8) -> bool
     byte.is_ascii_lowercase() || byte.is_ascii_digit() || byte == b'_'
 }
 
-/// Whether a word is the database's.
+/// Returns whether a word names the database.
 pub fn is_database(word: &str) -> bool
     ensures { result ≡ is_database word.now }
 {
     word == "db"
-}
-
-/// Whether a word says what a call is made on.
-pub fn is_target(word: &str) -> bool
-    ensures { result ≡ is_target word.now }
-{
-    is_database(word) || is_name(word)
-}
-
-/// Whether a word names a token.
-pub fn is_token(word: &str) -> bool
-    ensures { result ≡ is_token word.now }
-{
-    match word.strip_prefix('@') {
-        Some(name) => is_name(name),
-        None => false,
-    }
 }

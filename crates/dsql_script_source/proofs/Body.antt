@@ -1,28 +1,31 @@
--- Behind the first line that is neither skipped nor of the version a script has no line of its head.
+-- After the first line that is neither skipped nor the version line, a script has no line of its head: the
+-- proof goes through the forms of a line.
 use Rattle.std.proofs.Common.{◌≡◌, ℕ, ◌+◌, Bool, true, false, List, [], ◌∷◌, length, Option, Some, None, refl, subst}
 use Rattle.std.specs.Prelude.{ℤ, if◌then◌else◌, nat_lt, nat_le, codes, Result, Ok, Err, IfOk, IfErr, IfSome}
 use Rattle.std.specs.Str.{bytes_eq, is_utf8}
 use Rattle.std.specs.Str.Lines.{strip_carriage_return}
 use Rattle.dsql_history.specs.declared.event.Setting.{Setting}
 use Rattle.dsql_history.specs.declared.event.Setting.TheVariants.{MaxOpen, MaxIdle, MaxLife, MaxIdleTime}
-use Rattle.dsql_forms.specs.declared.fault.What.TheVariants.{Lines}
-use Rattle.dsql_forms.specs.declared.fault.LineFault.{LineFault}
-use Rattle.dsql_forms.specs.declared.fault.LineFault.TheVariants.{TooLong, NotUtf8, TooMany}
-use Rattle.dsql_reader.specs.declared.script.Head.TheVariants.{Begun}
-use Rattle.dsql_reader.specs.declared.script.ScriptLine.{ScriptLine}
-use Rattle.dsql_reader.specs.declared.script.ScriptLine.TheVariants.{Skip, Version, UseCaps, StepHouse}
+use Rattle.dsql_script_forms.specs.declared.fault.What.TheVariants.{Lines}
+use Rattle.dsql_script_forms.specs.declared.fault.LineFault.{LineFault}
+use Rattle.dsql_script_forms.specs.declared.fault.LineFault.TheVariants.{TooLong, NotUtf8, TooMany}
+use Rattle.dsql_script_reader.specs.declared.script.Head.TheVariants.{Begun}
+use Rattle.dsql_script_reader.specs.declared.script.ScriptLine.{ScriptLine}
+use Rattle.dsql_script_reader.specs.declared.script.ScriptLine.TheVariants.{Skip, Version, UseCaps, StepHouse}
 use Rattle.dsql_script_calls.specs.ScriptWords.{words_of, array_of, ordinal_of, client_of}
-use Rattle.dsql_script_calls.specs.ScriptCalls.{CallReading, call_of}
-use Rattle.dsql_reader.specs.ScriptHead.{Progress, after}
-use Rattle.dsql_reader.specs.ScriptPlans.{PlannedReading, planned_of, plan_at, plan_line}
-use Rattle.dsql_reader.specs.ScriptLines.{Reading, client_call, call_by_client, client_line, start_line, limit_alone, set_or_fault, set_line, moment_alone, tick_or_fault, tick_line, step_or_fault, step_line, version_line, caps_line, form_of, is_skipped, text_of, line_of, line_fault, unless_fault, among_labels, read_of, most_bytes, most_lines}
+use Rattle.dsql_script_calls.specs.ScriptBegins.{CallReading}
+use Rattle.dsql_script_calls.specs.ScriptCalls.{call_of}
+use Rattle.dsql_script_reader.specs.ScriptHead.{Progress, after}
+use Rattle.dsql_script_reader.specs.ScriptPlans.{PlannedReading, planned_of}
+use Rattle.dsql_script_reader.specs.ScriptLines.{plan_at, plan_line, limit_alone, moment_alone, is_skipped, most_bytes, Reading, client_call, call_by_client, client_line, start_line, set_or_fault, set_line, tick_or_fault, tick_line, step_or_fault, step_line, version_line, caps_line, form_of, text_of, line_of, unless_fault, among_labels, read_of, most_lines}
+use Rattle.dsql_script_reader.specs.ScriptLabels.{MadeLabel, line_fault}
 use Rattle.dsql_script_source.specs.Script.{Script}
 use Rattle.dsql_script_source.specs.Reading.{StopsReading, is_body, ends_head, IsBodyLine, NoLine}
 use Rattle.dsql_script_source.specs.Stops.{IsReadStop}
 use Rattle.dsql_script_source.specs.declared.stop.Stop.{Stop}
 use Rattle.dsql_script_source.specs.declared.stop.Stop.TheVariants.{Read, Write, Memory, Refused, Full}
 
--- what is read, if anything, is a line of the body
+-- Holds if the reading is a line of the body, or a fault.
 abbrev pub Body : Reading → Type 0
 Body (Ok line) = is_body line ≡ true
 Body (Err fault) = Unit {0}
@@ -115,12 +118,12 @@ body_line line =
     either (nat_lt most_bytes (length line)) (Err TooLong) (if is_utf8 line then text_of Begun (strip_carriage_return line) else Err NotUtf8) tt
     (either (is_utf8 line) (text_of Begun (strip_carriage_return line)) (Err NotUtf8) (body_text (strip_carriage_return line)) tt)
 
--- a line whose label is looked at is the same one
+-- Checking the labels of a line of the body leaves it a line of the body.
 body_unless_fault : (line : ScriptLine) (fault : Option LineFault) → is_body line ≡ true → Body (unless_fault line fault)
 body_unless_fault line None body = body
 body_unless_fault line (Some fault) body = tt
 
-body_among_labels : (labels : List (List ℕ)) (reading : Reading) → Body reading → Body (among_labels labels reading)
+body_among_labels : (labels : List MadeLabel) (reading : Reading) → Body reading → Body (among_labels labels reading)
 body_among_labels labels (Ok line) body = body_unless_fault line (line_fault labels line) body
 body_among_labels labels (Err fault) body = tt
 
@@ -133,7 +136,7 @@ body_read place line is =
 pub body_lines : (place : Progress) (line : List ℕ) (says : ScriptLine) → place.head ≡ Begun → read_of place line ≡ Ok says → is_body says ≡ true
 body_lines place line says is reads = subst Body reads (body_read place line is)
 
--- and stays so
+-- The head stays ended after a line of the body.
 pub stays_begun : (place now : Progress) (says : ScriptLine) → place.head ≡ Begun → is_body says ≡ true → now ≡ after place says → now.head ≡ Begun
 stays_begun place now Skip is body placed = rw placed is
 stays_begun place now (Version version) is body placed = absurd (cc body)
@@ -145,7 +148,7 @@ begun_by place now Skip is placed = absurd (cc is)
 begun_by place now (Version version) is placed = absurd (cc is)
 begun_by place now _ is placed = rw placed refl
 
--- The same, of what a reader came to.
+-- The same for the results of a reader.
 
 pub body_of_read : (result : Result (Option ScriptLine) Stop) (place : Progress) (line : List ℕ) → place.head ≡ Begun → IfOk result (λ one. IfSome one (λ says. read_of place line ≡ Ok says)) → IfOk result IsBodyLine
 body_of_read (Ok (Some says)) place line begun is = body_lines place line says begun is

@@ -1,37 +1,38 @@
--- What reading one more line of a script comes to.
+-- What the rest of a script says after one more line was read: the proof has a case for a line, for the
+-- script's end, and for a stop.
 use Rattle.std.proofs.Common.{◌≡◌, ◌⊎◌, ◌∙◌, inl, inr, ℕ, ◌+◌, true, false, List, [], ◌∷◌, ◌++◌, length, Option, Some, None, refl, ap, sym, arith}
 use Rattle.std.specs.Prelude.{option_map, IfSome, IfOk, IfErr, Result, Ok, Err}
 use Rattle.std.proofs.lemmas.List.{length-append}
 use Rattle.std.proofs.lemmas.Option.{same_Some}
-use Rattle.dsql_stream.specs.Lines.{all_lines, ahead, SawTheEnd}
-use Rattle.dsql_forms.specs.declared.fault.LineFault.{LineFault}
-use Rattle.dsql_reader.specs.declared.script.Head.TheVariants.{Begun}
-use Rattle.dsql_reader.specs.declared.script.ScriptLine.{ScriptLine}
-use Rattle.dsql_reader.specs.declared.script.ScriptLine.TheVariants.{Skip, Version}
-use Rattle.dsql_reader.specs.ScriptHead.{Progress, after}
-use Rattle.dsql_reader.specs.ScriptLines.{read_of}
+use Rattle.dsql_driver_stream.specs.Lines.{all_lines, ahead, SawTheEnd}
+use Rattle.dsql_script_forms.specs.declared.fault.LineFault.{LineFault}
+use Rattle.dsql_script_reader.specs.declared.script.Head.TheVariants.{Begun}
+use Rattle.dsql_script_reader.specs.declared.script.ScriptLine.{ScriptLine}
+use Rattle.dsql_script_reader.specs.declared.script.ScriptLine.TheVariants.{Skip, Version}
+use Rattle.dsql_script_reader.specs.ScriptHead.{Progress, after}
+use Rattle.dsql_script_reader.specs.ScriptLines.{read_of}
 use Rattle.dsql_script_source.specs.Position.{Position}
 use Rattle.dsql_script_source.specs.Script.{Script, Said, nothing, line_as_played, said_of, then, is_silent, script_of, whole, refused_at, with_said, SaysFirst}
 use Rattle.dsql_script_source.specs.Plays.{ReadsUpTo, Plays}
 use Rattle.dsql_script_source.specs.Reading.{HasRead, ReadTo, ReadsOn, TakesLine, DropsUnfinished, StopsReading, NoLine, came, to_come, is_body}
 use Rattle.dsql_script_source.specs.declared.stop.Stop.{Stop}
-use Rattle.dsql_script_source.specs.declared.stop.Stop.TheVariants.{Read, Write, Memory, Refused, Full}
+use Rattle.dsql_script_source.specs.declared.stop.Stop.TheVariants.{Read, Memory, Refused}
 use Rattle.dsql_script_source.proofs.Saying.{then-nothing, with_both, silent_then}
 use Rattle.dsql_script_source.proofs.Body.{body_lines, stays_begun}
 use Rattle.dsql_script_source.proofs.WholeLines.{none_to_come, reads_line, reads_up_to}
 
--- a line was taken out
+-- After one more line was taken out, the script is still what the lines so far say, followed by its rest.
 script_goes_on : (all before rest : Option Script) (says : Said) (line : ScriptLine) → all ≡ option_map (with_said says) before → ReadsOn (Some line) before rest → all ≡ option_map (with_said (then says (said_of line))) rest
 script_goes_on all before None says line is reads = is ∙ rw reads refl
 script_goes_on all before (Some s) says line is reads = is ∙ rw reads (ap Some (with_both says (said_of line) s))
 
--- the script's end was read
+-- At the script's end, the lines so far say all that the script says.
 script_ends : (left rest : Option (List ℕ)) (before : Option Script) (says : Said) → option_map script_of left ≡ option_map (with_said says) before → IfSome before (λ s. s ≡ whole nothing) → Plays (Ok tt) left rest says
 script_ends None rest before says is reads = tt
 script_ends (Some bytes) rest None says is reads = absurd (cc is)
 script_ends (Some bytes) rest (Some s) says is reads = same_Some _ _ is ∙ rw reads (ap whole (then-nothing says))
 
--- behind these lines nothing more is asked for, unless they are silent
+-- Holds if the lines so far are silent or the rest of the script has no caps line.
 abbrev pub NoneToCome : Said → Option Script → Type 0
 NoneToCome says before = (is_silent says ≡ true) ⊎ IfSome before (λ s. s.says.caps ≡ None)
 
@@ -49,20 +50,19 @@ refused_said None rest before says number fault is at = tt
 refused_said (Some bytes) rest None says number fault is at = absurd (cc is)
 refused_said (Some bytes) rest (Some s) says number fault is at = same_Some _ _ is ∙ rw at (ap (λ said. record { says = said; refused = Some (number, fault) }) (then-nothing says))
 
--- what the lines say that were read so far, the script says first
+-- A script begins with what the lines that were read so far say.
 pub first_of_read_so_far : (before : Option (List ℕ)) (reader : Position) (left : Option (List ℕ)) (says : Said) → HasRead before reader left says → SaysFirst before says
 first_of_read_so_far before reader left says h = first_said before (to_come reader left) says h.script (none_more before reader left says h)
 
--- no line could be read
+-- If no line could be read, the lines so far say what a run that stops there has of the script.
 script_stops : (left rest : Option (List ℕ)) (before : Option Script) (says : Said) (stop : Stop)
     → option_map script_of left ≡ option_map (with_said says) before → NoneToCome says before → StopsReading before stop → (stop ≡ Read → IfSome left (λ bytes. ReadsUpTo bytes rest says)) → Plays (Err stop) left rest says
 script_stops left rest before says Read is none stops read = read refl
-script_stops left rest before says Write is none stops read = absurd stops
 script_stops left rest before says Memory is none stops read = first_said left before says is none
 script_stops left rest before says (Refused number fault) is none stops read = refused_said left rest before says number fault is stops
-script_stops left rest before says Full is none stops read = absurd stops
+script_stops left rest before says _ is none stops read = absurd stops
 
--- a line more ends the head, or is silent
+-- After one more line, the head has ended or all lines so far are silent.
 begun_on : (says : Said) (old new : Progress) (line : ScriptLine) → (is_silent says ≡ true) ⊎ (old.head ≡ Begun) → (old.head ≡ Begun → is_body line ≡ true) → new ≡ after old line
     → (is_silent (then says (said_of line)) ≡ true) ⊎ (new.head ≡ Begun)
 begun_on says old new line (inr begun) body placed = inr (stays_begun old new line begun (body begun) placed)
@@ -70,7 +70,8 @@ begun_on says old new Skip (inl silent) body placed = inl (silent_then says (sai
 begun_on says old new (Version version) (inl silent) body placed = inl (silent_then says (said_of (Version version)) silent refl)
 begun_on says old new _ (inl silent) body placed = inr (rw placed refl)
 
--- What came of taking the next line out of a source and reading it: these bytes were taken out last.
+-- Holds if this is the result of taking the next line out of a source and reading it, where these bytes were
+-- taken out last.
 pub record TakesNext (result : Result (Option ScriptLine) Stop) (old new : Position) (left rest : Option (List ℕ)) (bytes : List ℕ) : Type 0 where
   pub read : IfOk result (λ one. ReadsOn one (to_come old left) (to_come new rest))
   pub taken : IfOk result (λ one. IfSome one (λ line. new.lines.ended ≡ false → TakesLine old.reader bytes line (ahead old.lines left) (ahead new.lines rest)))
@@ -104,14 +105,14 @@ read_no_line before old new left rest bytes says stop h t =
     script_stops before rest (to_come old left) says stop h.script (none_more before old left says h) t.stopped
     (λ read. reads_up_to old.lines.ended before (ahead old.lines left) rest bytes old.reader says h.lines (t.dropped (ap Err read)))
 
--- what the reader has read then, whatever came of it
+-- The reader has then read what `ReadTo` says, whatever the result was.
 pub reads_to : (result : Result (Option ScriptLine) Stop) (before : Option (List ℕ)) (old new : Position) (left rest : Option (List ℕ)) (bytes : List ℕ) (says : Said) → HasRead before old left says → TakesNext result old new left rest bytes
     → ReadTo result before new rest says
 reads_to (Ok (Some line)) before old new left rest bytes says h t = read_a_line before old new left rest bytes says line h t
 reads_to (Ok None) before old new left rest bytes says h t = (script_ends before rest (to_come old left) says h.script t.read, t.end refl h.sees)
 reads_to (Err stop) before old new left rest bytes says h t = read_no_line before old new left rest bytes says stop h t
 
--- and how many lines that makes
+-- The number of lines read grows by the one line of the result, if there is one.
 pub counts_to : (result : Result (Option ScriptLine) Stop) (before : Option (List ℕ)) (old new : Position) (left : Option (List ℕ)) (says : Said) → HasRead before old left says
     → IfOk result (λ one. IfSome one (λ line. new.reader ≡ after old.reader line)) → NoLine result old.reader new.reader → length says.lines + came result ≡ new.reader.lines
 counts_to (Ok (Some line)) before old new left says h placed stays = ap (λ k. k + 1) h.counted ∙ sym (ap (λ (p : Progress). p.lines) placed)

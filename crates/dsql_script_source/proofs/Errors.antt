@@ -1,4 +1,5 @@
--- What `?` answers.
+-- Proves that a result that fails with an error is that error, which `?` passes on. The argument looks at the
+-- two kinds of results.
 use Rattle.std.proofs.Common.{◌≡◌, ap}
 use Rattle.std.specs.Prelude.{Result, Ok, Err, IsErrAnd}
 

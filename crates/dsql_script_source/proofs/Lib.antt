@@ -1,6 +1,6 @@
+pub mod Errors
 pub mod Saying
 pub mod Body
-pub mod Errors
 pub mod Reading
 pub mod WholeLines
 pub mod Coming

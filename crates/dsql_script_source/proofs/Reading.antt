@@ -1,20 +1,21 @@
--- A line that was taken out is the first of those to come.
+-- A line that was taken out reads as the first of the remaining lines, even if it was cut because it is too
+-- long.
 use Rattle.std.proofs.Common.{◌≡◌, ℕ, ◌<◌, ◌≤◌, Bool, true, false, List, Option, Some, None, length, refl, sym, ap, ◌∙◌, arith, inl, inr}
 use Rattle.std.specs.Prelude.{if◌then◌else◌, nat_le, option_map, Ok, Err}
 use Rattle.std.proofs.lemmas.Bool.{cases_lt, lt-ltb}
-use Rattle.dsql_stream.specs.Lines.{first_line, all_lines, HandsOut, HandsOutLine}
-use Rattle.dsql_stream.proofs.AllLines.{all_lines-first, cut_where_long}
-use Rattle.dsql_forms.specs.declared.fault.What.TheVariants.{Lines}
-use Rattle.dsql_forms.specs.declared.fault.LineFault.TheVariants.{TooLong, TooMany}
-use Rattle.dsql_reader.specs.declared.script.ScriptLine.{ScriptLine}
-use Rattle.dsql_reader.specs.ScriptHead.{Progress, after as after_line}
-use Rattle.dsql_reader.specs.ScriptLines.{read_of, most_bytes, most_lines}
+use Rattle.dsql_driver_stream.specs.Lines.{first_line, all_lines, HandsOut, HandsOutLine}
+use Rattle.dsql_driver_stream.proofs.AllLines.{all_lines-first, cut_where_long}
+use Rattle.dsql_script_forms.specs.declared.fault.What.TheVariants.{Lines}
+use Rattle.dsql_script_forms.specs.declared.fault.LineFault.TheVariants.{TooLong, TooMany}
+use Rattle.dsql_script_reader.specs.declared.script.ScriptLine.{ScriptLine}
+use Rattle.dsql_script_reader.specs.ScriptHead.{Progress, after as after_line}
+use Rattle.dsql_script_reader.specs.ScriptLines.{most_bytes, read_of, most_lines}
 use Rattle.dsql_script_source.specs.declared.stop.Stop.{Stop}
 use Rattle.dsql_script_source.specs.declared.stop.Stop.TheVariants.{Read, Write, Memory, Refused, Full}
 use Rattle.dsql_script_source.specs.Script.{script_from}
 use Rattle.dsql_script_source.specs.Reading.{ReadsOn, IsRefusal, StopsReading}
 
--- what a line that is too long reads as
+-- A line that is too long is refused for that, unless too many lines precede it.
 read_long : (n : Progress) (line : List ℕ) → most_bytes < length line → read_of n line ≡ (if nat_le most_lines n.lines then Err (TooMany Lines) else Err TooLong)
 read_long n line long = rw (lt-ltb most_bytes (length line) long) refl
 
@@ -22,7 +23,7 @@ refused_long : (b : Bool) (s : ScriptLine) → (if b then Err (TooMany Lines) el
 refused_long true s h = cc h
 refused_long false s h = cc h
 
--- a line that is taken is short enough
+-- A line that is accepted is short enough.
 taken_short : (n : Progress) (line : List ℕ) (s : ScriptLine) → read_of n line ≡ Ok s → length line ≤ most_bytes
 taken_short n line s read =
     elim (cases_lt most_bytes (length line)) [
@@ -30,7 +31,7 @@ taken_short n line s read =
       | inr short ↦ omega (arith, short)
     ]
 
--- a line that was cut reads as the whole one
+-- A line that was cut reads as the whole line does.
 reads_as_first : (n : Progress) (unread line : List ℕ) (after : Option (List ℕ)) → HandsOutLine unread after line → read_of n (first_line unread) ≡ read_of n line
 reads_as_first n unread line after out =
     elim (cases_lt most_bytes (length (first_line unread))) [

@@ -1,15 +1,15 @@
--- What lines say, one after another.
+-- What consecutive lines say together: `then` is associative, and lines of the body ask the driver for nothing.
 use Rattle.std.proofs.Common.{◌≡◌, ◌∙◌, true, List, [], ◌∷◌, ◌++◌, Option, Some, None, refl, sym, ap, append_assoc}
 use Rattle.std.specs.Prelude.{is_none}
 use Rattle.std.specs.List.{list_all}
 use Rattle.std.proofs.lemmas.Bool.{and_from, and_parts}
 use Rattle.std.proofs.lemmas.List.{append-nil}
 use Rattle.std.proofs.lemmas.List.Folds.{list_all-append}
-use Rattle.dsql_driver.specs.declared.caps.Caps.{Caps}
+use Rattle.dsql_history.specs.driver.declared.caps.Caps.{Caps}
 use Rattle.dsql_follows.specs.declared.line.Line.{Line}
-use Rattle.dsql_reader.specs.declared.script.ScriptLine.{ScriptLine}
-use Rattle.dsql_reader.specs.declared.script.ScriptLine.TheVariants.{Version, UseCaps}
-use Rattle.dsql_script_source.specs.Script.{Script, Said, nothing, said_of, line_as_played, later, then, with_said, is_skip, is_silent}
+use Rattle.dsql_script_reader.specs.declared.script.ScriptLine.{ScriptLine}
+use Rattle.dsql_script_reader.specs.declared.script.ScriptLine.TheVariants.{Version, UseCaps}
+use Rattle.dsql_script_source.specs.Script.{later, Script, Said, nothing, said_of, line_as_played, then, with_said, is_skip, is_silent}
 use Rattle.dsql_script_source.specs.Plays.{saying}
 use Rattle.dsql_script_source.specs.Reading.{is_body}
 
@@ -39,13 +39,13 @@ with_both a b s = ap (λ said. record { says = said; refused = s.refused }) (sym
 pub with_nothing : (s : Script) → with_said nothing s ≡ s
 with_nothing s = ap (λ said. record { says = said; refused = s.refused }) (nothing-then s.says)
 
--- a line of the body asks the driver for nothing
+-- A line of the body asks the driver for nothing, so it only adds a line to what was said.
 pub body_says : (asked : Option Caps) (lines : List Line) (line : ScriptLine) → is_body line ≡ true → then (saying asked lines) (said_of line) ≡ saying asked (lines ++ line_as_played line ∷ [])
 body_says asked lines (Version version) body = absurd (cc body)
 body_says asked lines (UseCaps caps) body = absurd (cc body)
 body_says asked lines _ body = refl
 
--- nor does it with what asks for nothing behind it
+-- A line of the body, followed by lines that ask for nothing, asks for nothing.
 pub body_asks_none : (line : ScriptLine) (rest : Said) → is_body line ≡ true → rest.caps ≡ None → (then (said_of line) rest).caps ≡ None
 body_asks_none (Version version) rest body none = absurd (cc body)
 body_asks_none (UseCaps caps) rest body none = absurd (cc body)
@@ -55,7 +55,7 @@ none_later : (x y : Option Caps) → is_none x ≡ true → is_none y ≡ true �
 none_later x None a b = a
 none_later x (Some caps) a b = absurd (cc b)
 
--- silent lines behind silent ones
+-- Silent lines after silent lines are silent together.
 pub silent_then : (a b : Said) → is_silent a ≡ true → is_silent b ≡ true → is_silent (then a b) ≡ true
 silent_then a b first more =
     let one = and_parts (is_none a.caps) (list_all is_skip a.lines) first in

@@ -1,18 +1,18 @@
--- The lines that were read whole, as a run goes on.
+-- The lines that a run has read whole: the proofs follow these lines by induction as the run goes on.
 use Rattle.std.proofs.Common.{◌≡◌, ◌⊎◌, inl, inr, ℕ, ◌+◌, Bool, true, false, List, [], ◌∷◌, ◌++◌, Option, Some, None, refl, sym, ap, ◌∙◌, append_assoc}
 use Rattle.std.specs.Prelude.{IfSome, Ok, Err, option_map}
 use Rattle.std.proofs.lemmas.Option.{same_Some}
-use Rattle.dsql_stream.specs.Lines.{ended_lines, all_lines, ahead, TakesOff}
-use Rattle.dsql_stream.proofs.FirstLines.{Feedless}
-use Rattle.dsql_stream.proofs.EndedLines.{ended_lines-feed, ended_lines-feedless, first_of_ended}
-use Rattle.dsql_reader.specs.declared.script.ScriptLine.{ScriptLine}
-use Rattle.dsql_reader.specs.declared.script.ScriptLine.TheVariants.{Skip, Version}
-use Rattle.dsql_reader.specs.declared.script.Head.TheVariants.{Begun}
-use Rattle.dsql_reader.specs.ScriptHead.{Progress, unread, after}
-use Rattle.dsql_reader.specs.ScriptLines.{Reading, read_of}
+use Rattle.dsql_driver_stream.specs.Lines.{ended_lines, all_lines, ahead, TakesOff}
+use Rattle.dsql_driver_stream.proofs.FirstLines.{Feedless}
+use Rattle.dsql_driver_stream.proofs.EndedLines.{ended_lines-feed, ended_lines-feedless, first_of_ended}
+use Rattle.dsql_script_reader.specs.declared.script.ScriptLine.{ScriptLine}
+use Rattle.dsql_script_reader.specs.declared.script.ScriptLine.TheVariants.{Skip, Version}
+use Rattle.dsql_script_reader.specs.declared.script.Head.TheVariants.{Begun}
+use Rattle.dsql_script_reader.specs.ScriptHead.{Progress, unread, after}
+use Rattle.dsql_script_reader.specs.ScriptLines.{Reading, read_of}
 use Rattle.dsql_script_source.specs.Script.{Script, Said, nothing, said_of, then, script_of, script_from, whole, with_line, with_said, is_silent, BeginsSaying}
 use Rattle.dsql_script_source.specs.Plays.{ReadsUpTo}
-use Rattle.dsql_script_source.specs.Reading.{TakesLine, DropsUnfinished, is_body, with_feeds, AllFeedless, after_lines, after_reading, LinesRead, ReadSoFar}
+use Rattle.dsql_script_source.specs.Reading.{with_feeds, AllFeedless, TakesLine, DropsUnfinished, is_body, after_lines, after_reading, LinesRead, ReadSoFar}
 use Rattle.dsql_script_source.proofs.Saying.{then-nothing, with_both, with_nothing, body_asks_none, silent_then}
 use Rattle.dsql_script_source.proofs.Body.{body_lines, stays_begun}
 
@@ -24,14 +24,14 @@ feedless-append : (lines : List (List ℕ)) (line : List ℕ) → AllFeedless li
 feedless-append [] line all one = (one, tt)
 feedless-append (first ∷ lines) line all one = (all.0, feedless-append lines line all.1 one)
 
--- what stands behind the last line feed ends no line
+-- The bytes after the last line feed end no line.
 ended_lines-with_feeds : (lines : List (List ℕ)) (unfinished : List ℕ) → AllFeedless lines → Feedless unfinished → ended_lines (with_feeds lines ++ unfinished) ≡ lines
 ended_lines-with_feeds [] unfinished all none = ended_lines-feedless unfinished none
 ended_lines-with_feeds (line ∷ lines) unfinished all none =
     rw (append_assoc line (10 ∷ with_feeds lines) unfinished)
     (ended_lines-feed line (with_feeds lines ++ unfinished) all.0 ∙ ap (λ more. line ∷ more) (ended_lines-with_feeds lines unfinished all.1 none))
 
--- the first line is taken, and so are those behind it
+-- Holds if the first line is accepted, and so are the lines after it.
 record FirstTaken (reading : Reading) (rest : ScriptLine → Script) (says : Said) : Type 0 where
   line : ScriptLine
   is : reading ≡ Ok line
@@ -47,7 +47,7 @@ first_taken number (Ok line) rest says is = record {
 }
 first_taken number (Err fault) rest says is = absurd (cc (ap (λ (s : Script). s.refused) is))
 
--- what lines say that stand behind others, of which none is refused
+-- A script whose first lines are all accepted says what these lines say, followed by what the other lines say.
 pub script_from-append : (p : Progress) (lines more : List (List ℕ)) (says : Said) → script_from p lines ≡ whole says
     → script_from p (lines ++ more) ≡ with_said says (script_from (after_lines p lines) more)
 script_from-append p [] more says is = let none : nothing ≡ says = ap (λ (s : Script). s.says) is in rw (← none) (sym (with_nothing (script_from p more)))
@@ -61,11 +61,11 @@ script_from-append p (line ∷ lines) more says is =
     ∙ (ap (λ said. with_said said (script_from (after_lines next lines) more)) first.all
     ∙ ap (λ reading. with_said says (script_from (after_reading p reading (λ one. after_lines one lines)) more)) (sym first.is))))
 
--- what one line says
+-- A script of one accepted line says what that line says.
 one_line : (p : Progress) (line : List ℕ) (says : ScriptLine) → read_of p line ≡ Ok says → script_from p (line ∷ []) ≡ whole (said_of says)
 one_line p line says reads = rw reads (ap whole (then-nothing (said_of says)))
 
--- how far the script was read behind one more line
+-- One more accepted line moves the position in the script by that line.
 after_lines-append : (p : Progress) (lines : List (List ℕ)) (line : List ℕ) (says : Said) (one : ScriptLine) → script_from p lines ≡ whole says → read_of (after_lines p lines) line ≡ Ok one
     → after_lines p (lines ++ line ∷ []) ≡ after (after_lines p lines) one
 after_lines-append p [] line says one is reads = rw reads refl
@@ -93,14 +93,15 @@ line_taken (Some bytes) None new line place one says r t = absurd r
 line_taken (Some bytes) (Some rest) None line place one says r t = absurd (cc t.taken)
 line_taken (Some bytes) (Some rest) (Some next) line place one says r t = one_more_line bytes rest next line place one says r t.feedless (same_Some _ _ t.taken) t.is
 
--- a line was taken out
+-- After one more line was taken out, the lines read so far are still whole lines of the script, none of them
+-- refused.
 pub reads_line : (was is : Bool) (before old new : Option (List ℕ)) (line : List ℕ) (place now : Progress) (one : ScriptLine) (says : Said) → (was ≡ true → is ≡ true) → ReadSoFar was before old place says
     → (is ≡ false → TakesLine place line one old new) → now ≡ after place one → ReadSoFar is before new now (then says (said_of one))
 reads_line was true before old new line place now one says stays r taken placed = tt
 reads_line true false before old new line place now one says stays r taken placed = absurd (cc (stays refl))
 reads_line false false before old new line place now one says stays r taken placed = rw placed (line_taken before old new line place one says r (taken refl))
 
--- the source failed
+-- If the source fails in an unfinished line, the bytes read are the whole lines and the part of that line.
 read_up_to : (bytes rest unfinished next : List ℕ) (n : Progress) (says : Said) → LinesRead bytes rest n says → Feedless unfinished → rest ≡ unfinished ++ next → ReadsUpTo bytes (Some next) says
 read_up_to bytes rest unfinished next n says r feedless taken = record {
   read = with_feeds r.lines ++ unfinished;
@@ -124,7 +125,7 @@ script_parts : (bytes read rest : List ℕ) (more : List (List ℕ)) (says : Sai
     → script_of bytes ≡ with_said says (script_from (after_lines unread (ended_lines read)) more)
 script_parts bytes read rest more says parts lines are = ap script_of parts ∙ ap (script_from unread) lines ∙ script_from-append unread (ended_lines read) more says are
 
--- Behind a line that ends the head of a script no line asks for anything.
+-- After a line that ends the head of a script, no line asks for anything.
 
 none_by_reading : (place : Progress) (line : List ℕ) (reading : Reading) (rest : ScriptLine → Script) → place.head ≡ Begun → read_of place line ≡ reading
     → ((says : ScriptLine) → (after place says).head ≡ Begun → (rest says).says.caps ≡ None) → (with_line (place.lines + 1) reading rest).says.caps ≡ None
@@ -146,13 +147,13 @@ still_begun place (line ∷ lines) says begun is =
     let body : is_body first.line ≡ true = body_lines place line first.line begun first.is in
     rw first.is (still_begun next lines (script_from next lines).says (stays_begun place next first.line begun body refl) first.others)
 
--- a line that ends the head, or a silent one
+-- A line ends the head or is silent.
 head_or_silent : (place : Progress) (line : ScriptLine) → (is_silent (said_of line) ≡ true) ⊎ ((after place line).head ≡ Begun)
 head_or_silent place Skip = inl refl
 head_or_silent place (Version version) = inl refl
 head_or_silent place _ = inr refl
 
--- lines that aren't silent end the head
+-- Lines that aren't all silent end the head.
 pub head_ended : (place : Progress) (lines : List (List ℕ)) (says : Said) → script_from place lines ≡ whole says → (is_silent says ≡ true) ⊎ ((after_lines place lines).head ≡ Begun)
 head_ended place [] says is = inl (ap (λ (s : Script). is_silent s.says) (sym is))
 head_ended place (line ∷ lines) says is =
@@ -172,7 +173,7 @@ asked_behind : (place : Progress) (lines : List (List ℕ)) (says : Said) → (i
 asked_behind place lines says (inl e) = inl e
 asked_behind place lines says (inr begun) = inr (none_asked place lines begun)
 
--- what the lines say that were read whole, the script says first
+-- A script begins with what its lines that were read whole say.
 pub first_of_read : (bytes : List ℕ) (left : Option (List ℕ)) (says : Said) → ReadsUpTo bytes left says → BeginsSaying says (script_of bytes).says
 first_of_read bytes left says r =
     let more = first_of_ended r.read r.rest in
@@ -183,7 +184,7 @@ first_of_read bytes left says r =
       asked = asked_behind place more.0 says (head_ended unread (ended_lines r.read) says r.lines);
     }
 
--- what is to come behind lines that said this asks for nothing, unless they are silent
+-- After lines that aren't silent, the rest of a script asks for nothing.
 pub none_to_come : (place : Progress) (ahead : Option (List (List ℕ))) (says : Said) → (is_silent says ≡ true) ⊎ (place.head ≡ Begun)
     → (is_silent says ≡ true) ⊎ IfSome (option_map (script_from place) ahead) (λ s. s.says.caps ≡ None)
 none_to_come place ahead says (inl e) = inl e

@@ -1,5 +1,5 @@
 pub mod Script
 pub mod Stops
+pub mod Reading
 pub mod Plays
 pub mod Position
-pub mod Reading

@@ -1,14 +1,15 @@
--- What of a script a run has.
+-- Defines which part of a script a run has.
 use Rattle.std.specs.Prelude.{ℕ, ◌≡◌, List, ◌++◌, Option, Some, IfSome, Result, Ok, Err}
-use Rattle.dsql_driver.specs.declared.caps.Caps.{Caps}
+use Rattle.dsql_history.specs.driver.declared.caps.Caps.{Caps}
 use Rattle.dsql_follows.specs.declared.line.Line.{Line}
-use Rattle.dsql_stream.specs.Lines.{ended_lines}
-use Rattle.dsql_reader.specs.ScriptHead.{unread}
+use Rattle.dsql_driver_stream.specs.Lines.{ended_lines}
+use Rattle.dsql_script_reader.specs.ScriptHead.{unread}
 use Rattle.dsql_script_source.specs.Script.{Said, Says, SaysFirst, script_from, whole}
 use Rattle.dsql_script_source.specs.declared.stop.Stop.{Stop}
 use Rattle.dsql_script_source.specs.declared.stop.Stop.TheVariants.{Read, Refused}
 
--- These bytes were read, and what is left is what stands behind them. The lines that were read whole say this; none of them is refused.
+-- Holds if some of these bytes were read and the rest are still left. The lines that were read whole say this,
+-- and none of them is refused.
 pub record ReadsUpTo (bytes : List ℕ) (after : Option (List ℕ)) (says : Said) : Type 0 where
   pub read : List ℕ
   pub rest : List ℕ
@@ -16,13 +17,17 @@ pub record ReadsUpTo (bytes : List ℕ) (after : Option (List ℕ)) (says : Said
   pub parts : bytes ≡ read ++ rest
   pub lines : script_from unread (ended_lines read) ≡ whole says
 
--- The run has of the script, by what was left of the source before and after: all that its lines say, what those before a refused line say, what those say that were read whole, or what the first ones say.
+-- Holds if the run has this part of the script, by the bytes that the source had left before and after. A run
+-- that succeeded has all that the lines say. A run that ended at a refused line has what the lines before it
+-- say. A run whose source failed has what the lines that were read whole say. A run that ended with any other
+-- fault has what the first lines say.
 abbrev pub Plays : Result Unit Stop → Option (List ℕ) → Option (List ℕ) → Said → Type 0
 Plays (Ok _) before after says = Says before (whole says)
-Plays (Err (Refused number fault)) before after says = Says before (record { says = says; refused = Some (number, fault) })
+Plays (Err (Refused number fault)) before after says =
+    Says before (record { says = says; refused = Some (number, fault) })
 Plays (Err Read) before after says = IfSome before (λ bytes. ReadsUpTo bytes after says)
 Plays (Err _) before after says = SaysFirst before says
 
--- what a script asks its driver for, and its lines as they are played
+-- Returns what a script asks its driver for, together with its lines as they are played.
 abbrev pub saying : Option Caps → List Line → Said
 saying asked lines = record { caps = asked; lines = lines }

@@ -1,8 +1,8 @@
--- Where the reader of a script stands.
-use Rattle.dsql_stream.specs.Buffered.{Buffered}
-use Rattle.dsql_reader.specs.ScriptHead.{Progress}
+-- Defines the position of a reader in a script.
+use Rattle.dsql_driver_stream.specs.Buffered.{Buffered}
+use Rattle.dsql_script_reader.specs.ScriptHead.{Progress}
 
--- what was read ahead of the lines that were taken out, and how far these have been read
+-- The bytes that were read beyond the lines taken out, and how far these lines have been read.
 pub record Position : Type 0 where
   pub lines : Buffered
   pub reader : Progress

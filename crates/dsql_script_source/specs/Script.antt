@@ -1,18 +1,25 @@
--- What a script says: what its driver can do and its lines as they are played, up to the first one that is refused.
-use Rattle.std.specs.Prelude.{ℕ, ◌≡◌, ◌+◌, ◌&&◌, Bool, true, false, List, [], ◌∷◌, ◌++◌, ◌⊎◌, Option, Some, None, IfSome, Ok, Err, is_none}
+-- Defines what a script says: what its driver can do, and its lines as they are played, up to the first refused
+-- line.
+use Rattle.std.specs.Prelude.{Option, Some, None, ℕ, ◌≡◌, ◌+◌, ◌&&◌, Bool, true, false, List, [], ◌∷◌, ◌++◌, ◌⊎◌, IfSome, Ok, Err, is_none}
+use Rattle.dsql_history.specs.driver.declared.caps.Caps.{Caps}
 use Rattle.std.specs.List.{list_all}
-use Rattle.dsql_driver.specs.declared.caps.Caps.{Caps}
 use Rattle.dsql_follows.specs.declared.line.Line.{Line}
 use Rattle.dsql_follows.specs.declared.line.Line.TheVariants as played
-use Rattle.dsql_forms.specs.declared.fault.LineFault.{LineFault}
-use Rattle.dsql_reader.specs.declared.script.ScriptLine.{ScriptLine}
-use Rattle.dsql_reader.specs.declared.script.ScriptLine.TheVariants.{Skip, Version, UseCaps, Client, Step, StepHouse}
-use Rattle.dsql_reader.specs.declared.script.ScriptLine.TheVariants as script
-use Rattle.dsql_reader.specs.ScriptHead.{Progress, unread, after}
-use Rattle.dsql_reader.specs.ScriptLines.{Reading, read_of}
-use Rattle.dsql_stream.specs.Lines.{all_lines}
+use Rattle.dsql_script_forms.specs.declared.fault.LineFault.{LineFault}
+use Rattle.dsql_script_reader.specs.declared.script.ScriptLine.{ScriptLine}
+use Rattle.dsql_script_reader.specs.declared.script.ScriptLine.TheVariants.{Skip, Version, UseCaps, Client, Step, StepHouse}
+use Rattle.dsql_script_reader.specs.declared.script.ScriptLine.TheVariants as script
+use Rattle.dsql_script_reader.specs.ScriptHead.{Progress, unread, after}
+use Rattle.dsql_script_reader.specs.ScriptLines.{Reading, read_of}
+use Rattle.dsql_driver_stream.specs.Lines.{all_lines}
 
--- what lines say: what their caps line asks for, if there is one, and what they ask for, oldest first
+-- Returns the later of two requests for capabilities, or the earlier if there is no later one.
+abbrev pub later : Option Caps → Option Caps → Option Caps
+later earlier None = earlier
+later earlier (Some caps) = Some caps
+
+-- What lines say: what their caps line asks for, if there is one, and the lines as they are played, in the
+-- script's order.
 pub record Said : Type 0 where
   pub caps : Option Caps
   pub lines : List Line
@@ -20,7 +27,7 @@ pub record Said : Type 0 where
 abbrev pub nothing : Said
 nothing = record { caps = None; lines = [] }
 
--- a line as it is played
+-- Returns a line as it is played.
 abbrev pub line_as_played : ScriptLine → Line
 line_as_played Skip = played.Skip
 line_as_played (Version version) = played.Skip
@@ -32,7 +39,7 @@ line_as_played (Client client op false) = played.Client client op
 line_as_played (Step client) = played.Step client
 line_as_played StepHouse = played.StepHouse
 
--- what a line asks the driver for
+-- Returns what a line asks the driver for, or `None` if it isn't a caps line.
 abbrev pub caps_asked : ScriptLine → Option Caps
 caps_asked (UseCaps caps) = Some caps
 caps_asked _ = None
@@ -40,12 +47,7 @@ caps_asked _ = None
 abbrev pub said_of : ScriptLine → Said
 said_of line = record { caps = caps_asked line; lines = line_as_played line ∷ [] }
 
--- the later one, if there is one
-abbrev pub later : Option Caps → Option Caps → Option Caps
-later earlier None = earlier
-later earlier (Some caps) = Some caps
-
--- what lines say, and then what other ones say
+-- Returns what lines say, followed by what later lines say.
 abbrev pub then : Said → Said → Said
 then first more = record { caps = later first.caps more.caps; lines = first.lines ++ more.lines }
 
@@ -53,50 +55,52 @@ abbrev pub is_skip : Line → Bool
 is_skip played.Skip = true
 is_skip _ = false
 
--- No line among them is a caps line, and all are skipped as they are played.
+-- Is true if no line is a caps line, and all are skipped as they are played.
 abbrev pub is_silent : Said → Bool
 is_silent says = is_none says.caps && list_all is_skip says.lines
 
--- what lines say up to the first one that is refused, and that one, if there is one
+-- What lines say up to the first refused line, and that line's number and fault, if there is one.
 pub record Script : Type 0 where
   pub says : Said
   pub refused : Option (ℕ × LineFault)
 
--- no line is refused
+-- Returns a script of which no line is refused.
 abbrev pub whole : Said → Script
 whole says = record { says = says; refused = None }
 
--- a script whose first line is refused
+-- Returns a script whose first line is refused.
 abbrev pub refused_at : ℕ → LineFault → Script
 refused_at number fault = record { says = nothing; refused = Some (number, fault) }
 
--- a script behind lines that say this
+-- Returns the script that follows lines that say this, together with them.
 abbrev pub with_said : Said → Script → Script
 with_said says rest = record { says = then says rest.says; refused = rest.refused }
 
--- a line of this number, and what stands behind it
+-- Returns the script that a line of this number makes with the lines after it, or its refusal.
 abbrev pub with_line : ℕ → Reading → (ScriptLine → Script) → Script
 with_line number (Ok line) rest = with_said (said_of line) (rest line)
 with_line number (Err fault) rest = refused_at number fault
 
--- what these lines say, where the script was read so far before them
+-- Returns what these lines say at this position of the script.
 abbrev pub script_from : Progress → List (List ℕ) → Script
 script_from before [] = whole nothing
-script_from before (line ∷ more) = with_line (before.lines + 1) (read_of before line) (λ says. script_from (after before says) more)
+script_from before (line ∷ more) =
+    with_line (before.lines + 1) (read_of before line) (λ says. script_from (after before says) more)
 
 abbrev pub script_of : List ℕ → Script
 script_of bytes = script_from unread (all_lines bytes)
 
--- where the bytes are known, this is what they say
+-- Holds if the bytes, if they are known, say this.
 abbrev pub Says : Option (List ℕ) → Script → Type 0
 Says bytes script = IfSome bytes (λ b. script_of b ≡ script)
 
--- What lines say begins with this. Unless this is silent, nothing more is asked of the driver behind it.
+-- Holds if what lines say begins with this. Unless this is silent, the lines after it ask the driver for
+-- nothing.
 pub record BeginsSaying (front all : Said) : Type 0 where
   pub rest : Said
   pub parts : all ≡ then front rest
   pub asked : (is_silent front ≡ true) ⊎ (rest.caps ≡ None)
 
--- where the bytes are known, they say this first
+-- Holds if the bytes, if they are known, say this first.
 abbrev pub SaysFirst : Option (List ℕ) → Said → Type 0
 SaysFirst bytes says = IfSome bytes (λ b. BeginsSaying says (script_of b).says)

@@ -1,4 +1,5 @@
-//! A script that is read line by line from a source, and what it says.
+//! Reads a script line by line from a source, and says what its lines ask for, how far it was read and why it
+//! stops.
 #![tactic(auto)]
 
 mod head;

@@ -2,10 +2,10 @@ ghost use Rattle.std.specs.Prelude.{◌≡◌};
 ghost use Rattle.dsql_script_source.specs.Script.{line_as_played};
 
 use dsql_follows::Line;
-use dsql_reader::ScriptLine;
+use dsql_script_reader::ScriptLine;
 
-/// A line of a script as it is played. Lines of the version and of the capabilities are for what comes
-/// before the run: they are skipped.
+/// Returns a line of a script as it is played. Version lines and caps lines concern only the time before the
+/// run: a run skips them.
 pub fn line_as_played(line: ScriptLine) -> Line
     ensures { result ≡ line_as_played line }
 {

@@ -1,9 +1,9 @@
 ghost use Rattle.std.specs.Prelude.{◌≡◌, ◌+◌, ◌≤◌, ℕ, List, Option, true, false, [], None, IfOk, IfErr, IfSome, is_some, length};
-ghost use Rattle.dsql_stream.specs.Faults.{CountsFaults};
-ghost use Rattle.dsql_stream.specs.Lines.{ahead, SawTheEnd};
-ghost use Rattle.dsql_reader.specs.ScriptHead.{unread, after};
-ghost use Rattle.dsql_reader.specs.ScriptLines.{most_lines, read_of};
-ghost use Rattle.dsql_reader.specs.declared.script.Head.{Head};
+ghost use Rattle.dsql_driver_stream.specs.Faults.{CountsFaults};
+ghost use Rattle.dsql_driver_stream.specs.Lines.{ahead, SawTheEnd};
+ghost use Rattle.dsql_script_reader.specs.ScriptHead.{unread, after};
+ghost use Rattle.dsql_script_reader.specs.ScriptLines.{most_lines, read_of};
+ghost use Rattle.dsql_script_reader.specs.declared.script.Head.{Head};
 ghost use Rattle.dsql_script_source.specs.Position.{position};
 ghost use Rattle.dsql_script_source.specs.Reading.{HasRead, ReadTo, IsBodyLine, ends_head, NoLine, to_come, ReadsOn, TakesLine, DropsUnfinished, StopsReading, IsRefusal, came};
 ghost use Rattle.dsql_script_source.specs.Script.{Said, nothing};
@@ -11,21 +11,21 @@ ghost use Rattle.dsql_script_source.specs.Stops.{is_read_fault, IsReadStop};
 ghost use Rattle.dsql_script_source.specs.declared.stop.Stop.TheVariants.{Read};
 
 use crate::stop::Stop;
-use dsql_driver::Source;
-use dsql_reader::{LineFault, Reader, ScriptLine};
-use dsql_stream::LineReader;
-use dsql_value::Memory;
+use dsql_driver_stream::LineReader;
+use dsql_history::{Memory, Source};
+use dsql_script_reader::{LineFault, Reader, ScriptLine};
 use std::alloc::Global;
 use std::marker::Model;
 
-/// Reads a script line by line. Contracts see what it has read ahead, and how far the script is read.
+/// A reader of a script, line by line. Contracts see what it has read ahead, and how far the script has been
+/// read.
 #[derive(Drop)]
 pub struct ScriptReader {
-    /// Takes the lines out of the source.
+    /// Reads the lines from the source.
     lines: LineReader,
-    /// Says what each line says.
+    /// Reads what each line says.
     reader: Reader,
-    /// The line that was taken out last.
+    /// The line that was read last.
     line: Vec<u8>,
 }
 
@@ -38,7 +38,7 @@ impl Model for ScriptReader {
 }
 
 impl ScriptReader {
-    /// A reader that has read nothing.
+    /// Returns a reader that has read nothing.
     pub fn new(alloc: Global) -> Result<ScriptReader, Memory>
         ensures lines { IfOk result (λ r. r.lines ≡ record { pending = []; ended = false }) }
         ensures reader { IfOk result (λ r. r.reader ≡ unread) }
@@ -51,22 +51,25 @@ impl ScriptReader {
         })
     }
 
-    /// Reads the next line, if there is one. No line of the version or of the capabilities comes behind
-    /// the first one that is neither skipped nor of the version.
+    /// Reads the next line, if there is one. After the first line that is neither skipped nor the version line,
+    /// it returns no version line and no caps line.
     ///
     /// # Errors
     ///
-    /// The source's fault, want of memory, or the line that is refused.
+    /// The source's fault, a lack of memory, or the line that is refused.
     pub fn next<S: Source>(
         &mut self,
         alloc: Global,
         input: &mut S,
     ) -> Result<Option<ScriptLine>, Stop>
-        ensures reads { (before : Option (List ℕ)) (says : Said) → HasRead before self.old (S.left input.old) says → ReadTo result before self.new (S.left input.new) says }
+        ensures reads { (before : Option (List ℕ)) (says : Said) → HasRead before self.old (S.left input.old) says
+            → ReadTo result before self.new (S.left input.new) says }
         ensures body { self.old.reader.head ≡ Head.Begun → IfOk result IsBodyLine }
         ensures begun { self.old.reader.head ≡ Head.Begun → self.new.reader.head ≡ Head.Begun }
-        ensures headed { IfOk result (λ line. IfSome line (λ says. ends_head says ≡ true → self.new.reader.head ≡ Head.Begun)) }
-        ensures counted { (before : Option (List ℕ)) (says : Said) → HasRead before self.old (S.left input.old) says → length says.lines + came result ≡ self.new.reader.lines }
+        ensures headed { IfOk result (λ line. IfSome line (λ says. ends_head says ≡ true → self.new.reader.head
+            ≡ Head.Begun)) }
+        ensures counted { (before : Option (List ℕ)) (says : Said) → HasRead before self.old (S.left input.old) says
+            → length says.lines + came result ≡ self.new.reader.lines }
         ensures numbered { IfOk result (λ line. IfSome line (λ _. self.new.reader.lines ≡ self.old.reader.lines + 1)) }
         ensures few { IfOk result (λ line. IfSome line (λ _. self.new.reader.lines ≤ most_lines)) }
         ensures readable { IfErr result IsReadStop }
@@ -82,7 +85,7 @@ impl ScriptReader {
         )
     }
 
-    /// How many lines were read.
+    /// Returns how many lines were read.
     pub fn count(&self) -> u16
         ensures { result ≡ self.now.reader.lines }
     {
@@ -90,7 +93,7 @@ impl ScriptReader {
     }
 }
 
-/// Takes the next line out of the source and reads it, if there is one.
+/// Takes the next line from the source and reads it, if there is one.
 fn take_line<S: Source>(
     alloc: Global,
     lines: &mut LineReader,
@@ -98,11 +101,17 @@ fn take_line<S: Source>(
     line: &mut Vec<u8>,
     input: &mut S,
 ) -> Result<Option<ScriptLine>, Stop>
-    ensures read { IfOk result (λ one. ReadsOn one (to_come (position lines.old reader.old) (S.left input.old)) (to_come (position lines.new reader.new) (S.left input.new))) }
-    ensures taken { IfOk result (λ one. IfSome one (λ says. lines.new.ended ≡ false → TakesLine reader.old line.new.items says (ahead lines.old (S.left input.old)) (ahead lines.new (S.left input.new)))) }
-    ensures dropped { result ≡ Err Read → DropsUnfinished lines.old.ended line.new.items (ahead lines.old (S.left input.old)) (S.left input.new) }
+    ensures read { IfOk result (λ one. ReadsOn one (to_come (position lines.old reader.old) (S.left input.old))
+        (to_come (position lines.new reader.new) (S.left input.new))) }
+    ensures taken { IfOk result (λ one. IfSome one (λ says. lines.new.ended ≡ false
+        → TakesLine reader.old line.new.items says (ahead lines.old (S.left input.old))
+        (ahead lines.new (S.left input.new)))) }
+    ensures dropped { result ≡ Err Read
+        → DropsUnfinished lines.old.ended line.new.items (ahead lines.old (S.left input.old))
+        (S.left input.new) }
     ensures ended { lines.old.ended ≡ true → lines.new.ended ≡ true }
-    ensures end { result ≡ Ok None → SawTheEnd lines.old (S.left input.old) → IfSome (S.left input.new) (λ bytes. bytes ≡ []) }
+    ensures end { result ≡ Ok None → SawTheEnd lines.old (S.left input.old)
+        → IfSome (S.left input.new) (λ bytes. bytes ≡ []) }
     ensures stopped { IfErr result (StopsReading (to_come (position lines.old reader.old) (S.left input.old))) }
     ensures placed { IfOk result (λ one. IfSome one (λ says. reader.new ≡ after reader.old says)) }
     ensures is { IfOk result (λ one. IfSome one (λ says. read_of reader.old line.new.items ≡ Ok says)) }
@@ -118,7 +127,7 @@ fn take_line<S: Source>(
     Ok(None)
 }
 
-/// Reads a line, or says which line is refused.
+/// Reads a line, or returns the number of the refused line with its fault.
 fn read_line(reader: &mut Reader, alloc: Global, line: &[u8]) -> Result<ScriptLine, Stop>
     ensures ok { IfOk result (λ s. read_of reader.old line.now ≡ Ok s) }
     ensures counted { IfOk result (λ s. reader.new ≡ after reader.old s) }

@@ -1,9 +1,9 @@
 ghost use Rattle.std.specs.Prelude.{◌≡◌};
 ghost use Rattle.dsql_script_source.specs.declared.stop.Stop.TheVariants as stops;
 
-use dsql_reader::LineFault;
-use dsql_stream::ReadFault;
-use dsql_value::Memory;
+use dsql_driver_stream::ReadFault;
+use dsql_history::Memory;
+use dsql_script_reader::LineFault;
 use std::error::Error;
 use std::fmt;
 
@@ -14,16 +14,16 @@ pub enum Stop {
     Read,
     /// The sink of the report failed.
     Write,
-    /// There was no memory.
+    /// Memory was lacking.
     Memory,
-    /// A line of the script is refused. Lines count from 1, skipped ones too.
+    /// A line of the script is refused. Lines are numbered from 1, including skipped ones.
     Refused {
         /// The line's number.
         number: u32,
-        /// Why it is refused.
+        /// The reason for which it is refused.
         fault: LineFault,
     },
-    /// The run has as many events as a run may have.
+    /// The run has as many events as it may have.
     Full,
 }
 

@@ -1,4 +1,4 @@
--- A statement of one number in the table.
+-- The statement with a number in the table, and what changes it.
 use Rattle.std.proofs.Common.{◌≡◌, ◌≢◌, ℕ, Bool, true, false, cond, eqb, List, [], ◌∷◌, Option, Some, None, refl, sym, ap, ◌∙◌}
 use Rattle.std.specs.Prelude.{is_some}
 use Rattle.std.specs.Option.{option_map}
@@ -10,11 +10,11 @@ use Rattle.dsql_stmt.specs.Statements.{stmt_of, was_added, changed, closed_by, i
 use Rattle.dsql_stmt.specs.Laws.{ChangesOneStatement}
 use Rattle.dsql_stmt.proofs.Counts.{lookup-new, lookup-beside}
 
--- the statements, with another written in the place of that number's
+-- Returns the statements with another one in the place of the one with this number.
 abbrev pub with_stmt : ℕ → List (ℕ × Stmt) → Stmt → List (ℕ × Stmt)
 with_stmt n stmts new = set_value (λ k. eqb n k) stmts new
 
--- a change of what was found, written back
+-- Writing back a change of the statement that was found changes the statement with that number.
 pub with_stmt-changed : (change : Stmt → Stmt) (n : ℕ) (stmts : List (ℕ × Stmt)) (old : Stmt) → stmt_of n stmts ≡ Some old → with_stmt n stmts (change old) ≡ changed change n stmts
 with_stmt-changed change n [] old h = refl
 with_stmt-changed change n (e ∷ later) old h =
@@ -26,7 +26,7 @@ with_stmt-changed change n (e ∷ later) old h =
 pub not_added : (n : ℕ) (stmts : List (ℕ × Stmt)) → was_added n stmts ≡ false → stmt_of n stmts ≡ None
 not_added n stmts h = elim (stmt_of n stmts) as (λ o. is_some o ≡ false → o ≡ None) [ None ↦ λ k. refl | Some s ↦ λ k. cc ] h
 
--- a statement that is closed stays as it is
+-- A statement that is closed stays as it is.
 pub changed-closed : (call n : ℕ) (stmts : List (ℕ × Stmt)) (stmt : Stmt) → stmt_of n stmts ≡ Some stmt → is_open stmt ≡ false → changed (closed_by call) n stmts ≡ stmts
 changed-closed call n stmts stmt found closed =
     sym (with_stmt-changed (closed_by call) n stmts stmt found)

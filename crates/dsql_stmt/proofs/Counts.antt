@@ -1,4 +1,4 @@
--- How many of a list pass a test, and what a look-up finds.
+-- How many items of a list pass a test, and what a look-up finds. The proofs go by induction on the list.
 use Rattle.std.proofs.Common.{◌≡◌, ℕ, ◌+◌, ◌≤◌, Bool, true, false, cond, ◌||◌, List, [], ◌∷◌, ◌++◌, filter, Some, None, refl, sym, ap, ◌∙◌, true≢false, arith}
 use Rattle.std.specs.Prelude.{count_by, not}
 use Rattle.std.specs.List.{list_any}
@@ -20,7 +20,7 @@ module _ {X : Type 0} (p : X → Bool) where
   pub counted_more : (x : X) (xs : List X) → count_by p xs ≤ count_by p (x ∷ xs)
   counted_more x xs = omega (arith, counted x xs)
 
-  -- of a part no more pass
+  -- No more items pass if some are left out.
   pub count_by-filter : (keep : X → Bool) (xs : List X) → count_by p (filter keep xs) ≤ count_by p xs
   count_by-filter keep [] = omega arith
   count_by-filter keep (x ∷ xs) =
@@ -30,11 +30,11 @@ module _ {X : Type 0} (p : X → Bool) where
         | false ↦ omega (arith, rest, counted_more x xs)
       ]
 
-  -- one more at the end
+  -- One more item at the end counts one more if it passes.
   pub count_by-push : (xs : List X) (x : X) → count_by p (xs ++ x ∷ []) ≡ count_by p xs + cond (p x) 1 0
   count_by-push xs x = sum_by_push (λ (y : X). cond (p y) 1 0) xs x
 
-  -- where none passes
+  -- If no item passes, the count is 0.
   pub none_counted : (xs : List X) → list_any p xs ≡ false → count_by p xs ≡ 0
   none_counted [] h = refl
   none_counted (x ∷ xs) h =
@@ -43,7 +43,7 @@ module _ {X : Type 0} (p : X → Bool) where
         | false ↦ λ fails none. omega (arith, none_counted xs none, counted_none x xs fails)
       ] refl h
 
-  -- what is left without those that pass
+  -- If the items that pass are left out, none that passes is left.
   pub none_left : (xs : List X) → list_any p (filter (λ x. not (p x)) xs) ≡ false
   none_left [] = refl
   none_left (x ∷ xs) =
@@ -53,11 +53,11 @@ module _ {X : Type 0} (p : X → Bool) where
       ] refl
 
 module _ {K V : Type 0} (test : K → Bool) where
-  -- the entries that a look-up may find
+  -- Returns how many entries a look-up may find.
   abbrev pub count_of : List (K × V) → ℕ
   count_of es = count_by (λ (e : K × V). test e.0) es
 
-  -- what is found is counted
+  -- An entry that is found is counted.
   pub found_counted : (es : List (K × V)) (v : V) → lookup test es ≡ Some v → 1 ≤ count_of es
   found_counted [] v h = absurd (none-some v h)
   found_counted (e ∷ es) v h =
@@ -66,7 +66,7 @@ module _ {K V : Type 0} (test : K → Bool) where
         | false ↦ λ apart behind. omega (arith, found_counted es v behind, counted_more (λ (e : K × V). test e.0) e es)
       ] refl h
 
-  -- what isn't counted isn't found
+  -- If no entry is counted, none is found.
   pub uncounted : (es : List (K × V)) → count_of es ≡ 0 → lookup test es ≡ None
   uncounted [] h = refl
   uncounted (e ∷ es) h =
@@ -75,7 +75,7 @@ module _ {K V : Type 0} (test : K → Bool) where
         | false ↦ λ apart. uncounted es (omega (arith, h, counted_more (λ (e : K × V). test e.0) e es))
       ] refl
 
-  -- and what isn't found isn't counted
+  -- If no entry is found, none is counted.
   pub unfound : (es : List (K × V)) → lookup test es ≡ None → count_of es ≡ 0
   unfound [] h = refl
   unfound (e ∷ es) h =
@@ -84,7 +84,7 @@ module _ {K V : Type 0} (test : K → Bool) where
         | false ↦ λ apart none. omega (arith, unfound es none, counted_none (λ (e : K × V). test e.0) e es apart)
       ] refl h
 
-  -- an entry at the end is found where none is before
+  -- An entry at the end is found if none is found before it.
   pub lookup-new : (es : List (K × V)) (new : K × V) → test new.0 ≡ true → lookup test es ≡ None → lookup test (es ++ new ∷ []) ≡ Some new.1
   lookup-new [] new passes h = cond-true (test new.0) (Some new.1) None passes
   lookup-new (e ∷ es) new passes h =
@@ -93,13 +93,13 @@ module _ {K V : Type 0} (test : K → Bool) where
         | false ↦ λ none. lookup-new es new passes none
       ] h
 
-  -- an entry at the end that doesn't pass isn't found
+  -- An entry at the end that doesn't pass isn't found.
   pub lookup-beside : (es : List (K × V)) (new : K × V) → test new.0 ≡ false → lookup test (es ++ new ∷ []) ≡ lookup test es
   lookup-beside [] new fails = ap (λ (b : Bool). cond b (Some new.1) None) fails
   lookup-beside (e ∷ es) new fails = ap (λ o. cond (test e.0) (Some e.1) o) (lookup-beside es new fails)
 
   module _ (keep : K × V → Bool) where
-    -- where all that pass are kept, the same is found
+    -- If all entries that pass are kept, the same is found.
     pub lookup-kept : ((e : K × V) → test e.0 ≡ true → keep e ≡ true) → (es : List (K × V)) → lookup test (filter keep es) ≡ lookup test es
     lookup-kept h [] = refl
     lookup-kept h (e ∷ es) =
@@ -111,7 +111,7 @@ module _ {K V : Type 0} (test : K → Bool) where
           ] refl)
         ] refl
 
-    -- where none that passes is kept, nothing is found
+    -- If no entry that passes is kept, nothing is found.
     pub lookup-gone : ((e : K × V) → test e.0 ≡ true → keep e ≡ false) → (es : List (K × V)) → lookup test (filter keep es) ≡ None
     lookup-gone h [] = refl
     lookup-gone h (e ∷ es) =
@@ -123,7 +123,7 @@ module _ {K V : Type 0} (test : K → Bool) where
           | false ↦ λ gone. lookup-gone h es
         ] refl
 
-    -- where what is found is kept, it is found
+    -- If what is found is kept, it is still found.
     pub lookup-first : (v : V) → ((e : K × V) → test e.0 ≡ true → e.1 ≡ v → keep e ≡ true) → (es : List (K × V)) → lookup test es ≡ Some v → lookup test (filter keep es) ≡ Some v
     lookup-first v h [] found = absurd (none-some v found)
     lookup-first v h (e ∷ es) found =

@@ -1,4 +1,5 @@
--- What is live once all that a close handed out was dropped.
+-- What is live after all that a close handed out was dropped. Dropping one after another is the same as leaving
+-- out all at once.
 use Rattle.std.proofs.Common.{◌≡◌, ◌≢◌, ℕ, Bool, true, false, ◌||◌, cond, eqb, filter, map, List, [], ◌∷◌, Some, None, Contains, refl, sym, ap, ◌∙◌, true≢false, arith}
 use Rattle.std.specs.Prelude.{not}
 use Rattle.std.specs.List.{list_any}
@@ -12,14 +13,14 @@ use Rattle.dsql_stmt.proofs.OneEach.{one_handle_each}
 use Rattle.dsql_stmt.proofs.HandedOut.{pair_of, contains_first, contains_later, only}
 use Rattle.dsql_stmt.proofs.Seen.{seen}
 
--- it is one of these
+-- Is true if the live handle is one of these.
 abbrev pub is_among : List (ℕ × ℕ) → Live → Bool
 is_among handles l = list_any (λ (pair : ℕ × ℕ). is_handle pair.0 pair.1 l) handles
 
 abbrev pub without_all : List (ℕ × ℕ) → List Live → List Live
 without_all handles live = filter (λ l. not (is_among handles l)) live
 
--- what is left without one and without the others
+-- Leaving out one handle and then the others leaves out all of them.
 without_both : (pair : ℕ × ℕ) (handles : List (ℕ × ℕ)) (live : List Live) → without_all handles (without_handle pair.0 pair.1 live) ≡ without_all (pair ∷ handles) live
 without_both pair handles [] = refl
 without_both pair handles (l ∷ live) =
@@ -37,7 +38,7 @@ or_second : (a b : Bool) → b ≡ true → (a || b) ≡ true
 or_second true b h = refl
 or_second false b h = h
 
--- where all of a statement's are among those that go, nothing of it is left
+-- If all handles of a statement are among those that go, nothing of it is left.
 nothing : (n : ℕ) (handles : List (ℕ × ℕ)) (live : List Live) → ((l : Live) → is_among (handles_of n live) l ≡ true → is_among handles l ≡ true) → handles_of n (without_all handles live) ≡ []
 nothing n handles [] h = refl
 nothing n handles (l ∷ live) h =
@@ -57,7 +58,7 @@ nothing n handles (l ∷ live) h =
           ]
     ] refl h
 
--- what is among them stands there
+-- A live handle that is among the handles is an item of their list.
 stands : (handles : List (ℕ × ℕ)) (l : Live) → is_among handles l ≡ true → Contains handles (pair_of l)
 stands [] l h = absurd (true≢false (sym h))
 stands (pair ∷ handles) l h =
@@ -70,7 +71,7 @@ stands (pair ∷ handles) l h =
       | false ↦ λ apart later. contains_later pair (pair_of l) handles (stands handles l later)
     ] refl h
 
--- a handle of another statement isn't among those of this one
+-- A handle of another statement isn't among those of this one.
 not_among : (n other conn : ℕ) (p : Prepared) (live : List Live) → other ≢ n → IsOneEach live → prepared_on other conn live ≡ Some p → is_among (handles_of n live) ((other, conn), p) ≡ false
 not_among n other conn p live apart one found =
     elim (is_among (handles_of n live) ((other, conn), p)) as (λ b. is_among (handles_of n live) ((other, conn), p) ≡ b → b ≡ false) [
@@ -80,7 +81,7 @@ not_among n other conn p live apart one found =
       | false ↦ λ _. refl
     ] refl
 
--- where something of another statement is live, it stays
+-- What another statement has live on a connection stays.
 stay : (n other conn : ℕ) (live : List Live) → other ≢ n → IsOneEach live → prepared_on other conn (without_all (handles_of n live) live) ≡ prepared_on other conn live
 stay n other conn live apart one =
     let keep : Live → Bool = λ l. not (is_among (handles_of n live) l) in

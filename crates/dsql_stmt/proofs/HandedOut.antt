@@ -1,4 +1,5 @@
--- What a close hands out.
+-- What a close hands out: each live handle of an open statement, and nothing else. The proofs go by induction
+-- on the live handles.
 use Rattle.std.proofs.Common.{◌≡◌, ℕ, ℤ, zero, suc, ◌≤◌, ◌<◌, Bool, true, false, cond, eqb, filter, map, length, List, [], ◌∷◌, Some, None, Contains, refl, sym, ap, ◌∙◌, subst, arith}
 use Rattle.std.specs.Prelude.{count_by, is_none, slice_index_or}
 use Rattle.std.specs.Option.{option_map}
@@ -11,7 +12,7 @@ use Rattle.dsql_stmt.specs.Laws.{HandsOutTheLive}
 use Rattle.dsql_stmt.proofs.Counts.{found_counted, counted_one, counted_more}
 use Rattle.dsql_stmt.proofs.Places.{all_of, neither, place_is, place_of, prepared_is}
 
--- a connection and a handle
+-- Returns the connection and the number of a live handle.
 abbrev pub pair_of : Live → ℕ × ℕ
 pair_of l = (l.0.1, l.1.handle)
 
@@ -38,11 +39,11 @@ each n conn p (l ∷ live) h =
           ]
     ] refl h
 
--- what is found has that number
+-- Holds if the statement's live handle on the connection has this number.
 abbrev pub IsOn : ℕ → ℕ → ℕ → List Live → Type 0
 IsOn n conn handle live = (inputs : ℤ) × (handle_on n conn live ≡ Some (handle, inputs))
 
--- one more in front, at another place
+-- A handle stays live if one at another place comes in front.
 behind_another : (n conn handle : ℕ) (l : Live) (live : List Live) → is_place n conn l.0 ≡ false → IsOn n conn handle live → IsOn n conn handle (l ∷ live)
 behind_another n conn handle l live apart on =
     (on.0, ap (λ (b : Bool). option_map inputs_of (cond b (Some l.1) (prepared_on n conn live))) apart ∙ on.1)
@@ -54,7 +55,7 @@ at_front n conn handle l live own same =
       ap (λ (b : Bool). option_map inputs_of (cond b (Some l.1) (prepared_on n conn live))) on ∙ ap (λ (q : ℕ × ℕ). Some (q.1, l.1.inputs)) same,
     )
 
--- what stands at a place of the list is live there
+-- An item of a statement's handles is live if the statement's front handle stands before them.
 in_front : (n conn handle : ℕ) (l : Live) (live : List Live) → count_by (λ (m : Live). is_place n conn m.0) (l ∷ live) ≤ 1 → is_of n l ≡ true → (Contains (handles_of n live) (conn, handle) → IsOn n conn handle live) → (k : ℕ) → k < length (pair_of l ∷ handles_of n live) → slice_index_or (pair_of l ∷ handles_of n live) k (conn, handle) ≡ (conn, handle) → IsOn n conn handle (l ∷ live)
 in_front n conn handle l live one own rest zero lt at = at_front n conn handle l live own at
 in_front n conn handle l live one own rest (suc k) lt at =
@@ -75,7 +76,7 @@ only n conn handle (l ∷ live) one c =
       | false ↦ λ other has. behind_another n conn handle l live (neither (eqb n l.0.0) (eqb conn l.0.1) other) (rest has)
     ] refl c
 
--- of a statement that is open all is handed out
+-- Each handle that a close hands out is live for the statement on its connection.
 from_open : (n conn handle : ℕ) (live : List Live) (stmt : Stmt) → IsOneEach live → Contains (handed_out n live stmt) (conn, handle) → IsOn n conn handle live
 from_open n conn handle live stmt one =
     elim (is_open stmt) as (λ b. Contains (cond b (handles_of n live) []) (conn, handle) → IsOn n conn handle live) [

@@ -1,4 +1,5 @@
--- A statement has at most one live handle on a connection, and a number there is that of one statement.
+-- A statement has at most one live handle on a connection, and a number there belongs to one statement. A new
+-- handle's place and number are both unused.
 use Rattle.std.proofs.Common.{◌≡◌, ℕ, ℤ, ◌+◌, ◌≤◌, Bool, true, false, cond, eqb, filter, List, [], ◌∷◌, ◌++◌, Some, None, refl, sym, ap, ◌∙◌, arith}
 use Rattle.std.specs.Prelude.{count_by, not}
 use Rattle.std.proofs.lemmas.Bool.{eqb-true, eq-eqb}
@@ -18,7 +19,7 @@ one_in_part keep live one = record {
   of_number = λ conn handle. omega (arith, count_by-filter (is_handle conn handle) keep live, one.of_number conn handle);
 }
 
--- a new one beside those at other places
+-- After a handle is added at a free place, each place still has at most one.
 one_at_place : (n conn handle : ℕ) (inputs : ℤ) (live : List Live) → handle_on n conn live ≡ None → IsOneEach live → (other there : ℕ) → count_by (λ (l : Live). is_place other there l.0) (live ++ live_handle n conn handle inputs ∷ []) ≤ 1
 one_at_place n conn handle inputs live none one other there =
     let more = count_by-push (λ (l : Live). is_place other there l.0) live (live_handle n conn handle inputs) in
@@ -30,7 +31,7 @@ one_at_place n conn handle inputs live none one other there =
       | false ↦ λ apart same. omega (arith, same, one.of_statement other there)
     ] refl more
 
--- a new one beside those of other numbers
+-- After a handle is added with an unused number, each number still has at most one handle.
 one_of_number : (n conn handle : ℕ) (inputs : ℤ) (live : List Live) → is_live conn handle live ≡ false → IsOneEach live → (there number : ℕ) → count_by (is_handle there number) (live ++ live_handle n conn handle inputs ∷ []) ≤ 1
 one_of_number n conn handle inputs live unused one there number =
     let new = live_handle n conn handle inputs in
@@ -49,7 +50,7 @@ one_with_new n conn handle inputs live none unused one = record {
   of_number = one_of_number n conn handle inputs live unused one;
 }
 
--- what is prepared at a place has its number there
+-- What is prepared at a place has its number there.
 pub has_number : (n conn : ℕ) (l : Live) (handle : ℕ) → is_place n conn l.0 ≡ true → l.1.handle ≡ handle → is_handle conn handle l ≡ true
 has_number n conn l handle here same = all_of (is_on conn l) (eqb handle l.1.handle) (place_on n conn l here) (eq-eqb handle l.1.handle (sym same))
 

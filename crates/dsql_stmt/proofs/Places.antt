@@ -35,7 +35,7 @@ place_of n conn l h = (both (eqb n l.0.0) (eqb conn l.0.1) h).0
 pub elsewhere : (n conn there : ℕ) (l : Live) → there ≢ conn → is_place n there l.0 ≡ true → is_on conn l ≡ false
 elsewhere n conn there l apart h = ne_eqb conn l.0.1 (λ same. apart ((place_is n there l h).1 ∙ sym same))
 
--- what a statement has live on a connection, and the numbers of that
+-- The handle and inputs that are found determine the prepared entry that is found.
 pub prepared_is : (n conn handle : ℕ) (inputs : ℤ) (live : List Live) → handle_on n conn live ≡ Some (handle, inputs) → prepared_on n conn live ≡ Some (record { handle = handle; inputs = inputs })
 prepared_is n conn handle inputs live h =
     elim (prepared_on n conn live) as (λ o. option_map inputs_of o ≡ Some (handle, inputs) → o ≡ Some (record { handle = handle; inputs = inputs })) [

@@ -1,4 +1,5 @@
--- What is live where a handle is prepared, dropped or lost.
+-- What is live after a handle was prepared, dropped or lost. Each change is a look-up in a list with one entry
+-- more or some left out.
 use Rattle.std.proofs.Common.{◌≡◌, ℕ, ◌≤◌, Bool, true, false, cond, eqb, List, [], ◌∷◌, Option, Some, None, refl, sym, ap, ◌∙◌, arith}
 use Rattle.std.specs.Prelude.{count_by, not}
 use Rattle.std.specs.Option.{option_map}
@@ -11,7 +12,7 @@ use Rattle.dsql_stmt.proofs.Counts.{counted_one, counted_more, count_by-filter, 
 use Rattle.dsql_stmt.proofs.Places.{neither, nor_second, is_placed, place_on, elsewhere, prepared_is, none_prepared}
 use Rattle.dsql_stmt.proofs.OneEach.{has_number}
 
--- from what was prepared to the handle
+-- Equal prepared entries have equal handles.
 pub seen : {o r : Option Prepared} → o ≡ r → option_map inputs_of o ≡ option_map inputs_of r
 seen same = ap (λ (o : Option Prepared). option_map inputs_of o) same
 
@@ -22,7 +23,7 @@ prepared_is_live = record {
   other_connections = λ n conn handle inputs other there live apart. seen (lookup-beside (is_place other there) live (live_handle n conn handle inputs) (nor_second (eqb other n) (eqb there conn) (ne_eqb there conn apart)));
 }
 
--- where a statement's one handle on a connection is taken out, it has none there
+-- If a statement's one handle on a connection is taken out, the statement has none there.
 without_its_own : (n conn : ℕ) (p : Prepared) (live : List Live) → count_by (λ (l : Live). is_place n conn l.0) live ≤ 1 → prepared_on n conn live ≡ Some p → prepared_on n conn (without_handle conn p.handle live) ≡ None
 without_its_own n conn p [] one h = absurd (none-some p h)
 without_its_own n conn p (l ∷ live) one h =

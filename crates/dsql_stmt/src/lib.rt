@@ -1,5 +1,5 @@
-//! The table of prepared statements, after `Stmt` of Go's package `database/sql`: what was prepared, its live
-//! handles on the connections, and which call closed it first.
+//! The table of prepared statements, after `Stmt` of Go's package `database/sql`. It records what was prepared,
+//! the live handles on the connections, and which call closed a statement first.
 #![tactic(auto)]
 
 mod fault;

@@ -1,4 +1,4 @@
-//! Lists that are taken before they are needed.
+//! Lists that are allocated before they are needed.
 ghost use Rattle.std.specs.Prelude.{◌≡◌, ◌-◌, ◌<◌, ◌≤◌, [], OnOk, vec_len, vec_capacity};
 ghost use Rattle.dsql_stmt.specs.Lists.{AreEmptyOf};
 
@@ -9,8 +9,8 @@ use std::marker::Model;
 /// A list of connections and handles.
 pub type Pairs = Vec<(u32, u32)>;
 
-/// Empty lists that were taken beforehand. Contracts see how many there are, and how many pairs each has room
-/// for.
+/// Empty lists that were allocated beforehand. Contracts see how many there are, and how many pairs each has
+/// room for.
 #[derive(Drop)]
 pub struct Lists {
     alloc: Global,
@@ -30,7 +30,7 @@ impl Model for Lists {
 }
 
 impl Lists {
-    /// No lists. It takes no memory.
+    /// Returns no lists. It takes no memory.
     pub fn new(alloc: Global) -> Lists
         ensures count { result.count ≡ 0 }
         ensures size { result.size ≡ 0 }
@@ -42,7 +42,7 @@ impl Lists {
         }
     }
 
-    /// An empty list: one that was taken beforehand, if there is one left.
+    /// Returns an empty list: one that was allocated beforehand, if one is left.
     pub fn take(&mut self) -> Pairs
         ensures empty { result.items ≡ [] }
         ensures size { 0 < self.old.count → self.old.size ≤ vec_capacity result }
@@ -55,7 +55,7 @@ impl Lists {
         }
     }
 
-    /// Takes memory for so many lists at least, each with room for so many pairs at least.
+    /// Takes memory for at least this many lists, each with room for at least this many pairs.
     pub fn reserve(&mut self, count: usize, size: usize) -> Result<(), Memory>
         ensures count { OnOk result (count ≤ self.new.count) }
         ensures size { OnOk result (size ≤ self.new.size) }
@@ -73,7 +73,7 @@ impl Lists {
     }
 }
 
-/// Adds empty lists with room for so many pairs, until there are so many lists.
+/// Adds empty lists with room for `size` pairs, until there are `count` lists.
 fn fill(alloc: Global, lists: &mut Vec<Pairs>, count: usize, size: usize) -> Result<(), Memory>
     requires { AreEmptyOf size lists.old.items }
     ensures empty { AreEmptyOf size lists.new.items }

@@ -4,7 +4,7 @@ ghost use Rattle.dsql_stmt.specs.Statements.{answer_of, closed_by};
 use crate::fault::StmtClosed;
 use dsql_value::Txt;
 
-/// What a statement was prepared on: the database, a transaction or a pinned connection, by its number.
+/// What a statement was prepared on: the database, or a transaction or a pinned connection by its number.
 #[derive(Clone, Copy)]
 pub enum Home {
     Db,
@@ -20,8 +20,8 @@ pub struct Stmt {
     pub closed: Option<u32>,
 }
 
-/// What a driver answers where it prepares a text: the number of the handle, and how many arguments it takes,
-/// -1 where the driver doesn't know.
+/// A driver's answer when it prepares a text: the number of the handle, and how many arguments it takes. The
+/// latter is -1 if the driver doesn't know.
 #[derive(Clone, Copy)]
 pub struct Prepared {
     pub handle: u32,
@@ -29,7 +29,8 @@ pub struct Prepared {
 }
 
 impl Stmt {
-    /// What a run of the statement is told, where this is its live handle.
+    /// Returns what a run of the statement may use, if `live` is its live handle. Fails with `StmtClosed` if
+    /// the statement was closed.
     pub fn answer(&self, live: Option<(u32, i32)>) -> Result<Option<(u32, i32)>, StmtClosed>
         ensures { result ≡ answer_of live self.now }
     {

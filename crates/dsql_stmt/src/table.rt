@@ -13,14 +13,14 @@ use std::marker::Model;
 /// Connections, each with a handle that is live there.
 pub type Handles = Items<(u32, u32)>;
 
-/// The statements that were added, and their live handles. Contracts see the statements by their numbers in
-/// the order in which they were added, the live handles in the order in which they were prepared, and for how
-/// many calls there is memory.
+/// The statements that were added, and their live handles. Contracts see the statements by their numbers in the
+/// order in which they were added, and the live handles in the order in which they were prepared. They also see
+/// for how many calls there is memory.
 #[derive(Drop)]
 pub struct Stmts {
     alloc: Global,
     stmts: IndexMap<u32, Stmt>,
-    // by statement and connection
+    // By statement and connection.
     live: IndexMap<(u32, u32), Prepared>,
     lists: Lists,
 }
@@ -44,7 +44,7 @@ impl Model for Stmts {
 impl Stmts {
     ghost use Rattle.dsql_stmt.specs.Statements.{stmt_of, was_added, unclosed, changed, closed_by, is_open, answer_of, handle_on, is_live, live_handle, handed_out, without_handle, without_conn, IsOneEach};
 
-    /// No statements. It takes no memory.
+    /// Returns a table without statements. It takes no memory.
     pub fn new(alloc: Global) -> Stmts
         ensures stmts { result.stmts ≡ [] }
         ensures live { result.live ≡ [] }
@@ -57,7 +57,7 @@ impl Stmts {
         }
     }
 
-    /// Takes memory for so many calls more, the lists that they answer included.
+    /// Takes memory for this many more calls, including the lists that they return.
     pub fn reserve(&mut self, calls: u32) -> Result<(), Memory>
         ensures ok { OnOk result (calls ≤ self.new.spare) }
         ensures stmts { self.new.stmts ≡ self.old.stmts }
@@ -70,22 +70,22 @@ impl Stmts {
         self.lists.reserve(calls, self.live.len() + calls)
     }
 
-    /// A statement has at most one live handle on a connection, and a handle's number there belongs to one
-    /// statement, as callers learn by this.
+    /// Does nothing. Its contract shows its callers that a statement has at most one live handle on a
+    /// connection, and that a handle's number there belongs to one statement.
     pub fn vouch(&self)
         ensures { IsOneEach self.now.live }
     {
         let _count = self.live.len();
     }
 
-    /// How many statements were added and how many of their handles are live, as one number.
+    /// Returns the number of statements that were added plus the number of live handles.
     pub fn held(&self) -> u64
         ensures { result ≡ length self.now.stmts + length self.now.live }
     {
         self.stmts.len() as u64 + self.live.len() as u64
     }
 
-    /// Whether a statement was added under that number.
+    /// Returns true if a statement was added under this number.
     pub fn was_added(&self, n: u32) -> bool
         ensures { result ≡ was_added n self.now.stmts }
     {
@@ -110,8 +110,9 @@ impl Stmts {
         Ok(())
     }
 
-    /// What a run of the statement on a connection may use: its live handle there, if it has one, with the
-    /// number of arguments. StmtClosed tells the call that closed the statement first.
+    /// Returns what a run of the statement on a connection may use: its live handle there, if it has one, with
+    /// the number of arguments. Fails with `StmtClosed` if the statement was closed, and names the call that
+    /// closed it first.
     pub fn on_conn(&self, n: u32, conn: u32) -> Result<Option<(u32, i32)>, StmtClosed>
         requires { was_added n self.now.stmts ≡ true }
         ensures { IfSome (stmt_of n self.now.stmts) (λ stmt. result ≡ answer_of (handle_on n conn self.now.live) stmt) }
@@ -119,8 +120,8 @@ impl Stmts {
         self.stmt(n).answer(self.live(n, conn))
     }
 
-    /// The live handle of the statement on a connection, if it has one, with the number of arguments, whether
-    /// or not the statement was closed.
+    /// Returns the live handle of the statement on a connection, if it has one, with the number of arguments.
+    /// It doesn't matter whether the statement was closed.
     pub fn live(&self, n: u32, conn: u32) -> Option<(u32, i32)>
         ensures { result ≡ handle_on n conn self.now.live }
     {
@@ -128,14 +129,14 @@ impl Stmts {
         Some((prepared.handle, prepared.inputs))
     }
 
-    /// Whether a statement has a live handle of that number on a connection.
+    /// Returns true if a statement has a live handle with this number on a connection.
     pub fn is_live(&self, conn: u32, handle: u32) -> bool
         ensures { result ≡ is_live conn handle self.now.live }
     {
         self.live.iter().any(|(place, prepared)| conn == place.1 && handle == prepared.handle)
     }
 
-    /// Notes that a driver prepared the statement on a connection: the handle is live from now on.
+    /// Records that a driver prepared the statement on a connection. From then on the handle is live.
     pub fn note_prepared(
         &mut self,
         n: u32,
@@ -156,14 +157,15 @@ impl Stmts {
         Ok(())
     }
 
-    /// Closes the statement, if nothing has, and hands out its live handles with their connections: at a
-    /// second close none, which takes no memory. `call` is 0 where no client's call closes it. The handles
-    /// stay live until they are dropped or their connection is forgotten, since a run that was entered before
-    /// the close may still use them.
+    /// Closes the statement, if nothing has, and returns its live handles with their connections. A second
+    /// close returns none and takes no memory. `call` is 0 if no client's call closes the statement. The
+    /// handles stay live until they are dropped or their connection is forgotten, since a run that was entered
+    /// before the close may still use them.
     pub fn close(&mut self, n: u32, call: u32) -> Result<Handles, Memory>
         requires { was_added n self.old.stmts ≡ true }
         ensures ok { OnOk result (self.new.stmts ≡ changed (closed_by call) n self.old.stmts) }
-        ensures handles { IfOk result (λ handles. Some handles ≡ option_map (handed_out n self.old.live) (stmt_of n self.old.stmts)) }
+        ensures handles { IfOk result (λ handles. Some handles
+            ≡ option_map (handed_out n self.old.live) (stmt_of n self.old.stmts)) }
         ensures first { OnErr result (option_map is_open (stmt_of n self.old.stmts) ≡ Some true) }
         ensures full { OnErr result (self.old.spare ≡ 0) }
         ensures err { OnErr result (self.new.stmts ≡ self.old.stmts) }
@@ -183,8 +185,8 @@ impl Stmts {
         Ok(Items::new(handles))
     }
 
-    /// A handle was closed on its connection: it isn't live any more. It takes no memory, nor does
-    /// `forget_conn`. Both look at each live handle.
+    /// Records that a handle was closed on its connection, so that it isn't live any more. Neither this nor
+    /// `forget_conn` takes memory. Both look at each live handle.
     pub fn dropped(&mut self, conn: u32, handle: u32)
         ensures live { self.new.live ≡ without_handle conn handle self.old.live }
         ensures stmts { self.new.stmts ≡ self.old.stmts }
@@ -192,12 +194,13 @@ impl Stmts {
     {
         self.live.retain(
             |place: &(u32, u32), prepared: &mut Prepared| -> bool
-                ensures { (result ≡ not ((conn == place.now.1) && (handle == prepared.old.handle))) × (prepared.new ≡ prepared.old) }
+                ensures { (result ≡ not ((conn == place.now.1) && (handle == prepared.old.handle)))
+                    × (prepared.new ≡ prepared.old) }
             { !(conn == place.1 && handle == prepared.handle) },
         );
     }
 
-    /// A connection is lost: none of its handles is live any more.
+    /// Records that a connection is lost, so that none of its handles is live any more.
     pub fn forget_conn(&mut self, conn: u32)
         ensures live { self.new.live ≡ without_conn conn self.old.live }
         ensures stmts { self.new.stmts ≡ self.old.stmts }
@@ -210,7 +213,7 @@ impl Stmts {
         );
     }
 
-    /// The text of the statement.
+    /// Returns the text of the statement.
     pub fn text(&self, n: u32) -> &Txt
         requires { was_added n self.now.stmts ≡ true }
         ensures { Some result.now ≡ option_map (λ stmt. stmt.text) (stmt_of n self.now.stmts) }
@@ -218,7 +221,7 @@ impl Stmts {
         &self.stmt(n).text
     }
 
-    /// What the statement was prepared on.
+    /// Returns what the statement was prepared on.
     pub fn home(&self, n: u32) -> Home
         requires { was_added n self.now.stmts ≡ true }
         ensures { Some result ≡ option_map (λ stmt. stmt.home) (stmt_of n self.now.stmts) }
@@ -234,7 +237,8 @@ impl Stmts {
     }
 }
 
-/// A list, filled with the live handles of a statement and their connections.
+/// Returns the list, filled with the live handles of a statement and their connections. Fails with `Memory`
+/// only if the list has less room than there are live handles.
 fn pairs_of(n: u32, live: &IndexMap<(u32, u32), Prepared>, list: Pairs) -> Result<Pairs, Memory>
     requires { list.items ≡ [] }
     ensures ok { IfOk result (λ pairs. pairs.items ≡ handles_of n live.now.entries) }

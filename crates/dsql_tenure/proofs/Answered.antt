@@ -1,27 +1,27 @@
--- Answers at their place, and what of an answer the order of calls depends on.
+-- Answers at their place, and the part of an answer that decides the order of calls.
 use Rattle.std.proofs.Common.{◌≡◌, ℕ, Bool, true, false, not, ◌&&◌, ◌||◌, ◌==◌, Some, List, [], ◌∷◌, refl, sym, ◌∙◌, ap}
 use Rattle.std.specs.List.{filter, list_all, list_any}
 use Rattle.dsql_driver.specs.declared.answer.DriverAnswer.{DriverAnswer}
 use Rattle.dsql_driver.specs.declared.answer.DriverAnswer.TheVariants.{Done, Prepared, Result, Cursor, Row, End, Invalid, Skip, Bad, Fail, Memory}
-use Rattle.dsql_journal.specs.declared.entry.Entry.{Entry}
-use Rattle.dsql_journal.specs.declared.entry.Owner.{Owner}
-use Rattle.dsql_journal.specs.declared.entry.Owner.TheVariants.{Call, Tx, Pin, House}
-use Rattle.dsql_journal.specs.Tenure.{keeps_body}
-use Rattle.dsql_journal.specs.Kinds.{if_any}
+use Rattle.dsql_tenure_journal.specs.declared.entry.Entry.{Entry}
+use Rattle.dsql_tenure_journal.specs.declared.entry.Owner.{Owner}
+use Rattle.dsql_tenure_journal.specs.declared.entry.Owner.TheVariants.{Call, Tx, Pin, House}
+use Rattle.dsql_tenure_journal.specs.Tenure.{keeps_body}
+use Rattle.dsql_tenure_journal.specs.Kinds.{if_any}
 use Rattle.dsql_driver.specs.Kinds.{given_handle, given_cursor, cursor_of}
-use Rattle.dsql_journal.specs.Readers.{LiveHandle, LiveCursor, is_empty, handles, cursors}
-use Rattle.dsql_journal.specs.HandlesAndCursors.{gives_new_handle, gives_new_cursor, has_width_of_cursor}
-use Rattle.dsql_journal.specs.HandlesAndCursors as rule
-use Rattle.dsql_asked.specs.declared.live.Handle.{Handle}
-use Rattle.dsql_asked.specs.declared.live.Cursor as kept
+use Rattle.dsql_tenure_journal.specs.Readers.{LiveHandle, LiveCursor, is_empty, handles, cursors}
+use Rattle.dsql_tenure_journal.specs.HandlesAndCursors.{has_width_of_cursor}
+use Rattle.dsql_tenure_journal.specs.HandlesAndCursors as rule
+use Rattle.dsql_tenure_asked.specs.declared.live.Handle.{Handle}
+use Rattle.dsql_tenure_asked.specs.declared.live.Cursor as kept
 use Rattle.dsql_tenure.specs.declared.tables.Tables.{Tables}
-use Rattle.dsql_asked.specs.Asked.{answer_like, outcome_of}
+use Rattle.dsql_tenure_asked.specs.Asked.{answer_like, outcome_of}
 use Rattle.dsql_tenure.specs.MayBeAsked.{may_be_asked, is_as_wide}
 use Rattle.dsql_tenure.specs.Tables.{past, kept_handle, kept_cursor, Stands}
 use Rattle.dsql_tenure.proofs.Keeping.{keeps_of}
 use Rattle.dsql_tenure.proofs.Lists.{list_all-map, list_any-map, list_all-filter, list_all-same, is_empty-filter}
 
--- the entry with an answer that differs in its contents alone
+-- Returns the entry with an answer that differs in its contents alone.
 abbrev pub like : Entry → Entry
 like entry = record entry { answer = answer_like (outcome_of entry.answer) }
 
@@ -65,19 +65,12 @@ body-answer o before e Bad = refl
 
 may_be_asked-answer : (before : List Entry) (e : Entry) (a : DriverAnswer)
     → may_be_asked before (record e { answer = a }) ≡ may_be_asked before (record e { answer = answer_like (outcome_of a) })
-may_be_asked-answer before e (Prepared h n) = rw (body-answer e.owner before e (Prepared h n)) refl
-may_be_asked-answer before e (Result l n) = rw (body-answer e.owner before e (Result l n)) refl
-may_be_asked-answer before e (Cursor r c) = rw (body-answer e.owner before e (Cursor r c)) refl
-may_be_asked-answer before e (Row v) = rw (body-answer e.owner before e (Row v)) refl
-may_be_asked-answer before e Invalid = rw (body-answer e.owner before e Invalid) refl
-may_be_asked-answer before e Skip = rw (body-answer e.owner before e Skip) refl
-may_be_asked-answer before e (Fail t) = rw (body-answer e.owner before e (Fail t)) refl
-may_be_asked-answer before e Memory = rw (body-answer e.owner before e Memory) refl
 may_be_asked-answer before e Done = refl
 may_be_asked-answer before e End = refl
 may_be_asked-answer before e Bad = refl
+may_be_asked-answer before e x = rw (body-answer e.owner before e x) refl
 
--- what may be asked depends on no more of an answer
+-- Whether a call may be asked depends on no more of an answer.
 pub may_be_asked-like : (before : List Entry) (e : Entry) → may_be_asked before e ≡ may_be_asked before (like e)
 may_be_asked-like before e = may_be_asked-answer before e e.answer
 

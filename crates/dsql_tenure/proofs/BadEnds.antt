@@ -1,4 +1,5 @@
--- A beginning in which something was answered Bad has a whole end: the Rollbacks of what is open, and Shut.
+-- The argument that a beginning in which an answer was Bad has a whole end: the Rollbacks of what is open, and
+-- Shut.
 use Rattle.std.proofs.Common.{◌≡◌, ◌≢◌, ℕ, Bool, true, false, cond, not, ◌&&◌, ◌||◌, ◌==◌, nat_lt, List, [], ◌∷◌, refl, sym, ◌∙◌, subst, eqb→eq}
 use Rattle.std.specs.List.{list_all, list_any}
 use native.Mathlib.Omega.{arith}
@@ -6,16 +7,16 @@ use Rattle.std.proofs.lemmas.Bool.Decides.{nat_tests}
 use Rattle.dsql_driver.specs.declared.call.DriverCall.TheVariants.{Rollback}
 use Rattle.dsql_driver.specs.declared.answer.DriverAnswer.TheVariants.{Done}
 use Rattle.dsql_driver.specs.Fits.{is_failure}
-use Rattle.dsql_journal.specs.declared.entry.Entry.{Entry}
-use Rattle.dsql_journal.specs.declared.entry.Owner.{Owner}
-use Rattle.dsql_journal.specs.declared.entry.Owner.TheVariants.{Call, Tx, Pin, House}
-use Rattle.dsql_journal.specs.Kinds.{◌⇒◌, is_house, is_pin, is_tx_number, same_owner}
+use Rattle.dsql_tenure_journal.specs.declared.entry.Entry.{Entry}
+use Rattle.dsql_tenure_journal.specs.declared.entry.Owner.{Owner}
+use Rattle.dsql_tenure_journal.specs.declared.entry.Owner.TheVariants.{Call, Tx, Pin, House}
+use Rattle.dsql_tenure_journal.specs.Kinds.{◌⇒◌, is_house, is_pin, is_tx_number, same_owner}
 use Rattle.dsql_driver.specs.Kinds.{is_valid, is_reset, is_begin, is_ending}
-use Rattle.dsql_journal.specs.Readers.{is_empty, has, of_tenure, of_transaction, begun, ended, went_bad, was_shut, was_refused}
-use Rattle.dsql_journal.specs.Tenure.{is_whole_tenure, is_body, is_refused_begin, body}
-use Rattle.dsql_journal.specs.Journal.{may_follow, is_journal_prefix, IsJournalPrefix}
-use Rattle.dsql_journal.specs.Facts.{KeepsBody, MayFollow}
-use Rattle.dsql_journal.proofs.Conjunctions.{parts2, join2}
+use Rattle.dsql_tenure_journal.specs.Readers.{is_empty, has, of_tenure, of_transaction, begun, ended, went_bad, was_shut, was_refused}
+use Rattle.dsql_tenure_journal.specs.Tenure.{is_whole_tenure, is_body, is_refused_begin, body}
+use Rattle.dsql_tenure_journal.specs.Journal.{may_follow, is_journal_prefix, IsJournalPrefix}
+use Rattle.dsql_tenure_journal.specs.Facts.{KeepsBody, MayFollow}
+use Rattle.dsql_tenure_journal.proofs.Conjunctions.{parts2, join2}
 use Rattle.dsql_tenure.specs.Open.{open_in}
 use Rattle.dsql_tenure.proofs.Lists.{list_any-so, is_empty-filter}
 use Rattle.dsql_tenure.proofs.Given.{eqb-refl, list_all-kept, list_any-filter, same_owner-refl}
@@ -29,7 +30,7 @@ pub both_false : (a b : Bool) → (a || b) ≡ false → (a ≡ false) × (b ≡
 both_false true b h = grind (arith, h)
 both_false false b h = (refl, h)
 
--- where transaction n has an entry in its tenure, no Begin was refused there
+-- If transaction n has an entry in its tenure, no Begin was refused there.
 pub unrefused : (t n : ℕ) (journal : List Entry) → IsJournalPrefix journal → list_all (λ x. same_owner x.owner (Tx n)) (of_tenure t journal) ≡ true
     → list_any (λ x. not (x.tx == 0)) (of_tenure t journal) ≡ true → list_any is_refused_begin (of_tenure t journal) ≡ false
 unrefused t n [] h own some = refl
@@ -52,7 +53,7 @@ unrefused t n (e ∷ before) h own some =
     kept : list_all (λ x. is_body x || (x.tx == 0)) (of_tenure e.tenure before) ≡ true
     kept = list_all-kept (λ x. is_body x || (x.tx == 0)) (λ x. x.tenure == e.tenure) before (tests_outside before (parts2 (may_follow before e) (is_journal_prefix before) h).1)
 
-    -- an entry of the body
+    -- Adding an entry of the body keeps this.
     in_body : (w r : Bool) → list_any is_body (of_tenure e.tenure before) ≡ w → list_any is_refused_begin (of_tenure e.tenure before) ≡ r
         → ((not w && is_refused_begin e) || (not (n == 0) && (e.tx == n) && not r)) ≡ true
         → (not (e.tx == 0) || list_any (λ x. not (x.tx == 0)) (of_tenure e.tenure before)) ≡ true
@@ -125,11 +126,11 @@ unrefused t n (e ∷ before) h own some =
                 first true b x y = x
                 first false b x y = y
 
--- all entries of the last tenure have its owner
+-- All entries of the last tenure have its owner.
 pub same_owners : (before : List Entry) (e : Entry) → IsJournalPrefix (e ∷ before) → list_all (λ x. same_owner x.owner e.owner) (of_tenure e.tenure (e ∷ before)) ≡ true
 same_owners before e h = rw (eqb-refl e.tenure) (join2 (same_owner e.owner e.owner) (list_all (λ x. same_owner x.owner e.owner) (of_tenure e.tenure before)) (same_owner-refl e.owner) (mayfollow before e h).tenure.one_owner)
 
--- where transaction m is open, the tenure isn't whole, and has an entry of it
+-- If transaction m is open, the tenure isn't whole and has an entry of the transaction.
 pub open_partly : (before : List Entry) (e : Entry) → IsJournalPrefix (e ∷ before) → (m : ℕ) → has m (open_in (e ∷ before)) ≡ true → is_whole_tenure e.tenure (e ∷ before) ≡ false
 open_partly before e h m is = go (is_whole_tenure e.tenure (e ∷ before)) refl
   where
@@ -158,12 +159,10 @@ some_of before e h m is some =
     other n false z k = refl
 
 not_house : (m : ℕ) (o : Owner) → (is_tx_number m o || is_pin o) ≡ true → is_house o ≡ false
-not_house m (Call n) k = refl
-not_house m (Tx n) k = refl
-not_house m (Pin n) k = refl
 not_house m House k = sym k
+not_house m _ k = refl
 
--- the Rollback of transaction m in the tenure under way
+-- Returns the Rollback of transaction m in the tenure under way.
 abbrev pub rolled : Entry → ℕ → Entry
 rolled entry number = record { conn = entry.conn; tenure = entry.tenure; owner = entry.owner; call_no = 0; tx = number; call = Rollback; answer = Done }
 

@@ -1,4 +1,4 @@
--- A call on the database whose tenure isn't whole has a cursor to close.
+-- The argument that a call on the database has a cursor to close if its tenure isn't whole.
 use Rattle.std.proofs.Common.{◌≡◌, ◌≢◌, ℕ, ◌≤◌, Bool, true, false, not, ◌&&◌, ◌||◌, ◌==◌, nat_lt, List, [], ◌∷◌, refl, sym, ◌∙◌, subst, eqb→eq}
 use Rattle.std.specs.List.{filter, list_all, list_any}
 use native.Mathlib.Omega.{arith}
@@ -8,18 +8,18 @@ use Rattle.dsql_driver.specs.declared.call.DriverCall.TheVariants.{Ping, CloseSt
 use Rattle.dsql_driver.specs.declared.call.Input.TheVariants.{Text, Handle}
 use Rattle.dsql_driver.specs.declared.answer.DriverAnswer.{DriverAnswer}
 use Rattle.dsql_driver.specs.declared.answer.DriverAnswer.TheVariants.{Bad}
-use Rattle.dsql_journal.specs.declared.entry.Entry.{Entry}
-use Rattle.dsql_journal.specs.declared.entry.Owner.{Owner}
-use Rattle.dsql_journal.specs.declared.entry.Owner.TheVariants.{Call}
-use Rattle.dsql_journal.specs.Kinds.{◌⇒◌, is_number, is_call, is_pin, is_tx_number, same_owner}
+use Rattle.dsql_tenure_journal.specs.declared.entry.Entry.{Entry}
+use Rattle.dsql_tenure_journal.specs.declared.entry.Owner.{Owner}
+use Rattle.dsql_tenure_journal.specs.declared.entry.Owner.TheVariants.{Call}
+use Rattle.dsql_tenure_journal.specs.Kinds.{◌⇒◌, is_number, is_call, is_pin, is_tx_number, same_owner}
 use Rattle.dsql_driver.specs.Kinds.{is_reset, is_valid, is_ping, is_next, is_bad, given_handle, given_cursor}
-use Rattle.dsql_journal.specs.Readers.{LiveHandle, LiveCursor, is_empty, has, of_tenure, handles, cursors, cursors_named, went_bad}
-use Rattle.dsql_journal.specs.HandlesAndCursors.{is_as_wide}
-use Rattle.dsql_journal.specs.Tenure.{is_whole_tenure, has_ended_transactions, has_closed_cursors, has_closed_handles, is_body, place}
-use Rattle.dsql_journal.specs.Journal.{may_follow, is_journal_prefix, IsJournalPrefix}
-use Rattle.dsql_journal.specs.Facts.{KeepsBody, KeepsCallBody, MayFollow}
-use Rattle.dsql_journal.proofs.Conjunctions.{parts2, join2, if_so}
-use Rattle.dsql_journal.proofs.Numbers.{cursors_named-one}
+use Rattle.dsql_tenure_journal.specs.Readers.{LiveHandle, LiveCursor, is_empty, has, of_tenure, handles, cursors, cursors_named, went_bad}
+use Rattle.dsql_tenure_journal.specs.HandlesAndCursors.{is_as_wide}
+use Rattle.dsql_tenure_journal.specs.Tenure.{is_whole_tenure, has_ended_transactions, has_closed_cursors, has_closed_handles, is_body, place}
+use Rattle.dsql_tenure_journal.specs.Journal.{may_follow, is_journal_prefix, IsJournalPrefix}
+use Rattle.dsql_tenure_journal.specs.Facts.{KeepsBody, KeepsCallBody, MayFollow}
+use Rattle.dsql_tenure_journal.proofs.Conjunctions.{parts2, join2, if_so}
+use Rattle.dsql_tenure_journal.proofs.Numbers.{cursors_named-one}
 use Rattle.dsql_tenure.specs.Open.{open_in}
 use Rattle.dsql_tenure.specs.Ends.{HasWholeEnd}
 use Rattle.dsql_tenure.proofs.Lists.{is_empty-filter, list_all-none, list_all-so, list_all-filter, list_all-and, list_any-both, list_any-so}
@@ -36,7 +36,7 @@ use Rattle.dsql_tenure.proofs.Owned.{own_cursor}
 use Rattle.dsql_tenure.proofs.Members.{pick, pick_in, clash, none-kept, all-any, only-one}
 use Rattle.dsql_tenure.proofs.Openers.{runs, runs-body, opened, one_cursor, closed-one, call_body}
 
--- an open transaction has a number
+-- An open transaction has a number other than 0.
 pub open-number : (journal : List Entry) → IsJournalPrefix journal → (m : ℕ) → has m (open_in journal) ≡ true → m ≢ 0
 open-number journal h m is zero_so =
     let none : has 0 (open_in journal) ≡ false = has-open 0 journal h ∙ rw (zero-unbegun journal h) refl in
@@ -47,7 +47,8 @@ pub all_wide : (cs : List LiveCursor) → list_all (is_as_wide Bad) cs ≡ true
 all_wide [] = refl
 all_wide (c ∷ cs) = all_wide cs
 
--- it has an owner for its transaction, which is that of its tenure
+-- Is true if the other entry has an owner for its transaction, and the owner of the tenure if it stands in
+-- that.
 abbrev owned_in : Entry → Entry → Bool
 owned_in entry other = ((other.tx == 0) || (is_tx_number other.tx other.owner || is_pin other.owner)) && (not (other.tenure == entry.tenure) || same_owner other.owner entry.owner)
 
@@ -55,7 +56,7 @@ module _ (before : List Entry) (e : Entry) (p : Partly before e) (n : ℕ) (is :
   call_is : is_call e.owner ≡ true
   call_is = rw is refl
 
-  -- no transaction is open
+  -- No transaction of the tenure is open.
   ended : has_ended_transactions e.tenure (e ∷ before) ≡ true
   ended = has_ended-last (e ∷ before) p.beginning ∙ go (open_in (e ∷ before)) refl
     where
@@ -65,7 +66,7 @@ module _ (before : List Entry) (e : Entry) (p : Partly before e) (n : ℕ) (is :
           let here : has m (open_in (e ∷ before)) ≡ true = rw (some, eqb-refl m) refl in
           rw is at (open_owner before e p.beginning m here (open-number (e ∷ before) p.beginning m here))
 
-  -- a handle of the tenure is a call's
+  -- Each live handle of the tenure is a call's.
   closed_handles : has_closed_handles e.tenure (e ∷ before) ≡ true
   closed_handles =
       list_all-so (λ h. list_any (gave_handle h) (e ∷ before)) (λ h. (h.tenure == e.tenure) ⇒ is_call h.owner)
@@ -91,7 +92,7 @@ module _ (before : List Entry) (e : Entry) (p : Partly before e) (n : ℕ) (is :
           go true k = rw (same_owner-is h.owner e.owner k) call_is
           go false k = refl
 
-  -- so a cursor of it is live
+  -- So a cursor of the tenure is live.
   live : list_any (λ c. c.tenure == e.tenure) (cursors (e ∷ before)) ≡ true
   live = go (list_any (λ c. c.tenure == e.tenure) (cursors (e ∷ before))) (list_all-none (λ c. c.tenure == e.tenure) (cursors (e ∷ before)))
     where
@@ -118,7 +119,7 @@ module _ (before : List Entry) (e : Entry) (p : Partly before e) (n : ℕ) (is :
   here : list_any (λ x. runs x.call x.answer) (e ∷ of_tenure e.tenure before) ≡ true
   here = rw (eqb-refl e.tenure) at ran
 
-  -- its last entry is no test
+  -- Its last entry is no test.
   works : is_body e ≡ true
   works = go (is_reset e.call) (is_valid e.call) refl refl
     where
@@ -135,7 +136,7 @@ module _ (before : List Entry) (e : Entry) (p : Partly before e) (n : ℕ) (is :
   body : KeepsCallBody before e
   body = call_body e.owner before e call_is ((mayfollow before e p.beginning).tenure.in_body works)
 
-  -- it closed neither rows nor a statement
+  -- The tenure closed neither rows nor a statement.
   lower : (q : DriverCall) (top : ℕ) (b : Bool) → top ≤ 5 → (nat_lt (place q) top || is_next q && b) ≡ true → (nat_lt (place q) 5 || is_next q && false) ≡ true
   lower q top b low k = go (nat_lt (place q) top) (is_next q) refl (next-place q) k
     where
@@ -184,7 +185,7 @@ module _ (before : List Entry) (e : Entry) (p : Partly before e) (n : ℕ) (is :
   placed : list_all (λ x. nat_lt (place x.call) 5 || is_next x.call && false) (filter is_body (of_tenure e.tenure (e ∷ before))) ≡ true
   placed = rw (eqb-refl e.tenure) (low (not_closed e.call refl))
 
-  -- nor did it ping
+  -- The tenure didn't ping either.
   no_ping : list_any (λ x. is_ping x.call) (of_tenure e.tenure (e ∷ before)) ≡ false
   no_ping = rw (eqb-refl e.tenure) (go (is_ping e.call || list_any (λ x. is_ping x.call) (of_tenure e.tenure before)) refl)
     where
@@ -209,7 +210,7 @@ module _ (before : List Entry) (e : Entry) (p : Partly before e) (n : ℕ) (is :
   no_bad : went_bad (of_tenure e.tenure (e ∷ before)) ≡ false
   no_bad = none-kept (λ x. is_bad x.answer) (λ x. x.tenure == e.tenure) (e ∷ before) p.not_bad
 
-  -- a cursor of the tenure stands outside transactions
+  -- Each live cursor of the tenure stands outside transactions.
   outside : list_all (λ c. not (c.tenure == e.tenure) || (c.tx == 0)) (cursors (e ∷ before)) ≡ true
   outside =
       list_all-so (λ c. list_any (gave_cursor c) (e ∷ before)) (λ c. not (c.tenure == e.tenure) || (c.tx == 0))
@@ -241,7 +242,7 @@ module _ (before : List Entry) (e : Entry) (p : Partly before e) (n : ℕ) (is :
           go true same rule = let is_n : x.owner ≡ Call n = same_owner-is x.owner e.owner same ∙ is in out (c.tx == 0) (rw is_n at rule)
           go false same rule = refl
 
-  -- its rows can be closed
+  -- The tenure's rows can be closed, and then the beginning has a whole end.
   pub call_end : HasWholeEnd (e ∷ before)
   call_end =
       pick_in (HasWholeEnd (e ∷ before)) (λ c. (c.tenure == e.tenure) && (not (c.tenure == e.tenure) || (c.tx == 0))) (cursors (e ∷ before))

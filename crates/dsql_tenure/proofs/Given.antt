@@ -7,29 +7,27 @@ use Rattle.dsql_driver.specs.declared.call.DriverCall.{DriverCall}
 use Rattle.dsql_driver.specs.declared.call.DriverCall.TheVariants.{Prepare, CloseStmt, Query, Next, CloseRows}
 use Rattle.dsql_driver.specs.declared.answer.DriverAnswer.{DriverAnswer}
 use Rattle.dsql_driver.specs.declared.answer.DriverAnswer.TheVariants.{Prepared, Cursor}
-use Rattle.dsql_journal.specs.declared.entry.Entry.{Entry}
-use Rattle.dsql_journal.specs.declared.entry.Owner.{Owner}
-use Rattle.dsql_journal.specs.declared.entry.Owner.TheVariants.{Call, Tx, Pin, House}
-use Rattle.dsql_journal.specs.Kinds.{is_number, same_owner}
+use Rattle.dsql_tenure_journal.specs.declared.entry.Entry.{Entry}
+use Rattle.dsql_tenure_journal.specs.declared.entry.Owner.{Owner}
+use Rattle.dsql_tenure_journal.specs.declared.entry.Owner.TheVariants.{House}
+use Rattle.dsql_tenure_journal.specs.Kinds.{is_number, same_owner}
 use Rattle.dsql_driver.specs.Kinds.{given_handle, given_cursor}
-use Rattle.dsql_journal.specs.Readers.{LiveHandle, LiveCursor, handles, handles_after, cursors, cursors_after, changed, after_next}
-use Rattle.dsql_journal.proofs.Conjunctions.{parts2, join2}
+use Rattle.dsql_tenure_journal.specs.Readers.{LiveHandle, LiveCursor, handles, handles_after, cursors, cursors_after, changed, after_next}
+use Rattle.dsql_tenure_journal.proofs.Conjunctions.{parts2, join2}
 use Rattle.dsql_tenure.proofs.Lists.{list_all-so}
 
 pub same_owner-refl : (o : Owner) → same_owner o o ≡ true
-same_owner-refl (Call n) = grind (arith, nat_tests)
-same_owner-refl (Tx n) = grind (arith, nat_tests)
-same_owner-refl (Pin n) = grind (arith, nat_tests)
 same_owner-refl House = refl
+same_owner-refl _ = grind (arith, nat_tests)
 
 pub eqb-refl : (n : ℕ) → (n == n) ≡ true
 eqb-refl n = grind (arith, nat_tests)
 
--- the entry gave this handle
+-- Is true if the entry gave this handle.
 abbrev pub gave_handle : LiveHandle → Entry → Bool
 gave_handle handle entry = is_number (given_handle entry.answer) handle.number && ((entry.tenure == handle.tenure) && ((entry.tx == handle.tx) && same_owner entry.owner handle.owner))
 
--- the entry gave this cursor
+-- Is true if the entry gave this cursor.
 abbrev pub gave_cursor : LiveCursor → Entry → Bool
 gave_cursor cursor entry = is_number (given_cursor entry.answer) cursor.number && ((entry.tenure == cursor.tenure) && (entry.tx == cursor.tx))
 
@@ -71,7 +69,7 @@ handles_after-given e before (Prepare text) (Prepared handle inputs) live is h =
 handles_after-given e before (CloseStmt handle) a live is h = list_all-kept (λ h. list_any (gave_handle h) (e ∷ before)) (λ x. not (x.number == handle)) live h
 handles_after-given e before _ _ live is h = h
 
--- each live handle was given in its tenure and transaction
+-- Each live handle was given in its tenure and transaction.
 pub handles-given : (journal : List Entry) → list_all (λ h. list_any (gave_handle h) journal) (handles journal) ≡ true
 handles-given [] = refl
 handles-given (e ∷ before) =
@@ -89,14 +87,14 @@ cursors_after-given e before (Next rows) a live is h = list_all-changed (λ c. l
 cursors_after-given e before (CloseRows rows) a live is h = list_all-kept (λ c. list_any (gave_cursor c) (e ∷ before)) (λ x. not (x.number == rows)) live h
 cursors_after-given e before _ _ live is h = h
 
--- each live cursor was given in its tenure and transaction
+-- Each live cursor was given in its tenure and transaction.
 pub cursors-given : (journal : List Entry) → list_all (λ c. list_any (gave_cursor c) journal) (cursors journal) ≡ true
 cursors-given [] = refl
 cursors-given (e ∷ before) =
     cursors_after-given e before e.call e.answer (cursors before) refl
     (list_all-so (λ c. list_any (gave_cursor c) before) (λ c. list_any (gave_cursor c) (e ∷ before)) (λ c is. or_then (gave_cursor c e) _ is) (cursors before) (cursors-given before))
 
--- what stands in a list and passes a test stands among those that pass
+-- Some element that passes one test passes another exactly if some element of the list passes both.
 pub list_any-filter : {X : Type 0} (f p : X → Bool) (xs : List X) → list_any f (filter p xs) ≡ list_any (λ x. p x && f x) xs
 list_any-filter f p [] = refl
 list_any-filter f p (x ∷ xs) = go (p x) (list_any-filter f p xs)

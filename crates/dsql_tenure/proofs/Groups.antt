@@ -1,12 +1,12 @@
--- The rules in groups are all of them.
+-- The argument that the rules in groups are all of the rules.
 use Rattle.std.proofs.Common.{◌≡◌, Bool, true, false, cond, ◌&&◌, ◌||◌, ◌==◌, None, Some, List, [], ◌∷◌, refl, sym, ◌∙◌, is_some}
 use Rattle.std.specs.List.{list_all}
 use native.Mathlib.Omega.{arith}
-use Rattle.dsql_journal.specs.declared.entry.Entry.{Entry}
+use Rattle.dsql_tenure_journal.specs.declared.entry.Entry.{Entry}
 use Rattle.dsql_driver.specs.Kinds.{is_bad}
-use Rattle.dsql_journal.specs.Readers.{went_bad, bad_tenure}
-use Rattle.dsql_journal.specs.WholeJournal as whole
-use Rattle.dsql_journal.specs.WholeJournal.{keeps_whole_journal}
+use Rattle.dsql_tenure_journal.specs.Readers.{went_bad, bad_tenure}
+use Rattle.dsql_tenure_journal.specs.WholeJournal as whole
+use Rattle.dsql_tenure_journal.specs.WholeJournal.{keeps_whole_journal}
 use Rattle.dsql_tenure.specs.Parts.{keeps_order, keeps_bad}
 
 pub and-then : (x y r : Bool) → r ≡ (x && y) → x ≡ true → y ≡ r
@@ -57,7 +57,7 @@ keeps_whole_journal-groups before e one =
     ordered (whole.has_one_connection before e) (whole.follows_no_refusal before) (whole.follows_whole_tenure before e) (whole.connects_first before e) (whole.follows_no_shut before)
     (whole.has_rising_tenure before e) (whole.starts_with_tenure_one before e) (whole.tidies_nothing_bad before e) (whole.stays_in_bad_tenure before e) (whole.shuts_after_invalid before e) one
 
--- a Bad answer stands there where the first one has a tenure
+-- Some entry was answered Bad exactly if the first Bad answer has a tenure.
 pub bad_tenure-some : (journal : List Entry) → is_some (bad_tenure journal) ≡ went_bad journal
 bad_tenure-some [] = refl
 bad_tenure-some (e ∷ before) = go (went_bad before) (is_bad e.answer) (bad_tenure-some before)

@@ -1,16 +1,16 @@
--- What an entry changes in the readers of a journal, as the tables change.
+-- What one entry changes in the readers of a journal is what it changes in the tables.
 use Rattle.std.proofs.Common.{◌≡◌, ℕ, ◌+◌, Bool, true, false, cond, not, ◌||◌, ◌==◌, Option, None, Some, List, [], ◌∷◌, map, length, refl, sym, ◌∙◌, ap, is_some}
 use native.Mathlib.Omega.{arith}
 use Rattle.dsql_driver.specs.declared.call.DriverCall.{DriverCall}
 use Rattle.dsql_driver.specs.declared.call.DriverCall.TheVariants.{Prepare, CloseStmt, Query, Next, CloseRows}
 use Rattle.dsql_driver.specs.declared.answer.DriverAnswer.{DriverAnswer}
 use Rattle.dsql_driver.specs.declared.answer.DriverAnswer.TheVariants.{Prepared, Cursor}
-use Rattle.dsql_journal.specs.declared.entry.Entry.{Entry}
+use Rattle.dsql_tenure_journal.specs.declared.entry.Entry.{Entry}
 use Rattle.dsql_driver.specs.Kinds.{is_bad, is_over}
-use Rattle.dsql_journal.specs.Readers.{LiveHandle, LiveCursor, has, handles_after, cursors_after, changed, after_next, bad_tenure, went_bad, begun, begins, of_tenure}
-use Rattle.dsql_journal.specs.Journal.{may_follow, IsJournalPrefix}
-use Rattle.dsql_journal.specs.Facts.{MayFollow}
-use Rattle.dsql_journal.proofs.Sentences.{MayFollow-of}
+use Rattle.dsql_tenure_journal.specs.Readers.{LiveHandle, LiveCursor, has, handles_after, cursors_after, changed, after_next, bad_tenure, went_bad, begun, begins, of_tenure}
+use Rattle.dsql_tenure_journal.specs.Journal.{may_follow, IsJournalPrefix}
+use Rattle.dsql_tenure_journal.specs.Facts.{MayFollow}
+use Rattle.dsql_tenure_journal.proofs.Sentences.{MayFollow-of}
 use Rattle.dsql_tenure.specs.SoFar.{so_far}
 use Rattle.dsql_tenure.specs.Flags.{bad_with}
 use Rattle.dsql_tenure.specs.Heard.{prepared_by, closed_by, opened_by, freed_by, finished_by, handles_with, cursors_with, over_if}
@@ -26,7 +26,7 @@ handles_by e (Prepare text) _ live = refl
 handles_by e (CloseStmt h) a live = filter-map (λ x. not (x.number == h)) kept_handle live
 handles_by e _ _ live = refl
 
--- the live handles, as they are kept
+-- The kept live handles change as the live handles do.
 pub kept_handles : (e : Entry) (live : List LiveHandle) → handles_with (prepared_by e.call e.answer) (closed_by e.call) e (map kept_handle live) ≡ map kept_handle (handles_after e e.call e.answer live)
 kept_handles e live = handles_by e e.call e.answer live
 
@@ -66,11 +66,11 @@ cursors_by e (Next rows) a live is = go (is_over a) refl
 cursors_by e (CloseRows rows) a live is = filter-map (λ x. not (x.number == rows)) kept_cursor live
 cursors_by e _ _ live is = refl
 
--- the live cursors, as they are kept
+-- The kept live cursors change as the live cursors do.
 pub kept_cursors : (e : Entry) (live : List LiveCursor) → cursors_with (opened_by e.call e.answer) (freed_by e.call) (finished_by e.call e.answer) e (map kept_cursor live) ≡ map kept_cursor (cursors_after e e.call e.answer live)
 kept_cursors e live = cursors_by e e.call e.answer live refl
 
--- the tenure of the first Bad answer
+-- The tenure of the first Bad answer is kept with one entry more.
 pub first_bad : (e : Entry) (before : List Entry) → bad_with (bad_tenure before) e ≡ bad_tenure (e ∷ before)
 first_bad e before = go (bad_tenure before) (went_bad before) refl (bad_tenure-some before)
   where
@@ -80,11 +80,11 @@ first_bad e before = go (bad_tenure before) (went_bad before) refl (bad_tenure-s
     go None true is some = let no_one : false ≡ true = rw is at some in grind (arith, no_one)
     go None false is some = refl
 
--- the entries of the tenure under way, with one more
+-- What is kept of the tenure under way with an entry is what is kept of its entries with that one.
 pub so_far_with : (e : Entry) (before : List Entry) → so_far (e ∷ of_tenure e.tenure before) ≡ so_far (of_tenure e.tenure (e ∷ before))
 so_far_with e before = rw (eqb-refl e.tenure) refl
 
--- one more is begun
+-- A transaction that an entry begins is added to the begun ones.
 pub has_begun : (n : ℕ) (e : Entry) (before : List Entry) (b : Bool) → b ≡ has n (begun before)
     → cond (begins e) ((e.tx == n) || b) b ≡ has n (begun (e ∷ before))
 has_begun n e before b is = go (begins e)
@@ -100,7 +100,7 @@ count_begun e before k is = go (begins e)
     go true = grind (arith, is)
     go false = is
 
--- a transaction that begins is new
+-- A transaction that begins is new.
 pub begins_new : (e : Entry) (before : List Entry) → IsJournalPrefix before → may_follow before e ≡ true → begins e ≡ true → has e.tx (begun before) ≡ false
 begins_new e before h follows is =
     let m : MayFollow before e = MayFollow-of before e follows in

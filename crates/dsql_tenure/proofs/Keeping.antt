@@ -1,4 +1,4 @@
--- What stands behind a word that isn't looked into.
+-- What `Stands` means, which isn't looked into elsewhere.
 use Rattle.dsql_tenure.specs.declared.tables.Tables.{Tables}
 use Rattle.dsql_tenure.specs.Tables.{Keeps, Stands}
 

@@ -3,7 +3,7 @@ use Rattle.std.proofs.Common.{◌≡◌, ℕ, Bool, true, false, cond, not, ◌&
 use Rattle.std.specs.List.{filter, list_any, list_all}
 use native.Mathlib.Omega.{arith}
 use Rattle.std.proofs.lemmas.Bool.Decides.{nat_tests}
-use Rattle.dsql_journal.specs.Readers.{is_empty, has}
+use Rattle.dsql_tenure_journal.specs.Readers.{is_empty, has}
 
 pub is_empty-filter : {X : Type 0} (p : X → Bool) (xs : List X) → is_empty (filter p xs) ≡ not (list_any p xs)
 is_empty-filter p [] = refl
@@ -37,7 +37,7 @@ pub list_all-map : {X Y : Type 0} (p : Y → Bool) (h : X → Y) (xs : List X) �
 list_all-map p h [] = refl
 list_all-map p h (x ∷ xs) = ap (λ b. p (h x) && b) (list_all-map p h xs)
 
--- a test for all of a list is a test for none of it
+-- All elements of a list fail a test exactly if none passes it.
 pub list_all-none : {X : Type 0} (p : X → Bool) (xs : List X) → list_all (λ x. not (p x)) xs ≡ not (list_any p xs)
 list_all-none p [] = refl
 list_all-none p (x ∷ xs) = go (p x) (list_all-none p xs)
@@ -46,7 +46,7 @@ list_all-none p (x ∷ xs) = go (p x) (list_all-none p xs)
     go true h = refl
     go false h = h
 
--- what holds of all, and of what follows from it
+-- What holds of all elements, and implies a second test, makes the second hold of all.
 pub list_all-so : {X : Type 0} (p q : X → Bool) → ((x : X) → p x ≡ true → q x ≡ true) → (xs : List X) → list_all p xs ≡ true → list_all q xs ≡ true
 list_all-so p q so [] h = refl
 list_all-so p q so (x ∷ xs) h = go (p x) refl h (list_all-so p q so xs)
@@ -59,12 +59,12 @@ list_all-so p q so (x ∷ xs) h = go (p x) refl h (list_all-so p q so xs)
     go true is h more = both (q x) (list_all q xs) (so x is) (more h)
     go false is h more = grind (arith, h)
 
--- the same test is the same of a list
+-- Two tests that agree on each element agree on the list.
 pub list_all-same : {X : Type 0} (p q : X → Bool) → ((x : X) → p x ≡ q x) → (xs : List X) → list_all p xs ≡ list_all q xs
 list_all-same p q same [] = refl
 list_all-same p q same (x ∷ xs) = grind (arith, same x, list_all-same p q same xs)
 
--- two tests at once
+-- All elements pass two tests at once exactly if all pass each.
 pub list_all-and : {X : Type 0} (p q : X → Bool) (xs : List X) → list_all (λ x. p x && q x) xs ≡ (list_all p xs && list_all q xs)
 list_all-and p q [] = refl
 list_all-and p q (x ∷ xs) = go (p x) (q x) (list_all p xs) (list_all q xs) (list_all-and p q xs)
@@ -75,7 +75,7 @@ list_all-and p q (x ∷ xs) = go (p x) (q x) (list_all p xs) (list_all q xs) (li
     go true false false d h = refl
     go false b c d h = refl
 
--- something in the list passes, and so does what all pass
+-- If some element passes one test and all pass another, some element passes both.
 pub list_any-both : {X : Type 0} (p q : X → Bool) (xs : List X) → list_any p xs ≡ true → list_all q xs ≡ true → list_any (λ x. p x && q x) xs ≡ true
 list_any-both p q [] h k = grind (arith, h)
 list_any-both p q (x ∷ xs) h k = go (p x) (q x) h k (list_any-both p q xs)
@@ -87,7 +87,7 @@ list_any-both p q (x ∷ xs) h k = go (p x) (q x) h k (list_any-both p q xs)
     go false true h k more = more h k
     go false false h k more = grind (arith, k)
 
--- where one passes, so does what follows from it
+-- If some element passes a test that implies another, some element passes the other.
 pub list_any-so : {X : Type 0} (p q : X → Bool) → ((x : X) → p x ≡ true → q x ≡ true) → (xs : List X) → list_any p xs ≡ true → list_any q xs ≡ true
 list_any-so p q so [] h = grind (arith, h)
 list_any-so p q so (x ∷ xs) h = go (p x) refl h (list_any-so p q so xs)

@@ -1,4 +1,4 @@
--- Which entries open cursors; a call on the database has one open at most.
+-- Which entries open cursors. The argument that a call on the database has at most one open.
 use Rattle.std.proofs.Common.{◌≡◌, ℕ, Bool, true, false, cond, not, ◌&&◌, ◌||◌, ◌==◌, nat_lt, Option, None, Some, List, [], ◌∷◌, refl, sym, ◌∙◌, eqb→eq, is_some}
 use Rattle.std.specs.List.{filter, list_all, list_any}
 use native.Mathlib.Omega.{arith}
@@ -9,24 +9,24 @@ use Rattle.dsql_driver.specs.declared.call.Input.TheVariants.{Text, Handle}
 use Rattle.dsql_driver.specs.declared.answer.DriverAnswer.{DriverAnswer}
 use Rattle.dsql_driver.specs.declared.answer.DriverAnswer.TheVariants.{Cursor}
 use Rattle.dsql_driver.specs.Fits.{fits_of, is_memory, is_skip}
-use Rattle.dsql_journal.specs.declared.entry.Entry.{Entry}
-use Rattle.dsql_journal.specs.declared.entry.Owner.{Owner}
-use Rattle.dsql_journal.specs.declared.entry.Owner.TheVariants.{Call, Tx, Pin, House}
-use Rattle.dsql_journal.specs.Kinds.{◌⇒◌, is_number, is_call}
+use Rattle.dsql_tenure_journal.specs.declared.entry.Entry.{Entry}
+use Rattle.dsql_tenure_journal.specs.declared.entry.Owner.{Owner}
+use Rattle.dsql_tenure_journal.specs.declared.entry.Owner.TheVariants.{Call}
+use Rattle.dsql_tenure_journal.specs.Kinds.{◌⇒◌, is_number, is_call}
 use Rattle.dsql_driver.specs.Kinds.{is_reset, is_valid, is_prepare, runs_text, runs_handle, is_next, given_cursor}
-use Rattle.dsql_journal.specs.Readers.{LiveCursor, of_tenure, cursors, cursors_after, changed, after_next}
-use Rattle.dsql_journal.specs.Tenure.{is_body, place}
-use Rattle.dsql_journal.specs.Journal.{may_follow, is_journal_prefix, IsJournalPrefix}
-use Rattle.dsql_journal.specs.Facts.{KeepsBody, KeepsCallBody}
-use Rattle.dsql_journal.proofs.Conjunctions.{parts2, join2}
-use Rattle.dsql_journal.proofs.Beginnings.{answers_fit}
+use Rattle.dsql_tenure_journal.specs.Readers.{LiveCursor, of_tenure, cursors, cursors_after, changed, after_next}
+use Rattle.dsql_tenure_journal.specs.Tenure.{is_body, place}
+use Rattle.dsql_tenure_journal.specs.Journal.{may_follow, is_journal_prefix, IsJournalPrefix}
+use Rattle.dsql_tenure_journal.specs.Facts.{KeepsBody, KeepsCallBody}
+use Rattle.dsql_tenure_journal.proofs.Conjunctions.{parts2, join2}
+use Rattle.dsql_tenure_journal.proofs.Beginnings.{answers_fit}
 use Rattle.dsql_tenure.proofs.Lists.{list_all-and, list_any-both, list_any-so}
 use Rattle.dsql_tenure.proofs.Given.{gave_cursor, cursors-given, list_all-kept, list_any-filter}
 use Rattle.dsql_tenure.proofs.Members.{clash, none-kept}
 use Rattle.dsql_tenure.proofs.Owned.{found}
 use Rattle.dsql_tenure.proofs.WholeAtOnce.{mayfollow}
 
--- a text or a handle is run, and not skipped
+-- Is true if a text or a handle is run, and not skipped.
 abbrev pub runs : DriverCall → DriverAnswer → Bool
 runs call answer = runs_text call && not (is_skip answer) || runs_handle call
 
@@ -45,7 +45,7 @@ pub number-some : (o : Option ℕ) (n : ℕ) → is_number o n ≡ true → is_s
 number-some None n h = h
 number-some (Some m) n h = refl
 
--- where a cursor of a tenure is live, something was run in it
+-- If a cursor of a tenure is live, something was run in the tenure.
 pub opened : (t : ℕ) (journal : List Entry) → IsJournalPrefix journal → list_any (λ c. c.tenure == t) (cursors journal) ≡ true → list_any (λ x. runs x.call x.answer) (of_tenure t journal) ≡ true
 opened t journal h live =
     list_any-filter (λ x. runs x.call x.answer) (λ x. x.tenure == t) journal
@@ -78,11 +78,9 @@ in_body xs h =
 
 pub call_body : (o : Owner) (before : List Entry) (e : Entry) → is_call o ≡ true → KeepsBody o before e → KeepsCallBody before e
 call_body (Call n) before e is k = k
-call_body (Tx n) before e is k = grind (arith, is)
-call_body (Pin n) before e is k = grind (arith, is)
-call_body House before e is k = grind (arith, is)
+call_body _ before e is k = grind (arith, is)
 
--- nothing was run before a text, and only what was skipped before a handle
+-- Nothing ran before a text, and only what was skipped ran before a handle.
 text_first : (q : DriverCall) (a : DriverAnswer) → runs q a ≡ true → (nat_lt (place q) 1 || is_next q && false) ≡ true → ⊥
 text_first (Exec (Text t) p) a h k = grind (arith, k)
 text_first (Exec (Handle n) p) a h k = grind (arith, k)
@@ -129,7 +127,7 @@ first_run q a xs is order skip some = go q is order skip
     go (Query (Handle n) p) is order skip = skipped order skip
     go _ is order skip = grind (arith, is)
 
--- no cursor of a call's tenure is live when it opens one
+-- No cursor of a call's tenure is live when the call opens one.
 unopened : (before : List Entry) (e : Entry) → IsJournalPrefix (e ∷ before) → is_call e.owner ≡ true → runs e.call e.answer ≡ true → list_any (λ c. c.tenure == e.tenure) (cursors before) ≡ false
 unopened before e h is run = go (list_any (λ c. c.tenure == e.tenure) (cursors before)) refl
   where
@@ -139,7 +137,7 @@ unopened before e h is run = go (list_any (λ c. c.tenure == e.tenure) (cursors 
         absurd (first_run e.call e.answer (of_tenure e.tenure before) run k.order k.skip (opened e.tenure before (parts2 (may_follow before e) (is_journal_prefix before) h).1 live))
     go false live = refl
 
--- one cursor at most is of the tenure
+-- Is true if at most one cursor is of the tenure.
 abbrev pub one_of : ℕ → List LiveCursor → Bool
 one_of tenure [] = true
 one_of tenure (cursor ∷ cursors) = cond (cursor.tenure == tenure) (not (list_any (λ x. x.tenure == tenure) cursors)) (one_of tenure cursors)
@@ -190,7 +188,7 @@ one-after t e (Next rows) a live none f h = one-changed t rows a live ∙ h
 one-after t e (CloseRows rows) a live none f h = one-kept t (λ c. not (c.number == rows)) live h
 one-after t e _ _ live none f h = h
 
--- of the tenure of a call on the database one cursor at most is live
+-- At most one cursor of the tenure of a call on the database is live.
 pub one_cursor : (t : ℕ) (journal : List Entry) → IsJournalPrefix journal → list_all (λ x. is_call x.owner) (of_tenure t journal) ≡ true → one_of t (cursors journal) ≡ true
 one_cursor t [] h own = refl
 one_cursor t (e ∷ before) h own =
@@ -206,7 +204,7 @@ one_cursor t (e ∷ before) h own =
     go false at own more =
         one-after t e e.call e.answer (cursors before) (λ k run. grind (arith, at, k)) (mayfollow before e h).answer.fitting (more own)
 
--- where that one is closed, none is left
+-- If that cursor is closed, none of the tenure is left.
 pub closed-one : (t rows : ℕ) (cs : List LiveCursor) → one_of t cs ≡ true → list_any (λ c. (c.number == rows) && (c.tenure == t)) cs ≡ true
     → list_any (λ c. c.tenure == t) (filter (λ c. not (c.number == rows)) cs) ≡ false
 closed-one t rows [] one has = grind (arith, has)

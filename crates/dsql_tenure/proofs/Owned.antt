@@ -1,4 +1,4 @@
--- In a beginning of a whole journal: owners of tenures, and which tenure gave what is live.
+-- In a beginning of a whole journal: the owners of tenures, and the tenure that gave what is live.
 use Rattle.std.proofs.Common.{◌≡◌, ℕ, ◌<◌, ◌≤◌, Bool, true, false, not, ◌&&◌, ◌||◌, ◌==◌, nat_lt, Option, None, Some, List, [], ◌∷◌, refl, sym, ◌∙◌, ap, subst, eqb→eq}
 use Rattle.std.specs.List.{filter, list_all, list_any}
 use native.Mathlib.Omega.{arith}
@@ -7,24 +7,24 @@ use Rattle.dsql_driver.specs.declared.call.DriverCall.{DriverCall}
 use Rattle.dsql_driver.specs.declared.call.DriverCall.TheVariants.{Prepare, CloseStmt}
 use Rattle.dsql_driver.specs.declared.answer.DriverAnswer.{DriverAnswer}
 use Rattle.dsql_driver.specs.declared.answer.DriverAnswer.TheVariants.{Prepared}
-use Rattle.dsql_journal.specs.declared.entry.Entry.{Entry}
-use Rattle.dsql_journal.specs.declared.entry.Owner.{Owner}
-use Rattle.dsql_journal.specs.Kinds.{◌⇒◌, if_any, is_number, is_call, same_owner}
+use Rattle.dsql_tenure_journal.specs.declared.entry.Entry.{Entry}
+use Rattle.dsql_tenure_journal.specs.declared.entry.Owner.{Owner}
+use Rattle.dsql_tenure_journal.specs.Kinds.{◌⇒◌, if_any, is_number, is_call, same_owner}
 use Rattle.dsql_driver.specs.Kinds.{given_handle, given_cursor, handle_of, cursor_of}
-use Rattle.dsql_journal.specs.Readers.{LiveHandle, LiveCursor, is_empty, of_tenure, last_tenure, handles, handles_after, cursors}
-use Rattle.dsql_journal.specs.HandlesAndCursors.{keeps_handles_and_cursors}
-use Rattle.dsql_journal.specs.Tenure as tenure
-use Rattle.dsql_journal.specs.Journal.{may_follow, is_journal_prefix, IsJournalPrefix}
-use Rattle.dsql_journal.specs.Facts.{MayFollow}
-use Rattle.dsql_journal.proofs.Conjunctions.{parts2, parts8, join2}
-use Rattle.dsql_journal.proofs.Sentences.{MayFollow-of}
-use Rattle.dsql_journal.proofs.Tenures.{of_tenure-new}
+use Rattle.dsql_tenure_journal.specs.Readers.{LiveHandle, LiveCursor, is_empty, of_tenure, last_tenure, handles, handles_after, cursors}
+use Rattle.dsql_tenure_journal.specs.HandlesAndCursors.{keeps_handles_and_cursors}
+use Rattle.dsql_tenure_journal.specs.Tenure as tenure
+use Rattle.dsql_tenure_journal.specs.Journal.{may_follow, is_journal_prefix, IsJournalPrefix}
+use Rattle.dsql_tenure_journal.specs.Facts.{MayFollow}
+use Rattle.dsql_tenure_journal.proofs.Conjunctions.{parts2, parts8, join2}
+use Rattle.dsql_tenure_journal.proofs.Sentences.{MayFollow-of}
+use Rattle.dsql_tenure_journal.proofs.Tenures.{of_tenure-new}
 use Rattle.dsql_tenure.proofs.Lists.{is_empty-filter, list_all-none, list_all-so, list_all-filter, list_any-both}
 use Rattle.dsql_tenure.proofs.Given.{gave_handle, gave_cursor, handles-given, cursors-given, list_all-kept, list_any-filter, same_owner-refl, eqb-refl}
 use Rattle.dsql_tenure.proofs.Places.{later_or_last}
 use Rattle.dsql_tenure.proofs.SoFarRules.{OneOwner}
 
--- all entries of the last tenure, or of a later one, have one owner
+-- All entries of the last tenure, or of a later one, have one owner.
 pub of_one_owner : (n : ℕ) (journal : List Entry) → IsJournalPrefix journal → last_tenure journal ≤ n → OneOwner (of_tenure n journal)
 of_one_owner n [] h last = record { all = λ w is. refl }
 of_one_owner n (e ∷ before) h last =
@@ -47,7 +47,7 @@ of_one_owner n (e ∷ before) h last =
         let same : n ≡ e.tenure = grind (arith, nat_tests, above, last) in
         subst (λ (k : ℕ). OneOwner (of_tenure k (e ∷ before))) (sym same) (rw (eqb-refl e.tenure) (record { all = λ w is. owner_of w is m.tenure.one_owner }))
 
--- what was given by an entry that passes a test
+-- If an element passes a test and what gave it passes another, some entry of the journal passes the other.
 pub found : {X : Type 0} (p : X → Bool) (gave : X → Entry → Bool) (q : Entry → Bool) (journal : List Entry)
     → ((x : X) (e : Entry) → p x ≡ true → gave x e ≡ true → q e ≡ true)
     → (xs : List X) → list_all (λ x. list_any (gave x) journal) xs ≡ true → list_any p xs ≡ true → list_any q journal ≡ true
@@ -76,7 +76,7 @@ found p gave q journal so (x ∷ xs) given is =
     go true here h gives more = one journal here gives
     go false here h gives more = more h
 
--- a handle that the last tenure gave, and that is live, is that tenure's
+-- Is true if the handle has another number or is of this tenure.
 abbrev of_here : ℕ → ℕ → LiveHandle → Bool
 of_here number tenure handle = not (handle.number == number) || (handle.tenure == tenure)
 
@@ -138,7 +138,7 @@ same_test true b h k = sym (h refl)
 same_test false true h k = k refl
 same_test false false h k = refl
 
--- the parts of what is said of handles and cursors that say what is live, and where
+-- Holds if the entry keeps the rules for handles and cursors that say what is live, and where.
 pub record Served (before : List Entry) (entry : Entry) : Type 0 where
   pub handle : if_any (handle_of entry.call) (λ n. list_any (λ h. h.number == n) (handles before)) ≡ true
   pub handle_tx : if_any (handle_of entry.call) (λ n. list_all (λ h. not (h.number == n) || (h.tx == entry.tx)) (handles before)) ≡ true
@@ -173,7 +173,7 @@ both_of n t h k = go (h.number == n) (h.tenure == t) refl refl k
     go true false x y k = grind (arith, k)
     go false b x y k = grind (arith, k)
 
--- a live handle is closed where it was prepared exactly where it is of that tenure
+-- A live handle is closed in the tenure that prepared it exactly if it is of that tenure.
 pub closes_own-is : (n t : ℕ) (journal : List Entry) → IsJournalPrefix journal → last_tenure journal ≤ t → list_any (λ h. h.number == n) (handles journal) ≡ true
     → list_any (λ x. is_number (given_handle x.answer) n) (of_tenure t journal) ≡ list_all (of_here n t) (handles journal)
 closes_own-is n t journal h last live =
@@ -198,7 +198,7 @@ closes_own-is n t journal h last live =
         let same : last_tenure journal ≡ t = grind (arith, nat_tests, above, last) in
         rw (← same) (given-here n journal h (rw same gave))
 
--- a live cursor of a tenure was given in it
+-- A live cursor of a tenure was given in it.
 pub own_cursor : (before : List Entry) (e : Entry) → Served before e → tenure.uses_own_cursor before e ≡ true
 own_cursor before e s = go (cursor_of e.call) s.cursor s.cursor_tenure
   where

@@ -1,4 +1,5 @@
--- A tenure that isn't whole can have a further entry, answered Bad, and then the beginning has a whole end.
+-- The argument that a tenure that isn't whole can have a further entry, answered Bad, and that the beginning
+-- then has a whole end.
 use Rattle.std.proofs.Common.{◌≡◌, ℕ, Bool, true, false, ◌==◌, nat_lt, None, List, ◌∷◌, refl, sym, ◌∙◌}
 use Rattle.std.specs.List.{list_all}
 use native.Mathlib.Omega.{arith}
@@ -6,16 +7,16 @@ use Rattle.std.proofs.lemmas.Bool.Decides.{nat_tests}
 use Rattle.dsql_driver.specs.declared.call.DriverCall.{DriverCall}
 use Rattle.dsql_driver.specs.declared.answer.DriverAnswer.TheVariants.{Bad}
 use Rattle.dsql_driver.specs.Fits.{may_fail}
-use Rattle.dsql_journal.specs.declared.entry.Entry.{Entry}
-use Rattle.dsql_journal.specs.Kinds.{◌⇒◌, is_house}
+use Rattle.dsql_tenure_journal.specs.declared.entry.Entry.{Entry}
+use Rattle.dsql_tenure_journal.specs.Kinds.{◌⇒◌, is_house}
 use Rattle.dsql_driver.specs.Kinds.{is_connect, is_reset, is_valid, is_bad}
-use Rattle.dsql_journal.specs.Readers.{bad_tenure, went_bad, was_refused, was_shut}
-use Rattle.dsql_journal.specs.HandlesAndCursors.{has_width_of_cursor}
-use Rattle.dsql_journal.specs.Tenure.{is_whole_tenure}
-use Rattle.dsql_journal.specs.Journal.{IsJournalPrefix}
-use Rattle.dsql_journal.specs.Facts.{KeepsBody, KeepsTenure, KeepsTransaction, KeepsHandlesAndCursors, KeepsWholeJournal, MayFollow}
-use Rattle.dsql_journal.proofs.Conjunctions.{join2}
-use Rattle.dsql_journal.proofs.Beginnings.{IsJournalPrefix-longer}
+use Rattle.dsql_tenure_journal.specs.Readers.{bad_tenure, went_bad, was_refused, was_shut}
+use Rattle.dsql_tenure_journal.specs.HandlesAndCursors.{has_width_of_cursor}
+use Rattle.dsql_tenure_journal.specs.Tenure.{is_whole_tenure}
+use Rattle.dsql_tenure_journal.specs.Journal.{IsJournalPrefix}
+use Rattle.dsql_tenure_journal.specs.Facts.{KeepsBody, KeepsTenure, KeepsTransaction, KeepsHandlesAndCursors, KeepsWholeJournal, MayFollow}
+use Rattle.dsql_tenure_journal.proofs.Conjunctions.{join2}
+use Rattle.dsql_tenure_journal.proofs.Beginnings.{IsJournalPrefix-longer}
 use Rattle.dsql_tenure.specs.Ends.{HasWholeEnd}
 use Rattle.dsql_tenure.proofs.Given.{eqb-refl}
 use Rattle.dsql_tenure.proofs.WholeAtOnce.{mayfollow, whole-house}
@@ -23,7 +24,7 @@ use Rattle.dsql_tenure.proofs.Rollbacks.{none_valid, none_fell, not_invalid}
 use Rattle.dsql_tenure.proofs.BadEnds.{both_false, same_owners}
 use Rattle.dsql_tenure.proofs.RollsBack.{one_more, bad-has_whole_end}
 
--- nothing was answered Bad, and the tenure under way isn't whole
+-- Holds of a beginning that goes on, if no answer was Bad and the tenure under way isn't whole.
 pub record Partly (before : List Entry) (entry : Entry) : Type 0 where
   pub beginning : IsJournalPrefix (entry ∷ before)
   pub not_refused : was_refused (entry ∷ before) ≡ false
@@ -31,11 +32,11 @@ pub record Partly (before : List Entry) (entry : Entry) : Type 0 where
   pub not_bad : went_bad (entry ∷ before) ≡ false
   pub partly : is_whole_tenure entry.tenure (entry ∷ before) ≡ false
 
--- a call of the tenure under way, answered Bad
+-- Returns a call of the tenure under way, answered Bad.
 abbrev pub spoiled : Entry → ℕ → DriverCall → Entry
 spoiled entry tx call = record { conn = entry.conn; tenure = entry.tenure; owner = entry.owner; call_no = entry.call_no; tx = tx; call = call; answer = Bad }
 
--- such a call is none of these
+-- Holds if the call is none of these.
 pub record Works (call : DriverCall) : Type 0 where
   pub connect : is_connect call ≡ false
   pub reset : is_reset call ≡ false
@@ -89,7 +90,7 @@ module _ (before : List Entry) (e : Entry) (p : Partly before e) where
         in_body = λ k. body;
       }
 
-  -- a call that may follow, answered Bad, and then what makes it whole
+  -- A call that may follow, answered Bad, is followed by what makes the journal whole.
   pub spoiled_end : (tx : ℕ) (q : DriverCall) → Works q → KeepsBody e.owner (e ∷ before) (spoiled e tx q) → ((tx ≡ 0 → ⊥) → KeepsTransaction (e ∷ before) (spoiled e tx q))
       → KeepsHandlesAndCursors (e ∷ before) (spoiled e tx q) → has_width_of_cursor (e ∷ before) (spoiled e tx q) ≡ true → HasWholeEnd (e ∷ before)
   spoiled_end tx q w body transaction handles width =

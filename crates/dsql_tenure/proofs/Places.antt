@@ -3,14 +3,14 @@ use Rattle.std.proofs.Common.{◌≡◌, ◌≢◌, ℕ, Bool, true, false, cond
 use Rattle.std.specs.List.{filter, list_any, list_all}
 use native.Mathlib.Omega.{arith}
 use Rattle.std.proofs.lemmas.Bool.Decides.{nat_tests}
-use Rattle.dsql_journal.specs.declared.entry.Entry.{Entry}
+use Rattle.dsql_tenure_journal.specs.declared.entry.Entry.{Entry}
 use Rattle.dsql_driver.specs.Kinds.{is_ending}
-use Rattle.dsql_journal.specs.Readers.{is_empty, has, of_tenure, of_transaction, last_tenure, begins, begun, ended, went_bad}
-use Rattle.dsql_journal.specs.Tenure.{has_ended_transactions, has_closed_cursors, has_closed_handles, is_whole_tenure}
-use Rattle.dsql_journal.specs.Journal.{may_follow, is_journal_prefix, IsJournalPrefix}
-use Rattle.dsql_journal.specs.Facts.{MayFollow}
-use Rattle.dsql_journal.proofs.Conjunctions.{parts2, join2, if_so}
-use Rattle.dsql_journal.proofs.Sentences.{MayFollow-of}
+use Rattle.dsql_tenure_journal.specs.Readers.{is_empty, has, of_tenure, of_transaction, last_tenure, begins, begun, ended, went_bad}
+use Rattle.dsql_tenure_journal.specs.Tenure.{has_ended_transactions, has_closed_cursors, has_closed_handles, is_whole_tenure}
+use Rattle.dsql_tenure_journal.specs.Journal.{may_follow, is_journal_prefix, IsJournalPrefix}
+use Rattle.dsql_tenure_journal.specs.Facts.{MayFollow}
+use Rattle.dsql_tenure_journal.proofs.Conjunctions.{parts2, join2, if_so}
+use Rattle.dsql_tenure_journal.proofs.Sentences.{MayFollow-of}
 use Rattle.dsql_tenure.specs.Open.{open_in, open_after}
 use Rattle.dsql_tenure.proofs.Lists.{list_all-so}
 use Rattle.dsql_tenure.proofs.Given.{list_all-kept, eqb-refl}
@@ -33,7 +33,7 @@ has-later n m true ns h = go (m == n) h
     go false h = h
 has-later n m false ns h = h
 
--- a transaction begun in a tenure was begun
+-- A transaction that was begun in a tenure was begun.
 pub begun-of_tenure : (t : ℕ) (journal : List Entry) → list_all (λ m. has m (begun journal)) (begun (of_tenure t journal)) ≡ true
 begun-of_tenure t [] = refl
 begun-of_tenure t (e ∷ before) = go (e.tenure == t) (begins e) refl (list_all-so (λ m. has m (begun before)) (λ m. has m (begun (e ∷ before))) (λ m h. has-later m e.tx (begins e) (begun before) h) (begun (of_tenure t before)) (begun-of_tenure t before))
@@ -52,7 +52,7 @@ begun-of_tenure t (e ∷ before) = go (e.tenure == t) (begins e) refl (list_all-
     go true c is h = here h (begins e) refl h
     go false c is h = h
 
--- of a transaction that was begun in a tenure an entry stands in it
+-- A transaction that was begun in a tenure has an entry in it.
 pub begun-in : (n t : ℕ) (journal : List Entry) → has n (begun (of_tenure t journal)) ≡ true → list_any (λ x. x.tenure == t) (of_transaction n journal) ≡ true
 begun-in n t [] h = h
 begun-in n t (e ∷ before) h = go (e.tenure == t) (begins e) (e.tx == n) refl refl refl h (begun-in n t before)
@@ -81,7 +81,7 @@ begun-in n t (e ∷ before) h = go (e.tenure == t) (begins e) (e.tx == n) refl r
         none_first false is h = h
     go false b c at is same h more = later c (more h)
 
--- a whole tenure has no open transaction
+-- The last tenure has ended its transactions exactly if no transaction is open.
 module _ (journal : List Entry) (h : IsJournalPrefix journal) where
   pub none_open : list_all (λ m. has m (begun (of_tenure (last_tenure journal) journal))) (open_in journal) ≡ true
       → has_ended_transactions (last_tenure journal) journal ≡ is_empty (open_in journal)
@@ -111,7 +111,7 @@ module _ (journal : List Entry) (h : IsJournalPrefix journal) where
           neither true so nay = grind (arith, so refl, nay)
           neither false so nay = refl
 
--- whether a number is the last tenure's or a later one
+-- A number that isn't below the last tenure's is the last tenure's or a later one.
 pub later_or_last : (P : Type 0) (last n : ℕ) → (nat_lt last n ≡ true → P) → (n ≡ last → P) → nat_lt n last ≡ false → P
 later_or_last P last n above same ge = go (nat_lt last n) refl
   where
@@ -126,7 +126,7 @@ empty_is : (ns : List ℕ) → is_empty ns ≡ true → ns ≡ []
 empty_is [] h = refl
 empty_is (n ∷ ns) h = grind (arith, h)
 
--- the open transactions were begun in the last tenure
+-- The open transactions were begun in the last tenure.
 pub open-in_last : (journal : List Entry) → IsJournalPrefix journal → list_all (λ m. has m (begun (of_tenure (last_tenure journal) journal))) (open_in journal) ≡ true
 open-in_last [] h = refl
 open-in_last (e ∷ before) h =
@@ -154,11 +154,11 @@ open-in_last (e ∷ before) h =
     more false true h = list_all-kept (λ n. has n (begun (of_tenure e.tenure before))) (λ k. not (k == e.tx)) (open_in before) h
     more false false h = h
 
--- the last tenure's transactions have ended where none is open
+-- The last tenure's transactions have ended exactly if none is open.
 pub has_ended-last : (journal : List Entry) → IsJournalPrefix journal → has_ended_transactions (last_tenure journal) journal ≡ is_empty (open_in journal)
 has_ended-last journal h = none_open journal h (open-in_last journal h)
 
--- the entries of a transaction stand in one tenure
+-- The entries of a transaction stand in one tenure.
 pub one_tenure : (n t : ℕ) (journal : List Entry) → IsJournalPrefix journal → n ≢ 0
     → list_any (λ x. x.tenure == t) (of_transaction n journal) ≡ true → list_all (λ x. x.tenure == t) (of_transaction n journal) ≡ true
 one_tenure n t [] h some k = refl
@@ -194,7 +194,7 @@ one_tenure n t (e ∷ before) h some k =
         pick false is here k more = let same_t : e.tenure ≡ t = both e.tenure t (of_transaction n before) here k in grind (arith, nat_tests, is, same_t)
     go false same m k more = more k
 
--- an open transaction's entries stand in the last tenure
+-- An open transaction's entries stand in the last tenure.
 pub open-last : (n : ℕ) (journal : List Entry) → IsJournalPrefix journal → n ≢ 0 → has n (open_in journal) ≡ true → list_all (λ x. x.tenure == last_tenure journal) (of_transaction n journal) ≡ true
 open-last n journal h some is =
     one_tenure n (last_tenure journal) journal h some

@@ -1,4 +1,5 @@
--- In a beginning in which something was answered Bad, the open transactions can be ended, and then it can be shut.
+-- The argument that in a beginning with a Bad answer the open transactions can be ended, and then the
+-- connection can be shut.
 use Rattle.std.proofs.Common.{◌≡◌, ◌≢◌, ℕ, Bool, true, false, cond, not, ◌&&◌, ◌||◌, ◌==◌, None, Some, List, [], ◌∷◌, refl, sym, ◌∙◌, ap, eqb→eq}
 use Rattle.std.specs.List.{list_all, list_any}
 use native.Mathlib.Omega.{arith}
@@ -9,13 +10,13 @@ use Rattle.dsql_driver.specs.declared.call.Input.TheVariants.{Text, Handle}
 use Rattle.dsql_driver.specs.declared.answer.DriverAnswer.{DriverAnswer}
 use Rattle.dsql_driver.specs.declared.answer.DriverAnswer.TheVariants.{Invalid}
 use Rattle.dsql_driver.specs.Fits.{fits_of, is_invalid}
-use Rattle.dsql_journal.specs.declared.entry.Entry.{Entry}
-use Rattle.dsql_journal.specs.Kinds.{◌⇒◌, is_pin, is_tx_number, same_owner}
+use Rattle.dsql_tenure_journal.specs.declared.entry.Entry.{Entry}
+use Rattle.dsql_tenure_journal.specs.Kinds.{◌⇒◌, is_pin, is_tx_number, same_owner}
 use Rattle.dsql_driver.specs.Kinds.{is_valid, is_reset, is_bad, is_shut}
-use Rattle.dsql_journal.specs.Readers.{has, of_tenure, last_tenure, begun, went_bad, bad_tenure, went_invalid, was_shut}
-use Rattle.dsql_journal.specs.Tenure.{is_whole_tenure, is_body}
-use Rattle.dsql_journal.specs.Journal.{may_follow, is_journal_prefix, IsJournalPrefix}
-use Rattle.dsql_journal.proofs.Conjunctions.{parts2, join2, if_so}
+use Rattle.dsql_tenure_journal.specs.Readers.{has, of_tenure, last_tenure, begun, went_bad, bad_tenure, went_invalid, was_shut}
+use Rattle.dsql_tenure_journal.specs.Tenure.{is_whole_tenure, is_body}
+use Rattle.dsql_tenure_journal.specs.Journal.{may_follow, is_journal_prefix, IsJournalPrefix}
+use Rattle.dsql_tenure_journal.proofs.Conjunctions.{parts2, join2, if_so}
 use Rattle.dsql_tenure.specs.Open.{open_in}
 use Rattle.dsql_tenure.proofs.Lists.{list_all-and, list_any-both, list_all-filter}
 use Rattle.dsql_tenure.proofs.Given.{eqb-refl, list_any-filter, same_owner-refl}
@@ -28,7 +29,7 @@ not_true : (b : Bool) → not b ≡ true → b ≡ false
 not_true true h = sym h
 not_true false h = refl
 
--- a tenure that isn't whole has no Valid
+-- A tenure that isn't whole has no Valid.
 pub none_valid : (before : List Entry) (e : Entry) → IsJournalPrefix (e ∷ before) → is_whole_tenure e.tenure (e ∷ before) ≡ false
     → list_any (λ x. is_valid x.call) (of_tenure e.tenure (e ∷ before)) ≡ false
 none_valid before e h partly = rw (eqb-refl e.tenure) (go (is_valid e.call) refl (not_true (list_any (λ x. is_valid x.call) (of_tenure e.tenure before)) (mayfollow before e h).tenure.not_after_valid))
@@ -37,7 +38,7 @@ none_valid before e h partly = rw (eqb-refl e.tenure) (go (is_valid e.call) refl
     go true is none = sym (whole-valid before e h is) ∙ partly
     go false is none = none
 
--- nor a Reset answered Bad
+-- A tenure that isn't whole has no Reset answered Bad.
 pub none_fell : (before : List Entry) (e : Entry) → IsJournalPrefix (e ∷ before) → is_whole_tenure e.tenure (e ∷ before) ≡ false
     → list_any (λ x. is_reset x.call && is_bad x.answer) (of_tenure e.tenure (e ∷ before)) ≡ false
 none_fell before e h partly = rw (eqb-refl e.tenure) (go (is_reset e.call && is_bad e.answer) refl (not_true (list_any (λ x. is_reset x.call && is_bad x.answer) (of_tenure e.tenure before)) (mayfollow before e h).tenure.not_after_bad_reset))
@@ -59,7 +60,7 @@ invalid-is : (a : DriverAnswer) → is_invalid a ≡ true → a ≡ Invalid
 invalid-is Invalid h = refl
 invalid-is _ h = grind (arith, h)
 
--- nor was a Valid answered Invalid
+-- No Valid was answered Invalid in a journal whose tenure under way isn't whole.
 pub not_invalid : (before : List Entry) (e : Entry) → IsJournalPrefix (e ∷ before) → is_whole_tenure e.tenure (e ∷ before) ≡ false → was_shut (e ∷ before) ≡ false → went_invalid (e ∷ before) ≡ false
 not_invalid before e h partly open_still = go (is_invalid e.answer) (went_invalid before) refl refl
   where
@@ -74,7 +75,7 @@ not_invalid before e h partly open_still = go (is_invalid e.answer) (went_invali
     go false true is was = shut_now (is_shut e.call) (if_so (went_invalid before) (is_shut e.call) (mayfollow before e h).whole_journal.shut_when_invalid was) open_still
     go false false is was = refl
 
--- the first Bad answer stands in the last tenure
+-- The first Bad answer stands in the last tenure.
 pub bad_last : (journal : List Entry) → IsJournalPrefix journal → was_shut journal ≡ false → went_bad journal ≡ true → bad_tenure journal ≡ Some (last_tenure journal)
 bad_last [] h open_still bad = grind (arith, bad)
 bad_last (e ∷ before) h open_still bad =
@@ -93,7 +94,7 @@ bad_last (e ∷ before) h open_still bad =
     go false was true k s z is old none earlier = refl
     go false was false k s z is old none earlier = grind (arith, k)
 
--- an entry of a transaction has an owner for it
+-- An entry of a transaction has an owner for it.
 pub owned : (journal : List Entry) → IsJournalPrefix journal → list_all (λ x. (x.tx == 0) || (is_tx_number x.tx x.owner || is_pin x.owner)) journal ≡ true
 owned [] h = refl
 owned (e ∷ before) h =
@@ -104,7 +105,7 @@ owned (e ∷ before) h =
     go true is = refl
     go false is = ((mayfollow before e h).transaction (λ z. grind (arith, nat_tests, is, z))).owner
 
--- tests stand in no transaction
+-- Tests stand in no transaction.
 pub tests_outside : (journal : List Entry) → IsJournalPrefix journal → list_all (λ x. is_body x || (x.tx == 0)) journal ≡ true
 tests_outside [] h = refl
 tests_outside (e ∷ before) h =
@@ -122,7 +123,7 @@ zero_not n m is some = go (n == 0) refl
     go true z = absurd (some (grind (arith, nat_tests, is, z)))
     go false z = refl
 
--- where a transaction is open, the last tenure is its own or a pinned connection's
+-- If a transaction is open, the last tenure is the transaction's own or a pinned connection's.
 pub open_owner : (before : List Entry) (e : Entry) → IsJournalPrefix (e ∷ before) → (m : ℕ) → has m (open_in (e ∷ before)) ≡ true → m ≢ 0 → (is_tx_number m e.owner || is_pin e.owner) ≡ true
 open_owner before e h m is some =
     pick ((is_tx_number m e.owner || is_pin e.owner) ≡ true)

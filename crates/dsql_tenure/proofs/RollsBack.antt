@@ -1,18 +1,19 @@
--- A beginning in which something was answered Bad has a whole end.
+-- The argument that a beginning in which an answer was Bad has a whole end, by induction over the open
+-- transactions.
 use Rattle.std.proofs.Common.{◌≡◌, ◌≢◌, ℕ, zero, suc, ◌+◌, ◌≤◌, Bool, true, false, cond, not, ◌&&◌, ◌||◌, ◌==◌, nat_le, List, [], ◌∷◌, ◌++◌, length, append_assoc, refl, sym, ◌∙◌, ap, subst, eqb→eq}
 use Rattle.std.specs.List.{filter, list_all}
 use native.Mathlib.Omega.{arith}
 use Rattle.std.proofs.lemmas.Bool.Decides.{nat_tests}
 use Rattle.std.proofs.lemmas.List.Folds.{list_all-append}
 use Rattle.dsql_driver.specs.declared.answer.DriverAnswer.TheVariants.{Done}
-use Rattle.dsql_journal.specs.declared.entry.Entry.{Entry}
-use Rattle.dsql_journal.specs.Entries.{shut_entry}
-use Rattle.dsql_journal.specs.Readers.{is_empty, has, last_tenure, begins, begun, went_bad, was_shut, was_refused}
-use Rattle.dsql_journal.specs.Tenure.{is_whole_tenure, has_ended_transactions, has_closed_cursors, has_closed_handles}
-use Rattle.dsql_journal.specs.Journal.{may_follow, is_journal_prefix, IsJournalPrefix, IsWhole}
-use Rattle.dsql_journal.proofs.Conjunctions.{parts2, join2}
-use Rattle.dsql_journal.proofs.Beginnings.{IsJournalPrefix-longer}
-use Rattle.dsql_journal.proofs.Tenures.{IsWhole-shut}
+use Rattle.dsql_tenure_journal.specs.declared.entry.Entry.{Entry}
+use Rattle.dsql_tenure_journal.specs.Entries.{shut_entry}
+use Rattle.dsql_tenure_journal.specs.Readers.{is_empty, has, last_tenure, begins, begun, went_bad, was_shut, was_refused}
+use Rattle.dsql_tenure_journal.specs.Tenure.{is_whole_tenure, has_ended_transactions, has_closed_cursors, has_closed_handles}
+use Rattle.dsql_tenure_journal.specs.Journal.{may_follow, is_journal_prefix, IsJournalPrefix, IsWhole}
+use Rattle.dsql_tenure_journal.proofs.Conjunctions.{parts2, join2}
+use Rattle.dsql_tenure_journal.proofs.Beginnings.{IsJournalPrefix-longer}
+use Rattle.dsql_tenure_journal.proofs.Tenures.{IsWhole-shut}
 use Rattle.dsql_tenure.specs.Open.{open_in}
 use Rattle.dsql_tenure.specs.Ends.{HasWholeEnd}
 use Rattle.dsql_tenure.proofs.Given.{eqb-refl}
@@ -22,7 +23,7 @@ use Rattle.dsql_tenure.proofs.Places.{has_ended-last}
 use Rattle.dsql_tenure.proofs.WholeAtOnce.{mayfollow}
 use Rattle.dsql_tenure.proofs.BadEnds.{rolled, may_roll}
 
--- no transaction has the number 0
+-- No transaction has the number 0.
 pub zero-unbegun : (journal : List Entry) → IsJournalPrefix journal → has 0 (begun journal) ≡ false
 zero-unbegun [] h = refl
 zero-unbegun (e ∷ before) h = go (begins e) refl (zero-unbegun before (parts2 (may_follow before e) (is_journal_prefix before) h).1)
@@ -39,7 +40,7 @@ zero-unbegun (e ∷ before) h = go (begins e) refl (zero-unbegun before (parts2 
     go true is more = neither (e.tx == 0) (has 0 (begun before)) (numbered (e.tx == 0) refl is) more
     go false is more = more
 
--- one entry more, and then the rest
+-- A whole end after one entry more gives a whole end.
 pub one_more : (r : Entry) (journal : List Entry) → r.tenure ≡ last_tenure journal → HasWholeEnd (r ∷ journal) → HasWholeEnd journal
 one_more r journal same end = (
   end.0 ++ r ∷ [],
@@ -49,7 +50,7 @@ one_more r journal same end = (
       (subst (λ (n : ℕ). list_all (λ x. nat_le x.tenure (n + 1)) end.0 ≡ true) same end.2) (join2 (nat_le r.tenure (last_tenure journal + 1)) true (grind (arith, nat_tests, same)) refl),
 )
 
--- a whole tenure can be shut
+-- A whole tenure can be shut.
 pub shut_end : (before : List Entry) (e : Entry) → IsJournalPrefix (e ∷ before) → was_refused (e ∷ before) ≡ false → was_shut (e ∷ before) ≡ false → is_whole_tenure e.tenure (e ∷ before) ≡ true
     → HasWholeEnd (e ∷ before)
 shut_end before e h not_refused not_shut whole = (
@@ -68,13 +69,13 @@ shorter m (n ∷ ns) = go (n == m) (shorter m ns)
     go true h = grind (arith, h)
     go false h = grind (arith, h)
 
--- after a Bad answer a tenure without open transactions is whole
+-- After a Bad answer a tenure without open transactions is whole.
 bad_whole : (before : List Entry) (e : Entry) → IsJournalPrefix (e ∷ before) → went_bad (e ∷ before) ≡ true → is_empty (open_in (e ∷ before)) ≡ true → is_whole_tenure e.tenure (e ∷ before) ≡ true
 bad_whole before e h bad none =
     join2 (has_ended_transactions e.tenure (e ∷ before)) (went_bad (e ∷ before) || has_closed_cursors e.tenure (e ∷ before) && has_closed_handles e.tenure (e ∷ before))
     (has_ended-last (e ∷ before) h ∙ none) (rw bad refl)
 
--- the open transactions are rolled back, and it is shut
+-- The open transactions are rolled back, and then the connection is shut.
 pub bad_end : (n : ℕ) (before : List Entry) (e : Entry) → IsJournalPrefix (e ∷ before) → was_refused (e ∷ before) ≡ false → was_shut (e ∷ before) ≡ false → went_bad (e ∷ before) ≡ true
     → length (open_in (e ∷ before)) ≤ n → HasWholeEnd (e ∷ before)
 bad_end zero before e h not_refused not_shut bad few =
@@ -100,7 +101,7 @@ bad_end (suc k) before e h not_refused not_shut bad few = go (open_in (e ∷ bef
         zero_out : false ≡ true → ⊥
         zero_out k = grind (arith, k)
 
--- a beginning in which something was answered Bad has a whole end
+-- A beginning in which an answer was Bad has a whole end.
 pub bad-has_whole_end : (journal : List Entry) → IsJournalPrefix journal → went_bad journal ≡ true → HasWholeEnd journal
 bad-has_whole_end [] h bad = grind (arith, bad)
 bad-has_whole_end (e ∷ before) h bad = go (was_refused (e ∷ before)) (was_shut (e ∷ before)) refl refl

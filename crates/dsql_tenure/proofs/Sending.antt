@@ -1,4 +1,4 @@
--- One answer stands for all that fit a permit's call at its place.
+-- The argument that one answer stands for all that fit a permit's call at its place.
 use Rattle.std.proofs.Common.{◌≡◌, ◌≢◌, ℕ, Bool, true, false, cond, not, ◌&&◌, ◌||◌, ◌==◌, Option, None, Some, List, [], ◌∷◌, refl, sym, ◌∙◌}
 use Rattle.std.specs.List.{filter, list_all}
 use native.Mathlib.Omega.{arith}
@@ -7,20 +7,20 @@ use Rattle.dsql_driver.specs.declared.call.DriverCall.TheVariants.{Valid, Begin}
 use Rattle.dsql_driver.specs.declared.answer.DriverAnswer.{DriverAnswer}
 use Rattle.dsql_driver.specs.declared.answer.DriverAnswer.TheVariants.{Done, Prepared, Result, Cursor, Row, End, Invalid, Skip, Bad, Fail, Memory}
 use Rattle.dsql_driver.specs.Fits.{fits_of, is_done, is_failure, is_memory, may_fail}
-use Rattle.dsql_journal.specs.declared.entry.Entry.{Entry}
-use Rattle.dsql_journal.specs.declared.entry.Owner.{Owner}
-use Rattle.dsql_journal.specs.declared.entry.Owner.TheVariants.{Call, Tx, Pin, House}
-use Rattle.dsql_journal.specs.declared.entry.Permit.{Permit}
-use Rattle.dsql_journal.specs.Kinds.{◌⇒◌, if_any}
+use Rattle.dsql_tenure_journal.specs.declared.entry.Entry.{Entry}
+use Rattle.dsql_tenure_journal.specs.declared.entry.Owner.{Owner}
+use Rattle.dsql_tenure_journal.specs.declared.entry.Owner.TheVariants.{Call, Tx, Pin, House}
+use Rattle.dsql_tenure_journal.specs.declared.entry.Permit.{Permit}
+use Rattle.dsql_tenure_journal.specs.Kinds.{◌⇒◌, if_any}
 use Rattle.dsql_driver.specs.Kinds.{is_bad, is_begin, is_valid, is_close_stmt, cursor_of}
-use Rattle.dsql_journal.specs.Readers.{LiveCursor, cursors}
-use Rattle.dsql_journal.specs.Tenure as tenure
-use Rattle.dsql_journal.specs.HandlesAndCursors.{fits_at_its_place, is_heard, is_fitting, gives_new_handle, gives_new_cursor, is_as_wide, has_width_of_cursor}
-use Rattle.dsql_journal.specs.Journal.{may_follow, IsJournalPrefix}
-use Rattle.dsql_journal.specs.Facts.{KeepsBody, FitsAtItsPlace, MayFollow}
-use Rattle.dsql_journal.specs.Permits.{entry_of}
-use Rattle.dsql_journal.proofs.Conjunctions.{parts2, parts5, join2}
-use Rattle.dsql_journal.proofs.Sentences.{MayFollow-of, of-MayFollow}
+use Rattle.dsql_tenure_journal.specs.Readers.{LiveCursor, cursors}
+use Rattle.dsql_tenure_journal.specs.Tenure as tenure
+use Rattle.dsql_tenure_journal.specs.HandlesAndCursors.{fits_at_its_place, is_heard, is_fitting, gives_new_handle, gives_new_cursor, is_as_wide, has_width_of_cursor}
+use Rattle.dsql_tenure_journal.specs.Journal.{may_follow, IsJournalPrefix}
+use Rattle.dsql_tenure_journal.specs.Facts.{KeepsBody, FitsAtItsPlace, MayFollow}
+use Rattle.dsql_tenure_journal.specs.Permits.{entry_of}
+use Rattle.dsql_tenure_journal.proofs.Conjunctions.{parts2, parts5, join2}
+use Rattle.dsql_tenure_journal.proofs.Sentences.{MayFollow-of, of-MayFollow}
 use Rattle.dsql_tenure.specs.Beginnings.{is_beginning_of}
 use Rattle.dsql_tenure.specs.Judged.{answered}
 use Rattle.dsql_tenure.specs.MayBeAsked.{may_be_asked}
@@ -30,7 +30,7 @@ use Rattle.dsql_tenure.proofs.Standing.{beginning-more}
 abbrev with_answer : Entry → DriverAnswer → Entry
 with_answer entry answer = record entry { answer = answer }
 
--- an answer that leaves the rules as another does
+-- Holds if one answer leaves the rules as another does.
 record Alike (entry : Entry) (first second : DriverAnswer) : Type 0 where
   refused : (is_begin entry.call && is_failure first) ≡ (is_begin entry.call && is_failure second)
   begins : entry.tx ≢ 0 → (is_begin entry.call && is_done first) ≡ (is_begin entry.call && is_done second)
@@ -124,7 +124,7 @@ fits_facts before e h =
     let p = parts5 (is_heard e) (is_fitting e) (gives_new_handle before e) (gives_new_cursor before e) (has_width_of_cursor before e) h in
     record { heard = p.0; fitting = p.1; new_handle = p.2; new_cursor = p.3; width = p.4 }
 
--- an answer that gives nothing has no width to fit
+-- An answer that gives nothing has no width to fit.
 wide : (a : DriverAnswer) (o : Option ℕ) (f : ℕ → List LiveCursor) → ((c : LiveCursor) → is_as_wide a c ≡ true) → if_any o (λ r. list_all (is_as_wide a) (f r)) ≡ true
 wide a None f all = refl
 wide a (Some r) f all = each (f r)
@@ -170,7 +170,7 @@ done-is Done h = refl
 done-is _ h = grind (arith, h)
 
 module _ (c : ℕ) (before : List Entry) (h : IsJournalPrefix before) (one : list_all (λ x. x.conn == c) before ≡ true) where
-  -- from an answer that may be given to one that is alike
+  -- If an answer may be given, so may one that is alike.
   to_alike : (e : Entry) (a b : DriverAnswer) → (e.conn == c) ≡ true → Alike e a b → may_be_asked before (with_answer e a) ≡ true → fits_at_its_place before (with_answer e a) ≡ true
       → fits_at_its_place before (with_answer e b) ≡ true → is_beginning_of c (with_answer e b ∷ before) ≡ true
   to_alike e a b same s asked fits_a fits_b =
@@ -187,7 +187,7 @@ module _ (c : ℕ) (before : List Entry) (h : IsJournalPrefix before) (one : lis
     sent : DriverAnswer → Entry
     sent a = entry_of p a
 
-    -- every answer may come
+    -- If the permit may be sent, every answer may come.
     pub all_may : may_send c before p ≡ true → (a : DriverAnswer) → fits_at_its_place before (answered p a) ≡ true → is_beginning_of c (answered p a ∷ before) ≡ true
     all_may is a = go (is_valid p.call) (is_begin p.call) (is_done a) refl refl refl (parts2 (p.conn == c) (cond (is_valid p.call) (may_be_asked before (entry_of p Done)) (cond (is_begin p.call) (may_be_asked before (entry_of p Done) && may_be_asked before (record (entry_of p (Fail [])) { tx = 0 })) (may_be_asked before (entry_of p (Fail []))))) is).0
         (parts2 (p.conn == c) (cond (is_valid p.call) (may_be_asked before (entry_of p Done)) (cond (is_begin p.call) (may_be_asked before (entry_of p Done) && may_be_asked before (record (entry_of p (Fail [])) { tx = 0 })) (may_be_asked before (entry_of p (Fail []))))) is).1
@@ -214,7 +214,7 @@ module _ (c : ℕ) (before : List Entry) (h : IsJournalPrefix before) (one : lis
         go false false d valid begins done same asked fits =
             to_alike (entry_of p a) (Fail []) a same (record { refused = rw begins refl; begins = λ some. rw begins refl; closes = λ k. refl }) asked (fail_fits before (entry_of p a) (valid-never_fails p.call valid)) fits
 
-    -- where every answer may come, those that stand for them may
+    -- If every answer may come, those that stand for all of them may.
     pub may_all : ((a : DriverAnswer) → fits_at_its_place before (answered p a) ≡ true → is_beginning_of c (answered p a ∷ before) ≡ true) → may_send c before p ≡ true
     may_all every = go (is_valid p.call) (is_begin p.call) refl refl every
       where

@@ -1,16 +1,16 @@
--- What is asked of the live handle or cursor that a call names, by the tables.
+-- The rules for the live handle or cursor that a call names, by the tables.
 use Rattle.std.proofs.Common.{◌≡◌, ℕ, Bool, true, false, cond, not, ◌&&◌, ◌||◌, ◌==◌, List, [], ◌∷◌, refl, ◌∙◌, ap}
 use Rattle.std.specs.List.{filter, list_all, list_any}
-use Rattle.dsql_journal.specs.declared.entry.Entry.{Entry}
-use Rattle.dsql_journal.specs.Kinds.{◌⇒◌, is_call, is_house}
+use Rattle.dsql_tenure_journal.specs.declared.entry.Entry.{Entry}
+use Rattle.dsql_tenure_journal.specs.Kinds.{◌⇒◌, is_call, is_house}
 use Rattle.dsql_driver.specs.Kinds.{is_close_stmt, is_next}
-use Rattle.dsql_journal.specs.Readers.{LiveHandle, LiveCursor, is_empty, handles, cursors}
-use Rattle.dsql_journal.specs.HandlesAndCursors.{keeps_handles_and_cursors, has_live_handle, has_live_cursor, fetches_before_the_end, has_transaction_of_handle, has_transaction_of_cursor, uses_cursor_in_its_tenure, uses_handle_in_its_tenure, uses_handle_in_call_tenures}
-use Rattle.dsql_asked.specs.declared.live.Handle.{Handle}
-use Rattle.dsql_asked.specs.declared.live.Cursor.{Cursor}
+use Rattle.dsql_tenure_journal.specs.Readers.{LiveHandle, LiveCursor, is_empty, handles, cursors}
+use Rattle.dsql_tenure_journal.specs.HandlesAndCursors.{keeps_handles_and_cursors, has_live_handle, has_live_cursor, fetches_before_the_end, has_transaction_of_handle, has_transaction_of_cursor, uses_cursor_in_its_tenure, uses_handle_in_its_tenure, uses_handle_in_call_tenures}
+use Rattle.dsql_tenure_asked.specs.declared.live.Handle.{Handle}
+use Rattle.dsql_tenure_asked.specs.declared.live.Cursor.{Cursor}
 use Rattle.dsql_tenure.specs.declared.tables.Tables.{Tables}
 use Rattle.dsql_tenure.specs.Parts.{keeps_handle, keeps_cursor}
-use Rattle.dsql_asked.specs.Live.{serves_handle, serves_cursor}
+use Rattle.dsql_tenure_asked.specs.Live.{serves_handle, serves_cursor}
 use Rattle.dsql_tenure.specs.Tables.{past, kept_handle, kept_cursor, Stands}
 use Rattle.dsql_tenure.proofs.Keeping.{keeps_of}
 use Rattle.dsql_tenure.proofs.Lists.{list_all-map, list_any-map, list_all-same, list_all-and, list_all-filter, is_empty-filter}
@@ -44,13 +44,13 @@ grouped true true true true true true g h = last (g && h)
     last true = refl
     last false = refl
 
--- of handles and of cursors
+-- The rules for handles and cursors are those for handles and those for cursors.
 pub keeps_handles_and_cursors-groups : (before : List Entry) (e : Entry) → keeps_handles_and_cursors before e ≡ (keeps_handle before e && keeps_cursor before e)
 keeps_handles_and_cursors-groups before e =
     grouped (has_live_handle before e) (has_live_cursor before e) (fetches_before_the_end before e) (has_transaction_of_handle before e) (has_transaction_of_cursor before e)
     (uses_cursor_in_its_tenure before e) (uses_handle_in_its_tenure before e) (uses_handle_in_call_tenures before e)
 
--- a number that is live, and three tests of what it names
+-- A number that is live, and three tests of what it names.
 module _ {X : Type 0} (named a b c : X → Bool) (xs : List X) where
   all_named : (f : X → Bool) → list_all f (filter named xs) ≡ list_all (λ x. not (named x) || f x) xs
   all_named f = list_all-filter f named xs
@@ -77,7 +77,7 @@ module _ {X : Type 0} (named a b c : X → Bool) (xs : List X) where
       go true q r s = refl
       go false q r s = refl
 
--- a test that only a Next asks
+-- A test that only a Next asks holds of all cursors exactly if it holds whenever the call is a Next.
 pub next_only : (b : Bool) (f : LiveCursor → Bool) (cs : List LiveCursor) → list_all (λ c. b ⇒ f c) cs ≡ (b ⇒ list_all f cs)
 next_only true f cs = refl
 next_only false f [] = refl

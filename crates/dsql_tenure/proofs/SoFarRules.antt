@@ -1,19 +1,19 @@
--- What is kept of a tenure decides the rules of its entries.
+-- The argument that what is kept of a tenure decides the rules of its entries.
 use Rattle.std.proofs.Common.{◌≡◌, ℕ, Bool, true, false, cond, not, ◌&&◌, ◌||◌, ◌==◌, nat_lt, max, Option, None, Some, List, [], ◌∷◌, refl, sym, ◌∙◌, ap, eqb→eq, is_none}
 use Rattle.std.specs.List.{filter, list_all, list_any}
 use native.Mathlib.Omega.{arith}
 use Rattle.std.proofs.lemmas.Bool.Decides.{nat_tests}
 use Rattle.dsql_driver.specs.declared.call.DriverCall.{DriverCall}
-use Rattle.dsql_driver.specs.declared.call.DriverCall.TheVariants.{Connect, Reset, Valid, Ping, Prepare, CloseStmt, Exec, Query, Next, CloseRows, Begin, Commit, Rollback, Shut}
+use Rattle.dsql_driver.specs.declared.call.DriverCall.TheVariants.{Reset, Valid, Ping, Exec, Query}
 use Rattle.dsql_driver.specs.declared.call.Input.TheVariants.{Text, Handle}
 use Rattle.dsql_driver.specs.Fits.{is_skip}
-use Rattle.dsql_journal.specs.declared.entry.Entry.{Entry}
-use Rattle.dsql_journal.specs.declared.entry.Owner.{Owner}
-use Rattle.dsql_journal.specs.declared.entry.Owner.TheVariants.{Call, Tx, Pin, House}
-use Rattle.dsql_journal.specs.Kinds.{◌⇒◌, is_number, same_owner}
+use Rattle.dsql_tenure_journal.specs.declared.entry.Entry.{Entry}
+use Rattle.dsql_tenure_journal.specs.declared.entry.Owner.{Owner}
+use Rattle.dsql_tenure_journal.specs.declared.entry.Owner.TheVariants.{Call, Tx, Pin, House}
+use Rattle.dsql_tenure_journal.specs.Kinds.{◌⇒◌, is_number, same_owner}
 use Rattle.dsql_driver.specs.Kinds.{is_reset, is_valid, is_ping, is_prepare, runs_text, is_next, given_handle}
-use Rattle.dsql_journal.specs.Readers.{is_empty, last_owner}
-use Rattle.dsql_journal.specs.Tenure.{place, is_body}
+use Rattle.dsql_tenure_journal.specs.Readers.{is_empty, last_owner}
+use Rattle.dsql_tenure_journal.specs.Tenure.{place, is_body}
 use Rattle.dsql_tenure.specs.declared.so_far.Prepared.{Prepared}
 use Rattle.dsql_tenure.specs.declared.so_far.Prepared.TheVariants.{Nothing, Otherwise}
 use Rattle.dsql_tenure.specs.declared.so_far.Prepared.TheVariants as was
@@ -39,7 +39,7 @@ same_owner-is House (Call m) h = grind (arith, h)
 same_owner-is House (Tx m) h = grind (arith, h)
 same_owner-is House (Pin m) h = grind (arith, h)
 
--- all entries have the owner of the last one
+-- Holds if all entries have the owner of the last one.
 pub record OneOwner (earlier : List Entry) : Type 0 where
   pub all : (w : Owner) → last_owner earlier ≡ Some w → list_all (λ x. same_owner x.owner w) earlier ≡ true
 
@@ -47,7 +47,7 @@ pub is_none-owner : (earlier : List Entry) → is_none (last_owner earlier) ≡ 
 is_none-owner [] = refl
 is_none-owner (x ∷ xs) = refl
 
--- the owner of the last entry is that of all
+-- The owner of the last entry is the owner of all.
 pub one_owner : (earlier : List Entry) (o : Owner) → OneOwner earlier → has_owner (last_owner earlier) o ≡ list_all (λ x. same_owner x.owner o) earlier
 one_owner [] o one = refl
 one_owner (e ∷ earlier) o one =
@@ -65,24 +65,13 @@ one_owner (e ∷ earlier) o one =
         sym (ap (λ w. list_all (λ x. same_owner x.owner w) earlier) (sym same) ∙ rest)
     go false is h = refl
 
--- a call that has a place, as a Next has the fourth
+-- A Next is exactly the call with the fourth place.
 pub next-place : (q : DriverCall) → is_next q ≡ (place q == 4)
-next-place Connect = refl
-next-place Reset = refl
-next-place Valid = refl
-next-place Ping = refl
-next-place (Prepare text) = refl
-next-place (CloseStmt h) = refl
 next-place (Exec (Text text) params) = refl
 next-place (Exec (Handle h) params) = refl
 next-place (Query (Text text) params) = refl
 next-place (Query (Handle h) params) = refl
-next-place (Next r) = refl
-next-place (CloseRows r) = refl
-next-place (Begin level read_only) = refl
-next-place Commit = refl
-next-place Rollback = refl
-next-place Shut = refl
+next-place _ = refl
 
 pub tests-place : (q : DriverCall) → not (is_reset q || is_valid q) ≡ false → place q ≡ 0
 tests-place Reset h = refl
@@ -93,7 +82,7 @@ pub ping-place : (q : DriverCall) → is_ping q ≡ true → (place q ≡ 0) × 
 ping-place Ping h = (refl, refl)
 ping-place _ h = grind (arith, h)
 
--- a place p may come after a place q
+-- Is true if the next place may come after the last one.
 abbrev after_place : ℕ → ℕ → Bool
 after_place last next = nat_lt last next || ((last == 4) && (next == 4))
 
@@ -125,7 +114,7 @@ after_max a b p = go (nat_lt a b) refl
         more true n h = h refl
         more false n h = refl
 
--- the order holds against each entry where it holds against the last place
+-- A call keeps the order against each entry exactly if it keeps it against the last place.
 pub in_order : (q : DriverCall) (earlier : List Entry) → nat_lt 0 (place q) ≡ true
     → list_all (λ x. nat_lt (place x.call) (place q) || is_next x.call && is_next q) (filter is_body earlier) ≡ (nat_lt (last_place earlier) (place q) || is_next q && (last_place earlier == 4))
 in_order q [] some = grind (arith, some, nat_tests)
@@ -157,7 +146,7 @@ in_order q (e ∷ earlier) some =
         let top : max (place e.call) (last_place earlier) ≡ last_place earlier = grind (arith, none) in
         rw top h
 
--- the Prepares of a tenure allow a handle where each gave it
+-- The Prepares of a tenure allow a handle exactly if each gave it.
 pub prepared-allows : (n : ℕ) (earlier : List Entry) → list_all (λ x. is_prepare x.call ⇒ is_number (given_handle x.answer) n) earlier ≡ allows (prepared earlier) n
 prepared-allows n [] = refl
 prepared-allows n (e ∷ earlier) = go (is_prepare e.call) (given_handle e.answer) (prepared earlier) (prepared-allows n earlier)
@@ -194,7 +183,7 @@ prepared-allows n (e ∷ earlier) = go (is_prepare e.call) (given_handle e.answe
         never true = refl
         never false = refl
 
--- it ran no text that wasn't skipped
+-- The tenure skipped each text exactly if it ran none that wasn't skipped.
 pub ran-none : (earlier : List Entry) → list_all (λ x. runs_text x.call ⇒ is_skip x.answer) earlier ≡ not (list_any (λ x. runs_text x.call && not (is_skip x.answer)) earlier)
 ran-none earlier =
     list_all-same (λ x. runs_text x.call ⇒ is_skip x.answer) (λ x. not (runs_text x.call && not (is_skip x.answer))) (λ x. go (runs_text x.call) (is_skip x.answer)) earlier
@@ -205,7 +194,7 @@ ran-none earlier =
     go true false = refl
     go false b = refl
 
--- what is pinged is worked
+-- A tenure that has a ping has an entry of its body.
 pub pinged-worked : (earlier : List Entry) → list_any (λ x. is_ping x.call) earlier ≡ true → list_any is_body earlier ≡ true
 pinged-worked [] h = h
 pinged-worked (e ∷ earlier) h = go (is_ping e.call) refl h (pinged-worked earlier)

@@ -4,15 +4,15 @@ use Rattle.std.specs.Prelude.{if◌then◌else◌}
 use Rattle.std.specs.List.{list_all, list_any}
 use native.Mathlib.Omega.{arith}
 use Rattle.dsql_driver.specs.Fits.{is_failure}
-use Rattle.dsql_journal.specs.declared.entry.Entry.{Entry}
-use Rattle.dsql_journal.specs.declared.entry.Owner.{Owner}
-use Rattle.dsql_journal.specs.declared.entry.Owner.TheVariants.{Tx}
+use Rattle.dsql_tenure_journal.specs.declared.entry.Entry.{Entry}
+use Rattle.dsql_tenure_journal.specs.declared.entry.Owner.{Owner}
+use Rattle.dsql_tenure_journal.specs.declared.entry.Owner.TheVariants.{Tx}
 use Rattle.dsql_driver.specs.Kinds.{is_valid, is_reset, is_bad, is_shut, is_connect}
-use Rattle.dsql_journal.specs.Readers.{has, of_tenure, last_tenure, last_owner, went_bad, was_shut, was_refused}
-use Rattle.dsql_journal.specs.Journal.{may_follow, is_journal_prefix, is_whole, IsJournalPrefix}
-use Rattle.dsql_journal.specs.Facts.{MayFollow}
-use Rattle.dsql_journal.proofs.Conjunctions.{parts2, join2}
-use Rattle.dsql_journal.proofs.Sentences.{MayFollow-of}
+use Rattle.dsql_tenure_journal.specs.Readers.{has, of_tenure, last_tenure, last_owner, went_bad, was_shut, was_refused}
+use Rattle.dsql_tenure_journal.specs.Journal.{may_follow, is_journal_prefix, is_whole, IsJournalPrefix}
+use Rattle.dsql_tenure_journal.specs.Facts.{MayFollow}
+use Rattle.dsql_tenure_journal.proofs.Conjunctions.{parts2, join2}
+use Rattle.dsql_tenure_journal.proofs.Sentences.{MayFollow-of}
 use Rattle.dsql_tenure.specs.declared.fault.Phase.TheVariants.{Before, Between, Inside, After}
 use Rattle.dsql_tenure.specs.declared.tables.Tables.{Tables}
 use Rattle.dsql_tenure.specs.Beginnings.{is_beginning_of, IsBeginningOf, can_grow, phase}
@@ -26,7 +26,7 @@ not_true : (b : Bool) → not b ≡ true → b ≡ false
 not_true true h = sym h
 not_true false h = refl
 
--- Shut is the last entry, if it was heard
+-- Shut, if it was heard, is the last entry.
 pub shut-last : (before : List Entry) (e : Entry) → IsJournalPrefix (e ∷ before) → was_shut (e ∷ before) ≡ is_shut e.call
 shut-last before e h =
     let m : MayFollow before e = MayFollow-of before e (parts2 (may_follow before e) (is_journal_prefix before) h).0 in
@@ -36,7 +36,7 @@ shut-last before e h =
     go true none = refl
     go false none = none
 
--- a refused Connect is the last entry
+-- A refused Connect is the last entry.
 pub refused-last : (before : List Entry) (e : Entry) → IsJournalPrefix (e ∷ before) → was_refused (e ∷ before) ≡ (is_connect e.call && is_failure e.answer)
 refused-last before e h =
     let m : MayFollow before e = MayFollow-of before e (parts2 (may_follow before e) (is_journal_prefix before) h).0 in
@@ -46,7 +46,7 @@ refused-last before e h =
     go true none = refl
     go false none = none
 
--- a beginning is whole where its Connect was refused or Shut was heard
+-- A beginning is whole exactly if its Connect was refused or Shut was heard.
 pub whole-is : (journal : List Entry) → IsJournalPrefix journal → is_whole journal ≡ (was_refused journal || was_shut journal)
 whole-is [] h = refl
 whole-is (e ∷ before) h =
@@ -58,7 +58,7 @@ whole-is (e ∷ before) h =
     swap false true = refl
     swap false false = refl
 
--- a beginning that goes on
+-- A beginning stays one with an entry of its connection that may follow.
 pub beginning-more : (c : ℕ) (before : List Entry) (e : Entry) → IsJournalPrefix before → list_all (λ x. x.conn == c) before ≡ true
     → is_beginning_of c (e ∷ before) ≡ ((e.conn == c) && may_follow before e)
 beginning-more c before e h one = rw (h, one) (go (may_follow before e) (e.conn == c))
@@ -69,7 +69,7 @@ beginning-more c before e h one = rw (h, one) (go (may_follow before e) (e.conn 
     go false true = refl
     go false false = refl
 
--- after a Bad answer, a transaction's own tenure can grow where the transaction is open
+-- After a Bad answer, a transaction's own tenure can grow exactly if the transaction is open.
 pub grows-open : (n : ℕ) (journal : List Entry) → IsJournalPrefix journal → last_owner journal ≡ Some (Tx n)
     → list_any (λ x. is_valid x.call) (of_tenure (last_tenure journal) journal) ≡ false
     → list_any (λ x. is_reset x.call && is_bad x.answer) (of_tenure (last_tenure journal) journal) ≡ false
@@ -79,17 +79,17 @@ grows-open n (e ∷ before) h owner tested fell bad =
     let own : e.owner ≡ Tx n = cc in
     has-open n (e ∷ before) h ∙ rw (tested, fell, bad, own) refl
 
--- the owner of the last tenure is that of the last entry
+-- The owner of the last tenure is the owner of the last entry.
 owner-last : (journal : List Entry) → last_owner (of_tenure (last_tenure journal) journal) ≡ last_owner journal
 owner-last [] = refl
 owner-last (e ∷ before) = rw (eqb-refl e.tenure) refl
 
--- a journal that no one owns hasn't begun
+-- A journal that no one owns hasn't begun.
 nothing-owned : (journal : List Entry) → last_owner journal ≡ None → Before ≡ phase journal
 nothing-owned [] none = refl
 nothing-owned (e ∷ before) none = cc
 
--- where the journal stands, if it goes on
+-- A journal that wasn't shut stands inside a tenure if it can grow, and otherwise between two.
 phase-open : (journal : List Entry) (owner : Owner) → IsJournalPrefix journal → last_owner journal ≡ Some owner → was_shut journal ≡ false
     → phase journal ≡ (if can_grow journal then Inside else Between)
 phase-open [] owner h own open_still = cc
@@ -115,7 +115,7 @@ module _ (t : Tables) (s : Stands t) where
   pub stands-before : t.so_far.owner ≡ None → Before ≡ phase (past t)
   stands-before none = nothing-owned (past t) (sym stands-owner ∙ none)
 
-  -- a journal that goes on is inside a tenure that can grow, or else between two
+  -- By the tables, a journal that goes on stands inside a tenure that can grow, and otherwise between two.
   pub stands-open : (owner : Owner) (grows : Bool) → t.so_far.owner ≡ Some owner → t.shut ≡ false → can_grow (past t) ≡ grows → (if grows then Inside else Between) ≡ phase (past t)
   stands-open owner grows own open_still is =
       sym (phase-open (past t) owner (keeps_of t s).prefix (sym stands-owner ∙ own) (sym (keeps_of t s).shut ∙ open_still) ∙ ap (λ b. if b then Inside else Between) is)
@@ -127,6 +127,6 @@ module _ (t : Tables) (s : Stands t) where
   pub stands-more : (e : Entry) → is_beginning_of t.conn (e ∷ past t) ≡ ((e.conn == t.conn) && may_follow (past t) e)
   stands-more e = beginning-more t.conn (past t) e (keeps_of t s).prefix (keeps_of t s).one
 
-  -- what makes a longer beginning is of the connection and may follow
+  -- An entry that makes a longer beginning is of the connection and may follow.
   pub stands-follows : (e : Entry) → is_beginning_of t.conn (e ∷ past t) ≡ true → ((e.conn == t.conn) ≡ true) × (may_follow (past t) e ≡ true)
   stands-follows e h = parts2 (e.conn == t.conn) (may_follow (past t) e) (sym (stands-more e) ∙ h)

@@ -1,16 +1,16 @@
--- What the tables tell of the journal.
+-- What the tables say of the journal.
 use Rattle.std.proofs.Common.{◌≡◌, ℕ, ◌<◌, ◌≤◌, ◌&&◌, Bool, true, false, not, ◌||◌, ◌==◌, Option, Some, List, [], ◌∷◌, length, refl, sym, ◌∙◌, ap, is_some}
 use Rattle.std.specs.List.{list_all}
 use native.Mathlib.Omega.{arith}
 use Rattle.std.proofs.lemmas.Bool.Decides.{nat_tests}
-use Rattle.dsql_journal.specs.declared.entry.Entry.{Entry}
-use Rattle.dsql_journal.specs.Kinds.{◌⇒◌, if_any, is_call}
+use Rattle.dsql_tenure_journal.specs.declared.entry.Entry.{Entry}
+use Rattle.dsql_tenure_journal.specs.Kinds.{◌⇒◌, if_any, is_call}
 use Rattle.dsql_driver.specs.Kinds.{is_close_stmt, handle_of}
-use Rattle.dsql_journal.specs.Readers.{LiveHandle, LiveCursor, is_empty, handles, cursors, has, begun, of_tenure, last_tenure, went_bad}
-use Rattle.dsql_journal.specs.Tenure.{has_ended_transactions, has_closed_cursors, has_closed_handles, is_whole_tenure}
-use Rattle.dsql_journal.proofs.Tenures.{of_tenure-new}
-use Rattle.dsql_asked.specs.declared.live.Handle.{Handle}
-use Rattle.dsql_asked.specs.declared.live.Cursor.{Cursor}
+use Rattle.dsql_tenure_journal.specs.Readers.{LiveHandle, LiveCursor, is_empty, handles, cursors, has, begun, of_tenure, last_tenure, went_bad}
+use Rattle.dsql_tenure_journal.specs.Tenure.{has_ended_transactions, has_closed_cursors, has_closed_handles, is_whole_tenure}
+use Rattle.dsql_tenure_journal.proofs.Tenures.{of_tenure-new}
+use Rattle.dsql_tenure_asked.specs.declared.live.Handle.{Handle}
+use Rattle.dsql_tenure_asked.specs.declared.live.Cursor.{Cursor}
 use Rattle.dsql_tenure.specs.declared.tables.Tables.{Tables}
 use Rattle.dsql_tenure.specs.TenureParts.{closes_own}
 use Rattle.dsql_tenure.specs.Tables.{past, kept_handle, kept_cursor, Stands}
@@ -50,7 +50,7 @@ module _ (t : Tables) (s : Stands t) where
 
   ended_new : (n : ℕ) → last_tenure (past t) < n → has_ended_transactions n (past t) ≡ true
   ended_new n above =
-      ap (λ (xs : List Entry). list_all (λ m. has m (Rattle.dsql_journal.specs.Readers.ended (past t))) (begun xs)) (of_tenure-new n (past t) (keeps_of t s).prefix above)
+      ap (λ (xs : List Entry). list_all (λ m. has m (Rattle.dsql_tenure_journal.specs.Readers.ended (past t))) (begun xs)) (of_tenure-new n (past t) (keeps_of t s).prefix above)
 
   ended : (n : ℕ) → last_tenure (past t) ≤ n → (not (n == t.tenure) || (length t.unended.items == 0)) ≡ has_ended_transactions n (past t)
   ended n from =

@@ -1,15 +1,15 @@
--- The rules of a tenure, by what is kept of it and of what is live.
+-- The rules of a tenure, by what is kept of it and by what is live.
 use Rattle.std.proofs.Common.{◌≡◌, ℕ, ◌≤◌, Bool, true, false, cond, not, ◌&&◌, ◌||◌, ◌==◌, nat_lt, Option, None, Some, List, [], ◌∷◌, refl, sym, ap, is_none}
 use Rattle.std.specs.List.{filter, list_all, list_any}
-use Rattle.dsql_journal.specs.declared.entry.Entry.{Entry}
-use Rattle.dsql_journal.specs.declared.entry.Owner.{Owner}
-use Rattle.dsql_journal.specs.declared.entry.Owner.TheVariants.{Call, Tx, Pin, House}
-use Rattle.dsql_journal.specs.Kinds.{◌⇒◌, if_any, is_number, is_house}
+use Rattle.dsql_tenure_journal.specs.declared.entry.Entry.{Entry}
+use Rattle.dsql_tenure_journal.specs.declared.entry.Owner.{Owner}
+use Rattle.dsql_tenure_journal.specs.declared.entry.Owner.TheVariants.{Call, Tx}
+use Rattle.dsql_tenure_journal.specs.Kinds.{◌⇒◌, if_any, is_number, is_house}
 use Rattle.dsql_driver.specs.Kinds.{is_connect, is_reset, is_ping, is_prepare, runs_handle, is_next, is_close_stmt, is_shut, handle_of, given_handle}
-use Rattle.dsql_journal.specs.Readers.{is_empty, of_tenure, last_tenure, last_owner, handles, went_bad}
-use Rattle.dsql_journal.specs.Tenure.{place, is_body, keeps_tenure, has_closed_cursors}
-use Rattle.dsql_journal.specs.Tenure as tenure
-use Rattle.dsql_journal.specs.Journal.{IsJournalPrefix}
+use Rattle.dsql_tenure_journal.specs.Readers.{is_empty, of_tenure, last_tenure, last_owner, handles, went_bad}
+use Rattle.dsql_tenure_journal.specs.Tenure.{place, is_body, keeps_tenure}
+use Rattle.dsql_tenure_journal.specs.Tenure as tenure
+use Rattle.dsql_tenure_journal.specs.Journal.{IsJournalPrefix}
 use Rattle.dsql_tenure.specs.SoFar.{so_far, last_place}
 use Rattle.dsql_tenure.specs.TenureParts as part
 use Rattle.dsql_tenure.proofs.Lists.{is_empty-filter}
@@ -28,7 +28,7 @@ module _ (before : List Entry) (e : Entry) where
   abbrev earlier : List Entry
   earlier = of_tenure e.tenure before
 
-  -- a call on the database keeps its order
+  -- A call on the database keeps its order.
   pub in_order-is : (tenure.is_call_body e && tenure.pings_alone before e && tenure.goes_in_order before e) ≡ part.goes_in_order (so_far earlier) e
   in_order-is =
       go (is_ping e.call) (nat_lt 0 (place e.call)) (list_any (λ x. is_ping x.call) earlier) (list_any is_body earlier)
@@ -50,7 +50,7 @@ module _ (before : List Entry) (e : Entry) where
       go false true true w qis worked so ordered = rw (worked, so refl) refl
       go false true false w qis worked so ordered = ordered (sym qis)
 
-  -- it prepares, runs and goes on well
+  -- An entry prepares, runs and goes on well.
   pub runs_well-is : (tenure.follows_skip before e && tenure.runs_own_handle before e && tenure.follows_no_bad before e) ≡ part.runs_well (so_far earlier) e
   runs_well-is =
       three _ _ _ _ (not (went_bad earlier))
@@ -61,7 +61,7 @@ module _ (before : List Entry) (e : Entry) where
       three a b x y c h k = rw (h, k) refl
 
   module _ (h : IsJournalPrefix before) (last : last_tenure before ≤ e.tenure) (s : Served before e) where
-    -- it closes its own handle
+    -- An entry closes its own handle.
     pub closes_own : tenure.closes_own_handle before e ≡ part.closes_own before e
     closes_own = if_same (is_close_stmt e.call) _ _ (λ is. go (handle_of e.call) s.handle)
       where
@@ -82,7 +82,7 @@ module _ (before : List Entry) (e : Entry) where
             nothing z = refl
         regroup false y = refl
 
-    -- the body of a tenure of a call on the database
+    -- The rules for the body of a tenure of a call on the database agree.
     pub keeps_call-is : tenure.keeps_call_body before e ≡ part.keeps_call (so_far earlier) before e
     keeps_call-is =
         ten (tenure.is_call_body e) (tenure.pings_alone before e) (tenure.goes_in_order before e) (tenure.uses_own_cursor before e) (tenure.closes_own_handle before e)
@@ -96,8 +96,7 @@ module _ (before : List Entry) (e : Entry) where
     pub keeps_body-is : (o : Owner) → tenure.keeps_body o before e ≡ part.keeps_body (so_far earlier) o before e
     keeps_body-is (Call n) = keeps_call-is
     keeps_body-is (Tx n) = tx_body-is n
-    keeps_body-is (Pin n) = refl
-    keeps_body-is House = refl
+    keeps_body-is _ = refl
 
     shape : (hs c1 n1 n2 empty reset : Bool) (a x v w rest : Bool) → a ≡ x → empty ≡ w
         → (x && (hs ⇒ empty) && (hs ⇒ c1) && (hs ⇒ n1 && n2) && (reset ⇒ empty) && v)
@@ -125,7 +124,7 @@ module _ (before : List Entry) (e : Entry) where
     tests_and_body-is : (tenure.tests_without_transaction e && tenure.follows_no_bad_reset before e && (is_body e ⇒ tenure.keeps_body e.owner before e)) ≡ part.keeps_tests_and_body (so_far earlier) before e
     tests_and_body-is = ap (λ b. tenure.tests_without_transaction e && tenure.follows_no_bad_reset before e && b) (if_same (is_body e) _ _ (λ is. keeps_body-is e.owner))
 
-    -- the rules of a tenure in groups
+    -- The rules of a tenure agree with those in groups.
     pub keeps_tenure-groups : keeps_tenure before e ≡ (part.keeps_shape (so_far earlier) e && part.keeps_rest (so_far earlier) before e)
     keeps_tenure-groups =
         all_ten (tenure.has_one_owner before e && tenure.is_alone_of_house before e && tenure.is_house_call e && tenure.has_house_numbers e && tenure.resets_first before e && tenure.has_no_valid_before before e)

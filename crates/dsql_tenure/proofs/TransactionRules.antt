@@ -8,20 +8,20 @@ use Rattle.dsql_driver.specs.declared.call.DriverCall.TheVariants.{Prepare, Clos
 use Rattle.dsql_driver.specs.declared.answer.DriverAnswer.{DriverAnswer}
 use Rattle.dsql_driver.specs.declared.answer.DriverAnswer.TheVariants.{Prepared}
 use Rattle.dsql_driver.specs.Fits.{is_done}
-use Rattle.dsql_journal.specs.declared.entry.Entry.{Entry}
-use Rattle.dsql_journal.specs.declared.entry.Owner.{Owner}
-use Rattle.dsql_journal.specs.declared.entry.Owner.TheVariants.{Call, Tx, Pin, House}
-use Rattle.dsql_journal.specs.Kinds.{◌⇒◌, if_any, is_number, is_call, same_owner}
+use Rattle.dsql_tenure_journal.specs.declared.entry.Entry.{Entry}
+use Rattle.dsql_tenure_journal.specs.declared.entry.Owner.{Owner}
+use Rattle.dsql_tenure_journal.specs.declared.entry.Owner.TheVariants.{Call}
+use Rattle.dsql_tenure_journal.specs.Kinds.{◌⇒◌, if_any, is_number, is_call, same_owner}
 use Rattle.dsql_driver.specs.Kinds.{is_reset, is_valid, is_begin, is_ending, is_close_stmt, is_work, given_handle, handle_of}
-use Rattle.dsql_journal.specs.Readers.{LiveHandle, is_empty, has, of_transaction, last_tenure, handles, handles_after, begun, ended}
-use Rattle.dsql_journal.specs.Tenure.{is_whole_tenure}
-use Rattle.dsql_journal.specs.Transaction as rule
-use Rattle.dsql_journal.specs.WholeJournal as whole
-use Rattle.dsql_journal.specs.WholeJournal.{keeps_whole_journal}
-use Rattle.dsql_journal.specs.Journal.{may_follow, is_journal_prefix, IsJournalPrefix}
-use Rattle.dsql_journal.specs.Facts.{KeepsBody, MayFollow}
-use Rattle.dsql_journal.proofs.Conjunctions.{parts2, parts10, join2, if_so}
-use Rattle.dsql_journal.proofs.Sentences.{MayFollow-of}
+use Rattle.dsql_tenure_journal.specs.Readers.{LiveHandle, is_empty, has, of_transaction, last_tenure, handles, handles_after, begun, ended}
+use Rattle.dsql_tenure_journal.specs.Tenure.{is_whole_tenure}
+use Rattle.dsql_tenure_journal.specs.Transaction as rule
+use Rattle.dsql_tenure_journal.specs.WholeJournal as whole
+use Rattle.dsql_tenure_journal.specs.WholeJournal.{keeps_whole_journal}
+use Rattle.dsql_tenure_journal.specs.Journal.{may_follow, is_journal_prefix, IsJournalPrefix}
+use Rattle.dsql_tenure_journal.specs.Facts.{KeepsBody, MayFollow}
+use Rattle.dsql_tenure_journal.proofs.Conjunctions.{parts2, parts10, join2, if_so}
+use Rattle.dsql_tenure_journal.proofs.Sentences.{MayFollow-of}
 use Rattle.dsql_tenure.specs.Open.{open_in, begins_anew, goes_on_open, keeps_number}
 use Rattle.dsql_tenure.proofs.Lists.{list_all-and, list_any-both, list_any-so}
 use Rattle.dsql_tenure.proofs.Given.{gave_handle, handles-given, list_all-kept, list_any-filter}
@@ -29,7 +29,7 @@ use Rattle.dsql_tenure.proofs.Transactions.{OnlyBegins, begin-only, has-ended, h
 use Rattle.dsql_tenure.proofs.Places.{open-last, one_tenure, has_ended-last, whole_ended, later_or_last}
 use Rattle.dsql_tenure.proofs.Owned.{Served, found}
 
--- what a CloseStmt is
+-- Holds of a call that is a CloseStmt.
 pub record OnlyCloses (call : DriverCall) : Type 0 where
   pub work : is_work call ≡ true
   pub begin : is_begin call ≡ false
@@ -40,20 +40,18 @@ pub close-only : (q : DriverCall) → is_close_stmt q ≡ true → OnlyCloses q
 close-only (CloseStmt n) h = record { work = refl; begin = refl; ending = refl; in_body = refl }
 close-only _ h = record { work = grind (arith, h); begin = grind (arith, h); ending = grind (arith, h); in_body = grind (arith, h) }
 
--- a CloseStmt names a handle
+-- A CloseStmt names a handle.
 pub close-names : (q : DriverCall) → is_close_stmt q ≡ true → (n : ℕ) × (handle_of q ≡ Some n)
 close-names (CloseStmt n) h = (n, refl)
 close-names _ h = grind (arith, h)
 
--- a handle of a transaction wasn't prepared by a call on the database
+-- Is true if the handle of a transaction wasn't prepared by a call on the database.
 abbrev of_no_call : LiveHandle → Bool
 of_no_call handle = (handle.tx == 0) || not (is_call handle.owner)
 
 outside_if_call : (o : Owner) (before : List Entry) (e : Entry) → KeepsBody o before e → is_call o ≡ true → (e.tx == 0) ≡ true
 outside_if_call (Call n) before e k is = k.no_transaction
-outside_if_call (Tx n) before e k is = grind (arith, is)
-outside_if_call (Pin n) before e k is = grind (arith, is)
-outside_if_call House before e k is = grind (arith, is)
+outside_if_call _ before e k is = grind (arith, is)
 
 handles_after-no_call : (e : Entry) (q : DriverCall) (a : DriverAnswer) (live : List LiveHandle) → (not (is_reset q || is_valid q) ≡ true → is_call e.owner ≡ true → (e.tx == 0) ≡ true)
     → list_all of_no_call live ≡ true → list_all of_no_call (handles_after e q a live) ≡ true
@@ -75,7 +73,7 @@ handles-no_call (e ∷ before) h =
     let m : MayFollow before e = MayFollow-of before e p.0 in
     handles_after-no_call e e.call e.answer (handles before) (λ body is. outside_if_call e.owner before e (m.tenure.in_body body) is) (handles-no_call before p.1)
 
--- what the order of a whole journal says of tenures
+-- Holds if the entry keeps the rules for tenures in the order of a whole journal.
 pub record Rises (before : List Entry) (entry : Entry) : Type 0 where
   pub rising : nat_lt entry.tenure (last_tenure before) ≡ false
   pub whole : nat_lt (last_tenure before) entry.tenure ≡ true → is_whole_tenure (last_tenure before) before ≡ true
@@ -93,12 +91,12 @@ never_empty : (ns : List ℕ) (n : ℕ) → is_empty ns ≡ true → has n ns �
 never_empty [] n h k = grind (arith, k)
 never_empty (m ∷ ns) n h k = grind (arith, h)
 
--- a handle of number n may be closed by the entry, which stands in a transaction
+-- Is true if the entry, which stands in a transaction, may close a handle of number n.
 abbrev tested : ℕ → Entry → LiveHandle → Bool
 tested number entry handle = (not (handle.number == number) || (handle.tx == entry.tx)) && ((not (handle.number == number) || (not (is_call handle.owner) ⇒ handle.tenure == entry.tenure)) && of_no_call handle)
 
 module _ (before : List Entry) (e : Entry) (h : IsJournalPrefix before) (r : Rises before e) (some : e.tx ≢ 0) where
-  -- where its transaction is open, the tenure goes on
+  -- If the entry's transaction is open, its tenure goes on.
   open_here : has e.tx (open_in before) ≡ true → list_all (λ x. x.tenure == e.tenure) (of_transaction e.tx before) ≡ true
   open_here is =
       later_or_last (list_all (λ x. x.tenure == e.tenure) (of_transaction e.tx before) ≡ true) (last_tenure before) e.tenure
@@ -106,7 +104,7 @@ module _ (before : List Entry) (e : Entry) (h : IsJournalPrefix before) (r : Ris
       (λ same. rw same (open-last e.tx before h some is))
       r.rising
 
-  -- it begins
+  -- The rules agree if the entry begins a transaction.
   begin_case : is_begin e.call ≡ true
       → (rule.stands_in_one_tenure before e && rule.has_owner_of_transaction e && rule.starts_with_begin before e && rule.begins_once before e && rule.is_transaction_call before e
       && rule.ends_once before e && rule.closes_after_end before e && rule.closes_what_it_prepared before e && rule.ends_without_cursors before e)
@@ -151,7 +149,7 @@ module _ (before : List Entry) (e : Entry) (h : IsJournalPrefix before) (r : Ris
         go true is = absurd (some (eqb→eq e.tx 0 (grind (arith, nat_tests, is))))
         go false is = refl
 
-    -- the entry that gave the handle which is closed stands in the same transaction and tenure
+    -- The entry that gave the closed handle stands in the same transaction and tenure.
     gave_it : (n : ℕ) → handle_of e.call ≡ Some n → list_any (λ x. (x.tx == e.tx) && ((x.tenure == e.tenure) && is_number (given_handle x.answer) n)) before ≡ true
     gave_it n names =
         found (λ x. (x.number == n) && tested n e x) gave_handle (λ x. (x.tx == e.tx) && ((x.tenure == e.tenure) && is_number (given_handle x.answer) n)) before
@@ -185,7 +183,7 @@ module _ (before : List Entry) (e : Entry) (h : IsJournalPrefix before) (r : Ris
             let free : not (is_call x.owner) ≡ true = rw (tx_is, some_false) at q.1 in
             (tx_is, eqb→eq x.tenure e.tenure (grind (arith, nat_tests, rw (is, free) at q.0)))
 
-    -- it closes a handle
+    -- The rules agree if the entry closes a handle.
     close_case : is_close_stmt e.call ≡ true
         → (rule.stands_in_one_tenure before e && rule.has_owner_of_transaction e && rule.starts_with_begin before e && rule.begins_once before e && rule.is_transaction_call before e
         && rule.ends_once before e && rule.closes_after_end before e && rule.closes_what_it_prepared before e && rule.ends_without_cursors before e)
@@ -228,7 +226,7 @@ module _ (before : List Entry) (e : Entry) (h : IsJournalPrefix before) (r : Ris
             eight true false = refl
             eight false d = refl
 
-  -- it works in it or ends it, or is of no kind that a transaction has
+  -- The rules agree if the entry works in the transaction or ends it, or is of no kind that a transaction has.
   other_case : is_begin e.call ≡ false → is_close_stmt e.call ≡ false
       → (rule.stands_in_one_tenure before e && rule.has_owner_of_transaction e && rule.starts_with_begin before e && rule.begins_once before e && rule.is_transaction_call before e
       && rule.ends_once before e && rule.closes_after_end before e && rule.closes_what_it_prepared before e && rule.ends_without_cursors before e)
@@ -286,7 +284,8 @@ module _ (before : List Entry) (e : Entry) (h : IsJournalPrefix before) (r : Ris
           open_or_not true b is here = rw is (over (list_all (λ y. y.tenure == e.tenure) (x ∷ xs)) (rule.has_owner_of_transaction e) (is_work e.call || is_ending e.call) (not (is_ending e.call)) _ (rule.ends_without_cursors before e))
           open_or_not false b is here = rw is (live (list_all (λ y. y.tenure == e.tenure) (x ∷ xs)) (rule.has_owner_of_transaction e) (is_work e.call || is_ending e.call) (rule.ends_without_cursors before e) (here is))
 
-  -- all that is said of a transaction
+  -- All rules of a transaction hold exactly if the entry's owner may own the transaction and its number is
+  -- kept.
   pub keeps_transaction-is : Served before e → rule.keeps_transaction before e ≡ (rule.has_owner_of_transaction e && keeps_number before e)
   keeps_transaction-is s =
       rw (some_false s) (go (is_begin e.call) (is_close_stmt e.call) refl refl)

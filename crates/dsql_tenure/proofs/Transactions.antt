@@ -1,4 +1,5 @@
--- Transactions in a beginning of a whole journal: which are begun, ended and open, and in which tenure they stand.
+-- Transactions in a beginning of a whole journal: which are begun, ended and open, and in which tenure they
+-- stand.
 use Rattle.std.proofs.Common.{◌≡◌, ◌≢◌, ℕ, Bool, true, false, cond, not, ◌&&◌, ◌||◌, ◌==◌, nat_lt, List, [], ◌∷◌, refl, sym, ◌∙◌, eqb→eq}
 use Rattle.std.specs.List.{filter, list_any}
 use native.Mathlib.Omega.{arith}
@@ -8,22 +9,22 @@ use Rattle.dsql_driver.specs.declared.call.DriverCall.TheVariants.{Begin}
 use Rattle.dsql_driver.specs.declared.answer.DriverAnswer.{DriverAnswer}
 use Rattle.dsql_driver.specs.declared.answer.DriverAnswer.TheVariants.{Done}
 use Rattle.dsql_driver.specs.Fits.{is_done, is_failure}
-use Rattle.dsql_journal.specs.declared.entry.Entry.{Entry}
-use Rattle.dsql_journal.specs.declared.entry.Owner.{Owner}
-use Rattle.dsql_journal.specs.declared.entry.Owner.TheVariants.{Call, Tx, Pin, House}
-use Rattle.dsql_journal.specs.Kinds.{◌⇒◌, is_house}
+use Rattle.dsql_tenure_journal.specs.declared.entry.Entry.{Entry}
+use Rattle.dsql_tenure_journal.specs.declared.entry.Owner.{Owner}
+use Rattle.dsql_tenure_journal.specs.declared.entry.Owner.TheVariants.{Call, Tx, Pin, House}
+use Rattle.dsql_tenure_journal.specs.Kinds.{◌⇒◌, is_house}
 use Rattle.dsql_driver.specs.Kinds.{is_begin, is_ping, is_work, is_connect, is_close_stmt, is_shut, is_ending, is_reset, is_valid}
-use Rattle.dsql_journal.specs.Readers.{is_empty, has, of_transaction, begins, begun, ended}
-use Rattle.dsql_journal.specs.Tenure.{place, is_refused_begin, has_ended_transactions, body, is_body, is_whole_tenure}
-use Rattle.dsql_journal.specs.Tenure as tenure
-use Rattle.dsql_journal.specs.Journal.{may_follow, is_journal_prefix, IsJournalPrefix}
-use Rattle.dsql_journal.specs.Facts.{KeepsBody, MayFollow}
-use Rattle.dsql_journal.proofs.Conjunctions.{parts2, if_so}
-use Rattle.dsql_journal.proofs.Sentences.{MayFollow-of}
+use Rattle.dsql_tenure_journal.specs.Readers.{is_empty, has, of_transaction, begins, begun, ended}
+use Rattle.dsql_tenure_journal.specs.Tenure.{place, is_refused_begin, has_ended_transactions, body, is_body, is_whole_tenure}
+use Rattle.dsql_tenure_journal.specs.Tenure as tenure
+use Rattle.dsql_tenure_journal.specs.Journal.{may_follow, is_journal_prefix, IsJournalPrefix}
+use Rattle.dsql_tenure_journal.specs.Facts.{KeepsBody, MayFollow}
+use Rattle.dsql_tenure_journal.proofs.Conjunctions.{parts2, if_so}
+use Rattle.dsql_tenure_journal.proofs.Sentences.{MayFollow-of}
 use Rattle.dsql_tenure.specs.Open.{open_in}
 use Rattle.dsql_tenure.proofs.Lists.{has-filter}
 
--- what a Begin isn't
+-- Holds of a call that is a Begin, by what it isn't.
 pub record OnlyBegins (call : DriverCall) : Type 0 where
   pub ping : is_ping call ≡ false
   pub work : is_work call ≡ false
@@ -64,13 +65,13 @@ begun_outside House before e k house is done zero_tx =
     let kind : (is_connect e.call || is_close_stmt e.call || is_shut e.call) ≡ true = house in
     never-both (is_connect e.call || is_close_stmt e.call || is_shut e.call) kind only.house
 
--- what is begun has a number
+-- A transaction that was begun has a number other than 0.
 pub begins-number : (before : List Entry) (e : Entry) → MayFollow before e → begins e ≡ true → e.tx ≢ 0
 begins-number before e m is zero_tx =
     let p = parts2 (is_begin e.call) (is_done e.answer) is in
     begun_outside e.owner before e (m.tenure.in_body (begin-only e.call p.0).in_body) m.tenure.house_call p.0 p.1 zero_tx
 
--- the ended transactions are those with an ending among their entries
+-- The ended transactions are those with an ending among their entries.
 pub has-ended : (n : ℕ) (journal : List Entry) → has n (ended journal) ≡ list_any (λ x. is_ending x.call) (of_transaction n journal)
 has-ended n [] = refl
 has-ended n (e ∷ before) = go (is_ending e.call) (e.tx == n) refl refl (has-ended n before)
@@ -92,7 +93,7 @@ pub first_if_begins : (before : List Entry) (e : Entry) → MayFollow before e �
 first_if_begins before e m is =
     if_so (is_begin e.call) (is_empty (of_transaction e.tx before)) (m.transaction (begins-number before e m is)).begin_once (parts2 (is_begin e.call) (is_done e.answer) is).0
 
--- a transaction has entries where it was begun
+-- A transaction has entries exactly if it was begun.
 pub of_transaction-begun : (n : ℕ) (journal : List Entry) → IsJournalPrefix journal → n ≢ 0 → is_empty (of_transaction n journal) ≡ not (has n (begun journal))
 of_transaction-begun n [] h some = refl
 of_transaction-begun n (e ∷ before) h some =
@@ -118,7 +119,7 @@ of_transaction-begun n (e ∷ before) h some =
     go false true same is m h = grind (arith, same, h)
     go false false same is m h = h
 
--- the open transactions are those that are begun and not ended
+-- The open transactions are those that were begun and not ended.
 pub has-open : (n : ℕ) (journal : List Entry) → IsJournalPrefix journal → has n (open_in journal) ≡ (has n (begun journal) && not (has n (ended journal)))
 has-open n [] h = refl
 has-open n (e ∷ before) h =

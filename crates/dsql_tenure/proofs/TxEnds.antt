@@ -1,4 +1,5 @@
--- A transaction's own tenure that isn't whole can work on in it, or close a statement after its end.
+-- The argument that a transaction's own tenure that isn't whole can work on in it, or close a statement after
+-- its end.
 use Rattle.std.proofs.Common.{◌≡◌, ◌≢◌, ℕ, Bool, true, false, not, ◌&&◌, ◌||◌, ◌==◌, List, [], ◌∷◌, refl, sym, ◌∙◌, subst, eqb→eq}
 use Rattle.std.specs.List.{list_all, list_any}
 use native.Mathlib.Omega.{arith}
@@ -6,16 +7,16 @@ use Rattle.std.proofs.lemmas.Bool.Decides.{nat_tests}
 use Rattle.dsql_driver.specs.declared.call.DriverCall.{DriverCall}
 use Rattle.dsql_driver.specs.declared.call.DriverCall.TheVariants.{CloseStmt, Exec}
 use Rattle.dsql_driver.specs.declared.call.Input.TheVariants.{Text}
-use Rattle.dsql_journal.specs.declared.entry.Entry.{Entry}
-use Rattle.dsql_journal.specs.declared.entry.Owner.{Owner}
-use Rattle.dsql_journal.specs.declared.entry.Owner.TheVariants.{Tx}
-use Rattle.dsql_journal.specs.Kinds.{◌⇒◌, if_any, is_number, is_call, is_house, is_pin, is_tx_number, same_owner}
+use Rattle.dsql_tenure_journal.specs.declared.entry.Entry.{Entry}
+use Rattle.dsql_tenure_journal.specs.declared.entry.Owner.{Owner}
+use Rattle.dsql_tenure_journal.specs.declared.entry.Owner.TheVariants.{Tx}
+use Rattle.dsql_tenure_journal.specs.Kinds.{◌⇒◌, if_any, is_number, is_call, is_house, is_pin, is_tx_number, same_owner}
 use Rattle.dsql_driver.specs.Kinds.{is_begin, is_ending, is_work, is_close_stmt, handle_of, given_handle}
-use Rattle.dsql_journal.specs.Readers.{LiveHandle, LiveCursor, is_empty, has, of_tenure, of_transaction, handles, handles_named, cursors, begun, ended}
-use Rattle.dsql_journal.specs.Tenure.{is_whole_tenure, has_ended_transactions, has_closed_cursors, has_closed_handles, body}
-use Rattle.dsql_journal.specs.Facts.{KeepsBody, KeepsTransaction}
-use Rattle.dsql_journal.proofs.Conjunctions.{parts2, join2}
-use Rattle.dsql_journal.proofs.Numbers.{handles_named-one}
+use Rattle.dsql_tenure_journal.specs.Readers.{LiveHandle, LiveCursor, is_empty, has, of_tenure, of_transaction, handles, handles_named, cursors, begun, ended}
+use Rattle.dsql_tenure_journal.specs.Tenure.{is_whole_tenure, has_ended_transactions, has_closed_cursors, has_closed_handles, body}
+use Rattle.dsql_tenure_journal.specs.Facts.{KeepsBody, KeepsTransaction}
+use Rattle.dsql_tenure_journal.proofs.Conjunctions.{parts2, join2}
+use Rattle.dsql_tenure_journal.proofs.Numbers.{handles_named-one}
 use Rattle.dsql_tenure.specs.Open.{open_in}
 use Rattle.dsql_tenure.specs.Ends.{HasWholeEnd}
 use Rattle.dsql_tenure.proofs.Lists.{is_empty-filter, list_all-none, list_all-so, list_any-both, list_any-so}
@@ -30,7 +31,7 @@ use Rattle.dsql_tenure.proofs.CallEnds.{open-number}
 use Rattle.dsql_tenure.proofs.TxWork.{stands, gives, cursor_of_it, handle_of_it, cursors_of_it, handles_of_it, ended-closed}
 
 module _ (before : List Entry) (e : Entry) (p : Partly before e) (n : ℕ) (is : e.owner ≡ Tx n) where
-  -- transaction n has entries in the tenure, and goes on in it
+  -- Transaction n has entries in the tenure, and goes on in it.
   module _ (some : n ≢ 0) (here : list_any (stands n e.tenure) (e ∷ before) ≡ true) where
     some_false : (n == 0) ≡ false
     some_false = go (n == 0) refl
@@ -92,7 +93,7 @@ module _ (before : List Entry) (e : Entry) (p : Partly before e) (n : ℕ) (is :
         either true = refl
         either false = refl
 
-  -- it is open
+  -- If the transaction is open, it can work on, and the beginning has a whole end.
   open_end : (m : ℕ) → has m (open_in (e ∷ before)) ≡ true → HasWholeEnd (e ∷ before)
   open_end m open_one =
       let some : m ≢ 0 = open-number (e ∷ before) p.beginning m open_one in
@@ -124,7 +125,7 @@ module _ (before : List Entry) (e : Entry) (p : Partly before e) (n : ℕ) (is :
   nonzero k z = let same : (n == 0) ≡ true = rw z refl in grind (arith, k, same)
 
   module _ (none : open_in (e ∷ before) ≡ []) where
-    -- none is open, so no cursor is live
+    -- If no transaction is open, no cursor is live.
     closed_cursors : list_any (λ c. c.tenure == e.tenure) (cursors (e ∷ before)) ≡ false
     closed_cursors = go (list_any (λ c. c.tenure == e.tenure) (cursors (e ∷ before))) refl
       where
@@ -161,7 +162,7 @@ module _ (before : List Entry) (e : Entry) (p : Partly before e) (n : ℕ) (is :
             (cursors (e ∷ before)) live (cursors_of_it before e p.beginning n is))
             never
 
-    -- so a handle is
+    -- So a handle is live.
     live_handle : list_any (λ l. not ((l.tenure == e.tenure) ⇒ is_call l.owner)) (handles (e ∷ before)) ≡ true
     live_handle = not_all (λ l. (l.tenure == e.tenure) ⇒ is_call l.owner) (handles (e ∷ before)) (go (has_closed_handles e.tenure (e ∷ before)) refl)
       where
@@ -173,7 +174,7 @@ module _ (before : List Entry) (e : Entry) (p : Partly before e) (n : ℕ) (is :
             let whole : is_whole_tenure e.tenure (e ∷ before) ≡ true = rw (over, p.not_bad, no_cursor, closed) refl in
             sym whole ∙ p.partly
 
-    -- and can be closed
+    -- That handle can be closed, and the beginning has a whole end.
     close_end : HasWholeEnd (e ∷ before)
     close_end =
         pick_in (HasWholeEnd (e ∷ before))

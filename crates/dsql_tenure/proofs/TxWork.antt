@@ -1,4 +1,5 @@
--- In a transaction's own tenure statements and rows are worked with in that transaction, and when it ends no cursor of it is left.
+-- In a transaction's own tenure, statements and rows are worked with in that transaction, and when it ends none
+-- of its cursors is left.
 use Rattle.std.proofs.Common.{◌≡◌, ◌≢◌, ℕ, Bool, true, false, cond, not, ◌&&◌, ◌||◌, ◌==◌, List, [], ◌∷◌, refl, sym, ◌∙◌, eqb→eq, is_some}
 use Rattle.std.specs.List.{list_all, list_any}
 use native.Mathlib.Omega.{arith}
@@ -9,17 +10,17 @@ use Rattle.dsql_driver.specs.declared.call.Input.TheVariants.{Text, Handle}
 use Rattle.dsql_driver.specs.declared.answer.DriverAnswer.{DriverAnswer}
 use Rattle.dsql_driver.specs.declared.answer.DriverAnswer.TheVariants.{Prepared, Cursor}
 use Rattle.dsql_driver.specs.Fits.{fits_of, is_memory}
-use Rattle.dsql_journal.specs.declared.entry.Entry.{Entry}
-use Rattle.dsql_journal.specs.declared.entry.Owner.{Owner}
-use Rattle.dsql_journal.specs.declared.entry.Owner.TheVariants.{Call, Tx, Pin, House}
-use Rattle.dsql_journal.specs.Kinds.{◌⇒◌, is_number, same_owner}
+use Rattle.dsql_tenure_journal.specs.declared.entry.Entry.{Entry}
+use Rattle.dsql_tenure_journal.specs.declared.entry.Owner.{Owner}
+use Rattle.dsql_tenure_journal.specs.declared.entry.Owner.TheVariants.{Call, Tx, Pin, House}
+use Rattle.dsql_tenure_journal.specs.Kinds.{◌⇒◌, is_number, same_owner}
 use Rattle.dsql_driver.specs.Kinds.{is_bad, is_reset, is_valid, is_begin, is_ending, is_close_stmt, is_work, given_handle, given_cursor}
-use Rattle.dsql_journal.specs.Readers.{LiveHandle, LiveCursor, is_empty, has, of_transaction, handles, cursors, cursors_after, ended, went_bad}
-use Rattle.dsql_journal.specs.Tenure.{is_body, is_refused_begin, body, earlier}
-use Rattle.dsql_journal.specs.Journal.{may_follow, is_journal_prefix, IsJournalPrefix}
-use Rattle.dsql_journal.specs.Facts.{KeepsBody}
-use Rattle.dsql_journal.proofs.Conjunctions.{parts2, join2, if_so, so_if}
-use Rattle.dsql_journal.proofs.Beginnings.{answers_fit}
+use Rattle.dsql_tenure_journal.specs.Readers.{LiveHandle, LiveCursor, is_empty, has, of_transaction, handles, cursors, cursors_after, ended, went_bad}
+use Rattle.dsql_tenure_journal.specs.Tenure.{is_body, is_refused_begin, body, earlier}
+use Rattle.dsql_tenure_journal.specs.Journal.{may_follow, is_journal_prefix, IsJournalPrefix}
+use Rattle.dsql_tenure_journal.specs.Facts.{KeepsBody}
+use Rattle.dsql_tenure_journal.proofs.Conjunctions.{parts2, join2, if_so, so_if}
+use Rattle.dsql_tenure_journal.proofs.Beginnings.{answers_fit}
 use Rattle.dsql_tenure.proofs.Lists.{list_all-so, list_all-and, list_all-filter, list_any-both, list_any-so}
 use Rattle.dsql_tenure.proofs.Given.{gave_handle, gave_cursor, handles-given, cursors-given, list_all-kept, list_all-changed}
 use Rattle.dsql_tenure.proofs.SoFarRules.{same_owner-is}
@@ -29,12 +30,11 @@ use Rattle.dsql_tenure.proofs.Members.{pick}
 use Rattle.dsql_tenure.proofs.BadEnds.{both_false, same_owners}
 use Rattle.dsql_tenure.proofs.Openers.{runs, cursor-runs, number-some}
 
--- in transaction n's own tenure, an entry that works with statements and rows is of the transaction
+-- Is true if, in transaction n's own tenure, an entry that works with statements and rows is of the
+-- transaction.
 abbrev pub works_in : Owner → Entry → Bool
 works_in (Tx number) entry = is_work entry.call ⇒ not (number == 0) && (entry.tx == number)
-works_in (Call number) entry = true
-works_in (Pin number) entry = true
-works_in House entry = true
+works_in _ entry = true
 
 work-body : (q : DriverCall) → is_work q ≡ true → not (is_reset q || is_valid q) ≡ true
 work-body q h = go (is_reset q || is_valid q) refl
@@ -93,18 +93,19 @@ prepared-work q (Prepared handle inputs) f g = of_prepared q f
     of_prepared _ f = grind (arith, f)
 prepared-work q _ f g = grind (arith, g)
 
--- an entry's answer fits, it works where its owner does, and has the owner of its tenure
+-- Is true if the other entry's answer fits, it works in what its owner works in, and it has the owner of its
+-- tenure.
 abbrev pub ruled : Entry → Entry → Bool
 ruled entry other = (fits_of other.call other.answer && not (is_memory other.answer)) && (works_in other.owner other && (not (other.tenure == entry.tenure) || same_owner other.owner entry.owner))
 
--- an entry of transaction n in tenure t, and one that gave handle k
+-- Is true of an entry of transaction n in tenure t, and of one that gave handle k.
 abbrev pub stands : ℕ → ℕ → Entry → Bool
 stands number tenure entry = (entry.tx == number) && (entry.tenure == tenure)
 
 abbrev pub gives : ℕ → ℕ → ℕ → Entry → Bool
 gives number tenure handle entry = (entry.tx == number) && ((entry.tenure == tenure) && is_number (given_handle entry.answer) handle)
 
--- if it is of tenure t, a cursor or handle is of transaction n, as is what gave it
+-- Is true if a cursor or handle of tenure t is of transaction n, as is the entry that gave it.
 abbrev pub cursor_of_it : ℕ → ℕ → List Entry → LiveCursor → Bool
 cursor_of_it number tenure journal cursor = not (cursor.tenure == tenure) || ((not (number == 0) && (cursor.tx == number)) && list_any (stands number tenure) journal)
 
@@ -119,7 +120,7 @@ module _ (before : List Entry) (e : Entry) (h : IsJournalPrefix (e ∷ before)) 
       (list_all-and (λ x. works_in x.owner x) (λ x. not (x.tenure == e.tenure) || same_owner x.owner e.owner) (e ∷ before)
       ∙ join2 _ _ (works-in (e ∷ before) h) (sym (list_all-filter (λ x. same_owner x.owner e.owner) (λ x. x.tenure == e.tenure) (e ∷ before)) ∙ same_owners before e h))
 
-  -- what gives a handle or a cursor in the tenure is of the transaction
+  -- An entry that gives a handle or a cursor in the tenure is of the transaction.
   of_it : (x : Entry) → ruled e x ≡ true → (x.tenure == e.tenure) ≡ true → (fits_of x.call x.answer ≡ true → is_work x.call ≡ true) → (not (n == 0) && (x.tx == n)) ≡ true
   of_it x k at work =
       let a = parts2 (fits_of x.call x.answer && not (is_memory x.answer)) (works_in x.owner x && (not (x.tenure == e.tenure) || same_owner x.owner e.owner)) k in
@@ -129,7 +130,7 @@ module _ (before : List Entry) (e : Entry) (h : IsJournalPrefix (e ∷ before)) 
       let rule : (is_work x.call ⇒ not (n == 0) && (x.tx == n)) ≡ true = rw own at b.0 in
       if_so (is_work x.call) (not (n == 0) && (x.tx == n)) rule (work (parts2 (fits_of x.call x.answer) (not (is_memory x.answer)) a.0).0)
 
-  -- a cursor of the tenure is of the transaction, as is what gave it
+  -- A cursor of the tenure is of the transaction, as is the entry that gave it.
   pub cursors_of_it : list_all (cursor_of_it n e.tenure (e ∷ before)) (cursors (e ∷ before)) ≡ true
   cursors_of_it =
       list_all-so (λ c. list_any (gave_cursor c) (e ∷ before)) (cursor_of_it n e.tenure (e ∷ before))
@@ -154,7 +155,7 @@ module _ (before : List Entry) (e : Entry) (h : IsJournalPrefix (e ∷ before)) 
           (pick ((not (n == 0) && (c.tx == n)) ≡ true) (λ x. gave_cursor c x && ruled e x) (e ∷ before) gave (λ x k. (one c x at k).0))
           (list_any-so (λ x. gave_cursor c x && ruled e x) (stands n e.tenure) (λ x k. (one c x at k).1) (e ∷ before) gave)
 
-  -- and a handle of the tenure
+  -- A handle of the tenure is of the transaction, as is the entry that gave it.
   pub handles_of_it : list_all (handle_of_it n e.tenure (e ∷ before)) (handles (e ∷ before)) ≡ true
   handles_of_it =
       list_all-so (λ l. list_any (gave_handle l) (e ∷ before))
@@ -198,14 +199,14 @@ ending-cursors e Commit a live h = refl
 ending-cursors e Rollback a live h = refl
 ending-cursors e _ a live h = grind (arith, h)
 
--- no cursor of a transaction that has ended is live
+-- No cursor of a transaction that has ended is live.
 pub ended-closed : (n : ℕ) (journal : List Entry) → IsJournalPrefix journal → went_bad journal ≡ false → n ≢ 0 → has n (ended journal) ≡ true → list_all (λ c. not (c.tx == n)) (cursors journal) ≡ true
 ended-closed n [] h good some over = refl
 ended-closed n (e ∷ before) h good some over =
     let bad = both_false (is_bad e.answer) (went_bad before) good in
     go (is_ending e.call) (e.tx == n) refl refl over bad.1 (ended-closed n before (parts2 (may_follow before e) (is_journal_prefix before) h).1 bad.1 some)
   where
-    -- after its end it only closes statements
+    -- After its end a transaction only closes statements.
     closing : has n (ended before) ≡ true → (e.tx == n) ≡ true → is_close_stmt e.call ≡ true
     closing over at =
         let is : e.tx ≡ n = eqb→eq e.tx n (grind (arith, nat_tests, at)) in

@@ -6,16 +6,16 @@ use Rattle.std.proofs.lemmas.Bool.Decides.{nat_tests}
 use Rattle.dsql_driver.specs.declared.call.DriverCall.{DriverCall}
 use Rattle.dsql_driver.specs.declared.call.DriverCall.TheVariants.{Connect, Reset, Valid, CloseStmt, Shut}
 use Rattle.dsql_driver.specs.declared.answer.DriverAnswer.{DriverAnswer}
-use Rattle.dsql_journal.specs.declared.entry.Entry.{Entry}
-use Rattle.dsql_journal.specs.Kinds.{◌⇒◌, is_house, is_call, is_number, same_owner}
+use Rattle.dsql_tenure_journal.specs.declared.entry.Entry.{Entry}
+use Rattle.dsql_tenure_journal.specs.Kinds.{◌⇒◌, is_house, is_call, is_number, same_owner}
 use Rattle.dsql_driver.specs.Kinds.{is_valid, is_reset, is_bad, is_begin, is_connect, is_close_stmt, is_shut, given_cursor, given_handle}
-use Rattle.dsql_journal.specs.Readers.{LiveHandle, LiveCursor, is_empty, of_tenure, handles, handles_after, cursors, cursors_after, went_bad}
-use Rattle.dsql_journal.specs.Tenure.{is_whole_tenure, has_ended_transactions, has_closed_cursors, has_closed_handles}
+use Rattle.dsql_tenure_journal.specs.Readers.{LiveHandle, LiveCursor, is_empty, of_tenure, handles, handles_after, cursors, cursors_after, went_bad}
+use Rattle.dsql_tenure_journal.specs.Tenure.{is_whole_tenure, has_ended_transactions, has_closed_cursors, has_closed_handles}
 use Rattle.dsql_driver.specs.Fits.{is_done}
-use Rattle.dsql_journal.specs.Journal.{may_follow, is_journal_prefix, IsJournalPrefix}
-use Rattle.dsql_journal.specs.Facts.{MayFollow}
-use Rattle.dsql_journal.proofs.Conjunctions.{parts2, join2, if_so}
-use Rattle.dsql_journal.proofs.Sentences.{MayFollow-of}
+use Rattle.dsql_tenure_journal.specs.Journal.{may_follow, is_journal_prefix, IsJournalPrefix}
+use Rattle.dsql_tenure_journal.specs.Facts.{MayFollow}
+use Rattle.dsql_tenure_journal.proofs.Conjunctions.{parts2, join2, if_so}
+use Rattle.dsql_tenure_journal.proofs.Sentences.{MayFollow-of}
 use Rattle.dsql_tenure.proofs.Lists.{list_all-so, list_any-so, is_empty-filter}
 use Rattle.dsql_tenure.proofs.Given.{gave_handle, gave_cursor, handles-given, cursors-given, list_all-kept, eqb-refl}
 use Rattle.dsql_tenure.proofs.Transactions.{OnlyBegins, begin-only}
@@ -35,7 +35,7 @@ worse false b c h = h
 pub mayfollow : (before : List Entry) (e : Entry) → IsJournalPrefix (e ∷ before) → MayFollow before e
 mayfollow before e h = MayFollow-of before e (parts2 (may_follow before e) (is_journal_prefix before) h).0
 
--- a tenure is whole at its Valid
+-- A tenure is whole at its Valid.
 pub whole-valid : (before : List Entry) (e : Entry) → IsJournalPrefix (e ∷ before) → is_valid e.call ≡ true → is_whole_tenure e.tenure (e ∷ before) ≡ true
 whole-valid before e h is =
     let m = mayfollow before e h in
@@ -48,7 +48,7 @@ pub empty_is : (xs : List Entry) → is_empty xs ≡ true → xs ≡ []
 empty_is [] h = refl
 empty_is (x ∷ xs) h = grind (arith, h)
 
--- and at a Reset answered Bad, which is all that it has
+-- A tenure is whole at a Reset answered Bad, which is all that it has.
 pub whole-fell : (before : List Entry) (e : Entry) → IsJournalPrefix (e ∷ before) → (is_reset e.call && is_bad e.answer) ≡ true → is_whole_tenure e.tenure (e ∷ before) ≡ true
 whole-fell before e h is =
     let m = mayfollow before e h in
@@ -56,7 +56,7 @@ whole-fell before e h is =
     let none : of_tenure e.tenure before ≡ [] = empty_is (of_tenure e.tenure before) (if_so (is_reset e.call) (is_empty (of_tenure e.tenure before)) m.tenure.reset_first p.0) in
     rw (eqb-refl e.tenure, none, reset-is e.call p.0, p.1) refl
 
--- nothing is live of a tenure without an entry
+-- Nothing of a tenure without an entry is live.
 no_entry : (t : ℕ) (journal : List Entry) → of_tenure t journal ≡ [] → list_any (λ x. x.tenure == t) journal ≡ false
 no_entry t journal none = go (list_any (λ x. x.tenure == t) journal) (sym (is_empty-filter (λ x. x.tenure == t) journal) ∙ rw none refl)
   where
@@ -120,7 +120,7 @@ or_all : (b c d : Bool) → c ≡ true → d ≡ true → (b || c && d) ≡ true
 or_all true c d h k = refl
 or_all false c d h k = join2 c d h k
 
--- a tenure of the House is whole with its one entry
+-- A tenure of the house is whole with its one entry.
 pub whole-house : (before : List Entry) (e : Entry) → IsJournalPrefix (e ∷ before) → is_house e.owner ≡ true → is_whole_tenure e.tenure (e ∷ before) ≡ true
 whole-house before e h is =
     let m = mayfollow before e h in

@@ -1,17 +1,17 @@
--- Each beginning of a whole journal has a whole end.
+-- The argument that each beginning of a whole journal has a whole end, by the state of the last tenure.
 use Rattle.std.proofs.Common.{◌≡◌, ℕ, Bool, true, false, ◌||◌, List, [], ◌∷◌, refl, sym, ◌∙◌, subst}
 use native.Mathlib.Omega.{arith}
 use Rattle.dsql_driver.specs.declared.call.DriverCall.TheVariants.{Ping}
 use Rattle.dsql_driver.specs.declared.answer.DriverAnswer.TheVariants.{Bad}
-use Rattle.dsql_journal.specs.declared.entry.Entry.{Entry}
-use Rattle.dsql_journal.specs.declared.entry.Owner.{Owner}
-use Rattle.dsql_journal.specs.declared.entry.Owner.TheVariants.{Call, Tx, Pin, House}
-use Rattle.dsql_journal.specs.Entries.{connect_entry}
-use Rattle.dsql_journal.specs.Kinds.{is_house}
-use Rattle.dsql_journal.specs.Readers.{went_bad, was_refused, was_shut}
-use Rattle.dsql_journal.specs.Tenure.{is_whole_tenure}
-use Rattle.dsql_journal.specs.Journal.{IsJournalPrefix}
-use Rattle.dsql_journal.specs.Facts.{KeepsBody}
+use Rattle.dsql_tenure_journal.specs.declared.entry.Entry.{Entry}
+use Rattle.dsql_tenure_journal.specs.declared.entry.Owner.{Owner}
+use Rattle.dsql_tenure_journal.specs.declared.entry.Owner.TheVariants.{Call, Tx, Pin, House}
+use Rattle.dsql_tenure_journal.specs.Entries.{connect_entry}
+use Rattle.dsql_tenure_journal.specs.Kinds.{is_house}
+use Rattle.dsql_tenure_journal.specs.Readers.{went_bad, was_refused, was_shut}
+use Rattle.dsql_tenure_journal.specs.Tenure.{is_whole_tenure}
+use Rattle.dsql_tenure_journal.specs.Journal.{IsJournalPrefix}
+use Rattle.dsql_tenure_journal.specs.Facts.{KeepsBody}
 use Rattle.dsql_tenure.specs.Ends.{HasWholeEnd}
 use Rattle.dsql_tenure.proofs.Standing.{whole-is}
 use Rattle.dsql_tenure.proofs.RollsBack.{shut_end, bad-has_whole_end}
@@ -19,7 +19,7 @@ use Rattle.dsql_tenure.proofs.TxEnds.{tx_end}
 use Rattle.dsql_tenure.proofs.CallEnds.{call_end}
 use Rattle.dsql_tenure.proofs.Partly.{Partly, spoiled, spoiled_end, no_house}
 
--- a pinned connection can be pinged
+-- A pinned connection can be pinged, so its tenure has a whole end.
 pin_end : (before : List Entry) (e : Entry) → Partly before e → (n : ℕ) → e.owner ≡ Pin n → HasWholeEnd (e ∷ before)
 pin_end before e p n is =
     spoiled_end before e p 0 Ping (record { connect = refl; reset = refl; valid = refl; fails = refl })
@@ -37,7 +37,7 @@ partly_end before e p House is = absurd (never (subst (λ (o : Owner). is_house 
     never : true ≡ false → ⊥
     never k = grind (arith, k)
 
--- each beginning has a whole end
+-- Each beginning of a whole journal has a whole end.
 pub has_whole_end : (journal : List Entry) → IsJournalPrefix journal → HasWholeEnd journal
 has_whole_end [] h = (connect_entry 1 Bad ∷ [], refl, refl)
 has_whole_end (e ∷ before) h =

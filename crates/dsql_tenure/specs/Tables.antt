@@ -1,30 +1,37 @@
--- What a judge keeps, each table against the reader of the journal that it equals.
+-- What a judge keeps: each table equals a reader of the journal.
 use Rattle.std.specs.Prelude.{◌≡◌, ℕ, ◌+◌, ◌≤◌, ◌==◌, IsTrue, List, length, map, nat_eq, vec_len, vec_capacity}
 use Rattle.std.specs.List.{list_all}
 use Rattle.indexmap.specs.IndexSet.{contains, spare, index_set_len}
-use Rattle.dsql_journal.specs.declared.entry.Entry.{Entry}
-use Rattle.dsql_journal.specs.Readers as told
-use Rattle.dsql_journal.specs.Readers.{LiveHandle, LiveCursor}
-use Rattle.dsql_journal.specs.Journal.{IsJournalPrefix}
+use Rattle.dsql_tenure_journal.specs.declared.entry.Entry.{Entry}
+use Rattle.dsql_tenure_journal.specs.Readers as told
+use Rattle.dsql_tenure_journal.specs.Readers.{LiveHandle, LiveCursor}
+use Rattle.dsql_tenure_journal.specs.Journal.{IsJournalPrefix}
 use Rattle.dsql_tenure.specs.SoFar as tenures
 use Rattle.dsql_tenure.specs.Open.{open_in}
-use Rattle.dsql_asked.specs.declared.live.Handle.{Handle}
-use Rattle.dsql_asked.specs.declared.live.Cursor.{Cursor}
+use Rattle.dsql_tenure_asked.specs.declared.live.Handle.{Handle}
+use Rattle.dsql_tenure_asked.specs.declared.live.Cursor.{Cursor}
 use Rattle.dsql_tenure.specs.declared.tables.Tables.{Tables}
 
--- the entries so far, the newest first
+-- Returns the entries so far, the newest first.
 abbrev pub past : Tables → List Entry
 past tables = tables.past.items
 
--- what is kept of a live handle
+-- Returns what the judge keeps of a live handle.
 abbrev pub kept_handle : LiveHandle → Handle
 kept_handle handle = record { number = handle.number; tenure = handle.tenure; owner = handle.owner; tx = handle.tx }
 
--- what is kept of a live cursor
+-- Returns what the judge keeps of a live cursor.
 abbrev pub kept_cursor : LiveCursor → Cursor
-kept_cursor cursor = record { number = cursor.number; tenure = cursor.tenure; tx = cursor.tx; columns = cursor.columns; over = cursor.over }
+kept_cursor cursor =
+    record {
+      number = cursor.number;
+      tenure = cursor.tenure;
+      tx = cursor.tx;
+      columns = cursor.columns;
+      over = cursor.over;
+    }
 
--- each table has room for as many entries as were paid for
+-- Holds if each table has room for the entries that memory was taken for.
 pub record HasRoom (tables : Tables) : Type 0 where
   pub handles : vec_len tables.handles + tables.room ≤ vec_capacity tables.handles
   pub cursors : vec_len tables.cursors + tables.room ≤ vec_capacity tables.cursors
@@ -47,6 +54,6 @@ pub record Keeps (tables : Tables) : Type 0 where
   pub count : index_set_len tables.begun ≡ length (told.begun (past tables))
   pub room : HasRoom tables
 
--- what the judge carries from one entry to the next, and doesn't look into
+-- Holds if the tables keep what the judge carries from one entry to the next and doesn't look into.
 unfoldable pub Stands : Tables → Type 0
 Stands tables = Keeps tables

@@ -1,28 +1,28 @@
-//! What may come next, by the tables.
+//! Which entries may come next, by the tables.
 ghost use Rattle.std.specs.Prelude.{◌≡◌, ◌&&◌, ◌||◌, ◌==◌, not, length, Some, ◌∷◌};
 ghost use Rattle.std.specs.List.{list_all};
 ghost use Rattle.dsql_driver.specs.Fits.{is_memory};
-ghost use Rattle.dsql_journal.specs.HandlesAndCursors as handles;
-ghost use Rattle.dsql_journal.specs.Journal.{may_follow};
+ghost use Rattle.dsql_tenure_journal.specs.HandlesAndCursors as handles;
+ghost use Rattle.dsql_tenure_journal.specs.Journal.{may_follow};
 ghost use Rattle.dsql_driver.specs.Kinds.{is_ending, is_connect, is_shut};
-ghost use Rattle.dsql_journal.specs.Permits.{entry_of};
-ghost use Rattle.dsql_journal.specs.Readers.{last_owner};
-ghost use Rattle.dsql_asked.specs.Asked.{answer_like, entry_like};
+ghost use Rattle.dsql_tenure_journal.specs.Permits.{entry_of};
+ghost use Rattle.dsql_tenure_journal.specs.Readers.{last_owner};
+ghost use Rattle.dsql_tenure_asked.specs.Asked.{answer_like, entry_like};
 ghost use Rattle.dsql_tenure.specs.Beginnings.{phase, can_grow, is_beginning_of};
 ghost use Rattle.dsql_tenure.specs.MayBeAsked as may;
 ghost use Rattle.dsql_tenure.specs.Sent.{may_send};
 
 use crate::fault::Phase;
 use crate::tables::Tables;
-use dsql_asked::{Asked, Cursor, Outcome, has_cursor, has_handle};
 use dsql_driver::{DriverAnswer, fits};
-use dsql_journal::{Entry, Owner, Permit};
+use dsql_tenure_asked::{Asked, Cursor, Outcome, has_cursor, has_handle};
+use dsql_tenure_journal::{Entry, Owner, Permit};
 
 #[tactic(auto, unfolding(crate::specs::Tables::Stands))]
 impl Tables {
     ghost use Rattle.dsql_tenure.specs.Tables.{past, Stands};
 
-    /// With this entry the journal is a beginning of a whole journal of the connection.
+    /// Returns whether the journal, with this entry, is a beginning of a whole journal of the connection.
     pub fn accepts(&self, entry: &Entry) -> bool
         requires { Stands self.now }
         ensures { result ≡ is_beginning_of self.now.conn (entry.now ∷ past self.now) }
@@ -30,7 +30,7 @@ impl Tables {
         entry.conn == self.conn && self.may_follow(entry)
     }
 
-    /// The entry may come next.
+    /// Returns whether the entry may come next.
     fn may_follow(&self, entry: &Entry) -> bool
         requires stands { Stands self.now }
         requires conn { entry.now.conn ≡ self.now.conn }
@@ -39,7 +39,7 @@ impl Tables {
         self.may_be_asked(&Asked::of(entry)) && self.fits_at_its_place(entry)
     }
 
-    /// All that is asked of an entry beside that its answer fits.
+    /// Returns whether the entry keeps all rules except that its answer fits.
     pub fn may_be_asked(&self, asked: &Asked<'_>) -> bool
         requires stands { Stands self.now }
         requires conn { asked.now.conn ≡ self.now.conn }
@@ -54,8 +54,10 @@ impl Tables {
         self.keeps_tenure(asked) && self.keeps_transaction(asked)
     }
 
-    /// Each fitting answer to the permit's call may come next. A failure stands for all answers that give
-    /// nothing, and a Valid has no failure. A Begin makes its transaction only where it is answered Done.
+    /// Returns whether each fitting answer to the permit's call may come next.
+    ///
+    /// A failure stands for all answers that give nothing, and a Valid has no failure. A Begin makes its
+    /// transaction only if it is answered Done.
     pub fn may_send(&self, permit: &Permit) -> bool
         requires { Stands self.now }
         ensures { result ≡ may_send self.now.conn (past self.now) permit.now }
@@ -73,7 +75,7 @@ impl Tables {
         self.may_be_answered(permit, Outcome::Failed)
     }
 
-    /// It may come next with this outcome, if the answer fits at its place.
+    /// Returns whether the call may come next with this outcome, if the answer fits at its place.
     fn may_be_answered(&self, permit: &Permit, outcome: Outcome) -> bool
         requires stands { Stands self.now }
         requires conn { permit.now.conn ≡ self.now.conn }
@@ -82,7 +84,7 @@ impl Tables {
         self.may_be_asked(&Asked::of_permit(permit, outcome))
     }
 
-    /// Where the journal stands.
+    /// Returns where the journal stands.
     pub fn phase(&self) -> Phase
         requires { Stands self.now }
         ensures { result ≡ phase (past self.now) }
@@ -99,7 +101,7 @@ impl Tables {
         }
     }
 
-    /// The last tenure can have a further entry.
+    /// Returns whether the last tenure can have a further entry.
     fn can_grow(&self, owner: Owner) -> bool
         requires stands { Stands self.now }
         requires owner { last_owner (past self.now) ≡ Some owner }
@@ -118,7 +120,7 @@ impl Tables {
         }
     }
 
-    /// The answer fits at its place.
+    /// Returns whether the answer fits at its place.
     fn fits_at_its_place(&self, entry: &Entry) -> bool
         requires { Stands self.now }
         ensures { result ≡ handles.fits_at_its_place (past self.now) entry.now }
@@ -126,7 +128,7 @@ impl Tables {
         is_answer(entry) && self.gives_new(entry) && self.has_width_of_cursor(entry)
     }
 
-    /// A handle or cursor that it gives isn't live already.
+    /// Returns whether a handle or cursor that the answer gives isn't live already.
     fn gives_new(&self, entry: &Entry) -> bool
         requires { Stands self.now }
         ensures { result ≡ may.gives_new (past self.now) entry.now }
@@ -154,7 +156,7 @@ impl Tables {
         }
     }
 
-    /// A Row has as many values as its cursor has columns.
+    /// Returns whether a Row has as many values as its cursor has columns.
     fn has_width_of_cursor(&self, entry: &Entry) -> bool
         requires { Stands self.now }
         ensures { result ≡ handles.has_width_of_cursor (past self.now) entry.now }
@@ -166,14 +168,15 @@ impl Tables {
     }
 }
 
-/// The table of shapes has this answer for its call, and it isn't want of memory.
+/// Returns whether the table of shapes has this answer for its call, and the answer isn't want of memory.
 fn is_answer(entry: &Entry) -> bool
     ensures { result ≡ may.is_answer entry.now }
 {
     !matches!(entry.answer, DriverAnswer::Memory) && fits(&entry.call, &entry.answer)
 }
 
-/// Each live cursor of that number has as many columns as the answer has values, if it is a Row.
+/// Returns whether each live cursor of that number has as many columns as the answer has values, if it is a
+/// Row.
 fn is_as_wide(cursors: &[Cursor], number: u32, answer: &DriverAnswer) -> bool
     ensures { result ≡ list_all (λ c. not (c.number == number) || may.is_as_wide answer.now c) cursors.now }
 {
@@ -183,7 +186,7 @@ fn is_as_wide(cursors: &[Cursor], number: u32, answer: &DriverAnswer) -> bool
     }
 }
 
-/// Each live cursor of that number has so many columns.
+/// Returns whether each live cursor of that number has this many columns.
 fn has_columns(cursors: &[Cursor], number: u32, columns: usize) -> bool
     ensures { result ≡ list_all (λ c. not (c.number == number) || (c.columns == columns)) cursors.now }
 {

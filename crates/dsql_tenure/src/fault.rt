@@ -1,7 +1,7 @@
 use thiserror::Error;
 
-/// Where a journal stands: no Connect was heard yet, no tenure can have a further entry, the last one
-/// can, or Shut was heard.
+/// Where a journal stands: no Connect was heard yet, no tenure can have a further entry, the last tenure can
+/// have one, or Shut was heard.
 #[derive(Clone, Copy, Debug)]
 pub enum Phase {
     Before,
@@ -10,11 +10,11 @@ pub enum Phase {
     After,
 }
 
-/// Why an entry wasn't taken. Nothing changed.
+/// Why the judge didn't take an entry. Nothing changed.
 #[derive(Clone, Copy, Debug, Error)]
 pub enum JudgeFault {
-    /// No whole journal goes on like this. The phase and the last tenure's number, 0 where there is none,
-    /// say where the journal stood.
+    /// No whole journal goes on like this. The phase and the last tenure's number, or 0 if there is none, say
+    /// where the journal stood.
     #[error("a stray entry behind tenure {tenure}")]
     Stray { phase: Phase, tenure: u32 },
     #[error("out of memory")]

@@ -2,15 +2,15 @@
 ghost use Rattle.std.specs.Prelude.{◌≡◌, ℕ, ◌+◌, ◌^◌, ◌<◌, ◌≤◌, ◌∷◌, ◌&&◌, ◌||◌, ◌==◌, true, false, length, nat_eq, Option, OnOk, OnErr, if◌then◌else◌};
 ghost use Rattle.dsql_driver.specs.Fits as fit;
 ghost use Rattle.dsql_driver.specs.Kinds as kind;
-ghost use Rattle.dsql_journal.specs.Readers.{last_tenure, handles, cursors, begun, begins as begins_entry};
+ghost use Rattle.dsql_tenure_journal.specs.Readers.{last_tenure, handles, cursors, begun, begins as begins_entry};
 ghost use Rattle.dsql_tenure.specs.Beginnings.{is_beginning_of};
 ghost use Rattle.dsql_tenure.specs.Flags.{bad_with};
 ghost use Rattle.indexmap.specs.IndexSet.{contains, spare, index_set_len};
 
 use crate::heard::{begins, hear_cursors, hear_handles, hear_open};
 use crate::tables::Tables;
-use dsql_asked::{Cursor, Handle};
-use dsql_journal::Entry;
+use dsql_tenure_asked::{Cursor, Handle};
+use dsql_tenure_journal::Entry;
 use dsql_value::Memory;
 use indexmap::IndexSet;
 
@@ -18,7 +18,7 @@ use indexmap::IndexSet;
 impl Tables {
     ghost use Rattle.dsql_tenure.specs.Tables.{past, Stands};
 
-    /// One entry more, which may follow.
+    /// Hears one more entry, which may follow.
     pub fn hear(&mut self, entry: &Entry)
         requires stands { Stands self.old }
         requires follows { is_beginning_of self.old.conn (entry.now ∷ past self.old) ≡ true }
@@ -44,7 +44,7 @@ impl Tables {
         self.past = past;
     }
 
-    /// Takes memory for so many entries more, unless it is there.
+    /// Takes memory for this many more entries, unless there is enough.
     pub fn reserve(&mut self, entries: u32) -> Result<(), Memory>
         requires { Stands self.old }
         ensures stands { Stands self.new }
@@ -67,23 +67,24 @@ impl Tables {
         Ok(())
     }
 
-    /// How many handles and cursors are live and how many transactions were begun.
+    /// Returns how many handles and cursors are live, plus how many transactions were begun.
     pub fn held(&self) -> u64
         requires { Stands self.now }
-        ensures { result ≡ length (handles (past self.now)) + length (cursors (past self.now)) + length (begun (past self.now)) }
+        ensures { result ≡ length (handles (past self.now)) + length (cursors (past self.now)) + length
+            (begun (past self.now)) }
     {
         count_live(&self.handles, &self.cursors) + self.begun.len() as u64
     }
 }
 
-/// A Connect answered Bad or Fail.
+/// Returns whether the entry is a Connect answered Bad or Fail.
 fn was_refused(entry: &Entry) -> bool
     ensures { result ≡ (kind.is_connect entry.now.call && fit.is_failure entry.now.answer) }
 {
     entry.call.is_connect() && entry.answer.is_failure()
 }
 
-/// The tenure of the first Bad answer, with one entry more.
+/// Returns the tenure of the first Bad answer, with one entry more.
 fn bad_with(first: Option<u32>, entry: &Entry) -> Option<u32>
     ensures { result ≡ bad_with first entry.now }
 {
@@ -94,12 +95,15 @@ fn bad_with(first: Option<u32>, entry: &Entry) -> Option<u32>
     }
 }
 
-/// Notes a transaction that was begun.
+/// Records a transaction that was begun.
 fn hear_begun(numbers: &mut IndexSet<u32>, entry: &Entry)
     requires room { 0 < spare numbers.old }
     requires new { begins_entry entry.now ≡ true → contains nat_eq numbers.old entry.now.tx ≡ false }
-    ensures numbers { (n : ℕ) → contains nat_eq numbers.new n ≡ (if begins_entry entry.now then ((entry.now.tx == n) || contains nat_eq numbers.old n) else contains nat_eq numbers.old n) }
-    ensures count { index_set_len numbers.new ≡ (if begins_entry entry.now then index_set_len numbers.old + 1 else index_set_len numbers.old) }
+    ensures numbers { (n : ℕ) → contains nat_eq numbers.new n
+        ≡ (if begins_entry entry.now then ((entry.now.tx == n)
+        || contains nat_eq numbers.old n) else contains nat_eq numbers.old n) }
+    ensures count { index_set_len numbers.new
+        ≡ (if begins_entry entry.now then index_set_len numbers.old + 1 else index_set_len numbers.old) }
     ensures room { spare numbers.old ≤ spare numbers.new + 1 }
 {
     if begins(entry) {
@@ -107,7 +111,8 @@ fn hear_begun(numbers: &mut IndexSet<u32>, entry: &Entry)
     }
 }
 
-/// How many there are. Each takes several bytes, so that there are fewer than 2^62.
+/// Returns how many handles and cursors there are. Each takes several bytes, so there are fewer than 2^62 of
+/// each.
 fn count_live(handles: &[Handle], cursors: &[Cursor]) -> u64
     ensures sum { result ≡ length handles.now + length cursors.now }
     ensures small { result < 2 ^ 63 }

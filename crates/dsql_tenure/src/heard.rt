@@ -1,14 +1,14 @@
-//! What one entry more changes in the tables.
+//! How one more entry changes the tables.
 ghost use Rattle.std.specs.Prelude.{◌≡◌, ◌+◌, ◌<◌, ◌≤◌, ◌∷◌, ◌&&◌, not, ◌==◌, vec_len, vec_capacity, map, filter};
-ghost use Rattle.dsql_journal.specs.Readers.{begins};
+ghost use Rattle.dsql_tenure_journal.specs.Readers.{begins};
 ghost use Rattle.dsql_tenure.specs.Heard as heard;
 ghost use Rattle.dsql_tenure.specs.Open.{open_after};
 
-use dsql_asked::{Cursor, Handle};
 use dsql_driver::{DriverAnswer, DriverCall};
-use dsql_journal::Entry;
+use dsql_tenure_asked::{Cursor, Handle};
+use dsql_tenure_journal::Entry;
 
-/// The handle that a Prepare was answered.
+/// Returns the handle that the driver answered to a Prepare.
 fn prepared_by(entry: &Entry) -> Option<u32>
     ensures { result ≡ heard.prepared_by entry.now.call entry.now.answer }
 {
@@ -18,7 +18,7 @@ fn prepared_by(entry: &Entry) -> Option<u32>
     }
 }
 
-/// The handle that is closed.
+/// Returns the handle that is closed.
 fn closed_by(entry: &Entry) -> Option<u32>
     ensures { result ≡ heard.closed_by entry.now.call }
 {
@@ -28,7 +28,7 @@ fn closed_by(entry: &Entry) -> Option<u32>
     }
 }
 
-/// The cursor that a Query was answered.
+/// Returns the cursor that the driver answered to a Query.
 fn opened_by(entry: &Entry) -> Option<u32>
     ensures { result ≡ heard.opened_by entry.now.call entry.now.answer }
 {
@@ -38,7 +38,7 @@ fn opened_by(entry: &Entry) -> Option<u32>
     }
 }
 
-/// The number of columns that an answer has.
+/// Returns the number of columns in an answer.
 fn columns_of(answer: &DriverAnswer) -> usize
     ensures { result ≡ heard.columns_of answer.now }
 {
@@ -48,7 +48,7 @@ fn columns_of(answer: &DriverAnswer) -> usize
     }
 }
 
-/// The cursor whose rows are closed.
+/// Returns the cursor that is closed.
 fn freed_by(entry: &Entry) -> Option<u32>
     ensures { result ≡ heard.freed_by entry.now.call }
 {
@@ -58,7 +58,7 @@ fn freed_by(entry: &Entry) -> Option<u32>
     }
 }
 
-/// The cursor whose rows are over.
+/// Returns the cursor that has no further row.
 fn finished_by(entry: &Entry) -> Option<u32>
     ensures { result ≡ heard.finished_by entry.now.call entry.now.answer }
 {
@@ -68,10 +68,11 @@ fn finished_by(entry: &Entry) -> Option<u32>
     }
 }
 
-/// A handle that was given is live, and one that was closed isn't.
+/// Adds a handle that was given to the live ones, and removes one that was closed.
 pub fn hear_handles(handles: &mut Vec<Handle>, entry: &Entry)
     requires { vec_len handles.old < vec_capacity handles.old }
-    ensures items { handles.new.items ≡ heard.handles_with (heard.prepared_by entry.now.call entry.now.answer) (heard.closed_by entry.now.call) entry.now handles.old.items }
+    ensures items { handles.new.items ≡ heard.handles_with (heard.prepared_by entry.now.call entry.now.answer)
+        (heard.closed_by entry.now.call) entry.now handles.old.items }
     ensures len { vec_len handles.new ≤ vec_len handles.old + 1 }
     ensures capacity { vec_capacity handles.new ≡ vec_capacity handles.old }
 {
@@ -98,10 +99,13 @@ fn drop_handle(handles: &mut Vec<Handle>, number: u32)
     handles.retain(|handle| handle.number != number);
 }
 
-/// A cursor that was given is live, one that was closed isn't, and one with no further row is over.
+/// Adds a cursor that was given to the live ones, removes one that was closed, and marks one without a further
+/// row as over.
 pub fn hear_cursors(cursors: &mut Vec<Cursor>, entry: &Entry)
     requires { vec_len cursors.old < vec_capacity cursors.old }
-    ensures items { cursors.new.items ≡ heard.cursors_with (heard.opened_by entry.now.call entry.now.answer) (heard.freed_by entry.now.call) (heard.finished_by entry.now.call entry.now.answer) entry.now cursors.old.items }
+    ensures items { cursors.new.items ≡ heard.cursors_with (heard.opened_by entry.now.call entry.now.answer)
+        (heard.freed_by entry.now.call)
+        (heard.finished_by entry.now.call entry.now.answer) entry.now cursors.old.items }
     ensures len { vec_len cursors.new ≤ vec_len cursors.old + 1 }
     ensures capacity { vec_capacity cursors.new ≡ vec_capacity cursors.old }
 {
@@ -130,7 +134,7 @@ fn drop_cursor(cursors: &mut Vec<Cursor>, number: u32)
     cursors.retain(|cursor| cursor.number != number);
 }
 
-/// The same cursor, over if it has that number.
+/// Returns the cursor, over if it has that number.
 fn over_if(cursor: Cursor, number: u32) -> Cursor
     ensures { result ≡ heard.over_if number cursor }
 {
@@ -160,7 +164,7 @@ fn end_each(cursors: &mut [Cursor], number: u32)
     }
 }
 
-/// A transaction that was begun is open, and one with its Commit or Rollback isn't.
+/// Adds a transaction that was begun to the open ones, and removes one that has its Commit or Rollback.
 pub fn hear_open(numbers: &mut Vec<u32>, entry: &Entry)
     requires { vec_len numbers.old < vec_capacity numbers.old }
     ensures items { numbers.new.items ≡ open_after entry.now numbers.old.items }
@@ -174,7 +178,7 @@ pub fn hear_open(numbers: &mut Vec<u32>, entry: &Entry)
     }
 }
 
-/// A Begin answered Done.
+/// Returns whether the entry is a Begin answered Done.
 pub fn begins(entry: &Entry) -> bool
     ensures { result ≡ begins entry.now }
 {
@@ -189,7 +193,7 @@ fn drop_number(numbers: &mut Vec<u32>, number: u32)
     numbers.retain(|other| *other != number);
 }
 
-/// Puts an element first, where there is room.
+/// Puts an element first. There must be room for it.
 fn put_first<T: Drop>(values: &mut Vec<T>, value: T)
     requires { vec_len values.old < vec_capacity values.old }
     ensures items { values.new.items ≡ value ∷ values.old.items }

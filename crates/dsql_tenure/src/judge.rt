@@ -1,16 +1,18 @@
 ghost use Rattle.std.specs.Prelude.{◌≡◌, ◌+◌, ◌≤◌, ◌∷◌, ◌↔◌, [], IsTrue, OnOk, OnErr, IfErr};
-ghost use Rattle.dsql_journal.specs.Journal.{is_whole};
+ghost use Rattle.dsql_tenure_journal.specs.Journal.{is_whole};
 ghost use Rattle.dsql_tenure.specs.Beginnings.{IsBeginningOf};
 
 use crate::fault::{JudgeFault, Phase};
 use crate::tables::Tables;
-use dsql_journal::{Entry, Permit};
+use dsql_tenure_journal::{Entry, Permit};
 use dsql_value::Memory;
 use std::alloc::Global;
 use std::marker::Model;
 
-/// The judge of one connection's journal. Contracts see its connection, the journal so far, the newest
-/// entry first, and for how many entries it has memory.
+/// The judge of one connection's journal.
+///
+/// Contracts see its connection, the journal so far, the newest entry first, and for how many entries it has
+/// memory.
 #[derive(Drop)]
 pub struct Judge {
     tables: Tables,
@@ -23,7 +25,11 @@ impl Model for Judge {
 
     ghost use Rattle.dsql_tenure.specs.Tables.{past, Stands};
 
-    ghost view = { λ judge. record { conn = judge.tables.conn; journal = past judge.tables; spare = judge.tables.room } };
+    ghost view = { λ judge. record {
+      conn = judge.tables.conn;
+      journal = past judge.tables;
+      spare = judge.tables.room;
+    } };
 
     ghost invariant = { λ judge. Stands judge.tables };
 }
@@ -31,7 +37,7 @@ impl Model for Judge {
 impl Judge {
     ghost use Rattle.dsql_tenure.specs.Judged.{Refuses, MaySend, kept};
 
-    /// The judge of a connection that nothing was heard of yet. It takes no memory.
+    /// Returns the judge of a connection without entries. Takes no memory.
     pub fn new(alloc: Global, conn: u32) -> Judge
         ensures conn { result.conn ≡ conn }
         ensures journal { result.journal ≡ [] }
@@ -64,21 +70,21 @@ impl Judge {
         Ok(())
     }
 
-    /// Each answer that fits the permit's call at its place would be accepted.
+    /// Returns whether the judge would accept each answer that fits the permit's call at its place.
     pub fn may_send(&self, permit: &Permit) -> bool
         ensures { IsTrue result ↔ MaySend self.now permit.now }
     {
         self.tables.may_send(permit)
     }
 
-    /// The journal is whole.
+    /// Returns whether the journal is whole.
     pub fn may_stop(&self) -> bool
         ensures { result ≡ is_whole self.now.journal }
     {
         self.tables.refused || self.tables.shut
     }
 
-    /// Takes memory for so many entries more. The room that it has is enough where it answers Ok.
+    /// Takes memory for this many more entries. If it returns `Ok`, the judge has room for them.
     pub fn reserve(&mut self, calls: u32) -> Result<(), Memory>
         ensures ok { OnOk result (calls ≤ self.new.spare) }
         ensures journal { self.new.journal ≡ self.old.journal }
@@ -88,7 +94,7 @@ impl Judge {
         self.tables.reserve(calls)
     }
 
-    /// How many handles and cursors are live, and how many transactions were begun.
+    /// Returns how many handles and cursors are live, plus how many transactions were begun.
     pub fn held(&self) -> u64
         ensures { result ≡ kept self.now.journal }
     {

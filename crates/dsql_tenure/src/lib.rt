@@ -1,5 +1,5 @@
-//! The judge of a connection's journal: it hears the entries one at a time, and accepts exactly those
-//! that keep the journal a beginning of a whole one.
+//! The judge of a connection's journal. It hears the entries one at a time, and accepts exactly those that keep
+//! the journal a beginning of a whole one.
 #![tactic(auto)]
 
 mod accepts;
@@ -15,6 +15,6 @@ mod tables;
 mod tenure;
 mod transaction;
 
-pub use dsql_journal::{Entry, Owner, Permit};
+pub use dsql_tenure_journal::{Entry, Owner, Permit};
 pub use fault::{JudgeFault, Phase};
 pub use judge::Judge;

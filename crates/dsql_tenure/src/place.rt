@@ -1,9 +1,9 @@
 ghost use Rattle.std.specs.Prelude.{◌≡◌};
-ghost use Rattle.dsql_journal.specs.Tenure.{place};
+ghost use Rattle.dsql_tenure_journal.specs.Tenure.{place};
 
 use dsql_driver::{DriverCall, Input};
 
-/// The place of a call in the order in which a call on the database works, 0 for none.
+/// Returns the place of a call in the order in which a call on the database works, or 0 if it has none.
 pub fn place(call: &DriverCall) -> u8
     ensures { result ≡ place call.now }
 {

@@ -1,18 +1,17 @@
-//! The rules of a journal, each by the tables: what is asked of the entry that comes next, whatever it
-//! was answered.
+//! The rules of a journal, each by the tables. They say which entries may come next, whatever their answers.
 ghost use Rattle.std.specs.Prelude.{◌≡◌, ◌<◌, ◌≤◌, ◌&&◌, ◌||◌, ◌==◌, not, nat_lt, Bool, true, IsTrue};
 ghost use Rattle.std.specs.List.{list_all, list_any};
-ghost use Rattle.dsql_journal.specs.HandlesAndCursors.{keeps_handles_and_cursors};
+ghost use Rattle.dsql_tenure_journal.specs.HandlesAndCursors.{keeps_handles_and_cursors};
 ghost use Rattle.dsql_driver.specs.Kinds as driver_kind;
-ghost use Rattle.dsql_journal.specs.Readers as told;
-ghost use Rattle.dsql_journal.specs.Readers.{last_tenure};
-ghost use Rattle.dsql_journal.specs.Tenure as tenure;
-ghost use Rattle.dsql_journal.specs.Transaction as transaction;
-ghost use Rattle.dsql_journal.specs.WholeJournal as whole;
-ghost use Rattle.dsql_asked.specs.Asked.{entry_like};
+ghost use Rattle.dsql_tenure_journal.specs.Readers as told;
+ghost use Rattle.dsql_tenure_journal.specs.Readers.{last_tenure};
+ghost use Rattle.dsql_tenure_journal.specs.Tenure as tenure;
+ghost use Rattle.dsql_tenure_journal.specs.Transaction as transaction;
+ghost use Rattle.dsql_tenure_journal.specs.WholeJournal as whole;
+ghost use Rattle.dsql_tenure_asked.specs.Asked.{entry_like};
 
 use crate::tables::Tables;
-use dsql_asked::{Asked, Left, no_cursor_of_tenure, serves_cursor, serves_handle};
+use dsql_tenure_asked::{Asked, Left, no_cursor_of_tenure, serves_cursor, serves_handle};
 
 /// The order of a whole journal.
 #[tactic(auto, unfolding(crate::specs::Tables::Stands))]
@@ -20,7 +19,7 @@ impl Tables {
     ghost use Rattle.dsql_tenure.specs.Tables.{past, Stands};
     ghost use Rattle.dsql_tenure.specs.Parts.{keeps_order, goes_on, begins_well, rises, keeps_bad};
 
-    /// Whether something was answered Bad.
+    /// Returns whether some entry was answered Bad.
     pub fn went_bad(&self) -> bool
         requires { Stands self.now }
         ensures { result ≡ told.went_bad (past self.now) }
@@ -28,7 +27,7 @@ impl Tables {
         self.bad_tenure.is_some()
     }
 
-    /// The tenure could end here.
+    /// Returns whether the tenure could end here.
     pub fn is_whole_tenure(&self, number: u32) -> bool
         requires stands { Stands self.now }
         requires last { last_tenure (past self.now) ≤ number }
@@ -43,7 +42,7 @@ impl Tables {
         left.could_end(number, self.went_bad())
     }
 
-    /// No cursor of that tenure is live.
+    /// Returns whether no cursor of that tenure is live.
     pub fn has_closed_cursors(&self, number: u32) -> bool
         requires { Stands self.now }
         ensures { result ≡ tenure.has_closed_cursors number (past self.now) }
@@ -51,7 +50,7 @@ impl Tables {
         no_cursor_of_tenure(&self.cursors, number)
     }
 
-    /// All that is said of the order of a whole journal.
+    /// Returns whether the entry keeps all rules for the order of a whole journal.
     pub fn keeps_whole_journal(&self, asked: &Asked<'_>) -> bool
         requires stands { Stands self.now }
         requires conn { asked.now.conn ≡ self.now.conn }
@@ -67,7 +66,7 @@ impl Tables {
         self.goes_on() && self.begins_well(asked) && self.rises(asked)
     }
 
-    /// There is something left to be heard.
+    /// Returns whether something is left to be heard.
     fn goes_on(&self) -> bool
         requires { Stands self.now }
         ensures { result ≡ goes_on (past self.now) }
@@ -75,7 +74,7 @@ impl Tables {
         !self.refused && !self.shut
     }
 
-    /// Connect is the first entry, in tenure 1, and only the first.
+    /// Returns whether Connect is the first entry, in tenure 1, and only the first.
     fn begins_well(&self, asked: &Asked<'_>) -> bool
         requires { Stands self.now }
         ensures { result ≡ begins_well (past self.now) (entry_like asked.now) }
@@ -87,7 +86,7 @@ impl Tables {
         }
     }
 
-    /// Tenures are numbered upward, and the last one is whole before another begins.
+    /// Returns whether tenures are numbered upward and the last one is whole before another begins.
     fn rises(&self, asked: &Asked<'_>) -> bool
         requires { Stands self.now }
         ensures { result ≡ rises (past self.now) (entry_like asked.now) }
@@ -96,7 +95,9 @@ impl Tables {
             || self.tenure < asked.tenure && self.is_whole_tenure(self.tenure)
     }
 
-    /// After a Bad answer nothing is tidied, and no tenure begins but that of Shut; after a Valid answered
+    /// Returns whether the entry keeps the rules for Bad and Invalid answers.
+    ///
+    /// After a Bad answer nothing is tidied, and no tenure begins except that of Shut. After a Valid answered
     /// Invalid there is only Shut.
     fn keeps_bad(&self, asked: &Asked<'_>) -> bool
         requires { Stands self.now }
@@ -131,7 +132,7 @@ impl Tables {
     ghost use Rattle.dsql_tenure.specs.Tables.{past, Stands};
     ghost use Rattle.dsql_tenure.specs.Parts.{keeps_handle, keeps_cursor};
 
-    /// All that is said of handles and cursors.
+    /// Returns whether the entry keeps all rules for handles and cursors.
     pub fn keeps_handles_and_cursors(&self, asked: &Asked<'_>) -> bool
         requires { Stands self.now }
         ensures { result ≡ keeps_handles_and_cursors (past self.now) (entry_like asked.now) }
@@ -160,9 +161,10 @@ impl Tables {
     }
 }
 
-/// A Reset, Valid, CloseStmt or CloseRows.
+/// Returns whether the call is a Reset, Valid, CloseStmt or CloseRows.
 fn tidies(asked: &Asked<'_>) -> bool
-    ensures { result ≡ (driver_kind.is_reset asked.now.call.now || driver_kind.is_valid asked.now.call.now || driver_kind.is_close_stmt asked.now.call.now || driver_kind.is_close_rows asked.now.call.now) }
+    ensures { result ≡ (driver_kind.is_reset asked.now.call.now || driver_kind.is_valid asked.now.call.now
+        || driver_kind.is_close_stmt asked.now.call.now || driver_kind.is_close_rows asked.now.call.now) }
 {
     asked.call.is_reset()
         || asked.call.is_valid()

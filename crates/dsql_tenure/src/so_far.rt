@@ -1,44 +1,44 @@
-//! What is kept of the tenure under way.
+//! What the judge keeps of the tenure under way.
 ghost use Rattle.std.specs.Prelude.{◌≡◌, ◌<◌, ◌&&◌, ◌||◌, not, List, [], ◌∷◌};
 ghost use Rattle.dsql_driver.specs.Fits as fit;
-ghost use Rattle.dsql_journal.specs.declared.entry.Entry.{Entry};
+ghost use Rattle.dsql_tenure_journal.specs.declared.entry.Entry.{Entry};
 ghost use Rattle.dsql_driver.specs.Kinds as kind;
-ghost use Rattle.dsql_journal.specs.Tenure as tenure;
+ghost use Rattle.dsql_tenure_journal.specs.Tenure as tenure;
 
 use crate::place::place;
-use dsql_journal::{Entry, Owner};
+use dsql_tenure_journal::{Entry, Owner};
 
 /// The handles that the Prepares of a tenure gave.
 #[derive(Clone, Copy)]
 pub enum Prepared {
-    /// Nothing was prepared.
+    /// The tenure prepared nothing.
     Nothing,
-    /// Each gave this one.
+    /// Each Prepare gave this handle.
     Handle(u32),
-    /// One gave none, or they gave different ones.
+    /// One Prepare gave no handle, or two gave different ones.
     Otherwise,
 }
 
-/// What is kept of the entries of one tenure.
+/// What the judge keeps of the entries of one tenure.
 #[derive(Clone, Copy)]
 pub struct SoFar {
-    /// Its owner, where it has an entry.
+    /// The owner of the tenure, if it has an entry.
     pub owner: Option<Owner>,
-    /// It has a Valid.
+    /// The tenure has a Valid.
     pub tested: bool,
     /// A Reset was answered Bad.
     pub fell: bool,
-    /// Something was answered Bad.
+    /// Some entry was answered Bad.
     pub bad: bool,
     pub pinged: bool,
-    /// It has an entry beside Reset and Valid.
+    /// The tenure has an entry beside Reset and Valid.
     pub worked: bool,
-    /// The last place, in the order in which a call on the database works, that was taken.
+    /// The last place that was taken, in the order in which a call on the database works.
     pub place: u8,
     /// A text was run, and the driver didn't skip it.
     pub ran: bool,
     pub prepared: Prepared,
-    /// A Begin was refused outside transactions.
+    /// A Begin outside transactions was refused.
     pub refused: bool,
 }
 
@@ -47,7 +47,7 @@ impl SoFar {
     ghost use Rattle.dsql_driver.specs.Kinds.{is_prepare, given_handle};
     ghost use Rattle.dsql_tenure.specs.SoFar.{so_far, prepared_with};
 
-    /// Of a tenure that has no entry.
+    /// Returns what is kept of a tenure without entries.
     pub fn nothing() -> SoFar
         ensures { result ≡ so_far [] }
     {
@@ -65,16 +65,17 @@ impl SoFar {
         }
     }
 
-    /// The last place with one entry more.
+    /// Returns the last place, with one entry more.
     fn place_with(&self, entry: &Entry) -> u8
         ensures { result ≡ max (tenure.place entry.now.call) self.now.place }
     {
         place(&entry.call).max(self.place)
     }
 
-    /// What was prepared with one entry more.
+    /// Returns what was prepared, with one entry more.
     fn prepared_with(&self, entry: &Entry) -> Prepared
-        ensures { result ≡ (if is_prepare entry.now.call then prepared_with (given_handle entry.now.answer) self.now.prepared else self.now.prepared) }
+        ensures { result ≡ (if is_prepare entry.now.call then prepared_with
+            (given_handle entry.now.answer) self.now.prepared else self.now.prepared) }
     {
         if !entry.call.is_prepare() {
             return self.prepared;
@@ -86,7 +87,7 @@ impl SoFar {
         }
     }
 
-    /// With one entry more.
+    /// Returns what is kept, with one entry more.
     pub fn then(self, entry: &Entry) -> SoFar
         ensures { (earlier : List Entry) → self ≡ so_far earlier → result ≡ so_far (entry.now ∷ earlier) }
     {
@@ -105,28 +106,28 @@ impl SoFar {
     }
 }
 
-/// A Reset answered Bad.
+/// Returns whether the entry is a Reset answered Bad.
 fn falls(entry: &Entry) -> bool
     ensures { result ≡ (kind.is_reset entry.now.call && kind.is_bad entry.now.answer) }
 {
     entry.call.is_reset() && entry.answer.is_bad()
 }
 
-/// An entry beside Reset and Valid.
+/// Returns whether the entry is neither a Reset nor a Valid.
 fn is_body(entry: &Entry) -> bool
     ensures { result ≡ tenure.is_body entry.now }
 {
     !(entry.call.is_reset() || entry.call.is_valid())
 }
 
-/// A run of a text that the driver didn't skip.
+/// Returns whether the entry ran a text and the driver didn't skip it.
 fn ran(entry: &Entry) -> bool
     ensures { result ≡ (kind.runs_text entry.now.call && not (fit.is_skip entry.now.answer)) }
 {
     entry.call.runs_text() && !entry.answer.is_skip()
 }
 
-/// A Begin answered Bad or Fail outside transactions.
+/// Returns whether the entry is a Begin outside transactions answered Bad or Fail.
 fn is_refused_begin(entry: &Entry) -> bool
     ensures { result ≡ tenure.is_refused_begin entry.now }
 {

@@ -2,20 +2,21 @@
 ghost use Rattle.std.specs.Prelude.{◌≡◌, ◌+◌, ◌<◌, ◌≤◌, ◌∷◌, [], OnOk, OnErr};
 
 use crate::so_far::SoFar;
-use dsql_asked::{Cursor, Handle};
-use dsql_journal::Entry;
-use dsql_past::Past;
+use dsql_tenure_asked::{Cursor, Handle};
+use dsql_tenure_journal::Entry;
 use dsql_value::Memory;
+use dsql_value_past::Past;
 use indexmap::IndexSet;
 use std::alloc::Global;
 
-/// What is kept of a journal. No entry of it is: the work of one more grows with what is live.
+/// What the judge keeps of a journal. It keeps no entry, so the work for one more entry grows with what is
+/// live.
 #[derive(Drop)]
 pub struct Tables {
     /// The journal itself, for proofs alone.
     pub past: Past<Entry>,
     pub conn: u32,
-    /// The number of the last tenure, and what is kept of it.
+    /// The number of the last tenure, and what is kept of that tenure.
     pub tenure: u32,
     pub so_far: SoFar,
     /// The Connect was answered Bad or Fail.
@@ -32,7 +33,7 @@ pub struct Tables {
     pub unended: Vec<u32>,
     /// All transactions that were begun.
     pub begun: IndexSet<u32>,
-    /// For how many more entries there is memory.
+    /// How many more entries there is memory for.
     pub room: u32,
 }
 
@@ -40,7 +41,7 @@ pub struct Tables {
 impl Tables {
     ghost use Rattle.dsql_tenure.specs.Tables.{past, Stands};
 
-    /// Nothing was heard yet.
+    /// Returns the tables of a connection without entries.
     pub fn new(alloc: Global, conn: u32) -> Tables
         ensures stands { Stands result }
         ensures past { past result ≡ [] }

@@ -1,25 +1,25 @@
-//! The shape of a tenure, by the tables: what is asked of the entry that comes next.
+//! The shape of a tenure, by the tables. It says which entries may come next.
 ghost use Rattle.std.specs.Prelude.{◌≡◌, ◌<◌, ◌≤◌, ◌&&◌, ◌||◌, ◌==◌, not, nat_lt, true};
 ghost use Rattle.std.specs.List.{list_all};
-ghost use Rattle.dsql_journal.specs.HandlesAndCursors.{keeps_handles_and_cursors as keeps_uses};
+ghost use Rattle.dsql_tenure_journal.specs.HandlesAndCursors.{keeps_handles_and_cursors as keeps_uses};
 ghost use Rattle.dsql_driver.specs.Kinds as kind;
-ghost use Rattle.dsql_journal.specs.Readers.{last_tenure, of_tenure};
-ghost use Rattle.dsql_journal.specs.Tenure as rule;
-ghost use Rattle.dsql_asked.specs.Asked.{entry_like};
+ghost use Rattle.dsql_tenure_journal.specs.Readers.{last_tenure, of_tenure};
+ghost use Rattle.dsql_tenure_journal.specs.Tenure as rule;
+ghost use Rattle.dsql_tenure_asked.specs.Asked.{entry_like};
 ghost use Rattle.dsql_tenure.specs.TenureParts as part;
 
 use crate::place::place;
 use crate::so_far::{Prepared, SoFar};
 use crate::tables::Tables;
-use dsql_asked::{Asked, Handle, Outcome};
-use dsql_journal::Owner;
+use dsql_tenure_asked::{Asked, Handle, Outcome};
+use dsql_tenure_journal::Owner;
 
 #[tactic(auto, unfolding(crate::specs::Tables::Stands))]
 impl Tables {
     ghost use Rattle.dsql_tenure.specs.Tables.{past, Stands};
     ghost use Rattle.dsql_tenure.specs.SoFar.{so_far};
 
-    /// What is kept of the last tenure, or of one that is to come.
+    /// Returns what is kept of the last tenure, or of one that is to come.
     pub fn so_far_of(&self, number: u32) -> SoFar
         requires stands { Stands self.now }
         requires last { last_tenure (past self.now) ≤ number }
@@ -32,7 +32,7 @@ impl Tables {
         }
     }
 
-    /// All that is said of a tenure.
+    /// Returns whether the entry keeps all rules of a tenure.
     pub fn keeps_tenure(&self, asked: &Asked<'_>) -> bool
         requires stands { Stands self.now }
         requires last { last_tenure (past self.now) ≤ asked.now.tenure }
@@ -43,7 +43,7 @@ impl Tables {
         so_far.keeps_shape(asked) && self.keeps_rest(&so_far, asked)
     }
 
-    /// The tenure is whole at its Valid, and the rest of its entries keep their rules.
+    /// Returns whether the tenure is whole at its Valid and the rest of its entries keep their rules.
     fn keeps_rest(&self, so_far: &SoFar, asked: &Asked<'_>) -> bool
         requires stands { Stands self.now }
         requires last { last_tenure (past self.now) ≤ asked.now.tenure }
@@ -60,7 +60,8 @@ impl Tables {
         !asked.call.is_valid() || self.is_whole_tenure(asked.tenure)
     }
 
-    /// Tests stand in no transaction, a Reset answered Bad is the last, and the body keeps its rules.
+    /// Returns whether tests stand in no transaction, a Reset answered Bad is the last, and the body keeps its
+    /// rules.
     fn keeps_tests_and_body(&self, so_far: &SoFar, asked: &Asked<'_>) -> bool
         requires { Stands self.now }
         ensures { result ≡ part.keeps_tests_and_body so_far.now (past self.now) (entry_like asked.now) }
@@ -98,7 +99,7 @@ impl Tables {
             && asked.tx == 0
     }
 
-    /// The handle that it closes was prepared in this tenure.
+    /// Returns whether the handle that the entry closes was prepared in this tenure.
     fn closes_own(&self, asked: &Asked<'_>) -> bool
         requires { Stands self.now }
         ensures { result ≡ part.closes_own (past self.now) (entry_like asked.now) }
@@ -123,7 +124,7 @@ impl Tables {
 }
 
 impl SoFar {
-    /// The owner is its own, if it has one.
+    /// Returns whether the owner is the tenure's own, if the tenure has one.
     fn has_owner(&self, owner: Owner) -> bool
         ensures { result ≡ part.has_owner self.now.owner owner }
     {
@@ -133,7 +134,7 @@ impl SoFar {
         }
     }
 
-    /// The House sends a single entry, for no call and in no transaction.
+    /// Returns whether the house sends a single entry, for no call and in no transaction.
     fn keeps_house(&self, asked: &Asked<'_>) -> bool
         ensures { result ≡ part.keeps_house self.now (entry_like asked.now) }
     {
@@ -141,7 +142,8 @@ impl SoFar {
             || self.owner.is_none() && is_house_call(asked) && asked.call_no == 0 && asked.tx == 0
     }
 
-    /// The owner, the House, a Reset at the head, and nothing after a Valid.
+    /// Returns whether the entry keeps the rules for the owner, the house, a Reset at the head, and nothing
+    /// after a Valid.
     fn keeps_shape(&self, asked: &Asked<'_>) -> bool
         ensures { result ≡ part.keeps_shape self.now (entry_like asked.now) }
     {
@@ -151,7 +153,7 @@ impl SoFar {
             && !self.tested
     }
 
-    /// A call on the database pings, or works in its order.
+    /// Returns whether a call on the database pings, or works in its order.
     fn goes_in_order(&self, asked: &Asked<'_>) -> bool
         ensures { result ≡ part.goes_in_order self.now (entry_like asked.now) }
     {
@@ -162,7 +164,8 @@ impl SoFar {
         0 < place && !self.pinged && (self.place < place || asked.call.is_next() && self.place == 4)
     }
 
-    /// It prepares or runs a handle only after a skip, runs its own handle, and sends nothing after a Bad.
+    /// Returns whether the entry prepares or runs a handle only after a skip, runs its own handle, and sends
+    /// nothing after a Bad answer.
     fn runs_well(&self, asked: &Asked<'_>) -> bool
         ensures { result ≡ part.runs_well self.now (entry_like asked.now) }
     {
@@ -184,7 +187,8 @@ impl SoFar {
         }
     }
 
-    /// The tenure of transaction n has one refused Begin and nothing else, or only entries of transaction n.
+    /// Returns whether the tenure of transaction n has one refused Begin and nothing else, or only entries of
+    /// transaction n.
     fn keeps_tx(&self, number: u32, asked: &Asked<'_>) -> bool
         ensures { result ≡ part.keeps_tx self.now number (entry_like asked.now) }
     {
@@ -194,7 +198,7 @@ impl SoFar {
 }
 
 impl Prepared {
-    /// The handle may be run.
+    /// Returns whether the handle may be run.
     fn allows(self, number: u32) -> bool
         ensures { result ≡ part.allows self number }
     {
@@ -206,21 +210,24 @@ impl Prepared {
     }
 }
 
-/// Each live handle of that number is of that tenure.
+/// Returns whether each live handle of that number is of that tenure.
 fn is_of_tenure(handles: &[Handle], number: u32, tenure: u32) -> bool
     ensures { result ≡ list_all (λ h. not (h.number == number) || (h.tenure == tenure)) handles.now }
 {
     handles.iter().all(|handle| handle.number != number || handle.tenure == tenure)
 }
 
-/// A Connect, CloseStmt or Shut.
+/// Returns whether the call is a Connect, CloseStmt or Shut.
 fn is_house_call(asked: &Asked<'_>) -> bool
-    ensures { result ≡ (kind.is_connect asked.now.call.now || kind.is_close_stmt asked.now.call.now || kind.is_shut asked.now.call.now) }
+    ensures { result ≡ (kind.is_connect asked.now.call.now || kind.is_close_stmt asked.now.call.now
+        || kind.is_shut asked.now.call.now) }
 {
     asked.call.is_connect() || asked.call.is_close_stmt() || asked.call.is_shut()
 }
 
-/// On a pinned connection, outside transactions, there are pings, work and refused Begins.
+/// Returns whether the entry may stand on a pinned connection.
+///
+/// Outside transactions there are only pings, work and refused Begins.
 fn is_pin_body(asked: &Asked<'_>) -> bool
     ensures { result ≡ rule.is_pin_body (entry_like asked.now) }
 {

@@ -1,21 +1,21 @@
-//! Transactions, by the tables: what is asked of the entry that comes next.
+//! Transactions, by the tables. They say which entries may come next.
 ghost use Rattle.std.specs.Prelude.{◌≡◌, ◌≢◌, ◌<◌, ◌≤◌, ◌&&◌, ◌||◌, ◌==◌, not, true};
 ghost use Rattle.std.specs.List.{list_all};
-ghost use Rattle.dsql_journal.specs.HandlesAndCursors.{keeps_handles_and_cursors as keeps_uses};
-ghost use Rattle.dsql_journal.specs.Readers.{has, begun, cursors};
-ghost use Rattle.dsql_journal.specs.Transaction as rule;
-ghost use Rattle.dsql_journal.specs.WholeJournal.{keeps_whole_journal as keeps_whole};
-ghost use Rattle.dsql_asked.specs.Asked.{entry_like};
+ghost use Rattle.dsql_tenure_journal.specs.HandlesAndCursors.{keeps_handles_and_cursors as keeps_uses};
+ghost use Rattle.dsql_tenure_journal.specs.Readers.{has, begun, cursors};
+ghost use Rattle.dsql_tenure_journal.specs.Transaction as rule;
+ghost use Rattle.dsql_tenure_journal.specs.WholeJournal.{keeps_whole_journal as keeps_whole};
+ghost use Rattle.dsql_tenure_asked.specs.Asked.{entry_like};
 ghost use Rattle.dsql_tenure.specs.Open.{open_in, begins_anew, goes_on_open, keeps_number};
 
 use crate::tables::Tables;
-use dsql_asked::{Asked, Cursor, Outcome};
+use dsql_tenure_asked::{Asked, Cursor, Outcome};
 
 #[tactic(auto, unfolding(crate::specs::Tables::Stands))]
 impl Tables {
     ghost use Rattle.dsql_tenure.specs.Tables.{past, Stands};
 
-    /// All that is said of a transaction.
+    /// Returns whether the entry keeps all rules of a transaction.
     pub fn keeps_transaction(&self, asked: &Asked<'_>) -> bool
         requires stands { Stands self.now }
         requires whole { keeps_whole (past self.now) (entry_like asked.now) ≡ true }
@@ -28,8 +28,10 @@ impl Tables {
         asked.owner.owns_transaction(asked.tx) && self.keeps_number(asked)
     }
 
-    /// A Begin makes a new transaction; a live handle of it may be closed at any time; all else is done while
-    /// it is open.
+    /// Returns whether the entry keeps the rules for the transaction's number.
+    ///
+    /// A Begin makes a new transaction. A live handle of the transaction may be closed at any time. All else is
+    /// done while the transaction is open.
     fn keeps_number(&self, asked: &Asked<'_>) -> bool
         requires { Stands self.now }
         ensures { result ≡ keeps_number (past self.now) (entry_like asked.now) }
@@ -66,7 +68,7 @@ impl Tables {
             && self.ends_without_cursors(asked)
     }
 
-    /// The transaction has no Commit or Rollback.
+    /// Returns whether the transaction has no Commit or Rollback.
     pub fn is_open(&self, number: u32) -> bool
         requires { Stands self.now }
         ensures { result ≡ has number (open_in (past self.now)) }
@@ -89,14 +91,14 @@ impl Tables {
     }
 }
 
-/// The number is in the list.
+/// Returns whether the number is in the list.
 fn has_number(numbers: &[u32], number: u32) -> bool
     ensures { result ≡ has number numbers.now }
 {
     numbers.iter().any(|other| *other == number)
 }
 
-/// No cursor of that transaction is live.
+/// Returns whether no cursor of that transaction is live.
 fn no_cursor_of_transaction(cursors: &[Cursor], number: u32) -> bool
     ensures { result ≡ list_all (λ c. not (c.tx == number)) cursors.now }
 {

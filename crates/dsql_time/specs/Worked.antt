@@ -11,7 +11,7 @@ pub record WorkedCounts : Type 0 where
   pub longest : duration_limit (pos 9223372036854775807) ≡ 9223372036854775807
   pub no_duration : duration_limit (negsuc 0) ≡ 0
 
--- the first number is the open limit
+-- The first number is the open limit.
 pub record WorkedIdleLimits : Type 0 where
   pub no_open_limit : idle_limit 0 2 ≡ 2
   pub lowered : idle_limit 1 2 ≡ 1

@@ -1,12 +1,12 @@
-//! The limits of a connection pool: how many connections may be open or idle, and how long one may live or
-//! idle. After the settings `DB.SetMaxOpenConns`, `DB.SetMaxIdleConns`, `DB.SetConnMaxLifetime` and
+//! The limits of a connection pool: how many connections may be open or idle, and how long one may live or stay
+//! idle. They follow the settings `DB.SetMaxOpenConns`, `DB.SetMaxIdleConns`, `DB.SetConnMaxLifetime` and
 //! `DB.SetConnMaxIdleTime` of Go's package `database/sql`, and the counts that `DBStats` reports of them.
 #![tactic(auto)]
 
+pub mod laws;
+
 ghost use Rattle.std.specs.Prelude.{◌≡◌};
 ghost use Rattle.dsql_time.specs.Limits.{count_limit, duration_limit, has_expired, has_idled_out, idle_limit, standard_max_idle};
-
-pub mod laws;
 
 /// The limits that a pool keeps. Durations are in nanoseconds.
 #[derive(Clone, Copy)]
@@ -15,18 +15,18 @@ pub struct Limits {
     pub max_open: u32,
     /// The most idle connections kept; 0 keeps none.
     pub max_idle: u32,
-    /// How long a connection may live, counted from its making; 0 is no limit.
+    /// How long a connection may live, counted from its opening; 0 is no limit.
     pub lifetime: u64,
     /// How long a connection may stay idle, counted from its return; 0 is no limit.
     pub idle_time: u64,
 }
 
-/// How many idle connections are kept where no other number was set. After the default that Go's documentation gives at
-/// `DB.SetMaxIdleConns`.
+/// How many idle connections are kept if no other number was set. It follows the default that Go's
+/// documentation gives at `DB.SetMaxIdleConns`.
 pub const STANDARD_MAX_IDLE: u32 = 2;
 
-/// The limits of a pool on which nothing was set: two idle connections are kept, and nothing else is
-/// limited. After the defaults that Go's documentation gives at `DB.SetMaxIdleConns` and
+/// Returns the limits of a pool on which nothing was set: two idle connections are kept, and nothing else is
+/// limited. They follow the defaults that Go's documentation gives at `DB.SetMaxIdleConns` and
 /// `DB.SetMaxOpenConns`.
 pub fn standard() -> Limits
     ensures open { result.max_open ≡ 0 }
@@ -42,9 +42,11 @@ pub fn standard() -> Limits
     }
 }
 
-/// The limits with `n` as the most open connections. An `n` of 0 or less is no limit, and one above
-/// 4,294,967,295 counts as that number. An idle limit above a positive open limit comes down to it, and
-/// isn't raised again by a later, higher one. After Go's `DB.SetMaxOpenConns`.
+/// Returns the limits with `n` as the most open connections.
+///
+/// An `n` of 0 or less is no limit, and one above 4,294,967,295 counts as that number. An idle limit above a
+/// positive open limit comes down to it, and a later, higher open limit doesn't raise it again. This follows
+/// Go's `DB.SetMaxOpenConns`.
 pub fn with_open(l: Limits, n: i64) -> Limits
     ensures open { result.max_open ≡ count_limit n }
     ensures idle { result.max_idle ≡ idle_limit (count_limit n) l.max_idle }
@@ -59,9 +61,10 @@ pub fn with_open(l: Limits, n: i64) -> Limits
     }
 }
 
-/// The limits with `n` as the most idle connections kept. An `n` of 0 or less keeps none, one above a
-/// positive open limit becomes that limit, and one above 4,294,967,295 counts as that number. After Go's
-/// `DB.SetMaxIdleConns`.
+/// Returns the limits with `n` as the most idle connections kept.
+///
+/// An `n` of 0 or less keeps none. One above a positive open limit becomes that limit, and one above
+/// 4,294,967,295 counts as that number. This follows Go's `DB.SetMaxIdleConns`.
 pub fn with_idle(l: Limits, n: i64) -> Limits
     ensures open { result.max_open ≡ l.max_open }
     ensures idle { result.max_idle ≡ idle_limit l.max_open (count_limit n) }
@@ -74,8 +77,8 @@ pub fn with_idle(l: Limits, n: i64) -> Limits
     }
 }
 
-/// The limits with `d` nanoseconds as the longest life of a connection. A `d` of 0 or less is no limit.
-/// After Go's `DB.SetConnMaxLifetime`.
+/// Returns the limits with `d` nanoseconds as the longest life of a connection. A `d` of 0 or less is no limit.
+/// This follows Go's `DB.SetConnMaxLifetime`.
 pub fn with_lifetime(l: Limits, d: i64) -> Limits
     ensures open { result.max_open ≡ l.max_open }
     ensures idle { result.max_idle ≡ l.max_idle }
@@ -88,8 +91,8 @@ pub fn with_lifetime(l: Limits, d: i64) -> Limits
     }
 }
 
-/// The limits with `d` nanoseconds as the longest time that a connection stays idle. A `d` of 0 or less is
-/// no limit. After Go's `DB.SetConnMaxIdleTime`.
+/// Returns the limits with `d` nanoseconds as the longest time that a connection stays idle. A `d` of 0 or less
+/// is no limit. This follows Go's `DB.SetConnMaxIdleTime`.
 pub fn with_idle_time(l: Limits, d: i64) -> Limits
     ensures open { result.max_open ≡ l.max_open }
     ensures idle { result.max_idle ≡ l.max_idle }
@@ -102,20 +105,24 @@ pub fn with_idle_time(l: Limits, d: i64) -> Limits
     }
 }
 
-/// Whether a connection made at the moment `created` has lived longer than `limit` at the moment `now`, all
-/// in nanoseconds. One that has lived just as long hasn't expired, and with a limit of 0 none does, nor
-/// where the limit ends past the last moment. After Go's `DB.SetConnMaxLifetime`;
-/// `DBStats.MaxLifetimeClosed` counts the connections closed for it.
+/// Returns whether a connection opened at the moment `created` has lived longer than `limit` at the moment
+/// `now`, all in nanoseconds.
+///
+/// A connection that has lived exactly that long hasn't expired. With a limit of 0 none expires, nor if the
+/// limit ends past the last moment. This follows Go's `DB.SetConnMaxLifetime`; `DBStats.MaxLifetimeClosed`
+/// counts the connections closed for it.
 pub fn expired(created: u64, limit: u64, now: u64) -> bool
     ensures { result ≡ has_expired created limit now }
 {
     limit > 0 && created.saturating_add(limit) < now
 }
 
-/// Whether a connection given back at the moment `returned` has been idle for longer than `limit` at the
-/// moment `now`, all in nanoseconds. One that has been idle just as long hasn't idled out, and with a limit
-/// of 0 none does, nor where the limit ends past the last moment. After Go's `DB.SetConnMaxIdleTime`;
-/// `DBStats.MaxIdleTimeClosed` counts the connections closed for it.
+/// Returns whether a connection given back at the moment `returned` has been idle for longer than `limit` at
+/// the moment `now`, all in nanoseconds.
+///
+/// A connection that has been idle exactly that long hasn't idled out. With a limit of 0 none idles out, nor if
+/// the limit ends past the last moment. This follows Go's `DB.SetConnMaxIdleTime`; `DBStats.MaxIdleTimeClosed`
+/// counts the connections closed for it.
 pub fn idled(returned: u64, limit: u64, now: u64) -> bool
     ensures { result ≡ has_idled_out returned limit now }
 {
@@ -137,7 +144,7 @@ fn duration(d: i64) -> u64
     if d <= 0 { 0 } else { d as u64 }
 }
 
-// An open limit of 0 is none, and so lowers nothing.
+// Returns the idle limit beside an open limit. An open limit of 0 is none, so it lowers nothing.
 fn idle_beside(max_open: u32, max_idle: u32) -> u32
     ensures { result ≡ idle_limit max_open max_idle }
 {

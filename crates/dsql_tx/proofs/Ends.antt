@@ -1,8 +1,8 @@
--- The first end of a transaction stays.
+-- Proves that the first end of a transaction stays.
 use Rattle.std.proofs.Common.{◌≡◌, ℕ, List, [], ◌∷◌, Option, Some, None, refl}
 use Rattle.std.specs.Prelude.{fold}
-use Rattle.dsql_numbered.specs.Numbered.{Numbered, thing_of}
-use Rattle.dsql_numbered.proofs.Kept.{Has, Keeps, kept_beside_new, kept_by_change, kept_by_all}
+use Rattle.dsql_value_numbered.specs.Numbered.{Numbered, thing_of}
+use Rattle.dsql_value_numbered.proofs.Kept.{Has, Keeps, kept_beside_new, kept_by_change, kept_by_all}
 use Rattle.dsql_tx.specs.declared.end.TxEnd.{TxEnd}
 use Rattle.dsql_tx.specs.declared.end.TxEnd.TheVariants.{EndOfRun}
 use Rattle.dsql_tx.specs.declared.tx.Tx.{Tx}

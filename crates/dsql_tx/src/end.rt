@@ -8,13 +8,13 @@ pub enum TxEnd {
     Commit,
     /// Its `Rollback`.
     Rollback,
-    /// The token that it was begun with was cancelled, for this cause.
+    /// The cancellation, for this cause, of the token that it was begun with.
     Cancel(Cause),
-    /// The run is over.
+    /// The end of the run.
     EndOfRun,
 }
 
-/// The transaction was ended before, by this: Go's `sql.ErrTxDone`.
+/// The error that this end had already ended the transaction: Go's `sql.ErrTxDone`.
 #[derive(Clone, Copy, Debug, Error)]
 #[error("sql: transaction has already been committed or rolled back")]
 pub struct TxDone {

@@ -1,4 +1,4 @@
-//! Laws of the table of transactions, and worked ones: each law is the contract of a function that does
+//! Laws of the table of transactions, and worked transactions. Each law is the contract of a function that does
 //! nothing.
 ghost use Rattle.dsql_tx.specs.Laws.{FirstEndStays, EndsAlone};
 ghost use Rattle.dsql_tx.specs.Worked.{WorkedTransactions};
@@ -9,12 +9,12 @@ pub fn the_first_end_stays()
     ensures { FirstEndStays }
 {}
 
-/// An end changes nothing of a transaction but what ended it.
+/// An end changes nothing of a transaction except what ended it.
 pub fn an_end_changes_nothing_else()
     ensures { EndsAlone }
 {}
 
-/// Worked transactions: what is found, and what ended them.
+/// Worked transactions: which are found, and what ended them.
 pub fn worked_transactions()
     ensures { WorkedTransactions }
 {}

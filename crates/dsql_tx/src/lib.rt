@@ -1,5 +1,5 @@
-//! The table of transactions, after `Tx` of Go's package `database/sql`: on which connection each was begun,
-//! and what ended it first.
+//! The table of transactions, each like a `Tx` of Go's package `database/sql`. It records on which connection
+//! each was begun, and what ended it first.
 #![tactic(auto)]
 
 mod end;

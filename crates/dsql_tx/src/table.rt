@@ -8,8 +8,8 @@ use indexmap::IndexMap;
 use std::alloc::Global;
 use std::marker::Model;
 
-/// The transactions that were begun. Contracts see them by their numbers in the order in which they were
-/// begun, and for how many calls there is memory.
+/// The transactions that were begun. Contracts see them with their numbers, in the order in which they were
+/// begun, and see for how many more calls there is memory.
 #[derive(Drop)]
 pub struct Txs {
     txs: IndexMap<u32, Tx>,
@@ -25,11 +25,11 @@ impl Model for Txs {
 }
 
 impl Txs {
-    ghost use Rattle.dsql_numbered.specs.Numbered.{thing_of, was_made, changed, all_changed};
+    ghost use Rattle.dsql_value_numbered.specs.Numbered.{thing_of, was_made, changed, all_changed};
     ghost use Rattle.dsql_tx.specs.Transactions.{begun_on, ended_by, admitted};
     ghost use Rattle.dsql_tx.specs.declared.end.TxEnd.TheVariants.{EndOfRun};
 
-    /// No transactions. It takes no memory.
+    /// Returns a table without transactions. It takes no memory.
     pub fn new(alloc: Global) -> Txs
         ensures { result.txs ≡ [] }
     {
@@ -38,7 +38,7 @@ impl Txs {
         }
     }
 
-    /// Takes memory for so many calls more.
+    /// Reserves memory for this many more calls.
     pub fn reserve(&mut self, calls: u32) -> Result<(), Memory>
         ensures ok { OnOk result (calls ≤ self.new.spare) }
         ensures txs { self.new.txs ≡ self.old.txs }
@@ -48,21 +48,22 @@ impl Txs {
         Ok(())
     }
 
-    /// How many transactions were begun.
+    /// Returns the number of transactions that were begun.
     pub fn held(&self) -> u64
         ensures { result ≡ length self.now.txs }
     {
         self.txs.len() as u64
     }
 
-    /// Whether a transaction was begun under that number.
+    /// Returns true if a transaction was begun under that number.
     pub fn was_made(&self, n: u32) -> bool
         ensures { result ≡ was_made n self.now.txs }
     {
         self.txs.contains_key(&n)
     }
 
-    /// A transaction was begun on a connection in that tenure, with the token of that name if there is one.
+    /// Records that a transaction was begun on a connection in that tenure, with the token of that name if
+    /// there is one.
     pub fn begun(
         &mut self,
         n: u32,
@@ -86,8 +87,8 @@ impl Txs {
         Ok(())
     }
 
-    /// Whether a call on the transaction may go on: nothing has ended it. It takes no memory, nor does
-    /// anything below.
+    /// Fails with `TxDone` if something has ended the transaction, so that a call on it can't go on. This takes
+    /// no memory, and neither does any function below.
     pub fn admit(&self, n: u32) -> Result<(), TxDone>
         requires { was_made n self.now.txs ≡ true }
         ensures { Some result ≡ option_map admitted (thing_of n self.now.txs) }
@@ -95,7 +96,7 @@ impl Txs {
         self.tx(n).admit()
     }
 
-    /// Ends the transaction, if nothing has: the first end is kept.
+    /// Ends the transaction, or fails with `TxDone` if something has already ended it: the first end is kept.
     pub fn end(&mut self, n: u32, by: TxEnd) -> Result<(), TxDone>
         requires { was_made n self.old.txs ≡ true }
         ensures admits { Some result ≡ option_map admitted (thing_of n self.old.txs) }
@@ -108,7 +109,7 @@ impl Txs {
         }
     }
 
-    /// The end of the run ends all transactions that nothing has ended.
+    /// Ends all transactions that nothing has ended, at the end of the run.
     pub fn end_all(&mut self)
         ensures txs { self.new.txs ≡ all_changed (ended_by EndOfRun) self.old.txs }
         ensures spare { self.new.spare ≡ self.old.spare }
@@ -118,7 +119,7 @@ impl Txs {
         }
     }
 
-    /// The connection that the transaction was begun on.
+    /// Returns the connection on which the transaction was begun.
     pub fn conn(&self, n: u32) -> u32
         requires { was_made n self.now.txs ≡ true }
         ensures { Some result ≡ option_map (λ tx. tx.conn) (thing_of n self.now.txs) }
@@ -126,7 +127,7 @@ impl Txs {
         self.tx(n).conn
     }
 
-    /// The tenure of that connection.
+    /// Returns the tenure of that connection in which the transaction was begun.
     pub fn tenure(&self, n: u32) -> u32
         requires { was_made n self.now.txs ≡ true }
         ensures { Some result ≡ option_map (λ tx. tx.tenure) (thing_of n self.now.txs) }
@@ -134,7 +135,7 @@ impl Txs {
         self.tx(n).tenure
     }
 
-    /// The name of the token that the transaction was begun with.
+    /// Returns the name of the token that the transaction was begun with, if there is one.
     pub fn token(&self, n: u32) -> Option<&Txt>
         requires { was_made n self.now.txs ≡ true }
         ensures { Some (option_copied result) ≡ option_map (λ tx. tx.token) (thing_of n self.now.txs) }

@@ -4,8 +4,8 @@ ghost use Rattle.dsql_tx.specs.Transactions.{admitted, ended_by};
 use crate::end::{TxDone, TxEnd};
 use dsql_value::Txt;
 
-/// A transaction that was begun: its connection, the tenure of that, the name of the token that it was begun
-/// with, if there is one, and what ended it.
+/// A transaction that was begun: its connection, the connection's tenure, the name of the token that it was
+/// begun with, if there is one, and what ended it.
 #[derive(Drop)]
 pub struct Tx {
     pub conn: u32,
@@ -15,7 +15,7 @@ pub struct Tx {
 }
 
 impl Tx {
-    /// Nothing has ended it.
+    /// Fails with `TxDone` if something has ended the transaction.
     pub fn admit(&self) -> Result<(), TxDone>
         ensures { result ≡ admitted self.now }
     {
@@ -25,7 +25,7 @@ impl Tx {
         }
     }
 
-    /// Ends it, if nothing has.
+    /// Ends the transaction, or fails with `TxDone` if something has already ended it.
     pub fn end(&mut self, by: TxEnd) -> Result<(), TxDone>
         ensures admits { result ≡ admitted self.old }
         ensures tx { self.new ≡ ended_by by self.old }

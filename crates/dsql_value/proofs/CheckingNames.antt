@@ -1,4 +1,5 @@
--- Names of accepted arguments.
+-- The names of accepted arguments: the proofs go by cases on whether a name is there and whether it begins with
+-- a letter.
 use Rattle.std.proofs.Common.{◌≡◌, ℕ, Bool, true, false, not, List, ◌∙◌, ap, refl}
 use Rattle.std.specs.Prelude.{Option, Some, None, All, IfSome, if◌then◌else◌}
 use Rattle.std.specs.Option.{option_or}
@@ -15,7 +16,7 @@ lettered : (named_ok letter : Bool) (name : List ℕ)
 lettered named_ok true name h = refl
 lettered named_ok false name h = cc
 
--- a name that isn't refused begins with a letter
+-- A name that isn't refused begins with a letter.
 pub name_is_lettered : (named_ok : Bool) (name : Option (List ℕ)) → name_fault named_ok name ≡ None → IfSome name (λ n. begins_with_letter n ≡ true)
 name_is_lettered named_ok None h = tt
 name_is_lettered named_ok (Some name) h = lettered named_ok (begins_with_letter name) name h
@@ -26,7 +27,7 @@ refused : (letter : Bool) (name : List ℕ)
 refused true name h = cc
 refused false name h = cc
 
--- a driver that takes no names gets none
+-- A driver that takes no names gets none.
 pub nameless_name : (name : Option (List ℕ)) → name_fault false name ≡ None → name ≡ None
 nameless_name None h = refl
 nameless_name (Some name) h = absurd (refused (begins_with_letter name) name h)
@@ -50,7 +51,7 @@ accepted_with_names named h =
     ap (λ (name : Option (List ℕ)). option_or (name_fault true name) (value_fault named.arg)) (nameless_name named.name parts.0)
     ∙ parts.1
 
--- a driver that takes names accepts what one without them accepts
+-- A driver that takes names accepts what one without them accepts.
 pub wider : (list : List Named) → first_fault false list ≡ None → first_fault true list ≡ None
 wider list h =
     none_refused true list (All-weaker (IsAccepted false) (IsAccepted true) accepted_with_names list (all_accepted false list h))

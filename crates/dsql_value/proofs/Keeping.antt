@@ -1,4 +1,4 @@
--- The parameters of arguments have their names and values.
+-- The parameters of arguments have their names and values. The proof goes by induction on the list.
 use Rattle.std.proofs.Common.{◌≡◌, List, [], ◌∷◌, ◌++◌, map, ap, refl}
 use Rattle.dsql_value.specs.declared.arg.Named.{Named}
 use Rattle.dsql_value.specs.declared.value.Param.{Param}

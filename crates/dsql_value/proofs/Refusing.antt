@@ -1,4 +1,4 @@
--- The refusal of a list of arguments is that of its first refused one.
+-- A list of arguments has the refusal of its first refused one. Both directions go by induction on the list.
 use Rattle.std.proofs.Common.{◌≡◌, Bool, List, [], ◌∷◌, ◌++◌, ◌∙◌, ap, refl}
 use Rattle.std.specs.Prelude.{Option, Some, None, All}
 use Rattle.std.specs.Option.{option_or}
@@ -8,7 +8,7 @@ use Rattle.dsql_value.specs.declared.arg.ArgFault.{ArgFault}
 use Rattle.dsql_value.specs.Arguments.{arg_fault, first_fault}
 use Rattle.dsql_value.specs.ArgumentLaws.{IsAccepted, IsFirstRefused}
 
--- where neither of two is there, the first isn't, and nor is the second
+-- If `option_or` of two options is `None`, both are `None`.
 pub option_or-none : {X : Type 0} (p q : Option X) → option_or p q ≡ None → (p ≡ None) × (q ≡ None)
 option_or-none None q h = (refl, h)
 option_or-none (Some x) q h = cc
@@ -38,20 +38,20 @@ at_the_head named_ok named rest fault (Some x) own-is h found = record {
 }
 at_the_head named_ok named rest fault None own-is h found = further named_ok named rest fault own-is (found h)
 
--- a list that is refused has a first refused argument
+-- A list that is refused has a first refused argument.
 pub first_refused : (named_ok : Bool) (list : List Named) (fault : ArgFault) → first_fault named_ok list ≡ Some fault → IsFirstRefused named_ok list fault
 first_refused named_ok [] fault h = cc
 first_refused named_ok (named ∷ rest) fault h =
     at_the_head named_ok named rest fault (arg_fault named_ok named) refl h (first_refused named_ok rest fault)
 
--- a list without a refusal has accepted arguments alone
+-- A list without a refusal has accepted arguments alone.
 pub all_accepted : (named_ok : Bool) (list : List Named) → first_fault named_ok list ≡ None → All (IsAccepted named_ok) list
 all_accepted named_ok [] h = All-nil (IsAccepted named_ok)
 all_accepted named_ok (named ∷ rest) h =
     let parts = option_or-none (arg_fault named_ok named) (first_fault named_ok rest) h in
     All-cons (IsAccepted named_ok) named rest parts.0 (all_accepted named_ok rest parts.1)
 
--- accepted arguments in front don't refuse a list
+-- Accepted arguments in front of a list don't change its refusal.
 pub accepted_in_front : (named_ok : Bool) (front back : List Named) → All (IsAccepted named_ok) front → first_fault named_ok (front ++ back) ≡ first_fault named_ok back
 accepted_in_front named_ok [] back h = refl
 accepted_in_front named_ok (named ∷ front) back h =
@@ -59,14 +59,14 @@ accepted_in_front named_ok (named ∷ front) back h =
     ap (λ (own : Option ArgFault). option_or own (first_fault named_ok (front ++ back))) accepted
     ∙ accepted_in_front named_ok front back (All-tail (IsAccepted named_ok) named front h)
 
--- accepted arguments are no refusal
+-- A list of accepted arguments has no refusal.
 pub none_refused : (named_ok : Bool) (list : List Named) → All (IsAccepted named_ok) list → first_fault named_ok list ≡ None
 none_refused named_ok [] h = refl
 none_refused named_ok (named ∷ rest) h =
     ap (λ (own : Option ArgFault). option_or own (first_fault named_ok rest)) (All-head (IsAccepted named_ok) named rest h)
     ∙ none_refused named_ok rest (All-tail (IsAccepted named_ok) named rest h)
 
--- the first refused argument refuses the list
+-- A list has the refusal of its first refused argument.
 pub refused_at : (named_ok : Bool) (list : List Named) (fault : ArgFault) → IsFirstRefused named_ok list fault → first_fault named_ok list ≡ Some fault
 refused_at named_ok list fault found =
     ap (first_fault named_ok) found.stands

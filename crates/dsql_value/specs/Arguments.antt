@@ -11,8 +11,8 @@ use Rattle.dsql_value.specs.declared.value.Value.{Value}
 use Rattle.dsql_value.specs.declared.value.Value.TheVariants as values
 use Rattle.dsql_value.specs.declared.value.Param.{Param}
 
--- the value that a driver gets for an argument that isn't refused: the same number or content, and Nil for a Null
--- form that is empty
+-- Returns the value that a driver gets for an argument that isn't refused: the same number or content, or Nil
+-- for an empty Null form.
 abbrev pub arg_of : Arg → Value
 arg_of args.Nil = values.Nil
 arg_of (args.I8 number) = values.Int number
@@ -35,58 +35,58 @@ arg_of (args.NullU8 number) = option_map_or (λ n. values.Int (pos n)) number va
 arg_of (args.NullBool truth) = option_map_or values.Bool truth values.Nil
 arg_of (args.NullTime moment) = option_map_or values.Time moment values.Nil
 
--- the parameter for an argument: its name, if it has one, and its value
+-- Returns the parameter for an argument: its name, if it has one, and its value.
 abbrev pub param_of : Named → Param
 param_of named = record { name = named.name; value = arg_of named.arg }
 
--- the parameters for the arguments of a call, in their order
+-- Returns the parameters for the arguments of a call, in their order.
 abbrev pub params_of : List Named → List Param
 params_of list = map param_of list
 
--- the largest number that a driver takes
+-- Returns the largest number that a driver takes.
 abbrev pub largest_int : ℕ
 largest_int = 9223372036854775807
 
--- why an argument's value is refused: a number is too large
+-- Returns why an argument's value is refused: its number is too large.
 abbrev pub value_fault : Arg → Option ArgFault
 value_fault (args.U64 number) = if nat_lt largest_int number then Some (faults.HighBit number) else None
 value_fault _ = None
 
--- a name begins with one of the letters from A to Z and from a to z
+-- Is true if a name begins with one of the letters from A to Z and from a to z.
 abbrev pub begins_with_letter : List ℕ → Bool
 begins_with_letter [] = false
 begins_with_letter (first ∷ _) = is_ascii_alphabetic first
 
--- why an argument's name is refused: it is no name, or else the driver takes none
+-- Returns why an argument's name is refused: it isn't a proper name, or otherwise the driver takes no names.
 abbrev pub name_fault : Bool → Option (List ℕ) → Option ArgFault
 name_fault named_ok None = None
 name_fault named_ok (Some name) =
     if not (begins_with_letter name) then Some (faults.BadName name)
     else (if not named_ok then Some (faults.NamedRefused name) else None)
 
--- why an argument is refused: for its name, or else for its value
+-- Returns why an argument is refused: for its name, or otherwise for its value.
 abbrev pub arg_fault : Bool → Named → Option ArgFault
 arg_fault named_ok named = option_or (name_fault named_ok named.name) (value_fault named.arg)
 
--- why the first argument that is refused is refused
+-- Returns the fault of the first argument that is refused.
 abbrev pub first_fault : Bool → List Named → Option ArgFault
 first_fault named_ok [] = None
 first_fault named_ok (named ∷ rest) = option_or (arg_fault named_ok named) (first_fault named_ok rest)
 
--- the largest number of arguments that is told
+-- Returns the largest number of arguments that a refusal reports.
 abbrev pub largest_count : ℕ
 largest_count = 4294967295
 
--- why a number of arguments is refused by a statement that wants so many; -1 stands for any number
+-- Returns why a statement that wants this many arguments refuses their number. -1 stands for any number.
 abbrev pub count_fault : ℤ → ℕ → Option ArgFault
 count_fault (negsuc _) got = None
 count_fault (pos want) got = if want == got then None else Some (faults.NumArgs want (min got largest_count))
 
--- why arguments are refused by a statement that wants so many, of a driver that takes names or doesn't: for the
--- first argument that is refused, or else for their number
+-- Returns why a statement refuses arguments, given the number that it wants and whether the driver takes names.
+-- It gives the fault of the first refused argument, or otherwise the fault of their number.
 abbrev pub fault_of : Bool → ℤ → List Named → Option ArgFault
 fault_of named_ok want list = option_or (first_fault named_ok list) (count_fault want (length list))
 
--- a refusal tells the fault that there is, unless there was no memory
+-- Holds if the refusal reports the fault that there is, or that there was no memory.
 abbrev pub IsFaultOrMemory : Option ArgFault → ArgFault → Type 0
 IsFaultOrMemory fault told = (fault ≡ Some told) ⊎ (told ≡ faults.Memory)

@@ -1,4 +1,4 @@
--- Worked arguments: their values, and what refuses them.
+-- Worked arguments, with their values and their refusals.
 use Rattle.std.specs.Prelude.{◌≡◌, ℕ, pos, negsuc, true, false, List, [], ◌∷◌, Some, None, codes}
 use Rattle.dsql_value.specs.declared.arg.Arg.{Arg}
 use Rattle.dsql_value.specs.declared.arg.Arg.TheVariants as args
@@ -35,7 +35,7 @@ named_one name = record { name = Some name; arg = args.I64 (pos 1) }
 abbrev pub too_large : Named
 too_large = plain (args.U64 18446744073709551615)
 
--- the first number after a Bool is how many inputs the statement has
+-- Worked refusals. The number after the Bool is how many inputs the statement has.
 pub record WorkedRefusals : Type 0 where
   pub none_wanted : fault_of false (pos 0) [] ≡ None
   pub any_number : fault_of false (negsuc 0) (plain args.Nil ∷ plain args.Nil ∷ []) ≡ None
@@ -47,6 +47,8 @@ pub record WorkedRefusals : Type 0 where
   pub no_letters : fault_of true (pos 1) (named_one [] ∷ []) ≡ Some (faults.BadName [])
   pub bad_before_refused : fault_of false (pos 1) (named_one (codes "_d") ∷ []) ≡ Some (faults.BadName (codes "_d"))
   pub argument_before_number : fault_of false (pos 5) (too_large ∷ []) ≡ Some (faults.HighBit 18446744073709551615)
-  pub first_argument_first : fault_of true (pos 2) (too_large ∷ named_one (codes "1d") ∷ []) ≡ Some (faults.HighBit 18446744073709551615)
+  pub first_argument_first : fault_of true (pos 2) (too_large ∷ named_one (codes "1d") ∷ [])
+      ≡ Some (faults.HighBit 18446744073709551615)
   pub parameters : params_of (named_one (codes "id") ∷ plain args.Nil ∷ [])
-      ≡ (record { name = Some (codes "id"); value = values.Int (pos 1) }) ∷ (record { name = None; value = values.Nil }) ∷ []
+      ≡ (record { name = Some (codes "id"); value = values.Int (pos 1) }) ∷
+      (record { name = None; value = values.Nil }) ∷ []

@@ -6,8 +6,8 @@ use crate::text::{Bin, Txt};
 use std::alloc::{AllocError, AllocFailed};
 use thiserror::Error;
 
-/// An argument that a caller gives for a statement's input: one of the types that Go's
-/// `driver.DefaultParameterConverter` takes, or one of `sql.NullString`, `sql.NullInt64` and their like.
+/// An argument that a caller gives for a statement's input. It has one of the types that Go's
+/// `driver.DefaultParameterConverter` takes, or is one of `sql.NullString`, `sql.NullInt64` and their like.
 /// `Time` counts nanoseconds since 1970. A Null form without a content is Go's with `Valid` false.
 #[derive(Drop)]
 pub enum Arg {
@@ -40,7 +40,7 @@ pub enum Arg {
     NullTime(Option<i64>),
 }
 
-/// An argument with its name, if it has one, as Go's `sql.NamedArg`. The name is without a symbol before it.
+/// An argument with its name, if it has one, as Go's `sql.NamedArg`. The name has no symbol before it.
 #[derive(Drop)]
 pub struct Named {
     pub name: Option<Txt>,
@@ -53,15 +53,15 @@ pub type Args = Items<Named>;
 /// Why arguments are refused.
 #[derive(Debug, Drop, Error)]
 pub enum ArgFault {
-    /// The number is above 9,223,372,036,854,775,807, which is the largest that a driver takes, as in Go's
+    /// The number is above 9,223,372,036,854,775,807, the largest that a driver takes, as in Go's
     /// `driver.DefaultParameterConverter`.
     #[error("sql: unsigned value has its high bit set")]
     HighBit(u64),
-    /// A statement has `want` inputs, as Go's `driver.Stmt.NumInput` tells, and there are `got` arguments.
-    /// More than 4,294,967,295 are told as that number.
+    /// The statement has `want` inputs, by Go's `driver.Stmt.NumInput`, and there are `got` arguments. A number
+    /// above 4,294,967,295 is reported as 4,294,967,295.
     #[error("sql: expected {want} arguments, got {got}")]
     NumArgs { want: u32, got: u32 },
-    /// There is an argument of this name, and the driver takes none with names.
+    /// An argument has this name, and the driver takes no named arguments.
     #[error("sql: driver does not support the use of Named Parameters")]
     NamedRefused(Txt),
     /// The name doesn't begin with one of the letters `A` to `Z` and `a` to `z`.

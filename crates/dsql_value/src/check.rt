@@ -7,8 +7,8 @@ use crate::text::{Txt, copy_of_optional};
 use crate::value::{Param, Params, Value};
 use std::alloc::Global;
 
-/// The value that a driver gets for an argument, as by Go's `driver.DefaultParameterConverter` and by the
-/// method `Value` of `sql.NullString` and its like. The argument stays as it is.
+/// Returns the value that a driver gets for an argument. It follows Go's `driver.DefaultParameterConverter` and
+/// the method `Value` of `sql.NullString` and its like. The argument stays as it is.
 pub fn driver_value(arg: &Arg) -> Result<Value, ArgFault>
     ensures accepted { OnOk result (value_fault arg.now ≡ None) }
     ensures value { IfOk result (λ value. value ≡ arg_of arg.now) }
@@ -39,10 +39,12 @@ pub fn driver_value(arg: &Arg) -> Result<Value, ArgFault>
     })
 }
 
-/// The parameters of a driver call for the arguments `list`, in order. `want` is how many inputs the
-/// statement has, or -1 where the driver doesn't know, as Go's `driver.Stmt.NumInput`; `named_ok` is whether
-/// the driver takes names, as Go's `driver.NamedValue` has them. Each argument is looked at in order, its
-/// name and then its value, and how many there are comes last. The arguments stay as they are.
+/// Returns the parameters of a driver call for the arguments `list`, in order. `want` is the number of inputs
+/// that the statement has, or -1 if the driver doesn't know it, as Go's `driver.Stmt.NumInput`. `named_ok` says
+/// whether the driver takes names, as Go's `driver.NamedValue` has them.
+///
+/// Each argument is checked in order, first its name and then its value. The number of arguments is checked
+/// last. The arguments stay as they are.
 pub fn check_args(
     alloc: Global,
     want: i32,
@@ -109,7 +111,7 @@ fn check_count(want: i32, got: usize) -> Result<(), ArgFault>
     ensures accepted { OnOk result (count_fault want got ≡ None) }
     ensures refused { IfErr result (λ fault. count_fault want got ≡ Some fault) }
 {
-    // Any number suits -1.
+    // Accepts any number of arguments if `want` is -1.
     let Ok(want) = u32::try_from(want) else {
         return Ok(());
     };

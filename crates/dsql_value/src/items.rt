@@ -3,13 +3,13 @@ ghost use Rattle.std.specs.Prelude.{◌≡◌, List, []};
 use std::alloc::{AllocError, Global};
 use std::marker::Model;
 
-/// A thing whose clone equals it.
+/// A type whose clones equal their originals.
 pub trait Faithful: Clone {
     ghost same: { (x y : Self) → Self.is_clone x y → y ≡ x };
 }
 
-/// A list of things, which contracts see as just that. It is made from a vector and gives it back
-/// without taking memory.
+/// A list of items. Contracts see it as the plain list. A vector becomes one, and one becomes a vector, without
+/// taking memory.
 #[derive(Debug)]
 pub struct Items<T> {
     items: Vec<T>,
@@ -22,7 +22,7 @@ impl<T> Model for Items<T> {
 }
 
 impl<T> Items<T> {
-    /// No things. It takes no memory.
+    /// Returns an empty list. It takes no memory.
     pub fn none(alloc: Global) -> Items<T>
         ensures { result ≡ [] }
     {
@@ -31,21 +31,21 @@ impl<T> Items<T> {
         }
     }
 
-    /// The things of a vector.
+    /// Returns the items of a vector.
     pub fn new(items: Vec<T>) -> Items<T>
         ensures { result ≡ items.items }
     {
         Items { items }
     }
 
-    /// The things in their order.
+    /// Returns the items in their order.
     pub fn as_slice(&self) -> &[T]
         ensures { result.now ≡ self.now }
     {
         &self.items
     }
 
-    /// The vector of the things.
+    /// Returns the vector of the items.
     pub fn into_vec(self) -> Vec<T>
         ensures { result.items ≡ self }
     {
@@ -54,7 +54,7 @@ impl<T> Items<T> {
     }
 }
 
-// By hand, so that to drop a list is one call for who does it.
+// Implemented by hand, so that dropping a list is one call for its caller.
 impl<T: Drop> Drop for Items<T> {
     fn drop(self) {
         let Items { items } = self;

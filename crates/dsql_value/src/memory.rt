@@ -1,7 +1,7 @@
 use std::alloc::{AllocError, AllocFailed};
 use thiserror::Error;
 
-/// There was no memory. It is the one refusal that may come at any call that takes memory.
+/// The failure that there was no memory. It is the only refusal that any call that takes memory may give.
 #[derive(Clone, Copy, Debug, PartialEq, Eq, Error)]
 #[error("out of memory")]
 pub struct Memory;

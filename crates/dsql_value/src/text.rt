@@ -18,14 +18,14 @@ impl Model for Txt {
 }
 
 impl Txt {
-    /// The text of a string. It takes no memory.
+    /// Returns the text of a string. It takes no memory.
     pub fn new(text: String) -> Txt
         ensures { result ≡ string_bytes text }
     {
         Txt { text }
     }
 
-    /// A copy of a text.
+    /// Returns a copy of a text. Fails with `Memory` if there is no memory for it.
     pub fn copy_of(alloc: Global, text: &str) -> Result<Txt, Memory>
         ensures { IfOk result (λ t. t ≡ text.now) }
     {
@@ -33,7 +33,7 @@ impl Txt {
         Ok(Txt { text })
     }
 
-    /// Another copy of this text.
+    /// Returns a copy of this text. Fails with `Memory` if there is no memory for it.
     pub fn copy(&self) -> Result<Txt, Memory>
         ensures { IfOk result (λ t. t ≡ self.now) }
     {
@@ -41,14 +41,14 @@ impl Txt {
         Ok(copy)
     }
 
-    /// The text itself.
+    /// Returns the text as a string slice.
     pub fn as_str(&self) -> &str
         ensures { result.now ≡ self.now }
     {
         self.text.as_str()
     }
 
-    /// The string of the text. It takes no memory.
+    /// Returns the string of the text. It takes no memory.
     pub fn into_string(self) -> String
         ensures { string_bytes result ≡ self }
     {
@@ -79,7 +79,7 @@ pub(crate) fn copy_of_optional(text: &Option<Txt>) -> Result<Option<Txt>, AllocE
     }
 }
 
-/// Bytes that may be no text, as Go's `[]byte` holds them. Contracts see them as a list.
+/// Bytes that need not be text, as Go's `[]byte` holds them. Contracts see them as a list.
 #[derive(Debug, Drop)]
 pub struct Bin {
     bytes: Vec<u8>,
@@ -92,21 +92,21 @@ impl Model for Bin {
 }
 
 impl Bin {
-    /// The bytes of a vector. It takes no memory.
+    /// Returns the bytes of a vector. It takes no memory.
     pub fn new(bytes: Vec<u8>) -> Bin
         ensures { result ≡ bytes.items }
     {
         Bin { bytes }
     }
 
-    /// The bytes themselves.
+    /// Returns the bytes as a slice.
     pub fn as_slice(&self) -> &[u8]
         ensures { result.now ≡ self.now }
     {
         &self.bytes
     }
 
-    /// The vector of the bytes. It takes no memory.
+    /// Returns the vector of the bytes. It takes no memory.
     pub fn into_vec(self) -> Vec<u8>
         ensures { result.items ≡ self }
     {

@@ -4,7 +4,7 @@ use crate::items::{Faithful, Items};
 use crate::text::{Bin, Txt, copy_of_optional};
 use std::alloc::AllocError;
 
-/// What a driver takes and gives, as Go's `driver.Value`. `Time` counts nanoseconds since 1970.
+/// A value that a driver takes and gives, as Go's `driver.Value`. `Time` counts nanoseconds since 1970.
 #[derive(Debug, Drop)]
 pub enum Value {
     Nil,

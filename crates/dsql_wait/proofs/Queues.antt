@@ -39,7 +39,7 @@ not_true : (b : Bool) → not b ≡ true → b ≡ false
 not_true true h = cc
 not_true false h = refl
 
--- nobody waits among some who doesn't among all
+-- A call that doesn't wait among all requests doesn't wait among some of them.
 fewer_wait : (call : ℕ) (p : Request → Bool) (rs : List Request) → waits call rs ≡ false → waits call (filter p rs) ≡ false
 fewer_wait call p [] h = refl
 fewer_wait call p (r ∷ rs) h =
@@ -54,7 +54,7 @@ and_true : (a b : Bool) → a ≡ true → b ≡ true → (a && b) ≡ true
 and_true true b h k = k
 and_true false b h k = cc
 
--- some of those that wait once each wait once each
+-- If each call waits once, each call waits once among some of the requests.
 pub some_distinct : (p : Request → Bool) (rs : List Request) → are_distinct rs ≡ true → are_distinct (filter p rs) ≡ true
 some_distinct p [] h = refl
 some_distinct p (r ∷ rs) h =
@@ -76,7 +76,7 @@ others_wait call (r ∷ rs) later apart h =
 turned : (m n : ℕ) → eqb m n ≡ false → eqb n m ≡ false
 turned m n h = grind (arith, nat_tests)
 
--- one who doesn't wait yet joins
+-- If each call waits once and the one that joins doesn't wait yet, each call waits once.
 pub joined_distinct : (rs : List Request) (later : Request) → waits later.call rs ≡ false → are_distinct rs ≡ true → are_distinct (rs ++ later ∷ []) ≡ true
 joined_distinct [] later h d = refl
 joined_distinct (r ∷ rs) later h d =
@@ -86,7 +86,7 @@ joined_distinct (r ∷ rs) later h d =
     (ap not (others_wait r.call rs later (turned r.call later.call (apart h)) (not_true (waits r.call rs) (left_of (not (waits r.call rs)) (are_distinct rs) d))))
     (joined_distinct rs later (rest h) (right_of (not (waits r.call rs)) (are_distinct rs) d))
 
--- where a call's request stands, and what is left without it
+-- Returns the place of a call's request.
 abbrev pub place_of : ℕ → List Request → ℕ
 place_of call rs = position_or_len (λ (r : Request). eqb r.call call) rs
 
@@ -119,7 +119,8 @@ at_place call rs at e =
       | false ↦ λ past same. cc
     ] refl e
 
--- the request that stands at the place is taken out, and is the only one of its call
+-- Taking out the request at its place leaves the requests without that call, since it is the only one of its
+-- call.
 pub taken : (call : ℕ) (rs : List Request) (at : ℕ) → are_distinct rs ≡ true → position (λ (r : Request). eqb r.call call) rs ≡ Some at → remove rs at ≡ without_call call rs
 taken call rs at d e = let found = at_place call rs at e in ap (remove rs) (sym found.1) ∙ taken_out call rs d found.0
 

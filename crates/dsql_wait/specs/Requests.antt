@@ -1,29 +1,29 @@
--- Requests that wait, the oldest first.
+-- The requests that wait, the oldest first.
 use Rattle.std.specs.Prelude.{ℕ, Bool, true, false, not, ◌&&◌, ◌==◌, List, [], ◌∷◌, filter, find, Option, Some, None}
 use Rattle.std.specs.List.{list_any}
 use Rattle.std.specs.Option.{option_map_or}
 use Rattle.std.specs.Str.{bytes_eq}
 use Rattle.dsql_wait.specs.declared.request.Request.{Request}
 
--- the requests that wait, and for how many calls there is memory
+-- A queue: the requests that wait, and for how many calls there is memory.
 pub record Queue : Type 0 where
   pub requests : List Request
   pub spare : ℕ
 
--- a request of that call waits
+-- Is true if a request of that call waits.
 abbrev pub waits : ℕ → List Request → Bool
 waits call requests = list_any (λ r. r.call == call) requests
 
--- the request of that call, if it waits
+-- Returns the request of that call, if it waits.
 abbrev pub request_of : ℕ → List Request → Option Request
 request_of call requests = find (λ r. r.call == call) requests
 
--- each call waits once
+-- Is true if each call waits once.
 abbrev pub are_distinct : List Request → Bool
 are_distinct [] = true
 are_distinct (r ∷ rs) = not (waits r.call rs) && are_distinct rs
 
--- the request has a token of that name
+-- Is true if the request has a token of that name.
 abbrev pub is_of : List ℕ → Request → Bool
 is_of token request = option_map_or (λ own. bytes_eq own token) request.token false
 
@@ -31,15 +31,15 @@ abbrev pub oldest : List Request → Option Request
 oldest [] = None
 oldest (r ∷ rs) = Some r
 
--- all but the oldest
+-- Returns all requests except the oldest.
 abbrev pub younger : List Request → List Request
 younger [] = []
 younger (r ∷ rs) = rs
 
--- all but that call's
+-- Returns all requests except those of that call.
 abbrev pub without_call : ℕ → List Request → List Request
 without_call call requests = filter (λ r. not (r.call == call)) requests
 
--- all but those with a token of that name
+-- Returns all requests except those with a token of that name.
 abbrev pub without_token : List ℕ → List Request → List Request
 without_token token requests = filter (λ r. not (is_of token r)) requests

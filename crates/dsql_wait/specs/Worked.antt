@@ -1,6 +1,6 @@
 -- Worked queues of three requests: call 1 with token `a`, call 2 without a token, call 3 with token `a`.
 use Rattle.std.specs.Prelude.{◌≡◌, ℕ, true, false, List, [], ◌∷◌, Option, None, Some, codes, count_by}
-use Rattle.dsql_journal.specs.declared.entry.Owner.TheVariants.{Call}
+use Rattle.dsql_tenure_journal.specs.declared.entry.Owner.TheVariants.{Call}
 use Rattle.dsql_wait.specs.declared.request.Request.{Request}
 use Rattle.dsql_wait.specs.Requests.{waits, request_of, are_distinct, is_of, oldest, younger, without_call, without_token}
 

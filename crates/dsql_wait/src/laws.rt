@@ -1,5 +1,4 @@
-//! Laws of waiting, and worked queues: each law is the contract of a function that does nothing.
-
+//! Laws of waiting, and worked queues. Each law is the contract of a function that does nothing.
 ghost use Rattle.dsql_wait.specs.Laws.{ServedInOrder, LeavesTheOrder, LeavesOthers, RoomLasts};
 ghost use Rattle.dsql_wait.specs.Worked.{WorkedQueues};
 
@@ -8,8 +7,8 @@ pub fn served_in_order()
     ensures { ServedInOrder }
 {}
 
-/// Whoever leaves, the others wait in the same order, and those without a token wait on when a token's
-/// requests leave.
+/// Whoever leaves, the others wait in the same order. Requests without a token wait on when a token's requests
+/// leave.
 pub fn the_order_stays()
     ensures call { LeavesTheOrder }
     ensures token { LeavesOthers }

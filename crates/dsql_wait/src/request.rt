@@ -1,11 +1,13 @@
 ghost use Rattle.std.specs.Prelude.{◌≡◌};
 ghost use Rattle.dsql_wait.specs.Requests.{is_of};
 
-use dsql_journal::Owner;
+use dsql_tenure_journal::Owner;
 use dsql_value::Txt;
 
-/// A call that wants a connection: for whom, whether this is its last try, the name of its token if it has
-/// one, and the moment at which it asked, in nanoseconds.
+/// A call that wants a connection.
+///
+/// It records the owner, whether this is the call's last try, the name of its token if it has one, and the
+/// moment at which it asked, in nanoseconds.
 #[derive(Drop)]
 pub struct Request {
     pub call: u32,
@@ -16,7 +18,7 @@ pub struct Request {
 }
 
 impl Request {
-    /// It has a token of that name.
+    /// Returns whether the request has a token of that name.
     pub(crate) fn is_of(&self, token: &Txt) -> bool
         ensures { result ≡ is_of token.now self.now }
     {

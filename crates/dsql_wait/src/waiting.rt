@@ -31,7 +31,7 @@ impl Model for Waiting {
 impl Waiting {
     ghost use Rattle.dsql_wait.specs.Requests.{waits, request_of, is_of, oldest, younger, without_call, without_token};
 
-    /// Nobody waits. It takes no memory.
+    /// Returns a queue in which nobody waits. Takes no memory.
     pub fn new(alloc: Global) -> Waiting
         ensures { result.requests ≡ [] }
     {
@@ -40,7 +40,7 @@ impl Waiting {
         }
     }
 
-    /// Puts a request last.
+    /// Appends a request.
     pub fn join(&mut self, request: Request) -> Result<(), Memory>
         requires { waits request.call self.old.requests ≡ false }
         ensures ok { OnOk result (self.new.requests ≡ self.old.requests ++ request ∷ []) }
@@ -52,7 +52,7 @@ impl Waiting {
         Ok(())
     }
 
-    /// Takes the oldest request out, if there is one. It takes no memory, nor does anything below but
+    /// Removes the oldest request, if there is one. Takes no memory, and neither does anything below except
     /// `reserve`.
     pub fn serve_oldest(&mut self) -> Option<Request>
         ensures served { result ≡ oldest self.old.requests }
@@ -62,14 +62,14 @@ impl Waiting {
         self.queue.pop_front()
     }
 
-    /// The oldest request, if there is one.
+    /// Returns the oldest request, if there is one.
     pub fn oldest(&self) -> Option<&Request>
         ensures { option_copied result ≡ oldest self.now.requests }
     {
         self.queue.front()
     }
 
-    /// Takes a call's request out, if it waits.
+    /// Removes a call's request, if it waits.
     pub fn leave(&mut self, call: u32) -> Option<Request>
         ensures left { result ≡ request_of call self.old.requests }
         ensures others { self.new.requests ≡ without_call call self.old.requests }
@@ -81,15 +81,15 @@ impl Waiting {
         }
     }
 
-    /// A call's request waits.
+    /// Returns whether a call's request waits.
     pub fn waits(&self, call: u32) -> bool
         ensures { result ≡ waits call self.now.requests }
     {
         self.queue.iter().any(|request| request.call == call)
     }
 
-    /// Takes all requests with a token of that name out, and says how many there were; 4,294,967,295 stands
-    /// for more too.
+    /// Removes all requests with a token of that name, and returns how many there were. The number
+    /// 4,294,967,295 stands for more, too.
     pub fn leave_all_of(&mut self, token: &Txt) -> u32
         ensures left { result ≡ min (count_by (is_of token.now) self.old.requests) 4294967295 }
         ensures others { self.new.requests ≡ without_token token.now self.old.requests }
@@ -104,7 +104,7 @@ impl Waiting {
         u32::try_from(left).unwrap_or(u32::MAX)
     }
 
-    /// Takes memory for so many calls more.
+    /// Takes memory for this many more calls.
     pub fn reserve(&mut self, calls: u32) -> Result<(), Memory>
         ensures ok { OnOk result (calls ≤ self.new.spare) }
         ensures full { OnErr result (self.old.spare < calls) }
@@ -115,7 +115,7 @@ impl Waiting {
         Ok(())
     }
 
-    /// How many requests wait.
+    /// Returns how many requests wait.
     pub fn held(&self) -> u64
         ensures { result ≡ length self.now.requests }
     {
@@ -123,7 +123,7 @@ impl Waiting {
     }
 }
 
-// The place of a call's request.
+// Returns the place of a call's request.
 fn place_of(queue: &VecDeque<Request>, call: u32) -> Option<usize>
     ensures place { result ≡ position (λ request. request.call == call) queue.now.items }
     ensures bound { IfSome result (λ at. at < deque_len queue.now) }

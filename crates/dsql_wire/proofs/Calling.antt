@@ -1,16 +1,17 @@
--- Calls that weren't made.
+-- Driver calls that fail: a failure says nothing about the answer's type, so it carries over from one type to
+-- another.
 use Rattle.std.proofs.Common.{◌≡◌, refl, ap, subst, Result, Ok, Err}
 use Rattle.std.proofs.Math.Nat.{le_refl}
 use Rattle.std.specs.Result.{IsErrOf}
 use Rattle.dsql_driver.specs.declared.wire.Wire.{Ghosts}
-use Rattle.dsql_journal.specs.declared.entry.Entry.{Entry}
-use Rattle.dsql_journal.specs.declared.entry.Permit.{Permit}
+use Rattle.dsql_tenure_journal.specs.declared.entry.Entry.{Entry}
+use Rattle.dsql_tenure_journal.specs.declared.entry.Permit.{Permit}
 use Rattle.dsql_wire.specs.Calling.{Calls}
 use Rattle.dsql_wire.specs.Journaled.{Journaled, MayBeSent}
 use Rattle.dsql_wire.specs.declared.fault.WireFault.{WireFault}
 use Rattle.dsql_wire.specs.declared.fault.WireFault.TheVariants.{Stray}
 
--- the judge lets no such call be sent
+-- A call that the judge lets nobody send fails as stray and changes nothing.
 pub refused : {A W : Type 0} (f : A → Entry) (wire : Ghosts W) (p : Permit) (old : Journaled W) → ¬ MayBeSent old.conn old.journal p → Calls f wire p old old (Err (Stray p))
 refused f wire p old may_not = record {
   entry = tt;
@@ -31,17 +32,17 @@ refused f wire p old may_not = record {
   refused = refl;
 }
 
--- the fault, or another where there is none
+-- Returns the fault of a result, or the other fault if the result is no error.
 fault_or : {A : Type 0} → WireFault → Result A WireFault → WireFault
 fault_or other (Ok it) = other
 fault_or other (Err fault) = fault
 
--- what failed with this fault failed with it, whatever an answer would have been
+-- A result that fails with this fault fails with it whatever the type of its answer is.
 same_fault : {A B : Type 0} (fault other : WireFault) → IsErrOf {T = B} {E = WireFault} (Err fault) other → IsErrOf {T = A} {E = WireFault} (Err fault) other
 unfolding fault_or
 same_fault fault other is = ap Err (ap (fault_or fault) is)
 
--- a call that failed failed, whatever an answer would have been
+-- A call that failed meets the contract of a failed call whatever the type of its answer is.
 pub failed : {A B W : Type 0} (f : A → Entry) (g : B → Entry) (wire : Ghosts W) (p : Permit) (old was new : Journaled W) (fault : WireFault) → was ≡ old → Calls f wire p was new (Err fault) → Calls g wire p old new (Err fault)
 failed f g wire p old was new fault same calls =
     subst (λ (j : Journaled _). Calls g wire p j new (Err fault)) same (record {

@@ -1,4 +1,5 @@
--- An answer that a wire gives fits at its place in the journal that agrees with it.
+-- An answer of a wire fits at its place in the journal that agrees with the wire: each condition on the answer
+-- follows from what is live on the wire.
 use Rattle.std.proofs.Common.{◌≡◌, ℕ, true, false, not, Option, Some, None, List, [], ◌∷◌, length, refl, ◌∙◌, ap}
 use Rattle.std.specs.List.{list_all}
 use Rattle.dsql_driver.specs.declared.call.DriverCall.{DriverCall}
@@ -8,15 +9,15 @@ use Rattle.dsql_driver.specs.declared.answer.DriverAnswer.TheVariants.{Prepared,
 use Rattle.dsql_driver.specs.Fits.{fits_of, is_memory}
 use Rattle.dsql_driver.specs.Wires as wires
 use Rattle.dsql_driver.specs.Wires.{WireTold, KeepsHandles, KeepsCursors}
-use Rattle.dsql_journal.specs.declared.entry.Entry.{Entry}
-use Rattle.dsql_journal.specs.Kinds.{if_any}
+use Rattle.dsql_tenure_journal.specs.declared.entry.Entry.{Entry}
+use Rattle.dsql_tenure_journal.specs.Kinds.{if_any}
 use Rattle.dsql_driver.specs.Kinds.{cursor_of, given_handle, given_cursor}
-use Rattle.dsql_journal.specs.Readers.{is_empty, LiveCursor, handles, cursors, handles_named, cursors_named}
-use Rattle.dsql_journal.specs.HandlesAndCursors.{fits_at_its_place, is_heard, is_fitting, gives_new_handle, gives_new_cursor, has_width_of_cursor, is_as_wide}
-use Rattle.dsql_journal.proofs.Conjunctions.{join5}
+use Rattle.dsql_tenure_journal.specs.Readers.{is_empty, LiveCursor, handles, cursors, handles_named, cursors_named}
+use Rattle.dsql_tenure_journal.specs.HandlesAndCursors.{fits_at_its_place, is_heard, is_fitting, gives_new_handle, gives_new_cursor, has_width_of_cursor, is_as_wide}
+use Rattle.dsql_tenure_journal.proofs.Conjunctions.{join5}
 use Rattle.dsql_tenure.specs.Beginnings.{is_beginning_of, IsBeginningOf}
 use Rattle.dsql_tenure.specs.Judged.{answered}
-use Rattle.dsql_journal.specs.declared.entry.Permit.{Permit}
+use Rattle.dsql_tenure_journal.specs.declared.entry.Permit.{Permit}
 use Rattle.dsql_wire.proofs.Answered.{Makes, makes}
 use Rattle.dsql_wire.specs.Journaled.{Agrees, has_handles, has_cursors}
 use Rattle.dsql_wire.proofs.Lists.{no_handle, no_cursor, as_wide}
@@ -53,21 +54,21 @@ width journal call answer before after live fits k = any_width journal answer (c
 heard_answer : (answer : DriverAnswer) → is_memory answer ≡ false → not (is_memory answer) ≡ true
 heard_answer answer h = rw h refl
 
--- what a wire may answer fits at its place
+-- An entry whose answer the wire may give fits at its place in the journal.
 pub fits_there : (told : Option WireTold) (hs hs2 : List ℕ) (cs cs2 : List wires.LiveCursor) (conn : ℕ) (journal : List Entry) (e : Entry) → Agrees told hs cs conn journal
     → is_memory e.answer ≡ false → fits_of e.call e.answer ≡ true → KeepsHandles e.call e.answer hs hs2 → KeepsCursors e.call e.answer cs cs2 → fits_at_its_place journal e ≡ true
 fits_there told hs hs2 cs cs2 conn journal e a m f kh kc =
     join5 (is_heard e) (is_fitting e) (gives_new_handle journal e) (gives_new_cursor journal e) (has_width_of_cursor journal e)
     (heard_answer e.answer m) f (new_handle journal e.call e.answer hs hs2 a.handles_live kh) (new_cursor journal e.call e.answer cs cs2 a.cursors_live kc) (width journal e.call e.answer cs cs2 a.cursors_live f kc)
 
--- the same of the entry that an answer makes of a permit
+-- The entry that such an answer makes of a permit fits at its place.
 pub fits_made : (told : Option WireTold) (hs hs2 : List ℕ) (cs cs2 : List wires.LiveCursor) (conn : ℕ) (journal : List Entry) (p : Permit) (a : DriverAnswer) (e : Entry) → e ≡ answered p a → Agrees told hs cs conn journal
     → is_memory a ≡ false → fits_of p.call a ≡ true → KeepsHandles p.call a hs hs2 → KeepsCursors p.call a cs cs2 → fits_at_its_place journal e ≡ true
 fits_made told hs hs2 cs cs2 conn journal p a e is agrees m f kh kc =
     let made : Makes p a e = makes p a e is in
     fits_there told hs hs2 cs cs2 conn journal e agrees (rw made.answer m) (rw (made.call, made.answer) f) (rw (made.call, made.answer) kh) (rw (made.call, made.answer) kc)
 
--- a beginning, by equal parts
+-- A journal with equal parts begins a connection if the other does.
 pub same_beginning : (c d : ℕ) (e f : Entry) (j k : List Entry) → c ≡ d → e ≡ f → j ≡ k → IsBeginningOf d (f ∷ k) → IsBeginningOf c (e ∷ j)
 same_beginning c d e f j k conns entries journals h =
     ap (λ n. is_beginning_of n (e ∷ j)) conns

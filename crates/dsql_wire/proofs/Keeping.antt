@@ -1,4 +1,5 @@
--- A wire and its journal agree after one call more.
+-- A wire and its journal still agree after one more driver call: the proof compares the live handles and the
+-- live cursors of both, kind of call by kind of call.
 use Rattle.std.proofs.Common.{◌≡◌, ℕ, Bool, true, false, cond, not, ◌&&◌, ◌||◌, ◌==◌, ◌++◌, Option, Some, None, List, [], ◌∷◌, length, inl, inr, refl, ◌∙◌, ap}
 use Rattle.std.specs.Prelude.{option_map, IfSome}
 use Rattle.std.specs.List.{filter}
@@ -12,13 +13,13 @@ use Rattle.dsql_driver.specs.declared.answer.DriverAnswer.TheVariants.{Prepared,
 use Rattle.dsql_driver.specs.Fits.{is_memory}
 use Rattle.dsql_driver.specs.Wires as wires
 use Rattle.dsql_driver.specs.Wires.{WireTold, has_number, with_call, told_after, KeepsHandles, KeepsCursors}
-use Rattle.dsql_journal.specs.declared.entry.Entry.{Entry}
+use Rattle.dsql_tenure_journal.specs.declared.entry.Entry.{Entry}
 use Rattle.dsql_driver.specs.Kinds.{is_close_stmt, is_close_rows}
-use Rattle.dsql_journal.specs.Readers.{LiveHandle, LiveCursor, handles, cursors, handles_after, cursors_after, changed, after_next}
-use Rattle.dsql_journal.proofs.Conjunctions.{parts2, join2}
+use Rattle.dsql_tenure_journal.specs.Readers.{LiveHandle, LiveCursor, handles, cursors, handles_after, cursors_after, changed, after_next}
+use Rattle.dsql_tenure_journal.proofs.Conjunctions.{parts2, join2}
 use Rattle.dsql_tenure.proofs.Lists.{list_all-filter, list_all-so}
 use Rattle.dsql_tenure.specs.Judged.{answered}
-use Rattle.dsql_journal.specs.declared.entry.Permit.{Permit}
+use Rattle.dsql_tenure_journal.specs.declared.entry.Permit.{Permit}
 use Rattle.dsql_wire.proofs.Answered.{Makes, makes}
 use Rattle.dsql_wire.specs.Told.{TellsOf}
 use Rattle.dsql_wire.specs.Journaled.{Agrees, has_handles, has_cursor, has_cursors}
@@ -34,7 +35,7 @@ second : (a b : Bool) → b ≡ true → (a || b) ≡ true
 second true b h = refl
 second false b h = h
 
--- a handle stays on the wire over a call that closes none
+-- A handle stays live on the wire over a call that closes no handle.
 handle_stays : (call : DriverCall) (answer : DriverAnswer) (before after : List ℕ) → is_close_stmt call ≡ false → KeepsHandles call answer before after → (n : ℕ) → has_number n before ≡ true
     → has_number n after ≡ true
 handle_stays call Memory before after none k n h = rw k h
@@ -42,7 +43,7 @@ handle_stays call (Prepared handle inputs) before after none k n h = rw k.0 (sec
 handle_stays (CloseStmt handle) answer before after none k n h = let clash : true ≡ false = none in absurd cc
 handle_stays call answer before after none k n h = rw k h
 
--- and over a CloseStmt of another
+-- A handle stays live on the wire over a CloseStmt of another handle.
 handle_left : (m : ℕ) (answer : DriverAnswer) (before after : List ℕ) → KeepsHandles (CloseStmt m) answer before after → (n : ℕ) → not (n == m) ≡ true → has_number n before ≡ true
     → has_number n after ≡ true
 handle_left m Memory before after k n other h = rw k h
@@ -72,7 +73,7 @@ keeps_handles e (CloseStmt handle) answer before after live k all = closed handl
 keeps_handles e call answer before after live k all =
     list_all-so (λ (h : LiveHandle). has_number h.number before) (λ (h : LiveHandle). has_number h.number after) (λ h. handle_stays call answer before after refl k h.number) live all
 
--- a cursor stays on the wire over a call that closes none
+-- A cursor stays live on the wire over a call that closes no cursor.
 cursor_stays : (call : DriverCall) (answer : DriverAnswer) (before after : List wires.LiveCursor) → is_close_rows call ≡ false → KeepsCursors call answer before after → (c : LiveCursor) → has_cursor before c ≡ true
     → has_cursor after c ≡ true
 cursor_stays call Memory before after none k c h = rw k h
@@ -81,7 +82,7 @@ cursor_stays (CloseRows rows) answer before after none k c h = let clash : true 
 cursor_stays (Next rows) (Row values) before after none k c h = rw k.0 h
 cursor_stays call answer before after none k c h = rw k h
 
--- and over a CloseRows of another
+-- A cursor stays live on the wire over a CloseRows of another cursor.
 cursor_left : (m : ℕ) (answer : DriverAnswer) (before after : List wires.LiveCursor) → KeepsCursors (CloseRows m) answer before after → (c : LiveCursor) → not (c.number == m) ≡ true → has_cursor before c ≡ true
     → has_cursor after c ≡ true
 cursor_left m Memory before after k c other h = rw k h
@@ -101,7 +102,7 @@ rows_closed m before after live left all =
     ∙ list_all-so (has_cursor before) (λ (c : LiveCursor). not (not (c.number == m)) || has_cursor after c)
     (λ c on. unless (not (c.number == m)) (has_cursor after c) (λ other. left c other on)) live all
 
--- a Next changes no number and no width
+-- A Next changes no cursor's number and no cursor's width.
 rows_over : (m : ℕ) (answer : DriverAnswer) (on : List wires.LiveCursor) (live : List LiveCursor) → has_cursors on (changed m (after_next answer) live) ≡ has_cursors on live
 rows_over m answer on [] = refl
 rows_over m answer on (c ∷ cs) = go (c.number == m) (rows_over m answer on cs)
@@ -125,7 +126,8 @@ keeps_cursors e (Next rows) answer before after live k all = rows_over rows answ
 keeps_cursors e (CloseRows rows) answer before after live k all = rows_closed rows before after live (cursor_left rows answer before after k) all
 keeps_cursors e call answer before after live k all = all_stay call answer before after live refl k all
 
--- what a wire tells after a call that was heard
+-- After a call whose answer isn't `Memory`, the wire's report is the earlier one with this call and its answer
+-- at the end.
 pub told_heard : (call : DriverCall) (answer : DriverAnswer) (told : Option WireTold) → is_memory answer ≡ false → told_after call answer told ≡ option_map (with_call (call, answer)) told
 told_heard call Memory told h = absurd cc
 told_heard call _ told h = refl
@@ -134,7 +136,7 @@ tells_more : (told : Option WireTold) (conn : ℕ) (journal : List Entry) (e : E
 tells_more None conn journal e h = tt
 tells_more (Some told) conn journal e h = record { number = h.number; calls = ap (λ t. t ++ (e.call, e.answer) ∷ []) h.calls }
 
--- a wire agrees with its journal after one call more
+-- A wire that agrees with its journal still agrees with it after one more call.
 pub agrees_then : (told told2 : Option WireTold) (hs hs2 : List ℕ) (cs cs2 : List wires.LiveCursor) (conn : ℕ) (journal : List Entry) (e : Entry) → Agrees told hs cs conn journal → is_memory e.answer ≡ false
     → told2 ≡ told_after e.call e.answer told → KeepsHandles e.call e.answer hs hs2 → KeepsCursors e.call e.answer cs cs2 → Agrees told2 hs2 cs2 conn (e ∷ journal)
 agrees_then told told2 hs hs2 cs cs2 conn journal e a m more kh kc = record {
@@ -144,7 +146,7 @@ agrees_then told told2 hs hs2 cs cs2 conn journal e a m more kh kc = record {
   cursors_live = keeps_cursors e e.call e.answer cs cs2 (cursors journal) kc a.cursors_live;
 }
 
--- the same of the entry that an answer makes of a permit
+-- The wire also agrees with its journal if the new entry is given as what an answer makes of a permit.
 pub agrees_made : (told told2 : Option WireTold) (hs hs2 : List ℕ) (cs cs2 : List wires.LiveCursor) (conn : ℕ) (journal : List Entry) (p : Permit) (a : DriverAnswer) (e : Entry) → e ≡ answered p a → Agrees told hs cs conn journal
     → is_memory a ≡ false → told2 ≡ told_after p.call a told → KeepsHandles p.call a hs hs2 → KeepsCursors p.call a cs cs2 → Agrees told2 hs2 cs2 conn (e ∷ journal)
 agrees_made told told2 hs hs2 cs cs2 conn journal p a e is agrees m more kh kc =

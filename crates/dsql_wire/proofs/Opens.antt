@@ -1,4 +1,5 @@
--- Which permits open a connection.
+-- Exactly a Connect by the House in tenure 1, with no call number and no transaction, opens a connection: the
+-- proof takes apart what may come first in a journal.
 use Rattle.std.proofs.Common.{◌≡◌, ◌≢◌, ◌↔◌, ℕ, zero, suc, Bool, true, false, ◌&&◌, ◌||◌, Option, Some, None, ◌==◌, IsTrue, List, [], ◌∷◌, refl, sym, ◌∙◌, ap, subst}
 use Rattle.std.specs.Prelude.{IfSome}
 use Rattle.std.proofs.lemmas.Bool.Decides.{nat_tests}
@@ -12,19 +13,19 @@ use Rattle.dsql_driver.specs.declared.wire.Refused.{Refused}
 use Rattle.dsql_driver.specs.declared.wire.Refused.TheVariants as refused
 use Rattle.dsql_driver.specs.Wires as wires
 use Rattle.dsql_driver.specs.Wires.{WireTold, newly_told}
-use Rattle.dsql_journal.specs.Readers.{handles_after, cursors_after}
-use Rattle.dsql_journal.specs.declared.entry.Entry.{Entry}
-use Rattle.dsql_journal.specs.declared.entry.Permit.{Permit}
-use Rattle.dsql_journal.specs.declared.entry.Owner.{Owner}
-use Rattle.dsql_journal.specs.declared.entry.Owner.TheVariants.{Call, Tx, Pin, House}
-use Rattle.dsql_journal.specs.Kinds.{is_house}
+use Rattle.dsql_tenure_journal.specs.Readers.{handles_after, cursors_after}
+use Rattle.dsql_tenure_journal.specs.declared.entry.Entry.{Entry}
+use Rattle.dsql_tenure_journal.specs.declared.entry.Permit.{Permit}
+use Rattle.dsql_tenure_journal.specs.declared.entry.Owner.{Owner}
+use Rattle.dsql_tenure_journal.specs.declared.entry.Owner.TheVariants.{Call, Tx, Pin, House}
+use Rattle.dsql_tenure_journal.specs.Kinds.{is_house}
 use Rattle.dsql_driver.specs.Kinds.{is_connect}
-use Rattle.dsql_journal.specs.Facts.{MayFollow}
-use Rattle.dsql_journal.specs.Journal.{may_follow}
-use Rattle.dsql_journal.specs.HandlesAndCursors.{fits_at_its_place}
-use Rattle.dsql_journal.specs.Permits.{entry_of}
-use Rattle.dsql_journal.proofs.Conjunctions.{parts2, parts5, join2}
-use Rattle.dsql_journal.proofs.Sentences.{MayFollow-of}
+use Rattle.dsql_tenure_journal.specs.Facts.{MayFollow}
+use Rattle.dsql_tenure_journal.specs.Journal.{may_follow}
+use Rattle.dsql_tenure_journal.specs.HandlesAndCursors.{fits_at_its_place}
+use Rattle.dsql_tenure_journal.specs.Permits.{entry_of}
+use Rattle.dsql_tenure_journal.proofs.Conjunctions.{parts2, parts5, join2}
+use Rattle.dsql_tenure_journal.proofs.Sentences.{MayFollow-of}
 use Rattle.dsql_tenure.specs.Beginnings.{is_beginning_of, IsBeginningOf}
 use Rattle.dsql_tenure.specs.Judged.{Judged, MaySend, answered}
 use Rattle.dsql_wire.specs.Told.{TellsOf}
@@ -32,7 +33,7 @@ use Rattle.dsql_wire.specs.Journaled.{MayBeSent, Agrees, has_handles, has_cursor
 use Rattle.dsql_wire.specs.Opening.{opens, refusal}
 use Rattle.dsql_wire.proofs.Answered.{Makes, makes}
 
--- what begins a journal may follow nothing
+-- An entry that begins a journal may follow the empty journal.
 first_follows : (c : ℕ) (e : Entry) → IsBeginningOf c (e ∷ []) → MayFollow [] e
 first_follows c e h =
     let p : (may_follow [] e && true ≡ true) × ((e.conn == c) && true ≡ true) = parts2 (may_follow [] e && true) ((e.conn == c) && true) h in
@@ -41,7 +42,7 @@ first_follows c e h =
 abbrev by : (c t : ℕ) → Owner → (n x : ℕ) → DriverCall → Permit
 by c t o n x call = record { conn = c; tenure = t; owner = o; call_no = n; tx = x; call = call }
 
--- a Connect that may come first is the House's, in tenure 1, with no numbers
+-- A Connect that may come first is by the House, in tenure 1, with no call number and no transaction.
 by_house : (c t : ℕ) (o : Owner) (n x : ℕ) (a : DriverAnswer) → MayFollow [] (entry_of (by c t o n x Connect) a) → opens (by c t o n x Connect) ≡ true
 by_house c t (Call m) n x a f = let clash : false ≡ true = (f.tenure.in_body refl).kind in absurd cc
 by_house c t (Tx m) n zero a f = grind (arith, nat_tests, f.tenure.in_body refl)
@@ -72,7 +73,7 @@ sent_opens c t o n x call may =
     let clash : false ≡ true = f.whole_journal.connect_first in
     absurd cc
 
--- such a Connect may come first, whatever it is answered
+-- Such a Connect may come first, whatever answer it gets.
 begins_with : (c : ℕ) (a : DriverAnswer) → fits_at_its_place [] (entry_of (by c 1 House 0 0 Connect) a) ≡ true → IsBeginningOf c (entry_of (by c 1 House 0 0 Connect) a ∷ [])
 begins_with c a h =
     let e : Entry = entry_of (by c 1 House 0 0 Connect) a in
@@ -95,7 +96,7 @@ opens_sent c t o n x call h = let clash : false ≡ true = h in absurd cc
 pub only_connects : (p : Permit) → MayBeSent p.conn [] p ↔ IsTrue (opens p)
 only_connects p = ((λ may. sent_opens p.conn p.tenure p.owner p.call_no p.tx p.call may), (λ h. opens_sent p.conn p.tenure p.owner p.call_no p.tx p.call h))
 
--- a judge of nothing lets the permit be sent, or doesn't
+-- If the judge of an empty journal allows a permit, the permit may be sent.
 pub may_begin : (j : Judged) (p : Permit) (b : Bool) → j.conn ≡ p.conn → j.journal ≡ [] → IsTrue b ↔ MaySend j p → b ≡ true → MayBeSent p.conn [] p
 may_begin j p b conn journal judged h = moved j.conn p.conn j.journal [] p conn journal (judged.0 h)
 
@@ -109,7 +110,7 @@ connect_of : (call : DriverCall) → is_connect call ≡ true → call ≡ Conne
 connect_of Connect h = refl
 connect_of _ h = let clash : false ≡ true = h in absurd cc
 
--- a permit that may come first is a Connect's
+-- A permit that may come first is for a Connect.
 opened_by : (p : Permit) → MayBeSent p.conn [] p → p.call ≡ Connect
 opened_by p may =
     connect_of p.call (parts5 (is_connect p.call) (is_house p.owner) (p.tenure == 1) (p.call_no == 0) (p.tx == 0) (sent_opens p.conn p.tenure p.owner p.call_no p.tx p.call may)).0
@@ -133,7 +134,7 @@ failure_of refused.Bad a h = let is : Bad ≡ a = cc in rw (← is) refl
 failure_of (refused.Fail text) a h = let is : Fail text ≡ a = cc in rw (← is) refl
 failure_of refused.Memory a h = absurd cc
 
--- what a refusal makes of it fits
+-- The entry that a refusal makes of such a permit fits at its place.
 pub fits_refused : (r : Refused) (p : Permit) (a : DriverAnswer) (e : Entry) → MayBeSent p.conn [] p → refusal r ≡ Some a → e ≡ answered p a → fits_at_its_place [] e ≡ true
 fits_refused r p a e may h is = rw is (fits_opened p a may (failure_of r a h))
 
@@ -144,7 +145,7 @@ told_new : (told : Option WireTold) (conn : ℕ) (e : Entry) → e.call ≡ Conn
 told_new None conn e c a h = tt
 told_new (Some told) conn e c a h = record { number = ap (λ (t : WireTold). t.number) h; calls = rw (c, a) (ap (λ (t : WireTold). t.calls) h) }
 
--- a wire that is new agrees with a journal of just its Connect
+-- A new wire agrees with a journal that holds only its Connect.
 pub agrees_new : (told : Option WireTold) (hs : List ℕ) (cs : List wires.LiveCursor) (p : Permit) → MayBeSent p.conn [] p → IfSome told (λ t. t ≡ newly_told p.conn) → Agrees told hs cs p.conn (answered p Done ∷ [])
 agrees_new told hs cs p may new =
     let e : Entry = answered p Done in

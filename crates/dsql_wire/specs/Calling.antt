@@ -1,13 +1,14 @@
--- What a driver call on a wire leaves, what asking for a connection leaves, and what planning a fault leaves, whether the journal's entries are kept or not.
+-- Defines the effect of a driver call on a wire, of a request for a connection, and of planning a fault. It is
+-- the same whether the journal's entries are kept or not.
 use Rattle.std.specs.Prelude.{◌≡◌, ◌≤◌, ◌∷◌, [], true, false, Option, Result, IfOk, IfErr, IfSome, OnOk, OnErr, IsErrOf, is_some}
 use Rattle.dsql_driver.specs.Fits.{is_done, is_fault}
 use Rattle.dsql_driver.specs.Streams.{HasRisen}
 use Rattle.dsql_driver.specs.Wires.{Plan, WireTold, connected_after, newly_told, planned_after, told_after}
 use Rattle.dsql_driver.specs.declared.wire.Fleet as fleets
 use Rattle.dsql_driver.specs.declared.wire.Wire as wires
-use Rattle.dsql_journal.specs.HandlesAndCursors.{fits_at_its_place}
-use Rattle.dsql_journal.specs.declared.entry.Entry.{Entry}
-use Rattle.dsql_journal.specs.declared.entry.Permit.{Permit}
+use Rattle.dsql_tenure_journal.specs.HandlesAndCursors.{fits_at_its_place}
+use Rattle.dsql_tenure_journal.specs.declared.entry.Entry.{Entry}
+use Rattle.dsql_tenure_journal.specs.declared.entry.Permit.{Permit}
 use Rattle.dsql_tenure.specs.Judged.{answered}
 use Rattle.dsql_value.specs.declared.memory.Memory.{Memory}
 use Rattle.dsql_wire.specs.Journaled.{Journaled, MayBeSent, permit_of}
@@ -15,8 +16,11 @@ use Rattle.dsql_wire.specs.Told.{TellsOf}
 use Rattle.dsql_wire.specs.declared.fault.WireFault.{WireFault}
 use Rattle.dsql_wire.specs.declared.fault.WireFault.TheVariants as faults
 
--- A driver call was made with leave of the journal's judge, and its answer made one entry, or it wasn't made. Of what is answered this function gives the entry.
-pub record Calls {A W : Type 0} (entry_of : A → Entry) (wire : wires.Ghosts W) (permit : Permit) (old new : Journaled W) (result : Result A WireFault) : Type 0 where
+-- Holds if the journal's judge allowed the driver call and its answer made one entry, or the call failed and
+-- left no entry. `entry_of` reads the entry from a successful result.
+pub record Calls {A W : Type 0} (entry_of : A
+    → Entry) (wire : wires.Ghosts W) (permit : Permit) (old new : Journaled W)
+    (result : Result A WireFault) : Type 0 where
   pub entry : IfOk result (λ it. entry_of it ≡ answered permit (entry_of it).answer)
   pub fits : IfOk result (λ it. fits_at_its_place old.journal (entry_of it) ≡ true)
   pub noted : IfOk result (λ it. new.journal ≡ entry_of it ∷ old.journal)
@@ -30,19 +34,27 @@ pub record Calls {A W : Type 0} (entry_of : A → Entry) (wire : wires.Ghosts W)
   pub untold : OnErr result (wire.told new.wire ≡ wire.told old.wire)
   pub conn : new.conn ≡ old.conn
   pub counted : wire.faults old.wire ≤ wire.faults new.wire
-  pub caused : IfOk result (λ it. is_fault (entry_of it).answer ≡ true → HasRisen (wire.faults old.wire) (wire.faults new.wire))
-  pub faultless : IfOk result (λ it. is_fault (entry_of it).answer ≡ false → wire.faults new.wire ≡ wire.faults old.wire)
+  pub caused : IfOk result (λ it. is_fault (entry_of it).answer ≡ true
+      → HasRisen (wire.faults old.wire) (wire.faults new.wire))
+  pub faultless : IfOk result (λ it. is_fault (entry_of it).answer ≡ false → wire.faults new.wire
+      ≡ wire.faults old.wire)
   pub refused : OnErr result (wire.faults new.wire ≡ wire.faults old.wire)
 
--- The fleet was asked for a connection, and what it answered made one entry, or it wasn't asked. Of what is answered these functions give the entry and the wire, whose journal is just that entry.
-pub record Opens {A F W : Type 0} (entry_of : A → Entry) (wire_of : A → Option (Journaled W)) (fleet : fleets.Ghosts F W) (heard : W → Option WireTold) (permit : Permit) (old new : F) (result : Result A WireFault) : Type 0 where
+-- Holds if the fleet was asked for a connection and its answer made one entry, or the request failed.
+-- `entry_of` and `wire_of` read the entry and the wire from a successful result; the wire's journal is that
+-- entry alone.
+pub record Opens {A F W : Type 0} (entry_of : A → Entry) (wire_of : A
+    → Option (Journaled W)) (fleet : fleets.Ghosts F W) (heard : W
+    → Option WireTold) (permit : Permit) (old new : F) (result : Result A WireFault) : Type 0 where
   pub entry : IfOk result (λ it. entry_of it ≡ answered permit (entry_of it).answer)
   pub fits : IfOk result (λ it. fits_at_its_place [] (entry_of it) ≡ true)
   pub wire : IfOk result (λ it. is_some (wire_of it) ≡ is_done (entry_of it).answer)
   pub conn : IfOk result (λ it. IfSome (wire_of it) (λ w. w.conn ≡ permit.conn))
   pub noted : IfOk result (λ it. IfSome (wire_of it) (λ w. w.journal ≡ entry_of it ∷ []))
-  pub told : IfOk result (λ it. IfSome (wire_of it) (λ w. IfSome (heard w.wire) (λ told. told ≡ newly_told permit.conn)))
-  pub telling : IfOk result (λ it. IfSome (wire_of it) (λ w. is_some (fleet.told old) ≡ true → is_some (heard w.wire) ≡ true))
+  pub told : IfOk result (λ it. IfSome (wire_of it) (λ w. IfSome (heard w.wire) (λ told. told
+      ≡ newly_told permit.conn)))
+  pub telling : IfOk result (λ it. IfSome (wire_of it) (λ w. is_some (fleet.told old) ≡ true
+      → is_some (heard w.wire) ≡ true))
   pub ok : OnOk result (MayBeSent permit.conn [] permit)
   pub handed_back : IfErr result (λ fault. permit_of fault ≡ permit)
   pub stray : IsErrOf result (faults.Stray permit) → ¬ MayBeSent permit.conn [] permit
@@ -57,8 +69,10 @@ pub record Opens {A F W : Type 0} (entry_of : A → Entry) (wire_of : A → Opti
   pub faultless : IfOk result (λ it. is_fault (entry_of it).answer ≡ false → fleet.faults new ≡ fleet.faults old)
   pub refused : OnErr result (fleet.faults new ≡ fleet.faults old)
 
--- A fault was planned on a wire, or memory was wanting. What the wire told before, if it tells, was just its journal.
-pub record PlansFault {W : Type 0} (wire : wires.Ghosts W) (plan : Plan) (old new : Journaled W) (result : Result (Unit {0}) Memory) : Type 0 where
+-- Holds if a fault was planned on the wire, or there was no memory. If the wire reports its calls, its report
+-- before was exactly its journal.
+pub record PlansFault {W : Type 0} (wire : wires.Ghosts W) (plan : Plan) (old new : Journaled W)
+    (result : Result (Unit {0}) Memory) : Type 0 where
   pub journal : new.journal ≡ old.journal
   pub conn : new.conn ≡ old.conn
   pub told : OnOk result (wire.told new.wire ≡ planned_after plan (wire.told old.wire))

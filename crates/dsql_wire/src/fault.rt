@@ -1,11 +1,11 @@
-use dsql_journal::Permit;
+use dsql_tenure_journal::Permit;
 use std::fmt;
 use thiserror::Error;
 
-/// Why a driver call left no entry. The permit is handed back.
+/// Why a driver call left no entry. Each fault hands the permit back.
 #[derive(Drop, Error)]
 pub enum WireFault {
-    /// The journal's judge gives no leave to send it. The driver wasn't called.
+    /// The journal's judge doesn't allow the call. The driver wasn't called.
     #[error("a stray permit")]
     Stray(Permit),
     /// There was no memory, here or in the driver.
@@ -13,7 +13,7 @@ pub enum WireFault {
     Memory(Permit),
 }
 
-/// It prints as its text: the permit isn't printed.
+/// Prints the fault's text, without the permit.
 impl fmt::Debug for WireFault {
     fn fmt<W: fmt::Write>(&self, f: &mut fmt::Formatter<W>) -> fmt::Result {
         fmt::Display::fmt(self, f)

@@ -1,22 +1,23 @@
 ghost use Rattle.std.specs.Prelude.{◌≡◌, IfOk};
 
 use dsql_driver::DriverAnswer;
-use dsql_journal::Entry;
+use dsql_tenure_journal::Entry;
 use dsql_value::Memory;
 use std::marker::Model;
 
-/// An entry that a driver's answer made. It is made only as a fleet is asked for a connection and as a wire makes a call,
-/// and never copied. Contracts see the entry.
+/// An entry that a driver's answer made. Only a request to a fleet for a connection and a wire's call make one,
+/// and nothing copies it. Contracts see the entry.
 #[derive(Drop)]
 pub struct Heard {
     entry: Entry,
-    /// The driver's second answer, until it is taken. There is none where a journal keeps it, or a fleet refused.
+    /// The driver's second answer, until it is taken. There is none if a journal keeps it, or if a fleet
+    /// refused.
     second: Option<DriverAnswer>,
 }
 
 impl Model for Heard {
     ghost use Rattle.std.specs.Prelude.{◌≡◌, IfSome};
-    ghost use Rattle.dsql_journal.specs.declared.entry.Entry.{Entry};
+    ghost use Rattle.dsql_tenure_journal.specs.declared.entry.Entry.{Entry};
 
     ghost Value = { Entry };
 
@@ -35,7 +36,7 @@ impl Heard {
         }
     }
 
-    /// The same with the driver's second answer.
+    /// Returns the same entry together with the driver's second answer.
     pub(crate) fn with_second(self, second: DriverAnswer) -> Heard
         requires { second ≡ self.answer }
         ensures { result ≡ self }
@@ -46,14 +47,14 @@ impl Heard {
         }
     }
 
-    /// The entry.
+    /// Returns the entry.
     pub fn entry(&self) -> &Entry
         ensures { result.now ≡ self.now }
     {
         &self.entry
     }
 
-    /// The entry, to be kept.
+    /// Returns the entry, for the caller to keep.
     pub fn into_entry(self) -> Entry
         ensures { result ≡ self }
     {
@@ -61,7 +62,8 @@ impl Heard {
         entry
     }
 
-    /// The answer once more, to be kept: the driver's second one where it is there, and else a copy.
+    /// Returns the answer again, for the caller to keep: the driver's second one if it is there, otherwise a
+    /// copy. Fails if there is no memory for the copy.
     pub fn take_second(&mut self) -> Result<DriverAnswer, Memory>
         ensures second { IfOk result (λ second. second ≡ self.old.answer) }
         ensures same { self.new ≡ self.old }

@@ -1,14 +1,14 @@
 ghost use Rattle.std.specs.Prelude.{◌≡◌, ◌<◌, ◌∷◌, ◌↔◌, [], IsTrue, OnOk};
 ghost use Rattle.dsql_tenure.specs.Beginnings.{IsBeginningOf};
 
-use dsql_journal::{Entry, Permit};
 use dsql_tenure::Judge;
+use dsql_tenure_journal::{Entry, Permit};
 use dsql_value::Memory;
 use std::alloc::Global;
 use std::marker::Model;
 
-/// A connection's journal as its judge knows it: the entries are not kept. Contracts see what they see of a judge: the
-/// connection, the journal, the newest entry first, and for how many entries there is memory.
+/// A connection's journal as its judge knows it, without the entries. Contracts see what they see of a judge:
+/// the connection, the journal with the newest entry first, and for how many entries there is memory.
 #[derive(Drop)]
 pub(crate) struct JudgedJournal {
     conn: u32,
@@ -30,7 +30,7 @@ impl Model for JudgedJournal {
 impl JudgedJournal {
     ghost use Rattle.dsql_tenure.specs.Judged.{MaySend};
 
-    /// The journal of a connection that nothing was heard of yet.
+    /// Returns the journal of a connection that has no entries yet.
     pub(crate) fn new(alloc: Global, conn: u32) -> JudgedJournal
         ensures conn { result.conn ≡ conn }
         ensures journal { result.journal ≡ [] }
@@ -41,7 +41,7 @@ impl JudgedJournal {
         }
     }
 
-    /// Each answer that fits the permit's call at its place may follow.
+    /// Returns whether the permit may be sent, so that each answer that fits its call at its place may follow.
     pub(crate) fn may_send(&self, permit: &Permit) -> bool
         ensures { IsTrue result ↔ MaySend self.now permit.now }
     {
@@ -57,7 +57,7 @@ impl JudgedJournal {
         self.judge.reserve(1)
     }
 
-    /// Hears an entry that may follow, for which there is memory.
+    /// Records an entry that may follow. The memory for it must have been taken.
     pub(crate) fn note(&mut self, entry: &Entry)
         requires follows { IsBeginningOf self.old.conn (entry.now ∷ self.old.journal) }
         requires room { 0 < self.old.spare }
@@ -70,7 +70,7 @@ impl JudgedJournal {
         }
     }
 
-    /// The connection's number.
+    /// Returns the connection's number.
     pub(crate) fn number(&self) -> u32
         ensures number { result ≡ self.now.conn }
         ensures beginning { IsBeginningOf self.now.conn self.now.journal }

@@ -1,5 +1,5 @@
-//! A driver's wire with its judge, or with its whole journal: a driver call is made only with leave of the judge, and makes
-//! exactly one entry.
+//! A driver's wire with its judge, or with its whole journal. The layer makes a driver call only if the judge
+//! allows it, and each call makes exactly one entry.
 #![tactic(auto)]
 
 mod fault;

@@ -9,37 +9,39 @@ use crate::request::{OpenedThin, Request};
 use crate::thin::ThinWire;
 use crate::wire::{JournaledWire, make_room};
 use dsql_driver::{DriverAnswer, Fleet, Wire};
-use dsql_journal::{Entry, Permit};
+use dsql_tenure_journal::{Entry, Permit};
 use std::alloc::Global;
 
-/// A connection that was asked for, with what was heard of it, which its journal keeps. Where the driver refused there
-/// is no wire.
+/// The result of a request for a connection: the wire, and the entry of the Connect, which the wire's journal
+/// keeps. There is no wire if the driver refused.
 pub struct Opened<W: Wire> {
     pub wire: Option<JournaledWire<W>>,
     pub heard: Heard,
 }
 
-/// Asks a fleet for a connection whose journal isn't kept, with leave of the connection's judge. All the memory for it
-/// is taken before, so that a wire that was connected isn't lost.
+/// Asks a fleet for a connection whose journal isn't kept, if the connection's judge allows it. It takes all
+/// the memory beforehand, so that no connected wire is lost.
 pub fn connect_thin<F: Fleet>(
     alloc: Global,
     fleet: &mut F,
     permit: Permit,
 ) -> Result<OpenedThin<F::Wire>, WireFault>
-    ensures { Opens (λ (it : OpenedThin _). it.heard) (λ (it : OpenedThin _). it.wire) F.Fleet F.Wire.told permit fleet.old fleet.new result }
+    ensures { Opens (λ (it : OpenedThin _). it.heard)
+        (λ (it : OpenedThin _). it.wire) F.Fleet F.Wire.told permit fleet.old fleet.new result }
 {
     let request = Request::new(alloc, permit)?;
     ask(fleet, request)
 }
 
-/// Asks a fleet for a connection whose journal is kept, with leave of the connection's judge. All the memory for it is
-/// taken before, so that a wire that was connected isn't lost.
+/// Asks a fleet for a connection whose journal is kept, if the connection's judge allows it. It takes all the
+/// memory beforehand, so that no connected wire is lost.
 pub fn connect<F: Fleet>(
     alloc: Global,
     fleet: &mut F,
     permit: Permit,
 ) -> Result<Opened<F::Wire>, WireFault>
-    ensures { Opens (λ (it : Opened _). it.heard) (λ (it : Opened _). it.wire) F.Fleet F.Wire.told permit fleet.old fleet.new result }
+    ensures { Opens (λ (it : Opened _). it.heard)
+        (λ (it : Opened _). it.wire) F.Fleet F.Wire.told permit fleet.old fleet.new result }
 {
     let request = Request::new(alloc, permit)?;
     let mut entries = Vec::new(alloc);
@@ -53,7 +55,7 @@ pub fn connect<F: Fleet>(
     })
 }
 
-/// The wire with its journal, in which its first entry is kept.
+/// Returns the wire with its journal, which keeps its first entry.
 fn keep<W: Wire>(
     wire: Option<ThinWire<W>>,
     entries: Vec<Entry>,
@@ -74,9 +76,10 @@ fn keep<W: Wire>(
     }
 }
 
-/// Asks for the connection, for whose first entry there is memory.
+/// Asks for the connection. The memory for its first entry must have been taken.
 fn ask<F: Fleet>(fleet: &mut F, request: Request) -> Result<OpenedThin<F::Wire>, WireFault>
-    ensures { Opens (λ (it : OpenedThin _). it.heard) (λ (it : OpenedThin _). it.wire) F.Fleet F.Wire.told request fleet.old fleet.new result }
+    ensures { Opens (λ (it : OpenedThin _). it.heard)
+        (λ (it : OpenedThin _). it.wire) F.Fleet F.Wire.told request fleet.old fleet.new result }
 {
     match fleet.connect(request.permit().conn) {
         Ok(wire) => Ok(request.opened(wire)),

@@ -1,14 +1,14 @@
-//! Copies of permits, and what answers make of them.
+//! Copies of permits, and the entries that answers make of them.
 ghost use Rattle.std.specs.Prelude.{◌≡◌, ◌&&◌, not, IfOk};
 ghost use Rattle.dsql_driver.specs.Fits.{is_done, is_memory as is_want};
 ghost use Rattle.dsql_driver.specs.Kinds.{is_begin};
 ghost use Rattle.dsql_tenure.specs.Judged.{answered};
 
 use dsql_driver::{DriverAnswer, DriverCall};
-use dsql_journal::{Entry, Permit};
+use dsql_tenure_journal::{Entry, Permit};
 use dsql_value::Memory;
 
-/// A second permit like this one.
+/// Returns a copy of the permit, or fails if there is no memory for it.
 pub(crate) fn copy_of(permit: &Permit) -> Result<Permit, Memory>
     ensures { IfOk result (λ copy. copy ≡ permit.now) }
 {
@@ -22,7 +22,8 @@ pub(crate) fn copy_of(permit: &Permit) -> Result<Permit, Memory>
     })
 }
 
-/// The entry that this answer makes of a permit. A Begin that wasn't answered Done makes no transaction.
+/// Returns the entry that this answer makes of a permit. A Begin begins a transaction only if its answer is
+/// `Done`.
 pub(crate) fn answered(permit: Permit, answer: DriverAnswer) -> Entry
     ensures { result ≡ answered permit answer }
 {
@@ -42,7 +43,7 @@ fn is_refused_begin(call: &DriverCall, answer: &DriverAnswer) -> bool
     matches!(call, DriverCall::Begin { .. }) && !matches!(answer, DriverAnswer::Done)
 }
 
-/// The driver had no memory.
+/// Returns whether the driver had no memory.
 pub(crate) fn is_memory(answer: &DriverAnswer) -> bool
     ensures { result ≡ is_want answer.now }
 {

@@ -1,6 +1,6 @@
 ghost use Rattle.std.specs.Prelude.{◌≡◌, ◌∷◌, [], Some, None, true, IsSomeAnd, IfOk, IfErr, IfSome, OnOk, OnErr, IsErrOf};
 ghost use Rattle.dsql_driver.specs.Wires.{newly_told};
-ghost use Rattle.dsql_journal.specs.HandlesAndCursors.{fits_at_its_place};
+ghost use Rattle.dsql_tenure_journal.specs.HandlesAndCursors.{fits_at_its_place};
 ghost use Rattle.dsql_tenure.specs.Judged.{answered as entry_of};
 ghost use Rattle.dsql_wire.specs.Journaled.{MayBeSent, permit_of};
 ghost use Rattle.dsql_wire.specs.Opening.{refusal as refusal_of};
@@ -11,18 +11,19 @@ use crate::journal::JudgedJournal;
 use crate::permit::answered;
 use crate::thin::ThinWire;
 use dsql_driver::{DriverAnswer, Refused, Wire};
-use dsql_journal::Permit;
+use dsql_tenure_journal::Permit;
 use std::alloc::Global;
 use std::marker::Model;
 
-/// A connection that was asked for, with what was heard of it. Where the driver refused there is no wire.
+/// The result of a request for a connection: the wire, and the entry of the Connect. There is no wire if the
+/// driver refused.
 pub struct OpenedThin<W: Wire> {
     pub wire: Option<ThinWire<W>>,
     pub heard: Heard,
 }
 
-/// A connection that may be asked for: its permit, and its journal with room for the first entry. Contracts see the
-/// permit.
+/// A request for a connection that may be made: its permit, and its journal with room for the first entry.
+/// Contracts see the permit.
 #[derive(Drop)]
 pub(crate) struct Request {
     permit: Permit,
@@ -30,7 +31,7 @@ pub(crate) struct Request {
 }
 
 impl Model for Request {
-    ghost use Rattle.dsql_journal.specs.declared.entry.Permit.{Permit};
+    ghost use Rattle.dsql_tenure_journal.specs.declared.entry.Permit.{Permit};
     ghost use Rattle.dsql_wire.specs.Opening.{IsReady};
 
     ghost Value = { Permit };
@@ -41,7 +42,8 @@ impl Model for Request {
 }
 
 impl Request {
-    /// Takes all the memory for the connection's first entry, with leave of its judge.
+    /// Takes all the memory for the connection's first entry, if its judge allows the permit. Fails with
+    /// `Stray` if the judge doesn't, and with `Memory` if there is no memory.
     pub(crate) fn new(alloc: Global, permit: Permit) -> Result<Request, WireFault>
         ensures permit { IfOk result (λ request. request ≡ permit) }
         ensures ok { OnOk result (MayBeSent permit.conn [] permit) }
@@ -59,14 +61,14 @@ impl Request {
         }
     }
 
-    /// The permit.
+    /// Returns the permit.
     pub(crate) fn permit(&self) -> &Permit
         ensures { result.now ≡ self.now }
     {
         &self.permit
     }
 
-    /// The permit, where the connection isn't asked for.
+    /// Returns the permit, if the connection isn't asked for after all.
     pub(crate) fn into_permit(self) -> Permit
         ensures { result ≡ self }
     {
@@ -74,7 +76,7 @@ impl Request {
         permit
     }
 
-    /// It was opened with this wire.
+    /// Records that the driver opened the connection with this wire.
     pub(crate) fn opened<W: Wire>(self, wire: W) -> OpenedThin<W>
         requires told { IfSome (W.told wire) (λ told. told ≡ newly_told self.conn) }
         requires handles { W.handles wire ≡ [] }
@@ -99,7 +101,7 @@ impl Request {
         }
     }
 
-    /// The driver refused. Want of memory is no answer.
+    /// Records that the driver refused. A lack of memory is no answer, so it fails with `Memory`.
     pub(crate) fn refused<W: Wire>(self, refused: Refused) -> Result<OpenedThin<W>, WireFault>
         ensures none { IfOk result (λ opened. opened.wire ≡ None) }
         ensures answer { IfOk result (λ opened. refusal_of refused ≡ Some opened.heard.answer) }
@@ -120,7 +122,7 @@ impl Request {
     }
 }
 
-/// The answer that a refusal is.
+/// Returns the answer that a refusal is, or `None` for a lack of memory.
 fn refusal(refused: Refused) -> Option<DriverAnswer>
     ensures { result ≡ refusal_of refused }
 {

@@ -1,5 +1,5 @@
 ghost use Rattle.std.specs.Prelude.{◌≡◌, ◌↔◌, false, IsTrue, IfOk, IfSome};
-ghost use Rattle.dsql_journal.specs.Readers.{is_empty};
+ghost use Rattle.dsql_tenure_journal.specs.Readers.{is_empty};
 ghost use Rattle.dsql_tenure.specs.Beginnings.{IsBeginningOf};
 ghost use Rattle.dsql_wire.specs.Calling.{Calls, PlansFault};
 ghost use Rattle.dsql_wire.specs.Journaled.{Agrees, MayBeSent};
@@ -10,12 +10,13 @@ use crate::heard::Heard;
 use crate::journal::JudgedJournal;
 use crate::permit::{answered, is_memory};
 use dsql_driver::{Answered, DriverAnswer, Planned, Wire};
-use dsql_journal::Permit;
+use dsql_tenure_journal::Permit;
 use dsql_value::Memory;
 use std::marker::Model;
 
 /// A driver's wire with its connection's judge. The journal isn't kept: only proofs read it. Contracts see the
-/// connection's number, the journal, the newest entry first, and the driver's wire. It can't be dropped, but retired.
+/// connection's number, the journal with the newest entry first, and the driver's wire. A thin wire can't be
+/// dropped; it must be retired.
 pub struct ThinWire<W: Wire> {
     wire: W,
     journal: JudgedJournal,
@@ -28,16 +29,17 @@ impl<W: Wire> Model for ThinWire<W> {
 
     ghost view = { λ t. record { conn = t.journal.conn; journal = t.journal.journal; wire = t.wire } };
 
-    ghost invariant = { λ t. Agrees (W.told t.wire) (W.handles t.wire) (W.cursors t.wire) t.journal.conn t.journal.journal };
+    ghost invariant = { λ t. Agrees (W.told t.wire) (W.handles t.wire)
+        (W.cursors t.wire) t.journal.conn t.journal.journal };
 }
 
-/// What is left of a thin wire: its connection's number and the driver's wire.
+/// What is left of a retired thin wire: its connection's number and the driver's wire.
 pub struct RetiredThin<W> {
     pub number: u32,
     pub wire: W,
 }
 
-/// What was heard, with a second answer like the one in it.
+/// An entry, with a second answer equal to the one in it.
 #[derive(Drop)]
 pub(crate) struct HeardTwice {
     pub(crate) heard: Heard,
@@ -45,7 +47,7 @@ pub(crate) struct HeardTwice {
 }
 
 impl<W: Wire> ThinWire<W> {
-    /// The wire of a connection of which just this journal was heard.
+    /// Returns the wire of a connection that has exactly this journal.
     pub(crate) fn of(wire: W, journal: JudgedJournal) -> ThinWire<W>
         requires { Agrees (W.told wire) (W.handles wire) (W.cursors wire) journal.conn journal.journal }
         ensures conn { result.conn ≡ journal.conn }
@@ -55,14 +57,14 @@ impl<W: Wire> ThinWire<W> {
         ThinWire { wire, journal }
     }
 
-    /// Whether the journal's judge lets the permit be sent.
+    /// Returns whether the journal's judge lets the permit be sent.
     pub(crate) fn may_send(&self, permit: &Permit) -> bool
         ensures { IsTrue result ↔ MayBeSent self.now.conn self.now.journal permit.now }
     {
         self.journal.may_send(permit)
     }
 
-    /// Makes one driver call that may be sent, and has the judge hear the entry that its answer makes.
+    /// Makes one driver call that may be sent, and has the judge record the entry that its answer makes.
     pub(crate) fn call(&mut self, permit: Permit) -> Result<HeardTwice, WireFault>
         requires { MayBeSent self.old.conn self.old.journal permit }
         ensures calls { Calls (λ (it : HeardTwice). it.heard) W.Wire permit self.old self.new result }
@@ -83,7 +85,8 @@ impl<W: Wire> ThinWire<W> {
         })
     }
 
-    /// Makes one driver call with leave of the journal's judge, which hears the entry that its answer makes.
+    /// Makes one driver call if the journal's judge allows it, and has the judge record the entry that its
+    /// answer makes. Fails with `Stray` if the judge doesn't allow it, and with `Memory` if there is no memory.
     pub fn perform(&mut self, permit: Permit) -> Result<Heard, WireFault>
         ensures { Calls (λ heard. heard) W.Wire permit self.old self.new result }
     {
@@ -94,14 +97,15 @@ impl<W: Wire> ThinWire<W> {
         Ok(heard.with_second(copy))
     }
 
-    /// Plans a fault in place of the answer to the nth call on this wire, its Connect being the first.
+    /// Plans a fault in place of the answer to the nth call on this wire. The Connect is the first call.
     pub fn plan(&mut self, nth: u32, what: Planned) -> Result<(), Memory>
         ensures { PlansFault W.Wire (nth, what) self.old self.new result }
     {
         self.wire.plan(nth, what)
     }
 
-    /// The connection's number. What the wire tells, if it tells, is just its journal, which began well.
+    /// Returns the connection's number. If the wire reports its calls, its report is exactly its journal, which
+    /// began well.
     pub(crate) fn number(&self) -> u32
         ensures number { result ≡ self.now.conn }
         ensures beginning { IsBeginningOf self.now.conn self.now.journal }
@@ -111,7 +115,7 @@ impl<W: Wire> ThinWire<W> {
         self.journal.number()
     }
 
-    /// Gives the driver's wire back. It takes no memory.
+    /// Returns the driver's wire. It takes no memory.
     pub fn retire(self) -> RetiredThin<W>
         ensures number { result.number ≡ self.conn }
         ensures wire { result.wire ≡ self.wire }

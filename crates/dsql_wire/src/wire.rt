@@ -1,5 +1,5 @@
 ghost use Rattle.std.specs.Prelude.{◌≡◌, ◌<◌, false, reverse, vec_capacity, vec_len, IfOk, IfSome, OnOk};
-ghost use Rattle.dsql_journal.specs.Readers.{is_empty};
+ghost use Rattle.dsql_tenure_journal.specs.Readers.{is_empty};
 ghost use Rattle.dsql_tenure.specs.Beginnings.{IsBeginningOf};
 ghost use Rattle.dsql_wire.specs.Calling.{Calls, PlansFault};
 ghost use Rattle.dsql_wire.specs.Told.{TellsOf};
@@ -9,12 +9,13 @@ use crate::heard::Heard;
 use crate::permit::{answered, copy_of};
 use crate::thin::{HeardTwice, RetiredThin, ThinWire};
 use dsql_driver::{Planned, Wire};
-use dsql_journal::{Entry, Permit};
+use dsql_tenure_journal::{Entry, Permit};
 use dsql_value::Memory;
 use std::marker::Model;
 
-/// A driver's wire with its connection's journal, which is kept. Contracts see the connection's number, the journal,
-/// the newest entry first, and the driver's wire. It can't be dropped, but retired.
+/// A driver's wire with its connection's journal, which is kept. Contracts see the connection's number, the
+/// journal with the newest entry first, and the driver's wire. A journaled wire can't be dropped; it must be
+/// retired.
 pub struct JournaledWire<W: Wire> {
     thin: ThinWire<W>,
     entries: Vec<Entry>,
@@ -31,8 +32,8 @@ impl<W: Wire> Model for JournaledWire<W> {
     ghost invariant = { λ j. j.thin.journal ≡ reverse j.entries.items };
 }
 
-/// What is left of a journaled wire: its connection's number, the journal, oldest first, and the driver's
-/// wire.
+/// What is left of a retired journaled wire: its connection's number, the journal with the oldest entry first,
+/// and the driver's wire.
 pub struct Retired<W> {
     pub number: u32,
     pub journal: Vec<Entry>,
@@ -40,7 +41,7 @@ pub struct Retired<W> {
 }
 
 impl<W: Wire> JournaledWire<W> {
-    /// The wire of a connection of which just these entries were heard, oldest first.
+    /// Returns the wire of a connection that has exactly these entries, oldest first.
     pub(crate) fn of(thin: ThinWire<W>, entries: Vec<Entry>) -> JournaledWire<W>
         requires { thin.journal ≡ reverse entries.items }
         ensures { result ≡ thin }
@@ -48,7 +49,8 @@ impl<W: Wire> JournaledWire<W> {
         JournaledWire { thin, entries }
     }
 
-    /// Makes one driver call with leave of the journal's judge, and notes the entry that its answer makes.
+    /// Makes one driver call if the journal's judge allows it, and keeps the entry that its answer makes. Fails
+    /// with `Stray` if the judge doesn't allow it, and with `Memory` if there is no memory.
     pub fn perform(&mut self, permit: Permit) -> Result<Heard, WireFault>
         ensures { Calls (λ heard. heard) W.Wire permit self.old self.new result }
     {
@@ -67,26 +69,26 @@ impl<W: Wire> JournaledWire<W> {
         }
     }
 
-    /// The journal, oldest first.
+    /// Returns the journal, oldest entry first.
     pub fn journal(&self) -> &[Entry]
         ensures entries { reverse result.now ≡ self.now.journal }
         ensures beginning { IsBeginningOf self.now.conn self.now.journal }
         ensures started { is_empty self.now.journal ≡ false }
         ensures told { IfSome (W.told self.now.wire) (TellsOf self.now.conn self.now.journal) }
     {
-        // It vouches for the journal.
+        // This call vouches for the journal.
         let _number = self.thin.number();
         &self.entries
     }
 
-    /// Plans a fault in place of the answer to the nth call on this wire, its Connect being the first.
+    /// Plans a fault in place of the answer to the nth call on this wire. The Connect is the first call.
     pub fn plan(&mut self, nth: u32, what: Planned) -> Result<(), Memory>
         ensures { PlansFault W.Wire (nth, what) self.old self.new result }
     {
         self.thin.plan(nth, what)
     }
 
-    /// Gives the driver's wire back with what was heard on it. It takes no memory.
+    /// Returns the driver's wire and the journal. It takes no memory.
     pub fn retire(self) -> Retired<W>
         ensures number { result.number ≡ self.conn }
         ensures journal { reverse result.journal.items ≡ self.journal }
@@ -104,7 +106,7 @@ impl<W: Wire> JournaledWire<W> {
     }
 }
 
-/// Takes the memory for one entry more, and gives a second permit for it.
+/// Takes the memory for one more entry, and returns a second permit for it.
 pub(crate) fn make_room(entries: &mut Vec<Entry>, permit: &Permit) -> Result<Permit, Memory>
     ensures copied { IfOk result (λ copy. copy ≡ permit.now) }
     ensures room { OnOk result (vec_len entries.new < vec_capacity entries.new) }

@@ -1,11 +1,12 @@
--- What calls are answered: each answer fits its call, and tells of the cursors as it should.
+-- How calls are answered: each answer fits its call and changes the live cursors as it says. The argument goes
+-- through the kinds of calls.
 use Rattle.std.proofs.Common.{arith, ◌≡◌, ◌≤◌, ℕ, zero, suc, List, [], ◌∷◌, length, Bool, true, false, cond, Option, Some, None, nat_lt, ap, refl, ◌∙◌, inl, inr}
 use Rattle.std.specs.Prelude.{⊤}
 use Rattle.std.specs.List.{slice_get}
 use Rattle.dsql_driver.specs.Fits.{fits_of, is_memory}
 use Rattle.dsql_driver.specs.Wires.{KeepsHandles, KeepsCursors, has_width}
 use Rattle.dsql_driver.specs.declared.call.DriverCall.{DriverCall}
-use Rattle.dsql_driver.specs.declared.call.DriverCall.TheVariants.{Connect, Reset, Valid, Ping, Prepare, CloseStmt, Exec, Query, Next, CloseRows, Begin, Commit, Rollback, Shut}
+use Rattle.dsql_driver.specs.declared.call.DriverCall.TheVariants.{CloseStmt, Exec, Query, Next, CloseRows}
 use Rattle.dsql_driver.specs.declared.call.Input.TheVariants.{Text, Handle}
 use Rattle.dsql_value.specs.declared.value.Param.{Param}
 use Rattle.dsql_value.specs.declared.value.Value.{Value}
@@ -15,14 +16,14 @@ use Rattle.fixed_answers.specs.Table.{table}
 use Rattle.fixed_answers.specs.declared.cursors.OpenCursor.{OpenCursor}
 use Rattle.fixed_answers.proofs.CursorLemmas.{live-without, live-advanced, new-number, same-width}
 
--- The answer fits the call and isn't Memory, no handle is given, and the live cursors are as it tells.
+-- Holds if the answer fits the call and isn't Memory, gives no handle, and leaves the live cursors as it says.
 pub record IsLawful (before : CursorsState) (call : DriverCall) (after : Effect) : Type 0 where
   pub fits : fits_of call after.answer ≡ true
   pub answered : is_memory after.answer ≡ false
   pub handles : KeepsHandles call after.answer [] []
   pub cursors : KeepsCursors call after.answer (live_cursors before) (live_cursors after.cursors)
 
--- both branches have a property
+-- If both branches have a property, the chosen one has it.
 cond_both : {A : Type 0} (P : A → Type 0) (b : Bool) (x y : A) → P x → P y → P (cond b x y)
 cond_both P true x y p q = p
 cond_both P false x y p q = q
@@ -34,12 +35,12 @@ queried-IsLawful cursors text [] h =
     (record { fits = refl; answered = refl; handles = refl; cursors = refl })
 queried-IsLawful cursors text (param ∷ params) h = record { fits = refl; answered = refl; handles = refl; cursors = refl }
 
--- a text is asked with parameters
+-- A query with parameters is refused.
 pub refused_query : (cursors : CursorsState) (params : List Param) → 1 ≤ length params → (queried cursors params).answer ≡ no_parameters
 refused_query cursors [] h = absurd (omega (arith, h))
 refused_query cursors (param ∷ params) h = refl
 
--- a row of the table has a value for each column
+-- Holds if a row of the table has a value for each column.
 abbrev HasTwo : Option (List Value) → Type 0
 HasTwo None = ⊤
 HasTwo (Some row) = length row ≡ 2
@@ -65,11 +66,6 @@ row_taken-IsLawful cursors rows None = record { fits = refl; answered = refl; ha
 row_taken-IsLawful cursors rows (Some cursor) = row_given-IsLawful cursors rows (slice_get table cursor.given) (rows-HasTwo cursor.given)
 
 pub effect-IsLawful : (cursors : CursorsState) (call : DriverCall) → are_within cursors.last cursors.live ≡ true → IsLawful cursors call (effect cursors call)
-effect-IsLawful cursors Connect h = record { fits = refl; answered = refl; handles = refl; cursors = refl }
-effect-IsLawful cursors Reset h = record { fits = refl; answered = refl; handles = refl; cursors = refl }
-effect-IsLawful cursors Valid h = record { fits = refl; answered = refl; handles = refl; cursors = refl }
-effect-IsLawful cursors Ping h = record { fits = refl; answered = refl; handles = refl; cursors = refl }
-effect-IsLawful cursors (Prepare text) h = record { fits = refl; answered = refl; handles = refl; cursors = refl }
 effect-IsLawful cursors (CloseStmt handle) h = record { fits = refl; answered = refl; handles = inl refl; cursors = refl }
 effect-IsLawful cursors (Exec (Text text) params) h = record { fits = refl; answered = refl; handles = refl; cursors = refl }
 effect-IsLawful cursors (Exec (Handle handle) params) h = record { fits = refl; answered = refl; handles = refl; cursors = refl }
@@ -77,7 +73,4 @@ effect-IsLawful cursors (Query (Text text) params) h = queried-IsLawful cursors 
 effect-IsLawful cursors (Query (Handle handle) params) h = record { fits = refl; answered = refl; handles = refl; cursors = refl }
 effect-IsLawful cursors (Next rows) h = row_taken-IsLawful cursors rows (cursor_of rows cursors)
 effect-IsLawful cursors (CloseRows rows) h = record { fits = refl; answered = refl; handles = refl; cursors = inr (live-without rows cursors.live) }
-effect-IsLawful cursors (Begin level read_only) h = record { fits = refl; answered = refl; handles = refl; cursors = refl }
-effect-IsLawful cursors Commit h = record { fits = refl; answered = refl; handles = refl; cursors = refl }
-effect-IsLawful cursors Rollback h = record { fits = refl; answered = refl; handles = refl; cursors = refl }
-effect-IsLawful cursors Shut h = record { fits = refl; answered = refl; handles = refl; cursors = refl }
+effect-IsLawful cursors _ h = record { fits = refl; answered = refl; handles = refl; cursors = refl }

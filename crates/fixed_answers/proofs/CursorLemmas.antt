@@ -1,4 +1,5 @@
--- The live cursors, as they are numbered, give rows and are closed.
+-- The live cursors, as they are numbered, give rows and are closed. The argument is by induction over the list
+-- of cursors.
 use Rattle.std.proofs.Common.{◌≡◌, ℕ, zero, suc, ◌+◌, ◌<◌, ◌≤◌, List, [], ◌∷◌, length, map, get_or, Bool, true, false, cond, not, ◌&&◌, ◌||◌, Some, None, eqb, leb, ap, sym, refl, ◌∙◌, arith}
 use Rattle.std.specs.List.{filter, position, position_or_len}
 use Rattle.std.proofs.Math.ListN.{set}
@@ -10,11 +11,11 @@ use Rattle.fixed_answers.specs.Cursors.{are_within, advanced, with_advanced, wit
 use Rattle.fixed_answers.specs.Table.{columns}
 use Rattle.fixed_answers.specs.declared.cursors.OpenCursor.{OpenCursor}
 
--- the test of one number
+-- Is true if the cursor has this number.
 abbrev is_at : ℕ → OpenCursor → Bool
 is_at rows c = eqb c.number rows
 
--- where a number stands first
+-- Holds if this is the first place with this number.
 record StandsAt (rows : ℕ) (cs : List OpenCursor) (at : ℕ) (d : OpenCursor) : Type 0 where
   within : at < length cs
   here : is_at rows (get_or cs at d) ≡ true
@@ -53,7 +54,7 @@ with_advanced-none rows cs none = past rows cs (ltb-false _ _ (step _ _ none)) w
   step true at h = absurd (none-some at (sym h))
   step false at h = refl
 
--- what a list of cursors shows of one that is left out or put in
+-- To map a list with one element left out or put in, map the element and the rest.
 map-cond : {A B : Type 0} (f : A → B) (b : Bool) (x : A) (ys : List A) → map f (cond b (x ∷ ys) ys) ≡ cond b (f x ∷ map f ys) (map f ys)
 map-cond f true x ys = refl
 map-cond f false x ys = refl
@@ -64,15 +65,15 @@ map-filter {A} f p (x ∷ xs) =
     map-cond f (p (f x)) x (filter (λ (y : A). p (f y)) xs)
     ∙ ap (λ ys. cond (p (f x)) (f x ∷ ys) ys) (map-filter f p xs)
 
--- a cursor as it is live: its number, and how many columns it has
+-- Returns a cursor as it is live: its number, and how many columns it has.
 abbrev live_of : OpenCursor → LiveCursor
 live_of c = (c.number, length columns)
 
--- what is closed isn't live any more
+-- A cursor that is closed isn't live.
 pub live-without : (rows : ℕ) (live : List OpenCursor) → map live_of (without rows live) ≡ filter (λ (c : LiveCursor). not (eqb c.0 rows)) (map live_of live)
 live-without rows live = map-filter live_of (λ c. not (eqb c.0 rows)) live
 
--- a cursor that gives a row stays live, with the others
+-- A cursor that gives a row stays live, with the others.
 map-advanced : {B : Type 0} (f : OpenCursor → B) → ((c : OpenCursor) → f (advanced c) ≡ f c) → (rows : ℕ) (cs : List OpenCursor) → map f (with_advanced rows cs) ≡ map f cs
 map-advanced f same rows [] = refl
 map-advanced f same rows (c ∷ cs) = step (eqb c.number rows) (map-advanced f same rows cs) where
@@ -83,7 +84,7 @@ map-advanced f same rows (c ∷ cs) = step (eqb c.number rows) (map-advanced f s
 pub live-advanced : (rows : ℕ) (live : List OpenCursor) → map live_of (with_advanced rows live) ≡ map live_of live
 live-advanced rows live = map-advanced live_of (λ c. refl) rows live
 
--- the number behind the last one is no live cursor's
+-- The number after the last one is no live cursor's.
 pub new-number : (last : ℕ) (live : List OpenCursor) → are_within last live ≡ true → has_cursor (last + 1) (map live_of live) ≡ false
 new-number last [] h = refl
 new-number last (c ∷ cs) h =
@@ -92,7 +93,7 @@ new-number last (c ∷ cs) h =
     let other : eqb c.number (last + 1) ≡ false = ne_eqb c.number (last + 1) (λ e. omega arith) in
     ap (λ b. b || has_cursor (last + 1) (map live_of cs)) other ∙ new-number last cs both.1
 
--- each cursor has the columns of the table
+-- Each cursor has the columns of the table.
 pub same-width : (rows : ℕ) (live : List OpenCursor) → has_width rows 2 (map live_of live) ≡ true
 same-width rows [] = refl
 same-width rows (c ∷ cs) = step (eqb c.number rows) (same-width rows cs) where
@@ -100,7 +101,7 @@ same-width rows (c ∷ cs) = step (eqb c.number rows) (same-width rows cs) where
   step true h = h
   step false h = h
 
--- the numbers stay within the last one
+-- The numbers of live cursors stay within the last one as it grows.
 within-more : (last : ℕ) (live : List OpenCursor) → are_within last live ≡ true → are_within (last + 1) live ≡ true
 within-more last [] h = refl
 within-more last (c ∷ cs) h =

@@ -1,4 +1,4 @@
--- What each driver call is answered, and what it does to the cursors of its connection.
+-- The answer to each driver call, and what the call does to the cursors of its connection.
 use Rattle.std.specs.Prelude.{ℕ, ◌+◌, nat_lt, List, [], ◌∷◌, Option, Some, None, slice_get, codes, if◌then◌else◌}
 use Rattle.dsql_driver.specs.Fits.{is_fault}
 use Rattle.dsql_driver.specs.Streams.{one_more}
@@ -14,7 +14,7 @@ use Rattle.fixed_answers.specs.Cursors.{CursorsState, cursor_of, with_opened, wi
 use Rattle.fixed_answers.specs.Table.{columns, table}
 use Rattle.fixed_answers.specs.declared.cursors.OpenCursor.{OpenCursor}
 
--- the largest number of a cursor
+-- The largest number of a cursor.
 abbrev pub largest_number : ℕ
 largest_number = 4294967295
 
@@ -30,37 +30,41 @@ no_such_cursor = Fail (codes "fixed: no such cursor")
 abbrev pub numbers_spent : DriverAnswer
 numbers_spent = Fail (codes "fixed: the numbers of cursors are spent")
 
--- an answer, and the cursors after it
+-- An answer, and the cursors after it.
 pub record Effect : Type 0 where
   pub answer : DriverAnswer
   pub cursors : CursorsState
 
--- an answer that leaves the cursors as they are
+-- Returns an answer that leaves the cursors as they are.
 abbrev pub only : CursorsState → DriverAnswer → Effect
 only cursors answer = record { answer = answer; cursors = cursors }
 
--- a cursor is opened, and gets the next number
+-- Opens a cursor, which gets the next number. If the numbers are spent, the answer says so.
 abbrev pub opened : CursorsState → Effect
 opened cursors =
-    if nat_lt cursors.last largest_number then record { answer = Cursor (cursors.last + 1) columns; cursors = with_opened cursors }
+    if nat_lt cursors.last largest_number then record {
+      answer = Cursor (cursors.last + 1) columns;
+      cursors = with_opened cursors;
+    }
     else only cursors numbers_spent
 
--- a text is asked with parameters
+-- Returns what a query with these parameters does. It takes none.
 abbrev pub queried : CursorsState → List Param → Effect
 queried cursors [] = opened cursors
 queried cursors (param ∷ params) = only cursors no_parameters
 
--- a cursor gives a row, or none is left
+-- Returns what a cursor does: it gives a row, or none is left.
 abbrev pub row_given : CursorsState → ℕ → Option (List Value) → Effect
 row_given cursors rows None = only cursors End
-row_given cursors rows (Some row) = record { answer = Row row; cursors = record cursors { live = with_advanced rows cursors.live } }
+row_given cursors rows (Some row) =
+    record { answer = Row row; cursors = record cursors { live = with_advanced rows cursors.live } }
 
--- a row is taken from a cursor, if that is live
+-- Returns what taking a row from a cursor does. The call fails if the cursor isn't live.
 abbrev pub row_taken : CursorsState → ℕ → Option OpenCursor → Effect
 row_taken cursors rows None = only cursors no_such_cursor
 row_taken cursors rows (Some cursor) = row_given cursors rows (slice_get table cursor.given)
 
--- what a driver call does
+-- Returns what a driver call does.
 abbrev pub effect : CursorsState → DriverCall → Effect
 effect cursors Connect = only cursors Done
 effect cursors Reset = only cursors Done
@@ -69,13 +73,14 @@ effect cursors Ping = only cursors Done
 effect cursors Shut = only cursors Done
 effect cursors (Query (Text text) params) = queried cursors params
 effect cursors (Next rows) = row_taken cursors rows (cursor_of rows cursors)
-effect cursors (CloseRows rows) = record { answer = Done; cursors = record cursors { live = without rows cursors.live } }
+effect cursors (CloseRows rows) =
+    record { answer = Done; cursors = record cursors { live = without rows cursors.live } }
 effect cursors _ = only cursors only_queries
 
--- an answer, twice
+-- Returns an answer with its copy.
 abbrev pub twice : DriverAnswer → Answered
 twice answer = record { answer = answer; copy = answer }
 
--- a count of faults after an answer
+-- Returns a count of faults after an answer.
 abbrev pub faults_after : ℕ → DriverAnswer → ℕ
 faults_after faults answer = if is_fault answer then one_more faults else faults

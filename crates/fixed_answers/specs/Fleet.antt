@@ -2,7 +2,7 @@
 use Rattle.std.specs.Prelude.{true, false}
 use Rattle.dsql_driver.specs.declared.caps.Caps.{Caps}
 
--- it executes and asks a text at once
+-- The driver executes and queries a text at once, and can do nothing else.
 abbrev pub own_caps : Caps
 own_caps =
     record {

@@ -3,14 +3,15 @@ use Rattle.std.specs.Prelude.{ℕ, pos, List, [], ◌∷◌, codes}
 use Rattle.dsql_value.specs.declared.value.Value.{Value}
 use Rattle.dsql_value.specs.declared.value.Value.TheVariants.{Int, Text}
 
--- the names of its columns
+-- The names of the table's columns.
 abbrev pub columns : List (List ℕ)
 columns = codes "city" ∷ codes "founded" ∷ []
 
--- the row of a city that was founded in this year
+-- Returns the row of a city that was founded in this year.
 abbrev pub row_of : List ℕ → ℕ → List Value
 row_of city year = Text city ∷ Int (pos year) ∷ []
 
--- its rows, in the order in which each cursor gives them
+-- The rows of the table, in the order in which each cursor gives them.
 abbrev pub table : List (List Value)
-table = row_of (codes "Philadelphia") 1682 ∷ row_of (codes "Saint Petersburg") 1703 ∷ row_of (codes "Canberra") 1913 ∷ []
+table =
+    row_of (codes "Philadelphia") 1682 ∷ row_of (codes "Saint Petersburg") 1703 ∷ row_of (codes "Canberra") 1913 ∷ []

@@ -1,5 +1,4 @@
-//! Answers, twice.
-
+//! Answers with their copies.
 ghost use Rattle.std.specs.Prelude.{◌≡◌, IfOk};
 ghost use Rattle.fixed_answers.specs.Answers.{twice};
 
@@ -15,7 +14,7 @@ pub(crate) const NO_SUCH_CURSOR: &str = "fixed: no such cursor";
 
 pub(crate) const NUMBERS_SPENT: &str = "fixed: the numbers of cursors are spent";
 
-/// An answer, and its copy.
+/// Returns an answer with its copy.
 pub(crate) fn twice(answer: DriverAnswer) -> Result<Answered, Memory>
     ensures { IfOk result (λ answered. answered ≡ twice answer) }
 {
@@ -23,7 +22,7 @@ pub(crate) fn twice(answer: DriverAnswer) -> Result<Answered, Memory>
     Ok(Answered { answer, copy })
 }
 
-/// The answer that the call was carried out, which takes no memory.
+/// Returns the answer that the call was carried out. It takes no memory.
 pub(crate) fn done() -> Answered
     ensures { result ≡ twice DriverAnswer.Done }
 {
@@ -33,7 +32,7 @@ pub(crate) fn done() -> Answered
     }
 }
 
-/// The answer that there is no memory.
+/// Returns the answer that there is no memory.
 pub(crate) fn no_memory() -> Answered
     ensures { result ≡ twice DriverAnswer.Memory }
 {
@@ -43,7 +42,7 @@ pub(crate) fn no_memory() -> Answered
     }
 }
 
-/// The answer that the call is refused, with this text.
+/// Returns the answer that the call is refused, with this text.
 pub(crate) fn refusal(alloc: Global, text: &str) -> Result<Answered, Memory>
     ensures { IfOk result (λ answered. answered ≡ twice (DriverAnswer.Fail text.now)) }
 {

@@ -1,5 +1,4 @@
 //! The open cursors of one connection.
-
 ghost use Rattle.std.specs.Prelude.{◌≡◌, ◌==◌, true, IfOk, OnOk, OnErr};
 ghost use Rattle.std.specs.List.{position};
 ghost use Rattle.std.specs.Option.{option_copied};
@@ -21,7 +20,7 @@ pub(crate) struct OpenCursor {
 }
 
 impl OpenCursor {
-    /// It has given one more row.
+    /// Counts one more row that the cursor has given.
     fn advance(&mut self)
         ensures { self.new ≡ advanced self.old }
     {
@@ -50,7 +49,7 @@ impl Model for Cursors {
 impl Cursors {
     ghost use Rattle.fixed_answers.specs.Cursors.{are_within};
 
-    /// The cursors of a new connection.
+    /// Returns the cursors of a new connection.
     pub(crate) fn new(alloc: Global) -> Cursors
         ensures { result ≡ no_cursors }
     {
@@ -60,14 +59,15 @@ impl Cursors {
         }
     }
 
-    /// No number is above the last one, as its callers learn by this.
+    /// Proves to its callers that no live cursor has a number above the last one.
     pub(crate) fn vouch(&self)
         ensures { are_within self.now.last self.now.live ≡ true }
     {
         let _last = self.last;
     }
 
-    /// Opens a cursor, which gets the next number.
+    /// Opens a cursor, which gets the next number. The answer is a refusal if the numbers are spent. After an
+    /// error the cursors are as they were.
     pub(crate) fn open(&mut self, alloc: Global) -> Result<Answered, Memory>
         ensures answer { IfOk result (λ answered. answered ≡ twice (opened self.old).answer) }
         ensures cursors { OnOk result (self.new ≡ (opened self.old).cursors) }
@@ -91,16 +91,18 @@ impl Cursors {
         Ok(answered)
     }
 
-    /// The open cursor of this number.
+    /// Returns the open cursor of this number, if there is one.
     fn cursor(&self, rows: u32) -> Option<&OpenCursor>
         ensures { option_copied result ≡ cursor_of rows self.now }
     {
         self.live.iter().find(|c| c.number == rows)
     }
 
-    /// Takes a cursor's next row.
+    /// Takes a cursor's next row. The answer is a refusal if no cursor of this number is open. After an error
+    /// the cursors are as they were.
     pub(crate) fn take_row(&mut self, alloc: Global, rows: u32) -> Result<Answered, Memory>
-        ensures answer { IfOk result (λ answered. answered ≡ twice (row_taken self.old rows (cursor_of rows self.old)).answer) }
+        ensures answer { IfOk result (λ answered. answered
+            ≡ twice (row_taken self.old rows (cursor_of rows self.old)).answer) }
         ensures cursors { OnOk result (self.new ≡ (row_taken self.old rows (cursor_of rows self.old)).cursors) }
         ensures stays { OnErr result (self.new ≡ self.old) }
     {
@@ -123,14 +125,14 @@ impl Cursors {
     }
 }
 
-/// Where a cursor stands.
+/// Returns the place of a cursor in the list, if it is there.
 fn place_of(live: &[OpenCursor], rows: u32) -> Option<usize>
     ensures { result ≡ position (λ c. c.number == rows) live.now }
 {
     live.iter().position(|c| c.number == rows)
 }
 
-/// Goes on behind the next row of a cursor.
+/// Moves a cursor past its next row.
 fn advance(live: &mut Vec<OpenCursor>, rows: u32)
     ensures { live.new.items ≡ with_advanced rows live.old.items }
 {
@@ -140,7 +142,7 @@ fn advance(live: &mut Vec<OpenCursor>, rows: u32)
     }
 }
 
-/// Takes a cursor out.
+/// Takes a cursor out of the list.
 fn take_out(live: &mut Vec<OpenCursor>, rows: u32)
     ensures { live.new.items ≡ without rows live.old.items }
 {

@@ -1,5 +1,4 @@
 //! The driver: it opens connections to the fixed table.
-
 ghost use Rattle.std.specs.Prelude.{◌≡◌, None};
 ghost use Rattle.fixed_answers.specs.Fleet.{own_caps};
 
@@ -8,7 +7,7 @@ use dsql_driver::{Caps, Fleet, Planned, Refused};
 use dsql_value::Memory;
 use std::alloc::Global;
 
-/// A text is executed and asked at once, and nothing else can be done.
+/// The driver executes and queries a text at once, and can do nothing else.
 const CAPS: Caps = Caps {
     fast_exec: true,
     fast_query: true,
@@ -19,7 +18,7 @@ const CAPS: Caps = Caps {
     validator: false,
 };
 
-/// The driver. It keeps what it was asked to be able to do, and how often, since the layer counts that.
+/// The driver. It keeps which abilities it was asked to have, and how often, because the layer counts that.
 #[derive(Drop)]
 pub(crate) struct FixedFleet {
     alloc: Global,
@@ -28,7 +27,7 @@ pub(crate) struct FixedFleet {
 }
 
 impl FixedFleet {
-    /// A driver that was asked for nothing yet.
+    /// Returns a driver that was asked for nothing yet.
     pub(crate) fn new(alloc: Global) -> FixedFleet
         ensures last { result.preferred ≡ None }
         ensures times { result.preferences ≡ 0 }
@@ -56,7 +55,7 @@ impl Fleet for FixedFleet {
         CAPS
     }
 
-    // What it can do stays what it is.
+    // Changes nothing that the driver can do.
     fn prefer(&mut self, caps: Caps) {
         self.preferred = Some(caps);
         self.preferences = self.preferences.saturating_add(1);

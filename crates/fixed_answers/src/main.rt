@@ -1,6 +1,6 @@
-//! A driver of one's own, as an example: it answers each query from a fixed table of three rows, and
-//! refuses all commands. The program plays a script of clients' calls over it, from standard input to
-//! standard output. `docs/DRIVERS.md` goes through it.
+//! A custom driver, as an example. It answers each query without parameters from a fixed table of three rows,
+//! and refuses commands. The program plays a script of clients' calls over it, from standard input to standard
+//! output.
 #![tactic(auto)]
 
 mod answers;
@@ -10,15 +10,15 @@ mod table;
 mod wire;
 
 use dsql_driver::OpenGate;
+use dsql_driver_stream::{StdClock, StdSink, StdSource};
 use dsql_run::{Stop, sqlrun, tell};
-use dsql_stream::{StdClock, StdSink, StdSource};
 use dsql_value::{Memory, Txt};
 use fleet::FixedFleet;
 use std::env::{self, Env};
 use std::io::ErrorKind;
 use std::process::ExitCode;
 
-/// The words that the program was called with, without its name. Words that aren't UTF-8 count as none.
+/// Returns the words that the program was called with, without its name. Words that aren't UTF-8 count as none.
 fn words<R: Env + AllocGlobal>(rt: &R) -> Result<Vec<Txt>, Memory> {
     let mut words = Vec::new(rt.alloc());
     match env::args(rt) {

@@ -1,12 +1,11 @@
 //! The table from which each query is answered: three cities, with the years in which they were founded.
-
 ghost use Rattle.std.specs.Prelude.{◌≡◌, IfOk, slice_get};
 ghost use Rattle.fixed_answers.specs.Table.{columns, table};
 
 use dsql_value::{Columns, Items, Memory, Txt, Value, Values};
 use std::alloc::Global;
 
-/// The names of the columns.
+/// Returns the names of the columns.
 pub(crate) fn columns(alloc: Global) -> Result<Columns, Memory>
     ensures { IfOk result (λ names. names ≡ columns) }
 {
@@ -15,7 +14,7 @@ pub(crate) fn columns(alloc: Global) -> Result<Columns, Memory>
     Ok(Items::new(vec![in alloc; city, founded]?))
 }
 
-/// The row in this place, counted from 0, if there is one.
+/// Returns the row in this place, counted from 0, if there is one.
 pub(crate) fn row(alloc: Global, place: u64) -> Result<Option<Values>, Memory>
     ensures { IfOk result (λ row. row ≡ slice_get table place) }
 {

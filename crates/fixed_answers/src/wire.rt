@@ -1,5 +1,4 @@
 //! One connection to the fixed table.
-
 ghost use Rattle.std.specs.Prelude.{◌≡◌, ◌≤◌, [], None, true, IfOk, OnOk, OnErr};
 ghost use Rattle.fixed_answers.specs.Answers.{effect, faults_after, queried, twice};
 ghost use Rattle.fixed_answers.specs.Cursors.{are_within, live_cursors, no_cursors};
@@ -19,7 +18,7 @@ pub(crate) struct FixedWire {
 }
 
 impl FixedWire {
-    /// A connection that was just opened.
+    /// Returns a connection that was opened and did nothing yet.
     pub(crate) fn new(alloc: Global) -> FixedWire
         ensures cursors { result.cursors ≡ no_cursors }
     {
@@ -31,7 +30,7 @@ impl FixedWire {
     }
 }
 
-/// Asks a text.
+/// Queries a text. The answer is a refusal if there are parameters.
 fn ask(alloc: Global, cursors: &mut Cursors, params: &[Param]) -> Result<Answered, Memory>
     ensures answer { IfOk result (λ answered. answered ≡ twice (queried cursors.old params.now).answer) }
     ensures cursors { OnOk result (cursors.new ≡ (queried cursors.old params.now).cursors) }
@@ -43,7 +42,7 @@ fn ask(alloc: Global, cursors: &mut Cursors, params: &[Param]) -> Result<Answere
     }
 }
 
-/// Answers a call, as `effect` says. After an error the cursors are as they were.
+/// Answers a call as `effect` says. After an error the cursors are as they were.
 fn answer(alloc: Global, cursors: &mut Cursors, call: &DriverCall) -> Result<Answered, Memory>
     ensures answer { IfOk result (λ answered. answered ≡ twice (effect cursors.old call.now).answer) }
     ensures cursors { OnOk result (cursors.new ≡ (effect cursors.old call.now).cursors) }
@@ -73,7 +72,7 @@ fn answer(alloc: Global, cursors: &mut Cursors, call: &DriverCall) -> Result<Ans
     }
 }
 
-/// A count of faults after an answer. At its last value it stands still.
+/// Returns a count of faults after an answer. The count stays at its largest value.
 fn faults_after(faults: u64, answer: &DriverAnswer) -> u64
     ensures count { result ≡ faults_after faults answer.now }
     ensures counted { faults ≤ result }
@@ -87,12 +86,12 @@ fn faults_after(faults: u64, answer: &DriverAnswer) -> u64
 }
 
 impl Wire for FixedWire {
-    // It doesn't tell: it keeps no list of what it heard, so no clause can speak of that.
+    // The wire keeps no record of what it heard, so no clause can speak of that.
     ghost told = { λ _. None };
 
     ghost faults = { λ w. w.faults };
 
-    // It gives no handle.
+    // The wire gives no handle.
     ghost handles = { λ _. [] };
 
     ghost cursors = { λ w. live_cursors w.cursors };
@@ -107,7 +106,7 @@ impl Wire for FixedWire {
         }
     }
 
-    // A planned fault is passed over: it is for drivers that are to fail in tests.
+    // Ignores a planned fault, because planned faults are for drivers that are to fail in tests.
     fn plan(&mut self, _nth: u32, _what: Planned) -> Result<(), Memory> {
         Ok(())
     }

@@ -1,11 +1,11 @@
-//! The program: plays a script of clients' calls from standard input against the database layer, over
-//! a driver in memory, and writes the run's report to standard output.
+//! The program. It plays a script of clients' calls from standard input on the database layer, over a driver in
+//! memory, and writes the run's report or summary to standard output. It also generates scripts.
 #![tactic(auto)]
 
 use dsql_driver::OpenGate;
+use dsql_driver_stream::{StdClock, StdSink, StdSource};
 use dsql_mem::MemFleet;
 use dsql_run::{Stop, sqlrun, tell};
-use dsql_stream::{StdClock, StdSink, StdSource};
 use dsql_value::{Memory, Txt};
 use std::env::{self, Env};
 use std::io::ErrorKind;
@@ -13,8 +13,8 @@ use std::mem;
 use std::process::ExitCode;
 use std::sync::Wait;
 
-/// The words that the program was called with, without its name. Words that aren't UTF-8 are none that
-/// it knows, so they count as no words.
+/// Returns the words that the program was called with, without its name. Words that aren't UTF-8 count as no
+/// words, because the program knows none of them.
 fn words<R: Env + AllocGlobal>(rt: &R) -> Result<Vec<Txt>, Memory> {
     let mut words = Vec::new(rt.alloc());
     match env::args(rt) {
@@ -29,7 +29,7 @@ fn words<R: Env + AllocGlobal>(rt: &R) -> Result<Vec<Txt>, Memory> {
     }
 }
 
-/// What the program needs before anything is read: its words, and a driver in memory.
+/// Returns what the program needs before it reads anything: its words, and a driver in memory.
 fn prepared<R: Env + AllocGlobal + Wait + Clone + Drop + Send>(
     rt: &R,
 ) -> Result<(Vec<Txt>, MemFleet<R>), Memory> {
@@ -61,7 +61,7 @@ fn main(rt: HostRuntime) -> ExitCode {
         &OpenGate,
     );
 
-    // As with what the run kept, the fleet's store is left to the end of the process.
+    // The process frees the fleet's store as it ends, as it does what the run kept.
     mem::forget(fleet);
     ExitCode::from(status)
 }

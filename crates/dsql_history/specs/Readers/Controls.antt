@@ -1,4 +1,4 @@
--- How a moment and a limit are told.
+-- Defines how the layer takes a moment or a limit from outside.
 use Rattle.std.specs.Prelude.{max, List}
 use Rattle.dsql_history.specs.declared.event.Control.{Control}
 use Rattle.dsql_history.specs.declared.event.Control.TheVariants.{Tick, Set}
@@ -10,7 +10,8 @@ abbrev pub told : Control → Event
 told (Tick now) = Ticked now
 told (Set setting n) = SetLimit setting n
 
--- what is taken of it: time never goes back, so a moment before the present one counts as the present one
+-- Returns the control as the layer takes it. Time never goes back: a moment before the present one counts as
+-- the present one.
 abbrev pub taken : List Event → Control → Control
 taken before (Tick now) = Tick (max (pool before).moment now)
 taken before (Set setting n) = Set setting n

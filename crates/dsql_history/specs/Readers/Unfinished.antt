@@ -1,11 +1,11 @@
--- The calls that have no reply yet.
+-- Defines the calls that have no reply yet.
 use Rattle.std.specs.Prelude.{ℕ, Bool, List, [], ◌∷◌, ◌++◌}
-use Rattle.dsql_journal.specs.Readers.{has}
+use Rattle.dsql_history_work.specs.journal.Readers.{has}
 use Rattle.dsql_pool.specs.Pooled.{without}
 use Rattle.dsql_history.specs.declared.event.Event.{Event}
 use Rattle.dsql_history.specs.declared.event.Event.TheVariants.{Entered, Replied}
 
--- the calls that have no reply yet, in the order in which they were entered
+-- Returns the calls that have no reply yet, in the order in which they entered.
 abbrev pub unfinished : List Event → List ℕ
 unfinished [] = []
 unfinished (Entered client n op ∷ before) = unfinished before ++ n ∷ []

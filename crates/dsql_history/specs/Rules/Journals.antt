@@ -1,8 +1,8 @@
--- Each connection's journal is a beginning of a whole journal. A tenure is whole where its connection leaves lent, and the journal is
--- whole where the connection leaves the four sets.
+-- Defines the rule that each connection's journal is a prefix of a whole journal. A tenure is whole if its
+-- connection leaves lent, and the journal is whole if the connection leaves the four sets.
 use Rattle.std.specs.Prelude.{ℕ, Bool, true, List, Option, Some}
-use Rattle.dsql_journal.specs.Journal.{may_follow, is_whole}
-use Rattle.dsql_journal.specs.Tenure.{is_whole_tenure}
+use Rattle.dsql_history_work.specs.journal.Journal.{may_follow, is_whole}
+use Rattle.dsql_history_work.specs.journal.Tenure.{is_whole_tenure}
 use Rattle.dsql_pool.specs.declared.conn.Place.{Place}
 use Rattle.dsql_pool.specs.declared.conn.Place.TheVariants.{Lent}
 use Rattle.dsql_pool.specs.declared.moves.Move.TheVariants.{Back, CloseStart, Gone, Fell}

@@ -1,4 +1,4 @@
--- What the pool owes comes as the very next event.
+-- Defines the rule that a move which the pool owes is the very next event.
 use Rattle.std.specs.Prelude.{Bool, true, false, List, [], ◌∷◌}
 use Rattle.dsql_pool.specs.declared.moves.Move.{Move}
 use Rattle.dsql_history.specs.declared.event.Event.{Event}
@@ -6,7 +6,7 @@ use Rattle.dsql_history.specs.declared.event.Event.TheVariants.{Pool}
 use Rattle.dsql_history.specs.Same.{same_move}
 use Rattle.dsql_history.specs.Readers.Owed.{owed}
 
--- the event is that move
+-- Is true if the event is that move.
 abbrev pub makes : Move → Event → Bool
 makes due (Pool move) = same_move due move
 makes due _ = false

@@ -1,10 +1,11 @@
--- What holds at each free moment, and but for one call just before its reply. That the pool is at rest where it owes nothing follows, and is a law.
+-- Defines what holds at each free moment, and right before a reply except for the call that replies. It
+-- follows, by a law, that the pool is at rest if it owes nothing.
 use Rattle.std.specs.Prelude.{ℕ, ◌≡◌, ◌==◌, Bool, true, ◌&&◌, ◌||◌, List, is_some}
 use Rattle.std.specs.List.{list_all}
-use Rattle.dsql_journal.specs.Readers.{is_empty}
+use Rattle.dsql_history_work.specs.journal.Readers.{is_empty}
 use Rattle.dsql_pool.specs.declared.conn.Place.{Place}
 use Rattle.dsql_pool.specs.declared.conn.Place.TheVariants.{Lent}
-use Rattle.dsql_journal.specs.Kinds.{number_of}
+use Rattle.dsql_history_work.specs.journal.Kinds.{number_of}
 use Rattle.dsql_history.specs.declared.event.Event.{Event}
 use Rattle.dsql_history.specs.Readers.Unfinished.{unfinished}
 use Rattle.dsql_history.specs.Readers.Pool.{pool}
@@ -13,11 +14,11 @@ use Rattle.dsql_history.specs.Readers.Calls.{rests}
 use Rattle.dsql_history.specs.Rules.Line.{is_used}
 use Rattle.dsql_history.specs.Rules.Stands.{stand}
 
--- the pool owes no move
+-- Is true if the pool owes no move.
 abbrev pub owes_nothing : List Event → Bool
 owes_nothing before = is_empty (owed before)
 
--- a lent connection is in use, or its call rests with it
+-- Is true if the connection that is lent to call n is in use, or call n rests with it.
 abbrev pub is_kept : List Event → ℕ → Bool
 is_kept before n = is_used before n || rests before n
 
@@ -28,15 +29,15 @@ is_in_use before _ = true
 abbrev pub uses_what_is_lent : List Event → Bool
 uses_what_is_lent before = list_all (λ conn. is_in_use before conn.place) (pool before).conns
 
--- each unfinished call is somewhere, but for call n
+-- Is true if each unfinished call except call n stands somewhere.
 abbrev pub goes_on_but : ℕ → List Event → Bool
 goes_on_but n before = list_all (λ m. (m == n) || is_some (stand before m)) (unfinished before)
 
--- there is no call 0
+-- Is true if each unfinished call stands somewhere. There is no call 0.
 abbrev pub goes_on : List Event → Bool
 goes_on before = goes_on_but 0 before
 
--- all is settled but for call n
+-- Is true if all is settled except for call n.
 abbrev pub is_settled_but : ℕ → List Event → Bool
 is_settled_but n before = owes_nothing before && (uses_what_is_lent before && goes_on_but n before)
 

@@ -1,7 +1,7 @@
 -- Requests, figures and small pools for worked values.
 use Rattle.std.specs.Prelude.{ℕ, zero, suc, ◌+◌, Bool, false, true, pos, List, [], ◌∷◌, ◌++◌, None}
-use Rattle.dsql_journal.specs.declared.entry.Owner.{Owner}
-use Rattle.dsql_journal.specs.declared.entry.Owner.TheVariants.{Call as ForCall}
+use Rattle.dsql_tenure_journal.specs.declared.entry.Owner.{Owner}
+use Rattle.dsql_tenure_journal.specs.declared.entry.Owner.TheVariants.{Call as ForCall}
 use Rattle.dsql_wait.specs.declared.request.Request.{Request}
 use Rattle.dsql_pool.specs.declared.conn.Conn.{Conn}
 use Rattle.dsql_pool.specs.declared.conn.Place.TheVariants.{Lent}
@@ -10,15 +10,15 @@ use Rattle.dsql_pool.specs.declared.stats.Stats.{Stats}
 use Rattle.dsql_pool.specs.Pooled.{Pooled, fresh}
 use Rattle.dsql_pool.specs.Runs.{Call, Ask, Opened, GiveBack, SetOpen, after_all}
 
--- call n asks for an owner at a moment, in its last try or an earlier one
+-- Returns the request of call n for an owner at a moment, in its last try or an earlier one.
 abbrev pub asked_by : Owner → Bool → ℕ → ℕ → Request
 asked_by owner last n asked = record { call = n; owner = owner; last = last; token = None; asked = asked }
 
--- a first try of a call on the database, at the moment 0
+-- Returns the first try of a call on the database, at the moment 0.
 abbrev pub try : ℕ → Call
 try n = Ask (asked_by (ForCall n) false n 0)
 
--- a third try
+-- Returns the third try of a call.
 abbrev pub third_try : ℕ → Call
 third_try n = Ask (asked_by (ForCall n) true n 0)
 
@@ -36,27 +36,29 @@ figures most all in_use idle waits waited idle_full idle_time lifetime =
       max_lifetime_closed = lifetime;
     }
 
--- connections 1 and 2 are lent to calls 1 and 2
+-- Connections 1 and 2 are lent to calls 1 and 2.
 abbrev pub two_lent : List Call
 two_lent = try 1 ∷ try 2 ∷ Opened 1 ∷ Opened 2 ∷ []
 
--- connection 2 came back before connection 1
+-- Connection 2 came back before connection 1.
 abbrev pub two_idle : List Call
 two_idle = two_lent ++ GiveBack Good 2 ∷ GiveBack Good 1 ∷ []
 
--- one connection may be open, and is lent; calls 2 and 3 wait
+-- One connection may be open, and it is lent. Calls 2 and 3 wait.
 abbrev pub two_wait : List Call
 two_wait = SetOpen (pos 1) ∷ try 1 ∷ Opened 1 ∷ try 2 ∷ try 3 ∷ []
 
--- the pool after calls from the start
+-- Returns the pool after these calls from the start.
 abbrev pub from_start : List Call → Pooled
 from_start calls = after_all calls fresh
 
--- connections from number n on are lent to call 1
+-- Returns connections from number n on, each lent to call 1.
 abbrev pub lent_from : ℕ → ℕ → List Conn
 lent_from n zero = []
-lent_from n (suc k) = record { number = n; place = Lent 2 (ForCall 1); lends = 1; uses = 1; created = 0; returned = 0 } ∷ lent_from (n + 1) k
+lent_from n (suc k) =
+    record { number = n; place = Lent 2 (ForCall 1); lends = 1; uses = 1; created = 0; returned = 0 } ∷ lent_from
+    (n + 1) k
 
--- a thousand connections are lent
+-- A pool with a thousand lent connections.
 abbrev pub thousand : Pooled
 thousand = record fresh { conns = lent_from 1 1000; opened = 1000; drawn = 2000 }

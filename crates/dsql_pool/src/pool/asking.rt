@@ -13,7 +13,7 @@ impl Pool {
     ghost use Rattle.dsql_pool.specs.Decisions.{ask_outcome, when_none_idle};
     ghost use Rattle.dsql_pool.specs.Calls.{MayAsk, asks, moves_asked};
 
-    // What a request becomes that takes no idle connection.
+    // Returns the outcome of a request that takes no idle connection.
     fn when_none_idle(&self) -> Result<Asked, AskFault>
         requires { self.now.pooled.drawn ≤ most_drawn }
         ensures outcome { result ≡ when_none_idle self.now.pooled }
@@ -30,7 +30,7 @@ impl Pool {
         }
     }
 
-    // What a request becomes.
+    // Returns the outcome of a request.
     fn when_asked(&self, request: &Request) -> Result<Asked, AskFault>
         requires { self.now.pooled.drawn ≤ most_drawn }
         ensures outcome { result ≡ ask_outcome request.now self.now.pooled }
@@ -47,7 +47,7 @@ impl Pool {
         self.when_none_idle()
     }
 
-    // A request joins those that wait.
+    // Appends a request to those that wait.
     fn join(&mut self, request: Request)
         requires room { 0 < self.old.spare }
         requires new { waits request.call self.old.pooled.waiting ≡ false }
@@ -62,16 +62,19 @@ impl Pool {
         self.counts = self.counts.with_one_waiting();
     }
 
-    /// A request asks for a connection. It is lent the idle one that came back last, or one is opened for it,
-    /// or it waits; a last try doesn't look at idle ones. After `DB.conn` of Go's package, whose third try
-    /// asks for a new connection.
+    /// Asks for a connection.
+    ///
+    /// The pool lends the idle connection that came back last, or begins to open one, or lets the request wait.
+    /// A last try doesn't look at idle connections. This follows Go's `DB.conn`, whose third try asks for a new
+    /// connection.
     pub fn ask(&mut self, request: Request) -> Result<Asked, AskFault>
         requires request { MayAsk request self.old.pooled }
         requires drawn { self.old.pooled.drawn ≤ most_drawn }
         ensures outcome { IfOk result (λ asked. ask_outcome request self.old.pooled ≡ Ok asked) }
         ensures ok { OnOk result (self.new.pooled ≡ asks request self.old.pooled) }
         ensures moves { OnOk result (self.new.moves ≡ moves_asked request (ask_outcome request self.old.pooled)) }
-        ensures many { IfErr result (λ fault. fault ≡ AskFault.TooMany → ask_outcome request self.old.pooled ≡ Err AskFault.TooMany) }
+        ensures many { IfErr result (λ fault. fault ≡ AskFault.TooMany → ask_outcome request self.old.pooled
+            ≡ Err AskFault.TooMany) }
         ensures full { IfErr result (λ fault. fault ≡ AskFault.Memory → self.old.spare ≡ 0) }
         ensures err { OnErr result (self.new.pooled ≡ self.old.pooled) }
         ensures spare { self.old.spare ≤ self.new.spare + 1 }

@@ -1,9 +1,9 @@
-//! Connections that come back, and those that the House borrows.
+//! Connections that come back, and those that the house borrows.
 ghost use Rattle.std.specs.Prelude.{◌≡◌, ◌+◌, ◌<◌, ◌≤◌, ◌∷◌, [], ◌++◌, ℕ, length, true, OnOk, OnErr, IfOk};
 
 use crate::moves::{CloseCause, Fate, Outcome};
 use crate::pool::Pool;
-use dsql_journal::Owner;
+use dsql_tenure_journal::Owner;
 use dsql_time::expired;
 use dsql_value::Memory;
 
@@ -16,7 +16,7 @@ impl Pool {
     ghost use Rattle.dsql_pool.specs.declared.moves.Move.{Move};
     ghost use Rattle.dsql_pool.specs.declared.moves.Move.TheVariants.{Lend};
 
-    // What becomes of a connection that nothing closes.
+    // Returns what happens to a connection that nothing closes.
     fn when_kept(&self) -> Outcome
         ensures { result ≡ when_kept self.now.pooled }
     {
@@ -29,7 +29,7 @@ impl Pool {
         }
     }
 
-    // What becomes of a connection against which nothing is said.
+    // Returns what happens to a connection that nothing is said against.
     pub(super) fn when_good(&self, expired: bool) -> Outcome
         ensures { result ≡ when_good expired self.now.pooled }
     {
@@ -61,12 +61,14 @@ impl Pool {
         }
     }
 
-    // A connection is lent to the oldest request, if one waits.
+    // Lends a connection to the oldest request, if one waits.
     pub(super) fn serve_oldest(&mut self, conn: u32)
         requires space { length self.old.moves < self.old.capacity }
         requires drawn { self.old.pooled.drawn ≤ most_drawn }
-        ensures pooled { self.new.pooled ≡ made (lends_to_oldest conn (next_tenure self.old.pooled conn) self.old.pooled.waiting) self.old.pooled }
-        ensures moves { self.new.moves ≡ self.old.moves ++ lends_to_oldest conn (next_tenure self.old.pooled conn) self.old.pooled.waiting }
+        ensures pooled { self.new.pooled ≡ made
+            (lends_to_oldest conn (next_tenure self.old.pooled conn) self.old.pooled.waiting) self.old.pooled }
+        ensures moves { self.new.moves ≡ self.old.moves
+            ++ lends_to_oldest conn (next_tenure self.old.pooled conn) self.old.pooled.waiting }
         ensures spare { self.old.spare ≤ self.new.spare }
     {
         let oldest = match self.waiting.oldest() {
@@ -78,8 +80,10 @@ impl Pool {
         }
     }
 
-    /// A lent connection comes back: it is closed, goes to the request that has waited longest, or is idle.
-    /// `fate` is what was said against it. After `DB.putConn` of Go's package.
+    /// Takes a lent connection back.
+    ///
+    /// The connection is closed, goes to the request that has waited longest, or becomes idle. `fate` is what
+    /// was said against it. This follows Go's `DB.putConn`.
     pub fn give_back(&mut self, conn: u32, fate: Fate) -> Result<(), Memory>
         requires lent { is_lent (place_at self.old.pooled conn) ≡ true }
         requires drawn { self.old.pooled.drawn ≤ most_drawn }
@@ -101,8 +105,7 @@ impl Pool {
         Ok(())
     }
 
-    /// An idle connection is lent to the House, for driver calls that no client asked for. Answers its
-    /// tenure.
+    /// Lends an idle connection to the house, for driver calls that no client asked for. Returns the tenure.
     pub fn lend_house(&mut self, conn: u32) -> Result<u32, Memory>
         requires idle { is_idle (place_at self.old.pooled conn) ≡ true }
         requires drawn { self.old.pooled.drawn ≤ most_drawn }

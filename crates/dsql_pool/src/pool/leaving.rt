@@ -1,4 +1,4 @@
-//! Requests that leave, and the close of the pool.
+//! Requests that leave, and the closing of the pool.
 ghost use Rattle.std.specs.Prelude.{◌≡◌, ◌≤◌, [], length, map, fold, OnOk, OnErr};
 ghost use Rattle.dsql_pool.specs.Changes.{unwanted_by};
 ghost use Rattle.dsql_pool.specs.Counted.{with_wait};
@@ -15,24 +15,26 @@ impl Pool {
     ghost use Rattle.dsql_pool.specs.Decisions.{closings_of_close};
     ghost use Rattle.dsql_pool.specs.Calls.{wants, moves_closed};
 
-    /// A call waits, or a connection is being opened for it.
+    /// Returns whether a call waits, or a connection is being opened for it.
     pub fn wants(&self, call: u32) -> bool
         ensures { result ≡ wants call self.now.pooled }
     {
         self.waiting.waits(call) || self.conns.opens_for(call)
     }
 
-    // What is being opened for a call is so for none now.
+    // Turns each opening for this call into one for no request.
     fn disown(&mut self, call: u32)
-        ensures pooled { self.new.pooled ≡ record self.old.pooled { conns = map (unwanted_by call) self.old.pooled.conns } }
+        ensures pooled { self.new.pooled
+            ≡ record self.old.pooled { conns = map (unwanted_by call) self.old.pooled.conns } }
         ensures moves { self.new.moves ≡ self.old.moves }
         ensures spare { self.old.spare ≤ self.new.spare }
     {
         self.conns.withdraw(call);
     }
 
-    /// A call wants no connection any more. Answers whether it waited or one was being opened for it. It takes
-    /// no memory.
+    /// Ends a call's wish for a connection.
+    ///
+    /// Returns whether the call waited or a connection was being opened for it. Takes no memory.
     pub fn withdraw(&mut self, call: u32) -> bool
         ensures wanted { result ≡ wants call self.old.pooled }
         ensures pooled { self.new.pooled ≡ withdrawn call self.old.pooled }
@@ -45,7 +47,7 @@ impl Pool {
         wanted
     }
 
-    // No request waits, and no opening is for one.
+    // Marks the pool as closed: no request waits, and no opening is for a request.
     fn shut(&mut self)
         ensures pooled { self.new.pooled ≡ shut self.old.pooled }
         ensures moves { self.new.moves ≡ self.old.moves }
@@ -57,7 +59,7 @@ impl Pool {
         self.closed = true;
     }
 
-    // All idle ones are noted as closed, the longest idle first.
+    // Notes the closings of all idle connections, the longest idle first.
     fn note_idle(&mut self)
         requires empty { self.old.moves ≡ [] }
         requires space { length self.old.pooled.idle ≤ self.old.capacity }
@@ -68,8 +70,8 @@ impl Pool {
         note_closings(&self.idle, CloseCause::DbClosed, &mut self.moves);
     }
 
-    /// Closes the pool, as Go's `DB.Close`: the idle connections close, the longest idle first, and requests
-    /// are gone.
+    /// Closes the pool, as Go's `DB.Close` does. The idle connections close, the longest idle first, and no
+    /// request remains.
     pub fn close(&mut self) -> Result<(), Memory>
         ensures moves { OnOk result (self.new.moves ≡ moves_closed self.old.pooled) }
         ensures ok { OnOk result (self.new.pooled ≡ made (moves_closed self.old.pooled) (shut self.old.pooled)) }
@@ -85,7 +87,7 @@ impl Pool {
     }
 }
 
-// All requests leave. Answers the time waited with their waits.
+// Removes all requests. Returns the time waited, their waits included.
 fn end_waits(waiting: &mut Waiting, moment: u64, waited: u64) -> u64
     ensures waited { result ≡ fold (with_wait moment) waited waiting.old.requests }
     ensures none { waiting.new.requests ≡ [] }

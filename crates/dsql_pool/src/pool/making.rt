@@ -1,10 +1,10 @@
-//! The moves, each made and noted.
+//! The moves: each is made and noted.
 ghost use Rattle.std.specs.Prelude.{◌≡◌, ◌+◌, ◌<◌, ◌≤◌, ◌∷◌, [], ◌++◌, length, None};
 
 use crate::lists::remove_number;
 use crate::moves::{CloseCause, Move};
 use crate::pool::Pool;
-use dsql_journal::Owner;
+use dsql_tenure_journal::Owner;
 
 impl Pool {
     ghost use Rattle.dsql_pool.specs.Pooled.{open_count, next_number, next_tenure, most_open, most_drawn, most_drawn_within_a_call};
@@ -12,7 +12,7 @@ impl Pool {
     ghost use Rattle.dsql_pool.specs.declared.moves.Move.{Move};
     ghost use Rattle.dsql_pool.specs.declared.moves.Move.TheVariants.{OpenStart, Lend, Back, CloseStart, Gone, Fell};
 
-    // A move is noted, for which there is memory.
+    // Notes a move. There must be memory for it.
     pub(super) fn note(&mut self, done: Move)
         requires { length self.old.moves < self.old.capacity }
         ensures moves { self.new.moves ≡ self.old.moves ++ done ∷ [] }
@@ -24,7 +24,7 @@ impl Pool {
         self.moves.push_reserved(done);
     }
 
-    /// The number of a connection's next tenure.
+    /// Returns the number of the next tenure of a connection.
     pub fn next_tenure(&self, conn: u32) -> u32
         requires { self.now.pooled.drawn ≤ most_drawn }
         ensures { result ≡ next_tenure self.now.pooled conn }
@@ -35,7 +35,7 @@ impl Pool {
         }
     }
 
-    // A connection is lent, whoever waits.
+    // Lends a connection, whoever waits.
     fn lend(&mut self, conn: u32, tenure: u32, owner: Owner)
         requires { self.old.pooled.drawn < most_drawn_within_a_call }
         ensures pooled { self.new.pooled ≡ lent_out conn tenure owner self.old.pooled }
@@ -47,7 +47,7 @@ impl Pool {
         remove_number(&mut self.idle, conn);
     }
 
-    // A call waits no longer, if it did.
+    // Ends the wait of a call, if it waits.
     pub(super) fn leave(&mut self, call: u32)
         ensures pooled { self.new.pooled ≡ left call self.old.pooled }
         ensures moves { self.new.moves ≡ self.old.moves }
@@ -58,12 +58,14 @@ impl Pool {
         self.counts = self.counts.with_wait_over(self.moment, &request);
     }
 
-    // A connection is lent to an owner for a call, which waits no longer.
+    // Lends a connection to an owner for a call, and ends the wait of the call.
     pub(super) fn make_lend(&mut self, conn: u32, owner: Owner, call: u32)
         requires space { length self.old.moves < self.old.capacity }
         requires drawn { self.old.pooled.drawn ≤ most_drawn }
-        ensures pooled { self.new.pooled ≡ moved (Lend conn (next_tenure self.old.pooled conn) owner call) self.old.pooled }
-        ensures moves { self.new.moves ≡ self.old.moves ++ Lend conn (next_tenure self.old.pooled conn) owner call ∷ [] }
+        ensures pooled { self.new.pooled
+            ≡ moved (Lend conn (next_tenure self.old.pooled conn) owner call) self.old.pooled }
+        ensures moves { self.new.moves ≡ self.old.moves
+            ++ Lend conn (next_tenure self.old.pooled conn) owner call ∷ [] }
         ensures spare { self.old.spare ≤ self.new.spare }
     {
         let tenure = self.next_tenure(conn);
@@ -88,7 +90,7 @@ impl Pool {
         self.conns.back(conn, self.moment);
     }
 
-    // A connection becomes idle, from lent or from opening.
+    // Makes a connection idle that was lent or being opened.
     pub(super) fn make_back(&mut self, conn: u32)
         requires room { 0 < self.old.spare }
         requires space { length self.old.moves < self.old.capacity }
@@ -102,7 +104,7 @@ impl Pool {
         self.rest(conn);
     }
 
-    // A connection begins to be closed.
+    // Begins to close a connection.
     pub(super) fn start_closing(&mut self, conn: u32, cause: CloseCause)
         ensures pooled { self.new.pooled ≡ moved (CloseStart conn cause) self.old.pooled }
         ensures moves { self.new.moves ≡ self.old.moves }
@@ -133,7 +135,7 @@ impl Pool {
         self.conns.remove(conn);
     }
 
-    // A connection that was shut is no more.
+    // Removes a connection that was shut.
     pub(super) fn make_gone(&mut self, conn: u32)
         requires { length self.old.moves < self.old.capacity }
         ensures pooled { self.new.pooled ≡ moved (Gone conn) self.old.pooled }
@@ -146,7 +148,7 @@ impl Pool {
         self.remove(conn);
     }
 
-    // A connection couldn't be opened, and the fault falls to a call, which waits no longer.
+    // Removes a connection that couldn't be opened. The fault falls to a call, whose wait ends.
     pub(super) fn make_fell(&mut self, conn: u32, call: u32)
         requires { length self.old.moves < self.old.capacity }
         ensures pooled { self.new.pooled ≡ moved (Fell conn call) self.old.pooled }
@@ -160,7 +162,7 @@ impl Pool {
         self.leave(call);
     }
 
-    // An opening begins, for the request of an owner or for none of its own.
+    // Begins an opening, for the request of an owner or for no request of its own.
     fn begin(&mut self, wanted: Option<Owner>)
         requires room { 0 < self.old.spare }
         requires few { open_count self.old.pooled < most_open }
@@ -173,7 +175,8 @@ impl Pool {
         self.conns.begin(wanted);
     }
 
-    // An opening begins for a call, where that is the number of an owner, or for none of its own.
+    // Begins an opening for a call if `call` is the number of an owner, and otherwise for no request of its
+    // own.
     pub(super) fn make_opening(&mut self, wanted: Option<Owner>, call: u32)
         requires room { 0 < self.old.spare }
         requires few { open_count self.old.pooled < most_open }

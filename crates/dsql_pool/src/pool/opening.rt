@@ -1,15 +1,15 @@
-//! Openings: those that come to their end, and those that begin for requests that wait.
+//! Openings: those that end, and those that begin for requests that wait.
 ghost use Rattle.std.specs.Prelude.{◌≡◌, ◌+◌, ◌<◌, ◌≤◌, ◌∷◌, [], ◌++◌, length, true, OnOk, OnErr};
 
 use crate::conn::Place;
 use crate::moves::Outcome;
 use crate::pool::{MOST_OPEN, Pool};
-use dsql_journal::Owner;
+use dsql_tenure_journal::Owner;
 use dsql_value::Memory;
 
 impl Pool {
     ghost use Rattle.dsql_pool.specs.Places.{is_opening, is_closing};
-    ghost use Rattle.dsql_journal.specs.Kinds.{number_of};
+    ghost use Rattle.dsql_tenure_journal.specs.Kinds.{number_of};
     ghost use Rattle.dsql_pool.specs.Pooled.{most_allowed, place_at, next_tenure, most_open, most_drawn};
     ghost use Rattle.dsql_pool.specs.Moved.{made, moved};
     ghost use Rattle.dsql_pool.specs.Decisions.{when_unwanted, moves_unwanted, falls_to, due_openings, openings_for_waiting};
@@ -17,13 +17,16 @@ impl Pool {
     ghost use Rattle.dsql_pool.specs.declared.moves.Move.{Move};
     ghost use Rattle.dsql_pool.specs.declared.moves.Move.TheVariants.{Lend};
 
-    // One that was opened and isn't wanted is closed, goes to the oldest request, or is idle.
+    // Places a connection that was opened and isn't wanted: it is closed, goes to the oldest request, or
+    // becomes idle.
     fn place_unwanted(&mut self, conn: u32)
         requires room { 0 < self.old.spare }
         requires space { length self.old.moves < self.old.capacity }
         requires drawn { self.old.pooled.drawn ≤ most_drawn }
-        ensures pooled { self.new.pooled ≡ made (moves_unwanted conn self.old.pooled (when_unwanted self.old.pooled)) self.old.pooled }
-        ensures moves { self.new.moves ≡ self.old.moves ++ moves_unwanted conn self.old.pooled (when_unwanted self.old.pooled) }
+        ensures pooled { self.new.pooled
+            ≡ made (moves_unwanted conn self.old.pooled (when_unwanted self.old.pooled)) self.old.pooled }
+        ensures moves { self.new.moves ≡ self.old.moves
+            ++ moves_unwanted conn self.old.pooled (when_unwanted self.old.pooled) }
         ensures spare { self.old.spare ≤ self.new.spare + 1 }
     {
         match self.when_good(false) {
@@ -33,8 +36,10 @@ impl Pool {
         }
     }
 
-    /// A connection was opened. It goes to the request for which it began to be opened, while that still wants
-    /// it; else it is closed, goes to the oldest request, or is idle.
+    /// Places a connection that was opened.
+    ///
+    /// It goes to the request for which it began to be opened, if that still wants it. Otherwise it is closed,
+    /// goes to the oldest request, or becomes idle.
     pub fn opened(&mut self, conn: u32) -> Result<(), Memory>
         requires opening { is_opening (place_at self.old.pooled conn) ≡ true }
         requires drawn { self.old.pooled.drawn ≤ most_drawn }
@@ -53,7 +58,7 @@ impl Pool {
         Ok(())
     }
 
-    // To whom a refused opening falls.
+    // Returns the call to which a refused opening falls, or 0 for none.
     fn falls_to(&self, conn: u32) -> u32
         ensures { result ≡ falls_to (place_at self.now.pooled conn) self.now.pooled }
     {
@@ -67,7 +72,7 @@ impl Pool {
         }
     }
 
-    // How many may be open.
+    // Returns how many connections may be open.
     fn most_allowed(&self) -> u64
         ensures { result ≡ most_allowed self.now.pooled }
     {
@@ -79,7 +84,7 @@ impl Pool {
         }
     }
 
-    // How many openings are due for requests that wait.
+    // Returns how many openings are due for requests that wait.
     fn due_openings(&self) -> u64
         ensures { result ≡ due_openings self.now.pooled }
     {
@@ -91,7 +96,7 @@ impl Pool {
         wanted.min(self.most_allowed().saturating_sub(self.conns.count()))
     }
 
-    // The openings that are due begin.
+    // Begins the openings that are due.
     pub(super) fn begin_due(&mut self)
         requires room { 0 < self.old.spare }
         requires space { length self.old.moves + most_open ≤ self.old.capacity }
@@ -106,8 +111,11 @@ impl Pool {
         }
     }
 
-    /// A connection couldn't be opened. That falls to the call for which it began to be, while that still
-    /// wants it, else to the oldest request, else to nobody; then openings begin that are due.
+    /// Removes a connection that couldn't be opened.
+    ///
+    /// The fault falls to the call for which the connection began to be opened, if that still wants it.
+    /// Otherwise it falls to the oldest request, if one waits, and then to nobody. Then the openings that are
+    /// due begin.
     pub fn open_failed(&mut self, conn: u32) -> Result<(), Memory>
         requires opening { is_opening (place_at self.old.pooled conn) ≡ true }
         requires drawn { self.old.pooled.drawn ≤ most_drawn }
@@ -124,8 +132,8 @@ impl Pool {
         Ok(())
     }
 
-    /// A connection was shut; then openings begin that are due. After `DB.maybeOpenNewConnections` of Go's
-    /// package.
+    /// Removes a connection that was shut. Then the openings that are due begin. This follows Go's
+    /// `DB.maybeOpenNewConnections`.
     pub fn gone(&mut self, conn: u32) -> Result<(), Memory>
         requires closing { is_closing (place_at self.old.pooled conn) ≡ true }
         requires drawn { self.old.pooled.drawn ≤ most_drawn }

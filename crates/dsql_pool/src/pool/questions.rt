@@ -1,4 +1,4 @@
-//! What stands in the pool.
+//! Questions about the state of the pool.
 ghost use Rattle.std.specs.Prelude.{◌≡◌};
 ghost use Rattle.dsql_wait.specs.Requests.{waits};
 
@@ -6,14 +6,14 @@ use crate::conn::Conn;
 use crate::pool::Pool;
 
 impl Pool {
-    /// The open connections, in the order in which they began to be opened.
+    /// Returns the open connections, in the order in which they began to be opened.
     pub fn conns(&self) -> &[Conn]
         ensures { result.now ≡ self.now.pooled.conns }
     {
         self.conns.rows()
     }
 
-    /// A call's request waits.
+    /// Returns whether the request of a call waits.
     pub fn waits(&self, call: u32) -> bool
         ensures { result ≡ waits call self.now.pooled.waiting }
     {

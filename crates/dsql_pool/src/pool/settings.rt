@@ -15,7 +15,7 @@ impl Pool {
     ghost use Rattle.dsql_pool.specs.Decisions.{starts_closing, closings_of_setting};
     ghost use Rattle.dsql_pool.specs.Calls.{open_set, moves_open_set, idle_set, moves_idle_set};
 
-    // Other limits.
+    // Replaces the limits.
     pub(super) fn limit(&mut self, limits: Limits)
         ensures pooled { self.new.pooled ≡ limited limits self.old.pooled }
         ensures moves { self.new.moves ≡ self.old.moves }
@@ -25,21 +25,21 @@ impl Pool {
         self.limits = limits;
     }
 
-    // The limits with the open limit set.
+    // Returns the limits with this open limit.
     fn open_limits(&self, n: i64) -> Limits
         ensures { result ≡ changes.with_open n self.now.pooled.limits }
     {
         with_open(self.limits, n)
     }
 
-    // The limits with the idle limit set.
+    // Returns the limits with this idle limit.
     fn idle_limits(&self, n: i64) -> Limits
         ensures { result ≡ changes.with_idle n self.now.pooled.limits }
     {
         with_idle(self.limits, n)
     }
 
-    // The idle ones above the idle limit are noted as closed, the longest idle first.
+    // Notes the closings of the idle connections above the idle limit, the longest idle first.
     fn note_surplus(&mut self)
         requires empty { self.old.moves ≡ [] }
         requires space { length self.old.pooled.idle ≤ self.old.capacity }
@@ -63,7 +63,7 @@ impl Pool {
         self.moves[at]
     }
 
-    // A closing is carried out.
+    // Carries out a closing.
     fn close_one(&mut self, closing: Move)
         requires { starts_closing closing ≡ true }
         ensures pooled { self.new.pooled ≡ moved closing self.old.pooled }
@@ -78,7 +78,7 @@ impl Pool {
         }
     }
 
-    // The closings that were noted are carried out.
+    // Carries out the closings that were noted.
     pub(super) fn close_noted(&mut self)
         requires { list_all starts_closing self.old.moves ≡ true }
         ensures pooled { self.new.pooled ≡ made self.old.moves self.old.pooled }
@@ -93,11 +93,12 @@ impl Pool {
         }
     }
 
-    // Other limits, and the surplus idle connections close.
+    // Replaces the limits and closes the surplus idle connections.
     fn close_surplus(&mut self, limits: Limits)
         requires empty { self.old.moves ≡ [] }
         requires space { length self.old.pooled.idle ≤ self.old.capacity }
-        ensures pooled { self.new.pooled ≡ made (closings_of_setting (limited limits self.old.pooled)) (limited limits self.old.pooled) }
+        ensures pooled { self.new.pooled ≡ made (closings_of_setting (limited limits self.old.pooled))
+            (limited limits self.old.pooled) }
         ensures moves { self.new.moves ≡ closings_of_setting (limited limits self.old.pooled) }
         ensures len { length self.new.moves ≤ length self.old.pooled.idle }
         ensures drawn { self.new.pooled.drawn ≡ self.old.pooled.drawn }
@@ -109,11 +110,12 @@ impl Pool {
         self.close_noted();
     }
 
-    /// Sets the idle limit, as Go's `DB.SetMaxIdleConns`. Surplus idle connections close, the longest idle
+    /// Sets the idle limit, as Go's `DB.SetMaxIdleConns` does. Surplus idle connections close, the longest idle
     /// first.
     pub fn set_idle(&mut self, n: i64) -> Result<(), Memory>
         ensures moves { OnOk result (self.new.moves ≡ moves_idle_set n self.old.pooled) }
-        ensures ok { OnOk result (self.new.pooled ≡ made (moves_idle_set n self.old.pooled) (idle_set n self.old.pooled)) }
+        ensures ok { OnOk result (self.new.pooled
+            ≡ made (moves_idle_set n self.old.pooled) (idle_set n self.old.pooled)) }
         ensures full { OnErr result (self.old.spare ≡ 0) }
         ensures err { OnErr result (self.new.pooled ≡ self.old.pooled) }
         ensures spare { self.old.spare ≤ self.new.spare }
@@ -124,12 +126,13 @@ impl Pool {
         Ok(())
     }
 
-    /// Sets the open limit, as Go's `DB.SetMaxOpenConns`. Surplus idle connections close, the longest idle
-    /// first; then openings begin that are due.
+    /// Sets the open limit, as Go's `DB.SetMaxOpenConns` does. Surplus idle connections close, the longest idle
+    /// first. Then the openings that are due begin.
     pub fn set_open(&mut self, n: i64) -> Result<(), Memory>
         requires { self.old.pooled.drawn ≤ most_drawn }
         ensures moves { OnOk result (self.new.moves ≡ moves_open_set n self.old.pooled) }
-        ensures ok { OnOk result (self.new.pooled ≡ made (moves_open_set n self.old.pooled) (open_set n self.old.pooled)) }
+        ensures ok { OnOk result (self.new.pooled
+            ≡ made (moves_open_set n self.old.pooled) (open_set n self.old.pooled)) }
         ensures full { OnErr result (self.old.spare ≡ 0) }
         ensures err { OnErr result (self.new.pooled ≡ self.old.pooled) }
         ensures spare { self.old.spare ≤ self.new.spare }

@@ -7,7 +7,7 @@ use crate::stats::Stats;
 impl Pool {
     ghost use Rattle.dsql_pool.specs.Pooled.{stats};
 
-    /// The nine numbers of Go's `DBStats`. It takes no memory.
+    /// Returns the nine numbers of Go's `DBStats`. Takes no memory.
     pub fn stats(&self) -> Stats
         ensures { result ≡ stats self.now.pooled }
     {

@@ -1,4 +1,4 @@
-//! Time that passes, and how long a connection may live or idle.
+//! Time that passes, and how long a connection may live or stay idle.
 ghost use Rattle.std.specs.Prelude.{◌≡◌, ◌≤◌, [], length, OnOk, OnErr};
 
 use crate::lists::note_outdated;
@@ -12,7 +12,7 @@ impl Pool {
     ghost use Rattle.dsql_pool.specs.Decisions.{closings_of_tick};
     ghost use Rattle.dsql_pool.specs.Calls.{lifetime_set, moves_lifetime_set, idle_time_set, moves_idle_time_set, moves_ticked};
 
-    // The idle ones past their time are noted as closed, the longest idle first.
+    // Notes the closings of the idle connections that are past their time, the longest idle first.
     fn note_outdated(&mut self)
         requires empty { self.old.moves ≡ [] }
         requires space { length self.old.pooled.idle ≤ self.old.capacity }
@@ -29,7 +29,7 @@ impl Pool {
         );
     }
 
-    // The idle ones past their time close.
+    // Closes the idle connections that are past their time.
     fn close_outdated(&mut self)
         requires empty { self.old.moves ≡ [] }
         requires space { length self.old.pooled.idle ≤ self.old.capacity }
@@ -41,21 +41,21 @@ impl Pool {
         self.close_noted();
     }
 
-    // The limits with the lifetime set.
+    // Returns the limits with this lifetime.
     fn life_limits(&self, d: i64) -> Limits
         ensures { result ≡ changes.with_lifetime d self.now.pooled.limits }
     {
         with_lifetime(self.limits, d)
     }
 
-    // The limits with the idle time set.
+    // Returns the limits with this idle time.
     fn idle_time_limits(&self, d: i64) -> Limits
         ensures { result ≡ changes.with_idle_time d self.now.pooled.limits }
     {
         with_idle_time(self.limits, d)
     }
 
-    // The present moment becomes a later one.
+    // Advances the present moment to `now`, if `now` is later.
     fn pass(&mut self, now: u64)
         ensures pooled { self.new.pooled ≡ ticked now self.old.pooled }
         ensures moves { self.new.moves ≡ self.old.moves }
@@ -65,11 +65,12 @@ impl Pool {
         self.moment = self.moment.max(now);
     }
 
-    /// Sets how long a connection may live, as Go's `DB.SetConnMaxLifetime`. The idle ones past their time
-    /// close, the longest idle first.
+    /// Sets how long a connection may live, as Go's `DB.SetConnMaxLifetime` does. The idle connections that are
+    /// past their time close, the longest idle first.
     pub fn set_lifetime(&mut self, d: i64) -> Result<(), Memory>
         ensures moves { OnOk result (self.new.moves ≡ moves_lifetime_set d self.old.pooled) }
-        ensures ok { OnOk result (self.new.pooled ≡ made (moves_lifetime_set d self.old.pooled) (lifetime_set d self.old.pooled)) }
+        ensures ok { OnOk result (self.new.pooled
+            ≡ made (moves_lifetime_set d self.old.pooled) (lifetime_set d self.old.pooled)) }
         ensures full { OnErr result (self.old.spare ≡ 0) }
         ensures err { OnErr result (self.new.pooled ≡ self.old.pooled) }
         ensures spare { self.old.spare ≤ self.new.spare }
@@ -81,11 +82,12 @@ impl Pool {
         Ok(())
     }
 
-    /// Sets how long a connection may stay idle, as Go's `DB.SetConnMaxIdleTime`. The idle ones past their
-    /// time close, the longest idle first.
+    /// Sets how long a connection may stay idle, as Go's `DB.SetConnMaxIdleTime` does. The idle connections
+    /// that are past their time close, the longest idle first.
     pub fn set_idle_time(&mut self, d: i64) -> Result<(), Memory>
         ensures moves { OnOk result (self.new.moves ≡ moves_idle_time_set d self.old.pooled) }
-        ensures ok { OnOk result (self.new.pooled ≡ made (moves_idle_time_set d self.old.pooled) (idle_time_set d self.old.pooled)) }
+        ensures ok { OnOk result (self.new.pooled
+            ≡ made (moves_idle_time_set d self.old.pooled) (idle_time_set d self.old.pooled)) }
         ensures full { OnErr result (self.old.spare ≡ 0) }
         ensures err { OnErr result (self.new.pooled ≡ self.old.pooled) }
         ensures spare { self.old.spare ≤ self.new.spare }
@@ -97,11 +99,14 @@ impl Pool {
         Ok(())
     }
 
-    /// The present moment becomes `now`, in nanoseconds, if it isn't later. The idle ones past their time
-    /// close, the longest idle first. After the connection cleaner of Go's package.
+    /// Advances the present moment to `now`, in nanoseconds, if `now` is later.
+    ///
+    /// The idle connections that are past their time close, the longest idle first. This follows the connection
+    /// cleaner of Go's package.
     pub fn tick(&mut self, now: u64) -> Result<(), Memory>
         ensures moves { OnOk result (self.new.moves ≡ moves_ticked now self.old.pooled) }
-        ensures ok { OnOk result (self.new.pooled ≡ made (moves_ticked now self.old.pooled) (ticked now self.old.pooled)) }
+        ensures ok { OnOk result (self.new.pooled
+            ≡ made (moves_ticked now self.old.pooled) (ticked now self.old.pooled)) }
         ensures full { OnErr result (self.old.spare ≡ 0) }
         ensures err { OnErr result (self.new.pooled ≡ self.old.pooled) }
         ensures spare { self.old.spare ≤ self.new.spare }

@@ -4,7 +4,7 @@ use Rattle.dsql_cancel.specs.Registry.{byte_order}
 use Rattle.dsql_cancel.proofs.Search.{searched}
 use Rattle.dsql_cancel.proofs.table.place_of.Goals as goal
 
--- the closure compares an entry's name with this one
+-- The closure compares an entry's name with this one.
 pub returns : goal.returns
 returns c =
     let facts = c.binary_search_by.ensures in

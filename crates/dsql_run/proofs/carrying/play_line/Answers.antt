@@ -1,13 +1,13 @@
 use Rattle.std.proofs.Common.{refl, sym, ap, ◌∙◌, arith}
 use Rattle.std.specs.Prelude.{Err}
-use Rattle.dsql_tx_history.specs.declared.event.Event.TheVariants.{Run}
-use Rattle.dsql_tx_follows.specs.Follows.{after}
-use Rattle.dsql_tx_follows.specs.Sentences.{after_part}
-use Rattle.dsql_tx_wires.proofs.Telling.{at_most}
-use Rattle.dsql_tx_playing.specs.Carried.{part}
-use Rattle.dsql_tx_playing.specs.Planned.{plans_of}
-use Rattle.dsql_outcome.proofs.Following.{carried_stops, line_stops_short}
-use Rattle.dsql_outcome.proofs.Writing.{shown_kinds}
+use Rattle.dsql_run_outcome.specs.history.declared.event.Event.TheVariants.{Run}
+use Rattle.dsql_run_outcome.specs.follows.Follows.{after}
+use Rattle.dsql_run_outcome.specs.follows.Sentences.{after_part}
+use Rattle.dsql_run_outcome.proofs.run_wires.Telling.{at_most}
+use Rattle.dsql_run_outcome.specs.run_player.Carried.{part}
+use Rattle.dsql_run_outcome.specs.run_player.Planned.{plans_of}
+use Rattle.dsql_run_outcome.proofs.Following.{carried_stops, line_stops_short}
+use Rattle.dsql_run_outcome.proofs.Writing.{shown_kinds}
 use Rattle.dsql_run.proofs.Going.{line_extends, stop_extends, halted, halted_full, halted_plays, halted_writes, shown_unfilled}
 use Rattle.dsql_run.proofs.Written.{grown, line_halted, line_shown}
 use Rattle.dsql_run.proofs.carrying.play_line.Goals as goal
@@ -58,7 +58,7 @@ returns-in-Err-clause-on g c = record {
   legal = c.carry_line.ensures.run.legal;
 }
 
--- It was, and its events are written.
+-- The line was carried out, and its events are written.
 
 pub show_history-requires-clause-within : goal.show_history-requires-clause-within
 show_history-requires-clause-within g c =

@@ -1,5 +1,5 @@
 use Rattle.std.specs.Prelude.{reverse}
-use Rattle.dsql_outcome.proofs.Asking.{given_back}
+use Rattle.dsql_run_outcome.proofs.Asking.{given_back}
 use Rattle.dsql_run.proofs.closing.close.Goals as goal
 
 pub end_run-requires-clause-between : goal.end_run-requires-clause-between

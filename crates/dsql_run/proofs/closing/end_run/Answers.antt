@@ -1,8 +1,8 @@
 use Rattle.std.proofs.Common.{◌∙◌}
 use Rattle.std.specs.Prelude.{reverse}
-use Rattle.dsql_tx_wires.proofs.Telling.{leaves}
-use Rattle.dsql_outcome.proofs.Asking.{given_back}
-use Rattle.dsql_tx_playing.proofs.Keeping.{able_then}
+use Rattle.dsql_run_outcome.proofs.run_wires.Telling.{leaves}
+use Rattle.dsql_run_outcome.proofs.Asking.{given_back}
+use Rattle.dsql_run_outcome.proofs.run_player.Keeping.{able_then}
 use Rattle.dsql_run.proofs.Going.{end_extends, end_stop_extends}
 use Rattle.dsql_run.proofs.closing.end_run.Goals as goal
 

@@ -1,6 +1,6 @@
 use Rattle.std.proofs.Common.{◌≡◌, ◌∙◌, true, sym}
-use Rattle.dsql_outcome.specs.Runs.{is_cut}
-use Rattle.dsql_outcome.proofs.Finished.{finish_none}
+use Rattle.dsql_run_outcome.specs.Runs.{is_cut}
+use Rattle.dsql_run_outcome.proofs.Finished.{finish_none}
 use Rattle.dsql_run.proofs.finishing.finish.Goals as goal
 
 pub returns-then-is_cut-clause-wrote : goal.returns-then-is_cut-clause-wrote

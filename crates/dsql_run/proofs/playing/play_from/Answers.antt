@@ -1,13 +1,13 @@
 use Rattle.std.proofs.Common.{◌∙◌, ap, inl, inr, refl, arith, is_some, rules}
-use Rattle.dsql_tx_history.specs.declared.event.Event.TheVariants.{Run}
-use Rattle.dsql_tx_follows.specs.Moments.{just_begun}
-use Rattle.dsql_tx_wires.proofs.Extending.{extends_then}
-use Rattle.dsql_tx_playing.proofs.Keeping.{able_then}
-use Rattle.dsql_outcome.specs.Lent.{lent}
-use Rattle.dsql_outcome.specs.Runs.{is_write_fault}
-use Rattle.dsql_outcome.proofs.Asking.{read_played, written_played, not_read, not_written}
-use Rattle.dsql_outcome.proofs.Ending.{script_played, shown_before_end}
-use Rattle.dsql_outcome.proofs.Finished.{all_risen, wrote_older, writes_more}
+use Rattle.dsql_run_outcome.specs.history.declared.event.Event.TheVariants.{Run}
+use Rattle.dsql_run_outcome.specs.follows.Moments.{just_begun}
+use Rattle.dsql_run_outcome.proofs.run_wires.Extending.{extends_then}
+use Rattle.dsql_run_outcome.proofs.run_player.Keeping.{able_then}
+use Rattle.dsql_run_outcome.specs.Lent.{lent}
+use Rattle.dsql_run_outcome.specs.Runs.{is_write_fault}
+use Rattle.dsql_run_outcome.proofs.Asking.{read_played, written_played, not_read, not_written}
+use Rattle.dsql_run_outcome.proofs.Ending.{script_played, shown_before_end}
+use Rattle.dsql_run_outcome.proofs.Finished.{all_risen, wrote_older, writes_more}
 use Rattle.dsql_run.proofs.Written.{grown}
 use Rattle.dsql_run.proofs.playing.play_from.Goals as goal
 

@@ -1,12 +1,12 @@
 use Rattle.std.proofs.Common.{◌∙◌, ap, inl, inr, refl}
-use Rattle.dsql_driver.specs.Streams.{has_risen}
-use Rattle.dsql_tx_history.specs.declared.event.Event.TheVariants.{Run}
-use Rattle.dsql_tx_script_source.specs.Script.{nothing}
-use Rattle.dsql_tx_script_source.specs.Reading.{HasRead, ReadsHead}
-use Rattle.dsql_script_source.specs.Stops.{is_read_fault}
-use Rattle.dsql_outcome.specs.Headline.{Ran, seen}
-use Rattle.dsql_outcome.specs.Playing.{ScriptPlayed}
-use Rattle.dsql_outcome.proofs.Finished.{risen_later, risen_earlier}
+use Rattle.dsql_run_outcome.specs.driver.Streams.{has_risen}
+use Rattle.dsql_run_outcome.specs.history.declared.event.Event.TheVariants.{Run}
+use Rattle.dsql_run_outcome.specs.script_source.Script.{nothing}
+use Rattle.dsql_run_outcome.specs.script_source.Reading.{HasRead, ReadsHead}
+use Rattle.dsql_run_outcome.specs.script_source.Stops.{is_read_fault}
+use Rattle.dsql_run_outcome.specs.Headline.{Ran, seen}
+use Rattle.dsql_run_outcome.specs.Playing.{ScriptPlayed}
+use Rattle.dsql_run_outcome.proofs.Finished.{risen_later, risen_earlier}
 use Rattle.dsql_run.proofs.playing.play_keeping.Goals as goal
 
 pub returns : goal.returns

@@ -1,27 +1,27 @@
 use Rattle.std.proofs.Common.{◌≡◌, ◌≤◌, ◌∙◌, true, List, refl, ap, sym, subst, arith, length}
 use Rattle.std.specs.Prelude.{IfSome, Ok, Err, is_some}
 use Rattle.std.proofs.lemmas.Result.{IfOk-at_ok}
-use Rattle.dsql_tx_history.specs.declared.event.Event.{Event}
-use Rattle.dsql_tx_history.specs.declared.event.Event.TheVariants.{Run}
-use Rattle.dsql_tx_reader.specs.ScriptLines.{most_lines}
-use Rattle.dsql_tx_reader.specs.declared.script.Head.TheVariants.{Begun}
-use Rattle.dsql_tx_report.specs.Lines.{text_of}
-use Rattle.dsql_show.specs.Report.{with_text}
-use Rattle.dsql_tx_follows.specs.Moments.{Moment}
-use Rattle.dsql_tx_playing.specs.Carried.{Carries, StopsInLine}
-use Rattle.dsql_tx_playing.specs.Planned.{plans_of}
-use Rattle.dsql_tx_playing.specs.Playing.{IsAt}
-use Rattle.dsql_tx_script_source.specs.Plays.{saying}
-use Rattle.dsql_tx_script_source.specs.Reading.{IsBodyLine, is_body}
-use Rattle.dsql_script_source.proofs.Errors.{err_is}
-use Rattle.dsql_tx_wires.specs.Extends.{Extends}
-use Rattle.dsql_tx_wires.specs.Told.{FleetTells, TellsAtMost}
-use Rattle.dsql_outcome.specs.Lent.{lent}
-use Rattle.dsql_tx_wires.proofs.Extending.{extends_same, extends_then}
-use Rattle.dsql_outcome.specs.Runs.{IsLinesEnd, ran_out}
-use Rattle.dsql_outcome.proofs.Ending.{failed_is}
-use Rattle.dsql_outcome.proofs.Lines.{first_cut, first_ends, first_so_far, first_stops, line_ends, line_so_far, play_ends_none, read_ends, script_ends}
-use Rattle.dsql_outcome.proofs.Writing.{all_shown, no_text, show_stops, wrote_at_rest, wrote_shown}
+use Rattle.dsql_run_outcome.specs.history.declared.event.Event.{Event}
+use Rattle.dsql_run_outcome.specs.history.declared.event.Event.TheVariants.{Run}
+use Rattle.dsql_run_outcome.specs.script_reader.ScriptLines.{most_lines}
+use Rattle.dsql_run_outcome.specs.script_reader.declared.script.Head.TheVariants.{Begun}
+use Rattle.dsql_run_outcome.specs.script_report.Lines.{text_of}
+use Rattle.dsql_run_outcome.specs.script_show.Report.{with_text}
+use Rattle.dsql_run_outcome.specs.follows.Moments.{Moment}
+use Rattle.dsql_run_outcome.specs.run_player.Carried.{Carries, StopsInLine}
+use Rattle.dsql_run_outcome.specs.run_player.Planned.{plans_of}
+use Rattle.dsql_run_outcome.specs.run_player.Playing.{IsAt}
+use Rattle.dsql_run_outcome.specs.script_source.Plays.{saying}
+use Rattle.dsql_run_outcome.specs.script_source.Reading.{IsBodyLine, is_body}
+use Rattle.dsql_run_outcome.proofs.script_source.Errors.{err_is}
+use Rattle.dsql_run_outcome.specs.run_wires.Extends.{Extends}
+use Rattle.dsql_run_outcome.specs.run_wires.Told.{FleetTells, TellsAtMost}
+use Rattle.dsql_run_outcome.specs.Lent.{lent}
+use Rattle.dsql_run_outcome.proofs.run_wires.Extending.{extends_same, extends_then}
+use Rattle.dsql_run_outcome.specs.Runs.{IsLinesEnd, ran_out}
+use Rattle.dsql_run_outcome.proofs.Ending.{failed_is}
+use Rattle.dsql_run_outcome.proofs.Lines.{first_cut, first_ends, first_so_far, first_stops, line_ends, line_so_far, play_ends_none, read_ends, script_ends}
+use Rattle.dsql_run_outcome.proofs.Writing.{all_shown, no_text, show_stops, wrote_at_rest, wrote_shown}
 use Rattle.dsql_run.proofs.Going.{begins_telling}
 use Rattle.dsql_run.proofs.Trimming.{between_still, so_far_still}
 use Rattle.dsql_run.proofs.Heading.{always_headed, fewer}
@@ -121,7 +121,7 @@ returns-in_err-play_line-clause-between g c = λ ran.
     let is : c.from_residual-in_err-play_line.result ≡ Err stop = err_is c.from_residual-in_err-play_line.result stop c.from_residual-in_err-play_line.ensures.1 in
     c.in_err-play_line.ensures.between (subst (λ r. ran_out r ≡ true) is ran)
 
--- The next one couldn't be read.
+-- The next line couldn't be read.
 
 pub returns-in_err-next-2-clause-lines : goal.returns-in_err-next-2-clause-lines
 returns-in_err-next-2-clause-lines g c = λ before asked skipped head.
@@ -155,7 +155,7 @@ returns-in_err-next-2-clause-on g c = record {
   legal = c.play_line.ensures.on.legal;
 }
 
--- Each line.
+-- The loop goes on with the next line.
 
 pub loop-next-init : goal.loop-next-init
 loop-next-init g c = record {

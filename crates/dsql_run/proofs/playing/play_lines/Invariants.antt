@@ -1,18 +1,18 @@
 use Rattle.std.proofs.Common.{◌≡◌, ◌≤◌, ◌-◌, ◌+◌, ℕ, true, List, Option, length}
 use Rattle.std.specs.Prelude.{is_some, Ok, IfSome}
-use Rattle.dsql_driver.specs.declared.caps.Caps.{Caps}
-use Rattle.dsql_tx_history.specs.declared.event.Event.TheVariants.{Run}
-use Rattle.dsql_tx_follows.specs.declared.line.Line.{Line}
-use Rattle.dsql_tx_report.specs.Lines.{text_of}
-use Rattle.dsql_tx_reader.specs.ScriptLines.{most_lines}
-use Rattle.dsql_tx_reader.specs.declared.script.Head.{Head}
-use Rattle.dsql_tx_wires.specs.Extends.{Extends}
-use Rattle.dsql_show.specs.Report.{with_text}
-use Rattle.dsql_tx_script_source.specs.Reading.{IsBodyLine}
-use Rattle.dsql_outcome.specs.Lent.{lent}
-use Rattle.dsql_outcome.specs.Playing.{HasHead}
-use Rattle.dsql_outcome.specs.Runs.{Between}
-use Rattle.dsql_outcome.proofs.Lines.{LinesSoFar}
+use Rattle.dsql_run_outcome.specs.driver.declared.caps.Caps.{Caps}
+use Rattle.dsql_run_outcome.specs.history.declared.event.Event.TheVariants.{Run}
+use Rattle.dsql_run_outcome.specs.follows.declared.line.Line.{Line}
+use Rattle.dsql_run_outcome.specs.script_report.Lines.{text_of}
+use Rattle.dsql_run_outcome.specs.script_reader.ScriptLines.{most_lines}
+use Rattle.dsql_run_outcome.specs.script_reader.declared.script.Head.{Head}
+use Rattle.dsql_run_outcome.specs.run_wires.Extends.{Extends}
+use Rattle.dsql_run_outcome.specs.script_show.Report.{with_text}
+use Rattle.dsql_run_outcome.specs.script_source.Reading.{IsBodyLine}
+use Rattle.dsql_run_outcome.specs.Lent.{lent}
+use Rattle.dsql_run_outcome.specs.Playing.{HasHead}
+use Rattle.dsql_run_outcome.specs.Runs.{Between}
+use Rattle.dsql_run_outcome.proofs.Lines.{LinesSoFar}
 use Rattle.dsql_run.proofs.Heading.{one_if}
 use Rattle.dsql_run.proofs.playing.play_lines.Given as goal
 

@@ -1,9 +1,9 @@
 use Rattle.std.proofs.Common.{Some, ap, sym, ◌∙◌}
-use Rattle.dsql_outcome.proofs.Telling.{whole_at_zero, known_of_run, known_of_words, read_fault_at_three, write_fault_at_four}
-use Rattle.dsql_outcome.proofs.Summed.{known_of_lines, known_of_sum, lines_at_four, lines_at_zero, sum_at_four, sum_at_three, summed_at_zero}
+use Rattle.dsql_run_outcome.proofs.Telling.{whole_at_zero, known_of_run, known_of_words, read_fault_at_three, write_fault_at_four}
+use Rattle.dsql_run_outcome.proofs.Summed.{known_of_lines, known_of_sum, lines_at_four, lines_at_zero, sum_at_four, sum_at_three, summed_at_zero}
 use Rattle.dsql_run.proofs.program.sqlrun.Goals as goal
 
--- A script is played.
+-- The words ask for a script to be played.
 
 pub returns-in-Some-Play-clause-headline : goal.returns-in-Some-Play-clause-headline
 returns-in-Some-Play-clause-headline g c = λ play zero. whole_at_zero _ _ _ _ c.run.result zero c.run.ensures.ran
@@ -17,7 +17,7 @@ returns-in-Some-Play-clause-read_fault g c = λ play three. read_fault_at_three 
 pub returns-in-Some-Play-clause-write_fault : goal.returns-in-Some-Play-clause-write_fault
 returns-in-Some-Play-clause-write_fault g c = λ play four. write_fault_at_four _ _ _ _ c.run.result four c.run.ensures.ran
 
--- Its summary is asked for.
+-- The words ask for its summary.
 
 pub returns-in-Some-Summarize-clause-summary : goal.returns-in-Some-Summarize-clause-summary
 returns-in-Some-Summarize-clause-summary g c = λ sums zero. summed_at_zero _ _ _ _ c.sum_up.result zero c.sum_up.ensures.summed
@@ -31,7 +31,7 @@ returns-in-Some-Summarize-clause-read_fault g c = λ sums three. sum_at_three _ 
 pub returns-in-Some-Summarize-clause-write_fault : goal.returns-in-Some-Summarize-clause-write_fault
 returns-in-Some-Summarize-clause-write_fault g c = λ sums four. sum_at_four _ _ _ _ c.sum_up.result four c.sum_up.ensures.summed
 
--- Lines are generated.
+-- The words ask for lines to be generated.
 
 pub returns-in-Some-Generate-clause-known : goal.returns-in-Some-Generate-clause-known
 returns-in-Some-Generate-clause-known g c = known_of_lines _ _ _ _ _ c.generate_lines.result c.generate_lines.ensures.generated
@@ -46,7 +46,7 @@ returns-in-Some-Generate-clause-generated g c = rw (sym c.command_of.ensures ∙
 pub returns-in-Some-Generate-clause-write_fault : goal.returns-in-Some-Generate-clause-write_fault
 returns-in-Some-Generate-clause-write_fault g c = λ makes four. lines_at_four _ _ _ _ _ c.generate_lines.result four c.generate_lines.ensures.generated
 
--- Other words.
+-- The words aren't accepted.
 
 pub returns-in-None-clause-known : goal.returns-in-None-clause-known
 returns-in-None-clause-known g c = known_of_words _ _ c.tell_usage.result c.tell_usage.ensures

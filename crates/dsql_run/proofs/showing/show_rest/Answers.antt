@@ -1,11 +1,11 @@
 use Rattle.std.proofs.Common.{◌≡◌, ◌≤◌, ℕ, List, arith, subst, sym}
 use Rattle.std.proofs.lemmas.Result.{on_err_weaker, on_ok_weaker}
-use Rattle.dsql_tx_history.specs.declared.event.Event.{Event}
-use Rattle.dsql_tx_history.specs.Trimmed.{IsLeftOf}
-use Rattle.dsql_tx_show.proofs.Texts.{left_length}
+use Rattle.dsql_run_outcome.specs.history.declared.event.Event.{Event}
+use Rattle.dsql_run_outcome.specs.history.Trimmed.{IsLeftOf}
+use Rattle.dsql_run_outcome.proofs.script_show.Texts.{left_length}
 use Rattle.dsql_run.proofs.showing.show_rest.Goals as goal
 
--- what a player hands out is left of its history
+-- What a player returns is what is left of its history.
 left_of : (past kept : List Event) (trimmed told : ℕ) → IsLeftOf past trimmed kept → told ≡ trimmed → IsLeftOf past told kept
 left_of past kept trimmed told left is = subst (λ (n : ℕ). IsLeftOf past n kept) (sym is) left
 

@@ -1,5 +1,5 @@
 use Rattle.std.proofs.Common.{ap}
-use Rattle.dsql_outcome.specs.Headline.{seen}
+use Rattle.dsql_run_outcome.specs.Headline.{seen}
 use Rattle.dsql_run.proofs.Summaries.{no_write_fault, summed}
 use Rattle.dsql_run.proofs.summing.sum_up.Goals as goal
 

@@ -1,9 +1,8 @@
 use Rattle.std.proofs.Common.{◌≡◌, refl, ap, sym, ◌∙◌, take, drop}
 use Rattle.std.specs.Prelude.{reverse}
 use Rattle.std.proofs.lemmas.List.{take-append-drop}
-use Rattle.dsql_show.specs.Report.{with_text}
-use Rattle.dsql_summary.specs.Summary.{line_of}
-use Rattle.dsql_tx_summary.specs.Summary.{summary_of}
+use Rattle.dsql_run_outcome.specs.script_show.Report.{with_text}
+use Rattle.dsql_run_outcome.specs.script_show.Summary.{line_of, summary_of}
 use Rattle.dsql_run.proofs.Summaries.{all_kept, whole_piece}
 use Rattle.dsql_run.proofs.summing.write_summary.Goals as goal
 

@@ -1,5 +1,5 @@
 use Rattle.std.proofs.Common.{◌≡◌, ◌-◌, ℕ, List, Option}
-use Rattle.dsql_reader.specs.ScriptLines.{most_lines}
+use Rattle.dsql_script_reader.specs.ScriptLines.{most_lines}
 use Rattle.dsql_script_source.specs.Script.{nothing}
 use Rattle.dsql_script_source.specs.Reading.{HasRead}
 use Rattle.dsql_script_source.proofs.Heading.{HeadSoFar}

@@ -1,7 +1,7 @@
 use Rattle.std.proofs.Common.{◌≡◌, true}
 use Rattle.std.specs.Prelude.{Err}
-use Rattle.dsql_stream.specs.Lines.{ahead, HandsOut}
-use Rattle.dsql_reader.specs.ScriptHead.{after}
+use Rattle.dsql_driver_stream.specs.Lines.{ahead, HandsOut}
+use Rattle.dsql_script_reader.specs.ScriptHead.{after}
 use Rattle.dsql_script_source.proofs.Errors.{err_is}
 use Rattle.dsql_script_source.proofs.Reading.{reads_on, stops_reading}
 use Rattle.dsql_script_source.proofs.script.take_line.Goals as goal

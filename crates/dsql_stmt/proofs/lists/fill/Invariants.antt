@@ -1,4 +1,4 @@
--- There are as many lists as were counted at least, and each is empty.
+-- There are at least as many lists as were counted, and each is empty.
 use Rattle.std.proofs.Common.{◌≤◌, vec_len}
 use Rattle.dsql_stmt.specs.Lists.{AreEmptyOf}
 use Rattle.dsql_stmt.proofs.lists.fill.Given as goal

@@ -1,4 +1,4 @@
--- The pairs so far and those to come are all of them, and there is as much room as there was.
+-- The pairs so far and those to come are all of them, and the list has no less room than at the start.
 use Rattle.std.proofs.Common.{◌≡◌, ◌≤◌, ◌+◌, ◌++◌, length, vec_len, vec_capacity}
 use Rattle.dsql_stmt.specs.Statements.{handles_of}
 use Rattle.dsql_stmt.proofs.table.pairs_of.Given as goal

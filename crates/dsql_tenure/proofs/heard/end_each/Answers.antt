@@ -1,7 +1,7 @@
 use Rattle.std.proofs.Common.{◌<◌, ◌∙◌, ap, false, length, set, get_or, arith}
 use Rattle.std.proofs.lemmas.List.{get_or_default}
 use Rattle.std.proofs.lemmas.List.Edits.{map_over_more}
-use Rattle.dsql_asked.specs.declared.live.Cursor.{Cursor}
+use Rattle.dsql_tenure_asked.specs.declared.live.Cursor.{Cursor}
 use Rattle.dsql_tenure.specs.Heard.{over_if}
 use Rattle.dsql_tenure.proofs.heard.end_each.Goals as goal
 

@@ -2,7 +2,7 @@ use Rattle.std.proofs.Common.{◌≡◌, ◌<◌, length, min, ◌+◌, ◌-◌,
 use Rattle.dsql_mem.specs.Roll.{retired_of}
 use Rattle.dsql_mem.proofs.roll.Roll.count.Given as goal
 
--- the wires counted and those still to count are all wires, as far as the count goes
+-- The wires counted and those still to count are together all wires, as far as the count goes.
 abbrev pub invariant-loop-at : goal.invariant-loop-at
 invariant-loop-at l =
     (l.count < 2 ^ 64)

@@ -1,8 +1,8 @@
--- The pin of that number, ended where it stands.
+-- Proves that `close` ends the pin with that number in its place.
 use Rattle.std.proofs.Common.{ap, sym, ◌∙◌, eqb}
 use Rattle.std.specs.Map.{set_value}
-use Rattle.dsql_numbered.specs.Numbered.{Numbered, changed}
-use Rattle.dsql_numbered.proofs.Changes.{set_value-changed}
+use Rattle.dsql_value_numbered.specs.Numbered.{Numbered, changed}
+use Rattle.dsql_value_numbered.proofs.Changes.{set_value-changed}
 use Rattle.dsql_pin.specs.declared.pin.Pin.{Pin}
 use Rattle.dsql_pin.specs.Pinned.{Pinned, ended_by}
 use Rattle.dsql_pin.proofs.table.Pins.close.Goals as goal

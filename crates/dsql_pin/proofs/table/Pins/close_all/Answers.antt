@@ -1,9 +1,9 @@
--- One pin after another is ended where it stands.
+-- Proves that `close_all` ends one pin after another in its place.
 use Rattle.std.proofs.Common.{length, slice_get, ap, sym, ◌∙◌, arith}
 use Rattle.std.specs.Map.{values_of}
 use Rattle.indexmap.specs.IndexMap.{set_value_at}
-use Rattle.dsql_numbered.specs.Numbered.{Numbered, all_changed}
-use Rattle.dsql_numbered.proofs.EachThing.{length-changed_before, changed_before-end, changed_before-next}
+use Rattle.dsql_value_numbered.specs.Numbered.{Numbered, all_changed}
+use Rattle.dsql_value_numbered.proofs.EachThing.{length-changed_before, changed_before-end, changed_before-next}
 use Rattle.dsql_pin.specs.declared.pin.Pin.{Pin}
 use Rattle.dsql_pin.specs.declared.end.PinEnd.TheVariants.{EndOfRun}
 use Rattle.dsql_pin.specs.Pinned.{Pinned, ended_by}

@@ -1,9 +1,9 @@
--- The pin of that number, changed where it stands.
+-- Proves that `hold` changes the pin with that number in its place.
 use Rattle.std.proofs.Common.{◌≡◌, ◌<◌, Option, Some, ap, sym, subst, ◌∙◌, eqb}
 use Rattle.std.specs.Prelude.{IfSome}
 use Rattle.std.specs.Map.{set_value}
-use Rattle.dsql_numbered.specs.Numbered.{Numbered, thing_of, changed}
-use Rattle.dsql_numbered.proofs.Changes.{set_value-changed}
+use Rattle.dsql_value_numbered.specs.Numbered.{Numbered, thing_of, changed}
+use Rattle.dsql_value_numbered.proofs.Changes.{set_value-changed}
 use Rattle.dsql_pin.specs.declared.pin.Pin.{Pin}
 use Rattle.dsql_pin.specs.Pinned.{Pinned, most_held, with_one_more}
 use Rattle.dsql_pin.proofs.table.Pins.hold.Goals as goal

@@ -1,8 +1,8 @@
--- A new number goes last.
+-- Proves that `pin` appends a new number.
 use Rattle.std.proofs.Common.{◌∷◌, [], ◌++◌, ap, ◌∙◌, eqb}
 use Rattle.indexmap.proofs.CallerLemmas.{insert_entry-new}
-use Rattle.dsql_numbered.specs.Numbered.{Numbered, was_made}
-use Rattle.dsql_numbered.proofs.Changes.{not_made}
+use Rattle.dsql_value_numbered.specs.Numbered.{Numbered, was_made}
+use Rattle.dsql_value_numbered.proofs.Changes.{not_made}
 use Rattle.dsql_pin.specs.declared.pin.Pin.{Pin}
 use Rattle.dsql_pin.specs.Pinned.{Pinned, pin_on}
 use Rattle.dsql_pin.proofs.table.Pins.pin.Goals as goal

@@ -1,4 +1,4 @@
--- A new one was never lent.
+-- A connection that begins to be opened was never lent.
 use Rattle.std.proofs.Common.{refl, ap}
 use Rattle.dsql_pool.specs.declared.conn.Conn.{Conn}
 use Rattle.dsql_pool.proofs.Rows.{drawn_begun}

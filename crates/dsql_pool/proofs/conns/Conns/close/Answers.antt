@@ -1,4 +1,4 @@
--- The row that was found changes.
+-- The argument changes the row that was found.
 use Rattle.std.proofs.Common.{◌≤◌, refl, sym, ap, ◌∙◌, subst, arith}
 use Rattle.dsql_pool.specs.declared.conn.Conn.{Conn}
 use Rattle.dsql_pool.specs.Places.{Numbered}

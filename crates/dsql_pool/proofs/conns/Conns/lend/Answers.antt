@@ -1,7 +1,7 @@
--- The row that was found changes.
+-- The argument changes the row that was found.
 use Rattle.std.proofs.Common.{◌+◌, ◌≤◌, ℕ, cond, true, false, Some, refl, sym, ap, ◌∙◌, subst, arith}
-use Rattle.dsql_journal.specs.declared.entry.Owner.{Owner}
-use Rattle.dsql_journal.specs.Kinds.{is_house}
+use Rattle.dsql_tenure_journal.specs.declared.entry.Owner.{Owner}
+use Rattle.dsql_tenure_journal.specs.Kinds.{is_house}
 use Rattle.dsql_pool.specs.declared.conn.Conn.{Conn}
 use Rattle.dsql_pool.specs.Places.{Numbered, conn_of}
 use Rattle.dsql_pool.specs.Changes.{lent, changed}

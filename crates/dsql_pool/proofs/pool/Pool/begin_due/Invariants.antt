@@ -1,4 +1,4 @@
--- So many openings have begun, and the others are allowed.
+-- This many openings have begun, and the others are allowed.
 use Rattle.std.proofs.Common.{◌≡◌, ◌+◌, ◌≤◌, ◌++◌, length}
 use Rattle.dsql_pool.specs.Pooled.{next_number}
 use Rattle.dsql_pool.specs.Moved.{made}

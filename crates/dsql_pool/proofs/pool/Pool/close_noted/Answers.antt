@@ -1,4 +1,4 @@
--- One closing after another is carried out.
+-- The closings are carried out one after another.
 use Rattle.std.proofs.Common.{◌≡◌, List, slice_get, Some, ap, sym, ◌∙◌, arith}
 use Rattle.std.proofs.lemmas.Option.{get_or_from_slice_get, slice_get_within}
 use Rattle.dsql_pool.specs.declared.moves.Move.{Move}

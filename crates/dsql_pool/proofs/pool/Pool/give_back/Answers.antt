@@ -1,4 +1,4 @@
--- It comes back and goes to the oldest request, in the tenure that was its next before.
+-- The connection comes back and goes to the oldest request, in the tenure that was its next before.
 use Rattle.dsql_pool.proofs.Due.{moves_served, pool_served}
 use Rattle.dsql_pool.proofs.pool.Pool.give_back.Goals as goal
 

@@ -1,4 +1,4 @@
--- The surplus idle ones close, and then openings begin.
+-- The surplus idle connections close, and then openings begin.
 use Rattle.std.proofs.Common.{◌≡◌, ap, ◌∙◌, rules}
 use Rattle.dsql_time.specs.declared.Limits.{Limits}
 use Rattle.dsql_pool.specs.Pooled.{Pooled}

@@ -1,4 +1,4 @@
--- The waits so far are counted, and the others are to be.
+-- The waits so far are counted, and the others are still to be counted.
 use Rattle.std.proofs.Common.{◌≡◌, ◌≤◌, length}
 use Rattle.std.specs.Prelude.{fold}
 use Rattle.dsql_pool.specs.Counted.{with_wait}

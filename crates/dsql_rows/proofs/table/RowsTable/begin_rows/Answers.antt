@@ -1,9 +1,9 @@
--- A new number goes last.
+-- Rows with a new number are inserted last.
 use Rattle.std.proofs.Common.{ℕ, List, ◌∷◌, [], ◌++◌, ap, ◌∙◌, eqb}
 use Rattle.indexmap.proofs.CallerLemmas.{insert_entry-new}
 use Rattle.dsql_rows.specs.declared.rows.Rows.{Rows}
 use Rattle.dsql_rows.specs.OpenRows.{OpenRows, fresh, was_made}
-use Rattle.dsql_numbered.proofs.Changes.{not_made}
+use Rattle.dsql_value_numbered.proofs.Changes.{not_made}
 use Rattle.dsql_rows.proofs.table.RowsTable.begin_rows.Goals as goal
 
 pub returns-clause-ok : goal.returns-clause-ok

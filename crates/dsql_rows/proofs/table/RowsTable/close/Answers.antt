@@ -1,9 +1,9 @@
--- The rows of that number, ended where they stand.
+-- The rows of that number are ended in their place.
 use Rattle.std.proofs.Common.{ℕ, List, ap, sym, eqb, ◌∙◌}
 use Rattle.std.specs.Map.{set_value}
 use Rattle.dsql_rows.specs.declared.rows.Rows.{Rows}
 use Rattle.dsql_rows.specs.OpenRows.{OpenRows, changed, ended_by}
-use Rattle.dsql_numbered.proofs.Changes.{set_value-changed}
+use Rattle.dsql_value_numbered.proofs.Changes.{set_value-changed}
 use Rattle.dsql_rows.proofs.table.RowsTable.close.Goals as goal
 
 pub returns-clause-rows : goal.returns-clause-rows

@@ -1,9 +1,9 @@
--- The rows before the index are ended, and the room is as it was.
+-- The rows before the index are ended, and the room is unchanged.
 use Rattle.std.proofs.Common.{◌≡◌}
 use Rattle.indexmap.specs.IndexMap.{spare}
 use Rattle.dsql_rows.specs.OpenRows.{ended_by}
 use Rattle.dsql_rows.specs.declared.end.RowsEnd.TheVariants.{EndOfRun}
-use Rattle.dsql_numbered.proofs.EachThing.{changed_before}
+use Rattle.dsql_value_numbered.proofs.EachThing.{changed_before}
 use Rattle.dsql_rows.proofs.table.RowsTable.close_all.Given as goal
 
 abbrev pub invariant-loop-index : goal.invariant-loop-index

@@ -1,4 +1,4 @@
--- The rows of that number, changed where they stand or left as they were.
+-- The rows of that number are changed in their place, or unchanged if the call fails.
 use Rattle.std.proofs.Common.{◌≡◌, ℕ, List, Option, Some, ap, sym, eqb, ◌∙◌, subst}
 use Rattle.std.specs.Prelude.{IfSome}
 use Rattle.std.proofs.lemmas.Result.{on_ok_weaker, on_err_weaker, IfErr-weaker}
@@ -6,7 +6,7 @@ use Rattle.std.proofs.lemmas.Map.Steps.{set_value_same}
 use Rattle.std.specs.Map.{set_value}
 use Rattle.dsql_rows.specs.declared.rows.Rows.{Rows}
 use Rattle.dsql_rows.specs.OpenRows.{OpenRows, rows_of, changed, shown, IsClosedBy}
-use Rattle.dsql_numbered.proofs.Changes.{set_value-changed}
+use Rattle.dsql_value_numbered.proofs.Changes.{set_value-changed}
 use Rattle.dsql_rows.proofs.table.RowsTable.row.Goals as goal
 
 pub returns-clause-ok : goal.returns-clause-ok

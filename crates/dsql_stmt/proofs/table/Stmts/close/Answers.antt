@@ -1,4 +1,4 @@
--- A second close changes nothing. A first one changes the statement where it stands.
+-- A second close changes nothing. A first one changes the statement in its place.
 use Rattle.std.proofs.Common.{ℕ, List, not, ap, sym, ◌∙◌}
 use Rattle.dsql_stmt.specs.declared.stmt.Stmt.{Stmt}
 use Rattle.dsql_stmt.specs.Statements.{Statements, changed, closed_by}

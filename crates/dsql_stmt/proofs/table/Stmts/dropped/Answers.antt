@@ -1,4 +1,4 @@
--- What stays is all that isn't the handle.
+-- The handles that stay are all except the dropped one.
 use Rattle.std.proofs.Common.{rules, ◌≡◌, List, not, ap, sym, subst, ◌∙◌}
 use Rattle.indexmap.proofs.CallerLemmas.{filter-RetainsPairs}
 use Rattle.dsql_stmt.specs.Statements.{Statements, Live, is_handle, without_handle, IsOneEach}

@@ -1,4 +1,4 @@
--- What stays is all that isn't on the connection.
+-- The handles that stay are all that aren't on the connection.
 use Rattle.std.proofs.Common.{rules, ◌≡◌, List, not, ap, sym, subst, ◌∙◌}
 use Rattle.indexmap.proofs.CallerLemmas.{filter-RetainsPairs}
 use Rattle.dsql_stmt.specs.Statements.{Statements, Live, is_on, without_conn, IsOneEach}

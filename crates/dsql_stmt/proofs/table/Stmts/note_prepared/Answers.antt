@@ -6,11 +6,11 @@ use Rattle.dsql_stmt.proofs.OneEach.{one_with_new}
 use Rattle.dsql_stmt.proofs.Places.{none_prepared}
 use Rattle.dsql_stmt.proofs.table.Stmts.note_prepared.Goals as goal
 
--- nothing was live there
+-- The statement had no live handle on the connection.
 none_on : (c : goal.In_ok-insert) → handle_on c.args.n c.args.conn c.self.inside.live.entries ≡ None
 none_on c = ap (λ (t : Statements). handle_on c.args.n c.args.conn t.live) c.self.view_is ∙ c.requires.none
 
--- the handle stands behind the others
+-- The new handle stands after the others.
 stands_last : (c : goal.In_ok-insert) → c.insert.new.self.entries ≡ c.self.inside.live.entries ++ live_handle c.args.n c.args.conn c.args.handle c.args.inputs ∷ []
 stands_last c =
     let none = none_prepared c.args.n c.args.conn c.self.inside.live.entries (none_on c) in

@@ -1,6 +1,6 @@
 use Rattle.std.proofs.Common.{◌≡◌, true, false, ◌||◌, Bool, ◌∙◌, ap, sym}
 use native.Mathlib.Omega.{arith}
-use Rattle.dsql_journal.specs.Journal.{is_whole}
+use Rattle.dsql_tenure_journal.specs.Journal.{is_whole}
 use Rattle.dsql_tenure.specs.Judged.{Judged}
 use Rattle.dsql_tenure.specs.Tables.{past}
 use Rattle.dsql_tenure.proofs.Standing.{stands-whole}

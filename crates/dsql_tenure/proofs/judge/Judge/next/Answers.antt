@@ -1,7 +1,7 @@
 use Rattle.std.proofs.Common.{◌≡◌, ℕ, true, false, List, ◌∷◌, ◌∙◌, ap, subst}
 use native.Mathlib.Omega.{arith}
-use Rattle.dsql_journal.specs.declared.entry.Entry.{Entry}
-use Rattle.dsql_journal.specs.Readers.{last_tenure}
+use Rattle.dsql_tenure_journal.specs.declared.entry.Entry.{Entry}
+use Rattle.dsql_tenure_journal.specs.Readers.{last_tenure}
 use Rattle.dsql_tenure.specs.Beginnings.{is_beginning_of, IsBeginningOf, phase}
 use Rattle.dsql_tenure.specs.Judged.{Judged}
 use Rattle.dsql_tenure.specs.Tables.{past}

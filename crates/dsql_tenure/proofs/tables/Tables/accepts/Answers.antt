@@ -1,12 +1,11 @@
-use Rattle.std.proofs.Common.{◌≡◌, ◌==◌, true, false, ◌∙◌}
+use Rattle.std.proofs.Common.{◌≡◌, ◌==◌, true, false, ◌∙◌, ◌∷◌}
 use native.Mathlib.Omega.{arith}
 use Rattle.std.proofs.lemmas.Bool.Decides.{nat_tests}
-use Rattle.dsql_journal.specs.Journal.{may_follow as may_come}
+use Rattle.dsql_tenure_journal.specs.Journal.{may_follow as may_come}
 use Rattle.dsql_tenure.specs.Beginnings.{is_beginning_of}
 use Rattle.dsql_tenure.specs.Tables.{past}
 use Rattle.dsql_tenure.proofs.Groups.{and-then, and-else}
 use Rattle.dsql_tenure.proofs.Standing.{stands-more}
-use Rattle.std.proofs.Common.{◌∷◌}
 use Rattle.dsql_tenure.proofs.tables.Tables.accepts.Goals as goal
 
 pub returns-then-entry-self : goal.returns-then-entry-self

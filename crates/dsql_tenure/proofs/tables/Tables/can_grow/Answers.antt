@@ -1,7 +1,7 @@
 use Rattle.std.proofs.Common.{◌≡◌, true, Some, ◌∙◌, ap}
 use native.Mathlib.Omega.{arith}
-use Rattle.dsql_journal.specs.declared.entry.Owner.{Owner}
-use Rattle.dsql_journal.specs.Readers.{went_bad as bad_in}
+use Rattle.dsql_tenure_journal.specs.declared.entry.Owner.{Owner}
+use Rattle.dsql_tenure_journal.specs.Readers.{went_bad as bad_in}
 use Rattle.dsql_tenure.specs.Tables.{past}
 use Rattle.dsql_tenure.proofs.Standing.{stands-grows}
 use Rattle.dsql_tenure.proofs.tables.Tables.can_grow.Goals as goal

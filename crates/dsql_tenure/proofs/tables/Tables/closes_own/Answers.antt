@@ -2,8 +2,8 @@ use Rattle.std.proofs.Common.{◌≡◌, true, ◌==◌, ◌||◌, not, List, �
 use Rattle.std.specs.List.{list_all}
 use native.Mathlib.Omega.{arith}
 use Rattle.dsql_driver.specs.Kinds.{is_close_stmt}
-use Rattle.dsql_asked.specs.declared.live.Handle.{Handle}
-use Rattle.dsql_asked.specs.Asked.{entry_like}
+use Rattle.dsql_tenure_asked.specs.declared.live.Handle.{Handle}
+use Rattle.dsql_tenure_asked.specs.Asked.{entry_like}
 use Rattle.dsql_tenure.proofs.TableFacts.{closes_own_by}
 use Rattle.dsql_tenure.proofs.tables.Tables.closes_own.Goals as goal
 

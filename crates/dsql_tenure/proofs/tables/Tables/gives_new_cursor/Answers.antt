@@ -1,6 +1,6 @@
 use Rattle.std.proofs.Common.{◌==◌, not, List, ◌∙◌, ap, sym}
 use Rattle.std.specs.List.{list_any}
-use Rattle.dsql_asked.specs.declared.live.Cursor.{Cursor}
+use Rattle.dsql_tenure_asked.specs.declared.live.Cursor.{Cursor}
 use Rattle.dsql_tenure.proofs.Answered.{no_cursor}
 use Rattle.dsql_tenure.proofs.tables.Tables.gives_new_cursor.Goals as goal
 

@@ -1,6 +1,6 @@
 use Rattle.std.proofs.Common.{◌==◌, not, List, ◌∙◌, ap, sym}
 use Rattle.std.specs.List.{list_any}
-use Rattle.dsql_asked.specs.declared.live.Handle.{Handle}
+use Rattle.dsql_tenure_asked.specs.declared.live.Handle.{Handle}
 use Rattle.dsql_tenure.proofs.Answered.{no_handle}
 use Rattle.dsql_tenure.proofs.tables.Tables.gives_new_handle.Goals as goal
 

@@ -1,6 +1,6 @@
 use Rattle.std.proofs.Common.{◌==◌, not, List, ◌∙◌, ap}
 use Rattle.std.specs.List.{list_all}
-use Rattle.dsql_asked.specs.declared.live.Cursor.{Cursor}
+use Rattle.dsql_tenure_asked.specs.declared.live.Cursor.{Cursor}
 use Rattle.dsql_tenure.proofs.TableFacts.{no_cursor_of}
 use Rattle.dsql_tenure.proofs.tables.Tables.has_no_cursor_of.Goals as goal
 

@@ -1,6 +1,6 @@
 use Rattle.std.proofs.Common.{◌==◌, ◌||◌, not, List, ◌∙◌, ap, sym}
 use Rattle.std.specs.List.{list_all}
-use Rattle.dsql_asked.specs.declared.live.Cursor.{Cursor}
+use Rattle.dsql_tenure_asked.specs.declared.live.Cursor.{Cursor}
 use Rattle.dsql_tenure.specs.MayBeAsked as may
 use Rattle.dsql_tenure.proofs.Answered.{width}
 use Rattle.dsql_tenure.proofs.tables.Tables.has_width_of_cursor.Goals as goal

@@ -1,13 +1,13 @@
 use Rattle.std.proofs.Common.{ℕ, ◌==◌, List, Option, refl, ap, ◌∙◌, arith}
 use Rattle.std.proofs.lemmas.Bool.Decides.{nat_tests}
 use Rattle.std.specs.List.{list_all}
-use Rattle.dsql_journal.specs.Readers as told
-use Rattle.dsql_journal.specs.Journal.{may_follow, is_journal_prefix}
-use Rattle.dsql_journal.specs.Facts.{MayFollow}
-use Rattle.dsql_journal.proofs.Conjunctions.{join2}
-use Rattle.dsql_journal.proofs.Sentences.{MayFollow-of}
-use Rattle.dsql_asked.specs.declared.live.Handle.{Handle}
-use Rattle.dsql_asked.specs.declared.live.Cursor.{Cursor}
+use Rattle.dsql_tenure_journal.specs.Readers as told
+use Rattle.dsql_tenure_journal.specs.Journal.{may_follow, is_journal_prefix}
+use Rattle.dsql_tenure_journal.specs.Facts.{MayFollow}
+use Rattle.dsql_tenure_journal.proofs.Conjunctions.{join2}
+use Rattle.dsql_tenure_journal.proofs.Sentences.{MayFollow-of}
+use Rattle.dsql_tenure_asked.specs.declared.live.Handle.{Handle}
+use Rattle.dsql_tenure_asked.specs.declared.live.Cursor.{Cursor}
 use Rattle.dsql_tenure.specs.Flags.{bad_with}
 use Rattle.dsql_tenure.specs.Heard as heard
 use Rattle.dsql_tenure.specs.Open.{open_after}

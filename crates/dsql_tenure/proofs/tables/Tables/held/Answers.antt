@@ -1,6 +1,6 @@
 use Rattle.std.proofs.Common.{◌≡◌, length, ◌∙◌, ap, arith}
 use Rattle.std.proofs.lemmas.List.{length-map}
-use Rattle.dsql_journal.specs.Readers.{handles, cursors}
+use Rattle.dsql_tenure_journal.specs.Readers.{handles, cursors}
 use Rattle.dsql_tenure.specs.Tables.{past, kept_handle, kept_cursor}
 use Rattle.dsql_tenure.proofs.Keeping.{keeps_of}
 use Rattle.dsql_tenure.proofs.tables.Tables.held.Goals as goal

@@ -1,8 +1,8 @@
 use Rattle.std.proofs.Common.{refl, ◌==◌, ◌&&◌, ◌||◌, not, List, ◌∙◌, ap}
 use Rattle.std.specs.List.{list_all, list_any}
-use Rattle.dsql_asked.specs.declared.live.Cursor.{Cursor}
-use Rattle.dsql_asked.specs.Asked.{entry_like}
-use Rattle.dsql_asked.specs.Live.{serves_cursor}
+use Rattle.dsql_tenure_asked.specs.declared.live.Cursor.{Cursor}
+use Rattle.dsql_tenure_asked.specs.Asked.{entry_like}
+use Rattle.dsql_tenure_asked.specs.Live.{serves_cursor}
 use Rattle.dsql_tenure.proofs.Served.{cursor_served}
 use Rattle.dsql_tenure.proofs.tables.Tables.keeps_cursor.Goals as goal
 

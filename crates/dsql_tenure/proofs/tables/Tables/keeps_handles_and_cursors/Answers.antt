@@ -1,6 +1,6 @@
 use Rattle.std.proofs.Common.{◌∙◌, sym}
-use Rattle.dsql_journal.specs.HandlesAndCursors.{keeps_handles_and_cursors as keeps_both}
-use Rattle.dsql_asked.specs.Asked.{entry_like}
+use Rattle.dsql_tenure_journal.specs.HandlesAndCursors.{keeps_handles_and_cursors as keeps_both}
+use Rattle.dsql_tenure_asked.specs.Asked.{entry_like}
 use Rattle.dsql_tenure.specs.Parts.{keeps_handle, keeps_cursor}
 use Rattle.dsql_tenure.specs.Tables.{past}
 use Rattle.dsql_tenure.proofs.Groups.{and-then, and-else}

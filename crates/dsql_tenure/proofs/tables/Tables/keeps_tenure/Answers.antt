@@ -1,8 +1,8 @@
 use Rattle.std.proofs.Common.{ap, ◌∙◌, sym}
-use Rattle.dsql_journal.specs.Readers.{of_tenure}
-use Rattle.dsql_journal.specs.Tenure.{keeps_tenure as keeps}
+use Rattle.dsql_tenure_journal.specs.Readers.{of_tenure}
+use Rattle.dsql_tenure_journal.specs.Tenure.{keeps_tenure as keeps}
 use Rattle.dsql_tenure.specs.declared.so_far.SoFar.{SoFar}
-use Rattle.dsql_asked.specs.Asked.{entry_like}
+use Rattle.dsql_tenure_asked.specs.Asked.{entry_like}
 use Rattle.dsql_tenure.specs.SoFar.{so_far}
 use Rattle.dsql_tenure.specs.TenureParts.{keeps_shape, keeps_rest}
 use Rattle.dsql_tenure.specs.Tables.{past}

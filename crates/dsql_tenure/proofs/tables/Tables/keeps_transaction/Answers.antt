@@ -1,8 +1,8 @@
 use Rattle.std.proofs.Common.{◌≢◌, ◌∙◌, sym}
 use native.Mathlib.Omega.{arith}
 use Rattle.std.proofs.lemmas.Bool.Decides.{nat_tests}
-use Rattle.dsql_journal.specs.Transaction.{keeps_transaction as keeps, has_owner_of_transaction}
-use Rattle.dsql_asked.specs.Asked.{entry_like}
+use Rattle.dsql_tenure_journal.specs.Transaction.{keeps_transaction as keeps, has_owner_of_transaction}
+use Rattle.dsql_tenure_asked.specs.Asked.{entry_like}
 use Rattle.dsql_tenure.specs.Open.{keeps_number}
 use Rattle.dsql_tenure.specs.Tables.{past}
 use Rattle.dsql_tenure.proofs.Keeping.{keeps_of}

@@ -1,10 +1,10 @@
 use Rattle.std.proofs.Common.{◌≡◌, ◌==◌, true, ◌∙◌, ap, sym}
 use Rattle.std.specs.List.{list_all}
-use Rattle.dsql_asked.specs.Asked.{entry_like}
+use Rattle.dsql_tenure_asked.specs.Asked.{entry_like}
 use Rattle.dsql_tenure.specs.Parts.{keeps_order, keeps_bad}
 use Rattle.dsql_tenure.specs.Tables.{past}
 use Rattle.dsql_tenure.proofs.Keeping.{keeps_of}
-use Rattle.dsql_journal.specs.WholeJournal.{keeps_whole_journal as keeps_whole}
+use Rattle.dsql_tenure_journal.specs.WholeJournal.{keeps_whole_journal as keeps_whole}
 use Rattle.dsql_tenure.proofs.Groups.{keeps_whole_journal-groups, and-then, and-else}
 use Rattle.dsql_tenure.proofs.tables.Tables.keeps_whole_journal.Goals as goal
 

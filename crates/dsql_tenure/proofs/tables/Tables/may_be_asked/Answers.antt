@@ -1,11 +1,11 @@
 use Rattle.std.proofs.Common.{◌≡◌, Bool, true, false, ◌&&◌, ◌∙◌, sym, refl}
 use native.Mathlib.Omega.{arith}
 use Rattle.std.proofs.lemmas.Bool.Decides.{nat_tests}
-use Rattle.dsql_journal.specs.WholeJournal.{keeps_whole_journal}
-use Rattle.dsql_journal.specs.HandlesAndCursors.{keeps_handles_and_cursors}
-use Rattle.dsql_journal.specs.Tenure.{keeps_tenure}
-use Rattle.dsql_journal.specs.Transaction.{keeps_transaction}
-use Rattle.dsql_asked.specs.Asked.{entry_like}
+use Rattle.dsql_tenure_journal.specs.WholeJournal.{keeps_whole_journal}
+use Rattle.dsql_tenure_journal.specs.HandlesAndCursors.{keeps_handles_and_cursors}
+use Rattle.dsql_tenure_journal.specs.Tenure.{keeps_tenure}
+use Rattle.dsql_tenure_journal.specs.Transaction.{keeps_transaction}
+use Rattle.dsql_tenure_asked.specs.Asked.{entry_like}
 use Rattle.dsql_tenure.specs.Tables.{past}
 use Rattle.dsql_tenure.proofs.TransactionRules.{Rises, rises}
 use Rattle.dsql_tenure.proofs.tables.Tables.may_be_asked.Goals as goal

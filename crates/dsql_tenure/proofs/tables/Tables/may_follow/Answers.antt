@@ -1,7 +1,7 @@
 use Rattle.std.proofs.Common.{◌∙◌, ap, sym, refl}
-use Rattle.dsql_journal.specs.declared.entry.Entry.{Entry}
-use Rattle.dsql_journal.specs.HandlesAndCursors.{fits_at_its_place as fits_there}
-use Rattle.dsql_journal.specs.Journal.{may_follow as may_come}
+use Rattle.dsql_tenure_journal.specs.declared.entry.Entry.{Entry}
+use Rattle.dsql_tenure_journal.specs.HandlesAndCursors.{fits_at_its_place as fits_there}
+use Rattle.dsql_tenure_journal.specs.Journal.{may_follow as may_come}
 use Rattle.dsql_tenure.specs.MayBeAsked as may
 use Rattle.dsql_tenure.specs.Tables.{past}
 use Rattle.dsql_tenure.proofs.Groups.{and-then, and-else}

@@ -1,9 +1,9 @@
 use Rattle.std.proofs.Common.{◌<◌, List, ◌∙◌, ap, sym}
 use native.Mathlib.Omega.{arith}
 use Rattle.std.proofs.lemmas.Bool.Decides.{nat_tests}
-use Rattle.dsql_journal.specs.declared.entry.Entry.{Entry}
-use Rattle.dsql_journal.specs.Readers.{last_tenure}
-use Rattle.dsql_journal.proofs.Tenures.{of_tenure-new}
+use Rattle.dsql_tenure_journal.specs.declared.entry.Entry.{Entry}
+use Rattle.dsql_tenure_journal.specs.Readers.{last_tenure}
+use Rattle.dsql_tenure_journal.proofs.Tenures.{of_tenure-new}
 use Rattle.dsql_tenure.specs.SoFar.{so_far}
 use Rattle.dsql_tenure.specs.Tables.{past}
 use Rattle.dsql_tenure.proofs.Keeping.{keeps_of}

@@ -1,8 +1,8 @@
--- A new number goes last.
+-- Proves that `begun` appends a new number.
 use Rattle.std.proofs.Common.{◌∷◌, [], ◌++◌, ap, ◌∙◌, eqb}
 use Rattle.indexmap.proofs.CallerLemmas.{insert_entry-new}
-use Rattle.dsql_numbered.specs.Numbered.{Numbered, was_made}
-use Rattle.dsql_numbered.proofs.Changes.{not_made}
+use Rattle.dsql_value_numbered.specs.Numbered.{Numbered, was_made}
+use Rattle.dsql_value_numbered.proofs.Changes.{not_made}
 use Rattle.dsql_tx.specs.declared.tx.Tx.{Tx}
 use Rattle.dsql_tx.specs.Transactions.{Transactions, begun_on}
 use Rattle.dsql_tx.proofs.table.Txs.begun.Goals as goal

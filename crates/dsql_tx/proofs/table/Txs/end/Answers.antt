@@ -1,8 +1,8 @@
--- The transaction of that number, ended where it stands.
+-- Proves that `end` ends the transaction with that number in its place.
 use Rattle.std.proofs.Common.{ap, sym, ◌∙◌, eqb}
 use Rattle.std.specs.Map.{set_value}
-use Rattle.dsql_numbered.specs.Numbered.{Numbered, changed}
-use Rattle.dsql_numbered.proofs.Changes.{set_value-changed}
+use Rattle.dsql_value_numbered.specs.Numbered.{Numbered, changed}
+use Rattle.dsql_value_numbered.proofs.Changes.{set_value-changed}
 use Rattle.dsql_tx.specs.declared.tx.Tx.{Tx}
 use Rattle.dsql_tx.specs.Transactions.{Transactions, ended_by}
 use Rattle.dsql_tx.proofs.table.Txs.end.Goals as goal

@@ -1,9 +1,9 @@
--- One transaction after another is ended where it stands.
+-- Proves that `end_all` ends one transaction after another in its place.
 use Rattle.std.proofs.Common.{length, slice_get, ap, sym, ◌∙◌, arith}
 use Rattle.std.specs.Map.{values_of}
 use Rattle.indexmap.specs.IndexMap.{set_value_at}
-use Rattle.dsql_numbered.specs.Numbered.{Numbered, all_changed}
-use Rattle.dsql_numbered.proofs.EachThing.{length-changed_before, changed_before-end, changed_before-next}
+use Rattle.dsql_value_numbered.specs.Numbered.{Numbered, all_changed}
+use Rattle.dsql_value_numbered.proofs.EachThing.{length-changed_before, changed_before-end, changed_before-next}
 use Rattle.dsql_tx.specs.declared.tx.Tx.{Tx}
 use Rattle.dsql_tx.specs.declared.end.TxEnd.TheVariants.{EndOfRun}
 use Rattle.dsql_tx.specs.Transactions.{Transactions, ended_by}

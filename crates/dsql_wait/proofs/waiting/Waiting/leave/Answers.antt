@@ -2,7 +2,7 @@
 use Rattle.std.proofs.Common.{◌≡◌, ◌<◌, true, not, eqb, length, Option, None, get_or, ap, sym, ◌∙◌, subst}
 use Rattle.std.specs.Prelude.{remove, OnSome}
 use Rattle.std.proofs.lemmas.List.{get_or_default}
-use Rattle.dsql_journal.specs.declared.entry.Owner.TheVariants.{House}
+use Rattle.dsql_tenure_journal.specs.declared.entry.Owner.TheVariants.{House}
 use Rattle.dsql_wait.specs.declared.request.Request.{Request}
 use Rattle.dsql_wait.specs.Requests.{Queue, request_of, are_distinct, without_call}
 use Rattle.dsql_wait.proofs.Queues.{found, not_found, taken, some_distinct, at_place}

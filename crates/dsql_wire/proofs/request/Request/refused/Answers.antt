@@ -1,5 +1,5 @@
 use Rattle.std.proofs.Common.{Some, sym, ◌∙◌, ap}
-use Rattle.dsql_journal.specs.declared.entry.Permit.{Permit}
+use Rattle.dsql_tenure_journal.specs.declared.entry.Permit.{Permit}
 use Rattle.dsql_tenure.specs.Judged.{answered}
 use Rattle.dsql_wire.proofs.Answered.{makes, by_its_own}
 use Rattle.dsql_wire.proofs.Opens.{fits_refused}

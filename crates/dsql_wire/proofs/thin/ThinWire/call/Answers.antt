@@ -2,8 +2,8 @@ use Rattle.std.proofs.Common.{◌≡◌, ◌∷◌, true, false, refl, sym, ◌�
 use Rattle.dsql_driver.specs.Fits.{is_memory, is_fault}
 use Rattle.dsql_driver.specs.Streams.{HasRisen}
 use Rattle.dsql_driver.specs.Wires.{told_after}
-use Rattle.dsql_journal.specs.HandlesAndCursors.{fits_at_its_place}
-use Rattle.dsql_journal.specs.declared.entry.Entry.{Entry}
+use Rattle.dsql_tenure_journal.specs.HandlesAndCursors.{fits_at_its_place}
+use Rattle.dsql_tenure_journal.specs.declared.entry.Entry.{Entry}
 use Rattle.dsql_tenure.specs.Judged.{answered}
 use Rattle.dsql_wire.specs.Journaled.{MayBeSent, Journaled}
 use Rattle.dsql_wire.proofs.Answered.{makes, by_its_own}

@@ -1,7 +1,0 @@
-pub mod UnderWay
-pub mod Kept
-pub mod There
-pub mod Made
-pub mod Bounds
-pub mod Chores
-pub mod Nothing

@@ -1,3 +1,0 @@
-pub mod CallRows
-pub mod KeptTries
-pub mod MovesMade

@@ -1,0 +1,16 @@
+pub mod Words
+pub mod Edits
+pub mod Block
+pub mod Followed
+pub mod Strayed
+pub mod CallWords
+pub mod FollowedCalls
+pub mod FollowedSteps
+pub mod CallEdits
+pub mod StrayedCalls
+pub mod StrayedEnds
+pub mod Times
+pub mod Tries
+pub mod Pings
+pub mod OneBlock
+pub mod WorkedLines

@@ -1,9 +1,0 @@
-pub mod Finds
-pub mod Whose
-pub mod Steps
-pub mod RunOut
-pub mod Resting
-pub mod Enders
-pub mod Senders
-pub mod Left
-pub mod Ended

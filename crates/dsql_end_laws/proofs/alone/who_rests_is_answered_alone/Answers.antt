@@ -1,5 +1,0 @@
-use Rattle.dsql_end_laws.proofs.Resting.{rests_alone}
-use Rattle.dsql_end_laws.proofs.alone.who_rests_is_answered_alone.Goals as goal
-
-pub returns : goal.returns
-returns c = rests_alone

@@ -1,0 +1,39 @@
+//! The layer's own driver calls.
+ghost use Rattle.std.specs.Prelude.{◌≡◌, ◌<◌, length, None, IfOk, OnErr};
+ghost use Rattle.dsql_engine.specs.Chores.{IsChore};
+ghost use Rattle.dsql_engine_hearing.specs.laws_steps.Groups.{most_events};
+
+use crate::engine::Engine;
+use crate::permits::chore_leave;
+use dsql_engine_hearing::{Next, NoRoom};
+
+#[tactic(auto, using(crate::proofs::Chores::chore_sent, crate::proofs::Chores::chore_quiet))]
+impl Engine {
+    /// Returns the layer's own driver call that comes first, if there is one, and records it as under way.
+    pub fn chore(&mut self) -> Result<Next, NoRoom>
+        requires free { self.old.chore ≡ None }
+        requires room { length self.old.past < most_events }
+        ensures next { IfOk result (λ next. IsChore self.old.past next self.new) }
+        ensures past { self.new.past ≡ self.old.past }
+        ensures flights { self.new.flights ≡ self.old.flights }
+        ensures trimmed { self.new.trimmed ≡ self.old.trimmed }
+        ensures err { OnErr result (self.new ≡ self.old) }
+    {
+        let Some(conn) = self.desk.chore_due() else {
+            return Ok(Next::Quiet);
+        };
+        let leave = chore_leave(&self.desk, conn);
+        self.chore = Some(conn);
+        Ok(Next::Send(leave))
+    }
+
+    /// Records that the layer's own driver call under way isn't made after all.
+    pub fn put_off_chore(&mut self)
+        ensures chore { self.new.chore ≡ None }
+        ensures past { self.new.past ≡ self.old.past }
+        ensures flights { self.new.flights ≡ self.old.flights }
+        ensures trimmed { self.new.trimmed ≡ self.old.trimmed }
+    {
+        self.chore = None;
+    }
+}

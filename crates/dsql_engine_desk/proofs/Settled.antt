@@ -1,0 +1,89 @@
+-- The row of a call gives the reply that is due.
+use Rattle.std.proofs.Common.{◌≡◌, ℕ, Bool, true, false, cond, List, [], ◌∷◌, Option, Some, None, refl, ap, ◌∙◌}
+use Rattle.std.specs.Prelude.{is_some}
+use Rattle.dsql_laws_calls.specs.driver.declared.caps.Caps.{Caps}
+use Rattle.dsql_laws_calls.specs.course.Made.{or_else}
+use Rattle.dsql_laws_calls.specs.history.declared.record.Try.{Try}
+use Rattle.dsql_laws_calls.specs.history.declared.record.Try.TheVariants.{Served, Lost, Refused}
+use Rattle.dsql_laws_calls.specs.history.declared.reply.DbEnd.{DbEnd}
+use Rattle.dsql_laws_calls.specs.tx.declared.end.TxEnd.{TxEnd}
+use Rattle.dsql_engine_calls.specs.declared.tried.Tried.{Tried}
+use Rattle.dsql_engine_calls.specs.Tried.{kept}
+use Rattle.dsql_laws_calls.specs.history.declared.event.Event.{Event}
+use Rattle.dsql_laws_calls.specs.history.declared.record.CallRecord.{CallRecord}
+use Rattle.dsql_laws_calls.specs.history.declared.reply.Reply.{Reply}
+use Rattle.dsql_laws_calls.specs.history.declared.reply.Reply.TheVariants.{Truth}
+use Rattle.dsql_laws_calls.specs.history.declared.work.Scope.{Scope}
+use Rattle.dsql_laws_calls.specs.history.declared.work.Scope.TheVariants.{Db, Tx}
+use Rattle.dsql_laws_calls.specs.history.declared.work.Work.{Work}
+use Rattle.dsql_laws_calls.specs.history.declared.work.Work.TheVariants.{Execute, ReadOne, HandOut, Begin, End, Ping, Fetch, Close, Look}
+use Rattle.dsql_laws_calls.specs.history.Readers.Calls.{decided, done_with, has_begun_to_send, reply_due, told_as_lent, told_of_work}
+use Rattle.dsql_laws_calls.specs.history.Readers.Calls as given
+use Rattle.dsql_laws_calls.specs.history.Readers.Course.{caps, db_end}
+use Rattle.dsql_laws_calls.specs.history.Readers.HandedOut.{are_over}
+use Rattle.dsql_laws_calls.specs.history.Readers.Transactions.{tx_end}
+use Rattle.dsql_laws_calls.specs.history.Readers.Tries.{tries}
+use Rattle.dsql_laws_calls.specs.history.Readers.Unfinished.{is_unfinished}
+use Rattle.dsql_laws_calls.specs.history.Readers.Works.{scope, work}
+use Rattle.dsql_engine_calls.specs.declared.call.CallRow.{CallRow}
+use Rattle.dsql_engine_calls.specs.Calls.{KeepsCalls, row_at}
+use Rattle.dsql_engine_calls.specs.Settling.{ended_before, ended_in, settled_in, told_beside, told_in, told_served}
+use Rattle.dsql_engine_calls.proofs.KeptTries.{kept_told}
+use Rattle.dsql_engine_desk.proofs.Kept.{row_call, row_work}
+
+-- The row gives the reply that a lending settles for a ping.
+pub served_as : (can : Caps) (it : Work) (ts : List Try) → told_served can.pinger it (kept ts).newest ≡ told_as_lent can it ts
+served_as can Ping [] = refl
+served_as can Ping (Served ∷ earlier) = refl
+served_as can Ping (Lost ∷ earlier) = refl
+served_as can Ping (Refused answer ∷ earlier) = refl
+served_as can (Execute it) ts = refl
+served_as can (ReadOne it dests) ts = refl
+served_as can (HandOut it label) ts = refl
+served_as can (Begin label level read_only) ts = refl
+served_as can (End k) ts = refl
+served_as can (Fetch k) ts = refl
+served_as can (Close k) ts = refl
+served_as can Look ts = refl
+
+-- The row gives the reply of a call on the database, or in a transaction in which it has sent nothing.
+pub in_as : (H : List Event) (n : ℕ) (w : Work) (it : Scope) → told_in (db_end H) (ended_in H n it) w (kept (tries H n)) it ≡ given.told_in H n w it
+in_as H n w Db = kept_told H w (tries H n)
+in_as H n w (Tx k) =
+    elim (has_begun_to_send H n) as (λ b. done_with (cond b None (tx_end H k)) ≡ cond b None (done_with (tx_end H k))) [ true ↦ refl | false ↦ refl ]
+
+-- The row also gives the reply that a lending settles, if it settles one.
+told_as : (H : List Event) (n : ℕ) (w : Work) → told_beside (db_end H) (ended_in H n (scope w)) w (kept (tries H n)) ≡ told_of_work H n w
+    → or_else (told_beside (db_end H) (ended_in H n (scope w)) w (kept (tries H n))) (told_served (caps H).pinger w (kept (tries H n)).newest) ≡ or_else (told_of_work H n w) (told_as_lent (caps H) w (tries H n))
+told_as H n w same =
+    ap (λ (reply : Option Reply). or_else reply (told_served (caps H).pinger w (kept (tries H n)).newest)) same ∙ ap (or_else (told_of_work H n w)) (served_as (caps H) w (tries H n))
+
+beside_as : (H : List Event) (n : ℕ) (w : Work) → is_some (or_else (told_of_work H n w) (told_as_lent (caps H) w (tries H n))) ≡ true
+    → or_else (told_beside (db_end H) (ended_in H n (scope w)) w (kept (tries H n))) (told_served (caps H).pinger w (kept (tries H n)).newest) ≡ or_else (told_of_work H n w) (told_as_lent (caps H) w (tries H n))
+beside_as H n (Fetch k) told =
+    elim (are_over H k) as (λ b. is_some (or_else (cond b (Some (Truth false)) None) None) ≡ true → Some (Truth false) ≡ or_else (cond b (Some (Truth false)) None) None) [ true ↦ λ h. refl | false ↦ λ h. absurd cc ] told
+beside_as H n (Close k) told = refl
+beside_as H n (End k) told = refl
+beside_as H n Look told = refl
+beside_as H n (Execute it) told = told_as H n (Execute it) (in_as H n (Execute it) it)
+beside_as H n (ReadOne it dests) told = told_as H n (ReadOne it dests) (in_as H n (ReadOne it dests) it)
+beside_as H n (HandOut it label) told = told_as H n (HandOut it label) (in_as H n (HandOut it label) it)
+beside_as H n (Begin label level read_only) told = told_as H n (Begin label level read_only) (in_as H n (Begin label level read_only) Db)
+beside_as H n Ping told = told_as H n Ping (in_as H n Ping Db)
+
+due_as : (H : List Event) (n : ℕ) (d : Option Reply) (w : Work) → is_some (or_else (or_else d (told_of_work H n w)) (told_as_lent (caps H) w (tries H n))) ≡ true
+    → or_else (or_else d (told_beside (db_end H) (ended_in H n (scope w)) w (kept (tries H n)))) (told_served (caps H).pinger w (kept (tries H n)).newest) ≡ or_else (or_else d (told_of_work H n w)) (told_as_lent (caps H) w (tries H n))
+due_as H n None w told = beside_as H n w told
+due_as H n (Some reply) w told = refl
+
+pub settled_as : (H : List Event) (n : ℕ) (closed : Option DbEnd) (ended : Option TxEnd) (can : Caps) (rows : List CallRow) → KeepsCalls H rows → closed ≡ db_end H → ended ≡ ended_before H n → can ≡ caps H → is_unfinished H n ≡ true → is_some (reply_due H n) ≡ true
+    → settled_in closed ended can.pinger (row_at rows n) ≡ reply_due H n
+settled_as H n closed ended can rows k shut over able left told =
+    let row = row_at rows n in
+    let as_kept : Option DbEnd → Option TxEnd → Bool → Option Reply → Work → Tried → Option Reply = λ closed ended pinger told w tried. or_else (or_else told (told_beside closed ended w tried)) (told_served pinger w tried.newest) in
+    ap (λ (end : Option DbEnd). as_kept end ended can.pinger row.call.decided row.work row.tried) shut
+    ∙ (ap (λ (end : Option TxEnd). as_kept (db_end H) end can.pinger row.call.decided row.work row.tried) over
+    ∙ (ap (λ (c : Caps). as_kept (db_end H) (ended_before H n) c.pinger row.call.decided row.work row.tried) able
+    ∙ (ap (λ (r : CallRecord). as_kept (db_end H) (ended_before H n) (caps H).pinger r.decided row.work row.tried) (row_call H rows n k)
+    ∙ (ap (λ (w : Work). as_kept (db_end H) (ended_before H n) (caps H).pinger (decided H n) w row.tried) (row_work H rows n k)
+    ∙ (ap (λ (t : Tried). as_kept (db_end H) (ended_before H n) (caps H).pinger (decided H n) (work H n) t) (k.tried n left) ∙ due_as H n (decided H n) (work H n) told)))))

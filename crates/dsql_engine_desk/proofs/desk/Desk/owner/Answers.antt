@@ -1,0 +1,10 @@
+use Rattle.std.proofs.Common.{◌∙◌}
+use Rattle.dsql_engine_calls.proofs.Borrowers.{row_owner}
+use Rattle.dsql_engine_desk.specs.Desk.{past, Stands}
+use Rattle.dsql_engine_desk.proofs.desk.Desk.owner.Goals as goal
+
+pub returns : goal.returns
+unfolding Stands
+returns c =
+    let d = c.args.self.now in
+    c.owner_of.ensures.owner ∙ row_owner (past d) d.calls.items c.args.call c.requires.tables.calls

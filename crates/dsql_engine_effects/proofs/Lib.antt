@@ -1,0 +1,14 @@
+pub mod Fetched
+pub mod Labelled
+pub mod AsEntered
+pub mod AsHeard
+pub mod Beside
+pub mod Born
+pub mod Closing
+pub mod EndedRows
+pub mod FirstEnds
+pub mod MadeKnown
+pub mod MadeOnce
+pub mod OnceKept
+pub mod RowEnders
+pub mod TxEnders

@@ -1,0 +1,14 @@
+//! What a call decides as it enters and what each answer in a history decides for its call, and how both change
+//! the calls, the rows, the transactions and the labels.
+#![tactic(auto)]
+
+mod deciding;
+pub mod ending;
+pub mod labels;
+pub mod laws;
+pub mod rows;
+pub mod starting;
+mod telling;
+
+pub use deciding::{decided_by, fate_of};
+pub use telling::tell_answer;

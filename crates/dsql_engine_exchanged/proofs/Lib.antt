@@ -1,0 +1,9 @@
+pub mod Sent
+pub mod CourseCarried
+pub mod Filled
+pub mod Told
+pub mod Begun
+pub mod Ended
+pub mod Open
+pub mod Carried
+pub mod Turns

@@ -1,0 +1,82 @@
+-- A call that enters may come next. After the moves that this makes due, all except the call is settled.
+use Rattle.std.proofs.Common.{◌≡◌, ℕ, ◌==◌, true, false, not, ◌&&◌, ◌||◌, List, [], ◌∷◌, is_some, refl, sym, ap, ◌∙◌}
+use Rattle.dsql_laws_calls.specs.journal.Readers.{has, is_empty}
+use Rattle.dsql_laws_calls.specs.history.declared.event.Event.{Event}
+use Rattle.dsql_laws_calls.specs.history.declared.event.Event.TheVariants.{Entered}
+use Rattle.dsql_laws_calls.specs.history.declared.event.Op.{Op}
+use Rattle.dsql_laws_calls.specs.history.declared.event.Op.TheVariants.{Commit, DbClose, Rollback, RowsClose}
+use Rattle.dsql_laws_calls.specs.history.Readers.Calls.{is_busy, next_call}
+use Rattle.dsql_laws_calls.specs.history.Readers.Owed.{owed}
+use Rattle.dsql_laws_calls.specs.history.Readers.Unfinished.{unfinished}
+use Rattle.dsql_laws_calls.specs.history.Rules.Course.{keeps_course}
+use Rattle.dsql_laws_calls.specs.history.Rules.Order.{follows}
+use Rattle.dsql_laws_calls.specs.history.Rules.Settled.{Settled, goes_on, goes_on_but, is_settled_but, owes_nothing, uses_what_is_lent}
+use Rattle.dsql_laws_calls.specs.history.Rules.Stands.{stand}
+use Rattle.dsql_laws_calls.specs.history.Legal.{Allowed, Lawful}
+use Rattle.dsql_laws_calls.proofs.laws.Numbered.{unfinished_from_one}
+use Rattle.dsql_laws_calls.proofs.laws.OwedAllowed.{owed_made}
+use Rattle.dsql_laws_calls.proofs.laws.Tests.{other_number, same_itself, second, together}
+use Rattle.dsql_laws_others.proofs.Entries.{goes_on_entered, used_entered}
+use Rattle.dsql_laws_others.proofs.Untouched.{or_second}
+use Rattle.dsql_laws_others.specs.Entries.{is_plain}
+use Rattle.dsql_laws_others.proofs.Settling.{all_within}
+use Rattle.dsql_laws_others.specs.Ends.{ends_transaction}
+use Rattle.dsql_laws_others.proofs.ClosedDatabase.{closed_goes_on, closed_used}
+use Rattle.dsql_laws_others.proofs.ClosedRows.{goes_on_closing, used_closing}
+use Rattle.dsql_laws_others.proofs.EndedTx.{each_after_end, used_after_end}
+use Rattle.dsql_laws_steps.specs.Groups.{with_owed}
+use Rattle.dsql_engine_going.proofs.Replying.{settled_owes}
+
+-- The call may come next.
+
+-- If all is settled, all except call 0 is, which doesn't exist.
+settled_but_none : (H : List Event) → Settled H → is_settled_but 0 H ≡ true
+settled_but_none H s = together (owes_nothing H) (uses_what_is_lent H && goes_on H) s.nothing_owed (together (uses_what_is_lent H) (goes_on H) s.used s.somewhere)
+
+course_of_entry : (H : List Event) (client n : ℕ) (op : Op) → is_empty H ≡ false → keeps_course H (Entered client n op) ≡ true
+course_of_entry [] client n op begun = absurd cc
+course_of_entry (e ∷ H) client n op begun = refl
+
+pub entry_allowed : (H : List Event) (client n : ℕ) (op : Op) → n ≡ next_call H → is_empty H ≡ false → is_busy client H ≡ false → Settled H → Allowed H (Entered client n op)
+unfolding Allowed
+entry_allowed H client n op next begun free settled = record {
+  course = course_of_entry H client n op begun;
+  numbers = together (n == next_call H) (not (is_busy client H)) (ap (λ k. n == k) (sym next) ∙ same_itself n) (ap not free);
+  sets = refl;
+  limit = refl;
+  asking = refl;
+  order = ap (λ ms. follows ms (Entered client n op)) (settled_owes H 0 (settled_but_none H settled));
+  causes = refl;
+  line = refl;
+  journals = refl;
+  replies = refl;
+}
+
+-- All except the call is settled.
+
+goes_on_any : (H : List Event) (n : ℕ) → Lawful H → goes_on H ≡ true → goes_on_but n H ≡ true
+goes_on_any H n l h = all_within (λ m. (m == 0) || is_some (stand H m)) (λ m. (m == n) || is_some (stand H m)) (unfinished H) each h
+  where
+    each : (m : ℕ) → has m (unfinished H) ≡ true → ((m == 0) || is_some (stand H m)) ≡ true → ((m == n) || is_some (stand H m)) ≡ true
+    each m u so = or_second (m == n) (is_some (stand H m)) (second (m == 0) (is_some (stand H m)) (other_number m 0 (unfinished_from_one H m l u)) so)
+
+all_but : (K : List Event) (n : ℕ) → owed K ≡ [] → uses_what_is_lent K ≡ true → goes_on_but n K ≡ true → is_settled_but n K ≡ true
+all_but K n none used others =
+    together (owes_nothing K) (uses_what_is_lent K && goes_on_but n K) (ap is_empty none) (together (uses_what_is_lent K) (goes_on_but n K) used others)
+
+plain_settled : (H : List Event) (client n : ℕ) (op : Op) → Lawful (Entered client n op ∷ H) → Settled H → is_plain op ≡ true → owed (Entered client n op ∷ H) ≡ [] → is_settled_but n (Entered client n op ∷ H) ≡ true
+plain_settled H client n op l s plain none =
+    all_but (Entered client n op ∷ H) n none (used_entered H client n op l plain ∙ s.used) (goes_on_entered H client n op l plain (goes_on_any H n l.0 s.somewhere))
+
+ending_settled : (H : List Event) (client n : ℕ) (op : Op) → Lawful (Entered client n op ∷ H) → Settled H → ends_transaction op ≡ true → owed (Entered client n op ∷ H) ≡ [] → is_settled_but n (Entered client n op ∷ H) ≡ true
+ending_settled H client n op l s ends none =
+    all_but (Entered client n op ∷ H) n none (used_after_end H client n op l ends ∙ s.used) (each_after_end H client n op l ends s.somewhere)
+
+pub entered_settled : (H : List Event) (client n : ℕ) (op : Op) → Lawful (Entered client n op ∷ H) → Settled H → is_settled_but n (with_owed (Entered client n op ∷ H)) ≡ true
+entered_settled H client n DbClose l s =
+    let K = Entered client n DbClose ∷ H in all_but (with_owed K) n (owed_made K) (closed_used H client n l s.used) (closed_goes_on H client n l s.somewhere)
+entered_settled H client n (RowsClose rows) l s =
+    all_but (Entered client n (RowsClose rows) ∷ H) n refl (used_closing H client n rows l ∙ s.used) (goes_on_closing H client n rows l s.somewhere)
+entered_settled H client n (Commit tx) l s = ending_settled H client n (Commit tx) l s refl refl
+entered_settled H client n (Rollback tx) l s = ending_settled H client n (Rollback tx) l s refl refl
+entered_settled H client n op l s = plain_settled H client n op l s refl refl

@@ -1,0 +1,19 @@
+pub use Rattle.dsql_engine_going.specs.value as value
+pub use Rattle.dsql_engine_going.specs.driver as driver
+pub use Rattle.dsql_engine_going.specs.tx as tx
+pub use Rattle.dsql_engine_going.specs.course as course
+pub use Rattle.dsql_engine_going.specs.journal as journal
+pub use Rattle.dsql_engine_going.specs.wait as wait
+pub use Rattle.dsql_engine_going.specs.pool as pool
+pub use Rattle.dsql_engine_going.specs.works as works
+pub use Rattle.dsql_engine_going.specs.history as history
+pub use Rattle.dsql_engine_going.specs.follows as follows
+pub use Rattle.dsql_engine_going.specs.laws as laws
+pub use Rattle.dsql_engine_going.specs.laws_calls as laws_calls
+pub use Rattle.dsql_engine_going.specs.laws_due as laws_due
+pub use Rattle.dsql_engine_going.specs.laws_steps as laws_steps
+pub use Rattle.dsql_engine_going.specs.laws_ends as laws_ends
+pub use Rattle.dsql_engine_going.specs.exchanged as exchanged
+pub use Rattle.dsql_engine_going.specs.desk as desk
+pub use Rattle.dsql_engine_going.specs as going
+pub mod Hearing

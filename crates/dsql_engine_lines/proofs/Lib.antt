@@ -1,0 +1,12 @@
+pub mod Steps
+pub mod Listening
+pub mod OfConnections
+pub mod NothingAgain
+pub mod OfCalls
+pub mod Enders
+pub mod Stays
+pub mod OneConnection
+pub mod Newest
+pub mod Unstated
+pub mod OverRows
+pub mod Carries

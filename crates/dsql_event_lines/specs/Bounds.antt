@@ -1,7 +1,0 @@
--- How long a line of a report may be.
-use Rattle.std.specs.Prelude.{ℕ}
-use Rattle.dsql_event_lines.specs.declared.lines.TheConstants.{MAX_BYTES}
-
--- how many bytes it may have before its line feed
-abbrev pub most_bytes : ℕ
-most_bytes = MAX_BYTES

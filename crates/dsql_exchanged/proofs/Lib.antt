@@ -1,4 +1,0 @@
-pub mod MovesMade
-pub mod Sent
-pub mod Filled
-pub mod Carried

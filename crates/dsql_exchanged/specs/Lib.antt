@@ -1,4 +1,0 @@
-pub mod Exchanged
-pub mod Moves
-pub mod Lines
-pub mod Filled

@@ -1,0 +1,122 @@
+-- Defines which driver call a call sends next on the connection that it uses: in its own line, and over rows
+-- that a query handed out.
+use Rattle.std.specs.Prelude.{ℕ, ◌==◌, nat_le, Bool, false, not, ◌&&◌, ◌||◌, cond, List, [], ◌∷◌, length, Option, Some, None, is_none}
+use Rattle.dsql_history_work.specs.driver.declared.caps.Caps.{Caps}
+use Rattle.dsql_history_work.specs.driver.declared.call.DriverCall.{DriverCall}
+use Rattle.dsql_history_work.specs.driver.declared.call.DriverCall.TheVariants.{Reset, Begin}
+use Rattle.dsql_history_work.specs.driver.Kinds.{is_bad, is_valid, is_begin}
+use Rattle.dsql_history_work.specs.driver.Fits.{is_done}
+use Rattle.dsql_history_work.specs.course.declared.course.Course.TheVariants as courses
+use Rattle.dsql_history_work.specs.course.declared.course.Wish.{Wish}
+use Rattle.dsql_history_work.specs.course.declared.course.Wish.TheVariants as wishes
+use Rattle.dsql_history_work.specs.course.Made.{Exchange}
+use Rattle.dsql_history_work.specs.course.Line.{Found, comes_next}
+use Rattle.dsql_history_work.specs.course.Rows.{rows_next_of}
+use Rattle.dsql_history_work.specs.journal.declared.entry.Entry.{Entry}
+use Rattle.dsql_history_work.specs.journal.Kinds.{number_of}
+use Rattle.dsql_history_work.specs.journal.Readers.{went_bad}
+use Rattle.dsql_pool.specs.declared.conn.Place.{Place}
+use Rattle.dsql_pool.specs.declared.conn.Place.TheVariants.{Lent}
+use Rattle.dsql_history_work.specs.Exchanges.{exchanges}
+use Rattle.dsql_history_work.specs.Line.{test_of, Asked, course_of, sent_as, sent_over, handed, line_after}
+use Rattle.dsql_history.specs.Rules.Wishes.{wish_as}
+use Rattle.dsql_history.specs.declared.event.Event.{Event}
+use Rattle.dsql_history.specs.declared.work.Scope.{Scope}
+use Rattle.dsql_history.specs.declared.work.Scope.TheVariants.{Db, Tx}
+use Rattle.dsql_history.specs.declared.work.Work.{Work}
+use Rattle.dsql_history.specs.declared.work.Work.TheVariants as works_of
+use Rattle.dsql_history.specs.Readers.Course.{caps}
+use Rattle.dsql_history.specs.Readers.Works.{work, aim_of, scope, is_fetch, borrower}
+use Rattle.dsql_history.specs.Readers.Journals.{journal, heard_in}
+use Rattle.dsql_history.specs.Readers.Pool.{place, uses}
+use Rattle.dsql_history.specs.Readers.HandedOut.{is_late, are_live, are_over, ender}
+use Rattle.dsql_history.specs.Readers.Lines.{line_in}
+use Rattle.dsql_history.specs.Readers.Calls.{call_record, decided, site, has_begun_to_send}
+
+-- Is true if the driver can reset, and an earlier tenure of the connection had an owner other than the House.
+abbrev pub is_reset_due : List Event → ℕ → Bool
+is_reset_due before c = (caps before).resetter && nat_le 2 (uses before c)
+
+-- Returns what call n asks of the driver.
+abbrev pub asked_by : List Event → ℕ → Asked
+asked_by before n =
+    record { text = (call_record before n).text; params = (call_record before n).params; aim = aim_of (work before n) }
+
+-- Returns what is known as a call is made that nothing has stopped.
+abbrev pub found : Bool → Found
+found bad = record { stopped = false; bad = bad }
+
+-- Returns the driver call that comes next after these exchanges, on a connection that is known to be bad or
+-- isn't. The call's course gives it, and after the call has handed out rows, what is wanted of them.
+abbrev pub body_with : Caps → Bool → Asked → Wish → List Exchange → Option ℕ → Option DriverCall
+body_with can bad asked wish made None =
+    sent_as can asked (comes_next (course_of asked.aim) can (length asked.params) (found bad) made)
+body_with can bad asked wish made (Some rows) =
+    sent_over can asked (rows_next_of courses.Query bad wish can (length asked.params) made rows)
+
+abbrev pub body_after : Caps → Bool → Asked → Wish → List Exchange → Option DriverCall
+body_after can bad asked wish made = body_with can bad asked wish made (handed asked.aim made)
+
+-- Returns the same abilities without the test. A connection is tested as it is given back, so a call in a
+-- transaction doesn't test it.
+abbrev pub untested : Caps → Caps
+untested can = record can { validator = false }
+
+-- Returns the driver call that a call in a transaction sends next after its line. The entries of other calls
+-- have no part in that.
+abbrev pub inner_after : Caps → Bool → Asked → Wish → List Entry → Option DriverCall
+inner_after can bad asked wish line = body_after (untested can) bad asked wish (exchanges line)
+
+-- Returns the driver call that the begin of a transaction sends next after this entry. After its Reset it sends
+-- the Begin, and the test if the Begin failed. A transaction that was begun keeps its connection.
+abbrev pub begin_after : Caps → DriverCall → Entry → Option DriverCall
+begin_after can begin e = cond (is_begin e.call) (cond (is_done e.answer) None (test_of can)) (Some begin)
+
+-- Returns the next driver call, or none after a Bad or a test.
+abbrev pub unless_last : Entry → Option DriverCall → Option DriverCall
+unless_last e next = cond (is_bad e.answer || is_valid e.call) None next
+
+abbrev pub begin_line : Caps → Bool → DriverCall → List Entry → Option DriverCall
+begin_line can reset_due begin [] = cond reset_due (Some Reset) (Some begin)
+begin_line can reset_due begin (e ∷ earlier) = unless_last e (begin_after can begin e)
+
+-- Returns the driver call that call n with this work sends next after its line, on connection c, which is known
+-- to be bad or isn't. The wish says what is wanted of the rows that call n handed out.
+abbrev pub line_with : List Event → ℕ → ℕ → Bool → Wish → Work → Scope → List Entry → Option DriverCall
+line_with before n c bad wish (works_of.Begin label level read_only) it line =
+    begin_line (caps before) (is_reset_due before c) (Begin level read_only) line
+line_with before n c bad wish work Db line =
+    line_after (caps before) (is_reset_due before c) (asked_by before n) wish line
+line_with before n c bad wish work (Tx k) line = inner_after (caps before) bad (asked_by before n) wish line
+
+abbrev pub line_at : List Event → ℕ → Wish → ℕ → Option Place → Option DriverCall
+line_at before n wish c (Some (Lent tenure owner)) =
+    cond (number_of owner == borrower before n)
+    (line_with before n c (went_bad (journal before c)) wish (work before n) (scope (work before n))
+    (line_in owner n (heard_in before c tenure))) None
+line_at before n wish c _ = None
+
+-- Returns the driver call that comes next in the line of call n. The wish says what is wanted of the rows that
+-- call n handed out.
+abbrev pub line_of : List Event → ℕ → Wish → Option DriverCall
+line_of before n wish = line_at before n wish (site before n) (place before (site before n))
+
+-- Is true if call m closes the rows of call k. The call that ended rows closes them. After their transaction
+-- has ended, it does so only if it has begun to send.
+abbrev pub closes : List Event → ℕ → ℕ → Bool
+closes before m k =
+    (ender before k == m) && (not (is_late before (scope (work before k))) || has_begun_to_send before m)
+
+-- Returns what call m wants of the rows of call k, from which calls fetch as long as they are live.
+abbrev pub wish : List Event → ℕ → ℕ → Wish
+wish before m k =
+    wish_as (closes before m k) (is_fetch (work before m) && (are_live before k && is_none (decided before m)))
+
+-- Returns the driver call that is sent over the rows of call k, if anything is wanted of them.
+abbrev pub sent_for : List Event → ℕ → Wish → Option DriverCall
+sent_for before k wishes.Nothing = None
+sent_for before k wish = line_of before k wish
+
+-- Returns the driver call that is still to be sent to close the rows that call n handed out.
+abbrev pub closing : List Event → ℕ → Option DriverCall
+closing before n = cond (are_over before n) (line_of before n wishes.Close) None

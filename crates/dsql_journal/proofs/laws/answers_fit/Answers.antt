@@ -1,5 +1,0 @@
-use Rattle.dsql_journal.proofs.Beginnings.{answers_fit as lem}
-use Rattle.dsql_journal.proofs.laws.answers_fit.Goals as goal
-
-pub returns : goal.returns
-returns c = lem

@@ -1,5 +1,0 @@
-use Rattle.dsql_journal.proofs.Beginnings.{IsJournalPrefix-end}
-use Rattle.dsql_journal.proofs.laws.beginnings_are_beginnings.Goals as goal
-
-pub returns : goal.returns
-returns c = IsJournalPrefix-end

@@ -1,5 +1,0 @@
-use Rattle.dsql_journal.proofs.Wholes.{is_whole_tenure-before}
-use Rattle.dsql_journal.proofs.laws.earlier_tenures_are_whole.Goals as goal
-
-pub returns : goal.returns
-returns c = is_whole_tenure-before

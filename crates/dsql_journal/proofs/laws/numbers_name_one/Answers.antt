@@ -1,5 +1,0 @@
-use Rattle.dsql_journal.proofs.Numbers.{handles_named-one, cursors_named-one}
-use Rattle.dsql_journal.proofs.laws.numbers_name_one.Goals as goal
-
-pub returns : goal.returns
-returns c = record { handles = handles_named-one; cursors = cursors_named-one }

@@ -1,5 +1,0 @@
-use Rattle.dsql_journal.proofs.Sentences.{MayFollow-of, of-MayFollow}
-use Rattle.dsql_journal.proofs.laws.sentences_are_the_test.Goals as goal
-
-pub returns : goal.returns
-returns c = λ before e. (MayFollow-of before e, of-MayFollow before e)

@@ -1,0 +1,15 @@
+pub mod Works
+pub mod Numbered
+pub mod Tenures
+pub mod Homes
+pub mod Heard
+pub mod Senders
+pub mod Lendings
+pub mod Owners
+pub mod Things
+pub mod Ended
+pub mod Transacted
+pub mod Rows
+pub mod Tidying
+pub mod KeptApart
+pub mod Histories

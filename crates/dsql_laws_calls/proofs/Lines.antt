@@ -1,0 +1,155 @@
+-- What is sent next on a lent connection, in the line of a call that uses it. This stays the same as long as
+-- nothing is heard there.
+use Rattle.std.proofs.Common.{◌≡◌, ℕ, ◌==◌, Bool, true, false, ◌&&◌, ◌||◌, cond, List, [], ◌∷◌, Option, Some, None, is_some, length, refl, sym, ap, ◌∙◌}
+use Rattle.std.specs.Prelude.{nat_le}
+use Rattle.dsql_laws.specs.driver.declared.caps.Caps.{Caps}
+use Rattle.dsql_laws.specs.driver.declared.call.DriverCall.{DriverCall}
+use Rattle.dsql_laws.specs.driver.declared.call.DriverCall.TheVariants.{Reset}
+use Rattle.dsql_laws.specs.driver.Kinds.{is_bad, is_valid}
+use Rattle.dsql_laws.specs.course.declared.course.Course.TheVariants as courses
+use Rattle.dsql_laws.specs.course.declared.call.Due.{Due}
+use Rattle.dsql_laws.specs.course.declared.course.Wish.{Wish}
+use Rattle.dsql_laws.specs.course.declared.course.Wish.TheVariants as wishes
+use Rattle.dsql_laws.specs.course.Made.{Exchange, rows_are_over}
+use Rattle.dsql_laws.specs.course.Rows.{closing_of, rows_next_if}
+use Rattle.dsql_laws.specs.journal.declared.entry.Entry.{Entry}
+use Rattle.dsql_laws.specs.journal.declared.entry.Owner.{Owner}
+use Rattle.dsql_laws.specs.journal.Kinds.{number_of}
+use Rattle.dsql_laws.specs.journal.Readers.{of_tenure, went_bad}
+use Rattle.dsql_laws.specs.pool.declared.conn.Place.{Place}
+use Rattle.dsql_laws.specs.pool.declared.conn.Place.TheVariants.{Lent}
+use Rattle.dsql_laws.specs.works.Exchanges.{exchanges}
+use Rattle.dsql_laws.specs.works.Line as plain
+use Rattle.dsql_laws.specs.works.Line.{Asked, sent_over, handed}
+use Rattle.dsql_laws.proofs.Tests.{both, same_itself}
+use Rattle.dsql_laws.specs.history.declared.event.Event.{Event}
+use Rattle.dsql_laws.specs.history.declared.event.Event.TheVariants.{Run, Entered, Heard, Pool, Waits, Ticked, SetLimit, Replied, Ended}
+use Rattle.dsql_laws.specs.history.declared.work.Scope.{Scope}
+use Rattle.dsql_laws.specs.history.declared.work.Scope.TheVariants.{Db, Tx}
+use Rattle.dsql_laws.specs.history.declared.work.Work.{Work}
+use Rattle.dsql_laws.specs.history.declared.work.Work.TheVariants as works_of
+use Rattle.dsql_laws.specs.history.declared.work.Work.TheVariants.{Look}
+use Rattle.dsql_laws.specs.history.Readers.Course.{caps}
+use Rattle.dsql_laws.specs.history.Readers.Journals.{journal, heard_in}
+use Rattle.dsql_laws.specs.history.Readers.Pool.{place, home, uses}
+use Rattle.dsql_laws.specs.history.Readers.Works.{work, scope, borrower}
+use Rattle.dsql_laws.specs.history.Readers.Lines.{line_in}
+use Rattle.dsql_laws.specs.history.Rules.Course.{keeps_course, begins_with_run, ends_once}
+use Rattle.dsql_laws.specs.history.Rules.Line.{is_used, parts}
+use Rattle.dsql_laws.specs.history.Rules.Sent.{is_reset_due, asked_by, body_with, untested, inner_after, line_with, line_at, line_of}
+use Rattle.dsql_laws.specs.history.Legal.{Allowed, Lawful}
+use Rattle.dsql_laws_calls.proofs.Owners.{at_home}
+use Rattle.dsql_laws_calls.proofs.Lent.{uses_stay}
+use Rattle.dsql_laws_calls.proofs.Stays.{work_stays, asked_stays}
+
+-- Returns what call n would send next on connection c, given what is wanted of the rows that the call handed
+-- out. The connection is lent to this owner in tenure t.
+abbrev pub line_there : List Event → ℕ → ℕ → Owner → ℕ → Wish → Option DriverCall
+line_there H c t own n w = line_with H n c (went_bad (journal H c)) w (work H n) (scope (work H n)) (line_in own n (heard_in H c t))
+
+-- If call n uses the connection, this is its line.
+pub line_here : (H : List Event) (c t : ℕ) (own : Owner) (n : ℕ) (w : Wish) → Lawful H → place H c ≡ Some (Lent t own) → borrower H n ≡ number_of own → line_of H n w ≡ line_there H c t own n w
+line_here H c t own n w l is its =
+    ap (λ d. line_at H n w d (place H d)) (ap (λ k. home H k) its ∙ at_home H c t own l is)
+    ∙ ap (λ at. line_at H n w c at) is
+    ∙ ap (λ (b : Bool). cond b (line_there H c t own n w) None) (ap (λ k. number_of own == k) its ∙ same_itself (number_of own))
+
+-- The run's first event comes before all lendings.
+begun_so : (H : List Event) (c : ℕ) (p : Place) → place H c ≡ Some p → H ≡ [] → ⊥
+begun_so H c p is none = let k : place [] c ≡ Some p = ap (λ G. place G c) (sym none) ∙ is in cc
+
+course_of : (H : List Event) (e : Event) → Allowed H e → keeps_course H e ≡ true
+unfolding Allowed
+course_of H e a = a.course
+
+pub caps_stay : (H : List Event) (e : Event) (c : ℕ) (p : Place) → Allowed H e → place H c ≡ Some p → caps (e ∷ H) ≡ caps H
+caps_stay [] (Run version can) c p a is = absurd (begun_so [] c p is refl)
+caps_stay (x ∷ H) (Run version can) c p a is = let k = both (begins_with_run (x ∷ H) (Run version can)) (ends_once (x ∷ H) (Run version can)) (course_of (x ∷ H) (Run version can) a) in absurd (wrong k.0)
+  where
+    wrong : false ≡ true → ⊥
+    wrong h = cc
+caps_stay H (Entered client n op) c p a is = refl
+caps_stay H (Heard e) c p a is = refl
+caps_stay H (Pool m) c p a is = refl
+caps_stay H (Waits n) c p a is = refl
+caps_stay H (Ticked now) c p a is = refl
+caps_stay H (SetLimit s k) c p a is = refl
+caps_stay H (Replied n reply) c p a is = refl
+caps_stay H Ended c p a is = refl
+
+reset_as : (ca cb : Caps) (x y : ℕ) → cb ≡ ca → y ≡ x → (cb.resetter && nat_le 2 y) ≡ (ca.resetter && nat_le 2 x)
+reset_as ca cb x y p q = rw (p, q) refl
+
+pub reset_stays : (H : List Event) (e : Event) (c t : ℕ) (own : Owner) → Lawful H → Allowed H e → place H c ≡ Some (Lent t own) → is_used H (number_of own) ≡ true → is_reset_due (e ∷ H) c ≡ is_reset_due H c
+reset_stays H e c t own l a is used = reset_as (caps H) (caps (e ∷ H)) (uses H c) (uses (e ∷ H) c) (caps_stay H e c (Lent t own) a is) (uses_stay H e c t own l a is used)
+
+inner_as : (ca cb : Caps) (bad : Bool) (x y : Asked) (w : Wish) (L : List Entry) → cb ≡ ca → y ≡ x → inner_after cb bad y w L ≡ inner_after ca bad x w L
+inner_as ca cb bad x y w L p q = rw (p, q) refl
+
+plain_as : (ca cb : Caps) (b d : Bool) (x y : Asked) (w : Wish) (L : List Entry) → cb ≡ ca → d ≡ b → y ≡ x → plain.line_after cb d y w L ≡ plain.line_after ca b x w L
+plain_as ca cb b d x y w L p r q = rw (p, r, q) refl
+
+-- The driver's abilities, whether a reset is due, and what the call asks decide what a line sends next.
+same_line : (H K : List Event) (n c : ℕ) (bad : Bool) (w : Wish) (it : Work) (s : Scope) (L : List Entry) → caps K ≡ caps H → is_reset_due K c ≡ is_reset_due H c → asked_by K n ≡ asked_by H n
+    → line_with K n c bad w it s L ≡ line_with H n c bad w it s L
+same_line H K n c bad w (works_of.Begin label level read_only) s L can reset asked = rw (reset, can) refl
+same_line H K n c bad w it Db L can reset asked = plain_as (caps H) (caps K) (is_reset_due H c) (is_reset_due K c) (asked_by H n) (asked_by K n) w L can reset asked
+same_line H K n c bad w it (Tx k) L can reset asked = inner_as (caps H) (caps K) bad (asked_by H n) (asked_by K n) w L can asked
+
+line_as : (H K : List Event) (n c : ℕ) (w : Wish) (own : Owner) (it jt : Work) (J M L N : List Entry) → jt ≡ it → M ≡ J → N ≡ L
+    → line_with K n c (went_bad M) w jt (scope jt) (line_in own n N) ≡ line_with K n c (went_bad J) w it (scope it) (line_in own n L)
+line_as H K n c w own it jt J M L N a b d = rw (a, b, d) refl
+
+pub line_stays : (H : List Event) (e : Event) (c t : ℕ) (own : Owner) (n : ℕ) (w : Wish) → Lawful H → Allowed H e → place H c ≡ Some (Lent t own) → is_used H (number_of own) ≡ true
+    → journal (e ∷ H) c ≡ journal H c → (work H n ≡ Look → ⊥) → line_there (e ∷ H) c t own n w ≡ line_there H c t own n w
+line_stays H e c t own n w l a is used quiet busy =
+    line_as H (e ∷ H) n c w own (work H n) (work (e ∷ H) n) (journal H c) (journal (e ∷ H) c) (heard_in H c t) (heard_in (e ∷ H) c t) (work_stays H e n busy) quiet (ap (of_tenure t) quiet)
+    ∙ same_line H (e ∷ H) n c (went_bad (journal H c)) w (work H n) (scope (work H n)) (line_in own n (heard_in H c t)) (caps_stay H e c (Lent t own) a is) (reset_stays H e c t own l a is used)
+    (asked_stays H e n busy)
+
+-- An event that doesn't part an entry leaves the journal of the entry's connection as it was.
+pub unheard : (H : List Event) (last : Event) (e : Entry) → parts last e ≡ false → journal (last ∷ H) e.conn ≡ journal H e.conn
+unheard H (Heard x) e on = ap (λ (b : Bool). cond b (x ∷ journal H e.conn) (journal H e.conn)) on
+unheard H (Run version can) e on = refl
+unheard H (Entered client n op) e on = refl
+unheard H (Pool m) e on = refl
+unheard H (Waits n) e on = refl
+unheard H (Ticked now) e on = refl
+unheard H (SetLimit s k) e on = refl
+unheard H (Replied n reply) e on = refl
+unheard H Ended e on = refl
+
+-- If a call sends something when nothing is wanted of its rows, it also sends something when they are to be
+-- closed.
+
+over_closes : (can : Caps) (asked : Asked) (b : Bool) (close : Due) (rows : ℕ) → is_some (sent_over can asked (rows_next_if b wishes.Nothing close rows)) ≡ true
+    → is_some (sent_over can asked (rows_next_if b wishes.Close close rows)) ≡ true
+over_closes can asked true close rows h = h
+over_closes can asked false close rows h = absurd cc
+
+body_closes : (can : Caps) (asked : Asked) (made : List Exchange) (o : Option ℕ) → is_some (plain.body_with can asked wishes.Nothing made o) ≡ true → is_some (plain.body_with can asked wishes.Close made o) ≡ true
+body_closes can asked made None h = h
+body_closes can asked made (Some rows) h = over_closes can asked (rows_are_over made) (closing_of courses.Query false can (length asked.params) made) rows h
+
+inner_closes : (can : Caps) (bad : Bool) (asked : Asked) (made : List Exchange) (o : Option ℕ) → is_some (body_with can bad asked wishes.Nothing made o) ≡ true → is_some (body_with can bad asked wishes.Close made o) ≡ true
+inner_closes can bad asked made None h = h
+inner_closes can bad asked made (Some rows) h = over_closes can asked (rows_are_over made) (closing_of courses.Query bad can (length asked.params) made) rows h
+
+cond_closes : (b : Bool) (q c d : Option DriverCall) → (is_some c ≡ true → is_some d ≡ true) → is_some (cond b q c) ≡ true → is_some (cond b q d) ≡ true
+cond_closes true q c d h k = k
+cond_closes false q c d h k = h k
+
+after_closes : (can : Caps) (reset : Bool) (asked : Asked) (L : List Entry) → is_some (plain.line_after can reset asked wishes.Nothing L) ≡ true → is_some (plain.line_after can reset asked wishes.Close L) ≡ true
+after_closes can reset asked [] h =
+    cond_closes reset (Some Reset) (plain.body_after can asked wishes.Nothing []) (plain.body_after can asked wishes.Close []) (body_closes can asked [] (handed asked.aim [])) h
+after_closes can reset asked (e ∷ earlier) h =
+    let made = exchanges (e ∷ earlier) in
+    cond_closes (is_bad e.answer || is_valid e.call) None (plain.body_after can asked wishes.Nothing made) (plain.body_after can asked wishes.Close made) (body_closes can asked made (handed asked.aim made)) h
+
+with_closes : (H : List Event) (n c : ℕ) (bad : Bool) (it : Work) (s : Scope) (L : List Entry) → is_some (line_with H n c bad wishes.Nothing it s L) ≡ true → is_some (line_with H n c bad wishes.Close it s L) ≡ true
+with_closes H n c bad (works_of.Begin label level read_only) s L h = h
+with_closes H n c bad it Db L h = after_closes (caps H) (is_reset_due H c) (asked_by H n) L h
+with_closes H n c bad it (Tx k) L h = inner_closes (untested (caps H)) bad (asked_by H n) (exchanges L) (handed (asked_by H n).aim (exchanges L)) h
+
+pub closes_too : (H : List Event) (c t : ℕ) (own : Owner) (n : ℕ) → is_some (line_there H c t own n wishes.Nothing) ≡ true → is_some (line_there H c t own n wishes.Close) ≡ true
+closes_too H c t own n h = with_closes H n c (went_bad (journal H c)) (work H n) (scope (work H n)) (line_in own n (heard_in H c t)) h

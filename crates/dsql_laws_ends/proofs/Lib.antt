@@ -1,0 +1,11 @@
+pub mod Finds
+pub mod Resting
+pub mod Whose
+pub mod Steps
+pub mod RunOut
+pub mod Enders
+pub mod Senders
+pub mod OwnEnds
+pub mod EndsHeard
+pub mod Left
+pub mod Ended

@@ -1,0 +1,13 @@
+pub mod KeptLines
+pub mod Least
+pub mod SameOps
+pub mod Made
+pub mod Stepped
+pub mod WhoseTurn
+pub mod InTurn
+pub mod AddedUp
+pub mod OnTheRun
+pub mod Singly
+pub mod Refused
+pub mod Woken
+pub mod Landed

@@ -1,0 +1,8 @@
+//! Laws of lawful histories: what a server may have carried out is never sent again. They cover statements,
+//! begins of transactions and ends of transactions.
+#![tactic(auto)]
+
+pub mod laws;
+pub mod rows;
+pub mod transactions;
+pub mod worked;

@@ -1,0 +1,60 @@
+-- A call's record after an answer to the call, and after an event that isn't one.
+use Rattle.std.proofs.Common.{◌≡◌, ◌≢◌, ℕ, ◌==◌, Bool, true, false, cond, List, ◌∷◌, length, refl, ap, ◌∙◌, arith}
+use Rattle.dsql_laws_calls.specs.driver.Fits.{fits_of, is_memory}
+use Rattle.dsql_laws_calls.specs.journal.Journal.{may_follow}
+use Rattle.dsql_laws_calls.specs.journal.declared.entry.Entry.{Entry}
+use Rattle.dsql_laws_calls.specs.journal.Facts.{MayFollow}
+use Rattle.dsql_laws_calls.proofs.journal.Sentences.{MayFollow-of}
+use Rattle.dsql_laws_calls.proofs.laws_work.Rows.{not_true, row_at}
+use Rattle.dsql_laws_calls.specs.history.Readers.Tries.{try_number, tries, tries_again}
+use Rattle.dsql_laws_calls.proofs.laws.Tests.{other_number}
+use Rattle.dsql_laws_calls.specs.history.declared.event.Event.{Event}
+use Rattle.dsql_laws_calls.specs.history.declared.event.Event.TheVariants.{Entered, Heard, Replied}
+use Rattle.dsql_laws_calls.specs.history.declared.event.Op.{Op}
+use Rattle.dsql_laws_calls.specs.history.declared.work.Work.TheVariants.{Look}
+use Rattle.dsql_laws_calls.specs.history.Readers.Calls.{calls, call_record, nobody, decided, decided_by}
+use Rattle.dsql_laws_calls.specs.history.Readers.Decisions.{decision}
+use Rattle.dsql_laws_calls.specs.history.Readers.Journals.{journal}
+use Rattle.dsql_laws_calls.specs.history.Readers.Unfinished.{is_unfinished}
+use Rattle.dsql_laws_calls.specs.history.Readers.Works.{work}
+use Rattle.dsql_laws_calls.specs.history.Legal.{Allowed}
+use Rattle.dsql_laws_calls.proofs.AtEnd.{no_work_yet}
+use Rattle.dsql_laws_calls.proofs.BeginningsAt.{is_answer}
+use Rattle.dsql_laws_calls.proofs.Stays.{as_many, has_entered}
+use Rattle.dsql_laws_calls.proofs.Works.{enters_next, old_record, other_replied, still_unfinished}
+
+-- After an answer, its call has settled what the answer decides.
+pub own_record : (H : List Event) (e : Entry) → (work H e.call_no ≡ Look → ⊥) → e.call_no ≢ 0
+    → decided (Heard e ∷ H) e.call_no
+    ≡ decision (tries_again (work H e.call_no) (try_number (tries H e.call_no))) (try_number (tries H e.call_no)) (length (call_record H e.call_no).params) (work H e.call_no) e.call e.answer (decided H e.call_no)
+own_record H e busy some =
+    let m = e.call_no in
+    let less = has_entered H m busy in
+    let rows = as_many H in
+    let new = decided_by (try_number (tries H m)) (work H m) e (call_record H m) in
+    let here : call_record (Heard e ∷ H) m ≡ new = row_at (calls H) m new nobody (omega (arith, less, rows)) in
+    let of_call : (m == 0) ≡ false = other_number m 0 some in
+    ap (λ r. r.decided) here
+    ∙ ap
+    (λ (b : Bool).
+    (cond b (call_record H m) (record (call_record H m) { decided = decision (tries_again (work H m) (try_number (tries H m))) (try_number (tries H m)) (length (call_record H m).params) (work H m) e.call e.answer (decided H m) })).decided)
+    of_call
+
+-- A call that has something to do isn't the call that enters.
+pub not_entering : (H : List Event) (client m : ℕ) (op : Op) (n : ℕ) → Allowed H (Entered client m op) → (work H n ≡ Look → ⊥) → n ≢ m
+not_entering H client m op n a busy same = let new = enters_next H client m op a in busy (no_work_yet H n (omega (arith, new, same)))
+
+-- The record of such a call stays the same until an answer or its reply.
+pub record_stays : (H : List Event) (e : Event) (n : ℕ) → Allowed H e → is_answer e ≡ false → (work H n ≡ Look → ⊥) → is_unfinished (e ∷ H) n ≡ true → call_record (e ∷ H) n ≡ call_record H n
+record_stays H (Entered client m op) n a h busy u = old_record H client m op n (enters_next H client m op a) (not_entering H client m op n a busy)
+record_stays H (Replied m reply) n a h busy u = let b = still_unfinished H m reply n u in other_replied H m reply n b.0
+record_stays H (Heard e) n a h busy u = absurd cc
+record_stays H e n a h busy u = refl
+
+-- An answer fits its driver call, and is one that may be heard.
+follows_of : (H : List Event) (e : Entry) → Allowed H (Heard e) → may_follow (journal H e.conn) e ≡ true
+unfolding Allowed
+follows_of H e a = a.journals
+
+pub fitting : (H : List Event) (e : Entry) → Allowed H (Heard e) → (fits_of e.call e.answer ≡ true) × (is_memory e.answer ≡ false)
+fitting H e a = let m : MayFollow (journal H e.conn) e = MayFollow-of (journal H e.conn) e (follows_of H e a) in (m.answer.fitting, not_true (is_memory e.answer) m.answer.heard)

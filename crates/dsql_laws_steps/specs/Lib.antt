@@ -1,0 +1,4 @@
+pub mod Groups
+pub mod Worked
+pub mod Steps
+pub mod Whole

@@ -1,0 +1,9 @@
+pub mod Tenures
+pub mod Orderly
+pub mod Sent
+pub mod Begins
+pub mod Worked
+pub mod WorkedBegins
+pub mod Connections
+pub mod Calls
+pub mod WorkedTenures

@@ -1,4 +1,0 @@
-pub mod Entries
-pub mod Told
-pub mod Beside
-pub mod GivenUp

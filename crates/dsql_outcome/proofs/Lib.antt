@@ -1,9 +1,0 @@
-pub mod Following
-pub mod Saying
-pub mod Writing
-pub mod Lines
-pub mod Finished
-pub mod Ending
-pub mod Asking
-pub mod Telling
-pub mod Summed

@@ -1,4 +1,0 @@
-pub mod MadeLabels
-pub mod ScriptCaps
-pub mod ScriptTexts
-pub mod ScriptForms

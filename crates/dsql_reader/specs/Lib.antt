@@ -1,3 +1,0 @@
-pub mod ScriptHead
-pub mod ScriptPlans
-pub mod ScriptLines

@@ -1,5 +1,0 @@
-//! What a call of a lawful history of several clients has to do, wherever it stands: each law is the contract of a
-//! function that does nothing.
-#![tactic(auto)]
-
-pub mod laws;

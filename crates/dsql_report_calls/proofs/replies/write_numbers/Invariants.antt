@@ -1,7 +1,0 @@
-use Rattle.std.proofs.Common.{◌≡◌, ◌++◌, take}
-use Rattle.dsql_spelling.specs.LineValues.{natural}
-use Rattle.dsql_spelling.proofs.Spelled.{each_tokens}
-use Rattle.dsql_report_calls.proofs.replies.write_numbers.Given as goal
-
-abbrev pub invariant-loop-number : goal.invariant-loop-number
-invariant-loop-number l = (l.json.tokens ≡ l.initial.json.tokens ++ each_tokens natural (take l.number-index l.numbers)) × (l.json.before ≡ l.initial.json.before)

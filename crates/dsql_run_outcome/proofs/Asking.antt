@@ -1,0 +1,84 @@
+-- What the fleet was asked for in a run, and which faults there were. The argument goes through what the fleet
+-- records and through the stops.
+use Rattle.std.proofs.Common.{◌≡◌, true, false, List, [], ◌∷◌, ◌++◌, Option, Some, None, refl, sym, ◌∙◌, ap, subst, inl, inr, arith}
+use Rattle.std.specs.Prelude.{Result, Ok, Err}
+use Rattle.std.proofs.lemmas.List.{append-nil}
+use Rattle.dsql_history.specs.driver.declared.caps.Caps.{Caps}
+use Rattle.dsql_history.specs.driver.Wires.{FleetTold, WireTold}
+use Rattle.dsql_history.specs.declared.event.Event.{Event}
+use Rattle.dsql_history.specs.declared.event.Event.TheVariants.{Run}
+use Rattle.dsql_wire.specs.Journaled.{Journaled}
+use Rattle.dsql_run_wires.specs.Plans.{Made}
+use Rattle.dsql_run_wires.specs.Told.{with_told, AsksAtMost, SameAsked, retired_from}
+use Rattle.dsql_run_wires.proofs.Telling.{no_more, same_both, retired_same}
+use Rattle.dsql_script_source.specs.Stops.{is_read_fault, no_read_failed}
+use Rattle.dsql_script_source.specs.declared.stop.Stop.{Stop}
+use Rattle.dsql_script_source.specs.declared.stop.Stop.TheVariants.{Read, Write, Memory, Refused, Full}
+use Rattle.dsql_run_outcome.specs.Runs.{ran_out, no_write_failed, is_write_fault, Finishes}
+
+-- As a run begins, the fleet records what it recorded before.
+pub none_told : (t : Option FleetTold) (caps : Caps) → with_told [] t (Run 1 caps ∷ []) ≡ t
+none_told None caps = refl
+none_told (Some told) caps =
+    ap (λ cs. Some (record { connects = cs; plans = told.plans ++ []; retired = told.retired ++ [] })) (append-nil told.connects)
+    ∙ ap (λ ps. Some (record { connects = told.connects; plans = ps; retired = told.retired ++ [] })) (append-nil told.plans)
+    ∙ ap (λ rs. Some (record { connects = told.connects; plans = told.plans; retired = rs })) (append-nil told.retired)
+
+-- A fleet that recorded exactly a history was asked for nothing more.
+pub asks_of_told : (made : List Made) (before after : Option FleetTold) (past : List Event) → after ≡ with_told made before past → AsksAtMost made before after past
+asks_of_told made before after past is = record {
+  more = [];
+  few = omega arith;
+  asked = subst (λ (told : Option FleetTold). SameAsked told after) (is ∙ no_more (with_told made before past)) (same_both after);
+}
+
+-- The wires that are left are given back, and nothing more is asked for.
+pub given_back : {W : Type 0} (tells : W → Option WireTold) (slots : List (Option (Journaled W))) (before after : Option FleetTold) → after ≡ retired_from tells slots before → SameAsked before after
+given_back tells slots before after is = subst (λ (told : Option FleetTold). SameAsked before told) (sym is) (retired_same tells slots before)
+
+read_ran : (r : Result (Unit {0}) Stop) → no_read_failed r ≡ true → ran_out r ≡ true
+read_ran (Ok done) h = refl
+read_ran (Err (Refused number fault)) h = refl
+read_ran (Err Read) h = absurd (cc h)
+read_ran (Err Write) h = absurd (cc h)
+read_ran (Err Memory) h = absurd (cc h)
+read_ran (Err Full) h = absurd (cc h)
+
+write_ran : (r : Result (Unit {0}) Stop) → no_write_failed r ≡ true → ran_out r ≡ true
+write_ran (Ok done) h = refl
+write_ran (Err (Refused number fault)) h = refl
+write_ran (Err Read) h = refl
+write_ran (Err Write) h = absurd (cc h)
+write_ran (Err Memory) h = absurd (cc h)
+write_ran (Err Full) h = absurd (cc h)
+
+-- If the last stop shows no failed read or write, none failed as the lines were played.
+pub read_played : (played ended final : Result (Unit {0}) Stop) → (ran_out ended ≡ true → ended ≡ played) → Finishes ended final → no_read_failed final ≡ true → no_read_failed played ≡ true
+read_played played ended final same (inl is) well =
+    let e : no_read_failed ended ≡ true = subst (λ (r : Result (Unit {0}) Stop). no_read_failed r ≡ true) is well in
+    subst (λ (r : Result (Unit {0}) Stop). no_read_failed r ≡ true) (same (read_ran ended e)) e
+read_played played ended final same (inr (inl memory)) well = absurd (cc (subst (λ (r : Result (Unit {0}) Stop). no_read_failed r ≡ true) memory well))
+read_played played ended final same (inr (inr write)) well = absurd (cc (subst (λ (r : Result (Unit {0}) Stop). no_read_failed r ≡ true) write.0 well))
+
+pub written_played : (played ended final : Result (Unit {0}) Stop) → (ran_out ended ≡ true → ended ≡ played) → Finishes ended final → no_write_failed final ≡ true → no_write_failed played ≡ true
+written_played played ended final same (inl is) well =
+    let e : no_write_failed ended ≡ true = subst (λ (r : Result (Unit {0}) Stop). no_write_failed r ≡ true) is well in
+    subst (λ (r : Result (Unit {0}) Stop). no_write_failed r ≡ true) (same (write_ran ended e)) e
+written_played played ended final same (inr (inl memory)) well = absurd (cc (subst (λ (r : Result (Unit {0}) Stop). no_write_failed r ≡ true) memory well))
+written_played played ended final same (inr (inr write)) well = absurd (cc (subst (λ (r : Result (Unit {0}) Stop). no_write_failed r ≡ true) write.0 well))
+
+pub not_read : (r : Result (Unit {0}) Stop) → no_read_failed r ≡ true → is_read_fault r ≡ false
+not_read (Ok done) h = refl
+not_read (Err (Refused number fault)) h = refl
+not_read (Err Read) h = absurd (cc h)
+not_read (Err Write) h = refl
+not_read (Err Memory) h = refl
+not_read (Err Full) h = refl
+
+pub not_written : (r : Result (Unit {0}) Stop) → no_write_failed r ≡ true → is_write_fault r ≡ false
+not_written (Ok done) h = refl
+not_written (Err (Refused number fault)) h = refl
+not_written (Err Read) h = refl
+not_written (Err Write) h = absurd (cc h)
+not_written (Err Memory) h = refl
+not_written (Err Full) h = refl

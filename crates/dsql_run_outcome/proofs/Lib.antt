@@ -1,0 +1,13 @@
+pub use Rattle.dsql_script_source.proofs as script_source
+pub use Rattle.dsql_script_show.proofs as script_show
+pub use Rattle.dsql_run_wires.proofs as run_wires
+pub use Rattle.dsql_run_player.proofs as run_player
+pub mod Following
+pub mod Saying
+pub mod Writing
+pub mod Lines
+pub mod Finished
+pub mod Ending
+pub mod Asking
+pub mod Telling
+pub mod Summed

@@ -1,0 +1,117 @@
+//! What follows from the definitions of runs. Each law is the contract of a function that does nothing. A
+//! history is read newest first.
+ghost use Rattle.std.specs.Prelude.{◌≡◌, ◌⊎◌, ◌≤◌, ◌∷◌, ◌++◌, ◌||◌, [], ℕ, List, Option, Bool, true, false, Result, Ok, Err, length};
+ghost use Rattle.dsql_history.specs.driver.Streams.{HasRisen};
+ghost use Rattle.dsql_history.specs.driver.Wires.{FleetTold};
+ghost use Rattle.dsql_history.specs.driver.declared.caps.Caps.{Caps};
+ghost use Rattle.dsql_history.specs.declared.event.Event.{Event};
+ghost use Rattle.dsql_history.specs.declared.event.Event.TheVariants.{Run};
+ghost use Rattle.dsql_follows.specs.declared.line.Line.{Line};
+ghost use Rattle.dsql_follows.specs.Follows.{after};
+ghost use Rattle.dsql_follows.specs.Sentences.{Part};
+ghost use Rattle.dsql_script_forms.specs.declared.fault.LineFault.{LineFault};
+ghost use Rattle.dsql_script_show.specs.Report.{Shows, with_text};
+ghost use Rattle.dsql_script_source.specs.Plays.{Plays};
+ghost use Rattle.dsql_script_source.specs.Script.{Said, SaysFirst};
+ghost use Rattle.dsql_script_source.specs.Stops.{no_read_failed};
+ghost use Rattle.dsql_script_source.specs.declared.stop.Stop.{Stop as Stopped};
+ghost use Rattle.dsql_script_source.specs.declared.stop.Stop.TheVariants.{Read, Write, Refused, Full};
+ghost use Rattle.dsql_run_wires.specs.Extends.{Extends};
+ghost use Rattle.dsql_run_wires.specs.Plans.{Made};
+ghost use Rattle.dsql_run_wires.specs.Told.{AsksAtMost, with_told};
+ghost use Rattle.dsql_run_player.specs.Carried.{Carries, StopsInEnd, StopsInLine, part};
+ghost use Rattle.dsql_run_player.specs.Planned.{plans_made, plans_of};
+ghost use Rattle.dsql_run_player.specs.Playing.{Playing};
+ghost use Rattle.dsql_run_outcome.specs.Followed.{FollowsAll, FollowsSoFar, StopsShort};
+ghost use Rattle.dsql_run_outcome.specs.Lent.{StopsPlanning};
+ghost use Rattle.dsql_run_outcome.specs.Headline.{PlaysAndTells, PlaysWhole, Seen, SeenNotes};
+ghost use Rattle.dsql_run_outcome.specs.Notes.{note_of, is_status, Tells};
+ghost use Rattle.dsql_run_outcome.specs.Runs.{Finishes, IsLinesEnd, IsPlayStop, Writes, Wrote, is_cut, is_write_fault, no_write_failed, ran_out};
+
+/// The status and the notes show what stopped a run.
+pub fn a_status_tells_what_stopped()
+    ensures done { (stopped : Result (Unit {0}) Stopped) (risen : Bool) (w now : Option (List ℕ))
+        → Tells stopped risen w now 0 → (stopped ≡ Ok tt) × (now ≡ w) }
+    ensures read { (stopped : Result (Unit {0}) Stopped) (risen : Bool) (w now : Option (List ℕ))
+        → Tells stopped risen w now 3 → (stopped ≡ Err Read) × (now ≡ with_text w (note_of Read)) }
+    ensures written { (stopped : Result (Unit {0}) Stopped) (risen : Bool) (w now : Option (List ℕ))
+        → Tells stopped risen w now 4 → (stopped ≡ Err Write) ⊎ (risen ≡ true) }
+    ensures refused { (stopped : Result (Unit {0}) Stopped) (risen : Bool) (w now : Option (List ℕ))
+        → Tells stopped risen w now 7 →
+        (number : ℕ) × (fault : LineFault) × (stopped ≡ Err (Refused number fault))
+        × (now ≡ with_text w (note_of (Refused number fault))) }
+    ensures full { (stopped : Result (Unit {0}) Stopped) (risen : Bool) (w now : Option (List ℕ))
+        → Tells stopped risen w now 10 → stopped ≡ Err Full }
+{}
+
+/// A run with status 0 was played whole. Each run has a known status, and the statuses 3 and 4 come from a
+/// fault of a stream.
+pub fn a_status_tells_what_was_done()
+    ensures whole { (before after : Seen) (one two : SeenNotes) (status : ℕ) → status ≡ 0
+        → PlaysAndTells before after one two status → PlaysWhole before after one two }
+    ensures known { (before after : Seen) (one two : SeenNotes) (status : ℕ) → PlaysAndTells before after one two status
+        → is_status status ≡ true }
+    ensures read_fault { (before after : Seen) (one two : SeenNotes) (status : ℕ) → status ≡ 3
+        → PlaysAndTells before after one two status → HasRisen before.read_faults after.read_faults }
+    ensures write_fault { (before after : Seen) (one two : SeenNotes) (status : ℕ) → status ≡ 4
+        → PlaysAndTells before after one two status → HasRisen before.write_faults after.write_faults
+        ⊎ HasRisen one.faults two.faults }
+{}
+
+/// A history that follows the lines so far also follows one more line that is carried out. If the run stops in
+/// a line, between two lines or in the script's end, what came is whole steps. The same holds of a whole run.
+/// If the run stops in a line, the fault of that line was planned or it wasn't.
+pub fn lines_follow_one_after_another()
+    ensures line { (run : Event) (lines : List Line) (parts : List Part) (line : Line) (old new : Playing)
+        → FollowsSoFar run lines parts old.past → (c : Carries (after run parts) line old new)
+        → FollowsSoFar run (lines ++ line ∷ []) (part line c.events ∷ parts) new.past }
+    ensures stops { (run : Event) (lines : List Line) (parts : List Part) (line : Line) (old new : List Event)
+        → FollowsSoFar run lines parts old → StopsInLine (after run parts) line old new
+        → StopsShort run (lines ++ line ∷ []) new }
+    ensures rests { (caps : Caps) (lines : List Line) (parts : List Part) (past : List Event)
+        → FollowsSoFar (Run 1 caps) lines parts past → StopsShort (Run 1 caps) lines past }
+    ensures ends { (run : Event) (lines : List Line) (parts : List Part) (old new : List Event)
+        → FollowsSoFar run lines parts old → StopsInEnd (after run parts) old new → StopsShort run lines new }
+    ensures all { (run : Event) (lines : List Line) (past : List Event) → FollowsAll run lines past
+        → StopsShort run lines past }
+    ensures plans { (run : Event) (lines : List Line) (parts : List Part) (line : Line) (old new : List Event)
+        (planned : List Made) → FollowsSoFar run lines parts old → StopsInLine (after run parts) line old new
+        → (planned ≡ plans_of line old) ⊎ (planned ≡ [])
+        → StopsPlanning run (lines ++ line ∷ []) new (planned ++ plans_made run parts) }
+{}
+
+/// Whatever stopped a run, its script says first what the run has of it. This stays true however the run is
+/// finished.
+pub fn what_a_run_has_of_its_script()
+    ensures first { (r : Result (Unit {0}) Stopped) (left rest : Option (List ℕ)) (says : Said) → Plays r left rest says
+        → SaysFirst left says }
+    ensures stopped { (stop : Stopped) (left rest : Option (List ℕ)) (says : Said) → IsPlayStop stop
+        → SaysFirst left says
+        → Plays (Err stop) left rest says }
+    ensures finished { (played ended final : Result (Unit {0}) Stopped) (bytes rest : Option (List ℕ)) (says : Said)
+        → (ran_out ended ≡ true → ended ≡ played) → Finishes ended final → Plays played bytes rest says
+        → Plays final bytes rest says }
+{}
+
+/// What was written of a run that is finished, what the fleet was asked for, and which streams didn't fail.
+pub fn what_was_written_and_read()
+    ensures cut { (played ended : Result (Unit {0}) Stopped) (w now : Option (List ℕ)) (n : ℕ) (past : List Event)
+        (risen : Bool) → (ran_out ended ≡ true → ended ≡ played) → is_cut played ended ≡ true
+        → Wrote played w n past now → Writes ended (is_write_fault played || risen) w past now }
+    ensures shown { (played ended final : Result (Unit {0}) Stopped) (w mid : Option (List ℕ)) (n : ℕ)
+        (rest past : List Event)
+        → (ran_out ended ≡ true → ended ≡ played) → Finishes ended final → final ≡ Err Write
+        → is_write_fault played ≡ false → Extends rest past → n ≤ length rest → Wrote played w n rest mid
+        → Shows w n past mid }
+    ensures read { (played ended final : Result (Unit {0}) Stopped) → (ran_out ended ≡ true → ended ≡ played)
+        → Finishes ended final → no_read_failed final ≡ true → no_read_failed played ≡ true }
+    ensures written { (played ended final : Result (Unit {0}) Stopped) → (ran_out ended ≡ true → ended ≡ played)
+        → Finishes ended final → no_write_failed final ≡ true → no_write_failed played ≡ true }
+    ensures told { (made : List Made) (before after : Option FleetTold) (past : List Event)
+        → after ≡ with_told made before past → AsksAtMost made before after past }
+{}
+
+/// No stop of a line is an end of the lines.
+pub fn no_line_that_stops_ends_the_script()
+    ensures { (stop : Stopped) → IsPlayStop stop → IsLinesEnd (Err stop) → ⊥ }
+{}

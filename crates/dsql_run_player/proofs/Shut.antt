@@ -1,0 +1,58 @@
+-- The layer shut a connection and gave its wire back. The argument empties the wire's slot and shows that the
+-- wires and the fleet fit the new history.
+use Rattle.std.proofs.Common.{◌≡◌, ℕ, Bool, true, List, [], ◌∷◌, ◌++◌, Option, None, is_some, sym, subst, set}
+use Rattle.std.specs.Prelude.{Ok, IfSome}
+use Rattle.std.specs.List.{list_all}
+use Rattle.dsql_engine_laws.specs.driver.Kinds.{is_shut}
+use Rattle.dsql_engine_laws.specs.driver.Wires.{WireTold, FleetTold}
+use Rattle.dsql_engine_laws.specs.driver.declared.wire.Fleet.{Ghosts}
+use Rattle.dsql_engine_laws.specs.journal.declared.entry.Entry.{Entry}
+use Rattle.dsql_engine_laws.specs.journal.declared.entry.Permit.{Permit}
+use Rattle.dsql_engine_laws.specs.history.declared.event.Event.{Event}
+use Rattle.dsql_engine_laws.specs.history.declared.event.Event.TheVariants.{Heard}
+use Rattle.dsql_engine_laws.specs.history.Legal.{Legal}
+use Rattle.dsql_engine_laws.specs.wire.Journaled.{Journaled}
+use Rattle.dsql_engine_laws.specs.wire.Told.{TellsOf}
+use Rattle.dsql_run_wires.specs.Told.{FleetTells, SameAbility, hears_nothing, retired_slot}
+use Rattle.dsql_run_wires.specs.WiresFit.{WiresFit, slot}
+use Rattle.dsql_run_wires.proofs.Asking.{gone_fits, gone_tells}
+use Rattle.dsql_run_player.specs.Carried.{KeepsRun}
+use Rattle.dsql_run_player.specs.Chores.{IsToMake}
+use Rattle.dsql_run_player.specs.Playing.{Playing}
+use Rattle.dsql_run_player.proofs.Grouped.{Grouped}
+use Rattle.dsql_run_player.proofs.Hearing.{all_quiet, answer_grown}
+use Rattle.dsql_run_player.specs.Keeping.{AsksWire}
+use Rattle.dsql_run_player.proofs.Taken.{taken_group, taken_ready}
+
+-- Holds if the wire was given back, and it records exactly its journal.
+pub record GivesBack {F W : Type 0} (fleet : Ghosts F W) (heard : W → Option WireTold) (conn : ℕ) (before after : F) (was now : List (Option (Journaled W))) : Type 0 where
+  pub slots : now ≡ set was conn None
+  pub told : fleet.told after ≡ retired_slot heard conn (slot was conn) (fleet.told before)
+  pub exact : IfSome (slot was conn) (λ w. IfSome (heard w.wire) (TellsOf w.conn w.journal))
+  pub able : SameAbility fleet before after
+
+pub shut_run : {A F W : Type 0} (fleet : Ghosts F W) (heard : W → Option WireTold) (x : A) (before after : F) (permit : Permit) (p now : Playing) (old mid new : List (Option (Journaled W)))
+    → IsToMake p permit → is_shut permit.call ≡ true → WiresFit heard (is_some (fleet.told before)) p.past old → AsksWire heard permit p now old mid → GivesBack fleet heard permit.conn before after mid new → Legal now.past
+    → KeepsRun fleet heard (Ok x) before after p now old new
+shut_run fleet heard x before after permit p now old mid new it shuts fit asks gone legal =
+    let e : Entry = asks.entry in
+    let g : Grouped p.past now.past (Heard e) 0 = taken_group permit e p now it asks.takes in
+    let more : List Event = g.group.more in
+    let quiet : list_all hears_nothing more ≡ true = all_quiet 0 more g.group.later in
+    let grown : now.past ≡ more ++ Heard e ∷ p.past = answer_grown p.past now.past e 0 g in
+    let retired : FleetTells heard [] (fleet.told before) (retired_slot heard permit.conn (slot mid permit.conn) (fleet.told before)) p.past (more ++ Heard e ∷ p.past) old new =
+    gone_tells heard permit e more p.past old mid new (fleet.told before) asks.performs shuts gone.slots gone.exact quiet fit in
+    let tells : FleetTells heard [] (fleet.told before) (fleet.told after) p.past now.past old new =
+    subst (λ (H : List Event). FleetTells heard [] (fleet.told before) (fleet.told after) p.past H old new) (sym grown)
+    (subst (λ (told : Option FleetTold). FleetTells heard [] (fleet.told before) told p.past (more ++ Heard e ∷ p.past) old new) (sym gone.told) retired) in
+    let fits : WiresFit heard (is_some (fleet.told before)) now.past new =
+    subst (λ (H : List Event). WiresFit heard (is_some (fleet.told before)) H new) (sym grown)
+    (gone_fits heard (is_some (fleet.told before)) permit e more p.past old mid new asks.performs shuts gone.slots quiet fit) in
+    record {
+      ready = taken_ready permit e p now it asks.takes;
+      told = tells;
+      asked = tt;
+      wires = subst (λ (telling : Bool). WiresFit heard telling now.past new) (sym tells.telling) fits;
+      able = gone.able;
+      legal = legal;
+    }

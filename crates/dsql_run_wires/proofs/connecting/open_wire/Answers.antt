@@ -1,0 +1,10 @@
+use Rattle.std.proofs.Common.{ap, Err}
+use Rattle.dsql_wire.proofs.Opens.{only_connects}
+use Rattle.dsql_run_wires.proofs.Permits.{stray_of}
+use Rattle.dsql_run_wires.proofs.connecting.open_wire.Goals as goal
+
+pub unreachable-requires : goal.unreachable-requires
+unreachable-requires g c =
+    let p = c.args.permit in
+    let stray = stray_of c.in-Err-Stray.field-0 c.in-Err-Stray.field-0-0 p c.in-Err-Stray.field-0-is c.in-Err-Stray.ensures.handed_back in
+    c.in-Err-Stray.ensures.stray (ap Err stray) ((only_connects p).1 c.requires)

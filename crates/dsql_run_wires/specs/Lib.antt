@@ -1,0 +1,6 @@
+pub mod Plans
+pub mod WiresFit
+pub mod Asked
+pub mod Told
+pub mod Extends
+pub mod Seats

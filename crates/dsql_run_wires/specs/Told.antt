@@ -1,0 +1,138 @@
+-- What wires and a fleet record of a history. All of it follows from what was heard.
+use Rattle.std.specs.Prelude.{ℕ, ◌+◌, ◌≡◌, ◌≤◌, ◌⊎◌, Bool, true, false, cond, List, [], ◌∷◌, ◌++◌, map, length, Option, Some, None, is_some, IfSome, option_map}
+use Rattle.dsql_history.specs.driver.Kinds.{is_connect, is_shut}
+use Rattle.dsql_history.specs.driver.Wires.{WireTold, FleetTold, Connected, PlanMade, WirePlanMade, with_connects, with_retired, retired_after}
+use Rattle.dsql_history.specs.driver.declared.wire.Fleet.{Ghosts}
+use Rattle.dsql_history.specs.journal.declared.entry.Entry.{Entry}
+use Rattle.dsql_history.specs.declared.event.Event.{Event}
+use Rattle.dsql_history.specs.declared.event.Event.TheVariants.{Heard}
+use Rattle.dsql_history.specs.Readers.Journals.{journal}
+use Rattle.dsql_wire.specs.Told.{told_of}
+use Rattle.dsql_wire.specs.Journaled.{Journaled}
+use Rattle.dsql_run_wires.specs.Plans.{Made, fleet_plans, plans_on}
+use Rattle.dsql_run_wires.specs.WiresFit.{PlansFit}
+
+-- Is true if the event hears no driver's answer. It changes no wire, and nothing that a fleet records.
+abbrev pub hears_nothing : Event → Bool
+hears_nothing (Heard e) = false
+hears_nothing _ = true
+
+-- Returns the record of the wire of connection c, with this journal and with these faults planned on it.
+abbrev pub tells_of : ℕ → List PlanMade → List Entry → WireTold
+tells_of c plans entries = record { number = c; calls = told_of entries; plans = plans }
+
+-- Returns a fleet's record after this entry. A Connect is added with its answer. A Shut adds the wire that was
+-- shut, whatever the answer was. No other call adds anything.
+abbrev pub with_heard : List Made → Entry → List Entry → FleetTold → FleetTold
+with_heard made e before told =
+    cond (is_connect e.call) (with_connects ((e.conn, e.answer) ∷ []) told)
+    (cond (is_shut e.call)
+    (with_retired ((e.conn, tells_of e.conn (plans_on made e.conn) (e ∷ before)) ∷ []) told) told)
+
+-- Returns the record of a fleet with which these faults were planned. The fleet was asked for the Connects of
+-- the history, and was given back the wires of the connections that were shut, all in their order. A refused
+-- Connect has no wire. A connection that was shut is gone with the next event, and no fault is planned on its
+-- wire any more.
+abbrev pub fleet_told : List Made → List Event → FleetTold
+fleet_told made [] = record { connects = []; plans = fleet_plans made; retired = [] }
+fleet_told made (Heard e ∷ before) = with_heard made e (journal before e.conn) (fleet_told made before)
+fleet_told made (_ ∷ before) = fleet_told made before
+
+-- Returns a plan that was made after so many more Connects.
+abbrev pub behind : ℕ → WirePlanMade → WirePlanMade
+behind connects made = (connects + made.0, made.1)
+
+-- Returns the record of a fleet that first recorded one thing, and was then asked for more.
+abbrev pub told_then : FleetTold → FleetTold → FleetTold
+told_then more first = record {
+  connects = first.connects ++ more.connects;
+  plans = first.plans ++ map (behind (length first.connects)) more.plans;
+  retired = first.retired ++ more.retired;
+}
+
+-- Returns the record of a fleet after this history and these planned faults, if it recorded `told` as the
+-- history began.
+abbrev pub with_told : List Made → Option FleetTold → List Event → Option FleetTold
+with_told made told past = option_map (told_then (fleet_told made past)) told
+
+-- Holds if the fleet records exactly this history and the planned faults, after what it recorded as the history
+-- began, and each wire records its part.
+pub record TellsJust {W : Type 0} (heard : W
+    → Option WireTold) (made : List Made) (told now : Option FleetTold) (past : List Event)
+    (slots : List (Option (Journaled W))) : Type 0 where
+  pub fleet : now ≡ with_told made told past
+  pub wires : PlansFit heard made past slots
+
+-- Holds if a fleet that recorded exactly the old history records exactly the new one and these further plans,
+-- and the wires do too.
+abbrev pub TellsOn : {W : Type 0} → (W → Option WireTold) → List Made → Option FleetTold → Option FleetTold
+    → List Event → List Event → List (Option (Journaled W)) → List (Option (Journaled W)) → Type 0
+TellsOn heard more before after old new slots now =
+    (made : List Made) (told : Option FleetTold) → TellsJust heard made told before old slots
+    → TellsJust heard (more ++ made) told after new now
+
+-- The same of the fleet alone, with no further plans.
+abbrev pub FleetTellsOn : {W : Type 0} → (W → Option WireTold) → Option FleetTold → Option FleetTold → List Event
+    → List Event → List (Option (Journaled W)) → Type 0
+FleetTellsOn heard before after old new slots =
+    (made : List Made) (told : Option FleetTold) → TellsJust heard made told before old slots
+    → after ≡ with_told made told new
+
+-- Holds if the fleet is asked for each Connect that is heard and given back each wire that is shut, and these
+-- faults are planned.
+pub record FleetTells {W : Type 0} (heard : W
+    → Option WireTold) (more : List Made) (before after : Option FleetTold) (old new : List Event)
+    (slots now : List (Option (Journaled W))) : Type 0 where
+  pub told : TellsOn heard more before after old new slots now
+  pub telling : is_some after ≡ is_some before
+
+-- Holds if a fleet that recorded exactly the old history records the new one, and perhaps one more Connect,
+-- whose answer couldn't be taken in. Of the faults that were to be planned all were, or none.
+pub record TellsAtMost {W : Type 0} (heard : W
+    → Option WireTold) (planning : List Made) (before after : Option FleetTold) (old new : List Event)
+    (slots : List (Option (Journaled W))) : Type 0 where
+  pub more : List Connected
+  pub few : length more ≤ 1
+  pub planned : List Made
+  pub which : (planned ≡ planning) ⊎ (planned ≡ [])
+  pub told : (made : List Made) (told : Option FleetTold) → TellsJust heard made told before old slots
+      → after ≡ option_map (with_connects more) (with_told (planned ++ made) told new)
+
+-- Holds if both record the same Connects and plans, if both keep a record.
+abbrev pub SameAsked : Option FleetTold → Option FleetTold → Type 0
+SameAsked before after = IfSome before (λ b. IfSome after (λ a. (a.connects ≡ b.connects) × (a.plans ≡ b.plans)))
+
+-- Holds if a fleet that recorded exactly the old history was asked for the Connects of the new one and was
+-- given back what was left. It was perhaps asked for one more Connect, whose answer couldn't be taken in. No
+-- fault was planned.
+pub record LeavesAtMost {W : Type 0} (heard : W
+    → Option WireTold) (before after : Option FleetTold) (old new : List Event)
+    (slots : List (Option (Journaled W))) : Type 0 where
+  pub more : List Connected
+  pub few : length more ≤ 1
+  pub asked : (made : List Made) (told : Option FleetTold) → TellsJust heard made told before old slots
+      → SameAsked (option_map (with_connects more) (with_told made told new)) after
+
+-- Holds if a fleet was asked for exactly the Connects of this history, and exactly these faults were planned
+-- with it. It was perhaps asked for one more Connect, whose answer couldn't be taken in.
+pub record AsksAtMost (made : List Made) (before after : Option FleetTold) (past : List Event) : Type 0 where
+  pub more : List Connected
+  pub few : length more ≤ 1
+  pub asked : SameAsked (option_map (with_connects more) (with_told made before past)) after
+
+-- Returns the fleet's record after the wire of a slot, if the slot has one, was given back.
+abbrev pub retired_slot : {W : Type 0} → (W → Option WireTold) → ℕ → Option (Journaled W) → Option FleetTold
+    → Option FleetTold
+retired_slot tells number None before = before
+retired_slot tells number (Some wire) before = retired_after number (tells wire.wire) before
+
+-- The same for a list of slots, from the last slot to the first. The list has the last slot first.
+abbrev pub retired_from : {W : Type 0} → (W → Option WireTold) → List (Option (Journaled W)) → Option FleetTold
+    → Option FleetTold
+retired_from tells [] before = before
+retired_from tells (wire ∷ lower) before = retired_from tells lower (retired_slot tells (length lower) wire before)
+
+-- Holds if what the fleet can do, and what it was asked for last, stays the same.
+pub record SameAbility {F W : Type 0} (fleet : Ghosts F W) (before after : F) : Type 0 where
+  pub ability : fleet.ability after ≡ fleet.ability before
+  pub preferred : fleet.preferred after ≡ fleet.preferred before

@@ -1,0 +1,62 @@
+//! Gives wires back to their fleet.
+ghost use Rattle.std.specs.Prelude.{ℕ, ◌≡◌, reverse, slice_set, Some, None, IsSome, IfSome};
+ghost use Rattle.dsql_history.specs.driver.Wires.{retired_after};
+ghost use Rattle.dsql_wire.specs.Told.{TellsOf};
+ghost use Rattle.dsql_run_wires.specs.Told.{SameAbility, retired_from, retired_slot};
+ghost use Rattle.dsql_run_wires.specs.WiresFit.{slot};
+
+use crate::wires::Wires;
+use dsql_history::Fleet;
+use dsql_wire::{RetiredThin, ThinWire};
+
+/// Gives the wire of this connection back to the fleet. If the wire keeps a record, the record is exactly its
+/// journal.
+pub fn retire<F: Fleet>(wires: &mut Wires<F::Wire>, fleet: &mut F, conn: u32)
+    requires { IsSome (slot wires.old conn) }
+    ensures slots { wires.new ≡ slice_set wires.old conn None }
+    ensures told { F.told fleet.new
+        ≡ retired_slot F.Wire.told conn (slot wires.old conn) (F.told fleet.old) }
+    ensures exact { IfSome (slot wires.old conn)
+        (λ w. IfSome (F.Wire.told w.wire) (TellsOf w.conn w.journal)) }
+    ensures able { SameAbility F.Fleet fleet.old fleet.new }
+{
+    give_back(wires.take(conn), conn, fleet);
+}
+
+/// Gives every wire that is left back to the fleet, the largest number first. If none is left, the fleet
+/// records what it recorded before.
+pub fn retire_all<F: Fleet>(wires: Wires<F::Wire>, fleet: &mut F)
+    ensures retired { F.told fleet.new
+        ≡ retired_from F.Wire.told (reverse wires) (F.told fleet.old) }
+    ensures unasked { ((c : ℕ) → slot wires c ≡ None) → F.told fleet.new ≡ F.told fleet.old }
+    ensures able { SameAbility F.Fleet fleet.old fleet.new }
+{
+    let mut slots = wires.into_slots();
+    while let Some(slot) = slots.pop() {
+        retire_slot(slot, slots.len() as u32, fleet);
+    }
+    slots.destroy_empty();
+}
+
+/// Gives the wire of this connection back, if there is one.
+fn retire_slot<F: Fleet>(slot: Option<ThinWire<F::Wire>>, number: u32, fleet: &mut F)
+    ensures retired { F.told fleet.new
+        ≡ retired_slot F.Wire.told number slot (F.told fleet.old) }
+    ensures able { SameAbility F.Fleet fleet.old fleet.new }
+{
+    match slot {
+        Some(wire) => give_back(wire, number, fleet),
+        None => {}
+    }
+}
+
+/// Gives a wire back under this number.
+fn give_back<F: Fleet>(wire: ThinWire<F::Wire>, number: u32, fleet: &mut F)
+    ensures retired { F.told fleet.new
+        ≡ retired_after number (F.Wire.told wire.wire) (F.told fleet.old) }
+    ensures exact { IfSome (F.Wire.told wire.wire) (TellsOf wire.conn wire.journal) }
+    ensures able { SameAbility F.Fleet fleet.old fleet.new }
+{
+    let RetiredThin { number: _, wire } = wire.retire();
+    fleet.retire(number, wire);
+}

@@ -1,0 +1,15 @@
+pub mod WordBytes
+pub mod LineParts
+pub mod ReadNumbers
+pub mod ReadBytes
+pub mod ReadBack
+pub mod ReadCaps
+pub mod ReadCalls
+pub mod ReadTexts
+pub mod ReadClients
+pub mod ScriptOnLiterals
+pub mod ReadMoments
+pub mod ReadTargets
+pub mod ReadBegins
+pub mod ReadLines
+pub mod ReadLimits

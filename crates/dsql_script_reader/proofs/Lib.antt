@@ -1,0 +1,4 @@
+pub mod ScriptCaps
+pub mod ScriptTexts
+pub mod ScriptForms
+pub mod MadeLabels

@@ -1,0 +1,4 @@
+pub mod ScriptHead
+pub mod ScriptPlans
+pub mod ScriptLines
+pub mod ScriptLabels

@@ -1,0 +1,4 @@
+pub mod LineCalls
+pub mod LineOps
+pub mod LineReplies
+pub mod Lines

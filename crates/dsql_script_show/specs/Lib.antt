@@ -1,0 +1,4 @@
+pub mod Report
+pub mod Summary
+pub mod Counting
+pub mod Worked

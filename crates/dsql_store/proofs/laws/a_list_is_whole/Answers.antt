@@ -1,5 +1,0 @@
-use Rattle.dsql_store.proofs.ListLaw.{lists_prefix}
-use Rattle.dsql_store.proofs.laws.a_list_is_whole.Goals as goal
-
-pub returns : goal.returns
-returns c = lists_prefix

@@ -1,8 +1,0 @@
-use Rattle.std.proofs.Common.{◌≡◌, ◌++◌, map}
-use Rattle.dsql_store.specs.Entries.{listed}
-use Rattle.dsql_store.proofs.EntryLemmas.{entry_of}
-use Rattle.dsql_store.proofs.store.Store.list.Given as goal
-
--- what was listed and what is still to be listed is the whole list
-abbrev pub invariant-loop-key : goal.invariant-loop-key
-invariant-loop-key l = l.entries.items ++ listed l.prefix (map entry_of l.key-iterator) ≡ listed l.prefix l.self

@@ -1,6 +1,0 @@
-use Rattle.std.proofs.Common.{◌≡◌, take}
-use Rattle.dsql_summary.specs.Summary.{summary_of}
-use Rattle.dsql_summary.proofs.summary.summary_of.Given as goal
-
-abbrev pub invariant-loop-event : goal.invariant-loop-event
-invariant-loop-event l = l.it ≡ summary_of l.initial.lines (take l.event-index l.history)

@@ -1,3 +1,0 @@
-pub mod Summary
-pub mod Counting
-pub mod Worked

@@ -1,6 +1,0 @@
-ghost use Rattle.dsql_summary.specs.Worked.{WorkedSummaries};
-
-/// Worked summaries.
-pub fn worked_summaries()
-    ensures { WorkedSummaries }
-{}

@@ -1,4 +1,0 @@
-pub mod Beside
-pub mod Closing
-pub mod Fetched
-pub mod Labelled

@@ -1,9 +1,0 @@
-use Rattle.std.specs.Prelude.{⊤}
-use Rattle.std.specs.Str.{chars, is_utf8}
-use Rattle.hex.specs.Hex.{decode_pairs}
-use Rattle.serde_json.proofs.OnLiterals.{serde_json_on_literals}
-
--- what an answer unfolds to compute what is read of a literal line
-unfoldable pub script_on_literals : ⊤
-unfolding chars is_utf8 decode_pairs serde_json_on_literals
-script_on_literals = tt

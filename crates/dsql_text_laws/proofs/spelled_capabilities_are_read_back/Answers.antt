@@ -1,5 +1,0 @@
-use Rattle.dsql_text_laws.proofs.ReadCaps.{caps_are_read_back}
-use Rattle.dsql_text_laws.proofs.spelled_capabilities_are_read_back.Goals as goal
-
-pub returns : goal.returns
-returns c = caps_are_read_back

@@ -1,5 +1,0 @@
-use Rattle.dsql_text_laws.proofs.ReadMoments.{moment_is_read_back}
-use Rattle.dsql_text_laws.proofs.spelled_moments_are_read_back.Goals as goal
-
-pub returns : goal.returns
-returns c = moment_is_read_back

@@ -1,3 +1,0 @@
-pub mod ReadBack
-pub mod OneExec
-pub mod WorkedLines

@@ -1,5 +1,0 @@
-use Rattle.dsql_tx_answer_laws.proofs.OwnRows.{own_live_line}
-use Rattle.dsql_tx_answer_laws.proofs.fetching.live_rows_of_a_call_keep_its_line_open.Goals as goal
-
-pub returns : goal.returns
-returns c = own_live_line

@@ -1,5 +1,0 @@
-use Rattle.dsql_tx_call_laws.proofs.FirstAnswers.{follows_connect}
-use Rattle.dsql_tx_call_laws.proofs.sendings.every_connect_may_follow.Goals as goal
-
-pub returns : goal.returns
-returns c = record { connect = follows_connect }

@@ -1,5 +1,0 @@
-pub mod Borrowers
-pub mod CallRows
-pub mod KeptTries
-pub mod MovesMade
-pub mod Settled

@@ -1,6 +1,0 @@
-pub mod Words
-pub mod Refusals
-pub mod Begun
-pub mod Kept
-pub mod Ended
-pub mod Damaged

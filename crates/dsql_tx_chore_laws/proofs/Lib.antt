@@ -1,4 +1,0 @@
-pub mod Itself
-pub mod Tidied
-pub mod Made
-pub mod Placed

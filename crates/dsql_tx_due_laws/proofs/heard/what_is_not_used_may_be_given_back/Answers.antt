@@ -1,8 +1,0 @@
-use Rattle.dsql_tx_due_laws.proofs.Following.{may_leave, whole_when_unused}
-use Rattle.dsql_tx_due_laws.proofs.heard.what_is_not_used_may_be_given_back.Goals as goal
-
-pub returns-clause-whole : goal.returns-clause-whole
-returns-clause-whole c = whole_when_unused
-
-pub returns-clause-leaves : goal.returns-clause-leaves
-returns-clause-leaves c = may_leave

@@ -1,5 +1,0 @@
-use Rattle.dsql_tx_due_laws.proofs.Nowhere.{nowhere_replies}
-use Rattle.dsql_tx_due_laws.proofs.replies.who_has_nothing_to_do_replies.Goals as goal
-
-pub returns : goal.returns
-returns c = nowhere_replies

@@ -1,8 +1,0 @@
-use Rattle.dsql_tx_end_laws.proofs.Whose.{kept_client, unfinished_entered}
-use Rattle.dsql_tx_end_laws.proofs.clients.a_call_keeps_its_client.Goals as goal
-
-pub returns-clause-keeps : goal.returns-clause-keeps
-returns-clause-keeps c = kept_client
-
-pub returns-clause-entered : goal.returns-clause-entered
-returns-clause-entered c = unfinished_entered

@@ -1,5 +1,0 @@
-use Rattle.dsql_tx_end_laws.proofs.RunOut.{quiet_where_run_out}
-use Rattle.dsql_tx_end_laws.proofs.quiet.who_has_run_out_is_quiet.Goals as goal
-
-pub returns : goal.returns
-returns c = quiet_where_run_out

@@ -1,4 +1,0 @@
-pub mod AskedBack
-pub mod RepliesBack
-pub mod EventsBack
-pub mod LinesBack

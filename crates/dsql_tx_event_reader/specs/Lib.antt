@@ -1,5 +1,0 @@
-pub mod Asked
-pub mod ReplyForms
-pub mod Fits
-pub mod Events
-pub mod Refusals

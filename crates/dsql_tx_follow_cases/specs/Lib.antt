@@ -1,5 +1,0 @@
-pub mod Words
-pub mod Edits
-pub mod Block
-pub mod Followed
-pub mod Strayed

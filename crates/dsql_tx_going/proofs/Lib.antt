@@ -1,9 +1,0 @@
-pub mod Groups
-pub mod Resting
-pub mod Sameness
-pub mod Standing
-pub mod Replying
-pub mod Leaves
-pub mod Asking
-pub mod SettledBut
-pub mod Carried

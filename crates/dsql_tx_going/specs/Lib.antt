@@ -1,4 +1,0 @@
-pub mod Permits
-pub mod Answers
-pub mod Reaching
-pub mod Stepping

@@ -1,4 +1,0 @@
-pub mod Welcome
-pub mod Letting
-pub mod Steps
-pub mod Lent

@@ -1,4 +1,0 @@
-pub mod Listening
-pub mod OfConnections
-pub mod NothingAgain
-pub mod OfCalls

@@ -1,4 +1,0 @@
-pub mod Splits
-pub mod OwedMade
-pub mod Leaving
-pub mod Asked

@@ -1,8 +1,0 @@
--- Events in which a call enters.
-use Rattle.std.specs.Prelude.{Bool, true, false}
-use Rattle.dsql_tx_history.specs.declared.event.Event.{Event}
-use Rattle.dsql_tx_history.specs.declared.event.Event.TheVariants.{Entered}
-
-abbrev pub is_entry : Event → Bool
-is_entry (Entered client n op) = true
-is_entry _ = false

@@ -1,3 +1,0 @@
-pub mod There
-pub mod Inside
-pub mod Lines

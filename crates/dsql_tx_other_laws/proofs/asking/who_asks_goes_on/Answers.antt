@@ -1,8 +1,0 @@
-use Rattle.dsql_tx_other_laws.proofs.Asked.{asked_goes_on, asked_used}
-use Rattle.dsql_tx_other_laws.proofs.asking.who_asks_goes_on.Goals as goal
-
-pub returns-clause-somewhere : goal.returns-clause-somewhere
-returns-clause-somewhere c = asked_goes_on
-
-pub returns-clause-used : goal.returns-clause-used
-returns-clause-used c = asked_used

@@ -1,9 +1,0 @@
-pub mod Words
-pub mod Followed
-pub mod FollowedSteps
-pub mod Edits
-pub mod Strayed
-pub mod StrayedEnds
-pub mod Times
-pub mod Tries
-pub mod Pings

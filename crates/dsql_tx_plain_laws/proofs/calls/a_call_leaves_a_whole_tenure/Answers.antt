@@ -1,5 +1,0 @@
-use Rattle.dsql_tx_plain_laws.proofs.CallTenures.{call_quiet, call_whole}
-use Rattle.dsql_tx_plain_laws.proofs.calls.a_call_leaves_a_whole_tenure.Goals as goal
-
-pub returns : goal.returns
-returns c = record { whole = call_whole; quiet = call_quiet }

@@ -1,5 +1,0 @@
-use Rattle.dsql_tx_plain_laws.proofs.CallTenures.{call_follows}
-use Rattle.dsql_tx_plain_laws.proofs.calls.what_a_call_sends_may_follow.Goals as goal
-
-pub returns : goal.returns
-returns c = call_follows

@@ -1,5 +1,0 @@
-use Rattle.dsql_tx_plain_laws.proofs.CallsLive.{call_cursors, call_handles}
-use Rattle.dsql_tx_plain_laws.proofs.calls.what_is_live_is_the_calls_own.Goals as goal
-
-pub returns : goal.returns
-returns c = record { cursor = call_cursors; handles = call_handles }

@@ -1,5 +1,0 @@
-use Rattle.dsql_tx_plain_laws.proofs.Examples.{after_commit, not_quiet, not_tested, not_whole}
-use Rattle.dsql_tx_plain_laws.proofs.worked.worked_connections.Goals as goal
-
-pub returns : goal.returns
-returns c = record { after_commit = after_commit; not_whole = not_whole; not_tested = not_tested; not_quiet = not_quiet }

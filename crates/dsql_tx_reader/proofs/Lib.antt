@@ -1,3 +1,0 @@
-pub mod MadeLabels
-pub mod ScriptTexts
-pub mod ScriptForms

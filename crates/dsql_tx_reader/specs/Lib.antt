@@ -1,3 +1,0 @@
-pub mod ScriptLabels
-pub mod ScriptHead
-pub mod ScriptLines

@@ -1,2 +1,0 @@
-pub mod LineOps
-pub mod LineReplies

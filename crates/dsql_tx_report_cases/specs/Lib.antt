@@ -1,2 +1,0 @@
-pub mod OneBlock
-pub mod WorkedLines

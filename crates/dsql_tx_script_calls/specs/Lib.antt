@@ -1,2 +1,0 @@
-pub mod ScriptBegins
-pub mod ScriptCalls

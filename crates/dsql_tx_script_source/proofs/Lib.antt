@@ -1,6 +1,0 @@
-pub mod Saying
-pub mod Body
-pub mod Reading
-pub mod WholeLines
-pub mod Coming
-pub mod Heading

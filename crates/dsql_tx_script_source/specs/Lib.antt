@@ -1,4 +1,0 @@
-pub mod Script
-pub mod Plays
-pub mod Position
-pub mod Reading

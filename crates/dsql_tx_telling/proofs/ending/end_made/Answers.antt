@@ -1,8 +1,0 @@
-use Rattle.std.proofs.Common.{sym, ◌∙◌}
-use Rattle.dsql_rows.specs.declared.end.RowsEnd.TheVariants.{TxEnded}
-use Rattle.dsql_rows.specs.OpenRows.{ended_by}
-use Rattle.dsql_tx_telling.proofs.EndedRows.{unmade}
-use Rattle.dsql_tx_telling.proofs.ending.end_made.Goals as goal
-
-pub returns-else-was_made-clause-rows : goal.returns-else-was_made-clause-rows
-returns-else-was_made-clause-rows c = unmade (ended_by TxEnded) c.args.query c.args.rows.now.rows (sym c.was_made.ensures ∙ c.if-was_made.false)

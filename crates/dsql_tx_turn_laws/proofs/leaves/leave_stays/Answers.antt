@@ -1,5 +1,0 @@
-use Rattle.dsql_tx_turn_laws.proofs.Leave.{leave_kept}
-use Rattle.dsql_tx_turn_laws.proofs.leaves.leave_stays.Goals as goal
-
-pub returns : goal.returns
-returns c = leave_kept

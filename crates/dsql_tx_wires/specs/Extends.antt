@@ -1,8 +1,0 @@
--- How one history goes on from another.
-use Rattle.std.specs.Prelude.{◌≡◌, ◌++◌, List}
-use Rattle.dsql_tx_history.specs.declared.event.Event.{Event}
-
--- one history goes on from another; the newest event comes first
-pub record Extends (old new : List Event) : Type 0 where
-  pub added : List Event
-  pub whole : new ≡ added ++ old

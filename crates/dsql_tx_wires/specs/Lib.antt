@@ -1,5 +1,0 @@
-pub mod Plans
-pub mod WiresFit
-pub mod Asked
-pub mod Told
-pub mod Extends

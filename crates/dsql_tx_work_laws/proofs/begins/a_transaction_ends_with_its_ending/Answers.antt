@@ -1,5 +1,0 @@
-use Rattle.dsql_tx_work_laws.proofs.BeginKeeps.{has_ended}
-use Rattle.dsql_tx_work_laws.proofs.begins.a_transaction_ends_with_its_ending.Goals as goal
-
-pub returns : goal.returns
-returns c = has_ended

@@ -1,5 +1,0 @@
-use Rattle.dsql_tx_work_laws.proofs.EndTests.{test_follows}
-use Rattle.dsql_tx_work_laws.proofs.begins.the_test_after_the_end_may_follow.Goals as goal
-
-pub returns : goal.returns
-returns c = test_follows

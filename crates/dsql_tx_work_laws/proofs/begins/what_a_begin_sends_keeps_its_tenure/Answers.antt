@@ -1,5 +1,0 @@
-use Rattle.dsql_tx_work_laws.proofs.BeginKeeps.{begin_begins, begin_keeps, whole_line}
-use Rattle.dsql_tx_work_laws.proofs.begins.what_a_begin_sends_keeps_its_tenure.Goals as goal
-
-pub returns : goal.returns
-returns c = record { sent = begin_keeps; begun = begin_begins; line = whole_line }

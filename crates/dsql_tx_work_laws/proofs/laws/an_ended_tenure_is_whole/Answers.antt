@@ -1,5 +1,0 @@
-use Rattle.dsql_tx_work_laws.proofs.WholeTenures.{whole_when_closed, whole_when_bad}
-use Rattle.dsql_tx_work_laws.proofs.laws.an_ended_tenure_is_whole.Goals as goal
-
-pub returns : goal.returns
-returns c = record { closed = whole_when_closed; bad = whole_when_bad }

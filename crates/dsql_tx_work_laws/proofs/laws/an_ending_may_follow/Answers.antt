@@ -1,5 +1,0 @@
-use Rattle.dsql_tx_work_laws.proofs.Inside.{ending_follows, ending_follows-bad}
-use Rattle.dsql_tx_work_laws.proofs.laws.an_ending_may_follow.Goals as goal
-
-pub returns : goal.returns
-returns c = record { closed = ending_follows; bad = ending_follows-bad }

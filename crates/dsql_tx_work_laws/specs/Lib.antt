@@ -1,6 +1,0 @@
-pub mod Tenures
-pub mod Orderly
-pub mod Sent
-pub mod Begins
-pub mod Worked
-pub mod WorkedBegins

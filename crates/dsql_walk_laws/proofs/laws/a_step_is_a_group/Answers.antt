@@ -1,5 +1,0 @@
-use Rattle.dsql_walk_laws.proofs.Later.{step_is_group}
-use Rattle.dsql_walk_laws.proofs.laws.a_step_is_a_group.Goals as goal
-
-pub returns : goal.returns
-returns c = step_is_group

@@ -1,7 +1,0 @@
-use Rattle.std.proofs.Common.{refl}
-use Rattle.std.specs.Fmt.{digits}
-use Rattle.dsql_words.proofs.worked.worked_words.Goals as goal
-
-pub returns : goal.returns
-unfolding digits
-returns c = record { play = refl; summary = refl; lines = refl; none = refl; dashes = refl; twice = refl; no_lines = refl; zero_in_front = refl; too_many = refl; help = refl }

@@ -1,9 +1,0 @@
--- A connection's journal, newest first.
-use Rattle.std.specs.Prelude.{Bool, false, List, [], ◌∷◌}
-use Rattle.dsql_driver.specs.Fits.{is_invalid}
-use Rattle.dsql_journal.specs.declared.entry.Entry.{Entry}
-
--- its last entry is a test that failed
-abbrev pub ends_invalid : List Entry → Bool
-ends_invalid [] = false
-ends_invalid (e ∷ before) = is_invalid e.answer
