@@ -21,8 +21,7 @@ abbrev pub is_free : List Event → Bool
 is_free [] = true
 is_free (e ∷ later) = is_from_outside e
 
--- Is true if the history is lawful and calm up to the kth event, and this test is false at the free moment
--- right after it.
+-- Is true if the history is lawful and calm up to the kth event. This test is false at the free moment right after it.
 abbrev pub is_unsettled_after : ℕ → (List Event → Bool) → List Event → Bool
 is_unsettled_after k holds history =
     is_lawful (reverse (take k history)) && is_calm (reverse (take k history)) && is_free (drop k history)

@@ -158,8 +158,8 @@ abbrev pub house : ℕ → ℕ → DriverCall → DriverAnswer → Event
 house c t call answer =
     Heard (record { conn = c; tenure = t; owner = House; call_no = 0; tx = 0; call = call; answer = answer })
 
--- Returns the answer to call m, or to the layer if m is 0, in tenure t of connection c, which is lent to
--- transaction k.
+-- Returns the answer to call m in tenure t of connection c, which is lent to transaction k. If m is 0, the call is the
+-- layer's own.
 abbrev pub within : ℕ → ℕ → ℕ → ℕ → DriverCall → DriverAnswer → Event
 within c t k m call answer =
     Heard (record { conn = c; tenure = t; owner = owners.Tx k; call_no = m; tx = k; call = call; answer = answer })

@@ -13,9 +13,9 @@ use Rattle.dsql_follows.specs.declared.line.Line.TheVariants.{Skip, Step}
 use Rattle.dsql_follows.specs.Follows.{Played}
 use Rattle.dsql_cases_runs.specs.Words.{limits, calls_begin, calls_exec, calls_exec_in, starts_exec_in, calls_query_in, starts_next, calls_commit, starts_commit, calls_rollback, sets_open, connects, shuts, begun, committed, rolled_back, tests, is_done, is_told, begins_first, part, played}
 
--- Client 1 executes a text in four steps, and client 2 commits meanwhile. Client 2's steps do nothing until
--- client 1's call has its reply, because that call has the turn from its first driver call to its last. Then
--- one step sends the `Commit`, which doesn't show, and the next step hears the answer.
+-- Client 1 executes a text in four steps, and client 2 commits meanwhile. Client 2's steps do nothing until client 1's
+-- call has its reply. That call has the turn from its first driver call to its last. Then one step sends the `Commit`,
+-- which doesn't show, and the next step hears the answer.
 abbrev pub commit_waits_for_the_turn : Played
 commit_waits_for_the_turn =
     played
@@ -43,8 +43,8 @@ commit_waits_for_the_turn =
     ∷ gone 1
     ∷ [])
 
--- A call that waits for the turn replies at its next step that its transaction has ended, while another call's
--- driver call is still under way. That driver call goes on to its end.
+-- A call waits for the turn, and its transaction ends. At its next step it replies so, while another call's driver call
+-- is still under way. That driver call goes on to its end.
 abbrev pub told_beside_a_call : Played
 told_beside_a_call =
     played

@@ -94,8 +94,8 @@ pub fn worked_one_lines()
     ensures token { read_of unread (codes "c1 one db i64 @k [\"GET a\"]") ≡ Err UnknownLabel }
 {}
 
-/// States what is read of lines that make or name a label, if an earlier line made the label `r`, and of some
-/// if none did.
+/// States what is read of lines that make or name a label, if an earlier line made the label `r`. For some lines,
+/// states it if none did.
 pub fn worked_label_lines()
     ensures query { read_of (progress_past ((codes "r", Rows) ∷ [])) (codes "c1 query s db [\"GET a\",1]")
         ≡ Ok (Client 1 (op.Query (codes "s") Db (codes "GET a") (plain (arg.I64 (pos 1)) ∷ [])) false) }

@@ -72,8 +72,8 @@ pub fn worked_begin_lines()
         ≡ Err NoSuchWord }
 {}
 
-/// States what is read of lines that name a transaction, if an earlier line began `x` and a query made `r`, and
-/// of some if none did.
+/// States what is read of lines that name a transaction, if an earlier line began `x` and a query made `r`. For some
+/// lines, states it if none did.
 pub fn worked_transaction_lines()
     ensures exec { read_of (progress_past ((codes "x", Transaction) ∷ [])) (codes "c1 exec x [\"SET ? ?\",\"a\",1]")
         ≡ Ok (Client 1 (op.Exec (Label (codes "x")) (codes "SET ? ?")

@@ -79,9 +79,8 @@ pub record RowsAreClosed : Type 0 where
   pub last : (can : Caps) (args handle : ℕ) (answer : Got) (earlier : List Exchange)
       → closing_next can args ((call.CloseStmt handle, answer) ∷ earlier) ≡ call.Over
 
--- Holds if rows that a statement's run handed out, and rows on a connection that is known to be bad, are
--- fetched from as others are. A statement's handle isn't closed with its rows, and on such a connection nothing
--- is closed.
+-- Holds if two kinds of rows are fetched from as others are. They are a statement's rows, and rows on a connection that
+-- is known to be bad. A statement's handle isn't closed with its rows, and on such a connection nothing is closed.
 pub record RowsOfAnyCourse : Type 0 where
   pub left : (c : Course) (bad : Bool) (can : Caps) (args rows : ℕ) (made : List Exchange)
       → rows_are_over made ≡ false → rows_next_of c bad wish.Nothing can args made rows ≡ None

@@ -5,8 +5,8 @@ use Rattle.dsql_course.specs.declared.course.Course.TheVariants as course
 use Rattle.dsql_course.specs.declared.call.Due.{Due}
 use Rattle.dsql_course.specs.declared.call.Due.TheVariants as call
 
--- A step: run the text, prepare the text, run a handle, fetch a row, close its cursor, close the handle, ping
--- the connection, begin a transaction, or roll it back.
+-- A step of a call. It runs or prepares the text, runs or closes the handle, fetches a row, or closes its cursor. Or it
+-- pings the connection, begins a transaction, or rolls it back.
 pub data Step : Type 0 where
   RunText : Step
   PrepareText : Step

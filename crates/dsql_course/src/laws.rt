@@ -9,8 +9,8 @@ pub fn a_line_takes_each_step_once()
     ensures { StepsOnce }
 {}
 
-/// States that a line that is over on a good connection has closed each cursor from which it reads one row, and
-/// each handle that is for its call alone.
+/// States what a line that is over on a good connection has closed. It closed each cursor from which it reads one row,
+/// and each handle for its call alone.
 #[tactic(auto, using(crate::proofs::Closed::closes_what_it_opened))]
 pub fn what_was_opened_is_closed()
     ensures { ClosesWhatItOpened }

@@ -34,10 +34,10 @@ pub enum Level {
     Linearizable,
 }
 
-/// One call to a driver on one connection. Each is a method of Go's driver interfaces: `Connector`'s Connect,
-/// `SessionResetter`'s ResetSession, `Validator`'s IsValid, `Pinger`'s Ping, `ConnPrepareContext`, `Stmt`'s
-/// Close, the two `ExecerContext` and `StmtExecContext`, the two `QueryerContext` and `StmtQueryContext`,
-/// `Rows`' Next and Close, `ConnBeginTx`, `Tx`'s Commit and Rollback, and `Conn`'s Close.
+/// One call to a driver on one connection. Each is a method of Go's driver interfaces. Of a connection: `Connector`'s
+/// Connect, `SessionResetter`'s ResetSession, `Validator`'s IsValid, `Pinger`'s Ping, and `Conn`'s Close. Of statements
+/// and rows: `ConnPrepareContext`, `ExecerContext`, `QueryerContext`, `StmtExecContext`, `StmtQueryContext`, `Stmt`'s
+/// Close, and `Rows`' Next and Close. Of transactions: `ConnBeginTx`, and `Tx`'s Commit and Rollback.
 #[derive(Drop)]
 pub enum DriverCall {
     Connect,

@@ -1,5 +1,5 @@
-//! What the layer asks of the outside: a database's driver, the stream that a script comes from, the stream
-//! that a report goes to, the clock and the gate. After Go's package `database/sql/driver`.
+//! What the layer asks of the outside: a database's driver, the streams of a script and of a report, the clock and the
+//! gate. After Go's package `database/sql/driver`.
 //!
 //! A fleet opens a connection, the connection answers two driver calls, and the fleet takes it back:
 //!

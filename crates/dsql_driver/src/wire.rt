@@ -34,9 +34,8 @@ pub struct Answered {
 
 /// One open connection to a database: Go's `driver.Conn` with its statements, rows and transactions.
 pub trait Wire {
-    /// What the wire reports, if it reports at all: its number, the calls that it heard with their answers, and
-    /// the faults that were planned on it. Each planned fault stands with the number of calls that the wire had
-    /// heard by then.
+    /// What the wire reports, if it reports at all: its number, its calls with their answers, and the faults that were
+    /// planned on it. Each planned fault stands with the number of calls that the wire had heard by then.
     ghost told: { Self → Option WireTold };
     /// How often the wire answered Bad, Fail or Invalid.
     ghost faults: { Self → ℕ };
@@ -67,8 +66,7 @@ pub trait Wire {
         ensures faultless { faults self.new ≡ faults self.old };
 }
 
-/// A maker of connections to one database, as Go's `driver.Connector`. It also takes a wire back after that was
-/// shut.
+/// A maker of connections to one database, as Go's `driver.Connector`. It also takes a wire back after its last call.
 pub trait Fleet {
     type Wire: Wire + Send;
 
@@ -76,9 +74,8 @@ pub trait Fleet {
     ghost ability: { Self → Caps };
     /// The capabilities that were asked for last, if any were, and how often capabilities were asked for.
     ghost preferred: { Self → Preferred };
-    /// What the fleet reports, if it reports at all: the Connects that it was asked for, the faults that were
-    /// planned, and the wires that it was given back. Each planned fault stands with the number of Connects
-    /// that the fleet had reported by then.
+    /// What the fleet reports, if it reports at all: the Connects asked of it, the planned faults, and the wires that
+    /// it was given back. Each planned fault stands with the number of Connects that the fleet had reported by then.
     ghost told: { Self → Option FleetTold };
     /// How often the fleet refused a Connect as Bad or Fail.
     ghost faults: { Self → ℕ };
@@ -117,7 +114,7 @@ pub trait Fleet {
         ensures caused { IfErr result (λ r. is_fault_of r ≡ true → HasRisen (faults self.old) (faults self.new)) }
         ensures faultless { is_fault (answer_of result) ≡ false → faults self.new ≡ faults self.old };
 
-    /// Takes back a wire that was shut. The room for it was reserved when it was connected.
+    /// Takes back a wire after its last call. The room for it was reserved when it was connected.
     fn retire(&mut self, number: u32, wire: Self::Wire)
         ensures told { told self.new ≡ retired_after number (Self.Wire.told wire) (told self.old) }
         ensures ability { ability self.new ≡ ability self.old }

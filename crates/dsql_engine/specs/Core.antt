@@ -12,8 +12,8 @@ use Rattle.dsql_engine_hearing.specs.going.Answers.{why_blocked}
 use Rattle.dsql_engine_hearing.specs.going.Stepping.{events_of_a_step}
 use Rattle.dsql_engine_hearing.specs.laws_steps.Groups.{most_events}
 
--- A run's history, newest event first; the number of its oldest events that were trimmed; the flights of
--- clients' calls, oldest first; and the connection of the layer's own driver call under way, if one is.
+-- A run's history, newest event first, and the number of its oldest events that were trimmed. Then the flights of
+-- clients' calls, oldest first, and the connection of the layer's own driver call, if one is under way.
 pub record Core : Type 0 where
   pub past : List Event
   pub trimmed : ℕ

@@ -1,5 +1,5 @@
-//! The layer's core. It takes one step at a time: a call enters, a call goes on, an answer is taken in, a limit
-//! or the moment is set, or the run ends. The history is legal after each step.
+//! The layer's core. It takes one step at a time. A call enters or goes on, an answer is taken in, a limit or the
+//! moment is set, or the run ends. The history is legal after each step.
 //!
 //! Client 1 makes a call, and the layer begins to open a connection for it:
 //!

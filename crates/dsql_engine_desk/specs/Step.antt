@@ -12,8 +12,8 @@ abbrev pub step_after_move : Move → ℕ → ℕ
 step_after_move (Lend c tenure owner n) step = n
 step_after_move move step = step
 
--- Returns the call that last entered, had its answer heard, or asked and was lent a connection, if only moves
--- came since; 0 for none and for the layer.
+-- Returns the call that last entered, had its answer heard, or asked and was lent a connection, if only moves came
+-- since. Returns 0 for none and for the layer.
 abbrev pub own_step : List Event → ℕ
 own_step [] = 0
 own_step (Entered client n op ∷ before) = n

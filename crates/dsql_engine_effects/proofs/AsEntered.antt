@@ -1,5 +1,5 @@
--- The end of a transaction does to the rows and the transactions what the history says, and the end of the run
--- does so to the rows. The argument is that only rows of queries after the begin are in the transaction.
+-- The end of a transaction does to the rows and the transactions what the history says. The end of the run does so to
+-- the rows. The argument is that only rows of queries after the begin are in the transaction.
 use Rattle.std.proofs.Common.{◌≡◌, ℕ, zero, suc, ◌<◌, ◌≤◌, ◌⊎◌, inl, inr, Bool, true, false, ◌&&◌, List, [], ◌∷◌, ◌++◌, length, Option, Some, None, refl, sym, ap, ◌∙◌, arith, le-leb, lt-ltb, eqb-true}
 use Rattle.std.specs.Prelude.{nat_le, nat_lt, position, slice_index_or}
 use Rattle.std.proofs.lemmas.List.Quantifiers.{position-Some}

@@ -1,5 +1,5 @@
--- What becomes of the text and the arguments of a call that enters, what its transaction decides for it, and
--- what is kept of a call that runs no text.
+-- What becomes of the text and the arguments of a call that enters. What its transaction decides for it, and what is
+-- kept of a call that runs no text.
 use Rattle.std.specs.Prelude.{◌≡◌, ℕ, Bool, true, List, [], string_bytes, Option, Some, None, option_map}
 use Rattle.dsql_history.specs.value.declared.arg.Named.{Named}
 use Rattle.dsql_history.specs.value.Arguments.{first_fault}
@@ -53,8 +53,8 @@ abbrev pub IsBegun : Option ℕ → Numbered Tx → Type 0
 IsBegun None txs = Unit {0}
 IsBegun (Some k) txs = was_made k txs ≡ true
 
--- Returns the reply that a call on this transaction of the label gets at once, given these transactions: that
--- there is none, or that it has ended.
+-- Returns the reply that a call on the label's transaction gets at once, given these transactions: there is none, or it
+-- has ended.
 abbrev pub told_on : List ℕ → Option ℕ → Numbered Tx → Option Reply
 told_on label None txs = Some (Absent label)
 told_on label (Some k) txs = done_with (end_of (thing_of k txs))

@@ -52,8 +52,8 @@ abbrev pub closed_by : Option ℕ → ℕ → Made → List CallRow → List Cal
 closed_by None n rows calls = calls
 closed_by (Some k) n rows calls = ended_for (live (rows_of k rows)) k n calls
 
--- Returns what a call that is to end the transaction of this label in this way ends as it enters: the
--- transaction that has the label, if its begin has replied.
+-- Returns what a call ends as it enters to end a transaction in this way. That is the transaction that has the label,
+-- if its begin has replied.
 abbrev pub ending_of : List Event → List ℕ → TxEnd → Option Ending
 ending_of past tx by =
     cond (is_unfinished past (tx_maker (works past) tx)) None (Some (record { tx = tx_maker (works past) tx; by = by }))

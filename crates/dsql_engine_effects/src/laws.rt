@@ -21,9 +21,9 @@ ghost use Rattle.dsql_engine_effects.specs.Once.{AreMadeOnce};
 ghost use Rattle.dsql_engine_effects.specs.Starts.{ending_of};
 ghost use Rattle.dsql_history.specs.works.HandedOut.{Made};
 
-/// For the transaction of a label, `end_tx` does to the rows and to the transactions what a commit or a
-/// rollback of that transaction does to them as it enters. `end_run` does to the rows what the run's end does
-/// to them. For rows this needs that each query made its rows once, and that the calls can be counted.
+/// For the transaction of a label, `end_tx` changes the rows and the transactions as a commit or a rollback of it does
+/// as it enters. `end_run` does to the rows what the run's end does to them. For rows this needs that each query made
+/// its rows once, and that the calls can be counted.
 pub fn ends_are_as_histories_tell()
     ensures rows { (history : List Event) (label : List ℕ) (end : TxEnd) (rows : Made) → length (works history)
         ≤ most_counted

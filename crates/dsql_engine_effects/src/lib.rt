@@ -1,5 +1,5 @@
-//! What a call decides as it enters and what each answer in a history decides for its call, and how both change
-//! the calls, the rows, the transactions and the labels.
+//! What a call decides as it enters, and what each answer in a history decides for its call. How both change the calls,
+//! the rows, the transactions and the labels.
 #![tactic(auto)]
 
 mod deciding;

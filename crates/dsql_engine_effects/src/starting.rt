@@ -160,8 +160,7 @@ fn options_refused(begin_options: bool, level: Level, read_only: bool) -> Option
     }
 }
 
-/// Returns the reply that a call on the transaction of a label gets at once, if any: that there is none, or
-/// that it has ended.
+/// Returns the reply that a call on the label's transaction gets at once, if any: there is none, or it has ended.
 pub fn told_on(txs: &Txs, tx: Option<u32>, label: &Txt) -> Result<Option<Reply>, NoRoom>
     requires { IsBegun tx txs.now.txs }
     ensures told { IfOk result (λ reply. reply ≡ told_on label.now tx txs.now.txs) }

@@ -9,7 +9,7 @@ use crate::bare::BareCall;
 use crate::exchanged::Exchanged;
 use dsql_history::{Aim, Caps, Course, Due, Progress, Wish};
 
-/// What decides the driver calls of a call in a transaction: what the driver can do, what is wanted from rows
+/// What decides the driver calls of a call in a transaction. That is what the driver can do, what is wanted from rows
 /// that were handed out, and whether the connection is known to be bad.
 #[derive(Clone, Copy)]
 pub struct Inside {

@@ -16,13 +16,13 @@ use Rattle.dsql_engine_going.specs.Reaching.{HasGoneOn}
 abbrev pub are_of_unfinished : List Event → List Flight → Bool
 are_of_unfinished past flights = list_all (λ flight. is_unfinished past flight.call) flights
 
--- Returns the most events of a call that goes on by itself: it asks if it has to, gives back the connection
--- with which it rests, and replies.
+-- Returns the most events of a call that goes on by itself. It asks if it has to, gives back its connection, and
+-- replies.
 abbrev pub most_going_on : ℕ
 most_going_on = 1 + (most_given_back + 1)
 
--- Returns the most events of a step: its first event, the moves that it makes due, those of a connection that
--- is given back, and what a call that goes on adds.
+-- Returns the most events of a step. These are its first event, the moves it makes due, those after a connection is
+-- given back, and those of a call that goes on.
 abbrev pub events_of_a_step : ℕ
 events_of_a_step = most_moves + (1 + most_given_back + most_going_on)
 

@@ -34,8 +34,8 @@ abbrev pub is_apart : List Flight → Bool
 is_apart [] = true
 is_apart (flight ∷ later) = not (is_in_flight flight.call later || has_flight flight.conn later) && is_apart later
 
--- Holds if these may be the flights. Each is of a call that has no reply yet, no two are on one connection or
--- of one call, and the call that sent last keeps its turn.
+-- Holds if these may be the flights. Each is of a call that has no reply yet. No two are on one connection or of one
+-- call. The call that sent last keeps its turn.
 pub record Flying (past : List Event) (flights : List Flight) : Type 0 where
   pub known : are_of_unfinished past flights ≡ true
   pub apart : is_apart flights ≡ true

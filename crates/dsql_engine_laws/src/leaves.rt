@@ -17,8 +17,8 @@ ghost use Rattle.dsql_engine_hearing.specs.Hearing.{IsWelcome};
 ghost use Rattle.dsql_engine_hearing.specs.laws_steps.Groups.{is_later_of};
 ghost use Rattle.dsql_engine_laws.specs.Leaves.{IsLeave};
 
-/// Leave for a driver call stays through each step of another call, unless an answer on its connection is heard
-/// or its call has its reply.
+/// Leave for a driver call stays through each step of another call, unless the driver answers on its connection or its
+/// call has its reply.
 pub fn leave_stays()
     ensures { (past events more : List Event) (first : Event) (n : ℕ) (permit : Permit) → Lawful (events ++ past)
         → IsLeave past permit → events ≡ more ++ first ∷ [] → list_all (is_later_of n) more ≡ true

@@ -1,5 +1,5 @@
--- A call that works in a transaction sends all its driver calls on one connection: the one that is lent to the
--- transaction, after that was begun.
+-- A call that works in a transaction sends all its driver calls on one connection. It is the one that is lent to the
+-- transaction after its begin.
 use Rattle.std.proofs.Common.{◌≡◌, ◌≢◌, ℕ, ◌<◌, ◌==◌, ◌⊎◌, inl, inr, Bool, true, false, ◌||◌, cond, List, [], ◌∷◌, length, Some, is_some, refl, sym, ap, subst, ◌∙◌, arith}
 use Rattle.dsql_laws_calls.specs.journal.declared.entry.Entry.{Entry}
 use Rattle.dsql_laws_calls.specs.journal.declared.entry.Owner.{Owner}

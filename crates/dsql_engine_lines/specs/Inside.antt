@@ -25,8 +25,7 @@ line_at lines n = slice_index_or lines n nothing_heard
 abbrev pub is_open : HeardLine → Bool
 is_open it = is_some it.cursor || is_some it.handle
 
--- Returns the calls that listen to an answer to call n: those of the list, which have a cursor or a handle
--- open, and call n.
+-- Returns the calls that listen to an answer to call n: those of the list with an open cursor or handle, and call n.
 abbrev pub listeners : ℕ → List ℕ → List ℕ
 listeners n calls = cond (list_any (λ m. m == n) calls) calls (calls ++ n ∷ [])
 

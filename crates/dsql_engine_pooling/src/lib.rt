@@ -1,5 +1,5 @@
-//! The driver calls that are under way for clients' calls, the log of a run's events, and uses of the pool with
-//! the memory already taken.
+//! The driver calls under way for clients' calls, the log of a run's events, and uses of the pool with the memory
+//! already taken.
 #![tactic(auto)]
 
 pub mod asking;

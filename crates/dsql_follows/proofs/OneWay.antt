@@ -56,8 +56,8 @@ later_here [] p b ys = refl
 later_here (x ∷ []) p b ys = refl
 later_here (x ∷ z ∷ zs) p b ys = ap (λ l. x ∷ l) (later_here (z ∷ zs) p b ys)
 
--- Holds if the sentence stops before a step: if it is true of some events, and true with more events, the first
--- of these begins no step.
+-- Holds if the sentence stops before a step. If it is true of some events, and true with more, the first of these
+-- begins no step.
 Stops : (List Passed → Bool) → Type 0
 Stops f = (xs : List Passed) (p : Passed) (ys : List Passed) → f (xs ++ p ∷ ys) ≡ true → f ys ≡ true → p.begins ≡ false
 

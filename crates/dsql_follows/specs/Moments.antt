@@ -44,7 +44,7 @@ at_end m = record m { released = true }
 
 -- Steps.
 
--- Returns the call whose step it is as a connection in this place leaves its call: that call if it rested,
+-- Returns the call whose step it is as a connection in this place leaves its call. It is that call if it rested,
 -- otherwise the call whose step was under way.
 abbrev pub leaver : List Event → ℕ → Option Place → ℕ
 leaver past m (Some (Lent tenure owner)) = cond (rests past (number_of owner)) (number_of owner) m
@@ -70,8 +70,8 @@ stepping m (Replied n reply) = n
 stepping m (Pool move) = cond (is_empty (owed m.past)) (mover m.past m.stepper move) m.stepper
 stepping m _ = 0
 
--- Is true if a step begins with this event: the run begins, the event comes from outside, or a call goes on
--- whose step wasn't under way. The moment right before it is a free one.
+-- Is true if a step begins with this event. The run begins, the event comes from outside, or a call goes on whose step
+-- wasn't under way. The moment right before it is a free one.
 abbrev pub begins_step : Moment → Event → Bool
 begins_step m e = is_run e || (is_from_outside e || not (stepping m e == m.stepper))
 

@@ -51,8 +51,8 @@ begins_with_step m [] = true
 begins_with_step m (e ∷ []) = begins_step m e
 begins_with_step m (e ∷ earlier) = begins_with_step m earlier
 
--- Is true if, at this free moment, the call that stepped last has gone as far as it can: it has its reply, its
--- permit is in flight, or it is blocked.
+-- Is true if, at this free moment, the call that stepped last can go no further. It has its reply, its permit is in
+-- flight, or it is blocked.
 abbrev pub is_whole : Moment → Bool
 is_whole m = is_in_flight m.stepper m.flights || not (can_move m m.stepper)
 

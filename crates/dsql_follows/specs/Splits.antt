@@ -1,6 +1,6 @@
--- Defines how to find the parts from a script and a history alone. The events before a line settle its part:
--- the part of a single step is one step or none, and a line that runs on does so exactly until nobody has the
--- turn. So the events are dealt out to the lines, oldest first.
+-- Defines how to find the parts from a script and a history alone. The events before a line settle its part. The part
+-- of a single step is one step or none. A line that runs on does so exactly until nobody has the turn. So the events
+-- are dealt out to the lines, oldest first.
 use Rattle.std.specs.Prelude.{Bool, true, false, Option, Some, ℕ, not, ◌&&◌, ◌||◌, cond, List, [], ◌∷◌, reverse, is_some}
 use Rattle.dsql_history.specs.declared.record.Stand.{Stand}
 use Rattle.dsql_history.specs.declared.record.Stand.TheVariants.{Sends}
@@ -24,7 +24,7 @@ is_sending _ = false
 abbrev pub shows : Moment → ℕ → Bool
 shows m n = is_in_flight n m.flights || (can_move m n && not (is_sending (stand m.past n)))
 
--- Is true if the line's part begins with a step that is settled before it: the line's own step, or the single
+-- Is true if the line's part begins with a step that is settled before it. That is the line's own step, or the single
 -- step that it asks for.
 abbrev pub begins_at_once : Moment → Line → Bool
 begins_at_once m (Start client op) = enters_now m client
@@ -38,8 +38,8 @@ pub record Taken : Type 0 where
   pub part : List Event
   pub left : List Event
 
--- Is true if the part takes no more events: a step would begin with this event, no step has to come at once,
--- and the line doesn't run on or has run out.
+-- Is true if the part takes no more events. A step would begin with this event, and no step has to come at once. The
+-- line doesn't run on, or has run out.
 abbrev pub is_full : Bool → Bool → Moment → Event → Bool
 is_full runs at_once m e = begins_step m e && (not at_once && (not runs || has_run_out (at_rest m)))
 

@@ -72,9 +72,9 @@ is_chore m e = (e.call_no == 0) && is_it (first_chore m) e.conn
 abbrev pub goes_in_turn : Moment → ℕ → Bool
 goes_in_turn m n = is_turn_of m (client_of m.past n) && not (is_in_flight n m.flights)
 
--- Is true if a step that begins with this event comes in its turn. The first chore comes first. If there is
--- none, the smallest client that may go on makes a step: an answer to its call is heard, it enters its first
--- kept line, or its call goes on by itself. The run ends after nobody has the turn.
+-- Is true if a step that begins with this event comes in its turn. The first chore comes first. If there is none, the
+-- smallest client that may go on makes a step. It hears an answer to its call, enters its first kept line, or lets its
+-- call go on. The run ends after nobody has the turn.
 abbrev pub comes_in_turn : Moment → Event → Bool
 comes_in_turn m (Heard e) =
     cond (e.call_no == 0) (is_chore m e) (is_turn_of m (client_of m.past e.call_no) && is_unfinished m.past e.call_no)

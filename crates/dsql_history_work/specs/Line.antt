@@ -1,6 +1,5 @@
--- Defines the driver calls on a connection that is lent to a call: a Reset if it is due, those of the call's
--- course, and those over the rows that it handed out. A Valid comes last, if the driver can test and the
--- connection isn't known to be bad.
+-- Defines the driver calls on a connection that is lent to a call. They are a Reset if it is due, those of the call's
+-- course, and those over its rows. A Valid comes last, if the driver can test and the connection isn't known to be bad.
 use Rattle.std.specs.Prelude.{ℕ, ◌==◌, Bool, true, false, ◌&&◌, ◌||◌, cond, List, [], ◌∷◌, length, Option, Some, None, bytes_eq}
 use Rattle.dsql_value.specs.declared.value.Param.{Param}
 use Rattle.dsql_driver.specs.declared.caps.Caps.{Caps}

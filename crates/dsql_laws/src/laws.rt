@@ -79,8 +79,8 @@ pub fn what_is_given_back_is_allowed()
         ≡ made (given_back history conn) (pool history) }
 {}
 
-/// If nothing is owed, all is settled except for a call, and the call may ask, then what follows from its
-/// asking is allowed: a lending, an opening, or a wait.
+/// If nothing is owed, all is settled except for a call, and the call may ask, then what its asking leads to is
+/// allowed. That is a lending, an opening, or a wait.
 pub fn what_is_asked_for_is_allowed()
     ensures { (history : List Event) (n : ℕ) → Lawful history → owed history ≡ [] → may_ask history n ≡ true
         → is_settled_but n history ≡ true → Lawful (with_asked n (ask_outcome history n) history) }
@@ -91,9 +91,9 @@ pub fn journals_of_lawful_histories()
     ensures { (history : List Event) → Lawful history → KeepsJournals history }
 {}
 
-/// No unfinished call is call 0. A call has at most one thing in the pool: a request that waits, an opening, or
-/// a connection, which is its own or that of the transaction that it began. A call that wants a connection
-/// works on one of its own, and has nothing to send.
+/// No unfinished call is call 0. A call has at most one thing in the pool: a request that waits, an opening, or a
+/// connection. The connection is its own or that of the transaction that it began. A call that wants a connection works
+/// on one of its own, and has nothing to send.
 pub fn calls_of_lawful_histories()
     ensures numbered { (history : List Event) (n : ℕ) → Lawful history → is_unfinished history n ≡ true → n ≢ 0 }
     ensures one { (history : List Event) (n : ℕ) → Lawful history → n ≢ 0 → holdings n (pool history) ≤ 1 }
@@ -103,8 +103,7 @@ pub fn calls_of_lawful_histories()
         → wants n (pool history) ≡ false }
 {}
 
-/// If a call waits, or a connection is being opened for it, or a driver call of it is due, it stands there and
-/// nowhere else.
+/// A call stands in one place only if it waits, if a connection is being opened for it, or if its driver call is due.
 pub fn a_call_stands_in_one_place()
     ensures waits { (history : List Event) (n : ℕ) → waits n (pool history).waiting ≡ true
         → stand history n ≡ Some Waits }

@@ -10,10 +10,9 @@ ghost use Rattle.dsql_laws_calls.specs.history.Readers.Works.{work, asks, borrow
 ghost use Rattle.dsql_laws_calls.specs.history.Legal.{Lawful};
 ghost use Rattle.dsql_laws_callers.specs.Apart.{AreApart};
 
-/// Callers are kept apart. What a call sends in a tenure of a call or a transaction is sent on the connection
-/// that the call uses, and that is lent to that owner. A call on the database uses its own connection, and a
-/// call for rows uses that of their query. A call in a transaction, a commit and a rollback use that of the
-/// begin.
+/// Callers are kept apart. What a call sends in a tenure of a call or a transaction is sent on the connection that the
+/// call uses. That connection is lent to that owner. A call on the database uses its own connection, and a call for
+/// rows uses that of their query. A call in a transaction, a commit and a rollback use that of the begin.
 ///
 /// What is sent for a transaction is sent in a tenure of that transaction. Each driver call there that a call
 /// sent was sent by a call of that transaction.

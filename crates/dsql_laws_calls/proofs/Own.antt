@@ -1,5 +1,5 @@
--- A call that asks for a connection of its own has that connection as long as an answer to it is under way, and
--- wants no other.
+-- A call that asks for a connection of its own has that connection while an answer to it is under way. It wants no
+-- other.
 use Rattle.std.proofs.Common.{◌≡◌, ℕ, ◌==◌, ◌⊎◌, inl, inr, Bool, true, false, not, ◌&&◌, ◌||◌, cond, List, [], ◌∷◌, Option, Some, None, is_some, refl, sym, ap, subst, ◌∙◌, arith}
 use Rattle.dsql_laws.specs.driver.declared.call.DriverCall.{DriverCall}
 use Rattle.dsql_laws.specs.course.declared.course.Wish.TheVariants as wishes

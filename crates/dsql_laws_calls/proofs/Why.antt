@@ -56,8 +56,8 @@ pub record Closes (H : List Event) (c t : ℕ) (own : Owner) (k : ℕ) : Type 0 
   pub over : are_over H k ≡ true
   pub sends : is_some (line_there H c t own k wishes.Close) ≡ true
 
--- Holds if something is left of a transaction: its end wasn't heard, rows are still to be closed, or the test
--- is still to be sent.
+-- Holds if something is left of a transaction. Its end wasn't heard, rows are still to be closed, or the test is still
+-- to be sent.
 abbrev pub Left : List Event → ℕ → ℕ → Owner → Type 0
 Left H c t own = (ended_there (heard_in H c t) ≡ false) ⊎ (((k : ℕ) × Closes H c t own k) ⊎ (is_some (test_there H c t) ≡ true))
 

@@ -2,8 +2,8 @@
 use Rattle.std.specs.Prelude.{ℕ, ◌+◌}
 use Rattle.dsql_laws.specs.pool.Pooled.{most_open}
 
--- Returns the most moves that one event makes due: as many closings as connections may be idle, and as many
--- openings as connections may be open.
+-- Returns the most moves that one event makes due. That is a closing for each connection that may be idle, and an
+-- opening for each that may be open.
 abbrev pub most_moves : ℕ
 most_moves = most_open + most_open
 

@@ -10,8 +10,8 @@ ghost use Rattle.dsql_laws_calls.specs.history.Rules.Line.{due_for};
 ghost use Rattle.dsql_laws_calls.specs.history.Rules.Settled.{uses_what_is_lent};
 ghost use Rattle.dsql_laws_calls.specs.history.Legal.{Lawful};
 
-/// If every lent connection is in use, an unfinished call has a settled reply if it has nothing to send, wants
-/// no connection and may not ask for one. This holds whatever its work is.
+/// Let every lent connection be in use. An unfinished call has a settled reply if it has nothing to send, wants no
+/// connection and may not ask for one. This holds whatever its work is.
 pub fn who_has_nothing_to_do_replies()
     ensures { (history : List Event) (n : ℕ) → Lawful history → is_unfinished history n ≡ true
         → is_some (due_for history n) ≡ false → wants n (pool history) ≡ false → uses_what_is_lent history

@@ -1,5 +1,5 @@
--- After a run has ended and run out, no call is left, no connection is open, each journal is whole, and each
--- transaction was ended: any of these would leave a call that may move or a chore.
+-- After a run has ended and run out, no call is left and no connection is open. Each journal is whole, and each
+-- transaction was ended. If one of these failed, a call might move or a chore would be due.
 use Rattle.std.proofs.Common.{◌≡◌, ◌≢◌, ℕ, ◌==◌, ◌⊎◌, inl, inr, Bool, true, false, not, ◌&&◌, ◌||◌, cond, List, [], ◌∷◌, length, Option, Some, None, is_some, refl, sym, ap, ◌∙◌}
 use Rattle.std.specs.List.{list_all, list_any}
 use Rattle.std.specs.Option.{option_map}

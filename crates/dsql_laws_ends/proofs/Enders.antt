@@ -1,5 +1,5 @@
--- A call that ended rows of a query on the database works on those rows, and a call that ended a transaction
--- has the work of ending it: both are shown by induction on the history.
+-- A call that ended rows of a query on the database works on those rows. A call that ended a transaction has the work
+-- of ending it. Both are shown by induction on the history.
 use Rattle.std.proofs.Common.{◌≡◌, ◌≢◌, ℕ, ◌⊎◌, inl, inr, Bool, true, false, not, ◌&&◌, cond, List, [], ◌∷◌, Option, Some, None, is_some, refl, sym, ap, subst, ◌∙◌}
 use Rattle.std.specs.Option.{option_map}
 use Rattle.std.specs.Prelude.{map}
@@ -185,8 +185,8 @@ tx_ends_on : (H : List Event) (e : Event) (k : ℕ) → Lawful (e ∷ H) → goe
 tx_ends_on H (Entered client m op) k l was now some = new_work H client m op (enters_next H client m op l.1) ∙ entry_ends H client m op k was now
 tx_ends_on H e k l was now some = absurd (some refl)
 
--- The ender of a transaction after an event is the one that the event names if the transaction went on before,
--- and otherwise the one before.
+-- If a transaction went on before an event, its ender after it is the one that the event names. Otherwise it is the one
+-- before.
 pub tx_ender_now : (H : List Event) (e : Event) (k : ℕ) (b : Bool) → goes_on H k ≡ b → tx_ender (e ∷ H) k ≡ cond b (cond (goes_on (e ∷ H) k) 0 (ending_call e)) (tx_ender H k)
 tx_ender_now H e k b was = ap (λ (a : Bool). cond a (cond (goes_on (e ∷ H) k) 0 (ending_call e)) (tx_ender H k)) was
 

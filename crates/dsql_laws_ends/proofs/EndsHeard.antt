@@ -1,5 +1,5 @@
--- A transaction that was begun keeps its connection until the Commit or the Rollback that ends it is heard
--- there: the proof is by induction on the history.
+-- A begun transaction keeps its connection until the Commit or the Rollback that ends it is heard there. The proof is
+-- by induction on the history.
 use Rattle.std.proofs.Common.{◌≡◌, ℕ, ◌==◌, ◌⊎◌, inl, inr, Bool, true, false, not, ◌&&◌, ◌||◌, cond, List, [], ◌∷◌, Option, Some, None, is_some, refl, sym, ap, subst, ◌∙◌}
 use Rattle.std.specs.List.{list_any}
 use Rattle.dsql_laws_calls.specs.driver.declared.call.DriverCall.{DriverCall}

@@ -1,5 +1,5 @@
--- A call that rests with its connection has no reply. Among the calls that use the connection of an answer,
--- only the answered call may rest: a call that rests is a ping, and only the ping itself uses its connection.
+-- A call that rests with its connection has no reply. Among the calls that use the connection of an answer, only the
+-- answered call may rest. A call that rests is a ping, and only the ping itself uses its connection.
 use Rattle.std.proofs.Common.{◌≡◌, Bool, true, false, ◌||◌, refl, ℕ, inl, inr, not, ◌&&◌, cond, List, [], ◌∷◌, Option, Some, None, is_none, is_some, sym, ap, subst, ◌∙◌}
 use Rattle.std.specs.Prelude.{find}
 use Rattle.std.specs.List.{list_all}

@@ -1,5 +1,5 @@
--- If no call may move and there is no chore, each unfinished call waits: every other place where a call may
--- stand would let it move or make a chore due.
+-- If no call may move and there is no chore, each unfinished call waits. Every other place of a call would let it move
+-- or make a chore due.
 use Rattle.std.proofs.Common.{◌≡◌, ℕ, ◌==◌, Bool, true, false, not, ◌&&◌, ◌||◌, cond, List, [], ◌∷◌, Option, Some, None, is_some, is_none, refl, sym, ap, subst, ◌∙◌}
 use Rattle.std.specs.Prelude.{find}
 use Rattle.std.specs.List.{list_all}

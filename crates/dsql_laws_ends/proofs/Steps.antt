@@ -1,5 +1,5 @@
--- What a step leaves unchanged about the clients and their calls: the proof goes through the events of a step,
--- and then through a whole step.
+-- What a step leaves unchanged about the clients and their calls. The proof goes through the events of a step, and then
+-- through a whole step.
 use Rattle.std.proofs.Common.{◌≡◌, ◌≢◌, ℕ, ◌+◌, ◌==◌, ◌⊎◌, inl, inr, Bool, true, false, cond, List, [], ◌∷◌, ◌++◌, Option, Some, None, refl, sym, ap, subst, ◌∙◌, append_assoc, arith}
 use Rattle.std.specs.Prelude.{find}
 use Rattle.std.specs.Option.{option_or}

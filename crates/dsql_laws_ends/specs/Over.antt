@@ -41,9 +41,9 @@ abbrev pub was_ended : List Event → ℕ → Option Tx → Bool
 was_ended past m None = true
 was_ended past m (Some tx) = list_any (ends_so m tx.ended) (heard_in past tx.conn tx.tenure)
 
--- Holds if each call has its reply, no connection is open, and the journal of every connection that ever was is
--- whole. No transaction goes on. The Commit or the Rollback that ended each transaction was heard: the call
--- that ended it made it, or the layer made a Rollback if only the end of the run ended it.
+-- Holds if each call has its reply, no connection is open, and the journal of every connection that ever was is whole.
+-- No transaction goes on. The Commit or the Rollback that ended each transaction was heard. The call that ended it made
+-- it. If only the end of the run ended it, the layer made a Rollback.
 pub record IsOver (past : List Event) : Type 0 where
   pub replied : unfinished past ≡ []
   pub none_open : open_count (pool past) ≡ 0

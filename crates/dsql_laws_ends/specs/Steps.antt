@@ -6,8 +6,8 @@ use Rattle.dsql_laws_calls.specs.history.declared.event.Event.TheVariants.{Heard
 use Rattle.dsql_laws_calls.specs.history.Legal.{Lawful}
 use Rattle.dsql_laws_steps.specs.Groups.{is_later_of}
 
--- Is true if a step of call n may begin with the event: an answer, a limit, a moment, the end of the run, or
--- call n going on by itself.
+-- Is true if a step of call n may begin with the event: an answer, a limit, a moment, or the run's end. Or call n goes
+-- on by itself.
 abbrev pub begins_step_of : ℕ → Event → Bool
 begins_step_of n (Heard e) = true
 begins_step_of n (Ticked now) = true

@@ -1,4 +1,4 @@
-//! Laws of lawful histories, up to their ends: which call is whose, which calls have run out, and what is left
+//! Laws of lawful histories, up to their ends. They say which call is whose, which calls have run out, and what is left
 //! when the run is over. Each law is the contract of a function that does nothing.
 #![tactic(auto)]
 

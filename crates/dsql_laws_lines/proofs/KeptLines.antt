@@ -1,5 +1,5 @@
--- Reading a line changes the kept lines of its client alone, and leaves the held calls: the proof compares how
--- many lines were read and how many calls were made.
+-- Reading a line changes the kept lines of its client alone, and leaves the held calls. The proof compares how many
+-- lines were read and how many calls were made.
 use Rattle.std.proofs.Common.{◌≡◌, true, List, [], ◌∷◌, refl, ℕ, ◌≤◌, ◌<◌, ◌-◌, Bool, false, not, ◌&&◌, cond, ◌++◌, length, length-append, drop, slice_index_or, ap, ◌∙◌, arith}
 use Rattle.dsql_laws_calls.specs.journal.Readers.{is_empty}
 use Rattle.std.proofs.lemmas.List.{drop-append-le, get_or_append_left, length-drop}

@@ -1,5 +1,5 @@
--- A call that takes its permit just before its answer is heard leads to the same moment: hearing the answer
--- removes the permit from the flights.
+-- A call that takes its permit just before its answer is heard leads to the same moment. Hearing the answer removes the
+-- permit from the flights.
 use Rattle.std.proofs.Common.{◌≡◌, ℕ, ◌==◌, Bool, true, false, not, ◌&&◌, ◌||◌, cond, List, [], ◌∷◌, ◌++◌, Option, Some, None, refl, sym, ap, ◌∙◌, append-nil}
 use Rattle.std.specs.List.{list_all}
 use Rattle.dsql_laws_calls.specs.journal.declared.entry.Entry.{Entry}

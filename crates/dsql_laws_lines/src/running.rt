@@ -17,8 +17,8 @@ ghost use Rattle.dsql_laws_steps.specs.Steps.{IsAtRest, IsStep, stepped};
 ghost use Rattle.dsql_laws_steps.specs.Whole.{Steps};
 ghost use Rattle.dsql_laws_lines.specs.Running.{FollowsTo, RunsOn, RunsToEnd};
 
-/// Consecutive runs of whole steps are one run of whole steps, and each step comes in its turn if it did so in
-/// its own run. One step is a run too.
+/// Consecutive runs of whole steps are one run of whole steps. Each step comes in its turn if it did so in its own run.
+/// One step is a run too.
 pub fn runs_add_up()
     ensures one { (m : Moment) (first : Event) (n : ℕ) (events : List Event) → IsAtRest m → is_whole m ≡ true
         → IsStep m first n events → may_enter m first ≡ true → is_whole (stepped m first n events) ≡ true

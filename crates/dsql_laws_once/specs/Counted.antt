@@ -1,5 +1,5 @@
--- What counts among the entries that a server may have carried out for a call: all except the queries for one
--- row whose fetch found the connection bad.
+-- What counts among the entries that a server may have carried out for a call. Queries for one row whose fetch found
+-- the connection bad don't count; all others do.
 use Rattle.std.specs.Prelude.{ℕ, ◌==◌, Bool, true, false, not, ◌&&◌, cond, List, [], ◌∷◌, filter, Option}
 use Rattle.dsql_laws_calls.specs.driver.Kinds.{is_bad, given_cursor}
 use Rattle.dsql_laws_calls.specs.driver.declared.call.DriverCall.{DriverCall}

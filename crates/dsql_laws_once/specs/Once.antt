@@ -24,8 +24,8 @@ abbrev pub is_skip : DriverAnswer → Bool
 is_skip Skip = true
 is_skip answer = false
 
--- Is true if a server may have carried out the entry's statement or ping: the answer is neither that the
--- connection is bad nor that the driver skips it.
+-- Is true if a server may have carried out the entry's statement or ping. The answer is neither that the connection is
+-- bad nor that the driver skips it.
 abbrev pub may_be_carried_out : Entry → Bool
 may_be_carried_out e = is_statement e.call && not (is_bad e.answer || is_skip e.answer)
 

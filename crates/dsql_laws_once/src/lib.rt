@@ -1,5 +1,5 @@
-//! Laws of lawful histories: what a server may have carried out is never sent again. They cover statements,
-//! begins of transactions and ends of transactions.
+//! Laws of lawful histories: what a server may have carried out isn't sent again, except for queries for one row.
+//! They cover statements, begins of transactions and ends of transactions.
 #![tactic(auto)]
 
 pub mod laws;

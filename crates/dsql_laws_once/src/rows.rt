@@ -8,11 +8,10 @@ ghost use Rattle.dsql_laws_calls.specs.history.declared.event.Event.TheVariants.
 ghost use Rattle.dsql_laws_once.specs.Once.{is_statement, carried_out, reads_one};
 ghost use Rattle.dsql_laws_once.specs.Counted.{counted};
 
-/// At most one statement or ping counts for a call: one whose answer is neither that the connection is bad nor
-/// that the driver skips it. A call on the database may read one row itself. Its query stops counting after a
-/// fetch from the query's cursor is answered that the connection is bad. While one counts, the call sends no
-/// other statement or ping. For a call that doesn't read a row in this way, on the database or in a
-/// transaction, each of them counts.
+/// At most one statement or ping counts for a call. Its answer is neither that the connection is bad nor that the
+/// driver skips it. A call on the database may read one row itself. Its query stops counting after a fetch from the
+/// query's cursor is answered that the connection is bad. While one counts, the call sends no other statement or ping.
+/// For a call that doesn't read a row in this way, on the database or in a transaction, each of them counts.
 pub fn a_row_is_queried_for_once()
     ensures once { (history : List Event) (n : ℕ) → Lawful history → n ≢ 0 → length (counted history n) ≤ 1 }
     ensures again { (history : List Event) (e : Entry) → Lawful (Heard e ∷ history) → e.call_no ≢ 0

@@ -1,5 +1,5 @@
--- When a call enters and doesn't close the database, something stays due for each other call that had something
--- due, or others have settled its reply. The argument takes the kinds of work apart.
+-- Let a call enter that doesn't close the database. For each other call, what was due stays due, or others have settled
+-- its reply. The argument takes the kinds of work apart.
 use Rattle.std.proofs.Common.{◌≡◌, ◌≢◌, ℕ, ◌+◌, ◌==◌, ◌⊎◌, inl, inr, Bool, true, false, not, ◌&&◌, ◌||◌, cond, List, [], ◌∷◌, length, get_or, suc, Option, Some, None, is_some, is_none, refl, sym, ap, subst, ◌∙◌, arith}
 use Rattle.dsql_laws_calls.specs.course.declared.course.Wish.{Wish}
 use Rattle.dsql_laws_calls.specs.course.declared.course.Wish.TheVariants as wishes

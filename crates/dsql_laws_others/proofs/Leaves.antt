@@ -134,8 +134,8 @@ stand_left H m x n some stays h =
     (λ k. ap (waits n) x.waiting ∙ k) (λ k. ap (λ o. is_some o) (same_opening H m x n) ∙ k) (λ k. ap (λ d. is_some d) (due_left H m x n some) ∙ k)
     (has_still (is_own_step K n) (is_own_step H n) (is_settled_for H n) (is_settled_for K n) (λ k. sym (x.own n) ∙ k) (settled_left H m x n stays)) h
 
--- A history in which all is settled as before. Each lent connection is in use if each except connection c was,
--- and each call stands somewhere as before, except call n if it rested with c.
+-- A history in which all is settled as before. If each lent connection except c was in use, each one is now. Each call
+-- stands somewhere as before, except call n if it rested with c.
 pub record Settles (H K : List Event) (c n : ℕ) : Type 0 where
   pub used : UsedBeside H c → uses_what_is_lent K ≡ true
   pub somewhere : (k : ℕ) → (rests H n ≡ true → k ≡ n) → goes_on_but k H ≡ true → goes_on_but k K ≡ true

@@ -245,8 +245,8 @@ still_standing false false None None None None a b r true g wait opening due rep
 still_standing false false None None None None a b true false g wait opening due reply h = let clash : false ≡ true = reply refl in absurd cc
 still_standing false false None None None None a b false false g wait opening due reply h = h
 
--- A call that has to reply still has to after an event, if what is settled for it stays settled and the event
--- puts it into no step of its own.
+-- A call that has to reply still has to after an event. Its settled reply has to stay settled, and the event may not
+-- put it into a step of its own.
 pub has_still : (own now was is : Bool) → (own ≡ true → now ≡ true) → (was ≡ true → is ≡ true) → (not now && was) ≡ true → (not own && is) ≡ true
 has_still true now was is step more h = let k : now ≡ true = step refl in absurd (wrong now k h)
   where

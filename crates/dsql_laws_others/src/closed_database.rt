@@ -9,9 +9,9 @@ ghost use Rattle.dsql_laws_calls.specs.history.Rules.Settled.{goes_on, goes_on_b
 ghost use Rattle.dsql_laws_calls.specs.history.Legal.{Lawful};
 ghost use Rattle.dsql_laws_calls.specs.laws.OwedMade.{with_moves};
 
-/// If each call stood somewhere before a call that closes the database entered, each other call does so after
-/// the moves that the entry makes due. Each lent connection stays in use, and so it does when the run ends:
-/// live rows are to be closed, and transactions are to be ended.
+/// Let each call have stood somewhere before a call that closes the database entered. Each other call stands somewhere
+/// after the moves that the entry makes due. Each lent connection stays in use, and so it does when the run ends. Live
+/// rows are to be closed, and transactions are to be ended.
 pub fn closing_the_database_leaves_each_call_somewhere()
     ensures others { (history : List Event) (client n : ℕ) → Lawful (Entered client n DbClose ∷ history)
         → goes_on history ≡ true

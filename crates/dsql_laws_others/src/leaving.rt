@@ -36,8 +36,7 @@ pub fn who_rests_has_a_good_connection()
         → fate history conn ≡ Good }
 {}
 
-/// If a call without a reply rests with a connection, has nothing to send, and all else is settled, the call
-/// may give the connection back.
+/// A call without a reply may give back its connection if it rests there, has nothing to send, and all else is settled.
 pub fn who_rests_may_give_up()
     ensures { (history : List Event) (n conn : ℕ) → Lawful history → is_settled_but n history ≡ true
         → is_unfinished history n ≡ true → is_some (due_for history n) ≡ false → rests_with history n

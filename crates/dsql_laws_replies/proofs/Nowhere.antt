@@ -1,5 +1,5 @@
--- A call has a settled reply if it has nothing to send, wants no connection and may not ask for one, unless it
--- fetches from live rows.
+-- A call has a settled reply if it has nothing to send, wants no connection and may not ask for one. Fetches from live
+-- rows are the exception.
 use Rattle.std.proofs.Common.{◌≡◌, ℕ, ◌==◌, Bool, true, false, not, ◌&&◌, ◌||◌, cond, List, [], ◌∷◌, Option, Some, None, is_some, refl, sym, ap, ◌∙◌}
 use Rattle.std.specs.Prelude.{find, option_map}
 use Rattle.std.specs.List.{list_all, list_any}

@@ -1,5 +1,5 @@
--- A call that was lent a connection, and for which an answer decides, has settled its reply itself, or still
--- awaits an answer on that connection.
+-- Let an answer decide for a call that was lent a connection. The call has settled its reply, or still awaits an answer
+-- on that connection.
 use Rattle.std.proofs.Common.{◌≡◌, ◌≢◌, ℕ, ◌==◌, ◌⊎◌, inl, inr, Bool, true, false, ◌&&◌, ◌||◌, not, cond, List, [], ◌∷◌, length, Option, Some, None, is_some, refl, sym, ap, subst, ◌∙◌}
 use Rattle.dsql_laws_calls.specs.driver.declared.caps.Caps.{Caps}
 use Rattle.dsql_laws_calls.specs.driver.Fits.{fits_of, is_memory}

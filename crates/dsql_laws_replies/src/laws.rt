@@ -15,14 +15,14 @@ ghost use Rattle.dsql_laws_calls.specs.history.Rules.Line.{due_for};
 ghost use Rattle.dsql_laws_calls.specs.history.Rules.Settled.{uses_what_is_lent};
 ghost use Rattle.dsql_laws_calls.specs.history.Legal.{Lawful};
 
-/// An unfinished call that was lent a connection, and has nothing more to send there, has a settled reply: an
-/// answer settled it, or, for a ping that sends nothing, the lending did. So has a call in a transaction that
-/// has nothing to send: its reply was settled by an answer, as it entered, or by the end of its transaction. So
-/// has a commit or a rollback that has nothing to send: its reply was settled as it entered, or by its answer.
-/// So has a fetch from rows that aren't live.
+/// An unfinished call that was lent a connection, and has nothing more to send there, has a settled reply. An answer
+/// settled it, or, for a ping that sends nothing, the lending did. So has a call in a transaction that has nothing to
+/// send. An answer settled its reply, or it was settled as the call entered or as its transaction ended. So has a
+/// commit or a rollback that has nothing to send: its reply was settled as it entered, or by its answer. So has a fetch
+/// from rows that aren't live.
 ///
-/// If every lent connection is in use, a call has a settled reply if it has nothing to send, wants no
-/// connection and may not ask for one. This holds whatever its work is, unless it fetches from live rows.
+/// Let every lent connection be in use. A call has a settled reply if it has nothing to send, wants no connection and
+/// may not ask for one. This holds whatever its work is, unless it fetches from live rows.
 pub fn who_is_nowhere_replies()
     ensures served { (history : List Event) (n : ℕ) → Lawful history → is_unfinished history n ≡ true
         → was_served (tries history n) ≡ true → is_some (due_for history n) ≡ false

@@ -1,5 +1,5 @@
--- After a step's first event come only moves of the pool, a wait of its call and its call's reply: the proof
--- goes through the kinds of events.
+-- After a step's first event come only moves of the pool, a wait of its call and its call's reply. The proof goes
+-- through the kinds of events.
 use Rattle.std.proofs.Common.{◌≡◌, ℕ, ◌==◌, true, false, not, List, [], ◌∷◌, ◌++◌, Option, Some, None, refl, ap, sym, subst, ◌∙◌}
 use Rattle.std.specs.List.{list_all}
 use Rattle.std.proofs.lemmas.Bool.{not-false, not-true}

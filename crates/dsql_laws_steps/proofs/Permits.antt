@@ -1,5 +1,5 @@
--- Taking a permit leaves a moment at rest and its last step whole: as more permits are in flight, more calls
--- are blocked and none is freed.
+-- Taking a permit leaves a moment at rest and its last step whole. With more permits in flight more calls are blocked,
+-- and none is freed.
 use Rattle.std.proofs.Common.{◌≡◌, ℕ, ◌==◌, ◌+◌, Bool, true, false, not, ◌&&◌, ◌||◌, cond, List, [], ◌∷◌, ◌++◌, Option, Some, None, refl, sym, subst, ◌∙◌, append-nil, length, ap, arith, length-append}
 use Rattle.std.specs.List.{list_any}
 use Rattle.std.proofs.lemmas.List.Folds.{list_any-append}
@@ -104,8 +104,8 @@ rest_stays n (Some Replies) before after g same = refl
 rest_stays n (Some Asks) before after g same = refl
 rest_stays n None before after g same = refl
 
--- A call that is in flight, has its reply or is blocked stays so if more permits are in flight and at least as
--- many calls are blocked.
+-- A call that is in flight, has its reply or is blocked stays so. More permits are in flight, and at least as many
+-- calls are blocked.
 whole_so : (flies fly unfinished blocked block : Bool) → (flies ≡ true → fly ≡ true) → (blocked ≡ true → block ≡ true)
     → (flies || not (unfinished && (flies || not blocked))) ≡ true → (fly || not (unfinished && (fly || not block))) ≡ true
 whole_so flies true unfinished blocked block f b h = refl

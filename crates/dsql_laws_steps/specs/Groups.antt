@@ -98,8 +98,8 @@ after_control past control = with_owed (told_after past control ∷ past)
 abbrev pub after_end : List Event → List Event
 after_end past = with_owed (Ended ∷ past)
 
--- Is true if the event may come in a step of call n after its first event: a move of the pool, a wait of the
--- call, or its reply.
+-- Is true if the event may come in a step of call n after its first event. It is a move of the pool, or a wait or a
+-- reply of the call.
 abbrev pub is_later_of : ℕ → Event → Bool
 is_later_of n (Pool move) = true
 is_later_of n (Waits m) = m == n

@@ -18,8 +18,8 @@ use Rattle.dsql_follows.specs.Sentences.{passed, oldest, is_one_step}
 abbrev pub IsAtRest : Moment → Type 0
 IsAtRest m = at_rest m ≡ m
 
--- Is true if call n goes on by itself with this event: it replies, waits, is lent a connection, or has one
--- begin to be opened for it. A connection that is given back also counts, since the event doesn't say by whom.
+-- Is true if call n goes on by itself with this event. It replies, waits, is lent a connection, or has one begin to be
+-- opened for it. A connection that is given back also counts, since the event doesn't say by whom.
 abbrev pub goes_by_itself : ℕ → Event → Bool
 goes_by_itself n (Replied m reply) = m == n
 goes_by_itself n (Waits m) = m == n

@@ -1,4 +1,4 @@
--- A driver call that is due over rows that were handed out is about them: a fetch from their cursor, its close,
+-- A driver call that is due over rows that were handed out is about them. It is a fetch from their cursor, its close,
 -- or the close of their handle.
 use Rattle.std.proofs.Common.{◌≡◌, ℕ, ℤ, Bool, true, false, not, ◌&&◌, ◌||◌, if◌then◌else◌, List, [], ◌∷◌, length, Option, None, Some, refl, nat_lt}
 use Rattle.std.specs.Prelude.{option_map}

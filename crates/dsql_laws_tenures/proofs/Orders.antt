@@ -28,9 +28,9 @@ abbrev pub is_free : Due → Bool
 is_free (due.CloseStmt handle) = true
 is_free _ = false
 
--- Holds if each driver call of the line has a place, and only a course that reads rows has a cursor. After a
--- Prepare, only a run of the handle gives a cursor; only a Prepare gives a handle; and the text was run only if
--- the driver can run it. If there is a cursor, the handle is closed only once its rows are over.
+-- Holds if each driver call of the line has a place, and only a course that reads rows has a cursor. After a Prepare,
+-- only a run of the handle gives a cursor. Only a Prepare gives a handle. The text was run only if the driver can run
+-- it. If there is a cursor, the handle is closed only once its rows are over.
 pub record Orderly (c : Course) (can : Caps) (made : List Exchange) : Type 0 where
   pub order : is_in_order made ≡ true
   pub once : opens_once made ≡ true

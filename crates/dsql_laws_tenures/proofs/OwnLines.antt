@@ -57,8 +57,8 @@ each_kept P Q keep (c ∷ cs) carry all = by_it (keep c) refl (each_kept P Q kee
 swapped : (n m : ℕ) → (n == m) ≡ false → (m == n) ≡ false
 swapped n m h = grind (arith, nat_tests)
 
--- Each cursor that is live after the entry is had, if each one that the entry leaves live stays had and each
--- one that it opens is had.
+-- Each cursor that is live after the entry is had. Each one that the entry leaves live has to stay had, and each that
+-- it opens has to be had.
 had_after : (P Q : LiveCursor → Type 0) (e : Entry) (q : DriverCall) (a : DriverAnswer) (live : List LiveCursor) → ((c : LiveCursor) → closes_it c.number q ≡ false → P c → Q c)
     → ((c : LiveCursor) (b : DriverAnswer) → Q c → Q (after_next b c))
     → ((rows columns : ℕ) → given_cursor a ≡ Some rows → Q (record { number = rows; tenure = e.tenure; tx = e.tx; columns = columns; over = false }))

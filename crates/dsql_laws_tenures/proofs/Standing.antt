@@ -136,8 +136,8 @@ invalid_only (Query (Handle handle) params) Invalid fit h = absurd (impossible f
 invalid_only q Invalid fit h = absurd (impossible fit)
 invalid_only q _ fit h = refl
 
--- What is known of the answers that say that the connection is bad: none is Invalid, and the first Bad, if
--- there is one, is of tenure t.
+-- What is known of the answers that say that the connection is bad. None is Invalid, and the first Bad, if there is
+-- one, is of tenure t.
 pub record Known (t : ℕ) (J : List Entry) : Type 0 where
   pub not_invalid : went_invalid J ≡ false
   pub bad_here : if_any (bad_tenure J) (λ n. t == n) ≡ true

@@ -1,5 +1,5 @@
--- What the laws say of a connection's journal: that it is open, that it is quiet between two tenures, and that
--- one tenure has it alone.
+-- What the laws say of a connection's journal: it is open, it is quiet between two tenures, and one tenure has it
+-- alone.
 use Rattle.std.specs.Prelude.{◌≡◌, ◌==◌, ◌≤◌, ℕ, true, false, List, []}
 use Rattle.std.specs.List.{list_all}
 use Rattle.dsql_history.specs.driver.Fits.{is_invalid}

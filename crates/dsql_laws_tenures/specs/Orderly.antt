@@ -58,8 +58,8 @@ abbrev pub is_fetch : Due → Bool
 is_fetch (due.Next rows) = true
 is_fetch _ = false
 
--- Is true if the driver calls come in the order of their places: the text, its Prepare, the run of the handle,
--- the Nexts, the close of the cursor, the close of the handle. Only Next may come more than once.
+-- Is true if the driver calls come in the order of their places. That is the text, its Prepare, the run of the handle,
+-- the Nexts, the close of the cursor, and the close of the handle. Only Next may come more than once.
 abbrev pub is_in_order : List Exchange → Bool
 is_in_order [] = true
 is_in_order (x ∷ earlier) =

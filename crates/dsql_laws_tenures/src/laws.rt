@@ -109,8 +109,8 @@ pub fn what_is_due_keeps_the_lines()
         → PreparesOnce t J }
 {}
 
-/// In a transaction that goes on, a driver call that is due may follow if its line is in order, with each
-/// answer that fits there.
+/// In a transaction that goes on, a due driver call may follow if its line is in order, with each answer that fits
+/// there.
 pub fn what_is_due_inside_may_follow()
     ensures { (can : Caps) (asked : Asked) (wish : Wish) (c k t m : ℕ) (J : List Entry) (e : Entry) → GoesOn c k t J
         → IsIn c k t e → asks_text asked.aim ≡ true → is_in_order (made_by m t J) ≡ true

@@ -67,9 +67,9 @@ pub fn tenures_of_bad_connections_are_whole()
         → went_bad J ≡ true → is_whole_tenure t J ≡ true }
 {}
 
-/// A transaction's tenure that has its connection alone satisfies the premises of the laws of such tenures:
-/// while its begin is under way, while the transaction goes on, and once it has ended. What the transaction
-/// sends leaves the tenure its own.
+/// A transaction's tenure that has its connection alone satisfies the premises of the laws of such tenures. It does so
+/// while its begin is under way, while it goes on, and after its end. What the transaction sends leaves the tenure its
+/// own.
 pub fn a_transaction_may_have_its_connection_alone()
     ensures lent { (can : Caps) (reset_due : Bool) (begin : DriverCall) (c k t : ℕ) (J : List Entry) → IsAlone c t J
         → IsOfTransaction k t J → is_begin begin ≡ true → is_begin_line can reset_due begin (of_tenure t J)

@@ -227,8 +227,8 @@ pub record SoFar (t n : ℕ) (s : Step) (L : List Entry) : Type 0 where
   pub first : s ≡ Start → L ≡ []
   pub no_body : is_new s ≡ true → filter is_body L ≡ []
 
--- Returns the entry of a driver call that call m sends on connection c, which is lent to call n in tenure t,
--- with its answer.
+-- Returns the entry of a driver call of call m on connection c, with its answer. The connection is lent to call n in
+-- tenure t.
 abbrev pub sent_entry : ℕ → ℕ → ℕ → ℕ → DriverCall → DriverAnswer → Entry
 sent_entry c t n m q a = record { conn = c; tenure = t; owner = Call n; call_no = m; tx = 0; call = q; answer = a }
 

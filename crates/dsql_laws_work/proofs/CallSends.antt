@@ -1,5 +1,5 @@
--- Proves the rules that are the same for every driver call which a call on the database sends: the order of
--- tenures, and that the handle or cursor it names is live.
+-- Proves the rules that are the same for every driver call of a call on the database. Tenures come in order, and the
+-- handle or cursor that it names is live.
 use Rattle.std.proofs.Common.{◌≡◌, ℕ, ◌<◌, ◌≤◌, Bool, true, false, not, ◌&&◌, ◌||◌, List, [], ◌∷◌, None, Some, refl, nat_lt}
 use Rattle.std.specs.List.{list_all, list_any}
 use native.Mathlib.Omega.{arith}

@@ -120,8 +120,8 @@ is_holding _ = false
 true_false : (b : Bool) → b ≡ true → b ≡ false → ⊥
 true_false b h k = cc
 
--- What is known of a driver call and its answer at this step of a tenure: the exchanges before and after it,
--- and what is wanted of the rows.
+-- What is known of a driver call and its answer at this step of a tenure. These are the exchanges around it, and what
+-- is wanted of the rows.
 pub record SentAt (can : Caps) (asked : Asked) (w : Wish) (s : Step) (made : List Exchange) (q : DriverCall) (a : DriverAnswer) : Type 0 where
   pub before : MadeAt can asked s made
   pub after : MadeAt can asked (step_after s q a) (with_exchange (step_of q) a made)

@@ -20,8 +20,7 @@ pub has_push : (x y : ℕ) (xs : List ℕ) → has x (xs ++ y ∷ []) ≡ (has x
 has_push x y [] = grind (arith, nat_tests)
 has_push x y (z ∷ xs) = grind (arith, nat_tests, has_push x y xs)
 
--- After a write at i, the element at j is the written one if j is i and i is within the list, and otherwise as
--- before.
+-- After a write at i, the element at j is the written one if j is i and within the list. Otherwise it is as before.
 pub read_set : {A : Type 0} (xs : List A) (i : ℕ) (a : A) (j : ℕ) (d : A) → ((j ≡ i) × (i < length xs) × (get_or (set xs i a) j d ≡ a)) ⊎ ((j ≡ i → length xs ≤ i) × (get_or (set xs i a) j d ≡ get_or xs j d))
 read_set [] i a j d = inr (λ e. omega arith, refl)
 read_set (x ∷ xs) zero a zero d = inl (refl, omega arith, refl)

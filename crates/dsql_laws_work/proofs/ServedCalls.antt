@@ -1,5 +1,4 @@
--- Proves that what calls on the database send leaves a connection that serves them open, and that it can be
--- shut if its last tenure is whole.
+-- Proves that what calls on the database send leaves their connection open. It can be shut if its last tenure is whole.
 use Rattle.std.proofs.Common.{◌≡◌, ℕ, true, false, not, ◌==◌, ◌&&◌, List, [], ◌∷◌, refl, ◌∙◌}
 use Rattle.std.specs.List.{list_all, filter}
 use native.Mathlib.Omega.{arith}

@@ -15,8 +15,8 @@ use dsql_value::Memory;
 use std::alloc::Global;
 use std::marker::Model;
 
-/// What a wire has for itself: its session, its log, the faults that are planned for its calls, its count of
-/// faults, and the room for its entry on a roll.
+/// What a wire has for itself: its session, its log, its planned faults and their count, and the room for its entry on
+/// a roll.
 #[derive(Drop)]
 pub(crate) struct Connection {
     session: Session,

@@ -119,9 +119,8 @@ impl<R: AllocGlobal + Wait + Clone + Drop + Send> Fleet for MemFleet<R> {
         ensures caused { IfErr result (λ r. is_fault_of r ≡ true → HasRisen self.old.faults self.new.faults) }
         ensures faultless { is_fault (answer_of result) ≡ false → self.new.faults ≡ self.old.faults }
 
-        // A fleet in memory promises more. Either it refuses the Connect by the fault that was planned in its
-        // place, or the wire's session is new, so that no transaction is open in it. What is planned for the
-        // wire goes with it.
+        // A fleet in memory promises more. Either it refuses the Connect by the fault that was planned in its place, or
+        // the wire's session is new. Then no transaction is open in it. What is planned for the wire goes with it.
         ensures planned { is_memory (answer_of result) ≡ false
             → answer_of result ≡ unwrap_or (connect_fault number self.old) DriverAnswer.Done }
         ensures fresh { IfOk result (λ w. w ≡ new_wire number (planned_for number self.old)) }

@@ -1,5 +1,5 @@
-//! Faults that are planned in place of the answers to driver calls, and the log of the driver calls that a wire
-//! in memory has heard. The log gives each driver call its number.
+//! Faults that are planned in place of answers to driver calls, and the log of the driver calls that a wire in memory
+//! has heard. The log gives each driver call its number.
 #![tactic(auto)]
 
 mod log;

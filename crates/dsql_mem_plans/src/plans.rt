@@ -15,8 +15,8 @@ pub type Plan = (u32, Planned);
 /// A fault that was planned on a wire, with the count of driver calls that the wire had heard by then.
 pub type PlanMade = (usize, Plan);
 
-/// A fault that was planned with a fleet for the wire of this number, with the count of `Connect`s that the
-/// fleet had reported by then.
+/// A fault that was planned with a fleet for the wire of this number. It records how many Connects the fleet had
+/// reported by then.
 pub type WirePlanMade = (usize, (u32, Plan));
 
 /// Returns a copy of a planned fault. The only error, here and below, is a lack of memory.

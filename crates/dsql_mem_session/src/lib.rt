@@ -1,5 +1,5 @@
-//! The sessions of the driver in memory: what the driver keeps for one connection, and what its statements, a
-//! few words each, do with a store.
+//! The sessions of the driver in memory. A session is what the driver keeps for one connection, and runs statements of
+//! a few words over a store.
 #![tactic(auto)]
 
 mod copies;

@@ -10,8 +10,8 @@ use Rattle.dsql_mem_store.specs.Entries.{Entries, value_at, listed}
 use Rattle.dsql_mem_store.specs.Laws.{ListsPrefix}
 use Rattle.dsql_mem_store.proofs.Ascending.{ascending-filter}
 
--- If a list has exactly the keys with the prefix, so has the list with one more entry, which is listed if its
--- key begins so.
+-- If a list has exactly the keys with the prefix, so has the list with one more entry. That entry is listed if its key
+-- begins so.
 one_more : (begins is key_begins : Bool) (key : List ℕ) (e : List ℕ × Value) (found : Entries) (rest : Option Value) → is ≡ is_eq (slice_cmp nat_cmp key e.0) → (is ≡ true → begins ≡ key_begins) → value_at key found ≡ cond key_begins rest None → value_at key (cond begins (e ∷ found) found) ≡ cond key_begins (cond is (Some e.1) rest) None
 one_more true true p key e found rest at same h =
     ap (λ b. cond b (Some e.1) (value_at key found)) (sym at) ∙ ap (λ b. cond b (Some e.1) None) (same refl)

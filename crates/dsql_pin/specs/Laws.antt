@@ -6,8 +6,8 @@ use Rattle.dsql_pin.specs.declared.end.PinEnd.TheVariants.{EndOfRun}
 use Rattle.dsql_pin.specs.declared.pin.Pin.{Pin}
 use Rattle.dsql_pin.specs.Pinned.{pin_on, ended_by, admitted, with_one_more, with_one_fewer, is_free}
 
--- A change of the table: a connection is pinned, a pin is ended, a pin holds one more or one fewer, or the end
--- of the run ends all pins.
+-- A change of the table. A connection is pinned, a pin is ended, a pin holds one more or one fewer, or the run's end
+-- ends all pins.
 pub data Change : Type 0 where
   Pins : ℕ → Pin → Change
   Ends : ℕ → PinEnd → Change

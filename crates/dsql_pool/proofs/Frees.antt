@@ -51,7 +51,7 @@ length-gone c (x ∷ xs) =
     let rest = length-gone c xs in
     elim (eqb x.number c) as (λ b. length (cond (not b) (x ∷ gone c xs) (gone c xs)) ≤ length (x ∷ xs)) [ true ↦ omega (arith, rest) | false ↦ omega (arith, rest) ]
 
--- If enough were opened and neither excess grows, enough are opened still: not that of the requests over the
--- openings, nor that of the allowed connections over the open ones.
+-- If enough were opened and neither excess grows, enough are opened still. One excess is of the requests over the
+-- openings, the other of the allowed connections over the open ones.
 pub enough_kept : (w f r o w' f' r' o' : ℕ) → (nat_le w f || nat_le r o) ≡ true → w' + f ≤ w + f' → r' + o ≤ r + o' → (nat_le w' f' || nat_le r' o') ≡ true
 enough_kept w f r o w' f' r' o' h fewer less = grind (arith, nat_tests)

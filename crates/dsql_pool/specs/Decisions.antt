@@ -133,8 +133,8 @@ abbrev pub openings : ℕ → ℕ → List Move
 openings zero c = []
 openings (suc k) c = OpenStart c 0 ∷ openings k (c + 1)
 
--- Returns how many openings are due: as many as the requests that wait exceed the openings under way for no
--- request of their own, as far as the open limit allows.
+-- Returns how many openings are due. That is the waiting requests less the openings under way for no request of their
+-- own, as far as the open limit allows.
 abbrev pub due_openings : Pooled → ℕ
 due_openings p = min (length p.waiting - free_openings p) (most_allowed p - open_count p)
 

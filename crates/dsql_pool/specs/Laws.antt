@@ -35,7 +35,7 @@ pub record WaitsOnlyAtTheLimit : Type 0 where
   pub refused : (r : Request) (p : Pooled) → ask_outcome r p ≡ Err TooMany → (is_limited p ≡ false)
       × (most_open ≤ open_count p)
 
--- Holds if the request that came first is served first.
+-- Holds if a connection that serves a waiting request serves the one that came first.
 pub record ServesTheOldest : Type 0 where
   pub given_back : (fate : Fate) (c : ℕ) (p : Pooled) (r : Request) (rs : List Request) → p.waiting ≡ r ∷ rs
       → when_given_back fate c p ≡ Serves → moves_given_back fate c p

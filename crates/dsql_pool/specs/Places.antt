@@ -7,9 +7,9 @@ use Rattle.dsql_pool.specs.declared.conn.Place.{Place}
 use Rattle.dsql_pool.specs.declared.conn.Place.TheVariants.{Idle, Lent, Opening, Closing}
 use Rattle.dsql_pool.specs.declared.conn.Conn.{Conn}
 
--- What contracts see of the open connections: their list in the order in which they began to be opened, and how
--- many were opened so far. It also has how many openings and lendings have begun, and for how many connections
--- in all there is memory.
+-- What contracts see of the open connections: their list in the order in which their openings began, and how many were
+-- opened so far. It also has how many openings and lendings have begun, and for how many connections in all there is
+-- memory.
 pub record Numbered : Type 0 where
   pub conns : List Conn
   pub opened : ℕ

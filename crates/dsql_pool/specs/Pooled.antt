@@ -84,8 +84,8 @@ most_open = MOST_OPEN
 abbrev pub most_other_moves : ℕ
 most_other_moves = most_open + 1
 
--- The most openings and lendings that may have begun before a call, so that the numbers of connections and
--- tenures fit 32 bits after it too.
+-- The most openings and lendings that may have begun before a call. The numbers of connections and tenures then fit 32
+-- bits after it too.
 abbrev pub most_drawn : ℕ
 most_drawn = 4000000000
 

@@ -19,8 +19,8 @@ IsPlaced p = (c : ℕ) → times c p.idle ≡ cond (is_idle (place_at p c)) 1 0
 abbrev pub keeps_most : Pooled → Bool
 keeps_most p = nat_le (open_count p) most_open
 
--- Is true if as many connections are open as may be, or no more requests wait than openings are under way for
--- no request of their own.
+-- Is true if as many connections are open as may be. It is also true if the waiting requests aren't more than the
+-- openings under way for no request of their own.
 abbrev pub opens_enough : Pooled → Bool
 opens_enough p = nat_le (length p.waiting) (free_openings p) || nat_le (most_allowed p) (open_count p)
 

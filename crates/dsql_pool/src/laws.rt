@@ -14,7 +14,7 @@ pub fn a_request_waits_only_at_the_limit()
     ensures { WaitsOnlyAtTheLimit }
 {}
 
-/// The request that came first is served first.
+/// A connection that serves a waiting request serves the one that came first.
 #[tactic(auto, using(crate::proofs::Served::serves_the_oldest))]
 pub fn the_oldest_is_served_first()
     ensures { ServesTheOldest }

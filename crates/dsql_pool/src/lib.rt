@@ -1,6 +1,5 @@
-//! A pool of connections: which are open, who holds each of them, who waits for one, and which moves among the
-//! four sets a call makes. It follows the `connectionOpener`, `conn` and `putConn` of Go's package
-//! `database/sql`.
+//! A pool of connections: which are open, who holds each of them, and who waits for one. A call makes moves among the
+//! four sets. It follows the `connectionOpener`, `conn` and `putConn` of Go's package `database/sql`.
 #![tactic(auto)]
 
 mod conn;

@@ -26,8 +26,8 @@ use dsql_run_outcome::{
 };
 use std::alloc::Global;
 
-/// Plays the lines of a script in order, beginning with the first line after its head, each as soon as it is
-/// read, and writes what happened. Trims what was written, unless the whole history is kept.
+/// Plays the lines of a script in order, from the first line after its head. Plays each as soon as it is read, and
+/// writes what happened. Trims what was written, unless the whole history is kept.
 fn play_lines<S: Source, K: Sink, F: Fleet>(
     alloc: Global,
     keeps: bool,
@@ -122,8 +122,8 @@ fn play_from<S: Source, K: Sink, F: Fleet>(
     finish(alloc, player, &mut shown, output, played, ended)
 }
 
-/// What a run keeps until it is over: the part of its history that wasn't trimmed, the tables over it, and what
-/// was read of the script.
+/// What a run keeps until it is over: the untrimmed part of its history, the tables over it, and what was read of the
+/// script.
 #[derive(Drop)]
 pub(crate) struct Kept {
     pub player: Player,
@@ -194,10 +194,10 @@ pub(crate) fn play_keeping<S: Source, K: Sink, F: Fleet>(
     }
 }
 
-/// Plays a script from the source to its end, and writes its report to the sink. The run begins at the first
-/// line that is neither skipped nor part of the head, or at the script's end, with what the fleet can do at
-/// that moment. The run ends early at the first line that is refused, and when the source or the sink fails.
-/// Even then its connections are shut and given back to the fleet.
+/// Plays a script from the source to its end, and writes its report to the sink. The run begins at the first line that
+/// is neither skipped nor part of the head, or at the script's end. It begins with what the fleet can do at that
+/// moment. The run ends early at the first line that is refused, and when the source or the sink fails. Even then its
+/// connections are shut and given back to the fleet.
 ///
 /// # Errors
 ///

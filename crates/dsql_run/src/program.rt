@@ -56,8 +56,8 @@ fn run<S: Source, K: Sink, E: Sink, F: Fleet>(
 ///
 /// After a read fault or a refused line the program ends the run as at the script's end, and its summary covers
 /// the lines before. After a write fault it still ends the run, and the output holds a beginning of the report.
-/// If the output didn't fail, the status is 4 only if the notes failed. At the statuses 5 and 10 the program
-/// writes no summary.
+/// If the output didn't fail, the status is 4 only if the notes failed. If memory or the number of events stopped the
+/// run, the program writes no summary.
 ///
 /// The program doesn't free the memory that the run kept, because the process ends then. `play` frees it.
 pub fn sqlrun<S: Source, K: Sink, E: Sink, F: Fleet, C: Clock, G: Gate>(

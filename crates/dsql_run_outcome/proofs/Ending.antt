@@ -88,8 +88,8 @@ plays_finished played ended final bytes rest says same (inl is) plays = rw is (p
 plays_finished played ended final bytes rest says same (inr (inl memory)) plays = rw memory (plays_first played bytes rest says plays)
 plays_finished played ended final bytes rest says same (inr (inr write)) plays = rw write.0 (plays_first played bytes rest says plays)
 
--- How a run ended: what stopped its lines, what stopped it then, and its last stop; and the history after its
--- lines were played, and at last.
+-- How a run ended: what stopped its lines, what stopped it then, and its last stop. And the history after its lines
+-- were played, and at last.
 pub record Ends (played ended final : Result (Unit {0}) Stop) (rest : Playing) (past : List Event) : Type 0 where
   pub same : ran_out ended ≡ true → ended ≡ played
   pub finishes : Finishes ended final

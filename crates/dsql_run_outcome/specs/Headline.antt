@@ -54,9 +54,9 @@ seen source sink fleet input output lent = record {
   preferred = fleet.preferred lent;
 }
 
--- A run of a script: one legal history, what stopped the run, and the lines of the script that it has and that
--- the history follows. The record also says what was asked for, written and read. It says what the fleet was
--- asked for, which faults were planned with it and on its wires, and what it got back.
+-- A run of a script: one legal history, what stopped the run, and the lines of the script that the history follows. The
+-- record also says what was asked for, written and read. It says what the fleet was asked for, which faults were
+-- planned with it and on its wires, and what it got back.
 pub record Ran (stopped : Result Unit Stop) (before after : Seen) : Type 0 where
   pub history : List Event
   pub asked : Option Caps

@@ -41,7 +41,7 @@ pub record StopsPlanning (run : Event) (lines : List Line) (past : List Event) (
   pub which : (last ≡ []) ⊎ IsPlanOfLast run lines short.parts last
   pub all : made ≡ last ++ plans_made run short.parts
 
--- Holds if a run had to stop, and the fleet recorded exactly the run up to then, and perhaps one more Connect,
+-- Holds if a run had to stop, and the fleet recorded exactly the run up to then. It may have recorded one more Connect,
 -- whose answer couldn't be taken in.
 pub record StopsTelling (run : Event) (lines : List Line) (past : List Event)
     (first now : Option FleetTold) : Type 0 where
@@ -51,7 +51,7 @@ pub record StopsTelling (run : Event) (lines : List Line) (past : List Event)
   pub few : length more ≤ 1
   pub told : now ≡ option_map (with_connects more) (with_told made first past)
 
--- Holds if a run had to stop, and the fleet was asked for exactly what it records, and perhaps for one more
+-- Holds if a run had to stop, and the fleet was asked for exactly what it records. It may have been asked for one more
 -- Connect, whose answer couldn't be taken in.
 pub record StopsAsking (run : Event) (lines : List Line) (past : List Event)
     (before after : Option FleetTold) : Type 0 where

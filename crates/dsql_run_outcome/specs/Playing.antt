@@ -46,8 +46,8 @@ pub record IsOver (past : List Event) : Type 0 where
   pub ended : has_ended past ≡ true
   pub empty : open_count (pool past) ≡ 0
 
--- Holds if the first lines of a script ask for this, these lines of them are skipped as they are played, and
--- after them this was read.
+-- Holds if the first lines of a script ask for this, and these of them are skipped as they are played. After them, this
+-- was read.
 pub record HasHead (first : Result (Option ScriptLine) Stop) (before : Option (List ℕ)) (reader : Position)
     (left : Option (List ℕ)) (asked : Option Caps) (skipped : List Line) : Type 0 where
   pub silent : list_all is_skip skipped ≡ true
@@ -70,9 +70,9 @@ pub record WritesLines (stopped : Result Unit Stop) (past : List Event) (held : 
   pub within : count ≤ length past
   pub wrote : Wrote stopped held count past holds
 
--- The lines of a script that were played. If they came to an end, so many were read. If the run could go on,
--- the history follows their parts, and the fleet and the wires record their plans; otherwise the run stopped in
--- them. If the sink failed, it failed at the last of them, or at the run's first event.
+-- The lines of a script that were played. If they came to an end, so many were read. If the run could go on, the
+-- history follows their parts, and the fleet and the wires record their plans. Otherwise the run stopped in them. If
+-- the sink failed, it failed at the last of them, or at the run's first event.
 pub record LinesPlayed {W : Type 0} (stopped : Result Unit Stop) (before left : Option (List ℕ)) (read_lines : ℕ)
     (asked : Option Caps) (run : Event) (player : Playing) (w now : Option (List ℕ)) (lent : Lent W) : Type 0 where
   pub lines : List Line
@@ -86,8 +86,8 @@ pub record LinesPlayed {W : Type 0} (stopped : Result Unit Stop) (before left : 
   pub short : ran_out stopped ≡ false → StopsTelling run lines player.past lent.first lent.now
   pub cut : stopped ≡ Err Write → CutAtLine w run parts now
 
--- The lines of a script that were played up to the run's end, what the history follows of them, and what the
--- fleet records of them. If they came to an end, so many were read.
+-- The lines of a script that were played up to the run's end. What the history follows of them, and what the fleet
+-- records of them. If they came to an end, so many were read.
 pub record ScriptPlayed (stopped : Result Unit Stop) (before left : Option (List ℕ)) (read_lines : ℕ)
     (asked : Option Caps) (source_failed : Bool) (run : Event) (past : List Event) (w now : Option (List ℕ))
     (lent_before lent_after : Option FleetTold) : Type 0 where

@@ -41,8 +41,8 @@ pub record NotSummarized (told : Result Unit Stop) (before after : Seen) : Type 
   pub unwritten : after.written ≡ before.written
   pub unopened : after.told ≡ before.told
 
--- Holds if a script was played for its summary, and the notes and the status report what stopped it, or what
--- stopped the writing of the summary.
+-- Holds if a script was played for its summary. The notes and the status report what stopped it, or what stopped the
+-- writing of the summary.
 pub record SumsUpAndTells (before after : Seen) (notes_before notes_after : SeenNotes) (status : ℕ) : Type 0 where
   pub stopped : Result Unit Stop
   pub told : Result Unit Stop

@@ -1,5 +1,5 @@
--- Proves that the player stays ready and makes one step in each of three acts: a call enters, a limit or the
--- present moment is set, and the run ends.
+-- Proves that the player stays ready and makes one step in each of three acts. A call enters, a limit or the moment is
+-- set, and the run ends.
 use Rattle.std.proofs.Common.{◌≡◌, ◌≢◌, ◌≤◌, ◌<◌, inl, inr, ℕ, Bool, true, false, not, ◌&&◌, List, ◌++◌, length, Option, Result, Ok, Err, refl, sym, ap, subst, ◌∙◌, arith}
 use Rattle.std.specs.Prelude.{◌∷◌, OnErr}
 use Rattle.dsql_engine_laws.specs.journal.declared.entry.Permit.{Permit}
@@ -52,7 +52,7 @@ pub record SeatsCall (client : ℕ) (leave : Option Permit) (held : Bool) (seats
   pub room : client < length now
   pub many : length seats ≤ length now
 
--- If the seat of the client is made, the permit is handed out, and the call is then held or not, the client is
+-- Let the seat of the client be made and the permit be handed out, and let the call then be held or not. The client is
 -- seated with these.
 pub seats_call : (client : ℕ) (leave : Option Permit) (held : Bool) (seats made handed now : List Seat)
     → ((c : ℕ) → seat made c ≡ seat seats c) → client < length made → length seats ≤ length made

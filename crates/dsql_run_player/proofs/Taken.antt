@@ -1,5 +1,5 @@
--- Proves that the core may hear the answer to a driver call of the layer's own, and that it then finds the
--- first one that is due.
+-- Proves that the core may hear the answer to a driver call of the layer's own. It then finds the first one that is
+-- due.
 use Rattle.std.proofs.Common.{◌≡◌, ℕ, ◌<◌, ◌==◌, Bool, true, false, not, cond, List, [], ◌∷◌, length, Option, Some, None, is_some, refl, sym, ap, subst, ◌∙◌}
 use Rattle.std.specs.Prelude.{Result, Ok, Err, IsErr, is_err, option_map}
 use Rattle.dsql_engine_laws.specs.driver.Wires.{WireTold}

@@ -82,8 +82,8 @@ end_taken m before after at is fly l lines =
 
 -- A call goes on by itself.
 
--- A call that may move and has no driver call under way didn't step last, because the call that stepped last
--- went as far as it could.
+-- A call that may move and has no driver call under way didn't step last. The call that stepped last went as far as it
+-- could.
 not_last : (m : Moment) (n : ℕ) → is_whole m ≡ true → is_in_flight n m.flights ≡ false → may_move m.past m.flights n ≡ true → (n == m.stepper) ≡ false
 not_last m n whole parked moves = by (n == m.stepper) refl
   where

@@ -16,9 +16,9 @@ use Rattle.dsql_run_wires.specs.WiresFit.{KeepsFit, KeepsPlans, WiresFit}
 use Rattle.dsql_run_player.specs.declared.halt.Halt.{Halt}
 use Rattle.dsql_run_player.specs.Playing.{Playing, IsAt, IsReady}
 
--- Holds if a part of a run is carried out, in which these faults are planned. The fleet and the wires record
--- the new history and these plans, and the wires fit the history. If the part can't be carried out, the fleet
--- was asked for at most one more Connect, and either all of the plans were made or none.
+-- Holds if a part of a run is carried out, in which these faults are planned. The fleet and the wires record the new
+-- history and these plans, and the wires fit the history. If the part can't be carried out, the fleet was asked for at
+-- most one more Connect. Either all of the plans were made or none.
 pub record KeepsRunPlanning {A F W : Type 0} (plans : List Made) (fleet : Ghosts F W) (heard : W
     → Option WireTold) (result : Result A Halt) (before after : F) (old new : Playing)
     (slots now : List (Option (Journaled W))) : Type 0 where
@@ -35,8 +35,8 @@ abbrev pub KeepsRun : {A F W : Type 0} → Ghosts F W → (W → Option WireTold
 KeepsRun fleet heard result before after old new slots now =
     KeepsRunPlanning [] fleet heard result before after old new slots now
 
--- Holds of a part of a run in which no connection is opened or shut: its wires fit the new history, and the
--- fleet has nothing to record of it.
+-- Holds of a part of a run in which no connection is opened or shut. Its wires fit the new history, and the fleet has
+-- nothing to record of it.
 pub record KeepsWires {A W : Type 0} (heard : W
     → Option WireTold) (result : Result A Halt) (old new : Playing)
     (before after : List (Option (Journaled W))) : Type 0 where

@@ -27,7 +27,7 @@ pub record SameButChore (old mid : Playing) : Type 0 where
   pub seats : mid.seats ≡ old.seats
   pub released : mid.released ≡ old.released
 
--- Holds if the first of the layer's own calls is under way and this is its permit, or if the layer has no call
+-- Holds if the first of the layer's own calls is under way and this is its permit. Also holds if the layer has no call
 -- to make and nothing was done.
 abbrev pub FindsChore : Option Permit → Playing → Playing → Type 0
 FindsChore (Some permit) before after = IsToMake after permit

@@ -18,9 +18,8 @@ use Rattle.dsql_engine_laws.specs.Leaves.{IsLeave}
 use Rattle.dsql_engine_laws.specs.Turns.{Flying, flies}
 use Rattle.dsql_laws_lines.specs.Running.{AllMade}
 
--- A player: the events that happened, newest first, and how many of the oldest were trimmed; what is under way;
--- and what each client has at hand. It also says whether the script is at its end, which releases the held
--- calls.
+-- A player: the events that happened, newest first, and how many of the oldest were trimmed. What is under way, and
+-- what each client has at hand. It also says whether the script is at its end, which releases the held calls.
 pub record Playing : Type 0 where
   pub past : List Event
   pub trimmed : ℕ
@@ -29,8 +28,8 @@ pub record Playing : Type 0 where
   pub seats : List Seat
   pub released : Bool
 
--- Holds if a client with call n has exactly this permit: one for its call's driver call that is under way, and
--- none if none is. n is 0 if the client has no call.
+-- Holds if a client with call n has exactly this permit: one for its driver call under way, or none if none is. If the
+-- client has no call, n is 0.
 abbrev pub FitsCall : List Event → List Flight → ℕ → Option Permit → Type 0
 FitsCall past flights n None = is_in_flight n flights ≡ false
 FitsCall past flights n (Some permit) =
@@ -87,8 +86,8 @@ pub record KeepsLines (before after : Playing) : Type 0 where
   pub kept : (client : ℕ) → (seat after.seats client).kept ≡ (seat before.seats client).kept
   pub held : (client : ℕ) → (seat after.seats client).held ≡ (seat before.seats client).held
 
--- Holds if the player is at this free moment, except that the first kept line of a client was taken out of what
--- that client has at hand.
+-- Holds if the player is at this free moment, except that a client's first kept line was taken from what it has at
+-- hand.
 pub record IsAtBut (m : Moment) (client : ℕ) (line : KeptLine) (p : Playing) : Type 0 where
   pub past : m.past ≡ p.past
   pub flights : m.flights ≡ p.flights

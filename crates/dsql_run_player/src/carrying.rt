@@ -29,9 +29,9 @@ ghost use Rattle.dsql_run_player.specs.Stepping.{Admits, IsAnswerTo, IsChoreOn, 
 
 use dsql_engine_laws::Wire;
 
-/// A line that runs on begins with its own step, or with nothing. It is carried out after everything has gone
-/// on until nobody may. If the run has to stop before that, what came of the line is a beginning: its own step
-/// first, then whole steps, each in its turn.
+/// A line that runs on begins with its own step, or with nothing. It is carried out after everything has gone on until
+/// nobody may. If the run has to stop before that, what came of the line is a beginning. Its own step comes first, then
+/// whole steps, each in its turn.
 pub fn a_line_is_carried_out()
     ensures skipped { (m : Moment) (p : Playing) → IsAt m p → Begun m Skip p p }
     ensures planned { (m : Moment) (p : Playing) (conn nth : ℕ) (what : Planned) → IsAt m p

@@ -36,8 +36,8 @@ pub(crate) fn run_on<F: Fleet>(
     Ok(())
 }
 
-/// Takes the next step: the first of the layer's own calls, or, if there is none, a step of the first client
-/// that may go on. Returns `true` if there was a step.
+/// Takes the next step: the first of the layer's own calls. If there is none, the first client that may go on makes a
+/// step. Returns `true` if there was a step.
 fn go_on<F: Fleet>(
     player: &mut Player,
     wires: &mut Wires<F::Wire>,

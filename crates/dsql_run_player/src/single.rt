@@ -15,8 +15,8 @@ use crate::player::Player;
 use dsql_engine_laws::{Fleet, Wire};
 use dsql_run_wires::Wires;
 
-/// Makes one step of the client, if it can make one: enters its first kept line, makes its driver call and
-/// brings back the answer, or lets its call go on.
+/// Makes one step of the client, if it can make one. It enters its first kept line, makes its driver call and brings
+/// back the answer, or lets its call go on.
 pub(crate) fn step_client<W: Wire>(
     player: &mut Player,
     wires: &mut Wires<W>,

@@ -22,9 +22,9 @@ ghost use Rattle.dsql_run_player.specs.Chores.{IsToMake};
 ghost use Rattle.dsql_run_player.specs.Playing.{HoldsNone, IsAt, IsReady, Playing};
 ghost use Rattle.dsql_engine_laws.specs.Chores.{MayBeMade};
 
-/// A player stays ready over a limit or a moment, the run's end, a call that enters, an answer to a call, and a
-/// call that is woken. The client whose call went on is handed the permit that results, if any, and the others
-/// keep what they have.
+/// A player stays ready over a limit or a moment and over the run's end. It also stays ready as a call enters, is
+/// answered or is woken. The client whose call went on is handed the permit that results, if any, and the others keep
+/// what they have.
 pub fn a_player_stays_ready()
     ensures control { (before after : Playing) (control : Control) → IsReady before
         → after.past ≡ after_control before.past control → after.flights ≡ before.flights → Legal after.past

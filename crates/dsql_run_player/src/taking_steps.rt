@@ -14,8 +14,8 @@ ghost use Rattle.dsql_run_player.specs.Acts.{RunsTo, Woken};
 ghost use Rattle.dsql_run_player.specs.Playing.{HasLinesOf, IsAt, KeepsLines, Playing};
 ghost use Rattle.dsql_run_player.specs.Stepping.{HearsAnswer, InTurn, IsAnswerTo, IsChoreOn, IsEnd, IsEntryOf, IsFirstToGo, IsTold, RunsOut, RunsSoFar, TakesStep, Wakes, goes};
 
-/// A limit or a moment, the run's end, an answer to a call, and a call that is woken are each one step from the
-/// player's moment. An answer is also one step from a moment at which its driver call isn't under way yet.
+/// Each of these is one step from the player's moment: a limit or a moment, the run's end, an answer, and a woken call.
+/// An answer is also one step from a moment at which its driver call isn't under way yet.
 pub fn each_act_is_one_step()
     ensures control { (m : Moment) (before after : Playing) (control : Control) → IsAt m before
         → after.past ≡ after_control before.past control → after.flights ≡ before.flights → Lawful after.past

@@ -3,8 +3,8 @@ use Rattle.std.specs.Prelude.{ℕ, Bool, false, List, [], Option, None, slice_in
 use Rattle.dsql_history.specs.journal.declared.entry.Permit.{Permit}
 use Rattle.dsql_run_wires.specs.declared.seats.KeptLine.{KeptLine}
 
--- What a client has at hand: the permit for its call's next driver call, its kept lines, the oldest first, and
--- whether its call is held.
+-- What a client has at hand: the permit for its next driver call, its kept lines, the oldest first, and whether its
+-- call is held.
 pub record Seat : Type 0 where
   pub permit : Option Permit
   pub kept : List KeptLine

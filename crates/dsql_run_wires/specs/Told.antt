@@ -29,10 +29,9 @@ with_heard made e before told =
     (cond (is_shut e.call)
     (with_retired ((e.conn, tells_of e.conn (plans_on made e.conn) (e ∷ before)) ∷ []) told) told)
 
--- Returns the record of a fleet with which these faults were planned. The fleet was asked for the Connects of
--- the history, and was given back the wires of the connections that were shut, all in their order. A refused
--- Connect has no wire. A connection that was shut is gone with the next event, and no fault is planned on its
--- wire any more.
+-- Returns the record of a fleet with which these faults were planned. The fleet was asked for the Connects of the
+-- history. It was given back the wires of the shut connections. Both are in their order. A refused Connect has no wire.
+-- A connection that was shut is gone with the next event, and no fault is planned on its wire any more.
 abbrev pub fleet_told : List Made → List Event → FleetTold
 fleet_told made [] = record { connects = []; plans = fleet_plans made; retired = [] }
 fleet_told made (Heard e ∷ before) = with_heard made e (journal before e.conn) (fleet_told made before)
@@ -55,8 +54,8 @@ told_then more first = record {
 abbrev pub with_told : List Made → Option FleetTold → List Event → Option FleetTold
 with_told made told past = option_map (told_then (fleet_told made past)) told
 
--- Holds if the fleet records exactly this history and the planned faults, after what it recorded as the history
--- began, and each wire records its part.
+-- Holds if the fleet records exactly this history and the planned faults, after what it recorded as the history began.
+-- Each wire records its part.
 pub record TellsJust {W : Type 0} (heard : W
     → Option WireTold) (made : List Made) (told now : Option FleetTold) (past : List Event)
     (slots : List (Option (Journaled W))) : Type 0 where
@@ -102,9 +101,8 @@ pub record TellsAtMost {W : Type 0} (heard : W
 abbrev pub SameAsked : Option FleetTold → Option FleetTold → Type 0
 SameAsked before after = IfSome before (λ b. IfSome after (λ a. (a.connects ≡ b.connects) × (a.plans ≡ b.plans)))
 
--- Holds if a fleet that recorded exactly the old history was asked for the Connects of the new one and was
--- given back what was left. It was perhaps asked for one more Connect, whose answer couldn't be taken in. No
--- fault was planned.
+-- Holds if a fleet that recorded exactly the old history was asked for the Connects of the new one. It was given back
+-- what was left. It was perhaps asked for one more Connect, whose answer couldn't be taken in. No fault was planned.
 pub record LeavesAtMost {W : Type 0} (heard : W
     → Option WireTold) (before after : Option FleetTold) (old new : List Event)
     (slots : List (Option (Journaled W))) : Type 0 where

@@ -54,7 +54,7 @@ connects_heard [] = 0
 connects_heard (Heard e ∷ before) = cond (is_connect e.call) (connects_heard before + 1) (connects_heard before)
 connects_heard (_ ∷ before) = connects_heard before
 
--- Returns how much was heard before a fault is planned for connection c after this history: the calls of the
+-- Returns how much was heard before a fault is planned for connection c after this history. That is the calls of the
 -- connection if it has a wire, and the Connects otherwise.
 abbrev pub heard_before : ℕ → List Event → ℕ
 heard_before c past = cond (is_wired (journal past c)) (length (journal past c)) (connects_heard past)

@@ -7,7 +7,7 @@ ghost use Rattle.dsql_run_wires.specs.WiresFit.{SameWires};
 use crate::wires::Wires;
 use dsql_history::{Fleet, Memory, Planned};
 
-/// Plans a fault in place of the answer to the nth call of a connection, counted from its Connect: on its wire
+/// Plans a fault in place of the answer to the nth call of a connection, counted from its Connect. It plans on its wire
 /// if it has one, and with the fleet otherwise.
 pub fn plan<F: Fleet>(
     wires: &mut Wires<F::Wire>,

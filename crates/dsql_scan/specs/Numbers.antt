@@ -35,8 +35,8 @@ with_sign negative n = if negative then neg_ℤ (pos n) else pos n
 abbrev pub signed_number : List ℕ → Option ℤ
 signed_number text = option_map (with_sign (has_minus text)) (plain_number (without_sign text))
 
--- Is true if the number isn't above the greatest of a signed width, nor below its least, which is -(greatest +
--- 1). negsuc n is -(n + 1).
+-- Is true if the number isn't above the greatest of a signed width, nor below its least. That is -(greatest + 1), and
+-- negsuc n is -(n + 1).
 abbrev pub fits_signed : ℕ → ℤ → Bool
 fits_signed greatest (pos n) = nat_le n greatest
 fits_signed greatest (negsuc n) = nat_le n greatest

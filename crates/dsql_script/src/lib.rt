@@ -1,5 +1,5 @@
-//! Scripts and reports as text: reads the lines of a script, writes an event as a line of a report, and reads
-//! such a line back. This crate passes on what a caller needs of the crates of its family.
+//! Scripts and reports as text. Reads the lines of a script, writes an event as a line of a report, and reads such a
+//! line back. This crate passes on what a caller needs of the crates of its family.
 //!
 //! A caller reads a line of a report as an event, and writes the event as that line:
 //!

@@ -65,8 +65,8 @@ begin_as label target options (Some array) = Err BadShape
 begin_as None target options None = Err BadShape
 begin_as (Some label) target options None = begin_at label target (level_first options)
 
--- Returns a begin by the words after it: the label that it makes, its target, a level and `ro` if it asks for
--- these, and a token or none.
+-- Returns a begin by the words after it. They give the label that it makes, its target, a level and `ro` if given, and
+-- a token or none.
 abbrev pub begin_of : List (List ℕ) → Option (List ℕ) → CallReading
 begin_of (label ∷ target ∷ options) array = begin_as (label_of label) target options array
 begin_of _ array = Err BadShape

@@ -24,8 +24,8 @@ pub fn spelled_events_are_read_back()
     ensures { ReadsEventsBack }
 {}
 
-/// Two events that fit their types and have the same line, of any length, differ at most in the call for which
-/// a connection is lent.
+/// Two events that fit their types and have the same line, of any length, are equal. They may differ in the call for
+/// which a connection is lent.
 pub fn lines_tell_their_events()
     ensures { LinesTellEvents }
 {}

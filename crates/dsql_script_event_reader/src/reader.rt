@@ -10,14 +10,14 @@ use dsql_script_event_lines::{is_line, is_too_long, is_well_formed};
 use dsql_script_forms::LineFault;
 use std::alloc::Global;
 
-/// Reads the event that a line of a report records. The line comes without its line feed, and is read only as
-/// it is spelled: a line that says the same in another way is refused.
+/// Reads the event that a line of a report records. The line comes without its line feed, and is read only as it is
+/// spelled. A line that says the same in another way is refused.
 ///
-/// A line is refused for the first of these reasons: it has more than 65,536 bytes (`TooLong`), its bytes
-/// aren't UTF-8 (`NotUtf8`), it isn't JSON (`BadJson`), or it isn't the line of an event that a report may
-/// record (`BadShape`). In such an event, one of 64 clients enters a call. The label that the call makes and
-/// the one that it is made on, if it has them, are names. Its destinations, if it is to have some, are one or
-/// more. No answer is `Memory`. The fault `Memory` may take the place of any other result.
+/// A line is refused for the first of these reasons. It has more than 65,536 bytes (`TooLong`), its bytes aren't UTF-8
+/// (`NotUtf8`), or it isn't JSON (`BadJson`). Or it isn't the line of an event that a report may record (`BadShape`).
+/// In such an event, one of 64 clients enters a call. The label that the call makes and the one that it is made on, if
+/// it has them, are names. Its destinations, if it is to have some, are one or more. No answer is `Memory`. The fault
+/// `Memory` may take the place of any other result.
 pub fn read_event(alloc: Global, line: &[u8]) -> Result<Event, LineFault>
     ensures told { IfOk result (λ e. Tells line.now e) }
     ensures refused { IfErr result (λ f. f ≢ LineFault.Memory → Refuses f line.now) }

@@ -25,10 +25,9 @@ impl fmt::Display for What {
     }
 }
 
-/// Why a line of a script is refused. If a line has several faults, the first of these is reported: too many
-/// lines, too long, not UTF-8, no such word, the shape of its words, not JSON, the shape of what its array
-/// holds, too many arguments or destinations, unknown label, label taken. Lack of memory may come in place of
-/// any other answer.
+/// Why a line of a script is refused. If a line has several faults, the first of these is reported: too many lines, too
+/// long, not UTF-8, no such word, its words' shape. Then come: not JSON, the shape of what its array holds, too many
+/// arguments or destinations, unknown label, label taken. Lack of memory may come in place of any other answer.
 #[derive(Clone, Copy, Debug)]
 pub enum LineFault {
     /// It has more bytes before its line feed, including a carriage return, than it may have: 4,096 in a

@@ -52,7 +52,7 @@ asked_count-some word n is =
 pub same_text : (text word spelled : List ℕ) → text ≡ spelled → bytes_eq text word ≡ true → word ≡ spelled
 same_text text word spelled is same = sym ((bytes_eq-Decides text word).0 same) ∙ is
 
--- A word asks for no number if it isn't the decimal text of the number that `parse` reads, or if that is too
+-- A word asks for no number if it isn't the decimal text of what `parse` reads. The same holds if the number is too
 -- small or too large.
 pub AsksNone-other : {E : Type 0} (word text : List ℕ) (m : ℕ) (r : Result ℕ E) (same : Bool) → ParsesUnsigned 32 10 word r → result_ok r ≡ Some m → text ≡ decimal m → same ≡ bytes_eq text word
     → (((same ≡ true) × (1 ≤ m) × (MOST < m)) ⊎ (((same ≡ true) × (m < 1)) ⊎ (same ≡ false))) → AsksNone word

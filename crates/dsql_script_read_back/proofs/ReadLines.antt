@@ -1,5 +1,5 @@
--- A line of the words and the array that a report shows for a call is read as this call: its words hold no
--- bracket, so the array begins where it should.
+-- A line of the words and the array that a report shows for a call is read as this call. Its words hold no bracket, so
+-- the array begins at the first one.
 use Rattle.std.proofs.Common.{◌≡◌, ℕ, List, [], ◌∷◌, ◌++◌, Bool, true, false, codes, Option, Some, None, Ok, option_map, append-nil, refl, ap, sym, ◌∙◌}
 use Rattle.serde_json.specs.Written.{compact_text}
 use Rattle.dsql_script_spelling.specs.Dests.{dests_word}

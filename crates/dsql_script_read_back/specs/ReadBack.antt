@@ -1,5 +1,4 @@
--- Defines that what a report shows of a call, a limit or a moment is read in a script as the same call, limit
--- or moment.
+-- Defines that a report's text of a call, a limit or a moment is read in a script as the same call, limit or moment.
 use Rattle.std.specs.Prelude.{◌≡◌, ℕ, ℤ, ◌<◌, ◌≤◌, ◌^◌, Bool, true, false, List, [], ◌∷◌, ◌++◌, length, codes, FitsSigned, All, Option, Some, None, Ok}
 use Rattle.std.specs.Int.{w8, w16, w32, w64}
 use Rattle.hex.specs.Hex.{IsBytes}
@@ -121,10 +120,9 @@ MayBeAsked _ = Unit {0}
 abbrev pub line_text : Bool → List ℕ → Op → List ℕ
 line_text held word op = (held_text held ++ (word ++ (codes " " ++ op_words op))) ++ array_text (op_data op)
 
--- Holds if a call's words after the word for a client, with an array that is read as the call's, are read as
--- this client's call. Earlier lines must have made each label that the call names, for what it is to be, and
--- not the label that it makes. A line of these words and the array that the report shows is read as the call
--- too.
+-- Holds if a call's words after the word for a client are read as this client's call. They come with an array that is
+-- read as the call's. Earlier lines must have made each label that the call names, for what it is to be, and not the
+-- label that it makes. A line of these words and the array that the report shows is read as the call too.
 pub record ReadsCallsBack : Type 0 where
   pub client : (client : ℕ) → 1 ≤ client → client ≤ most_clients
       → client_of (codes "c" ++ compact_text (natural client)) ≡ Some client

@@ -23,11 +23,11 @@ pub fn spelled_capabilities_are_read_back()
     ensures { ReadsCapsBack }
 {}
 
-/// The words that a report shows for a call, after the word for a client, are read as exactly this call. Its
-/// target, its labels, its destinations, and a begin's level and `ro` are read back with it. The array after
-/// them must be read as the call's. Earlier lines must have made each label that the call names, for what it is
-/// to be, rows or a transaction, and not the label that it makes. The call is held if `start` precedes the
-/// words, otherwise it isn't. So a line of these words and the array that the report shows asks for this call.
+/// The words that a report shows for a call, after the word for a client, are read as exactly this call. Its target,
+/// its labels, its destinations, and a begin's level and `ro` are read back with it. The array after them must be read
+/// as the call's. Earlier lines must have made each label that the call names, for rows or for a transaction. They may
+/// not have made the label that it makes. The call is held if `start` precedes the words, otherwise it isn't. So a line
+/// of these words and the array that the report shows asks for this call.
 pub fn spelled_calls_are_read_back()
     ensures { ReadsCallsBack }
 {}

@@ -38,8 +38,8 @@ caps_among words = record {
 abbrev pub caps_of : List (List ℕ) → Option Caps
 caps_of words = let caps = caps_among words in if pointwise bytes_eq (caps_names caps) words then Some caps else None
 
--- A position in a script: how many lines were read, whether a version line or a caps line may still follow, and
--- the labels that these lines made. The labels are in the order of the lines, each with its kind.
+-- A position in a script: how many lines were read, and the labels that they made. And whether a version line or a caps
+-- line may still follow. The labels are in the order of the lines, each with its kind.
 pub record Progress : Type 0 where
   pub lines : ℕ
   pub head : Head

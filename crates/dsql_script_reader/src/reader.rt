@@ -22,35 +22,33 @@ const MAX_LINES: u16 = 10_000;
 /// and no refused ones. They also see whether a version line or a caps line may still follow, and the labels
 /// that the lines made, each with its kind.
 ///
-/// Exactly one space separates the words of a line. If a line holds a space followed by `[`, a JSON array
-/// begins at the first such `[` and runs to the line's end. `version 1` may stand before all lines that aren't
-/// skipped. `caps`, with the names of what the driver can do, each once and in the order of a report, may stand
-/// before all but that line. Any other line that isn't skipped sets a limit, sets the clock, plans a fault, is
-/// a client's call, or asks for one step.
+/// Exactly one space separates the words of a line. If a line holds a space followed by `[`, a JSON array begins at the
+/// first such `[` and runs to the line's end. `version 1` may stand before all lines that aren't skipped. `caps` names
+/// what the driver can do, each once and in the order of a report. It may stand before all but that line. Any other
+/// line that isn't skipped sets a limit, sets the clock, plans a fault, is a client's call, or asks for one step.
 ///
-/// `maxopen N`, `maxidle N`, `maxlife D` and `maxidletime D` set a limit. N and D are decimal numbers that fit
-/// an `i64`, without a leading zero; a negative one begins with a minus. D is in nanoseconds. `tick NOW` gives
-/// the present moment in nanoseconds: NOW is a decimal number that fits a `u64`, without a sign and without a
-/// leading zero. `fault W N bad`, `fault W N invalid` and `fault W N fail` plan a fault in place of the answer
-/// to the Nth call of connection W: W and N are such numbers that fit a `u32`, and aren't 0. Only `fail` has an
-/// array, which holds its text and nothing else. A client's call is `cN` and the words of the call, with N from
-/// 1 to 64 without a leading zero. The call is held if `start` stands before them. `step cN` asks for one step
-/// of a client, and `step house` for one of the layer itself.
+/// `maxopen N`, `maxidle N`, `maxlife D` and `maxidletime D` set a limit. N and D are decimal numbers that fit an
+/// `i64`, without a leading zero; a negative one begins with a minus. D is in nanoseconds. `tick NOW` gives the present
+/// moment in nanoseconds: NOW is a decimal number that fits a `u64`, without a sign and without a leading zero. `fault
+/// W N bad`, `fault W N invalid` and `fault W N fail` plan a fault. It comes in place of the answer to the Nth call of
+/// connection W. W and N are such numbers that fit a `u32`, and aren't 0. Only `fail` has an array, which holds its
+/// text and nothing else. A client's call is `cN` and the words of the call, with N from 1 to 64 without a leading
+/// zero. The call is held if `start` stands before them. `step cN` asks for one step of a client, and `step house` for
+/// one of the layer itself.
 ///
-/// `exec T [@K]`, `one T DESTS [@K]` and `query R T [@K]` have an array of a text and at most 32 arguments. T
-/// is `db` or the label of a transaction, and K is a token, if the call names one. `exec` executes the text on
-/// T. `one` reads one row of it into 1 to 32 destinations. `query` queries it and makes the label R for its
-/// rows. `next R`, `scan R DESTS`, `rowsclose R` and `err R` have no array, and concern the rows whose label is
-/// R. `begin X T [level=L] [ro] [@K]` has no array, and makes the label X for its transaction. L is
-/// `read_uncommitted`, `read_committed`, `write_committed`, `repeatable_read`, `snapshot`, `serializable` or
-/// `linearizable`; without it the level is the default one. With `ro` the transaction only reads. `commit X`
-/// and `rollback X` have no array, and end the transaction whose label is X. `dbclose` and `stats` have no
-/// array either. A transaction can be begun on `db` alone. No line makes a token, so no call names one. A line
-/// makes a label, for rows or for a transaction, before other lines name it, and no label is made twice. The
-/// name of a label or a token is a lower-case letter and at most 31 of `a` to `z`, `0` to `9` and `_`, and
-/// isn't `db`. Commas separate destinations. Each is `text`, `bytes`, `bool`, `i8`, `i16`, `i32`, `i64`, `u8`,
-/// `u16`, `u32`, `u64`, `time` or `any`, or one that also takes a nil: `null:text`, `null:i64`, `null:i32`,
-/// `null:i16`, `null:u8`, `null:bool` or `null:time`.
+/// `exec T [@K]`, `one T DESTS [@K]` and `query R T [@K]` have an array of a text and at most 32 arguments. T is `db`
+/// or the label of a transaction, and K is a token, if the call names one. `exec` executes the text on T. `one` reads
+/// one row of it into 1 to 32 destinations. `query` queries it and makes the label R for its rows. `next R`, `scan R
+/// DESTS`, `rowsclose R` and `err R` have no array, and concern the rows whose label is R. `begin X T [level=L] [ro]
+/// [@K]` has no array, and makes the label X for its transaction. L is `read_uncommitted`, `read_committed`,
+/// `write_committed`, `repeatable_read`, `snapshot`, `serializable` or `linearizable`; without it the level is the
+/// default one. With `ro` the transaction only reads. `commit X` and `rollback X` have no array, and end the
+/// transaction whose label is X. `dbclose` and `stats` have no array either. A transaction can be begun on `db` alone.
+/// No line makes a token, so no call names one. A line makes a label, for rows or for a transaction, before other lines
+/// name it, and no label is made twice. The name of a label or a token is a lower-case letter and at most 31 of `a` to
+/// `z`, `0` to `9` and `_`. It isn't `db`. Commas separate destinations. Each is `text`, `bytes`, `bool`, `i8`, `i16`,
+/// `i32`, `i64`, `u8`, `u16`, `u32`, `u64`, `time` or `any`. Or it also takes a nil: `null:text`, `null:i64`,
+/// `null:i32`, `null:i16`, `null:u8`, `null:bool` or `null:time`.
 ///
 /// | argument | as JSON |
 /// |---|---|

@@ -1,5 +1,5 @@
-//! Writes the lines of a run's report: each event as a line of JSON, with the calls, driver calls, answers,
-//! moves and replies that it holds.
+//! Writes the lines of a run's report. Each is an event as a line of JSON, with the calls, driver calls, answers, moves
+//! and replies that it holds.
 #![tactic(auto)]
 
 mod calls;

@@ -34,15 +34,15 @@ use std::mem;
 /// begin names its level, unless that is the default one, and then `ro`, if it asks for a transaction that only
 /// reads.
 ///
-/// An owner is `"call:N"`, `"tx:N"`, `"pin:N"` or `"house"`, and a cause is a word such as `"over_limit"`.
-/// Driver calls, answers and replies are arrays that begin with a word. A value is `null`, a number, `true`,
-/// `false`, a string, `{"bytes":"00ff"}` with lower-case hexadecimal digits, or `{"time":N}` in nanoseconds
-/// since 1970. A parameter with a name is `{"name":NAME,"value":VALUE}`. The array of a call is its text and
-/// then its arguments, each spelled as in a script, with its keys in the order of their bytes: an argument with
-/// a name is `{"arg":ARG,"name":NAME}`. An unsigned number of 64 bits is `{"u64":N}` if it is at most
-/// 9,223,372,036,854,775,807, and a plain number if it is larger. An unsigned number read out of a row is
-/// written in the same way. Anything else read out of a row is written as a value is. Statistics are the nine
-/// numbers of Go's `DBStats` in its order, each a plain number. A lack of memory is the only error.
+/// An owner is `"call:N"`, `"tx:N"`, `"pin:N"` or `"house"`, and a cause is a word such as `"over_limit"`. Driver
+/// calls, answers and replies are arrays that begin with a word. A value is `null`, a number, `true`, `false`, a
+/// string, `{"bytes":"00ff"}` with lower-case hexadecimal digits, or `{"time":N}` in nanoseconds since 1970. A
+/// parameter with a name is `{"name":NAME,"value":VALUE}`. The array of a call is its text and then its arguments. Each
+/// is spelled as in a script, with its keys in the order of their bytes. An argument with a name is
+/// `{"arg":ARG,"name":NAME}`. An unsigned number of 64 bits is `{"u64":N}` if it is at most 9,223,372,036,854,775,807,
+/// and a plain number if it is larger. An unsigned number read out of a row is written in the same way. Anything else
+/// read out of a row is written as a value is. Statistics are the nine numbers of Go's `DBStats` in its order, each a
+/// plain number. A lack of memory is the only error.
 pub fn event_line(alloc: Global, event: &Event) -> Result<Txt, Memory>
     ensures { IfOk result (λ t. t ≡ line_of event.now) }
 {

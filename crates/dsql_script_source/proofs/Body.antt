@@ -1,5 +1,5 @@
--- After the first line that is neither skipped nor the version line, a script has no line of its head: the
--- proof goes through the forms of a line.
+-- After the first line that is neither skipped nor the version line, a script has no line of its head. The proof goes
+-- through the forms of a line.
 use Rattle.std.proofs.Common.{◌≡◌, ℕ, ◌+◌, Bool, true, false, List, [], ◌∷◌, length, Option, Some, None, refl, subst}
 use Rattle.std.specs.Prelude.{ℤ, if◌then◌else◌, nat_lt, nat_le, codes, Result, Ok, Err, IfOk, IfErr, IfSome}
 use Rattle.std.specs.Str.{bytes_eq, is_utf8}

@@ -1,5 +1,5 @@
--- What the rest of a script says after one more line was read: the proof has a case for a line, for the
--- script's end, and for a stop.
+-- What the rest of a script says after one more line was read. The proof has a case for a line, for the script's end,
+-- and for a stop.
 use Rattle.std.proofs.Common.{◌≡◌, ◌⊎◌, ◌∙◌, inl, inr, ℕ, ◌+◌, true, false, List, [], ◌∷◌, ◌++◌, length, Option, Some, None, refl, ap, sym, arith}
 use Rattle.std.specs.Prelude.{option_map, IfSome, IfOk, IfErr, Result, Ok, Err}
 use Rattle.std.proofs.lemmas.List.{length-append}

@@ -1,5 +1,5 @@
--- The first lines of a script, up to the first one that is neither skipped nor of the head: the record is the
--- invariant of the loop that reads them.
+-- The first lines of a script, up to the first one that is neither skipped nor of the head. The record is the invariant
+-- of the loop that reads them.
 use Rattle.std.proofs.Common.{◌≡◌, ℕ, true, List, Option}
 use Rattle.std.specs.List.{list_all}
 use Rattle.dsql_history.specs.driver.declared.caps.Caps.{Caps}

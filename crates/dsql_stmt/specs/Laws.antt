@@ -75,8 +75,8 @@ pub record DropsOneHandle : Type 0 where
 abbrev pub all_dropped : List (ℕ × ℕ) → List Live → List Live
 all_dropped handles live = fold (λ left pair. without_handle pair.0 pair.1 left) live handles
 
--- Holds if nothing of a statement is live after each handle that its first close handed out was dropped, and no
--- other statement has lost a handle.
+-- Holds if nothing of a statement is live after each handle from its first close was dropped, and no other statement
+-- has lost a handle.
 pub record DropsWhatWasHandedOut : Type 0 where
   pub nothing_left : (n : ℕ) (live : List Live) (stmt : Stmt) → is_open stmt ≡ true
       → handles_of n (all_dropped (handed_out n live stmt) live) ≡ []

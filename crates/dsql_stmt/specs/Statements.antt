@@ -102,8 +102,8 @@ pub record IsOneEach (live : List Live) : Type 0 where
   pub of_statement : (n conn : ℕ) → count_by (λ l. is_place n conn l.0) live ≤ 1
   pub of_number : (conn handle : ℕ) → count_by (is_handle conn handle) live ≤ 1
 
--- The table: the statements in the order in which they were added, the live handles in the order in which they
--- were prepared, and for how many calls there is memory.
+-- The table: the statements and the live handles, each in the order in which they came. And for how many calls there is
+-- memory.
 pub record Statements : Type 0 where
   pub stmts : List (ℕ × Stmt)
   pub live : List Live

@@ -15,8 +15,8 @@ pub fn changes_of_one_statement()
     ensures { ChangesOneStatement }
 {}
 
-/// States that a statement has at most one live handle on a connection, and that a handle's number there
-/// belongs to one statement, whatever is prepared, dropped or lost.
+/// States that a statement has at most one live handle on a connection, and that a handle's number there belongs to one
+/// statement. Preparing, dropping and losing handles keep this.
 #[tactic(auto, using(crate::proofs::OneEach::one_handle_each))]
 pub fn one_handle_for_each()
     ensures { OneHandleEach }

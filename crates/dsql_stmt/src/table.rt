@@ -13,9 +13,9 @@ use std::marker::Model;
 /// Connections, each with a handle that is live there.
 pub type Handles = Items<(u32, u32)>;
 
-/// The statements that were added, and their live handles. Contracts see the statements by their numbers in the
-/// order in which they were added, and the live handles in the order in which they were prepared. They also see
-/// for how many calls there is memory.
+/// The statements that were added, and their live handles. Contracts see the statements by their numbers in the order
+/// in which they were added. They see the live handles in the order in which they were prepared. They also see for how
+/// many calls there is memory.
 #[derive(Drop)]
 pub struct Stmts {
     alloc: Global,
@@ -70,8 +70,8 @@ impl Stmts {
         self.lists.reserve(calls, self.live.len() + calls)
     }
 
-    /// Does nothing. Its contract shows its callers that a statement has at most one live handle on a
-    /// connection, and that a handle's number there belongs to one statement.
+    /// Does nothing. Its contract shows its callers that a statement has at most one live handle on a connection. A
+    /// handle's number there belongs to one statement.
     pub fn vouch(&self)
         ensures { IsOneEach self.now.live }
     {
@@ -157,10 +157,10 @@ impl Stmts {
         Ok(())
     }
 
-    /// Closes the statement, if nothing has, and returns its live handles with their connections. A second
-    /// close returns none and takes no memory. `call` is 0 if no client's call closes the statement. The
-    /// handles stay live until they are dropped or their connection is forgotten, since a run that was entered
-    /// before the close may still use them.
+    /// Closes the statement, if nothing has, and returns its live handles with their connections. A second close
+    /// returns none and takes no memory. `call` is 0 if no client's call closes the statement. The handles stay live
+    /// until they are dropped or their connection is forgotten. A run that was entered before the close may still use
+    /// them.
     pub fn close(&mut self, n: u32, call: u32) -> Result<Handles, Memory>
         requires { was_added n self.old.stmts ≡ true }
         ensures ok { OnOk result (self.new.stmts ≡ changed (closed_by call) n self.old.stmts) }

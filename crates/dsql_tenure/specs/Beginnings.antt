@@ -18,8 +18,8 @@ is_beginning_of conn journal = is_journal_prefix journal && list_all (λ x. x.co
 abbrev pub IsBeginningOf : ℕ → List Entry → Type 0
 IsBeginningOf conn journal = IsTrue (is_beginning_of conn journal)
 
--- Is true if, after a Bad answer, a tenure of this owner can have a further entry: the end of its transaction,
--- or an entry of a pinned connection.
+-- Is true if a tenure of this owner can have a further entry after a Bad answer. That is the end of its transaction, or
+-- an entry of a pinned connection.
 abbrev pub can_grow_when_bad : Owner → List Entry → Bool
 can_grow_when_bad (Tx number) journal = has number (begun journal) && not (has number (ended journal))
 can_grow_when_bad (Pin number) journal = true

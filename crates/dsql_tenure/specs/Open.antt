@@ -13,8 +13,8 @@ open_after entry numbers =
     if begins entry then (entry.tx ∷ numbers) else if is_ending entry.call then filter
     (λ m. not (m == entry.tx)) numbers else numbers
 
--- Returns the open transactions, newest first. A transaction is open if its Begin stands before and no Commit
--- or Rollback of it after that, whatever the answer to the Commit or Rollback was.
+-- Returns the open transactions, newest first. A transaction is open if its Begin stands before, and no Commit or
+-- Rollback of it after that. The answer to the Commit or Rollback doesn't matter.
 abbrev pub open_in : List Entry → List ℕ
 open_in [] = []
 open_in (entry ∷ before) = open_after entry (open_in before)

@@ -1,7 +1,7 @@
 use thiserror::Error;
 
-/// Where a journal stands: no Connect was heard yet, no tenure can have a further entry, the last tenure can
-/// have one, or Shut was heard.
+/// Where a journal stands. No Connect was heard yet, the last tenure can or can't have a further entry, or Shut was
+/// heard.
 #[derive(Clone, Copy, Debug)]
 pub enum Phase {
     Before,

@@ -1,5 +1,5 @@
-//! The driver calls that were made or are to come, and what the entries of a journal so far left for them: live
-//! handles and cursors, and what a tenure has open.
+//! The driver calls that were made or are to come. What the entries of a journal so far left for them: live handles and
+//! cursors, and what a tenure has open.
 #![tactic(auto)]
 
 mod asked;

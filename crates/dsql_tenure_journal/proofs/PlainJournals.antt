@@ -17,8 +17,7 @@ use Rattle.dsql_tenure_journal.specs.Journal.{may_follow, is_journal_prefix, IsJ
 use Rattle.dsql_tenure_journal.specs.Entries.{connect_entry}
 use Rattle.dsql_tenure_journal.proofs.Conjunctions.{join2}
 
--- Holds if connection c was opened and isn't shut, and nothing was left on it that would have to be closed
--- before it is given back.
+-- Holds if connection c was opened and isn't shut, and nothing is left on it to close before it is given back.
 pub record Plain (c : ℕ) (journal : List Entry) : Type 0 where
   pub one : IsTrue (list_all (λ x. x.conn == c) journal)
   pub opened : IsFalse (is_empty journal)

@@ -30,13 +30,13 @@ has_live_cursor before e = if_any (cursor_of e.call) (λ r. not (is_empty (curso
 abbrev pub fetches_before_the_end : List Entry → Entry → Bool
 fetches_before_the_end before e = is_next e.call ⇒ each_cursor before e (λ c. not c.over)
 
--- Is true if the handle that the call names, if any, is used in the transaction of the Prepare that gave it, or
--- outside transactions if that Prepare was.
+-- Is true if the call uses its handle in the transaction of the Prepare that gave it, or outside transactions if that
+-- Prepare was. A call without a handle passes.
 abbrev pub has_transaction_of_handle : List Entry → Entry → Bool
 has_transaction_of_handle before e = each_handle before e (λ h. h.tx == e.tx)
 
--- Is true if the cursor that the call names, if any, is used in the transaction of the Query that gave it, or
--- outside transactions if that Query was.
+-- Is true if the call uses its cursor in the transaction of the Query that gave it, or outside transactions if that
+-- Query was. A call without a cursor passes.
 abbrev pub has_transaction_of_cursor : List Entry → Entry → Bool
 has_transaction_of_cursor before e = each_cursor before e (λ c. c.tx == e.tx)
 

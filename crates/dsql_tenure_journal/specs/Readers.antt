@@ -60,8 +60,8 @@ handles_after e (Prepare text) (Prepared handle inputs) live =
 handles_after e (CloseStmt handle) answer live = filter (λ h. not (h.number == handle)) live
 handles_after e _ _ live = live
 
--- Returns the live handles, newest first. A handle is live if a Prepare that gave it stands before, and no
--- CloseStmt of it after that, whatever the answer to the CloseStmt was.
+-- Returns the live handles, newest first. A handle is live if a Prepare that gave it stands before, and no CloseStmt of
+-- it after that. The answer to the CloseStmt doesn't matter.
 abbrev pub handles : List Entry → List LiveHandle
 handles [] = []
 handles (e ∷ before) = handles_after e e.call e.answer (handles before)
@@ -83,8 +83,8 @@ cursors_after e (Next rows) answer live = changed rows (after_next answer) live
 cursors_after e (CloseRows rows) answer live = filter (λ c. not (c.number == rows)) live
 cursors_after e _ _ live = live
 
--- Returns the live cursors, newest first. A cursor is live if a Query that gave it stands before, and no
--- CloseRows of it after that, whatever the answer to the CloseRows was.
+-- Returns the live cursors, newest first. A cursor is live if a Query that gave it stands before, and no CloseRows of
+-- it after that. The answer to the CloseRows doesn't matter.
 abbrev pub cursors : List Entry → List LiveCursor
 cursors [] = []
 cursors (e ∷ before) = cursors_after e e.call e.answer (cursors before)

@@ -81,8 +81,8 @@ is_body e = not (is_reset e.call || is_valid e.call)
 abbrev pub body : List Entry → Entry → List Entry
 body before e = filter is_body (earlier before e)
 
--- Returns the place of a driver call in the order in which a call on the database works: a run of the text,
--- Prepare, a run of the handle, Nexts, CloseRows, CloseStmt. A driver call without a place in it has 0.
+-- Returns the place of a driver call in the order in which a call on the database works. The order is a run of the
+-- text, Prepare, a run of the handle, Nexts, CloseRows, CloseStmt. A driver call without a place in it has 0.
 abbrev pub place : DriverCall → ℕ
 place (Exec (Text text) params) = 1
 place (Query (Text text) params) = 1

@@ -5,8 +5,8 @@ ghost use Rattle.dsql_tenure_journal.specs.Permits.{entry_of};
 
 use dsql_driver::{DriverAnswer, DriverCall};
 
-/// Who holds a connection during a tenure: a call on the database, a transaction or a pinned connection, each
-/// by its number, or the layer itself, which opens and closes connections.
+/// Who holds a connection during a tenure. It is a call on the database, a transaction or a pinned connection, each by
+/// its number. Or it is the layer itself, which opens and closes connections.
 #[derive(Clone, Copy)]
 pub enum Owner {
     Call(u32),

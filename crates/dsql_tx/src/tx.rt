@@ -4,8 +4,8 @@ ghost use Rattle.dsql_tx.specs.Transactions.{admitted, ended_by};
 use crate::end::{TxDone, TxEnd};
 use dsql_value::Txt;
 
-/// A transaction that was begun: its connection, the connection's tenure, the name of the token that it was
-/// begun with, if there is one, and what ended it.
+/// A transaction that was begun: its connection, the connection's tenure, the name of its token if it has one, and what
+/// ended it.
 #[derive(Drop)]
 pub struct Tx {
     pub conn: u32,

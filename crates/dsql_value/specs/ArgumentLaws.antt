@@ -44,8 +44,8 @@ pub record RefusesHighBits : Type 0 where
   pub lower : (number : ℕ) → value_fault (args.U64 number) ≡ None ↔ (number < 2 ^ 63)
   pub alone : (arg : Arg) (fault : ArgFault) → value_fault arg ≡ Some fault → (number : ℕ) × (arg ≡ args.U64 number)
 
--- Holds if no name goes to a driver that takes none, each name that goes begins with a letter, and a driver
--- that takes names takes whatever another one takes.
+-- Holds if no name goes to a driver that takes none, and each name that goes begins with a letter. A driver that takes
+-- names takes whatever another one takes.
 pub record ChecksNames : Type 0 where
   pub nameless : (list : List Named) → first_fault false list ≡ None → All (λ n. n.name ≡ None) list
   pub lettered : (named_ok : Bool) (list : List Named) → first_fault named_ok list ≡ None

@@ -1,5 +1,5 @@
-//! The values that go to a driver and come back from it, as in Go's type `driver.Value`, and the arguments of
-//! callers that become such values. It also holds the text, byte and list types that every other crate names.
+//! The values that go to a driver and come back from it, as in Go's type `driver.Value`. The arguments of callers
+//! become such values. It also holds the text, byte and list types that every other crate names.
 #![tactic(auto)]
 
 mod arg;

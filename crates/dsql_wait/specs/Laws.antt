@@ -3,7 +3,7 @@ use Rattle.std.specs.Prelude.{◌≡◌, ◌≢◌, ℕ, ◌+◌, ◌<◌, ◌�
 use Rattle.dsql_wait.specs.declared.request.Request.{Request}
 use Rattle.dsql_wait.specs.Requests.{waits, oldest, younger, without_call, without_token}
 
--- Holds if the request that came first is served first, whoever comes later.
+-- Holds if the queue serves the request that came first, whoever comes later.
 pub record ServedInOrder : Type 0 where
   pub first : (r later : Request) (rs : List Request) → oldest ((r ∷ rs) ++ later ∷ []) ≡ Some r
   pub then : (r later : Request) (rs : List Request) → younger ((r ∷ rs) ++ later ∷ []) ≡ rs ++ later ∷ []

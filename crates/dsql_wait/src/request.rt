@@ -6,8 +6,8 @@ use dsql_value::Txt;
 
 /// A call that wants a connection.
 ///
-/// It records the owner, whether this is the call's last try, the name of its token if it has one, and the
-/// moment at which it asked, in nanoseconds.
+/// It records the owner, whether this is the call's last try, its token's name if it has one, and when it asked, in
+/// nanoseconds.
 #[derive(Drop)]
 pub struct Request {
     pub call: u32,

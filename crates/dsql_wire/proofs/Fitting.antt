@@ -1,5 +1,5 @@
--- An answer of a wire fits at its place in the journal that agrees with the wire: each condition on the answer
--- follows from what is live on the wire.
+-- An answer of a wire fits at its place in the journal that agrees with the wire. Each condition on the answer follows
+-- from what is live on the wire.
 use Rattle.std.proofs.Common.{◌≡◌, ℕ, true, false, not, Option, Some, None, List, [], ◌∷◌, length, refl, ◌∙◌, ap}
 use Rattle.std.specs.List.{list_all}
 use Rattle.dsql_driver.specs.declared.call.DriverCall.{DriverCall}

@@ -1,5 +1,5 @@
--- A wire and its journal still agree after one more driver call: the proof compares the live handles and the
--- live cursors of both, kind of call by kind of call.
+-- A wire and its journal still agree after one more driver call. The proof compares the live handles and cursors of
+-- both, for each kind of call.
 use Rattle.std.proofs.Common.{◌≡◌, ℕ, Bool, true, false, cond, not, ◌&&◌, ◌||◌, ◌==◌, ◌++◌, Option, Some, None, List, [], ◌∷◌, length, inl, inr, refl, ◌∙◌, ap}
 use Rattle.std.specs.Prelude.{option_map, IfSome}
 use Rattle.std.specs.List.{filter}

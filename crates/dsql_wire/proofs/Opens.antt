@@ -1,5 +1,5 @@
--- Exactly a Connect by the House in tenure 1, with no call number and no transaction, opens a connection: the
--- proof takes apart what may come first in a journal.
+-- Only a Connect by the House in tenure 1, with no call number and no transaction, opens a connection. The proof takes
+-- apart what may come first in a journal.
 use Rattle.std.proofs.Common.{◌≡◌, ◌≢◌, ◌↔◌, ℕ, zero, suc, Bool, true, false, ◌&&◌, ◌||◌, Option, Some, None, ◌==◌, IsTrue, List, [], ◌∷◌, refl, sym, ◌∙◌, ap, subst}
 use Rattle.std.specs.Prelude.{IfSome}
 use Rattle.std.proofs.lemmas.Bool.Decides.{nat_tests}

@@ -1,5 +1,5 @@
-//! The program. It plays a script of clients' calls from standard input on the database layer, over a driver in
-//! memory, and writes the run's report or summary to standard output. It also generates scripts.
+//! The program. Plays a script of clients' calls from standard input on the database layer, over a driver in memory.
+//! Writes the run's report or summary to standard output. It also generates scripts.
 #![tactic(auto)]
 
 use dsql_driver::OpenGate;

@@ -148,8 +148,8 @@ site before m = home before (borrower before m)
 abbrev pub decided : List Event → ℕ → Option Reply
 decided before n = (call_record before n).decided
 
--- Returns the reply that the newest try gives, if that try is the last one: the refusal that fell to the call,
--- or that its connection was bad.
+-- Returns the reply that the newest try gives, if that try is the last one. The call was refused, or its connection was
+-- bad.
 abbrev pub last_told : Bool → ℕ → List Try → Option Reply
 last_told again number (Refused answer ∷ earlier) = reply_to again number answer
 last_told again number (Lost ∷ earlier) = bad_reply again number

@@ -139,8 +139,8 @@ closing_decision number (answers.Fail text) (Some (Cells cells)) = Some (Driver 
 closing_decision number answers.Bad (Some (Cells cells)) = Some (BadConn number)
 closing_decision number answer earlier = earlier
 
--- Returns the reply that an answer decides for a call that asks for nothing further: a close of rows, the end
--- of a transaction or a ping. Such a call doesn't try again.
+-- Returns the reply that an answer decides for a call that asks for nothing further: a close of rows, a transaction's
+-- end or a ping. Such a call doesn't try again.
 abbrev pub done_reply : ℕ → DriverAnswer → Option Reply
 done_reply number answers.Done = Some reply.Ok
 done_reply number answers.Bad = Some (BadConn number)
@@ -155,12 +155,12 @@ abbrev pub close_decision : ℕ → Work → DriverAnswer → Option Reply → O
 close_decision number (Close k) answer earlier = done_reply number answer
 close_decision number work answer earlier = closing_decision number answer earlier
 
--- Returns the reply that is decided after this answer, for a call in this try with this work and this many
--- parameters, which tries again or doesn't.
+-- Returns the reply that is decided after this answer. The call has this work, makes this try, has this many
+-- parameters, and tries again or doesn't.
 --
--- These answers decide: the answer to an Exec, a Ping, a fetch, a Begin, a Commit or a Rollback; the answer to
--- a Query that fails or hands out rows; the answer to a Prepare that failed, or that reports another number of
--- inputs; and a Bad to a Reset. A Bad decides only if no other try is left.
+-- These answers decide: the answer to an Exec, a Ping, a fetch, a Begin, a Commit or a Rollback, and a Bad to a Reset.
+-- A Query's answer decides if it fails or hands out rows. A Prepare's answer decides if it failed, or reports another
+-- number of inputs. A Bad decides only if no other try is left.
 --
 -- The layer passes over a Fail to a Reset. A CloseStmt and a test decide nothing, and neither does the close of
 -- rows that end with their transaction.

@@ -102,8 +102,8 @@ aim_of (HandOut it label) = aims.HandOut
 aim_of Ping = aims.Ping
 aim_of _ = aims.Execute
 
--- Returns the call to which the pool lends the connection for the statement of call n: call n itself, or the
--- call that began its transaction.
+-- Returns the call to which the pool lends the connection for the statement of call n. It is call n itself, or the call
+-- that began its transaction.
 abbrev pub borrower_in : Scope → ℕ → ℕ
 borrower_in Db n = n
 borrower_in (Tx k) n = k

@@ -34,8 +34,8 @@ abbrev pub ended_by_call : TxEnd → DriverCall
 ended_by_call ends.Commit = Commit
 ended_by_call _ = Rollback
 
--- Returns the driver call that comes after the rows are closed: the Commit or Rollback, and then the test,
--- unless the connection is known to be bad.
+-- Returns the driver call that comes after the rows are closed. It is the Commit or Rollback, and then the test, unless
+-- the connection is known to be bad.
 abbrev pub end_after : List Event → Bool → TxEnd → List Entry → Option DriverCall
 end_after before bad end heard =
     cond (list_any (λ e. is_ending e.call) heard) (cond (bad

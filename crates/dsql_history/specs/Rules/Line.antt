@@ -1,4 +1,4 @@
--- Defines the driver calls on a connection that is lent to a call or a transaction: which one a call would send
+-- Defines the driver calls on a connection that is lent to a call or a transaction. It says which one a call would send
 -- next, whose turn it is, and which answers may come.
 use Rattle.std.specs.Prelude.{ℕ, ◌==◌, Bool, true, false, not, ◌&&◌, ◌||◌, cond, List, [], ◌∷◌, Option, Some, None, is_none, is_some}
 use Rattle.dsql_history_work.specs.driver.declared.call.DriverCall.{DriverCall}
@@ -73,8 +73,8 @@ rest_with before n (Some rows) = cond (is_live rows) None (line_of before n wish
 abbrev pub rest : List Event → ℕ → Option DriverCall
 rest before n = cond (is_begun before n) (ending before n) (rest_with before n (rows_by before n))
 
--- Is true if the connection that is lent to call n is in use: its transaction goes on, its rows are live, or
--- something is still to be sent there.
+-- Is true if the connection that is lent to call n is in use. Its transaction goes on, its rows are live, or something
+-- is still to be sent there.
 abbrev pub is_used : List Event → ℕ → Bool
 is_used before n = goes_on before n || (are_live before n || is_some (rest before n))
 
@@ -106,8 +106,7 @@ is_due (Some Commit) Commit = true
 is_due (Some Rollback) Rollback = true
 is_due due call = plain.is_due due call
 
--- Is true if the entry, on a connection in this place, is what its call has to send at this moment, and it has
--- the turn.
+-- Is true if the entry, on a connection in this place, is what its call has to send now, and the call has the turn.
 abbrev pub is_due_at : List Event → Option Place → Entry → Bool
 is_due_at before (Some (Lent tenure owner)) e =
     (e.tenure == tenure)
@@ -115,8 +114,8 @@ is_due_at before (Some (Lent tenure owner)) e =
     && (has_turn before e.conn e.call_no && is_due (due_from before e.call_no (number_of owner)) e.call))
 is_due_at before _ e = false
 
--- Is true if what was under way before the event isn't under way after it: the driver answered on that
--- connection, or its call has its reply.
+-- Is true if what was under way before the event isn't under way after it. The driver answered on that connection, or
+-- its call has its reply.
 abbrev pub parts : Event → Entry → Bool
 parts (Heard last) e = last.conn == e.conn
 parts (Replied n reply) e = n == e.call_no
@@ -133,8 +132,8 @@ abbrev pub sends_from : List Event → Option Place → Entry → Bool
 sends_from before (Some (Lent tenure owner)) e = may_come before e
 sends_from before _ e = true
 
--- Is true if a connection in this place may leave its call or its transaction, which it does only after it is
--- no longer in use.
+-- Is true if a connection in this place may leave its call or its transaction. It does so only after it is no longer in
+-- use.
 abbrev pub leaves_from : List Event → Option Place → Bool
 leaves_from before (Some (Lent tenure owner)) = not (is_house owner) && not (is_used before (number_of owner))
 leaves_from before _ = true

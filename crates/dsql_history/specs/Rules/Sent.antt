@@ -1,5 +1,5 @@
--- Defines which driver call a call sends next on the connection that it uses: in its own line, and over rows
--- that a query handed out.
+-- Defines which driver call a call sends next on the connection that it uses, in its own line and over rows from a
+-- query.
 use Rattle.std.specs.Prelude.{ℕ, ◌==◌, nat_le, Bool, false, not, ◌&&◌, ◌||◌, cond, List, [], ◌∷◌, length, Option, Some, None, is_none}
 use Rattle.dsql_history_work.specs.driver.declared.caps.Caps.{Caps}
 use Rattle.dsql_history_work.specs.driver.declared.call.DriverCall.{DriverCall}
@@ -80,8 +80,8 @@ abbrev pub begin_line : Caps → Bool → DriverCall → List Entry → Option D
 begin_line can reset_due begin [] = cond reset_due (Some Reset) (Some begin)
 begin_line can reset_due begin (e ∷ earlier) = unless_last e (begin_after can begin e)
 
--- Returns the driver call that call n with this work sends next after its line, on connection c, which is known
--- to be bad or isn't. The wish says what is wanted of the rows that call n handed out.
+-- Returns the driver call that call n with this work sends next after its line. It is sent on connection c, which is
+-- known to be bad or isn't. The wish says what is wanted of the rows that call n handed out.
 abbrev pub line_with : List Event → ℕ → ℕ → Bool → Wish → Work → Scope → List Entry → Option DriverCall
 line_with before n c bad wish (works_of.Begin label level read_only) it line =
     begin_line (caps before) (is_reset_due before c) (Begin level read_only) line

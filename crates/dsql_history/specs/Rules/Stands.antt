@@ -28,8 +28,8 @@ abbrev pub is_waiting : Option Stand → Bool
 is_waiting (Some Waits) = true
 is_waiting _ = false
 
--- Is true if the step under way is call n's own: it entered, the driver answered it, or it asked and the pool
--- lent it a connection, and only moves came since.
+-- Is true if the step under way is call n's own. It entered, the driver answered it, or it asked and was lent a
+-- connection. Only moves came since.
 abbrev pub is_own_step : List Event → ℕ → Bool
 is_own_step [] n = false
 is_own_step (Entered client m op ∷ before) n = m == n
@@ -48,9 +48,9 @@ is_settled_for before n =
 abbrev pub has_to_reply : List Event → ℕ → Bool
 has_to_reply before n = not (is_own_step before n) && is_settled_for before n
 
--- Returns where call n stands: it waits, a connection is being opened for it, a driver call of it is due, it
--- has to reply, or it asks again after a refusal. It stands nowhere if it has to ask for another reason, or has
--- settled its reply itself: that follows in the same step.
+-- Returns where call n stands. It waits, a connection is being opened for it, its driver call is due, it has to reply,
+-- or it asks again after a refusal. It stands nowhere if it has to ask for another reason, or has settled its reply
+-- itself: that follows in the same step.
 abbrev pub stand : List Event → ℕ → Option Stand
 stand before n =
     or_else (stands (waits n (pool before).waiting) Waits)

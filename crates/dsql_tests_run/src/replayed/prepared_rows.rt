@@ -1,5 +1,5 @@
-//! Scripts of calls whose text is prepared and that read one row, over a driver with faults, each with its
-//! report, by the rules of the layer.
+//! Scripts of calls that prepare their text and read one row, over a driver with faults. Each has its report, by the
+//! rules of the layer.
 
 pub(super) const REPORTS: &[(&str, &str)] = &[
     // The driver skips the text, so the layer prepares it and queries its handle. It closes the cursor before
