@@ -1,0 +1,4 @@
+pub mod Escape
+pub mod Bars
+pub mod Heads
+pub mod Worked

@@ -1,0 +1,11 @@
+-- The chain keeps what each event gives.
+use Rattle.std.proofs.Common.{rules, tests}
+use Rattle.std.proofs.lemmas.Iterator.{items_from_collect, YieldsList-from_slice}
+use Rattle.std.proofs.lemmas.Iterator.Consumers.{YieldsList-from_filter_map}
+use Rattle.dsql_timeline_picture.specs.Lanes.{entered}
+use Rattle.dsql_timeline_picture.proofs.lanes.callers_of.Goals as goal
+
+pub returns : goal.returns
+returns c =
+    items_from_collect _ c.collect.ensures.ran
+    (YieldsList-from_filter_map _ entered (YieldsList-from_slice c.args.events.now cc) c.filter_map.ensures.closure (λ x r q k. search (rules, tests)))
