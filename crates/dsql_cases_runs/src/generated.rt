@@ -16,8 +16,10 @@ ghost use Rattle.dsql_script_source.specs.Plays.{saying};
 pub fn generated_lines_are_read()
     ensures block { script_of (generated 8) ≡ whole (saying None (
         Client 1 (Begin (codes "x1") level.Default false)
-        ∷ Client 1 (Exec (Label (codes "x1")) (codes "SET ? ?") (plain (arg.Text (codes "u1")) ∷ plain (arg.Text (codes "Ann")) ∷ []))
-        ∷ Client 1 (Exec (Label (codes "x1")) (codes "ADD ? ?") (plain (arg.Text (codes "n")) ∷ plain (arg.I64 (pos 1)) ∷ []))
+        ∷ Client 1 (Exec (Label (codes "x1")) (codes "SET ? ?")
+        (plain (arg.Text (codes "u1")) ∷ plain (arg.Text (codes "Ann")) ∷ []))
+        ∷ Client 1 (Exec (Label (codes "x1")) (codes "ADD ? ?")
+        (plain (arg.Text (codes "n")) ∷ plain (arg.I64 (pos 1)) ∷ []))
         ∷ Client 1 (Exec (Label (codes "x1")) (codes "SET ? ?") (plain (arg.Text (codes "e1")) ∷ plain arg.Nil ∷ []))
         ∷ Client 1 (Query (codes "r1") (Label (codes "x1")) (codes "LIST ?") (plain (arg.Text (codes "e1")) ∷ []))
         ∷ Client 1 (Next (codes "r1"))

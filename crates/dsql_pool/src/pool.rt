@@ -64,7 +64,10 @@ impl Model for Pool {
         drawn = p.conns.drawn;
       };
       moves = p.moves.items;
-      spare = if nat_le most_open p.conns.capacity then min p.waiting.spare (min (vec_capacity p.idle - vec_len p.idle) (vec_capacity p.moves - (most_other_moves + vec_len p.idle))) else 0;
+      spare = if nat_le most_open p.conns.capacity
+          then min p.waiting.spare (min (vec_capacity p.idle - vec_len p.idle)
+          (vec_capacity p.moves - (most_other_moves + vec_len p.idle)))
+          else 0;
       capacity = vec_capacity p.moves;
     } };
 }

@@ -13,7 +13,8 @@ ghost use Rattle.dsql_timeline_picture.specs.Worked.{WorkedPicture};
 pub fn each_event_is_drawn_once()
     ensures columns { (events : List Happened) → map (λ (d : Drawn). (d.bar.column, d.title)) (bars_of events)
         ≡ enumerate_from 0 (map line_of events) }
-    ensures classes { (events : List Happened) → map (λ (d : Drawn). d.bar.class) (bars_of events) ≡ map class_of events }
+    ensures classes { (events : List Happened)
+        → map (λ (d : Drawn). d.bar.class) (bars_of events) ≡ map class_of events }
 {}
 
 /// States that each connection that is opened and each client has exactly one lane, in a row of its own.
