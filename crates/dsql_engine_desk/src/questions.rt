@@ -1,10 +1,10 @@
 //! Questions about calls and connections. Each returns the word of a reader of the history.
-ghost use Rattle.std.specs.Prelude.{◌≡◌, ◌<◌, ◌==◌, true, is_some, length, find, IfOk};
+ghost use Rattle.std.specs.Prelude.{◌≡◌, ◌<◌, ◌==◌, true, is_some, length, find, IfOk, OnErr};
 ghost use Rattle.dsql_laws_calls.specs.journal.Readers.{went_bad};
 ghost use Rattle.dsql_laws_calls.specs.works.Limits.{most_within_a_step};
 ghost use Rattle.dsql_engine_desk.specs.Desk.{past, Stands};
 ghost use Rattle.dsql_engine_calls.specs.Calls.{options_of, rows_worked, tx_worked};
-ghost use Rattle.dsql_engine_exchanged.specs.Filled.{refilled};
+ghost use Rattle.dsql_engine_exchanged.specs.Filled.{carries_statement, refilled};
 ghost use Rattle.dsql_laws_calls.specs.history.Readers.Calls.{call_record, decided, is_busy, next_call, site};
 ghost use Rattle.dsql_laws_calls.specs.history.Readers.Clients.{call_of, client_of};
 ghost use Rattle.dsql_laws_calls.specs.history.Readers.Controls.{taken};
@@ -194,14 +194,16 @@ impl Desk {
         }
     }
 
-    /// Returns the permit for this `leave`, with copies of the text and the parameters of its call.
+    /// Returns the permit for this `leave`, with copies of the text and the parameters of its call. Takes no
+    /// memory for a driver call without a statement.
     pub fn permit(&self, alloc: Global, leave: &Leave) -> Result<Permit, Memory>
         requires { Stands self.now }
-        ensures { IfOk result (λ permit. permit
+        ensures ok { IfOk result (λ permit. permit
             ≡ record leave.now {
               call = refilled (asked_by (past self.now) leave.now.call_no).text
                   (asked_by (past self.now) leave.now.call_no).params leave.now.call;
             }) }
+        ensures err { OnErr result (carries_statement leave.now.call ≡ true) }
     {
         match self.calls.get(leave.call_no() as usize) {
             Some(row) => leave.permit(&row.call.text, &row.call.params),

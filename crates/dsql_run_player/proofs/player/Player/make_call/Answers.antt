@@ -46,7 +46,7 @@ pub perform-requires : goal.perform-requires
 perform-requires g c =
     let old = c.args.self.now in
     let seen = ap (λ (p : Playing). (seat p.seats c.args.client).permit) c.self.view_is in
-    let has : HasLeave old c.args.client c.in_ok-permit.permit = leave_at old c.args.client c.in_ok-permit.permit c.requires.ready (sym seen ∙ (sym c.take_leave.ensures.permit ∙ (c.in-Some.is ∙ ap (λ (l : Permit). Some l) (sym c.in_ok-permit.ensures)))) in
+    let has : HasLeave old c.args.client c.in_ok-permit.permit = leave_at old c.args.client c.in_ok-permit.permit c.requires.ready (sym seen ∙ (sym c.take_leave.ensures.permit ∙ (c.in-Some.is ∙ ap (λ (l : Permit). Some l) (sym c.in_ok-permit.ensures.ok)))) in
     wire_takes g.W.Wire.told old c.args.client c.in_ok-permit.permit c.args.wires.now c.requires.ready.legal.lawful has c.requires.wires
 
 pub returns-in_err-heard : goal.returns-in_err-heard
@@ -66,7 +66,7 @@ pub heard-requires-clause-may : goal.heard-requires-clause-may
 heard-requires-clause-may g c =
     let old = c.args.self.now in
     let seen = ap (λ (p : Playing). (seat p.seats c.args.client).permit) c.self.view_is in
-    let has : HasLeave old c.args.client c.in_ok-permit.permit = leave_at old c.args.client c.in_ok-permit.permit c.requires.ready (sym seen ∙ (sym c.take_leave.ensures.permit ∙ (c.in-Some.is ∙ ap (λ (l : Permit). Some l) (sym c.in_ok-permit.ensures)))) in
+    let has : HasLeave old c.args.client c.in_ok-permit.permit = leave_at old c.args.client c.in_ok-permit.permit c.requires.ready (sym seen ∙ (sym c.take_leave.ensures.permit ∙ (c.in-Some.is ∙ ap (λ (l : Permit). Some l) (sym c.in_ok-permit.ensures.ok)))) in
     answer_heard g.W.Wire.told old c.args.client c.in_ok-permit.permit c.in_ok-heard.heard c.args.wires.now c.self.inside.engine (ap (λ (p : Playing). p.past) c.self.view_is) (ap (λ (p : Playing). p.flights) c.self.view_is)
     c.requires.ready.legal.lawful has c.requires.wires c.in_ok-heard.ensures.entry c.in_ok-heard.ensures.fits
 
@@ -90,7 +90,7 @@ pub hand-requires : goal.hand-requires
 hand-requires g c =
     let old = c.args.self.now in
     let seen = ap (λ (p : Playing). (seat p.seats c.args.client).permit) c.self.view_is in
-    let has : HasLeave old c.args.client c.in_ok-permit.permit = leave_at old c.args.client c.in_ok-permit.permit c.requires.ready (sym seen ∙ (sym c.take_leave.ensures.permit ∙ (c.in-Some.is ∙ ap (λ (l : Permit). Some l) (sym c.in_ok-permit.ensures)))) in
+    let has : HasLeave old c.args.client c.in_ok-permit.permit = leave_at old c.args.client c.in_ok-permit.permit c.requires.ready (sym seen ∙ (sym c.take_leave.ensures.permit ∙ (c.in-Some.is ∙ ap (λ (l : Permit). Some l) (sym c.in_ok-permit.ensures.ok)))) in
     let seated : c.args.client < length old.seats = has.room in
     let same : length c.take_leave.new.self ≡ length old.seats = c.take_leave.ensures.count ∙ ap (λ (p : Playing). length p.seats) c.self.view_is in
     omega (arith, same, seated)
@@ -104,7 +104,7 @@ returns g c =
     let next = c.in_ok-next.next in
     let new : Playing = record { past = c.heard.new.self.past; trimmed = c.heard.new.self.trimmed; flights = c.heard.new.self.flights; chore = c.heard.new.self.chore; seats = c.hand.new.self; released = c.self.inside.released } in
     let seen = ap (λ (p : Playing). (seat p.seats me).permit) c.self.view_is in
-    let has : HasLeave old me permit = leave_at old me permit c.requires.ready (sym seen ∙ (sym c.take_leave.ensures.permit ∙ (c.in-Some.is ∙ ap (λ (l : Permit). Some l) (sym c.in_ok-permit.ensures)))) in
+    let has : HasLeave old me permit = leave_at old me permit c.requires.ready (sym seen ∙ (sym c.take_leave.ensures.permit ∙ (c.in-Some.is ∙ ap (λ (l : Permit). Some l) (sym c.in_ok-permit.ensures.ok)))) in
     let taken : Given me None c.self.inside.seats c.take_leave.new.self = record { here = c.take_leave.ensures.after; others = c.take_leave.ensures.others; many = c.take_leave.ensures.count } in
     let handed : Given me c.leave_of.result c.take_leave.new.self c.hand.new.self = record { here = c.hand.ensures.permit; others = c.hand.ensures.others; many = c.hand.ensures.count } in
     let given : Given me (leave_of next) old.seats c.hand.new.self =
