@@ -27,7 +27,7 @@ use Rattle.dsql_laws_calls.proofs.Works.{enters_next, new_record, new_work, old_
 use Rattle.dsql_laws_replies.proofs.Served.{own_settled}
 
 -- Holds if call n, a fetch of the rows of call k, has settled its reply, or the rows were made.
-abbrev Finds : List Event → ℕ → ℕ → Type 0
+abbrev pub Finds : List Event → ℕ → ℕ → Type 0
 Finds H n k = (is_some (decided H n) ≡ true) ⊎ (is_some (rows_by H k) ≡ true)
 
 -- An event that leaves the call's record as it is keeps this.
@@ -69,7 +69,7 @@ finds_heard H e k l some it =
     let kept = rows_kept H (Heard e) k in
     kept.some (rows_fetched H e k l.0 may it)
 
-finds : (H : List Event) (n k : ℕ) → Lawful H → is_unfinished H n ≡ true → work H n ≡ Fetch k → Finds H n k
+pub finds : (H : List Event) (n k : ℕ) → Lawful H → is_unfinished H n ≡ true → work H n ≡ Fetch k → Finds H n k
 finds [] n k l u it = absurd cc
 finds (Entered client m op ∷ H) n k l u it = by (finds H n k l.0) (same_or_not n m)
   where
