@@ -1,4 +1,5 @@
 pub mod Sent
+pub mod DueCarried
 pub mod CourseCarried
 pub mod Filled
 pub mod Told
