@@ -56,8 +56,7 @@ use Rattle.dsql_laws_calls.proofs.Works.{still_unfinished}
 use Rattle.dsql_engine_effects.proofs.FirstEnds.{by_number}
 use Rattle.dsql_engine_effects.proofs.MadeKnown.{made_known}
 use Rattle.dsql_engine_effects.proofs.MadeOnce.{made_changed}
-use Rattle.dsql_engine_effects.proofs.RowEnders.{closing_ends, ender_entered, ender_of_none, heard_ends, with_end_ends}
-use Rattle.dsql_engine_desk.proofs.ThenEnds.{then_ends}
+use Rattle.dsql_engine_effects.proofs.RowEnders.{closing_ends, ender_entered, ender_of_none, heard_ends, then_ends, with_end_ends}
 use Rattle.dsql_engine_effects.proofs.TxEnders.{tx_ender_entered, tx_ender_of_none}
 use Rattle.dsql_engine_desk.proofs.EndedSame.{closed_same, heard_same, same_each, with_end_same}
 use Rattle.dsql_engine_desk.proofs.Known.{begun_known, unfinished_known, unfinished_before}

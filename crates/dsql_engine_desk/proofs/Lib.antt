@@ -28,4 +28,3 @@ pub mod AtEntry
 pub mod EndingLent
 pub mod SentOver
 pub mod Beginning
-pub mod ThenEnds

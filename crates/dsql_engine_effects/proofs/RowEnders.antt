@@ -147,7 +147,8 @@ one_ends by k n rows calls m within =
       on = λ is. dead ∙ sym is;
     }
 
-then_ends : (n : ℕ) (rows between after : Made) (calls meanwhile noted : List CallRow) (m : ℕ) → EndsRows n rows between calls meanwhile m → EndsRows n between after meanwhile noted m → EndsRows n rows after calls noted m
+-- If two changes in turn end the rows of a call or leave them, then so do both together.
+pub then_ends : (n : ℕ) (rows between after : Made) (calls meanwhile noted : List CallRow) (m : ℕ) → EndsRows n rows between calls meanwhile m → EndsRows n between after meanwhile noted m → EndsRows n rows after calls noted m
 then_ends n rows between after calls meanwhile noted m one two = by one.ends refl two.ends refl
   where
     by : (b : Bool) → one.ends ≡ b → (d : Bool) → two.ends ≡ d → EndsRows n rows after calls noted m
