@@ -53,7 +53,7 @@ impl<R: AllocGlobal + Wait + Clone + Drop + Send> Model for MemFleet<R> {
 }
 
 impl<R: AllocGlobal + Wait + Clone + Drop + Send> MemFleet<R> {
-    /// Returns a fleet with no connection yet and an empty store.
+    /// Returns a fleet with no connection yet and an empty store. No clause says that the store is empty.
     pub fn new(rt: R) -> Result<MemFleet<R>, Memory>
         ensures { IfOk result (λ fleet. fleet ≡ new_fleet) }
     {
@@ -107,6 +107,7 @@ impl<R: AllocGlobal + Wait + Clone + Drop + Send> Fleet for MemFleet<R> {
         Ok(())
     }
 
+    /// Opens a connection, whose wire shares the fleet's store. No clause says that all wires share one store.
     fn connect(&mut self, number: u32) -> Result<MemWire<R>, Refused>
         ensures asked { Some self.new.told ≡ connected_after number (answer_of result) (Some self.old.told) }
         ensures new { IfOk result (λ w. IfSome (Some w.told) (λ told. told ≡ newly_told number)) }

@@ -1,5 +1,12 @@
 //! A database driver in memory, for runs without a database. A store maps texts to values, and each statement
 //! is a few words.
+//!
+//! The wires of a fleet share one store under a lock. All that a lock tells a contract is what holds of every store:
+//! its keys ascend. So no clause promises any of these, and only tests show them:
+//!
+//! - The store of a new fleet is empty.
+//! - All wires of a fleet share one store.
+//! - A call is answered from the store as earlier calls left it, those of its wire and those of other ones.
 #![tactic(auto)]
 
 mod connection;

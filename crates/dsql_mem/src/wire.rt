@@ -72,6 +72,8 @@ impl<R: AllocGlobal + Wait + Drop> Wire for MemWire<R> {
 
     ghost cursors = { λ w. cursors_of w.session };
 
+    /// Makes one call on the store that all wires of the fleet share. No clause says that the store is as earlier calls
+    /// left it, those of this wire or those of another one.
     fn call(&mut self, call: &DriverCall) -> Answered
         ensures copied { result.copy ≡ result.answer }
         ensures fitting { fits_of call.now result.answer ≡ true }
@@ -85,8 +87,8 @@ impl<R: AllocGlobal + Wait + Drop> Wire for MemWire<R> {
         ensures faultless { is_fault result.answer ≡ false → self.new.faults ≡ self.old.faults }
 
         // A wire in memory promises more: its answer, and what it is afterwards. The answer is the planned
-        // fault if one stands in the call's place. The contract only says that there is a store, since other
-        // wires write to it too.
+        // fault if one stands in the call's place. Otherwise it is right for some store with ascending keys. A lock
+        // tells a contract no more of the store, so the clause doesn't say which one it is.
         ensures carried_out { is_memory result.answer ≡ false → (store : Entries) × AreAscending store
             × CarriesOut store call.now result.answer self.old self.new }
         ensures stays { is_memory result.answer ≡ true → self.new ≡ self.old }

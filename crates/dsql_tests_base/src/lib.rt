@@ -15,6 +15,8 @@ mod journals;
 #[cfg(test)]
 mod mem;
 #[cfg(test)]
+mod store;
+#[cfg(test)]
 mod tables;
 #[cfg(test)]
 mod values;

@@ -7,7 +7,8 @@ use std::alloc::Global;
 use std::test::Fail;
 use std::thread;
 
-fn exec(alloc: Global, text: &str) -> Result<DriverCall, Memory> {
+/// Returns the driver call that executes a text without parameters.
+pub(crate) fn exec(alloc: Global, text: &str) -> Result<DriverCall, Memory> {
     let text = Txt::copy_of(alloc, text)?;
     Ok(DriverCall::Exec(Input::Text(text), Items::none(alloc)))
 }
