@@ -46,8 +46,8 @@ rect{stroke:#555;stroke-width:1px;height:34px}
 <p>Summary: "##;
 
 /// What a page has between its summary and its picture.
-pub const LEGEND: &str =
-    r##", which counts lines, calls, connections, answers of the driver, replies without an error
+pub const LEGEND: &str = r##"</p>
+<p>Its figures count lines, calls, connections, answers of the driver, replies without an error
 and replies with one.</p>
 <p>Each column is an event. Hold the pointer over a bar to see its line in the report.</p>
 <p><i style="background:#56b4e9"></i>tenure, or call: each in its owner's colour
