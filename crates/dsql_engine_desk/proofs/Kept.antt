@@ -27,7 +27,6 @@ use Rattle.dsql_laws_calls.specs.history.declared.record.Try.{Try}
 use Rattle.dsql_laws_calls.specs.history.declared.record.Try.TheVariants.{Served, Refused}
 use Rattle.dsql_laws_calls.specs.history.declared.reply.Reply.{Reply}
 use Rattle.dsql_laws_calls.specs.history.Readers.Calls.{calls, call_record, decided_by, entering, with_record}
-use Rattle.dsql_laws_calls.specs.history.Readers.Calls as told
 use Rattle.dsql_laws_calls.specs.history.Readers.HandedOut.{caller, ender, handed_out}
 use Rattle.dsql_laws_calls.specs.history.Readers.Transactions.{ending_call, transactions, tx_ender}
 use Rattle.dsql_laws_calls.specs.history.Readers.Tries.{lost, most_tries, try_number, tries, loses, newest_answer}
@@ -51,7 +50,7 @@ use Rattle.dsql_engine_effects.specs.Heard.{Decides, HearsRows, calls_after, cal
 use Rattle.dsql_engine_calls.specs.Tries.{tried_by, tried_by_all}
 use Rattle.dsql_engine_calls.specs.Settling.{replied}
 use Rattle.dsql_engine_effects.specs.Starts.{closed_rows, Starts, closed_by}
-use Rattle.dsql_engine_calls.proofs.CallRows.{same_at, same_all, calls_changed, changed_at, changed_beside, same_pushed, all_pushed, as_many, work_at, call_at}
+use Rattle.dsql_engine_calls.proofs.CallRows.{same_at, same_all, calls_changed, changed_at, changed_beside, same_pushed, all_pushed, as_many, work_at}
 use Rattle.dsql_laws_calls.proofs.Works.{still_unfinished}
 use Rattle.dsql_engine_effects.proofs.FirstEnds.{by_number}
 use Rattle.dsql_engine_effects.proofs.MadeKnown.{made_known}
@@ -304,9 +303,6 @@ replied_keeps H n reply rows k =
 
 pub row_work : (H : List Event) (rows : List CallRow) (n : ℕ) → KeepsCalls H rows → (row_at rows n).work ≡ work H n
 row_work H rows n k = work_at rows n ∙ ap (λ ws. slice_index_or ws n Look) k.works
-
-pub row_call : (H : List Event) (rows : List CallRow) (n : ℕ) → KeepsCalls H rows → (row_at rows n).call ≡ call_record H n
-row_call H rows n k = call_at rows n ∙ ap (λ cs. slice_index_or cs n told.nobody) k.calls
 
 -- Returns the row of a call that enters, with these recorded tries.
 abbrev pub row_started : ℕ → CallStart → Tried → CallRow

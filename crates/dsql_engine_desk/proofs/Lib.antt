@@ -9,7 +9,6 @@ pub mod Kept
 pub mod HouseCalls
 pub mod OtherEvents
 pub mod OwnSteps
-pub mod Settled
 pub mod FewCalls
 pub mod Asking
 pub mod Fates

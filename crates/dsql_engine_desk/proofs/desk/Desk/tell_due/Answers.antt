@@ -8,7 +8,7 @@ use Rattle.dsql_engine_desk.specs.Appending.{reply_now}
 use Rattle.dsql_engine_calls.specs.Calls.{row_at}
 use Rattle.dsql_engine_desk.specs.Desk.{past, Stands}
 use Rattle.dsql_engine_calls.specs.Settling.{reply_or, settled_in}
-use Rattle.dsql_engine_desk.proofs.Settled.{settled_as}
+use Rattle.dsql_engine_calls.proofs.Settled.{settled_as}
 use Rattle.dsql_engine_desk.proofs.desk.Desk.tell_due.Goals as goal
 
 pub add_due_reply-requires-clause-may : goal.add_due_reply-requires-clause-may
