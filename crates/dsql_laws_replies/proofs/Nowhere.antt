@@ -51,9 +51,8 @@ use Rattle.dsql_laws_replies.proofs.Served.{own_line, own_settled, served_replie
 never : {A : Type 0} (b : Bool) → b ≡ true → b ≡ false → A
 never b x y = absurd cc
 
--- A call that has settled nothing, wasn't served and has nothing to send uses no connection.
-
-unused : (H : List Event) (n : ℕ) → is_unfinished H n ≡ true → asks (work H n) ≡ true → is_some (due_for H n) ≡ false → is_begun H n ≡ false → rows_by H n ≡ None → is_used H n ≡ false
+-- A call that has made no rows, has begun no transaction and has nothing to send uses no connection.
+pub unused : (H : List Event) (n : ℕ) → is_unfinished H n ≡ true → asks (work H n) ≡ true → is_some (due_for H n) ≡ false → is_begun H n ≡ false → rows_by H n ≡ None → is_used H n ≡ false
 unused H n u own none unbegun rowless =
     ap (λ (b : Bool). (b && not (is_over H n)) || (live (rows_by H n) || is_some (cond b (ending H n) (rest_with H n (rows_by H n))))) unbegun
     ∙ (ap (λ o. live o || is_some (rest_with H n o)) rowless ∙ line)
@@ -62,7 +61,7 @@ unused H n u own none unbegun rowless =
     line = ap (λ d. is_some d) (sym (own_line H n (work H n) own)) ∙ ap (λ (b : Bool). is_some (cond b (due_in H n (work H n)) None)) (sym u) ∙ none
 
 -- If every lent connection is in use, such a call has no connection.
-lent_used : (H : List Event) (n : ℕ) (conns : List Conn) → list_all (λ conn. is_in_use H conn.place) conns ≡ true → is_kept H n ≡ false → list_any (λ conn. is_for n conn.place) conns ≡ false
+pub lent_used : (H : List Event) (n : ℕ) (conns : List Conn) → list_all (λ conn. is_in_use H conn.place) conns ≡ true → is_kept H n ≡ false → list_any (λ conn. is_for n conn.place) conns ≡ false
     → find (λ conn. is_home n conn.place) conns ≡ None
 lent_used H n [] used free unwanted = refl
 lent_used H n (x ∷ xs) used free unwanted =
@@ -80,7 +79,7 @@ lent_used H n (x ∷ xs) used free unwanted =
     at (Opening wanted) u f = f
     at Closing u f = f
 
--- A call that wasn't served rests with no connection.
+-- A call that wasn't served is no ping with nothing to ask.
 untold : (can : Caps) (it : Work) (tried : List Try) → was_served tried ≡ false → asks_nothing can it tried ≡ false
 untold can Ping [] h = refl
 untold can Ping (Served ∷ tried) h = absurd cc
@@ -88,7 +87,8 @@ untold can Ping (Lost ∷ tried) h = refl
 untold can Ping (Refused answer ∷ tried) h = refl
 untold can it tried h = refl
 
-restless : (H : List Event) (n : ℕ) → was_served (tries H n) ≡ false → rests H n ≡ false
+-- A call that wasn't served rests with no connection.
+pub restless : (H : List Event) (n : ℕ) → was_served (tries H n) ≡ false → rests H n ≡ false
 restless H n h = ap (λ b. is_unfinished H n && b) (untold (caps H) (work H n) (tries H n) h) ∙ none (is_unfinished H n)
   where
     none : (b : Bool) → (b && false) ≡ false
