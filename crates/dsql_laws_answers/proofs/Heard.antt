@@ -17,7 +17,7 @@ use Rattle.dsql_laws_calls.specs.history.declared.event.Event.TheVariants.{Heard
 use Rattle.dsql_laws_calls.specs.history.Readers.Pool.{pool, place, home}
 use Rattle.dsql_laws_calls.specs.history.Rules.Settled.{is_in_use, is_kept, uses_what_is_lent}
 use Rattle.dsql_laws_calls.proofs.Owners.{at_home}
-use Rattle.dsql_laws_answers.proofs.Once.{once}
+use Rattle.dsql_laws_others.proofs.OnceLeft.{once}
 use Rattle.dsql_laws_answers.proofs.Elsewhere.{HeardLent, kept_off}
 
 pub lent_used : (H : List Event) (d u : ℕ) (o : Owner) → uses_what_is_lent H ≡ true → place H d ≡ Some (Lent u o) → is_kept H (number_of o) ≡ true

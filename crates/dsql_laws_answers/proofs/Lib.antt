@@ -1,5 +1,4 @@
 pub mod Elsewhere
-pub mod Once
 pub mod Heard
 pub mod Due
 pub mod Entering
