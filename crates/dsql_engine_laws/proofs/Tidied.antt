@@ -20,7 +20,7 @@ use Rattle.dsql_engine_hearing.specs.history.Rules.Ending.{ending, ending_with}
 use Rattle.dsql_engine_hearing.specs.history.Rules.Line.{tidying}
 use Rattle.dsql_engine_hearing.specs.history.Rules.Sent.{closing, line_of}
 use Rattle.dsql_engine_hearing.specs.history.Legal.{Lawful}
-use Rattle.dsql_engine_hearing.proofs.laws_callers.Owners.{asker_number, lent_asks}
+use Rattle.dsql_engine_hearing.proofs.laws_calls.Owners.{lent_asks}
 use Rattle.dsql_engine_hearing.proofs.laws_callers.Rows as rows
 use Rattle.dsql_engine_hearing.proofs.laws_callers.Transacted as transacted
 
@@ -72,4 +72,4 @@ tidied H n l own h = by (is_begun H n) h
 
 -- The layer tidies up on a lent connection only after the run has ended.
 pub tidied_after_end : (H : List Event) (c t : ℕ) (own : Owner) → Lawful H → place H c ≡ Some (Lent t own) → is_some (tidying H (number_of own)) ≡ true → has_ended H ≡ true
-tidied_after_end H c t own l lent h = tidied H (number_of own) l (asker_number H own (lent_asks H c t own l lent)) h
+tidied_after_end H c t own l lent h = tidied H (number_of own) l (lent_asks H c t own l lent) h

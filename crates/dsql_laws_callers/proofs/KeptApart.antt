@@ -10,11 +10,13 @@ use Rattle.dsql_laws_calls.specs.history.declared.event.Event.{Event}
 use Rattle.dsql_laws_calls.specs.history.declared.event.Event.TheVariants.{Heard}
 use Rattle.dsql_laws_calls.specs.history.Readers.Course.{has_ended}
 use Rattle.dsql_laws_calls.specs.history.Readers.Journals.{journal}
-use Rattle.dsql_laws_calls.specs.history.Readers.Works.{work, asks, borrower}
+use Rattle.dsql_laws_calls.specs.history.declared.work.Work.{Work}
+use Rattle.dsql_laws_calls.specs.history.declared.work.Work.TheVariants.{Begin}
+use Rattle.dsql_laws_calls.specs.history.Readers.Works.{work, asks, borrower, owner_as, owner_of}
 use Rattle.dsql_laws_calls.specs.history.Rules.Moves.{is_house_entry}
 use Rattle.dsql_laws_calls.specs.history.Legal.{Lawful}
+use Rattle.dsql_laws_calls.proofs.Owners.{owner_is_of}
 use Rattle.dsql_laws_callers.proofs.Heard.{heard_follows, heard_lent}
-use Rattle.dsql_laws_callers.proofs.Owners.{is_asker, lent_asks}
 use Rattle.dsql_laws_callers.proofs.Senders.{senders}
 use Rattle.dsql_laws_callers.proofs.Tidying.{tidies_ended}
 use Rattle.dsql_laws_callers.proofs.Works.{own_borrower}
@@ -39,16 +41,24 @@ uses_its_own H e l some =
 pub sends_to_its_own : (H : List Event) (e : Entry) → Lawful (Heard e ∷ H) → e.call_no ≢ 0 → asks (work H e.call_no) ≡ true → number_of e.owner ≡ e.call_no
 sends_to_its_own H e l some own = sym (uses_its_own H e l some) ∙ own_borrower H e.call_no own
 
+-- A call never asks for a pin.
+no_pin : (H : List Event) (n : ℕ) → is_pin (owner_of H n) ≡ false
+no_pin H n = by (work H n)
+  where
+    by : (it : Work) → is_pin (owner_as it n) ≡ false
+    by (Begin label level read_only) = refl
+    by it = refl
+
 -- An owner of transaction k is that transaction, because no owner is a pin.
-transaction_is : (H : List Event) (k : ℕ) (o : Owner) → is_asker H o ≡ true → (is_tx_number k o || is_pin o) ≡ true → o ≡ Tx k
-transaction_is H k (Tx m) own h = by (m == k) refl h
+transaction_is : (k : ℕ) (o : Owner) → is_pin o ≡ false → (is_tx_number k o || is_pin o) ≡ true → o ≡ Tx k
+transaction_is k (Tx m) own h = by (m == k) refl h
   where
     by : (b : Bool) → (m == k) ≡ b → (b || false) ≡ true → Tx m ≡ Tx k
     by true same g = ap Tx (same_number m k same)
     by false same g = absurd cc
-transaction_is H k (Call m) own h = absurd cc
-transaction_is H k (Pin m) own h = absurd cc
-transaction_is H k House own h = absurd cc
+transaction_is k (Call m) own h = absurd cc
+transaction_is k (Pin m) own h = absurd cc
+transaction_is k House own h = absurd cc
 
 owns_none : (k : ℕ) (o : Owner) → (is_tx_number k o || is_pin o) ≡ true → is_house o ≡ false
 owns_none k (Call m) h = absurd cc
@@ -60,7 +70,8 @@ owner_of_transaction H e l some =
     let follows = MayFollow-of (journal H e.conn) e (heard_follows H e l.1) in
     let keeps = follows.transaction some in
     let f = heard_lent H e l.1 (no_house e (owns_none e.tx e.owner keeps.owner)) in
-    transaction_is H e.tx e.owner (lent_asks H e.conn e.tenure e.owner l.0 f.lent) keeps.owner
+    let own = owner_is_of H e.conn e.tenure e.owner l.0 f.lent in
+    transaction_is e.tx e.owner (ap is_pin own.1 ∙ no_pin H (number_of e.owner)) keeps.owner
 
 pub stays_inside : (H : List Event) (e : Entry) → Lawful (Heard e ∷ H) → e.tx ≢ 0 → e.call_no ≢ 0 → borrower H e.call_no ≡ e.tx
 stays_inside H e l some called = uses_its_own H e l called ∙ ap number_of (owner_of_transaction H e l some)

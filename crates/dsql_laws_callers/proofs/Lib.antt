@@ -4,8 +4,6 @@ pub mod Tenures
 pub mod Homes
 pub mod Heard
 pub mod Senders
-pub mod Lendings
-pub mod Owners
 pub mod Things
 pub mod Ended
 pub mod Transacted

@@ -19,8 +19,8 @@ use Rattle.dsql_laws_calls.specs.history.Rules.Ending.{ending, ending_with}
 use Rattle.dsql_laws_calls.specs.history.Rules.Line.{tidying, due_for, is_due, is_due_at, parts, may_come}
 use Rattle.dsql_laws_calls.specs.history.Rules.Sent.{line_of, closing}
 use Rattle.dsql_laws_calls.specs.history.Legal.{Lawful}
+use Rattle.dsql_laws_calls.proofs.Owners.{lent_asks}
 use Rattle.dsql_laws_callers.proofs.Ended.{ended_still}
-use Rattle.dsql_laws_callers.proofs.Owners.{lent_asks, asker_number}
 use Rattle.dsql_laws_callers.proofs.Rows as rows
 use Rattle.dsql_laws_callers.proofs.Senders.{due_there, either, not_due}
 use Rattle.dsql_laws_callers.proofs.Transacted as transacted
@@ -67,7 +67,7 @@ due_ended : (H : List Event) (e : Entry) → Lawful H → e.call_no ≡ 0 → is
 due_ended H e l none h =
     let d = due_there H e h in
     let due : is_due (tidying H (number_of d.owner)) e.call ≡ true = sym (ap (λ m. is_due (cond (m == 0) (tidying H (number_of d.owner)) (due_for H m)) e.call) none) ∙ d.due in
-    tidied_ended H (number_of d.owner) e.call l (asker_number H d.owner (lent_asks H e.conn e.tenure d.owner l d.lent)) due
+    tidied_ended H (number_of d.owner) e.call l (lent_asks H e.conn e.tenure d.owner l d.lent) due
 
 -- If a driver call of the layer's may come, the run has ended: it was due at an earlier moment.
 pub tidies_ended : (H : List Event) (e : Entry) → Lawful H → e.call_no ≡ 0 → may_come H e ≡ true → has_ended H ≡ true
