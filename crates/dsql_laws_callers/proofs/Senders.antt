@@ -16,6 +16,7 @@ use Rattle.dsql_laws_calls.specs.pool.Pooled.{next_tenure}
 use Rattle.dsql_laws_calls.proofs.pool.Found.{found_changed}
 use Rattle.dsql_laws_calls.proofs.laws.Tests.{both, same_number, other_number}
 use Rattle.dsql_laws_calls.proofs.Found.{place_in, lends_in}
+use Rattle.dsql_laws_calls.proofs.Lent.{Lends, lent_before}
 use Rattle.dsql_laws_calls.specs.history.declared.event.Event.{Event}
 use Rattle.dsql_laws_calls.specs.history.declared.event.Event.TheVariants.{Pool}
 use Rattle.dsql_laws_calls.specs.history.declared.work.Work.TheVariants.{Look}
@@ -27,7 +28,7 @@ use Rattle.dsql_laws_calls.specs.history.Rules.Line.{due_in, due_for, due_from, 
 use Rattle.dsql_laws_calls.specs.history.Rules.Moves.{moves_from, numbers_lending}
 use Rattle.dsql_laws_calls.specs.history.Legal.{Allowed, Lawful}
 use Rattle.dsql_laws_callers.proofs.Works.{borrower_stays, works_stay, has_entered}
-use Rattle.dsql_laws_callers.proofs.Tenures.{Lends, lent_before, HasBegun, begun_still, open_opened}
+use Rattle.dsql_laws_callers.proofs.Tenures.{HasBegun, begun_still, open_opened}
 use Rattle.dsql_laws_callers.proofs.Homes.{home_owner}
 
 -- A lending.
@@ -87,7 +88,7 @@ lends_begins H e c t o lends a = subst (λ d. HasBegun (d ∷ H) c t) (sym lends
 -- A lent connection is in a tenure that has begun.
 pub lent_has_begun : (H : List Event) (c t : ℕ) (o : Owner) → Lawful H → place H c ≡ Some (Lent t o) → HasBegun H c t
 lent_has_begun [] c t o l is = absurd cc
-lent_has_begun (e ∷ H) c t o l is = by (lent_before H e c t o is) (λ was. lent_has_begun H c t o l.0 was)
+lent_has_begun (e ∷ H) c t o l is = by (lent_before H e c t o l.0 is) (λ was. lent_has_begun H c t o l.0 was)
   where
     by : (place H c ≡ Some (Lent t o)) ⊎ Lends e c t o → (place H c ≡ Some (Lent t o) → HasBegun H c t) → HasBegun (e ∷ H) c t
     by (inl was) earlier = begun_still H e c t (earlier was)
@@ -99,16 +100,16 @@ pub record IsSenders (H : List Event) (e : Entry) : Type 0 where
   pub entered : e.call_no < length (works H)
   pub owner : (o : Owner) → place H e.conn ≡ Some (Lent e.tenure o) → borrower H e.call_no ≡ number_of o
 
-senders_still : (H : List Event) (last : Event) (e : Entry) → Allowed H last → IsSenders H e → IsSenders (last ∷ H) e
-senders_still H last e a s = record {
+senders_still : (H : List Event) (last : Event) (e : Entry) → Lawful (last ∷ H) → IsSenders H e → IsSenders (last ∷ H) e
+senders_still H last e l s = record {
   tenure = begun_still H last e.conn e.tenure s.tenure;
   entered = works_stay H last e.call_no s.entered;
-  owner = λ o is. by o (lent_before H last e.conn e.tenure o is);
+  owner = λ o is. by o (lent_before H last e.conn e.tenure o l.0 is);
 }
   where
     by : (o : Owner) → (place H e.conn ≡ Some (Lent e.tenure o)) ⊎ Lends last e.conn e.tenure o → borrower (last ∷ H) e.call_no ≡ number_of o
     by o (inl was) = borrower_stays H last e.call_no s.entered ∙ s.owner o was
-    by o (inr lends) = absurd (lend_anew H e.conn e.tenure o lends.0 s.tenure (subst (λ d. Allowed H d) lends.1 a))
+    by o (inr lends) = absurd (lend_anew H e.conn e.tenure o lends.0 s.tenure (subst (λ d. Allowed H d) lends.1 l.1))
 
 -- What is due at this moment.
 
@@ -169,4 +170,4 @@ senders (last ∷ H) e l some h =
   where
     by : (is_due_at (last ∷ H) (place (last ∷ H) e.conn) e ≡ true) ⊎ ((not (parts last e) && may_come H e) ≡ true) → (may_come H e ≡ true → IsSenders H e) → IsSenders (last ∷ H) e
     by (inl due) earlier = due_senders (last ∷ H) e l some due
-    by (inr was) earlier = let a = both (not (parts last e)) (may_come H e) was in senders_still H last e l.1 (earlier a.1)
+    by (inr was) earlier = let a = both (not (parts last e)) (may_come H e) was in senders_still H last e l (earlier a.1)

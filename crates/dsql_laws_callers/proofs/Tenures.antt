@@ -1,20 +1,19 @@
--- Proves that a tenure of a connection belongs to one lending. A lent connection stays with its owner until it
--- is given back, and is then lent in a later tenure.
+-- Proves that a tenure which has begun stays begun. The argument is that no event lowers how many connections were
+-- opened, or how often one was lent.
 use Rattle.std.proofs.Common.{◌≡◌, ◌≢◌, ℕ, ◌+◌, ◌<◌, ◌≤◌, ◌==◌, true, false, cond, List, ◌∷◌, Option, Some, None, refl, sym, ap, subst, ◌∙◌, ◌⊎◌, inl, inr, arith}
 use Rattle.std.specs.Option.{option_map}
-use Rattle.dsql_laws_calls.specs.journal.declared.entry.Owner.{Owner}
 use Rattle.dsql_laws_calls.specs.pool.declared.conn.Conn.{Conn}
 use Rattle.dsql_laws_calls.specs.pool.declared.conn.Place.{Place}
-use Rattle.dsql_laws_calls.specs.pool.declared.conn.Place.TheVariants.{Idle, Lent, Opening, Closing}
+use Rattle.dsql_laws_calls.specs.pool.declared.conn.Place.TheVariants.{Opening}
 use Rattle.dsql_laws_calls.specs.pool.declared.moves.Move.TheVariants.{OpenStart, Lend, Back, CloseStart, Gone, Fell}
 use Rattle.dsql_laws_calls.specs.pool.Changes.{lent, back, closing, changed, gone, unwanted}
-use Rattle.dsql_laws_calls.specs.pool.Places.{conn_of, place_of, is_opening, is_lent}
-use Rattle.dsql_laws_calls.specs.pool.Pooled.{Pooled, next_number, place_at}
+use Rattle.dsql_laws_calls.specs.pool.Places.{conn_of, is_opening}
+use Rattle.dsql_laws_calls.specs.pool.Pooled.{Pooled}
 use Rattle.dsql_laws_calls.specs.pool.Moved.{begun}
 use Rattle.dsql_laws_calls.proofs.pool.Found.{KeepsNumber, found_changed}
 use Rattle.dsql_laws_calls.proofs.pool.Placed.{found_map}
 use Rattle.dsql_laws_calls.proofs.pool.Rows.{has_number}
-use Rattle.dsql_laws_calls.proofs.Found.{place_in, changed_off, gone_at, gone_off, begun_at, begun_off, unwanted_in, unwanted_place}
+use Rattle.dsql_laws_calls.proofs.Found.{place_in, changed_off, gone_at, gone_off, begun_off}
 use Rattle.dsql_laws_calls.proofs.Lists.{same_or_not}
 use Rattle.dsql_laws_calls.specs.history.declared.event.Event.{Event}
 use Rattle.dsql_laws_calls.specs.history.declared.event.Event.TheVariants.{Pool}
@@ -33,100 +32,6 @@ open_opened H c x is =
 pub found_place : (o : Option Conn) (p : Place) → place_in o ≡ Some p → (x : Conn) × (o ≡ Some x) × (x.place ≡ p)
 found_place None p h = absurd cc
 found_place (Some x) p h = (x, refl, cc)
-
--- A connection that is lent after an event was lent before it, or the event lends it.
-
-abbrev pub Lends : Event → ℕ → ℕ → Owner → Type 0
-Lends e c t o = (n : ℕ) × (e ≡ Pool (Lend c t o n))
-
-was_shut : (at : Option Place) (t : ℕ) (o : Owner) → option_map unwanted_place at ≡ Some (Lent t o) → at ≡ Some (Lent t o)
-was_shut (Some (Lent u p)) t o h = h
-was_shut (Some Idle) t o h = absurd cc
-was_shut (Some (Opening w)) t o h = absurd cc
-was_shut (Some Closing) t o h = absurd cc
-was_shut None t o h = absurd cc
-
--- A change to another place leaves no connection lent so.
-placed_else : (f : Conn → Conn) (p : Place) (t : ℕ) (o : Owner) (found : Option Conn) → ((x : Conn) → (f x).place ≡ p) → (p ≡ Lent t o → ⊥) → place_in (option_map f found) ≡ Some (Lent t o) → ⊥
-placed_else f p t o None at other h = cc
-placed_else f p t o (Some x) at other h = other (sym (at x) ∙ inner (f x).place h)
-  where
-    inner : (q : Place) → Some q ≡ Some (Lent t o) → q ≡ Lent t o
-    inner q k = cc
-
-before_changed : (H : List Event) (d c t : ℕ) (o : Owner) (f : Conn → Conn) (p : Place) → KeepsNumber f → ((x : Conn) → (f x).place ≡ p) → (p ≡ Lent t o → ⊥)
-    → place_in (conn_of c (changed d f (pool H).conns)) ≡ Some (Lent t o) → place H c ≡ Some (Lent t o)
-before_changed H d c t o f p keeps at other is = by (same_or_not c d)
-  where
-    by : (c ≡ d) ⊎ (c ≢ d) → place H c ≡ Some (Lent t o)
-    by (inl same) =
-        let here : place_in (option_map f (conn_of c (pool H).conns)) ≡ Some (Lent t o) =
-        sym (ap (λ e. place_in (conn_of c (changed e f (pool H).conns))) (sym same) ∙ ap place_in (found_changed c f keeps (pool H).conns)) ∙ is
-        in
-        absurd (placed_else f p t o (conn_of c (pool H).conns) at other here)
-    by (inr apart) = sym (ap place_in (changed_off d c f (pool H).conns keeps apart)) ∙ is
-
-before_gone : (H : List Event) (d c t : ℕ) (o : Owner) → place_in (conn_of c (gone d (pool H).conns)) ≡ Some (Lent t o) → place H c ≡ Some (Lent t o)
-before_gone H d c t o is = by (same_or_not c d)
-  where
-    by : (c ≡ d) ⊎ (c ≢ d) → place H c ≡ Some (Lent t o)
-    by (inl same) =
-        let none : None ≡ Some (Lent t o) = sym (ap (λ e. place_in (conn_of c (gone e (pool H).conns))) (sym same) ∙ ap place_in (gone_at c (pool H).conns)) ∙ is in
-        absurd cc
-    by (inr apart) = sym (ap place_in (gone_off d c (pool H).conns apart)) ∙ is
-
--- The next number is that of no open connection.
-new_unfound : (H : List Event) → conn_of (next_number (pool H)) (pool H).conns ≡ None
-new_unfound H = by (conn_of (next_number (pool H)) (pool H).conns) refl
-  where
-    by : (o : Option Conn) → conn_of (next_number (pool H)) (pool H).conns ≡ o → o ≡ None
-    by None is = refl
-    by (Some x) is = let old = open_opened H (next_number (pool H)) x is in absurd (omega (arith, old.1))
-
-before_open : (H : List Event) (k c t : ℕ) (o : Owner) → place_in (conn_of c (begun (wanted_by H k) (pool H)).conns) ≡ Some (Lent t o) → place H c ≡ Some (Lent t o)
-before_open H k c t o is = by (same_or_not c (next_number (pool H)))
-  where
-    by : (c ≡ next_number (pool H)) ⊎ (c ≢ next_number (pool H)) → place H c ≡ Some (Lent t o)
-    by (inl new) =
-        let clash : Some (Opening (wanted_by H k)) ≡ Some (Lent t o) =
-        sym (ap (λ e. place_in (conn_of e (begun (wanted_by H k) (pool H)).conns)) new ∙ ap place_in (begun_at (wanted_by H k) (pool H) (new_unfound H))) ∙ is
-        in
-        absurd cc
-    by (inr apart) = sym (ap place_in (begun_off c (wanted_by H k) (pool H) apart)) ∙ is
-
-before_lend : (H : List Event) (d u : ℕ) (p : Owner) (k c t : ℕ) (o : Owner) → place_in (conn_of c (changed d (lent u p (pool H).moment) (pool H).conns)) ≡ Some (Lent t o)
-    → (place H c ≡ Some (Lent t o)) ⊎ Lends (Pool (Lend d u p k)) c t o
-before_lend H d u p k c t o is = by (same_or_not c d)
-  where
-    lent_now : (found : Option Conn) → place_in (option_map (lent u p (pool H).moment) found) ≡ Some (Lent t o) → (u ≡ t) × (p ≡ o)
-    lent_now None h = absurd cc
-    lent_now (Some x) h = (cc, cc)
-
-    by : (c ≡ d) ⊎ (c ≢ d) → (place H c ≡ Some (Lent t o)) ⊎ Lends (Pool (Lend d u p k)) c t o
-    by (inl same) =
-        let here : place_in (option_map (lent u p (pool H).moment) (conn_of c (pool H).conns)) ≡ Some (Lent t o) =
-        sym (ap (λ e. place_in (conn_of c (changed e (lent u p (pool H).moment) (pool H).conns))) (sym same) ∙ ap place_in (found_changed c (lent u p (pool H).moment) (λ x. refl) (pool H).conns)) ∙ is
-        in
-        let is_now = lent_now (conn_of c (pool H).conns) here in
-        inr (k, rw (same, is_now.0, is_now.1) refl)
-    by (inr apart) = inl (sym (ap place_in (changed_off d c (lent u p (pool H).moment) (pool H).conns (λ x. refl) apart)) ∙ is)
-
-not_lent : (t : ℕ) (o : Owner) (p : Place) → is_lent (Some p) ≡ false → p ≡ Lent t o → ⊥
-not_lent t o p h is = let k : is_lent (Some (Lent t o)) ≡ false = ap (λ q. is_lent (Some q)) (sym is) ∙ h in cc
-
-before_turn : (p q : Pooled) (c t : ℕ) (o : Owner) → Stays p q ⊎ Shuts p q → place_at q c ≡ Some (Lent t o) → place_at p c ≡ Some (Lent t o)
-before_turn p q c t o (inl s) is = sym (ap (place_of c) s.conns) ∙ is
-before_turn p q c t o (inr s) is =
-    was_shut (place_at p c) t o (sym (ap (place_of c) s.conns ∙ (ap place_in (found_map c unwanted unwanted_number p.conns) ∙ unwanted_in (conn_of c p.conns))) ∙ is)
-
-pub lent_before : (H : List Event) (e : Event) (c t : ℕ) (o : Owner) → place (e ∷ H) c ≡ Some (Lent t o) → (place H c ≡ Some (Lent t o)) ⊎ Lends e c t o
-lent_before H (Pool (OpenStart d k)) c t o is = inl (before_open H k c t o is)
-lent_before H (Pool (Lend d u p k)) c t o is = before_lend H d u p k c t o is
-lent_before H (Pool (Back d)) c t o is = inl (before_changed H d c t o (back (pool H).moment) Idle (λ x. refl) (λ x. refl) (not_lent t o Idle refl) is)
-lent_before H (Pool (CloseStart d why)) c t o is = inl (before_changed H d c t o closing Closing (λ x. refl) (λ x. refl) (not_lent t o Closing refl) is)
-lent_before H (Pool (Gone d)) c t o is = inl (before_gone H d c t o is)
-lent_before H (Pool (Fell d k)) c t o is = inl (before_gone H d c t o is)
-lent_before H e c t o is = inl (before_turn (pool H) (pool (e ∷ H)) c t o (stays_or_shuts H e refl) is)
 
 -- Tenure t of connection c has begun: the connection was opened, and if it is still open, it was lent that
 -- often.
