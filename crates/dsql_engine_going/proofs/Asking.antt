@@ -35,6 +35,7 @@ use Rattle.dsql_laws_calls.specs.history.Rules.Stands.{stand}
 use Rattle.dsql_laws_calls.specs.history.Legal.{Lawful}
 use Rattle.dsql_laws_calls.specs.laws.Asked.{with_asked}
 use Rattle.dsql_laws_calls.proofs.laws.Tried.{lent_count}
+use Rattle.dsql_laws_calls.proofs.Own.{asks_own}
 use Rattle.dsql_laws_calls.proofs.laws.Asker.{Asker, asker}
 use Rattle.dsql_laws_calls.proofs.laws.Holdings.{nothing_held}
 use Rattle.dsql_laws_calls.proofs.laws.Owners.{owner_number}
@@ -44,7 +45,6 @@ use Rattle.dsql_laws_calls.proofs.laws.Tests.{both, other_number, same_itself, t
 use Rattle.dsql_laws_calls.proofs.laws.Wanted.{homes_apart}
 use Rattle.dsql_laws_calls.proofs.laws.Wanting.{sends_where_lent}
 use Rattle.dsql_laws_others.proofs.Untouched.{all_so, apart_of, or_second}
-use Rattle.dsql_laws_callers.proofs.Works.{own_borrower}
 use Rattle.dsql_laws_others.proofs.LentStands.{stand_other}
 use Rattle.dsql_laws_others.proofs.Asked.{asks_an_open_one, closed_only, no_memory, asked_goes_on, asked_used}
 use Rattle.dsql_laws_replies.proofs.Served.{own_line}
@@ -69,7 +69,7 @@ asking_silent H n l may = by (is_some (due_for H n)) refl
     by false is = is
     by true is =
         let there = sends_where_lent H n wishes.Nothing (site H n) (place H (site H n)) refl (sym (ap (λ d. is_some d) mine) ∙ is) in
-        let lent : 1 ≤ lent_count n (pool H) = subst (λ m. 1 ≤ lent_count m (pool H)) (own_borrower H n a.own) there in
+        let lent : 1 ≤ lent_count n (pool H) = subst (λ m. 1 ≤ lent_count m (pool H)) (asks_own H n a.own) there in
         let none = nothing_held H n l may in
         let apart = homes_apart n (pool H).conns in
         absurd (omega (arith, lent, none, apart))

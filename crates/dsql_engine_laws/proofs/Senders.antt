@@ -20,12 +20,13 @@ use Rattle.dsql_engine_hearing.specs.history.Readers.Pool.{home, place, pool}
 use Rattle.dsql_engine_hearing.specs.history.Readers.Works.{borrower, works}
 use Rattle.dsql_engine_hearing.specs.history.Legal.{Allowed, Lawful}
 use Rattle.dsql_engine_hearing.proofs.laws.Wanting.{wants_its_own}
-use Rattle.dsql_engine_hearing.proofs.laws_callers.Works.{borrower_stays, own_borrower, some_works, works_stay}
+use Rattle.dsql_engine_hearing.proofs.laws_callers.Works.{borrower_stays, some_works, works_stay}
 use Rattle.dsql_engine_hearing.specs.laws_calls.UnderWay.{StaysWithItsCall}
 use Rattle.dsql_engine_hearing.proofs.laws_calls.BeginningsAt.{heard_same, is_answer}
 use Rattle.dsql_engine_hearing.proofs.laws_calls.Coming.{stays_with_its_call}
 use Rattle.dsql_engine_hearing.proofs.laws_calls.Lent.{Lends, lent_before}
 use Rattle.dsql_engine_hearing.proofs.laws_calls.Looks.{comes, heard_there}
+use Rattle.dsql_engine_hearing.proofs.laws_calls.Own.{asks_own}
 use Rattle.dsql_engine_hearing.proofs.laws_calls.Owners.{at_home}
 use Rattle.dsql_engine_hearing.proofs.laws_calls.Tenures.{fresh_lending}
 use Rattle.dsql_engine_hearing.proofs.laws_calls.Wanted.{lent_wants_none}
@@ -188,7 +189,7 @@ content_there H c t own n l some is uses = by (wants n (pool H)) refl
     by : (b : Bool) → wants n (pool H) ≡ b → wants n (pool H) ≡ false
     by false is_so = is_so
     by true is_so =
-        let itself : number_of own ≡ n = sym uses ∙ own_borrower H n (wants_its_own H n l some is_so) in
+        let itself : number_of own ≡ n = sym uses ∙ asks_own H n (wants_its_own H n l some is_so) in
         ap (λ m. wants m (pool H)) (sym itself) ∙ none_wanted (number_of own) (pool H) (lent_wants_none H c t own l is)
 
 pub sender_there : (H : List Event) (c : ℕ) → Lawful H → sender_at H c ≢ 0 → IsThere H c (sender_at H c)

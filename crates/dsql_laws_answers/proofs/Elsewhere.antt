@@ -37,7 +37,6 @@ use Rattle.dsql_laws_calls.specs.history.Rules.Sent.{line_of, closing}
 use Rattle.dsql_laws_calls.specs.history.Rules.Settled.{is_kept}
 use Rattle.dsql_laws_calls.specs.history.Legal.{Lawful}
 use Rattle.dsql_laws_callers.proofs.Homes.{home_owner}
-use Rattle.dsql_laws_callers.proofs.Works.{own_borrower}
 use Rattle.dsql_laws_calls.proofs.Begun.{begin_comes, heard_tx, BeginsIt}
 use Rattle.dsql_laws_calls.proofs.Beginnings.{asking, numbered}
 use Rattle.dsql_laws_calls.proofs.BeginningsAt.{heard_other}
@@ -46,6 +45,7 @@ use Rattle.dsql_laws_calls.proofs.Ends.{zero_work}
 use Rattle.dsql_laws_calls.proofs.Inside.{inside_busy, inside_uses}
 use Rattle.dsql_laws_calls.proofs.Looks.{heard_there}
 use Rattle.dsql_laws_calls.proofs.Makers.{hands_out, rows_hand_out}
+use Rattle.dsql_laws_calls.proofs.Own.{asks_own}
 use Rattle.dsql_laws_calls.proofs.Owners.{lent_asks, lent_number}
 use Rattle.dsql_laws_calls.proofs.Stays.{asked_stays, not_looking}
 use Rattle.dsql_laws_calls.proofs.UnderWay.{scoped}
@@ -124,7 +124,7 @@ tx_off H e t own k h off = by (heard_tx H e k)
     by (inr b) =
         let begins_it = begin_comes H e (comes_there H e t own h) b.begin in
         let some : e.call_no ≢ 0 = λ none. never (e.call_no == 0) (ap (λ i. i == 0) none) (numbered H e.call_no begins_it) in
-        absurd (off (b.own ∙ (sym (own_borrower H e.call_no (asking (work H e.call_no) begins_it)) ∙ sender_uses H e t own h some)))
+        absurd (off (b.own ∙ (sym (asks_own H e.call_no (asking (work H e.call_no) begins_it)) ∙ sender_uses H e t own h some)))
       where
         never : (x : Bool) → x ≡ true → x ≡ false → ⊥
         never x p q = cc
@@ -168,7 +168,7 @@ kept_off H e t own d u o h at off =
     asking_it = lent_asks H d u o lawful at
 
     itself : borrower H n ≡ n
-    itself = own_borrower H n asking_it
+    itself = asks_own H n asking_it
 
     apart : e.conn ≢ home H n
     apart same = off (sym (home_owner H n e.conn t own (sym same) h.lent))

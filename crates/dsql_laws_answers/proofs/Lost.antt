@@ -20,8 +20,8 @@ use Rattle.dsql_laws_calls.specs.history.Readers.Works.{work}
 use Rattle.dsql_laws_calls.specs.history.Legal.{Lawful}
 use Rattle.dsql_laws_calls.proofs.laws.Tried.{lends_to}
 use Rattle.dsql_laws_calls.proofs.laws.Wanted.{wanted}
-use Rattle.dsql_laws_callers.proofs.Works.{own_borrower}
 use Rattle.dsql_laws_calls.proofs.Lent.{Lends, lent_before}
+use Rattle.dsql_laws_calls.proofs.Own.{asks_own}
 use Rattle.dsql_laws_calls.proofs.Owners.{lent_asks, lent_number}
 use Rattle.dsql_laws_calls.proofs.Untried.{fallen_wanted}
 use Rattle.dsql_laws_calls.proofs.Wanted.{lent_wants_none}
@@ -51,7 +51,7 @@ heard_so H e c t own l is before = by ((e.call_no == number_of own) && loses (wo
         let a = both (e.call_no == n) (loses (work H n) e) lost_it in
         let b = both (is_tried (work H n) e.call) (is_bad e.answer) a.1 in
         let same = same_number e.call_no n a.0 in
-        let at = heard_at H e n c t own l is (own_borrower H n (lent_asks H c t own l.0 is)) (lent_number H c t own l.0 is) same in
+        let at = heard_at H e n c t own l is (asks_own H n (lent_asks H c t own l.0 is)) (lent_number H c t own l.0 is) same in
         inr (ap (λ x. went_bad (cond x (e ∷ journal H c) (journal H c))) (ap (λ d. d == c) at ∙ same_itself c) ∙ ap (λ x. x || went_bad (journal H c)) b.1)
 
 lend_so : (b bad : Bool) (ts : List Try) → ServedOrBad ts bad → ServedOrBad (with_try b Served ts) bad

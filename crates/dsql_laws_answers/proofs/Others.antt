@@ -39,7 +39,6 @@ use Rattle.dsql_laws_calls.specs.history.Rules.Settled.{goes_on, goes_on_but}
 use Rattle.dsql_laws_calls.specs.history.Rules.Stands.{is_own_step, is_settled_for, has_to_reply, stand}
 use Rattle.dsql_laws_calls.specs.history.Legal.{Lawful, Calm}
 use Rattle.dsql_laws_calls.proofs.laws.Numbered.{unfinished_from_one}
-use Rattle.dsql_laws_callers.proofs.Works.{own_borrower}
 use Rattle.dsql_laws_calls.proofs.BeginningsAt.{heard_tenure, beginnings}
 use Rattle.dsql_laws_calls.proofs.Coming.{sound}
 use Rattle.dsql_laws_calls.proofs.Makers.{hands_out, rows_hand_out, sent_made}
@@ -67,6 +66,7 @@ use Rattle.dsql_laws_calls.specs.history.Rules.Wishes.{wish_as}
 use Rattle.dsql_laws_calls.specs.history.declared.reply.Reply.TheVariants.{Truth}
 use Rattle.dsql_laws_calls.specs.history.Rules.Sent.{line_of, wish, sent_for}
 use Rattle.dsql_laws_calls.proofs.EndedRows.{rows_kept, live_no_ender}
+use Rattle.dsql_laws_calls.proofs.Own.{asks_own}
 use Rattle.dsql_laws_answers.proofs.OwnRows.{own_live_line}
 
 -- A call that has settled nothing goes on: something is due for it, or others have settled what it replies.
@@ -118,7 +118,7 @@ own_goes H e t own m b none asking h = by (same_or_not e.conn (site H m))
         ap (λ d. is_some (cond (is_unfinished H m) d None)) same ∙ h
 
     its : e.conn ≡ site H m → number_of own ≡ m
-    its same = let there = due_there H m b.beside.number h in owner_at (place H e.conn) t there.tenure own there.owner hl.lent (ap (place H) same ∙ there.lent) ∙ (there.whose ∙ own_borrower H m asking)
+    its same = let there = due_there H m b.beside.number h in owner_at (place H e.conn) t there.tenure own there.owner hl.lent (ap (place H) same ∙ there.lent) ∙ (there.whose ∙ asks_own H m asking)
 
     way : (u : UnderWay H e) × (u.owner ≡ own)
     way = let s = sound H lawful.0 in let u = s.coming e (comes_there H e t own hl) in (u, lent_same u.owner (sym u.lent ∙ hl.lent))
@@ -253,7 +253,7 @@ rests_there H m d is = ap (λ r. is_some (cond r (smallest (is_home m) (pool H))
     ping_own w ts x = absurd cc
 
     itself : borrower H m ≡ m
-    itself = let r = both (is_unfinished H m) (asks_nothing (caps H) (work H m) (tries H m)) is in own_borrower H m (ping_own (work H m) (tries H m) r.1)
+    itself = let r = both (is_unfinished H m) (asks_nothing (caps H) (work H m) (tries H m)) is in asks_own H m (ping_own (work H m) (tries H m) r.1)
 
     found : (o : Option Conn) → conn_of (site H m) (pool H).conns ≡ o → option_map (λ (x : Conn). x.place) o ≡ Some (Lent d.tenure d.owner) → is_some (find (λ (x : Conn). is_home m x.place) (pool H).conns) ≡ true
     found None at is_lent = absurd cc

@@ -48,7 +48,6 @@ use Rattle.dsql_laws_calls.specs.history.Rules.Line.{is_due}
 use Rattle.dsql_laws_calls.specs.history.Rules.Sent.{is_reset_due, asked_by, line_of}
 use Rattle.dsql_laws_calls.specs.history.Legal.{Lawful}
 use Rattle.dsql_laws_calls.proofs.laws.Tried.{lends_to}
-use Rattle.dsql_laws_callers.proofs.Works.{own_borrower}
 use Rattle.dsql_laws_calls.specs.Kept.{KeepsItsConnection}
 use Rattle.dsql_laws_calls.proofs.BeginningsAt.{is_answer, heard_same, heard_tenure, heard_more, heard_other}
 use Rattle.dsql_laws_calls.proofs.CallTenures.{line_of_call, plain_due}
@@ -60,6 +59,7 @@ use Rattle.dsql_laws_calls.proofs.Lent.{Lends, lent_before}
 use Rattle.dsql_laws_calls.proofs.Sound.{fitting}
 use Rattle.dsql_laws_calls.proofs.Lines.{line_here}
 use Rattle.dsql_laws_calls.proofs.Makers.{hands_out, rows_hand_out, some_changed}
+use Rattle.dsql_laws_calls.proofs.Own.{asks_own}
 use Rattle.dsql_laws_calls.proofs.Owners.{lent_asks, lent_number, owner_is_of}
 use Rattle.dsql_laws_calls.proofs.Rows.{none_at_end}
 use Rattle.dsql_laws_calls.proofs.RowsKept.{rows_keep}
@@ -209,7 +209,7 @@ open_next H last c t own l is call lives earlier = from (lent_before H last c t 
     n = number_of own
 
     itself : place H c ≡ Some (Lent t own) → borrower H n ≡ n
-    itself at = own_borrower H n (lent_asks H c t own l.0 at)
+    itself at = asks_own H n (lent_asks H c t own l.0 at)
 
     quiet : (x : Event) → is_answer x ≡ false → place H c ≡ Some (Lent t own) → are_live H n ≡ true → is_holding (step (heard_in (x ∷ H) c t)) ≡ true
     quiet x none at was = ap (λ J. is_holding (step (of_tenure t J))) (heard_same H x c none) ∙ earlier at was
@@ -250,7 +250,7 @@ open_next H last c t own l is call lives earlier = from (lent_before H last c t 
         new : {A : Type 0} → (k : ℕ) → Lawful (Pool (Lend c t own k) ∷ H) → are_live (Pool (Lend c t own k) ∷ H) n ≡ true → A
         new k lk now =
             let asking : asks (work H n) ≡ true = lent_asks (Pool (Lend c t own k) ∷ H) c t own lk (ap (λ x. place (x ∷ H) c) (sym w.1) ∙ is) in
-            absurd (rows_elsewhere H c t own k n lk (live_some (rows_by H n) now) (own_borrower H n asking ∙ sym (lends_to H c t own k lk.1)))
+            absurd (rows_elsewhere H c t own k n lk (live_some (rows_by H n) now) (asks_own H n asking ∙ sym (lends_to H c t own k lk.1)))
 
 open_rows : (H : List Event) (c t : ℕ) (own : Owner) → Lawful H → place H c ≡ Some (Lent t own) → is_call own ≡ true → are_live H (number_of own) ≡ true → is_holding (step (heard_in H c t)) ≡ true
 open_rows [] c t own l is call lives = absurd cc
@@ -269,7 +269,7 @@ own_live_line H n w l lives asking wanted = from (one (rows_by H n) lives)
       where
         at : KeepsItsConnection H n → is_some (line_of H n w) ≡ true
         at k =
-            let its : number_of k.owner ≡ n = k.borrowed ∙ own_borrower H n asking in
+            let its : number_of k.owner ≡ n = k.borrowed ∙ asks_own H n asking in
             let whose = owner_is_of H (site H n) k.tenure k.owner l k.lent in
             let call : is_call k.owner ≡ true = ap is_call whose.1 ∙ call_of (work H (number_of k.owner)) (number_of k.owner) (ap (λ i. hands_out (work H i)) its ∙ rows_hand_out H n (live_some (rows_by H n) lives)) in
             let L = heard_in H (site H n) k.tenure in
@@ -280,7 +280,7 @@ own_live_line H n w l lives asking wanted = from (one (rows_by H n) lives)
             let opens = open_at (caps H) (asked_by H (number_of k.owner)) (step L) (exchanges L) (ap (λ i. aim_of (work H i)) its ∙ aim_is (work H n) (rows_hand_out H n (live_some (rows_by H n) lives))) holds m in
             ap (λ d. is_some d)
             (ap (λ i. line_of H i w) (sym its)
-            ∙ (line_here H (site H n) k.tenure k.owner (number_of k.owner) w l k.lent (own_borrower H (number_of k.owner) (ap (λ i. asks (work H i)) its ∙ asking)) ∙ line_of_call H (site H n) k.tenure k.owner w l k.lent call))
+            ∙ (line_here H (site H n) k.tenure k.owner (number_of k.owner) w l k.lent (asks_own H (number_of k.owner) (ap (λ i. asks (work H i)) its ∙ asking)) ∙ line_of_call H (site H n) k.tenure k.owner w l k.lent call))
             ∙ held_due (caps H) (is_reset_due H (site H n)) (asked_by H (number_of k.owner)) w L opens.cursor opens.handed_it m holds wanted
           where
             call_of : (v : Work) (i : ℕ) → hands_out v ≡ true → is_call (owner_as v i) ≡ true

@@ -32,13 +32,12 @@ use Rattle.dsql_laws_calls.proofs.Inside.{inside, inside_uses}
 use Rattle.dsql_laws_calls.proofs.Lent.{stays_lent}
 use Rattle.dsql_laws_calls.proofs.Lines.{line_here, line_stays, unheard}
 use Rattle.dsql_laws_calls.proofs.Makers.{hands_out, rows_hand_out, sent_made}
-use Rattle.dsql_laws_calls.proofs.Own.{DueNow, due_now, due_of, some_due}
+use Rattle.dsql_laws_calls.proofs.Own.{DueNow, asks_own, due_now, due_of, some_due}
 use Rattle.dsql_laws_calls.proofs.Owners.{lent_asks}
 use Rattle.dsql_laws_calls.proofs.Stays.{not_looking}
 use Rattle.dsql_laws_calls.proofs.UnderWay.{clash, ending_over}
 use Rattle.dsql_laws_calls.proofs.Why.{why_used}
 use Rattle.dsql_laws_calls.proofs.Works.{is_look, work_stays}
-use Rattle.dsql_laws_callers.proofs.Works.{own_borrower}
 use Rattle.dsql_laws_replies.proofs.Served.{own_line}
 use Rattle.dsql_laws_answers.proofs.Due.{rows_user, closer_user}
 
@@ -59,7 +58,7 @@ unbegun : {A : Type 0} → (H : List Event) (e : Entry) (own : Owner) (k : ℕ) 
 unbegun H e own k o same begun = clash (sym o.call ∙ begin_owner H e.conn e.tenure own o.lawful o.lent (begun_begins H (number_of own) o.lawful (ap (is_begun H) (sym same) ∙ begun)))
 
 itself : (H : List Event) (e : Entry) (own : Owner) → OnCall H e own → borrower H (number_of own) ≡ number_of own
-itself H e own o = own_borrower H (number_of own) (lent_asks H e.conn e.tenure own o.lawful o.lent)
+itself H e own o = asks_own H (number_of own) (lent_asks H e.conn e.tenure own o.lawful o.lent)
 
 -- What is due in the line of the call.
 in_line : (H : List Event) (e : Entry) (own : Owner) (m : ℕ) (w : Wish) → OnCall H e own → m ≡ number_of own → is_due (line_of H m w) e.call ≡ true → is_due (call_line H e.conn e.tenure own w) e.call ≡ true
@@ -131,7 +130,7 @@ sent_now H e own o may now = whose (e.call_no == 0) refl (subst (λ x. is_due (d
 
     own_one : (v : Work) → work H e.call_no ≡ v → e.call_no ≢ 0 → asks v ≡ true → is_due (due_in H e.call_no v) e.call ≡ true → OwnSent H e own
     own_one v is some asking y =
-        let its : e.call_no ≡ n = sym (own_borrower H e.call_no (ap asks is ∙ asking)) ∙ uses some in
+        let its : e.call_no ≡ n = sym (asks_own H e.call_no (ap asks is ∙ asking)) ∙ uses some in
         record {
           wanted = wishes.Nothing;
           due = in_line H e own e.call_no wishes.Nothing o its (ap (λ q. is_due q e.call) (sym (own_line H e.call_no v asking)) ∙ y);

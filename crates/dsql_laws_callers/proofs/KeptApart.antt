@@ -5,6 +5,7 @@ use Rattle.dsql_laws_calls.specs.journal.declared.entry.Owner.{Owner}
 use Rattle.dsql_laws_calls.specs.journal.declared.entry.Owner.TheVariants.{Call, Tx, Pin, House}
 use Rattle.dsql_laws_calls.specs.journal.Kinds.{is_house, is_pin, is_tx_number, number_of}
 use Rattle.dsql_laws_calls.proofs.journal.Sentences.{MayFollow-of}
+use Rattle.dsql_laws_calls.proofs.Own.{asks_own}
 use Rattle.dsql_laws_calls.proofs.laws.Tests.{same_number, other_number}
 use Rattle.dsql_laws_calls.specs.history.declared.event.Event.{Event}
 use Rattle.dsql_laws_calls.specs.history.declared.event.Event.TheVariants.{Heard}
@@ -19,7 +20,6 @@ use Rattle.dsql_laws_calls.proofs.Owners.{owner_is_of}
 use Rattle.dsql_laws_callers.proofs.Heard.{heard_follows, heard_lent}
 use Rattle.dsql_laws_callers.proofs.Senders.{senders}
 use Rattle.dsql_laws_callers.proofs.Tidying.{tidies_ended}
-use Rattle.dsql_laws_callers.proofs.Works.{own_borrower}
 
 no_house : (e : Entry) → is_house e.owner ≡ false → is_house_entry e ≡ false
 no_house e own = ap (λ b. b && (e.call_no == 0)) own
@@ -39,7 +39,7 @@ uses_its_own H e l some =
     s.owner e.owner f.lent
 
 pub sends_to_its_own : (H : List Event) (e : Entry) → Lawful (Heard e ∷ H) → e.call_no ≢ 0 → asks (work H e.call_no) ≡ true → number_of e.owner ≡ e.call_no
-sends_to_its_own H e l some own = sym (uses_its_own H e l some) ∙ own_borrower H e.call_no own
+sends_to_its_own H e l some own = sym (uses_its_own H e l some) ∙ asks_own H e.call_no own
 
 -- A call never asks for a pin.
 no_pin : (H : List Event) (n : ℕ) → is_pin (owner_of H n) ≡ false

@@ -14,6 +14,7 @@ use Rattle.dsql_laws_calls.specs.works.HandedOut.{Made}
 use Rattle.dsql_laws_calls.proofs.laws.Tests.{same_number}
 use Rattle.dsql_laws_calls.specs.history.Readers.HandedOut.{fetched, live, over, born, is_late, rows_heard, end_in, ended_with, rows_entered, last_end, handed_out, rows_by, are_live, are_over, caller, ended_at, ender}
 use Rattle.dsql_laws_calls.proofs.Cases.{true_false}
+use Rattle.dsql_laws_calls.proofs.Stays.{has_entered}
 use Rattle.dsql_laws_calls.specs.history.declared.event.Event.{Event}
 use Rattle.dsql_laws_calls.specs.history.declared.event.Event.TheVariants.{Entered, Heard, Ended}
 use Rattle.dsql_laws_calls.specs.history.declared.event.Op.{Op}
@@ -28,7 +29,7 @@ use Rattle.dsql_laws_calls.specs.history.Readers.Works.{works, work, rows_maker,
 use Rattle.dsql_laws_calls.specs.history.Legal.{Lawful}
 use Rattle.dsql_laws_callers.proofs.Ended.{ended_still, entered_number}
 use Rattle.dsql_laws_callers.proofs.Things.{with_new, none_changed, none_mapped}
-use Rattle.dsql_laws_callers.proofs.Works.{some_works, work_stays, has_entered}
+use Rattle.dsql_laws_callers.proofs.Works.{some_works, work_stays}
 
 -- Is true if the work hands out rows in a transaction.
 abbrev pub hands_out_inside : Work → Bool

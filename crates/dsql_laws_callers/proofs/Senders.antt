@@ -17,6 +17,7 @@ use Rattle.dsql_laws_calls.proofs.pool.Found.{found_changed}
 use Rattle.dsql_laws_calls.proofs.laws.Tests.{both, same_number, other_number}
 use Rattle.dsql_laws_calls.proofs.Found.{place_in, lends_in}
 use Rattle.dsql_laws_calls.proofs.Lent.{Lends, lent_before}
+use Rattle.dsql_laws_calls.proofs.Stays.{has_entered}
 use Rattle.dsql_laws_calls.specs.history.declared.event.Event.{Event}
 use Rattle.dsql_laws_calls.specs.history.declared.event.Event.TheVariants.{Pool}
 use Rattle.dsql_laws_calls.specs.history.declared.work.Work.TheVariants.{Look}
@@ -27,7 +28,7 @@ use Rattle.dsql_laws_calls.specs.history.Readers.Works.{works, work, borrower}
 use Rattle.dsql_laws_calls.specs.history.Rules.Line.{due_in, due_for, due_from, tidying, is_at, has_turn, is_due, is_due_at, parts, may_come}
 use Rattle.dsql_laws_calls.specs.history.Rules.Moves.{moves_from, numbers_lending}
 use Rattle.dsql_laws_calls.specs.history.Legal.{Allowed, Lawful}
-use Rattle.dsql_laws_callers.proofs.Works.{borrower_stays, works_stay, has_entered}
+use Rattle.dsql_laws_callers.proofs.Works.{borrower_stays, works_stay}
 use Rattle.dsql_laws_callers.proofs.Tenures.{HasBegun, begun_still, open_opened}
 use Rattle.dsql_laws_callers.proofs.Homes.{home_owner}
 

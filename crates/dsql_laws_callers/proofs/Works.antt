@@ -7,16 +7,15 @@ use Rattle.std.proofs.lemmas.Bool.{ltb-true}
 use Rattle.std.proofs.lemmas.List.{length-append}
 use Rattle.dsql_laws_calls.specs.works.Works.{or_zero}
 use Rattle.dsql_laws_calls.proofs.Cases.{true_false}
-use Rattle.dsql_laws_calls.proofs.Lists.{same_or_not, row_old, row_new, within_rows}
+use Rattle.dsql_laws_calls.proofs.Lists.{same_or_not, row_old, row_new}
+use Rattle.dsql_laws_calls.proofs.Stays.{has_entered}
 use Rattle.dsql_laws_calls.specs.history.declared.event.Event.{Event}
 use Rattle.dsql_laws_calls.specs.history.declared.event.Event.TheVariants.{Run, Entered, Heard, Pool, Waits, Ticked, SetLimit, Replied, Ended}
 use Rattle.dsql_laws_calls.specs.history.declared.event.Op.{Op}
 use Rattle.dsql_laws_calls.specs.history.declared.event.Op.TheVariants as ops
-use Rattle.dsql_laws_calls.specs.history.declared.work.Scope.{Scope}
-use Rattle.dsql_laws_calls.specs.history.declared.work.Scope.TheVariants.{Db, Tx}
 use Rattle.dsql_laws_calls.specs.history.declared.work.Work.{Work}
 use Rattle.dsql_laws_calls.specs.history.declared.work.Work.TheVariants.{Execute, ReadOne, HandOut, Begin, End, Ping, Fetch, Close, Look}
-use Rattle.dsql_laws_calls.specs.history.Readers.Works.{works, work, work_of, hands_out_as, scope, asks_in, asks, borrower_in, borrower}
+use Rattle.dsql_laws_calls.specs.history.Readers.Works.{works, work, work_of, hands_out_as, scope, asks, borrower_in, borrower}
 
 -- Holds if the call whose rows the work is for is among the first n.
 abbrev pub RefersWithin : ℕ → Work → Type 0
@@ -104,14 +103,6 @@ works_stay H (SetLimit s n) m old = old
 works_stay H (Replied n reply) m old = old
 works_stay H Ended m old = old
 
--- A call that has something to do has entered.
-pub has_entered : (H : List Event) (m : ℕ) → (work H m ≡ Look → ⊥) → m < length (works H)
-has_entered H m some = by (within_rows (works H) m Look)
-  where
-    by : (m < length (works H)) ⊎ ((length (works H) ≤ m) × (work H m ≡ Look)) → m < length (works H)
-    by (inl within) = within
-    by (inr beyond) = absurd (some beyond.1)
-
 -- Returns the call whose connection is used for this work of call n.
 abbrev borrower_for : List Event → Work → ℕ → ℕ
 borrower_for H (Fetch k) n = borrower_in (scope (work H k)) k
@@ -136,25 +127,6 @@ same_borrower H e Look m old = refl
 -- The call whose connection an entered call uses stays the same.
 pub borrower_stays : (H : List Event) (e : Event) (m : ℕ) → m < length (works H) → borrower (e ∷ H) m ≡ borrower H m
 borrower_stays H e m old = ap (λ it. borrower_for (e ∷ H) it m) (work_stays H e m old) ∙ same_borrower H e (work H m) m (refers_within H m)
-
--- A call that asks for a connection of its own uses that one.
-pub own_borrower : (H : List Event) (m : ℕ) → asks (work H m) ≡ true → borrower H m ≡ m
-own_borrower H m own = by (work H m) own
-  where
-    scoped : (s : Scope) → asks_in s ≡ true → borrower_in s m ≡ m
-    scoped Db h = refl
-    scoped (Tx k) h = absurd cc
-
-    by : (it : Work) → asks it ≡ true → borrower_for H it m ≡ m
-    by (Execute s) h = scoped s h
-    by (ReadOne s dests) h = scoped s h
-    by (HandOut s label) h = scoped s h
-    by (Begin label level read_only) h = refl
-    by Ping h = refl
-    by (Fetch k) h = absurd cc
-    by (Close k) h = absurd cc
-    by (End k) h = absurd cc
-    by Look h = absurd cc
 
 -- A call that asks for a connection of its own still does so after an event.
 pub asks_still : (H : List Event) (e : Event) (m : ℕ) → asks (work H m) ≡ true → asks (work (e ∷ H) m) ≡ true

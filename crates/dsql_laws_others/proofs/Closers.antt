@@ -36,7 +36,7 @@ use Rattle.dsql_laws_calls.specs.history.Readers.Works.{works, work, borrower, h
 use Rattle.dsql_laws_calls.specs.history.Legal.{Lawful}
 use Rattle.dsql_laws_callers.proofs.Heard.{heard_lent}
 use Rattle.dsql_laws_callers.proofs.KeptApart.{uses_its_own}
-use Rattle.dsql_laws_callers.proofs.Works.{borrower_stays, has_entered, work_stays}
+use Rattle.dsql_laws_callers.proofs.Works.{borrower_stays, work_stays}
 use Rattle.dsql_laws_calls.proofs.AtEnd.{no_work_yet}
 use Rattle.dsql_laws_calls.proofs.BeginningsAt.{heard_same}
 use Rattle.dsql_laws_calls.proofs.Begun.{begun_begins, stays_over}
@@ -49,7 +49,7 @@ use Rattle.dsql_laws_calls.proofs.Own.{going_used}
 use Rattle.dsql_laws_calls.proofs.Owners.{at_home}
 use Rattle.dsql_laws_calls.proofs.Plain.{begins}
 use Rattle.dsql_laws_calls.proofs.RowsKept.{Borrows, tx_borrows}
-use Rattle.dsql_laws_calls.proofs.Stays.{as_many}
+use Rattle.dsql_laws_calls.proofs.Stays.{as_many, has_entered}
 use Rattle.dsql_laws_calls.proofs.Works.{enters_next, new_record, new_work, old_record, old_work, is_look, other_heard, other_replied}
 use Rattle.dsql_laws_calls.proofs.Works as works_of
 use Rattle.dsql_laws_others.proofs.LentBeside.{over_some}

@@ -51,7 +51,6 @@ use Rattle.dsql_laws_calls.specs.history.Rules.Sent.{asked_by, closes, closing, 
 use Rattle.dsql_laws_calls.specs.history.Legal.{Allowed, Lawful}
 use Rattle.dsql_laws_callers.proofs.Heard.{heard_lent}
 use Rattle.dsql_laws_callers.proofs.KeptApart.{uses_its_own}
-use Rattle.dsql_laws_callers.proofs.Works.{own_borrower}
 use Rattle.dsql_laws_calls.proofs.laws.Tried.{lends_to}
 use Rattle.dsql_laws_calls.proofs.BeginningsAt.{heard_more, heard_other, heard_same, heard_tenure, is_answer}
 use Rattle.dsql_laws_calls.proofs.Begun.{begun_begins, over_begun}
@@ -64,7 +63,7 @@ use Rattle.dsql_laws_calls.proofs.Lent.{Lends, lent_before, stays_lent}
 use Rattle.dsql_laws_calls.proofs.Lines.{line_here}
 use Rattle.dsql_laws_calls.proofs.Looks.{heard_there}
 use Rattle.dsql_laws_calls.proofs.Makers.{hands_out, rows_begin_nothing, rows_hand_out, sent_made, some_heard}
-use Rattle.dsql_laws_calls.proofs.Own.{DueNow, due_now, due_of, some_due}
+use Rattle.dsql_laws_calls.proofs.Own.{DueNow, asks_own, due_now, due_of, some_due}
 use Rattle.dsql_laws_calls.proofs.Owners.{at_home, lent_asks, lent_number, owner_is_of}
 use Rattle.dsql_laws_calls.proofs.Plain.{begins, line_plain}
 use Rattle.dsql_laws_calls.proofs.Rows.{ended_live, entering_revives_none, none_at_end}
@@ -131,7 +130,7 @@ handed_open H c t own x o = ap (λ w. handed (aim_of w) (exchanges (heard_in H c
 line_over : (H : List Event) (c t : ℕ) (own : Owner) (w : Wish) (q : DriverCall) → LiveAt H c t own → is_holding (step (heard_in H c t)) ≡ true → is_due (line_of H (number_of own) w) q ≡ true → SentOver q w false
 line_over H c t own w q x holds due =
     let o = opened H c t own x holds in
-    let at = own_borrower H (number_of own) (lent_asks H c t own x.lawful x.lent) in
+    let at = asks_own H (number_of own) (lent_asks H c t own x.lawful x.lent) in
     let line : line_of H (number_of own) w ≡ call_line H c t own w = line_here H c t own (number_of own) w x.lawful x.lent at ∙ line_of_call H c t own w x.lawful x.lent x.call in
     let here : is_due (call_line H c t own w) q ≡ true = ap (λ d. is_due d q) (sym line) ∙ due in
     let sent = due_over (caps H) (is_reset_due H c) (asked_by H (number_of own)) w (heard_in H c t) q o.rows (handed_open H c t own x o) (made_at H c t own x.lawful x.lent x.call)
@@ -201,7 +200,7 @@ due_fetches H e own holds x d same comes = whose (e.call_no == 0) refl (ap (λ o
     itself : (e.call_no == 0) ≡ false → asks (work H e.call_no) ≡ true → is_due (line_of H e.call_no wishes.Nothing) e.call ≡ true → ⊥
     itself some asker h =
         let at = line_at_its H e.call_no e.conn e.tenure own wishes.Nothing e.call (d.site some) x.lent h in
-        let mine : e.call_no ≡ i = sym (own_borrower H e.call_no asker) ∙ sym at in
+        let mine : e.call_no ≡ i = sym (asks_own H e.call_no asker) ∙ sym at in
         none_wanted e.call (line_over H e.conn e.tenure own wishes.Nothing e.call x holding (ap (λ k. is_due (line_of H k wishes.Nothing) e.call) (sym mine) ∙ h))
 
     inner : (k : ℕ) → (e.call_no == 0) ≡ false → scope (work H e.call_no) ≡ Tx k → (w : Wish) → is_due (line_of H e.call_no w) e.call ≡ true → ⊥
@@ -291,7 +290,7 @@ made_there H x c t own l at mine =
     let some : x.call_no ≢ 0 = λ none. lent_number H c t own l.0 at (mine ∙ none) in
     let asker : asks (work H x.call_no) ≡ true = ap (λ k. asks (work H k)) (sym mine) ∙ lent_asks H c t own l.0 at in
     let f = heard_lent H x l.1 (no_house x some (is_house x.owner)) in
-    let number : number_of x.owner ≡ number_of own = sym (uses_its_own H x l some) ∙ (own_borrower H x.call_no asker ∙ sym mine) in
+    let number : number_of x.owner ≡ number_of own = sym (uses_its_own H x l some) ∙ (asks_own H x.call_no asker ∙ sym mine) in
     sym (at_home H x.conn x.tenure x.owner l.0 f.lent) ∙ (ap (home H) number ∙ at_home H c t own l.0 at)
 
 -- Live rows were live before, or the call of this answer made them.
@@ -471,7 +470,7 @@ live_closes H c t own l at lives = by (is_call own) refl
         let h = held H l in
         let holds = h.holds c t own at x.call lives in
         let o = opened H c t own x holds in
-        ap (λ d. is_some d) (line_here H c t own (number_of own) wishes.Close l at (own_borrower H (number_of own) (lent_asks H c t own l at)) ∙ line_of_call H c t own wishes.Close l at x.call)
+        ap (λ d. is_some d) (line_here H c t own (number_of own) wishes.Close l at (asks_own H (number_of own) (lent_asks H c t own l at)) ∙ line_of_call H c t own wishes.Close l at x.call)
         ∙ held_due (caps H) (is_reset_due H c) (asked_by H (number_of own)) wishes.Close (heard_in H c t) o.rows (handed_open H c t own x o) (made_at H c t own l at x.call) holds (λ same. absurd cc)
 
     by : (b : Bool) → is_call own ≡ b → is_some (line_of H (number_of own) wishes.Close) ≡ true

@@ -27,6 +27,7 @@ use Rattle.dsql_laws_calls.proofs.laws.Tests.{both, same_itself}
 use Rattle.dsql_laws_calls.proofs.Cases.{true_false}
 use Rattle.dsql_laws_calls.proofs.Found.{place_in}
 use Rattle.dsql_laws_calls.proofs.Lists.{same_or_not}
+use Rattle.dsql_laws_calls.proofs.Own.{asks_own}
 use Rattle.dsql_laws_others.proofs.Once.{all_found}
 use Rattle.dsql_laws_others.proofs.Settling.{all_within}
 use Rattle.dsql_laws_calls.specs.history.declared.event.Event.{Event}
@@ -44,7 +45,6 @@ use Rattle.dsql_laws_calls.specs.laws.Leaving.{MayLeave}
 use Rattle.dsql_laws_calls.specs.laws.OwedMade.{with_moves}
 use Rattle.dsql_laws_calls.proofs.laws.GivenBack.{back_lawful}
 use Rattle.dsql_laws_calls.proofs.laws.Numbered.{unfinished_from_one}
-use Rattle.dsql_laws_callers.proofs.Works.{own_borrower}
 use Rattle.dsql_laws_calls.proofs.Owners.{at_home, lent_asks}
 use Rattle.dsql_laws_others.proofs.Alike.{used_alike}
 use Rattle.dsql_laws_others.proofs.Homes.{told_still}
@@ -72,7 +72,7 @@ kept_left H m x d u o apart at h =
     let l = x.lawful in
     let n = number_of o in
     let other = apart_owner H m x d u o apart at in
-    let lines : borrower H (number_of o) ≢ number_of x.owner = λ uses. other (sym (own_borrower H (number_of o) (lent_asks H d u o l.0 at)) ∙ uses) in
+    let lines : borrower H (number_of o) ≢ number_of x.owner = λ uses. other (sym (asks_own H (number_of o) (lent_asks H d u o l.0 at)) ∙ uses) in
     ap (λ b. b || rests (Pool m ∷ H) n) (used_alike H (Pool m ∷ H) n refl refl (ending_left H m x n) (λ w. lines_off H m x n w lines)) ∙ (ap (λ b. is_used H n || b) (rests_left H m x n) ∙ h)
 
 used_left : (H : List Event) (m : Move) (x : Leaving H m) → UsedBeside H x.conn → uses_what_is_lent (Pool m ∷ H) ≡ true

@@ -61,10 +61,10 @@ use Rattle.dsql_laws_calls.specs.history.Rules.Stands.{is_own_step, is_settled_f
 use Rattle.dsql_laws_calls.specs.history.Legal.{Lawful}
 use Rattle.dsql_laws_calls.proofs.laws.Standing.{stands_sending, stands_waiting}
 use Rattle.dsql_laws_calls.proofs.laws.Tried.{lends_to}
-use Rattle.dsql_laws_callers.proofs.Works.{own_borrower}
 use Rattle.dsql_laws_calls.proofs.BeginningsAt.{beginnings}
 use Rattle.dsql_laws_calls.proofs.Beginnings.{lent_once_begun}
 use Rattle.dsql_laws_calls.proofs.Lines.{line_here}
+use Rattle.dsql_laws_calls.proofs.Own.{asks_own}
 use Rattle.dsql_laws_calls.proofs.Owners.{at_home, lent_asks, lent_number}
 use Rattle.dsql_laws_calls.proofs.Tenures.{fresh_lending}
 use Rattle.dsql_laws_calls.proofs.Untried.{moves_of, lends_unwanting}
@@ -108,7 +108,7 @@ lent_home : (H : List Event) (c t : ℕ) (own : Owner) (n : ℕ) → Lawful (len
 lent_home H c t own n l = ap (home (lends H c t own n)) (lends_to H c t own n l.1) ∙ at_home (lends H c t own n) c t own l (lent_there H c t own n l)
 
 lent_site : (H : List Event) (c t : ℕ) (own : Owner) (n : ℕ) → Lawful (lends H c t own n) → site (lends H c t own n) n ≡ c
-lent_site H c t own n l = ap (home (lends H c t own n)) (own_borrower (lends H c t own n) n (lent_asker H c t own n l)) ∙ lent_home H c t own n l
+lent_site H c t own n l = ap (home (lends H c t own n)) (asks_own (lends H c t own n) n (lent_asker H c t own n l)) ∙ lent_home H c t own n l
 
 -- Is true if something is sent to the driver for the call.
 abbrev is_answered : Caps → Aim → Bool
@@ -182,7 +182,7 @@ sends_first : (H : List Event) (c t : ℕ) (own : Owner) (n : ℕ) (w : Wish) �
 sends_first H c t own n w l answered =
     let K = lends H c t own n in
     let asker = lent_asker H c t own n l in
-    ap (λ d. is_some d) (line_here K c t own n w l (lent_there H c t own n l) (own_borrower K n asker ∙ lends_to H c t own n l.1))
+    ap (λ d. is_some d) (line_here K c t own n w l (lent_there H c t own n l) (asks_own K n asker ∙ lends_to H c t own n l.1))
     ∙ (ap (λ L. is_some (line_with K n c (went_bad (journal H c)) w (work H n) (scope (work H n)) L)) (empty_line own n (heard_in H c t) (fresh_lending H c t own n l.0 l.1))
     ∙ sends_with K n c (went_bad (journal H c)) w (work H n) asker answered)
 

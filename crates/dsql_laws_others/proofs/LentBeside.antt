@@ -40,9 +40,9 @@ use Rattle.dsql_laws_calls.specs.history.Rules.Settled.{is_in_use, is_kept, uses
 use Rattle.dsql_laws_calls.specs.history.Legal.{Lawful}
 use Rattle.dsql_laws_calls.proofs.laws.Tried.{lends_to}
 use Rattle.dsql_laws_callers.proofs.Homes.{home_owner}
-use Rattle.dsql_laws_callers.proofs.Works.{own_borrower}
 use Rattle.dsql_laws_calls.proofs.HandedRows.{rows_begun}
 use Rattle.dsql_laws_calls.proofs.Makers.{hands_out, rows_hand_out}
+use Rattle.dsql_laws_calls.proofs.Own.{asks_own}
 use Rattle.dsql_laws_calls.proofs.Owners.{at_home, lent_asks}
 use Rattle.dsql_laws_calls.proofs.RowsNew.{content}
 use Rattle.dsql_laws_calls.proofs.Untried.{moves_of}
@@ -191,7 +191,7 @@ ending_same H c t own n k l = by (same_or_not k n)
 pub used_beside : (H : List Event) (c t : ℕ) (own : Owner) (n d u : ℕ) (o : Owner) → Lawful (lends H c t own n) → place H d ≡ Some (Lent u o) → is_used (lends H c t own n) (number_of o) ≡ is_used H (number_of o)
 used_beside H c t own n d u o l is =
     let j = number_of o in
-    let apart : borrower H j ≢ n = λ same. unlent_before H c t own n d u o l is (sym (own_borrower H j (lent_asks H d u o l.0 is)) ∙ same) in
+    let apart : borrower H j ≢ n = λ same. unlent_before H c t own n d u o l is (sym (asks_own H j (lent_asks H d u o l.0 is)) ∙ same) in
     used_alike H (lends H c t own n) j refl refl (ending_same H c t own n j l) (λ w. other_line H c t own n j w l apart)
 
 -- Each connection in use stays in use.

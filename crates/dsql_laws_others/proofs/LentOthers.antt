@@ -26,10 +26,10 @@ use Rattle.dsql_laws_calls.specs.history.Rules.Line.{due_inside, due_in, due_for
 use Rattle.dsql_laws_calls.specs.history.Rules.Sent.{line_at, line_of, wish, sent_for}
 use Rattle.dsql_laws_calls.specs.history.Legal.{Lawful}
 use Rattle.dsql_laws_calls.proofs.laws.Numbered.{unfinished_from_one}
-use Rattle.dsql_laws_callers.proofs.Works.{own_borrower}
 use Rattle.dsql_laws_calls.proofs.Enders.{unended, same_ender}
 use Rattle.dsql_laws_calls.proofs.Inside.{inside, inside_uses}
 use Rattle.dsql_laws_calls.proofs.Makers.{hands_out, rows_hand_out}
+use Rattle.dsql_laws_calls.proofs.Own.{asks_own}
 use Rattle.dsql_laws_others.proofs.Alike.{Concerns, Alike, due_alike, same_tx_ender}
 use Rattle.dsql_laws_others.proofs.Homes.{HomeStays, HomeUnlent, no_line}
 use Rattle.dsql_laws_others.proofs.Lends.{lends, lent_unbegun}
@@ -142,7 +142,7 @@ due_others H c t own n m l apart = by_unfinished (is_unfinished H m) refl
         due_alike H K m (beside_alike H c t own n m l (λ uses. away (sym user ∙ uses)) (λ x which uses. away (sym (ap (borrower H) (one x which)) ∙ uses)))
 
     own_line : asks (work H m) ≡ true → ((x : ℕ) → (work H m ≡ Fetch x) ⊎ (work H m ≡ Close x) → ⊥) → due_for K m ≡ due_for H m
-    own_line asking none = due_alike H K m (beside_alike H c t own n m l (λ uses. apart (sym (own_borrower H m asking) ∙ uses)) (λ x which. absurd (none x which)))
+    own_line asking none = due_alike H K m (beside_alike H c t own n m l (λ uses. apart (sym (asks_own H m asking) ∙ uses)) (λ x which. absurd (none x which)))
 
     in_tx : (k : ℕ) → scope (work H m) ≡ Tx k → ((x : ℕ) → (work H m ≡ Fetch x) ⊎ (work H m ≡ Close x) → ⊥) → ((L : List Event) → due_in L m (work H m) ≡ due_inside L m (Tx k)) → (k ≡ n) ⊎ (k ≢ n) → due_for K m ≡ due_for H m
     in_tx k is none inner (inr away) = due_alike H K m (beside_alike H c t own n m l (λ uses. away (sym (inside_uses H m k is) ∙ uses)) (λ x which. absurd (none x which)))
