@@ -1,6 +1,6 @@
 -- After each event, the rows of the calls agree with the history.
 use Rattle.std.proofs.Common.{◌≡◌, ◌≢◌, ℕ, subst, ◌<◌, ◌≤◌, ◌⊎◌, inl, inr, Bool, true, false, ◌==◌, ◌&&◌, cond, List, [], ◌∷◌, ◌++◌, map, length, length-set, Option, Some, None, refl, sym, ap, ◌∙◌, arith}
-use Rattle.std.specs.Prelude.{slice_index_or, slice_set}
+use Rattle.std.specs.Prelude.{slice_set}
 use Rattle.std.proofs.lemmas.Bool.Decides.{nat_tests}
 use Rattle.std.proofs.lemmas.List.{get_or_past}
 use Rattle.dsql_laws_calls.specs.driver.declared.answer.DriverAnswer.{DriverAnswer}
@@ -17,7 +17,6 @@ use Rattle.dsql_laws_calls.specs.rows.declared.end.RowsEnd.TheVariants as ends
 use Rattle.dsql_laws_calls.specs.rows.OpenRows.{ended_by, was_made}
 use Rattle.dsql_laws_calls.specs.tx.declared.tx.Tx.{Tx}
 use Rattle.dsql_laws_calls.specs.history.declared.work.Work.{Work}
-use Rattle.dsql_laws_calls.specs.history.declared.work.Work.TheVariants.{Look}
 use Rattle.dsql_laws_calls.specs.works.HandedOut.{Made}
 use Rattle.dsql_laws_calls.specs.history.declared.event.Event.{Event}
 use Rattle.dsql_laws_calls.specs.history.declared.event.Event.TheVariants.{Entered, Heard, Pool, Replied}
@@ -46,11 +45,12 @@ use Rattle.dsql_engine_desk.specs.Appending.{DecidesNow}
 use Rattle.dsql_engine_calls.specs.Calls.{KeepsCalls, nobody, row_at, with_ender, with_row, with_try, with_tx_ender}
 use Rattle.dsql_engine_calls.specs.Tried.{kept, untried, one_more, newest_lost, number, most_counted}
 use Rattle.dsql_engine_calls.proofs.KeptTries.{kept_lost, kept_more, kept_number}
+use Rattle.dsql_engine_calls.proofs.Borrowers.{row_work}
 use Rattle.dsql_engine_effects.specs.Heard.{Decides, HearsRows, calls_after, calls_told, told_in, tries_after}
 use Rattle.dsql_engine_calls.specs.Tries.{tried_by, tried_by_all}
 use Rattle.dsql_engine_calls.specs.Settling.{replied}
 use Rattle.dsql_engine_effects.specs.Starts.{closed_rows, Starts, closed_by}
-use Rattle.dsql_engine_calls.proofs.CallRows.{same_at, same_all, calls_changed, changed_at, changed_beside, same_pushed, all_pushed, as_many, work_at}
+use Rattle.dsql_engine_calls.proofs.CallRows.{same_at, same_all, calls_changed, changed_at, changed_beside, same_pushed, all_pushed, as_many}
 use Rattle.dsql_laws_calls.proofs.Works.{still_unfinished}
 use Rattle.dsql_engine_effects.proofs.FirstEnds.{by_number}
 use Rattle.dsql_engine_effects.proofs.MadeKnown.{made_known}
@@ -300,9 +300,6 @@ replied_keeps H n reply rows k =
       ender = λ m. same_at (λ (r : CallRow). r.ender) replied n rows m (λ r. refl) ∙ (k.ender m ∙ sym (ender_of_none H (Replied n reply) m refl));
       tx_ender = λ m. same_at (λ (r : CallRow). r.tx_ender) replied n rows m (λ r. refl) ∙ (k.tx_ender m ∙ sym (tx_ender_of_none H (Replied n reply) m refl));
     }
-
-pub row_work : (H : List Event) (rows : List CallRow) (n : ℕ) → KeepsCalls H rows → (row_at rows n).work ≡ work H n
-row_work H rows n k = work_at rows n ∙ ap (λ ws. slice_index_or ws n Look) k.works
 
 -- Returns the row of a call that enters, with these recorded tries.
 abbrev pub row_started : ℕ → CallStart → Tried → CallRow

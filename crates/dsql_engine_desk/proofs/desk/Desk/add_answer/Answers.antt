@@ -4,6 +4,7 @@ use Rattle.dsql_laws_calls.specs.history.Readers.HandedOut.{handed_out}
 use Rattle.dsql_laws_calls.specs.history.Readers.Transactions.{transactions, tx_heard}
 use Rattle.dsql_laws_calls.specs.history.Readers.Works.{work, works}
 use Rattle.dsql_engine_calls.specs.Calls.{row_at}
+use Rattle.dsql_engine_calls.proofs.Borrowers.{row_work}
 use Rattle.dsql_engine_desk.specs.Desk.{past}
 use Rattle.dsql_engine_lines.specs.Inside.{lines_heard}
 use Rattle.dsql_engine_lines.specs.Lines.{in_transactions}
@@ -11,7 +12,7 @@ use Rattle.dsql_engine_lines.specs.There.{nothing_there, then_there}
 use Rattle.dsql_engine_effects.specs.Heard.{HearsBegin, HearsRows, rows_after}
 use Rattle.dsql_engine_effects.proofs.AsHeard.{rows_as_heard}
 use Rattle.dsql_engine_effects.proofs.OnceKept.{rows_once_heard}
-use Rattle.dsql_engine_desk.proofs.Kept.{answered_keeps, decides_in_row, row_work}
+use Rattle.dsql_engine_desk.proofs.Kept.{answered_keeps, decides_in_row}
 use Rattle.dsql_engine_desk.proofs.desk.Desk.add_answer.Goals as goal
 
 pub tell_answer-requires-clause-decides : goal.tell_answer-requires-clause-decides

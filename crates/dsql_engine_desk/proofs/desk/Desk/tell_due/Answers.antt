@@ -6,9 +6,9 @@ use Rattle.std.specs.Prelude.{is_some}
 use Rattle.dsql_engine_desk.specs.Adding.{MayAdd}
 use Rattle.dsql_engine_desk.specs.Appending.{reply_now}
 use Rattle.dsql_engine_calls.specs.Calls.{row_at}
+use Rattle.dsql_engine_calls.proofs.Settled.{settled_as}
 use Rattle.dsql_engine_desk.specs.Desk.{past, Stands}
 use Rattle.dsql_engine_calls.specs.Settling.{reply_or, settled_in}
-use Rattle.dsql_engine_calls.proofs.Settled.{settled_as}
 use Rattle.dsql_engine_desk.proofs.desk.Desk.tell_due.Goals as goal
 
 pub add_due_reply-requires-clause-may : goal.add_due_reply-requires-clause-may
