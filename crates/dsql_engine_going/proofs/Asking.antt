@@ -3,6 +3,7 @@ use Rattle.std.proofs.Common.{◌≡◌, ℕ, ◌==◌, Bool, true, false, ◌&&
 use Rattle.std.specs.Prelude.{Result, Ok, Err}
 use Rattle.std.specs.List.{list_any}
 use Rattle.std.proofs.lemmas.List.Folds.{list_any-append}
+use Rattle.std.proofs.lemmas.Bool.{or_right}
 use Rattle.dsql_laws_calls.specs.course.declared.course.Wish.TheVariants as wishes
 use Rattle.dsql_laws_calls.specs.journal.Readers.{is_empty}
 use Rattle.dsql_laws_calls.specs.journal.declared.entry.Owner.{Owner}
@@ -44,7 +45,7 @@ use Rattle.dsql_laws_calls.proofs.laws.Standing.{stands_waiting}
 use Rattle.dsql_laws_calls.proofs.laws.Tests.{both, other_number, same_itself, together}
 use Rattle.dsql_laws_calls.proofs.laws.Wanted.{homes_apart}
 use Rattle.dsql_laws_calls.proofs.laws.Wanting.{sends_where_lent}
-use Rattle.dsql_laws_others.proofs.Untouched.{all_so, apart_of, or_second}
+use Rattle.dsql_laws_others.proofs.Untouched.{all_so, apart_of}
 use Rattle.dsql_laws_others.proofs.LentStands.{stand_other}
 use Rattle.dsql_laws_others.proofs.Asked.{asks_an_open_one, closed_only, no_memory, asked_goes_on, asked_used}
 use Rattle.dsql_laws_replies.proofs.Served.{own_line}
@@ -142,10 +143,10 @@ stands_opened H n c l may =
     let for_it : is_for n (Opening (wanted_by H n)) ≡ true = ap (λ b. is_for n (Opening (cond b None (Some (owner_of H n))))) (other_number n 0 some) ∙ (ap (λ k. k == n) (owner_number H n) ∙ same_itself n) in
     let last_one : list_any (λ (conn : Conn). is_for n conn.place) (x ∷ []) ≡ true = ap (λ b. b || false) for_it in
     let any : list_any (λ (conn : Conn). is_for n conn.place) (p.conns ++ x ∷ []) ≡ true =
-    list_any-append (λ (conn : Conn). is_for n conn.place) p.conns (x ∷ []) ∙ or_second (list_any (λ (conn : Conn). is_for n conn.place) p.conns) (list_any (λ (conn : Conn). is_for n conn.place) (x ∷ [])) last_one in
+    list_any-append (λ (conn : Conn). is_for n conn.place) p.conns (x ∷ []) ∙ or_right (list_any (λ (conn : Conn). is_for n conn.place) p.conns) (list_any (λ (conn : Conn). is_for n conn.place) (x ∷ [])) last_one in
     opens_somewhere (Pool (OpenStart c n) ∷ H) n l a.unfinished
     (unwaiting (waits n p.waiting) (list_any (λ conn. is_for n conn.place) p.conns) a.unwanting)
-    (or_second (waits n p.waiting) (list_any (λ (conn : Conn). is_for n conn.place) (p.conns ++ x ∷ [])) any)
+    (or_right (waits n p.waiting) (list_any (λ (conn : Conn). is_for n conn.place) (p.conns ++ x ∷ [])) any)
 
 -- The call waits.
 
@@ -154,4 +155,4 @@ stands_queued H n =
     let r = request H n in
     let rs = (pool H).waiting in
     stands_waiting (Waits n ∷ H) n
-    (list_any-append (λ (q : Request). q.call == n) rs (r ∷ []) ∙ or_second (waits n rs) (waits n (r ∷ [])) (ap (λ b. b || false) (same_itself n)))
+    (list_any-append (λ (q : Request). q.call == n) rs (r ∷ []) ∙ or_right (waits n rs) (waits n (r ∷ [])) (ap (λ b. b || false) (same_itself n)))

@@ -1,5 +1,6 @@
 -- A call that has nothing more to send has its reply: the reply may come, and all is settled after it.
 use Rattle.std.proofs.Common.{◌≡◌, ℕ, Bool, true, false, not, ◌&&◌, ◌||◌, cond, List, [], ◌∷◌, Option, Some, None, is_some, is_none, refl, sym, ap, ◌∙◌}
+use Rattle.std.proofs.lemmas.Bool.{or_right}
 use Rattle.dsql_laws_calls.specs.driver.declared.call.DriverCall.{DriverCall}
 use Rattle.dsql_laws_calls.specs.journal.Readers.{has, is_empty}
 use Rattle.dsql_laws_calls.specs.pool.declared.moves.Move.{Move}
@@ -22,7 +23,7 @@ use Rattle.dsql_laws_calls.specs.history.Rules.Stands.{stand}
 use Rattle.dsql_laws_calls.specs.history.Legal.{Allowed}
 use Rattle.dsql_laws_calls.proofs.laws.Tests.{both, together, same_itself}
 use Rattle.dsql_laws_calls.proofs.Lists.{has-without}
-use Rattle.dsql_laws_others.proofs.Untouched.{or_second, used_replied, goes_on_replied}
+use Rattle.dsql_laws_others.proofs.Untouched.{used_replied, goes_on_replied}
 use Rattle.dsql_engine_desk.specs.Appending.{reply_now}
 use Rattle.dsql_engine_calls.specs.Settling.{reply_or}
 use Rattle.dsql_engine_going.specs.Answers.{sends_unless, why_blocked}
@@ -73,7 +74,7 @@ pub due_cause : (H : List Event) (n : ℕ) → is_some (reply_due H n) ≡ true 
 due_cause H n h = ap (λ b. b || is_told_too_many H n (reply_now H n)) (due_reply (reply_due H n) h)
 
 pub many_cause : (H : List Event) (n : ℕ) → may_ask H n ≡ true → is_too_many (ask_outcome H n) ≡ true → has_cause H n TooMany ≡ true
-many_cause H n may many = or_second (is_reply (reply_due H n) TooMany) (may_ask H n && is_too_many (ask_outcome H n)) (together (may_ask H n) (is_too_many (ask_outcome H n)) may many)
+many_cause H n may many = or_right (is_reply (reply_due H n) TooMany) (may_ask H n && is_too_many (ask_outcome H n)) (together (may_ask H n) (is_too_many (ask_outcome H n)) may many)
 
 -- What holds after the reply.
 

@@ -1,5 +1,6 @@
 -- A call that enters may come next. After the moves that this makes due, all except the call is settled.
 use Rattle.std.proofs.Common.{◌≡◌, ℕ, ◌==◌, true, false, not, ◌&&◌, ◌||◌, List, [], ◌∷◌, is_some, refl, sym, ap, ◌∙◌}
+use Rattle.std.proofs.lemmas.Bool.{or_right}
 use Rattle.dsql_laws_calls.specs.journal.Readers.{has, is_empty}
 use Rattle.dsql_laws_calls.specs.history.declared.event.Event.{Event}
 use Rattle.dsql_laws_calls.specs.history.declared.event.Event.TheVariants.{Entered}
@@ -17,7 +18,6 @@ use Rattle.dsql_laws_calls.proofs.laws.Numbered.{unfinished_from_one}
 use Rattle.dsql_laws_calls.proofs.laws.OwedAllowed.{owed_made}
 use Rattle.dsql_laws_calls.proofs.laws.Tests.{other_number, same_itself, second, together}
 use Rattle.dsql_laws_others.proofs.Entries.{goes_on_entered, used_entered}
-use Rattle.dsql_laws_others.proofs.Untouched.{or_second}
 use Rattle.dsql_laws_others.specs.Entries.{is_plain}
 use Rattle.dsql_laws_others.proofs.Settling.{all_within}
 use Rattle.dsql_laws_others.specs.Ends.{ends_transaction}
@@ -58,7 +58,7 @@ goes_on_any : (H : List Event) (n : ℕ) → Lawful H → goes_on H ≡ true →
 goes_on_any H n l h = all_within (λ m. (m == 0) || is_some (stand H m)) (λ m. (m == n) || is_some (stand H m)) (unfinished H) each h
   where
     each : (m : ℕ) → has m (unfinished H) ≡ true → ((m == 0) || is_some (stand H m)) ≡ true → ((m == n) || is_some (stand H m)) ≡ true
-    each m u so = or_second (m == n) (is_some (stand H m)) (second (m == 0) (is_some (stand H m)) (other_number m 0 (unfinished_from_one H m l u)) so)
+    each m u so = or_right (m == n) (is_some (stand H m)) (second (m == 0) (is_some (stand H m)) (other_number m 0 (unfinished_from_one H m l u)) so)
 
 all_but : (K : List Event) (n : ℕ) → owed K ≡ [] → uses_what_is_lent K ≡ true → goes_on_but n K ≡ true → is_settled_but n K ≡ true
 all_but K n none used others =

@@ -1,5 +1,6 @@
 -- Where a call that goes on stands, and how its flights change.
 use Rattle.std.proofs.Common.{◌≡◌, ℕ, ◌==◌, Bool, true, false, not, ◌&&◌, ◌||◌, cond, List, [], ◌∷◌, Option, Some, None, is_some, refl, sym, ap, subst, ◌∙◌}
+use Rattle.std.proofs.lemmas.Bool.{or_right}
 use Rattle.std.specs.Prelude.{find}
 use Rattle.std.specs.List.{list_any}
 use Rattle.std.specs.Option.{option_map}
@@ -27,7 +28,7 @@ use Rattle.dsql_laws_calls.proofs.laws.Standing.{stands_opening}
 use Rattle.dsql_laws_calls.proofs.laws.Tests.{both, second, same_number}
 use Rattle.dsql_laws_replies.proofs.Nowhere.{nowhere_replies}
 use Rattle.dsql_laws_due.proofs.FetchReplies.{fetch_replies}
-use Rattle.dsql_laws_others.proofs.Untouched.{all_so, or_second}
+use Rattle.dsql_laws_others.proofs.Untouched.{all_so}
 use Rattle.dsql_engine_going.specs.Answers.{sends_unless, why_blocked}
 use Rattle.dsql_engine_going.specs.Permits.{permit_for}
 use Rattle.dsql_engine_going.specs.Reaching.{HasGoneOn}
@@ -69,7 +70,7 @@ taken_flies n c (x ∷ xs) h = by (taken_flies n c xs) (x.conn == c) h
     by rest false k = rest k
 
 pub taken_stays : (n c : ℕ) (flights : List Flight) → is_taken n c flights ≡ true → permitted n (Some (stands_at.Sends c)) flights ≡ flights
-taken_stays n c flights taken = rw (or_second (is_in_flight n flights) (has_flight c flights) (taken_flies n c flights taken)) refl
+taken_stays n c flights taken = rw (or_right (is_in_flight n flights) (has_flight c flights) (taken_flies n c flights taken)) refl
 
 -- A call for which nothing is due gets no permit.
 
@@ -96,7 +97,7 @@ goes_on_itself : (H : List Event) (n : ℕ) → goes_on_but n H ≡ true → is_
 goes_on_itself H n h there = all_so (λ m. (m == n) || is_some (stand H m)) (λ m. (m == 0) || is_some (stand H m)) (unfinished H) each h
   where
     each : (m : ℕ) → ((m == n) || is_some (stand H m)) ≡ true → ((m == 0) || is_some (stand H m)) ≡ true
-    each m so = or_second (m == 0) (is_some (stand H m)) (by (m == n) refl so)
+    each m so = or_right (m == 0) (is_some (stand H m)) (by (m == n) refl so)
       where
         by : (b : Bool) → (m == n) ≡ b → (b || is_some (stand H m)) ≡ true → is_some (stand H m) ≡ true
         by true is k = let same : m ≡ n = same_number m n is in subst (λ j. is_some (stand H j) ≡ true) (sym same) there

@@ -1,5 +1,6 @@
 -- A call enters in a step, and may go on.
 use Rattle.std.proofs.Common.{◌≡◌, ◌≢◌, ℕ, ◌+◌, ◌≤◌, ◌==◌, Bool, true, false, ◌||◌, List, [], ◌∷◌, length, refl, sym, ap, subst, ◌∙◌, arith}
+use Rattle.std.proofs.lemmas.Bool.{or_right}
 use Rattle.dsql_laws_calls.specs.works.Limits.{most_within_a_step}
 use Rattle.dsql_laws_calls.specs.journal.Readers.{has}
 use Rattle.dsql_laws_calls.specs.pool.declared.moves.Move.{Move}
@@ -17,7 +18,6 @@ use Rattle.dsql_laws_calls.proofs.laws.Tests.{both, other_number, same_itself}
 use Rattle.dsql_laws_calls.specs.Bounds.{most_moves}
 use Rattle.dsql_laws_calls.proofs.Lists.{has_push}
 use Rattle.dsql_laws_calls.proofs.Owed.{few_next}
-use Rattle.dsql_laws_others.proofs.Untouched.{or_second}
 use Rattle.dsql_laws_ends.proofs.Whose.{unfinished_entered}
 use Rattle.dsql_engine_pooling.specs.UnderWay.{UnderWay}
 use Rattle.dsql_engine_desk.specs.declared.desk.Desk.{Desk}
@@ -91,7 +91,7 @@ may_go_on old new flights client n op next pays may free appends =
     subst (λ (P : List Event). MayGoOn P flights n) (sym appends.event)
     (record {
       settled = entered_settled H client n op (l, entry_allowed H client n op next may.begun free may.settled) may.settled;
-      unfinished = ap (λ (ns : List ℕ). has n ns) (same_unfinished (owed K) K) ∙ (has_push n n (unfinished H) ∙ or_second (has n (unfinished H)) (n == n) (same_itself n));
+      unfinished = ap (λ (ns : List ℕ). has n ns) (same_unfinished (owed K) K) ∙ (has_push n n (unfinished H) ∙ or_right (has n (unfinished H)) (n == n) (same_itself n));
       parked = parked H n flights.flights (ap (is_unfinished H) next ∙ next_is_new H l) may.known;
       spare = may.spare;
     })

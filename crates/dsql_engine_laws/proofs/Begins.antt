@@ -3,6 +3,7 @@ use Rattle.std.proofs.Common.{◌≡◌, ◌≢◌, ℕ, ◌⊎◌, inl, inr, Bo
 use Rattle.std.specs.List.{list_any}
 use Rattle.std.specs.Option.{option_map}
 use Rattle.std.proofs.lemmas.List.Folds.{list_all-append}
+use Rattle.std.proofs.lemmas.Bool.{or_right}
 use Rattle.dsql_engine_hearing.specs.course.Made.{or_else}
 use Rattle.dsql_engine_hearing.specs.driver.declared.call.DriverCall.{DriverCall}
 use Rattle.dsql_engine_hearing.specs.wait.Requests.{waits}
@@ -26,7 +27,6 @@ use Rattle.dsql_engine_hearing.proofs.laws.Numbered.{unfinished_from_one}
 use Rattle.dsql_engine_hearing.proofs.laws.Places.{neither, none_opens}
 use Rattle.dsql_engine_hearing.proofs.laws.Standing.{stands_sending}
 use Rattle.dsql_engine_hearing.proofs.laws.Tests.{together}
-use Rattle.dsql_engine_hearing.proofs.laws_others.Untouched.{or_second}
 use Rattle.dsql_engine_hearing.specs.going.Answers.{next_for, sends_unless, why_blocked}
 use Rattle.dsql_engine_hearing.specs.going.Permits.{permit_for, sent_at}
 use Rattle.dsql_engine_hearing.specs.going.Reaching.{HasGoneOn}
@@ -144,7 +144,7 @@ keeps_by_next H n c before after next l parked free went is = by (is_unfinished 
         ap (flies n c) now ∙ begins n c before parked free
 
     by : (b : Bool) → is_unfinished H n ≡ b → keeps_turn H after c ≡ true
-    by true u = or_second (not (is_unfinished H (sender_at H c))) (flies (sender_at H c) c after) (ap (λ m. flies m c after) is ∙ flown u)
+    by true u = or_right (not (is_unfinished H (sender_at H c))) (flies (sender_at H c) c after) (ap (λ m. flies m c after) is ∙ flown u)
     by false done = ap (λ b. not b || flies (sender_at H c) c after) (ap (is_unfinished H) is ∙ done)
 
 pub taking_off : (H : List Event) (n d : ℕ) (before after : List Flight) (next : Next) → Lawful H → FlyingBut n d H before → is_in_flight n before ≡ false → has_flight d before ≡ false

@@ -1,5 +1,6 @@
 -- Leave for a driver call: how long it stays, and what it allows.
 use Rattle.std.proofs.Common.{◌≡◌, ◌≢◌, ℕ, ◌==◌, ◌⊎◌, inl, inr, Bool, true, false, not, ◌&&◌, cond, List, [], ◌∷◌, ◌++◌, Some, refl, sym, ap, subst, ◌∙◌}
+use Rattle.std.proofs.lemmas.Bool.{or_cases}
 use Rattle.std.specs.List.{list_all}
 use Rattle.dsql_engine_hearing.specs.driver.Kinds.{is_connect, is_shut}
 use Rattle.dsql_engine_hearing.specs.driver.declared.answer.DriverAnswer.{DriverAnswer}
@@ -31,7 +32,7 @@ use Rattle.dsql_engine_hearing.specs.history.Rules.Moves.{hears_in}
 use Rattle.dsql_engine_hearing.specs.history.Legal.{Lawful}
 use Rattle.dsql_engine_hearing.proofs.laws.Journals.{keeps_journals_of}
 use Rattle.dsql_engine_hearing.proofs.laws.Welcome.{stays_welcome}
-use Rattle.dsql_engine_hearing.proofs.laws_callers.Senders.{due_there, either}
+use Rattle.dsql_engine_hearing.proofs.laws_callers.Senders.{due_there}
 use Rattle.dsql_engine_hearing.specs.laws_steps.Groups.{is_later_of}
 use Rattle.dsql_engine_hearing.proofs.laws_calls.Coming.{sound}
 use Rattle.dsql_engine_hearing.proofs.laws_calls.Lent.{stays_lent}
@@ -118,7 +119,7 @@ of_one_connection (_ ∷ H) c = of_one_connection H c
 -- The driver call of an answer that may come was due on a lent connection, so it neither connects nor shuts.
 coming_call : (H : List Event) (e : Entry) → may_come H e ≡ true → (is_connect e.call ≡ false) × (is_shut e.call ≡ false)
 coming_call [] e h = absurd cc
-coming_call (x ∷ H) e h = by (either (is_due_at (x ∷ H) (place (x ∷ H) e.conn) e) (not (parts x e) && may_come H e) h) (coming_call H e)
+coming_call (x ∷ H) e h = by (or_cases (is_due_at (x ∷ H) (place (x ∷ H) e.conn) e) (not (parts x e) && may_come H e) h) (coming_call H e)
   where
     by : (is_due_at (x ∷ H) (place (x ∷ H) e.conn) e ≡ true) ⊎ ((not (parts x e) && may_come H e) ≡ true) → (may_come H e ≡ true → (is_connect e.call ≡ false) × (is_shut e.call ≡ false))
         → (is_connect e.call ≡ false) × (is_shut e.call ≡ false)

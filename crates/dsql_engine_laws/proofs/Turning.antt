@@ -1,5 +1,6 @@
 -- A call that goes on to a driver call has leave for it.
 use Rattle.std.proofs.Common.{◌≡◌, ◌≢◌, ℕ, ◌==◌, ◌⊎◌, inl, inr, Bool, true, false, not, ◌&&◌, ◌||◌, cond, List, [], ◌∷◌, ◌++◌, Option, Some, None, is_some, refl, sym, ap, subst, ◌∙◌}
+use Rattle.std.proofs.lemmas.Bool.{or_right}
 use Rattle.std.specs.Option.{option_map}
 use Rattle.dsql_engine_hearing.specs.driver.declared.call.DriverCall.{DriverCall}
 use Rattle.dsql_engine_hearing.specs.driver.declared.answer.DriverAnswer.{DriverAnswer}
@@ -26,7 +27,6 @@ use Rattle.dsql_engine_hearing.proofs.laws.Standing.{stands_sending}
 use Rattle.dsql_engine_hearing.proofs.laws.Tests.{other_number, same_itself, together}
 use Rattle.dsql_engine_hearing.proofs.laws.Welcome.{due_may_come}
 use Rattle.dsql_engine_hearing.proofs.laws_calls.Lists.{same_or_not}
-use Rattle.dsql_engine_hearing.proofs.laws_others.Untouched.{or_second}
 use Rattle.dsql_engine_hearing.specs.exchanged.Filled.{Carries}
 use Rattle.dsql_engine_hearing.proofs.going.Carried.{permit_carried}
 use Rattle.dsql_engine_hearing.specs.going.Answers.{sends_unless, why_blocked}
@@ -132,7 +132,7 @@ turn_free H n c t own before after f now free lent = by (is_some (due_for H m)) 
     by : (b : Bool) → is_some (due_for H m) ≡ b → has_turn H c n ≡ true
     by true due =
         let same : holder H c ≡ n = holds ∙ (ap (λ (b : Bool). cond b m 0) due ∙ itself due (same_or_not m n)) in
-        or_second (holder H c == 0) (holder H c == n) (ap (λ h. h == n) same ∙ same_itself n)
+        or_right (holder H c == 0) (holder H c == n) (ap (λ h. h == n) same ∙ same_itself n)
     by false silent =
         let none : holder H c ≡ 0 = holds ∙ ap (λ (b : Bool). cond b m 0) silent in
         ap (λ h. (h == 0) || (h == n)) none
@@ -142,7 +142,7 @@ due_now : (H : List Event) (n c t : ℕ) (own : Owner) (call : DriverCall) (answ
 due_now H n c t own call answer some at due turn =
     let from : due_from H n (number_of own) ≡ due_for H n = ap (λ (b : Bool). cond b (tidying H (number_of own)) (due_for H n)) (other_number n 0 some) in
     let sent : is_due (due_from H n (number_of own)) call ≡ true = ap (λ d. is_due d call) from ∙ due_itself H n call due in
-    let there : is_at H n c ≡ true = or_second (n == 0) (site H n == c) (ap (λ d. d == c) at ∙ same_itself c) in
+    let there : is_at H n c ≡ true = or_right (n == 0) (site H n == c) (ap (λ d. d == c) at ∙ same_itself c) in
     together (t == t) (is_at H n c && (has_turn H c n && is_due (due_from H n (number_of own)) call)) (same_itself t)
     (together (is_at H n c) (has_turn H c n && is_due (due_from H n (number_of own)) call) there (together (has_turn H c n) (is_due (due_from H n (number_of own)) call) turn sent))
 

@@ -1,5 +1,6 @@
 -- The record of a call in a transaction is what was heard in its line, by induction over the history.
-use Rattle.std.proofs.Common.{◌≡◌, ◌≢◌, ℕ, ◌==◌, ◌⊎◌, inl, inr, Bool, true, false, ◌||◌, cond, List, [], ◌∷◌, Some, refl, sym, ap, subst, ◌∙◌, arith}
+use Rattle.std.proofs.Common.{◌≡◌, ◌≢◌, ℕ, ◌==◌, ◌⊎◌, inl, inr, Bool, true, false, cond, List, [], ◌∷◌, Some, refl, sym, ap, subst, ◌∙◌, arith}
+use Rattle.std.proofs.lemmas.Bool.{or_parts}
 use Rattle.dsql_laws_calls.specs.journal.declared.entry.Entry.{Entry}
 use Rattle.dsql_laws_calls.specs.journal.declared.entry.Owner.{Owner}
 use Rattle.dsql_laws_calls.specs.journal.declared.entry.Owner.TheVariants as owners
@@ -40,17 +41,13 @@ use Rattle.dsql_engine_lines.proofs.OfConnections.{heard_owner}
 Unsent : List Event → ℕ → Type 0
 Unsent H n = (c : ℕ) → has_sent n (journal H c) ≡ false
 
-either_false : (a b : Bool) → (a || b) ≡ false → (a ≡ false) × (b ≡ false)
-either_false true b h = absurd cc
-either_false false b h = (refl, h)
-
 unsent_before : (H : List Event) (e : Entry) (n : ℕ) → Unsent (Heard e ∷ H) n → ((e.call_no == n) ≡ false) × Unsent H n
 unfolding Unsent
 unsent_before H e n none = (its.0, λ c. by c (same_or_not e.conn c))
   where
     its : ((e.call_no == n) ≡ false) × (has_sent n (journal H e.conn) ≡ false)
     its =
-        either_false (e.call_no == n) (has_sent n (journal H e.conn))
+        or_parts (e.call_no == n) (has_sent n (journal H e.conn))
         (sym (ap (λ b. has_sent n (cond b (e ∷ journal H e.conn) (journal H e.conn))) (same_itself e.conn)) ∙ none e.conn)
 
     by : (c : ℕ) → (e.conn ≡ c) ⊎ (e.conn ≢ c) → has_sent n (journal H c) ≡ false

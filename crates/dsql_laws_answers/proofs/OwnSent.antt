@@ -1,6 +1,7 @@
 -- What is under way on a connection that is lent to a call on the database is due in that call's line. For the
 -- call's rows it is only a fetch that wants them, or the close after they are over.
-use Rattle.std.proofs.Common.{◌≡◌, ◌≢◌, ℕ, ◌==◌, ◌⊎◌, inl, inr, Bool, true, false, not, ◌&&◌, ◌||◌, cond, List, [], ◌∷◌, Some, None, is_some, is_none, refl, sym, ap, subst, ◌∙◌}
+use Rattle.std.proofs.Common.{◌≡◌, ◌≢◌, ℕ, ◌==◌, inl, inr, Bool, true, false, not, ◌&&◌, cond, List, [], ◌∷◌, Some, None, is_some, is_none, refl, sym, ap, subst, ◌∙◌}
+use Rattle.std.proofs.lemmas.Bool.{or_cases}
 use Rattle.dsql_laws_calls.specs.course.declared.course.Wish.{Wish}
 use Rattle.dsql_laws_calls.specs.course.declared.course.Wish.TheVariants as wishes
 use Rattle.dsql_laws_calls.specs.journal.declared.entry.Entry.{Entry}
@@ -171,10 +172,6 @@ sent_now H e own o may now = whose (e.call_no == 0) refl (subst (λ x. is_due (d
         never : (b : Bool) → b ≡ true → b ≡ false → ⊥
         never b p q = cc
 
-either : (a b : Bool) → (a || b) ≡ true → (a ≡ true) ⊎ (b ≡ true)
-either true b h = inl refl
-either false b h = inr h
-
 not_so : (b : Bool) → not b ≡ true → b ≡ false
 not_so true h = absurd cc
 not_so false h = refl
@@ -199,7 +196,7 @@ still_sent H last e own l on may is call used x = record {
 pub own_sent : (H : List Event) (e : Entry) (own : Owner) → Lawful H → may_come H e ≡ true → place H e.conn ≡ Some (Lent e.tenure own) → is_call own ≡ true → OwnSent H e own
 own_sent [] e own l may is call = absurd cc
 own_sent (last ∷ H) e own l may is call =
-    elim (either (is_due_at (last ∷ H) (place (last ∷ H) e.conn) e) (not (parts last e) && may_come H e) may) [
+    elim (or_cases (is_due_at (last ∷ H) (place (last ∷ H) e.conn) e) (not (parts last e) && may_come H e) may) [
       | inl now ↦ sent_now (last ∷ H) e own (record { lawful = l; lent = is; call = call }) may now
       | inr before ↦ (let b = both (not (parts last e)) (may_come H e) before in came b.0 b.1 (λ at. own_sent H e own l.0 b.1 at call))
     ]

@@ -2,6 +2,7 @@
 -- send holds the turn on its connection. The call sent the newest driver call there, and only its own driver
 -- calls may be answered there.
 use Rattle.std.proofs.Common.{◌≡◌, ◌≢◌, ℕ, ◌==◌, ◌⊎◌, inl, inr, Bool, true, false, not, ◌&&◌, ◌||◌, cond, List, [], ◌∷◌, Some, None, is_some, refl, sym, ap, subst, ◌∙◌}
+use Rattle.std.proofs.lemmas.Bool.{or_cases}
 use Rattle.dsql_laws_calls.specs.journal.declared.entry.Entry.{Entry}
 use Rattle.dsql_laws_calls.specs.journal.declared.entry.Owner.{Owner}
 use Rattle.dsql_laws_calls.specs.journal.Kinds.{number_of}
@@ -152,13 +153,9 @@ came_before H last e m t own l calm h on may d = from (lent_before H last e.conn
         let st = stays_with_its_call H e l.0 may in
         absurd (free_before H e.conn t own w.0 e.tenure st.owner (subst (λ y. Lawful (y ∷ H)) w.1 l) st.lent)
 
-either : (a b : Bool) → (a || b) ≡ true → (a ≡ true) ⊎ (b ≡ true)
-either true b h = inl refl
-either false b h = inr h
-
 sender_next : (H : List Event) (last : Event) → Lawful (last ∷ H) → Calm (last ∷ H) → Holding H → (e : Entry) (m t : ℕ) (own : Owner) → may_come (last ∷ H) e ≡ true → Deciding (last ∷ H) m e.conn t own → e.call_no ≡ m
 sender_next H last l calm h e m t own may d =
-    elim (either (is_due_at (last ∷ H) (place (last ∷ H) e.conn) e) (not (parts last e) && may_come H e) may) [
+    elim (or_cases (is_due_at (last ∷ H) (place (last ∷ H) e.conn) e) (not (parts last e) && may_come H e) may) [
       | inl now ↦ (let u = due_now (last ∷ H) e now in its_turn (last ∷ H) e m t own (newest_next H last l calm h m e.conn t own d) u.turn d)
       | inr before ↦ (let b = both (not (parts last e)) (may_come H e) before in came_before H last e m t own l calm h (not_so (parts last e) b.0) b.1 d)
     ]

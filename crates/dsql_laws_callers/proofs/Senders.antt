@@ -1,6 +1,7 @@
 -- Proves who sent what is answered in a tenure: a call that uses the connection which is lent to the owner of
 -- that tenure.
 use Rattle.std.proofs.Common.{◌≡◌, ◌≢◌, ℕ, ◌+◌, ◌<◌, ◌==◌, Bool, true, false, not, ◌&&◌, ◌||◌, cond, List, [], ◌∷◌, length, Option, Some, None, refl, sym, ap, subst, ◌∙◌, ◌⊎◌, inl, inr, arith}
+use Rattle.std.proofs.lemmas.Bool.{or_cases}
 use Rattle.std.specs.Option.{option_map}
 use Rattle.dsql_laws_calls.specs.driver.declared.call.DriverCall.{DriverCall}
 use Rattle.dsql_laws_calls.specs.journal.declared.entry.Entry.{Entry}
@@ -159,15 +160,11 @@ due_senders H e l some h =
       owner = λ o is. sym (home_owner H (borrower H e.call_no) e.conn e.tenure o home_at is);
     }
 
-pub either : (a b : Bool) → (a || b) ≡ true → (a ≡ true) ⊎ (b ≡ true)
-either true b h = inl refl
-either false b h = inr h
-
 -- An entry that may come was due at an earlier moment, and its call uses the connection of that tenure.
 pub senders : (H : List Event) (e : Entry) → Lawful H → e.call_no ≢ 0 → may_come H e ≡ true → IsSenders H e
 senders [] e l some h = absurd cc
 senders (last ∷ H) e l some h =
-    by (either (is_due_at (last ∷ H) (place (last ∷ H) e.conn) e) (not (parts last e) && may_come H e) h) (λ comes. senders H e l.0 some comes)
+    by (or_cases (is_due_at (last ∷ H) (place (last ∷ H) e.conn) e) (not (parts last e) && may_come H e) h) (λ comes. senders H e l.0 some comes)
   where
     by : (is_due_at (last ∷ H) (place (last ∷ H) e.conn) e ≡ true) ⊎ ((not (parts last e) && may_come H e) ≡ true) → (may_come H e ≡ true → IsSenders H e) → IsSenders (last ∷ H) e
     by (inl due) earlier = due_senders (last ∷ H) e l some due

@@ -1,5 +1,6 @@
 -- Proves that the layer tidies up on a lent connection only after the run has ended.
 use Rattle.std.proofs.Common.{◌≡◌, ℕ, ◌==◌, Bool, true, false, not, ◌&&◌, cond, List, [], ◌∷◌, Option, Some, None, is_some, refl, sym, ap, ◌∙◌, ◌⊎◌, inl, inr}
+use Rattle.std.proofs.lemmas.Bool.{or_cases}
 use Rattle.dsql_laws_calls.specs.driver.declared.call.DriverCall.{DriverCall}
 use Rattle.dsql_laws_calls.specs.course.declared.course.Wish.TheVariants as wishes
 use Rattle.dsql_laws_calls.specs.journal.declared.entry.Entry.{Entry}
@@ -22,7 +23,7 @@ use Rattle.dsql_laws_calls.specs.history.Legal.{Lawful}
 use Rattle.dsql_laws_calls.proofs.Owners.{lent_asks}
 use Rattle.dsql_laws_callers.proofs.Ended.{ended_still}
 use Rattle.dsql_laws_callers.proofs.Rows as rows
-use Rattle.dsql_laws_callers.proofs.Senders.{due_there, either, not_due}
+use Rattle.dsql_laws_callers.proofs.Senders.{due_there, not_due}
 use Rattle.dsql_laws_callers.proofs.Transacted as transacted
 
 ending_over : (H : List Event) (k : ℕ) (q : DriverCall) → is_due (ending H k) q ≡ true → is_some (tx_end H k) ≡ true
@@ -73,7 +74,7 @@ due_ended H e l none h =
 pub tidies_ended : (H : List Event) (e : Entry) → Lawful H → e.call_no ≡ 0 → may_come H e ≡ true → has_ended H ≡ true
 tidies_ended [] e l none h = absurd cc
 tidies_ended (last ∷ H) e l none h =
-    by (either (is_due_at (last ∷ H) (place (last ∷ H) e.conn) e) (not (parts last e) && may_come H e) h) (λ comes. tidies_ended H e l.0 none comes)
+    by (or_cases (is_due_at (last ∷ H) (place (last ∷ H) e.conn) e) (not (parts last e) && may_come H e) h) (λ comes. tidies_ended H e l.0 none comes)
   where
     by : (is_due_at (last ∷ H) (place (last ∷ H) e.conn) e ≡ true) ⊎ ((not (parts last e) && may_come H e) ≡ true) → (may_come H e ≡ true → has_ended H ≡ true) → has_ended (last ∷ H) ≡ true
     by (inl due) earlier = due_ended (last ∷ H) e l none due

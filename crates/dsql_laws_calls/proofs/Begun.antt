@@ -1,6 +1,7 @@
 -- A transaction is begun by the call that has its number, which is a begin. It is ended only after that call
 -- has its reply.
-use Rattle.std.proofs.Common.{◌≡◌, ◌≢◌, ℕ, ◌==◌, ◌⊎◌, inl, inr, Bool, true, false, not, ◌&&◌, ◌||◌, cond, List, [], ◌∷◌, ◌++◌, Option, Some, None, is_some, refl, sym, ap, ◌∙◌}
+use Rattle.std.proofs.Common.{◌≡◌, ◌≢◌, ℕ, ◌==◌, ◌⊎◌, inl, inr, Bool, true, false, not, ◌&&◌, cond, List, [], ◌∷◌, ◌++◌, Option, Some, None, is_some, refl, sym, ap, ◌∙◌}
+use Rattle.std.proofs.lemmas.Bool.{or_cases}
 use Rattle.std.specs.Option.{option_map}
 use Rattle.dsql_laws.specs.driver.Kinds.{is_begin, is_connect, is_shut}
 use Rattle.dsql_laws.specs.driver.Fits.{is_done}
@@ -35,10 +36,6 @@ use Rattle.dsql_laws_calls.proofs.Looks.{heard_there}
 use Rattle.dsql_laws_calls.proofs.Plain.{begins}
 use Rattle.dsql_laws_calls.proofs.Makers.{begin_due_now}
 
-either : (a b : Bool) → (a || b) ≡ true → (a ≡ true) ⊎ (b ≡ true)
-either true b h = inl refl
-either false b h = inr h
-
 begins_no_look : (it : Work) → begins it ≡ true → is_look it ≡ false
 begins_no_look (works_of.Begin label level read_only) h = refl
 begins_no_look it h = absurd cc
@@ -49,7 +46,7 @@ still_begins H e n h = ap begins (work_stays H e n (begins_no_look (work H n) h)
 -- A Begin is a driver call of a call that begins a transaction.
 pub begin_comes : (H : List Event) (e : Entry) → may_come H e ≡ true → is_begin e.call ≡ true → begins (work H e.call_no) ≡ true
 begin_comes [] e h is = absurd cc
-begin_comes (last ∷ H) e h is = by (λ may. begin_comes H e may is) (either (is_due_at (last ∷ H) (place (last ∷ H) e.conn) e) (not (parts last e) && may_come H e) h)
+begin_comes (last ∷ H) e h is = by (λ may. begin_comes H e may is) (or_cases (is_due_at (last ∷ H) (place (last ∷ H) e.conn) e) (not (parts last e) && may_come H e) h)
   where
     by : (may_come H e ≡ true → begins (work H e.call_no) ≡ true) → (is_due_at (last ∷ H) (place (last ∷ H) e.conn) e ≡ true) ⊎ ((not (parts last e) && may_come H e) ≡ true)
         → begins (work (last ∷ H) e.call_no) ≡ true

@@ -1,5 +1,6 @@
 -- In each lawful history, an answer that may come is under way.
-use Rattle.std.proofs.Common.{◌≡◌, ◌⊎◌, inl, inr, Bool, true, false, not, ◌&&◌, ◌||◌, List, [], ◌∷◌, refl, ap, ◌∙◌}
+use Rattle.std.proofs.Common.{◌≡◌, inl, inr, true, false, not, ◌&&◌, List, [], ◌∷◌, refl, ap, ◌∙◌}
+use Rattle.std.proofs.lemmas.Bool.{or_cases}
 use Rattle.dsql_laws.specs.journal.declared.entry.Entry.{Entry}
 use Rattle.dsql_laws_work.proofs.Rows.{same_or_not, not_true}
 use Rattle.dsql_laws.proofs.Tests.{both}
@@ -16,13 +17,9 @@ use Rattle.dsql_laws_calls.proofs.DueWay.{due_under_way}
 use Rattle.dsql_laws_calls.proofs.StaysUnderWay.{stays_under_way}
 use Rattle.dsql_laws_calls.proofs.Sound.{Sound, quiet_facts, ends_same, going_same, made_same, ends_heard, going_heard, made_heard}
 
-either : (a b : Bool) → (a || b) ≡ true → (a ≡ true) ⊎ (b ≡ true)
-either true b h = inl refl
-either false b h = inr h
-
 comes_on : (H : List Event) (last : Event) → Lawful (last ∷ H) → Sound H → Facts (last ∷ H) → (e : Entry) → may_come (last ∷ H) e ≡ true → UnderWay (last ∷ H) e
 comes_on H last l s f e h =
-    elim (either (is_due_at (last ∷ H) (place (last ∷ H) e.conn) e) (not (parts last e) && may_come H e) h) [
+    elim (or_cases (is_due_at (last ∷ H) (place (last ∷ H) e.conn) e) (not (parts last e) && may_come H e) h) [
       | inl now ↦ due_under_way (last ∷ H) e l f now
       | inr before ↦ (let b = both (not (parts last e)) (may_come H e) before in stays_under_way H last e l (not_true (parts last e) b.0) b.1 (s.coming e b.1))
     ]

@@ -1,6 +1,7 @@
 -- A connection is lent only to calls that ask for one of their own. A call that sends on its own connection has
 -- had a try.
 use Rattle.std.proofs.Common.{◌≡◌, ◌≢◌, ℕ, zero, suc, ◌≤◌, ◌==◌, ◌⊎◌, inl, inr, Bool, true, false, not, ◌&&◌, ◌||◌, cond, List, [], ◌∷◌, ◌++◌, length, Option, Some, None, is_some, refl, sym, ap, subst, ◌∙◌, arith}
+use Rattle.std.proofs.lemmas.Bool.{or_cases}
 use Rattle.std.specs.Prelude.{slice_index_or}
 use Rattle.std.specs.List.{list_any}
 use Rattle.std.specs.Option.{option_map}
@@ -199,14 +200,10 @@ still H (Ticked now) e apart u = u
 still H (SetLimit s k) e apart u = u
 still H Ended e apart u = u
 
-either : (a b : Bool) → (a || b) ≡ true → (a ≡ true) ⊎ (b ≡ true)
-either true b h = inl refl
-either false b h = inr h
-
 -- A call for which an answer is under way still sends.
 pub came_of : (H : List Event) (e : Entry) → Lawful H → may_come H e ≡ true → (e.call_no == 0) ≡ false → Sends H e.call_no
 came_of [] e l h some = absurd cc
-came_of (last ∷ H) e l h some = by (λ may. came_of H e l.0 may some) (either (is_due_at (last ∷ H) (place (last ∷ H) e.conn) e) (not (parts last e) && may_come H e) h)
+came_of (last ∷ H) e l h some = by (λ may. came_of H e l.0 may some) (or_cases (is_due_at (last ∷ H) (place (last ∷ H) e.conn) e) (not (parts last e) && may_come H e) h)
   where
     by : (may_come H e ≡ true → Sends H e.call_no) → (is_due_at (last ∷ H) (place (last ∷ H) e.conn) e ≡ true) ⊎ ((not (parts last e) && may_come H e) ≡ true) → Sends (last ∷ H) e.call_no
     by earlier (inl now) = due_sends (last ∷ H) e.call_no e.call l (due_there (last ∷ H) (place (last ∷ H) e.conn) e now some)

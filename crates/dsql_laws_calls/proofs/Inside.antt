@@ -1,6 +1,7 @@
 -- A call that sends in a transaction sends in one that was begun. Live rows of a transaction belong to one that
 -- goes on.
 use Rattle.std.proofs.Common.{◌≡◌, ◌≢◌, ℕ, ◌==◌, ◌⊎◌, inl, inr, Bool, true, false, not, ◌&&◌, ◌||◌, cond, List, [], ◌∷◌, ◌++◌, map, Option, Some, None, is_some, is_none, refl, sym, ap, ◌∙◌, arith}
+use Rattle.std.proofs.lemmas.Bool.{or_cases}
 use Rattle.std.specs.Option.{option_map}
 use Rattle.dsql_laws.specs.driver.declared.call.DriverCall.{DriverCall}
 use Rattle.dsql_laws.specs.driver.declared.call.DriverCall.TheVariants.{Query, Next}
@@ -52,10 +53,6 @@ use Rattle.dsql_laws_calls.proofs.Begun.{BeginsIt, heard_tx, stays_begun}
 use Rattle.dsql_laws_calls.proofs.TxEnders.{same_going, sent_entered}
 use Rattle.dsql_laws_calls.proofs.Own.{due_now, due_of}
 use Rattle.dsql_laws_calls.proofs.Ends.{zero_work}
-
-either : (a b : Bool) → (a || b) ≡ true → (a ≡ true) ⊎ (b ≡ true)
-either true b h = inl refl
-either false b h = inr h
 
 -- A call in a transaction has something to do.
 pub inside_busy : (w : Work) (k : ℕ) → scope w ≡ Tx k → w ≡ Look → ⊥
@@ -116,7 +113,7 @@ due_begun H e k sent h is =
     let its : is_due (due_for H e.call_no) e.call ≡ true = ap (λ b. is_due (cond b (tidying H (number_of d.owner)) (due_for H e.call_no)) e.call) (sym some) ∙ d.due in
     let o = due_of H e.call_no e.call its in
     let inside = due_within H e.call_no k e.call (work H e.call_no) is o.due in
-    elim (either (has_begun_to_send H e.call_no) (goes_on H k && is_none (decided H e.call_no)) inside.sends) [
+    elim (or_cases (has_begun_to_send H e.call_no) (goes_on H k && is_none (decided H e.call_no)) inside.sends) [
       | inl begun ↦ sent e.call_no k (site H e.call_no) begun is
       | inr goes ↦ (let g = both (goes_on H k) (is_none (decided H e.call_no)) goes in let b = both (is_begun H k) (not (is_over H k)) g.0 in b.0)
     ]
@@ -127,7 +124,7 @@ still_coming H last i sent before = record { sent = sent; coming = come }
   where
     come : (e : Entry) (k : ℕ) → may_come (last ∷ H) e ≡ true → scope (work (last ∷ H) e.call_no) ≡ Tx k → is_begun (last ∷ H) k ≡ true
     come e k h is =
-        elim (either (is_due_at (last ∷ H) (place (last ∷ H) e.conn) e) (not (parts last e) && may_come H e) h) [
+        elim (or_cases (is_due_at (last ∷ H) (place (last ∷ H) e.conn) e) (not (parts last e) && may_come H e) h) [
           | inl now ↦ due_begun (last ∷ H) e k sent now is
           | inr could ↦ (let b = both (not (parts last e)) (may_come H e) could in stays_begun H last k (i.coming e k b.1 (before e k b.1 is)))
         ]

@@ -1,6 +1,7 @@
 -- Proves that a call that looks at what is there sends nothing, and that a scanned row always has a reply. The
 -- argument is that a driver call is due only for other work.
-use Rattle.std.proofs.Common.{◌≡◌, ℕ, ◌+◌, ◌==◌, ◌⊎◌, inl, inr, Bool, true, false, not, ◌&&◌, ◌||◌, cond, List, [], ◌∷◌, length, Option, Some, None, is_some, refl, sym, ap, ◌∙◌, subst, if◌then◌else◌}
+use Rattle.std.proofs.Common.{◌≡◌, ℕ, ◌+◌, ◌==◌, ◌⊎◌, inl, inr, Bool, true, false, not, ◌&&◌, cond, List, [], ◌∷◌, length, Option, Some, None, is_some, refl, sym, ap, ◌∙◌, subst, if◌then◌else◌}
+use Rattle.std.proofs.lemmas.Bool.{or_cases}
 use Rattle.std.specs.Prelude.{Ok, Err}
 use Rattle.dsql_laws.specs.value.declared.value.Value.{Value}
 use Rattle.dsql_laws.specs.driver.declared.call.DriverCall.{DriverCall}
@@ -56,13 +57,9 @@ due_there H (Some (Opening w)) e h some = absurd cc
 due_there H (Some Closing) e h some = absurd cc
 due_there H None e h some = absurd cc
 
-either : (a b : Bool) → (a || b) ≡ true → (a ≡ true) ⊎ (b ≡ true)
-either true b h = inl refl
-either false b h = inr h
-
 pub sent_no_look : (H : List Event) (e : Entry) → may_come H e ≡ true → (e.call_no == 0) ≡ false → is_look (work H e.call_no) ≡ false
 sent_no_look [] e h some = absurd cc
-sent_no_look (last ∷ H) e h some = by (λ may. sent_no_look H e may some) (either (is_due_at (last ∷ H) (place (last ∷ H) e.conn) e) (not (parts last e) && may_come H e) h)
+sent_no_look (last ∷ H) e h some = by (λ may. sent_no_look H e may some) (or_cases (is_due_at (last ∷ H) (place (last ∷ H) e.conn) e) (not (parts last e) && may_come H e) h)
   where
     by : (may_come H e ≡ true → is_look (work H e.call_no) ≡ false) → (is_due_at (last ∷ H) (place (last ∷ H) e.conn) e ≡ true) ⊎ ((not (parts last e) && may_come H e) ≡ true)
         → is_look (work (last ∷ H) e.call_no) ≡ false

@@ -1,6 +1,7 @@
 -- A call that asks for a connection of its own has that connection while an answer to it is under way. It wants no
 -- other.
 use Rattle.std.proofs.Common.{◌≡◌, ℕ, ◌==◌, ◌⊎◌, inl, inr, Bool, true, false, not, ◌&&◌, ◌||◌, cond, List, [], ◌∷◌, Option, Some, None, is_some, refl, sym, ap, subst, ◌∙◌, arith}
+use Rattle.std.proofs.lemmas.Bool.{or_cases}
 use Rattle.dsql_laws.specs.driver.declared.call.DriverCall.{DriverCall}
 use Rattle.dsql_laws.specs.course.declared.course.Wish.TheVariants as wishes
 use Rattle.dsql_laws.specs.journal.declared.entry.Entry.{Entry}
@@ -199,13 +200,9 @@ own_stays H last e l on u =
           ∙ u.due;
     }
 
-either : (a b : Bool) → (a || b) ≡ true → (a ≡ true) ⊎ (b ≡ true)
-either true b h = inl refl
-either false b h = inr h
-
 pub own_way : (H : List Event) (e : Entry) → Lawful H → may_come H e ≡ true → (e.call_no == 0) ≡ false → asks (work H e.call_no) ≡ true → OwnWay H e
 own_way [] e l h some asking = absurd cc
-own_way (last ∷ H) e l h some asking = by (λ may. own_way H e l.0 may some) (either (is_due_at (last ∷ H) (place (last ∷ H) e.conn) e) (not (parts last e) && may_come H e) h)
+own_way (last ∷ H) e l h some asking = by (λ may. own_way H e l.0 may some) (or_cases (is_due_at (last ∷ H) (place (last ∷ H) e.conn) e) (not (parts last e) && may_come H e) h)
   where
     by : (may_come H e ≡ true → asks (work H e.call_no) ≡ true → OwnWay H e) → (is_due_at (last ∷ H) (place (last ∷ H) e.conn) e ≡ true) ⊎ ((not (parts last e) && may_come H e) ≡ true) → OwnWay (last ∷ H) e
     by earlier (inl now) = own_now (last ∷ H) e l some asking now

@@ -1,6 +1,7 @@
 -- What is under way on a connection that is lent to a call on the database, apart from that call's own driver
 -- calls.
 use Rattle.std.proofs.Common.{◌≡◌, ℕ, ◌==◌, ◌⊎◌, inl, inr, Bool, true, false, not, ◌&&◌, ◌||◌, cond, List, [], ◌∷◌, Some, None, is_some, is_none, refl, sym, ap, subst, ◌∙◌}
+use Rattle.std.proofs.lemmas.Bool.{or_cases}
 use Rattle.dsql_laws_calls.specs.driver.declared.call.DriverCall.{DriverCall}
 use Rattle.dsql_laws_calls.specs.course.declared.course.Wish.{Wish}
 use Rattle.dsql_laws_calls.specs.course.declared.course.Wish.TheVariants as wishes
@@ -39,7 +40,7 @@ use Rattle.dsql_laws_calls.proofs.Stays.{not_looking}
 use Rattle.dsql_laws_calls.proofs.UnderWay.{at_number, clash, ending_over, line_at_its, UnderWay}
 use Rattle.dsql_laws_calls.proofs.Why.{why_used}
 use Rattle.dsql_laws_due.proofs.Holds.{IsOther}
-use Rattle.dsql_laws_due.proofs.Kept.{coming_work, either}
+use Rattle.dsql_laws_due.proofs.Kept.{coming_work}
 use Rattle.dsql_laws_due.proofs.Ways.{borrow_same}
 
 -- Holds if the driver call closes the rows of the call that has the connection, or fetches from them.
@@ -183,7 +184,7 @@ call_way_stays H last e own l on u same call now works w = record { wish = w.wis
 
 pub call_way : (H : List Event) (e : Entry) (own : Owner) → Lawful H → may_come H e ≡ true → place H e.conn ≡ Some (Lent e.tenure own) → is_call own ≡ true → IsOther H e.call_no → CallWay H e.conn e.tenure own e.call_no e.call
 call_way [] e own l may is call its = absurd cc
-call_way (last ∷ H) e own l may is call its = by (call_way H e own l.0) (either (is_due_at (last ∷ H) (place (last ∷ H) e.conn) e) (not (parts last e) && may_come H e) may)
+call_way (last ∷ H) e own l may is call its = by (call_way H e own l.0) (or_cases (is_due_at (last ∷ H) (place (last ∷ H) e.conn) e) (not (parts last e) && may_come H e) may)
   where
     same_lent : (o p : Owner) → Some (Lent e.tenure o) ≡ Some (Lent e.tenure p) → o ≡ p
     same_lent o p k = cc

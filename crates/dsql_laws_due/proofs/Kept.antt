@@ -1,5 +1,6 @@
 -- What holds, in each lawful history, of connections that are lent to transactions.
-use Rattle.std.proofs.Common.{◌≡◌, ◌≢◌, ℕ, ◌==◌, ◌⊎◌, inl, inr, Bool, true, false, not, ◌&&◌, ◌||◌, List, [], ◌∷◌, Some, is_some, refl, sym, ap, subst, ◌∙◌}
+use Rattle.std.proofs.Common.{◌≡◌, ◌≢◌, ℕ, ◌==◌, ◌⊎◌, inl, inr, Bool, true, false, not, ◌&&◌, List, [], ◌∷◌, Some, is_some, refl, sym, ap, subst, ◌∙◌}
+use Rattle.std.proofs.lemmas.Bool.{or_cases}
 use Rattle.std.specs.List.{list_any}
 use Rattle.dsql_laws_calls.specs.driver.Kinds.{is_valid}
 use Rattle.dsql_laws_calls.specs.course.declared.course.Wish.TheVariants as wishes
@@ -206,10 +207,6 @@ tx_way_stays H last e own l on u same works w = record { begun = stays_begun H l
           untested = ap (λ J. list_any (λ y. is_valid y.call) (of_tenure e.tenure J)) quiet ∙ x.untested;
         }))
 
-pub either : (a b : Bool) → (a || b) ≡ true → (a ≡ true) ⊎ (b ≡ true)
-either true b h = inl refl
-either false b h = inr h
-
 pub coming_work : (H : List Event) (last : Event) (e : Entry) → may_come H e ≡ true → work (last ∷ H) e.call_no ≡ work H e.call_no
 coming_work H last e may = by (e.call_no == 0) refl
   where
@@ -220,7 +217,7 @@ coming_work H last e may = by (e.call_no == 0) refl
 comes_on : (H : List Event) (last : Event) → Lawful (last ∷ H) → Holds H → Kept (last ∷ H) → (e : Entry) (own : Owner) → may_come (last ∷ H) e ≡ true → place (last ∷ H) e.conn ≡ Some (Lent e.tenure own) → is_call own ≡ false
     → IsOther (last ∷ H) e.call_no → TxWay (last ∷ H) e.conn e.tenure own e.call_no e.call
 comes_on H last l h kept e own may is other its =
-    by (either (is_due_at (last ∷ H) (place (last ∷ H) e.conn) e) (not (parts last e) && may_come H e) may)
+    by (or_cases (is_due_at (last ∷ H) (place (last ∷ H) e.conn) e) (not (parts last e) && may_come H e) may)
   where
     same_lent : (o p : Owner) → Some (Lent e.tenure o) ≡ Some (Lent e.tenure p) → o ≡ p
     same_lent o p k = cc

@@ -1,5 +1,6 @@
 -- What an answer makes of what holds of its connection, if that is lent to a transaction.
 use Rattle.std.proofs.Common.{◌≡◌, ℕ, ◌==◌, ◌⊎◌, inl, inr, Bool, true, false, ◌||◌, cond, List, ◌∷◌, Option, Some, None, is_some, refl, sym, ap, subst, ◌∙◌}
+use Rattle.std.proofs.lemmas.Bool.{or_right}
 use Rattle.std.specs.List.{list_all, list_any}
 use Rattle.dsql_laws_calls.specs.driver.declared.call.DriverCall.{DriverCall}
 use Rattle.dsql_laws_calls.specs.driver.declared.call.DriverCall.TheVariants as calls
@@ -64,7 +65,7 @@ use Rattle.dsql_laws_due.proofs.Came.{BeginsWay, Came, came, InnerWay}
 use Rattle.dsql_laws_due.proofs.Holds.{AllShut, asked_in, begin_of, EndsWay, Holds, Kept, Opening, RowsWay, TestsWay}
 use Rattle.dsql_laws_due.proofs.KeptStays.{asked_grows}
 use Rattle.dsql_laws_due.proofs.LineEnds.{IsShut}
-use Rattle.dsql_laws_due.proofs.LineFacts.{body_due, handed_grows, line_about, line_steps, or_later, shut_about, stepless_shut}
+use Rattle.dsql_laws_due.proofs.LineFacts.{body_due, handed_grows, line_about, line_steps, shut_about, stepless_shut}
 use Rattle.dsql_laws_due.proofs.Ways.{owner_begins, scoped}
 
 -- The line of a begin is everything in its tenure, as long as its Begin isn't done.
@@ -247,7 +248,7 @@ module _ (H : List Event) (e : Entry) (l : Lawful (Heard e ∷ H)) (s : Sound H)
   rested_heard m inner done sent = by (e.call_no == m) refl (sym (ap (has_sent m) journal_now) ∙ sent)
     where
       worse : went_bad (journal H e.conn) ≡ true → went_bad (e ∷ journal H e.conn) ≡ true
-      worse bad = or_later (is_bad e.answer) (went_bad (journal H e.conn)) bad
+      worse bad = or_right (is_bad e.answer) (went_bad (journal H e.conn)) bad
 
       quiet_lists : (x y : Asked) (N M : List Entry) (K P : List Entry) → y ≡ x → N ≡ M → P ≡ K → Quiet (caps H) (went_bad M) x (exchanges (line_among m K)) → Quiet (caps H) (went_bad N) y (exchanges (line_among m P))
       quiet_lists x y N M K P a b c q = rw (a, b, c) q
@@ -327,7 +328,7 @@ module _ (H : List Event) (e : Entry) (l : Lawful (Heard e ∷ H)) (s : Sound H)
       earlier m = let k = m.tenure in not_true (list_any (λ x. is_valid x.call) (heard_in H e.conn e.tenure)) k.not_after_valid
 
       ended_now : ended_there (heard_in H e.conn e.tenure) ≡ true → ⊥
-      ended_now x = let wrong : true ≡ false = sym (ap ended_there heard_now ∙ or_later (is_ending e.call) (ended_there (heard_in H e.conn e.tenure)) x) ∙ none in cc
+      ended_now x = let wrong : true ≡ false = sym (ap ended_there heard_now ∙ or_right (is_ending e.call) (ended_there (heard_in H e.conn e.tenure)) x) ∙ none in cc
 
       -- A test begins nothing.
       began : BeginsWay H e.conn e.tenure own e.call_no e.call → is_valid e.call ≡ true → ⊥
@@ -379,7 +380,7 @@ module _ (H : List Event) (e : Entry) (l : Lawful (Heard e ∷ H)) (s : Sound H)
       was_ended step = second (is_ending e.call) (ended_there (heard_in H e.conn e.tenure)) (not_ending step) ended_so
 
       bad_on : AllShut e.tenure (journal H e.conn) → ((n : ℕ) → IsShut (made_by n e.tenure (journal H e.conn)) → ⊥) → (n : ℕ) → AllShut e.tenure (e ∷ journal H e.conn)
-      bad_on (inl bad) none n = inl (or_later (is_bad e.answer) (went_bad (journal H e.conn)) bad)
+      bad_on (inl bad) none n = inl (or_right (is_bad e.answer) (went_bad (journal H e.conn)) bad)
       bad_on (inr shut) none n = absurd (none n (shut n))
 
       -- If the entry is over rows or in the line of a query, nothing stays open, or the connection is known to
@@ -388,7 +389,7 @@ module _ (H : List Event) (e : Entry) (l : Lawful (Heard e ∷ H)) (s : Sound H)
       about_shut n step begun_so about = at (kept.ended e.conn e.tenure own lent begun_so (was_ended step))
         where
           at : AllShut e.tenure (journal H e.conn) → AllShut e.tenure (e ∷ journal H e.conn)
-          at (inl bad) = inl (or_later (is_bad e.answer) (went_bad (journal H e.conn)) bad)
+          at (inl bad) = inl (or_right (is_bad e.answer) (went_bad (journal H e.conn)) bad)
           at (inr shut) = shut_about (made_by n e.tenure (journal H e.conn)) e.call (shut n) about
 
       inner_left : (w : InnerWay H e.conn e.tenure own e.call_no e.call) → (ended_there (heard_in H e.conn e.tenure) ≡ false) ⊎ (handed_there H e.conn e.tenure e.call_no ≡ true) → AllShut e.tenure (e ∷ journal H e.conn)

@@ -1,5 +1,6 @@
 -- What is known of the line of a call in a transaction, and what an answer makes of lines.
-use Rattle.std.proofs.Common.{◌≡◌, ℕ, ◌==◌, ◌⊎◌, inl, inr, Bool, true, false, ◌||◌, cond, List, ◌∷◌, Option, Some, None, is_some, refl, sym, ap, subst, ◌∙◌}
+use Rattle.std.proofs.Common.{◌≡◌, ℕ, ◌==◌, ◌⊎◌, inl, inr, Bool, true, false, cond, List, ◌∷◌, Option, Some, None, is_some, refl, sym, ap, subst, ◌∙◌}
+use Rattle.std.proofs.lemmas.Bool.{or_right}
 use Rattle.dsql_laws_calls.specs.driver.declared.call.DriverCall.{DriverCall}
 use Rattle.dsql_laws_calls.specs.driver.declared.call.DriverCall.TheVariants as calls
 use Rattle.dsql_laws_calls.specs.driver.declared.call.Input.TheVariants.{Text, Handle}
@@ -103,10 +104,6 @@ shut_about made q s h = absurd cc
 
 -- What an answer makes of lines.
 
-pub or_later : (a b : Bool) → b ≡ true → (a || b) ≡ true
-or_later true b h = refl
-or_later false b h = h
-
 stepless_line : (n : ℕ) (e : Entry) (L : List Entry) → step_of e.call ≡ None → exchanges (line_among n (e ∷ L)) ≡ exchanges (line_among n L)
 stepless_line n e L none = by (grows n e L)
   where
@@ -122,7 +119,7 @@ stepless_made n t e J none = by (e.tenure == t)
     by false = refl
 
 pub stepless_shut : (t : ℕ) (e : Entry) (J : List Entry) → step_of e.call ≡ None → AllShut t J → AllShut t (e ∷ J)
-stepless_shut t e J none (inl bad) = inl (or_later (is_bad e.answer) (went_bad J) bad)
+stepless_shut t e J none (inl bad) = inl (or_right (is_bad e.answer) (went_bad J) bad)
 stepless_shut t e J none (inr shut) = inr (λ n. subst IsShut (sym (stepless_made n t e J none)) (shut n))
 
 -- A cursor that the driver gave to a line stays the line's own.

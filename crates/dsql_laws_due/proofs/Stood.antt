@@ -1,5 +1,6 @@
 -- After each event, what was heard on each connection fits the connection's place.
-use Rattle.std.proofs.Common.{◌≡◌, ◌≢◌, ℕ, ◌+◌, ◌==◌, Bool, true, false, not, ◌&&◌, ◌||◌, cond, List, [], ◌∷◌, Option, Some, None, is_some, refl, sym, ap, subst, ◌∙◌, arith}
+use Rattle.std.proofs.Common.{◌≡◌, ◌≢◌, ℕ, ◌+◌, ◌==◌, true, false, not, ◌&&◌, ◌||◌, cond, List, [], ◌∷◌, Option, Some, None, is_some, refl, sym, ap, subst, ◌∙◌, arith}
+use Rattle.std.proofs.lemmas.Bool.{or_parts}
 use Rattle.dsql_laws_calls.specs.driver.Fits.{is_done}
 use Rattle.dsql_laws_calls.specs.driver.Kinds.{is_connect}
 use Rattle.dsql_laws_calls.specs.course.declared.course.Wish.{Wish}
@@ -139,14 +140,10 @@ stands_lend H c t o n l s d =
 
 -- A connection that comes back to be kept went well, and its tenure is whole.
 
-neither : (a b : Bool) → (a || b) ≡ false → (a ≡ false) × (b ≡ false)
-neither true b h = absurd cc
-neither false b h = (refl, h)
-
 unspoilt : (H : List Event) (c t : ℕ) (own : Owner) → Lawful (Pool (Back c) ∷ H) → place H c ≡ Some (Lent t own) → (went_bad (journal H c) ≡ false) × (ends_invalid (journal H c) ≡ false)
 unspoilt H c t own l is =
     let placed = changed_place c (back (pool H).moment) Idle (pool H).conns (λ x. refl) (λ x. refl) (ap (λ p. is_some p) is) in
-    neither (went_bad (journal H c)) (ends_invalid (journal H c)) (subst (λ p. Fine false false (journal H c) p) placed (fine (Pool (Back c) ∷ H) l c))
+    or_parts (went_bad (journal H c)) (ends_invalid (journal H c)) (subst (λ p. Fine false false (journal H c) p) placed (fine (Pool (Back c) ∷ H) l c))
 
 back_whole : (H : List Event) (c : ℕ) → Allowed H (Pool (Back c)) → leaves_whole H c (place H c) ≡ true
 unfolding Allowed

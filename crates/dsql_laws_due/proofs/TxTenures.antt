@@ -2,6 +2,7 @@
 use Rattle.std.proofs.Common.{◌≡◌, ℕ, ◌<◌, ◌≤◌, ◌==◌, Bool, true, false, ◌&&◌, ◌||◌, cond, List, [], ◌∷◌, ◌++◌, Some, None, is_some, nat_lt, refl, sym, ap, ◌∙◌, arith}
 use Rattle.std.specs.List.{list_any}
 use Rattle.std.proofs.lemmas.Bool.Decides.{nat_tests}
+use Rattle.std.proofs.lemmas.Bool.{or_parts, or_right}
 use Rattle.dsql_laws_calls.specs.driver.declared.call.DriverCall.{DriverCall}
 use Rattle.dsql_laws_calls.specs.driver.Fits.{is_done}
 use Rattle.dsql_laws_calls.specs.driver.Kinds.{is_begin}
@@ -92,14 +93,10 @@ no_entries : (k : ℕ) (J : List Entry) → (k == 0) ≡ false → IsJournalPref
 no_entries k [] some beginning none = refl
 no_entries k (e ∷ J) some beginning none =
     let p = parts2 (may_follow J e) (is_journal_prefix J) beginning in
-    let q = neither (begins e && e.call_no == k) (list_any (λ x. begins x && x.call_no == k) J) none in
+    let q = or_parts (begins e && e.call_no == k) (list_any (λ x. begins x && x.call_no == k) J) none in
     let rest = no_entries k J some p.1 q.1 in
     by (e.tx == k) refl (MayFollow-of J e p.0) q.0 rest
   where
-    neither : (a b : Bool) → (a || b) ≡ false → (a ≡ false) × (b ≡ false)
-    neither true b h = absurd cc
-    neither false b h = (refl, h)
-
     by : (b : Bool) → (e.tx == k) ≡ b → MayFollow J e → (begins e && e.call_no == k) ≡ false → of_transaction k J ≡ [] → cond b (e ∷ of_transaction k J) (of_transaction k J) ≡ []
     by true is m not_begun rest =
         let tx : e.tx ≡ k = same_number e.tx k is in
@@ -163,17 +160,13 @@ among_any : (n : ℕ) (L : List Entry) → list_any begins (line_among n L) ≡ 
 among_any n [] h = absurd cc
 among_any n (e ∷ L) h = by (among_any n L) (is_of_line n e (line_among n L)) h
   where
-    or_later : (a b : Bool) → b ≡ true → (a || b) ≡ true
-    or_later true b x = refl
-    or_later false b x = x
-
     either : (a b : Bool) → (b ≡ true → list_any begins L ≡ true) → (a || b) ≡ true → (a || list_any begins L) ≡ true
     either true b f x = refl
     either false b f x = f x
 
     by : (list_any begins (line_among n L) ≡ true → list_any begins L ≡ true) → (b : Bool) → list_any begins (cond b (e ∷ line_among n L) (line_among n L)) ≡ true → (begins e || list_any begins L) ≡ true
     by rest true x = either (begins e) (list_any begins (line_among n L)) rest x
-    by rest false x = or_later (begins e) (list_any begins L) (rest x)
+    by rest false x = or_right (begins e) (list_any begins L) (rest x)
 
 pub begun_there : (H : List Event) (c t : ℕ) (own : Owner) → Lawful H → place H c ≡ Some (Lent t own) → is_begun H (number_of own) ≡ true → list_any begins (of_tenure t (journal H c)) ≡ true
 begun_there H c t own l is begun =

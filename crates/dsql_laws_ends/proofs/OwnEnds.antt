@@ -1,6 +1,7 @@
 -- The call that ended a transaction sends the transaction's Commit or Rollback, and the layer sends it if no
 -- call ended the transaction. The proof follows what is due for each kind of work.
 use Rattle.std.proofs.Common.{◌≡◌, ℕ, ◌+◌, ◌==◌, ◌⊎◌, inl, inr, Bool, true, false, not, ◌&&◌, ◌||◌, cond, List, [], ◌∷◌, Option, Some, None, is_some, refl, sym, ap, subst, ◌∙◌}
+use Rattle.std.proofs.lemmas.Bool.{or_cases}
 use Rattle.std.specs.Prelude.{unwrap_or}
 use Rattle.std.specs.List.{list_any}
 use Rattle.std.specs.Option.{option_map}
@@ -36,7 +37,6 @@ use Rattle.dsql_laws_calls.specs.history.Rules.Ending.{end_after, ended_by_call,
 use Rattle.dsql_laws_calls.specs.history.Rules.Line.{due_for, due_in, due_inside, is_due, is_due_at, is_used, may_come, parts, sends_in, tidying}
 use Rattle.dsql_laws_calls.specs.history.Rules.Sent.{closing, line_of, sent_for, wish}
 use Rattle.dsql_laws_calls.specs.history.Legal.{Lawful}
-use Rattle.dsql_laws_callers.proofs.Senders.{either}
 use Rattle.dsql_laws_calls.proofs.Begun.{Turned, over_begun, turned}
 use Rattle.dsql_laws_calls.proofs.Coming.{sound}
 use Rattle.dsql_laws_calls.proofs.Lent.{stays_lent}
@@ -216,7 +216,7 @@ way_stays H last e l may w =
 
 pub end_way : (H : List Event) (e : Entry) → Lawful H → may_come H e ≡ true → is_ending e.call ≡ true → EndWay H e
 end_way [] e l h ends = absurd cc
-end_way (last ∷ H) e l h ends = by (end_way H e l.0) (either (is_due_at (last ∷ H) (place (last ∷ H) e.conn) e) (not (parts last e) && may_come H e) h)
+end_way (last ∷ H) e l h ends = by (end_way H e l.0) (or_cases (is_due_at (last ∷ H) (place (last ∷ H) e.conn) e) (not (parts last e) && may_come H e) h)
   where
     by : (may_come H e ≡ true → is_ending e.call ≡ true → EndWay H e) → (is_due_at (last ∷ H) (place (last ∷ H) e.conn) e ≡ true) ⊎ ((not (parts last e) && may_come H e) ≡ true) → EndWay (last ∷ H) e
     by earlier (inl now) = end_now (last ∷ H) e now ends

@@ -1,6 +1,7 @@
 -- A call to which a refusal falls stands where it replies or asks again. A call that still waits when the
 -- database closes stands where it replies.
 use Rattle.std.proofs.Common.{◌≡◌, ℕ, Bool, true, false, Option, Some, None, refl, ◌≢◌, ◌≤◌, ◌&&◌, cond, List, ◌∷◌, is_some, is_none, sym, ap, ◌∙◌, arith}
+use Rattle.std.proofs.lemmas.Bool.{or_right}
 use Rattle.dsql_laws_calls.specs.course.Made.{or_else}
 use Rattle.dsql_laws_calls.specs.history.declared.record.Stand.{Stand}
 use Rattle.dsql_laws_calls.specs.history.declared.record.Stand.TheVariants as stands_at
@@ -41,7 +42,6 @@ use Rattle.dsql_laws_calls.proofs.Closed.{opens_for_none}
 use Rattle.dsql_laws_calls.proofs.Idle.{due_lent}
 use Rattle.dsql_laws_calls.proofs.Nowhere.{told_own}
 use Rattle.dsql_laws_calls.proofs.Told.{not_entering, entered_undecided, wanting_undecided, wants_undecided}
-use Rattle.dsql_laws_others.proofs.Untouched.{or_second}
 use Rattle.dsql_laws_others.specs.Told.{where_told}
 use Rattle.dsql_laws_others.proofs.OwnSteps.{replies_apart, fallen_own}
 
@@ -70,7 +70,7 @@ asks_last false false h = absurd cc
 told_replies : (H : List Event) (n : ℕ) → is_own_step H n ≡ false → decided H n ≡ None → is_some (told_by_others H n) ≡ true → where_told H n ≡ Some stands_at.Replies
 told_replies H n apart undecided told =
     replies_first (has_to_reply H n) (asks_again (tries H n))
-    (replies_apart (is_own_step H n) (is_settled_for H n) apart (or_second (is_some (rests_with H n)) (is_none (decided H n) && is_some (told_by_others H n)) (told_only (decided H n) (told_by_others H n) undecided told)))
+    (replies_apart (is_own_step H n) (is_settled_for H n) apart (or_right (is_some (rests_with H n)) (is_none (decided H n) && is_some (told_by_others H n)) (told_only (decided H n) (told_by_others H n) undecided told)))
 
 -- A call that has no connection sends nothing.
 silent : (H : List Event) (n : ℕ) → asks (work H n) ≡ true → lent_count n (pool H) ≡ 0 → is_some (due_for H n) ≡ false

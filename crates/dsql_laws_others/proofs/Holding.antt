@@ -1,6 +1,7 @@
 -- Live rows that a call on the database handed out can be fetched from, and everything that may be sent for
 -- them is a fetch. The argument goes from event to event.
 use Rattle.std.proofs.Common.{◌≡◌, ◌≢◌, ℕ, ◌==◌, ◌⊎◌, inl, inr, Bool, true, false, not, ◌&&◌, ◌||◌, cond, List, [], ◌∷◌, Option, Some, None, is_some, is_none, refl, sym, ap, subst, ◌∙◌}
+use Rattle.std.proofs.lemmas.Bool.{or_cases}
 use Rattle.std.specs.Option.{option_map}
 use Rattle.dsql_laws_calls.specs.course.declared.course.Wish.{Wish}
 use Rattle.dsql_laws_calls.specs.course.declared.course.Wish.TheVariants as wishes
@@ -396,10 +397,6 @@ quiet_holds H x l none holds c t own at call lives = by (lent_before H x c t own
 
 -- What may be sent.
 
-either : (a b : Bool) → (a || b) ≡ true → (a ≡ true) ⊎ (b ≡ true)
-either true b h = inl refl
-either false b h = inr h
-
 fetches_still : (H : List Event) (x : Event) (e : Entry) (i : ℕ) → Fetches H e i → Fetches (x ∷ H) e i
 fetches_still H x e i f = record { next = f.next; its = work_stays H x e.call_no (ap is_look f.its) ∙ f.its }
 
@@ -431,7 +428,7 @@ came_before H x e own l comes on may at call lives =
     was (Replied k reply) off m before h = h
 
 comes_next : (H : List Event) (x : Event) → Lawful (x ∷ H) → Holds (x ∷ H) → Comes H → Comes (x ∷ H)
-comes_next H x l holds comes e own may at call lives = by (either (is_due_at (x ∷ H) (place (x ∷ H) e.conn) e) (not (parts x e) && may_come H e) may)
+comes_next H x l holds comes e own may at call lives = by (or_cases (is_due_at (x ∷ H) (place (x ∷ H) e.conn) e) (not (parts x e) && may_come H e) may)
   where
     off : (b : Bool) → not b ≡ true → b ≡ false
     off true h = absurd cc

@@ -1,11 +1,11 @@
 -- A call that is lent a connection sends there at once, because its line begins with a driver call.
 use Rattle.std.proofs.Common.{◌≡◌, ◌≢◌, ℕ, ◌==◌, Bool, true, false, not, ◌||◌, cond, List, [], ◌∷◌, Option, Some, None, is_some, refl, sym, ap, ◌∙◌, ◌&&◌, is_none}
+use Rattle.std.proofs.lemmas.Bool.{or_right}
 use Rattle.dsql_laws_calls.specs.wait.declared.request.Request.{Request}
 use Rattle.dsql_laws_calls.specs.wait.Requests.{waits, without_call}
 use Rattle.dsql_laws_calls.specs.pool.declared.conn.Place.{Place}
 use Rattle.dsql_laws_calls.specs.pool.Places.{is_idle, is_opening, is_for}
 use Rattle.dsql_laws_calls.proofs.laws.Tests.{same_number, same_itself}
-use Rattle.dsql_laws_others.proofs.Untouched.{or_second}
 use Rattle.std.specs.List.{list_any}
 use Rattle.std.specs.Option.{option_map}
 use Rattle.dsql_laws_calls.specs.driver.declared.caps.Caps.{Caps}
@@ -88,7 +88,7 @@ still_waits j n (r ∷ rs) apart h = by (r.call == n) (r.call == j) refl refl (s
     by true true of_n of_j rest k = absurd (apart (sym (same_number r.call j of_j) ∙ same_number r.call n of_n))
     by true false of_n of_j rest k = rest k
     by false true of_n of_j rest k = ap (λ b. b || waits j (without_call n rs)) of_j
-    by false false of_n of_j rest k = or_second (r.call == j) (waits j (without_call n rs)) (rest k)
+    by false false of_n of_j rest k = or_right (r.call == j) (waits j (without_call n rs)) (rest k)
 
 abbrev pub lends : List Event → ℕ → ℕ → Owner → ℕ → List Event
 lends H c t own n = Pool (Lend c t own n) ∷ H
@@ -209,7 +209,7 @@ lent_unbegun H c t own n l = by (is_begun H n) refl
     by true is = absurd (lent_once_begun H c t own n l.0 l.1 (beginnings H l.0) (ap (is_begun H) (sym (lends_to H c t own n l.1)) ∙ is))
 
 used_lent : (H : List Event) (c t : ℕ) (own : Owner) (n : ℕ) → Lawful (lends H c t own n) → is_unfinished H n ≡ true → rests (lends H c t own n) n ≡ false → is_used (lends H c t own n) n ≡ true
-used_lent H c t own n l u restless = or_second (goes_on K n) (are_live K n || is_some (rest K n)) (by (rows_by H n))
+used_lent H c t own n l u restless = or_right (goes_on K n) (are_live K n || is_some (rest K n)) (by (rows_by H n))
   where
     K : List Event
     K = lends H c t own n
@@ -222,7 +222,7 @@ used_lent H c t own n l u restless = or_second (goes_on K n) (are_live K n || is
 
     still : (r : Rows) (b : Bool) → is_live r ≡ b → (is_live r || is_some (cond (is_begun K n) (ending K n) (rest_with K n (Some r)))) ≡ true
     still r true is = or_first (is_live r) (is_some (cond (is_begun K n) (ending K n) (rest_with K n (Some r)))) is
-    still r false is = or_second (is_live r) (is_some (cond (is_begun K n) (ending K n) (rest_with K n (Some r)))) (rested (Some r) (ap (λ b. is_some (cond b None (line_of K n wishes.Close))) is ∙ sends wishes.Close))
+    still r false is = or_right (is_live r) (is_some (cond (is_begun K n) (ending K n) (rest_with K n (Some r)))) (rested (Some r) (ap (λ b. is_some (cond b None (line_of K n wishes.Close))) is ∙ sends wishes.Close))
 
     by : (o : Option Rows) → (live o || is_some (cond (is_begun K n) (ending K n) (rest_with K n o))) ≡ true
     by None = rested None (sends wishes.Nothing)
@@ -235,7 +235,7 @@ pub kept_lent : (H : List Event) (c t : ℕ) (own : Owner) (n : ℕ) → Lawful 
 kept_lent H c t own n l = by (rests (lends H c t own n) n) refl
   where
     by : (b : Bool) → rests (lends H c t own n) n ≡ b → is_kept (lends H c t own n) n ≡ true
-    by true is = or_second (is_used (lends H c t own n) n) (rests (lends H c t own n) n) is
+    by true is = or_right (is_used (lends H c t own n) n) (rests (lends H c t own n) n) is
     by false is = or_first (is_used (lends H c t own n) n) (rests (lends H c t own n) n) (used_lent H c t own n l (unfinished_lent H c t own n l) is)
 
 -- The call has the connection.

@@ -1,5 +1,6 @@
 -- Each call that stood somewhere does so after a lending, and so does the call that is lent the connection.
 use Rattle.std.proofs.Common.{◌≡◌, ◌≢◌, ℕ, ◌==◌, ◌⊎◌, inl, inr, Bool, true, false, ◌&&◌, ◌||◌, cond, List, [], ◌∷◌, Some, None, is_some, is_none, refl, sym, ap, ◌∙◌}
+use Rattle.std.proofs.lemmas.Bool.{or_right}
 use Rattle.std.specs.Prelude.{find}
 use Rattle.std.specs.Option.{option_map}
 use Rattle.dsql_laws_calls.specs.journal.declared.entry.Owner.{Owner}
@@ -19,7 +20,7 @@ use Rattle.dsql_laws_calls.proofs.Lists.{same_or_not}
 use Rattle.dsql_laws_others.proofs.Lends.{still_waits, lends, lent_unbegun, stands_lent}
 use Rattle.dsql_laws_others.proofs.Meant.{is_meant, meant}
 use Rattle.dsql_laws_others.proofs.Settling.{all_within}
-use Rattle.dsql_laws_others.proofs.Untouched.{or_second, standing, still_standing, has_still}
+use Rattle.dsql_laws_others.proofs.Untouched.{standing, still_standing, has_still}
 use Rattle.dsql_laws_calls.specs.history.declared.event.Event.{Event}
 use Rattle.dsql_laws_calls.specs.history.declared.work.Scope.{Scope}
 use Rattle.dsql_laws_calls.specs.history.declared.work.Scope.TheVariants.{Db, Tx}
@@ -160,7 +161,7 @@ some_stand H c t own n m l step so = by (same_or_not m n)
 pub itself_lent : (H : List Event) (c t : ℕ) (own : Owner) (n : ℕ) → Lawful (lends H c t own n) → (rests (lends H c t own n) n ≡ true → is_own_step (lends H c t own n) n ≡ false) → goes_on_but n H ≡ true → goes_on (lends H c t own n) ≡ true
 itself_lent H c t own n l step h =
     all_within (λ j. (j == n) || is_some (stand H j)) (λ j. (j == 0) || is_some (stand (lends H c t own n) j)) (unfinished H)
-    (λ j u so. or_second (j == 0) (is_some (stand (lends H c t own n) j)) (some_stand H c t own n j l step (λ apart. second (j == n) (is_some (stand H j)) (other_number j n apart) so))) h
+    (λ j u so. or_right (j == 0) (is_some (stand (lends H c t own n) j)) (some_stand H c t own n j l step (λ apart. second (j == n) (is_some (stand H j)) (other_number j n apart) so))) h
 
 pub somewhere_lent : (H : List Event) (c t : ℕ) (own : Owner) (n k : ℕ) → Lawful (lends H c t own n) → (rests (lends H c t own n) n ≡ true → is_own_step (lends H c t own n) n ≡ false) → goes_on_but k H ≡ true → goes_on_but k (lends H c t own n) ≡ true
 somewhere_lent H c t own n k l step h = all_within (λ j. (j == k) || is_some (stand H j)) (λ j. (j == k) || is_some (stand (lends H c t own n) j)) (unfinished H) (λ j u so. by j (j == k) so) h

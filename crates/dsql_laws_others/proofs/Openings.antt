@@ -5,6 +5,7 @@ use Rattle.std.specs.Prelude.{find}
 use Rattle.std.specs.List.{list_all}
 use Rattle.std.specs.Option.{option_map, option_map_or, option_or}
 use Rattle.std.proofs.lemmas.Bool.Decides.{nat_tests}
+use Rattle.std.proofs.lemmas.Bool.{or_right}
 use Rattle.std.proofs.lemmas.List.Folds.{find-append, list_all-append}
 use Rattle.dsql_laws_calls.specs.course.Made.{or_else}
 use Rattle.dsql_laws_calls.specs.wait.Requests.{waits}
@@ -25,7 +26,7 @@ use Rattle.dsql_laws_calls.specs.history.Readers.Unfinished.{unfinished}
 use Rattle.dsql_laws_calls.specs.history.Rules.Settled.{is_in_use, uses_what_is_lent, goes_on_but, goes_on}
 use Rattle.dsql_laws_others.proofs.Numbers.{none_zero, none_next}
 use Rattle.dsql_laws_calls.specs.history.declared.record.Stand.{Stand}
-use Rattle.dsql_laws_others.proofs.Untouched.{all_so, or_second, still_standing, has_still, each_still}
+use Rattle.dsql_laws_others.proofs.Untouched.{all_so, still_standing, has_still, each_still}
 use Rattle.dsql_laws_calls.specs.history.declared.work.Work.{Work}
 use Rattle.dsql_laws_calls.specs.history.declared.work.Work.TheVariants.{Execute, ReadOne, HandOut, Begin, End, Ping, Fetch, Close, Look}
 use Rattle.dsql_laws_calls.specs.history.Readers.Course.{caps}
@@ -292,11 +293,11 @@ goes_on_opens H c n l h = all_so (λ m. (m == n) || is_some (stand H m)) (λ m. 
       where
         own : (b : Bool) → (n == 0) ≡ b → m ≡ n → ((m == 0) || is_some (stand (opens_for H c n) m)) ≡ true
         own true zero same = ap (λ b. b || is_some (stand (opens_for H c n) m)) (ap (λ j. j == 0) same ∙ zero)
-        own false some same = or_second (m == 0) (is_some (stand (opens_for H c n) m)) (subst (λ j. is_some (stand (opens_for H c n) j) ≡ true) (sym same) (itself_opens H c n some))
+        own false some same = or_right (m == 0) (is_some (stand (opens_for H c n) m)) (subst (λ j. is_some (stand (opens_for H c n) j) ≡ true) (sym same) (itself_opens H c n some))
 
         by : (b : Bool) → (m == n) ≡ b → (b || is_some (stand H m)) ≡ true → ((m == 0) || is_some (stand (opens_for H c n) m)) ≡ true
         by true is k = own (n == 0) refl (same_number m n is)
-        by false is k = or_second (m == 0) (is_some (stand (opens_for H c n) m)) (stand_opens H c n m l k)
+        by false is k = or_right (m == 0) (is_some (stand (opens_for H c n) m)) (stand_opens H c n m l k)
 
 pub goes_on_opens_but : (H : List Event) (c k n : ℕ) → Silent H → goes_on_but n H ≡ true → goes_on_but n (opens_for H c k) ≡ true
 goes_on_opens_but H c k n l h = each_still n (unfinished H) H (opens_for H c k) (λ m. stand_opens H c k m l) h

@@ -1,6 +1,7 @@
 -- A reply, a wait and a limit touch no other call and no connection. They change neither a line nor the pool's
 -- connections.
 use Rattle.std.proofs.Common.{◌≡◌, ◌≢◌, ℕ, ◌==◌, Bool, true, false, ◌||◌, List, [], ◌∷◌, refl, sym, ap, ◌∙◌, not, ◌&&◌, cond, ◌++◌, Option, Some, None, is_some, is_none, subst, inl}
+use Rattle.std.proofs.lemmas.Bool.{or_right}
 use Rattle.std.specs.List.{list_all}
 use Rattle.dsql_laws_calls.proofs.laws.Tests.{both, together, same_itself, same_number, other_number}
 use Rattle.std.specs.Prelude.{find, option_map}
@@ -46,10 +47,6 @@ use Rattle.dsql_laws_others.proofs.Alike.{Alike, due_alike, used_alike, lent_ali
 
 pub apart_of : (m n : ℕ) → (m == n) ≡ false → m ≢ n
 apart_of m n other same = let clash : true ≡ false = sym (ap (λ k. m == k) (sym same) ∙ same_itself m) ∙ other in cc
-
-pub or_second : (a b : Bool) → b ≡ true → (a || b) ≡ true
-or_second true b h = refl
-or_second false b h = h
 
 pub all_so : (q r : ℕ → Bool) (ms : List ℕ) → ((m : ℕ) → q m ≡ true → r m ≡ true) → list_all q ms ≡ true → list_all r ms ≡ true
 all_so q r [] so h = refl
@@ -346,13 +343,13 @@ all_without q r n (m ∷ ms) so h =
 pub goes_on_replied : (H : List Event) (n : ℕ) (reply : Reply) → goes_on_but n H ≡ true → goes_on (Replied n reply ∷ H) ≡ true
 goes_on_replied H n reply h =
     all_without (λ m. (m == n) || is_some (stand H m)) (λ m. (m == 0) || is_some (stand (Replied n reply ∷ H) m)) n (unfinished H)
-    (λ m other so. or_second (m == 0) (is_some (stand (Replied n reply ∷ H) m)) (stand_replied H n reply m (apart_of m n other) (but_for (m == n) (is_some (stand H m)) so other))) h
+    (λ m other so. or_right (m == 0) (is_some (stand (Replied n reply ∷ H) m)) (stand_replied H n reply m (apart_of m n other) (but_for (m == n) (is_some (stand H m)) so other))) h
 
 pub goes_on_waits : (H : List Event) (n : ℕ) → goes_on_but n H ≡ true → goes_on (Waits n ∷ H) ≡ true
 goes_on_waits H n h = all_so (λ m. (m == n) || is_some (stand H m)) (λ m. (m == 0) || is_some (stand (Waits n ∷ H) m)) (unfinished H) each h
   where
     each : (m : ℕ) → ((m == n) || is_some (stand H m)) ≡ true → ((m == 0) || is_some (stand (Waits n ∷ H) m)) ≡ true
-    each m so = or_second (m == 0) (is_some (stand (Waits n ∷ H) m)) (by (m == n) refl so)
+    each m so = or_right (m == 0) (is_some (stand (Waits n ∷ H) m)) (by (m == n) refl so)
       where
         by : (b : Bool) → (m == n) ≡ b → (b || is_some (stand H m)) ≡ true → is_some (stand (Waits n ∷ H) m) ≡ true
         by true is k = let same : m ≡ n = same_number m n is in subst (λ j. is_some (stand (Waits n ∷ H) j) ≡ true) (sym same) (itself_waits H n)

@@ -1,6 +1,7 @@
 -- What an answer decides for a call that asks for a connection and begins no transaction: its reply is settled,
 -- or another answer decides.
 use Rattle.std.proofs.Common.{◌≡◌, ℕ, ℤ, pos, negsuc, ◌==◌, min, Bool, true, false, not, ◌&&◌, ◌||◌, cond, List, length, Option, Some, None, is_none, is_some, refl, ap, ◌∙◌}
+use Rattle.std.proofs.lemmas.Bool.{or_left, or_right}
 use native.Mathlib.Omega.{arith}
 use Rattle.dsql_laws_calls.specs.value.declared.value.Param.{Param}
 use Rattle.dsql_laws_calls.specs.value.declared.arg.ArgFault.TheVariants.{NumArgs}
@@ -40,12 +41,6 @@ use Rattle.dsql_laws_replies.proofs.Awaited.{is_one, needs_answer, awaits, await
 
 impossible : false ≡ true → ⊥
 impossible h = cc
-
-or_true : (a b : Bool) → b ≡ true → a || b ≡ true
-or_true a b h = grind (arith, h)
-
-or_some : (a b : Bool) → a ≡ true → a || b ≡ true
-or_some a b h = grind (arith, h)
 
 first_only : (a b : Bool) → a || b ≡ true → b ≡ false → a ≡ true
 first_only a b h k = grind (arith, h, k)
@@ -127,7 +122,7 @@ pub settled_on : (again : Bool) (number : ℕ) (can : Caps) (reset : Bool) (text
     → needs_answer can (aim_of it) ≡ true → (w ≡ wishes.Fetch → ⊥) → SentAt can (asking text params (aim_of it)) w (step L) (exchanges L) q a → is_due (line_after can reset (asking text params (aim_of it)) w L) q ≡ true
     → is_some d || awaits (is_one (aim_of it)) L (length params) ≡ true → (is_tried it q && is_bad a) ≡ false → is_some (decision again number (length params) it q a d) || awaits_after (is_one (aim_of it)) q a (length params) ≡ true
 settled_on again number can reset text params it w L Reset Bad d own plain needs fetch x k before good = absurd cc
-settled_on again number can reset text params it w L Reset a d own plain needs fetch x k before good = or_true _ _ refl
+settled_on again number can reset text params it w L Reset a d own plain needs fetch x k before good = or_right _ _ refl
 settled_on again number can reset text params it w L Ping Done d own plain needs fetch x k before good = refl
 settled_on again number can reset text params it w L Ping Bad d own plain needs fetch x k before good = refl
 settled_on again number can reset text params it w L Ping (Fail why) d own plain needs fetch x k before good = refl
@@ -143,24 +138,24 @@ settled_on again number can reset text params it w L (Exec (Handle h) ps) (Fail 
 settled_on again number can reset text params it w L (Exec (Handle h) ps) _ d own plain needs fetch x k before good = absurd (impossible (misfit _ _ x.fit x.heard))
 settled_on again number can reset text params it w L (Query input ps) (Cursor rows columns) d own plain needs fetch x k before good =
     cursor_settles again number it rows columns own (opened_reads can (asking text params (aim_of it)) (step L) (exchanges L) input ps rows columns x.after)
-settled_on again number can reset text params it w L (Query (Text t) ps) Skip d own plain needs fetch x k before good = or_true _ _ refl
+settled_on again number can reset text params it w L (Query (Text t) ps) Skip d own plain needs fetch x k before good = or_right _ _ refl
 settled_on again number can reset text params it w L (Query input ps) Bad d own plain needs fetch x k before good = absurd cc
-settled_on again number can reset text params it w L (Query input ps) (Fail why) d own plain needs fetch x k before good = or_some _ _ (query_decides again number it (Fail why) refl)
+settled_on again number can reset text params it w L (Query input ps) (Fail why) d own plain needs fetch x k before good = or_left _ _ (query_decides again number it (Fail why) refl)
 settled_on again number can reset text params it w L (Query (Text t) ps) _ d own plain needs fetch x k before good = absurd (impossible (misfit _ _ x.fit x.heard))
 settled_on again number can reset text params it w L (Query (Handle h) ps) _ d own plain needs fetch x k before good = absurd (impossible (misfit _ _ x.fit x.heard))
 settled_on again number can reset text params it w L (Prepare t) (Prepared handle inputs) d own plain needs fetch x k before good = counted inputs (length params)
 settled_on again number can reset text params it w L (Prepare t) Bad d own plain needs fetch x k before good = absurd cc
 settled_on again number can reset text params it w L (Prepare t) (Fail why) d own plain needs fetch x k before good = refl
 settled_on again number can reset text params it w L (Prepare t) _ d own plain needs fetch x k before good = absurd (impossible (misfit _ _ x.fit x.heard))
-settled_on again number can reset text params it w L (Next rows) a d own plain needs fetch x k before good = or_some _ _ (fetch_settles again number can text params it w (step L) (exchanges L) rows a own plain fetch x good)
+settled_on again number can reset text params it w L (Next rows) a d own plain needs fetch x k before good = or_left _ _ (fetch_settles again number can text params it w (step L) (exchanges L) rows a own plain fetch x good)
 settled_on again number can reset text params it w L (CloseRows rows) a d own plain needs fetch x k before good =
-    or_some _ _ (close_keeps number it a d own
+    or_left _ _ (close_keeps number it a d own
     (first_only (is_some d) (awaits (is_one (aim_of it)) L (length params)) before
     (none_awaited (is_one (aim_of it)) L (length params) (freeing can reset (asking text params (aim_of it)) w L rows x.before x.next k))))
 settled_on again number can reset text params it w L (CloseStmt h) a d own plain needs fetch x k before good =
-    or_some _ _ (first_only (is_some d) (awaits (is_one (aim_of it)) L (length params)) before
+    or_left _ _ (first_only (is_some d) (awaits (is_one (aim_of it)) L (length params)) before
     (closing_awaits can reset (asking text params (aim_of it)) w (is_one (aim_of it)) L h x.before x.next k))
 settled_on again number can reset text params it w L Valid a d own plain needs fetch x k before good =
-    or_some _ _ (first_only (is_some d) (awaits (is_one (aim_of it)) L (length params)) before
+    or_left _ _ (first_only (is_some d) (awaits (is_one (aim_of it)) L (length params)) before
     (none_awaited (is_one (aim_of it)) L (length params) (testing can reset (asking text params (aim_of it)) w L x.before needs x.next k)))
 settled_on again number can reset text params it w L q a d own plain needs fetch x k before good = absurd (impossible x.sent)

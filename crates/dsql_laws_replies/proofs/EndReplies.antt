@@ -1,5 +1,6 @@
 -- A commit or a rollback that has nothing to send has a settled reply.
 use Rattle.std.proofs.Common.{◌≡◌, ◌≢◌, ℕ, ◌==◌, ◌⊎◌, inl, inr, Bool, true, false, not, ◌&&◌, ◌||◌, cond, List, [], ◌∷◌, length, Option, Some, None, is_some, refl, sym, ap, subst, ◌∙◌}
+use Rattle.std.proofs.lemmas.Bool.{or_cases}
 use Rattle.dsql_laws_calls.specs.driver.declared.call.DriverCall.{DriverCall}
 use Rattle.dsql_laws_calls.specs.driver.Kinds.{is_ending}
 use Rattle.dsql_laws_calls.specs.course.declared.course.Wish.TheVariants as wishes
@@ -129,13 +130,9 @@ ender_now H e l now ends = by (e.call_no == 0) refl d.due
     by true none h = layer (is_begun H (number_of d.owner)) (tx_ender H (number_of d.owner) == 0) (ender H (number_of d.owner) == 0) refl h (same_number e.call_no 0 none)
     by false some h = let o = due_of H e.call_no e.call h in works_by (work H e.call_no) refl some o.due
 
-either : (a b : Bool) → (a || b) ≡ true → (a ≡ true) ⊎ (b ≡ true)
-either true b h = inl refl
-either false b h = inr h
-
 ender_of : (H : List Event) (e : Entry) → Lawful H → may_come H e ≡ true → is_ending e.call ≡ true → Ender H e
 ender_of [] e l h ends = absurd cc
-ender_of (last ∷ H) e l h ends = by (λ may. ender_of H e l.0 may ends) (either (is_due_at (last ∷ H) (place (last ∷ H) e.conn) e) (not (parts last e) && may_come H e) h)
+ender_of (last ∷ H) e l h ends = by (λ may. ender_of H e l.0 may ends) (or_cases (is_due_at (last ∷ H) (place (last ∷ H) e.conn) e) (not (parts last e) && may_come H e) h)
   where
     by : (may_come H e ≡ true → Ender H e) → (is_due_at (last ∷ H) (place (last ∷ H) e.conn) e ≡ true) ⊎ ((not (parts last e) && may_come H e) ≡ true) → Ender (last ∷ H) e
     by rest (inl now) = ender_now (last ∷ H) e l now ends

@@ -1,5 +1,6 @@
 -- What a commit or a rollback sends. What is decided for it stays decided.
 use Rattle.std.proofs.Common.{◌≡◌, ℕ, ◌+◌, ◌==◌, ◌⊎◌, inl, inr, Bool, true, false, not, ◌&&◌, ◌||◌, cond, List, [], ◌∷◌, length, Option, Some, None, is_some, refl, sym, ap, ◌∙◌, get_or, suc, arith}
+use Rattle.std.proofs.lemmas.Bool.{or_cases}
 use Rattle.std.specs.List.{list_any}
 use Rattle.dsql_laws_calls.specs.driver.declared.answer.DriverAnswer.{DriverAnswer}
 use Rattle.dsql_laws_calls.specs.driver.declared.answer.DriverAnswer.TheVariants.{Done, Bad, Fail}
@@ -159,13 +160,9 @@ ending_kind H k p l h = by (tx_end H k) refl h
 
 -- A commit or a rollback sends nothing else.
 
-either : (a b : Bool) → (a || b) ≡ true → (a ≡ true) ⊎ (b ≡ true)
-either true b h = inl refl
-either false b h = inr h
-
 pub end_sends : (H : List Event) (e : Entry) (k : ℕ) → Lawful H → may_come H e ≡ true → (e.call_no == 0) ≡ false → work H e.call_no ≡ End k → end_kind e.call ≡ true
 end_sends [] e k l h some it = absurd cc
-end_sends (last ∷ H) e k l h some it = by (λ may was. end_sends H e k l.0 may some was) (either (is_due_at (last ∷ H) (place (last ∷ H) e.conn) e) (not (parts last e) && may_come H e) h)
+end_sends (last ∷ H) e k l h some it = by (λ may was. end_sends H e k l.0 may some was) (or_cases (is_due_at (last ∷ H) (place (last ∷ H) e.conn) e) (not (parts last e) && may_come H e) h)
   where
     due_end : (b : Bool) → is_due (cond b (ending (last ∷ H) k) None) e.call ≡ true → end_kind e.call ≡ true
     due_end true x = tidy_kind (ending (last ∷ H) k) e.call (λ p is. ending_kind (last ∷ H) k p l is) x

@@ -1,5 +1,6 @@
 -- A call in a transaction that has nothing to send has a settled reply.
 use Rattle.std.proofs.Common.{◌≡◌, ◌≢◌, ℕ, ◌==◌, ◌⊎◌, inl, inr, Bool, true, false, not, ◌&&◌, ◌||◌, cond, List, [], ◌∷◌, length, Option, Some, None, is_none, is_some, refl, sym, ap, subst, ◌∙◌, arith}
+use Rattle.std.proofs.lemmas.Bool.{or_right}
 use Rattle.dsql_laws_calls.specs.course.Made.{or_else}
 use Rattle.dsql_laws_calls.specs.course.declared.course.Wish.TheVariants as wishes
 use Rattle.dsql_laws_calls.specs.tx.declared.end.TxEnd.{TxEnd}
@@ -156,15 +157,11 @@ inside_replies H n k l u s none = by (decided H n) refl (inner H n k l (unfinish
         let on : goes_on H k ≡ true = ap (λ b. b && not (is_over H k)) begun ∙ ap (λ b. not b) goes in
         at on (tx_borrows H k l on)
       where
-        later : (a b : Bool) → b ≡ true → (a || b) ≡ true
-        later true b x = refl
-        later false b x = x
-
         at : goes_on H k ≡ true → Borrows H k → ⊥
         at on b =
             let fresh : exchanges (line_among n (heard_in H b.conn b.tenure)) ≡ [] = ap exchanges (unsent_line n (heard_in H b.conn b.tenure) (unsent_in n b.tenure (journal H b.conn) (unsent b.conn))) in
             let line = awaiting_line H b.conn b.tenure b.owner n k l b.lent b.number begun s (inl (inl fresh)) in
-            sends (later (has_begun_to_send H n) (goes_on H k && is_none (decided H n)) (ap (λ x. x && is_none (decided H n)) on ∙ ap (λ o. is_none o) undecided))
+            sends (or_right (has_begun_to_send H n) (goes_on H k && is_none (decided H n)) (ap (λ x. x && is_none (decided H n)) on ∙ ap (λ o. is_none o) undecided))
             (ap (λ d. is_some d) (line_here H b.conn b.tenure b.owner n wishes.Nothing l b.lent (inside_uses H n k s ∙ sym b.number)) ∙ line)
 
     fresh_case : Unsent H n → is_begun H k ≡ true → decided H n ≡ None → (b : Bool) → is_over H k ≡ b → is_some (reply_due H n) ≡ true

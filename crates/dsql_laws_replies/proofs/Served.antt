@@ -1,6 +1,7 @@
 -- Let an answer decide for a call that was lent a connection. The call has settled its reply, or still awaits an answer
 -- on that connection.
 use Rattle.std.proofs.Common.{◌≡◌, ◌≢◌, ℕ, ◌==◌, ◌⊎◌, inl, inr, Bool, true, false, ◌&&◌, ◌||◌, not, cond, List, [], ◌∷◌, length, Option, Some, None, is_some, refl, sym, ap, subst, ◌∙◌}
+use Rattle.std.proofs.lemmas.Bool.{or_cases}
 use Rattle.dsql_laws_calls.specs.driver.declared.caps.Caps.{Caps}
 use Rattle.dsql_laws_calls.specs.driver.Fits.{fits_of, is_memory}
 use Rattle.dsql_laws_calls.specs.course.Made.{or_else}
@@ -80,10 +81,6 @@ some_or true b h = refl
 some_or false b (inl h) = absurd cc
 some_or false b (inr h) = h
 
-either : (a b : Bool) → (a || b) ≡ true → (a ≡ true) ⊎ (b ≡ true)
-either true b h = inl refl
-either false b h = inr h
-
 abbrev Settles : List Event → ℕ → Type 0
 Settles H n = (is_some (decided H n) ≡ true) ⊎ Awaits H n
 
@@ -148,7 +145,7 @@ own_step H e own l is mine asking due needs good before = by (begins (work H (nu
           fit = fits.0;
           heard = fits.1;
         } in
-        either (is_some (after_it H e (number_of own))) (awaits (is_one asked.aim) (e ∷ heard_in H e.conn e.tenure) (length asked.params))
+        or_cases (is_some (after_it H e (number_of own))) (awaits (is_one asked.aim) (e ∷ heard_in H e.conn e.tenure) (length asked.params))
         (settled_on (tries_again (work H (number_of own)) (try_number (tries H (number_of own)))) (try_number (tries H (number_of own))) (caps H) reset asked.text asked.params (work H (number_of own)) wishes.Nothing (heard_in H e.conn e.tenure) e.call
         e.answer (decided H (number_of own)) asking nobegin needs (λ fetch. unlike fetch) x sent (some_or (is_some (decided H (number_of own))) (awaits (is_one asked.aim) (heard_in H e.conn e.tenure) (length asked.params)) b) good)
       where
