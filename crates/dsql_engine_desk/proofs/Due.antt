@@ -20,6 +20,7 @@ use Rattle.dsql_laws_calls.specs.history.Readers.Works.{asks, is_fetch, scope, w
 use Rattle.dsql_laws_calls.specs.history.Rules.Line.{due_in, rest_with}
 use Rattle.dsql_laws_calls.specs.history.Rules.Sent.{closes, line_of, wish}
 use Rattle.dsql_laws_calls.proofs.EndedRows.{ender_over}
+use Rattle.dsql_laws_calls.proofs.LiveRows.{live_some, over_some}
 use Rattle.dsql_engine_calls.specs.Calls.{rows_worked, tx_worked}
 use Rattle.dsql_engine_desk.specs.Lines.{due_by, is_to_send}
 use Rattle.dsql_engine_desk.specs.Next.{IsWanted, has_line}
@@ -55,16 +56,8 @@ sender_line H m h = to_send H m (work H m) h
 
 -- Rows that are live or over were made.
 
-over_some : (o : Option Rows) → over o ≡ true → is_some o ≡ true
-over_some None h = absurd cc
-over_some (Some rows) h = refl
-
 pub over_made : (H : List Event) (n : ℕ) → are_over H n ≡ true → is_some (rows_by H n) ≡ true
 over_made H n h = over_some (rows_by H n) h
-
-live_some : (o : Option Rows) → live o ≡ true → is_some o ≡ true
-live_some None h = absurd cc
-live_some (Some rows) h = refl
 
 wanted_so : (H : List Event) (k : ℕ) (close fetch : Bool) → (close ≡ true → is_some (rows_by H k) ≡ true) → (fetch ≡ true → is_some (rows_by H k) ≡ true) → IsWanted H k (wish_as close fetch)
 wanted_so H k true fetch closing fetching = closing refl

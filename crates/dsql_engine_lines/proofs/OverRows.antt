@@ -13,12 +13,11 @@ use Rattle.dsql_laws_calls.specs.journal.Kinds.{is_call, number_of}
 use Rattle.dsql_laws_calls.specs.journal.Readers.{went_bad}
 use Rattle.dsql_laws_calls.specs.pool.declared.conn.Place.{Place}
 use Rattle.dsql_laws_calls.specs.pool.declared.conn.Place.TheVariants.{Idle, Lent, Opening, Closing}
-use Rattle.dsql_laws_calls.specs.rows.declared.rows.Rows.{Rows}
 use Rattle.dsql_laws_calls.specs.tx.declared.end.TxEnd.{TxEnd}
 use Rattle.dsql_laws_calls.specs.tx.declared.end.TxEnd.TheVariants as ends
 use Rattle.dsql_laws_calls.specs.works.Exchanges.{exchanges}
 use Rattle.dsql_laws_calls.specs.works.Line.{handed, line_after, test_of}
-use Rattle.dsql_laws_calls.specs.history.Readers.HandedOut.{over, are_over, ender, rows_by}
+use Rattle.dsql_laws_calls.specs.history.Readers.HandedOut.{are_over, ender, rows_by}
 use Rattle.dsql_laws_calls.proofs.laws.Tests.{same_itself, same_number}
 use Rattle.dsql_engine_exchanged.specs.Filled.{carries_statement}
 use Rattle.dsql_laws_calls.specs.history.declared.event.Event.{Event}
@@ -42,6 +41,7 @@ use Rattle.dsql_laws_calls.proofs.CallTenures.{line_of_call}
 use Rattle.dsql_laws_calls.proofs.DueWay.{inner_is}
 use Rattle.dsql_laws_calls.proofs.HandedRows.{rows_begun}
 use Rattle.dsql_laws_calls.proofs.Lines.{line_there}
+use Rattle.dsql_laws_calls.proofs.LiveRows.{over_some}
 use Rattle.dsql_laws_calls.proofs.Makers.{hands_out, rows_hand_out}
 use Rattle.dsql_laws_calls.proofs.Owners.{owner_is_of}
 use Rattle.dsql_laws_calls.proofs.Plain.{begins}
@@ -101,10 +101,6 @@ sent_unstated H k wishes.Fetch l made = rows_unstated H k wishes.Fetch l made
 sent_unstated H k wishes.Close l made = rows_unstated H k wishes.Close l made
 
 -- What ends a transaction, and what the layer tidies up.
-
-over_some : (rows : Option Rows) → over rows ≡ true → is_some rows ≡ true
-over_some None h = absurd cc
-over_some (Some rows) h = refl
 
 closing_unstated : (H : List Event) (n : ℕ) → Lawful H → is_unstated (closing H n) ≡ true
 closing_unstated H n l = by (are_over H n) refl

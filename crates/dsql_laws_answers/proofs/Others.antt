@@ -32,7 +32,7 @@ use Rattle.dsql_laws_calls.specs.history.declared.work.Work.{Work}
 use Rattle.dsql_laws_calls.specs.history.declared.work.Work.TheVariants.{Execute, ReadOne, HandOut, Begin, End, Ping, Fetch, Close, Look}
 use Rattle.dsql_laws_calls.specs.history.Readers.Calls.{site, decided, told_of_work, told_by_others, told_as_lent, told_at_lending, asks_nothing, rests, rests_with, reply_due, has_begun_to_send}
 use Rattle.dsql_laws_calls.specs.history.Readers.Course.{caps}
-use Rattle.dsql_laws_calls.specs.history.Readers.HandedOut.{rows_by, is_late, are_live, live, over}
+use Rattle.dsql_laws_calls.specs.history.Readers.HandedOut.{rows_by, is_late, are_live}
 use Rattle.dsql_laws_calls.specs.history.Readers.Unfinished.{is_unfinished, unfinished}
 use Rattle.dsql_laws_calls.specs.history.Rules.Line.{due_in, due_for}
 use Rattle.dsql_laws_calls.specs.history.Rules.Settled.{goes_on, goes_on_but}
@@ -61,11 +61,11 @@ use Rattle.dsql_laws_answers.proofs.Lost.{served_or_bad}
 use Rattle.dsql_laws_answers.proofs.SendsOn.{BesideLent, decided_off}
 use Rattle.dsql_laws_answers.proofs.Turns.{holding}
 use Rattle.dsql_laws_answers.proofs.Settled.{decided_not, stands_there}
-use Rattle.dsql_laws_calls.specs.rows.declared.rows.Rows.{Rows}
 use Rattle.dsql_laws_calls.specs.history.Rules.Wishes.{wish_as}
 use Rattle.dsql_laws_calls.specs.history.declared.reply.Reply.TheVariants.{Truth}
 use Rattle.dsql_laws_calls.specs.history.Rules.Sent.{line_of, wish, sent_for}
 use Rattle.dsql_laws_calls.proofs.EndedRows.{rows_kept, live_no_ender}
+use Rattle.dsql_laws_calls.proofs.LiveRows.{dead_over}
 use Rattle.dsql_laws_calls.proofs.Own.{asks_own}
 use Rattle.dsql_laws_answers.proofs.OwnRows.{own_live_line}
 
@@ -171,10 +171,6 @@ fetch_goes H e t own m k b none is asking h = by (are_live K k) refl
     due : is_some (sent_for H k (wish H m k)) ≡ true
     due = sym (ap (λ x. is_some (cond x (due_in H m (work H m)) None)) b.beside.unfinished ∙ ap (λ w. is_some (due_in H m w)) is) ∙ h
 
-    ended : (o : Option Rows) → is_some o ≡ true → live o ≡ false → over o ≡ true
-    ended None x y = absurd cc
-    ended (Some r) x y = ap not y
-
     wanted : are_live K k ≡ true → wish K m k ≡ wishes.Fetch
     wanted lives =
         let rest = not (is_late K (scope (work H k))) || has_begun_to_send K m in
@@ -193,7 +189,7 @@ fetch_goes H e t own m k b none is asking h = by (are_live K k) refl
     by false dead =
         let kept = rows_kept H (Heard e) k in
         let made = kept.some (sent_made H m k (other_number m 0 b.beside.number) due) in
-        inr (told_settles H e m b.beside none (ap (λ w. is_some (told_of_work K m w)) is ∙ ap (λ x. is_some (cond {A = Option Reply} x (Some (Truth false)) None)) (ended (rows_by K k) made dead)))
+        inr (told_settles H e m b.beside none (ap (λ w. is_some (told_of_work K m w)) is ∙ ap (λ x. is_some (cond {A = Option Reply} x (Some (Truth false)) None)) (dead_over (rows_by K k) made dead)))
 
 -- Holds if call m has its reply settled whenever it fetches from rows of a transaction and has nothing to send.
 abbrev FetchReplies : List Event → ℕ → Type 0

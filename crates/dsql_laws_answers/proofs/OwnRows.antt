@@ -58,6 +58,7 @@ use Rattle.dsql_laws_calls.proofs.Inside.{was_live, heard_live}
 use Rattle.dsql_laws_calls.proofs.Lent.{Lends, lent_before}
 use Rattle.dsql_laws_calls.proofs.Sound.{fitting}
 use Rattle.dsql_laws_calls.proofs.Lines.{line_here}
+use Rattle.dsql_laws_calls.proofs.LiveRows.{dead_over, live_some}
 use Rattle.dsql_laws_calls.proofs.Makers.{hands_out, rows_hand_out, some_changed}
 use Rattle.dsql_laws_calls.proofs.Own.{asks_own}
 use Rattle.dsql_laws_calls.proofs.Owners.{lent_asks, lent_number, owner_is_of}
@@ -69,10 +70,6 @@ use Rattle.dsql_laws_answers.proofs.Elsewhere.{comes_there}
 use Rattle.dsql_laws_answers.proofs.OwnSent.{OwnSent, own_sent}
 use Rattle.dsql_laws_answers.proofs.Turns.{heard_at}
 
-live_some : (o : Option Rows) → live o ≡ true → is_some o ≡ true
-live_some None h = absurd cc
-live_some (Some r) h = refl
-
 not_over : (o : Option Rows) → live o ≡ true → over o ≡ true → ⊥
 not_over None h k = cc
 not_over (Some r) h k = by (is_live r) h k
@@ -80,10 +77,6 @@ not_over (Some r) h k = by (is_live r) h k
     by : (b : Bool) → b ≡ true → not b ≡ true → ⊥
     by true p q = cc
     by false p q = cc
-
-dead_over : (o : Option Rows) → is_some o ≡ true → live o ≡ false → over o ≡ true
-dead_over None h k = absurd cc
-dead_over (Some r) h k = ap not k
 
 not_so : (b : Bool) → not b ≡ true → b ≡ false
 not_so true h = absurd cc

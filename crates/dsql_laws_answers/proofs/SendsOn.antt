@@ -1,12 +1,10 @@
 -- A call that has settled its reply sends on if an answer is heard on another connection.
-use Rattle.dsql_laws_calls.specs.history.Readers.HandedOut.{ended_at, live, over, is_late, rows_by, are_live, ender}
+use Rattle.dsql_laws_calls.specs.history.Readers.HandedOut.{ended_at, is_late, rows_by, are_live, ender}
 use Rattle.std.proofs.Common.{◌≡◌, ◌≢◌, ℕ, ◌==◌, Bool, true, false, not, ◌&&◌, ◌||◌, cond, List, ◌∷◌, Option, Some, None, is_some, is_none, refl, sym, ap, ◌∙◌}
 use Rattle.dsql_laws_calls.specs.course.declared.course.Wish.TheVariants as wishes
 use Rattle.dsql_laws_calls.specs.journal.declared.entry.Entry.{Entry}
 use Rattle.dsql_laws_calls.specs.journal.declared.entry.Owner.{Owner}
 use Rattle.dsql_laws_calls.specs.journal.Kinds.{number_of}
-use Rattle.dsql_laws_calls.specs.rows.declared.rows.Rows.{Rows}
-use Rattle.dsql_laws_calls.specs.rows.OpenRows.{is_live}
 use Rattle.dsql_laws_calls.specs.history.Rules.Wishes.{wish_as}
 use Rattle.dsql_laws_calls.proofs.laws.Tests.{both, same_number}
 use Rattle.dsql_laws_calls.specs.history.declared.event.Event.{Event}
@@ -25,6 +23,7 @@ use Rattle.dsql_laws_calls.specs.history.Rules.Ending.{ending}
 use Rattle.dsql_laws_calls.specs.history.Rules.Line.{due_inside, due_in, due_for}
 use Rattle.dsql_laws_calls.specs.history.Rules.Sent.{line_of, closes, wish, sent_for}
 use Rattle.dsql_laws_calls.proofs.EndedRows.{ender_over}
+use Rattle.dsql_laws_calls.proofs.LiveRows.{over_not_live, over_some}
 use Rattle.dsql_laws_calls.proofs.Makers.{hands_out, rows_hand_out}
 use Rattle.dsql_laws_calls.proofs.Owners.{at_home}
 use Rattle.dsql_laws_calls.proofs.TxEnders.{same_going}
@@ -82,7 +81,7 @@ rows_off_closed H e t own m k b settled apart same h = by (closes H m k) (is_fet
         let is : ender H k ≡ m = same_number (ender H k) m w.0 in
         let done = ender_over H k (λ none. b.beside.number (sym is ∙ none)) in
         let hands = rows_hand_out H k (over_some (rows_by H k) done) in
-        let still : ender K k ≡ ender H k = ap (λ x. cond x (ended_at (Heard e) (are_live K k)) (ender H k)) (over_dead (rows_by H k) done) in
+        let still : ender K k ≡ ender H k = ap (λ x. cond x (ended_at (Heard e) (are_live K k)) (ender H k)) (over_not_live (rows_by H k) done) in
         let closes_it : closes K m k ≡ true =
         ap (λ n. (n == m) && (not (is_late K (scope (work H k))) || has_begun_to_send K m)) still
         ∙ (ap (λ x. (ender H k == m) && (not x || has_begun_to_send K m)) (late_same H e (scope (work H k)))
@@ -91,18 +90,6 @@ rows_off_closed H e t own m k b settled apart same h = by (closes H m k) (is_fet
         ap (λ x. is_some (sent_for K k (wish_as x (is_fetch (work H m) && (are_live K k && is_none (decided K m)))))) closes_it
         ∙ (ap (λ d. is_some d) (line_off H e k wishes.Close (hands_busy (work H k) hands) (λ at. apart (at ∙ ap (home H) (sym (same hands))))) ∙ z)
       where
-        over_some : (o : Option Rows) → over o ≡ true → is_some o ≡ true
-        over_some None x = absurd cc
-        over_some (Some r) x = refl
-
-        over_dead : (o : Option Rows) → over o ≡ true → live o ≡ false
-        over_dead None x = refl
-        over_dead (Some r) x = by_live (is_live r) x
-          where
-            by_live : (l : Bool) → not l ≡ true → l ≡ false
-            by_live true q = absurd cc
-            by_live false q = refl
-
         hands_busy : (v : Work) → hands_out v ≡ true → v ≡ Look → ⊥
         hands_busy v x looks = clash (sym x ∙ ap hands_out looks)
 

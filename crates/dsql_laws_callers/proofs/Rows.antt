@@ -14,6 +14,7 @@ use Rattle.dsql_laws_calls.specs.works.HandedOut.{Made}
 use Rattle.dsql_laws_calls.proofs.laws.Tests.{same_number}
 use Rattle.dsql_laws_calls.specs.history.Readers.HandedOut.{fetched, live, over, born, is_late, rows_heard, end_in, ended_with, rows_entered, last_end, handed_out, rows_by, are_live, are_over, caller, ended_at, ender}
 use Rattle.dsql_laws_calls.proofs.Cases.{true_false}
+use Rattle.dsql_laws_calls.proofs.LiveRows.{live_not_over, over_not_live}
 use Rattle.dsql_laws_calls.proofs.Stays.{has_entered}
 use Rattle.dsql_laws_calls.specs.history.declared.event.Event.{Event}
 use Rattle.dsql_laws_calls.specs.history.declared.event.Event.TheVariants.{Entered, Heard, Ended}
@@ -99,18 +100,6 @@ no_work (e ∷ H) = work_stays H e 0 (some_works H) ∙ no_work H
 
 layer_heard : (H : List Event) (e : Entry) → e.call_no ≡ 0 → handed_out (Heard e ∷ H) ≡ handed_out H
 layer_heard H e none = ap (λ it. rows_heard H it e.call_no e.call e.answer (handed_out H)) (ap (work H) none ∙ no_work H)
-
-live_not_over : (o : Option Rows) → live o ≡ true → over o ≡ false
-live_not_over None h = refl
-live_not_over (Some rows) h = ap not h
-
-over_not_live : (o : Option Rows) → over o ≡ true → live o ≡ false
-over_not_live None h = refl
-over_not_live (Some rows) h = by (live (Some rows)) h
-  where
-    by : (b : Bool) → not b ≡ true → b ≡ false
-    by true k = absurd cc
-    by false k = refl
 
 neither : (o : Option Rows) → live o ≡ false → over o ≡ false → o ≡ None
 neither None h k = refl

@@ -12,7 +12,7 @@ use Rattle.dsql_laws.specs.pool.declared.conn.Place.TheVariants.{Lent}
 use Rattle.dsql_laws.specs.rows.declared.rows.Rows.{Rows}
 use Rattle.dsql_laws.specs.works.Line as plain
 use Rattle.dsql_laws.specs.works.Line.{handed}
-use Rattle.dsql_laws.specs.history.Readers.HandedOut.{live, over, rows_by, are_live, are_over, ender}
+use Rattle.dsql_laws.specs.history.Readers.HandedOut.{over, rows_by, are_live, are_over, ender}
 use Rattle.dsql_laws.specs.history.Rules.Wishes.{wish_as}
 use Rattle.dsql_laws.proofs.Tests.{both, same_number, same_itself}
 use Rattle.dsql_laws.specs.history.declared.event.Event.{Event}
@@ -46,6 +46,7 @@ use Rattle.dsql_laws_calls.proofs.Quiet.{quiet_sends_none}
 use Rattle.dsql_laws_calls.proofs.LineParts.{hands_of}
 use Rattle.dsql_laws_calls.proofs.HandedRows.{handed_made, rows_begun}
 use Rattle.dsql_laws_calls.proofs.CallTenures.{call_line, line_of_call, fetch_closes}
+use Rattle.dsql_laws_calls.proofs.LiveRows.{dead_over, over_some}
 use Rattle.dsql_laws_calls.proofs.Why.{ended_there, Left, WhyTx, Why}
 use Rattle.dsql_laws_calls.proofs.UnderWay.{line_made, handed_there, Going, Facts, UnderWay, clash, at_number, ending_over, left_of, line_at_its, no_ending, turn_of}
 
@@ -75,14 +76,6 @@ layer_way H e l f d layer why ending line = record {
   line = line;
   turn = turn_of H e l d;
 }
-
-over_some : (o : Option Rows) → over o ≡ true → is_some o ≡ true
-over_some None h = h
-over_some (Some r) h = refl
-
-live_some : (o : Option Rows) → live o ≡ true → is_some o ≡ true
-live_some None h = h
-live_some (Some r) h = refl
 
 layer_due : (H : List Event) (e : Entry) → Lawful H → Facts H → (d : DueNow H e) → (e.call_no == 0) ≡ true → is_due (tidying H (number_of d.owner)) e.call ≡ true → UnderWay H e
 layer_due H e l f d layer due = by (is_begun H (number_of d.owner)) refl due
@@ -241,16 +234,12 @@ inside_due H e k l f d some s o =
             dead : (r : Option Rows) → rows_by H e.call_no ≡ r → is_some r ≡ true → hands_out_in (number_of d.owner) (work H e.call_no) ≡ true → are_over H e.call_no ≡ true
             dead r is x in_it = by_live (are_live H e.call_no) refl
               where
-                not_live : (p : Option Rows) → is_some p ≡ true → live p ≡ false → over p ≡ true
-                not_live None y z = y
-                not_live (Some q) y z = ap (λ b. not b) z
-
                 by_live : (b : Bool) → are_live H e.call_no ≡ b → are_over H e.call_no ≡ true
                 by_live true lives =
                     let goes = live_goes H e.call_no (number_of d.owner) l lives in_it in
                     let b = both (is_begun H (number_of d.owner)) (not (is_over H (number_of d.owner))) goes in
                     clash (sym b.1 ∙ ap (λ y. not y) gone)
-                by_live false lives = not_live (rows_by H e.call_no) (ap (λ p. is_some p) is ∙ x) lives
+                by_live false lives = dead_over (rows_by H e.call_no) (ap (λ p. is_some p) is ∙ x) lives
 
         begun_to : is_over H (number_of d.owner) ≡ true → has_sent e.call_no (journal H e.conn) ≡ true
         begun_to gone = by_sent (has_begun_to_send H e.call_no) refl sends

@@ -22,6 +22,7 @@ use Rattle.dsql_laws.specs.history.declared.event.Op.{Op}
 use Rattle.dsql_laws.specs.history.declared.event.Op.TheVariants as ops
 use Rattle.dsql_laws.specs.history.Readers.Unfinished.{is_unfinished}
 use Rattle.dsql_laws.specs.history.Readers.Works.{works, work, rows_maker, tx_maker, scope, hands_out_in}
+use Rattle.dsql_laws_calls.proofs.LiveRows.{dead_over, live_some}
 
 -- Holds if rows that were made are still there, and rows that had ended are still ended.
 pub record Kept (o p : Option Rows) : Type 0 where
@@ -132,14 +133,6 @@ rows_kept H (Replied m reply) n = kept_same (rows_by H n)
 
 -- Rows that a call is recorded to have ended are over.
 
-live_some : (o : Option Rows) → live o ≡ true → is_some o ≡ true
-live_some None h = h
-live_some (Some r) h = refl
-
-some_over : (o : Option Rows) → is_some o ≡ true → live o ≡ false → over o ≡ true
-some_over None h k = h
-some_over (Some r) h k = ap not k
-
 -- Rows that a call has ended are over.
 pub ender_over : (H : List Event) (n : ℕ) → ender H n ≢ 0 → over (rows_by H n) ≡ true
 ender_over [] n some = absurd (some refl)
@@ -150,7 +143,7 @@ ender_over (e ∷ H) n some = by (are_live H n) refl some (ender_over H n)
 
     was_live : (c : Bool) → are_live (e ∷ H) n ≡ c → are_live H n ≡ true → ended_at e c ≢ 0 → over (rows_by (e ∷ H) n) ≡ true
     was_live true now before who = absurd (who refl)
-    was_live false now before who = some_over (rows_by (e ∷ H) n) (k.some (live_some (rows_by H n) before)) now
+    was_live false now before who = dead_over (rows_by (e ∷ H) n) (k.some (live_some (rows_by H n) before)) now
 
     by : (b : Bool) → are_live H n ≡ b → cond b (ended_at e (are_live (e ∷ H) n)) (ender H n) ≢ 0 → (ender H n ≢ 0 → over (rows_by H n) ≡ true) → over (rows_by (e ∷ H) n) ≡ true
     by true is who earlier = was_live (are_live (e ∷ H) n) refl is who

@@ -4,14 +4,11 @@ use Rattle.dsql_laws.specs.rows.declared.rows.Rows.{Rows}
 use Rattle.dsql_laws.specs.rows.OpenRows.{is_live}
 use Rattle.dsql_laws.specs.history.Readers.HandedOut.{live, over, rows_by, are_live, ended_at, ender}
 use Rattle.dsql_laws_calls.proofs.EndedRows.{Kept, rows_kept}
+use Rattle.dsql_laws_calls.proofs.LiveRows.{live_not_over, live_some}
 use Rattle.dsql_laws.specs.history.declared.event.Event.{Event}
 
 never : true ≡ false → ⊥
 never h = cc
-
-live_some : (o : Option Rows) → live o ≡ true → is_some o ≡ true
-live_some None h = absurd cc
-live_some (Some r) h = refl
 
 some_live : (o : Option Rows) → is_some o ≡ true → over o ≡ false → live o ≡ true
 some_live None h k = absurd cc
@@ -36,14 +33,10 @@ unended (e ∷ H) n h = by (unended H n) (are_live H n) refl
     by earlier true is = ap (λ b. ended_at e b) (some_live (rows_by (e ∷ H) n) (kept.some (live_some (rows_by H n) is)) h)
     by earlier false is = earlier (over_before (over (rows_by H n)) refl)
 
-live_unended : (o : Option Rows) → live o ≡ true → over o ≡ false
-live_unended None h = absurd cc
-live_unended (Some r) h = ap (λ b. not b) h
-
 -- An event that leaves rows live, or leaves them over, leaves the call that ended them.
 pub same_ender : (H : List Event) (e : Event) (n : ℕ) → are_live (e ∷ H) n ≡ are_live H n → ender (e ∷ H) n ≡ ender H n
 same_ender H e n same = by (are_live H n) refl
   where
     by : (b : Bool) → are_live H n ≡ b → cond b (ended_at e (are_live (e ∷ H) n)) (ender H n) ≡ ender H n
-    by true is = ap (λ b. ended_at e b) (same ∙ is) ∙ sym (unended H n (live_unended (rows_by H n) is))
+    by true is = ap (λ b. ended_at e b) (same ∙ is) ∙ sym (unended H n (live_not_over (rows_by H n) is))
     by false is = refl

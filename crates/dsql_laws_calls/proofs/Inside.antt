@@ -53,6 +53,7 @@ use Rattle.dsql_laws_calls.proofs.Begun.{BeginsIt, heard_tx, stays_begun}
 use Rattle.dsql_laws_calls.proofs.TxEnders.{same_going, sent_entered}
 use Rattle.dsql_laws_calls.proofs.Own.{due_now, due_of}
 use Rattle.dsql_laws_calls.proofs.Ends.{zero_work}
+use Rattle.dsql_laws_calls.proofs.LiveRows.{live_some}
 
 -- A call in a transaction has something to do.
 pub inside_busy : (w : Work) (k : ℕ) → scope w ≡ Tx k → w ≡ Look → ⊥
@@ -169,10 +170,6 @@ inside (e ∷ H) l = let i = inside H l.0 in still_coming H e i (λ m k c h is. 
 
 -- Live rows of a transaction belong to one that goes on.
 
-pub live_one : (o : Option Rows) → live o ≡ true → is_some o ≡ true
-live_one None h = h
-live_one (Some r) h = refl
-
 not_live : (o : Option Rows) (f : Rows → Rows) → ((r : Rows) → is_live r ≡ false → is_live (f r) ≡ false) → live (option_map f o) ≡ true → live o ≡ true
 not_live None f stays h = h
 not_live (Some r) f stays h = by (is_live r) refl
@@ -265,7 +262,7 @@ pub live_goes : (H : List Event) (n k : ℕ) → Lawful H → are_live H n ≡ t
 live_goes [] n k l lives hands = absurd cc
 live_goes (Entered client m op ∷ H) n k l lives hands =
     let were = was_live H client m op n lives in
-    let its = hands_same H (Entered client m op) n k (live_one (rows_by H n) were) hands in
+    let its = hands_same H (Entered client m op) n k (live_some (rows_by H n) were) hands in
     entered_goes H client m op n k (live_goes H n k l.0 were its) its lives
 live_goes (Heard e ∷ H) n k l lives hands = by (live_goes H n k l.0) (heard_live H (work H e.call_no) e.call_no e.call e.answer n (handed_out H) lives)
   where

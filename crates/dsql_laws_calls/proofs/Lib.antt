@@ -7,7 +7,7 @@ pub use Rattle.dsql_laws.proofs as laws
 pub mod Cases
 pub mod Found
 pub mod EndedRows
-pub mod Invariant
+pub mod LiveRows
 pub mod KeptThere
 pub mod Lists
 pub mod Open

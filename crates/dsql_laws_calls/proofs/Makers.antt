@@ -26,7 +26,7 @@ use Rattle.dsql_laws.specs.works.HandedOut.{Made}
 use Rattle.dsql_laws.specs.works.Line.{test_of}
 use Rattle.dsql_laws_work.proofs.Rows.{same_or_not}
 use Rattle.dsql_laws_work.proofs.HandedLines.{as_many}
-use Rattle.dsql_laws.specs.history.Readers.HandedOut.{fetched, live, over, born, is_late, end_in, ended_with, last_end, handed_out, rows_by, rows_heard, rows_entered, are_live, are_over, ender}
+use Rattle.dsql_laws.specs.history.Readers.HandedOut.{fetched, born, is_late, end_in, ended_with, last_end, handed_out, rows_by, rows_heard, rows_entered, are_live, are_over, ender}
 use Rattle.dsql_laws.specs.history.Rules.Wishes.{wish_as}
 use Rattle.dsql_laws.proofs.Tests.{both, same_number}
 use Rattle.dsql_laws.specs.history.declared.event.Event.{Event}
@@ -49,6 +49,7 @@ use Rattle.dsql_laws.specs.history.Rules.Sent.{line_of, closes, wish, sent_for, 
 use Rattle.dsql_laws.specs.history.Rules.Ending.{first_closing, ended_by_call, end_after, ending_at, ending_with, ending}
 use Rattle.dsql_laws.specs.history.Rules.Line.{due_inside, due_in, due_for, tidying, is_due, is_due_at, due_from, is_at, has_turn, sends_in}
 use Rattle.dsql_laws_calls.proofs.EndedRows.{mapped_rows, ender_over}
+use Rattle.dsql_laws_calls.proofs.LiveRows.{live_some, over_some}
 use Rattle.dsql_laws_calls.proofs.Works.{is_look, work_stays}
 use Rattle.dsql_laws_calls.proofs.Plain.{begins_none, begins, no_begin_due, plain_begins, line_of_plain}
 
@@ -133,14 +134,6 @@ rows_hand_out (_ ∷ H) n h = rows_hand_out H n h
 begins_nothing : (it : Work) → hands_out it ≡ true → begins it ≡ false
 begins_nothing (HandOut s label) h = refl
 begins_nothing it h = absurd cc
-
-over_some : (o : Option Rows) → over o ≡ true → is_some o ≡ true
-over_some None h = h
-over_some (Some r) h = refl
-
-live_some : (o : Option Rows) → live o ≡ true → is_some o ≡ true
-live_some None h = h
-live_some (Some r) h = refl
 
 pub rows_begin_nothing : (H : List Event) (n : ℕ) → is_some (rows_by H n) ≡ true → begins (work H n) ≡ false
 rows_begin_nothing H n h = begins_nothing (work H n) (rows_hand_out H n h)

@@ -29,10 +29,11 @@ use Rattle.dsql_laws_calls.proofs.Begun.{begin_heard}
 use Rattle.dsql_laws_calls.proofs.TxEnders.{BegunNow, went_on}
 use Rattle.dsql_laws_calls.proofs.Own.{going_used, asks_own}
 use Rattle.dsql_laws_calls.proofs.BeginningsAt.{way_of}
-use Rattle.dsql_laws_calls.proofs.Inside.{live_goes, live_one, was_live, heard_live}
+use Rattle.dsql_laws_calls.proofs.Inside.{live_goes, was_live, heard_live}
 use Rattle.dsql_laws_calls.proofs.Coming.{sound}
 use Rattle.dsql_laws_calls.proofs.Stays.{work_stays}
 use Rattle.dsql_laws_calls.proofs.Ends.{zero_work}
+use Rattle.dsql_laws_calls.proofs.LiveRows.{live_some}
 use Rattle.dsql_laws_calls.proofs.Rows.{none_at_end}
 
 -- Holds if a connection is lent to call k, or to the transaction that call k began.
@@ -92,7 +93,7 @@ was_on_db H e n some h = sym (ap on_db (work_stays H e n (busy (work H n) (rows_
     busy w x look = let wrong : false ≡ true = sym (ap hands_out look) ∙ x in cc
 
 live_on : (H : List Event) (e : Event) (n : ℕ) → Lawful (e ∷ H) → are_live H n ≡ true → on_db (work (e ∷ H) n) ≡ true → (are_live H n ≡ true → on_db (work H n) ≡ true → Borrows H n) → Borrows (e ∷ H) n
-live_on H e n l were h rest = borrows_on H e n l (live_used H n were) (rest were (was_on_db H e n (live_one (rows_by H n) were) h))
+live_on H e n l were h rest = borrows_on H e n l (live_used H n were) (rest were (was_on_db H e n (live_some (rows_by H n) were) h))
 
 db_borrows : (H : List Event) (n : ℕ) → Lawful H → are_live H n ≡ true → on_db (work H n) ≡ true → Borrows H n
 db_borrows [] n l lives h = absurd cc
@@ -137,7 +138,7 @@ is_live_some o rows is h = ap live is ∙ h
 
 -- Live rows keep the connection that their query uses.
 pub rows_keep : (H : List Event) (n : ℕ) (rows : Rows) → Lawful H → rows_by H n ≡ Some rows → is_live rows ≡ true → KeepsItsConnection H n
-rows_keep H n rows l is h = by (work H n) refl (rows_hand_out H n (live_one (rows_by H n) lives))
+rows_keep H n rows l is h = by (work H n) refl (rows_hand_out H n (live_some (rows_by H n) lives))
   where
     lives : live (rows_by H n) ≡ true
     lives = is_live_some (rows_by H n) rows is h

@@ -51,10 +51,11 @@ use Rattle.dsql_laws_calls.proofs.BeginningsAt.{heard_more, heard_other, heard_s
 use Rattle.dsql_laws_calls.proofs.CallTenures.{call_line, line_of_call}
 use Rattle.dsql_laws_calls.proofs.Coming.{sound}
 use Rattle.dsql_laws_calls.proofs.Ends.{zero_work}
-use Rattle.dsql_laws_calls.proofs.Inside.{inside, inside_uses, live_one}
+use Rattle.dsql_laws_calls.proofs.Inside.{inside, inside_uses}
 use Rattle.dsql_laws_calls.proofs.Lent.{lent_before}
 use Rattle.dsql_laws_calls.proofs.LineParts.{fits_heard}
 use Rattle.dsql_laws_calls.proofs.Lines.{line_there}
+use Rattle.dsql_laws_calls.proofs.LiveRows.{live_some}
 use Rattle.dsql_laws_calls.proofs.Looks.{comes, heard_there}
 use Rattle.dsql_laws_calls.proofs.Makers.{hands_out, rows_hand_out}
 use Rattle.dsql_laws_calls.proofs.Own.{own_way, OwnWay}
@@ -257,7 +258,7 @@ answered_going : (H : List Event) (e : Entry) → Lawful (Heard e ∷ H) → (ow
     → are_live (Heard e ∷ H) (number_of own) ≡ true → IsGoing (heard_in (Heard e ∷ H) e.conn e.tenure)
 answered_going H e l own lent call rest after =
     subst IsGoing (sym (heard_more H e e.conn e.tenure own l.1 lent refl))
-    (by (new_rows H (work H e.call_no) e.call_no e.call e.answer (number_of own) (handed_out H) (live_one (rows_by (Heard e ∷ H) (number_of own)) after)))
+    (by (new_rows H (work H e.call_no) e.call_no e.call e.answer (number_of own) (handed_out H) (live_some (rows_by (Heard e ∷ H) (number_of own)) after)))
   where
     owner : e.owner ≡ Call (number_of own)
     owner = same_is e.owner own (heard_owner H e e.tenure own l.1 lent) ∙ call_of own call
@@ -294,7 +295,7 @@ live_going (e ∷ H) c t own l is call lives = by (λ before. live_going H c t o
     answered x its before rest (inr apart) =
         let lx : Lawful (Heard x ∷ H) = subst (λ y. Lawful (y ∷ H)) its l in
         beside (ap (λ y. journal (y ∷ H) c) its ∙ heard_other H x c apart)
-        (else_rows x lx before apart (live_one (rows_by (Heard x ∷ H) (number_of own)) (subst (λ y. are_live (y ∷ H) (number_of own) ≡ true) its lives))) rest
+        (else_rows x lx before apart (live_some (rows_by (Heard x ∷ H) (number_of own)) (subst (λ y. are_live (y ∷ H) (number_of own) ≡ true) its lives))) rest
 
     event : (y : Event) → e ≡ y → place H c ≡ Some (Lent t own) → (are_live H (number_of own) ≡ true → IsGoing (heard_in H c t)) → IsGoing (heard_in (e ∷ H) c t)
     event (Heard x) its before rest = answered x its before rest (same_or_not x.conn c)

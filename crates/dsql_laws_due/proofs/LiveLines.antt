@@ -52,10 +52,11 @@ use Rattle.dsql_laws_calls.proofs.BeginningsAt.{beginnings, heard_other, heard_s
 use Rattle.dsql_laws_calls.proofs.Coming.{sound}
 use Rattle.dsql_laws_calls.proofs.EndedRows.{rows_kept}
 use Rattle.dsql_laws_calls.proofs.HandedRows.{rows_begun}
-use Rattle.dsql_laws_calls.proofs.Inside.{hands_same, live_one, was_live}
+use Rattle.dsql_laws_calls.proofs.Inside.{hands_same, was_live}
 use Rattle.dsql_laws_calls.proofs.Lent.{lent_before}
 use Rattle.dsql_laws_calls.proofs.LineParts.{fits_heard, grows, grows_own}
 use Rattle.dsql_laws_calls.proofs.Lines.{line_there}
+use Rattle.dsql_laws_calls.proofs.LiveRows.{dead_over, live_some}
 use Rattle.dsql_laws_calls.proofs.Looks.{heard_there}
 use Rattle.dsql_laws_calls.proofs.Rows.{ended_live, none_at_end}
 use Rattle.dsql_laws_calls.proofs.Sound.{fitting}
@@ -74,10 +75,6 @@ use Rattle.dsql_laws_due.proofs.Ways.{scoped}
 pub live_before : (H : List Event) (e : Event) (n : ℕ) → is_some (rows_by H n) ≡ true → are_live (e ∷ H) n ≡ true → are_live H n ≡ true
 live_before H e n some lives = by (are_live H n) refl
   where
-    dead : (o : Option Rows) → is_some o ≡ true → live o ≡ false → over o ≡ true
-    dead None h k = h
-    dead (Some r) h k = ap (λ b. not b) k
-
     alive : (o : Option Rows) → over o ≡ true → live o ≡ true → ⊥
     alive None h k = cc
     alive (Some r) h k = never (is_live r) h k
@@ -88,7 +85,7 @@ live_before H e n some lives = by (are_live H n) refl
 
     by : (b : Bool) → are_live H n ≡ b → b ≡ true
     by true is = refl
-    by false is = let k = rows_kept H e n in absurd (alive (rows_by (e ∷ H) n) (k.ended (dead (rows_by H n) some is)) lives)
+    by false is = let k = rows_kept H e n in absurd (alive (rows_by (e ∷ H) n) (k.ended (dead_over (rows_by H n) some is)) lives)
 
 pub live_not_over : {A : Type 0} (o : Option Rows) → live o ≡ true → over o ≡ true → A
 live_not_over None h k = absurd cc
@@ -99,10 +96,10 @@ live_not_over (Some r) h k = absurd (never (is_live r) h k)
     never false x y = cc
 
 pub quiet_rows : (H : List Event) (e : Event) (n : ℕ) → is_answer e ≡ false → are_live (e ∷ H) n ≡ true → is_some (rows_by H n) ≡ true
-quiet_rows H (Entered client m op) n h lives = live_one (rows_by H n) (was_live H client m op n lives)
+quiet_rows H (Entered client m op) n h lives = live_some (rows_by H n) (was_live H client m op n lives)
 quiet_rows H (Heard e) n h lives = absurd cc
 quiet_rows H Ended n h lives = clash (sym lives ∙ none_at_end H n)
-quiet_rows H e n h lives = live_one (rows_by H n) lives
+quiet_rows H e n h lives = live_some (rows_by H n) lives
 
 -- A fetch that leaves rows live was given a row.
 
@@ -261,7 +258,7 @@ module _ (H : List Event) (e : Entry) (l : Lawful (Heard e ∷ H)) (own : Owner)
 
 answered_open : (H : List Event) (e : Entry) → Lawful (Heard e ∷ H) → (own : Owner) → place H e.conn ≡ Some (Lent e.tenure own) → is_call own ≡ false → Open H e.conn e.tenure own → Open (Heard e ∷ H) e.conn e.tenure own
 answered_open H e l own lent other open_rows n hands after =
-    ap (λ L. rows_are_over (exchanges (line_among n L))) now ∙ by (new_rows H (work H e.call_no) e.call_no e.call e.answer n (handed_out H) (live_one (rows_by (Heard e ∷ H) n) after))
+    ap (λ L. rows_are_over (exchanges (line_among n L))) now ∙ by (new_rows H (work H e.call_no) e.call_no e.call e.answer n (handed_out H) (live_some (rows_by (Heard e ∷ H) n) after))
   where
     now : heard_in (Heard e ∷ H) e.conn e.tenure ≡ e ∷ heard_in H e.conn e.tenure
     now = heard_now H e l (sound H l.0) (holds H l.0) own lent
@@ -313,7 +310,7 @@ live_open (e ∷ H) c t own l is other n hands lives = by (λ before. live_open 
     answered x its before rest (inr apart) =
         let lx : Lawful (Heard x ∷ H) = subst (λ y. Lawful (y ∷ H)) its l in
         beside before (ap (λ y. journal (y ∷ H) c) its ∙ heard_other H x c apart)
-        (rows_else H x c t own n lx before apart (subst (λ y. hands_out_in (number_of own) (work (y ∷ H) n) ≡ true) its hands) (live_one (rows_by (Heard x ∷ H) n) (subst (λ y. are_live (y ∷ H) n ≡ true) its lives))) rest
+        (rows_else H x c t own n lx before apart (subst (λ y. hands_out_in (number_of own) (work (y ∷ H) n) ≡ true) its hands) (live_some (rows_by (Heard x ∷ H) n) (subst (λ y. are_live (y ∷ H) n ≡ true) its lives))) rest
 
     event : (y : Event) → e ≡ y → place H c ≡ Some (Lent t own) → Open H c t own → rows_are_over (made_by n t (journal (e ∷ H) c)) ≡ false
     event (Heard x) its before rest = answered x its before rest (same_or_not x.conn c)

@@ -14,13 +14,12 @@ use Rattle.dsql_laws_calls.specs.journal.declared.entry.Owner.{Owner}
 use Rattle.dsql_laws_calls.specs.journal.Kinds.{is_call, number_of}
 use Rattle.dsql_laws_calls.specs.journal.Readers.{went_bad, of_tenure}
 use Rattle.dsql_laws_calls.specs.pool.declared.conn.Place.TheVariants.{Lent}
-use Rattle.dsql_laws_calls.specs.rows.declared.rows.Rows.{Rows}
 use Rattle.dsql_laws_calls.specs.tx.declared.end.TxEnd.{TxEnd}
 use Rattle.dsql_laws_calls.specs.tx.declared.end.TxEnd.TheVariants as tx_ends
 use Rattle.dsql_laws_calls.specs.works.Exchanges.{exchanges}
 use Rattle.dsql_laws_calls.specs.works.Line.{handed, test_of}
 use Rattle.dsql_laws_calls.proofs.laws_work.Rows.{not_true}
-use Rattle.dsql_laws_calls.specs.history.Readers.HandedOut.{live, over, rows_by, are_live, are_over, ender, is_late}
+use Rattle.dsql_laws_calls.specs.history.Readers.HandedOut.{over, rows_by, are_live, are_over, ender, is_late}
 use Rattle.dsql_laws_calls.specs.history.Rules.Wishes.{wish_as}
 use Rattle.dsql_laws_calls.proofs.laws.Tests.{both, same_number, same_itself}
 use Rattle.dsql_laws_calls.specs.history.declared.event.Event.{Event}
@@ -55,6 +54,7 @@ use Rattle.dsql_laws_calls.proofs.HandedRows.{handed_made, rows_begun}
 use Rattle.dsql_laws_calls.proofs.Why.{ended_there, first_some}
 use Rattle.dsql_laws_calls.proofs.UnderWay.{line_made, handed_there, Newest, Going, Facts, clash, at_number, line_at_its, turn_of}
 use Rattle.dsql_laws_calls.proofs.DueWay.{inner_is}
+use Rattle.dsql_laws_calls.proofs.LiveRows.{dead_over, over_some}
 use Rattle.dsql_laws_due.proofs.LineTails.{no_cursor, no_handle}
 use Rattle.dsql_laws_due.proofs.LineEnds.{IsShut, line_shut, unhanded_wish, ungiven_shut}
 use Rattle.dsql_laws_due.proofs.Holds.{asked_in, AllShut, Kept, RowsWay, EndsWay, TestsWay, TxWay, IsOther}
@@ -81,15 +81,6 @@ scoped w n h = absurd cc
 in_scope : (s : Scope) (k : ℕ) → is_in k s ≡ true → s ≡ Tx k
 in_scope (Tx n) k h = ap Tx (same_number n k h)
 in_scope Db k h = absurd cc
-
--- Rows that are over were made.
-over_some : (o : Option Rows) → over o ≡ true → is_some o ≡ true
-over_some None h = h
-over_some (Some r) h = refl
-
-dead_over : (o : Option Rows) → is_some o ≡ true → live o ≡ false → over o ≡ true
-dead_over None h k = h
-dead_over (Some r) h k = ap (λ b. not b) k
 
 -- The rows of a transaction that is over are over.
 rows_over : (H : List Event) (n k : ℕ) → Lawful H → hands_out_in k (work H n) ≡ true → is_over H k ≡ true → is_some (rows_by H n) ≡ true → are_over H n ≡ true

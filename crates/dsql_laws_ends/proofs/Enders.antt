@@ -19,7 +19,6 @@ use Rattle.dsql_laws_calls.specs.tx.Transactions.{ended_by as tx_ended_by}
 use Rattle.dsql_laws_calls.specs.works.HandedOut.{Made}
 use Rattle.dsql_laws_calls.specs.history.Readers.HandedOut.{fetched, live, are_live, born, caller, end_in, ended_at, ended_with, ender, handed_out, rows_by, rows_entered, rows_heard}
 use Rattle.dsql_laws_calls.proofs.Cases.{true_false}
-use Rattle.dsql_laws_calls.proofs.Invariant.{over_made}
 use Rattle.dsql_laws_calls.proofs.Lists.{same_or_not}
 use Rattle.dsql_laws_calls.specs.history.declared.event.Event.{Event}
 use Rattle.dsql_laws_calls.specs.history.declared.event.Event.TheVariants.{Run, Entered, Heard, Pool, Waits, Ticked, SetLimit, Replied, Ended}
@@ -33,7 +32,7 @@ use Rattle.dsql_laws_calls.specs.history.Readers.Unfinished.{is_unfinished}
 use Rattle.dsql_laws_calls.specs.history.Readers.Works.{asks, hands_out_in, rows_maker, tx_maker, work, work_of, works}
 use Rattle.dsql_laws_calls.specs.history.Legal.{Lawful}
 use Rattle.dsql_laws_calls.proofs.EndedRows.{ender_over, mapped_rows}
-use Rattle.dsql_laws_calls.proofs.Inside.{live_one}
+use Rattle.dsql_laws_calls.proofs.LiveRows.{live_some, over_some}
 use Rattle.dsql_laws_calls.proofs.Makers.{hands_out, rows_hand_out}
 use Rattle.dsql_laws_calls.proofs.Rows.{ender_works, is_worker}
 use Rattle.dsql_laws_calls.proofs.TxEnders.{same_going}
@@ -149,12 +148,12 @@ ender_works_on (e ∷ H) n l own some = by (ender_works_on H n l.0) (are_live H 
     by earlier true true was now = absurd (some (ender_now H e n true was ∙ ap (ended_at e) now))
     by earlier true false was now =
         let its : ender K n ≡ caller e = ender_now H e n true was ∙ ap (ended_at e) now in
-        let before = asked_before H e n (live_one (rows_by H n) was) own in
+        let before = asked_before H e n (live_some (rows_by H n) was) own in
         subst (λ m. WorksOn (work K m) n) (sym its) (ends_on H e n l before was now (λ none. some (its ∙ none)) (ap (λ m. is_worker (work K m)) (sym its) ∙ works))
     by earlier false c was now =
         let its : ender K n ≡ ender H n = ender_now H e n false was in
         let before : ender H n ≢ 0 = λ none. some (its ∙ none) in
-        let asked = asked_before H e n (over_made (rows_by H n) (ender_over H n before)) own in
+        let asked = asked_before H e n (over_some (rows_by H n) (ender_over H n before)) own in
         let stays = work_stays H e (ender H n) (worker_sends (work H (ender H n)) (ender_works H n l.0 before)) in
         subst (λ m. WorksOn (work K m) n) (sym its) (subst (λ (it : Work). WorksOn it n) (sym stays) (earlier asked before))
 

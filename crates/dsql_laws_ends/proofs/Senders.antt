@@ -7,7 +7,6 @@ use Rattle.dsql_laws_calls.specs.course.declared.course.Wish.TheVariants as wish
 use Rattle.dsql_laws_calls.specs.journal.declared.entry.Owner.{Owner}
 use Rattle.dsql_laws_calls.specs.journal.Kinds.{number_of}
 use Rattle.dsql_laws_calls.specs.rows.declared.rows.Rows.{Rows}
-use Rattle.dsql_laws_calls.specs.rows.OpenRows.{is_live}
 use Rattle.dsql_laws_calls.specs.pool.declared.conn.Place.TheVariants.{Lent}
 use Rattle.dsql_laws_calls.specs.pool.declared.moves.Move.TheVariants.{Lend}
 use Rattle.dsql_laws_calls.specs.history.Readers.HandedOut.{live, over, are_live, caller, ended_at, ender, is_late, rows_by}
@@ -15,7 +14,6 @@ use Rattle.dsql_laws_calls.specs.history.Rules.Wishes.{wish_as}
 use Rattle.dsql_laws_calls.proofs.laws.Truths.{or_second}
 use Rattle.dsql_laws_calls.proofs.laws.Tests.{both, other_number, same_itself, second}
 use Rattle.dsql_laws_calls.proofs.Cases.{true_false}
-use Rattle.dsql_laws_calls.proofs.Invariant.{over_made}
 use Rattle.dsql_laws_calls.proofs.Lists.{has_push}
 use Rattle.dsql_laws_ends.proofs.Resting.{kept_so, lent_used, rests_no_begin, rests_no_maker, rests_not}
 use Rattle.dsql_laws_calls.specs.history.declared.event.Event.{Event}
@@ -41,8 +39,8 @@ use Rattle.dsql_laws_calls.proofs.BeginningsAt.{beginnings}
 use Rattle.dsql_laws_calls.proofs.Begun.{begun_begins, over_begun, stays_begun}
 use Rattle.dsql_laws_calls.proofs.Coming.{stays_with_its_call}
 use Rattle.dsql_laws_calls.proofs.EndedRows.{ender_over, rows_kept}
-use Rattle.dsql_laws_calls.proofs.Inside.{live_one}
 use Rattle.dsql_laws_calls.proofs.Lent.{lent_before, Lends}
+use Rattle.dsql_laws_calls.proofs.LiveRows.{live_some, over_not_live, over_some}
 use Rattle.dsql_laws_calls.proofs.Looks.{comes, heard_there}
 use Rattle.dsql_laws_calls.proofs.Makers.{rows_begin_nothing}
 use Rattle.dsql_laws_calls.proofs.Owners.{lent_asks, lent_number}
@@ -70,22 +68,14 @@ needed_unmade H n unbegun none used =
     sym (ap (λ (o : Option Rows). is_some (rest_with H n o)) none)
     ∙ (sym (ap (λ (d : Option DriverCall). is_some d) (unbegun_rest H n unbegun)) ∙ still_needed H n used (unbegun_stays H n unbegun) (ap live none))
 
-over_dead : (o : Option Rows) → over o ≡ true → live o ≡ false
-over_dead None h = refl
-over_dead (Some r) h = by (is_live r) h
-  where
-    by : (b : Bool) → not b ≡ true → b ≡ false
-    by true k = absurd cc
-    by false k = refl
-
 over_rest : (H : List Event) (n : ℕ) (o : Option Rows) → over o ≡ true → rest_with H n o ≡ line_of H n wishes.Close
 over_rest H n None h = absurd cc
-over_rest H n (Some r) h = ap (λ (b : Bool). cond b None (line_of H n wishes.Close)) (over_dead (Some r) h)
+over_rest H n (Some r) h = ap (λ (b : Bool). cond b None (line_of H n wishes.Close)) (over_not_live (Some r) h)
 
 pub needed_over : (H : List Event) (n : ℕ) → is_begun H n ≡ false → over (rows_by H n) ≡ true → is_used H n ≡ true → is_some (line_of H n wishes.Close) ≡ true
 needed_over H n unbegun gone used =
     sym (ap (λ (d : Option DriverCall). is_some d) (unbegun_rest H n unbegun ∙ over_rest H n (rows_by H n) gone))
-    ∙ still_needed H n used (unbegun_stays H n unbegun) (over_dead (rows_by H n) gone)
+    ∙ still_needed H n used (unbegun_stays H n unbegun) (over_not_live (rows_by H n) gone)
 
 pub needed_end : (H : List Event) (n : ℕ) → is_begun H n ≡ true → goes_on H n ≡ false → are_live H n ≡ false → is_used H n ≡ true → is_some (ending H n) ≡ true
 needed_end H n begun over dead used =
@@ -155,7 +145,7 @@ replies_when_closed H c t owner reply l a is unbegun some =
     let gone = ender_over H n some in
     let r = replies_now H m reply a in
     none_due (due_for H m) (line_of H n wishes.Close) (due_of H m r.unfinished ∙ closing_due H m n (work H m) (ender_works_on H n l own some) own refl) r.done
-    (needed_over H n unbegun gone (replied_used H m reply c t owner a is (λ it. rests_no_maker H n it (over_made (rows_by H n) gone))))
+    (needed_over H n unbegun gone (replied_used H m reply c t owner a is (λ it. rests_no_maker H n it (over_some (rows_by H n) gone))))
 
 ended_over : (H : List Event) (k : ℕ) → tx_ender H k ≢ 0 → is_over H k ≡ true
 ended_over H k some = by (is_over H k) refl
@@ -176,7 +166,7 @@ pub begun_dead : (H : List Event) (n : ℕ) → Lawful H → is_begun H n ≡ tr
 begun_dead H n l begun = by (are_live H n) refl
   where
     by : (b : Bool) → are_live H n ≡ b → b ≡ false
-    by true lives = absurd (true_false (begins (work H n)) (begun_begins H n l begun) (rows_begin_nothing H n (live_one (rows_by H n) lives)))
+    by true lives = absurd (true_false (begins (work H n)) (begun_begins H n l begun) (rows_begin_nothing H n (live_some (rows_by H n) lives)))
     by false dead = refl
 
 -- When the call that ended the transaction replies, it has ended it at the driver.
@@ -264,7 +254,7 @@ ending_unfinished H e some = absurd (some refl)
 lent_unclosed : (H : List Event) (c t : ℕ) (owner : Owner) → Lawful H → Allowed H (Pool (Lend c t owner (number_of owner))) → number_of owner ≢ 0 → ender H (number_of owner) ≢ 0 → ⊥
 lent_unclosed H c t owner l a some ended =
     let n = number_of owner in
-    let made = over_made (rows_by H n) (ender_over H n ended) in
+    let made = over_some (rows_by H n) (ender_over H n ended) in
     lent_nothing H c t owner n l a (rows_may_not_ask H n made) (content H n l some made)
 
 closed_next : (H : List Event) (e : Event) → Lawful (e ∷ H) → Attended H → (c t : ℕ) (owner : Owner) → place (e ∷ H) c ≡ Some (Lent t owner) → is_begun (e ∷ H) (number_of owner) ≡ false

@@ -18,7 +18,6 @@ use Rattle.dsql_laws_calls.specs.journal.declared.entry.Owner.{Owner}
 use Rattle.dsql_laws_calls.specs.journal.Kinds.{is_call, number_of}
 use Rattle.dsql_laws_calls.specs.journal.Readers.{went_bad}
 use Rattle.dsql_laws_calls.specs.pool.declared.conn.Place.TheVariants.{Lent}
-use Rattle.dsql_laws_calls.specs.rows.declared.rows.Rows.{Rows}
 use Rattle.dsql_laws_calls.specs.works.declared.work.Aim.TheVariants as aims
 use Rattle.dsql_laws_calls.specs.works.Exchanges.{exchanges, step_of}
 use Rattle.dsql_laws_calls.specs.works.Line.{Asked, handed, sent_as, sent_over}
@@ -44,6 +43,7 @@ use Rattle.dsql_laws_calls.proofs.CallTenures.{call_line, plain_due}
 use Rattle.dsql_laws_calls.proofs.Coming.{sound}
 use Rattle.dsql_laws_calls.proofs.DueWay.{inner_is}
 use Rattle.dsql_laws_calls.proofs.Lines.{line_there}
+use Rattle.dsql_laws_calls.proofs.LiveRows.{over_some}
 use Rattle.dsql_laws_calls.proofs.Looks.{comes, heard_there}
 use Rattle.dsql_laws_calls.proofs.Makers.{hands_out, rows_hand_out}
 use Rattle.dsql_laws_calls.proofs.Plain.{begins, line_plain}
@@ -169,15 +169,11 @@ call_quiet H c t own w q l is call some h = by (own_cursor (exchanges (heard_in 
         (due_over (caps H) (is_reset_due H c) asked w (heard_in H c t) q rows (ap (λ a. handed a (exchanges (heard_in H c t))) aim ∙ cursor) (f.made c t own is call)
         (plain_due (call_line H c t own w) q (line_plain (caps H) (is_reset_due H c) asked w (heard_in H c t)) h))
 
-over_made : (o : Option Rows) → over o ≡ true → is_some o ≡ true
-over_made None h = absurd cc
-over_made (Some rows) h = refl
-
 call_way_quiet : (H : List Event) (e : Entry) (u : UnderWay H e) → Lawful H → is_call u.owner ≡ true → CallWay H e.conn e.tenure u.owner e.call_no e.call → is_statement e.call ≡ false
 call_way_quiet H e u l call w = call_quiet H e.conn e.tenure u.owner w.wish e.call l u.lent call (made w.kind) w.due
   where
     made : ((w.wish ≡ wishes.Close) × (are_over H (number_of u.owner) ≡ true)) ⊎ ((w.wish ≡ wishes.Fetch) × (work H e.call_no ≡ Fetch (number_of u.owner))) → is_some (rows_by H (number_of u.owner)) ≡ true
-    made (inl x) = over_made (rows_by H (number_of u.owner)) x.1
+    made (inl x) = over_some (rows_by H (number_of u.owner)) x.1
     made (inr x) = u.rowed (number_of u.owner) (inl x.1)
 
 -- On the rows of a call in a transaction, and at the end of that transaction, neither is sent.

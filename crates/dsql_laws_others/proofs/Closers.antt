@@ -44,7 +44,7 @@ use Rattle.dsql_laws_calls.proofs.EndedRows.{ender_over}
 use Rattle.dsql_laws_calls.proofs.HandedRows.{rows_begun}
 use Rattle.dsql_laws_calls.proofs.Lent.{stays_lent}
 use Rattle.dsql_laws_calls.proofs.Makers.{hands_out, rows_hand_out}
-use Rattle.dsql_laws_calls.proofs.Inside.{live_one}
+use Rattle.dsql_laws_calls.proofs.LiveRows.{live_some, over_some}
 use Rattle.dsql_laws_calls.proofs.Own.{going_used}
 use Rattle.dsql_laws_calls.proofs.Owners.{at_home}
 use Rattle.dsql_laws_calls.proofs.Plain.{begins}
@@ -52,7 +52,6 @@ use Rattle.dsql_laws_calls.proofs.RowsKept.{Borrows, tx_borrows}
 use Rattle.dsql_laws_calls.proofs.Stays.{as_many, has_entered}
 use Rattle.dsql_laws_calls.proofs.Works.{enters_next, new_record, new_work, old_record, old_work, is_look, other_heard, other_replied}
 use Rattle.dsql_laws_calls.proofs.Works as works_of
-use Rattle.dsql_laws_others.proofs.LentBeside.{over_some}
 use Rattle.dsql_laws_others.proofs.Turned.{Turns, ClosesNow, EndsNow, close_turn, end_turn, ended_now}
 
 pub record Closer (H : List Event) (j m k : ℕ) : Type 0 where
@@ -126,7 +125,7 @@ closing_now H client n label j k l inner lives dead = by (close_turn H label j)
         older same =
             let new = enters_next H client n (ops.RowsClose label) l.1 in
             let looks : work H j ≡ Look = no_work_yet H j (omega (arith, new, same)) in
-            let clash : false ≡ true = sym (ap hands_out looks) ∙ rows_hand_out H j (live_one (rows_by H j) lives) in
+            let clash : false ≡ true = sym (ap hands_out looks) ∙ rows_hand_out H j (live_some (rows_by H j) lives) in
             cc
 
         told : told_at_entry H (ops.RowsClose label) ≡ None
@@ -152,7 +151,7 @@ ending_now H tx by j k l inner lives dead on = at (end_turn H tx j)
         let e = it.1 in
         let its = scoped (work H j) (tx_maker (works H) tx) e.hands inner in
         let hands : hands_out_in k (work H j) ≡ true = ap (λ i. hands_out_in i (work H j)) its ∙ e.hands in
-        let begun = rows_begun H j k l (live_one (rows_by H j) lives) hands in
+        let begun = rows_begun H j k l (live_some (rows_by H j) lives) hands in
         true_false (is_some (end_of (thing_of k (ends_as H tx by (transactions H))))) (ended_now H tx by k its e.replied begun) on
 
 -- Only a fetch that gets no row ends rows by an answer.
@@ -272,7 +271,7 @@ closers (e ∷ H) j m k l inner going some is = by (closers H j m k l.0) (are_li
     by : (scope (work H j) ≡ Tx k → goes_on H k ≡ true → m ≢ 0 → ender H j ≡ m → Closer H j m k) → (b c : Bool) → are_live H j ≡ b → are_live (e ∷ H) j ≡ c → cond b (ended_at e c) (ender H j) ≡ m → Closer (e ∷ H) j m k
     by earlier true true lives now x = absurd (some (sym x))
     by earlier true false lives now x =
-        let made = live_one (rows_by H j) lives in
+        let made = live_some (rows_by H j) lives in
         subst (λ i. Closer (e ∷ H) j i k) x
         (ends_now H e j k l (λ none. some (sym x ∙ none)) (went_on made (before made)) on (before made) lives now)
     by earlier false c dead now x =

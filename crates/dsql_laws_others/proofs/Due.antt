@@ -1,16 +1,15 @@
 -- If a driver call is due on a lent connection, the connection is in use. The argument takes the kinds of work
 -- apart.
-use Rattle.std.proofs.Common.{◌≡◌, ℕ, ◌==◌, ◌⊎◌, inl, inr, Bool, true, false, not, ◌&&◌, ◌||◌, cond, List, Option, Some, None, is_some, is_none, refl, sym, ap, ◌∙◌}
+use Rattle.std.proofs.Common.{◌≡◌, ℕ, ◌==◌, ◌⊎◌, inl, inr, Bool, true, false, not, ◌&&◌, ◌||◌, cond, List, Some, None, is_some, is_none, refl, sym, ap, ◌∙◌}
 use Rattle.dsql_laws_calls.specs.course.declared.course.Wish.{Wish}
 use Rattle.dsql_laws_calls.specs.course.declared.course.Wish.TheVariants as wishes
 use Rattle.dsql_laws_calls.specs.course.Made.{Exchange, own_cursor}
 use Rattle.dsql_laws_calls.specs.journal.declared.entry.Owner.{Owner}
 use Rattle.dsql_laws_calls.specs.journal.Kinds.{number_of}
 use Rattle.dsql_laws_calls.specs.journal.Readers.{went_bad}
-use Rattle.dsql_laws_calls.specs.rows.declared.rows.Rows.{Rows}
 use Rattle.dsql_laws_calls.specs.works.Line.{handed}
 use Rattle.dsql_laws_calls.specs.pool.declared.conn.Place.TheVariants.{Lent}
-use Rattle.dsql_laws_calls.specs.history.Readers.HandedOut.{live, over, rows_by, are_live, are_over, ender, is_late}
+use Rattle.dsql_laws_calls.specs.history.Readers.HandedOut.{over, rows_by, are_live, are_over, ender, is_late}
 use Rattle.dsql_laws_calls.specs.history.Rules.Wishes.{wish_as}
 use Rattle.dsql_laws_calls.proofs.laws.Truths.{or_first, or_second}
 use Rattle.dsql_laws_calls.proofs.laws.Tests.{both, same_number, same_itself}
@@ -39,6 +38,7 @@ use Rattle.dsql_laws_calls.proofs.HandedRows.{handed_made, rows_begun}
 use Rattle.dsql_laws_calls.proofs.Inside.{inside, inside_uses, live_goes}
 use Rattle.dsql_laws_calls.proofs.LineParts.{hands_of}
 use Rattle.dsql_laws_calls.proofs.Lines.{line_there, line_here, closes_too}
+use Rattle.dsql_laws_calls.proofs.LiveRows.{dead_over, live_some}
 use Rattle.dsql_laws_calls.proofs.Makers.{hands_out, rows_hand_out, sent_made}
 use Rattle.dsql_laws_calls.proofs.Own.{asks_own, going_used, own_used, due_own}
 use Rattle.dsql_laws_calls.proofs.Owners.{at_home}
@@ -62,12 +62,8 @@ live_kept : (H : List Event) (n : ℕ) → are_live H n ≡ true → is_used H n
 live_kept H n h = or_second (goes_on H n) (are_live H n || is_some (rest H n)) (or_first (are_live H n) (is_some (rest H n)) h)
 
 pub live_keeps : (H : List Event) (j : ℕ) (own : Owner) → Lawful H → borrower H j ≡ number_of own → are_live H j ≡ true → is_used H (number_of own) ≡ true
-live_keeps H j own l uses lives = by (work H j) refl (rows_hand_out H j (one (rows_by H j) lives))
+live_keeps H j own l uses lives = by (work H j) refl (rows_hand_out H j (live_some (rows_by H j) lives))
   where
-    one : (o : Option Rows) → live o ≡ true → is_some o ≡ true
-    one None h = absurd cc
-    one (Some r) h = refl
-
     by : (it : Work) → work H j ≡ it → hands_out it ≡ true → is_used H (number_of own) ≡ true
     by (HandOut Db label) is h =
         let its : borrower H j ≡ j = rw is refl in
@@ -165,16 +161,12 @@ inner_keeps H m c t own l at here u inner due = by (sends_in H m (number_of own)
         hands_in (HandOut s label) j x y = ap (is_in j) y ∙ same_itself j
         hands_in w j x y = absurd cc
 
-        not_live : (p : Option Rows) → is_some p ≡ true → live p ≡ false → over p ≡ true
-        not_live None y z = y
-        not_live (Some q) y z = ap (λ b. not b) z
-
         dead : is_some (rows_by H m) ≡ true → hands_out_in (number_of own) (work H m) ≡ true → (b : Bool) → are_live H m ≡ b → are_over H m ≡ true
         dead made hands true lives =
             let goes = live_goes H m (number_of own) l lives hands in
             let b = both (is_begun H (number_of own)) (not (is_over H (number_of own))) goes in
             clash (sym b.1 ∙ ap (λ y. not y) gone)
-        dead made hands false lives = not_live (rows_by H m) made lives
+        dead made hands false lives = dead_over (rows_by H m) made lives
 
         from : Going H c t m → is_used H (number_of own) ≡ true
         from (inl h) =

@@ -6,6 +6,7 @@ use Rattle.dsql_laws_calls.specs.journal.Kinds.{number_of}
 use Rattle.dsql_laws_calls.specs.pool.declared.conn.Place.TheVariants.{Lent}
 use Rattle.dsql_laws_calls.specs.rows.OpenRows.{rows_of}
 use Rattle.dsql_laws_calls.proofs.Cases.{true_false}
+use Rattle.dsql_laws_calls.proofs.LiveRows.{over_not_live}
 use Rattle.dsql_laws_calls.specs.history.Readers.HandedOut.{over, ended_with, handed_out, rows_by, are_live}
 use Rattle.dsql_laws_calls.specs.history.declared.event.Event.{Event}
 use Rattle.dsql_laws_calls.specs.history.declared.event.Op.{Op}
@@ -22,7 +23,7 @@ use Rattle.dsql_laws_others.specs.Ends.{ends_transaction}
 use Rattle.dsql_laws_others.proofs.Entered.{Enters, enters}
 use Rattle.dsql_laws_others.proofs.Somewhere.{each_on}
 use Rattle.dsql_laws_others.proofs.StillUsed.{ClosesLate, all_used_on}
-use Rattle.dsql_laws_others.proofs.Turned.{Turns, EndsNow, end_turn, over_not_live}
+use Rattle.dsql_laws_others.proofs.Turned.{Turns, EndsNow, end_turn}
 
 pub entered_end : (H : List Event) (client n : ℕ) (op : Op) → Lawful (enters H client n op) → ends_transaction op ≡ true → Enters H client n op
 entered_end H client n (ops.Commit tx) l h = record { lawful = l; pool = refl; end = refl }

@@ -34,7 +34,8 @@ use Rattle.dsql_laws_calls.specs.history.Legal.{Lawful}
 use Rattle.dsql_laws_calls.proofs.laws.Numbered.{unfinished_from_one}
 use Rattle.dsql_laws_calls.proofs.AtEnd.{no_work_yet}
 use Rattle.dsql_laws_calls.proofs.EndedRows.{ender_over}
-use Rattle.dsql_laws_calls.proofs.Inside.{live_goes, live_one}
+use Rattle.dsql_laws_calls.proofs.Inside.{live_goes}
+use Rattle.dsql_laws_calls.proofs.LiveRows.{live_some, over_not_live}
 use Rattle.dsql_laws_calls.proofs.Makers.{hands_out, rows_hand_out}
 use Rattle.dsql_laws_calls.proofs.TxEnders.{same_going}
 use Rattle.dsql_laws_calls.proofs.UnderWay.{ending_over}
@@ -42,7 +43,7 @@ use Rattle.dsql_laws_calls.proofs.Works.{enters_next, old_record, old_work, old_
 use Rattle.dsql_laws_others.proofs.Alike.{closing_alike, ends_alike}
 use Rattle.dsql_laws_others.proofs.Entries.{next_work, other_line, concerned_old, over_old, first_push, sent_entered}
 use Rattle.dsql_laws_others.proofs.Closers.{Closer, closers}
-use Rattle.dsql_laws_others.proofs.Turned.{Turns, over_not_live, rows_turn, tx_turn}
+use Rattle.dsql_laws_others.proofs.Turned.{Turns, rows_turn, tx_turn}
 
 abbrev pool_of : List Event → Pooled
 pool_of H = pool H
@@ -85,7 +86,7 @@ closing_new H client n op l = by (are_over (enters H client n op) n) refl
   where
     never : Turns (rows_by H n) (rows_by (enters H client n op) n) → are_over (enters H client n op) n ≡ true → ⊥
     never (inl same) h = over_old H client n op n l (sym (ap over same) ∙ h) refl
-    never (inr w) h = no_rows_yet H client n op l (live_one (rows_by H n) w.0)
+    never (inr w) h = no_rows_yet H client n op l (live_some (rows_by H n) w.0)
 
     by : (b : Bool) → are_over (enters H client n op) n ≡ b → cond b (line_of (enters H client n op) n wishes.Close) None ≡ None
     by false is = refl

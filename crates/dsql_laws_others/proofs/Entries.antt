@@ -19,7 +19,6 @@ use Rattle.dsql_laws_calls.specs.pool.declared.conn.Place.TheVariants.{Idle, Len
 use Rattle.dsql_laws_calls.specs.pool.Places.{conn_of, is_for}
 use Rattle.dsql_laws_calls.specs.pool.Pooled.{Pooled, place_at}
 use Rattle.dsql_laws_calls.specs.wait.Requests.{waits}
-use Rattle.dsql_laws_calls.specs.rows.declared.rows.Rows.{Rows}
 use Rattle.dsql_laws_calls.specs.rows.OpenRows.{rows_of}
 use Rattle.dsql_laws_calls.specs.works.Line.{Asked}
 use Rattle.dsql_laws_calls.specs.history.declared.record.Try.{Try}
@@ -58,6 +57,7 @@ use Rattle.dsql_laws_calls.proofs.TxEnders.{same_going}
 use Rattle.dsql_laws_calls.proofs.Enders.{same_ender}
 use Rattle.dsql_laws_calls.proofs.Ends.{new_unlent}
 use Rattle.dsql_laws_calls.proofs.AtEnd.{no_work_yet}
+use Rattle.dsql_laws_calls.proofs.LiveRows.{over_some}
 use Rattle.dsql_laws_calls.proofs.Makers.{hands_out, rows_hand_out}
 use Rattle.dsql_laws_others.specs.Entries.{is_plain}
 use Rattle.dsql_laws_others.proofs.Alike.{Concerns, Alike, due_alike, used_alike, line_asked, ends_alike, first_alike, closing_alike, same_tx_ender}
@@ -139,10 +139,6 @@ concerned_old H m n j new apart (inr (inl its)) is = let r : j < length (works H
 concerned_old H m n j new apart (inr (inr its)) is = let r : j < length (works H) = subst (RefersWithin (length (works H))) its (refers_within H m) in absurd (omega (arith, r, is, new))
 
 -- The new call has no rows.
-
-over_some : (o : Option Rows) → over o ≡ true → is_some o ≡ true
-over_some None h = absurd cc
-over_some (Some r) h = refl
 
 pub over_old : (H : List Event) (client n : ℕ) (op : Op) (j : ℕ) → Lawful (Entered client n op ∷ H) → are_over H j ≡ true → j ≢ n
 over_old H client n op j l h is =

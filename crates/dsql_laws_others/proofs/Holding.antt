@@ -30,7 +30,7 @@ use Rattle.dsql_laws_calls.specs.works.Line.{Asked, handed}
 use Rattle.dsql_laws_calls.proofs.laws_work.CallLines.{Step, HasRows, HasRead, step, step_after}
 use Rattle.dsql_laws_calls.proofs.laws_work.HandedLines.{SentOver, due_over, held_due, is_holding}
 use Rattle.dsql_laws_calls.proofs.laws_work.MadeLines.{MadeAt}
-use Rattle.dsql_laws_calls.specs.history.Readers.HandedOut.{fetched, live, over, rows_by, rows_heard, handed_out, are_live, are_over, ender, is_late}
+use Rattle.dsql_laws_calls.specs.history.Readers.HandedOut.{fetched, live, rows_by, rows_heard, handed_out, are_live, are_over, ender, is_late}
 use Rattle.dsql_laws_calls.specs.history.Rules.Wishes.{wish_as}
 use Rattle.dsql_laws_calls.proofs.laws.Tests.{both, same_number, same_itself}
 use Rattle.dsql_laws_calls.proofs.Cases.{true_false}
@@ -59,9 +59,10 @@ use Rattle.dsql_laws_calls.proofs.CallTenures.{call_line, line_of_call, plain_du
 use Rattle.dsql_laws_calls.proofs.Coming.{sound}
 use Rattle.dsql_laws_calls.proofs.EndedRows.{live_no_ender, rows_kept}
 use Rattle.dsql_laws_calls.proofs.HandedRows.{rows_begun}
-use Rattle.dsql_laws_calls.proofs.Inside.{inside, inside_uses, live_one}
+use Rattle.dsql_laws_calls.proofs.Inside.{inside, inside_uses}
 use Rattle.dsql_laws_calls.proofs.Lent.{Lends, lent_before, stays_lent}
 use Rattle.dsql_laws_calls.proofs.Lines.{line_here}
+use Rattle.dsql_laws_calls.proofs.LiveRows.{dead_over, live_not_over, live_some}
 use Rattle.dsql_laws_calls.proofs.Looks.{heard_there}
 use Rattle.dsql_laws_calls.proofs.Makers.{hands_out, rows_begin_nothing, rows_hand_out, sent_made, some_heard}
 use Rattle.dsql_laws_calls.proofs.Own.{DueNow, asks_own, due_now, due_of, some_due}
@@ -101,7 +102,7 @@ label_of (HandOut s label) = label
 label_of w = []
 
 hands_itself : (H : List Event) (c t : ℕ) (own : Owner) → LiveAt H c t own → work H (number_of own) ≡ HandOut Db (label_of (work H (number_of own)))
-hands_itself H c t own x = by (work H (number_of own)) (rows_hand_out H (number_of own) (live_one (rows_by H (number_of own)) x.lives)) (lent_asks H c t own x.lawful x.lent)
+hands_itself H c t own x = by (work H (number_of own)) (rows_hand_out H (number_of own) (live_some (rows_by H (number_of own)) x.lives)) (lent_asks H c t own x.lawful x.lent)
   where
     by : (w : Work) → hands_out w ≡ true → asks w ≡ true → w ≡ HandOut Db (label_of w)
     by (HandOut Db label) h k = refl
@@ -109,7 +110,7 @@ hands_itself H c t own x = by (work H (number_of own)) (rows_hand_out H (number_
     by w h k = absurd cc
 
 unbegun : (H : List Event) (c t : ℕ) (own : Owner) → LiveAt H c t own → is_begun H (number_of own) ≡ true → ⊥
-unbegun H c t own x begun = true_false (begins (work H (number_of own))) (begun_begins H (number_of own) x.lawful begun) (rows_begin_nothing H (number_of own) (live_one (rows_by H (number_of own)) x.lives))
+unbegun H c t own x begun = true_false (begins (work H (number_of own))) (begun_begins H (number_of own) x.lawful begun) (rows_begin_nothing H (number_of own) (live_some (rows_by H (number_of own)) x.lives))
 
 abbrev Holds : List Event → Type 0
 Holds H = (c t : ℕ) (own : Owner) → place H c ≡ Some (Lent t own) → is_call own ≡ true → are_live H (number_of own) ≡ true → is_holding (step (heard_in H c t)) ≡ true
@@ -172,10 +173,6 @@ Comes H = (e : Entry) (own : Owner) → may_come H e ≡ true → place H e.conn
 
 none_due : (q : DriverCall) → is_due None q ≡ true → ⊥
 none_due q h = cc
-
-live_not_over : (o : Option Rows) → live o ≡ true → over o ≡ false
-live_not_over None h = absurd cc
-live_not_over (Some r) h = ap not h
 
 -- An entry that is due for live rows is a fetch.
 due_fetches : (H : List Event) (e : Entry) (own : Owner) → Holds H → (x : LiveAt H e.conn e.tenure own) → (d : DueNow H e) → d.owner ≡ own → may_come H e ≡ true → Fetches H e (number_of own)
@@ -298,16 +295,12 @@ made_there H x c t own l at mine =
 were_live : (H : List Event) (x : Entry) (n : ℕ) → are_live (Heard x ∷ H) n ≡ true → (are_live H n ≡ true) ⊎ ((is_some (rows_by H n) ≡ false) × ((n ≡ x.call_no) × (hands_out (work H x.call_no) ≡ true)))
 were_live H x n h = by (are_live H n) (is_some (rows_by H n)) refl refl
   where
-    ended : (o : Option Rows) → is_some o ≡ true → live o ≡ false → over o ≡ true
-    ended None a b = a
-    ended (Some r) a b = ap not b
-
     by : (b s : Bool) → are_live H n ≡ b → is_some (rows_by H n) ≡ s → (are_live H n ≡ true) ⊎ ((is_some (rows_by H n) ≡ false) × ((n ≡ x.call_no) × (hands_out (work H x.call_no) ≡ true)))
     by true s lives some = inl lives
     by false true dead some =
         let kept = rows_kept H (Heard x) n in
-        absurd (true_false (are_over (Heard x ∷ H) n) (kept.ended (ended (rows_by H n) some dead)) (live_not_over (rows_by (Heard x ∷ H) n) h))
-    by false false dead none = elim (some_heard H (work H x.call_no) x.call_no x.call x.answer n (handed_out H) (live_one (rows_by (Heard x ∷ H) n) h)) [
+        absurd (true_false (are_over (Heard x ∷ H) n) (kept.ended (dead_over (rows_by H n) some dead)) (live_not_over (rows_by (Heard x ∷ H) n) h))
+    by false false dead none = elim (some_heard H (work H x.call_no) x.call_no x.call x.answer n (handed_out H) (live_some (rows_by (Heard x ∷ H) n) h)) [
       | inl some ↦ absurd (true_false (is_some (rows_by H n)) some none)
       | inr w ↦ inr (none, w)
     ]
@@ -366,7 +359,7 @@ heard_holds H x l holds comes c t own at call lives = by (same_or_not x.conn c) 
         (ap (λ it. live (rows_of (number_of own) (rows_heard H it x.call_no x.call x.answer (handed_out H)))) (sym f.its) ∙ lives)
     by (inl same) (inr w) =
         ap (λ L. is_holding (step L)) (there same)
-        ∙ query_holds H (work H x.call_no) x.call_no x.call x.answer (number_of own) (handed_out H) (step (heard_in H c t)) (let v = w.1 in v.1) w.0 (live_one (rows_by (Heard x ∷ H) (number_of own)) lives)
+        ∙ query_holds H (work H x.call_no) x.call_no x.call x.answer (number_of own) (handed_out H) (step (heard_in H c t)) (let v = w.1 in v.1) w.0 (live_some (rows_by (Heard x ∷ H) (number_of own)) lives)
     by (inr apart) (inl were) = ap (λ J. is_holding (step (of_tenure t J))) (heard_other H x c apart) ∙ holds c t own at call were
     by (inr apart) (inr w) = let v = w.1 in absurd (apart (made_there H x c t own l at v.0))
 
@@ -392,7 +385,7 @@ quiet_holds H x l none holds c t own at call lives = by (lent_before H x c t own
     by (inr w) =
         let a : Allowed H (Pool (Lend c t own w.0)) = subst (λ y. Allowed H y) w.1 l.1 in
         let same : w.0 ≡ number_of own = lends_to H c t own w.0 a in
-        let made : is_some (rows_by H w.0) ≡ true = ap (λ i. is_some (rows_by H i)) same ∙ live_one (rows_by H (number_of own)) were in
+        let made : is_some (rows_by H w.0) ≡ true = ap (λ i. is_some (rows_by H i)) same ∙ live_some (rows_by H (number_of own)) were in
         absurd (lent_nothing H c t own w.0 l.0 a (rows_may_not_ask H w.0 made) (content H w.0 l.0 (λ zero. lent_number (x ∷ H) c t own l at (sym same ∙ zero)) made))
 
 -- What may be sent.
@@ -472,7 +465,7 @@ live_closes H c t own l at lives = by (is_call own) refl
 
     by : (b : Bool) → is_call own ≡ b → is_some (line_of H (number_of own) wishes.Close) ≡ true
     by true call = closed (record { lawful = l; lent = at; call = call; lives = lives })
-    by false other = absurd (true_false (begins (work H (number_of own))) (begins_it own (owner_is_of H c t own l at) other) (rows_begin_nothing H (number_of own) (live_one (rows_by H (number_of own)) lives)))
+    by false other = absurd (true_false (begins (work H (number_of own))) (begins_it own (owner_is_of H c t own l at) other) (rows_begin_nothing H (number_of own) (live_some (rows_by H (number_of own)) lives)))
       where
         begins_it : (o : Owner) → (is_house o ≡ false) × (o ≡ owner_of H (number_of own)) → is_call o ≡ false → begins (work H (number_of own)) ≡ true
         begins_it o its k = of (work H (number_of own)) (sym (ap is_call its.1) ∙ k)

@@ -50,6 +50,7 @@ use Rattle.dsql_laws_calls.proofs.BeginningsAt.{heard_same}
 use Rattle.dsql_laws_calls.proofs.Begun.{over_begun}
 use Rattle.dsql_laws_calls.proofs.Born.{heard_open}
 use Rattle.dsql_laws_calls.proofs.Enders.{same_ender}
+use Rattle.dsql_laws_calls.proofs.LiveRows.{over_some}
 use Rattle.dsql_laws_calls.proofs.Makers.{rows_hand_out}
 use Rattle.dsql_laws_calls.proofs.Owners.{at_home}
 use Rattle.dsql_laws_calls.proofs.UnderWay.{ending_over, left_of}
@@ -57,7 +58,6 @@ use Rattle.dsql_laws_calls.proofs.Wanted.{lent_wants_none}
 use Rattle.dsql_laws_calls.proofs.Why.{tx_used}
 use Rattle.dsql_laws_others.proofs.Alike.{Concerns, Alike, due_alike, none_sent, first_alike, closing_alike, ends_alike, same_tx_ender}
 use Rattle.dsql_laws_others.proofs.Homes.{HomeStays, no_line, no_ending, line_by_home}
-use Rattle.dsql_laws_others.proofs.LentBeside.{over_some}
 use Rattle.dsql_laws_others.proofs.LentOthers.{none_made, no_wish, same_user}
 use Rattle.dsql_laws_others.proofs.LentStands.{found_same}
 use Rattle.dsql_laws_others.proofs.Numbers.{none_zero}

@@ -41,6 +41,7 @@ use Rattle.dsql_laws_calls.specs.history.Legal.{Lawful}
 use Rattle.dsql_laws_calls.proofs.laws.Tried.{lends_to}
 use Rattle.dsql_laws_callers.proofs.Homes.{home_owner}
 use Rattle.dsql_laws_calls.proofs.HandedRows.{rows_begun}
+use Rattle.dsql_laws_calls.proofs.LiveRows.{over_some}
 use Rattle.dsql_laws_calls.proofs.Makers.{hands_out, rows_hand_out}
 use Rattle.dsql_laws_calls.proofs.Own.{asks_own}
 use Rattle.dsql_laws_calls.proofs.Owners.{at_home, lent_asks}
@@ -158,10 +159,6 @@ rows_elsewhere H c t own n j l some uses = by (work H j) refl (rows_hand_out H j
 
 pub other_line : (H : List Event) (c t : ℕ) (own : Owner) (n j : ℕ) (w : Wish) → Lawful (lends H c t own n) → borrower H j ≢ n → line_of (lends H c t own n) j w ≡ line_of H j w
 other_line H c t own n j w l apart = line_by_home H (Lend c t own n) j w (other_home H c t own n (borrower H j) l apart)
-
-pub over_some : (o : Option Rows) → over o ≡ true → is_some o ≡ true
-over_some None h = absurd cc
-over_some (Some r) h = refl
 
 first_same : (H : List Event) (c t : ℕ) (own : Owner) (n k : ℕ) → Lawful (lends H c t own n) → first_closing (lends H c t own n) k 0 (works H) ≡ first_closing H k 0 (works H)
 first_same H c t own n k l =

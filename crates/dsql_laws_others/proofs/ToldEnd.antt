@@ -43,7 +43,8 @@ use Rattle.dsql_laws_calls.specs.history.Rules.Stands.{is_own_step, is_settled_f
 use Rattle.dsql_laws_calls.specs.history.Legal.{Lawful}
 use Rattle.dsql_laws_calls.proofs.laws.Numbered.{unfinished_from_one}
 use Rattle.dsql_laws_calls.proofs.laws.Wanting.{wants_its_own}
-use Rattle.dsql_laws_calls.proofs.Inside.{live_goes, live_one, was_live}
+use Rattle.dsql_laws_calls.proofs.Inside.{live_goes, was_live}
+use Rattle.dsql_laws_calls.proofs.LiveRows.{live_some}
 use Rattle.dsql_laws_others.specs.Told.{where_told}
 use Rattle.dsql_laws_others.specs.Ends.{ends_transaction, end_by, ends_now}
 use Rattle.dsql_laws_others.proofs.EndedTx.{entered_end}
@@ -193,7 +194,7 @@ rows_end H client n op j k l ends h hands = by (are_live (enters H client n op) 
     by false is = refl
     by true is =
         let b = both (goes_on H k) (is_over K k) h in
-        let made = live_one (rows_by H j) (was_live H client n op j is) in
+        let made = live_some (rows_by H j) (was_live H client n op j is) in
         let old : j ≢ n = λ same. no_rows_yet H client n op l (ap (λ i. is_some (rows_by H i)) (sym same) ∙ made) in
         let goes = live_goes K j k l is (ap (hands_out_in k) (kept_work H client n op j (entered_end H client n op l ends) old) ∙ hands) in
         absurd (true_false (is_over K k) b.1 (not_over K k goes))

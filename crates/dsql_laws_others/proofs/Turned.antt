@@ -26,14 +26,6 @@ use Rattle.dsql_laws_calls.proofs.Rows.{ended_live}
 
 -- Rows that are over after the entry are as they were, or were live.
 
-pub over_not_live : (o : Option Rows) → over o ≡ true → live o ≡ false
-over_not_live None h = refl
-over_not_live (Some r) h = by (is_live r) h
-  where
-    by : (b : Bool) → not b ≡ true → b ≡ false
-    by true k = absurd cc
-    by false k = refl
-
 abbrev pub Turns : Option Rows → Option Rows → Type 0
 Turns o p = (p ≡ o) ⊎ ((live o ≡ true) × (over p ≡ true))
 

@@ -23,7 +23,7 @@ use Rattle.dsql_laws_calls.specs.tx.declared.end.TxEnd.{TxEnd}
 use Rattle.dsql_laws_calls.specs.tx.declared.end.TxEnd.TheVariants as tx_ends
 use Rattle.dsql_laws_calls.specs.works.Line.{sent_as, sent_over, handed, Asked}
 use Rattle.dsql_laws_calls.specs.works.declared.work.Aim.TheVariants as aims
-use Rattle.dsql_laws_calls.specs.history.Readers.HandedOut.{over, rows_by, are_over}
+use Rattle.dsql_laws_calls.specs.history.Readers.HandedOut.{rows_by, are_over}
 use Rattle.dsql_laws_calls.proofs.laws.Tests.{both, same_number}
 use Rattle.dsql_laws_calls.specs.history.declared.event.Event.{Event}
 use Rattle.dsql_laws_calls.specs.history.declared.work.Scope.TheVariants.{Tx}
@@ -45,13 +45,13 @@ use Rattle.dsql_laws_calls.proofs.Beginnings.{begin_owner}
 use Rattle.dsql_laws_calls.proofs.Inside.{inside_uses}
 use Rattle.dsql_laws_calls.proofs.Lines.{line_here}
 use Rattle.dsql_laws_calls.proofs.DueWay as of_due
+use Rattle.dsql_laws_calls.proofs.LiveRows.{over_some}
 use Rattle.dsql_laws_calls.proofs.Own.{due_now, due_of}
 use Rattle.dsql_laws_calls.proofs.UnderWay.{line_made, scoped}
 use Rattle.dsql_laws_replies.proofs.InnerHeard.{closing_tidy}
 use Rattle.dsql_laws_replies.proofs.InnerOver.{is_tidy}
 use Rattle.dsql_laws_calls.specs.driver.declared.caps.Caps.{Caps}
 use Rattle.dsql_laws_calls.specs.driver.Fits.{fits_of, is_memory}
-use Rattle.dsql_laws_calls.specs.rows.declared.rows.Rows.{Rows}
 use Rattle.dsql_laws_calls.specs.history.declared.reply.Reply.{Reply}
 use Rattle.dsql_laws_calls.specs.history.declared.reply.Reply.TheVariants.{Cells}
 use Rattle.dsql_laws_calls.specs.history.Readers.Decisions.{decision, closing_decision}
@@ -68,10 +68,6 @@ sent_kind can asked (due.CloseRows r) p t h = ap end_kind (same_some p (CloseRow
 sent_kind can asked (due.CloseStmt r) p t h = ap end_kind (same_some p (CloseStmt r) (sym h))
 sent_kind can asked due.Over p t h = absurd cc
 sent_kind can asked c p t h = absurd cc
-
-over_some : (o : Option Rows) → over o ≡ true → is_some o ≡ true
-over_some None h = absurd cc
-over_some (Some r) h = refl
 
 handing : (w : Work) (k : ℕ) → hands_out_in k w ≡ true → aim_of w ≡ aims.HandOut
 handing (HandOut s label) k h = refl
