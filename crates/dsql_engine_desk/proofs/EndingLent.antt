@@ -1,7 +1,6 @@
 -- What is still to be sent to end a transaction to which a connection is lent.
-use Rattle.std.proofs.Common.{◌≡◌, ◌==◌, ℕ, Bool, true, false, cond, List, Option, Some, None, refl, sym, ap, ◌∙◌}
+use Rattle.std.proofs.Common.{◌≡◌, ◌==◌, ℕ, true, cond, List, Option, Some, None, sym, ap, ◌∙◌}
 use Rattle.dsql_laws_calls.specs.course.Made.{or_else}
-use Rattle.dsql_laws_calls.specs.driver.declared.call.DriverCall.{DriverCall}
 use Rattle.dsql_laws_calls.specs.journal.Kinds.{number_of}
 use Rattle.dsql_laws_calls.specs.journal.Readers.{went_bad}
 use Rattle.dsql_laws_calls.proofs.laws.Tests.{same_itself}
@@ -12,36 +11,14 @@ use Rattle.dsql_laws_calls.specs.tx.declared.end.TxEnd.{TxEnd}
 use Rattle.dsql_engine_exchanged.specs.Ending.{ending_in}
 use Rattle.dsql_laws_calls.specs.history.declared.event.Event.{Event}
 use Rattle.dsql_laws_calls.specs.history.Readers.Journals.{heard_in, journal}
-use Rattle.dsql_laws_calls.specs.history.Readers.Pool.{home, place}
+use Rattle.dsql_laws_calls.specs.history.Readers.Pool.{place}
 use Rattle.dsql_laws_calls.specs.history.Readers.Transactions.{tx_end}
 use Rattle.dsql_laws_calls.specs.history.Readers.Works.{works}
 use Rattle.dsql_laws_calls.specs.history.Rules.Ending.{end_after, ending, ending_at, ending_with, first_closing}
 use Rattle.dsql_laws_calls.specs.history.Legal.{Lawful}
-use Rattle.dsql_engine_desk.specs.Next.{lent_at, lent_under, there_at}
+use Rattle.dsql_engine_desk.specs.Next.{lent_under, there_at}
 use Rattle.dsql_engine_desk.proofs.LentTo.{lent_to}
 use Rattle.dsql_engine_lines.proofs.OfConnections.{kept_bad, kept_ending}
-
-pub not_ended : (H : List Event) (k : ℕ) → tx_end H k ≡ None → ending H k ≡ None
-not_ended H k none = ap (ending_with H k) none
-
-none_at : (H : List Event) (k c : ℕ) (end : TxEnd) (p : Option Place) → lent_at k c p ≡ None → ending_at H k c end p ≡ None
-none_at H k c end None h = refl
-none_at H k c end (Some Idle) h = refl
-none_at H k c end (Some (Opening wanted)) h = refl
-none_at H k c end (Some Closing) h = refl
-none_at H k c end (Some (Lent t own)) h =
-    by (number_of own == k) (or_else (first_closing H k 0 (works H)) (end_after H (went_bad (journal H c)) end (heard_in H c t))) h
-  where
-    by : (b : Bool) (d : Option DriverCall) → cond b (Some c) None ≡ None → cond b d None ≡ None
-    by true d h = absurd cc
-    by false d h = refl
-
-pub not_lent : (H : List Event) (k : ℕ) → lent_under H k ≡ None → ending H k ≡ None
-not_lent H k none = by (tx_end H k)
-  where
-    by : (end : Option TxEnd) → ending_with H k end ≡ None
-    by None = refl
-    by (Some end) = none_at H k (home H k) end (place H (home H k)) none
 
 -- Holds if the transaction's rows are closed first on connection c, and what was heard there of its end decides
 -- how it then ends.

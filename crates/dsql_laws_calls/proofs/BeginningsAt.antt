@@ -151,9 +151,6 @@ about_none (calls_of.CloseRows rows) = refl
 about_none (calls_of.CloseStmt handle) = refl
 about_none q = refl
 
-same_lent : (t u : ℕ) (o p : Owner) → Some (Lent t o) ≡ Some (Lent u p) → o ≡ p
-same_lent t u o p h = cc
-
 -- The line of a begin grows only by entries of its own call.
 own_line : (H : List Event) (e : Entry) (n : ℕ) (L : List Entry) → exchanges (line_among n L) ≡ [] → line_among n (e ∷ L) ≡ cond (e.call_no == n) (e ∷ line_among n L) (line_among n L)
 own_line H e n L none = ap (λ b. cond b (e ∷ line_among n L) (line_among n L)) (ap (λ made. (e.call_no == n) || is_about made e.call) none ∙ ap (λ b. (e.call_no == n) || b) (about_none e.call) ∙ or_false (e.call_no == n))

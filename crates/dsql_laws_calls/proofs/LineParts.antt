@@ -17,8 +17,6 @@ use Rattle.dsql_laws.specs.journal.Readers.{of_tenure, went_bad}
 use Rattle.dsql_laws.proofs.journal.Sentences.{MayFollow-of}
 use Rattle.dsql_laws.proofs.journal.PlainJournals.{went_bad-in}
 use Rattle.dsql_laws.specs.rows.OpenRows.{fresh, rows_of}
-use Rattle.dsql_laws.specs.works.declared.work.Aim.{Aim}
-use Rattle.dsql_laws.specs.works.declared.work.Aim.TheVariants as aims
 use Rattle.dsql_laws.specs.works.Exchanges.{step_of, got_of, with_exchange, exchanges}
 use Rattle.dsql_laws.specs.works.HandedOut.{Made}
 use Rattle.dsql_laws.specs.works.Line.{handed}
@@ -123,15 +121,6 @@ known_bad m t J h = by (went_bad J) refl
     by false is = let clash : true ≡ false = sym (line_bad m (of_tenure t J) h) ∙ went_bad-in t J is in absurd cc
 
 -- Rows whose cursor stands in a line were made.
-
-hands_aim : (w : Work) → is_some (handed (aim_of w) []) ≡ true → ⊥
-hands_aim w h = by (aim_of w) h
-  where
-    by : (a : Aim) → is_some (handed a []) ≡ true → ⊥
-    by aims.Execute k = cc
-    by aims.ReadOne k = cc
-    by aims.HandOut k = cc
-    by aims.Ping k = cc
 
 pub hands_of : (w : Work) (made : List Exchange) → is_some (handed (aim_of w) made) ≡ true → hands_out w ≡ true
 hands_of (HandOut s label) made h = refl

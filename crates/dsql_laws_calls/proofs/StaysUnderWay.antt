@@ -9,7 +9,7 @@ use Rattle.dsql_laws.specs.pool.declared.conn.Place.TheVariants.{Lent}
 use Rattle.dsql_laws.specs.works.Exchanges.{exchanges}
 use Rattle.dsql_laws.specs.works.Line.{handed}
 use Rattle.dsql_laws.specs.history.Rules.Wishes.{newest_sender}
-use Rattle.dsql_laws.proofs.Tests.{same_number, other_number}
+use Rattle.dsql_laws.proofs.Tests.{same_number}
 use Rattle.dsql_laws.specs.history.declared.event.Event.{Event}
 use Rattle.dsql_laws.specs.history.declared.work.Scope.TheVariants.{Tx}
 use Rattle.dsql_laws.specs.history.declared.work.Work.{Work}
@@ -83,9 +83,6 @@ coming_work H last e may = by (e.call_no == 0) refl
     by : (b : Bool) → (e.call_no == 0) ≡ b → work (last ∷ H) e.call_no ≡ work H e.call_no
     by true is = let none = same_number e.call_no 0 is in ap (work (last ∷ H)) none ∙ (zero_work (last ∷ H) ∙ sym (ap (work H) none ∙ zero_work H))
     by false is = of_works.work_stays H last e.call_no (sent_no_look H e may is)
-
-numbered : (m : ℕ) → m ≢ 0 → (m == 0) ≡ false
-numbered m some = other_number m 0 some
 
 pub stays_under_way : (H : List Event) (last : Event) (e : Entry) → Lawful (last ∷ H) → parts last e ≡ false → may_come H e ≡ true → UnderWay H e → UnderWay (last ∷ H) e
 stays_under_way H last e l on may u = record {

@@ -1,5 +1,5 @@
 -- A call that wants a connection has a try left.
-use Rattle.std.proofs.Common.{◌≡◌, ◌≢◌, ℕ, ◌+◌, ◌≤◌, ◌==◌, Bool, true, false, not, ◌&&◌, ◌||◌, cond, List, [], ◌∷◌, length, Option, Some, None, refl, sym, ap, subst, ◌∙◌, arith}
+use Rattle.std.proofs.Common.{◌≡◌, ◌≢◌, ℕ, ◌+◌, ◌≤◌, ◌==◌, Bool, true, false, not, ◌&&◌, ◌||◌, cond, List, [], ◌∷◌, Option, Some, None, refl, sym, ap, subst, ◌∙◌, arith}
 use Rattle.std.specs.Prelude.{count_by}
 use Rattle.std.specs.Option.{option_map}
 use Rattle.std.proofs.lemmas.Bool.Decides.{nat_tests}
@@ -179,9 +179,6 @@ joins_with_try H k n may had now =
 -- A try of another call changes nothing.
 pub other_try : (k n : ℕ) (x : Try) (ts : List Try) → (k == n) ≡ false → has_a_try (with_try (k == n) x ts) ≡ has_a_try ts
 other_try k n x ts not = ap (λ b. has_a_try (with_try b x ts)) not
-
-pub other_count : (k n : ℕ) (x : Try) (ts : List Try) → (k == n) ≡ false → length (with_try (k == n) x ts) ≡ length ts
-other_count k n x ts not = ap (λ b. length (with_try b x ts)) not
 
 -- A call with a try left wasn't served, so no answer takes that try from it.
 heard_with_try : (b : Bool) (ts : List Try) → has_a_try ts ≡ true → has_a_try (cond b (lost ts) ts) ≡ true

@@ -1,5 +1,5 @@
 -- A call to which a connection is lent wants no other.
-use Rattle.std.proofs.Common.{◌≡◌, ◌≢◌, ℕ, ◌≤◌, ◌==◌, inl, inr, Bool, true, false, ◌||◌, cond, List, ◌∷◌, length, Option, Some, None, is_some, refl, sym, ap, subst, ◌∙◌, arith}
+use Rattle.std.proofs.Common.{◌≡◌, ◌≢◌, ℕ, ◌≤◌, ◌==◌, inl, inr, Bool, true, false, ◌||◌, cond, List, ◌∷◌, Option, Some, None, is_some, refl, sym, ap, subst, ◌∙◌, arith}
 use Rattle.dsql_laws.specs.journal.declared.entry.Owner.{Owner}
 use Rattle.dsql_laws.specs.pool.declared.conn.Conn.{Conn}
 use Rattle.dsql_laws.specs.pool.declared.conn.Place.{Place}
@@ -11,7 +11,7 @@ use Rattle.dsql_laws.proofs.pool.Frees.{passing}
 use Rattle.dsql_laws.specs.history.declared.event.Control.TheVariants.{Tick, Set}
 use Rattle.dsql_laws.proofs.Counts.{request-more, left_fewer, waits_some, changed_fewer, gone_fewer}
 use Rattle.dsql_laws.proofs.Deserved.{is_home_of, Deserves, deserved}
-use Rattle.dsql_laws.proofs.Tried.{is_lent_out, lent_count, lent_tried}
+use Rattle.dsql_laws.proofs.Tried.{is_lent_out, lent_count}
 use Rattle.dsql_laws.proofs.ByCall.{by_call}
 use Rattle.dsql_laws.proofs.Wanted.{wanted, is_opening_for, shut_wants, begun_wants, same_control, homes_apart, found_counts}
 use Rattle.dsql_laws_calls.proofs.Found.{place_in}
@@ -21,7 +21,6 @@ use Rattle.dsql_laws.specs.history.declared.event.Op.TheVariants.{DbClose}
 use Rattle.dsql_laws.specs.history.Readers.HandedOut.{rows_by}
 use Rattle.dsql_laws.specs.history.Readers.Owed.{owed}
 use Rattle.dsql_laws.specs.history.Readers.Pool.{pool, place, request, wanted_by}
-use Rattle.dsql_laws.specs.history.Readers.Tries.{tries}
 use Rattle.dsql_laws.specs.history.Rules.Asking.{may_ask}
 use Rattle.dsql_laws.specs.history.Legal.{Allowed, Lawful}
 use Rattle.dsql_laws.proofs.Asker.{asker}
@@ -40,10 +39,6 @@ lent_once H c t own is =
     let one = lent_found n t own (conn_of c (pool H).conns) (same_itself n) is in
     let counted = found_counts (is_lent_out n) c (pool H).conns in
     omega (arith, one, counted)
-
--- A call that has a connection was served.
-pub lent_has_tried : (H : List Event) (c t : ℕ) (own : Owner) → Lawful H → place H c ≡ Some (Lent t own) → 1 ≤ length (tries H (number_of own))
-lent_has_tried H c t own l is = let once = lent_once H c t own is in let tried = lent_tried H (number_of own) l in omega (arith, once, tried)
 
 -- A call that has a connection waits for no other.
 pub lent_wants_none : (H : List Event) (c t : ℕ) (own : Owner) → Lawful H → place H c ≡ Some (Lent t own) → wanted (number_of own) (pool H) ≡ 0

@@ -93,10 +93,6 @@ rows_over H n k l hands gone some = by (are_live H n) refl
         clash (sym b.1 ∙ ap (λ x. not x) gone)
     by false lives = dead_over (rows_by H n) some lives
 
-none_due : (o : Option DriverCall) → is_some o ≡ false → o ≡ None
-none_due None h = refl
-none_due (Some q) h = absurd cc
-
 -- If a Commit or a Rollback is due, nothing is open, unless the connection is known to be bad.
 
 module _ (H : List Event) (e : Entry) (t : ℕ) (own : Owner) (l : Lawful H) (f : Facts H) (kept : Kept H) (d : DueNow H e) (same : d.owner ≡ own) (other : is_call own ≡ false)

@@ -25,7 +25,7 @@ use Rattle.dsql_laws_calls.specs.history.declared.record.Try.{Try}
 use Rattle.dsql_laws_calls.specs.history.Readers.HandedOut.{live, over, handed_out, rows_by, are_over, is_late}
 use Rattle.dsql_laws_calls.specs.history.Readers.Pool.{is_home, or_none, smallest, pool, place, home}
 use Rattle.dsql_laws_calls.specs.history.Readers.Tries.{try_number, has_a_try, asks_again, tries, tries_again}
-use Rattle.dsql_laws_calls.proofs.laws.Tests.{both, together, other_number, same_itself}
+use Rattle.dsql_laws_calls.proofs.laws.Tests.{together, other_number, same_itself}
 use Rattle.dsql_laws_calls.proofs.Lists.{within_rows}
 use Rattle.dsql_laws_others.proofs.Untouched.{all_so, apart_of, still_standing, has_still}
 use Rattle.dsql_laws_calls.specs.history.declared.event.Event.{Event}
@@ -227,14 +227,6 @@ pub rests_entered : (H : List Event) (client n : ℕ) (op : Op) (j : ℕ) → La
 rests_entered H client n op j l apart =
     ap (λ b. b && asks_nothing (caps H) (work (Entered client n op ∷ H) j) (tries H j)) (old_unfinished H client n op j apart)
     ∙ ap (λ it. is_unfinished H j && asks_nothing (caps H) it (tries H j)) (old_work H client n op j (enters_next H client n op l.1) apart)
-
--- A call that enters doesn't rest yet.
-pub rests_earlier : (H : List Event) (client n : ℕ) (op : Op) (j : ℕ) → Lawful (Entered client n op ∷ H) → rests H j ≡ true → j ≢ n
-rests_earlier H client n op j l was same =
-    let new = enters_next H client n op l.1 in
-    let b = both (is_unfinished H j) (asks_nothing (caps H) (work H j) (tries H j)) was in
-    let clash : false ≡ true = sym (ap (λ it. asks_nothing (caps H) it (tries H j)) (no_work_yet H j (omega (arith, new, same)))) ∙ b.1 in
-    cc
 
 -- Lent connections are in use as before if the entry leaves the connections and the use of each.
 pub lent_as_entered : (H : List Event) (client n : ℕ) (op : Op) → Lawful (Entered client n op ∷ H) → (pool (Entered client n op ∷ H)).conns ≡ (pool H).conns

@@ -60,10 +60,6 @@ same_tx H client n op m k o uses = elim (tx_turn H client n op k) [
   | inr w ↦ absurd (o.away k (together (goes_on H k) (is_over (enters H client n op) k) w.0 w.1) uses)
 ]
 
-none_anyway : (b : Bool) (d : Option DriverCall) → d ≡ None → cond b d None ≡ None
-none_anyway true d h = h
-none_anyway false d h = refl
-
 -- What the other call sends in a transaction, or to end one, stays the same.
 
 inner_same : (H : List Event) (client n : ℕ) (op : Op) (m k : ℕ) → Outside H client n op m → borrower H m ≡ k → due_inside (enters H client n op) m (Tx k) ≡ due_inside H m (Tx k)

@@ -57,9 +57,6 @@ use Rattle.dsql_laws_calls.specs.history.declared.reply.Reply.TheVariants.{Cells
 use Rattle.dsql_laws_calls.specs.history.Readers.Decisions.{decision, closing_decision}
 use Rattle.dsql_laws_replies.proofs.EndKinds.{held_in, end_kind, tidy_kind}
 
-never : (b : Bool) → b ≡ true → b ≡ false → ⊥
-never b x y = cc
-
 same_some : (p q : DriverCall) → Some p ≡ Some q → p ≡ q
 same_some p q h = cc
 

@@ -1,5 +1,5 @@
 -- A call in a transaction has sent nothing yet, awaits an answer, or has settled its reply.
-use Rattle.std.proofs.Common.{◌≡◌, ℕ, ◌⊎◌, inl, inr, Bool, true, false, List, ◌∷◌, length, Some, None, is_some, refl, ap, subst, ◌∙◌}
+use Rattle.std.proofs.Common.{◌≡◌, ℕ, ◌⊎◌, inl, inr, true, false, List, ◌∷◌, length, Some, None, is_some, refl, ap, subst, ◌∙◌}
 use Rattle.dsql_laws_calls.specs.driver.declared.caps.Caps.{Caps}
 use Rattle.dsql_laws_calls.specs.course.Made.{Exchange, own_cursor}
 use Rattle.dsql_laws_calls.specs.course.declared.course.Wish.TheVariants as wishes
@@ -40,9 +40,6 @@ use Rattle.dsql_laws_calls.proofs.Why.{ended_there, tx_used}
 use Rattle.dsql_laws_replies.proofs.InnerAwaits.{Fresh, Awaiting, inner_sends}
 use Rattle.dsql_laws_replies.proofs.InnerOver.{Over}
 use Rattle.dsql_laws_replies.proofs.Records.{record_stays}
-
-never : (b : Bool) → b ≡ true → b ≡ false → ⊥
-never b x y = cc
 
 -- Holds if nothing was heard for call n.
 abbrev pub Unsent : List Event → ℕ → Type 0

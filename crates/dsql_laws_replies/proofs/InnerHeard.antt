@@ -1,5 +1,5 @@
 -- What an answer makes of a call in a transaction.
-use Rattle.std.proofs.Common.{◌≡◌, ℕ, ℤ, ◌⊎◌, inl, inr, Bool, true, false, not, ◌&&◌, ◌||◌, cond, List, [], ◌∷◌, length, Option, Some, None, is_some, refl, sym, ap, ◌∙◌, if◌then◌else◌}
+use Rattle.std.proofs.Common.{◌≡◌, ℕ, ℤ, ◌⊎◌, inl, inr, Bool, true, false, not, ◌&&◌, ◌||◌, List, [], ◌∷◌, length, Option, Some, None, is_some, refl, sym, ap, ◌∙◌, if◌then◌else◌}
 use Rattle.std.specs.List.{list_all}
 use Rattle.std.specs.Option.{option_map}
 use Rattle.dsql_laws_calls.specs.value.declared.value.Param.{Param}
@@ -54,10 +54,6 @@ of_text _ = false
 both_of : (a b : Bool) → (a && b) ≡ true → (a ≡ true) × (b ≡ true)
 both_of true b h = (refl, h)
 both_of false b h = absurd cc
-
-stopped : (b : Bool) (d e : Due) → cond (b && false) (Some d) None ≡ Some e → ⊥
-stopped true d e h = cc
-stopped false d e h = cc
 
 close_rows : (b : Bool) (o : Option ℕ) (e : Due) → (if b then option_map (λ rows. due.CloseRows rows) o else None) ≡ Some e → is_tidy aims.HandOut e ≡ true
 close_rows true (Some r) e h = let x : e ≡ due.CloseRows r = cc in rw x refl
