@@ -2,6 +2,7 @@
 use Rattle.std.proofs.Common.{◌≡◌, ◌<◌, ◌≤◌, ◌+◌, List, [], ◌∷◌, length, length-set, length-append, sym, ap, ◌∙◌, arith}
 use Rattle.std.proofs.lemmas.List.{length-map}
 use Rattle.dsql_laws_calls.specs.history.declared.event.Event.{Event}
+use Rattle.dsql_laws_calls.proofs.Stays.{as_many}
 use Rattle.dsql_laws_calls.specs.history.declared.event.Event.TheVariants.{Entered, Heard, Replied}
 use Rattle.dsql_laws_calls.specs.history.Readers.Calls.{calls, entering}
 use Rattle.dsql_laws_calls.specs.history.Readers.HandedOut.{handed_out}
@@ -12,7 +13,6 @@ use Rattle.dsql_engine_calls.specs.declared.call.CallRow.{CallRow}
 use Rattle.dsql_engine_effects.specs.Once.{AreMadeOnce}
 use Rattle.dsql_engine_desk.specs.declared.desk.Desk.{Desk}
 use Rattle.dsql_engine_desk.specs.Desk.{past, Stands}
-use Rattle.dsql_laws_calls.proofs.Works.{as_many}
 
 few_calls : (H : List Event) → length (calls H) ≤ length H + 1
 few_calls [] = omega arith

@@ -10,7 +10,8 @@ use Rattle.dsql_laws_calls.specs.history.Readers.Transactions.{is_begun}
 use Rattle.dsql_laws_calls.specs.history.Legal.{Allowed, Lawful}
 use Rattle.dsql_laws_calls.proofs.Begun.{begun_begins}
 use Rattle.dsql_laws_calls.proofs.Plain.{begins}
-use Rattle.dsql_laws_calls.proofs.Works.{as_many, old_unfinished, still_unfinished}
+use Rattle.dsql_laws_calls.proofs.Stays.{as_many}
+use Rattle.dsql_laws_calls.proofs.Works.{old_unfinished, still_unfinished}
 use Rattle.dsql_laws_calls.proofs.Works as entering
 use Rattle.dsql_engine_effects.proofs.AsEntered.{known}
 use Rattle.dsql_engine_effects.proofs.FirstEnds.{by_number}

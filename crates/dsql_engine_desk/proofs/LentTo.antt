@@ -1,13 +1,11 @@
 -- The owner to which the connection is lent on which a call sends.
 use Rattle.std.proofs.Common.{◌≡◌, ◌≢◌, ◌==◌, ℕ, zero, suc, Bool, true, false, cond, List, [], ◌∷◌, Option, Some, None, refl, sym, ap, ◌∙◌}
-use Rattle.std.specs.Prelude.{length, position, slice_index_or}
-use Rattle.std.proofs.lemmas.List.Quantifiers.{position-Some}
+use Rattle.std.specs.Prelude.{length, slice_index_or}
 use Rattle.dsql_laws_calls.specs.journal.declared.entry.Owner.{Owner}
 use Rattle.dsql_laws_calls.specs.journal.declared.entry.Owner.TheVariants as owners
 use Rattle.dsql_laws_calls.specs.journal.Kinds.{number_of}
 use Rattle.dsql_laws_calls.specs.pool.declared.conn.Place.{Place}
 use Rattle.dsql_laws_calls.specs.pool.declared.conn.Place.TheVariants.{Idle, Lent, Opening, Closing}
-use Rattle.dsql_laws_calls.specs.works.Works.{or_zero}
 use Rattle.dsql_laws_calls.proofs.laws.Tests.{same_itself, same_number}
 use Rattle.dsql_laws_calls.specs.history.declared.event.Event.{Event}
 use Rattle.dsql_laws_calls.specs.history.declared.event.Event.TheVariants.{Entered}
@@ -19,7 +17,7 @@ use Rattle.dsql_laws_calls.specs.history.declared.work.Work.{Work}
 use Rattle.dsql_laws_calls.specs.history.declared.work.Work.TheVariants.{Begin, Look}
 use Rattle.dsql_laws_calls.specs.history.Readers.Calls.{calls}
 use Rattle.dsql_laws_calls.specs.history.Readers.Pool.{home, place}
-use Rattle.dsql_laws_calls.specs.history.Readers.Works.{begins_as, owner_as, owner_of, scope, tx_maker, work, work_of, works}
+use Rattle.dsql_laws_calls.specs.history.Readers.Works.{owner_as, owner_of, scope, tx_maker, work, work_of, works}
 use Rattle.dsql_laws_calls.specs.history.Legal.{Lawful}
 use Rattle.dsql_laws_calls.proofs.Beginnings.{begins_busy}
 use Rattle.dsql_laws_calls.proofs.Owners.{lent_number, owner_is_of}
@@ -27,6 +25,7 @@ use Rattle.dsql_laws_calls.proofs.Plain.{begins}
 use Rattle.dsql_laws_calls.proofs.Stays.{work_stays}
 use Rattle.dsql_laws_calls.proofs.Works.{enters_next, new_work, old_work}
 use Rattle.dsql_engine_desk.specs.Next.{lent_at, lent_under}
+use Rattle.dsql_engine_lines.proofs.Enders.{maker_begins}
 
 -- Holds if connection c is lent to call n or its transaction.
 pub record LentTo (H : List Event) (n c : ℕ) : Type 0 where
@@ -52,21 +51,6 @@ lent_to H n c h = lent_in H n c (place H (home H n)) refl h
 
 begins_still : (H : List Event) (e : Event) (k : ℕ) → begins (work H k) ≡ true → begins (work (e ∷ H) k) ≡ true
 begins_still H e k h = ap begins (work_stays H e k (begins_busy (work H k) h)) ∙ h
-
-begun_as : (w : Work) (label : List ℕ) → begins_as label w ≡ true → begins w ≡ true
-begun_as (Begin own level read_only) label h = refl
-begun_as w label h = absurd cc
-
--- The call that has a transaction's label begins that transaction.
-maker_begins : (ws : List Work) (label : List ℕ) (k : ℕ) → tx_maker ws label ≡ k → k ≢ 0 → begins (slice_index_or ws k Look) ≡ true
-maker_begins ws label k is some = by (position (begins_as label) ws) refl
-  where
-    by : (o : Option ℕ) → position (begins_as label) ws ≡ o → begins (slice_index_or ws k Look) ≡ true
-    by None at = absurd (some (sym is ∙ ap or_zero at))
-    by (Some j) at =
-        let same : j ≡ k = sym (ap or_zero at) ∙ is in
-        let found = position-Some (begins_as label) ws j Look at in
-        ap (λ i. begins (slice_index_or ws i Look)) (sym same) ∙ begun_as (slice_index_or ws j Look) label found.1
 
 named_begins : (ws : List Work) (op : Op) (k : ℕ) → scope (work_of ws op) ≡ Tx k → k ≢ 0 → begins (slice_index_or ws k Look) ≡ true
 named_begins ws (ops.Exec (targets.Label tx) text args) k is some = let at : tx_maker ws tx ≡ k = cc in maker_begins ws tx k at some

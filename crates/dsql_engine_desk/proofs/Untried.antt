@@ -14,8 +14,8 @@ use Rattle.dsql_laws_calls.proofs.laws.Numbered.{some_calls}
 use Rattle.dsql_laws_calls.proofs.laws.Tried.{lost_count}
 use Rattle.dsql_laws_calls.proofs.laws.Wanting.{wanting_works}
 use Rattle.dsql_laws_calls.proofs.Idle.{lends_asker}
+use Rattle.dsql_laws_calls.proofs.Stays.{as_many}
 use Rattle.dsql_laws_calls.proofs.Untried.{fallen_wanted}
-use Rattle.dsql_laws_calls.proofs.Works.{as_many}
 use Rattle.dsql_engine_effects.proofs.AsEntered.{known}
 
 one_try : (H : List Event) (k n : ℕ) (it : Try) → (k ≡ n → n < length (works H)) → (1 ≤ length (tries H n) → n < length (works H)) → 1 ≤ length (with_try (k == n) it (tries H n)) → n < length (works H)

@@ -36,7 +36,7 @@ use Rattle.dsql_laws_calls.specs.history.Rules.Stands.{stand}
 use Rattle.dsql_laws_calls.specs.history.Legal.{Lawful}
 use Rattle.dsql_laws_calls.specs.laws.Asked.{with_asked}
 use Rattle.dsql_laws_calls.proofs.laws.Tried.{lent_count}
-use Rattle.dsql_laws_calls.proofs.Own.{asks_own}
+use Rattle.dsql_laws_calls.proofs.Own.{asks_own, due_line}
 use Rattle.dsql_laws_calls.proofs.laws.Asker.{Asker, asker}
 use Rattle.dsql_laws_calls.proofs.laws.Holdings.{nothing_held}
 use Rattle.dsql_laws_calls.proofs.laws.Owners.{owner_number}
@@ -48,7 +48,6 @@ use Rattle.dsql_laws_calls.proofs.laws.Wanting.{sends_where_lent}
 use Rattle.dsql_laws_others.proofs.Untouched.{all_so, apart_of}
 use Rattle.dsql_laws_others.proofs.LentStands.{stand_other}
 use Rattle.dsql_laws_others.proofs.Asked.{asks_an_open_one, closed_only, no_memory, asked_goes_on, asked_used}
-use Rattle.dsql_laws_replies.proofs.Served.{own_line}
 use Rattle.dsql_engine_going.proofs.Replying.{settled_owes}
 use Rattle.dsql_engine_going.proofs.Standing.{number_in, opens_somewhere}
 
@@ -64,7 +63,7 @@ asking_silent H n l may = by (is_some (due_for H n)) refl
     a = asker H n may
 
     mine : due_for H n ≡ line_of H n wishes.Nothing
-    mine = ap (λ (b : Bool). cond b (due_in H n (work H n)) None) a.unfinished ∙ own_line H n (work H n) a.own
+    mine = ap (λ (b : Bool). cond b (due_in H n (work H n)) None) a.unfinished ∙ due_line H n (work H n) a.own
 
     by : (b : Bool) → is_some (due_for H n) ≡ b → is_some (due_for H n) ≡ false
     by false is = is

@@ -10,6 +10,7 @@ use Rattle.dsql_laws_calls.specs.pool.declared.conn.Place.TheVariants.{Lent}
 use Rattle.dsql_laws_calls.specs.tx.declared.end.TxEnd.{TxEnd}
 use Rattle.dsql_laws_calls.specs.works.Line.{Asked}
 use Rattle.dsql_laws_calls.proofs.laws.Tests.{other_number}
+use Rattle.dsql_laws_calls.proofs.DueWay.{borrow_same}
 use Rattle.dsql_laws_calls.specs.history.declared.event.Event.{Event}
 use Rattle.dsql_laws_calls.specs.history.declared.work.Scope.{Scope}
 use Rattle.dsql_laws_calls.specs.history.declared.work.Scope.TheVariants.{Db, Tx}
@@ -26,7 +27,6 @@ use Rattle.dsql_laws_calls.specs.history.Rules.Sent.{asked_by, line_at, line_of,
 use Rattle.dsql_laws_calls.specs.history.Legal.{Lawful}
 use Rattle.dsql_laws_calls.proofs.laws.Numbered.{unfinished_from_one}
 use Rattle.dsql_laws_calls.proofs.Makers.{rows_hand_out, sent_made}
-use Rattle.dsql_laws_others.proofs.LentOthers.{same_user}
 use Rattle.dsql_engine_exchanged.specs.declared.bare.BareCall.{BareCall}
 use Rattle.dsql_engine_exchanged.specs.Filled.{filled}
 use Rattle.dsql_engine_going.specs.Permits.{permit_for, sent_at}
@@ -51,7 +51,7 @@ sent_home H k wishes.Close h = line_home H k wishes.Close h
 -- What is sent over rows is sent where their query's driver calls are.
 over_home : (H : List Event) (m k : ℕ) → (m == 0) ≡ false → (work H m ≡ Fetch k) ⊎ (work H m ≡ Close k) → is_some (sent_for H k (wish H m k)) ≡ true → is_lent_out (place H (site H m)) ≡ true
 over_home H m k some which h =
-    let same : borrower H m ≡ borrower H k = same_user H m k which (rows_hand_out H k (sent_made H m k some h)) in
+    let same : borrower H m ≡ borrower H k = borrow_same H m k which (rows_hand_out H k (sent_made H m k some h)) in
     ap (λ n. is_lent_out (place H (home H n))) same ∙ sent_home H k (wish H m k) h
 
 ending_home : (H : List Event) (k : ℕ) → is_some (ending H k) ≡ true → is_lent_out (place H (home H k)) ≡ true

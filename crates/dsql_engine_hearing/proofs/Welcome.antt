@@ -44,7 +44,6 @@ use Rattle.dsql_engine_going.specs.history.Rules.Moves.{hears_in, is_house_entry
 use Rattle.dsql_engine_going.specs.history.Rules.Order.{follows}
 use Rattle.dsql_engine_going.specs.history.Rules.Settled.{Settled, goes_on_but, is_settled_but, owes_nothing, uses_what_is_lent}
 use Rattle.dsql_engine_going.specs.history.Legal.{Allowed, Lawful}
-use Rattle.dsql_engine_going.proofs.laws_callers.Heard.{owner_is}
 use Rattle.dsql_laws_tenures.specs.Tenures.{made_by}
 use Rattle.dsql_engine_going.specs.laws_calls.UnderWay.{StaysWithItsCall}
 use Rattle.dsql_engine_going.proofs.laws_calls.Beginnings.{asking}
@@ -53,6 +52,7 @@ use Rattle.dsql_engine_going.proofs.laws_calls.Coming.{sound, stays_with_its_cal
 use Rattle.dsql_engine_going.proofs.laws_calls.Ends.{zero_work}
 use Rattle.dsql_engine_going.proofs.laws_calls.FirstAnswers.{follows_connect}
 use Rattle.dsql_engine_going.proofs.laws_calls.Own.{asks_own}
+use Rattle.dsql_engine_going.proofs.laws_calls.Owners.{same_owner_is}
 use Rattle.dsql_engine_going.proofs.laws_calls.Plain.{begins}
 use Rattle.dsql_engine_going.proofs.laws_calls.RowsKept.{rows_fetched}
 use Rattle.dsql_engine_going.proofs.laws_calls.RowsNew.{rows_new}
@@ -127,7 +127,7 @@ owner_there H e it sets =
     let hears : hears_in (pool H) (Some (Lent e.tenure it.owner)) e ≡ true = subst (λ at. hears_in (pool H) at e ≡ true) it.lent sets in
     let a = both (not (is_connect e.call || is_shut e.call)) ((e.tenure == e.tenure) && same_owner e.owner it.owner) hears in
     let b = both (e.tenure == e.tenure) (same_owner e.owner it.owner) a.1 in
-    owner_is e.owner it.owner b.1
+    same_owner_is e.owner it.owner b.1
 
 -- The entry may follow in the journal.
 

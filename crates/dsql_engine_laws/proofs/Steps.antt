@@ -16,11 +16,11 @@ use Rattle.dsql_engine_hearing.specs.history.Readers.Unfinished.{is_unfinished}
 use Rattle.dsql_engine_hearing.specs.history.Rules.Flights.{is_in_flight, permitted, without_flight}
 use Rattle.dsql_engine_hearing.specs.history.Rules.Stands.{stand}
 use Rattle.dsql_engine_hearing.specs.history.Legal.{Lawful}
-use Rattle.dsql_engine_hearing.proofs.laws_calls.Works.{as_many}
 use Rattle.dsql_engine_hearing.proofs.desk.Known.{unfinished_known}
 use Rattle.dsql_engine_hearing.specs.going.Reaching.{HasGoneOn}
 use Rattle.dsql_engine_hearing.specs.going.declared.next.Next.{Next}
 use Rattle.dsql_engine_hearing.proofs.Steps.{landed_apart}
+use Rattle.dsql_engine_hearing.proofs.laws_calls.Stays.{as_many}
 use Rattle.dsql_engine_hearing.specs.laws_steps.Groups.{after_end, after_enter, after_heard, after_control, gone_on, with_owed}
 use Rattle.dsql_engine_laws.specs.Turns.{Flying, flies}
 use Rattle.dsql_engine_laws.proofs.Begins.{more_flying, taking_off}

@@ -7,6 +7,7 @@ use Rattle.dsql_laws_calls.specs.pool.declared.conn.Place.TheVariants.{Lent}
 use Rattle.dsql_laws_calls.specs.pool.Places.{conn_of}
 use Rattle.dsql_laws_calls.proofs.laws.Tests.{other_number, same_itself}
 use Rattle.dsql_laws_calls.proofs.Lists.{read_set, row_new, row_off, row_old}
+use Rattle.dsql_laws_calls.proofs.Stays.{as_many}
 use Rattle.dsql_laws_calls.proofs.laws_work.Rows.{same_or_not}
 use Rattle.dsql_laws_calls.specs.history.declared.event.Event.{Event}
 use Rattle.dsql_laws_calls.specs.history.declared.event.Event.TheVariants.{Run, Entered, Heard, Pool, Waits, Ticked, SetLimit, Replied, Ended}
@@ -19,7 +20,7 @@ use Rattle.dsql_laws_calls.specs.history.Readers.Works.{work_of, works}
 use Rattle.dsql_laws_calls.specs.history.Legal.{Allowed, Lawful}
 use Rattle.dsql_laws_callers.proofs.Tenures.{found_place, open_opened}
 use Rattle.dsql_laws_calls.proofs.UnderWay.{UnderWay}
-use Rattle.dsql_laws_calls.proofs.Works.{as_many, enters_next}
+use Rattle.dsql_laws_calls.proofs.Works.{enters_next}
 use Rattle.dsql_engine_lines.specs.Inside.{works_inside}
 use Rattle.dsql_engine_lines.specs.Sent.{sent, sent_on}
 use Rattle.dsql_engine_lines.proofs.OneConnection.{one_connection, sent_old, sent_other, under_way}

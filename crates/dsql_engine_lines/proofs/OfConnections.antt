@@ -30,12 +30,11 @@ use Rattle.dsql_laws_calls.specs.history.Readers.Pool.{pool, place}
 use Rattle.dsql_laws_calls.specs.history.Rules.Moves.{hears_in}
 use Rattle.dsql_laws_calls.specs.history.Legal.{Allowed, Lawful}
 use Rattle.dsql_laws_calls.proofs.laws.AtRest.{keeps_of}
-use Rattle.dsql_laws_callers.proofs.Heard.{owner_is}
 use Rattle.dsql_laws_calls.proofs.Beginnings.{Beginnings}
 use Rattle.dsql_laws_calls.proofs.BeginningsAt.{beginnings, heard_more, heard_other}
 use Rattle.dsql_laws_calls.proofs.Lent.{Lends, lent_before, move_facts}
 use Rattle.dsql_laws_calls.proofs.Looks.{heard_there}
-use Rattle.dsql_laws_calls.proofs.Owners.{owner_is_of}
+use Rattle.dsql_laws_calls.proofs.Owners.{owner_is_of, same_owner_is}
 use Rattle.dsql_laws_calls.proofs.Plain.{begins}
 use Rattle.dsql_laws_calls.proofs.Spared.{opened_when, was_heard, was_opened}
 use Rattle.dsql_laws_calls.proofs.Tenures.{fresh_lending}
@@ -91,7 +90,7 @@ heard_owner H e t own a is =
     let hears : hears_in (pool H) (Some (Lent t own)) e ≡ true = subst (λ at. hears_in (pool H) at e ≡ true) is there.sets in
     let x = both (not (is_connect e.call || is_shut e.call)) ((e.tenure == t) && same_owner e.owner own) hears in
     let y = both (e.tenure == t) (same_owner e.owner own) x.1 in
-    owner_is e.owner own y.1
+    same_owner_is e.owner own y.1
 
 are_of : ℕ → List Entry → Bool
 are_of n L = list_all (λ e. number_of e.owner == n) L

@@ -31,10 +31,10 @@ use Rattle.dsql_laws_calls.proofs.Lent.{lent_before}
 use Rattle.dsql_laws_calls.proofs.Looks.{comes, heard_there}
 use Rattle.dsql_laws_calls.proofs.Makers.{hands_out, rows_begin_nothing, rows_hand_out}
 use Rattle.dsql_laws_calls.proofs.Owners.{at_home, lent_asks, lent_number}
+use Rattle.dsql_laws_calls.proofs.Stays.{as_many}
 use Rattle.dsql_laws_calls.proofs.TxEnders.{sent_entered}
 use Rattle.dsql_laws_calls.proofs.UnderWay.{UnderWay}
 use Rattle.dsql_laws_calls.proofs.Why.{Why}
-use Rattle.dsql_laws_calls.proofs.Works.{as_many}
 use Rattle.dsql_engine_lines.specs.Inside.{is_inside, work_inside, works_inside}
 use Rattle.dsql_engine_lines.proofs.Enders.{ender_begins}
 use Rattle.dsql_engine_lines.proofs.Stays.{inside_stays}

@@ -2,7 +2,7 @@
 use Rattle.std.proofs.Common.{◌≡◌, ◌≢◌, ℕ, ◌<◌, ◌+◌, ◌⊎◌, inl, inr, true, false, List, ◌∷◌, ◌++◌, [], length, refl, sym, ap, ◌∙◌, arith}
 use Rattle.std.proofs.lemmas.List.{length-append}
 use Rattle.dsql_laws_calls.proofs.laws_work.Rows.{same_or_not}
-use Rattle.dsql_laws_calls.proofs.Stays.{has_entered}
+use Rattle.dsql_laws_calls.proofs.Stays.{as_many, has_entered}
 use Rattle.dsql_laws_calls.specs.history.declared.event.Event.{Event}
 use Rattle.dsql_laws_calls.specs.history.declared.event.Event.TheVariants.{Entered}
 use Rattle.dsql_laws_calls.specs.history.declared.event.Op.{Op}
@@ -11,7 +11,7 @@ use Rattle.dsql_laws_calls.specs.history.declared.work.Work.TheVariants.{Execute
 use Rattle.dsql_laws_calls.specs.history.Readers.Works.{scope, work, work_of, works}
 use Rattle.dsql_laws_calls.specs.history.Legal.{Allowed}
 use Rattle.dsql_laws_callers.proofs.Works.{RefersWithin, refers_within, work_stays}
-use Rattle.dsql_laws_calls.proofs.Works.{as_many, enters_next}
+use Rattle.dsql_laws_calls.proofs.Works.{enters_next}
 use Rattle.dsql_engine_lines.specs.Inside.{is_inside, work_inside, works_inside}
 
 inside_busy : (H : List Event) (n : ℕ) → works_inside H n ≡ true → work H n ≡ Look → ⊥

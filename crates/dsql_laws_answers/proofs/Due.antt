@@ -5,7 +5,6 @@ use Rattle.dsql_laws_calls.specs.course.declared.course.Wish.{Wish}
 use Rattle.dsql_laws_calls.specs.course.declared.course.Wish.TheVariants as wishes
 use Rattle.dsql_laws_calls.specs.journal.declared.entry.Owner.{Owner}
 use Rattle.dsql_laws_calls.specs.journal.Kinds.{number_of}
-use Rattle.dsql_laws_calls.specs.journal.Readers.{went_bad}
 use Rattle.dsql_laws_calls.specs.pool.declared.conn.Place.{Place}
 use Rattle.dsql_laws_calls.specs.pool.declared.conn.Place.TheVariants.{Idle, Lent, Opening, Closing}
 use Rattle.dsql_laws_calls.specs.pool.declared.moves.Move.{Move}
@@ -24,15 +23,15 @@ use Rattle.dsql_laws_calls.specs.history.declared.work.Work.TheVariants.{Execute
 use Rattle.dsql_laws_calls.specs.history.Readers.Calls.{site, decided, has_begun_to_send}
 use Rattle.dsql_laws_calls.specs.history.Readers.Course.{caps}
 use Rattle.dsql_laws_calls.specs.history.Readers.HandedOut.{is_late, are_live, ender}
-use Rattle.dsql_laws_calls.specs.history.Readers.Journals.{journal, heard_in}
-use Rattle.dsql_laws_calls.specs.history.Readers.Lines.{line_in, has_sent}
+use Rattle.dsql_laws_calls.specs.history.Readers.Journals.{journal}
+use Rattle.dsql_laws_calls.specs.history.Readers.Lines.{has_sent}
 use Rattle.dsql_laws_calls.specs.history.Readers.Pool.{pool, place, home, wanted_by}
 use Rattle.dsql_laws_calls.specs.history.Readers.Transactions.{goes_on, tx_ender}
 use Rattle.dsql_laws_calls.specs.history.Readers.Unfinished.{is_unfinished}
 use Rattle.dsql_laws_calls.specs.history.Readers.Works.{works, work, scope, is_fetch, borrower}
 use Rattle.dsql_laws_calls.specs.history.Rules.Ending.{ending}
 use Rattle.dsql_laws_calls.specs.history.Rules.Line.{due_inside, due_in, due_for, sends_in}
-use Rattle.dsql_laws_calls.specs.history.Rules.Sent.{line_with, line_at, line_of, wish, sent_for, closing}
+use Rattle.dsql_laws_calls.specs.history.Rules.Sent.{line_of, wish, sent_for, closing}
 use Rattle.dsql_laws_calls.specs.history.Legal.{Lawful}
 use Rattle.dsql_laws_calls.specs.Chores.{is_lent_for}
 use Rattle.dsql_laws_calls.proofs.Born.{open_is_old}
@@ -41,11 +40,11 @@ use Rattle.dsql_laws_calls.proofs.Inside.{inside_uses}
 use Rattle.dsql_laws_calls.proofs.Lent.{elsewhere, move_facts}
 use Rattle.dsql_laws_calls.proofs.Makers.{hands_out, rows_hand_out, sent_made}
 use Rattle.dsql_laws_calls.proofs.Owners.{at_home}
-use Rattle.dsql_laws_calls.proofs.Tidying.{ending_lent}
+use Rattle.dsql_laws_calls.proofs.Tidying.{ending_lent, lent_where_due}
 use Rattle.dsql_laws_calls.proofs.UnderWay.{scoped}
 use Rattle.dsql_laws_others.proofs.Alike.{closing_alike, ends_alike, same_tx_ender}
+use Rattle.dsql_laws_others.proofs.Entered.{first_same}
 use Rattle.dsql_laws_others.proofs.Homes.{HomeStays, line_by_home}
-use Rattle.dsql_laws_answers.proofs.Elsewhere.{first_in}
 
 -- The connection that a call uses, lent to the call's borrower.
 pub record DueThere (H : List Event) (m : ℕ) : Type 0 where
@@ -53,17 +52,6 @@ pub record DueThere (H : List Event) (m : ℕ) : Type 0 where
   pub owner : Owner
   pub lent : place H (site H m) ≡ Some (Lent tenure owner)
   pub whose : number_of owner ≡ borrower H m
-
-line_lent : (H : List Event) (n : ℕ) (w : Wish) (c : ℕ) (at : Option Place) → is_some (line_at H n w c at) ≡ true → is_lent_for (borrower H n) at ≡ true
-line_lent H n w c (Some (Lent t o)) h = by (number_of o == borrower H n) h
-  where
-    by : (b : Bool) → is_some (cond b (line_with H n c (went_bad (journal H c)) w (work H n) (scope (work H n)) (line_in o n (heard_in H c t))) None) ≡ true → b ≡ true
-    by true x = refl
-    by false x = absurd cc
-line_lent H n w c (Some Idle) h = absurd cc
-line_lent H n w c (Some (Opening o)) h = absurd cc
-line_lent H n w c (Some Closing) h = absurd cc
-line_lent H n w c None h = absurd cc
 
 lent_there : (H : List Event) (m n : ℕ) → borrower H m ≡ n → is_lent_for n (place H (home H n)) ≡ true → DueThere H m
 lent_there H m n uses h = by (place H (site H m)) refl (ap (λ k. is_lent_for k (place H (home H k))) uses ∙ h)
@@ -77,8 +65,8 @@ lent_there H m n uses h = by (place H (site H m)) refl (ap (λ k. is_lent_for k 
 
 some_wish : (H : List Event) (k : ℕ) (w : Wish) → is_some (sent_for H k w) ≡ true → is_lent_for (borrower H k) (place H (site H k)) ≡ true
 some_wish H k wishes.Nothing h = absurd cc
-some_wish H k wishes.Fetch h = line_lent H k wishes.Fetch (site H k) (place H (site H k)) h
-some_wish H k wishes.Close h = line_lent H k wishes.Close (site H k) (place H (site H k)) h
+some_wish H k wishes.Fetch h = lent_where_due H k wishes.Fetch (site H k) (place H (site H k)) h
+some_wish H k wishes.Close h = lent_where_due H k wishes.Close (site H k) (place H (site H k)) h
 
 -- A call that fetches or closes rows uses the connection of the call that made them.
 pub rows_user : (H : List Event) (m k : ℕ) → work H m ≡ Fetch k → hands_out (work H k) ≡ true → borrower H m ≡ borrower H k
@@ -102,7 +90,7 @@ pub due_there : (H : List Event) (m : ℕ) → m ≢ 0 → is_some (due_for H m)
 due_there H m some h = started (is_unfinished H m) h
   where
     own : is_some (line_of H m wishes.Nothing) ≡ true → DueThere H m
-    own x = lent_there H m (borrower H m) refl (line_lent H m wishes.Nothing (site H m) (place H (site H m)) x)
+    own x = lent_there H m (borrower H m) refl (lent_where_due H m wishes.Nothing (site H m) (place H (site H m)) x)
 
     inner : (s : Scope) → is_some (due_inside H m s) ≡ true → DueThere H m
     inner Db x = own x
@@ -188,7 +176,7 @@ ending_still H move c t own s =
     let home_k = home_stays H move c t own s in
     ends_alike H K k refl home_k.homes home_k.places
     (record {
-      first = first_in H K k 0 (works H) (λ i hands. subst (λ j. closing K j ≡ closing H j) (omega arith) (closing_alike H K i refl (λ over. line_still H move c t own i wishes.Close s (inside_uses H i k (scoped (work H i) k hands)))));
+      first = first_same H K k 0 (works H) (λ i hands. subst (λ j. closing K j ≡ closing H j) (omega arith) (closing_alike H K i refl (λ over. line_still H move c t own i wishes.Close s (inside_uses H i k (scoped (work H i) k hands)))));
       can = refl;
       heard = refl;
     })

@@ -1,5 +1,5 @@
 -- An answer leaves what is sent on every other connection, and whether that connection is in use.
-use Rattle.std.proofs.Common.{◌≡◌, ◌≢◌, ℕ, suc, ◌+◌, ◌==◌, ◌⊎◌, inl, inr, Bool, true, false, ◌&&◌, ◌||◌, cond, List, [], ◌∷◌, get_or, Option, Some, None, is_some, refl, sym, ap, subst, ◌∙◌, arith}
+use Rattle.std.proofs.Common.{◌≡◌, ◌≢◌, ℕ, ◌==◌, ◌⊎◌, inl, inr, Bool, true, false, ◌&&◌, ◌||◌, cond, List, ◌∷◌, Option, Some, None, is_some, refl, sym, ap, subst, ◌∙◌, arith}
 use Rattle.std.specs.Option.{option_map}
 use Rattle.dsql_laws_calls.specs.driver.declared.answer.DriverAnswer.{DriverAnswer}
 use Rattle.dsql_laws_calls.specs.driver.declared.answer.DriverAnswer.TheVariants.{Cursor}
@@ -7,7 +7,6 @@ use Rattle.dsql_laws_calls.specs.driver.declared.call.DriverCall.{DriverCall}
 use Rattle.dsql_laws_calls.specs.driver.declared.call.DriverCall.TheVariants.{Query, Next}
 use Rattle.dsql_laws_calls.specs.course.declared.course.Wish.{Wish}
 use Rattle.dsql_laws_calls.specs.course.declared.course.Wish.TheVariants as wishes
-use Rattle.dsql_laws_calls.specs.course.Made.{or_else}
 use Rattle.dsql_laws_calls.specs.journal.declared.entry.Entry.{Entry}
 use Rattle.dsql_laws_calls.specs.journal.declared.entry.Owner.{Owner}
 use Rattle.dsql_laws_calls.specs.journal.Kinds.{number_of}
@@ -31,7 +30,7 @@ use Rattle.dsql_laws_calls.specs.history.Readers.Pool.{place, home}
 use Rattle.dsql_laws_calls.specs.history.Readers.Transactions.{tx_by}
 use Rattle.dsql_laws_calls.specs.history.Readers.Unfinished.{is_unfinished}
 use Rattle.dsql_laws_calls.specs.history.Readers.Works.{works, work, asks, hands_out_in, borrower}
-use Rattle.dsql_laws_calls.specs.history.Rules.Ending.{first_closing, ending}
+use Rattle.dsql_laws_calls.specs.history.Rules.Ending.{ending}
 use Rattle.dsql_laws_calls.specs.history.Rules.Line.{may_come, sends_from, is_used}
 use Rattle.dsql_laws_calls.specs.history.Rules.Sent.{line_of, closing}
 use Rattle.dsql_laws_calls.specs.history.Rules.Settled.{is_kept}
@@ -50,6 +49,7 @@ use Rattle.dsql_laws_calls.proofs.Owners.{lent_asks, lent_number}
 use Rattle.dsql_laws_calls.proofs.Stays.{asked_stays, not_looking}
 use Rattle.dsql_laws_calls.proofs.UnderWay.{scoped}
 use Rattle.dsql_laws_others.proofs.Alike.{line_asked, ends_alike, closing_alike, used_alike}
+use Rattle.dsql_laws_others.proofs.Entered.{first_same}
 
 -- An answer on a connection that is lent to this owner.
 pub record HeardLent (H : List Event) (e : Entry) (t : ℕ) (own : Owner) : Type 0 where
@@ -129,21 +129,10 @@ tx_off H e t own k h off = by (heard_tx H e k)
         never : (x : Bool) → x ≡ true → x ≡ false → ⊥
         never x p q = cc
 
--- What closes the rows of a transaction stays the same if each of its rows is closed alike.
-pub first_in : (H K : List Event) (k n : ℕ) (ws : List Work) → ((i : ℕ) → hands_out_in k (get_or ws i Look) ≡ true → closing K (n + i) ≡ closing H (n + i)) → first_closing K k n ws ≡ first_closing H k n ws
-first_in H K k n [] same = refl
-first_in H K k n (w ∷ ws) same =
-    ap (λ d. or_else d (first_closing K k (n + 1) ws)) (here (hands_out_in k w) refl)
-    ∙ ap (λ d. or_else (cond (hands_out_in k w) (closing H n) None) d) (first_in H K k (n + 1) ws (λ i hands. subst (λ j. closing K j ≡ closing H j) (omega arith) (same (suc i) hands)))
-  where
-    here : (b : Bool) → hands_out_in k w ≡ b → cond b (closing K n) None ≡ cond b (closing H n) None
-    here true hands = subst (λ j. closing K j ≡ closing H j) (omega arith) (same 0 hands)
-    here false hands = refl
-
 pub ending_off : (H : List Event) (e : Entry) (t : ℕ) (own : Owner) (k : ℕ) → HeardLent H e t own → k ≢ number_of own → e.conn ≢ home H k → ending (Heard e ∷ H) k ≡ ending H k
 ending_off H e t own k h off apart =
     ends_alike H (Heard e ∷ H) k (tx_off H e t own k h off) refl refl
-    (record { first = first_in H (Heard e ∷ H) k 0 (works H) (λ i hands. subst (λ j. closing (Heard e ∷ H) j ≡ closing H j) (omega arith) (closes i hands)); can = refl; heard = heard_other H e (home H k) apart })
+    (record { first = first_same H (Heard e ∷ H) k 0 (works H) (λ i hands. subst (λ j. closing (Heard e ∷ H) j ≡ closing H j) (omega arith) (closes i hands)); can = refl; heard = heard_other H e (home H k) apart })
   where
     closes : (i : ℕ) → hands_out_in k (work H i) ≡ true → closing (Heard e ∷ H) i ≡ closing H i
     closes i hands =

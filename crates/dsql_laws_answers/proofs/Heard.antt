@@ -1,6 +1,5 @@
 -- An answer leaves each other lent connection in use.
-use Rattle.std.proofs.Common.{◌≡◌, ◌≢◌, ℕ, ◌⊎◌, inl, inr, true, List, ◌∷◌, Option, Some, None, refl, sym, ap, ◌∙◌}
-use Rattle.std.specs.Option.{option_map}
+use Rattle.std.proofs.Common.{◌≡◌, ◌≢◌, ℕ, ◌⊎◌, inl, inr, true, List, ◌∷◌, Some, refl, sym, ap, ◌∙◌}
 use Rattle.dsql_laws_calls.specs.journal.declared.entry.Entry.{Entry}
 use Rattle.dsql_laws_calls.specs.journal.declared.entry.Owner.{Owner}
 use Rattle.dsql_laws_calls.specs.journal.Kinds.{number_of}
@@ -8,10 +7,10 @@ use Rattle.dsql_laws_calls.specs.pool.declared.conn.Conn.{Conn}
 use Rattle.dsql_laws_calls.specs.pool.declared.conn.Place.{Place}
 use Rattle.dsql_laws_calls.specs.pool.declared.conn.Place.TheVariants.{Idle, Lent, Opening, Closing}
 use Rattle.dsql_laws_calls.specs.pool.Places.{conn_of}
-use Rattle.dsql_laws_calls.proofs.pool.Rows.{found_passes}
 use Rattle.dsql_laws_calls.proofs.Found.{place_in}
 use Rattle.dsql_laws_calls.proofs.Lists.{same_or_not}
 use Rattle.dsql_laws_others.proofs.Once.{all_found}
+use Rattle.dsql_laws_others.proofs.Leaves.{lent_used}
 use Rattle.dsql_laws_calls.specs.history.declared.event.Event.{Event}
 use Rattle.dsql_laws_calls.specs.history.declared.event.Event.TheVariants.{Heard}
 use Rattle.dsql_laws_calls.specs.history.Readers.Pool.{pool, place, home}
@@ -19,15 +18,6 @@ use Rattle.dsql_laws_calls.specs.history.Rules.Settled.{is_in_use, is_kept, uses
 use Rattle.dsql_laws_calls.proofs.Owners.{at_home}
 use Rattle.dsql_laws_others.proofs.OnceLeft.{once}
 use Rattle.dsql_laws_answers.proofs.Elsewhere.{HeardLent, kept_off}
-
-pub lent_used : (H : List Event) (d u : ℕ) (o : Owner) → uses_what_is_lent H ≡ true → place H d ≡ Some (Lent u o) → is_kept H (number_of o) ≡ true
-lent_used H d u o h at = by (conn_of d (pool H).conns) refl at
-  where
-    by : (f : Option Conn) → conn_of d (pool H).conns ≡ f → option_map (λ x. x.place) f ≡ Some (Lent u o) → is_kept H (number_of o) ≡ true
-    by None found there = absurd cc
-    by (Some x) found there =
-        let its : x.place ≡ Lent u o = cc in
-        ap (is_in_use H) (sym its) ∙ found_passes (λ y. is_in_use H y.place) d x (pool H).conns h found
 
 pub used_heard : (H : List Event) (e : Entry) (t : ℕ) (own : Owner) → HeardLent H e t own → uses_what_is_lent H ≡ true → is_kept (Heard e ∷ H) (number_of own) ≡ true → uses_what_is_lent (Heard e ∷ H) ≡ true
 used_heard H e t own h before itself = all_found (λ x. is_in_use (Heard e ∷ H) x.place) (pool H).conns (once H) each

@@ -49,7 +49,7 @@ use Rattle.dsql_laws_calls.proofs.Unspoilt.{none_bad}
 use Rattle.dsql_laws_calls.proofs.Why.{Why}
 use Rattle.dsql_laws_replies.proofs.EndReplies.{end_replies}
 use Rattle.dsql_laws_replies.proofs.InsideReplies.{inside_replies}
-use Rattle.dsql_laws_replies.proofs.Served.{own_line, served_replies}
+use Rattle.dsql_laws_replies.proofs.Served.{served_replies}
 use Rattle.dsql_laws_others.proofs.Untouched.{apart_of}
 use Rattle.dsql_laws_others.proofs.LentBeside.{owner_at}
 use Rattle.dsql_laws_due.proofs.FetchReplies.{fetch_replies}
@@ -66,7 +66,7 @@ use Rattle.dsql_laws_calls.specs.history.declared.reply.Reply.TheVariants.{Truth
 use Rattle.dsql_laws_calls.specs.history.Rules.Sent.{line_of, wish, sent_for}
 use Rattle.dsql_laws_calls.proofs.EndedRows.{rows_kept, live_no_ender}
 use Rattle.dsql_laws_calls.proofs.LiveRows.{dead_over}
-use Rattle.dsql_laws_calls.proofs.Own.{asks_own}
+use Rattle.dsql_laws_calls.proofs.Own.{asks_own, due_line}
 use Rattle.dsql_laws_answers.proofs.OwnRows.{own_live_line}
 
 -- A call that has settled nothing goes on: something is due for it, or others have settled what it replies.
@@ -114,7 +114,7 @@ own_goes H e t own m b none asking h = by (same_or_not e.conn (site H m))
     off : e.conn ≢ site H m → is_some (due_for K m) ≡ true
     off apart =
         let line = line_off H e m wishes.Nothing (not_looking (work H m) asking) apart in
-        let same : due_in K m (work H m) ≡ due_in H m (work H m) = own_line K m (work H m) asking ∙ (line ∙ sym (own_line H m (work H m) asking)) in
+        let same : due_in K m (work H m) ≡ due_in H m (work H m) = due_line K m (work H m) asking ∙ (line ∙ sym (due_line H m (work H m) asking)) in
         ap (λ d. is_some (cond (is_unfinished H m) d None)) same ∙ h
 
     its : e.conn ≡ site H m → number_of own ≡ m

@@ -33,13 +33,12 @@ use Rattle.dsql_laws_calls.proofs.Inside.{inside, inside_uses}
 use Rattle.dsql_laws_calls.proofs.Lent.{stays_lent}
 use Rattle.dsql_laws_calls.proofs.Lines.{line_here, line_stays, unheard}
 use Rattle.dsql_laws_calls.proofs.Makers.{hands_out, rows_hand_out, sent_made}
-use Rattle.dsql_laws_calls.proofs.Own.{DueNow, asks_own, due_now, due_of, some_due}
+use Rattle.dsql_laws_calls.proofs.Own.{DueNow, asks_own, due_line, due_now, due_of, some_due}
 use Rattle.dsql_laws_calls.proofs.Owners.{lent_asks}
 use Rattle.dsql_laws_calls.proofs.Stays.{not_looking}
 use Rattle.dsql_laws_calls.proofs.UnderWay.{clash, ending_over}
 use Rattle.dsql_laws_calls.proofs.Why.{why_used}
 use Rattle.dsql_laws_calls.proofs.Works.{is_look, work_stays}
-use Rattle.dsql_laws_replies.proofs.Served.{own_line}
 use Rattle.dsql_laws_answers.proofs.Due.{rows_user, closer_user}
 
 -- What is wanted in the line of the call to which the connection is lent.
@@ -134,7 +133,7 @@ sent_now H e own o may now = whose (e.call_no == 0) refl (subst (λ x. is_due (d
         let its : e.call_no ≡ n = sym (asks_own H e.call_no (ap asks is ∙ asking)) ∙ uses some in
         record {
           wanted = wishes.Nothing;
-          due = in_line H e own e.call_no wishes.Nothing o its (ap (λ q. is_due q e.call) (sym (own_line H e.call_no v asking)) ∙ y);
+          due = in_line H e own e.call_no wishes.Nothing o its (ap (λ q. is_due q e.call) (sym (due_line H e.call_no v asking)) ∙ y);
           fetches = λ z. absurd cc;
           closes = λ z. absurd cc;
         }

@@ -2,14 +2,13 @@
 use Rattle.std.proofs.Common.{◌≡◌, ◌==◌, true, false, not, ◌&&◌, ◌||◌, List, Option, Some, None, refl, sym, ap, ◌∙◌}
 use Rattle.dsql_laws_calls.specs.driver.Kinds.{is_connect, is_shut}
 use Rattle.dsql_laws_calls.specs.journal.declared.entry.Entry.{Entry}
-use Rattle.dsql_laws_calls.specs.journal.declared.entry.Owner.{Owner}
-use Rattle.dsql_laws_calls.specs.journal.declared.entry.Owner.TheVariants.{Call, Tx, Pin, House}
 use Rattle.dsql_laws_calls.specs.journal.Kinds.{same_owner}
 use Rattle.dsql_laws_calls.specs.journal.Journal.{may_follow}
 use Rattle.dsql_laws_calls.specs.pool.declared.conn.Place.{Place}
 use Rattle.dsql_laws_calls.specs.pool.declared.conn.Place.TheVariants.{Idle, Lent, Opening, Closing}
 use Rattle.dsql_laws_calls.specs.pool.Pooled.{next_tenure}
 use Rattle.dsql_laws_calls.proofs.laws.Tests.{both, same_number}
+use Rattle.dsql_laws_calls.proofs.Owners.{same_owner_is}
 use Rattle.dsql_laws_calls.specs.history.declared.event.Event.{Event}
 use Rattle.dsql_laws_calls.specs.history.declared.event.Event.TheVariants.{Heard}
 use Rattle.dsql_laws_calls.specs.history.Readers.Journals.{journal}
@@ -17,13 +16,6 @@ use Rattle.dsql_laws_calls.specs.history.Readers.Pool.{pool, place}
 use Rattle.dsql_laws_calls.specs.history.Rules.Moves.{is_house_entry, hears_in}
 use Rattle.dsql_laws_calls.specs.history.Rules.Line.{may_come, sends_from}
 use Rattle.dsql_laws_calls.specs.history.Legal.{Allowed}
-
-pub owner_is : (o p : Owner) → same_owner o p ≡ true → o ≡ p
-owner_is (Call n) (Call m) h = ap Call (same_number n m h)
-owner_is (Tx n) (Tx m) h = ap Tx (same_number n m h)
-owner_is (Pin n) (Pin m) h = ap Pin (same_number n m h)
-owner_is House House h = refl
-owner_is _ _ h = absurd cc
 
 -- What the rules ask of an answer.
 record HeardFacts (H : List Event) (e : Entry) : Type 0 where
@@ -51,7 +43,7 @@ heard_lent H e a own = let f = heard_facts H e a in by (place H e.conn) refl f.s
         let a = both (not (is_connect e.call || is_shut e.call)) ((e.tenure == t) && same_owner e.owner o) h in
         let b = both (e.tenure == t) (same_owner e.owner o) a.1 in
         let tenure : e.tenure ≡ t = same_number e.tenure t b.0 in
-        let owner : e.owner ≡ o = owner_is e.owner o b.1 in
+        let owner : e.owner ≡ o = same_owner_is e.owner o b.1 in
         record { lent = is ∙ (ap (λ u. Some (Lent u o)) (sym tenure) ∙ ap (λ p. Some (Lent e.tenure p)) (sym owner)); comes = line }
     by (Some (Opening w)) is h line =
         let a = both (is_connect e.call) ((e.tenure == 1) && is_house_entry e) h in

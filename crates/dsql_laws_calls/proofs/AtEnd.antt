@@ -32,7 +32,7 @@ use Rattle.dsql_laws.specs.history.Rules.House.{has_no_chore, is_quiet}
 use Rattle.dsql_laws.specs.history.Legal.{Allowed, Lawful}
 use Rattle.dsql_laws.proofs.Numbered.{unfinished_from_one}
 use Rattle.dsql_laws.proofs.Holdings.{one_at_most}
-use Rattle.dsql_laws_calls.proofs.Works.{as_many, enters_next, old_unfinished, still_unfinished}
+use Rattle.dsql_laws_calls.proofs.Works.{enters_next, old_unfinished, still_unfinished}
 use Rattle.dsql_laws_calls.proofs.Closed.{ended_closed, lends_none}
 use Rattle.dsql_laws_calls.proofs.Lists.{within_rows}
 use Rattle.dsql_laws.specs.tx.declared.tx.Tx.{Tx}
@@ -40,6 +40,7 @@ use Rattle.dsql_laws.specs.tx.Transactions.{begun_on, ended_by}
 use Rattle.dsql_laws.specs.history.Readers.Transactions.{tx_by, end_of, is_begun, is_over}
 use Rattle.dsql_laws_calls.proofs.Plain.{begins}
 use Rattle.dsql_laws_calls.proofs.Begun.{EndsIt, BeginsIt, entered_tx, heard_tx, begun_begins, over_begun, as_begun}
+use Rattle.dsql_laws_calls.proofs.Stays.{as_many}
 
 -- A call that hasn't entered has no work.
 pub no_work_yet : (H : List Event) (m : ℕ) → length (calls H) ≤ m → work H m ≡ Look

@@ -50,6 +50,7 @@ use Rattle.dsql_laws_calls.proofs.Begun.{BeginsIt, as_begun, entered_tx, heard_t
 use Rattle.dsql_laws_calls.proofs.AtEnd.{no_work_yet}
 use Rattle.dsql_laws_calls.proofs.Own.{OwnWay, own_way}
 use Rattle.dsql_laws_calls.proofs.Beginnings.{Beginnings, begins_busy, asking, numbered, begin_owner, begin_there, begin_stepless, due_steps, last_began, silent, lent_once_begun, still}
+use Rattle.dsql_laws_calls.proofs.LineParts.{about_none}
 use Rattle.dsql_laws.specs.history.Readers.Course.{caps}
 use Rattle.dsql_laws.specs.history.Rules.Sent.{is_reset_due, begin_line}
 
@@ -62,7 +63,7 @@ pub heard_same : (H : List Event) (e : Event) (c : ℕ) → is_answer e ≡ fals
 heard_same H (Heard e) c h = absurd cc
 heard_same H e c h = refl
 
-was_begun : (H : List Event) (e : Event) (n : ℕ) → is_answer e ≡ false → is_begun (e ∷ H) n ≡ true → is_begun H n ≡ true
+pub was_begun : (H : List Event) (e : Event) (n : ℕ) → is_answer e ≡ false → is_begun (e ∷ H) n ≡ true → is_begun H n ≡ true
 was_begun H (Entered client m op) n h b =
     elim (entered_tx H client m op n) [
       | inl same ↦ ap (λ o. is_some o) (sym same) ∙ b
@@ -144,12 +145,6 @@ heard_more H e c t own a is same =
 
 pub heard_other : (H : List Event) (e : Entry) (c : ℕ) → e.conn ≢ c → journal (Heard e ∷ H) c ≡ journal H c
 heard_other H e c apart = ap (λ b. cond b (e ∷ journal H c) (journal H c)) (other_number e.conn c apart)
-
-about_none : (q : DriverCall) → is_about [] q ≡ false
-about_none (calls_of.Next rows) = refl
-about_none (calls_of.CloseRows rows) = refl
-about_none (calls_of.CloseStmt handle) = refl
-about_none q = refl
 
 -- The line of a begin grows only by entries of its own call.
 own_line : (H : List Event) (e : Entry) (n : ℕ) (L : List Entry) → exchanges (line_among n L) ≡ [] → line_among n (e ∷ L) ≡ cond (e.call_no == n) (e ∷ line_among n L) (line_among n L)

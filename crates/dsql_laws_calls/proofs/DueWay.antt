@@ -266,7 +266,7 @@ inside_due H e k l f d some s o =
 
 -- The entry is of a call over rows.
 
-borrow_same : (H : List Event) (m j : ℕ) → (work H m ≡ Fetch j) ⊎ (work H m ≡ Close j) → hands_out (work H j) ≡ true → borrower H m ≡ borrower H j
+pub borrow_same : (H : List Event) (m j : ℕ) → (work H m ≡ Fetch j) ⊎ (work H m ≡ Close j) → hands_out (work H j) ≡ true → borrower H m ≡ borrower H j
 borrow_same H m j which h = by (work H j) refl h which
   where
     by : (v : Work) → work H j ≡ v → hands_out v ≡ true → (work H m ≡ Fetch j) ⊎ (work H m ≡ Close j) → borrower H m ≡ borrower H j

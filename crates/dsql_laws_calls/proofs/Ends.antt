@@ -26,7 +26,7 @@ use Rattle.dsql_laws.specs.history.Rules.Sent.{wish, sent_for, line_of}
 use Rattle.dsql_laws.specs.history.Legal.{Allowed, Lawful}
 use Rattle.dsql_laws.proofs.Numbered.{some_calls, unfinished_from_one}
 use Rattle.dsql_laws.proofs.Wanting.{wants_its_own}
-use Rattle.dsql_laws_calls.proofs.Works.{as_many, enters_next, old_unfinished, still_unfinished, old_work}
+use Rattle.dsql_laws_calls.proofs.Works.{enters_next, old_unfinished, still_unfinished, old_work}
 use Rattle.dsql_laws_calls.proofs.Looks.{due_there, heard_there, comes}
 use Rattle.dsql_laws_calls.proofs.Rows.{is_worker, ender_works, none_at_end, entering_revives_none}
 use Rattle.dsql_laws.specs.history.declared.work.Scope.TheVariants.{Db, Tx}
@@ -40,6 +40,7 @@ use Rattle.dsql_laws_calls.proofs.Idle.{lent_asks, due_lent, came_of}
 use Rattle.dsql_laws_calls.proofs.TxEnders.{BegunNow, tx_ender_works, went_on, none_goes_at_end, sent_entered}
 use Rattle.dsql_laws_calls.proofs.Begun.{begin_heard}
 use Rattle.dsql_laws_calls.proofs.Plain.{begins}
+use Rattle.dsql_laws_calls.proofs.Stays.{as_many}
 
 never : true ≡ false → ⊥
 never h = cc

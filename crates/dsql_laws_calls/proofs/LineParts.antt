@@ -59,7 +59,7 @@ pub grows_own : (m : ℕ) (e : Entry) (L : List Entry) → (e.call_no == m) ≡ 
 grows_own m e L own = ap (λ x. cond (x || is_about (exchanges (line_among m L)) e.call) (e ∷ line_among m L) (line_among m L)) own
 
 -- A call that has sent nothing has an empty line.
-about_none : (q : DriverCall) → is_about [] q ≡ false
+pub about_none : (q : DriverCall) → is_about [] q ≡ false
 about_none (calls.Next rows) = refl
 about_none (calls.CloseRows rows) = refl
 about_none (calls.CloseStmt handle) = refl

@@ -101,7 +101,7 @@ pub record OwnWay (H : List Event) (e : Entry) : Type 0 where
 pub own_sends : (H : List Event) (e : Entry) → (u : OwnWay H e) → is_some (line_there H e.conn e.tenure u.owner (number_of u.owner) wishes.Nothing) ≡ true
 own_sends H e u = some_due (line_there H e.conn e.tenure u.owner (number_of u.owner) wishes.Nothing) e.call u.due
 
-due_line : (H : List Event) (m : ℕ) (w : Work) → asks w ≡ true → due_in H m w ≡ line_of H m wishes.Nothing
+pub due_line : (H : List Event) (m : ℕ) (w : Work) → asks w ≡ true → due_in H m w ≡ line_of H m wishes.Nothing
 due_line H m (Execute Db) own = refl
 due_line H m (ReadOne Db dests) own = refl
 due_line H m (HandOut Db label) own = refl

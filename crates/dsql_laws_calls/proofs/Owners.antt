@@ -175,7 +175,7 @@ same_owner_itself (Tx n) = same_itself n
 same_owner_itself (Pin n) = same_itself n
 same_owner_itself House = refl
 
-same_owner_is : (o q : Owner) → same_owner o q ≡ true → o ≡ q
+pub same_owner_is : (o q : Owner) → same_owner o q ≡ true → o ≡ q
 same_owner_is (Call n) (Call m) h = ap Call (same_number n m h)
 same_owner_is (Tx n) (Tx m) h = ap Tx (same_number n m h)
 same_owner_is (Pin n) (Pin m) h = ap Pin (same_number n m h)

@@ -59,7 +59,7 @@ use Rattle.dsql_laws_calls.proofs.UnderWay.{UnderWay}
 use Rattle.dsql_laws_calls.proofs.Coming.{sound}
 
 -- An event other than an answer makes no rows.
-were_made : (H : List Event) (e : Event) (n : ℕ) → is_answer e ≡ false → is_some (rows_by (e ∷ H) n) ≡ true → is_some (rows_by H n) ≡ true
+pub were_made : (H : List Event) (e : Event) (n : ℕ) → is_answer e ≡ false → is_some (rows_by (e ∷ H) n) ≡ true → is_some (rows_by H n) ≡ true
 were_made H (Entered client m op) n none h = sym (some_entered H op n (handed_out H)) ∙ h
 were_made H (Heard e) n none h = absurd cc
 were_made H Ended n none h = sym (some_mapped (λ j. ended_by (last_end (scope (work H j)))) n (handed_out H)) ∙ h

@@ -35,7 +35,7 @@ use Rattle.dsql_laws_calls.proofs.Own.{asks_own}
 use Rattle.dsql_laws_calls.proofs.Plain.{begins}
 use Rattle.dsql_laws_calls.proofs.Begun.{begun_begins}
 
-lent_where_due : (H : List Event) (n : ℕ) (w : Wish) (c : ℕ) (at : Option Place) → is_some (line_at H n w c at) ≡ true → is_lent_for (borrower H n) at ≡ true
+pub lent_where_due : (H : List Event) (n : ℕ) (w : Wish) (c : ℕ) (at : Option Place) → is_some (line_at H n w c at) ≡ true → is_lent_for (borrower H n) at ≡ true
 lent_where_due H n w c (Some (Lent t o)) h = by (number_of o == borrower H n) h
   where
     by : (b : Bool) → is_some (cond b (line_there H c t o n w) None) ≡ true → b ≡ true

@@ -7,16 +7,13 @@ use Rattle.dsql_laws.specs.pool.declared.moves.Move.TheVariants.{OpenStart, Lend
 use Rattle.dsql_laws.specs.pool.Calls.{wants}
 use Rattle.dsql_laws.specs.pool.Changes.{lent, back, closing}
 use Rattle.dsql_laws.specs.pool.Moved.{begun, joined, moved}
-use Rattle.dsql_laws.specs.pool.Pooled.{Pooled}
 use Rattle.dsql_laws.specs.history.Readers.Works.{asks, work}
-use Rattle.dsql_laws.specs.history.declared.event.Control.{Control}
-use Rattle.dsql_laws.specs.history.declared.event.Setting.TheVariants.{MaxOpen, MaxIdle, MaxLife, MaxIdleTime}
 use Rattle.dsql_laws.specs.history.declared.event.Control.TheVariants.{Tick, Set}
-use Rattle.dsql_laws.specs.history.Readers.Pool.{with_control, pool, place, request, wanted_by}
+use Rattle.dsql_laws.specs.history.Readers.Pool.{pool, place, request, wanted_by}
 use Rattle.dsql_laws.proofs.Tests.{other_number}
 use Rattle.dsql_laws.proofs.Counts.{request-more, left_fewer, changed_fewer, gone_fewer}
 use Rattle.dsql_laws.proofs.ByCall.{by_call}
-use Rattle.dsql_laws.proofs.Wanted.{is_opening_for, wanted, wants_counts, shut_wants, begun_wants}
+use Rattle.dsql_laws.proofs.Wanted.{is_opening_for, wanted, wants_counts, shut_wants, begun_wants, same_control}
 use Rattle.dsql_laws_calls.proofs.Own.{sender_wants_none}
 use Rattle.dsql_laws_calls.proofs.Lists.{read_set}
 use Rattle.dsql_laws.specs.history.declared.event.Event.{Event}
@@ -48,13 +45,6 @@ none_settled (Some r) p q h = absurd cc
 pub asks_undecided : (H : List Event) (n : ℕ) → may_ask H n ≡ true → decided H n ≡ None
 asks_undecided H n may =
     none_settled (decided H n) (told_by_others H n) (told_at_lending H n) (ap (λ o. is_none o) (asker H n may).unsettled)
-
-same_control : (control : Control) (n : ℕ) (p : Pooled) → wanted n (with_control control p) ≡ wanted n p
-same_control (Tick k) n p = refl
-same_control (Set MaxOpen k) n p = refl
-same_control (Set MaxIdle k) n p = refl
-same_control (Set MaxLife k) n p = refl
-same_control (Set MaxIdleTime k) n p = refl
 
 asked_undecided : (H : List Event) (k n : ℕ) → (k ≡ n) → may_ask H k ≡ true → decided H n ≡ None
 asked_undecided H k n same may = subst (λ m. decided H m ≡ None) same (asks_undecided H k may)

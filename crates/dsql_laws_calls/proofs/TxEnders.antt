@@ -24,10 +24,11 @@ use Rattle.dsql_laws.specs.history.Readers.Pool.{place}
 use Rattle.dsql_laws.specs.history.Readers.Works.{works, work, work_of}
 use Rattle.dsql_laws.specs.history.Readers.Transactions.{tx_by, end_of, goes_on, ending_call, tx_ender}
 use Rattle.dsql_laws.specs.history.Legal.{Allowed, Lawful}
-use Rattle.dsql_laws_calls.proofs.Works.{is_look, as_many, work_stays, enters_next, new_work}
+use Rattle.dsql_laws_calls.proofs.Works.{is_look, work_stays, enters_next, new_work}
 use Rattle.dsql_laws_calls.proofs.Looks.{sent_no_look, heard_there, comes}
 use Rattle.dsql_laws_calls.proofs.Rows.{is_worker}
 use Rattle.dsql_laws_calls.proofs.Begun.{entered_tx, heard_tx, ended_tx}
+use Rattle.dsql_laws_calls.proofs.Stays.{as_many}
 
 never : true ≡ false → ⊥
 never h = cc

@@ -15,22 +15,19 @@ use Rattle.dsql_laws.specs.pool.Changes.{lent, back, closing, gone, changed}
 use Rattle.dsql_laws.specs.pool.Decisions.{falls_to, oldest_call}
 use Rattle.dsql_laws.specs.pool.Moved.{begun, joined, moved}
 use Rattle.dsql_laws.specs.pool.Places.{conn_of, is_for, is_idle, is_opening}
-use Rattle.dsql_laws.specs.pool.Pooled.{Pooled}
 use Rattle.dsql_laws.proofs.pool.Found.{found_changed}
 use Rattle.dsql_laws.proofs.pool.Frees.{passing, count-cons}
-use Rattle.dsql_laws.specs.history.declared.event.Control.{Control}
-use Rattle.dsql_laws.specs.history.declared.event.Setting.TheVariants.{MaxOpen, MaxIdle, MaxLife, MaxIdleTime}
 use Rattle.dsql_laws.specs.history.declared.event.Control.TheVariants.{Tick, Set}
 use Rattle.dsql_laws.specs.history.declared.record.Try.{Try}
 use Rattle.dsql_laws.specs.history.declared.record.Try.TheVariants.{Served, Lost, Refused}
-use Rattle.dsql_laws.specs.history.Readers.Pool.{with_control, pool, place, request, wanted_by}
+use Rattle.dsql_laws.specs.history.Readers.Pool.{pool, place, request, wanted_by}
 use Rattle.dsql_laws.specs.history.Readers.Tries.{with_try, lost, has_a_try, tries, newest_answer, loses}
 use Rattle.dsql_laws.specs.Holdings.{waits_of}
 use Rattle.dsql_laws.proofs.Tests.{both, same_itself}
 use Rattle.dsql_laws.proofs.Counts.{request-more, left_none, left_fewer, changed_fewer, gone_fewer, request-cons}
 use Rattle.dsql_laws.proofs.Tried.{is_lent_out, lent_count, lends_to}
 use Rattle.dsql_laws.proofs.ByCall.{by_call}
-use Rattle.dsql_laws.proofs.Wanted.{is_opening_for, wanted, wants_counts, homes_apart, found_counts, shut_wants, begun_wants}
+use Rattle.dsql_laws.proofs.Wanted.{is_opening_for, wanted, wants_counts, homes_apart, found_counts, shut_wants, begun_wants, same_control}
 use Rattle.dsql_laws.specs.history.declared.event.Event.{Event}
 use Rattle.dsql_laws.specs.history.declared.event.Event.TheVariants.{Entered, Heard, Pool, Waits, Ticked, SetLimit, Ended}
 use Rattle.dsql_laws.specs.history.declared.event.Op.TheVariants.{DbClose}
@@ -143,13 +140,6 @@ fallen_unwanting H c n l some = let f = falls H c n l.1 in by f.wanted f.opening
             let apart = homes_apart n p.conns in
             let few = gone_fewer (is_opening_for n) c p.conns in
             omega (arith, counted, first, all, none, one, apart, few)
-
-same_control : (control : Control) (n : ℕ) (p : Pooled) → wanted n (with_control control p) ≡ wanted n p
-same_control (Tick k) n p = refl
-same_control (Set MaxOpen k) n p = refl
-same_control (Set MaxIdle k) n p = refl
-same_control (Set MaxLife k) n p = refl
-same_control (Set MaxIdleTime k) n p = refl
 
 asked_with_try : (H : List Event) (k n : ℕ) → (k ≡ n) → may_ask H k ≡ true → has_a_try (tries H n) ≡ true
 asked_with_try H k n same may = subst (λ m. has_a_try (tries H m) ≡ true) same (asker H k may).try_left

@@ -2,13 +2,12 @@
 use Rattle.std.proofs.Common.{◌≡◌, ◌≢◌, ℕ, zero, suc, ◌==◌, Bool, true, false, not, ◌&&◌, ◌||◌, List, [], ◌∷◌, ◌++◌, None, length, refl, sym, ap, ◌∙◌, arith}
 use Rattle.std.specs.Prelude.{slice_index_or}
 use Rattle.std.proofs.lemmas.Bool.Decides.{nat_tests}
-use Rattle.std.proofs.lemmas.List.{length-append}
-use Rattle.std.proofs.Math.ListN.{length-set}
 use Rattle.dsql_laws.specs.journal.declared.entry.Entry.{Entry}
 use Rattle.dsql_laws.specs.journal.Readers.{has}
 use Rattle.dsql_laws.specs.history.Readers.Tries.{try_number, tries}
 use Rattle.dsql_laws.proofs.Tests.{both, same_number, other_number}
 use Rattle.dsql_laws_calls.proofs.Lists.{row_old, row_off, row_new, has-without, has_push}
+use Rattle.dsql_laws_calls.proofs.Stays.{as_many}
 use Rattle.dsql_laws.specs.history.declared.work.Work.{Work}
 use Rattle.dsql_laws.specs.history.declared.work.Work.TheVariants.{Look}
 use Rattle.dsql_laws.specs.history.declared.event.Event.{Event}
@@ -40,18 +39,6 @@ work_stays H (Ticked now) m h = refl
 work_stays H (SetLimit s n) m h = refl
 work_stays H (Replied n reply) m h = refl
 work_stays H Ended m h = refl
-
--- Each call has its work and its record.
-pub as_many : (H : List Event) → length (works H) ≡ length (calls H)
-as_many [] = refl
-as_many (Entered client n op ∷ H) =
-    let rest = as_many H in
-    let a = length-append (works H) (work_of (works H) op ∷ []) in
-    let b = length-append (calls H) (entering H client op ∷ []) in
-    omega (arith, rest, a, b)
-as_many (Heard e ∷ H) = as_many H ∙ sym (length-set (calls H) e.call_no _)
-as_many (Replied n reply ∷ H) = as_many H ∙ sym (length-set (calls H) n _)
-as_many (_ ∷ H) = as_many H
 
 -- A call that enters has the next number.
 pub enters_next : (H : List Event) (client n : ℕ) (op : Op) → Allowed H (Entered client n op) → n ≡ length (calls H)

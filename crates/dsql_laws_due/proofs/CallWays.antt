@@ -29,6 +29,7 @@ use Rattle.dsql_laws_calls.proofs.Beginnings.{begin_owner}
 use Rattle.dsql_laws_calls.proofs.Begun.{begun_begins, over_begun}
 use Rattle.dsql_laws_calls.proofs.CallTenures.{call_line, line_of_call}
 use Rattle.dsql_laws_calls.proofs.Coming.{sound}
+use Rattle.dsql_laws_calls.proofs.DueWay.{borrow_same}
 use Rattle.dsql_laws_calls.proofs.EndedRows.{ender_over, rows_kept}
 use Rattle.dsql_laws_calls.proofs.HandedRows.{rows_begun}
 use Rattle.dsql_laws_calls.proofs.Lent.{stays_lent}
@@ -41,7 +42,6 @@ use Rattle.dsql_laws_calls.proofs.UnderWay.{at_number, clash, ending_over, line_
 use Rattle.dsql_laws_calls.proofs.Why.{why_used}
 use Rattle.dsql_laws_due.proofs.Holds.{IsOther}
 use Rattle.dsql_laws_due.proofs.Kept.{coming_work}
-use Rattle.dsql_laws_due.proofs.Ways.{borrow_same}
 
 -- Holds if the driver call closes the rows of the call that has the connection, or fetches from them.
 pub record CallWay (H : List Event) (c t : ℕ) (own : Owner) (m : ℕ) (q : DriverCall) : Type 0 where

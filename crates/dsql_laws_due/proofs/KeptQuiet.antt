@@ -1,56 +1,34 @@
 -- What an event other than an answer keeps of connections that are lent to transactions.
-use Rattle.std.proofs.Common.{◌≡◌, ℕ, ◌==◌, inl, inr, true, false, List, [], ◌∷◌, is_some, sym, ap, subst, ◌∙◌}
+use Rattle.std.proofs.Common.{◌≡◌, ℕ, ◌==◌, inl, inr, true, false, List, [], ◌∷◌, sym, ap, subst, ◌∙◌}
 use Rattle.std.specs.List.{list_all}
 use Rattle.dsql_laws_calls.specs.journal.declared.entry.Owner.{Owner}
 use Rattle.dsql_laws_calls.specs.journal.Kinds.{number_of}
 use Rattle.dsql_laws_calls.specs.journal.Readers.{of_tenure}
 use Rattle.dsql_laws_calls.specs.pool.declared.moves.Move.TheVariants.{Lend}
-use Rattle.dsql_laws_calls.specs.tx.Transactions.{ended_by}
-use Rattle.dsql_laws_calls.specs.tx.declared.end.TxEnd.TheVariants as tx_ends
-use Rattle.dsql_laws_calls.specs.rows.OpenRows as rows_of_calls
 use Rattle.dsql_laws_calls.specs.history.declared.event.Event.{Event}
-use Rattle.dsql_laws_calls.specs.history.declared.event.Event.TheVariants.{Entered, Heard, Pool, Ended}
+use Rattle.dsql_laws_calls.specs.history.declared.event.Event.TheVariants.{Pool}
 use Rattle.dsql_laws_calls.specs.history.declared.work.Scope.TheVariants.{Tx}
 use Rattle.dsql_laws_calls.specs.history.Readers.Course.{caps}
-use Rattle.dsql_laws_calls.specs.history.Readers.HandedOut.{handed_out, last_end, rows_by}
 use Rattle.dsql_laws_calls.specs.history.Readers.Journals.{journal, heard_in}
 use Rattle.dsql_laws_calls.specs.history.Readers.Lines.{has_sent}
-use Rattle.dsql_laws_calls.specs.history.Readers.Transactions.{is_begun, tx_by}
+use Rattle.dsql_laws_calls.specs.history.Readers.Transactions.{is_begun}
 use Rattle.dsql_laws_calls.specs.history.Readers.Works.{scope, work}
 use Rattle.dsql_laws_calls.specs.history.Rules.Sent.{is_reset_due}
 use Rattle.dsql_laws_calls.specs.history.Legal.{Allowed, Lawful}
 use Rattle.dsql_laws_tenures.specs.Begins.{is_begin_line}
 use Rattle.dsql_laws_tenures.proofs.LinesKept.{lines_first}
-use Rattle.dsql_laws_calls.proofs.Begun.{as_begun, ended_tx, entered_tx}
 use Rattle.dsql_laws_calls.proofs.Beginnings.{lent_once_begun}
-use Rattle.dsql_laws_calls.proofs.BeginningsAt.{beginnings, heard_same, is_answer}
+use Rattle.dsql_laws_calls.proofs.BeginningsAt.{beginnings, heard_same, is_answer, was_begun}
 use Rattle.dsql_laws_calls.proofs.HandedRows.{rows_begun}
 use Rattle.dsql_laws_calls.proofs.Inside.{hands_same, inside}
 use Rattle.dsql_laws_calls.proofs.Lent.{lent_before}
-use Rattle.dsql_laws_calls.proofs.Makers.{some_entered, some_mapped}
+use Rattle.dsql_laws_calls.proofs.RowsNew.{were_made}
 use Rattle.dsql_laws_calls.proofs.StaysUnderWay.{sender_work}
 use Rattle.dsql_laws_calls.proofs.Tenures.{fresh_lending}
 use Rattle.dsql_laws_calls.proofs.UnderWay.{Facts}
 use Rattle.dsql_laws_due.proofs.Holds.{asked_in, begin_of, Kept}
 use Rattle.dsql_laws_due.proofs.KeptStays.{asked_text, ended_same, handed_same, lines_same, opening_same, rested_same, untested_same}
 use Rattle.dsql_laws_due.proofs.Uses.{reset_same}
-
--- An event other than an answer makes no rows and begins no transaction.
-rows_before : (H : List Event) (e : Event) (n : ℕ) → is_answer e ≡ false → is_some (rows_by (e ∷ H) n) ≡ true → is_some (rows_by H n) ≡ true
-rows_before H (Entered client m op) n h some = sym (some_entered H op n (handed_out H)) ∙ some
-rows_before H (Heard e) n h some = absurd cc
-rows_before H Ended n h some = sym (some_mapped (λ k. rows_of_calls.ended_by (last_end (scope (work H k)))) n (handed_out H)) ∙ some
-rows_before H e n h some = some
-
-was_begun : (H : List Event) (e : Event) (n : ℕ) → is_answer e ≡ false → is_begun (e ∷ H) n ≡ true → is_begun H n ≡ true
-was_begun H (Entered client m op) n h b =
-    elim (entered_tx H client m op n) [
-      | inl same ↦ ap (λ o. is_some o) (sym same) ∙ b
-      | inr it ↦ sym (as_begun (ended_by it.by) (tx_by H n)) ∙ ap (λ o. is_some o) (sym it.so) ∙ b
-    ]
-was_begun H (Heard e) n h b = absurd cc
-was_begun H Ended n h b = sym (as_begun (ended_by tx_ends.EndOfRun) (tx_by H n)) ∙ ap (λ o. is_some o) (sym (ended_tx H n)) ∙ b
-was_begun H e n h b = b
 
 pub kept_quiet : (H : List Event) (e : Event) → Lawful (e ∷ H) → is_answer e ≡ false → Facts H → Kept H → Kept (e ∷ H)
 kept_quiet H e l none f kept = record {
@@ -66,8 +44,8 @@ kept_quiet H e l none f kept = record {
       ];
   handed = λ c t own is n hands some.
       elim (lent_before H e c t own l.0 is) [
-        | inl before ↦ handed_same H e l f kept c t own before (heard_same H e c none) n hands (rows_before H e n none some)
-        | inr w ↦ (let were = rows_before H e n none some in absurd (lent_new c t own w.0 w.1 (rows_begun H n (number_of own) l.0 were (hands_same H e n (number_of own) were hands))))
+        | inl before ↦ handed_same H e l f kept c t own before (heard_same H e c none) n hands (were_made H e n none some)
+        | inr w ↦ (let were = were_made H e n none some in absurd (lent_new c t own w.0 w.1 (rows_begun H n (number_of own) l.0 were (hands_same H e n (number_of own) were hands))))
       ];
   opening = λ c t own is other unbegun.
       elim (lent_before H e c t own l.0 is) [

@@ -60,14 +60,14 @@ use Rattle.dsql_laws_calls.proofs.Looks.{comes, heard_there}
 use Rattle.dsql_laws_calls.proofs.Makers.{hands_out, rows_hand_out}
 use Rattle.dsql_laws_calls.proofs.Own.{own_way, OwnWay}
 use Rattle.dsql_laws_calls.proofs.RowsNew.{content, held}
-use Rattle.dsql_laws_calls.proofs.Owners.{at_home, lent_asks, lent_number}
+use Rattle.dsql_laws_calls.proofs.Owners.{at_home, lent_asks, lent_number, same_owner_is}
 use Rattle.dsql_laws_calls.proofs.Wanted.{lent_nothing, rows_may_not_ask}
 use Rattle.dsql_laws_calls.proofs.laws.Tried.{lends_to}
 use Rattle.dsql_laws_due.proofs.CallWays.{call_unbegun, call_way, CallWay}
 use Rattle.dsql_laws_due.proofs.KeptHeard.{new_rows}
 use Rattle.dsql_laws_due.proofs.LiveLines.{live_before, live_not_over, next_live, quiet_rows}
 use Rattle.dsql_laws_due.proofs.OpenLines.{open_plain, over_rows}
-use Rattle.dsql_laws_due.proofs.Owned.{heard_owner, same_is}
+use Rattle.dsql_laws_due.proofs.Owned.{heard_owner}
 
 -- Holds if the rows aren't over there, and the tenure isn't at its end.
 pub record IsGoing (L : List Entry) : Type 0 where
@@ -261,7 +261,7 @@ answered_going H e l own lent call rest after =
     (by (new_rows H (work H e.call_no) e.call_no e.call e.answer (number_of own) (handed_out H) (live_some (rows_by (Heard e ∷ H) (number_of own)) after)))
   where
     owner : e.owner ≡ Call (number_of own)
-    owner = same_is e.owner own (heard_owner H e e.tenure own l.1 lent) ∙ call_of own call
+    owner = same_owner_is e.owner own (heard_owner H e e.tenure own l.1 lent) ∙ call_of own call
 
     by : (is_some (rows_by H (number_of own)) ≡ true) ⊎ ((number_of own ≡ e.call_no) × (is_some (given_cursor (got_of e.answer)) ≡ true) × (is_some (step_of e.call) ≡ true)) → IsGoing (e ∷ heard_in H e.conn e.tenure)
     by (inl were) = live_going_on H e l own lent call after were (rest (live_before H (Heard e) (number_of own) were after))

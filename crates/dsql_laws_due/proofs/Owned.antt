@@ -5,13 +5,13 @@ use Rattle.std.specs.List.{list_all}
 use Rattle.dsql_laws_calls.specs.driver.Kinds.{is_connect, is_shut}
 use Rattle.dsql_laws_calls.specs.journal.declared.entry.Entry.{Entry}
 use Rattle.dsql_laws_calls.specs.journal.declared.entry.Owner.{Owner}
-use Rattle.dsql_laws_calls.specs.journal.declared.entry.Owner.TheVariants.{Call, Tx, Pin, House}
+use Rattle.dsql_laws_calls.specs.journal.declared.entry.Owner.TheVariants.{Tx}
 use Rattle.dsql_laws_calls.specs.journal.Kinds.{is_call, is_tx_number, number_of, same_owner}
 use Rattle.dsql_laws_calls.specs.journal.Readers.{of_tenure}
 use Rattle.dsql_laws_calls.specs.pool.declared.conn.Place.TheVariants.{Lent}
 use Rattle.dsql_laws_calls.specs.pool.declared.moves.Move.TheVariants.{Lend}
 use Rattle.dsql_laws_calls.proofs.laws_work.Rows.{same_or_not}
-use Rattle.dsql_laws_calls.proofs.laws.Tests.{both, same_number, together}
+use Rattle.dsql_laws_calls.proofs.laws.Tests.{both, together}
 use Rattle.dsql_laws_calls.specs.history.declared.event.Event.{Event}
 use Rattle.dsql_laws_calls.specs.history.declared.event.Event.TheVariants.{Heard, Pool}
 use Rattle.dsql_laws_calls.specs.history.declared.work.Work.{Work}
@@ -30,24 +30,6 @@ use Rattle.dsql_laws_calls.proofs.Owners.{owner_is_of}
 use Rattle.dsql_laws_calls.proofs.Plain.{begins}
 use Rattle.dsql_laws_calls.proofs.Tenures.{fresh_lending}
 use Rattle.dsql_laws_due.proofs.Ways.{owner_begins}
-
-pub same_is : (o p : Owner) → same_owner o p ≡ true → o ≡ p
-same_is (Call n) (Call m) h = ap Call (same_number n m h)
-same_is (Tx n) (Tx m) h = ap Tx (same_number n m h)
-same_is (Pin n) (Pin m) h = ap Pin (same_number n m h)
-same_is House House h = refl
-same_is (Call n) (Tx m) h = absurd cc
-same_is (Call n) (Pin m) h = absurd cc
-same_is (Call n) House h = absurd cc
-same_is (Tx n) (Call m) h = absurd cc
-same_is (Tx n) (Pin m) h = absurd cc
-same_is (Tx n) House h = absurd cc
-same_is (Pin n) (Call m) h = absurd cc
-same_is (Pin n) (Tx m) h = absurd cc
-same_is (Pin n) House h = absurd cc
-same_is House (Call m) h = absurd cc
-same_is House (Tx m) h = absurd cc
-same_is House (Pin m) h = absurd cc
 
 -- What is heard on a lent connection has the connection's owner.
 pub heard_owner : (H : List Event) (e : Entry) (t : ℕ) (own : Owner) → Allowed H (Heard e) → place H e.conn ≡ Some (Lent t own) → same_owner e.owner own ≡ true

@@ -13,7 +13,6 @@ use Rattle.dsql_laws_calls.specs.journal.Kinds.{is_call, number_of}
 use Rattle.dsql_laws_calls.specs.journal.Readers.{went_bad}
 use Rattle.dsql_laws_calls.specs.pool.declared.conn.Place.TheVariants.{Lent}
 use Rattle.dsql_laws_calls.specs.pool.declared.moves.Move.TheVariants.{Lend, Fell}
-use Rattle.dsql_laws_calls.specs.rows.OpenRows.{ended_by}
 use Rattle.dsql_laws_calls.specs.works.Exchanges.{exchanges, got_of, step_of}
 use Rattle.dsql_laws_calls.specs.works.Line.{handed}
 use Rattle.dsql_laws_calls.proofs.laws_work.HandedLines.{SentOver, due_over}
@@ -24,14 +23,14 @@ use Rattle.dsql_laws_calls.proofs.laws.Places.{neither}
 use Rattle.dsql_laws_calls.proofs.laws.Tests.{both, other_number, same_itself, same_number}
 use Rattle.dsql_laws_calls.proofs.laws.Wanted.{wanted}
 use Rattle.dsql_laws_calls.specs.history.declared.event.Event.{Event}
-use Rattle.dsql_laws_calls.specs.history.declared.event.Event.TheVariants.{Entered, Heard, Pool, Ended}
+use Rattle.dsql_laws_calls.specs.history.declared.event.Event.TheVariants.{Heard, Pool}
 use Rattle.dsql_laws_calls.specs.history.declared.work.Work.{Work}
 use Rattle.dsql_laws_calls.specs.history.declared.work.Work.TheVariants.{HandOut}
 use Rattle.dsql_laws_calls.specs.history.Readers.Course.{caps}
-use Rattle.dsql_laws_calls.specs.history.Readers.HandedOut.{handed_out, last_end, rows_by}
+use Rattle.dsql_laws_calls.specs.history.Readers.HandedOut.{handed_out, rows_by}
 use Rattle.dsql_laws_calls.specs.history.Readers.Journals.{heard_in, journal}
 use Rattle.dsql_laws_calls.specs.history.Readers.Pool.{place, pool}
-use Rattle.dsql_laws_calls.specs.history.Readers.Works.{aim_of, asks, scope, work}
+use Rattle.dsql_laws_calls.specs.history.Readers.Works.{aim_of, asks, work}
 use Rattle.dsql_laws_calls.specs.history.Rules.Line.{is_due, may_come}
 use Rattle.dsql_laws_calls.specs.history.Rules.Sent.{asked_by, is_reset_due}
 use Rattle.dsql_laws_calls.specs.history.Legal.{Allowed, Lawful}
@@ -42,11 +41,11 @@ use Rattle.dsql_laws_calls.proofs.Coming.{sound}
 use Rattle.dsql_laws_calls.proofs.Ends.{zero_work}
 use Rattle.dsql_laws_calls.proofs.Lent.{lent_before}
 use Rattle.dsql_laws_calls.proofs.Looks.{comes, heard_there}
-use Rattle.dsql_laws_calls.proofs.Makers.{hands_out, rows_begin_nothing, rows_hand_out, some_entered, some_mapped}
+use Rattle.dsql_laws_calls.proofs.Makers.{hands_out, rows_begin_nothing, rows_hand_out}
 use Rattle.dsql_laws_calls.proofs.Own.{own_way, OwnWay}
 use Rattle.dsql_laws_calls.proofs.Owners.{lent_number}
 use Rattle.dsql_laws_calls.proofs.Plain.{begins, line_plain}
-use Rattle.dsql_laws_calls.proofs.RowsNew.{content, held}
+use Rattle.dsql_laws_calls.proofs.RowsNew.{content, held, were_made}
 use Rattle.dsql_laws_calls.proofs.Stays.{work_stays}
 use Rattle.dsql_laws_calls.proofs.UnderWay.{clash}
 use Rattle.dsql_laws_calls.proofs.Unspoilt.{none_bad}
@@ -138,12 +137,6 @@ over_untried it q b h sent = absurd cc
 given_good : (a : DriverAnswer) → is_some (given_cursor (got_of a)) ≡ true → is_bad a ≡ false
 given_good answers.Bad h = absurd cc
 given_good a h = refl
-
-were_made : (H : List Event) (e : Event) (n : ℕ) → is_answer e ≡ false → is_some (rows_by (e ∷ H) n) ≡ true → is_some (rows_by H n) ≡ true
-were_made H (Entered client m op) n none h = sym (some_entered H op n (handed_out H)) ∙ h
-were_made H (Heard e) n none h = absurd cc
-were_made H Ended n none h = sym (some_mapped (λ j. ended_by (last_end (scope (work H j)))) n (handed_out H)) ∙ h
-were_made H e n none h = h
 
 module _ (H : List Event) (e : Entry) (l : Lawful (Heard e ∷ H)) (numbered : (e.call_no == 0) ≡ false) (asking : asks (work H e.call_no) ≡ true) (made : is_some (rows_by (Heard e ∷ H) e.call_no) ≡ true) where
   may : may_come H e ≡ true

@@ -53,14 +53,14 @@ use Rattle.dsql_laws_calls.proofs.CallTenures.{call_line, plain_due}
 use Rattle.dsql_laws_calls.proofs.Coming.{sound}
 use Rattle.dsql_laws_calls.proofs.Lent.{back_line, move_facts}
 use Rattle.dsql_laws_calls.proofs.Looks.{heard_there as hears}
-use Rattle.dsql_laws_calls.proofs.Owners.{owner_is_of}
+use Rattle.dsql_laws_calls.proofs.Owners.{owner_is_of, same_owner_is}
 use Rattle.dsql_laws_calls.proofs.Plain.{line_plain}
 use Rattle.dsql_laws_calls.proofs.Sound.{was_under_way}
 use Rattle.dsql_laws_calls.proofs.Spared.{was_heard, was_opened, opened_when, moves, unpressed}
 use Rattle.dsql_laws_calls.proofs.UnderWay.{UnderWay}
 use Rattle.dsql_laws_calls.proofs.Unspoilt.{Fine, fine}
 use Rattle.dsql_laws_due.proofs.CallRows.{finished}
-use Rattle.dsql_laws_due.proofs.Owned.{heard_owner, of_transaction, same_is}
+use Rattle.dsql_laws_due.proofs.Owned.{heard_owner, of_transaction}
 use Rattle.dsql_laws_due.proofs.Standing as standing
 use Rattle.dsql_laws_due.proofs.Standing.{LentTo, Stands, StandsIn, lends, stands_found, untouched, let_be, rests_from, rests_back, lent_to, opening_opens}
 
@@ -234,13 +234,13 @@ lent_heard H e t (Call n) l is works =
     let x = line_to w.way w.owner in
     let due : is_due (call_line H e.conn t (Call n) x.0) e.call ≡ true = subst (λ u. is_due (call_line H e.conn u (Call n) x.0) e.call ≡ true) tenure x.1 in
     works_heard e.conn (lends H e.conn) t n e.call_no (journal H e.conn) e (caps H) (is_reset_due H e.conn) (asked_by H n) x.0 works (f.made e.conn t (Call n) is refl) (may_of H e l.1) refl tenure
-    (same_is e.owner (Call n) (heard_owner H e t (Call n) l.1 is)) refl
+    (same_owner_is e.owner (Call n) (heard_owner H e t (Call n) l.1 is)) refl
     (plain_due (call_line H e.conn t (Call n) x.0) e.call (line_plain (caps H) (is_reset_due H e.conn) (asked_by H n) x.0 (heard_in H e.conn t)) due)
   where
     line_to : (u : UnderWay H e) → u.owner ≡ Call n → (w : Wish) × (is_due (call_line H e.conn e.tenure (Call n) w) e.call ≡ true)
     line_to u same = let x = u.line (ap is_call same) in (x.0, subst (λ o. is_due (call_line H e.conn e.tenure o x.0) e.call ≡ true) same x.1)
 lent_heard H e t (Tx k) l is alone =
-    (alone.0, alone_on e.conn t (journal H e.conn) e alone.1 (may_of H e l.1) (heard_tenure H e t (Tx k) l.1 is) (ap is_house (same_is e.owner (Tx k) (heard_owner H e t (Tx k) l.1 is))))
+    (alone.0, alone_on e.conn t (journal H e.conn) e alone.1 (may_of H e l.1) (heard_tenure H e t (Tx k) l.1 is) (ap is_house (same_owner_is e.owner (Tx k) (heard_owner H e t (Tx k) l.1 is))))
 lent_heard H e t (Pin n) l is none = absurd none
 lent_heard H e t House l is none = absurd none
 

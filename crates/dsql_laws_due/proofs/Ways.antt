@@ -53,7 +53,7 @@ use Rattle.dsql_laws_calls.proofs.LineParts.{hands_of, known_bad, unsent_line, u
 use Rattle.dsql_laws_calls.proofs.HandedRows.{handed_made, rows_begun}
 use Rattle.dsql_laws_calls.proofs.Why.{ended_there, first_some}
 use Rattle.dsql_laws_calls.proofs.UnderWay.{line_made, handed_there, Newest, Going, Facts, clash, at_number, line_at_its, turn_of}
-use Rattle.dsql_laws_calls.proofs.DueWay.{inner_is}
+use Rattle.dsql_laws_calls.proofs.DueWay.{borrow_same, inner_is}
 use Rattle.dsql_laws_calls.proofs.LiveRows.{dead_over, over_some}
 use Rattle.dsql_laws_due.proofs.LineTails.{no_cursor, no_handle}
 use Rattle.dsql_laws_due.proofs.LineEnds.{IsShut, line_shut, unhanded_wish, ungiven_shut}
@@ -321,14 +321,6 @@ layer_way H e own l f kept d same other elsewhere due = by (is_begun H (number_o
     by false x = closed (ender H (number_of own) == 0) x
 
 -- A call over rows.
-
-pub borrow_same : (H : List Event) (m j : ℕ) → (work H m ≡ Fetch j) ⊎ (work H m ≡ Close j) → hands_out (work H j) ≡ true → borrower H m ≡ borrower H j
-borrow_same H m j which h = by (work H j) refl h which
-  where
-    by : (v : Work) → work H j ≡ v → hands_out v ≡ true → (work H m ≡ Fetch j) ⊎ (work H m ≡ Close j) → borrower H m ≡ borrower H j
-    by (HandOut s label) its x (inl is) = rw (is, its) refl
-    by (HandOut s label) its x (inr is) = rw (is, its) refl
-    by v its x which = absurd cc
 
 over_way : (H : List Event) (e : Entry) (own : Owner) (j : ℕ) → Lawful H → Facts H → (d : DueNow H e) → d.owner ≡ own → is_call own ≡ false → (e.call_no == 0) ≡ false → (work H e.call_no ≡ Fetch j) ⊎ (work H e.call_no ≡ Close j)
     → is_due (sent_for H j (wish H e.call_no j)) e.call ≡ true → TxWay H e.conn e.tenure own e.call_no e.call

@@ -34,7 +34,7 @@ use Rattle.dsql_laws_calls.specs.history.Rules.Stands.{has_to_reply, stand, is_w
 use Rattle.dsql_laws_calls.specs.history.Legal.{Lawful, Legal}
 use Rattle.dsql_laws_calls.proofs.laws.AtRest.{rests_owing_nothing}
 use Rattle.dsql_laws_calls.proofs.laws.Tests.{both, same_itself, together}
-use Rattle.dsql_laws_ends.proofs.Resting.{kept_so, found_there, lent_used, resting_unfinished}
+use Rattle.dsql_laws_ends.proofs.Resting.{kept_so, found_there, resting_unfinished}
 use Rattle.dsql_laws_calls.proofs.Closed.{closed_shut, ended_closed}
 use Rattle.dsql_laws_calls.proofs.Ends.{over_once_ended}
 use Rattle.dsql_laws_calls.proofs.AtEnd.{waits_only}
@@ -45,6 +45,7 @@ use Rattle.dsql_laws_ends.proofs.Left.{IsKnown, known}
 use Rattle.dsql_laws_ends.proofs.EndsHeard.{ended_or_lent}
 use Rattle.dsql_laws_ends.proofs.RunOut.{no_chore, NoChore, quiet_where_run_out}
 use Rattle.dsql_laws_ends.proofs.Senders.{attended, needed_end, needed_over}
+use Rattle.dsql_laws_others.proofs.Leaves.{lent_used}
 
 -- Each call has its reply. An unfinished call would wait, but no call waits for a closed database.
 

@@ -28,7 +28,6 @@ use Rattle.dsql_laws_calls.specs.history.Readers.Tries.{tries}
 use Rattle.dsql_laws_calls.specs.history.Readers.Unfinished.{is_unfinished}
 use Rattle.dsql_laws_calls.specs.history.Readers.Works.{work}
 use Rattle.dsql_laws_calls.specs.history.Rules.Replies.{gave_back}
-use Rattle.dsql_laws_calls.specs.history.Rules.Settled.{is_in_use, is_kept, uses_what_is_lent}
 use Rattle.dsql_laws_calls.specs.history.Legal.{Lawful}
 use Rattle.dsql_laws_calls.proofs.Begun.{begun_begins}
 use Rattle.dsql_laws_calls.proofs.Coming.{sound}
@@ -65,16 +64,6 @@ found_there H test c p is passes none = by (conn_of c (pool H).conns) refl is
         let fails : not (test x.place) ≡ true = found_passes (λ (y : Conn). not (test y.place)) c x (pool H).conns all found in
         let clash : false ≡ true = sym (ap not (ap test there ∙ passes)) ∙ fails in
         cc
-
--- A lent connection is in use, or its call rests with it.
-pub lent_used : (H : List Event) (c t : ℕ) (owner : Owner) → uses_what_is_lent H ≡ true → place H c ≡ Some (Lent t owner) → is_kept H (number_of owner) ≡ true
-lent_used H c t owner used at = by (conn_of c (pool H).conns) refl at
-  where
-    by : (o : Option Conn) → conn_of c (pool H).conns ≡ o → option_map (λ (x : Conn). x.place) o ≡ Some (Lent t owner) → is_kept H (number_of owner) ≡ true
-    by None found there = absurd cc
-    by (Some x) found there =
-        let its : x.place ≡ Lent t owner = cc in
-        ap (is_in_use H) (sym its) ∙ found_passes (λ y. is_in_use H y.place) c x (pool H).conns used found
 
 pub resting_unfinished : (H : List Event) (n : ℕ) → rests H n ≡ true → is_unfinished H n ≡ true
 resting_unfinished H n h = let b = both (is_unfinished H n) (asks_nothing (caps H) (work H n) (tries H n)) h in b.0

@@ -15,7 +15,7 @@ use Rattle.dsql_laws_calls.proofs.laws.Truths.{or_second}
 use Rattle.dsql_laws_calls.proofs.laws.Tests.{both, other_number, same_itself, second}
 use Rattle.dsql_laws_calls.proofs.Cases.{true_false}
 use Rattle.dsql_laws_calls.proofs.Lists.{has_push}
-use Rattle.dsql_laws_ends.proofs.Resting.{kept_so, lent_used, rests_no_begin, rests_no_maker, rests_not}
+use Rattle.dsql_laws_ends.proofs.Resting.{kept_so, rests_no_begin, rests_no_maker, rests_not}
 use Rattle.dsql_laws_calls.specs.history.declared.event.Event.{Event}
 use Rattle.dsql_laws_calls.specs.history.declared.event.Event.TheVariants.{Run, Entered, Heard, Pool, Waits, Ticked, SetLimit, Replied, Ended}
 use Rattle.dsql_laws_calls.specs.history.declared.reply.Reply.{Reply}
@@ -43,13 +43,14 @@ use Rattle.dsql_laws_calls.proofs.Lent.{lent_before, Lends}
 use Rattle.dsql_laws_calls.proofs.LiveRows.{live_some, over_not_live, over_some}
 use Rattle.dsql_laws_calls.proofs.Looks.{comes, heard_there}
 use Rattle.dsql_laws_calls.proofs.Makers.{rows_begin_nothing}
+use Rattle.dsql_laws_calls.proofs.Own.{due_line}
 use Rattle.dsql_laws_calls.proofs.Owners.{lent_asks, lent_number}
 use Rattle.dsql_laws_calls.proofs.Plain.{begins}
 use Rattle.dsql_laws_calls.proofs.RowsNew.{content}
 use Rattle.dsql_laws_calls.proofs.Wanted.{lent_nothing, rows_may_not_ask}
 use Rattle.dsql_laws_calls.proofs.Wanters.{lends_unfinished, replies_now, still_without_reply}
 use Rattle.dsql_laws_others.proofs.Alike.{unended_tx}
-use Rattle.dsql_laws_replies.proofs.Served.{own_line}
+use Rattle.dsql_laws_others.proofs.Leaves.{lent_used}
 use Rattle.dsql_laws_ends.proofs.Enders.{WorksOn, ender_now, ender_works_on, tx_ender_ends, tx_ender_now}
 
 -- What a connection that is lent to call n, or to the transaction that n began, still needs while it is in use.
@@ -132,7 +133,7 @@ replies_with_rows : (H : List Event) (c t : ℕ) (owner : Owner) (reply : Reply)
 replies_with_rows H c t owner reply l a is unbegun none =
     let n = number_of owner in
     let r = replies_now H n reply a in
-    none_due (due_for H n) (line_of H n wishes.Nothing) (due_of H n r.unfinished ∙ own_line H n (work H n) (lent_asks H c t owner l is)) r.done
+    none_due (due_for H n) (line_of H n wishes.Nothing) (due_of H n r.unfinished ∙ due_line H n (work H n) (lent_asks H c t owner l is)) r.done
     (needed_unmade H n unbegun none (replied_used H n reply c t owner a is (rests_not H c t owner is r.gave)))
 
 -- When the call that ended the rows replies, it has closed them.

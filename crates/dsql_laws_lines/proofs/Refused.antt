@@ -13,7 +13,6 @@ use Rattle.dsql_laws_calls.specs.pool.declared.conn.Place.TheVariants.{Lent, Ope
 use Rattle.dsql_laws_calls.specs.pool.declared.moves.Move.TheVariants.{OpenStart, Lend, Back, CloseStart, Gone, Fell}
 use Rattle.dsql_laws_calls.specs.pool.Calls.{wants}
 use Rattle.dsql_laws_calls.specs.pool.Places.{is_for}
-use Rattle.dsql_laws_calls.specs.rows.OpenRows.{ended_by}
 use Rattle.dsql_laws_calls.specs.history.declared.record.Try.{Try}
 use Rattle.dsql_laws_calls.specs.history.declared.record.Try.TheVariants.{Served, Lost, Refused}
 use Rattle.dsql_laws_calls.specs.history.Readers.Pool.{is_home, smallest, place, pool}
@@ -23,11 +22,11 @@ use Rattle.dsql_laws_calls.proofs.laws.Tests.{same_itself, same_number, together
 use Rattle.dsql_laws_calls.proofs.laws.Wanted.{wanted}
 use Rattle.dsql_laws_calls.proofs.Cases.{true_false}
 use Rattle.dsql_laws_calls.specs.history.declared.event.Event.{Event}
-use Rattle.dsql_laws_calls.specs.history.declared.event.Event.TheVariants.{Entered, Heard, Pool, Ended}
+use Rattle.dsql_laws_calls.specs.history.declared.event.Event.TheVariants.{Heard, Pool}
 use Rattle.dsql_laws_calls.specs.history.Readers.Calls.{reply_due}
-use Rattle.dsql_laws_calls.specs.history.Readers.HandedOut.{handed_out, last_end, rows_by}
+use Rattle.dsql_laws_calls.specs.history.Readers.HandedOut.{handed_out, rows_by}
 use Rattle.dsql_laws_calls.specs.history.Readers.Unfinished.{is_unfinished}
-use Rattle.dsql_laws_calls.specs.history.Readers.Works.{asks, scope, work}
+use Rattle.dsql_laws_calls.specs.history.Readers.Works.{asks, work}
 use Rattle.dsql_laws_calls.specs.history.Rules.Asking.{may_ask, may_try}
 use Rattle.dsql_laws_calls.specs.history.Legal.{Lawful}
 use Rattle.dsql_laws_calls.proofs.laws.Tried.{lends_to}
@@ -38,9 +37,9 @@ use Rattle.dsql_laws_calls.proofs.BeginningsAt.{is_answer}
 use Rattle.dsql_laws_calls.proofs.Coming.{sound}
 use Rattle.dsql_laws_calls.proofs.Lent.{lent_before, Lends}
 use Rattle.dsql_laws_calls.proofs.Looks.{comes, heard_there}
-use Rattle.dsql_laws_calls.proofs.Makers.{hands_out, some_entered, some_heard, some_mapped}
+use Rattle.dsql_laws_calls.proofs.Makers.{hands_out, some_heard}
 use Rattle.dsql_laws_calls.proofs.Own.{asks_own}
-use Rattle.dsql_laws_calls.proofs.RowsNew.{content}
+use Rattle.dsql_laws_calls.proofs.RowsNew.{content, were_made}
 use Rattle.dsql_laws_calls.proofs.Untried.{fallen_wanted}
 use Rattle.dsql_laws_calls.proofs.Wanted.{lent_wants_none}
 
@@ -61,13 +60,6 @@ never_some (Some x) never = absurd (never refl)
 none_some : {X : Type 0} (o : Option X) → o ≡ None → is_some o ≡ true → ⊥
 none_some None none some = cc
 none_some (Some x) none some = cc
-
--- An event other than an answer makes no rows.
-were_made : (H : List Event) (e : Event) (n : ℕ) → is_answer e ≡ false → is_some (rows_by (e ∷ H) n) ≡ true → is_some (rows_by H n) ≡ true
-were_made H (Entered client m op) n none h = sym (some_entered H op n (handed_out H)) ∙ h
-were_made H (Heard e) n none h = absurd cc
-were_made H Ended n none h = sym (some_mapped (λ j. ended_by (last_end (scope (work H j)))) n (handed_out H)) ∙ h
-were_made H e n none h = h
 
 -- This stays so unless a connection is lent to the call or the call hears an answer.
 quietly : (H : List Event) (e : Event) (n : ℕ) → Lawful (e ∷ H) → is_answer e ≡ false → ((c t : ℕ) (owner : Owner) → Lends e c t owner → number_of owner ≢ n) → Refusal H n → Refusal (e ∷ H) n

@@ -35,7 +35,7 @@ use Rattle.dsql_laws_calls.specs.history.Legal.{Lawful}
 use Rattle.dsql_laws_calls.proofs.Beginnings.{asking, begin_owner, begin_there, begins_busy, numbered}
 use Rattle.dsql_laws_calls.proofs.BeginningsAt.{beginnings, is_answer, way_of}
 use Rattle.dsql_laws_calls.proofs.Begun.{begin_heard, still_begins}
-use Rattle.dsql_laws_calls.proofs.LineParts.{grows, grows_own}
+use Rattle.dsql_laws_calls.proofs.LineParts.{about_none, grows, grows_own}
 use Rattle.dsql_laws_calls.proofs.Looks.{heard_there}
 use Rattle.dsql_laws_calls.proofs.Own.{OwnWay}
 use Rattle.dsql_laws_calls.proofs.Plain.{begins}
@@ -120,12 +120,6 @@ own_over n e L mine h = ap (λ M. not (begin_over M)) (grows_own n e L mine) ∙
 over_of : (b : Bool) → not b ≡ false → b ≡ true
 over_of true h = refl
 over_of false h = absurd cc
-
-about_none : (q : DriverCall) → is_about [] q ≡ false
-about_none (calls.Next rows) = refl
-about_none (calls.CloseRows rows) = refl
-about_none (calls.CloseStmt handle) = refl
-about_none q = refl
 
 stays_over : (H : List Event) (e : Entry) (n : ℕ) → Lawful (Heard e ∷ H) → begins (work H n) ≡ true → StaysPast (before_begin n) H e n
 stays_over H e n l begin = λ own is number past. by own is number past (grows n e (heard_in H e.conn e.tenure))

@@ -28,7 +28,6 @@ use Rattle.dsql_laws_calls.specs.history.Readers.Works.{asks, scope, work}
 use Rattle.dsql_laws_calls.specs.history.Rules.Line.{is_due, may_come, sends_from}
 use Rattle.dsql_laws_calls.specs.history.Rules.Sent.{asked_by, is_reset_due}
 use Rattle.dsql_laws_calls.specs.history.Legal.{Allowed, Lawful}
-use Rattle.dsql_laws_callers.proofs.Heard.{owner_is}
 use Rattle.dsql_laws_calls.proofs.Beginnings.{lent_once_begun}
 use Rattle.dsql_laws_calls.proofs.BeginningsAt.{beginnings, heard_more, heard_other, heard_same, is_answer}
 use Rattle.dsql_laws_calls.proofs.Begun.{stays_begun}
@@ -40,6 +39,7 @@ use Rattle.dsql_laws_calls.proofs.Lent.{lent_before, Lends}
 use Rattle.dsql_laws_calls.proofs.Lines.{line_there}
 use Rattle.dsql_laws_calls.proofs.Looks.{heard_there}
 use Rattle.dsql_laws_calls.proofs.Own.{own_way}
+use Rattle.dsql_laws_calls.proofs.Owners.{same_owner_is}
 use Rattle.dsql_laws_calls.proofs.Plain.{line_plain, no_ending_due, plain_ends, with_ends}
 use Rattle.dsql_laws_calls.proofs.Why.{ended_there}
 use Rattle.dsql_laws_due.proofs.CallWays.{CallWay, call_way}
@@ -71,7 +71,7 @@ ending_there H e a ending = let there = heard_there H e a in by (place H e.conn)
         let x = both (not (is_connect e.call || is_shut e.call)) ((e.tenure == t) && same_owner e.owner o) h in
         let y = both (e.tenure == t) (same_owner e.owner o) x.1 in
         record {
-          lent = is ∙ (ap (λ u. Some (Lent u o)) (sym (same_number e.tenure t y.0)) ∙ ap (λ p. Some (Lent e.tenure p)) (sym (owner_is e.owner o y.1)));
+          lent = is ∙ (ap (λ u. Some (Lent u o)) (sym (same_number e.tenure t y.0)) ∙ ap (λ p. Some (Lent e.tenure p)) (sym (same_owner_is e.owner o y.1)));
           comes = line;
         }
     by (Some (Opening w)) is h line = let x = both (is_connect e.call) ((e.tenure == 1) && is_house_entry e) h in absurd (never (is_ending e.call) ending (not_connect e.call x.0))

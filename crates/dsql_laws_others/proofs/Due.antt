@@ -32,7 +32,7 @@ use Rattle.dsql_laws_calls.specs.history.Legal.{Lawful}
 use Rattle.dsql_laws_calls.proofs.Beginnings.{begin_owner}
 use Rattle.dsql_laws_calls.proofs.Begun.{begun_begins, over_begun}
 use Rattle.dsql_laws_calls.proofs.Coming.{sound}
-use Rattle.dsql_laws_calls.proofs.DueWay.{inner_line}
+use Rattle.dsql_laws_calls.proofs.DueWay.{borrow_same, inner_line}
 use Rattle.dsql_laws_calls.proofs.EndedRows.{ender_over}
 use Rattle.dsql_laws_calls.proofs.HandedRows.{handed_made, rows_begun}
 use Rattle.dsql_laws_calls.proofs.Inside.{inside, inside_uses, live_goes}
@@ -46,7 +46,6 @@ use Rattle.dsql_laws_calls.proofs.Quiet.{quiet_sends_none}
 use Rattle.dsql_laws_calls.proofs.Sound.{Sound}
 use Rattle.dsql_laws_calls.proofs.UnderWay.{Facts, Going, line_made, ending_over, left_of}
 use Rattle.dsql_laws_calls.proofs.Why.{Left, tx_used, why_used}
-use Rattle.dsql_laws_others.proofs.LentOthers.{same_user}
 
 clash : {A : Type 0} → true ≡ false → A
 clash h = absurd cc
@@ -100,7 +99,7 @@ rows_keep H m j c t own l some at its uses sent = by (closes H m j) (is_fetch (w
     made = sent_made H m j some sent
 
     user : borrower H j ≡ number_of own
-    user = sym (same_user H m j its (rows_hand_out H j (sent_made H m j some sent))) ∙ uses
+    user = sym (borrow_same H m j its (rows_hand_out H j (sent_made H m j some sent))) ∙ uses
 
     gone : closes H m j ≡ true → are_over H j ≡ true
     gone h =

@@ -52,13 +52,14 @@ use Rattle.dsql_laws_calls.specs.history.Rules.Settled.{is_in_use, is_kept, uses
 use Rattle.dsql_laws_calls.specs.history.Rules.Stands.{is_own_step, is_settled_for, has_to_reply, stand}
 use Rattle.dsql_laws_calls.specs.history.Legal.{Lawful}
 use Rattle.dsql_laws_callers.proofs.Works.{RefersWithin, refers_within, borrower_stays}
-use Rattle.dsql_laws_calls.proofs.Works.{as_many, enters_next, old_record, old_work, old_unfinished}
+use Rattle.dsql_laws_calls.proofs.Works.{enters_next, old_record, old_work, old_unfinished}
 use Rattle.dsql_laws_calls.proofs.TxEnders.{same_going}
 use Rattle.dsql_laws_calls.proofs.Enders.{same_ender}
 use Rattle.dsql_laws_calls.proofs.Ends.{new_unlent}
 use Rattle.dsql_laws_calls.proofs.AtEnd.{no_work_yet}
 use Rattle.dsql_laws_calls.proofs.LiveRows.{over_some}
 use Rattle.dsql_laws_calls.proofs.Makers.{hands_out, rows_hand_out}
+use Rattle.dsql_laws_calls.proofs.Stays.{as_many}
 use Rattle.dsql_laws_others.specs.Entries.{is_plain}
 use Rattle.dsql_laws_others.proofs.Alike.{Concerns, Alike, due_alike, used_alike, line_asked, ends_alike, first_alike, closing_alike, same_tx_ender}
 

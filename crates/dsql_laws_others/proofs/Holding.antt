@@ -57,6 +57,7 @@ use Rattle.dsql_laws_calls.proofs.BeginningsAt.{heard_more, heard_other, heard_s
 use Rattle.dsql_laws_calls.proofs.Begun.{begun_begins, over_begun}
 use Rattle.dsql_laws_calls.proofs.CallTenures.{call_line, line_of_call, plain_due}
 use Rattle.dsql_laws_calls.proofs.Coming.{sound}
+use Rattle.dsql_laws_calls.proofs.DueWay.{borrow_same}
 use Rattle.dsql_laws_calls.proofs.EndedRows.{live_no_ender, rows_kept}
 use Rattle.dsql_laws_calls.proofs.HandedRows.{rows_begun}
 use Rattle.dsql_laws_calls.proofs.Inside.{inside, inside_uses}
@@ -74,7 +75,6 @@ use Rattle.dsql_laws_calls.proofs.UnderWay.{Facts, at_number, ending_over, line_
 use Rattle.dsql_laws_calls.proofs.Wanted.{lent_nothing, rows_may_not_ask}
 use Rattle.dsql_laws_calls.proofs.Why.{why_used}
 use Rattle.dsql_laws_calls.proofs.Works.{is_look, work_stays}
-use Rattle.dsql_laws_others.proofs.LentOthers.{same_user}
 use Rattle.dsql_laws_others.proofs.Closers.{no_house}
 
 -- What holds if rows can be fetched from.
@@ -219,7 +219,7 @@ due_fetches H e own holds x d same comes = whose (e.call_no == 0) refl (ap (λ o
         made = sent_made H e.call_no j some (some_due (sent_for H j (wish H e.call_no j)) e.call h)
 
         user : borrower H e.call_no ≡ borrower H j
-        user = same_user H e.call_no j which (rows_hand_out H j (sent_made H e.call_no j some (some_due (sent_for H j (wish H e.call_no j)) e.call h)))
+        user = borrow_same H e.call_no j which (rows_hand_out H j (sent_made H e.call_no j some (some_due (sent_for H j (wish H e.call_no j)) e.call h)))
 
         here : (w : Wish) → is_due (line_of H j w) e.call ≡ true → j ≡ number_of own
         here w k =

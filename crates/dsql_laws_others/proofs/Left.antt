@@ -49,6 +49,7 @@ use Rattle.dsql_laws_callers.proofs.Homes.{home_owner}
 use Rattle.dsql_laws_calls.proofs.BeginningsAt.{heard_same}
 use Rattle.dsql_laws_calls.proofs.Begun.{over_begun}
 use Rattle.dsql_laws_calls.proofs.Born.{heard_open}
+use Rattle.dsql_laws_calls.proofs.DueWay.{borrow_same}
 use Rattle.dsql_laws_calls.proofs.Enders.{same_ender}
 use Rattle.dsql_laws_calls.proofs.LiveRows.{over_some}
 use Rattle.dsql_laws_calls.proofs.Makers.{rows_hand_out}
@@ -58,7 +59,7 @@ use Rattle.dsql_laws_calls.proofs.Wanted.{lent_wants_none}
 use Rattle.dsql_laws_calls.proofs.Why.{tx_used}
 use Rattle.dsql_laws_others.proofs.Alike.{Concerns, Alike, due_alike, none_sent, first_alike, closing_alike, ends_alike, same_tx_ender}
 use Rattle.dsql_laws_others.proofs.Homes.{HomeStays, no_line, no_ending, line_by_home}
-use Rattle.dsql_laws_others.proofs.LentOthers.{none_made, no_wish, same_user}
+use Rattle.dsql_laws_others.proofs.LentOthers.{none_made, no_wish}
 use Rattle.dsql_laws_others.proofs.LentStands.{found_same}
 use Rattle.dsql_laws_others.proofs.Numbers.{none_zero}
 use Rattle.dsql_laws_others.proofs.Due.{due_keeps, over_keeps}
@@ -260,7 +261,7 @@ due_gone H m x n some uses = none_anyway (is_unfinished H n) (due_in K n (work H
 
     rows : (j : ℕ) → (work H n ≡ Fetch j) ⊎ (work H n ≡ Close j) → (b : Bool) → is_some (rows_by H j) ≡ b → sent_for (Pool m ∷ H) j (wish (Pool m ∷ H) n j) ≡ None
     rows j its false none = unmade (Pool m ∷ H) n j some none
-    rows j its true made = none_sent (Pool m ∷ H) j (wish (Pool m ∷ H) n j) (λ w. lines_gone H m x j w (sym (same_user H n j its (rows_hand_out H j made)) ∙ uses))
+    rows j its true made = none_sent (Pool m ∷ H) j (wish (Pool m ∷ H) n j) (λ w. lines_gone H m x j w (sym (borrow_same H n j its (rows_hand_out H j made)) ∙ uses))
 
     by : (w : Work) → work H n ≡ w → due_in (Pool m ∷ H) n w ≡ None
     by (Execute Db) is = line
@@ -326,7 +327,7 @@ due_left H m x n some = by (same_or_not (borrower H n) (number_of x.owner))
         → due_for (Pool m ∷ H) n ≡ due_for H n
     rows apart j its due its_rows false none =
         ap (λ d. cond (is_unfinished H n) d None) ((due (Pool m ∷ H) ∙ unmade (Pool m ∷ H) n j some none) ∙ sym (due H ∙ unmade H n j some none))
-    rows apart j its due its_rows true made = due_alike H (Pool m ∷ H) n (off_alike H m x n apart (λ i which uses. apart (same_user H n j its (rows_hand_out H j made) ∙ (ap (borrower H) (one i which) ∙ uses))))
+    rows apart j its due its_rows true made = due_alike H (Pool m ∷ H) n (off_alike H m x n apart (λ i which uses. apart (borrow_same H n j its (rows_hand_out H j made) ∙ (ap (borrower H) (one i which) ∙ uses))))
       where
         one : (i : ℕ) → (work H n ≡ Fetch i) ⊎ (work H n ≡ Close i) → j ≡ i
         one i (inl w) = sym its_rows ∙ ap rows_in w

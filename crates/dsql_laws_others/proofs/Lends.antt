@@ -64,7 +64,7 @@ use Rattle.dsql_laws_calls.proofs.laws.Tried.{lends_to}
 use Rattle.dsql_laws_calls.proofs.BeginningsAt.{beginnings}
 use Rattle.dsql_laws_calls.proofs.Beginnings.{lent_once_begun}
 use Rattle.dsql_laws_calls.proofs.Lines.{line_here}
-use Rattle.dsql_laws_calls.proofs.Own.{asks_own}
+use Rattle.dsql_laws_calls.proofs.Own.{asks_own, due_line}
 use Rattle.dsql_laws_calls.proofs.Owners.{at_home, lent_asks, lent_number}
 use Rattle.dsql_laws_calls.proofs.Tenures.{fresh_lending}
 use Rattle.dsql_laws_calls.proofs.Untried.{moves_of, lends_unwanting}
@@ -186,19 +186,11 @@ sends_first H c t own n w l answered =
     ∙ (ap (λ L. is_some (line_with K n c (went_bad (journal H c)) w (work H n) (scope (work H n)) L)) (empty_line own n (heard_in H c t) (fresh_lending H c t own n l.0 l.1))
     ∙ sends_with K n c (went_bad (journal H c)) w (work H n) asker answered)
 
-own_due : (H : List Event) (n : ℕ) (it : Work) → asks it ≡ true → due_in H n it ≡ line_of H n wishes.Nothing
-own_due H n (Execute Db) own = refl
-own_due H n (ReadOne Db dests) own = refl
-own_due H n (HandOut Db label) own = refl
-own_due H n (Begin label level read_only) own = refl
-own_due H n Ping own = refl
-own_due H n it own = absurd cc
-
 pub due_lent : (H : List Event) (c t : ℕ) (own : Owner) (n : ℕ) → Lawful (lends H c t own n) → is_unfinished H n ≡ true → rests (lends H c t own n) n ≡ false → is_some (due_for (lends H c t own n) n) ≡ true
 due_lent H c t own n l u restless =
     let K = lends H c t own n in
     ap (λ (b : Bool). is_some (cond b (due_in K n (work H n)) None)) u
-    ∙ (ap (λ d. is_some d) (own_due K n (work H n) (lent_asker H c t own n l)) ∙ sends_first H c t own n wishes.Nothing l (lent_answered H c t own n u restless))
+    ∙ (ap (λ d. is_some d) (due_line K n (work H n) (lent_asker H c t own n l)) ∙ sends_first H c t own n wishes.Nothing l (lent_answered H c t own n u restless))
 
 -- The call has begun no transaction yet.
 pub lent_unbegun : (H : List Event) (c t : ℕ) (own : Owner) (n : ℕ) → Lawful (lends H c t own n) → is_begun H n ≡ false

@@ -8,6 +8,7 @@ use Rattle.dsql_laws_calls.specs.pool.declared.moves.Move.TheVariants.{Lend}
 use Rattle.dsql_laws_calls.specs.history.Readers.HandedOut.{live, over, is_late, rows_by, are_live, ender}
 use Rattle.dsql_laws_calls.specs.history.Rules.Wishes.{wish_as}
 use Rattle.dsql_laws_calls.proofs.laws.Tests.{other_number}
+use Rattle.dsql_laws_calls.proofs.DueWay.{borrow_same}
 use Rattle.dsql_laws_calls.proofs.Lists.{same_or_not}
 use Rattle.dsql_laws_calls.specs.history.declared.event.Event.{Event}
 use Rattle.dsql_laws_calls.specs.history.declared.event.Event.TheVariants.{Pool}
@@ -28,7 +29,7 @@ use Rattle.dsql_laws_calls.specs.history.Legal.{Lawful}
 use Rattle.dsql_laws_calls.proofs.laws.Numbered.{unfinished_from_one}
 use Rattle.dsql_laws_calls.proofs.Enders.{unended, same_ender}
 use Rattle.dsql_laws_calls.proofs.Inside.{inside, inside_uses}
-use Rattle.dsql_laws_calls.proofs.Makers.{hands_out, rows_hand_out}
+use Rattle.dsql_laws_calls.proofs.Makers.{rows_hand_out}
 use Rattle.dsql_laws_calls.proofs.Own.{asks_own}
 use Rattle.dsql_laws_others.proofs.Alike.{Concerns, Alike, due_alike, same_tx_ender}
 use Rattle.dsql_laws_others.proofs.Homes.{HomeStays, HomeUnlent, no_line}
@@ -89,15 +90,6 @@ unmade H c t own n m j some none =
     let gone = none_made (rows_by H j) none in
     ap (sent_for (lends H c t own n) j) (no_wish (lends H c t own n) m j some gone) ∙ sym (ap (sent_for H j) (no_wish H m j some gone))
 
--- A call that works on rows uses the connection of the call that made them.
-pub same_user : (H : List Event) (m j : ℕ) → (work H m ≡ Fetch j) ⊎ (work H m ≡ Close j) → hands_out (work H j) ≡ true → borrower H m ≡ borrower H j
-same_user H m j its hands = by (work H j) refl hands its
-  where
-    by : (it : Work) → work H j ≡ it → hands_out it ≡ true → (work H m ≡ Fetch j) ⊎ (work H m ≡ Close j) → borrower H m ≡ borrower H j
-    by (HandOut s label) is h (inl w) = rw (w, is) refl
-    by (HandOut s label) is h (inr w) = rw (w, is) refl
-    by it is h w = absurd cc
-
 -- A call in a transaction that wasn't begun has sent nothing.
 pub unbegun_silent : (H : List Event) (m n c : ℕ) → Lawful H → is_begun H n ≡ false → scope (work H m) ≡ Tx n → has_sent m (journal H c) ≡ false
 unbegun_silent H m n c l unbegun is = by (has_sent m (journal H c)) refl
@@ -138,7 +130,7 @@ due_others H c t own n m l apart = by_unfinished (is_unfinished H m) refl
     over_rows j some its one false none = over j its (unmade H c t own n m j some none)
     over_rows j some its one true made =
         let away = rows_elsewhere H c t own n j l made in
-        let user = same_user H m j its (rows_hand_out H j made) in
+        let user = borrow_same H m j its (rows_hand_out H j made) in
         due_alike H K m (beside_alike H c t own n m l (λ uses. away (sym user ∙ uses)) (λ x which uses. away (sym (ap (borrower H) (one x which)) ∙ uses)))
 
     own_line : asks (work H m) ≡ true → ((x : ℕ) → (work H m ≡ Fetch x) ⊎ (work H m ≡ Close x) → ⊥) → due_for K m ≡ due_for H m

@@ -12,6 +12,7 @@ use Rattle.dsql_laws_calls.specs.history.Readers.HandedOut.{live, ended_with, ha
 use Rattle.dsql_laws_calls.specs.history.Rules.Wishes.{wish_as}
 use Rattle.dsql_laws_calls.proofs.laws.Tests.{both, together, same_number}
 use Rattle.dsql_laws_calls.proofs.Cases.{true_false}
+use Rattle.dsql_laws_calls.proofs.DueWay.{borrow_same}
 use Rattle.dsql_laws_calls.specs.history.declared.event.Event.{Event}
 use Rattle.dsql_laws_calls.specs.history.declared.event.Event.TheVariants.{Entered}
 use Rattle.dsql_laws_calls.specs.history.declared.event.Op.{Op}
@@ -37,7 +38,7 @@ use Rattle.dsql_laws_calls.proofs.UnderWay.{ending_over}
 use Rattle.dsql_laws_calls.proofs.Works.{old_unfinished}
 use Rattle.dsql_laws_others.proofs.Alike.{same_tx_ender}
 use Rattle.dsql_laws_others.proofs.Entries.{next_work, concerned_old}
-use Rattle.dsql_laws_others.proofs.LentOthers.{none_made, no_wish, same_user}
+use Rattle.dsql_laws_others.proofs.LentOthers.{none_made, no_wish}
 use Rattle.dsql_laws_others.specs.Ends.{ends_transaction, ends_now}
 use Rattle.dsql_laws_others.proofs.EndedTx.{entered_end}
 use Rattle.dsql_laws_others.proofs.Entered.{Enters, enters, ending_same, kept_work, kept_decided, kept_line, kept_sent}
@@ -152,7 +153,7 @@ rows_same H client n op m j o some its = by (is_some (rows_by H j)) refl
 
     made : is_some (rows_by H j) ≡ true → sent_for (enters H client n op) j (wish (enters H client n op) m j) ≡ sent_for H j (wish H m j)
     made h =
-        let user = same_user H m j its (rows_hand_out H j h) in
+        let user = borrow_same H m j its (rows_hand_out H j h) in
         let rows = same_rows H client n op m j o user in
         let lives : are_live K j ≡ are_live H j = ap live rows in
         let closing : closes K m j ≡ closes H m j =

@@ -1,7 +1,6 @@
 -- A call that was lent a connection and awaits an answer there sends something, so it keeps the connection.
 use Rattle.std.proofs.Common.{◌≡◌, ◌≢◌, ℕ, ◌==◌, ◌⊎◌, inl, inr, Bool, true, false, ◌||◌, List, [], ◌∷◌, length, Option, Some, None, is_some, refl, sym, ap, subst, ◌∙◌}
 use Rattle.std.specs.Option.{option_map}
-use Rattle.dsql_laws_calls.specs.driver.declared.call.DriverCall.{DriverCall}
 use Rattle.dsql_laws_calls.specs.driver.declared.call.DriverCall.TheVariants as calls_of
 use Rattle.dsql_laws_calls.specs.course.Made.{own_cursor}
 use Rattle.dsql_laws_calls.specs.course.declared.course.Wish.TheVariants as wishes
@@ -46,7 +45,7 @@ use Rattle.dsql_laws_calls.proofs.Begun.{begun_begins}
 use Rattle.dsql_laws_calls.proofs.Beginnings.{begin_owner, begin_there}
 use Rattle.dsql_laws_calls.proofs.BeginningsAt.{heard_more, heard_other, beginnings}
 use Rattle.dsql_laws_calls.proofs.CallTenures.{line_of_call}
-use Rattle.dsql_laws_calls.proofs.LineParts.{grows}
+use Rattle.dsql_laws_calls.proofs.LineParts.{about_none, grows}
 use Rattle.dsql_laws_calls.proofs.Lines.{line_there}
 use Rattle.dsql_laws_calls.proofs.Own.{own_used}
 use Rattle.dsql_laws_calls.proofs.RowsNew.{held}
@@ -214,12 +213,6 @@ nobody_else H e t own l is plain apart h = let u = under_way H e t own l is in b
 
     by : (u : UnderWay H e) → u.owner ≡ own → ⊥
     by u same = why (subst (λ o. Why H e.conn e.tenure o e.call_no) same u.why)
-
-about_none : (q : DriverCall) → is_about [] q ≡ false
-about_none (calls_of.Next rows) = refl
-about_none (calls_of.CloseRows rows) = refl
-about_none (calls_of.CloseStmt handle) = refl
-about_none q = refl
 
 -- What other calls send doesn't join the line of a begin.
 begin_apart : (H : List Event) (e : Entry) (c t : ℕ) (own : Owner) → Lawful H → place H c ≡ Some (Lent t own) → begins (work H (number_of own)) ≡ true → (e.call_no == number_of own) ≡ false

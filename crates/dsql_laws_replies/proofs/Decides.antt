@@ -64,7 +64,7 @@ row_decides again number dests rows _ fit heard good = absurd cc
 
 -- What is decided stays decided as the rows are closed.
 
-closing_decides : (number : ℕ) (a : DriverAnswer) (d : Option Reply) → is_some d ≡ true → is_some (closing_decision number a d) ≡ true
+pub closing_decides : (number : ℕ) (a : DriverAnswer) (d : Option Reply) → is_some d ≡ true → is_some (closing_decision number a d) ≡ true
 closing_decides number a None h = absurd cc
 closing_decides number (Fail why) (Some (Cells cells)) h = refl
 closing_decides number Bad (Some (Cells cells)) h = refl

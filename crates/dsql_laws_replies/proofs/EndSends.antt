@@ -49,12 +49,12 @@ use Rattle.dsql_laws_calls.proofs.LiveRows.{over_some}
 use Rattle.dsql_laws_calls.proofs.Own.{due_now, due_of}
 use Rattle.dsql_laws_calls.proofs.UnderWay.{line_made, scoped}
 use Rattle.dsql_laws_replies.proofs.InnerHeard.{closing_tidy}
+use Rattle.dsql_laws_replies.proofs.Decides.{closing_decides}
 use Rattle.dsql_laws_replies.proofs.InnerOver.{is_tidy}
 use Rattle.dsql_laws_calls.specs.driver.declared.caps.Caps.{Caps}
 use Rattle.dsql_laws_calls.specs.driver.Fits.{fits_of, is_memory}
 use Rattle.dsql_laws_calls.specs.history.declared.reply.Reply.{Reply}
-use Rattle.dsql_laws_calls.specs.history.declared.reply.Reply.TheVariants.{Cells}
-use Rattle.dsql_laws_calls.specs.history.Readers.Decisions.{decision, closing_decision}
+use Rattle.dsql_laws_calls.specs.history.Readers.Decisions.{decision}
 use Rattle.dsql_laws_replies.proofs.EndKinds.{held_in, end_kind, tidy_kind}
 
 same_some : (p q : DriverCall) → Some p ≡ Some q → p ≡ q
@@ -173,12 +173,6 @@ end_sends (last ∷ H) e k l h some it = by (λ may was. end_sends H e k l.0 may
 
 -- What is decided stays decided.
 
-closing_keeps : (number : ℕ) (a : DriverAnswer) (d : Option Reply) → is_some d ≡ true → is_some (closing_decision number a d) ≡ true
-closing_keeps number a None h = absurd cc
-closing_keeps number (Fail why) (Some (Cells cells)) h = refl
-closing_keeps number Bad (Some (Cells cells)) h = refl
-closing_keeps number a (Some reply) h = refl
-
 pub end_decides : (again : Bool) (number count k : ℕ) (q : DriverCall) (a : DriverAnswer) (d : Option Reply) → is_ending q ≡ true → fits_of q a ≡ true → is_memory a ≡ false → is_some (decision again number count (End k) q a d) ≡ true
 end_decides again number count k Commit Done d e fit heard = refl
 end_decides again number count k Commit Bad d e fit heard = refl
@@ -191,7 +185,7 @@ end_decides again number count k Rollback a d e fit heard = absurd cc
 end_decides again number count k q a d e fit heard = absurd cc
 
 pub end_keeps : (again : Bool) (number count k : ℕ) (q : DriverCall) (a : DriverAnswer) (d : Option Reply) → end_kind q ≡ true → fits_of q a ≡ true → is_memory a ≡ false → is_some d ≡ true → is_some (decision again number count (End k) q a d) ≡ true
-end_keeps again number count k (CloseRows r) a d kind fit heard some = closing_keeps number a d some
+end_keeps again number count k (CloseRows r) a d kind fit heard some = closing_decides number a d some
 end_keeps again number count k (CloseStmt r) a d kind fit heard some = some
 end_keeps again number count k Valid a d kind fit heard some = some
 end_keeps again number count k Commit a d kind fit heard some = end_decides again number count k Commit a d refl fit heard

@@ -20,17 +20,17 @@ use Rattle.dsql_laws_calls.specs.works.Exchanges.{step_of, got_of, with_exchange
 use Rattle.dsql_laws_calls.specs.works.Line.{sent_as, run_for, course_of}
 use Rattle.dsql_laws_calls.proofs.laws_work.MadeLines.{asking}
 use Rattle.dsql_laws_calls.specs.history.declared.reply.Reply.{Reply}
-use Rattle.dsql_laws_calls.specs.history.declared.reply.Reply.TheVariants.{Cells}
 use Rattle.dsql_laws_calls.specs.history.declared.work.Scope.TheVariants.{Tx}
 use Rattle.dsql_laws_calls.specs.history.declared.work.Work.{Work}
 use Rattle.dsql_laws_calls.specs.history.declared.work.Work.TheVariants.{Execute, ReadOne, HandOut}
-use Rattle.dsql_laws_calls.specs.history.Readers.Decisions.{decision, close_decision, closing_decision, told_of}
+use Rattle.dsql_laws_calls.specs.history.Readers.Decisions.{decision, close_decision, told_of}
 use Rattle.dsql_laws_calls.specs.history.Readers.Works.{scope, aim_of}
 use Rattle.dsql_laws_calls.specs.history.Rules.Line.{is_due}
 use Rattle.dsql_laws_calls.specs.history.Rules.Sent.{untested}
 use Rattle.dsql_laws_calls.proofs.Looks.{told_any}
 use Rattle.dsql_laws_calls.proofs.Quiet.{next_inside}
 use Rattle.dsql_laws_replies.proofs.InnerAwaits.{Fresh, IsPrepared, Awaiting, first_exec, first_one, first_out, second, third, fourth_text, fourth_handle, text_of}
+use Rattle.dsql_laws_replies.proofs.Decides.{closing_decides}
 use Rattle.dsql_laws_replies.proofs.InnerOver.{Over, is_tidy, over_next}
 
 -- What an answer decides.
@@ -139,16 +139,10 @@ inner_settles number can bad text params it k made q a d s (inr (inr (one, inr x
 
 -- What is decided stays decided.
 
-closing_keeps : (number : ℕ) (a : DriverAnswer) (d : Option Reply) → is_some d ≡ true → is_some (closing_decision number a d) ≡ true
-closing_keeps number a None h = absurd cc
-closing_keeps number (Fail why) (Some (Cells cells)) h = refl
-closing_keeps number Bad (Some (Cells cells)) h = refl
-closing_keeps number a (Some reply) h = refl
-
 inner_closes : (number : ℕ) (it : Work) (k : ℕ) (a : DriverAnswer) (d : Option Reply) → scope it ≡ Tx k → is_some d ≡ true → is_some (close_decision number it a d) ≡ true
-inner_closes number (Execute s) k a d x h = closing_keeps number a d h
-inner_closes number (ReadOne s dests) k a d x h = closing_keeps number a d h
-inner_closes number (HandOut s label) k a d x h = closing_keeps number a d h
+inner_closes number (Execute s) k a d x h = closing_decides number a d h
+inner_closes number (ReadOne s dests) k a d x h = closing_decides number a d h
+inner_closes number (HandOut s label) k a d x h = closing_decides number a d h
 inner_closes number it k a d x h = absurd cc
 
 on_close_rows : (number : ℕ) (can : Caps) (count k rows : ℕ) (it : Work) (q : DriverCall) (a : DriverAnswer) (d : Option Reply) (made : List Exchange) → scope it ≡ Tx k → is_some d ≡ true → is_due (Some (CloseRows rows)) q ≡ true → Outcome number can count it q a d made

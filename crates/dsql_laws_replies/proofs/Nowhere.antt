@@ -41,12 +41,13 @@ use Rattle.dsql_laws_calls.specs.Nothing.{HasNothing, is_elsewhere}
 use Rattle.dsql_laws_calls.proofs.BeginningsAt.{beginnings}
 use Rattle.dsql_laws_calls.proofs.Looked.{looked}
 use Rattle.dsql_laws_calls.proofs.Nowhere.{others_settled, settled_unserved}
+use Rattle.dsql_laws_calls.proofs.Own.{due_line}
 use Rattle.dsql_laws_calls.proofs.Works.{is_look}
 use Rattle.dsql_laws_replies.proofs.EndReplies.{end_replies}
 use Rattle.dsql_laws_replies.proofs.Fetches.{fetch_replies}
 use Rattle.dsql_laws_replies.proofs.InsideReplies.{inside_replies}
 use Rattle.dsql_laws_replies.proofs.RowsTold.{rows_told}
-use Rattle.dsql_laws_replies.proofs.Served.{own_line, own_settled, served_replies}
+use Rattle.dsql_laws_replies.proofs.Served.{own_settled, served_replies}
 
 never : {A : Type 0} (b : Bool) → b ≡ true → b ≡ false → A
 never b x y = absurd cc
@@ -58,7 +59,7 @@ unused H n u own none unbegun rowless =
     ∙ (ap (λ o. live o || is_some (rest_with H n o)) rowless ∙ line)
   where
     line : is_some (line_of H n wishes.Nothing) ≡ false
-    line = ap (λ d. is_some d) (sym (own_line H n (work H n) own)) ∙ ap (λ (b : Bool). is_some (cond b (due_in H n (work H n)) None)) (sym u) ∙ none
+    line = ap (λ d. is_some d) (sym (due_line H n (work H n) own)) ∙ ap (λ (b : Bool). is_some (cond b (due_in H n (work H n)) None)) (sym u) ∙ none
 
 -- If every lent connection is in use, such a call has no connection.
 pub lent_used : (H : List Event) (n : ℕ) (conns : List Conn) → list_all (λ conn. is_in_use H conn.place) conns ≡ true → is_kept H n ≡ false → list_any (λ conn. is_for n conn.place) conns ≡ false

@@ -11,29 +11,28 @@ use Rattle.dsql_laws_calls.specs.journal.declared.entry.Owner.{Owner}
 use Rattle.dsql_laws_calls.specs.journal.Kinds.{number_of}
 use Rattle.dsql_laws_calls.specs.pool.declared.conn.Place.TheVariants.{Lent}
 use Rattle.dsql_laws_calls.specs.rows.declared.rows.Rows.{Rows}
-use Rattle.dsql_laws_calls.specs.rows.OpenRows.{ended_by, rows_of}
+use Rattle.dsql_laws_calls.specs.rows.OpenRows.{rows_of}
 use Rattle.dsql_laws_calls.specs.works.Exchanges.{exchanges}
 use Rattle.dsql_laws_calls.specs.works.HandedOut.{Made}
 use Rattle.dsql_laws_calls.specs.works.Line.{handed}
 use Rattle.dsql_laws_calls.specs.works.declared.work.Aim.TheVariants as aims
 use Rattle.dsql_laws_calls.proofs.laws_work.HandedLines.{SentOver, due_over}
 use Rattle.dsql_laws_calls.proofs.laws_work.Rows.{same_or_not}
-use Rattle.dsql_laws_calls.specs.history.Readers.HandedOut.{fetched, handed_out, last_end, rows_by, rows_heard}
+use Rattle.dsql_laws_calls.specs.history.Readers.HandedOut.{fetched, handed_out, rows_by, rows_heard}
 use Rattle.dsql_laws_calls.specs.history.Readers.Tries.{try_number, tries, tries_again}
 use Rattle.dsql_laws_calls.proofs.laws.Tests.{other_number}
 use Rattle.dsql_laws_calls.specs.history.declared.event.Event.{Event}
-use Rattle.dsql_laws_calls.specs.history.declared.event.Event.TheVariants.{Entered, Heard, Ended}
+use Rattle.dsql_laws_calls.specs.history.declared.event.Event.TheVariants.{Heard}
 use Rattle.dsql_laws_calls.specs.history.declared.reply.Reply.{Reply}
-use Rattle.dsql_laws_calls.specs.history.declared.reply.Reply.TheVariants as reply
 use Rattle.dsql_laws_calls.specs.history.declared.work.Work.{Work}
 use Rattle.dsql_laws_calls.specs.history.declared.work.Work.TheVariants.{HandOut, Fetch}
 use Rattle.dsql_laws_calls.specs.history.Readers.Calls.{call_record, decided}
 use Rattle.dsql_laws_calls.specs.history.Readers.Course.{caps}
-use Rattle.dsql_laws_calls.specs.history.Readers.Decisions.{closing_decision, decision}
+use Rattle.dsql_laws_calls.specs.history.Readers.Decisions.{decision}
 use Rattle.dsql_laws_calls.specs.history.Readers.Journals.{heard_in}
 use Rattle.dsql_laws_calls.specs.history.Readers.Pool.{place}
 use Rattle.dsql_laws_calls.specs.history.Readers.Unfinished.{is_unfinished}
-use Rattle.dsql_laws_calls.specs.history.Readers.Works.{aim_of, asks, scope, work}
+use Rattle.dsql_laws_calls.specs.history.Readers.Works.{aim_of, asks, work}
 use Rattle.dsql_laws_calls.specs.history.Rules.Line.{is_due}
 use Rattle.dsql_laws_calls.specs.history.Rules.Sent.{asked_by, is_reset_due}
 use Rattle.dsql_laws_calls.specs.history.Legal.{Lawful}
@@ -43,13 +42,14 @@ use Rattle.dsql_laws_calls.proofs.CallTenures.{call_line, line_of_call, plain_du
 use Rattle.dsql_laws_calls.proofs.Coming.{sound}
 use Rattle.dsql_laws_calls.proofs.Lines.{line_there}
 use Rattle.dsql_laws_calls.proofs.Looks.{comes, heard_there}
-use Rattle.dsql_laws_calls.proofs.Makers.{hands_out, rows_begin_nothing, rows_hand_out, some_changed, some_entered, some_heard, some_mapped}
+use Rattle.dsql_laws_calls.proofs.Makers.{hands_out, rows_begin_nothing, rows_hand_out, some_changed, some_heard}
 use Rattle.dsql_laws_calls.proofs.Own.{own_way}
 use Rattle.dsql_laws_calls.proofs.Plain.{line_plain}
-use Rattle.dsql_laws_calls.proofs.RowsNew.{held}
+use Rattle.dsql_laws_calls.proofs.RowsNew.{held, were_made}
 use Rattle.dsql_laws_calls.proofs.Stays.{not_looking}
 use Rattle.dsql_laws_calls.proofs.Works.{is_look, other_heard, work_stays}
 use Rattle.dsql_laws_replies.proofs.Awaiting.{plain_call}
+use Rattle.dsql_laws_replies.proofs.Decides.{closing_decides}
 use Rattle.dsql_laws_replies.proofs.Records.{own_record, record_stays}
 
 none_some : {A X : Type 0} (o : Option X) → o ≡ None → is_some o ≡ true → A
@@ -67,15 +67,10 @@ new_told H again number count m it q a d R none some = none_some (rows_of m R) n
 
 -- What comes over the rows later leaves a reply decided.
 
-closing_keeps : (number : ℕ) (a : DriverAnswer) (d : Option Reply) → is_some d ≡ true → is_some (closing_decision number a d) ≡ true
-closing_keeps number (answers.Fail text) (Some (reply.Cells cells)) h = refl
-closing_keeps number answers.Bad (Some (reply.Cells cells)) h = refl
-closing_keeps number a d h = h
-
 over_keeps : (again over : Bool) (number count : ℕ) (it : Work) (q : DriverCall) (a : DriverAnswer) (d : Option Reply) → hands_out it ≡ true → SentOver q wishes.Nothing over → is_some d ≡ true
     → is_some (decision again number count it q a d) ≡ true
 over_keeps again over number count (HandOut s label) (Next rows) a d hands sent h = let clash = sent.0 in absurd cc
-over_keeps again over number count (HandOut s label) (CloseRows rows) a d hands sent h = closing_keeps number a d h
+over_keeps again over number count (HandOut s label) (CloseRows rows) a d hands sent h = closing_decides number a d h
 over_keeps again over number count (HandOut s label) (CloseStmt handle) a d hands sent h = h
 over_keeps again over number count (HandOut s label) Valid a d hands sent h = h
 over_keeps again over number count (HandOut s label) q a d hands sent h = absurd sent
@@ -142,13 +137,6 @@ own_told H e l numbered own before some = ap (λ o. is_some o) (own_record H e (
         let made : is_some (rows_by H m) ≡ true = ap (λ o. is_some o) is in
         let sent = own_over H e l numbered own made in
         over_keeps again sent.0 number count (work H m) e.call e.answer (decided H m) (rows_hand_out H m made) sent.1 (before made)
-
--- An event other than an answer makes no rows.
-were_made : (H : List Event) (e : Event) (n : ℕ) → is_answer e ≡ false → is_some (rows_by (e ∷ H) n) ≡ true → is_some (rows_by H n) ≡ true
-were_made H (Entered client m op) n none h = sym (some_entered H op n (handed_out H)) ∙ h
-were_made H (Heard e) n none h = absurd cc
-were_made H Ended n none h = sym (some_mapped (λ j. ended_by (last_end (scope (work H j)))) n (handed_out H)) ∙ h
-were_made H e n none h = h
 
 quietly : (H : List Event) (e : Event) (n : ℕ) → Lawful (e ∷ H) → is_answer e ≡ false → is_unfinished (e ∷ H) n ≡ true → asks (work (e ∷ H) n) ≡ true → is_some (rows_by (e ∷ H) n) ≡ true
     → (is_unfinished H n ≡ true → asks (work H n) ≡ true → is_some (rows_by H n) ≡ true → is_some (decided H n) ≡ true) → is_some (decided (e ∷ H) n) ≡ true

@@ -27,7 +27,6 @@ use Rattle.dsql_laws_calls.specs.history.declared.event.Event.{Event}
 use Rattle.dsql_laws_calls.specs.history.declared.event.Event.TheVariants.{Run, Entered, Heard, Pool, Replied}
 use Rattle.dsql_laws_calls.specs.history.declared.reply.Reply.{Reply}
 use Rattle.dsql_laws_calls.specs.history.declared.reply.Reply.TheVariants as reply
-use Rattle.dsql_laws_calls.specs.history.declared.work.Scope.TheVariants.{Db}
 use Rattle.dsql_laws_calls.specs.history.declared.work.Work.{Work}
 use Rattle.dsql_laws_calls.specs.history.declared.work.Work.TheVariants as works_of
 use Rattle.dsql_laws_calls.specs.history.Readers.Course.{caps}
@@ -40,7 +39,7 @@ use Rattle.dsql_laws_calls.specs.history.Readers.Unfinished.{is_unfinished}
 use Rattle.dsql_laws_calls.specs.history.Readers.Works.{work, asks, aim_of}
 use Rattle.dsql_laws_calls.specs.history.Rules.Course.{begins_with_run, goes_forward, ends_once, keeps_course}
 use Rattle.dsql_laws_calls.specs.history.Rules.Line.{is_due, due_in, due_for}
-use Rattle.dsql_laws_calls.specs.history.Rules.Sent.{asked_by, is_reset_due, line_of}
+use Rattle.dsql_laws_calls.specs.history.Rules.Sent.{asked_by, is_reset_due}
 use Rattle.dsql_laws_calls.specs.history.Legal.{Allowed, Lawful}
 use Rattle.dsql_laws_calls.proofs.laws.Numbered.{unfinished_from_one}
 use Rattle.dsql_laws_calls.proofs.Owners.{at_home}
@@ -54,7 +53,7 @@ use Rattle.dsql_laws_calls.proofs.CallTenures.{call_line, line_of_call, plain_du
 use Rattle.dsql_laws_calls.proofs.LineParts.{grows_own}
 use Rattle.dsql_laws_calls.proofs.Idle.{lends_asker}
 use Rattle.dsql_laws_calls.proofs.Lines.{line_there, line_here}
-use Rattle.dsql_laws_calls.proofs.Own.{asks_own, OwnWay, own_way}
+use Rattle.dsql_laws_calls.proofs.Own.{asks_own, OwnWay, own_way, due_line}
 use Rattle.dsql_laws_calls.proofs.Coming.{sound}
 use Rattle.dsql_laws_replies.proofs.Awaiting.{awaited_by, begin_awaited, plain_awaited, awaited_as, Needs, Awaits, plain_call, awaiting_sends, still_awaits, awaits_lent, same_lent, other_awaits}
 use Rattle.dsql_laws_replies.proofs.Begins.{begin_awaits, BeginSettles, begin_settles}
@@ -284,14 +283,6 @@ settles (e ∷ H) n l some u h needs = settles_quiet H e n l refl (served_asks H
 
 -- If the call has nothing more to send, it has settled its reply.
 
-pub own_line : (H : List Event) (n : ℕ) (w : Work) → asks w ≡ true → due_in H n w ≡ line_of H n wishes.Nothing
-own_line H n (works_of.Execute Db) own = refl
-own_line H n (works_of.ReadOne Db dests) own = refl
-own_line H n (works_of.HandOut Db label) own = refl
-own_line H n (works_of.Begin label level read_only) own = refl
-own_line H n works_of.Ping own = refl
-own_line H n w own = absurd cc
-
 served_decides : (H : List Event) (n : ℕ) → Lawful H → is_unfinished H n ≡ true → was_served (tries H n) ≡ true → Needs H n → is_some (due_for H n) ≡ false → is_some (decided H n) ≡ true
 served_decides H n l u h needs none = by (settles H n l (unfinished_from_one H n l u) u h needs)
   where
@@ -300,7 +291,7 @@ served_decides H n l u h needs none = by (settles H n l (unfinished_from_one H n
     by (inr a) =
         let own = served_asks H n l h (unfinished_from_one H n l u) in
         let its : due_for H n ≡ line_there H a.conn a.tenure a.owner n wishes.Nothing =
-        ap (λ (b : Bool). cond b (due_in H n (work H n)) None) u ∙ own_line H n (work H n) own ∙ line_here H a.conn a.tenure a.owner n wishes.Nothing l a.lent (asks_own H n own ∙ sym a.number)
+        ap (λ (b : Bool). cond b (due_in H n (work H n)) None) u ∙ due_line H n (work H n) own ∙ line_here H a.conn a.tenure a.owner n wishes.Nothing l a.lent (asks_own H n own ∙ sym a.number)
         in
         absurd (never (is_some (due_for H n)) (ap (λ d. is_some d) its ∙ awaiting_sends H n l needs a) none)
 

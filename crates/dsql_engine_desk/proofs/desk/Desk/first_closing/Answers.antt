@@ -1,8 +1,8 @@
 use Rattle.std.proofs.Common.{◌<◌, ◌≤◌, length, arith, sym, ◌∙◌}
-use Rattle.dsql_laws_calls.proofs.Works.{as_many}
 use Rattle.dsql_engine_desk.specs.Desk.{past}
 use Rattle.dsql_engine_exchanged.specs.Filled.{filled}
 use Rattle.dsql_laws_calls.specs.history.Readers.Works.{works}
+use Rattle.dsql_laws_calls.proofs.Stays.{as_many}
 use Rattle.dsql_laws_calls.specs.history.Rules.Sent.{asked_by}
 use Rattle.dsql_engine_desk.proofs.FewCalls.{few_numbers, rows_counted}
 use Rattle.dsql_engine_desk.proofs.FirstClosing.{beyond, closed_here, none_here, skipped}
