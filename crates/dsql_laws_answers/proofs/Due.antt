@@ -41,7 +41,7 @@ use Rattle.dsql_laws_calls.proofs.Lent.{elsewhere, move_facts}
 use Rattle.dsql_laws_calls.proofs.Makers.{hands_out, rows_hand_out, sent_made}
 use Rattle.dsql_laws_calls.proofs.Owners.{at_home}
 use Rattle.dsql_laws_calls.proofs.Tidying.{ending_lent, lent_where_due}
-use Rattle.dsql_laws_calls.proofs.UnderWay.{scoped}
+use Rattle.dsql_laws_calls.proofs.Why.{scoped}
 use Rattle.dsql_laws_others.proofs.Alike.{closing_alike, ends_alike, same_tx_ender}
 use Rattle.dsql_laws_others.proofs.Entered.{first_same}
 use Rattle.dsql_laws_others.proofs.Homes.{HomeStays, line_by_home}

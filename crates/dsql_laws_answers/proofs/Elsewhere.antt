@@ -47,7 +47,7 @@ use Rattle.dsql_laws_calls.proofs.Makers.{hands_out, rows_hand_out}
 use Rattle.dsql_laws_calls.proofs.Own.{asks_own}
 use Rattle.dsql_laws_calls.proofs.Owners.{lent_asks, lent_number}
 use Rattle.dsql_laws_calls.proofs.Stays.{asked_stays, not_looking}
-use Rattle.dsql_laws_calls.proofs.UnderWay.{scoped}
+use Rattle.dsql_laws_calls.proofs.Why.{scoped}
 use Rattle.dsql_laws_others.proofs.Alike.{line_asked, ends_alike, closing_alike, used_alike}
 use Rattle.dsql_laws_others.proofs.Entered.{first_same}
 

@@ -27,9 +27,6 @@ heard_facts : (H : List Event) (e : Entry) → Allowed H (Heard e) → HeardFact
 unfolding Allowed
 heard_facts H e a = record { sets = a.sets; line = a.line; follows = a.journals }
 
-pub heard_follows : (H : List Event) (e : Entry) → Allowed H (Heard e) → may_follow (journal H e.conn) e ≡ true
-heard_follows H e a = let f = heard_facts H e a in f.follows
-
 -- Holds if the entry's connection is lent to its owner in its tenure, and the entry may come.
 pub record HeardLent (H : List Event) (e : Entry) : Type 0 where
   pub lent : place H e.conn ≡ Some (Lent e.tenure e.owner)

@@ -14,7 +14,7 @@ use Rattle.dsql_laws_calls.specs.history.declared.event.Event.{Event}
 use Rattle.dsql_laws_callers.proofs.Numbered.{numbered, found_there}
 use Rattle.dsql_laws_callers.proofs.Tenures.{found_place, open_opened}
 
-found_fits : (p : Conn → Bool) (xs : List Conn) (y : Conn) → find p xs ≡ Some y → p y ≡ true
+pub found_fits : (p : Conn → Bool) (xs : List Conn) (y : Conn) → find p xs ≡ Some y → p y ≡ true
 found_fits p [] y is = absurd cc
 found_fits p (x ∷ xs) y is =
     elim (p x) as (λ b. p x ≡ b → cond b (Some x) (find p xs) ≡ Some y → p y ≡ true) [

@@ -5,6 +5,7 @@ use Rattle.dsql_laws_calls.specs.journal.declared.entry.Owner.{Owner}
 use Rattle.dsql_laws_calls.specs.journal.declared.entry.Owner.TheVariants.{Call, Tx, Pin, House}
 use Rattle.dsql_laws_calls.specs.journal.Kinds.{is_house, is_pin, is_tx_number, number_of}
 use Rattle.dsql_laws_calls.proofs.journal.Sentences.{MayFollow-of}
+use Rattle.dsql_laws_calls.proofs.LineParts.{heard_follows}
 use Rattle.dsql_laws_calls.proofs.Own.{asks_own}
 use Rattle.dsql_laws_calls.proofs.laws.Tests.{same_number, other_number}
 use Rattle.dsql_laws_calls.specs.history.declared.event.Event.{Event}
@@ -17,7 +18,7 @@ use Rattle.dsql_laws_calls.specs.history.Readers.Works.{work, asks, borrower, ow
 use Rattle.dsql_laws_calls.specs.history.Rules.Moves.{is_house_entry}
 use Rattle.dsql_laws_calls.specs.history.Legal.{Lawful}
 use Rattle.dsql_laws_calls.proofs.Owners.{owner_is_of}
-use Rattle.dsql_laws_callers.proofs.Heard.{heard_follows, heard_lent}
+use Rattle.dsql_laws_callers.proofs.Heard.{heard_lent}
 use Rattle.dsql_laws_callers.proofs.Senders.{senders}
 use Rattle.dsql_laws_callers.proofs.Tidying.{tidies_ended}
 

@@ -123,7 +123,7 @@ abbrev pub last_began : List Entry → Bool
 last_began [] = false
 last_began (e ∷ earlier) = is_begin e.call && is_done e.answer
 
-began_sends_none : (can : Caps) (reset : Bool) (begin : DriverCall) (L : List Entry) → last_began L ≡ true → is_some (begin_line can reset begin L) ≡ false
+pub began_sends_none : (can : Caps) (reset : Bool) (begin : DriverCall) (L : List Entry) → last_began L ≡ true → is_some (begin_line can reset begin L) ≡ false
 began_sends_none can reset begin [] h = absurd cc
 began_sends_none can reset begin (e ∷ earlier) h = let a = both (is_begin e.call) (is_done e.answer) h in by (is_bad e.answer || is_valid e.call) a.0 a.1
   where

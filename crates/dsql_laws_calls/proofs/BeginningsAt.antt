@@ -50,6 +50,7 @@ use Rattle.dsql_laws_calls.proofs.Begun.{BeginsIt, as_begun, entered_tx, heard_t
 use Rattle.dsql_laws_calls.proofs.AtEnd.{no_work_yet}
 use Rattle.dsql_laws_calls.proofs.Own.{OwnWay, own_way}
 use Rattle.dsql_laws_calls.proofs.Beginnings.{Beginnings, begins_busy, asking, numbered, begin_owner, begin_there, begin_stepless, due_steps, last_began, silent, lent_once_begun, still}
+use Rattle.dsql_laws_calls.proofs.Born.{heard_at}
 use Rattle.dsql_laws_calls.proofs.LineParts.{about_none}
 use Rattle.dsql_laws.specs.history.Readers.Course.{caps}
 use Rattle.dsql_laws.specs.history.Rules.Sent.{is_reset_due, begin_line}
@@ -123,10 +124,6 @@ quiet H e l none b = record {
 }
 
 -- The event is an answer.
-
-heard_at : (H : List Event) (e : Entry) → Allowed H (Heard e) → hears_in (pool H) (place H e.conn) e ≡ true
-unfolding Allowed
-heard_at H e a = a.sets
 
 pub heard_tenure : (H : List Event) (e : Entry) (t : ℕ) (own : Owner) → Allowed H (Heard e) → place H e.conn ≡ Some (Lent t own) → e.tenure ≡ t
 heard_tenure H e t own a is =

@@ -49,7 +49,7 @@ begun_none : (H : List Event) (n : ℕ) → Born H → (d : ℕ) → (pool H).op
 begun_none H n b d above = begun_off d (wanted_by H n) (pool H) (λ is. absurd (omega (arith, above, is))) ∙ b.none d (omega (arith, above))
 
 -- An answer is heard on an open connection.
-heard_at : (H : List Event) (e : Entry) → Allowed H (Heard e) → hears_in (pool H) (place H e.conn) e ≡ true
+pub heard_at : (H : List Event) (e : Entry) → Allowed H (Heard e) → hears_in (pool H) (place H e.conn) e ≡ true
 unfolding Allowed
 heard_at H e a = a.sets
 

@@ -10,9 +10,6 @@ use Rattle.dsql_laws.proofs.Tests.{same_number}
 use Rattle.dsql_laws.specs.history.declared.event.Event.{Event}
 use Rattle.dsql_laws.specs.history.declared.event.Event.TheVariants.{Entered, Heard, Ended}
 use Rattle.dsql_laws.specs.history.declared.event.Op.{Op}
-use Rattle.dsql_laws.specs.history.declared.work.Scope.TheVariants.{Tx}
-use Rattle.dsql_laws.specs.history.declared.work.Work.{Work}
-use Rattle.dsql_laws.specs.history.declared.work.Work.TheVariants.{HandOut}
 use Rattle.dsql_laws.specs.history.Readers.Works.{work, scope, hands_out_in}
 use Rattle.dsql_laws.specs.history.Readers.Journals.{journal, heard_in}
 use Rattle.dsql_laws.specs.history.Readers.Lines.{is_about, line_among, has_sent}
@@ -29,6 +26,7 @@ use Rattle.dsql_laws_calls.proofs.TxEnders.{sent_entered}
 use Rattle.dsql_laws_calls.proofs.Ends.{zero_work}
 use Rattle.dsql_laws_calls.proofs.Inside.{inside, number_not, hands_same}
 use Rattle.dsql_laws_calls.proofs.LineParts.{fits_heard, grows, unsent_line, unsent_in, query_makes, about_gives, given_or}
+use Rattle.dsql_laws_calls.proofs.Why.{scoped}
 
 -- Is true if a cursor stands in the line of call m.
 abbrev pub holds_cursor : ℕ → List Entry → Bool
@@ -89,10 +87,6 @@ handed_made (Heard e ∷ H) c t m l hands h = by (handed_made H c t m l.0 hands)
 handed_made (Entered client n op ∷ H) c t m l hands h = let k = rows_kept H (Entered client n op) m in k.some (handed_made H c t m l.0 (was_handing H client n op c t m l hands h) h)
 handed_made (Ended ∷ H) c t m l hands h = let k = rows_kept H Ended m in k.some (handed_made H c t m l.0 hands h)
 handed_made (_ ∷ H) c t m l hands h = handed_made H c t m l.0 hands h
-
-scoped : (w : Work) (k : ℕ) → hands_out_in k w ≡ true → scope w ≡ Tx k
-scoped (HandOut (Tx j) label) k h = ap Tx (same_number j k h)
-scoped w k h = absurd cc
 
 pub rows_begun : (H : List Event) (n k : ℕ) → Lawful H → is_some (rows_by H n) ≡ true → hands_out_in k (work H n) ≡ true → is_begun H k ≡ true
 rows_begun [] n k l some hands = absurd cc

@@ -34,12 +34,12 @@ use Rattle.dsql_laws_calls.proofs.Makers.{hands_out}
 use Rattle.dsql_laws_calls.proofs.Quiet.{next_gives, rows_give, stmt_gives}
 
 -- An answer fits its driver call.
-follows_of : (H : List Event) (e : Entry) → Allowed H (Heard e) → may_follow (journal H e.conn) e ≡ true
+pub heard_follows : (H : List Event) (e : Entry) → Allowed H (Heard e) → may_follow (journal H e.conn) e ≡ true
 unfolding Allowed
-follows_of H e a = a.journals
+heard_follows H e a = a.journals
 
 pub fits_heard : (H : List Event) (e : Entry) → Allowed H (Heard e) → fits_of e.call e.answer ≡ true
-fits_heard H e a = let m : MayFollow (journal H e.conn) e = MayFollow-of (journal H e.conn) e (follows_of H e a) in m.answer.fitting
+fits_heard H e a = let m : MayFollow (journal H e.conn) e = MayFollow-of (journal H e.conn) e (heard_follows H e a) in m.answer.fitting
 
 -- An entry that joins a line is of the line's call, or is about the cursor or the handle that the line was
 -- given.

@@ -60,7 +60,7 @@ abbrev pub hands_out : Work → Bool
 hands_out (HandOut s label) = true
 hands_out it = false
 
-hands_no_look : (it : Work) → hands_out it ≡ true → is_look it ≡ false
+pub hands_no_look : (it : Work) → hands_out it ≡ true → is_look it ≡ false
 hands_no_look (HandOut s label) h = refl
 hands_no_look it h = absurd cc
 

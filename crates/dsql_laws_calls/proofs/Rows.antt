@@ -137,7 +137,7 @@ ends_work H (SetLimit s k) n l was now some = absurd (some refl)
 ends_work H (Replied m reply) n l was now some = absurd (some refl)
 ends_work H Ended n l was now some = absurd (some refl)
 
-worker_sends : (w : Work) → is_worker w ≡ true → is_look w ≡ false
+pub worker_sends : (w : Work) → is_worker w ≡ true → is_look w ≡ false
 worker_sends (Fetch k) h = refl
 worker_sends (Close k) h = refl
 worker_sends (End k) h = refl

@@ -44,7 +44,6 @@ use Rattle.dsql_laws_calls.proofs.Why.{ended_there}
 use Rattle.dsql_laws.specs.driver.declared.caps.Caps.{Caps}
 use Rattle.dsql_laws.specs.driver.declared.answer.DriverAnswer.{DriverAnswer}
 use Rattle.dsql_laws.specs.driver.Fits.{fits_of, is_memory}
-use Rattle.dsql_laws.specs.journal.Journal.{may_follow}
 use Rattle.dsql_laws.specs.journal.Facts.{MayFollow}
 use Rattle.dsql_laws.proofs.journal.Sentences.{MayFollow-of}
 use Rattle.dsql_laws.specs.pool.declared.moves.Move.TheVariants.{Lend}
@@ -57,7 +56,7 @@ use Rattle.dsql_laws_calls.proofs.Stays.{asked_stays, not_looking}
 use Rattle.dsql_laws_calls.proofs.Tenures.{fresh_lending}
 use Rattle.dsql_laws_calls.proofs.Looks.{heard_there, comes}
 use Rattle.dsql_laws_calls.proofs.BeginningsAt.{is_answer, heard_same, was_unfinished, heard_tenure, heard_more, beginnings}
-use Rattle.dsql_laws_calls.proofs.LineParts.{fits_heard, grows, grows_own, unsent_line, unsent_in, known_bad}
+use Rattle.dsql_laws_calls.proofs.LineParts.{fits_heard, grows, grows_own, unsent_line, unsent_in, known_bad, heard_follows}
 use Rattle.dsql_laws_calls.proofs.UnderWay.{line_made, handed_there, Going, Facts, InsideWay, UnderWay, clash}
 use Rattle.dsql_laws_calls.proofs.DueWay as of_due
 use Rattle.dsql_laws_calls.proofs.DueWay.{inner_line}
@@ -184,12 +183,8 @@ ends_heard H e l s c t own is here on =
     by true i h k = let x = h i in absurd cc
     by false i h k = ap (λ x. x || ended_there (heard_in H c t)) i ∙ k
 
-follows_of : (H : List Event) (e : Entry) → Allowed H (Heard e) → may_follow (journal H e.conn) e ≡ true
-unfolding Allowed
-follows_of H e a = a.journals
-
 pub fitting : (H : List Event) (e : Entry) → Allowed H (Heard e) → (fits_of e.call e.answer && not (is_memory e.answer)) ≡ true
-fitting H e a = let m : MayFollow (journal H e.conn) e = MayFollow-of (journal H e.conn) e (follows_of H e a) in together (fits_of e.call e.answer) (not (is_memory e.answer)) m.answer.fitting m.answer.heard
+fitting H e a = let m : MayFollow (journal H e.conn) e = MayFollow-of (journal H e.conn) e (heard_follows H e a) in together (fits_of e.call e.answer) (not (is_memory e.answer)) m.answer.fitting m.answer.heard
 
 pub made_heard : (H : List Event) (e : Entry) → Lawful (Heard e ∷ H) → Sound H → (c t : ℕ) (own : Owner) → place H c ≡ Some (Lent t own) → e.conn ≡ c → is_call own ≡ true
     → MadeAt (caps (Heard e ∷ H)) (asked_by (Heard e ∷ H) (number_of own)) (step (heard_in (Heard e ∷ H) c t)) (exchanges (heard_in (Heard e ∷ H) c t))

@@ -373,7 +373,7 @@ idle_or_opening (Some (Lent t o)) h k = cc
 idle_or_opening (Some Closing) h k = cc
 idle_or_opening None h k = cc
 
-lent_or_opening : (at : Option Place) → is_lent at ≡ true → is_opening at ≡ true → ⊥
+pub lent_or_opening : (at : Option Place) → is_lent at ≡ true → is_opening at ≡ true → ⊥
 lent_or_opening (Some Idle) h k = cc
 lent_or_opening (Some (Opening w)) h k = cc
 lent_or_opening (Some (Lent t o)) h k = cc

@@ -77,7 +77,7 @@ rows_work H last j some = of_works.work_stays H last j (busy (work H j) (rows_ha
     busy w h = absurd cc
 
 -- The call of an entry that may come keeps its work.
-coming_work : (H : List Event) (last : Event) (e : Entry) → may_come H e ≡ true → work (last ∷ H) e.call_no ≡ work H e.call_no
+pub coming_work : (H : List Event) (last : Event) (e : Entry) → may_come H e ≡ true → work (last ∷ H) e.call_no ≡ work H e.call_no
 coming_work H last e may = by (e.call_no == 0) refl
   where
     by : (b : Bool) → (e.call_no == 0) ≡ b → work (last ∷ H) e.call_no ≡ work H e.call_no

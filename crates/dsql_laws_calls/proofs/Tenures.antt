@@ -31,7 +31,7 @@ use Rattle.dsql_laws.specs.history.Readers.Journals.{journal, heard_in}
 use Rattle.dsql_laws.specs.history.Readers.Pool.{pool, place, wanted_by}
 use Rattle.dsql_laws.specs.history.Rules.Moves.{hears_in, is_house_entry}
 use Rattle.dsql_laws.specs.history.Legal.{Allowed, Lawful}
-use Rattle.dsql_laws_calls.proofs.Born.{born, open_is_old}
+use Rattle.dsql_laws_calls.proofs.Born.{born, heard_at, open_is_old}
 use Rattle.dsql_laws_calls.proofs.Lent.{move_facts, elsewhere, lent_before}
 
 -- Returns how often connection c was lent.
@@ -70,7 +70,7 @@ lends_stay H (Heard e) c t own l a is = refl
 lends_stay H (Waits k) c t own l a is = refl
 lends_stay H (Replied k reply) c t own l a is = refl
 
-there_from : (at : Option Place) → (is_idle at || is_opening at) ≡ true → is_some at ≡ true
+pub there_from : (at : Option Place) → (is_idle at || is_opening at) ≡ true → is_some at ≡ true
 there_from None h = absurd cc
 there_from (Some p) h = refl
 
@@ -127,7 +127,7 @@ there_back (Some (Lent t o)) h = refl
 there_back (Some (Opening w)) h = refl
 there_back at h = absurd cc
 
-there_any : (at : Option Place) → (is_idle at || (is_lent at || is_opening at)) ≡ true → is_some at ≡ true
+pub there_any : (at : Option Place) → (is_idle at || (is_lent at || is_opening at)) ≡ true → is_some at ≡ true
 there_any None h = absurd cc
 there_any (Some p) h = refl
 
@@ -188,10 +188,6 @@ below_shut H c had h =
     let same = shut_lends H c in
     let there = shut_there (place H c) (sym (ap is_there (ap place_in (shut_found c (pool H)) ∙ unwanted_in (conn_of c (pool H).conns))) ∙ h) in
     more_below (lends H c + 1) (lends_of c (shut (pool H)).conns + 1) (journal H c) (omega (arith, same)) (had there)
-
-heard_at : (H : List Event) (e : Entry) → Allowed H (Heard e) → hears_in (pool H) (place H e.conn) e ≡ true
-unfolding Allowed
-heard_at H e a = a.sets
 
 heard_below : (H : List Event) (e : Entry) → Lawful H → Allowed H (Heard e) → is_there (place H e.conn) ≡ true → nat_le e.tenure (lends H e.conn + 1) ≡ true
 heard_below H e l a h = by (place H e.conn) refl (heard_at H e a) h

@@ -45,7 +45,7 @@ use Rattle.dsql_laws_calls.proofs.Inside.{inside_uses, number_not}
 use Rattle.dsql_laws_calls.proofs.Quiet.{Quiet}
 use Rattle.dsql_laws_calls.proofs.InnerLines.{Ordered}
 use Rattle.dsql_laws_calls.proofs.CallTenures.{call_line}
-use Rattle.dsql_laws_calls.proofs.Why.{ended_there, test_there, Closes, Left, Why}
+use Rattle.dsql_laws_calls.proofs.Why.{ended_there, test_there, Closes, Left, Why, scoped}
 
 -- What holds, on a lent connection, of the calls in its transaction.
 
@@ -125,10 +125,6 @@ first_of H k n (w ∷ ws) h = by (first_of H k (n + 1) ws) (hands_out_in k w) (c
     by rest true (Some q) hands is x = record { index = 0; hands = hands; some = subst (λ i. is_some (closing H i) ≡ true) (omega arith) (ap (λ o. is_some o) is) }
     by rest true None hands is x = let f = rest x in record { index = suc f.index; hands = f.hands; some = subst (λ i. is_some (closing H i) ≡ true) (omega arith) f.some }
     by rest false o hands is x = let f = rest x in record { index = suc f.index; hands = f.hands; some = subst (λ i. is_some (closing H i) ≡ true) (omega arith) f.some }
-
-pub scoped : (w : Work) (n : ℕ) → hands_out_in n w ≡ true → scope w ≡ Tx n
-scoped (HandOut (Tx j) label) n h = ap Tx (same_number j n h)
-scoped w n h = absurd cc
 
 closes_of : (H : List Event) (c t : ℕ) (own : Owner) (k : ℕ) → Lawful H → place H c ≡ Some (Lent t own) → hands_out_in (number_of own) (work H k) ≡ true → is_some (closing H k) ≡ true → Closes H c t own k
 closes_of H c t own k l is hands some = by (are_over H k) refl some

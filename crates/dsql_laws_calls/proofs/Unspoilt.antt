@@ -47,12 +47,13 @@ use Rattle.dsql_laws.specs.history.Legal.{Allowed, Lawful}
 use Rattle.dsql_laws.proofs.AbleMoves.{able}
 use Rattle.dsql_laws.proofs.AtRest.{Keeps, keeps_of, owes, given_so}
 use Rattle.dsql_laws_calls.proofs.BeginningsAt.{heard_more}
-use Rattle.dsql_laws_calls.proofs.Born.{born}
+use Rattle.dsql_laws_calls.proofs.Born.{born, heard_at}
 use Rattle.dsql_laws_calls.proofs.CallTenures.{call_line}
 use Rattle.dsql_laws_calls.proofs.Coming.{sound}
 use Rattle.dsql_laws_calls.proofs.Lent.{move_facts}
 use Rattle.dsql_laws_calls.proofs.Sound.{was_under_way, fitting}
-use Rattle.dsql_laws_calls.proofs.Spared.{was_heard, was_opened, opened_when, moves, unpressed}
+use Rattle.dsql_laws_calls.proofs.Spared.{was_heard, was_opened, opened_when, moves, unpressed, lent_or_opening}
+use Rattle.dsql_laws_calls.proofs.Tenures.{there_any, there_from}
 use Rattle.dsql_laws_calls.proofs.UnderWay.{UnderWay}
 
 -- Is true if an answer was Bad, or the newest answer is Invalid.
@@ -140,17 +141,9 @@ fine_back heard opened J (Some Idle) s from h k = absurd cc
 fine_back heard opened J (Some Closing) s from h k = absurd cc
 fine_back heard opened J None s from h k = absurd cc
 
-there_from : (at : Option Place) → (is_idle at || is_opening at) ≡ true → is_some at ≡ true
-there_from None h = absurd cc
-there_from (Some p) h = refl
-
-there_lent : (at : Option Place) → (is_lent at || is_opening at) ≡ true → is_some at ≡ true
+pub there_lent : (at : Option Place) → (is_lent at || is_opening at) ≡ true → is_some at ≡ true
 there_lent None h = absurd cc
 there_lent (Some p) h = refl
-
-there_any : (at : Option Place) → (is_idle at || (is_lent at || is_opening at)) ≡ true → is_some at ≡ true
-there_any None h = absurd cc
-there_any (Some p) h = refl
 
 fine_lend : (H : List Event) (c t : ℕ) (own : Owner) (n : ℕ) → Lawful H → Allowed H (Pool (Lend c t own n)) → ((d : ℕ) → FineIn H d) → (d : ℕ) → FineIn (Pool (Lend c t own n) ∷ H) d
 fine_lend H c t own n l a s d =
@@ -166,13 +159,6 @@ good_fate : (bad invalid : Bool) (c : ℕ) (p : Pooled) → is_first (moves_back
 good_fate true invalid c p h = absurd cc
 good_fate false true c p h = absurd cc
 good_fate false false c p h = refl
-
-lent_or_opening : (at : Option Place) → is_lent at ≡ true → is_opening at ≡ true → ⊥
-lent_or_opening (Some Idle) h k = cc
-lent_or_opening (Some (Opening w)) h k = cc
-lent_or_opening (Some (Lent t o)) h k = cc
-lent_or_opening (Some Closing) h k = cc
-lent_or_opening None h k = cc
 
 -- The return of a lent connection isn't an owed move.
 lent_not_owed : (H : List Event) (c : ℕ) → Lawful H → is_lent (place H c) ≡ true → Keeps H (Pool (Back c)) → owed H ≡ []
@@ -276,10 +262,6 @@ newest_over e J L fit good bad = by (is_bad e.answer || is_valid e.call) refl
     by false is =
         let f = both (fits_of e.call e.answer) (not (is_memory e.answer)) fit in
         absurd (neither (is_bad e.answer) (went_bad J) (is_invalid e.answer) (is_valid e.call) bad first (invalid_only e.call e.answer f.0 is) is)
-
-heard_at : (H : List Event) (e : Entry) → Allowed H (Heard e) → hears_in (pool H) (place H e.conn) e ≡ true
-unfolding Allowed
-heard_at H e a = a.sets
 
 heard_there : (H : List Event) (e : Entry) → Lawful H → Allowed H (Heard e) → FineIn H e.conn → (p : Option Place) → place H e.conn ≡ p → Fine true (is_done e.answer) (e ∷ journal H e.conn) p
 heard_there H e l a s (Some (Opening wanted)) is =

@@ -100,7 +100,7 @@ first_some H k n (suc j) (w ∷ ws) hands some =
     or_second None p h = h
     or_second (Some q) p h = refl
 
-scoped : (w : Work) (n : ℕ) → hands_out_in n w ≡ true → scope w ≡ Tx n
+pub scoped : (w : Work) (n : ℕ) → hands_out_in n w ≡ true → scope w ≡ Tx n
 scoped (HandOut (Tx j) label) n h = ap Tx (same_number j n h)
 scoped w n h = absurd cc
 

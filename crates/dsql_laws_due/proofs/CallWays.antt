@@ -38,10 +38,10 @@ use Rattle.dsql_laws_calls.proofs.Makers.{hands_out, rows_hand_out, sent_made}
 use Rattle.dsql_laws_calls.proofs.Own.{asks_own, due_now, due_of, DueNow, some_due}
 use Rattle.dsql_laws_calls.proofs.Owners.{lent_asks}
 use Rattle.dsql_laws_calls.proofs.Stays.{not_looking}
+use Rattle.dsql_laws_calls.proofs.StaysUnderWay.{coming_work}
 use Rattle.dsql_laws_calls.proofs.UnderWay.{at_number, clash, ending_over, line_at_its, UnderWay}
 use Rattle.dsql_laws_calls.proofs.Why.{why_used}
 use Rattle.dsql_laws_due.proofs.Holds.{IsOther}
-use Rattle.dsql_laws_due.proofs.Kept.{coming_work}
 
 -- Holds if the driver call closes the rows of the call that has the connection, or fetches from them.
 pub record CallWay (H : List Event) (c t : ℕ) (own : Owner) (m : ℕ) (q : DriverCall) : Type 0 where

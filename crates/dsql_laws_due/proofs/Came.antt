@@ -1,18 +1,14 @@
 -- What is under way on a connection that is lent to a transaction. It belongs to the begin, to a call in the
 -- transaction, or to another call that works there.
-use Rattle.std.proofs.Common.{◌≡◌, ◌≢◌, ℕ, ◌==◌, ◌⊎◌, inl, inr, Bool, true, false, ◌||◌, cond, List, [], ◌∷◌, Some, None, is_some, refl, sym, ap, subst, ◌∙◌}
-use Rattle.dsql_laws_calls.specs.driver.declared.caps.Caps.{Caps}
+use Rattle.std.proofs.Common.{◌≡◌, ◌≢◌, ℕ, ◌==◌, ◌⊎◌, inl, inr, Bool, true, false, List, Some, is_some, refl, sym, ap, subst, ◌∙◌}
 use Rattle.dsql_laws_calls.specs.driver.declared.call.DriverCall.{DriverCall}
 use Rattle.dsql_laws_calls.specs.driver.declared.call.DriverCall.TheVariants as calls
-use Rattle.dsql_laws_calls.specs.driver.Fits.{is_done}
-use Rattle.dsql_laws_calls.specs.driver.Kinds.{is_bad, is_begin, is_valid}
 use Rattle.dsql_laws_calls.specs.course.declared.course.Wish.TheVariants as wishes
 use Rattle.dsql_laws_calls.specs.journal.declared.entry.Entry.{Entry}
 use Rattle.dsql_laws_calls.specs.journal.declared.entry.Owner.{Owner}
 use Rattle.dsql_laws_calls.specs.journal.Kinds.{is_call, number_of}
 use Rattle.dsql_laws_calls.specs.pool.declared.conn.Place.TheVariants.{Lent}
-use Rattle.dsql_laws_calls.specs.works.Line.{test_of}
-use Rattle.dsql_laws_calls.proofs.laws.Tests.{both, same_number}
+use Rattle.dsql_laws_calls.proofs.laws.Tests.{same_number}
 use Rattle.dsql_laws_calls.specs.history.declared.event.Event.{Event}
 use Rattle.dsql_laws_calls.specs.history.declared.work.Scope.{Scope}
 use Rattle.dsql_laws_calls.specs.history.declared.work.Scope.TheVariants.{Db, Tx}
@@ -23,14 +19,14 @@ use Rattle.dsql_laws_calls.specs.history.Readers.Journals.{heard_in}
 use Rattle.dsql_laws_calls.specs.history.Readers.Lines.{line_among}
 use Rattle.dsql_laws_calls.specs.history.Readers.Pool.{place}
 use Rattle.dsql_laws_calls.specs.history.Readers.Transactions.{is_begun}
-use Rattle.dsql_laws_calls.specs.history.Rules.Sent.{begin_after, begin_line, is_reset_due}
+use Rattle.dsql_laws_calls.specs.history.Rules.Sent.{is_reset_due}
 use Rattle.dsql_laws_calls.specs.history.Rules.Line.{is_due, may_come}
 use Rattle.dsql_laws_calls.specs.history.Legal.{Lawful}
 use Rattle.dsql_laws_calls.proofs.Lines.{line_there}
 use Rattle.dsql_laws_calls.proofs.Ends.{zero_work}
 use Rattle.dsql_laws_calls.proofs.Own.{OwnWay, own_sends, own_way}
 use Rattle.dsql_laws_calls.proofs.Inside.{inside, inside_uses}
-use Rattle.dsql_laws_calls.proofs.Beginnings.{begin_there, last_began}
+use Rattle.dsql_laws_calls.proofs.Beginnings.{began_sends_none, begin_there}
 use Rattle.dsql_laws_calls.proofs.BeginningsAt.{beginnings}
 use Rattle.dsql_laws_calls.proofs.Sound.{Sound}
 use Rattle.dsql_laws_calls.proofs.UnderWay.{InsideWay, UnderWay, clash}
@@ -59,15 +55,6 @@ pub record OtherWay (H : List Event) (c t : ℕ) (own : Owner) (m : ℕ) (q : Dr
 abbrev pub Came : List Event → ℕ → ℕ → Owner → ℕ → DriverCall → Type 0
 Came H c t own m q = BeginsWay H c t own m q ⊎ (InnerWay H c t own m q ⊎ OtherWay H c t own m q)
 
--- Once the transaction is begun, its begin sends nothing more.
-began_none : (can : Caps) (reset : Bool) (begin : DriverCall) (L : List Entry) → last_began L ≡ true → is_some (begin_line can reset begin L) ≡ false
-began_none can reset begin [] h = absurd cc
-began_none can reset begin (e ∷ earlier) h = let a = both (is_begin e.call) (is_done e.answer) h in by (is_bad e.answer || is_valid e.call) a.0 a.1
-  where
-    by : (b : Bool) → is_begin e.call ≡ true → is_done e.answer ≡ true → is_some (cond b None (begin_after can begin e)) ≡ false
-    by true x y = refl
-    by false x y = ap (λ b. is_some (cond b (cond (is_done e.answer) None (test_of can)) (Some begin))) x ∙ ap (λ b. is_some (cond b None (test_of can))) y
-
 same_lent : (t u : ℕ) (o p : Owner) → Some (Lent t o) ≡ Some (Lent u p) → o ≡ p
 same_lent t u o p h = cc
 
@@ -88,7 +75,7 @@ begins_way H e own l is other u = record { itself = ap number_of (sym same) ∙ 
     by true begun =
         let b = beginnings H l in
         let at = begin_there H e.conn e.tenure own (owner_begins H e.conn e.tenure own l is other) other in
-        let none = began_none (caps H) (is_reset_due H e.conn) (calls.Begin at.0 at.1) (line_among (number_of own) (heard_in H e.conn e.tenure)) (b.began e.conn e.tenure own is begun) in
+        let none = began_sends_none (caps H) (is_reset_due H e.conn) (calls.Begin at.0 at.1) (line_among (number_of own) (heard_in H e.conn e.tenure)) (b.began e.conn e.tenure own is begun) in
         clash (sym sends ∙ (ap (λ d. is_some d) at.2 ∙ none))
     by false begun = refl
 

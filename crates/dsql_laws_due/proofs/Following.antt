@@ -66,7 +66,7 @@ use Rattle.dsql_laws_calls.proofs.Owners.{owner_is_of}
 use Rattle.dsql_laws_calls.proofs.Plain as of_plain
 use Rattle.dsql_laws_calls.proofs.Plain.{line_plain}
 use Rattle.dsql_laws_calls.proofs.UnderWay.{clash, handed_there, UnderWay}
-use Rattle.dsql_laws_calls.proofs.Why.{ended_there, ending_some}
+use Rattle.dsql_laws_calls.proofs.Why.{ended_there, ending_some, scoped}
 use Rattle.dsql_laws_due.specs.Carried.{carried, is_outside}
 use Rattle.dsql_laws_due.proofs.CallRows.{finished}
 use Rattle.dsql_laws_due.proofs.Came.{BeginsWay, came, Came, InnerWay}
@@ -79,7 +79,7 @@ use Rattle.dsql_laws_due.proofs.Owned.{of_transaction, owner_tx}
 use Rattle.dsql_laws_due.proofs.Standing.{closing_leaves, lent_to, LentTo, lends}
 use Rattle.dsql_laws_due.proofs.Stood.{stands}
 use Rattle.dsql_laws_due.proofs.TxTenures.{goes_on_tx, has_ended_tx, lent_to_tx}
-use Rattle.dsql_laws_due.proofs.Ways.{owner_begins, scoped}
+use Rattle.dsql_laws_due.proofs.Ways.{owner_begins}
 
 -- A connection that is lent to a call on the database.
 

@@ -10,7 +10,7 @@ use Rattle.dsql_laws_calls.specs.journal.Kinds.{is_call, number_of}
 use Rattle.dsql_laws_calls.specs.journal.Readers.{of_tenure, went_bad}
 use Rattle.dsql_laws_calls.specs.pool.declared.conn.Place.TheVariants.{Lent}
 use Rattle.dsql_laws_calls.proofs.laws_work.Rows.{not_true, same_or_not}
-use Rattle.dsql_laws_calls.proofs.laws.Tests.{both, same_number}
+use Rattle.dsql_laws_calls.proofs.laws.Tests.{both}
 use Rattle.dsql_laws_calls.specs.history.declared.event.Event.{Event}
 use Rattle.dsql_laws_calls.specs.history.declared.event.Event.TheVariants.{Heard}
 use Rattle.dsql_laws_calls.specs.history.declared.work.Scope.TheVariants.{Tx}
@@ -31,19 +31,17 @@ use Rattle.dsql_laws_calls.proofs.BeginningsAt.{heard_other, heard_tenure, is_an
 use Rattle.dsql_laws_calls.proofs.Begun.{BeginsIt, begun_begins, heard_tx, stays_begun}
 use Rattle.dsql_laws_calls.proofs.Coming.{sound}
 use Rattle.dsql_laws_calls.proofs.EndedRows.{rows_kept}
-use Rattle.dsql_laws_calls.proofs.Ends.{zero_work}
 use Rattle.dsql_laws_calls.proofs.Inside.{inside_uses, number_not}
 use Rattle.dsql_laws_calls.proofs.Lent.{stays_lent}
 use Rattle.dsql_laws_calls.proofs.Lines.{line_stays, unheard}
-use Rattle.dsql_laws_calls.proofs.Looks.{comes, heard_there, sent_no_look}
+use Rattle.dsql_laws_calls.proofs.Looks.{comes, heard_there}
 use Rattle.dsql_laws_calls.proofs.Makers.{hands_out, some_heard}
 use Rattle.dsql_laws_calls.proofs.Owners.{at_home}
 use Rattle.dsql_laws_calls.proofs.Quiet.{Quiet}
 use Rattle.dsql_laws_calls.proofs.Sound.{Sound}
 use Rattle.dsql_laws_calls.proofs.Stays.{work_stays}
 use Rattle.dsql_laws_calls.proofs.UnderWay.{handed_there, line_made, UnderWay}
-use Rattle.dsql_laws_calls.proofs.Why.{ended_there, why_used}
-use Rattle.dsql_laws_calls.proofs.Works as of_works
+use Rattle.dsql_laws_calls.proofs.Why.{ended_there, scoped, why_used}
 use Rattle.dsql_laws_due.proofs.Holds.{AllShut, asked_in, EndsWay, Holds, IsOther, Kept, Opening, RowsWay, TestsWay, TxWay}
 use Rattle.dsql_laws_due.proofs.KeptHeard.{ended_heard, handed_heard, journal_now, lines_heard, opening_heard, rested_heard, untested_heard}
 use Rattle.dsql_laws_due.proofs.KeptQuiet.{kept_quiet}
@@ -51,7 +49,8 @@ use Rattle.dsql_laws_due.proofs.KeptStays.{ended_same, handed_same, lines_same, 
 use Rattle.dsql_laws_due.proofs.Owned.{of_transaction}
 use Rattle.dsql_laws_tenures.specs.Tenures.{IsOfTransaction}
 use Rattle.dsql_laws_calls.proofs.Plain as of_plain
-use Rattle.dsql_laws_due.proofs.Ways.{due_tx_way, scoped}
+use Rattle.dsql_laws_calls.proofs.StaysUnderWay.{coming_work}
+use Rattle.dsql_laws_due.proofs.Ways.{due_tx_way}
 
 -- An answer on another connection isn't to a call in the transaction.
 
@@ -206,13 +205,6 @@ tx_way_stays H last e own l on u same works w = record { begun = stays_begun H l
           good = ap went_bad quiet ∙ x.good;
           untested = ap (λ J. list_any (λ y. is_valid y.call) (of_tenure e.tenure J)) quiet ∙ x.untested;
         }))
-
-pub coming_work : (H : List Event) (last : Event) (e : Entry) → may_come H e ≡ true → work (last ∷ H) e.call_no ≡ work H e.call_no
-coming_work H last e may = by (e.call_no == 0) refl
-  where
-    by : (b : Bool) → (e.call_no == 0) ≡ b → work (last ∷ H) e.call_no ≡ work H e.call_no
-    by true is = let none = same_number e.call_no 0 is in ap (work (last ∷ H)) none ∙ (zero_work (last ∷ H) ∙ sym (ap (work H) none ∙ zero_work H))
-    by false is = of_works.work_stays H last e.call_no (sent_no_look H e may is)
 
 comes_on : (H : List Event) (last : Event) → Lawful (last ∷ H) → Holds H → Kept (last ∷ H) → (e : Entry) (own : Owner) → may_come (last ∷ H) e ≡ true → place (last ∷ H) e.conn ≡ Some (Lent e.tenure own) → is_call own ≡ false
     → IsOther (last ∷ H) e.call_no → TxWay (last ∷ H) e.conn e.tenure own e.call_no e.call

@@ -15,7 +15,6 @@ use Rattle.dsql_laws_calls.specs.course.Made.{Exchange, given_cursor, or_else, o
 use Rattle.dsql_laws_calls.specs.journal.declared.entry.Entry.{Entry}
 use Rattle.dsql_laws_calls.specs.journal.declared.entry.Owner.{Owner}
 use Rattle.dsql_laws_calls.specs.journal.Facts.{MayFollow}
-use Rattle.dsql_laws_calls.specs.journal.Journal.{may_follow}
 use Rattle.dsql_laws_calls.specs.journal.Kinds.{is_call, number_of}
 use Rattle.dsql_laws_calls.specs.journal.Readers.{went_bad}
 use Rattle.dsql_laws_calls.proofs.journal.Sentences.{MayFollow-of}
@@ -41,7 +40,7 @@ use Rattle.dsql_laws_calls.specs.history.Readers.Unfinished.{is_unfinished}
 use Rattle.dsql_laws_calls.specs.history.Readers.Works.{aim_of, hands_out_in, is_in, scope, work}
 use Rattle.dsql_laws_calls.specs.history.Rules.Line.{is_due, may_come, sends_from}
 use Rattle.dsql_laws_calls.specs.history.Rules.Sent.{asked_by, begin_line, is_reset_due}
-use Rattle.dsql_laws_calls.specs.history.Legal.{Allowed, Lawful}
+use Rattle.dsql_laws_calls.specs.history.Legal.{Lawful}
 use Rattle.dsql_laws_tenures.specs.Begins.{is_begin_line}
 use Rattle.dsql_laws_tenures.specs.Sent.{KeepsLines}
 use Rattle.dsql_laws_tenures.specs.Tenures.{IsOfTransaction, made_by}
@@ -51,7 +50,7 @@ use Rattle.dsql_laws_calls.proofs.Beginnings.{begin_owner, begin_stepless, due_s
 use Rattle.dsql_laws_calls.proofs.BeginningsAt.{heard_more}
 use Rattle.dsql_laws_calls.proofs.Begun.{BeginsIt, begun_begins, heard_tx, over_begun, stays_begun}
 use Rattle.dsql_laws_calls.proofs.Inside.{inside_busy, number_not}
-use Rattle.dsql_laws_calls.proofs.LineParts.{grows, grows_own, fits_heard}
+use Rattle.dsql_laws_calls.proofs.LineParts.{grows, grows_own, fits_heard, heard_follows}
 use Rattle.dsql_laws_calls.proofs.Lines.{line_there}
 use Rattle.dsql_laws_calls.proofs.Looks.{heard_there}
 use Rattle.dsql_laws_calls.proofs.Makers.{hands_out, some_heard}
@@ -60,13 +59,13 @@ use Rattle.dsql_laws_calls.proofs.Quiet.{Quiet, quiet_bad, quiet_more}
 use Rattle.dsql_laws_calls.proofs.Sound.{Sound}
 use Rattle.dsql_laws_calls.proofs.Stays.{asked_stays}
 use Rattle.dsql_laws_calls.proofs.UnderWay.{clash, handed_there, line_made}
-use Rattle.dsql_laws_calls.proofs.Why.{ended_there}
+use Rattle.dsql_laws_calls.proofs.Why.{ended_there, scoped}
 use Rattle.dsql_laws_due.proofs.Came.{BeginsWay, Came, came, InnerWay}
 use Rattle.dsql_laws_due.proofs.Holds.{AllShut, asked_in, begin_of, EndsWay, Holds, Kept, Opening, RowsWay, TestsWay}
 use Rattle.dsql_laws_due.proofs.KeptStays.{asked_grows}
 use Rattle.dsql_laws_due.proofs.LineEnds.{IsShut}
 use Rattle.dsql_laws_due.proofs.LineFacts.{body_due, handed_grows, line_about, line_steps, shut_about, stepless_shut}
-use Rattle.dsql_laws_due.proofs.Ways.{owner_begins, scoped}
+use Rattle.dsql_laws_due.proofs.Ways.{owner_begins}
 
 -- The line of a begin is everything in its tenure, as long as its Begin isn't done.
 pub begin_due : (H : List Event) (c t : ℕ) (own : Owner) → is_call own ≡ false → begins (work H (number_of own)) ≡ true → Opening H c t own
@@ -115,10 +114,6 @@ new_rows H it m q a n R h = plain (some_heard H it m q a n R h)
     plain (inl were) = inl were
     plain (inr new) = absurd cc
 
-follows_of : (H : List Event) (e : Entry) → Allowed H (Heard e) → may_follow (journal H e.conn) e ≡ true
-unfolding Allowed
-follows_of H e a = a.journals
-
 module _ (H : List Event) (e : Entry) (l : Lawful (Heard e ∷ H)) (s : Sound H) (h : Holds H) (own : Owner) (lent : place H e.conn ≡ Some (Lent e.tenure own)) where
   abbrev J : List Entry
   J = journal H e.conn
@@ -133,7 +128,7 @@ module _ (H : List Event) (e : Entry) (l : Lawful (Heard e ∷ H)) (s : Sound H)
   may = let there = heard_there H e l.1 in subst (λ at. sends_from H at e ≡ true) lent there.line
 
   follows : MayFollow (journal H e.conn) e
-  follows = MayFollow-of (journal H e.conn) e (follows_of H e l.1)
+  follows = MayFollow-of (journal H e.conn) e (heard_follows H e l.1)
 
   pub journal_now : journal (Heard e ∷ H) e.conn ≡ e ∷ journal H e.conn
   journal_now = ap (λ b. cond b (e ∷ journal H e.conn) (journal H e.conn)) (same_itself e.conn)

@@ -53,7 +53,7 @@ use Rattle.dsql_laws_calls.proofs.Coming.{sound}
 use Rattle.dsql_laws_calls.proofs.Ends.{zero_work}
 use Rattle.dsql_laws_calls.proofs.Inside.{inside, inside_uses}
 use Rattle.dsql_laws_calls.proofs.Lent.{lent_before}
-use Rattle.dsql_laws_calls.proofs.LineParts.{fits_heard}
+use Rattle.dsql_laws_calls.proofs.LineParts.{fits_heard, heard_follows}
 use Rattle.dsql_laws_calls.proofs.Lines.{line_there}
 use Rattle.dsql_laws_calls.proofs.LiveRows.{live_some}
 use Rattle.dsql_laws_calls.proofs.Looks.{comes, heard_there}
@@ -246,10 +246,6 @@ module _ (H : List Event) (e : Entry) (l : Lawful (Heard e ∷ H)) (own : Owner)
       by true layer = let nobody = ap (work H) (same_number e.call_no 0 layer) ∙ zero_work H in another (ap asks nobody) (ap scope nobody)
       by false numbered = asking (asks (work H e.call_no)) refl numbered
 
-may_of : (H : List Event) (e : Entry) → Allowed H (Heard e) → may_follow (journal H e.conn) e ≡ true
-unfolding Allowed
-may_of H e a = a.journals
-
 call_of : (o : Owner) → is_call o ≡ true → o ≡ Call (number_of o)
 call_of (Call n) h = refl
 call_of o h = absurd cc
@@ -265,7 +261,7 @@ answered_going H e l own lent call rest after =
 
     by : (is_some (rows_by H (number_of own)) ≡ true) ⊎ ((number_of own ≡ e.call_no) × (is_some (given_cursor (got_of e.answer)) ≡ true) × (is_some (step_of e.call) ≡ true)) → IsGoing (e ∷ heard_in H e.conn e.tenure)
     by (inl were) = live_going_on H e l own lent call after were (rest (live_before H (Heard e) (number_of own) were after))
-    by (inr g) = run_going (journal H e.conn) e (number_of own) (may_of H e l.1) owner (run_there e.call e.answer (fits_heard H e l.1) g.1)
+    by (inr g) = run_going (journal H e.conn) e (number_of own) (heard_follows H e l.1) owner (run_there e.call e.answer (fits_heard H e l.1) g.1)
 
 pub live_going : (H : List Event) (c t : ℕ) (own : Owner) → Lawful H → place H c ≡ Some (Lent t own) → is_call own ≡ true → are_live H (number_of own) ≡ true → IsGoing (heard_in H c t)
 live_going [] c t own l is call lives = absurd cc

@@ -61,6 +61,7 @@ use Rattle.dsql_laws_calls.proofs.Looks.{heard_there}
 use Rattle.dsql_laws_calls.proofs.Rows.{ended_live, none_at_end}
 use Rattle.dsql_laws_calls.proofs.Sound.{fitting}
 use Rattle.dsql_laws_calls.proofs.UnderWay.{clash}
+use Rattle.dsql_laws_calls.proofs.Why.{scoped}
 use Rattle.dsql_laws_due.proofs.Came.{came, Came}
 use Rattle.dsql_laws_due.proofs.Holds.{EndsWay, Holds, Kept, RowsWay, TestsWay}
 use Rattle.dsql_laws_due.proofs.Kept.{holds, rows_else}
@@ -68,7 +69,6 @@ use Rattle.dsql_laws_due.proofs.KeptHeard.{begin_step, ending_stepless, heard_no
 use Rattle.dsql_laws_due.proofs.LineFacts.{body_due, line_facts, LineOf}
 use Rattle.dsql_laws_due.proofs.OpenLines.{cursor_run, is_run, open_inner, over_rows, run_open}
 use Rattle.dsql_laws_due.proofs.Owned.{of_transaction}
-use Rattle.dsql_laws_due.proofs.Ways.{scoped}
 
 -- If rows were made before an event and are live after it, they were live before it.
 

@@ -7,7 +7,6 @@ use Rattle.dsql_laws_calls.specs.course.declared.course.Wish.{Wish}
 use Rattle.dsql_laws_calls.specs.journal.declared.entry.Entry.{Entry}
 use Rattle.dsql_laws_calls.specs.journal.declared.entry.Owner.{Owner}
 use Rattle.dsql_laws_calls.specs.journal.declared.entry.Owner.TheVariants.{Call, Tx, Pin, House}
-use Rattle.dsql_laws_calls.specs.journal.Journal.{may_follow}
 use Rattle.dsql_laws_calls.specs.journal.Kinds.{is_call, is_house, number_of}
 use Rattle.dsql_laws_calls.specs.journal.Readers.{went_bad}
 use Rattle.dsql_laws_calls.specs.pool.declared.conn.Conn.{Conn}
@@ -18,7 +17,7 @@ use Rattle.dsql_laws_calls.specs.pool.declared.moves.Move.{Move}
 use Rattle.dsql_laws_calls.specs.pool.declared.moves.Move.TheVariants.{OpenStart, Lend, Back, CloseStart, Gone, Fell}
 use Rattle.dsql_laws_calls.specs.pool.Changes.{lent, back, closing, changed, gone}
 use Rattle.dsql_laws_calls.specs.pool.Moved.{begun, shut}
-use Rattle.dsql_laws_calls.specs.pool.Places.{conn_of, place_of, lends_of, is_idle, is_lent, is_opening, is_closing}
+use Rattle.dsql_laws_calls.specs.pool.Places.{conn_of, place_of, lends_of, is_opening, is_closing}
 use Rattle.dsql_laws_calls.specs.pool.Pooled.{next_number, next_tenure, place_at}
 use Rattle.dsql_laws_calls.specs.works.Journals.{ends_invalid}
 use Rattle.dsql_laws_calls.proofs.laws_work.Rows.{by_number, not_true}
@@ -52,13 +51,15 @@ use Rattle.dsql_laws_calls.proofs.Born.{born}
 use Rattle.dsql_laws_calls.proofs.CallTenures.{call_line, plain_due}
 use Rattle.dsql_laws_calls.proofs.Coming.{sound}
 use Rattle.dsql_laws_calls.proofs.Lent.{back_line, move_facts}
+use Rattle.dsql_laws_calls.proofs.LineParts.{heard_follows}
 use Rattle.dsql_laws_calls.proofs.Looks.{heard_there as hears}
 use Rattle.dsql_laws_calls.proofs.Owners.{owner_is_of, same_owner_is}
 use Rattle.dsql_laws_calls.proofs.Plain.{line_plain}
 use Rattle.dsql_laws_calls.proofs.Sound.{was_under_way}
 use Rattle.dsql_laws_calls.proofs.Spared.{was_heard, was_opened, opened_when, moves, unpressed}
+use Rattle.dsql_laws_calls.proofs.Tenures.{there_any, there_from}
 use Rattle.dsql_laws_calls.proofs.UnderWay.{UnderWay}
-use Rattle.dsql_laws_calls.proofs.Unspoilt.{Fine, fine}
+use Rattle.dsql_laws_calls.proofs.Unspoilt.{Fine, fine, there_lent}
 use Rattle.dsql_laws_due.proofs.CallRows.{finished}
 use Rattle.dsql_laws_due.proofs.Owned.{heard_owner, of_transaction}
 use Rattle.dsql_laws_due.proofs.Standing as standing
@@ -94,18 +95,6 @@ stands_open H c n l a s d =
     (ap lends_in is) (ap uses_in is) (b.silent (next_number (pool H)) (omega arith)) (ap place_in is)
     (record { unlent = refl; unused = refl; fresh = λ h. refl; done = λ h. absurd cc }))
     (λ apart. stands_beside H (OpenStart c n) d (conn_of d (begun (wanted_by H n) (pool H)).conns) a s refl (begun_off d (wanted_by H n) (pool H) apart))
-
-there_from : (at : Option Place) → (is_idle at || is_opening at) ≡ true → is_some at ≡ true
-there_from None h = absurd cc
-there_from (Some p) h = refl
-
-there_lent : (at : Option Place) → (is_lent at || is_opening at) ≡ true → is_some at ≡ true
-there_lent None h = absurd cc
-there_lent (Some p) h = refl
-
-there_any : (at : Option Place) → (is_idle at || (is_lent at || is_opening at)) ≡ true → is_some at ≡ true
-there_any None h = absurd cc
-there_any (Some p) h = refl
 
 -- A connection at rest can be lent to a call or to a transaction.
 lent_first : (c l t : ℕ) (J : List Entry) (owner : Owner) (w : Work) → owner ≡ owner_as w (number_of owner) → Rests c l J → t ≡ l + 2 → LentTo c (l + 1) t owner J
@@ -208,10 +197,6 @@ stands_move H (Fell c n) l s d = stands_out H (Fell c n) c l.1 s (λ e apart. tu
 
 -- The event is an answer.
 
-may_of : (H : List Event) (e : Entry) → Allowed H (Heard e) → may_follow (journal H e.conn) e ≡ true
-unfolding Allowed
-may_of H e a = a.journals
-
 opens_next : (H : List Event) (e : Entry) (wanted : Option Owner) → Allowed H (Heard e) → ((d : ℕ) → StandsIn H d) → place H e.conn ≡ Some (Opening wanted)
     → Opens e.conn (lends H e.conn) (uses H e.conn) true (is_done e.answer) (e ∷ journal H e.conn)
 opens_next H e wanted a s is =
@@ -222,7 +207,7 @@ opens_next H e wanted a s is =
     let z = both (is_house e.owner) (e.call_no == 0) y.1 in
     let still : was_heard e.conn H ≡ false = unpressed H (Heard e) e.conn (follows_of H (Heard e) a) refl (ap (λ at. is_opening at || is_closing at) is) in
     let opens = subst (λ b. Opens e.conn (lends H e.conn) (uses H e.conn) b (was_opened e.conn H) (journal H e.conn)) still (opening_opens H e.conn wanted (s e.conn) is) in
-    opens_heard e.conn (lends H e.conn) (uses H e.conn) (was_opened e.conn H) (journal H e.conn) e opens (may_of H e a) refl x.0 (same_number e.tenure 1 y.0) z.0 (same_number e.call_no 0 z.1)
+    opens_heard e.conn (lends H e.conn) (uses H e.conn) (was_opened e.conn H) (journal H e.conn) e opens (heard_follows H e a) refl x.0 (same_number e.tenure 1 y.0) z.0 (same_number e.call_no 0 z.1)
 
 lent_heard : (H : List Event) (e : Entry) (t : ℕ) (own : Owner) → Lawful (Heard e ∷ H) → place H e.conn ≡ Some (Lent t own) → LentTo e.conn (lends H e.conn) t own (journal H e.conn)
     → LentTo e.conn (lends H e.conn) t own (e ∷ journal H e.conn)
@@ -233,14 +218,14 @@ lent_heard H e t (Call n) l is works =
     let tenure = heard_tenure H e t (Call n) l.1 is in
     let x = line_to w.way w.owner in
     let due : is_due (call_line H e.conn t (Call n) x.0) e.call ≡ true = subst (λ u. is_due (call_line H e.conn u (Call n) x.0) e.call ≡ true) tenure x.1 in
-    works_heard e.conn (lends H e.conn) t n e.call_no (journal H e.conn) e (caps H) (is_reset_due H e.conn) (asked_by H n) x.0 works (f.made e.conn t (Call n) is refl) (may_of H e l.1) refl tenure
+    works_heard e.conn (lends H e.conn) t n e.call_no (journal H e.conn) e (caps H) (is_reset_due H e.conn) (asked_by H n) x.0 works (f.made e.conn t (Call n) is refl) (heard_follows H e l.1) refl tenure
     (same_owner_is e.owner (Call n) (heard_owner H e t (Call n) l.1 is)) refl
     (plain_due (call_line H e.conn t (Call n) x.0) e.call (line_plain (caps H) (is_reset_due H e.conn) (asked_by H n) x.0 (heard_in H e.conn t)) due)
   where
     line_to : (u : UnderWay H e) → u.owner ≡ Call n → (w : Wish) × (is_due (call_line H e.conn e.tenure (Call n) w) e.call ≡ true)
     line_to u same = let x = u.line (ap is_call same) in (x.0, subst (λ o. is_due (call_line H e.conn e.tenure o x.0) e.call ≡ true) same x.1)
 lent_heard H e t (Tx k) l is alone =
-    (alone.0, alone_on e.conn t (journal H e.conn) e alone.1 (may_of H e l.1) (heard_tenure H e t (Tx k) l.1 is) (ap is_house (same_owner_is e.owner (Tx k) (heard_owner H e t (Tx k) l.1 is))))
+    (alone.0, alone_on e.conn t (journal H e.conn) e alone.1 (heard_follows H e l.1) (heard_tenure H e t (Tx k) l.1 is) (ap is_house (same_owner_is e.owner (Tx k) (heard_owner H e t (Tx k) l.1 is))))
 lent_heard H e t (Pin n) l is none = absurd none
 lent_heard H e t House l is none = absurd none
 

@@ -51,7 +51,7 @@ use Rattle.dsql_laws_calls.proofs.Inside.{inside_uses, live_goes}
 use Rattle.dsql_laws_calls.proofs.Quiet.{Quiet, quiet_sends_none}
 use Rattle.dsql_laws_calls.proofs.LineParts.{hands_of, known_bad, unsent_line, unsent_in}
 use Rattle.dsql_laws_calls.proofs.HandedRows.{handed_made, rows_begun}
-use Rattle.dsql_laws_calls.proofs.Why.{ended_there, first_some}
+use Rattle.dsql_laws_calls.proofs.Why.{ended_there, first_some, scoped}
 use Rattle.dsql_laws_calls.proofs.UnderWay.{line_made, handed_there, Newest, Going, Facts, clash, at_number, line_at_its, turn_of}
 use Rattle.dsql_laws_calls.proofs.DueWay.{borrow_same, inner_is}
 use Rattle.dsql_laws_calls.proofs.LiveRows.{dead_over, over_some}
@@ -73,10 +73,6 @@ owner_begins H c t own l is other = let o = owner_is_of H c t own l is in by (wo
     by (Fetch k) h = absurd cc
     by (Close k) h = absurd cc
     by Look h = absurd cc
-
-pub scoped : (w : Work) (n : ℕ) → hands_out_in n w ≡ true → scope w ≡ Tx n
-scoped (HandOut (Tx j) label) n h = ap Tx (same_number j n h)
-scoped w n h = absurd cc
 
 in_scope : (s : Scope) (k : ℕ) → is_in k s ≡ true → s ≡ Tx k
 in_scope (Tx n) k h = ap Tx (same_number n k h)

@@ -33,8 +33,8 @@ use Rattle.dsql_laws_calls.specs.history.Readers.Works.{asks, hands_out_in, rows
 use Rattle.dsql_laws_calls.specs.history.Legal.{Lawful}
 use Rattle.dsql_laws_calls.proofs.EndedRows.{ender_over, mapped_rows}
 use Rattle.dsql_laws_calls.proofs.LiveRows.{live_some, over_some}
-use Rattle.dsql_laws_calls.proofs.Makers.{hands_out, rows_hand_out}
-use Rattle.dsql_laws_calls.proofs.Rows.{ender_works, is_worker}
+use Rattle.dsql_laws_calls.proofs.Makers.{hands_no_look, rows_hand_out}
+use Rattle.dsql_laws_calls.proofs.Rows.{ender_works, is_worker, worker_sends}
 use Rattle.dsql_laws_calls.proofs.TxEnders.{same_going}
 use Rattle.dsql_laws_calls.proofs.Works.{enters_next, is_look, new_work, work_stays}
 
@@ -115,19 +115,9 @@ ends_on H (SetLimit s k) n l own was now some works = absurd (some refl)
 ends_on H (Replied m reply) n l own was now some works = absurd (some refl)
 ends_on H Ended n l own was now some works = absurd (some refl)
 
-worker_sends : (it : Work) → is_worker it ≡ true → is_look it ≡ false
-worker_sends (Fetch k) h = refl
-worker_sends (Close k) h = refl
-worker_sends (End k) h = refl
-worker_sends _ h = absurd cc
-
-maker_sends : (it : Work) → hands_out it ≡ true → is_look it ≡ false
-maker_sends (HandOut s label) h = refl
-maker_sends _ h = absurd cc
-
 -- A call that has made rows and works on the database after an event did so before it.
 asked_before : (H : List Event) (e : Event) (n : ℕ) → is_some (rows_by H n) ≡ true → asks (work (e ∷ H) n) ≡ true → asks (work H n) ≡ true
-asked_before H e n made own = ap asks (sym (work_stays H e n (maker_sends (work H n) (rows_hand_out H n made)))) ∙ own
+asked_before H e n made own = ap asks (sym (work_stays H e n (hands_no_look (work H n) (rows_hand_out H n made)))) ∙ own
 
 -- The ender of rows after an event is the one that the event names if the rows were live before, and otherwise
 -- the one before.

@@ -10,7 +10,7 @@ use Rattle.dsql_follows.specs.Turns.{comes_in_turn}
 use Rattle.dsql_follows.specs.Sentences.{passed, begins_with_step, come_in_turn, is_whole, may_enter}
 use Rattle.dsql_laws_steps.specs.Steps.{IsAtRest, IsStep, stepped}
 use Rattle.dsql_laws_steps.specs.Whole.{Steps}
-use Rattle.dsql_laws_steps.proofs.AddedUp.{no_steps, one_more}
+use Rattle.dsql_laws_steps.proofs.AddedUp.{begins_behind, no_steps, one_more}
 use Rattle.dsql_laws_steps.proofs.Joined.{beyond}
 
 -- If events begin with a step, a walk over them from a moment is the walk from that moment at rest.
@@ -41,11 +41,6 @@ passed_added m now later events [] g h = refl
 passed_added m now later events (e ∷ older) g h = ap (λ w. w.passed) (runs_joined m now later events e older g h)
 
 -- The first of all the events begins a step.
-
-begins_behind : (m : Moment) (newer : List Event) (e : Event) (older : List Event) → begins_with_step m (newer ++ e ∷ older) ≡ begins_with_step m (e ∷ older)
-begins_behind m [] e older = refl
-begins_behind m (x ∷ []) e older = refl
-begins_behind m (x ∷ z ∷ zs) e older = begins_behind m (z ∷ zs) e older
 
 begins_free : (m : Moment) (events : List Event) → begins_with_step (at_rest m) events ≡ begins_with_step m events
 begins_free m [] = refl

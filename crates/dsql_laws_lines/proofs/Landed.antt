@@ -17,13 +17,9 @@ use Rattle.dsql_follows.specs.Sentences.{begins, is_one_step, is_whole, later, o
 use Rattle.dsql_laws_steps.specs.Steps.{IsAtRest, IsStep, stepped}
 use Rattle.dsql_laws_steps.proofs.Joined.{beyond}
 use Rattle.dsql_laws_steps.proofs.Later.{first_and_more}
-use Rattle.dsql_laws_steps.proofs.Permits.{taken_at_rest, permitted_twice}
+use Rattle.dsql_laws_steps.proofs.Permits.{taken_at_rest}
 use Rattle.dsql_laws_steps.proofs.Placed.{later_behind, oldest_behind}
 use Rattle.dsql_laws_lines.proofs.AddedUp.{further}
-
--- At the end of a step its call has taken its permit, so the moment is at rest.
-pub step_rests : (m : Moment) (first : Event) (n : ℕ) (events : List Event) → IsAtRest (stepped m first n events)
-step_rests m first n events = ap (λ flights. record (stepped m first n events) { flights = flights }) (permitted_twice n (stand (events ++ m.past) n) (landed first m.flights))
 
 -- After its answer is heard, a permit isn't in flight.
 

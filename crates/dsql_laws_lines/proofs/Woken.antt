@@ -2,10 +2,8 @@
 -- stands.
 use Rattle.std.proofs.Common.{◌≡◌, ℕ, ◌≤◌, ◌+◌, ◌==◌, ◌⊎◌, inl, inr, Bool, true, false, not, ◌&&◌, ◌||◌, cond, List, [], ◌∷◌, length, Option, Some, None, Ok, Err, is_none, is_some, refl, sym, ap, ◌∙◌, arith}
 use Rattle.std.specs.Prelude.{find}
-use Rattle.std.specs.List.{list_all}
 use Rattle.dsql_laws_calls.specs.driver.declared.caps.Caps.{Caps}
 use Rattle.dsql_laws_calls.specs.course.Made.{or_else}
-use Rattle.dsql_laws_calls.specs.journal.Readers.{has}
 use Rattle.dsql_laws_calls.specs.wait.Requests.{waits}
 use Rattle.dsql_laws_calls.specs.pool.Decisions.{are_too_many, last, may_open, takes_idle}
 use Rattle.dsql_laws_calls.specs.pool.Places.{is_for}
@@ -42,6 +40,7 @@ use Rattle.dsql_laws_calls.specs.history.Rules.Settled.{Settled}
 use Rattle.dsql_laws_calls.specs.history.Rules.Stands.{has_to_reply, is_own_step, is_settled_for, stand, opens, stands}
 use Rattle.dsql_laws_calls.specs.laws.OwedMade.{with_moves}
 use Rattle.dsql_laws_calls.proofs.laws.Counts.{uncounted, unmapped, waits_none}
+use Rattle.dsql_laws_calls.proofs.AtEnd.{all_has}
 use Rattle.dsql_laws_calls.proofs.laws.Numbered.{unfinished_from_one}
 use Rattle.dsql_laws_calls.proofs.laws.Tests.{both, other_number, same_number, second, together}
 use Rattle.dsql_laws_calls.proofs.laws.Wanted.{is_opening_for, none_wanted}
@@ -94,14 +93,6 @@ unwanting n p unwaiting unopened =
     let waiting = waits_none n p.waiting unwaiting in
     let opening = uncounted (is_opening_for n) p.conns (unmapped (λ (x : Conn). x.number) (find (is_opening_for n) p.conns) unopened) in
     none_wanted n p (omega (arith, waiting, opening))
-
-all_has : (q : ℕ → Bool) (ns : List ℕ) (n : ℕ) → list_all q ns ≡ true → has n ns ≡ true → q n ≡ true
-all_has q [] n h k = absurd cc
-all_has q (m ∷ ns) n h k = by (all_has q ns n (both (q m) (list_all q ns) h).1) (m == n) refl k
-  where
-    by : (has n ns ≡ true → q n ≡ true) → (b : Bool) → (m == n) ≡ b → (b || has n ns) ≡ true → q n ≡ true
-    by rest true is j = sym (ap q (same_number m n is)) ∙ (both (q m) (list_all q ns) h).0
-    by rest false is j = rest j
 
 -- An unfinished call stands somewhere.
 is_somewhere : (H : List Event) (n : ℕ) → Lawful H → Settled H → is_unfinished H n ≡ true → is_some (stand H n) ≡ true

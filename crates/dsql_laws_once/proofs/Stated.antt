@@ -50,12 +50,12 @@ use Rattle.dsql_laws_calls.proofs.Plain.{begins, line_plain}
 use Rattle.dsql_laws_calls.proofs.RowsNew.{held}
 use Rattle.dsql_laws_calls.proofs.Stays.{work_stays}
 use Rattle.dsql_laws_calls.proofs.UnderWay.{handed_there, UnderWay}
+use Rattle.dsql_laws_calls.proofs.Why.{scoped}
 use Rattle.dsql_laws_replies.proofs.InnerHeard.{closing_tidy}
 use Rattle.dsql_laws_replies.proofs.InnerOver.{is_tidy}
 use Rattle.dsql_laws_due.proofs.CallWays.{CallWay, call_way}
 use Rattle.dsql_laws_due.proofs.Holds.{EndsWay, Holds, IsOther, Kept, RowsWay, TestsWay, TxWay}
 use Rattle.dsql_laws_due.proofs.Kept.{holds}
-use Rattle.dsql_laws_due.proofs.Ways.{scoped}
 use Rattle.dsql_laws_once.specs.Once.{is_statement, is_skip, may_be_carried_out, carried_out}
 
 -- Is true if the work runs a text or pings.

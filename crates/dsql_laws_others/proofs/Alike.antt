@@ -112,7 +112,7 @@ over_alike H K m k its a = by a.sent (is_late H (scope (work H k))) refl
         let its_own : borrower H k ≡ borrower H m = inside_uses H k s.0 s.1 ∙ sym (rows_uses H m k s.0 its s.1) in
         none_sent K k (wish K m k) (λ v. a.lines k v (inr its) ∙ none k v its_own) ∙ sym (none_sent H k (wish H m k) (λ v. none k v its_own))
 
-none_anyway : (b : Bool) (d : Option DriverCall) → d ≡ None → cond b d None ≡ None
+pub none_anyway : (b : Bool) (d : Option DriverCall) → d ≡ None → cond b d None ≡ None
 none_anyway true d h = h
 none_anyway false d h = refl
 

@@ -43,14 +43,14 @@ use Rattle.dsql_laws_calls.proofs.Begun.{begun_begins, stays_over}
 use Rattle.dsql_laws_calls.proofs.EndedRows.{ender_over}
 use Rattle.dsql_laws_calls.proofs.HandedRows.{rows_begun}
 use Rattle.dsql_laws_calls.proofs.Lent.{stays_lent}
-use Rattle.dsql_laws_calls.proofs.Makers.{hands_out, rows_hand_out}
+use Rattle.dsql_laws_calls.proofs.Makers.{hands_no_look, hands_out, rows_hand_out}
 use Rattle.dsql_laws_calls.proofs.LiveRows.{live_some, over_some}
 use Rattle.dsql_laws_calls.proofs.Own.{going_used}
 use Rattle.dsql_laws_calls.proofs.Owners.{at_home}
 use Rattle.dsql_laws_calls.proofs.Plain.{begins}
 use Rattle.dsql_laws_calls.proofs.RowsKept.{Borrows, tx_borrows}
 use Rattle.dsql_laws_calls.proofs.Stays.{as_many, has_entered}
-use Rattle.dsql_laws_calls.proofs.Works.{enters_next, new_record, new_work, old_record, old_work, is_look, other_heard, other_replied}
+use Rattle.dsql_laws_calls.proofs.Works.{enters_next, new_record, new_work, old_record, old_work, other_heard, other_replied}
 use Rattle.dsql_laws_calls.proofs.Works as works_of
 use Rattle.dsql_laws_others.proofs.Turned.{Turns, ClosesNow, EndsNow, close_turn, end_turn, ended_now}
 
@@ -262,11 +262,7 @@ closers (e ∷ H) j m k l inner going some is = by (closers H j m k l.0) (are_li
         still_on false gone = refl
 
     before : is_some (rows_by H j) ≡ true → scope (work H j) ≡ Tx k
-    before made = ap scope (sym (works_of.work_stays H e j (busy (work H j) (rows_hand_out H j made)))) ∙ inner
-      where
-        busy : (w : Work) → hands_out w ≡ true → is_look w ≡ false
-        busy (HandOut s label) h = refl
-        busy w h = absurd cc
+    before made = ap scope (sym (works_of.work_stays H e j (hands_no_look (work H j) (rows_hand_out H j made)))) ∙ inner
 
     by : (scope (work H j) ≡ Tx k → goes_on H k ≡ true → m ≢ 0 → ender H j ≡ m → Closer H j m k) → (b c : Bool) → are_live H j ≡ b → are_live (e ∷ H) j ≡ c → cond b (ended_at e c) (ender H j) ≡ m → Closer (e ∷ H) j m k
     by earlier true true lives now x = absurd (some (sym x))

@@ -57,7 +57,7 @@ use Rattle.dsql_laws_calls.proofs.Owners.{at_home}
 use Rattle.dsql_laws_calls.proofs.UnderWay.{ending_over, left_of}
 use Rattle.dsql_laws_calls.proofs.Wanted.{lent_wants_none}
 use Rattle.dsql_laws_calls.proofs.Why.{tx_used}
-use Rattle.dsql_laws_others.proofs.Alike.{Concerns, Alike, due_alike, none_sent, first_alike, closing_alike, ends_alike, same_tx_ender}
+use Rattle.dsql_laws_others.proofs.Alike.{Concerns, Alike, due_alike, none_sent, first_alike, closing_alike, ends_alike, same_tx_ender, none_anyway}
 use Rattle.dsql_laws_others.proofs.Homes.{HomeStays, no_line, no_ending, line_by_home}
 use Rattle.dsql_laws_others.proofs.LentOthers.{none_made, no_wish}
 use Rattle.dsql_laws_others.proofs.LentStands.{found_same}
@@ -234,10 +234,6 @@ ending_left H m x k = by (same_or_not k (number_of x.owner))
         ends_alike H (Pool m ∷ H) k refl s.homes s.places (record { first = first_alike H (Pool m ∷ H) k 0 (works H) (closing_left H m x); can = refl; heard = refl })
 
 -- Nothing is due for calls that used the connection, before or after.
-
-none_anyway : (b : Bool) (d : Option DriverCall) → d ≡ None → cond b d None ≡ None
-none_anyway true d h = h
-none_anyway false d h = refl
 
 unmade : (L : List Event) (n j : ℕ) → n ≢ 0 → is_some (rows_by L j) ≡ false → sent_for L j (wish L n j) ≡ None
 unmade L n j some none = ap (sent_for L j) (no_wish L n j some (none_made (rows_by L j) none))

@@ -3,8 +3,7 @@ use Rattle.std.proofs.Common.{◌≡◌, ◌≢◌, ℕ, ◌==◌, Bool, true, f
 use Rattle.std.proofs.lemmas.Bool.{or_right}
 use Rattle.dsql_laws_calls.specs.wait.declared.request.Request.{Request}
 use Rattle.dsql_laws_calls.specs.wait.Requests.{waits, without_call}
-use Rattle.dsql_laws_calls.specs.pool.declared.conn.Place.{Place}
-use Rattle.dsql_laws_calls.specs.pool.Places.{is_idle, is_opening, is_for}
+use Rattle.dsql_laws_calls.specs.pool.Places.{is_for}
 use Rattle.dsql_laws_calls.proofs.laws.Tests.{same_number, same_itself}
 use Rattle.std.specs.List.{list_any}
 use Rattle.std.specs.Option.{option_map}
@@ -66,16 +65,12 @@ use Rattle.dsql_laws_calls.proofs.Beginnings.{lent_once_begun}
 use Rattle.dsql_laws_calls.proofs.Lines.{line_here}
 use Rattle.dsql_laws_calls.proofs.Own.{asks_own, due_line}
 use Rattle.dsql_laws_calls.proofs.Owners.{at_home, lent_asks, lent_number}
-use Rattle.dsql_laws_calls.proofs.Tenures.{fresh_lending}
+use Rattle.dsql_laws_calls.proofs.Tenures.{fresh_lending, there_from}
 use Rattle.dsql_laws_calls.proofs.Untried.{moves_of, lends_unwanting}
 use Rattle.dsql_laws_others.specs.Told.{where_told}
 use Rattle.dsql_laws_others.proofs.Numbers.{none_zero}
 use Rattle.dsql_laws_others.proofs.OwnSteps.{replies_apart}
 use Rattle.dsql_laws_calls.proofs.Wanters.{lends_unfinished}
-
-pub open_place : (o : Option Place) → (is_idle o || is_opening o) ≡ true → is_some o ≡ true
-open_place None h = absurd cc
-open_place (Some p) h = refl
 
 -- Where the other calls stand.
 
@@ -94,7 +89,7 @@ abbrev pub lends : List Event → ℕ → ℕ → Owner → ℕ → List Event
 lends H c t own n = Pool (Lend c t own n) ∷ H
 
 pub lent_there : (H : List Event) (c t : ℕ) (own : Owner) (n : ℕ) → Lawful (lends H c t own n) → place (lends H c t own n) c ≡ Some (Lent t own)
-lent_there H c t own n l = changed_place c (lent t own (pool H).moment) (Lent t own) (pool H).conns (λ x. refl) (λ x. refl) (open_place (place H c) (moves_of H c t own n l.1))
+lent_there H c t own n l = changed_place c (lent t own (pool H).moment) (Lent t own) (pool H).conns (λ x. refl) (λ x. refl) (there_from (place H c) (moves_of H c t own n l.1))
 
 -- A call that is lent a connection asks for one of its own, and uses it.
 

@@ -40,8 +40,8 @@ use Rattle.dsql_laws_calls.proofs.BeginningsAt.{heard_more, heard_other, beginni
 use Rattle.dsql_laws_calls.proofs.Inside.{inside_uses, number_not, hands_same}
 use Rattle.dsql_laws_calls.proofs.HandedRows.{rows_begun}
 use Rattle.dsql_laws_calls.proofs.LineParts.{grows, grows_own}
-use Rattle.dsql_laws_calls.proofs.UnderWay.{scoped}
 use Rattle.dsql_laws_calls.proofs.Coming.{sound}
+use Rattle.dsql_laws_calls.proofs.Why.{scoped}
 
 never : (b : Bool) → b ≡ true → b ≡ false → ⊥
 never b x y = cc

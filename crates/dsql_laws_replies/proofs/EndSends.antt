@@ -47,7 +47,8 @@ use Rattle.dsql_laws_calls.proofs.Lines.{line_here}
 use Rattle.dsql_laws_calls.proofs.DueWay as of_due
 use Rattle.dsql_laws_calls.proofs.LiveRows.{over_some}
 use Rattle.dsql_laws_calls.proofs.Own.{due_now, due_of}
-use Rattle.dsql_laws_calls.proofs.UnderWay.{line_made, scoped}
+use Rattle.dsql_laws_calls.proofs.UnderWay.{line_made}
+use Rattle.dsql_laws_calls.proofs.Why.{scoped}
 use Rattle.dsql_laws_replies.proofs.InnerHeard.{closing_tidy}
 use Rattle.dsql_laws_replies.proofs.Decides.{closing_decides}
 use Rattle.dsql_laws_replies.proofs.InnerOver.{is_tidy}

@@ -1,7 +1,6 @@
 -- A call's record after an answer to the call, and after an event that isn't one.
 use Rattle.std.proofs.Common.{◌≡◌, ◌≢◌, ℕ, ◌==◌, Bool, true, false, cond, List, ◌∷◌, length, refl, ap, ◌∙◌, arith}
 use Rattle.dsql_laws_calls.specs.driver.Fits.{fits_of, is_memory}
-use Rattle.dsql_laws_calls.specs.journal.Journal.{may_follow}
 use Rattle.dsql_laws_calls.specs.journal.declared.entry.Entry.{Entry}
 use Rattle.dsql_laws_calls.specs.journal.Facts.{MayFollow}
 use Rattle.dsql_laws_calls.proofs.journal.Sentences.{MayFollow-of}
@@ -20,6 +19,7 @@ use Rattle.dsql_laws_calls.specs.history.Readers.Works.{work}
 use Rattle.dsql_laws_calls.specs.history.Legal.{Allowed}
 use Rattle.dsql_laws_calls.proofs.AtEnd.{no_work_yet}
 use Rattle.dsql_laws_calls.proofs.BeginningsAt.{is_answer}
+use Rattle.dsql_laws_calls.proofs.LineParts.{heard_follows}
 use Rattle.dsql_laws_calls.proofs.Stays.{as_many, has_entered}
 use Rattle.dsql_laws_calls.proofs.Works.{enters_next, old_record, other_replied, still_unfinished}
 
@@ -51,10 +51,5 @@ record_stays H (Replied m reply) n a h busy u = let b = still_unfinished H m rep
 record_stays H (Heard e) n a h busy u = absurd cc
 record_stays H e n a h busy u = refl
 
--- An answer fits its driver call, and is one that may be heard.
-follows_of : (H : List Event) (e : Entry) → Allowed H (Heard e) → may_follow (journal H e.conn) e ≡ true
-unfolding Allowed
-follows_of H e a = a.journals
-
 pub fitting : (H : List Event) (e : Entry) → Allowed H (Heard e) → (fits_of e.call e.answer ≡ true) × (is_memory e.answer ≡ false)
-fitting H e a = let m : MayFollow (journal H e.conn) e = MayFollow-of (journal H e.conn) e (follows_of H e a) in (m.answer.fitting, not_true (is_memory e.answer) m.answer.heard)
+fitting H e a = let m : MayFollow (journal H e.conn) e = MayFollow-of (journal H e.conn) e (heard_follows H e a) in (m.answer.fitting, not_true (is_memory e.answer) m.answer.heard)

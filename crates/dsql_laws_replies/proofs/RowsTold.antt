@@ -42,12 +42,12 @@ use Rattle.dsql_laws_calls.proofs.CallTenures.{call_line, line_of_call, plain_du
 use Rattle.dsql_laws_calls.proofs.Coming.{sound}
 use Rattle.dsql_laws_calls.proofs.Lines.{line_there}
 use Rattle.dsql_laws_calls.proofs.Looks.{comes, heard_there}
-use Rattle.dsql_laws_calls.proofs.Makers.{hands_out, rows_begin_nothing, rows_hand_out, some_changed, some_heard}
+use Rattle.dsql_laws_calls.proofs.Makers.{hands_no_look, hands_out, rows_begin_nothing, rows_hand_out, some_changed, some_heard}
 use Rattle.dsql_laws_calls.proofs.Own.{own_way}
 use Rattle.dsql_laws_calls.proofs.Plain.{line_plain}
 use Rattle.dsql_laws_calls.proofs.RowsNew.{held, were_made}
 use Rattle.dsql_laws_calls.proofs.Stays.{not_looking}
-use Rattle.dsql_laws_calls.proofs.Works.{is_look, other_heard, work_stays}
+use Rattle.dsql_laws_calls.proofs.Works.{other_heard, work_stays}
 use Rattle.dsql_laws_replies.proofs.Awaiting.{plain_call}
 use Rattle.dsql_laws_replies.proofs.Decides.{closing_decides}
 use Rattle.dsql_laws_replies.proofs.Records.{own_record, record_stays}
@@ -79,10 +79,6 @@ over_keeps again over number count it q a d hands sent h = absurd cc
 hands_aim : (it : Work) → hands_out it ≡ true → aim_of it ≡ aims.HandOut
 hands_aim (HandOut s label) h = refl
 hands_aim it h = absurd cc
-
-hands_look : (it : Work) → hands_out it ≡ true → is_look it ≡ false
-hands_look (HandOut s label) h = refl
-hands_look it h = absurd cc
 
 some_of : {X : Type 0} (o : Option X) → is_some o ≡ true → (x : X) × (o ≡ Some x)
 some_of None h = absurd cc
@@ -142,7 +138,7 @@ quietly : (H : List Event) (e : Event) (n : ℕ) → Lawful (e ∷ H) → is_ans
     → (is_unfinished H n ≡ true → asks (work H n) ≡ true → is_some (rows_by H n) ≡ true → is_some (decided H n) ≡ true) → is_some (decided (e ∷ H) n) ≡ true
 quietly H e n l quiet u own some before =
     let made = were_made H e n quiet some in
-    let same = work_stays H e n (hands_look (work H n) (rows_hand_out H n made)) in
+    let same = work_stays H e n (hands_no_look (work H n) (rows_hand_out H n made)) in
     let owns : asks (work H n) ≡ true = ap asks (sym same) ∙ own in
     let busy = not_looking (work H n) owns in
     ap (λ r. is_some r.decided) (record_stays H e n l.1 quiet busy u) ∙ before (was_unfinished H e n l.1 busy u) owns made

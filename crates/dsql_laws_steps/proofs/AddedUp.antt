@@ -22,7 +22,7 @@ no_steps m rest whole = record { begins = refl; whole = refl; ordered = refl; no
 
 -- The first of all the events begins a step.
 
-begins_behind : (m : Moment) (newer : List Event) (e : Event) (older : List Event) → begins_with_step m (newer ++ e ∷ older) ≡ begins_with_step m (e ∷ older)
+pub begins_behind : (m : Moment) (newer : List Event) (e : Event) (older : List Event) → begins_with_step m (newer ++ e ∷ older) ≡ begins_with_step m (e ∷ older)
 begins_behind m [] e older = refl
 begins_behind m (x ∷ []) e older = refl
 begins_behind m (x ∷ z ∷ zs) e older = begins_behind m (z ∷ zs) e older
@@ -66,7 +66,7 @@ step_whole now first n step whole s =
     one_begins (λ p. is_whole p.before) (passed now step) (record { event = first; before = now; begins = true }) (alone now first n step s) s.oldest whole
 
 -- At the end of a step its call has taken its permit.
-rests_then : (m : Moment) (first : Event) (n : ℕ) (step : List Event) → IsAtRest (stepped m first n step)
+pub rests_then : (m : Moment) (first : Event) (n : ℕ) (step : List Event) → IsAtRest (stepped m first n step)
 rests_then m first n step = ap (λ flights. record (stepped m first n step) { flights = flights }) (permitted_twice n (stand (step ++ m.past) n) (landed first m.flights))
 
 pub one_more : (m now : Moment) (events : List Event) (first : Event) (n : ℕ) (step : List Event) → Steps m events now → IsStep now first n step → may_enter now first ≡ true

@@ -38,6 +38,7 @@ use Rattle.dsql_laws.specs.history.Rules.Line.{is_used}
 use Rattle.dsql_laws.specs.OwedMade.{with_moves}
 use Rattle.dsql_laws.proofs.Tests.{same_itself, same_number}
 use Rattle.dsql_laws_callers.proofs.Numbered.{found_there, numbered}
+use Rattle.dsql_laws_callers.proofs.Homes.{found_fits}
 use Rattle.dsql_follows.specs.Moments.{Moment, begins_step, landed, leaver, stepping}
 use Rattle.dsql_laws_steps.specs.Groups.{after_enter, after_end, after_heard, after_control, after_reply, after_settling, asked_so, given_up, gone_on, heard_at, let_go, sends_nothing, unless_resting, with_owed}
 use Rattle.dsql_laws_steps.specs.Steps.{IsAtRest, MakesStep, GoesByItself, RestsAlone, goes_by_itself}
@@ -150,14 +151,6 @@ home_leaves H n m (Opening None) r h = absurd cc
 home_leaves H n m Idle r h = absurd cc
 home_leaves H n m Closing r h = absurd cc
 
-found_passes : (q : Conn → Bool) (conns : List Conn) (x : Conn) → find q conns ≡ Some x → q x ≡ true
-found_passes q [] x is = absurd cc
-found_passes q (y ∷ ys) x is = by (found_passes q ys x) (q y) refl is
-  where
-    by : (find q ys ≡ Some x → q x ≡ true) → (b : Bool) → q y ≡ b → cond b (Some y) (find q ys) ≡ Some x → q x ≡ true
-    by rest true passes same = let it : y ≡ x = cc in ap q (sym it) ∙ passes
-    by rest false passes same = rest same
-
 found_leaves : (H : List Event) (n m c : ℕ) (found : Option Conn) → rests H n ≡ true → find (λ (conn : Conn). is_home n conn.place) (pool H).conns ≡ found → option_map (λ (conn : Conn). conn.number) found ≡ Some c
     → leaver H m (place H c) ≡ n
 found_leaves H n m c None r is at = absurd cc
@@ -165,7 +158,7 @@ found_leaves H n m c (Some x) r is at =
     let same : x.number ≡ c = cc in
     let found = found_there (λ (conn : Conn). is_home n conn.place) 0 (pool H).opened (pool H).conns x (numbered H) is in
     let there : place H c ≡ Some x.place = ap (λ k. place H k) (sym same) ∙ ap (option_map (λ (conn : Conn). conn.place)) found.there in
-    ap (leaver H m) there ∙ home_leaves H n m x.place r (found_passes (λ (conn : Conn). is_home n conn.place) (pool H).conns x is)
+    ap (leaver H m) there ∙ home_leaves H n m x.place r (found_fits (λ (conn : Conn). is_home n conn.place) (pool H).conns x is)
 
 leaves_own : (H : List Event) (n m c : ℕ) (r : Bool) → rests H n ≡ r → cond r (smallest (is_home n) (pool H)) None ≡ Some c → leaver H m (place H c) ≡ n
 leaves_own H n m c true r at = found_leaves H n m c (find (λ (conn : Conn). is_home n conn.place) (pool H).conns) r refl at

@@ -1,5 +1,5 @@
-use Rattle.dsql_laws_lines.proofs.Landed.{step_rests}
 use Rattle.dsql_laws_lines.proofs.waking.a_step_ends_at_rest.Goals as goal
+use Rattle.dsql_laws_steps.proofs.AddedUp.{rests_then}
 
 pub returns : goal.returns
-returns c = step_rests
+returns c = rests_then
