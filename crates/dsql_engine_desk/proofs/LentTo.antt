@@ -19,10 +19,9 @@ use Rattle.dsql_laws_calls.specs.history.Readers.Calls.{calls}
 use Rattle.dsql_laws_calls.specs.history.Readers.Pool.{home, place}
 use Rattle.dsql_laws_calls.specs.history.Readers.Works.{owner_as, owner_of, scope, tx_maker, work, work_of, works}
 use Rattle.dsql_laws_calls.specs.history.Legal.{Lawful}
-use Rattle.dsql_laws_calls.proofs.Beginnings.{begins_busy}
+use Rattle.dsql_laws_calls.proofs.Begun.{still_begins}
 use Rattle.dsql_laws_calls.proofs.Owners.{lent_number, owner_is_of}
 use Rattle.dsql_laws_calls.proofs.Plain.{begins}
-use Rattle.dsql_laws_calls.proofs.Stays.{work_stays}
 use Rattle.dsql_laws_calls.proofs.Works.{enters_next, new_work, old_work}
 use Rattle.dsql_engine_desk.specs.Next.{lent_at, lent_under}
 use Rattle.dsql_engine_lines.proofs.Enders.{maker_begins}
@@ -49,9 +48,6 @@ lent_in H n c (Some (Lent t own)) is h = by (number_of own == n) refl h
 pub lent_to : (H : List Event) (n c : ℕ) → lent_under H n ≡ Some c → LentTo H n c
 lent_to H n c h = lent_in H n c (place H (home H n)) refl h
 
-begins_still : (H : List Event) (e : Event) (k : ℕ) → begins (work H k) ≡ true → begins (work (e ∷ H) k) ≡ true
-begins_still H e k h = ap begins (work_stays H e k (begins_busy (work H k) h)) ∙ h
-
 named_begins : (ws : List Work) (op : Op) (k : ℕ) → scope (work_of ws op) ≡ Tx k → k ≢ 0 → begins (slice_index_or ws k Look) ≡ true
 named_begins ws (ops.Exec (targets.Label tx) text args) k is some = let at : tx_maker ws tx ≡ k = cc in maker_begins ws tx k at some
 named_begins ws (ops.Query label (targets.Label tx) text args) k is some = let at : tx_maker ws tx ≡ k = cc in maker_begins ws tx k at some
@@ -71,11 +67,11 @@ tx_begins (Entered client m op ∷ H) n k l is some = by (n == m) refl (tx_begin
     by true found before =
         let same = same_number n m found in
         let new : scope (work_of (works H) op) ≡ Tx k = sym (ap scope (ap (work (Entered client m op ∷ H)) same ∙ new_work H client m op next)) ∙ is in
-        begins_still H (Entered client m op) k (named_begins (works H) op k new some)
+        still_begins H (Entered client m op) k (named_begins (works H) op k new some)
     by false apart before =
         let other : n ≢ m = λ same. let wrong : false ≡ true = sym apart ∙ (ap (λ j. j == m) same ∙ same_itself m) in absurd cc in
-        begins_still H (Entered client m op) k (before (sym (ap scope (old_work H client m op n next other)) ∙ is) some)
-tx_begins (e ∷ H) n k l is some = begins_still H e k (tx_begins H n k l.0 is some)
+        still_begins H (Entered client m op) k (before (sym (ap scope (old_work H client m op n next other)) ∙ is) some)
+tx_begins (e ∷ H) n k l is some = still_begins H e k (tx_begins H n k l.0 is some)
 
 begin_owner : (w : Work) (n : ℕ) → begins w ≡ true → owner_as w n ≡ owners.Tx n
 begin_owner (Begin label level read_only) n h = refl

@@ -30,6 +30,7 @@ use Rattle.dsql_laws_calls.proofs.Makers.{rows_hand_out, sent_made}
 use Rattle.dsql_engine_exchanged.specs.declared.bare.BareCall.{BareCall}
 use Rattle.dsql_engine_exchanged.specs.Filled.{filled}
 use Rattle.dsql_engine_going.specs.Permits.{permit_for, sent_at}
+use Rattle.dsql_engine_desk.proofs.Due.{is_filled}
 
 -- Is true if a connection in this place is lent.
 abbrev is_lent_out : Option Place → Bool
@@ -107,10 +108,6 @@ pub leave_given : (H : List Event) (m : ℕ) → Lawful H → is_some (due_for H
 leave_given H m l due = leave_there m (site H m) (place H (site H m)) (due_for H m) (due_lent H m l due) due
 
 -- What the desk returns decides whether a driver call is due for call m.
-
-is_filled : (asked : Asked) (call : Option BareCall) → is_some (option_map (filled asked) call) ≡ is_some call
-is_filled asked None = refl
-is_filled asked (Some it) = refl
 
 pub due_told : (H : List Event) (m : ℕ) (answer found : Option BareCall) → option_map (filled (asked_by H m)) answer ≡ due_for H m → answer ≡ found → is_some (due_for H m) ≡ is_some found
 due_told H m answer found sent is = sym (ap (λ o. is_some o) sent) ∙ (is_filled (asked_by H m) answer ∙ ap (λ o. is_some o) is)

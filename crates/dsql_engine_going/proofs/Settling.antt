@@ -24,13 +24,14 @@ use Rattle.dsql_laws_others.specs.Ends.{ends_transaction}
 use Rattle.dsql_laws_others.proofs.ClosedDatabase.{closed_goes_on, closed_used}
 use Rattle.dsql_laws_others.proofs.ClosedRows.{goes_on_closing, used_closing}
 use Rattle.dsql_laws_others.proofs.EndedTx.{each_after_end, used_after_end}
+use Rattle.dsql_laws_others.proofs.GivenUp.{settled_from}
 use Rattle.dsql_laws_steps.specs.Groups.{with_owed}
 use Rattle.dsql_engine_going.proofs.Replying.{settled_owes}
 
 -- The call may come next.
 
 -- If all is settled, all except call 0 is, which doesn't exist.
-settled_but_none : (H : List Event) → Settled H → is_settled_but 0 H ≡ true
+pub settled_but_none : (H : List Event) → Settled H → is_settled_but 0 H ≡ true
 settled_but_none H s = together (owes_nothing H) (uses_what_is_lent H && goes_on H) s.nothing_owed (together (uses_what_is_lent H) (goes_on H) s.used s.somewhere)
 
 course_of_entry : (H : List Event) (client n : ℕ) (op : Op) → is_empty H ≡ false → keeps_course H (Entered client n op) ≡ true
@@ -60,23 +61,19 @@ goes_on_any H n l h = all_within (λ m. (m == 0) || is_some (stand H m)) (λ m. 
     each : (m : ℕ) → has m (unfinished H) ≡ true → ((m == 0) || is_some (stand H m)) ≡ true → ((m == n) || is_some (stand H m)) ≡ true
     each m u so = or_right (m == n) (is_some (stand H m)) (second (m == 0) (is_some (stand H m)) (other_number m 0 (unfinished_from_one H m l u)) so)
 
-all_but : (K : List Event) (n : ℕ) → owed K ≡ [] → uses_what_is_lent K ≡ true → goes_on_but n K ≡ true → is_settled_but n K ≡ true
-all_but K n none used others =
-    together (owes_nothing K) (uses_what_is_lent K && goes_on_but n K) (ap is_empty none) (together (uses_what_is_lent K) (goes_on_but n K) used others)
-
 plain_settled : (H : List Event) (client n : ℕ) (op : Op) → Lawful (Entered client n op ∷ H) → Settled H → is_plain op ≡ true → owed (Entered client n op ∷ H) ≡ [] → is_settled_but n (Entered client n op ∷ H) ≡ true
 plain_settled H client n op l s plain none =
-    all_but (Entered client n op ∷ H) n none (used_entered H client n op l plain ∙ s.used) (goes_on_entered H client n op l plain (goes_on_any H n l.0 s.somewhere))
+    settled_from (Entered client n op ∷ H) n none (used_entered H client n op l plain ∙ s.used) (goes_on_entered H client n op l plain (goes_on_any H n l.0 s.somewhere))
 
 ending_settled : (H : List Event) (client n : ℕ) (op : Op) → Lawful (Entered client n op ∷ H) → Settled H → ends_transaction op ≡ true → owed (Entered client n op ∷ H) ≡ [] → is_settled_but n (Entered client n op ∷ H) ≡ true
 ending_settled H client n op l s ends none =
-    all_but (Entered client n op ∷ H) n none (used_after_end H client n op l ends ∙ s.used) (each_after_end H client n op l ends s.somewhere)
+    settled_from (Entered client n op ∷ H) n none (used_after_end H client n op l ends ∙ s.used) (each_after_end H client n op l ends s.somewhere)
 
 pub entered_settled : (H : List Event) (client n : ℕ) (op : Op) → Lawful (Entered client n op ∷ H) → Settled H → is_settled_but n (with_owed (Entered client n op ∷ H)) ≡ true
 entered_settled H client n DbClose l s =
-    let K = Entered client n DbClose ∷ H in all_but (with_owed K) n (owed_made K) (closed_used H client n l s.used) (closed_goes_on H client n l s.somewhere)
+    let K = Entered client n DbClose ∷ H in settled_from (with_owed K) n (owed_made K) (closed_used H client n l s.used) (closed_goes_on H client n l s.somewhere)
 entered_settled H client n (RowsClose rows) l s =
-    all_but (Entered client n (RowsClose rows) ∷ H) n refl (used_closing H client n rows l ∙ s.used) (goes_on_closing H client n rows l s.somewhere)
+    settled_from (Entered client n (RowsClose rows) ∷ H) n refl (used_closing H client n rows l ∙ s.used) (goes_on_closing H client n rows l s.somewhere)
 entered_settled H client n (Commit tx) l s = ending_settled H client n (Commit tx) l s refl refl
 entered_settled H client n (Rollback tx) l s = ending_settled H client n (Rollback tx) l s refl refl
 entered_settled H client n op l s = plain_settled H client n op l s refl refl

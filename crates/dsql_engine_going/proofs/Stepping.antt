@@ -26,6 +26,7 @@ use Rattle.dsql_engine_desk.specs.Desk.{past, Stands}
 use Rattle.dsql_engine_going.specs.Reaching.{CanPay, MayGoOn}
 use Rattle.dsql_engine_going.specs.Stepping.{most_going_on, are_of_unfinished, events_of_a_step, MayStep}
 use Rattle.dsql_engine_going.proofs.Settling.{entered_settled, entry_allowed}
+use Rattle.dsql_laws_others.proofs.GivenUp.{moves_add}
 
 lawful_kept : (desk : Desk) → Stands desk → Lawful (past desk)
 unfolding Stands
@@ -36,10 +37,6 @@ lawful_kept desk s = s.tables.lawful
 same_unfinished : (ms : List Move) (H : List Event) → unfinished (with_moves ms H) ≡ unfinished H
 same_unfinished [] H = refl
 same_unfinished (m ∷ ms) H = same_unfinished ms (Pool m ∷ H)
-
-more_events : (ms : List Move) (H : List Event) → length (with_moves ms H) ≡ length ms + length H
-more_events [] H = omega arith
-more_events (m ∷ ms) H = let rest = more_events ms (Pool m ∷ H) in omega (arith, rest)
 
 -- No driver call is under way for a call that enters.
 
@@ -74,7 +71,7 @@ pub may_pay : (old new : Desk) (flights : UnderWay) (client n : ℕ) (op : Op) �
 may_pay old new flights client n op pays short may appends =
     let K = Entered client n op ∷ past old in
     let few : length (owed K) ≤ most_moves = few_next (past old) (Entered client n op) (lawful_kept old pays.stands) may.settled.nothing_owed in
-    let many : length (past new) ≡ length (owed K) + length K = ap length appends.event ∙ more_events (owed K) K in
+    let many : length (past new) ≡ length (owed K) + length K = ap length appends.event ∙ moves_add (owed K) K in
     let one : length K ≡ length (past old) + 1 = omega arith in
     record {
       stands = appends.stands;

@@ -23,7 +23,7 @@ use Rattle.dsql_engine_going.specs.pool.Places.{is_lent}
 use Rattle.dsql_engine_going.specs.pool.Pooled.{next_tenure}
 use Rattle.dsql_engine_going.proofs.laws_work.Lines.{entry_with, same_parts}
 use Rattle.dsql_engine_going.proofs.laws_work.Rows.{not_true}
-use Rattle.dsql_engine_going.proofs.laws.Tests.{both, same_itself, same_number, together}
+use Rattle.dsql_engine_going.proofs.laws.Tests.{both, same_itself, same_number}
 use Rattle.dsql_engine_going.specs.history.declared.event.Event.{Event}
 use Rattle.dsql_engine_going.specs.history.declared.event.Event.TheVariants.{Heard}
 use Rattle.dsql_engine_going.specs.history.declared.work.Scope.{Scope}
@@ -42,7 +42,7 @@ use Rattle.dsql_engine_going.specs.history.Rules.Course.{keeps_course}
 use Rattle.dsql_engine_going.specs.history.Rules.Line.{may_come, sends_from}
 use Rattle.dsql_engine_going.specs.history.Rules.Moves.{hears_in, is_house_entry, keeps_sets}
 use Rattle.dsql_engine_going.specs.history.Rules.Order.{follows}
-use Rattle.dsql_engine_going.specs.history.Rules.Settled.{Settled, goes_on_but, is_settled_but, owes_nothing, uses_what_is_lent}
+use Rattle.dsql_engine_going.specs.history.Rules.Settled.{Settled}
 use Rattle.dsql_engine_going.specs.history.Legal.{Allowed, Lawful}
 use Rattle.dsql_laws_tenures.specs.Tenures.{made_by}
 use Rattle.dsql_engine_going.specs.laws_calls.UnderWay.{StaysWithItsCall}
@@ -66,12 +66,10 @@ use Rattle.dsql_engine_going.proofs.laws_due.LineFacts.{line_about}
 use Rattle.dsql_engine_going.proofs.laws_due.Ways.{owner_begins}
 use Rattle.dsql_engine_going.specs.effects.Heard.{HearsBegin, HearsRows}
 use Rattle.dsql_engine_going.proofs.Replying.{settled_owes}
+use Rattle.dsql_engine_going.proofs.Settling.{settled_but_none}
 use Rattle.dsql_engine_hearing.specs.declared.hear.Hearing.{Hearing}
 use Rattle.dsql_engine_going.specs.desk.Appending.{DecidesNow}
 use Rattle.dsql_engine_hearing.specs.Hearing.{IsWelcome, MayHear}
-
-pub settled_all : (H : List Event) → Settled H → is_settled_but 0 H ≡ true
-settled_all H s = together (owes_nothing H) (uses_what_is_lent H && goes_on_but 0 H) s.nothing_owed (together (uses_what_is_lent H) (goes_on_but 0 H) s.used s.somewhere)
 
 -- The answer fits its driver call and doesn't report a lack of memory.
 
@@ -160,7 +158,7 @@ course_heard (x ∷ H) e begun = refl
 allowed_heard : (H : List Event) (e : Entry) → Lawful H → Settled H → is_empty H ≡ false → IsWelcome H e → Allowed H (Heard e)
 unfolding Allowed
 allowed_heard H e l s begun w =
-    let owing = settled_owes H 0 (settled_all H s) in
+    let owing = settled_owes H 0 (settled_but_none H s) in
     record {
       course = course_heard H e begun;
       numbers = refl;

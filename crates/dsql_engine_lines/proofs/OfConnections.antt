@@ -8,10 +8,8 @@ use Rattle.dsql_laws_calls.specs.journal.declared.entry.Owner.{Owner}
 use Rattle.dsql_laws_calls.specs.journal.declared.entry.Owner.TheVariants as owners
 use Rattle.dsql_laws_calls.specs.journal.Kinds.{number_of, same_owner}
 use Rattle.dsql_laws_calls.specs.journal.Readers.{of_tenure, went_bad}
-use Rattle.dsql_laws_calls.specs.pool.declared.conn.Place.{Place}
-use Rattle.dsql_laws_calls.specs.pool.declared.conn.Place.TheVariants.{Lent, Idle, Opening, Closing}
+use Rattle.dsql_laws_calls.specs.pool.declared.conn.Place.TheVariants.{Lent}
 use Rattle.dsql_laws_calls.specs.pool.declared.moves.Move.TheVariants.{Lend}
-use Rattle.dsql_laws_calls.specs.pool.Places.{is_idle, is_opening}
 use Rattle.dsql_laws_calls.specs.works.Exchanges.{exchanges, step_of, with_exchange}
 use Rattle.dsql_laws_calls.specs.works.Journals.{ends_invalid}
 use Rattle.dsql_laws_calls.specs.course.declared.call.Due.{Due}
@@ -38,7 +36,7 @@ use Rattle.dsql_laws_calls.proofs.Owners.{owner_is_of, same_owner_is}
 use Rattle.dsql_laws_calls.proofs.Plain.{begins}
 use Rattle.dsql_laws_calls.proofs.Spared.{opened_when, was_heard, was_opened}
 use Rattle.dsql_laws_calls.proofs.Tenures.{fresh_lending}
-use Rattle.dsql_laws_calls.proofs.Unspoilt.{Fine, fine, is_spoilt}
+use Rattle.dsql_laws_calls.proofs.Unspoilt.{fine, fine_from}
 use Rattle.dsql_engine_exchanged.specs.Beginning.{beginning_in, begun_if}
 use Rattle.dsql_engine_exchanged.specs.Ending.{ending_in, then_ended}
 use Rattle.dsql_engine_exchanged.proofs.Begun.{begin_heard}
@@ -105,13 +103,6 @@ owned H c t own l is =
 
 -- A connection that is known to be bad isn't lent.
 
-well_from : (heard opened : Bool) (J : List Entry) (at : Option Place) → Fine heard opened J at → (is_idle at || is_opening at) ≡ true → (is_opening at ≡ true → opened ≡ true) → is_spoilt J ≡ false
-well_from heard opened J (Some Idle) s from h = s
-well_from heard opened J (Some (Opening wanted)) s from h = s.1 (h refl)
-well_from heard opened J (Some (Lent t own)) s from h = absurd cc
-well_from heard opened J (Some Closing) s from h = absurd cc
-well_from heard opened J None s from h = absurd cc
-
 first_false : (a b : Bool) → (a || b) ≡ false → a ≡ false
 first_false true b h = absurd cc
 first_false false b h = refl
@@ -120,7 +111,7 @@ lent_well : (H : List Event) (c t : ℕ) (own : Owner) (k : ℕ) → Lawful H �
 lent_well H c t own k l a =
     let f = move_facts H (Lend c t own k) a in
     first_false (went_bad (journal H c)) (ends_invalid (journal H c))
-    (well_from (was_heard c H) (was_opened c H) (journal H c) (place H c) (fine H l c) f.moves (opened_when H c (Lend c t own k) l (keeps_of H (Pool (Lend c t own k)) a) (same_itself c)))
+    (fine_from (was_heard c H) (was_opened c H) (journal H c) (place H c) (fine H l c) f.moves (opened_when H c (Lend c t own k) l (keeps_of H (Pool (Lend c t own k)) a) (same_itself c)))
 
 pub bad_there : (H : List Event) (c t : ℕ) (own : Owner) → Lawful H → place H c ≡ Some (Lent t own) → went_bad (heard_in H c t) ≡ went_bad (journal H c)
 unfolding AtLending WithEach

@@ -42,10 +42,10 @@ use Rattle.dsql_laws_calls.proofs.Owners.{at_home}
 use Rattle.dsql_laws_calls.proofs.UnderWay.{clash}
 use Rattle.dsql_laws_others.proofs.Homes.{HomeStays, HomeUnlent, HomesStay, due_moved, used_moved}
 use Rattle.dsql_laws_others.proofs.Leaves.{lent_used}
-use Rattle.dsql_laws_others.proofs.LentBeside.{LentAt, lent_or_not}
+use Rattle.dsql_laws_others.proofs.LentBeside.{LentAt, either_still, lent_or_not}
 use Rattle.dsql_laws_others.proofs.OnceLeft.{once}
 use Rattle.dsql_laws_others.proofs.Untouched.{standing, still_standing, has_still}
-use Rattle.dsql_laws_answers.proofs.Beside.{either_still, both_still}
+use Rattle.dsql_laws_answers.proofs.Beside.{both_still}
 use Rattle.dsql_laws_answers.proofs.Layer.{Carried}
 
 pub record Unlent (H : List Event) (move : Move) (c : ℕ) : Type 0 where

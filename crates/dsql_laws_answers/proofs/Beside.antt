@@ -27,6 +27,7 @@ use Rattle.dsql_laws_calls.specs.history.Rules.Stands.{is_settled_for}
 use Rattle.dsql_laws_calls.proofs.Begun.{heard_tx, BeginsIt}
 use Rattle.dsql_laws_calls.proofs.EndedRows.{rows_kept}
 use Rattle.dsql_laws_calls.proofs.Works.{other_heard}
+use Rattle.dsql_laws_others.proofs.LentBeside.{either_still}
 
 -- Another unfinished call than the call of the answer.
 pub record Beside (H : List Event) (e : Entry) (m : ℕ) : Type 0 where
@@ -98,11 +99,6 @@ told_still H e m b h = by (work H m) h
 
 resting_same : (H : List Event) (e : Entry) (m : ℕ) → Beside H e m → rests (Heard e ∷ H) m ≡ rests H m
 resting_same H e m b = ap (λ ts. is_unfinished H m && asks_nothing (caps H) (work H m) ts) (tried_same H e m b)
-
-pub either_still : (a b c d : Bool) → (a ≡ true → c ≡ true) → (b ≡ true → d ≡ true) → (a || b) ≡ true → (c || d) ≡ true
-either_still a b true d f g h = refl
-either_still true b false d f g h = let clash : false ≡ true = f refl in absurd cc
-either_still false b false d f g h = g h
 
 pub both_still : (a b c : Bool) → (b ≡ true → c ≡ true) → (a && b) ≡ true → (a && c) ≡ true
 both_still true b c f h = f h

@@ -23,13 +23,14 @@ use Rattle.dsql_laws_calls.specs.history.Readers.Course.{caps}
 use Rattle.dsql_laws_calls.specs.history.Readers.Pool.{place, home}
 use Rattle.dsql_laws_calls.specs.history.Readers.Unfinished.{is_unfinished}
 use Rattle.dsql_laws_calls.specs.history.Readers.Works.{work, borrower}
-use Rattle.dsql_laws_calls.specs.history.Rules.Course.{begins_with_run, goes_forward, ends_once, keeps_course}
+use Rattle.dsql_laws_calls.specs.history.Rules.Course.{begins_with_run, goes_forward, ends_once}
 use Rattle.dsql_laws_calls.specs.history.Rules.Line.{due_in, due_for}
 use Rattle.dsql_laws_calls.specs.history.Rules.Settled.{Settled}
 use Rattle.dsql_laws_calls.specs.history.Legal.{Allowed, Lawful, Calm}
 use Rattle.dsql_laws_callers.proofs.Works as of_callers
 use Rattle.dsql_laws_calls.proofs.Ends.{none_due_once_ended}
 use Rattle.dsql_laws_calls.proofs.Idle.{lends_from}
+use Rattle.dsql_laws_calls.proofs.Lines.{course_of}
 use Rattle.dsql_laws_calls.proofs.Owners.{at_home}
 use Rattle.dsql_laws_calls.proofs.Stays.{has_entered}
 use Rattle.dsql_laws_calls.proofs.Told.{asks_undecided, wanting_undecided, wants_undecided}
@@ -179,10 +180,6 @@ was_replying H n reply m c t own is d =
     }
 
 -- The run's first event precedes all lendings.
-
-course_of : (H : List Event) (e : Event) → Allowed H e → keeps_course H e ≡ true
-unfolding Allowed
-course_of H e a = a.course
 
 run_first : (H : List Event) (version : ℕ) (can : Caps) (c : ℕ) (p : Place) → Allowed H (Run version can) → place H c ≡ Some p → ⊥
 run_first [] version can c p a is = cc

@@ -75,7 +75,7 @@ was_begun H Ended n h b = sym (as_begun (ended_by tx_ends.EndOfRun) (tx_by H n))
 was_begun H e n h b = b
 
 -- A call that has something to do isn't the one that enters.
-not_new : (H : List Event) (client m : ℕ) (op : Op) (n : ℕ) → Allowed H (Entered client m op) → (work H n ≡ Look → ⊥) → n ≢ m
+pub not_new : (H : List Event) (client m : ℕ) (op : Op) (n : ℕ) → Allowed H (Entered client m op) → (work H n ≡ Look → ⊥) → n ≢ m
 not_new H client m op n a busy same = let new = enters_next H client m op a in busy (no_work_yet H n (omega (arith, new, same)))
 
 -- A call that has something to do and no reply had no reply before the event.

@@ -1,5 +1,5 @@
 -- Once the run has ended, nothing is due for any call: each had its reply by then, or waited in vain.
-use Rattle.std.proofs.Common.{◌≡◌, ◌≢◌, ℕ, zero, suc, ◌≤◌, ◌==◌, ◌⊎◌, inl, inr, Bool, true, false, not, ◌&&◌, ◌||◌, cond, List, [], ◌∷◌, ◌++◌, length, Option, Some, None, is_some, is_none, refl, sym, ap, subst, ◌∙◌, arith}
+use Rattle.std.proofs.Common.{◌≡◌, ◌≢◌, ℕ, zero, suc, ◌≤◌, ◌==◌, ◌⊎◌, inl, inr, Bool, true, false, not, ◌&&◌, ◌||◌, cond, List, [], ◌∷◌, ◌++◌, length, Option, None, is_some, is_none, refl, sym, ap, subst, ◌∙◌, arith}
 use Rattle.std.specs.Prelude.{slice_index_or}
 use Rattle.dsql_laws.specs.driver.declared.call.DriverCall.{DriverCall}
 use Rattle.dsql_laws.specs.rows.OpenRows.{rows_of}
@@ -14,7 +14,7 @@ use Rattle.dsql_laws_calls.proofs.Lists.{same_or_not}
 use Rattle.dsql_laws.specs.history.declared.work.Work.{Work}
 use Rattle.dsql_laws.specs.history.declared.work.Work.TheVariants.{Execute, ReadOne, HandOut, Begin, End, Ping as Pings, Fetch, Close, Look}
 use Rattle.dsql_laws.specs.history.Readers.Works.{asks, works, work, work_of, is_fetch, scope}
-use Rattle.dsql_laws.specs.history.Rules.Line.{is_due, due_in, due_for, is_due_at, parts, may_come, sends_in}
+use Rattle.dsql_laws.specs.history.Rules.Line.{due_in, due_for, is_due_at, parts, may_come, sends_in}
 use Rattle.dsql_laws.specs.history.declared.event.Event.{Event}
 use Rattle.dsql_laws.specs.history.declared.event.Event.TheVariants.{Run, Entered, Heard, Pool, Waits, Ticked, SetLimit, Replied, Ended}
 use Rattle.dsql_laws.specs.history.declared.event.Op.{Op}
@@ -35,7 +35,7 @@ use Rattle.dsql_laws.specs.history.Readers.Lines.{has_sent}
 use Rattle.dsql_laws.specs.history.Readers.Transactions.{goes_on, ending_call, tx_ender}
 use Rattle.dsql_laws.specs.history.Rules.Ending.{ending}
 use Rattle.dsql_laws_calls.proofs.AtEnd.{no_work_yet, waits_at_end, wants_at_end, waiting_unlent, unlent_stays}
-use Rattle.dsql_laws_calls.proofs.Own.{sender_wants_none}
+use Rattle.dsql_laws_calls.proofs.Own.{sender_wants_none, some_due}
 use Rattle.dsql_laws_calls.proofs.Idle.{lent_asks, due_lent, came_of}
 use Rattle.dsql_laws_calls.proofs.TxEnders.{BegunNow, tx_ender_works, went_on, none_goes_at_end, sent_entered}
 use Rattle.dsql_laws_calls.proofs.Begun.{begin_heard}
@@ -44,10 +44,6 @@ use Rattle.dsql_laws_calls.proofs.Stays.{as_many}
 
 never : true ≡ false → ⊥
 never h = cc
-
-some_of : (d : Option DriverCall) (call : DriverCall) → is_due d call ≡ true → is_some d ≡ true
-some_of None call h = absurd cc
-some_of (Some q) call h = refl
 
 -- Holds if nothing is due for any call. No connection is lent to a call without a reply, no rows are live, and
 -- no transaction goes on. No such call ended rows or a transaction, and none has sent anything on another
@@ -136,7 +132,7 @@ layer_only H last none before e h = by_layer (e.call_no == 0) refl
     by : (a b : Bool) → is_due_at (last ∷ H) (place (last ∷ H) e.conn) e ≡ a → (a || (b && may_come H e)) ≡ true → not (parts last e) ≡ b → (e.call_no == 0) ≡ false → ⊥
     by true b now k apart some =
         let due = due_there (last ∷ H) (place (last ∷ H) e.conn) e now some in
-        never (sym (some_of (due_for (last ∷ H) e.call_no) e.call due) ∙ none e.call_no)
+        never (sym (some_due (due_for (last ∷ H) e.call_no) e.call due) ∙ none e.call_no)
     by false true now k apart some = never (sym (before e k apart) ∙ some)
     by false false now k apart some = absurd cc
 

@@ -1,7 +1,7 @@
 -- A connection is lent only to calls that ask for one of their own. A call that sends on its own connection has
 -- had a try.
 use Rattle.std.proofs.Common.{◌≡◌, ◌≢◌, ℕ, zero, suc, ◌≤◌, ◌==◌, ◌⊎◌, inl, inr, Bool, true, false, not, ◌&&◌, ◌||◌, cond, List, [], ◌∷◌, ◌++◌, length, Option, Some, None, is_some, refl, sym, ap, subst, ◌∙◌, arith}
-use Rattle.std.proofs.lemmas.Bool.{or_cases}
+use Rattle.std.proofs.lemmas.Bool.{or_cases, or_left, or_right}
 use Rattle.std.specs.Prelude.{slice_index_or}
 use Rattle.std.specs.List.{list_any}
 use Rattle.std.specs.Option.{option_map}
@@ -55,21 +55,13 @@ old_asks [] w n h = absurd cc
 old_asks (v ∷ ws) w zero h = h
 old_asks (v ∷ ws) w (suc n) h = old_asks ws w n h
 
-found_any : (q : Conn → Bool) (c : ℕ) (conns : List Conn) (x : Conn) → conn_of c conns ≡ Some x → q x ≡ true → list_any q conns ≡ true
+pub found_any : (q : Conn → Bool) (c : ℕ) (conns : List Conn) (x : Conn) → conn_of c conns ≡ Some x → q x ≡ true → list_any q conns ≡ true
 found_any q c [] x is h = absurd cc
 found_any q c (y ∷ ys) x is h = by (λ k. found_any q c ys x k h) (y.number == c) is
   where
-    or_first : (a b : Bool) → a ≡ true → (a || b) ≡ true
-    or_first true b k = refl
-    or_first false b k = absurd cc
-
-    or_second : (a b : Bool) → b ≡ true → (a || b) ≡ true
-    or_second true b k = refl
-    or_second false b k = k
-
     by : (conn_of c ys ≡ Some x → list_any q ys ≡ true) → (b : Bool) → cond b (Some y) (conn_of c ys) ≡ Some x → (q y || list_any q ys) ≡ true
-    by rest true k = let same : y ≡ x = cc in or_first (q y) (list_any q ys) (ap q same ∙ h)
-    by rest false k = or_second (q y) (list_any q ys) (rest k)
+    by rest true k = let same : y ≡ x = cc in or_left (q y) (list_any q ys) (ap q same ∙ h)
+    by rest false k = or_right (q y) (list_any q ys) (rest k)
 
 wants_waiting : (n : ℕ) (p : Pooled) → waits n p.waiting ≡ true → wants n p ≡ true
 wants_waiting n p h = ap (λ b. b || list_any (λ conn. is_for n conn.place) p.conns) h
@@ -78,10 +70,6 @@ wants_opening : (n c : ℕ) (p : Pooled) (found : Option Conn) → conn_of c p.c
 wants_opening n c p None is from one = absurd cc
 wants_opening n c p (Some x) is from one = at x.place refl
   where
-    or_second : (a b : Bool) → b ≡ true → (a || b) ≡ true
-    or_second true b k = refl
-    or_second false b k = k
-
     passed : (b : Bool) → cond {A = ℕ} b 1 0 ≡ 1 → b ≡ true
     passed true k = refl
     passed false k = absurd cc
@@ -90,7 +78,7 @@ wants_opening n c p (Some x) is from one = at x.place refl
     at (Opening w) there =
         let home : is_home n x.place ≡ true = passed (is_home n x.place) one in
         let its : is_for n x.place ≡ true = ap (is_for n) there ∙ (sym (ap (is_home n) there) ∙ home) in
-        or_second (waits n p.waiting) (list_any (λ conn. is_for n conn.place) p.conns) (found_any (λ conn. is_for n conn.place) c p.conns x is its)
+        or_right (waits n p.waiting) (list_any (λ conn. is_for n conn.place) p.conns) (found_any (λ conn. is_for n conn.place) c p.conns x is its)
     at Idle there = let none : passing (is_home_of n) (Some x) ≡ 0 = ap (λ (pl : Place). cond {A = ℕ} (is_home n pl) 1 0) there in let clash : 1 ≡ 0 = sym one ∙ none in absurd cc
     at (Lent t o) there = let clash : true ≡ false = sym from ∙ ap (λ (pl : Place). is_idle (Some pl) || is_opening (Some pl)) there in absurd cc
     at Closing there = let clash : true ≡ false = sym from ∙ ap (λ (pl : Place). is_idle (Some pl) || is_opening (Some pl)) there in absurd cc

@@ -78,7 +78,7 @@ bad_sends can cn asked c n made (s ∷ later) h = by s (bad_sends can cn asked c
 abbrev pub NoCursor : List Exchange → Type 0
 NoCursor made = (r : ℕ) → has_cursor made r ≡ false
 
-no_cursor : (made : List Exchange) → own_cursor made ≡ None → NoCursor made
+pub no_cursor : (made : List Exchange) → own_cursor made ≡ None → NoCursor made
 no_cursor made none r = ap (λ o. is_number o r && not (list_any (λ x. closes_cursor r x.0) made)) none
 
 -- Holds if the newest exchange belongs to such a course and closed the cursor before the handle.

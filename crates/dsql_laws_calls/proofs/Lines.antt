@@ -58,7 +58,7 @@ line_here H c t own n w l is its =
 begun_so : (H : List Event) (c : ℕ) (p : Place) → place H c ≡ Some p → H ≡ [] → ⊥
 begun_so H c p is none = let k : place [] c ≡ Some p = ap (λ G. place G c) (sym none) ∙ is in cc
 
-course_of : (H : List Event) (e : Event) → Allowed H e → keeps_course H e ≡ true
+pub course_of : (H : List Event) (e : Event) → Allowed H e → keeps_course H e ≡ true
 unfolding Allowed
 course_of H e a = a.course
 
@@ -83,7 +83,7 @@ reset_as ca cb x y p q = rw (p, q) refl
 pub reset_stays : (H : List Event) (e : Event) (c t : ℕ) (own : Owner) → Lawful H → Allowed H e → place H c ≡ Some (Lent t own) → is_used H (number_of own) ≡ true → is_reset_due (e ∷ H) c ≡ is_reset_due H c
 reset_stays H e c t own l a is used = reset_as (caps H) (caps (e ∷ H)) (uses H c) (uses (e ∷ H) c) (caps_stay H e c (Lent t own) a is) (uses_stay H e c t own l a is used)
 
-inner_as : (ca cb : Caps) (bad : Bool) (x y : Asked) (w : Wish) (L : List Entry) → cb ≡ ca → y ≡ x → inner_after cb bad y w L ≡ inner_after ca bad x w L
+pub inner_as : (ca cb : Caps) (bad : Bool) (x y : Asked) (w : Wish) (L : List Entry) → cb ≡ ca → y ≡ x → inner_after cb bad y w L ≡ inner_after ca bad x w L
 inner_as ca cb bad x y w L p q = rw (p, q) refl
 
 plain_as : (ca cb : Caps) (b d : Bool) (x y : Asked) (w : Wish) (L : List Entry) → cb ≡ ca → d ≡ b → y ≡ x → plain.line_after cb d y w L ≡ plain.line_after ca b x w L

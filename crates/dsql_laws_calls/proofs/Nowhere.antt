@@ -25,7 +25,7 @@ use Rattle.dsql_laws_calls.proofs.Looked.{looked}
 use Rattle.dsql_laws_calls.proofs.Refusals.{refusal_told, loss_told}
 use Rattle.dsql_laws.specs.history.declared.work.Scope.TheVariants.{Db}
 
-own_settled : (o p q : Option Reply) → is_some o ≡ true → is_some (or_else (or_else o p) q) ≡ true
+pub own_settled : (o p q : Option Reply) → is_some o ≡ true → is_some (or_else (or_else o p) q) ≡ true
 own_settled None p q h = absurd cc
 own_settled (Some own) p q h = refl
 

@@ -69,7 +69,7 @@ tx_borrows (e ∷ H) k l h = by (tx_borrows H k l.0) (went_on H e k h)
     by rest (inl before) = borrows_on H e k l (going_used H k before) (rest before)
     by rest (inr it) = new it.entry it.heard it.begin it.own
 
-live_used : (H : List Event) (n : ℕ) → are_live H n ≡ true → is_used H n ≡ true
+pub live_used : (H : List Event) (n : ℕ) → are_live H n ≡ true → is_used H n ≡ true
 live_used H n h = later (goes_on H n) (are_live H n) h
   where
     later : (g v : Bool) → v ≡ true → (g || (v || is_some (rest H n))) ≡ true

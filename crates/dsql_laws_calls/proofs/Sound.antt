@@ -155,7 +155,7 @@ quiet_facts H e l none s = record {
 
 -- The event is an answer.
 
-same_lent : (t u : ℕ) (o p : Owner) → Some (Lent t o) ≡ Some (Lent u p) → (t ≡ u) × (o ≡ p)
+pub same_lent : (t u : ℕ) (o p : Owner) → Some (Lent t o) ≡ Some (Lent u p) → (t ≡ u) × (o ≡ p)
 same_lent t u o p h = (cc, cc)
 
 -- Holds if what is heard on a connection that is lent to this owner was under way there.

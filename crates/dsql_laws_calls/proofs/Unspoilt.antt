@@ -39,7 +39,7 @@ use Rattle.dsql_laws.specs.history.Readers.Course.{caps}
 use Rattle.dsql_laws.specs.history.Readers.Journals.{journal, heard_in}
 use Rattle.dsql_laws.specs.history.Readers.Pool.{pool, place, wanted_by}
 use Rattle.dsql_laws.specs.history.Rules.Causes.{is_owed, is_given_back}
-use Rattle.dsql_laws.specs.history.Rules.Line.{is_due, may_come}
+use Rattle.dsql_laws.specs.history.Rules.Line.{may_come}
 use Rattle.dsql_laws.specs.history.Rules.Moves.{hears_in}
 use Rattle.dsql_laws.specs.history.Rules.Order.{follows}
 use Rattle.dsql_laws.specs.history.Rules.Sent.{asked_by, is_reset_due}
@@ -51,6 +51,7 @@ use Rattle.dsql_laws_calls.proofs.Born.{born, heard_at}
 use Rattle.dsql_laws_calls.proofs.CallTenures.{call_line}
 use Rattle.dsql_laws_calls.proofs.Coming.{sound}
 use Rattle.dsql_laws_calls.proofs.Lent.{move_facts}
+use Rattle.dsql_laws_calls.proofs.Own.{some_due}
 use Rattle.dsql_laws_calls.proofs.Sound.{was_under_way, fitting}
 use Rattle.dsql_laws_calls.proofs.Spared.{was_heard, was_opened, opened_when, moves, unpressed, lent_or_opening}
 use Rattle.dsql_laws_calls.proofs.Tenures.{there_any, there_from}
@@ -126,7 +127,7 @@ fine_open H c n l a d s = by (same_or_not d (next_number (pool H)))
     by (inr apart) = untouched H (Pool (OpenStart c n)) d (conn_of d (pool (Pool (OpenStart c n) ∷ H)).conns) s a refl (begun_off d (wanted_by H n) (pool H) apart)
 
 -- A connection that is to be lent went well.
-fine_from : (heard opened : Bool) (J : List Entry) (at : Option Place) → Fine heard opened J at → (is_idle at || is_opening at) ≡ true → (is_opening at ≡ true → opened ≡ true) → is_spoilt J ≡ false
+pub fine_from : (heard opened : Bool) (J : List Entry) (at : Option Place) → Fine heard opened J at → (is_idle at || is_opening at) ≡ true → (is_opening at ≡ true → opened ≡ true) → is_spoilt J ≡ false
 fine_from heard opened J (Some Idle) s from h = s
 fine_from heard opened J (Some (Opening wanted)) s from h = s.1 (h refl)
 fine_from heard opened J (Some (Lent t own)) s from h = absurd cc
@@ -218,10 +219,6 @@ invalid_only (Query (Text text) params) Invalid fit h = absurd cc
 invalid_only (Query (Handle handle) params) Invalid fit h = absurd cc
 invalid_only q Invalid fit h = absurd cc
 invalid_only q _ fit h = refl
-
-some_due : (d : Option DriverCall) (q : DriverCall) → is_due d q ≡ true → is_some d ≡ true
-some_due None q h = absurd cc
-some_due (Some d) q h = refl
 
 done_fine : (a : DriverAnswer) → is_done a ≡ true → ((is_bad a || false) || is_invalid a) ≡ false
 done_fine Done h = refl

@@ -37,13 +37,12 @@ use Rattle.dsql_laws_calls.proofs.EndedRows.{live_no_ender}
 use Rattle.dsql_laws_calls.proofs.HandedRows.{rows_begun}
 use Rattle.dsql_laws_calls.proofs.Lines.{line_here, line_there}
 use Rattle.dsql_laws_calls.proofs.Makers.{hands_out, rows_hand_out}
-use Rattle.dsql_laws_calls.proofs.Nowhere.{others_settled}
+use Rattle.dsql_laws_calls.proofs.Nowhere.{others_settled, own_settled}
 use Rattle.dsql_laws_calls.proofs.Plain.{begins}
 use Rattle.dsql_laws_calls.proofs.RowsKept.{rows_keep}
 use Rattle.dsql_laws_calls.proofs.RowsNew.{held}
 use Rattle.dsql_laws_calls.proofs.laws.Numbered.{unfinished_from_one}
 use Rattle.dsql_laws_replies.proofs.Fetches.{Finds, finds}
-use Rattle.dsql_laws_replies.proofs.Served.{own_settled}
 use Rattle.dsql_laws_due.proofs.CallWays.{call_unbegun}
 use Rattle.dsql_laws_due.proofs.Holds.{Kept}
 use Rattle.dsql_laws_due.proofs.Kept.{holds}

@@ -27,8 +27,8 @@ use Rattle.dsql_laws_tenures.proofs.Numbers.{neither}
 use Rattle.dsql_laws_tenures.proofs.Orders.{Orderly}
 use Rattle.dsql_laws_tenures.proofs.OrderSent.{sent_orderly}
 use Rattle.dsql_laws_tenures.proofs.Steps.{plain_when}
-use Rattle.dsql_laws_calls.proofs.InnerLines.{NoCursor, clash, sends}
-use Rattle.dsql_laws_due.proofs.LineTails.{NoHandle, Tail, no_cursor, no_handle, tail_of}
+use Rattle.dsql_laws_calls.proofs.InnerLines.{NoCursor, clash, no_cursor, sends}
+use Rattle.dsql_laws_due.proofs.LineTails.{NoHandle, Tail, no_handle, tail_of}
 
 -- Holds if neither a cursor nor a handle is open after these exchanges.
 pub record IsShut (made : List Exchange) : Type 0 where

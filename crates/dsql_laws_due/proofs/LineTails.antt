@@ -36,15 +36,12 @@ use Rattle.dsql_laws_tenures.proofs.Orders.{is_free, Orderly}
 use Rattle.dsql_laws_tenures.proofs.OrderSent.{sent_orderly}
 use Rattle.dsql_laws_tenures.proofs.Sends.{Sends, body_sends}
 use Rattle.dsql_laws_tenures.proofs.Steps.{plain_when}
-use Rattle.dsql_laws_calls.proofs.InnerLines.{NoCursor, clash}
+use Rattle.dsql_laws_calls.proofs.InnerLines.{NoCursor, clash, no_cursor}
 use Rattle.dsql_laws_calls.proofs.Quiet.{rows_give, stmt_gives}
 
 -- Holds if no handle is open after these exchanges.
 abbrev pub NoHandle : List Exchange → Type 0
 NoHandle made = (handle : ℕ) → has_handle made handle ≡ false
-
-pub no_cursor : (made : List Exchange) → own_cursor made ≡ None → NoCursor made
-no_cursor made none r = ap (λ o. is_number o r && not (list_any (λ x. closes_cursor r x.0) made)) none
 
 pub no_handle : (made : List Exchange) → own_handle made ≡ None → NoHandle made
 no_handle made none h = ap (λ o. is_of o h && not (list_any (λ x. closes_handle h x.0) made)) none

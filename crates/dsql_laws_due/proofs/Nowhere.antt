@@ -24,11 +24,11 @@ use Rattle.dsql_laws_calls.specs.history.Rules.Settled.{is_kept, uses_what_is_le
 use Rattle.dsql_laws_calls.specs.history.Legal.{Lawful}
 use Rattle.dsql_laws_calls.specs.Nothing.{HasNothing, is_elsewhere}
 use Rattle.dsql_laws_calls.proofs.BeginningsAt.{beginnings}
-use Rattle.dsql_laws_calls.proofs.Nowhere.{settled_unserved}
+use Rattle.dsql_laws_calls.proofs.Nowhere.{own_settled, settled_unserved}
 use Rattle.dsql_laws_replies.proofs.EndReplies.{end_replies}
 use Rattle.dsql_laws_replies.proofs.InsideReplies.{inside_replies}
 use Rattle.dsql_laws_replies.proofs.Nowhere.{lent_used, restless, unused}
-use Rattle.dsql_laws_replies.proofs.Served.{own_settled, served_replies}
+use Rattle.dsql_laws_replies.proofs.Served.{served_replies}
 use Rattle.dsql_laws_due.proofs.FetchReplies.{fetch_replies}
 use Rattle.dsql_laws_due.proofs.ServedRows.{never, rows_served}
 

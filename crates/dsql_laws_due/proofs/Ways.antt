@@ -54,8 +54,9 @@ use Rattle.dsql_laws_calls.proofs.HandedRows.{handed_made, rows_begun}
 use Rattle.dsql_laws_calls.proofs.Why.{ended_there, first_some, scoped}
 use Rattle.dsql_laws_calls.proofs.UnderWay.{line_made, handed_there, Newest, Going, Facts, clash, at_number, line_at_its, turn_of}
 use Rattle.dsql_laws_calls.proofs.DueWay.{borrow_same, inner_is}
+use Rattle.dsql_laws_calls.proofs.InnerLines.{no_cursor}
 use Rattle.dsql_laws_calls.proofs.LiveRows.{dead_over, over_some}
-use Rattle.dsql_laws_due.proofs.LineTails.{no_cursor, no_handle}
+use Rattle.dsql_laws_due.proofs.LineTails.{no_handle}
 use Rattle.dsql_laws_due.proofs.LineEnds.{IsShut, line_shut, unhanded_wish, ungiven_shut}
 use Rattle.dsql_laws_due.proofs.Holds.{asked_in, AllShut, Kept, RowsWay, EndsWay, TestsWay, TxWay, IsOther}
 

@@ -37,7 +37,8 @@ use Rattle.dsql_laws_calls.proofs.Own.{asks_own}
 use Rattle.dsql_laws_calls.proofs.Tenures.{fresh_lending}
 use Rattle.dsql_laws_calls.proofs.Why.{ended_there, ending_some}
 use Rattle.dsql_laws_ends.specs.Over.{ends_so}
-use Rattle.dsql_laws_ends.proofs.OwnEnds.{end_stays, end_way, tx_ender_stays}
+use Rattle.dsql_laws_ends.proofs.OwnEnds.{end_stays, end_way}
+use Rattle.dsql_laws_replies.proofs.EndReplies.{still_ender}
 
 -- Holds if connection c is lent to transaction k in tenure t.
 pub record StillLent (H : List Event) (k c t : ℕ) : Type 0 where
@@ -104,7 +105,7 @@ so_over m None (e ∷ L) h = so_over m None L h
 so_more : (H : List Event) (e : Event) (k c t : ℕ) → EndedSo H k c t → EndedSo (e ∷ H) k c t
 so_more H e k c t h =
     let over : is_over H k ≡ true = so_over (tx_ender H k) (tx_end H k) (heard_in H c t) h in
-    ap (λ m. list_any (ends_so m (tx_end (e ∷ H) k)) (heard_in (e ∷ H) c t)) (tx_ender_stays H e k over)
+    ap (λ m. list_any (ends_so m (tx_end (e ∷ H) k)) (heard_in (e ∷ H) c t)) (still_ender H e k over)
     ∙ (ap (λ o. list_any (ends_so (tx_ender H k) o) (heard_in (e ∷ H) c t)) (end_stays H e k over) ∙ any_more (ends_so (tx_ender H k) (tx_end H k)) H e c t h)
 
 -- An end that was heard on a lent connection is the end of the transaction that the connection is lent to.
@@ -125,7 +126,7 @@ ends_now H e owner l is ends =
     ended : (n : ℕ) (end : TxEnd) → tx_end H n ≡ Some end → is_due (Some (ended_by_call end)) e.call ≡ true → tx_ender H n ≡ e.call_no → ends_so (tx_ender (Heard e ∷ H) n) (tx_end (Heard e ∷ H) n) e ≡ true
     ended n end its due ender =
         let over : is_over H n ≡ true = ap (λ o. is_some o) its in
-        ap (λ m. ends_so m (tx_end (Heard e ∷ H) n) e) (tx_ender_stays H (Heard e) n over ∙ ender)
+        ap (λ m. ends_so m (tx_end (Heard e ∷ H) n) e) (still_ender H (Heard e) n over ∙ ender)
         ∙ (ap (λ o. ends_so e.call_no o e) (end_stays H (Heard e) n over ∙ its) ∙ together (e.call_no == e.call_no) _ (same_itself e.call_no) due)
 
 -- This holds on over an answer.
@@ -143,7 +144,7 @@ ends_heard H e c t owner l is before heard = by (e.conn == c) (e.tenure == t) re
     earlier was =
         let so = before was in
         let over : is_over H n ≡ true = so_over (tx_ender H n) (tx_end H n) (heard_in H c t) so in
-        ap (λ m. list_any (ends_so m (tx_end (Heard e ∷ H) n)) (heard_in H c t)) (tx_ender_stays H (Heard e) n over)
+        ap (λ m. list_any (ends_so m (tx_end (Heard e ∷ H) n)) (heard_in H c t)) (still_ender H (Heard e) n over)
         ∙ (ap (λ o. list_any (ends_so (tx_ender H n) o) (heard_in H c t)) (end_stays H (Heard e) n over) ∙ so)
 
     newest : (e.conn == c) ≡ true → (e.tenure == t) ≡ true → (b : Bool) → is_ending e.call ≡ b → (b || ended_there (heard_in H c t)) ≡ true → (f e || list_any f (heard_in H c t)) ≡ true

@@ -44,8 +44,7 @@ use Rattle.dsql_laws_calls.proofs.Own.{DueNow, due_now, due_of, some_due}
 use Rattle.dsql_laws_calls.proofs.Plain.{no_ending_due, plain_ends, test_plain}
 use Rattle.dsql_laws_calls.proofs.UnderWay.{at_number, no_ending}
 use Rattle.dsql_laws_calls.proofs.Why.{why_used}
-use Rattle.dsql_laws_ends.proofs.Enders.{tx_ender_now}
-use Rattle.dsql_laws_ends.proofs.Senders.{over_stays}
+use Rattle.dsql_laws_replies.proofs.EndReplies.{still_ender}
 
 -- What ended a transaction stays the same, and so does the call that ended it.
 
@@ -63,9 +62,6 @@ end_stays H e k over = by (turned H e k (over_begun H k over))
     by : Turned (tx_by H k) (tx_by (e ∷ H) k) → tx_end (e ∷ H) k ≡ tx_end H k
     by (inl same) = ap end_of same
     by (inr w) = ap end_of w.1 ∙ ended_still w.0 (tx_by H k) over
-
-pub tx_ender_stays : (H : List Event) (e : Event) (k : ℕ) → is_over H k ≡ true → tx_ender (e ∷ H) k ≡ tx_ender H k
-tx_ender_stays H e k over = tx_ender_now H e k false (over_stays H k over)
 
 -- A Commit or Rollback that is due for a transaction is the one that ends it.
 
@@ -211,7 +207,7 @@ way_stays H last e l may w =
       end = w.end;
       is = end_stays H last n over ∙ w.is;
       due = w.due;
-      ender = tx_ender_stays H last n over ∙ w.ender;
+      ender = still_ender H last n over ∙ w.ender;
     }
 
 pub end_way : (H : List Event) (e : Entry) → Lawful H → may_come H e ≡ true → is_ending e.call ≡ true → EndWay H e

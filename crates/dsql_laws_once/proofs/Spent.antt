@@ -48,11 +48,12 @@ use Rattle.dsql_laws_calls.proofs.Looks.{comes, heard_there}
 use Rattle.dsql_laws_calls.proofs.Own.{OwnWay, own_way}
 use Rattle.dsql_laws_calls.proofs.Owners.{at_home}
 use Rattle.dsql_laws_calls.proofs.Plain.{begins, line_plain}
+use Rattle.dsql_laws_calls.proofs.Sound.{same_lent}
 use Rattle.dsql_laws_calls.proofs.Stays.{not_looking}
 use Rattle.dsql_laws_calls.proofs.Told.{asks_undecided}
 use Rattle.dsql_laws_calls.proofs.Wanted.{lent_nothing, lent_wants_none, wants_no_more}
 use Rattle.dsql_laws_calls.proofs.Works.{other_heard}
-use Rattle.dsql_laws_replies.proofs.Awaiting.{plain_call, same_lent, under_way}
+use Rattle.dsql_laws_replies.proofs.Awaiting.{plain_call, under_way}
 use Rattle.dsql_laws_replies.proofs.Records.{fitting, own_record, record_stays}
 use Rattle.dsql_laws_once.proofs.Steps.{stays_decided}
 

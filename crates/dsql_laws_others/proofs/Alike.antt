@@ -39,12 +39,13 @@ use Rattle.dsql_laws_calls.specs.history.Readers.Transactions.{tx_by, end_of, tx
 use Rattle.dsql_laws_calls.specs.history.Readers.Pool.{pool, place, home}
 use Rattle.dsql_laws_calls.specs.history.Readers.Unfinished.{is_unfinished}
 use Rattle.dsql_laws_calls.specs.history.Readers.Works.{works, work, aim_of, scope, is_fetch, hands_out_in, borrower}
-use Rattle.dsql_laws_calls.specs.history.Rules.Sent.{is_reset_due, asked_by, inner_after, line_with, line_at, line_of, closes, wish, sent_for, closing}
+use Rattle.dsql_laws_calls.specs.history.Rules.Sent.{is_reset_due, asked_by, line_with, line_at, line_of, closes, wish, sent_for, closing}
 use Rattle.dsql_laws_calls.specs.history.Rules.Ending.{first_closing, ended_by_call, end_after, ending_at, ending_with, ending}
 use Rattle.dsql_laws_calls.specs.history.Rules.Line.{sends_in, due_inside, due_in, due_for, rest_with, is_used}
 use Rattle.dsql_laws_calls.specs.history.Rules.Settled.{is_in_use, is_kept, uses_what_is_lent}
 use Rattle.dsql_laws_calls.proofs.Inside.{inside_uses}
 use Rattle.dsql_laws_calls.proofs.Begun.{stays_begun, stays_over}
+use Rattle.dsql_laws_calls.proofs.Lines.{inner_as}
 
 -- Holds if call m sends in the line of call j: in its own line, or for the rows of call j.
 abbrev pub Concerns : List Event → ℕ → ℕ → Type 0
@@ -89,7 +90,7 @@ closes_alike H K m k a its =
 in_time : (x late a b : Bool) → late ≡ false → (x && (not late || a)) ≡ (x && (not late || b))
 in_time x late a b is = rw is refl
 
-late_scope : (H : List Event) (s : Scope) → is_late H s ≡ true → (j : ℕ) × (s ≡ Tx j)
+pub late_scope : (H : List Event) (s : Scope) → is_late H s ≡ true → (j : ℕ) × (s ≡ Tx j)
 late_scope H Db h = absurd cc
 late_scope H (Tx j) h = (j, refl)
 
@@ -182,9 +183,6 @@ pub record SameLine (H K : List Event) (n c : ℕ) : Type 0 where
   pub its_work : work K n ≡ work H n
   pub uses : borrower K n ≡ borrower H n
   pub heard : journal K c ≡ journal H c
-
-inner_as : (ca cb : Caps) (bad : Bool) (x y : Asked) (w : Wish) (L : List Entry) → cb ≡ ca → y ≡ x → inner_after cb bad y w L ≡ inner_after ca bad x w L
-inner_as ca cb bad x y w L p q = rw (p, q) refl
 
 plain_as : (ca cb : Caps) (b d : Bool) (x y : Asked) (w : Wish) (L : List Entry) → cb ≡ ca → d ≡ b → y ≡ x → line_after cb d y w L ≡ line_after ca b x w L
 plain_as ca cb b d x y w L p r q = rw (p, r, q) refl

@@ -1,7 +1,7 @@
 -- A call that closes the database leaves each other call standing somewhere and each lent connection in use.
 -- The entry changes neither what is due for another call nor what is lent, and the closings that it makes due
 -- concern idle connections only.
-use Rattle.std.proofs.Common.{◌≡◌, ◌≢◌, ℕ, ◌+◌, ◌==◌, ◌⊎◌, inl, inr, Bool, true, false, ◌&&◌, ◌||◌, cond, List, [], ◌∷◌, length, Option, Some, None, is_some, is_none, refl, sym, ap, ◌∙◌, arith}
+use Rattle.std.proofs.Common.{◌≡◌, ◌≢◌, ℕ, ◌+◌, ◌==◌, ◌⊎◌, inl, inr, Bool, true, false, ◌&&◌, ◌||◌, cond, List, ◌∷◌, length, Option, Some, None, is_some, is_none, refl, sym, ap, ◌∙◌, arith}
 use Rattle.std.specs.Prelude.{find}
 use Rattle.std.specs.List.{list_any}
 use Rattle.std.specs.Option.{option_map}
@@ -15,7 +15,6 @@ use Rattle.dsql_laws_calls.specs.pool.declared.conn.Place.{Place}
 use Rattle.dsql_laws_calls.specs.pool.declared.conn.Place.TheVariants.{Idle, Lent, Opening, Closing}
 use Rattle.dsql_laws_calls.specs.pool.Calls.{wants}
 use Rattle.dsql_laws_calls.specs.pool.Places.{conn_of, is_for, is_lent}
-use Rattle.dsql_laws_calls.specs.works.Line.{Asked}
 use Rattle.dsql_laws_calls.specs.history.declared.reply.DbEnd.{DbEnd}
 use Rattle.dsql_laws_calls.specs.history.declared.reply.DbEnd.TheVariants as ends
 use Rattle.dsql_laws_calls.specs.history.Readers.Pool.{is_home, smallest, pool, place, home}
@@ -28,7 +27,6 @@ use Rattle.dsql_laws_others.proofs.Once.{found_number}
 use Rattle.dsql_laws_calls.specs.history.declared.event.Event.{Event}
 use Rattle.dsql_laws_calls.specs.history.declared.event.Event.TheVariants.{Entered}
 use Rattle.dsql_laws_calls.specs.history.declared.event.Op.TheVariants.{DbClose}
-use Rattle.dsql_laws_calls.specs.history.declared.record.CallRecord.{CallRecord}
 use Rattle.dsql_laws_calls.specs.history.declared.reply.Reply.TheVariants.{DbClosed}
 use Rattle.dsql_laws_calls.specs.history.declared.work.Scope.TheVariants.{Tx}
 use Rattle.dsql_laws_calls.specs.history.declared.work.Work.{Work}
@@ -39,7 +37,7 @@ use Rattle.dsql_laws_calls.specs.history.Readers.Journals.{journal}
 use Rattle.dsql_laws_calls.specs.history.Readers.Lines.{has_sent}
 use Rattle.dsql_laws_calls.specs.history.Readers.Owed.{owed}
 use Rattle.dsql_laws_calls.specs.history.Readers.Transactions.{tx_end}
-use Rattle.dsql_laws_calls.specs.history.Readers.Works.{works, work, work_of, aim_of, scope, borrower}
+use Rattle.dsql_laws_calls.specs.history.Readers.Works.{works, work, work_of, scope, borrower}
 use Rattle.dsql_laws_calls.specs.history.Rules.Ending.{ending}
 use Rattle.dsql_laws_calls.specs.history.Rules.Line.{due_for, is_used}
 use Rattle.dsql_laws_calls.specs.history.Rules.Sent.{line_at, line_of, closing}
@@ -49,12 +47,14 @@ use Rattle.dsql_laws_calls.specs.history.Legal.{Lawful}
 use Rattle.dsql_laws_calls.specs.laws.OwedMade.{with_moves}
 use Rattle.dsql_laws_calls.proofs.laws.AtRest.{before_event, rested}
 use Rattle.dsql_laws_calls.proofs.Enders.{same_ender}
+use Rattle.dsql_laws_calls.proofs.Idle.{found_any}
 use Rattle.dsql_laws_calls.proofs.Works.{enters_next, old_record, old_work, old_unfinished}
 use Rattle.dsql_laws_others.proofs.Alike.{due_alike, used_alike, ends_alike, first_alike, closing_alike, same_tx_ender}
 use Rattle.dsql_laws_others.proofs.Answered.{shut_out_replies}
+use Rattle.dsql_laws_others.proofs.Asked.{ended_by_now}
 use Rattle.dsql_laws_others.proofs.ControlMoves.{all_quiet}
 use Rattle.dsql_laws_others.proofs.Ending.{closed_quiet}
-use Rattle.dsql_laws_others.proofs.Entries.{next_work, same_borrower, concerned_old, over_old, first_push, rests_entered}
+use Rattle.dsql_laws_others.proofs.Entries.{next_work, same_borrower, concerned_old, over_old, first_push, rests_entered, asked_same}
 use Rattle.dsql_laws_others.proofs.Homes.{HomeStays, HomeUnlent, no_line, no_ending}
 use Rattle.dsql_laws_others.proofs.Openings.{silent}
 use Rattle.dsql_laws_others.proofs.Untouched.{still_standing, has_still}
@@ -72,17 +72,11 @@ closes_it H client n = Entered client n DbClose ∷ H
 shuts : (H : List Event) (client n : ℕ) → Lawful (closes_it H client n) → Shuts H (Entered client n DbClose)
 shuts H client n l = record { lawful = l; closed = refl; can = refl; heard = λ c. refl }
 
-abbrev stated : CallRecord → Work → Asked
-stated r it = record { text = r.text; params = r.params; aim = aim_of it }
-
-asked_as : (r s : CallRecord) (it jt : Work) → r ≡ s → it ≡ jt → stated r it ≡ stated s jt
-asked_as r s it jt a b = ap (λ x. stated x it) a ∙ ap (stated s) b
-
 other_stays : (H : List Event) (client n j : ℕ) → Lawful (closes_it H client n) → j ≢ n → CallStays H (Entered client n DbClose) j
 other_stays H client n j l apart =
     let new = enters_next H client n DbClose l.1 in
     record {
-      asked = asked_as (call_record (closes_it H client n) j) (call_record H j) (work (closes_it H client n) j) (work H j) (old_record H client n DbClose j new apart) (old_work H client n DbClose j new apart);
+      asked = asked_same (call_record (closes_it H client n) j) (call_record H j) (work (closes_it H client n) j) (work H j) (old_record H client n DbClose j new apart) (old_work H client n DbClose j new apart);
       its_work = old_work H client n DbClose j new apart;
       uses = same_borrower H client n DbClose j l apart;
     }
@@ -161,10 +155,6 @@ some_close : (o : Option DbEnd) → is_some o ≡ true → is_some (option_map D
 some_close None h = absurd cc
 some_close (Some end) h = refl
 
-ended_by_now : (o : Option DbEnd) (end : DbEnd) → is_some (or_end o end) ≡ true
-ended_by_now None end = refl
-ended_by_now (Some earlier) end = refl
-
 told_shut : (H : List Event) (client n m : ℕ) (it : Work) → Lawful (closes_it H client n) → m ≢ n → is_some (told_of_work H m it) ≡ true → is_some (told_of_work (closes_it H client n) m it) ≡ true
 told_shut H client n m it l apart h = told_each H (closes_it H client n) m it tried inner (λ j over. over) h
   where
@@ -193,18 +183,10 @@ rests_shut H client n m l apart unwanting h = by (rests H m) refl h
     K : List Event
     K = closes_it H client n
 
-    any_of : (q : Conn → Bool) (d : ℕ) (conns : List Conn) (x : Conn) → conn_of d conns ≡ Some x → q x ≡ true → list_any q conns ≡ true
-    any_of q d [] x is k = absurd cc
-    any_of q d (y ∷ ys) x is k = of (λ i. any_of q d ys x i k) (y.number == d) is
-      where
-        of : (conn_of d ys ≡ Some x → list_any q ys ≡ true) → (b : Bool) → cond b (Some y) (conn_of d ys) ≡ Some x → (q y || list_any q ys) ≡ true
-        of rest true i = let same : y ≡ x = cc in or_first (q y) (list_any q ys) (ap q same ∙ k)
-        of rest false i = or_second (q y) (list_any q ys) (rest i)
-
     placed : (x : Conn) → conn_of x.number (pool H).conns ≡ Some x → (p : Place) → x.place ≡ p → is_home m p ≡ true → is_some (smallest (is_home m) (pool (closes_it H client n))) ≡ true
     placed x found (Lent u o) at k = still_home H (Entered client n DbClose) m x.number x (shuts H client n l) found (ap (λ q. is_lent (Some q)) at) (ap (is_home m) at ∙ k)
     placed x found (Opening (Some o)) at k =
-        let any = any_of (λ conn. is_for m conn.place) x.number (pool H).conns x found (ap (is_for m) at ∙ k) in
+        let any = found_any (λ conn. is_for m conn.place) x.number (pool H).conns x found (ap (is_for m) at ∙ k) in
         absurd (true_false (wants m (pool H)) (or_second (waits m (pool H).waiting) (list_any (λ conn. is_for m conn.place) (pool H).conns) any) unwanting)
     placed x found (Opening None) at k = absurd cc
     placed x found Idle at k = absurd cc

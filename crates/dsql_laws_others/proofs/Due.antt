@@ -11,7 +11,6 @@ use Rattle.dsql_laws_calls.specs.works.Line.{handed}
 use Rattle.dsql_laws_calls.specs.pool.declared.conn.Place.TheVariants.{Lent}
 use Rattle.dsql_laws_calls.specs.history.Readers.HandedOut.{over, rows_by, are_live, are_over, ender, is_late}
 use Rattle.dsql_laws_calls.specs.history.Rules.Wishes.{wish_as}
-use Rattle.dsql_laws_calls.proofs.laws.Truths.{or_first, or_second}
 use Rattle.dsql_laws_calls.proofs.laws.Tests.{both, same_number, same_itself}
 use Rattle.dsql_laws_calls.specs.history.declared.event.Event.{Event}
 use Rattle.dsql_laws_calls.specs.history.declared.work.Scope.TheVariants.{Db, Tx}
@@ -26,7 +25,7 @@ use Rattle.dsql_laws_calls.specs.history.Readers.Transactions.{is_begun, is_over
 use Rattle.dsql_laws_calls.specs.history.Readers.Unfinished.{is_unfinished}
 use Rattle.dsql_laws_calls.specs.history.Readers.Works.{work, aim_of, scope, is_in, is_fetch, asks, hands_out_in, borrower}
 use Rattle.dsql_laws_calls.specs.history.Rules.Ending.{ending}
-use Rattle.dsql_laws_calls.specs.history.Rules.Line.{sends_in, due_inside, due_in, due_for, rest, is_used}
+use Rattle.dsql_laws_calls.specs.history.Rules.Line.{sends_in, due_inside, due_in, due_for, is_used}
 use Rattle.dsql_laws_calls.specs.history.Rules.Sent.{asked_by, line_of, closes, wish, sent_for}
 use Rattle.dsql_laws_calls.specs.history.Legal.{Lawful}
 use Rattle.dsql_laws_calls.proofs.Beginnings.{begin_owner}
@@ -43,6 +42,7 @@ use Rattle.dsql_laws_calls.proofs.Makers.{hands_out, rows_hand_out, sent_made}
 use Rattle.dsql_laws_calls.proofs.Own.{asks_own, going_used, own_used, due_own}
 use Rattle.dsql_laws_calls.proofs.Owners.{at_home}
 use Rattle.dsql_laws_calls.proofs.Quiet.{quiet_sends_none}
+use Rattle.dsql_laws_calls.proofs.RowsKept.{live_used}
 use Rattle.dsql_laws_calls.proofs.Sound.{Sound}
 use Rattle.dsql_laws_calls.proofs.UnderWay.{Facts, Going, line_made, ending_over, left_of}
 use Rattle.dsql_laws_calls.proofs.Why.{Left, tx_used, why_used}
@@ -57,16 +57,13 @@ line_number H n c t own l at uses w h = ap (λ d. is_some d) (sym (line_here H c
 
 -- Rows that are live or still to be closed keep the connection in use.
 
-live_kept : (H : List Event) (n : ℕ) → are_live H n ≡ true → is_used H n ≡ true
-live_kept H n h = or_second (goes_on H n) (are_live H n || is_some (rest H n)) (or_first (are_live H n) (is_some (rest H n)) h)
-
 pub live_keeps : (H : List Event) (j : ℕ) (own : Owner) → Lawful H → borrower H j ≡ number_of own → are_live H j ≡ true → is_used H (number_of own) ≡ true
 live_keeps H j own l uses lives = by (work H j) refl (rows_hand_out H j (live_some (rows_by H j) lives))
   where
     by : (it : Work) → work H j ≡ it → hands_out it ≡ true → is_used H (number_of own) ≡ true
     by (HandOut Db label) is h =
         let its : borrower H j ≡ j = rw is refl in
-        ap (is_used H) (sym uses ∙ its) ∙ live_kept H j lives
+        ap (is_used H) (sym uses ∙ its) ∙ live_used H j lives
     by (HandOut (Tx k) label) is h =
         let its : borrower H j ≡ k = rw is refl in
         ap (is_used H) (sym uses ∙ its) ∙ going_used H k (live_goes H j k l lives (ap (hands_out_in k) is ∙ same_itself k))

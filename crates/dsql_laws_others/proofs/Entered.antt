@@ -40,7 +40,7 @@ use Rattle.dsql_laws_calls.proofs.Makers.{hands_out, rows_hand_out}
 use Rattle.dsql_laws_calls.proofs.TxEnders.{same_going}
 use Rattle.dsql_laws_calls.proofs.UnderWay.{ending_over}
 use Rattle.dsql_laws_calls.proofs.Works.{enters_next, old_record, old_work, old_unfinished}
-use Rattle.dsql_laws_others.proofs.Alike.{closing_alike, ends_alike}
+use Rattle.dsql_laws_others.proofs.Alike.{closing_alike, ends_alike, late_scope}
 use Rattle.dsql_laws_others.proofs.Entries.{next_work, other_line, concerned_old, over_old, first_push, sent_entered}
 use Rattle.dsql_laws_others.proofs.Closers.{Closer, closers}
 use Rattle.dsql_laws_others.proofs.Turned.{Turns, rows_turn, tx_turn}
@@ -129,10 +129,6 @@ ending_same H client n op k x gone =
 pub record Told (H K : List Event) (m : ℕ) : Type 0 where
   pub undecided : is_none (decided H m) ≡ true
   pub told : is_some (told_of_work K m (work H m)) ≡ true
-
-late_scope : (H : List Event) (s : Scope) → is_late H s ≡ true → (k : ℕ) × (s ≡ Tx k)
-late_scope H Db h = absurd cc
-late_scope H (Tx k) h = (k, refl)
 
 -- What is due for rows.
 

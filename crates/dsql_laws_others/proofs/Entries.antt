@@ -105,10 +105,10 @@ same_borrower H client n op j l apart = by (within_rows (works H) j Look)
 
 -- Each other call asks what it asked, so its line stays the same.
 
-abbrev stated : CallRecord → Work → Asked
+abbrev pub stated : CallRecord → Work → Asked
 stated r it = record { text = r.text; params = r.params; aim = aim_of it }
 
-asked_same : (r s : CallRecord) (it jt : Work) → r ≡ s → it ≡ jt → stated r it ≡ stated s jt
+pub asked_same : (r s : CallRecord) (it jt : Work) → r ≡ s → it ≡ jt → stated r it ≡ stated s jt
 asked_same r s it jt same is = ap (λ x. stated x it) same ∙ ap (stated s) is
 
 abbrev home_in : ℕ → Pooled → ℕ

@@ -57,6 +57,7 @@ use Rattle.dsql_laws_calls.specs.laws.OwedMade.{with_moves}
 use Rattle.dsql_laws_calls.proofs.laws.GivenBack.{back_lawful, back_made}
 use Rattle.dsql_laws_calls.proofs.laws.Numbered.{unfinished_from_one}
 use Rattle.dsql_laws_calls.proofs.Begun.{begun_begins}
+use Rattle.dsql_laws_calls.proofs.Idle.{found_any}
 use Rattle.dsql_laws_calls.proofs.Makers.{hands_out, rows_hand_out}
 use Rattle.dsql_laws_calls.proofs.Owed.{few_given_back}
 use Rattle.dsql_laws_calls.proofs.Owners.{owner_is_of}
@@ -88,14 +89,6 @@ rests_unwanting H n l some rested wanting =
 
 -- The connection with which a call rests is lent to it.
 
-any_of : (q : Conn → Bool) (d : ℕ) (conns : List Conn) (x : Conn) → conn_of d conns ≡ Some x → q x ≡ true → list_any q conns ≡ true
-any_of q d [] x is h = absurd cc
-any_of q d (y ∷ ys) x is h = by (λ k. any_of q d ys x k h) (y.number == d) is
-  where
-    by : (conn_of d ys ≡ Some x → list_any q ys ≡ true) → (b : Bool) → cond b (Some y) (conn_of d ys) ≡ Some x → (q y || list_any q ys) ≡ true
-    by rest true k = let same : y ≡ x = cc in or_first (q y) (list_any q ys) (ap q same ∙ h)
-    by rest false k = or_second (q y) (list_any q ys) (rest k)
-
 record LentTo (H : List Event) (n c : ℕ) : Type 0 where
   tenure : ℕ
   owner : Owner
@@ -108,7 +101,7 @@ lent_home H n c l some rested is = by (find (λ x. is_home n x.place) (pool H).c
     placed : (x : Conn) → place H c ≡ Some x.place → conn_of x.number (pool H).conns ≡ Some x → (p : Place) → x.place ≡ p → is_home n p ≡ true → LentTo H n c
     placed x there found (Lent t o) at home = record { tenure = t; owner = o; number = same_number (number_of o) n home; lent = there ∙ ap Some at }
     placed x there found (Opening (Some o)) at home =
-        let any = any_of (λ conn. is_for n conn.place) x.number (pool H).conns x found (ap (is_for n) at ∙ home) in
+        let any = found_any (λ conn. is_for n conn.place) x.number (pool H).conns x found (ap (is_for n) at ∙ home) in
         absurd (rests_unwanting H n l some rested (or_second (waits n (pool H).waiting) (list_any (λ conn. is_for n conn.place) (pool H).conns) any))
     placed x there found (Opening None) at home = absurd cc
     placed x there found Idle at home = absurd cc

@@ -52,6 +52,7 @@ use Rattle.dsql_laws_calls.specs.history.Rules.Sent.{asked_by, closes, closing, 
 use Rattle.dsql_laws_calls.specs.history.Legal.{Allowed, Lawful}
 use Rattle.dsql_laws_callers.proofs.Heard.{heard_lent}
 use Rattle.dsql_laws_callers.proofs.KeptApart.{uses_its_own}
+use Rattle.dsql_laws_callers.proofs.Senders.{not_due}
 use Rattle.dsql_laws_calls.proofs.laws.Tried.{lends_to}
 use Rattle.dsql_laws_calls.proofs.BeginningsAt.{heard_more, heard_other, heard_same, heard_tenure, is_answer}
 use Rattle.dsql_laws_calls.proofs.Begun.{begun_begins, over_begun}
@@ -171,9 +172,6 @@ none_wanted q s = s
 abbrev Comes : List Event → Type 0
 Comes H = (e : Entry) (own : Owner) → may_come H e ≡ true → place H e.conn ≡ Some (Lent e.tenure own) → is_call own ≡ true → are_live H (number_of own) ≡ true → Fetches H e (number_of own)
 
-none_due : (q : DriverCall) → is_due None q ≡ true → ⊥
-none_due q h = cc
-
 -- An entry that is due for live rows is a fetch.
 due_fetches : (H : List Event) (e : Entry) (own : Owner) → Holds H → (x : LiveAt H e.conn e.tenure own) → (d : DueNow H e) → d.owner ≡ own → may_come H e ≡ true → Fetches H e (number_of own)
 due_fetches H e own holds x d same comes = whose (e.call_no == 0) refl (ap (λ o. is_due (due_from H e.call_no (number_of o)) e.call) (sym same) ∙ d.due)
@@ -188,8 +186,8 @@ due_fetches H e own holds x d same comes = whose (e.call_no == 0) refl (ap (λ o
     tidies h = by (is_begun H (number_of own)) refl h
       where
         closed : (b : Bool) → is_due (cond b (closing H (number_of own)) None) e.call ≡ true → ⊥
-        closed false k = none_due e.call k
-        closed true k = none_due e.call (ap (λ b. is_due (cond b (line_of H (number_of own) wishes.Close) None) e.call) (sym (live_not_over (rows_by H (number_of own)) x.lives)) ∙ k)
+        closed false k = not_due e.call k
+        closed true k = not_due e.call (ap (λ b. is_due (cond b (line_of H (number_of own) wishes.Close) None) e.call) (sym (live_not_over (rows_by H (number_of own)) x.lives)) ∙ k)
 
         by : (b : Bool) → is_begun H (number_of own) ≡ b → is_due (cond b (cond (tx_ender H (number_of own) == 0) (ending H (number_of own)) None) (cond (ender H (number_of own) == 0) (closing H (number_of own)) None)) e.call ≡ true → ⊥
         by true begun k = unbegun H e.conn e.tenure own x begun
@@ -209,7 +207,7 @@ due_fetches H e own holds x d same comes = whose (e.call_no == 0) refl (ap (λ o
 
     inside_line : (b : Bool) (o : Option DriverCall) → is_due (cond b o None) e.call ≡ true → is_due o e.call ≡ true
     inside_line true o h = h
-    inside_line false o h = absurd (none_due e.call h)
+    inside_line false o h = absurd (not_due e.call h)
 
     -- If the call works on rows, they are the rows of the owner itself.
     rows : (j : ℕ) → (e.call_no == 0) ≡ false → (work H e.call_no ≡ Fetch j) ⊎ (work H e.call_no ≡ Close j) → is_due (sent_for H j (wish H e.call_no j)) e.call ≡ true → Fetches H e (number_of own)
@@ -250,10 +248,10 @@ due_fetches H e own holds x d same comes = whose (e.call_no == 0) refl (ap (λ o
             fetch : (work H e.call_no ≡ Fetch j) ⊎ (work H e.call_no ≡ Close j) → is_fetch (work H e.call_no) ≡ true → work H e.call_no ≡ Fetch j
             fetch (inl is) y = is
             fetch (inr is) y = let clash : false ≡ true = sym (ap is_fetch is) ∙ y in absurd cc
-        by false false ends fetches k = absurd (none_due e.call k)
+        by false false ends fetches k = absurd (not_due e.call k)
 
     ends : (k : ℕ) → (e.call_no == 0) ≡ false → work H e.call_no ≡ End k → (b : Bool) → is_due (cond b (ending H k) None) e.call ≡ true → ⊥
-    ends k some is false h = none_due e.call h
+    ends k some is false h = not_due e.call h
     ends k some is true h =
         let sends = some_due (ending H k) e.call h in
         let at : home H k ≡ e.conn = ap (home H) (sym (rw is refl)) ∙ d.site some in
@@ -272,7 +270,7 @@ due_fetches H e own holds x d same comes = whose (e.call_no == 0) refl (ap (λ o
     of_call some (Fetch j) is h = rows j some (inl is) h
     of_call some (Close j) is h = rows j some (inr is) h
     of_call some (End k) is h = absurd (ends k some is (tx_ender H k == e.call_no) h)
-    of_call some Look is h = absurd (none_due e.call h)
+    of_call some Look is h = absurd (not_due e.call h)
 
     whose : (b : Bool) → (e.call_no == 0) ≡ b → is_due (due_from H e.call_no (number_of own)) e.call ≡ true → Fetches H e (number_of own)
     whose true layer h = absurd (tidies (ap (λ b. is_due (cond b (tidying H (number_of own)) (due_for H e.call_no)) e.call) (sym layer) ∙ h))

@@ -226,17 +226,17 @@ used_still H c t own n j l h = third (goes_on H j) (are_live H j) (is_some (rest
 pub rests_other : (H : List Event) (c t : ℕ) (own : Owner) (n j : ℕ) → j ≢ n → rests (lends H c t own n) j ≡ rests H j
 rests_other H c t own n j apart = ap (λ b. is_unfinished H j && asks_nothing (caps H) (work H j) (with_try b Served (tries H j))) (other_number n j (λ same. apart (sym same)))
 
-second_of : (a b c d : Bool) → (a ≡ true → c ≡ true) → (b ≡ true → d ≡ true) → (a || b) ≡ true → (c || d) ≡ true
-second_of a b true d f g h = refl
-second_of true b false d f g h = let clash : false ≡ true = f refl in absurd cc
-second_of false b false d f g h = g h
+pub either_still : (a b c d : Bool) → (a ≡ true → c ≡ true) → (b ≡ true → d ≡ true) → (a || b) ≡ true → (c || d) ≡ true
+either_still a b true d f g h = refl
+either_still true b false d f g h = let clash : false ≡ true = f refl in absurd cc
+either_still false b false d f g h = g h
 
 kept_still : (H : List Event) (c t : ℕ) (own : Owner) (n j : ℕ) → Lawful (lends H c t own n) → is_kept H j ≡ true → is_kept (lends H c t own n) j ≡ true
 kept_still H c t own n j l h = by (same_or_not j n)
   where
     by : (j ≡ n) ⊎ (j ≢ n) → is_kept (lends H c t own n) j ≡ true
     by (inl same) = ap (is_kept (lends H c t own n)) same ∙ kept_lent H c t own n l
-    by (inr apart) = second_of (is_used H j) (rests H j) (is_used (lends H c t own n) j) (rests (lends H c t own n) j) (used_still H c t own n j l) (λ x. rests_other H c t own n j apart ∙ x) h
+    by (inr apart) = either_still (is_used H j) (rests H j) (is_used (lends H c t own n) j) (rests (lends H c t own n) j) (used_still H c t own n j l) (λ x. rests_other H c t own n j apart ∙ x) h
 
 all_changed : (q r : Conn → Bool) (c : ℕ) (f : Conn → Conn) (conns : List Conn) → ((x : Conn) → r x ≡ true → q x ≡ true) → ((x : Conn) → q (f x) ≡ true) → list_all r conns ≡ true → list_all q (changed c f conns) ≡ true
 all_changed q r c f [] so new h = refl

@@ -54,6 +54,7 @@ use Rattle.dsql_laws_calls.proofs.UnderWay.{UnderWay}
 use Rattle.dsql_laws_calls.proofs.Untried.{moves_of}
 use Rattle.dsql_laws_calls.proofs.Why.{Why}
 use Rattle.dsql_laws_calls.proofs.Coming.{sound}
+use Rattle.dsql_laws_calls.proofs.Sound.{same_lent}
 use Rattle.dsql_laws_replies.proofs.Begins.{begin_awaits, begin_sends}
 
 never : (b : Bool) → b ≡ true → b ≡ false → ⊥
@@ -170,9 +171,6 @@ awaits_lent H c t o m l = record {
 }
 
 -- The answer is for another call.
-
-pub same_lent : (t u : ℕ) (o p : Owner) → Some (Lent t o) ≡ Some (Lent u p) → (t ≡ u) × (o ≡ p)
-same_lent t u o p h = (cc, cc)
 
 -- What is heard on a lent connection was under way there.
 pub under_way : (H : List Event) (e : Entry) (t : ℕ) (own : Owner) → Lawful (Heard e ∷ H) → place H e.conn ≡ Some (Lent t own) → (u : UnderWay H e) × (u.owner ≡ own)

@@ -35,6 +35,7 @@ use Rattle.dsql_laws_calls.proofs.BeginningsAt.{heard_more, heard_other, is_answ
 use Rattle.dsql_laws_calls.proofs.Own.{due_now, due_of, DueNow, some_due}
 use Rattle.dsql_laws_calls.proofs.UnderWay.{at_number, no_ending}
 use Rattle.dsql_laws_calls.proofs.Coming.{sound}
+use Rattle.dsql_laws_calls.proofs.Nowhere.{own_settled}
 use Rattle.dsql_laws_calls.specs.driver.Fits.{fits_of, is_memory}
 use Rattle.dsql_laws_calls.specs.history.declared.reply.Reply.TheVariants.{Absent}
 use Rattle.dsql_laws_calls.specs.history.Readers.Decisions.{decision}
@@ -42,7 +43,6 @@ use Rattle.dsql_laws_replies.proofs.EndKinds.{end_kind}
 use Rattle.dsql_laws_calls.specs.course.declared.course.Wish.{Wish}
 use Rattle.dsql_laws_calls.specs.history.declared.work.Scope.{Scope}
 use Rattle.dsql_laws_calls.proofs.Why.{why_used, ended_there, tx_used, ending_some}
-use Rattle.dsql_laws_replies.proofs.Awaiting.{same_lent}
 use Rattle.std.specs.Option.{option_map}
 use Rattle.dsql_laws_calls.specs.numbered.Numbered.{thing_of, changed}
 use Rattle.dsql_laws_calls.proofs.numbered.Numbers.{changes_one_number}
@@ -53,19 +53,19 @@ use Rattle.dsql_laws_calls.specs.history.declared.event.Op.TheVariants as ops
 use Rattle.dsql_laws_calls.specs.history.Readers.Calls.{decided, done_with, tx_refused, told_at_entry, call_record, calls, reply_due, told_by_others, told_at_lending}
 use Rattle.dsql_laws_calls.specs.history.Readers.Unfinished.{is_unfinished}
 use Rattle.dsql_laws_calls.proofs.RowsKept.{Borrows, tx_borrows}
+use Rattle.dsql_laws_calls.proofs.Sound.{same_lent}
 use Rattle.dsql_laws_replies.proofs.Records.{record_stays, own_record, fitting}
 use Rattle.dsql_laws_calls.specs.history.Readers.Tries.{try_number, tries, tries_again}
 use Rattle.dsql_laws_calls.proofs.Works.{other_heard}
 use Rattle.dsql_laws_replies.proofs.EndSends.{end_sends, end_decides, end_keeps}
 use Rattle.dsql_laws_calls.proofs.laws.Numbered.{unfinished_from_one}
-use Rattle.dsql_laws_replies.proofs.Served.{own_settled}
 
 never : (b : Bool) → b ≡ true → b ≡ false → ⊥
 never b x y = cc
 
 -- A call that ends a transaction ended it as it entered.
 
-still_ender : (H : List Event) (e : Event) (k : ℕ) → is_over H k ≡ true → tx_ender (e ∷ H) k ≡ tx_ender H k
+pub still_ender : (H : List Event) (e : Event) (k : ℕ) → is_over H k ≡ true → tx_ender (e ∷ H) k ≡ tx_ender H k
 still_ender H e k over = ap (λ b. cond b (cond (goes_on (e ∷ H) k) 0 (ending_call e)) (tx_ender H k)) (ap (λ b. is_begun H k && not b) over ∙ none (is_begun H k))
   where
     none : (b : Bool) → (b && false) ≡ false

@@ -21,10 +21,9 @@ use Rattle.dsql_laws_calls.specs.history.Legal.{Lawful}
 use Rattle.dsql_laws_calls.proofs.laws.Numbered.{unfinished_from_one}
 use Rattle.dsql_laws_calls.proofs.EndedRows.{rows_kept}
 use Rattle.dsql_laws_calls.proofs.Looks.{comes, heard_there}
-use Rattle.dsql_laws_calls.proofs.Nowhere.{others_settled}
+use Rattle.dsql_laws_calls.proofs.Nowhere.{others_settled, own_settled}
 use Rattle.dsql_laws_calls.proofs.RowsKept.{rows_fetched}
 use Rattle.dsql_laws_calls.proofs.Works.{enters_next, new_record, new_work, old_record, old_unfinished, old_work, other_heard, other_replied, still_unfinished}
-use Rattle.dsql_laws_replies.proofs.Served.{own_settled}
 
 -- Holds if call n, a fetch of the rows of call k, has settled its reply, or the rows were made.
 abbrev pub Finds : List Event → ℕ → ℕ → Type 0

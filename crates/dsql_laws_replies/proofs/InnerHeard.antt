@@ -21,6 +21,7 @@ use Rattle.dsql_laws_calls.specs.works.declared.work.Aim.TheVariants as aims
 use Rattle.dsql_laws_calls.specs.works.Exchanges.{step_of, got_of, with_exchange}
 use Rattle.dsql_laws_calls.specs.works.Line.{sent_over, handed}
 use Rattle.dsql_laws_calls.proofs.laws_work.MadeLines.{asking}
+use Rattle.dsql_laws_calls.proofs.laws.Tests.{both}
 use Rattle.dsql_laws_calls.specs.history.declared.reply.Reply.{Reply}
 use Rattle.dsql_laws_calls.specs.history.declared.work.Scope.TheVariants.{Tx}
 use Rattle.dsql_laws_calls.specs.history.declared.work.Work.{Work}
@@ -50,10 +51,6 @@ of_text FetchRow = true
 of_text CloseCursor = true
 of_text CloseHandle = true
 of_text _ = false
-
-both_of : (a b : Bool) → (a && b) ≡ true → (a ≡ true) × (b ≡ true)
-both_of true b h = (refl, h)
-both_of false b h = absurd cc
 
 close_rows : (b : Bool) (o : Option ℕ) (e : Due) → (if b then option_map (λ rows. due.CloseRows rows) o else None) ≡ Some e → is_tidy aims.HandOut e ≡ true
 close_rows true (Some r) e h = let x : e ≡ due.CloseRows r = cc in rw x refl
@@ -87,7 +84,7 @@ either_tidy (Some e) d first later = first e refl
 closings : (can : Caps) (bad : Bool) (count : ℕ) (made : List Exchange) (ss : List Step) → list_all of_text ss ≡ true → is_tidy aims.HandOut (first_wanted courses.One can count (closing bad) made ss) ≡ true
 closings can bad count made [] h = refl
 closings can bad count made (s ∷ ss) h =
-    let b = both_of (of_text s) (list_all of_text ss) h in
+    let b = both (of_text s) (list_all of_text ss) h in
     either_tidy (wanted courses.One can count (closing bad) made s) (first_wanted courses.One can count (closing bad) made ss) (closing_step can bad count made s b.0) (closings can bad count made ss b.1)
 
 steps_of_text : (made : List Exchange) → list_all of_text (steps_left courses.One made) ≡ true

@@ -19,6 +19,7 @@ use Rattle.dsql_laws_calls.specs.works.Line.{course_of}
 use Rattle.dsql_laws_calls.proofs.laws_work.MadeLines.{asking, has_text}
 use Rattle.dsql_laws_calls.specs.history.Rules.Sent.{found, untested}
 use Rattle.dsql_laws_calls.proofs.Quiet.{next_inside}
+use Rattle.dsql_laws_calls.proofs.laws.Tests.{both}
 use Rattle.dsql_laws_replies.proofs.InnerAwaits.{Fresh}
 
 -- Is true of the steps after which nothing is run or prepared.
@@ -80,10 +81,6 @@ tidies CloseCursor = true
 tidies CloseHandle = true
 tidies _ = false
 
-both_of : (a b : Bool) → (a && b) ≡ true → (a ≡ true) × (b ≡ true)
-both_of true b h = (refl, h)
-both_of false b h = absurd cc
-
 either_tidy : (aim : Aim) (o : Option Due) (d : Due) → ((e : Due) → o ≡ Some e → is_tidy aim e ≡ true) → is_tidy aim d ≡ true → is_tidy aim (or_then o d) ≡ true
 either_tidy aim None d first later = later
 either_tidy aim (Some e) d first later = first e refl
@@ -128,7 +125,7 @@ over_tidy aims.Ping = refl
 tails_tidy : (can : Caps) (bad : Bool) (count : ℕ) (made : List Exchange) (aim : Aim) (ss : List Step) → has_text aim ≡ true → list_all tidies ss ≡ true → is_tidy aim (first_wanted (course_of aim) can count (found bad) made ss) ≡ true
 tails_tidy can bad count made aim [] x h = over_tidy aim
 tails_tidy can bad count made aim (s ∷ ss) x h =
-    let b = both_of (tidies s) (list_all tidies ss) h in
+    let b = both (tidies s) (list_all tidies ss) h in
     either_tidy aim (wanted (course_of aim) can count (found bad) made s) (first_wanted (course_of aim) can count (found bad) made ss) (step_tidy can bad count made aim s x b.0) (tails_tidy can bad count made aim ss x b.1)
 
 late_steps : (aim : Aim) (d : Due) (g : Got) (rest : List Exchange) → has_text aim ≡ true → is_late d ≡ true → list_all tidies (steps_left (course_of aim) ((d, g) ∷ rest)) ≡ true

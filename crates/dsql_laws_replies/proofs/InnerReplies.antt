@@ -50,7 +50,8 @@ use Rattle.dsql_laws_calls.proofs.DueWay as of_due
 use Rattle.dsql_laws_calls.proofs.UnderWay.{line_made, handed_there, InsideWay, UnderWay}
 use Rattle.dsql_laws_calls.proofs.Why.{ended_there}
 use Rattle.dsql_laws_calls.proofs.Coming.{sound}
-use Rattle.dsql_laws_replies.proofs.Awaiting.{same_lent, under_way}
+use Rattle.dsql_laws_calls.proofs.Sound.{same_lent}
+use Rattle.dsql_laws_replies.proofs.Awaiting.{under_way}
 use Rattle.dsql_laws_replies.proofs.InnerAwaits.{Awaiting}
 use Rattle.dsql_laws_replies.proofs.InnerOver.{Over}
 use Rattle.dsql_laws_replies.proofs.InnerDecides.{Outcome}

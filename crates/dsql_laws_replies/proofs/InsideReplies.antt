@@ -34,13 +34,12 @@ use Rattle.dsql_laws_calls.proofs.Begun.{stays_begun}
 use Rattle.dsql_laws_calls.proofs.Inside.{inside_uses}
 use Rattle.dsql_laws_calls.proofs.LineParts.{unsent_line, unsent_in}
 use Rattle.dsql_laws_calls.proofs.Lines.{line_here}
-use Rattle.dsql_laws_calls.proofs.Nowhere.{others_settled}
+use Rattle.dsql_laws_calls.proofs.Nowhere.{others_settled, own_settled}
 use Rattle.dsql_laws_calls.proofs.RowsKept.{Borrows, tx_borrows}
 use Rattle.dsql_laws_calls.proofs.TxEnders.{sent_entered}
 use Rattle.dsql_laws_calls.proofs.UnderWay.{newest_sent}
 use Rattle.dsql_laws_replies.proofs.Inner.{Unsent, InAwaits, Inner, inner_quiet, awaiting_line}
 use Rattle.dsql_laws_replies.proofs.InnerReplies.{inner_other, inner_own}
-use Rattle.dsql_laws_replies.proofs.Served.{own_settled}
 
 never : (b : Bool) → b ≡ true → b ≡ false → ⊥
 never b x y = cc

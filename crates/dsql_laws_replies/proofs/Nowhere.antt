@@ -40,14 +40,14 @@ use Rattle.dsql_laws_calls.specs.history.Legal.{Lawful}
 use Rattle.dsql_laws_calls.specs.Nothing.{HasNothing, is_elsewhere}
 use Rattle.dsql_laws_calls.proofs.BeginningsAt.{beginnings}
 use Rattle.dsql_laws_calls.proofs.Looked.{looked}
-use Rattle.dsql_laws_calls.proofs.Nowhere.{others_settled, settled_unserved}
+use Rattle.dsql_laws_calls.proofs.Nowhere.{others_settled, own_settled, settled_unserved}
 use Rattle.dsql_laws_calls.proofs.Own.{due_line}
 use Rattle.dsql_laws_calls.proofs.Works.{is_look}
 use Rattle.dsql_laws_replies.proofs.EndReplies.{end_replies}
 use Rattle.dsql_laws_replies.proofs.Fetches.{fetch_replies}
 use Rattle.dsql_laws_replies.proofs.InsideReplies.{inside_replies}
 use Rattle.dsql_laws_replies.proofs.RowsTold.{rows_told}
-use Rattle.dsql_laws_replies.proofs.Served.{own_settled, served_replies}
+use Rattle.dsql_laws_replies.proofs.Served.{served_replies}
 
 never : {A : Type 0} (b : Bool) → b ≡ true → b ≡ false → A
 never b x y = absurd cc

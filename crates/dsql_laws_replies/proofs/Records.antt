@@ -9,7 +9,6 @@ use Rattle.dsql_laws_calls.specs.history.Readers.Tries.{try_number, tries, tries
 use Rattle.dsql_laws_calls.proofs.laws.Tests.{other_number}
 use Rattle.dsql_laws_calls.specs.history.declared.event.Event.{Event}
 use Rattle.dsql_laws_calls.specs.history.declared.event.Event.TheVariants.{Entered, Heard, Replied}
-use Rattle.dsql_laws_calls.specs.history.declared.event.Op.{Op}
 use Rattle.dsql_laws_calls.specs.history.declared.work.Work.TheVariants.{Look}
 use Rattle.dsql_laws_calls.specs.history.Readers.Calls.{calls, call_record, nobody, decided, decided_by}
 use Rattle.dsql_laws_calls.specs.history.Readers.Decisions.{decision}
@@ -17,8 +16,7 @@ use Rattle.dsql_laws_calls.specs.history.Readers.Journals.{journal}
 use Rattle.dsql_laws_calls.specs.history.Readers.Unfinished.{is_unfinished}
 use Rattle.dsql_laws_calls.specs.history.Readers.Works.{work}
 use Rattle.dsql_laws_calls.specs.history.Legal.{Allowed}
-use Rattle.dsql_laws_calls.proofs.AtEnd.{no_work_yet}
-use Rattle.dsql_laws_calls.proofs.BeginningsAt.{is_answer}
+use Rattle.dsql_laws_calls.proofs.BeginningsAt.{is_answer, not_new}
 use Rattle.dsql_laws_calls.proofs.LineParts.{heard_follows}
 use Rattle.dsql_laws_calls.proofs.Stays.{as_many, has_entered}
 use Rattle.dsql_laws_calls.proofs.Works.{enters_next, old_record, other_replied, still_unfinished}
@@ -40,13 +38,9 @@ own_record H e busy some =
     (cond b (call_record H m) (record (call_record H m) { decided = decision (tries_again (work H m) (try_number (tries H m))) (try_number (tries H m)) (length (call_record H m).params) (work H m) e.call e.answer (decided H m) })).decided)
     of_call
 
--- A call that has something to do isn't the call that enters.
-pub not_entering : (H : List Event) (client m : ℕ) (op : Op) (n : ℕ) → Allowed H (Entered client m op) → (work H n ≡ Look → ⊥) → n ≢ m
-not_entering H client m op n a busy same = let new = enters_next H client m op a in busy (no_work_yet H n (omega (arith, new, same)))
-
 -- The record of such a call stays the same until an answer or its reply.
 pub record_stays : (H : List Event) (e : Event) (n : ℕ) → Allowed H e → is_answer e ≡ false → (work H n ≡ Look → ⊥) → is_unfinished (e ∷ H) n ≡ true → call_record (e ∷ H) n ≡ call_record H n
-record_stays H (Entered client m op) n a h busy u = old_record H client m op n (enters_next H client m op a) (not_entering H client m op n a busy)
+record_stays H (Entered client m op) n a h busy u = old_record H client m op n (enters_next H client m op a) (not_new H client m op n a busy)
 record_stays H (Replied m reply) n a h busy u = let b = still_unfinished H m reply n u in other_replied H m reply n b.0
 record_stays H (Heard e) n a h busy u = absurd cc
 record_stays H e n a h busy u = refl

@@ -37,7 +37,7 @@ use Rattle.dsql_laws_calls.specs.history.Readers.Lines.{line_among}
 use Rattle.dsql_laws_calls.specs.history.Readers.Pool.{place, home}
 use Rattle.dsql_laws_calls.specs.history.Readers.Unfinished.{is_unfinished}
 use Rattle.dsql_laws_calls.specs.history.Readers.Works.{work, asks, aim_of}
-use Rattle.dsql_laws_calls.specs.history.Rules.Course.{begins_with_run, goes_forward, ends_once, keeps_course}
+use Rattle.dsql_laws_calls.specs.history.Rules.Course.{begins_with_run, goes_forward, ends_once}
 use Rattle.dsql_laws_calls.specs.history.Rules.Line.{is_due, due_in, due_for}
 use Rattle.dsql_laws_calls.specs.history.Rules.Sent.{asked_by, is_reset_due}
 use Rattle.dsql_laws_calls.specs.history.Legal.{Allowed, Lawful}
@@ -48,17 +48,19 @@ use Rattle.dsql_laws_calls.proofs.Stays.{not_looking, work_stays, asked_stays}
 use Rattle.dsql_laws_calls.proofs.Works.{other_heard, old_unfinished, still_unfinished}
 use Rattle.dsql_laws_calls.proofs.Plain.{begins, line_plain}
 use Rattle.dsql_laws_calls.proofs.Beginnings.{begin_owner, begin_there}
-use Rattle.dsql_laws_calls.proofs.BeginningsAt.{is_answer, heard_same, heard_more, was_unfinished}
+use Rattle.dsql_laws_calls.proofs.BeginningsAt.{is_answer, heard_same, heard_more, was_unfinished, not_new}
 use Rattle.dsql_laws_calls.proofs.CallTenures.{call_line, line_of_call, plain_due}
 use Rattle.dsql_laws_calls.proofs.LineParts.{grows_own}
 use Rattle.dsql_laws_calls.proofs.Idle.{lends_asker}
-use Rattle.dsql_laws_calls.proofs.Lines.{line_there, line_here}
+use Rattle.dsql_laws_calls.proofs.Lines.{line_there, line_here, course_of}
 use Rattle.dsql_laws_calls.proofs.Own.{asks_own, OwnWay, own_way, due_line}
 use Rattle.dsql_laws_calls.proofs.Coming.{sound}
-use Rattle.dsql_laws_replies.proofs.Awaiting.{awaited_by, begin_awaited, plain_awaited, awaited_as, Needs, Awaits, plain_call, awaiting_sends, still_awaits, awaits_lent, same_lent, other_awaits}
+use Rattle.dsql_laws_calls.proofs.Nowhere.{own_settled}
+use Rattle.dsql_laws_calls.proofs.Sound.{same_lent}
+use Rattle.dsql_laws_replies.proofs.Awaiting.{awaited_by, begin_awaited, plain_awaited, awaited_as, Needs, Awaits, plain_call, awaiting_sends, still_awaits, awaits_lent, other_awaits}
 use Rattle.dsql_laws_replies.proofs.Begins.{begin_awaits, BeginSettles, begin_settles}
 use Rattle.dsql_laws_replies.proofs.Decides.{settled_on}
-use Rattle.dsql_laws_replies.proofs.Records.{own_record, not_entering, record_stays, fitting}
+use Rattle.dsql_laws_replies.proofs.Records.{own_record, record_stays, fitting}
 
 never : (b : Bool) → b ≡ true → b ≡ false → ⊥
 never b x y = cc
@@ -238,11 +240,6 @@ served_asks (Pool (Fell c m) ∷ H) n l h some = by (λ k. served_asks H n l.0 k
     by rest false k = rest k
 served_asks (_ ∷ H) n l h some = served_asks H n l.0 h some
 
--- The run's first event comes before each call that was served.
-course_of : (H : List Event) (e : Event) → Allowed H e → keeps_course H e ≡ true
-unfolding Allowed
-course_of H e a = a.course
-
 run_serves_none : (H : List Event) (version : ℕ) (can : Caps) (n : ℕ) → Allowed H (Run version can) → was_served (tries H n) ≡ true → ⊥
 run_serves_none [] version can n a h = cc
 run_serves_none (e ∷ H) version can n a h = let k = both (begins_with_run (e ∷ H) (Run version can)) (goes_forward (e ∷ H) (Run version can) && ends_once (e ∷ H) (Run version can)) (course_of (e ∷ H) (Run version can) a) in not_first k.0
@@ -256,7 +253,7 @@ settles (Run version can ∷ H) n l some u h needs = absurd (run_serves_none H v
 settles (Entered client m op ∷ H) n l some u h needs =
     let own = served_asks H n l.0 h some in
     let busy = not_looking (work H n) own in
-    let apart = not_entering H client m op n l.1 busy in
+    let apart = not_new H client m op n l.1 busy in
     let needed : Needs H n = ap (λ it. needs_answer (caps H) (aim_of it)) (sym (work_stays H (Entered client m op) n busy)) ∙ needs in
     settles_quiet H (Entered client m op) n l refl own u needed (settles H n l.0 some (sym (old_unfinished H client m op n apart) ∙ u) h needed)
 settles (Heard e ∷ H) n l some u h needs =
@@ -307,10 +304,6 @@ lent_settled : (o p q : Option Reply) → is_some q ≡ true → is_some (or_els
 lent_settled None None q h = h
 lent_settled None (Some other) q h = refl
 lent_settled (Some own) p q h = refl
-
-pub own_settled : (o p q : Option Reply) → is_some o ≡ true → is_some (or_else (or_else o p) q) ≡ true
-own_settled None p q h = absurd cc
-own_settled (Some own) p q h = refl
 
 pub served_replies : (H : List Event) (n : ℕ) → Lawful H → is_unfinished H n ≡ true → was_served (tries H n) ≡ true → is_some (due_for H n) ≡ false → is_some (reply_due H n) ≡ true
 served_replies H n l u h none = by (needs_answer (caps H) (aim_of (work H n))) refl
