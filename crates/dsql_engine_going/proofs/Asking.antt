@@ -45,9 +45,9 @@ use Rattle.dsql_laws_calls.proofs.laws.Standing.{stands_waiting}
 use Rattle.dsql_laws_calls.proofs.laws.Tests.{both, other_number, same_itself, together}
 use Rattle.dsql_laws_calls.proofs.laws.Wanted.{homes_apart}
 use Rattle.dsql_laws_calls.proofs.laws.Wanting.{sends_where_lent}
-use Rattle.dsql_laws_others.proofs.Untouched.{all_so, apart_of}
 use Rattle.dsql_laws_others.proofs.LentStands.{stand_other}
 use Rattle.dsql_laws_others.proofs.Asked.{asks_an_open_one, closed_only, no_memory, asked_goes_on, asked_used}
+use Rattle.dsql_laws_others.proofs.Settling.{each_stands}
 use Rattle.dsql_engine_going.proofs.Replying.{settled_owes}
 use Rattle.dsql_engine_going.proofs.Standing.{number_in, opens_somewhere}
 
@@ -105,17 +105,7 @@ settled_asked H n l h may few restless =
 
 -- Each other call stays where it stood as the call is lent a connection.
 others_lent : (H : List Event) (c t : ℕ) (own : Owner) (n : ℕ) → Lawful (Pool (Lend c t own n) ∷ H) → goes_on_but n H ≡ true → goes_on_but n (Pool (Lend c t own n) ∷ H) ≡ true
-others_lent H c t own n l h = all_so (λ m. (m == n) || is_some (stand H m)) (λ m. (m == n) || is_some (stand K m)) (unfinished H) each h
-  where
-    K : List Event
-    K = Pool (Lend c t own n) ∷ H
-
-    each : (m : ℕ) → ((m == n) || is_some (stand H m)) ≡ true → ((m == n) || is_some (stand K m)) ≡ true
-    each m so = by (m == n) refl so
-      where
-        by : (b : Bool) → (m == n) ≡ b → (b || is_some (stand H m)) ≡ true → (b || is_some (stand K m)) ≡ true
-        by true is k = refl
-        by false is k = stand_other H c t own n m l (apart_of m n is) k
+others_lent H c t own n l h = each_stands n n (unfinished H) H (Pool (Lend c t own n) ∷ H) (λ m u apart was. stand_other H c t own n m l apart (was apart)) h
 
 -- After a lending, all is settled except for the call itself, which may rest with its connection.
 

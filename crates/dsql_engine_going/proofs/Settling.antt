@@ -1,25 +1,20 @@
 -- A call that enters may come next. After the moves that this makes due, all except the call is settled.
-use Rattle.std.proofs.Common.{◌≡◌, ℕ, ◌==◌, true, false, not, ◌&&◌, ◌||◌, List, [], ◌∷◌, is_some, refl, sym, ap, ◌∙◌}
-use Rattle.std.proofs.lemmas.Bool.{or_right}
-use Rattle.dsql_laws_calls.specs.journal.Readers.{has, is_empty}
+use Rattle.std.proofs.Common.{◌≡◌, ℕ, ◌==◌, true, false, not, ◌&&◌, List, [], ◌∷◌, refl, sym, ap, ◌∙◌}
+use Rattle.dsql_laws_calls.specs.journal.Readers.{is_empty}
 use Rattle.dsql_laws_calls.specs.history.declared.event.Event.{Event}
 use Rattle.dsql_laws_calls.specs.history.declared.event.Event.TheVariants.{Entered}
 use Rattle.dsql_laws_calls.specs.history.declared.event.Op.{Op}
 use Rattle.dsql_laws_calls.specs.history.declared.event.Op.TheVariants.{Commit, DbClose, Rollback, RowsClose}
 use Rattle.dsql_laws_calls.specs.history.Readers.Calls.{is_busy, next_call}
 use Rattle.dsql_laws_calls.specs.history.Readers.Owed.{owed}
-use Rattle.dsql_laws_calls.specs.history.Readers.Unfinished.{unfinished}
 use Rattle.dsql_laws_calls.specs.history.Rules.Course.{keeps_course}
 use Rattle.dsql_laws_calls.specs.history.Rules.Order.{follows}
-use Rattle.dsql_laws_calls.specs.history.Rules.Settled.{Settled, goes_on, goes_on_but, is_settled_but, owes_nothing, uses_what_is_lent}
-use Rattle.dsql_laws_calls.specs.history.Rules.Stands.{stand}
+use Rattle.dsql_laws_calls.specs.history.Rules.Settled.{Settled, goes_on, is_settled_but, owes_nothing, uses_what_is_lent}
 use Rattle.dsql_laws_calls.specs.history.Legal.{Allowed, Lawful}
-use Rattle.dsql_laws_calls.proofs.laws.Numbered.{unfinished_from_one}
 use Rattle.dsql_laws_calls.proofs.laws.OwedAllowed.{owed_made}
-use Rattle.dsql_laws_calls.proofs.laws.Tests.{other_number, same_itself, second, together}
+use Rattle.dsql_laws_calls.proofs.laws.Tests.{same_itself, together}
 use Rattle.dsql_laws_others.proofs.Entries.{goes_on_entered, used_entered}
 use Rattle.dsql_laws_others.specs.Entries.{is_plain}
-use Rattle.dsql_laws_others.proofs.Settling.{all_within}
 use Rattle.dsql_laws_others.specs.Ends.{ends_transaction}
 use Rattle.dsql_laws_others.proofs.ClosedDatabase.{closed_goes_on, closed_used}
 use Rattle.dsql_laws_others.proofs.ClosedRows.{goes_on_closing, used_closing}
@@ -27,6 +22,7 @@ use Rattle.dsql_laws_others.proofs.EndedTx.{each_after_end, used_after_end}
 use Rattle.dsql_laws_others.proofs.GivenUp.{settled_from}
 use Rattle.dsql_laws_steps.specs.Groups.{with_owed}
 use Rattle.dsql_engine_going.proofs.Replying.{settled_owes}
+use Rattle.dsql_engine_going.proofs.SettledBut.{goes_on_any}
 
 -- The call may come next.
 
@@ -54,12 +50,6 @@ entry_allowed H client n op next begun free settled = record {
 }
 
 -- All except the call is settled.
-
-goes_on_any : (H : List Event) (n : ℕ) → Lawful H → goes_on H ≡ true → goes_on_but n H ≡ true
-goes_on_any H n l h = all_within (λ m. (m == 0) || is_some (stand H m)) (λ m. (m == n) || is_some (stand H m)) (unfinished H) each h
-  where
-    each : (m : ℕ) → has m (unfinished H) ≡ true → ((m == 0) || is_some (stand H m)) ≡ true → ((m == n) || is_some (stand H m)) ≡ true
-    each m u so = or_right (m == n) (is_some (stand H m)) (second (m == 0) (is_some (stand H m)) (other_number m 0 (unfinished_from_one H m l u)) so)
 
 plain_settled : (H : List Event) (client n : ℕ) (op : Op) → Lawful (Entered client n op ∷ H) → Settled H → is_plain op ≡ true → owed (Entered client n op ∷ H) ≡ [] → is_settled_but n (Entered client n op ∷ H) ≡ true
 plain_settled H client n op l s plain none =

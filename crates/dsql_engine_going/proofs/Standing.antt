@@ -1,5 +1,5 @@
 -- Where a call that goes on stands, and how its flights change.
-use Rattle.std.proofs.Common.{◌≡◌, ℕ, ◌==◌, Bool, true, false, not, ◌&&◌, ◌||◌, cond, List, [], ◌∷◌, Option, Some, None, is_some, refl, sym, ap, subst, ◌∙◌}
+use Rattle.std.proofs.Common.{◌≡◌, ◌≢◌, ℕ, ◌==◌, ◌⊎◌, inl, inr, Bool, true, false, not, ◌&&◌, ◌||◌, cond, List, [], ◌∷◌, Option, Some, None, is_some, refl, sym, ap, subst, ◌∙◌}
 use Rattle.std.proofs.lemmas.Bool.{or_right}
 use Rattle.std.specs.Prelude.{find}
 use Rattle.std.specs.List.{list_any}
@@ -25,10 +25,11 @@ use Rattle.dsql_laws_calls.specs.history.Rules.Stands.{opens, stands, has_to_rep
 use Rattle.dsql_laws_calls.specs.history.Legal.{Lawful}
 use Rattle.dsql_laws_calls.proofs.laws.Numbered.{unfinished_from_one}
 use Rattle.dsql_laws_calls.proofs.laws.Standing.{stands_opening}
-use Rattle.dsql_laws_calls.proofs.laws.Tests.{both, second, same_number}
+use Rattle.dsql_laws_calls.proofs.laws.Tests.{both, second}
+use Rattle.dsql_laws_calls.proofs.laws_work.Rows.{same_or_not}
 use Rattle.dsql_laws_replies.proofs.Nowhere.{nowhere_replies}
 use Rattle.dsql_laws_due.proofs.FetchReplies.{fetch_replies}
-use Rattle.dsql_laws_others.proofs.Untouched.{all_so}
+use Rattle.dsql_laws_others.proofs.Settling.{each_stands}
 use Rattle.dsql_engine_going.specs.Answers.{sends_unless, why_blocked}
 use Rattle.dsql_engine_going.specs.Permits.{permit_for}
 use Rattle.dsql_engine_going.specs.Reaching.{HasGoneOn}
@@ -94,14 +95,11 @@ unsent_flights K n flights silent =
 -- All is settled if the call itself stands somewhere.
 
 goes_on_itself : (H : List Event) (n : ℕ) → goes_on_but n H ≡ true → is_some (stand H n) ≡ true → goes_on H ≡ true
-goes_on_itself H n h there = all_so (λ m. (m == n) || is_some (stand H m)) (λ m. (m == 0) || is_some (stand H m)) (unfinished H) each h
+goes_on_itself H n h there = each_stands n 0 (unfinished H) H H (λ m u some was. by m (same_or_not m n) was) h
   where
-    each : (m : ℕ) → ((m == n) || is_some (stand H m)) ≡ true → ((m == 0) || is_some (stand H m)) ≡ true
-    each m so = or_right (m == 0) (is_some (stand H m)) (by (m == n) refl so)
-      where
-        by : (b : Bool) → (m == n) ≡ b → (b || is_some (stand H m)) ≡ true → is_some (stand H m) ≡ true
-        by true is k = let same : m ≡ n = same_number m n is in subst (λ j. is_some (stand H j) ≡ true) (sym same) there
-        by false is k = k
+    by : (m : ℕ) → (m ≡ n) ⊎ (m ≢ n) → (m ≢ n → is_some (stand H m) ≡ true) → is_some (stand H m) ≡ true
+    by m (inl same) was = subst (λ j. is_some (stand H j) ≡ true) (sym same) there
+    by m (inr apart) was = was apart
 
 pub settled_itself : (H : List Event) (n : ℕ) → is_settled_but n H ≡ true → is_some (stand H n) ≡ true → Settled H
 settled_itself H n h there =

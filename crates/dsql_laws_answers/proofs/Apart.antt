@@ -1,6 +1,6 @@
 -- A move of a connection that is lent neither before nor after leaves each lent connection in use. It also
 -- leaves each call standing somewhere, if the move isn't of that call.
-use Rattle.std.proofs.Common.{◌≡◌, ◌≢◌, ℕ, ◌==◌, ◌⊎◌, inl, inr, Bool, true, false, ◌&&◌, ◌||◌, cond, List, ◌∷◌, Option, Some, None, is_some, is_none, nat_le, refl, sym, ap, ◌∙◌, arith}
+use Rattle.std.proofs.Common.{◌≡◌, ◌≢◌, ℕ, ◌⊎◌, inl, inr, Bool, true, false, ◌&&◌, ◌||◌, cond, List, ◌∷◌, Option, Some, None, is_some, is_none, nat_le, refl, sym, ap, ◌∙◌, arith}
 use Rattle.std.specs.Option.{option_map}
 use Rattle.std.specs.Prelude.{find}
 use Rattle.dsql_laws_calls.specs.journal.declared.entry.Owner.{Owner}
@@ -17,7 +17,7 @@ use Rattle.dsql_laws_calls.proofs.laws.Wanted.{is_opening_for, found_counts}
 use Rattle.dsql_laws_calls.proofs.pool.Frees.{passing}
 use Rattle.dsql_laws_calls.proofs.Found.{place_in, uses_in}
 use Rattle.dsql_laws_others.proofs.Once.{all_found, found_number, found_some}
-use Rattle.dsql_laws_others.proofs.Settling.{all_within}
+use Rattle.dsql_laws_others.proofs.Settling.{each_stands}
 use Rattle.dsql_laws_calls.specs.history.declared.event.Event.{Event}
 use Rattle.dsql_laws_calls.specs.history.declared.event.Event.TheVariants.{Pool}
 use Rattle.dsql_laws_calls.specs.history.declared.work.Scope.{Scope}
@@ -254,13 +254,9 @@ pub apart_carried : (H : List Event) (move : Move) (c : ℕ) → Unlent H move c
     → ((j : ℕ) → is_unfinished H j ≡ true → Left H move c j ⊎ (is_some (stand (Pool move ∷ H) j) ≡ true)) → Carried H (Pool move ∷ H)
 apart_carried H move c u tried left = record {
   used = used_apart H move c u tried;
-  somewhere = λ k h. all_within (λ j. (j == k) || is_some (stand H j)) (λ j. (j == k) || is_some (stand (Pool move ∷ H) j)) (unfinished H) (λ j unfinished_it so. each j unfinished_it (j == k) so) h;
+  somewhere = λ k h. each_stands k k (unfinished H) H (Pool move ∷ H) (λ j unfinished_it apart was. by j (was apart) (left j unfinished_it)) h;
 }
   where
-    each : (j : ℕ) → is_unfinished H j ≡ true → (b : Bool) → (b || is_some (stand H j)) ≡ true → (b || is_some (stand (Pool move ∷ H) j)) ≡ true
-    each j is true so = refl
-    each j is false so = by (left j is)
-      where
-        by : Left H move c j ⊎ (is_some (stand (Pool move ∷ H) j) ≡ true) → is_some (stand (Pool move ∷ H) j) ≡ true
-        by (inl s) = stands_apart H move c j u s so
-        by (inr now) = now
+    by : (j : ℕ) → is_some (stand H j) ≡ true → Left H move c j ⊎ (is_some (stand (Pool move ∷ H) j) ≡ true) → is_some (stand (Pool move ∷ H) j) ≡ true
+    by j so (inl s) = stands_apart H move c j u s so
+    by j so (inr now) = now

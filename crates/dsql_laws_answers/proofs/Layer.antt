@@ -53,7 +53,7 @@ use Rattle.dsql_laws_others.proofs.Alike.{due_alike, used_alike, lent_alike, lin
 use Rattle.dsql_laws_others.proofs.Homes.{no_line, no_ending}
 use Rattle.dsql_laws_others.proofs.LentBeside.{LentAt, lent_or_not}
 use Rattle.dsql_laws_others.proofs.Untouched.{standing, still_standing, has_still}
-use Rattle.dsql_laws_others.proofs.Settling.{all_within}
+use Rattle.dsql_laws_others.proofs.Settling.{each_stands}
 use Rattle.dsql_laws_answers.proofs.Beside.{Beside, late_same, sent_same, tried_same, settled_still}
 
 -- Two histories of which the second keeps what is settled in the first. Lent connections stay in use, and each
@@ -216,7 +216,7 @@ stands_same H e m o number u h =
 pub heard_carried : (H : List Event) (e : Entry) → OfLayer H e → Carried H (Heard e ∷ H)
 heard_carried H e o = record {
   used = λ h. lent_alike H K refl (λ n. kept n) ∙ h;
-  somewhere = λ k h. all_within (λ j. (j == k) || is_some (stand H j)) (λ j. (j == k) || is_some (stand K j)) (unfinished H) (λ j u so. each j u (j == k) so) h;
+  somewhere = λ k h. each_stands k k (unfinished H) H K (λ j u apart was. let l = o.lawful in stands_same H e j o (unfinished_from_one H j l.0 u) u (was apart)) h;
 }
   where
     K : List Event
@@ -225,7 +225,3 @@ heard_carried H e o = record {
     kept : (n : ℕ) → is_kept K n ≡ is_kept H n
     kept n =
         ap (λ b. b || rests K n) (used_alike H K n (ap (thing_of n) (tx_same H e o)) (ap (rows_of n) (rows_same H e o)) (ending_same H e n o) (λ w. line_same H e n w o)) ∙ ap (λ b. is_used H n || b) (rests_same H e n o)
-
-    each : (j : ℕ) → is_unfinished H j ≡ true → (b : Bool) → (b || is_some (stand H j)) ≡ true → (b || is_some (stand K j)) ≡ true
-    each j u true so = refl
-    each j u false so = let l = o.lawful in stands_same H e j o (unfinished_from_one H j l.0 u) u so

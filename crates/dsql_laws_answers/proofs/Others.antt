@@ -23,7 +23,7 @@ use Rattle.dsql_laws_calls.proofs.laws.Truths.{or_first, or_second}
 use Rattle.dsql_laws_calls.proofs.laws.Tests.{both, other_number, same_itself}
 use Rattle.dsql_laws_calls.proofs.Lists.{same_or_not}
 use Rattle.dsql_laws_others.proofs.Once.{found_some}
-use Rattle.dsql_laws_others.proofs.Settling.{somewhere, all_within}
+use Rattle.dsql_laws_others.proofs.Settling.{somewhere, each_stands}
 use Rattle.dsql_laws_calls.specs.history.declared.event.Event.{Event}
 use Rattle.dsql_laws_calls.specs.history.declared.event.Event.TheVariants.{Heard}
 use Rattle.dsql_laws_calls.specs.history.declared.reply.Reply.{Reply}
@@ -50,7 +50,6 @@ use Rattle.dsql_laws_calls.proofs.Why.{Why}
 use Rattle.dsql_laws_replies.proofs.EndReplies.{end_replies}
 use Rattle.dsql_laws_replies.proofs.InsideReplies.{inside_replies}
 use Rattle.dsql_laws_replies.proofs.Served.{served_replies}
-use Rattle.dsql_laws_others.proofs.Untouched.{apart_of}
 use Rattle.dsql_laws_others.proofs.LentBeside.{owner_at}
 use Rattle.dsql_laws_due.proofs.FetchReplies.{fetch_replies}
 use Rattle.dsql_laws_answers.proofs.Beside.{tried_same, decided_same, settled_still, told_settles}
@@ -344,8 +343,4 @@ stands_still H e t own m hl calm h u apart =
     stands_heard H e t own m (record { heard = hl; beside = record { other = λ same. apart (sym same); number = number; unfinished = u } }) calm fetching (stands_there H m number u h)
 
 pub goes_on_heard : (H : List Event) (e : Entry) (t : ℕ) (own : Owner) → HeardLent H e t own → Calm H → goes_on H ≡ true → goes_on_but e.call_no (Heard e ∷ H) ≡ true
-goes_on_heard H e t own hl calm h = all_within (λ m. (m == 0) || is_some (stand H m)) (λ m. (m == e.call_no) || is_some (stand (Heard e ∷ H) m)) (unfinished H) (λ m u so. by m u (m == e.call_no) refl) h
-  where
-    by : (m : ℕ) → is_unfinished H m ≡ true → (x : Bool) → (m == e.call_no) ≡ x → (x || is_some (stand (Heard e ∷ H) m)) ≡ true
-    by m u true is = refl
-    by m u false is = stands_still H e t own m hl calm h u (apart_of m e.call_no is)
+goes_on_heard H e t own hl calm h = each_stands 0 e.call_no (unfinished H) H (Heard e ∷ H) (λ m u apart was. stands_still H e t own m hl calm h u apart) h

@@ -13,7 +13,6 @@ use Rattle.dsql_laws_calls.specs.pool.Places.{is_lent}
 use Rattle.dsql_laws_calls.specs.history.Rules.Wishes.{newest_sender}
 use Rattle.dsql_laws_calls.proofs.laws.Tests.{both, other_number, same_number}
 use Rattle.dsql_laws_calls.proofs.Lists.{same_or_not}
-use Rattle.dsql_laws_others.proofs.Untouched.{apart_of}
 use Rattle.dsql_laws_calls.specs.history.declared.event.Event.{Event}
 use Rattle.dsql_laws_calls.specs.history.declared.event.Event.TheVariants.{Heard}
 use Rattle.dsql_laws_calls.specs.history.Readers.Calls.{site, decided}
@@ -34,6 +33,7 @@ use Rattle.dsql_laws_calls.proofs.UnderWay.{clash}
 use Rattle.dsql_laws_others.proofs.Lends.{lends}
 use Rattle.dsql_laws_others.proofs.LentBeside.{free_before, unlent_home}
 use Rattle.dsql_laws_others.proofs.LentOthers.{due_others}
+use Rattle.dsql_laws_others.proofs.Settling.{apart_of}
 use Rattle.dsql_laws_answers.proofs.Elsewhere.{comes_there}
 use Rattle.dsql_laws_answers.proofs.Due.{due_there}
 use Rattle.dsql_laws_answers.proofs.Settled.{Settling, decided_not}

@@ -3,9 +3,8 @@
 use Rattle.std.proofs.Common.{◌≡◌, ◌≢◌, ℕ, ◌==◌, Bool, true, false, ◌&&◌, ◌||◌, cond, List, [], ◌∷◌, Option, Some, None, is_some, refl, ap, ◌∙◌}
 use Rattle.std.specs.List.{list_all}
 use Rattle.std.proofs.lemmas.List.Folds.{list_all-append}
-use Rattle.dsql_laws_calls.proofs.laws.Tests.{together, second, same_itself, other_number}
-use Rattle.dsql_laws_others.proofs.Settling.{all_within}
-use Rattle.dsql_laws_others.proofs.Untouched.{apart_of}
+use Rattle.dsql_laws_calls.proofs.laws.Tests.{together, same_itself}
+use Rattle.dsql_laws_others.proofs.Settling.{each_stands}
 use Rattle.dsql_laws_calls.specs.history.declared.event.Event.{Event}
 use Rattle.dsql_laws_calls.specs.history.declared.event.Event.TheVariants.{Entered}
 use Rattle.dsql_laws_calls.specs.history.declared.event.Op.{Op}
@@ -53,15 +52,8 @@ pub each_entered : (H : List Event) (client n : ℕ) (op : Op) → ((m : ℕ) �
 each_entered H client n op stays l h =
     list_all-append (λ m. (m == n) || is_some (stand K m)) (unfinished H) (n ∷ [])
     ∙ together (list_all (λ m. (m == n) || is_some (stand K m)) (unfinished H)) (((n == n) || is_some (stand K n)) && true)
-    (all_within (λ m. (m == 0) || is_some (stand H m)) (λ m. (m == n) || is_some (stand K m)) (unfinished H) each h)
+    (each_stands 0 n (unfinished H) H K (λ m u apart was. let some = unfinished_from_one H m l u in stays m u some apart (was some)) h)
     (together ((n == n) || is_some (stand K n)) true (ap (λ b. b || is_some (stand K n)) (same_itself n)) refl)
   where
     K : List Event
     K = Entered client n op ∷ H
-
-    each : (m : ℕ) → is_unfinished H m ≡ true → ((m == 0) || is_some (stand H m)) ≡ true → ((m == n) || is_some (stand (Entered client n op ∷ H) m)) ≡ true
-    each m u so = by (m == n) refl
-      where
-        by : (b : Bool) → (m == n) ≡ b → (b || is_some (stand (Entered client n op ∷ H) m)) ≡ true
-        by true is = refl
-        by false is = stays m u (unfinished_from_one H m l u) (apart_of m n is) (second (m == 0) (is_some (stand H m)) (other_number m 0 (unfinished_from_one H m l u)) so)

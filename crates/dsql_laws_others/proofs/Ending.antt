@@ -28,10 +28,10 @@ use Rattle.dsql_laws_calls.specs.history.Legal.{Lawful}
 use Rattle.dsql_laws_calls.specs.laws.OwedMade.{with_moves}
 use Rattle.dsql_laws_calls.proofs.laws.AtRest.{before_event, rested}
 use Rattle.dsql_laws_calls.proofs.AtEnd.{waits_only, quiet_at_end}
-use Rattle.dsql_laws_others.proofs.Untouched.{all_so}
 use Rattle.dsql_laws_others.proofs.ControlMoves.{are_quiet, closings_quiet, all_quiet}
 use Rattle.dsql_laws_others.proofs.Openings.{silent}
 use Rattle.dsql_laws_others.proofs.Answered.{left_waiting_replies}
+use Rattle.dsql_laws_others.proofs.Settling.{all_within}
 
 pub closed_quiet : (p : Pooled) → Placed p.idle p.conns → are_quiet (moves_closed p) (shut p) ≡ true
 closed_quiet p h = closings_quiet DbClosed p.idle [] (shut p) (sym (append-nil p.idle)) (placed_map unwanted keeps_number stays_idle p.idle p.conns h)
@@ -54,7 +54,7 @@ told_of_end H l m h = by (m == 0) refl
 goes_on_ended : (H : List Event) → Lawful (Ended ∷ H) → goes_on (Ended ∷ H) ≡ true
 goes_on_ended H l =
     let b = both (list_all (λ m. is_waiting (stand H m)) (unfinished H)) (has_no_chore H) (quiet_at_end H l.1) in
-    all_so (λ m. is_waiting (stand H m)) (λ m. (m == 0) || is_some (stand (Ended ∷ H) m)) (unfinished H) (told_of_end H l) b.0
+    all_within (λ m. is_waiting (stand H m)) (λ m. (m == 0) || is_some (stand (Ended ∷ H) m)) (unfinished H) (λ m u. told_of_end H l m) b.0
 
 pub all_told_of_end : (H : List Event) → Lawful (Ended ∷ H) → goes_on (with_moves (owed (Ended ∷ H)) (Ended ∷ H)) ≡ true
 all_told_of_end H l =

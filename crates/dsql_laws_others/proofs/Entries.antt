@@ -27,7 +27,7 @@ use Rattle.dsql_laws_calls.specs.history.Readers.Pool.{is_home, or_none, smalles
 use Rattle.dsql_laws_calls.specs.history.Readers.Tries.{try_number, has_a_try, asks_again, tries, tries_again}
 use Rattle.dsql_laws_calls.proofs.laws.Tests.{together, other_number, same_itself}
 use Rattle.dsql_laws_calls.proofs.Lists.{within_rows}
-use Rattle.dsql_laws_others.proofs.Untouched.{all_so, apart_of, still_standing, has_still}
+use Rattle.dsql_laws_others.proofs.Untouched.{still_standing, has_still}
 use Rattle.dsql_laws_calls.specs.history.declared.event.Event.{Event}
 use Rattle.dsql_laws_calls.specs.history.declared.event.Event.TheVariants.{Entered}
 use Rattle.dsql_laws_calls.specs.history.declared.event.Op.{Op}
@@ -62,6 +62,7 @@ use Rattle.dsql_laws_calls.proofs.Makers.{hands_out, rows_hand_out}
 use Rattle.dsql_laws_calls.proofs.Stays.{as_many}
 use Rattle.dsql_laws_others.specs.Entries.{is_plain}
 use Rattle.dsql_laws_others.proofs.Alike.{Concerns, Alike, due_alike, used_alike, line_asked, ends_alike, first_alike, closing_alike, same_tx_ender}
+use Rattle.dsql_laws_others.proofs.Settling.{apart_of, each_stands}
 
 -- If nothing is lent to call n, tests that agree on connections that aren't lent to it hold of all connections
 -- alike.
@@ -302,12 +303,5 @@ goes_on_entered H client n op l plain h =
     let K = Entered client n op ∷ H in
     list_all-append (λ m. (m == n) || is_some (stand K m)) (unfinished H) (n ∷ [])
     ∙ together (list_all (λ m. (m == n) || is_some (stand K m)) (unfinished H)) (((n == n) || is_some (stand K n)) && true)
-    (all_so (λ m. (m == n) || is_some (stand H m)) (λ m. (m == n) || is_some (stand K m)) (unfinished H) each h)
+    (each_stands n n (unfinished H) H K (λ m u apart was. stand_entered H client n op m l plain apart (was apart)) h)
     (together ((n == n) || is_some (stand K n)) true (ap (λ b. b || is_some (stand K n)) (same_itself n)) refl)
-  where
-    each : (m : ℕ) → ((m == n) || is_some (stand H m)) ≡ true → ((m == n) || is_some (stand (Entered client n op ∷ H) m)) ≡ true
-    each m so = by (m == n) refl so
-      where
-        by : (b : Bool) → (m == n) ≡ b → (b || is_some (stand H m)) ≡ true → (b || is_some (stand (Entered client n op ∷ H) m)) ≡ true
-        by true is k = refl
-        by false is k = stand_entered H client n op m l plain (apart_of m n is) k

@@ -29,7 +29,7 @@ use Rattle.dsql_laws_calls.proofs.Found.{place_in}
 use Rattle.dsql_laws_calls.proofs.Lists.{same_or_not}
 use Rattle.dsql_laws_calls.proofs.Own.{asks_own}
 use Rattle.dsql_laws_others.proofs.Once.{all_found}
-use Rattle.dsql_laws_others.proofs.Settling.{all_within}
+use Rattle.dsql_laws_others.proofs.Settling.{each_stands}
 use Rattle.dsql_laws_calls.specs.history.declared.event.Event.{Event}
 use Rattle.dsql_laws_calls.specs.history.declared.event.Event.TheVariants.{Pool}
 use Rattle.dsql_laws_calls.specs.history.Readers.Calls.{asks_nothing, decided, rests, rests_with, site, told_by_others}
@@ -144,19 +144,10 @@ settles_left : (H : List Event) (m : Move) (x : Leaving H m) → Settles H (Pool
 settles_left H m x = record { used = used_left H m x; somewhere = somewhere }
   where
     somewhere : (k : ℕ) → (rests H (number_of x.owner) ≡ true → k ≡ number_of x.owner) → goes_on_but k H ≡ true → goes_on_but k (Pool m ∷ H) ≡ true
-    somewhere k but h = all_within (λ j. (j == k) || is_some (stand H j)) (λ j. (j == k) || is_some (stand (Pool m ∷ H) j)) (unfinished H) each h
+    somewhere k but h = each_stands k k (unfinished H) H (Pool m ∷ H) (λ j u apart was. let l = x.lawful in stand_left H m x j (unfinished_from_one H j l.0 u) (stays j apart) (was apart)) h
       where
-        each : (j : ℕ) → is_unfinished H j ≡ true → ((j == k) || is_some (stand H j)) ≡ true → ((j == k) || is_some (stand (Pool m ∷ H) j)) ≡ true
-        each j u so = by (j == k) refl so
-          where
-            stays : (j == k) ≡ false → StaysHome H m x j
-            stays other rested same =
-                let its : j ≡ k = same ∙ sym (but (sym (ap (rests H) same) ∙ rested)) in
-                true_false (j == k) (ap (λ i. j == i) (sym its) ∙ same_itself j) other
-
-            by : (b : Bool) → (j == k) ≡ b → (b || is_some (stand H j)) ≡ true → (b || is_some (stand (Pool m ∷ H) j)) ≡ true
-            by true is i = refl
-            by false is i = let l = x.lawful in stand_left H m x j (unfinished_from_one H j l.0 u) (stays is) i
+        stays : (j : ℕ) → j ≢ k → StaysHome H m x j
+        stays j apart rested same = apart (same ∙ sym (but (sym (ap (rests H) same) ∙ rested)))
 
 -- Each way in which the connection leaves.
 

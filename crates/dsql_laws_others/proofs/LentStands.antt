@@ -1,6 +1,5 @@
 -- Each call that stood somewhere does so after a lending, and so does the call that is lent the connection.
 use Rattle.std.proofs.Common.{◌≡◌, ◌≢◌, ℕ, ◌==◌, ◌⊎◌, inl, inr, Bool, true, false, ◌&&◌, ◌||◌, cond, List, [], ◌∷◌, Some, None, is_some, is_none, refl, sym, ap, ◌∙◌}
-use Rattle.std.proofs.lemmas.Bool.{or_right}
 use Rattle.std.specs.Prelude.{find}
 use Rattle.std.specs.Option.{option_map}
 use Rattle.dsql_laws_calls.specs.journal.declared.entry.Owner.{Owner}
@@ -15,11 +14,11 @@ use Rattle.dsql_laws_calls.specs.pool.Places.{conn_of, is_for}
 use Rattle.dsql_laws_calls.specs.history.declared.record.Try.TheVariants.{Served}
 use Rattle.dsql_laws_calls.specs.history.Readers.Pool.{is_home, or_none, smallest, pool, place, home}
 use Rattle.dsql_laws_calls.specs.history.Readers.Tries.{with_try, asks_again, tries}
-use Rattle.dsql_laws_calls.proofs.laws.Tests.{second, same_number, other_number}
+use Rattle.dsql_laws_calls.proofs.laws.Tests.{same_number, other_number}
 use Rattle.dsql_laws_calls.proofs.Lists.{same_or_not}
 use Rattle.dsql_laws_others.proofs.Lends.{still_waits, lends, lent_unbegun, stands_lent}
 use Rattle.dsql_laws_others.proofs.Meant.{is_meant, meant}
-use Rattle.dsql_laws_others.proofs.Settling.{all_within}
+use Rattle.dsql_laws_others.proofs.Settling.{each_stands}
 use Rattle.dsql_laws_others.proofs.Untouched.{standing, still_standing, has_still}
 use Rattle.dsql_laws_calls.specs.history.declared.event.Event.{Event}
 use Rattle.dsql_laws_calls.specs.history.declared.work.Scope.{Scope}
@@ -159,13 +158,7 @@ some_stand H c t own n m l step so = by (same_or_not m n)
     by (inr apart) = stand_other H c t own n m l apart (so apart)
 
 pub itself_lent : (H : List Event) (c t : ℕ) (own : Owner) (n : ℕ) → Lawful (lends H c t own n) → (rests (lends H c t own n) n ≡ true → is_own_step (lends H c t own n) n ≡ false) → goes_on_but n H ≡ true → goes_on (lends H c t own n) ≡ true
-itself_lent H c t own n l step h =
-    all_within (λ j. (j == n) || is_some (stand H j)) (λ j. (j == 0) || is_some (stand (lends H c t own n) j)) (unfinished H)
-    (λ j u so. or_right (j == 0) (is_some (stand (lends H c t own n) j)) (some_stand H c t own n j l step (λ apart. second (j == n) (is_some (stand H j)) (other_number j n apart) so))) h
+itself_lent H c t own n l step h = each_stands n 0 (unfinished H) H (lends H c t own n) (λ j u some was. some_stand H c t own n j l step was) h
 
 pub somewhere_lent : (H : List Event) (c t : ℕ) (own : Owner) (n k : ℕ) → Lawful (lends H c t own n) → (rests (lends H c t own n) n ≡ true → is_own_step (lends H c t own n) n ≡ false) → goes_on_but k H ≡ true → goes_on_but k (lends H c t own n) ≡ true
-somewhere_lent H c t own n k l step h = all_within (λ j. (j == k) || is_some (stand H j)) (λ j. (j == k) || is_some (stand (lends H c t own n) j)) (unfinished H) (λ j u so. by j (j == k) so) h
-  where
-    by : (j : ℕ) (b : Bool) → (b || is_some (stand H j)) ≡ true → (b || is_some (stand (lends H c t own n) j)) ≡ true
-    by j true so = refl
-    by j false so = some_stand H c t own n j l step (λ apart. so)
+somewhere_lent H c t own n k l step h = each_stands k k (unfinished H) H (lends H c t own n) (λ j u apart was. some_stand H c t own n j l step (λ other. was apart)) h

@@ -1,11 +1,10 @@
 -- An opening that begins touches no call except the one that it is for. It adds a connection and leaves those
 -- that were there.
-use Rattle.std.proofs.Common.{◌≡◌, ℕ, ◌==◌, Bool, true, false, ◌&&◌, ◌||◌, cond, List, [], ◌∷◌, ◌++◌, Option, Some, None, is_some, nat_le, ◌<◌, refl, sym, ap, subst, ◌∙◌, is_none, ◌⊎◌, inl, inr, arith}
+use Rattle.std.proofs.Common.{◌≡◌, ◌≢◌, ℕ, ◌==◌, Bool, true, false, ◌&&◌, ◌||◌, cond, List, [], ◌∷◌, ◌++◌, Option, Some, None, is_some, nat_le, ◌<◌, refl, sym, ap, subst, ◌∙◌, is_none, ◌⊎◌, inl, inr, arith}
 use Rattle.std.specs.Prelude.{find}
 use Rattle.std.specs.List.{list_all}
 use Rattle.std.specs.Option.{option_map, option_map_or, option_or}
 use Rattle.std.proofs.lemmas.Bool.Decides.{nat_tests}
-use Rattle.std.proofs.lemmas.Bool.{or_right}
 use Rattle.std.proofs.lemmas.List.Folds.{find-append, list_all-append}
 use Rattle.dsql_laws_calls.specs.course.Made.{or_else}
 use Rattle.dsql_laws_calls.specs.wait.Requests.{waits}
@@ -19,14 +18,14 @@ use Rattle.dsql_laws_calls.specs.history.Readers.Tries.{asks_again, tries}
 use Rattle.dsql_laws_calls.specs.history.declared.record.Stand.TheVariants as stands_at
 use Rattle.dsql_laws_calls.specs.history.Readers.Pool.{is_home, or_none, smallest, pool, place, home, wanted_by}
 use Rattle.dsql_laws_calls.specs.history.Rules.Stands.{stands, opens, is_own_step, is_settled_for, has_to_reply, stand}
-use Rattle.dsql_laws_calls.proofs.laws.Tests.{same_number, same_itself}
+use Rattle.dsql_laws_calls.proofs.laws.Tests.{other_number, same_itself}
 use Rattle.dsql_laws_calls.specs.history.declared.event.Event.{Event}
 use Rattle.dsql_laws_calls.specs.history.declared.event.Event.TheVariants.{Pool}
 use Rattle.dsql_laws_calls.specs.history.Readers.Unfinished.{unfinished}
 use Rattle.dsql_laws_calls.specs.history.Rules.Settled.{is_in_use, uses_what_is_lent, goes_on_but, goes_on}
 use Rattle.dsql_laws_others.proofs.Numbers.{none_zero, none_next}
 use Rattle.dsql_laws_calls.specs.history.declared.record.Stand.{Stand}
-use Rattle.dsql_laws_others.proofs.Untouched.{all_so, still_standing, has_still, each_still}
+use Rattle.dsql_laws_others.proofs.Untouched.{still_standing, has_still, each_still}
 use Rattle.dsql_laws_calls.specs.history.declared.work.Work.{Work}
 use Rattle.dsql_laws_calls.specs.history.declared.work.Work.TheVariants.{Execute, ReadOne, HandOut, Begin, End, Ping, Fetch, Close, Look}
 use Rattle.dsql_laws_calls.specs.history.Readers.Course.{caps}
@@ -38,8 +37,10 @@ use Rattle.dsql_laws_calls.specs.history.Rules.Line.{due_for}
 use Rattle.dsql_laws_calls.specs.history.Rules.Sent.{is_reset_due}
 use Rattle.dsql_laws_calls.specs.history.Legal.{Lawful}
 use Rattle.dsql_laws_calls.proofs.Born.{born}
+use Rattle.dsql_laws_calls.proofs.laws_work.Rows.{same_or_not}
 use Rattle.dsql_laws_others.proofs.Alike.{in_use_alike, all_alike}
 use Rattle.dsql_laws_others.proofs.Homes.{HomeStays, HomeUnlent, due_moved, used_moved, told_still}
+use Rattle.dsql_laws_others.proofs.Settling.{each_stands}
 
 abbrev opens_for : List Event → ℕ → ℕ → List Event
 opens_for H c k = Pool (OpenStart c k) ∷ H
@@ -286,18 +287,11 @@ itself_opens H c n some =
     (some_number (find (λ conn. is_for n conn.place) (p.conns ++ opening (next_number p) (wanted_by H n) ∷ [])) ∙ found)
 
 pub goes_on_opens : (H : List Event) (c n : ℕ) → Silent H → goes_on_but n H ≡ true → goes_on (opens_for H c n) ≡ true
-goes_on_opens H c n l h = all_so (λ m. (m == n) || is_some (stand H m)) (λ m. (m == 0) || is_some (stand (opens_for H c n) m)) (unfinished H) each h
+goes_on_opens H c n l h = each_stands n 0 (unfinished H) H (opens_for H c n) (λ m u some was. by m some (same_or_not m n) was) h
   where
-    each : (m : ℕ) → ((m == n) || is_some (stand H m)) ≡ true → ((m == 0) || is_some (stand (opens_for H c n) m)) ≡ true
-    each m so = by (m == n) refl so
-      where
-        own : (b : Bool) → (n == 0) ≡ b → m ≡ n → ((m == 0) || is_some (stand (opens_for H c n) m)) ≡ true
-        own true zero same = ap (λ b. b || is_some (stand (opens_for H c n) m)) (ap (λ j. j == 0) same ∙ zero)
-        own false some same = or_right (m == 0) (is_some (stand (opens_for H c n) m)) (subst (λ j. is_some (stand (opens_for H c n) j) ≡ true) (sym same) (itself_opens H c n some))
-
-        by : (b : Bool) → (m == n) ≡ b → (b || is_some (stand H m)) ≡ true → ((m == 0) || is_some (stand (opens_for H c n) m)) ≡ true
-        by true is k = own (n == 0) refl (same_number m n is)
-        by false is k = or_right (m == 0) (is_some (stand (opens_for H c n) m)) (stand_opens H c n m l k)
+    by : (m : ℕ) → m ≢ 0 → (m ≡ n) ⊎ (m ≢ n) → (m ≢ n → is_some (stand H m) ≡ true) → is_some (stand (opens_for H c n) m) ≡ true
+    by m some (inl same) was = subst (λ j. is_some (stand (opens_for H c n) j) ≡ true) (sym same) (itself_opens H c n (other_number n 0 (λ none. some (same ∙ none))))
+    by m some (inr apart) was = stand_opens H c n m l (was apart)
 
 pub goes_on_opens_but : (H : List Event) (c k n : ℕ) → Silent H → goes_on_but n H ≡ true → goes_on_but n (opens_for H c k) ≡ true
 goes_on_opens_but H c k n l h = each_still n (unfinished H) H (opens_for H c k) (λ m. stand_opens H c k m l) h

@@ -1,6 +1,6 @@
 -- A reply, a wait and a limit touch no other call and no connection. They change neither a line nor the pool's
 -- connections.
-use Rattle.std.proofs.Common.{◌≡◌, ◌≢◌, ℕ, ◌==◌, Bool, true, false, ◌||◌, List, [], ◌∷◌, refl, sym, ap, ◌∙◌, not, ◌&&◌, cond, ◌++◌, Option, Some, None, is_some, is_none, subst, inl}
+use Rattle.std.proofs.Common.{◌≡◌, ◌≢◌, ℕ, ◌==◌, ◌⊎◌, Bool, true, false, ◌||◌, List, [], ◌∷◌, refl, sym, ap, ◌∙◌, not, ◌&&◌, cond, ◌++◌, Option, Some, None, is_some, is_none, subst, inl, inr}
 use Rattle.std.proofs.lemmas.Bool.{or_right}
 use Rattle.std.specs.List.{list_all}
 use Rattle.dsql_laws_calls.proofs.laws.Tests.{both, together, same_itself, same_number, other_number}
@@ -41,16 +41,11 @@ use Rattle.dsql_laws_calls.specs.history.Rules.Sent.{line_of}
 use Rattle.dsql_laws_calls.specs.history.Rules.Settled.{is_in_use, is_kept, uses_what_is_lent, goes_on_but, goes_on}
 use Rattle.dsql_laws_calls.proofs.Works.{other_replied}
 use Rattle.dsql_laws_calls.proofs.Enders.{same_ender}
+use Rattle.dsql_laws_calls.proofs.laws_work.Rows.{same_or_not}
 use Rattle.dsql_laws_others.proofs.Alike.{Alike, due_alike, used_alike, lent_alike, line_asked, ends_alike, closings_alike, same_tx_ender, replied_lines}
+use Rattle.dsql_laws_others.proofs.Settling.{apart_of, each_stands}
 
 -- Lent connections are in use as before.
-
-pub apart_of : (m n : ℕ) → (m == n) ≡ false → m ≢ n
-apart_of m n other same = let clash : true ≡ false = sym (ap (λ k. m == k) (sym same) ∙ same_itself m) ∙ other in cc
-
-pub all_so : (q r : ℕ → Bool) (ms : List ℕ) → ((m : ℕ) → q m ≡ true → r m ≡ true) → list_all q ms ≡ true → list_all r ms ≡ true
-all_so q r [] so h = refl
-all_so q r (m ∷ ms) so h = let a = both (q m) (list_all q ms) h in together (r m) (list_all r ms) (so m a.0) (all_so q r ms so a.1)
 
 -- What is due.
 
@@ -346,22 +341,15 @@ goes_on_replied H n reply h =
     (λ m other so. or_right (m == 0) (is_some (stand (Replied n reply ∷ H) m)) (stand_replied H n reply m (apart_of m n other) (but_for (m == n) (is_some (stand H m)) so other))) h
 
 pub goes_on_waits : (H : List Event) (n : ℕ) → goes_on_but n H ≡ true → goes_on (Waits n ∷ H) ≡ true
-goes_on_waits H n h = all_so (λ m. (m == n) || is_some (stand H m)) (λ m. (m == 0) || is_some (stand (Waits n ∷ H) m)) (unfinished H) each h
+goes_on_waits H n h = each_stands n 0 (unfinished H) H (Waits n ∷ H) (λ m u some was. by m (same_or_not m n) was) h
   where
-    each : (m : ℕ) → ((m == n) || is_some (stand H m)) ≡ true → ((m == 0) || is_some (stand (Waits n ∷ H) m)) ≡ true
-    each m so = or_right (m == 0) (is_some (stand (Waits n ∷ H) m)) (by (m == n) refl so)
-      where
-        by : (b : Bool) → (m == n) ≡ b → (b || is_some (stand H m)) ≡ true → is_some (stand (Waits n ∷ H) m) ≡ true
-        by true is k = let same : m ≡ n = same_number m n is in subst (λ j. is_some (stand (Waits n ∷ H) j) ≡ true) (sym same) (itself_waits H n)
-        by false is k = stand_waits H n m k
+    by : (m : ℕ) → (m ≡ n) ⊎ (m ≢ n) → (m ≢ n → is_some (stand H m) ≡ true) → is_some (stand (Waits n ∷ H) m) ≡ true
+    by m (inl same) was = subst (λ j. is_some (stand (Waits n ∷ H) j) ≡ true) (sym same) (itself_waits H n)
+    by m (inr apart) was = stand_waits H n m (was apart)
 
 -- Each call that stood somewhere does so after an event that leaves the unfinished calls.
 pub each_still : (n : ℕ) (ms : List ℕ) (H K : List Event) → ((m : ℕ) → is_some (stand H m) ≡ true → is_some (stand K m) ≡ true) → list_all (λ m. (m == n) || is_some (stand H m)) ms ≡ true → list_all (λ m. (m == n) || is_some (stand K m)) ms ≡ true
-each_still n ms H K so h = all_so (λ m. (m == n) || is_some (stand H m)) (λ m. (m == n) || is_some (stand K m)) ms (λ m. by m (m == n)) h
-  where
-    by : (m : ℕ) (b : Bool) → (b || is_some (stand H m)) ≡ true → (b || is_some (stand K m)) ≡ true
-    by m true k = refl
-    by m false k = so m k
+each_still n ms H K so h = each_stands n n ms H K (λ m there apart was. so m (was apart)) h
 
 pub goes_on_control : (H : List Event) (control : Control) (n : ℕ) → goes_on_but n H ≡ true → goes_on_but n (told control ∷ H) ≡ true
 goes_on_control H (Tick k) n h = each_still n (unfinished H) H (told (Tick k) ∷ H) (stand_control H (Tick k)) h
