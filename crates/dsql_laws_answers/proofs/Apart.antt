@@ -12,7 +12,7 @@ use Rattle.dsql_laws_calls.specs.pool.declared.conn.Place.TheVariants.{Idle, Len
 use Rattle.dsql_laws_calls.specs.pool.declared.moves.Move.{Move}
 use Rattle.dsql_laws_calls.specs.pool.Places.{conn_of, is_for, is_lent}
 use Rattle.dsql_laws_calls.specs.history.Readers.Pool.{smallest, is_home, or_none, pool, place, home}
-use Rattle.dsql_laws_calls.specs.history.Readers.Tries.{asks_again, tries}
+use Rattle.dsql_laws_calls.specs.history.Readers.Tries.{tries}
 use Rattle.dsql_laws_calls.proofs.laws.Wanted.{is_opening_for, found_counts}
 use Rattle.dsql_laws_calls.proofs.pool.Frees.{passing}
 use Rattle.dsql_laws_calls.proofs.Found.{place_in, uses_in}
@@ -31,9 +31,9 @@ use Rattle.dsql_laws_calls.specs.history.Readers.Lines.{has_sent}
 use Rattle.dsql_laws_calls.specs.history.Readers.Transactions.{is_begun, tx_end}
 use Rattle.dsql_laws_calls.specs.history.Readers.Unfinished.{unfinished, is_unfinished}
 use Rattle.dsql_laws_calls.specs.history.Readers.Works.{work, scope, borrower}
-use Rattle.dsql_laws_calls.specs.history.Rules.Line.{due_for, is_used}
+use Rattle.dsql_laws_calls.specs.history.Rules.Line.{is_used}
 use Rattle.dsql_laws_calls.specs.history.Rules.Settled.{is_in_use, is_kept, uses_what_is_lent}
-use Rattle.dsql_laws_calls.specs.history.Rules.Stands.{is_own_step, is_settled_for, has_to_reply, stand}
+use Rattle.dsql_laws_calls.specs.history.Rules.Stands.{is_own_step, is_settled_for, stand}
 use Rattle.dsql_laws_calls.specs.history.Legal.{Lawful}
 use Rattle.dsql_laws_callers.proofs.Homes.{home_owner}
 use Rattle.dsql_laws_calls.proofs.BeginningsAt.{beginnings}
@@ -44,7 +44,7 @@ use Rattle.dsql_laws_others.proofs.Homes.{HomeStays, HomeUnlent, HomesStay, due_
 use Rattle.dsql_laws_others.proofs.Leaves.{lent_used}
 use Rattle.dsql_laws_others.proofs.LentBeside.{LentAt, either_still, lent_or_not}
 use Rattle.dsql_laws_others.proofs.OnceLeft.{once}
-use Rattle.dsql_laws_others.proofs.Untouched.{standing, still_standing, has_still}
+use Rattle.dsql_laws_others.proofs.Untouched.{still_stands}
 use Rattle.dsql_laws_answers.proofs.Beside.{both_still}
 use Rattle.dsql_laws_answers.proofs.Layer.{Carried}
 
@@ -242,13 +242,8 @@ settled_apart H move c j u s h =
 
 stands_apart : (H : List Event) (move : Move) (c j : ℕ) → Unlent H move c → Left H move c j → is_some (stand H j) ≡ true → is_some (stand (Pool move ∷ H) j) ≡ true
 stands_apart H move c j u s h =
-    ap (λ ts. is_some (standing (waits j (pool K).waiting) (smallest (is_for j) (pool K)) (due_for K j) (site K j) (has_to_reply K j) (asks_again ts))) s.tried
-    ∙ still_standing (waits j (pool H).waiting) (waits j (pool K).waiting) (smallest (is_for j) (pool H)) (smallest (is_for j) (pool K)) (due_for H j) (due_for K j) (site H j) (site K j) (has_to_reply H j) (has_to_reply K j) (asks_again (tries H j))
-    s.waits (found_still H move c (is_for j) u s.unopened) (λ x. ap (λ d. is_some d) (due_moved H move j (homes_stay H move c u)) ∙ x)
-    (has_still (is_own_step K j) (is_own_step H j) (is_settled_for H j) (is_settled_for K j) (λ x. sym s.step ∙ x) (settled_apart H move c j u s)) h
-  where
-    K : List Event
-    K = Pool move ∷ H
+    still_stands H (Pool move ∷ H) j s.tried s.waits (found_still H move c (is_for j) u s.unopened) (λ x. ap (λ d. is_some d) (due_moved H move j (homes_stay H move c u)) ∙ x) (λ x. sym s.step ∙ x)
+    (settled_apart H move c j u s) h
 
 pub apart_carried : (H : List Event) (move : Move) (c : ℕ) → Unlent H move c → ((d t : ℕ) (o : Owner) → place H d ≡ Some (Lent t o) → tries (Pool move ∷ H) (number_of o) ≡ tries H (number_of o))
     → ((j : ℕ) → is_unfinished H j ≡ true → Left H move c j ⊎ (is_some (stand (Pool move ∷ H) j) ≡ true)) → Carried H (Pool move ∷ H)

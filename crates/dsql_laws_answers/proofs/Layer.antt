@@ -11,15 +11,14 @@ use Rattle.dsql_laws_calls.specs.journal.Kinds.{is_house}
 use Rattle.dsql_laws_calls.specs.numbered.Numbered.{thing_of}
 use Rattle.dsql_laws_calls.specs.rows.OpenRows.{rows_of}
 use Rattle.dsql_laws_calls.specs.tx.Transactions.{begun_on}
-use Rattle.dsql_laws_calls.specs.wait.Requests.{waits}
 use Rattle.dsql_laws_calls.specs.pool.declared.conn.Place.{Place}
 use Rattle.dsql_laws_calls.specs.pool.declared.conn.Place.TheVariants.{Idle, Lent, Opening, Closing}
-use Rattle.dsql_laws_calls.specs.pool.Places.{is_for, is_lent}
+use Rattle.dsql_laws_calls.specs.pool.Places.{is_lent}
 use Rattle.dsql_laws_calls.specs.pool.Pooled.{Pooled, next_tenure}
 use Rattle.dsql_laws_calls.specs.works.Line.{Asked}
 use Rattle.dsql_laws_calls.specs.history.Readers.HandedOut.{live, handed_out, rows_heard, are_live}
-use Rattle.dsql_laws_calls.specs.history.Readers.Pool.{smallest, pool, place, home}
-use Rattle.dsql_laws_calls.specs.history.Readers.Tries.{asks_again, lost, try_number, tries, loses, tries_again}
+use Rattle.dsql_laws_calls.specs.history.Readers.Pool.{pool, place, home}
+use Rattle.dsql_laws_calls.specs.history.Readers.Tries.{lost, try_number, tries, loses, tries_again}
 use Rattle.dsql_laws_calls.proofs.laws.Tests.{both, same_number, other_number}
 use Rattle.dsql_laws_calls.proofs.Lists.{same_or_not}
 use Rattle.dsql_laws_calls.proofs.laws_work.Rows.{row_at}
@@ -39,7 +38,7 @@ use Rattle.dsql_laws_calls.specs.history.Rules.Line.{due_for, is_used}
 use Rattle.dsql_laws_calls.specs.history.Rules.Moves.{is_house_entry, hears_in}
 use Rattle.dsql_laws_calls.specs.history.Rules.Sent.{line_of}
 use Rattle.dsql_laws_calls.specs.history.Rules.Settled.{is_kept, uses_what_is_lent, goes_on_but}
-use Rattle.dsql_laws_calls.specs.history.Rules.Stands.{is_own_step, is_settled_for, has_to_reply, stand}
+use Rattle.dsql_laws_calls.specs.history.Rules.Stands.{is_own_step, stand}
 use Rattle.dsql_laws_calls.specs.history.Legal.{Lawful}
 use Rattle.dsql_laws_calls.proofs.laws.Numbered.{some_calls, unfinished_from_one}
 use Rattle.dsql_laws_calls.proofs.BeginningsAt.{heard_other}
@@ -52,7 +51,7 @@ use Rattle.dsql_laws_calls.proofs.UnderWay.{clash}
 use Rattle.dsql_laws_others.proofs.Alike.{due_alike, used_alike, lent_alike, line_asked, ends_alike, closings_alike, same_tx_ender}
 use Rattle.dsql_laws_others.proofs.Homes.{no_line, no_ending}
 use Rattle.dsql_laws_others.proofs.LentBeside.{LentAt, lent_or_not}
-use Rattle.dsql_laws_others.proofs.Untouched.{standing, still_standing, has_still}
+use Rattle.dsql_laws_others.proofs.Untouched.{still_stands}
 use Rattle.dsql_laws_others.proofs.Settling.{each_stands}
 use Rattle.dsql_laws_answers.proofs.Beside.{Beside, late_same, sent_same, tried_same, settled_still}
 
@@ -196,19 +195,13 @@ rests_same H e n o = by (same_or_not n 0)
 
 stands_same : (H : List Event) (e : Entry) (m : ℕ) → OfLayer H e → m ≢ 0 → is_unfinished H m ≡ true → is_some (stand H m) ≡ true → is_some (stand (Heard e ∷ H) m) ≡ true
 stands_same H e m o number u h =
-    ap (λ ts. is_some (standing (waits m (pool H).waiting) (smallest (is_for m) (pool H)) (due_for K m) (site H m) (has_to_reply K m) (asks_again ts))) tried
-    ∙ still_standing (waits m (pool H).waiting) (waits m (pool H).waiting) (smallest (is_for m) (pool H)) (smallest (is_for m) (pool H)) (due_for H m) (due_for K m) (site H m) (site H m) (has_to_reply H m) (has_to_reply K m) (asks_again (tries H m))
-    (λ x. x) (λ x. x) (λ x. ap (λ d. is_some d) (due_same H e m o number) ∙ x)
-    (has_still (is_own_step K m) (is_own_step H m) (is_settled_for H m) (is_settled_for K m) (λ x. own_step x) (settled_still H e m b)) h
+    still_stands H K m (tried_same H e m b) (λ x. x) (λ x. x) (λ x. ap (λ d. is_some d) (due_same H e m o number) ∙ x) own_step (settled_still H e m b) h
   where
     K : List Event
     K = Heard e ∷ H
 
     b : Beside H e m
     b = record { other = other_than H e m o number; number = number; unfinished = u }
-
-    tried : tries K m ≡ tries H m
-    tried = tried_same H e m b
 
     own_step : is_own_step K m ≡ true → is_own_step H m ≡ true
     own_step x = clash (sym x ∙ other_number e.call_no m (other_than H e m o number))

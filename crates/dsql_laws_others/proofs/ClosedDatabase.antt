@@ -18,7 +18,7 @@ use Rattle.dsql_laws_calls.specs.pool.Places.{conn_of, is_for, is_lent}
 use Rattle.dsql_laws_calls.specs.history.declared.reply.DbEnd.{DbEnd}
 use Rattle.dsql_laws_calls.specs.history.declared.reply.DbEnd.TheVariants as ends
 use Rattle.dsql_laws_calls.specs.history.Readers.Pool.{is_home, smallest, pool, place, home}
-use Rattle.dsql_laws_calls.specs.history.Readers.Tries.{try_number, has_a_try, asks_again, tries, tries_again}
+use Rattle.dsql_laws_calls.specs.history.Readers.Tries.{try_number, has_a_try, tries, tries_again}
 use Rattle.dsql_laws_calls.proofs.laws.Truths.{or_first, or_second}
 use Rattle.dsql_laws_calls.proofs.laws.Places.{neither, none_opens}
 use Rattle.dsql_laws_calls.proofs.laws.Tests.{both, together, other_number}
@@ -30,7 +30,7 @@ use Rattle.dsql_laws_calls.specs.history.declared.event.Op.TheVariants.{DbClose}
 use Rattle.dsql_laws_calls.specs.history.declared.reply.Reply.TheVariants.{DbClosed}
 use Rattle.dsql_laws_calls.specs.history.declared.work.Scope.TheVariants.{Tx}
 use Rattle.dsql_laws_calls.specs.history.declared.work.Work.{Work}
-use Rattle.dsql_laws_calls.specs.history.Readers.Calls.{call_record, decided, done_with, has_begun_to_send, last_told, rests, rests_with, site, told_by_others, told_by_tries, told_in, told_of_work}
+use Rattle.dsql_laws_calls.specs.history.Readers.Calls.{call_record, decided, done_with, has_begun_to_send, last_told, rests, rests_with, told_by_others, told_by_tries, told_in, told_of_work}
 use Rattle.dsql_laws_calls.specs.history.Readers.Course.{db_end, or_end}
 use Rattle.dsql_laws_calls.specs.history.Readers.HandedOut.{is_late}
 use Rattle.dsql_laws_calls.specs.history.Readers.Journals.{journal}
@@ -42,7 +42,7 @@ use Rattle.dsql_laws_calls.specs.history.Rules.Ending.{ending}
 use Rattle.dsql_laws_calls.specs.history.Rules.Line.{due_for, is_used}
 use Rattle.dsql_laws_calls.specs.history.Rules.Sent.{line_at, line_of, closing}
 use Rattle.dsql_laws_calls.specs.history.Rules.Settled.{is_kept, uses_what_is_lent, goes_on, goes_on_but}
-use Rattle.dsql_laws_calls.specs.history.Rules.Stands.{is_own_step, is_settled_for, has_to_reply, stand}
+use Rattle.dsql_laws_calls.specs.history.Rules.Stands.{is_settled_for, stand}
 use Rattle.dsql_laws_calls.specs.history.Legal.{Lawful}
 use Rattle.dsql_laws_calls.specs.laws.OwedMade.{with_moves}
 use Rattle.dsql_laws_calls.proofs.laws.AtRest.{before_event, rested}
@@ -57,7 +57,7 @@ use Rattle.dsql_laws_others.proofs.Ending.{closed_quiet}
 use Rattle.dsql_laws_others.proofs.Entries.{next_work, same_borrower, concerned_old, over_old, first_push, rests_entered, asked_same}
 use Rattle.dsql_laws_others.proofs.Homes.{HomeStays, HomeUnlent, no_line, no_ending}
 use Rattle.dsql_laws_others.proofs.Openings.{silent}
-use Rattle.dsql_laws_others.proofs.Untouched.{still_standing, has_still}
+use Rattle.dsql_laws_others.proofs.Untouched.{still_stands}
 use Rattle.dsql_laws_others.proofs.Each.{told_each, each_entered}
 use Rattle.dsql_laws_others.proofs.Entered.{closing_new}
 use Rattle.dsql_laws_others.proofs.Leaves.{lent_used}
@@ -225,10 +225,9 @@ stand_shut H client n m l some apart h = by (wants m (pool H)) refl
     by true is = ap (λ s. is_some s) (shut_out_replies H client n m l some is)
     by false is =
         let none = neither (waits m (pool H).waiting) (list_any (λ conn. is_for m conn.place) (pool H).conns) is in
-        still_standing (waits m (pool H).waiting) (waits m (pool K).waiting) (smallest (is_for m) (pool H)) (smallest (is_for m) (pool K)) (due_for H m) (due_for K m) (site H m) (site K m) (has_to_reply H m) (has_to_reply K m) (asks_again (tries H m))
-        (λ k. absurd (true_false (waits m (pool H).waiting) k none.0)) (λ k. absurd (true_false (is_some (smallest (is_for m) (pool H))) k (ap (λ o. is_some o) (none_opens m (pool H) none.1))))
+        still_stands H K m refl (λ k. absurd (true_false (waits m (pool H).waiting) k none.0)) (λ k. absurd (true_false (is_some (smallest (is_for m) (pool H))) k (ap (λ o. is_some o) (none_opens m (pool H) none.1))))
         (λ k. ap (λ d. is_some d) (other_due H client n m l apart) ∙ k)
-        (has_still (is_own_step K m) (is_own_step H m) (is_settled_for H m) (is_settled_for K m) (λ k. absurd (true_false (n == m) k (other_number n m (λ same. apart (sym same))))) (settled_shut H client n m l apart is)) h
+        (λ k. absurd (true_false (n == m) k (other_number n m (λ same. apart (sym same))))) (settled_shut H client n m l apart is) h
 
 each_shut : (H : List Event) (client n : ℕ) → Lawful (closes_it H client n) → goes_on H ≡ true → goes_on_but n (closes_it H client n) ≡ true
 each_shut H client n l h = each_entered H client n DbClose (λ m u some apart. stand_shut H client n m l some apart) l.0 h

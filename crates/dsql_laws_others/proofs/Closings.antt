@@ -3,7 +3,6 @@ use Rattle.std.proofs.Common.{◌≡◌, ℕ, ◌==◌, Bool, true, false, ◌&&
 use Rattle.std.specs.Prelude.{find}
 use Rattle.std.specs.List.{list_all}
 use Rattle.std.specs.Option.{option_map, option_map_or}
-use Rattle.dsql_laws_calls.specs.wait.Requests.{waits}
 use Rattle.dsql_laws_calls.specs.pool.declared.conn.Conn.{Conn}
 use Rattle.dsql_laws_calls.specs.pool.declared.conn.Place.TheVariants.{Idle, Closing}
 use Rattle.dsql_laws_calls.specs.pool.declared.moves.CloseCause.{CloseCause}
@@ -12,21 +11,20 @@ use Rattle.dsql_laws_calls.specs.pool.Changes.{changed, closing}
 use Rattle.dsql_laws_calls.specs.pool.Places.{conn_of, is_for, is_lent}
 use Rattle.dsql_laws_calls.proofs.pool.Found.{found_changed, found_beside}
 use Rattle.dsql_laws_calls.specs.history.Readers.Pool.{is_home, smallest, pool, place, home}
-use Rattle.dsql_laws_calls.specs.history.Readers.Tries.{asks_again, tries}
 use Rattle.dsql_laws_calls.proofs.laws.Tests.{same_number}
 use Rattle.dsql_laws_calls.specs.history.declared.event.Event.{Event}
 use Rattle.dsql_laws_calls.specs.history.declared.event.Event.TheVariants.{Pool}
 use Rattle.dsql_laws_calls.specs.history.Readers.Course.{caps}
-use Rattle.dsql_laws_calls.specs.history.Readers.Calls.{site, decided, told_by_others, rests, rests_with}
+use Rattle.dsql_laws_calls.specs.history.Readers.Calls.{decided, told_by_others, rests, rests_with}
 use Rattle.dsql_laws_calls.specs.history.Readers.Journals.{journal}
 use Rattle.dsql_laws_calls.specs.history.Readers.Lines.{has_sent}
 use Rattle.dsql_laws_calls.specs.history.Readers.Unfinished.{unfinished}
 use Rattle.dsql_laws_calls.specs.history.Readers.Works.{borrower}
 use Rattle.dsql_laws_calls.specs.history.Rules.Line.{due_for}
 use Rattle.dsql_laws_calls.specs.history.Rules.Settled.{is_in_use, uses_what_is_lent, goes_on_but}
-use Rattle.dsql_laws_calls.specs.history.Rules.Stands.{is_own_step, is_settled_for, has_to_reply, stand}
+use Rattle.dsql_laws_calls.specs.history.Rules.Stands.{is_settled_for, stand}
 use Rattle.dsql_laws_others.proofs.Alike.{in_use_alike, all_alike}
-use Rattle.dsql_laws_others.proofs.Untouched.{still_standing, has_still, each_still}
+use Rattle.dsql_laws_others.proofs.Untouched.{each_still, still_stands}
 use Rattle.dsql_laws_others.proofs.Homes.{HomeStays, HomeUnlent, due_moved, used_moved, told_still}
 use Rattle.dsql_laws_others.proofs.Openings.{number_or}
 
@@ -143,14 +141,11 @@ stand_closes : (H : List Event) (c : ℕ) (why : CloseCause) (m : ℕ) → place
 stand_closes H c why m at h =
     let p = pool H in
     let K = closes_at H c why in
-    let w = waits m p.waiting in
     let f = found_idle c p.conns (conn_of c p.conns) refl at in
     let opening : smallest (is_for m) (pool K) ≡ smallest (is_for m) p =
     ap (option_map (λ conn. conn.number)) (same_find (λ conn. is_for m conn.place) c p.conns f.it (λ y. refl) (no_opening m) f.is f.idle)
     in
-    still_standing w w (smallest (is_for m) p) (smallest (is_for m) (pool K)) (due_for H m) (due_for K m) (site H m) (site K m) (has_to_reply H m) (has_to_reply K m) (asks_again (tries H m)) (λ x. x)
-    (λ x. ap (λ o. is_some o) opening ∙ x) (λ x. ap (λ d. is_some d) (due_closes H c why m at) ∙ x)
-    (has_still (is_own_step H m) (is_own_step H m) (is_settled_for H m) (is_settled_for K m) (λ x. x) (settled_closes H c why m at)) h
+    still_stands H K m refl (λ x. x) (λ x. ap (λ o. is_some o) opening ∙ x) (λ x. ap (λ d. is_some d) (due_closes H c why m at) ∙ x) (λ x. x) (settled_closes H c why m at) h
 
 pub goes_on_closes : (H : List Event) (c : ℕ) (why : CloseCause) (n : ℕ) → place H c ≡ Some Idle → goes_on_but n H ≡ true → goes_on_but n (closes_at H c why) ≡ true
 goes_on_closes H c why n at h = each_still n (unfinished H) H (closes_at H c why) (λ m. stand_closes H c why m at) h

@@ -24,10 +24,10 @@ use Rattle.dsql_laws_calls.specs.works.Line.{Asked}
 use Rattle.dsql_laws_calls.specs.history.declared.record.Try.{Try}
 use Rattle.dsql_laws_calls.specs.history.Readers.HandedOut.{live, over, handed_out, rows_by, are_over, is_late}
 use Rattle.dsql_laws_calls.specs.history.Readers.Pool.{is_home, or_none, smallest, pool, place, home}
-use Rattle.dsql_laws_calls.specs.history.Readers.Tries.{try_number, has_a_try, asks_again, tries, tries_again}
+use Rattle.dsql_laws_calls.specs.history.Readers.Tries.{try_number, has_a_try, tries, tries_again}
 use Rattle.dsql_laws_calls.proofs.laws.Tests.{together, other_number, same_itself}
 use Rattle.dsql_laws_calls.proofs.Lists.{within_rows}
-use Rattle.dsql_laws_others.proofs.Untouched.{still_standing, has_still}
+use Rattle.dsql_laws_others.proofs.Untouched.{still_stands}
 use Rattle.dsql_laws_calls.specs.history.declared.event.Event.{Event}
 use Rattle.dsql_laws_calls.specs.history.declared.event.Event.TheVariants.{Entered}
 use Rattle.dsql_laws_calls.specs.history.declared.event.Op.{Op}
@@ -39,7 +39,7 @@ use Rattle.dsql_laws_calls.specs.history.declared.work.Scope.TheVariants.{Db, Tx
 use Rattle.dsql_laws_calls.specs.history.declared.work.Work.{Work}
 use Rattle.dsql_laws_calls.specs.history.declared.work.Work.TheVariants.{Execute, ReadOne, HandOut, Begin, End, Ping, Fetch, Close, Look}
 use Rattle.dsql_laws_calls.specs.history.Readers.Course.{caps, db_end}
-use Rattle.dsql_laws_calls.specs.history.Readers.Calls.{call_record, site, decided, has_begun_to_send, done_with, told_by_tries, told_in, told_of_work, told_by_others, last_told, asks_nothing, rests, rests_with}
+use Rattle.dsql_laws_calls.specs.history.Readers.Calls.{call_record, decided, has_begun_to_send, done_with, told_by_tries, told_in, told_of_work, told_by_others, last_told, asks_nothing, rests, rests_with}
 use Rattle.dsql_laws_calls.specs.history.Readers.Journals.{journal}
 use Rattle.dsql_laws_calls.specs.history.Readers.Lines.{has_sent}
 use Rattle.dsql_laws_calls.specs.history.Readers.Transactions.{transactions, tx_by, end_of, tx_end, goes_on}
@@ -49,7 +49,7 @@ use Rattle.dsql_laws_calls.specs.history.Rules.Ending.{first_closing, ending}
 use Rattle.dsql_laws_calls.specs.history.Rules.Line.{due_for, is_used}
 use Rattle.dsql_laws_calls.specs.history.Rules.Sent.{line_at, line_of, closing}
 use Rattle.dsql_laws_calls.specs.history.Rules.Settled.{is_in_use, is_kept, uses_what_is_lent, goes_on_but}
-use Rattle.dsql_laws_calls.specs.history.Rules.Stands.{is_own_step, is_settled_for, has_to_reply, stand}
+use Rattle.dsql_laws_calls.specs.history.Rules.Stands.{is_own_step, is_settled_for, stand}
 use Rattle.dsql_laws_calls.specs.history.Legal.{Lawful}
 use Rattle.dsql_laws_callers.proofs.Works.{RefersWithin, refers_within, borrower_stays}
 use Rattle.dsql_laws_calls.proofs.Works.{enters_next, old_record, old_work, old_unfinished}
@@ -291,9 +291,8 @@ stand_entered H client n op m l plain apart h =
     let K = Entered client n op ∷ H in
     let k = leaves H client n op plain in
     let own : is_own_step K m ≡ false = other_number n m (λ same. apart (sym same)) in
-    still_standing (waits m (pool H).waiting) (waits m (pool K).waiting) (smallest (is_for m) (pool H)) (smallest (is_for m) (pool K)) (due_for H m) (due_for K m) (site H m) (site K m) (has_to_reply H m) (has_to_reply K m) (asks_again (tries H m))
-    (λ x. ap (λ (p : Pooled). waits m p.waiting) k.pool ∙ x) (λ x. ap (λ p. is_some (smallest (is_for m) p)) k.pool ∙ x) (λ x. ap (λ d. is_some d) (due_entered H client n op m l plain apart) ∙ x)
-    (has_still (is_own_step K m) (is_own_step H m) (is_settled_for H m) (is_settled_for K m) (λ x. absurd (never (sym own ∙ x))) (λ x. settled_entered H client n op m l k apart ∙ x)) h
+    still_stands H K m refl (λ x. ap (λ (p : Pooled). waits m p.waiting) k.pool ∙ x) (λ x. ap (λ p. is_some (smallest (is_for m) p)) k.pool ∙ x) (λ x. ap (λ d. is_some d) (due_entered H client n op m l plain apart) ∙ x)
+    (λ x. absurd (never (sym own ∙ x))) (λ x. settled_entered H client n op m l k apart ∙ x) h
   where
     never : false ≡ true → ⊥
     never x = cc

@@ -19,10 +19,9 @@ use Rattle.dsql_laws_calls.specs.pool.declared.moves.Outcome.{Outcome}
 use Rattle.dsql_laws_calls.specs.pool.declared.moves.Outcome.TheVariants.{Closes, Serves, Rests}
 use Rattle.dsql_laws_calls.specs.pool.Changes.{back, closing}
 use Rattle.dsql_laws_calls.specs.pool.Decisions.{lends_to_oldest, moves_back, when_given_back}
-use Rattle.dsql_laws_calls.specs.pool.Places.{conn_of, is_for, is_lent}
+use Rattle.dsql_laws_calls.specs.pool.Places.{conn_of, is_lent}
 use Rattle.dsql_laws_calls.specs.pool.Pooled.{next_tenure}
 use Rattle.dsql_laws_calls.specs.history.Readers.Pool.{is_home, smallest, pool, place, home}
-use Rattle.dsql_laws_calls.specs.history.Readers.Tries.{asks_again, tries}
 use Rattle.dsql_laws_calls.proofs.laws.Tests.{both, same_itself}
 use Rattle.dsql_laws_calls.proofs.Cases.{true_false}
 use Rattle.dsql_laws_calls.proofs.Found.{place_in}
@@ -32,14 +31,14 @@ use Rattle.dsql_laws_others.proofs.Once.{all_found}
 use Rattle.dsql_laws_others.proofs.Settling.{each_stands}
 use Rattle.dsql_laws_calls.specs.history.declared.event.Event.{Event}
 use Rattle.dsql_laws_calls.specs.history.declared.event.Event.TheVariants.{Pool}
-use Rattle.dsql_laws_calls.specs.history.Readers.Calls.{asks_nothing, decided, rests, rests_with, site, told_by_others}
+use Rattle.dsql_laws_calls.specs.history.Readers.Calls.{asks_nothing, decided, rests, rests_with, told_by_others}
 use Rattle.dsql_laws_calls.specs.history.Readers.Course.{caps}
 use Rattle.dsql_laws_calls.specs.history.Readers.Owed.{fate, given_back, left_of, owed}
 use Rattle.dsql_laws_calls.specs.history.Readers.Unfinished.{unfinished, is_unfinished}
 use Rattle.dsql_laws_calls.specs.history.Readers.Works.{work, borrower}
-use Rattle.dsql_laws_calls.specs.history.Rules.Line.{due_for, is_used}
+use Rattle.dsql_laws_calls.specs.history.Rules.Line.{is_used}
 use Rattle.dsql_laws_calls.specs.history.Rules.Settled.{is_in_use, is_kept, uses_what_is_lent, goes_on_but}
-use Rattle.dsql_laws_calls.specs.history.Rules.Stands.{is_own_step, is_settled_for, has_to_reply, stand}
+use Rattle.dsql_laws_calls.specs.history.Rules.Stands.{is_own_step, is_settled_for, stand}
 use Rattle.dsql_laws_calls.specs.history.Legal.{Lawful}
 use Rattle.dsql_laws_calls.specs.laws.Leaving.{MayLeave}
 use Rattle.dsql_laws_calls.specs.laws.OwedMade.{with_moves}
@@ -51,7 +50,7 @@ use Rattle.dsql_laws_others.proofs.Homes.{told_still}
 use Rattle.dsql_laws_others.proofs.LentBeside.{all_used}
 use Rattle.dsql_laws_others.proofs.LentStands.{somewhere_lent}
 use Rattle.dsql_laws_others.proofs.Lends.{lent_some}
-use Rattle.dsql_laws_others.proofs.Untouched.{standing, still_standing, has_still}
+use Rattle.dsql_laws_others.proofs.Untouched.{still_stands}
 use Rattle.dsql_laws_others.specs.Beside.{UsedBeside}
 use Rattle.dsql_laws_others.proofs.Left.{Leaving, conn_beside, conn_after, same_opening, same_home, lines_off, ending_left, due_left, fewer_sent}
 use Rattle.dsql_laws_others.proofs.OnceLeft.{once}
@@ -128,11 +127,8 @@ settled_left H m x n stays h =
 
 stand_left : (H : List Event) (m : Move) (x : Leaving H m) (n : ℕ) → n ≢ 0 → StaysHome H m x n → is_some (stand H n) ≡ true → is_some (stand (Pool m ∷ H) n) ≡ true
 stand_left H m x n some stays h =
-    let K = Pool m ∷ H in
-    ap (λ ts. is_some (standing (waits n (pool K).waiting) (smallest (is_for n) (pool K)) (due_for K n) (site K n) (has_to_reply K n) (asks_again ts))) (x.tried n)
-    ∙ still_standing (waits n (pool H).waiting) (waits n (pool K).waiting) (smallest (is_for n) (pool H)) (smallest (is_for n) (pool K)) (due_for H n) (due_for K n) (site H n) (site K n) (has_to_reply H n) (has_to_reply K n) (asks_again (tries H n))
-    (λ k. ap (waits n) x.waiting ∙ k) (λ k. ap (λ o. is_some o) (same_opening H m x n) ∙ k) (λ k. ap (λ d. is_some d) (due_left H m x n some) ∙ k)
-    (has_still (is_own_step K n) (is_own_step H n) (is_settled_for H n) (is_settled_for K n) (λ k. sym (x.own n) ∙ k) (settled_left H m x n stays)) h
+    still_stands H (Pool m ∷ H) n (x.tried n) (λ k. ap (waits n) x.waiting ∙ k) (λ k. ap (λ o. is_some o) (same_opening H m x n) ∙ k) (λ k. ap (λ d. is_some d) (due_left H m x n some) ∙ k)
+    (λ k. sym (x.own n) ∙ k) (settled_left H m x n stays) h
 
 -- A history in which all is settled as before. If each lent connection except c was in use, each one is now. Each call
 -- stands somewhere as before, except call n if it rested with c.

@@ -5,7 +5,6 @@ use Rattle.std.specs.Option.{option_map}
 use Rattle.dsql_laws_calls.specs.journal.declared.entry.Owner.{Owner}
 use Rattle.dsql_laws_calls.specs.journal.Kinds.{number_of}
 use Rattle.dsql_laws_calls.specs.journal.Readers.{is_empty}
-use Rattle.dsql_laws_calls.specs.wait.Requests.{waits}
 use Rattle.dsql_laws_calls.specs.pool.declared.conn.Conn.{Conn}
 use Rattle.dsql_laws_calls.specs.pool.declared.conn.Place.{Place}
 use Rattle.dsql_laws_calls.specs.pool.declared.conn.Place.TheVariants.{Idle, Lent, Opening, Closing}
@@ -13,13 +12,13 @@ use Rattle.dsql_laws_calls.specs.pool.Changes.{lent, changed}
 use Rattle.dsql_laws_calls.specs.pool.Places.{conn_of, is_for}
 use Rattle.dsql_laws_calls.specs.history.declared.record.Try.TheVariants.{Served}
 use Rattle.dsql_laws_calls.specs.history.Readers.Pool.{is_home, or_none, smallest, pool, place, home}
-use Rattle.dsql_laws_calls.specs.history.Readers.Tries.{with_try, asks_again, tries}
+use Rattle.dsql_laws_calls.specs.history.Readers.Tries.{with_try, tries}
 use Rattle.dsql_laws_calls.proofs.laws.Tests.{same_number, other_number}
 use Rattle.dsql_laws_calls.proofs.Lists.{same_or_not}
 use Rattle.dsql_laws_others.proofs.Lends.{still_waits, lends, lent_unbegun, stands_lent}
 use Rattle.dsql_laws_others.proofs.Meant.{is_meant, meant}
 use Rattle.dsql_laws_others.proofs.Settling.{each_stands}
-use Rattle.dsql_laws_others.proofs.Untouched.{standing, still_standing, has_still}
+use Rattle.dsql_laws_others.proofs.Untouched.{still_stands}
 use Rattle.dsql_laws_calls.specs.history.declared.event.Event.{Event}
 use Rattle.dsql_laws_calls.specs.history.declared.work.Scope.{Scope}
 use Rattle.dsql_laws_calls.specs.history.declared.work.Scope.TheVariants.{Db, Tx}
@@ -32,9 +31,8 @@ use Rattle.dsql_laws_calls.specs.history.Readers.Owed.{owed}
 use Rattle.dsql_laws_calls.specs.history.Readers.Transactions.{is_begun, tx_end}
 use Rattle.dsql_laws_calls.specs.history.Readers.Unfinished.{unfinished}
 use Rattle.dsql_laws_calls.specs.history.Readers.Works.{work, scope, borrower}
-use Rattle.dsql_laws_calls.specs.history.Rules.Line.{due_for}
 use Rattle.dsql_laws_calls.specs.history.Rules.Settled.{goes_on, goes_on_but}
-use Rattle.dsql_laws_calls.specs.history.Rules.Stands.{is_own_step, is_settled_for, has_to_reply, stand}
+use Rattle.dsql_laws_calls.specs.history.Rules.Stands.{is_own_step, is_settled_for, stand}
 use Rattle.dsql_laws_calls.specs.history.Legal.{Lawful}
 use Rattle.dsql_laws_calls.proofs.laws.Tried.{lends_to}
 use Rattle.dsql_laws_calls.proofs.Inside.{inside_uses}
@@ -144,11 +142,8 @@ own_still H c t own n m apart h = by (is_empty (owed H)) (sym (ap (λ b. cond (i
 
 pub stand_other : (H : List Event) (c t : ℕ) (own : Owner) (n m : ℕ) → Lawful (lends H c t own n) → m ≢ n → is_some (stand H m) ≡ true → is_some (stand (lends H c t own n) m) ≡ true
 stand_other H c t own n m l apart h =
-    let K = lends H c t own n in
-    ap (λ ts. is_some (standing (waits m (pool K).waiting) (smallest (is_for m) (pool K)) (due_for K m) (site K m) (has_to_reply K m) (asks_again ts))) (tries_same H c t own n m apart)
-    ∙ still_standing (waits m (pool H).waiting) (waits m (pool K).waiting) (smallest (is_for m) (pool H)) (smallest (is_for m) (pool K)) (due_for H m) (due_for K m) (site H m) (site K m) (has_to_reply H m) (has_to_reply K m) (asks_again (tries H m))
-    (still_waits m n (pool H).waiting apart) (λ x. ap (λ o. is_some o) (opening_same H c t own n m l apart) ∙ x) (λ x. ap (λ d. is_some d) (due_others H c t own n m l apart) ∙ x)
-    (has_still (is_own_step K m) (is_own_step H m) (is_settled_for H m) (is_settled_for K m) (own_still H c t own n m apart) (settled_lent H c t own n m l apart)) h
+    still_stands H (lends H c t own n) m (tries_same H c t own n m apart) (still_waits m n (pool H).waiting apart) (λ x. ap (λ o. is_some o) (opening_same H c t own n m l apart) ∙ x)
+    (λ x. ap (λ d. is_some d) (due_others H c t own n m l apart) ∙ x) (own_still H c t own n m apart) (settled_lent H c t own n m l apart) h
 
 some_stand : (H : List Event) (c t : ℕ) (own : Owner) (n m : ℕ) → Lawful (lends H c t own n) → (rests (lends H c t own n) n ≡ true → is_own_step (lends H c t own n) n ≡ false) → (m ≢ n → is_some (stand H m) ≡ true) → is_some (stand (lends H c t own n) m) ≡ true
 some_stand H c t own n m l step so = by (same_or_not m n)

@@ -17,7 +17,7 @@ use Rattle.dsql_laws_calls.specs.pool.Pooled.{Pooled, next_number}
 use Rattle.dsql_laws_calls.specs.history.Readers.Tries.{asks_again, tries}
 use Rattle.dsql_laws_calls.specs.history.declared.record.Stand.TheVariants as stands_at
 use Rattle.dsql_laws_calls.specs.history.Readers.Pool.{is_home, or_none, smallest, pool, place, home, wanted_by}
-use Rattle.dsql_laws_calls.specs.history.Rules.Stands.{stands, opens, is_own_step, is_settled_for, has_to_reply, stand}
+use Rattle.dsql_laws_calls.specs.history.Rules.Stands.{stands, opens, is_settled_for, has_to_reply, stand}
 use Rattle.dsql_laws_calls.proofs.laws.Tests.{other_number, same_itself}
 use Rattle.dsql_laws_calls.specs.history.declared.event.Event.{Event}
 use Rattle.dsql_laws_calls.specs.history.declared.event.Event.TheVariants.{Pool}
@@ -25,7 +25,7 @@ use Rattle.dsql_laws_calls.specs.history.Readers.Unfinished.{unfinished}
 use Rattle.dsql_laws_calls.specs.history.Rules.Settled.{is_in_use, uses_what_is_lent, goes_on_but, goes_on}
 use Rattle.dsql_laws_others.proofs.Numbers.{none_zero, none_next}
 use Rattle.dsql_laws_calls.specs.history.declared.record.Stand.{Stand}
-use Rattle.dsql_laws_others.proofs.Untouched.{still_standing, has_still, each_still}
+use Rattle.dsql_laws_others.proofs.Untouched.{each_still, still_stands}
 use Rattle.dsql_laws_calls.specs.history.declared.work.Work.{Work}
 use Rattle.dsql_laws_calls.specs.history.declared.work.Work.TheVariants.{Execute, ReadOne, HandOut, Begin, End, Ping, Fetch, Close, Look}
 use Rattle.dsql_laws_calls.specs.history.Readers.Course.{caps}
@@ -258,13 +258,11 @@ stand_opens : (H : List Event) (c k m : ℕ) → Silent H → is_some (stand H m
 stand_opens H c k m l h =
     let p = pool H in
     let K = opens_for H c k in
-    let w = waits m p.waiting in
     let more : is_some (smallest (is_for m) p) ≡ true → is_some (smallest (is_for m) (pool K)) ≡ true =
     λ some. some_number (find (λ conn. is_for m conn.place) (p.conns ++ opening (next_number p) (wanted_by H k) ∷ []))
     ∙ found_more (λ conn. is_for m conn.place) p.conns (opening (next_number p) (wanted_by H k)) (sym (some_number (find (λ conn. is_for m conn.place) p.conns)) ∙ some)
     in
-    still_standing w w (smallest (is_for m) p) (smallest (is_for m) (pool K)) (due_for H m) (due_for K m) (site H m) (site K m) (has_to_reply H m) (has_to_reply K m) (asks_again (tries H m)) (λ x. x) more
-    (λ x. ap (λ d. is_some d) (due_opens H c k m) ∙ x) (has_still (is_own_step H m) (is_own_step H m) (is_settled_for H m) (is_settled_for K m) (λ x. x) (settled_opens H c k m l)) h
+    still_stands H K m refl (λ x. x) more (λ x. ap (λ d. is_some d) (due_opens H c k m) ∙ x) (λ x. x) (settled_opens H c k m l) h
 
 own_for : (w : Work) (n : ℕ) → is_for n (Opening (Some (owner_as w n))) ≡ true
 own_for (Begin label level read_only) n = same_itself n

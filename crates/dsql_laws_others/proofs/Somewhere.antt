@@ -2,7 +2,6 @@
 -- due for that call, or its reply is settled.
 use Rattle.std.proofs.Common.{◌≡◌, ◌≢◌, ℕ, ◌⊎◌, inl, inr, Bool, true, false, not, ◌&&◌, ◌||◌, cond, List, Option, Some, None, is_some, is_none, refl, sym, ap, ◌∙◌}
 use Rattle.std.specs.Option.{option_map}
-use Rattle.dsql_laws_calls.specs.driver.declared.call.DriverCall.{DriverCall}
 use Rattle.dsql_laws_calls.specs.wait.Requests.{waits}
 use Rattle.dsql_laws_calls.specs.pool.Places.{is_for}
 use Rattle.dsql_laws_calls.specs.pool.Pooled.{Pooled}
@@ -27,7 +26,7 @@ use Rattle.dsql_laws_calls.specs.history.Rules.Stands.{is_own_step, is_settled_f
 use Rattle.dsql_laws_calls.proofs.Begun.{stays_over}
 use Rattle.dsql_laws_calls.proofs.EndedRows.{rows_kept}
 use Rattle.dsql_laws_others.proofs.Entries.{rests_entered}
-use Rattle.dsql_laws_others.proofs.Untouched.{standing}
+use Rattle.dsql_laws_others.proofs.Untouched.{goes_or_told}
 use Rattle.dsql_laws_others.proofs.Each.{told_each, each_entered}
 use Rattle.dsql_laws_others.proofs.Entered.{Enters, enters, Told, kept_work, kept_decided, kept_sent, due_on}
 
@@ -76,23 +75,6 @@ settled_on H client n op m x apart h = by (is_some (rests_with H m)) refl h
         tells H client n op m x apart (record { undecided = b.0; told = told_on H client n op m (work H m) x apart b.1 })
 
 -- So each other call stands somewhere.
-
--- A call for which something was due stands somewhere if something is still due or its reply is settled.
-pub goes_or_told : (v w : Bool) (o p : Option ℕ) (d e : Option DriverCall) (a b : ℕ) (r s g : Bool) → (v ≡ true → w ≡ true) → (is_some o ≡ true → is_some p ≡ true) → (is_some d ≡ true → (is_some e ≡ true) ⊎ (s ≡ true)) → (r ≡ true → s ≡ true)
-    → is_some (standing v o d a r g) ≡ true → is_some (standing w p e b s g) ≡ true
-goes_or_told v true o p d e a b r s g wait opening due reply h = refl
-goes_or_told true false o p d e a b r s g wait opening due reply h = let clash : false ≡ true = wait refl in absurd cc
-goes_or_told false false o (Some c) d e a b r s g wait opening due reply h = refl
-goes_or_told false false (Some c) None d e a b r s g wait opening due reply h = let clash : false ≡ true = opening refl in absurd cc
-goes_or_told false false None None d (Some q) a b r s g wait opening due reply h = refl
-goes_or_told false false None None d None a b r true g wait opening due reply h = refl
-goes_or_told false false None None (Some q) None a b r false g wait opening due reply h = neither (due refl)
-  where
-    neither : {A : Type 0} → (false ≡ true) ⊎ (false ≡ true) → A
-    neither (inl x) = absurd cc
-    neither (inr x) = absurd cc
-goes_or_told false false None None None None a b true false g wait opening due reply h = let clash : false ≡ true = reply refl in absurd cc
-goes_or_told false false None None None None a b false false g wait opening due reply h = h
 
 stand_on : (H : List Event) (client n : ℕ) (op : Op) (m : ℕ) → Enters H client n op → m ≢ n → is_unfinished H m ≡ true → is_some (stand H m) ≡ true → is_some (stand (enters H client n op) m) ≡ true
 stand_on H client n op m x apart u h =

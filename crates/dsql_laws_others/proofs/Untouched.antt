@@ -224,18 +224,22 @@ standing waiting opening due there replies again =
     or_else (stands waiting stands_at.Waits)
     (or_else (opens opening) (or_else (stands (is_some due) (stands_at.Sends there)) (or_else (stands replies stands_at.Replies) (stands again stands_at.Asks))))
 
--- A call still stands somewhere if each reason for that stays.
-pub still_standing : (v w : Bool) (o p : Option ℕ) (d e : Option DriverCall) (a b : ℕ) (r s g : Bool) → (v ≡ true → w ≡ true) → (is_some o ≡ true → is_some p ≡ true) → (is_some d ≡ true → is_some e ≡ true) → (r ≡ true → s ≡ true)
+-- A call for which something was due stands somewhere if something is still due or its reply is settled.
+pub goes_or_told : (v w : Bool) (o p : Option ℕ) (d e : Option DriverCall) (a b : ℕ) (r s g : Bool) → (v ≡ true → w ≡ true) → (is_some o ≡ true → is_some p ≡ true) → (is_some d ≡ true → (is_some e ≡ true) ⊎ (s ≡ true)) → (r ≡ true → s ≡ true)
     → is_some (standing v o d a r g) ≡ true → is_some (standing w p e b s g) ≡ true
-still_standing v true o p d e a b r s g wait opening due reply h = refl
-still_standing true false o p d e a b r s g wait opening due reply h = let clash : false ≡ true = wait refl in absurd cc
-still_standing false false o (Some c) d e a b r s g wait opening due reply h = refl
-still_standing false false (Some c) None d e a b r s g wait opening due reply h = let clash : false ≡ true = opening refl in absurd cc
-still_standing false false None None d (Some q) a b r s g wait opening due reply h = refl
-still_standing false false None None (Some q) None a b r s g wait opening due reply h = let clash : false ≡ true = due refl in absurd cc
-still_standing false false None None None None a b r true g wait opening due reply h = refl
-still_standing false false None None None None a b true false g wait opening due reply h = let clash : false ≡ true = reply refl in absurd cc
-still_standing false false None None None None a b false false g wait opening due reply h = h
+goes_or_told v true o p d e a b r s g wait opening due reply h = refl
+goes_or_told true false o p d e a b r s g wait opening due reply h = let clash : false ≡ true = wait refl in absurd cc
+goes_or_told false false o (Some c) d e a b r s g wait opening due reply h = refl
+goes_or_told false false (Some c) None d e a b r s g wait opening due reply h = let clash : false ≡ true = opening refl in absurd cc
+goes_or_told false false None None d (Some q) a b r s g wait opening due reply h = refl
+goes_or_told false false None None d None a b r true g wait opening due reply h = refl
+goes_or_told false false None None (Some q) None a b r false g wait opening due reply h = neither (due refl)
+  where
+    neither : {A : Type 0} → (false ≡ true) ⊎ (false ≡ true) → A
+    neither (inl x) = absurd cc
+    neither (inr x) = absurd cc
+goes_or_told false false None None None None a b true false g wait opening due reply h = let clash : false ≡ true = reply refl in absurd cc
+goes_or_told false false None None None None a b false false g wait opening due reply h = h
 
 -- A call that has to reply still has to after an event. Its settled reply has to stay settled, and the event may not
 -- put it into a step of its own.
@@ -248,6 +252,14 @@ has_still true now was is step more h = let k : now ≡ true = step refl in absu
 has_still false true was is step more h = absurd cc
 has_still false false was is step more h = more h
 
+-- A call still stands somewhere if each reason for that stays.
+pub still_stands : (H K : List Event) (m : ℕ) → tries K m ≡ tries H m → (waits m (pool H).waiting ≡ true → waits m (pool K).waiting ≡ true) → (is_some (smallest (is_for m) (pool H)) ≡ true → is_some (smallest (is_for m) (pool K)) ≡ true)
+    → (is_some (due_for H m) ≡ true → is_some (due_for K m) ≡ true) → (is_own_step K m ≡ true → is_own_step H m ≡ true) → (is_settled_for H m ≡ true → is_settled_for K m ≡ true) → is_some (stand H m) ≡ true → is_some (stand K m) ≡ true
+still_stands H K m tried waiting opening due step settled h =
+    ap (λ ts. is_some (standing (waits m (pool K).waiting) (smallest (is_for m) (pool K)) (due_for K m) (site K m) (has_to_reply K m) (asks_again ts))) tried
+    ∙ goes_or_told (waits m (pool H).waiting) (waits m (pool K).waiting) (smallest (is_for m) (pool H)) (smallest (is_for m) (pool K)) (due_for H m) (due_for K m) (site H m) (site K m) (has_to_reply H m) (has_to_reply K m) (asks_again (tries H m))
+    waiting opening (λ x. inl (due x)) (has_still (is_own_step K m) (is_own_step H m) (is_settled_for H m) (is_settled_for K m) step settled) h
+
 settled_replied : (H : List Event) (n : ℕ) (reply : Reply) (m : ℕ) → m ≢ n → is_settled_for (Replied n reply ∷ H) m ≡ is_settled_for H m
 settled_replied H n reply m apart =
     ap (λ b. is_some (cond b (smallest (is_home m) (pool H)) None) || (is_none (decided (Replied n reply ∷ H) m) && is_some (told_by_others H m))) (rests_replied H n reply m apart)
@@ -255,38 +267,14 @@ settled_replied H n reply m apart =
 
 stand_replied : (H : List Event) (n : ℕ) (reply : Reply) (m : ℕ) → m ≢ n → is_some (stand H m) ≡ true → is_some (stand (Replied n reply ∷ H) m) ≡ true
 stand_replied H n reply m apart h =
-    let K = Replied n reply ∷ H in
-    let w = waits m (pool H).waiting in
-    let o = smallest (is_for m) (pool H) in
-    still_standing w w o o (due_for H m) (due_for K m) (site H m) (site H m) (has_to_reply H m) (has_to_reply K m) (asks_again (tries H m)) (λ x. x) (λ x. x) (λ x. ap (λ d. is_some d) (due_replied H n reply m apart) ∙ x)
-    (has_still false (is_own_step H m) (is_settled_for H m) (is_settled_for K m) (λ x. absurd cc) (λ x. settled_replied H n reply m apart ∙ x)) h
+    still_stands H (Replied n reply ∷ H) m refl (λ x. x) (λ x. x) (λ x. ap (λ d. is_some d) (due_replied H n reply m apart) ∙ x) (λ x. absurd cc) (λ x. settled_replied H n reply m apart ∙ x) h
 
 stand_control : (H : List Event) (control : Control) (m : ℕ) → is_some (stand H m) ≡ true → is_some (stand (told control ∷ H) m) ≡ true
-stand_control H (Tick k) m h =
-    let w = waits m (pool H).waiting in
-    let o = smallest (is_for m) (pool H) in
-    still_standing w w o o (due_for H m) (due_for (told (Tick k) ∷ H) m) (site H m) (site H m) (has_to_reply H m) (has_to_reply (told (Tick k) ∷ H) m) (asks_again (tries H m)) (λ x. x) (λ x. x)
-    (λ x. ap (λ d. is_some d) (due_control H (Tick k) m) ∙ x) (has_still false (is_own_step H m) (is_settled_for H m) (is_settled_for H m) (λ x. absurd cc) (λ x. x)) h
-stand_control H (Set MaxOpen k) m h =
-    let w = waits m (pool H).waiting in
-    let o = smallest (is_for m) (pool H) in
-    still_standing w w o o (due_for H m) (due_for (told (Set MaxOpen k) ∷ H) m) (site H m) (site H m) (has_to_reply H m) (has_to_reply (told (Set MaxOpen k) ∷ H) m) (asks_again (tries H m)) (λ x. x) (λ x. x)
-    (λ x. ap (λ d. is_some d) (due_control H (Set MaxOpen k) m) ∙ x) (has_still false (is_own_step H m) (is_settled_for H m) (is_settled_for H m) (λ x. absurd cc) (λ x. x)) h
-stand_control H (Set MaxIdle k) m h =
-    let w = waits m (pool H).waiting in
-    let o = smallest (is_for m) (pool H) in
-    still_standing w w o o (due_for H m) (due_for (told (Set MaxIdle k) ∷ H) m) (site H m) (site H m) (has_to_reply H m) (has_to_reply (told (Set MaxIdle k) ∷ H) m) (asks_again (tries H m)) (λ x. x) (λ x. x)
-    (λ x. ap (λ d. is_some d) (due_control H (Set MaxIdle k) m) ∙ x) (has_still false (is_own_step H m) (is_settled_for H m) (is_settled_for H m) (λ x. absurd cc) (λ x. x)) h
-stand_control H (Set MaxLife k) m h =
-    let w = waits m (pool H).waiting in
-    let o = smallest (is_for m) (pool H) in
-    still_standing w w o o (due_for H m) (due_for (told (Set MaxLife k) ∷ H) m) (site H m) (site H m) (has_to_reply H m) (has_to_reply (told (Set MaxLife k) ∷ H) m) (asks_again (tries H m)) (λ x. x) (λ x. x)
-    (λ x. ap (λ d. is_some d) (due_control H (Set MaxLife k) m) ∙ x) (has_still false (is_own_step H m) (is_settled_for H m) (is_settled_for H m) (λ x. absurd cc) (λ x. x)) h
-stand_control H (Set MaxIdleTime k) m h =
-    let w = waits m (pool H).waiting in
-    let o = smallest (is_for m) (pool H) in
-    still_standing w w o o (due_for H m) (due_for (told (Set MaxIdleTime k) ∷ H) m) (site H m) (site H m) (has_to_reply H m) (has_to_reply (told (Set MaxIdleTime k) ∷ H) m) (asks_again (tries H m)) (λ x. x) (λ x. x)
-    (λ x. ap (λ d. is_some d) (due_control H (Set MaxIdleTime k) m) ∙ x) (has_still false (is_own_step H m) (is_settled_for H m) (is_settled_for H m) (λ x. absurd cc) (λ x. x)) h
+stand_control H (Tick k) m h = still_stands H (told (Tick k) ∷ H) m refl (λ x. x) (λ x. x) (λ x. ap (λ d. is_some d) (due_control H (Tick k) m) ∙ x) (λ x. absurd cc) (λ x. x) h
+stand_control H (Set MaxOpen k) m h = still_stands H (told (Set MaxOpen k) ∷ H) m refl (λ x. x) (λ x. x) (λ x. ap (λ d. is_some d) (due_control H (Set MaxOpen k) m) ∙ x) (λ x. absurd cc) (λ x. x) h
+stand_control H (Set MaxIdle k) m h = still_stands H (told (Set MaxIdle k) ∷ H) m refl (λ x. x) (λ x. x) (λ x. ap (λ d. is_some d) (due_control H (Set MaxIdle k) m) ∙ x) (λ x. absurd cc) (λ x. x) h
+stand_control H (Set MaxLife k) m h = still_stands H (told (Set MaxLife k) ∷ H) m refl (λ x. x) (λ x. x) (λ x. ap (λ d. is_some d) (due_control H (Set MaxLife k) m) ∙ x) (λ x. absurd cc) (λ x. x) h
+stand_control H (Set MaxIdleTime k) m h = still_stands H (told (Set MaxIdleTime k) ∷ H) m refl (λ x. x) (λ x. x) (λ x. ap (λ d. is_some d) (due_control H (Set MaxIdleTime k) m) ∙ x) (λ x. absurd cc) (λ x. x) h
 
 waits_more : (m : ℕ) (rs : List Request) (r : Request) → waits m rs ≡ true → waits m (rs ++ r ∷ []) ≡ true
 waits_more m [] r h = absurd cc
@@ -306,10 +294,7 @@ waits_last m (q ∷ qs) r is = by (waits_last m qs r is) (q.call == m)
 
 stand_waits : (H : List Event) (n m : ℕ) → is_some (stand H m) ≡ true → is_some (stand (Waits n ∷ H) m) ≡ true
 stand_waits H n m h =
-    let K = Waits n ∷ H in
-    let o = smallest (is_for m) (pool H) in
-    still_standing (waits m (pool H).waiting) (waits m ((pool H).waiting ++ request H n ∷ [])) o o (due_for H m) (due_for K m) (site H m) (site H m) (has_to_reply H m) (has_to_reply K m) (asks_again (tries H m))
-    (waits_more m (pool H).waiting (request H n)) (λ x. x) (λ x. ap (λ d. is_some d) (due_waits H n m) ∙ x) (has_still false (is_own_step H m) (is_settled_for H m) (is_settled_for H m) (λ x. absurd cc) (λ x. x)) h
+    still_stands H (Waits n ∷ H) m refl (waits_more m (pool H).waiting (request H n)) (λ x. x) (λ x. ap (λ d. is_some d) (due_waits H n m) ∙ x) (λ x. absurd cc) (λ x. x) h
 
 itself_waits : (H : List Event) (n : ℕ) → is_some (stand (Waits n ∷ H) n) ≡ true
 itself_waits H n = by (waits n ((pool H).waiting ++ request H n ∷ [])) (waits_last n (pool H).waiting (request H n) (same_itself n))
