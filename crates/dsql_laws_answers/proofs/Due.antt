@@ -1,6 +1,6 @@
 -- What is due for a call is due on a lent connection. It was due before each move that leaves the connection
 -- lent.
-use Rattle.std.proofs.Common.{◌≡◌, ◌≢◌, ℕ, ◌==◌, inl, Bool, true, false, not, ◌&&◌, ◌||◌, cond, List, ◌∷◌, Option, Some, None, is_some, is_none, nat_le, refl, sym, ap, subst, ◌∙◌, arith}
+use Rattle.std.proofs.Common.{◌≡◌, ◌≢◌, ℕ, ◌==◌, inl, inr, Bool, true, false, not, ◌&&◌, ◌||◌, cond, List, ◌∷◌, Option, Some, None, is_some, is_none, nat_le, refl, sym, ap, subst, ◌∙◌, arith}
 use Rattle.dsql_laws_calls.specs.course.declared.course.Wish.{Wish}
 use Rattle.dsql_laws_calls.specs.course.declared.course.Wish.TheVariants as wishes
 use Rattle.dsql_laws_calls.specs.journal.declared.entry.Owner.{Owner}
@@ -35,12 +35,13 @@ use Rattle.dsql_laws_calls.specs.history.Rules.Sent.{line_of, wish, sent_for, cl
 use Rattle.dsql_laws_calls.specs.history.Legal.{Lawful}
 use Rattle.dsql_laws_calls.specs.Chores.{is_lent_for}
 use Rattle.dsql_laws_calls.proofs.Born.{open_is_old}
+use Rattle.dsql_laws_calls.proofs.DueLent.{due_lent_for}
+use Rattle.dsql_laws_calls.proofs.DueWay.{borrow_same}
 use Rattle.dsql_laws_calls.proofs.Enders.{same_ender}
 use Rattle.dsql_laws_calls.proofs.Inside.{inside_uses}
 use Rattle.dsql_laws_calls.proofs.Lent.{elsewhere, move_facts}
 use Rattle.dsql_laws_calls.proofs.Makers.{hands_out, rows_hand_out, sent_made}
 use Rattle.dsql_laws_calls.proofs.Owners.{at_home}
-use Rattle.dsql_laws_calls.proofs.Tidying.{ending_lent, lent_where_due}
 use Rattle.dsql_laws_calls.proofs.Why.{scoped}
 use Rattle.dsql_laws_others.proofs.Alike.{closing_alike, ends_alike, same_tx_ender}
 use Rattle.dsql_laws_others.proofs.Entered.{first_same}
@@ -53,8 +54,8 @@ pub record DueThere (H : List Event) (m : ℕ) : Type 0 where
   pub lent : place H (site H m) ≡ Some (Lent tenure owner)
   pub whose : number_of owner ≡ borrower H m
 
-lent_there : (H : List Event) (m n : ℕ) → borrower H m ≡ n → is_lent_for n (place H (home H n)) ≡ true → DueThere H m
-lent_there H m n uses h = by (place H (site H m)) refl (ap (λ k. is_lent_for k (place H (home H k))) uses ∙ h)
+pub due_there : (H : List Event) (m : ℕ) → m ≢ 0 → is_some (due_for H m) ≡ true → DueThere H m
+due_there H m some h = by (place H (site H m)) refl (due_lent_for H m some h)
   where
     by : (at : Option Place) → place H (site H m) ≡ at → is_lent_for (borrower H m) at ≡ true → DueThere H m
     by (Some (Lent t o)) is x = record { tenure = t; owner = o; lent = is; whose = same_number (number_of o) (borrower H m) x }
@@ -62,64 +63,6 @@ lent_there H m n uses h = by (place H (site H m)) refl (ap (λ k. is_lent_for k 
     by (Some (Opening o)) is x = absurd cc
     by (Some Closing) is x = absurd cc
     by None is x = absurd cc
-
-some_wish : (H : List Event) (k : ℕ) (w : Wish) → is_some (sent_for H k w) ≡ true → is_lent_for (borrower H k) (place H (site H k)) ≡ true
-some_wish H k wishes.Nothing h = absurd cc
-some_wish H k wishes.Fetch h = lent_where_due H k wishes.Fetch (site H k) (place H (site H k)) h
-some_wish H k wishes.Close h = lent_where_due H k wishes.Close (site H k) (place H (site H k)) h
-
--- A call that fetches or closes rows uses the connection of the call that made them.
-pub rows_user : (H : List Event) (m k : ℕ) → work H m ≡ Fetch k → hands_out (work H k) ≡ true → borrower H m ≡ borrower H k
-rows_user H m k is hands = by (work H k) refl hands
-  where
-    by : (v : Work) → work H k ≡ v → hands_out v ≡ true → borrower H m ≡ borrower H k
-    by (HandOut s label) made x = rw (is, made) refl
-    by v made x = absurd cc
-
-pub closer_user : (H : List Event) (m k : ℕ) → work H m ≡ Close k → hands_out (work H k) ≡ true → borrower H m ≡ borrower H k
-closer_user H m k is hands = by (work H k) refl hands
-  where
-    by : (v : Work) → work H k ≡ v → hands_out v ≡ true → borrower H m ≡ borrower H k
-    by (HandOut s label) made x = rw (is, made) refl
-    by v made x = absurd cc
-
-unzero : (m : ℕ) → m ≢ 0 → (m == 0) ≡ false
-unzero m some = other_number m 0 some
-
-pub due_there : (H : List Event) (m : ℕ) → m ≢ 0 → is_some (due_for H m) ≡ true → DueThere H m
-due_there H m some h = started (is_unfinished H m) h
-  where
-    own : is_some (line_of H m wishes.Nothing) ≡ true → DueThere H m
-    own x = lent_there H m (borrower H m) refl (lent_where_due H m wishes.Nothing (site H m) (place H (site H m)) x)
-
-    inner : (s : Scope) → is_some (due_inside H m s) ≡ true → DueThere H m
-    inner Db x = own x
-    inner (Tx k) x = sends (sends_in H m k) x
-      where
-        sends : (b : Bool) → is_some (cond b (line_of H m wishes.Nothing) None) ≡ true → DueThere H m
-        sends true y = own y
-        sends false y = absurd cc
-
-    ends : (k : ℕ) (b : Bool) → borrower H m ≡ k → is_some (cond b (ending H k) None) ≡ true → DueThere H m
-    ends k true uses x = lent_there H m k uses (ending_lent H k x)
-    ends k false uses x = absurd cc
-
-    by : (w : Work) → work H m ≡ w → is_some (due_in H m w) ≡ true → DueThere H m
-    by (Fetch k) is x =
-        lent_there H m (borrower H k) (rows_user H m k is (rows_hand_out H k (sent_made H m k (unzero m some) x))) (some_wish H k (wish H m k) x)
-    by (Close k) is x =
-        lent_there H m (borrower H k) (closer_user H m k is (rows_hand_out H k (sent_made H m k (unzero m some) x))) (some_wish H k (wish H m k) x)
-    by (End k) is x = ends k (tx_ender H k == m) (rw is refl) x
-    by Look is x = absurd cc
-    by (Execute s) is x = inner s x
-    by (ReadOne s dests) is x = inner s x
-    by (HandOut s label) is x = inner s x
-    by (Begin label level read_only) is x = own x
-    by Ping is x = own x
-
-    started : (b : Bool) → is_some (cond b (due_in H m (work H m)) None) ≡ true → DueThere H m
-    started true x = by (work H m) refl x
-    started false x = absurd cc
 
 -- A connection that is lent before and after a move stays as it is.
 
@@ -216,12 +159,12 @@ due_before H move c t own m l before after some uses h = started (is_unfinished 
 
     over : (k : ℕ) → (hands_out (work H k) ≡ true → borrower H m ≡ borrower H k) → is_some (sent_for K k (wish K m k)) ≡ true → is_some (sent_for H k (wish H m k)) ≡ true
     over k same x =
-        let its : borrower H k ≡ number_of own = sym (same (rows_hand_out H k (sent_made K m k (unzero m some) x))) ∙ uses in
+        let its : borrower H k ≡ number_of own = sym (same (rows_hand_out H k (sent_made K m k (other_number m 0 some) x))) ∙ uses in
         ap (λ d. is_some d) (sym (ap (sent_for K k) (wished k) ∙ sent_still H move c t own k (wish H m k) s its)) ∙ x
 
     by : (w : Work) → work H m ≡ w → is_some (due_in K m w) ≡ true → is_some (due_in H m w) ≡ true
-    by (Fetch k) is x = over k (rows_user H m k is) x
-    by (Close k) is x = over k (closer_user H m k is) x
+    by (Fetch k) is x = over k (borrow_same H m k (inl is)) x
+    by (Close k) is x = over k (borrow_same H m k (inr is)) x
     by (End k) is x =
         let its : k ≡ number_of own = sym (ends_uses is) ∙ uses in
         let same : ending K k ≡ ending H k = ap (ending K) its ∙ (ending_still H move c t own s ∙ ap (ending H) (sym its)) in

@@ -27,6 +27,7 @@ use Rattle.dsql_laws_calls.proofs.Begun.{begun_begins, over_begun}
 use Rattle.dsql_laws_calls.proofs.Beginnings.{begin_owner}
 use Rattle.dsql_laws_calls.proofs.CallTenures.{call_line, line_of_call}
 use Rattle.dsql_laws_calls.proofs.Coming.{sound}
+use Rattle.dsql_laws_calls.proofs.DueWay.{borrow_same}
 use Rattle.dsql_laws_calls.proofs.EndedRows.{rows_kept, ender_over}
 use Rattle.dsql_laws_calls.proofs.HandedRows.{rows_begun}
 use Rattle.dsql_laws_calls.proofs.Inside.{inside, inside_uses}
@@ -39,7 +40,6 @@ use Rattle.dsql_laws_calls.proofs.Stays.{not_looking}
 use Rattle.dsql_laws_calls.proofs.UnderWay.{clash, ending_over}
 use Rattle.dsql_laws_calls.proofs.Why.{why_used}
 use Rattle.dsql_laws_calls.proofs.Works.{is_look, work_stays}
-use Rattle.dsql_laws_answers.proofs.Due.{rows_user, closer_user}
 
 -- What is wanted in the line of the call to which the connection is lent.
 pub record OwnSent (H : List Event) (e : Entry) (own : Owner) : Type 0 where
@@ -141,11 +141,11 @@ sent_now H e own o may now = whose (e.call_no == 0) refl (subst (λ x. is_due (d
     works : (w : Work) → work H e.call_no ≡ w → e.call_no ≢ 0 → (e.call_no == 0) ≡ false → is_due (due_in H e.call_no w) e.call ≡ true → OwnSent H e own
     works (Fetch j) is some zero x =
         let made = sent_made H e.call_no j zero (some_due (sent_for H j (wish H e.call_no j)) e.call x) in
-        let its = rows_of_it j made (sym (rows_user H e.call_no j is (rows_hand_out H j made)) ∙ uses some) in
+        let its = rows_of_it j made (sym (borrow_same H e.call_no j (inl is) (rows_hand_out H j made)) ∙ uses some) in
         over_own H e own e.call_no j o some its (λ y. is) x refl
     works (Close j) is some zero x =
         let made = sent_made H e.call_no j zero (some_due (sent_for H j (wish H e.call_no j)) e.call x) in
-        let its = rows_of_it j made (sym (closer_user H e.call_no j is (rows_hand_out H j made)) ∙ uses some) in
+        let its = rows_of_it j made (sym (borrow_same H e.call_no j (inr is) (rows_hand_out H j made)) ∙ uses some) in
         over_own H e own e.call_no j o some its (λ y. clash (sym y ∙ ap is_fetch is)) x refl
     works (End k) is some zero x = ends (tx_ender H k == e.call_no) x
       where

@@ -1,12 +1,13 @@
 -- A call that has settled its reply sends on if an answer is heard on another connection.
 use Rattle.dsql_laws_calls.specs.history.Readers.HandedOut.{ended_at, is_late, rows_by, are_live, ender}
-use Rattle.std.proofs.Common.{◌≡◌, ◌≢◌, ℕ, ◌==◌, Bool, true, false, not, ◌&&◌, ◌||◌, cond, List, ◌∷◌, Option, Some, None, is_some, is_none, refl, sym, ap, ◌∙◌}
+use Rattle.std.proofs.Common.{◌≡◌, ◌≢◌, ℕ, ◌==◌, inl, inr, Bool, true, false, not, ◌&&◌, ◌||◌, cond, List, ◌∷◌, Option, Some, None, is_some, is_none, refl, sym, ap, ◌∙◌}
 use Rattle.dsql_laws_calls.specs.course.declared.course.Wish.TheVariants as wishes
 use Rattle.dsql_laws_calls.specs.journal.declared.entry.Entry.{Entry}
 use Rattle.dsql_laws_calls.specs.journal.declared.entry.Owner.{Owner}
 use Rattle.dsql_laws_calls.specs.journal.Kinds.{number_of}
 use Rattle.dsql_laws_calls.specs.history.Rules.Wishes.{wish_as}
 use Rattle.dsql_laws_calls.proofs.laws.Tests.{both, same_number}
+use Rattle.dsql_laws_calls.proofs.DueWay.{borrow_same}
 use Rattle.dsql_laws_calls.specs.history.declared.event.Event.{Event}
 use Rattle.dsql_laws_calls.specs.history.declared.event.Event.TheVariants.{Heard}
 use Rattle.dsql_laws_calls.specs.history.declared.reply.Reply.{Reply}
@@ -31,7 +32,6 @@ use Rattle.dsql_laws_others.proofs.Alike.{same_tx_ender}
 use Rattle.dsql_laws_answers.proofs.Beside.{Beside, sent_same, late_same}
 use Rattle.dsql_laws_answers.proofs.Elsewhere.{HeardLent, line_off, tx_off, ending_off}
 use Rattle.dsql_laws_calls.proofs.UnderWay.{clash}
-use Rattle.dsql_laws_answers.proofs.Due.{rows_user, closer_user}
 
 -- Another call than that of the answer, which is heard on a connection that is lent to this owner.
 pub record BesideLent (H : List Event) (e : Entry) (t : ℕ) (own : Owner) (m : ℕ) : Type 0 where
@@ -117,8 +117,8 @@ decided_off H e t own m b settled apart h = started (is_unfinished H m) h
         ∙ (ap (λ d. is_some (cond (tx_ender H k == m) d None)) (ending_off H e t own k hl off (λ at. apart (at ∙ ap (home H) (sym uses)))) ∙ x)
 
     by : (w : Work) → work H m ≡ w → is_some (due_in H m w) ≡ true → is_some (due_in K m w) ≡ true
-    by (Fetch k) is x = rows_off_closed H e t own m k b settled apart (rows_user H m k is) x
-    by (Close k) is x = rows_off_closed H e t own m k b settled apart (closer_user H m k is) x
+    by (Fetch k) is x = rows_off_closed H e t own m k b settled apart (borrow_same H m k (inl is)) x
+    by (Close k) is x = rows_off_closed H e t own m k b settled apart (borrow_same H m k (inr is)) x
     by (End k) is x = ends k is x
     by Look is x = absurd cc
     by (Execute s) is x = inside (Execute s) s is (λ y. cc) x

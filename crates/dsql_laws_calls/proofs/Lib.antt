@@ -50,6 +50,7 @@ pub mod HandedRows
 pub mod CallTenures
 pub mod UnderWay
 pub mod DueWay
+pub mod DueLent
 pub mod StaysUnderWay
 pub mod Sound
 pub mod Coming

@@ -28,20 +28,19 @@ use Rattle.dsql_laws_calls.proofs.Lists.{same_or_not}
 use Rattle.dsql_laws_others.proofs.Once.{found_number, found_some}
 use Rattle.dsql_laws_calls.specs.history.declared.event.Event.{Event}
 use Rattle.dsql_laws_calls.specs.history.declared.event.Event.TheVariants.{Heard, Pool}
-use Rattle.dsql_laws_calls.specs.history.declared.work.Scope.TheVariants.{Db, Tx}
 use Rattle.dsql_laws_calls.specs.history.declared.work.Work.{Work}
-use Rattle.dsql_laws_calls.specs.history.declared.work.Work.TheVariants.{Execute, ReadOne, HandOut, Begin, End, Ping, Fetch, Close, Look}
+use Rattle.dsql_laws_calls.specs.history.declared.work.Work.TheVariants.{Fetch, Close}
 use Rattle.dsql_laws_calls.specs.history.Readers.Calls.{has_begun_to_send}
 use Rattle.dsql_laws_calls.specs.history.Readers.Course.{caps}
 use Rattle.dsql_laws_calls.specs.history.Readers.HandedOut.{rows_by, are_over}
 use Rattle.dsql_laws_calls.specs.history.Readers.Journals.{journal}
 use Rattle.dsql_laws_calls.specs.history.Readers.Lines.{has_sent}
-use Rattle.dsql_laws_calls.specs.history.Readers.Transactions.{tx_end, tx_ender}
+use Rattle.dsql_laws_calls.specs.history.Readers.Transactions.{tx_end}
 use Rattle.dsql_laws_calls.specs.history.Readers.Tries.{tries}
 use Rattle.dsql_laws_calls.specs.history.Readers.Unfinished.{is_unfinished}
 use Rattle.dsql_laws_calls.specs.history.Readers.Works.{works, work, borrower}
 use Rattle.dsql_laws_calls.specs.history.Rules.Ending.{ending}
-use Rattle.dsql_laws_calls.specs.history.Rules.Line.{sends_in, due_inside, due_in, due_for, is_used}
+use Rattle.dsql_laws_calls.specs.history.Rules.Line.{due_in, due_for, is_used}
 use Rattle.dsql_laws_calls.specs.history.Rules.Sent.{line_at, line_of, wish, sent_for, closing}
 use Rattle.dsql_laws_calls.specs.history.Rules.Stands.{is_own_step}
 use Rattle.dsql_laws_calls.specs.history.Legal.{Lawful}
@@ -49,6 +48,7 @@ use Rattle.dsql_laws_callers.proofs.Homes.{home_owner}
 use Rattle.dsql_laws_calls.proofs.BeginningsAt.{heard_same}
 use Rattle.dsql_laws_calls.proofs.Begun.{over_begun}
 use Rattle.dsql_laws_calls.proofs.Born.{heard_open}
+use Rattle.dsql_laws_calls.proofs.DueLent.{none_due_unlent}
 use Rattle.dsql_laws_calls.proofs.DueWay.{borrow_same}
 use Rattle.dsql_laws_calls.proofs.Enders.{same_ender}
 use Rattle.dsql_laws_calls.proofs.LiveRows.{over_some}
@@ -57,9 +57,9 @@ use Rattle.dsql_laws_calls.proofs.Owners.{at_home}
 use Rattle.dsql_laws_calls.proofs.UnderWay.{ending_over, left_of}
 use Rattle.dsql_laws_calls.proofs.Wanted.{lent_wants_none}
 use Rattle.dsql_laws_calls.proofs.Why.{tx_used}
-use Rattle.dsql_laws_others.proofs.Alike.{Concerns, Alike, due_alike, none_sent, first_alike, closing_alike, ends_alike, same_tx_ender, none_anyway}
+use Rattle.dsql_laws_others.proofs.Alike.{Concerns, Alike, due_alike, first_alike, closing_alike, ends_alike, same_tx_ender}
 use Rattle.dsql_laws_others.proofs.Homes.{HomeStays, no_line, no_ending, line_by_home}
-use Rattle.dsql_laws_others.proofs.LentOthers.{none_made, no_wish}
+use Rattle.dsql_laws_others.proofs.LentOthers.{unmade, is_rows, rows_in}
 use Rattle.dsql_laws_others.proofs.LentStands.{found_same}
 use Rattle.dsql_laws_others.proofs.Numbers.{none_zero}
 use Rattle.dsql_laws_others.proofs.Due.{due_keeps, over_keeps}
@@ -235,45 +235,13 @@ ending_left H m x k = by (same_or_not k (number_of x.owner))
 
 -- Nothing is due for calls that used the connection, before or after.
 
-unmade : (L : List Event) (n j : ℕ) → n ≢ 0 → is_some (rows_by L j) ≡ false → sent_for L j (wish L n j) ≡ None
-unmade L n j some none = ap (sent_for L j) (no_wish L n j some (none_made (rows_by L j) none))
-
 due_before : (H : List Event) (m : Move) (x : Leaving H m) (n : ℕ) → n ≢ 0 → borrower H n ≡ number_of x.owner → due_for H n ≡ None
 due_before H m x n some uses =
     let l = x.lawful in
     none_by (due_for H n) (λ due. true_false (is_used H (number_of x.owner)) (due_keeps H n x.conn x.tenure x.owner l.0 (other_number n 0 some) x.lent uses due) x.unused)
 
 due_gone : (H : List Event) (m : Move) (x : Leaving H m) (n : ℕ) → n ≢ 0 → borrower H n ≡ number_of x.owner → due_for (Pool m ∷ H) n ≡ None
-due_gone H m x n some uses = none_anyway (is_unfinished H n) (due_in K n (work H n)) (by (work H n) refl)
-  where
-    K : List Event
-    K = Pool m ∷ H
-
-    line : line_of (Pool m ∷ H) n wishes.Nothing ≡ None
-    line = lines_gone H m x n wishes.Nothing uses
-
-    inner : (k : ℕ) → due_inside (Pool m ∷ H) n (Tx k) ≡ None
-    inner k = none_anyway (sends_in (Pool m ∷ H) n k) (line_of (Pool m ∷ H) n wishes.Nothing) (lines_gone H m x n wishes.Nothing uses)
-
-    rows : (j : ℕ) → (work H n ≡ Fetch j) ⊎ (work H n ≡ Close j) → (b : Bool) → is_some (rows_by H j) ≡ b → sent_for (Pool m ∷ H) j (wish (Pool m ∷ H) n j) ≡ None
-    rows j its false none = unmade (Pool m ∷ H) n j some none
-    rows j its true made = none_sent (Pool m ∷ H) j (wish (Pool m ∷ H) n j) (λ w. lines_gone H m x j w (sym (borrow_same H n j its (rows_hand_out H j made)) ∙ uses))
-
-    by : (w : Work) → work H n ≡ w → due_in (Pool m ∷ H) n w ≡ None
-    by (Execute Db) is = line
-    by (ReadOne Db dests) is = line
-    by (HandOut Db label) is = line
-    by (Begin label level read_only) is = line
-    by Ping is = line
-    by (Execute (Tx k)) is = inner k
-    by (ReadOne (Tx k) dests) is = inner k
-    by (HandOut (Tx k) label) is = inner k
-    by (Fetch j) is = rows j (inl is) (is_some (rows_by H j)) refl
-    by (Close j) is = rows j (inr is) (is_some (rows_by H j)) refl
-    by (End k) is =
-        let its : k ≡ number_of x.owner = sym (rw is refl) ∙ uses in
-        none_anyway (tx_ender (Pool m ∷ H) k == n) (ending (Pool m ∷ H) k) (ap (ending (Pool m ∷ H)) its ∙ ended_after H m x)
-    by Look is = refl
+due_gone H m x n some uses = none_due_unlent (Pool m ∷ H) n some (ap (λ j. is_lent (place (Pool m ∷ H) (home (Pool m ∷ H) j))) uses ∙ unlent_home H m x)
 
 -- What is due for the other calls stays the same.
 
@@ -295,16 +263,6 @@ off_alike H m x n apart rows = record {
     lines : (j : ℕ) (w : Wish) → Concerns H n j → line_of (Pool m ∷ H) j w ≡ line_of H j w
     lines j w (inl same) = lines_off H m x j w (λ uses. apart (sym (ap (borrower H) same) ∙ uses))
     lines j w (inr its) = lines_off H m x j w (rows j its)
-
-abbrev is_rows : Work → Bool
-is_rows (Fetch j) = true
-is_rows (Close j) = true
-is_rows it = false
-
-abbrev rows_in : Work → ℕ
-rows_in (Fetch j) = j
-rows_in (Close j) = j
-rows_in it = 0
 
 pub due_left : (H : List Event) (m : Move) (x : Leaving H m) (n : ℕ) → n ≢ 0 → due_for (Pool m ∷ H) n ≡ due_for H n
 due_left H m x n some = by (same_or_not (borrower H n) (number_of x.owner))

@@ -85,10 +85,8 @@ no_wish L m j some none =
     nothing true = refl
     nothing false = refl
 
-unmade : (H : List Event) (c t : ℕ) (own : Owner) (n m j : ℕ) → m ≢ 0 → is_some (rows_by H j) ≡ false → sent_for (lends H c t own n) j (wish (lends H c t own n) m j) ≡ sent_for H j (wish H m j)
-unmade H c t own n m j some none =
-    let gone = none_made (rows_by H j) none in
-    ap (sent_for (lends H c t own n) j) (no_wish (lends H c t own n) m j some gone) ∙ sym (ap (sent_for H j) (no_wish H m j some gone))
+pub unmade : (L : List Event) (n j : ℕ) → n ≢ 0 → is_some (rows_by L j) ≡ false → sent_for L j (wish L n j) ≡ None
+unmade L n j some none = ap (sent_for L j) (no_wish L n j some (none_made (rows_by L j) none))
 
 -- A call in a transaction that wasn't begun has sent nothing.
 pub unbegun_silent : (H : List Event) (m n c : ℕ) → Lawful H → is_begun H n ≡ false → scope (work H m) ≡ Tx n → has_sent m (journal H c) ≡ false
@@ -106,12 +104,12 @@ nothing_in L m n unsent unbegun =
     ap (λ b. cond (b || (goes_on L n && is_none (decided L m))) (line_of L m wishes.Nothing) None) unsent
     ∙ ap (λ b. cond ((b && not (is_over L n)) && is_none (decided L m)) (line_of L m wishes.Nothing) None) unbegun
 
-abbrev is_rows : Work → Bool
+abbrev pub is_rows : Work → Bool
 is_rows (Fetch j) = true
 is_rows (Close j) = true
 is_rows it = false
 
-abbrev rows_in : Work → ℕ
+abbrev pub rows_in : Work → ℕ
 rows_in (Fetch j) = j
 rows_in (Close j) = j
 rows_in it = 0
@@ -127,7 +125,7 @@ due_others H c t own n m l apart = by_unfinished (is_unfinished H m) refl
     over j (inr is) none = ap (λ d. cond (is_unfinished H m) d None) (ap (due_in K m) is ∙ (none ∙ sym (ap (due_in H m) is)))
 
     over_rows : (j : ℕ) → m ≢ 0 → (work H m ≡ Fetch j) ⊎ (work H m ≡ Close j) → ((x : ℕ) → (work H m ≡ Fetch x) ⊎ (work H m ≡ Close x) → x ≡ j) → (b : Bool) → is_some (rows_by H j) ≡ b → due_for K m ≡ due_for H m
-    over_rows j some its one false none = over j its (unmade H c t own n m j some none)
+    over_rows j some its one false none = over j its (unmade K m j some none ∙ sym (unmade H m j some none))
     over_rows j some its one true made =
         let away = rows_elsewhere H c t own n j l made in
         let user = borrow_same H m j its (rows_hand_out H j made) in
