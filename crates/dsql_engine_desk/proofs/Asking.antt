@@ -75,9 +75,7 @@ wanted_is H n some = let other = other_number n 0 some in rw other refl
 pub asked_pool : (n : ℕ) (a : Result Asked AskFault) (H : List Event) → n ≢ 0 → pool (with_asked n a H) ≡ after_asked (request H n) a (pool H)
 asked_pool n (Ok (asked.Lent c t)) H some = refl
 asked_pool n (Ok (asked.Opening c)) H some = ap (λ w. begun w (pool H)) (wanted_is H n some)
-asked_pool n (Ok asked.Queued) H some = refl
-asked_pool n (Ok asked.Closed) H some = refl
-asked_pool n (Err why) H some = refl
+asked_pool n _ H some = refl
 
 abbrev event_or : Event → Option Event → Event
 event_or d None = d

@@ -14,7 +14,7 @@ use Rattle.dsql_engine_exchanged.specs.Filled.{filled}
 use Rattle.dsql_laws_calls.specs.history.declared.event.Event.{Event}
 use Rattle.dsql_laws_calls.specs.history.declared.work.Scope.TheVariants.{Db, Tx}
 use Rattle.dsql_laws_calls.specs.history.declared.work.Work.{Work}
-use Rattle.dsql_laws_calls.specs.history.declared.work.Work.TheVariants.{Execute, ReadOne, HandOut, Begin, End, Ping, Fetch, Close, Look}
+use Rattle.dsql_laws_calls.specs.history.declared.work.Work.TheVariants.{Execute, ReadOne, HandOut, End, Fetch, Close}
 use Rattle.dsql_laws_calls.specs.history.Readers.Calls.{decided, has_begun_to_send}
 use Rattle.dsql_laws_calls.specs.history.Readers.Works.{asks, is_fetch, scope, work}
 use Rattle.dsql_laws_calls.specs.history.Rules.Line.{due_in, rest_with}
@@ -31,13 +31,7 @@ due_by_kind H m (Execute (Tx k)) = refl
 due_by_kind H m (ReadOne Db dests) = refl
 due_by_kind H m (ReadOne (Tx k) dests) = refl
 due_by_kind H m (HandOut Db label) = refl
-due_by_kind H m (HandOut (Tx k) label) = refl
-due_by_kind H m (Begin label level read_only) = refl
-due_by_kind H m (End k) = refl
-due_by_kind H m Ping = refl
-due_by_kind H m (Fetch k) = refl
-due_by_kind H m (Close k) = refl
-due_by_kind H m Look = refl
+due_by_kind H m _ = refl
 
 -- Whether a driver call is sent doesn't depend on the statement that fills it.
 pub is_filled : (asked : Asked) (call : Option BareCall) → is_some (option_map (filled asked) call) ≡ is_some call

@@ -5,7 +5,7 @@ use Rattle.dsql_laws_calls.specs.journal.Kinds.{number_of}
 use Rattle.dsql_laws_calls.specs.journal.Readers.{went_bad}
 use Rattle.dsql_laws_calls.proofs.laws.Tests.{same_itself}
 use Rattle.dsql_laws_calls.specs.pool.declared.conn.Place.{Place}
-use Rattle.dsql_laws_calls.specs.pool.declared.conn.Place.TheVariants.{Idle, Lent, Opening, Closing}
+use Rattle.dsql_laws_calls.specs.pool.declared.conn.Place.TheVariants.{Lent}
 use Rattle.dsql_laws_calls.specs.pool.Places.{is_lent}
 use Rattle.dsql_laws_calls.specs.tx.declared.end.TxEnd.{TxEnd}
 use Rattle.dsql_engine_exchanged.specs.Ending.{ending_in}
@@ -47,7 +47,4 @@ ends_on H k c end l ended lent =
 -- A lent connection is recorded as bad exactly if its journal says so.
 pub known_bad : (H : List Event) (c : ℕ) (at : Option Place) → Lawful H → place H c ≡ at → is_lent at ≡ true → (there_at H c).ending.bad ≡ went_bad (journal H c)
 known_bad H c (Some (Lent t own)) l is lent = kept_bad H c t own l is
-known_bad H c (Some Idle) l is lent = absurd cc
-known_bad H c (Some (Opening wanted)) l is lent = absurd cc
-known_bad H c (Some Closing) l is lent = absurd cc
-known_bad H c None l is lent = absurd cc
+known_bad H c _ l is lent = absurd cc

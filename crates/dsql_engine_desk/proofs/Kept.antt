@@ -121,21 +121,13 @@ move_keeps H (Gone c) rows answer l is k = unended H (Pool (Gone c)) rows k.call
 
 first_answer : (answer : DriverAnswer) (m : Move) (ms : List Move) (H : List Event) → IsAnswerBefore answer (m ∷ ms) H → IsAnswerBefore answer (m ∷ []) H
 first_answer answer (Fell c n) ms H is = is
-first_answer answer (OpenStart c n) ms H is = tt
-first_answer answer (Lend c t o n) ms H is = tt
-first_answer answer (Back c) ms H is = tt
-first_answer answer (CloseStart c why) ms H is = tt
-first_answer answer (Gone c) ms H is = tt
+first_answer answer _ ms H is = tt
 
 -- After a move, no answer came directly before.
 none_answered : (m : Move) (ms : List Move) (H : List Event) → IsAnswerBefore answers.Bad ms (Pool m ∷ H)
 none_answered m [] H = tt
 none_answered m (Fell c n ∷ ms) H = refl
-none_answered m (OpenStart c n ∷ ms) H = tt
-none_answered m (Lend c t o n ∷ ms) H = tt
-none_answered m (Back c ∷ ms) H = tt
-none_answered m (CloseStart c why ∷ ms) H = tt
-none_answered m (Gone c ∷ ms) H = tt
+none_answered m (_ ∷ ms) H = tt
 
 lawful_before : (ms : List Move) (H : List Event) → Lawful (with_moves ms H) → Lawful H
 lawful_before [] H l = l
@@ -355,21 +347,13 @@ answered_keeps H e rows new made l hears k is_made is_new =
 -- A move that is no refusal needs no answer before it.
 pub unrefused : (m : Move) (H : List Event) → is_refusal m ≡ false → IsAnswerBefore answers.Bad (m ∷ []) H
 unrefused (Fell c n) H is = absurd cc
-unrefused (OpenStart c n) H is = tt
-unrefused (Lend c t o n) H is = tt
-unrefused (Back c) H is = tt
-unrefused (CloseStart c why) H is = tt
-unrefused (Gone c) H is = tt
+unrefused _ H is = tt
 
 -- The newest answer is the answer before whatever moves come next.
 pub answered_before : (answer : DriverAnswer) (ms : List Move) (H : List Event) → answer ≡ newest_answer H → IsAnswerBefore answer ms H
 answered_before answer [] H is = tt
 answered_before answer (Fell c n ∷ ms) H is = is
-answered_before answer (OpenStart c n ∷ ms) H is = tt
-answered_before answer (Lend c t o n ∷ ms) H is = tt
-answered_before answer (Back c ∷ ms) H is = tt
-answered_before answer (CloseStart c why ∷ ms) H is = tt
-answered_before answer (Gone c ∷ ms) H is = tt
+answered_before answer (_ ∷ ms) H is = tt
 
 -- The moves of a connection that is given back begin with no refusal.
 pub back_unrefused : (c : ℕ) (p : Pooled) (o : Outcome) (H : List Event) → IsAnswerBefore answers.Bad (moves_back c p o) H

@@ -56,11 +56,7 @@ leaves (m ∷ ms) H =
 -- lending.
 pub there_move : (m : Move) (H : List Event) → heard_there (Pool m ∷ H) ≡ lent_by m (heard_there H)
 there_move (OpenStart c n) H = refl
-there_move (Lend c t o n) H = refl
-there_move (Back c) H = refl
-there_move (CloseStart c why) H = refl
-there_move (Gone c) H = refl
-there_move (Fell c n) H = refl
+there_move _ H = refl
 
 pub there_moves : (ms : List Move) (H : List Event) → heard_there (with_moves ms H) ≡ lent_by_all ms (heard_there H)
 there_moves [] H = refl

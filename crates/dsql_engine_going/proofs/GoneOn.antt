@@ -8,7 +8,7 @@ use Rattle.dsql_laws_calls.specs.pool.declared.conn.Place.TheVariants.{Lent}
 use Rattle.dsql_laws_calls.specs.history.declared.event.Event.{Event}
 use Rattle.dsql_laws_calls.specs.history.declared.record.Flight.{Flight}
 use Rattle.dsql_laws_calls.specs.history.declared.record.Stand.{Stand}
-use Rattle.dsql_laws_calls.specs.history.declared.record.Stand.TheVariants.{Waits, Opens, Sends, Replies, Asks}
+use Rattle.dsql_laws_calls.specs.history.declared.record.Stand.TheVariants.{Waits, Opens, Sends}
 use Rattle.dsql_laws_calls.specs.history.Readers.Calls.{site}
 use Rattle.dsql_laws_calls.specs.history.Readers.Pool.{place}
 use Rattle.dsql_laws_calls.specs.history.Readers.Unfinished.{is_unfinished}
@@ -39,9 +39,7 @@ blocked_why flights n (Some (Sends c)) why h = by (is_taken n c flights) refl h
     by : (b : Bool) → is_taken n c flights ≡ b → cond b (Some (Turn c)) None ≡ Some why → is_taken n c flights ≡ true
     by true is k = is
     by false is k = absurd cc
-blocked_why flights n (Some Replies) why h = absurd cc
-blocked_why flights n (Some Asks) why h = absurd cc
-blocked_why flights n None why h = absurd cc
+blocked_why flights n _ why h = absurd cc
 
 untaken : (flights : List Flight) (n c : ℕ) → why_blocked flights n (Some (Sends c)) ≡ None → is_taken n c flights ≡ false
 untaken flights n c h = by (is_taken n c flights) refl h

@@ -51,11 +51,7 @@ cells_itself (cell ∷ row) = rw (cell_itself cell) (cells_itself row)
 
 word_itself : (fault : FaultWord) → same_word fault fault ≡ true
 word_itself words.FromNull = refl
-word_itself words.NotANumber = refl
-word_itself words.OutOfRange = refl
-word_itself words.NotABool = refl
-word_itself words.NotUtf8 = refl
-word_itself words.Unsupported = refl
+word_itself _ = refl
 
 cause_itself : (cause : Cause) → same_cause cause cause ≡ true
 cause_itself causes.Canceled = refl
@@ -75,13 +71,7 @@ end_itself ends.EndOfRun = refl
 
 level_itself : (level : Level) → same_level level level ≡ true
 level_itself levels.Default = refl
-level_itself levels.ReadUncommitted = refl
-level_itself levels.ReadCommitted = refl
-level_itself levels.WriteCommitted = refl
-level_itself levels.RepeatableRead = refl
-level_itself levels.Snapshot = refl
-level_itself levels.Serializable = refl
-level_itself levels.Linearizable = refl
+level_itself _ = refl
 
 tx_end_itself : (end : TxEnd) → same_tx_end end end ≡ true
 tx_end_itself (tx_ends.Cancel cause) = cause_itself cause

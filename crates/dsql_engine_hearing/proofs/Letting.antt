@@ -4,7 +4,7 @@ use Rattle.dsql_engine_going.specs.journal.declared.entry.Entry.{Entry}
 use Rattle.dsql_engine_going.specs.journal.declared.entry.Owner.{Owner}
 use Rattle.dsql_engine_going.specs.journal.Kinds.{is_house, number_of}
 use Rattle.dsql_engine_going.specs.pool.declared.conn.Place.{Place}
-use Rattle.dsql_engine_going.specs.pool.declared.conn.Place.TheVariants.{Idle, Lent, Opening, Closing}
+use Rattle.dsql_engine_going.specs.pool.declared.conn.Place.TheVariants.{Lent}
 use Rattle.dsql_engine_going.specs.pool.declared.moves.Move.{Move}
 use Rattle.dsql_engine_going.specs.history.Readers.Owed.{answered, given_back, owed}
 use Rattle.dsql_engine_going.proofs.laws.Truths.{or_second}
@@ -50,10 +50,7 @@ lent_place (Some (Lent t o)) n h = by (is_house o) h
     by : (b : Bool) → cond b None (Some (number_of o)) ≡ Some n → LentTo (Some (Lent t o)) n
     by true k = absurd cc
     by false k = record { tenure = t; owner = o; number = cc; there = refl }
-lent_place (Some Idle) n h = absurd cc
-lent_place (Some (Opening o)) n h = absurd cc
-lent_place (Some Closing) n h = absurd cc
-lent_place None n h = absurd cc
+lent_place _ n h = absurd cc
 
 allowed_line : (H : List Event) (e : Entry) → Allowed H (Heard e) → sends_from H (place H e.conn) e ≡ true
 unfolding Allowed

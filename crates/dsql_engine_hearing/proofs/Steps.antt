@@ -6,7 +6,7 @@ use Rattle.dsql_engine_going.specs.journal.declared.entry.Entry.{Entry}
 use Rattle.dsql_engine_going.specs.journal.Kinds.{is_house, number_of}
 use Rattle.dsql_engine_going.specs.journal.Readers.{is_empty, went_bad}
 use Rattle.dsql_engine_going.specs.pool.declared.conn.Place.{Place}
-use Rattle.dsql_engine_going.specs.pool.declared.conn.Place.TheVariants.{Idle, Lent, Opening, Closing}
+use Rattle.dsql_engine_going.specs.pool.declared.conn.Place.TheVariants.{Lent}
 use Rattle.dsql_engine_going.specs.pool.declared.moves.Fate.{Fate}
 use Rattle.dsql_engine_going.specs.pool.Places.{is_lent}
 use Rattle.dsql_engine_going.specs.history.declared.event.Event.{Event}
@@ -62,10 +62,7 @@ unlent_at H c (Some (Lent t o)) l is house = let of_it = owner_is_of H c t o l i
     by : (b : Bool) → b ≡ false → cond b None (Some (number_of o)) ≡ None → true ≡ false
     by true owned h = owned
     by false owned h = absurd cc
-unlent_at H c (Some Idle) l is house = refl
-unlent_at H c (Some (Opening o)) l is house = refl
-unlent_at H c (Some Closing) l is house = refl
-unlent_at H c None l is house = refl
+unlent_at H c _ l is house = refl
 
 unlent : (H : List Event) (c : ℕ) → Lawful H → lent_to (place H c) ≡ None → is_lent (place H c) ≡ false
 unlent H c l house = unlent_at H c (place H c) l refl house
@@ -84,10 +81,7 @@ house_group H e (Some (Lent t o)) house = by (is_house o) house
     by : (b : Bool) → cond b None (Some (number_of o)) ≡ None → cond b (with_owed (Heard e ∷ H)) (gone_on e.call_no (let_go e.conn (number_of o) (Heard e ∷ H))) ≡ with_owed (Heard e ∷ H)
     by true h = refl
     by false h = absurd cc
-house_group H e (Some Idle) house = refl
-house_group H e (Some (Opening o)) house = refl
-house_group H e (Some Closing) house = refl
-house_group H e None house = refl
+house_group H e _ house = refl
 
 pub lent_group : (H : List Event) (e : Entry) (at : Option Place) (n : ℕ) → lent_to at ≡ Some n → heard_at at e H ≡ gone_on e.call_no (let_go e.conn n (Heard e ∷ H))
 lent_group H e (Some (Lent t o)) n lent = by (is_house o) lent
@@ -96,10 +90,7 @@ lent_group H e (Some (Lent t o)) n lent = by (is_house o) lent
         → cond b (with_owed (Heard e ∷ H)) (gone_on e.call_no (let_go e.conn (number_of o) (Heard e ∷ H))) ≡ gone_on e.call_no (let_go e.conn n (Heard e ∷ H))
     by true h = absurd cc
     by false h = let same : number_of o ≡ n = cc in ap (λ i. gone_on e.call_no (let_go e.conn i (Heard e ∷ H))) same
-lent_group H e (Some Idle) n lent = absurd cc
-lent_group H e (Some (Opening o)) n lent = absurd cc
-lent_group H e (Some Closing) n lent = absurd cc
-lent_group H e None n lent = absurd cc
+lent_group H e _ n lent = absurd cc
 
 -- The fate that the answer gives its connection, if that isn't known to be bad.
 

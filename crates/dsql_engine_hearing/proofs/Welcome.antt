@@ -218,15 +218,7 @@ rows_new_lent H e it label input params l may its query = let u = stays_with_its
 rows_lent : (H : List Event) (e : Entry) (it : Work) (q : DriverCall) → Lawful H → may_come H e ≡ true → work H e.call_no ≡ it → e.call ≡ q → HearsRows it e.call_no q (handed_out H)
 rows_lent H e (HandOut sc label) (Query input params) l may its call = rows_new_lent H e sc label input params l may its call
 rows_lent H e (Fetch k) (Next cursor) l may its call = rows_fetched H e k l may its
-rows_lent H e (HandOut sc label) q l may its call = tt
-rows_lent H e (Fetch k) q l may its call = tt
-rows_lent H e (works.Execute sc) q l may its call = tt
-rows_lent H e (works.ReadOne sc dests) q l may its call = tt
-rows_lent H e (works.Begin label level read_only) q l may its call = tt
-rows_lent H e (works.End k) q l may its call = tt
-rows_lent H e works.Ping q l may its call = tt
-rows_lent H e (works.Close k) q l may its call = tt
-rows_lent H e works.Look q l may its call = tt
+rows_lent H e _ q l may its call = tt
 
 rows_opened : (H : List Event) (it : Work) (n : ℕ) → HearsRows it n Connect (handed_out H)
 rows_opened H (HandOut sc label) n = tt

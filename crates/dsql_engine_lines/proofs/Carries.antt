@@ -10,7 +10,7 @@ use Rattle.dsql_laws_calls.specs.journal.declared.entry.Entry.{Entry}
 use Rattle.dsql_laws_calls.specs.journal.Kinds.{number_of}
 use Rattle.dsql_laws_calls.specs.journal.Readers.{went_bad}
 use Rattle.dsql_laws_calls.specs.pool.declared.conn.Place.{Place}
-use Rattle.dsql_laws_calls.specs.pool.declared.conn.Place.TheVariants.{Idle, Lent, Opening, Closing}
+use Rattle.dsql_laws_calls.specs.pool.declared.conn.Place.TheVariants.{Lent}
 use Rattle.dsql_laws_calls.specs.works.Line.{Asked}
 use Rattle.dsql_engine_exchanged.specs.Filled.{Carries, refilled}
 use Rattle.dsql_engine_exchanged.proofs.CourseCarried.{line_carries}
@@ -68,10 +68,7 @@ line_of_carries H n wish = at (site H n) (place H (site H n))
         let line = line_in own n (heard_in H c t) in
         let bad = went_bad (journal H c) in
         either_carries (asked_by H n) (number_of own == borrower H n) (line_with H n c bad wish (work H n) (scope (work H n)) line) (with_carries H n c bad wish (work H n) (scope (work H n)) line)
-    at c (Some Idle) = tt
-    at c (Some (Opening wanted)) = tt
-    at c (Some Closing) = tt
-    at c None = tt
+    at c _ = tt
 
 -- What is due.
 

@@ -10,7 +10,7 @@ use Rattle.dsql_laws_calls.proofs.Lists.{read_set, row_new, row_off, row_old}
 use Rattle.dsql_laws_calls.proofs.Stays.{as_many}
 use Rattle.dsql_laws_calls.proofs.laws_work.Rows.{same_or_not}
 use Rattle.dsql_laws_calls.specs.history.declared.event.Event.{Event}
-use Rattle.dsql_laws_calls.specs.history.declared.event.Event.TheVariants.{Run, Entered, Heard, Pool, Waits, Ticked, SetLimit, Replied, Ended}
+use Rattle.dsql_laws_calls.specs.history.declared.event.Event.TheVariants.{Entered, Heard}
 use Rattle.dsql_laws_calls.specs.history.declared.event.Op.{Op}
 use Rattle.dsql_laws_calls.specs.history.Readers.Calls.{has_begun_to_send, site}
 use Rattle.dsql_laws_calls.specs.history.Readers.Journals.{journal}
@@ -120,13 +120,7 @@ newest (Entered client m op ∷ H) n c l some is_in = by (new_or_old H client m 
         let many = as_many_places H in
         let same : sent_on (Entered client m op ∷ H) n ≡ sent_on H n = row_old (sent H) 0 n 0 (λ beyond. absurd (omega (arith, old, many, beyond))) in
         rest (sym (inside_stays H (Entered client m op) n old) ∙ is_in) ∙ sym (ap (λ d. not (c == 0) && (d == c)) same)
-newest (Run version can ∷ H) n c l some is_in = newest H n c l.0 some is_in
-newest (Pool m ∷ H) n c l some is_in = newest H n c l.0 some is_in
-newest (Waits m ∷ H) n c l some is_in = newest H n c l.0 some is_in
-newest (Ticked now ∷ H) n c l some is_in = newest H n c l.0 some is_in
-newest (SetLimit s m ∷ H) n c l some is_in = newest H n c l.0 some is_in
-newest (Replied m reply ∷ H) n c l some is_in = newest H n c l.0 some is_in
-newest (Ended ∷ H) n c l some is_in = newest H n c l.0 some is_in
+newest (_ ∷ H) n c l some is_in = newest H n c l.0 some is_in
 
 pub begun_where_sent : (H : List Event) (n : ℕ) → Lawful H → n ≢ 0 → works_inside H n ≡ true → has_begun_to_send H n ≡ (not (site H n == 0) && (sent_on H n == site H n))
 begun_where_sent H n l some is_in = newest H n (site H n) l some is_in

@@ -11,7 +11,7 @@ use Rattle.dsql_laws_calls.specs.pool.declared.moves.Move.TheVariants.{Lend}
 use Rattle.dsql_laws_calls.proofs.laws.Tests.{both, other_number, same_itself}
 use Rattle.dsql_laws_calls.proofs.laws_work.Rows.{same_or_not}
 use Rattle.dsql_laws_calls.specs.history.declared.event.Event.{Event}
-use Rattle.dsql_laws_calls.specs.history.declared.event.Event.TheVariants.{Run, Entered, Heard, Pool, Waits, Ticked, SetLimit, Replied, Ended}
+use Rattle.dsql_laws_calls.specs.history.declared.event.Event.TheVariants.{Entered, Heard, Pool}
 use Rattle.dsql_laws_calls.specs.history.declared.event.Op.{Op}
 use Rattle.dsql_laws_calls.specs.history.declared.work.Scope.TheVariants.{Tx}
 use Rattle.dsql_laws_calls.specs.history.Readers.Journals.{heard_in, journal}
@@ -144,13 +144,7 @@ line_there : (H : List Event) (e : Event) (c t k n : ℕ) → Lawful H → Allow
 unfolding IsLine
 line_there H (Heard e) c t k n l a is in_it earlier = line_in_time H e c t k n l a is in_it (earlier in_it)
 line_there H (Entered client m op) c t k n l a is in_it earlier = line_at_entry H client m op c t k n l a in_it earlier
-line_there H (Run version can) c t k n l a is in_it earlier = earlier in_it
-line_there H (Pool m) c t k n l a is in_it earlier = earlier in_it
-line_there H (Waits m) c t k n l a is in_it earlier = earlier in_it
-line_there H (Ticked now) c t k n l a is in_it earlier = earlier in_it
-line_there H (SetLimit x m) c t k n l a is in_it earlier = earlier in_it
-line_there H (Replied m reply) c t k n l a is in_it earlier = earlier in_it
-line_there H Ended c t k n l a is in_it earlier = earlier in_it
+line_there H _ c t k n l a is in_it earlier = earlier in_it
 
 pub kept_line : (H : List Event) (c t n k : ℕ) → Lawful H → scope (work H n) ≡ Tx k → place H c ≡ Some (Lent t (owners.Tx k))
     → line_at (lines H).calls n ≡ heard_line (line_among n (heard_in H c t))

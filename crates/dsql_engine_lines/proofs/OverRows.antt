@@ -12,7 +12,7 @@ use Rattle.dsql_laws_calls.specs.journal.declared.entry.Owner.{Owner}
 use Rattle.dsql_laws_calls.specs.journal.Kinds.{is_call, number_of}
 use Rattle.dsql_laws_calls.specs.journal.Readers.{went_bad}
 use Rattle.dsql_laws_calls.specs.pool.declared.conn.Place.{Place}
-use Rattle.dsql_laws_calls.specs.pool.declared.conn.Place.TheVariants.{Idle, Lent, Opening, Closing}
+use Rattle.dsql_laws_calls.specs.pool.declared.conn.Place.TheVariants.{Lent}
 use Rattle.dsql_laws_calls.specs.tx.declared.end.TxEnd.{TxEnd}
 use Rattle.dsql_laws_calls.specs.tx.declared.end.TxEnd.TheVariants as ends
 use Rattle.dsql_laws_calls.specs.works.Exchanges.{exchanges}
@@ -90,10 +90,7 @@ rows_unstated H n wish l made = at (site H n) (place H (site H n)) refl
 
     at : (c : ℕ) (p : Option Place) → place H c ≡ p → is_unstated (line_at H n wish c p) ≡ true
     at c (Some (Lent t own)) is = lent c t own is (number_of own == borrower H n) refl
-    at c (Some Idle) is = refl
-    at c (Some (Opening wanted)) is = refl
-    at c (Some Closing) is = refl
-    at c None is = refl
+    at c _ is = refl
 
 pub sent_unstated : (H : List Event) (k : ℕ) (wish : Wish) → Lawful H → is_some (rows_by H k) ≡ true → is_unstated (sent_for H k wish) ≡ true
 sent_unstated H k wishes.Nothing l made = refl
@@ -136,10 +133,7 @@ ending_unstated H k l = by (tx_end H k)
         unstated_either (number_of own == k) (or_else (first_closing H k 0 (works H)) (end_after H (went_bad (journal H c)) end (heard_in H c t))) None
         (or_unstated (first_closing H k 0 (works H)) (end_after H (went_bad (journal H c)) end (heard_in H c t)) (first_unstated H k 0 (works H) l)
         (end_unstated H (went_bad (journal H c)) end (heard_in H c t))) refl
-    at c end (Some Idle) = refl
-    at c end (Some (Opening wanted)) = refl
-    at c end (Some Closing) = refl
-    at c end None = refl
+    at c end _ = refl
 
     by : (end : Option TxEnd) → is_unstated (ending_with H k end) ≡ true
     by None = refl

@@ -7,7 +7,7 @@ use Rattle.dsql_laws_calls.specs.history.declared.event.Event.{Event}
 use Rattle.dsql_laws_calls.specs.history.declared.event.Event.TheVariants.{Entered}
 use Rattle.dsql_laws_calls.specs.history.declared.event.Op.{Op}
 use Rattle.dsql_laws_calls.specs.history.declared.work.Work.{Work}
-use Rattle.dsql_laws_calls.specs.history.declared.work.Work.TheVariants.{Execute, ReadOne, HandOut, Begin, End, Ping, Fetch, Close, Look}
+use Rattle.dsql_laws_calls.specs.history.declared.work.Work.TheVariants.{Fetch, Close, Look}
 use Rattle.dsql_laws_calls.specs.history.Readers.Works.{scope, work, work_of, works}
 use Rattle.dsql_laws_calls.specs.history.Legal.{Allowed}
 use Rattle.dsql_laws_callers.proofs.Works.{RefersWithin, refers_within, work_stays}
@@ -23,13 +23,7 @@ inside_entered H n is = has_entered H n (inside_busy H n is)
 inside_as : (H : List Event) (e : Event) (it : Work) → RefersWithin (length (works H)) it → work_inside (e ∷ H) it ≡ work_inside H it
 inside_as H e (Fetch k) old = ap (λ w. is_inside (scope w)) (work_stays H e k old)
 inside_as H e (Close k) old = ap (λ w. is_inside (scope w)) (work_stays H e k old)
-inside_as H e (End k) old = refl
-inside_as H e (Execute s) old = refl
-inside_as H e (ReadOne s dests) old = refl
-inside_as H e (HandOut s label) old = refl
-inside_as H e (Begin label level read_only) old = refl
-inside_as H e Ping old = refl
-inside_as H e Look old = refl
+inside_as H e _ old = refl
 
 pub inside_stays : (H : List Event) (e : Event) (n : ℕ) → n < length (works H) → works_inside (e ∷ H) n ≡ works_inside H n
 inside_stays H e n old = ap (work_inside (e ∷ H)) (work_stays H e n old) ∙ inside_as H e (work H n) (refers_within H n)

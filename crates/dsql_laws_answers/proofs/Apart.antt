@@ -112,9 +112,7 @@ used_apart H move c u tried h = all_found (λ x. is_in_use K x.place) (pool K).c
       where
         by : (p : Place) → x.place ≡ p → is_in_use K p ≡ true
         by (Lent t o) is = kept x.number t o (ap place_in found ∙ ap Some is)
-        by Idle is = refl
-        by (Opening o) is = refl
-        by Closing is = refl
+        by _ is = refl
 
 -- Where each call stands.
 
@@ -147,9 +145,7 @@ homeless H k l begun out = by (find (λ (x : Conn). is_home k x.place) (pool H).
   where
     not_home : (p : Place) → is_home k p ≡ true → is_lent (Some p) ≡ false → is_for k p ≡ true
     not_home (Lent t o) h x = absurd cc
-    not_home Idle h x = h
-    not_home (Opening o) h x = h
-    not_home Closing h x = h
+    not_home _ h x = h
 
     by : (o : Option Conn) → find (λ (x : Conn). is_home k x.place) (pool H).conns ≡ o → or_none (option_map (λ (x : Conn). x.number) (find (λ (x : Conn). is_home k x.place) (pool H).conns)) ≡ 0
     by None is = ap (λ o. or_none (option_map (λ (x : Conn). x.number) o)) is

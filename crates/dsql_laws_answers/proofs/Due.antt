@@ -6,7 +6,7 @@ use Rattle.dsql_laws_calls.specs.course.declared.course.Wish.TheVariants as wish
 use Rattle.dsql_laws_calls.specs.journal.declared.entry.Owner.{Owner}
 use Rattle.dsql_laws_calls.specs.journal.Kinds.{number_of}
 use Rattle.dsql_laws_calls.specs.pool.declared.conn.Place.{Place}
-use Rattle.dsql_laws_calls.specs.pool.declared.conn.Place.TheVariants.{Idle, Lent, Opening, Closing}
+use Rattle.dsql_laws_calls.specs.pool.declared.conn.Place.TheVariants.{Idle, Lent, Closing}
 use Rattle.dsql_laws_calls.specs.pool.declared.moves.Move.{Move}
 use Rattle.dsql_laws_calls.specs.pool.declared.moves.Move.TheVariants.{OpenStart, Lend, Back, CloseStart, Gone, Fell}
 use Rattle.dsql_laws_calls.specs.pool.Changes.{lent, back, closing as closing_conn}
@@ -59,10 +59,7 @@ due_there H m some h = by (place H (site H m)) refl (due_lent_for H m some h)
   where
     by : (at : Option Place) → place H (site H m) ≡ at → is_lent_for (borrower H m) at ≡ true → DueThere H m
     by (Some (Lent t o)) is x = record { tenure = t; owner = o; lent = is; whose = same_number (number_of o) (borrower H m) x }
-    by (Some Idle) is x = absurd cc
-    by (Some (Opening o)) is x = absurd cc
-    by (Some Closing) is x = absurd cc
-    by None is x = absurd cc
+    by _ is x = absurd cc
 
 -- A connection that is lent before and after a move stays as it is.
 

@@ -5,7 +5,7 @@ use Rattle.dsql_laws_calls.specs.journal.declared.entry.Owner.{Owner}
 use Rattle.dsql_laws_calls.specs.journal.Kinds.{number_of}
 use Rattle.dsql_laws_calls.specs.pool.declared.conn.Conn.{Conn}
 use Rattle.dsql_laws_calls.specs.pool.declared.conn.Place.{Place}
-use Rattle.dsql_laws_calls.specs.pool.declared.conn.Place.TheVariants.{Idle, Lent, Opening, Closing}
+use Rattle.dsql_laws_calls.specs.pool.declared.conn.Place.TheVariants.{Lent}
 use Rattle.dsql_laws_calls.specs.pool.Places.{conn_of}
 use Rattle.dsql_laws_calls.proofs.Found.{place_in}
 use Rattle.dsql_laws_calls.proofs.Lists.{same_or_not}
@@ -31,9 +31,7 @@ used_heard H e t own h before itself = all_found (λ x. is_in_use (Heard e ∷ H
       where
         by : (p : Place) → x.place ≡ p → is_in_use (Heard e ∷ H) p ≡ true
         by (Lent u o) is = lent x.number u o (ap place_in found ∙ ap Some is) (same_or_not (number_of o) (number_of own))
-        by Idle is = refl
-        by (Opening o) is = refl
-        by Closing is = refl
+        by _ is = refl
 
 pub beside_heard : (H : List Event) (e : Entry) (t d u : ℕ) (own o : Owner) → HeardLent H e t own → uses_what_is_lent H ≡ true → place H d ≡ Some (Lent u o) → d ≢ e.conn → is_kept (Heard e ∷ H) (number_of o) ≡ true
 beside_heard H e t d u own o h before at apart =

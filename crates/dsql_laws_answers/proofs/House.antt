@@ -162,10 +162,7 @@ opened_carried : (H : List Event) (e : Entry) (c : ℕ) (at : Option Place) → 
 opened_carried H e c (Some (Opening (Some owner))) it at is =
     lend_carried H e c (next_tenure (pool H) c) (number_of owner) owner it is (alone (Heard e ∷ H) (Lend c (next_tenure (pool H) c) owner (number_of owner)) it.lawful is)
 opened_carried H e c (Some (Opening None)) it at is = unwanted_carried H e c (when_unwanted (pool H)) it at is
-opened_carried H e c (Some Idle) it at is = carried_itself (Heard e ∷ H)
-opened_carried H e c (Some (Lent t o)) it at is = carried_itself (Heard e ∷ H)
-opened_carried H e c (Some Closing) it at is = carried_itself (Heard e ∷ H)
-opened_carried H e c None it at is = carried_itself (Heard e ∷ H)
+opened_carried H e c _ it at is = carried_itself (Heard e ∷ H)
 
 then_carried : (K : List Event) (m : Move) → Lawful (Pool m ∷ K) → Carried K (Pool m ∷ K) → (q : Pooled) → q ≡ pool (Pool m ∷ K) → Carried K (with_moves (openings (due_openings q) (next_number q)) (Pool m ∷ K))
 then_carried K m l first q is =
@@ -192,9 +189,7 @@ moves_carried H e (Some (Opening wanted)) it at is = by (is_done e.answer) is
     by true k = opened_carried H e e.conn (place_at (pool H) e.conn) it refl k
     by false k = failed_carried (Heard e ∷ H) e.conn it.lawful k
 moves_carried H e (Some Closing) it at is = closed_carried (Heard e ∷ H) e.conn it.lawful at is
-moves_carried H e (Some Idle) it at is = carried_itself (Heard e ∷ H)
-moves_carried H e (Some (Lent t o)) it at is = carried_itself (Heard e ∷ H)
-moves_carried H e None it at is = carried_itself (Heard e ∷ H)
+moves_carried H e _ it at is = carried_itself (Heard e ∷ H)
 
 pub answer_carried : (H : List Event) (e : Entry) → Lawful (Heard e ∷ H) → is_lent (place H e.conn) ≡ false → Carried H (with_moves (owed (Heard e ∷ H)) (Heard e ∷ H))
 answer_carried H e l out =

@@ -12,7 +12,7 @@ use Rattle.dsql_laws_calls.specs.numbered.Numbered.{thing_of}
 use Rattle.dsql_laws_calls.specs.rows.OpenRows.{rows_of}
 use Rattle.dsql_laws_calls.specs.tx.Transactions.{begun_on}
 use Rattle.dsql_laws_calls.specs.pool.declared.conn.Place.{Place}
-use Rattle.dsql_laws_calls.specs.pool.declared.conn.Place.TheVariants.{Idle, Lent, Opening, Closing}
+use Rattle.dsql_laws_calls.specs.pool.declared.conn.Place.TheVariants.{Opening, Closing}
 use Rattle.dsql_laws_calls.specs.pool.Places.{is_lent}
 use Rattle.dsql_laws_calls.specs.pool.Pooled.{Pooled, next_tenure}
 use Rattle.dsql_laws_calls.specs.works.Line.{Asked}
@@ -82,9 +82,7 @@ layer_hears p (Some (Opening wanted)) e sets out =
     let a = both (is_connect e.call) ((e.tenure == 1) && is_house_entry e) sets in (house_calls e (e.tenure == 1) a.1, no_begin e.call (inl a.0))
 layer_hears p (Some Closing) e sets out =
     let a = both (is_shut e.call) ((e.tenure == next_tenure p e.conn) && is_house_entry e) sets in (house_calls e (e.tenure == next_tenure p e.conn) a.1, no_begin e.call (inr a.0))
-layer_hears p (Some Idle) e sets out = absurd cc
-layer_hears p (Some (Lent t o)) e sets out = absurd cc
-layer_hears p None e sets out = absurd cc
+layer_hears p _ e sets out = absurd cc
 
 pub of_layer : (H : List Event) (e : Entry) → Lawful (Heard e ∷ H) → is_lent (place H e.conn) ≡ false → OfLayer H e
 of_layer H e l out =

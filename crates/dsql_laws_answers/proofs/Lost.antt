@@ -6,14 +6,14 @@ use Rattle.dsql_laws_calls.specs.journal.declared.entry.Owner.{Owner}
 use Rattle.dsql_laws_calls.specs.journal.Kinds.{number_of}
 use Rattle.dsql_laws_calls.specs.journal.Readers.{went_bad}
 use Rattle.dsql_laws_calls.specs.pool.declared.conn.Place.TheVariants.{Lent}
-use Rattle.dsql_laws_calls.specs.pool.declared.moves.Move.TheVariants.{OpenStart, Lend, Back, CloseStart, Gone, Fell}
+use Rattle.dsql_laws_calls.specs.pool.declared.moves.Move.TheVariants.{Lend, Fell}
 use Rattle.dsql_laws_calls.specs.history.declared.record.Try.{Try}
 use Rattle.dsql_laws_calls.specs.history.declared.record.Try.TheVariants.{Served, Refused}
 use Rattle.dsql_laws_calls.specs.history.Readers.Tries.{with_try, lost, was_served, newest_answer, is_tried, tries, loses}
 use Rattle.dsql_laws_calls.proofs.laws.Tests.{both, other_number, same_itself, same_number}
 use Rattle.dsql_laws_calls.proofs.Lists.{same_or_not}
 use Rattle.dsql_laws_calls.specs.history.declared.event.Event.{Event}
-use Rattle.dsql_laws_calls.specs.history.declared.event.Event.TheVariants.{Run, Entered, Heard, Pool, Waits, Ticked, SetLimit, Replied, Ended}
+use Rattle.dsql_laws_calls.specs.history.declared.event.Event.TheVariants.{Heard, Pool}
 use Rattle.dsql_laws_calls.specs.history.Readers.Journals.{journal}
 use Rattle.dsql_laws_calls.specs.history.Readers.Pool.{pool, place}
 use Rattle.dsql_laws_calls.specs.history.Readers.Works.{work}
@@ -72,17 +72,7 @@ so_on : (H : List Event) (last : Event) (c t : ℕ) (own : Owner) → Lawful (la
 so_on H (Heard e) c t own l is before = heard_so H e c t own l is before
 so_on H (Pool (Lend d u o k)) c t own l is before = lend_so (k == number_of own) (went_bad (journal H c)) (tries H (number_of own)) before
 so_on H (Pool (Fell d k)) c t own l is before = fell_so H d k c t own l is before
-so_on H (Pool (OpenStart d k)) c t own l is before = before
-so_on H (Pool (Back d)) c t own l is before = before
-so_on H (Pool (CloseStart d why)) c t own l is before = before
-so_on H (Pool (Gone d)) c t own l is before = before
-so_on H (Run version can) c t own l is before = before
-so_on H (Entered client n op) c t own l is before = before
-so_on H (Waits n) c t own l is before = before
-so_on H (Ticked now) c t own l is before = before
-so_on H (SetLimit s k) c t own l is before = before
-so_on H (Replied n reply) c t own l is before = before
-so_on H Ended c t own l is before = before
+so_on H _ c t own l is before = before
 
 pub served_or_bad : (H : List Event) (c t : ℕ) (own : Owner) → Lawful H → place H c ≡ Some (Lent t own) → (was_served (tries H (number_of own)) ≡ true) ⊎ (went_bad (journal H c) ≡ true)
 served_or_bad [] c t own l is = absurd cc

@@ -2,7 +2,7 @@
 use Rattle.std.proofs.Common.{◌≡◌, ◌≢◌, ℕ, ◌==◌, Bool, true, false, ◌&&◌, ◌||◌, List, ◌∷◌, refl, sym, ap, ◌∙◌}
 use Rattle.dsql_laws_calls.specs.journal.declared.entry.Entry.{Entry}
 use Rattle.dsql_laws_calls.specs.journal.declared.entry.Owner.{Owner}
-use Rattle.dsql_laws_calls.specs.journal.declared.entry.Owner.TheVariants.{Call, Tx, Pin, House}
+use Rattle.dsql_laws_calls.specs.journal.declared.entry.Owner.TheVariants.{Call, Tx, House}
 use Rattle.dsql_laws_calls.specs.journal.Kinds.{is_house, is_pin, is_tx_number, number_of}
 use Rattle.dsql_laws_calls.proofs.journal.Sentences.{MayFollow-of}
 use Rattle.dsql_laws_calls.proofs.LineParts.{heard_follows}
@@ -57,9 +57,7 @@ transaction_is k (Tx m) own h = by (m == k) refl h
     by : (b : Bool) → (m == k) ≡ b → (b || false) ≡ true → Tx m ≡ Tx k
     by true same g = ap Tx (same_number m k same)
     by false same g = absurd cc
-transaction_is k (Call m) own h = absurd cc
-transaction_is k (Pin m) own h = absurd cc
-transaction_is k House own h = absurd cc
+transaction_is k _ own h = absurd cc
 
 owns_none : (k : ℕ) (o : Owner) → (is_tx_number k o || is_pin o) ≡ true → is_house o ≡ false
 owns_none k (Call m) h = absurd cc

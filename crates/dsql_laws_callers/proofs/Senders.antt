@@ -9,7 +9,7 @@ use Rattle.dsql_laws_calls.specs.journal.declared.entry.Owner.{Owner}
 use Rattle.dsql_laws_calls.specs.journal.Kinds.{number_of}
 use Rattle.dsql_laws_calls.specs.pool.declared.conn.Conn.{Conn}
 use Rattle.dsql_laws_calls.specs.pool.declared.conn.Place.{Place}
-use Rattle.dsql_laws_calls.specs.pool.declared.conn.Place.TheVariants.{Idle, Lent, Opening, Closing}
+use Rattle.dsql_laws_calls.specs.pool.declared.conn.Place.TheVariants.{Lent}
 use Rattle.dsql_laws_calls.specs.pool.declared.moves.Move.TheVariants.{Lend}
 use Rattle.dsql_laws_calls.specs.pool.Changes.{lent}
 use Rattle.dsql_laws_calls.specs.pool.Places.{conn_of, is_idle, is_opening}
@@ -131,10 +131,7 @@ due_there H e h = by (place H e.conn) refl h
         let b = both (is_at H e.call_no e.conn) (has_turn H e.conn e.call_no && is_due (due_from H e.call_no (number_of o)) e.call) a.1 in
         let c = both (has_turn H e.conn e.call_no) (is_due (due_from H e.call_no (number_of o)) e.call) b.1 in
         record { owner = o; lent = is ∙ ap (λ u. Some (Lent u o)) (sym (same_number e.tenure t a.0)); at = b.0; due = c.1 }
-    by (Some Idle) is k = absurd cc
-    by (Some (Opening wanted)) is k = absurd cc
-    by (Some Closing) is k = absurd cc
-    by None is k = absurd cc
+    by _ is k = absurd cc
 
 pub not_due : (q : DriverCall) → is_due None q ≡ true → ⊥
 not_due q h = cc

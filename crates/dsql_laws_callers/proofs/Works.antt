@@ -10,11 +10,11 @@ use Rattle.dsql_laws_calls.proofs.Cases.{true_false}
 use Rattle.dsql_laws_calls.proofs.Lists.{same_or_not, row_old, row_new}
 use Rattle.dsql_laws_calls.proofs.Stays.{has_entered}
 use Rattle.dsql_laws_calls.specs.history.declared.event.Event.{Event}
-use Rattle.dsql_laws_calls.specs.history.declared.event.Event.TheVariants.{Run, Entered, Heard, Pool, Waits, Ticked, SetLimit, Replied, Ended}
+use Rattle.dsql_laws_calls.specs.history.declared.event.Event.TheVariants.{Entered}
 use Rattle.dsql_laws_calls.specs.history.declared.event.Op.{Op}
 use Rattle.dsql_laws_calls.specs.history.declared.event.Op.TheVariants as ops
 use Rattle.dsql_laws_calls.specs.history.declared.work.Work.{Work}
-use Rattle.dsql_laws_calls.specs.history.declared.work.Work.TheVariants.{Execute, ReadOne, HandOut, Begin, End, Ping, Fetch, Close, Look}
+use Rattle.dsql_laws_calls.specs.history.declared.work.Work.TheVariants.{End, Fetch, Close, Look}
 use Rattle.dsql_laws_calls.specs.history.Readers.Works.{works, work, work_of, hands_out_as, scope, asks, borrower_in, borrower}
 
 -- Holds if the call whose rows the work is for is among the first n.
@@ -47,17 +47,7 @@ maker_within H p = position_within p (works H) (some_works H)
 new_refers : (H : List Event) (op : Op) → RefersWithin (length (works H)) (work_of (works H) op)
 new_refers H (ops.Next rows) = maker_within H (hands_out_as rows)
 new_refers H (ops.RowsClose rows) = maker_within H (hands_out_as rows)
-new_refers H (ops.Exec target text args) = tt
-new_refers H (ops.Query label target text args) = tt
-new_refers H (ops.One target dests text args) = tt
-new_refers H (ops.Scan rows dests) = tt
-new_refers H (ops.Err rows) = tt
-new_refers H (ops.Begin label level read_only) = tt
-new_refers H (ops.Commit tx) = tt
-new_refers H (ops.Rollback tx) = tt
-new_refers H ops.Ping = tt
-new_refers H ops.DbClose = tt
-new_refers H ops.Stats = tt
+new_refers H _ = tt
 
 -- A call is only for rows of an earlier one.
 pub refers_within : (H : List Event) (m : ℕ) → RefersWithin (length (works H)) (work H m)
@@ -71,37 +61,16 @@ refers_within (Entered client n op ∷ H) m =
         → RefersWithin (length (works (Entered client n op ∷ H))) (work (Entered client n op ∷ H) m)
     by (inl new) up earlier = rw (row_new (works H) (work_of (works H) op) m Look new) (further (length (works H)) (length (works (Entered client n op ∷ H))) (work_of (works H) op) up (new_refers H op))
     by (inr old) up earlier = rw (row_old (works H) (work_of (works H) op) m Look old) (further (length (works H)) (length (works (Entered client n op ∷ H))) (work H m) up earlier)
-refers_within (Run version can ∷ H) m = refers_within H m
-refers_within (Heard e ∷ H) m = refers_within H m
-refers_within (Pool move ∷ H) m = refers_within H m
-refers_within (Waits n ∷ H) m = refers_within H m
-refers_within (Ticked now ∷ H) m = refers_within H m
-refers_within (SetLimit s n ∷ H) m = refers_within H m
-refers_within (Replied n reply ∷ H) m = refers_within H m
-refers_within (Ended ∷ H) m = refers_within H m
+refers_within (_ ∷ H) m = refers_within H m
 
 -- The work of a call stays, whatever event comes.
 pub work_stays : (H : List Event) (e : Event) (m : ℕ) → m < length (works H) → work (e ∷ H) m ≡ work H m
 work_stays H (Entered client n op) m old = row_old (works H) (work_of (works H) op) m Look (λ is. absurd (omega (arith, old, is)))
-work_stays H (Run version can) m old = refl
-work_stays H (Heard e) m old = refl
-work_stays H (Pool move) m old = refl
-work_stays H (Waits n) m old = refl
-work_stays H (Ticked now) m old = refl
-work_stays H (SetLimit s n) m old = refl
-work_stays H (Replied n reply) m old = refl
-work_stays H Ended m old = refl
+work_stays H _ m old = refl
 
 pub works_stay : (H : List Event) (e : Event) (m : ℕ) → m < length (works H) → m < length (works (e ∷ H))
 works_stay H (Entered client n op) m old = let more = length-append (works H) (work_of (works H) op ∷ []) in omega (arith, more, old)
-works_stay H (Run version can) m old = old
-works_stay H (Heard e) m old = old
-works_stay H (Pool move) m old = old
-works_stay H (Waits n) m old = old
-works_stay H (Ticked now) m old = old
-works_stay H (SetLimit s n) m old = old
-works_stay H (Replied n reply) m old = old
-works_stay H Ended m old = old
+works_stay H _ m old = old
 
 -- Returns the call whose connection is used for this work of call n.
 abbrev borrower_for : List Event → Work → ℕ → ℕ
@@ -116,13 +85,7 @@ rows_borrower H e k old = ap (λ it. borrower_in (scope it) k) (work_stays H e k
 same_borrower : (H : List Event) (e : Event) (it : Work) (m : ℕ) → RefersWithin (length (works H)) it → borrower_for (e ∷ H) it m ≡ borrower_for H it m
 same_borrower H e (Fetch k) m old = rows_borrower H e k old
 same_borrower H e (Close k) m old = rows_borrower H e k old
-same_borrower H e (End k) m old = refl
-same_borrower H e (Execute s) m old = refl
-same_borrower H e (ReadOne s dests) m old = refl
-same_borrower H e (HandOut s label) m old = refl
-same_borrower H e (Begin label level read_only) m old = refl
-same_borrower H e Ping m old = refl
-same_borrower H e Look m old = refl
+same_borrower H e _ m old = refl
 
 -- The call whose connection an entered call uses stays the same.
 pub borrower_stays : (H : List Event) (e : Event) (m : ℕ) → m < length (works H) → borrower (e ∷ H) m ≡ borrower H m

@@ -19,7 +19,7 @@ use Rattle.dsql_laws.specs.tx.Transactions.{begun_on, ended_by}
 use Rattle.dsql_laws_work.proofs.Rows.{same_or_not}
 use Rattle.dsql_laws.proofs.Tests.{both, same_number}
 use Rattle.dsql_laws.specs.history.declared.event.Event.{Event}
-use Rattle.dsql_laws.specs.history.declared.event.Event.TheVariants.{Run, Entered, Heard, Pool, Waits, Ticked, SetLimit, Replied, Ended}
+use Rattle.dsql_laws.specs.history.declared.event.Event.TheVariants.{Entered, Heard, Ended}
 use Rattle.dsql_laws.specs.history.declared.event.Op.{Op}
 use Rattle.dsql_laws.specs.history.declared.event.Op.TheVariants as ops
 use Rattle.dsql_laws.specs.history.declared.work.Work.{Work}
@@ -180,12 +180,7 @@ turned H (Heard e) n b =
       | inr it ↦ (let clash : false ≡ true = sym (ap is_some it.new) ∙ b in absurd cc)
     ]
 turned H Ended n b = inr (tx_ends.EndOfRun, ended_tx H n)
-turned H (Run version can) n b = inl refl
-turned H (Pool m) n b = inl refl
-turned H (Waits m) n b = inl refl
-turned H (Ticked now) n b = inl refl
-turned H (SetLimit s m) n b = inl refl
-turned H (Replied m reply) n b = inl refl
+turned H _ n b = inl refl
 
 turned_begun : (o p : Option Tx) → Turned o p → is_some p ≡ is_some o
 turned_begun o p (inl same) = ap is_some same

@@ -17,7 +17,7 @@ use Rattle.dsql_laws.proofs.Tests.{same_number}
 use Rattle.dsql_laws.specs.history.declared.work.Work.{Work}
 use Rattle.dsql_laws.specs.history.declared.work.Work.TheVariants.{HandOut, Fetch}
 use Rattle.dsql_laws.specs.history.declared.event.Event.{Event}
-use Rattle.dsql_laws.specs.history.declared.event.Event.TheVariants.{Run, Entered, Heard, Pool, Waits, Ticked, SetLimit, Replied, Ended}
+use Rattle.dsql_laws.specs.history.declared.event.Event.TheVariants.{Entered, Heard, Ended}
 use Rattle.dsql_laws.specs.history.declared.event.Op.{Op}
 use Rattle.dsql_laws.specs.history.declared.event.Op.TheVariants as ops
 use Rattle.dsql_laws.specs.history.Readers.Unfinished.{is_unfinished}
@@ -124,12 +124,7 @@ pub rows_kept : (H : List Event) (e : Event) (n : ℕ) → Kept (rows_by H n) (r
 rows_kept H (Entered client m op) n = kept_entered H op n (handed_out H)
 rows_kept H (Heard e) n = kept_heard H (work H e.call_no) e.call_no n e.call e.answer (handed_out H)
 rows_kept H Ended n = kept_each (λ k. ended_by (last_end (scope (work H k)))) n (handed_out H) (λ k. ended_stays (last_end (scope (work H k))))
-rows_kept H (Run version can) n = kept_same (rows_by H n)
-rows_kept H (Pool m) n = kept_same (rows_by H n)
-rows_kept H (Waits m) n = kept_same (rows_by H n)
-rows_kept H (Ticked now) n = kept_same (rows_by H n)
-rows_kept H (SetLimit setting m) n = kept_same (rows_by H n)
-rows_kept H (Replied m reply) n = kept_same (rows_by H n)
+rows_kept H _ n = kept_same (rows_by H n)
 
 -- Rows that a call is recorded to have ended are over.
 

@@ -347,13 +347,7 @@ old_ender H (Entered client n op) l o m k u is = by (same_or_not m n)
         never (sym works ∙ ap is_worker (no_work_yet H m (omega (arith, new, same))))
     by (inr apart) = o.ender m k (sym (old_unfinished H client n op m apart) ∙ u) is
 old_ender H (Replied n reply) l o m k u is = let b = still_unfinished H n reply m u in o.ender m k b.1 is
-old_ender H (Run version can) l o m k u is = o.ender m k u is
-old_ender H (Heard e) l o m k u is = o.ender m k u is
-old_ender H (Pool move) l o m k u is = o.ender m k u is
-old_ender H (Waits n) l o m k u is = o.ender m k u is
-old_ender H (Ticked now) l o m k u is = o.ender m k u is
-old_ender H (SetLimit s n) l o m k u is = o.ender m k u is
-old_ender H Ended l o m k u is = o.ender m k u is
+old_ender H _ l o m k u is = o.ender m k u is
 
 over_after : (H : List Event) (e : Event) → Lawful (e ∷ H) → has_ended H ≡ true → Over H → Over (e ∷ H)
 over_after H e l h o =

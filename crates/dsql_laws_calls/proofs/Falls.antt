@@ -11,11 +11,11 @@ use Rattle.dsql_laws.specs.journal.declared.entry.Entry.{Entry}
 use Rattle.dsql_laws.specs.journal.declared.entry.Owner.{Owner}
 use Rattle.dsql_laws.specs.wait.declared.request.Request.{Request}
 use Rattle.dsql_laws.specs.pool.declared.conn.Place.{Place}
-use Rattle.dsql_laws.specs.pool.declared.conn.Place.TheVariants.{Idle, Lent, Opening, Closing}
+use Rattle.dsql_laws.specs.pool.declared.conn.Place.TheVariants.{Opening, Closing}
 use Rattle.dsql_laws.specs.pool.declared.moves.CloseCause.{CloseCause}
 use Rattle.dsql_laws.specs.pool.declared.moves.CloseCause.TheVariants.{IdleFull, DbClosed}
 use Rattle.dsql_laws.specs.pool.declared.moves.Move.{Move}
-use Rattle.dsql_laws.specs.pool.declared.moves.Move.TheVariants.{OpenStart, Lend, Back, CloseStart, Gone, Fell}
+use Rattle.dsql_laws.specs.pool.declared.moves.Move.TheVariants.{Back, CloseStart, Gone, Fell}
 use Rattle.dsql_laws.specs.pool.declared.moves.Outcome.{Outcome}
 use Rattle.dsql_laws.specs.pool.declared.moves.Outcome.TheVariants.{Serves}
 use Rattle.dsql_laws.specs.pool.Calls.{then_openings, moves_opened, moves_failed, open_set, idle_set, lifetime_set, idle_time_set}
@@ -83,18 +83,12 @@ unwanted_falls_none c p _ = refl
 pub opened_falls_none : (c : ℕ) (p : Pooled) (at : Option Place) → are_no_falls (when_opened at c p) ≡ true
 opened_falls_none c p (Some (Opening (Some owner))) = refl
 opened_falls_none c p (Some (Opening None)) = unwanted_falls_none c p (when_unwanted p)
-opened_falls_none c p (Some Idle) = refl
-opened_falls_none c p (Some (Lent t owner)) = refl
-opened_falls_none c p (Some Closing) = refl
-opened_falls_none c p None = refl
+opened_falls_none c p _ = refl
 
 leaving_falls_none : (H : List Event) (m : Move) → are_no_falls (leaving H m) ≡ true
 leaving_falls_none H (Back c) = back_falls_none c (pool H) (when_given_back (fate H c) c (pool H))
 leaving_falls_none H (CloseStart c why) = back_falls_none c (pool H) (when_given_back (fate H c) c (pool H))
-leaving_falls_none H (OpenStart c n) = refl
-leaving_falls_none H (Lend c t o n) = refl
-leaving_falls_none H (Gone c) = refl
-leaving_falls_none H (Fell c n) = refl
+leaving_falls_none H _ = refl
 
 fewer_fall_none : (ms : List Move) → are_no_falls ms ≡ true → are_no_falls (drop 1 ms) ≡ true
 fewer_fall_none [] h = refl
@@ -107,9 +101,7 @@ answered_later answer c p (Some (Opening wanted)) =
     let failed : are_no_falls (drop 1 (moves_failed c p)) ≡ true = openings_fall_none (due_openings q) (next_number q) in
     elim (is_done answer) as (λ b. are_no_falls (drop 1 (cond b (moves_opened c p) (moves_failed c p))) ≡ true) [ true ↦ opened | false ↦ failed ]
 answered_later answer c p (Some Closing) = let q = made (Gone c ∷ []) p in openings_fall_none (due_openings q) (next_number q)
-answered_later answer c p (Some Idle) = refl
-answered_later answer c p (Some (Lent t owner)) = refl
-answered_later answer c p None = refl
+answered_later answer c p _ = refl
 
 pub left_falls_none : (H : List Event) (m : Move) (ms : List Move) → are_no_falls (drop 1 ms) ≡ true → are_no_falls (left_of H m ms) ≡ true
 left_falls_none H m [] h = fewer_fall_none (leaving H m) (leaving_falls_none H m)
@@ -163,10 +155,7 @@ answered_falls H e c n (Some (Opening wanted)) is h some = by (is_done e.answer)
           opening = ap (place H) (sym (ap fallen_from same)) ∙ is;
           to = sym (ap fallen same) ∙ ap (λ at. falls_to at (pool H)) is;
         }
-answered_falls H e c n (Some Closing) is h some = absurd cc
-answered_falls H e c n (Some Idle) is h some = absurd cc
-answered_falls H e c n (Some (Lent t o)) is h some = absurd cc
-answered_falls H e c n None is h some = absurd cc
+answered_falls H e c n _ is h some = absurd cc
 
 pub falls : (H : List Event) (c n : ℕ) → Allowed H (Pool (Fell c n)) → FallsTo H c n
 falls H c n a = let k = keeps_of H (Pool (Fell c n)) a in by H k.order k.causes

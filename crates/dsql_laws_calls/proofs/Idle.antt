@@ -32,7 +32,7 @@ use Rattle.dsql_laws.specs.history.declared.work.Work.{Work}
 use Rattle.dsql_laws.specs.history.declared.work.Work.TheVariants.{Look}
 use Rattle.dsql_laws.specs.history.Readers.Works.{asks, works, work, work_of, borrower}
 use Rattle.dsql_laws.specs.history.declared.event.Event.{Event}
-use Rattle.dsql_laws.specs.history.declared.event.Event.TheVariants.{Run, Entered, Heard, Pool, Waits, Ticked, SetLimit, Replied, Ended}
+use Rattle.dsql_laws.specs.history.declared.event.Event.TheVariants.{Run, Entered, Heard, Pool, Ticked, SetLimit, Replied, Ended}
 use Rattle.dsql_laws.specs.history.declared.event.Op.TheVariants.{DbClose}
 use Rattle.dsql_laws.specs.history.Readers.Owed.{owed}
 use Rattle.dsql_laws.specs.history.Readers.Unfinished.{is_unfinished}
@@ -167,11 +167,7 @@ tries_stay H (Pool (Back c)) n h = h
 tries_stay H (Pool (CloseStart c why)) n h = h
 tries_stay H (Pool (Gone c)) n h = h
 tries_stay H (Pool (Fell c k)) n h = more_tries (k == n) _ (tries H n) h
-tries_stay H (Waits k) n h = h
-tries_stay H (Ticked now) n h = h
-tries_stay H (SetLimit s k) n h = h
-tries_stay H (Replied m reply) n h = h
-tries_stay H Ended n h = h
+tries_stay H _ n h = h
 
 still : (H : List Event) (last : Event) (e : Entry) → not (parts last e) ≡ true → is_unfinished H e.call_no ≡ true → is_unfinished (last ∷ H) e.call_no ≡ true
 still H (Replied m reply) e apart u = replied_still (m == e.call_no) refl apart
@@ -180,13 +176,7 @@ still H (Replied m reply) e apart u = replied_still (m == e.call_no) refl apart
     replied_still true is k = absurd cc
     replied_still false is k = stays_unfinished H m reply e.call_no is u
 still H (Entered client m op) e apart u = enters_unfinished H client m op e.call_no u
-still H (Run version can) e apart u = u
-still H (Heard x) e apart u = u
-still H (Pool m) e apart u = u
-still H (Waits k) e apart u = u
-still H (Ticked now) e apart u = u
-still H (SetLimit s k) e apart u = u
-still H Ended e apart u = u
+still H _ e apart u = u
 
 -- A call for which an answer is under way still sends.
 pub came_of : (H : List Event) (e : Entry) → Lawful H → may_come H e ≡ true → (e.call_no == 0) ≡ false → Sends H e.call_no

@@ -12,7 +12,7 @@ use Rattle.dsql_laws.specs.history.declared.event.Control.TheVariants.{Tick, Set
 use Rattle.dsql_laws_calls.proofs.Found.{place_in}
 use Rattle.dsql_laws_calls.proofs.Cases.{control_opened}
 use Rattle.dsql_laws.specs.history.declared.event.Event.{Event}
-use Rattle.dsql_laws.specs.history.declared.event.Event.TheVariants.{Run, Entered, Heard, Pool, Waits, Ticked, SetLimit, Replied, Ended}
+use Rattle.dsql_laws.specs.history.declared.event.Event.TheVariants.{Entered, Heard, Pool, Ticked, SetLimit}
 use Rattle.dsql_laws.specs.history.declared.event.Op.TheVariants.{DbClose}
 use Rattle.dsql_laws.specs.history.Readers.Journals.{heard_in}
 use Rattle.dsql_laws.specs.history.Readers.Pool.{pool, place}
@@ -95,17 +95,7 @@ kept_on z f H (Pool (OpenStart d k)) c t own l a is kept = row_old (all_there z 
     beyond : c ≡ length (all_there z f H) → ⊥
     beyond new = let row = has_row z f H c (Lent t own) l is in omega (arith, row, new)
 kept_on z f H (Pool (Lend d u o k)) c t own l a is kept = row_off (all_there z f H) d z c z (lent_apart H d u o k c t own a is) ∙ kept
-kept_on z f H (Pool (Back d)) c t own l a is kept = kept
-kept_on z f H (Pool (CloseStart d why)) c t own l a is kept = kept
-kept_on z f H (Pool (Gone d)) c t own l a is kept = kept
-kept_on z f H (Pool (Fell d k)) c t own l a is kept = kept
-kept_on z f H (Run version can) c t own l a is kept = kept
-kept_on z f H (Entered client m op) c t own l a is kept = kept
-kept_on z f H (Waits m) c t own l a is kept = kept
-kept_on z f H (Ticked now) c t own l a is kept = kept
-kept_on z f H (SetLimit s m) c t own l a is kept = kept
-kept_on z f H (Replied m reply) c t own l a is kept = kept
-kept_on z f H Ended c t own l a is kept = kept
+kept_on z f H _ c t own l a is kept = kept
 
 -- A lending begins with nothing kept.
 kept_first : {A : Type 0} (z : A) (f : Entry → A → A) (H : List Event) (c t : ℕ) (own : Owner) (k : ℕ) → Lawful (Pool (Lend c t own k) ∷ H) → place (Pool (Lend c t own k) ∷ H) c ≡ Some (Lent t own) → IsKept z f (Pool (Lend c t own k) ∷ H) c t

@@ -20,7 +20,7 @@ use Rattle.dsql_laws.proofs.Tests.{both}
 use Rattle.dsql_laws_calls.proofs.Found.{place_in, uses_in, unwanted_lent, changed_off, gone_at, gone_off, begun_at, begun_off, shut_found, unwanted_in, unwanted_place}
 use Rattle.dsql_laws_calls.proofs.Cases.{true_false, control_conns}
 use Rattle.dsql_laws.specs.history.declared.event.Event.{Event}
-use Rattle.dsql_laws.specs.history.declared.event.Event.TheVariants.{Run, Entered, Heard, Pool, Waits, Ticked, SetLimit, Replied, Ended}
+use Rattle.dsql_laws.specs.history.declared.event.Event.TheVariants.{Entered, Pool, Ticked, SetLimit, Ended}
 use Rattle.dsql_laws.specs.history.declared.event.Op.TheVariants.{DbClose}
 use Rattle.dsql_laws.specs.history.Readers.Pool.{pool, place, uses, wanted_by}
 use Rattle.dsql_laws.specs.history.Rules.Moves.{moves_from, numbers_lending}
@@ -82,11 +82,7 @@ stays_found H (Entered client k DbClose) c t own l a is used = inr (shut_found c
 stays_found H Ended c t own l a is used = inr (shut_found c (pool H))
 stays_found H (Ticked now) c t own l a is used = inl (ap (conn_of c) (control_conns (Tick now) (pool H)))
 stays_found H (SetLimit s k) c t own l a is used = inl (ap (conn_of c) (control_conns (Set s k) (pool H)))
-stays_found H (Entered client k op) c t own l a is used = inl refl
-stays_found H (Run version can) c t own l a is used = inl refl
-stays_found H (Heard e) c t own l a is used = inl refl
-stays_found H (Waits k) c t own l a is used = inl refl
-stays_found H (Replied k reply) c t own l a is used = inl refl
+stays_found H _ c t own l a is used = inl refl
 
 still_lent : (before after : Option Conn) (t : ℕ) (o : Owner) → StaysAs before after → place_in before ≡ Some (Lent t o) → place_in after ≡ Some (Lent t o)
 still_lent before after t o (inl same) is = ap place_in same ∙ is
@@ -111,10 +107,7 @@ Lends e c t own = (k : ℕ) × (e ≡ Pool (Lend c t own k))
 
 was_shut : (at : Option Place) (t : ℕ) (o : Owner) → option_map unwanted_place at ≡ Some (Lent t o) → at ≡ Some (Lent t o)
 was_shut (Some (Lent u p)) t o h = h
-was_shut (Some Idle) t o h = absurd cc
-was_shut (Some (Opening w)) t o h = absurd cc
-was_shut (Some Closing) t o h = absurd cc
-was_shut None t o h = absurd cc
+was_shut _ t o h = absurd cc
 
 lent_when_shut : (H : List Event) (c t : ℕ) (o : Owner) → place_at (shut (pool H)) c ≡ Some (Lent t o) → place H c ≡ Some (Lent t o)
 lent_when_shut H c t o is = was_shut (place H c) t o (sym (ap place_in (shut_found c (pool H)) ∙ unwanted_in (conn_of c (pool H).conns)) ∙ is)
@@ -192,8 +185,4 @@ lent_before H (Entered client k DbClose) c t own l is = inl (lent_when_shut H c 
 lent_before H Ended c t own l is = inl (lent_when_shut H c t own is)
 lent_before H (Ticked now) c t own l is = inl (sym (ap (place_of c) (control_conns (Tick now) (pool H))) ∙ is)
 lent_before H (SetLimit s k) c t own l is = inl (sym (ap (place_of c) (control_conns (Set s k) (pool H))) ∙ is)
-lent_before H (Entered client k op) c t own l is = inl is
-lent_before H (Run version can) c t own l is = inl is
-lent_before H (Heard e) c t own l is = inl is
-lent_before H (Waits k) c t own l is = inl is
-lent_before H (Replied k reply) c t own l is = inl is
+lent_before H _ c t own l is = inl is

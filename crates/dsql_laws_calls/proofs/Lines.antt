@@ -23,7 +23,7 @@ use Rattle.dsql_laws.specs.works.Line as plain
 use Rattle.dsql_laws.specs.works.Line.{Asked, sent_over, handed}
 use Rattle.dsql_laws.proofs.Tests.{both, same_itself}
 use Rattle.dsql_laws.specs.history.declared.event.Event.{Event}
-use Rattle.dsql_laws.specs.history.declared.event.Event.TheVariants.{Run, Entered, Heard, Pool, Waits, Ticked, SetLimit, Replied, Ended}
+use Rattle.dsql_laws.specs.history.declared.event.Event.TheVariants.{Run, Heard}
 use Rattle.dsql_laws.specs.history.declared.work.Scope.{Scope}
 use Rattle.dsql_laws.specs.history.declared.work.Scope.TheVariants.{Db, Tx}
 use Rattle.dsql_laws.specs.history.declared.work.Work.{Work}
@@ -68,14 +68,7 @@ caps_stay (x ∷ H) (Run version can) c p a is = let k = both (begins_with_run (
   where
     wrong : false ≡ true → ⊥
     wrong h = cc
-caps_stay H (Entered client n op) c p a is = refl
-caps_stay H (Heard e) c p a is = refl
-caps_stay H (Pool m) c p a is = refl
-caps_stay H (Waits n) c p a is = refl
-caps_stay H (Ticked now) c p a is = refl
-caps_stay H (SetLimit s k) c p a is = refl
-caps_stay H (Replied n reply) c p a is = refl
-caps_stay H Ended c p a is = refl
+caps_stay H _ c p a is = refl
 
 reset_as : (ca cb : Caps) (x y : ℕ) → cb ≡ ca → y ≡ x → (cb.resetter && nat_le 2 y) ≡ (ca.resetter && nat_le 2 x)
 reset_as ca cb x y p q = rw (p, q) refl
@@ -110,14 +103,7 @@ line_stays H e c t own n w l a is used quiet busy =
 -- An event that doesn't part an entry leaves the journal of the entry's connection as it was.
 pub unheard : (H : List Event) (last : Event) (e : Entry) → parts last e ≡ false → journal (last ∷ H) e.conn ≡ journal H e.conn
 unheard H (Heard x) e on = ap (λ (b : Bool). cond b (x ∷ journal H e.conn) (journal H e.conn)) on
-unheard H (Run version can) e on = refl
-unheard H (Entered client n op) e on = refl
-unheard H (Pool m) e on = refl
-unheard H (Waits n) e on = refl
-unheard H (Ticked now) e on = refl
-unheard H (SetLimit s k) e on = refl
-unheard H (Replied n reply) e on = refl
-unheard H Ended e on = refl
+unheard H _ e on = refl
 
 -- If a call sends something when nothing is wanted of its rows, it also sends something when they are to be
 -- closed.

@@ -52,10 +52,7 @@ due_there H (Some (Lent t o)) e h some =
     let b = both (is_at H e.call_no e.conn) (has_turn H e.conn e.call_no && is_due (due_from H e.call_no (number_of o)) e.call) a.1 in
     let c = both (has_turn H e.conn e.call_no) (is_due (due_from H e.call_no (number_of o)) e.call) b.1 in
     subst (λ b. is_due (cond b (tidying H (number_of o)) (due_for H e.call_no)) e.call ≡ true) some c.1
-due_there H (Some Idle) e h some = absurd cc
-due_there H (Some (Opening w)) e h some = absurd cc
-due_there H (Some Closing) e h some = absurd cc
-due_there H None e h some = absurd cc
+due_there H _ e h some = absurd cc
 
 pub sent_no_look : (H : List Event) (e : Entry) → may_come H e ≡ true → (e.call_no == 0) ≡ false → is_look (work H e.call_no) ≡ false
 sent_no_look [] e h some = absurd cc

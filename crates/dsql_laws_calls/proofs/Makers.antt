@@ -15,7 +15,7 @@ use Rattle.dsql_laws.specs.journal.declared.entry.Entry.{Entry}
 use Rattle.dsql_laws.specs.journal.Kinds.{number_of}
 use Rattle.dsql_laws.specs.journal.Readers.{went_bad}
 use Rattle.dsql_laws.specs.pool.declared.conn.Place.{Place}
-use Rattle.dsql_laws.specs.pool.declared.conn.Place.TheVariants.{Idle, Lent, Opening, Closing}
+use Rattle.dsql_laws.specs.pool.declared.conn.Place.TheVariants.{Lent}
 use Rattle.dsql_laws.specs.rows.declared.rows.Rows.{Rows}
 use Rattle.dsql_laws.specs.rows.declared.end.RowsEnd.TheVariants as ends
 use Rattle.dsql_laws.specs.rows.OpenRows.{fresh, ended_by, rows_of, changed}
@@ -210,10 +210,7 @@ ending_begins H k = by (tx_end H k)
         let it = or_else (first_closing H k 0 (works H)) (end_after H (went_bad (journal H c)) end (heard_in H c t)) in
         cond_begins (number_of o == k) it None
         (or_begins (first_closing H k 0 (works H)) (end_after H (went_bad (journal H c)) end (heard_in H c t)) (first_begins H k 0 (works H)) (end_begins H (went_bad (journal H c)) end (heard_in H c t))) refl
-    at c end (Some Idle) = refl
-    at c end (Some (Opening wanted)) = refl
-    at c end (Some Closing) = refl
-    at c end None = refl
+    at c end _ = refl
 
     by : (o : Option TxEnd) → begins_none (ending_with H k o) ≡ true
     by None = refl
@@ -274,7 +271,4 @@ begin_due_now H (Some (Lent t o)) e h is = whose (e.call_no == 0) refl
         by : (b : Bool) → begins (work H e.call_no) ≡ b → begins (work H e.call_no) ≡ true
         by true it = it
         by false it = clash (no_begin_due (due_for H e.call_no) e.call (due_begins H e.call_no some it) its)
-begin_due_now H (Some Idle) e h is = absurd cc
-begin_due_now H (Some (Opening wanted)) e h is = absurd cc
-begin_due_now H (Some Closing) e h is = absurd cc
-begin_due_now H None e h is = absurd cc
+begin_due_now H _ e h is = absurd cc

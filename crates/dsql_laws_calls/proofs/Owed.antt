@@ -7,9 +7,9 @@ use Rattle.dsql_laws.specs.driver.declared.answer.DriverAnswer.{DriverAnswer}
 use Rattle.dsql_laws.specs.journal.Readers.{is_empty}
 use Rattle.dsql_laws.specs.wait.declared.request.Request.{Request}
 use Rattle.dsql_laws.specs.pool.declared.conn.Place.{Place}
-use Rattle.dsql_laws.specs.pool.declared.conn.Place.TheVariants.{Idle, Lent, Opening, Closing}
+use Rattle.dsql_laws.specs.pool.declared.conn.Place.TheVariants.{Opening, Closing}
 use Rattle.dsql_laws.specs.pool.declared.moves.Move.{Move}
-use Rattle.dsql_laws.specs.pool.declared.moves.Move.TheVariants.{OpenStart, Lend, Back, CloseStart, Gone, Fell}
+use Rattle.dsql_laws.specs.pool.declared.moves.Move.TheVariants.{Back, CloseStart, Gone, Fell}
 use Rattle.dsql_laws.specs.pool.declared.moves.CloseCause.{CloseCause}
 use Rattle.dsql_laws.specs.pool.declared.moves.CloseCause.TheVariants.{DbClosed, IdleFull}
 use Rattle.dsql_laws.specs.pool.declared.moves.Outcome.{Outcome}
@@ -67,10 +67,7 @@ unwanted_few c p _ = omega arith
 opened_few : (c : ℕ) (p : Pooled) (at : Option Place) → length (when_opened at c p) ≤ 1
 opened_few c p (Some (Opening (Some owner))) = omega arith
 opened_few c p (Some (Opening None)) = unwanted_few c p (when_unwanted p)
-opened_few c p (Some Idle) = omega arith
-opened_few c p (Some (Lent t owner)) = omega arith
-opened_few c p (Some Closing) = omega arith
-opened_few c p None = omega arith
+opened_few c p _ = omega arith
 
 either_few : (b : Bool) (ms ns : List Move) → length ms ≤ most_moves → length ns ≤ most_moves → length (cond b ms ns) ≤ most_moves
 either_few true ms ns h k = h
@@ -84,9 +81,7 @@ answered_few answer c p (Some (Opening wanted)) =
     let failed : length (moves_failed c p) ≤ most_moves = omega (arith, fell) in
     either_few (is_done answer) (moves_opened c p) (moves_failed c p) opened failed
 answered_few answer c p (Some Closing) = let few = then_few (Gone c ∷ []) p 1 (omega arith) in omega (arith, few)
-answered_few answer c p (Some Idle) = omega arith
-answered_few answer c p (Some (Lent t owner)) = omega arith
-answered_few answer c p None = omega arith
+answered_few answer c p _ = omega arith
 
 closed_few : (p : Pooled) → length p.idle ≤ most_open → length (moves_closed p) ≤ most_moves
 closed_few p h = let same = length-map p.idle (λ c. CloseStart c DbClosed) in omega (arith, same, h)
@@ -131,10 +126,7 @@ drop_few (x ∷ xs) = omega arith
 leaving_few : (H : List Event) (m : Move) → length (leaving H m) ≤ most_given_back
 leaving_few H (Back c) = few_given_back H c
 leaving_few H (CloseStart c why) = few_given_back H c
-leaving_few H (OpenStart c n) = omega arith
-leaving_few H (Lend c t o n) = omega arith
-leaving_few H (Gone c) = omega arith
-leaving_few H (Fell c n) = omega arith
+leaving_few H _ = omega arith
 
 left_few : (H : List Event) (m : Move) (ms : List Move) → length ms ≤ most_moves → length (left_of H m ms) ≤ most_moves
 left_few H m [] h = let few = leaving_few H m in let less = drop_few (leaving H m) in omega (arith, few, less)

@@ -8,7 +8,7 @@ use Rattle.dsql_laws.specs.journal.declared.entry.Entry.{Entry}
 use Rattle.dsql_laws.specs.journal.declared.entry.Owner.{Owner}
 use Rattle.dsql_laws.specs.journal.Kinds.{number_of}
 use Rattle.dsql_laws.specs.pool.declared.conn.Place.{Place}
-use Rattle.dsql_laws.specs.pool.declared.conn.Place.TheVariants.{Idle, Lent, Opening, Closing}
+use Rattle.dsql_laws.specs.pool.declared.conn.Place.TheVariants.{Lent}
 use Rattle.dsql_laws.specs.rows.declared.rows.Rows.{Rows}
 use Rattle.dsql_laws.specs.rows.OpenRows.{is_live}
 use Rattle.dsql_laws_work.proofs.Rows.{not_true}
@@ -149,10 +149,7 @@ due_now H e h = by (place H e.conn) refl h
           due = c.1;
           site = λ some. same_number (site H e.call_no) e.conn (second_true (site H e.call_no == e.conn) (ap (λ x. x || (site H e.call_no == e.conn)) (sym some) ∙ b.0));
         }
-    by (Some Idle) is k = absurd cc
-    by (Some (Opening wanted)) is k = absurd cc
-    by (Some Closing) is k = absurd cc
-    by None is k = absurd cc
+    by _ is k = absurd cc
 
 -- Holds if this driver call is due for call m, which has no reply yet.
 pub record DueOf (H : List Event) (m : ℕ) (q : DriverCall) : Type 0 where

@@ -1,7 +1,7 @@
 -- Connections are lent to calls and to the transactions that they begin, and are opened for them. Each of these
 -- calls asks for a connection of its own.
 use Rattle.std.proofs.Common.{◌≡◌, ◌≢◌, ℕ, zero, suc, ◌+◌, ◌-◌, ◌≤◌, ◌==◌, Bool, true, false, not, ◌&&◌, cond, List, [], ◌∷◌, ◌++◌, map, Option, Some, None, refl, sym, ap, subst, ◌∙◌, arith}
-use Rattle.std.specs.Prelude.{drop, take, length, find, count_by, Result, Ok, Err}
+use Rattle.std.specs.Prelude.{drop, take, length, find, count_by, Result, Ok}
 use Rattle.std.specs.List.{list_all}
 use Rattle.std.specs.Option.{option_map}
 use Rattle.std.proofs.lemmas.List.Folds.{list_all-append}
@@ -131,10 +131,7 @@ owned_found f c conns p all is = by (conn_of c conns) refl is
 opened_well : (f : Owner → Bool) (c : ℕ) (p : Pooled) (at : Option Place) → place_at p c ≡ at → are_owned f p.conns ≡ true → are_asked f p.waiting ≡ true → lend_well f (when_opened at c p) ≡ true
 opened_well f c p (Some (Opening (Some owner))) is all h = together (f owner) true (owned_found f c p.conns (Opening (Some owner)) all is) refl
 opened_well f c p (Some (Opening None)) is all h = unwanted_well f c p (when_unwanted p) h
-opened_well f c p (Some Idle) is all h = refl
-opened_well f c p (Some (Lent t o)) is all h = refl
-opened_well f c p (Some Closing) is all h = refl
-opened_well f c p None is all h = refl
+opened_well f c p _ is all h = refl
 
 answered_well : (f : Owner → Bool) (answer : DriverAnswer) (c : ℕ) (p : Pooled) (at : Option Place) → are_owned f p.conns ≡ true → are_asked f p.waiting ≡ true → lend_well f (answered answer c p at) ≡ true
 answered_well f answer c p (Some (Opening wanted)) all h =
@@ -143,9 +140,7 @@ answered_well f answer c p (Some (Opening wanted)) all h =
       | false ↦ then_well f (Fell c (falls_to (place_at p c) p) ∷ []) p refl
     ]
 answered_well f answer c p (Some Closing) all h = then_well f (Gone c ∷ []) p refl
-answered_well f answer c p (Some Idle) all h = refl
-answered_well f answer c p (Some (Lent t o)) all h = refl
-answered_well f answer c p None all h = refl
+answered_well f answer c p _ all h = refl
 
 control_well : (f : Owner → Bool) (control : Control) (p : Pooled) → lend_well f (controlled control p) ≡ true
 control_well f (Tick n) p = outdated_all (lends_well f) (λ c why. refl) (ticked n p)
@@ -162,10 +157,7 @@ left_well : (f : Owner → Bool) (H : List Event) (m : Move) (ms : List Move) �
 left_well f H m (due ∷ later) h all = rest_well f (due ∷ later) all
 left_well f H (Back c) [] h all = rest_well f (given_back H c) (back_well f c (pool H) (when_given_back (fate H c) c (pool H)) h)
 left_well f H (CloseStart c why) [] h all = rest_well f (given_back H c) (back_well f c (pool H) (when_given_back (fate H c) c (pool H)) h)
-left_well f H (OpenStart c n) [] h all = refl
-left_well f H (Lend c t o n) [] h all = refl
-left_well f H (Gone c) [] h all = refl
-left_well f H (Fell c n) [] h all = refl
+left_well f H _ [] h all = refl
 
 -- A call that asks.
 
@@ -200,10 +192,7 @@ lent_asker H c t o n l is =
 
     by : (outcome : Result Asked AskFault) → is_first (moves_asked (request H n) outcome) (Lend c t o n) ≡ true → is_asker H (owner_of H n) ≡ true → is_asker H o ≡ true
     by (Ok (asked.Lent d u)) first h = subst (λ q. is_asker H q ≡ true) (same_owner_of d u n (owner_of H n) (move_is (Lend d u (owner_of H n) n) (Lend c t o n) first)) h
-    by (Ok asked.Queued) first h = absurd cc
-    by (Ok (asked.Opening d)) first h = absurd cc
-    by (Ok asked.Closed) first h = absurd cc
-    by (Err why) first h = absurd cc
+    by _ first h = absurd cc
 
 lending_asker : (H : List Event) (c t : ℕ) (o : Owner) (n : ℕ) → Lawful H → Keeps H (Pool (Lend c t o n)) → lend_well (is_asker H) (owed H) ≡ true → is_asker H o ≡ true
 lending_asker H c t o n l k owing = by (owed H) refl owing

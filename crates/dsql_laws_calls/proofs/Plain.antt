@@ -20,7 +20,7 @@ use Rattle.dsql_laws.specs.journal.declared.entry.Entry.{Entry}
 use Rattle.dsql_laws.specs.journal.Kinds.{number_of}
 use Rattle.dsql_laws.specs.journal.Readers.{went_bad}
 use Rattle.dsql_laws.specs.pool.declared.conn.Place.{Place}
-use Rattle.dsql_laws.specs.pool.declared.conn.Place.TheVariants.{Idle, Lent, Opening, Closing}
+use Rattle.dsql_laws.specs.pool.declared.conn.Place.TheVariants.{Lent}
 use Rattle.dsql_laws.specs.works.declared.work.Aim.{Aim}
 use Rattle.dsql_laws.specs.works.declared.work.Aim.TheVariants as aims
 use Rattle.dsql_laws.specs.works.Exchanges.{exchanges}
@@ -152,10 +152,7 @@ at_plain : (H : List Event) (n : ℕ) (w : Wish) (c : ℕ) (at : Option Place) �
 at_plain H n w c (Some (Lent t o)) not_begin =
     let line = line_with H n c (went_bad (journal H c)) w (work H n) (scope (work H n)) (line_in o n (heard_in H c t)) in
     either_plain (number_of o == borrower H n) line None (with_plain H n c (went_bad (journal H c)) w (work H n) (scope (work H n)) (line_in o n (heard_in H c t)) not_begin) refl
-at_plain H n w c (Some Idle) not_begin = refl
-at_plain H n w c (Some (Opening wanted)) not_begin = refl
-at_plain H n w c (Some Closing) not_begin = refl
-at_plain H n w c None not_begin = refl
+at_plain H n w c _ not_begin = refl
 
 pub line_of_plain : (H : List Event) (n : ℕ) (w : Wish) → begins (work H n) ≡ false → is_plain (line_of H n w) ≡ true
 line_of_plain H n w not_begin = at_plain H n w (site H n) (place H (site H n)) not_begin
@@ -183,7 +180,4 @@ pub at_ends : (H : List Event) (n : ℕ) (w : Wish) (c : ℕ) (at : Option Place
 at_ends H n w c (Some (Lent t o)) =
     let line = line_with H n c (went_bad (journal H c)) w (work H n) (scope (work H n)) (line_in o n (heard_in H c t)) in
     either_ends (number_of o == borrower H n) line None (with_ends H n c (went_bad (journal H c)) w (work H n) (scope (work H n)) (line_in o n (heard_in H c t))) refl
-at_ends H n w c (Some Idle) = refl
-at_ends H n w c (Some (Opening wanted)) = refl
-at_ends H n w c (Some Closing) = refl
-at_ends H n w c None = refl
+at_ends H n w c _ = refl

@@ -10,7 +10,7 @@ use Rattle.dsql_laws.specs.journal.Readers.{is_empty}
 use Rattle.dsql_laws.specs.journal.Facts.{MayFollow}
 use Rattle.dsql_laws.proofs.journal.Sentences.{MayFollow-of}
 use Rattle.dsql_laws.specs.pool.declared.conn.Place.{Place}
-use Rattle.dsql_laws.specs.pool.declared.conn.Place.TheVariants.{Idle, Lent, Opening, Closing}
+use Rattle.dsql_laws.specs.pool.declared.conn.Place.TheVariants.{Opening}
 use Rattle.dsql_laws.specs.pool.declared.moves.Move.TheVariants.{OpenStart, Lend, Back, CloseStart, Gone, Fell}
 use Rattle.dsql_laws.specs.pool.Calls.{moves_opened, moves_failed}
 use Rattle.dsql_laws.specs.pool.Pooled.{place_at}
@@ -53,10 +53,7 @@ connect_told H e c n (Some (Opening wanted)) may is h some = by (is_done e.answe
         let connects = both (is_connect e.call) ((e.tenure == 1) && is_house_entry e) sets in
         let m : MayFollow (journal H e.conn) e = MayFollow-of (journal H e.conn) e may.follows in
         connect_fails e.call e.answer connects.0 m.answer.fitting m.answer.heard undone
-connect_told H e c n (Some Closing) may is h some = absurd cc
-connect_told H e c n (Some Idle) may is h some = absurd cc
-connect_told H e c n (Some (Lent t o)) may is h some = absurd cc
-connect_told H e c n None may is h some = absurd cc
+connect_told H e c n _ may is h some = absurd cc
 
 newest_told : (H : List Event) (c n : ℕ) → Lawful H → Allowed H (Pool (Fell c n)) → is_failure (newest_answer H) ≡ true
 newest_told [] c n l a = refl

@@ -14,7 +14,7 @@ use Rattle.dsql_laws.specs.history.Readers.HandedOut.{live, rows_heard, rows_ent
 use Rattle.dsql_laws.specs.history.declared.work.Work.{Work}
 use Rattle.dsql_laws.specs.history.declared.work.Work.TheVariants.{HandOut, Fetch, Close, End}
 use Rattle.dsql_laws.specs.history.declared.event.Event.{Event}
-use Rattle.dsql_laws.specs.history.declared.event.Event.TheVariants.{Run, Entered, Heard, Pool, Waits, Ticked, SetLimit, Replied, Ended}
+use Rattle.dsql_laws.specs.history.declared.event.Event.TheVariants.{Entered, Heard, Ended}
 use Rattle.dsql_laws.specs.history.declared.event.Op.{Op}
 use Rattle.dsql_laws.specs.history.declared.event.Op.TheVariants as ops
 use Rattle.dsql_laws.specs.history.Readers.Unfinished.{is_unfinished}
@@ -129,13 +129,7 @@ ends_work H (Entered client m op) n l was now some =
     let new = enters_next H client m op l.1 in
     ap is_worker (new_work H client m op new) ∙ closes_only H op n was now
 ends_work H (Heard e) n l was now some = fetches_only H (work H e.call_no) e.call_no e.call e.answer (handed_out H) n was now
-ends_work H (Run version can) n l was now some = absurd (some refl)
-ends_work H (Pool m) n l was now some = absurd (some refl)
-ends_work H (Waits m) n l was now some = absurd (some refl)
-ends_work H (Ticked moment) n l was now some = absurd (some refl)
-ends_work H (SetLimit s k) n l was now some = absurd (some refl)
-ends_work H (Replied m reply) n l was now some = absurd (some refl)
-ends_work H Ended n l was now some = absurd (some refl)
+ends_work H _ n l was now some = absurd (some refl)
 
 pub worker_sends : (w : Work) → is_worker w ≡ true → is_look w ≡ false
 worker_sends (Fetch k) h = refl

@@ -221,9 +221,7 @@ handed_more w m e L h = by (grows m e L)
     more : (aim : Aim) (o : Option Due) (a : DriverAnswer) (made : List Exchange) → is_some (handed aim made) ≡ true → is_some (handed aim (with_exchange o a made)) ≡ true
     more aim None a made k = k
     more aims.HandOut (Some d) a made k = or_own (courses_made.given_cursor (got_of a)) (own_cursor made) k
-    more aims.Execute (Some d) a made k = absurd cc
-    more aims.ReadOne (Some d) a made k = absurd cc
-    more aims.Ping (Some d) a made k = absurd cc
+    more _ (Some d) a made k = absurd cc
 
     by : (line_among m (e ∷ L) ≡ line_among m L) ⊎ ((line_among m (e ∷ L) ≡ e ∷ line_among m L) × (((e.call_no == m) ≡ true) ⊎ (is_about (exchanges (line_among m L)) e.call ≡ true)))
         → is_some (handed (aim_of w) (exchanges (line_among m (e ∷ L)))) ≡ true

@@ -1,6 +1,6 @@
 -- A connection leaves opening only by the move that follows its Connect.
 use Rattle.std.proofs.Common.{◌≡◌, ℕ, zero, suc, ◌+◌, ◌-◌, ◌==◌, Bool, true, false, not, ◌&&◌, ◌||◌, cond, List, [], ◌∷◌, ◌++◌, length, map, Option, Some, None, is_some, refl, sym, ap, subst, ◌∙◌}
-use Rattle.std.specs.Prelude.{drop, take, Result, Ok, Err}
+use Rattle.std.specs.Prelude.{drop, take, Result, Ok}
 use Rattle.std.specs.List.{list_all}
 use Rattle.std.specs.Option.{option_map}
 use Rattle.std.proofs.lemmas.List.{take-append-drop}
@@ -124,10 +124,7 @@ closings_spare why (c ∷ cs) p h =
 
 idle_elsewhere : (at : Option Place) → is_idle at ≡ true → not (is_opening at) ≡ true
 idle_elsewhere (Some Idle) h = refl
-idle_elsewhere (Some (Lent t o)) h = absurd cc
-idle_elsewhere (Some (Opening w)) h = absurd cc
-idle_elsewhere (Some Closing) h = absurd cc
-idle_elsewhere None h = absurd cc
+idle_elsewhere _ h = absurd cc
 
 idles_elsewhere : (p : Pooled) → Placed p.idle p.conns → are_elsewhere p p.idle ≡ true
 idles_elsewhere p h = all_members (is_elsewhere p) p.idle (λ d member. idle_elsewhere (place_at p d) (member_is_idle p.idle p.conns d h member))
@@ -154,10 +151,7 @@ outdated_spare p h = closing_idle_spare (closings_of_tick p) p (outdated_close p
 
 idle_when_shut : (at : Option Place) → is_idle at ≡ true → not (is_opening (option_map unwanted_place at)) ≡ true
 idle_when_shut (Some Idle) h = refl
-idle_when_shut (Some (Lent t o)) h = absurd cc
-idle_when_shut (Some (Opening w)) h = absurd cc
-idle_when_shut (Some Closing) h = absurd cc
-idle_when_shut None h = absurd cc
+idle_when_shut _ h = absurd cc
 
 closed_spare : (p : Pooled) → Placed p.idle p.conns → are_sparing (moves_closed p) (shut p) ≡ true
 closed_spare p h =
@@ -196,9 +190,7 @@ answered_later : (answer : DriverAnswer) (c : ℕ) (p : Pooled) (at : Option Pla
 answered_later answer c p (Some (Opening wanted)) =
     elim (is_done answer) as (λ b. are_sparing_later (cond b (moves_opened c p) (moves_failed c p)) p ≡ true) [ true ↦ opened_later c p (place_at p c) | false ↦ failed_later c p ]
 answered_later answer c p (Some Closing) = gone_later c p
-answered_later answer c p (Some Idle) = refl
-answered_later answer c p (Some (Lent t o)) = refl
-answered_later answer c p None = refl
+answered_later answer c p _ = refl
 
 lent_there : (at : Option Place) → is_lent at ≡ true → is_some at ≡ true
 lent_there (Some p) h = refl
@@ -234,10 +226,7 @@ leaving_spares H c m is =
 unowed_spares : (H : List Event) (m : Move) → Keeps H (Pool m) → owed H ≡ [] → are_sparing (drop 1 (leaving H m)) (with_move H m (pool H)) ≡ true
 unowed_spares H (Back c) k none = leaving_spares H c (Back c) (second (is_owed H) (is_given_back H c (Back c)) (owes H none) k.causes)
 unowed_spares H (CloseStart c why) k none = leaving_spares H c (CloseStart c why) (second (is_owed H) (is_given_back H c (CloseStart c why)) (owes H none) k.causes)
-unowed_spares H (OpenStart c n) k none = refl
-unowed_spares H (Lend c t o n) k none = refl
-unowed_spares H (Gone c) k none = refl
-unowed_spares H (Fell c n) k none = refl
+unowed_spares H _ k none = refl
 
 move_spares : (H : List Event) (m : Move) (ms : List Move) → Keeps H (Pool m) → owed H ≡ ms → are_own ms ≡ true → are_sparing_later ms (pool H) ≡ true
     → are_sparing (left_of H m ms) (with_move H m (pool H)) ≡ true
@@ -288,10 +277,7 @@ asked_idle H c t o n l none is =
         let p = pool H in
         let takes = lends_idle (request H n) p d u p.closed (takes_idle (request H n) p) (rests_owing_nothing H l (ap is_empty none)) refl at in
         subst (λ e. is_idle (place H e) ≡ true) (same_conn d u (request H n).owner (request H n).call (move_is (Lend d u (request H n).owner (request H n).call) (Lend c t o n) first)) takes.idle
-    by (Ok asked.Queued) at first = absurd cc
-    by (Ok (asked.Opening d)) at first = absurd cc
-    by (Ok asked.Closed) at first = absurd cc
-    by (Err why) at first = absurd cc
+    by _ at first = absurd cc
 
 -- Is true if the move takes connection c out of its place, but not out of the four sets.
 abbrev pub takes : ℕ → Move → Bool
@@ -327,10 +313,7 @@ opened_takes c d p (Some (Opening None)) h = by (when_unwanted p) h
     by (Closes why) k = k
     by Serves k = oldest p.waiting k
     by Rests k = k
-opened_takes c d p (Some Idle) h = absurd cc
-opened_takes c d p (Some (Lent t o)) h = absurd cc
-opened_takes c d p (Some Closing) h = absurd cc
-opened_takes c d p None h = absurd cc
+opened_takes c d p _ h = absurd cc
 
 answered_takes : (answer : DriverAnswer) (c d : ℕ) (p : Pooled) (at : Option Place) → first_takes c (answered answer d p at) ≡ true → ((d == c) && is_done answer) ≡ true
 answered_takes answer c d p (Some (Opening wanted)) h =
@@ -338,10 +321,7 @@ answered_takes answer c d p (Some (Opening wanted)) h =
       | true ↦ λ k. together (d == c) true (opened_takes c d p (place_at p d) k) refl
       | false ↦ λ k. absurd cc
     ] h
-answered_takes answer c d p (Some Closing) h = absurd cc
-answered_takes answer c d p (Some Idle) h = absurd cc
-answered_takes answer c d p (Some (Lent t o)) h = absurd cc
-answered_takes answer c d p None h = absurd cc
+answered_takes answer c d p _ h = absurd cc
 
 never : (b : Bool) → b ≡ true → not b ≡ true → ⊥
 never true h k = cc
@@ -391,9 +371,7 @@ unowed_takes H c (Lend d t o n) l k none h opens =
     idle_or_opening (place H c) (subst (λ e. is_idle (place H e) ≡ true) (same_number d c h) idle) opens
 unowed_takes H c (Back d) l k none h opens = given_takes H c d (Back d) (second (is_owed H) (is_given_back H d (Back d)) (owes H none) k.causes) h opens
 unowed_takes H c (CloseStart d why) l k none h opens = given_takes H c d (CloseStart d why) (second (is_owed H) (is_given_back H d (CloseStart d why)) (owes H none) k.causes) h opens
-unowed_takes H c (OpenStart d n) l k none h opens = cc
-unowed_takes H c (Gone d) l k none h opens = cc
-unowed_takes H c (Fell d n) l k none h opens = cc
+unowed_takes H c _ l k none h opens = cc
 
 -- If a move takes a connection out of opening, the last event opened it.
 pub opened_when : (H : List Event) (c : ℕ) (m : Move) → Lawful H → Keeps H (Pool m) → takes c m ≡ true → is_opening (place H c) ≡ true → was_opened c H ≡ true
@@ -439,10 +417,7 @@ opened_first c p (Some (Opening None)) h = by (when_unwanted p) refl
     by (Closes why) is = same_itself c
     by Serves is = let w = when_serves false p is in oldest_first c (next_tenure p c) p.waiting w.1
     by Rests is = same_itself c
-opened_first c p (Some Idle) h = absurd cc
-opened_first c p (Some (Lent t o)) h = absurd cc
-opened_first c p (Some Closing) h = absurd cc
-opened_first c p None h = absurd cc
+opened_first c p _ h = absurd cc
 
 answered_first : (answer : DriverAnswer) (c : ℕ) (p : Pooled) (at : Option Place) → place_at p c ≡ at → (is_opening at || is_closing at) ≡ true → first_of c (answered answer c p at) ≡ true
 answered_first answer c p (Some (Opening wanted)) is h =
@@ -453,14 +428,7 @@ answered_first answer c p _ is h = absurd cc
 first_follows : (ms : List Move) (e : Event) (c : ℕ) → first_of c ms ≡ true → follows ms e ≡ true → moves c e ≡ true
 first_follows [] e c h f = absurd cc
 first_follows (due ∷ later) (Pool m) c h f = ap (is_of c) (sym (move_is due m f)) ∙ h
-first_follows (due ∷ later) (Run version can) c h f = absurd cc
-first_follows (due ∷ later) (Entered client n op) c h f = absurd cc
-first_follows (due ∷ later) (Heard e) c h f = absurd cc
-first_follows (due ∷ later) (Waits n) c h f = absurd cc
-first_follows (due ∷ later) (Ticked now) c h f = absurd cc
-first_follows (due ∷ later) (SetLimit setting n) c h f = absurd cc
-first_follows (due ∷ later) (Replied n reply) c h f = absurd cc
-first_follows (due ∷ later) Ended c h f = absurd cc
+first_follows (due ∷ later) _ c h f = absurd cc
 
 -- If the next event doesn't move a connection that is being opened or closed, the last event wasn't an answer
 -- on it.

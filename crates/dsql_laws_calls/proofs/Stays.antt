@@ -13,7 +13,7 @@ use Rattle.dsql_laws.specs.history.declared.work.Work.{Work}
 use Rattle.dsql_laws.specs.history.declared.work.Work.TheVariants.{Look}
 use Rattle.dsql_laws.specs.history.Readers.Works.{asks, aim_of, works, work, work_of}
 use Rattle.dsql_laws.specs.history.declared.event.Event.{Event}
-use Rattle.dsql_laws.specs.history.declared.event.Event.TheVariants.{Run, Entered, Heard, Pool, Waits, Ticked, SetLimit, Replied, Ended}
+use Rattle.dsql_laws.specs.history.declared.event.Event.TheVariants.{Entered, Heard, Replied}
 use Rattle.dsql_laws.specs.history.declared.record.CallRecord.{CallRecord}
 use Rattle.dsql_laws.specs.history.Readers.Calls.{calls, call_record, nobody, with_record, entering, decided_by}
 use Rattle.dsql_laws.specs.history.Readers.Decisions.{decision}
@@ -45,14 +45,7 @@ old_work ws w m less = row_old ws w m Look (λ is. absurd (omega (arith, less, i
 
 pub work_stays : (H : List Event) (e : Event) (m : ℕ) → (work H m ≡ Look → ⊥) → work (e ∷ H) m ≡ work H m
 work_stays H (Entered client n op) m busy = old_work (works H) (work_of (works H) op) m (has_entered H m busy)
-work_stays H (Heard e) m busy = refl
-work_stays H (Run version can) m busy = refl
-work_stays H (Pool move) m busy = refl
-work_stays H (Waits n) m busy = refl
-work_stays H (Ticked now) m busy = refl
-work_stays H (SetLimit setting n) m busy = refl
-work_stays H (Replied n reply) m busy = refl
-work_stays H Ended m busy = refl
+work_stays H _ m busy = refl
 
 -- What a call asks is fixed as it enters.
 
@@ -85,12 +78,7 @@ asked_stays H (Heard e) n busy =
     let number = try_number (tries H e.call_no) in
     asked_row (calls H) e.call_no n (decided_by number (work H e.call_no) e) (aim_of (work H n)) (stated_heard number (work H e.call_no) e (aim_of (work H n)))
 asked_stays H (Replied m reply) n busy = asked_row (calls H) m n (λ r. record r { decided = None }) (aim_of (work H n)) (λ r. refl)
-asked_stays H (Run version can) n busy = refl
-asked_stays H (Pool move) n busy = refl
-asked_stays H (Waits m) n busy = refl
-asked_stays H (Ticked now) n busy = refl
-asked_stays H (SetLimit setting m) n busy = refl
-asked_stays H Ended n busy = refl
+asked_stays H _ n busy = refl
 
 -- A call is unfinished until it has its reply.
 
@@ -101,10 +89,4 @@ has_without m n (k ∷ ns) apart h = grind (arith, nat_tests, has_without m n ns
 pub unfinished_stays : (H : List Event) (last : Event) (e : Entry) → parts last e ≡ false → is_unfinished H e.call_no ≡ true → is_unfinished (last ∷ H) e.call_no ≡ true
 unfinished_stays H (Entered client n op) e on h = has_push e.call_no n (unfinished H) ∙ ap (λ b. b || (n == e.call_no)) h
 unfinished_stays H (Replied n reply) e on h = has_without e.call_no n (unfinished H) on h
-unfinished_stays H (Heard x) e on h = h
-unfinished_stays H (Run version can) e on h = h
-unfinished_stays H (Pool move) e on h = h
-unfinished_stays H (Waits n) e on h = h
-unfinished_stays H (Ticked now) e on h = h
-unfinished_stays H (SetLimit setting n) e on h = h
-unfinished_stays H Ended e on h = h
+unfinished_stays H _ e on h = h

@@ -25,7 +25,7 @@ use Rattle.dsql_laws.proofs.Tests.{both, same_number}
 use Rattle.dsql_laws_calls.proofs.Found.{place_in, lends_in, unwanted_lent, unwanted_in, unwanted_place, changed_place, changed_lends, lends_more, changed_off, gone_at, gone_off, begun_off, shut_found}
 use Rattle.dsql_laws_calls.proofs.Cases.{control_conns}
 use Rattle.dsql_laws.specs.history.declared.event.Event.{Event}
-use Rattle.dsql_laws.specs.history.declared.event.Event.TheVariants.{Run, Entered, Heard, Pool, Waits, Ticked, SetLimit, Replied, Ended}
+use Rattle.dsql_laws.specs.history.declared.event.Event.TheVariants.{Entered, Heard, Pool, Ticked, SetLimit, Ended}
 use Rattle.dsql_laws.specs.history.declared.event.Op.TheVariants.{DbClose}
 use Rattle.dsql_laws.specs.history.Readers.Journals.{journal, heard_in}
 use Rattle.dsql_laws.specs.history.Readers.Pool.{pool, place, wanted_by}
@@ -65,10 +65,7 @@ lends_stay H (Entered client k op) c t own l a is = refl
 lends_stay H Ended c t own l a is = shut_lends H c
 lends_stay H (Ticked now) c t own l a is = ap (lends_of c) (control_conns (Tick now) (pool H))
 lends_stay H (SetLimit s k) c t own l a is = ap (lends_of c) (control_conns (Set s k) (pool H))
-lends_stay H (Run version can) c t own l a is = refl
-lends_stay H (Heard e) c t own l a is = refl
-lends_stay H (Waits k) c t own l a is = refl
-lends_stay H (Replied k reply) c t own l a is = refl
+lends_stay H _ c t own l a is = refl
 
 pub there_from : (at : Option Place) → (is_idle at || is_opening at) ≡ true → is_some at ≡ true
 there_from None h = absurd cc
@@ -204,9 +201,7 @@ heard_below H e l a h = by (place H e.conn) refl (heard_at H e a) h
         let same = same_number e.tenure t y.0 in
         let tenure = lent_tenure H e.conn t o l is in
         grind (arith, nat_tests, same, tenure)
-    by (Some Idle) is hears there = absurd cc
-    by (Some Closing) is hears there = absurd cc
-    by None is hears there = absurd cc
+    by _ is hears there = absurd cc
 
 below : (H : List Event) (c : ℕ) → Lawful H → Below H c
 below [] c l h = refl

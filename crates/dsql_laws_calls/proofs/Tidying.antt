@@ -8,7 +8,7 @@ use Rattle.dsql_laws.specs.journal.declared.entry.Owner.{Owner}
 use Rattle.dsql_laws.specs.journal.Kinds.{number_of}
 use Rattle.dsql_laws.specs.journal.Readers.{went_bad}
 use Rattle.dsql_laws.specs.pool.declared.conn.Place.{Place}
-use Rattle.dsql_laws.specs.pool.declared.conn.Place.TheVariants.{Idle, Lent, Opening, Closing}
+use Rattle.dsql_laws.specs.pool.declared.conn.Place.TheVariants.{Lent}
 use Rattle.dsql_laws.specs.history.Rules.Wishes.{newest_sender}
 use Rattle.dsql_laws.proofs.Tests.{together, same_itself}
 use Rattle.dsql_laws_calls.specs.Chores.{is_lent_for}
@@ -41,10 +41,7 @@ lent_where_due H n w c (Some (Lent t o)) h = by (number_of o == borrower H n) h
     by : (b : Bool) → is_some (cond b (line_there H c t o n w) None) ≡ true → b ≡ true
     by true k = refl
     by false k = absurd cc
-lent_where_due H n w c (Some Idle) h = absurd cc
-lent_where_due H n w c (Some (Opening o)) h = absurd cc
-lent_where_due H n w c (Some Closing) h = absurd cc
-lent_where_due H n w c None h = absurd cc
+lent_where_due H n w c _ h = absurd cc
 
 ended_where_lent : (H : List Event) (k c : ℕ) (end : TxEnd) (at : Option Place) → is_some (ending_at H k c end at) ≡ true → is_lent_for k at ≡ true
 ended_where_lent H k c end (Some (Lent t o)) h = by (number_of o == k) h
@@ -52,10 +49,7 @@ ended_where_lent H k c end (Some (Lent t o)) h = by (number_of o == k) h
     by : (b : Bool) → is_some (cond b (or_else (first_closing H k 0 (works H)) (end_after H (went_bad (journal H c)) end (heard_in H c t))) None) ≡ true → b ≡ true
     by true x = refl
     by false x = absurd cc
-ended_where_lent H k c end (Some Idle) h = absurd cc
-ended_where_lent H k c end (Some (Opening o)) h = absurd cc
-ended_where_lent H k c end (Some Closing) h = absurd cc
-ended_where_lent H k c end None h = absurd cc
+ended_where_lent H k c end _ h = absurd cc
 
 pub ending_lent : (H : List Event) (k : ℕ) → is_some (ending H k) ≡ true → is_lent_for k (place H (home H k)) ≡ true
 ending_lent H k h = by (tx_end H k) h
@@ -112,10 +106,7 @@ tidying_comes H o e layer lent free due =
 -- If no call has anything to send, no call holds the turn.
 unheld : (H : List Event) (c : ℕ) (at : Option Place) → ((n : ℕ) → is_some (due_for H n) ≡ false) → holder_at H c at ≡ 0
 unheld H c (Some (Lent t o)) none = ap (λ b. cond b (newest_sender (heard_in H c t)) 0) (none (newest_sender (heard_in H c t)))
-unheld H c (Some Idle) none = refl
-unheld H c (Some (Opening o)) none = refl
-unheld H c (Some Closing) none = refl
-unheld H c None none = refl
+unheld H c _ none = refl
 
 pub unheld_once_ended : (H : List Event) (c : ℕ) → Lawful H → has_ended H ≡ true → holder H c ≡ 0
 unheld_once_ended H c l h = unheld H c (place H c) (λ n. none_due_once_ended H n l h)

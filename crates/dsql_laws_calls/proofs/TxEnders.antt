@@ -13,7 +13,7 @@ use Rattle.dsql_laws.specs.tx.Transactions.{ended_by}
 use Rattle.dsql_laws.proofs.Tests.{same_number}
 use Rattle.dsql_laws_calls.proofs.Lists.{within_rows}
 use Rattle.dsql_laws.specs.history.declared.event.Event.{Event}
-use Rattle.dsql_laws.specs.history.declared.event.Event.TheVariants.{Run, Entered, Heard, Pool, Waits, Ticked, SetLimit, Replied, Ended}
+use Rattle.dsql_laws.specs.history.declared.event.Event.TheVariants.{Entered, Heard, Replied, Ended}
 use Rattle.dsql_laws.specs.history.declared.event.Op.{Op}
 use Rattle.dsql_laws.specs.history.declared.event.Op.TheVariants as ops
 use Rattle.dsql_laws.specs.history.declared.work.Work.TheVariants.{Look}
@@ -97,12 +97,7 @@ went_on H (Heard e) k h =
       | inr it ↦ inr (record { entry = e; heard = refl; begin = it.begin; own = it.own })
     ]
 went_on H Ended k h = absurd (ended_going tx_ends.EndOfRun (tx_by H k) (tx_by (Ended ∷ H) k) (ended_tx H k) h)
-went_on H (Run version can) k h = inl h
-went_on H (Pool m) k h = inl h
-went_on H (Waits m) k h = inl h
-went_on H (Ticked now) k h = inl h
-went_on H (SetLimit s m) k h = inl h
-went_on H (Replied m reply) k h = inl h
+went_on H _ k h = inl h
 
 pub none_goes_at_end : (H : List Event) (k : ℕ) → goes_on (Ended ∷ H) k ≡ false
 none_goes_at_end H k = by (goes_on (Ended ∷ H) k) refl
@@ -137,12 +132,7 @@ pub more_calls : (H : List Event) (e : Event) → length (calls H) ≤ length (c
 more_calls H (Entered client m op) = let more = length-append (calls H) (entering H client op ∷ []) in omega (arith, more)
 more_calls H (Heard e) = let same = length-set (calls H) e.call_no (decided_by (try_number (tries H e.call_no)) (work H e.call_no) e (get_or (calls H) e.call_no nobody)) in omega (arith, same)
 more_calls H (Replied n reply) = let same = length-set (calls H) n (record (get_or (calls H) n nobody) { decided = None }) in omega (arith, same)
-more_calls H (Run version can) = omega arith
-more_calls H (Pool m) = omega arith
-more_calls H (Waits m) = omega arith
-more_calls H (Ticked now) = omega arith
-more_calls H (SetLimit s m) = omega arith
-more_calls H Ended = omega arith
+more_calls H _ = omega arith
 
 pub sent_entered : (H : List Event) (c n : ℕ) → Lawful H → n ≢ 0 → has_sent n (journal H c) ≡ true → n < length (calls H)
 sent_entered [] c n l some h = absurd cc

@@ -130,17 +130,13 @@ fine_open H c n l a d s = by (same_or_not d (next_number (pool H)))
 pub fine_from : (heard opened : Bool) (J : List Entry) (at : Option Place) → Fine heard opened J at → (is_idle at || is_opening at) ≡ true → (is_opening at ≡ true → opened ≡ true) → is_spoilt J ≡ false
 fine_from heard opened J (Some Idle) s from h = s
 fine_from heard opened J (Some (Opening wanted)) s from h = s.1 (h refl)
-fine_from heard opened J (Some (Lent t own)) s from h = absurd cc
-fine_from heard opened J (Some Closing) s from h = absurd cc
-fine_from heard opened J None s from h = absurd cc
+fine_from heard opened J _ s from h = absurd cc
 
 -- A connection that is given back, or kept once it was opened, went well.
 fine_back : (heard opened : Bool) (J : List Entry) (at : Option Place) → Fine heard opened J at → (is_lent at || is_opening at) ≡ true → (is_opening at ≡ true → opened ≡ true) → (is_lent at ≡ true → is_spoilt J ≡ false) → is_spoilt J ≡ false
 fine_back heard opened J (Some (Lent t own)) s from h k = k refl
 fine_back heard opened J (Some (Opening wanted)) s from h k = s.1 (h refl)
-fine_back heard opened J (Some Idle) s from h k = absurd cc
-fine_back heard opened J (Some Closing) s from h k = absurd cc
-fine_back heard opened J None s from h k = absurd cc
+fine_back heard opened J _ s from h k = absurd cc
 
 pub there_lent : (at : Option Place) → (is_lent at || is_opening at) ≡ true → is_some at ≡ true
 there_lent None h = absurd cc

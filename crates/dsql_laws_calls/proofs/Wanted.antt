@@ -16,7 +16,7 @@ use Rattle.dsql_laws.proofs.ByCall.{by_call}
 use Rattle.dsql_laws.proofs.Wanted.{wanted, is_opening_for, shut_wants, begun_wants, same_control, homes_apart, found_counts}
 use Rattle.dsql_laws_calls.proofs.Found.{place_in}
 use Rattle.dsql_laws.specs.history.declared.event.Event.{Event}
-use Rattle.dsql_laws.specs.history.declared.event.Event.TheVariants.{Run, Entered, Heard, Pool, Waits, Ticked, SetLimit, Replied, Ended}
+use Rattle.dsql_laws.specs.history.declared.event.Event.TheVariants.{Entered, Pool, Waits, Ticked, SetLimit, Ended}
 use Rattle.dsql_laws.specs.history.declared.event.Op.TheVariants.{DbClose}
 use Rattle.dsql_laws.specs.history.Readers.HandedOut.{rows_by}
 use Rattle.dsql_laws.specs.history.Readers.Owed.{owed}
@@ -106,10 +106,7 @@ wants_no_more H (Ticked now) n a some silent none = same_control (Tick now) n (p
 wants_no_more H (SetLimit s k) n a some silent none = same_control (Set s k) n (pool H) ∙ none
 wants_no_more H (Entered client m DbClose) n a some silent none = let few = shut_wants n (pool H) in omega (arith, few, none)
 wants_no_more H Ended n a some silent none = let few = shut_wants n (pool H) in omega (arith, few, none)
-wants_no_more H (Entered client m op) n a some silent none = none
-wants_no_more H (Run version can) n a some silent none = none
-wants_no_more H (Heard e) n a some silent none = none
-wants_no_more H (Replied m reply) n a some silent none = none
+wants_no_more H _ n a some silent none = none
 
 -- Such a call is lent no connection.
 

@@ -11,7 +11,7 @@ use Rattle.dsql_laws_calls.proofs.Stays.{as_many}
 use Rattle.dsql_laws.specs.history.declared.work.Work.{Work}
 use Rattle.dsql_laws.specs.history.declared.work.Work.TheVariants.{Look}
 use Rattle.dsql_laws.specs.history.declared.event.Event.{Event}
-use Rattle.dsql_laws.specs.history.declared.event.Event.TheVariants.{Run, Entered, Heard, Pool, Waits, Ticked, SetLimit, Replied, Ended}
+use Rattle.dsql_laws.specs.history.declared.event.Event.TheVariants.{Entered, Heard, Replied}
 use Rattle.dsql_laws.specs.history.declared.event.Op.{Op}
 use Rattle.dsql_laws.specs.history.declared.reply.Reply.{Reply}
 use Rattle.dsql_laws.specs.history.Readers.Unfinished.{unfinished, is_unfinished}
@@ -31,14 +31,7 @@ kept_work (v ∷ ws) w (suc n) h = kept_work ws w n h
 
 pub work_stays : (H : List Event) (e : Event) (m : ℕ) → is_look (work H m) ≡ false → work (e ∷ H) m ≡ work H m
 work_stays H (Entered client n op) m h = kept_work (works H) (work_of (works H) op) m h
-work_stays H (Run version can) m h = refl
-work_stays H (Heard e) m h = refl
-work_stays H (Pool move) m h = refl
-work_stays H (Waits n) m h = refl
-work_stays H (Ticked now) m h = refl
-work_stays H (SetLimit s n) m h = refl
-work_stays H (Replied n reply) m h = refl
-work_stays H Ended m h = refl
+work_stays H _ m h = refl
 
 -- A call that enters has the next number.
 pub enters_next : (H : List Event) (client n : ℕ) (op : Op) → Allowed H (Entered client n op) → n ≡ length (calls H)

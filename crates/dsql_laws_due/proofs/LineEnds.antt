@@ -267,12 +267,7 @@ stopped_none can cn asked args made = by (went_bad made) (left made)
     left : (xs : List Exchange) → sends can asked (first_wanted courses.One cn args (closing true) xs (steps_left courses.One xs)) ≡ false
     left [] = no_when (has_fast_way courses.One cn) due.Text (or_then (when ((true && (not (has_fast_way courses.One cn) || was_skipped [])) && false) due.Prepare) due.Over) (no_when (true && (not (has_fast_way courses.One cn) || was_skipped [])) due.Prepare due.Over refl)
     left ((due.Text, g) ∷ xs) = no_when (true && (not (has_fast_way courses.One cn) || was_skipped ((due.Text, g) ∷ xs))) due.Prepare due.Over refl
-    left ((due.Prepare, g) ∷ xs) = refl
-    left ((due.Handle handle, g) ∷ xs) = refl
-    left ((due.Next rows, g) ∷ xs) = refl
-    left ((due.CloseRows rows, g) ∷ xs) = refl
-    left ((due.CloseStmt handle, g) ∷ xs) = refl
-    left (x ∷ xs) = refl
+    left (_ ∷ xs) = refl
 
     by : (b : Bool) → sends can asked (first_wanted courses.One cn args (closing true) made (steps_left courses.One made)) ≡ false
         → sends can asked (if b then due.Over else first_wanted courses.One cn args (closing true) made (steps_left courses.One made)) ≡ false
@@ -294,6 +289,4 @@ bad_none can asked w made rows own other = by_aim asked.aim own
 
     by_aim : (x : Aim) → handed x made ≡ Some rows → is_some (body_after (untested can) true (asking asked.text asked.params x) w made) ≡ false
     by_aim aims.HandOut is = ap (λ o. is_some (body_with (untested can) true (asking asked.text asked.params aims.HandOut) w made o)) is ∙ over_rows (rows_are_over made) w other
-    by_aim aims.Execute is = absurd cc
-    by_aim aims.ReadOne is = absurd cc
-    by_aim aims.Ping is = absurd cc
+    by_aim _ is = absurd cc

@@ -133,9 +133,7 @@ handed_grows aim n e L h = by (grows n e L)
     more : (a : Aim) (o : Option Due) (x : DriverAnswer) (made : List Exchange) → is_some (handed a made) ≡ true → is_some (handed a (with_exchange o x made)) ≡ true
     more a None x made k = k
     more aims.HandOut (Some d) x made k = or_own (given_cursor (got_of x)) (own_cursor made) k
-    more aims.Execute (Some d) x made k = absurd cc
-    more aims.ReadOne (Some d) x made k = absurd cc
-    more aims.Ping (Some d) x made k = absurd cc
+    more _ (Some d) x made k = absurd cc
 
     by : (line_among n (e ∷ L) ≡ line_among n L) ⊎ ((line_among n (e ∷ L) ≡ e ∷ line_among n L) × (((e.call_no == n) ≡ true) ⊎ (is_about (exchanges (line_among n L)) e.call ≡ true))) → is_some (handed aim (exchanges (line_among n (e ∷ L)))) ≡ true
     by (inl same) = ap (λ line. is_some (handed aim (exchanges line))) same ∙ h

@@ -46,9 +46,7 @@ open_inner can bad asked w made rows own on = by asked.aim own
     by aims.HandOut is =
         ap (λ o. body_with can bad (asking asked.text asked.params aims.HandOut) w made o) is
         ∙ sent_if can (asking asked.text asked.params aims.HandOut) w (closing_of courses.Query bad can (length asked.params) made) rows (rows_are_over made) on
-    by aims.Execute is = absurd cc
-    by aims.ReadOne is = absurd cc
-    by aims.Ping is = absurd cc
+    by _ is = absurd cc
 
 pub open_plain : (can : Caps) (asked : Asked) (w : Wish) (made : List Exchange) (rows : ℕ) → handed asked.aim made ≡ Some rows → rows_are_over made ≡ false
     → plain.body_after can asked w made ≡ over_rows w rows (sent_over can asked (Some (closing_of courses.Query false can (length asked.params) made)))
@@ -58,9 +56,7 @@ open_plain can asked w made rows own on = by asked.aim own
     by aims.HandOut is =
         ap (λ o. plain.body_with can (asking asked.text asked.params aims.HandOut) w made o) is
         ∙ sent_if can (asking asked.text asked.params aims.HandOut) w (closing_of courses.Query false can (length asked.params) made) rows (rows_are_over made) on
-    by aims.Execute is = absurd cc
-    by aims.ReadOne is = absurd cc
-    by aims.Ping is = absurd cc
+    by _ is = absurd cc
 
 -- Is true of a run of a text or of a handle.
 abbrev pub is_run : Due → Bool

@@ -97,18 +97,14 @@ opened_rests c l u h o J s opened = rests_opened c l u h J (subst (λ b. Opens c
 pub rests_from : (c l u : ℕ) (h o : Bool) (J : List Entry) (at : Option Place) → Stands c l u h o J at → (is_idle at || is_opening at) ≡ true → (is_opening at ≡ true → o ≡ true) → Rests c l J
 rests_from c l u h o J (Some Idle) s from opened = s
 rests_from c l u h o J (Some (Opening wanted)) s from opened = opened_rests c l u h o J s (opened refl)
-rests_from c l u h o J (Some (Lent t owner)) s from opened = absurd cc
-rests_from c l u h o J (Some Closing) s from opened = absurd cc
-rests_from c l u h o J None s from opened = absurd cc
+rests_from c l u h o J _ s from opened = absurd cc
 
 -- A connection that is given back, or kept once it was opened, is at rest.
 pub rests_back : (c l u : ℕ) (h o : Bool) (J : List Entry) (at : Option Place) → Stands c l u h o J at → (is_lent at || is_opening at) ≡ true → (is_opening at ≡ true → o ≡ true)
     → ((t : ℕ) (owner : Owner) → at ≡ Some (Lent t owner) → Rests c l J) → Rests c l J
 rests_back c l u h o J (Some (Lent t owner)) s from opened lent = lent t owner refl
 rests_back c l u h o J (Some (Opening wanted)) s from opened lent = opened_rests c l u h o J s (opened refl)
-rests_back c l u h o J (Some Idle) s from opened lent = absurd cc
-rests_back c l u h o J (Some Closing) s from opened lent = absurd cc
-rests_back c l u h o J None s from opened lent = absurd cc
+rests_back c l u h o J _ s from opened lent = absurd cc
 
 left_by : (c l t : ℕ) (owner : Owner) (J : List Entry) → LentTo c l t owner J → is_whole_tenure t J ≡ true → Leaves c l J
 left_by c l t (Call n) J s whole = leaves_lent c l t n J s whole

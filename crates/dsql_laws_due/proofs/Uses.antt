@@ -14,7 +14,7 @@ use Rattle.dsql_laws_calls.specs.history.declared.event.Control.TheVariants.{Tic
 use Rattle.dsql_laws_calls.proofs.Cases.{control_conns}
 use Rattle.dsql_laws_calls.proofs.Found.{uses_in, changed_place, changed_off, gone_off, begun_off, shut_found, unwanted_lent}
 use Rattle.dsql_laws_calls.specs.history.declared.event.Event.{Event}
-use Rattle.dsql_laws_calls.specs.history.declared.event.Event.TheVariants.{Run, Entered, Heard, Pool, Waits, Ticked, SetLimit, Replied, Ended}
+use Rattle.dsql_laws_calls.specs.history.declared.event.Event.TheVariants.{Entered, Pool, Ticked, SetLimit, Ended}
 use Rattle.dsql_laws_calls.specs.history.declared.event.Op.TheVariants.{DbClose}
 use Rattle.dsql_laws_calls.specs.history.Readers.Course.{caps}
 use Rattle.dsql_laws_calls.specs.history.Readers.Pool.{place, pool, uses, wanted_by}
@@ -61,11 +61,7 @@ uses_same H (Entered client k DbClose) c t own l a is still = shut_uses H c
 uses_same H Ended c t own l a is still = shut_uses H c
 uses_same H (Ticked now) c t own l a is still = ap (λ conns. uses_in (conn_of c conns)) (control_conns (Tick now) (pool H))
 uses_same H (SetLimit s k) c t own l a is still = ap (λ conns. uses_in (conn_of c conns)) (control_conns (Set s k) (pool H))
-uses_same H (Entered client k op) c t own l a is still = refl
-uses_same H (Run version can) c t own l a is still = refl
-uses_same H (Heard e) c t own l a is still = refl
-uses_same H (Waits k) c t own l a is still = refl
-uses_same H (Replied k reply) c t own l a is still = refl
+uses_same H _ c t own l a is still = refl
 
 pub reset_same : (H : List Event) (e : Event) (c t : ℕ) (own : Owner) → Lawful H → Allowed H e → place H c ≡ Some (Lent t own) → place (e ∷ H) c ≡ Some (Lent t own) → is_reset_due (e ∷ H) c ≡ is_reset_due H c
 reset_same H e c t own l a is still = alike (caps H) (caps (e ∷ H)) (uses H c) (uses (e ∷ H) c) (caps_stay H e c (Lent t own) a is) (uses_same H e c t own l a is still)

@@ -66,14 +66,7 @@ owner_begins H c t own l is other = let o = owner_is_of H c t own l is in by (wo
   where
     by : (w : Work) → is_call (owner_as w (number_of own)) ≡ false → begins w ≡ true
     by (Begin label level read_only) h = refl
-    by (Execute s) h = absurd cc
-    by (ReadOne s dests) h = absurd cc
-    by (HandOut s label) h = absurd cc
-    by (End k) h = absurd cc
-    by Ping h = absurd cc
-    by (Fetch k) h = absurd cc
-    by (Close k) h = absurd cc
-    by Look h = absurd cc
+    by _ h = absurd cc
 
 in_scope : (s : Scope) (k : ℕ) → is_in k s ≡ true → s ≡ Tx k
 in_scope (Tx n) k h = ap Tx (same_number n k h)

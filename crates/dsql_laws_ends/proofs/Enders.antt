@@ -21,7 +21,7 @@ use Rattle.dsql_laws_calls.specs.history.Readers.HandedOut.{fetched, live, are_l
 use Rattle.dsql_laws_calls.proofs.Cases.{true_false}
 use Rattle.dsql_laws_calls.proofs.Lists.{same_or_not}
 use Rattle.dsql_laws_calls.specs.history.declared.event.Event.{Event}
-use Rattle.dsql_laws_calls.specs.history.declared.event.Event.TheVariants.{Run, Entered, Heard, Pool, Waits, Ticked, SetLimit, Replied, Ended}
+use Rattle.dsql_laws_calls.specs.history.declared.event.Event.TheVariants.{Entered, Heard}
 use Rattle.dsql_laws_calls.specs.history.declared.event.Op.{Op}
 use Rattle.dsql_laws_calls.specs.history.declared.event.Op.TheVariants.{RowsClose, Commit, Rollback}
 use Rattle.dsql_laws_calls.specs.history.declared.work.Scope.TheVariants.{Db, Tx as InTx}
@@ -107,13 +107,7 @@ ends_on : (H : List Event) (e : Event) (n : ℕ) → Lawful (e ∷ H) → asks (
 ends_on H (Entered client m op) n l own was now some works =
     subst (λ (it : Work). WorksOn it n) (sym (new_work H client m op (enters_next H client m op l.1))) (closes_on H op n own was now)
 ends_on H (Heard e) n l own was now some works = fetches_on H (work H e.call_no) e.call_no e.call e.answer (handed_out H) n works was now
-ends_on H (Run version can) n l own was now some works = absurd (some refl)
-ends_on H (Pool m) n l own was now some works = absurd (some refl)
-ends_on H (Waits m) n l own was now some works = absurd (some refl)
-ends_on H (Ticked moment) n l own was now some works = absurd (some refl)
-ends_on H (SetLimit s k) n l own was now some works = absurd (some refl)
-ends_on H (Replied m reply) n l own was now some works = absurd (some refl)
-ends_on H Ended n l own was now some works = absurd (some refl)
+ends_on H _ n l own was now some works = absurd (some refl)
 
 -- A call that has made rows and works on the database after an event did so before it.
 asked_before : (H : List Event) (e : Event) (n : ℕ) → is_some (rows_by H n) ≡ true → asks (work (e ∷ H) n) ≡ true → asks (work H n) ≡ true

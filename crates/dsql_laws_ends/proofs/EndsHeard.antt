@@ -250,12 +250,7 @@ begun_now H (Entered client m op) k tx l none is =
       | inr it ↦ absurd (unborn tx (tx_by H k) (tx_by (Entered client m op ∷ H) k) (ap is_some it.so ∙ as_begun (ended_by it.by) (tx_by H k)) none is)
     ]
 begun_now H Ended k tx l none is = absurd (unborn tx (tx_by H k) (tx_by (Ended ∷ H) k) (ap is_some (ended_tx H k) ∙ as_begun (ended_by tx_ends.EndOfRun) (tx_by H k)) none is)
-begun_now H (Run version can) k tx l none is = absurd (unborn tx (tx_by H k) (tx_by H k) refl none is)
-begun_now H (Pool m) k tx l none is = absurd (unborn tx (tx_by H k) (tx_by H k) refl none is)
-begun_now H (Waits m) k tx l none is = absurd (unborn tx (tx_by H k) (tx_by H k) refl none is)
-begun_now H (Ticked now) k tx l none is = absurd (unborn tx (tx_by H k) (tx_by H k) refl none is)
-begun_now H (SetLimit s m) k tx l none is = absurd (unborn tx (tx_by H k) (tx_by H k) refl none is)
-begun_now H (Replied m reply) k tx l none is = absurd (unborn tx (tx_by H k) (tx_by H k) refl none is)
+begun_now H _ k tx l none is = absurd (unborn tx (tx_by H k) (tx_by H k) refl none is)
 
 pub ended_or_lent : (H : List Event) (k : ℕ) (tx : Tx) → Lawful H → tx_by H k ≡ Some tx → StillLent H k tx.conn tx.tenure ⊎ EndedSo H k tx.conn tx.tenure
 ended_or_lent [] k tx l is = absurd cc

@@ -15,7 +15,7 @@ use Rattle.dsql_laws_calls.specs.journal.declared.entry.Owner.{Owner}
 use Rattle.dsql_laws_calls.specs.journal.Kinds.{number_of}
 use Rattle.dsql_laws_calls.specs.journal.Readers.{went_bad}
 use Rattle.dsql_laws_calls.specs.pool.declared.conn.Place.{Place}
-use Rattle.dsql_laws_calls.specs.pool.declared.conn.Place.TheVariants.{Idle, Lent, Opening, Closing}
+use Rattle.dsql_laws_calls.specs.pool.declared.conn.Place.TheVariants.{Lent}
 use Rattle.dsql_laws_calls.specs.tx.declared.end.TxEnd.{TxEnd}
 use Rattle.dsql_laws_calls.specs.tx.declared.tx.Tx.{Tx}
 use Rattle.dsql_laws_calls.specs.tx.Transactions.{ended_by}
@@ -107,10 +107,7 @@ end_due H k q h ends = by (tx_end H k) refl h
         of_owner : (b : Bool) → is_due (cond b (or_else (first_closing H k 0 (works H)) (end_after H (went_bad (journal H c)) end (heard_in H c t))) None) q ≡ true → is_due (Some (ended_by_call end)) q ≡ true
         of_owner true y = rows_first end (went_bad (journal H c)) (heard_in H c t) (first_closing H k 0 (works H)) refl y
         of_owner false y = absurd cc
-    at end c (Some Idle) x = absurd cc
-    at end c (Some (Opening w)) x = absurd cc
-    at end c (Some Closing) x = absurd cc
-    at end c None x = absurd cc
+    at end c _ x = absurd cc
 
     by : (o : Option TxEnd) → tx_end H k ≡ o → is_due (ending_with H k o) q ≡ true → EndDue H k q
     by None is x = absurd cc

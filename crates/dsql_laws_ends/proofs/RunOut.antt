@@ -8,7 +8,7 @@ use Rattle.dsql_laws_calls.specs.course.Made.{or_else}
 use Rattle.dsql_laws_calls.specs.wait.Requests.{waits}
 use Rattle.dsql_laws_calls.specs.pool.declared.conn.Conn.{Conn}
 use Rattle.dsql_laws_calls.specs.pool.declared.conn.Place.{Place}
-use Rattle.dsql_laws_calls.specs.pool.declared.conn.Place.TheVariants.{Idle, Lent, Opening, Closing}
+use Rattle.dsql_laws_calls.specs.pool.declared.conn.Place.TheVariants.{Opening}
 use Rattle.dsql_laws_calls.specs.pool.Places.{is_for, is_opening}
 use Rattle.dsql_laws_calls.specs.history.declared.event.Event.{Event}
 use Rattle.dsql_laws_calls.specs.history.declared.record.Flight.{Flight}
@@ -85,9 +85,7 @@ opened_opens n x = by x.place
   where
     by : (at : Place) → is_for n at ≡ true → is_opening (Some at) ≡ true
     by (Opening wanted) h = refl
-    by Idle h = absurd cc
-    by (Lent t o) h = absurd cc
-    by Closing h = absurd cc
+    by _ h = absurd cc
 
 opens_none : (H : List Event) (n : ℕ) → connect_due H ≡ None → smallest (is_for n) (pool H) ≡ None
 opens_none H n none =

@@ -17,7 +17,7 @@ use Rattle.dsql_laws_calls.proofs.Cases.{true_false}
 use Rattle.dsql_laws_calls.proofs.Lists.{has_push}
 use Rattle.dsql_laws_ends.proofs.Resting.{kept_so, rests_no_begin, rests_no_maker, rests_not}
 use Rattle.dsql_laws_calls.specs.history.declared.event.Event.{Event}
-use Rattle.dsql_laws_calls.specs.history.declared.event.Event.TheVariants.{Run, Entered, Heard, Pool, Waits, Ticked, SetLimit, Replied, Ended}
+use Rattle.dsql_laws_calls.specs.history.declared.event.Event.TheVariants.{Entered, Heard, Pool, Replied}
 use Rattle.dsql_laws_calls.specs.history.declared.reply.Reply.{Reply}
 use Rattle.dsql_laws_calls.specs.history.declared.work.Scope.{Scope}
 use Rattle.dsql_laws_calls.specs.history.declared.work.Scope.TheVariants.{Db, Tx}
@@ -238,13 +238,7 @@ caller_unfinished H (Heard e) l some =
     let there = heard_there H e l.1 in
     let st = stays_with_its_call H e l.0 (comes H e (place H e.conn) there.sets there.line (other_number e.call_no 0 some)) in
     st.unfinished some
-caller_unfinished H (Run version can) l some = absurd (some refl)
-caller_unfinished H (Pool m) l some = absurd (some refl)
-caller_unfinished H (Waits m) l some = absurd (some refl)
-caller_unfinished H (Ticked now) l some = absurd (some refl)
-caller_unfinished H (SetLimit s k) l some = absurd (some refl)
-caller_unfinished H (Replied m reply) l some = absurd (some refl)
-caller_unfinished H Ended l some = absurd (some refl)
+caller_unfinished H _ l some = absurd (some refl)
 
 -- An event that ends a transaction is of an unfinished call.
 ending_unfinished : (H : List Event) (e : Event) → ending_call e ≢ 0 → is_unfinished (e ∷ H) (ending_call e) ≡ true

@@ -6,7 +6,7 @@ use Rattle.std.proofs.lemmas.List.{length-append}
 use Rattle.dsql_laws_calls.specs.journal.declared.entry.Entry.{Entry}
 use Rattle.dsql_laws_calls.specs.history.declared.work.Work.{Work}
 use Rattle.dsql_laws_calls.specs.history.declared.event.Event.{Event}
-use Rattle.dsql_laws_calls.specs.history.declared.event.Event.TheVariants.{Run, Entered, Heard, Pool, Waits, Ticked, SetLimit, Replied, Ended}
+use Rattle.dsql_laws_calls.specs.history.declared.event.Event.TheVariants.{Entered, Heard, Replied}
 use Rattle.dsql_laws_calls.specs.history.declared.event.Op.{Op}
 use Rattle.dsql_laws_calls.specs.history.declared.record.CallRecord.{CallRecord}
 use Rattle.dsql_laws_calls.specs.history.Readers.Calls.{calls, decided_by, entering, is_busy, next_call, nobody, with_record}
@@ -44,23 +44,13 @@ pub same_client : (H : List Event) (e : Event) (m : ℕ) → is_entry e ≡ fals
 same_client H (Entered client n op) m h = absurd cc
 same_client H (Heard e) m h = with_client (calls H) e.call_no m (decided_by (try_number (tries H e.call_no)) (work H e.call_no) e) (decided_client (try_number (tries H e.call_no)) (work H e.call_no) e)
 same_client H (Replied n reply) m h = with_client (calls H) n m (λ r. record r { decided = None }) (λ r. refl)
-same_client H (Run version can) m h = refl
-same_client H (Pool move) m h = refl
-same_client H (Waits n) m h = refl
-same_client H (Ticked now) m h = refl
-same_client H (SetLimit s k) m h = refl
-same_client H Ended m h = refl
+same_client H _ m h = refl
 
 pub old_client : (H : List Event) (e : Event) (m : ℕ) → m < next_call H → client_of (e ∷ H) m ≡ client_of H m
 old_client H (Entered client n op) m old = ap (λ (r : CallRecord). r.client) (row_old (calls H) (entering H client op) m nobody (λ last. absurd (omega (arith, old, last))))
 old_client H (Heard e) m old = same_client H (Heard e) m refl
 old_client H (Replied n reply) m old = same_client H (Replied n reply) m refl
-old_client H (Run version can) m old = refl
-old_client H (Pool move) m old = refl
-old_client H (Waits n) m old = refl
-old_client H (Ticked now) m old = refl
-old_client H (SetLimit s k) m old = refl
-old_client H Ended m old = refl
+old_client H _ m old = refl
 
 many_calls : (events H : List Event) → next_call H ≤ next_call (events ++ H)
 many_calls [] H = omega arith

@@ -1,6 +1,6 @@
 -- A call that takes its permit just before its answer is heard leads to the same moment. Hearing the answer removes the
 -- permit from the flights.
-use Rattle.std.proofs.Common.{◌≡◌, ℕ, ◌==◌, Bool, true, false, not, ◌&&◌, ◌||◌, cond, List, [], ◌∷◌, ◌++◌, Option, Some, None, refl, sym, ap, ◌∙◌, append-nil}
+use Rattle.std.proofs.Common.{◌≡◌, ℕ, ◌==◌, Bool, true, false, not, ◌&&◌, ◌||◌, cond, List, [], ◌∷◌, ◌++◌, Option, Some, refl, sym, ap, ◌∙◌, append-nil}
 use Rattle.std.specs.List.{list_all}
 use Rattle.dsql_laws_calls.specs.journal.declared.entry.Entry.{Entry}
 use Rattle.dsql_laws_calls.specs.journal.Readers.{is_empty}
@@ -8,7 +8,7 @@ use Rattle.dsql_laws_calls.specs.history.declared.event.Event.{Event}
 use Rattle.dsql_laws_calls.specs.history.declared.event.Event.TheVariants.{Heard}
 use Rattle.dsql_laws_calls.specs.history.declared.record.Flight.{Flight}
 use Rattle.dsql_laws_calls.specs.history.declared.record.Stand.{Stand}
-use Rattle.dsql_laws_calls.specs.history.declared.record.Stand.TheVariants.{Waits, Opens, Sends, Replies, Asks}
+use Rattle.dsql_laws_calls.specs.history.declared.record.Stand.TheVariants.{Sends}
 use Rattle.dsql_laws_calls.specs.history.Rules.Flights.{has_flight, is_in_flight, permitted, without_flight}
 use Rattle.dsql_laws_calls.specs.history.Rules.Stands.{stand}
 use Rattle.dsql_laws_calls.proofs.laws.Tests.{same_itself}
@@ -34,11 +34,7 @@ without_permit n (Some (Sends c)) flights = by (is_in_flight n flights || has_fl
     by : (full : Bool) → without_flight n (cond full flights (flights ++ record { call = n; conn = c } ∷ [])) ≡ without_flight n flights
     by true = refl
     by false = without_last n c flights
-without_permit n None flights = refl
-without_permit n (Some Waits) flights = refl
-without_permit n (Some (Opens c)) flights = refl
-without_permit n (Some Replies) flights = refl
-without_permit n (Some Asks) flights = refl
+without_permit n _ flights = refl
 
 permit_lands : (m : Moment) (n : ℕ) (first : Event) (e : Entry) → first ≡ Heard e → e.call_no ≡ n → landed first (takes_permit n m).flights ≡ landed first m.flights
 permit_lands m n first e heard number =

@@ -69,13 +69,7 @@ dests_itself (a ∷ more) = rw (same_itself (rank a)) (dests_itself more)
 
 level_itself : (level : Level) → same_level level level ≡ true
 level_itself levels.Default = refl
-level_itself levels.ReadUncommitted = refl
-level_itself levels.ReadCommitted = refl
-level_itself levels.WriteCommitted = refl
-level_itself levels.RepeatableRead = refl
-level_itself levels.Snapshot = refl
-level_itself levels.Serializable = refl
-level_itself levels.Linearizable = refl
+level_itself _ = refl
 
 target_itself : (target : Target) → same_target target target ≡ true
 target_itself targets.Db = refl

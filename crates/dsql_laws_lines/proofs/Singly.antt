@@ -7,7 +7,6 @@ use Rattle.dsql_laws_calls.specs.history.declared.event.Event.TheVariants.{Enter
 use Rattle.dsql_laws_calls.specs.history.declared.event.Op.{Op}
 use Rattle.dsql_laws_calls.specs.history.declared.record.Stand.{Stand}
 use Rattle.dsql_laws_calls.specs.history.declared.record.Stand.TheVariants.{Sends}
-use Rattle.dsql_laws_calls.specs.history.declared.record.Stand.TheVariants as stands
 use Rattle.dsql_laws_calls.specs.history.Legal.{Lawful}
 use Rattle.dsql_laws_calls.specs.history.Readers.Clients.{call_of, is_free}
 use Rattle.dsql_laws_calls.specs.history.Readers.Unfinished.{is_unfinished}
@@ -210,11 +209,7 @@ call_stays m client n rest whole busy its parked still =
 -- A call that doesn't send goes on in a step that shows.
 wakes_shown : (n : ℕ) (ps : List Passed) (at : Option Stand) → is_sending at ≡ false → is_one_step ps ≡ true → goes_on_by_itself n (oldest ps) ≡ true → wakes n ps at ≡ true
 wakes_shown n ps (Some (Sends c)) h a b = absurd cc
-wakes_shown n ps None h a b = together (is_one_step ps) _ a b
-wakes_shown n ps (Some stands.Waits) h a b = together (is_one_step ps) _ a b
-wakes_shown n ps (Some (stands.Opens c)) h a b = together (is_one_step ps) _ a b
-wakes_shown n ps (Some stands.Replies) h a b = together (is_one_step ps) _ a b
-wakes_shown n ps (Some stands.Asks) h a b = together (is_one_step ps) _ a b
+wakes_shown n ps _ h a b = together (is_one_step ps) _ a b
 
 from_inside : (n : ℕ) (e : Event) → goes_by_itself n e ≡ true → is_from_outside e ≡ false
 from_inside n (Replied k reply) h = refl

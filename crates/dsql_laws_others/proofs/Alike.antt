@@ -14,7 +14,7 @@ use Rattle.dsql_laws_calls.specs.journal.Kinds.{number_of}
 use Rattle.dsql_laws_calls.specs.journal.Readers.{of_tenure, went_bad}
 use Rattle.dsql_laws_calls.specs.pool.declared.conn.Conn.{Conn}
 use Rattle.dsql_laws_calls.specs.pool.declared.conn.Place.{Place}
-use Rattle.dsql_laws_calls.specs.pool.declared.conn.Place.TheVariants.{Idle, Lent, Opening, Closing}
+use Rattle.dsql_laws_calls.specs.pool.declared.conn.Place.TheVariants.{Lent}
 use Rattle.dsql_laws_calls.specs.rows.declared.rows.Rows.{Rows}
 use Rattle.dsql_laws_calls.specs.rows.OpenRows.{is_live}
 use Rattle.dsql_laws_calls.specs.tx.declared.end.TxEnd.{TxEnd}
@@ -162,9 +162,7 @@ used_alike H K n txs rows ends same = used_as H K n (tx_by H n) (tx_by K n) (row
 
 pub in_use_alike : (H K : List Event) (place : Place) → ((n : ℕ) → is_kept K n ≡ is_kept H n) → is_in_use K place ≡ is_in_use H place
 in_use_alike H K (Lent t owner) same = same (number_of owner)
-in_use_alike H K Idle same = refl
-in_use_alike H K (Opening o) same = refl
-in_use_alike H K Closing same = refl
+in_use_alike H K _ same = refl
 
 pub all_alike : (q r : Conn → Bool) (conns : List Conn) → ((x : Conn) → q x ≡ r x) → list_all q conns ≡ list_all r conns
 all_alike q r [] same = refl
@@ -201,10 +199,7 @@ line_asked H K n w c (Some (Lent t own)) p =
     ap (λ b. cond (number_of own == b) (line_with K n c (went_bad (journal K c)) w (work K n) (scope (work K n)) (line_in own n (heard_in K c t))) None) p.uses
     ∙ ap (λ d. cond (number_of own == borrower H n) d None)
     (line_as K n c t w own (work H n) (work K n) (journal H c) (journal K c) p.its_work p.heard ∙ same_with H K n c (went_bad (journal H c)) w (work H n) (scope (work H n)) (line_in own n (heard_in H c t)) p)
-line_asked H K n w c (Some Idle) p = refl
-line_asked H K n w c (Some (Opening o)) p = refl
-line_asked H K n w c (Some Closing) p = refl
-line_asked H K n w c None p = refl
+line_asked H K n w c _ p = refl
 
 -- What ends a transaction.
 
@@ -231,10 +226,7 @@ ending_alike H K k c end (Some (Lent t own)) p =
   where
     after : (can : Caps) → can ≡ caps H → end_after_with can (went_bad (journal H c)) end (heard_in H c t) ≡ end_after H (went_bad (journal H c)) end (heard_in H c t)
     after can same = ap (λ it. end_after_with it (went_bad (journal H c)) end (heard_in H c t)) same
-ending_alike H K k c end (Some Idle) p = refl
-ending_alike H K k c end (Some (Opening o)) p = refl
-ending_alike H K k c end (Some Closing) p = refl
-ending_alike H K k c end None p = refl
+ending_alike H K k c end _ p = refl
 
 -- A transaction that is over is ended alike if its connection and its lines are alike.
 pub ends_alike : (H K : List Event) (k : ℕ) → tx_by K k ≡ tx_by H k → home K k ≡ home H k → place K (home H k) ≡ place H (home H k) → SameEnd H K k (home H k) → ending K k ≡ ending H k

@@ -12,7 +12,7 @@ use Rattle.dsql_laws_calls.specs.journal.Kinds.{number_of}
 use Rattle.dsql_laws_calls.specs.wait.Requests.{waits}
 use Rattle.dsql_laws_calls.specs.pool.declared.conn.Conn.{Conn}
 use Rattle.dsql_laws_calls.specs.pool.declared.conn.Place.{Place}
-use Rattle.dsql_laws_calls.specs.pool.declared.conn.Place.TheVariants.{Idle, Lent, Opening, Closing}
+use Rattle.dsql_laws_calls.specs.pool.declared.conn.Place.TheVariants.{Lent, Opening}
 use Rattle.dsql_laws_calls.specs.pool.Calls.{wants}
 use Rattle.dsql_laws_calls.specs.pool.Places.{conn_of, is_for, is_lent}
 use Rattle.dsql_laws_calls.specs.history.declared.reply.DbEnd.{DbEnd}
@@ -188,9 +188,7 @@ rests_shut H client n m l apart unwanting h = by (rests H m) refl h
     placed x found (Opening (Some o)) at k =
         let any = found_any (λ conn. is_for m conn.place) x.number (pool H).conns x found (ap (is_for m) at ∙ k) in
         absurd (true_false (wants m (pool H)) (or_second (waits m (pool H).waiting) (list_any (λ conn. is_for m conn.place) (pool H).conns) any) unwanting)
-    placed x found (Opening None) at k = absurd cc
-    placed x found Idle at k = absurd cc
-    placed x found Closing at k = absurd cc
+    placed x found _ at k = absurd cc
 
     there : (o : Option Conn) → find (λ x. is_home m x.place) (pool H).conns ≡ o → is_some (option_map (λ (x : Conn). x.number) o) ≡ true → is_some (smallest (is_home m) (pool (closes_it H client n))) ≡ true
     there None is k = absurd cc

@@ -4,11 +4,11 @@ use Rattle.std.proofs.Common.{◌≡◌, ℕ, zero, suc, ◌+◌, ◌-◌, ◌==
 use Rattle.std.specs.Prelude.{drop}
 use Rattle.std.proofs.lemmas.List.{take-append-drop}
 use Rattle.dsql_laws_calls.specs.pool.declared.conn.Place.{Place}
-use Rattle.dsql_laws_calls.specs.pool.declared.conn.Place.TheVariants.{Idle, Lent, Opening, Closing}
+use Rattle.dsql_laws_calls.specs.pool.declared.conn.Place.TheVariants.{Idle}
 use Rattle.dsql_laws_calls.specs.pool.declared.moves.CloseCause.{CloseCause}
 use Rattle.dsql_laws_calls.specs.pool.declared.moves.CloseCause.TheVariants.{IdleFull}
 use Rattle.dsql_laws_calls.specs.pool.declared.moves.Move.{Move}
-use Rattle.dsql_laws_calls.specs.pool.declared.moves.Move.TheVariants.{OpenStart, Lend, Back, CloseStart, Gone, Fell}
+use Rattle.dsql_laws_calls.specs.pool.declared.moves.Move.TheVariants.{OpenStart, CloseStart}
 use Rattle.dsql_laws_calls.specs.pool.Calls.{then_openings, open_set, idle_set, lifetime_set, idle_time_set}
 use Rattle.dsql_laws_calls.specs.pool.Changes.{closing}
 use Rattle.dsql_laws_calls.specs.pool.Decisions.{openings, due_openings, closings_of_setting, closings_of_tick}
@@ -92,10 +92,7 @@ control_quiet (Set MaxIdleTime k) p h = outdated_quiet (idle_time_set k p) h
 
 idle_place : (o : Option Place) → is_idle o ≡ true → o ≡ Some Idle
 idle_place (Some Idle) h = refl
-idle_place (Some (Lent t own)) h = absurd cc
-idle_place (Some (Opening w)) h = absurd cc
-idle_place (Some Closing) h = absurd cc
-idle_place None h = absurd cc
+idle_place _ h = absurd cc
 
 -- Two histories that are alike for each call and each connection.
 pub record Untouched (H K : List Event) (n : ℕ) : Type 0 where
@@ -107,26 +104,17 @@ one_quiet : (H : List Event) (m : Move) (n : ℕ) → Silent H → is_quiet (poo
 one_quiet H (CloseStart c why) n s h =
     let at = idle_place (place H c) h in record { due = λ m. due_closes H c why m at; used = used_closes H c why at; others = goes_on_closes H c why n at }
 one_quiet H (OpenStart c k) n s h = record { due = due_opens H c k; used = used_opens H c k; others = goes_on_opens_but H c k n s }
-one_quiet H (Lend c t o k) n s h = absurd cc
-one_quiet H (Back c) n s h = absurd cc
-one_quiet H (Gone c) n s h = absurd cc
-one_quiet H (Fell c k) n s h = absurd cc
+one_quiet H _ n s h = absurd cc
 
 quiet_moved : (H : List Event) (p : Pooled) (m : Move) → is_quiet p m ≡ true → with_move H m p ≡ moved m p
 quiet_moved H p (CloseStart c why) h = refl
 quiet_moved H p (OpenStart c k) h = let none : k ≡ 0 = same_number k 0 h in ap (λ j. with_move H (OpenStart c j) p) none
-quiet_moved H p (Lend c t o k) h = absurd cc
-quiet_moved H p (Back c) h = absurd cc
-quiet_moved H p (Gone c) h = absurd cc
-quiet_moved H p (Fell c k) h = absurd cc
+quiet_moved H p _ h = absurd cc
 
 silent_quiet : (H : List Event) (m : Move) → Silent H → is_quiet (pool H) m ≡ true → Silent (Pool m ∷ H)
 silent_quiet H (CloseStart c why) s h = s
 silent_quiet H (OpenStart c k) s h = silent_opens H c k s
-silent_quiet H (Lend c t o k) s h = absurd cc
-silent_quiet H (Back c) s h = absurd cc
-silent_quiet H (Gone c) s h = absurd cc
-silent_quiet H (Fell c k) s h = absurd cc
+silent_quiet H _ s h = absurd cc
 
 pub all_quiet : (H : List Event) (ms : List Move) (n : ℕ) → Silent H → are_quiet ms (pool H) ≡ true → Untouched H (with_moves ms H) n
 all_quiet H [] n s h = record { due = λ m. refl; used = refl; others = λ k. k }

@@ -15,7 +15,7 @@ use Rattle.dsql_laws_calls.specs.driver.declared.call.DriverCall.{DriverCall}
 use Rattle.dsql_laws_calls.specs.journal.Kinds.{number_of}
 use Rattle.dsql_laws_calls.specs.numbered.Numbered.{thing_of}
 use Rattle.dsql_laws_calls.specs.pool.declared.conn.Place.{Place}
-use Rattle.dsql_laws_calls.specs.pool.declared.conn.Place.TheVariants.{Idle, Lent, Opening, Closing}
+use Rattle.dsql_laws_calls.specs.pool.declared.conn.Place.TheVariants.{Lent}
 use Rattle.dsql_laws_calls.specs.pool.Places.{conn_of, is_for}
 use Rattle.dsql_laws_calls.specs.pool.Pooled.{Pooled, place_at}
 use Rattle.dsql_laws_calls.specs.wait.Requests.{waits}
@@ -245,9 +245,7 @@ lent_as_entered H client n op l conns used =
 
     beside : (p : Place) → is_lent_to n p ≡ false → is_in_use K p ≡ is_in_use H p
     beside (Lent t owner) away = others (number_of owner) (apart_of (number_of owner) n away)
-    beside Idle away = refl
-    beside (Opening o) away = refl
-    beside Closing away = refl
+    beside _ away = refl
 
 pub used_entered : (H : List Event) (client n : ℕ) (op : Op) → Lawful (Entered client n op ∷ H) → is_plain op ≡ true → uses_what_is_lent (Entered client n op ∷ H) ≡ uses_what_is_lent H
 used_entered H client n op l plain =

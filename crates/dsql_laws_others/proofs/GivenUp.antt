@@ -15,7 +15,7 @@ use Rattle.dsql_laws_calls.specs.wait.declared.request.Request.{Request}
 use Rattle.dsql_laws_calls.specs.wait.Requests.{waits}
 use Rattle.dsql_laws_calls.specs.pool.declared.conn.Conn.{Conn}
 use Rattle.dsql_laws_calls.specs.pool.declared.conn.Place.{Place}
-use Rattle.dsql_laws_calls.specs.pool.declared.conn.Place.TheVariants.{Idle, Lent, Opening, Closing}
+use Rattle.dsql_laws_calls.specs.pool.declared.conn.Place.TheVariants.{Lent, Opening}
 use Rattle.dsql_laws_calls.specs.pool.declared.moves.Move.{Move}
 use Rattle.dsql_laws_calls.specs.pool.declared.moves.Move.TheVariants.{Lend, Back, CloseStart}
 use Rattle.dsql_laws_calls.specs.pool.declared.moves.Outcome.{Outcome}
@@ -103,9 +103,7 @@ lent_home H n c l some rested is = by (find (λ x. is_home n x.place) (pool H).c
     placed x there found (Opening (Some o)) at home =
         let any = found_any (λ conn. is_for n conn.place) x.number (pool H).conns x found (ap (is_for n) at ∙ home) in
         absurd (rests_unwanting H n l some rested (or_second (waits n (pool H).waiting) (list_any (λ conn. is_for n conn.place) (pool H).conns) any))
-    placed x there found (Opening None) at home = absurd cc
-    placed x there found Idle at home = absurd cc
-    placed x there found Closing at home = absurd cc
+    placed x there found _ at home = absurd cc
 
     by : (o : Option Conn) → find (λ x. is_home n x.place) (pool H).conns ≡ o → option_map (λ (x : Conn). x.number) o ≡ Some c → LentTo H n c
     by None found number = absurd cc

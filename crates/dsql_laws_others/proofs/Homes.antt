@@ -3,7 +3,7 @@
 use Rattle.std.proofs.Common.{◌≡◌, ℕ, Bool, true, false, cond, List, ◌∷◌, Option, Some, None, is_some, refl, sym, ap, ◌∙◌, ◌⊎◌, inl, inr}
 use Rattle.dsql_laws_calls.specs.course.declared.course.Wish.{Wish}
 use Rattle.dsql_laws_calls.specs.pool.declared.conn.Place.{Place}
-use Rattle.dsql_laws_calls.specs.pool.declared.conn.Place.TheVariants.{Idle, Lent, Opening, Closing}
+use Rattle.dsql_laws_calls.specs.pool.declared.conn.Place.TheVariants.{Lent}
 use Rattle.dsql_laws_calls.specs.pool.declared.moves.Move.{Move}
 use Rattle.dsql_laws_calls.specs.pool.Places.{is_lent}
 use Rattle.dsql_laws_calls.specs.tx.declared.end.TxEnd.{TxEnd}
@@ -42,10 +42,7 @@ HomesStay H K = (n : ℕ) → HomeStays H K n ⊎ HomeUnlent H K n
 
 pub no_line : (H : List Event) (n : ℕ) (w : Wish) (c : ℕ) (at : Option Place) → is_lent at ≡ false → line_at H n w c at ≡ None
 no_line H n w c (Some (Lent t own)) out = absurd cc
-no_line H n w c (Some Idle) out = refl
-no_line H n w c (Some (Opening o)) out = refl
-no_line H n w c (Some Closing) out = refl
-no_line H n w c None out = refl
+no_line H n w c _ out = refl
 
 pub no_ending : (H : List Event) (k c : ℕ) (o : Option TxEnd) → home H k ≡ c → is_lent (place H c) ≡ false → ending_with H k o ≡ None
 no_ending H k c None is out = refl
@@ -53,10 +50,7 @@ no_ending H k c (Some end) is out = ap (λ d. ending_at H k d end (place H d)) i
   where
     there : (at : Option Place) → is_lent at ≡ false → ending_at H k c end at ≡ None
     there (Some (Lent t own)) x = absurd cc
-    there (Some Idle) x = refl
-    there (Some (Opening o)) x = refl
-    there (Some Closing) x = refl
-    there None x = refl
+    there _ x = refl
 
 pub line_by_home : (H : List Event) (move : Move) (n : ℕ) (w : Wish) → HomeStays H (Pool move ∷ H) (borrower H n) ⊎ HomeUnlent H (Pool move ∷ H) (borrower H n) → line_of (Pool move ∷ H) n w ≡ line_of H n w
 line_by_home H move n w (inl s) =

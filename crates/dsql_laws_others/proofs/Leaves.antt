@@ -11,7 +11,7 @@ use Rattle.dsql_laws_calls.specs.wait.declared.request.Request.{Request}
 use Rattle.dsql_laws_calls.specs.wait.Requests.{waits}
 use Rattle.dsql_laws_calls.specs.pool.declared.conn.Conn.{Conn}
 use Rattle.dsql_laws_calls.specs.pool.declared.conn.Place.{Place}
-use Rattle.dsql_laws_calls.specs.pool.declared.conn.Place.TheVariants.{Idle, Lent, Opening, Closing}
+use Rattle.dsql_laws_calls.specs.pool.declared.conn.Place.TheVariants.{Lent}
 use Rattle.dsql_laws_calls.specs.pool.declared.moves.CloseCause.{CloseCause}
 use Rattle.dsql_laws_calls.specs.pool.declared.moves.Move.{Move}
 use Rattle.dsql_laws_calls.specs.pool.declared.moves.Move.TheVariants.{Lend, Back, CloseStart}
@@ -98,9 +98,7 @@ used_left H m x beside = all_found (λ conn. is_in_use (Pool m ∷ H) conn.place
 
         by : (p : Place) → y.place ≡ p → is_in_use (Pool m ∷ H) p ≡ true
         by (Lent u o) is = used u o is (same_or_not y.number x.conn)
-        by Idle is = refl
-        by (Opening o) is = refl
-        by Closing is = refl
+        by _ is = refl
 
 -- Where the calls stand.
 

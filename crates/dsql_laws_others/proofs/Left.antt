@@ -13,7 +13,7 @@ use Rattle.dsql_laws_calls.specs.journal.Kinds.{number_of}
 use Rattle.dsql_laws_calls.specs.wait.Requests.{waits}
 use Rattle.dsql_laws_calls.specs.pool.declared.conn.Conn.{Conn}
 use Rattle.dsql_laws_calls.specs.pool.declared.conn.Place.{Place}
-use Rattle.dsql_laws_calls.specs.pool.declared.conn.Place.TheVariants.{Idle, Lent, Opening, Closing}
+use Rattle.dsql_laws_calls.specs.pool.declared.conn.Place.TheVariants.{Lent, Opening}
 use Rattle.dsql_laws_calls.specs.pool.declared.moves.Move.{Move}
 use Rattle.dsql_laws_calls.specs.pool.Changes.{changed}
 use Rattle.dsql_laws_calls.specs.pool.Places.{conn_of, is_for, is_lent}
@@ -151,9 +151,7 @@ left_homeless H m x = by (find test (pool (Pool m ∷ H)).conns) refl
         none_there : (o : Option Conn) → option_map (λ (z : Conn). z.number) o ≡ None → is_some o ≡ true → ⊥
         none_there None a b = cc
         none_there (Some z) a b = cc
-    other y found apart (Opening None) at h = cc
-    other y found apart Idle at h = cc
-    other y found apart Closing at h = cc
+    other y found apart _ at h = cc
 
     after : (y : Conn) (o : Option Conn) → conn_of x.conn (pool H).conns ≡ o → option_map x.change o ≡ Some y → test y ≡ true → ⊥
     after y None was now h = cc

@@ -10,7 +10,7 @@ use Rattle.dsql_laws_calls.specs.rows.declared.rows.Rows.{Rows}
 use Rattle.dsql_laws_calls.specs.rows.OpenRows.{is_live}
 use Rattle.dsql_laws_calls.specs.pool.declared.conn.Conn.{Conn}
 use Rattle.dsql_laws_calls.specs.pool.declared.conn.Place.{Place}
-use Rattle.dsql_laws_calls.specs.pool.declared.conn.Place.TheVariants.{Idle, Lent, Opening, Closing}
+use Rattle.dsql_laws_calls.specs.pool.declared.conn.Place.TheVariants.{Lent}
 use Rattle.dsql_laws_calls.specs.pool.declared.moves.Move.TheVariants.{Lend}
 use Rattle.dsql_laws_calls.specs.pool.Changes.{lent, changed}
 use Rattle.dsql_laws_calls.specs.pool.Places.{conn_of, is_idle, is_lent, is_opening}
@@ -61,10 +61,7 @@ pub record LentAt (at : Option Place) : Type 0 where
 
 pub lent_or_not : (at : Option Place) → LentAt at ⊎ (is_lent at ≡ false)
 lent_or_not (Some (Lent t o)) = inl (record { tenure = t; owner = o; is = refl })
-lent_or_not (Some Idle) = inr refl
-lent_or_not (Some (Opening o)) = inr refl
-lent_or_not (Some Closing) = inr refl
-lent_or_not None = inr refl
+lent_or_not _ = inr refl
 
 pub owner_at : (at : Option Place) (t u : ℕ) (o p : Owner) → at ≡ Some (Lent t o) → at ≡ Some (Lent u p) → number_of o ≡ number_of p
 owner_at at t u o p a b = let same : Some (Lent t o) ≡ Some (Lent u p) = sym a ∙ b in ap number same
@@ -257,6 +254,4 @@ all_used H c t own n l h =
   where
     by : (p : Place) → is_in_use H p ≡ true → is_in_use (lends H c t own n) p ≡ true
     by (Lent u o) x = kept_still H c t own n (number_of o) l x
-    by Idle x = refl
-    by (Opening o) x = refl
-    by Closing x = refl
+    by _ x = refl

@@ -3,9 +3,9 @@
 use Rattle.std.proofs.Common.{ℕ, ◌==◌, Bool, true, Option, Some, ◌≡◌, zero, suc, ◌+◌, false, ◌&&◌, cond, List, [], ◌∷◌, ◌++◌, map, length, ◌-◌, None, refl, sym, ap, subst, ◌∙◌}
 use Rattle.dsql_laws_calls.specs.journal.Kinds.{number_of}
 use Rattle.dsql_laws_calls.specs.pool.declared.conn.Place.{Place}
-use Rattle.dsql_laws_calls.specs.pool.declared.conn.Place.TheVariants.{Opening, Idle, Lent, Closing}
+use Rattle.dsql_laws_calls.specs.pool.declared.conn.Place.TheVariants.{Opening, Idle, Closing}
 use Rattle.std.specs.List.{list_all}
-use Rattle.std.specs.Prelude.{Result, Ok, Err, drop, take}
+use Rattle.std.specs.Prelude.{Result, Ok, drop, take}
 use Rattle.std.specs.Option.{option_map}
 use Rattle.dsql_laws_calls.specs.driver.declared.answer.DriverAnswer.{DriverAnswer}
 use Rattle.dsql_laws_calls.specs.driver.Fits.{is_done}
@@ -16,7 +16,7 @@ use Rattle.dsql_laws_calls.specs.pool.declared.conn.Conn.{Conn}
 use Rattle.dsql_laws_calls.specs.pool.declared.moves.CloseCause.{CloseCause}
 use Rattle.dsql_laws_calls.specs.pool.declared.moves.CloseCause.TheVariants.{IdleFull, DbClosed}
 use Rattle.dsql_laws_calls.specs.pool.declared.moves.Move.{Move}
-use Rattle.dsql_laws_calls.specs.pool.declared.moves.Move.TheVariants.{OpenStart, Lend, Back, CloseStart, Gone, Fell}
+use Rattle.dsql_laws_calls.specs.pool.declared.moves.Move.TheVariants.{Lend, Back, CloseStart, Gone, Fell}
 use Rattle.dsql_laws_calls.specs.pool.declared.request.Asked.TheVariants as asked
 use Rattle.dsql_laws_calls.specs.pool.Calls.{then_openings, moves_asked, moves_opened, moves_failed, moves_gone, moves_closed, open_set, idle_set, lifetime_set, idle_time_set}
 use Rattle.dsql_laws_calls.specs.pool.Changes.{back}
@@ -42,7 +42,7 @@ use Rattle.dsql_laws_calls.proofs.laws.Outdated.{outdated_all}
 use Rattle.dsql_laws_calls.proofs.laws.Tests.{both, together, second, same_itself, move_is}
 use Rattle.dsql_laws_calls.specs.history.declared.event.Event.{Event}
 use Rattle.dsql_laws_calls.specs.history.declared.event.Event.TheVariants.{Entered, Heard, Pool, Ticked, SetLimit, Ended}
-use Rattle.dsql_laws_calls.specs.history.declared.event.Op.TheVariants.{Err, DbClose}
+use Rattle.dsql_laws_calls.specs.history.declared.event.Op.TheVariants.{DbClose}
 use Rattle.dsql_laws_calls.specs.history.Readers.Works.{owner_of}
 use Rattle.dsql_laws_calls.specs.history.Rules.Asking.{asks_by_itself, ask_outcome}
 use Rattle.dsql_laws_calls.specs.history.Rules.Causes.{goes_in_turn, is_given_back, is_owed}
@@ -118,10 +118,7 @@ unwanted_well c p _ at = refl
 opened_well : (c : ℕ) (p : Pooled) (at : Option Place) → place_at p c ≡ at → all_well (when_opened at c p) p ≡ true
 opened_well c p (Some (Opening (Some owner))) is = together (is_meant (number_of owner) (place_at p c)) true (ap (is_meant (number_of owner)) is ∙ same_itself (number_of owner)) refl
 opened_well c p (Some (Opening None)) is = unwanted_well c p (when_unwanted p) is
-opened_well c p (Some Idle) is = refl
-opened_well c p (Some (Lent t o)) is = refl
-opened_well c p (Some Closing) is = refl
-opened_well c p None is = refl
+opened_well c p _ is = refl
 
 answered_well : (answer : DriverAnswer) (c : ℕ) (p : Pooled) (at : Option Place) → all_well (answered answer c p at) p ≡ true
 answered_well answer c p (Some (Opening wanted)) =
@@ -130,9 +127,7 @@ answered_well answer c p (Some (Opening wanted)) =
       | false ↦ none_well (moves_failed c p) p (then_lend_none (Fell c (falls_to (place_at p c) p) ∷ []) p refl)
     ]
 answered_well answer c p (Some Closing) = none_well (moves_gone c p) p (then_lend_none (Gone c ∷ []) p refl)
-answered_well answer c p (Some Idle) = refl
-answered_well answer c p (Some (Lent t o)) = refl
-answered_well answer c p None = refl
+answered_well answer c p _ = refl
 
 control_well : (control : Control) (p : Pooled) → all_well (controlled control p) (with_control control p) ≡ true
 control_well (Tick k) p = none_well (controlled (Tick k) p) (ticked k p) (outdated_lend_none (ticked k p))
@@ -169,10 +164,7 @@ leaving_well H c m is =
 unowed_well : (H : List Event) (m : Move) → Keeps H (Pool m) → owed H ≡ [] → all_well (drop 1 (leaving H m)) (with_move H m (pool H)) ≡ true
 unowed_well H (Back c) k none = leaving_well H c (Back c) (second (is_owed H) (is_given_back H c (Back c)) (owes H none) k.causes)
 unowed_well H (CloseStart c why) k none = leaving_well H c (CloseStart c why) (second (is_owed H) (is_given_back H c (CloseStart c why)) (owes H none) k.causes)
-unowed_well H (OpenStart c n) k none = refl
-unowed_well H (Lend c t o n) k none = refl
-unowed_well H (Gone c) k none = refl
-unowed_well H (Fell c n) k none = refl
+unowed_well H _ k none = refl
 
 move_well : (H : List Event) (m : Move) (ms : List Move) → Keeps H (Pool m) → owed H ≡ ms → are_own ms ≡ true → all_well ms (pool H) ≡ true → all_well (left_of H m ms) (with_move H m (pool H)) ≡ true
 move_well H m [] k is own h = unowed_well H m k is
@@ -198,10 +190,7 @@ owed_well (_ ∷ H) l = refl
 
 idle_meant : (n : ℕ) (at : Option Place) → is_idle at ≡ true → is_meant n at ≡ true
 idle_meant n (Some Idle) h = refl
-idle_meant n (Some (Lent t o)) h = absurd cc
-idle_meant n (Some (Opening w)) h = absurd cc
-idle_meant n (Some Closing) h = absurd cc
-idle_meant n None h = absurd cc
+idle_meant n _ h = absurd cc
 
 asked_idle : (H : List Event) (n c t : ℕ) (o : Owner) → AtRest (pool H) → is_first (moves_asked (request H n) (ask_outcome H n)) (Lend c t o n) ≡ true → is_idle (place H c) ≡ true
 asked_idle H n c t o rest first = by (ask_outcome H n) refl first
@@ -214,10 +203,7 @@ asked_idle H n c t o rest first = by (ask_outcome H n) refl first
       where
         lending_conn : (d v c t : ℕ) (p o : Owner) → Lend d v p n ≡ Lend c t o n → d ≡ c
         lending_conn d v c t p o same = cc
-    by (Ok (asked.Opening d)) is k = absurd cc
-    by (Ok asked.Queued) is k = absurd cc
-    by (Ok asked.Closed) is k = absurd cc
-    by (Err why) is k = absurd cc
+    by _ is k = absurd cc
 
 pub meant : (H : List Event) (c t : ℕ) (o : Owner) (n : ℕ) → Lawful (Pool (Lend c t o n) ∷ H) → is_meant n (place H c) ≡ true
 meant H c t o n l = by (owed H) refl (owed_well H l.0)

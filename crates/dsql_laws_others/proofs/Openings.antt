@@ -27,7 +27,7 @@ use Rattle.dsql_laws_others.proofs.Numbers.{none_zero, none_next}
 use Rattle.dsql_laws_calls.specs.history.declared.record.Stand.{Stand}
 use Rattle.dsql_laws_others.proofs.Untouched.{each_still, still_stands}
 use Rattle.dsql_laws_calls.specs.history.declared.work.Work.{Work}
-use Rattle.dsql_laws_calls.specs.history.declared.work.Work.TheVariants.{Execute, ReadOne, HandOut, Begin, End, Ping, Fetch, Close, Look}
+use Rattle.dsql_laws_calls.specs.history.declared.work.Work.TheVariants.{Begin}
 use Rattle.dsql_laws_calls.specs.history.Readers.Course.{caps}
 use Rattle.dsql_laws_calls.specs.history.Readers.Calls.{site, decided, told_by_others, has_begun_to_send, rests}
 use Rattle.dsql_laws_calls.specs.history.Readers.Journals.{journal}
@@ -266,14 +266,7 @@ stand_opens H c k m l h =
 
 own_for : (w : Work) (n : ℕ) → is_for n (Opening (Some (owner_as w n))) ≡ true
 own_for (Begin label level read_only) n = same_itself n
-own_for (Execute s) n = same_itself n
-own_for (ReadOne s dests) n = same_itself n
-own_for (HandOut s label) n = same_itself n
-own_for (End k) n = same_itself n
-own_for Ping n = same_itself n
-own_for (Fetch k) n = same_itself n
-own_for (Close k) n = same_itself n
-own_for Look n = same_itself n
+own_for _ n = same_itself n
 
 itself_opens : (H : List Event) (c n : ℕ) → (n == 0) ≡ false → is_some (stand (opens_for H c n) n) ≡ true
 itself_opens H c n some =

@@ -1,12 +1,12 @@
 -- A refused connection falls to a call that is in no step of its own, because the answer that refused it was to
 -- the layer.
-use Rattle.std.proofs.Common.{◌≡◌, ◌≢◌, ℕ, ◌==◌, Bool, true, false, not, ◌&&◌, List, [], ◌∷◌, Option, Some, None, refl, sym, ap, ◌∙◌}
+use Rattle.std.proofs.Common.{◌≡◌, ◌≢◌, ℕ, ◌==◌, Bool, true, false, not, ◌&&◌, List, [], ◌∷◌, Option, Some, refl, sym, ap, ◌∙◌}
 use Rattle.dsql_laws_calls.specs.driver.Kinds.{is_connect, is_shut}
 use Rattle.dsql_laws_calls.specs.journal.declared.entry.Entry.{Entry}
 use Rattle.dsql_laws_calls.specs.journal.Kinds.{is_house}
 use Rattle.dsql_laws_calls.specs.journal.Readers.{is_empty}
 use Rattle.dsql_laws_calls.specs.pool.declared.conn.Place.{Place}
-use Rattle.dsql_laws_calls.specs.pool.declared.conn.Place.TheVariants.{Idle, Lent, Opening, Closing}
+use Rattle.dsql_laws_calls.specs.pool.declared.conn.Place.TheVariants.{Opening, Closing}
 use Rattle.dsql_laws_calls.specs.pool.declared.moves.CloseCause.TheVariants.{DbClosed}
 use Rattle.dsql_laws_calls.specs.pool.declared.moves.Move.TheVariants.{Fell}
 use Rattle.dsql_laws_calls.specs.pool.Moved.{shut}
@@ -14,7 +14,7 @@ use Rattle.dsql_laws_calls.specs.pool.Pooled.{Pooled, next_tenure}
 use Rattle.dsql_laws_calls.specs.history.Readers.Owed.{answered, left_of, owed}
 use Rattle.dsql_laws_calls.proofs.laws.Tests.{both, same_number, other_number}
 use Rattle.dsql_laws_calls.specs.history.declared.event.Event.{Event}
-use Rattle.dsql_laws_calls.specs.history.declared.event.Event.TheVariants.{Run, Entered, Heard, Pool, Waits, Ticked, SetLimit, Replied, Ended}
+use Rattle.dsql_laws_calls.specs.history.declared.event.Event.TheVariants.{Run, Entered, Heard, Pool}
 use Rattle.dsql_laws_calls.specs.history.declared.event.Op.TheVariants.{DbClose}
 use Rattle.dsql_laws_calls.specs.history.Readers.Pool.{pool, place}
 use Rattle.dsql_laws_calls.specs.history.Rules.Moves.{is_house_entry, hears_in}
@@ -43,9 +43,7 @@ layer_answers p (Some Closing) e sets some =
     let a = both (is_shut e.call) ((e.tenure == next_tenure p e.conn) && is_house_entry e) sets in
     let b = both (e.tenure == next_tenure p e.conn) (is_house_entry e) a.1 in
     house_calls e b.1
-layer_answers p (Some Idle) e sets some = absurd cc
-layer_answers p (Some (Lent t owner)) e sets some = absurd cc
-layer_answers p None e sets some = absurd cc
+layer_answers p _ e sets some = absurd cc
 
 pub fallen_own : (H : List Event) (c n : ℕ) → Lawful (Pool (Fell c n) ∷ H) → n ≢ 0 → is_own_step H n ≡ false
 fallen_own H c n l some = let k = keeps_of H (Pool (Fell c n)) l.1 in by H l.0 k.order k.causes
@@ -60,8 +58,4 @@ fallen_own H c n l some = let k = keeps_of H (Pool (Fell c n)) l.1 in by H l.0 k
     by (Entered client i DbClose ∷ K) m h due = absurd (first_falls (owed (Entered client i DbClose ∷ K)) c n (closings_fall_none DbClosed (shut (pool K)).idle) h due)
     by (Entered client i op ∷ K) m h due = absurd cc
     by (Pool move ∷ K) m h due = absurd (first_falls (left_of K move (owed K)) c n (left_falls_none K move (owed K) (later_falls_none K)) h due)
-    by (Waits i ∷ K) m h due = refl
-    by (Ticked now ∷ K) m h due = refl
-    by (SetLimit s k ∷ K) m h due = refl
-    by (Replied i reply ∷ K) m h due = refl
-    by (Ended ∷ K) m h due = refl
+    by (_ ∷ K) m h due = refl

@@ -37,7 +37,7 @@ use Rattle.dsql_laws_calls.specs.history.declared.event.Event.{Event}
 use Rattle.dsql_laws_calls.specs.history.declared.event.Event.TheVariants.{Run, Entered, Heard, Pool, Waits, Ticked, SetLimit, Replied, Ended}
 use Rattle.dsql_laws_calls.specs.history.declared.event.Op.{Op}
 use Rattle.dsql_laws_calls.specs.history.declared.work.Work.{Work}
-use Rattle.dsql_laws_calls.specs.history.declared.work.Work.TheVariants.{Execute, ReadOne, HandOut, Begin, End, Ping, Fetch, Close, Look}
+use Rattle.dsql_laws_calls.specs.history.declared.work.Work.TheVariants.{Ping}
 use Rattle.dsql_laws_calls.specs.history.Readers.Calls.{asks_nothing, rests}
 use Rattle.dsql_laws_calls.specs.history.Readers.Course.{caps}
 use Rattle.dsql_laws_calls.specs.history.Readers.Journals.{heard_in, journal}
@@ -80,14 +80,7 @@ resting can Ping (Served ∷ ts) h = let b = neither (can.pinger) (can.validator
     neither false false k = (refl, refl)
 resting can Ping (Lost ∷ ts) h = absurd cc
 resting can Ping (Refused answer ∷ ts) h = absurd cc
-resting can (Execute s) ts h = absurd cc
-resting can (ReadOne s dests) ts h = absurd cc
-resting can (HandOut s label) ts h = absurd cc
-resting can (Begin label level read_only) ts h = absurd cc
-resting can (End k) ts h = absurd cc
-resting can (Fetch k) ts h = absurd cc
-resting can (Close k) ts h = absurd cc
-resting can Look ts h = absurd cc
+resting can _ ts h = absurd cc
 
 -- A call that rests pings.
 pub rests_pinging : (H : List Event) (n : ℕ) → rests H n ≡ true → Resting (caps H) (work H n) (tries H n)
@@ -104,15 +97,7 @@ left_ping (x ∷ earlier) = by x.0
   where
     by : (call : Due) → AtMostPing (behind_call (step_of call) (PingIt ∷ []))
     by due.Text = inl refl
-    by due.Prepare = inl refl
-    by (due.Handle handle) = inl refl
-    by (due.Next rows) = inl refl
-    by (due.CloseRows rows) = inl refl
-    by (due.CloseStmt handle) = inl refl
-    by due.Ping = inl refl
-    by due.Begin = inl refl
-    by due.Rollback = inl refl
-    by due.Over = inl refl
+    by _ = inl refl
 
 first_over : (can : Caps) (args : ℕ) (made : List Exchange) (ss : List Step) → can.pinger ≡ false → AtMostPing ss → first_wanted courses.Ping can args going_on made ss ≡ due.Over
 first_over can args made ss none (inl is) = ap (first_wanted courses.Ping can args going_on made) is

@@ -114,9 +114,7 @@ no_home H e n s out = by (find test (pool K).conns) refl
     placed : (x : Conn) → place (e ∷ H) x.number ≡ Some x.place → home (e ∷ H) n ≡ x.number → (p : Place) → x.place ≡ p → is_home n p ≡ true → ⊥
     placed x there here (Lent u o) at h = true_false (is_lent (place K (home K n))) (ap (λ d. is_lent (place K d)) here ∙ (ap is_lent there ∙ ap (λ p. is_lent (Some p)) at)) out
     placed x there here (Opening (Some o)) at h = none_opened H e x.number o s (there ∙ ap Some at)
-    placed x there here (Opening None) at h = cc
-    placed x there here Idle at h = cc
-    placed x there here Closing at h = cc
+    placed x there here _ at h = cc
 
     by : (o : Option Conn) → find test (pool (e ∷ H)).conns ≡ o → home (e ∷ H) n ≡ 0
     by None is = ap or_none (ap (option_map (λ (x : Conn). x.number)) is)
@@ -190,6 +188,4 @@ still_home H e n d x s found lent home_is = by x.place refl lent home_is
     by (Lent u o) at i h =
         let there : place K d ≡ Some (Lent u o) = lent_after H e d u o s (ap place_in found ∙ ap Some at) in
         number (find (λ y. is_home n y.place) (pool K).conns) (after u o at h (conn_of d (pool K).conns) refl there)
-    by Idle at i h = absurd cc
-    by (Opening o) at i h = absurd cc
-    by Closing at i h = absurd cc
+    by _ at i h = absurd cc

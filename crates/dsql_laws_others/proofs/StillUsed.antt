@@ -10,7 +10,7 @@ use Rattle.dsql_laws_calls.specs.rows.declared.rows.Rows.{Rows}
 use Rattle.dsql_laws_calls.specs.rows.OpenRows.{is_live}
 use Rattle.dsql_laws_calls.specs.pool.declared.conn.Conn.{Conn}
 use Rattle.dsql_laws_calls.specs.pool.declared.conn.Place.{Place}
-use Rattle.dsql_laws_calls.specs.pool.declared.conn.Place.TheVariants.{Idle, Lent, Opening, Closing}
+use Rattle.dsql_laws_calls.specs.pool.declared.conn.Place.TheVariants.{Lent}
 use Rattle.dsql_laws_calls.specs.pool.Places.{conn_of}
 use Rattle.dsql_laws_calls.specs.pool.Pooled.{place_at}
 use Rattle.dsql_laws_calls.specs.history.Readers.HandedOut.{live, over, rows_by, are_live, are_over}
@@ -190,9 +190,7 @@ all_kept G each = all_found (λ conn. is_in_use G conn.place) (pool G).conns (on
       where
         by : (p : Place) → y.place ≡ p → is_in_use G p ≡ true
         by (Lent u o) is = each y.number u o (ap place_in found ∙ ap Some is)
-        by Idle is = refl
-        by (Opening o) is = refl
-        by Closing is = refl
+        by _ is = refl
 
 either_way : (a b : Bool) → (a ≡ true → b ≡ true) → (b ≡ true → a ≡ true) → b ≡ a
 either_way true b so back = so refl

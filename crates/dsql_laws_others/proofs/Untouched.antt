@@ -14,7 +14,7 @@ use Rattle.dsql_laws_calls.specs.wait.declared.request.Request.{Request}
 use Rattle.dsql_laws_calls.specs.wait.Requests.{waits}
 use Rattle.dsql_laws_calls.specs.pool.declared.conn.Conn.{Conn}
 use Rattle.dsql_laws_calls.specs.pool.declared.conn.Place.{Place}
-use Rattle.dsql_laws_calls.specs.pool.declared.conn.Place.TheVariants.{Idle, Lent, Opening, Closing}
+use Rattle.dsql_laws_calls.specs.pool.declared.conn.Place.TheVariants.{Lent}
 use Rattle.dsql_laws_calls.specs.pool.Places.{is_for}
 use Rattle.dsql_laws_calls.specs.pool.Pooled.{without}
 use Rattle.dsql_laws_calls.specs.history.declared.event.Control.{Control}
@@ -190,9 +190,7 @@ used_replied H n reply gave = by (rests H n) refl gave
 
     beside : (p : Place) → is_home n p ≡ false → is_in_use K p ≡ is_in_use H p
     beside (Lent t owner) away = others (number_of owner) (apart_of (number_of owner) n away)
-    beside Idle away = refl
-    beside (Opening o) away = refl
-    beside Closing away = refl
+    beside _ away = refl
 
     by : (b : Bool) → rests H n ≡ b → is_none (cond b (smallest (is_home n) (pool H)) None) ≡ true → uses_what_is_lent K ≡ uses_what_is_lent H
     by true is gone =

@@ -21,7 +21,7 @@ use Rattle.dsql_laws_calls.specs.history.Readers.HandedOut.{fetched, last_end, h
 use Rattle.dsql_laws_calls.proofs.laws_work.Rows.{same_or_not}
 use Rattle.dsql_laws_calls.proofs.laws.Tests.{same_itself}
 use Rattle.dsql_laws_calls.specs.history.declared.event.Event.{Event}
-use Rattle.dsql_laws_calls.specs.history.declared.event.Event.TheVariants.{Run, Entered, Heard, Pool, Waits, Ticked, SetLimit, Replied, Ended}
+use Rattle.dsql_laws_calls.specs.history.declared.event.Event.TheVariants.{Entered, Heard, Pool, Ended}
 use Rattle.dsql_laws_calls.specs.history.declared.work.Scope.TheVariants.{Tx}
 use Rattle.dsql_laws_calls.specs.history.declared.work.Work.{Work}
 use Rattle.dsql_laws_calls.specs.history.declared.work.Work.TheVariants.{HandOut, Fetch}
@@ -115,12 +115,7 @@ held_in (e ∷ H) c t own n l is hands some = by (held_in H c t own n l.0) (lent
     step (Heard y) m before h s rest = answer_holds H y c t own n m before h s (rest h)
     step (Entered client k op) m before h s rest = let were = sym (some_entered H op n (handed_out H)) ∙ s in rest (hands_same H (Entered client k op) n (number_of own) were h) were
     step Ended m before h s rest = rest h (sym (some_mapped (λ j. of_rows.ended_by (last_end (scope (work H j)))) n (handed_out H)) ∙ s)
-    step (Run version can) m before h s rest = rest h s
-    step (Pool move) m before h s rest = rest h s
-    step (Waits k) m before h s rest = rest h s
-    step (Ticked now) m before h s rest = rest h s
-    step (SetLimit x k) m before h s rest = rest h s
-    step (Replied k reply) m before h s rest = rest h s
+    step _ m before h s rest = rest h s
 
     lends_none : (k : ℕ) → e ≡ Pool (Lend c t own k) → ⊥
     lends_none k its =

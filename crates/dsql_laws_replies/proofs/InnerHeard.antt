@@ -90,15 +90,7 @@ closings can bad count made (s ∷ ss) h =
 steps_of_text : (made : List Exchange) → list_all of_text (steps_left courses.One made) ≡ true
 steps_of_text [] = refl
 steps_of_text ((due.Text, g) ∷ rest) = refl
-steps_of_text ((due.Prepare, g) ∷ rest) = refl
-steps_of_text ((due.Handle h, g) ∷ rest) = refl
-steps_of_text ((due.Next h, g) ∷ rest) = refl
-steps_of_text ((due.CloseRows h, g) ∷ rest) = refl
-steps_of_text ((due.CloseStmt h, g) ∷ rest) = refl
-steps_of_text ((due.Ping, g) ∷ rest) = refl
-steps_of_text ((due.Begin, g) ∷ rest) = refl
-steps_of_text ((due.Rollback, g) ∷ rest) = refl
-steps_of_text ((due.Over, g) ∷ rest) = refl
+steps_of_text (_ ∷ rest) = refl
 
 pub closing_tidy : (can : Caps) (bad : Bool) (count : ℕ) (made : List Exchange) → is_tidy aims.HandOut (closing_of courses.Query bad can count made) ≡ true
 closing_tidy can bad count made = by (went_bad made)

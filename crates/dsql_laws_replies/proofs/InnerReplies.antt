@@ -135,9 +135,7 @@ handed_less aims.HandOut (Some d) a made h = second (given_cursor (got_of a)) (o
     second : (o p : Option ℕ) → or_else o p ≡ None → p ≡ None
     second None p x = x
     second (Some r) p x = absurd cc
-handed_less aims.Execute d a made h = refl
-handed_less aims.ReadOne d a made h = refl
-handed_less aims.Ping d a made h = refl
+handed_less _ d a made h = refl
 
 record OwnAnswer (H : List Event) (e : Entry) (n k : ℕ) : Type 0 where
   owner : Owner

@@ -9,7 +9,7 @@ use Rattle.dsql_laws_calls.specs.journal.Kinds.{number_of}
 use Rattle.dsql_laws_calls.specs.wait.Requests.{waits}
 use Rattle.dsql_laws_calls.specs.pool.declared.conn.Conn.{Conn}
 use Rattle.dsql_laws_calls.specs.pool.declared.conn.Place.{Place}
-use Rattle.dsql_laws_calls.specs.pool.declared.conn.Place.TheVariants.{Idle, Lent, Opening, Closing}
+use Rattle.dsql_laws_calls.specs.pool.declared.conn.Place.TheVariants.{Lent}
 use Rattle.dsql_laws_calls.specs.pool.Calls.{wants}
 use Rattle.dsql_laws_calls.specs.pool.Places.{is_for}
 use Rattle.dsql_laws_calls.specs.rows.declared.rows.Rows.{Rows}
@@ -76,9 +76,7 @@ lent_used H n (x ∷ xs) used free unwanted =
         by : (c : Bool) → (number_of owner == n) ≡ c → (number_of owner == n) ≡ false
         by false is = is
         by true is = let its : is_kept H n ≡ true = ap (λ k. is_kept H k) (sym (same_number (number_of owner) n is)) ∙ u in never (is_kept H n) its free
-    at Idle u f = f
-    at (Opening wanted) u f = f
-    at Closing u f = f
+    at _ u f = f
 
 -- A call that wasn't served is no ping with nothing to ask.
 untold : (can : Caps) (it : Work) (tried : List Try) → was_served tried ≡ false → asks_nothing can it tried ≡ false

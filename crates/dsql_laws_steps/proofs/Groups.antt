@@ -8,7 +8,7 @@ use Rattle.dsql_laws.specs.journal.Kinds.{is_house, number_of}
 use Rattle.dsql_laws.specs.journal.Readers.{is_empty}
 use Rattle.dsql_laws.specs.pool.declared.conn.Place.{Place}
 use Rattle.dsql_laws.specs.pool.declared.conn.Conn.{Conn}
-use Rattle.dsql_laws.specs.pool.declared.conn.Place.TheVariants.{Idle, Lent, Opening, Closing}
+use Rattle.dsql_laws.specs.pool.declared.conn.Place.TheVariants.{Lent, Opening}
 use Rattle.dsql_laws.specs.pool.declared.moves.CloseCause.{CloseCause}
 use Rattle.dsql_laws.specs.pool.declared.moves.Move.{Move}
 use Rattle.dsql_laws.specs.pool.declared.moves.Move.TheVariants.{OpenStart, Lend, Back, CloseStart}
@@ -147,9 +147,7 @@ gives_moves m n Q H c none back closes = by (when_given_back (fate H c) c (pool 
 home_leaves : (H : List Event) (n m : ℕ) (p : Place) → rests H n ≡ true → is_home n p ≡ true → leaver H m (Some p) ≡ n
 home_leaves H n m (Lent t o) r h = let same = same_number (number_of o) n h in ap (λ (b : Bool). cond b (number_of o) m) (ap (rests H) same ∙ r) ∙ same
 home_leaves H n m (Opening (Some o)) r h = let same = same_number (number_of o) n h in ap (λ (b : Bool). cond b (number_of o) m) (ap (rests H) same ∙ r) ∙ same
-home_leaves H n m (Opening None) r h = absurd cc
-home_leaves H n m Idle r h = absurd cc
-home_leaves H n m Closing r h = absurd cc
+home_leaves H n m _ r h = absurd cc
 
 found_leaves : (H : List Event) (n m c : ℕ) (found : Option Conn) → rests H n ≡ true → find (λ (conn : Conn). is_home n conn.place) (pool H).conns ≡ found → option_map (λ (conn : Conn). conn.number) found ≡ Some c
     → leaver H m (place H c) ≡ n

@@ -1,11 +1,11 @@
 -- Taking a permit leaves a moment at rest and its last step whole. With more permits in flight more calls are blocked,
 -- and none is freed.
-use Rattle.std.proofs.Common.{◌≡◌, ℕ, ◌==◌, ◌+◌, Bool, true, false, not, ◌&&◌, ◌||◌, cond, List, [], ◌∷◌, ◌++◌, Option, Some, None, refl, sym, subst, ◌∙◌, append-nil, length, ap, arith, length-append}
+use Rattle.std.proofs.Common.{◌≡◌, ℕ, ◌==◌, ◌+◌, Bool, true, false, not, ◌&&◌, ◌||◌, cond, List, [], ◌∷◌, ◌++◌, Option, Some, refl, sym, subst, ◌∙◌, append-nil, length, ap, arith, length-append}
 use Rattle.std.specs.List.{list_any}
 use Rattle.std.proofs.lemmas.List.Folds.{list_any-append}
 use Rattle.dsql_laws.specs.history.declared.record.Flight.{Flight}
 use Rattle.dsql_laws.specs.history.declared.record.Stand.{Stand}
-use Rattle.dsql_laws.specs.history.declared.record.Stand.TheVariants.{Waits, Opens, Sends, Replies, Asks}
+use Rattle.dsql_laws.specs.history.declared.record.Stand.TheVariants.{Waits, Opens, Sends}
 use Rattle.dsql_laws.specs.history.Rules.Flights.{is_in_flight, has_flight, is_blocked, permitted, with_flight}
 use Rattle.dsql_laws.proofs.Truths.{or_first, or_second}
 use Rattle.dsql_laws.proofs.Tests.{same_itself}
@@ -33,11 +33,7 @@ grown_none flights = record { more = []; is = sym (append-nil flights) }
 
 pub permitted_grows : (n : ℕ) (at : Option Stand) (flights : List Flight) → Grown flights (permitted n at flights)
 permitted_grows n (Some (Sends c)) flights = grown_by n c flights (is_in_flight n flights || has_flight c flights)
-permitted_grows n (Some Waits) flights = grown_none flights
-permitted_grows n (Some (Opens c)) flights = grown_none flights
-permitted_grows n (Some Replies) flights = grown_none flights
-permitted_grows n (Some Asks) flights = grown_none flights
-permitted_grows n None flights = grown_none flights
+permitted_grows n _ flights = grown_none flights
 
 -- A call whose permit is in flight, or can't be, gets no other.
 
@@ -64,19 +60,13 @@ full_then n c flights = by (is_full n c flights) refl
 
 pub permitted_twice : (n : ℕ) (at : Option Stand) (flights : List Flight) → permitted n at (permitted n at flights) ≡ permitted n at flights
 permitted_twice n (Some (Sends c)) flights = rw (full_then n c flights) refl
-permitted_twice n (Some Waits) flights = refl
-permitted_twice n (Some (Opens c)) flights = refl
-permitted_twice n (Some Replies) flights = refl
-permitted_twice n (Some Asks) flights = refl
-permitted_twice n None flights = refl
+permitted_twice n _ flights = refl
 
 pub blocked_stays : (n : ℕ) (at : Option Stand) (before after : List Flight) → Grown before after → is_blocked before n at ≡ true → is_blocked after n at ≡ true
 blocked_stays n (Some (Sends c)) before after g h = any_stays (λ flight. (flight.conn == c) && not (flight.call == n)) before after g h
 blocked_stays n (Some Waits) before after g h = refl
 blocked_stays n (Some (Opens c)) before after g h = refl
-blocked_stays n (Some Replies) before after g h = h
-blocked_stays n (Some Asks) before after g h = h
-blocked_stays n None before after g h = h
+blocked_stays n _ before after g h = h
 
 full_stays : (n c : ℕ) (before after : List Flight) → Grown before after → is_full n c before ≡ true → is_full n c after ≡ true
 full_stays n c before after g h = by (is_in_flight n before) refl h
@@ -98,11 +88,7 @@ full_where n c flights same = by (is_full n c flights) refl same
 
 rest_stays : (n : ℕ) (at : Option Stand) (before after : List Flight) → Grown before after → permitted n at before ≡ before → permitted n at after ≡ after
 rest_stays n (Some (Sends c)) before after g same = rw (full_stays n c before after g (full_where n c before same)) refl
-rest_stays n (Some Waits) before after g same = refl
-rest_stays n (Some (Opens c)) before after g same = refl
-rest_stays n (Some Replies) before after g same = refl
-rest_stays n (Some Asks) before after g same = refl
-rest_stays n None before after g same = refl
+rest_stays n _ before after g same = refl
 
 -- A call that is in flight, has its reply or is blocked stays so. More permits are in flight, and at least as many
 -- calls are blocked.
