@@ -1,12 +1,7 @@
 -- A reply is like itself.
-use Rattle.std.proofs.Common.{◌≡◌, ℕ, Bool, true, false, List, [], ◌∷◌, refl, arith}
-use Rattle.std.specs.Prelude.{bytes_eq, ℤ}
-use Rattle.std.specs.Ordering.{int_eq}
-use Rattle.std.proofs.lemmas.Grind.{common_steps}
+use Rattle.std.proofs.Common.{◌≡◌, ℕ, true, List, [], ◌∷◌, refl}
 use Rattle.dsql_laws_calls.specs.cancel.declared.token.Cause.{Cause}
 use Rattle.dsql_laws_calls.specs.cancel.declared.token.Cause.TheVariants as causes
-use Rattle.dsql_laws_calls.specs.driver.declared.call.Level.{Level}
-use Rattle.dsql_laws_calls.specs.driver.declared.call.Level.TheVariants as levels
 use Rattle.dsql_laws_calls.specs.rows.declared.end.RowsOver.{RowsOver}
 use Rattle.dsql_laws_calls.specs.rows.declared.end.RowsOver.TheVariants as overs
 use Rattle.dsql_laws_calls.specs.scan.declared.cell.Cell.{Cell}
@@ -14,27 +9,17 @@ use Rattle.dsql_laws_calls.specs.scan.declared.cell.Cell.TheVariants as cells
 use Rattle.dsql_laws_calls.specs.pool.declared.stats.Stats.{Stats}
 use Rattle.dsql_laws_calls.specs.tx.declared.end.TxEnd.{TxEnd}
 use Rattle.dsql_laws_calls.specs.tx.declared.end.TxEnd.TheVariants as tx_ends
-use Rattle.dsql_laws_calls.specs.works.Same.{same_truth, same_cell, same_cells}
+use Rattle.dsql_laws_calls.specs.works.Same.{same_cell, same_cells}
 use Rattle.dsql_laws_calls.specs.works.declared.fault_word.FaultWord.{FaultWord}
 use Rattle.dsql_laws_calls.specs.works.declared.fault_word.FaultWord.TheVariants as words
 use Rattle.dsql_laws_calls.specs.works.Replies.{same_word, same_cause, same_over, same_columns}
-use Rattle.dsql_laws_calls.specs.history.Same.{same_end, same_stats, same_level, same_reply, same_tx_end}
+use Rattle.dsql_laws_calls.specs.history.Same.{same_end, same_stats, same_reply, same_tx_end}
 use Rattle.dsql_laws_calls.specs.history.declared.reply.DbEnd.{DbEnd}
 use Rattle.dsql_laws_calls.specs.history.declared.reply.DbEnd.TheVariants as ends
 use Rattle.dsql_laws_calls.specs.history.declared.reply.Reply.{Reply}
 use Rattle.dsql_laws_calls.specs.history.declared.reply.Reply.TheVariants as replies
 use Rattle.dsql_laws_calls.proofs.laws.Tests.{same_itself}
-
-bytes_itself : (xs : List ℕ) → bytes_eq xs xs ≡ true
-bytes_itself [] = refl
-bytes_itself (x ∷ xs) = rw (same_itself x) (bytes_itself xs)
-
-int_itself : (z : ℤ) → int_eq z z ≡ true
-int_itself z = grind (arith, common_steps)
-
-truth_itself : (b : Bool) → same_truth b b ≡ true
-truth_itself true = refl
-truth_itself false = refl
+use Rattle.dsql_laws_calls.proofs.Itself.{bytes_itself, int_itself, level_itself, truth_itself}
 
 cell_itself : (cell : Cell) → same_cell cell cell ≡ true
 cell_itself cells.Null = refl
@@ -68,10 +53,6 @@ columns_itself (column ∷ columns) = rw (bytes_itself column) (columns_itself c
 end_itself : (end : DbEnd) → same_end end end ≡ true
 end_itself ends.Close = refl
 end_itself ends.EndOfRun = refl
-
-level_itself : (level : Level) → same_level level level ≡ true
-level_itself levels.Default = refl
-level_itself _ = refl
 
 tx_end_itself : (end : TxEnd) → same_tx_end end end ≡ true
 tx_end_itself (tx_ends.Cancel cause) = cause_itself cause

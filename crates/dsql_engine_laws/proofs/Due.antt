@@ -1,9 +1,7 @@
 -- The driver call that is due for a call is due to itself, and neither opens nor shuts a connection.
-use Rattle.std.proofs.Common.{◌≡◌, ℕ, ◌+◌, ◌==◌, Bool, true, false, ◌||◌, cond, List, [], ◌∷◌, length, Option, Some, None, refl, sym, ap, ◌∙◌, arith}
-use Rattle.std.specs.Prelude.{bytes_eq, ℤ}
+use Rattle.std.proofs.Common.{◌≡◌, ℕ, ◌+◌, ◌==◌, Bool, true, false, ◌||◌, cond, List, [], ◌∷◌, length, Option, Some, None, refl, sym, ap, ◌∙◌}
+use Rattle.std.specs.Prelude.{bytes_eq}
 use Rattle.std.specs.List.{list_any}
-use Rattle.std.specs.Ordering.{int_eq}
-use Rattle.std.proofs.lemmas.Grind.{common_steps}
 use Rattle.dsql_engine_hearing.specs.value.declared.value.Param.{Param}
 use Rattle.dsql_engine_hearing.specs.value.declared.value.Value.{Value}
 use Rattle.dsql_engine_hearing.specs.value.declared.value.Value.TheVariants as values
@@ -15,7 +13,6 @@ use Rattle.dsql_engine_hearing.specs.driver.declared.call.DriverCall.TheVariants
 use Rattle.dsql_engine_hearing.specs.driver.declared.call.Input.{Input}
 use Rattle.dsql_engine_hearing.specs.driver.declared.call.Input.TheVariants.{Text, Handle}
 use Rattle.dsql_engine_hearing.specs.driver.declared.call.Level.{Level}
-use Rattle.dsql_engine_hearing.specs.driver.declared.call.Level.TheVariants as levels
 use Rattle.dsql_engine_hearing.specs.course.declared.call.Due.{Due}
 use Rattle.dsql_engine_hearing.specs.course.declared.call.Due.TheVariants as due
 use Rattle.dsql_engine_hearing.specs.course.declared.course.Course.TheVariants as courses
@@ -36,8 +33,9 @@ use Rattle.dsql_engine_hearing.specs.works.declared.work.Aim.TheVariants as aims
 use Rattle.dsql_engine_hearing.specs.works.Exchanges.{exchanges}
 use Rattle.dsql_engine_hearing.specs.works.Line as plain
 use Rattle.dsql_engine_hearing.specs.works.Line.{Asked, handed, line_after, run_for, sent_as, sent_over, test_of}
-use Rattle.dsql_engine_hearing.specs.works.Same.{same_name, same_params, same_truth, same_value}
+use Rattle.dsql_engine_hearing.specs.works.Same.{same_params, same_truth, same_value}
 use Rattle.dsql_engine_hearing.proofs.laws.Tests.{same_itself, together}
+use Rattle.dsql_engine_hearing.proofs.laws_calls.Itself.{bytes_itself, int_itself, level_itself, name_itself, truth_itself}
 use Rattle.dsql_engine_hearing.specs.history.Same.{same_level}
 use Rattle.dsql_engine_hearing.specs.history.declared.event.Event.{Event}
 use Rattle.dsql_engine_hearing.specs.history.declared.work.Scope.{Scope}
@@ -59,17 +57,6 @@ use Rattle.dsql_engine_hearing.specs.history.Rules.Sent.{asked_by, begin_after, 
 
 -- A driver call other than a Connect or a Shut is due to itself.
 
-bytes_itself : (xs : List ℕ) → bytes_eq xs xs ≡ true
-bytes_itself [] = refl
-bytes_itself (x ∷ xs) = rw (same_itself x) (bytes_itself xs)
-
-int_itself : (z : ℤ) → int_eq z z ≡ true
-int_itself z = grind (arith, common_steps)
-
-truth_itself : (b : Bool) → same_truth b b ≡ true
-truth_itself true = refl
-truth_itself false = refl
-
 value_itself : (v : Value) → same_value v v ≡ true
 value_itself values.Nil = refl
 value_itself (values.Int n) = int_itself n
@@ -78,23 +65,9 @@ value_itself (values.Bytes bytes) = bytes_itself bytes
 value_itself (values.Text text) = bytes_itself text
 value_itself (values.Time n) = int_itself n
 
-name_itself : (name : Option (List ℕ)) → same_name name name ≡ true
-name_itself None = refl
-name_itself (Some name) = bytes_itself name
-
 params_itself : (params : List Param) → same_params params params ≡ true
 params_itself [] = refl
 params_itself (param ∷ params) = rw (name_itself param.name, value_itself param.value) (params_itself params)
-
-level_itself : (level : Level) → same_level level level ≡ true
-level_itself levels.Default = refl
-level_itself levels.ReadUncommitted = refl
-level_itself levels.ReadCommitted = refl
-level_itself levels.WriteCommitted = refl
-level_itself levels.RepeatableRead = refl
-level_itself levels.Snapshot = refl
-level_itself levels.Serializable = refl
-level_itself levels.Linearizable = refl
 
 -- Is true if there is no driver call, or it neither opens nor shuts a connection.
 abbrev is_within : Option DriverCall → Bool

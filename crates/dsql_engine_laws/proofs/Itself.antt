@@ -7,7 +7,6 @@ use Rattle.dsql_engine_hearing.specs.driver.declared.call.DriverCall.TheVariants
 use Rattle.dsql_engine_hearing.specs.driver.declared.call.Input.{Input}
 use Rattle.dsql_engine_hearing.specs.driver.declared.call.Input.TheVariants.{Text, Handle}
 use Rattle.dsql_engine_hearing.specs.driver.declared.call.Level.{Level}
-use Rattle.dsql_engine_hearing.specs.driver.declared.call.Level.TheVariants as levels
 use Rattle.dsql_engine_hearing.specs.driver.declared.caps.Caps.{Caps}
 use Rattle.dsql_engine_hearing.specs.driver.Fits.{is_done}
 use Rattle.dsql_engine_hearing.specs.driver.Kinds.{is_bad, is_begin, is_connect, is_ending, is_shut, is_valid}
@@ -33,6 +32,7 @@ use Rattle.dsql_engine_hearing.specs.works.Line as plain
 use Rattle.dsql_engine_hearing.specs.works.Line.{Asked, handed, run_for, sent_as, sent_over, test_of}
 use Rattle.dsql_engine_hearing.specs.works.Same.{same_truth}
 use Rattle.dsql_engine_hearing.proofs.laws.Tests.{same_itself, together}
+use Rattle.dsql_engine_hearing.proofs.laws_calls.Itself.{level_itself, truth_itself}
 use Rattle.dsql_engine_hearing.specs.exchanged.Filled.{carries_statement}
 use Rattle.dsql_engine_hearing.specs.history.declared.event.Event.{Event}
 use Rattle.dsql_engine_hearing.specs.history.declared.work.Scope.{Scope}
@@ -171,20 +171,6 @@ neither H n q is = by q (ap opens_none (sym is) ∙ tidying_opens H n)
     by p h = (refl, refl)
 
 -- A driver call that carries no statement is the same as itself.
-
-level_itself : (level : Level) → same_level level level ≡ true
-level_itself levels.Default = refl
-level_itself levels.ReadUncommitted = refl
-level_itself levels.ReadCommitted = refl
-level_itself levels.WriteCommitted = refl
-level_itself levels.RepeatableRead = refl
-level_itself levels.Snapshot = refl
-level_itself levels.Serializable = refl
-level_itself levels.Linearizable = refl
-
-truth_itself : (b : Bool) → same_truth b b ≡ true
-truth_itself true = refl
-truth_itself false = refl
 
 call_itself : (q : DriverCall) → carries_statement q ≡ false → opens_none (Some q) ≡ true → is_due (Some q) q ≡ true
 call_itself (calls.Begin level read_only) bare h = together (same_level level level) (same_truth read_only read_only) (level_itself level) (truth_itself read_only)

@@ -61,3 +61,4 @@ pub mod Spared
 pub mod Unspoilt
 pub mod FirstAnswers
 pub mod Wanters
+pub mod Itself

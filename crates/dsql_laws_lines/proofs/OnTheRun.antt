@@ -12,6 +12,7 @@ use Rattle.dsql_laws_calls.specs.history.declared.event.Control.TheVariants.{Tic
 use Rattle.dsql_laws_calls.specs.history.Readers.Controls.{told, taken, told_after}
 use Rattle.dsql_laws_calls.specs.history.Readers.Course.{has_ended}
 use Rattle.dsql_laws_calls.proofs.laws.Truths.{or_first, or_second}
+use Rattle.dsql_laws_calls.proofs.Itself.{int_itself}
 use Rattle.dsql_laws_calls.proofs.laws.Tests.{same_itself, together}
 use Rattle.dsql_follows.specs.declared.line.Line.{Line}
 use Rattle.dsql_follows.specs.declared.line.Line.TheVariants as lines
@@ -27,7 +28,6 @@ use Rattle.dsql_laws_steps.proofs.AddedUp.{no_steps, one_more, steps_made}
 use Rattle.dsql_laws_steps.proofs.Placed.{later_behind, oldest_behind}
 use Rattle.dsql_laws_steps.proofs.Turns.{first_in_turn, more_in_turn}
 use Rattle.dsql_laws_lines.specs.Running.{BeginsAsItShould, FollowsTo, RunsOn, RunsToEnd}
-use Rattle.dsql_laws_lines.proofs.SameOps.{int_itself}
 use Rattle.dsql_laws_lines.proofs.AddedUp.{added_in_turn, added_up, one_step, passed_added}
 
 -- Returns the part of a line that consists of these events.

@@ -1,35 +1,18 @@
 -- Argues by the parts of an operation: each is the same as itself.
-use Rattle.std.proofs.Common.{◌≡◌, ℕ, ℤ, Bool, true, false, ◌&&◌, List, [], ◌∷◌, Option, Some, None, bytes_eq, int_eq, refl, arith}
-use Rattle.std.proofs.lemmas.Grind.{common_steps}
+use Rattle.std.proofs.Common.{◌≡◌, ℕ, true, ◌&&◌, List, [], ◌∷◌, Some, None, bytes_eq, refl}
 use Rattle.dsql_laws_calls.specs.value.declared.arg.Arg.{Arg}
 use Rattle.dsql_laws_calls.specs.value.declared.arg.Arg.TheVariants as args
 use Rattle.dsql_laws_calls.specs.value.declared.arg.Named.{Named}
-use Rattle.dsql_laws_calls.specs.driver.declared.call.Level.{Level}
-use Rattle.dsql_laws_calls.specs.driver.declared.call.Level.TheVariants as levels
 use Rattle.dsql_laws_calls.specs.scan.declared.dest.Dest.{Dest}
 use Rattle.dsql_laws_calls.specs.works.Same.{same_truth, same_name}
 use Rattle.dsql_laws_calls.proofs.laws.Tests.{same_itself, together}
+use Rattle.dsql_laws_calls.proofs.Itself.{bytes_itself, int_itself, level_itself, name_itself, truth_itself}
 use Rattle.dsql_follows.specs.Same.{rank, same_arg, same_args, same_dests, same_op, same_target}
 use Rattle.dsql_laws_calls.specs.history.declared.event.Op.{Op}
 use Rattle.dsql_laws_calls.specs.history.declared.event.Op.TheVariants as ops
 use Rattle.dsql_laws_calls.specs.history.declared.event.Target.{Target}
 use Rattle.dsql_laws_calls.specs.history.declared.event.Target.TheVariants as targets
 use Rattle.dsql_laws_calls.specs.history.Same.{same_level}
-
-bytes_itself : (xs : List ℕ) → bytes_eq xs xs ≡ true
-bytes_itself [] = refl
-bytes_itself (x ∷ xs) = rw (same_itself x) (bytes_itself xs)
-
-pub int_itself : (z : ℤ) → int_eq z z ≡ true
-int_itself z = grind (arith, common_steps)
-
-truth_itself : (b : Bool) → same_truth b b ≡ true
-truth_itself true = refl
-truth_itself false = refl
-
-name_itself : (name : Option (List ℕ)) → same_name name name ≡ true
-name_itself None = refl
-name_itself (Some name) = bytes_itself name
 
 arg_itself : (a : Arg) → same_arg a a ≡ true
 arg_itself args.Nil = refl
@@ -66,10 +49,6 @@ args_itself (a ∷ more) = together (same_name a.name a.name) _ (name_itself a.n
 dests_itself : (dests : List Dest) → same_dests dests dests ≡ true
 dests_itself [] = refl
 dests_itself (a ∷ more) = rw (same_itself (rank a)) (dests_itself more)
-
-level_itself : (level : Level) → same_level level level ≡ true
-level_itself levels.Default = refl
-level_itself _ = refl
 
 target_itself : (target : Target) → same_target target target ≡ true
 target_itself targets.Db = refl
