@@ -25,7 +25,7 @@ use Rattle.dsql_laws_calls.specs.history.Rules.Ending.{ending_at, ending_with, e
 use Rattle.dsql_laws_calls.specs.history.Rules.Line.{due_for, is_used}
 use Rattle.dsql_laws_calls.specs.history.Rules.Sent.{is_reset_due, line_at, line_of}
 use Rattle.dsql_laws_calls.proofs.Enders.{same_ender}
-use Rattle.dsql_laws_others.proofs.Alike.{Alike, due_alike, used_alike, line_asked, ends_alike, closings_alike, same_tx_ender}
+use Rattle.dsql_laws_others.proofs.Alike.{Concerns, Alike, due_alike, used_alike, line_asked, ends_alike, closings_alike, same_tx_ender}
 
 pub record HomeStays (H K : List Event) (n : ℕ) : Type 0 where
   pub homes : home K n ≡ home H n
@@ -76,8 +76,10 @@ ends_stay H move stays k = by (stays k)
     by (inl s) = ends_alike H K k refl s.homes s.places (record { first = closings_alike H K k refl (λ j. refl) (lines_stay H move stays); can = refl; heard = refl })
     by (inr u) = no_ending K k (home K k) (tx_end H k) refl u.after ∙ sym (no_ending H k (home H k) (tx_end H k) refl u.before)
 
-pub moved_alike : (H : List Event) (move : Move) (m : ℕ) → HomesStay H (Pool move ∷ H) → Alike H (Pool move ∷ H) m
-moved_alike H move m stays = record {
+-- A move leaves a call alike if it leaves the ends and the lines that concern the call, and what the call has sent.
+pub move_alike : (H : List Event) (move : Move) (m : ℕ) → ((k : ℕ) → ending (Pool move ∷ H) k ≡ ending H k) → ((n : ℕ) (w : Wish) → Concerns H m n → line_of (Pool move ∷ H) n w ≡ line_of H n w)
+    → (has_begun_to_send (Pool move ∷ H) m ≡ has_begun_to_send H m) ⊎ ((n : ℕ) (w : Wish) → borrower H n ≡ borrower H m → line_of H n w ≡ None) → Alike H (Pool move ∷ H) m
+move_alike H move m endings lines sent = record {
   unfinished = refl;
   its_work = refl;
   live = λ j. refl;
@@ -85,11 +87,14 @@ moved_alike H move m stays = record {
   late = λ j its. refl;
   going = λ j. refl;
   tx_enders = λ j. same_tx_ender H (Pool move) j refl;
-  endings = ends_stay H move stays;
-  lines = λ j w its. lines_stay H move stays j w;
-  sent = sent (stays (borrower H m));
+  endings = endings;
+  lines = lines;
+  sent = sent;
   decided = refl;
 }
+
+pub moved_alike : (H : List Event) (move : Move) (m : ℕ) → HomesStay H (Pool move ∷ H) → Alike H (Pool move ∷ H) m
+moved_alike H move m stays = move_alike H move m (ends_stay H move stays) (λ j w its. lines_stay H move stays j w) (sent (stays (borrower H m)))
   where
     K : List Event
     K = Pool move ∷ H

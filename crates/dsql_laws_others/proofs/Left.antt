@@ -50,15 +50,14 @@ use Rattle.dsql_laws_calls.proofs.Begun.{over_begun}
 use Rattle.dsql_laws_calls.proofs.Born.{heard_open}
 use Rattle.dsql_laws_calls.proofs.DueLent.{none_due_unlent}
 use Rattle.dsql_laws_calls.proofs.DueWay.{borrow_same}
-use Rattle.dsql_laws_calls.proofs.Enders.{same_ender}
 use Rattle.dsql_laws_calls.proofs.LiveRows.{over_some}
 use Rattle.dsql_laws_calls.proofs.Makers.{rows_hand_out}
 use Rattle.dsql_laws_calls.proofs.Owners.{at_home}
 use Rattle.dsql_laws_calls.proofs.UnderWay.{ending_over, left_of}
 use Rattle.dsql_laws_calls.proofs.Wanted.{lent_wants_none}
 use Rattle.dsql_laws_calls.proofs.Why.{tx_used}
-use Rattle.dsql_laws_others.proofs.Alike.{Concerns, Alike, due_alike, first_alike, closing_alike, ends_alike, same_tx_ender}
-use Rattle.dsql_laws_others.proofs.Homes.{HomeStays, no_line, no_ending, line_by_home}
+use Rattle.dsql_laws_others.proofs.Alike.{Concerns, Alike, due_alike, first_alike, closing_alike, ends_alike}
+use Rattle.dsql_laws_others.proofs.Homes.{HomeStays, no_line, no_ending, line_by_home, move_alike}
 use Rattle.dsql_laws_others.proofs.LentOthers.{unmade, is_rows, rows_in}
 use Rattle.dsql_laws_others.proofs.LentStands.{found_same}
 use Rattle.dsql_laws_others.proofs.Numbers.{none_zero}
@@ -244,19 +243,7 @@ due_gone H m x n some uses = none_due_unlent (Pool m ∷ H) n some (ap (λ j. is
 -- What is due for the other calls stays the same.
 
 off_alike : (H : List Event) (m : Move) (x : Leaving H m) (n : ℕ) → borrower H n ≢ number_of x.owner → ((j : ℕ) → (work H n ≡ Fetch j) ⊎ (work H n ≡ Close j) → borrower H j ≢ number_of x.owner) → Alike H (Pool m ∷ H) n
-off_alike H m x n apart rows = record {
-  unfinished = refl;
-  its_work = refl;
-  live = λ j. refl;
-  enders = λ j. same_ender H (Pool m) j refl;
-  late = λ j its. refl;
-  going = λ j. refl;
-  tx_enders = λ j. same_tx_ender H (Pool m) j refl;
-  endings = ending_left H m x;
-  lines = lines;
-  sent = inl (let s = home_stays H m x (borrower H n) apart in ap (λ d. has_sent n (journal H d)) s.homes);
-  decided = refl;
-}
+off_alike H m x n apart rows = move_alike H m n (ending_left H m x) lines (inl (let s = home_stays H m x (borrower H n) apart in ap (λ d. has_sent n (journal H d)) s.homes))
   where
     lines : (j : ℕ) (w : Wish) → Concerns H n j → line_of (Pool m ∷ H) j w ≡ line_of H j w
     lines j w (inl same) = lines_off H m x j w (λ uses. apart (sym (ap (borrower H) same) ∙ uses))

@@ -27,12 +27,12 @@ use Rattle.dsql_laws_calls.specs.history.Rules.Line.{due_inside, due_in, due_for
 use Rattle.dsql_laws_calls.specs.history.Rules.Sent.{line_at, line_of, wish, sent_for}
 use Rattle.dsql_laws_calls.specs.history.Legal.{Lawful}
 use Rattle.dsql_laws_calls.proofs.laws.Numbered.{unfinished_from_one}
-use Rattle.dsql_laws_calls.proofs.Enders.{unended, same_ender}
+use Rattle.dsql_laws_calls.proofs.Enders.{unended}
 use Rattle.dsql_laws_calls.proofs.Inside.{inside, inside_uses}
 use Rattle.dsql_laws_calls.proofs.Makers.{rows_hand_out}
 use Rattle.dsql_laws_calls.proofs.Own.{asks_own}
 use Rattle.dsql_laws_others.proofs.Alike.{Concerns, Alike, due_alike, same_tx_ender}
-use Rattle.dsql_laws_others.proofs.Homes.{HomeStays, HomeUnlent, no_line}
+use Rattle.dsql_laws_others.proofs.Homes.{HomeStays, HomeUnlent, move_alike, no_line}
 use Rattle.dsql_laws_others.proofs.Lends.{lends, lent_unbegun}
 use Rattle.dsql_laws_others.proofs.LentBeside.{other_home, other_line, rows_elsewhere, ending_same}
 
@@ -40,19 +40,7 @@ use Rattle.dsql_laws_others.proofs.LentBeside.{other_home, other_line, rows_else
 -- are alike.
 
 beside_alike : (H : List Event) (c t : ℕ) (own : Owner) (n m : ℕ) → Lawful (lends H c t own n) → borrower H m ≢ n → ((x : ℕ) → (work H m ≡ Fetch x) ⊎ (work H m ≡ Close x) → borrower H x ≢ n) → Alike H (lends H c t own n) m
-beside_alike H c t own n m l apart rows = record {
-  unfinished = refl;
-  its_work = refl;
-  live = λ j. refl;
-  enders = λ j. same_ender H (Pool (Lend c t own n)) j refl;
-  late = λ j its. refl;
-  going = λ j. refl;
-  tx_enders = λ j. same_tx_ender H (Pool (Lend c t own n)) j refl;
-  endings = λ j. ending_same H c t own n j l;
-  lines = lines;
-  sent = sent (other_home H c t own n (borrower H m) l apart);
-  decided = refl;
-}
+beside_alike H c t own n m l apart rows = move_alike H (Lend c t own n) m (λ j. ending_same H c t own n j l) lines (sent (other_home H c t own n (borrower H m) l apart))
   where
     K : List Event
     K = lends H c t own n
