@@ -8,7 +8,6 @@ use Rattle.dsql_laws_calls.specs.history.declared.work.Work.TheVariants.{Look}
 use Rattle.dsql_laws_calls.specs.history.declared.record.CallRecord.{CallRecord}
 use Rattle.dsql_laws_calls.specs.history.Readers.Calls as told
 use Rattle.dsql_laws_calls.specs.history.Readers.Calls.{call_record}
-use Rattle.dsql_laws_calls.specs.history.Readers.HandedOut as given
 use Rattle.dsql_laws_calls.specs.history.declared.reply.Reply.{Reply}
 use Rattle.dsql_laws_calls.specs.history.Readers.Tries.{try_number, tries}
 use Rattle.dsql_laws_calls.specs.history.Readers.Unfinished.{is_unfinished}
@@ -27,10 +26,6 @@ use Rattle.dsql_engine_desk.specs.Desk.{past, Stands}
 pub work_kept : (d : Desk) (n : ℕ) → Stands d → (row_at d.calls.items n).work ≡ work (past d) n
 unfolding Stands
 work_kept d n s = sym (get_or-map (λ (row : CallRow). row.work) d.calls.items n nobody) ∙ ap (λ (works : List Work). get_or works n Look) s.tables.calls.works
-
-pub ender_kept : (d : Desk) (n : ℕ) → Stands d → (row_at d.calls.items n).ender ≡ given.ender (past d) n
-unfolding Stands
-ender_kept d n s = s.tables.calls.ender n
 
 -- The row of a call without a reply gives the number of its newest try.
 number_kept : (d : Desk) (n : ℕ) → Stands d → is_unfinished (past d) n ≡ true → number (row_at d.calls.items n).tried ≡ try_number (tries (past d) n)
