@@ -1,20 +1,21 @@
 -- What a wire is after a call that it carried out on some map, or for which there was no memory. The answer
 -- decides which of the two it was.
-use Rattle.std.proofs.Common.{◌≡◌, ◌⊎◌, ℕ, true, false, Option, refl, ap, ◌∙◌, inl, inr}
+use Rattle.std.proofs.Common.{◌≡◌, ◌⊎◌, true, false, Option, refl, ap, ◌∙◌, inl, inr}
 use Rattle.dsql_driver.specs.Fits.{fits_of, is_memory}
-use Rattle.dsql_driver.specs.Wires.{WireTold, with_call, KeepsHandles, KeepsCursors}
+use Rattle.dsql_driver.specs.Wires.{KeepsHandles, KeepsCursors}
 use Rattle.dsql_driver.specs.declared.answer.DriverAnswer.{DriverAnswer}
 use Rattle.dsql_driver.specs.declared.answer.DriverAnswer.TheVariants.{Memory}
 use Rattle.dsql_driver.specs.declared.call.DriverCall.{DriverCall}
 use Rattle.dsql_mem_store.specs.Entries.{Entries}
 use Rattle.dsql_mem_session.specs.Session.{SessionState, IsSound, handles_of, cursors_of}
 use Rattle.dsql_mem_calls.specs.Effect.{effect_unless}
-use Rattle.dsql_mem.specs.Wire.{WireState, CarriesOut, fault_in_place, after_call, faults_after}
+use Rattle.dsql_mem_plans.specs.WireLogs.{WireLogState, with_answer}
+use Rattle.dsql_mem.specs.Wire.{WireState, CarriesOut, fault_in_place, after_call}
 use Rattle.dsql_mem.proofs.PlanLemmas.{comes_of-IsLawful}
 
 -- A wire that took a call's answer and recorded it is the wire after the call.
-pub changed_by_parts : (store : Entries) (call : DriverCall) (before : WireState) (fault : Option DriverAnswer) (session : SessionState) (told : WireTold) (faults : ℕ) (answer : DriverAnswer) → fault ≡ fault_in_place before call → session ≡ (effect_unless fault store before.session call).session → answer ≡ (effect_unless fault store before.session call).answer → told ≡ with_call (call, answer) before.told → faults ≡ faults_after before.faults answer → record { session = session; told = told; planned = before.planned; faults = faults } ≡ after_call store before call
-changed_by_parts store call before fault session told faults answer d s a h f = rw (h, f, s, a, d) refl
+pub changed_by_parts : (store : Entries) (call : DriverCall) (before : WireState) (fault : Option DriverAnswer) (session : SessionState) (log : WireLogState) (answer : DriverAnswer) → fault ≡ fault_in_place before call → session ≡ (effect_unless fault store before.session call).session → answer ≡ (effect_unless fault store before.session call).answer → log ≡ with_answer call answer (record { told = before.told; planned = before.planned; faults = before.faults }) → record { session = session; told = log.told; planned = log.planned; faults = log.faults } ≡ after_call store before call
+changed_by_parts store call before fault session log answer d s a l = rw (l, s, a, d) refl
 
 -- An answer is Memory or another one.
 memory-or_not : (answer : DriverAnswer) → (answer ≡ Memory) ⊎ (is_memory answer ≡ false)

@@ -1,14 +1,13 @@
--- The states of wires and fleets in memory.
-use Rattle.std.specs.Prelude.{◌≡◌, ℕ, ◌+◌, true, false, List, [], ◌∷◌, ◌++◌, length, Option, None, unwrap_or, if◌then◌else◌}
-use Rattle.dsql_driver.specs.Fits.{is_fault}
-use Rattle.dsql_driver.specs.Streams.{one_more}
-use Rattle.dsql_driver.specs.Wires.{WireTold, FleetTold, Plan, WirePlan, Preferred, newly_told, with_call, with_plan, with_wire_plan}
+-- The states of wires in memory, and what a fleet can do.
+use Rattle.std.specs.Prelude.{◌≡◌, ℕ, ◌+◌, true, false, List, [], ◌∷◌, ◌++◌, length, Option, unwrap_or}
+use Rattle.dsql_driver.specs.Wires.{WireTold, Plan, newly_told, with_call, with_plan}
 use Rattle.dsql_driver.specs.declared.answer.DriverAnswer.{DriverAnswer}
 use Rattle.dsql_driver.specs.declared.caps.Caps.{Caps}
 use Rattle.dsql_driver.specs.declared.call.DriverCall.{DriverCall}
-use Rattle.dsql_driver.specs.declared.call.DriverCall.TheVariants.{Connect}
 use Rattle.dsql_mem_calls.specs.Effect.{Effect, effect_unless}
-use Rattle.dsql_mem_plans.specs.Plans.{fault_at, plans_for}
+use Rattle.dsql_mem_plans.specs.Faults.{faults_after}
+use Rattle.dsql_mem_plans.specs.Fleets.{FleetState}
+use Rattle.dsql_mem_plans.specs.Plans.{fault_at}
 use Rattle.dsql_mem_store.specs.Entries.{Entries}
 use Rattle.dsql_mem_session.specs.Session.{SessionState, new_session}
 
@@ -33,10 +32,6 @@ fault_in_place wire call = fault_at (length wire.told.calls + 1) call wire.plann
 abbrev pub comes_of : Entries → WireState → DriverCall → Effect
 comes_of store wire call = effect_unless (fault_in_place wire call) store wire.session call
 
--- Returns a count of faults after an answer.
-abbrev pub faults_after : ℕ → DriverAnswer → ℕ
-faults_after faults answer = if is_fault answer then one_more faults else faults
-
 -- Returns the wire after a call on a map.
 abbrev pub after_call : Entries → WireState → DriverCall → WireState
 after_call store wire call = let after = comes_of store wire call in
@@ -56,34 +51,6 @@ pub record CarriesOut (store : Entries) (call : DriverCall) (answer : DriverAnsw
 -- Returns the wire after one more fault was planned on it.
 abbrev pub after_plan : Plan → WireState → WireState
 after_plan plan wire = record wire { told = with_plan plan wire.told; planned = wire.planned ++ plan ∷ [] }
-
--- A fleet: the capabilities that it was asked for, its report, and how often it refused a Connect as Bad or
--- Fail.
-pub record FleetState : Type 0 where
-  pub preferred : Preferred
-  pub told : FleetTold
-  pub faults : ℕ
-
--- Returns a fleet that was asked for nothing.
-abbrev pub new_fleet : FleetState
-new_fleet =
-    record {
-      preferred = record { last = None; times = 0 };
-      told = record { connects = []; plans = []; retired = [] };
-      faults = 0;
-    }
-
--- Returns the fleet after one more fault was planned.
-abbrev pub after_wire_plan : WirePlan → FleetState → FleetState
-after_wire_plan plan fleet = record fleet { told = with_wire_plan plan fleet.told }
-
--- Returns the fleet's plans for the wire with this number.
-abbrev pub planned_for : ℕ → FleetState → List Plan
-planned_for number fleet = plans_for number fleet.told.plans
-
--- Returns the fault that stands in the place of a wire's Connect, if one does.
-abbrev pub connect_fault : ℕ → FleetState → Option DriverAnswer
-connect_fault number fleet = fault_at 1 Connect (planned_for number fleet)
 
 -- Returns all capabilities except named parameters.
 abbrev pub default_caps : Caps

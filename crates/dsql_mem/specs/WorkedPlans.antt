@@ -7,7 +7,8 @@ use Rattle.dsql_driver.specs.declared.call.DriverCall.{DriverCall}
 use Rattle.dsql_driver.specs.declared.call.DriverCall.TheVariants.{Valid, Ping, Next, Commit, Rollback}
 use Rattle.dsql_driver.specs.declared.wire.Planned.TheVariants.{Bad, Fail, Invalid}
 use Rattle.dsql_mem_store.specs.Entries.{Entries}
-use Rattle.dsql_mem.specs.Wire.{WireState, new_wire, after_call, after_plan, comes_of, FleetState, new_fleet, planned_for, connect_fault}
+use Rattle.dsql_mem.specs.Wire.{WireState, new_wire, after_call, after_plan, comes_of}
+use Rattle.dsql_mem_plans.specs.Fleets.{FleetState, new_fleet, planned_for, connect_fault}
 use Rattle.dsql_mem.specs.Worked.{affected, ask, tell, begin}
 
 -- Returns the answers to calls on a wire, one after the other.

@@ -1,42 +1,35 @@
 ghost use Rattle.std.specs.Prelude.{◌≡◌, ◌≤◌, true, false, if◌then◌else◌, IfOk, OnOk, OnErr};
 ghost use Rattle.dsql_driver.specs.Fits.{is_memory};
 ghost use Rattle.dsql_mem_store.specs.Entries.{AreAscending};
-ghost use Rattle.dsql_mem_plans.specs.Log.{told_of};
 ghost use Rattle.dsql_mem_session.specs.Session.{IsSound};
-ghost use Rattle.dsql_mem.specs.Wire.{new_wire, comes_of, after_call, after_plan, faults_after, CarriesOut};
+ghost use Rattle.dsql_mem.specs.Wire.{new_wire, comes_of, after_call, after_plan, CarriesOut};
 
-use crate::roll::Roll;
 use dsql_driver::{Answered, DriverAnswer, DriverCall, Planned};
 use dsql_mem_calls::step_unless;
-use dsql_mem_plans::{Log, Plan, copied, fault_at};
+use dsql_mem_plans::{Plan, WireLog};
 use dsql_mem_session::Session;
 use dsql_mem_store::Store;
 use dsql_value::Memory;
 use std::alloc::Global;
 use std::marker::Model;
 
-/// What a wire has for itself: its session, its log, its planned faults and their count, and the room for its entry on
-/// a roll.
+/// What a wire has for itself: its session and its log.
 #[derive(Drop)]
 pub(crate) struct Connection {
     session: Session,
-    log: Log,
-    planned: Vec<Plan>,
-    faults: u64,
-    room: Box<Roll>,
+    log: WireLog,
 }
 
 impl Model for Connection {
-    ghost use Rattle.dsql_mem_plans.specs.Log.{told_of};
     ghost use Rattle.dsql_mem.specs.Wire.{WireState};
 
     ghost Value = { WireState };
 
     ghost view = { λ c. record {
       session = c.session;
-      told = told_of c.log;
-      planned = c.planned.items;
-      faults = c.faults;
+      told = c.log.told;
+      planned = c.log.planned;
+      faults = c.log.faults;
     } };
 }
 
@@ -45,14 +38,10 @@ impl Connection {
     pub(crate) fn new(alloc: Global, number: u32, planned: Vec<Plan>) -> Result<Connection, Memory>
         ensures { IfOk result (λ connection. connection ≡ new_wire number planned.items) }
     {
-        let log = Log::new(alloc, number);
-        let room = Box::new(alloc, Roll::Empty)?;
+        let log = WireLog::new(alloc, number, planned)?;
         Ok(Connection {
             session: Session::new(alloc),
             log,
-            planned,
-            faults: 0,
-            room,
         })
     }
 
@@ -101,11 +90,9 @@ impl Connection {
         ensures store_stays { OnErr result (store.new ≡ store.old) }
         ensures counted { self.old.faults ≤ self.new.faults }
     {
-        self.log.check_room()?;
-        let fault = fault_at(self.log.next_call(), call, self.planned.as_slice())?;
+        let fault = self.log.fault_due(call)?;
         let answered = step_unless(fault, alloc, store, &mut self.session, call)?;
         self.log.note(call, &answered.answer);
-        self.faults = faults_after(self.faults, &answered.answer);
         Ok(answered)
     }
 
@@ -114,34 +101,14 @@ impl Connection {
         ensures ok { OnOk result (self.new ≡ after_plan (nth, what) self.old) }
         ensures err { OnErr result (self.new ≡ self.old) }
     {
-        let noted = copied(&what)?;
-        self.planned.reserve(1)?;
-        self.log.plan(nth, noted)?;
-        self.planned.push_reserved((nth, what));
-        Ok(())
+        self.log.plan(nth, what)
     }
 
-    /// Returns the connection's log and its room on a roll.
-    pub(crate) fn into_parts(self) -> (Log, Box<Roll>)
-        ensures { told_of result.0 ≡ self.told }
+    /// Returns the connection's log.
+    pub(crate) fn into_log(self) -> WireLog
+        ensures { result.told ≡ self.told }
     {
-        let Connection { log, room, .. } = self;
-        (log, room)
-    }
-}
-
-/// Returns a count of faults after an answer. The count stays at its largest value after reaching it.
-pub(crate) fn faults_after(faults: u64, answer: &DriverAnswer) -> u64
-    ensures count { result ≡ faults_after faults answer.now }
-    ensures counted { faults ≤ result }
-{
-    let is_fault = matches!(
-        answer,
-        DriverAnswer::Invalid | DriverAnswer::Bad | DriverAnswer::Fail(_)
-    );
-    if is_fault {
-        faults.saturating_add(1)
-    } else {
-        faults
+        let Connection { log, .. } = self;
+        log
     }
 }

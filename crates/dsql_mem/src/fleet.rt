@@ -1,15 +1,15 @@
-ghost use Rattle.std.specs.Prelude.{◌≡◌, ◌≤◌, [], Some, true, false, is_some, length, min, unwrap_or, IfOk, IfErr, IfSome, OnOk, OnErr};
+ghost use Rattle.std.specs.Prelude.{◌≡◌, ◌≤◌, [], Some, true, false, is_some, length, unwrap_or, IfOk, IfErr, IfSome, OnOk, OnErr};
 ghost use Rattle.dsql_driver.specs.Fits.{is_fault, is_memory};
 ghost use Rattle.dsql_driver.specs.Streams.{HasRisen};
 ghost use Rattle.dsql_driver.specs.Wires.{answer_of, connected_after, newly_told, plans_after, is_fault_of};
+ghost use Rattle.dsql_mem_plans.specs.Faults.{faults_after};
+ghost use Rattle.dsql_mem_plans.specs.Fleets.{new_fleet, after_wire_plan, planned_for, connect_fault};
 ghost use Rattle.dsql_mem_session.specs.Session.{handles_of, cursors_of};
-ghost use Rattle.dsql_mem.specs.Wire.{ability_of, faults_after, new_fleet, new_wire, after_wire_plan, planned_for, connect_fault};
+ghost use Rattle.dsql_mem.specs.Wire.{ability_of, new_wire};
 
-use crate::connection::faults_after;
-use crate::roll::Roll;
 use crate::wire::MemWire;
-use dsql_driver::{Caps, DriverAnswer, Fleet, Planned, Refused};
-use dsql_mem_plans::{Refusal, WirePlanMade, connect_refusal, plans_for};
+use dsql_driver::{Caps, Fleet, Planned, Refused};
+use dsql_mem_plans::FleetLog;
 use dsql_mem_store::Store;
 use dsql_value::Memory;
 use std::marker::Model;
@@ -31,25 +31,15 @@ const DEFAULT_CAPS: Caps = Caps {
 pub struct MemFleet<R: AllocGlobal + Wait + Clone + Drop + Send> {
     rt: R,
     store: Arc<Mutex<Store>>,
-    preferred: Option<Caps>,
-    preferences: u64,
-    connects: Vec<(u32, DriverAnswer)>,
-    plans: Vec<WirePlanMade>,
-    retired: Roll,
-    faults: u64,
+    log: FleetLog,
 }
 
 impl<R: AllocGlobal + Wait + Clone + Drop + Send> Model for MemFleet<R> {
-    ghost use Rattle.dsql_mem.specs.Roll.{retired_of};
-    ghost use Rattle.dsql_mem.specs.Wire.{FleetState};
+    ghost use Rattle.dsql_mem_plans.specs.Fleets.{FleetState};
 
     ghost Value = { FleetState };
 
-    ghost view = { λ f. record {
-      preferred = record { last = f.preferred; times = f.preferences };
-      told = record { connects = f.connects.items; plans = f.plans.items; retired = retired_of f.retired };
-      faults = f.faults;
-    } };
+    ghost view = { λ f. f.log };
 }
 
 impl<R: AllocGlobal + Wait + Clone + Drop + Send> MemFleet<R> {
@@ -58,17 +48,8 @@ impl<R: AllocGlobal + Wait + Clone + Drop + Send> MemFleet<R> {
         ensures { IfOk result (λ fleet. fleet ≡ new_fleet) }
     {
         let store = Arc::new(rt.alloc(), Mutex::new(Store::new(rt.alloc())))?;
-        let alloc = rt.alloc();
-        Ok(MemFleet {
-            rt,
-            store,
-            preferred: None,
-            preferences: 0,
-            connects: Vec::new(alloc),
-            plans: Vec::new(alloc),
-            retired: Roll::Empty,
-            faults: 0,
-        })
+        let log = FleetLog::new(rt.alloc());
+        Ok(MemFleet { rt, store, log })
     }
 }
 
@@ -84,12 +65,11 @@ impl<R: AllocGlobal + Wait + Clone + Drop + Send> Fleet for MemFleet<R> {
     ghost faults = { λ f. f.faults };
 
     fn caps(&self) -> Caps {
-        self.preferred.unwrap_or(DEFAULT_CAPS)
+        self.log.preferred().unwrap_or(DEFAULT_CAPS)
     }
 
     fn prefer(&mut self, caps: Caps) {
-        self.preferred = Some(caps);
-        self.preferences = self.preferences.saturating_add(1);
+        self.log.prefer(caps);
     }
 
     fn plan(&mut self, wire: u32, nth: u32, what: Planned) -> Result<(), Memory>
@@ -103,8 +83,7 @@ impl<R: AllocGlobal + Wait + Clone + Drop + Send> Fleet for MemFleet<R> {
         ensures planned { OnOk result (self.new ≡ after_wire_plan (wire, (nth, what)) self.old) }
         ensures stays { OnErr result (self.new ≡ self.old) }
     {
-        self.plans.push((self.connects.len(), (wire, (nth, what))))?;
-        Ok(())
+        self.log.plan(wire, nth, what)
     }
 
     /// Opens a connection, whose wire shares the fleet's store. No clause says that all wires share one store.
@@ -127,32 +106,20 @@ impl<R: AllocGlobal + Wait + Clone + Drop + Send> Fleet for MemFleet<R> {
         ensures fresh { IfOk result (λ w. w ≡ new_wire number (planned_for number self.old)) }
         ensures faults { self.new.faults ≡ faults_after self.old.faults (answer_of result) }
     {
-        if self.connects.reserve(1).is_err() {
-            return Err(Refused::Memory);
-        }
-        let Ok(plans) = plans_for(self.rt.alloc(), number, self.plans.as_slice()) else {
+        let planned = match self.log.admit(self.rt.alloc(), number) {
+            Ok(planned) => planned,
+            Err(refused) => return Err(refused),
+        };
+        let Ok(wire) = MemWire::open(&self.rt, &self.store, number, planned) else {
             return Err(Refused::Memory);
         };
-        match connect_refusal(plans.as_slice()) {
-            Ok(Some(Refusal { refused, answer })) => {
-                self.faults = faults_after(self.faults, &answer);
-                self.connects.push_reserved((number, answer));
-                Err(refused)
-            }
-            Ok(None) => match MemWire::open(&self.rt, &self.store, number, plans) {
-                Ok(wire) => {
-                    self.connects.push_reserved((number, DriverAnswer::Done));
-                    Ok(wire)
-                }
-                Err(Memory) => Err(Refused::Memory),
-            },
+        match self.log.note_connected(number) {
+            Ok(()) => Ok(wire),
             Err(Memory) => Err(Refused::Memory),
         }
     }
 
     fn retire(&mut self, number: u32, wire: MemWire<R>) {
-        let (log, room) = wire.into_parts();
-        let before = std::mem::replace(&mut self.retired, Roll::Empty);
-        self.retired = before.enter(number, log, room);
+        self.log.retire(number, wire.into_log());
     }
 }

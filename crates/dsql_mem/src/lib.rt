@@ -12,7 +12,6 @@
 mod connection;
 mod fleet;
 pub mod laws;
-mod roll;
 mod wire;
 pub mod worked;
 

@@ -3,14 +3,12 @@ ghost use Rattle.dsql_driver.specs.Fits.{fits_of, is_fault, is_memory};
 ghost use Rattle.dsql_driver.specs.Streams.{HasRisen};
 ghost use Rattle.dsql_driver.specs.Wires.{told_after, with_plan, KeepsHandles, KeepsCursors};
 ghost use Rattle.dsql_mem_store.specs.Entries.{Entries, AreAscending};
-ghost use Rattle.dsql_mem_plans.specs.Log.{told_of};
 ghost use Rattle.dsql_mem_session.specs.Session.{handles_of, cursors_of};
 ghost use Rattle.dsql_mem.specs.Wire.{new_wire, after_plan, CarriesOut};
 
 use crate::connection::Connection;
-use crate::roll::Roll;
 use dsql_driver::{Answered, DriverCall, Planned, Wire};
-use dsql_mem_plans::{Log, Plan};
+use dsql_mem_plans::{Plan, WireLog};
 use dsql_mem_store::Store;
 use dsql_value::Memory;
 use std::marker::Model;
@@ -54,12 +52,12 @@ impl<R: AllocGlobal + Wait + Clone + Drop> MemWire<R> {
 }
 
 impl<R: AllocGlobal + Wait + Drop> MemWire<R> {
-    /// Returns the wire's log and its room on a roll.
-    pub(crate) fn into_parts(self) -> (Log, Box<Roll>)
-        ensures { told_of result.0 ≡ self.told }
+    /// Returns the wire's log.
+    pub(crate) fn into_log(self) -> WireLog
+        ensures { result.told ≡ self.told }
     {
         let MemWire { connection, .. } = self;
-        connection.into_parts()
+        connection.into_log()
     }
 }
 

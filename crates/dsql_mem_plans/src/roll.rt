@@ -1,8 +1,8 @@
-ghost use Rattle.std.specs.Prelude.{◌≡◌, ◌∷◌, [], ◌++◌, length, min};
+ghost use Rattle.std.specs.Prelude.{◌≡◌, ◌∷◌, [], ◌++◌};
 ghost use Rattle.dsql_mem_plans.specs.Log.{told_of};
-ghost use Rattle.dsql_mem.specs.Roll.{retired_of};
+ghost use Rattle.dsql_mem_plans.specs.Roll.{retired_of};
 
-use dsql_mem_plans::Log;
+use crate::log::Log;
 
 /// The wires that were retired, newest first. Each brings the room for its own entry.
 pub(crate) enum Roll {
@@ -26,19 +26,6 @@ impl Roll {
             log,
             before,
         }
-    }
-
-    /// Returns how many wires were entered, at most `usize::MAX`.
-    pub(crate) fn count(&self) -> usize
-        ensures { result ≡ min (length (retired_of self.now)) usize.MAX }
-    {
-        let mut count: usize = 0;
-        let mut at = self;
-        while let Roll::Wire { before, .. } = at {
-            count = count.saturating_add(1);
-            at = before;
-        }
-        count
     }
 }
 

@@ -2,7 +2,7 @@
 use Rattle.std.specs.Prelude.{List, [], ◌∷◌, ◌++◌}
 use Rattle.dsql_driver.specs.Wires.{RetiredWire}
 use Rattle.dsql_mem_plans.specs.Log.{told_of}
-use Rattle.dsql_mem.specs.declared.roll.Roll.{Roll, Empty, Wire'}
+use Rattle.dsql_mem_plans.specs.declared.roll.Roll.{Roll, Empty, Wire'}
 
 -- Returns the wires on the roll with their reports, oldest first.
 abbrev pub retired_of : Roll → List RetiredWire
