@@ -1,29 +1,26 @@
 -- The answer that a planned fault puts in a call's place is lawful for the call, and so is the call's own
 -- effect.
-use Rattle.std.proofs.Common.{◌≡◌, ◌+◌, Bool, true, false, cond, Option, Some, None, option_and_then, length, refl, inl}
+use Rattle.std.proofs.Common.{◌≡◌, ◌+◌, Bool, true, false, cond, Option, Some, None, option_and_then, length, refl}
 use Rattle.dsql_driver.specs.Fits.{fits_of}
 use Rattle.dsql_driver.specs.declared.call.DriverCall.{DriverCall}
-use Rattle.dsql_driver.specs.declared.call.DriverCall.TheVariants.{CloseStmt, CloseRows}
 use Rattle.dsql_driver.specs.declared.wire.Planned.{Planned}
-use Rattle.dsql_driver.specs.declared.wire.Planned.TheVariants.{Bad, Fail, Invalid}
 use Rattle.dsql_mem_store.specs.Entries.{Entries}
 use Rattle.dsql_mem_session.specs.Session.{SessionState, IsSound}
 use Rattle.dsql_mem_calls.specs.Effect.{only_answered, effect_unless}
 use Rattle.dsql_mem_plans.specs.Plans.{answer_planned, planned_at, fault_for}
+use Rattle.dsql_mem_plans.proofs.FaultLemmas.{fault-answered, fault-handles, fault-cursors}
 use Rattle.dsql_mem.specs.Wire.{WireState, comes_of}
 use Rattle.dsql_mem.proofs.EffectLemmas.{IsLawful, effect-IsLawful}
 
 -- A fault that fits the call is a lawful answer to it.
 answered-IsLawful : (store : Entries) (session : SessionState) (call : DriverCall) (what : Planned) → fits_of call (answer_planned what) ≡ true → IsLawful session call (only_answered store session (answer_planned what))
-answered-IsLawful store session (CloseStmt handle) Bad fits = record { fits = fits; answered = refl; handles = inl refl; cursors = refl }
-answered-IsLawful store session (CloseRows rows) Bad fits = record { fits = fits; answered = refl; handles = refl; cursors = inl refl }
-answered-IsLawful store session call Bad fits = record { fits = fits; answered = refl; handles = refl; cursors = refl }
-answered-IsLawful store session (CloseStmt handle) (Fail text) fits = record { fits = fits; answered = refl; handles = inl refl; cursors = refl }
-answered-IsLawful store session (CloseRows rows) (Fail text) fits = record { fits = fits; answered = refl; handles = refl; cursors = inl refl }
-answered-IsLawful store session call (Fail text) fits = record { fits = fits; answered = refl; handles = refl; cursors = refl }
-answered-IsLawful store session (CloseStmt handle) Invalid fits = record { fits = fits; answered = refl; handles = inl refl; cursors = refl }
-answered-IsLawful store session (CloseRows rows) Invalid fits = record { fits = fits; answered = refl; handles = refl; cursors = inl refl }
-answered-IsLawful store session call Invalid fits = record { fits = fits; answered = refl; handles = refl; cursors = refl }
+answered-IsLawful store session call what fits =
+    record {
+      fits = fits;
+      answered = fault-answered what;
+      handles = fault-handles call what _;
+      cursors = fault-cursors call what _;
+    }
 
 -- The fault planned in a call's place, or otherwise the call's own effect, is lawful for the call.
 planned-IsLawful : (store : Entries) (session : SessionState) (call : DriverCall) (what : Option Planned) → IsSound session → IsLawful session call (effect_unless (option_and_then (fault_for call) what) store session call)

@@ -1,7 +1,8 @@
-ghost use Rattle.std.specs.Prelude.{◌≡◌, ◌≤◌, [], Some, true, false, is_some, length, unwrap_or, IfOk, IfErr, IfSome, OnOk, OnErr};
+ghost use Rattle.std.specs.Prelude.{◌≡◌, ◌≤◌, [], Some, true, false, is_some, unwrap_or, IfOk, IfErr, IfSome, OnOk, OnErr};
 ghost use Rattle.dsql_driver.specs.Fits.{is_fault, is_memory};
 ghost use Rattle.dsql_driver.specs.Streams.{HasRisen};
 ghost use Rattle.dsql_driver.specs.Wires.{answer_of, connected_after, newly_told, plans_after, is_fault_of};
+ghost use Rattle.dsql_driver.specs.declared.answer.DriverAnswer.TheVariants.{Done};
 ghost use Rattle.dsql_mem_plans.specs.Faults.{faults_after};
 ghost use Rattle.dsql_mem_plans.specs.Fleets.{new_fleet, after_wire_plan, planned_for, connect_fault};
 ghost use Rattle.dsql_mem_session.specs.Session.{handles_of, cursors_of};
@@ -102,7 +103,7 @@ impl<R: AllocGlobal + Wait + Clone + Drop + Send> Fleet for MemFleet<R> {
         // A fleet in memory promises more. Either it refuses the Connect by the fault that was planned in its place, or
         // the wire's session is new. Then no transaction is open in it. What is planned for the wire goes with it.
         ensures planned { is_memory (answer_of result) ≡ false
-            → answer_of result ≡ unwrap_or (connect_fault number self.old) DriverAnswer.Done }
+            → answer_of result ≡ unwrap_or (connect_fault number self.old) Done }
         ensures fresh { IfOk result (λ w. w ≡ new_wire number (planned_for number self.old)) }
         ensures faults { self.new.faults ≡ faults_after self.old.faults (answer_of result) }
     {

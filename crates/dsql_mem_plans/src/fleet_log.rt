@@ -81,9 +81,11 @@ impl FleetLog {
         ensures ok { OnOk result (self.new ≡ self.old) }
         ensures planned { IfOk result (λ plans. plans.items ≡ planned_for number self.old) }
         ensures admitted { OnOk result (connect_fault number self.old ≡ None) }
-        ensures refused { IfErr result (λ r. self.new ≡ after_connect number (answer_of {W = Unit {0}} (Err r)) self.old) }
+        ensures refused { IfErr result (λ r. self.new
+            ≡ after_connect number (answer_of {W = Unit {0}} (Err r)) self.old) }
         ensures fault { IfErr result (λ r. is_memory (answer_of {W = Unit {0}} (Err r)) ≡ false
             → connect_fault number self.old ≡ Some (answer_of {W = Unit {0}} (Err r))) }
+        ensures counted { self.old.faults ≤ self.new.faults }
     {
         let Ok(plans) = plans_for(alloc, number, self.plans.as_slice()) else {
             return Err(Refused::Memory);
@@ -97,10 +99,12 @@ impl FleetLog {
 
     /// Records a Connect that is refused, and returns why. Without memory it records nothing and returns that.
     fn refuse(&mut self, number: u32, refusal: Refusal) -> Refused
-        requires { answer_of {W = Unit {0}} (Err refusal.refused) ≡ refusal.answer }
+        requires told { answer_of {W = Unit {0}} (Err refusal.refused) ≡ refusal.answer }
+        requires answered { is_memory refusal.answer ≡ false }
         ensures refused { self.new ≡ after_connect number (answer_of {W = Unit {0}} (Err result)) self.old }
         ensures fault { is_memory (answer_of {W = Unit {0}} (Err result)) ≡ false
             → answer_of {W = Unit {0}} (Err result) ≡ refusal.answer }
+        ensures counted { self.old.faults ≤ self.new.faults }
     {
         let Refusal { refused, answer } = refusal;
         if self.connects.reserve(1).is_err() {

@@ -1,0 +1,5 @@
+pub mod HolderLemmas
+pub mod RowLemmas
+pub mod ServedLemmas
+pub mod ValueLemmas
+pub mod WireLemmas

@@ -1,0 +1,10 @@
+use Rattle.std.proofs.Common.{◌≡◌, ap, ◌∙◌}
+use Rattle.sqlite.specs.Values.{bound}
+use Rattle.sqlite_driver.specs.Values.{sql_values}
+use Rattle.sqlite_driver.proofs.ValueLemmas.{bound-values}
+use Rattle.sqlite_driver.proofs.statements.run.Goals as goal
+
+pub returns : goal.returns
+returns g c = λ clean.
+    let values : bound c.as_slice.result.now ≡ sql_values c.args.params.now = ap bound c.as_slice.ensures.value ∙ bound-values _ _ c.in_ok-values.ensures in
+    rw values at (c.in_ok-changed.ensures.runs clean)

@@ -1,0 +1,36 @@
+-- The wire that holds the database: its transaction is open.
+use Rattle.std.specs.Prelude.{ℕ, ◌==◌, Bool, true, false, not, Option, Some, None, codes}
+use Rattle.dsql_driver.specs.declared.answer.DriverAnswer.{DriverAnswer}
+use Rattle.dsql_driver.specs.declared.answer.DriverAnswer.TheVariants.{Fail}
+use Rattle.dsql_driver.specs.declared.call.DriverCall.{DriverCall}
+use Rattle.dsql_driver.specs.declared.call.DriverCall.TheVariants.{Reset, Prepare, Exec, Query, Begin, Commit, Rollback, Shut}
+
+-- Is true if this wire holds the database.
+abbrev pub is_held_by : ℕ → Option ℕ → Bool
+is_held_by who None = false
+is_held_by who (Some holder) = holder == who
+
+-- Is true if another wire than this one holds the database.
+abbrev pub is_held_by_other : ℕ → Option ℕ → Bool
+is_held_by_other who None = false
+is_held_by_other who (Some holder) = not (holder == who)
+
+-- Is true if the call reads or writes the database.
+abbrev pub needs_database : DriverCall → Bool
+needs_database (Prepare text) = true
+needs_database (Exec input params) = true
+needs_database (Query input params) = true
+needs_database (Begin level read_only) = true
+needs_database _ = false
+
+-- Is true if the call ends the wire's transaction when it is answered Done.
+abbrev pub ends_transaction : DriverCall → Bool
+ends_transaction Reset = true
+ends_transaction Commit = true
+ends_transaction Rollback = true
+ends_transaction Shut = true
+ends_transaction _ = false
+
+-- The answer while another wire holds the database.
+abbrev pub locked : DriverAnswer
+locked = Fail (codes "database is locked")

@@ -1,0 +1,4 @@
+pub mod Holder
+pub mod Served
+pub mod Values
+pub mod Wire

@@ -1,0 +1,269 @@
+//! What each driver call does to a session and the database.
+ghost use Rattle.std.specs.Prelude.{◌≡◌, true, false, IsOk, IfOk, OnErr};
+ghost use Rattle.dsql_driver.specs.Fits.{is_done};
+ghost use Rattle.sqlite_driver.specs.Holder.{ends_transaction, is_held_by, is_held_by_other, locked, needs_database};
+ghost use Rattle.sqlite_driver.specs.Served.{IsTwice, Serves, ServesPrepare, ServesQuery, is_ended, is_executed, is_fail};
+
+use crate::database::Database;
+use crate::failure::Failure;
+use dsql_driver::{Answered, DriverAnswer, DriverCall, Input, Level};
+use dsql_mem_session::{copies_of_done, copies_of_failure};
+use dsql_value::{Memory, Param, Txt};
+use sqlite_session::{NO_SUCH_HANDLE, Session};
+use std::alloc::Global;
+
+const LOCKED: &str = "database is locked";
+
+const OUT_OF_MEMORY: &str = "out of memory";
+
+const NO_SUCH_LEVEL: &str = "sqlite: isolation level is not supported";
+
+const NO_READ_ONLY: &str = "sqlite: read-only transaction is not supported";
+
+/// Carries out a driver call of the wire with this number. While another wire holds the database, a call that needs it
+/// is refused. Fails for want of memory only if nothing has been done.
+pub(crate) fn carry_out(
+    alloc: Global,
+    session: &mut Session,
+    database: &mut Database,
+    who: u32,
+    call: &DriverCall,
+) -> Result<Answered, Memory>
+    ensures served { IfOk result (λ answered. Serves call.now answered session.old session.new) }
+    ensures stays { OnErr result (session.new ≡ session.old) }
+    ensures locked { needs_database call.now ≡ true → is_held_by_other who database.old ≡ true
+        → IfOk result (λ answered. answered.answer ≡ locked) }
+    ensures held { is_held_by_other who database.old ≡ true → database.new ≡ database.old }
+    ensures over { ends_transaction call.now ≡ true
+        → IfOk result (λ answered. is_done answered.answer ≡ true → is_held_by who database.new ≡ false) }
+{
+    if needs_database(call) && database.is_held_by_other(who) {
+        let answered = copies_of_failure(alloc, LOCKED)?;
+        return Ok(answered);
+    }
+    serve(alloc, session, database, who, call)
+}
+
+/// Returns true if the call reads or writes the database.
+fn needs_database(call: &DriverCall) -> bool
+    ensures { result ≡ needs_database call.now }
+{
+    matches!(
+        call,
+        DriverCall::Prepare(_)
+            | DriverCall::Exec(_, _)
+            | DriverCall::Query(_, _)
+            | DriverCall::Begin { .. }
+    )
+}
+
+/// Carries out a driver call. If it needs the database, no other wire holds that.
+fn serve(
+    alloc: Global,
+    session: &mut Session,
+    database: &mut Database,
+    who: u32,
+    call: &DriverCall,
+) -> Result<Answered, Memory>
+    requires { needs_database call.now ≡ true → is_held_by_other who database.old ≡ false }
+    ensures served { IfOk result (λ answered. Serves call.now answered session.old session.new) }
+    ensures stays { OnErr result (session.new ≡ session.old) }
+    ensures held { is_held_by_other who database.old ≡ true → database.new ≡ database.old }
+    ensures over { ends_transaction call.now ≡ true
+        → IfOk result (λ answered. is_done answered.answer ≡ true → is_held_by who database.new ≡ false) }
+{
+    match call {
+        DriverCall::Connect | DriverCall::Valid | DriverCall::Ping => Ok(copies_of_done()),
+        DriverCall::Reset | DriverCall::Shut => Ok(release(database, who)),
+        DriverCall::Prepare(text) => prepare(alloc, session, database, who, text),
+        DriverCall::CloseStmt(handle) => session.close(alloc, *handle),
+        DriverCall::Exec(input, params) => {
+            let answered = execute(alloc, session, database, who, input, params.as_slice())?;
+            Ok(answered)
+        }
+        DriverCall::Query(input, params) => {
+            query(alloc, session, database, who, input, params.as_slice())
+        }
+        DriverCall::Next(rows) => session.take_row(alloc, *rows),
+        DriverCall::CloseRows(rows) => session.close_rows(alloc, *rows),
+        DriverCall::Begin { level, read_only } => {
+            let answered = begin(alloc, database, who, *level, *read_only)?;
+            Ok(answered)
+        }
+        DriverCall::Commit => {
+            let answered = commit(alloc, database, who)?;
+            Ok(answered)
+        }
+        DriverCall::Rollback => {
+            let answered = roll_back(alloc, database, who)?;
+            Ok(answered)
+        }
+    }
+}
+
+/// Prepares a text. SQLite only compiles it, so nothing has been done if there is no memory for the handle.
+fn prepare(
+    alloc: Global,
+    session: &mut Session,
+    database: &mut Database,
+    who: u32,
+    text: &Txt,
+) -> Result<Answered, Memory>
+    ensures served { IfOk result (λ answered. ServesPrepare text.now answered session.old session.new) }
+    ensures stays { OnErr result (session.new ≡ session.old) }
+    ensures database { database.new ≡ database.old }
+{
+    let spare = refuse(alloc, OUT_OF_MEMORY)?;
+    match database.inputs(who, text.as_str()) {
+        Ok(inputs) => {
+            let answered = session.prepare(alloc, text, inputs)?;
+            Ok(answered)
+        }
+        Err(failure) => Ok(failure.answer_or(alloc, spare)),
+    }
+}
+
+/// Executes a statement.
+fn execute(
+    alloc: Global,
+    session: &Session,
+    database: &mut Database,
+    who: u32,
+    input: &Input,
+    params: &[Param],
+) -> Result<Answered, Memory>
+    ensures { IfOk result (IsTwice is_executed) }
+{
+    let Some(text) = text_of(session, input) else {
+        let answered = refuse(alloc, NO_SUCH_HANDLE)?;
+        return Ok(answered);
+    };
+    let spare = refuse(alloc, OUT_OF_MEMORY)?;
+    match database.execute(alloc, who, text, params) {
+        Ok(executed) => Ok(copies_of_result(executed.last, executed.affected)),
+        Err(failure) => Ok(failure.answer_or(alloc, spare)),
+    }
+}
+
+/// Queries a statement, and opens a cursor over its rows. If there is no memory for the cursor, the answer is a
+/// failure, because the statement may have written to the database.
+fn query(
+    alloc: Global,
+    session: &mut Session,
+    database: &mut Database,
+    who: u32,
+    input: &Input,
+    params: &[Param],
+) -> Result<Answered, Memory>
+    ensures served { IfOk result (λ answered. ServesQuery answered session.old session.new) }
+    ensures stays { OnErr result (session.new ≡ session.old) }
+{
+    let Some(text) = text_of(session, input) else {
+        let answered = refuse(alloc, NO_SUCH_HANDLE)?;
+        return Ok(answered);
+    };
+    let spare = refuse(alloc, OUT_OF_MEMORY)?;
+    match database.query(alloc, who, text, params) {
+        Ok(set) => match session.open(alloc, set) {
+            Ok(answered) => Ok(answered),
+            Err(Memory) => Ok(spare),
+        },
+        Err(failure) => Ok(failure.answer_or(alloc, spare)),
+    }
+}
+
+/// Returns the text that is to be run, or `None` if its handle isn't live.
+fn text_of<'a>(session: &'a Session, input: &'a Input) -> Option<&'a str> {
+    match input {
+        Input::Text(text) => Some(text.as_str()),
+        Input::Handle(handle) => session.text(*handle),
+    }
+}
+
+/// Begins a transaction, if it may write and has the isolation that SQLite has.
+fn begin(
+    alloc: Global,
+    database: &mut Database,
+    who: u32,
+    level: Level,
+    read_only: bool,
+) -> Result<Answered, Memory>
+    ensures { IfOk result (IsTwice is_ended) }
+{
+    if !matches!(level, Level::Default | Level::Serializable) {
+        let answered = refuse(alloc, NO_SUCH_LEVEL)?;
+        return Ok(answered);
+    }
+    if read_only {
+        let answered = refuse(alloc, NO_READ_ONLY)?;
+        return Ok(answered);
+    }
+    let spare = refuse(alloc, OUT_OF_MEMORY)?;
+    Ok(done_or(alloc, database.begin(who), spare))
+}
+
+/// Commits the wire's transaction.
+fn commit(alloc: Global, database: &mut Database, who: u32) -> Result<Answered, Memory>
+    ensures answer { IfOk result (IsTwice is_ended) }
+    ensures held { is_held_by_other who database.old ≡ true → database.new ≡ database.old }
+    ensures over { IfOk result (λ answered. is_done answered.answer ≡ true → is_held_by who database.new ≡ false) }
+{
+    let spare = refuse(alloc, OUT_OF_MEMORY)?;
+    Ok(done_or(alloc, database.commit(who), spare))
+}
+
+/// Rolls back the wire's transaction.
+fn roll_back(alloc: Global, database: &mut Database, who: u32) -> Result<Answered, Memory>
+    ensures answer { IfOk result (IsTwice is_ended) }
+    ensures held { is_held_by_other who database.old ≡ true → database.new ≡ database.old }
+    ensures over { IfOk result (λ answered. is_done answered.answer ≡ true → is_held_by who database.new ≡ false) }
+{
+    let spare = refuse(alloc, OUT_OF_MEMORY)?;
+    Ok(done_or(alloc, database.roll_back(who), spare))
+}
+
+/// Rolls back the wire's transaction if one is open. If SQLite can't, the answer is Bad, and nothing has been done.
+fn release(database: &mut Database, who: u32) -> Answered
+    ensures answer { IsTwice is_ended result }
+    ensures held { is_held_by_other who database.old ≡ true → database.new ≡ database.old }
+    ensures over { is_done result.answer ≡ true → is_held_by who database.new ≡ false }
+{
+    if database.release(who) {
+        copies_of_done()
+    } else {
+        Answered {
+            answer: DriverAnswer::Bad,
+            copy: DriverAnswer::Bad,
+        }
+    }
+}
+
+/// Returns the answer Done, or the one that says what failed. The spare one serves if there is no memory for that.
+fn done_or(alloc: Global, outcome: Result<(), Failure>, spare: Answered) -> Answered
+    requires { IsTwice is_fail spare }
+    ensures answer { IsTwice is_ended result }
+    ensures done { is_done result.answer ≡ true → IsOk outcome }
+{
+    match outcome {
+        Ok(()) => copies_of_done(),
+        Err(failure) => failure.answer_or(alloc, spare),
+    }
+}
+
+/// Returns the answer that a call failed with this text.
+fn refuse(alloc: Global, text: &str) -> Result<Answered, Memory>
+    ensures { IfOk result (IsTwice is_fail) }
+{
+    let answered = copies_of_failure(alloc, text)?;
+    Ok(answered)
+}
+
+/// Returns the answer of a statement that was executed. It takes no memory.
+fn copies_of_result(last: i64, affected: i64) -> Answered
+    ensures { IsTwice is_executed result }
+{
+    Answered {
+        answer: DriverAnswer::Result { last, affected },
+        copy: DriverAnswer::Result { last, affected },
+    }
+}
