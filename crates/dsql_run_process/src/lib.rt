@@ -3,4 +3,4 @@
 
 mod process;
 
-pub use process::run_process;
+pub use process::{run_process, words};

@@ -1,5 +1,6 @@
-ghost use Rattle.std.specs.Prelude.{◌≡◌, true, IfErr};
+ghost use Rattle.std.specs.Prelude.{◌≡◌, ◌≢◌, true, is_some, IfOk, IfErr};
 ghost use Rattle.dsql_run_outcome.specs.Notes.{is_status};
+ghost use Rattle.dsql_run_outcome.specs.script_generator.Words.{command_of};
 
 use dsql_driver::{Fleet, OpenGate};
 use dsql_driver_stream::{StdClock, StdSink, StdSource};
@@ -13,7 +14,7 @@ use std::rt::Clock;
 
 /// Returns the words that the process was called with, without the program's name. Words that aren't UTF-8 count
 /// as no words, because the program knows none of them.
-fn words<R: Env + AllocGlobal>(rt: &R) -> Result<Vec<Txt>, Memory> {
+pub fn words<R: Env + AllocGlobal>(rt: &R) -> Result<Vec<Txt>, Memory> {
     let mut words = Vec::new(rt.alloc());
     match env::args(rt) {
         Ok(args) => {
@@ -34,20 +35,28 @@ fn without_memory<N: Write>(alloc: Global, notes: &mut StdSink<N>) -> u8
     tell(alloc, &Err(Stop::Memory), notes)
 }
 
-/// Runs the program with the words of the process, over these streams and this fleet, and returns the exit status.
-/// Without a fleet there was no memory to make one, and the status is 5. The status is 5 too if there is no memory
-/// for the words. Otherwise it is the one of `sqlrun`.
+/// Runs the program with these words, over these streams and this fleet, and returns the exit status of `sqlrun`. If
+/// there was no memory for the words or for the fleet, the status is 5, and nothing is played.
 ///
 /// It doesn't free the fleet, because the process ends then and frees all memory at once.
 pub fn run_process<
-    R: Env + Clock + AllocGlobal,
+    R: Clock + AllocGlobal,
     I: Read + Drop,
     O: Write + Drop,
     N: Write + Drop,
     F: Fleet,
->(rt: &R, input: I, output: O, notes: N, fleet: Result<F, Memory>) -> u8
+>(
+    rt: &R,
+    words: Result<Vec<Txt>, Memory>,
+    input: I,
+    output: O,
+    notes: N,
+    fleet: Result<F, Memory>,
+) -> u8
     ensures known { is_status result ≡ true }
-    ensures memory { IfErr fleet (λ _. result ≡ 5) }
+    ensures accepted { IfOk words (λ given. is_some (command_of given.items) ≡ true → result ≢ 2) }
+    ensures wordless { IfErr words (λ _. result ≡ 5) }
+    ensures fleetless { IfErr fleet (λ _. result ≡ 5) }
 {
     let mut input = StdSource::new(input);
     let mut output = StdSink::new(output);
@@ -57,7 +66,7 @@ pub fn run_process<
         Ok(fleet) => fleet,
         Err(Memory) => return without_memory(rt.alloc(), &mut notes),
     };
-    let status = match words(rt) {
+    let status = match words {
         Ok(words) => sqlrun(
             rt.alloc(),
             &words,

@@ -9,12 +9,19 @@ mod fleet;
 mod table;
 mod wire;
 
-use dsql_run_process::run_process;
+use dsql_run_process::{run_process, words};
 use fleet::FixedFleet;
 use std::process::ExitCode;
 
 fn main(rt: HostRuntime) -> ExitCode {
     let fleet = FixedFleet::new(rt.alloc());
-    let status = run_process(&rt, rt.stdin(), rt.stdout(), rt.stderr(), Ok(fleet));
+    let status = run_process(
+        &rt,
+        words(&rt),
+        rt.stdin(),
+        rt.stdout(),
+        rt.stderr(),
+        Ok(fleet),
+    );
     ExitCode::from(status)
 }

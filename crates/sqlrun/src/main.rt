@@ -3,7 +3,7 @@
 #![tactic(auto)]
 
 use dsql_mem::MemFleet;
-use dsql_run_process::run_process;
+use dsql_run_process::{run_process, words};
 use dsql_value::Memory;
 use std::process::ExitCode;
 use std::sync::Wait;
@@ -14,6 +14,13 @@ fn fleet<R: AllocGlobal + Wait + Clone + Drop + Send>(rt: &R) -> Result<MemFleet
 }
 
 fn main(rt: HostRuntime) -> ExitCode {
-    let status = run_process(&rt, rt.stdin(), rt.stdout(), rt.stderr(), fleet(&rt));
+    let status = run_process(
+        &rt,
+        words(&rt),
+        rt.stdin(),
+        rt.stdout(),
+        rt.stderr(),
+        fleet(&rt),
+    );
     ExitCode::from(status)
 }
