@@ -44,7 +44,7 @@ pub fn run_process<
     I: Read + Drop,
     O: Write + Drop,
     N: Write + Drop,
-    F: Fleet,
+    F: Fleet + Drop,
 >(
     rt: &R,
     words: Result<Vec<Txt>, Memory>,
