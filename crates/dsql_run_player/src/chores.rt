@@ -31,7 +31,7 @@ impl Player {
         ensures err { OnErr result (self.new ≡ self.old) }
         ensures fails { FailsForMemory result self.old.past self.new.past }
     {
-        let Some(leave) = self.first_leave()? else {
+        let Some(leave) = self.first_leave() else {
             return Ok(None);
         };
         match self.engine.permit(&leave) {
@@ -43,16 +43,17 @@ impl Player {
         }
     }
 
-    fn first_leave(&mut self) -> Result<Option<Leave>, Halt>
+    /// Returns leave for the first of the layer's own calls, if there is one. That call is under way from then on.
+    fn first_leave(&mut self) -> Option<Leave>
         requires ready { IsReady self.old }
         requires room { length self.old.past < most_events }
-        ensures finds { IfOk result (λ chore. FindsChore chore self.old self.new) }
+        ensures finds { FindsChore result self.old self.new }
         ensures same { SameButChore self.old self.new }
-        ensures err { OnErr result (self.new ≡ self.old) }
-        ensures fails { FailsForMemory result self.old.past self.new.past }
     {
-        let next = self.engine.chore()?;
-        Ok(leave_of(next))
+        match self.engine.chore() {
+            Ok(next) => leave_of(next),
+            Err(_) => unreachable!(),
+        }
     }
 
     /// Opens a connection.

@@ -110,6 +110,7 @@ impl Player {
     pub fn check_room(&self) -> Result<(), Halt>
         ensures ok { OnOk result (length self.now.past < most_events) }
         ensures full { OnErr result (most_events ≤ length self.now.past) }
+        ensures kind { OnErr result (result ≡ Err Halt.Full) }
         ensures legal { Legal self.now.past }
     {
         // The call proves that the history is legal.

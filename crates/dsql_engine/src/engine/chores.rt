@@ -1,5 +1,5 @@
 //! The layer's own driver calls.
-ghost use Rattle.std.specs.Prelude.{◌≡◌, ◌<◌, length, None, IfOk, OnErr};
+ghost use Rattle.std.specs.Prelude.{◌≡◌, ◌<◌, length, None, IsOkAnd};
 ghost use Rattle.dsql_engine.specs.Chores.{IsChore};
 ghost use Rattle.dsql_engine_hearing.specs.laws_steps.Groups.{most_events};
 
@@ -9,15 +9,15 @@ use dsql_engine_hearing::{Next, NoRoom};
 
 #[tactic(auto, using(crate::proofs::Chores::chore_sent, crate::proofs::Chores::chore_quiet))]
 impl Engine {
-    /// Returns the layer's own driver call that comes first, if there is one, and records it as under way.
+    /// Returns the layer's own driver call that comes first, if there is one, and records it as under way. Takes no
+    /// memory, so it doesn't fail.
     pub fn chore(&mut self) -> Result<Next, NoRoom>
         requires free { self.old.chore ≡ None }
         requires room { length self.old.past < most_events }
-        ensures next { IfOk result (λ next. IsChore self.old.past next self.new) }
+        ensures next { IsOkAnd result (λ next. IsChore self.old.past next self.new) }
         ensures past { self.new.past ≡ self.old.past }
         ensures flights { self.new.flights ≡ self.old.flights }
         ensures trimmed { self.new.trimmed ≡ self.old.trimmed }
-        ensures err { OnErr result (self.new ≡ self.old) }
     {
         let Some(conn) = self.desk.chore_due() else {
             return Ok(Next::Quiet);

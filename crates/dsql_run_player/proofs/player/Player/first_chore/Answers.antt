@@ -11,5 +11,5 @@ pub permit-requires : goal.permit-requires
 permit-requires c =
     let new = c.first_leave.new.self in
     let leave = c.in-Some.leave in
-    let made : IsToMake new leave = subst (λ (chore : Option Permit). FindsChore chore c.args.self.now new) c.in-Some.is c.in_ok-leave.ensures.finds in
+    let made : IsToMake new leave = subst (λ (chore : Option Permit). FindsChore chore c.args.self.now new) c.in-Some.is c.first_leave.ensures.finds in
     subst (λ (p : Playing). Carries (asked_by p.past leave.call_no) leave.call) (sym c.self.view_is) (chore_carried new.past leave.conn leave made.ready.legal.lawful made.leave (asked_by new.past leave.call_no))
