@@ -5,7 +5,9 @@ pub mod Telling
 pub mod Reading
 pub mod Plans
 pub mod Planned
-pub mod NoneLeft
+pub mod Staying
+pub mod GivenBack
+pub mod Stopped
 pub mod Permits
 pub mod Asking
 pub mod Extending

@@ -115,7 +115,7 @@ some_planned p (Some told) = refl
 
 -- A slot has a wire exactly if its connection does.
 
-empty_unwired : {W : Type 0} (heard : W → Option WireTold) (telling : Bool) (c : ℕ) (entries : List Entry) (w : Option (Journaled W)) (wired : Bool) → w ≡ None → MatchBool wired (HoldsWire heard telling c entries w) (w ≡ None)
+pub empty_unwired : {W : Type 0} (heard : W → Option WireTold) (telling : Bool) (c : ℕ) (entries : List Entry) (w : Option (Journaled W)) (wired : Bool) → w ≡ None → MatchBool wired (HoldsWire heard telling c entries w) (w ≡ None)
     → wired ≡ false
 empty_unwired heard telling c entries (Some w) wired none fit = absurd cc
 empty_unwired heard telling c entries None true none fit = absurd fit

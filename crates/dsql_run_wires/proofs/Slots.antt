@@ -1,6 +1,6 @@
 -- The slots of wires: what is in one after a write, and what an entry makes of it. The argument goes through
 -- the list to the place.
-use Rattle.std.proofs.Common.{◌≡◌, ◌≢◌, ℕ, zero, suc, List, [], ◌∷◌, get_or, set, Option, Some, None, refl, sym, ◌∙◌}
+use Rattle.std.proofs.Common.{◌≡◌, ◌≢◌, ℕ, zero, suc, List, [], ◌∷◌, ◌++◌, get_or, set, Option, Some, None, refl, sym, subst, ◌∙◌}
 use Rattle.std.specs.Prelude.{IsSomeAnd}
 use Rattle.std.proofs.lemmas.List.{get_or-set_other}
 use Rattle.dsql_history.specs.driver.Wires.{WireTold}
@@ -35,3 +35,17 @@ pub set_wire : {W : Type 0} (ws : List (Option W)) (i : ℕ) (before after : W) 
 set_wire [] i before after is = absurd cc
 set_wire (y ∷ ws) zero before after is = refl
 set_wire (y ∷ ws) (suc i) before after is = set_wire ws i before after is
+
+-- What holds of no wire holds of each slot of an empty table.
+pub each_of_none : {W : Type 0} (P : Option W → Type 0) (ws : List (Option W)) → P None → ws ≡ [] → (c : ℕ) → P (slot ws c)
+each_of_none {W} P ws none empty c = subst (λ (xs : List (Option W)). P (slot xs c)) (sym empty) none
+
+-- What holds of no wire, of the last slot and of each slot before it holds of each slot.
+pub each_before : {W : Type 0} (P : Option W → Type 0) (ws rest : List (Option W)) (last : Option W) → P None → ws ≡ rest ++ last ∷ [] → P last → ((c : ℕ) → P (slot rest c)) → (c : ℕ) → P (slot ws c)
+each_before {W} P ws rest last none is holds each c = subst (λ (xs : List (Option W)). P (slot xs c)) (sym is) (by rest each c)
+  where
+    by : (before : List (Option W)) → ((c : ℕ) → P (slot before c)) → (c : ℕ) → P (slot (before ++ last ∷ []) c)
+    by [] each zero = holds
+    by [] each (suc c) = none
+    by (w ∷ before) each zero = each 0
+    by (w ∷ before) each (suc c) = by before (λ c. each (suc c)) c

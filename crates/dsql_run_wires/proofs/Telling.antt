@@ -57,13 +57,14 @@ tells_connect heard c a before old new slots now no_want same keeps = record {
   telling = some_asked c a before;
 }
 
+-- A fleet that keeps no record keeps none after a wire was given back.
+pub gives_none : (c : ℕ) (told : Option WireTold) → retired_after c told None ≡ None
+gives_none c None = refl
+gives_none c (Some told) = refl
+
 gone_then : (c : ℕ) (told : Option WireTold) (all : WireTold) (before t : Option FleetTold) (more : FleetTold) → HasTold (is_some before) told all → before ≡ option_map (told_then more) t
     → retired_after c told before ≡ option_map (told_then (with_retired ((c, all) ∷ []) more)) t
 gone_then c told all None None more h e = gives_none c told
-  where
-    gives_none : (c : ℕ) (told : Option WireTold) → retired_after c told None ≡ None
-    gives_none c None = refl
-    gives_none c (Some told) = refl
 gone_then c told all None (Some first) more h e = absurd cc
 gone_then c told all (Some b) None more h e = absurd cc
 gone_then c None all (Some b) (Some first) more h e = let k : false ≡ true = h.tells refl in absurd cc
@@ -108,7 +109,7 @@ at_most heard more before after old new slots now f = record {
 }
 
 -- If nothing is left to be planned, nothing was planned.
-none_planned : (planned : List Made) → (planned ≡ []) ⊎ (planned ≡ []) → planned ≡ []
+pub none_planned : (planned : List Made) → (planned ≡ []) ⊎ (planned ≡ []) → planned ≡ []
 none_planned planned (inl h) = h
 none_planned planned (inr h) = h
 

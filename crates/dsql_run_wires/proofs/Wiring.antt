@@ -15,9 +15,9 @@ use Rattle.dsql_history.specs.declared.event.Event.TheVariants.{Heard}
 use Rattle.dsql_history.specs.Readers.Journals.{journal}
 use Rattle.dsql_wire.specs.Journaled.{Journaled}
 use Rattle.dsql_run_wires.specs.Told.{hears_nothing}
-use Rattle.dsql_run_wires.specs.WiresFit.{slot, is_wired, HoldsWire, FitsAt, WiresFit, KeepsFit, HearsEntry, SameHeard, OpensWire}
+use Rattle.dsql_run_wires.specs.WiresFit.{slot, is_wired, HoldsWire, FitsAt, WiresFit, HearsEntry, OpensWire}
 use Rattle.dsql_run_wires.proofs.Journals.{same_or_not, journal_here, journal_elsewhere, unheard_event, unheard, still_wired, shut_unwired, opened_wired}
-use Rattle.dsql_run_wires.proofs.Slots.{slot_elsewhere, set_default, set_wire}
+use Rattle.dsql_run_wires.proofs.Slots.{slot_elsewhere, set_default}
 
 -- After one more call a wire keeps a record exactly if it kept one before.
 some_told : (call : DriverCall) (answer : DriverAnswer) (told : Option WireTold) → is_some (told_after call answer told) ≡ is_some told
@@ -157,14 +157,3 @@ still_held heard telling c entries before after false same h = absurd cc
 pub fits_at_still : {W : Type 0} (heard : W → Option WireTold) (telling : Bool) (c : ℕ) (entries : List Entry) (before after : Journaled W) → SameButPlans heard before after → FitsAt heard telling c entries (Some before)
     → FitsAt heard telling c entries (Some after)
 fits_at_still heard telling c entries before after same h = still_held heard telling c entries before after (is_wired entries) same h
-
--- If a wire that has heard what it had heard before goes back into its slot, the wires fit.
-pub still_fits : {W : Type 0} (heard : W → Option WireTold) (ws : List (Option (Journaled W))) (i : ℕ) (before after : Journaled W) → slot ws i ≡ Some before → SameHeard heard before after
-    → (past : List Event) → KeepsFit heard past past ws (set ws i (Some after))
-still_fits {W} heard ws i before after is same = λ past telling fit.
-    let J = journal past i in
-    let had : FitsAt heard telling i J (Some before) = subst (λ (w : Option (Journaled W)). FitsAt heard telling i J w) is (fit i) in
-    let has : FitsAt heard telling i J (Some after) =
-    fits_at_still heard telling i J before after (record { conn = same.conn; journal = same.journal; telling = ap is_some same.told }) had in
-    fit_but_one heard telling past past ws (set ws i (Some after)) i (λ c n. refl) (slot_elsewhere ws i (Some after)) fit
-    (subst (λ (w : Option (Journaled W)). FitsAt heard telling i J w) (sym (set_wire ws i before after is)) has)

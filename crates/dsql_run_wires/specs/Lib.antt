@@ -2,5 +2,6 @@ pub mod Plans
 pub mod WiresFit
 pub mod Asked
 pub mod Told
+pub mod Stopped
 pub mod Extends
 pub mod Seats

@@ -9,6 +9,7 @@ pub mod laws;
 mod planning;
 mod retiring;
 mod seats;
+pub mod stopping;
 mod wires;
 
 pub use connecting::connect_wire;

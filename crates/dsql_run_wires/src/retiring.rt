@@ -2,6 +2,7 @@
 ghost use Rattle.std.specs.Prelude.{ℕ, ◌≡◌, reverse, slice_set, Some, None, IsSome, IfSome};
 ghost use Rattle.dsql_history.specs.driver.Wires.{retired_after};
 ghost use Rattle.dsql_wire.specs.Told.{TellsOf};
+ghost use Rattle.dsql_run_wires.specs.Stopped.{RecordsJournal};
 ghost use Rattle.dsql_run_wires.specs.Told.{SameAbility, retired_from, retired_slot};
 ghost use Rattle.dsql_run_wires.specs.WiresFit.{slot};
 
@@ -16,18 +17,18 @@ pub fn retire<F: Fleet>(wires: &mut Wires<F::Wire>, fleet: &mut F, conn: u32)
     ensures slots { wires.new ≡ slice_set wires.old conn None }
     ensures told { F.told fleet.new
         ≡ retired_slot F.Wire.told conn (slot wires.old conn) (F.told fleet.old) }
-    ensures exact { IfSome (slot wires.old conn)
-        (λ w. IfSome (F.Wire.told w.wire) (TellsOf w.conn w.journal)) }
+    ensures exact { RecordsJournal F.Wire.told (slot wires.old conn) }
     ensures able { SameAbility F.Fleet fleet.old fleet.new }
 {
     give_back(wires.take(conn), conn, fleet);
 }
 
 /// Gives every wire that is left back to the fleet, the largest number first. If none is left, the fleet
-/// records what it recorded before.
+/// records what it recorded before. If a wire keeps a record, the record is exactly its journal.
 pub fn retire_all<F: Fleet>(wires: Wires<F::Wire>, fleet: &mut F)
     ensures retired { F.told fleet.new
         ≡ retired_from F.Wire.told (reverse wires) (F.told fleet.old) }
+    ensures exact { (c : ℕ) → RecordsJournal F.Wire.told (slot wires c) }
     ensures unasked { ((c : ℕ) → slot wires c ≡ None) → F.told fleet.new ≡ F.told fleet.old }
     ensures able { SameAbility F.Fleet fleet.old fleet.new }
 {
@@ -42,6 +43,7 @@ pub fn retire_all<F: Fleet>(wires: Wires<F::Wire>, fleet: &mut F)
 fn retire_slot<F: Fleet>(slot: Option<ThinWire<F::Wire>>, number: u32, fleet: &mut F)
     ensures retired { F.told fleet.new
         ≡ retired_slot F.Wire.told number slot (F.told fleet.old) }
+    ensures exact { RecordsJournal F.Wire.told slot }
     ensures able { SameAbility F.Fleet fleet.old fleet.new }
 {
     match slot {

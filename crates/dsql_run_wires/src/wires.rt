@@ -4,9 +4,8 @@ ghost use Rattle.dsql_history.specs.driver.declared.caps.Caps.{Caps};
 ghost use Rattle.dsql_history.specs.journal.HandlesAndCursors.{fits_at_its_place};
 ghost use Rattle.dsql_tenure.specs.Judged.{answered};
 ghost use Rattle.dsql_wire.specs.Journaled.{MayBeSent};
-ghost use Rattle.dsql_history.specs.declared.event.Event.{Event};
 ghost use Rattle.dsql_history.specs.declared.event.Event.TheVariants.{Run};
-ghost use Rattle.dsql_run_wires.specs.WiresFit.{slot, WiresFit, PlansFit, KeepsFit, Hears, HearsEntry, HearsPlan, HearsPlanIn, SameHeard, SameWires};
+ghost use Rattle.dsql_run_wires.specs.WiresFit.{slot, WiresFit, PlansFit, Hears, HearsEntry, HearsPlan, HearsPlanIn, SameHeard, SameWires};
 
 use dsql_history::{Memory, Permit, Planned, Wire};
 use dsql_wire::{Heard, ThinWire, WireFault};
@@ -138,7 +137,7 @@ impl<W: Wire> Wires<W> {
         ensures others { (c : ℕ) → c ≢ permit.conn → slot self.new c ≡ slot self.old c }
         ensures noted { IfOk result
             (λ heard. HearsEntry W.told heard (slot self.old permit.conn) (slot self.new permit.conn)) }
-        ensures err { OnErr result ((past : List Event) → KeepsFit W.told past past self.old self.new) }
+        ensures err { OnErr result (SameWires W.told self.old self.new) }
     {
         match &mut self.slots[permit.conn as usize] {
             Some(wire) => perform_on(wire, permit),
