@@ -30,13 +30,16 @@ use Rattle.dsql_engine_laws.proofs.Leave.{leave_opens_none, leave_shuts_none}
 use Rattle.dsql_engine_laws.specs.wire.Journaled.{Journaled}
 use Rattle.dsql_run_wires.specs.Asked.{Performs}
 use Rattle.dsql_run_wires.specs.Plans.{Made}
+use Rattle.dsql_run_wires.specs.Stopped.{HearsAtMost}
 use Rattle.dsql_run_wires.specs.Told.{fleet_told}
 use Rattle.dsql_run_wires.specs.WiresFit.{KeepsFit, KeepsPlans, WiresFit, slot}
 use Rattle.dsql_run_wires.proofs.Asking.{wire_fits}
+use Rattle.dsql_run_wires.proofs.Stopped.{answer_untaken}
 use Rattle.dsql_run_player.specs.Keeping.{SameCourse}
 use Rattle.dsql_run_player.specs.Acts.{Hands}
 use Rattle.dsql_run_player.specs.Playing.{IsReady, KeepsLines, Playing}
 use Rattle.dsql_run_player.specs.Stepping.{HearsAnswer, leave_of}
+use Rattle.dsql_run_player.proofs.Allowed.{allowed_welcome}
 use Rattle.dsql_run_player.proofs.Answering.{Answered, HasLeave, answered_grouped, answered_hears, answered_ready, may_be_heard}
 use Rattle.dsql_run_player.proofs.Grouped.{Grouped, grows}
 use Rattle.dsql_run_player.proofs.Hearing.{answer_fits, answer_plans, answer_told}
@@ -92,6 +95,15 @@ answer_heard told p client permit e wires core past flights l has fit is there =
     may_be_heard core permit e (subst Lawful (sym past) l) (subst (λ (H : List Event). IsLeave H permit) (sym past) has.leave)
     (subst (λ (fs : List Flight). flies permit.call_no permit.conn fs ≡ true) (sym flights) has.there) is
     (subst (λ (H : List Event). fits_at_its_place (journal H e.conn) e ≡ true) (sym past) (wire_fits told false p.past permit e wires fit is there))
+
+-- If the answer isn't taken in, the wires hear at most that answer more.
+pub call_untaken : {W : Type 0} (told : W → Option WireTold) (p : Playing) (client : ℕ) (permit : Permit) (e : Entry) (wires now : List (Option (Journaled W))) → IsReady p → HasLeave p client permit → WiresFit told false p.past wires
+    → Performs told permit e wires now → IsSomeAnd (slot wires permit.conn) (λ w. fits_at_its_place w.journal e ≡ true) → HearsAtMost told p.past p.past wires now
+call_untaken told p client permit e wires now ready has fit performs there =
+    let l : Lawful p.past = ready.legal.lawful in
+    let core : Core = record { past = p.past; trimmed = p.trimmed; flights = p.flights; chore = p.chore } in
+    answer_untaken told permit e p.past wires now performs (leave_opens_none p.past permit l has.leave) (leave_shuts_none p.past permit l has.leave)
+    (allowed_welcome p.past e ready.legal (answer_heard told p client permit e wires core refl refl l has fit performs.entry there).welcome)
 
 -- Holds if the client's call made the driver call for which it had a permit, and the answer was heard.
 pub record Asks {W : Type 0} (told : W → Option WireTold) (permit : Permit) (e : Entry) (next : Next) (client : ℕ) (before after : Playing) (wires now : List (Option (Journaled W))) : Type 0 where

@@ -1,6 +1,6 @@
 -- The script's end is carried out. The argument joins its three parts: everything goes on, the run ends, and
 -- everything goes on again.
-use Rattle.std.proofs.Common.{◌≡◌, ℕ, Bool, true, false, List, [], Option, None, refl, ◌∙◌}
+use Rattle.std.proofs.Common.{◌≡◌, ℕ, Bool, true, false, List, [], Option, None, is_some, refl, ◌∙◌}
 use Rattle.std.specs.Prelude.{Result, Ok, Err, OnOk}
 use Rattle.dsql_engine_laws.specs.driver.Wires.{WireTold}
 use Rattle.dsql_engine_laws.specs.driver.declared.wire.Fleet.{Ghosts}
@@ -71,8 +71,8 @@ run_through fleet heard result before between after old begun far over new slots
 
 -- If the run couldn't end, nothing came of the attempt.
 pub run_halts : {A F W : Type 0} (fleet : Ghosts F W) (heard : W → Option WireTold) (halt : Halt) (before between : F) (old begun far over : Playing) (slots halfway : List (Option (Journaled W)))
-    → begun.past ≡ old.past → FleetTells heard [] (fleet.told before) (fleet.told between) begun.past far.past slots halfway → SameAbility fleet before between → HearsNothing far.past over.past → Legal over.past
-    → KeepsRun {A = A} fleet heard (Err halt) before between old over slots halfway
-run_halts fleet heard halt before between old begun far over slots halfway same told able silent legal =
+    → begun.past ≡ old.past → FleetTells heard [] (fleet.told before) (fleet.told between) begun.past far.past slots halfway → SameAbility fleet before between → WiresFit heard (is_some (fleet.told between)) far.past halfway
+    → HearsNothing far.past over.past → Legal over.past → KeepsRun {A = A} fleet heard (Err halt) before between old over slots halfway
+run_halts fleet heard halt before between old begun far over slots halfway same told able fit silent legal =
     run_through fleet heard (Err halt) before between between old begun far far over slots halfway halfway same told able (hears_none far.past far.past refl)
-    (run_stays fleet heard (Err halt) between far over halfway halfway refl silent legal)
+    (run_stays [] fleet heard (Err halt) between far over halfway refl fit silent legal)

@@ -7,6 +7,7 @@ use Rattle.dsql_engine_laws.specs.journal.declared.entry.Entry.{Entry}
 use Rattle.dsql_engine_laws.specs.history.declared.event.Event.{Event}
 use Rattle.dsql_engine_laws.specs.history.Readers.Journals.{journal}
 use Rattle.dsql_engine_laws.specs.wire.Journaled.{Journaled}
+use Rattle.dsql_run_wires.specs.Stopped.{HearsAtMost}
 use Rattle.dsql_run_wires.specs.WiresFit.{FitsAt, HoldsWire, KeepsFit, KeepsPlans, WiresFit, is_wired, slot}
 use Rattle.dsql_run_wires.proofs.Plans.{alike_plans}
 use Rattle.dsql_run_player.specs.Carried.{HearsNothing}
@@ -35,3 +36,11 @@ fits_same heard old new slots same = λ telling fit. subst (λ (past : List Even
 -- If nothing is heard, the plans on the wires fit as before.
 pub plans_unheard : {W : Type 0} (heard : W → Option WireTold) (old new : List Event) (slots : List (Option (Journaled W))) → HearsNothing old new → KeepsPlans heard old new slots slots
 plans_unheard heard old new slots h = alike_plans heard old new slots h.journals
+
+-- If nothing is heard in an act that has to stop, the wires hear no answer more.
+pub stops_unheard : {W : Type 0} (heard : W → Option WireTold) (old new : List Event) (slots : List (Option (Journaled W))) → HearsNothing old new → HearsAtMost heard old new slots slots
+stops_unheard heard old new slots h = record { untaken = None; may = tt; fits = fits_unheard heard old new slots h; plans = plans_unheard heard old new slots h; told = h.told }
+
+-- What the wires hear in an act that has to stop depends on the histories alone.
+pub stops_there : {W : Type 0} (heard : W → Option WireTold) (old new : List Event) (slots now : List (Option (Journaled W))) → new ≡ old → HearsAtMost heard old old slots now → HearsAtMost heard old new slots now
+stops_there heard old new slots now same stops = subst (λ (past : List Event). HearsAtMost heard old past slots now) (sym same) stops

@@ -9,7 +9,7 @@ use Rattle.dsql_engine_laws.specs.journal.Permits.{entry_of}
 use Rattle.dsql_engine_laws.specs.history.declared.event.Event.{Event}
 use Rattle.dsql_engine_laws.specs.history.declared.event.Event.TheVariants.{Heard}
 use Rattle.dsql_engine_laws.specs.history.declared.record.Flight.{Flight}
-use Rattle.dsql_engine_laws.specs.history.Legal.{Lawful}
+use Rattle.dsql_engine_laws.specs.history.Legal.{Allowed, Lawful}
 use Rattle.dsql_engine_laws.specs.history.Readers.Course.{has_ended}
 use Rattle.dsql_engine_laws.specs.history.Readers.Journals.{journal}
 use Rattle.dsql_engine_laws.specs.history.Rules.Flights.{is_in_flight, permitted, without_flight}
@@ -41,6 +41,7 @@ use Rattle.dsql_engine_laws.proofs.going.GoneOn.{layer_whole}
 use Rattle.dsql_run_player.specs.Chores.{IsAnswered, IsToMake}
 use Rattle.dsql_run_player.specs.Playing.{Playing, IsAt, IsReady, KeepsLines}
 use Rattle.dsql_run_player.specs.Stepping.{IsChoreOn, TakesStep}
+use Rattle.dsql_run_player.proofs.Allowed.{allowed_welcome}
 use Rattle.dsql_run_player.proofs.Answering.{entry_conn, entry_number}
 use Rattle.dsql_run_player.proofs.Grouped.{Grouped, hears_alone, hears_grouped}
 use Rattle.dsql_run_player.proofs.Ready.{holds_none, nobody_ready}
@@ -80,6 +81,12 @@ answer_welcome p e core past chore it = record { flight = flight; welcome = subs
 
     welcome : IsWelcome p.past (answered it.permit e.answer)
     welcome = made.welcome e.answer fits
+
+-- The answer may come next by every rule, whether or not it is taken in.
+pub answer_allowed : (p : Playing) (e : Entry) → IsAnswered p e → Allowed p.past (Heard e)
+answer_allowed p e it =
+    let core : Core = record { past = p.past; trimmed = p.trimmed; flights = p.flights; chore = p.chore } in
+    allowed_welcome p.past e it.to_make.ready.legal (answer_welcome p e core refl refl it).welcome
 
 without_none : (n : ℕ) (flights : List Flight) → is_in_flight n flights ≡ false → without_flight n flights ≡ flights
 without_none n [] h = refl

@@ -15,12 +15,14 @@ pub mod Standing
 pub mod Ready
 pub mod Taking
 pub mod Hearing
+pub mod Allowed
 pub mod Answering
 pub mod Ending
 pub mod Beginning
 pub mod Housekeeping
 pub mod Asked
 pub mod Woke
+pub mod Unstated
 pub mod Taken
 pub mod Tidied
 pub mod Shut

@@ -14,19 +14,20 @@ use Rattle.dsql_engine_laws.specs.history.Readers.Journals.{journal}
 use Rattle.dsql_engine_laws.specs.history.Legal.{Legal}
 use Rattle.dsql_engine_laws.specs.wire.Journaled.{Journaled}
 use Rattle.dsql_run_wires.specs.Asked.{Answers, Connects}
-use Rattle.dsql_run_wires.specs.Told.{FleetTells, SameAbility, TellsAtMost, hears_nothing}
+use Rattle.dsql_run_wires.specs.Stopped.{RecordsAtMost}
+use Rattle.dsql_run_wires.specs.Told.{FleetTells, SameAbility, hears_nothing}
 use Rattle.dsql_run_wires.specs.WiresFit.{OpensWire, WiresFit, slot}
-use Rattle.dsql_run_wires.proofs.Asking.{connected_fits, connected_tells}
-use Rattle.dsql_run_wires.proofs.Telling.{at_most_one}
+use Rattle.dsql_run_wires.proofs.Asking.{connect_fits, connected_fits, connected_tells}
+use Rattle.dsql_run_wires.proofs.Stopped.{connect_untaken}
 use Rattle.dsql_run_player.specs.declared.halt.Halt.{Halt}
 use Rattle.dsql_run_player.specs.Acts.{TakesAnswer}
 use Rattle.dsql_run_player.specs.Carried.{KeepsRun}
-use Rattle.dsql_run_player.specs.Chores.{IsToMake}
+use Rattle.dsql_run_player.specs.Chores.{IsAnswered, IsToMake}
 use Rattle.dsql_run_player.specs.Playing.{Playing}
 use Rattle.dsql_run_player.proofs.Grouped.{Grouped}
 use Rattle.dsql_run_player.proofs.Hearing.{all_quiet, answer_grown}
-use Rattle.dsql_run_player.proofs.Housekeeping.{made_so}
-use Rattle.dsql_run_player.proofs.Keeping.{run_stops}
+use Rattle.dsql_run_player.proofs.Housekeeping.{answer_allowed, made_so}
+use Rattle.dsql_run_player.proofs.Keeping.{run_stops_there}
 use Rattle.dsql_run_player.proofs.Taken.{taken_group, taken_ready}
 
 -- Holds if the fleet was asked for a connection, and its wire is in its slot.
@@ -38,10 +39,19 @@ pub record AsksFleet {F W : Type 0} (fleet : Ghosts F W) (heard : W → Option W
   pub told : fleet.told after ≡ connected_after permit.conn e.answer (fleet.told before)
   pub able : SameAbility fleet before after
 
+-- The answer to the layer's Connect may be taken in.
+pub connect_answered : (p : Playing) (permit : Permit) (e : Entry) → IsToMake p permit → is_connect permit.call ≡ true → Answers permit [] e → IsAnswered p e
+connect_answered p permit e it opens answers = record {
+  permit = permit;
+  to_make = it;
+  answer = answers.entry;
+  fits = connect_fits p.past permit e ((made_so p permit it).first opens).1 answers;
+}
+
 pub opened_run : {A F W : Type 0} (fleet : Ghosts F W) (heard : W → Option WireTold) (result : Result A Halt) (before after : F) (permit : Permit) (e : Entry) (p now : Playing) (old new : List (Option (Journaled W)))
-    → IsToMake p permit → is_connect permit.call ≡ true → WiresFit heard (is_some (fleet.told before)) p.past old → AsksFleet fleet heard permit e before after old new
+    → IsToMake p permit → is_connect permit.call ≡ true → WiresFit heard (is_some (fleet.told before)) p.past old → AsksFleet fleet heard permit e before after old new → IsAnswered p e
     → OnOk result (TakesAnswer permit e p now) → OnErr result (now.past ≡ p.past) → Legal now.past → KeepsRun fleet heard result before after p now old new
-opened_run fleet heard (Ok x) before after permit e p now old new it opens fit asks takes same legal =
+opened_run fleet heard (Ok x) before after permit e p now old new it opens fit asks answered takes same legal =
     let g : Grouped p.past now.past (Heard e) 0 = taken_group permit e p now it takes in
     let more : List Event = g.group.more in
     let quiet : list_all hears_nothing more ≡ true = all_quiet 0 more g.group.later in
@@ -64,8 +74,10 @@ opened_run fleet heard (Ok x) before after permit e p now old new it opens fit a
       able = asks.able;
       legal = legal;
     }
-opened_run fleet heard (Err halt) before after permit e p now old new it opens fit asks takes same legal =
-    run_stops [] fleet heard (Err halt) before after p now old new refl
-    (subst (λ (H : List Event). TellsAtMost heard [] (fleet.told before) (fleet.told after) p.past H old) (sym same)
-    (subst (λ (told : Option FleetTold). TellsAtMost heard [] (fleet.told before) told p.past p.past old) (sym asks.told) (at_most_one heard permit.conn e.answer (fleet.told before) p.past old asks.answers.no_want)))
+opened_run fleet heard (Err halt) before after permit e p now old new it opens fit asks answered takes same legal =
+    let nothing : journal p.past permit.conn ≡ [] = ((made_so p permit it).first opens).1 in
+    let connects : Connects heard (is_some (fleet.told before)) permit e old new = record { entry = asks.answers.entry; others = asks.others; wire = asks.wire; unplanned = asks.unplanned } in
+    run_stops_there [] fleet heard (Err halt) before after p now old new refl same
+    (subst (λ (told : Option FleetTold). RecordsAtMost heard [] (fleet.told before) told p.past p.past old new) (sym asks.told)
+    (connect_untaken heard permit e p.past old new (fleet.told before) connects asks.answers.no_want opens nothing (answer_allowed p e answered) fit))
     asks.able legal

@@ -1,7 +1,7 @@
 -- The run goes on by the step whose turn it is. The argument takes the layer's chore, an entry, and a step of a
 -- call in turn.
 use Rattle.std.proofs.Common.{◌≡◌, ◌<◌, ℕ, true, false, not, ◌&&◌, List, ◌++◌, length, Option, None, refl, ap, sym, subst, ◌∙◌}
-use Rattle.std.specs.Prelude.{Result, Ok, Err, OnOk}
+use Rattle.std.specs.Prelude.{Result, Ok, Err, OnErr, OnOk}
 use Rattle.std.proofs.lemmas.Result.{on_ok_weaker}
 use Rattle.dsql_engine_laws.specs.driver.Wires.{WireTold}
 use Rattle.dsql_engine_laws.specs.journal.Readers.{is_empty}
@@ -19,6 +19,7 @@ use Rattle.dsql_engine_laws.specs.follows.Turns.{is_turn_of}
 use Rattle.dsql_run_wires.specs.Seats.{seat}
 use Rattle.dsql_engine_laws.specs.wire.Journaled.{Journaled}
 use Rattle.dsql_run_wires.specs.Plans.{Made}
+use Rattle.dsql_run_wires.specs.Stopped.{HearsAtMost}
 use Rattle.dsql_run_wires.specs.Told.{fleet_told}
 use Rattle.dsql_run_wires.specs.WiresFit.{KeepsFit, KeepsPlans}
 use Rattle.dsql_run_player.specs.declared.halt.Halt.{Halt}
@@ -26,7 +27,7 @@ use Rattle.dsql_run_player.specs.Carried.{KeepsWires}
 use Rattle.dsql_run_player.specs.Playing.{IsAt, IsReady, Playing}
 use Rattle.dsql_run_player.specs.Acts.{RunsTo}
 use Rattle.dsql_run_player.specs.Stepping.{GoesOn, HearsAnswer, InTurn, IsEntryOf, IsFirstToGo, MakesChore, RunsOut, RunsSoFar, TakesStep, Wakes, goes}
-use Rattle.dsql_run_player.proofs.Fitting.{fits_unheard, plans_unheard}
+use Rattle.dsql_run_player.proofs.Fitting.{fits_unheard, plans_unheard, stops_unheard}
 use Rattle.dsql_run_player.proofs.Going.{ran_out, so_far}
 use Rattle.dsql_run_player.proofs.MayGo.{goes_busy, goes_free}
 use Rattle.dsql_run_player.proofs.Standing.{answer_taken, has_lines, has_lines_before, landed_alike}
@@ -36,6 +37,10 @@ use Rattle.dsql_run_player.specs.Keeping.{ActsUnheard, SameCourse}
 always : {A E P : Type 0} (result : Result A E) → P → OnOk result P
 always (Ok x) p = p
 always (Err e) p = tt
+
+always_err : {A E P : Type 0} (result : Result A E) → P → OnErr result P
+always_err (Ok x) p = tt
+always_err (Err e) p = p
 
 pub course_then : (old mid new : Playing) → SameCourse old mid → SameCourse mid new → SameCourse old new
 course_then old mid new a b = record { ended = b.ended ∙ a.ended; released = b.released ∙ a.released }
@@ -50,6 +55,7 @@ keeps_unheard heard result old new slots a = record {
   wires = always result (fits_unheard heard old.past new.past slots a.unheard);
   plans = always result (plans_unheard heard old.past new.past slots a.unheard);
   told = always result a.unheard.told;
+  stops = always_err result (stops_unheard heard old.past new.past slots a.unheard);
   legal = a.legal;
 }
 
@@ -61,6 +67,7 @@ keeps_from heard result old mid new before after same k = record {
   wires = subst (λ (h : List Event). OnOk result (KeepsFit heard h new.past before after)) same k.wires;
   plans = subst (λ (h : List Event). OnOk result (KeepsPlans heard h new.past before after)) same k.plans;
   told = subst (λ (h : List Event). OnOk result ((made : List Made) → fleet_told made new.past ≡ fleet_told made h)) same k.told;
+  stops = subst (λ (h : List Event). OnErr result (HearsAtMost heard h new.past before after)) same k.stops;
   legal = k.legal;
 }
 

@@ -1,7 +1,7 @@
 -- The layer shut a connection and gave its wire back. The argument empties the wire's slot and shows that the
 -- wires and the fleet fit the new history.
-use Rattle.std.proofs.Common.{◌≡◌, ℕ, Bool, true, List, [], ◌∷◌, ◌++◌, Option, None, is_some, sym, subst, set}
-use Rattle.std.specs.Prelude.{Ok, IfSome}
+use Rattle.std.proofs.Common.{◌≡◌, ℕ, Bool, true, List, [], ◌∷◌, ◌++◌, Option, None, is_some, refl, sym, subst, set}
+use Rattle.std.specs.Prelude.{Result, Ok, Err, OnOk, OnErr}
 use Rattle.std.specs.List.{list_all}
 use Rattle.dsql_engine_laws.specs.driver.Kinds.{is_shut}
 use Rattle.dsql_engine_laws.specs.driver.Wires.{WireTold, FleetTold}
@@ -12,31 +12,34 @@ use Rattle.dsql_engine_laws.specs.history.declared.event.Event.{Event}
 use Rattle.dsql_engine_laws.specs.history.declared.event.Event.TheVariants.{Heard}
 use Rattle.dsql_engine_laws.specs.history.Legal.{Legal}
 use Rattle.dsql_engine_laws.specs.wire.Journaled.{Journaled}
-use Rattle.dsql_engine_laws.specs.wire.Told.{TellsOf}
+use Rattle.dsql_run_wires.specs.Stopped.{RecordsAtMost, RecordsJournal}
 use Rattle.dsql_run_wires.specs.Told.{FleetTells, SameAbility, hears_nothing, retired_slot}
 use Rattle.dsql_run_wires.specs.WiresFit.{WiresFit, slot}
 use Rattle.dsql_run_wires.proofs.Asking.{gone_fits, gone_tells}
+use Rattle.dsql_run_wires.proofs.Stopped.{shut_untaken}
+use Rattle.dsql_run_player.specs.declared.halt.Halt.{Halt}
+use Rattle.dsql_run_player.specs.Acts.{TakesAnswer}
 use Rattle.dsql_run_player.specs.Carried.{KeepsRun}
-use Rattle.dsql_run_player.specs.Chores.{IsToMake}
 use Rattle.dsql_run_player.specs.Playing.{Playing}
 use Rattle.dsql_run_player.proofs.Grouped.{Grouped}
 use Rattle.dsql_run_player.proofs.Hearing.{all_quiet, answer_grown}
-use Rattle.dsql_run_player.specs.Keeping.{AsksWire}
+use Rattle.dsql_run_player.proofs.Housekeeping.{answer_allowed}
+use Rattle.dsql_run_player.proofs.Keeping.{run_stops_there}
 use Rattle.dsql_run_player.proofs.Taken.{taken_group, taken_ready}
+use Rattle.dsql_run_player.proofs.Tidied.{AsksWire}
 
 -- Holds if the wire was given back, and it records exactly its journal.
 pub record GivesBack {F W : Type 0} (fleet : Ghosts F W) (heard : W → Option WireTold) (conn : ℕ) (before after : F) (was now : List (Option (Journaled W))) : Type 0 where
   pub slots : now ≡ set was conn None
   pub told : fleet.told after ≡ retired_slot heard conn (slot was conn) (fleet.told before)
-  pub exact : IfSome (slot was conn) (λ w. IfSome (heard w.wire) (TellsOf w.conn w.journal))
+  pub exact : RecordsJournal heard (slot was conn)
   pub able : SameAbility fleet before after
 
-pub shut_run : {A F W : Type 0} (fleet : Ghosts F W) (heard : W → Option WireTold) (x : A) (before after : F) (permit : Permit) (p now : Playing) (old mid new : List (Option (Journaled W)))
-    → IsToMake p permit → is_shut permit.call ≡ true → WiresFit heard (is_some (fleet.told before)) p.past old → AsksWire heard permit p now old mid → GivesBack fleet heard permit.conn before after mid new → Legal now.past
-    → KeepsRun fleet heard (Ok x) before after p now old new
-shut_run fleet heard x before after permit p now old mid new it shuts fit asks gone legal =
-    let e : Entry = asks.entry in
-    let g : Grouped p.past now.past (Heard e) 0 = taken_group permit e p now it asks.takes in
+pub shut_run : {A F W : Type 0} (fleet : Ghosts F W) (heard : W → Option WireTold) (result : Result A Halt) (before after : F) (permit : Permit) (e : Entry) (p now : Playing) (old mid new : List (Option (Journaled W)))
+    → is_shut permit.call ≡ true → WiresFit heard (is_some (fleet.told before)) p.past old → AsksWire heard permit e p old mid → GivesBack fleet heard permit.conn before after mid new
+    → OnOk result (TakesAnswer permit e p now) → OnErr result (now.past ≡ p.past) → Legal now.past → KeepsRun fleet heard result before after p now old new
+shut_run fleet heard (Ok x) before after permit e p now old mid new shuts fit asks gone takes same legal =
+    let g : Grouped p.past now.past (Heard e) 0 = taken_group permit e p now asks.to_make takes in
     let more : List Event = g.group.more in
     let quiet : list_all hears_nothing more ≡ true = all_quiet 0 more g.group.later in
     let grown : now.past ≡ more ++ Heard e ∷ p.past = answer_grown p.past now.past e 0 g in
@@ -49,10 +52,15 @@ shut_run fleet heard x before after permit p now old mid new it shuts fit asks g
     subst (λ (H : List Event). WiresFit heard (is_some (fleet.told before)) H new) (sym grown)
     (gone_fits heard (is_some (fleet.told before)) permit e more p.past old mid new asks.performs shuts gone.slots quiet fit) in
     record {
-      ready = taken_ready permit e p now it asks.takes;
+      ready = taken_ready permit e p now asks.to_make takes;
       told = tells;
       asked = tt;
       wires = subst (λ (telling : Bool). WiresFit heard telling now.past new) (sym tells.telling) fits;
       able = gone.able;
       legal = legal;
     }
+shut_run fleet heard (Err halt) before after permit e p now old mid new shuts fit asks gone takes same legal =
+    run_stops_there [] fleet heard (Err halt) before after p now old new refl same
+    (subst (λ (told : Option FleetTold). RecordsAtMost heard [] (fleet.told before) told p.past p.past old new) (sym gone.told)
+    (shut_untaken heard permit e p.past old mid new (fleet.told before) asks.performs shuts gone.slots gone.exact (answer_allowed p e asks.answered) fit))
+    gone.able legal

@@ -1,7 +1,7 @@
 -- Proves that the player carries out single steps and begins lines. The argument joins what the player keeps
 -- with the step that it made.
 use Rattle.std.proofs.Common.{◌≡◌, ℕ, ◌<◌, Bool, true, false, not, List, Option, [], length, refl, sym, ap, subst}
-use Rattle.std.specs.Prelude.{Result, Ok, Err, IfErr, is_some}
+use Rattle.std.specs.Prelude.{Result, Ok, Err, IfErr, IsErr, is_some}
 use Rattle.dsql_engine_laws.specs.driver.Wires.{WireTold}
 use Rattle.dsql_engine_laws.specs.driver.declared.wire.Fleet.{Ghosts}
 use Rattle.dsql_engine_laws.specs.driver.declared.wire.Planned.{Planned}
@@ -9,7 +9,7 @@ use Rattle.dsql_engine_laws.specs.history.declared.event.Event.{Event}
 use Rattle.dsql_engine_laws.specs.history.declared.event.Op.{Op}
 use Rattle.dsql_engine_laws.specs.history.declared.event.Control.{Control}
 use Rattle.dsql_engine_laws.specs.history.declared.record.Flight.{Flight}
-use Rattle.dsql_engine_laws.specs.history.Legal.{Lawful}
+use Rattle.dsql_engine_laws.specs.history.Legal.{Lawful, Legal}
 use Rattle.dsql_engine_laws.specs.history.Readers.Calls.{is_busy}
 use Rattle.dsql_engine_laws.specs.history.Readers.Clients.{call_of}
 use Rattle.dsql_engine_laws.specs.history.Rules.Flights.{is_in_flight, without_flight}
@@ -26,11 +26,11 @@ use Rattle.dsql_run_wires.specs.WiresFit.{WiresFit}
 use Rattle.dsql_run_player.specs.declared.halt.Halt.{Halt}
 use Rattle.dsql_run_player.specs.declared.halt.Halt.TheVariants as halts
 use Rattle.dsql_run_player.specs.Acts.{Begun}
-use Rattle.dsql_run_player.specs.Carried.{Carries, KeepsRun, KeepsWires}
+use Rattle.dsql_run_player.specs.Carried.{Carries, HearsNothing, KeepsRun, KeepsWires}
 use Rattle.dsql_run_player.specs.Planned.{plans_of}
 use Rattle.dsql_run_player.specs.Playing.{IsAt, IsReady, Playing}
 use Rattle.dsql_run_player.specs.Stepping.{HearsAnswer, IsAnswerTo, MakesChore, TakesStep, Wakes}
-use Rattle.dsql_run_player.proofs.Fitting.{fits_unheard, plans_unheard}
+use Rattle.dsql_run_player.proofs.Fitting.{fits_unheard, plans_unheard, stops_unheard}
 use Rattle.dsql_run_player.proofs.Keeping.{run_goes}
 use Rattle.dsql_run_player.proofs.Lines.{begun_fault, begun_skip}
 use Rattle.dsql_run_player.proofs.Singles.{answer_steps, chore_steps, flies_ready, idle_house_steps, itself_steps, leave_steps}
@@ -39,12 +39,23 @@ use Rattle.dsql_run_player.specs.Keeping.{ActsUnheard}
 
 -- If nothing was heard, the wires fit as before.
 
-pub wires_unheard : {A W : Type 0} (heard : W → Option WireTold) (result : Result A Halt) (old new : Playing) (slots : List (Option (Journaled W))) → ActsUnheard result old new → KeepsWires heard result old new slots slots
-wires_unheard heard (Ok x) old new slots a = record { ready = a.ready; wires = fits_unheard heard old.past new.past slots a.unheard; plans = plans_unheard heard old.past new.past slots a.unheard; told = a.unheard.told; legal = a.legal }
-wires_unheard heard (Err e) old new slots a = record { ready = tt; wires = tt; plans = tt; told = tt; legal = a.legal }
-
 pub woken_wires : {A B W : Type 0} (heard : W → Option WireTold) (x : A) (y : B) (old new : Playing) (slots : List (Option (Journaled W))) → ActsUnheard {A = A} (Ok x) old new → KeepsWires {A = B} heard (Ok y) old new slots slots
-woken_wires heard x y old new slots a = record { ready = a.ready; wires = fits_unheard heard old.past new.past slots a.unheard; plans = plans_unheard heard old.past new.past slots a.unheard; told = a.unheard.told; legal = a.legal }
+woken_wires heard x y old new slots a = record {
+  ready = a.ready;
+  wires = fits_unheard heard old.past new.past slots a.unheard;
+  plans = plans_unheard heard old.past new.past slots a.unheard;
+  told = a.unheard.told;
+  stops = tt;
+  legal = a.legal;
+}
+
+pub wires_stay : {A W : Type 0} (heard : W → Option WireTold) (result : Result A Halt) (old new : Playing) (slots : List (Option (Journaled W))) → IsErr result → HearsNothing old.past new.past → Legal new.past → KeepsWires heard result old new slots slots
+wires_stay heard (Ok x) old new slots err same legal = absurd cc
+wires_stay heard (Err e) old new slots err same legal = record { ready = tt; wires = tt; plans = tt; told = tt; stops = stops_unheard heard old.past new.past slots same; legal = legal }
+
+pub wires_unheard : {A W : Type 0} (heard : W → Option WireTold) (result : Result A Halt) (old new : Playing) (slots : List (Option (Journaled W))) → ActsUnheard result old new → KeepsWires heard result old new slots slots
+wires_unheard heard (Ok x) old new slots a = woken_wires heard x x old new slots a
+wires_unheard heard (Err e) old new slots a = wires_stay heard (Err e) old new slots refl a.unheard a.legal
 
 -- If nothing was heard, the fleet has nothing to record.
 pub run_unheard : {A B F W : Type 0} (fleet : Ghosts F W) (heard : W → Option WireTold) (x : A) (y : B) (now : F) (old new : Playing) (slots : List (Option (Journaled W)))

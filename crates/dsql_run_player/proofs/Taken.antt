@@ -25,7 +25,8 @@ use Rattle.dsql_run_wires.specs.Seats.{Seat}
 use Rattle.dsql_engine_laws.specs.laws_steps.Groups.{after_heard, most_events}
 use Rattle.dsql_engine_laws.specs.tenure.Judged.{answered}
 use Rattle.dsql_engine_laws.specs.wire.Journaled.{Journaled}
-use Rattle.dsql_run_wires.specs.Told.{FleetTells, SameAbility, TellsAtMost}
+use Rattle.dsql_run_wires.specs.Stopped.{RecordsAtMost}
+use Rattle.dsql_run_wires.specs.Told.{FleetTells, SameAbility}
 use Rattle.dsql_run_wires.specs.WiresFit.{WiresFit}
 use Rattle.dsql_run_player.specs.declared.halt.Halt.{Halt}
 use Rattle.dsql_run_player.specs.Acts.{TakesAnswer}
@@ -232,7 +233,7 @@ first_run fleet heard x y before after old mid new slots now same r = record {
 }
 
 pub first_stops : {A F W : Type 0} (fleet : Ghosts F W) (heard : W → Option WireTold) (result : Result A Halt) (before after : F) (old mid new : Playing) (slots now : List (Option (Journaled W)))
-    → IsErr result → mid.past ≡ old.past → TellsAtMost heard [] (fleet.told before) (fleet.told after) mid.past new.past slots → SameAbility fleet before after → Legal new.past
+    → IsErr result → mid.past ≡ old.past → RecordsAtMost heard [] (fleet.told before) (fleet.told after) mid.past new.past slots now → SameAbility fleet before after → Legal new.past
     → KeepsRun fleet heard result before after old new slots now
 first_stops fleet heard result before after old mid new slots now err same asked able legal =
-    run_stops [] fleet heard result before after old new slots now err (subst (λ (H : List Event). TellsAtMost heard [] (fleet.told before) (fleet.told after) H new.past slots) same asked) able legal
+    run_stops [] fleet heard result before after old new slots now err (subst (λ (H : List Event). RecordsAtMost heard [] (fleet.told before) (fleet.told after) H new.past slots now) same asked) able legal

@@ -11,20 +11,22 @@ use Rattle.dsql_engine_laws.specs.follows.Sentences.{Part, after_part, enters_at
 use Rattle.dsql_engine_laws.specs.follows.Follows.{MakesSteps, FollowsLine, FollowsEnd, ends_in_turn}
 use Rattle.dsql_engine_laws.specs.wire.Journaled.{Journaled}
 use Rattle.dsql_run_wires.specs.Plans.{Made}
-use Rattle.dsql_run_wires.specs.Told.{fleet_told, FleetTells, TellsAtMost, SameAbility}
+use Rattle.dsql_run_wires.specs.Stopped.{HearsAtMost, RecordsAtMost}
+use Rattle.dsql_run_wires.specs.Told.{fleet_told, FleetTells, SameAbility}
 use Rattle.dsql_run_wires.specs.WiresFit.{KeepsFit, KeepsPlans, WiresFit}
 use Rattle.dsql_run_player.specs.declared.halt.Halt.{Halt}
 use Rattle.dsql_run_player.specs.Playing.{Playing, IsAt, IsReady}
 
 -- Holds if a part of a run is carried out, in which these faults are planned. The fleet and the wires record the new
--- history and these plans, and the wires fit the history. If the part can't be carried out, the fleet was asked for at
--- most one more Connect. Either all of the plans were made or none.
+-- history and these plans, and the wires fit the history. If the part can't be carried out, they record the new history
+-- with at most one more answer, which couldn't be taken in. Then either all of the plans were made or none.
 pub record KeepsRunPlanning {A F W : Type 0} (plans : List Made) (fleet : Ghosts F W) (heard : W
     → Option WireTold) (result : Result A Halt) (before after : F) (old new : Playing)
     (slots now : List (Option (Journaled W))) : Type 0 where
   pub ready : OnOk result (IsReady new)
   pub told : OnOk result (FleetTells heard plans (fleet.told before) (fleet.told after) old.past new.past slots now)
-  pub asked : OnErr result (TellsAtMost heard plans (fleet.told before) (fleet.told after) old.past new.past slots)
+  pub asked : OnErr result
+      (RecordsAtMost heard plans (fleet.told before) (fleet.told after) old.past new.past slots now)
   pub wires : OnOk result (WiresFit heard (is_some (fleet.told after)) new.past now)
   pub able : SameAbility fleet before after
   pub legal : Legal new.past
@@ -36,7 +38,8 @@ KeepsRun fleet heard result before after old new slots now =
     KeepsRunPlanning [] fleet heard result before after old new slots now
 
 -- Holds of a part of a run in which no connection is opened or shut. Its wires fit the new history, and the fleet has
--- nothing to record of it.
+-- nothing to record of it. If the part can't be carried out, the wires heard at most one more answer, which couldn't be
+-- taken in.
 pub record KeepsWires {A W : Type 0} (heard : W
     → Option WireTold) (result : Result A Halt) (old new : Playing)
     (before after : List (Option (Journaled W))) : Type 0 where
@@ -44,6 +47,7 @@ pub record KeepsWires {A W : Type 0} (heard : W
   pub wires : OnOk result (KeepsFit heard old.past new.past before after)
   pub plans : OnOk result (KeepsPlans heard old.past new.past before after)
   pub told : OnOk result ((made : List Made) → fleet_told made new.past ≡ fleet_told made old.past)
+  pub stops : OnErr result (HearsAtMost heard old.past new.past before after)
   pub legal : Legal new.past
 
 -- Holds if nothing was heard between the two histories.

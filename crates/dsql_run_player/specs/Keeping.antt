@@ -1,13 +1,10 @@
 -- What the acts of a player keep.
-use Rattle.std.specs.Prelude.{◌≡◌, List, Option, Result, OnOk, OnErr, IfErr}
-use Rattle.dsql_engine_laws.specs.driver.Wires.{WireTold}
+use Rattle.std.specs.Prelude.{◌≡◌, List, Result, OnOk, OnErr, IfErr}
 use Rattle.dsql_engine_laws.specs.journal.declared.entry.Entry.{Entry}
 use Rattle.dsql_engine_laws.specs.journal.declared.entry.Permit.{Permit}
 use Rattle.dsql_engine_laws.specs.history.declared.event.Event.{Event}
 use Rattle.dsql_engine_laws.specs.history.Readers.Course.{has_ended}
 use Rattle.dsql_engine_laws.specs.history.Legal.{Legal}
-use Rattle.dsql_engine_laws.specs.wire.Journaled.{Journaled}
-use Rattle.dsql_run_wires.specs.Asked.{Performs}
 use Rattle.dsql_run_player.specs.declared.halt.Halt.{Halt}
 use Rattle.dsql_run_player.specs.declared.halt.Halt.TheVariants as halts
 use Rattle.dsql_run_player.specs.Acts.{TakesAnswer}
@@ -35,11 +32,3 @@ pub record ActsUnheard {A : Type 0} (result : Result A Halt) (old new : Playing)
 pub record IsTaken (permit : Permit) (before after : Playing) : Type 0 where
   pub entry : Entry
   pub takes : TakesAnswer permit entry before after
-
--- Holds if the layer's own call was made on the wire of its connection, and the player took the answer in.
-pub record AsksWire {W : Type 0} (heard : W
-    → Option WireTold) (permit : Permit) (before after : Playing)
-    (wires now : List (Option (Journaled W))) : Type 0 where
-  pub entry : Entry
-  pub takes : TakesAnswer permit entry before after
-  pub performs : Performs heard permit entry wires now

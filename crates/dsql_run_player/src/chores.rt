@@ -1,12 +1,12 @@
 //! Makes the layer's own driver calls: opens and shuts connections, and tidies up rows that nobody ended.
-ghost use Rattle.std.specs.Prelude.{◌≡◌, ◌<◌, true, false, is_some, length, IfOk, OnErr, OnOk};
+ghost use Rattle.std.specs.Prelude.{◌≡◌, ◌<◌, true, false, is_some, length, IfOk, OnOk};
 ghost use Rattle.dsql_engine_laws.specs.driver.Kinds.{is_connect, is_shut};
 ghost use Rattle.dsql_engine_laws.specs.journal.declared.entry.Permit.{Permit as Permitted};
 ghost use Rattle.dsql_engine_laws.specs.history.Legal.{Legal};
 ghost use Rattle.dsql_run_player.specs.Acts.{TakesAnswer};
 ghost use Rattle.dsql_run_player.specs.Carried.{KeepsRun};
 ghost use Rattle.dsql_run_player.specs.Chores.{FindsChore, IsAnswered, IsToMake, SameButChore};
-ghost use Rattle.dsql_run_player.specs.Keeping.{AsksWire, FailsForMemory, IsTaken, SameCourse};
+ghost use Rattle.dsql_run_player.specs.Keeping.{FailsForMemory, IsTaken, SameCourse};
 ghost use Rattle.dsql_run_player.specs.Playing.{IsReady};
 ghost use Rattle.dsql_engine_laws.specs.laws_steps.Groups.{most_events};
 ghost use Rattle.dsql_engine_laws.specs.tenure.Judged.{answered};
@@ -17,29 +17,24 @@ use crate::asking::leave_of;
 use crate::halt::Halt;
 use crate::player::Player;
 use dsql_engine::Leave;
-use dsql_engine_laws::{DriverCall, Fleet, Heard, Permit, Wire};
+use dsql_engine_laws::{DriverCall, Fleet, Heard, Permit};
 use dsql_run_wires::{Wires, connect_wire, retire};
 
 impl Player {
     /// Returns the permit for the first of the layer's own calls, if there is one. That call is under way from
-    /// then on. After an error nothing has changed.
-    pub fn first_chore(&mut self) -> Result<Option<Permit>, Halt>
+    /// then on. It takes no memory, because such a call has no statement.
+    pub fn first_chore(&mut self) -> Option<Permit>
         requires ready { IsReady self.old }
         requires room { length self.old.past < most_events }
-        ensures finds { IfOk result (λ chore. FindsChore chore self.old self.new) }
+        ensures finds { FindsChore result self.old self.new }
         ensures same { SameButChore self.old self.new }
-        ensures err { OnErr result (self.new ≡ self.old) }
-        ensures fails { FailsForMemory result self.old.past self.new.past }
     {
         let Some(leave) = self.first_leave() else {
-            return Ok(None);
+            return None;
         };
         match self.engine.permit(&leave) {
-            Ok(permit) => Ok(Some(permit)),
-            Err(fault) => {
-                self.engine.put_off_chore();
-                Err(fault.into())
-            }
+            Ok(permit) => Some(permit),
+            Err(_) => unreachable!(),
         }
     }
 
@@ -50,10 +45,10 @@ impl Player {
         ensures finds { FindsChore result self.old self.new }
         ensures same { SameButChore self.old self.new }
     {
-        match self.engine.chore() {
-            Ok(next) => leave_of(next),
-            Err(_) => unreachable!(),
-        }
+        let Ok(next) = self.engine.chore() else {
+            unreachable!();
+        };
+        leave_of(next)
     }
 
     /// Opens a connection.
@@ -91,19 +86,6 @@ impl Player {
         ensures fails { FailsForMemory result self.old.past self.new.past }
         ensures trimmed { self.new.trimmed ≡ self.old.trimmed }
     {
-        self.ask(wires, permit)
-    }
-
-    /// Makes one of the layer's own calls on the wire of its connection, and takes in the answer.
-    pub fn ask<W: Wire>(&mut self, wires: &mut Wires<W>, permit: Permit) -> Result<(), Halt>
-        requires to_make { IsToMake self.old permit }
-        requires opens { is_connect permit.call ≡ false }
-        requires wires { WiresFit W.told false self.old.past wires.old }
-        ensures asks { OnOk result (AsksWire W.told permit self.old self.new wires.old wires.new) }
-        ensures fails { FailsForMemory result self.old.past self.new.past }
-        ensures legal { Legal self.new.past }
-        ensures trimmed { self.new.trimmed ≡ self.old.trimmed }
-    {
         let heard = wires.perform(permit)?;
         self.hear(heard)
     }
@@ -137,8 +119,7 @@ pub(crate) fn make_first_chore<F: Fleet>(
     ensures fails { FailsForMemory result player.old.past player.new.past }
     ensures trimmed { player.new.trimmed ≡ player.old.trimmed }
 {
-    let chore = player.first_chore()?;
-    match chore {
+    match player.first_chore() {
         Some(permit) => {
             make_chore(player, wires, fleet, permit)?;
             Ok(true)
@@ -168,7 +149,8 @@ fn make_chore<F: Fleet>(
     }
 }
 
-/// Shuts a connection and gives its wire back to the fleet.
+/// Shuts a connection and gives its wire back to the fleet. The wire is given back before the answer is taken in, which
+/// may fail for want of memory.
 fn shut<F: Fleet>(
     player: &mut Player,
     wires: &mut Wires<F::Wire>,
@@ -184,7 +166,7 @@ fn shut<F: Fleet>(
     ensures trimmed { player.new.trimmed ≡ player.old.trimmed }
 {
     let conn = permit.conn;
-    player.ask(wires, permit)?;
+    let heard = wires.perform(permit)?;
     retire(wires, fleet, conn);
-    Ok(())
+    player.hear(heard)
 }

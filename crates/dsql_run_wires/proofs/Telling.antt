@@ -1,14 +1,13 @@
 -- What a fleet records adds up as a history goes on. The argument appends to its record what each step adds.
-use Rattle.std.proofs.Common.{◌≡◌, ◌⊎◌, inl, inr, ℕ, Bool, true, false, List, [], ◌∷◌, ◌++◌, map, length, Option, Some, None, refl, sym, ◌∙◌, ap, subst, append_assoc, arith}
+use Rattle.std.proofs.Common.{◌≡◌, ◌⊎◌, inl, inr, ℕ, Bool, true, false, List, [], ◌∷◌, ◌++◌, map, length, Option, Some, None, refl, sym, ◌∙◌, ap, append_assoc}
 use Rattle.std.specs.Prelude.{option_map, is_some, IfSome}
-use Rattle.std.proofs.lemmas.List.{append-nil}
 use Rattle.dsql_history.specs.driver.Fits.{is_memory}
 use Rattle.dsql_history.specs.driver.Wires.{WireTold, FleetTold, RetiredWire, with_connects, with_retired, connected_after, retired_after}
 use Rattle.dsql_history.specs.driver.declared.answer.DriverAnswer.{DriverAnswer}
 use Rattle.dsql_history.specs.driver.declared.answer.DriverAnswer.TheVariants.{Memory}
 use Rattle.dsql_history.specs.declared.event.Event.{Event}
 use Rattle.dsql_run_wires.specs.Plans.{Made}
-use Rattle.dsql_run_wires.specs.Told.{behind, fleet_told, FleetTells, told_then, with_told, TellsAtMost, LeavesAtMost, SameAsked, retired_slot, retired_from}
+use Rattle.dsql_run_wires.specs.Told.{behind, fleet_told, FleetTells, told_then}
 use Rattle.dsql_run_wires.specs.WiresFit.{KeepsPlans, PlansFit}
 use Rattle.dsql_wire.specs.Journaled.{Journaled}
 
@@ -93,80 +92,7 @@ tells_gone heard c told all before old new slots now tells exactly same keeps = 
   telling = telling_gone c told before tells;
 }
 
-pub no_more : (t : Option FleetTold) → t ≡ option_map (with_connects []) t
-no_more None = refl
-no_more (Some told) = ap (λ cs. Some (record told { connects = cs })) (sym (append-nil told.connects))
-
--- A fleet that records exactly a history records that at most.
-pub at_most : {W : Type 0} (heard : W → Option WireTold) (more : List Made) (before after : Option FleetTold) (old new : List Event) (slots now : List (Option (Journaled W))) → FleetTells heard more before after old new slots now
-    → TellsAtMost heard more before after old new slots
-at_most heard more before after old new slots now f = record {
-  more = [];
-  few = omega arith;
-  planned = more;
-  which = inl refl;
-  told = λ made t j. (f.told made t j).fleet ∙ no_more (with_told (more ++ made) t new);
-}
-
 -- If nothing is left to be planned, nothing was planned.
 pub none_planned : (planned : List Made) → (planned ≡ []) ⊎ (planned ≡ []) → planned ≡ []
 none_planned planned (inl h) = h
 none_planned planned (inr h) = h
-
-pub tells_then_at_most : {W : Type 0} (heard : W → Option WireTold) (more : List Made) (before between after : Option FleetTold) (old mid new : List Event) (slots halfway : List (Option (Journaled W)))
-    → FleetTells heard more before between old mid slots halfway → TellsAtMost heard [] between after mid new halfway → TellsAtMost heard more before after old new slots
-tells_then_at_most heard more before between after old mid new slots halfway f g = record {
-  more = g.more;
-  few = g.few;
-  planned = more;
-  which = inl refl;
-  told = λ made t j. g.told (more ++ made) t (f.told made t j) ∙ ap (λ planned. option_map (with_connects g.more) (with_told (planned ++ (more ++ made)) t new)) (none_planned g.planned g.which);
-}
-
--- If the fleet was asked for a Connect whose answer couldn't be taken in, it records at most one Connect more.
-pub at_most_one : {W : Type 0} (heard : W → Option WireTold) (c : ℕ) (a : DriverAnswer) (before : Option FleetTold) (old : List Event) (slots : List (Option (Journaled W))) → is_memory a ≡ false
-    → TellsAtMost heard [] before (connected_after c a before) old old slots
-at_most_one heard c a before old slots no_want = record {
-  more = (c, a) ∷ [];
-  few = omega arith;
-  planned = [];
-  which = inl refl;
-  told = λ made t j. heard_answer c a before no_want ∙ ap (option_map (with_connects ((c, a) ∷ []))) j.fleet;
-}
-
--- If the fleet wasn't asked and nothing was planned, it records nothing more.
-pub at_most_none : {W : Type 0} (heard : W → Option WireTold) (planning : List Made) (before : Option FleetTold) (old : List Event) (slots : List (Option (Journaled W))) → TellsAtMost heard planning before before old old slots
-at_most_none heard planning before old slots = record { more = []; few = omega arith; planned = []; which = inr refl; told = λ made t j. j.fleet ∙ no_more (with_told made t old) }
-
-pub same_both : (t : Option FleetTold) → SameAsked t t
-same_both None = tt
-same_both (Some told) = (refl, refl)
-
-same_slot : {W : Type 0} (tells : W → Option WireTold) (c : ℕ) (wire : Option (Journaled W)) (before t : Option FleetTold) → SameAsked before t → SameAsked before (retired_slot tells c wire t)
-same_slot tells c None before t h = h
-same_slot tells c (Some wire) before t h = by_told (tells wire.wire) before t h
-  where
-    by_told : (told : Option WireTold) (before t : Option FleetTold) → SameAsked before t → SameAsked before (retired_after c told t)
-    by_told told None t h = tt
-    by_told None (Some b) None h = tt
-    by_told None (Some b) (Some a) h = tt
-    by_told (Some told) (Some b) None h = tt
-    by_told (Some told) (Some b) (Some a) h = h
-
--- Wires that are given back ask the fleet for nothing.
-pub same_retired : {W : Type 0} (tells : W → Option WireTold) (slots : List (Option (Journaled W))) (before t : Option FleetTold) → SameAsked before t → SameAsked before (retired_from tells slots t)
-same_retired tells [] before t h = h
-same_retired tells (wire ∷ lower) before t h = same_retired tells lower before (retired_slot tells (length lower) wire t) (same_slot tells (length lower) wire before t h)
-
-pub retired_same : {W : Type 0} (tells : W → Option WireTold) (slots : List (Option (Journaled W))) (t : Option FleetTold) → SameAsked t (retired_from tells slots t)
-retired_same tells slots t = same_retired tells slots t t (same_both t)
-
--- If the wires that are left were given back, the fleet was asked for one Connect more at most.
-pub leaves : {W : Type 0} (heard : W → Option WireTold) (before between after : Option FleetTold) (old new : List Event) (slots : List (Option (Journaled W))) → TellsAtMost heard [] before between old new slots
-    → SameAsked between after → LeavesAtMost heard before after old new slots
-leaves heard before between after old new slots f same = record {
-  more = f.more;
-  few = f.few;
-  asked = λ made t j. subst (λ (told : Option FleetTold). SameAsked told after)
-      (f.told made t j ∙ ap (λ planned. option_map (with_connects f.more) (with_told (planned ++ made) t new)) (none_planned f.planned f.which)) same;
-}

@@ -1,7 +1,7 @@
 -- What wires and a fleet record of a history. All of it follows from what was heard.
-use Rattle.std.specs.Prelude.{ℕ, ◌+◌, ◌≡◌, ◌≤◌, ◌⊎◌, Bool, true, false, cond, List, [], ◌∷◌, ◌++◌, map, length, Option, Some, None, is_some, IfSome, option_map}
+use Rattle.std.specs.Prelude.{ℕ, ◌+◌, ◌≡◌, Bool, true, false, cond, List, [], ◌∷◌, ◌++◌, map, length, Option, Some, None, is_some, option_map}
 use Rattle.dsql_history.specs.driver.Kinds.{is_connect, is_shut}
-use Rattle.dsql_history.specs.driver.Wires.{WireTold, FleetTold, Connected, PlanMade, WirePlanMade, with_connects, with_retired, retired_after}
+use Rattle.dsql_history.specs.driver.Wires.{WireTold, FleetTold, PlanMade, WirePlanMade, with_connects, with_retired, retired_after}
 use Rattle.dsql_history.specs.driver.declared.wire.Fleet.{Ghosts}
 use Rattle.dsql_history.specs.journal.declared.entry.Entry.{Entry}
 use Rattle.dsql_history.specs.declared.event.Event.{Event}
@@ -84,39 +84,6 @@ pub record FleetTells {W : Type 0} (heard : W
     (slots now : List (Option (Journaled W))) : Type 0 where
   pub told : TellsOn heard more before after old new slots now
   pub telling : is_some after ≡ is_some before
-
--- Holds if a fleet that recorded exactly the old history records the new one, and perhaps one more Connect,
--- whose answer couldn't be taken in. Of the faults that were to be planned all were, or none.
-pub record TellsAtMost {W : Type 0} (heard : W
-    → Option WireTold) (planning : List Made) (before after : Option FleetTold) (old new : List Event)
-    (slots : List (Option (Journaled W))) : Type 0 where
-  pub more : List Connected
-  pub few : length more ≤ 1
-  pub planned : List Made
-  pub which : (planned ≡ planning) ⊎ (planned ≡ [])
-  pub told : (made : List Made) (told : Option FleetTold) → TellsJust heard made told before old slots
-      → after ≡ option_map (with_connects more) (with_told (planned ++ made) told new)
-
--- Holds if both record the same Connects and plans, if both keep a record.
-abbrev pub SameAsked : Option FleetTold → Option FleetTold → Type 0
-SameAsked before after = IfSome before (λ b. IfSome after (λ a. (a.connects ≡ b.connects) × (a.plans ≡ b.plans)))
-
--- Holds if a fleet that recorded exactly the old history was asked for the Connects of the new one. It was given back
--- what was left. It was perhaps asked for one more Connect, whose answer couldn't be taken in. No fault was planned.
-pub record LeavesAtMost {W : Type 0} (heard : W
-    → Option WireTold) (before after : Option FleetTold) (old new : List Event)
-    (slots : List (Option (Journaled W))) : Type 0 where
-  pub more : List Connected
-  pub few : length more ≤ 1
-  pub asked : (made : List Made) (told : Option FleetTold) → TellsJust heard made told before old slots
-      → SameAsked (option_map (with_connects more) (with_told made told new)) after
-
--- Holds if a fleet was asked for exactly the Connects of this history, and exactly these faults were planned
--- with it. It was perhaps asked for one more Connect, whose answer couldn't be taken in.
-pub record AsksAtMost (made : List Made) (before after : Option FleetTold) (past : List Event) : Type 0 where
-  pub more : List Connected
-  pub few : length more ≤ 1
-  pub asked : SameAsked (option_map (with_connects more) (with_told made before past)) after
 
 -- Returns the fleet's record after the wire of a slot, if the slot has one, was given back.
 abbrev pub retired_slot : {W : Type 0} → (W → Option WireTold) → ℕ → Option (Journaled W) → Option FleetTold

@@ -6,7 +6,6 @@ ghost use Rattle.std.specs.List.{list_all};
 ghost use Rattle.dsql_history.specs.driver.Fits.{is_memory};
 ghost use Rattle.dsql_history.specs.driver.Kinds.{is_connect, is_shut};
 ghost use Rattle.dsql_history.specs.driver.Wires.{FleetTold, Plan, connected_after};
-ghost use Rattle.dsql_history.specs.driver.declared.answer.DriverAnswer.{DriverAnswer};
 ghost use Rattle.dsql_history.specs.journal.HandlesAndCursors.{fits_at_its_place};
 ghost use Rattle.dsql_history.specs.journal.declared.entry.Entry.{Entry};
 ghost use Rattle.dsql_history.specs.journal.declared.entry.Permit.{Permit};
@@ -19,7 +18,7 @@ ghost use Rattle.dsql_history.specs.Readers.Journals.{journal};
 ghost use Rattle.dsql_run_wires.specs.Asked.{Answers, Connects, Performs, Plans};
 ghost use Rattle.dsql_run_wires.specs.Extends.{Extends};
 ghost use Rattle.dsql_run_wires.specs.Plans.{Made};
-ghost use Rattle.dsql_run_wires.specs.Told.{FleetTells, LeavesAtMost, TellsAtMost, fleet_told, hears_nothing, retired_from, retired_slot};
+ghost use Rattle.dsql_run_wires.specs.Told.{FleetTells, fleet_told, hears_nothing, retired_slot};
 ghost use Rattle.dsql_run_wires.specs.WiresFit.{KeepsFit, WiresFit, is_wired, made_at, slot};
 
 use dsql_history::Wire;
@@ -106,8 +105,7 @@ pub fn a_shut_gives_the_wire_back<W: Wire>()
 {}
 
 /// A Connect was answered, and if the answer was Done, its wire is in its slot. The wires fit the history that
-/// has the answer, and the fleet records it. If the answer can't be taken in, the fleet records that one
-/// Connect more.
+/// has the answer, and the fleet records it.
 pub fn a_connect_opens_a_wire<W: Wire>()
     ensures fits { (permit : Permit) (e : Entry) (past : List Event)
         → journal past permit.conn ≡ [] → Answers permit [] e → fits_at_its_place (journal past e.conn) e ≡ true }
@@ -123,14 +121,10 @@ pub fn a_connect_opens_a_wire<W: Wire>()
         → list_all hears_nothing more ≡ true
         → FleetTells W.told [] fleet (connected_after permit.conn e.answer fleet) past (more
         ++ Heard e ∷ past) before after }
-    ensures unheard { (c : ℕ) (answer : DriverAnswer) (past : List Event) (fleet : Option FleetTold)
-        (slots : List (Option (Journaled W)))
-        → is_memory answer ≡ false → TellsAtMost W.told [] fleet (connected_after c answer fleet) past past slots }
 {}
 
 /// A fault was planned for a connection. The wires fit the history as before. If the connection has a wire,
-/// that wire records the plan; otherwise the fleet does. If the fault couldn't be planned, the fleet records
-/// what it recorded before.
+/// that wire records the plan; otherwise the fleet does.
 pub fn a_plan_is_told<W: Wire>()
     ensures wires { (c : ℕ) (plan : Plan) (fleet after : Option FleetTold) (past : List Event)
         (slots now : List (Option (Journaled W)))
@@ -139,30 +133,15 @@ pub fn a_plan_is_told<W: Wire>()
         (slots now : List (Option (Journaled W)))
         → WiresFit W.told telling past slots → Plans W.told c plan fleet after slots now
         → FleetTells W.told (made_at c plan past ∷ []) fleet after past past slots now }
-    ensures unplanned { (planning : List Made) (fleet : Option FleetTold) (past : List Event)
-        (slots : List (Option (Journaled W)))
-        → TellsAtMost W.told planning fleet fleet past past slots }
 {}
 
-/// What a fleet records of a history adds up, and the wires that are left at its end can be given back.
+/// What a fleet records of a history adds up.
 pub fn what_a_fleet_tells_adds_up<W: Wire>()
     ensures then { (more : List Made) (before between after : Option FleetTold) (old mid new : List Event)
         (slots halfway now : List (Option (Journaled W)))
         → FleetTells W.told more before between old mid slots halfway
         → FleetTells W.told [] between after mid new halfway now
         → FleetTells W.told more before after old new slots now }
-    ensures then_at_most { (more : List Made) (before between after : Option FleetTold) (old mid new : List Event)
-        (slots halfway : List (Option (Journaled W)))
-        → FleetTells W.told more before between old mid slots halfway
-        → TellsAtMost W.told [] between after mid new halfway
-        → TellsAtMost W.told more before after old new slots }
-    ensures at_most { (more : List Made) (before after : Option FleetTold) (old new : List Event)
-        (slots now : List (Option (Journaled W)))
-        → FleetTells W.told more before after old new slots now → TellsAtMost W.told more before after old new slots }
-    ensures leaves { (before between : Option FleetTold) (old new : List Event)
-        (slots left : List (Option (Journaled W)))
-        → TellsAtMost W.told [] before between old new slots
-        → LeavesAtMost W.told before (retired_from W.told left between) old new slots }
 {}
 
 /// A history goes on from itself, with an event more, and from any history that an earlier one goes on to.

@@ -26,14 +26,4 @@ impl Engine {
         self.chore = Some(conn);
         Ok(Next::Send(leave))
     }
-
-    /// Records that the layer's own driver call under way isn't made after all.
-    pub fn put_off_chore(&mut self)
-        ensures chore { self.new.chore ≡ None }
-        ensures past { self.new.past ≡ self.old.past }
-        ensures flights { self.new.flights ≡ self.old.flights }
-        ensures trimmed { self.new.trimmed ≡ self.old.trimmed }
-    {
-        self.chore = None;
-    }
 }

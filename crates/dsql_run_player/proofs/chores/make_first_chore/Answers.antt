@@ -1,20 +1,14 @@
-use Rattle.std.proofs.Common.{◌∙◌, List, Option, false, is_some, sym, ap, subst}
+use Rattle.std.proofs.Common.{◌∙◌, List, is_some, sym, ap, subst}
 use Rattle.std.proofs.lemmas.Result.{err_from_is_err_and}
-use Rattle.dsql_engine_laws.specs.journal.declared.entry.Permit.{Permit}
 use Rattle.dsql_engine_laws.specs.history.declared.event.Event.{Event}
 use Rattle.dsql_engine_laws.specs.history.Readers.Course.{has_ended}
-use Rattle.dsql_engine_laws.specs.history.Legal.{Legal}
 use Rattle.dsql_run_wires.specs.WiresFit.{WiresFit}
-use Rattle.dsql_run_player.specs.Chores.{FindsChore, IsToMake}
-use Rattle.dsql_run_player.specs.Stepping.{MakesChore}
 use Rattle.dsql_run_player.proofs.Entered.{fails_at}
-use Rattle.dsql_run_player.proofs.Hearing.{hears_none}
-use Rattle.dsql_run_player.proofs.Keeping.{run_stays}
 use Rattle.dsql_run_player.proofs.Taken.{at_err, first_course, first_makes, first_run, first_stops, none_run}
 use Rattle.dsql_run_player.proofs.chores.make_first_chore.Goals as goal
 
 pub make_chore-requires-clause-to_make : goal.make_chore-requires-clause-to_make
-make_chore-requires-clause-to_make g c = λ κs h. subst (λ (chore : Option Permit). FindsChore chore c.args.player.now c.first_chore.new.self) c.in-Some.is c.in_ok-chore.ensures.finds
+make_chore-requires-clause-to_make g c = λ κs h. c.in-Some.ensures.finds
 
 pub make_chore-requires-clause-wires : goal.make_chore-requires-clause-wires
 make_chore-requires-clause-wires g c = λ κs h.
@@ -22,17 +16,11 @@ make_chore-requires-clause-wires g c = λ κs h.
 
 pub returns-in_ok-make_chore-in-Some-clause-makes : goal.returns-in_ok-make_chore-in-Some-clause-makes
 returns-in_ok-make_chore-in-Some-clause-makes g c =
-    let old = c.args.player.now in
-    let mid = c.first_chore.new.self in
-    let it : IsToMake mid c.in-Some.permit = subst (λ (chore : Option Permit). FindsChore chore old mid) c.in-Some.is c.in_ok-chore.ensures.finds in
-    first_makes old mid c.in-Some.permit c.requires.ready c.first_chore.ensures.same c.make_chore.new.player it c.in_ok-make_chore-in-Some.ensures.taken
+    first_makes c.args.player.now c.first_chore.new.self c.in-Some.permit c.requires.ready c.first_chore.ensures.same c.make_chore.new.player c.in-Some.ensures.finds c.in_ok-make_chore-in-Some.ensures.taken
 
 pub returns-in_ok-make_chore-in-Some-clause-course : goal.returns-in_ok-make_chore-in-Some-clause-course
 returns-in_ok-make_chore-in-Some-clause-course g c =
-    let old = c.args.player.now in
-    let mid = c.first_chore.new.self in
-    let it : IsToMake mid c.in-Some.permit = subst (λ (chore : Option Permit). FindsChore chore old mid) c.in-Some.is c.in_ok-chore.ensures.finds in
-    first_course old mid c.in-Some.permit c.requires.ready c.first_chore.ensures.same c.make_chore.new.player it c.in_ok-make_chore-in-Some.ensures.taken
+    first_course c.args.player.now c.first_chore.new.self c.in-Some.permit c.requires.ready c.first_chore.ensures.same c.make_chore.new.player c.in-Some.ensures.finds c.in_ok-make_chore-in-Some.ensures.taken
 
 pub returns-in_ok-make_chore-in-Some-clause-run : goal.returns-in_ok-make_chore-in-Some-clause-run
 returns-in_ok-make_chore-in-Some-clause-run g c =
@@ -40,39 +28,24 @@ returns-in_ok-make_chore-in-Some-clause-run g c =
     c.in_ok-make_chore-in-Some.ensures.run
 
 pub returns-in-None-clause-makes : goal.returns-in-None-clause-makes
-returns-in-None-clause-makes g c = subst (λ (chore : Option Permit). FindsChore chore c.args.player.now c.first_chore.new.self) c.in-None.is c.in_ok-chore.ensures.finds
+returns-in-None-clause-makes g c = c.in-None.ensures.finds
 
 pub returns-in-None-clause-course : goal.returns-in-None-clause-course
 returns-in-None-clause-course g c = record { ended = ap has_ended c.first_chore.ensures.same.past; released = c.first_chore.ensures.same.released }
 
 pub returns-in-None-clause-run : goal.returns-in-None-clause-run
 returns-in-None-clause-run g c =
-    let old = c.args.player.now in
-    let new = c.first_chore.new.self in
-    let none : MakesChore false old new = subst (λ (chore : Option Permit). FindsChore chore old new) c.in-None.is c.in_ok-chore.ensures.finds in
-    none_run g.F.Fleet g.F.Wire.Wire.told _ c.args.fleet.now old new c.args.wires.now c.requires.ready none c.requires.wires
-
-pub returns-in_err-chore-clause-run : goal.returns-in_err-chore-clause-run
-returns-in_err-chore-clause-run g c =
-    let same = c.first_chore.ensures.same.past in
-    let p = err_from_is_err_and c.from_residual.result c.from_residual.ensures.1 in
-    run_stays g.F.Fleet g.F.Wire.Wire.told c.from_residual.result c.args.fleet.now c.args.player.now c.first_chore.new.self c.args.wires.now c.args.wires.now (at_err c.from_residual.result p.0 p.1)
-    (hears_none c.args.player.now.past c.first_chore.new.self.past same) (subst Legal (sym same) c.requires.ready.legal)
-
-pub returns-in_err-chore-clause-fails : goal.returns-in_err-chore-clause-fails
-returns-in_err-chore-clause-fails g c =
-    let p = err_from_is_err_and c.from_residual.result c.from_residual.ensures.1 in
-    fails_at c.from_residual.result p.0 c.args.player.now.past c.first_chore.new.self.past p.1 (p.2 ∙ c.in_err-chore.ensures.fails.memory) c.first_chore.ensures.same.past
+    none_run g.F.Fleet g.F.Wire.Wire.told _ c.args.fleet.now c.args.player.now c.first_chore.new.self c.args.wires.now c.requires.ready c.in-None.ensures.finds c.requires.wires
 
 pub returns-in_err-make_chore-in-Some-clause-run : goal.returns-in_err-make_chore-in-Some-clause-run
 returns-in_err-make_chore-in-Some-clause-run g c =
-    let p = err_from_is_err_and c.from_residual-in_err-make_chore-in-Some.result c.from_residual-in_err-make_chore-in-Some.ensures.1 in
+    let p = err_from_is_err_and c.from_residual.result c.from_residual.ensures.1 in
     let r = c.in_err-make_chore-in-Some.ensures.run in
-    first_stops g.F.Fleet g.F.Wire.Wire.told c.from_residual-in_err-make_chore-in-Some.result c.args.fleet.now c.make_chore.new.fleet c.args.player.now c.first_chore.new.self c.make_chore.new.player c.args.wires.now
-    c.make_chore.new.wires (at_err c.from_residual-in_err-make_chore-in-Some.result p.0 p.1) c.first_chore.ensures.same.past r.asked r.able r.legal
+    first_stops g.F.Fleet g.F.Wire.Wire.told c.from_residual.result c.args.fleet.now c.make_chore.new.fleet c.args.player.now c.first_chore.new.self c.make_chore.new.player c.args.wires.now c.make_chore.new.wires
+    (at_err c.from_residual.result p.0 p.1) c.first_chore.ensures.same.past r.asked r.able r.legal
 
 pub returns-in_err-make_chore-in-Some-clause-fails : goal.returns-in_err-make_chore-in-Some-clause-fails
 returns-in_err-make_chore-in-Some-clause-fails g c =
-    let p = err_from_is_err_and c.from_residual-in_err-make_chore-in-Some.result c.from_residual-in_err-make_chore-in-Some.ensures.1 in
+    let p = err_from_is_err_and c.from_residual.result c.from_residual.ensures.1 in
     let fails = c.in_err-make_chore-in-Some.ensures.fails in
-    fails_at c.from_residual-in_err-make_chore-in-Some.result p.0 c.args.player.now.past c.make_chore.new.player.past p.1 (p.2 ∙ fails.memory) (fails.same ∙ c.first_chore.ensures.same.past)
+    fails_at c.from_residual.result p.0 c.args.player.now.past c.make_chore.new.player.past p.1 (p.2 ∙ fails.memory) (fails.same ∙ c.first_chore.ensures.same.past)

@@ -1,41 +1,60 @@
-use Rattle.std.proofs.Common.{is_some, rules}
+use Rattle.std.proofs.Common.{◌≡◌, [], is_some, refl, rules}
 use Rattle.std.specs.Prelude.{IsSome}
-use Rattle.std.proofs.lemmas.Result.{err_from_is_err_and}
+use Rattle.std.proofs.lemmas.Result.{err_from_is_err_and, on_ok_weaker}
+use Rattle.dsql_engine_laws.specs.journal.declared.entry.Permit.{Permit}
+use Rattle.dsql_engine_laws.specs.tenure.Judged.{answered}
 use Rattle.dsql_run_wires.specs.WiresFit.{slot}
-use Rattle.dsql_run_wires.proofs.Asking.{wire_heard}
+use Rattle.dsql_run_wires.proofs.Asking.{wire_heard, wire_sends}
 use Rattle.dsql_run_wires.proofs.Journals.{shut_only}
-use Rattle.dsql_run_player.proofs.Fitting.{untelling}
-use Rattle.dsql_run_player.proofs.Hearing.{hears_none}
-use Rattle.dsql_run_player.proofs.Keeping.{run_stays}
+use Rattle.dsql_run_player.specs.Acts.{TakesAnswer}
+use Rattle.dsql_run_player.proofs.Housekeeping.{made_so}
+use Rattle.dsql_run_player.proofs.Keeping.{able_same, run_unasked}
 use Rattle.dsql_run_player.proofs.Shut.{shut_run}
 use Rattle.dsql_run_player.proofs.Taken.{at_err}
+use Rattle.dsql_run_player.proofs.Tidied.{AsksWire, asks_wire}
 use Rattle.dsql_run_player.proofs.chores.shut.Goals as goal
 
-pub ask-requires-clause-opens : goal.ask-requires-clause-opens
-ask-requires-clause-opens g c = shut_only c.args.permit.call c.requires.shuts
-
-pub ask-requires-clause-wires : goal.ask-requires-clause-wires
-ask-requires-clause-wires g c = untelling g.F.Wire.Wire.told (is_some (g.F.Fleet.told c.args.fleet.now)) c.args.player.now.past c.args.wires.now c.requires.wires
+pub perform-requires : goal.perform-requires
+perform-requires g c =
+    let p = c.args.player.now in
+    wire_sends g.F.Wire.Wire.told (is_some (g.F.Fleet.told c.args.fleet.now)) p.past c.args.permit c.args.wires.now c.requires.wires (made_so p c.args.permit c.requires.to_make).sent (shut_only c.args.permit.call c.requires.shuts)
 
 pub retire-requires : goal.retire-requires
 retire-requires g c =
-    let a = c.in_ok-ask.ensures.asks in
-    let there : IsSome (slot c.ask.new.wires c.args.permit.conn) = wire_heard g.F.Wire.Wire.told a.entry (slot c.args.wires.now c.args.permit.conn) (slot c.ask.new.wires c.args.permit.conn) a.performs.noted in
+    let there : IsSome (slot c.perform.new.self c.args.permit.conn) =
+    wire_heard g.F.Wire.Wire.told c.in_ok-heard.heard (slot c.args.wires.now c.args.permit.conn) (slot c.perform.new.self c.args.permit.conn) c.in_ok-heard.ensures.noted in
     search rules
+
+pub hear-requires : goal.hear-requires
+hear-requires g c =
+    let asks : AsksWire g.F.Wire.Wire.told c.args.permit c.in_ok-heard.heard c.args.player.now c.args.wires.now c.perform.new.self =
+    asks_wire g.F.Wire.Wire.told (is_some (g.F.Fleet.told c.args.fleet.now)) c.args.permit c.in_ok-heard.heard c.args.player.now c.args.wires.now c.perform.new.self c.requires.to_make c.requires.wires
+    (record { entry = c.in_ok-heard.ensures.entry; others = c.perform.ensures.others; noted = c.in_ok-heard.ensures.noted }) c.in_ok-heard.ensures.fits in
+    record { answered = asks.answered }
 
 pub returns-clause-taken : goal.returns-clause-taken
 returns-clause-taken g c =
-    let a = c.in_ok-ask.ensures.asks in
-    record { entry = a.entry; takes = a.takes }
+    let e = c.in_ok-heard.heard in
+    let p = c.args.player.now in
+    let now = c.hear.new.self in
+    on_ok_weaker c.hear.result
+    (λ (takes : (permit : Permit) → e ≡ answered permit e.answer → TakesAnswer permit e p now). record { entry = e; takes = takes c.args.permit c.in_ok-heard.ensures.entry })
+    c.hear.ensures.takes
 
 pub returns-clause-run : goal.returns-clause-run
 returns-clause-run g c =
-    shut_run g.F.Fleet g.F.Wire.Wire.told _ c.args.fleet.now c.retire.new.fleet c.args.permit c.args.player.now c.ask.new.self c.args.wires.now c.ask.new.wires c.retire.new.wires c.requires.to_make
-    c.requires.shuts c.requires.wires c.in_ok-ask.ensures.asks
-    (record { slots = c.retire.ensures.slots; told = c.retire.ensures.told; exact = c.retire.ensures.exact; able = c.retire.ensures.able }) c.ask.ensures.legal
+    let e = c.in_ok-heard.heard in
+    let p = c.args.player.now in
+    let now = c.hear.new.self in
+    shut_run g.F.Fleet g.F.Wire.Wire.told c.hear.result c.args.fleet.now c.retire.new.fleet c.args.permit e p now c.args.wires.now c.perform.new.self c.retire.new.wires c.requires.shuts c.requires.wires
+    (asks_wire g.F.Wire.Wire.told (is_some (g.F.Fleet.told c.args.fleet.now)) c.args.permit e p c.args.wires.now c.perform.new.self c.requires.to_make c.requires.wires
+    (record { entry = c.in_ok-heard.ensures.entry; others = c.perform.ensures.others; noted = c.in_ok-heard.ensures.noted }) c.in_ok-heard.ensures.fits)
+    (record { slots = c.retire.ensures.slots; told = c.retire.ensures.told; exact = c.retire.ensures.exact; able = c.retire.ensures.able })
+    (on_ok_weaker c.hear.result (λ (takes : (permit : Permit) → e ≡ answered permit e.answer → TakesAnswer permit e p now). takes c.args.permit c.in_ok-heard.ensures.entry) c.hear.ensures.takes)
+    c.hear.ensures.fails.same c.hear.ensures.legal
 
-pub returns-in_err-ask-clause-run : goal.returns-in_err-ask-clause-run
-returns-in_err-ask-clause-run g c =
+pub returns-in_err-heard-clause-run : goal.returns-in_err-heard-clause-run
+returns-in_err-heard-clause-run g c =
     let q = err_from_is_err_and c.from_residual.result c.from_residual.ensures.1 in
-    run_stays g.F.Fleet g.F.Wire.Wire.told c.from_residual.result c.args.fleet.now c.args.player.now c.ask.new.self c.args.wires.now c.ask.new.wires (at_err c.from_residual.result q.0 q.1)
-    (hears_none c.args.player.now.past c.ask.new.self.past c.in_err-ask.ensures.fails.same) c.ask.ensures.legal
+    run_unasked [] g.F.Fleet g.F.Wire.Wire.told c.from_residual.result c.args.fleet.now c.args.fleet.now c.args.player.now c.args.wires.now c.perform.new.self (at_err c.from_residual.result q.0 q.1) c.requires.wires refl c.in_err-heard.ensures.err
+    (able_same g.F.Fleet c.args.fleet.now) c.requires.to_make.ready.legal

@@ -73,7 +73,7 @@ returns-in_err-end_run g c =
       ended = tt;
       quiet = tt;
       empty = tt;
-      run = run_halts g.F.Fleet g.F.Wire.Wire.told _ c.args.fleet.now c.run_on.new.fleet old begun far over c.args.wires.now c.run_on.new.wires c.release.ensures.past done.run.told done.run.able e.act.unheard e.act.legal;
+      run = run_halts g.F.Fleet g.F.Wire.Wire.told _ c.args.fleet.now c.run_on.new.fleet old begun far over c.args.wires.now c.run_on.new.wires c.release.ensures.past done.run.told done.run.able done.run.wires e.act.unheard e.act.legal;
       full = λ h. absurd (cc (h, p.2, e.act.fails.memory));
       trimmed = e.trimmed ∙ (done.trimmed ∙ c.release.ensures.trimmed);
     })

@@ -2,7 +2,8 @@ use Rattle.std.proofs.Common.{◌≡◌, refl, true}
 use Rattle.std.proofs.lemmas.Result.{err_from_is_err_and, on_ok_weaker, on_err_weaker}
 use Rattle.dsql_engine_laws.specs.follows.Sentences.{runs_on}
 use Rattle.dsql_run_player.proofs.Fitting.{fits_unheard, untelling}
-use Rattle.dsql_run_player.proofs.Keeping.{run_after, run_of_wires, run_unplanned}
+use Rattle.dsql_run_player.proofs.Hearing.{hears_none}
+use Rattle.dsql_run_player.proofs.Keeping.{run_after, run_of_wires, run_stays}
 use Rattle.dsql_run_player.proofs.Lines.{begun_done, begun_stops, stops_at_once}
 use Rattle.dsql_run_player.proofs.Singles.{started}
 use Rattle.dsql_run_player.proofs.Stepped.{not_full, plans_none, run_unheard, runs_then}
@@ -17,7 +18,7 @@ returns-in_err-check_room g c =
       carries = tt;
       stops = λ m at. stops_at_once m c.args.line old old.past refl at;
       course = tt;
-      run = run_unplanned _ g.F.Fleet g.F.Wire.Wire.told _ c.args.fleet.now old old c.args.wires.now c.args.wires.now refl refl c.in_err-check_room.ensures.legal;
+      run = run_stays _ g.F.Fleet g.F.Wire.Wire.told _ c.args.fleet.now old old c.args.wires.now refl c.requires.wires (hears_none old.past old.past refl) c.in_err-check_room.ensures.legal;
       full = λ h. c.in_err-check_room.ensures.full;
       trimmed = refl;
     })
@@ -32,7 +33,7 @@ returns-in_err-admit-in-Start g c =
       carries = tt;
       stops = λ m at. stops_at_once m c.args.line old c.admit.new.player.past e.act.fails.same at;
       course = tt;
-      run = run_unplanned _ g.F.Fleet g.F.Wire.Wire.told _ c.args.fleet.now old c.admit.new.player c.args.wires.now c.args.wires.now refl e.act.fails.same e.act.legal;
+      run = run_stays _ g.F.Fleet g.F.Wire.Wire.told _ c.args.fleet.now old c.admit.new.player c.args.wires.now refl c.requires.wires e.act.unheard e.act.legal;
       full = λ h. absurd (cc (h, p.2, e.act.fails.memory));
       trimmed = e.trimmed;
     })
@@ -59,8 +60,7 @@ returns-in-Step-clause-stops g c =
 pub returns-in-Step-clause-run : goal.returns-in-Step-clause-run
 returns-in-Step-clause-run g c =
     rw c.in-Step.is
-    (run_of_wires g.F.Fleet g.F.Wire.Wire.told c.step_client.result c.args.fleet.now c.args.player.now c.step_client.new.player c.args.wires.now c.step_client.new.wires c.requires.wires c.step_client.ensures.run
-    c.step_client.ensures.fails.same)
+    (run_of_wires g.F.Fleet g.F.Wire.Wire.told c.step_client.result c.args.fleet.now c.args.player.now c.step_client.new.player c.args.wires.now c.step_client.new.wires c.requires.wires c.step_client.ensures.run)
 
 pub returns-in-Step-clause-full : goal.returns-in-Step-clause-full
 returns-in-Step-clause-full g c = not_full c.step_client.result _ c.step_client.ensures.fails.memory
@@ -95,7 +95,7 @@ returns-in_err-begin-in_default g c =
       carries = tt;
       stops = λ m at. stops_at_once m c.args.line old c.begin.new.player.past e.act.fails.same at;
       course = tt;
-      run = run_unplanned _ g.F.Fleet g.F.Wire.Wire.told _ c.args.fleet.now old c.begin.new.player c.args.wires.now c.args.wires.now refl e.act.fails.same e.act.legal;
+      run = run_stays _ g.F.Fleet g.F.Wire.Wire.told _ c.args.fleet.now old c.begin.new.player c.args.wires.now refl c.requires.wires e.act.unheard e.act.legal;
       full = λ h. absurd (cc (h, p.2, e.act.fails.memory));
       trimmed = e.trimmed;
     })

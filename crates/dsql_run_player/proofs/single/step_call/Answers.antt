@@ -1,11 +1,12 @@
 use Rattle.std.proofs.Common.{◌≡◌, ◌∙◌, true, false, is_some, sym}
-use Rattle.std.proofs.lemmas.Result.{on_ok_weaker}
+use Rattle.std.proofs.lemmas.Result.{err_from_is_err_and, on_ok_weaker}
 use Rattle.dsql_engine_laws.specs.history.Readers.Clients.{call_of}
 use Rattle.dsql_engine_laws.specs.history.Rules.Flights.{is_in_flight}
 use Rattle.dsql_engine_laws.specs.laws_ends.Over.{may_move}
 use Rattle.dsql_run_wires.specs.Seats.{seat}
 use Rattle.dsql_run_player.proofs.Singles.{blocked_steps, parked_ready}
-use Rattle.dsql_run_player.proofs.Stepped.{answered_steps, woken_steps, woken_wires}
+use Rattle.dsql_run_player.proofs.Stepped.{answered_steps, wires_stay, woken_steps, woken_wires}
+use Rattle.dsql_run_player.proofs.Taken.{at_err}
 use Rattle.dsql_run_player.proofs.single.step_call.Goals as goal
 
 pub make_call-requires-clause-leave : goal.make_call-requires-clause-leave
@@ -42,3 +43,9 @@ returns-clause-carries g c = λ m at.
 
 pub returns-clause-run : goal.returns-clause-run
 returns-clause-run g c = woken_wires g.W.Wire.told c.in_ok-wake.field-0 _ c.args.player.now c.wake.new.self c.args.wires.now c.in_ok-wake.ensures.act
+
+pub returns-in_err-wake-clause-run : goal.returns-in_err-wake-clause-run
+returns-in_err-wake-clause-run g c =
+    let q = err_from_is_err_and c.from_residual.result c.from_residual.ensures.1 in
+    let act = c.in_err-wake.ensures.act in
+    wires_stay g.W.Wire.told c.from_residual.result c.args.player.now c.wake.new.self c.args.wires.now (at_err c.from_residual.result q.0 q.1) act.unheard act.legal

@@ -1,5 +1,4 @@
 use Rattle.dsql_run_wires.proofs.Asking.{connect_fits, connected_fits, connected_tells}
-use Rattle.dsql_run_wires.proofs.Telling.{at_most_one}
 use Rattle.dsql_run_wires.proofs.laws.a_connect_opens_a_wire.Goals as goal
 
 pub returns-clause-fits : goal.returns-clause-fits
@@ -10,6 +9,3 @@ returns-clause-wires g c = connected_fits g.W.Wire.told
 
 pub returns-clause-tells : goal.returns-clause-tells
 returns-clause-tells g c = connected_tells g.W.Wire.told
-
-pub returns-clause-unheard : goal.returns-clause-unheard
-returns-clause-unheard g c = λ n answer past fleet slots heard. at_most_one g.W.Wire.told n answer fleet past slots heard

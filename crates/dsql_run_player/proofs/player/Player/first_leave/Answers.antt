@@ -5,8 +5,8 @@ use Rattle.dsql_run_player.specs.Playing.{Playing}
 use Rattle.dsql_run_player.proofs.Taken.{core_looked, first_none, first_sent, found, player_of}
 use Rattle.dsql_run_player.proofs.player.Player.first_leave.Goals as goal
 
-pub returns-in-Ok : goal.returns-in-Ok
-returns-in-Ok c =
+pub returns : goal.returns
+returns c =
     let s = c.self.inside in
     let old : Playing = c.args.self.now in
     let new : Playing = player_of c.chore.new.self s.seats s.released in

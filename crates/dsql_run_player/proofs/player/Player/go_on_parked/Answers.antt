@@ -8,7 +8,7 @@ use Rattle.dsql_engine_laws.specs.laws_steps.Groups.{most_events}
 use Rattle.dsql_run_wires.specs.WiresFit.{WiresFit}
 use Rattle.dsql_run_player.specs.Playing.{IsAt}
 use Rattle.dsql_run_player.specs.Stepping.{Wakes}
-use Rattle.dsql_run_player.proofs.Fitting.{fits_unheard, plans_unheard}
+use Rattle.dsql_run_player.proofs.Fitting.{fits_unheard, plans_unheard, stops_unheard}
 use Rattle.dsql_run_player.proofs.Ran.{answer_after, course_then, itself_next, keeps_from, moves_to_go}
 use Rattle.dsql_run_player.proofs.player.Player.go_on_parked.Goals as goal
 
@@ -36,7 +36,7 @@ returns-in_err-wake g c =
       steps = tt;
       grows = tt;
       course = tt;
-      run = record { ready = tt; wires = tt; plans = tt; told = tt; legal = act.legal };
+      run = record { ready = tt; wires = tt; plans = tt; told = tt; stops = stops_unheard g.W.Wire.told c.args.self.now.past c.wake.new.self.past c.args.wires.now act.unheard; legal = act.legal };
       fails = record { same = act.fails.same; memory = rw p.2 act.fails.memory };
       trimmed = c.wake.ensures.trimmed;
     })
@@ -53,7 +53,7 @@ returns-then-branch g c =
       steps = itself_next old new c.args.client c.requires.ready c.requires.no_chore c.requires.first c.requires.busy c.requires.parked wakes;
       grows = c.in_ok-wake.ensures.grows c.if-branch.true;
       course = c.in_ok-wake.ensures.course;
-      run = record { ready = act.ready; wires = fits_unheard g.W.Wire.told old.past new.past c.args.wires.now act.unheard; plans = plans_unheard g.W.Wire.told old.past new.past c.args.wires.now act.unheard; told = act.unheard.told; legal = act.legal };
+      run = record { ready = act.ready; wires = fits_unheard g.W.Wire.told old.past new.past c.args.wires.now act.unheard; plans = plans_unheard g.W.Wire.told old.past new.past c.args.wires.now act.unheard; told = act.unheard.told; stops = tt; legal = act.legal };
       fails = record { same = tt; memory = tt };
       trimmed = c.wake.ensures.trimmed;
     }

@@ -9,11 +9,15 @@ use Rattle.dsql_engine_laws.specs.history.Legal.{Legal}
 use Rattle.dsql_engine.specs.Core.{Core}
 use Rattle.dsql_engine_laws.specs.going.Stepping.{GoesOnOrRests}
 use Rattle.dsql_run_wires.specs.Seats.{seat}
+use Rattle.dsql_run_wires.specs.Stopped.{HearsAtMost}
+use Rattle.dsql_run_wires.proofs.Stopped.{nothing_untaken}
 use Rattle.dsql_engine_laws.specs.laws_steps.Groups.{after_heard, most_events}
 use Rattle.dsql_run_player.specs.Playing.{Playing}
 use Rattle.dsql_run_player.specs.Stepping.{leave_of}
 use Rattle.dsql_run_player.proofs.Answering.{HasLeave, leave_at, wire_takes}
-use Rattle.dsql_run_player.proofs.Asked.{Asks, Given, answer_heard, asks_course, asks_grows, asks_hears, asks_plans, asks_ready, asks_told, asks_wires, given_again, had_none}
+use Rattle.dsql_run_player.proofs.Asked.{Asks, Given, answer_heard, asks_course, asks_grows, asks_hears, asks_plans, asks_ready, asks_told, asks_wires, call_untaken, given_again, had_none}
+use Rattle.dsql_run_player.proofs.Fitting.{stops_there, stops_unheard}
+use Rattle.dsql_run_player.proofs.Hearing.{hears_none}
 use Rattle.dsql_run_player.proofs.player.Player.make_call.Goals as goal
 
 pub unreachable-requires : goal.unreachable-requires
@@ -37,7 +41,7 @@ returns-in_err-permit g c =
       hears = rw p.1 tt;
       grows = rw p.1 tt;
       course = rw p.1 tt;
-      run = record { ready = rw p.1 tt; wires = rw p.1 tt; plans = rw p.1 tt; told = rw p.1 tt; legal = subst (λ (H : List Event). Legal H) (sym past) c.requires.ready.legal };
+      run = record { ready = rw p.1 tt; wires = rw p.1 tt; plans = rw p.1 tt; told = rw p.1 tt; stops = rw p.1 (stops_unheard g.W.Wire.told c.args.self.now.past c.self.inside.engine.past c.args.wires.now (hears_none c.args.self.now.past c.self.inside.engine.past past)); legal = subst (λ (H : List Event). Legal H) (sym past) c.requires.ready.legal };
       fails = record { same = rw p.1 past; memory = rw p.1 p.2 };
       trimmed = ap (λ (q : Playing). q.trimmed) c.self.view_is;
     }
@@ -57,7 +61,7 @@ returns-in_err-heard g c =
       hears = rw p.1 tt;
       grows = rw p.1 tt;
       course = rw p.1 tt;
-      run = record { ready = rw p.1 tt; wires = rw p.1 tt; plans = rw p.1 tt; told = rw p.1 tt; legal = subst (λ (H : List Event). Legal H) (sym past) c.requires.ready.legal };
+      run = record { ready = rw p.1 tt; wires = rw p.1 tt; plans = rw p.1 tt; told = rw p.1 tt; stops = rw p.1 (stops_there g.W.Wire.told c.args.self.now.past c.self.inside.engine.past c.args.wires.now c.perform.new.self past (nothing_untaken g.W.Wire.told c.args.self.now.past c.args.wires.now c.perform.new.self c.in_err-heard.ensures.err)); legal = subst (λ (H : List Event). Legal H) (sym past) c.requires.ready.legal };
       fails = record { same = rw p.1 past; memory = rw p.1 p.2 };
       trimmed = ap (λ (q : Playing). q.trimmed) c.self.view_is;
     }
@@ -75,14 +79,21 @@ heard-requires-clause-room g c = subst (λ (p : Playing). length p.past < most_e
 
 pub returns-in_err-next : goal.returns-in_err-next
 returns-in_err-next g c =
+    let old = c.args.self.now in
     let past = ap (λ (p : Playing). p.past) c.self.view_is in
+    let same = ap (λ (x : Core). x.past) c.in_err-next.ensures.err ∙ past in
+    let seen = ap (λ (p : Playing). (seat p.seats c.args.client).permit) c.self.view_is in
+    let has : HasLeave old c.args.client c.in_ok-permit.permit = leave_at old c.args.client c.in_ok-permit.permit c.requires.ready (sym seen ∙ (sym c.take_leave.ensures.permit ∙ (c.in-Some.is ∙ ap (λ (l : Permit). Some l) (sym c.in_ok-permit.ensures.ok)))) in
+    let stops : HearsAtMost g.W.Wire.told old.past old.past c.args.wires.now c.perform.new.self =
+    call_untaken g.W.Wire.told old c.args.client c.in_ok-permit.permit c.in_ok-heard.heard c.args.wires.now c.perform.new.self c.requires.ready has c.requires.wires
+    (record { entry = c.in_ok-heard.ensures.entry; others = c.perform.ensures.others; noted = c.in_ok-heard.ensures.noted }) c.in_ok-heard.ensures.fits in
     let p = err_from_is_err_and c.from_residual-in_err-next.result c.from_residual-in_err-next.ensures.1 in
     record {
       hears = rw p.1 tt;
       grows = rw p.1 tt;
       course = rw p.1 tt;
-      run = record { ready = rw p.1 tt; wires = rw p.1 tt; plans = rw p.1 tt; told = rw p.1 tt; legal = c.heard.ensures.legal };
-      fails = record { same = rw p.1 (ap (λ (x : Core). x.past) c.in_err-next.ensures.err ∙ past); memory = rw p.1 p.2 };
+      run = record { ready = rw p.1 tt; wires = rw p.1 tt; plans = rw p.1 tt; told = rw p.1 tt; stops = rw p.1 (stops_there g.W.Wire.told old.past c.heard.new.self.past c.args.wires.now c.perform.new.self same stops); legal = c.heard.ensures.legal };
+      fails = record { same = rw p.1 same; memory = rw p.1 p.2 };
       trimmed = c.heard.ensures.trimmed ∙ ap (λ (q : Playing). q.trimmed) c.self.view_is;
     }
 
@@ -131,6 +142,7 @@ returns g c =
         wires = asks_wires g.W.Wire.told permit e next me old new c.args.wires.now c.perform.new.self a;
         plans = asks_plans g.W.Wire.told permit e next me old new c.args.wires.now c.perform.new.self a;
         told = asks_told g.W.Wire.told permit e next me old new c.args.wires.now c.perform.new.self a;
+        stops = tt;
         legal = c.heard.ensures.legal;
       };
       fails = record { same = tt; memory = tt };

@@ -2,11 +2,12 @@ use Rattle.std.proofs.Common.{◌≡◌, [], is_some}
 use Rattle.std.proofs.lemmas.Result.{err_from_is_err_and, on_ok_weaker}
 use Rattle.dsql_engine_laws.specs.journal.declared.entry.Permit.{Permit}
 use Rattle.dsql_engine_laws.specs.tenure.Judged.{answered}
-use Rattle.dsql_run_wires.proofs.Asking.{connect_fits, no_wire}
+use Rattle.dsql_run_wires.proofs.Asking.{no_wire}
+use Rattle.dsql_run_wires.proofs.Staying.{none_changed}
 use Rattle.dsql_run_player.specs.Acts.{TakesAnswer}
 use Rattle.dsql_run_player.proofs.Housekeeping.{made_so}
 use Rattle.dsql_run_player.proofs.Keeping.{run_unasked}
-use Rattle.dsql_run_player.proofs.Opened.{opened_run}
+use Rattle.dsql_run_player.proofs.Opened.{connect_answered, opened_run}
 use Rattle.dsql_run_player.proofs.Taken.{at_err}
 use Rattle.dsql_run_player.proofs.player.Player.open.Goals as goal
 
@@ -20,12 +21,7 @@ connect_wire-requires-clause-opens g c = λ κs h. ((made_so c.args.self.now c.a
 
 pub hear-requires : goal.hear-requires
 hear-requires g c = record {
-  answered = record {
-    permit = c.args.permit;
-    to_make = c.requires.to_make;
-    answer = c.in_ok-heard.ensures.heard.entry;
-    fits = connect_fits c.args.self.now.past c.args.permit c.in_ok-heard.heard ((made_so c.args.self.now c.args.permit c.requires.to_make).first c.requires.opens).1 c.in_ok-heard.ensures.heard;
-  };
+  answered = connect_answered c.args.self.now c.args.permit c.in_ok-heard.heard c.requires.to_make c.requires.opens c.in_ok-heard.ensures.heard;
 }
 
 pub returns-clause-taken : goal.returns-clause-taken
@@ -45,11 +41,12 @@ returns-clause-run g c =
     opened_run g.F.Fleet g.F.Wire.Wire.told c.hear.result c.args.fleet.now c.connect_wire.new.fleet c.args.permit e p now c.args.wires.now c.connect_wire.new.wires c.requires.to_make
     c.requires.opens c.requires.wires
     (record { answers = c.in_ok-heard.ensures.heard; others = c.in_ok-heard.ensures.others; wire = c.in_ok-heard.ensures.wire; unplanned = c.in_ok-heard.ensures.unplanned; told = c.in_ok-heard.ensures.asked; able = c.connect_wire.ensures.able })
+    (connect_answered p c.args.permit e c.requires.to_make c.requires.opens c.in_ok-heard.ensures.heard)
     (on_ok_weaker c.hear.result (λ (takes : (permit : Permit) → e ≡ answered permit e.answer → TakesAnswer permit e p now). takes c.args.permit c.in_ok-heard.ensures.heard.entry) c.hear.ensures.takes)
     c.hear.ensures.fails.same c.hear.ensures.legal
 
 pub returns-in_err-heard-clause-run : goal.returns-in_err-heard-clause-run
 returns-in_err-heard-clause-run g c =
     let q = err_from_is_err_and c.from_residual.result c.from_residual.ensures.1 in
-    run_unasked [] g.F.Fleet g.F.Wire.Wire.told c.from_residual.result c.args.fleet.now c.connect_wire.new.fleet c.args.self.now c.args.wires.now c.connect_wire.new.wires (at_err c.from_residual.result q.0 q.1) c.in_err-heard.ensures.unasked
-    c.connect_wire.ensures.able c.requires.to_make.ready.legal
+    run_unasked [] g.F.Fleet g.F.Wire.Wire.told c.from_residual.result c.args.fleet.now c.connect_wire.new.fleet c.args.self.now c.args.wires.now c.connect_wire.new.wires (at_err c.from_residual.result q.0 q.1) c.requires.wires c.in_err-heard.ensures.unasked
+    (none_changed g.F.Wire.Wire.told c.args.wires.now c.connect_wire.new.wires c.in_err-heard.ensures.same) c.connect_wire.ensures.able c.requires.to_make.ready.legal

@@ -1,18 +1,49 @@
-use Rattle.std.proofs.Common.{is_some}
-use Rattle.std.proofs.lemmas.Result.{on_ok_weaker}
-use Rattle.dsql_run_player.proofs.Fitting.{untelling}
-use Rattle.dsql_run_player.specs.Keeping.{AsksWire}
-use Rattle.dsql_run_player.proofs.Tidied.{tidied_run}
+use Rattle.std.proofs.Common.{◌≡◌, [], is_some, refl}
+use Rattle.std.proofs.lemmas.Result.{err_from_is_err_and, on_ok_weaker}
+use Rattle.dsql_engine_laws.specs.journal.declared.entry.Permit.{Permit}
+use Rattle.dsql_engine_laws.specs.tenure.Judged.{answered}
+use Rattle.dsql_run_wires.proofs.Asking.{wire_sends}
+use Rattle.dsql_run_player.specs.Acts.{TakesAnswer}
+use Rattle.dsql_run_player.proofs.Housekeeping.{made_so}
+use Rattle.dsql_run_player.proofs.Keeping.{able_same, run_unasked}
+use Rattle.dsql_run_player.proofs.Taken.{at_err}
+use Rattle.dsql_run_player.proofs.Tidied.{AsksWire, asks_wire, tidied_run}
 use Rattle.dsql_run_player.proofs.player.Player.tidy.Goals as goal
 
-pub ask-requires-clause-wires : goal.ask-requires-clause-wires
-ask-requires-clause-wires g c = untelling g.F.Wire.Wire.told (is_some (g.F.Fleet.told c.args.fleet.now)) c.args.self.now.past c.args.wires.now c.requires.wires
+pub perform-requires : goal.perform-requires
+perform-requires g c =
+    let p = c.args.self.now in
+    wire_sends g.F.Wire.Wire.told (is_some (g.F.Fleet.told c.args.fleet.now)) p.past c.args.permit c.args.wires.now c.requires.wires (made_so p c.args.permit c.requires.to_make).sent c.requires.opens
+
+pub hear-requires : goal.hear-requires
+hear-requires g c =
+    let asks : AsksWire g.F.Wire.Wire.told c.args.permit c.in_ok-heard.heard c.args.self.now c.args.wires.now c.perform.new.self =
+    asks_wire g.F.Wire.Wire.told (is_some (g.F.Fleet.told c.args.fleet.now)) c.args.permit c.in_ok-heard.heard c.args.self.now c.args.wires.now c.perform.new.self c.requires.to_make c.requires.wires
+    (record { entry = c.in_ok-heard.ensures.entry; others = c.perform.ensures.others; noted = c.in_ok-heard.ensures.noted }) c.in_ok-heard.ensures.fits in
+    record { answered = asks.answered }
 
 pub returns-clause-taken : goal.returns-clause-taken
 returns-clause-taken g c =
-    on_ok_weaker c.ask.result (λ (a : AsksWire g.F.Wire.Wire.told c.args.permit c.args.self.now c.ask.new.self c.args.wires.now c.ask.new.wires). record { entry = a.entry; takes = a.takes }) c.ask.ensures.asks
+    let e = c.in_ok-heard.heard in
+    let p = c.args.self.now in
+    let now = c.hear.new.self in
+    on_ok_weaker c.hear.result
+    (λ (takes : (permit : Permit) → e ≡ answered permit e.answer → TakesAnswer permit e p now). record { entry = e; takes = takes c.args.permit c.in_ok-heard.ensures.entry })
+    c.hear.ensures.takes
 
 pub returns-clause-run : goal.returns-clause-run
 returns-clause-run g c =
-    tidied_run g.F.Fleet g.F.Wire.Wire.told c.ask.result c.args.fleet.now c.args.permit c.args.self.now c.ask.new.self c.args.wires.now c.ask.new.wires c.requires.to_make c.requires.opens
-    c.requires.shuts c.requires.wires c.ask.ensures.asks c.ask.ensures.fails.same c.ask.ensures.legal
+    let e = c.in_ok-heard.heard in
+    let p = c.args.self.now in
+    let now = c.hear.new.self in
+    tidied_run g.F.Fleet g.F.Wire.Wire.told c.hear.result c.args.fleet.now c.args.permit e p now c.args.wires.now c.perform.new.self c.requires.opens c.requires.shuts c.requires.wires
+    (asks_wire g.F.Wire.Wire.told (is_some (g.F.Fleet.told c.args.fleet.now)) c.args.permit e p c.args.wires.now c.perform.new.self c.requires.to_make c.requires.wires
+    (record { entry = c.in_ok-heard.ensures.entry; others = c.perform.ensures.others; noted = c.in_ok-heard.ensures.noted }) c.in_ok-heard.ensures.fits)
+    (on_ok_weaker c.hear.result (λ (takes : (permit : Permit) → e ≡ answered permit e.answer → TakesAnswer permit e p now). takes c.args.permit c.in_ok-heard.ensures.entry) c.hear.ensures.takes)
+    c.hear.ensures.fails.same c.hear.ensures.legal
+
+pub returns-in_err-heard-clause-run : goal.returns-in_err-heard-clause-run
+returns-in_err-heard-clause-run g c =
+    let q = err_from_is_err_and c.from_residual.result c.from_residual.ensures.1 in
+    run_unasked [] g.F.Fleet g.F.Wire.Wire.told c.from_residual.result c.args.fleet.now c.args.fleet.now c.args.self.now c.args.wires.now c.perform.new.self (at_err c.from_residual.result q.0 q.1) c.requires.wires refl c.in_err-heard.ensures.err
+    (able_same g.F.Fleet c.args.fleet.now) c.requires.to_make.ready.legal
