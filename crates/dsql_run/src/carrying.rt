@@ -14,7 +14,8 @@ ghost use Rattle.dsql_run_outcome.specs.run_player.Planned.{plans_of};
 ghost use Rattle.dsql_run_outcome.specs.run_player.Playing.{IsAt};
 ghost use Rattle.dsql_run_outcome.specs.laws_steps.Groups.{most_events};
 ghost use Rattle.dsql_run_outcome.specs.stream.Faults.{CountsFaults};
-ghost use Rattle.dsql_run_outcome.specs.run_wires.Told.{FleetTells, TellsAtMost};
+ghost use Rattle.dsql_run_outcome.specs.run_wires.Stopped.{RecordsAtMost};
+ghost use Rattle.dsql_run_outcome.specs.run_wires.Told.{FleetTells};
 
 use crate::showing::show_history;
 use dsql_run_outcome::{Fleet, Line, Player, Shown, Sink, Stop, Wires, carry_line, stop_of_halt};
@@ -43,8 +44,8 @@ pub(crate) fn play_line<K: Sink, F: Fleet>(
     ensures told { ran_out result ≡ true
         → FleetTells F.Wire.told (plans_of line player.old.past) (F.told fleet.old)
         (F.told fleet.new) player.old.past player.new.past wires.old wires.new }
-    ensures asked { TellsAtMost F.Wire.told (plans_of line player.old.past) (F.told fleet.old)
-        (F.told fleet.new) player.old.past player.new.past wires.old }
+    ensures asked { RecordsAtMost F.Wire.told (plans_of line player.old.past) (F.told fleet.old)
+        (F.told fleet.new) player.old.past player.new.past wires.old wires.new }
     ensures writes { WritesLine result player.old.past player.new.past (K.written output.old) shown.new
         (K.written output.new) }
     ensures trimmed { player.new.trimmed ≡ player.old.trimmed }

@@ -1,13 +1,16 @@
 //! The end of a run.
-ghost use Rattle.std.specs.Prelude.{◌≡◌, ◌≤◌, true, false, length, OnOk, OnErr, is_some};
+ghost use Rattle.std.specs.Prelude.{◌≡◌, ◌≤◌, ℕ, true, false, length, reverse, OnOk, OnErr, is_some};
 ghost use Rattle.dsql_run_outcome.specs.history.Legal.{Legal};
+ghost use Rattle.dsql_run_outcome.specs.history.Readers.Journals.{journal};
 ghost use Rattle.dsql_run_outcome.specs.follows.Moments.{Moment};
 ghost use Rattle.dsql_run_outcome.specs.Playing.{IsOver, RunsOn};
 ghost use Rattle.dsql_run_outcome.specs.Runs.{Between, ran_out};
 ghost use Rattle.dsql_run_outcome.specs.run_player.Carried.{CarriesEnd, StopsInEnd};
 ghost use Rattle.dsql_run_outcome.specs.run_player.Playing.{IsAt};
 ghost use Rattle.dsql_run_outcome.specs.laws_steps.Groups.{most_events};
-ghost use Rattle.dsql_run_outcome.specs.run_wires.Told.{FleetTellsOn, LeavesAtMost, SameAsked};
+ghost use Rattle.dsql_run_outcome.specs.run_wires.Stopped.{GivesAllBack, RecordsJournal};
+ghost use Rattle.dsql_run_outcome.specs.run_wires.Told.{FleetTellsOn, retired_from};
+ghost use Rattle.dsql_run_outcome.specs.run_wires.WiresFit.{is_wired, slot};
 
 use dsql_run_outcome::{Fleet, Player, Stop, Wires, carry_end, retire_all, stop_of_halt};
 
@@ -20,7 +23,8 @@ fn end_run<F: Fleet>(player: &mut Player, wires: Wires<F::Wire>, fleet: &mut F) 
     ensures over { OnOk result (IsOver player.new.past) }
     ensures told { OnOk result (FleetTellsOn F.Wire.told (F.told fleet.old)
         (F.told fleet.new) player.old.past player.new.past wires) }
-    ensures asked { OnErr result (LeavesAtMost F.Wire.told (F.told fleet.old)
+    ensures unwired { OnOk result ((c : ℕ) → is_wired (journal player.new.past c) ≡ false) }
+    ensures back { OnErr result (GivesAllBack F.Wire.told (F.told fleet.old)
         (F.told fleet.new) player.old.past player.new.past wires) }
     ensures trimmed { player.new.trimmed ≡ player.old.trimmed }
     ensures full { result ≡ Err Stop.Full → most_events ≤ length player.new.past }
@@ -54,9 +58,12 @@ pub(crate) fn close<F: Fleet>(
     ensures over { ran_out result ≡ true → IsOver player.new.past }
     ensures told { ran_out result ≡ true
         → FleetTellsOn F.Wire.told (F.told fleet.old) (F.told fleet.new) player.old.past player.new.past wires }
-    ensures asked { ran_out played ≡ true → ran_out result ≡ false
-        → LeavesAtMost F.Wire.told (F.told fleet.old) (F.told fleet.new) player.old.past player.new.past wires }
-    ensures unasked { ran_out played ≡ false → SameAsked (F.told fleet.old) (F.told fleet.new) }
+    ensures unwired { ran_out result ≡ true → (c : ℕ) → is_wired (journal player.new.past c) ≡ false }
+    ensures back { ran_out played ≡ true → ran_out result ≡ false
+        → GivesAllBack F.Wire.told (F.told fleet.old) (F.told fleet.new) player.old.past player.new.past wires }
+    ensures given_back { ran_out played ≡ false → F.told fleet.new
+        ≡ retired_from F.Wire.told (reverse wires) (F.told fleet.old) }
+    ensures exact { ran_out played ≡ false → (c : ℕ) → RecordsJournal F.Wire.told (slot wires c) }
     ensures stays { ran_out played ≡ false → player.new.past ≡ player.old.past }
     ensures trimmed { player.new.trimmed ≡ player.old.trimmed }
     ensures full { result ≡ Err Stop.Full → most_events ≤ length player.new.past }

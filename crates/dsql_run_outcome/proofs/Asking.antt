@@ -1,16 +1,11 @@
--- What the fleet was asked for in a run, and which faults there were. The argument goes through what the fleet
--- records and through the stops.
-use Rattle.std.proofs.Common.{◌≡◌, true, false, List, [], ◌∷◌, ◌++◌, Option, Some, None, refl, sym, ◌∙◌, ap, subst, inl, inr, arith}
+-- What the fleet records as a run begins, and which faults there were. The argument goes through the stops.
+use Rattle.std.proofs.Common.{◌≡◌, true, false, [], ◌∷◌, ◌++◌, Option, Some, None, refl, ◌∙◌, ap, subst, inl, inr}
 use Rattle.std.specs.Prelude.{Result, Ok, Err}
 use Rattle.std.proofs.lemmas.List.{append-nil}
 use Rattle.dsql_history.specs.driver.declared.caps.Caps.{Caps}
-use Rattle.dsql_history.specs.driver.Wires.{FleetTold, WireTold}
-use Rattle.dsql_history.specs.declared.event.Event.{Event}
+use Rattle.dsql_history.specs.driver.Wires.{FleetTold}
 use Rattle.dsql_history.specs.declared.event.Event.TheVariants.{Run}
-use Rattle.dsql_wire.specs.Journaled.{Journaled}
-use Rattle.dsql_run_wires.specs.Plans.{Made}
-use Rattle.dsql_run_wires.specs.Told.{with_told, AsksAtMost, SameAsked, retired_from}
-use Rattle.dsql_run_wires.proofs.Telling.{no_more, same_both, retired_same}
+use Rattle.dsql_run_wires.specs.Told.{with_told}
 use Rattle.dsql_script_source.specs.Stops.{is_read_fault, no_read_failed}
 use Rattle.dsql_script_source.specs.declared.stop.Stop.{Stop}
 use Rattle.dsql_script_source.specs.declared.stop.Stop.TheVariants.{Read, Write, Memory, Refused, Full}
@@ -23,18 +18,6 @@ none_told (Some told) caps =
     ap (λ cs. Some (record { connects = cs; plans = told.plans ++ []; retired = told.retired ++ [] })) (append-nil told.connects)
     ∙ ap (λ ps. Some (record { connects = told.connects; plans = ps; retired = told.retired ++ [] })) (append-nil told.plans)
     ∙ ap (λ rs. Some (record { connects = told.connects; plans = told.plans; retired = rs })) (append-nil told.retired)
-
--- A fleet that recorded exactly a history was asked for nothing more.
-pub asks_of_told : (made : List Made) (before after : Option FleetTold) (past : List Event) → after ≡ with_told made before past → AsksAtMost made before after past
-asks_of_told made before after past is = record {
-  more = [];
-  few = omega arith;
-  asked = subst (λ (told : Option FleetTold). SameAsked told after) (is ∙ no_more (with_told made before past)) (same_both after);
-}
-
--- The wires that are left are given back, and nothing more is asked for.
-pub given_back : {W : Type 0} (tells : W → Option WireTold) (slots : List (Option (Journaled W))) (before after : Option FleetTold) → after ≡ retired_from tells slots before → SameAsked before after
-given_back tells slots before after is = subst (λ (told : Option FleetTold). SameAsked before told) (sym is) (retired_same tells slots before)
 
 read_ran : (r : Result (Unit {0}) Stop) → no_read_failed r ≡ true → ran_out r ≡ true
 read_ran (Ok done) h = refl

@@ -1,14 +1,18 @@
 -- What the history of a run follows if the run was ended, and where it was cut otherwise. The argument joins
 -- what stopped the lines, what stopped the end, and the last stop.
-use Rattle.std.proofs.Common.{◌≡◌, ◌⊎◌, ℕ, ◌≤◌, Bool, true, false, List, Option, length, refl, ap, sym, subst, ◌∙◌, inl, inr}
-use Rattle.std.specs.Prelude.{Result, Ok, Err}
+use Rattle.std.proofs.Common.{◌≡◌, ◌⊎◌, ℕ, ◌≤◌, Bool, true, false, List, Option, None, length, refl, ap, sym, subst, ◌∙◌, inl, inr}
+use Rattle.std.specs.Prelude.{reverse, Result, Ok, Err}
 use Rattle.dsql_history.specs.driver.declared.caps.Caps.{Caps}
 use Rattle.dsql_history.specs.driver.Wires.{FleetTold}
 use Rattle.dsql_history.specs.declared.event.Event.{Event}
+use Rattle.dsql_history.specs.Readers.Journals.{journal}
 use Rattle.dsql_follows.specs.Moments.{Moment}
 use Rattle.dsql_follows.specs.Follows.{after, told}
 use Rattle.dsql_run_wires.specs.Extends.{Extends}
-use Rattle.dsql_run_wires.specs.Told.{FleetTellsOn, LeavesAtMost, SameAsked, with_told}
+use Rattle.dsql_run_wires.specs.Stopped.{GivesAllBack, GotAllBack, RecordsJournal, with_answer}
+use Rattle.dsql_run_wires.specs.Told.{FleetTellsOn, retired_from, with_told}
+use Rattle.dsql_run_wires.specs.WiresFit.{is_wired, slot}
+use Rattle.dsql_run_wires.proofs.GivenBack.{got_all_back, none_to_give}
 use Rattle.dsql_run_player.specs.Planned.{plans_made}
 use Rattle.dsql_run_player.specs.Carried.{CarriesEnd, StopsInEnd}
 use Rattle.dsql_run_player.specs.Playing.{Playing, IsAt}
@@ -22,7 +26,6 @@ use Rattle.dsql_run_outcome.specs.Followed.{FollowsAll}
 use Rattle.dsql_run_outcome.specs.Lent.{Lent, StopsAsking}
 use Rattle.dsql_run_outcome.specs.Runs.{CutAtEnd, CutAtLine, Finishes, IsLinesEnd, Wrote, is_write_fault, ran_out, wanted_memory}
 use Rattle.dsql_run_outcome.specs.Playing.{LinesPlayed, ScriptPlayed}
-use Rattle.dsql_run_outcome.proofs.Asking.{asks_of_told}
 use Rattle.dsql_run_outcome.proofs.Following.{all_planning, end_follows, end_planning}
 use Rattle.dsql_run_outcome.proofs.Saying.{plays_first}
 use Rattle.dsql_run_outcome.proofs.Finished.{shows_of_wrote, wrote_older}
@@ -108,11 +111,13 @@ ended_follows played ended final before left k asked run rest past w mid lent e 
     let through = played_ran played ended final rest past e ran in
     end_follows run l.lines l.parts rest.past past (l.follows through) (e.carries ran (after run l.parts) (l.at through))
 
--- What the fleet was asked for as a run was ended.
+-- What the fleet records as a run was ended, or as its wires were only given back.
 pub record EndsAsking {W : Type 0} (played ended : Result (Unit {0}) Stop) (lent : Lent W) (after : Option FleetTold) (rest past : List Event) : Type 0 where
   pub end : ran_out ended ≡ true → FleetTellsOn lent.heard lent.now after rest past lent.slots
-  pub left : ran_out played ≡ true → ran_out ended ≡ false → LeavesAtMost lent.heard lent.now after rest past lent.slots
-  pub given_back : ran_out played ≡ false → SameAsked lent.now after
+  pub unwired : ran_out ended ≡ true → (c : ℕ) → is_wired (journal past c) ≡ false
+  pub left : ran_out played ≡ true → ran_out ended ≡ false → GivesAllBack lent.heard lent.now after rest past lent.slots
+  pub given_back : ran_out played ≡ false → after ≡ retired_from lent.heard (reverse lent.slots) lent.now
+  pub exact : ran_out played ≡ false → (c : ℕ) → RecordsJournal lent.heard (slot lent.slots c)
 
 ended_short : {W : Type 0} (played ended final : Result (Unit {0}) Stop) (before left : Option (List ℕ)) (k : ℕ) (asked : Option Caps) (run : Event) (rest : Playing) (past : List Event) (w mid : Option (List ℕ)) (lent : Lent W)
     (told_after : Option FleetTold) → Ends played ended final rest past → EndsAsking played ended lent told_after rest.past past
@@ -125,12 +130,21 @@ ended_short played ended final before left k asked run rest past w mid lent told
         record {
           made = plans_made run l.parts;
           stops = end_planning run l.lines l.parts rest.past past (l.follows ran) (e.stops ran out (after run l.parts) (l.at ran));
-          asks = record { more = leaves.more; few = leaves.few; asked = leaves.asked (plans_made run l.parts) lent.first (l.told ran) };
+          untaken = leaves.untaken;
+          may = leaves.may;
+          records = leaves.back (plans_made run l.parts) lent.first (l.told ran);
         }
     by false short =
         let s = l.short short in
+        let recorded : List Event = with_answer s.untaken rest.past in
         subst (λ h. StopsAsking run l.lines h lent.first told_after) (sym (e.stays short))
-        (record { made = s.made; stops = s.stops; asks = record { more = s.more; few = s.few; asked = subst (λ told. SameAsked told told_after) s.told (a.given_back short) } })
+        (record {
+          made = s.made;
+          stops = s.stops;
+          untaken = s.untaken;
+          may = s.may;
+          records = subst (λ told. GotAllBack s.made lent.first told recorded) (sym (a.given_back short)) (got_all_back lent.heard s.made lent.first lent.now recorded lent.slots s.tells s.wires (a.exact short));
+        })
 
 either_short : {W : Type 0} (played ended final : Result (Unit {0}) Stop) (before left : Option (List ℕ)) (k : ℕ) (asked : Option Caps) (run : Event) (rest : Playing) (past : List Event) (w mid : Option (List ℕ)) (lent : Lent W)
     (told_after : Option FleetTold) → Ends played ended final rest past → EndsAsking played ended lent told_after rest.past past → (l : LinesPlayed played before left k asked run rest w mid lent)
@@ -143,9 +157,12 @@ either_short played ended final before left k asked run rest past w mid lent tol
         record {
           made = plans_made run all.0.played.parts;
           stops = all_planning run l.lines past all.0;
-          asks = asks_of_told (plans_made run all.0.played.parts) lent.first told_after past
+          untaken = None;
+          may = tt;
+          records = none_to_give (plans_made run all.0.played.parts) lent.first told_after past
               (subst (λ parts. told_after ≡ with_told (plans_made run parts) lent.first past) (sym all.1)
-              (a.end ran (plans_made run l.parts) lent.first (l.told (played_ran played ended final rest past e ran))));
+              (a.end ran (plans_made run l.parts) lent.first (l.told (played_ran played ended final rest past e ran))))
+              (a.unwired ran);
         }
     by false out = ended_short played ended final before left k asked run rest past w mid lent told_after e a l out
 

@@ -1,7 +1,7 @@
 -- The lines of a script that were played. The argument keeps what was carried out so far from line to line, and
 -- closes it at each way in which the lines can stop.
 use Rattle.std.proofs.Common.{◌≡◌, ℕ, ◌+◌, Bool, true, false, List, [], ◌∷◌, ◌++◌, length, Option, Some, None, refl, ap, sym, subst, ◌∙◌, arith, inl, inr}
-use Rattle.std.specs.Prelude.{reverse, IfErr, IfOk, IfSome, Result, Ok, Err}
+use Rattle.std.specs.Prelude.{reverse, is_some, IfErr, IfOk, IfSome, Result, Ok, Err}
 use Rattle.dsql_history.specs.driver.declared.caps.Caps.{Caps}
 use Rattle.dsql_history.specs.driver.Wires.{FleetTold}
 use Rattle.dsql_history.specs.declared.event.Event.{Event}
@@ -11,9 +11,10 @@ use Rattle.dsql_follows.specs.Moments.{Moment, just_begun}
 use Rattle.dsql_follows.specs.Sentences.{Part}
 use Rattle.dsql_follows.specs.Follows.{after, told}
 use Rattle.dsql_run_player.specs.Carried.{Carries, StopsInLine, part}
+use Rattle.dsql_wire.specs.Journaled.{Journaled}
 use Rattle.dsql_run_wires.specs.Plans.{Made}
-use Rattle.dsql_run_wires.specs.Told.{TellsAtMost, with_told}
-use Rattle.dsql_run_wires.proofs.Telling.{no_more}
+use Rattle.dsql_run_wires.specs.Stopped.{RecordsAtMost}
+use Rattle.dsql_run_wires.specs.WiresFit.{WiresFit}
 use Rattle.dsql_run_player.specs.Planned.{plans_made, plans_of}
 use Rattle.dsql_run_player.specs.Playing.{Playing, IsAt}
 use Rattle.dsql_script_reader.specs.declared.script.ScriptLine.{ScriptLine}
@@ -27,7 +28,7 @@ use Rattle.dsql_script_source.specs.Stops.{IsReadStop}
 use Rattle.dsql_script_source.specs.declared.stop.Stop.{Stop}
 use Rattle.dsql_script_source.specs.declared.stop.Stop.TheVariants.{Read, Write, Refused}
 use Rattle.dsql_run_outcome.specs.Followed.{FollowsSoFar}
-use Rattle.dsql_run_outcome.specs.Lent.{Lent, StopsTelling, TellsOf}
+use Rattle.dsql_run_outcome.specs.Lent.{Lent, StopsTelling, TellsOf, later}
 use Rattle.dsql_run_outcome.specs.Runs.{IsLinesEnd, IsPlayStop, is_write_fault, ran_out}
 use Rattle.dsql_run_outcome.specs.Playing.{HasHead, LinesPlayed}
 use Rattle.dsql_run_outcome.proofs.Following.{begun_at, begun_follows, blank, blank_is_skipped, line_follows, line_stops_planning, rest_planning, skipped_plans, told_blank}
@@ -97,22 +98,23 @@ play_ends_none _ kind over = over
 
 -- The ways in which the lines come to an end.
 
--- If the run stopped between two lines, the fleet recorded exactly what it had done.
+-- If the run stopped between two lines, the fleet and the wires recorded exactly what it had done.
 rest_telling : {W : Type 0} (caps : Caps) (lines : List Line) (parts : List Part) (past : List Event) (lent : Lent W) → FollowsSoFar (Run 1 caps) lines parts past → TellsOf lent (plans_made (Run 1 caps) parts) past
-    → StopsTelling (Run 1 caps) lines past lent.first lent.now
-rest_telling caps lines parts past lent f tells = record {
+    → WiresFit lent.heard (is_some lent.now) past lent.slots → StopsTelling (Run 1 caps) lines past lent
+rest_telling caps lines parts past lent f tells fit = record {
   made = plans_made (Run 1 caps) parts;
   stops = rest_planning caps lines parts past f;
-  more = [];
-  few = omega arith;
-  told = tells.fleet ∙ no_more (with_told (plans_made (Run 1 caps) parts) lent.first past);
+  untaken = None;
+  may = tt;
+  tells = tells;
+  wires = fit;
 }
 
 -- If the reader stops after these lines or comes to the script's end, these lines were played.
 pub lines_end : {W : Type 0} (r : Result (Unit {0}) Stop) (read : Result (Option ScriptLine) Stop) (before : Option (List ℕ)) (reader : Position) (left : Option (List ℕ)) (asked : Option Caps) (caps : Caps) (p : Playing) (w now : Option (List ℕ))
     (lent : Lent W) → (f : LinesSoFar read before reader left asked (Run 1 caps) p lent) → Plays r before left (saying asked f.lines) → (r ≡ Ok tt → IfSome left (λ bytes. bytes ≡ [])) → is_write_fault r ≡ false
-    → came read ≡ 0 → LinesPlayed r before left reader.reader.lines asked (Run 1 caps) p w now lent
-lines_end r read before reader left asked caps p w now lent f plays end unfailed none = record {
+    → came read ≡ 0 → WiresFit lent.heard (is_some lent.now) p.past lent.slots → LinesPlayed r before left reader.reader.lines asked (Run 1 caps) p w now lent
+lines_end r read before reader left asked caps p w now lent f plays end unfailed none fit = record {
   lines = f.lines;
   parts = f.parts;
   counted = λ over. let counted = f.counted in omega (arith, counted, none);
@@ -121,7 +123,7 @@ lines_end r read before reader left asked caps p w now lent f plays end unfailed
   follows = λ ran. f.follows;
   at = λ ran. f.at;
   told = λ ran. f.told;
-  short = λ out. rest_telling caps f.lines f.parts p.past lent f.follows f.told;
+  short = λ out. rest_telling caps f.lines f.parts p.past lent f.follows f.told fit;
   cut = λ failed. absurd (cc (sym (ap is_write_fault failed) ∙ unfailed));
 }
 
@@ -131,24 +133,25 @@ not_written _ kind = refl
 
 -- If no further line could be read, the lines before were played.
 pub read_ends : {W : Type 0} (stop : Stop) (before : Option (List ℕ)) (reader : Position) (left : Option (List ℕ)) (asked : Option Caps) (caps : Caps) (p : Playing) (w now : Option (List ℕ)) (lent : Lent W) → IsReadStop stop
-    → LinesSoFar (Err stop) before reader left asked (Run 1 caps) p lent → LinesPlayed (Err stop) before left reader.reader.lines asked (Run 1 caps) p w now lent
-read_ends stop before reader left asked caps p w now lent kind f =
-    lines_end (Err stop) (Err stop) before reader left asked caps p w now lent f f.reads (λ is. absurd (cc is)) (not_written stop kind) refl
+    → LinesSoFar (Err stop) before reader left asked (Run 1 caps) p lent → WiresFit lent.heard (is_some lent.now) p.past lent.slots
+    → LinesPlayed (Err stop) before left reader.reader.lines asked (Run 1 caps) p w now lent
+read_ends stop before reader left asked caps p w now lent kind f fit =
+    lines_end (Err stop) (Err stop) before reader left asked caps p w now lent f f.reads (λ is. absurd (cc is)) (not_written stop kind) refl fit
 
 -- If the first line couldn't be read, the skipped lines were played.
 pub first_ends : {W : Type 0} (first : Result (Option ScriptLine) Stop) (stop : Stop) (before : Option (List ℕ)) (reader : Position) (left : Option (List ℕ)) (asked : Option Caps) (skipped : List Line) (caps : Caps) (p : Playing)
     (w now : Option (List ℕ)) (lent : Lent W) → first ≡ Err stop → IfErr first IsReadStop → p.past ≡ Run 1 caps ∷ [] → IsAt (just_begun (Run 1 caps)) p → TellsOf lent [] p.past → HasHead first before reader left asked skipped
-    → LinesPlayed (Err stop) before left reader.reader.lines asked (Run 1 caps) p w now lent
-first_ends first stop before reader left asked skipped caps p w now lent is kind begun at tells h =
+    → WiresFit lent.heard (is_some lent.now) p.past lent.slots → LinesPlayed (Err stop) before left reader.reader.lines asked (Run 1 caps) p w now lent
+first_ends first stop before reader left asked skipped caps p w now lent is kind begun at tells h fit =
     read_ends stop before reader left asked caps p w now lent (subst (λ read. IfErr read IsReadStop) is kind)
-    (subst (λ read. LinesSoFar read before reader left asked (Run 1 caps) p lent) is (none_so_far first before reader left asked skipped caps p lent begun at tells h))
+    (subst (λ read. LinesSoFar read before reader left asked (Run 1 caps) p lent) is (none_so_far first before reader left asked skipped caps p lent begun at tells h)) fit
 
 -- If the script's end was read, all its lines were played.
 pub script_ends : {W : Type 0} (next : Option ScriptLine) (before : Option (List ℕ)) (reader : Position) (left : Option (List ℕ)) (asked : Option Caps) (caps : Caps) (p : Playing) (w now : Option (List ℕ)) (lent : Lent W) → next ≡ None
-    → LinesSoFar (Ok next) before reader left asked (Run 1 caps) p lent → LinesPlayed (Ok tt) before left reader.reader.lines asked (Run 1 caps) p w now lent
-script_ends next before reader left asked caps p w now lent is f =
+    → LinesSoFar (Ok next) before reader left asked (Run 1 caps) p lent → WiresFit lent.heard (is_some lent.now) p.past lent.slots → LinesPlayed (Ok tt) before left reader.reader.lines asked (Run 1 caps) p w now lent
+script_ends next before reader left asked caps p w now lent is f fit =
     let read : Plays (Ok tt) before left (saying asked f.lines) × IfSome left (λ bytes. bytes ≡ []) = subst (λ n. ReadTo (Ok n) before reader left (saying asked f.lines)) is f.reads in
-    lines_end (Ok tt) (Ok next) before reader left asked caps p w now lent f read.0 (λ done. read.1) refl (ap (λ (n : Option ScriptLine). came (Ok n)) is)
+    lines_end (Ok tt) (Ok next) before reader left asked caps p w now lent f read.0 (λ done. read.1) refl (ap (λ (n : Option ScriptLine). came (Ok n)) is) fit
 
 -- Nothing was written before the run's first event.
 pub first_cut : (w now : Option (List ℕ)) (n : ℕ) (past : List Event) (caps : Caps) → n ≡ 0 → past ≡ Run 1 caps ∷ [] → StopsBetween w (text_of (oldest n past)) (text_of past) now → StopsBetween w [] (text_of (Run 1 caps ∷ [])) now
@@ -158,8 +161,8 @@ first_cut w now n past caps none begun stops =
 -- If the run's first event couldn't be shown, only the skipped lines were played.
 pub first_stops : {W : Type 0} (stop : Stop) (first : Result (Option ScriptLine) Stop) (before : Option (List ℕ)) (reader : Position) (left rest : Option (List ℕ)) (k : ℕ) (asked : Option Caps) (skipped : List Line) (caps : Caps) (p : Playing)
     (w now : Option (List ℕ)) (lent : Lent W) → IsPlayStop stop → IfOk first IsBodyLine → p.past ≡ Run 1 caps ∷ [] → IsAt (just_begun (Run 1 caps)) p → TellsOf lent [] p.past → HasHead first before reader left asked skipped
-    → StopsBetween w [] (text_of (Run 1 caps ∷ [])) now → LinesPlayed (Err stop) before rest k asked (Run 1 caps) p w now lent
-first_stops stop first before reader left rest k asked skipped caps p w now lent kind body begun at tells h stops =
+    → StopsBetween w [] (text_of (Run 1 caps ∷ [])) now → WiresFit lent.heard (is_some lent.now) p.past lent.slots → LinesPlayed (Err stop) before rest k asked (Run 1 caps) p w now lent
+first_stops stop first before reader left rest k asked skipped caps p w now lent kind body begun at tells h stops fit =
     let follows = begun_follows caps skipped p.past h.silent begun in
     let told = subst (λ made. TellsOf lent made p.past) (sym (skipped_plans (Run 1 caps) skipped h.silent)) tells in
     record {
@@ -171,30 +174,31 @@ first_stops stop first before reader left rest k asked skipped caps p w now lent
       follows = λ ran. follows;
       at = λ ran. begun_at caps skipped p h.silent at;
       told = λ ran. told;
-      short = λ out. rest_telling caps skipped (blank (reverse skipped)) p.past lent follows told;
+      short = λ out. rest_telling caps skipped (blank (reverse skipped)) p.past lent follows told fit;
       cut = λ is. inr (record { begun = told_blank (Run 1 caps) (reverse skipped); skipped = blank_is_skipped skipped h.silent; written = stops });
     }
 
--- If the run stopped in a line, the fleet recorded it up to then, and perhaps one more Connect.
-stops_telling : {W : Type 0} (run : Event) (lines : List Line) (parts : List Part) (line : Line) (old new : List Event) (lent : Lent W) (now : Option FleetTold) → FollowsSoFar run lines parts old
-    → TellsOf lent (plans_made run parts) old → StopsInLine (after run parts) line old new → TellsAtMost lent.heard (plans_of line old) lent.now now old new lent.slots
-    → StopsTelling run (lines ++ line ∷ []) new lent.first now
-stops_telling run lines parts line old new lent now f tells stops asked = record {
+-- If the run stopped in a line, the fleet and the wires recorded it up to then, and at most one answer more.
+stops_telling : {W : Type 0} (run : Event) (lines : List Line) (parts : List Part) (line : Line) (old new : List Event) (lent : Lent W) (now : Option FleetTold) (slots : List (Option (Journaled W))) → FollowsSoFar run lines parts old
+    → TellsOf lent (plans_made run parts) old → StopsInLine (after run parts) line old new → RecordsAtMost lent.heard (plans_of line old) lent.now now old new lent.slots slots
+    → StopsTelling run (lines ++ line ∷ []) new (later lent now slots)
+stops_telling run lines parts line old new lent now slots f tells stops asked = record {
   made = asked.planned ++ plans_made run parts;
   stops = line_stops_planning run lines parts line old new asked.planned f stops asked.which;
-  more = asked.more;
-  few = asked.few;
-  told = asked.told (plans_made run parts) lent.first tells;
+  untaken = asked.untaken;
+  may = asked.may;
+  tells = asked.tells.told (plans_made run parts) lent.first tells;
+  wires = asked.wires;
 }
 
 -- If a line couldn't be carried out or shown, it is the last line that was played.
 pub line_ends : {W : Type 0} (stop : Stop) (next : Option ScriptLine) (before : Option (List ℕ)) (reader : Position) (left rest : Option (List ℕ)) (k : ℕ) (asked : Option Caps) (run : Event) (line : ScriptLine) (old new : Playing)
-    (w written : Option (List ℕ)) (lent now : Lent W) → IsPlayStop stop → next ≡ Some line → is_body line ≡ true → LinesSoFar (Ok next) before reader left asked run old lent
+    (w written : Option (List ℕ)) (lent : Lent W) (records : Option FleetTold) (slots : List (Option (Journaled W))) → IsPlayStop stop → next ≡ Some line → is_body line ≡ true → LinesSoFar (Ok next) before reader left asked run old lent
     → (ran_out (Err stop) ≡ true → (m : Moment) → IsAt m old → Carries m (line_as_played line) old new) → (ran_out (Err stop) ≡ false → (m : Moment) → IsAt m old → StopsInLine m (line_as_played line) old.past new.past)
-    → (ran_out (Err stop) ≡ true → (made : List Made) → TellsOf lent made old.past → TellsOf now (plans_of (line_as_played line) old.past ++ made) new.past)
-    → now.first ≡ lent.first → TellsAtMost lent.heard (plans_of (line_as_played line) old.past) lent.now now.now old.past new.past lent.slots
-    → (is_write_fault (Err stop) ≡ true → StopsBetween w (text_of old.past) (text_of new.past) written) → LinesPlayed (Err stop) before rest k asked run new w written now
-line_ends {W} stop next before reader left rest k asked run line old new w written lent now kind is body f carries stops tells first asks cut = by (ran_out (Err stop)) refl
+    → (ran_out (Err stop) ≡ true → (made : List Made) → TellsOf lent made old.past → TellsOf (later lent records slots) (plans_of (line_as_played line) old.past ++ made) new.past)
+    → RecordsAtMost lent.heard (plans_of (line_as_played line) old.past) lent.now records old.past new.past lent.slots slots
+    → (is_write_fault (Err stop) ≡ true → StopsBetween w (text_of old.past) (text_of new.past) written) → LinesPlayed (Err stop) before rest k asked run new w written (later lent records slots)
+line_ends {W} stop next before reader left rest k asked run line old new w written lent records slots kind is body f carries stops tells asks cut = by (ran_out (Err stop)) refl
   where
     its : Line
     its = line_as_played line
@@ -202,7 +206,7 @@ line_ends {W} stop next before reader left rest k asked run line old new w writt
     plays : Plays (Err stop) before rest (saying asked (f.lines ++ its ∷ []))
     plays = line_stops stop before reader left rest asked f.lines line kind body (subst (λ n. ReadTo (Ok n) before reader left (saying asked f.lines)) is f.reads)
 
-    by : (b : Bool) → ran_out (Err stop) ≡ b → LinesPlayed (Err stop) before rest k asked run new w written now
+    by : (b : Bool) → ran_out (Err stop) ≡ b → LinesPlayed (Err stop) before rest k asked run new w written (later lent records slots)
     by true ran =
         let c = carries ran (after run f.parts) f.at in
         let follows = line_follows run f.lines f.parts its old new f.follows c in
@@ -214,7 +218,7 @@ line_ends {W} stop next before reader left rest k asked run line old new w writt
           read = λ done. absurd (cc done);
           follows = λ _. follows;
           at = λ _. c.at;
-          told = λ _. line_told run f.parts its old new lent now c.events f.follows.is (tells ran) f.told;
+          told = λ _. line_told run f.parts its old new lent (later lent records slots) c.events f.follows.is (tells ran) f.told;
           short = λ out. absurd (cc (sym ran ∙ out));
           cut = λ failed. inl (record {
             part = part its c.events;
@@ -234,7 +238,6 @@ line_ends {W} stop next before reader left rest k asked run line old new w writt
           follows = λ ran. absurd (cc (sym ran ∙ out));
           at = λ ran. absurd (cc (sym ran ∙ out));
           told = λ ran. absurd (cc (sym ran ∙ out));
-          short = λ _. subst (λ told. StopsTelling run (f.lines ++ its ∷ []) new.past told now.now) (sym first)
-              (stops_telling run f.lines f.parts its old.past new.past lent now.now f.follows f.told (stops out (after run f.parts) f.at) asks);
+          short = λ _. stops_telling run f.lines f.parts its old.past new.past lent records slots f.follows f.told (stops out (after run f.parts) f.at) asks;
           cut = λ failed. absurd (cc (sym (ap ran_out failed) ∙ out));
         }

@@ -1,14 +1,17 @@
 -- What the fleet of a run records, with the faults that the lines of its script plan.
-use Rattle.std.specs.Prelude.{◌≡◌, ◌≤◌, ◌⊎◌, List, [], ◌∷◌, ◌++◌, length, reverse, Option, option_map}
-use Rattle.dsql_history.specs.driver.Wires.{WireTold, FleetTold, Connected, with_connects}
+use Rattle.std.specs.Prelude.{◌≡◌, ◌⊎◌, List, [], ◌∷◌, ◌++◌, reverse, Option, is_some}
+use Rattle.dsql_history.specs.driver.Wires.{WireTold, FleetTold}
 use Rattle.dsql_history.specs.driver.declared.wire.Fleet.{Ghosts}
+use Rattle.dsql_history.specs.journal.declared.entry.Entry.{Entry}
 use Rattle.dsql_wire.specs.Journaled.{Journaled}
 use Rattle.dsql_history.specs.declared.event.Event.{Event}
 use Rattle.dsql_follows.specs.declared.line.Line.{Line}
 use Rattle.dsql_follows.specs.Sentences.{Part}
 use Rattle.dsql_follows.specs.Follows.{told}
 use Rattle.dsql_run_wires.specs.Plans.{Made}
-use Rattle.dsql_run_wires.specs.Told.{AsksAtMost, TellsJust, with_told}
+use Rattle.dsql_run_wires.specs.Stopped.{GotAllBack, MayCome, with_answer}
+use Rattle.dsql_run_wires.specs.Told.{TellsJust}
+use Rattle.dsql_run_wires.specs.WiresFit.{WiresFit}
 use Rattle.dsql_run_player.specs.Planned.{plans_of, plans_made}
 use Rattle.dsql_run_outcome.specs.Followed.{StopsShort, lines_of}
 
@@ -22,6 +25,10 @@ pub record Lent (W : Type 0) : Type 0 where
 abbrev pub lent : {F W : Type 0} → Ghosts F W → (W → Option WireTold) → F → F → List (Option (Journaled W)) → Lent W
 lent fleet heard first now slots =
     record { heard = heard; first = fleet.told first; now = fleet.told now; slots = slots }
+
+-- Returns the same fleet with what it and its wires record later.
+abbrev pub later : {W : Type 0} → Lent W → Option FleetTold → List (Option (Journaled W)) → Lent W
+later lent now slots = record lent { now = now; slots = slots }
 
 -- Holds if the fleet and the wires record exactly this history and these plans.
 abbrev pub TellsOf : {W : Type 0} → Lent W → List Made → List Event → Type 0
@@ -41,20 +48,23 @@ pub record StopsPlanning (run : Event) (lines : List Line) (past : List Event) (
   pub which : (last ≡ []) ⊎ IsPlanOfLast run lines short.parts last
   pub all : made ≡ last ++ plans_made run short.parts
 
--- Holds if a run had to stop, and the fleet recorded exactly the run up to then. It may have recorded one more Connect,
--- whose answer couldn't be taken in.
-pub record StopsTelling (run : Event) (lines : List Line) (past : List Event)
-    (first now : Option FleetTold) : Type 0 where
+-- Holds if a run had to stop in its lines. The fleet and the wires record exactly the run up to then and these faults,
+-- with at most one more answer. That answer may come next by every rule, but it couldn't be taken in.
+pub record StopsTelling {W : Type 0} (run : Event) (lines : List Line) (past : List Event)
+    (lent : Lent W) : Type 0 where
   pub made : List Made
   pub stops : StopsPlanning run lines past made
-  pub more : List Connected
-  pub few : length more ≤ 1
-  pub told : now ≡ option_map (with_connects more) (with_told made first past)
+  pub untaken : Option Entry
+  pub may : MayCome past untaken
+  pub tells : TellsOf lent made (with_answer untaken past)
+  pub wires : WiresFit lent.heard (is_some lent.now) (with_answer untaken past) lent.slots
 
--- Holds if a run had to stop, and the fleet was asked for exactly what it records. It may have been asked for one more
--- Connect, whose answer couldn't be taken in.
+-- Holds if a run had to stop, and the fleet was given back every wire. It records exactly the run and these wires, with
+-- at most one more answer. That answer may come next by every rule, but it couldn't be taken in.
 pub record StopsAsking (run : Event) (lines : List Line) (past : List Event)
     (before after : Option FleetTold) : Type 0 where
   pub made : List Made
   pub stops : StopsPlanning run lines past made
-  pub asks : AsksAtMost made before after past
+  pub untaken : Option Entry
+  pub may : MayCome past untaken
+  pub records : GotAllBack made before after (with_answer untaken past)

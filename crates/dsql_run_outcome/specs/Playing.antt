@@ -83,7 +83,7 @@ pub record LinesPlayed {W : Type 0} (stopped : Result Unit Stop) (before left : 
   pub follows : ran_out stopped ≡ true → FollowsSoFar run lines parts player.past
   pub at : ran_out stopped ≡ true → IsAt (after run parts) player
   pub told : ran_out stopped ≡ true → TellsOf lent (plans_made run parts) player.past
-  pub short : ran_out stopped ≡ false → StopsTelling run lines player.past lent.first lent.now
+  pub short : ran_out stopped ≡ false → StopsTelling run lines player.past lent
   pub cut : stopped ≡ Err Write → CutAtLine w run parts now
 
 -- The lines of a script that were played up to the run's end. What the history follows of them, and what the fleet

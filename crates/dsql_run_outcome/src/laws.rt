@@ -2,7 +2,6 @@
 //! history is read newest first.
 ghost use Rattle.std.specs.Prelude.{◌≡◌, ◌⊎◌, ◌≤◌, ◌∷◌, ◌++◌, ◌||◌, [], ℕ, List, Option, Bool, true, false, Result, Ok, Err, length};
 ghost use Rattle.dsql_history.specs.driver.Streams.{HasRisen};
-ghost use Rattle.dsql_history.specs.driver.Wires.{FleetTold};
 ghost use Rattle.dsql_history.specs.driver.declared.caps.Caps.{Caps};
 ghost use Rattle.dsql_history.specs.declared.event.Event.{Event};
 ghost use Rattle.dsql_history.specs.declared.event.Event.TheVariants.{Run};
@@ -18,7 +17,6 @@ ghost use Rattle.dsql_script_source.specs.declared.stop.Stop.{Stop as Stopped};
 ghost use Rattle.dsql_script_source.specs.declared.stop.Stop.TheVariants.{Read, Write, Refused, Full};
 ghost use Rattle.dsql_run_wires.specs.Extends.{Extends};
 ghost use Rattle.dsql_run_wires.specs.Plans.{Made};
-ghost use Rattle.dsql_run_wires.specs.Told.{AsksAtMost, with_told};
 ghost use Rattle.dsql_run_player.specs.Carried.{Carries, StopsInEnd, StopsInLine, part};
 ghost use Rattle.dsql_run_player.specs.Planned.{plans_made, plans_of};
 ghost use Rattle.dsql_run_player.specs.Playing.{Playing};
@@ -93,7 +91,7 @@ pub fn what_a_run_has_of_its_script()
         → Plays final bytes rest says }
 {}
 
-/// What was written of a run that is finished, what the fleet was asked for, and which streams didn't fail.
+/// What was written of a run that is finished, and which streams didn't fail.
 pub fn what_was_written_and_read()
     ensures cut { (played ended : Result (Unit {0}) Stopped) (w now : Option (List ℕ)) (n : ℕ) (past : List Event)
         (risen : Bool) → (ran_out ended ≡ true → ended ≡ played) → is_cut played ended ≡ true
@@ -107,8 +105,6 @@ pub fn what_was_written_and_read()
         → Finishes ended final → no_read_failed final ≡ true → no_read_failed played ≡ true }
     ensures written { (played ended final : Result (Unit {0}) Stopped) → (ran_out ended ≡ true → ended ≡ played)
         → Finishes ended final → no_write_failed final ≡ true → no_write_failed played ≡ true }
-    ensures told { (made : List Made) (before after : Option FleetTold) (past : List Event)
-        → after ≡ with_told made before past → AsksAtMost made before after past }
 {}
 
 /// No stop of a line is an end of the lines.

@@ -3,7 +3,7 @@ use Rattle.std.specs.Prelude.{Err}
 use Rattle.dsql_run_outcome.specs.history.declared.event.Event.TheVariants.{Run}
 use Rattle.dsql_run_outcome.specs.follows.Follows.{after}
 use Rattle.dsql_run_outcome.specs.follows.Sentences.{after_part}
-use Rattle.dsql_run_outcome.proofs.run_wires.Telling.{at_most}
+use Rattle.dsql_run_outcome.proofs.run_wires.Stopped.{all_taken}
 use Rattle.dsql_run_outcome.specs.run_player.Carried.{part}
 use Rattle.dsql_run_outcome.specs.run_player.Planned.{plans_of}
 use Rattle.dsql_run_outcome.proofs.Following.{carried_stops, line_stops_short}
@@ -96,8 +96,8 @@ returns-in-Ok-clause-told g c = λ ran. c.in-Ok.ensures.run.told
 
 pub returns-in-Ok-clause-asked : goal.returns-in-Ok-clause-asked
 returns-in-Ok-clause-asked g c =
-    at_most g.F.Wire.Wire.told (plans_of c.args.line c.args.player.now.past) (g.F.Fleet.told c.args.fleet.now) (g.F.Fleet.told c.carry_line.new.fleet) c.args.player.now.past c.carry_line.new.player.past c.args.wires.now c.carry_line.new.wires
-    c.in-Ok.ensures.run.told
+    all_taken g.F.Wire.Wire.told (plans_of c.args.line c.args.player.now.past) (g.F.Fleet.told c.args.fleet.now) (g.F.Fleet.told c.carry_line.new.fleet) c.args.player.now.past c.carry_line.new.player.past c.args.wires.now c.carry_line.new.wires
+    c.in-Ok.ensures.run.told c.in-Ok.ensures.run.wires
 
 pub returns-in-Ok-clause-writes : goal.returns-in-Ok-clause-writes
 returns-in-Ok-clause-writes g c =

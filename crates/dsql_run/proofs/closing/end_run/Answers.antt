@@ -1,7 +1,8 @@
-use Rattle.std.proofs.Common.{◌∙◌}
-use Rattle.std.specs.Prelude.{reverse}
-use Rattle.dsql_run_outcome.proofs.run_wires.Telling.{leaves}
-use Rattle.dsql_run_outcome.proofs.Asking.{given_back}
+use Rattle.std.proofs.Common.{◌∙◌, Option, is_some, sym, subst}
+use Rattle.dsql_run_outcome.specs.driver.Wires.{FleetTold}
+use Rattle.dsql_run_outcome.specs.run_wires.Stopped.{GivesAllBack}
+use Rattle.dsql_run_outcome.proofs.run_wires.GivenBack.{none_wired}
+use Rattle.dsql_run_outcome.proofs.run_wires.Stopped.{gives_all_back}
 use Rattle.dsql_run_outcome.proofs.run_player.Keeping.{able_then}
 use Rattle.dsql_run.proofs.Going.{end_extends, end_stop_extends}
 use Rattle.dsql_run.proofs.closing.end_run.Goals as goal
@@ -24,10 +25,15 @@ returns-in-Ok-clause-on g c = record {
 pub returns-in-Ok-clause-told : goal.returns-in-Ok-clause-told
 returns-in-Ok-clause-told g c = λ made told just. c.retire_all.ensures.unasked c.in-Ok.ensures.empty ∙ (c.in-Ok.ensures.run.told.told made told just).fleet
 
-pub returns-in-Err-clause-asked : goal.returns-in-Err-clause-asked
-returns-in-Err-clause-asked g c =
-    leaves g.F.Wire.Wire.told _ _ _ _ _ _ c.in-Err.ensures.run.asked
-    (given_back g.F.Wire.Wire.told (reverse c.carry_end-carried.new.wires) (g.F.Fleet.told c.carry_end-carried.new.fleet) (g.F.Fleet.told c.retire_all.new.fleet) c.retire_all.ensures.retired)
+pub returns-in-Ok-clause-unwired : goal.returns-in-Ok-clause-unwired
+returns-in-Ok-clause-unwired g c =
+    none_wired g.F.Wire.Wire.told (is_some (g.F.Fleet.told c.carry_end-carried.new.fleet)) c.carry_end-carried.new.player.past c.carry_end-carried.new.wires c.in-Ok.ensures.run.wires c.in-Ok.ensures.empty
+
+pub returns-in-Err-clause-back : goal.returns-in-Err-clause-back
+returns-in-Err-clause-back g c =
+    subst (λ (told : Option FleetTold). GivesAllBack g.F.Wire.Wire.told (g.F.Fleet.told c.args.fleet.now) told c.args.player.now.past c.carry_end-carried.new.player.past c.args.wires) (sym c.retire_all.ensures.retired)
+    (gives_all_back g.F.Wire.Wire.told (g.F.Fleet.told c.args.fleet.now) (g.F.Fleet.told c.carry_end-carried.new.fleet) c.args.player.now.past c.carry_end-carried.new.player.past c.args.wires c.carry_end-carried.new.wires c.in-Err.ensures.run.asked
+    c.retire_all.ensures.exact)
 
 pub returns-in-Err-clause-on : goal.returns-in-Err-clause-on
 returns-in-Err-clause-on g c = record {

@@ -50,7 +50,7 @@ returns-clause-script g c = λ before asked skipped failed head first_failed ris
       stops = c.close-ended.ensures.stops;
       stays = c.close-ended.ensures.stays;
     })
-    (record { end = c.close-ended.ensures.told; left = c.close-ended.ensures.asked; given_back = c.close-ended.ensures.unasked })
+    (record { end = c.close-ended.ensures.told; unwired = c.close-ended.ensures.unwired; left = c.close-ended.ensures.back; given_back = c.close-ended.ensures.given_back; exact = c.close-ended.ensures.exact })
     (c.play_lines-played.ensures.lines before asked skipped head)
     (λ fault. elim (c.play_lines-played.ensures.reads.caused fault) [ inl first ↦ first_failed first | inr risen ↦ risen_failed risen ])
     (record {

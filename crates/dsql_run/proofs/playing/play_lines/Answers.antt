@@ -15,7 +15,8 @@ use Rattle.dsql_run_outcome.specs.script_source.Plays.{saying}
 use Rattle.dsql_run_outcome.specs.script_source.Reading.{IsBodyLine, is_body}
 use Rattle.dsql_run_outcome.proofs.script_source.Errors.{err_is}
 use Rattle.dsql_run_outcome.specs.run_wires.Extends.{Extends}
-use Rattle.dsql_run_outcome.specs.run_wires.Told.{FleetTells, TellsAtMost}
+use Rattle.dsql_run_outcome.specs.run_wires.Stopped.{RecordsAtMost}
+use Rattle.dsql_run_outcome.specs.run_wires.Told.{FleetTells}
 use Rattle.dsql_run_outcome.specs.Lent.{lent}
 use Rattle.dsql_run_outcome.proofs.run_wires.Extending.{extends_same, extends_then}
 use Rattle.dsql_run_outcome.specs.Runs.{IsLinesEnd, ran_out}
@@ -39,7 +40,7 @@ returns-in_err-show_history-clause-lines g c = λ before asked skipped head.
     (lent g.F.Fleet g.F.Wire.Wire.told c.args.fleet.now c.args.fleet.now c.args.wires.now) (show_stops stop c.in_err-show_history.ensures.kinds) c.requires.first.body c.requires.begun c.requires.at
     (begins_telling g.F.Fleet g.F.Wire.Wire.told c.args.fleet.now c.args.wires.now (g.F.Fleet.ability c.args.fleet.now) c.args.player.now.past c.requires.begun c.requires.unplanned) head
     (first_cut w (g.K.Sink.written c.show_history.new.output) c.args.shown.now c.args.player.now.past (g.F.Fleet.ability c.args.fleet.now) c.requires.shown c.requires.begun
-    (c.in_err-show_history.ensures.stops w (rw c.requires.shown (sym (no_text w))))))
+    (c.in_err-show_history.ensures.stops w (rw c.requires.shown (sym (no_text w))))) c.requires.between.wires)
 
 pub returns-in_err-show_history-clause-writes : goal.returns-in_err-show_history-clause-writes
 returns-in_err-show_history-clause-writes g c =
@@ -63,7 +64,7 @@ returns-in_err-next-clause-lines g c = λ before asked skipped head.
     rw is
     (first_ends c.args.first stop before c.args.script.now (g.S.Source.left c.args.input.now) asked skipped (g.F.Fleet.ability c.args.fleet.now) c.args.player.now (g.K.Sink.written c.args.output.now) (g.K.Sink.written c.show_history.new.output)
     (lent g.F.Fleet g.F.Wire.Wire.told c.args.fleet.now c.args.fleet.now c.args.wires.now) c.in_err-next.was c.requires.first.readable c.requires.begun c.requires.at
-    (begins_telling g.F.Fleet g.F.Wire.Wire.told c.args.fleet.now c.args.wires.now (g.F.Fleet.ability c.args.fleet.now) c.args.player.now.past c.requires.begun c.requires.unplanned) head)
+    (begins_telling g.F.Fleet g.F.Wire.Wire.told c.args.fleet.now c.args.wires.now (g.F.Fleet.ability c.args.fleet.now) c.args.player.now.past c.requires.begun c.requires.unplanned) head c.requires.between.wires)
 
 pub returns-in_err-next-clause-writes : goal.returns-in_err-next-clause-writes
 returns-in_err-next-clause-writes g c =
@@ -86,13 +87,12 @@ returns-in_err-play_line-clause-lines g c = λ before asked skipped head.
     let body : is_body c.in-Some.line ≡ true = rw c.in-Some.is at c.loop-next.invariant.body in
     rw is
     (line_ends stop c.loop-next.next before c.loop-next.script (g.S.Source.left c.loop-next.input) (g.S.Source.left c.loop-next.input) c.loop-next.script.reader.lines asked (Run 1 (g.F.Fleet.ability c.args.fleet.now)) c.in-Some.line c.loop-next.player c.play_line.new.player
-    w (g.K.Sink.written c.play_line.new.output) (lent g.F.Fleet g.F.Wire.Wire.told c.args.fleet.now c.loop-next.fleet c.loop-next.wires) (lent g.F.Fleet g.F.Wire.Wire.told c.args.fleet.now c.play_line.new.fleet c.play_line.new.wires) c.in_err-play_line.ensures.kinds c.in-Some.is body (c.loop-next.invariant.so_far before asked skipped head)
+    w (g.K.Sink.written c.play_line.new.output) (lent g.F.Fleet g.F.Wire.Wire.told c.args.fleet.now c.loop-next.fleet c.loop-next.wires) (g.F.Fleet.told c.play_line.new.fleet) c.play_line.new.wires c.in_err-play_line.ensures.kinds c.in-Some.is body (c.loop-next.invariant.so_far before asked skipped head)
     (λ ran. subst (λ line. (m : Moment) → IsAt m c.loop-next.player → Carries m line c.loop-next.player c.play_line.new.player) c.line_as_played.ensures (c.in_err-play_line.ensures.carries ran))
     (λ out. subst (λ line. (m : Moment) → IsAt m c.loop-next.player → StopsInLine m line c.loop-next.player.past c.play_line.new.player.past) c.line_as_played.ensures (c.in_err-play_line.ensures.stops out))
     (λ ran made just. (subst (λ line. FleetTells g.F.Wire.Wire.told (plans_of line c.loop-next.player.past) (g.F.Fleet.told c.loop-next.fleet) (g.F.Fleet.told c.play_line.new.fleet) c.loop-next.player.past c.play_line.new.player.past c.loop-next.wires c.play_line.new.wires)
     c.line_as_played.ensures (c.in_err-play_line.ensures.told ran)).told made (g.F.Fleet.told c.args.fleet.now) just)
-    refl
-    (subst (λ line. TellsAtMost g.F.Wire.Wire.told (plans_of line c.loop-next.player.past) (g.F.Fleet.told c.loop-next.fleet) (g.F.Fleet.told c.play_line.new.fleet) c.loop-next.player.past c.play_line.new.player.past c.loop-next.wires)
+    (subst (λ line. RecordsAtMost g.F.Wire.Wire.told (plans_of line c.loop-next.player.past) (g.F.Fleet.told c.loop-next.fleet) (g.F.Fleet.told c.play_line.new.fleet) c.loop-next.player.past c.play_line.new.player.past c.loop-next.wires c.play_line.new.wires)
     c.line_as_played.ensures c.play_line.ensures.asked)
     (λ failed. c.in_err-play_line.ensures.writes.cut w (c.loop-next.invariant.written w start) (failed_is (Err stop) failed)))
 
@@ -135,7 +135,8 @@ returns-in_err-next-2-clause-lines g c = λ before asked skipped head.
     (subst (λ line. (m : Moment) → IsAt m c.loop-next.player → Carries m line c.loop-next.player c.play_line.new.player) c.line_as_played.ensures (c.in_ok-play_line.ensures.carries refl))
     (λ made just. (subst (λ line. FleetTells g.F.Wire.Wire.told (plans_of line c.loop-next.player.past) (g.F.Fleet.told c.loop-next.fleet) (g.F.Fleet.told c.play_line.new.fleet) c.loop-next.player.past c.play_line.new.player.past c.loop-next.wires c.play_line.new.wires)
     c.line_as_played.ensures (c.in_ok-play_line.ensures.told refl)).told made (g.F.Fleet.told c.args.fleet.now) just)
-    (λ lines read. c.in_err-next-2.ensures.reads before (saying asked lines) read) (λ lines read. c.in_err-next-2.ensures.counted before (saying asked lines) read)))
+    (λ lines read. c.in_err-next-2.ensures.reads before (saying asked lines) read) (λ lines read. c.in_err-next-2.ensures.counted before (saying asked lines) read))
+    (c.in_ok-play_line.ensures.between refl).wires)
 
 pub returns-in_err-next-2-clause-writes : goal.returns-in_err-next-2-clause-writes
 returns-in_err-next-2-clause-writes g c =
@@ -223,7 +224,7 @@ loop-next-preserved g c =
 pub returns-clause-lines : goal.returns-clause-lines
 returns-clause-lines g c = λ before asked skipped head.
     script_ends c.loop-next.next before c.loop-next.script (g.S.Source.left c.loop-next.input) asked (g.F.Fleet.ability c.args.fleet.now) c.loop-next.player (g.K.Sink.written c.args.output.now) (g.K.Sink.written c.loop-next.output) (lent g.F.Fleet g.F.Wire.Wire.told c.args.fleet.now c.loop-next.fleet c.loop-next.wires) c.in_default.is
-    (c.loop-next.invariant.so_far before asked skipped head)
+    (c.loop-next.invariant.so_far before asked skipped head) c.loop-next.invariant.between.wires
 
 pub returns-clause-writes : goal.returns-clause-writes
 returns-clause-writes g c =

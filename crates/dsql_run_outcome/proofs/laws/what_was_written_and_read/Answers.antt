@@ -1,4 +1,4 @@
-use Rattle.dsql_run_outcome.proofs.Asking.{asks_of_told, read_played, written_played}
+use Rattle.dsql_run_outcome.proofs.Asking.{read_played, written_played}
 use Rattle.dsql_run_outcome.proofs.Ending.{shown_before_end}
 use Rattle.dsql_run_outcome.proofs.Finished.{finish_none}
 use Rattle.dsql_run_outcome.proofs.laws.what_was_written_and_read.Goals as goal
@@ -14,6 +14,3 @@ returns-clause-read c = read_played
 
 pub returns-clause-written : goal.returns-clause-written
 returns-clause-written c = written_played
-
-pub returns-clause-told : goal.returns-clause-told
-returns-clause-told c = asks_of_told
