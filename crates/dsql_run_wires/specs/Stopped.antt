@@ -61,7 +61,7 @@ wires_left made past zero = []
 wires_left made past (suc c) = wire_left made past c ++ wires_left made past c
 
 -- Holds if a fleet records exactly this history and these faults, after what it recorded as the history began. Then it
--- was given back every wire that was left, the largest number first. They all have a number that is smaller than `below`.
+-- was given back every wire that was left, the largest number first. Their numbers are all smaller than `below`.
 pub record GotAllBack (made : List Made) (told now : Option FleetTold) (past : List Event) : Type 0 where
   pub below : ℕ
   pub none : (c : ℕ) → below ≤ c → is_wired (journal past c) ≡ false

@@ -9,19 +9,49 @@ mod fleet;
 mod table;
 mod wire;
 
-use dsql_run_process::{run_process, words};
+use dsql_driver::OpenGate;
+use dsql_driver_stream::{StdClock, StdSink, StdSource};
+use dsql_run::{Stop, sqlrun, tell};
+use dsql_value::{Memory, Txt};
 use fleet::FixedFleet;
+use std::env::{self, Env};
+use std::io::ErrorKind;
 use std::process::ExitCode;
 
+/// Returns the words that the program was called with, without its name. Words that aren't UTF-8 count as none.
+fn words<R: Env + AllocGlobal>(rt: &R) -> Result<Vec<Txt>, Memory> {
+    let mut words = Vec::new(rt.alloc());
+    match env::args(rt) {
+        Ok(args) => {
+            for word in args.skip(1) {
+                words.push(Txt::new(word))?;
+            }
+            Ok(words)
+        }
+        Err(e) if e.kind() == ErrorKind::OutOfMemory => Err(Memory),
+        Err(_) => Ok(words),
+    }
+}
+
 fn main(rt: HostRuntime) -> ExitCode {
-    let fleet = FixedFleet::new(rt.alloc());
-    let status = run_process(
-        &rt,
-        words(&rt),
-        rt.stdin(),
-        rt.stdout(),
-        rt.stderr(),
-        Ok(fleet),
+    let mut notes = StdSink::new(rt.stderr());
+    let Ok(words) = words(&rt) else {
+        let status = tell(rt.alloc(), &Err(Stop::Memory), &mut notes);
+        return ExitCode::from(status);
+    };
+    let mut input = StdSource::new(rt.stdin());
+    let mut output = StdSink::new(rt.stdout());
+    let mut fleet = FixedFleet::new(rt.alloc());
+    let mut clock = StdClock::new(&rt);
+    let status = sqlrun(
+        rt.alloc(),
+        &words,
+        &mut input,
+        &mut output,
+        &mut notes,
+        &mut fleet,
+        &mut clock,
+        &OpenGate,
     );
     ExitCode::from(status)
 }

@@ -2,25 +2,66 @@
 //! Writes the run's report or summary to standard output. It also generates scripts.
 #![tactic(auto)]
 
+use dsql_driver::OpenGate;
+use dsql_driver_stream::{StdClock, StdSink, StdSource};
 use dsql_mem::MemFleet;
-use dsql_run_process::{run_process, words};
-use dsql_value::Memory;
+use dsql_run::{Stop, sqlrun, tell};
+use dsql_value::{Memory, Txt};
+use std::env::{self, Env};
+use std::io::ErrorKind;
+use std::mem;
 use std::process::ExitCode;
 use std::sync::Wait;
 
-/// Returns a driver in memory without data.
-fn fleet<R: AllocGlobal + Wait + Clone + Drop + Send>(rt: &R) -> Result<MemFleet<R>, Memory> {
-    MemFleet::new(rt.clone()?)
+/// Returns the words that the program was called with, without its name. Words that aren't UTF-8 count as no
+/// words, because the program knows none of them.
+fn words<R: Env + AllocGlobal>(rt: &R) -> Result<Vec<Txt>, Memory> {
+    let mut words = Vec::new(rt.alloc());
+    match env::args(rt) {
+        Ok(args) => {
+            for word in args.skip(1) {
+                words.push(Txt::new(word))?;
+            }
+            Ok(words)
+        }
+        Err(e) if e.kind() == ErrorKind::OutOfMemory => Err(Memory),
+        Err(_) => Ok(words),
+    }
+}
+
+/// Returns what the program needs before it reads anything: its words, and a driver in memory.
+fn prepared<R: Env + AllocGlobal + Wait + Clone + Drop + Send>(
+    rt: &R,
+) -> Result<(Vec<Txt>, MemFleet<R>), Memory> {
+    let words = words(rt)?;
+    let fleet = MemFleet::new(rt.clone()?)?;
+    Ok((words, fleet))
 }
 
 fn main(rt: HostRuntime) -> ExitCode {
-    let status = run_process(
-        &rt,
-        words(&rt),
-        rt.stdin(),
-        rt.stdout(),
-        rt.stderr(),
-        fleet(&rt),
+    let mut notes = StdSink::new(rt.stderr());
+    let (words, mut fleet) = match prepared(&rt) {
+        Ok(prepared) => prepared,
+        Err(Memory) => {
+            let status = tell(rt.alloc(), &Err(Stop::Memory), &mut notes);
+            return ExitCode::from(status);
+        }
+    };
+    let mut input = StdSource::new(rt.stdin());
+    let mut output = StdSink::new(rt.stdout());
+    let mut clock = StdClock::new(&rt);
+    let status = sqlrun(
+        rt.alloc(),
+        &words,
+        &mut input,
+        &mut output,
+        &mut notes,
+        &mut fleet,
+        &mut clock,
+        &OpenGate,
     );
+
+    // The process frees the fleet's store as it ends, as it does what the run kept.
+    mem::forget(fleet);
     ExitCode::from(status)
 }
