@@ -29,14 +29,15 @@ Plan = ℕ × Planned
 abbrev pub PlanMade : Type 0
 PlanMade = ℕ × Plan
 
--- A wire's report: its number, the calls that it heard with their answers, and the faults that were planned on
--- it. Calls and faults stand oldest first.
+-- A wire's report: its number, the calls that it heard with their answers, the faults that were planned on it, and the
+-- calls that wanted memory, which it answered Memory. Each list stands oldest first.
 pub record WireTold : Type 0 where
   pub number : ℕ
   pub calls : List Told
   pub plans : List PlanMade
+  pub wanted : List DriverCall
 
--- A Connect that a fleet was asked for: the connection's number, with the answer.
+-- A Connect that a fleet heard: the connection's number, with the answer.
 abbrev pub Connected : Type 0
 Connected = ℕ × DriverAnswer
 
@@ -44,7 +45,7 @@ Connected = ℕ × DriverAnswer
 abbrev pub WirePlan : Type 0
 WirePlan = ℕ × Plan
 
--- A fault that was planned with a fleet, after the number of Connects that the fleet had reported by then.
+-- A fault that was planned with a fleet, after the number of Connects that the fleet had heard by then.
 abbrev pub WirePlanMade : Type 0
 WirePlanMade = ℕ × WirePlan
 
@@ -52,12 +53,14 @@ WirePlanMade = ℕ × WirePlan
 abbrev pub RetiredWire : Type 0
 RetiredWire = ℕ × WireTold
 
--- A fleet's report: the Connects that it was asked for, the faults that were planned, and the wires that it was
--- given back. Each list stands oldest first.
+-- A fleet's report: the Connects that it heard with their answers, the faults that were planned, the wires that it was
+-- given back, and the numbers of the Connects that wanted memory, which it answered Memory. Each list stands oldest
+-- first.
 pub record FleetTold : Type 0 where
   pub connects : List Connected
   pub plans : List WirePlanMade
   pub retired : List RetiredWire
+  pub wanted : List ℕ
 
 -- The capabilities that a fleet was asked for last, and how often it was asked. The count stays at its largest
 -- value after reaching it.
@@ -67,14 +70,19 @@ pub record Preferred : Type 0 where
 
 -- Returns the report of a new wire.
 abbrev pub newly_told : ℕ → WireTold
-newly_told number = record { number = number; calls = (Connect, Done) ∷ []; plans = [] }
+newly_told number = record { number = number; calls = (Connect, Done) ∷ []; plans = []; wanted = [] }
 
 abbrev pub with_call : Told → WireTold → WireTold
 with_call call told = record told { calls = told.calls ++ call ∷ [] }
 
--- Returns a wire's report after one more call. A wire doesn't hear a call that is answered Memory.
+-- Returns a wire's report with one more call that wanted memory.
+abbrev pub with_wanted : DriverCall → WireTold → WireTold
+with_wanted call told = record told { wanted = told.wanted ++ call ∷ [] }
+
+-- Returns a wire's report after one more call. A call that is answered Memory isn't heard. It stands among those that
+-- wanted memory.
 abbrev pub told_after : DriverCall → DriverAnswer → Option WireTold → Option WireTold
-told_after call Memory told = told
+told_after call Memory told = option_map (with_wanted call) told
 told_after call answer told = option_map (with_call (call, answer)) told
 
 -- Returns a wire's report with one more planned fault, placed after the calls that were heard so far.
@@ -95,12 +103,17 @@ answer_of (Err refusals.Memory) = Memory
 abbrev pub with_connects : List Connected → FleetTold → FleetTold
 with_connects more told = record told { connects = told.connects ++ more }
 
--- Returns a fleet's report after one more Connect. The report leaves out a Connect that is answered Memory.
+-- Returns a fleet's report with one more Connect that wanted memory.
+abbrev pub with_wanted_connect : ℕ → FleetTold → FleetTold
+with_wanted_connect number told = record told { wanted = told.wanted ++ number ∷ [] }
+
+-- Returns a fleet's report after one more Connect. A Connect that is answered Memory isn't heard. Its number stands
+-- among those that wanted memory.
 abbrev pub connected_after : ℕ → DriverAnswer → Option FleetTold → Option FleetTold
-connected_after number Memory told = told
+connected_after number Memory told = option_map (with_wanted_connect number) told
 connected_after number answer told = option_map (with_connects ((number, answer) ∷ [])) told
 
--- Returns a fleet's report with one more planned fault, placed after the Connects that were reported so far.
+-- Returns a fleet's report with one more planned fault, placed after the Connects that were heard so far.
 abbrev pub with_wire_plan : WirePlan → FleetTold → FleetTold
 with_wire_plan plan told = record told { plans = told.plans ++ (length told.connects, plan) ∷ [] }
 

@@ -34,8 +34,9 @@ pub struct Answered {
 
 /// One open connection to a database: Go's `driver.Conn` with its statements, rows and transactions.
 pub trait Wire {
-    /// What the wire reports, if it reports at all: its number, its calls with their answers, and the faults that were
-    /// planned on it. Each planned fault stands with the number of calls that the wire had heard by then.
+    /// What the wire reports, if it reports at all: its number, its calls with their answers, the faults that were
+    /// planned on it, and the calls that it answered Memory. Each planned fault stands with the number of calls that
+    /// the wire had heard by then.
     ghost told: { Self → Option WireTold };
     /// How often the wire answered Bad, Fail or Invalid.
     ghost faults: { Self → ℕ };
@@ -44,8 +45,8 @@ pub trait Wire {
     /// The cursors that are live on the wire, each with the number of its columns.
     ghost cursors: { Self → List LiveCursor };
 
-    /// Makes one call to the driver. After the answer Memory the wire's report, its handles and its cursors are
-    /// unchanged.
+    /// Makes one call to the driver. After the answer Memory the wire's handles and cursors are unchanged, and its
+    /// report has the call among those that wanted memory.
     fn call(&mut self, call: &DriverCall) -> Answered
         ensures copied { result.copy ≡ result.answer }
         ensures fitting { fits_of call.now result.answer ≡ true }
@@ -74,8 +75,9 @@ pub trait Fleet {
     ghost ability: { Self → Caps };
     /// The capabilities that were asked for last, if any were, and how often capabilities were asked for.
     ghost preferred: { Self → Preferred };
-    /// What the fleet reports, if it reports at all: the Connects asked of it, the planned faults, and the wires that
-    /// it was given back. Each planned fault stands with the number of Connects that the fleet had reported by then.
+    /// What the fleet reports, if it reports at all: its Connects with their answers, the planned faults, the wires
+    /// that it was given back, and the Connects that it answered Memory. Each planned fault stands with the number of
+    /// Connects that the fleet had heard by then.
     ghost told: { Self → Option FleetTold };
     /// How often the fleet refused a Connect as Bad or Fail.
     ghost faults: { Self → ℕ };
@@ -91,8 +93,7 @@ pub trait Fleet {
         ensures faultless { faults self.new ≡ faults self.old };
 
     /// Plans a fault in place of the answer to the nth call on a wire that isn't connected yet. The wire's
-    /// Connect is the first call. The fleet's report places the plan after the Connects that were reported so
-    /// far.
+    /// Connect is the first call. The fleet's report places the plan after the Connects that were heard so far.
     fn plan(&mut self, wire: u32, nth: u32, what: Planned) -> Result<(), Memory>
         ensures told { OnOk result (told self.new ≡ plans_after (wire, (nth, what)) (told self.old)) }
         ensures err { OnErr result (told self.new ≡ told self.old) }
@@ -101,7 +102,8 @@ pub trait Fleet {
         ensures faultless { faults self.new ≡ faults self.old };
 
     /// Opens a connection. If its wire reports, it reports this number, its Connect answered Done as the only
-    /// call, and no plan. If the fleet reports, the wire reports too.
+    /// call, no plan, and no call that wanted memory. If the fleet reports, the wire reports too. After the answer
+    /// Memory the fleet's report has the Connect among those that wanted memory.
     fn connect(&mut self, number: u32) -> Result<Self::Wire, Refused>
         ensures asked { told self.new ≡ connected_after number (answer_of result) (told self.old) }
         ensures new { IfOk result (λ w. IfSome (Self.Wire.told w) (λ told. told ≡ newly_told number)) }
